@@ -1,0 +1,4 @@
+pub mod LineText
+pub mod Line
+pub mod Pieces
+pub mod Number
