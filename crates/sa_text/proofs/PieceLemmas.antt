@@ -1,11 +1,11 @@
 -- The pieces of a line: the first one, and those behind it.
 use Rattle.std.proofs.Common.{◌≡◌, ◌≢◌, ℕ, ◌+◌, ◌-◌, ◌<◌, ◌≤◌, inl, inr, true, false, ltb, eqb, List, [], ◌∷◌, ◌++◌, length, get_or, take, drop, All, arith, rules, tests, sym, ◌∙◌, ap, subst, refl}
-use Rattle.std.specs.List.{slice_range}
-use Rattle.std.proofs.lemmas.Bool.{cases_lt}
-use Rattle.std.proofs.lemmas.List.Elements.{All-weaker}
-use Rattle.std.proofs.lemmas.List.Splits.{slice_split_none, slice_split_at}
+use Rattle.std.specs.List.{slice_range, join_with_byte, onto_first}
+use Rattle.std.proofs.lemmas.Bool.{cases_lt, cases_eq}
+use Rattle.std.proofs.lemmas.List.Elements.{All-weaker, All-head, All-tail, All-nil, All-cons}
+use Rattle.std.proofs.lemmas.List.Splits.{slice_split_none, slice_split_at, join_with_byte-slice_split, length-slice_split}
 use Rattle.std.proofs.lemmas.List.{take-append-drop, drop_more, take_all, drop-drop, drop-take, take-take, length-drop, length-take}
-use Rattle.sa_text.specs.Pieces.{pieces_of, pieces_from}
+use Rattle.sa_text.specs.Pieces.{pieces_of, pieces_from, LacksSpace, IsPiecesOf}
 
 no_space_test : (bytes : List ℕ) → All (λ b. b ≢ 32) bytes → All (λ b. eqb b 32 ≡ false) bytes
 no_space_test bytes h = All-weaker (λ b. b ≢ 32) (λ b. eqb b 32 ≡ false) (λ b n. search (rules, tests)) bytes h
@@ -73,3 +73,30 @@ pieces_from-first text from end n low high within lacks stopped =
       | inl inside ↦ first_of_more text from end n inside high lacks (stopped (omega (arith, length-line text from end high)))
       | inr all ↦ first_of_one text from end n low high (omega (arith, length-line text from end high)) lacks
     ]
+
+-- with a byte more at the front of the first piece none holds a space, if the byte is none
+apart_onto : (b : ℕ) (ps : List (List ℕ)) → b ≢ 32 → All LacksSpace ps → All LacksSpace (onto_first b ps)
+apart_onto b [] n h = All-cons LacksSpace (b ∷ []) [] (All-cons (λ x. x ≢ 32) b [] n (All-nil (λ x. x ≢ 32))) h
+apart_onto b (p ∷ ps) n h =
+    All-cons LacksSpace (b ∷ p) ps (All-cons (λ x. x ≢ 32) b p n (All-head LacksSpace p ps h)) (All-tail LacksSpace p ps h)
+
+pieces_of-apart : (bytes : List ℕ) → All LacksSpace (pieces_of bytes)
+pieces_of-apart [] = All-cons LacksSpace [] [] (All-nil (λ x. x ≢ 32)) (All-nil LacksSpace)
+pieces_of-apart (b ∷ bs) =
+    elim (cases_eq b 32) [
+      | inl e ↦ rw e (All-cons LacksSpace [] (pieces_of bs) (All-nil (λ x. x ≢ 32)) (pieces_of-apart bs))
+      | inr n ↦ let e : eqb b 32 ≡ false = search (rules, tests) in rw e (apart_onto b (pieces_of bs) n (pieces_of-apart bs))
+    ]
+
+pub pieces_of-are_pieces : (bytes : List ℕ) → IsPiecesOf bytes (pieces_of bytes)
+pieces_of-are_pieces bytes =
+    record { joined = join_with_byte-slice_split 32 bytes; some = omega (arith, length-slice_split (λ b. eqb b 32) bytes); apart = pieces_of-apart bytes }
+
+-- no other pieces are those of a line
+pub pieces_only : (ps : List (List ℕ)) (bytes : List ℕ) → IsPiecesOf bytes ps → ps ≡ pieces_of bytes
+pieces_only [] bytes h = absurd (omega (arith, h.some))
+pieces_only (p ∷ []) bytes h = sym (pieces_of-one p (All-head LacksSpace p [] h.apart)) ∙ ap pieces_of h.joined
+pieces_only (p ∷ q ∷ ps) bytes h =
+    let rest : q ∷ ps ≡ pieces_of (join_with_byte 32 (q ∷ ps)) =
+    pieces_only (q ∷ ps) (join_with_byte 32 (q ∷ ps)) (record { joined = refl; some = omega arith; apart = All-tail LacksSpace p (q ∷ ps) h.apart }) in
+    ap (λ r. p ∷ r) rest ∙ (sym (pieces_of-more p (join_with_byte 32 (q ∷ ps)) (All-head LacksSpace p (q ∷ ps) h.apart)) ∙ ap pieces_of h.joined)

@@ -2,3 +2,4 @@ pub mod LineText
 pub mod Line
 pub mod Pieces
 pub mod Number
+pub mod Laws

@@ -1,5 +1,5 @@
 -- Where the lines of a text stand in it.
-use Rattle.std.specs.Prelude.{ℕ, ◌+◌, List, [], ◌∷◌, length, slice_range}
+use Rattle.std.specs.Prelude.{ℕ, ◌+◌, ◌≤◌, List, [], ◌∷◌, length, slice_range}
 use Rattle.sa_text.specs.LineText.{LineText, line_texts, whole_line}
 use Rattle.sa_text.specs.declared.line_reader.Line.{Line}
 
@@ -18,7 +18,13 @@ lines_of text = placed 1 0 (line_texts text)
 abbrev pub text_of_line : List ℕ → Line → LineText
 text_of_line text line = record { bytes = slice_range text line.start line.end; ended = line.ended }
 
--- what a reader of lines stands at: the text, and those of its lines that are still to come
+-- where a reader of lines stands: its text, the number of the next line, and the lines that are still to come
 pub record LinesLeft : Type 0 where
   pub text : List ℕ
+  pub number : ℕ
   pub left : List Line
+
+-- a line lies within a text
+pub record IsWithin (text : List ℕ) (line : Line) : Type 0 where
+  pub forward : line.start ≤ line.end
+  pub inside : line.end ≤ length text

@@ -1,6 +1,7 @@
 // Lines, pieces and numbers: what the readers and the printers of the program's texts stand on.
 #![tactic(auto)]
 
+pub mod laws;
 mod line_reader;
 mod number;
 mod pieces;

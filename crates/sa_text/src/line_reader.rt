@@ -1,5 +1,5 @@
 // The lines of a text, one after another.
-ghost use Rattle.std.specs.Prelude.{◌≡◌, ◌≤◌, [], ◌∷◌, length, map, IfSome, MatchOption};
+ghost use Rattle.std.specs.Prelude.{◌≡◌, ◌+◌, [], ◌∷◌, map, IfSome, MatchOption};
 
 use crate::scan::length_before;
 use std::marker::Model;
@@ -38,6 +38,7 @@ impl<'a> Model for Lines<'a> {
 
     ghost view = { λ l. record {
       text = l.text.now;
+      number = l.passed + 1;
       left = placed (l.passed + 1) l.start (line_texts (drop l.start l.text.now));
     } };
 
@@ -46,11 +47,12 @@ impl<'a> Model for Lines<'a> {
 
 impl<'a> Lines<'a> {
     ghost use Rattle.sa_text.specs.LineText.{line_texts};
-    ghost use Rattle.sa_text.specs.Line.{lines_of, text_of_line};
+    ghost use Rattle.sa_text.specs.Line.{lines_of, text_of_line, IsWithin};
 
     /// A reader at the first line of `text`.
     pub fn new(text: &'a [u8]) -> Self
         ensures text { result.text ≡ text.now }
+        ensures number { result.number ≡ 1 }
         ensures lines { result.left ≡ lines_of text.now }
         ensures bytes { map (text_of_line text.now) result.left ≡ line_texts text.now }
     {
@@ -61,13 +63,21 @@ impl<'a> Lines<'a> {
         }
     }
 
+    /// The number of the next line, or the one that it would have where no line is left.
+    pub fn number(&self) -> u64
+        ensures { result ≡ self.now.number }
+    {
+        self.passed + 1
+    }
+
     /// The next line; `None` exactly where no line is left.
     pub fn next(&mut self) -> Option<Line>
         ensures text { self.new.text ≡ self.old.text }
         ensures first { MatchOption result
-            ((self.old.left ≡ []) × (self.new.left ≡ []))
+            ((self.old.left ≡ []) × (self.new ≡ self.old))
             (λ line. self.old.left ≡ line ∷ self.new.left) }
-        ensures within { IfSome result (λ line. (line.start ≤ line.end) × (line.end ≤ length self.old.text)) }
+        ensures number { IfSome result (λ line. (line.number ≡ self.old.number) × (self.new.number ≡ self.old.number + 1)) }
+        ensures within { IfSome result (IsWithin self.old.text) }
     {
         let start = self.start;
         if start == self.text.len() {

@@ -1,6 +1,6 @@
 // The pieces of a line, between its spaces.
-ghost use Rattle.std.specs.Prelude.{◌≡◌, ◌≢◌, ℕ, ◌+◌, ◌<◌, ◌≤◌, ◌↔◌, [], ◌∷◌, length, slice_index, slice_range, IsNone, IfSome, MatchOption, All};
-ghost use Rattle.sa_text.specs.Pieces.{pieces_from};
+ghost use Rattle.std.specs.Prelude.{◌≡◌, ◌+◌, ◌<◌, ◌≤◌, ◌↔◌, [], ◌∷◌, length, slice_index, slice_range, IsNone, IfSome, MatchOption};
+ghost use Rattle.sa_text.specs.Pieces.{pieces_from, LacksSpace};
 
 use crate::line_reader::Line;
 use crate::scan::length_before;
@@ -15,7 +15,7 @@ pub fn token(text: &[u8], line: &Line, from: usize) -> Option<(usize, usize)>
     ensures none { IsNone result ↔ (line.now.end < from) }
     ensures start { IfSome result (λ piece. piece.0 ≡ from) }
     ensures end { IfSome result (λ piece. (from ≤ piece.1) × (piece.1 ≤ line.now.end)) }
-    ensures no_space { IfSome result (λ piece. All (λ b. b ≢ 32) (slice_range text.now from piece.1)) }
+    ensures no_space { IfSome result (λ piece. LacksSpace (slice_range text.now from piece.1)) }
     ensures at_space { IfSome result (λ piece. piece.1 < line.now.end → slice_index text.now piece.1 ≡ 32) }
 
     // Of the pieces from `from` on, this is the first, and the others are those from behind its end on.
