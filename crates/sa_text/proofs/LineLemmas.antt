@@ -175,7 +175,7 @@ only_first : (bytes : List ℕ) (ended : Bool) (ls : List LineText) → LacksLin
     → record { bytes = bytes; ended = ended } ∷ ls ≡ line_texts (flat_map whole_line (record { bytes = bytes; ended = ended } ∷ ls))
 only_first bytes true ls lacks last e =
     sym (ap line_texts (append_assoc bytes (10 ∷ []) (flat_map whole_line ls)) ∙ (line_texts-ended bytes (flat_map whole_line ls) lacks ∙ ap (λ r. record { bytes = bytes; ended = true } ∷ r) (sym e)))
-only_first bytes false ls lacks last e = let l = last refl in rw l.0 (sym (rw (append-nil, append-nil) (line_texts-open bytes lacks l.1)))
+only_first bytes false ls lacks last e = let l = last refl in rw l.0 (sym (simp append-nil (line_texts-open bytes lacks l.1)))
 
 -- no other lines are those of a text
 pub lines_only : (ls : List LineText) (text : List ℕ) → IsLinesOf text ls → ls ≡ line_texts text
@@ -216,3 +216,20 @@ line_texts-rest [] lacks = refl
 line_texts-rest (b ∷ bs) lacks =
     let some : eqb (suc (length bs)) 0 ≡ false = search (rules, tests) in
     rw some (line_texts-open (b ∷ bs) lacks (omega arith))
+
+length-onto_first_line : (b : ℕ) (ls : List LineText) → length (onto_first_line b ls) ≤ length ls + 1
+length-onto_first_line b [] = omega arith
+length-onto_first_line b (l ∷ ls) = omega arith
+
+-- a text has no more lines than bytes
+pub length-line_texts-le : (text : List ℕ) → length (line_texts text) ≤ length text
+length-line_texts-le [] = omega arith
+length-line_texts-le (b ∷ bs) =
+    elim (cases_eq b 10) [
+      | inl e ↦ rw e (omega (arith, length-line_texts-le bs))
+      | inr n ↦ rw (line_texts-other b bs n) (omega (arith, length-onto_first_line b (line_texts bs), length-line_texts-le bs))
+    ]
+
+pub length-placed : (number start : ℕ) (ls : List LineText) → length (placed number start ls) ≡ length ls
+length-placed number start [] = refl
+length-placed number start (l ∷ ls) = omega (arith, length-placed (number + 1) (start + length (whole_line l)) ls)

@@ -10,3 +10,6 @@ mod scan;
 pub use line_reader::{Line, Lines};
 pub use number::{print_number, read_number};
 pub use pieces::token;
+
+#[cfg(test)]
+mod tests;
