@@ -1,0 +1,5 @@
+pub mod LineText
+pub mod Line
+pub mod Pieces
+pub mod Number
+pub mod Laws

@@ -1,6 +1,15 @@
 // Lines, pieces and numbers: what the readers and the printers of the program's texts stand on.
 #![tactic(auto)]
 
+pub mod laws;
+mod line_reader;
 mod number;
+mod pieces;
+mod scan;
 
-pub use number::print_number;
+pub use line_reader::{Line, Lines};
+pub use number::{print_number, read_number};
+pub use pieces::token;
+
+#[cfg(test)]
+mod tests;

@@ -1,5 +1,6 @@
 // The one decimal spelling of a number of 64 bits: written and read.
-ghost use Rattle.std.specs.Prelude.{◌≡◌, ◌++◌, OnErr, OnOk, decimal};
+ghost use Rattle.std.specs.Prelude.{◌≡◌, ◌≢◌, ℕ, ◌^◌, ◌<◌, ◌++◌, Some, IfSome, IfNone, IsTrue, ◌↔◌, OnErr, OnOk, decimal};
+ghost use Rattle.sa_text.specs.Number.{BeginsNumber, ReadsDigits};
 
 use itoa::Buffer;
 use std::alloc::AllocError;
@@ -13,4 +14,39 @@ pub fn print_number(n: u64, out: &mut Vec<u8>) -> Result<(), AllocError>
 {
     let mut buffer = Buffer::new();
     out.extend_from_slice(buffer.format(n).as_bytes())
+}
+
+/// The number of which `piece` is the one decimal spelling.
+///
+/// `None` exactly where it is none of a number below 2^64: it is empty, has a sign, another byte than a
+/// digit or a leading zero, or the number is too large.
+pub fn read_number(piece: &[u8]) -> Option<u64>
+    ensures some { IfSome result (λ n. piece.now ≡ decimal n) }
+    ensures none { IfNone result ((n : ℕ) → n < 2 ^ 64 → piece.now ≢ decimal n) }
+
+    // What `print_number` appends is read as the number that was printed.
+    ensures printed { (n : ℕ) → n < 2 ^ 64 → piece.now ≡ decimal n → result ≡ Some n }
+{
+    if !begins_number(piece) {
+        return None;
+    }
+    parse_digits(piece)
+}
+
+// Whether the first byte is a digit, and `0` only where it stands alone.
+fn begins_number(piece: &[u8]) -> bool
+    ensures { IsTrue result ↔ BeginsNumber piece.now }
+{
+    matches!(piece, [b'0'] | [b'1'..=b'9', ..])
+}
+
+// The number that the digits write, which may be too large for 64 bits.
+fn parse_digits(piece: &[u8]) -> Option<u64>
+    requires { BeginsNumber piece.now }
+    ensures { ReadsDigits piece.now result }
+{
+    let Ok(text) = str::from_utf8(piece) else {
+        return None;
+    };
+    text.parse().ok()
 }

@@ -1,0 +1,21 @@
+-- What a decimal spelling is made of.
+use Rattle.std.specs.Prelude.{◌≡◌, ℕ, ◌^◌, ◌<◌, ◌≤◌, List, length, Option, All, slice_index}
+use Rattle.std.specs.Option.{SomeIff}
+use Rattle.std.specs.Str.Parse.{IsNumeral, digits_value}
+
+-- the first byte is a digit, and `0` only where it stands alone
+pub record BeginsNumber (bytes : List ℕ) : Type 0 where
+  pub low : 48 ≤ slice_index bytes 0
+  pub high : slice_index bytes 0 ≤ 57
+  pub no_leading_zero : slice_index bytes 0 ≡ 48 → length bytes ≡ 1
+
+-- bytes that spell a number: digits alone, at least one, with no leading zero, and their value is the number
+pub record IsSpellingOf (n : ℕ) (bytes : List ℕ) : Type 0 where
+  pub some : 0 < length bytes
+  pub digits : All (λ b. (48 ≤ b) × (b ≤ 57)) bytes
+  pub no_leading_zero : slice_index bytes 0 ≡ 48 → length bytes ≡ 1
+  pub value : digits_value 10 bytes ≡ n
+
+-- r is the number that the bytes write, where they are digits alone and it fits 64 bits
+abbrev pub ReadsDigits : List ℕ → Option ℕ → Type 0
+ReadsDigits bytes r = SomeIff r (IsNumeral 10 bytes × (digits_value 10 bytes < 2 ^ 64)) (digits_value 10 bytes)
