@@ -1,6 +1,5 @@
 // A source and a sink in memory, whose calls fail where their numbers say so.
-ghost use Rattle.std.specs.Prelude.{◌≡◌, ℕ, ◌+◌, ◌<◌, ◌≤◌, ◌↔◌, List, [], ◌++◌, Some, length, take, drop, min, Contains, IsTrue, IsErr, IfSome, IfOk, OnOk, OnErr};
-ghost use Rattle.std.specs.Io.KnownBytes.{Appends, Consumes, Keeps};
+ghost use Rattle.std.specs.Prelude.{◌≡◌, ℕ, ◌+◌, ◌<◌, ◌≤◌, ◌↔◌, List, [], ◌++◌, Some, length, take, drop, min, Contains, IsTrue, IsErr, IfOk, OnOk, OnErr};
 ghost use Rattle.sa_io.specs.Faults.{AppendsPrefix, HasRisen, count_up};
 ghost use Rattle.sa_io.specs.Store.{NextWriteFails, after_write, after_failed_write};
 ghost use Rattle.sa_io.specs.Supply.{NextReadFails, next_count, after_read, after_failed_read};
@@ -26,7 +25,13 @@ impl Model for MemSource {
 
     ghost Value = { Supply };
 
-    ghost view = { λ s. record { left = drop s.at s.bytes.items; step = s.step; failing = s.failing.items; calls = s.calls; faults = s.faults } };
+    ghost view = { λ s. record {
+      left = drop s.at s.bytes.items;
+      step = s.step;
+      failing = s.failing.items;
+      calls = s.calls;
+      faults = s.faults;
+    } };
 
     ghost invariant = { λ s. (s.at ≤ length s.bytes.items) × (0 < s.step) };
 }
@@ -36,7 +41,13 @@ impl MemSource {
     /// on, are in `failing` fail, and no others.
     pub fn new(bytes: Vec<u8>, step: usize, failing: Vec<u64>) -> MemSource
         requires { 1 ≤ step }
-        ensures { result ≡ record { left = bytes.items; step = step; failing = failing.items; calls = 0; faults = 0 } }
+        ensures { result ≡ record {
+          left = bytes.items;
+          step = step;
+          failing = failing.items;
+          calls = 0;
+          faults = 0;
+        } }
     {
         MemSource {
             bytes,
@@ -58,12 +69,10 @@ impl Source for MemSource {
     fn read(&mut self, into: &mut [u8]) -> Result<usize, Failed>
         // As any source does.
         ensures within { IfOk result (λ n. n ≤ length into.old) }
-        ensures taken { IfOk result
-            (λ n. Consumes (Some self.old.left) (Some self.new.left) (take n into.new)) }
-        ensures end { 0 < length into.old
-            → IfOk result (λ n. IfSome (Some self.old.left) (λ bytes. (n ≡ 0) ↔ (bytes ≡ []))) }
+        ensures taken { IfOk result (λ n. self.old.left ≡ take n into.new ++ self.new.left) }
+        ensures end { 0 < length into.old → IfOk result (λ n. (n ≡ 0) ↔ (self.old.left ≡ [])) }
         ensures failed { OnErr result (HasRisen self.old.faults self.new.faults) }
-        ensures err { OnErr result (Keeps (Some self.old.left) (Some self.new.left)) }
+        ensures err { OnErr result (self.new.left ≡ self.old.left) }
         ensures counted { self.old.faults ≤ self.new.faults }
 
         // And exactly this.
@@ -121,16 +130,29 @@ impl Model for MemSink {
 
     ghost Value = { Store };
 
-    ghost view = { λ s. record { taken = s.bytes.items; room = s.room; failing = s.failing.items; calls = s.calls; faults = s.faults } };
+    ghost view = { λ s. record {
+      taken = s.bytes.items;
+      room = s.room;
+      failing = s.failing.items;
+      calls = s.calls;
+      faults = s.faults;
+    } };
 
-    ghost invariant = { λ s. (length s.bytes.items ≤ s.room) × (s.room ≤ vec_capacity s.bytes) };
+    ghost invariant = { λ s.
+        (length s.bytes.items ≤ s.room) × (s.room ≤ vec_capacity s.bytes) };
 }
 
 impl MemSink {
     /// A sink that holds at most `room` bytes, all reserved here, so that no write takes memory. The
     /// writes whose numbers, from 1 on, are in `failing` fail, as does one whose piece does not fit.
     pub fn new(alloc: Global, room: usize, failing: Vec<u64>) -> Result<MemSink, AllocError>
-        ensures { IfOk result (λ sink. sink ≡ record { taken = []; room = room; failing = failing.items; calls = 0; faults = 0 }) }
+        ensures { IfOk result (λ sink. sink ≡ record {
+          taken = [];
+          room = room;
+          failing = failing.items;
+          calls = 0;
+          faults = 0;
+        }) }
     {
         Ok(MemSink {
             bytes: Vec::with_capacity(alloc, room)?,
@@ -158,7 +180,7 @@ impl Sink for MemSink {
     /// A write that fails takes nothing.
     fn write(&mut self, piece: &[u8]) -> Result<(), Failed>
         // As any sink does.
-        ensures taken { OnOk result (Appends (Some self.old.taken) (Some self.new.taken) piece.now) }
+        ensures taken { OnOk result (self.new.taken ≡ self.old.taken ++ piece.now) }
         ensures failed { OnErr result (HasRisen self.old.faults self.new.faults) }
         ensures err { OnErr result
             (AppendsPrefix (Some self.old.taken) (Some self.new.taken) piece.now) }

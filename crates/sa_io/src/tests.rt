@@ -95,15 +95,12 @@ fn std_objects_pass_their_bytes_on(rt: HostRuntime) -> Result<(), Fail> {
 /// A reader and a writer that moves at most so many bytes a call, or fails in this way.
 #[derive(Drop)]
 struct Halting {
-    turns: VecDeque<std::result::Result<usize, ErrorKind>>,
+    turns: VecDeque<Result<usize, ErrorKind>>,
     written: Vec<u8>,
 }
 
 impl Halting {
-    fn new(
-        alloc: Global,
-        turns: &[std::result::Result<usize, ErrorKind>],
-    ) -> Result<Halting, AllocError> {
+    fn new(alloc: Global, turns: &[Result<usize, ErrorKind>]) -> Result<Halting, AllocError> {
         let mut all = VecDeque::new(alloc);
         for turn in turns {
             all.push_back(*turn)?;
@@ -114,7 +111,7 @@ impl Halting {
         })
     }
 
-    fn next_turn(&mut self) -> std::result::Result<usize, Error> {
+    fn next_turn(&mut self) -> Result<usize, Error> {
         match self.turns.pop_front() {
             Some(Err(kind)) => Err(Error::from(kind)),
             Some(Ok(most)) => Ok(most),
