@@ -1,3 +1,5 @@
 mod Told
 mod WordLemmas
 mod StraightRuns
+mod StraightTexts
+mod Outcomes

@@ -15,18 +15,29 @@ abbrev pub times : ℕ → List ℕ → List ℕ
 times zero text = []
 times (suc n) text = text ++ times n text
 
+-- a head, a number that ends its line, and what follows
+abbrev pub numbered : List ℕ → ℕ → List ℕ → List ℕ
+numbered head n behind = head ++ (decimal n ++ 10 ∷ behind)
+
+-- the instructions but the last, the last, and the end of the text
+abbrev pub straight_body : ℕ → List ℕ
+straight_body length = times (length - 1) (codes "compute\n") ++ codes "end\nclose\n"
+
 -- the text of the straight workload with this fetch length and this number of instructions
 unfoldable pub straight_text : ℕ → ℕ → List ℕ
 straight_text fetch length =
-    codes "workload 1\nprocessors 1\nfetch " ++ (decimal fetch
-    ++ (codes "\nspaces 1\nspace 0 0 0 0 1\nprogram " ++ (decimal length
-    ++ (codes "\n" ++ (times (length - 1) (codes "compute\n") ++ codes "end\nclose\n")))))
+    numbered (codes "workload 1\nprocessors 1\nfetch ") fetch
+    (numbered (codes "spaces 1\nspace 0 0 0 0 1\nprogram ") length (straight_body length))
 
 -- the input is that text, and the numbers are in their ranges
 pub record IsStraight (input : List ℕ) (fetch length : ℕ) : Type 0 where
   pub fetch_range : (1 ≤ fetch) × (fetch ≤ 1000)
   pub length_range : (1 ≤ length) × (length ≤ 4096)
   pub text : input ≡ straight_text fetch length
+
+-- the input is no such text
+abbrev pub IsNotStraight : List ℕ → Type 0
+IsNotStraight input = (fetch length : ℕ) → ¬ IsStraight input fetch length
 
 -- the one processor, space, thread and activation
 abbrev pub processor : ProcNo

@@ -11,3 +11,6 @@ mod words;
 pub use outcome::{Outcome, Ran, Status};
 pub use run::run_one;
 pub use words::Words;
+
+#[cfg(test)]
+mod tests;

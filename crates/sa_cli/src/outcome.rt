@@ -1,7 +1,10 @@
 ghost use Rattle.std.specs.Prelude.{◌≡◌};
-ghost use Rattle.sa_cli.specs.Outcome.{code_of};
+ghost use Rattle.sa_cli.specs.Outcome.{code_of, status_of};
+ghost use Rattle.sa_cli.specs.declared.outcome.Status.TheVariants.{OutOfMemory};
 
+use crate::input::ReadError;
 use sa_base::{Bad, Trace};
+use std::alloc::AllocError;
 
 /// How the top call ended. `code` is the program's exit status.
 #[derive(Clone, Copy, Debug, PartialEq, Eq)]
@@ -22,6 +25,25 @@ pub enum Status {
     WriteFault,
     /// Memory ran out.
     OutOfMemory,
+}
+
+impl From<ReadError> for Status {
+    ghost from_gives = { λ error status. status ≡ status_of error };
+
+    fn from(error: ReadError) -> Self {
+        match error {
+            ReadError::Fault => Status::ReadFault,
+            ReadError::OutOfMemory => Status::OutOfMemory,
+        }
+    }
+}
+
+impl From<AllocError> for Status {
+    ghost from_gives = { λ _ status. status ≡ OutOfMemory };
+
+    fn from(_: AllocError) -> Self {
+        Status::OutOfMemory
+    }
 }
 
 impl Status {

@@ -1,20 +1,85 @@
 // The engine for straight workloads, which stands in for the core until that is built.
-ghost use Rattle.std.specs.Prelude.{◌≡◌, ◌≤◌, ◌+◌, ◌++◌, IfOk};
-ghost use Rattle.sa_cli.specs.Straight.{straight_run, opening, upcall, first_run};
+ghost use Rattle.std.specs.Prelude.{◌≡◌, ◌≢◌, ℕ, ◌≤◌, ◌+◌, ◌↔◌, List, ◌∷◌, ◌++◌, codes, IsTrue, IfOk, MatchOption};
+ghost use Rattle.sa_text.specs.LineText.{LacksLineFeed};
+ghost use Rattle.sa_cli.specs.Straight.{IsStraight, IsNotStraight, numbered, straight_body, times, straight_run, opening, upcall, first_run};
 
 use sa_base::{ActNo, Item, Note, ProcNo, Record, SpaceNo, ThreadNo, Trace};
+use sa_text::read_number;
 use std::alloc::{AllocError, Global};
 
-const SMALLEST: &str =
-    "workload 1\nprocessors 1\nfetch 10\nspaces 1\nspace 0 0 0 0 1\nprogram 1\nend\nclose\n";
-
-/// The number of instructions of the straight workload of this text, if it is one.
-pub fn straight_length(text: &[u8]) -> Option<u16> {
-    if text == SMALLEST.as_bytes() {
-        Some(1)
+/// The number of instructions of the straight workload of this text, or `None` where it is none.
+pub fn straight_length(text: &[u8]) -> Option<u16>
+    ensures { MatchOption result (IsNotStraight text.now) (λ length. (fetch : ℕ) × IsStraight text.now fetch length) }
+{
+    let (_fetch, rest) = read_numbered(text, b"workload 1\nprocessors 1\nfetch ", 1000)?;
+    let (length, rest) = read_numbered(rest, b"spaces 1\nspace 0 0 0 0 1\nprogram ", 4096)?;
+    if is_body(rest, length) {
+        Some(length)
     } else {
         None
     }
+}
+
+/// Reads a number from 1 to `most` that stands behind the head and ends its line, and what follows.
+fn read_numbered<'a>(text: &'a [u8], head: &[u8], most: u16) -> Option<(u16, &'a [u8])>
+    ensures { MatchOption result
+        ((n : ℕ) (rest : List ℕ) → 1 ≤ n → n ≤ most → text.now ≢ numbered head.now n rest)
+        (λ found. (1 ≤ found.0) × (found.0 ≤ most) × (text.now ≡ numbered head.now found.0 found.1.now)) }
+{
+    let text = behind(text, head)?;
+    let (line, rest) = split_line(text)?;
+    let number = read_number(line)?;
+    if number < 1 || number > u64::from(most) {
+        return None;
+    }
+    Some((number as u16, rest))
+}
+
+/// What stands behind the head, where the text begins with it.
+fn behind<'a>(text: &'a [u8], head: &[u8]) -> Option<&'a [u8]>
+    ensures { MatchOption result
+        ((rest : List ℕ) → text.now ≢ head.now ++ rest)
+        (λ rest. text.now ≡ head.now ++ rest.now) }
+{
+    text.strip_prefix(head)
+}
+
+/// The bytes before the first line feed, and those behind it.
+fn split_line(text: &[u8]) -> Option<(&[u8], &[u8])>
+    ensures { MatchOption result
+        ((line rest : List ℕ) → text.now ≢ line ++ 10 ∷ rest)
+        (λ found. LacksLineFeed found.0.now × (text.now ≡ found.0.now ++ 10 ∷ found.1.now)) }
+{
+    for (i, byte) in text.iter().enumerate() {
+        if *byte == b'\n' {
+            return Some((&text[..i], &text[i + 1..]));
+        }
+    }
+    None
+}
+
+/// Whether the text is that of so many instructions, and the end.
+fn is_body(text: &[u8], length: u16) -> bool
+    requires { 1 ≤ length }
+    ensures { IsTrue result ↔ (text.now ≡ straight_body length) }
+{
+    match after_computes(text, length - 1) {
+        Some(rest) => rest == b"end\nclose\n".as_slice(),
+        None => false,
+    }
+}
+
+/// What follows so many lines `compute`.
+fn after_computes(text: &[u8], count: u16) -> Option<&[u8]>
+    ensures { MatchOption result
+        ((behind : List ℕ) → text.now ≢ times count (codes "compute\n") ++ behind)
+        (λ rest. text.now ≡ times count (codes "compute\n") ++ rest.now) }
+{
+    let mut rest = text;
+    for _ in 0..count {
+        rest = behind(rest, b"compute\n")?;
+    }
+    Some(rest)
 }
 
 /// The run of a straight workload of so many instructions, in the form of the finished program.
