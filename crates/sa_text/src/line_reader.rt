@@ -1,5 +1,5 @@
 // The lines of a text, one after another.
-ghost use Rattle.std.specs.Prelude.{◌≡◌, ◌+◌, [], ◌∷◌, map, IfSome, MatchOption};
+ghost use Rattle.std.specs.Prelude.{◌≡◌, ◌+◌, ◌≤◌, [], ◌∷◌, length, map, IfSome, MatchOption};
 
 use crate::scan::length_before;
 use std::marker::Model;
@@ -55,6 +55,7 @@ impl<'a> Lines<'a> {
         ensures number { result.number ≡ 1 }
         ensures lines { result.left ≡ lines_of text.now }
         ensures bytes { map (text_of_line text.now) result.left ≡ line_texts text.now }
+        ensures few { length result.left ≤ length text.now }
     {
         Lines {
             text,
@@ -76,7 +77,8 @@ impl<'a> Lines<'a> {
         ensures first { MatchOption result
             ((self.old.left ≡ []) × (self.new ≡ self.old))
             (λ line. self.old.left ≡ line ∷ self.new.left) }
-        ensures number { IfSome result (λ line. (line.number ≡ self.old.number) × (self.new.number ≡ self.old.number + 1)) }
+        ensures number { IfSome result (λ line.
+            (line.number ≡ self.old.number) × (self.new.number ≡ self.old.number + 1)) }
         ensures within { IfSome result (IsWithin self.old.text) }
     {
         let start = self.start;
@@ -93,5 +95,19 @@ impl<'a> Lines<'a> {
             end,
             ended,
         })
+    }
+}
+
+impl<'a> Iterator for Lines<'a> {
+    ghost use Rattle.std.specs.Iterator.{YieldsFirst, item_count};
+
+    type Item = Line;
+
+    ghost next_gives = { YieldsFirst (λ lines. lines.left) };
+
+    ghost remaining = { item_count (λ lines. lines.left) };
+
+    fn next(&mut self) -> Option<Line> {
+        Lines::next(self)
     }
 }
