@@ -1,13 +1,14 @@
-// A library with one function.
+//! The words that every part of the program shares: numbers, notices, records and the trace.
 #![tactic(auto)]
 
-ghost use Rattle.std.specs.Prelude.{◌≡◌};
-ghost use Rattle.sa_base.specs.Echo.{echo_of};
+mod context;
+mod number;
+mod record;
+mod refusal;
+mod trace;
 
-// The `ensures` clause is the contract: what `echo` returns is `echo_of` of its argument, a definition
-// in `specs/Echo.antt`, which a caller's clause can cite too.
-pub fn echo(x: usize) -> usize
-    ensures { result ≡ echo_of x }
-{
-    x
-}
+pub use context::{Seen, Stopped};
+pub use number::{ActNo, IoNo, ProcNo, SpaceNo, ThreadNo};
+pub use record::{End, Item, Note, Record};
+pub use refusal::{Bad, Unread};
+pub use trace::Trace;

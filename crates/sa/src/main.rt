@@ -1,0 +1,45 @@
+//! `sa`: reads a workload from standard input, runs it, and writes its trace to standard output.
+#![tactic(auto)]
+
+use sa_cli::{Status, Words, run_one};
+use sa_io::{StdSink, StdSource};
+use std::env;
+use std::io::{self, ErrorKind};
+use std::process::ExitCode;
+use std::rt::Env;
+
+fn main(rt: HostRuntime) -> ExitCode {
+    let status = match read_command_line(&rt) {
+        Ok(words) => {
+            let mut source = StdSource::new(rt.reader());
+            let mut sink = StdSink::new(io::writer(&rt));
+            run_one(rt.alloc(), &words, &mut source, &mut sink).status
+        }
+        Err(status) => status,
+    };
+    // Where standard error takes nothing, the exit status still tells.
+    let _ = report(&rt, status);
+    ExitCode::from(status.code())
+}
+
+/// The words behind the program's name. One that is no text is no word of a command.
+fn read_command_line(rt: &(impl Env + AllocGlobal)) -> Result<Words, Status> {
+    let words = env::args(rt).map_err(|error| match error.kind() {
+        ErrorKind::OutOfMemory => Status::OutOfMemory,
+        _ => Status::Usage,
+    })?;
+    let list = words.skip(1).collect(rt.alloc());
+    Ok(Words::new(list.map_err(|_| Status::OutOfMemory)?))
+}
+
+/// Says on standard error why there is no whole trace.
+fn report(rt: &impl Eprint, status: Status) -> io::Result<()> {
+    match status {
+        Status::Usage => eprintln!(rt; "usage: sa COMMAND [OPTION VALUE]..."),
+        Status::BadWorkload(bad) => eprintln!(rt; "bad workload: {bad}"),
+        Status::ReadFault => eprintln!(rt; "read fault"),
+        Status::WriteFault => eprintln!(rt; "write fault"),
+        Status::OutOfMemory => eprintln!(rt; "out of memory"),
+        Status::AllDone | Status::Stuck | Status::Budget => Ok(()),
+    }
+}

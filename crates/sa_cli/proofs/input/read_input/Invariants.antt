@@ -1,0 +1,14 @@
+use Rattle.std.proofs.Common.{◌≡◌, ◌-◌, ◌≤◌, length}
+use Rattle.std.specs.Io.KnownBytes.{Consumes}
+use Rattle.sa_cli.proofs.input.read_input.Given as goal
+
+abbrev pub invariant-loop-piece : goal.invariant-loop-piece
+invariant-loop-piece g l = record {
+  taken : Consumes (g.S.Source.left l.initial.source) (g.S.Source.left l.source) l.input.items;
+  limit : length l.input.items ≤ 1048577;
+  counted : g.S.Source.faults l.initial.source ≤ g.S.Source.faults l.source;
+  room : length l.piece ≡ 4096;
+}
+
+abbrev pub decreases-loop-piece : goal.decreases-loop-piece
+decreases-loop-piece g l = 1048577 - length l.input.items

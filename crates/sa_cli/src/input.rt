@@ -1,0 +1,55 @@
+// The reading loop.
+ghost use Rattle.std.specs.Prelude.{◌≡◌, ◌≤◌, IfOk, IsErrOf};
+ghost use Rattle.sa_io.specs.Faults.{HasRisen};
+ghost use Rattle.sa_cli.specs.Input.{ReadsInput};
+ghost use Rattle.sa_cli.specs.declared.input.ReadError.TheVariants.{Fault, OutOfMemory};
+
+use sa_io::{Failed, Source};
+use std::alloc::{AllocError, Global};
+
+/// The longest input that is read whole, in bytes.
+pub const INPUT_LIMIT: usize = 1_048_576;
+
+const PIECE: usize = 4096;
+
+/// Why the input was not read.
+#[derive(Clone, Copy, Debug, PartialEq, Eq)]
+pub enum ReadError {
+    Fault,
+    OutOfMemory,
+}
+
+impl From<Failed> for ReadError {
+    ghost from_gives = { λ _ e. e ≡ Fault };
+
+    fn from(_: Failed) -> Self {
+        ReadError::Fault
+    }
+}
+
+impl From<AllocError> for ReadError {
+    ghost from_gives = { λ _ e. e ≡ OutOfMemory };
+
+    fn from(_: AllocError) -> Self {
+        ReadError::OutOfMemory
+    }
+}
+
+/// Reads the source to its end, or until one byte more than the limit was got.
+pub fn read_input<S: Source>(alloc: Global, source: &mut S) -> Result<Vec<u8>, ReadError>
+    ensures input { IfOk result (λ bytes. ReadsInput (S.left source.old) (S.left source.new) bytes.items) }
+    ensures fault { IsErrOf result ReadError.Fault → HasRisen (S.faults source.old) (S.faults source.new) }
+    ensures counted { S.faults source.old ≤ S.faults source.new }
+{
+    let mut input = Vec::new(alloc);
+    let mut piece = [0; PIECE];
+    while input.len() <= INPUT_LIMIT {
+        let room = PIECE.min(INPUT_LIMIT + 1 - input.len());
+        let count = source.read(&mut piece[..room])?;
+        if count == 0 {
+            return Ok(input);
+        }
+        input.extend_from_slice(&piece[..count])?;
+    }
+    Ok(input)
+}

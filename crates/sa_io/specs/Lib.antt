@@ -1,0 +1,4 @@
+pub mod Faults
+pub mod Supply
+pub mod Store
+pub mod Adapted

@@ -1,0 +1,13 @@
+// Where the program reads and writes: sources and sinks that may fail, in memory and over std.
+#![tactic(auto)]
+
+mod adapters;
+mod memory;
+mod traits;
+
+pub use adapters::{StdSink, StdSource};
+pub use memory::{MemSink, MemSource};
+pub use traits::{Failed, Sink, Source};
+
+#[cfg(test)]
+mod tests;

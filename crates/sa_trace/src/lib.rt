@@ -1,0 +1,11 @@
+//! The trace text: what the program writes of a run.
+#![tactic(auto)]
+
+mod counts;
+mod fields;
+mod text;
+
+pub use text::print;
+
+#[cfg(test)]
+mod tests;
