@@ -30,16 +30,15 @@ pub struct Lines<'a> {
 }
 
 impl<'a> Model for Lines<'a> {
-    ghost use Rattle.std.specs.Prelude.{◌+◌, ◌≤◌, drop, length};
-    ghost use Rattle.sa_text.specs.LineText.{line_texts};
-    ghost use Rattle.sa_text.specs.Line.{LinesLeft, placed};
+    ghost use Rattle.std.specs.Prelude.{◌+◌, ◌≤◌, length};
+    ghost use Rattle.sa_text.specs.Line.{LinesLeft, lines_from};
 
     ghost Value = { LinesLeft };
 
     ghost view = { λ l. record {
       text = l.text.now;
       number = l.passed + 1;
-      left = placed (l.passed + 1) l.start (line_texts (drop l.start l.text.now));
+      left = lines_from l.text.now (l.passed + 1) l.start;
     } };
 
     ghost invariant = { λ l. (l.start ≤ length l.text.now) × (l.passed ≤ l.start) };
