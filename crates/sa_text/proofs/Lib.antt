@@ -1,3 +1,4 @@
 pub mod Spelling
 pub mod LineLemmas
 pub mod PieceLemmas
+pub mod Lacking

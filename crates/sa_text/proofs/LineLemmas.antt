@@ -6,7 +6,7 @@ use Rattle.std.proofs.lemmas.Bool.{cases_eq}
 use Rattle.std.proofs.lemmas.List.Elements.{All-head, All-tail, All-nil, All-cons}
 use Rattle.std.proofs.lemmas.List.{append-nil, nil_from_length, take_at, drop_at, drop-drop, take-append-drop, drop_more, take_all, drop_all, length-drop, length-take-le, take_rest}
 use Rattle.sa_text.specs.LineText.{LineText, line_texts, onto_first_line, whole_line, LacksLineFeed, IsLinesOf}
-use Rattle.sa_text.specs.Line.{placed, text_of_line, IsWithin}
+use Rattle.sa_text.specs.Line.{placed, lines_from, text_of_line, IsWithin}
 use Rattle.sa_text.specs.declared.line_reader.Line.{Line}
 
 -- a byte that is no line feed goes onto the first line
@@ -41,7 +41,8 @@ line_texts-joined (b ∷ bs) =
     ]
 
 -- at their places the text holds the lines
-pub placed-texts : (text : List ℕ) (number start : ℕ) (ls : List LineText) → drop start text ≡ flat_map whole_line ls → map (text_of_line text) (placed number start ls) ≡ ls
+pub placed-texts : (text : List ℕ) (number start : ℕ) (ls : List LineText) → drop start text ≡ flat_map whole_line ls
+    → map (text_of_line text) (placed number start ls) ≡ ls
 placed-texts text number start [] e = refl
 placed-texts text number start (l ∷ ls) e =
     let behind : drop (start + length (whole_line l)) text ≡ flat_map whole_line ls =
@@ -51,49 +52,66 @@ placed-texts text number start (l ∷ ls) e =
     ap (λ n. take n (drop start text)) size ∙ (ap (take (length l.bytes)) (e ∙ append_assoc l.bytes _ (flat_map whole_line ls)) ∙ take_at l.bytes _ _ refl) in
     rw (here, placed-texts text (number + 1) (start + length (whole_line l)) ls behind)
 
+-- the n bytes behind `start`, as a line
+abbrev line_at : ℕ → ℕ → ℕ → Bool → Line
+line_at number start n ended = record { number = number; start = start; end = start + n; ended = ended }
+
 -- the next line, where a line feed follows its n bytes
-pub next_ended : (text : List ℕ) (number start n : ℕ) → start + n < length text → LacksLineFeed (take n (drop start text)) → get_or (drop start text) n 0 ≡ 10
-    → placed number start (line_texts (drop start text)) ≡ record { number = number; start = start; end = start + n; ended = true } ∷ placed (number + 1) (start + n + 1) (line_texts (drop (start + n + 1) text))
+next_ended : (text : List ℕ) (number start n : ℕ) → start + n < length text
+    → LacksLineFeed (take n (drop start text)) → get_or (drop start text) n 0 ≡ 10
+    → lines_from text number start ≡ line_at number start n true ∷ lines_from text (number + 1) (start + n + 1)
 next_ended text number start n inside lacks feed =
     let rest : List ℕ = drop start text in
+    let others : List ℕ = drop (start + n + 1) text in
     let room : n < length rest = omega (arith, length-drop start text) in
     let size : length (take n rest) ≡ n = length-take-le n rest (omega arith) in
-    let split : rest ≡ take n rest ++ 10 ∷ drop (start + n + 1) text =
-    sym (take-append-drop n rest) ∙ ap (λ r. take n rest ++ r) (drop_more rest n 0 room ∙ (ap (λ b. b ∷ drop (n + 1) rest) feed ∙ ap (λ r. 10 ∷ r) (drop-drop (n + 1) start text ∙ ap (λ k. drop k text) (omega arith)))) in
-    let lines : line_texts rest ≡ record { bytes = take n rest; ended = true } ∷ line_texts (drop (start + n + 1) text) =
-    ap line_texts split ∙ line_texts-ended (take n rest) (drop (start + n + 1) text) lacks in
-    let next : start + length (take n (drop start text) ++ 10 ∷ []) ≡ start + n + 1 = omega (arith, length-append (take n (drop start text)) (10 ∷ []), size) in
+    let behind : drop (n + 1) rest ≡ others = drop-drop (n + 1) start text ∙ ap (λ k. drop k text) (omega arith) in
+    let stopped : drop n rest ≡ 10 ∷ others =
+    drop_more rest n 0 room ∙ (ap (λ b. b ∷ drop (n + 1) rest) feed ∙ ap (λ r. 10 ∷ r) behind) in
+    let split : rest ≡ take n rest ++ 10 ∷ others =
+    sym (take-append-drop n rest) ∙ ap (λ r. take n rest ++ r) stopped in
+    let lines : line_texts rest ≡ record { bytes = take n rest; ended = true } ∷ line_texts others =
+    ap line_texts split ∙ line_texts-ended (take n rest) others lacks in
+    let next : start + length (take n rest ++ 10 ∷ []) ≡ start + n + 1 =
+    omega (arith, length-append (take n rest) (10 ∷ []), size) in
     ap (placed number start) lines ∙ rw (next, size)
 
 -- the next line, where the text ends behind its n bytes
-pub next_open : (text : List ℕ) (number start n : ℕ) → start < length text → start + n ≡ length text → LacksLineFeed (take n (drop start text))
-    → placed number start (line_texts (drop start text)) ≡ record { number = number; start = start; end = start + n; ended = false } ∷ placed (number + 1) (start + n) (line_texts (drop (start + n) text))
+next_open : (text : List ℕ) (number start n : ℕ) → start < length text → start + n ≡ length text
+    → LacksLineFeed (take n (drop start text))
+    → lines_from text number start ≡ line_at number start n false ∷ lines_from text (number + 1) (start + n)
 next_open text number start n inside all lacks =
     let rest : List ℕ = drop start text in
     let size : length rest ≡ n = omega (arith, length-drop start text) in
     let whole : take n rest ≡ rest = take_all n rest (omega arith) in
     let none : drop (start + n) text ≡ [] = drop_all (start + n) text (omega arith) in
-    let lines : line_texts rest ≡ record { bytes = rest; ended = false } ∷ [] = line_texts-open rest (subst LacksLineFeed whole lacks) (omega arith) in
+    let lines : line_texts rest ≡ record { bytes = rest; ended = false } ∷ [] =
+    line_texts-open rest (subst LacksLineFeed whole lacks) (omega arith) in
     ap (placed number start) lines ∙ rw (size, none)
 
--- the two cases, of the n bytes behind `start` that lack a line feed, up to a line feed or the text's end
+-- the same of what the reader finds: n bytes of the rest of the text lack a line feed, and one follows them
 pub next_line-ended : (text : List ℕ) (number start n next : ℕ) → start + n < length text
     → LacksLineFeed (take n (slice_range text start (length text)))
-    → (n < length (slice_range text start (length text)) → get_or (slice_range text start (length text)) n 0 ≡ 10) → next ≡ start + n + 1
-    → placed number start (line_texts (drop start text)) ≡ record { number = number; start = start; end = start + n; ended = ltb (start + n) (length text) } ∷ placed (number + 1) next (line_texts (drop next text))
+    → (n < length (slice_range text start (length text)) → get_or (slice_range text start (length text)) n 0 ≡ 10)
+    → next ≡ start + n + 1
+    → lines_from text number start ≡ line_at number start n (ltb (start + n) (length text)) ∷ lines_from text (number + 1) next
 next_line-ended text number start n next inside lacks feed e =
     let rest : slice_range text start (length text) ≡ drop start text = take_rest text start in
     let more : ltb (start + n) (length text) ≡ true = search (rules, tests) in
-    let found : get_or (drop start text) n 0 ≡ 10 = subst (λ r. n < length r → get_or r n 0 ≡ 10) rest feed (omega (arith, length-drop start text)) in
+    let found : get_or (drop start text) n 0 ≡ 10 =
+    subst (λ r. n < length r → get_or r n 0 ≡ 10) rest feed (omega (arith, length-drop start text)) in
     rw (more, e) (next_ended text number start n inside (subst (λ r. LacksLineFeed (take n r)) rest lacks) found)
 
+-- or they are the rest of the text
 pub next_line-open : (text : List ℕ) (number start n next : ℕ) → start < length text → length text ≤ start + n
-    → n ≤ length (slice_range text start (length text)) → LacksLineFeed (take n (slice_range text start (length text))) → next ≡ start + n
-    → placed number start (line_texts (drop start text)) ≡ record { number = number; start = start; end = start + n; ended = ltb (start + n) (length text) } ∷ placed (number + 1) next (line_texts (drop next text))
+    → n ≤ length (slice_range text start (length text)) → LacksLineFeed (take n (slice_range text start (length text)))
+    → next ≡ start + n
+    → lines_from text number start ≡ line_at number start n (ltb (start + n) (length text)) ∷ lines_from text (number + 1) next
 next_line-open text number start n next inside end within lacks e =
     let rest : slice_range text start (length text) ≡ drop start text = take_rest text start in
     let more : ltb (start + n) (length text) ≡ false = search (rules, tests) in
-    rw (more, e) (next_open text number start n inside (omega (arith, ap length rest, length-drop start text)) (subst (λ r. LacksLineFeed (take n r)) rest lacks))
+    let all : start + n ≡ length text = omega (arith, ap length rest, length-drop start text) in
+    rw (more, e) (next_open text number start n inside all (subst (λ r. LacksLineFeed (take n r)) rest lacks))
 
 -- the list is not changed but for its first line
 onto_first_line-append : (b : ℕ) (ls more : List LineText) → 0 < length ls → onto_first_line b (ls ++ more) ≡ onto_first_line b ls ++ more
@@ -174,7 +192,8 @@ only_first : (bytes : List ℕ) (ended : Bool) (ls : List LineText) → LacksLin
     → ls ≡ line_texts (flat_map whole_line ls)
     → record { bytes = bytes; ended = ended } ∷ ls ≡ line_texts (flat_map whole_line (record { bytes = bytes; ended = ended } ∷ ls))
 only_first bytes true ls lacks last e =
-    sym (ap line_texts (append_assoc bytes (10 ∷ []) (flat_map whole_line ls)) ∙ (line_texts-ended bytes (flat_map whole_line ls) lacks ∙ ap (λ r. record { bytes = bytes; ended = true } ∷ r) (sym e)))
+    sym (ap line_texts (append_assoc bytes (10 ∷ []) (flat_map whole_line ls))
+    ∙ (line_texts-ended bytes (flat_map whole_line ls) lacks ∙ ap (λ r. record { bytes = bytes; ended = true } ∷ r) (sym e)))
 only_first bytes false ls lacks last e = let l = last refl in rw l.0 (sym (simp append-nil (line_texts-open bytes lacks l.1)))
 
 -- no other lines are those of a text
@@ -192,7 +211,8 @@ lines_only (l ∷ ls) text h =
     ∙ ap line_texts h.joined
 
 -- the number of the k-th line
-pub placed-number : (ls : List LineText) (number start k : ℕ) (line : Line) → slice_get (placed number start ls) k ≡ Some line → line.number ≡ number + k
+pub placed-number : (ls : List LineText) (number start k : ℕ) (line : Line) → slice_get (placed number start ls) k ≡ Some line
+    → line.number ≡ number + k
 placed-number [] number start k line e = absurd (cc)
 placed-number (l ∷ ls) number start zero line e =
     let same : record { number = number; start = start; end = start + length l.bytes; ended = l.ended } ≡ line = cc in
@@ -200,7 +220,8 @@ placed-number (l ∷ ls) number start zero line e =
 placed-number (l ∷ ls) number start (suc k) line e = omega (arith, placed-number ls (number + 1) (start + length (whole_line l)) k line e)
 
 -- placed lines lie within the text
-pub placed-within : (text : List ℕ) (ls : List LineText) (number start : ℕ) → drop start text ≡ flat_map whole_line ls → start ≤ length text → All (IsWithin text) (placed number start ls)
+pub placed-within : (text : List ℕ) (ls : List LineText) (number start : ℕ) → drop start text ≡ flat_map whole_line ls
+    → start ≤ length text → All (IsWithin text) (placed number start ls)
 placed-within text [] number start e h = All-nil (IsWithin text)
 placed-within text (l ∷ ls) number start e h =
     let behind : drop (start + length (whole_line l)) text ≡ flat_map whole_line ls =
@@ -211,7 +232,8 @@ placed-within text (l ∷ ls) number start e h =
     (placed-within text ls (number + 1) (start + length (whole_line l)) behind room)
 
 -- what stands behind the last line feed
-pub line_texts-rest : (bytes : List ℕ) → LacksLineFeed bytes → line_texts bytes ≡ cond (eqb (length bytes) 0) [] (record { bytes = bytes; ended = false } ∷ [])
+pub line_texts-rest : (bytes : List ℕ) → LacksLineFeed bytes
+    → line_texts bytes ≡ cond (eqb (length bytes) 0) [] (record { bytes = bytes; ended = false } ∷ [])
 line_texts-rest [] lacks = refl
 line_texts-rest (b ∷ bs) lacks =
     let some : eqb (suc (length bs)) 0 ≡ false = search (rules, tests) in
@@ -233,3 +255,12 @@ length-line_texts-le (b ∷ bs) =
 pub length-placed : (number start : ℕ) (ls : List LineText) → length (placed number start ls) ≡ length ls
 length-placed number start [] = refl
 length-placed number start (l ∷ ls) = omega (arith, length-placed (number + 1) (start + length (whole_line l)) ls)
+
+-- lines that are printed one after another, each with a line feed behind it, are the lines of the text
+pub line_texts-printed : (ls : List (List ℕ)) → All LacksLineFeed ls
+    → line_texts (flat_map (λ l. l ++ 10 ∷ []) ls) ≡ map (λ l. record { bytes = l; ended = true }) ls
+line_texts-printed [] lacks = refl
+line_texts-printed (l ∷ ls) lacks =
+    ap line_texts (append_assoc l (10 ∷ []) (flat_map (λ l. l ++ 10 ∷ []) ls))
+    ∙ (line_texts-ended l (flat_map (λ l. l ++ 10 ∷ []) ls) (All-head LacksLineFeed l ls lacks)
+    ∙ ap (λ r. record { bytes = l; ended = true } ∷ r) (line_texts-printed ls (All-tail LacksLineFeed l ls lacks)))

@@ -1,10 +1,10 @@
 -- The pieces of a line: the first one, and those behind it.
 use Rattle.std.proofs.Common.{◌≡◌, ◌≢◌, ℕ, ◌+◌, ◌-◌, ◌<◌, ◌≤◌, inl, inr, true, false, ltb, eqb, List, [], ◌∷◌, ◌++◌, length, get_or, take, drop, All, arith, rules, tests, sym, ◌∙◌, ap, subst, refl}
-use Rattle.std.specs.List.{slice_range, join_with_byte, onto_first}
+use Rattle.std.specs.List.{slice_range, join_with_byte, onto_first, flat_map}
 use Rattle.std.proofs.lemmas.Bool.{cases_lt, cases_eq}
 use Rattle.std.proofs.lemmas.List.Elements.{All-weaker, All-head, All-tail, All-nil, All-cons}
 use Rattle.std.proofs.lemmas.List.Splits.{slice_split_none, slice_split_at, join_with_byte-slice_split, length-slice_split}
-use Rattle.std.proofs.lemmas.List.{take-append-drop, drop_more, take_all, drop-drop, drop-take, take-take, length-drop, length-take}
+use Rattle.std.proofs.lemmas.List.{append-nil, take-append-drop, drop_more, take_all, drop-drop, drop-take, take-take, length-drop, length-take}
 use Rattle.sa_text.specs.Pieces.{pieces_of, pieces_from, LacksSpace, IsPiecesOf}
 
 no_space_test : (bytes : List ℕ) → All (λ b. b ≢ 32) bytes → All (λ b. eqb b 32 ≡ false) bytes
@@ -100,3 +100,11 @@ pieces_only (p ∷ q ∷ ps) bytes h =
     let rest : q ∷ ps ≡ pieces_of (join_with_byte 32 (q ∷ ps)) =
     pieces_only (q ∷ ps) (join_with_byte 32 (q ∷ ps)) (record { joined = refl; some = omega arith; apart = All-tail LacksSpace p (q ∷ ps) h.apart }) in
     ap (λ r. p ∷ r) rest ∙ (sym (pieces_of-more p (join_with_byte 32 (q ∷ ps)) (All-head LacksSpace p (q ∷ ps) h.apart)) ∙ ap pieces_of h.joined)
+
+-- words that are printed one after another, with a space in front of each but the first, are the pieces of the line
+pub pieces_of-spaced : (word : List ℕ) (words : List (List ℕ)) → LacksSpace word → All LacksSpace words
+    → pieces_of (word ++ flat_map (λ w. 32 ∷ w) words) ≡ word ∷ words
+pieces_of-spaced word [] first others = ap pieces_of (append-nil word) ∙ pieces_of-one word first
+pieces_of-spaced word (w ∷ ws) first others =
+    pieces_of-more word (w ++ flat_map (λ w. 32 ∷ w) ws) first
+    ∙ ap (λ ps. word ∷ ps) (pieces_of-spaced w ws (All-head LacksSpace w ws others) (All-tail LacksSpace w ws others))

@@ -36,7 +36,8 @@ pub no_digits : (bytes : List ℕ) → (IsUtf8 bytes → ⊥) → ReadsDigits by
 no_digits bytes other = λ d. other (IsUtf8-from_ascii bytes (IsAscii-from_digits bytes d.0.1))
 
 -- what reading digits says of the number
-pub read_is : (bytes : List ℕ) (r : Option ℕ) → BeginsNumber bytes → ReadsDigits bytes r → MatchOption r ((n : ℕ) → n < 2 ^ 64 → bytes ≢ decimal n) (λ n. (n < 2 ^ 64) × (bytes ≡ decimal n))
+pub read_is : (bytes : List ℕ) (r : Option ℕ) → BeginsNumber bytes → ReadsDigits bytes r → MatchOption r ((n : ℕ) → n < 2 ^ 64
+    → bytes ≢ decimal n) (λ n. (n < 2 ^ 64) × (bytes ≡ decimal n))
 read_is bytes (Some x) b d =
     (omega (arith, d.1, d.0.1), spelled bytes b d.0.0 d.0.1 ∙ ap decimal (sym d.1))
 read_is bytes None b d = λ n h e. d (subst (λ bs. IsNumeral 10 bs × (digits_value 10 bs < 2 ^ 64)) (sym e) (let w = decimal_is_IsNumeral n h in (w.0, omega (arith, w.1))))
@@ -46,7 +47,8 @@ pub begins_no_number : (bytes : List ℕ) → (BeginsNumber bytes → ⊥) → (
 begins_no_number bytes other n h e = other (subst BeginsNumber (sym e) (begins_decimal n h))
 
 -- an answer that is right gives a decimal text its number
-pub read_back : (bytes : List ℕ) (r : Option ℕ) → MatchOption r ((n : ℕ) → n < 2 ^ 64 → bytes ≢ decimal n) (λ n. (n < 2 ^ 64) × (bytes ≡ decimal n)) → (n : ℕ) → n < 2 ^ 64 → bytes ≡ decimal n → r ≡ Some n
+pub read_back : (bytes : List ℕ) (r : Option ℕ) → MatchOption r ((n : ℕ) → n < 2 ^ 64
+    → bytes ≢ decimal n) (λ n. (n < 2 ^ 64) × (bytes ≡ decimal n)) → (n : ℕ) → n < 2 ^ 64 → bytes ≡ decimal n → r ≡ Some n
 read_back bytes (Some x) m n h e = ap Some (decimal_injective x n m.0 h (sym m.1 ∙ e))
 read_back bytes None m n h e = absurd (m n h e)
 

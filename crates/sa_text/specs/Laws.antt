@@ -1,5 +1,6 @@
 -- What holds of lines, pieces and numbers, whatever the text.
 use Rattle.std.specs.Prelude.{◌≡◌, ℕ, ◌+◌, ◌^◌, ◌<◌, ◌↔◌, true, false, List, [], ◌∷◌, ◌++◌, length, map, Some, All, decimal, slice_get, ◌==◌, if◌then◌else◌}
+use Rattle.std.specs.List.{flat_map}
 use Rattle.sa_text.specs.LineText.{LineText, line_texts, LacksLineFeed, IsLinesOf}
 use Rattle.sa_text.specs.Line.{lines_of, text_of_line, IsWithin}
 use Rattle.sa_text.specs.Pieces.{pieces_of, LacksSpace, IsPiecesOf}
@@ -22,6 +23,11 @@ LinesEndAtLineFeeds = (bytes : List ℕ) → LacksLineFeed bytes → line_texts 
 abbrev pub RestIsLine : Type 0
 RestIsLine = (bytes : List ℕ) → LacksLineFeed bytes → line_texts bytes ≡ (if length bytes == 0 then [] else record { bytes = bytes; ended = false } ∷ [])
 
+-- lines that are printed one after another, each with a line feed behind it, are the lines of the text
+abbrev pub PrintedLinesAreTheLines : Type 0
+PrintedLinesAreTheLines = (ls : List (List ℕ)) → All LacksLineFeed ls
+    → line_texts (flat_map (λ l. l ++ 10 ∷ []) ls) ≡ map (λ l. record { bytes = l; ended = true }) ls
+
 -- at their places the text holds its lines, they lie within it, and they are numbered from 1 on
 abbrev pub PlacesHoldLines : Type 0
 PlacesHoldLines = (text : List ℕ) → map (text_of_line text) (lines_of text) ≡ line_texts text
@@ -42,6 +48,11 @@ PiecesEndAtSpaces = (bytes rest : List ℕ) → LacksSpace bytes → pieces_of (
 
 abbrev pub RestIsPiece : Type 0
 RestIsPiece = (bytes : List ℕ) → LacksSpace bytes → pieces_of bytes ≡ bytes ∷ []
+
+-- words that are printed one after another, with a space in front of each but the first, are the pieces of the line
+abbrev pub SpacedWordsAreThePieces : Type 0
+SpacedWordsAreThePieces = (word : List ℕ) (words : List (List ℕ)) → LacksSpace word → All LacksSpace words
+    → pieces_of (word ++ flat_map (λ w. 32 ∷ w) words) ≡ word ∷ words
 
 -- a number below 2 ^ 64 has one spelling, which is its decimal text
 abbrev pub NumbersHaveOneSpelling : Type 0

@@ -1,5 +1,5 @@
 -- Where the lines of a text stand in it.
-use Rattle.std.specs.Prelude.{ℕ, ◌+◌, ◌≤◌, List, [], ◌∷◌, length, slice_range}
+use Rattle.std.specs.Prelude.{ℕ, ◌+◌, ◌≤◌, List, [], ◌∷◌, length, drop, slice_range}
 use Rattle.sa_text.specs.LineText.{LineText, line_texts, whole_line}
 use Rattle.sa_text.specs.declared.line_reader.Line.{Line}
 
@@ -9,6 +9,10 @@ placed number start [] = []
 placed number start (l ∷ ls) =
     record { number = number; start = start; end = start + length l.bytes; ended = l.ended }
     ∷ placed (number + 1) (start + length (whole_line l)) ls
+
+-- the lines of a text from a place on, the first of which has this number
+abbrev pub lines_from : List ℕ → ℕ → ℕ → List Line
+lines_from text number start = placed number start (line_texts (drop start text))
 
 -- the lines of a text, numbered from 1
 abbrev pub lines_of : List ℕ → List Line

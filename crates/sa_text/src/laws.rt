@@ -1,6 +1,6 @@
 // What holds of lines, pieces and numbers, whatever the text: each contract is a law, and the bodies do
 // nothing.
-ghost use Rattle.sa_text.specs.Laws.{LinesAreTheText, LinesFollowLineFeeds, LinesEndAtLineFeeds, RestIsLine, PlacesHoldLines, LinesLieWithin, NumbersRiseByOne, PiecesAreTheLine, PiecesEndAtSpaces, RestIsPiece, NumbersHaveOneSpelling, SpellingsDiffer, SpellingsAreOnePiece};
+ghost use Rattle.sa_text.specs.Laws.{LinesAreTheText, LinesFollowLineFeeds, LinesEndAtLineFeeds, RestIsLine, PrintedLinesAreTheLines, PlacesHoldLines, LinesLieWithin, NumbersRiseByOne, PiecesAreTheLine, PiecesEndAtSpaces, RestIsPiece, SpacedWordsAreThePieces, NumbersHaveOneSpelling, SpellingsDiffer, SpellingsAreOnePiece};
 
 /// The lines of a text, with their line feeds, are the text, and no other lines are.
 pub fn lines_are_the_text()
@@ -12,6 +12,7 @@ pub fn lines_end_at_line_feeds()
     ensures follow { LinesFollowLineFeeds }
     ensures end { LinesEndAtLineFeeds }
     ensures rest { RestIsLine }
+    ensures printed { PrintedLinesAreTheLines }
 {}
 
 /// The places of the lines hold the lines, lie within the text and are numbered from 1 on.
@@ -30,6 +31,7 @@ pub fn pieces_are_the_line()
 pub fn pieces_end_at_spaces()
     ensures end { PiecesEndAtSpaces }
     ensures rest { RestIsPiece }
+    ensures spaced { SpacedWordsAreThePieces }
 {}
 
 /// A number of 64 bits has one spelling, no other number has it, and it is one piece of one line.

@@ -1,5 +1,5 @@
 // The lines of a text, one after another.
-ghost use Rattle.std.specs.Prelude.{◌≡◌, ◌+◌, [], ◌∷◌, map, IfSome, MatchOption};
+ghost use Rattle.std.specs.Prelude.{◌≡◌, ◌+◌, ◌≤◌, [], ◌∷◌, length, map, IfSome, MatchOption};
 
 use crate::scan::length_before;
 use std::marker::Model;
@@ -30,16 +30,15 @@ pub struct Lines<'a> {
 }
 
 impl<'a> Model for Lines<'a> {
-    ghost use Rattle.std.specs.Prelude.{◌+◌, ◌≤◌, drop, length};
-    ghost use Rattle.sa_text.specs.LineText.{line_texts};
-    ghost use Rattle.sa_text.specs.Line.{LinesLeft, placed};
+    ghost use Rattle.std.specs.Prelude.{◌+◌, ◌≤◌, length};
+    ghost use Rattle.sa_text.specs.Line.{LinesLeft, lines_from};
 
     ghost Value = { LinesLeft };
 
     ghost view = { λ l. record {
       text = l.text.now;
       number = l.passed + 1;
-      left = placed (l.passed + 1) l.start (line_texts (drop l.start l.text.now));
+      left = lines_from l.text.now (l.passed + 1) l.start;
     } };
 
     ghost invariant = { λ l. (l.start ≤ length l.text.now) × (l.passed ≤ l.start) };
@@ -55,6 +54,7 @@ impl<'a> Lines<'a> {
         ensures number { result.number ≡ 1 }
         ensures lines { result.left ≡ lines_of text.now }
         ensures bytes { map (text_of_line text.now) result.left ≡ line_texts text.now }
+        ensures few { length result.left ≤ length text.now }
     {
         Lines {
             text,
@@ -76,7 +76,8 @@ impl<'a> Lines<'a> {
         ensures first { MatchOption result
             ((self.old.left ≡ []) × (self.new ≡ self.old))
             (λ line. self.old.left ≡ line ∷ self.new.left) }
-        ensures number { IfSome result (λ line. (line.number ≡ self.old.number) × (self.new.number ≡ self.old.number + 1)) }
+        ensures number { IfSome result (λ line.
+            (line.number ≡ self.old.number) × (self.new.number ≡ self.old.number + 1)) }
         ensures within { IfSome result (IsWithin self.old.text) }
     {
         let start = self.start;
@@ -93,5 +94,19 @@ impl<'a> Lines<'a> {
             end,
             ended,
         })
+    }
+}
+
+impl<'a> Iterator for Lines<'a> {
+    ghost use Rattle.std.specs.Iterator.{YieldsFirst, item_count};
+
+    type Item = Line;
+
+    ghost next_gives = { YieldsFirst (λ lines. lines.left) };
+
+    ghost remaining = { item_count (λ lines. lines.left) };
+
+    fn next(&mut self) -> Option<Line> {
+        Lines::next(self)
     }
 }

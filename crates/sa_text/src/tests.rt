@@ -26,6 +26,7 @@ fn gives_lines_in_order(rt: HostRuntime) {
         }
         assert_eq!(rt; lines.next(), None, "behind {text:?}");
         assert_eq!(rt; lines.number() as usize, want.len() + 1, "of {text:?}");
+        assert_eq!(rt; Lines::new(text).count(), want.len(), "of {text:?}");
     }
 }
 
