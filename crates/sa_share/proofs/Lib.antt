@@ -1,2 +1,3 @@
+pub mod FairLemmas
 pub mod ShareLemmas
 pub mod TurnLemmas

@@ -1,17 +1,17 @@
 -- Shares are unique, and there are some.
-use Rattle.std.proofs.Common.{◌≡◌, ◌≢◌, ℕ, zero, suc, ◌+◌, ◌-◌, ◌%◌, ◌<◌, ◌≤◌, min, sym, ap, refl, ◌∙◌, arith, ◌⊎◌, inl, inr, List, [], ◌∷◌, length, map, get_or, set, sum, get_or-set_same, get_or-set_other}
+use Rattle.std.proofs.Common.{◌≡◌, ◌≢◌, ℕ, zero, suc, ◌+◌, ◌<◌, ◌≤◌, sym, ap, refl, ◌∙◌, arith, ◌⊎◌, inl, inr, List, [], ◌∷◌, length, map, get_or, set, sum, get_or-set_same, get_or-set_other}
 use Rattle.std.proofs.lemmas.Bool.{cases_eq, cases_lt, cases_order}
-use Rattle.std.proofs.lemmas.List.{get_or_past, get_or-map, ext_get_or, length-map}
+use Rattle.std.proofs.lemmas.List.{get_or_past, ext_get_or}
 use Rattle.std.proofs.lemmas.List.Sums.{sum_by-cons, sum_by-set, sum-map}
 use Rattle.sa_share.specs.declared.Claim.{Claim}
-use Rattle.sa_share.specs.Share.{claim_at, priority_at, want_at, share_at, total_want, rank_of, IsShare}
+use Rattle.sa_share.specs.Share.{priority_at, want_at, share_at, total_want, rank_of, IsShare}
 use Rattle.sa_share.specs.Turn.{IsBefore, IsNext, WantsMore}
 
 sum-cons : (x : ℕ) (xs : List ℕ) → sum (x ∷ xs) ≡ x + sum xs
 sum-cons x xs = sum_by-cons (λ (y : ℕ). y) x xs
 
 -- nowhere is the first list above the second
-abbrev IsLe : List ℕ → List ℕ → Type 0
+abbrev pub IsLe : List ℕ → List ℕ → Type 0
 IsLe xs ys = (t : ℕ) → get_or xs t 0 ≤ get_or ys t 0
 
 le-cons : (x y : ℕ) (xs ys : List ℕ) → x ≤ y → IsLe xs ys → IsLe (x ∷ xs) (y ∷ ys)
@@ -44,7 +44,7 @@ less-or-le (x ∷ xs) (y ∷ ys) = elim (cases_lt y x) [
 ]
 
 -- a list that is nowhere above another has no larger sum
-sum-le : (xs ys : List ℕ) → IsLe xs ys → sum xs ≤ sum ys
+pub sum-le : (xs ys : List ℕ) → IsLe xs ys → sum xs ≤ sum ys
 sum-le [] ys le = omega arith
 sum-le (x ∷ xs) [] le =
     let head : x ≤ 0 = le 0 in
@@ -56,7 +56,7 @@ sum-le (x ∷ xs) (y ∷ ys) le =
     omega (arith, sum-cons x xs, sum-cons y ys)
 
 -- .. and with the same sum it is the same everywhere
-sum-same : (xs ys : List ℕ) → IsLe xs ys → sum xs ≡ sum ys → (s : ℕ) → get_or xs s 0 ≡ get_or ys s 0
+pub sum-same : (xs ys : List ℕ) → IsLe xs ys → sum xs ≡ sum ys → (s : ℕ) → get_or xs s 0 ≡ get_or ys s 0
 sum-same [] [] le same s = refl
 sum-same [] (y ∷ ys) le same zero = omega (arith, sum-cons y ys)
 sum-same [] (y ∷ ys) le same (suc s) =
@@ -78,8 +78,8 @@ no-less processors first claims x y of_x of_y s less = elim (less-or-le x y) [
   | inl found ↦
       let t = found.0 in
       let more : share_at y t < share_at x t = found.1 in
-      let wanted_s = of_y.wanted s in
-      let wanted_t = of_x.wanted t in
+      let wanted_s = of_y.within s in
+      let wanted_t = of_x.within t in
       elim (cases_order (priority_at claims s) (priority_at claims t)) [
         | inl same ↦
             let a = of_x.level s t same (omega arith) in
@@ -88,11 +88,11 @@ no-less processors first claims x y of_x of_y s less = elim (less-or-le x y) [
             let d = of_y.earlier t s (sym same) (omega arith) (omega arith) in
             omega arith
         | inr apart ↦ elim apart [
-          | inl lower ↦ let e = of_y.prior s t lower (omega arith) in omega arith
-          | inr higher ↦ let e = of_x.prior t s higher (omega arith) in omega arith
+          | inl lower ↦ let e = of_y.higher s t lower (omega arith) in omega arith
+          | inr higher ↦ let e = of_x.higher t s higher (omega arith) in omega arith
         ]
       ]
-  | inr le ↦ let e = sum-same x y le (of_x.given ∙ sym of_y.given) s in omega arith
+  | inr le ↦ let e = sum-same x y le (of_x.total ∙ sym of_y.total) s in omega arith
 ]
 
 -- the shares are unique
@@ -109,23 +109,23 @@ pub shares_unique : (processors first : ℕ) (claims : List Claim) (x y : List �
 shares_unique processors first claims x y of_x of_y long = ext_get_or 0 x y long (λ s within. share_at-unique processors first claims x y of_x of_y s)
 
 -- the wants as a list
-abbrev wants : List Claim → List ℕ
+abbrev pub wants : List Claim → List ℕ
 wants claims = map (λ (claim : Claim). claim.want) claims
 
-get_or-wants : (claims : List Claim) (s : ℕ) → get_or (wants claims) s 0 ≡ want_at claims s
+pub get_or-wants : (claims : List Claim) (s : ℕ) → get_or (wants claims) s 0 ≡ want_at claims s
 get_or-wants [] s = refl
 get_or-wants (claim ∷ claims) zero = refl
 get_or-wants (claim ∷ claims) (suc s) = get_or-wants claims s
 
-sum-wants : (claims : List Claim) → sum (wants claims) ≡ total_want claims
+pub sum-wants : (claims : List Claim) → sum (wants claims) ≡ total_want claims
 sum-wants claims = sum-map (λ (claim : Claim). claim.want) claims
 
 -- no processor is given yet
 pub IsShare-none : (first : ℕ) (claims : List Claim) (shares : List ℕ) → sum shares ≡ 0 → IsShare 0 first claims shares
 IsShare-none first claims shares empty = record {
-  wanted = λ s. let e = none s in omega arith;
-  given = omega arith;
-  prior = λ s t lower some. let e = none s in absurd (omega arith);
+  within = λ s. let e = none s in omega arith;
+  total = omega arith;
+  higher = λ s t lower some. let e = none s in absurd (omega arith);
   level = λ s t same less. let e = none t in omega arith;
   earlier = λ s t same less behind. let e = none t in absurd (omega arith);
 } where
@@ -136,11 +136,11 @@ IsShare-none first claims shares empty = record {
 pub IsShare-all : (given processors first : ℕ) (claims : List Claim) (shares : List ℕ) → given ≤ processors → IsShare given first claims shares → ((s : ℕ) → want_at claims s ≤ share_at shares s) → IsShare processors first claims shares
 IsShare-all given processors first claims shares few old met =
     let within : total_want claims ≤ sum shares = omega (arith, sum-wants claims, sum-le (wants claims) shares (λ s. let e = get_or-wants claims s in let f = met s in omega arith)) in
-    let sum_was = old.given in
+    let sum_was = old.total in
     record {
-      wanted = old.wanted;
-      given = omega arith;
-      prior = old.prior;
+      within = old.within;
+      total = omega arith;
+      higher = old.higher;
       level = old.level;
       earlier = old.earlier;
     }
@@ -153,12 +153,20 @@ sum-less claims shares s wanted more =
     let apart : sum shares ≢ sum (wants claims) = λ same. let e = sum-same shares (wants claims) le same s in let f = get_or-wants claims s in omega arith in
     omega (arith, sum-wants claims)
 
--- a space that wants more is one of the claims
+-- past the claims a space wants nothing ..
+pub want_at-past : (claims : List Claim) (s : ℕ) → length claims ≤ s → want_at claims s ≡ 0
+want_at-past claims s past = ap (λ (claim : Claim). claim.want) (get_or_past claims s (record { priority = 0; want = 0 }) past)
+
+-- .. so a space that wants more is one of the claims
 WantsMore-within : (claims : List Claim) (shares : List ℕ) (s : ℕ) → WantsMore claims shares s → s < length claims
 WantsMore-within claims shares s more = elim (cases_lt s (length claims)) [
   | inl below ↦ below
-  | inr past ↦ let e : want_at claims s ≡ 0 = ap (λ (claim : Claim). claim.want) (get_or_past claims s (record { priority = 0; want = 0 }) past) in absurd (omega arith)
+  | inr past ↦ let e = want_at-past claims s past in absurd (omega arith)
 ]
+
+-- .. and gets nothing
+pub share_at-past : (processors first : ℕ) (claims : List Claim) (shares : List ℕ) → IsShare processors first claims shares → (s : ℕ) → length claims ≤ s → share_at shares s ≡ 0
+share_at-past processors first claims shares of_shares s past = let e = want_at-past claims s past in let f = of_shares.within s in omega arith
 
 -- what it says of numbers that s is served before t
 IsBefore-numbers : (first : ℕ) (claims : List Claim) (shares : List ℕ) (s t : ℕ) → IsBefore first claims shares s t →
@@ -196,21 +204,21 @@ served-cases first claims shares s t within = elim (cases_eq t s) [
 -- one processor more, for the space that is next
 pub IsShare-more : (given first : ℕ) (claims : List Claim) (shares : List ℕ) (s : ℕ) → length claims ≤ length shares → IsShare given first claims shares → IsNext (length claims) first claims shares s → IsShare (given + 1) first claims (set shares s (share_at shares s + 1))
 IsShare-more given first claims shares s room old next = record {
-  wanted = λ t. elim (cases t) [ inl served ↦ omega arith | inr passed ↦ let e = old.wanted t in omega arith ];
-  given =
+  within = λ t. elim (cases t) [ inl served ↦ omega arith | inr passed ↦ let e = old.within t in omega arith ];
+  total =
       let e = sum_by-set (λ (n : ℕ). n) shares s (share_at shares s + 1) 0 within in
-      let f = old.given in
-      let g = sum-less claims shares s old.wanted next.wants in
+      let f = old.total in
+      let g = sum-less claims shares s old.within next.wants in
       omega arith;
-  prior = λ t u lower some. elim (cases t) [
+  higher = λ t u lower some. elim (cases t) [
     | inl served ↦ elim (cases u) [
       | inl too ↦ absurd (omega arith)
       | inr passed ↦ elim (cases_lt (share_at shares u) (want_at claims u)) [
         | inl more ↦ let e = before u passed.other more in absurd (omega arith)
-        | inr met ↦ let e = old.wanted u in omega arith
+        | inr met ↦ let e = old.within u in omega arith
       ]
     ]
-    | inr other ↦ let e = old.prior t u lower (omega arith) in elim (cases u) [ inl served ↦ absurd (omega arith) | inr passed ↦ omega arith ]
+    | inr other ↦ let e = old.higher t u lower (omega arith) in elim (cases u) [ inl served ↦ absurd (omega arith) | inr passed ↦ omega arith ]
   ];
   level = λ t u same less. elim (cases t) [
     | inl served ↦ let e = old.level t u same (omega arith) in elim (cases u) [ inl too ↦ omega arith | inr passed ↦ omega arith ]

@@ -1,10 +1,10 @@
 -- The turns of spaces.
 use Rattle.std.proofs.Common.{◌≡◌, ◌≢◌, ℕ, ◌+◌, ◌-◌, ◌%◌, ◌<◌, ◌≤◌, sym, subst, ◌∙◌, arith, ◌⊎◌, inl, inr, List, length, Option, Some, None, below_more}
 use Rattle.std.specs.Prelude.{MatchOption}
-use Rattle.std.proofs.lemmas.Bool.{cases_eq, cases_lt, cases_order}
+use Rattle.std.proofs.lemmas.Bool.{cases_eq, cases_lt}
 use Rattle.std.proofs.Math.Nat.{mod-eq_of_lt, mod-eq-sub-mod}
 use Rattle.sa_share.specs.declared.Claim.{Claim}
-use Rattle.sa_share.specs.Share.{priority_at, want_at, share_at, rank_of}
+use Rattle.sa_share.specs.Share.{want_at, share_at, rank_of}
 use Rattle.sa_share.specs.Turn.{WantsMore, IsBefore, GoesFirst, IsNext}
 
 -- counted round from the first, a number from there on comes before one below it

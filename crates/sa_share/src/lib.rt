@@ -1,13 +1,17 @@
 //! The policy of processor allocation: how many processors each space gets.
 #![tactic(auto)]
 
-ghost use Rattle.std.specs.Prelude.{◌≡◌, ℕ, ◌<◌, ◌≤◌, ◌↔◌, List, length, max, IsTrue, IfSome, IfNone};
-ghost use Rattle.sa_share.specs.declared.Claim.{Claim};
-ghost use Rattle.sa_share.specs.Share.{rank_of, want_at, share_at, IsShare};
+ghost use Rattle.std.specs.Prelude.{◌≡◌, ℕ, ◌<◌, ◌≤◌, ◌↔◌, length, IsTrue, IfSome, IfNone};
+ghost use Rattle.sa_share.specs.Share.{rank_of, want_at, share_at, IsFirst, IsShare};
 ghost use Rattle.sa_share.specs.Turn.{IsBefore, GoesFirst, IsNext};
 
+pub mod laws;
+
+/// How many processors there are at most.
+pub const MAX_PROCESSORS: u16 = 16;
+
 /// How many spaces can make claims at once.
-pub const SPACES: usize = 16;
+pub const MAX_SPACES: usize = 16;
 
 /// What one space claims.
 #[derive(Clone, Copy, Debug, PartialEq, Eq)]
@@ -18,17 +22,17 @@ pub struct Claim {
     pub want: u16,
 }
 
-/// How many of the processors, 1 to 16, each space gets: place `s` has the share of space `s`, and 0
-/// past the claims. Within a priority the turns begin at the space `first`.
-pub fn shares(processors: u16, first: u16, claims: &[Claim]) -> [u16; SPACES]
-    requires some { 0 < processors }
-    requires few { processors ≤ 16 }
-    requires spaces { length claims.now ≤ SPACES }
-    // the first is one of the claims, or 0 where there are none
-    requires first { first < max 1 (length claims.now) }
-    ensures { IsShare processors first claims.now result }
+/// How many of the processors each space gets: place `s` has the share of space `s`, and 0 past the
+/// claims. Spaces of one priority take turns, which begin at the space `first`.
+pub fn shares(processors: u16, first: u16, claims: &[Claim]) -> [u16; MAX_SPACES]
+    requires low { 1 ≤ processors }
+    requires high { processors ≤ MAX_PROCESSORS }
+    requires spaces { length claims.now ≤ MAX_SPACES }
+    requires first { IsFirst first claims.now }
+    ensures shares { IsShare processors first claims.now result }
+    ensures past { (s : ℕ) → length claims.now ≤ s → share_at result s ≡ 0 }
 {
-    let mut shares = [0; SPACES];
+    let mut shares = [0; MAX_SPACES];
     for _turn in 0..processors {
         let Some(space) = next_space(usize::from(first), claims, &shares) else {
             return shares;
@@ -39,9 +43,9 @@ pub fn shares(processors: u16, first: u16, claims: &[Claim]) -> [u16; SPACES]
 }
 
 // The space that gets the next processor, or none where every want is met.
-fn next_space(first: usize, claims: &[Claim], shares: &[u16; SPACES]) -> Option<usize>
-    requires spaces { length claims.now ≤ SPACES }
-    requires first { first < max 1 (length claims.now) }
+fn next_space(first: usize, claims: &[Claim], shares: &[u16; MAX_SPACES]) -> Option<usize>
+    requires spaces { length claims.now ≤ MAX_SPACES }
+    requires first { IsFirst first claims.now }
     ensures none { IfNone result ((s : ℕ) → want_at claims.now s ≤ share_at shares.now s) }
     ensures next { IfSome result (IsNext (length claims.now) first claims.now shares.now) }
 {
@@ -58,11 +62,11 @@ fn next_space(first: usize, claims: &[Claim], shares: &[u16; SPACES]) -> Option<
 fn goes_first(
     first: usize,
     claims: &[Claim],
-    shares: &[u16; SPACES],
+    shares: &[u16; MAX_SPACES],
     space: usize,
     chosen: Option<usize>,
 ) -> bool
-    requires spaces { length claims.now ≤ SPACES }
+    requires spaces { length claims.now ≤ MAX_SPACES }
     requires first { first < length claims.now }
     requires space { space < length claims.now }
     requires chosen { IfSome chosen (λ other. other < length claims.now) }
@@ -75,8 +79,8 @@ fn goes_first(
 }
 
 // Whether space `s` is served before space `t`.
-fn is_before(first: usize, claims: &[Claim], shares: &[u16; SPACES], s: usize, t: usize) -> bool
-    requires spaces { length claims.now ≤ SPACES }
+fn is_before(first: usize, claims: &[Claim], shares: &[u16; MAX_SPACES], s: usize, t: usize) -> bool
+    requires spaces { length claims.now ≤ MAX_SPACES }
     requires first { first < length claims.now }
     requires left { s < length claims.now }
     requires right { t < length claims.now }
@@ -100,8 +104,5 @@ fn rank(first: usize, claims: &[Claim], space: usize) -> usize
     (space + claims.len() - first) % claims.len()
 }
 
-/// The shares are unique: no two sharings of one set of claims differ.
-pub fn shares_are_unique()
-    ensures each { (processors first : ℕ) (claims : List Claim) (x y : List ℕ) → IsShare processors first claims x → IsShare processors first claims y → (s : ℕ) → share_at x s ≡ share_at y s }
-    ensures whole { (processors first : ℕ) (claims : List Claim) (x y : List ℕ) → IsShare processors first claims x → IsShare processors first claims y → length x ≡ length y → x ≡ y }
-{}
+#[cfg(test)]
+mod tests;

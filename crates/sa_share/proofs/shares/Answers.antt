@@ -7,8 +7,8 @@ use Rattle.sa_share.proofs.shares.Goals as goal
 pub loop-turn-init : goal.loop-turn-init
 loop-turn-init c = record { given = IsShare-none c.args.first c.args.claims.now _ refl; places = refl }
 
-pub returns-in_default : goal.returns-in_default
-returns-in_default c = IsShare-all c.loop-turn._turn c.args.processors c.args.first c.args.claims.now c.loop-turn.shares (omega arith) c.loop-turn.invariant.given c.in_default.ensures.none
+pub returns-in_default-clause-shares : goal.returns-in_default-clause-shares
+returns-in_default-clause-shares c = IsShare-all c.loop-turn._turn c.args.processors c.args.first c.args.claims.now c.loop-turn.shares (omega arith) c.loop-turn.invariant.given c.in_default.ensures.none
 
 pub loop-turn-preserved : goal.loop-turn-preserved
 loop-turn-preserved c =
