@@ -16,14 +16,15 @@ pub const MAX_SPACES: usize = 16;
 /// What one space claims.
 #[derive(Clone, Copy, Debug, PartialEq, Eq)]
 pub struct Claim {
-    /// A space of higher priority is served first.
+    /// 0 to 255; a space of higher priority is served first.
     pub priority: u8,
     /// How many processors the space wants.
     pub want: u16,
 }
 
-/// How many of the processors each space gets: place `s` has the share of space `s`, and 0 past the
-/// claims. Spaces of one priority take turns, which begin at the space `first`.
+/// How many of the processors, 1 to 16, each space gets: place `s` has the share of space `s`, and 0
+/// past the claims, which are at most 16. Spaces of one priority take turns, and the turns begin at the
+/// space `first`, which is one of the claims, or 0 where there are none.
 pub fn shares(processors: u16, first: u16, claims: &[Claim]) -> [u16; MAX_SPACES]
     requires low { 1 ≤ processors }
     requires high { processors ≤ MAX_PROCESSORS }
