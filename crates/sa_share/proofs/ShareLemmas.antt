@@ -1,11 +1,11 @@
--- Shares are unique, and there are some.
+-- Shares are unique, and how one processor more is given.
 use Rattle.std.proofs.Common.{◌≡◌, ◌≢◌, ℕ, zero, suc, ◌+◌, ◌<◌, ◌≤◌, sym, ap, refl, ◌∙◌, arith, ◌⊎◌, inl, inr, List, [], ◌∷◌, length, map, get_or, set, sum, get_or-set_same, get_or-set_other}
 use Rattle.std.proofs.lemmas.Bool.{cases_eq, cases_lt, cases_order}
 use Rattle.std.proofs.lemmas.List.{get_or_past, ext_get_or}
 use Rattle.std.proofs.lemmas.List.Sums.{sum_by-cons, sum_by-set, sum-map}
 use Rattle.sa_share.specs.declared.Claim.{Claim}
-use Rattle.sa_share.specs.Share.{priority_at, want_at, share_at, total_want, rank_of, IsShare}
-use Rattle.sa_share.specs.Turn.{IsBefore, IsNext, WantsMore}
+use Rattle.sa_share.specs.Share.{priority_at, want_at, share_at, total_want, rank_of, IsShare, WantsMore}
+use Rattle.sa_share.specs.Turn.{IsBefore, IsNext}
 
 sum-cons : (x : ℕ) (xs : List ℕ) → sum (x ∷ xs) ≡ x + sum xs
 sum-cons x xs = sum_by-cons (λ (y : ℕ). y) x xs

@@ -4,8 +4,8 @@ use Rattle.std.specs.Prelude.{MatchOption}
 use Rattle.std.proofs.lemmas.Bool.{cases_eq, cases_lt}
 use Rattle.std.proofs.Math.Nat.{mod-eq_of_lt, mod-eq-sub-mod}
 use Rattle.sa_share.specs.declared.Claim.{Claim}
-use Rattle.sa_share.specs.Share.{want_at, share_at, rank_of}
-use Rattle.sa_share.specs.Turn.{WantsMore, IsBefore, GoesFirst, IsNext}
+use Rattle.sa_share.specs.Share.{want_at, share_at, rank_of, WantsMore}
+use Rattle.sa_share.specs.Turn.{IsBefore, GoesFirst, IsNext}
 
 -- counted round from the first, a number from there on comes before one below it
 rank-cases : (first n s : ℕ) → first < n → s < n → ((s < first) × ((s + n - first) % n ≡ s + n - first)) ⊎ ((first ≤ s) × ((s + n - first) % n ≡ s - first))

@@ -6,6 +6,7 @@ use Rattle.sa_share.specs.declared.Claim.{Claim}
 abbrev pub claim_at : List Claim → ℕ → Claim
 claim_at claims s = slice_index_or claims s (record { priority = 0; want = 0 })
 
+-- the priority that a space has
 abbrev pub priority_at : List Claim → ℕ → ℕ
 priority_at claims s = (claim_at claims s).priority
 
@@ -16,6 +17,10 @@ want_at claims s = (claim_at claims s).want
 -- how many processors a space gets
 abbrev pub share_at : List ℕ → ℕ → ℕ
 share_at shares s = slice_index shares s
+
+-- a space has less than it wants
+abbrev pub WantsMore : List Claim → List ℕ → ℕ → Type 0
+WantsMore claims shares s = share_at shares s < want_at claims s
 
 -- how many processors the spaces want together
 abbrev pub total_want : List Claim → ℕ
@@ -39,8 +44,8 @@ pub record IsShare (processors first : ℕ) (claims : List Claim) (shares : List
   pub higher : (s t : ℕ) → priority_at claims s < priority_at claims t → 0 < share_at shares s
       → share_at shares t ≡ want_at claims t
   -- a space with less than it wants is at most one behind any other of its priority ..
-  pub level : (s t : ℕ) → priority_at claims s ≡ priority_at claims t → share_at shares s < want_at claims s
+  pub level : (s t : ℕ) → priority_at claims s ≡ priority_at claims t → WantsMore claims shares s
       → share_at shares t ≤ share_at shares s + 1
   -- .. and one behind only those of lower rank
-  pub earlier : (s t : ℕ) → priority_at claims s ≡ priority_at claims t → share_at shares s < want_at claims s
+  pub earlier : (s t : ℕ) → priority_at claims s ≡ priority_at claims t → WantsMore claims shares s
       → share_at shares t ≡ share_at shares s + 1 → rank_of first claims t < rank_of first claims s

@@ -1,11 +1,7 @@
 -- Which space gets the next processor.
 use Rattle.std.specs.Prelude.{◌≡◌, ◌≢◌, ℕ, ◌<◌, ◌⊎◌, List, Option, MatchOption}
 use Rattle.sa_share.specs.declared.Claim.{Claim}
-use Rattle.sa_share.specs.Share.{priority_at, want_at, share_at, rank_of}
-
--- a space has less than it wants
-abbrev pub WantsMore : List Claim → List ℕ → ℕ → Type 0
-WantsMore claims shares s = share_at shares s < want_at claims s
+use Rattle.sa_share.specs.Share.{priority_at, share_at, rank_of, WantsMore}
 
 -- s is served before t: by its higher priority, then by its smaller share, then by its lower rank
 abbrev pub IsBefore : ℕ → List Claim → List ℕ → ℕ → ℕ → Type 0

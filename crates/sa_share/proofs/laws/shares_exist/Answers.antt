@@ -1,4 +1,4 @@
-use Rattle.sa_share.proofs.FairLemmas.{sharing-exists}
+use Rattle.sa_share.proofs.ExistLemmas.{sharing-exists}
 use Rattle.sa_share.proofs.laws.shares_exist.Goals as goal
 
 pub returns : goal.returns
