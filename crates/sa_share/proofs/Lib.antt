@@ -1,0 +1,4 @@
+pub mod ExistLemmas
+pub mod FairLemmas
+pub mod ShareLemmas
+pub mod TurnLemmas
