@@ -1,0 +1,2 @@
+pub mod Instr
+pub mod Program
