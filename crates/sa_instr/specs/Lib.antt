@@ -1,2 +1,4 @@
 pub mod Instr
 pub mod Program
+pub mod Space
+pub mod SpaceDef

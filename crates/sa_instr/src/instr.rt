@@ -1,5 +1,5 @@
 // Registers and instructions.
-ghost use Rattle.std.specs.Prelude.{◌≡◌, ◌<◌, ◌↔◌, IsTrue, IsSome, IfSome};
+ghost use Rattle.std.specs.Prelude.{◌≡◌, ◌≤◌, ◌<◌, ◌↔◌, IsTrue, IsSome, IfSome};
 ghost use Rattle.sa_instr.specs.Instr.{reg_number, IsInRange, JumpsBelow, NamesDeclared};
 
 /// One of a thread's eight registers, each of 64 bits.
@@ -40,6 +40,29 @@ impl Reg {
         ensures below { result < 8 }
     {
         self as u8
+    }
+}
+
+// How many of each thing a space declares.
+#[derive(Clone, Copy)]
+pub(crate) struct Declared {
+    pub mutexes: u16,
+    pub sems: usize,
+    pub cells: u16,
+    pub programs: usize,
+}
+
+impl Declared {
+    // Whether a space may declare so many.
+    pub(crate) fn is_in_range(&self) -> bool
+        ensures { IsTrue result ↔ ((self.now.mutexes ≤ 64) × (self.now.sems ≤ 64) × (self.now.cells ≤ 64)
+            × (1 ≤ self.now.programs) × (self.now.programs ≤ 256)) }
+    {
+        self.mutexes <= 64
+            && self.sems <= 64
+            && self.cells <= 64
+            && 1 <= self.programs
+            && self.programs <= 256
     }
 }
 
@@ -101,6 +124,19 @@ impl Instr {
     {
         match self {
             Instr::Jnz(_, place) => (*place as usize) < len,
+            _ => true,
+        }
+    }
+
+    // Whether the mutex, semaphore, cell or program that the instruction names is declared.
+    pub(crate) fn names_declared(&self, declared: &Declared) -> bool
+        ensures { IsTrue result ↔ NamesDeclared declared.now.mutexes declared.now.sems declared.now.cells declared.now.programs self.now }
+    {
+        match self {
+            Instr::Load(_, cell) | Instr::Store(_, cell) => *cell < declared.cells,
+            Instr::Fork(_, program) => (*program as usize) < declared.programs,
+            Instr::Lock(mutex) | Instr::Unlock(mutex) => *mutex < declared.mutexes,
+            Instr::Wait(sem) | Instr::Signal(sem) => (*sem as usize) < declared.sems,
             _ => true,
         }
     }

@@ -5,7 +5,9 @@
 mod instr;
 mod program;
 mod regs;
+mod space;
 
 pub use instr::{Instr, Reg};
 pub use program::Program;
 pub use regs::Regs;
+pub use space::SpaceDef;

@@ -1,8 +1,10 @@
 // Programs.
-ghost use Rattle.std.specs.Prelude.{◌≡◌, ◌<◌, ◌↔◌, Some, IsTrue, SomeIff, length, slice_get};
+ghost use Rattle.std.specs.Prelude.{◌≡◌, ◌≤◌, ◌<◌, ◌↔◌, Some, IsTrue, SomeIff, IfOk, All, length, slice_get};
+ghost use Rattle.sa_instr.specs.Instr.{NamesDeclared};
 ghost use Rattle.sa_instr.specs.Program.{IsProgram};
 
-use crate::instr::Instr;
+use crate::instr::{Declared, Instr};
+use std::alloc::{AllocError, Global};
 use std::marker::Model;
 
 // the greatest number of instructions in a program
@@ -54,6 +56,25 @@ impl Program {
         ensures { slice_get self.now pc ≡ Some result }
     {
         self.instrs[pc as usize]
+    }
+
+    /// An equal program. Fails only where memory runs out.
+    pub fn copy(&self, alloc: Global) -> Result<Program, AllocError>
+        ensures { IfOk result (λ program. program ≡ self.now) }
+    {
+        Ok(Program {
+            instrs: Vec::from_slice(alloc, self.instrs.as_slice())?,
+        })
+    }
+
+    // Whether each instruction names only what is declared. Each program says so of itself.
+    pub(crate) fn names_only(&self, declared: &Declared) -> bool
+        ensures { IsTrue result ↔ (IsProgram self.now
+            × All (NamesDeclared declared.now.mutexes declared.now.sems declared.now.cells declared.now.programs) self.now) }
+    {
+        self.instrs
+            .iter()
+            .all(|instr| instr.names_declared(declared))
     }
 }
 
