@@ -1,4 +1,7 @@
 pub mod Instr
+pub mod Local
 pub mod Program
 pub mod Space
-pub mod SpaceDef
+pub mod SpaceFields
+pub mod Workload
+pub mod WorkloadFields

@@ -2,12 +2,18 @@
 //! is made, and the instructions that stay within their thread.
 #![tactic(auto)]
 
+mod answer;
 mod instr;
 mod program;
 mod regs;
 mod space;
+mod step;
+mod workload;
 
+pub use answer::Local;
 pub use instr::{Instr, Reg};
 pub use program::Program;
 pub use regs::Regs;
 pub use space::SpaceDef;
+pub use step::local;
+pub use workload::{Evict, Workload};

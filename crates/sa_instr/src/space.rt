@@ -27,7 +27,7 @@ impl Model for SpaceDef {
 
     ghost Value = { SpaceView };
 
-    ghost use Rattle.sa_instr.specs.SpaceDef.{space_of};
+    ghost use Rattle.sa_instr.specs.SpaceFields.{space_of};
 
     ghost view = { space_of };
 
