@@ -1,6 +1,7 @@
 // Programs.
-ghost use Rattle.std.specs.Prelude.{◌≡◌, ◌≤◌, ◌<◌, ◌↔◌, Some, IsTrue, SomeIff, IfOk, All, length, slice_get};
-ghost use Rattle.sa_instr.specs.Instr.{NamesDeclared};
+ghost use Rattle.std.specs.Prelude.{◌≡◌, ◌≢◌, ◌+◌, ◌≤◌, ◌<◌, ◌↔◌, Some, IsTrue, SomeIff, IfOk, All, length, slice_get};
+ghost use Rattle.sa_instr.specs.Instr.{IsInRange, JumpsBelow, NamesDeclared};
+ghost use Rattle.sa_instr.specs.Local.{instr_at};
 ghost use Rattle.sa_instr.specs.Program.{IsProgram};
 
 use crate::instr::{Declared, Instr};
@@ -53,7 +54,14 @@ impl Program {
     /// The instruction at the place `pc`.
     pub fn at(&self, pc: u16) -> Instr
         requires { pc < length self.now }
-        ensures { slice_get self.now pc ≡ Some result }
+        ensures at { slice_get self.now pc ≡ Some result }
+        ensures instr { result ≡ instr_at self.now pc }
+
+        // What a program keeps to, at this place: there is a next one, but behind an `End`.
+        ensures short { length self.now ≤ 4096 }
+        ensures next { result ≢ Instr.End → pc + 1 < length self.now }
+        ensures jumps { JumpsBelow (length self.now) result }
+        ensures range { IsInRange result }
     {
         self.instrs[pc as usize]
     }
