@@ -1,23 +1,14 @@
 -- The local effect: what an instruction that stays within its thread does to the thread's place and registers.
-use Rattle.std.specs.Prelude.{ℕ, ◌+◌, ◌-◌, ◌%◌, ◌^◌, ◌==◌, if◌then◌else◌, List, slice_index, slice_index_or, slice_set}
-use Rattle.sa_instr.specs.declared.instr.Reg.{Reg}
+use Rattle.std.specs.Prelude.{ℕ, ◌+◌, ◌-◌, ◌%◌, ◌^◌, ◌==◌, if◌then◌else◌, List, slice_index_or}
 use Rattle.sa_instr.specs.declared.instr.Instr.{Instr}
 use Rattle.sa_instr.specs.declared.instr.Instr.TheVariants.{Compute, Set, Add, Sub, Jnz, End}
 use Rattle.sa_instr.specs.declared.answer.Local.{Local}
 use Rattle.sa_instr.specs.declared.answer.Local.TheVariants.{Went, NotLocal, Ended}
-use Rattle.sa_instr.specs.Instr.{reg_number}
+use Rattle.sa_instr.specs.Regs.{reg_value, with_reg}
 
 -- the instruction at a place of a program, and `end` behind its last one
 abbrev pub instr_at : List Instr → ℕ → Instr
 instr_at program pc = slice_index_or program pc End
-
--- what a register holds
-abbrev pub reg_value : List ℕ → Reg → ℕ
-reg_value regs reg = slice_index regs (reg_number reg)
-
--- the registers with a value put into one of them
-abbrev pub with_reg : List ℕ → Reg → ℕ → List ℕ
-with_reg regs reg value = slice_set regs (reg_number reg) value
 
 -- the place after an instruction: the next one, but for a jump whose register is not 0; what is not local leaves it
 abbrev pub place_after : Instr → (pc : ℕ) → (regs : List ℕ) → ℕ

@@ -4,6 +4,7 @@
 
 mod answer;
 mod instr;
+pub mod laws;
 mod program;
 mod regs;
 mod space;

@@ -1,6 +1,6 @@
 // A thread's registers.
-ghost use Rattle.std.specs.Prelude.{◌≡◌, replicate, length, slice_index, slice_set};
-ghost use Rattle.sa_instr.specs.Instr.{reg_number};
+ghost use Rattle.std.specs.Prelude.{◌≡◌, replicate};
+ghost use Rattle.sa_instr.specs.Regs.{AreRegisters, reg_value, with_reg};
 
 use crate::instr::Reg;
 use std::marker::Model;
@@ -16,7 +16,11 @@ impl Model for Regs {
 
     ghost Value = { List ℕ };
 
+    ghost use Rattle.sa_instr.specs.Regs.{AreRegisters};
+
     ghost view = { λ r. r.values };
+
+    ghost invariant = { λ r. AreRegisters r.values };
 
     ghost inverse = { λ values. record { values = values } };
 }
@@ -31,15 +35,15 @@ impl Regs {
 
     /// What the register holds.
     pub fn get(&self, reg: Reg) -> u64
-        ensures value { result ≡ slice_index self.now (reg_number reg) }
-        ensures eight { length self.now ≡ 8 }
+        ensures value { result ≡ reg_value self.now reg }
+        ensures registers { AreRegisters self.now }
     {
         self.values[reg.number() as usize]
     }
 
     /// Puts `value` into the register. The others stay.
     pub fn set(&mut self, reg: Reg, value: u64)
-        ensures { self.new ≡ slice_set self.old (reg_number reg) value }
+        ensures { self.new ≡ with_reg self.old reg value }
     {
         self.values[reg.number() as usize] = value;
     }
