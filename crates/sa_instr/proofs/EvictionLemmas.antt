@@ -1,5 +1,5 @@
 -- Evictions that rise, each above the one before, are in order throughout.
-use Rattle.std.proofs.Common.{◌≡◌, ℕ, ◌+◌, ◌-◌, ◌<◌, zero, suc, List, length, get_or, arith, subst, sym}
+use Rattle.std.proofs.Common.{◌≡◌, ℕ, ◌+◌, ◌-◌, ◌<◌, zero, suc, List, length, get_or, arith, subst}
 use Rattle.std.specs.List.{AllAdjacentBelow, AllPairs}
 use Rattle.sa_instr.specs.declared.workload.Evict.{Evict}
 use Rattle.sa_instr.specs.Workload.{IsBefore}

@@ -214,7 +214,8 @@ fn spaces(rt: &impl Abort, alloc: Global, count: usize) -> Vec<SpaceDef> {
     let mut list = Vec::new(alloc);
     for _ in 0..count {
         let space = naming(rt, alloc, Instr::Io(9), 2).expect(rt, "a space");
-        list.push(space).expect(rt, "memory");
+        let patient = space.with_patience(4).expect(rt, "a patience");
+        list.push(patient).expect(rt, "memory");
     }
     list
 }
