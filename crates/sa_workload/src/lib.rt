@@ -1,13 +1,13 @@
-// A library with one function.
+//! The workload text, read and printed.
 #![tactic(auto)]
 
-ghost use Rattle.std.specs.Prelude.{◌≡◌};
-ghost use Rattle.sa_workload.specs.Echo.{echo_of};
+ghost use Rattle.sa_workload.specs.Laws.{TextsDiffer};
+ghost use Rattle.sa_workload.specs.Position.{IsReached, shown, Position};
+ghost use Rattle.sa_workload.specs.Steps.{Steps};
+ghost use Rattle.std.specs.Prelude.{◌≡◌, ℕ, List};
 
-// The `ensures` clause is the contract: what `echo` returns is `echo_of` of its argument, a definition
-// in `specs/Echo.antt`, which a caller's clause can cite too.
-pub fn echo(x: usize) -> usize
-    ensures { result ≡ echo_of x }
+/// Trial.
+pub fn trial()
+    ensures { (n : ℕ) (p q : Position) (line : List (List ℕ)) → Steps p line q → IsReached n p → shown p ≡ shown p }
 {
-    x
 }

@@ -1,0 +1,266 @@
+-- Where a text is wrong, and why: the first line that no text has in its place, and the first cause that applies to it.
+-- All of it speaks of the lines of the text, and of the workloads whose texts begin with the lines before.
+use Rattle.std.specs.Prelude.{◌≡◌, ◌≢◌, ◌⊎◌, ℕ, ◌+◌, ◌-◌, ◌^◌, ◌<◌, ◌≤◌, ◌==◌, ◌&&◌, ◌||◌, not, nat_lt, nat_le, if◌then◌else◌, Bool, true, false, List, [], ◌∷◌, ◌++◌, length, map, take, filter, count_by, slice_get, slice_index, slice_index_or, Option, Some, None, MatchOption, unwrap_or, ⊤, IsTrue, All, Contains, drop, codes, decimal}
+use Rattle.std.specs.Map.{lookup}
+use Rattle.std.specs.Str.Parse.{digits_value}
+use Rattle.std.specs.List.{list_any, list_all}
+use Rattle.std.specs.Str.{bytes_eq}
+use Rattle.sa_instr.specs.Workload.{WorkloadView, IsWorkload}
+use Rattle.sa_text.specs.LineText.{LineText, line_texts}
+use Rattle.sa_text.specs.Pieces.{pieces_of}
+use Rattle.sa_workload.specs.Text.{workload_lines, version_of}
+
+-- a grammar: which workloads its texts are of
+abbrev pub Grammar : Type 1
+Grammar = WorkloadView → Type 0
+
+-- every workload, and those of version 1 alone
+abbrev pub AnyVersion : Grammar
+AnyVersion w = IsWorkload w
+
+abbrev pub Version1 : Grammar
+Version1 w = IsWorkload w × (version_of w ≡ 1)
+
+-- some text begins with these lines
+pub record Begins (g : Grammar) (lines : List (List (List ℕ))) : Type 0 where
+  pub workload : WorkloadView
+  pub accepted : g workload
+  pub more : List (List (List ℕ))
+  pub text : workload_lines workload ≡ lines ++ more
+
+-- some text goes on behind these lines with a line that begins with this word
+pub record MayFollow (g : Grammar) (lines : List (List (List ℕ))) (word : List ℕ) : Type 0 where
+  pub others : List (List ℕ)
+  pub begins : Begins g (lines ++ (word ∷ others) ∷ [])
+
+-- the words of the registers
+abbrev pub registers : List (List ℕ)
+registers = codes "r0" ∷ codes "r1" ∷ codes "r2" ∷ codes "r3" ∷ codes "r4" ∷ codes "r5" ∷ codes "r6" ∷ codes "r7" ∷ []
+
+-- one list of numbers before another of the same length, compared from the left
+abbrev pub list_lt : List ℕ → List ℕ → Bool
+list_lt (x ∷ xs) (y ∷ ys) = nat_lt x y || ((x == y) && list_lt xs ys)
+list_lt xs ys = false
+
+-- the words that instructions begin with
+abbrev pub instr_words : List (List ℕ)
+instr_words =
+    codes "compute" ∷ codes "set" ∷ codes "add" ∷ codes "sub" ∷ codes "jnz" ∷ codes "load" ∷ codes "store" ∷ codes "out" ∷ codes "fork"
+    ∷ codes "join" ∷ codes "lock" ∷ codes "unlock" ∷ codes "wait" ∷ codes "signal" ∷ codes "io" ∷ codes "touch" ∷ codes "end" ∷ []
+
+-- the first word of a line
+abbrev pub first_word : List (List ℕ) → List ℕ
+first_word line = slice_index_or line 0 []
+
+-- the last line before, empty where there is none
+abbrev pub last_line : List (List (List ℕ)) → List (List ℕ)
+last_line lines = slice_index_or lines (length lines - 1) []
+
+-- the words of lines of which as many may follow each other as their order and their limit allow
+abbrev pub repeated_words : List (List ℕ)
+repeated_words = codes "absent" ∷ codes "evict" ∷ codes "turn" ∷ []
+
+-- The word may begin a line here: some text goes on with it; or it is an instruction's and some text goes on with an
+-- instruction; or it is one of the repeated words and stands behind a line of the same word.
+abbrev pub IsRightWord : Grammar → List (List (List ℕ)) → List ℕ → Type 0
+IsRightWord g lines word =
+    MayFollow g lines word
+    ⊎ ((Contains instr_words word × ((other : List ℕ) × Contains instr_words other × MayFollow g lines other))
+    ⊎ (Contains repeated_words word × (first_word (last_line lines) ≡ word)))
+
+-- how many lines begin with the word
+abbrev pub count_of_word : List (List (List ℕ)) → List ℕ → ℕ
+count_of_word lines word = count_by (λ line. bytes_eq (first_word line) word) lines
+
+-- an evict or turn line more than there may be
+abbrev pub IsTooMany : List (List (List ℕ)) → List ℕ → Type 0
+IsTooMany lines word =
+    ((word ≡ codes "evict") × (4096 ≤ count_of_word lines word)) ⊎ ((word ≡ codes "turn") × (65536 ≤ count_of_word lines word))
+
+-- What stands behind the first word: a register, or a number below 2 ^ 64 that passes a test, else it is refused with a cause.
+pub data Field : Type 0 where
+  Register : Field
+  Number : (ℕ → Bool) → ℕ → Field
+
+-- a number between these two, else why 4
+abbrev pub within : ℕ → ℕ → Field
+within low high = Number (λ n. nat_le low n && nat_le n high) 4
+
+-- a name below the number of those that are declared, else why 6
+abbrev pub declared : ℕ → Field
+declared count = Number (λ n. nat_lt n count) 6
+
+-- the number that a word of a line spells
+abbrev pub number_in : List (List ℕ) → ℕ → ℕ
+number_in line k = digits_value 10 (slice_index_or line k [])
+
+-- the last of the lines that begins with the word
+abbrev pub last_with : List ℕ → List (List (List ℕ)) → List (List ℕ)
+last_with word lines = last_line (filter (λ line. bytes_eq (first_word line) word) lines)
+
+-- what the lines before say of the machine, of the last space and of the last program
+abbrev pub version_in : List (List (List ℕ)) → ℕ
+version_in lines = number_in (last_with (codes "workload") lines) 1
+
+abbrev pub processors_in : List (List (List ℕ)) → ℕ
+processors_in lines = number_in (last_with (codes "processors") lines) 1
+
+abbrev pub spaces_in : List (List (List ℕ)) → ℕ
+spaces_in lines = number_in (last_with (codes "spaces") lines) 1
+
+abbrev pub mutexes_in : List (List (List ℕ)) → ℕ
+mutexes_in lines = number_in (last_with (codes "space") lines) 2
+
+abbrev pub sems_in : List (List (List ℕ)) → ℕ
+sems_in lines = number_in (last_with (codes "space") lines) 3
+
+abbrev pub cells_in : List (List (List ℕ)) → ℕ
+cells_in lines = number_in (last_with (codes "space") lines) 4
+
+abbrev pub programs_in : List (List (List ℕ)) → ℕ
+programs_in lines = number_in (last_with (codes "space") lines) 5
+
+abbrev pub length_in : List (List (List ℕ)) → ℕ
+length_in lines = number_in (last_with (codes "program") lines) 1
+
+-- the next space line is the last one, and each before it has patience 1
+abbrev pub needs_patience : List (List (List ℕ)) → Bool
+needs_patience lines =
+    nat_le (spaces_in lines) (count_of_word lines (codes "space") + 1)
+    && list_all (λ line. not (bytes_eq (first_word line) (codes "space")) || (number_in line 6 == 1)) lines
+
+-- in version 3 a space line has its patience, which is at least 2 in the last one where each before it has 1
+abbrev pub patience_field : List (List (List ℕ)) → List Field
+patience_field lines = if version_in lines == 3 then within (if needs_patience lines then 2 else 1) 1000 ∷ [] else []
+
+-- each first word with what stands behind it
+abbrev pub line_forms : ℕ → List (List (List ℕ)) → List (List ℕ × List Field)
+line_forms versions lines =
+    (codes "workload", within 1 versions ∷ [])
+    ∷ (codes "processors", within 1 16 ∷ [])
+    ∷ (codes "fetch", within 1 1000 ∷ [])
+    ∷ (codes "slice", within (if version_in lines == 3 then 0 else 1) 1000000 ∷ [])
+    ∷ (codes "spaces", within 1 16 ∷ [])
+    ∷ (codes "space", within 0 7 ∷ within 0 64 ∷ within 0 64 ∷ within 0 64 ∷ within 1 256 ∷ patience_field lines)
+    ∷ (codes "sem", within 0 1000000 ∷ [])
+    ∷ (codes "absent", within 0 15 ∷ [])
+    ∷ (codes "program", within 1 4096 ∷ [])
+    ∷ (codes "evict", within 1 1000000 ∷ declared (spaces_in lines) ∷ within 0 15 ∷ [])
+    ∷ (codes "turn", within 0 (processors_in lines - 1) ∷ [])
+    ∷ (codes "compute", [])
+    ∷ (codes "set", Register ∷ within 0 (2 ^ 64 - 1) ∷ [])
+    ∷ (codes "add", Register ∷ Register ∷ [])
+    ∷ (codes "sub", Register ∷ Register ∷ [])
+    ∷ (codes "jnz", Register ∷ Number (λ n. nat_lt n (length_in lines)) 7 ∷ [])
+    ∷ (codes "load", Register ∷ declared (cells_in lines) ∷ [])
+    ∷ (codes "store", Register ∷ declared (cells_in lines) ∷ [])
+    ∷ (codes "out", Register ∷ [])
+    ∷ (codes "fork", Register ∷ declared (programs_in lines) ∷ [])
+    ∷ (codes "join", Register ∷ [])
+    ∷ (codes "lock", declared (mutexes_in lines) ∷ [])
+    ∷ (codes "unlock", declared (mutexes_in lines) ∷ [])
+    ∷ (codes "wait", declared (sems_in lines) ∷ [])
+    ∷ (codes "signal", declared (sems_in lines) ∷ [])
+    ∷ (codes "io", within 1 1000000 ∷ [])
+    ∷ (codes "touch", within 2 15 ∷ [])
+    ∷ []
+
+-- what stands behind a first word; `end` and `close` have nothing
+abbrev pub fields_behind : ℕ → List (List (List ℕ)) → List ℕ → List Field
+fields_behind versions lines word = unwrap_or (lookup (bytes_eq word) (line_forms versions lines)) []
+
+-- the word is the spelling of no number below 2 ^ 64, or of this one
+abbrev pub IsNoNumber : List ℕ → Type 0
+IsNoNumber word = (n : ℕ) → n < 2 ^ 64 → word ≢ decimal n
+
+-- a word that is wrong for its field, with the cause: no register why 2, no number why 3, else the field's own
+abbrev pub IsWrongFor : Field → List ℕ → ℕ → Type 0
+IsWrongFor Register word why = (¬ Contains registers word) × (why ≡ 2)
+IsWrongFor (Number test cause) word why =
+    (IsNoNumber word × (why ≡ 3)) ⊎ ((n : ℕ) × (n < 2 ^ 64) × (word ≡ decimal n) × (test n ≡ false) × (why ≡ cause))
+
+-- a word that is right for its field
+abbrev pub IsRightFor : Field → List ℕ → Type 0
+IsRightFor Register word = Contains registers word
+IsRightFor (Number test cause) word = (n : ℕ) × (n < 2 ^ 64) × (word ≡ decimal n) × (test n ≡ true)
+
+-- the first wrong word behind the first one, or one that is missing: why 9
+abbrev pub IsFirstWrong : List Field → List (List ℕ) → ℕ → Type 0
+IsFirstWrong [] words why = ⊥
+IsFirstWrong (f ∷ fs) [] why = why ≡ 9
+IsFirstWrong (f ∷ fs) (word ∷ words) why = IsWrongFor f word why ⊎ (IsRightFor f word × IsFirstWrong fs words why)
+
+-- every field has its word, right, and words may follow
+abbrev pub AreRight : List Field → List (List ℕ) → Type 0
+AreRight [] words = ⊤
+AreRight (f ∷ fs) [] = ⊥
+AreRight (f ∷ fs) (word ∷ words) = IsRightFor f word × AreRight fs words
+
+-- the numbers behind the first word of a line
+abbrev pub numbers_of : ℕ → List (List ℕ) → List ℕ
+numbers_of count line = map (digits_value 10) (take count (drop 1 line))
+
+-- where an absent or evict line follows another of its kind, its numbers are equal to those before, why 5, or smaller, why 4
+abbrev pub IsOutOfOrder : List (List (List ℕ)) → ℕ → List (List ℕ) → ℕ → Type 0
+IsOutOfOrder lines count line why =
+    (Contains (codes "absent" ∷ codes "evict" ∷ []) (first_word line)) × (first_word (last_line lines) ≡ first_word line)
+    × (((numbers_of count line ≡ numbers_of count (last_line lines)) × (why ≡ 5))
+    ⊎ (IsTrue (list_lt (numbers_of count line) (numbers_of count (last_line lines))) × (why ≡ 4)))
+
+-- such a line does not follow another of its kind, or its numbers are greater
+abbrev pub IsInOrder : List (List (List ℕ)) → ℕ → List (List ℕ) → Type 0
+IsInOrder lines count line =
+    Contains (codes "absent" ∷ codes "evict" ∷ []) (first_word line) → first_word (last_line lines) ≡ first_word line
+    → IsTrue (list_lt (numbers_of count (last_line lines)) (numbers_of count line))
+
+-- the first cause that applies behind a right first word
+abbrev pub FieldCause : List (List (List ℕ)) → List Field → List ℕ → List (List ℕ) → ℕ → Type 0
+FieldCause lines fields word words why =
+    IsFirstWrong fields words why
+    ⊎ (AreRight fields words
+    × (IsOutOfOrder lines (length fields) (word ∷ words) why
+    ⊎ (IsInOrder lines (length fields) (word ∷ words)
+    × (((length fields < length words) × (why ≡ 2)) ⊎ ((length words ≡ length fields) × (why ≡ 9))))))
+
+-- The first cause that applies to the words of a line: a word that may not begin it, why 2; one line too many, why 8; the
+-- first wrong word, or its order; a word too many, why 2; and where all words are right, the last instruction is not `end`, why 9.
+abbrev pub WordCause : Grammar → ℕ → List (List (List ℕ)) → List (List ℕ) → ℕ → Type 0
+WordCause g versions lines [] why = ⊥
+WordCause g versions lines (word ∷ words) why =
+    ((¬ IsRightWord g lines word) × (why ≡ 2))
+    ⊎ (IsRightWord g lines word
+    × ((IsTooMany lines word × (why ≡ 8))
+    ⊎ ((¬ IsTooMany lines word) × FieldCause lines (fields_behind versions lines word) word words why)))
+
+-- every byte is one of the printed ASCII characters
+abbrev pub IsPrinted : List ℕ → Type 0
+IsPrinted bytes = All (λ b. (32 ≤ b) × (b ≤ 126)) bytes
+
+-- the first cause that applies to a line: another byte, why 1; no line feed, why 9; or its words
+abbrev pub LineCause : Grammar → ℕ → List (List (List ℕ)) → LineText → ℕ → Type 0
+LineCause g versions lines line why =
+    ((¬ IsPrinted line.bytes) × (why ≡ 1))
+    ⊎ (IsPrinted line.bytes
+    × (((line.ended ≡ false) × (why ≡ 9)) ⊎ ((line.ended ≡ true) × WordCause g versions lines (pieces_of line.bytes) why)))
+
+-- the lines of some bytes, in words
+abbrev pub words_of : List LineText → List (List (List ℕ))
+words_of ls = map (λ (l : LineText). pieces_of l.bytes) ls
+
+-- Of these lines, the first k - 1 begin a text, and no text goes on with the k-th; or the k-th is missing, and the lines are no
+-- whole text. And this is the first cause that applies to the k-th.
+pub record IsBad (g : Grammar) (versions : ℕ) (ls : List LineText) (k why : ℕ) : Type 0 where
+  pub number : 1 ≤ k
+  pub ended : All (λ (l : LineText). l.ended ≡ true) (take (k - 1) ls)
+  pub begins : Begins g (words_of (take (k - 1) ls))
+  pub wrong : MatchOption (slice_get ls (k - 1))
+      ((k ≡ length ls + 1) × ((w : WorkloadView) → g w → workload_lines w ≢ words_of ls) × (why ≡ 9))
+      (λ line. (line.ended ≡ true → ¬ Begins g (words_of (take (k - 1) ls) ++ pieces_of line.bytes ∷ []))
+        × LineCause g versions (words_of (take (k - 1) ls)) line why)
+
+-- The bytes are bad at line k, counted from 1, with this cause; by all versions, and by version 1 alone.
+abbrev pub BadAt : List ℕ → ℕ → ℕ → Type 0
+BadAt bytes k why = IsBad AnyVersion 3 (line_texts bytes) k why
+
+abbrev pub BadAt1 : List ℕ → ℕ → ℕ → Type 0
+BadAt1 bytes k why = IsBad Version1 1 (line_texts bytes) k why
