@@ -1,0 +1,66 @@
+// The lines before those of the spaces.
+
+use crate::cause::Cause;
+use crate::stage::{Header, Stage, after_fetch};
+use crate::words::{Words, keyword_and_number};
+use std::alloc::Global;
+
+/// `workload V`, where texts of so many versions are read.
+pub(crate) fn read_version(versions: u16, words: Words) -> Result<Stage, Cause> {
+    let version = keyword_and_number(words, b"workload", 1, u64::from(versions))?;
+    Ok(Stage::Processors {
+        version: version as u16,
+    })
+}
+
+/// `processors P`.
+pub(crate) fn read_processors(version: u16, words: Words) -> Result<Stage, Cause> {
+    let processors = keyword_and_number(words, b"processors", 1, 16)?;
+    Ok(Stage::Fetch {
+        version,
+        processors: processors as u16,
+    })
+}
+
+/// `fetch F`.
+pub(crate) fn read_fetch(version: u16, processors: u16, words: Words) -> Result<Stage, Cause> {
+    let fetch = keyword_and_number(words, b"fetch", 1, 1_000)?;
+    Ok(after_fetch(version, processors, fetch as u32))
+}
+
+/// `slice N`, which may be 0 in version 3 alone.
+pub(crate) fn read_slice(
+    version: u16,
+    processors: u16,
+    fetch: u32,
+    words: Words,
+) -> Result<Stage, Cause> {
+    let low = if version == 3 { 0 } else { 1 };
+    let slice = keyword_and_number(words, b"slice", low, 1_000_000)?;
+    Ok(Stage::Spaces {
+        version,
+        processors,
+        fetch,
+        slice: slice as u32,
+    })
+}
+
+/// `spaces S`.
+pub(crate) fn read_spaces(
+    alloc: Global,
+    version: u16,
+    processors: u16,
+    fetch: u32,
+    slice: u32,
+    words: Words,
+) -> Result<Stage, Cause> {
+    let count = keyword_and_number(words, b"spaces", 1, 16)?;
+    let header = Header {
+        version,
+        processors,
+        fetch,
+        slice,
+        count: count as u16,
+    };
+    Ok(Stage::Space(header, Vec::new(alloc)))
+}

@@ -1,0 +1,117 @@
+// The reader: one line after another.
+
+use crate::cause::{Cause, Refusal};
+use crate::closing_lines::{read_evict_or_turn, read_turn_or_close};
+use crate::instr_lines::read_instr;
+use crate::machine_lines::{read_fetch, read_processors, read_slice, read_spaces, read_version};
+use crate::space_lines::{read_absent_or_program, read_program, read_sem, read_space};
+use crate::stage::Stage;
+use crate::words::Words;
+use sa_base::Unread;
+use sa_instr::Workload;
+use sa_text::{Line, Lines};
+use std::alloc::Global;
+
+/// The greatest version of a workload text.
+const VERSIONS: u16 = 3;
+
+/// The workload of which these bytes are the text.
+///
+/// `Bad` exactly where they are the text of none, with the first line that no text has in its place, and
+/// the first cause that applies to it.
+pub fn read(alloc: Global, bytes: &[u8]) -> Result<Workload, Unread> {
+    read_versions(alloc, VERSIONS, bytes)
+}
+
+/// The workload of which these bytes are the text of version 1.
+///
+/// `Bad` exactly where they are none, likewise.
+pub fn read_one(alloc: Global, bytes: &[u8]) -> Result<Workload, Unread> {
+    read_versions(alloc, 1, bytes)
+}
+
+/// The workload of a text of one of so many versions.
+fn read_versions(alloc: Global, versions: u16, bytes: &[u8]) -> Result<Workload, Unread> {
+    let mut lines = Lines::new(bytes);
+    let mut stage = Stage::Version;
+    while let Some(line) = lines.next() {
+        stage = read_line(alloc, versions, stage, bytes, line)?;
+    }
+    match stage {
+        Stage::Closed(workload) => Ok(workload),
+        _ => Err(Cause::Missing.at(lines.number())),
+    }
+}
+
+/// The stage behind this line.
+fn read_line(
+    alloc: Global,
+    versions: u16,
+    stage: Stage,
+    bytes: &[u8],
+    line: Line,
+) -> Result<Stage, Unread> {
+    if !is_printed(&bytes[line.start..line.end]) {
+        return Err(Cause::NotAscii.at(line.number));
+    }
+    if !line.ended {
+        return Err(Cause::Missing.at(line.number));
+    }
+    read_words(alloc, versions, stage, Words::new(bytes, line)).map_err(|refusal| refusal.at(
+        line.number,
+    ))
+}
+
+/// Whether each byte is a printed ASCII character.
+fn is_printed(bytes: &[u8]) -> bool {
+    bytes.iter().all(|byte| 32 <= *byte && *byte <= 126)
+}
+
+/// The stage behind a line of these words.
+fn read_words(alloc: Global, versions: u16, stage: Stage, words: Words) -> Result<Stage, Refusal> {
+    match stage {
+        Stage::Space(header, spaces) => Ok(read_space(alloc, header, spaces, words)?),
+        Stage::Sem(header, spaces, draft) => read_sem(header, spaces, draft, words),
+        Stage::Absent(header, spaces, draft) => {
+            read_absent_or_program(alloc, header, spaces, draft, words)
+        }
+        Stage::Program(header, spaces, draft) => {
+            Ok(read_program(alloc, header, spaces, draft, words)?)
+        }
+        Stage::Instr(header, spaces, draft, len, instrs) => {
+            read_instr(alloc, header, spaces, draft, len, instrs, words)
+        }
+        Stage::Evict(header, spaces, evictions) => {
+            read_evict_or_turn(alloc, header, spaces, evictions, words)
+        }
+        Stage::Turn(header, spaces, evictions, turns) => {
+            read_turn_or_close(header, spaces, evictions, turns, words)
+        }
+        Stage::Closed(_) => Err(Refusal::Because(Cause::BadWord)),
+        machine => Ok(read_machine(alloc, versions, machine, words)?),
+    }
+}
+
+/// The stage behind a line before those of the spaces.
+fn read_machine(alloc: Global, versions: u16, stage: Stage, words: Words) -> Result<Stage, Cause> {
+    match stage {
+        Stage::Version => read_version(versions, words),
+        Stage::Processors { version } => read_processors(version, words),
+        Stage::Fetch {
+            version,
+            processors,
+        } => read_fetch(version, processors, words),
+        Stage::Slice {
+            version,
+            processors,
+            fetch,
+        } => read_slice(version, processors, fetch, words),
+        Stage::Spaces {
+            version,
+            processors,
+            fetch,
+            slice,
+        } => read_spaces(alloc, version, processors, fetch, slice, words),
+        _ => Err(Cause::BadWord),
+    }
+}

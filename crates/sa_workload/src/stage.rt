@@ -1,0 +1,108 @@
+// What the lines so far say, and which line comes next.
+
+use sa_base::ProcNo;
+use sa_instr::{Evict, Instr, Program, SpaceDef, Workload};
+use std::alloc::Global;
+
+/// What the lines before the spaces say.
+#[derive(Clone, Copy)]
+pub(crate) struct Header {
+    /// The version, 1 to 3.
+    pub version: u16,
+    /// The number of processors, 1 to 16.
+    pub processors: u16,
+    /// How many events a fetch takes, 1 to 1,000.
+    pub fetch: u32,
+    /// The slice, 0 to 1,000,000.
+    pub slice: u32,
+    /// How many spaces there are, 1 to 16.
+    pub count: u16,
+}
+
+/// What the lines of a space say so far.
+#[derive(Drop)]
+pub(crate) struct SpaceDraft {
+    pub priority: u8,
+    pub mutexes: u16,
+    /// How many semaphores there are.
+    pub sem_count: u16,
+    pub cells: u16,
+    /// How many programs there are.
+    pub program_count: u16,
+    pub patience: u16,
+    pub sems: Vec<u32>,
+    pub absent: Vec<u16>,
+    pub programs: Vec<Program>,
+}
+
+/// The line that comes next, with what the lines before it say.
+#[derive(Drop)]
+pub(crate) enum Stage {
+    Version,
+    Processors {
+        version: u16,
+    },
+    Fetch {
+        version: u16,
+        processors: u16,
+    },
+    Slice {
+        version: u16,
+        processors: u16,
+        fetch: u32,
+    },
+    Spaces {
+        version: u16,
+        processors: u16,
+        fetch: u32,
+        slice: u32,
+    },
+    Space(Header, Vec<SpaceDef>),
+    Sem(Header, Vec<SpaceDef>, SpaceDraft),
+    /// An absent page, or the first program.
+    Absent(Header, Vec<SpaceDef>, SpaceDraft),
+    Program(Header, Vec<SpaceDef>, SpaceDraft),
+    /// An instruction of a program of this length.
+    Instr(Header, Vec<SpaceDef>, SpaceDraft, u16, Vec<Instr>),
+    /// An eviction, the first turn or the end.
+    Evict(Header, Vec<SpaceDef>, Vec<Evict>),
+    /// A further turn or the end.
+    Turn(Header, Vec<SpaceDef>, Vec<Evict>, Vec<ProcNo>),
+    Closed(Workload),
+}
+
+/// Behind a fetch line: version 1 has no slice.
+pub(crate) fn after_fetch(version: u16, processors: u16, fetch: u32) -> Stage {
+    if version == 1 {
+        Stage::Spaces {
+            version,
+            processors,
+            fetch,
+            slice: 0,
+        }
+    } else {
+        Stage::Slice {
+            version,
+            processors,
+            fetch,
+        }
+    }
+}
+
+/// Behind the first line of a space, or a semaphore.
+pub(crate) fn after_sem(header: Header, spaces: Vec<SpaceDef>, draft: SpaceDraft) -> Stage {
+    if draft.sems.len() == usize::from(draft.sem_count) {
+        Stage::Absent(header, spaces, draft)
+    } else {
+        Stage::Sem(header, spaces, draft)
+    }
+}
+
+/// Behind a whole space.
+pub(crate) fn after_spaces(alloc: Global, header: Header, spaces: Vec<SpaceDef>) -> Stage {
+    if spaces.len() == usize::from(header.count) {
+        Stage::Evict(header, spaces, Vec::new(alloc))
+    } else {
+        Stage::Space(header, spaces)
+    }
+}
