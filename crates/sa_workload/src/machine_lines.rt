@@ -1,4 +1,9 @@
 // The lines before those of the spaces.
+ghost use Rattle.std.specs.Prelude.{◌≡◌, ◌≢◌, ◌≤◌, MatchResult};
+ghost use Rattle.sa_workload.specs.Position.{AtVersion, AtProcessors, AtFetch, AtSlice, AtSpaces, IsReached};
+ghost use Rattle.sa_workload.specs.Refused.{cause_number, IsRefused};
+ghost use Rattle.sa_workload.specs.Stage.{position_of, IsNext};
+ghost use Rattle.sa_workload.specs.Steps.{Steps};
 
 use crate::cause::Cause;
 use crate::stage::{Header, Stage, after_fetch};
@@ -6,7 +11,11 @@ use crate::words::{Words, keyword_and_number};
 use std::alloc::Global;
 
 /// `workload V`, where texts of so many versions are read.
-pub(crate) fn read_version(versions: u16, words: Words) -> Result<Stage, Cause> {
+pub(crate) fn read_version(versions: u16, words: Words) -> Result<Stage, Cause>
+    ensures { MatchResult result
+        (λ stage. Steps AtVersion words.entry (position_of stage) × IsReached versions (position_of stage))
+        (λ cause. IsRefused versions (AtVersion) words.entry (cause_number cause)) }
+{
     let version = keyword_and_number(words, b"workload", 1, u64::from(versions))?;
     Ok(Stage::Processors {
         version: version as u16,
@@ -14,7 +23,11 @@ pub(crate) fn read_version(versions: u16, words: Words) -> Result<Stage, Cause> 
 }
 
 /// `processors P`.
-pub(crate) fn read_processors(version: u16, words: Words) -> Result<Stage, Cause> {
+pub(crate) fn read_processors(version: u16, words: Words) -> Result<Stage, Cause>
+    ensures { MatchResult result
+        (λ stage. IsNext (AtProcessors version) words.entry (position_of stage))
+        (λ cause. IsRefused 0 (AtProcessors version) words.entry (cause_number cause)) }
+{
     let processors = keyword_and_number(words, b"processors", 1, 16)?;
     Ok(Stage::Fetch {
         version,
@@ -23,7 +36,11 @@ pub(crate) fn read_processors(version: u16, words: Words) -> Result<Stage, Cause
 }
 
 /// `fetch F`.
-pub(crate) fn read_fetch(version: u16, processors: u16, words: Words) -> Result<Stage, Cause> {
+pub(crate) fn read_fetch(version: u16, processors: u16, words: Words) -> Result<Stage, Cause>
+    ensures { MatchResult result
+        (λ stage. IsNext (AtFetch version processors) words.entry (position_of stage))
+        (λ cause. IsRefused 0 (AtFetch version processors) words.entry (cause_number cause)) }
+{
     let fetch = keyword_and_number(words, b"fetch", 1, 1_000)?;
     Ok(after_fetch(version, processors, fetch as u32))
 }
@@ -34,7 +51,11 @@ pub(crate) fn read_slice(
     processors: u16,
     fetch: u32,
     words: Words,
-) -> Result<Stage, Cause> {
+) -> Result<Stage, Cause>
+    ensures { MatchResult result
+        (λ stage. IsNext (AtSlice version processors fetch) words.entry (position_of stage))
+        (λ cause. IsRefused 0 (AtSlice version processors fetch) words.entry (cause_number cause)) }
+{
     let low = if version == 3 { 0 } else { 1 };
     let slice = keyword_and_number(words, b"slice", low, 1_000_000)?;
     Ok(Stage::Spaces {
@@ -53,7 +74,11 @@ pub(crate) fn read_spaces(
     fetch: u32,
     slice: u32,
     words: Words,
-) -> Result<Stage, Cause> {
+) -> Result<Stage, Cause>
+    ensures { MatchResult result
+        (λ stage. IsNext (AtSpaces version processors fetch slice) words.entry (position_of stage))
+        (λ cause. IsRefused 0 (AtSpaces version processors fetch slice) words.entry (cause_number cause)) }
+{
     let count = keyword_and_number(words, b"spaces", 1, 16)?;
     let header = Header {
         version,

@@ -1,4 +1,10 @@
 // The lines of a space but for its instructions.
+ghost use Rattle.std.specs.Prelude.{◌≡◌, ◌≢◌, ◌⊎◌, ℕ, ◌<◌, ◌≤◌, ◌==◌, ◌∷◌, ◌++◌, [], if◌then◌else◌, length, MatchResult, codes, decimal};
+ghost use Rattle.sa_workload.specs.Bad.{within, IsFirstWrong};
+ghost use Rattle.sa_workload.specs.Position.{AtSpace, AtSem, AtAbsent, AtProgram, AtInstr, IsDraft, draft_line};
+ghost use Rattle.sa_workload.specs.Refused.{cause_number, IfBecause, is_last_impatient, patience_fields, space_fields, IsPagePlaced, IsPageMisplaced, IsAbsentRefused, IsRefusedBehind, IsRefused};
+ghost use Rattle.sa_workload.specs.Stage.{machine_of, draft_of, position_of, IsNext, IsPatience};
+ghost use Rattle.sa_workload.specs.Steps.{IsFresh};
 
 use crate::cause::{Cause, Refusal};
 use crate::stage::{Header, SpaceDraft, Stage, after_sem};
@@ -12,7 +18,11 @@ pub(crate) fn read_space(
     header: Header,
     spaces: Vec<SpaceDef>,
     mut words: Words,
-) -> Result<Stage, Cause> {
+) -> Result<Stage, Cause>
+    ensures { let position = AtSpace (machine_of header) spaces.items in MatchResult result
+        (λ stage. IsNext position words.entry (position_of stage))
+        (λ cause. IsRefused 0 position words.entry (cause_number cause)) }
+{
     words.keyword(b"space")?;
     let draft = read_draft(alloc, &header, &spaces, &mut words)?;
     words.end()?;
@@ -25,7 +35,13 @@ fn read_draft(
     header: &Header,
     spaces: &[SpaceDef],
     words: &mut Words,
-) -> Result<SpaceDraft, Cause> {
+) -> Result<SpaceDraft, Cause>
+    ensures { MatchResult result
+        (λ draft. (codes "space" ∷ words.old ≡ draft_line header.now.version (draft_of draft) ++ words.new)
+        × IsFresh (draft_of draft)
+        × (length spaces.now < header.now.count → IsDraft (machine_of header.now) spaces.now (draft_of draft)))
+        (λ cause. IsFirstWrong (space_fields (machine_of header.now) spaces.now) words.old (cause_number cause)) }
+{
     let priority = words.within(0, 7)?;
     let mutexes = words.within(0, 64)?;
     let sem_count = words.within(0, 64)?;
@@ -46,7 +62,11 @@ fn read_draft(
 }
 
 /// The patience of a space: 1 where the version has none.
-fn read_patience(header: &Header, spaces: &[SpaceDef], words: &mut Words) -> Result<u16, Cause> {
+fn read_patience(header: &Header, spaces: &[SpaceDef], words: &mut Words) -> Result<u16, Cause>
+    ensures { let machine = machine_of header.now in MatchResult result
+        (λ n. (words.old ≡ (if header.now.version == 3 then decimal n ∷ [] else []) ++ words.new) × IsPatience machine spaces.now n)
+        (λ cause. IsFirstWrong (patience_fields machine spaces.now) words.old (cause_number cause)) }
+{
     if header.version != 3 {
         return Ok(1);
     }
@@ -56,7 +76,9 @@ fn read_patience(header: &Header, spaces: &[SpaceDef], words: &mut Words) -> Res
 }
 
 /// Whether the next space is the last, and each before it has patience 1.
-fn needs_patience(header: &Header, spaces: &[SpaceDef]) -> bool {
+fn needs_patience(header: &Header, spaces: &[SpaceDef]) -> bool
+    ensures { result ≡ is_last_impatient (machine_of header.now) spaces.now }
+{
     spaces.len() + 1 >= usize::from(header.count)
         && spaces.iter().all(|space| space.patience() == 1)
 }
@@ -67,7 +89,11 @@ pub(crate) fn read_sem(
     spaces: Vec<SpaceDef>,
     mut draft: SpaceDraft,
     words: Words,
-) -> Result<Stage, Refusal> {
+) -> Result<Stage, Refusal>
+    ensures { let position = AtSem (machine_of header) spaces.items (draft_of draft) in MatchResult result
+        (λ stage. IsNext position words.entry (position_of stage))
+        (λ refusal. IfBecause refusal (IsRefused 0 position words.entry)) }
+{
     let start = keyword_and_number(words, b"sem", 0, 1_000_000)?;
     draft.sems.push(start as u32)?;
     Ok(after_sem(header, spaces, draft))
@@ -80,7 +106,11 @@ pub(crate) fn read_absent_or_program(
     spaces: Vec<SpaceDef>,
     draft: SpaceDraft,
     mut words: Words,
-) -> Result<Stage, Refusal> {
+) -> Result<Stage, Refusal>
+    ensures { let position = AtAbsent (machine_of header) spaces.items (draft_of draft) in MatchResult result
+        (λ stage. IsNext position words.entry (position_of stage))
+        (λ refusal. IfBecause refusal (IsRefused 0 position words.entry)) }
+{
     match words.next() {
         Some(b"absent") => read_absent(header, spaces, draft, words),
         Some(b"program") => Ok(read_length(alloc, header, spaces, draft, words)?),
@@ -94,7 +124,12 @@ fn read_absent(
     spaces: Vec<SpaceDef>,
     mut draft: SpaceDraft,
     mut words: Words,
-) -> Result<Stage, Refusal> {
+) -> Result<Stage, Refusal>
+    ensures { MatchResult result
+        (λ stage. IsNext (AtAbsent (machine_of header) spaces.items (draft_of draft)) (codes "absent" ∷ words.entry) (position_of stage))
+        (λ refusal. IfBecause refusal (λ why.
+            IsFirstWrong (within 0 15 ∷ []) words.entry why ⊎ IsAbsentRefused draft.absent.items words.entry why)) }
+{
     let page = words.within(0, 15)? as u16;
     in_order(draft.absent.last().copied(), page)?;
     words.end()?;
@@ -103,7 +138,9 @@ fn read_absent(
 }
 
 /// The page is greater than the last, where there is one.
-fn in_order(last: Option<u16>, page: u16) -> Result<(), Cause> {
+fn in_order(last: Option<u16>, page: u16) -> Result<(), Cause>
+    ensures { MatchResult result (λ _. IsPagePlaced last page) (λ cause. IsPageMisplaced last page (cause_number cause)) }
+{
     match last {
         Some(last) if page == last => Err(Cause::Twice),
         Some(last) if page < last => Err(Cause::OutOfRange),
@@ -118,7 +155,11 @@ pub(crate) fn read_program(
     spaces: Vec<SpaceDef>,
     draft: SpaceDraft,
     mut words: Words,
-) -> Result<Stage, Cause> {
+) -> Result<Stage, Cause>
+    ensures { let position = AtProgram (machine_of header) spaces.items (draft_of draft) in MatchResult result
+        (λ stage. IsNext position words.entry (position_of stage))
+        (λ cause. IsRefused 0 position words.entry (cause_number cause)) }
+{
     words.keyword(b"program")?;
     read_length(alloc, header, spaces, draft, words)
 }
@@ -130,7 +171,12 @@ fn read_length(
     spaces: Vec<SpaceDef>,
     draft: SpaceDraft,
     words: Words,
-) -> Result<Stage, Cause> {
+) -> Result<Stage, Cause>
+    ensures { MatchResult result
+        (λ stage. (len : ℕ) × (words.entry ≡ decimal len ∷ []) × (1 ≤ len) × (len ≤ 4096)
+        × (position_of stage ≡ AtInstr (machine_of header) spaces.items (draft_of draft) len []))
+        (λ cause. IsRefusedBehind (within 1 4096 ∷ []) words.entry (cause_number cause)) }
+{
     let len = last_number(words, 1, 4_096)?;
     let instrs = Vec::new(alloc);
     Ok(Stage::Instr(header, spaces, draft, len as u16, instrs))

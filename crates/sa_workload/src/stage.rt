@@ -1,4 +1,7 @@
 // What the lines so far say, and which line comes next.
+ghost use Rattle.std.specs.Prelude.{◌≡◌};
+ghost use Rattle.sa_workload.specs.Stage.{machine_of, draft_of, position_of};
+ghost use Rattle.sa_workload.specs.Steps.{after_fetch as behind_fetch, after_sem as behind_sem, after_spaces as behind_spaces};
 
 use sa_base::ProcNo;
 use sa_instr::{Evict, Instr, Program, SpaceDef, Workload};
@@ -72,7 +75,9 @@ pub(crate) enum Stage {
 }
 
 /// Behind a fetch line: version 1 has no slice.
-pub(crate) fn after_fetch(version: u16, processors: u16, fetch: u32) -> Stage {
+pub(crate) fn after_fetch(version: u16, processors: u16, fetch: u32) -> Stage
+    ensures { position_of result ≡ behind_fetch version processors fetch }
+{
     if version == 1 {
         Stage::Spaces {
             version,
@@ -90,7 +95,9 @@ pub(crate) fn after_fetch(version: u16, processors: u16, fetch: u32) -> Stage {
 }
 
 /// Behind the first line of a space, or a semaphore.
-pub(crate) fn after_sem(header: Header, spaces: Vec<SpaceDef>, draft: SpaceDraft) -> Stage {
+pub(crate) fn after_sem(header: Header, spaces: Vec<SpaceDef>, draft: SpaceDraft) -> Stage
+    ensures { position_of result ≡ behind_sem (machine_of header) spaces.items (draft_of draft) }
+{
     if draft.sems.len() == usize::from(draft.sem_count) {
         Stage::Absent(header, spaces, draft)
     } else {
@@ -99,7 +106,9 @@ pub(crate) fn after_sem(header: Header, spaces: Vec<SpaceDef>, draft: SpaceDraft
 }
 
 /// Behind a whole space.
-pub(crate) fn after_spaces(alloc: Global, header: Header, spaces: Vec<SpaceDef>) -> Stage {
+pub(crate) fn after_spaces(alloc: Global, header: Header, spaces: Vec<SpaceDef>) -> Stage
+    ensures { position_of result ≡ behind_spaces (machine_of header) spaces.items }
+{
     if spaces.len() == usize::from(header.count) {
         Stage::Evict(header, spaces, Vec::new(alloc))
     } else {
