@@ -1,7 +1,8 @@
-// What holds of a reader's positions: the contract is a law, and the body does nothing.
-ghost use Rattle.sa_workload.specs.Position.{AtProcessors, IsReached, Position, shown};
+// What holds of a reader's positions: each contract is a law, and the bodies do nothing.
+ghost use Rattle.sa_workload.specs.Bad.{AnyVersion, Begins, Version1};
+ghost use Rattle.sa_workload.specs.Position.{IsReached, Position, shown};
 ghost use Rattle.sa_workload.specs.Steps.{Steps};
-ghost use Rattle.std.specs.Prelude.{◌≡◌, ◌≤◌, ℕ, List, [], ◌∷◌, ◌++◌};
+ghost use Rattle.std.specs.Prelude.{◌≡◌, ℕ, List, [], ◌∷◌, ◌++◌};
 
 /// Each step adds its line to the lines that a position shows.
 pub fn steps_show_their_lines()
@@ -10,8 +11,9 @@ pub fn steps_show_their_lines()
 {
 }
 
-/// Trial.
-pub fn accepted_lines_reach()
-    ensures { (versions v : ℕ) → 1 ≤ v → v ≤ versions → IsReached versions (AtProcessors v) }
+/// The lines of each reached position begin a text: of any version, and of version 1 where only that is read.
+pub fn positions_complete()
+    ensures all { (p : Position) → IsReached 3 p → Begins AnyVersion (shown p) }
+    ensures first { (p : Position) → IsReached 1 p → Begins Version1 (shown p) }
 {
 }
