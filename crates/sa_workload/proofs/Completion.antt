@@ -46,12 +46,12 @@ after_instr-more : (m : Machine) (spaces : List SpaceView) (d : Draft) (len : �
 after_instr-more m spaces d len instrs ne = cond-false _ _ _ (ne_eqb _ _ ne)
 
 -- a new space with one program, and with this patience
-new_draft : ℕ → Draft
+pub new_draft : ℕ → Draft
 new_draft k = record {
   priority = 0; mutexes = 0; sem_count = 0; cells = 0; program_count = 1; patience = k; sems = []; absent = []; programs = []
 }
 
-own_patience : (m : Machine) (spaces : List SpaceView) → m.version ≡ 3 → IsSpaceLine m spaces (new_draft 2)
+pub own_patience : (m : Machine) (spaces : List SpaceView) → m.version ≡ 3 → IsSpaceLine m spaces (new_draft 2)
 unfolding new_draft
 own_patience m spaces v = record {
   fresh = (refl, refl, refl);
@@ -65,7 +65,7 @@ own_patience m spaces v = record {
   own = λ _ _ _. omega arith;
 }
 
-usual_patience : (m : Machine) (spaces : List SpaceView) → m.version ≢ 3 → IsSpaceLine m spaces (new_draft 1)
+pub usual_patience : (m : Machine) (spaces : List SpaceView) → m.version ≢ 3 → IsSpaceLine m spaces (new_draft 1)
 unfolding new_draft
 usual_patience m spaces ne = record {
   fresh = (refl, refl, refl);

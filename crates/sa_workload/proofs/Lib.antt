@@ -1,3 +1,4 @@
 pub mod Keeping
 pub mod Reached
 pub mod Completion
+pub mod Following
