@@ -1,6 +1,6 @@
 -- The lines of each reached position begin a text: it goes on with what is missing, as short as can be.
-use Rattle.std.proofs.Common.{◌≡◌, ◌≢◌, ℕ, zero, suc, ◌+◌, ◌-◌, ◌<◌, ◌≤◌, ◌==◌, ◌⊎◌, if◌then◌else◌, List, [], ◌∷◌, ◌++◌, length, All, Contains, codes, inl, inr, refl, sym, ap, subst, ◌∙◌, arith, append_assoc, append-nil, eqb-true, eq-eqb, ne_eqb}
-use Rattle.std.proofs.lemmas.Bool.{cond_both, cond-true, cond-false, cases_lt, cases_eq}
+use Rattle.std.proofs.Common.{◌≡◌, ◌≢◌, ℕ, zero, suc, ◌+◌, ◌-◌, ◌<◌, ◌≤◌, ◌==◌, if◌then◌else◌, List, [], ◌∷◌, ◌++◌, length, inl, inr, refl, sym, ap, subst, ◌∙◌, arith, append_assoc, append-nil, eq-eqb, ne_eqb}
+use Rattle.std.proofs.lemmas.Bool.{cond_both, cond-true, cond-false, cases_eq}
 use Rattle.std.specs.List.{list_all}
 use Rattle.std.proofs.lemmas.List.{length_push}
 use Rattle.sa_base.specs.declared.number.ProcNo.{ProcNo}
@@ -10,7 +10,7 @@ use Rattle.sa_instr.specs.declared.workload.Evict.{Evict}
 use Rattle.sa_instr.specs.Space.{SpaceView}
 use Rattle.sa_instr.specs.Workload.{WorkloadView, IsWorkload}
 use Rattle.sa_workload.specs.Text.{version_of, workload_lines}
-use Rattle.sa_workload.specs.Bad.{Grammar, AnyVersion, Version1, Begins, MayFollow, IsRightWord}
+use Rattle.sa_workload.specs.Bad.{Grammar, AnyVersion, Version1, Begins}
 use Rattle.sa_workload.specs.Position.{Machine, Draft, Position, AtVersion, AtProcessors, AtFetch, AtSlice, AtSpaces, AtSpace, AtSem, AtAbsent, AtProgram, AtInstr, AtEvict, AtTurn, Closed, shown, IsReached}
 use Rattle.sa_workload.specs.Steps.{workload, space_of_draft, with_sem, with_program, after_fetch, after_sem, after_spaces, after_program, after_instr, Steps, step_version, step_processors, step_fetch, step_slice, step_spaces, step_space, step_sem, step_first_program, step_program, step_instr, step_first_close, step_close}
 use Rattle.sa_workload.proofs.Keeping.{shown-step}
@@ -48,7 +48,15 @@ after_instr-more m spaces d len instrs ne = cond-false _ _ _ (ne_eqb _ _ ne)
 -- a new space with one program, and with this patience
 pub new_draft : ℕ → Draft
 new_draft k = record {
-  priority = 0; mutexes = 0; sem_count = 0; cells = 0; program_count = 1; patience = k; sems = []; absent = []; programs = []
+  priority = 0;
+  mutexes = 0;
+  sem_count = 0;
+  cells = 0;
+  program_count = 1;
+  patience = k;
+  sems = [];
+  absent = [];
+  programs = [];
 }
 
 pub own_patience : (m : Machine) (spaces : List SpaceView) → m.version ≡ 3 → IsSpaceLine m spaces (new_draft 2)
@@ -97,7 +105,6 @@ abbrev pub AcceptsUpTo : ℕ → Grammar → Type 0
 AcceptsUpTo versions g = (w : WorkloadView) → IsWorkload w → version_of w ≤ versions → g w
 
 module _ (versions : ℕ) (g : Grammar) (accepts : AcceptsUpTo versions g) (one : 1 ≤ versions) (three : versions ≤ 3) where
-
   by_step : (p q : Position) (line : List (List ℕ)) → Steps p line q → IsReached versions q → Completes versions g q → Completes versions g p
   by_step p q line s reached rest = λ r. begins-front g (shown p) line (subst (Begins g) (shown-step p q line versions s r) (rest reached))
 
@@ -137,9 +144,9 @@ module _ (versions : ℕ) (g : Grammar) (accepts : AcceptsUpTo versions g) (one 
       subst (Completes versions g) (sym (after_program-full m spaces d (omega arith))) (rest (space_of_draft d))
   programs_missing (suc n) m spaces d e rest =
       subst (Completes versions g) (sym (after_program-more m spaces d (omega arith))) (λ r.
-          by_step _ _ _ (step_program m spaces d 1) (reached-program versions m spaces d 1 r (omega arith) (omega arith))
-          (at_instr 0 m spaces d 1 [] refl
-          (λ p. programs_missing n m spaces (with_program d p) (omega (arith, length_push d.programs p)) rest)) r)
+      by_step _ _ _ (step_program m spaces d 1) (reached-program versions m spaces d 1 r (omega arith) (omega arith))
+      (at_instr 0 m spaces d 1 [] refl
+      (λ p. programs_missing n m spaces (with_program d p) (omega (arith, length_push d.programs p)) rest)) r)
 
   at_absent : (m : Machine) (spaces : List SpaceView) (d : Draft)
       → ((s : SpaceView) → Completes versions g (after_spaces m (spaces ++ s ∷ []))) → Completes versions g (AtAbsent m spaces d)
@@ -147,7 +154,7 @@ module _ (versions : ℕ) (g : Grammar) (accepts : AcceptsUpTo versions g) (one 
       by_step _ _ _ (step_first_program m spaces d 1) (reached-first_program versions m spaces d 1 r (omega arith) (omega arith))
       (at_instr 0 m spaces d 1 [] refl
       (λ p. programs_missing (d.program_count - 1) m spaces (with_program d p)
-          (omega (arith, length_push d.programs p, ap length r.4, r.2.program_count.0)) rest)) r
+      (omega (arith, length_push d.programs p, ap length r.4, r.2.program_count.0)) rest)) r
 
   -- n semaphores are missing
   sems_missing : (n : ℕ) (m : Machine) (spaces : List SpaceView) (d : Draft) → length d.sems + n ≡ d.sem_count
@@ -156,8 +163,8 @@ module _ (versions : ℕ) (g : Grammar) (accepts : AcceptsUpTo versions g) (one 
       subst (Completes versions g) (sym (after_sem-full m spaces d (omega arith))) (at_absent m spaces d rest)
   sems_missing (suc n) m spaces d e rest =
       subst (Completes versions g) (sym (after_sem-more m spaces d (omega arith))) (λ r.
-          by_step _ _ _ (step_sem m spaces d 0) (reached-sem versions m spaces d 0 r (omega arith))
-          (sems_missing n m spaces (with_sem d 0) (omega (arith, length_push d.sems 0)) rest) r)
+      by_step _ _ _ (step_sem m spaces d 0) (reached-sem versions m spaces d 0 r (omega arith))
+      (sems_missing n m spaces (with_sem d 0) (omega (arith, length_push d.sems 0)) rest) r)
 
   new_space : (m : Machine) (spaces : List SpaceView) (k : ℕ) → IsSpaceLine m spaces (new_draft k)
       → ((s : SpaceView) → Completes versions g (after_spaces m (spaces ++ s ∷ []))) → Completes versions g (AtSpace m spaces)
@@ -170,8 +177,8 @@ module _ (versions : ℕ) (g : Grammar) (accepts : AcceptsUpTo versions g) (one 
       → Completes versions g (AtSpace m spaces)
   at_space m spaces rest =
       elim (cases_eq m.version 3) [
-        inl v ↦ new_space m spaces 2 (own_patience m spaces v) rest
-      | inr ne ↦ new_space m spaces 1 (usual_patience m spaces ne) rest
+        | inl v ↦ new_space m spaces 2 (own_patience m spaces v) rest
+        | inr ne ↦ new_space m spaces 1 (usual_patience m spaces ne) rest
       ]
 
   -- n spaces are missing
@@ -227,7 +234,7 @@ module _ (versions : ℕ) (g : Grammar) (accepts : AcceptsUpTo versions g) (one 
       let room : length instrs < len = r.5.room in
       at_instr (len - length instrs - 1) m spaces d len instrs (omega arith)
       (λ p. programs_missing (d.program_count - length d.programs - 1) m spaces (with_program d p) (omega (arith, length_push d.programs p))
-          (spaces_after m spaces r.2.room)) r
+      (spaces_after m spaces r.2.room)) r
   completes (AtEvict m spaces evictions) r = at_evict m spaces evictions r
   completes (AtTurn m spaces evictions turns) r = at_turn m spaces evictions turns r
   completes (Closed w) r = closed w r

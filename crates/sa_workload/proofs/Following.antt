@@ -1,18 +1,17 @@
 -- Each word that a reached position expects may begin the next line.
-use Rattle.std.proofs.Common.{◌≡◌, ◌≢◌, ℕ, zero, suc, ◌+◌, ◌-◌, ◌<◌, ◌≤◌, ◌⊎◌, List, [], ◌∷◌, ◌++◌, length, map, Contains, codes, get_or, inl, inr, refl, sym, ap, subst, ◌∙◌, arith, append_assoc, append-nil, decimal}
-use Rattle.std.specs.List.{flat_map}
+use Rattle.std.proofs.Common.{◌≡◌, ℕ, zero, suc, ◌+◌, ◌-◌, ◌<◌, ◌≤◌, ◌⊎◌, List, [], ◌∷◌, ◌++◌, length, map, Contains, codes, get_or, inl, inr, refl, sym, ap, subst, ◌∙◌, arith, append_assoc, append-nil}
 use Rattle.std.proofs.lemmas.Bool.{cases_lt, cases_eq}
 use Rattle.std.proofs.lemmas.List.{length_push, get_or_push, map_push}
 use Rattle.sa_base.specs.declared.number.ProcNo.{ProcNo}
 use Rattle.sa_instr.specs.declared.instr.Instr.{Instr}
-use Rattle.sa_instr.specs.declared.instr.Instr.TheVariants.{Compute, End}
+use Rattle.sa_instr.specs.declared.instr.Instr.TheVariants.{End}
 use Rattle.sa_instr.specs.declared.workload.Evict.{Evict}
 use Rattle.sa_instr.specs.Space.{SpaceView}
 use Rattle.sa_instr.specs.Workload.{IsEviction}
-use Rattle.sa_workload.specs.Text.{sem_line, absent_line, evict_line, turn_line, program_lines}
-use Rattle.sa_workload.specs.Bad.{Grammar, AnyVersion, Version1, Begins, MayFollow, IsRightWord, instr_words, repeated_words, first_word, last_line}
-use Rattle.sa_workload.specs.Position.{Machine, Draft, Position, AtVersion, AtProcessors, AtFetch, AtSlice, AtSpaces, AtSpace, AtSem, AtAbsent, AtProgram, AtInstr, AtEvict, AtTurn, Closed, draft_line, shown_draft, shown_spaces, shown, IsMachine, IsReached}
-use Rattle.sa_workload.specs.Steps.{Steps, step_version, step_processors, step_fetch, step_slice, step_spaces, step_space, step_sem, step_absent, step_first_program, step_program, step_instr, step_evict, step_first_turn, step_turn, step_first_close, step_close, expected}
+use Rattle.sa_workload.specs.Text.{sem_line, absent_line, evict_line, turn_line}
+use Rattle.sa_workload.specs.Bad.{Grammar, AnyVersion, Version1, Begins, MayFollow, IsRightWord, instr_words, first_word, last_line}
+use Rattle.sa_workload.specs.Position.{Machine, Draft, Position, AtVersion, AtProcessors, AtFetch, AtSlice, AtSpaces, AtSpace, AtSem, AtAbsent, AtProgram, AtInstr, AtEvict, AtTurn, Closed, draft_line, shown_spaces, shown, IsReached}
+use Rattle.sa_workload.specs.Steps.{Steps, step_version, step_processors, step_fetch, step_slice, step_spaces, step_space, step_sem, step_absent, step_first_program, step_program, step_instr, step_evict, step_first_turn, step_first_close, step_close, expected}
 use Rattle.sa_workload.proofs.Keeping.{shown-step}
 use Rattle.sa_workload.proofs.Reached.{reached-version, reached-processors, reached-fetch, reached-slice, reached-spaces, reached-space, reached-sem, reached-absent, reached-first_program, reached-program, reached-instr, reached-evict, reached-first_turn, reached-first_close, reached-close}
 use Rattle.sa_workload.proofs.Completion.{AcceptsUpTo, any_version, version_1, new_draft, own_patience, usual_patience, completes}
@@ -55,7 +54,7 @@ last-repeated : {X : Type 0} (lines : List (List (List ℕ))) (f : X → List (L
 last-repeated {X} lines f xs word some first =
     let r = last_of xs some in
     let e : lines ++ map f xs ≡ (lines ++ map f r.0) ++ f r.1 ∷ [] =
-        ap (λ (l : List X). lines ++ map f l) r.2 ∙ simp (map_push, append_assoc) in
+    ap (λ (l : List X). lines ++ map f l) r.2 ∙ simp (map_push, append_assoc) in
     ap (λ (ls : List (List (List ℕ))). first_word (last_line ls)) e
     ∙ (ap first_word (last_line-push (lines ++ map f r.0) (f r.1)) ∙ first r.1)
 
@@ -63,7 +62,7 @@ absent_again : (m : Machine) (spaces : List SpaceView) (d : Draft) → d.program
     → first_word (last_line (shown (AtAbsent m spaces d))) ≡ codes "absent"
 absent_again m spaces d p some =
     let e : shown (AtAbsent m spaces d) ≡ (shown_spaces m spaces ++ (draft_line m.version d ∷ map sem_line d.sems)) ++ map absent_line d.absent =
-        simp (p, append-nil, append_assoc) in
+    simp (p, append-nil, append_assoc) in
     ap (λ (ls : List (List (List ℕ))). first_word (last_line ls)) e
     ∙ last-repeated (shown_spaces m spaces ++ (draft_line m.version d ∷ map sem_line d.sems)) absent_line d.absent (codes "absent") some
     (λ k. refl)
@@ -96,7 +95,6 @@ unfolding processor_0
 processor_0-right n h = omega arith
 
 module _ (versions : ℕ) (g : Grammar) (accepts : AcceptsUpTo versions g) (one : 1 ≤ versions) (three : versions ≤ 3) where
-
   -- the word of a step to a reached position may begin the next line
   pub follows : (p q : Position) (word : List ℕ) (others : List (List ℕ)) → Steps p (word ∷ others) q → IsReached versions p
       → IsReached versions q → MayFollow g (shown p) word
@@ -109,9 +107,9 @@ module _ (versions : ℕ) (g : Grammar) (accepts : AcceptsUpTo versions g) (one 
       → MayFollow g (shown (AtSpace m spaces)) (codes "space")
   space_follows m spaces r =
       elim (cases_eq m.version 3) [
-        inl v ↦ follows _ _ _ _ (step_space m spaces (new_draft 2) (own_patience m spaces v).fresh) r
+        | inl v ↦ follows _ _ _ _ (step_space m spaces (new_draft 2) (own_patience m spaces v).fresh) r
             (reached-space versions m spaces (new_draft 2) r (own_patience m spaces v))
-      | inr ne ↦ follows _ _ _ _ (step_space m spaces (new_draft 1) (usual_patience m spaces ne).fresh) r
+        | inr ne ↦ follows _ _ _ _ (step_space m spaces (new_draft 1) (usual_patience m spaces ne).fresh) r
             (reached-space versions m spaces (new_draft 1) r (usual_patience m spaces ne))
       ]
 
@@ -119,8 +117,8 @@ module _ (versions : ℕ) (g : Grammar) (accepts : AcceptsUpTo versions g) (one 
       → IsRightWord g (shown (AtAbsent m spaces d)) (codes "absent")
   absent_right m spaces d r =
       elim (cases_lt 0 (length d.absent)) [
-        inl some ↦ inr (inr ((0, omega arith, refl), absent_again m spaces d r.4 some))
-      | inr none ↦ inl (follows _ _ _ _ (step_absent m spaces d 0) r
+        | inl some ↦ inr (inr ((0, omega arith, refl), absent_again m spaces d r.4 some))
+        | inr none ↦ inl (follows _ _ _ _ (step_absent m spaces d 0) r
             (reached-absent versions m spaces d 0 r (omega arith) (λ some. absurd (omega arith))))
       ]
 
@@ -131,16 +129,18 @@ module _ (versions : ℕ) (g : Grammar) (accepts : AcceptsUpTo versions g) (one 
 
   instr_follows : (m : Machine) (spaces : List SpaceView) (d : Draft) (len : ℕ) (instrs : List Instr) → IsReached versions (AtInstr m spaces d len instrs)
       → (other : List ℕ) × Contains instr_words other × MayFollow g (shown (AtInstr m spaces d len instrs)) other
-  instr_follows m spaces d len instrs r =
-      (codes "end", (16, omega arith, refl),
-      follows _ _ _ _ (step_instr m spaces d len instrs End) r (reached-instr versions m spaces d len instrs End r tt tt tt (λ _. refl)))
+  instr_follows m spaces d len instrs r = (
+    codes "end",
+    (16, omega arith, refl),
+    follows _ _ _ _ (step_instr m spaces d len instrs End) r (reached-instr versions m spaces d len instrs End r tt tt tt (λ _. refl)),
+  )
 
   evict_right : (m : Machine) (spaces : List SpaceView) (evictions : List Evict) → IsReached versions (AtEvict m spaces evictions)
       → IsRightWord g (shown (AtEvict m spaces evictions)) (codes "evict")
   evict_right m spaces evictions r =
       elim (cases_lt 0 (length evictions)) [
-        inl some ↦ inr (inr ((1, omega arith, refl), evict_again m spaces evictions some))
-      | inr none ↦ inl (follows _ _ _ _ (step_evict m spaces evictions eviction_0) r
+        | inl some ↦ inr (inr ((1, omega arith, refl), evict_again m spaces evictions some))
+        | inr none ↦ inl (follows _ _ _ _ (step_evict m spaces evictions eviction_0) r
             (reached-evict versions m spaces evictions eviction_0 r (eviction_0-right m.count r.0.count.0) (omega arith)
             (λ d some. absurd (omega arith))))
       ]

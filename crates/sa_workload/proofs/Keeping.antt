@@ -1,19 +1,16 @@
 -- What positions keep: a step adds its line to the lines shown, and each line that is accepted leads to a reached position.
-use Rattle.std.proofs.Common.{◌≡◌, ◌≢◌, ℕ, ◌+◌, ◌-◌, ◌<◌, ◌≤◌, ◌==◌, ◌⊎◌, cond, if◌then◌else◌, Bool, true, false, List, [], ◌∷◌, ◌++◌, length, map, All, slice_get, slice_index, Some, codes, decimal, inl, inr, refl, sym, ap, subst, ◌∙◌, arith, append_assoc, append-nil, eqb-true, eq-eqb, ne_eqb}
-use Rattle.std.specs.List.{flat_map, list_all, AllAdjacentBelow}
-use Rattle.std.specs.List.Sorted.{IsStrictlyIncreasing}
-use Rattle.std.proofs.lemmas.Bool.{cond_both, cases_eq, eqb-false, false_from_ne_true}
+use Rattle.std.proofs.Common.{◌≡◌, ℕ, ◌≤◌, ◌==◌, true, false, List, [], ◌∷◌, ◌++◌, length, map, All, inl, inr, refl, sym, ap, ◌∙◌, arith, append_assoc, append-nil, eqb-true, eq-eqb, ne_eqb}
+use Rattle.std.specs.List.{flat_map, list_all}
+use Rattle.std.proofs.lemmas.Bool.{cond_both, false_from_ne_true}
 use Rattle.std.proofs.lemmas.List.Sums.{AllPass-from_list_all, list_all-from_AllPass}
-use Rattle.std.proofs.lemmas.List.{map_push, flat_map_more, length_push, map-append}
-use Rattle.std.proofs.lemmas.List.Elements.{All-nil, All-push, All-weaker}
+use Rattle.std.proofs.lemmas.List.{map_push, flat_map_more}
+use Rattle.std.proofs.lemmas.List.Elements.{All-weaker}
 use Rattle.sa_base.specs.declared.number.ProcNo.{ProcNo}
 use Rattle.sa_instr.specs.declared.instr.Instr.{Instr}
-use Rattle.sa_instr.specs.declared.instr.Instr.TheVariants.{End}
 use Rattle.sa_instr.specs.declared.workload.Evict.{Evict}
-use Rattle.sa_instr.specs.Space.{SpaceView, IsSpace}
-use Rattle.sa_instr.specs.Workload.{WorkloadView, IsWorkload, IsEviction, IsBefore}
+use Rattle.sa_instr.specs.Space.{SpaceView}
 use Rattle.sa_workload.specs.Text.{instr_line, program_lines, sem_line, absent_line, space_lines, evict_line, turn_line, slice_lines, version_of, workload_lines, closing_lines}
-use Rattle.sa_workload.specs.Position.{Machine, Draft, Position, AtVersion, AtProcessors, AtFetch, AtSlice, AtSpaces, AtSpace, AtSem, AtAbsent, AtProgram, AtInstr, AtEvict, AtTurn, Closed, version_line, processors_line, fetch_line, spaces_line, draft_line, shown_machine, shown_draft, shown_spaces, shown, CanSlice, IsMachine, AreSpaces, IsDraft, IsBegun, AreEvictions, AreTurns, IsReached}
+use Rattle.sa_workload.specs.Position.{Machine, Draft, Position, AtSlice, AtSpaces, AtSpace, AtSem, AtAbsent, AtProgram, AtInstr, AtEvict, AtTurn, Closed, version_line, processors_line, fetch_line, spaces_line, draft_line, shown_machine, shown_draft, shown_spaces, shown, CanSlice, IsMachine, AreSpaces, IsReached}
 use Rattle.sa_workload.specs.Steps.{slice_line, program_line, close_line, workload, space_of_draft, IsFresh, with_sem, with_absent, with_program, after_fetch, after_sem, after_spaces, after_program, after_instr, Steps, step_version, step_processors, step_fetch, step_slice, step_spaces, step_space, step_sem, step_absent, step_first_program, step_program, step_instr, step_evict, step_first_turn, step_turn, step_first_close, step_close}
 
 shown-after_fetch : (v n f : ℕ) → shown (after_fetch v n f) ≡ version_line v ∷ processors_line n ∷ fetch_line f ∷ []
@@ -59,8 +56,8 @@ shown-after_program m spaces d s =
     cond_both (length d.programs == d.program_count) (after_spaces m (spaces ++ space_of_draft d ∷ [])) (AtProgram m spaces d)
     (λ (q : Position). shown q ≡ shown_spaces m spaces ++ shown_draft m.version d)
     (λ e. shown-after_spaces m (spaces ++ space_of_draft d ∷ [])
-        ∙ (sym (flat_map_more (space_lines m.version) (shown_machine m) spaces (space_of_draft d))
-        ∙ ap (λ (ls : List (List (List ℕ))). shown_spaces m spaces ++ ls) (space_lines-of_draft m.version d s (eqb-true _ _ e))))
+    ∙ (sym (flat_map_more (space_lines m.version) (shown_machine m) spaces (space_of_draft d))
+    ∙ ap (λ (ls : List (List (List ℕ))). shown_spaces m spaces ++ ls) (space_lines-of_draft m.version d s (eqb-true _ _ e))))
     (λ e. refl)
 
 flat_map-push : {X A : Type 0} (f : X → List A) (xs : List X) (x : X) → flat_map f (xs ++ x ∷ []) ≡ flat_map f xs ++ f x
@@ -76,8 +73,8 @@ shown-after_instr m spaces d len instrs s =
     cond_both (length instrs == len) (after_program m spaces (with_program d instrs)) (AtInstr m spaces d len instrs)
     (λ (q : Position). shown q ≡ shown_spaces m spaces ++ (shown_draft m.version d ++ (program_line len ∷ map instr_line instrs)))
     (λ e. shown-after_program m spaces (with_program d instrs) s
-        ∙ (ap (λ (ls : List (List (List ℕ))). shown_spaces m spaces ++ ls) (shown-with_program m.version d instrs)
-        ∙ ap (λ (n : ℕ). shown_spaces m spaces ++ (shown_draft m.version d ++ (program_line n ∷ map instr_line instrs))) (eqb-true _ _ e)))
+    ∙ (ap (λ (ls : List (List (List ℕ))). shown_spaces m spaces ++ ls) (shown-with_program m.version d instrs)
+    ∙ ap (λ (n : ℕ). shown_spaces m spaces ++ (shown_draft m.version d ++ (program_line n ∷ map instr_line instrs))) (eqb-true _ _ e)))
     (λ e. refl)
 
 shown-instr : (m : Machine) (spaces : List SpaceView) (d : Draft) (len : ℕ) (instrs : List Instr) (i : Instr) → length d.sems ≡ d.sem_count
@@ -103,7 +100,7 @@ some_own : (spaces : List SpaceView) → ¬ All (λ (s : SpaceView). s.patience 
     → list_all (λ (s : SpaceView). s.patience == 1) spaces ≡ false
 some_own spaces h =
     false_from_ne_true _ (λ e. h (All-weaker (λ (s : SpaceView). (s.patience == 1) ≡ true) (λ (s : SpaceView). s.patience ≡ 1)
-        (λ s t. eqb-true s.patience 1 t) spaces (AllPass-from_list_all (λ (s : SpaceView). s.patience == 1) spaces e)))
+    (λ s t. eqb-true s.patience 1 t) spaces (AllPass-from_list_all (λ (s : SpaceView). s.patience == 1) spaces e)))
 
 -- the version of what was read is the one that the first line says
 pub version_is : (versions : ℕ) (m : Machine) (spaces : List SpaceView) (evictions : List Evict) (turns : List ProcNo)
@@ -164,4 +161,3 @@ shown-step _ _ _ versions (step_first_turn m spaces evictions p) r =
 shown-step _ _ _ versions (step_turn m spaces evictions turns p) r = shown-turn m spaces evictions turns p
 shown-step _ _ _ versions (step_first_close m spaces evictions) r = shown-first_close versions m spaces evictions r
 shown-step _ _ _ versions (step_close m spaces evictions turns) r = shown-close versions m spaces evictions turns r
-

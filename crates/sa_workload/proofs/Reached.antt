@@ -1,10 +1,8 @@
 -- What each line has to keep to, so that it leads from a reached position to a reached position.
-use Rattle.std.proofs.Common.{◌≡◌, ◌≢◌, ℕ, ◌+◌, ◌-◌, ◌<◌, ◌≤◌, ◌==◌, ◌⊎◌, List, [], ◌∷◌, ◌++◌, length, All, get_or, slice_get, slice_index, Some, inl, inr, refl, sym, ap, subst, subst₂, ◌∙◌, arith, eqb-true}
-use Rattle.std.specs.List.{AllAdjacentBelow}
-use Rattle.std.specs.List.Sorted.{IsStrictlyIncreasing}
+use Rattle.std.proofs.Common.{◌≡◌, ◌≢◌, ℕ, ◌+◌, ◌-◌, ◌<◌, ◌≤◌, ◌==◌, List, [], ◌∷◌, ◌++◌, length, All, get_or, slice_index, Some, inl, inr, refl, sym, ap, subst, subst₂, ◌∙◌, arith, eqb-true}
 use Rattle.std.proofs.lemmas.Bool.{cond_both, cases_lt, eqb-false}
 use Rattle.std.proofs.lemmas.List.{length_push, get_or_append_left, get_or_push}
-use Rattle.std.proofs.lemmas.List.Elements.{All-nil, All-push, All-same, All-get_or}
+use Rattle.std.proofs.lemmas.List.Elements.{All-nil, All-push, All-same}
 use Rattle.std.proofs.lemmas.Option.{slice_get-get_or}
 use Rattle.sa_base.specs.declared.number.ProcNo.{ProcNo}
 use Rattle.sa_instr.specs.declared.instr.Instr.{Instr}
@@ -13,8 +11,8 @@ use Rattle.sa_instr.specs.declared.workload.Evict.{Evict}
 use Rattle.sa_instr.specs.Instr.{IsInRange, JumpsBelow, NamesDeclared}
 use Rattle.sa_instr.specs.Program.{IsProgram}
 use Rattle.sa_instr.specs.Space.{SpaceView, IsSpace}
-use Rattle.sa_instr.specs.Workload.{WorkloadView, IsWorkload, IsEviction, IsBefore}
-use Rattle.sa_workload.specs.Position.{Machine, Draft, Position, AtVersion, AtProcessors, AtFetch, AtSlice, AtSpaces, AtSpace, AtSem, AtAbsent, AtProgram, AtInstr, AtEvict, AtTurn, Closed, CanSlice, IsMachine, AreSpaces, IsDraft, IsBegun, AreEvictions, AreTurns, IsReached}
+use Rattle.sa_instr.specs.Workload.{IsWorkload, IsEviction, IsBefore}
+use Rattle.sa_workload.specs.Position.{Machine, Draft, Position, AtProcessors, AtFetch, AtSlice, AtSpaces, AtSpace, AtSem, AtAbsent, AtProgram, AtInstr, AtEvict, AtTurn, Closed, CanSlice, IsMachine, AreSpaces, IsDraft, IsBegun, AreEvictions, AreTurns, IsReached}
 use Rattle.sa_workload.specs.Steps.{workload, space_of_draft, IsFresh, with_sem, with_absent, with_program, after_fetch, after_sem, after_spaces, after_program, after_instr}
 use Rattle.sa_workload.proofs.Keeping.{version_is}
 
@@ -33,8 +31,8 @@ reached-fetch versions v n f r low high =
 can_slice : (v s : ℕ) → 2 ≤ v → v ≤ 3 → (v ≢ 3 → 1 ≤ s) → s ≤ 1000000 → CanSlice v s
 can_slice v s two three low high =
     elim (cases_lt v 3) [
-      inl h ↦ inr (inl (omega arith, low (omega arith), high))
-    | inr h ↦ inr (inr (omega arith, high))
+      | inl h ↦ inr (inl (omega arith, low (omega arith), high))
+      | inr h ↦ inr (inr (omega arith, high))
     ]
 
 -- only version 3 has slice 0
@@ -53,10 +51,11 @@ no_spaces m h = record {
 
 pub reached-spaces : (versions v n f s c : ℕ) → IsReached versions (AtSpaces v n f s) → 1 ≤ c → c ≤ 16
     → IsReached versions (AtSpace (record { version = v; processors = n; fetch = f; slice = s; count = c }) [])
-reached-spaces versions v n f s c r low high =
-    (record { version = r.0; processors = (r.1, r.2); fetch = (r.3, r.4); slice = r.5; count = (low, high) },
-    no_spaces (record { version = v; processors = n; fetch = f; slice = s; count = c }) low,
-    low)
+reached-spaces versions v n f s c r low high = (
+  record { version = r.0; processors = (r.1, r.2); fetch = (r.3, r.4); slice = r.5; count = (low, high) },
+  no_spaces (record { version = v; processors = n; fetch = f; slice = s; count = c }) low,
+  low,
+)
 
 reached-after_sem : (versions : ℕ) (m : Machine) (spaces : List SpaceView) (d : Draft) → IsMachine versions m → AreSpaces m spaces
     → IsDraft m spaces d → d.absent ≡ [] → d.programs ≡ [] → IsReached versions (after_sem m spaces d)
@@ -136,12 +135,12 @@ rise-push : {X : Type 0} (R : X → X → Type 0) (xs : List X) (x d : X)
 rise-push {X} R xs x d rise last k h =
     let l : length (xs ++ x ∷ []) ≡ length xs + 1 = length_push xs x in
     elim (cases_lt (k + 1) (length xs)) [
-      inl b ↦ rw (get_or_append_left xs (x ∷ []) d k (omega arith), get_or_append_left xs (x ∷ []) d (k + 1) b) (rise k b)
-    | inr b ↦
-        let e : length xs ≡ k + 1 = omega arith in
-        let e' : length xs - 1 ≡ k = omega arith in
-        rw (get_or_append_left xs (x ∷ []) d k (omega arith), get_or_push xs x d (k + 1) e)
-        (subst (λ (n : ℕ). R (get_or xs n d) x) e' (last (omega arith)))
+      | inl b ↦ rw (get_or_append_left xs (x ∷ []) d k (omega arith), get_or_append_left xs (x ∷ []) d (k + 1) b) (rise k b)
+      | inr b ↦
+          let e : length xs ≡ k + 1 = omega arith in
+          let e' : length xs - 1 ≡ k = omega arith in
+          rw (get_or_append_left xs (x ∷ []) d k (omega arith), get_or_push xs x d (k + 1) e)
+          (subst (λ (n : ℕ). R (get_or xs n d) x) e' (last (omega arith)))
     ]
 
 pub reached-absent : (versions : ℕ) (m : Machine) (spaces : List SpaceView) (d : Draft) (k : ℕ) → IsReached versions (AtAbsent m spaces d)
@@ -244,18 +243,20 @@ reached-after_program versions m spaces d k a h s one =
     (λ (q : Position). IsReached versions q)
     (λ e. reached-after_spaces versions m (spaces ++ space_of_draft d ∷ []) k (more_spaces m spaces d a h s (eqb-true _ _ e)))
     (λ e.
-        let ne : length d.programs ≢ d.program_count = eqb-false _ _ e in
-        let few : length d.programs ≤ d.program_count = h.programs in
-        (k, a, h, s, one, omega arith))
+    let ne : length d.programs ≢ d.program_count = eqb-false _ _ e in
+    let few : length d.programs ≤ d.program_count = h.programs in
+    (k, a, h, s, one, omega arith))
 
 -- the instructions begun and one more
 begun_more : (d : Draft) (len : ℕ) (instrs : List Instr) (i : Instr) → IsBegun d len instrs → IsInRange i → JumpsBelow len i
     → NamesDeclared d.mutexes d.sem_count d.cells d.program_count i
     → All IsInRange (instrs ++ i ∷ []) × All (JumpsBelow len) (instrs ++ i ∷ [])
     × All (NamesDeclared d.mutexes d.sem_count d.cells d.program_count) (instrs ++ i ∷ [])
-begun_more d len instrs i h range jump name =
-    (All-push IsInRange instrs i h.ranges range, All-push (JumpsBelow len) instrs i h.jumps jump,
-    All-push (NamesDeclared d.mutexes d.sem_count d.cells d.program_count) instrs i h.names name)
+begun_more d len instrs i h range jump name = (
+  All-push IsInRange instrs i h.ranges range,
+  All-push (JumpsBelow len) instrs i h.jumps jump,
+  All-push (NamesDeclared d.mutexes d.sem_count d.cells d.program_count) instrs i h.names name,
+)
 
 -- and where they are all, the last of them `end`, they are a program
 whole_program : (d : Draft) (len : ℕ) (instrs : List Instr) (i : Instr) → IsBegun d len instrs → IsInRange i → JumpsBelow len i
@@ -307,12 +308,14 @@ reached-instr versions m spaces d len instrs i r range jump name last =
   where
     l : length (instrs ++ i ∷ []) ≡ length instrs + 1
     l = length_push instrs i
+
     whole : length (instrs ++ i ∷ []) ≡ len → IsReached versions (after_program m spaces (with_program d (instrs ++ i ∷ [])))
     whole e =
         reached-after_program versions m spaces (with_program d (instrs ++ i ∷ [])) r.0 r.1
         (with_program-drafted m spaces d (instrs ++ i ∷ []) r.2 r.4
         (whole_program d len instrs i r.5 range jump name (last (sym l ∙ e)) e) (begun_more d len instrs i r.5 range jump name).2)
         r.3 (omega (arith, length_push d.programs (instrs ++ i ∷ [])))
+
     more : (length (instrs ++ i ∷ []) ≡ len → ⊥) → IsReached versions (AtInstr m spaces d len (instrs ++ i ∷ []))
     more ne =
         let room : length instrs < len = r.5.room in
@@ -323,12 +326,16 @@ pub reached-evict : (versions : ℕ) (m : Machine) (spaces : List SpaceView) (ev
     → IsReached versions (AtEvict m spaces evictions) → IsEviction m.count e → length evictions < 4096
     → ((d : Evict) → 0 < length evictions → IsBefore (get_or evictions (length evictions - 1) d) e)
     → IsReached versions (AtEvict m spaces (evictions ++ e ∷ []))
-reached-evict versions m spaces evictions e r h few last =
-    (r.0, r.1, r.2, record {
-      few = omega (arith, length_push evictions e);
-      each = All-push (IsEviction m.count) evictions e r.3.each h;
-      rise = λ k d b. rise-push IsBefore evictions e d (λ j. r.3.rise j d) (last d) k b;
-    })
+reached-evict versions m spaces evictions e r h few last = (
+  r.0,
+  r.1,
+  r.2,
+  record {
+    few = omega (arith, length_push evictions e);
+    each = All-push (IsEviction m.count) evictions e r.3.each h;
+    rise = λ k d b. rise-push IsBefore evictions e d (λ j. r.3.rise j d) (last d) k b;
+  },
+)
 
 one_turn : (m : Machine) (p : ProcNo) → p.0 < m.processors → AreTurns m (p ∷ [])
 one_turn m p h = record { few = omega arith; each = All-push (λ (q : ProcNo). q.0 < m.processors) [] p (All-nil _) h }
@@ -340,10 +347,14 @@ reached-first_turn versions m spaces evictions p r h = (r.0, r.1, r.2, r.3, one_
 pub reached-turn : (versions : ℕ) (m : Machine) (spaces : List SpaceView) (evictions : List Evict) (turns : List ProcNo) (p : ProcNo)
     → IsReached versions (AtTurn m spaces evictions turns) → p.0 < m.processors → length turns < 65536
     → IsReached versions (AtTurn m spaces evictions (turns ++ p ∷ []))
-reached-turn versions m spaces evictions turns p r h few =
-    (r.0, r.1, r.2, r.3,
-    record { few = omega (arith, length_push turns p); each = All-push (λ (q : ProcNo). q.0 < m.processors) turns p r.4.each h },
-    omega (arith, length_push turns p))
+reached-turn versions m spaces evictions turns p r h few = (
+  r.0,
+  r.1,
+  r.2,
+  r.3,
+  record { few = omega (arith, length_push turns p); each = All-push (λ (q : ProcNo). q.0 < m.processors) turns p r.4.each h },
+  omega (arith, length_push turns p),
+)
 
 can_slice-below : (v s : ℕ) → CanSlice v s → s ≤ 1000000
 can_slice-below v s (inl h) = omega arith
@@ -371,12 +382,14 @@ whole_workload versions m spaces evictions turns k a c e t = record {
 
 pub reached-first_close : (versions : ℕ) (m : Machine) (spaces : List SpaceView) (evictions : List Evict)
     → IsReached versions (AtEvict m spaces evictions) → IsReached versions (Closed (workload m spaces evictions []))
-reached-first_close versions m spaces evictions r =
-    (whole_workload versions m spaces evictions [] r.0 r.1 r.2 r.3 (record { few = omega arith; each = All-nil _ }),
-    omega (arith, version_is versions m spaces evictions [] r.0 r.1 r.2, r.0.version))
+reached-first_close versions m spaces evictions r = (
+  whole_workload versions m spaces evictions [] r.0 r.1 r.2 r.3 (record { few = omega arith; each = All-nil _ }),
+  omega (arith, version_is versions m spaces evictions [] r.0 r.1 r.2, r.0.version),
+)
 
 pub reached-close : (versions : ℕ) (m : Machine) (spaces : List SpaceView) (evictions : List Evict) (turns : List ProcNo)
     → IsReached versions (AtTurn m spaces evictions turns) → IsReached versions (Closed (workload m spaces evictions turns))
-reached-close versions m spaces evictions turns r =
-    (whole_workload versions m spaces evictions turns r.0 r.1 r.2 r.3 r.4,
-    omega (arith, version_is versions m spaces evictions turns r.0 r.1 r.2, r.0.version))
+reached-close versions m spaces evictions turns r = (
+  whole_workload versions m spaces evictions turns r.0 r.1 r.2 r.3 r.4,
+  omega (arith, version_is versions m spaces evictions turns r.0 r.1 r.2, r.0.version),
+)
