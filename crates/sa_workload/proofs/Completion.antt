@@ -16,7 +16,7 @@ use Rattle.sa_workload.specs.Steps.{workload, space_of_draft, with_sem, with_pro
 use Rattle.sa_workload.proofs.Keeping.{shown-step}
 use Rattle.sa_workload.proofs.Reached.{IsSpaceLine, reached-version, reached-processors, reached-fetch, reached-slice, reached-spaces, reached-space, reached-sem, reached-first_program, reached-program, reached-instr, reached-first_close, reached-close}
 
--- where a position that says what comes next stands
+-- what each `after_` position is: with all read, and with more to come
 after_sem-full : (m : Machine) (spaces : List SpaceView) (d : Draft) → length d.sems ≡ d.sem_count → after_sem m spaces d ≡ AtAbsent m spaces d
 after_sem-full m spaces d e = cond-true _ _ _ (eq-eqb _ _ e)
 
