@@ -1,1 +1,5 @@
 pub mod Next
+pub mod Keeping
+pub mod Reached
+pub mod Completion
+pub mod Following

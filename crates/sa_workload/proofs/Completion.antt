@@ -1,0 +1,258 @@
+-- The lines of each reached position begin a text: it goes on with what is missing, as short as can be.
+use Rattle.std.proofs.Common.{◌≡◌, ◌≢◌, ℕ, zero, suc, ◌+◌, ◌-◌, ◌<◌, ◌≤◌, ◌==◌, if◌then◌else◌, List, [], ◌∷◌, ◌++◌, length, inl, inr, refl, sym, ap, subst, ◌∙◌, arith, append_assoc, append-nil, eq-eqb, ne_eqb}
+use Rattle.std.proofs.lemmas.Bool.{cond_both, cond-true, cond-false, cases_eq}
+use Rattle.std.specs.List.{list_all}
+use Rattle.std.proofs.lemmas.List.{length_push}
+use Rattle.sa_base.specs.declared.number.ProcNo.{ProcNo}
+use Rattle.sa_instr.specs.declared.instr.Instr.{Instr}
+use Rattle.sa_instr.specs.declared.instr.Instr.TheVariants.{Compute, End}
+use Rattle.sa_instr.specs.declared.workload.Evict.{Evict}
+use Rattle.sa_instr.specs.Space.{SpaceView}
+use Rattle.sa_instr.specs.Workload.{WorkloadView, IsWorkload}
+use Rattle.sa_workload.specs.Text.{version_of, workload_lines}
+use Rattle.sa_workload.specs.Bad.{Grammar, AnyVersion, Version1, Begins}
+use Rattle.sa_workload.specs.Position.{Machine, Draft, Position, AtVersion, AtProcessors, AtFetch, AtSlice, AtSpaces, AtSpace, AtSem, AtAbsent, AtProgram, AtInstr, AtEvict, AtTurn, Closed, shown, IsReached}
+use Rattle.sa_workload.specs.Steps.{workload, space_of_draft, with_sem, with_program, after_fetch, after_sem, after_spaces, after_program, after_instr, Steps, step_version, step_processors, step_fetch, step_slice, step_spaces, step_space, step_sem, step_first_program, step_program, step_instr, step_first_close, step_close}
+use Rattle.sa_workload.proofs.Keeping.{shown-step}
+use Rattle.sa_workload.proofs.Reached.{IsSpaceLine, reached-version, reached-processors, reached-fetch, reached-slice, reached-spaces, reached-space, reached-sem, reached-first_program, reached-program, reached-instr, reached-first_close, reached-close}
+
+-- what each `after_` position is: with all read, and with more to come
+after_sem-full : (m : Machine) (spaces : List SpaceView) (d : Draft) → length d.sems ≡ d.sem_count → after_sem m spaces d ≡ AtAbsent m spaces d
+after_sem-full m spaces d e = cond-true _ _ _ (eq-eqb _ _ e)
+
+after_sem-more : (m : Machine) (spaces : List SpaceView) (d : Draft) → length d.sems ≢ d.sem_count → after_sem m spaces d ≡ AtSem m spaces d
+after_sem-more m spaces d ne = cond-false _ _ _ (ne_eqb _ _ ne)
+
+after_spaces-full : (m : Machine) (spaces : List SpaceView) → length spaces ≡ m.count → after_spaces m spaces ≡ AtEvict m spaces []
+after_spaces-full m spaces e = cond-true _ _ _ (eq-eqb _ _ e)
+
+after_spaces-more : (m : Machine) (spaces : List SpaceView) → length spaces ≢ m.count → after_spaces m spaces ≡ AtSpace m spaces
+after_spaces-more m spaces ne = cond-false _ _ _ (ne_eqb _ _ ne)
+
+after_program-full : (m : Machine) (spaces : List SpaceView) (d : Draft) → length d.programs ≡ d.program_count
+    → after_program m spaces d ≡ after_spaces m (spaces ++ space_of_draft d ∷ [])
+after_program-full m spaces d e = cond-true _ _ _ (eq-eqb _ _ e)
+
+after_program-more : (m : Machine) (spaces : List SpaceView) (d : Draft) → length d.programs ≢ d.program_count
+    → after_program m spaces d ≡ AtProgram m spaces d
+after_program-more m spaces d ne = cond-false _ _ _ (ne_eqb _ _ ne)
+
+after_instr-full : (m : Machine) (spaces : List SpaceView) (d : Draft) (len : ℕ) (instrs : List Instr) → length instrs ≡ len
+    → after_instr m spaces d len instrs ≡ after_program m spaces (with_program d instrs)
+after_instr-full m spaces d len instrs e = cond-true _ _ _ (eq-eqb _ _ e)
+
+after_instr-more : (m : Machine) (spaces : List SpaceView) (d : Draft) (len : ℕ) (instrs : List Instr) → length instrs ≢ len
+    → after_instr m spaces d len instrs ≡ AtInstr m spaces d len instrs
+after_instr-more m spaces d len instrs ne = cond-false _ _ _ (ne_eqb _ _ ne)
+
+-- a new space with one program, and with this patience
+pub new_draft : ℕ → Draft
+new_draft k = record {
+  priority = 0;
+  mutexes = 0;
+  sem_count = 0;
+  cells = 0;
+  program_count = 1;
+  patience = k;
+  sems = [];
+  absent = [];
+  programs = [];
+}
+
+pub own_patience : (m : Machine) (spaces : List SpaceView) → m.version ≡ 3 → IsSpaceLine m spaces (new_draft 2)
+unfolding new_draft
+own_patience m spaces v = record {
+  fresh = (refl, refl, refl);
+  priority = omega arith;
+  mutexes = omega arith;
+  sem_count = omega arith;
+  cells = omega arith;
+  program_count = (omega arith, omega arith);
+  patience = (omega arith, omega arith);
+  patient = λ ne. absurd (ne v);
+  own = λ _ _ _. omega arith;
+}
+
+pub usual_patience : (m : Machine) (spaces : List SpaceView) → m.version ≢ 3 → IsSpaceLine m spaces (new_draft 1)
+unfolding new_draft
+usual_patience m spaces ne = record {
+  fresh = (refl, refl, refl);
+  priority = omega arith;
+  mutexes = omega arith;
+  sem_count = omega arith;
+  cells = omega arith;
+  program_count = (omega arith, omega arith);
+  patience = (omega arith, omega arith);
+  patient = λ _. refl;
+  own = λ v _ _. absurd (ne v);
+}
+
+-- lines that begin a text do so without the last one
+begins-front : (g : Grammar) (lines : List (List (List ℕ))) (line : List (List ℕ)) → Begins g (lines ++ line ∷ []) → Begins g lines
+begins-front g lines line b = record {
+  workload = b.workload;
+  accepted = b.accepted;
+  more = line ∷ b.more;
+  text = b.text ∙ append_assoc lines (line ∷ []) b.more;
+}
+
+-- where such a position is reached, its lines begin a text
+abbrev Completes : ℕ → Grammar → Position → Type 0
+Completes versions g p = IsReached versions p → Begins g (shown p)
+
+-- the grammar is of all workloads of so many versions
+abbrev pub AcceptsUpTo : ℕ → Grammar → Type 0
+AcceptsUpTo versions g = (w : WorkloadView) → IsWorkload w → version_of w ≤ versions → g w
+
+module _ (versions : ℕ) (g : Grammar) (accepts : AcceptsUpTo versions g) (one : 1 ≤ versions) (three : versions ≤ 3) where
+  by_step : (p q : Position) (line : List (List ℕ)) → Steps p line q → IsReached versions q → Completes versions g q → Completes versions g p
+  by_step p q line s reached rest = λ r. begins-front g (shown p) line (subst (Begins g) (shown-step p q line versions s r) (rest reached))
+
+  closed : (w : WorkloadView) → Completes versions g (Closed w)
+  closed w = λ r. record { workload = w; accepted = accepts w r.0 r.1; more = []; text = sym (append-nil (workload_lines w)) }
+
+  at_turn : (m : Machine) (spaces : List SpaceView) (evictions : List Evict) (turns : List ProcNo)
+      → Completes versions g (AtTurn m spaces evictions turns)
+  at_turn m spaces evictions turns = λ r.
+      by_step _ _ _ (step_close m spaces evictions turns) (reached-close versions m spaces evictions turns r)
+      (closed (workload m spaces evictions turns)) r
+
+  at_evict : (m : Machine) (spaces : List SpaceView) (evictions : List Evict) → Completes versions g (AtEvict m spaces evictions)
+  at_evict m spaces evictions = λ r.
+      by_step _ _ _ (step_first_close m spaces evictions) (reached-first_close versions m spaces evictions r)
+      (closed (workload m spaces evictions [])) r
+
+  -- n + 1 instructions are missing
+  at_instr : (n : ℕ) (m : Machine) (spaces : List SpaceView) (d : Draft) (len : ℕ) (instrs : List Instr) → length instrs + suc n ≡ len
+      → ((p : List Instr) → Completes versions g (after_program m spaces (with_program d p)))
+      → Completes versions g (AtInstr m spaces d len instrs)
+  at_instr zero m spaces d len instrs e rest = λ r.
+      let l : length (instrs ++ End ∷ []) ≡ length instrs + 1 = length_push instrs End in
+      by_step _ _ _ (step_instr m spaces d len instrs End) (reached-instr versions m spaces d len instrs End r tt tt tt (λ _. refl))
+      (subst (Completes versions g) (sym (after_instr-full m spaces d len (instrs ++ End ∷ []) (omega arith))) (rest (instrs ++ End ∷ []))) r
+  at_instr (suc n) m spaces d len instrs e rest = λ r.
+      let l : length (instrs ++ Compute ∷ []) ≡ length instrs + 1 = length_push instrs Compute in
+      by_step _ _ _ (step_instr m spaces d len instrs Compute)
+      (reached-instr versions m spaces d len instrs Compute r tt tt tt (λ h. absurd (omega arith)))
+      (subst (Completes versions g) (sym (after_instr-more m spaces d len (instrs ++ Compute ∷ []) (omega arith)))
+      (at_instr n m spaces d len (instrs ++ Compute ∷ []) (omega arith) rest)) r
+
+  -- n programs are missing
+  programs_missing : (n : ℕ) (m : Machine) (spaces : List SpaceView) (d : Draft) → length d.programs + n ≡ d.program_count
+      → ((s : SpaceView) → Completes versions g (after_spaces m (spaces ++ s ∷ []))) → Completes versions g (after_program m spaces d)
+  programs_missing zero m spaces d e rest =
+      subst (Completes versions g) (sym (after_program-full m spaces d (omega arith))) (rest (space_of_draft d))
+  programs_missing (suc n) m spaces d e rest =
+      subst (Completes versions g) (sym (after_program-more m spaces d (omega arith))) (λ r.
+      by_step _ _ _ (step_program m spaces d 1) (reached-program versions m spaces d 1 r (omega arith) (omega arith))
+      (at_instr 0 m spaces d 1 [] refl
+      (λ p. programs_missing n m spaces (with_program d p) (omega (arith, length_push d.programs p)) rest)) r)
+
+  at_absent : (m : Machine) (spaces : List SpaceView) (d : Draft)
+      → ((s : SpaceView) → Completes versions g (after_spaces m (spaces ++ s ∷ []))) → Completes versions g (AtAbsent m spaces d)
+  at_absent m spaces d rest = λ r.
+      by_step _ _ _ (step_first_program m spaces d 1) (reached-first_program versions m spaces d 1 r (omega arith) (omega arith))
+      (at_instr 0 m spaces d 1 [] refl
+      (λ p. programs_missing (d.program_count - 1) m spaces (with_program d p)
+      (omega (arith, length_push d.programs p, ap length r.4, r.2.program_count.0)) rest)) r
+
+  -- n semaphores are missing
+  sems_missing : (n : ℕ) (m : Machine) (spaces : List SpaceView) (d : Draft) → length d.sems + n ≡ d.sem_count
+      → ((s : SpaceView) → Completes versions g (after_spaces m (spaces ++ s ∷ []))) → Completes versions g (after_sem m spaces d)
+  sems_missing zero m spaces d e rest =
+      subst (Completes versions g) (sym (after_sem-full m spaces d (omega arith))) (at_absent m spaces d rest)
+  sems_missing (suc n) m spaces d e rest =
+      subst (Completes versions g) (sym (after_sem-more m spaces d (omega arith))) (λ r.
+      by_step _ _ _ (step_sem m spaces d 0) (reached-sem versions m spaces d 0 r (omega arith))
+      (sems_missing n m spaces (with_sem d 0) (omega (arith, length_push d.sems 0)) rest) r)
+
+  new_space : (m : Machine) (spaces : List SpaceView) (k : ℕ) → IsSpaceLine m spaces (new_draft k)
+      → ((s : SpaceView) → Completes versions g (after_spaces m (spaces ++ s ∷ []))) → Completes versions g (AtSpace m spaces)
+  unfolding new_draft
+  new_space m spaces k h rest = λ r.
+      by_step _ _ _ (step_space m spaces (new_draft k) h.fresh) (reached-space versions m spaces (new_draft k) r h)
+      (sems_missing 0 m spaces (new_draft k) refl rest) r
+
+  at_space : (m : Machine) (spaces : List SpaceView) → ((s : SpaceView) → Completes versions g (after_spaces m (spaces ++ s ∷ [])))
+      → Completes versions g (AtSpace m spaces)
+  at_space m spaces rest =
+      elim (cases_eq m.version 3) [
+        | inl v ↦ new_space m spaces 2 (own_patience m spaces v) rest
+        | inr ne ↦ new_space m spaces 1 (usual_patience m spaces ne) rest
+      ]
+
+  -- n spaces are missing
+  spaces_missing : (n : ℕ) (m : Machine) (spaces : List SpaceView) → length spaces + n ≡ m.count → Completes versions g (after_spaces m spaces)
+  spaces_missing zero m spaces e =
+      subst (Completes versions g) (sym (after_spaces-full m spaces (omega arith))) (at_evict m spaces [])
+  spaces_missing (suc n) m spaces e =
+      subst (Completes versions g) (sym (after_spaces-more m spaces (omega arith)))
+      (at_space m spaces (λ s. spaces_missing n m (spaces ++ s ∷ []) (omega (arith, length_push spaces s))))
+
+  spaces_after : (m : Machine) (spaces : List SpaceView) → length spaces < m.count
+      → (s : SpaceView) → Completes versions g (after_spaces m (spaces ++ s ∷ []))
+  spaces_after m spaces room s =
+      spaces_missing (m.count - (length spaces + 1)) m (spaces ++ s ∷ []) (omega (arith, length_push spaces s))
+
+  at_spaces : (v n f s : ℕ) → Completes versions g (AtSpaces v n f s)
+  at_spaces v n f s = λ r.
+      by_step _ _ _ (step_spaces v n f s 1) (reached-spaces versions v n f s 1 r (omega arith) (omega arith))
+      (at_space (record { version = v; processors = n; fetch = f; slice = s; count = 1 }) []
+      (spaces_after (record { version = v; processors = n; fetch = f; slice = s; count = 1 }) [] (omega arith))) r
+
+  at_slice : (v n f : ℕ) → Completes versions g (AtSlice v n f)
+  at_slice v n f = λ r.
+      by_step _ _ _ (step_slice v n f 1) (reached-slice versions v n f 1 three r (λ _. omega arith) (omega arith)) (at_spaces v n f 1) r
+
+  fetched : (v n f : ℕ) → Completes versions g (after_fetch v n f)
+  fetched v n f =
+      cond_both (v == 1) (AtSpaces v n f 0) (AtSlice v n f) (Completes versions g) (λ e. at_spaces v n f 0) (λ e. at_slice v n f)
+
+  at_fetch : (v n : ℕ) → Completes versions g (AtFetch v n)
+  at_fetch v n = λ r. by_step _ _ _ (step_fetch v n 1) (reached-fetch versions v n 1 r (omega arith) (omega arith)) (fetched v n 1) r
+
+  at_processors : (v : ℕ) → Completes versions g (AtProcessors v)
+  at_processors v = λ r.
+      by_step _ _ _ (step_processors v 1) (reached-processors versions v 1 r (omega arith) (omega arith)) (at_fetch v 1) r
+
+  -- the lines of each reached position begin a text
+  pub completes : (p : Position) → IsReached versions p → Begins g (shown p)
+  completes AtVersion r = by_step _ _ _ (step_version 1) (reached-version versions 1 (omega arith) one) (at_processors 1) r
+  completes (AtProcessors v) r = at_processors v r
+  completes (AtFetch v n) r = at_fetch v n r
+  completes (AtSlice v n f) r = at_slice v n f r
+  completes (AtSpaces v n f s) r = at_spaces v n f s r
+  completes (AtSpace m spaces) r = at_space m spaces (spaces_after m spaces r.2) r
+  completes (AtSem m spaces d) r =
+      subst (Completes versions g) (after_sem-more m spaces d (omega arith))
+      (sems_missing (d.sem_count - length d.sems) m spaces d (omega arith) (spaces_after m spaces r.2.room)) r
+  completes (AtAbsent m spaces d) r = at_absent m spaces d (spaces_after m spaces r.2.room) r
+  completes (AtProgram m spaces d) r =
+      subst (Completes versions g) (after_program-more m spaces d (omega arith))
+      (programs_missing (d.program_count - length d.programs) m spaces d (omega arith) (spaces_after m spaces r.2.room)) r
+  completes (AtInstr m spaces d len instrs) r =
+      let room : length instrs < len = r.5.room in
+      at_instr (len - length instrs - 1) m spaces d len instrs (omega arith)
+      (λ p. programs_missing (d.program_count - length d.programs - 1) m spaces (with_program d p) (omega (arith, length_push d.programs p))
+      (spaces_after m spaces r.2.room)) r
+  completes (AtEvict m spaces evictions) r = at_evict m spaces evictions r
+  completes (AtTurn m spaces evictions turns) r = at_turn m spaces evictions turns r
+  completes (Closed w) r = closed w r
+
+-- a workload is written in version 1 or a later one
+version-low : (w : WorkloadView) → 1 ≤ version_of w
+version-low w =
+    cond_both (list_all (λ (s : SpaceView). s.patience == 1) w.spaces) (if w.slice == 0 then 1 else 2) 3 (λ (v : ℕ). 1 ≤ v)
+    (λ _. cond_both (w.slice == 0) 1 2 (λ (v : ℕ). 1 ≤ v) (λ _. omega arith) (λ _. omega arith)) (λ _. omega arith)
+
+pub any_version : AcceptsUpTo 3 AnyVersion
+any_version = λ w h _. h
+
+pub version_1 : AcceptsUpTo 1 Version1
+version_1 = λ w h v. (h, omega (arith, version-low w))
+
+pub completes_any : (p : Position) → IsReached 3 p → Begins AnyVersion (shown p)
+completes_any p r = completes 3 AnyVersion any_version (omega arith) (omega arith) p r
+
+pub completes_1 : (p : Position) → IsReached 1 p → Begins Version1 (shown p)
+completes_1 p r = completes 1 Version1 version_1 (omega arith) (omega arith) p r

@@ -1,0 +1,395 @@
+-- What each line has to keep to, so that it leads from a reached position to a reached position.
+use Rattle.std.proofs.Common.{◌≡◌, ◌≢◌, ℕ, ◌+◌, ◌-◌, ◌<◌, ◌≤◌, ◌==◌, List, [], ◌∷◌, ◌++◌, length, All, get_or, slice_index, Some, inl, inr, refl, sym, ap, subst, subst₂, ◌∙◌, arith, eqb-true}
+use Rattle.std.proofs.lemmas.Bool.{cond_both, cases_lt, eqb-false}
+use Rattle.std.proofs.lemmas.List.{length_push, get_or_append_left, get_or_push}
+use Rattle.std.proofs.lemmas.List.Elements.{All-nil, All-push, All-same}
+use Rattle.std.proofs.lemmas.Option.{slice_get-get_or}
+use Rattle.sa_base.specs.declared.number.ProcNo.{ProcNo}
+use Rattle.sa_instr.specs.declared.instr.Instr.{Instr}
+use Rattle.sa_instr.specs.declared.instr.Instr.TheVariants.{End}
+use Rattle.sa_instr.specs.declared.workload.Evict.{Evict}
+use Rattle.sa_instr.specs.Instr.{IsInRange, JumpsBelow, NamesDeclared}
+use Rattle.sa_instr.specs.Program.{IsProgram}
+use Rattle.sa_instr.specs.Space.{SpaceView, IsSpace}
+use Rattle.sa_instr.specs.Workload.{IsWorkload, IsEviction, IsBefore}
+use Rattle.sa_workload.specs.Position.{Machine, Draft, Position, AtProcessors, AtFetch, AtSlice, AtSpaces, AtSpace, AtSem, AtAbsent, AtProgram, AtInstr, AtEvict, AtTurn, Closed, CanSlice, IsMachine, AreSpaces, IsDraft, IsBegun, AreEvictions, AreTurns, IsReached}
+use Rattle.sa_workload.specs.Steps.{workload, space_of_draft, IsFresh, with_sem, with_absent, with_program, after_fetch, after_sem, after_spaces, after_program, after_instr}
+use Rattle.sa_workload.proofs.Keeping.{version_is}
+
+pub reached-version : (versions v : ℕ) → 1 ≤ v → v ≤ versions → IsReached versions (AtProcessors v)
+reached-version versions v low high = (low, high)
+
+pub reached-processors : (versions v n : ℕ) → IsReached versions (AtProcessors v) → 1 ≤ n → n ≤ 16 → IsReached versions (AtFetch v n)
+reached-processors versions v n r low high = (r.0, r.1, low, high)
+
+pub reached-fetch : (versions v n f : ℕ) → IsReached versions (AtFetch v n) → 1 ≤ f → f ≤ 1000 → IsReached versions (after_fetch v n f)
+reached-fetch versions v n f r low high =
+    cond_both (v == 1) (AtSpaces v n f 0) (AtSlice v n f) (λ (q : Position). IsReached versions q)
+    (λ e. (r.1, r.2, r.3, low, high, inl (eqb-true v 1 e, refl)))
+    (λ e. let ne : v ≢ 1 = eqb-false v 1 e in (omega arith, r.1, r.2, r.3, low, high))
+
+can_slice : (v s : ℕ) → 2 ≤ v → v ≤ 3 → (v ≢ 3 → 1 ≤ s) → s ≤ 1000000 → CanSlice v s
+can_slice v s two three low high =
+    elim (cases_lt v 3) [
+      | inl h ↦ inr (inl (omega arith, low (omega arith), high))
+      | inr h ↦ inr (inr (omega arith, high))
+    ]
+
+-- only version 3 has slice 0
+pub reached-slice : (versions v n f s : ℕ) → versions ≤ 3 → IsReached versions (AtSlice v n f) → (v ≢ 3 → 1 ≤ s) → s ≤ 1000000
+    → IsReached versions (AtSpaces v n f s)
+reached-slice versions v n f s three r low high =
+    (r.1, r.2, r.3, r.4, r.5, can_slice v s r.0 (omega arith) low high)
+
+no_spaces : (m : Machine) → 1 ≤ m.count → AreSpaces m []
+no_spaces m h = record {
+  few = omega arith;
+  each = All-nil IsSpace;
+  patient = λ _. All-nil (λ (s : SpaceView). s.patience ≡ 1);
+  own = λ _ full. absurd (omega arith);
+}
+
+pub reached-spaces : (versions v n f s c : ℕ) → IsReached versions (AtSpaces v n f s) → 1 ≤ c → c ≤ 16
+    → IsReached versions (AtSpace (record { version = v; processors = n; fetch = f; slice = s; count = c }) [])
+reached-spaces versions v n f s c r low high = (
+  record { version = r.0; processors = (r.1, r.2); fetch = (r.3, r.4); slice = r.5; count = (low, high) },
+  no_spaces (record { version = v; processors = n; fetch = f; slice = s; count = c }) low,
+  low,
+)
+
+reached-after_sem : (versions : ℕ) (m : Machine) (spaces : List SpaceView) (d : Draft) → IsMachine versions m → AreSpaces m spaces
+    → IsDraft m spaces d → d.absent ≡ [] → d.programs ≡ [] → IsReached versions (after_sem m spaces d)
+reached-after_sem versions m spaces d k a h absent programs =
+    cond_both (length d.sems == d.sem_count) (AtAbsent m spaces d) (AtSem m spaces d) (λ (q : Position). IsReached versions q)
+    (λ e. (k, a, h, eqb-true _ _ e, programs))
+    (λ e. let ne : length d.sems ≢ d.sem_count = eqb-false _ _ e in (k, a, h, omega arith, absent, programs))
+
+-- what the first line of a space has to keep to: before version 3 its patience is 1, and in version 3 the last one's is another
+-- where that of all before is 1
+pub record IsSpaceLine (m : Machine) (spaces : List SpaceView) (d : Draft) : Type 0 where
+  pub fresh : IsFresh d
+  pub priority : d.priority ≤ 7
+  pub mutexes : d.mutexes ≤ 64
+  pub sem_count : d.sem_count ≤ 64
+  pub cells : d.cells ≤ 64
+  pub program_count : (1 ≤ d.program_count) × (d.program_count ≤ 256)
+  pub patience : (1 ≤ d.patience) × (d.patience ≤ 1000)
+  pub patient : m.version ≢ 3 → d.patience ≡ 1
+  pub own : m.version ≡ 3 → length spaces + 1 ≡ m.count → All (λ (s : SpaceView). s.patience ≡ 1) spaces → d.patience ≢ 1
+
+fresh_draft : (m : Machine) (spaces : List SpaceView) (d : Draft) → length spaces < m.count → IsSpaceLine m spaces d → IsDraft m spaces d
+fresh_draft m spaces d room h = record {
+  room = room;
+  priority = h.priority;
+  mutexes = h.mutexes;
+  sem_count = h.sem_count;
+  cells = h.cells;
+  program_count = h.program_count;
+  patience = h.patience;
+  patient = h.patient;
+  own = h.own;
+  sems = omega (arith, ap length h.fresh.0);
+  starts = All-same (λ start. start ≤ 1000000) d.sems [] h.fresh.0 (All-nil _);
+  pages = All-same (λ page. page ≤ 15) d.absent [] h.fresh.1 (All-nil _);
+  absent_rise = λ k b. absurd (omega (arith, ap length h.fresh.1));
+  programs = omega (arith, ap length h.fresh.2);
+  each = All-same IsProgram d.programs [] h.fresh.2 (All-nil _);
+  names = All-same (All (NamesDeclared d.mutexes d.sem_count d.cells d.program_count)) d.programs [] h.fresh.2 (All-nil _);
+}
+
+pub reached-space : (versions : ℕ) (m : Machine) (spaces : List SpaceView) (d : Draft) → IsReached versions (AtSpace m spaces)
+    → IsSpaceLine m spaces d → IsReached versions (after_sem m spaces d)
+reached-space versions m spaces d r h =
+    reached-after_sem versions m spaces d r.0 r.1 (fresh_draft m spaces d r.2 h) h.fresh.1 h.fresh.2
+
+pub reached-sem : (versions : ℕ) (m : Machine) (spaces : List SpaceView) (d : Draft) (n : ℕ) → IsReached versions (AtSem m spaces d)
+    → n ≤ 1000000 → IsReached versions (after_sem m spaces (with_sem d n))
+reached-sem versions m spaces d n r h =
+    reached-after_sem versions m spaces (with_sem d n) r.0 r.1 drafted r.4 r.5
+  where
+    drafted : IsDraft m spaces (with_sem d n)
+    drafted = record {
+      room = r.2.room;
+      priority = r.2.priority;
+      mutexes = r.2.mutexes;
+      sem_count = r.2.sem_count;
+      cells = r.2.cells;
+      program_count = r.2.program_count;
+      patience = r.2.patience;
+      patient = r.2.patient;
+      own = r.2.own;
+      sems = omega (arith, length_push d.sems n);
+      starts = All-push (λ start. start ≤ 1000000) d.sems n r.2.starts h;
+      pages = r.2.pages;
+      absent_rise = r.2.absent_rise;
+      programs = r.2.programs;
+      each = r.2.each;
+      names = r.2.names;
+    }
+
+-- a list that rises goes on rising with an element that is above its last one
+rise-push : {X : Type 0} (R : X → X → Type 0) (xs : List X) (x d : X)
+    → ((k : ℕ) → k + 1 < length xs → R (get_or xs k d) (get_or xs (k + 1) d))
+    → (0 < length xs → R (get_or xs (length xs - 1) d) x)
+    → (k : ℕ) → k + 1 < length (xs ++ x ∷ []) → R (get_or (xs ++ x ∷ []) k d) (get_or (xs ++ x ∷ []) (k + 1) d)
+rise-push {X} R xs x d rise last k h =
+    let l : length (xs ++ x ∷ []) ≡ length xs + 1 = length_push xs x in
+    elim (cases_lt (k + 1) (length xs)) [
+      | inl b ↦ rw (get_or_append_left xs (x ∷ []) d k (omega arith), get_or_append_left xs (x ∷ []) d (k + 1) b) (rise k b)
+      | inr b ↦
+          let e : length xs ≡ k + 1 = omega arith in
+          let e' : length xs - 1 ≡ k = omega arith in
+          rw (get_or_append_left xs (x ∷ []) d k (omega arith), get_or_push xs x d (k + 1) e)
+          (subst (λ (n : ℕ). R (get_or xs n d) x) e' (last (omega arith)))
+    ]
+
+pub reached-absent : (versions : ℕ) (m : Machine) (spaces : List SpaceView) (d : Draft) (k : ℕ) → IsReached versions (AtAbsent m spaces d)
+    → k ≤ 15 → (0 < length d.absent → slice_index d.absent (length d.absent - 1) < k)
+    → IsReached versions (AtAbsent m spaces (with_absent d k))
+reached-absent versions m spaces d k r h last = (r.0, r.1, drafted, r.3, r.4)
+  where
+    drafted : IsDraft m spaces (with_absent d k)
+    drafted = record {
+      room = r.2.room;
+      priority = r.2.priority;
+      mutexes = r.2.mutexes;
+      sem_count = r.2.sem_count;
+      cells = r.2.cells;
+      program_count = r.2.program_count;
+      patience = r.2.patience;
+      patient = r.2.patient;
+      own = r.2.own;
+      sems = r.2.sems;
+      starts = r.2.starts;
+      pages = All-push (λ page. page ≤ 15) d.absent k r.2.pages h;
+      absent_rise = rise-push (λ (a b : ℕ). a < b) d.absent k 0 r.2.absent_rise last;
+      programs = r.2.programs;
+      each = r.2.each;
+      names = r.2.names;
+    }
+
+nothing_begun : (d : Draft) (len : ℕ) → 1 ≤ len → len ≤ 4096 → IsBegun d len []
+nothing_begun d len low high = record {
+  short = (low, high);
+  room = omega arith;
+  ranges = All-nil IsInRange;
+  jumps = All-nil (JumpsBelow len);
+  names = All-nil (NamesDeclared d.mutexes d.sem_count d.cells d.program_count);
+}
+
+pub reached-first_program : (versions : ℕ) (m : Machine) (spaces : List SpaceView) (d : Draft) (len : ℕ)
+    → IsReached versions (AtAbsent m spaces d) → 1 ≤ len → len ≤ 4096 → IsReached versions (AtInstr m spaces d len [])
+reached-first_program versions m spaces d len r low high =
+    (r.0, r.1, r.2, r.3, omega (arith, ap length r.4, r.2.program_count.0), nothing_begun d len low high)
+
+pub reached-program : (versions : ℕ) (m : Machine) (spaces : List SpaceView) (d : Draft) (len : ℕ)
+    → IsReached versions (AtProgram m spaces d) → 1 ≤ len → len ≤ 4096 → IsReached versions (AtInstr m spaces d len [])
+reached-program versions m spaces d len r low high =
+    (r.0, r.1, r.2, r.3, r.5, nothing_begun d len low high)
+
+reached-after_spaces : (versions : ℕ) (m : Machine) (spaces : List SpaceView) → IsMachine versions m → AreSpaces m spaces
+    → IsReached versions (after_spaces m spaces)
+reached-after_spaces versions m spaces k a =
+    cond_both (length spaces == m.count) (AtEvict m spaces []) (AtSpace m spaces) (λ (q : Position). IsReached versions q)
+    (λ e. (k, a, eqb-true _ _ e, record { few = omega arith; each = All-nil (IsEviction m.count); rise = λ n d b. absurd (omega arith) }))
+    (λ e. let ne : length spaces ≢ m.count = eqb-false _ _ e in let few : length spaces ≤ m.count = a.few in (k, a, omega arith))
+
+-- what holds of each element of a list with one more behind it holds of those before, and of the one
+All-front : {X : Type 0} (P : X → Type 0) (xs : List X) (x : X) → All P (xs ++ x ∷ []) → All P xs
+All-front P xs x h = λ k d b. let l : length (xs ++ x ∷ []) ≡ length xs + 1 = length_push xs x in
+    subst P (get_or_append_left xs (x ∷ []) d k b) (h k d (omega arith))
+
+All-last : {X : Type 0} (P : X → Type 0) (xs : List X) (x : X) → All P (xs ++ x ∷ []) → P x
+All-last P xs x h =
+    let l : length (xs ++ x ∷ []) ≡ length xs + 1 = length_push xs x in
+    subst P (get_or_push xs x x (length xs) refl) (h (length xs) x (omega arith))
+
+-- a draft with all its semaphores and programs is a space
+whole_space : (m : Machine) (spaces : List SpaceView) (d : Draft) → IsDraft m spaces d → length d.sems ≡ d.sem_count
+    → length d.programs ≡ d.program_count → IsSpace (space_of_draft d)
+whole_space m spaces d h s p = record {
+  priority = h.priority;
+  mutexes = h.mutexes;
+  sems = omega (arith, s, h.sem_count);
+  starts = h.starts;
+  cells = h.cells;
+  pages = h.pages;
+  absent_rise = h.absent_rise;
+  some_program = omega (arith, p, h.program_count.0);
+  few_programs = omega (arith, p, h.program_count.1);
+  programs = h.each;
+  names = subst₂ (λ (n k : ℕ). All (All (NamesDeclared d.mutexes n d.cells k)) d.programs) (sym s) (sym p) h.names;
+  patient = h.patience.0;
+  patience = h.patience.1;
+}
+
+more_spaces : (m : Machine) (spaces : List SpaceView) (d : Draft) → AreSpaces m spaces → IsDraft m spaces d → length d.sems ≡ d.sem_count
+    → length d.programs ≡ d.program_count → AreSpaces m (spaces ++ space_of_draft d ∷ [])
+more_spaces m spaces d a h s p =
+    let l : length (spaces ++ space_of_draft d ∷ []) ≡ length spaces + 1 = length_push spaces (space_of_draft d) in
+    record {
+      few = omega (arith, h.room);
+      each = All-push IsSpace spaces (space_of_draft d) a.each (whole_space m spaces d h s p);
+      patient = λ v. All-push (λ (t : SpaceView). t.patience ≡ 1) spaces (space_of_draft d) (a.patient v) (h.patient v);
+      own = λ v full all.
+          h.own v (sym l ∙ full) (All-front (λ (t : SpaceView). t.patience ≡ 1) spaces (space_of_draft d) all)
+          (All-last (λ (t : SpaceView). t.patience ≡ 1) spaces (space_of_draft d) all);
+    }
+
+reached-after_program : (versions : ℕ) (m : Machine) (spaces : List SpaceView) (d : Draft) → IsMachine versions m → AreSpaces m spaces
+    → IsDraft m spaces d → length d.sems ≡ d.sem_count → 1 ≤ length d.programs → IsReached versions (after_program m spaces d)
+reached-after_program versions m spaces d k a h s one =
+    cond_both (length d.programs == d.program_count) (after_spaces m (spaces ++ space_of_draft d ∷ [])) (AtProgram m spaces d)
+    (λ (q : Position). IsReached versions q)
+    (λ e. reached-after_spaces versions m (spaces ++ space_of_draft d ∷ []) k (more_spaces m spaces d a h s (eqb-true _ _ e)))
+    (λ e.
+    let ne : length d.programs ≢ d.program_count = eqb-false _ _ e in
+    let few : length d.programs ≤ d.program_count = h.programs in
+    (k, a, h, s, one, omega arith))
+
+-- the instructions begun and one more
+begun_more : (d : Draft) (len : ℕ) (instrs : List Instr) (i : Instr) → IsBegun d len instrs → IsInRange i → JumpsBelow len i
+    → NamesDeclared d.mutexes d.sem_count d.cells d.program_count i
+    → All IsInRange (instrs ++ i ∷ []) × All (JumpsBelow len) (instrs ++ i ∷ [])
+    × All (NamesDeclared d.mutexes d.sem_count d.cells d.program_count) (instrs ++ i ∷ [])
+begun_more d len instrs i h range jump name = (
+  All-push IsInRange instrs i h.ranges range,
+  All-push (JumpsBelow len) instrs i h.jumps jump,
+  All-push (NamesDeclared d.mutexes d.sem_count d.cells d.program_count) instrs i h.names name,
+)
+
+-- and where they are all, the last of them `end`, they are a program
+whole_program : (d : Draft) (len : ℕ) (instrs : List Instr) (i : Instr) → IsBegun d len instrs → IsInRange i → JumpsBelow len i
+    → NamesDeclared d.mutexes d.sem_count d.cells d.program_count i → i ≡ End → length (instrs ++ i ∷ []) ≡ len → IsProgram (instrs ++ i ∷ [])
+whole_program d len instrs i h range jump name last e =
+    let l : length (instrs ++ i ∷ []) ≡ length instrs + 1 = length_push instrs i in
+    let more = begun_more d len instrs i h range jump name in
+    record {
+      not_empty = omega arith;
+      not_too_long = omega (arith, h.short.1);
+      ends =
+          slice_get-get_or (instrs ++ i ∷ []) (length (instrs ++ i ∷ []) - 1) i (omega arith)
+          ∙ (ap Some (get_or_push instrs i i (length (instrs ++ i ∷ []) - 1) (omega arith)) ∙ ap Some last);
+      jumps = subst (λ (n : ℕ). All (JumpsBelow n) (instrs ++ i ∷ [])) (sym e) more.1;
+      ranges = more.0;
+    }
+
+with_program-drafted : (m : Machine) (spaces : List SpaceView) (d : Draft) (p : List Instr) → IsDraft m spaces d
+    → length d.programs < d.program_count → IsProgram p → All (NamesDeclared d.mutexes d.sem_count d.cells d.program_count) p
+    → IsDraft m spaces (with_program d p)
+with_program-drafted m spaces d p h room program names = record {
+  room = h.room;
+  priority = h.priority;
+  mutexes = h.mutexes;
+  sem_count = h.sem_count;
+  cells = h.cells;
+  program_count = h.program_count;
+  patience = h.patience;
+  patient = h.patient;
+  own = h.own;
+  sems = h.sems;
+  starts = h.starts;
+  pages = h.pages;
+  absent_rise = h.absent_rise;
+  programs = omega (arith, length_push d.programs p);
+  each = All-push IsProgram d.programs p h.each program;
+  names = All-push (All (NamesDeclared d.mutexes d.sem_count d.cells d.program_count)) d.programs p h.names names;
+}
+
+pub reached-instr : (versions : ℕ) (m : Machine) (spaces : List SpaceView) (d : Draft) (len : ℕ) (instrs : List Instr) (i : Instr)
+    → IsReached versions (AtInstr m spaces d len instrs) → IsInRange i → JumpsBelow len i
+    → NamesDeclared d.mutexes d.sem_count d.cells d.program_count i → (length instrs + 1 ≡ len → i ≡ End)
+    → IsReached versions (after_instr m spaces d len (instrs ++ i ∷ []))
+reached-instr versions m spaces d len instrs i r range jump name last =
+    cond_both (length (instrs ++ i ∷ []) == len) (after_program m spaces (with_program d (instrs ++ i ∷ [])))
+    (AtInstr m spaces d len (instrs ++ i ∷ [])) (λ (q : Position). IsReached versions q)
+    (λ e. whole (eqb-true _ _ e))
+    (λ e. more (eqb-false _ _ e))
+  where
+    l : length (instrs ++ i ∷ []) ≡ length instrs + 1
+    l = length_push instrs i
+
+    whole : length (instrs ++ i ∷ []) ≡ len → IsReached versions (after_program m spaces (with_program d (instrs ++ i ∷ [])))
+    whole e =
+        reached-after_program versions m spaces (with_program d (instrs ++ i ∷ [])) r.0 r.1
+        (with_program-drafted m spaces d (instrs ++ i ∷ []) r.2 r.4
+        (whole_program d len instrs i r.5 range jump name (last (sym l ∙ e)) e) (begun_more d len instrs i r.5 range jump name).2)
+        r.3 (omega (arith, length_push d.programs (instrs ++ i ∷ [])))
+
+    more : (length (instrs ++ i ∷ []) ≡ len → ⊥) → IsReached versions (AtInstr m spaces d len (instrs ++ i ∷ []))
+    more ne =
+        let room : length instrs < len = r.5.room in
+        let all = begun_more d len instrs i r.5 range jump name in
+        (r.0, r.1, r.2, r.3, r.4, record { short = r.5.short; room = omega (arith, l); ranges = all.0; jumps = all.1; names = all.2 })
+
+pub reached-evict : (versions : ℕ) (m : Machine) (spaces : List SpaceView) (evictions : List Evict) (e : Evict)
+    → IsReached versions (AtEvict m spaces evictions) → IsEviction m.count e → length evictions < 4096
+    → ((d : Evict) → 0 < length evictions → IsBefore (get_or evictions (length evictions - 1) d) e)
+    → IsReached versions (AtEvict m spaces (evictions ++ e ∷ []))
+reached-evict versions m spaces evictions e r h few last = (
+  r.0,
+  r.1,
+  r.2,
+  record {
+    few = omega (arith, length_push evictions e);
+    each = All-push (IsEviction m.count) evictions e r.3.each h;
+    rise = λ k d b. rise-push IsBefore evictions e d (λ j. r.3.rise j d) (last d) k b;
+  },
+)
+
+one_turn : (m : Machine) (p : ProcNo) → p.0 < m.processors → AreTurns m (p ∷ [])
+one_turn m p h = record { few = omega arith; each = All-push (λ (q : ProcNo). q.0 < m.processors) [] p (All-nil _) h }
+
+pub reached-first_turn : (versions : ℕ) (m : Machine) (spaces : List SpaceView) (evictions : List Evict) (p : ProcNo)
+    → IsReached versions (AtEvict m spaces evictions) → p.0 < m.processors → IsReached versions (AtTurn m spaces evictions (p ∷ []))
+reached-first_turn versions m spaces evictions p r h = (r.0, r.1, r.2, r.3, one_turn m p h, omega arith)
+
+pub reached-turn : (versions : ℕ) (m : Machine) (spaces : List SpaceView) (evictions : List Evict) (turns : List ProcNo) (p : ProcNo)
+    → IsReached versions (AtTurn m spaces evictions turns) → p.0 < m.processors → length turns < 65536
+    → IsReached versions (AtTurn m spaces evictions (turns ++ p ∷ []))
+reached-turn versions m spaces evictions turns p r h few = (
+  r.0,
+  r.1,
+  r.2,
+  r.3,
+  record { few = omega (arith, length_push turns p); each = All-push (λ (q : ProcNo). q.0 < m.processors) turns p r.4.each h },
+  omega (arith, length_push turns p),
+)
+
+can_slice-below : (v s : ℕ) → CanSlice v s → s ≤ 1000000
+can_slice-below v s (inl h) = omega arith
+can_slice-below v s (inr (inl h)) = omega arith
+can_slice-below v s (inr (inr h)) = omega arith
+
+-- what was read is a workload
+whole_workload : (versions : ℕ) (m : Machine) (spaces : List SpaceView) (evictions : List Evict) (turns : List ProcNo) → IsMachine versions m
+    → AreSpaces m spaces → length spaces ≡ m.count → AreEvictions m evictions → AreTurns m turns → IsWorkload (workload m spaces evictions turns)
+whole_workload versions m spaces evictions turns k a c e t = record {
+  some_processor = k.processors.0;
+  few_processors = k.processors.1;
+  some_fetch = k.fetch.0;
+  short_fetch = k.fetch.1;
+  some_space = omega (arith, k.count.0);
+  few_spaces = omega (arith, k.count.1);
+  spaces = a.each;
+  few_evictions = e.few;
+  evictions = rw c e.each;
+  evictions_rise = e.rise;
+  few_turns = t.few;
+  turns = t.each;
+  slice = can_slice-below m.version m.slice k.slice;
+}
+
+pub reached-first_close : (versions : ℕ) (m : Machine) (spaces : List SpaceView) (evictions : List Evict)
+    → IsReached versions (AtEvict m spaces evictions) → IsReached versions (Closed (workload m spaces evictions []))
+reached-first_close versions m spaces evictions r = (
+  whole_workload versions m spaces evictions [] r.0 r.1 r.2 r.3 (record { few = omega arith; each = All-nil _ }),
+  omega (arith, version_is versions m spaces evictions [] r.0 r.1 r.2, r.0.version),
+)
+
+pub reached-close : (versions : ℕ) (m : Machine) (spaces : List SpaceView) (evictions : List Evict) (turns : List ProcNo)
+    → IsReached versions (AtTurn m spaces evictions turns) → IsReached versions (Closed (workload m spaces evictions turns))
+reached-close versions m spaces evictions turns r = (
+  whole_workload versions m spaces evictions turns r.0 r.1 r.2 r.3 r.4,
+  omega (arith, version_is versions m spaces evictions turns r.0 r.1 r.2, r.0.version),
+)
