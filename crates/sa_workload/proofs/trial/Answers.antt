@@ -1,0 +1,6 @@
+use Rattle.std.proofs.Common.{refl}
+use Rattle.sa_workload.proofs.Readings.{last_line-at_turn}
+use Rattle.sa_workload.proofs.trial.Goals as goal
+
+pub returns : goal.returns
+returns c = let h = last_line-at_turn in λ n p q line s r. refl
