@@ -1,2 +1,5 @@
 pub mod Words
 pub mod Readings
+pub mod Fronts
+pub mod ShownStep
+pub mod Before
