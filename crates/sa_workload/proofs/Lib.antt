@@ -3,3 +3,4 @@ pub mod Readings
 pub mod Fronts
 pub mod ShownStep
 pub mod Before
+pub mod Determined
