@@ -4,3 +4,4 @@ pub mod Fronts
 pub mod ShownStep
 pub mod Before
 pub mod Determined
+pub mod NextLine
