@@ -3,3 +3,10 @@ pub mod Keeping
 pub mod Reached
 pub mod Completion
 pub mod Following
+pub mod Words
+pub mod Readings
+pub mod Fronts
+pub mod ShownStep
+pub mod Before
+pub mod Determined
+pub mod NextLine

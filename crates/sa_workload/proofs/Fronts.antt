@@ -1,0 +1,64 @@
+-- Lists with one element more at the end: what holds of the whole holds of its front and of its last element.
+use Rattle.std.proofs.Common.{◌≡◌, ℕ, ◌+◌, ◌-◌, ◌<◌, ◌≤◌, ◌⊎◌, Bool, true, false, ◌&&◌, List, [], ◌∷◌, ◌++◌, length, get_or, slice_index, All, arith, refl, sym, ap, ◌∙◌, subst, subst₂, inl, inr, zero, suc, eqb, eq-eqb, ne_eqb, ◌≢◌, cond}
+use Rattle.std.specs.List.{AllAdjacentBelow, list_all}
+use Rattle.std.specs.List.Sorted.{IsStrictlyIncreasing}
+use Rattle.std.proofs.lemmas.List.{get_or_push, get_or_append_left, length_push, length-append}
+use Rattle.std.proofs.lemmas.List.Elements.{All-nil, All-cons, All-head, All-tail}
+use Rattle.std.proofs.lemmas.Bool.{cases_eq}
+
+-- the list has a last element
+pub record Pushed {X : Type 0} (xs : List X) : Type 0 where
+  pub front : List X
+  pub last : X
+  pub whole : xs ≡ front ++ last ∷ []
+
+pub split_last : {X : Type 0} (xs : List X) → (xs ≡ []) ⊎ Pushed xs
+split_last [] = inl refl
+split_last {X} (x ∷ xs) = inr (onto x xs (split_last xs))
+  where
+    onto : (x : X) (xs : List X) → (xs ≡ []) ⊎ Pushed xs → Pushed (x ∷ xs)
+    onto x xs (inl e) = record { front = []; last = x; whole = ap (λ (ys : List X). x ∷ ys) e }
+    onto x xs (inr p) = record { front = x ∷ p.front; last = p.last; whole = ap (λ (ys : List X). x ∷ ys) p.whole }
+
+pub not_empty : {X : Type 0} (xs : List X) → 1 ≤ length xs → Pushed xs
+not_empty {X} xs h = pick (split_last xs)
+  where
+    pick : (xs ≡ []) ⊎ Pushed xs → Pushed xs
+    pick (inl e) = absurd (omega (arith, ap length e))
+    pick (inr p) = p
+
+pub All-front : {X : Type 0} (P : X → Type 0) (xs : List X) (y : X) → All P (xs ++ y ∷ []) → All P xs
+All-front P xs y h = λ k d l. subst P (get_or_append_left xs (y ∷ []) d k l) (h k d (omega (arith, length_push xs y)))
+
+pub All-last : {X : Type 0} (P : X → Type 0) (xs : List X) (y : X) → All P (xs ++ y ∷ []) → P y
+All-last P xs y h = subst P (get_or_push xs y y (length xs) refl) (h (length xs) y (omega (arith, length_push xs y)))
+
+pub increasing-front : (xs : List ℕ) (y : ℕ) → IsStrictlyIncreasing (xs ++ y ∷ []) → IsStrictlyIncreasing xs
+increasing-front xs y h = λ k l.
+    let l' : k < length xs = omega arith in
+    subst₂ (λ (a b : ℕ). a < b) (get_or_append_left xs (y ∷ []) 0 k l') (get_or_append_left xs (y ∷ []) 0 (k + 1) l) (h k (omega (arith, length_push xs y)))
+
+pub adjacent-front : {X : Type 0} (R : X → X → Type 0) (xs : List X) (y : X) → AllAdjacentBelow R (xs ++ y ∷ []) (length (xs ++ y ∷ []))
+    → AllAdjacentBelow R xs (length xs)
+adjacent-front {X} R xs y h = λ k d l.
+    let l' : k < length xs = omega arith in
+    subst₂ (λ (a b : X). R a b) (get_or_append_left xs (y ∷ []) d k l') (get_or_append_left xs (y ∷ []) d (k + 1) l) (h k d (omega (arith, length_push xs y)))
+
+-- a test of each element of a list
+pub all_true : {X : Type 0} (f : X → ℕ) (n : ℕ) (xs : List X) → All (λ (x : X). f x ≡ n) xs → list_all (λ (x : X). eqb (f x) n) xs ≡ true
+all_true f n [] h = refl
+all_true {X} f n (x ∷ xs) h =
+    ap (λ (b : Bool). b && list_all (λ (x : X). eqb (f x) n) xs) (eq-eqb (f x) n (All-head (λ (x : X). f x ≡ n) x xs h))
+    ∙ all_true f n xs (All-tail (λ (x : X). f x ≡ n) x xs h)
+
+and_second : (a b : Bool) → (a && b) ≡ true → b ≡ true
+and_second true b h = h
+and_second false b h = absurd (cc h)
+
+pub true_all : {X : Type 0} (f : X → ℕ) (n : ℕ) (xs : List X) → list_all (λ (x : X). eqb (f x) n) xs ≡ true → All (λ (x : X). f x ≡ n) xs
+true_all {X} f n [] h = All-nil (λ (x : X). f x ≡ n)
+true_all {X} f n (x ∷ xs) h = by_test (cases_eq (f x) n) (true_all f n xs (and_second (eqb (f x) n) (list_all (λ (x : X). eqb (f x) n) xs) h))
+  where
+    by_test : (f x ≡ n) ⊎ (f x ≢ n) → All (λ (x : X). f x ≡ n) xs → All (λ (x : X). f x ≡ n) (x ∷ xs)
+    by_test (inl e) rest = All-cons (λ (x : X). f x ≡ n) x xs e rest
+    by_test (inr ne) rest = absurd (cc (ap (λ (b : Bool). b && list_all (λ (x : X). eqb (f x) n) xs) (ne_eqb (f x) n ne), h))
