@@ -1,4 +1,5 @@
 pub mod Next
+pub mod Cut
 pub mod Keeping
 pub mod Reached
 pub mod Completion

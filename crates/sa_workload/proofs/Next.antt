@@ -1,15 +1,24 @@
--- Which line leads on from a position, one lemma for each kind of line before those of the spaces; and the words of registers.
-use Rattle.std.proofs.Common.{◌≡◌, ◌≢◌, ℕ, ◌+◌, ◌<◌, ◌≤◌, ◌==◌, List, [], ◌∷◌, length, codes, decimal, subst, sym, ◌∙◌, ap, refl, inl, inr, arith, Bool, true, false, if◌then◌else◌}
-use Rattle.std.proofs.Common.{rules, get_or}
-use Rattle.std.proofs.lemmas.Bool.{cond_both, eqb-true, eqb-false, ne_eqb, cases_eq}
+-- Which line leads on from a position: one lemma for each kind of line; and the words of registers.
+use Rattle.std.proofs.Common.{◌≡◌, ◌≢◌, ℕ, ◌+◌, ◌-◌, ◌<◌, ◌≤◌, ◌==◌, List, [], ◌∷◌, ◌++◌, length, get_or, codes, decimal, subst, sym, ◌∙◌, ap, refl, inl, inr, arith, rules, Bool, true, false, Option, Some, None, slice_get, if◌then◌else◌}
+use Rattle.std.proofs.lemmas.Bool.{ne_eqb, and_from, le-leb}
 use Rattle.std.proofs.lemmas.Fmt.{decimal_digit}
+use Rattle.std.proofs.lemmas.Option.{slice_get-get_or}
+use Rattle.sa_base.specs.declared.number.ProcNo.{ProcNo}
 use Rattle.sa_instr.specs.declared.instr.Reg.{Reg}
 use Rattle.sa_instr.specs.declared.instr.Reg.TheVariants.{R0, R1, R2, R3, R4, R5, R6, R7}
-use Rattle.sa_instr.specs.Instr.{reg_number}
-use Rattle.sa_workload.specs.Text.{register}
-use Rattle.sa_workload.specs.Position.{Machine, Position, AtVersion, AtProcessors, AtFetch, AtSlice, AtSpaces, AtSpace, IsReached, CanSlice}
-use Rattle.sa_workload.specs.Stage.{IsNext}
-use Rattle.sa_workload.specs.Steps.{Steps, after_fetch, step_version, step_processors, step_fetch, step_slice, step_spaces}
+use Rattle.sa_instr.specs.declared.instr.Instr.{Instr}
+use Rattle.sa_instr.specs.declared.instr.Instr.TheVariants.{End}
+use Rattle.sa_instr.specs.declared.workload.Evict.{Evict}
+use Rattle.sa_instr.specs.Instr.{reg_number, IsInRange, JumpsBelow, NamesDeclared}
+use Rattle.sa_instr.specs.Space.{SpaceView}
+use Rattle.sa_instr.specs.Workload.{IsEviction, IsBefore}
+use Rattle.sa_workload.specs.Text.{register, instr_line, evict_line, turn_line}
+use Rattle.sa_workload.specs.Position.{Machine, Draft, Position, AtVersion, AtProcessors, AtFetch, AtSlice, AtSpaces, AtSpace, AtSem, AtAbsent, AtProgram, AtInstr, AtEvict, AtTurn, Closed, IsReached, draft_line}
+use Rattle.sa_workload.specs.Refused.{IsPagePlaced, IsEvictPlaced, last_of}
+use Rattle.sa_workload.specs.Stage.{IsNext, IsSpaceStart}
+use Rattle.sa_workload.specs.Steps.{Steps, with_sem, with_absent, after_fetch, after_sem, after_instr, workload, step_version, step_processors, step_fetch, step_slice, step_spaces, step_space, step_sem, step_absent, step_first_program, step_program, step_instr, step_evict, step_first_turn, step_turn, step_first_close, step_close}
+use Rattle.sa_workload.proofs.Fronts.{all_true}
+use Rattle.sa_workload.proofs.Reached.{reached-fetch, reached-slice, reached-spaces, IsSpaceLine, reached-space, reached-sem, reached-absent, reached-first_program, reached-program, reached-instr, reached-evict, reached-first_turn, reached-turn, reached-first_close, reached-close}
 
 number_below : (r : Reg) → reg_number r < 10
 number_below R0 = omega arith
@@ -43,40 +52,126 @@ pub next_processors : (v n : ℕ) (words : List (List ℕ)) → words ≡ codes 
     → IsNext (AtProcessors v) words (AtFetch v n)
 next_processors v n words e low high = record {
   steps = along _ _ _ words e (step_processors v n);
-  keeps = λ versions few h. (h.0, h.1, low, high)
+  keeps = λ versions few h. (h.0, h.1, low, high);
 }
-
-second : (v : ℕ) → 1 ≤ v → v ≢ 1 → 2 ≤ v
-second v low other = omega arith
-
-can_slice : (versions v s : ℕ) → versions ≤ 3 → 2 ≤ v → v ≤ versions → (if v == 3 then 0 else 1) ≤ s → s ≤ 1000000 → CanSlice v s
-can_slice versions v s few low high least most = elim (cases_eq v 3) [
-    | inl e ↦ inr (inr (e, most))
-    | inr other ↦ inr (inl (omega arith, subst (λ b. (if b then 0 else 1) ≤ s) (ne_eqb v 3 other) least, most))
-  ]
 
 pub next_fetch : (v n f : ℕ) (words : List (List ℕ)) → words ≡ codes "fetch" ∷ decimal f ∷ [] → 1 ≤ f → f ≤ 1000
     → IsNext (AtFetch v n) words (after_fetch v n f)
 next_fetch v n f words e low high = record {
   steps = along _ _ _ words e (step_fetch v n f);
-  keeps = λ versions few h. cond_both (v == 1) (AtSpaces v n f 0) (AtSlice v n f) (IsReached versions)
-      (λ t. (h.1, h.2, h.3, low, high, inl (eqb-true v 1 t, refl)))
-      (λ t. (second _ h.0 (eqb-false v 1 t), h.1, h.2, h.3, low, high))
+  keeps = λ versions few h. reached-fetch versions v n f h low high;
 }
 
 pub next_slice : (v n f s : ℕ) (words : List (List ℕ)) → words ≡ codes "slice" ∷ decimal s ∷ [] → (if v == 3 then 0 else 1) ≤ s → s ≤ 1000000
     → IsNext (AtSlice v n f) words (AtSpaces v n f s)
 next_slice v n f s words e low high = record {
   steps = along _ _ _ words e (step_slice v n f s);
-  keeps = λ versions few h. (h.1, h.2, h.3, h.4, h.5, can_slice versions v s few h.0 h.1 low high)
+  keeps = λ versions few h. reached-slice versions v n f s few h (λ other. subst (λ b. (if b then 0 else 1) ≤ s) (ne_eqb v 3 other) low) high;
 }
 
 pub next_spaces : (v n f s c : ℕ) (words : List (List ℕ)) → words ≡ codes "spaces" ∷ decimal c ∷ [] → 1 ≤ c → c ≤ 16
     → IsNext (AtSpaces v n f s) words (AtSpace (record { version = v; processors = n; fetch = f; slice = s; count = c }) [])
 next_spaces v n f s c words e low high = record {
   steps = along _ _ _ words e (step_spaces v n f s c);
-  keeps = λ versions few h. (
-    record { version = h.0; processors = (h.1, h.2); fetch = (h.3, h.4); slice = h.5; count = (low, high) },
-    record { few = omega arith; each = search rules; patient = λ _. search rules; own = λ _ none. absurd (omega arith) },
-    omega arith)
+  keeps = λ versions few h. reached-spaces versions v n f s c h low high;
+}
+
+space_line : (m : Machine) (spaces : List SpaceView) (d : Draft) → IsSpaceStart m spaces d → IsSpaceLine m spaces d
+space_line m spaces d h = record {
+  fresh = h.fresh;
+  priority = h.priority;
+  mutexes = h.mutexes;
+  sem_count = h.sem_count;
+  cells = h.cells;
+  program_count = h.program_count;
+  patience = h.patience.range;
+  patient = h.patience.patient;
+  own = λ v last all. h.patience.own v (and_from _ _ (le-leb _ _ (omega arith)) (all_true (λ (s : SpaceView). s.patience) 1 spaces all));
+}
+
+pub next_space : (m : Machine) (spaces : List SpaceView) (d : Draft) (words : List (List ℕ)) → words ≡ draft_line m.version d
+    → IsSpaceStart m spaces d → IsNext (AtSpace m spaces) words (after_sem m spaces d)
+next_space m spaces d words e h = record {
+  steps = along _ _ _ words e (step_space m spaces d h.fresh);
+  keeps = λ versions few r. reached-space versions m spaces d r (space_line m spaces d h)
+}
+
+pub next_sem : (m : Machine) (spaces : List SpaceView) (d : Draft) (n : ℕ) (words : List (List ℕ)) → words ≡ codes "sem" ∷ decimal n ∷ []
+    → n ≤ 1000000 → IsNext (AtSem m spaces d) words (after_sem m spaces (with_sem d n))
+next_sem m spaces d n words e high = record {
+  steps = along _ _ _ words e (step_sem m spaces d n);
+  keeps = λ versions few h. reached-sem versions m spaces d n h high;
+}
+
+above_last : (pages : List ℕ) (k : ℕ) → IsPagePlaced (last_of pages) k → 0 < length pages → get_or pages (length pages - 1) 0 < k
+above_last pages k h some = subst (λ (o : Option ℕ). IsPagePlaced o k) (slice_get-get_or pages (length pages - 1) 0 (omega arith)) h
+
+pub next_absent : (m : Machine) (spaces : List SpaceView) (d : Draft) (k : ℕ) (words : List (List ℕ)) → words ≡ codes "absent" ∷ decimal k ∷ []
+    → k ≤ 15 → IsPagePlaced (last_of d.absent) k → IsNext (AtAbsent m spaces d) words (AtAbsent m spaces (with_absent d k))
+next_absent m spaces d k words e high placed = record {
+  steps = along _ _ _ words e (step_absent m spaces d k);
+  keeps = λ versions few h. reached-absent versions m spaces d k h high (above_last d.absent k placed);
+}
+
+pub next_first_program : (m : Machine) (spaces : List SpaceView) (d : Draft) (len : ℕ) (words : List (List ℕ))
+    → words ≡ codes "program" ∷ decimal len ∷ [] → 1 ≤ len → len ≤ 4096 → IsNext (AtAbsent m spaces d) words (AtInstr m spaces d len [])
+next_first_program m spaces d len words e low high = record {
+  steps = along _ _ _ words e (step_first_program m spaces d len);
+  keeps = λ versions few h. reached-first_program versions m spaces d len h low high;
+}
+
+pub next_program : (m : Machine) (spaces : List SpaceView) (d : Draft) (len : ℕ) (words : List (List ℕ))
+    → words ≡ codes "program" ∷ decimal len ∷ [] → 1 ≤ len → len ≤ 4096 → IsNext (AtProgram m spaces d) words (AtInstr m spaces d len [])
+next_program m spaces d len words e low high = record {
+  steps = along _ _ _ words e (step_program m spaces d len);
+  keeps = λ versions few h. reached-program versions m spaces d len h low high;
+}
+
+pub next_instr : (m : Machine) (spaces : List SpaceView) (d : Draft) (len : ℕ) (instrs : List Instr) (i : Instr) (words : List (List ℕ))
+    → words ≡ instr_line i → IsInRange i → JumpsBelow len i → NamesDeclared d.mutexes d.sem_count d.cells d.program_count i
+    → (length instrs + 1 ≡ len → i ≡ End) → IsNext (AtInstr m spaces d len instrs) words (after_instr m spaces d len (instrs ++ i ∷ []))
+next_instr m spaces d len instrs i words e range jump name last = record {
+  steps = along _ _ _ words e (step_instr m spaces d len instrs i);
+  keeps = λ versions few h. reached-instr versions m spaces d len instrs i h range jump name last;
+}
+
+after_last : (evictions : List Evict) (e : Evict) → IsEvictPlaced (last_of evictions) e
+    → (d : Evict) → 0 < length evictions → IsBefore (get_or evictions (length evictions - 1) d) e
+after_last evictions e h d some = subst (λ (o : Option Evict). IsEvictPlaced o e) (slice_get-get_or evictions (length evictions - 1) d (omega arith)) h
+
+pub next_evict : (m : Machine) (spaces : List SpaceView) (evictions : List Evict) (e : Evict) (words : List (List ℕ)) → words ≡ evict_line e
+    → IsEviction m.count e → length evictions < 4096 → IsEvictPlaced (last_of evictions) e
+    → IsNext (AtEvict m spaces evictions) words (AtEvict m spaces (evictions ++ e ∷ []))
+next_evict m spaces evictions e words is range few placed = record {
+  steps = along _ _ _ words is (step_evict m spaces evictions e);
+  keeps = λ versions le h. reached-evict versions m spaces evictions e h range few (after_last evictions e placed);
+}
+
+pub next_first_turn : (m : Machine) (spaces : List SpaceView) (evictions : List Evict) (p : ProcNo) (words : List (List ℕ))
+    → words ≡ turn_line p → p.0 < m.processors → IsNext (AtEvict m spaces evictions) words (AtTurn m spaces evictions (p ∷ []))
+next_first_turn m spaces evictions p words e below = record {
+  steps = along _ _ _ words e (step_first_turn m spaces evictions p);
+  keeps = λ versions few h. reached-first_turn versions m spaces evictions p h below;
+}
+
+pub next_turn : (m : Machine) (spaces : List SpaceView) (evictions : List Evict) (turns : List ProcNo) (p : ProcNo) (words : List (List ℕ))
+    → words ≡ turn_line p → p.0 < m.processors → length turns < 65536
+    → IsNext (AtTurn m spaces evictions turns) words (AtTurn m spaces evictions (turns ++ p ∷ []))
+next_turn m spaces evictions turns p words e below room = record {
+  steps = along _ _ _ words e (step_turn m spaces evictions turns p);
+  keeps = λ versions few h. reached-turn versions m spaces evictions turns p h below room;
+}
+
+pub next_first_close : (m : Machine) (spaces : List SpaceView) (evictions : List Evict) (words : List (List ℕ)) → words ≡ codes "close" ∷ []
+    → IsNext (AtEvict m spaces evictions) words (Closed (workload m spaces evictions []))
+next_first_close m spaces evictions words e = record {
+  steps = along _ _ _ words e (step_first_close m spaces evictions);
+  keeps = λ versions few h. reached-first_close versions m spaces evictions h;
+}
+
+pub next_close : (m : Machine) (spaces : List SpaceView) (evictions : List Evict) (turns : List ProcNo) (words : List (List ℕ))
+    → words ≡ codes "close" ∷ [] → IsNext (AtTurn m spaces evictions turns) words (Closed (workload m spaces evictions turns))
+next_close m spaces evictions turns words e = record {
+  steps = along _ _ _ words e (step_close m spaces evictions turns);
+  keeps = λ versions few h. reached-close versions m spaces evictions turns h;
 }

@@ -1,12 +1,13 @@
 -- What a reader's stage says, as a position. Private functions of the reader cite this; no public clause does.
-use Rattle.std.specs.Prelude.{◌≡◌, ◌≢◌, ℕ, ◌+◌, ◌≤◌, List, length, All}
+use Rattle.std.specs.Prelude.{◌≡◌, ◌≢◌, ℕ, ◌≤◌, true, List}
 use Rattle.sa_workload.specs.declared.stage.Header.{Header}
 use Rattle.sa_workload.specs.declared.stage.SpaceDraft.{SpaceDraft}
 use Rattle.sa_workload.specs.declared.stage.Stage.{Stage}
 use Rattle.sa_workload.specs.declared.stage.Stage.TheVariants.{Version, Processors, Fetch, Slice, Spaces, Space, Sem, Absent, Program, Instr, Evict, Turn, Closed as Done}
 use Rattle.sa_instr.specs.Space.{SpaceView}
 use Rattle.sa_workload.specs.Position.{Machine, Draft, Position, AtVersion, AtProcessors, AtFetch, AtSlice, AtSpaces, AtSpace, AtSem, AtAbsent, AtProgram, AtInstr, AtEvict, AtTurn, Closed, IsReached}
-use Rattle.sa_workload.specs.Steps.{Steps}
+use Rattle.sa_workload.specs.Refused.{is_last_impatient}
+use Rattle.sa_workload.specs.Steps.{Steps, IsFresh}
 
 abbrev pub machine_of : Header → Machine
 machine_of h = record { version = h.version; processors = h.processors; fetch = h.fetch; slice = h.slice; count = h.count }
@@ -21,7 +22,7 @@ draft_of d = record {
   patience = d.patience;
   sems = d.sems.items;
   absent = d.absent.items;
-  programs = d.programs.items
+  programs = d.programs.items;
 }
 
 abbrev pub position_of : Stage → Position
@@ -48,4 +49,14 @@ pub record IsNext (p : Position) (line : List (List ℕ)) (q : Position) : Type 
 pub record IsPatience (m : Machine) (spaces : List SpaceView) (n : ℕ) : Type 0 where
   pub range : (1 ≤ n) × (n ≤ 1000)
   pub patient : m.version ≢ 3 → n ≡ 1
-  pub own : m.version ≡ 3 → length spaces + 1 ≡ m.count → All (λ (s : SpaceView). s.patience ≡ 1) spaces → n ≢ 1
+  pub own : m.version ≡ 3 → is_last_impatient m spaces ≡ true → n ≢ 1
+
+-- what the numbers of the first line of a space keep to, where nothing stands behind it yet
+pub record IsSpaceStart (m : Machine) (spaces : List SpaceView) (d : Draft) : Type 0 where
+  pub fresh : IsFresh d
+  pub priority : d.priority ≤ 7
+  pub mutexes : d.mutexes ≤ 64
+  pub sem_count : d.sem_count ≤ 64
+  pub cells : d.cells ≤ 64
+  pub program_count : (1 ≤ d.program_count) × (d.program_count ≤ 256)
+  pub patience : IsPatience m spaces d.patience

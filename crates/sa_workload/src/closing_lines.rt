@@ -1,8 +1,8 @@
 // The lines behind those of the spaces.
 
 use crate::cause::{Cause, Refusal};
+use crate::line_words::{Words, last_number};
 use crate::stage::{Header, Stage};
-use crate::words::{Words, last_number};
 use sa_base::{ProcNo, SpaceNo};
 use sa_instr::{Evict, SpaceDef, Workload};
 use std::alloc::Global;

@@ -1,9 +1,9 @@
 // The lines of instructions, and what their last one ends.
 
 use crate::cause::{Cause, Refusal};
+use crate::line_words::Words;
 use crate::operations::read_operation;
 use crate::stage::{Header, SpaceDraft, Stage, after_spaces};
-use crate::words::Words;
 use sa_instr::{Instr, Program, SpaceDef};
 use std::alloc::Global;
 

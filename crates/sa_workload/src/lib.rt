@@ -4,13 +4,13 @@
 mod cause;
 mod closing_lines;
 mod instr_lines;
+mod line_words;
 mod machine_lines;
 mod operations;
 mod positions;
 mod reader;
 mod space_lines;
 mod stage;
-mod words;
 
 pub use reader::{read, read_one};
 

@@ -6,8 +6,8 @@ ghost use Rattle.sa_workload.specs.Stage.{position_of, IsNext};
 ghost use Rattle.sa_workload.specs.Steps.{Steps};
 
 use crate::cause::Cause;
+use crate::line_words::{Words, keyword_and_number};
 use crate::stage::{Header, Stage, after_fetch};
-use crate::words::{Words, keyword_and_number};
 use std::alloc::Global;
 
 /// `workload V`, where texts of so many versions are read.

@@ -1,8 +1,8 @@
 // The instruction that a line writes.
 
 use crate::cause::Cause;
+use crate::line_words::Words;
 use crate::stage::SpaceDraft;
-use crate::words::Words;
 use sa_instr::{Instr, Reg};
 
 /// The first word of an instruction.

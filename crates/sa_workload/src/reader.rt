@@ -3,10 +3,10 @@
 use crate::cause::{Cause, Refusal};
 use crate::closing_lines::{read_evict_or_turn, read_turn_or_close};
 use crate::instr_lines::read_instr;
+use crate::line_words::Words;
 use crate::machine_lines::{read_fetch, read_processors, read_slice, read_spaces, read_version};
 use crate::space_lines::{read_absent_or_program, read_program, read_sem, read_space};
 use crate::stage::Stage;
-use crate::words::Words;
 use sa_base::Unread;
 use sa_instr::Workload;
 use sa_text::{Line, Lines};

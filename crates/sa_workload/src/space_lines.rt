@@ -1,14 +1,15 @@
 // The lines of a space but for its instructions.
 ghost use Rattle.std.specs.Prelude.{◌≡◌, ◌≢◌, ◌⊎◌, ℕ, ◌<◌, ◌≤◌, ◌==◌, ◌∷◌, ◌++◌, [], if◌then◌else◌, length, MatchResult, codes, decimal};
+ghost use Rattle.std.specs.List.{list_all};
+ghost use Rattle.sa_instr.specs.Space.{SpaceView};
 ghost use Rattle.sa_workload.specs.Bad.{within, IsFirstWrong};
-ghost use Rattle.sa_workload.specs.Position.{AtSpace, AtSem, AtAbsent, AtProgram, AtInstr, IsDraft, draft_line};
-ghost use Rattle.sa_workload.specs.Refused.{cause_number, IfBecause, is_last_impatient, patience_fields, space_fields, IsPagePlaced, IsPageMisplaced, IsAbsentRefused, IsRefusedBehind, IsRefused};
-ghost use Rattle.sa_workload.specs.Stage.{machine_of, draft_of, position_of, IsNext, IsPatience};
-ghost use Rattle.sa_workload.specs.Steps.{IsFresh};
+ghost use Rattle.sa_workload.specs.Position.{AtSpace, AtSem, AtAbsent, AtProgram, AtInstr, draft_line};
+ghost use Rattle.sa_workload.specs.Refused.{cause_number, IfBecause, is_last_impatient, patience_fields, space_fields, IsPagePlaced, IsPageMisplaced, last_of, IsAbsentRefused, IsRefusedBehind, IsRefused};
+ghost use Rattle.sa_workload.specs.Stage.{machine_of, draft_of, position_of, IsNext, IsPatience, IsSpaceStart};
 
 use crate::cause::{Cause, Refusal};
+use crate::line_words::{Words, keyword_and_number, last_number};
 use crate::stage::{Header, SpaceDraft, Stage, after_sem};
-use crate::words::{Words, keyword_and_number, last_number};
 use sa_instr::SpaceDef;
 use std::alloc::Global;
 
@@ -38,8 +39,7 @@ fn read_draft(
 ) -> Result<SpaceDraft, Cause>
     ensures { MatchResult result
         (λ draft. (codes "space" ∷ words.old ≡ draft_line header.now.version (draft_of draft) ++ words.new)
-        × IsFresh (draft_of draft)
-        × (length spaces.now < header.now.count → IsDraft (machine_of header.now) spaces.now (draft_of draft)))
+        × IsSpaceStart (machine_of header.now) spaces.now (draft_of draft))
         (λ cause. IsFirstWrong (space_fields (machine_of header.now) spaces.now) words.old (cause_number cause)) }
 {
     let priority = words.within(0, 7)?;
@@ -79,8 +79,14 @@ fn read_patience(header: &Header, spaces: &[SpaceDef], words: &mut Words) -> Res
 fn needs_patience(header: &Header, spaces: &[SpaceDef]) -> bool
     ensures { result ≡ is_last_impatient (machine_of header.now) spaces.now }
 {
-    spaces.len() + 1 >= usize::from(header.count)
-        && spaces.iter().all(|space| space.patience() == 1)
+    spaces.len() + 1 >= usize::from(header.count) && are_impatient(spaces)
+}
+
+/// Whether each of the spaces has patience 1.
+fn are_impatient(spaces: &[SpaceDef]) -> bool
+    ensures { result ≡ list_all (λ (s : SpaceView). s.patience == 1) spaces.now }
+{
+    spaces.iter().all(|space| space.patience() == 1)
 }
 
 /// `sem N`.
@@ -128,22 +134,24 @@ fn read_absent(
     ensures { MatchResult result
         (λ stage. IsNext (AtAbsent (machine_of header) spaces.items (draft_of draft)) (codes "absent" ∷ words.entry) (position_of stage))
         (λ refusal. IfBecause refusal (λ why.
-            IsFirstWrong (within 0 15 ∷ []) words.entry why ⊎ IsAbsentRefused draft.absent.items words.entry why)) }
+        IsFirstWrong (within 0 15 ∷ []) words.entry why ⊎ IsAbsentRefused draft.absent.items words.entry why)) }
 {
     let page = words.within(0, 15)? as u16;
-    in_order(draft.absent.last().copied(), page)?;
+    in_order(&draft.absent, page)?;
     words.end()?;
     draft.absent.push(page)?;
     Ok(Stage::Absent(header, spaces, draft))
 }
 
-/// The page is greater than the last, where there is one.
-fn in_order(last: Option<u16>, page: u16) -> Result<(), Cause>
-    ensures { MatchResult result (λ _. IsPagePlaced last page) (λ cause. IsPageMisplaced last page (cause_number cause)) }
+/// The page is greater than the last of these, where there is one.
+fn in_order(pages: &[u16], page: u16) -> Result<(), Cause>
+    ensures { MatchResult result
+        (λ _. IsPagePlaced (last_of pages.now) page)
+        (λ cause. IsPageMisplaced (last_of pages.now) page (cause_number cause)) }
 {
-    match last {
-        Some(last) if page == last => Err(Cause::Twice),
-        Some(last) if page < last => Err(Cause::OutOfRange),
+    match pages.last() {
+        Some(last) if page == *last => Err(Cause::Twice),
+        Some(last) if page < *last => Err(Cause::OutOfRange),
         _ => Ok(()),
     }
 }

@@ -1,7 +1,7 @@
 use Rattle.sa_instr.specs.declared.instr.Reg.TheVariants.{R0, R1, R2, R3, R4, R5, R6, R7}
 use Rattle.std.proofs.Common.{rules, arith}
 use Rattle.sa_workload.proofs.Next.{register_word, two_bytes}
-use Rattle.sa_workload.proofs.words.register_of.Goals as goal
+use Rattle.sa_workload.proofs.line_words.register_of.Goals as goal
 
 pub returns-in-r0 : goal.returns-in-r0
 returns-in-r0 c = register_word R0 _ (two_bytes _ _ _ (omega arith) (search rules) (search rules))
@@ -26,4 +26,3 @@ returns-in-r6 c = register_word R6 _ (two_bytes _ _ _ (omega arith) (search rule
 
 pub returns-in-r7 : goal.returns-in-r7
 returns-in-r7 c = register_word R7 _ (two_bytes _ _ _ (omega arith) (search rules) (search rules))
-
