@@ -1,5 +1,6 @@
 pub mod Next
 pub mod Cut
+pub mod Operands
 pub mod Keeping
 pub mod Reached
 pub mod Completion

@@ -1,6 +1,7 @@
 -- Which line leads on from a position: one lemma for each kind of line; and the words of registers.
 use Rattle.std.proofs.Common.{◌≡◌, ◌≢◌, ℕ, ◌+◌, ◌-◌, ◌<◌, ◌≤◌, ◌==◌, List, [], ◌∷◌, ◌++◌, length, get_or, codes, decimal, subst, sym, ◌∙◌, ap, refl, inl, inr, arith, rules, Bool, true, false, Option, Some, None, slice_get, if◌then◌else◌}
-use Rattle.std.proofs.lemmas.Bool.{ne_eqb, and_from, le-leb}
+use Rattle.std.proofs.lemmas.Bool.{ne_eqb, eq-eqb, and_from, le-leb, cond-true, cond-false}
+use Rattle.std.proofs.lemmas.List.{length_push}
 use Rattle.std.proofs.lemmas.Fmt.{decimal_digit}
 use Rattle.std.proofs.lemmas.Option.{slice_get-get_or}
 use Rattle.sa_base.specs.declared.number.ProcNo.{ProcNo}
@@ -10,15 +11,17 @@ use Rattle.sa_instr.specs.declared.instr.Instr.{Instr}
 use Rattle.sa_instr.specs.declared.instr.Instr.TheVariants.{End}
 use Rattle.sa_instr.specs.declared.workload.Evict.{Evict}
 use Rattle.sa_instr.specs.Instr.{reg_number, IsInRange, JumpsBelow, NamesDeclared}
-use Rattle.sa_instr.specs.Space.{SpaceView}
+use Rattle.sa_instr.specs.Program.{IsProgram}
+use Rattle.sa_instr.specs.Space.{SpaceView, IsSpace}
 use Rattle.sa_instr.specs.Workload.{IsEviction, IsBefore}
 use Rattle.sa_workload.specs.Text.{register, instr_line, evict_line, turn_line}
-use Rattle.sa_workload.specs.Position.{Machine, Draft, Position, AtVersion, AtProcessors, AtFetch, AtSlice, AtSpaces, AtSpace, AtSem, AtAbsent, AtProgram, AtInstr, AtEvict, AtTurn, Closed, IsReached, draft_line}
+use Rattle.sa_workload.specs.Position.{Machine, Draft, Position, AtVersion, AtProcessors, AtFetch, AtSlice, AtSpaces, AtSpace, AtSem, AtAbsent, AtProgram, AtInstr, AtEvict, AtTurn, Closed, IsReached, IsDraft, IsBegun, draft_line}
+use Rattle.sa_workload.specs.Operation.{IsAllowed}
 use Rattle.sa_workload.specs.Refused.{IsPagePlaced, IsEvictPlaced, last_of}
 use Rattle.sa_workload.specs.Stage.{IsNext, IsSpaceStart}
-use Rattle.sa_workload.specs.Steps.{Steps, with_sem, with_absent, after_fetch, after_sem, after_instr, workload, step_version, step_processors, step_fetch, step_slice, step_spaces, step_space, step_sem, step_absent, step_first_program, step_program, step_instr, step_evict, step_first_turn, step_turn, step_first_close, step_close}
+use Rattle.sa_workload.specs.Steps.{Steps, with_sem, with_absent, with_program, space_of_draft, after_fetch, after_sem, after_instr, after_program, workload, step_version, step_processors, step_fetch, step_slice, step_spaces, step_space, step_sem, step_absent, step_first_program, step_program, step_instr, step_evict, step_first_turn, step_turn, step_first_close, step_close}
 use Rattle.sa_workload.proofs.Fronts.{all_true}
-use Rattle.sa_workload.proofs.Reached.{reached-fetch, reached-slice, reached-spaces, IsSpaceLine, reached-space, reached-sem, reached-absent, reached-first_program, reached-program, reached-instr, reached-evict, reached-first_turn, reached-turn, reached-first_close, reached-close}
+use Rattle.sa_workload.proofs.Reached.{whole_space, whole_program, with_program-drafted, begun_more, reached-fetch, reached-slice, reached-spaces, IsSpaceLine, reached-space, reached-sem, reached-absent, reached-first_program, reached-program, reached-instr, reached-evict, reached-first_turn, reached-turn, reached-first_close, reached-close}
 
 number_below : (r : Reg) → reg_number r < 10
 number_below R0 = omega arith
@@ -175,3 +178,39 @@ next_close m spaces evictions turns words e = record {
   steps = along _ _ _ words e (step_close m spaces evictions turns);
   keeps = λ versions few h. reached-close versions m spaces evictions turns h;
 }
+
+-- an instruction that is not the last of its program
+pub next_instr_more : (m : Machine) (spaces : List SpaceView) (d : Draft) (len : ℕ) (instrs : List Instr) (i : Instr) (words : List (List ℕ))
+    → words ≡ instr_line i → IsAllowed d len i → length instrs + 1 ≢ len
+    → IsNext (AtInstr m spaces d len instrs) words (AtInstr m spaces d len (instrs ++ i ∷ []))
+next_instr_more m spaces d len instrs i words e h more =
+    let l : length (instrs ++ i ∷ []) ≡ length instrs + 1 = length_push instrs i in
+    subst (IsNext (AtInstr m spaces d len instrs) words)
+    (cond-false (length (instrs ++ i ∷ []) == len) _ _ (ne_eqb _ _ (λ whole. more (sym l ∙ whole))))
+    (next_instr m spaces d len instrs i words e h.range h.jump h.name (λ whole. absurd (more whole)))
+
+-- and the last one
+pub next_instr_last : (m : Machine) (spaces : List SpaceView) (d : Draft) (len : ℕ) (instrs : List Instr) (i : Instr) (words : List (List ℕ))
+    → words ≡ instr_line i → IsAllowed d len i → length instrs + 1 ≡ len → i ≡ End
+    → IsNext (AtInstr m spaces d len instrs) words (after_program m spaces (with_program d (instrs ++ i ∷ [])))
+next_instr_last m spaces d len instrs i words e h whole end =
+    let l : length (instrs ++ i ∷ []) ≡ length instrs + 1 = length_push instrs i in
+    subst (IsNext (AtInstr m spaces d len instrs) words)
+    (cond-true (length (instrs ++ i ∷ []) == len) _ _ (eq-eqb _ _ (l ∙ whole)))
+    (next_instr m spaces d len instrs i words e h.range h.jump h.name (λ _. end))
+
+-- the program that the last instruction ends
+pub program_ends : (d : Draft) (len : ℕ) (instrs : List Instr) (i : Instr) → IsBegun d len instrs → IsAllowed d len i
+    → length instrs + 1 ≡ len → i ≡ End → IsProgram (instrs ++ i ∷ [])
+program_ends d len instrs i begun h whole end =
+    whole_program d len instrs i begun h.range h.jump h.name end (length_push instrs i ∙ whole)
+
+-- and the space that the last program ends
+pub space_ends : (m : Machine) (spaces : List SpaceView) (d : Draft) (len : ℕ) (instrs : List Instr) (i : Instr) → IsDraft m spaces d
+    → length d.sems ≡ d.sem_count → length d.programs < d.program_count → IsBegun d len instrs → IsAllowed d len i → length instrs + 1 ≡ len
+    → i ≡ End → length d.programs + 1 ≡ d.program_count → IsSpace (space_of_draft (with_program d (instrs ++ i ∷ [])))
+space_ends m spaces d len instrs i draft sems room begun h whole end full =
+    whole_space m spaces (with_program d (instrs ++ i ∷ []))
+    (with_program-drafted m spaces d (instrs ++ i ∷ []) draft room (program_ends d len instrs i begun h whole end)
+    (begun_more d len instrs i begun h.range h.jump h.name).2)
+    sems (length_push d.programs (instrs ++ i ∷ []) ∙ full)

@@ -205,7 +205,7 @@ All-last P xs x h =
     subst P (get_or_push xs x x (length xs) refl) (h (length xs) x (omega arith))
 
 -- a draft with all its semaphores and programs is a space
-whole_space : (m : Machine) (spaces : List SpaceView) (d : Draft) → IsDraft m spaces d → length d.sems ≡ d.sem_count
+pub whole_space : (m : Machine) (spaces : List SpaceView) (d : Draft) → IsDraft m spaces d → length d.sems ≡ d.sem_count
     → length d.programs ≡ d.program_count → IsSpace (space_of_draft d)
 whole_space m spaces d h s p = record {
   priority = h.priority;
@@ -248,7 +248,7 @@ reached-after_program versions m spaces d k a h s one =
     (k, a, h, s, one, omega arith))
 
 -- the instructions begun and one more
-begun_more : (d : Draft) (len : ℕ) (instrs : List Instr) (i : Instr) → IsBegun d len instrs → IsInRange i → JumpsBelow len i
+pub begun_more : (d : Draft) (len : ℕ) (instrs : List Instr) (i : Instr) → IsBegun d len instrs → IsInRange i → JumpsBelow len i
     → NamesDeclared d.mutexes d.sem_count d.cells d.program_count i
     → All IsInRange (instrs ++ i ∷ []) × All (JumpsBelow len) (instrs ++ i ∷ [])
     × All (NamesDeclared d.mutexes d.sem_count d.cells d.program_count) (instrs ++ i ∷ [])
@@ -259,7 +259,7 @@ begun_more d len instrs i h range jump name = (
 )
 
 -- and where they are all, the last of them `end`, they are a program
-whole_program : (d : Draft) (len : ℕ) (instrs : List Instr) (i : Instr) → IsBegun d len instrs → IsInRange i → JumpsBelow len i
+pub whole_program : (d : Draft) (len : ℕ) (instrs : List Instr) (i : Instr) → IsBegun d len instrs → IsInRange i → JumpsBelow len i
     → NamesDeclared d.mutexes d.sem_count d.cells d.program_count i → i ≡ End → length (instrs ++ i ∷ []) ≡ len → IsProgram (instrs ++ i ∷ [])
 whole_program d len instrs i h range jump name last e =
     let l : length (instrs ++ i ∷ []) ≡ length instrs + 1 = length_push instrs i in
@@ -274,7 +274,7 @@ whole_program d len instrs i h range jump name last e =
       ranges = more.0;
     }
 
-with_program-drafted : (m : Machine) (spaces : List SpaceView) (d : Draft) (p : List Instr) → IsDraft m spaces d
+pub with_program-drafted : (m : Machine) (spaces : List SpaceView) (d : Draft) (p : List Instr) → IsDraft m spaces d
     → length d.programs < d.program_count → IsProgram p → All (NamesDeclared d.mutexes d.sem_count d.cells d.program_count) p
     → IsDraft m spaces (with_program d p)
 with_program-drafted m spaces d p h room program names = record {

@@ -60,3 +60,7 @@ pub record IsSpaceStart (m : Machine) (spaces : List SpaceView) (d : Draft) : Ty
   pub cells : d.cells ≤ 64
   pub program_count : (1 ≤ d.program_count) × (d.program_count ≤ 256)
   pub patience : IsPatience m spaces d.patience
+
+-- what a reader of some version keeps
+abbrev pub IsSound : Position → Type 0
+IsSound p = (versions : ℕ) × (versions ≤ 3) × IsReached versions p

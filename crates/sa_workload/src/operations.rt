@@ -1,14 +1,33 @@
 // The instruction that a line writes.
+ghost use Rattle.std.specs.Prelude.{◌≡◌, ◌∷◌, ◌++◌, MatchOption, MatchResult, Contains};
+ghost use Rattle.sa_workload.specs.Text.{register, instr_line};
+ghost use Rattle.sa_workload.specs.Bad.{instr_words, IsFirstWrong};
+ghost use Rattle.sa_workload.specs.Operation.{word_of, register_word_of, operands_of, behind_register, IsAllowed, IsOperationRefused};
+ghost use Rattle.sa_workload.specs.Refused.{cause_number};
+ghost use Rattle.sa_workload.specs.Stage.{draft_of};
 
 use crate::cause::Cause;
 use crate::line_words::Words;
 use crate::stage::SpaceDraft;
 use sa_instr::{Instr, Reg};
 
-/// The first word of an instruction.
+/// What the first word of an instruction names.
 #[derive(Clone, Copy)]
 enum Operation {
     Compute,
+    Lock,
+    Unlock,
+    Wait,
+    Signal,
+    Io,
+    Touch,
+    End,
+    OnRegister(RegisterOperation),
+}
+
+/// An operation whose first operand is a register.
+#[derive(Clone, Copy)]
+enum RegisterOperation {
     Set,
     Add,
     Sub,
@@ -18,28 +37,14 @@ enum Operation {
     Out,
     Fork,
     Join,
-    Lock,
-    Unlock,
-    Wait,
-    Signal,
-    Io,
-    Touch,
-    End,
 }
 
-/// The operation of this word; `None` exactly where there is none.
-fn operation_of(word: &[u8]) -> Option<Operation> {
+/// The operation of this word; `None` exactly where it has none.
+fn operation_of(word: &[u8]) -> Option<Operation>
+    ensures { MatchOption result (¬ Contains instr_words word.now) (λ operation. word.now ≡ word_of operation) }
+{
     match word {
         b"compute" => Some(Operation::Compute),
-        b"set" => Some(Operation::Set),
-        b"add" => Some(Operation::Add),
-        b"sub" => Some(Operation::Sub),
-        b"jnz" => Some(Operation::Jnz),
-        b"load" => Some(Operation::Load),
-        b"store" => Some(Operation::Store),
-        b"out" => Some(Operation::Out),
-        b"fork" => Some(Operation::Fork),
-        b"join" => Some(Operation::Join),
         b"lock" => Some(Operation::Lock),
         b"unlock" => Some(Operation::Unlock),
         b"wait" => Some(Operation::Wait),
@@ -47,6 +52,15 @@ fn operation_of(word: &[u8]) -> Option<Operation> {
         b"io" => Some(Operation::Io),
         b"touch" => Some(Operation::Touch),
         b"end" => Some(Operation::End),
+        b"set" => Some(Operation::OnRegister(RegisterOperation::Set)),
+        b"add" => Some(Operation::OnRegister(RegisterOperation::Add)),
+        b"sub" => Some(Operation::OnRegister(RegisterOperation::Sub)),
+        b"jnz" => Some(Operation::OnRegister(RegisterOperation::Jnz)),
+        b"load" => Some(Operation::OnRegister(RegisterOperation::Load)),
+        b"store" => Some(Operation::OnRegister(RegisterOperation::Store)),
+        b"out" => Some(Operation::OnRegister(RegisterOperation::Out)),
+        b"fork" => Some(Operation::OnRegister(RegisterOperation::Fork)),
+        b"join" => Some(Operation::OnRegister(RegisterOperation::Join)),
         _ => None,
     }
 }
@@ -56,9 +70,17 @@ pub(crate) fn read_operation(
     draft: &SpaceDraft,
     len: u16,
     words: &mut Words,
-) -> Result<Instr, Cause> {
-    let word = words.next().ok_or(Cause::BadWord)?;
-    let operation = operation_of(word).ok_or(Cause::BadWord)?;
+) -> Result<Instr, Cause>
+    ensures { MatchResult result
+        (λ instr. (words.old ≡ instr_line instr ++ words.new) × IsAllowed (draft_of draft.now) len instr)
+        (λ cause. IsOperationRefused (draft_of draft.now) len words.old (cause_number cause)) }
+{
+    let Some(word) = words.next() else {
+        return Err(Cause::BadWord);
+    };
+    let Some(operation) = operation_of(word) else {
+        return Err(Cause::BadWord);
+    };
     read_operands(operation, draft, len, words)
 }
 
@@ -68,40 +90,49 @@ fn read_operands(
     draft: &SpaceDraft,
     len: u16,
     words: &mut Words,
-) -> Result<Instr, Cause> {
+) -> Result<Instr, Cause>
+    ensures { MatchResult result
+        (λ instr. (word_of operation ∷ words.old ≡ instr_line instr ++ words.new) × IsAllowed (draft_of draft.now) len instr)
+        (λ cause. IsFirstWrong (operands_of (draft_of draft.now) len operation) words.old (cause_number cause)) }
+{
     match operation {
         Operation::Compute => Ok(Instr::Compute),
-        Operation::End => Ok(Instr::End),
         Operation::Lock => Ok(Instr::Lock(words.declared(draft.mutexes)?)),
         Operation::Unlock => Ok(Instr::Unlock(words.declared(draft.mutexes)?)),
         Operation::Wait => Ok(Instr::Wait(words.declared(draft.sem_count)?)),
         Operation::Signal => Ok(Instr::Signal(words.declared(draft.sem_count)?)),
         Operation::Io => Ok(Instr::Io(words.within(1, 1_000_000)? as u32)),
         Operation::Touch => Ok(Instr::Touch(words.within(2, 15)? as u16)),
-        _ => {
+        Operation::End => Ok(Instr::End),
+        Operation::OnRegister(operation) => {
             let register = words.register()?;
-            read_second(operation, register, draft, len, words)
+            read_behind_register(operation, register, draft, len, words)
         }
     }
 }
 
 /// The instruction of an operation, of the register behind it, and of the words behind that.
-fn read_second(
-    operation: Operation,
-    register: Reg,
+fn read_behind_register(
+    operation: RegisterOperation,
+    reg: Reg,
     draft: &SpaceDraft,
     len: u16,
     words: &mut Words,
-) -> Result<Instr, Cause> {
+) -> Result<Instr, Cause>
+    ensures { MatchResult result
+        (λ instr. (register_word_of operation ∷ register reg ∷ words.old ≡ instr_line instr ++ words.new)
+        × IsAllowed (draft_of draft.now) len instr)
+        (λ cause. IsFirstWrong (behind_register (draft_of draft.now) len operation) words.old (cause_number cause)) }
+{
     match operation {
-        Operation::Set => Ok(Instr::Set(register, words.within(0, u64::MAX)?)),
-        Operation::Add => Ok(Instr::Add(register, words.register()?)),
-        Operation::Sub => Ok(Instr::Sub(register, words.register()?)),
-        Operation::Jnz => Ok(Instr::Jnz(register, words.target(len)?)),
-        Operation::Load => Ok(Instr::Load(register, words.declared(draft.cells)?)),
-        Operation::Store => Ok(Instr::Store(register, words.declared(draft.cells)?)),
-        Operation::Fork => Ok(Instr::Fork(register, words.declared(draft.program_count)?)),
-        Operation::Join => Ok(Instr::Join(register)),
-        _ => Ok(Instr::Out(register)),
+        RegisterOperation::Set => Ok(Instr::Set(reg, words.within(0, u64::MAX)?)),
+        RegisterOperation::Add => Ok(Instr::Add(reg, words.register()?)),
+        RegisterOperation::Sub => Ok(Instr::Sub(reg, words.register()?)),
+        RegisterOperation::Jnz => Ok(Instr::Jnz(reg, words.target(len)?)),
+        RegisterOperation::Load => Ok(Instr::Load(reg, words.declared(draft.cells)?)),
+        RegisterOperation::Store => Ok(Instr::Store(reg, words.declared(draft.cells)?)),
+        RegisterOperation::Out => Ok(Instr::Out(reg)),
+        RegisterOperation::Fork => Ok(Instr::Fork(reg, words.declared(draft.program_count)?)),
+        RegisterOperation::Join => Ok(Instr::Join(reg)),
     }
 }
