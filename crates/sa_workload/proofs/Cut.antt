@@ -1,12 +1,14 @@
 -- The fields of a line, cut one after another: what is right, what is refused, and words that are one too many.
 use Rattle.std.proofs.Common.{◌≡◌, ◌≢◌, ◌⊎◌, ℕ, ◌+◌, ◌^◌, ◌<◌, ◌≤◌, ◌==◌, ◌&&◌, nat_le, List, [], ◌∷◌, ◌++◌, length, codes, decimal, subst, sym, ◌∙◌, ap, refl, inl, inr, arith, rules, Bool, true, false, All, if◌then◌else◌}
 use Rattle.std.proofs.lemmas.Bool.{and_from, le-leb, lt-ltb, eq-eqb, eqb-true}
+use Rattle.sa_base.specs.declared.number.ProcNo.{ProcNo}
+use Rattle.sa_instr.specs.declared.workload.Evict.{Evict}
 use Rattle.sa_instr.specs.Space.{SpaceView}
 use Rattle.sa_workload.specs.declared.cause.Refusal.{Refusal}
 use Rattle.sa_workload.specs.declared.cause.Refusal.TheVariants.{Because, OutOfMemory}
 use Rattle.sa_workload.specs.Bad.{Field, within, declared, IsRightFor, IsFirstWrong, AreRight}
 use Rattle.sa_workload.specs.Position.{Machine, Draft, draft_line}
-use Rattle.sa_workload.specs.Refused.{cause_number, IfBecause, target, IsAbsentRefused, IsAbsentOrProgramRefused, IsRefusedBehind, IsLineRefused, is_last_impatient, patience_fields, space_fields}
+use Rattle.sa_workload.specs.Refused.{cause_number, IfBecause, target, IsAbsentRefused, IsAbsentOrProgramRefused, IsRefusedBehindEvict, IsRefusedBehindTurn, IsEvictOrTurnRefused, IsTurnOrCloseRefused, IsRefusedBehind, IsLineRefused, is_last_impatient, patience_fields, space_fields}
 use Rattle.sa_workload.specs.Stage.{IsPatience, IsSpaceStart}
 
 -- the fields have their words, right, and these follow
@@ -47,8 +49,9 @@ patience_read m spaces n least words rest v e l low high = (
   record {
     range = (positive (is_last_impatient m spaces) l, high);
     patient = λ other. absurd (other v);
-    own = λ _ t one. two t one
-  })
+    own = λ _ t one. two t one;
+  },
+)
   where
     positive : (b : Bool) → least ≡ (if b then 2 else 1) → 1 ≤ n
     positive true h = omega arith
@@ -66,11 +69,20 @@ right_space : (m : Machine) (spaces : List SpaceView) (d : Draft) (rest : List (
     rest
 right_space m spaces d rest h = (
   right_within 0 7 d.priority (omega arith) h.priority (omega arith),
-  (right_within 0 64 d.mutexes (omega arith) h.mutexes (omega arith),
-  (right_within 0 64 d.sem_count (omega arith) h.sem_count (omega arith),
-  (right_within 0 64 d.cells (omega arith) h.cells (omega arith),
-  (right_within 1 256 d.program_count h.program_count.0 h.program_count.1 (omega arith),
-  last (m.version == 3) (is_last_impatient m spaces) (λ e. h.patience.own (eqb-true m.version 3 e)))))))
+  (
+    right_within 0 64 d.mutexes (omega arith) h.mutexes (omega arith),
+    (
+      right_within 0 64 d.sem_count (omega arith) h.sem_count (omega arith),
+      (
+        right_within 0 64 d.cells (omega arith) h.cells (omega arith),
+        (
+          right_within 1 256 d.program_count h.program_count.0 h.program_count.1 (omega arith),
+          last (m.version == 3) (is_last_impatient m spaces) (λ e. h.patience.own (eqb-true m.version 3 e)),
+        ),
+      ),
+    ),
+  ),
+)
   where
     last : (b i : Bool) → (b ≡ true → i ≡ true → d.patience ≢ 1)
         → AreRead (if b then within (if i then 2 else 1) 1000 ∷ [] else []) ((if b then decimal d.patience ∷ [] else []) ++ rest) rest
@@ -105,3 +117,15 @@ program_refused pages words rest why e h = subst (λ w. IsAbsentOrProgramRefused
 -- the first word of a line, read byte by byte
 pub first_is : (words rest : List (List ℕ)) (word keyword : List ℕ) → words ≡ word ∷ rest → word ≡ keyword → words ≡ keyword ∷ rest
 first_is words rest word keyword e k = e ∙ ap (λ w. w ∷ rest) k
+
+pub evict_refused : (m : Machine) (evictions : List Evict) (words rest : List (List ℕ)) (why : ℕ) → words ≡ codes "evict" ∷ rest
+    → IsRefusedBehindEvict m evictions rest why → IsEvictOrTurnRefused m evictions words why
+evict_refused m evictions words rest why e h = subst (λ w. IsEvictOrTurnRefused m evictions w why) (sym e) (inr (inl (refl, h)))
+
+pub first_turn_refused : (m : Machine) (evictions : List Evict) (words rest : List (List ℕ)) (why : ℕ) → words ≡ codes "turn" ∷ rest
+    → IsRefusedBehindTurn m [] rest why → IsEvictOrTurnRefused m evictions words why
+first_turn_refused m evictions words rest why e h = subst (λ w. IsEvictOrTurnRefused m evictions w why) (sym e) (inr (inr (inl (refl, h))))
+
+pub turn_refused : (m : Machine) (turns : List ProcNo) (words rest : List (List ℕ)) (why : ℕ) → words ≡ codes "turn" ∷ rest
+    → IsRefusedBehindTurn m turns rest why → IsTurnOrCloseRefused m turns words why
+turn_refused m turns words rest why e h = subst (λ w. IsTurnOrCloseRefused m turns w why) (sym e) (inr (inl (refl, h)))

@@ -18,7 +18,7 @@ use Rattle.sa_workload.specs.Text.{register, instr_line, evict_line, turn_line}
 use Rattle.sa_workload.specs.Position.{Machine, Draft, Position, AtVersion, AtProcessors, AtFetch, AtSlice, AtSpaces, AtSpace, AtSem, AtAbsent, AtProgram, AtInstr, AtEvict, AtTurn, Closed, IsReached, IsDraft, IsBegun, draft_line}
 use Rattle.sa_workload.specs.Operation.{IsAllowed}
 use Rattle.sa_workload.specs.Refused.{IsPagePlaced, IsEvictPlaced, last_of}
-use Rattle.sa_workload.specs.Stage.{IsNext, IsSpaceStart}
+use Rattle.sa_workload.specs.Stage.{IsNext, IsSpaceStart, GoesOn}
 use Rattle.sa_workload.specs.Steps.{Steps, with_sem, with_absent, with_program, space_of_draft, after_fetch, after_sem, after_instr, after_program, workload, step_version, step_processors, step_fetch, step_slice, step_spaces, step_space, step_sem, step_absent, step_first_program, step_program, step_instr, step_evict, step_first_turn, step_turn, step_first_close, step_close}
 use Rattle.sa_workload.proofs.Fronts.{all_true}
 use Rattle.sa_workload.proofs.Reached.{whole_space, whole_program, with_program-drafted, begun_more, reached-fetch, reached-slice, reached-spaces, IsSpaceLine, reached-space, reached-sem, reached-absent, reached-first_program, reached-program, reached-instr, reached-evict, reached-first_turn, reached-turn, reached-first_close, reached-close}
@@ -96,7 +96,7 @@ pub next_space : (m : Machine) (spaces : List SpaceView) (d : Draft) (words : Li
     → IsSpaceStart m spaces d → IsNext (AtSpace m spaces) words (after_sem m spaces d)
 next_space m spaces d words e h = record {
   steps = along _ _ _ words e (step_space m spaces d h.fresh);
-  keeps = λ versions few r. reached-space versions m spaces d r (space_line m spaces d h)
+  keeps = λ versions few r. reached-space versions m spaces d r (space_line m spaces d h);
 }
 
 pub next_sem : (m : Machine) (spaces : List SpaceView) (d : Draft) (n : ℕ) (words : List (List ℕ)) → words ≡ codes "sem" ∷ decimal n ∷ []
@@ -214,3 +214,8 @@ space_ends m spaces d len instrs i draft sems room begun h whole end full =
     (with_program-drafted m spaces d (instrs ++ i ∷ []) draft room (program_ends d len instrs i begun h whole end)
     (begun_more d len instrs i begun h.range h.jump h.name).2)
     sems (length_push d.programs (instrs ++ i ∷ []) ∙ full)
+
+-- a reader goes on along a step that keeps what it keeps
+pub goes_on : (versions : ℕ) (p : Position) (line : List (List ℕ)) (q : Position) → versions ≤ 3 → IsReached versions p → IsNext p line q
+    → GoesOn versions p line q
+goes_on versions p line q few r h = (h.steps, h.keeps versions few r)

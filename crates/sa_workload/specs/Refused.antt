@@ -1,20 +1,25 @@
 -- Why a line is refused at a position. Private functions of the reader cite this; no public clause does.
-use Rattle.std.specs.Prelude.{◌≡◌, ◌≢◌, ◌⊎◌, ℕ, ◌+◌, ◌-◌, ◌^◌, ◌<◌, ◌≤◌, ◌==◌, ⊤, nat_lt, nat_le, ◌&&◌, if◌then◌else◌, Bool, true, List, [], ◌∷◌, length, Option, Some, None, unwrap_or, Contains, slice_get, codes, decimal}
+use Rattle.std.specs.Prelude.{◌≡◌, ◌≢◌, ◌⊎◌, ℕ, ◌+◌, ◌-◌, ◌^◌, ◌<◌, ◌≤◌, ◌==◌, ⊤, nat_lt, nat_le, ◌&&◌, if◌then◌else◌, Bool, true, false, List, [], ◌∷◌, length, Option, Some, None, unwrap_or, Contains, slice_get, codes, decimal}
 use Rattle.std.specs.Map.{lookup}
 use Rattle.std.specs.List.{list_all}
 use Rattle.std.specs.Str.{bytes_eq}
 use Rattle.sa_base.specs.declared.number.ProcNo.{ProcNo}
+use Rattle.sa_base.specs.declared.refusal.Bad.{Bad}
+use Rattle.sa_base.specs.declared.refusal.Unread.{Unread}
+use Rattle.sa_base.specs.declared.refusal.Unread.TheVariants.{Bad as refused, OutOfMemory as memory}
 use Rattle.sa_instr.specs.declared.instr.Instr.{Instr}
 use Rattle.sa_instr.specs.declared.instr.Instr.TheVariants.{End}
 use Rattle.sa_instr.specs.declared.workload.Evict.{Evict}
 use Rattle.sa_instr.specs.Space.{SpaceView}
 use Rattle.sa_instr.specs.Workload.{IsEviction, IsBefore}
+use Rattle.sa_text.specs.LineText.{LineText}
+use Rattle.sa_text.specs.Pieces.{pieces_of}
 use Rattle.sa_workload.specs.declared.cause.Cause.{Cause}
 use Rattle.sa_workload.specs.declared.cause.Cause.TheVariants.{NotAscii, BadWord, BadNumber, OutOfRange, Twice, NoSuchName, BadTarget, TooMany, Missing}
 use Rattle.sa_workload.specs.declared.cause.Refusal.{Refusal}
 use Rattle.sa_workload.specs.declared.cause.Refusal.TheVariants.{Because, OutOfMemory}
 use Rattle.sa_workload.specs.Text.{instr_line}
-use Rattle.sa_workload.specs.Bad.{Field, Register, Number, within, declared, instr_words, IsWrongFor, IsFirstWrong, AreRight}
+use Rattle.sa_workload.specs.Bad.{Field, Register, Number, within, declared, instr_words, IsWrongFor, IsFirstWrong, AreRight, IsPrinted}
 use Rattle.sa_workload.specs.Position.{Machine, Draft, Position, AtVersion, AtProcessors, AtFetch, AtSlice, AtSpaces, AtSpace, AtSem, AtAbsent, AtProgram, AtInstr, AtEvict, AtTurn, Closed}
 
 -- the number of a cause
@@ -187,3 +192,20 @@ IsRefused versions (AtInstr m spaces d len instrs) words why = IsInstrRefused d 
 IsRefused versions (AtEvict m spaces evictions) words why = IsEvictOrTurnRefused m evictions words why
 IsRefused versions (AtTurn m spaces evictions turns) words why = IsTurnOrCloseRefused m turns words why
 IsRefused versions (Closed w) words why = why ≡ 2
+
+-- the line is refused at the position: another byte than printed ones, no line feed, or its words
+abbrev pub IsLineBad : ℕ → Position → LineText → ℕ → Type 0
+IsLineBad versions p line why =
+    ((¬ IsPrinted line.bytes) × (why ≡ 1))
+    ⊎ (IsPrinted line.bytes
+    × (((line.ended ≡ false) × (why ≡ 9)) ⊎ ((line.ended ≡ true) × IsRefused versions p (pieces_of line.bytes) why)))
+
+-- what holds of a refusal that is no want of memory
+abbrev pub IfBad : Unread → (Bad → Type 0) → Type 0
+IfBad (refused bad) P = P bad
+IfBad memory P = ⊤
+
+-- the refusal of the line of this number
+abbrev pub unread_at : ℕ → Refusal → Unread
+unread_at line (Because cause) = refused (record { line = line; why = cause_number cause })
+unread_at line OutOfMemory = memory

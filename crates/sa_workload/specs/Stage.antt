@@ -2,8 +2,10 @@
 use Rattle.std.specs.Prelude.{◌≡◌, ◌≢◌, ℕ, ◌≤◌, true, List}
 use Rattle.sa_workload.specs.declared.stage.Header.{Header}
 use Rattle.sa_workload.specs.declared.stage.SpaceDraft.{SpaceDraft}
+use Rattle.sa_workload.specs.declared.stage.MachineStage.{MachineStage}
+use Rattle.sa_workload.specs.declared.stage.MachineStage.TheVariants.{Version, Processors, Fetch, Slice, Spaces}
 use Rattle.sa_workload.specs.declared.stage.Stage.{Stage}
-use Rattle.sa_workload.specs.declared.stage.Stage.TheVariants.{Version, Processors, Fetch, Slice, Spaces, Space, Sem, Absent, Program, Instr, Evict, Turn, Closed as Done}
+use Rattle.sa_workload.specs.declared.stage.Stage.TheVariants.{Machine as BeforeSpaces, Space, Sem, Absent, Program, Instr, Evict, Turn, Closed as Done}
 use Rattle.sa_instr.specs.Space.{SpaceView}
 use Rattle.sa_workload.specs.Position.{Machine, Draft, Position, AtVersion, AtProcessors, AtFetch, AtSlice, AtSpaces, AtSpace, AtSem, AtAbsent, AtProgram, AtInstr, AtEvict, AtTurn, Closed, IsReached}
 use Rattle.sa_workload.specs.Refused.{is_last_impatient}
@@ -25,12 +27,15 @@ draft_of d = record {
   programs = d.programs.items;
 }
 
+abbrev pub machine_position : MachineStage → Position
+machine_position Version = AtVersion
+machine_position (Processors version) = AtProcessors version
+machine_position (Fetch version processors) = AtFetch version processors
+machine_position (Slice version processors fetch) = AtSlice version processors fetch
+machine_position (Spaces version processors fetch slice) = AtSpaces version processors fetch slice
+
 abbrev pub position_of : Stage → Position
-position_of Version = AtVersion
-position_of (Processors version) = AtProcessors version
-position_of (Fetch version processors) = AtFetch version processors
-position_of (Slice version processors fetch) = AtSlice version processors fetch
-position_of (Spaces version processors fetch slice) = AtSpaces version processors fetch slice
+position_of (BeforeSpaces stage) = machine_position stage
 position_of (Space h spaces) = AtSpace (machine_of h) spaces.items
 position_of (Sem h spaces d) = AtSem (machine_of h) spaces.items (draft_of d)
 position_of (Absent h spaces d) = AtAbsent (machine_of h) spaces.items (draft_of d)
@@ -64,3 +69,7 @@ pub record IsSpaceStart (m : Machine) (spaces : List SpaceView) (d : Draft) : Ty
 -- what a reader of some version keeps
 abbrev pub IsSound : Position → Type 0
 IsSound p = (versions : ℕ) × (versions ≤ 3) × IsReached versions p
+
+-- a reader of so many versions goes on behind the line
+abbrev pub GoesOn : ℕ → Position → List (List ℕ) → Position → Type 0
+GoesOn versions p line q = Steps p line q × IsReached versions q

@@ -1,6 +1,7 @@
 // Why a line is refused, before it is known which line it is.
 ghost use Rattle.std.specs.Prelude.{◌≡◌, None};
 ghost use Rattle.sa_workload.specs.declared.cause.Refusal.TheVariants.{Because, OutOfMemory};
+ghost use Rattle.sa_workload.specs.Refused.{cause_number, unread_at};
 
 use sa_base::{Bad, Unread};
 use std::alloc::{AllocError, AllocFailed};
@@ -21,7 +22,9 @@ pub(crate) enum Cause {
 
 impl Cause {
     /// The refusal of the line of this number.
-    pub(crate) fn at(self, line: u64) -> Unread {
+    pub(crate) fn at(self, line: u64) -> Unread
+        ensures { result ≡ Unread.Bad (record { line = line; why = cause_number self }) }
+    {
         Unread::Bad(Bad {
             line,
             why: self as u8,
@@ -40,7 +43,9 @@ pub(crate) enum Refusal {
 
 impl Refusal {
     /// The same of the line of this number.
-    pub(crate) fn at(self, line: u64) -> Unread {
+    pub(crate) fn at(self, line: u64) -> Unread
+        ensures { result ≡ unread_at line self }
+    {
         match self {
             Refusal::Because(cause) => cause.at(line),
             Refusal::OutOfMemory => Unread::OutOfMemory,

@@ -1,4 +1,12 @@
 // The lines behind those of the spaces.
+ghost use Rattle.std.specs.Prelude.{◌≡◌, ◌↔◌, ◌<◌, ◌≤◌, [], ◌∷◌, ◌++◌, IsTrue, MatchResult, codes, decimal, length};
+ghost use Rattle.sa_base.specs.declared.number.ProcNo.{ProcNo};
+ghost use Rattle.sa_instr.specs.Workload.{IsBefore, IsEviction, IsWorkload};
+ghost use Rattle.sa_workload.specs.Bad.{IsFirstWrong};
+ghost use Rattle.sa_workload.specs.Position.{AtEvict, AtTurn, Closed};
+ghost use Rattle.sa_workload.specs.Refused.{cause_number, IfBecause, last_of, evict_fields, IsEvictPlaced, IsEvictMisplaced, IsRefusedBehind, IsRefusedBehindEvict, IsRefusedBehindTurn, IsRefused};
+ghost use Rattle.sa_workload.specs.Stage.{machine_of, position_of, IsNext, IsSound};
+ghost use Rattle.sa_workload.specs.Steps.{workload};
 
 use crate::cause::{Cause, Refusal};
 use crate::line_words::{Words, last_number};
@@ -20,7 +28,12 @@ pub(crate) fn read_evict_or_turn(
     spaces: Vec<SpaceDef>,
     evictions: Vec<Evict>,
     mut words: Words,
-) -> Result<Stage, Refusal> {
+) -> Result<Stage, Refusal>
+    requires { IsSound (AtEvict (machine_of header) spaces.items evictions.items) }
+    ensures { let position = AtEvict (machine_of header) spaces.items evictions.items in MatchResult result
+        (λ stage. IsNext position words.entry (position_of stage))
+        (λ refusal. IfBecause refusal (IsRefused 0 position words.entry)) }
+{
     match words.next() {
         Some(b"evict") => read_evict(header, spaces, evictions, words),
         Some(b"turn") => read_turn(header, spaces, evictions, Vec::new(alloc), words),
@@ -36,7 +49,12 @@ pub(crate) fn read_turn_or_close(
     evictions: Vec<Evict>,
     turns: Vec<ProcNo>,
     mut words: Words,
-) -> Result<Stage, Refusal> {
+) -> Result<Stage, Refusal>
+    requires { IsSound (AtTurn (machine_of header) spaces.items evictions.items turns.items) }
+    ensures { let position = AtTurn (machine_of header) spaces.items evictions.items turns.items in MatchResult result
+        (λ stage. IsNext position words.entry (position_of stage))
+        (λ refusal. IfBecause refusal (IsRefused 0 position words.entry)) }
+{
     match words.next() {
         Some(b"turn") => read_turn(header, spaces, evictions, turns, words),
         Some(b"close") => Ok(close(header, spaces, evictions, turns, words)?),
@@ -50,19 +68,27 @@ fn read_evict(
     spaces: Vec<SpaceDef>,
     mut evictions: Vec<Evict>,
     mut words: Words,
-) -> Result<Stage, Refusal> {
+) -> Result<Stage, Refusal>
+    ensures { MatchResult result
+        (λ stage. IsNext (AtEvict (machine_of header) spaces.items evictions.items) (codes "evict" ∷ words.entry) (position_of stage))
+        (λ refusal. IfBecause refusal (IsRefusedBehindEvict (machine_of header) evictions.items words.entry)) }
+{
     if evictions.len() >= MAX_EVICTIONS {
         return Err(Refusal::Because(Cause::TooMany));
     }
     let evict = evict_of(header.count, &mut words)?;
-    in_order(evictions.last(), &evict)?;
+    in_order(&evictions, &evict)?;
     words.end()?;
     evictions.push(evict)?;
     Ok(Stage::Evict(header, spaces, evictions))
 }
 
 /// The three numbers behind `evict`, where there are so many spaces.
-fn evict_of(spaces: u16, words: &mut Words) -> Result<Evict, Cause> {
+fn evict_of(spaces: u16, words: &mut Words) -> Result<Evict, Cause>
+    ensures { MatchResult result
+        (λ e. (words.old ≡ decimal e.event ∷ decimal e.space.0 ∷ decimal e.page ∷ words.new) × IsEviction spaces e)
+        (λ cause. IsFirstWrong (evict_fields spaces) words.old (cause_number cause)) }
+{
     let event = words.within(1, 1_000_000)?;
     let space = words.declared(spaces)?;
     let page = words.within(0, 15)?;
@@ -73,17 +99,23 @@ fn evict_of(spaces: u16, words: &mut Words) -> Result<Evict, Cause> {
     })
 }
 
-/// The eviction is greater than the last, where there is one.
-fn in_order(last: Option<&Evict>, evict: &Evict) -> Result<(), Cause> {
-    match last {
-        Some(last) if last == evict => Err(Cause::Twice),
+/// The eviction is greater than the last of these, where there is one.
+fn in_order(evictions: &[Evict], evict: &Evict) -> Result<(), Cause>
+    ensures { MatchResult result
+        (λ _. IsEvictPlaced (last_of evictions.now) evict.now)
+        (λ cause. IsEvictMisplaced (last_of evictions.now) evict.now (cause_number cause)) }
+{
+    match evictions.last() {
+        Some(last) if evict == last => Err(Cause::Twice),
         Some(last) if is_before(evict, last) => Err(Cause::OutOfRange),
         _ => Ok(()),
     }
 }
 
 /// Whether the first comes before the second, by the event, then by the space, then by the page.
-fn is_before(first: &Evict, second: &Evict) -> bool {
+fn is_before(first: &Evict, second: &Evict) -> bool
+    ensures { IsTrue result ↔ IsBefore first.now second.now }
+{
     if first.event != second.event {
         return first.event < second.event;
     }
@@ -100,7 +132,13 @@ fn read_turn(
     evictions: Vec<Evict>,
     mut turns: Vec<ProcNo>,
     words: Words,
-) -> Result<Stage, Refusal> {
+) -> Result<Stage, Refusal>
+    requires { 1 ≤ header.processors }
+    ensures { MatchResult result
+        (λ stage. (p : ProcNo) × (words.entry ≡ decimal p.0 ∷ []) × (p.0 < header.processors) × (length turns.items < 65536)
+        × (position_of stage ≡ AtTurn (machine_of header) spaces.items evictions.items (turns.items ++ p ∷ [])))
+        (λ refusal. IfBecause refusal (IsRefusedBehindTurn (machine_of header) turns.items words.entry)) }
+{
     if turns.len() >= MAX_TURNS {
         return Err(Refusal::Because(Cause::TooMany));
     }
@@ -116,7 +154,13 @@ fn close(
     evictions: Vec<Evict>,
     turns: Vec<ProcNo>,
     mut words: Words,
-) -> Result<Stage, Cause> {
+) -> Result<Stage, Cause>
+    requires { IsWorkload (workload (machine_of header) spaces.items evictions.items turns.items) }
+    ensures { MatchResult result
+        (λ stage. (words.entry ≡ [])
+        × (position_of stage ≡ Closed (workload (machine_of header) spaces.items evictions.items turns.items)))
+        (λ cause. IsRefusedBehind [] words.entry (cause_number cause)) }
+{
     words.end()?;
     Ok(Stage::Closed(workload_of(header, spaces, evictions, turns)))
 }
@@ -127,7 +171,10 @@ fn workload_of(
     spaces: Vec<SpaceDef>,
     evictions: Vec<Evict>,
     turns: Vec<ProcNo>,
-) -> Workload {
+) -> Workload
+    requires { IsWorkload (workload (machine_of header) spaces.items evictions.items turns.items) }
+    ensures { result ≡ workload (machine_of header) spaces.items evictions.items turns.items }
+{
     Workload::new(header.processors, header.fetch, spaces, evictions, turns)
         .unwrap()
         .with_slice(header.slice)

@@ -7,7 +7,7 @@ ghost use Rattle.sa_workload.specs.Steps.{Steps};
 
 use crate::cause::Cause;
 use crate::line_words::{Words, keyword_and_number};
-use crate::stage::{Header, Stage, after_fetch};
+use crate::stage::{Header, MachineStage, Stage, after_fetch};
 use std::alloc::Global;
 
 /// `workload V`, where texts of so many versions are read.
@@ -17,9 +17,9 @@ pub(crate) fn read_version(versions: u16, words: Words) -> Result<Stage, Cause>
         (λ cause. IsRefused versions (AtVersion) words.entry (cause_number cause)) }
 {
     let version = keyword_and_number(words, b"workload", 1, u64::from(versions))?;
-    Ok(Stage::Processors {
+    Ok(Stage::Machine(MachineStage::Processors {
         version: version as u16,
-    })
+    }))
 }
 
 /// `processors P`.
@@ -29,10 +29,10 @@ pub(crate) fn read_processors(version: u16, words: Words) -> Result<Stage, Cause
         (λ cause. IsRefused 0 (AtProcessors version) words.entry (cause_number cause)) }
 {
     let processors = keyword_and_number(words, b"processors", 1, 16)?;
-    Ok(Stage::Fetch {
+    Ok(Stage::Machine(MachineStage::Fetch {
         version,
         processors: processors as u16,
-    })
+    }))
 }
 
 /// `fetch F`.
@@ -58,12 +58,12 @@ pub(crate) fn read_slice(
 {
     let low = if version == 3 { 0 } else { 1 };
     let slice = keyword_and_number(words, b"slice", low, 1_000_000)?;
-    Ok(Stage::Spaces {
+    Ok(Stage::Machine(MachineStage::Spaces {
         version,
         processors,
         fetch,
         slice: slice as u32,
-    })
+    }))
 }
 
 /// `spaces S`.

@@ -1,4 +1,13 @@
 // The reader: one line after another.
+ghost use Rattle.std.specs.Prelude.{◌≡◌, ◌≤◌, ◌↔◌, true, IsTrue, MatchResult, slice_range};
+ghost use Rattle.sa_text.specs.Line.{IsWithin, text_of_line};
+ghost use Rattle.sa_text.specs.LineText.{line_texts};
+ghost use Rattle.sa_text.specs.Pieces.{pieces_of};
+ghost use Rattle.sa_workload.specs.Bad.{IsPrinted};
+ghost use Rattle.sa_workload.specs.Position.{Closed, IsReached};
+ghost use Rattle.sa_workload.specs.Reading.{IsBehind, IsStopped};
+ghost use Rattle.sa_workload.specs.Refused.{cause_number, IfBecause, IfBad, IsLineBad, IsRefused};
+ghost use Rattle.sa_workload.specs.Stage.{machine_position, position_of, GoesOn};
 
 use crate::cause::{Cause, Refusal};
 use crate::closing_lines::{read_evict_or_turn, read_turn_or_close};
@@ -6,7 +15,7 @@ use crate::instr_lines::read_instr;
 use crate::line_words::Words;
 use crate::machine_lines::{read_fetch, read_processors, read_slice, read_spaces, read_version};
 use crate::space_lines::{read_absent_or_program, read_program, read_sem, read_space};
-use crate::stage::Stage;
+use crate::stage::{MachineStage, Stage};
 use sa_base::Unread;
 use sa_instr::Workload;
 use sa_text::{Line, Lines};
@@ -31,9 +40,14 @@ pub fn read_one(alloc: Global, bytes: &[u8]) -> Result<Workload, Unread> {
 }
 
 /// The workload of a text of one of so many versions.
-fn read_versions(alloc: Global, versions: u16, bytes: &[u8]) -> Result<Workload, Unread> {
+fn read_versions(alloc: Global, versions: u16, bytes: &[u8]) -> Result<Workload, Unread>
+    requires { versions ≤ 3 }
+    ensures { MatchResult result
+        (λ w. IsBehind versions (Closed w) (line_texts bytes.now))
+        (λ unread. IfBad unread (λ bad. IsStopped versions (line_texts bytes.now) bad.line bad.why)) }
+{
     let mut lines = Lines::new(bytes);
-    let mut stage = Stage::Version;
+    let mut stage = Stage::Machine(MachineStage::Version);
     while let Some(line) = lines.next() {
         stage = read_line(alloc, versions, stage, bytes, line)?;
     }
@@ -50,7 +64,16 @@ fn read_line(
     stage: Stage,
     bytes: &[u8],
     line: Line,
-) -> Result<Stage, Unread> {
+) -> Result<Stage, Unread>
+    requires few { versions ≤ 3 }
+    requires reached { IsReached versions (position_of stage) }
+    requires within { IsWithin bytes.now line }
+    ensures { MatchResult result
+        (λ next. (line.ended ≡ true)
+        × GoesOn versions (position_of stage) (pieces_of (slice_range bytes.now line.start line.end)) (position_of next))
+        (λ unread. IfBad unread (λ bad. (bad.line ≡ line.number)
+        × IsLineBad versions (position_of stage) (text_of_line bytes.now line) bad.why)) }
+{
     if !is_printed(&bytes[line.start..line.end]) {
         return Err(Cause::NotAscii.at(line.number));
     }
@@ -63,12 +86,20 @@ fn read_line(
 }
 
 /// Whether each byte is a printed ASCII character.
-fn is_printed(bytes: &[u8]) -> bool {
+fn is_printed(bytes: &[u8]) -> bool
+    ensures { IsTrue result ↔ IsPrinted bytes.now }
+{
     bytes.iter().all(|byte| 32 <= *byte && *byte <= 126)
 }
 
 /// The stage behind a line of these words.
-fn read_words(alloc: Global, versions: u16, stage: Stage, words: Words) -> Result<Stage, Refusal> {
+fn read_words(alloc: Global, versions: u16, stage: Stage, words: Words) -> Result<Stage, Refusal>
+    requires few { versions ≤ 3 }
+    requires reached { IsReached versions (position_of stage) }
+    ensures { MatchResult result
+        (λ next. GoesOn versions (position_of stage) words.entry (position_of next))
+        (λ refusal. IfBecause refusal (IsRefused versions (position_of stage) words.entry)) }
+{
     match stage {
         Stage::Space(header, spaces) => Ok(read_space(alloc, header, spaces, words)?),
         Stage::Sem(header, spaces, draft) => read_sem(header, spaces, draft, words),
@@ -88,30 +119,40 @@ fn read_words(alloc: Global, versions: u16, stage: Stage, words: Words) -> Resul
             read_turn_or_close(header, spaces, evictions, turns, words)
         }
         Stage::Closed(_) => Err(Refusal::Because(Cause::BadWord)),
-        machine => Ok(read_machine(alloc, versions, machine, words)?),
+        Stage::Machine(machine) => Ok(read_machine(alloc, versions, machine, words)?),
     }
 }
 
 /// The stage behind a line before those of the spaces.
-fn read_machine(alloc: Global, versions: u16, stage: Stage, words: Words) -> Result<Stage, Cause> {
+fn read_machine(
+    alloc: Global,
+    versions: u16,
+    stage: MachineStage,
+    words: Words,
+) -> Result<Stage, Cause>
+    requires few { versions ≤ 3 }
+    requires reached { IsReached versions (machine_position stage) }
+    ensures { MatchResult result
+        (λ next. GoesOn versions (machine_position stage) words.entry (position_of next))
+        (λ cause. IsRefused versions (machine_position stage) words.entry (cause_number cause)) }
+{
     match stage {
-        Stage::Version => read_version(versions, words),
-        Stage::Processors { version } => read_processors(version, words),
-        Stage::Fetch {
+        MachineStage::Version => read_version(versions, words),
+        MachineStage::Processors { version } => read_processors(version, words),
+        MachineStage::Fetch {
             version,
             processors,
         } => read_fetch(version, processors, words),
-        Stage::Slice {
+        MachineStage::Slice {
             version,
             processors,
             fetch,
         } => read_slice(version, processors, fetch, words),
-        Stage::Spaces {
+        MachineStage::Spaces {
             version,
             processors,
             fetch,
             slice,
         } => read_spaces(alloc, version, processors, fetch, slice, words),
-        _ => Err(Cause::BadWord),
     }
 }

@@ -38,9 +38,9 @@ pub(crate) struct SpaceDraft {
     pub programs: Vec<Program>,
 }
 
-/// The line that comes next, with what the lines before it say.
-#[derive(Drop)]
-pub(crate) enum Stage {
+/// The line before those of the spaces that comes next, with what the lines before it say.
+#[derive(Clone, Copy)]
+pub(crate) enum MachineStage {
     Version,
     Processors {
         version: u16,
@@ -60,6 +60,12 @@ pub(crate) enum Stage {
         fetch: u32,
         slice: u32,
     },
+}
+
+/// The line that comes next, with what the lines before it say.
+#[derive(Drop)]
+pub(crate) enum Stage {
+    Machine(MachineStage),
     Space(Header, Vec<SpaceDef>),
     Sem(Header, Vec<SpaceDef>, SpaceDraft),
     /// An absent page, or the first program.
@@ -78,20 +84,21 @@ pub(crate) enum Stage {
 pub(crate) fn after_fetch(version: u16, processors: u16, fetch: u32) -> Stage
     ensures { position_of result ≡ behind_fetch version processors fetch }
 {
-    if version == 1 {
-        Stage::Spaces {
+    let next = if version == 1 {
+        MachineStage::Spaces {
             version,
             processors,
             fetch,
             slice: 0,
         }
     } else {
-        Stage::Slice {
+        MachineStage::Slice {
             version,
             processors,
             fetch,
         }
-    }
+    };
+    Stage::Machine(next)
 }
 
 /// Behind the first line of a space, or a semaphore.
