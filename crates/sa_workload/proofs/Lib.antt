@@ -5,3 +5,4 @@ pub mod ShownStep
 pub mod Before
 pub mod Determined
 pub mod NextLine
+pub mod RightWord

@@ -11,7 +11,7 @@ use Rattle.sa_workload.proofs.Before.{StepBefore, before}
 use Rattle.sa_workload.proofs.Determined.{determined}
 
 -- a step that shows its line behind those before it
-before-shown : (versions : ℕ) (q : Position) (b : StepBefore versions q) → shown q ≡ shown b.position ++ b.line ∷ []
+pub before-shown : (versions : ℕ) (q : Position) (b : StepBefore versions q) → shown q ≡ shown b.position ++ b.line ∷ []
 before-shown versions q b = shown-step versions b.position b.line q b.step b.reached
 
 first_shown : (q : Position) → q ≡ AtVersion → length (shown q) ≡ 0
