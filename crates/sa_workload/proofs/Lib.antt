@@ -6,3 +6,4 @@ pub mod Before
 pub mod Determined
 pub mod NextLine
 pub mod RightWord
+pub mod OneCause
