@@ -7,3 +7,5 @@ pub mod Determined
 pub mod NextLine
 pub mod RightWord
 pub mod OneCause
+pub mod RightLine
+pub mod NoCause

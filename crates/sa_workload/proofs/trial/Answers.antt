@@ -2,7 +2,8 @@ use Rattle.std.proofs.Common.{refl}
 use Rattle.sa_workload.proofs.Readings.{last_line-at_turn}
 use Rattle.sa_workload.proofs.RightWord.{right-word}
 use Rattle.sa_workload.proofs.OneCause.{causes-are_one}
+use Rattle.sa_workload.proofs.NoCause.{last_is_end, no-cause, fault-refuses}
 use Rattle.sa_workload.proofs.trial.Goals as goal
 
 pub returns : goal.returns
-returns c = let h = last_line-at_turn in let i = right-word in let j = causes-are_one in λ n p q line s r. refl
+returns c = let h = last_line-at_turn in let i = right-word in let j = causes-are_one in let k = last_is_end in let l = no-cause in λ n p q line s r. refl
