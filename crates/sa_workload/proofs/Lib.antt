@@ -9,3 +9,4 @@ pub mod RightWord
 pub mod OneCause
 pub mod RightLine
 pub mod NoCause
+pub mod OneBad

@@ -107,3 +107,11 @@ next-line versions few w p line more is v h e = next_shown versions few (Closed 
 pub last-line : (versions : ℕ) → versions ≤ 3 → (w : WorkloadView) (p : Position) → IsWorkload w → version_of w ≤ versions → IsReached versions p
     → workload_lines w ≡ shown p → p ≡ Closed w
 last-line versions few w p is v h e = shown-injective versions few p (Closed w) h (is, v) (sym e)
+
+-- two workloads of the same lines are one
+pub lines-injective : (v w : WorkloadView) → IsWorkload v → IsWorkload w → version_of v ≤ 3 → version_of w ≤ 3 → workload_lines v ≡ workload_lines w → v ≡ w
+lines-injective v w h k a b e = ap workload_at (shown-injective 3 (omega arith) (Closed v) (Closed w) (h, a) (k, b) e)
+  where
+    workload_at : Position → WorkloadView
+    workload_at (Closed u) = u
+    workload_at _ = v

@@ -9,6 +9,7 @@ use Rattle.sa_workload.specs.Text.{instr_line}
 use Rattle.sa_workload.specs.Bad.{Grammar, AnyVersion, Version1, Begins, MayFollow, IsRightWord, IsTooMany, Field, IsFirstWrong, AreRight, IsOutOfOrder, IsInOrder, FieldCause, WordCause, fields_behind, first_word}
 use Rattle.sa_workload.specs.Position.{Machine, Draft, Position, AtInstr, IsReached, shown}
 use Rattle.sa_workload.specs.Steps.{Steps, step_instr, after_instr}
+use Rattle.sa_workload.proofs.ShownStep.{shown-step}
 use Rattle.sa_workload.proofs.NextLine.{StepTo}
 use Rattle.sa_workload.proofs.Determined.{kept_behind}
 use Rattle.sa_workload.proofs.RightWord.{Accepts, any_accepts, version1_accepts, begins-step}
@@ -116,3 +117,10 @@ pub last_is_end : (versions : ℕ) → versions ≤ 3 → (g : Grammar) → Acce
 last_is_end versions few g accepts m spaces d len instrs line h e b =
     let s : StepTo versions (AtInstr m spaces d len instrs) line = begins-step versions few g accepts (AtInstr m spaces d len instrs) line h b in
     step_end versions m spaces d len instrs line s.position s.step h.3 e s.reached
+
+-- the same of a step, where some text begins with what it leads to
+pub step-no_fault : (versions : ℕ) → versions ≤ 3 → (g : Grammar) → (p : Position) (line : List (List ℕ)) (q : Position) (why : ℕ) → IsReached versions p
+    → Steps p line q → IsReached versions q → Begins g (shown q) → WordFault g versions (shown p) line why → ⊥
+step-no_fault versions few g p line q why h s k b c =
+    fault-none g versions (shown p) line why (step-right versions few p line q s h k)
+    (subst (λ (ls : List (List (List ℕ))). Begins g ls) (shown-step versions p line q s h) b) c

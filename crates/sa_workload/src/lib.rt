@@ -1,6 +1,8 @@
 //! The workload text, read and printed.
 #![tactic(auto)]
 
+pub mod laws;
+
 ghost use Rattle.sa_workload.specs.Laws.{TextsDiffer};
 ghost use Rattle.sa_workload.specs.Position.{IsReached, shown, Position};
 ghost use Rattle.sa_workload.specs.Steps.{Steps};
