@@ -28,7 +28,7 @@ to : (versions : ℕ) (q r : Position) → q ≡ r → StepBefore versions q →
 to versions q r e b = subst (λ (p : Position). StepBefore versions p) e b
 
 -- a draft with other lists behind its first line
-redrafted : (m : Machine) (spaces : List SpaceView) (d : Draft) (sems absent : List ℕ) (programs : List (List Instr)) → IsDraft m spaces d
+pub redrafted : (m : Machine) (spaces : List SpaceView) (d : Draft) (sems absent : List ℕ) (programs : List (List Instr)) → IsDraft m spaces d
     → length sems ≤ d.sem_count → All (λ start. start ≤ 1000000) sems → All (λ page. page ≤ 15) absent → IsStrictlyIncreasing absent
     → length programs ≤ d.program_count → All IsProgram programs → All (All (NamesDeclared d.mutexes d.sem_count d.cells d.program_count)) programs
     → IsDraft m spaces (record d { sems = sems; absent = absent; programs = programs })

@@ -10,3 +10,4 @@ pub mod OneCause
 pub mod RightLine
 pub mod NoCause
 pub mod OneBad
+pub mod Reaching
