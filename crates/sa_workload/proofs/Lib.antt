@@ -11,3 +11,4 @@ pub mod RightLine
 pub mod NoCause
 pub mod OneBad
 pub mod Reaching
+pub mod Takes

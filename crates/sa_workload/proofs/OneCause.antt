@@ -12,7 +12,7 @@ and_cases true b h = (refl, h)
 and_cases false b h = absurd (cc h)
 
 -- what one list before another says of their heads
-before_heads : (x y : ℕ) (xs ys : List ℕ) → list_lt (x ∷ xs) (y ∷ ys) ≡ true → (x < y) ⊎ ((x ≡ y) × (list_lt xs ys ≡ true))
+pub before_heads : (x y : ℕ) (xs ys : List ℕ) → list_lt (x ∷ xs) (y ∷ ys) ≡ true → (x < y) ⊎ ((x ≡ y) × (list_lt xs ys ≡ true))
 before_heads x y xs ys h = pick (or_cases (ltb x y) (eqb x y && list_lt xs ys) h)
   where
     pick : (ltb x y ≡ true) ⊎ ((eqb x y && list_lt xs ys) ≡ true) → (x < y) ⊎ ((x ≡ y) × (list_lt xs ys ≡ true))

@@ -216,7 +216,7 @@ record EvictionLast (q : Position) (line : List (List ℕ)) : Type 0 where
   is : line ≡ evict_line eviction
 
 -- a line's first word is none but its own
-own_word : (a b : List ℕ) → is_other a (b ∷ []) ≡ true → a ≡ b → ⊥
+pub own_word : (a b : List ℕ) → is_other a (b ∷ []) ≡ true → a ≡ b → ⊥
 own_word a b h e = apart (a ∷ []) (b ∷ []) a (ap (λ (t : Bool). t && true) h) (0, omega arith, refl) (subst (λ (w : List ℕ). Contains (b ∷ []) w) (sym e) (0, omega arith, refl))
 
 page_last : (p : Position) (line : List (List ℕ)) (q : Position) → Steps p line q → first_word line ≡ codes "absent" → PageLast q line
@@ -324,7 +324,7 @@ absent_greater versions m spaces d k h g e = pick (before versions p h)
         let new : numbers_of 1 (absent_line k) ≡ k ∷ [] = ap (λ (n : ℕ). n ∷ []) (reads k (omega arith)) in
         ap₂ list_lt old new ∙ less_head last.page k [] [] rise
 
-eviction_numbers : (count : ℕ) (e : Evict) → count ≤ 16 → IsEviction count e → numbers_of 3 (evict_line e) ≡ e.event ∷ e.space.0 ∷ e.page ∷ []
+pub eviction_numbers : (count : ℕ) (e : Evict) → count ≤ 16 → IsEviction count e → numbers_of 3 (evict_line e) ≡ e.event ∷ e.space.0 ∷ e.page ∷ []
 eviction_numbers count e few h =
     ap (λ (n : ℕ). n ∷ digits_value 10 (decimal e.space.0) ∷ digits_value 10 (decimal e.page) ∷ []) (reads e.event (omega (arith, h.last)))
     ∙ ap (λ (n : ℕ). e.event ∷ n ∷ digits_value 10 (decimal e.page) ∷ []) (reads e.space.0 (omega (arith, h.space)))
