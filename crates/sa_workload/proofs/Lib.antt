@@ -12,3 +12,5 @@ pub mod NoCause
 pub mod OneBad
 pub mod Reaching
 pub mod Takes
+pub mod Visible
+pub mod Judge

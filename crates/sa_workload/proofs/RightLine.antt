@@ -52,7 +52,7 @@ right-register R6 = (6, omega arith, ap (λ (ds : List ℕ). 114 ∷ ds) (sym (d
 right-register R7 = (7, omega arith, ap (λ (ds : List ℕ). 114 ∷ ds) (sym (decimal_digit 7 (omega arith))))
 
 -- the words whose lines keep an order, and those of whose lines there is a greatest number
-abbrev ordered_words : List (List ℕ)
+abbrev pub ordered_words : List (List ℕ)
 ordered_words = codes "absent" ∷ codes "evict" ∷ []
 
 abbrev limited_words : List (List ℕ)
@@ -194,32 +194,32 @@ instr_step versions m spaces d len instrs i h k =
     plain versions lines (instr_line i) instr_words (instr_word i) refl refl right.0 right.1
 
 -- the pages and the evictions of a position
-abbrev pages_at : Position → List ℕ
+abbrev pub pages_at : Position → List ℕ
 pages_at (AtAbsent m spaces d) = d.absent
 pages_at _ = []
 
-abbrev evictions_at : Position → List Evict
+abbrev pub evictions_at : Position → List Evict
 evictions_at (AtEvict m spaces es) = es
 evictions_at _ = []
 
 -- what a step with an absent page, and with an eviction, leaves
-record PageLast (q : Position) (line : List (List ℕ)) : Type 0 where
-  pages : List ℕ
-  page : ℕ
-  whole : pages_at q ≡ pages ++ page ∷ []
-  is : line ≡ absent_line page
+pub record PageLast (q : Position) (line : List (List ℕ)) : Type 0 where
+  pub pages : List ℕ
+  pub page : ℕ
+  pub whole : pages_at q ≡ pages ++ page ∷ []
+  pub is : line ≡ absent_line page
 
-record EvictionLast (q : Position) (line : List (List ℕ)) : Type 0 where
-  evictions : List Evict
-  eviction : Evict
-  whole : evictions_at q ≡ evictions ++ eviction ∷ []
-  is : line ≡ evict_line eviction
+pub record EvictionLast (q : Position) (line : List (List ℕ)) : Type 0 where
+  pub evictions : List Evict
+  pub eviction : Evict
+  pub whole : evictions_at q ≡ evictions ++ eviction ∷ []
+  pub is : line ≡ evict_line eviction
 
 -- a line's first word is none but its own
 pub own_word : (a b : List ℕ) → is_other a (b ∷ []) ≡ true → a ≡ b → ⊥
 own_word a b h e = apart (a ∷ []) (b ∷ []) a (ap (λ (t : Bool). t && true) h) (0, omega arith, refl) (subst (λ (w : List ℕ). Contains (b ∷ []) w) (sym e) (0, omega arith, refl))
 
-page_last : (p : Position) (line : List (List ℕ)) (q : Position) → Steps p line q → first_word line ≡ codes "absent" → PageLast q line
+pub page_last : (p : Position) (line : List (List ℕ)) (q : Position) → Steps p line q → first_word line ≡ codes "absent" → PageLast q line
 page_last p line q (step_version v) w = absurd (own_word (codes "workload") (codes "absent") refl w)
 page_last p line q (step_processors v n) w = absurd (own_word (codes "processors") (codes "absent") refl w)
 page_last p line q (step_fetch v n f) w = absurd (own_word (codes "fetch") (codes "absent") refl w)
@@ -238,7 +238,7 @@ page_last p line q (step_turn m spaces es ts t) w = absurd (own_word (codes "tur
 page_last p line q (step_first_close m spaces es) w = absurd (own_word (codes "close") (codes "absent") refl w)
 page_last p line q (step_close m spaces es ts) w = absurd (own_word (codes "close") (codes "absent") refl w)
 
-eviction_last : (p : Position) (line : List (List ℕ)) (q : Position) → Steps p line q → first_word line ≡ codes "evict" → EvictionLast q line
+pub eviction_last : (p : Position) (line : List (List ℕ)) (q : Position) → Steps p line q → first_word line ≡ codes "evict" → EvictionLast q line
 eviction_last p line q (step_version v) w = absurd (own_word (codes "workload") (codes "evict") refl w)
 eviction_last p line q (step_processors v n) w = absurd (own_word (codes "processors") (codes "evict") refl w)
 eviction_last p line q (step_fetch v n f) w = absurd (own_word (codes "fetch") (codes "evict") refl w)
