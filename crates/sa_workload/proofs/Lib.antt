@@ -14,3 +14,4 @@ pub mod Reaching
 pub mod Takes
 pub mod Visible
 pub mod Judge
+pub mod TextOrBad

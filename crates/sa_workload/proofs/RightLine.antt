@@ -272,14 +272,14 @@ adjacent_last {X} R xs x y h =
     (h (length xs) x (omega (arith, length_push (xs ++ x ∷ []) y, length_push xs x)))
 
 -- one list of numbers before another
-less_head : (x y : ℕ) (xs ys : List ℕ) → x < y → list_lt (x ∷ xs) (y ∷ ys) ≡ true
+pub less_head : (x y : ℕ) (xs ys : List ℕ) → x < y → list_lt (x ∷ xs) (y ∷ ys) ≡ true
 less_head x y xs ys h = ap (λ (b : Bool). b || (eqb x y && list_lt xs ys)) (lt-ltb x y h)
 
 or_true : (a b : Bool) → b ≡ true → (a || b) ≡ true
 or_true true b h = refl
 or_true false b h = h
 
-same_head : (x y : ℕ) (xs ys : List ℕ) → x ≡ y → list_lt xs ys ≡ true → list_lt (x ∷ xs) (y ∷ ys) ≡ true
+pub same_head : (x y : ℕ) (xs ys : List ℕ) → x ≡ y → list_lt xs ys ≡ true → list_lt (x ∷ xs) (y ∷ ys) ≡ true
 same_head x y xs ys e h = or_true (ltb x y) (eqb x y && list_lt xs ys) (ap₂ (λ (a b : Bool). a && b) (eq-eqb x y e) h)
 
 numbers_before : (a b : Evict) → IsBefore a b → list_lt (a.event ∷ a.space.0 ∷ a.page ∷ []) (b.event ∷ b.space.0 ∷ b.page ∷ []) ≡ true

@@ -631,7 +631,7 @@ take_close versions m spaces es ts words h few r o c =
     step_with versions (AtTurn m spaces es ts) (codes "close") words [] (Closed (workload m spaces es ts)) (no_words words c) h (step_close m spaces es ts)
     (reached_close versions m spaces es ts (h.0, h.1, h.2, h.3) h.4)
 
-by_word : (ks : List (List ℕ)) (word : List ℕ) (G : List ℕ → Type 0) → AllByRecursion G ks → Contains ks word → G word
+pub by_word : (ks : List (List ℕ)) (word : List ℕ) (G : List ℕ → Type 0) → AllByRecursion G ks → Contains ks word → G word
 by_word ks word G all c = All-contains G ks word (All-from_recursion G ks all) c
 
 -- a line whose first word is expected and whose words are right leads on, or it is the last instruction and not `end`
