@@ -1,18 +1,18 @@
 -- A line with which some text goes on has no cause but the last one, that all its words are right.
-use Rattle.std.proofs.Common.{◌≡◌, ◌≢◌, ℕ, ◌+◌, ◌-◌, ◌<◌, ◌≤◌, ◌⊎◌, List, [], ◌∷◌, ◌++◌, length, drop, codes, Some, arith, refl, sym, ap, ◌∙◌, subst, inl, inr, zero, suc, slice_get}
+use Rattle.std.proofs.Common.{◌≡◌, ℕ, ◌+◌, ◌-◌, ◌<◌, ◌≤◌, ◌⊎◌, List, [], ◌∷◌, ◌++◌, length, drop, codes, Some, arith, refl, sym, ap, ◌∙◌, subst, inl, inr, slice_get}
 use Rattle.std.proofs.lemmas.List.{length_push}
 use Rattle.sa_instr.specs.declared.instr.Instr.{Instr}
 use Rattle.sa_instr.specs.declared.instr.Instr.TheVariants.{End}
 use Rattle.sa_instr.specs.Program.{IsProgram}
 use Rattle.sa_instr.specs.Space.{SpaceView}
 use Rattle.sa_workload.specs.Text.{instr_line}
-use Rattle.sa_workload.specs.Bad.{Grammar, AnyVersion, Version1, Begins, MayFollow, IsRightWord, IsTooMany, Field, IsFirstWrong, AreRight, IsOutOfOrder, IsInOrder, FieldCause, WordCause, fields_behind, first_word}
+use Rattle.sa_workload.specs.Bad.{Grammar, Begins, IsRightWord, IsTooMany, Field, IsFirstWrong, AreRight, IsOutOfOrder, IsInOrder, FieldCause, WordCause, fields_behind, first_word}
 use Rattle.sa_workload.specs.Position.{Machine, Draft, Position, AtInstr, IsReached, shown}
-use Rattle.sa_workload.specs.Steps.{Steps, step_instr, after_instr}
+use Rattle.sa_workload.specs.Steps.{Steps, step_instr}
 use Rattle.sa_workload.proofs.ShownStep.{shown-step}
 use Rattle.sa_workload.proofs.NextLine.{StepTo}
 use Rattle.sa_workload.proofs.Determined.{kept_behind}
-use Rattle.sa_workload.proofs.RightWord.{Accepts, any_accepts, version1_accepts, begins-step}
+use Rattle.sa_workload.proofs.RightWord.{Accepts, begins-step}
 use Rattle.sa_workload.proofs.RightLine.{RightLine, step-right}
 use Rattle.sa_workload.proofs.OneCause.{right_none_wrong}
 

@@ -1,7 +1,7 @@
 -- Of a line with a cause, the cause is one.
-use Rattle.std.proofs.Common.{◌≡◌, ◌≢◌, ℕ, ◌+◌, ◌^◌, ◌<◌, ◌≤◌, ◌⊎◌, Bool, true, false, ◌&&◌, ◌||◌, List, [], ◌∷◌, ◌++◌, length, Contains, IsTrue, ltb, eqb, arith, refl, sym, ap, ◌∙◌, subst, inl, inr, decimal, ltb-true, eqb-true}
+use Rattle.std.proofs.Common.{◌≡◌, ℕ, ◌<◌, ◌⊎◌, Bool, true, false, ◌&&◌, ◌||◌, List, [], ◌∷◌, length, IsTrue, ltb, eqb, arith, refl, sym, ap, ◌∙◌, subst, inl, inr, ltb-true, eqb-true}
 use Rattle.std.proofs.lemmas.Fmt.{decimal_injective}
-use Rattle.sa_workload.specs.Bad.{Grammar, IsRightWord, IsTooMany, Field, Register, Number, IsNoNumber, IsWrongFor, IsRightFor, IsFirstWrong, AreRight, IsOutOfOrder, IsInOrder, FieldCause, WordCause, fields_behind, list_lt, numbers_of, first_word, last_line}
+use Rattle.sa_workload.specs.Bad.{Grammar, IsTooMany, Field, Register, Number, IsWrongFor, IsRightFor, IsFirstWrong, AreRight, IsOutOfOrder, IsInOrder, FieldCause, WordCause, fields_behind, list_lt, numbers_of, last_line}
 
 or_cases : (a b : Bool) → (a || b) ≡ true → (a ≡ true) ⊎ (b ≡ true)
 or_cases true b h = inl refl
@@ -70,8 +70,10 @@ out_of_order_one lines count line why cause a b = pick a.2 b.2
   where
     new : List ℕ
     new = numbers_of count line
+
     old : List ℕ
     old = numbers_of count (last_line lines)
+
     pick : ((new ≡ old) × (why ≡ 5)) ⊎ (IsTrue (list_lt new old) × (why ≡ 4))
         → ((new ≡ old) × (cause ≡ 5)) ⊎ (IsTrue (list_lt new old) × (cause ≡ 4)) → why ≡ cause
     pick (inl x) (inl y) = x.1 ∙ sym y.1
@@ -84,8 +86,10 @@ in_order_not_out lines count line why i o = pick (i o.0 o.1) o.2
   where
     new : List ℕ
     new = numbers_of count line
+
     old : List ℕ
     old = numbers_of count (last_line lines)
+
     pick : IsTrue (list_lt old new) → ((new ≡ old) × (why ≡ 5)) ⊎ (IsTrue (list_lt new old) × (why ≡ 4)) → ⊥
     pick i (inl x) = list_lt-irrefl old new (sym x.0) i
     pick i (inr x) = list_lt-asym old new i x.0
@@ -102,12 +106,14 @@ field_cause_one lines fields word words why cause (inr a) (inr b) = pick a.1 b.1
         IsOutOfOrder lines (length fields) (word ∷ words) n
         ⊎ (IsInOrder lines (length fields) (word ∷ words)
         × (((length fields < length words) × (n ≡ 2)) ⊎ ((length words ≡ length fields) × (n ≡ 9))))
+
     last : ((length fields < length words) × (why ≡ 2)) ⊎ ((length words ≡ length fields) × (why ≡ 9))
         → ((length fields < length words) × (cause ≡ 2)) ⊎ ((length words ≡ length fields) × (cause ≡ 9)) → why ≡ cause
     last (inl x) (inl y) = x.1 ∙ sym y.1
     last (inl x) (inr y) = absurd (omega (arith, x.0, y.0))
     last (inr x) (inl y) = absurd (omega (arith, x.0, y.0))
     last (inr x) (inr y) = x.1 ∙ sym y.1
+
     pick : Behind why → Behind cause → why ≡ cause
     pick (inl x) (inl y) = out_of_order_one lines (length fields) (word ∷ words) why cause x y
     pick (inl x) (inr y) = absurd (in_order_not_out lines (length fields) (word ∷ words) why y.0 x)
@@ -126,6 +132,7 @@ causes-are_one g versions lines (word ∷ words) why cause (inr a) (inr b) = pic
     Behind : ℕ → Type 0
     Behind n =
         (IsTooMany lines word × (n ≡ 8)) ⊎ ((¬ IsTooMany lines word) × FieldCause lines (fields_behind versions lines word) word words n)
+
     pick : Behind why → Behind cause → why ≡ cause
     pick (inl x) (inl y) = x.1 ∙ sym y.1
     pick (inl x) (inr y) = absurd (y.0 x.0)

@@ -1,5 +1,5 @@
 -- A step from a reached position, whose line keeps to its ranges, reaches a position.
-use Rattle.std.proofs.Common.{◌≡◌, ◌≢◌, ℕ, ◌+◌, ◌-◌, ◌<◌, ◌≤◌, ◌⊎◌, Bool, true, false, List, [], ◌∷◌, ◌++◌, length, get_or, All, Some, slice_get, arith, refl, sym, ap, ◌∙◌, subst, subst₂, inl, inr, eqb, if◌then◌else◌, eq-eqb, ne_eqb, eqb-true, zero, suc}
+use Rattle.std.proofs.Common.{◌≡◌, ◌≢◌, ℕ, ◌+◌, ◌-◌, ◌<◌, ◌≤◌, ◌⊎◌, Bool, List, [], ◌∷◌, ◌++◌, length, get_or, All, Some, slice_get, arith, refl, sym, ap, ◌∙◌, subst, subst₂, inl, inr, eqb, if◌then◌else◌, eq-eqb, ne_eqb}
 use Rattle.std.specs.List.{AllAdjacentBelow}
 use Rattle.std.specs.List.Sorted.{IsStrictlyIncreasing}
 use Rattle.std.proofs.lemmas.List.{length_push, get_or_push, get_or_append_left}
@@ -12,10 +12,10 @@ use Rattle.sa_instr.specs.declared.workload.Evict.{Evict}
 use Rattle.sa_instr.specs.Instr.{IsInRange, JumpsBelow, NamesDeclared}
 use Rattle.sa_instr.specs.Program.{IsProgram}
 use Rattle.sa_instr.specs.Space.{SpaceView, IsSpace}
-use Rattle.sa_instr.specs.Workload.{WorkloadView, IsWorkload, IsEviction, IsBefore}
+use Rattle.sa_instr.specs.Workload.{IsEviction, IsBefore}
 use Rattle.sa_workload.specs.Text.{version_of}
-use Rattle.sa_workload.specs.Position.{Machine, Draft, Position, AtVersion, AtProcessors, AtFetch, AtSlice, AtSpaces, AtSpace, AtSem, AtAbsent, AtProgram, AtInstr, AtEvict, AtTurn, Closed, IsReached, IsMachine, AreSpaces, IsDraft, IsBegun, AreEvictions, AreTurns, CanSlice}
-use Rattle.sa_workload.specs.Steps.{workload, space_of_draft, IsFresh, with_sem, with_absent, with_program, after_fetch, after_sem, after_spaces, after_program, after_instr}
+use Rattle.sa_workload.specs.Position.{Machine, Draft, AtFetch, AtSlice, AtSpaces, AtSpace, AtSem, AtAbsent, AtProgram, AtInstr, AtEvict, AtTurn, Closed, IsReached, IsMachine, AreSpaces, IsDraft, AreEvictions, AreTurns, CanSlice}
+use Rattle.sa_workload.specs.Steps.{workload, space_of_draft, with_sem, with_absent, with_program, after_fetch, after_sem, after_spaces, after_program, after_instr}
 use Rattle.sa_workload.proofs.Fronts.{All-last, All-front}
 use Rattle.sa_workload.proofs.ShownStep.{version_of-workload}
 use Rattle.sa_workload.proofs.Before.{redrafted}
@@ -69,12 +69,16 @@ reached_slice versions v n f s few h a b = (h.1, h.2, h.3, h.4, h.5, pick (cases
 
 pub reached_spaces : (versions v n f s c : ℕ) → IsReached versions (AtSpaces v n f s) → 1 ≤ c → c ≤ 16
     → IsReached versions (AtSpace (record { version = v; processors = n; fetch = f; slice = s; count = c }) [])
-reached_spaces versions v n f s c h a b =
-    (record { version = h.0; processors = (h.1, h.2); fetch = (h.3, h.4); slice = h.5; count = (a, b) },
-    record {
-      few = omega arith; each = All-nil IsSpace; patient = λ e. All-nil (λ (s : SpaceView). s.patience ≡ 1);
-      own = λ e g. absurd (omega (arith, g))
-    }, a)
+reached_spaces versions v n f s c h a b = (
+  record { version = h.0; processors = (h.1, h.2); fetch = (h.3, h.4); slice = h.5; count = (a, b) },
+  record {
+    few = omega arith;
+    each = All-nil IsSpace;
+    patient = λ e. All-nil (λ (s : SpaceView). s.patience ≡ 1);
+    own = λ e g. absurd (omega (arith, g));
+  },
+  a,
+)
 
 pub reached_after_sem : (versions : ℕ) (m : Machine) (spaces : List SpaceView) (d : Draft) → IsMachine versions m → AreSpaces m spaces → IsDraft m spaces d
     → d.absent ≡ [] → d.programs ≡ [] → IsReached versions (after_sem m spaces d)
@@ -97,19 +101,31 @@ reached_sem versions m spaces d n h a =
 
 pub reached_absent : (versions : ℕ) (m : Machine) (spaces : List SpaceView) (d : Draft) (k : ℕ) → IsReached versions (AtAbsent m spaces d) → k ≤ 15
     → IsStrictlyIncreasing (d.absent ++ k ∷ []) → IsReached versions (AtAbsent m spaces (with_absent d k))
-reached_absent versions m spaces d k h a rise =
-    (h.0, h.1,
-    redrafted m spaces d d.sems (d.absent ++ k ∷ []) d.programs h.2 h.2.sems h.2.starts
-    (All-push (λ (page : ℕ). page ≤ 15) d.absent k h.2.pages a) rise h.2.programs h.2.each h.2.names,
-    h.3, h.4)
+reached_absent versions m spaces d k h a rise = (
+  h.0,
+  h.1,
+  redrafted m spaces d d.sems (d.absent ++ k ∷ []) d.programs h.2 h.2.sems h.2.starts
+      (All-push (λ (page : ℕ). page ≤ 15) d.absent k h.2.pages a) rise h.2.programs h.2.each h.2.names,
+  h.3,
+  h.4,
+)
 
 pub reached_program : (versions : ℕ) (m : Machine) (spaces : List SpaceView) (d : Draft) (len : ℕ) → IsMachine versions m → AreSpaces m spaces → IsDraft m spaces d
     → length d.sems ≡ d.sem_count → length d.programs < d.program_count → 1 ≤ len → len ≤ 4096 → IsReached versions (AtInstr m spaces d len [])
-reached_program versions m spaces d len im are is full room a b =
-    (im, are, is, full, room, record {
-      short = (a, b); room = a; ranges = All-nil IsInRange; jumps = All-nil (JumpsBelow len);
-      names = All-nil (NamesDeclared d.mutexes d.sem_count d.cells d.program_count)
-    })
+reached_program versions m spaces d len im are is full room a b = (
+  im,
+  are,
+  is,
+  full,
+  room,
+  record {
+    short = (a, b);
+    room = a;
+    ranges = All-nil IsInRange;
+    jumps = All-nil (JumpsBelow len);
+    names = All-nil (NamesDeclared d.mutexes d.sem_count d.cells d.program_count);
+  },
+)
 
 -- behind a whole space
 reached_after_spaces : (versions : ℕ) (m : Machine) (spaces : List SpaceView) → IsMachine versions m → AreSpaces m spaces → IsReached versions (after_spaces m spaces)
@@ -117,6 +133,7 @@ reached_after_spaces versions m spaces im are = pick (cases_eq (length spaces) m
   where
     none : AreEvictions m []
     none = record { few = omega arith; each = All-nil (IsEviction m.count); rise = λ k d l. absurd (omega arith) }
+
     pick : (length spaces ≡ m.count) ⊎ (length spaces ≢ m.count) → IsReached versions (after_spaces m spaces)
     pick (inl e) =
         subst (λ (b : Bool). IsReached versions (if b then AtEvict m spaces [] else AtSpace m spaces)) (sym (eq-eqb (length spaces) m.count e)) (im, are, e, none)
@@ -128,23 +145,32 @@ reached_after_spaces versions m spaces im are = pick (cases_eq (length spaces) m
 spaces_more : (m : Machine) (spaces : List SpaceView) (d : Draft) → AreSpaces m spaces → IsDraft m spaces d → length d.sems ≡ d.sem_count
     → length d.programs ≡ d.program_count → AreSpaces m (spaces ++ space_of_draft d ∷ [])
 spaces_more m spaces d are is full all = record {
-    few = omega (arith, long, is.room);
-    each = All-push IsSpace spaces (space_of_draft d) are.each space;
-    patient = λ e. All-push (λ (s : SpaceView). s.patience ≡ 1) spaces (space_of_draft d) (are.patient e) (is.patient e);
-    own = λ e g ones. is.own e (omega (arith, long, g)) (All-front (λ (s : SpaceView). s.patience ≡ 1) spaces (space_of_draft d) ones)
-        (All-last (λ (s : SpaceView). s.patience ≡ 1) spaces (space_of_draft d) ones);
-  }
+  few = omega (arith, long, is.room);
+  each = All-push IsSpace spaces (space_of_draft d) are.each space;
+  patient = λ e. All-push (λ (s : SpaceView). s.patience ≡ 1) spaces (space_of_draft d) (are.patient e) (is.patient e);
+  own = λ e g ones. is.own e (omega (arith, long, g)) (All-front (λ (s : SpaceView). s.patience ≡ 1) spaces (space_of_draft d) ones)
+      (All-last (λ (s : SpaceView). s.patience ≡ 1) spaces (space_of_draft d) ones);
+}
   where
     long : length (spaces ++ space_of_draft d ∷ []) ≡ length spaces + 1
     long = length_push spaces (space_of_draft d)
+
     space : IsSpace (space_of_draft d)
     space = record {
-      priority = is.priority; mutexes = is.mutexes; sems = omega (arith, full, is.sem_count); starts = is.starts; cells = is.cells; pages = is.pages;
-      absent_rise = is.absent_rise; some_program = omega (arith, all, is.program_count); few_programs = omega (arith, all, is.program_count);
+      priority = is.priority;
+      mutexes = is.mutexes;
+      sems = omega (arith, full, is.sem_count);
+      starts = is.starts;
+      cells = is.cells;
+      pages = is.pages;
+      absent_rise = is.absent_rise;
+      some_program = omega (arith, all, is.program_count);
+      few_programs = omega (arith, all, is.program_count);
       programs = is.each;
       names =
-        subst₂ (λ (a b : ℕ). All (All (NamesDeclared d.mutexes a d.cells b)) d.programs) (sym full) (sym all) is.names;
-      patient = is.patience.0; patience = is.patience.1
+          subst₂ (λ (a b : ℕ). All (All (NamesDeclared d.mutexes a d.cells b)) d.programs) (sym full) (sym all) is.names;
+      patient = is.patience.0;
+      patience = is.patience.1;
     }
 
 reached_after_program : (versions : ℕ) (m : Machine) (spaces : List SpaceView) (d : Draft) → IsMachine versions m → AreSpaces m spaces → IsDraft m spaces d
@@ -153,6 +179,7 @@ reached_after_program versions m spaces d im are is full some = pick (cases_eq (
   where
     Goal : Bool → Type 0
     Goal b = IsReached versions (if b then after_spaces m (spaces ++ space_of_draft d ∷ []) else AtProgram m spaces d)
+
     pick : (length d.programs ≡ d.program_count) ⊎ (length d.programs ≢ d.program_count) → IsReached versions (after_program m spaces d)
     pick (inl e) =
         subst Goal (sym (eq-eqb (length d.programs) d.program_count e))
@@ -170,28 +197,48 @@ reached_instr versions m spaces d len instrs i h kept end = pick (cases_eq (leng
   where
     p : List Instr
     p = instrs ++ i ∷ []
+
     Named : Instr → Type 0
     Named = NamesDeclared d.mutexes d.sem_count d.cells d.program_count
+
     ranges : All IsInRange p
     ranges = All-push IsInRange instrs i h.5.ranges kept.range
+
     jumps : All (JumpsBelow len) p
     jumps = All-push (JumpsBelow len) instrs i h.5.jumps kept.jump
+
     names : All Named p
     names = All-push Named instrs i h.5.names kept.name
+
     Goal : Bool → Type 0
     Goal b = IsReached versions (if b then after_program m spaces (with_program d p) else AtInstr m spaces d len p)
+
     pick : (length p ≡ len) ⊎ (length p ≢ len) → IsReached versions (after_instr m spaces d len p)
     pick (inr e) =
-        subst Goal (sym (ne_eqb (length p) len e))
-        (h.0, h.1, h.2, h.3, h.4, record {
-          short = h.5.short; room = omega (arith, length_push instrs i, h.5.room); ranges = ranges; jumps = jumps; names = names
-        })
+        subst Goal (sym (ne_eqb (length p) len e)) (
+          h.0,
+          h.1,
+          h.2,
+          h.3,
+          h.4,
+          record {
+            short = h.5.short;
+            room = omega (arith, length_push instrs i, h.5.room);
+            ranges = ranges;
+            jumps = jumps;
+            names = names;
+          },
+        )
     pick (inl e) =
         let last : slice_get p (length p - 1) ≡ Some End =
-            ap (λ (k : ℕ). slice_get p k) (omega (arith, length_push instrs i)) ∙ slice_get_push instrs i ∙ ap Some (end (sym (length_push instrs i) ∙ e)) in
+        ap (λ (k : ℕ). slice_get p k) (omega (arith, length_push instrs i)) ∙ slice_get_push instrs i ∙ ap Some (end (sym (length_push instrs i) ∙ e)) in
         let is : IsProgram p = record {
-            not_empty = omega (arith, e, h.5.short); not_too_long = omega (arith, e, h.5.short); ends = last;
-            jumps = subst (λ (n : ℕ). All (JumpsBelow n) p) (sym e) jumps; ranges = ranges } in
+          not_empty = omega (arith, e, h.5.short);
+          not_too_long = omega (arith, e, h.5.short);
+          ends = last;
+          jumps = subst (λ (n : ℕ). All (JumpsBelow n) p) (sym e) jumps;
+          ranges = ranges;
+        } in
         subst Goal (sym (eq-eqb (length p) len e))
         (reached_after_program versions m spaces (with_program d p) h.0 h.1
         (redrafted m spaces d d.sems d.absent (d.programs ++ p ∷ []) h.2 h.2.sems h.2.starts h.2.pages h.2.absent_rise
@@ -201,28 +248,49 @@ reached_instr versions m spaces d len instrs i h kept end = pick (cases_eq (leng
 pub reached_evict : (versions : ℕ) (m : Machine) (spaces : List SpaceView) (es : List Evict) (e : Evict) → IsReached versions (AtEvict m spaces es)
     → length es < 4096 → IsEviction m.count e → ((k : ℕ) (d : Evict) → k + 1 ≡ length es → IsBefore (get_or es k d) e)
     → IsReached versions (AtEvict m spaces (es ++ e ∷ []))
-reached_evict versions m spaces es e h room is rise =
-    (h.0, h.1, h.2, record {
-      few = omega (arith, length_push es e); each = All-push (IsEviction m.count) es e h.3.each is; rise = adjacent_push IsBefore es e h.3.rise rise
-    })
+reached_evict versions m spaces es e h room is rise = (
+  h.0,
+  h.1,
+  h.2,
+  record {
+    few = omega (arith, length_push es e);
+    each = All-push (IsEviction m.count) es e h.3.each is;
+    rise = adjacent_push IsBefore es e h.3.rise rise;
+  },
+)
 
 pub reached_turn : (versions : ℕ) (m : Machine) (spaces : List SpaceView) (es : List Evict) (ts : List ProcNo) (t : ProcNo) → IsReached versions (AtEvict m spaces es)
     → length ts < 65536 → All (λ (p : ProcNo). p.0 < m.processors) ts → t.0 < m.processors → IsReached versions (AtTurn m spaces es (ts ++ t ∷ []))
-reached_turn versions m spaces es ts t h room each below =
-    (h.0, h.1, h.2, h.3,
-    record { few = omega (arith, length_push ts t); each = All-push (λ (p : ProcNo). p.0 < m.processors) ts t each below },
-    omega (arith, length_push ts t))
+reached_turn versions m spaces es ts t h room each below = (
+  h.0,
+  h.1,
+  h.2,
+  h.3,
+  record { few = omega (arith, length_push ts t); each = All-push (λ (p : ProcNo). p.0 < m.processors) ts t each below },
+  omega (arith, length_push ts t),
+)
 
 pub reached_close : (versions : ℕ) (m : Machine) (spaces : List SpaceView) (es : List Evict) (ts : List ProcNo) → IsReached versions (AtEvict m spaces es)
     → AreTurns m ts → IsReached versions (Closed (workload m spaces es ts))
 reached_close versions m spaces es ts h turns =
-    let version : version_of (workload m spaces es ts) ≡ m.version = version_of-workload m spaces es ts h.0.slice h.1 h.2 in
-    (record {
-      some_processor = h.0.processors.0; few_processors = h.0.processors.1; some_fetch = h.0.fetch.0; short_fetch = h.0.fetch.1;
-      some_space = omega (arith, h.2, h.0.count); few_spaces = omega (arith, h.2, h.0.count); spaces = h.1.each;
-      few_evictions = h.3.few; evictions = subst (λ (n : ℕ). All (IsEviction n) es) (sym h.2) h.3.each; evictions_rise = h.3.rise;
-      few_turns = turns.few; turns = turns.each; slice = small h.0.slice
-    }, omega (arith, version, h.0.version))
+    let version : version_of (workload m spaces es ts) ≡ m.version = version_of-workload m spaces es ts h.0.slice h.1 h.2 in (
+      record {
+        some_processor = h.0.processors.0;
+        few_processors = h.0.processors.1;
+        some_fetch = h.0.fetch.0;
+        short_fetch = h.0.fetch.1;
+        some_space = omega (arith, h.2, h.0.count);
+        few_spaces = omega (arith, h.2, h.0.count);
+        spaces = h.1.each;
+        few_evictions = h.3.few;
+        evictions = subst (λ (n : ℕ). All (IsEviction n) es) (sym h.2) h.3.each;
+        evictions_rise = h.3.rise;
+        few_turns = turns.few;
+        turns = turns.each;
+        slice = small h.0.slice;
+      },
+      omega (arith, version, h.0.version),
+    )
   where
     small : CanSlice m.version m.slice → m.slice ≤ 1000000
     small (inl one) = omega (arith, one.1)

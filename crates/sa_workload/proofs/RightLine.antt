@@ -1,5 +1,5 @@
 -- The line of a step is right: its words are right for their fields, as many as the fields, in order, and no line too many.
-use Rattle.std.proofs.Common.{◌≡◌, ◌≢◌, ℕ, ◌+◌, ◌-◌, ◌^◌, ◌<◌, ◌≤◌, ◌⊎◌, Bool, true, false, ◌&&◌, ◌||◌, List, [], ◌∷◌, ◌++◌, length, get_or, drop, take, map, All, Contains, IsTrue, codes, decimal, ltb, leb, eqb, arith, refl, sym, ap, ap₂, ◌∙◌, subst, subst₂, inl, inr, suc, if◌then◌else◌, lt-ltb, le-leb, eq-eqb, ne_eqb, eqb-true, leb-true}
+use Rattle.std.proofs.Common.{◌≡◌, ◌≢◌, ℕ, ◌+◌, ◌-◌, ◌^◌, ◌<◌, ◌≤◌, ◌⊎◌, Bool, true, false, ◌&&◌, ◌||◌, List, [], ◌∷◌, ◌++◌, length, drop, All, Contains, IsTrue, codes, decimal, ltb, leb, eqb, arith, refl, sym, ap, ap₂, ◌∙◌, subst, subst₂, inl, inr, suc, if◌then◌else◌, lt-ltb, le-leb, eq-eqb, eqb-true, leb-true}
 use Rattle.std.specs.List.{list_all, AllAdjacentBelow}
 use Rattle.std.specs.List.Sorted.{IsStrictlyIncreasing}
 use Rattle.std.specs.Str.Parse.{digits_value}
@@ -15,13 +15,13 @@ use Rattle.sa_instr.specs.declared.workload.Evict.{Evict}
 use Rattle.sa_instr.specs.Instr.{IsInRange, JumpsBelow, NamesDeclared}
 use Rattle.sa_instr.specs.Space.{SpaceView, IsSpace}
 use Rattle.sa_instr.specs.Workload.{IsEviction, IsBefore}
-use Rattle.sa_workload.specs.Text.{register, instr_line, sem_line, absent_line, evict_line, turn_line}
-use Rattle.sa_workload.specs.Bad.{Field, Register, Number, within, declared, registers, IsRightFor, AreRight, IsTooMany, IsOutOfOrder, fields_behind, patience_field, needs_patience, version_in, processors_in, spaces_in, mutexes_in, sems_in, cells_in, programs_in, length_in, numbers_of, list_lt, first_word, last_line, instr_words, count_of_word}
-use Rattle.sa_workload.specs.Position.{Machine, Draft, Position, AtVersion, AtProcessors, AtFetch, AtSlice, AtSpaces, AtSpace, AtSem, AtAbsent, AtProgram, AtInstr, AtEvict, AtTurn, Closed, IsReached, IsMachine, AreSpaces, IsDraft, IsBegun, CanSlice, draft_line, shown}
+use Rattle.sa_workload.specs.Text.{register, instr_line, absent_line, evict_line, turn_line}
+use Rattle.sa_workload.specs.Bad.{Register, within, declared, IsRightFor, AreRight, IsTooMany, IsOutOfOrder, fields_behind, patience_field, needs_patience, version_in, processors_in, spaces_in, mutexes_in, sems_in, cells_in, programs_in, length_in, numbers_of, list_lt, first_word, last_line, instr_words, count_of_word}
+use Rattle.sa_workload.specs.Position.{Machine, Draft, Position, AtVersion, AtSlice, AtSpace, AtAbsent, AtInstr, AtEvict, IsReached, IsDraft, CanSlice, draft_line, shown}
 use Rattle.sa_workload.specs.Steps.{Steps, step_version, step_processors, step_fetch, step_slice, step_spaces, step_space, step_sem, step_absent, step_first_program, step_program, step_instr, step_evict, step_first_turn, step_turn, step_first_close, step_close, with_sem, with_absent, after_instr}
 use Rattle.sa_workload.proofs.Words.{is_other, instr_word}
 use Rattle.sa_workload.proofs.Readings.{reads, version-at_slice, version-at_space, needs-at_space, mutexes-at_instr, sems-at_instr, cells-at_instr, programs-at_instr, length-at_instr, spaces-at_evict, processors-at_evict, processors-at_turn, count_evict-at_evict, count_turn-at_evict, count_turn-at_turn}
-use Rattle.sa_workload.proofs.Fronts.{Pushed, All-last, true_all}
+use Rattle.sa_workload.proofs.Fronts.{All-last, true_all}
 use Rattle.sa_workload.proofs.Before.{StepBefore, before}
 use Rattle.sa_workload.proofs.Determined.{Kept, kept_behind, draft_kept, fetch_kept, slice_kept}
 use Rattle.sa_workload.proofs.RightWord.{apart, last-shown}
@@ -73,8 +73,10 @@ plain : (versions : ℕ) (lines : List (List (List ℕ))) (line : List (List ℕ
     → AreRight (fields_behind versions lines (first_word line)) (drop 1 line) → length (drop 1 line) ≡ length (fields_behind versions lines (first_word line))
     → RightLine versions lines line
 plain versions lines line ks c a b right count = record {
-  few = unlimited ks lines (first_word line) c b; right = right;
-  order = λ why. unordered ks lines (length (fields_behind versions lines (first_word line))) line why c a; count = count
+  few = unlimited ks lines (first_word line) c b;
+  right = right;
+  order = λ why. unordered ks lines (length (fields_behind versions lines (first_word line))) line why c a;
+  count = count;
 }
 
 -- the lines that come before the spaces
@@ -89,7 +91,7 @@ slice_right : (versions v n f s : ℕ) → 2 ≤ v → v < 2 ^ 64 → CanSlice v
 slice_right versions v n f s h small can =
     let lines : List (List (List ℕ)) = shown (AtSlice v n f) in
     let low : (if eqb (version_in lines) 3 then 0 else 1) ≤ s =
-        subst (λ (u : ℕ). (if eqb u 3 then 0 else 1) ≤ s) (sym (version-at_slice v n f small)) (slice_low v s h can (eqb v 3) refl) in
+    subst (λ (u : ℕ). (if eqb u 3 then 0 else 1) ≤ s) (sym (version-at_slice v n f small)) (slice_low v s h can (eqb v 3) refl) in
     (right-within (if eqb (version_in lines) 3 then 0 else 1) 1000000 s low (slice_kept v s can) (omega (arith, slice_kept v s can)), tt)
 
 -- the first line of a space
@@ -106,21 +108,26 @@ patience_right m spaces d lines is e needs true t =
     Goal b =
         AreRight (if b then within (if needs_patience lines then 2 else 1) 1000 ∷ [] else []) (decimal d.patience ∷ [])
         × (1 ≡ length (if b then within (if needs_patience lines then 2 else 1) 1000 ∷ [] else []))
+
     test : eqb (version_in lines) 3 ≡ true
     test = ap (λ (v : ℕ). eqb v 3) e ∙ t
+
     v3 : m.version ≡ 3
     v3 = eqb-true m.version 3 t
+
     both : (a c : Bool) → (a && c) ≡ true → (a ≡ true) × (c ≡ true)
     both true c h = (refl, h)
     both false c h = absurd (cc h)
+
     by_need : (n : Bool) → needs_patience lines ≡ n → (if n then 2 else 1) ≤ d.patience
     by_need false q = is.patience.0
     by_need true q =
         let last : (leb m.count (length spaces + 1) ≡ true) × (list_all (λ (s : SpaceView). eqb s.patience 1) spaces ≡ true) =
-            both (leb m.count (length spaces + 1)) (list_all (λ (s : SpaceView). eqb s.patience 1) spaces) (sym (needs v3) ∙ q) in
+        both (leb m.count (length spaces + 1)) (list_all (λ (s : SpaceView). eqb s.patience 1) spaces) (sym (needs v3) ∙ q) in
         let reach : m.count ≤ length spaces + 1 = leb-true m.count (length spaces + 1) last.0 in
         let other : d.patience ≢ 1 = is.own v3 (omega (arith, is.room)) (true_all (λ (s : SpaceView). s.patience) 1 spaces last.1) in
         omega (arith, is.patience.0)
+
     low : (if needs_patience lines then 2 else 1) ≤ d.patience
     low = by_need (needs_patience lines) refl
 patience_right m spaces d lines is e needs false t = subst Goal (sym test) (tt, refl)
@@ -129,6 +136,7 @@ patience_right m spaces d lines is e needs false t = subst Goal (sym test) (tt, 
     Goal b =
         AreRight (if b then within (if needs_patience lines then 2 else 1) 1000 ∷ [] else []) []
         × (0 ≡ length (if b then within (if needs_patience lines then 2 else 1) 1000 ∷ [] else []))
+
     test : eqb (version_in lines) 3 ≡ false
     test = ap (λ (v : ℕ). eqb v 3) e ∙ t
 
@@ -137,14 +145,21 @@ space_right : (versions : ℕ) → versions ≤ 3 → (m : Machine) (spaces : Li
 space_right versions few m spaces d h is =
     let lines : List (List (List ℕ)) = shown (AtSpace m spaces) in
     let patience = patience_right m spaces d lines is (version-at_space m spaces (omega (arith, h.0.version)))
-        (λ v. needs-at_space m spaces v (omega (arith, h.0.count.1))
-        (All-weaker IsSpace (λ (s : SpaceView). s.patience < 2 ^ 64) (λ s k. omega (arith, k.patience)) spaces h.1.each)) (eqb m.version 3) refl in
-    plain versions lines (draft_line m.version d) (codes "space" ∷ []) (0, omega arith, refl) refl refl
-    (right-within 0 7 d.priority (omega arith) is.priority (omega (arith, is.priority)),
-    (right-within 0 64 d.mutexes (omega arith) is.mutexes (omega (arith, is.mutexes)),
-    (right-within 0 64 d.sem_count (omega arith) is.sem_count (omega (arith, is.sem_count)),
-    (right-within 0 64 d.cells (omega arith) is.cells (omega (arith, is.cells)),
-    (right-within 1 256 d.program_count is.program_count.0 is.program_count.1 (omega (arith, is.program_count.1)), patience.0)))))
+    (λ v. needs-at_space m spaces v (omega (arith, h.0.count.1))
+    (All-weaker IsSpace (λ (s : SpaceView). s.patience < 2 ^ 64) (λ s k. omega (arith, k.patience)) spaces h.1.each)) (eqb m.version 3) refl in
+    plain versions lines (draft_line m.version d) (codes "space" ∷ []) (0, omega arith, refl) refl refl (
+      right-within 0 7 d.priority (omega arith) is.priority (omega (arith, is.priority)),
+      (
+        right-within 0 64 d.mutexes (omega arith) is.mutexes (omega (arith, is.mutexes)),
+        (
+          right-within 0 64 d.sem_count (omega arith) is.sem_count (omega (arith, is.sem_count)),
+          (
+            right-within 0 64 d.cells (omega arith) is.cells (omega (arith, is.cells)),
+            (right-within 1 256 d.program_count is.program_count.0 is.program_count.1 (omega (arith, is.program_count.1)), patience.0),
+          ),
+        ),
+      ),
+    )
     (ap (λ (n : ℕ). suc (suc (suc (suc (suc n))))) patience.1)
 
 -- an instruction
@@ -187,10 +202,10 @@ instr_step versions m spaces d len instrs i h k =
     let kept : Kept d len i = (kept_behind versions m spaces d len instrs i h.3 k).0 in
     let is : IsDraft m spaces d = h.2 in
     let right = instr_right versions lines d len i
-        (mutexes-at_instr m spaces d len instrs (omega (arith, is.mutexes))) (sems-at_instr m spaces d len instrs (omega (arith, is.sem_count)))
-        (cells-at_instr m spaces d len instrs (omega (arith, is.cells))) (programs-at_instr m spaces d len instrs (omega (arith, is.program_count.1)))
-        (length-at_instr m spaces d len instrs (omega (arith, h.5.short)))
-        is.mutexes is.sem_count is.cells is.program_count.1 h.5.short.1 kept.range kept.jump kept.name in
+    (mutexes-at_instr m spaces d len instrs (omega (arith, is.mutexes))) (sems-at_instr m spaces d len instrs (omega (arith, is.sem_count)))
+    (cells-at_instr m spaces d len instrs (omega (arith, is.cells))) (programs-at_instr m spaces d len instrs (omega (arith, is.program_count.1)))
+    (length-at_instr m spaces d len instrs (omega (arith, h.5.short)))
+    is.mutexes is.sem_count is.cells is.program_count.1 h.5.short.1 kept.range kept.jump kept.name in
     plain versions lines (instr_line i) instr_words (instr_word i) refl refl right.0 right.1
 
 -- the pages and the evictions of a position
@@ -299,8 +314,10 @@ greater lines count line why h o = pick o.2
   where
     old : List ℕ
     old = numbers_of count (last_line lines)
+
     new : List ℕ
     new = numbers_of count line
+
     pick : ((new ≡ old) × (why ≡ 5)) ⊎ (IsTrue (list_lt new old) × (why ≡ 4)) → ⊥
     pick (inl x) = list_lt-irrefl old new (sym x.0) (h o.1)
     pick (inr x) = list_lt-asym old new (h o.1) x.0
@@ -312,15 +329,16 @@ absent_greater versions m spaces d k h g e = pick (before versions p h)
   where
     p : Position
     p = AtAbsent m spaces d
+
     pick : (p ≡ AtVersion) ⊎ StepBefore versions p → list_lt (numbers_of 1 (last_line (shown p))) (numbers_of 1 (absent_line k)) ≡ true
     pick (inl a) = absurd (cc a)
     pick (inr b) =
         let last : PageLast p b.line = page_last b.position b.line p b.step (ap first_word (sym (last-shown versions p b)) ∙ e) in
         let rise : last.page < k =
-            increasing_last last.pages last.page k (subst (λ (ks : List ℕ). IsStrictlyIncreasing (ks ++ k ∷ [])) last.whole g.2.absent_rise) in
+        increasing_last last.pages last.page k (subst (λ (ks : List ℕ). IsStrictlyIncreasing (ks ++ k ∷ [])) last.whole g.2.absent_rise) in
         let small : k ≤ 15 = All-last (λ (page : ℕ). page ≤ 15) d.absent k g.2.pages in
         let old : numbers_of 1 (last_line (shown p)) ≡ last.page ∷ [] =
-            ap (numbers_of 1) (last-shown versions p b ∙ last.is) ∙ ap (λ (n : ℕ). n ∷ []) (reads last.page (omega arith)) in
+        ap (numbers_of 1) (last-shown versions p b ∙ last.is) ∙ ap (λ (n : ℕ). n ∷ []) (reads last.page (omega arith)) in
         let new : numbers_of 1 (absent_line k) ≡ k ∷ [] = ap (λ (n : ℕ). n ∷ []) (reads k (omega arith)) in
         ap₂ list_lt old new ∙ less_head last.page k [] [] rise
 
@@ -337,15 +355,16 @@ eviction_greater versions m spaces es e h g w = pick (before versions p h)
   where
     p : Position
     p = AtEvict m spaces es
+
     pick : (p ≡ AtVersion) ⊎ StepBefore versions p → list_lt (numbers_of 3 (last_line (shown p))) (numbers_of 3 (evict_line e)) ≡ true
     pick (inl a) = absurd (cc a)
     pick (inr b) =
         let last : EvictionLast p b.line = eviction_last b.position b.line p b.step (ap first_word (sym (last-shown versions p b)) ∙ w) in
         let rise : IsBefore last.eviction e =
-            adjacent_last IsBefore last.evictions last.eviction e
-            (subst (λ (xs : List Evict). AllAdjacentBelow IsBefore (xs ++ e ∷ []) (length (xs ++ e ∷ []))) last.whole g.3.rise) in
+        adjacent_last IsBefore last.evictions last.eviction e
+        (subst (λ (xs : List Evict). AllAdjacentBelow IsBefore (xs ++ e ∷ []) (length (xs ++ e ∷ []))) last.whole g.3.rise) in
         let was : IsEviction m.count last.eviction =
-            All-last (IsEviction m.count) last.evictions last.eviction (subst (λ (xs : List Evict). All (IsEviction m.count) xs) last.whole h.3.each) in
+        All-last (IsEviction m.count) last.evictions last.eviction (subst (λ (xs : List Evict). All (IsEviction m.count) xs) last.whole h.3.each) in
         let is : IsEviction m.count e = All-last (IsEviction m.count) es e g.3.each in
         ap₂ list_lt (ap (numbers_of 3) (last-shown versions p b ∙ last.is) ∙ eviction_numbers m.count last.eviction h.0.count.1 was)
         (eviction_numbers m.count e h.0.count.1 is)
@@ -359,11 +378,15 @@ evict_right versions m spaces es e h g =
     let count : spaces_in lines ≡ m.count = spaces-at_evict m spaces es (omega (arith, h.0.count)) in
     record {
       few = not_too_many;
-      right = (right-within 1 1000000 e.event is.first is.last (omega (arith, is.last)),
-        (right-declared (spaces_in lines) e.space.0 (omega (arith, is.space)) (omega (arith, is.space, h.0.count)),
-        (right-within 0 15 e.page (omega arith) is.page (omega (arith, is.page)), tt)));
+      right = (
+        right-within 1 1000000 e.event is.first is.last (omega (arith, is.last)),
+        (
+          right-declared (spaces_in lines) e.space.0 (omega (arith, is.space)) (omega (arith, is.space, h.0.count)),
+          (right-within 0 15 e.page (omega arith) is.page (omega (arith, is.page)), tt),
+        ),
+      );
       order = λ why. greater lines 3 (evict_line e) why (eviction_greater versions m spaces es e h g);
-      count = refl
+      count = refl;
     }
   where
     not_too_many : ¬ IsTooMany (shown (AtEvict m spaces es)) (codes "evict")
@@ -373,11 +396,11 @@ evict_right versions m spaces es e h g =
 turn_right : (versions : ℕ) (lines : List (List (List ℕ))) (processors seen : ℕ) (t : ProcNo) → processors_in lines ≡ processors → t.0 < processors → processors ≤ 16
     → count_of_word lines (codes "turn") ≡ seen → seen < 65536 → RightLine versions lines (turn_line t)
 turn_right versions lines processors seen t e below few s room = record {
-    few = not_too_many;
-    right = (right-within 0 (processors_in lines - 1) t.0 (omega arith) (omega arith) (omega arith), tt);
-    order = λ why. unordered (codes "turn" ∷ []) lines 1 (turn_line t) why (0, omega arith, refl) refl;
-    count = refl
-  }
+  few = not_too_many;
+  right = (right-within 0 (processors_in lines - 1) t.0 (omega arith) (omega arith) (omega arith), tt);
+  order = λ why. unordered (codes "turn" ∷ []) lines 1 (turn_line t) why (0, omega arith, refl) refl;
+  count = refl;
+}
   where
     not_too_many : ¬ IsTooMany lines (codes "turn")
     not_too_many (inl x) = own_word (codes "turn") (codes "evict") refl x.0
@@ -391,7 +414,7 @@ absent_right versions m spaces d k h g =
       few = unlimited (codes "absent" ∷ []) (shown (AtAbsent m spaces d)) (codes "absent") (0, omega arith, refl) refl;
       right = (right-within 0 15 k (omega arith) small (omega arith), tt);
       order = λ why. greater (shown (AtAbsent m spaces d)) 1 (absent_line k) why (absent_greater versions m spaces d k h g);
-      count = refl
+      count = refl;
     }
 
 -- the line of a step is right

@@ -1,10 +1,10 @@
 -- A word that may begin a line is one that the position expects.
-use Rattle.std.proofs.Common.{◌≡◌, ◌≢◌, ℕ, ◌+◌, ◌<◌, ◌≤◌, ◌⊎◌, Bool, true, false, not, List, [], ◌∷◌, ◌++◌, length, get_or, Contains, codes, arith, refl, sym, ap, ◌∙◌, subst, inl, inr, bytes_eq, append_assoc, eqb, if◌then◌else◌}
+use Rattle.std.proofs.Common.{◌≡◌, ℕ, ◌≤◌, ◌⊎◌, Bool, true, false, List, [], ◌∷◌, ◌++◌, Contains, codes, arith, refl, sym, ap, ◌∙◌, subst, inl, inr, append_assoc, eqb, if◌then◌else◌}
 use Rattle.std.specs.List.{list_all}
 use Rattle.std.proofs.lemmas.Slice.Eq.{bytes_eq-Decides}
 use Rattle.sa_instr.specs.Space.{SpaceView}
 use Rattle.sa_instr.specs.Workload.{WorkloadView, IsWorkload}
-use Rattle.sa_workload.specs.Text.{version_of, workload_lines}
+use Rattle.sa_workload.specs.Text.{version_of}
 use Rattle.sa_workload.specs.Bad.{Grammar, AnyVersion, Version1, Begins, MayFollow, IsRightWord, first_word, last_line, instr_words, repeated_words}
 use Rattle.sa_workload.specs.Position.{Position, AtVersion, AtProcessors, AtFetch, AtSlice, AtSpaces, AtSpace, AtSem, AtAbsent, AtProgram, AtInstr, AtEvict, AtTurn, Closed, IsReached, shown}
 use Rattle.sa_workload.specs.Steps.{Steps, expected, step_version, step_processors, step_fetch, step_slice, step_spaces, step_space, step_sem, step_absent, step_first_program, step_program, step_instr, step_evict, step_first_turn, step_turn, step_first_close, step_close}
@@ -34,7 +34,7 @@ version1_accepts w h = (h.0, omega (arith, h.1))
 pub apart : (ks js : List (List ℕ)) (w : List ℕ) → list_all (λ k. is_other k js) ks ≡ true → Contains ks w → Contains js w → ⊥
 apart ks js w h c d =
     let others : is_other w js ≡ true =
-        subst (λ (k : List ℕ). is_other k js ≡ true) c.2 (passes (λ (k : List ℕ). is_other k js) ks c.0 w c.1 h) in
+    subst (λ (k : List ℕ). is_other k js ≡ true) c.2 (passes (λ (k : List ℕ). is_other k js) ks c.0 w c.1 h) in
     absurd (cc (other w w js d others, (bytes_eq-Decides w w).1 refl))
 
 -- the first word of a step is expected
@@ -135,3 +135,12 @@ right-word p word h r = right_word-in 3 (omega arith) AnyVersion any_accepts p w
 
 pub right-word_1 : (p : Position) (word : List ℕ) → IsReached 1 p → IsRightWord Version1 (shown p) word → Contains (expected p) word
 right-word_1 p word h r = right_word-in 1 (omega arith) Version1 version1_accepts p word h r
+
+at_least_1 : (all none : Bool) → 1 ≤ (if all then (if none then 1 else 2) else 3)
+at_least_1 true true = omega arith
+at_least_1 true false = omega arith
+at_least_1 false none = omega arith
+
+-- a workload of a version up to 1 is one of version 1
+pub version1_covers : (w : WorkloadView) → IsWorkload w → version_of w ≤ 1 → Version1 w
+version1_covers w h v = (h, omega (arith, v, at_least_1 (list_all (λ (s : SpaceView). eqb s.patience 1) w.spaces) (eqb w.slice 0)))

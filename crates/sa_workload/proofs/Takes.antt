@@ -1,14 +1,11 @@
 -- A line whose words are right leads on by a step, unless it is the last instruction of a program and not `end`.
-use Rattle.std.proofs.Common.{◌≡◌, ◌≢◌, ℕ, ◌+◌, ◌-◌, ◌^◌, ◌<◌, ◌≤◌, ◌⊎◌, Bool, true, false, ◌&&◌, List, [], ◌∷◌, ◌++◌, length, get_or, drop, take, All, Contains, IsTrue, codes, decimal, ltb, leb, eqb, arith, refl, sym, ap, ap₂, ◌∙◌, subst, subst₂, inl, inr, suc, if◌then◌else◌, ltb-true, leb-true, eqb-true, eq-eqb, ne_eqb, le-leb}
+use Rattle.std.proofs.Common.{◌≡◌, ◌≢◌, ℕ, ◌+◌, ◌-◌, ◌^◌, ◌<◌, ◌≤◌, ◌⊎◌, Bool, true, false, ◌&&◌, List, [], ◌∷◌, ◌++◌, length, get_or, All, Contains, codes, decimal, ltb, leb, eqb, arith, refl, sym, ap, ap₂, ◌∙◌, subst, inl, inr, suc, if◌then◌else◌, ltb-true, leb-true, eq-eqb, ne_eqb, le-leb}
 use Rattle.std.specs.List.{list_all, AllByRecursion}
-use Rattle.std.specs.List.Sorted.{IsStrictlyIncreasing}
-use Rattle.std.specs.Str.Parse.{digits_value}
 use Rattle.std.proofs.lemmas.Fmt.{decimal_digit}
 use Rattle.std.proofs.lemmas.Bool.{cases_eq, cases_lt}
 use Rattle.std.proofs.lemmas.List.{length_push, get_or_push}
 use Rattle.std.proofs.lemmas.List.Elements.{All-contains, All-from_recursion, All-nil, All-weaker}
 use Rattle.sa_base.specs.declared.number.ProcNo.{ProcNo}
-use Rattle.sa_base.specs.declared.number.SpaceNo.{SpaceNo}
 use Rattle.sa_instr.specs.declared.instr.Reg.{Reg}
 use Rattle.sa_instr.specs.declared.instr.Reg.TheVariants.{R0, R1, R2, R3, R4, R5, R6, R7}
 use Rattle.sa_instr.specs.declared.instr.Instr.{Instr}
@@ -18,11 +15,11 @@ use Rattle.sa_instr.specs.Space.{SpaceView, IsSpace}
 use Rattle.sa_instr.specs.Program.{IsProgram}
 use Rattle.sa_instr.specs.Workload.{IsEviction, IsBefore}
 use Rattle.sa_instr.specs.Instr.{NamesDeclared}
-use Rattle.sa_workload.specs.Text.{register, instr_line, sem_line, absent_line, evict_line, turn_line}
+use Rattle.sa_workload.specs.Text.{register, instr_line, absent_line, evict_line}
 use Rattle.sa_workload.specs.Bad.{Field, Register, Number, within, declared, registers, IsRightFor, AreRight, IsTooMany, IsInOrder, fields_behind, patience_field, needs_patience, version_in, processors_in, spaces_in, mutexes_in, sems_in, cells_in, programs_in, length_in, numbers_of, list_lt, first_word, last_line, instr_words, count_of_word}
-use Rattle.sa_workload.specs.Position.{Machine, Draft, Position, AtVersion, AtProcessors, AtFetch, AtSlice, AtSpaces, AtSpace, AtSem, AtAbsent, AtProgram, AtInstr, AtEvict, AtTurn, Closed, IsReached, IsMachine, AreSpaces, IsDraft, AreTurns, version_line, processors_line, fetch_line, spaces_line, draft_line, shown}
-use Rattle.sa_workload.specs.Steps.{Steps, expected, step_version, step_processors, step_fetch, step_slice, step_spaces, step_space, step_sem, step_absent, step_first_program, step_program, step_instr, step_evict, step_first_turn, step_turn, step_first_close, step_close, slice_line, program_line, close_line, workload, after_sem, with_sem, with_absent, after_fetch, after_instr}
-use Rattle.sa_workload.proofs.Readings.{reads, version-at_slice, version-at_space, needs-at_space, mutexes-at_instr, sems-at_instr, cells-at_instr, programs-at_instr, length-at_instr, spaces-at_evict, processors-at_evict, processors-at_turn, count_evict-at_evict, count_turn-at_evict, count_turn-at_turn, last_line-at_absent, last_line-at_evict}
+use Rattle.sa_workload.specs.Position.{Machine, Draft, Position, AtVersion, AtProcessors, AtFetch, AtSlice, AtSpaces, AtSpace, AtSem, AtAbsent, AtProgram, AtInstr, AtEvict, AtTurn, Closed, IsReached, IsDraft, shown}
+use Rattle.sa_workload.specs.Steps.{Steps, expected, step_version, step_processors, step_fetch, step_slice, step_spaces, step_space, step_sem, step_absent, step_first_program, step_program, step_instr, step_evict, step_first_turn, step_turn, step_first_close, step_close, workload, after_sem, with_sem, with_absent, after_fetch, after_instr}
+use Rattle.sa_workload.proofs.Readings.{reads, version-at_slice, version-at_space, needs-at_space, mutexes-at_instr, sems-at_instr, cells-at_instr, programs-at_instr, length-at_instr, spaces-at_evict, processors-at_evict, processors-at_turn, count_evict-at_evict, count_turn-at_turn, last_line-at_absent, last_line-at_evict}
 use Rattle.sa_workload.proofs.Fronts.{Pushed, split_last, All-last, all_true}
 use Rattle.sa_workload.proofs.ShownStep.{shown-step}
 use Rattle.sa_workload.proofs.Determined.{Kept}
@@ -65,8 +62,10 @@ one test cause words r e =
     let f : First (Number test cause) [] words = first (Number test cause) [] words r in
     let none : f.others ≡ [] = no_words f.others (omega (arith, f.long)) in
     record {
-      number = f.right.0; small = f.right.1; passes = f.right.3;
-      spelled = f.whole ∙ ap (λ (ws : List (List ℕ)). f.word ∷ ws) none ∙ ap (λ (w : List ℕ). w ∷ []) f.right.2
+      number = f.right.0;
+      small = f.right.1;
+      passes = f.right.3;
+      spelled = f.whole ∙ ap (λ (ws : List (List ℕ)). f.word ∷ ws) none ∙ ap (λ (w : List ℕ). w ∷ []) f.right.2;
     }
 
 and_both : (a b : Bool) → (a && b) ≡ true → (a ≡ true) × (b ≡ true)
@@ -129,7 +128,7 @@ take_slice versions v n f words three h few r o c =
     let s = one (λ n. leb (if eqb (version_in lines) 3 then 0 else 1) n && leb n 1000000) 4 words r c in
     let a = in_range (if eqb (version_in lines) 3 then 0 else 1) 1000000 s.number s.passes in
     let low : (if eqb v 3 then 0 else 1) ≤ s.number =
-        subst (λ (u : ℕ). (if eqb u 3 then 0 else 1) ≤ s.number) (version-at_slice v n f (omega (arith, h.1))) a.0 in
+    subst (λ (u : ℕ). (if eqb u 3 then 0 else 1) ≤ s.number) (version-at_slice v n f (omega (arith, h.1))) a.0 in
     step_with versions (AtSlice v n f) (codes "slice") words (decimal s.number ∷ []) (AtSpaces v n f s.number) s.spelled h (step_slice v n f s.number)
     (reached_slice versions v n f s.number three h low a.1)
 
@@ -157,10 +156,13 @@ take_patience m spaces lines words e needs r c = pick (cases_eq m.version 3)
   where
     Field' : Bool → List Field
     Field' b = if b then within (if needs_patience lines then 2 else 1) 1000 ∷ [] else []
+
     Goal : Bool → Type 0
     Goal b = AreRight (Field' b) words × (length words ≡ length (Field' b))
+
     at : (b : Bool) → eqb (version_in lines) 3 ≡ b → Goal b
     at b t = subst Goal t (r, c)
+
     pick : (m.version ≡ 3) ⊎ (m.version ≢ 3) → PatienceOf m spaces words
     pick (inl v) =
         let g : Goal true = at true (eq-eqb (version_in lines) 3 (e ∙ v)) in
@@ -173,11 +175,11 @@ take_patience m spaces lines words e needs r c = pick (cases_eq m.version 3)
           few = a.1;
           patient = λ other. absurd (other v);
           own = λ w last ones one'.
-            let need : needs_patience lines ≡ true =
-                needs v ∙ ap₂ (λ (a b : Bool). a && b) (le-leb m.count (length spaces + 1) (omega (arith, last)))
-                (all_true (λ (s : SpaceView). s.patience) 1 spaces ones) in
-            let two : 2 ≤ n.number = subst (λ (b : Bool). (if b then 2 else 1) ≤ n.number) need a.0 in
-            absurd (omega (arith, one'))
+              let need : needs_patience lines ≡ true =
+              needs v ∙ ap₂ (λ (a b : Bool). a && b) (le-leb m.count (length spaces + 1) (omega (arith, last)))
+              (all_true (λ (s : SpaceView). s.patience) 1 spaces ones) in
+              let two : 2 ≤ n.number = subst (λ (b : Bool). (if b then 2 else 1) ≤ n.number) need a.0 in
+              absurd (omega (arith, one'));
         }
       where
         low : (n : ℕ) (b : Bool) → (if b then 2 else 1) ≤ n → 1 ≤ n
@@ -187,8 +189,12 @@ take_patience m spaces lines words e needs r c = pick (cases_eq m.version 3)
         let other : version_in lines ≢ 3 = λ w. v (sym e ∙ w) in
         let g : Goal false = at false (ne_eqb (version_in lines) 3 other) in
         record {
-          number = 1; spelled = no_words words g.1 ∙ ap (λ (b : Bool). if b then decimal 1 ∷ [] else []) (sym (ne_eqb m.version 3 v));
-          some = omega arith; few = omega arith; patient = λ w. refl; own = λ w. absurd (v w)
+          number = 1;
+          spelled = no_words words g.1 ∙ ap (λ (b : Bool). if b then decimal 1 ∷ [] else []) (sym (ne_eqb m.version 3 v));
+          some = omega arith;
+          few = omega arith;
+          patient = λ w. refl;
+          own = λ w. absurd (v w);
         }
 
 space_spelled : (m : Machine) (lines : List (List (List ℕ))) (words : List (List ℕ))
@@ -215,24 +221,44 @@ take_space versions m spaces words three h few r o c =
     let k = first (within 0 64) (within 1 256 ∷ patience_field lines) s.others s.rest in
     let g = first (within 1 256) (patience_field lines) k.others k.rest in
     let p = take_patience m spaces lines g.others (version-at_space m spaces (omega (arith, h.0.version)))
-        (λ v. needs-at_space m spaces v (omega (arith, h.0.count.1))
-        (All-weaker IsSpace (λ (s : SpaceView). s.patience < 2 ^ 64) (λ s k. omega (arith, k.patience)) spaces h.1.each)) g.rest
-        (omega (arith, c, a.long, b.long, s.long, k.long, g.long)) in
+    (λ v. needs-at_space m spaces v (omega (arith, h.0.count.1))
+    (All-weaker IsSpace (λ (s : SpaceView). s.patience < 2 ^ 64) (λ s k. omega (arith, k.patience)) spaces h.1.each)) g.rest
+    (omega (arith, c, a.long, b.long, s.long, k.long, g.long)) in
     let d : Draft = record {
-        priority = a.right.0; mutexes = b.right.0; sem_count = s.right.0; cells = k.right.0; program_count = g.right.0; patience = p.number;
-        sems = []; absent = []; programs = [] } in
+      priority = a.right.0;
+      mutexes = b.right.0;
+      sem_count = s.right.0;
+      cells = k.right.0;
+      program_count = g.right.0;
+      patience = p.number;
+      sems = [];
+      absent = [];
+      programs = [];
+    } in
     let spelled : words ≡ decimal d.priority ∷ decimal d.mutexes ∷ decimal d.sem_count ∷ decimal d.cells ∷ decimal d.program_count
-            ∷ (if eqb m.version 3 then decimal d.patience ∷ [] else []) =
-        space_spelled m lines words a b s k g p.number p.spelled in
+    ∷ (if eqb m.version 3 then decimal d.patience ∷ [] else []) =
+    space_spelled m lines words a b s k g p.number p.spelled in
     let is : IsDraft m spaces d = record {
-        room = h.2; priority = (in_range 0 7 d.priority a.right.3).1; mutexes = (in_range 0 64 d.mutexes b.right.3).1;
-        sem_count = (in_range 0 64 d.sem_count s.right.3).1; cells = (in_range 0 64 d.cells k.right.3).1;
-        program_count = in_range 1 256 d.program_count g.right.3; patience = (p.some, p.few); patient = p.patient; own = p.own;
-        sems = omega arith; starts = All-nil (λ (n : ℕ). n ≤ 1000000); pages = All-nil (λ (n : ℕ). n ≤ 15); absent_rise = λ k l. absurd (omega arith);
-        programs = omega arith; each = All-nil IsProgram; names = All-nil (All (NamesDeclared d.mutexes d.sem_count d.cells d.program_count)) } in
+      room = h.2;
+      priority = (in_range 0 7 d.priority a.right.3).1;
+      mutexes = (in_range 0 64 d.mutexes b.right.3).1;
+      sem_count = (in_range 0 64 d.sem_count s.right.3).1;
+      cells = (in_range 0 64 d.cells k.right.3).1;
+      program_count = in_range 1 256 d.program_count g.right.3;
+      patience = (p.some, p.few);
+      patient = p.patient;
+      own = p.own;
+      sems = omega arith;
+      starts = All-nil (λ (n : ℕ). n ≤ 1000000);
+      pages = All-nil (λ (n : ℕ). n ≤ 15);
+      absent_rise = λ k l. absurd (omega arith);
+      programs = omega arith;
+      each = All-nil IsProgram;
+      names = All-nil (All (NamesDeclared d.mutexes d.sem_count d.cells d.program_count));
+    } in
     step_with versions (AtSpace m spaces) (codes "space") words
     (decimal d.priority ∷ decimal d.mutexes ∷ decimal d.sem_count ∷ decimal d.cells ∷ decimal d.program_count
-        ∷ (if eqb m.version 3 then decimal d.patience ∷ [] else [])) (after_sem m spaces d) spelled h
+    ∷ (if eqb m.version 3 then decimal d.patience ∷ [] else [])) (after_sem m spaces d) spelled h
     (step_space m spaces d (refl, refl, refl)) (reached_after_sem versions m spaces d h.0 h.1 is refl refl)
 
 take_sem : (versions : ℕ) (m : Machine) (spaces : List SpaceView) (d : Draft) (words : List (List ℕ)) → IsReached versions (AtSem m spaces d)
@@ -255,9 +281,9 @@ page_above versions m spaces d k h small o i e = pick (split_last d.absent)
         let line : last_line (shown (AtAbsent m spaces d)) ≡ absent_line s.last = last_line-at_absent m spaces d s.front s.last s.whole h.4 in
         let old : s.last ≤ 15 = All-last (λ (n : ℕ). n ≤ 15) s.front s.last (subst (λ (xs : List ℕ). All (λ (n : ℕ). n ≤ 15) xs) s.whole h.2.pages) in
         let less : list_lt (numbers_of 1 (last_line (shown (AtAbsent m spaces d)))) (numbers_of 1 (absent_line k)) ≡ true =
-            o (0, omega arith, refl) (ap first_word line) in
+        o (0, omega arith, refl) (ap first_word line) in
         let numbers : list_lt (s.last ∷ []) (k ∷ []) ≡ true =
-            ap₂ list_lt (ap (λ (n : ℕ). n ∷ []) (sym (reads s.last (omega arith))) ∙ ap (numbers_of 1) (sym line)) (ap (λ (n : ℕ). n ∷ []) (sym (reads k (omega arith)))) ∙ less in
+        ap₂ list_lt (ap (λ (n : ℕ). n ∷ []) (sym (reads s.last (omega arith))) ∙ ap (numbers_of 1) (sym line)) (ap (λ (n : ℕ). n ∷ []) (sym (reads k (omega arith)))) ∙ less in
         subst (λ (n : ℕ). n < k) (sym (ap (λ (xs : List ℕ). get_or xs i 0) s.whole ∙ get_or_push s.front s.last 0 i place))
         (by_heads (before_heads s.last k [] [] numbers))
       where
@@ -271,7 +297,7 @@ take_absent versions m spaces d words h few r o c =
     let n = one (λ n. leb 0 n && leb n 15) 4 words r c in
     let a = in_range 0 15 n.number n.passes in
     let order : IsInOrder (shown (AtAbsent m spaces d)) 1 (absent_line n.number) =
-        subst (λ (ws : List (List ℕ)). IsInOrder (shown (AtAbsent m spaces d)) 1 (codes "absent" ∷ ws)) n.spelled o in
+    subst (λ (ws : List (List ℕ)). IsInOrder (shown (AtAbsent m spaces d)) 1 (codes "absent" ∷ ws)) n.spelled o in
     step_with versions (AtAbsent m spaces d) (codes "absent") words (decimal n.number ∷ []) (AtAbsent m spaces (with_absent d n.number)) n.spelled h
     (step_absent m spaces d n.number)
     (reached_absent versions m spaces d n.number h a.1
@@ -299,9 +325,19 @@ take_program versions m spaces d words h few r o c =
 register_of : (word : List ℕ) → Contains registers word → (r : Reg) × (word ≡ register r)
 register_of word c =
     All-contains (λ (w : List ℕ). (r : Reg) × (w ≡ register r)) registers word
-    (All-from_recursion (λ (w : List ℕ). (r : Reg) × (w ≡ register r)) registers
-    (spelled R0 0 (omega arith) refl, (spelled R1 1 (omega arith) refl, (spelled R2 2 (omega arith) refl, (spelled R3 3 (omega arith) refl,
-    (spelled R4 4 (omega arith) refl, (spelled R5 5 (omega arith) refl, (spelled R6 6 (omega arith) refl, (spelled R7 7 (omega arith) refl, tt))))))))) c
+    (All-from_recursion (λ (w : List ℕ). (r : Reg) × (w ≡ register r)) registers (
+      spelled R0 0 (omega arith) refl,
+      (
+        spelled R1 1 (omega arith) refl,
+        (
+          spelled R2 2 (omega arith) refl,
+          (
+            spelled R3 3 (omega arith) refl,
+            (spelled R4 4 (omega arith) refl, (spelled R5 5 (omega arith) refl, (spelled R6 6 (omega arith) refl, (spelled R7 7 (omega arith) refl, tt)))),
+          ),
+        ),
+      ),
+    )) c
   where
     spelled : (r : Reg) (n : ℕ) → n < 10 → register r ≡ 114 ∷ decimal n → (q : Reg) × (114 ∷ (48 + n) ∷ [] ≡ register q)
     spelled r n h e = (r, ap (λ (ds : List ℕ). 114 ∷ ds) (sym (decimal_digit n h)) ∙ sym e)
@@ -338,22 +374,31 @@ take_instr versions m spaces d len instrs word words h i = pick (cases_eq (lengt
   where
     p : Position
     p = AtInstr m spaces d len instrs
+
     step : (length instrs + 1 ≡ len → i.instr ≡ End) → StepTo versions p (word ∷ words) ⊎ IsLastNotEnd p (word ∷ words)
     step end =
         let s : Steps p (instr_line i.instr) (after_instr m spaces d len (instrs ++ i.instr ∷ [])) = step_instr m spaces d len instrs i.instr in
         inl (subst (λ (l : List (List ℕ)). StepTo versions p l) (sym i.is)
         (record {
-          position = after_instr m spaces d len (instrs ++ i.instr ∷ []); step = s;
+          position = after_instr m spaces d len (instrs ++ i.instr ∷ []);
+          step = s;
           reached = reached_instr versions m spaces d len instrs i.instr h i.kept end;
-          shows = shown-step versions p (instr_line i.instr) (after_instr m spaces d len (instrs ++ i.instr ∷ [])) s h
+          shows = shown-step versions p (instr_line i.instr) (after_instr m spaces d len (instrs ++ i.instr ∷ [])) s h;
         }))
+
     pick : (length instrs + 1 ≡ len) ⊎ (length instrs + 1 ≢ len) → (i.instr ≡ End) ⊎ (first_word (instr_line i.instr) ≢ codes "end")
         → StepTo versions p (word ∷ words) ⊎ IsLastNotEnd p (word ∷ words)
     pick (inr other) _ = step (λ e. absurd (other e))
     pick (inl last) (inl end) = step (λ e. end)
     pick (inl last) (inr other) = inr (record {
-      machine = m; spaces = spaces; draft = d; len = len; instrs = instrs; is = refl; last = last;
-      other = λ e. other (ap first_word (sym i.is ∙ e))
+      machine = m;
+      spaces = spaces;
+      draft = d;
+      len = len;
+      instrs = instrs;
+      is = refl;
+      last = last;
+      other = λ e. other (ap first_word (sym i.is ∙ e));
     })
 
 -- what is declared and read at an instruction
@@ -378,8 +423,10 @@ register_and f words r c =
     let none : b.others ≡ [] = no_words b.others (omega (arith, c, a.long, b.long)) in
     let reg = register_of a.word a.right in
     record {
-      reg = reg.0; word = b.word; right = b.right;
-      spelled = a.whole ∙ ap₂ (λ (w : List ℕ) (ws : List (List ℕ)). w ∷ ws) reg.1 (b.whole ∙ ap (λ (ws : List (List ℕ)). b.word ∷ ws) none)
+      reg = reg.0;
+      word = b.word;
+      right = b.right;
+      spelled = a.whole ∙ ap₂ (λ (w : List ℕ) (ws : List (List ℕ)). w ∷ ws) reg.1 (b.whole ∙ ap (λ (ws : List (List ℕ)). b.word ∷ ws) none);
     }
 
 register_alone : (words : List (List ℕ)) → AreRight (Register ∷ []) words → length words ≡ 1 → (r : Reg) × (words ≡ register r ∷ [])
@@ -399,8 +446,9 @@ spelled_set : (versions : ℕ) (lines : List (List (List ℕ))) (d : Draft) (len
 spelled_set versions lines d len words g r c =
     let a = register_and (within 0 (2 ^ 64 - 1)) words r c in
     record {
-      instr = Set a.reg a.right.0; kept = record { range = a.right.1; jump = tt; name = tt };
-      is = ap (λ (ws : List (List ℕ)). codes "set" ∷ ws) (a.spelled ∙ ap (λ (w : List ℕ). register a.reg ∷ w ∷ []) a.right.2)
+      instr = Set a.reg a.right.0;
+      kept = record { range = a.right.1; jump = tt; name = tt };
+      is = ap (λ (ws : List (List ℕ)). codes "set" ∷ ws) (a.spelled ∙ ap (λ (w : List ℕ). register a.reg ∷ w ∷ []) a.right.2);
     }
 
 spelled_add : (versions : ℕ) (lines : List (List (List ℕ))) (d : Draft) (len : ℕ) (words : List (List ℕ)) → Declared lines d len → Spelled versions lines d len words (codes "add")
@@ -408,8 +456,9 @@ spelled_add versions lines d len words g r c =
     let a = register_and Register words r c in
     let b = register_of a.word a.right in
     record {
-      instr = Add a.reg b.0; kept = record { range = tt; jump = tt; name = tt };
-      is = ap (λ (ws : List (List ℕ)). codes "add" ∷ ws) (a.spelled ∙ ap (λ (w : List ℕ). register a.reg ∷ w ∷ []) b.1)
+      instr = Add a.reg b.0;
+      kept = record { range = tt; jump = tt; name = tt };
+      is = ap (λ (ws : List (List ℕ)). codes "add" ∷ ws) (a.spelled ∙ ap (λ (w : List ℕ). register a.reg ∷ w ∷ []) b.1);
     }
 
 spelled_sub : (versions : ℕ) (lines : List (List (List ℕ))) (d : Draft) (len : ℕ) (words : List (List ℕ)) → Declared lines d len → Spelled versions lines d len words (codes "sub")
@@ -417,32 +466,36 @@ spelled_sub versions lines d len words g r c =
     let a = register_and Register words r c in
     let b = register_of a.word a.right in
     record {
-      instr = Sub a.reg b.0; kept = record { range = tt; jump = tt; name = tt };
-      is = ap (λ (ws : List (List ℕ)). codes "sub" ∷ ws) (a.spelled ∙ ap (λ (w : List ℕ). register a.reg ∷ w ∷ []) b.1)
+      instr = Sub a.reg b.0;
+      kept = record { range = tt; jump = tt; name = tt };
+      is = ap (λ (ws : List (List ℕ)). codes "sub" ∷ ws) (a.spelled ∙ ap (λ (w : List ℕ). register a.reg ∷ w ∷ []) b.1);
     }
 
 spelled_jnz : (versions : ℕ) (lines : List (List (List ℕ))) (d : Draft) (len : ℕ) (words : List (List ℕ)) → Declared lines d len → Spelled versions lines d len words (codes "jnz")
 spelled_jnz versions lines d len words g r c =
     let a = register_and (Number (λ n. ltb n (length_in lines)) 7) words r c in
     record {
-      instr = Jnz a.reg a.right.0; kept = record { range = tt; jump = omega (arith, ltb-true a.right.0 (length_in lines) a.right.3, g.places); name = tt };
-      is = ap (λ (ws : List (List ℕ)). codes "jnz" ∷ ws) (a.spelled ∙ ap (λ (w : List ℕ). register a.reg ∷ w ∷ []) a.right.2)
+      instr = Jnz a.reg a.right.0;
+      kept = record { range = tt; jump = omega (arith, ltb-true a.right.0 (length_in lines) a.right.3, g.places); name = tt };
+      is = ap (λ (ws : List (List ℕ)). codes "jnz" ∷ ws) (a.spelled ∙ ap (λ (w : List ℕ). register a.reg ∷ w ∷ []) a.right.2);
     }
 
 spelled_load : (versions : ℕ) (lines : List (List (List ℕ))) (d : Draft) (len : ℕ) (words : List (List ℕ)) → Declared lines d len → Spelled versions lines d len words (codes "load")
 spelled_load versions lines d len words g r c =
     let a = register_and (declared (cells_in lines)) words r c in
     record {
-      instr = Load a.reg a.right.0; kept = record { range = tt; jump = tt; name = omega (arith, ltb-true a.right.0 (cells_in lines) a.right.3, g.cells) };
-      is = ap (λ (ws : List (List ℕ)). codes "load" ∷ ws) (a.spelled ∙ ap (λ (w : List ℕ). register a.reg ∷ w ∷ []) a.right.2)
+      instr = Load a.reg a.right.0;
+      kept = record { range = tt; jump = tt; name = omega (arith, ltb-true a.right.0 (cells_in lines) a.right.3, g.cells) };
+      is = ap (λ (ws : List (List ℕ)). codes "load" ∷ ws) (a.spelled ∙ ap (λ (w : List ℕ). register a.reg ∷ w ∷ []) a.right.2);
     }
 
 spelled_store : (versions : ℕ) (lines : List (List (List ℕ))) (d : Draft) (len : ℕ) (words : List (List ℕ)) → Declared lines d len → Spelled versions lines d len words (codes "store")
 spelled_store versions lines d len words g r c =
     let a = register_and (declared (cells_in lines)) words r c in
     record {
-      instr = Store a.reg a.right.0; kept = record { range = tt; jump = tt; name = omega (arith, ltb-true a.right.0 (cells_in lines) a.right.3, g.cells) };
-      is = ap (λ (ws : List (List ℕ)). codes "store" ∷ ws) (a.spelled ∙ ap (λ (w : List ℕ). register a.reg ∷ w ∷ []) a.right.2)
+      instr = Store a.reg a.right.0;
+      kept = record { range = tt; jump = tt; name = omega (arith, ltb-true a.right.0 (cells_in lines) a.right.3, g.cells) };
+      is = ap (λ (ws : List (List ℕ)). codes "store" ∷ ws) (a.spelled ∙ ap (λ (w : List ℕ). register a.reg ∷ w ∷ []) a.right.2);
     }
 
 spelled_out : (versions : ℕ) (lines : List (List (List ℕ))) (d : Draft) (len : ℕ) (words : List (List ℕ)) → Declared lines d len → Spelled versions lines d len words (codes "out")
@@ -454,8 +507,9 @@ spelled_fork : (versions : ℕ) (lines : List (List (List ℕ))) (d : Draft) (le
 spelled_fork versions lines d len words g r c =
     let a = register_and (declared (programs_in lines)) words r c in
     record {
-      instr = Fork a.reg a.right.0; kept = record { range = tt; jump = tt; name = omega (arith, ltb-true a.right.0 (programs_in lines) a.right.3, g.programs) };
-      is = ap (λ (ws : List (List ℕ)). codes "fork" ∷ ws) (a.spelled ∙ ap (λ (w : List ℕ). register a.reg ∷ w ∷ []) a.right.2)
+      instr = Fork a.reg a.right.0;
+      kept = record { range = tt; jump = tt; name = omega (arith, ltb-true a.right.0 (programs_in lines) a.right.3, g.programs) };
+      is = ap (λ (ws : List (List ℕ)). codes "fork" ∷ ws) (a.spelled ∙ ap (λ (w : List ℕ). register a.reg ∷ w ∷ []) a.right.2);
     }
 
 spelled_join : (versions : ℕ) (lines : List (List (List ℕ))) (d : Draft) (len : ℕ) (words : List (List ℕ)) → Declared lines d len → Spelled versions lines d len words (codes "join")
@@ -504,31 +558,69 @@ take_at_instr versions m spaces d len instrs word words h w few r o c =
   where
     lines : List (List (List ℕ))
     lines = shown (AtInstr m spaces d len instrs)
+
     g : Declared lines d len
     g = record {
-      mutexes = mutexes-at_instr m spaces d len instrs (omega (arith, h.2.mutexes)); sems = sems-at_instr m spaces d len instrs (omega (arith, h.2.sem_count));
-      cells = cells-at_instr m spaces d len instrs (omega (arith, h.2.cells)); programs = programs-at_instr m spaces d len instrs (omega (arith, h.2.program_count.1));
-      places = length-at_instr m spaces d len instrs (omega (arith, h.5.short))
+      mutexes = mutexes-at_instr m spaces d len instrs (omega (arith, h.2.mutexes));
+      sems = sems-at_instr m spaces d len instrs (omega (arith, h.2.sem_count));
+      cells = cells-at_instr m spaces d len instrs (omega (arith, h.2.cells));
+      programs = programs-at_instr m spaces d len instrs (omega (arith, h.2.program_count.1));
+      places = length-at_instr m spaces d len instrs (omega (arith, h.5.short));
     }
+
     all : AllByRecursion (Spelled versions lines d len words) instr_words
-    all = (spelled_compute versions lines d len words g,
-        (spelled_set versions lines d len words g,
-        (spelled_add versions lines d len words g,
-        (spelled_sub versions lines d len words g,
-        (spelled_jnz versions lines d len words g,
-        (spelled_load versions lines d len words g,
-        (spelled_store versions lines d len words g,
-        (spelled_out versions lines d len words g,
-        (spelled_fork versions lines d len words g,
-        (spelled_join versions lines d len words g,
-        (spelled_lock versions lines d len words g,
-        (spelled_unlock versions lines d len words g,
-        (spelled_wait versions lines d len words g,
-        (spelled_signal versions lines d len words g,
-        (spelled_io versions lines d len words g,
-        (spelled_touch versions lines d len words g,
-        (spelled_end versions lines d len words g,
-        tt)))))))))))))))))
+    all = (
+      spelled_compute versions lines d len words g,
+      (
+        spelled_set versions lines d len words g,
+        (
+          spelled_add versions lines d len words g,
+          (
+            spelled_sub versions lines d len words g,
+            (
+              spelled_jnz versions lines d len words g,
+              (
+                spelled_load versions lines d len words g,
+                (
+                  spelled_store versions lines d len words g,
+                  (
+                    spelled_out versions lines d len words g,
+                    (
+                      spelled_fork versions lines d len words g,
+                      (
+                        spelled_join versions lines d len words g,
+                        (
+                          spelled_lock versions lines d len words g,
+                          (
+                            spelled_unlock versions lines d len words g,
+                            (
+                              spelled_wait versions lines d len words g,
+                              (
+                                spelled_signal versions lines d len words g,
+                                (
+                                  spelled_io versions lines d len words g,
+                                  (
+                                    spelled_touch versions lines d len words g,
+                                    (
+                                      spelled_end versions lines d len words g,
+                                      tt,
+                                    ),
+                                  ),
+                                ),
+                              ),
+                            ),
+                          ),
+                        ),
+                      ),
+                    ),
+                  ),
+                ),
+              ),
+            ),
+          ),
+        ),
+      ),
+    )
 
 -- the evictions rise
 heads_before : (a b : Evict) → list_lt (a.event ∷ a.space.0 ∷ a.page ∷ []) (b.event ∷ b.space.0 ∷ b.page ∷ []) ≡ true → IsBefore a b
@@ -537,10 +629,12 @@ heads_before a b h = by_event (before_heads a.event b.event (a.space.0 ∷ a.pag
     by_page : (a.page < b.page) ⊎ ((a.page ≡ b.page) × (list_lt [] [] ≡ true)) → a.page < b.page
     by_page (inl l) = l
     by_page (inr x) = absurd (cc x.1)
+
     by_space : (a.space.0 < b.space.0) ⊎ ((a.space.0 ≡ b.space.0) × (list_lt (a.page ∷ []) (b.page ∷ []) ≡ true))
         → (a.space.0 < b.space.0) ⊎ ((a.space.0 ≡ b.space.0) × (a.page < b.page))
     by_space (inl l) = inl l
     by_space (inr x) = inr (x.0, by_page (before_heads a.page b.page [] [] x.1))
+
     by_event : (a.event < b.event) ⊎ ((a.event ≡ b.event) × (list_lt (a.space.0 ∷ a.page ∷ []) (b.space.0 ∷ b.page ∷ []) ≡ true)) → IsBefore a b
     by_event (inl l) = inl l
     by_event (inr x) = inr (x.0, by_space (before_heads a.space.0 b.space.0 (a.page ∷ []) (b.page ∷ []) x.1))
@@ -554,39 +648,62 @@ eviction_above versions m spaces es e h is o i d long = pick (split_last es)
     pick (inr s) =
         let place : length s.front ≡ i = omega (arith, ap length s.whole, length_push s.front s.last) in
         let line : last_line (shown (AtEvict m spaces es)) ≡ evict_line s.last =
-            ap (λ (xs : List Evict). last_line (shown (AtEvict m spaces xs))) s.whole ∙ last_line-at_evict m spaces s.front s.last in
+        ap (λ (xs : List Evict). last_line (shown (AtEvict m spaces xs))) s.whole ∙ last_line-at_evict m spaces s.front s.last in
         let was : IsEviction m.count s.last =
-            All-last (IsEviction m.count) s.front s.last (subst (λ (xs : List Evict). All (IsEviction m.count) xs) s.whole h.3.each) in
+        All-last (IsEviction m.count) s.front s.last (subst (λ (xs : List Evict). All (IsEviction m.count) xs) s.whole h.3.each) in
         let less : list_lt (numbers_of 3 (last_line (shown (AtEvict m spaces es)))) (numbers_of 3 (evict_line e)) ≡ true =
-            o (1, omega arith, refl) (ap first_word line) in
+        o (1, omega arith, refl) (ap first_word line) in
         let numbers : list_lt (s.last.event ∷ s.last.space.0 ∷ s.last.page ∷ []) (e.event ∷ e.space.0 ∷ e.page ∷ []) ≡ true =
-            ap₂ list_lt (sym (ap (numbers_of 3) line ∙ eviction_numbers m.count s.last h.0.count.1 was)) (sym (eviction_numbers m.count e h.0.count.1 is)) ∙ less in
+        ap₂ list_lt (sym (ap (numbers_of 3) line ∙ eviction_numbers m.count s.last h.0.count.1 was)) (sym (eviction_numbers m.count e h.0.count.1 is)) ∙ less in
         subst (λ (x : Evict). IsBefore x e) (sym (ap (λ (xs : List Evict). get_or xs i d) s.whole ∙ get_or_push s.front s.last d i place))
         (heads_before s.last e numbers)
 
-take_evict : (versions : ℕ) (m : Machine) (spaces : List SpaceView) (es : List Evict) (words : List (List ℕ)) → IsReached versions (AtEvict m spaces es)
-    → Taken versions (AtEvict m spaces es) words (codes "evict")
-take_evict versions m spaces es words h few r o c =
-    let lines : List (List (List ℕ)) = shown (AtEvict m spaces es) in
+-- the eviction that words spell
+record EvictOf (count : ℕ) (words : List (List ℕ)) : Type 0 where
+  eviction : Evict
+  spelled : words ≡ decimal eviction.event ∷ decimal eviction.space.0 ∷ decimal eviction.page ∷ []
+  is : IsEviction count eviction
+
+evict_spelled : (lines : List (List (List ℕ))) (words : List (List ℕ)) (a : First (within 1 1000000) (declared (spaces_in lines) ∷ within 0 15 ∷ []) words)
+    (b : First (declared (spaces_in lines)) (within 0 15 ∷ []) a.others) (n : ℕ) → b.others ≡ decimal n ∷ []
+    → words ≡ decimal a.right.0 ∷ decimal b.right.0 ∷ decimal n ∷ []
+evict_spelled lines words a b n e = spelled_more _ _ words a _ _ a.right.2 (spelled_more _ _ a.others b _ _ b.right.2 e)
+
+evict_of : (lines : List (List (List ℕ))) (count : ℕ) (words : List (List ℕ)) → spaces_in lines ≡ count
+    → AreRight (within 1 1000000 ∷ declared (spaces_in lines) ∷ within 0 15 ∷ []) words → length words ≡ 3 → EvictOf count words
+evict_of lines count words e r c =
     let a = first (within 1 1000000) (declared (spaces_in lines) ∷ within 0 15 ∷ []) words r in
     let b = first (declared (spaces_in lines)) (within 0 15 ∷ []) a.others a.rest in
     let k = one (λ n. leb 0 n && leb n 15) 4 b.others b.rest (omega (arith, c, a.long, b.long)) in
     let event = in_range 1 1000000 a.right.0 a.right.3 in
-    let page = in_range 0 15 k.number k.passes in
-    let e : Evict = record { event = a.right.0; space = record { 0 = b.right.0 }; page = k.number } in
-    let spelled : words ≡ decimal e.event ∷ decimal e.space.0 ∷ decimal e.page ∷ [] =
-        spelled_more _ _ words a _ _ a.right.2 (spelled_more _ _ a.others b _ _ b.right.2 k.spelled) in
-    let is : IsEviction m.count e = record {
-        first = event.0; last = event.1; page = page.1;
-        space = omega (arith, ltb-true b.right.0 (spaces_in lines) b.right.3, spaces-at_evict m spaces es (omega (arith, h.0.count.1))) } in
-    let order : IsInOrder lines 3 (evict_line e) = subst (λ (ws : List (List ℕ)). IsInOrder lines 3 (codes "evict" ∷ ws)) spelled o in
-    step_with versions (AtEvict m spaces es) (codes "evict") words (decimal e.event ∷ decimal e.space.0 ∷ decimal e.page ∷ [])
-    (AtEvict m spaces (es ++ e ∷ [])) spelled h (step_evict m spaces es e)
-    (reached_evict versions m spaces es e h (room (cases_lt (length es) 4096)) is (eviction_above versions m spaces es e h is order))
+    record {
+      eviction = record { event = a.right.0; space = record { 0 = b.right.0 }; page = k.number };
+      spelled = evict_spelled lines words a b k.number k.spelled;
+      is = record {
+        first = event.0;
+        last = event.1;
+        page = (in_range 0 15 k.number k.passes).1;
+        space = omega (arith, ltb-true b.right.0 (spaces_in lines) b.right.3, e);
+      };
+    }
+
+take_evict : (versions : ℕ) (m : Machine) (spaces : List SpaceView) (es : List Evict) (words : List (List ℕ)) → IsReached versions (AtEvict m spaces es)
+    → Taken versions (AtEvict m spaces es) words (codes "evict")
+take_evict versions m spaces es words h few r o c =
+    go (evict_of (shown (AtEvict m spaces es)) m.count words (spaces-at_evict m spaces es (omega (arith, h.0.count.1))) r c)
   where
     room : (length es < 4096) ⊎ (4096 ≤ length es) → length es < 4096
     room (inl l) = l
     room (inr l) = absurd (few (inl (refl, omega (arith, count_evict-at_evict m spaces es))))
+
+    go : EvictOf m.count words → StepTo versions (AtEvict m spaces es) (codes "evict" ∷ words) ⊎ IsLastNotEnd (AtEvict m spaces es) (codes "evict" ∷ words)
+    go e =
+        let order : IsInOrder (shown (AtEvict m spaces es)) 3 (evict_line e.eviction) =
+        subst (λ (ws : List (List ℕ)). IsInOrder (shown (AtEvict m spaces es)) 3 (codes "evict" ∷ ws)) e.spelled o in
+        step_with versions (AtEvict m spaces es) (codes "evict") words
+        (decimal e.eviction.event ∷ decimal e.eviction.space.0 ∷ decimal e.eviction.page ∷ [])
+        (AtEvict m spaces (es ++ e.eviction ∷ [])) e.spelled h (step_evict m spaces es e.eviction)
+        (reached_evict versions m spaces es e.eviction h (room (cases_lt (length es) 4096)) e.is (eviction_above versions m spaces es e.eviction h e.is order))
 
 room_of : (lines : List (List (List ℕ))) (n : ℕ) → count_of_word lines (codes "turn") ≡ n → ¬ IsTooMany lines (codes "turn") → n < 65536
 room_of lines n e few = pick (cases_lt n 65536)

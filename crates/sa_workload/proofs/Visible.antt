@@ -1,5 +1,5 @@
 -- The words of lines are made of visible bytes, so a text's lines and words read back.
-use Rattle.std.proofs.Common.{◌≡◌, ◌≢◌, ℕ, ◌+◌, ◌-◌, ◌^◌, ◌<◌, ◌≤◌, ◌⊎◌, Bool, true, false, ◌&&◌, List, [], ◌∷◌, ◌++◌, length, get_or, drop, map, All, Contains, codes, decimal, leb, leb-true, arith, refl, sym, ap, ap₂, ◌∙◌, subst, inl, inr, zero, suc, if◌then◌else◌}
+use Rattle.std.proofs.Common.{◌≡◌, ◌≢◌, ℕ, ◌^◌, ◌<◌, ◌≤◌, ◌⊎◌, Bool, true, false, ◌&&◌, List, [], ◌∷◌, ◌++◌, length, map, All, Contains, codes, decimal, leb, leb-true, arith, refl, sym, ap, ap₂, ◌∙◌, subst, inl, inr, zero, suc, if◌then◌else◌}
 use Rattle.std.specs.List.{list_all, flat_map, join_with_byte}
 use Rattle.std.proofs.lemmas.List.{length_push}
 use Rattle.std.proofs.lemmas.List.Elements.{All-nil, All-cons, All-head, All-tail, All-append, All-push, All-weaker, All-map}
@@ -10,7 +10,7 @@ use Rattle.sa_text.specs.Pieces.{pieces_of, LacksSpace}
 use Rattle.sa_text.proofs.LineLemmas.{line_texts-printed, line_texts-joined}
 use Rattle.sa_text.proofs.PieceLemmas.{pieces_only}
 use Rattle.sa_text.proofs.Spelling.{decimal-is_spelling}
-use Rattle.sa_workload.specs.Text.{workload_lines, line_text, text_of, version_of}
+use Rattle.sa_workload.specs.Text.{workload_lines, line_text, text_of}
 use Rattle.sa_workload.specs.Bad.{Field, Register, Number, registers, IsRightFor, AreRight, IsPrinted, words_of, fields_behind, first_word, instr_words}
 use Rattle.sa_workload.specs.Position.{Position, AtVersion, AtProcessors, AtFetch, AtSlice, AtSpaces, AtSpace, AtSem, AtAbsent, AtProgram, AtInstr, AtEvict, AtTurn, Closed, IsReached, shown}
 use Rattle.sa_workload.specs.Steps.{Steps, expected}
@@ -58,7 +58,7 @@ is_word word = leb 1 (length word) && list_all is_visible word
 word_in : (ks : List (List ℕ)) (word : List ℕ) → list_all is_word ks ≡ true → Contains ks word → (1 ≤ length word) × IsVisibleWord word
 word_in ks word h c =
     let both = and_both (leb 1 (length word)) (list_all is_visible word)
-        (subst (λ (w : List ℕ). is_word w ≡ true) c.2 (passes is_word ks c.0 word c.1 h)) in
+    (subst (λ (w : List ℕ). is_word w ≡ true) c.2 (passes is_word ks c.0 word c.1 h)) in
     (leb-true 1 (length word) both.0, visible_by_test word both.1)
 
 right_visible : (f : Field) (word : List ℕ) → IsRightFor f word → IsVisibleWord word
@@ -91,7 +91,7 @@ line_visible : (versions : ℕ) (lines : List (List (List ℕ))) (line : List (L
 line_visible versions lines [] w r = absurd (omega (arith, w.0))
 line_visible versions lines (word ∷ words) w r = record {
   some = omega arith;
-  words = All-cons IsVisibleWord word words w.1 (rights_visible (fields_behind versions lines word) words r.right r.count)
+  words = All-cons IsVisibleWord word words w.1 (rights_visible (fields_behind versions lines word) words r.right r.count);
 }
 
 -- the line of a step is visible
@@ -143,8 +143,9 @@ line_pieces : (line : List (List ℕ)) → VisibleLine line → pieces_of (join_
 line_pieces line v =
     sym (pieces_only line (join_with_byte 32 line)
     (record {
-      joined = refl; some = v.some;
-      apart = All-weaker IsVisibleWord LacksSpace (λ w h. All-weaker IsVisible (λ b. b ≢ 32) (λ b d e. omega (arith, d.0, e)) w h) line v.words
+      joined = refl;
+      some = v.some;
+      apart = All-weaker IsVisibleWord LacksSpace (λ w h. All-weaker IsVisible (λ b. b ≢ 32) (λ b d e. omega (arith, d.0, e)) w h) line v.words;
     }))
 
 -- lines as bytes
@@ -179,9 +180,10 @@ pub reads_back : ReadsBack
 unfolding text_of
 reads_back w h =
     let visible : All VisibleLine (workload_lines w) = workload-visible w h in
-    let lines : line_texts (text_of w) ≡ map as_line (workload_lines w) = text_lines (workload_lines w) visible in
-    (ap words_of lines ∙ pieces_back (workload_lines w) visible,
-    subst (λ (ls : List LineText). All (λ (l : LineText). l.ended ≡ true) ls) (sym lines) (all_ended (workload_lines w)))
+    let lines : line_texts (text_of w) ≡ map as_line (workload_lines w) = text_lines (workload_lines w) visible in (
+      ap words_of lines ∙ pieces_back (workload_lines w) visible,
+      subst (λ (ls : List LineText). All (λ (l : LineText). l.ended ≡ true) ls) (sym lines) (all_ended (workload_lines w)),
+    )
 
 -- and bytes whose lines are those of a workload, all ended, are its text
 lines_whole : (ls : List LineText) → All (λ (l : LineText). l.ended ≡ true) ls → flat_map whole_line ls ≡ flat_map line_text (words_of ls)

@@ -11,5 +11,4 @@ ghost use Rattle.std.specs.Prelude.{◌≡◌, ℕ, List};
 /// Trial.
 pub fn trial()
     ensures { (n : ℕ) (p q : Position) (line : List (List ℕ)) → Steps p line q → IsReached n p → shown p ≡ shown p }
-{
-}
+{}

@@ -2,7 +2,7 @@ use Rattle.std.proofs.Common.{refl}
 use Rattle.sa_workload.proofs.Readings.{last_line-at_turn}
 use Rattle.sa_workload.proofs.RightWord.{right-word}
 use Rattle.sa_workload.proofs.OneCause.{causes-are_one}
-use Rattle.sa_workload.proofs.NoCause.{last_is_end, no-cause, fault-refuses}
+use Rattle.sa_workload.proofs.NoCause.{last_is_end, no-cause}
 use Rattle.sa_workload.proofs.OneBad.{texts_are_not_bad}
 use Rattle.sa_workload.proofs.Judge.{judge}
 use Rattle.sa_workload.proofs.TextOrBad.{text_or_bad}
