@@ -256,7 +256,7 @@ pub record IsBad (g : Grammar) (versions : ℕ) (ls : List LineText) (k why : �
   pub wrong : MatchOption (slice_get ls (k - 1))
       ((k ≡ length ls + 1) × ((w : WorkloadView) → g w → workload_lines w ≢ words_of ls) × (why ≡ 9))
       (λ line. (line.ended ≡ true → ¬ Begins g (words_of (take (k - 1) ls) ++ pieces_of line.bytes ∷ []))
-      × LineCause g versions (words_of (take (k - 1) ls)) line why)
+        × LineCause g versions (words_of (take (k - 1) ls)) line why)
 
 -- The bytes are bad at line k, counted from 1, with this cause; by all versions, and by version 1 alone.
 abbrev pub BadAt : List ℕ → ℕ → ℕ → Type 0
