@@ -1,23 +1,21 @@
 -- From one position one line leads on to one position alone.
-use Rattle.std.proofs.Common.{◌≡◌, ◌≢◌, ℕ, ◌+◌, ◌-◌, ◌^◌, ◌<◌, ◌≤◌, ◌⊎◌, Bool, true, false, List, [], ◌∷◌, ◌++◌, length, get_or, drop, map, All, codes, decimal, arith, refl, sym, ap, ap₂, ◌∙◌, subst, inl, inr, eqb, bytes_eq, if◌then◌else◌, eq-eqb, ne_eqb, eqb-true}
+use Rattle.std.proofs.Common.{◌≡◌, ◌≢◌, ℕ, ◌^◌, ◌<◌, ◌≤◌, Bool, true, false, List, [], ◌∷◌, ◌++◌, length, get_or, drop, All, codes, decimal, arith, refl, sym, ap, ap₂, ◌∙◌, subst, inl, inr, eqb, bytes_eq, if◌then◌else◌, eq-eqb, eqb-true}
 use Rattle.std.specs.Str.Parse.{digits_value}
 use Rattle.std.proofs.lemmas.Fmt.{decimal_injective}
-use Rattle.std.proofs.lemmas.List.{length_push}
 use Rattle.sa_base.specs.declared.number.ProcNo.{ProcNo}
-use Rattle.sa_base.specs.declared.number.SpaceNo.{SpaceNo}
 use Rattle.sa_instr.specs.declared.instr.Reg.{Reg}
 use Rattle.sa_instr.specs.declared.instr.Reg.TheVariants.{R0, R1, R2, R3, R4, R5, R6, R7}
 use Rattle.sa_instr.specs.declared.instr.Instr.{Instr}
 use Rattle.sa_instr.specs.declared.instr.Instr.TheVariants.{Compute, Set, Add, Sub, Jnz, Load, Store, Out, Fork, Join, Lock, Unlock, Wait, Signal, Io, Touch, End}
 use Rattle.sa_instr.specs.declared.workload.Evict.{Evict}
-use Rattle.sa_instr.specs.Instr.{reg_number, IsInRange, JumpsBelow, NamesDeclared}
+use Rattle.sa_instr.specs.Instr.{IsInRange, JumpsBelow, NamesDeclared}
 use Rattle.sa_instr.specs.Program.{IsProgram}
 use Rattle.sa_instr.specs.Space.{SpaceView, IsSpace}
 use Rattle.sa_instr.specs.Workload.{IsEviction}
-use Rattle.sa_workload.specs.Text.{register, instr_line, sem_line, absent_line, evict_line, turn_line}
+use Rattle.sa_workload.specs.Text.{register, instr_line, evict_line, turn_line}
 use Rattle.sa_workload.specs.Bad.{first_word}
-use Rattle.sa_workload.specs.Position.{Machine, Draft, Position, AtVersion, AtProcessors, AtFetch, AtSlice, AtSpaces, AtSpace, AtSem, AtAbsent, AtProgram, AtInstr, AtEvict, AtTurn, Closed, IsReached, IsMachine, AreSpaces, IsDraft, IsBegun, CanSlice, version_line, processors_line, fetch_line, spaces_line, draft_line}
-use Rattle.sa_workload.specs.Steps.{Steps, step_version, step_processors, step_fetch, step_slice, step_spaces, step_space, step_sem, step_absent, step_first_program, step_program, step_instr, step_evict, step_first_turn, step_turn, step_first_close, step_close, slice_line, program_line, close_line, workload, space_of_draft, IsFresh, with_sem, with_absent, with_program, after_fetch, after_sem, after_spaces, after_program, after_instr}
+use Rattle.sa_workload.specs.Position.{Machine, Draft, Position, AtProcessors, AtFetch, AtSlice, AtSpaces, AtSpace, AtSem, AtAbsent, AtProgram, AtInstr, AtEvict, AtTurn, IsReached, IsDraft, CanSlice, draft_line}
+use Rattle.sa_workload.specs.Steps.{Steps, step_version, step_processors, step_fetch, step_slice, step_spaces, step_space, step_sem, step_absent, step_first_program, step_program, step_instr, step_evict, step_first_turn, step_turn, step_first_close, step_close, space_of_draft, IsFresh, with_sem, with_absent, with_program, after_fetch, after_sem, after_spaces, after_program, after_instr}
 use Rattle.sa_workload.proofs.Fronts.{All-last}
 use Rattle.sa_workload.proofs.Readings.{reads}
 
@@ -132,7 +130,7 @@ kept_of_program : (d : Draft) (instrs : List Instr) (i : Instr) (len : ℕ) → 
 kept_of_program d instrs i len e is names = record {
   range = All-last IsInRange instrs i is.ranges;
   jump = subst (λ (n : ℕ). JumpsBelow n i) e (All-last (JumpsBelow (length (instrs ++ i ∷ []))) instrs i is.jumps);
-  name = All-last (NamesDeclared d.mutexes d.sem_count d.cells d.program_count) instrs i names
+  name = All-last (NamesDeclared d.mutexes d.sem_count d.cells d.program_count) instrs i names;
 }
 
 -- the space of a draft is kept behind it
@@ -150,8 +148,10 @@ kept_behind_program versions m spaces d len instrs i full e = by_test (eqb (leng
   where
     p : List Instr
     p = instrs ++ i ∷ []
+
     programs : List (List Instr)
     programs = d.programs ++ p ∷ []
+
     by_test : (b : Bool) → eqb (length programs) d.program_count ≡ b
         → IsReached versions (if b then after_spaces m (spaces ++ space_of_draft (with_program d p) ∷ []) else AtProgram m spaces (with_program d p))
         → IsProgram p × Kept d len i
@@ -162,11 +162,13 @@ kept_behind_program versions m spaces d len instrs i full e = by_test (eqb (leng
         let s : IsSpace (space_of_draft (with_program d p)) = space_kept versions m spaces (space_of_draft (with_program d p)) h in
         let is : IsProgram p = All-last IsProgram d.programs p s.programs in
         let named : All (NamesDeclared d.mutexes (length d.sems) d.cells (length programs)) p =
-            All-last (All (NamesDeclared d.mutexes (length d.sems) d.cells (length programs))) d.programs p s.names in
+        All-last (All (NamesDeclared d.mutexes (length d.sems) d.cells (length programs))) d.programs p s.names in
         let named' : All (NamesDeclared d.mutexes d.sem_count d.cells (length programs)) p =
-            subst (λ (n : ℕ). All (NamesDeclared d.mutexes n d.cells (length programs)) p) full named in
-        (is, kept_of_program d instrs i len e is
-        (subst (λ (n : ℕ). All (NamesDeclared d.mutexes d.sem_count d.cells n) p) (eqb-true (length programs) d.program_count t) named'))
+        subst (λ (n : ℕ). All (NamesDeclared d.mutexes n d.cells (length programs)) p) full named in (
+          is,
+          kept_of_program d instrs i len e is
+              (subst (λ (n : ℕ). All (NamesDeclared d.mutexes d.sem_count d.cells n) p) (eqb-true (length programs) d.program_count t) named'),
+        )
 
 -- behind an instruction, it has kept to its ranges, and where it was the last one the program is whole
 pub kept_behind : (versions : ℕ) (m : Machine) (spaces : List SpaceView) (d : Draft) (len : ℕ) (instrs : List Instr) (i : Instr) → length d.sems ≡ d.sem_count
@@ -175,14 +177,18 @@ kept_behind versions m spaces d len instrs i full = by_test (eqb (length p) len)
   where
     p : List Instr
     p = instrs ++ i ∷ []
+
     by_test : (b : Bool) → eqb (length p) len ≡ b → IsReached versions (if b then after_program m spaces (with_program d p) else AtInstr m spaces d len p)
         → Kept d len i × (length p ≡ len → IsProgram p)
     by_test true t h = let k = kept_behind_program versions m spaces d len instrs i full (eqb-true (length p) len t) h in (k.1, λ e. k.0)
-    by_test false t h =
-        (record {
-          range = All-last IsInRange instrs i h.5.ranges; jump = All-last (JumpsBelow len) instrs i h.5.jumps;
-          name = All-last (NamesDeclared d.mutexes d.sem_count d.cells d.program_count) instrs i h.5.names
-        }, λ e. absurd (omega (arith, e, h.5.room)))
+    by_test false t h = (
+      record {
+        range = All-last IsInRange instrs i h.5.ranges;
+        jump = All-last (JumpsBelow len) instrs i h.5.jumps;
+        name = All-last (NamesDeclared d.mutexes d.sem_count d.cells d.program_count) instrs i h.5.names;
+      },
+      λ e. absurd (omega (arith, e, h.5.room)),
+    )
 
 small_behind : (versions : ℕ) (m : Machine) (spaces : List SpaceView) (d : Draft) (len : ℕ) (instrs : List Instr) (i : Instr)
     → IsReached versions (AtInstr m spaces d len instrs) → IsReached versions (after_instr m spaces d len (instrs ++ i ∷ [])) → number_of i < 2 ^ 64
@@ -222,19 +228,20 @@ same_patience false p q e f g h = f refl
 same_draft : (m : Machine) (spaces : List SpaceView) (d c : Draft) → IsFresh d → IsFresh c → IsDraft m spaces d → IsDraft m spaces c
     → draft_line m.version d ≡ draft_line m.version c → d ≡ c
 same_draft m spaces d c f g h k e = λ i. record {
-    priority = decimal_injective d.priority c.priority (omega (arith, h.priority)) (omega (arith, k.priority)) (word 1 e) i;
-    mutexes = decimal_injective d.mutexes c.mutexes (omega (arith, h.mutexes)) (omega (arith, k.mutexes)) (word 2 e) i;
-    sem_count = decimal_injective d.sem_count c.sem_count (omega (arith, h.sem_count)) (omega (arith, k.sem_count)) (word 3 e) i;
-    cells = decimal_injective d.cells c.cells (omega (arith, h.cells)) (omega (arith, k.cells)) (word 4 e) i;
-    program_count = decimal_injective d.program_count c.program_count (omega (arith, h.program_count.1)) (omega (arith, k.program_count.1)) (word 5 e) i;
-    patience = patience i;
-    sems = (f.0 ∙ sym g.0) i;
-    absent = (f.1 ∙ sym g.1) i;
-    programs = (f.2 ∙ sym g.2) i;
-  }
+  priority = decimal_injective d.priority c.priority (omega (arith, h.priority)) (omega (arith, k.priority)) (word 1 e) i;
+  mutexes = decimal_injective d.mutexes c.mutexes (omega (arith, h.mutexes)) (omega (arith, k.mutexes)) (word 2 e) i;
+  sem_count = decimal_injective d.sem_count c.sem_count (omega (arith, h.sem_count)) (omega (arith, k.sem_count)) (word 3 e) i;
+  cells = decimal_injective d.cells c.cells (omega (arith, h.cells)) (omega (arith, k.cells)) (word 4 e) i;
+  program_count = decimal_injective d.program_count c.program_count (omega (arith, h.program_count.1)) (omega (arith, k.program_count.1)) (word 5 e) i;
+  patience = patience i;
+  sems = (f.0 ∙ sym g.0) i;
+  absent = (f.1 ∙ sym g.1) i;
+  programs = (f.2 ∙ sym g.2) i;
+}
   where
     before_3 : eqb m.version 3 ≡ false → m.version ≢ 3
     before_3 t v = absurd (cc (t, eq-eqb m.version 3 v))
+
     patience : d.patience ≡ c.patience
     patience =
         same_patience (eqb m.version 3) d.patience c.patience (ap (λ (l : List (List ℕ)). drop 6 l) e)
@@ -242,13 +249,14 @@ same_draft m spaces d c f g h k e = λ i. record {
 
 same_evict : (a b : Evict) (count : ℕ) → count ≤ 16 → IsEviction count a → IsEviction count b → evict_line a ≡ evict_line b → a ≡ b
 same_evict a b count few h k e = λ i. record {
-    event = decimal_injective a.event b.event (omega (arith, h.last)) (omega (arith, k.last)) (word 1 e) i;
-    space = space i;
-    page = decimal_injective a.page b.page (omega (arith, h.page)) (omega (arith, k.page)) (word 3 e) i;
-  }
+  event = decimal_injective a.event b.event (omega (arith, h.last)) (omega (arith, k.last)) (word 1 e) i;
+  space = space i;
+  page = decimal_injective a.page b.page (omega (arith, h.page)) (omega (arith, k.page)) (word 3 e) i;
+}
   where
     number : a.space.0 ≡ b.space.0
     number = decimal_injective a.space.0 b.space.0 (omega (arith, h.space)) (omega (arith, k.space)) (word 2 e)
+
     space : a.space ≡ b.space
     space = λ i. record { 0 = number i }
 

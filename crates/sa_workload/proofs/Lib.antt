@@ -13,3 +13,13 @@ pub mod ShownStep
 pub mod Before
 pub mod Determined
 pub mod NextLine
+pub mod RightWord
+pub mod OneCause
+pub mod RightLine
+pub mod NoCause
+pub mod OneBad
+pub mod Reaching
+pub mod Takes
+pub mod Visible
+pub mod Judge
+pub mod TextOrBad

@@ -1,5 +1,5 @@
 -- The next line of any text is a step from the position that shows the lines before it.
-use Rattle.std.proofs.Common.{◌≡◌, ◌≢◌, ℕ, ◌+◌, ◌<◌, ◌≤◌, ◌⊎◌, List, [], ◌∷◌, ◌++◌, length, arith, refl, sym, ap, ◌∙◌, subst, subst₂, inl, inr, zero, suc, append_assoc, append-nil}
+use Rattle.std.proofs.Common.{◌≡◌, ℕ, ◌+◌, ◌≤◌, ◌⊎◌, List, [], ◌∷◌, ◌++◌, length, arith, refl, sym, ap, ◌∙◌, subst, inl, inr, zero, suc, append_assoc}
 use Rattle.std.proofs.lemmas.List.{length_push, length-append, same_from_push}
 use Rattle.sa_instr.specs.Workload.{WorkloadView, IsWorkload}
 use Rattle.sa_workload.specs.Text.{version_of, workload_lines}
@@ -11,7 +11,7 @@ use Rattle.sa_workload.proofs.Before.{StepBefore, before}
 use Rattle.sa_workload.proofs.Determined.{determined}
 
 -- a step that shows its line behind those before it
-before-shown : (versions : ℕ) (q : Position) (b : StepBefore versions q) → shown q ≡ shown b.position ++ b.line ∷ []
+pub before-shown : (versions : ℕ) (q : Position) (b : StepBefore versions q) → shown q ≡ shown b.position ++ b.line ∷ []
 before-shown versions q b = shown-step versions b.position b.line q b.step b.reached
 
 first_shown : (q : Position) → q ≡ AtVersion → length (shown q) ≡ 0
@@ -36,7 +36,7 @@ same_by_length versions few (suc n) p q long h k e =
     pick same (inr a) (inl b) = absurd (omega (arith, first_shown q b, ap length e, long))
     pick same (inr a) (inr b) =
         let lines : (shown a.position ≡ shown b.position) × (a.line ≡ b.line) =
-            same_from_push (shown a.position) (shown b.position) a.line b.line (sym (before-shown versions p a) ∙ e ∙ before-shown versions q b) in
+        same_from_push (shown a.position) (shown b.position) a.line b.line (sym (before-shown versions p a) ∙ e ∙ before-shown versions q b) in
         let one : a.position ≡ b.position = same a.position b.position (omega (arith, longer versions p a, long)) a.reached b.reached lines.0 in
         determined versions few b.position a.line p b.line q (subst (λ (r : Position). Steps r a.line p) one a.step) b.step lines.1 b.reached h k
 
@@ -63,11 +63,15 @@ steps_to versions zero q lines line more long h e = pick (before versions q h) (
     pick (inr b) (inr s) = absurd (omega (arith, long, ap length s.whole, length_push s.front s.last))
     pick (inr b) (inl none) =
         let same : (shown b.position ≡ lines) × (b.line ≡ line) =
-            same_from_push (shown b.position) lines b.line line
-            (sym (before-shown versions q b) ∙ e ∙ ap (λ (ls : Lines). lines ++ line ∷ ls) none) in
+        same_from_push (shown b.position) lines b.line line
+        (sym (before-shown versions q b) ∙ e ∙ ap (λ (ls : Lines). lines ++ line ∷ ls) none) in
         record {
-          position = b.position; target = q; start = b.reached; end = h;
-          step = subst (λ (l : List (List ℕ)). Steps b.position l q) same.1 b.step; shows = same.0
+          position = b.position;
+          target = q;
+          start = b.reached;
+          end = h;
+          step = subst (λ (l : List (List ℕ)). Steps b.position l q) same.1 b.step;
+          shows = same.0;
         }
 steps_to versions (suc n) q lines line more long h e =
     pick (λ p more. steps_to versions n p lines line more) (before versions q h) (split_last more)
@@ -78,8 +82,8 @@ steps_to versions (suc n) q lines line more long h e =
     pick rest (inr b) (inl none) = absurd (omega (arith, long, ap length none))
     pick rest (inr b) (inr s) =
         let same : (shown b.position ≡ lines ++ line ∷ s.front) × (b.line ≡ s.last) =
-            same_from_push (shown b.position) (lines ++ line ∷ s.front) b.line s.last
-            (sym (before-shown versions q b) ∙ e ∙ ap (λ (ls : Lines). lines ++ line ∷ ls) s.whole ∙ sym (append_assoc lines (line ∷ s.front) (s.last ∷ []))) in
+        same_from_push (shown b.position) (lines ++ line ∷ s.front) b.line s.last
+        (sym (before-shown versions q b) ∙ e ∙ ap (λ (ls : Lines). lines ++ line ∷ ls) s.whole ∙ sym (append_assoc lines (line ∷ s.front) (s.last ∷ []))) in
         rest b.position s.front (omega (arith, long, ap length s.whole, length_push s.front s.last)) b.reached same.0
 
 -- what a line leads to from a position
@@ -107,3 +111,11 @@ next-line versions few w p line more is v h e = next_shown versions few (Closed 
 pub last-line : (versions : ℕ) → versions ≤ 3 → (w : WorkloadView) (p : Position) → IsWorkload w → version_of w ≤ versions → IsReached versions p
     → workload_lines w ≡ shown p → p ≡ Closed w
 last-line versions few w p is v h e = shown-injective versions few p (Closed w) h (is, v) (sym e)
+
+-- two workloads of the same lines are one
+pub lines-injective : (v w : WorkloadView) → IsWorkload v → IsWorkload w → version_of v ≤ 3 → version_of w ≤ 3 → workload_lines v ≡ workload_lines w → v ≡ w
+lines-injective v w h k a b e = ap workload_at (shown-injective 3 (omega arith) (Closed v) (Closed w) (h, a) (k, b) e)
+  where
+    workload_at : Position → WorkloadView
+    workload_at (Closed u) = u
+    workload_at _ = v

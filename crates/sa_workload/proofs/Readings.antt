@@ -1,19 +1,19 @@
 -- What the lines of a position say, by the readings of Bad.
-use Rattle.std.proofs.Common.{◌≡◌, ◌≢◌, ℕ, ◌+◌, ◌-◌, ◌^◌, ◌<◌, ◌≤◌, Bool, true, false, not, ◌&&◌, ◌||◌, leb, List, [], ◌∷◌, ◌++◌, length, get_or, map, All, codes, decimal, arith, refl, sym, ap, ◌∙◌, subst, inl, inr, cond, zero, suc, filter, bytes_eq, eqb, append_assoc, append-nil, if◌then◌else◌}
+use Rattle.std.proofs.Common.{◌≡◌, ℕ, ◌+◌, ◌^◌, ◌<◌, Bool, true, false, not, ◌&&◌, ◌||◌, leb, List, [], ◌∷◌, ◌++◌, length, map, All, codes, decimal, arith, refl, sym, ap, ◌∙◌, cond, bytes_eq, eqb, append_assoc, append-nil}
 use Rattle.std.specs.List.{flat_map, list_all}
 use Rattle.std.specs.Str.Parse.{digits_value}
 use Rattle.std.proofs.lemmas.Fmt.{decimal_is_IsNumeral}
-use Rattle.std.proofs.lemmas.List.{length_push, map_push}
+use Rattle.std.proofs.lemmas.List.{map_push}
 use Rattle.std.proofs.lemmas.List.Elements.{All-nil, All-cons, All-append, All-head, All-tail}
 use Rattle.std.proofs.lemmas.List.Folds.{list_all-append}
 use Rattle.sa_base.specs.declared.number.ProcNo.{ProcNo}
 use Rattle.sa_instr.specs.declared.instr.Instr.{Instr}
 use Rattle.sa_instr.specs.declared.workload.Evict.{Evict}
-use Rattle.sa_instr.specs.Space.{SpaceView, IsSpace}
+use Rattle.sa_instr.specs.Space.{SpaceView}
 use Rattle.sa_workload.specs.Text.{instr_line, program_lines, sem_line, absent_line, space_line, space_lines, evict_line, turn_line, slice_lines}
 use Rattle.sa_workload.specs.Bad.{first_word, last_line, last_with, instr_words, count_of_word, number_in, version_in, processors_in, spaces_in, mutexes_in, sems_in, cells_in, programs_in, length_in, needs_patience}
-use Rattle.sa_workload.specs.Position.{Machine, Draft, AtSlice, AtSpace, AtAbsent, AtInstr, AtEvict, AtTurn, IsReached, IsMachine, AreSpaces, IsDraft, IsBegun, version_line, processors_line, fetch_line, spaces_line, shown_machine, shown_spaces, draft_line, shown_draft, shown}
-use Rattle.sa_workload.proofs.Words.{BeginWith, Lacks, machine_words, space_words, inner_words, is_other, lacks, All-mapped, instrs_begin, program_begins, inner_begins, spaces_begin, draft_begins, program_begins_space, evictions_begin, turns_begin, slice_begins, machine_begins, count_lacking, count-append, count-cons, last_line-push, last_with-is}
+use Rattle.sa_workload.specs.Position.{Machine, Draft, AtSlice, AtSpace, AtAbsent, AtInstr, AtEvict, AtTurn, version_line, processors_line, fetch_line, spaces_line, shown_machine, shown_spaces, draft_line, shown_draft, shown}
+use Rattle.sa_workload.proofs.Words.{Lacks, machine_words, space_words, inner_words, is_other, lacks, instrs_begin, program_begins, inner_begins, spaces_begin, evictions_begin, turns_begin, slice_begins, machine_begins, count_lacking, count-append, count-cons, last_line-push, last_with-is}
 
 -- a number reads back
 pub reads : (n : ℕ) → n < 2 ^ 64 → digits_value 10 (decimal n) ≡ n
@@ -28,6 +28,7 @@ version-behind m rest h small =
   where
     P : List (List ℕ) → Type 0
     P l = bytes_eq (first_word l) (codes "workload") ≡ false
+
     behind : Lacks (codes "workload") (processors_line m.processors ∷ fetch_line m.fetch ∷ (slice_lines m.version m.slice ++ spaces_line m.count ∷ []) ++ rest)
     behind =
         All-cons P (processors_line m.processors) (fetch_line m.fetch ∷ (slice_lines m.version m.slice ++ spaces_line m.count ∷ []) ++ rest) refl
@@ -45,6 +46,7 @@ processors-behind m rest h small =
   where
     P : List (List ℕ) → Type 0
     P l = bytes_eq (first_word l) (codes "processors") ≡ false
+
     behind : Lacks (codes "processors") (fetch_line m.fetch ∷ (slice_lines m.version m.slice ++ spaces_line m.count ∷ []) ++ rest)
     behind =
         All-cons P (fetch_line m.fetch) ((slice_lines m.version m.slice ++ spaces_line m.count ∷ []) ++ rest) refl
@@ -146,6 +148,7 @@ spaces_pass (s ∷ ss) h =
     and_true : (b c : Bool) → c ≡ true → (b && c) ≡ b
     and_true true c h = h
     and_true false c h = refl
+
     first : list_all of_patience_1 (space_lines 3 s) ≡ eqb s.patience 1
     first =
         and_true (of_patience_1 (space_line 3 s)) (list_all of_patience_1 (space_tail s)) (others_pass (space_tail s) (tail_lacks s))
@@ -249,16 +252,23 @@ pub count_turn-at_evict : (m : Machine) (spaces : List SpaceView) (evictions : L
     → count_of_word (shown (AtEvict m spaces evictions)) (codes "turn") ≡ 0
 count_turn-at_evict m spaces evictions =
     count-append (codes "turn") (shown_spaces m spaces) (map evict_line evictions)
-    ∙ omega (arith, count_front (codes "turn") m spaces refl refl,
-    count_lacking (codes "turn") (map evict_line evictions) (lacks (codes "turn") (codes "evict" ∷ []) (map evict_line evictions) (evictions_begin evictions) refl))
+    ∙ omega (
+      arith,
+      count_front (codes "turn") m spaces refl refl,
+      count_lacking (codes "turn") (map evict_line evictions) (lacks (codes "turn") (codes "evict" ∷ []) (map evict_line evictions) (evictions_begin evictions) refl),
+    )
 
 pub count_turn-at_turn : (m : Machine) (spaces : List SpaceView) (evictions : List Evict) (turns : List ProcNo)
     → count_of_word (shown (AtTurn m spaces evictions turns)) (codes "turn") ≡ length turns
 count_turn-at_turn m spaces evictions turns =
     count-append (codes "turn") (shown_spaces m spaces) (map evict_line evictions ++ map turn_line turns)
-    ∙ omega (arith, count_front (codes "turn") m spaces refl refl, count-append (codes "turn") (map evict_line evictions) (map turn_line turns),
-    count_lacking (codes "turn") (map evict_line evictions) (lacks (codes "turn") (codes "evict" ∷ []) (map evict_line evictions) (evictions_begin evictions) refl),
-    count_mapped (codes "turn") turn_line turns (λ t. refl))
+    ∙ omega (
+      arith,
+      count_front (codes "turn") m spaces refl refl,
+      count-append (codes "turn") (map evict_line evictions) (map turn_line turns),
+      count_lacking (codes "turn") (map evict_line evictions) (lacks (codes "turn") (codes "evict" ∷ []) (map evict_line evictions) (evictions_begin evictions) refl),
+      count_mapped (codes "turn") turn_line turns (λ t. refl),
+    )
 
 -- the last line, where an absent page, an eviction or a turn came last
 pub last_line-at_absent : (m : Machine) (spaces : List SpaceView) (d : Draft) (pages : List ℕ) (page : ℕ) → d.absent ≡ pages ++ page ∷ [] → d.programs ≡ []
@@ -271,6 +281,7 @@ last_line-at_absent m spaces d pages page e none =
     tail =
         ap (λ (ps : List (List Instr)). map absent_line d.absent ++ flat_map program_lines ps) none
         ∙ append-nil (map absent_line d.absent) ∙ ap (λ (ps : List ℕ). map absent_line ps) e ∙ map_push absent_line pages page
+
     lines : shown (AtAbsent m spaces d) ≡ shown_spaces m spaces ++ ((draft_line m.version d ∷ (map sem_line d.sems ++ map absent_line pages)) ++ absent_line page ∷ [])
     lines =
         ap (λ (ls : List (List (List ℕ))). shown_spaces m spaces ++ (draft_line m.version d ∷ ls))

@@ -1,15 +1,15 @@
 -- A step shows one line more.
-use Rattle.std.proofs.Common.{◌≡◌, ◌≢◌, ℕ, ◌+◌, ◌-◌, ◌<◌, ◌≤◌, ◌⊎◌, Bool, true, false, List, [], ◌∷◌, ◌++◌, length, map, All, codes, decimal, arith, refl, sym, ap, ◌∙◌, subst, inl, inr, eqb, append_assoc, append-nil, if◌then◌else◌, eq-eqb, ne_eqb, eqb-true}
+use Rattle.std.proofs.Common.{◌≡◌, ◌≢◌, ℕ, ◌≤◌, Bool, true, false, List, [], ◌∷◌, ◌++◌, length, map, codes, decimal, arith, refl, sym, ap, ◌∙◌, inl, inr, eqb, append_assoc, append-nil, if◌then◌else◌, eq-eqb, ne_eqb, eqb-true}
 use Rattle.std.specs.List.{flat_map, list_all}
-use Rattle.std.proofs.lemmas.List.{map_push, length_push}
+use Rattle.std.proofs.lemmas.List.{map_push}
 use Rattle.std.proofs.lemmas.List.Concat.{flat_map-append}
 use Rattle.sa_base.specs.declared.number.ProcNo.{ProcNo}
 use Rattle.sa_instr.specs.declared.instr.Instr.{Instr}
 use Rattle.sa_instr.specs.declared.workload.Evict.{Evict}
 use Rattle.sa_instr.specs.Space.{SpaceView}
-use Rattle.sa_workload.specs.Text.{instr_line, program_lines, sem_line, absent_line, space_line, space_lines, evict_line, turn_line, slice_lines, version_of, workload_lines}
-use Rattle.sa_workload.specs.Position.{Machine, Draft, Position, AtVersion, AtProcessors, AtFetch, AtSlice, AtSpaces, AtSpace, AtSem, AtAbsent, AtProgram, AtInstr, AtEvict, AtTurn, Closed, IsReached, IsMachine, AreSpaces, CanSlice, version_line, processors_line, fetch_line, spaces_line, shown_machine, shown_spaces, draft_line, shown_draft, shown}
-use Rattle.sa_workload.specs.Steps.{Steps, step_version, step_processors, step_fetch, step_slice, step_spaces, step_space, step_sem, step_absent, step_first_program, step_program, step_instr, step_evict, step_first_turn, step_turn, step_first_close, step_close, slice_line, program_line, close_line, workload, space_of_draft, IsFresh, with_sem, with_absent, with_program, after_fetch, after_sem, after_spaces, after_program, after_instr}
+use Rattle.sa_workload.specs.Text.{instr_line, program_lines, sem_line, absent_line, space_lines, evict_line, turn_line, slice_lines, version_of, workload_lines}
+use Rattle.sa_workload.specs.Position.{Machine, Draft, Position, AtSlice, AtSpaces, AtSpace, AtSem, AtAbsent, AtProgram, AtInstr, AtEvict, IsReached, AreSpaces, CanSlice, version_line, processors_line, fetch_line, spaces_line, shown_machine, shown_spaces, draft_line, shown_draft, shown}
+use Rattle.sa_workload.specs.Steps.{Steps, step_version, step_processors, step_fetch, step_slice, step_spaces, step_space, step_sem, step_absent, step_first_program, step_program, step_instr, step_evict, step_first_turn, step_turn, step_first_close, step_close, slice_line, program_line, close_line, workload, space_of_draft, IsFresh, with_sem, with_absent, with_program, after_sem, after_spaces, after_program, after_instr}
 use Rattle.sa_workload.proofs.Fronts.{all_true, true_all}
 
 abbrev pub Lines : Type 0
@@ -22,11 +22,14 @@ version_of-workload m spaces evictions turns can are e = by_slice can
   where
     all : Bool
     all = list_all (λ (s : SpaceView). eqb s.patience 1) spaces
+
     patient : m.version ≢ 3 → all ≡ true
     patient n = all_true (λ (s : SpaceView). s.patience) 1 spaces (are.patient n)
+
     own : m.version ≡ 3 → (b : Bool) → all ≡ b → b ≡ false
     own v true t = absurd (are.own v e (true_all (λ (s : SpaceView). s.patience) 1 spaces t))
     own v false t = refl
+
     by_slice : CanSlice m.version m.slice → version_of (workload m spaces evictions turns) ≡ m.version
     by_slice (inl one) =
         ap (λ (b : Bool). if b then (if eqb m.slice 0 then 1 else 2) else 3) (patient (omega (arith, one.0)))
@@ -65,9 +68,9 @@ draft_whole : (version : ℕ) (d : Draft) → length d.sems ≡ d.sem_count → 
     → space_lines version (space_of_draft d) ≡ shown_draft version d
 draft_whole version d e f =
     ap (λ (n : ℕ). (codes "space" ∷ decimal d.priority ∷ decimal d.mutexes ∷ decimal n ∷ decimal d.cells ∷ decimal (length d.programs)
-        ∷ (if eqb version 3 then decimal d.patience ∷ [] else [])) ∷ (map sem_line d.sems ++ (map absent_line d.absent ++ flat_map program_lines d.programs))) e
+    ∷ (if eqb version 3 then decimal d.patience ∷ [] else [])) ∷ (map sem_line d.sems ++ (map absent_line d.absent ++ flat_map program_lines d.programs))) e
     ∙ ap (λ (n : ℕ). (codes "space" ∷ decimal d.priority ∷ decimal d.mutexes ∷ decimal d.sem_count ∷ decimal d.cells ∷ decimal n
-        ∷ (if eqb version 3 then decimal d.patience ∷ [] else [])) ∷ (map sem_line d.sems ++ (map absent_line d.absent ++ flat_map program_lines d.programs))) f
+    ∷ (if eqb version 3 then decimal d.patience ∷ [] else [])) ∷ (map sem_line d.sems ++ (map absent_line d.absent ++ flat_map program_lines d.programs))) f
 
 spaces_push : (m : Machine) (spaces : List SpaceView) (s : SpaceView) → shown_spaces m (spaces ++ s ∷ []) ≡ shown_spaces m spaces ++ space_lines m.version s
 spaces_push m spaces s =
@@ -127,9 +130,9 @@ closing : (m : Machine) (spaces : List SpaceView) (evictions : List Evict) (turn
 unfolding workload_lines
 closing m spaces evictions turns e f =
     ap (λ (v : ℕ). (version_line v ∷ processors_line m.processors ∷ fetch_line m.fetch ∷ (slice_lines v m.slice ++ spaces_line (length spaces) ∷ []))
-        ++ (flat_map (space_lines v) spaces ++ (map evict_line evictions ++ (map turn_line turns ++ close_line ∷ [])))) e
+    ++ (flat_map (space_lines v) spaces ++ (map evict_line evictions ++ (map turn_line turns ++ close_line ∷ [])))) e
     ∙ ap (λ (n : ℕ). (version_line m.version ∷ processors_line m.processors ∷ fetch_line m.fetch ∷ (slice_lines m.version m.slice ++ spaces_line n ∷ []))
-        ++ (flat_map (space_lines m.version) spaces ++ (map evict_line evictions ++ (map turn_line turns ++ close_line ∷ [])))) f
+    ++ (flat_map (space_lines m.version) spaces ++ (map evict_line evictions ++ (map turn_line turns ++ close_line ∷ [])))) f
     ∙ sym (append_assoc (shown_machine m) (flat_map (space_lines m.version) spaces) (map evict_line evictions ++ (map turn_line turns ++ close_line ∷ [])))
     ∙ ap (λ (ls : Lines). shown_spaces m spaces ++ ls) (sym (append_assoc (map evict_line evictions) (map turn_line turns) (close_line ∷ [])))
     ∙ sym (append_assoc (shown_spaces m spaces) (map evict_line evictions ++ map turn_line turns) (close_line ∷ []))

@@ -1,11 +1,10 @@
 -- The first words of lines: which words the lines of each part of a text begin with.
-use Rattle.std.proofs.Common.{◌≡◌, ℕ, ◌+◌, ◌-◌, ◌<◌, ◌≤◌, Bool, true, false, not, ◌&&◌, List, [], ◌∷◌, ◌++◌, length, get_or, map, All, Contains, codes, decimal, arith, refl, sym, ap, ◌∙◌, subst, inl, inr, cond, zero, suc, count_by, filter, bytes_eq, eqb, if◌then◌else◌}
+use Rattle.std.proofs.Common.{◌≡◌, ℕ, ◌+◌, ◌-◌, ◌<◌, Bool, true, false, not, ◌&&◌, List, [], ◌∷◌, ◌++◌, length, get_or, map, All, Contains, codes, decimal, arith, refl, sym, ap, ◌∙◌, subst, cond, zero, suc, filter, bytes_eq, eqb, if◌then◌else◌}
 use Rattle.std.specs.List.{flat_map, list_all}
 use Rattle.std.proofs.lemmas.List.{get_or_push, length_push}
-use Rattle.std.proofs.lemmas.List.Elements.{All-nil, All-cons, All-append, All-map, All-weaker, All-head, All-tail, Contains-append_right, Contains-append_left, filter-append}
+use Rattle.std.proofs.lemmas.List.Elements.{All-nil, All-cons, All-append, All-weaker, All-head, All-tail, Contains-append_right, Contains-append_left, filter-append}
 use Rattle.std.proofs.lemmas.List.Sums.{sum_by-append, sum_by-cons, length-filter}
 use Rattle.sa_base.specs.declared.number.ProcNo.{ProcNo}
-use Rattle.sa_instr.specs.declared.instr.Reg.{Reg}
 use Rattle.sa_instr.specs.declared.instr.Instr.{Instr}
 use Rattle.sa_instr.specs.declared.instr.Instr.TheVariants.{Compute, Set, Add, Sub, Jnz, Load, Store, Out, Fork, Join, Lock, Unlock, Wait, Signal, Io, Touch, End}
 use Rattle.sa_instr.specs.declared.workload.Evict.{Evict}

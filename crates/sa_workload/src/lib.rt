@@ -4,6 +4,7 @@
 mod cause;
 mod closing_lines;
 mod instr_lines;
+pub mod laws;
 mod line_words;
 mod machine_lines;
 mod operations;

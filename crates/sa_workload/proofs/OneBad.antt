@@ -1,0 +1,137 @@
+-- Bytes are bad in one line at most, with one cause; and the text of a workload, where its lines are read back, is not bad.
+use Rattle.std.proofs.Common.{◌≡◌, ◌≢◌, ℕ, ◌+◌, ◌-◌, ◌<◌, ◌≤◌, ◌⊎◌, true, List, [], ◌∷◌, ◌++◌, length, get_or, take, drop, All, Option, Some, None, MatchOption, slice_get, arith, refl, sym, ap, ◌∙◌, subst, inl, inr, append_assoc, take-append-drop, length-take}
+use Rattle.std.proofs.lemmas.Bool.{cases_lt}
+use Rattle.std.proofs.lemmas.List.{map-append, drop_more, take-take, get_or-take}
+use Rattle.std.proofs.lemmas.Option.{slice_get_past, slice_get_within, slice_get-get_or}
+use Rattle.sa_instr.specs.Workload.{WorkloadView, IsWorkload}
+use Rattle.sa_text.specs.LineText.{LineText, line_texts}
+use Rattle.sa_text.specs.Pieces.{pieces_of}
+use Rattle.sa_workload.specs.Text.{workload_lines, text_of}
+use Rattle.sa_workload.specs.Bad.{Grammar, AnyVersion, Begins, LineCause, words_of, IsBad}
+use Rattle.sa_workload.specs.Laws.{BadOnce, TextsDiffer, TextsAreNotBad}
+use Rattle.sa_workload.proofs.NextLine.{lines-injective}
+use Rattle.sa_workload.proofs.RightWord.{version_of-le}
+use Rattle.sa_workload.proofs.OneCause.{causes-are_one}
+
+-- the lines up to one of them
+split_at : (ls : List LineText) (i n : ℕ) (line : LineText) → slice_get ls i ≡ Some line → i < n
+    → take n ls ≡ take i ls ++ line ∷ drop (i + 1) (take n ls)
+split_at ls i n line e below =
+    let inside : i < length ls = slice_get_within ls i line e in
+    let long : i < length (take n ls) = omega (arith, length-take n ls) in
+    let element : get_or (take n ls) i line ≡ line = get_or-take n ls i line below ∙ cc (sym (slice_get-get_or ls i line inside) ∙ e) in
+    sym (take-append-drop i (take n ls))
+    ∙ ap (λ (xs : List LineText). take i (take n ls) ++ xs) (drop_more (take n ls) i line long ∙ ap (λ (x : LineText). x ∷ drop (i + 1) (take n ls)) element)
+    ∙ ap (λ (xs : List LineText). xs ++ line ∷ drop (i + 1) (take n ls)) (take-take i n ls (omega arith))
+
+words_split : (xs : List LineText) (line : LineText) (ys : List LineText)
+    → words_of (xs ++ line ∷ ys) ≡ (words_of xs ++ pieces_of line.bytes ∷ []) ++ words_of ys
+words_split xs line ys =
+    map-append (λ (l : LineText). pieces_of l.bytes) xs (line ∷ ys) ∙ sym (append_assoc (words_of xs) (pieces_of line.bytes ∷ []) (words_of ys))
+
+-- lines that begin a text, begin it with fewer of them
+pub begins_front : (g : Grammar) (xs ys : List (List (List ℕ))) → Begins g (xs ++ ys) → Begins g xs
+begins_front g xs ys b = record { workload = b.workload; accepted = b.accepted; more = ys ++ b.more; text = b.text ∙ append_assoc xs ys b.more }
+
+-- what a bad line says of its place, where it is missing and where it stands
+abbrev AtEnd : Grammar → List LineText → ℕ → ℕ → Type 0
+AtEnd g ls k why = (k ≡ length ls + 1) × ((w : WorkloadView) → g w → workload_lines w ≢ words_of ls) × (why ≡ 9)
+
+abbrev AtLine : Grammar → ℕ → List LineText → ℕ → ℕ → LineText → Type 0
+AtLine g versions ls k why line =
+    (line.ended ≡ true → ¬ Begins g (words_of (take (k - 1) ls) ++ pieces_of line.bytes ∷ []))
+    × LineCause g versions (words_of (take (k - 1) ls)) line why
+
+-- no line is bad behind a bad one
+bad_before : (g : Grammar) (versions : ℕ) (ls : List LineText) (k j why cause : ℕ) → IsBad g versions ls k why → IsBad g versions ls j cause → k < j → ⊥
+bad_before g versions ls k j why cause a b below = pick (slice_get ls (k - 1)) refl a.wrong
+  where
+    pick : (o : Option LineText) → slice_get ls (k - 1) ≡ o → MatchOption o (AtEnd g ls k why) (AtLine g versions ls k why) → ⊥
+    pick None e x =
+        let past : slice_get ls (j - 1) ≡ None = slice_get_past ls (j - 1) (omega (arith, x.0)) in
+        let at_end : AtEnd g ls j cause = subst (λ (o : Option LineText). MatchOption o (AtEnd g ls j cause) (AtLine g versions ls j cause)) past b.wrong in
+        absurd (omega (arith, x.0, at_end.0))
+    pick (Some line) e x =
+        let first : 1 ≤ k = a.number in
+        let place : k - 1 < j - 1 = omega arith in
+        let split : take (j - 1) ls ≡ take (k - 1) ls ++ line ∷ drop (k - 1 + 1) (take (j - 1) ls) = split_at ls (k - 1) (j - 1) line e place in
+        let inside : k - 1 < length ls = slice_get_within ls (k - 1) line e in
+        let element : get_or (take (j - 1) ls) (k - 1) line ≡ line =
+        get_or-take (j - 1) ls (k - 1) line place ∙ cc (sym (slice_get-get_or ls (k - 1) line inside) ∙ e) in
+        let ended : line.ended ≡ true =
+        subst (λ (l : LineText). l.ended ≡ true) element (b.ended (k - 1) line (omega (arith, length-take (j - 1) ls))) in
+        let words : words_of (take (j - 1) ls) ≡ (words_of (take (k - 1) ls) ++ pieces_of line.bytes ∷ []) ++ words_of (drop (k - 1 + 1) (take (j - 1) ls)) =
+        ap words_of split ∙ words_split (take (k - 1) ls) line (drop (k - 1 + 1) (take (j - 1) ls)) in
+        x.0 ended
+        (begins_front g (words_of (take (k - 1) ls) ++ pieces_of line.bytes ∷ []) (words_of (drop (k - 1 + 1) (take (j - 1) ls)))
+        (subst (λ (ws : List (List (List ℕ))). Begins g ws) words b.begins))
+
+line_cause_one : (g : Grammar) (versions : ℕ) (lines : List (List (List ℕ))) (line : LineText) (why cause : ℕ)
+    → LineCause g versions lines line why → LineCause g versions lines line cause → why ≡ cause
+line_cause_one g versions lines line why cause (inl a) (inl b) = a.1 ∙ sym b.1
+line_cause_one g versions lines line why cause (inl a) (inr b) = absurd (a.0 b.0)
+line_cause_one g versions lines line why cause (inr a) (inl b) = absurd (b.0 a.0)
+line_cause_one g versions lines line why cause (inr (p, inl a)) (inr (q, inl b)) = a.1 ∙ sym b.1
+line_cause_one g versions lines line why cause (inr (p, inl a)) (inr (q, inr b)) = absurd (cc (sym a.0 ∙ b.0))
+line_cause_one g versions lines line why cause (inr (p, inr a)) (inr (q, inl b)) = absurd (cc (sym a.0 ∙ b.0))
+line_cause_one g versions lines line why cause (inr (p, inr a)) (inr (q, inr b)) =
+    causes-are_one g versions lines (pieces_of line.bytes) why cause a.1 b.1
+
+bad_same : (g : Grammar) (versions : ℕ) (ls : List LineText) (k why cause : ℕ) → IsBad g versions ls k why → IsBad g versions ls k cause → why ≡ cause
+bad_same g versions ls k why cause a b = pick (slice_get ls (k - 1)) a.wrong b.wrong
+  where
+    pick : (o : Option LineText) → MatchOption o (AtEnd g ls k why) (AtLine g versions ls k why) → MatchOption o (AtEnd g ls k cause) (AtLine g versions ls k cause) → why ≡ cause
+    pick None x y = x.2 ∙ sym y.2
+    pick (Some line) x y = line_cause_one g versions (words_of (take (k - 1) ls)) line why cause x.1 y.1
+
+-- some lines are bad in one line at most, with one cause
+pub one-bad : (g : Grammar) (versions : ℕ) (ls : List LineText) (k j why cause : ℕ) → IsBad g versions ls k why → IsBad g versions ls j cause
+    → (k ≡ j) × (why ≡ cause)
+one-bad g versions ls k j why cause a b = pick (cases_lt k j) (cases_lt j k)
+  where
+    pick : (k < j) ⊎ (j ≤ k) → (j < k) ⊎ (k ≤ j) → (k ≡ j) × (why ≡ cause)
+    pick (inl l) _ = absurd (bad_before g versions ls k j why cause a b l)
+    pick (inr m) (inl l) = absurd (bad_before g versions ls j k cause why b a l)
+    pick (inr m) (inr n) =
+        let e : k ≡ j = omega arith in
+        (e, bad_same g versions ls k why cause a (subst (λ (i : ℕ). IsBad g versions ls i cause) (sym e) b))
+
+pub bad_once : BadOnce
+bad_once bytes k j why cause a b = one-bad AnyVersion 3 (line_texts bytes) k j why cause a b
+
+-- lines that are those of a workload are not bad
+pub lines-not_bad : (g : Grammar) (versions : ℕ) (ls : List LineText) (w : WorkloadView) (k why : ℕ) → g w → workload_lines w ≡ words_of ls
+    → All (λ (l : LineText). l.ended ≡ true) ls → ¬ IsBad g versions ls k why
+lines-not_bad g versions ls w k why accepted e ended a = pick (slice_get ls (k - 1)) refl a.wrong
+  where
+    pick : (o : Option LineText) → slice_get ls (k - 1) ≡ o → MatchOption o (AtEnd g ls k why) (AtLine g versions ls k why) → ⊥
+    pick None f x = x.1 w accepted e
+    pick (Some line) f x =
+        let inside : k - 1 < length ls = slice_get_within ls (k - 1) line f in
+        let element : get_or ls (k - 1) line ≡ line = cc (sym (slice_get-get_or ls (k - 1) line inside) ∙ f) in
+        let whole : ls ≡ take (k - 1) ls ++ line ∷ drop (k - 1 + 1) ls =
+        sym (take-append-drop (k - 1) ls)
+        ∙ ap (λ (xs : List LineText). take (k - 1) ls ++ xs) (drop_more ls (k - 1) line inside ∙ ap (λ (l : LineText). l ∷ drop (k - 1 + 1) ls) element) in
+        x.0 (subst (λ (l : LineText). l.ended ≡ true) element (ended (k - 1) line inside))
+        (record {
+          workload = w;
+          accepted = accepted;
+          more = words_of (drop (k - 1 + 1) ls);
+          text = e ∙ ap words_of whole ∙ words_split (take (k - 1) ls) line (drop (k - 1 + 1) ls);
+        })
+
+-- that the lines of a text read back
+abbrev pub ReadsBack : Type 0
+ReadsBack = (w : WorkloadView) → IsWorkload w
+    → (words_of (line_texts (text_of w)) ≡ workload_lines w) × All (λ (l : LineText). l.ended ≡ true) (line_texts (text_of w))
+
+pub texts_differ : ReadsBack → TextsDiffer
+texts_differ back bytes v w a b =
+    lines-injective v w a.workload b.workload (version_of-le v) (version_of-le w)
+    (sym (back v a.workload).0 ∙ ap (λ (bs : List ℕ). words_of (line_texts bs)) (sym a.text ∙ b.text) ∙ (back w b.workload).0)
+
+pub texts_are_not_bad : ReadsBack → TextsAreNotBad
+texts_are_not_bad back bytes w k why a bad =
+    let r = back w a.workload in
+    lines-not_bad AnyVersion 3 (line_texts (text_of w)) w k why a.workload (sym r.0) r.1
+    (subst (λ (bs : List ℕ). IsBad AnyVersion 3 (line_texts bs) k why) a.text bad)
