@@ -17,13 +17,13 @@ AreRead [] words rest = words ≡ rest
 AreRead (f ∷ fs) [] rest = ⊥
 AreRead (f ∷ fs) (word ∷ words) rest = IsRightFor f word × AreRead fs words rest
 
-right_when_read : (fs : List Field) (words rest : List (List ℕ)) → AreRead fs words rest → AreRight fs words × (length words ≡ length fs + length rest)
+pub right_when_read : (fs : List Field) (words rest : List (List ℕ)) → AreRead fs words rest → AreRight fs words × (length words ≡ length fs + length rest)
 right_when_read [] words rest e = (record {}, rw e (search rules))
 right_when_read (f ∷ fs) [] rest h = absurd h
 right_when_read (f ∷ fs) (word ∷ words) rest h =
     let t = right_when_read fs words rest h.1 in ((h.0, t.0), omega (arith, t.1))
 
-some_length : (words : List (List ℕ)) → words ≢ [] → 1 ≤ length words
+pub some_length : (words : List (List ℕ)) → words ≢ [] → 1 ≤ length words
 some_length [] h = absurd (h refl)
 some_length (word ∷ words) h = omega arith
 

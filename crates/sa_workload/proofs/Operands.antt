@@ -16,7 +16,7 @@ use Rattle.sa_workload.specs.Bad.{Field, Register, declared, registers, instr_wo
 use Rattle.sa_workload.specs.Position.{Draft}
 use Rattle.sa_workload.specs.Refused.{target, instr_fields, IsInstrRefused, IsRefusedBehind}
 use Rattle.sa_workload.specs.Operation.{word_of, register_word_of, operands_of, behind_register, IsAllowed, HasLimits, IsOperationRefused}
-use Rattle.sa_workload.proofs.Cut.{AreRead, right_within, too_many}
+use Rattle.sa_workload.proofs.Cut.{AreRead, right_when_read, right_within, too_many}
 use Rattle.sa_workload.proofs.Words.{instr_word}
 
 -- the word of a register is one of the registers
@@ -146,7 +146,11 @@ too_long_instr d len is_last i words rest why e l h some two =
     (inr (inl (instr_word i, too_many (instr_fields d len (first_word (instr_line i))) (drop 1 (instr_line i) ++ rest) rest why (allowed_read d len i rest l h) some two)))
 
 -- a last instruction that is not `end`
-pub wrong_end : (d : Draft) (len : ℕ) (i : Instr) (words : List (List ℕ)) (why : ℕ) → words ≡ instr_line i → i ≢ instr.End → why ≡ 9
-    → IsInstrRefused d len true words why
-wrong_end d len i words why e other nine =
-    subst (λ w. IsInstrRefused d len true w why) (sym (e ∙ word_and_operands i)) (inr (inr (i, sym (word_and_operands i), other, refl, nine)))
+pub wrong_end : (d : Draft) (len : ℕ) (is_last : Bool) (i : Instr) (words : List (List ℕ)) (why : ℕ) → is_last ≡ true → words ≡ instr_line i
+    → HasLimits d len → IsAllowed d len i → i ≢ instr.End → why ≡ 9 → IsInstrRefused d len is_last words why
+wrong_end d len is_last i words why last e l h other nine =
+    let line : List (List ℕ) = drop 1 (instr_line i) in
+    let read = right_when_read (instr_fields d len (first_word (instr_line i))) line []
+    (subst (λ w. AreRead (instr_fields d len (first_word (instr_line i))) w []) (append-nil line) (allowed_read d len i [] l h)) in
+    subst (λ w. IsInstrRefused d len is_last w why) (sym (e ∙ word_and_operands i))
+    (inr (inr (i, sym (word_and_operands i), other, last, read.0, omega (arith, read.1), nine)))

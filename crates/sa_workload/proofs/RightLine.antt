@@ -297,7 +297,7 @@ or_true false b h = h
 pub same_head : (x y : ℕ) (xs ys : List ℕ) → x ≡ y → list_lt xs ys ≡ true → list_lt (x ∷ xs) (y ∷ ys) ≡ true
 same_head x y xs ys e h = or_true (ltb x y) (eqb x y && list_lt xs ys) (ap₂ (λ (a b : Bool). a && b) (eq-eqb x y e) h)
 
-numbers_before : (a b : Evict) → IsBefore a b → list_lt (a.event ∷ a.space.0 ∷ a.page ∷ []) (b.event ∷ b.space.0 ∷ b.page ∷ []) ≡ true
+pub numbers_before : (a b : Evict) → IsBefore a b → list_lt (a.event ∷ a.space.0 ∷ a.page ∷ []) (b.event ∷ b.space.0 ∷ b.page ∷ []) ≡ true
 numbers_before a b (inl h) = less_head a.event b.event (a.space.0 ∷ a.page ∷ []) (b.space.0 ∷ b.page ∷ []) h
 numbers_before a b (inr h) =
     same_head a.event b.event (a.space.0 ∷ a.page ∷ []) (b.space.0 ∷ b.page ∷ []) h.0 (rest h.1)

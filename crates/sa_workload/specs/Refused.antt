@@ -141,7 +141,8 @@ IsInstrRefused d len is_last [] why = why ≡ 2
 IsInstrRefused d len is_last (word ∷ words) why =
     ((¬ Contains instr_words word) × (why ≡ 2))
     ⊎ ((Contains instr_words word × IsRefusedBehind (instr_fields d len word) words why)
-    ⊎ ((i : Instr) × (word ∷ words ≡ instr_line i) × (i ≢ End) × (is_last ≡ true) × (why ≡ 9)))
+    ⊎ ((i : Instr) × (word ∷ words ≡ instr_line i) × (i ≢ End) × (is_last ≡ true) × AreRight (instr_fields d len word) words
+    × (length words ≡ length (instr_fields d len word)) × (why ≡ 9)))
 
 -- the words are neither an absent page nor the first program
 abbrev pub IsAbsentOrProgramRefused : List ℕ → List (List ℕ) → ℕ → Type 0

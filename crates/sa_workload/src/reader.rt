@@ -3,10 +3,11 @@ ghost use Rattle.std.specs.Prelude.{◌≡◌, ◌≤◌, ◌↔◌, true, IsTru
 ghost use Rattle.sa_text.specs.Line.{IsWithin, text_of_line};
 ghost use Rattle.sa_text.specs.LineText.{line_texts};
 ghost use Rattle.sa_text.specs.Pieces.{pieces_of};
-ghost use Rattle.sa_workload.specs.Bad.{IsPrinted};
+ghost use Rattle.sa_workload.specs.Bad.{IsPrinted, BadAt, BadAt1};
 ghost use Rattle.sa_workload.specs.Position.{Closed, IsReached};
 ghost use Rattle.sa_workload.specs.Reading.{IsBehind, IsStopped};
 ghost use Rattle.sa_workload.specs.Refused.{cause_number, IfBecause, IfBad, IsLineBad, IsRefused};
+ghost use Rattle.sa_workload.specs.Text.{IsText, IsText1};
 ghost use Rattle.sa_workload.specs.Stage.{machine_position, position_of, GoesOn};
 
 use crate::cause::{Cause, Refusal};
@@ -28,14 +29,18 @@ const VERSIONS: u16 = 3;
 ///
 /// `Bad` exactly where they are the text of none, with the first line that no text has in its place, and
 /// the first cause that applies to it.
-pub fn read(alloc: Global, bytes: &[u8]) -> Result<Workload, Unread> {
+pub fn read(alloc: Global, bytes: &[u8]) -> Result<Workload, Unread>
+    ensures { MatchResult result (IsText bytes.now) (λ unread. IfBad unread (λ bad. BadAt bytes.now bad.line bad.why)) }
+{
     read_versions(alloc, VERSIONS, bytes)
 }
 
 /// The workload of which these bytes are the text of version 1.
 ///
 /// `Bad` exactly where they are none, likewise.
-pub fn read_one(alloc: Global, bytes: &[u8]) -> Result<Workload, Unread> {
+pub fn read_one(alloc: Global, bytes: &[u8]) -> Result<Workload, Unread>
+    ensures { MatchResult result (IsText1 bytes.now) (λ unread. IfBad unread (λ bad. BadAt1 bytes.now bad.line bad.why)) }
+{
     read_versions(alloc, 1, bytes)
 }
 
