@@ -10,17 +10,19 @@ use Rattle.sa_instr.specs.declared.instr.Instr.{Instr}
 use Rattle.sa_instr.specs.declared.instr.Instr.TheVariants.{Compute, Set, Add, Sub, Jnz, Load, Store, Out, Fork, Join, Lock, Unlock, Wait, Signal, Io, Touch, End}
 use Rattle.sa_instr.specs.declared.workload.Evict.{Evict}
 use Rattle.sa_instr.specs.Space.{SpaceView, IsSpace}
+use Rattle.sa_instr.specs.Workload.{IsEviction, IsBefore}
 use Rattle.sa_workload.specs.Text.{instr_line, absent_line, evict_line}
-use Rattle.sa_workload.specs.Bad.{Grammar, IsRightWord, IsTooMany, IsOutOfOrder, IsInOrder, AreRight, numbers_of, list_lt, first_word, last_line, count_of_word, spaces_in, Field, Register, Number, within, declared, fields_behind, patience_field, version_in, needs_patience, mutexes_in, sems_in, cells_in, programs_in, length_in, processors_in, instr_words, WordCause}
+use Rattle.sa_workload.specs.Bad.{Grammar, IsRightWord, IsTooMany, IsOutOfOrder, IsInOrder, IsFirstWrong, AreRight, numbers_of, list_lt, first_word, last_line, count_of_word, spaces_in, Field, Register, Number, within, declared, fields_behind, patience_field, version_in, needs_patience, mutexes_in, sems_in, cells_in, programs_in, length_in, processors_in, instr_words, WordCause}
 use Rattle.sa_workload.specs.Position.{Machine, Draft, Position, AtVersion, AtProcessors, AtFetch, AtSlice, AtSpaces, AtSpace, AtSem, AtAbsent, AtProgram, AtInstr, AtEvict, AtTurn, Closed, IsReached, shown}
 use Rattle.sa_workload.specs.Steps.{expected}
 use Rattle.sa_workload.specs.Refused.{last_of, IsPageMisplaced, IsPagePlaced, IsAbsentRefused, IsAbsentOrProgramRefused, IsEvictMisplaced, IsEvictPlaced, IsEvictRefused, IsRefusedBehindEvict, IsEvictOrTurnRefused, evict_fields, target, is_last_impatient, patience_fields, space_fields, instr_fields, IsRefusedBehind, IsLineRefused, IsInstrRefused, IsRefusedBehindTurn, IsTurnOrCloseRefused, IsRefused}
 use Rattle.sa_workload.proofs.Judge.{Expects}
-use Rattle.sa_workload.proofs.NoCause.{WordFault, fault-is_cause}
+use Rattle.sa_workload.proofs.NoCause.{WordFault, FieldFault}
 use Rattle.sa_workload.proofs.Readings.{reads, last_line-at_absent, last_line-at_evict, spaces-at_evict, processors-at_evict, count_evict-at_evict, count_turn-at_evict, version-at_slice, version-at_space, needs-at_space, mutexes-at_instr, sems-at_instr, cells-at_instr, programs-at_instr, length-at_instr, processors-at_turn, count_turn-at_turn}
 use Rattle.sa_workload.proofs.RightLine.{ordered_words, own_word, less_head, numbers_before, PageLast, page_last, EvictionLast, eviction_last, eviction_numbers}
 use Rattle.sa_workload.proofs.Before.{StepBefore, before}
 use Rattle.sa_workload.proofs.Cut.{right_within, some_length}
+use Rattle.sa_workload.proofs.Operands.{right_declared}
 use Rattle.sa_workload.proofs.Fronts.{Pushed, split_last, All-last}
 use Rattle.sa_workload.proofs.RightWord.{Accepts, apart, right_word-in, last-shown}
 use Rattle.sa_workload.proofs.Takes.{IsLastNotEnd, by_word}
@@ -309,6 +311,107 @@ absent_found versions g s m spaces d (word ∷ words) why h some (inr (inr r)) =
     (not_many (codes "program" ∷ []) (shown (AtAbsent m spaces d)) (codes "program") (0, omega arith, refl) refl)
     (not_ordered (codes "program" ∷ []) (codes "program") (0, omega arith, refl) refl) r.1)
 
+-- an eviction
+evict_fault : (versions : ℕ) (g : Grammar) → Setting versions g → (m : Machine) (spaces : List SpaceView) (es : List Evict) (words : List (List ℕ)) (why : ℕ)
+    → IsReached versions (AtEvict m spaces es) → length es < 4096 → IsFirstWrong (evict_fields m.count) words why ⊎ IsEvictRefused m.count es words why
+    → WordFault g versions (shown (AtEvict m spaces es)) (codes "evict" ∷ words) why
+evict_fault versions g s m spaces es words why h room f =
+    inr (s.expects p (codes "evict") h (0, omega arith, refl), inr (few, by_fields f))
+  where
+    p : Position
+    p = AtEvict m spaces es
+
+    lines : List (List (List ℕ))
+    lines = shown p
+
+    own : Contains ordered_words (codes "evict")
+    own = (1, omega arith, refl)
+
+    count : spaces_in lines ≡ m.count
+    count = spaces-at_evict m spaces es (omega (arith, h.0.count.1))
+
+    few : ¬ IsTooMany lines (codes "evict")
+    few (inl t) = absurd (omega (arith, t.1, count_evict-at_evict m spaces es, room))
+    few (inr t) = own_word (codes "evict") (codes "turn") refl t.0
+
+    old_numbers : (last : Evict) (front : List Evict) → es ≡ front ++ last ∷ [] → last_line lines ≡ evict_line last
+        → numbers_of 3 (last_line lines) ≡ last.event ∷ last.space.0 ∷ last.page ∷ []
+    old_numbers last front e l =
+        ap (numbers_of 3) l
+        ∙ eviction_numbers m.count last h.0.count.1 (All-last (IsEviction m.count) front last (subst (λ (xs : List Evict). All (IsEviction m.count) xs) e h.3.each))
+
+    refused : IsEvictRefused m.count es words why → FieldFault lines (evict_fields m.count) (codes "evict") words why
+    refused r =
+        subst (λ ws. FieldFault lines (evict_fields m.count) (codes "evict") ws why) (sym r.words_are)
+        (inr (
+          (right_within 1 1000000 r.evict.event r.range.first r.range.last (omega arith),
+          (right_declared m.count r.evict.space.0 r.range.space (omega (arith, h.0.count.1)),
+          (right_within 0 15 r.evict.page (omega arith) r.range.page (omega arith), record {}))),
+          by_cause r.cause))
+      where
+        line : List (List ℕ)
+        line = codes "evict" ∷ decimal r.evict.event ∷ decimal r.evict.space.0 ∷ decimal r.evict.page ∷ r.others
+
+        new : numbers_of 3 line ≡ r.evict.event ∷ r.evict.space.0 ∷ r.evict.page ∷ []
+        new = eviction_numbers m.count r.evict h.0.count.1 r.range
+
+        misplaced : IsEvictMisplaced (last_of es) r.evict why → (es ≡ []) ⊎ Pushed es → IsOutOfOrder lines 3 line why
+        misplaced c (inl none) = absurd (subst (λ (xs : List Evict). IsEvictMisplaced (last_of xs) r.evict why) none c)
+        misplaced c (inr q) = (own, ap first_word l, by_order (subst (λ o. IsEvictMisplaced o r.evict why) (last_of-push es q.front q.last q.whole) c))
+          where
+            l : last_line lines ≡ evict_line q.last
+            l = ap (λ (xs : List Evict). last_line (shown (AtEvict m spaces xs))) q.whole ∙ last_line-at_evict m spaces q.front q.last
+
+            old : numbers_of 3 (last_line lines) ≡ q.last.event ∷ q.last.space.0 ∷ q.last.page ∷ []
+            old = old_numbers q.last q.front q.whole l
+
+            by_order : ((r.evict ≡ q.last) × (why ≡ 5)) ⊎ (IsBefore r.evict q.last × (why ≡ 4))
+                → ((numbers_of 3 line ≡ numbers_of 3 (last_line lines)) × (why ≡ 5)) ⊎ (IsTrue (list_lt (numbers_of 3 line) (numbers_of 3 (last_line lines))) × (why ≡ 4))
+            by_order (inl x) = inl (new ∙ ap (λ (e : Evict). e.event ∷ e.space.0 ∷ e.page ∷ []) x.0 ∙ sym old, x.1)
+            by_order (inr x) = inr (ap₂ list_lt new old ∙ numbers_before r.evict q.last x.0, x.1)
+
+        placed : IsEvictPlaced (last_of es) r.evict → IsInOrder lines 3 line
+        placed c = λ _ e. pick e (before versions p h)
+          where
+            pick : first_word (last_line lines) ≡ codes "evict" → (p ≡ AtVersion) ⊎ StepBefore versions p
+                → IsTrue (list_lt (numbers_of 3 (last_line lines)) (numbers_of 3 line))
+            pick e (inl a) = absurd (cc a)
+            pick e (inr b) =
+                let last : EvictionLast p b.line = eviction_last b.position b.line p b.step (ap first_word (sym (last-shown versions p b)) ∙ e) in
+                let above : IsBefore last.eviction r.evict = subst (λ o. IsEvictPlaced o r.evict) (last_of-push es last.evictions last.eviction last.whole) c in
+                ap₂ list_lt (old_numbers last.eviction last.evictions last.whole (last-shown versions p b ∙ last.is)) new
+                ∙ numbers_before last.eviction r.evict above
+
+        by_cause : IsEvictMisplaced (last_of es) r.evict why ⊎ (IsEvictPlaced (last_of es) r.evict × (r.others ≢ []) × (why ≡ 2))
+            → IsOutOfOrder lines 3 line why
+            ⊎ (IsInOrder lines 3 line × (3 < length (decimal r.evict.event ∷ decimal r.evict.space.0 ∷ decimal r.evict.page ∷ r.others)) × (why ≡ 2))
+        by_cause (inl c) = inl (misplaced c (split_last es))
+        by_cause (inr c) = inr (placed c.0, omega (arith, some_length r.others c.1), c.2)
+
+    by_fields : IsFirstWrong (evict_fields m.count) words why ⊎ IsEvictRefused m.count es words why
+        → FieldFault lines (fields_behind versions lines (codes "evict")) (codes "evict") words why
+    by_fields (inl w) = subst (λ k. FieldFault lines (evict_fields k) (codes "evict") words why) (sym count) (inl w)
+    by_fields (inr r) = subst (λ k. FieldFault lines (evict_fields k) (codes "evict") words why) (sym count) (refused r)
+
+evict_found : (versions : ℕ) (g : Grammar) → Setting versions g → (m : Machine) (spaces : List SpaceView) (es : List Evict)
+    (words : List (List ℕ)) (why : ℕ) → IsReached versions (AtEvict m spaces es) → words ≢ [] → IsEvictOrTurnRefused m es words why
+    → WordFault g versions (shown (AtEvict m spaces es)) words why
+evict_found versions g s m spaces es [] why h some r = absurd (some refl)
+evict_found versions g s m spaces es (word ∷ words) why h some (inl r) =
+    wrong_word versions g s (AtEvict m spaces es) word words why h (none_of_3 (codes "evict") (codes "turn") (codes "close") word r.0 r.1 r.2) r.3
+evict_found versions g s m spaces es (word ∷ words) why h some (inr (inl (e, inl r))) =
+    subst (λ w. WordFault g versions (shown (AtEvict m spaces es)) (w ∷ words) why) (sym e)
+    (inr (s.expects (AtEvict m spaces es) (codes "evict") h (0, omega arith, refl), inl (inl (refl, omega (arith, r.0, count_evict-at_evict m spaces es)), r.1)))
+evict_found versions g s m spaces es (word ∷ words) why h some (inr (inl (e, inr r))) =
+    subst (λ w. WordFault g versions (shown (AtEvict m spaces es)) (w ∷ words) why) (sym e) (evict_fault versions g s m spaces es words why h r.0 r.1)
+evict_found versions g s m spaces es (word ∷ words) why h some (inr (inr (inl r))) =
+    subst (λ w. WordFault g versions (shown (AtEvict m spaces es)) (w ∷ words) why) (sym r.0)
+    (turn_fault versions g (shown (AtEvict m spaces es)) m [] words why (s.expects (AtEvict m spaces es) (codes "turn") h (1, omega arith, refl))
+    (processors-at_evict m spaces es (omega (arith, h.0.processors.1))) (count_turn-at_evict m spaces es) r.1)
+evict_found versions g s m spaces es (word ∷ words) why h some (inr (inr (inr r))) =
+    subst (λ w. WordFault g versions (shown (AtEvict m spaces es)) (w ∷ words) why) (sym r.0)
+    (close_fault versions g (shown (AtEvict m spaces es)) words why (s.expects (AtEvict m spaces es) (codes "close") h (2, omega arith, refl)) r.1)
+
 slice_same : (versions v n f : ℕ) → versions ≤ 3 → IsReached versions (AtSlice v n f)
     → fields_behind versions (shown (AtSlice v n f)) (codes "slice") ≡ within (if v == 3 then 0 else 1) 1000000 ∷ []
 slice_same versions v n f three h =
@@ -337,7 +440,7 @@ found versions g s (AtAbsent m spaces d) words why h some r = inl (absent_found 
 found versions g s (AtProgram m spaces d) words why h some r =
     inl (keyword_fault versions g s (AtProgram m spaces d) (codes "program") (within 1 4096 ∷ []) words why h refl refl refl refl some r)
 found versions g s (AtInstr m spaces d len instrs) words why h some r = instr_found versions g s m spaces d len instrs words why h some r
-found versions g s (AtEvict m spaces evictions) words why h some r = ?
+found versions g s (AtEvict m spaces evictions) words why h some r = inl (evict_found versions g s m spaces evictions words why h some r)
 found versions g s (AtTurn m spaces evictions turns) words why h some r = inl (turn_found versions g s m spaces evictions turns words why h some r)
 found versions g s (Closed w) [] why h some r = absurd (some refl)
 found versions g s (Closed w) (word ∷ words) why h some r = inl (wrong_word versions g s (Closed w) word words why h (λ c. absurd (omega (arith, c.1))) r)

@@ -91,7 +91,7 @@ operation_refused d len is_last [] why h = h
 operation_refused d len is_last (word ∷ words) why (inl h) = inl h
 operation_refused d len is_last (word ∷ words) why (inr h) = inr (inl (h.0, inl h.1))
 
-right_declared : (count n : ℕ) → n < count → count ≤ 256 → IsRightFor (declared count) (decimal n)
+pub right_declared : (count n : ℕ) → n < count → count ≤ 256 → IsRightFor (declared count) (decimal n)
 right_declared count n h few = (n, omega arith, refl, lt-ltb n count h)
 
 right_target : (len n : ℕ) → n < len → len ≤ 4096 → IsRightFor (target len) (decimal n)
