@@ -2,6 +2,7 @@ pub mod Next
 pub mod Cut
 pub mod Operands
 pub mod Causes
+pub mod Assembled
 pub mod Standing
 pub mod Keeping
 pub mod Reached

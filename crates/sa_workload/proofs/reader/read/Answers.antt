@@ -1,6 +1,9 @@
 use Rattle.std.proofs.lemmas.Result.{MatchResult-weaker}
-use Rattle.sa_workload.proofs.Causes.{found}
+use Rattle.sa_workload.proofs.Assembled.{text_any, bad_any}
+use Rattle.sa_workload.proofs.Standing.{if_bad_weaker}
 use Rattle.sa_workload.proofs.reader.read.Goals as goal
 
 pub returns : goal.returns
-returns c = ?
+returns c = MatchResult-weaker c.read_versions.result c.read_versions.ensures
+    (λ w h. text_any c.args.bytes.now w h)
+    (λ unread h. if_bad_weaker unread _ _ (λ bad g. bad_any c.args.bytes.now bad.line bad.why g) h)
