@@ -2,13 +2,3 @@
 #![tactic(auto)]
 
 pub mod laws;
-
-ghost use Rattle.sa_workload.specs.Laws.{TextsDiffer};
-ghost use Rattle.sa_workload.specs.Position.{IsReached, shown, Position};
-ghost use Rattle.sa_workload.specs.Steps.{Steps};
-ghost use Rattle.std.specs.Prelude.{◌≡◌, ℕ, List};
-
-/// Trial.
-pub fn trial()
-    ensures { (n : ℕ) (p q : Position) (line : List (List ℕ)) → Steps p line q → IsReached n p → shown p ≡ shown p }
-{}
