@@ -137,8 +137,9 @@ fn push_programs(out: &mut Vec<u8>, programs: &[Program]) -> Result<(), AllocErr
 fn push_program(out: &mut Vec<u8>, program: &Program) -> Result<(), AllocError>
     ensures { OnOk result (out.new.items ≡ out.old.items ++ flat_map line_text (program_lines program.now)) }
 {
-    push_line(out, b"program", &[], &[u64::from(program.len())])?;
-    for pc in 0..program.len() {
+    let len = program.len();
+    push_line(out, b"program", &[], &[u64::from(len)])?;
+    for pc in 0..len {
         push_instr(out, program.at(pc))?;
     }
     Ok(())
@@ -198,3 +199,6 @@ fn push_turns(out: &mut Vec<u8>, turns: &[ProcNo]) -> Result<(), AllocError>
     }
     Ok(())
 }
+
+#[cfg(test)]
+mod tests;
