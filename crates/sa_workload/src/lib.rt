@@ -6,6 +6,7 @@ ghost use Rattle.sa_workload.specs.Position.{IsReached, shown, Position};
 ghost use Rattle.sa_workload.specs.Steps.{Steps};
 ghost use Rattle.std.specs.Prelude.{◌≡◌, ℕ, List};
 
+pub mod laws;
 mod push;
 mod text;
 

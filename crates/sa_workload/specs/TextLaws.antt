@@ -1,0 +1,27 @@
+-- What holds of the texts of workloads, line by line and byte by byte.
+use Rattle.std.specs.Prelude.{◌≡◌, ◌⊎◌, ℕ, ◌≤◌, true, List, map, All}
+use Rattle.std.specs.List.{join_with_byte}
+use Rattle.sa_instr.specs.Workload.{WorkloadView, IsWorkload}
+use Rattle.sa_text.specs.LineText.{LineText, line_texts}
+use Rattle.sa_workload.specs.Text.{workload_lines, text_of}
+use Rattle.sa_workload.specs.Bad.{words_of}
+
+-- the lines of a text are those of its workload, each with its words behind single spaces and with its line feed
+abbrev pub LinesAreTheWorkload : Type 0
+LinesAreTheWorkload =
+    (w : WorkloadView) → IsWorkload w
+    → line_texts (text_of w) ≡ map (λ line. record { bytes = join_with_byte 32 line; ended = true }) (workload_lines w)
+
+-- and their words are the workload's
+abbrev pub WordsAreTheWorkload : Type 0
+WordsAreTheWorkload = (w : WorkloadView) → IsWorkload w → words_of (line_texts (text_of w)) ≡ workload_lines w
+
+-- bytes of which each line has its line feed, and whose words are a workload's, are its text
+abbrev pub WordsMakeTheText : Type 0
+WordsMakeTheText =
+    (bytes : List ℕ) (w : WorkloadView) → All (λ (l : LineText). l.ended ≡ true) (line_texts bytes)
+    → words_of (line_texts bytes) ≡ workload_lines w → bytes ≡ text_of w
+
+-- each byte is a printed ASCII character or a line feed
+abbrev pub TextsArePrinted : Type 0
+TextsArePrinted = (w : WorkloadView) → IsWorkload w → All (λ b. (b ≡ 10) ⊎ ((32 ≤ b) × (b ≤ 126))) (text_of w)
