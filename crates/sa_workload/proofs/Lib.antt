@@ -1,2 +1,3 @@
 pub mod Printing
 pub mod TextLemmas
+pub mod BadLemmas

@@ -3,8 +3,8 @@ use Rattle.std.specs.Prelude.{◌≡◌, ◌⊎◌, ℕ, ◌≤◌, true, List, 
 use Rattle.std.specs.List.{join_with_byte}
 use Rattle.sa_instr.specs.Workload.{WorkloadView, IsWorkload}
 use Rattle.sa_text.specs.LineText.{LineText, line_texts}
-use Rattle.sa_workload.specs.Text.{workload_lines, text_of}
-use Rattle.sa_workload.specs.Bad.{words_of}
+use Rattle.sa_workload.specs.Text.{workload_lines, text_of, IsText1}
+use Rattle.sa_workload.specs.Bad.{words_of, BadAt1}
 
 -- the lines of a text are those of its workload, each with its words behind single spaces and with its line feed
 abbrev pub LinesAreTheWorkload : Type 0
@@ -25,3 +25,10 @@ WordsMakeTheText =
 -- each byte is a printed ASCII character or a line feed
 abbrev pub TextsArePrinted : Type 0
 TextsArePrinted = (w : WorkloadView) → IsWorkload w → All (λ b. (b ≡ 10) ⊎ ((32 ≤ b) × (b ≤ 126))) (text_of w)
+
+-- by version 1 alone as by all versions: a text is never bad, and bytes are bad in one line at most, with one cause
+abbrev pub Texts1AreNotBad : Type 0
+Texts1AreNotBad = (bytes : List ℕ) (w : WorkloadView) (k why : ℕ) → IsText1 bytes w → ¬ BadAt1 bytes k why
+
+abbrev pub Bad1Once : Type 0
+Bad1Once = (bytes : List ℕ) (k j why cause : ℕ) → BadAt1 bytes k why → BadAt1 bytes j cause → (k ≡ j) × (why ≡ cause)

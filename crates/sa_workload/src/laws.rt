@@ -1,5 +1,6 @@
 // What holds of workload texts, whatever the workload: each contract is a law, and the bodies do nothing.
-ghost use Rattle.sa_workload.specs.TextLaws.{LinesAreTheWorkload, WordsAreTheWorkload, WordsMakeTheText, TextsArePrinted};
+ghost use Rattle.sa_workload.specs.Laws.{TextsAreNotBad, BadOnce};
+ghost use Rattle.sa_workload.specs.TextLaws.{LinesAreTheWorkload, WordsAreTheWorkload, WordsMakeTheText, TextsArePrinted, Texts1AreNotBad, Bad1Once};
 
 /// The lines and words of a text are those of its workload, no other bytes have them, and each byte is a
 /// printed ASCII character or a line feed.
@@ -8,4 +9,12 @@ pub fn texts_are_lines_of_words()
     ensures words { WordsAreTheWorkload }
     ensures only { WordsMakeTheText }
     ensures printed { TextsArePrinted }
+{}
+
+/// A text is never bad, and bytes are bad in one line at most, with one cause; the same by version 1 alone.
+pub fn texts_are_bad_once()
+    ensures text { TextsAreNotBad }
+    ensures once { BadOnce }
+    ensures text1 { Texts1AreNotBad }
+    ensures once1 { Bad1Once }
 {}
