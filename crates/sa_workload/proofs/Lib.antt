@@ -1,3 +1,4 @@
 pub mod Printing
 pub mod TextLemmas
 pub mod BadLemmas
+pub mod Injective

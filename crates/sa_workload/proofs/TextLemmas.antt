@@ -43,7 +43,7 @@ decimal-visible n h =
     All-weaker (λ b. (48 ≤ b) × (b ≤ 57)) (λ b. (33 ≤ b) × (b ≤ 126)) (λ b d. (omega (arith, d.0), omega (arith, d.1))) (decimal n)
     (decimal-is_spelling n h).digits
 
-reg_number-fits : (r : Reg) → reg_number r < 2 ^ 64
+pub reg_number-fits : (r : Reg) → reg_number r < 2 ^ 64
 reg_number-fits R0 = omega arith
 reg_number-fits R1 = omega arith
 reg_number-fits R2 = omega arith
@@ -149,7 +149,7 @@ space-words version s is =
     (λ k d h. program-words s.mutexes (length s.sems) s.cells (length s.programs) is.mutexes is.sems is.cells is.few_programs
     (get_or s.programs k d) (is.programs k d h) (is.names k d h)))))
 
-version-fits : (b c : Bool) → cond b (cond c 1 2) 3 < 2 ^ 64
+pub version-fits : (b c : Bool) → cond b (cond c 1 2) 3 < 2 ^ 64
 version-fits true true = omega arith
 version-fits true false = omega arith
 version-fits false c = omega arith

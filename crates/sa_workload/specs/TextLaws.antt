@@ -32,3 +32,7 @@ Texts1AreNotBad = (bytes : List ℕ) (w : WorkloadView) (k why : ℕ) → IsText
 
 abbrev pub Bad1Once : Type 0
 Bad1Once = (bytes : List ℕ) (k j why cause : ℕ) → BadAt1 bytes k why → BadAt1 bytes j cause → (k ≡ j) × (why ≡ cause)
+
+-- no two workloads have the same lines
+abbrev pub LinesDiffer : Type 0
+LinesDiffer = (v w : WorkloadView) → IsWorkload v → IsWorkload w → workload_lines v ≡ workload_lines w → v ≡ w

@@ -1,6 +1,6 @@
 // What holds of workload texts, whatever the workload: each contract is a law, and the bodies do nothing.
-ghost use Rattle.sa_workload.specs.Laws.{TextsAreNotBad, BadOnce};
-ghost use Rattle.sa_workload.specs.TextLaws.{LinesAreTheWorkload, WordsAreTheWorkload, WordsMakeTheText, TextsArePrinted, Texts1AreNotBad, Bad1Once};
+ghost use Rattle.sa_workload.specs.Laws.{TextsDiffer, TextsAreNotBad, BadOnce};
+ghost use Rattle.sa_workload.specs.TextLaws.{LinesAreTheWorkload, WordsAreTheWorkload, WordsMakeTheText, LinesDiffer, TextsArePrinted, Texts1AreNotBad, Bad1Once};
 
 /// The lines and words of a text are those of its workload, no other bytes have them, and each byte is a
 /// printed ASCII character or a line feed.
@@ -17,4 +17,10 @@ pub fn texts_are_bad_once()
     ensures once { BadOnce }
     ensures text1 { Texts1AreNotBad }
     ensures once1 { Bad1Once }
+{}
+
+/// No two workloads have the same lines, nor the same text.
+pub fn texts_differ()
+    ensures lines { LinesDiffer }
+    ensures texts { TextsDiffer }
 {}

@@ -128,25 +128,13 @@ fn program(rt: &impl Abort, alloc: Global, instrs: &[Instr]) -> Program {
     Program::new(instrs).expect(rt, "a program")
 }
 
-// A space with a mutex and a cell, whose programs count and add.
-fn counting(rt: &impl Abort, alloc: Global) -> SpaceDef {
-    let mut programs = Vec::new(alloc);
-    programs
-        .push(program(rt, alloc, &COUNTING))
-        .expect(rt, "memory");
-    programs
-        .push(program(rt, alloc, &ADDING))
-        .expect(rt, "memory");
-    SpaceDef::new(0, 1, Vec::new(alloc), 1, Vec::new(alloc), programs).expect(rt, "a space")
-}
-
-// A space with one program, and nothing else.
-fn bare(rt: &impl Abort, alloc: Global, instrs: &[Instr]) -> SpaceDef {
-    let mut programs = Vec::new(alloc);
-    programs
-        .push(program(rt, alloc, instrs))
-        .expect(rt, "memory");
-    SpaceDef::new(0, 0, Vec::new(alloc), 0, Vec::new(alloc), programs).expect(rt, "a space")
+// A space with these programs, and so many mutexes and cells each.
+fn space(rt: &impl Abort, alloc: Global, shared: u16, programs: &[&[Instr]]) -> SpaceDef {
+    let mut list = Vec::new(alloc);
+    for instrs in programs {
+        list.push(program(rt, alloc, instrs)).expect(rt, "memory");
+    }
+    SpaceDef::new(0, shared, Vec::new(alloc), shared, Vec::new(alloc), list).expect(rt, "a space")
 }
 
 // A workload of one processor and this space alone.
@@ -160,8 +148,9 @@ fn alone(rt: &impl Abort, alloc: Global, space: SpaceDef) -> Workload {
 fn version_1_is_printed(rt: HostRuntime) -> Result<(), Fail> {
     let alloc = rt.alloc();
     let mut spaces = Vec::new(alloc);
-    spaces.push(counting(&rt, alloc))?;
-    spaces.push(counting(&rt, alloc))?;
+    for _ in 0..2 {
+        spaces.push(space(&rt, alloc, 1, &[&COUNTING, &ADDING]))?;
+    }
     let workload = Workload::new(4, 10, spaces, Vec::new(alloc), Vec::new(alloc));
     let text = print(alloc, &workload.ok_or("a workload")?)?;
     assert_eq!(rt; text.as_slice(), REALISTIC.as_bytes());
@@ -175,9 +164,9 @@ fn what_comes_from_outside_is_printed(rt: HostRuntime) -> Result<(), Fail> {
     programs.push(program(&rt, alloc, &OUTSIDE))?;
     let sems = Vec::from_slice(alloc, &[0, 1_000_000])?;
     let absent = Vec::from_slice(alloc, &[1, 15])?;
-    let space = SpaceDef::new(7, 0, sems, 0, absent, programs);
+    let first = SpaceDef::new(7, 0, sems, 0, absent, programs);
     let mut spaces = Vec::new(alloc);
-    spaces.push(space.ok_or("a space")?)?;
+    spaces.push(first.ok_or("a space")?)?;
     let rows = [(1, 0), (1_000_000, 15)];
     let mut evictions = Vec::new(alloc);
     for (event, page) in rows {
@@ -194,7 +183,7 @@ fn what_comes_from_outside_is_printed(rt: HostRuntime) -> Result<(), Fail> {
 #[test]
 fn a_slice_needs_version_2(rt: HostRuntime) -> Result<(), Fail> {
     let alloc = rt.alloc();
-    let workload = alone(&rt, alloc, bare(&rt, alloc, &[Instr::End]));
+    let workload = alone(&rt, alloc, space(&rt, alloc, 0, &[&[Instr::End]]));
     let text = print(alloc, &workload.with_slice(6).ok_or("a slice")?)?;
     let want =
         "workload 2\nprocessors 1\nfetch 10\nslice 6\nspaces 1\nspace 0 0 0 0 1\nprogram 1\nend\nclose\n";
@@ -205,8 +194,8 @@ fn a_slice_needs_version_2(rt: HostRuntime) -> Result<(), Fail> {
 #[test]
 fn a_patience_needs_version_3(rt: HostRuntime) -> Result<(), Fail> {
     let alloc = rt.alloc();
-    let space = bare(&rt, alloc, &[Instr::Io(9), Instr::End]).with_patience(3);
-    let workload = alone(&rt, alloc, space.ok_or("a patience")?);
+    let patient = space(&rt, alloc, 0, &[&[Instr::Io(9), Instr::End]]).with_patience(3);
+    let workload = alone(&rt, alloc, patient.ok_or("a patience")?);
     let text = print(alloc, &workload)?;
     let want =
         "workload 3\nprocessors 1\nfetch 10\nslice 0\nspaces 1\nspace 0 0 0 0 1 3\nprogram 2\nio 9\nend\nclose\n";
