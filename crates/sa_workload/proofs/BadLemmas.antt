@@ -183,7 +183,7 @@ begins-fewer g lines more b = record {
 }
 
 -- the first lines up to one of them, and the others
-split_take : (ls : List LineText) (n m : ℕ) (line : LineText) → n < m → slice_get ls n ≡ Some line
+pub split_take : (ls : List LineText) (n m : ℕ) (line : LineText) → n < m → slice_get ls n ≡ Some line
     → (rest : List LineText) × (take m ls ≡ (take n ls ++ line ∷ []) ++ rest)
 split_take [] n m line h e = absurd (cc e)
 split_take (l ∷ ls) n zero line h e = absurd (omega arith)
@@ -192,18 +192,18 @@ split_take (l ∷ ls) (suc n) (suc m) line h e =
     let r : (rest : List LineText) × (take m ls ≡ (take n ls ++ line ∷ []) ++ rest) = split_take ls n m line (omega arith) e in
     (r.0, ap (λ xs. l ∷ xs) r.1)
 
-All-middle : (P : LineText → Type 0) (xs : List LineText) (x : LineText) (ys : List LineText) → All P ((xs ++ x ∷ []) ++ ys) → P x
+pub All-middle : (P : LineText → Type 0) (xs : List LineText) (x : LineText) (ys : List LineText) → All P ((xs ++ x ∷ []) ++ ys) → P x
 All-middle P [] x ys h = All-head P x ys h
 All-middle P (y ∷ xs) x ys h = All-middle P xs x ys (All-tail P y ((xs ++ x ∷ []) ++ ys) h)
 
-words_of-split : (xs : List LineText) (x : LineText) (ys : List LineText)
+pub words_of-split : (xs : List LineText) (x : LineText) (ys : List LineText)
     → words_of ((xs ++ x ∷ []) ++ ys) ≡ (words_of xs ++ pieces_of x.bytes ∷ []) ++ words_of ys
 words_of-split xs x ys =
     map-append (λ (l : LineText). pieces_of l.bytes) (xs ++ x ∷ []) ys
     ∙ ap (λ ws. ws ++ words_of ys) (map-append (λ (l : LineText). pieces_of l.bytes) xs (x ∷ []))
 
 -- lines that begin a text begin one up to each of them
-goes_on : (g : Grammar) (ls : List LineText) (n m : ℕ) (line : LineText) → n < m → slice_get ls n ≡ Some line
+pub goes_on : (g : Grammar) (ls : List LineText) (n m : ℕ) (line : LineText) → n < m → slice_get ls n ≡ Some line
     → All (λ (l : LineText). l.ended ≡ true) (take m ls) → Begins g (words_of (take m ls))
     → (line.ended ≡ true) × Begins g (words_of (take n ls) ++ pieces_of line.bytes ∷ [])
 goes_on g ls n m line h e ended b =
@@ -214,7 +214,7 @@ goes_on g ls n m line h e ended b =
     )
 
 -- no bad line stands before another
-none_before : (g : Grammar) (versions : ℕ) (ls : List LineText) (k j why cause : ℕ) → IsBad g versions ls k why → IsBad g versions ls j cause → k < j → ⊥
+pub none_before : (g : Grammar) (versions : ℕ) (ls : List LineText) (k j why cause : ℕ) → IsBad g versions ls k why → IsBad g versions ls j cause → k < j → ⊥
 none_before g versions ls k j why cause v w h = at (slice_get ls (k - 1)) (slice_get ls (j - 1)) refl refl v.wrong w.wrong
   where
     Wrong : ℕ → ℕ → Option LineText → Type 0

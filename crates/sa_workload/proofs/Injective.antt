@@ -21,14 +21,14 @@ use Rattle.sa_text.proofs.Spelling.{decimal-is_spelling}
 use Rattle.sa_workload.specs.Text.{instr_line, program_lines, space_line, space_lines, sem_line, absent_line, evict_line, turn_line, version_of, slice_lines, closing_lines, workload_lines}
 use Rattle.sa_workload.proofs.TextLemmas.{reg_number-fits, version-fits}
 
-abbrev Line : Type 0
+abbrev pub Line : Type 0
 Line = List (List ℕ)
 
-head_tail : {A : Type 0} (x y : A) (xs ys : List A) → x ∷ xs ≡ y ∷ ys → (x ≡ y) × (xs ≡ ys)
+pub head_tail : {A : Type 0} (x y : A) (xs ys : List A) → x ∷ xs ≡ y ∷ ys → (x ≡ y) × (xs ≡ ys)
 head_tail x y xs ys e = (cc e, cc e)
 
 -- as many lines on both sides, each of which says what it is made of
-many_lines : {X : Type 0} (f : X → Line) (P : X → Type 0) → ((x y : X) → P x → P y → f x ≡ f y → x ≡ y)
+pub many_lines : {X : Type 0} (f : X → Line) (P : X → Type 0) → ((x y : X) → P x → P y → f x ≡ f y → x ≡ y)
     → (xs ys : List X) (s t : List Line) → length xs ≡ length ys → All P xs → All P ys → map f xs ++ s ≡ map f ys ++ t → (xs ≡ ys) × (s ≡ t)
 many_lines f P same [] [] s t n h k e = (refl, e)
 many_lines f P same [] (y ∷ ys) s t n h k e = absurd (omega (arith, n))
@@ -40,7 +40,7 @@ many_lines f P same (x ∷ xs) (y ∷ ys) s t n h k e =
     (ap (λ z. z ∷ xs) first ∙ ap (λ zs. y ∷ zs) others.0, others.1)
 
 -- such lines on both sides up to lines of another kind
-until_lines : {X : Type 0} (f : X → Line) (P : X → Type 0) → ((x y : X) → P x → P y → f x ≡ f y → x ≡ y)
+pub until_lines : {X : Type 0} (f : X → Line) (P : X → Type 0) → ((x y : X) → P x → P y → f x ≡ f y → x ≡ y)
     → (xs ys : List X) (s t : List Line) → ((x : X) (more : List Line) → s ≢ f x ∷ more) → ((x : X) (more : List Line) → t ≢ f x ∷ more)
     → All P xs → All P ys → map f xs ++ s ≡ map f ys ++ t → (xs ≡ ys) × (s ≡ t)
 until_lines f P same [] [] s t a b h k e = (refl, e)
@@ -53,10 +53,10 @@ until_lines f P same (x ∷ xs) (y ∷ ys) s t a b h k e =
     (ap (λ z. z ∷ xs) first ∙ ap (λ zs. y ∷ zs) others.0, others.1)
 
 -- lines say what they are made of, and where they end
-abbrev Reads : {X : Type 0} → (X → List Line) → (X → Type 0) → Type 0
+abbrev pub Reads : {X : Type 0} → (X → List Line) → (X → Type 0) → Type 0
 Reads {X} f P = (x y : X) (s t : List Line) → P x → P y → f x ++ s ≡ f y ++ t → (x ≡ y) × (s ≡ t)
 
-many_parts : {X : Type 0} (f : X → List Line) (P : X → Type 0) → Reads f P
+pub many_parts : {X : Type 0} (f : X → List Line) (P : X → Type 0) → Reads f P
     → (xs ys : List X) (s t : List Line) → length xs ≡ length ys → All P xs → All P ys → flat_map f xs ++ s ≡ flat_map f ys ++ t → (xs ≡ ys) × (s ≡ t)
 many_parts f P reads [] [] s t n h k e = (refl, e)
 many_parts f P reads [] (y ∷ ys) s t n h k e = absurd (omega (arith, n))
@@ -69,7 +69,7 @@ many_parts f P reads (x ∷ xs) (y ∷ ys) s t n h k e =
     (ap (λ z. z ∷ xs) r.0 ∙ ap (λ zs. y ∷ zs) others.0, others.1)
 
 -- lines of one number
-one_number : (word : List ℕ) (n m : ℕ) → n < 2 ^ 64 → m < 2 ^ 64 → word ∷ decimal n ∷ [] ≡ word ∷ decimal m ∷ [] → n ≡ m
+pub one_number : (word : List ℕ) (n m : ℕ) → n < 2 ^ 64 → m < 2 ^ 64 → word ∷ decimal n ∷ [] ≡ word ∷ decimal m ∷ [] → n ≡ m
 one_number word n m h k e = decimal_injective n m h k (ap (λ line. get_or line 1 []) e)
 
 -- what a number and a register spell
