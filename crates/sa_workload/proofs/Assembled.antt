@@ -18,7 +18,7 @@ use Rattle.sa_workload.proofs.NextLine.{last-line}
 use Rattle.sa_workload.proofs.NoCause.{fault-is_cause, fault-refuses}
 use Rattle.sa_workload.proofs.RightWord.{any_accepts, version1_accepts, version1_covers}
 use Rattle.sa_workload.proofs.TextOrBad.{printed_where_begins}
-use Rattle.sa_workload.proofs.Visible.{text_from_lines}
+use Rattle.sa_workload.proofs.TextLemmas.{text_of-from_words}
 
 -- a line that is bad at a position
 abbrev IsBadLine : ℕ → Grammar → List (List (List ℕ)) → LineText → ℕ → Type 0
@@ -26,7 +26,7 @@ IsBadLine versions g lines l why = (l.ended ≡ true → ¬ Begins g (lines ++ p
 
 bad_line : (versions : ℕ) (g : Grammar) → Setting versions g → (p : Position) (l : LineText) (why : ℕ) → IsReached versions p → IsLineBad versions p l why
     → IsBadLine versions g (shown p) l why
-bad_line versions g s p l why h (inl b) = ((λ e i. b.0 (printed_where_begins versions s.few g s.accepts p l.bytes h i)), inl b)
+bad_line versions g s p l why h (inl b) = ((λ e i. b.0 (printed_where_begins versions g s.accepts (shown p) l.bytes i)), inl b)
 bad_line versions g s p l why h (inr (printed, inl b)) = ((λ e. absurd (cc (e, b.0))), inr (printed, inl b))
 bad_line versions g s p l why h (inr (printed, inr b)) = pick (found versions g s p (pieces_of l.bytes) why h some b.1)
   where
@@ -77,10 +77,10 @@ pub bad_1 : (bytes : List ℕ) (k why : ℕ) → IsStopped 1 (line_texts bytes) 
 bad_1 bytes k why h = stopped_is_bad 1 Version1 one completes_1 (line_texts bytes) k why h
 
 pub text_any : (bytes : List ℕ) (w : WorkloadView) → IsBehind 3 (Closed w) (line_texts bytes) → IsText bytes w
-text_any bytes w h = record { workload = h.reached.0; text = text_from_lines bytes w h.ended h.lines }
+text_any bytes w h = record { workload = h.reached.0; text = text_of-from_words bytes w h.ended (sym h.lines) }
 
 pub text_1 : (bytes : List ℕ) (w : WorkloadView) → IsBehind 1 (Closed w) (line_texts bytes) → IsText1 bytes w
 text_1 bytes w h = record {
-  text = record { workload = h.reached.0; text = text_from_lines bytes w h.ended h.lines };
+  text = record { workload = h.reached.0; text = text_of-from_words bytes w h.ended (sym h.lines) };
   version = (version1_covers w h.reached.0 h.reached.1).1;
 }

@@ -22,7 +22,7 @@ pub mod NoCause
 pub mod OneBad
 pub mod Reaching
 pub mod Takes
-pub mod Visible
 pub mod Judge
 pub mod TextOrBad
-pub mod Completing
+pub mod Printing
+pub mod TextLemmas

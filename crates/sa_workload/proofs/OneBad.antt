@@ -1,17 +1,19 @@
--- Bytes are bad in one line at most, with one cause; and the text of a workload, where its lines are read back, is not bad.
-use Rattle.std.proofs.Common.{◌≡◌, ◌≢◌, ℕ, ◌+◌, ◌-◌, ◌<◌, ◌≤◌, ◌⊎◌, true, List, [], ◌∷◌, ◌++◌, length, get_or, take, drop, All, Option, Some, None, MatchOption, slice_get, arith, refl, sym, ap, ◌∙◌, subst, inl, inr, append_assoc, take-append-drop, length-take}
+-- Bytes are bad in one line at most, with one cause; the text of a workload is not bad, and two workloads never share one.
+use Rattle.std.proofs.Common.{◌≡◌, ◌≢◌, ℕ, ◌+◌, ◌-◌, ◌<◌, ◌≤◌, ◌⊎◌, true, false, List, [], ◌∷◌, ◌++◌, length, get_or, take, drop, map, All, Option, Some, None, MatchOption, slice_get, arith, refl, sym, ap, ◌∙◌, subst, inl, inr, append_assoc, take-append-drop, length-take}
 use Rattle.std.proofs.lemmas.Bool.{cases_lt}
-use Rattle.std.proofs.lemmas.List.{map-append, drop_more, take-take, get_or-take}
+use Rattle.std.proofs.lemmas.List.{map-append, drop_more, take-take, get_or-take, length-take-le, drop-take}
+use Rattle.std.proofs.lemmas.List.Elements.{All-map}
 use Rattle.std.proofs.lemmas.Option.{slice_get_past, slice_get_within, slice_get-get_or}
 use Rattle.sa_instr.specs.Workload.{WorkloadView, IsWorkload}
 use Rattle.sa_text.specs.LineText.{LineText, line_texts}
 use Rattle.sa_text.specs.Pieces.{pieces_of}
-use Rattle.sa_workload.specs.Text.{workload_lines, text_of}
-use Rattle.sa_workload.specs.Bad.{Grammar, AnyVersion, Begins, LineCause, words_of, IsBad}
-use Rattle.sa_workload.specs.Laws.{BadOnce, TextsDiffer, TextsAreNotBad}
+use Rattle.sa_workload.specs.Text.{workload_lines, text_of, IsText}
+use Rattle.sa_workload.specs.Bad.{Grammar, Begins, WordCause, LineCause, words_of, IsBad}
+use Rattle.sa_workload.specs.Laws.{TextsDiffer}
 use Rattle.sa_workload.proofs.NextLine.{lines-injective}
 use Rattle.sa_workload.proofs.RightWord.{version_of-le}
 use Rattle.sa_workload.proofs.OneCause.{causes-are_one}
+use Rattle.sa_workload.proofs.TextLemmas.{ended_line, line_texts-text_of, words_of-text_of}
 
 -- the lines up to one of them
 split_at : (ls : List LineText) (i n : ℕ) (line : LineText) → slice_get ls i ≡ Some line → i < n
@@ -57,11 +59,11 @@ bad_before g versions ls k j why cause a b below = pick (slice_get ls (k - 1)) r
         let split : take (j - 1) ls ≡ take (k - 1) ls ++ line ∷ drop (k - 1 + 1) (take (j - 1) ls) = split_at ls (k - 1) (j - 1) line e place in
         let inside : k - 1 < length ls = slice_get_within ls (k - 1) line e in
         let element : get_or (take (j - 1) ls) (k - 1) line ≡ line =
-        get_or-take (j - 1) ls (k - 1) line place ∙ cc (sym (slice_get-get_or ls (k - 1) line inside) ∙ e) in
+            get_or-take (j - 1) ls (k - 1) line place ∙ cc (sym (slice_get-get_or ls (k - 1) line inside) ∙ e) in
         let ended : line.ended ≡ true =
-        subst (λ (l : LineText). l.ended ≡ true) element (b.ended (k - 1) line (omega (arith, length-take (j - 1) ls))) in
+            subst (λ (l : LineText). l.ended ≡ true) element (b.ended (k - 1) line (omega (arith, length-take (j - 1) ls))) in
         let words : words_of (take (j - 1) ls) ≡ (words_of (take (k - 1) ls) ++ pieces_of line.bytes ∷ []) ++ words_of (drop (k - 1 + 1) (take (j - 1) ls)) =
-        ap words_of split ∙ words_split (take (k - 1) ls) line (drop (k - 1 + 1) (take (j - 1) ls)) in
+            ap words_of split ∙ words_split (take (k - 1) ls) line (drop (k - 1 + 1) (take (j - 1) ls)) in
         x.0 ended
         (begins_front g (words_of (take (k - 1) ls) ++ pieces_of line.bytes ∷ []) (words_of (drop (k - 1 + 1) (take (j - 1) ls)))
         (subst (λ (ws : List (List (List ℕ))). Begins g ws) words b.begins))
@@ -96,9 +98,6 @@ one-bad g versions ls k j why cause a b = pick (cases_lt k j) (cases_lt j k)
         let e : k ≡ j = omega arith in
         (e, bad_same g versions ls k why cause a (subst (λ (i : ℕ). IsBad g versions ls i cause) (sym e) b))
 
-pub bad_once : BadOnce
-bad_once bytes k j why cause a b = one-bad AnyVersion 3 (line_texts bytes) k j why cause a b
-
 -- lines that are those of a workload are not bad
 pub lines-not_bad : (g : Grammar) (versions : ℕ) (ls : List LineText) (w : WorkloadView) (k why : ℕ) → g w → workload_lines w ≡ words_of ls
     → All (λ (l : LineText). l.ended ≡ true) ls → ¬ IsBad g versions ls k why
@@ -110,28 +109,27 @@ lines-not_bad g versions ls w k why accepted e ended a = pick (slice_get ls (k -
         let inside : k - 1 < length ls = slice_get_within ls (k - 1) line f in
         let element : get_or ls (k - 1) line ≡ line = cc (sym (slice_get-get_or ls (k - 1) line inside) ∙ f) in
         let whole : ls ≡ take (k - 1) ls ++ line ∷ drop (k - 1 + 1) ls =
-        sym (take-append-drop (k - 1) ls)
-        ∙ ap (λ (xs : List LineText). take (k - 1) ls ++ xs) (drop_more ls (k - 1) line inside ∙ ap (λ (l : LineText). l ∷ drop (k - 1 + 1) ls) element) in
+            sym (take-append-drop (k - 1) ls)
+            ∙ ap (λ (xs : List LineText). take (k - 1) ls ++ xs) (drop_more ls (k - 1) line inside ∙ ap (λ (l : LineText). l ∷ drop (k - 1 + 1) ls) element) in
         x.0 (subst (λ (l : LineText). l.ended ≡ true) element (ended (k - 1) line inside))
         (record {
-          workload = w;
-          accepted = accepted;
-          more = words_of (drop (k - 1 + 1) ls);
-          text = e ∙ ap words_of whole ∙ words_split (take (k - 1) ls) line (drop (k - 1 + 1) ls);
+          workload = w; accepted = accepted; more = words_of (drop (k - 1 + 1) ls);
+          text = e ∙ ap words_of whole ∙ words_split (take (k - 1) ls) line (drop (k - 1 + 1) ls)
         })
 
--- that the lines of a text read back
-abbrev pub ReadsBack : Type 0
-ReadsBack = (w : WorkloadView) → IsWorkload w
-    → (words_of (line_texts (text_of w)) ≡ workload_lines w) × All (λ (l : LineText). l.ended ≡ true) (line_texts (text_of w))
+ended_lines : (lines : List (List (List ℕ))) → All (λ (l : LineText). l.ended ≡ true) (map ended_line lines)
+ended_lines lines = All-map (λ (l : LineText). l.ended ≡ true) ended_line lines (λ k d h. refl)
 
-pub texts_differ : ReadsBack → TextsDiffer
-texts_differ back bytes v w a b =
+-- a text is not bad, by any grammar that accepts its workload
+pub text-not_bad : (g : Grammar) (versions : ℕ) (bytes : List ℕ) (w : WorkloadView) (k why : ℕ) → g w → IsWorkload w → bytes ≡ text_of w
+    → ¬ IsBad g versions (line_texts bytes) k why
+text-not_bad g versions bytes w k why accepted is e =
+    let lines : line_texts bytes ≡ map ended_line (workload_lines w) = ap line_texts e ∙ line_texts-text_of w is in
+    lines-not_bad g versions (line_texts bytes) w k why accepted (sym (ap (λ (bs : List ℕ). words_of (line_texts bs)) e ∙ words_of-text_of w is))
+    (subst (All (λ (l : LineText). l.ended ≡ true)) (sym lines) (ended_lines (workload_lines w)))
+
+-- two workloads never share a text: their lines would be the same
+pub texts_differ : TextsDiffer
+texts_differ bytes v w a b =
     lines-injective v w a.workload b.workload (version_of-le v) (version_of-le w)
-    (sym (back v a.workload).0 ∙ ap (λ (bs : List ℕ). words_of (line_texts bs)) (sym a.text ∙ b.text) ∙ (back w b.workload).0)
-
-pub texts_are_not_bad : ReadsBack → TextsAreNotBad
-texts_are_not_bad back bytes w k why a bad =
-    let r = back w a.workload in
-    lines-not_bad AnyVersion 3 (line_texts (text_of w)) w k why a.workload (sym r.0) r.1
-    (subst (λ (bs : List ℕ). IsBad AnyVersion 3 (line_texts bs) k why) a.text bad)
+    (sym (words_of-text_of v a.workload) ∙ ap (λ (bs : List ℕ). words_of (line_texts bs)) (sym a.text ∙ b.text) ∙ words_of-text_of w b.workload)

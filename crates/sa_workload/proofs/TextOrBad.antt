@@ -15,7 +15,7 @@ use Rattle.sa_workload.specs.Laws.{TextOrBad}
 use Rattle.sa_workload.specs.Position.{Position, AtVersion, AtProcessors, AtFetch, AtSlice, AtSpaces, AtSpace, AtSem, AtAbsent, AtProgram, AtInstr, AtEvict, AtTurn, Closed, IsReached, shown}
 use Rattle.sa_workload.proofs.NextLine.{StepTo, last-line}
 use Rattle.sa_workload.proofs.RightWord.{Accepts, any_accepts, version1_accepts, version1_covers, begins-step}
-use Rattle.sa_workload.proofs.Visible.{step-visible, line-printed, text_from_lines}
+use Rattle.sa_workload.proofs.TextLemmas.{IsWords, workload-words, join-printed, text_of-from_words}
 use Rattle.sa_workload.proofs.Judge.{Expects, Refused, judge}
 
 -- the lines of a reached position begin a text
@@ -138,13 +138,19 @@ bad_end g versions ls ended begins none = record {
         (λ (line : LineText). (line.ended ≡ true → ¬ Begins g (words_of (take (length ls + 1 - 1) ls) ++ pieces_of line.bytes ∷ []))
         × LineCause g versions (words_of (take (length ls + 1 - 1) ls)) line 9)
 
+All-behind : {X : Type 0} (P : X → Type 0) (xs ys : List X) → All P (xs ++ ys) → All P ys
+All-behind P [] ys h = h
+All-behind P (x ∷ xs) ys h = All-behind P xs ys (All-tail P x (xs ++ ys) h)
+
 -- a line of some text is printed
-pub printed_where_begins : (versions : ℕ) → versions ≤ 3 → (g : Grammar) → Accepts versions g → (p : Position) (bytes : List ℕ) → IsReached versions p
-    → Begins g (shown p ++ pieces_of bytes ∷ []) → IsPrinted bytes
-printed_where_begins versions few g accepts p bytes h b =
-    let s : StepTo versions p (pieces_of bytes) = begins-step versions few g accepts p (pieces_of bytes) h b in
+pub printed_where_begins : (versions : ℕ) (g : Grammar) → Accepts versions g → (lines : List (List (List ℕ))) (bytes : List ℕ)
+    → Begins g (lines ++ pieces_of bytes ∷ []) → IsPrinted bytes
+printed_where_begins versions g accepts lines bytes b =
+    let all : All IsWords (workload_lines b.workload) = workload-words b.workload (accepts b.workload b.accepted).0 in
+    let text : workload_lines b.workload ≡ lines ++ pieces_of bytes ∷ b.more = b.text ∙ append_assoc lines (pieces_of bytes ∷ []) b.more in
+    let here : All IsWords (pieces_of bytes ∷ b.more) = All-behind IsWords lines (pieces_of bytes ∷ b.more) (subst (All IsWords) text all) in
     subst (λ (bs : List ℕ). IsPrinted bs) (join_with_byte-slice_split 32 bytes)
-    (line-printed (pieces_of bytes) (step-visible versions few p (pieces_of bytes) s.position s.step h s.reached))
+    (join-printed (pieces_of bytes) (All-head IsWords (pieces_of bytes) b.more here).1)
 
 -- a line that is read on, or is bad
 record GoesOn (versions : ℕ) (p : Position) (l : LineText) : Type 0 where
@@ -180,7 +186,7 @@ judge_line versions few g accepts expects p l h = by_bytes (cases_printed l.byte
     by_bytes (inl printed) = by_end printed l.ended refl
     by_bytes (inr other) = inr (record {
       why = 1;
-      none = λ e b. other (printed_where_begins versions few g accepts p l.bytes h b);
+      none = λ e b. other (printed_where_begins versions g accepts (shown p) l.bytes b);
       cause = inl (other, refl);
     })
 
@@ -226,7 +232,7 @@ pub text_or_bad : Expects 3 AnyVersion → Completes 3 AnyVersion → TextOrBad
 text_or_bad expects completes bytes = pick (lines_judged 3 (omega arith) AnyVersion any_accepts (λ w h v. h) expects completes (line_texts bytes))
   where
     pick : AreLinesOf AnyVersion (line_texts bytes) ⊎ SomeBad AnyVersion 3 (line_texts bytes) → ((w : WorkloadView) × IsText bytes w) ⊎ ((k why : ℕ) × BadAt bytes k why)
-    pick (inl a) = inl (a.workload, record { workload = a.accepted; text = text_from_lines bytes a.workload a.ended a.lines })
+    pick (inl a) = inl (a.workload, record { workload = a.accepted; text = text_of-from_words bytes a.workload a.ended (sym a.lines) })
     pick (inr b) = inr (b.number, b.why, b.bad)
 
 -- the same by version 1 alone
@@ -239,7 +245,7 @@ text_or_bad1 expects completes bytes =
         inl (
           a.workload,
           record {
-            text = record { workload = a.accepted.0; text = text_from_lines bytes a.workload a.ended a.lines };
+            text = record { workload = a.accepted.0; text = text_of-from_words bytes a.workload a.ended (sym a.lines) };
             version = a.accepted.1;
           },
         )

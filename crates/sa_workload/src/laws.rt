@@ -1,22 +1,32 @@
 // What holds of workload texts, whatever the bytes: each contract is a law, and the bodies do nothing.
 ghost use Rattle.sa_workload.specs.Laws.{BadOnce, TextOrBad, TextsAreNotBad, TextsDiffer};
+ghost use Rattle.sa_workload.specs.TextLaws.{LinesAreTheWorkload, LinesDiffer, WordsAreTheWorkload, WordsMakeTheText, TextsArePrinted, Texts1AreNotBad, Bad1Once, Text1OrBad};
 
-/// Two workloads never share a text.
+/// The lines and words of a text are those of its workload, no other bytes have them, and each byte is a
+/// printed ASCII character or a line feed.
+pub fn texts_are_lines_of_words()
+    ensures lines { LinesAreTheWorkload }
+    ensures words { WordsAreTheWorkload }
+    ensures only { WordsMakeTheText }
+    ensures printed { TextsArePrinted }
+{}
+
+/// Two workloads never have the same lines, and never share a text.
 pub fn texts_differ()
-    ensures { TextsDiffer }
+    ensures lines { LinesDiffer }
+    ensures texts { TextsDiffer }
 {}
 
-/// The text of a workload is never bad.
-pub fn texts_are_not_bad()
-    ensures { TextsAreNotBad }
+/// A text is never bad, and bytes are bad in one line at most, with one cause; the same by version 1 alone.
+pub fn texts_are_bad_once()
+    ensures text { TextsAreNotBad }
+    ensures once { BadOnce }
+    ensures text1 { Texts1AreNotBad }
+    ensures once1 { Bad1Once }
 {}
 
-/// Bytes are bad in one line at most, with one cause.
-pub fn bad_once()
-    ensures { BadOnce }
-{}
-
-/// Bytes are the text of some workload, or bad.
+/// Bytes are the text of some workload, or bad; the same by version 1 alone.
 pub fn text_or_bad()
-    ensures { TextOrBad }
+    ensures any { TextOrBad }
+    ensures version1 { Text1OrBad }
 {}

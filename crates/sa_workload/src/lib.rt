@@ -9,11 +9,14 @@ mod line_words;
 mod machine_lines;
 mod operations;
 mod positions;
+mod push;
 mod reader;
 mod space_lines;
 mod stage;
+mod text;
 
 pub use reader::{read, read_one};
+pub use text::print;
 
 #[cfg(test)]
 mod tests;
