@@ -1,11 +1,16 @@
 -- A reader that stops has found what is bad in the text, and one that reads all lines has read a text.
-use Rattle.std.proofs.Common.{◌≡◌, ◌≢◌, ◌⊎◌, ℕ, ◌+◌, ◌-◌, ◌≤◌, true, false, List, [], ◌∷◌, ◌++◌, length, take, Option, Some, None, MatchOption, slice_get, subst, sym, ◌∙◌, ap, refl, inl, inr, arith}
+use Rattle.std.proofs.Common.{◌≡◌, ◌≢◌, ◌⊎◌, ℕ, ◌+◌, ◌-◌, ◌≤◌, true, false, List, [], ◌∷◌, ◌++◌, length, take, Option, Some, None, MatchOption, Result, Ok, Err, MatchResult, slice_get, subst, sym, ◌∙◌, ap, refl, inl, inr, arith}
 use Rattle.std.proofs.Math.Seq.{take-length}
 use Rattle.sa_instr.specs.Workload.{WorkloadView, IsWorkload}
 use Rattle.sa_text.specs.LineText.{LineText, line_texts}
 use Rattle.sa_text.specs.Pieces.{pieces_of}
 use Rattle.sa_text.proofs.PieceLemmas.{pieces_of-are_pieces}
-use Rattle.sa_workload.specs.Text.{workload_lines, version_of, IsText, IsText1}
+use Rattle.sa_base.specs.declared.refusal.Bad.{Bad}
+use Rattle.sa_base.specs.declared.refusal.Unread.{Unread}
+use Rattle.sa_base.specs.declared.refusal.Unread.TheVariants.{Bad as refused, OutOfMemory as memory}
+use Rattle.sa_workload.specs.Answer.{IfBad}
+use Rattle.sa_workload.proofs.OneBad.{text-not_bad, one-bad, texts_differ}
+use Rattle.sa_workload.specs.Text.{text_of, workload_lines, version_of, IsText, IsText1}
 use Rattle.sa_workload.specs.Bad.{Grammar, AnyVersion, Version1, Begins, LineCause, IsBad, BadAt, BadAt1, words_of}
 use Rattle.sa_workload.specs.Position.{Position, Closed, IsReached, shown}
 use Rattle.sa_workload.specs.Reading.{IsBehind, IsStopped}
@@ -84,3 +89,39 @@ text_1 bytes w h = record {
   text = record { workload = h.reached.0; text = text_of-from_words bytes w h.ended (sym h.lines) };
   version = (version1_covers w h.reached.0 h.reached.1).1;
 }
+
+-- what the answers say of each text, and of what is bad
+abbrev pub IsAnswer : (WorkloadView → Type 0) → (ℕ → ℕ → Type 0) → Result WorkloadView Unread → Type 0
+IsAnswer text bad r = MatchResult r text (λ u. IfBad u (λ b. bad b.line b.why))
+
+pub answer-text : (text : WorkloadView → Type 0) (bad : ℕ → ℕ → Type 0) → ((v w : WorkloadView) → text v → text w → v ≡ w)
+    → ((w : WorkloadView) (k why : ℕ) → text w → bad k why → ⊥) → (r : Result WorkloadView Unread) → IsAnswer text bad r
+    → (w : WorkloadView) → text w → MatchResult r (λ v. v ≡ w) (λ u. u ≡ memory)
+answer-text text bad same not (Ok v) h w t = same v w h t
+answer-text text bad same not (Err (refused b)) h w t = absurd (not w b.line b.why t h)
+answer-text text bad same not (Err memory) h w t = refl
+
+pub answer-refused : (text : WorkloadView → Type 0) (bad : ℕ → ℕ → Type 0) → ((k j why cause : ℕ) → bad k why → bad j cause → (k ≡ j) × (why ≡ cause))
+    → ((w : WorkloadView) (k why : ℕ) → text w → bad k why → ⊥) → (r : Result WorkloadView Unread) → IsAnswer text bad r
+    → (k why : ℕ) → bad k why → MatchResult r (λ _. ⊥) (λ u. IfBad u (λ b. (b.line ≡ k) × (b.why ≡ why)))
+answer-refused text bad once not (Ok v) h k why b = not v k why h b
+answer-refused text bad once not (Err (refused c)) h k why b = once c.line k c.why why h b
+answer-refused text bad once not (Err memory) h k why b = record {}
+
+pub same_any : (bytes : List ℕ) (v w : WorkloadView) → IsText bytes v → IsText bytes w → v ≡ w
+same_any bytes v w a b = texts_differ bytes v w a b
+
+pub same_1 : (bytes : List ℕ) (v w : WorkloadView) → IsText1 bytes v → IsText1 bytes w → v ≡ w
+same_1 bytes v w a b = texts_differ bytes v w a.text b.text
+
+pub not_bad_any : (bytes : List ℕ) (w : WorkloadView) (k why : ℕ) → IsText bytes w → BadAt bytes k why → ⊥
+not_bad_any bytes w k why a bad = text-not_bad AnyVersion 3 bytes w k why a.workload a.workload a.text bad
+
+pub not_bad_1 : (bytes : List ℕ) (w : WorkloadView) (k why : ℕ) → IsText1 bytes w → BadAt1 bytes k why → ⊥
+not_bad_1 bytes w k why a bad = text-not_bad Version1 1 bytes w k why (a.text.workload, a.version) a.text.workload a.text.text bad
+
+pub once_any : (bytes : List ℕ) (k j why cause : ℕ) → BadAt bytes k why → BadAt bytes j cause → (k ≡ j) × (why ≡ cause)
+once_any bytes k j why cause a b = one-bad AnyVersion 3 (line_texts bytes) k j why cause a b
+
+pub once_1 : (bytes : List ℕ) (k j why cause : ℕ) → BadAt1 bytes k why → BadAt1 bytes j cause → (k ≡ j) × (why ≡ cause)
+once_1 bytes k j why cause a b = one-bad Version1 1 (line_texts bytes) k j why cause a b

@@ -18,7 +18,8 @@ use Rattle.sa_workload.specs.declared.stage.Stage.TheVariants.{Machine as Before
 use Rattle.sa_workload.specs.Bad.{words_of}
 use Rattle.sa_workload.specs.Position.{Position, AtVersion, Closed, IsReached, shown}
 use Rattle.sa_workload.specs.Reading.{IsBehind, IsStopped}
-use Rattle.sa_workload.specs.Refused.{IfBad, IsLineBad}
+use Rattle.sa_workload.specs.Answer.{IfBad}
+use Rattle.sa_workload.specs.Refused.{IsLineBad}
 use Rattle.sa_workload.specs.Stage.{GoesOn, position_of}
 use Rattle.sa_workload.proofs.Keeping.{shown-step}
 

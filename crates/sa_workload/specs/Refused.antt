@@ -201,11 +201,6 @@ IsLineBad versions p line why =
     ⊎ (IsPrinted line.bytes
     × (((line.ended ≡ false) × (why ≡ 9)) ⊎ ((line.ended ≡ true) × IsRefused versions p (pieces_of line.bytes) why)))
 
--- what holds of a refusal that is no want of memory
-abbrev pub IfBad : Unread → (Bad → Type 0) → Type 0
-IfBad (refused bad) P = P bad
-IfBad memory P = ⊤
-
 -- the refusal of the line of this number
 abbrev pub unread_at : ℕ → Refusal → Unread
 unread_at line (Because cause) = refused (record { line = line; why = cause_number cause })

@@ -8,7 +8,6 @@ pub mod laws;
 mod line_words;
 mod machine_lines;
 mod operations;
-mod positions;
 mod push;
 mod reader;
 mod space_lines;

@@ -1,12 +1,14 @@
 // The reader: one line after another.
-ghost use Rattle.std.specs.Prelude.{◌≡◌, ◌≤◌, ◌↔◌, true, IsTrue, MatchResult, slice_range};
+ghost use Rattle.std.specs.Prelude.{◌≡◌, ℕ, ◌≤◌, ◌↔◌, true, IsTrue, IfOk, IfErr, MatchResult, slice_range};
+ghost use Rattle.sa_instr.specs.Workload.{WorkloadView};
 ghost use Rattle.sa_text.specs.Line.{IsWithin, text_of_line};
 ghost use Rattle.sa_text.specs.LineText.{line_texts};
 ghost use Rattle.sa_text.specs.Pieces.{pieces_of};
+ghost use Rattle.sa_workload.specs.Answer.{IfBad};
 ghost use Rattle.sa_workload.specs.Bad.{IsPrinted, BadAt, BadAt1};
 ghost use Rattle.sa_workload.specs.Position.{Closed, IsReached};
 ghost use Rattle.sa_workload.specs.Reading.{IsBehind, IsStopped};
-ghost use Rattle.sa_workload.specs.Refused.{cause_number, IfBecause, IfBad, IsLineBad, IsRefused};
+ghost use Rattle.sa_workload.specs.Refused.{cause_number, IfBecause, IsLineBad, IsRefused};
 ghost use Rattle.sa_workload.specs.Text.{IsText, IsText1};
 ghost use Rattle.sa_workload.specs.Stage.{machine_position, position_of, GoesOn};
 
@@ -30,7 +32,13 @@ const VERSIONS: u16 = 3;
 /// `Bad` exactly where they are the text of none, with the first line that no text has in its place, and
 /// the first cause that applies to it.
 pub fn read(alloc: Global, bytes: &[u8]) -> Result<Workload, Unread>
-    ensures { MatchResult result (IsText bytes.now) (λ unread. IfBad unread (λ bad. BadAt bytes.now bad.line bad.why)) }
+    ensures ok { IfOk result (IsText bytes.now) }
+    ensures bad { IfErr result (λ unread. IfBad unread (λ bad. BadAt bytes.now bad.line bad.why)) }
+
+    // A text is read, and what is bad is refused, unless memory runs out.
+    ensures text { (w : WorkloadView) → IsText bytes.now w → MatchResult result (λ read. read ≡ w) (λ unread. unread ≡ Unread.OutOfMemory) }
+    ensures refused { (k why : ℕ) → BadAt bytes.now k why
+        → MatchResult result (λ _. ⊥) (λ unread. IfBad unread (λ bad. (bad.line ≡ k) × (bad.why ≡ why))) }
 {
     read_versions(alloc, VERSIONS, bytes)
 }
@@ -39,7 +47,13 @@ pub fn read(alloc: Global, bytes: &[u8]) -> Result<Workload, Unread>
 ///
 /// `Bad` exactly where they are none, likewise.
 pub fn read_one(alloc: Global, bytes: &[u8]) -> Result<Workload, Unread>
-    ensures { MatchResult result (IsText1 bytes.now) (λ unread. IfBad unread (λ bad. BadAt1 bytes.now bad.line bad.why)) }
+    ensures ok { IfOk result (IsText1 bytes.now) }
+    ensures bad { IfErr result (λ unread. IfBad unread (λ bad. BadAt1 bytes.now bad.line bad.why)) }
+
+    // A text is read, and what is bad is refused, unless memory runs out.
+    ensures text { (w : WorkloadView) → IsText1 bytes.now w → MatchResult result (λ read. read ≡ w) (λ unread. unread ≡ Unread.OutOfMemory) }
+    ensures refused { (k why : ℕ) → BadAt1 bytes.now k why
+        → MatchResult result (λ _. ⊥) (λ unread. IfBad unread (λ bad. (bad.line ≡ k) × (bad.why ≡ why))) }
 {
     read_versions(alloc, 1, bytes)
 }

@@ -1,16 +1,14 @@
-use Rattle.sa_text.specs.LineText.{line_texts}
-use Rattle.sa_workload.specs.Bad.{AnyVersion, Version1}
-use Rattle.sa_workload.proofs.OneBad.{text-not_bad, one-bad}
+use Rattle.sa_workload.proofs.Assembled.{not_bad_any, not_bad_1, once_any, once_1}
 use Rattle.sa_workload.proofs.laws.texts_are_bad_once.Goals as goal
 
 pub returns-clause-text : goal.returns-clause-text
-returns-clause-text c = λ bytes w k why is bad. text-not_bad AnyVersion 3 bytes w k why is.workload is.workload is.text bad
+returns-clause-text c = not_bad_any
 
 pub returns-clause-once : goal.returns-clause-once
-returns-clause-once c = λ bytes k j why cause v w. one-bad AnyVersion 3 (line_texts bytes) k j why cause v w
+returns-clause-once c = once_any
 
 pub returns-clause-text1 : goal.returns-clause-text1
-returns-clause-text1 c = λ bytes w k why is bad. text-not_bad Version1 1 bytes w k why (is.text.workload, is.version) is.text.workload is.text.text bad
+returns-clause-text1 c = not_bad_1
 
 pub returns-clause-once1 : goal.returns-clause-once1
-returns-clause-once1 c = λ bytes k j why cause v w. one-bad Version1 1 (line_texts bytes) k j why cause v w
+returns-clause-once1 c = once_1
