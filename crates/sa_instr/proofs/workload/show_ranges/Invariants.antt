@@ -1,0 +1,7 @@
+use Rattle.std.specs.List.{AllWithin}
+use Rattle.sa_instr.specs.Space.{IsSpace}
+use Rattle.sa_instr.proofs.workload.show_ranges.Given as goal
+
+-- so many spaces keep to their ranges
+abbrev pub invariant-loop-space : goal.invariant-loop-space
+invariant-loop-space l = AllWithin IsSpace l.spaces 0 l.space-index

@@ -1,0 +1,9 @@
+pub mod Instr
+pub mod Laws
+pub mod Local
+pub mod Program
+pub mod Regs
+pub mod Space
+pub mod SpaceFields
+pub mod Workload
+pub mod WorkloadFields

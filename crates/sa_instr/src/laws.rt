@@ -1,0 +1,21 @@
+// What holds of the local effect and of workloads, whichever they are: each contract is a law, and the
+// bodies do nothing.
+ghost use Rattle.sa_instr.specs.Laws.{PlacesStayInPrograms, RegistersStayWords, SubUndoesAdd, AddUndoesSub, EvictionsAreInOrder, EvictionsDiffer};
+
+/// A thread stays within its program, and its registers stay eight numbers of 64 bits.
+pub fn threads_stay_within()
+    ensures places { PlacesStayInPrograms }
+    ensures registers { RegistersStayWords }
+{}
+
+/// Adding and taking away undo each other, whatever wraps.
+pub fn sums_are_undone()
+    ensures sub { SubUndoesAdd }
+    ensures add { AddUndoesSub }
+{}
+
+/// Each eviction of a workload is before all that follow it, and none comes twice.
+pub fn evictions_are_in_order()
+    ensures before { EvictionsAreInOrder }
+    ensures differ { EvictionsDiffer }
+{}

@@ -1,0 +1,50 @@
+// A thread's registers.
+ghost use Rattle.std.specs.Prelude.{◌≡◌, replicate};
+ghost use Rattle.sa_instr.specs.Regs.{AreRegisters, reg_value, with_reg};
+
+use crate::instr::Reg;
+use std::marker::Model;
+
+/// The eight registers of a thread, in the order of their numbers.
+#[derive(Clone, Copy, Debug, PartialEq, Eq)]
+pub struct Regs {
+    values: [u64; 8],
+}
+
+impl Model for Regs {
+    ghost use Rattle.std.specs.Prelude.{ℕ, List};
+
+    ghost Value = { List ℕ };
+
+    ghost use Rattle.sa_instr.specs.Regs.{AreRegisters};
+
+    ghost view = { λ r. r.values };
+
+    ghost invariant = { λ r. AreRegisters r.values };
+
+    ghost inverse = { λ values. record { values = values } };
+}
+
+impl Regs {
+    /// Each register 0.
+    pub fn zero() -> Self
+        ensures { result ≡ replicate 8 0 }
+    {
+        Regs { values: [0; 8] }
+    }
+
+    /// What the register holds.
+    pub fn get(&self, reg: Reg) -> u64
+        ensures value { result ≡ reg_value self.now reg }
+        ensures registers { AreRegisters self.now }
+    {
+        self.values[reg.number() as usize]
+    }
+
+    /// Puts `value` into the register. The others stay.
+    pub fn set(&mut self, reg: Reg, value: u64)
+        ensures { self.new ≡ with_reg self.old reg value }
+    {
+        self.values[reg.number() as usize] = value;
+    }
+}
