@@ -1,9 +1,9 @@
 -- What one instruction must keep to.
-use Rattle.std.specs.Prelude.{ℕ, ◌<◌, ◌≤◌}
+use Rattle.std.specs.Prelude.{ℕ, ◌^◌, ◌<◌, ◌≤◌}
 use Rattle.sa_instr.specs.declared.instr.Reg.{Reg}
 use Rattle.sa_instr.specs.declared.instr.Reg.TheVariants.{R0, R1, R2, R3, R4, R5, R6, R7}
 use Rattle.sa_instr.specs.declared.instr.Instr.{Instr}
-use Rattle.sa_instr.specs.declared.instr.Instr.TheVariants.{Jnz, Load, Store, Fork, Lock, Unlock, Wait, Signal, Io, Touch}
+use Rattle.sa_instr.specs.declared.instr.Instr.TheVariants.{Set, Jnz, Load, Store, Fork, Lock, Unlock, Wait, Signal, Io, Touch}
 
 -- a register's number
 abbrev pub reg_number : Reg → ℕ
@@ -16,10 +16,11 @@ reg_number R5 = 5
 reg_number R6 = 6
 reg_number R7 = 7
 
--- an I/O takes 1 to 1,000,000 events, and the pages that threads touch are 2 to 15
+-- a number that is set has 64 bits, an I/O takes 1 to 1,000,000 events, and the pages that threads touch are 2 to 15
 abbrev pub IsInRange : Instr → Type 0
 IsInRange (Io length) = (1 ≤ length) × (length ≤ 1000000)
 IsInRange (Touch page) = (2 ≤ page) × (page ≤ 15)
+IsInRange (Set reg n) = n < 2 ^ 64
 IsInRange _ = Unit {0}
 
 -- a jump goes to a place below len

@@ -113,6 +113,11 @@ impl Instr {
         ensures { IsTrue result ↔ IsInRange self.now }
     {
         match self {
+            // Any number of 64 bits; the proof reads its range from the type.
+            Instr::Set(_, value) => {
+                let _value = *value;
+                true
+            }
             Instr::Io(length) => 1 <= *length && *length <= 1_000_000,
             Instr::Touch(page) => 2 <= *page && *page <= 15,
             _ => true,
