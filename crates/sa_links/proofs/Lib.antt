@@ -1,1 +1,4 @@
 pub mod Memory
+pub mod Counting
+pub mod Chains
+pub mod RingChanges

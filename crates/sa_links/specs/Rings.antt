@@ -1,5 +1,5 @@
 -- Disjoint lists of numbers, and rings of nodes that stand for them.
-use Rattle.std.specs.Prelude.{◌≡◌, ℕ, zero, suc, ◌+◌, ◌-◌, ◌<◌, ◌≤◌, List, [], ◌∷◌, ◌++◌, length, sum_by, count_by, filter, All, not, ◌==◌, nat_lt, slice_index, slice_index_or, slice_set, if◌then◌else◌}
+use Rattle.std.specs.Prelude.{◌≡◌, ℕ, zero, suc, ◌+◌, ◌-◌, ◌<◌, ◌≤◌, List, [], ◌∷◌, ◌++◌, length, sum_by, count_by, filter, not, ◌==◌, nat_lt, slice_index, slice_index_or, slice_set, if◌then◌else◌}
 
 -- disjoint lists of node numbers
 pub record Lists : Type 0 where
@@ -17,6 +17,21 @@ count_in x xs = count_by (λ y. y == x) xs
 
 abbrev pub count_in_all : ℕ → List (List ℕ) → ℕ
 count_in_all x ls = sum_by (count_in x) ls
+
+-- x stands in the list; and x stands in no list
+abbrev pub IsIn : ℕ → List ℕ → Type 0
+IsIn x xs = 1 ≤ count_in x xs
+
+abbrev pub IsFree : Lists → ℕ → Type 0
+IsFree c x = count_in_all x c.lists ≡ 0
+
+-- c with xs as its list l
+abbrev pub with_list : Lists → ℕ → List ℕ → Lists
+with_list c l xs = record { nodes = c.nodes; lists = slice_set c.lists l xs }
+
+-- the list with x taken out
+abbrev pub without : ℕ → List ℕ → List ℕ
+without x xs = filter (λ y. not (y == x)) xs
 
 -- where each node's links lead: the numbers of the nodes behind it and before it
 pub record Wires : Type 0 where
@@ -37,12 +52,16 @@ abbrev pub IsChain : Wires → ℕ → List ℕ → ℕ → Type 0
 IsChain w a [] z = IsEdge w a z
 IsChain w a (x ∷ xs) z = IsEdge w a x × IsChain w x xs z
 
--- each list is the ring of its head, and no number stands more than once
+-- the lists have the numbers of nodes alone, and none of them more than once
+pub record IsApart (c : Lists) : Type 0 where
+  pub below : (x : ℕ) → 1 ≤ count_in_all x c.lists → x < c.nodes
+  pub once : (x : ℕ) → count_in_all x c.lists ≤ 1
+
+-- the list l is the ring of its head, which stands behind the nodes as their l-th
 pub record IsRings (w : Wires) (c : Lists) : Type 0 where
   pub nexts : length w.next ≡ c.nodes + length c.lists
   pub prevs : length w.prev ≡ c.nodes + length c.lists
-  pub below : (l : ℕ) → All (λ x. x < c.nodes) (list_at c.lists l)
-  pub apart : (x : ℕ) → count_in_all x c.lists ≤ 1
+  pub apart : IsApart c
   pub rings : (l : ℕ) → l < length c.lists → IsChain w (c.nodes + l) (list_at c.lists l) (c.nodes + l)
 
 -- the numbers below n that the links lead to from a on, and at most `fuel` of them
@@ -54,3 +73,7 @@ followed next n (suc fuel) a = if nat_lt (slice_index next a) n then slice_index
 abbrev pub rings_from : List ℕ → ℕ → ℕ → ℕ → List (List ℕ)
 rings_from next n head zero = []
 rings_from next n head (suc count) = followed next n n head ∷ rings_from next n (head + 1) count
+
+-- the lists of `count` nodes whose links lead so
+abbrev pub lists_of : Wires → ℕ → Lists
+lists_of w count = record { nodes = count; lists = rings_from w.next count count (length w.next - count) }
