@@ -2,3 +2,4 @@ pub mod Memory
 pub mod Counting
 pub mod Chains
 pub mod RingChanges
+pub mod Joining

@@ -3,5 +3,6 @@
 #![tactic(auto)]
 
 mod block;
+mod node;
 
 
