@@ -6,7 +6,7 @@ use Rattle.std.proofs.lemmas.Bool.{cases_eq, lt-ltb, le-ltb}
 use Rattle.std.proofs.lemmas.List.{get_or-set_other, get_or-set_same, length-set, drop_more, drop_all}
 use Rattle.sa_links.specs.Rings.{Lists, list_at, count_in, count_in_all, IsIn, IsFree, with_list, Wires, joined, IsEdge, IsChain, IsApart, IsRings, followed, rings_from, lists_of}
 use Rattle.sa_links.proofs.Counting.{count_same, count_other, count-append, count-cons-ge, count_set, count_at, count_two, few_below, lacks_head, lacks_tail}
-use Rattle.sa_links.proofs.Chains.{last_of, first_of, last_stands, chain_split, chain_join, chain_begins, chain_ends, edge_made, chain_kept, chain_aimed, chain_with, chain_without, apart_parts, front_once}
+use Rattle.sa_links.proofs.Chains.{last_of, first_of, last_stands, chain_split, chain_join, chain_begins, chain_ends, edge_made, edge_kept, chain_kept, chain_aimed, chain_with, chain_without, apart_parts, front_once, first_differs}
 
 -- k stands in the ring of the list l
 abbrev pub Owned : Lists → ℕ → ℕ → Type 0
@@ -41,6 +41,14 @@ module _ (c : Lists) (apart : IsApart c) where
     | inr nk ↦ let o = count_other k (c.nodes + l) (list_at c.lists l) nk in let a = count_at k c.lists l in let lt = apart.below k (omega arith) in omega arith
   ]
 
+  -- a free node is none of a ring
+  pub free_differs : (l k x : ℕ) → x < c.nodes → IsFree c x → Owned c l k → x ≢ k
+  free_differs l k x hx free own e = elim (cases_eq (c.nodes + l) k) [
+    inl f ↦ absurd (omega arith)
+    | inr nk ↦ let o = count_other k (c.nodes + l) (list_at c.lists l) nk in let a = count_at k c.lists l in
+      let none : count_in_all k c.lists ≡ 0 = subst (λ z. count_in_all z c.lists ≡ 0) e free in absurd (omega arith)
+  ]
+
   pub free_lacked : (k l : ℕ) → IsFree c k → count_in k (list_at c.lists l) ≡ 0
   free_lacked k l free = let a = count_at k c.lists l in omega arith
 
@@ -65,8 +73,9 @@ rings_with : (w w' : Wires) (c : Lists) (l : ℕ) (v : List ℕ) → IsRings w c
     → (length w'.next ≡ length w.next) × (length w'.prev ≡ length w.prev)
     → IsApart (with_list c l v) → IsChain w' (c.nodes + l) v (c.nodes + l)
     → ((m : ℕ) → m ≢ l → m < length c.lists → IsChain w' (c.nodes + m) (list_at c.lists m) (c.nodes + m))
+    → ((x : ℕ) → x < c.nodes → IsFree (with_list c l v) x → IsEdge w' x x)
     → IsRings w' (with_list c l v)
-rings_with w w' c l v r h lens apart chain others =
+rings_with w w' c l v r h lens apart chain others lone =
     let size = length-set c.lists l v in let same = lens.0 in let same' = lens.1 in let n = r.nexts in let n' = r.prevs in
     record {
       nexts = omega arith;
@@ -77,6 +86,7 @@ rings_with w w' c l v r h lens apart chain others =
           (subst (λ xs. IsChain w' (c.nodes + l) xs (c.nodes + l)) (sym (get_or-set_same c.lists l v [] h)) chain)
         | inr ne ↦ subst (λ xs. IsChain w' (c.nodes + m) xs (c.nodes + m)) (sym (get_or-set_other c.lists l m v [] ne)) (others m ne (omega arith))
       ];
+      lone = lone;
     }
 
 pub apart_with : (c : Lists) (l x : ℕ) (xs ys : List ℕ) → IsApart c → l < length c.lists → list_at c.lists l ≡ xs ++ ys → x < c.nodes → IsFree c x → IsApart (with_list c l (xs ++ x ∷ ys))
@@ -123,34 +133,59 @@ ring_with w c l x xs ys r h e hx free =
     let other : l ≢ m = λ f. ne (sym f) in
     let fx : (c.nodes + m ≢ x) × (count_in x (list_at c.lists m) ≡ 0) = (λ f. absurd (omega arith), free_lacked c r.apart x m free) in
     ring_kept w₁ c x q m (ring_kept w c p x m (r.rings m hm) (foreign c r.apart l m p other h own-p) fx) fx (foreign c r.apart l m q other h own-q))
+    (λ y hy free-y.
+    let s = count_set y c.lists l (xs ++ x ∷ ys) h in let e' = ap (count_in y) e in let t = count-append y xs ys in let t' = count-append y xs (x ∷ ys) in let g = count-cons-ge y x ys in
+    let was-free : IsFree c y = omega arith in
+    let differs : y ≢ x = λ f. (let g' = count_same y x ys (sym f) in absurd (omega arith)) in
+    edge_kept w₁ x q y y (edge_kept w p x y y (r.lone y hy was-free) (free_differs c r.apart l p y hy was-free own-p) differs) differs (free_differs c r.apart l q y hy was-free own-q))
 
 pub ring_without : (w : Wires) (c : Lists) (l x : ℕ) (xs ys : List ℕ) → IsRings w c → l < length c.lists → list_at c.lists l ≡ xs ++ x ∷ ys
-    → IsRings (joined w (last_of (c.nodes + l) xs) (first_of ys (c.nodes + l))) (with_list c l (xs ++ ys))
+    → IsRings (joined (joined w (last_of (c.nodes + l) xs) (first_of ys (c.nodes + l))) x x) (with_list c l (xs ++ ys))
 ring_without w c l x xs ys r h e =
-    let a : ℕ = c.nodes + l in let p : ℕ = last_of a xs in let q : ℕ = first_of ys a in let w₁ : Wires = joined w p q in
+    let a : ℕ = c.nodes + l in let p : ℕ = last_of a xs in let q : ℕ = first_of ys a in let w₁ : Wires = joined w p q in let w₂ : Wires = joined w₁ x x in
     let own-p : Owned c l p = subst (λ zs. 1 ≤ count_in p (a ∷ zs)) (sym e) (last_stands_before a xs (x ∷ ys)) in
     let q-in : 1 ≤ count_in q (a ∷ (xs ++ x ∷ ys)) =
       (let f = first_stands a xs ys in let t = count-append q (a ∷ xs) ys in let t' = count-append q (a ∷ xs) (x ∷ ys) in let g = count-cons-ge q x ys in omega arith) in
     let own-q : Owned c l q = subst (λ zs. 1 ≤ count_in q (a ∷ zs)) (sym e) q-in in
+    let x-in : 1 ≤ count_in x (xs ++ x ∷ ys) = (let g = count_same x x ys refl in let t = count-append x xs (x ∷ ys) in omega arith) in
+    let x-in' : 1 ≤ count_in x (list_at c.lists l) = subst (λ zs. 1 ≤ count_in x zs) (sym e) x-in in
+    let own-x : Owned c l x = (let g = count-cons-ge x a (list_at c.lists l) in omega arith) in
+    let all-x = count_at x c.lists l in let low-x : x < c.nodes = r.apart.below x (omega arith) in
     let low-p = owned_below c r.apart l p h own-p in let low-q = owned_below c r.apart l q h own-q in
     let n = r.nexts in let n' = r.prevs in
-    let chain : IsChain w₁ a (xs ++ ys) a = chain_without w x a xs ys a (subst (λ zs. IsChain w a zs a) e (r.rings l h))
-      (λ k. subst (λ zs. count_in k (a ∷ zs) ≤ 1) e (ring_once c r.apart l k))
+    let once : (k : ℕ) → count_in k (a ∷ (xs ++ x ∷ ys)) ≤ 1 = λ k. subst (λ zs. count_in k (a ∷ zs) ≤ 1) e (ring_once c r.apart l k) in
+    let x-out : count_in x (xs ++ ys) ≡ 0 =
+      (let g = count_same x x ys refl in let t = count-append x (a ∷ xs) (x ∷ ys) in let t' = count-append x xs ys in let o = once x in let g' = count-cons-ge x a xs in omega arith) in
+    let a-x : a ≢ x = λ f. absurd (omega arith) in
+    let chain : IsChain w₁ a (xs ++ ys) a = chain_without w x a xs ys a (subst (λ zs. IsChain w a zs a) e (r.rings l h)) once
       (subst (λ zs. count_in a zs ≡ 0) e (head_lacked c r.apart a l (omega arith)))
       (omega arith) (omega arith) in
-    rings_with w w₁ c l (xs ++ ys) r h (lengths_kept w p q) (apart_without c l x xs ys r.apart h e) chain (λ m ne hm.
-    let other : l ≢ m = λ f. ne (sym f) in
-    ring_kept w c p q m (r.rings m hm) (foreign c r.apart l m p other h own-p) (foreign c r.apart l m q other h own-q))
+    let k₁ = lengths_kept w p q in let k₂ = lengths_kept w₁ x x in let k₁n = k₁.0 in let k₁p = k₁.1 in
+    rings_with w w₂ c l (xs ++ ys) r h (k₂.0 ∙ k₁.0, k₂.1 ∙ k₁.1) (apart_without c l x xs ys r.apart h e) (chain_kept w₁ x x a (xs ++ ys) a chain a-x x-out x-out a-x) (λ m ne hm.
+    let other : l ≢ m = λ f. ne (sym f) in let fx = foreign c r.apart l m x other h own-x in
+    ring_kept w₁ c x x m (ring_kept w c p q m (r.rings m hm) (foreign c r.apart l m p other h own-p) (foreign c r.apart l m q other h own-q)) fx fx)
+    (λ y hy free-y. elim (cases_eq y x) [
+      inl f ↦ subst (λ z. IsEdge w₂ z z) (sym f) (edge_made w₁ x x (omega arith) (omega arith))
+      | inr ne ↦
+        let s = count_set y c.lists l (xs ++ ys) h in let e' = ap (count_in y) e in let t = count-append y xs ys in let t' = count-append y xs (x ∷ ys) in
+        let g = count_other y x ys (λ f. ne (sym f)) in
+        let was-free : IsFree c y = omega arith in
+        edge_kept w₁ x x y y (edge_kept w p q y y (r.lone y hy was-free) (free_differs c r.apart l p y hy was-free own-p) (free_differs c r.apart l q y hy was-free own-q)) ne ne
+    ])
+
+pub count_moved : (c : Lists) (l m : ℕ) → l ≢ m → l < length c.lists → m < length c.lists
+    → (k : ℕ) → count_in_all k (set (set c.lists l (list_at c.lists l ++ list_at c.lists m)) m []) ≡ count_in_all k c.lists
+count_moved c l m ne hl hm k =
+    let v : List ℕ = list_at c.lists l ++ list_at c.lists m in
+    let other : m ≢ l = λ f. ne (sym f) in
+    let s = count_set k c.lists l v hl in let hm' : m < length (set c.lists l v) = subst (λ n. m < n) (sym (length-set c.lists l v)) hm in
+      let s' = count_set k (set c.lists l v) m [] hm' in let o = ap (count_in k) (get_or-set_other c.lists l m v [] other) in
+    let t = count-append k (list_at c.lists l) (list_at c.lists m) in omega arith
 
 pub apart_moved : (c : Lists) (l m : ℕ) → IsApart c → l ≢ m → l < length c.lists → m < length c.lists
     → IsApart (with_list (with_list c l (list_at c.lists l ++ list_at c.lists m)) m [])
 apart_moved c l m a ne hl hm =
-    let v : List ℕ = list_at c.lists l ++ list_at c.lists m in
-    let other : m ≢ l = λ f. ne (sym f) in
-    let same : (k : ℕ) → count_in_all k (set (set c.lists l v) m []) ≡ count_in_all k c.lists = λ k.
-      (let s = count_set k c.lists l v hl in let hm' : m < length (set c.lists l v) = subst (λ n. m < n) (sym (length-set c.lists l v)) hm in
-      let s' = count_set k (set c.lists l v) m [] hm' in let o = ap (count_in k) (get_or-set_other c.lists l m v [] other) in
-      let t = count-append k (list_at c.lists l) (list_at c.lists m) in omega arith) in
+    let same = count_moved c l m ne hl hm in
     record { below = λ k hk. a.below k (omega (arith, same k)); once = λ k. omega (arith, same k, a.once k) }
 
 -- the list m, which begins with f, goes behind the list l
@@ -209,6 +244,10 @@ rings_moved w c l m f ys r ne hl hm from-is =
             (foreign c A m k b m-k hm own-b) (foreign c A l k s l-k hl own-s)) (foreign c A m k t m-k hm own-t) (foreign c A m k t m-k hm own-t))
         ])
       ];
+      lone = λ x hx free.
+        let was-free : IsFree c x = (let g = count_moved c l m ne hl hm x in omega arith) in
+        let differs : (k j : ℕ) → Owned c k j → x ≢ j = λ k j own. free_differs c A k j x hx was-free own in
+        edge_kept w₂ t t x x (edge_kept w₁ b s x x (edge_kept w e f x x (r.lone x hx was-free) (differs l e own-e) (differs m f own-f)) (differs m b own-b) (differs l s own-s)) (differs m t own-t) (differs m t own-t);
     }
 
 -- the way from a on, as far as it leads to nodes
@@ -240,3 +279,14 @@ lists_are w c r =
     let e : rings_from w.next c.nodes c.nodes (length w.next - c.nodes) ≡ c.lists =
       ap (λ j. rings_from w.next c.nodes c.nodes j) k ∙ ap (λ a. rings_from w.next c.nodes a (length c.lists)) z ∙ rings_from_are w c r 0 (length c.lists) (omega arith) in
     λ i. record { nodes = c.nodes; lists = e i }
+
+-- what stands in a list is no ring of its own
+pub listed_leads_on : (w : Wires) (c : Lists) (l x : ℕ) (xs ys : List ℕ) → IsRings w c → l < length c.lists → list_at c.lists l ≡ xs ++ x ∷ ys → get_or w.next x 0 ≢ x
+listed_leads_on w c l x xs ys r h e f =
+    let a : ℕ = c.nodes + l in
+    let chain = chain_split w a xs (x ∷ ys) a (subst (λ zs. IsChain w a zs a) e (r.rings l h)) in
+    let once : count_in x (a ∷ (xs ++ x ∷ ys)) ≤ 1 = subst (λ zs. count_in x (a ∷ zs) ≤ 1) e (ring_once c r.apart l x) in
+    let g = count_same x x ys refl in let t = count-append x (a ∷ xs) (x ∷ ys) in
+    let x-out : count_in x ys ≡ 0 = omega arith in
+    let stands : count_in x (a ∷ xs) ≡ 0 = omega arith in
+    first_differs x ys a x-out (λ k. lacks_head x a xs stands (sym k)) (sym f ∙ chain_begins w x ys a chain.1)

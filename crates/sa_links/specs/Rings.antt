@@ -57,12 +57,14 @@ pub record IsApart (c : Lists) : Type 0 where
   pub below : (x : ℕ) → 1 ≤ count_in_all x c.lists → x < c.nodes
   pub once : (x : ℕ) → count_in_all x c.lists ≤ 1
 
--- the list l is the ring of its head, which stands behind the nodes as their l-th
+-- the list l is the ring of its head, which stands behind the nodes as their l-th, and a node that is in no
+-- list is a ring of its own
 pub record IsRings (w : Wires) (c : Lists) : Type 0 where
   pub nexts : length w.next ≡ c.nodes + length c.lists
   pub prevs : length w.prev ≡ c.nodes + length c.lists
   pub apart : IsApart c
   pub rings : (l : ℕ) → l < length c.lists → IsChain w (c.nodes + l) (list_at c.lists l) (c.nodes + l)
+  pub lone : (x : ℕ) → x < c.nodes → IsFree c x → IsEdge w x x
 
 -- the numbers below n that the links lead to from a on, and at most `fuel` of them
 abbrev pub followed : List ℕ → ℕ → ℕ → ℕ → List ℕ

@@ -58,14 +58,15 @@ pub(crate) fn insert(nodes: &mut Vec<Node>, front: Place<Node>, place: Place<Nod
     join(nodes, place, back);
 }
 
-// Takes the node at `place` out of its ring. Its own links stay.
+// Takes the node at `place` out of its ring, and closes it in itself.
 pub(crate) fn remove(nodes: &mut Vec<Node>, place: Place<Node>)
     requires place { IsNodePlace (vec_ptr nodes.old) (length nodes.old.items) place.ptr }
     requires linked { AreLinked (vec_ptr nodes.old) nodes.old.items }
     ensures wires { let old = wires_of (vec_ptr nodes.old) nodes.old.items in let x = node_index (vec_ptr nodes.old) place.ptr in
-        wires_of (vec_ptr nodes.new) nodes.new.items ≡ joined old (slice_index old.prev x) (slice_index old.next x) }
+        wires_of (vec_ptr nodes.new) nodes.new.items ≡ joined (joined old (slice_index old.prev x) (slice_index old.next x)) x x }
     ensures relinked { IsRelinked (vec_ptr nodes.old) nodes.old.items (vec_ptr nodes.new) nodes.new.items }
 {
     let node = *at(nodes, place);
     join(nodes, node.prev, node.next);
+    join(nodes, place, place);
 }
