@@ -6,7 +6,6 @@ use Rattle.std.proofs.lemmas.List.Sums.{sum_by-cons, sum_by-append, sum_by-set, 
 use Rattle.std.specs.List.{filter}
 use Rattle.sa_links.specs.Rings.{Lists, list_at, count_in, count_in_all, without}
 
-
 count-cons : (x y : ℕ) (ys : List ℕ) → count_in x (y ∷ ys) ≡ cond (eqb y x) 1 0 + count_in x ys
 count-cons x y ys = sum_by-cons (λ z. cond (eqb z x) 1 0) y ys
 
@@ -34,7 +33,7 @@ count_set x ls l xs h = sum_by-set (count_in x) ls l xs [] h
 
 pub count_at : (x : ℕ) (ls : List (List ℕ)) (l : ℕ) → count_in x (list_at ls l) ≤ count_in_all x ls
 count_at x ls l = elim (cases_lt l (length ls)) [
-  inl h ↦ get_or-le-sum_by (count_in x) ls l [] h
+  | inl h ↦ get_or-le-sum_by (count_in x) ls l [] h
   | inr h ↦ let e : count_in x (list_at ls l) ≡ 0 = ap (count_in x) (get_or_past ls l [] h) in omega arith
 ]
 
@@ -56,21 +55,21 @@ without_other x y ys ne = ap (λ b. cond (not b) (y ∷ without x ys) (without x
 pub count_without_same : (x : ℕ) (xs : List ℕ) → count_in x (without x xs) ≡ 0
 count_without_same x [] = refl
 count_without_same x (y ∷ ys) = elim (cases_eq y x) [
-  inl e ↦ let s = without_same x y ys e in ap (count_in x) s ∙ count_without_same x ys
+  | inl e ↦ let s = without_same x y ys e in ap (count_in x) s ∙ count_without_same x ys
   | inr ne ↦ let s = without_other x y ys ne in ap (count_in x) s ∙ count_other x y (without x ys) ne ∙ count_without_same x ys
 ]
 
 pub count_without_other : (k x : ℕ) (xs : List ℕ) → k ≢ x → count_in k (without x xs) ≡ count_in k xs
 count_without_other k x [] ne = refl
 count_without_other k x (y ∷ ys) ne = elim (cases_eq y x) [
-  inl e ↦ let s = without_same x y ys e in ap (count_in k) s ∙ count_without_other k x ys ne ∙ sym (count_other k y ys (λ f. ne (sym f ∙ e)))
+  | inl e ↦ let s = without_same x y ys e in ap (count_in k) s ∙ count_without_other k x ys ne ∙ sym (count_other k y ys (λ f. ne (sym f ∙ e)))
   | inr yx ↦ let s = without_other x y ys yx in ap (count_in k) s ∙ count-cons k y (without x ys) ∙ ap (λ c. cond (eqb y k) 1 0 + c) (count_without_other k x ys ne) ∙ sym (count-cons k y ys)
 ]
 
 pub length_without : (x : ℕ) (xs : List ℕ) → length xs ≡ length (without x xs) + count_in x xs
 length_without x [] = refl
 length_without x (y ∷ ys) = elim (cases_eq y x) [
-  inl e ↦ let s = ap length (without_same x y ys e) in let c = count_same x y ys e in let h = length_without x ys in omega arith
+  | inl e ↦ let s = ap length (without_same x y ys e) in let c = count_same x y ys e in let h = length_without x ys in omega arith
   | inr ne ↦ let s = ap length (without_other x y ys ne) in let c = count_other x y ys ne in let h = length_without x ys in omega arith
 ]
 
@@ -89,7 +88,7 @@ without_between x (y ∷ xs) ys once =
 pub stands_between : (x : ℕ) (xs : List ℕ) → 1 ≤ count_in x xs → (front : List ℕ) × (back : List ℕ) × (xs ≡ front ++ x ∷ back)
 stands_between x [] h = absurd (omega arith)
 stands_between x (y ∷ ys) h = elim (cases_eq y x) [
-  inl e ↦ ([], ys, ap (λ z. z ∷ ys) e)
+  | inl e ↦ ([], ys, ap (λ z. z ∷ ys) e)
   | inr ne ↦ let c = count_other x y ys ne in let r = stands_between x ys (omega arith) in (y ∷ r.0, r.1, ap (λ zs. y ∷ zs) r.2)
 ]
 
@@ -100,11 +99,11 @@ few_below zero (x ∷ xs) once below = let c = count_same x x xs refl in let lt 
 few_below (suc n) xs once below =
     let l = length_without n xs in let o = once n in
     let once' : (x : ℕ) → count_in x (without n xs) ≤ 1 = λ x. elim (cases_eq x n) [
-      inl e ↦ let c : count_in x (without n xs) ≡ 0 = subst (λ z. count_in z (without n xs) ≡ 0) (sym e) (count_without_same n xs) in omega arith
+      | inl e ↦ let c : count_in x (without n xs) ≡ 0 = subst (λ z. count_in z (without n xs) ≡ 0) (sym e) (count_without_same n xs) in omega arith
       | inr ne ↦ let c = count_without_other x n xs ne in let o' = once x in omega arith
     ] in
     let below' : (x : ℕ) → 1 ≤ count_in x (without n xs) → x < n = λ x h. elim (cases_eq x n) [
-      inl e ↦ let c : count_in x (without n xs) ≡ 0 = subst (λ z. count_in z (without n xs) ≡ 0) (sym e) (count_without_same n xs) in absurd (omega arith)
+      | inl e ↦ let c : count_in x (without n xs) ≡ 0 = subst (λ z. count_in z (without n xs) ≡ 0) (sym e) (count_without_same n xs) in absurd (omega arith)
       | inr ne ↦ let c = count_without_other x n xs ne in let b = below x (omega arith) in omega arith
     ] in
     let h = few_below n (without n xs) once' below' in omega arith

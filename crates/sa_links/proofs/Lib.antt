@@ -3,3 +3,4 @@ pub mod Counting
 pub mod Chains
 pub mod RingChanges
 pub mod Joining
+pub mod LinksSteps

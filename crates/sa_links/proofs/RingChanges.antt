@@ -15,38 +15,38 @@ Owned c l k = 1 ≤ count_in k ((c.nodes + l) ∷ list_at c.lists l)
 module _ (c : Lists) (apart : IsApart c) where
   pub head_lacked : (k l : ℕ) → c.nodes ≤ k → count_in k (list_at c.lists l) ≡ 0
   head_lacked k l h = elim (cases_eq (count_in k (list_at c.lists l)) 0) [
-    inl e ↦ e
+    | inl e ↦ e
     | inr ne ↦ let a = count_at k c.lists l in let lt = apart.below k (omega arith) in absurd (omega arith)
   ]
 
   pub ring_once : (l k : ℕ) → count_in k ((c.nodes + l) ∷ list_at c.lists l) ≤ 1
   ring_once l k = elim (cases_eq (c.nodes + l) k) [
-    inl e ↦ let s = count_same k (c.nodes + l) (list_at c.lists l) e in let n = head_lacked k l (omega arith) in omega arith
+    | inl e ↦ let s = count_same k (c.nodes + l) (list_at c.lists l) e in let n = head_lacked k l (omega arith) in omega arith
     | inr ne ↦ let o = count_other k (c.nodes + l) (list_at c.lists l) ne in let a = count_at k c.lists l in let once = apart.once k in omega arith
   ]
 
   -- a node of one ring is in no other
   pub foreign : (l m k : ℕ) → l ≢ m → l < length c.lists → Owned c l k → (c.nodes + m ≢ k) × (count_in k (list_at c.lists m) ≡ 0)
   foreign l m k ne h own = elim (cases_eq (c.nodes + l) k) [
-    inl e ↦ (λ e'. ne (omega arith), head_lacked k m (omega arith))
+    | inl e ↦ (λ e'. ne (omega arith), head_lacked k m (omega arith))
     | inr nk ↦
-      let o = count_other k (c.nodes + l) (list_at c.lists l) nk in let a = count_at k c.lists l in let lt = apart.below k (omega arith) in
-      let t = count_two k c.lists l m ne h in let once = apart.once k in
-      (λ e'. absurd (omega arith), omega arith)
+        let o = count_other k (c.nodes + l) (list_at c.lists l) nk in let a = count_at k c.lists l in let lt = apart.below k (omega arith) in
+        let t = count_two k c.lists l m ne h in let once = apart.once k in
+        (λ e'. absurd (omega arith), omega arith)
   ]
 
   pub owned_below : (l k : ℕ) → l < length c.lists → Owned c l k → k < c.nodes + length c.lists
   owned_below l k h own = elim (cases_eq (c.nodes + l) k) [
-    inl e ↦ omega arith
+    | inl e ↦ omega arith
     | inr nk ↦ let o = count_other k (c.nodes + l) (list_at c.lists l) nk in let a = count_at k c.lists l in let lt = apart.below k (omega arith) in omega arith
   ]
 
   -- a free node is none of a ring
   pub free_differs : (l k x : ℕ) → x < c.nodes → IsFree c x → Owned c l k → x ≢ k
   free_differs l k x hx free own e = elim (cases_eq (c.nodes + l) k) [
-    inl f ↦ absurd (omega arith)
+    | inl f ↦ absurd (omega arith)
     | inr nk ↦ let o = count_other k (c.nodes + l) (list_at c.lists l) nk in let a = count_at k c.lists l in
-      let none : count_in_all k c.lists ≡ 0 = subst (λ z. count_in_all z c.lists ≡ 0) e free in absurd (omega arith)
+        let none : count_in_all k c.lists ≡ 0 = subst (λ z. count_in_all z c.lists ≡ 0) e free in absurd (omega arith)
   ]
 
   pub free_lacked : (k l : ℕ) → IsFree c k → count_in k (list_at c.lists l) ≡ 0
@@ -82,8 +82,8 @@ rings_with w w' c l v r h lens apart chain others lone =
       prevs = omega arith;
       apart = apart;
       rings = λ m hm. elim (cases_eq m l) [
-        inl e ↦ subst (λ k. IsChain w' (c.nodes + k) (list_at (set c.lists l v) k) (c.nodes + k)) (sym e)
-          (subst (λ xs. IsChain w' (c.nodes + l) xs (c.nodes + l)) (sym (get_or-set_same c.lists l v [] h)) chain)
+        | inl e ↦ subst (λ k. IsChain w' (c.nodes + k) (list_at (set c.lists l v) k) (c.nodes + k)) (sym e)
+            (subst (λ xs. IsChain w' (c.nodes + l) xs (c.nodes + l)) (sym (get_or-set_same c.lists l v [] h)) chain)
         | inr ne ↦ subst (λ xs. IsChain w' (c.nodes + m) xs (c.nodes + m)) (sym (get_or-set_other c.lists l m v [] ne)) (others m ne (omega arith))
       ];
       lone = lone;
@@ -93,11 +93,11 @@ pub apart_with : (c : Lists) (l x : ℕ) (xs ys : List ℕ) → IsApart c → l 
 apart_with c l x xs ys a h e hx free =
     let v : List ℕ = xs ++ x ∷ ys in
     let total : (k : ℕ) → ((k ≡ x) × (count_in_all k (set c.lists l v) ≡ 1)) ⊎ ((k ≢ x) × (count_in_all k (set c.lists l v) ≡ count_in_all k c.lists)) = λ k.
-      (let s = count_set k c.lists l v h in let e' = ap (count_in k) e in let t = count-append k xs ys in let t' = count-append k xs (x ∷ ys) in
-      elim (cases_eq k x) [
-        inl kx ↦ let s' = count_same k x ys (sym kx) in let none : count_in_all k c.lists ≡ 0 = subst (λ z. count_in_all z c.lists ≡ 0) (sym kx) free in let at = count_at k c.lists l in inl (kx, omega arith)
-        | inr kn ↦ let o = count_other k x ys (λ f. kn (sym f)) in inr (kn, omega arith)
-      ]) in
+    (let s = count_set k c.lists l v h in let e' = ap (count_in k) e in let t = count-append k xs ys in let t' = count-append k xs (x ∷ ys) in
+    elim (cases_eq k x) [
+      | inl kx ↦ let s' = count_same k x ys (sym kx) in let none : count_in_all k c.lists ≡ 0 = subst (λ z. count_in_all z c.lists ≡ 0) (sym kx) free in let at = count_at k c.lists l in inl (kx, omega arith)
+      | inr kn ↦ let o = count_other k x ys (λ f. kn (sym f)) in inr (kn, omega arith)
+    ]) in
     record {
       below = λ k hk. elim (total k) [ inl t ↦ subst (λ z. z < c.nodes) (sym t.0) hx | inr t ↦ a.below k (omega (arith, t.1)) ];
       once = λ k. elim (total k) [ inl t ↦ omega (arith, t.1) | inr t ↦ omega (arith, t.1, a.once k) ];
@@ -107,7 +107,7 @@ pub apart_without : (c : Lists) (l x : ℕ) (xs ys : List ℕ) → IsApart c →
 apart_without c l x xs ys a h e =
     let v : List ℕ = xs ++ ys in
     let less : (k : ℕ) → count_in_all k (set c.lists l v) ≤ count_in_all k c.lists = λ k.
-      (let s = count_set k c.lists l v h in let e' = ap (count_in k) e in let t = count-append k xs ys in let t' = count-append k xs (x ∷ ys) in let g = count-cons-ge k x ys in omega arith) in
+    (let s = count_set k c.lists l v h in let e' = ap (count_in k) e in let t = count-append k xs ys in let t' = count-append k xs (x ∷ ys) in let g = count-cons-ge k x ys in omega arith) in
     record {
       below = λ k hk. a.below k (omega (arith, less k));
       once = λ k. omega (arith, less k, a.once k);
@@ -124,10 +124,10 @@ ring_with w c l x xs ys r h e hx free =
     let low-p = owned_below c r.apart l p h own-p in let low-q = owned_below c r.apart l q h own-q in
     let n = r.nexts in let n' = r.prevs in
     let chain : IsChain w₂ a (xs ++ x ∷ ys) a = chain_with w x a xs ys a (subst Ring e (r.rings l h))
-      (λ k. subst (λ zs. count_in k (a ∷ zs) ≤ 1) e (ring_once c r.apart l k))
-      (subst (λ zs. count_in a zs ≡ 0) e (head_lacked c r.apart a l (omega arith)))
-      (subst (λ zs. count_in x zs ≡ 0) e (free_lacked c r.apart x l free))
-      (λ f. absurd (omega arith)) (λ f. absurd (omega arith)) (omega arith) (omega arith) (omega arith) (omega arith) in
+    (λ k. subst (λ zs. count_in k (a ∷ zs) ≤ 1) e (ring_once c r.apart l k))
+    (subst (λ zs. count_in a zs ≡ 0) e (head_lacked c r.apart a l (omega arith)))
+    (subst (λ zs. count_in x zs ≡ 0) e (free_lacked c r.apart x l free))
+    (λ f. absurd (omega arith)) (λ f. absurd (omega arith)) (omega arith) (omega arith) (omega arith) (omega arith) in
     let k₁ = lengths_kept w p x in let k₂ = lengths_kept w₁ x q in
     rings_with w w₂ c l (xs ++ x ∷ ys) r h (k₂.0 ∙ k₁.0, k₂.1 ∙ k₁.1) (apart_with c l x xs ys r.apart h e hx free) chain (λ m ne hm.
     let other : l ≢ m = λ f. ne (sym f) in
@@ -145,7 +145,7 @@ ring_without w c l x xs ys r h e =
     let a : ℕ = c.nodes + l in let p : ℕ = last_of a xs in let q : ℕ = first_of ys a in let w₁ : Wires = joined w p q in let w₂ : Wires = joined w₁ x x in
     let own-p : Owned c l p = subst (λ zs. 1 ≤ count_in p (a ∷ zs)) (sym e) (last_stands_before a xs (x ∷ ys)) in
     let q-in : 1 ≤ count_in q (a ∷ (xs ++ x ∷ ys)) =
-      (let f = first_stands a xs ys in let t = count-append q (a ∷ xs) ys in let t' = count-append q (a ∷ xs) (x ∷ ys) in let g = count-cons-ge q x ys in omega arith) in
+    (let f = first_stands a xs ys in let t = count-append q (a ∷ xs) ys in let t' = count-append q (a ∷ xs) (x ∷ ys) in let g = count-cons-ge q x ys in omega arith) in
     let own-q : Owned c l q = subst (λ zs. 1 ≤ count_in q (a ∷ zs)) (sym e) q-in in
     let x-in : 1 ≤ count_in x (xs ++ x ∷ ys) = (let g = count_same x x ys refl in let t = count-append x xs (x ∷ ys) in omega arith) in
     let x-in' : 1 ≤ count_in x (list_at c.lists l) = subst (λ zs. 1 ≤ count_in x zs) (sym e) x-in in
@@ -155,22 +155,22 @@ ring_without w c l x xs ys r h e =
     let n = r.nexts in let n' = r.prevs in
     let once : (k : ℕ) → count_in k (a ∷ (xs ++ x ∷ ys)) ≤ 1 = λ k. subst (λ zs. count_in k (a ∷ zs) ≤ 1) e (ring_once c r.apart l k) in
     let x-out : count_in x (xs ++ ys) ≡ 0 =
-      (let g = count_same x x ys refl in let t = count-append x (a ∷ xs) (x ∷ ys) in let t' = count-append x xs ys in let o = once x in let g' = count-cons-ge x a xs in omega arith) in
+    (let g = count_same x x ys refl in let t = count-append x (a ∷ xs) (x ∷ ys) in let t' = count-append x xs ys in let o = once x in let g' = count-cons-ge x a xs in omega arith) in
     let a-x : a ≢ x = λ f. absurd (omega arith) in
     let chain : IsChain w₁ a (xs ++ ys) a = chain_without w x a xs ys a (subst (λ zs. IsChain w a zs a) e (r.rings l h)) once
-      (subst (λ zs. count_in a zs ≡ 0) e (head_lacked c r.apart a l (omega arith)))
-      (omega arith) (omega arith) in
+    (subst (λ zs. count_in a zs ≡ 0) e (head_lacked c r.apart a l (omega arith)))
+    (omega arith) (omega arith) in
     let k₁ = lengths_kept w p q in let k₂ = lengths_kept w₁ x x in let k₁n = k₁.0 in let k₁p = k₁.1 in
     rings_with w w₂ c l (xs ++ ys) r h (k₂.0 ∙ k₁.0, k₂.1 ∙ k₁.1) (apart_without c l x xs ys r.apart h e) (chain_kept w₁ x x a (xs ++ ys) a chain a-x x-out x-out a-x) (λ m ne hm.
     let other : l ≢ m = λ f. ne (sym f) in let fx = foreign c r.apart l m x other h own-x in
     ring_kept w₁ c x x m (ring_kept w c p q m (r.rings m hm) (foreign c r.apart l m p other h own-p) (foreign c r.apart l m q other h own-q)) fx fx)
     (λ y hy free-y. elim (cases_eq y x) [
-      inl f ↦ subst (λ z. IsEdge w₂ z z) (sym f) (edge_made w₁ x x (omega arith) (omega arith))
+      | inl f ↦ subst (λ z. IsEdge w₂ z z) (sym f) (edge_made w₁ x x (omega arith) (omega arith))
       | inr ne ↦
-        let s = count_set y c.lists l (xs ++ ys) h in let e' = ap (count_in y) e in let t = count-append y xs ys in let t' = count-append y xs (x ∷ ys) in
-        let g = count_other y x ys (λ f. ne (sym f)) in
-        let was-free : IsFree c y = omega arith in
-        edge_kept w₁ x x y y (edge_kept w p q y y (r.lone y hy was-free) (free_differs c r.apart l p y hy was-free own-p) (free_differs c r.apart l q y hy was-free own-q)) ne ne
+          let s = count_set y c.lists l (xs ++ ys) h in let e' = ap (count_in y) e in let t = count-append y xs ys in let t' = count-append y xs (x ∷ ys) in
+          let g = count_other y x ys (λ f. ne (sym f)) in
+          let was-free : IsFree c y = omega arith in
+          edge_kept w₁ x x y y (edge_kept w p q y y (r.lone y hy was-free) (free_differs c r.apart l p y hy was-free own-p) (free_differs c r.apart l q y hy was-free own-q)) ne ne
     ])
 
 pub count_moved : (c : Lists) (l m : ℕ) → l ≢ m → l < length c.lists → m < length c.lists
@@ -179,7 +179,7 @@ count_moved c l m ne hl hm k =
     let v : List ℕ = list_at c.lists l ++ list_at c.lists m in
     let other : m ≢ l = λ f. ne (sym f) in
     let s = count_set k c.lists l v hl in let hm' : m < length (set c.lists l v) = subst (λ n. m < n) (sym (length-set c.lists l v)) hm in
-      let s' = count_set k (set c.lists l v) m [] hm' in let o = ap (count_in k) (get_or-set_other c.lists l m v [] other) in
+    let s' = count_set k (set c.lists l v) m [] hm' in let o = ap (count_in k) (get_or-set_other c.lists l m v [] other) in
     let t = count-append k (list_at c.lists l) (list_at c.lists m) in omega arith
 
 pub apart_moved : (c : Lists) (l m : ℕ) → IsApart c → l ≢ m → l < length c.lists → m < length c.lists
@@ -191,7 +191,7 @@ apart_moved c l m a ne hl hm =
 -- the list m, which begins with f, goes behind the list l
 pub rings_moved : (w : Wires) (c : Lists) (l m f : ℕ) (ys : List ℕ) → IsRings w c → l ≢ m → l < length c.lists → m < length c.lists → list_at c.lists m ≡ f ∷ ys
     → IsRings (joined (joined (joined w (last_of (c.nodes + l) (list_at c.lists l)) f) (last_of f ys) (c.nodes + l)) (c.nodes + m) (c.nodes + m))
-      (with_list (with_list c l (list_at c.lists l ++ list_at c.lists m)) m [])
+    (with_list (with_list c l (list_at c.lists l ++ list_at c.lists m)) m [])
 rings_moved w c l m f ys r ne hl hm from-is =
     let s : ℕ = c.nodes + l in let t : ℕ = c.nodes + m in let xs : List ℕ = list_at c.lists l in let zs : List ℕ = list_at c.lists m in let v : List ℕ = xs ++ zs in
     let e : ℕ = last_of s xs in let b : ℕ = last_of f ys in
@@ -233,21 +233,21 @@ rings_moved w c l m f ys r ne hl hm from-is =
       prevs = omega arith;
       apart = apart_moved c l m A ne hl hm;
       rings = λ k hk. elim (cases_eq k m) [
-        inl km ↦ subst (λ j. IsChain w₃ (c.nodes + j) (list_at (set (set c.lists l v) m []) j) (c.nodes + j)) (sym km)
-          (subst (λ us. IsChain w₃ t us t) (sym (get_or-set_same (set c.lists l v) m [] [] hm')) none₃)
+        | inl km ↦ subst (λ j. IsChain w₃ (c.nodes + j) (list_at (set (set c.lists l v) m []) j) (c.nodes + j)) (sym km)
+            (subst (λ us. IsChain w₃ t us t) (sym (get_or-set_same (set c.lists l v) m [] [] hm')) none₃)
         | inr km ↦ subst (λ us. IsChain w₃ (c.nodes + k) us (c.nodes + k)) (sym (get_or-set_other (set c.lists l v) m k [] [] km)) (elim (cases_eq k l) [
-          inl kl ↦ subst (λ j. IsChain w₃ (c.nodes + j) (list_at (set c.lists l v) j) (c.nodes + j)) (sym kl)
-            (subst (λ us. IsChain w₃ s us s) (sym (get_or-set_same c.lists l v [] hl)) (subst (λ us. IsChain w₃ s (xs ++ us) s) (sym from-is) both₃))
+          | inl kl ↦ subst (λ j. IsChain w₃ (c.nodes + j) (list_at (set c.lists l v) j) (c.nodes + j)) (sym kl)
+              (subst (λ us. IsChain w₃ s us s) (sym (get_or-set_same c.lists l v [] hl)) (subst (λ us. IsChain w₃ s (xs ++ us) s) (sym from-is) both₃))
           | inr kl ↦ subst (λ us. IsChain w₃ (c.nodes + k) us (c.nodes + k)) (sym (get_or-set_other c.lists l k v [] kl))
-            (let l-k : l ≢ k = λ g. kl (sym g) in let m-k : m ≢ k = λ g. km (sym g) in
-            ring_kept w₂ c t t k (ring_kept w₁ c b s k (ring_kept w c e f k (r.rings k (omega arith)) (foreign c A l k e l-k hl own-e) (foreign c A m k f m-k hm own-f))
-            (foreign c A m k b m-k hm own-b) (foreign c A l k s l-k hl own-s)) (foreign c A m k t m-k hm own-t) (foreign c A m k t m-k hm own-t))
+              (let l-k : l ≢ k = λ g. kl (sym g) in let m-k : m ≢ k = λ g. km (sym g) in
+              ring_kept w₂ c t t k (ring_kept w₁ c b s k (ring_kept w c e f k (r.rings k (omega arith)) (foreign c A l k e l-k hl own-e) (foreign c A m k f m-k hm own-f))
+              (foreign c A m k b m-k hm own-b) (foreign c A l k s l-k hl own-s)) (foreign c A m k t m-k hm own-t) (foreign c A m k t m-k hm own-t))
         ])
       ];
       lone = λ x hx free.
-        let was-free : IsFree c x = (let g = count_moved c l m ne hl hm x in omega arith) in
-        let differs : (k j : ℕ) → Owned c k j → x ≢ j = λ k j own. free_differs c A k j x hx was-free own in
-        edge_kept w₂ t t x x (edge_kept w₁ b s x x (edge_kept w e f x x (r.lone x hx was-free) (differs l e own-e) (differs m f own-f)) (differs m b own-b) (differs l s own-s)) (differs m t own-t) (differs m t own-t);
+          let was-free : IsFree c x = (let g = count_moved c l m ne hl hm x in omega arith) in
+          let differs : (k j : ℕ) → Owned c k j → x ≢ j = λ k j own. free_differs c A k j x hx was-free own in
+          edge_kept w₂ t t x x (edge_kept w₁ b s x x (edge_kept w e f x x (r.lone x hx was-free) (differs l e own-e) (differs m f own-f)) (differs m b own-b) (differs l s own-s)) (differs m t own-t) (differs m t own-t);
     }
 
 -- the way from a on, as far as it leads to nodes
@@ -277,7 +277,7 @@ pub lists_are : (w : Wires) (c : Lists) → IsRings w c → lists_of w c.nodes �
 lists_are w c r =
     let n = r.nexts in let k : length w.next - c.nodes ≡ length c.lists = omega arith in let z : c.nodes ≡ c.nodes + 0 = omega arith in
     let e : rings_from w.next c.nodes c.nodes (length w.next - c.nodes) ≡ c.lists =
-      ap (λ j. rings_from w.next c.nodes c.nodes j) k ∙ ap (λ a. rings_from w.next c.nodes a (length c.lists)) z ∙ rings_from_are w c r 0 (length c.lists) (omega arith) in
+    ap (λ j. rings_from w.next c.nodes c.nodes j) k ∙ ap (λ a. rings_from w.next c.nodes a (length c.lists)) z ∙ rings_from_are w c r 0 (length c.lists) (omega arith) in
     λ i. record { nodes = c.nodes; lists = e i }
 
 -- what stands in a list is no ring of its own

@@ -1,8 +1,10 @@
-//! Disjoint lists of node numbers in one block, linked in place: every call takes constant time, and none
-//! but `Links::new` takes memory.
+//! Disjoint lists of node numbers in one block of nodes, linked in place by raw pointers: every call takes
+//! constant time, and none but `Links::new` takes memory.
 #![tactic(auto)]
 
 mod block;
+mod links;
 mod node;
+mod start;
 
-
+pub use links::Links;
