@@ -1,5 +1,5 @@
 -- Disjoint lists of numbers, and rings of nodes that stand for them.
-use Rattle.std.specs.Prelude.{◌≡◌, ℕ, zero, suc, ◌+◌, ◌-◌, ◌<◌, ◌≤◌, List, [], ◌∷◌, ◌++◌, length, sum_by, count_by, filter, not, ◌==◌, nat_lt, slice_index, slice_index_or, slice_set, if◌then◌else◌}
+use Rattle.std.specs.Prelude.{◌≡◌, ℕ, zero, suc, ◌+◌, ◌-◌, ◌<◌, ◌≤◌, List, [], ◌∷◌, ◌++◌, length, sum_by, count_by, filter, not, ◌==◌, nat_lt, Option, slice_get, slice_index, slice_index_or, slice_set, if◌then◌else◌}
 
 -- disjoint lists of node numbers
 pub record Lists : Type 0 where
@@ -18,12 +18,19 @@ count_in x xs = count_by (λ y. y == x) xs
 abbrev pub count_in_all : ℕ → List (List ℕ) → ℕ
 count_in_all x ls = sum_by (count_in x) ls
 
--- x stands in the list; and x stands in no list
+-- x stands in the list; in some list; in none
 abbrev pub IsIn : ℕ → List ℕ → Type 0
 IsIn x xs = 1 ≤ count_in x xs
 
+abbrev pub IsListed : Lists → ℕ → Type 0
+IsListed c x = 1 ≤ count_in_all x c.lists
+
 abbrev pub IsFree : Lists → ℕ → Type 0
 IsFree c x = count_in_all x c.lists ≡ 0
+
+-- next is the number behind x, wherever x stands, and none where x is the last
+abbrev pub IsNext : Lists → ℕ → Option ℕ → Type 0
+IsNext c x next = (l : ℕ) (front back : List ℕ) → list_at c.lists l ≡ front ++ x ∷ back → next ≡ slice_get back 0
 
 -- c with xs as its list l
 abbrev pub with_list : Lists → ℕ → List ℕ → Lists

@@ -8,3 +8,9 @@ mod node;
 mod start;
 
 pub use links::Links;
+
+#[cfg(test)]
+mod plain;
+
+#[cfg(test)]
+mod tests;

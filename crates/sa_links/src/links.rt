@@ -1,6 +1,6 @@
 // Disjoint lists of node numbers, as callers see them.
 ghost use Rattle.std.specs.Prelude.{◌≡◌, ◌≢◌, ◌-◌, ◌<◌, ◌≤◌, ◌↔◌, [], ◌∷◌, ◌++◌, length, take, drop, replicate, slice_get, IfOk, IfSome, IsTrue};
-ghost use Rattle.sa_links.specs.Rings.{IsApart, IsFree, IsIn, list_at, with_list, without};
+ghost use Rattle.sa_links.specs.Rings.{IsApart, IsFree, IsIn, IsListed, IsNext, list_at, with_list, without};
 
 use crate::block::at;
 use crate::node::{Node, insert, join, place_of, remove};
@@ -152,6 +152,15 @@ impl Links {
         ensures { IsTrue result ↔ (list_at self.now.lists list ≡ []) }
     {
         self.front(list).is_none()
+    }
+
+    /// The node behind one that stands in a list: `None` exactly where that is the last of its list.
+    pub fn after(&self, node: u32) -> Option<u32>
+        requires { IsListed self.now node }
+        ensures { IsNext self.now node result }
+    {
+        let place = place_of(&self.nodes, node as usize);
+        at(&self.nodes, at(&self.nodes, place).next).number
     }
 
     /// Whether a node stands in no list.
