@@ -4,3 +4,4 @@ pub mod Chains
 pub mod RingChanges
 pub mod Joining
 pub mod LinksSteps
+pub mod PlainSteps

@@ -75,7 +75,7 @@ impl Plain {
         requires { list < length self.old.lists }
         ensures { self.new ≡ with_list self.old list (without node (list_at self.old.lists list)) }
     {
-        self.lists[list as usize].retain(|number| *number != node);
+        take_out(&mut self.lists[list as usize], node);
     }
 
     pub(crate) fn append(&mut self, list: u32, from: u32) -> Result<(), AllocError>
@@ -103,4 +103,10 @@ impl Plain {
     {
         self.numbers(list).contains(&node)
     }
+}
+
+fn take_out(numbers: &mut Vec<u32>, node: u32)
+    ensures { numbers.new.items ≡ without node numbers.old.items }
+{
+    numbers.retain(|number| *number != node);
 }

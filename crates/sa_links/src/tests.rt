@@ -22,6 +22,16 @@ fn has_numbers(rt: &impl Abort, links: &Links, list: u32, want: &[u32])
     assert_eq!(rt; links.is_empty(list), want.is_empty(), "of list {list}");
 }
 
+// Both have the same four lists.
+fn are_alike(rt: &impl Abort, links: &Links, plain: &Plain)
+    requires same { links.now ≡ plain.now }
+    requires lists { length links.now.lists ≡ 4 }
+{
+    for list in 0..4 {
+        has_numbers(rt, links, list, plain.numbers(list));
+    }
+}
+
 // The next number of a fixed series, below a bound.
 fn next_below(state: &mut u64, bound: u32) -> u32
     requires { 0 < bound }
@@ -90,9 +100,7 @@ fn does_as_the_plain_program(rt: HostRuntime) -> Result<(), Fail> {
         let other = next_below(&mut state, 4);
         let node = next_below(&mut state, 12);
         step(&rt, &mut links, &mut plain, choice, list, other, node)?;
-        for list in 0..4 {
-            has_numbers(&rt, &links, list, plain.numbers(list));
-        }
+        are_alike(&rt, &links, &plain);
     }
     Ok(())
 }
