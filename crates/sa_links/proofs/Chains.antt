@@ -4,10 +4,10 @@
 --     chain_kept, rest_kept      a chain stays where it has neither node
 --     chain_aimed      the last node of a chain is joined to another one
 --     chain_with, chain_without      a node is put into a chain, and taken out of it
-use Rattle.std.proofs.Common.{◌≡◌, ◌≢◌, ℕ, zero, suc, ◌+◌, ◌≤◌, ◌<◌, List, [], ◌∷◌, ◌++◌, length, get_or, set, refl, sym, ap, ◌∙◌, subst, arith}
+use Rattle.std.proofs.Common.{◌≡◌, ◌≢◌, ℕ, suc, ◌≤◌, ◌<◌, List, [], ◌∷◌, ◌++◌, length, get_or, refl, sym, ap, ◌∙◌, subst, arith}
 use Rattle.std.proofs.lemmas.List.{get_or-set_other, get_or-set_same, length-set}
 use Rattle.sa_links.specs.Rings.{count_in, Wires, joined, IsEdge, IsChain}
-use Rattle.sa_links.proofs.Counting.{count_same, count_other, count-append, count-cons-ge, lacks_head, lacks_tail}
+use Rattle.sa_links.proofs.Counting.{count_same, count-append, count-cons-ge, lacks_head, lacks_tail}
 
 abbrev pub last_of : ℕ → List ℕ → ℕ
 last_of a [] = a

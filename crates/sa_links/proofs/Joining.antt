@@ -1,13 +1,11 @@
 -- What `join` leaves of the nodes: two of them are written, each with one new link.
-use Rattle.std.proofs.Common.{◌≡◌, ℕ, ◌+◌, ◌<◌, List, length, get_or, set, map, Option, refl, sym, ap, ◌∙◌, subst}
+use Rattle.std.proofs.Common.{◌≡◌, ℕ, ◌<◌, List, length, get_or, set, map, refl, sym, ap, ◌∙◌, subst}
 use Rattle.std.proofs.lemmas.List.{length-set, map-set, set-get_or, get_or-map}
 use Rattle.std.proofs.lemmas.List.Elements.{All-set}
-use Rattle.std.specs.Prelude.{None}
 use Rattle.std.specs.Ptr.{Ptr}
 use Rattle.sa_links.specs.declared.block.Place.{Place}
 use Rattle.sa_links.specs.declared.node.Node.{Node, Node', out-Node, roll-Node, rolls-Node', is-Node'}
-use Rattle.sa_links.specs.Place.{IsPlace}
-use Rattle.sa_links.specs.Rings.{Wires, joined}
+use Rattle.sa_links.specs.Rings.{joined}
 use Rattle.sa_links.specs.Wiring.{IsNodePlace, node_index, prev_of, next_of, number_of, IsLinked, AreLinked, wires_of, numbers_of, IsRelinked}
 
 pub out_prev : (n : Node) → (out-Node n).prev.ptr ≡ prev_of n

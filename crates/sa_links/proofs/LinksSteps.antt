@@ -3,14 +3,14 @@
 --     front_read, back_read, free_read      what the nodes say of a list's ends, and of a node in no list
 --     after_change      the nodes after a change of links
 --     pushed_front, pushed_back, removed, popped_front, popped_back, unlinked, moved      the rings after a call
-use Rattle.std.proofs.Common.{◌≡◌, ◌≢◌, ℕ, zero, suc, ◌+◌, ◌-◌, ◌≤◌, ◌<◌, ◌⊎◌, ◌↔◌, cond, Bool, true, false, not, eqb, List, [], ◌∷◌, ◌++◌, length, get_or, set, map, take, drop, replicate, ltb, Option, Some, None, slice_get, refl, sym, ap, ◌∙◌, subst, inl, inr, arith}
+use Rattle.std.proofs.Common.{◌≡◌, ◌≢◌, ℕ, zero, suc, ◌+◌, ◌-◌, ◌≤◌, ◌<◌, ◌↔◌, cond, Bool, true, false, eqb, List, [], ◌∷◌, ◌++◌, length, get_or, set, take, drop, replicate, Some, None, slice_get, refl, sym, ap, ◌∙◌, subst, inl, inr, arith}
 use Rattle.std.specs.Ptr.{Ptr}
 use Rattle.std.proofs.lemmas.Bool.{cases_eq, cases_lt, eq-eqb, eqb-true, false≢true, lt-ltb, le-ltb}
 use Rattle.std.proofs.lemmas.List.{get_or-map, length-map, set-get_or, append-nil, length-replicate, length-append, get_or_past}
 use Rattle.std.specs.Option.{option_eq, is_some}
 use Rattle.sa_links.specs.declared.node.Node.{Node, out-Node}
-use Rattle.sa_links.specs.Rings.{Lists, list_at, count_in, count_in_all, IsIn, IsFree, IsNext, with_list, without, Wires, joined, IsEdge, IsChain, IsApart, IsRings, lists_of}
-use Rattle.sa_links.specs.Wiring.{IsNodePlace, node_index, next_of, prev_of, number_of, wires_of, numbers_of, number_at, AreNumbered, AreLinked, IsRelinked, IsLinks}
+use Rattle.sa_links.specs.Rings.{Lists, list_at, count_in, count_in_all, IsIn, IsFree, IsNext, with_list, without, Wires, joined, IsEdge, IsChain, IsRings, lists_of}
+use Rattle.sa_links.specs.Wiring.{IsNodePlace, node_index, next_of, prev_of, number_of, wires_of, number_at, AreNumbered, AreLinked, IsRelinked, IsLinks}
 use Rattle.std.proofs.lemmas.List.Sums.{sum_by-cons}
 use Rattle.sa_links.proofs.Counting.{count_same, count-append, count-cons-ge, count_set, count_at, stands_between, without_between}
 use Rattle.sa_links.proofs.Chains.{last_of, first_of, chain_begins, chain_ends, chain_split, edge_made, edge_kept}
@@ -331,12 +331,12 @@ new_lists base base' nodes nodes' count lists size numbered linked R closed =
 -- what the links of a listed node say
 pub next_is : (w : Wires) (v : Lists) (x i : ℕ) → IsRings w v → i ≡ get_or w.next x 0 → IsNext v x (number_at v.nodes i)
 next_is w v x i r hi l xs ys e = elim (cases_lt l (length v.lists)) [
-  inl h ↦
-    let n : ℕ = v.nodes + l in
-    let parts = chain_split w n xs (x ∷ ys) n (subst (λ zs. IsChain w n zs n) e (r.rings l h)) in
-    let led : i ≡ first_of ys n = hi ∙ chain_begins w x ys n parts.1 in
-    let below : (k : ℕ) → 1 ≤ count_in k ys → k < v.nodes = λ k hk.
+  | inl h ↦
+      let n : ℕ = v.nodes + l in
+      let parts = chain_split w n xs (x ∷ ys) n (subst (λ zs. IsChain w n zs n) e (r.rings l h)) in
+      let led : i ≡ first_of ys n = hi ∙ chain_begins w x ys n parts.1 in
+      let below : (k : ℕ) → 1 ≤ count_in k ys → k < v.nodes = λ k hk.
       (let A = r.apart in let a = count_at k v.lists l in let f = ap (count_in k) e in let t = count-append k xs (x ∷ ys) in let g = count-cons-ge k x ys in A.below k (omega arith)) in
-    ap (number_at v.nodes) led ∙ front_of v.nodes ys n (omega arith) below
+      ap (number_at v.nodes) led ∙ front_of v.nodes ys n (omega arith) below
   | inr h ↦ let none : [] ≡ xs ++ x ∷ ys = sym (get_or_past v.lists l [] h) ∙ e in let f = ap length none in let g = length-append xs (x ∷ ys) in absurd (omega arith)
 ]

@@ -5,7 +5,7 @@
 --     some_of      a value of the block, where it has one
 --     quotient      how far a value lies from the block's begin, in values
 --     needs_three      three facts that are asked for
-use mathlib.Core.Path.{◌≡◌, refl, sym, ap, subst, ◌∙◌}
+use mathlib.Core.Path.{◌≡◌, refl, sym, subst, ◌∙◌}
 use Prim.Native.Nat.{ℕ, zero, suc, ◌+◌, ◌-◌, ◌*◌, ◌/◌, ◌≤◌, ◌<◌, ◌^◌}
 use native.Mathlib.Nat.{le_of_suc-le-suc, not-suc-le-zero}
 use native.Mathlib.Omega.{arith}

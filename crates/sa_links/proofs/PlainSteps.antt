@@ -1,7 +1,7 @@
 -- What a change of one vector of numbers leaves of a list of them.
-use Rattle.std.proofs.Common.{◌≡◌, ◌≢◌, ℕ, zero, suc, ◌+◌, ◌-◌, ◌<◌, ◌≤◌, ◌↔◌, cond, Bool, true, false, ◌||◌, eqb, List, [], ◌∷◌, ◌++◌, length, get_or, set, map, take, Vec, refl, sym, ap, ◌∙◌, subst, inl, inr, arith}
+use Rattle.std.proofs.Common.{◌≡◌, ℕ, zero, suc, ◌<◌, ◌≤◌, ◌↔◌, Bool, true, ◌||◌, eqb, List, [], ◌∷◌, length, get_or, set, map, Vec, refl, sym, ap, ◌∙◌, inl, inr, arith}
 use Rattle.std.proofs.lemmas.Bool.{cases_eq, eq-eqb, ne_eqb, false≢true}
-use Rattle.std.proofs.lemmas.List.{get_or-map, get_or-set_other, length-map, map-set}
+use Rattle.std.proofs.lemmas.List.{get_or-map, length-map, map-set}
 use Rattle.std.specs.List.{list_any}
 use Rattle.sa_links.specs.Rings.{Lists, list_at, count_in, IsIn, IsListed, with_list}
 use Rattle.sa_links.proofs.Counting.{count_at, count_same, count_other, count-cons-ge}
@@ -32,10 +32,10 @@ holds_is x xs r e = (λ t. (any_is x xs).0 (sym e ∙ t), λ h. e ∙ (any_is x 
     any_is : (x : ℕ) (xs : List ℕ) → (list_any (λ y. eqb y x) xs ≡ true) ↔ (1 ≤ count_in x xs)
     any_is x [] = (λ t. absurd (false≢true t), λ h. absurd (omega arith))
     any_is x (y ∷ ys) = elim (cases_eq y x) [
-      inl same ↦ let c = count_same x y ys same in (λ t. omega arith, λ h. ap (λ b. b || list_any (λ z. eqb z x) ys) (eq-eqb y x same))
+      | inl same ↦ let c = count_same x y ys same in (λ t. omega arith, λ h. ap (λ b. b || list_any (λ z. eqb z x) ys) (eq-eqb y x same))
       | inr other ↦
-        let c = count_other x y ys other in let r = any_is x ys in let e = ap (λ b. b || list_any (λ z. eqb z x) ys) (ne_eqb y x other) in
-        (λ t. (let h = r.0 (sym e ∙ t) in omega arith), λ h. e ∙ r.1 (omega arith))
+          let c = count_other x y ys other in let r = any_is x ys in let e = ap (λ b. b || list_any (λ z. eqb z x) ys) (ne_eqb y x other) in
+          (λ t. (let h = r.0 (sym e ∙ t) in omega arith), λ h. e ∙ r.1 (omega arith))
     ]
 
 -- an item of a list stands in it

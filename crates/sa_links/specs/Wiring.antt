@@ -1,5 +1,5 @@
 -- What the nodes of a block say: where their links lead, and their numbers.
-use Rattle.std.specs.Prelude.{◌≡◌, ℕ, ◌+◌, ◌≤◌, List, length, map, All, Option, Some, None, nat_lt, slice_index_or, if◌then◌else◌}
+use Rattle.std.specs.Prelude.{◌≡◌, ℕ, List, length, map, All, Option, Some, None, nat_lt, slice_index_or, if◌then◌else◌}
 use Rattle.std.specs.Ptr.{Ptr}
 use Rattle.sa_links.specs.Place.{IsPlace, index_of}
 use Rattle.sa_links.specs.Rings.{Wires, IsRings, lists_of}

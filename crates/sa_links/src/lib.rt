@@ -11,6 +11,5 @@ pub use links::Links;
 
 #[cfg(test)]
 mod plain;
-
 #[cfg(test)]
 mod tests;

@@ -18,7 +18,11 @@ fn has_numbers(rt: &impl Abort, links: &Links, list: u32, want: &[u32])
         found = links.after(*number);
     }
     assert_eq!(rt; found, None, "behind list {list}");
-    assert_eq!(rt; links.back(list), want.last().copied(), "at the back of list {list}");
+    assert_eq!(rt;
+        links.back(list),
+        want.last().copied(),
+        "at the back of list {list}"
+    );
     assert_eq!(rt; links.is_empty(list), want.is_empty(), "of list {list}");
 }
 

@@ -1,15 +1,14 @@
 -- `at` meets its contract: a walk of its MIR by hand.
 use mathlib.Core.Path.{◌≡◌, refl, sym, ap, subst, ◌∙◌}
-use Prim.Native.Nat.{ℕ, ◌+◌, ◌*◌, ◌≤◌, ◌<◌, ◌^◌}
-use native.Mathlib.Omega.{arith}
+use Prim.Native.Nat.{ℕ, ◌+◌, ◌*◌}
 use mathlib.Core.List.{List, [], ◌∷◌, ◌++◌}
 use lib.ListN.{length, get_or}
 use seplogic.Ra.Ura.{Ura}
 use base.Fraction.{full_share}
-use mir.Syntax.{Fn, named, w64}
+use mir.Syntax.{Fn, named}
 use mir.MapTy.{inst_fn}
-use mir.Val.{Val, vptr, vint}
-use base.Logic.{SProp, ent, sep}
+use mir.Val.{Val, vptr}
+use base.Logic.{SProp, ent}
 use base.Fml.{Lft, Share, ftrue, fhide, fat, flft}
 use prog.Wp.{Env, Calls, Loops, WpFn, Tables}
 use types.Logic.{Logic}
@@ -17,9 +16,9 @@ use contract.Monad.{fact}
 use contract.Running.{tables, tables_of}
 use sound.WpLaws.{WpFn-mono}
 use types.Kit.{Item, ⋆, ‵, raw, ◌⊛◌, at_ret, ◌$◌, ◌∵◌, !, qed, by, move, keep, drop, use1, split, join, rewrite, fsplit, fjoin, feq_i, feq_l, flt_l, suffices, frame, done}
-use types.Part.{whole, sub, agg}
-use types.Run.{stop, hop, fld, from, of_opd, addr, bin, size_lit, and_then, no_more, first, blocks, exec, returns, enter}
-use types.ByLocal.{alloc_all, pass_all, free_all, look_at, look_in_at, take_at, give_at, get, get_in, sets, sets_last, env}
+use types.Part.{whole, sub}
+use types.Run.{stop, hop, fld, from, of_opd, addr, first, blocks, exec, returns, enter}
+use types.ByLocal.{alloc_all, pass_all, free_all, look_at, look_in_at, take_at, give_at, get, sets, sets_last, env}
 use denote.Exit.{yes, no}
 use denote.RattleType.{RattleType, owns}
 use denote.Memory.{hidden_shr, shared_of}
@@ -27,7 +26,7 @@ use denote.Opens.{unhide, hide}
 use denote.Param.{layout}
 use denote.RawPtr.{Ptr, block_ptr, block_of, count_of, InBlock, at_block}
 use denote.Ref.{Bor, ShrRef}
-use denote.Builtin.{RefOf, usize}
+use denote.Builtin.{RefOf}
 use denote.Signature.{plain}
 use denote.Steps.{heard, nothing}
 use denote.Struct.Struct.{Struct}

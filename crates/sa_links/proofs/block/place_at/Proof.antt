@@ -1,9 +1,9 @@
 -- `place_at` meets its contract: a walk of its MIR by hand.
 use mathlib.Core.Path.{◌≡◌, refl, sym, ap, subst, ◌∙◌}
-use Prim.Native.Nat.{ℕ, ◌+◌, ◌*◌, ◌≤◌, ◌<◌, ◌^◌}
+use Prim.Native.Nat.{ℕ, ◌+◌, ◌*◌, ◌<◌, ◌^◌}
 use native.Mathlib.Omega.{arith}
 use mathlib.Core.List.{List, [], ◌∷◌, ◌++◌}
-use lib.ListN.{length, get_or}
+use lib.ListN.{length}
 use seplogic.Ra.Ura.{Ura}
 use base.Fraction.{full_share}
 use mir.Syntax.{Fn, named, w64}
@@ -16,14 +16,14 @@ use types.Logic.{Logic}
 use contract.Monad.{fact}
 use contract.Running.{tables, tables_of}
 use sound.WpLaws.{WpFn-mono}
-use types.Kit.{Item, ⋆, ‵, raw, ◌⊛◌, at_ret, ◌$◌, ◌∵◌, !, qed, by, move, keep, drop, use1, split, join, rewrite, fsplit, fjoin, feq_i, feq_l, flt_l, suffices, frame, done}
+use types.Kit.{Item, ⋆, ‵, raw, ◌⊛◌, at_ret, ◌$◌, ◌∵◌, !, qed, by, move, keep, drop, use1, split, join, rewrite, fsplit, fjoin, feq_l, flt_l, suffices, frame, done}
 use types.Part.{whole, sub, agg}
-use types.Run.{stop, hop, fld, from, of_opd, addr, bin, size_lit, and_then, no_more, first, blocks, exec, returns, enter}
-use types.ByLocal.{alloc_all, pass_all, free_all, look_at, look_in_at, take_at, give_at, get, get_in, sets, sets_last, env}
+use types.Run.{stop, fld, of_opd, bin, size_lit, and_then, no_more, first, blocks, exec, returns, enter}
+use types.ByLocal.{alloc_all, pass_all, free_all, look_at, take_at, give_at, get, get_in, sets, sets_last, env}
 use denote.Exit.{yes, no}
 use denote.RattleType.{RattleType, owns}
-use denote.Memory.{hidden_shr, shared_of}
-use denote.Opens.{unhide, hide}
+use denote.Memory.{hidden_shr}
+use denote.Opens.{unhide}
 use denote.Param.{layout}
 use denote.RawPtr.{Ptr, block_ptr, block_of, count_of, InBlock, at_block}
 use denote.Ref.{Bor, ShrRef}
@@ -38,13 +38,12 @@ use denote.Triple.Clauses.{Clauses, Ended, closing}
 use denote.Triple.Entry.{on_entry}
 use denote.Triple.Spec.{Meets, triple_of}
 use denote.Triple.Table.{entered, run_framed}
-use denote.Triple.Walked.{says, needs, Stays, stay_dropped, walk_of, ends_at, Goes-dropped, walk_Meets}
+use denote.Triple.Walked.{Stays, stay_dropped, walk_of, ends_at, Goes-dropped, walk_Meets}
 use Rattle.std.specs.Ptr.{ptr_add}
 use Rattle.std.specs.contracts.vec.Vec as vec-type
 use Rattle.std.proofs.RcSteps.{word, word-Good}
 use Rattle.std.proofs.VecSteps.El.{El, el_x, el_d, R, P, Vr, sz, args, owning}
 use Rattle.std.proofs.VecSteps.Shapes.{after}
-use Rattle.std.proofs.lemmas.List.{get_or_default}
 use Rattle.sa_links.specs.Place.{IsPlace, index_of}
 use Rattle.std.proofs.VecSteps.Facts.{last_fact, and_fact, Says-All}
 use Rattle.std.specs.Mem.{type_size}

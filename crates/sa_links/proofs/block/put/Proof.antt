@@ -1,9 +1,9 @@
 -- `put` meets its contract: a walk of its MIR by hand.
 use mathlib.Core.Path.{◌≡◌, refl, sym, ap, subst, ◌∙◌}
-use Prim.Native.Nat.{ℕ, ◌+◌, ◌*◌, ◌≤◌, ◌<◌, ◌^◌}
+use Prim.Native.Nat.{ℕ, ◌+◌, ◌*◌, ◌≤◌, ◌<◌}
 use native.Mathlib.Omega.{arith}
 use mathlib.Core.List.{List, [], ◌∷◌, ◌++◌}
-use lib.ListN.{length, get_or, set, length-set}
+use lib.ListN.{length, get_or, set}
 use seplogic.Ra.Ura.{Ura}
 use base.Fraction.{full_share}
 use mir.Syntax.{Fn, named}
@@ -40,7 +40,7 @@ use denote.Triple.Walked.{needs, Stays, stay_dropped, stay_ref, walk_of, ends_at
 use Rattle.std.specs.Ptr.{ptr_add}
 use Rattle.std.specs.Vec.{with_item}
 use Rattle.std.proofs.RcSteps.{word, word-Good}
-use Rattle.std.proofs.VecSteps.El.{El, el_x, elτ, el_own, el_d, el_heap, el_len, el_cap, el_items, el_ok, R, Vr, sz, Good, args}
+use Rattle.std.proofs.VecSteps.El.{El, el_x, elτ, el_own, el_d, el_len, el_cap, el_items, el_ok, R, Vr, sz, Good, args}
 use Rattle.std.proofs.VecSteps.Facts.{last_fact, and_fact, Says-All}
 use Rattle.std.proofs.VecSteps.Opens.{vec_opens, vec_closes}
 use Rattle.std.proofs.VecSteps.Rows.{el_out, el_in}

@@ -1,4 +1,4 @@
-use Rattle.std.proofs.Common.{arith, sym, ◌∙◌, length, ◌<◌}
+use Rattle.std.proofs.Common.{arith, length, ◌<◌}
 use Rattle.sa_links.proofs.Joining.{relinked_twice}
 use Rattle.sa_links.proofs.LinksSteps.{closed_more, wires_size}
 use Rattle.sa_links.specs.Wiring.{wires_of}

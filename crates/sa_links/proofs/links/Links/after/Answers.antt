@@ -1,4 +1,4 @@
-use Rattle.std.proofs.Common.{◌<◌, ◌∙◌, length, arith, ap, get_or, sym, subst}
+use Rattle.std.proofs.Common.{◌∙◌, arith, ap, get_or, sym, subst}
 use Rattle.std.specs.Vec.{vec_ptr}
 use Rattle.sa_links.specs.Rings.{IsNext}
 use Rattle.sa_links.specs.Wiring.{node_index, number_at, wires_of}

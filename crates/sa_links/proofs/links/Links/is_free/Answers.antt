@@ -1,4 +1,4 @@
-use Rattle.std.proofs.Common.{◌∙◌, ap, sym, subst, eqb, Some, get_or}
+use Rattle.std.proofs.Common.{◌∙◌, ap, eqb, Some, get_or}
 use Rattle.std.specs.Option.{option_eq}
 use Rattle.std.specs.Vec.{vec_ptr}
 use Rattle.sa_links.specs.Wiring.{node_index, number_at, wires_of}

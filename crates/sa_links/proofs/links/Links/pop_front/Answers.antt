@@ -1,4 +1,4 @@
-use Rattle.std.proofs.Common.{◌≡◌, ◌-◌, length, drop, slice_get, Some, refl, sym, ◌∙◌, subst}
+use Rattle.std.proofs.Common.{◌≡◌, drop, slice_get, Some, refl, sym, ◌∙◌, subst}
 use Rattle.std.specs.Vec.{vec_ptr}
 use Rattle.sa_links.specs.Rings.{IsFree, IsRings, list_at, with_list}
 use Rattle.sa_links.specs.Wiring.{wires_of}

@@ -1,4 +1,4 @@
-use Rattle.std.proofs.Common.{refl, sym, ◌<◌, length, arith, subst}
+use Rattle.std.proofs.Common.{refl, sym, arith, subst}
 use Rattle.std.specs.Vec.{vec_ptr}
 use Rattle.sa_links.specs.Rings.{IsFree, IsRings, list_at, with_list, without}
 use Rattle.sa_links.specs.Wiring.{wires_of}
