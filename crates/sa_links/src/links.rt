@@ -159,8 +159,8 @@ impl Links {
         requires { IsListed self.now node }
         ensures { IsNext self.now node result }
     {
-        let place = place_of(&self.nodes, node as usize);
-        at(&self.nodes, at(&self.nodes, place).next).number
+        let here = place_of(&self.nodes, node as usize);
+        at(&self.nodes, at(&self.nodes, here).next).number
     }
 
     /// Whether a node stands in no list.
