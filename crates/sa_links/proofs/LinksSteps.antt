@@ -84,7 +84,7 @@ pub prev_inside : (base : Ptr) (nodes : List Node) (i : ℕ) (n : Node) → AreL
 prev_inside base nodes i n linked h e = subst (λ p. IsNodePlace base (length nodes) p) (ap prev_of (sym e) ∙ sym (out_prev n)) (linked i n h).prev
 
 -- the nodes of a `Links` that is seen as v
-module _ (base : Ptr) (nodes : List Node) (count : ℕ) (v : Lists) (view : lists_of (wires_of base nodes) count ≡ v) (I : IsLinks base nodes count) where
+module _ {begin : Ptr} (base : Ptr) (nodes : List Node) (count : ℕ) (v : Lists) (view : lists_of (wires_of base nodes) count ≡ v) (I : IsLinks begin base nodes count) where
   abbrev w : Wires
   w = wires_of base nodes
 
@@ -131,8 +131,9 @@ module _ (base : Ptr) (nodes : List Node) (count : ℕ) (v : Lists) (view : list
     pub view_after : lists_of (wires_of base' nodes') count ≡ v'
     view_after = ap (lists_of (wires_of base' nodes')) (count_is ∙ sym same) ∙ lists_are (wires_of base' nodes') v' r
 
-    pub links_after : IsLinks base' nodes' count
+    pub links_after : IsLinks begin base' nodes' count
     links_after = record {
+      begins = I.begins ∙ sym R.block;
       linked = R.linked I.linked;
       numbered = λ k. ap (λ ns. get_or ns k None) R.numbers ∙ I.numbered k;
       rings = subst (λ c. IsRings (wires_of base' nodes') c) (sym view_after) r;
@@ -313,15 +314,16 @@ closed_rings w count lists n n' closed =
       lone = λ x hx free. closed x (omega arith);
     }
 
-pub new_lists : (base base' : Ptr) (nodes nodes' : List Node) (count lists : ℕ) → length nodes ≡ count + lists → AreNumbered count nodes → AreLinked base nodes
+pub new_lists : (begin base base' : Ptr) (nodes nodes' : List Node) (count lists : ℕ) → length nodes ≡ count + lists → AreNumbered count nodes → AreLinked base nodes → begin ≡ base
     → IsRelinked base nodes base' nodes' → ((k : ℕ) → k < length nodes → IsEdge (wires_of base' nodes') k k)
-    → (lists_of (wires_of base' nodes') count ≡ record { nodes = count; lists = replicate lists [] }) × IsLinks base' nodes' count
-new_lists base base' nodes nodes' count lists size numbered linked R closed =
+    → (lists_of (wires_of base' nodes') count ≡ record { nodes = count; lists = replicate lists [] }) × IsLinks begin base' nodes' count
+new_lists begin base base' nodes nodes' count lists size numbered linked begins R closed =
     let w' : Wires = wires_of base' nodes' in let lens = wires_size base' nodes' in let n = lens.0 in let p = lens.1 in let s = R.size in
     let r = closed_rings w' count lists (omega arith) (omega arith) (λ k h. closed k (omega arith)) in
     let view = lists_are w' (record { nodes = count; lists = replicate lists [] }) r in (
       view,
       record {
+        begins = begins ∙ sym R.block;
         linked = R.linked linked;
         numbered = λ k. ap (λ ns. get_or ns k None) R.numbers ∙ numbered k;
         rings = subst (λ c. IsRings w' c) (sym view) r;

@@ -54,7 +54,8 @@ pub record IsRelinked (base : Ptr) (old : List Node) (base' : Ptr) (new : List N
   pub linked : AreLinked base old → AreLinked base' new
 
 -- the nodes of a `Links`: the first `count` are nodes, the others the heads of its lists
-pub record IsLinks (base : Ptr) (nodes : List Node) (count : ℕ) : Type 0 where
+pub record IsLinks (begin base : Ptr) (nodes : List Node) (count : ℕ) : Type 0 where
+  pub begins : begin ≡ base
   pub linked : AreLinked base nodes
   pub numbered : AreNumbered count nodes
   pub rings : IsRings (wires_of base nodes) (lists_of (wires_of base nodes) count)

@@ -38,11 +38,12 @@ impl<T> fmt::Debug for Place<T> {
 }
 
 // The place where a block begins.
-pub(crate) fn begin_of<T, A: Allocator>(block: &Vec<T, A>) -> Place<T>
-    ensures { result.ptr ≡ vec_ptr block.now }
+pub(crate) fn begin_of<T, A: Allocator>(block: &mut Vec<T, A>) -> Place<T>
+    ensures place { result.ptr ≡ vec_ptr block.old }
+    ensures block { block.new ≡ block.old }
 {
     Place {
-        ptr: block.as_ptr().cast_mut(),
+        ptr: block.as_mut_ptr(),
     }
 }
 

@@ -2,7 +2,7 @@
 ghost use Rattle.std.specs.Prelude.{◌≡◌, ◌≢◌, ◌-◌, ◌<◌, ◌≤◌, ◌↔◌, [], ◌∷◌, ◌++◌, length, take, drop, replicate, slice_get, IfOk, IfSome, IsTrue};
 ghost use Rattle.sa_links.specs.Rings.{IsApart, IsFree, IsIn, IsListed, IsNext, list_at, with_list, without};
 
-use crate::block::at;
+use crate::block::{Place, at, begin_of};
 use crate::node::{Node, insert, join, place_of, remove};
 use crate::start::{close, numbered};
 use std::alloc::{AllocError, Global};
@@ -16,6 +16,7 @@ use std::marker::Model;
 pub struct Links {
     // the nodes, and behind them the heads of the lists
     nodes: Vec<Node>,
+    begin: Place<Node>,
     count: u32,
 }
 
@@ -29,7 +30,7 @@ impl Model for Links {
 
     ghost view = { λ l. lists_of (wires_of (vec_ptr l.nodes) l.nodes.items) l.count };
 
-    ghost invariant = { λ l. IsLinks (vec_ptr l.nodes) l.nodes.items l.count };
+    ghost invariant = { λ l. IsLinks l.begin.ptr (vec_ptr l.nodes) l.nodes.items l.count };
 }
 
 impl Links {
@@ -39,8 +40,13 @@ impl Links {
     {
         let count = nodes;
         let mut nodes = numbered(alloc, count, lists)?;
-        close(&mut nodes);
-        Ok(Links { nodes, count })
+        let begin = begin_of(&mut nodes);
+        close(&mut nodes, begin);
+        Ok(Links {
+            nodes,
+            begin,
+            count,
+        })
     }
 
     /// Puts a node that is in no list before the first of `list`.
@@ -50,8 +56,8 @@ impl Links {
         requires free { IsFree self.old node }
         ensures { self.new ≡ with_list self.old list (node ∷ list_at self.old.lists list) }
     {
-        let head = place_of(&self.nodes, self.count as usize + list as usize);
-        let place = place_of(&self.nodes, node as usize);
+        let head = place_of(&self.nodes, self.begin, self.count as usize + list as usize);
+        let place = place_of(&self.nodes, self.begin, node as usize);
         insert(&mut self.nodes, head, place);
     }
 
@@ -62,8 +68,8 @@ impl Links {
         requires free { IsFree self.old node }
         ensures { self.new ≡ with_list self.old list (list_at self.old.lists list ++ node ∷ []) }
     {
-        let head = place_of(&self.nodes, self.count as usize + list as usize);
-        let place = place_of(&self.nodes, node as usize);
+        let head = place_of(&self.nodes, self.begin, self.count as usize + list as usize);
+        let place = place_of(&self.nodes, self.begin, node as usize);
         let last = at(&self.nodes, head).prev;
         insert(&mut self.nodes, last, place);
     }
@@ -75,7 +81,7 @@ impl Links {
         ensures lists { self.new ≡ with_list self.old list (drop 1 (list_at self.old.lists list)) }
         ensures free { IfSome result (λ node. IsFree self.new node) }
     {
-        let head = place_of(&self.nodes, self.count as usize + list as usize);
+        let head = place_of(&self.nodes, self.begin, self.count as usize + list as usize);
         let first = at(&self.nodes, head).next;
         let number = at(&self.nodes, first).number?;
         remove(&mut self.nodes, first);
@@ -89,7 +95,7 @@ impl Links {
         ensures lists { let xs = list_at self.old.lists list in self.new ≡ with_list self.old list (take (length xs - 1) xs) }
         ensures free { IfSome result (λ node. IsFree self.new node) }
     {
-        let head = place_of(&self.nodes, self.count as usize + list as usize);
+        let head = place_of(&self.nodes, self.begin, self.count as usize + list as usize);
         let last = at(&self.nodes, head).prev;
         let number = at(&self.nodes, last).number?;
         remove(&mut self.nodes, last);
@@ -104,7 +110,7 @@ impl Links {
         ensures free { IsFree self.new node }
     {
         let _ = list;
-        let place = place_of(&self.nodes, node as usize);
+        let place = place_of(&self.nodes, self.begin, node as usize);
         remove(&mut self.nodes, place);
     }
 
@@ -115,8 +121,8 @@ impl Links {
         requires differ { list ≢ from }
         ensures { self.new ≡ with_list (with_list self.old list (list_at self.old.lists list ++ list_at self.old.lists from)) from [] }
     {
-        let head = place_of(&self.nodes, self.count as usize + list as usize);
-        let emptied = place_of(&self.nodes, self.count as usize + from as usize);
+        let head = place_of(&self.nodes, self.begin, self.count as usize + list as usize);
+        let emptied = place_of(&self.nodes, self.begin, self.count as usize + from as usize);
         let first = at(&self.nodes, emptied).next;
         if at(&self.nodes, first).number.is_none() {
             return;
@@ -133,7 +139,7 @@ impl Links {
         requires { list < length self.now.lists }
         ensures { result ≡ slice_get (list_at self.now.lists list) 0 }
     {
-        let head = place_of(&self.nodes, self.count as usize + list as usize);
+        let head = place_of(&self.nodes, self.begin, self.count as usize + list as usize);
         at(&self.nodes, at(&self.nodes, head).next).number
     }
 
@@ -142,7 +148,7 @@ impl Links {
         requires { list < length self.now.lists }
         ensures { let xs = list_at self.now.lists list in result ≡ slice_get xs (length xs - 1) }
     {
-        let head = place_of(&self.nodes, self.count as usize + list as usize);
+        let head = place_of(&self.nodes, self.begin, self.count as usize + list as usize);
         at(&self.nodes, at(&self.nodes, head).prev).number
     }
 
@@ -159,7 +165,7 @@ impl Links {
         requires { IsListed self.now node }
         ensures { IsNext self.now node result }
     {
-        let here = place_of(&self.nodes, node as usize);
+        let here = place_of(&self.nodes, self.begin, node as usize);
         at(&self.nodes, at(&self.nodes, here).next).number
     }
 
@@ -168,7 +174,7 @@ impl Links {
         requires { node < self.now.nodes }
         ensures { IsTrue result ↔ IsFree self.now node }
     {
-        let place = place_of(&self.nodes, node as usize);
+        let place = place_of(&self.nodes, self.begin, node as usize);
         at(&self.nodes, at(&self.nodes, place).next).number == Some(node)
     }
 

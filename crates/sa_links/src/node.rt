@@ -4,7 +4,7 @@ ghost use Rattle.std.specs.Vec.{vec_ptr};
 ghost use Rattle.sa_links.specs.Rings.{joined};
 ghost use Rattle.sa_links.specs.Wiring.{AreLinked, IsNodePlace, IsRelinked, node_index, wires_of};
 
-use crate::block::{Place, at, begin_of, place_at, put};
+use crate::block::{Place, at, place_at, put};
 
 // A node stands in a ring of nodes. A ring of one node is closed in itself.
 #[derive(Clone, Copy, Debug)]
@@ -15,13 +15,14 @@ pub(crate) struct Node {
     pub(crate) number: Option<u32>,
 }
 
-// The place of the node at `index`.
-pub(crate) fn place_of(nodes: &Vec<Node>, index: usize) -> Place<Node>
-    requires { index < length nodes.now.items }
+// The place of the node at `index`, from where the nodes begin.
+pub(crate) fn place_of(nodes: &Vec<Node>, begin: Place<Node>, index: usize) -> Place<Node>
+    requires begin { begin.ptr ≡ vec_ptr nodes.now }
+    requires inside { index < length nodes.now.items }
     ensures place { IsNodePlace (vec_ptr nodes.now) (length nodes.now.items) result.ptr }
     ensures index { node_index (vec_ptr nodes.now) result.ptr ≡ index }
 {
-    place_at(nodes, begin_of(nodes), index)
+    place_at(nodes, begin, index)
 }
 
 // Lets the node at `back` follow the one at `front`.

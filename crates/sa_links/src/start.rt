@@ -4,7 +4,7 @@ ghost use Rattle.std.specs.Vec.{vec_ptr};
 ghost use Rattle.sa_links.specs.Rings.{IsEdge};
 ghost use Rattle.sa_links.specs.Wiring.{AreLinked, AreNumbered, IsRelinked, number_at, wires_of};
 
-use crate::block::begin_of;
+use crate::block::{Place, begin_of};
 use crate::node::{Node, join, place_of};
 use std::alloc::{AllocError, Global};
 
@@ -27,7 +27,7 @@ pub(crate) fn numbered(alloc: Global, count: u32, lists: u32) -> Result<Vec<Node
 {
     let size = count as usize + lists as usize;
     let mut nodes = Vec::with_capacity(alloc, size)?;
-    let begin = begin_of(&nodes);
+    let begin = begin_of(&mut nodes);
     for index in 0..size {
         nodes.push_reserved(Node {
             prev: begin,
@@ -39,13 +39,14 @@ pub(crate) fn numbered(alloc: Global, count: u32, lists: u32) -> Result<Vec<Node
 }
 
 // Closes each node in itself.
-pub(crate) fn close(nodes: &mut Vec<Node>)
-    requires { AreLinked (vec_ptr nodes.old) nodes.old.items }
+pub(crate) fn close(nodes: &mut Vec<Node>, begin: Place<Node>)
+    requires begin { begin.ptr ≡ vec_ptr nodes.old }
+    requires linked { AreLinked (vec_ptr nodes.old) nodes.old.items }
     ensures relinked { IsRelinked (vec_ptr nodes.old) nodes.old.items (vec_ptr nodes.new) nodes.new.items }
     ensures closed { (k : ℕ) → k < length nodes.old.items → IsEdge (wires_of (vec_ptr nodes.new) nodes.new.items) k k }
 {
     for index in 0..nodes.len() {
-        let place = place_of(nodes, index);
+        let place = place_of(nodes, begin, index);
         join(nodes, place, place);
     }
 }

@@ -6,8 +6,8 @@ use Rattle.sa_links.specs.declared.node.Node.{out-Node}
 use Rattle.sa_links.proofs.LinksSteps.{count_is, next_inside, next_is, next_read, number_read, rings_are, size_is}
 use Rattle.sa_links.proofs.links.Links.after.Goals as goal
 
-pub place_of-here-requires : goal.place_of-here-requires
-place_of-here-requires c =
+pub place_of-here-requires-clause-inside : goal.place_of-here-requires-clause-inside
+place_of-here-requires-clause-inside c =
     let base = vec_ptr c.self.inside.nodes in let nodes = c.self.inside.nodes.items in let count = c.self.inside.count in let v = c.args.self.now in
     let r = rings_are base nodes count v c.self.view_is c.self.invariant in let A = r.apart in let below = A.below c.args.node c.requires in
     let size = size_is base nodes count v c.self.view_is c.self.invariant in
