@@ -6,7 +6,8 @@
 --     chain_with, chain_without      a node is put into a chain, and taken out of it
 use Rattle.std.proofs.Common.{◌≡◌, ◌≢◌, ℕ, suc, ◌≤◌, ◌<◌, List, [], ◌∷◌, ◌++◌, length, get_or, refl, sym, ap, ◌∙◌, subst, arith}
 use Rattle.std.proofs.lemmas.List.{get_or-set_other, get_or-set_same, length-set}
-use Rattle.sa_links.specs.Rings.{count_in, Wires, joined, IsEdge, IsChain}
+use Rattle.sa_links.specs.Lists.{count_in}
+use Rattle.sa_links.specs.Rings.{Wires, joined, IsEdge, IsChain}
 use Rattle.sa_links.proofs.Counting.{count_same, count-append, count-cons-ge, lacks_head, lacks_tail}
 
 abbrev pub last_of : ℕ → List ℕ → ℕ

@@ -3,7 +3,7 @@ use Rattle.std.proofs.Common.{◌≡◌, ◌≢◌, ℕ, zero, suc, ◌+◌, ◌
 use Rattle.std.proofs.lemmas.Bool.{eq-eqb, ne_eqb, cases_eq, cases_lt}
 use Rattle.std.proofs.lemmas.List.{get_or-set_other, get_or_past}
 use Rattle.std.proofs.lemmas.List.Sums.{sum_by-cons, sum_by-append, sum_by-set, get_or-le-sum_by}
-use Rattle.sa_links.specs.Rings.{list_at, count_in, count_in_all, without}
+use Rattle.sa_links.specs.Lists.{list_at, count_in, count_in_all, without}
 
 count-cons : (x y : ℕ) (ys : List ℕ) → count_in x (y ∷ ys) ≡ cond (eqb y x) 1 0 + count_in x ys
 count-cons x y ys = sum_by-cons (λ z. cond (eqb z x) 1 0) y ys

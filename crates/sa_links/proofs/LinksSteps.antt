@@ -9,7 +9,8 @@ use Rattle.std.proofs.lemmas.Bool.{cases_eq, cases_lt, eq-eqb, eqb-true, falseâ‰
 use Rattle.std.proofs.lemmas.List.{get_or-map, length-map, set-get_or, append-nil, length-replicate, length-append, get_or_past}
 use Rattle.std.specs.Option.{option_eq, is_some}
 use Rattle.sa_links.specs.declared.node.Node.{Node, out-Node}
-use Rattle.sa_links.specs.Rings.{Lists, list_at, count_in, count_in_all, IsIn, IsFree, IsNext, with_list, without, Wires, joined, IsEdge, IsChain, IsRings, lists_of}
+use Rattle.sa_links.specs.Lists.{Lists, list_at, count_in, count_in_all, IsIn, IsFree, IsNext, with_list, without}
+use Rattle.sa_links.specs.Rings.{Wires, joined, IsEdge, IsChain, IsRings, lists_of}
 use Rattle.sa_links.specs.Wiring.{IsNodePlace, node_index, next_of, prev_of, number_of, wires_of, number_at, AreNumbered, AreLinked, IsRelinked, IsLinks}
 use Rattle.std.proofs.lemmas.List.Sums.{sum_by-cons}
 use Rattle.sa_links.proofs.Counting.{count_same, count-append, count-cons-ge, count_set, count_at, stands_between, without_between}

@@ -3,7 +3,7 @@ use Rattle.std.proofs.Common.{◌≡◌, ℕ, zero, suc, ◌<◌, ◌≤◌, ◌
 use Rattle.std.proofs.lemmas.Bool.{cases_eq, eq-eqb, ne_eqb, false≢true}
 use Rattle.std.proofs.lemmas.List.{get_or-map, length-map, map-set}
 use Rattle.std.specs.List.{list_any}
-use Rattle.sa_links.specs.Rings.{Lists, list_at, count_in, IsIn, IsListed, with_list}
+use Rattle.sa_links.specs.Lists.{Lists, list_at, count_in, IsIn, IsListed, with_list}
 use Rattle.sa_links.proofs.Counting.{count_at, count_same, count_other, count-cons-ge}
 
 module _ {Z : Type 0} where

@@ -4,7 +4,8 @@
 use Rattle.std.proofs.Common.{◌≡◌, ◌≢◌, ℕ, zero, suc, ◌+◌, ◌-◌, ◌≤◌, ◌<◌, ◌⊎◌, cond, List, [], ◌∷◌, ◌++◌, length, get_or, set, drop, ltb, refl, sym, ap, ◌∙◌, subst, inl, inr, arith}
 use Rattle.std.proofs.lemmas.Bool.{cases_eq, lt-ltb, le-ltb}
 use Rattle.std.proofs.lemmas.List.{get_or-set_other, get_or-set_same, length-set, drop_more, drop_all}
-use Rattle.sa_links.specs.Rings.{Lists, list_at, count_in, count_in_all, IsFree, with_list, Wires, joined, IsEdge, IsChain, IsApart, IsRings, followed, rings_from, lists_of}
+use Rattle.sa_links.specs.Lists.{Lists, list_at, count_in, count_in_all, IsFree, with_list, IsApart}
+use Rattle.sa_links.specs.Rings.{Wires, joined, IsEdge, IsChain, IsRings, followed, rings_from, lists_of}
 use Rattle.sa_links.proofs.Counting.{count_same, count_other, count-append, count-cons-ge, count_set, count_at, count_two, few_below, lacks_head, lacks_tail}
 use Rattle.sa_links.proofs.Chains.{last_of, first_of, last_stands, chain_split, chain_join, chain_begins, edge_made, edge_kept, chain_kept, chain_aimed, chain_with, chain_without, first_differs}
 

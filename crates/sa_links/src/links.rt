@@ -1,6 +1,6 @@
 // Disjoint lists of node numbers, as callers see them.
 ghost use Rattle.std.specs.Prelude.{◌≡◌, ◌≢◌, ◌-◌, ◌<◌, ◌≤◌, ◌↔◌, [], ◌∷◌, ◌++◌, length, take, drop, replicate, slice_get, IfOk, IfSome, IsTrue};
-ghost use Rattle.sa_links.specs.Rings.{IsApart, IsFree, IsIn, IsListed, IsNext, list_at, with_list, without};
+ghost use Rattle.sa_links.specs.Lists.{IsApart, IsFree, IsIn, IsListed, IsNext, list_at, with_list, without};
 
 use crate::block::{Place, at, begin_of};
 use crate::node::{Node, insert, join, place_of, remove};
@@ -22,7 +22,8 @@ pub struct Links {
 
 impl Model for Links {
     ghost use Rattle.std.specs.Vec.{vec_ptr};
-    ghost use Rattle.sa_links.specs.Rings.{Lists, lists_of};
+    ghost use Rattle.sa_links.specs.Lists.{Lists};
+    ghost use Rattle.sa_links.specs.Rings.{lists_of};
 
     ghost Value = { Lists };
 

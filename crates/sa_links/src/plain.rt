@@ -1,6 +1,6 @@
 // The same lists as numbers in vectors, under the same contracts: what the tests compare `Links` with.
 ghost use Rattle.std.specs.Prelude.{◌≡◌, ◌≢◌, ◌-◌, ◌<◌, ◌↔◌, [], ◌∷◌, ◌++◌, length, take, drop, replicate, slice_get, IfOk, IsTrue};
-ghost use Rattle.sa_links.specs.Rings.{IsFree, IsIn, list_at, with_list, without};
+ghost use Rattle.sa_links.specs.Lists.{IsFree, IsIn, list_at, with_list, without};
 
 use std::alloc::{AllocError, Global};
 use std::marker::Model;
@@ -13,7 +13,7 @@ pub(crate) struct Plain {
 
 impl Model for Plain {
     ghost use Rattle.std.specs.Prelude.{map};
-    ghost use Rattle.sa_links.specs.Rings.{Lists};
+    ghost use Rattle.sa_links.specs.Lists.{Lists};
 
     ghost Value = { Lists };
 

@@ -1,5 +1,5 @@
 ghost use Rattle.std.specs.Prelude.{◌≡◌, ◌<◌, length, IfOk};
-ghost use Rattle.sa_links.specs.Rings.{list_at};
+ghost use Rattle.sa_links.specs.Lists.{list_at};
 
 use super::*;
 use crate::plain::Plain;

@@ -1,6 +1,6 @@
 use Rattle.std.proofs.Common.{◌∙◌, arith, ap, get_or, sym, subst}
 use Rattle.std.specs.Vec.{vec_ptr}
-use Rattle.sa_links.specs.Rings.{IsNext}
+use Rattle.sa_links.specs.Lists.{IsNext}
 use Rattle.sa_links.specs.Wiring.{node_index, number_at, wires_of}
 use Rattle.sa_links.specs.declared.node.Node.{out-Node}
 use Rattle.sa_links.proofs.LinksSteps.{count_is, next_inside, next_is, next_read, number_read, rings_are, size_is}

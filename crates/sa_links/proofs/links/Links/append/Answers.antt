@@ -1,7 +1,8 @@
 use Rattle.std.proofs.Common.{[], ◌++◌, not, refl, sym, ap, ◌∙◌}
 use Rattle.std.specs.Option.{is_some}
 use Rattle.std.specs.Vec.{vec_ptr}
-use Rattle.sa_links.specs.Rings.{IsRings, list_at, with_list}
+use Rattle.sa_links.specs.Lists.{list_at, with_list}
+use Rattle.sa_links.specs.Rings.{IsRings}
 use Rattle.sa_links.specs.Wiring.{IsRelinked, node_index, wires_of}
 use Rattle.sa_links.specs.declared.node.Node.{out-Node}
 use Rattle.sa_links.proofs.Joining.{relinked_twice}

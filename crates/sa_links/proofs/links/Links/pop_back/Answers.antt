@@ -1,6 +1,7 @@
 use Rattle.std.proofs.Common.{◌≡◌, ◌-◌, length, take, slice_get, Some, refl, sym, ◌∙◌, subst}
 use Rattle.std.specs.Vec.{vec_ptr}
-use Rattle.sa_links.specs.Rings.{IsFree, IsRings, list_at, with_list}
+use Rattle.sa_links.specs.Lists.{IsFree, list_at, with_list}
+use Rattle.sa_links.specs.Rings.{IsRings}
 use Rattle.sa_links.specs.Wiring.{wires_of}
 use Rattle.sa_links.proofs.LinksSteps.{back_freed, back_read, last_led, links_after, none_last, popped_back, prev_read, rings_are, view_after, with_same}
 use Rattle.sa_links.proofs.links.Links.pop_back.Goals as goal

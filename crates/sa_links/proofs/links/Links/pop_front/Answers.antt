@@ -1,6 +1,7 @@
 use Rattle.std.proofs.Common.{◌≡◌, drop, slice_get, Some, refl, sym, ◌∙◌, subst}
 use Rattle.std.specs.Vec.{vec_ptr}
-use Rattle.sa_links.specs.Rings.{IsFree, IsRings, list_at, with_list}
+use Rattle.sa_links.specs.Lists.{IsFree, list_at, with_list}
+use Rattle.sa_links.specs.Rings.{IsRings}
 use Rattle.sa_links.specs.Wiring.{wires_of}
 use Rattle.sa_links.proofs.LinksSteps.{front_freed, front_read, first_led, links_after, none_first, popped_front, next_read, rings_are, view_after, with_same}
 use Rattle.sa_links.proofs.links.Links.pop_front.Goals as goal

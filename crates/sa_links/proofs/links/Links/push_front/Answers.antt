@@ -1,6 +1,7 @@
 use Rattle.std.proofs.Common.{◌∷◌, refl}
 use Rattle.std.specs.Vec.{vec_ptr}
-use Rattle.sa_links.specs.Rings.{list_at, with_list, IsRings}
+use Rattle.sa_links.specs.Lists.{list_at, with_list}
+use Rattle.sa_links.specs.Rings.{IsRings}
 use Rattle.sa_links.specs.Wiring.{wires_of}
 use Rattle.sa_links.proofs.LinksSteps.{rings_are, head_is, pushed_front, links_after, view_after}
 use Rattle.sa_links.proofs.links.Links.push_front.Goals as goal

@@ -1,6 +1,7 @@
 use Rattle.std.proofs.Common.{refl, sym, arith, subst}
 use Rattle.std.specs.Vec.{vec_ptr}
-use Rattle.sa_links.specs.Rings.{IsFree, IsRings, list_at, with_list, without}
+use Rattle.sa_links.specs.Lists.{IsFree, list_at, with_list, without}
+use Rattle.sa_links.specs.Rings.{IsRings}
 use Rattle.sa_links.specs.Wiring.{wires_of}
 use Rattle.sa_links.proofs.LinksSteps.{links_after, rings_are, size_is, stands_below, unlinked, unlinked_freed, view_after}
 use Rattle.sa_links.proofs.links.Links.unlink.Goals as goal

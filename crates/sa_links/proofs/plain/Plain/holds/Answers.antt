@@ -1,5 +1,5 @@
 use Rattle.std.proofs.Common.{subst, ◌↔◌, ◌≡◌, true}
-use Rattle.sa_links.specs.Rings.{IsIn}
+use Rattle.sa_links.specs.Lists.{IsIn}
 use Rattle.sa_links.proofs.PlainSteps.{holds_is}
 use Rattle.sa_links.proofs.plain.Plain.holds.Goals as goal
 

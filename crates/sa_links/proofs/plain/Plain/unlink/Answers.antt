@@ -1,5 +1,5 @@
 use Rattle.std.proofs.Common.{ap, ◌∙◌}
-use Rattle.sa_links.specs.Rings.{without}
+use Rattle.sa_links.specs.Lists.{without}
 use Rattle.sa_links.proofs.PlainSteps.{changed, read}
 use Rattle.sa_links.proofs.plain.Plain.unlink.Goals as goal
 
