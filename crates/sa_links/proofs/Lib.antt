@@ -4,4 +4,5 @@ pub mod Chains
 pub mod RingChanges
 pub mod Joining
 pub mod LinksSteps
+pub mod CallerLemmas
 pub mod PlainSteps

@@ -3,13 +3,13 @@
 --     front_read, back_read, free_read      what the nodes say of a list's ends, and of a node in no list
 --     after_change      the nodes after a change of links
 --     pushed_front, pushed_back, removed, popped_front, popped_back, unlinked, moved      the rings after a call
-use Rattle.std.proofs.Common.{◌≡◌, ◌≢◌, ℕ, zero, suc, ◌+◌, ◌-◌, ◌≤◌, ◌<◌, ◌↔◌, cond, Bool, true, false, eqb, List, [], ◌∷◌, ◌++◌, length, get_or, set, take, drop, replicate, Some, None, slice_get, refl, sym, ap, ◌∙◌, subst, inl, inr, arith}
+use Rattle.std.proofs.Common.{Option, ◌≡◌, ◌≢◌, ℕ, zero, suc, ◌+◌, ◌-◌, ◌≤◌, ◌<◌, ◌↔◌, cond, Bool, true, false, eqb, List, [], ◌∷◌, ◌++◌, length, get_or, set, take, drop, replicate, Some, None, slice_get, refl, sym, ap, ◌∙◌, subst, inl, inr, arith}
 use Rattle.std.specs.Ptr.{Ptr}
 use Rattle.std.proofs.lemmas.Bool.{cases_eq, cases_lt, eq-eqb, eqb-true, false≢true, lt-ltb, le-ltb}
 use Rattle.std.proofs.lemmas.List.{get_or-map, length-map, set-get_or, append-nil, length-replicate, length-append, get_or_past}
-use Rattle.std.specs.Option.{option_eq, is_some}
+use Rattle.std.specs.Option.{IfSome, option_eq, is_some}
 use Rattle.sa_links.specs.declared.node.Node.{Node, out-Node}
-use Rattle.sa_links.specs.Lists.{Lists, list_at, count_in, count_in_all, IsIn, IsFree, IsNext, with_list, without}
+use Rattle.sa_links.specs.Lists.{IsFree, IsIn, IsListed, IsNext, Lists, count_in, count_in_all, list_at, with_list, without}
 use Rattle.sa_links.specs.Rings.{Wires, joined, IsEdge, IsChain, IsRings, lists_of}
 use Rattle.sa_links.specs.Wiring.{IsNodePlace, node_index, next_of, prev_of, number_of, wires_of, number_at, AreNumbered, AreLinked, IsRelinked, IsLinks}
 use Rattle.std.proofs.lemmas.List.Sums.{sum_by-cons}
@@ -343,3 +343,31 @@ next_is w v x i r hi l xs ys e = elim (cases_lt l (length v.lists)) [
       ap (number_at v.nodes) led ∙ front_of v.nodes ys n (omega arith) below
   | inr h ↦ let none : [] ≡ xs ++ x ∷ ys = sym (get_or_past v.lists l [] h) ∙ e in let f = ap length none in let g = length-append xs (x ∷ ys) in absurd (omega arith)
 ]
+
+-- what a list has at a place stands in it
+if_some : (o : Option ℕ) (P Q : ℕ → Type 0) → ((x : ℕ) → P x → Q x) → IfSome o P → IfSome o Q
+if_some None P Q f h = tt
+if_some (Some x) P Q f h = f x h
+
+pub some_stands : (xs : List ℕ) (k : ℕ) → IfSome (slice_get xs k) (λ x. IsIn x xs)
+some_stands [] k = tt
+some_stands (x ∷ xs) zero = let c = count_same x x xs refl in omega arith
+some_stands (x ∷ xs) (suc k) =
+    if_some (slice_get xs k) (λ y. IsIn y xs) (λ y. IsIn y (x ∷ xs)) (λ y h. (let g = count-cons-ge y x xs in omega arith)) (some_stands xs k)
+
+pub some_listed : (v : Lists) (l k : ℕ) → IfSome (slice_get (list_at v.lists l) k) (IsListed v)
+some_listed v l k =
+    if_some (slice_get (list_at v.lists l) k) (λ x. IsIn x (list_at v.lists l)) (IsListed v) (λ x h. (let a = count_at x v.lists l in omega arith)) (some_stands (list_at v.lists l) k)
+
+pub got_below : (w : Wires) (v : Lists) (l k x : ℕ) → IsRings w v → slice_get (list_at v.lists l) k ≡ Some x → x < v.nodes
+got_below w v l k x r e =
+    let h : IfSome (Some x) (IsListed v) = subst (λ o. IfSome o (IsListed v)) e (some_listed v l k) in let A = r.apart in A.below x h
+
+-- so does the one behind a listed node
+pub next_listed : (w : Wires) (v : Lists) (x : ℕ) (next : Option ℕ) → IsListed v x → IsNext v x next → IfSome next (IsListed v)
+next_listed w v x next h is =
+    let at = stands_somewhere x v.lists h in let parts = stands_between x (list_at v.lists at.0) at.2 in
+    subst (λ o. IfSome o (IsListed v)) (sym (is at.0 parts.0 parts.1 parts.2))
+    (if_some (slice_get parts.1 0) (λ y. IsIn y parts.1) (IsListed v)
+    (λ y hy. (let e = ap (count_in y) parts.2 in let t = count-append y parts.0 (x ∷ parts.1) in let g = count-cons-ge y x parts.1 in let a = count_at y v.lists at.0 in omega arith))
+    (some_stands parts.1 0))

@@ -80,6 +80,7 @@ impl Links {
         requires { list < length self.old.lists }
         ensures first { result ≡ slice_get (list_at self.old.lists list) 0 }
         ensures lists { self.new ≡ with_list self.old list (drop 1 (list_at self.old.lists list)) }
+        ensures node { IfSome result (λ node. node < self.new.nodes) }
         ensures free { IfSome result (λ node. IsFree self.new node) }
     {
         let head = place_of(&self.nodes, self.begin, self.count as usize + list as usize);
@@ -94,6 +95,7 @@ impl Links {
         requires { list < length self.old.lists }
         ensures last { let xs = list_at self.old.lists list in result ≡ slice_get xs (length xs - 1) }
         ensures lists { let xs = list_at self.old.lists list in self.new ≡ with_list self.old list (take (length xs - 1) xs) }
+        ensures node { IfSome result (λ node. node < self.new.nodes) }
         ensures free { IfSome result (λ node. IsFree self.new node) }
     {
         let head = place_of(&self.nodes, self.begin, self.count as usize + list as usize);
@@ -138,7 +140,9 @@ impl Links {
     /// The first node of `list`: `None` exactly where the list is empty.
     pub fn front(&self, list: u32) -> Option<u32>
         requires { list < length self.now.lists }
-        ensures { result ≡ slice_get (list_at self.now.lists list) 0 }
+        ensures first { result ≡ slice_get (list_at self.now.lists list) 0 }
+        ensures stands { IfSome result (λ node. IsIn node (list_at self.now.lists list)) }
+        ensures listed { IfSome result (λ node. IsListed self.now node) }
     {
         let head = place_of(&self.nodes, self.begin, self.count as usize + list as usize);
         at(&self.nodes, at(&self.nodes, head).next).number
@@ -147,7 +151,9 @@ impl Links {
     /// The last node of `list`: `None` exactly where the list is empty.
     pub fn back(&self, list: u32) -> Option<u32>
         requires { list < length self.now.lists }
-        ensures { let xs = list_at self.now.lists list in result ≡ slice_get xs (length xs - 1) }
+        ensures last { let xs = list_at self.now.lists list in result ≡ slice_get xs (length xs - 1) }
+        ensures stands { IfSome result (λ node. IsIn node (list_at self.now.lists list)) }
+        ensures listed { IfSome result (λ node. IsListed self.now node) }
     {
         let head = place_of(&self.nodes, self.begin, self.count as usize + list as usize);
         at(&self.nodes, at(&self.nodes, head).prev).number
@@ -164,7 +170,8 @@ impl Links {
     /// The node behind one that stands in a list: `None` exactly where that is the last of its list.
     pub fn after(&self, node: u32) -> Option<u32>
         requires { IsListed self.now node }
-        ensures { IsNext self.now node result }
+        ensures next { IsNext self.now node result }
+        ensures listed { IfSome result (λ next. IsListed self.now next) }
     {
         let here = place_of(&self.nodes, self.begin, node as usize);
         at(&self.nodes, at(&self.nodes, here).next).number

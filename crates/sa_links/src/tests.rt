@@ -137,6 +137,8 @@ fn sent<T: Send>(value: T) -> T
 #[test]
 fn goes_to_another_thread(rt: HostRuntime) -> Result<(), Fail> {
     let links = sent(Links::new(rt.alloc(), 1, 1)?);
+    links.are_apart();
     assert!(rt; links.is_free(0));
+    assert!(rt; links.is_empty(0));
     Ok(())
 }

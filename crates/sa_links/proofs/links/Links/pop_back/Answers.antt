@@ -1,9 +1,9 @@
-use Rattle.std.proofs.Common.{◌≡◌, ◌-◌, length, take, slice_get, Some, refl, sym, ◌∙◌, subst}
+use Rattle.std.proofs.Common.{◌<◌, ◌≡◌, ◌-◌, length, take, slice_get, Some, refl, sym, ◌∙◌, subst}
 use Rattle.std.specs.Vec.{vec_ptr}
 use Rattle.sa_links.specs.Lists.{IsFree, list_at, with_list}
 use Rattle.sa_links.specs.Rings.{IsRings}
 use Rattle.sa_links.specs.Wiring.{wires_of}
-use Rattle.sa_links.proofs.LinksSteps.{back_freed, back_read, last_led, links_after, none_last, popped_back, prev_read, rings_are, view_after, with_same}
+use Rattle.sa_links.proofs.LinksSteps.{got_below, back_freed, back_read, last_led, links_after, none_last, popped_back, prev_read, rings_are, view_after, with_same}
 use Rattle.sa_links.proofs.links.Links.pop_back.Goals as goal
 
 pub returns-in_err-number-clause-last : goal.returns-in_err-number-clause-last
@@ -43,3 +43,9 @@ returns-clause-free c =
     let base = vec_ptr c.self.inside.nodes in let nodes = c.self.inside.nodes.items in let count = c.self.inside.count in let v = c.args.self.now in
     subst (λ u. IsFree u c.in_ok-number.number) (sym (view_after (vec_ptr c.self.inside.nodes) c.self.inside.nodes.items c.self.inside.count c.args.self.now c.self.view_is c.self.invariant _ _ _ c.remove.ensures.relinked (changed c) refl))
     (back_freed (wires_of base nodes) (wires_of base nodes) v c.args.list c.in_ok-number.number 0 (rings_are base nodes count v c.self.view_is c.self.invariant) c.requires (got c))
+
+pub returns-clause-node : goal.returns-clause-node
+returns-clause-node c =
+    let base = vec_ptr c.self.inside.nodes in let nodes = c.self.inside.nodes.items in
+    let view = view_after (vec_ptr c.self.inside.nodes) c.self.inside.nodes.items c.self.inside.count c.args.self.now c.self.view_is c.self.invariant _ _ _ c.remove.ensures.relinked (changed c) refl in
+    subst (λ u. c.in_ok-number.number < u.nodes) (sym view) (got_below (wires_of base nodes) c.args.self.now c.args.list _ c.in_ok-number.number (rings_are (vec_ptr c.self.inside.nodes) c.self.inside.nodes.items c.self.inside.count c.args.self.now c.self.view_is c.self.invariant) (got c))
