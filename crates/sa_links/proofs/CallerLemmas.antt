@@ -1,5 +1,5 @@
 -- What proofs of callers need of the lists.
-use Rattle.std.proofs.Common.{◌≡◌, ◌≢◌, ℕ, ◌+◌, ◌≤◌, ◌<◌, List, length, inl, inr, arith}
+use Rattle.std.proofs.Common.{◌≡◌, ◌≢◌, ℕ, ◌+◌, ◌<◌, List, length, inl, inr, arith}
 use Rattle.std.proofs.lemmas.Bool.{cases_eq}
 use Rattle.std.proofs.lemmas.List.{get_or-set_other, get_or-set_same, length-set}
 use Rattle.sa_links.specs.Lists.{Lists, list_at, count_in, count_in_all, IsApart, IsIn, IsListed, with_list}
@@ -25,6 +25,6 @@ in_listed c l x h = let a = count_at x c.lists l in omega arith
 
 pub in_one : (c : Lists) (l m x : ℕ) → IsApart c → l < length c.lists → IsIn x (list_at c.lists l) → IsIn x (list_at c.lists m) → l ≡ m
 in_one c l m x apart h hl hm = elim (cases_eq l m) [
-  inl same ↦ same
+  | inl same ↦ same
   | inr other ↦ let t = count_two x c.lists l m other h in let o = apart.once x in absurd (omega arith)
 ]

@@ -80,9 +80,13 @@ fn step(
         5 => {
             assert_eq!(rt; links.pop_back(list), plain.pop_back(list));
         }
-        6 if plain.holds(list, node) => {
-            links.unlink(list, node);
-            plain.unlink(list, node);
+        6 => {
+            let numbers = plain.numbers(list);
+            let node = numbers.get(other as usize).copied().unwrap_or(node);
+            if plain.holds(list, node) {
+                links.unlink(list, node);
+                plain.unlink(list, node);
+            }
         }
         7 if list != other => {
             links.append(list, other);

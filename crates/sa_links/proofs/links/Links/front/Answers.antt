@@ -1,4 +1,4 @@
-use Rattle.std.proofs.Common.{◌≡◌, ◌-◌, length, slice_get, sym, subst}
+use Rattle.std.proofs.Common.{sym, subst}
 use Rattle.std.specs.Option.{IfSome}
 use Rattle.std.specs.Vec.{vec_ptr}
 use Rattle.sa_links.specs.Lists.{IsIn, IsListed, list_at}
