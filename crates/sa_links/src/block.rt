@@ -2,7 +2,7 @@
 // owns nothing. These four functions alone look inside a place.
 ghost use Rattle.std.specs.Prelude.{◌≡◌, ◌<◌, length, slice_index_or, slice_set, ⊤};
 ghost use Rattle.std.specs.Mem.{type_size};
-ghost use Rattle.std.specs.Vec.{vec_ptr, vec_len};
+ghost use Rattle.std.specs.Vec.{vec_ptr};
 ghost use Rattle.sa_links.specs.Place.{IsPlace, index_of};
 
 use std::alloc::{AllocError, Allocator};
