@@ -10,8 +10,8 @@ use std::marker::Model;
 
 /// Disjoint lists of node numbers, in one block of nodes that are linked in place.
 ///
-/// The nodes are the numbers below a count, and each stands in at most one list. Every call takes constant
-/// time, and none but `new` takes memory.
+/// Nodes and lists are numbered from 0, each below a count that `new` is given. A node stands in at most one
+/// list. Every call takes constant time, and none but `new` takes memory.
 #[derive(Debug, Drop)]
 pub struct Links {
     // the nodes, and behind them the heads of the lists
@@ -35,7 +35,7 @@ impl Model for Links {
 }
 
 impl Links {
-    /// `lists` empty lists for the nodes below `nodes`. Fails only where memory runs out.
+    /// `lists` empty lists for `nodes` nodes, in one block. Fails only where memory runs out.
     pub fn new(alloc: Global, nodes: u32, lists: u32) -> Result<Links, AllocError>
         ensures { IfOk result (λ links. links ≡ record { nodes = nodes; lists = replicate lists [] }) }
     {
