@@ -18,6 +18,7 @@ reg_number R7 = 7
 
 -- a number that is set has 64 bits, an I/O takes 1 to 1,000,000 events, and the pages that threads touch are 2 to 15
 abbrev pub IsInRange : Instr → Type 0
+IsInRange (Set reg n) = n < 2 ^ 64
 IsInRange (Io length) = (1 ≤ length) × (length ≤ 1000000)
 IsInRange (Touch page) = (2 ≤ page) × (page ≤ 15)
 IsInRange (Set reg n) = n < 2 ^ 64

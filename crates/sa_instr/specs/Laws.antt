@@ -1,9 +1,9 @@
 -- What holds of the local effect and of workloads, whichever they are.
-use Rattle.std.specs.Prelude.{◌≡◌, ◌≢◌, ℕ, ◌^◌, ◌<◌, List, length, AllPairs}
+use Rattle.std.specs.Prelude.{◌≡◌, ◌≢◌, ℕ, ◌<◌, List, length, AllPairs}
 use Rattle.sa_instr.specs.declared.instr.Reg.{Reg}
 use Rattle.sa_instr.specs.declared.instr.Instr.{Instr}
-use Rattle.sa_instr.specs.declared.instr.Instr.TheVariants.{Set, Add, Sub}
-use Rattle.sa_instr.specs.Instr.{reg_number}
+use Rattle.sa_instr.specs.declared.instr.Instr.TheVariants.{Add, Sub}
+use Rattle.sa_instr.specs.Instr.{reg_number, IsInRange}
 use Rattle.sa_instr.specs.Regs.{AreRegisters}
 use Rattle.sa_instr.specs.Program.{IsProgram}
 use Rattle.sa_instr.specs.Local.{instr_at, place_after, regs_after}
@@ -15,14 +15,9 @@ PlacesStayInPrograms =
     (program : List Instr) (pc : ℕ) (regs : List ℕ) → IsProgram program → pc < length program
     → place_after (instr_at program pc) pc regs < length program
 
--- the number that an instruction sets is of 64 bits
-abbrev pub SetsWord : Instr → Type 0
-SetsWord (Set reg n) = n < 2 ^ 64
-SetsWord _ = Unit {0}
-
 -- eight registers of 64 bits stay that
 abbrev pub RegistersStayWords : Type 0
-RegistersStayWords = (instr : Instr) (regs : List ℕ) → SetsWord instr → AreRegisters regs → AreRegisters (regs_after instr regs)
+RegistersStayWords = (instr : Instr) (regs : List ℕ) → IsInRange instr → AreRegisters regs → AreRegisters (regs_after instr regs)
 
 -- what is added to a register can be taken from it again, and the other way round
 abbrev pub SubUndoesAdd : Type 0

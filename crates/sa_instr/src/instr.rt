@@ -86,9 +86,10 @@ pub enum Instr {
     /// Gives the register to the outside.
     Out(Reg),
     /// Makes a thread of the space's program of that number, and puts the thread's number into the
-    /// register.
+    /// register, or 2^64 - 1 where no more threads may be made.
     Fork(Reg, u16),
-    /// Waits until the thread whose number is in the register is done.
+    /// Waits until the thread whose number is in the register is done, and puts 1 into the register; or
+    /// puts 0 there at once where no such thread was made.
     Join(Reg),
     /// Takes the space's mutex of that number, or waits for it.
     Lock(u16),
@@ -100,7 +101,7 @@ pub enum Instr {
     Signal(u16),
     /// Blocks for an I/O that takes this many events, from 1 to 1,000,000.
     Io(u32),
-    /// Needs this page of the space, from 2 to 15, and blocks where it is absent.
+    /// Goes on where this page of the space, from 2 to 15, is resident; else blocks until it is.
     Touch(u16),
     /// Ends the thread.
     End,

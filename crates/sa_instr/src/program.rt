@@ -8,9 +8,6 @@ use crate::instr::{Declared, Instr};
 use std::alloc::{AllocError, Global};
 use std::marker::Model;
 
-// the greatest number of instructions in a program
-const MAX_LEN: usize = 4_096;
-
 /// A program: its instructions, in the order of their places from 0.
 #[derive(Debug, Drop)]
 pub struct Program {
@@ -91,7 +88,7 @@ fn is_program(instrs: &[Instr]) -> bool
     ensures { IsTrue result ↔ IsProgram instrs.now }
 {
     let len = instrs.len();
-    len <= MAX_LEN
+    len <= 4_096
         && matches!(instrs.last(), Some(Instr::End))
         && instrs.iter().all(|instr| instr.jumps_below(len))
         && instrs.iter().all(|instr| instr.is_in_range())

@@ -370,3 +370,14 @@ fn a_copy_has_the_same_fields(rt: HostRuntime) -> Result<(), Fail> {
     }
     Ok(())
 }
+
+// A thread takes the value.
+fn crosses<T: Send + Drop>(_value: T) {}
+
+#[test]
+fn values_may_cross_threads(rt: HostRuntime) {
+    crosses(workload(&rt, rt.alloc(), &[], &[]));
+    crosses(naming(&rt, rt.alloc(), Instr::Compute, 1));
+    crosses(registers(5, 7));
+    crosses(Local::NotLocal(Instr::Io(9)));
+}

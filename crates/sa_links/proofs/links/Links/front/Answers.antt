@@ -1,0 +1,21 @@
+use Rattle.std.proofs.Common.{sym, subst}
+use Rattle.std.specs.Option.{IfSome}
+use Rattle.std.specs.Vec.{vec_ptr}
+use Rattle.sa_links.specs.Lists.{IsIn, IsListed, list_at}
+use Rattle.sa_links.proofs.LinksSteps.{front_read, some_listed, some_stands}
+use Rattle.sa_links.proofs.links.Links.front.Goals as goal
+
+pub returns-clause-first : goal.returns-clause-first
+returns-clause-first c =
+    front_read (vec_ptr c.self.inside.nodes) c.self.inside.nodes.items c.self.inside.count c.args.self.now c.self.view_is c.self.invariant c.args.list c.requires _ c.place_of-head.ensures.index
+    c.at.result.now c.at-2.result.now c.place_of-head.ensures.place.inside c.at.ensures c.at-2.ensures
+
+pub returns-clause-stands : goal.returns-clause-stands
+returns-clause-stands c =
+    let xs = list_at c.args.self.now.lists c.args.list in
+    subst (λ o. IfSome o (λ x. IsIn x xs)) (sym (returns-clause-first c)) (some_stands xs 0)
+
+pub returns-clause-listed : goal.returns-clause-listed
+returns-clause-listed c =
+    let xs = list_at c.args.self.now.lists c.args.list in
+    subst (λ o. IfSome o (IsListed c.args.self.now)) (sym (returns-clause-first c)) (some_listed c.args.self.now c.args.list 0)

@@ -1,0 +1,4 @@
+pub mod Place
+pub mod Lists
+pub mod Rings
+pub mod Wiring

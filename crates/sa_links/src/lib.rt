@@ -1,0 +1,15 @@
+//! Disjoint lists of node numbers in one block of nodes, linked in place by raw pointers: every call takes
+//! constant time, and none but `Links::new` takes memory.
+#![tactic(auto)]
+
+mod block;
+mod links;
+mod node;
+mod start;
+
+pub use links::Links;
+
+#[cfg(test)]
+mod plain;
+#[cfg(test)]
+mod tests;

@@ -1,0 +1,73 @@
+// The nodes of a block, and how their links change.
+ghost use Rattle.std.specs.Prelude.{◌≡◌, ◌<◌, length, slice_index};
+ghost use Rattle.std.specs.Vec.{vec_ptr};
+ghost use Rattle.sa_links.specs.Rings.{joined};
+ghost use Rattle.sa_links.specs.Wiring.{AreLinked, IsNodePlace, IsRelinked, node_index, wires_of};
+
+use crate::block::{Place, at, place_at, put};
+
+// A node stands in a ring of nodes. A ring of one node is closed in itself.
+#[derive(Clone, Copy, Debug)]
+pub(crate) struct Node {
+    pub(crate) prev: Place<Node>,
+    pub(crate) next: Place<Node>,
+    // the node's number, or none at the head of a list
+    pub(crate) number: Option<u32>,
+}
+
+// The place of the node at `index`, from where the nodes begin.
+pub(crate) fn place_of(nodes: &Vec<Node>, begin: Place<Node>, index: usize) -> Place<Node>
+    requires begin { begin.ptr ≡ vec_ptr nodes.now }
+    requires inside { index < length nodes.now.items }
+    ensures place { IsNodePlace (vec_ptr nodes.now) (length nodes.now.items) result.ptr }
+    ensures index { node_index (vec_ptr nodes.now) result.ptr ≡ index }
+{
+    place_at(nodes, begin, index)
+}
+
+// Lets the node at `back` follow the one at `front`.
+pub(crate) fn join(nodes: &mut Vec<Node>, front: Place<Node>, back: Place<Node>)
+    requires front { IsNodePlace (vec_ptr nodes.old) (length nodes.old.items) front.ptr }
+    requires back { IsNodePlace (vec_ptr nodes.old) (length nodes.old.items) back.ptr }
+    ensures wires { wires_of (vec_ptr nodes.new) nodes.new.items ≡ joined (wires_of (vec_ptr nodes.old) nodes.old.items) (node_index (vec_ptr nodes.old) front.ptr) (node_index (vec_ptr nodes.old) back.ptr) }
+    ensures relinked { IsRelinked (vec_ptr nodes.old) nodes.old.items (vec_ptr nodes.new) nodes.new.items }
+{
+    let node = *at(nodes, front);
+    put(nodes, front, Node { next: back, ..node });
+    let node = *at(nodes, back);
+    put(
+        nodes,
+        back,
+        Node {
+            prev: front,
+            ..node
+        },
+    );
+}
+
+// Puts the node at `place` behind the one at `front`.
+pub(crate) fn insert(nodes: &mut Vec<Node>, front: Place<Node>, place: Place<Node>)
+    requires front { IsNodePlace (vec_ptr nodes.old) (length nodes.old.items) front.ptr }
+    requires place { IsNodePlace (vec_ptr nodes.old) (length nodes.old.items) place.ptr }
+    requires linked { AreLinked (vec_ptr nodes.old) nodes.old.items }
+    ensures wires { let old = wires_of (vec_ptr nodes.old) nodes.old.items in let a = node_index (vec_ptr nodes.old) front.ptr in let x = node_index (vec_ptr nodes.old) place.ptr in
+        wires_of (vec_ptr nodes.new) nodes.new.items ≡ joined (joined old a x) x (slice_index old.next a) }
+    ensures relinked { IsRelinked (vec_ptr nodes.old) nodes.old.items (vec_ptr nodes.new) nodes.new.items }
+{
+    let back = at(nodes, front).next;
+    join(nodes, front, place);
+    join(nodes, place, back);
+}
+
+// Takes the node at `place` out of its ring, and closes it in itself.
+pub(crate) fn remove(nodes: &mut Vec<Node>, place: Place<Node>)
+    requires place { IsNodePlace (vec_ptr nodes.old) (length nodes.old.items) place.ptr }
+    requires linked { AreLinked (vec_ptr nodes.old) nodes.old.items }
+    ensures wires { let old = wires_of (vec_ptr nodes.old) nodes.old.items in let x = node_index (vec_ptr nodes.old) place.ptr in
+        wires_of (vec_ptr nodes.new) nodes.new.items ≡ joined (joined old (slice_index old.prev x) (slice_index old.next x)) x x }
+    ensures relinked { IsRelinked (vec_ptr nodes.old) nodes.old.items (vec_ptr nodes.new) nodes.new.items }
+{
+    let node = *at(nodes, place);
+    join(nodes, node.prev, node.next);
+    join(nodes, place, place);
+}
