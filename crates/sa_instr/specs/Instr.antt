@@ -21,7 +21,6 @@ abbrev pub IsInRange : Instr → Type 0
 IsInRange (Set reg n) = n < 2 ^ 64
 IsInRange (Io length) = (1 ≤ length) × (length ≤ 1000000)
 IsInRange (Touch page) = (2 ≤ page) × (page ≤ 15)
-IsInRange (Set reg n) = n < 2 ^ 64
 IsInRange _ = Unit {0}
 
 -- a jump goes to a place below len
