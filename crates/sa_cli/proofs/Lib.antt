@@ -1,5 +1,6 @@
 mod Told
 mod WordLemmas
 mod StraightRuns
-mod StraightTexts
+mod StraightWorkloads
+mod Refusals
 mod Outcomes

@@ -1,9 +1,8 @@
 -- Lists of words.
-use Rattle.std.proofs.Common.{◌≡◌, ℕ, ◌<◌, ◌≤◌, List, [], ◌∷◌, length, get_or, Bool, IsTrue, ap, sym, ◌∙◌, arith}
-use Rattle.std.specs.Prelude.{String, string_bytes, map, ◌↔◌}
+use Rattle.std.proofs.Common.{◌≡◌, ◌≢◌, ℕ, ◌<◌, ◌≤◌, List, [], ◌∷◌, length, get_or, Option, Some, None, IsTrue, refl, ap, sym, ◌∙◌, arith, inl, inr}
+use Rattle.std.specs.Prelude.{String, string_bytes, map, codes, decimal, MatchOption}
 use Rattle.std.specs.declared.alloc.Global.{Global}
-use Rattle.std.specs.Str.{bytes_eq}
-use Rattle.std.proofs.lemmas.Slice.Eq.{bytes_eq-Decides}
+use Rattle.sa_cli.specs.Words.{IsRun}
 
 -- a list of one word has that word's bytes
 pub one-word : (list : List (String Global)) (word : String Global) → 1 ≤ length list → length list < 2
@@ -12,17 +11,29 @@ one-word [] word some few is = absurd (omega arith)
 one-word (x ∷ []) word some few is = ap (λ (w : String Global). string_bytes w ∷ []) (sym is)
 one-word (x ∷ y ∷ rest) word some few is = absurd (omega arith)
 
--- two lists of one word have one word
-head-is : {x y : List ℕ} → x ∷ [] ≡ y ∷ [] → x ≡ y
-head-is {x} {y} same = cc
+-- a list of three words has their bytes
+pub three-words : (list : List (String Global)) (a b c : String Global) → 3 ≤ length list → length list < 4
+    → a ≡ get_or list 0 a → b ≡ get_or list 1 b → c ≡ get_or list 2 c
+    → map string_bytes list ≡ string_bytes a ∷ string_bytes b ∷ string_bytes c ∷ []
+three-words [] a b c some few first second third = absurd (omega arith)
+three-words (x ∷ []) a b c some few first second third = absurd (omega arith)
+three-words (x ∷ y ∷ []) a b c some few first second third = absurd (omega arith)
+three-words (x ∷ y ∷ z ∷ []) a b c some few first second third =
+    let p : x ≡ a = sym first in
+    let q : y ≡ b = sym second in
+    let r : z ≡ c = sym third in
+    cc
+three-words (x ∷ y ∷ z ∷ u ∷ rest) a b c some few first second third = absurd (omega arith)
 
--- a list of words is one given word exactly where its one word has these bytes
-pub is-word : (list : List (String Global)) (word : String Global) (words : List (List ℕ)) (bytes : List ℕ) (answer : Bool)
-    → 1 ≤ length list → length list < 2 → word ≡ get_or list 0 word → map string_bytes list ≡ words
-    → answer ≡ bytes_eq (string_bytes word) bytes → (IsTrue answer ↔ (words ≡ bytes ∷ []))
-is-word list word words bytes answer some few is view test =
-    let one : words ≡ string_bytes word ∷ [] = sym view ∙ one-word list word some few is in
-    let decides = bytes_eq-Decides (string_bytes word) bytes in (
-      (λ yes. one ∙ ap (λ v. v ∷ []) (decides.0 (sym test ∙ yes))),
-      (λ same. test ∙ decides.1 (head-is (sym one ∙ same))),
-    )
+-- a run with the option of the budget
+pub budget-words : (words : List (List ℕ)) (value : List ℕ) (r : Option ℕ)
+    → words ≡ codes "run" ∷ codes "--budget" ∷ value ∷ []
+    → MatchOption r ((n : ℕ) → 1 ≤ n → n ≤ 1000000 → value ≢ decimal n) (λ n. (1 ≤ n) × (n ≤ 1000000) × (value ≡ decimal n))
+    → MatchOption r ((n : ℕ) → ¬ IsRun words n) (IsRun words)
+budget-words words value (Some n) are found =
+    inr (found.0, found.1, are ∙ ap (λ v. codes "run" ∷ codes "--budget" ∷ v ∷ []) found.2)
+budget-words words value None are none = λ n run. other n run
+  where
+    other : (n : ℕ) → IsRun words n → ⊥
+    other n (inl (alone, rest)) = let e = sym are ∙ alone in cc
+    other n (inr (low, high, is)) = none n low high (let e = sym are ∙ is in cc)

@@ -1,3 +1,4 @@
 pub mod Straight
+pub mod Words
 pub mod Input
 pub mod Outcome

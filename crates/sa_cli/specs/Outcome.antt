@@ -1,8 +1,15 @@
 -- What the top call answers.
-use Rattle.std.specs.Prelude.{◌≡◌, ◌⊎◌, ⊤, ℕ, ◌<◌, List, [], ◌∷◌, length, codes, Option, IfSome, IsSome}
+use Rattle.std.specs.Prelude.{◌≡◌, ◌⊎◌, ⊤, ℕ, ◌+◌, ◌<◌, ◌≤◌, ◌==◌, List, [], length, take, count_by, Option, IfSome, IsSome}
 use Rattle.std.specs.Io.KnownBytes.{Appends, IsAtEnd}
 use Rattle.sa_base.specs.declared.refusal.Bad.{Bad}
+use Rattle.sa_base.specs.declared.refusal.Unread.{Unread}
+use Rattle.sa_base.specs.declared.refusal.Unread.TheVariants as unread
 use Rattle.sa_base.specs.declared.record.Item.{Item}
+use Rattle.sa_base.specs.declared.record.End.{End}
+use Rattle.sa_base.specs.declared.record.End.TheVariants as end
+use Rattle.sa_instr.specs.Workload.{WorkloadView}
+use Rattle.sa_workload.specs.Text.{IsText}
+use Rattle.sa_workload.specs.Bad.{BadAt}
 use Rattle.sa_io.specs.Faults.{HasRisen, AppendsPrefix}
 use Rattle.sa_cli.specs.declared.outcome.Status.{Status}
 use Rattle.sa_cli.specs.declared.outcome.Status.TheVariants.{AllDone, Usage, BadWorkload, Stuck, Budget, ReadFault, WriteFault, OutOfMemory}
@@ -11,7 +18,7 @@ use Rattle.sa_cli.specs.declared.input.ReadError.TheVariants as read
 use Rattle.sa_cli.specs.declared.outcome.Ran.{Ran}
 use Rattle.sa_cli.specs.declared.outcome.Ran.TheVariants.{Nothing, Plain}
 use Rattle.sa_cli.specs.Input.{input_limit}
-use Rattle.sa_cli.specs.Straight.{IsStraight, IsNotStraight, straight_run}
+use Rattle.sa_cli.specs.Straight.{IsNotStraight, straight_workload, straight_run}
 
 -- the exit status of the program
 abbrev pub code_of : Status → ℕ
@@ -29,32 +36,55 @@ abbrev pub status_of : ReadError → Status
 status_of read.Fault = ReadFault
 status_of read.OutOfMemory = OutOfMemory
 
+-- the status of a text that was not read
+abbrev pub status_of_unread : Unread → Status
+status_of_unread (unread.Bad bad) = BadWorkload bad
+status_of_unread unread.OutOfMemory = OutOfMemory
+
 -- the history of the machine that ran, empty where none did
 abbrev pub history : Ran → List Item
 history Nothing = []
 history (Plain trace) = trace.items
 
--- the words are the one command
-abbrev pub IsRun : List (List ℕ) → Type 0
-IsRun words = words ≡ codes "run" ∷ []
+-- the status of a run that ended so, once all is written
+abbrev pub status_of_end : End → Status
+status_of_end end.AllDone = AllDone
+status_of_end end.Stuck = Stuck
+status_of_end end.Budget = Budget
 
--- what every workload is refused with that is no straight one: its kind is not built yet
+-- what a workload is refused with whose kind is not built yet
 abbrev pub not_built : Bad
 not_built = record { line = 1; why = 10 }
 
--- the input is too long, or no straight workload
-abbrev pub IsRefused : List ℕ → Type 0
-IsRefused input = (input_limit < length input) ⊎ IsNotStraight input
+-- what an input is refused with that is longer than the limit: the line in which the first byte past it stands, and why 8
+unfoldable pub too_long : List ℕ → Bad
+too_long input = record { line = count_by (λ b. b == 10) (take input_limit input) + 1; why = 8 }
 
--- A straight workload of so many instructions ran to its end. It is the whole input, and the source was read to
--- its end, where the source tells.
-pub record RanStraight (before after : Option (List ℕ)) (items : List Item) (instructions : ℕ) : Type 0 where
+-- the refusal of an input: it is too long; or it is bad so; or it is the text of a workload that is no straight one
+abbrev pub IsRefused : List ℕ → Bad → Type 0
+IsRefused input bad =
+    ((input_limit < length input) × (bad ≡ too_long input))
+    ⊎ (((length input ≤ input_limit) × BadAt input bad.line bad.why)
+    ⊎ ((length input ≤ input_limit) × ((w : WorkloadView) × IsText input w × IsNotStraight w) × (bad ≡ not_built)))
+
+-- A straight workload of so many instructions ran within the budget. Its text is the whole input, and the source was
+-- read to its end, where the source tells.
+pub record RanStraight (before after : Option (List ℕ)) (items : List Item) (budget instructions : ℕ) : Type 0 where
   pub fetch : ℕ
   pub text : List ℕ
-  pub straight : IsStraight text fetch instructions
+  pub some : 1 ≤ instructions
+  pub straight : IsText text (straight_workload fetch instructions)
+  pub short : length text ≤ input_limit
   pub input : IfSome before (λ input. input ≡ text)
   pub end : IsSome before → IsAtEnd after
-  pub run : items ≡ straight_run instructions
+  pub run : items ≡ straight_run budget instructions
+
+-- the statuses of a run that ended and was written
+abbrev pub HasEnded : Status → Type 0
+HasEnded AllDone = ⊤
+HasEnded Stuck = ⊤
+HasEnded Budget = ⊤
+HasEnded other = ⊥
 
 -- the statuses with which nothing is written
 abbrev pub WritesNothing : Status → Type 0
@@ -73,15 +103,14 @@ RunsNothing other = ⊥
 
 -- the causes of the statuses that come before a run
 abbrev pub StopsBeforeRun : Option (List ℕ) → ℕ → ℕ → Status → Type 0
-StopsBeforeRun left faults_before faults_after (BadWorkload bad) = (bad ≡ not_built) × IfSome left IsRefused
+StopsBeforeRun left faults_before faults_after (BadWorkload bad) = IfSome left (λ input. IsRefused input bad)
 StopsBeforeRun left faults_before faults_after ReadFault = HasRisen faults_before faults_after
 StopsBeforeRun left faults_before faults_after OutOfMemory = ⊤
 StopsBeforeRun left faults_before faults_after other = ⊥
 
--- what the sink took of the text, by the status after the run
-abbrev pub EndsWriting : Option (List ℕ) → Option (List ℕ) → ℕ → ℕ → List ℕ → Status → Type 0
-EndsWriting before after faults_before faults_after text AllDone = Appends before after text
-EndsWriting before after faults_before faults_after text WriteFault =
+-- what the sink took of the text, by the status after a run that ended so
+abbrev pub EndsWriting : Option (List ℕ) → Option (List ℕ) → ℕ → ℕ → List ℕ → End → Status → Type 0
+EndsWriting before after faults_before faults_after text end WriteFault =
     HasRisen faults_before faults_after × AppendsPrefix before after text
-EndsWriting before after faults_before faults_after text OutOfMemory = ⊤
-EndsWriting before after faults_before faults_after text other = ⊥
+EndsWriting before after faults_before faults_after text end OutOfMemory = ⊤
+EndsWriting before after faults_before faults_after text end status = (status ≡ status_of_end end) × Appends before after text

@@ -1,5 +1,5 @@
 -- Straight workloads: one processor, one space and one thread, which computes and ends; and their run.
-use Rattle.std.specs.Prelude.{◌≡◌, ℕ, ◌+◌, ◌-◌, ◌≤◌, zero, suc, List, [], ◌∷◌, ◌++◌, Some, None, map, codes, decimal}
+use Rattle.std.specs.Prelude.{◌≡◌, ℕ, ◌+◌, ◌-◌, nat_le, min, if◌then◌else◌, List, [], ◌∷◌, ◌++◌, Some, None, map, filter, replicate}
 use Rattle.std.specs.List.{range_with_len}
 use Rattle.sa_base.specs.declared.number.ProcNo.{ProcNo}
 use Rattle.sa_base.specs.declared.number.SpaceNo.{SpaceNo}
@@ -9,35 +9,43 @@ use Rattle.sa_base.specs.declared.record.Note.TheVariants.{Add}
 use Rattle.sa_base.specs.declared.record.Record.{Record}
 use Rattle.sa_base.specs.declared.record.Record.TheVariants.{Ins, Run, Take, Free, Up, Told, Move, Want, Aim, Line}
 use Rattle.sa_base.specs.declared.record.Item.{Item}
+use Rattle.sa_base.specs.declared.record.End.{End}
+use Rattle.sa_base.specs.declared.record.End.TheVariants as end
+use Rattle.sa_instr.specs.declared.instr.Instr.{Instr}
+use Rattle.sa_instr.specs.declared.instr.Instr.TheVariants as instr
+use Rattle.sa_instr.specs.Space.{SpaceView}
+use Rattle.sa_instr.specs.Workload.{WorkloadView}
 
--- the text, so many times
-abbrev pub times : ℕ → List ℕ → List ℕ
-times zero text = []
-times (suc n) text = text ++ times n text
+-- so many instructions: each computes but the last, which ends
+abbrev pub straight_program : ℕ → List Instr
+straight_program length = replicate (length - 1) instr.Compute ++ instr.End ∷ []
 
--- a head, a number that ends its line, and what follows
-abbrev pub numbered : List ℕ → ℕ → List ℕ → List ℕ
-numbered head n behind = head ++ (decimal n ++ 10 ∷ behind)
+-- a space of nothing but that program
+abbrev pub straight_space : ℕ → SpaceView
+straight_space length = record {
+  priority = 0;
+  mutexes = 0;
+  sems = [];
+  cells = 0;
+  absent = [];
+  programs = straight_program length ∷ [];
+  patience = 1;
+}
 
--- the instructions but the last, the last, and the end of the text
-abbrev pub straight_body : ℕ → List ℕ
-straight_body length = times (length - 1) (codes "compute\n") ++ codes "end\nclose\n"
+-- the straight workload with this fetch length and this number of instructions
+abbrev pub straight_workload : ℕ → ℕ → WorkloadView
+straight_workload fetch length = record {
+  processors = 1;
+  fetch = fetch;
+  spaces = straight_space length ∷ [];
+  evictions = [];
+  turns = [];
+  slice = 0;
+}
 
--- the text of the straight workload with this fetch length and this number of instructions
-unfoldable pub straight_text : ℕ → ℕ → List ℕ
-straight_text fetch length =
-    numbered (codes "workload 1\nprocessors 1\nfetch ") fetch
-    (numbered (codes "spaces 1\nspace 0 0 0 0 1\nprogram ") length (straight_body length))
-
--- the input is that text, and the numbers are in their ranges
-pub record IsStraight (input : List ℕ) (fetch length : ℕ) : Type 0 where
-  pub fetch_range : (1 ≤ fetch) × (fetch ≤ 1000)
-  pub length_range : (1 ≤ length) × (length ≤ 4096)
-  pub text : input ≡ straight_text fetch length
-
--- the input is no such text
-abbrev pub IsNotStraight : List ℕ → Type 0
-IsNotStraight input = (fetch length : ℕ) → ¬ IsStraight input fetch length
+-- the workload is no straight one
+abbrev pub IsNotStraight : WorkloadView → Type 0
+IsNotStraight w = (fetch length : ℕ) → ¬ (w ≡ straight_workload fetch length)
 
 -- the one processor, space, thread and activation
 abbrev pub processor : ProcNo
@@ -72,10 +80,22 @@ first_run = item 2 (Take space processor None) ∷ item 3 (Run space thread) ∷
 abbrev pub instructions : ℕ → List Item
 instructions length = map (λ place. item (5 + place) (Ins space thread place)) (range_with_len 0 length)
 
--- the run of a straight workload with so many instructions
-unfoldable pub straight_run : ℕ → List Item
-straight_run length = opening ++ upcall ++ first_run ++ instructions length
+-- what comes before the first instruction
+unfoldable pub start_items : List Item
+start_items = opening ++ upcall ++ first_run
+
+-- the items of the events up to the budget
+unfoldable pub until : ℕ → List Item → List Item
+until budget items = filter (λ (i : Item). nat_le i.event budget) items
+
+-- the run of a straight workload with so many instructions, within a budget of events
+unfoldable pub straight_run : (budget length : ℕ) → List Item
+straight_run budget length = until budget (start_items ++ instructions length)
 
 -- the number of its last event
-abbrev pub straight_events : ℕ → ℕ
-straight_events length = 4 + length
+abbrev pub straight_events : (budget length : ℕ) → ℕ
+straight_events budget length = min budget (4 + length)
+
+-- the thread is done where the budget has room for all its events
+abbrev pub straight_end : (budget length : ℕ) → End
+straight_end budget length = if nat_le (4 + length) budget then end.AllDone else end.Budget

@@ -1,9 +1,9 @@
 ghost use Rattle.std.specs.Prelude.{◌≡◌};
-ghost use Rattle.sa_cli.specs.Outcome.{code_of, status_of};
+ghost use Rattle.sa_cli.specs.Outcome.{code_of, status_of, status_of_end, status_of_unread};
 ghost use Rattle.sa_cli.specs.declared.outcome.Status.TheVariants.{OutOfMemory};
 
 use crate::input::ReadError;
-use sa_base::{Bad, Trace};
+use sa_base::{Bad, End, Trace, Unread};
 use std::alloc::AllocError;
 
 /// How the top call ended. `code` is the program's exit status.
@@ -34,6 +34,29 @@ impl From<ReadError> for Status {
         match error {
             ReadError::Fault => Status::ReadFault,
             ReadError::OutOfMemory => Status::OutOfMemory,
+        }
+    }
+}
+
+impl From<Unread> for Status {
+    ghost from_gives = { λ unread status. status ≡ status_of_unread unread };
+
+    fn from(unread: Unread) -> Self {
+        match unread {
+            Unread::Bad(bad) => Status::BadWorkload(bad),
+            Unread::OutOfMemory => Status::OutOfMemory,
+        }
+    }
+}
+
+impl From<End> for Status {
+    ghost from_gives = { λ end status. status ≡ status_of_end end };
+
+    fn from(end: End) -> Self {
+        match end {
+            End::AllDone => Status::AllDone,
+            End::Stuck => Status::Stuck,
+            End::Budget => Status::Budget,
         }
     }
 }

@@ -1,22 +1,26 @@
-ghost use Rattle.std.specs.Prelude.{◌≡◌, ◌⊎◌, ◌↔◌, ℕ, List, [], Some, IfOk, IfErr, IfSome};
+ghost use Rattle.std.specs.Prelude.{◌≡◌, ◌⊎◌, ◌↔◌, ℕ, ◌≤◌, List, [], length as len, Some, IfOk, IfErr, IfSome};
 ghost use Rattle.std.specs.Io.KnownBytes.{Appends};
 ghost use Rattle.sa_base.specs.declared.refusal.Bad.{Bad};
 ghost use Rattle.sa_io.specs.Faults.{HasRisen, AppendsPrefix};
 ghost use Rattle.sa_trace.specs.TraceText.{trace_text};
-ghost use Rattle.sa_cli.specs.Outcome.{history, IsRun, IsRefused, RanStraight, WritesNothing, RunsNothing, StopsBeforeRun, EndsWriting, not_built};
-ghost use Rattle.sa_cli.specs.Straight.{IsStraight, straight_run, straight_events};
+ghost use Rattle.sa_workload.specs.Text.{IsText};
+ghost use Rattle.sa_cli.specs.Input.{input_limit};
+ghost use Rattle.sa_cli.specs.Outcome.{history, status_of_end, too_long, IsRefused, RanStraight, HasEnded, WritesNothing, RunsNothing, StopsBeforeRun, EndsWriting};
+ghost use Rattle.sa_cli.specs.Straight.{straight_workload, straight_end, straight_events};
+ghost use Rattle.sa_cli.specs.Words.{IsRun};
 
-use crate::input::{INPUT_LIMIT, ReadError, read_input};
+use crate::input::{INPUT_LIMIT, read_input};
 use crate::outcome::{Outcome, Status};
 use crate::output::write_text;
-use crate::straight::{run_straight, straight_length};
+use crate::straight::{Run, run_straight, straight_length};
 use crate::words::Words;
-use sa_base::{Bad, End, Trace};
+use sa_base::Bad;
 use sa_io::{Sink, Source};
 use sa_trace::print;
+use sa_workload::read;
 use std::alloc::Global;
 
-/// What every workload is refused with that is no straight one: its kind is not built yet.
+/// What a workload is refused with that is no straight one: its kind is not built yet.
 const NOT_BUILT: Status = Status::BadWorkload(Bad { line: 1, why: 10 });
 
 /// Runs the command of the words: a workload from the source, and the text of its trace to the sink.
@@ -28,8 +32,8 @@ pub fn run_one<S: Source, K: Sink>(
     source: &mut S,
     sink: &mut K,
 ) -> Outcome
-    ensures usage { (result.status ≡ Status.Usage) ↔ ¬ IsRun words.now }
-    ensures command { IsRun words.now ⊎ (result.status ≡ Status.Usage) }
+    ensures usage { (result.status ≡ Status.Usage) ↔ ((budget : ℕ) → ¬ IsRun words.now budget) }
+    ensures command { ((budget : ℕ) × IsRun words.now budget) ⊎ (result.status ≡ Status.Usage) }
     ensures untouched { result.status ≡ Status.Usage → (source.new ≡ source.old) × (sink.new ≡ sink.old) }
     ensures unwritten { WritesNothing result.status → sink.new ≡ sink.old }
     ensures idle { RunsNothing result.status → history result.ran ≡ [] }
@@ -37,34 +41,36 @@ pub fn run_one<S: Source, K: Sink>(
     // Each fault has its cause in this call, and a refusal in the input, where the source tells it.
     ensures read_fault { result.status ≡ Status.ReadFault → HasRisen (S.faults source.old) (S.faults source.new) }
     ensures refused { (bad : Bad) → result.status ≡ Status.BadWorkload bad
-        → (bad ≡ not_built) × IfSome (S.left source.old) IsRefused }
+        → IfSome (S.left source.old) (λ input. IsRefused input bad) }
     ensures write_fault { result.status ≡ Status.WriteFault → HasRisen (K.faults sink.old) (K.faults sink.new) }
 
     // A run that ended was that of the input, and its whole text was written, or a prefix of it.
-    ensures done { result.status ≡ Status.AllDone → (length : ℕ)
-        × RanStraight (S.left source.old) (S.left source.new) (history result.ran) length
-        × Appends (K.taken sink.old) (K.taken sink.new) (trace_text (straight_run length) End.AllDone (straight_events length)) }
-    ensures cut { result.status ≡ Status.WriteFault → (length : ℕ)
-        × RanStraight (S.left source.old) (S.left source.new) (history result.ran) length
-        × AppendsPrefix (K.taken sink.old) (K.taken sink.new) (trace_text (straight_run length) End.AllDone (straight_events length)) }
+    ensures ended { HasEnded result.status → (budget length : ℕ) × IsRun words.now budget
+        × RanStraight (S.left source.old) (S.left source.new) (history result.ran) budget length
+        × (result.status ≡ status_of_end (straight_end budget length))
+        × Appends (K.taken sink.old) (K.taken sink.new)
+        (trace_text (history result.ran) (straight_end budget length) (straight_events budget length)) }
+    ensures cut { result.status ≡ Status.WriteFault → (budget length : ℕ) × IsRun words.now budget
+        × RanStraight (S.left source.old) (S.left source.new) (history result.ran) budget length
+        × AppendsPrefix (K.taken sink.old) (K.taken sink.new)
+        (trace_text (history result.ran) (straight_end budget length) (straight_events budget length)) }
     ensures memory { result.status ≡ Status.OutOfMemory → (history result.ran ≡ [])
-        ⊎ ((length : ℕ) × RanStraight (S.left source.old) (S.left source.new) (history result.ran) length) }
+        ⊎ ((budget length : ℕ) × IsRun words.now budget
+        × RanStraight (S.left source.old) (S.left source.new) (history result.ran) budget length) }
 
-    // No straight workload gets stuck or has a budget.
-    ensures ends { ¬ (result.status ≡ Status.Stuck) × ¬ (result.status ≡ Status.Budget) }
-
-    // Where nothing failed, a straight workload is run and any other input refused, but for want of memory.
-    ensures runs { (input : List ℕ) (fetch length : ℕ) → IsRun words.now → S.left source.old ≡ Some input → IsStraight input fetch length
+    // Where the input is told and no fault comes, a straight workload runs, and any other input is refused.
+    ensures runs { (input : List ℕ) (budget fetch length : ℕ) → IsRun words.now budget → S.left source.old ≡ Some input
+        → 1 ≤ length → IsText input (straight_workload fetch length) → len input ≤ input_limit
         → ¬ HasRisen (S.faults source.old) (S.faults source.new) → ¬ HasRisen (K.faults sink.old) (K.faults sink.new)
-        → (result.status ≡ Status.AllDone) ⊎ (result.status ≡ Status.OutOfMemory) }
-    ensures refuses { (input : List ℕ) → IsRun words.now → S.left source.old ≡ Some input → IsRefused input
-        → ¬ HasRisen (S.faults source.old) (S.faults source.new)
-        → (result.status ≡ Status.BadWorkload not_built) ⊎ (result.status ≡ Status.OutOfMemory) }
+        → (result.status ≡ status_of_end (straight_end budget length)) ⊎ (result.status ≡ Status.OutOfMemory) }
+    ensures refuses { (input : List ℕ) (budget : ℕ) (bad : Bad) → IsRun words.now budget → S.left source.old ≡ Some input
+        → IsRefused input bad → ¬ HasRisen (S.faults source.old) (S.faults source.new)
+        → (result.status ≡ Status.BadWorkload bad) ⊎ (result.status ≡ Status.OutOfMemory) }
 {
-    if !words.is_run() {
+    let Some(budget) = words.run_budget() else {
         return Outcome::nothing(Status::Usage);
-    }
-    match run_source(alloc, source) {
+    };
+    match run_source(alloc, source, budget) {
         Ok(run) => {
             let status = write_run(alloc, &run, sink);
             Outcome::plain(status, run.trace)
@@ -73,43 +79,51 @@ pub fn run_one<S: Source, K: Sink>(
     }
 }
 
-/// A straight run, and the number of its last event.
-#[derive(Drop)]
-struct Run {
-    trace: Trace,
-    events: u64,
-}
-
 /// Reads the source, and runs the workload whose text it gives.
-fn run_source<S: Source>(alloc: Global, source: &mut S) -> Result<Run, Status>
+fn run_source<S: Source>(alloc: Global, source: &mut S, budget: u64) -> Result<Run, Status>
     ensures ok { IfOk result (λ run. (length : ℕ)
-        × RanStraight (S.left source.old) (S.left source.new) run.trace.items length
-        × (run.events ≡ straight_events length)) }
+        × RanStraight (S.left source.old) (S.left source.new) run.trace.items budget length
+        × (run.end ≡ straight_end budget length)
+        × (run.events ≡ straight_events budget length)) }
     ensures err { IfErr result (StopsBeforeRun (S.left source.old) (S.faults source.old) (S.faults source.new)) }
 {
     let input = read_input(alloc, source)?;
     if input.len() > INPUT_LIMIT {
-        return Err(NOT_BUILT);
+        return Err(Status::BadWorkload(refusal_of_long(&input)));
     }
-    let length = straight_length(&input).ok_or(NOT_BUILT)?;
-    let trace = run_straight(alloc, length)?;
-    Ok(Run {
-        trace,
-        events: 4 + u64::from(length),
-    })
+    let workload = read(alloc, &input)?;
+    let length = straight_length(&workload).ok_or(NOT_BUILT)?;
+    let run = run_straight(alloc, length, budget)?;
+    Ok(run)
 }
 
-/// Writes the text of a run that ended with every thread done.
+/// What an input is refused with that is longer than the limit.
+#[tactic(auto, unfolding(crate::specs::Outcome::too_long))]
+fn refusal_of_long(input: &[u8]) -> Bad
+    requires { input_limit ≤ len input.now }
+    ensures { result ≡ too_long input.now }
+{
+    let before = input[..INPUT_LIMIT]
+        .iter()
+        .filter(|byte| **byte == b'\n')
+        .count();
+    Bad {
+        line: before as u64 + 1,
+        why: 8,
+    }
+}
+
+/// Writes the text of a run that ended.
 fn write_run<K: Sink>(alloc: Global, run: &Run, sink: &mut K) -> Status
     ensures written { EndsWriting (K.taken sink.old) (K.taken sink.new) (K.faults sink.old) (K.faults sink.new)
-        (trace_text run.now.trace.items End.AllDone run.now.events) result }
+        (trace_text run.now.trace.items run.now.end run.now.events) run.now.end result }
     ensures unwritten { WritesNothing result → sink.new ≡ sink.old }
 {
-    let Ok(text) = print(alloc, &run.trace, End::AllDone, run.events) else {
+    let Ok(text) = print(alloc, &run.trace, run.end, run.events) else {
         return Status::OutOfMemory;
     };
     match write_text(sink, &text) {
-        Ok(()) => Status::AllDone,
+        Ok(()) => Status::from(run.end),
         Err(_) => Status::WriteFault,
     }
 }

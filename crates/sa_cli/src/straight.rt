@@ -1,99 +1,98 @@
 // The engine for straight workloads, which stands in for the core until that is built.
-ghost use Rattle.std.specs.Prelude.{◌≡◌, ◌≢◌, ℕ, ◌≤◌, ◌+◌, ◌↔◌, List, ◌∷◌, ◌++◌, codes, IsTrue, IfOk, MatchOption};
-ghost use Rattle.sa_text.specs.LineText.{LacksLineFeed};
-ghost use Rattle.sa_cli.specs.Straight.{IsStraight, IsNotStraight, numbered, straight_body, times, straight_run, opening, upcall, first_run};
+ghost use Rattle.std.specs.Prelude.{◌≡◌, ℕ, ◌+◌, ◌≤◌, ◌↔◌, [], ◌∷◌, ◌++◌, IsTrue, IfOk, MatchOption, length};
+ghost use Rattle.sa_cli.specs.Straight.{IsNotStraight, straight_workload, straight_program, straight_run, straight_events, straight_end, until};
 
-use sa_base::{ActNo, Item, Note, ProcNo, Record, SpaceNo, ThreadNo, Trace};
-use sa_text::read_number;
+use sa_base::{ActNo, End, Item, Note, ProcNo, Record, SpaceNo, ThreadNo, Trace};
+use sa_instr::{Instr, Program, SpaceDef, Workload};
 use std::alloc::{AllocError, Global};
 
-/// The number of instructions of the straight workload of this text, or `None` where it is none.
-pub fn straight_length(text: &[u8]) -> Option<u16>
-    ensures { MatchOption result (IsNotStraight text.now) (λ length. (fetch : ℕ) × IsStraight text.now fetch length) }
+/// The number of instructions of a straight workload, or `None` where it is none.
+pub fn straight_length(workload: &Workload) -> Option<u16>
+    ensures { MatchOption result (IsNotStraight workload.now) (λ length. (1 ≤ length) × ((fetch : ℕ) × (workload.now ≡ straight_workload fetch length))) }
 {
-    let (_fetch, rest) = read_numbered(text, b"workload 1\nprocessors 1\nfetch ", 1000)?;
-    let (length, rest) = read_numbered(rest, b"spaces 1\nspace 0 0 0 0 1\nprogram ", 4096)?;
-    if is_body(rest, length) {
-        Some(length)
+    let [space] = workload.spaces() else {
+        return None;
+    };
+    let [program] = space.programs() else {
+        return None;
+    };
+    if is_plain_machine(workload) && is_plain_space(space) && only_computes(program) {
+        Some(program.len())
     } else {
         None
     }
 }
 
-/// Reads a number from 1 to `most` that stands behind the head and ends its line, and what follows.
-fn read_numbered<'a>(text: &'a [u8], head: &[u8], most: u16) -> Option<(u16, &'a [u8])>
-    ensures { MatchOption result
-        ((n : ℕ) (rest : List ℕ) → 1 ≤ n → n ≤ most → text.now ≢ numbered head.now n rest)
-        (λ found. (1 ≤ found.0) × (found.0 ≤ most) × (text.now ≡ numbered head.now found.0 found.1.now)) }
+/// Whether there is one processor, and there are no evictions, no turns and no slice.
+fn is_plain_machine(workload: &Workload) -> bool
+    ensures { IsTrue result ↔ ((workload.now.processors ≡ 1) × (workload.now.evictions ≡ []) × (workload.now.turns ≡ []) × (workload.now.slice ≡ 0)) }
 {
-    let text = behind(text, head)?;
-    let (line, rest) = split_line(text)?;
-    let number = read_number(line)?;
-    if number < 1 || number > u64::from(most) {
-        return None;
-    }
-    Some((number as u16, rest))
+    workload.processors() == 1
+        && workload.evictions().is_empty()
+        && workload.turns().is_empty()
+        && workload.slice() == 0
 }
 
-/// What stands behind the head, where the text begins with it.
-fn behind<'a>(text: &'a [u8], head: &[u8]) -> Option<&'a [u8]>
-    ensures { MatchOption result
-        ((rest : List ℕ) → text.now ≢ head.now ++ rest)
-        (λ rest. text.now ≡ head.now ++ rest.now) }
+/// Whether the space has priority 0 and patience 1 and declares nothing but programs.
+fn is_plain_space(space: &SpaceDef) -> bool
+    ensures { IsTrue result ↔ ((space.now.priority ≡ 0) × (space.now.mutexes ≡ 0) × (space.now.sems ≡ []) × (space.now.cells ≡ 0)
+        × (space.now.absent ≡ []) × (space.now.patience ≡ 1)) }
 {
-    text.strip_prefix(head)
+    space.priority() == 0
+        && space.mutexes() == 0
+        && space.sems().is_empty()
+        && space.cells() == 0
+        && space.absent().is_empty()
+        && space.patience() == 1
 }
 
-/// The bytes before the first line feed, and those behind it.
-fn split_line(text: &[u8]) -> Option<(&[u8], &[u8])>
-    ensures { MatchOption result
-        ((line rest : List ℕ) → text.now ≢ line ++ 10 ∷ rest)
-        (λ found. LacksLineFeed found.0.now × (text.now ≡ found.0.now ++ 10 ∷ found.1.now)) }
+/// Whether each instruction but the last computes.
+fn only_computes(program: &Program) -> bool
+    ensures { IsTrue result ↔ (program.now ≡ straight_program (length program.now)) }
 {
-    for (i, byte) in text.iter().enumerate() {
-        if *byte == b'\n' {
-            return Some((&text[..i], &text[i + 1..]));
+    for pc in 0..program.len() - 1 {
+        if program.at(pc) != Instr::Compute {
+            return false;
         }
     }
-    None
+    true
 }
 
-/// Whether the text is that of so many instructions, and the end.
-fn is_body(text: &[u8], length: u16) -> bool
-    requires { 1 ≤ length }
-    ensures { IsTrue result ↔ (text.now ≡ straight_body length) }
-{
-    match after_computes(text, length - 1) {
-        Some(rest) => rest == b"end\nclose\n".as_slice(),
-        None => false,
-    }
-}
-
-/// What follows so many lines `compute`.
-fn after_computes(text: &[u8], count: u16) -> Option<&[u8]>
-    ensures { MatchOption result
-        ((behind : List ℕ) → text.now ≢ times count (codes "compute\n") ++ behind)
-        (λ rest. text.now ≡ times count (codes "compute\n") ++ rest.now) }
-{
-    let mut rest = text;
-    for _ in 0..count {
-        rest = behind(rest, b"compute\n")?;
-    }
-    Some(rest)
+/// The run of a machine, with its end and the number of its last event.
+#[derive(Debug, Drop)]
+pub struct Run {
+    pub trace: Trace,
+    pub end: End,
+    pub events: u64,
 }
 
 /// The run of a straight workload of so many instructions, in the form of the finished program.
-pub fn run_straight(alloc: Global, length: u16) -> Result<Trace, AllocError>
-    ensures { IfOk result (λ trace. trace.items ≡ straight_run length) }
+pub fn run_straight(alloc: Global, length: u16, budget: u64) -> Result<Run, AllocError>
+    ensures trace { IfOk result (λ run. run.trace.items ≡ straight_run budget length) }
+    ensures end { IfOk result (λ run. run.end ≡ straight_end budget length) }
+    ensures events { IfOk result (λ run. run.events ≡ straight_events budget length) }
 {
     let mut trace = Trace::new(alloc);
     trace.reserve(START_ITEMS + usize::from(length))?;
-    start(&mut trace);
+    add_all(&mut trace, budget, &START);
     for place in 0..length {
         let event = FIRST_INSTRUCTION + u64::from(place);
-        trace.add(item(event, Record::Ins(SPACE, THREAD, place)));
+        add_until(
+            &mut trace,
+            budget,
+            item(event, Record::Ins(SPACE, THREAD, place)),
+        );
     }
-    Ok(trace)
+    let events = 4 + u64::from(length);
+    Ok(Run {
+        trace,
+        end: if events <= budget {
+            End::AllDone
+        } else {
+            End::Budget
+        },
+        events: events.min(budget),
+    })
 }
 
 /// The event of the first instruction.
@@ -110,6 +109,55 @@ const THREAD: ThreadNo = ThreadNo(0);
 
 const ACTIVATION: ActNo = ActNo(0);
 
+/// What comes before the first instruction.
+const START: [Item; START_ITEMS] = [
+    Item {
+        event: 0,
+        proc: PROCESSOR,
+        what: Record::Want(SPACE, 1),
+    },
+    Item {
+        event: 0,
+        proc: PROCESSOR,
+        what: Record::Aim(PROCESSOR, Some(SPACE)),
+    },
+    Item {
+        event: 0,
+        proc: PROCESSOR,
+        what: Record::Line(PROCESSOR),
+    },
+    Item {
+        event: 1,
+        proc: PROCESSOR,
+        what: Record::Move(None, Some(SPACE)),
+    },
+    Item {
+        event: 1,
+        proc: PROCESSOR,
+        what: Record::Up(SPACE, ACTIVATION),
+    },
+    Item {
+        event: 1,
+        proc: PROCESSOR,
+        what: Record::Told(Note::Add(PROCESSOR)),
+    },
+    Item {
+        event: 2,
+        proc: PROCESSOR,
+        what: Record::Take(SPACE, PROCESSOR, None),
+    },
+    Item {
+        event: 3,
+        proc: PROCESSOR,
+        what: Record::Run(SPACE, THREAD),
+    },
+    Item {
+        event: 4,
+        proc: PROCESSOR,
+        what: Record::Free(SPACE, PROCESSOR, Some(THREAD)),
+    },
+];
+
 fn item(event: u64, what: Record) -> Item
     ensures { result ≡ record { event = event; proc = PROCESSOR; what = what } }
 {
@@ -120,19 +168,24 @@ fn item(event: u64, what: Record) -> Item
     }
 }
 
-/// The opening, the first upcall, and the thread taken from the ready list.
-fn start(trace: &mut Trace)
-    requires { START_ITEMS ≤ trace.old.spare }
-    ensures items { trace.new.items ≡ trace.old.items ++ opening ++ upcall ++ first_run }
-    ensures spare { trace.new.spare + START_ITEMS ≡ trace.old.spare }
+/// Adds the item where its event is within the budget.
+fn add_until(trace: &mut Trace, budget: u64, item: Item)
+    requires { 1 ≤ trace.old.spare }
+    ensures items { trace.new.items ≡ trace.old.items ++ until budget (item ∷ []) }
+    ensures spare { trace.old.spare ≤ trace.new.spare + 1 }
 {
-    trace.add(item(0, Record::Want(SPACE, 1)));
-    trace.add(item(0, Record::Aim(PROCESSOR, Some(SPACE))));
-    trace.add(item(0, Record::Line(PROCESSOR)));
-    trace.add(item(1, Record::Move(None, Some(SPACE))));
-    trace.add(item(1, Record::Up(SPACE, ACTIVATION)));
-    trace.add(item(1, Record::Told(Note::Add(PROCESSOR))));
-    trace.add(item(2, Record::Take(SPACE, PROCESSOR, None)));
-    trace.add(item(3, Record::Run(SPACE, THREAD)));
-    trace.add(item(4, Record::Free(SPACE, PROCESSOR, Some(THREAD))));
+    if item.event <= budget {
+        trace.add(item);
+    }
+}
+
+/// Adds the items whose events are within the budget.
+fn add_all(trace: &mut Trace, budget: u64, items: &[Item])
+    requires { length items.now ≤ trace.old.spare }
+    ensures items { trace.new.items ≡ trace.old.items ++ until budget items.now }
+    ensures spare { trace.old.spare ≤ trace.new.spare + length items.now }
+{
+    for item in items {
+        add_until(trace, budget, *item);
+    }
 }

@@ -4,7 +4,9 @@ use sa_io::{MemSink, MemSource};
 use std::alloc::{AllocError, Global};
 use std::test::Fail;
 
-const NOT_BUILT: Status = Status::BadWorkload(Bad { line: 1, why: 10 });
+fn bad(line: u64, why: u8) -> Status {
+    Status::BadWorkload(Bad { line, why })
+}
 
 const START: &str = "0 0 want 0 1
 0 0 aim 0 0
@@ -90,26 +92,46 @@ fn straight_workloads_run(rt: HostRuntime) -> Result<(), Fail> {
     Ok(())
 }
 
+// A text that would read on, longer than the limit: programs of 4,096 instructions.
+fn long_workload(alloc: Global) -> Result<String, AllocError> {
+    let head = "workload 1\nprocessors 1\nfetch 10\nspaces 1\nspace 0 0 0 0 256\n";
+    let mut text = String::from_str(alloc, head)?;
+    for _ in 0..33 {
+        text.push_str("program 4096\n")?;
+        for _ in 1..4096 {
+            text.push_str("compute\n")?;
+        }
+        text.push_str("end\n")?;
+    }
+    Ok(text)
+}
+
 #[test]
 fn other_inputs_are_refused(rt: HostRuntime) -> Result<(), Fail> {
     let alloc = rt.alloc();
-    let long = vec![in alloc; b'a'; 1_048_577]?;
+    let letters = vec![in alloc; b'a'; 1_048_577]?;
+    let feeds = vec![in alloc; b'\n'; 1_048_577]?;
+    let long = long_workload(alloc)?;
+    let long_line = long.as_bytes()[..1_048_576]
+        .iter()
+        .filter(|byte| **byte == b'\n')
+        .count() as u64
+        + 1;
     let behind = format!(in alloc; "{}close\n", workload(alloc, 10, 1)?)?;
-    let no_fetch = workload(alloc, 0, 1)?;
-    let long_fetch = workload(alloc, 1001, 1)?;
-    let long_program = workload(alloc, 10, 4097)?;
-    let inputs: [&[u8]; 9] = [
-        b"",
-        b"workload 1\n",
-        &long,
-        behind.as_bytes(),
-        no_fetch.as_bytes(),
-        long_fetch.as_bytes(),
-        long_program.as_bytes(),
-        b"workload 1\nprocessors 1\nfetch 010\nspaces 1\nspace 0 0 0 0 1\nprogram 1\nend\nclose\n",
-        b"workload 1\nprocessors 1\nfetch 10\nspaces 1\nspace 0 0 0 0 1\nprogram 2\nend\nclose\n",
+    let cases: [(&[u8], Status); 8] = [
+        (b"", bad(1, 9)),
+        (b"workload 2\n", bad(2, 9)),
+        (b"workload 1\nprocessors 04\n", bad(2, 3)),
+        (&letters, bad(1, 8)),
+        (&feeds, bad(1_048_577, 8)),
+        (long.as_bytes(), bad(long_line, 8)),
+        (behind.as_bytes(), bad(9, 2)),
+        (
+            b"workload 1\nprocessors 1\nfetch 10\nspaces 1\nspace 0 0 0 0 1\nprogram 2\nio 5\nend\nclose\n",
+            bad(1, 10),
+        ),
     ];
-    for input in inputs {
+    for (input, status) in cases {
         let (outcome, sink) = answer(
             alloc,
             Case {
@@ -119,7 +141,7 @@ fn other_inputs_are_refused(rt: HostRuntime) -> Result<(), Fail> {
                 failing_writes: &[],
             },
         )?;
-        assert_eq!(rt; outcome.status, NOT_BUILT, "of {} bytes", input.len());
+        assert_eq!(rt; outcome.status, status, "of {} bytes", input.len());
         assert_eq!(rt; sink.taken().len(), 0);
     }
     Ok(())
@@ -130,15 +152,26 @@ fn words_and_faults_decide(rt: HostRuntime) -> Result<(), Fail> {
     let alloc = rt.alloc();
     let input = workload(alloc, 10, 4096)?;
     let whole = trace(alloc, 4096)?;
-    let cases: [(&[&str], &[u64], &[u64], Status, usize); 8] = [
+    let cases: [(&[&str], &[u64], &[u64], Status, usize); 13] = [
         (&[], &[], &[], Status::Usage, 0),
         (&["run", "x"], &[], &[], Status::Usage, 0),
         (&["run", "--help"], &[], &[], Status::Usage, 0),
+        (&["run", "--budget"], &[], &[], Status::Usage, 0),
+        (&["run", "--budget", "0"], &[], &[], Status::Usage, 0),
+        (&["run", "--budget", "05"], &[], &[], Status::Usage, 0),
+        (&["run", "--budget", "1000001"], &[], &[], Status::Usage, 0),
         (&["Run"], &[1], &[1], Status::Usage, 0),
         (&["run"], &[1], &[], Status::ReadFault, 0),
         (&["run"], &[3], &[1], Status::ReadFault, 0),
         (&["run"], &[], &[1], Status::WriteFault, 0),
         (&["run"], &[], &[2], Status::WriteFault, 4096),
+        (
+            &["run", "--budget", "1000"],
+            &[],
+            &[2],
+            Status::WriteFault,
+            4096,
+        ),
     ];
     for (words, failing_reads, failing_writes, status, taken) in cases {
         let (outcome, sink) = answer(
@@ -150,8 +183,40 @@ fn words_and_faults_decide(rt: HostRuntime) -> Result<(), Fail> {
                 failing_writes,
             },
         )?;
-        assert_eq!(rt; outcome.status, status);
+        assert_eq!(rt; outcome.status, status, "of {words:?}");
         assert_eq!(rt; Some(sink.taken()), whole.as_bytes().get(..taken));
+    }
+    Ok(())
+}
+
+#[test]
+fn a_budget_ends_the_run(rt: HostRuntime) -> Result<(), Fail> {
+    let alloc = rt.alloc();
+    let input = workload(alloc, 10, 1)?;
+    let last = "end budget 4 0 0 1 0 0 0 0 0 0 1 1 1 1 1 1 1 1 0 0 0 0 0 0\n";
+    let four = format!(in alloc; "{START}{last}")?;
+    let five = trace(alloc, 1)?;
+    let cases: [(&[&str], Status, &str); 3] = [
+        (&["run", "--budget", "4"], Status::Budget, four.as_str()),
+        (&["run", "--budget", "5"], Status::AllDone, five.as_str()),
+        (
+            &["run", "--budget", "5", "--budget", "5"],
+            Status::Usage,
+            "",
+        ),
+    ];
+    for (words, status, text) in cases {
+        let (outcome, sink) = answer(
+            alloc,
+            Case {
+                words,
+                input: input.as_bytes(),
+                failing_reads: &[],
+                failing_writes: &[],
+            },
+        )?;
+        assert_eq!(rt; outcome.status, status, "of {words:?}");
+        assert_eq!(rt; sink.taken(), text.as_bytes());
     }
     Ok(())
 }
@@ -161,7 +226,7 @@ fn each_status_has_its_code(rt: HostRuntime) {
     let statuses = [
         (Status::AllDone, 0),
         (Status::Usage, 1),
-        (NOT_BUILT, 2),
+        (bad(7, 9), 2),
         (Status::Stuck, 3),
         (Status::Budget, 4),
         (Status::ReadFault, 5),

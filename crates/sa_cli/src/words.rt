@@ -1,6 +1,14 @@
-ghost use Rattle.std.specs.Prelude.{◌≡◌, ◌↔◌, [], ◌∷◌, map, codes, string_bytes, IsTrue};
+ghost use Rattle.std.specs.Prelude.{◌≡◌, ◌≢◌, ◌↔◌, IsTrue, ℕ, ◌≤◌, List, ◌∷◌, map, codes, decimal, string_bytes, MatchOption};
+ghost use Rattle.sa_cli.specs.Words.{IsRun};
 
+use sa_text::read_number;
 use std::marker::Model;
+
+/// The budget of events of a run whose words name none.
+const DEFAULT_BUDGET: u64 = 100_000;
+
+/// The greatest budget.
+const MAX_BUDGET: u64 = 1_000_000;
 
 /// The words of a command line behind the program's name, in order. Contracts see the list of their bytes.
 #[derive(Debug, Drop)]
@@ -23,13 +31,37 @@ impl Words {
         Words { list }
     }
 
-    /// Whether there is one word, which is `run`.
-    pub(crate) fn is_run(&self) -> bool
-        ensures { IsTrue result ↔ (self.now ≡ codes "run" ∷ []) }
+    /// The budget of events of the run that the words ask for, or `None` where they are no command.
+    pub(crate) fn run_budget(&self) -> Option<u64>
+        ensures { MatchOption result ((budget : ℕ) → ¬ IsRun self.now budget) (IsRun self.now) }
     {
-        match self.list.as_slice() {
-            [word] => word.as_str() == "run",
-            _ => false,
-        }
+        budget_of(&self.list)
     }
+}
+
+fn budget_of(words: &[String]) -> Option<u64>
+    ensures { MatchOption result ((budget : ℕ) → ¬ IsRun (map string_bytes words.now) budget) (IsRun (map string_bytes words.now)) }
+{
+    match words {
+        [command] if is_word(command, "run") => Some(DEFAULT_BUDGET),
+        [command, option, value] if is_word(command, "run") && is_word(option, "--budget") => {
+            read_budget(value.as_bytes())
+        }
+        _ => None,
+    }
+}
+
+fn is_word(word: &String, text: &str) -> bool
+    ensures { IsTrue result ↔ (string_bytes word.now ≡ text.now) }
+{
+    word.as_str() == text
+}
+
+/// A number from 1 to the greatest budget.
+fn read_budget(word: &[u8]) -> Option<u64>
+    ensures { MatchOption result
+        ((budget : ℕ) → 1 ≤ budget → budget ≤ MAX_BUDGET → word.now ≢ decimal budget)
+        (λ budget. (1 ≤ budget) × (budget ≤ MAX_BUDGET) × (word.now ≡ decimal budget)) }
+{
+    read_number(word).filter(|budget| (1..=MAX_BUDGET).contains(budget))
 }

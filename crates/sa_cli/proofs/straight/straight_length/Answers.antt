@@ -1,48 +1,28 @@
-use Rattle.std.proofs.Common.{◌≡◌, ◌<◌, ◌^◌, sym, ◌∙◌, ap, arith}
-use Rattle.std.specs.Prelude.{codes}
-use Rattle.std.proofs.lemmas.Bool.{false≢true}
-use Rattle.sa_cli.specs.Straight.{straight_text, straight_body, numbered}
-use Rattle.sa_cli.proofs.StraightTexts.{numbered-once}
+use Rattle.std.proofs.Common.{◌≡◌, List, [], ◌∷◌, sym, ◌∙◌, ap, arith}
+use Rattle.sa_instr.specs.declared.instr.Instr.{Instr}
+use Rattle.sa_instr.specs.Space.{SpaceView}
+use Rattle.sa_cli.specs.Straight.{straight_program, straight_space, straight_workload}
+use Rattle.sa_cli.proofs.StraightWorkloads.{list-of-one, some-instruction, space-is, workload-is}
 use Rattle.sa_cli.proofs.straight.straight_length.Goals as goal
 
-pub returns-in_err-_fetch : goal.returns-in_err-_fetch
-unfolding straight_text
-returns-in_err-_fetch c =
-    rw c.from_residual.ensures (λ fetch length s. c.in_err-_fetch.ensures fetch _ s.fetch_range.0 s.fetch_range.1 s.text)
-
-pub returns-in_err-length : goal.returns-in_err-length
-unfolding straight_text
-returns-in_err-length c =
-    rw c.from_residual-in_err-length.ensures
-    (λ fetch length s.
-    let small : c.in_ok-_fetch._fetch < 2 ^ 64 = omega (arith, c.in_ok-_fetch.ensures.1) in
-    let fits : fetch < 2 ^ 64 = omega (arith, s.fetch_range.1) in
-    let on = numbered-once c.args.text.now (codes "workload 1\nprocessors 1\nfetch ") _ _ _ fetch small fits c.in_ok-_fetch.ensures.2 s.text in
-    c.in_err-length.ensures length _ s.length_range.0 s.length_range.1 on.1)
-
-pub returns-then-is_body : goal.returns-then-is_body
-unfolding straight_text
-returns-then-is_body c = (
-  c.in_ok-_fetch._fetch,
-  record {
-    fetch_range = (c.in_ok-_fetch.ensures.0, c.in_ok-_fetch.ensures.1);
-    length_range = (c.in_ok-length.ensures.0, c.in_ok-length.ensures.1);
-    text =
-        c.in_ok-_fetch.ensures.2
-        ∙ ap (λ v. numbered (codes "workload 1\nprocessors 1\nfetch ") c.in_ok-_fetch._fetch v)
-        (c.in_ok-length.ensures.2
-        ∙ ap (λ v. numbered (codes "spaces 1\nspace 0 0 0 0 1\nprogram ") c.in_ok-length.length v) (c.is_body.ensures.0 c.if-is_body.true));
-  },
-)
-
-pub returns-else-is_body : goal.returns-else-is_body
-unfolding straight_text
-returns-else-is_body c = λ fetch length s.
-    let small : c.in_ok-_fetch._fetch < 2 ^ 64 = omega (arith, c.in_ok-_fetch.ensures.1) in
-    let fits : fetch < 2 ^ 64 = omega (arith, s.fetch_range.1) in
-    let on = numbered-once c.args.text.now (codes "workload 1\nprocessors 1\nfetch ") _ _ _ fetch small fits c.in_ok-_fetch.ensures.2 s.text in
-    let short : c.in_ok-length.length < 2 ^ 64 = omega (arith, c.in_ok-length.ensures.1) in
-    let holds : length < 2 ^ 64 = omega (arith, s.length_range.1) in
-    let inner = numbered-once c.in_ok-_fetch.rest.now (codes "spaces 1\nspace 0 0 0 0 1\nprogram ") _ _ _ length short holds c.in_ok-length.ensures.2 on.1 in
-    let body : c.in_ok-length.rest.now ≡ straight_body c.in_ok-length.length = inner.1 ∙ ap straight_body (sym inner.0) in
-    absurd (false≢true (sym c.if-is_body.false ∙ c.is_body.ensures.1 body))
+pub returns-then-only_computes : goal.returns-then-only_computes
+returns-then-only_computes c =
+    let machine = c.is_plain_machine.ensures.0 c.if-is_plain_machine.true in
+    let plain = c.is_plain_space.ensures.0 c.if-is_plain_space.true in
+    let len : c.len.result ≡ _ = c.len.ensures.len in
+    let program : c.program-item.result ≡ straight_program c.len.result =
+    c.only_computes.ensures.0 c.if-only_computes.true ∙ ap straight_program (sym len) in
+    let programs : c.space-item.result.programs ≡ straight_program c.len.result ∷ [] =
+    sym c.programs.ensures.value
+    ∙ list-of-one c.programs.result.now c.program-item.result (omega arith) (omega arith) c.program-item.is
+    ∙ ap (λ (p : List Instr). p ∷ []) program in
+    let space : c.space-item.result ≡ straight_space c.len.result =
+    space-is c.space-item.result c.len.result plain.0 plain.1 plain.2 plain.3 plain.4 plain.5 programs in
+    let spaces : c.args.workload.now.spaces ≡ straight_space c.len.result ∷ [] =
+    sym c.spaces.ensures.value
+    ∙ list-of-one c.spaces.result.now c.space-item.result (omega arith) (omega arith) c.space-item.is
+    ∙ ap (λ (s : SpaceView). s ∷ []) space in
+    (
+      some-instruction c.program-item.result c.len.result len program,
+      (c.args.workload.now.fetch, workload-is c.args.workload.now c.len.result machine.0 spaces machine.1 machine.2 machine.3),
+    )
