@@ -25,3 +25,4 @@ pub mod Takes
 pub mod Visible
 pub mod Judge
 pub mod TextOrBad
+pub mod Completing

@@ -142,7 +142,7 @@ reached_after_spaces versions m spaces im are = pick (cases_eq (length spaces) m
         (im, are, omega (arith, are.few))
 
 -- a whole draft is one space more
-spaces_more : (m : Machine) (spaces : List SpaceView) (d : Draft) → AreSpaces m spaces → IsDraft m spaces d → length d.sems ≡ d.sem_count
+pub spaces_more : (m : Machine) (spaces : List SpaceView) (d : Draft) → AreSpaces m spaces → IsDraft m spaces d → length d.sems ≡ d.sem_count
     → length d.programs ≡ d.program_count → AreSpaces m (spaces ++ space_of_draft d ∷ [])
 spaces_more m spaces d are is full all = record {
   few = omega (arith, long, is.room);

@@ -1,5 +1,5 @@
 // What holds of workload texts, whatever the bytes: each contract is a law, and the bodies do nothing.
-ghost use Rattle.sa_workload.specs.Laws.{BadOnce, TextsAreNotBad, TextsDiffer};
+ghost use Rattle.sa_workload.specs.Laws.{BadOnce, TextOrBad, TextsAreNotBad, TextsDiffer};
 
 /// Two workloads never share a text.
 pub fn texts_differ()
@@ -14,4 +14,9 @@ pub fn texts_are_not_bad()
 /// Bytes are bad in one line at most, with one cause.
 pub fn bad_once()
     ensures { BadOnce }
+{}
+
+/// Bytes are the text of some workload, or bad.
+pub fn text_or_bad()
+    ensures { TextOrBad }
 {}
