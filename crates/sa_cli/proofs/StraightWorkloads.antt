@@ -61,6 +61,7 @@ first_length w = of_space w.spaces
     of_program : List (List Instr) → ℕ
     of_program [] = 0
     of_program (p ∷ ps) = length p
+
     of_space : List SpaceView → ℕ
     of_space [] = 0
     of_space (s ∷ ss) = of_program s.programs

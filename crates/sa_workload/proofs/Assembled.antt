@@ -1,20 +1,19 @@
 -- A reader that stops has found what is bad in the text, and one that reads all lines has read a text.
-use Rattle.std.proofs.Common.{◌≡◌, ◌≢◌, ◌⊎◌, ℕ, ◌+◌, ◌-◌, ◌≤◌, true, false, List, [], ◌∷◌, ◌++◌, length, take, Option, Some, None, MatchOption, Result, Ok, Err, MatchResult, slice_get, subst, sym, ◌∙◌, ap, refl, inl, inr, arith}
+use Rattle.std.proofs.Common.{◌≡◌, ◌≢◌, ℕ, ◌+◌, ◌-◌, true, List, [], ◌∷◌, ◌++◌, length, take, Option, Some, None, MatchOption, Result, Ok, Err, MatchResult, slice_get, subst, sym, ◌∙◌, ap, refl, inl, inr, arith}
 use Rattle.std.proofs.Math.Seq.{take-length}
-use Rattle.sa_instr.specs.Workload.{WorkloadView, IsWorkload}
+use Rattle.sa_instr.specs.Workload.{WorkloadView}
 use Rattle.sa_text.specs.LineText.{LineText, line_texts}
 use Rattle.sa_text.specs.Pieces.{pieces_of}
 use Rattle.sa_text.proofs.PieceLemmas.{pieces_of-are_pieces}
-use Rattle.sa_base.specs.declared.refusal.Bad.{Bad}
 use Rattle.sa_base.specs.declared.refusal.Unread.{Unread}
 use Rattle.sa_base.specs.declared.refusal.Unread.TheVariants.{Bad as refused, OutOfMemory as memory}
 use Rattle.sa_workload.specs.Answer.{IfBad}
 use Rattle.sa_workload.proofs.OneBad.{text-not_bad, one-bad, texts_differ}
-use Rattle.sa_workload.specs.Text.{text_of, workload_lines, version_of, IsText, IsText1}
+use Rattle.sa_workload.specs.Text.{workload_lines, IsText, IsText1}
 use Rattle.sa_workload.specs.Bad.{Grammar, AnyVersion, Version1, Begins, LineCause, IsBad, BadAt, BadAt1, words_of}
 use Rattle.sa_workload.specs.Position.{Position, Closed, IsReached, shown}
 use Rattle.sa_workload.specs.Reading.{IsBehind, IsStopped}
-use Rattle.sa_workload.specs.Refused.{IsLineBad, IsRefused}
+use Rattle.sa_workload.specs.Refused.{IsLineBad}
 use Rattle.sa_workload.proofs.Causes.{Setting, IsFound, found}
 use Rattle.sa_workload.proofs.Completion.{completes_any, completes_1}
 use Rattle.sa_workload.proofs.Following.{right_word_any, right_word_1}
@@ -39,9 +38,10 @@ bad_line versions g s p l why h (inr (printed, inr b)) = pick (found versions g 
     some e = absurd (omega (arith, (pieces_of-are_pieces l.bytes).some, ap length e))
 
     pick : IsFound versions g p (pieces_of l.bytes) why → IsBadLine versions g (shown p) l why
-    pick (inl f) =
-        ((λ _. fault-refuses versions s.few g s.accepts p (pieces_of l.bytes) why h f),
-        inr (printed, inr (b.0, fault-is_cause g versions (shown p) (pieces_of l.bytes) why f)))
+    pick (inl f) = (
+      (λ _. fault-refuses versions s.few g s.accepts p (pieces_of l.bytes) why h f),
+      inr (printed, inr (b.0, fault-is_cause g versions (shown p) (pieces_of l.bytes) why f)),
+    )
     pick (inr c) = ((λ _. not_end_none versions s.few g s.accepts p (pieces_of l.bytes) h c.0), inr (printed, inr (b.0, c.1)))
 
 map_option : {X : Type 0} (o : Option X) (A B : Type 0) (P Q : X → Type 0) → (A → B) → ((x : X) → P x → Q x) → MatchOption o A P → MatchOption o B Q

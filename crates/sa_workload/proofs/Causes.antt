@@ -1,5 +1,5 @@
 -- What is refused at a position is refused of texts: the cause at the position is the first cause that applies to the line.
-use Rattle.std.proofs.Common.{◌≡◌, ◌≢◌, ◌⊎◌, ℕ, ◌+◌, ◌-◌, ◌^◌, ◌<◌, ◌≤◌, ◌==◌, ◌&&◌, Bool, true, false, List, [], ◌∷◌, ◌++◌, length, All, Contains, IsTrue, Option, Some, None, codes, decimal, ap₂, subst, sym, ◌∙◌, ap, refl, inl, inr, arith, eqb, leb, if◌then◌else◌}
+use Rattle.std.proofs.Common.{◌≡◌, ◌≢◌, ◌⊎◌, ℕ, ◌+◌, ◌-◌, ◌^◌, ◌<◌, ◌≤◌, ◌==◌, Bool, true, List, [], ◌∷◌, ◌++◌, length, All, Contains, IsTrue, Some, codes, decimal, ap₂, subst, sym, ◌∙◌, ap, refl, inl, inr, arith, eqb, if◌then◌else◌}
 use Rattle.std.specs.List.{list_all}
 use Rattle.std.proofs.lemmas.Bool.{eqb-true, ne_eqb, cases_eq, cond-false}
 use Rattle.std.proofs.lemmas.List.{length_push, get_or_push}
@@ -12,10 +12,10 @@ use Rattle.sa_instr.specs.declared.workload.Evict.{Evict}
 use Rattle.sa_instr.specs.Space.{SpaceView, IsSpace}
 use Rattle.sa_instr.specs.Workload.{IsEviction, IsBefore}
 use Rattle.sa_workload.specs.Text.{instr_line, absent_line, evict_line}
-use Rattle.sa_workload.specs.Bad.{Grammar, IsRightWord, IsTooMany, IsOutOfOrder, IsInOrder, IsFirstWrong, AreRight, numbers_of, list_lt, first_word, last_line, count_of_word, spaces_in, Field, Register, Number, within, declared, fields_behind, patience_field, version_in, needs_patience, mutexes_in, sems_in, cells_in, programs_in, length_in, processors_in, instr_words, WordCause}
+use Rattle.sa_workload.specs.Bad.{Grammar, IsRightWord, IsTooMany, IsOutOfOrder, IsInOrder, IsFirstWrong, AreRight, numbers_of, list_lt, first_word, last_line, count_of_word, spaces_in, Field, Register, within, declared, fields_behind, patience_field, needs_patience, mutexes_in, sems_in, cells_in, programs_in, length_in, processors_in, instr_words, WordCause}
 use Rattle.sa_workload.specs.Position.{Machine, Draft, Position, AtVersion, AtProcessors, AtFetch, AtSlice, AtSpaces, AtSpace, AtSem, AtAbsent, AtProgram, AtInstr, AtEvict, AtTurn, Closed, IsReached, shown}
 use Rattle.sa_workload.specs.Steps.{expected}
-use Rattle.sa_workload.specs.Refused.{last_of, IsPageMisplaced, IsPagePlaced, IsAbsentRefused, IsAbsentOrProgramRefused, IsEvictMisplaced, IsEvictPlaced, IsEvictRefused, IsRefusedBehindEvict, IsEvictOrTurnRefused, evict_fields, target, is_last_impatient, patience_fields, space_fields, instr_fields, IsRefusedBehind, IsLineRefused, IsInstrRefused, IsRefusedBehindTurn, IsTurnOrCloseRefused, IsRefused}
+use Rattle.sa_workload.specs.Refused.{last_of, IsPageMisplaced, IsPagePlaced, IsAbsentRefused, IsAbsentOrProgramRefused, IsEvictMisplaced, IsEvictPlaced, IsEvictRefused, IsEvictOrTurnRefused, evict_fields, target, is_last_impatient, patience_fields, space_fields, instr_fields, IsRefusedBehind, IsLineRefused, IsInstrRefused, IsRefusedBehindTurn, IsTurnOrCloseRefused, IsRefused}
 use Rattle.sa_workload.proofs.Judge.{Expects}
 use Rattle.sa_workload.proofs.NoCause.{WordFault, FieldFault}
 use Rattle.sa_workload.proofs.Readings.{reads, last_line-at_absent, last_line-at_evict, spaces-at_evict, processors-at_evict, count_evict-at_evict, count_turn-at_evict, version-at_slice, version-at_space, needs-at_space, mutexes-at_instr, sems-at_instr, cells-at_instr, programs-at_instr, length-at_instr, processors-at_turn, count_turn-at_turn}
@@ -114,10 +114,43 @@ patience_same versions m spaces h three =
 instr_same : (versions : ℕ) (m : Machine) (spaces : List SpaceView) (d : Draft) (len : ℕ) (instrs : List Instr) (word : List ℕ)
     → IsReached versions (AtInstr m spaces d len instrs) → Contains instr_words word
     → fields_behind versions (shown (AtInstr m spaces d len instrs)) word ≡ instr_fields d len word
-instr_same versions m spaces d len instrs word h c = by_word instr_words word G
-    (refl, (refl, (refl, (refl, (ap (λ n. Register ∷ target n ∷ []) lens, (ap (λ n. Register ∷ declared n ∷ []) cells, (ap (λ n. Register ∷ declared n ∷ []) cells, (refl,
-    (ap (λ n. Register ∷ declared n ∷ []) programs, (refl, (ap (λ n. declared n ∷ []) mutexes, (ap (λ n. declared n ∷ []) mutexes,
-    (ap (λ n. declared n ∷ []) sems, (ap (λ n. declared n ∷ []) sems, (refl, (refl, (refl, record {}))))))))))))))))) c
+instr_same versions m spaces d len instrs word h c = by_word instr_words word G (
+  refl,
+  (
+    refl,
+    (
+      refl,
+      (
+        refl,
+        (
+          ap (λ n. Register ∷ target n ∷ []) lens,
+          (
+            ap (λ n. Register ∷ declared n ∷ []) cells,
+            (
+              ap (λ n. Register ∷ declared n ∷ []) cells,
+              (
+                refl,
+                (
+                  ap (λ n. Register ∷ declared n ∷ []) programs,
+                  (
+                    refl,
+                    (
+                      ap (λ n. declared n ∷ []) mutexes,
+                      (
+                        ap (λ n. declared n ∷ []) mutexes,
+                        (ap (λ n. declared n ∷ []) sems, (ap (λ n. declared n ∷ []) sems, (refl, (refl, (refl, record {}))))),
+                      ),
+                    ),
+                  ),
+                ),
+              ),
+            ),
+          ),
+        ),
+      ),
+    ),
+  ),
+) c
   where
     lines : List (List (List ℕ))
     lines = shown (AtInstr m spaces d len instrs)
@@ -170,14 +203,22 @@ instr_found versions g s m spaces d len instrs (word ∷ words) why h some (inr 
     (not_many instr_words (shown (AtInstr m spaces d len instrs)) word r.0 refl) (not_ordered instr_words word r.0 refl)
     (subst (λ fs. IsRefusedBehind fs words why) (sym (instr_same versions m spaces d len instrs word h r.0)) r.1))
 instr_found versions g s m spaces d len instrs (word ∷ words) why h some (inr (inr r)) =
-    inr (record {
-      machine = m; spaces = spaces; draft = d; len = len; instrs = instrs; is = refl;
-      last = eqb-true _ _ r.3;
-      other = λ e. r.2 (end_alone r.0 (sym r.1 ∙ e));
-    }, last_cause versions g (shown (AtInstr m spaces d len instrs)) word words why (s.expects (AtInstr m spaces d len instrs) word h known)
-    (not_many instr_words (shown (AtInstr m spaces d len instrs)) word known refl) (not_ordered instr_words word known refl)
-    (subst (λ fs. AreRight fs words) (sym (instr_same versions m spaces d len instrs word h known)) r.4)
-    (r.5 ∙ ap length (sym (instr_same versions m spaces d len instrs word h known))) r.6)
+    inr (
+      record {
+        machine = m;
+        spaces = spaces;
+        draft = d;
+        len = len;
+        instrs = instrs;
+        is = refl;
+        last = eqb-true _ _ r.3;
+        other = λ e. r.2 (end_alone r.0 (sym r.1 ∙ e));
+      },
+      last_cause versions g (shown (AtInstr m spaces d len instrs)) word words why (s.expects (AtInstr m spaces d len instrs) word h known)
+          (not_many instr_words (shown (AtInstr m spaces d len instrs)) word known refl) (not_ordered instr_words word known refl)
+          (subst (λ fs. AreRight fs words) (sym (instr_same versions m spaces d len instrs word h known)) r.4)
+          (r.5 ∙ ap length (sym (instr_same versions m spaces d len instrs word h known))) r.6,
+    )
   where
     known : Contains instr_words word
     known = subst (Contains instr_words) (ap first_word (sym r.1)) (instr_word r.0)
@@ -237,9 +278,13 @@ absent_fault : (versions : ℕ) (g : Grammar) → Setting versions g → (m : Ma
     → WordFault g versions (shown (AtAbsent m spaces d)) (codes "absent" ∷ words) why
 absent_fault versions g s m spaces d words why h r =
     subst (λ ws. WordFault g versions lines (codes "absent" ∷ ws) why) (sym r.words_are)
-    (inr (s.expects p (codes "absent") h (0, omega arith, refl),
-    inr (not_many (codes "absent" ∷ []) lines (codes "absent") (0, omega arith, refl) refl,
-    inr ((right_within 0 15 r.page (omega arith) r.range (omega arith), record {}), by_cause r.cause))))
+    (inr (
+      s.expects p (codes "absent") h (0, omega arith, refl),
+      inr (
+        not_many (codes "absent" ∷ []) lines (codes "absent") (0, omega arith, refl) refl,
+        inr ((right_within 0 15 r.page (omega arith) r.range (omega arith), record {}), by_cause r.cause),
+      ),
+    ))
   where
     p : Position
     p = AtAbsent m spaces d
@@ -301,8 +346,10 @@ absent_found versions g s m spaces d (word ∷ words) why h some (inl r) =
     wrong_word versions g s (AtAbsent m spaces d) word words why h (none_of_2 (codes "absent") (codes "program") word r.0 r.1) r.2
 absent_found versions g s m spaces d (word ∷ words) why h some (inr (inl (e, inl r))) =
     subst (λ w. WordFault g versions (shown (AtAbsent m spaces d)) (w ∷ words) why) (sym e)
-    (inr (s.expects (AtAbsent m spaces d) (codes "absent") h (0, omega arith, refl),
-    inr (not_many (codes "absent" ∷ []) (shown (AtAbsent m spaces d)) (codes "absent") (0, omega arith, refl) refl, inl r)))
+    (inr (
+      s.expects (AtAbsent m spaces d) (codes "absent") h (0, omega arith, refl),
+      inr (not_many (codes "absent" ∷ []) (shown (AtAbsent m spaces d)) (codes "absent") (0, omega arith, refl) refl, inl r),
+    ))
 absent_found versions g s m spaces d (word ∷ words) why h some (inr (inl (e, inr r))) =
     subst (λ w. WordFault g versions (shown (AtAbsent m spaces d)) (w ∷ words) why) (sym e) (absent_fault versions g s m spaces d words why h r)
 absent_found versions g s m spaces d (word ∷ words) why h some (inr (inr r)) =
@@ -344,10 +391,15 @@ evict_fault versions g s m spaces es words why h room f =
     refused r =
         subst (λ ws. FieldFault lines (evict_fields m.count) (codes "evict") ws why) (sym r.words_are)
         (inr (
-          (right_within 1 1000000 r.evict.event r.range.first r.range.last (omega arith),
-          (right_declared m.count r.evict.space.0 r.range.space (omega (arith, h.0.count.1)),
-          (right_within 0 15 r.evict.page (omega arith) r.range.page (omega arith), record {}))),
-          by_cause r.cause))
+          (
+            right_within 1 1000000 r.evict.event r.range.first r.range.last (omega arith),
+            (
+              right_declared m.count r.evict.space.0 r.range.space (omega (arith, h.0.count.1)),
+              (right_within 0 15 r.evict.page (omega arith) r.range.page (omega arith), record {}),
+            ),
+          ),
+          by_cause r.cause,
+        ))
       where
         line : List (List ℕ)
         line = codes "evict" ∷ decimal r.evict.event ∷ decimal r.evict.space.0 ∷ decimal r.evict.page ∷ r.others

@@ -1,14 +1,14 @@
 -- The fields of a line, cut one after another: what is right, what is refused, and words that are one too many.
-use Rattle.std.proofs.Common.{◌≡◌, ◌≢◌, ◌⊎◌, ℕ, ◌+◌, ◌^◌, ◌<◌, ◌≤◌, ◌==◌, ◌&&◌, nat_le, List, [], ◌∷◌, ◌++◌, length, codes, decimal, subst, sym, ◌∙◌, ap, refl, inl, inr, arith, rules, Bool, true, false, All, if◌then◌else◌}
-use Rattle.std.proofs.lemmas.Bool.{and_from, le-leb, lt-ltb, eq-eqb, eqb-true}
+use Rattle.std.proofs.Common.{◌≡◌, ◌≢◌, ◌⊎◌, ℕ, ◌+◌, ◌^◌, ◌<◌, ◌≤◌, ◌==◌, List, [], ◌∷◌, ◌++◌, length, codes, decimal, subst, sym, ◌∙◌, ap, refl, inl, inr, arith, rules, Bool, true, false, if◌then◌else◌}
+use Rattle.std.proofs.lemmas.Bool.{and_from, le-leb, eq-eqb, eqb-true}
 use Rattle.sa_base.specs.declared.number.ProcNo.{ProcNo}
 use Rattle.sa_instr.specs.declared.workload.Evict.{Evict}
 use Rattle.sa_instr.specs.Space.{SpaceView}
 use Rattle.sa_workload.specs.declared.cause.Refusal.{Refusal}
 use Rattle.sa_workload.specs.declared.cause.Refusal.TheVariants.{Because, OutOfMemory}
-use Rattle.sa_workload.specs.Bad.{Field, within, declared, IsRightFor, IsFirstWrong, AreRight}
+use Rattle.sa_workload.specs.Bad.{Field, within, IsRightFor, IsFirstWrong, AreRight}
 use Rattle.sa_workload.specs.Position.{Machine, Draft, draft_line}
-use Rattle.sa_workload.specs.Refused.{cause_number, IfBecause, target, IsAbsentRefused, IsAbsentOrProgramRefused, IsRefusedBehindEvict, IsRefusedBehindTurn, IsEvictOrTurnRefused, IsTurnOrCloseRefused, IsRefusedBehind, IsLineRefused, is_last_impatient, patience_fields, space_fields}
+use Rattle.sa_workload.specs.Refused.{cause_number, IfBecause, IsAbsentRefused, IsAbsentOrProgramRefused, IsRefusedBehindEvict, IsRefusedBehindTurn, IsEvictOrTurnRefused, IsTurnOrCloseRefused, IsRefusedBehind, IsLineRefused, is_last_impatient, space_fields}
 use Rattle.sa_workload.specs.Stage.{IsPatience, IsSpaceStart}
 
 -- the fields have their words, right, and these follow

@@ -1,14 +1,14 @@
 -- Bytes are bad in one line at most, with one cause; the text of a workload is not bad, and two workloads never share one.
-use Rattle.std.proofs.Common.{◌≡◌, ◌≢◌, ℕ, ◌+◌, ◌-◌, ◌<◌, ◌≤◌, ◌⊎◌, true, false, List, [], ◌∷◌, ◌++◌, length, get_or, take, drop, map, All, Option, Some, None, MatchOption, slice_get, arith, refl, sym, ap, ◌∙◌, subst, inl, inr, append_assoc, take-append-drop, length-take}
+use Rattle.std.proofs.Common.{◌≡◌, ◌≢◌, ℕ, ◌+◌, ◌-◌, ◌<◌, ◌≤◌, ◌⊎◌, true, List, [], ◌∷◌, ◌++◌, length, get_or, take, drop, map, All, Option, Some, None, MatchOption, slice_get, arith, refl, sym, ap, ◌∙◌, subst, inl, inr, append_assoc, take-append-drop, length-take}
 use Rattle.std.proofs.lemmas.Bool.{cases_lt}
-use Rattle.std.proofs.lemmas.List.{map-append, drop_more, take-take, get_or-take, length-take-le, drop-take}
+use Rattle.std.proofs.lemmas.List.{map-append, drop_more, take-take, get_or-take}
 use Rattle.std.proofs.lemmas.List.Elements.{All-map}
 use Rattle.std.proofs.lemmas.Option.{slice_get_past, slice_get_within, slice_get-get_or}
 use Rattle.sa_instr.specs.Workload.{WorkloadView, IsWorkload}
 use Rattle.sa_text.specs.LineText.{LineText, line_texts}
 use Rattle.sa_text.specs.Pieces.{pieces_of}
-use Rattle.sa_workload.specs.Text.{workload_lines, text_of, IsText}
-use Rattle.sa_workload.specs.Bad.{Grammar, Begins, WordCause, LineCause, words_of, IsBad}
+use Rattle.sa_workload.specs.Text.{workload_lines, text_of}
+use Rattle.sa_workload.specs.Bad.{Grammar, Begins, LineCause, words_of, IsBad}
 use Rattle.sa_workload.specs.Laws.{TextsDiffer}
 use Rattle.sa_workload.proofs.NextLine.{lines-injective}
 use Rattle.sa_workload.proofs.RightWord.{version_of-le}
@@ -59,11 +59,11 @@ bad_before g versions ls k j why cause a b below = pick (slice_get ls (k - 1)) r
         let split : take (j - 1) ls ≡ take (k - 1) ls ++ line ∷ drop (k - 1 + 1) (take (j - 1) ls) = split_at ls (k - 1) (j - 1) line e place in
         let inside : k - 1 < length ls = slice_get_within ls (k - 1) line e in
         let element : get_or (take (j - 1) ls) (k - 1) line ≡ line =
-            get_or-take (j - 1) ls (k - 1) line place ∙ cc (sym (slice_get-get_or ls (k - 1) line inside) ∙ e) in
+        get_or-take (j - 1) ls (k - 1) line place ∙ cc (sym (slice_get-get_or ls (k - 1) line inside) ∙ e) in
         let ended : line.ended ≡ true =
-            subst (λ (l : LineText). l.ended ≡ true) element (b.ended (k - 1) line (omega (arith, length-take (j - 1) ls))) in
+        subst (λ (l : LineText). l.ended ≡ true) element (b.ended (k - 1) line (omega (arith, length-take (j - 1) ls))) in
         let words : words_of (take (j - 1) ls) ≡ (words_of (take (k - 1) ls) ++ pieces_of line.bytes ∷ []) ++ words_of (drop (k - 1 + 1) (take (j - 1) ls)) =
-            ap words_of split ∙ words_split (take (k - 1) ls) line (drop (k - 1 + 1) (take (j - 1) ls)) in
+        ap words_of split ∙ words_split (take (k - 1) ls) line (drop (k - 1 + 1) (take (j - 1) ls)) in
         x.0 ended
         (begins_front g (words_of (take (k - 1) ls) ++ pieces_of line.bytes ∷ []) (words_of (drop (k - 1 + 1) (take (j - 1) ls)))
         (subst (λ (ws : List (List (List ℕ))). Begins g ws) words b.begins))
@@ -109,12 +109,14 @@ lines-not_bad g versions ls w k why accepted e ended a = pick (slice_get ls (k -
         let inside : k - 1 < length ls = slice_get_within ls (k - 1) line f in
         let element : get_or ls (k - 1) line ≡ line = cc (sym (slice_get-get_or ls (k - 1) line inside) ∙ f) in
         let whole : ls ≡ take (k - 1) ls ++ line ∷ drop (k - 1 + 1) ls =
-            sym (take-append-drop (k - 1) ls)
-            ∙ ap (λ (xs : List LineText). take (k - 1) ls ++ xs) (drop_more ls (k - 1) line inside ∙ ap (λ (l : LineText). l ∷ drop (k - 1 + 1) ls) element) in
+        sym (take-append-drop (k - 1) ls)
+        ∙ ap (λ (xs : List LineText). take (k - 1) ls ++ xs) (drop_more ls (k - 1) line inside ∙ ap (λ (l : LineText). l ∷ drop (k - 1 + 1) ls) element) in
         x.0 (subst (λ (l : LineText). l.ended ≡ true) element (ended (k - 1) line inside))
         (record {
-          workload = w; accepted = accepted; more = words_of (drop (k - 1 + 1) ls);
-          text = e ∙ ap words_of whole ∙ words_split (take (k - 1) ls) line (drop (k - 1 + 1) ls)
+          workload = w;
+          accepted = accepted;
+          more = words_of (drop (k - 1 + 1) ls);
+          text = e ∙ ap words_of whole ∙ words_split (take (k - 1) ls) line (drop (k - 1 + 1) ls);
         })
 
 ended_lines : (lines : List (List (List ℕ))) → All (λ (l : LineText). l.ended ≡ true) (map ended_line lines)

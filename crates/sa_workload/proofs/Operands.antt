@@ -1,5 +1,5 @@
 -- The instruction of a line: the fields behind its word, and the lines that are refused.
-use Rattle.std.proofs.Common.{◌≡◌, ◌≢◌, ◌⊎◌, ℕ, ◌+◌, ◌-◌, ◌^◌, ◌<◌, ◌≤◌, ◌==◌, List, [], ◌∷◌, ◌++◌, length, drop, Contains, codes, decimal, subst, sym, ◌∙◌, ap, refl, inl, inr, arith, Bool, true, false}
+use Rattle.std.proofs.Common.{◌≡◌, ◌≢◌, ℕ, ◌-◌, ◌^◌, ◌<◌, ◌≤◌, List, [], ◌∷◌, ◌++◌, drop, Contains, decimal, subst, sym, ◌∙◌, ap, refl, inl, inr, arith, Bool, true}
 use Rattle.std.proofs.lemmas.Bool.{lt-ltb}
 use Rattle.std.proofs.lemmas.Fmt.{decimal_digit}
 use Rattle.std.proofs.lemmas.List.{append-nil}
@@ -12,10 +12,10 @@ use Rattle.sa_workload.specs.declared.operations.Operation.TheVariants.{Compute,
 use Rattle.sa_workload.specs.declared.operations.RegisterOperation.{RegisterOperation}
 use Rattle.sa_workload.specs.declared.operations.RegisterOperation.TheVariants.{Set, Add, Sub, Jnz, Load, Store, Out, Fork, Join}
 use Rattle.sa_workload.specs.Text.{register, instr_line}
-use Rattle.sa_workload.specs.Bad.{Field, Register, declared, registers, instr_words, first_word, IsRightFor, IsFirstWrong}
+use Rattle.sa_workload.specs.Bad.{declared, registers, instr_words, first_word, IsRightFor, IsFirstWrong}
 use Rattle.sa_workload.specs.Position.{Draft}
-use Rattle.sa_workload.specs.Refused.{target, instr_fields, IsInstrRefused, IsRefusedBehind}
-use Rattle.sa_workload.specs.Operation.{word_of, register_word_of, operands_of, behind_register, IsAllowed, HasLimits, IsOperationRefused}
+use Rattle.sa_workload.specs.Refused.{target, instr_fields, IsInstrRefused}
+use Rattle.sa_workload.specs.Operation.{word_of, operands_of, behind_register, IsAllowed, HasLimits, IsOperationRefused}
 use Rattle.sa_workload.proofs.Cut.{AreRead, right_when_read, right_within, too_many}
 use Rattle.sa_workload.proofs.Words.{instr_word}
 

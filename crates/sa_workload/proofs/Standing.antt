@@ -1,9 +1,9 @@
 -- A reader of lines goes on, or stops: what it keeps, over the list of lines.
-use Rattle.std.proofs.Common.{◌≡◌, ◌≢◌, ℕ, ◌+◌, ◌-◌, ◌<◌, ◌≤◌, List, [], ◌∷◌, ◌++◌, length, take, map, All, true, Option, Some, None, MatchOption, slice_get, get_or, subst, sym, ◌∙◌, ap, refl, arith}
+use Rattle.std.proofs.Common.{◌≡◌, ◌≢◌, ℕ, ◌+◌, ◌-◌, List, [], ◌∷◌, ◌++◌, length, take, map, true, Option, Some, MatchOption, slice_get, subst, sym, ◌∙◌, ap, refl, arith}
 use Rattle.std.proofs.Math.Seq.{take-append_seam, take-length}
 use Rattle.std.proofs.lemmas.List.{append-nil, append_assoc, length_push}
 use Rattle.std.proofs.lemmas.List.Elements.{All-nil, All-push}
-use Rattle.std.proofs.lemmas.Option.{slice_get-get_or, slice_get_past}
+use Rattle.std.proofs.lemmas.Option.{slice_get_past}
 use Rattle.sa_instr.specs.Workload.{WorkloadView}
 use Rattle.sa_text.specs.LineText.{LineText, line_texts}
 use Rattle.sa_text.specs.Line.{text_of_line}
@@ -16,7 +16,7 @@ use Rattle.sa_workload.specs.declared.stage.MachineStage.TheVariants.{Version, P
 use Rattle.sa_workload.specs.declared.stage.Stage.{Stage}
 use Rattle.sa_workload.specs.declared.stage.Stage.TheVariants.{Machine as BeforeSpaces, Space, Sem, Absent, Program, Instr, Evict, Turn, Closed as Done}
 use Rattle.sa_workload.specs.Bad.{words_of}
-use Rattle.sa_workload.specs.Position.{Position, AtVersion, Closed, IsReached, shown}
+use Rattle.sa_workload.specs.Position.{Position, AtVersion, Closed}
 use Rattle.sa_workload.specs.Reading.{IsBehind, IsStopped}
 use Rattle.sa_workload.specs.Answer.{IfBad}
 use Rattle.sa_workload.specs.Refused.{IsLineBad}
@@ -36,7 +36,7 @@ pub one_more : (versions : ℕ) (p q : Position) (front : List LineText) (line :
 one_more versions p q front line h e g = record {
   reached = g.1;
   ended = All-push (λ (l : LineText). l.ended ≡ true) front line h.ended e;
-  lines = shown-step p q (pieces_of line.bytes) versions g.0 h.reached ∙ ap (λ ws. ws ++ pieces_of line.bytes ∷ []) h.lines ∙ sym (words_push front line)
+  lines = shown-step p q (pieces_of line.bytes) versions g.0 h.reached ∙ ap (λ ws. ws ++ pieces_of line.bytes ∷ []) h.lines ∙ sym (words_push front line);
 }
 
 take_front : (front : List LineText) (line : LineText) (back : List LineText) → take (length front) (front ++ line ∷ back) ≡ front

@@ -14,7 +14,7 @@ use Rattle.sa_workload.specs.Bad.{Grammar, AnyVersion, Version1, Begins, LineCau
 use Rattle.sa_workload.specs.Laws.{TextOrBad}
 use Rattle.sa_workload.specs.Position.{Position, AtVersion, AtProcessors, AtFetch, AtSlice, AtSpaces, AtSpace, AtSem, AtAbsent, AtProgram, AtInstr, AtEvict, AtTurn, Closed, IsReached, shown}
 use Rattle.sa_workload.proofs.NextLine.{StepTo, last-line}
-use Rattle.sa_workload.proofs.RightWord.{Accepts, any_accepts, version1_accepts, version1_covers, begins-step}
+use Rattle.sa_workload.proofs.RightWord.{Accepts, any_accepts, version1_accepts, version1_covers}
 use Rattle.sa_workload.proofs.TextLemmas.{IsWords, workload-words, join-printed, text_of-from_words}
 use Rattle.sa_workload.proofs.Judge.{Expects, Refused, judge}
 

@@ -1,9 +1,9 @@
 -- Where a text is wrong, and why: the first line that no text has in its place, and the first cause that applies to it.
 -- All of it speaks of the lines of the text, and of the workloads whose texts begin with the lines before.
-use Rattle.std.specs.Prelude.{◌≡◌, ◌≢◌, ◌⊎◌, ℕ, ◌+◌, ◌-◌, ◌^◌, ◌<◌, ◌≤◌, ◌==◌, ◌&&◌, ◌||◌, not, nat_lt, nat_le, if◌then◌else◌, Bool, true, false, List, [], ◌∷◌, ◌++◌, length, map, take, filter, count_by, slice_get, slice_index, slice_index_or, Option, Some, None, MatchOption, unwrap_or, ⊤, IsTrue, All, Contains, drop, codes, decimal}
+use Rattle.std.specs.Prelude.{◌≡◌, ◌≢◌, ◌⊎◌, ℕ, ◌+◌, ◌-◌, ◌^◌, ◌<◌, ◌≤◌, ◌==◌, ◌&&◌, ◌||◌, not, nat_lt, nat_le, if◌then◌else◌, Bool, true, false, List, [], ◌∷◌, ◌++◌, length, map, take, filter, count_by, slice_get, slice_index_or, MatchOption, unwrap_or, ⊤, IsTrue, All, Contains, drop, codes, decimal}
 use Rattle.std.specs.Map.{lookup}
 use Rattle.std.specs.Str.Parse.{digits_value}
-use Rattle.std.specs.List.{list_any, list_all}
+use Rattle.std.specs.List.{list_all}
 use Rattle.std.specs.Str.{bytes_eq}
 use Rattle.sa_instr.specs.Workload.{WorkloadView, IsWorkload}
 use Rattle.sa_text.specs.LineText.{LineText, line_texts}
@@ -256,7 +256,7 @@ pub record IsBad (g : Grammar) (versions : ℕ) (ls : List LineText) (k why : �
   pub wrong : MatchOption (slice_get ls (k - 1))
       ((k ≡ length ls + 1) × ((w : WorkloadView) → g w → workload_lines w ≢ words_of ls) × (why ≡ 9))
       (λ line. (line.ended ≡ true → ¬ Begins g (words_of (take (k - 1) ls) ++ pieces_of line.bytes ∷ []))
-        × LineCause g versions (words_of (take (k - 1) ls)) line why)
+      × LineCause g versions (words_of (take (k - 1) ls)) line why)
 
 -- The bytes are bad at line k, counted from 1, with this cause; by all versions, and by version 1 alone.
 abbrev pub BadAt : List ℕ → ℕ → ℕ → Type 0

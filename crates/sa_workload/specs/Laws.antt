@@ -1,8 +1,8 @@
 -- What holds of workload texts, whatever the bytes.
 use Rattle.std.specs.Prelude.{◌≡◌, ◌⊎◌, ℕ, List}
 use Rattle.sa_instr.specs.Workload.{WorkloadView}
-use Rattle.sa_workload.specs.Text.{IsText, IsText1}
-use Rattle.sa_workload.specs.Bad.{BadAt, BadAt1}
+use Rattle.sa_workload.specs.Text.{IsText}
+use Rattle.sa_workload.specs.Bad.{BadAt}
 
 -- two workloads never share a text
 abbrev pub TextsDiffer : Type 0

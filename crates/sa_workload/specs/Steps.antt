@@ -1,5 +1,5 @@
 -- How one line leads from a position to the next. Private functions of the reader cite this; no public clause does.
-use Rattle.std.specs.Prelude.{◌≡◌, ◌≢◌, ℕ, ◌==◌, if◌then◌else◌, List, [], ◌∷◌, ◌++◌, length, codes, decimal}
+use Rattle.std.specs.Prelude.{◌≡◌, ℕ, ◌==◌, if◌then◌else◌, List, [], ◌∷◌, ◌++◌, length, codes, decimal}
 use Rattle.sa_base.specs.declared.number.ProcNo.{ProcNo}
 use Rattle.sa_instr.specs.declared.instr.Instr.{Instr}
 use Rattle.sa_instr.specs.declared.workload.Evict.{Evict}
@@ -21,13 +21,24 @@ close_line = codes "close" ∷ []
 -- the workload of what was read
 abbrev pub workload : Machine → List SpaceView → List Evict → List ProcNo → WorkloadView
 workload m spaces evictions turns = record {
-  processors = m.processors; fetch = m.fetch; spaces = spaces; evictions = evictions; turns = turns; slice = m.slice
+  processors = m.processors;
+  fetch = m.fetch;
+  spaces = spaces;
+  evictions = evictions;
+  turns = turns;
+  slice = m.slice;
 }
 
 -- the space of a draft whose programs are whole
 abbrev pub space_of_draft : Draft → SpaceView
 space_of_draft d = record {
-  priority = d.priority; mutexes = d.mutexes; sems = d.sems; cells = d.cells; absent = d.absent; programs = d.programs; patience = d.patience
+  priority = d.priority;
+  mutexes = d.mutexes;
+  sems = d.sems;
+  cells = d.cells;
+  absent = d.absent;
+  programs = d.programs;
+  patience = d.patience;
 }
 
 -- nothing stands behind the first line of the space yet
@@ -78,17 +89,17 @@ pub data Steps : Position → List (List ℕ) → Position → Type 0 where
   step_first_program : (m : Machine) (spaces : List SpaceView) (d : Draft) (len : ℕ) → Steps (AtAbsent m spaces d) (program_line len) (AtInstr m spaces d len [])
   step_program : (m : Machine) (spaces : List SpaceView) (d : Draft) (len : ℕ) → Steps (AtProgram m spaces d) (program_line len) (AtInstr m spaces d len [])
   step_instr : (m : Machine) (spaces : List SpaceView) (d : Draft) (len : ℕ) (instrs : List Instr) (i : Instr)
-    → Steps (AtInstr m spaces d len instrs) (instr_line i) (after_instr m spaces d len (instrs ++ i ∷ []))
+      → Steps (AtInstr m spaces d len instrs) (instr_line i) (after_instr m spaces d len (instrs ++ i ∷ []))
   step_evict : (m : Machine) (spaces : List SpaceView) (evictions : List Evict) (e : Evict)
-    → Steps (AtEvict m spaces evictions) (evict_line e) (AtEvict m spaces (evictions ++ e ∷ []))
+      → Steps (AtEvict m spaces evictions) (evict_line e) (AtEvict m spaces (evictions ++ e ∷ []))
   step_first_turn : (m : Machine) (spaces : List SpaceView) (evictions : List Evict) (p : ProcNo)
-    → Steps (AtEvict m spaces evictions) (turn_line p) (AtTurn m spaces evictions (p ∷ []))
+      → Steps (AtEvict m spaces evictions) (turn_line p) (AtTurn m spaces evictions (p ∷ []))
   step_turn : (m : Machine) (spaces : List SpaceView) (evictions : List Evict) (turns : List ProcNo) (p : ProcNo)
-    → Steps (AtTurn m spaces evictions turns) (turn_line p) (AtTurn m spaces evictions (turns ++ p ∷ []))
+      → Steps (AtTurn m spaces evictions turns) (turn_line p) (AtTurn m spaces evictions (turns ++ p ∷ []))
   step_first_close : (m : Machine) (spaces : List SpaceView) (evictions : List Evict)
-    → Steps (AtEvict m spaces evictions) close_line (Closed (workload m spaces evictions []))
+      → Steps (AtEvict m spaces evictions) close_line (Closed (workload m spaces evictions []))
   step_close : (m : Machine) (spaces : List SpaceView) (evictions : List Evict) (turns : List ProcNo)
-    → Steps (AtTurn m spaces evictions turns) close_line (Closed (workload m spaces evictions turns))
+      → Steps (AtTurn m spaces evictions turns) close_line (Closed (workload m spaces evictions turns))
 
 -- the words that a line may begin with at a position
 abbrev pub expected : Position → List (List ℕ)

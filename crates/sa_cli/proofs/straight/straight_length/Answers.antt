@@ -21,8 +21,7 @@ returns-then-only_computes c =
     let spaces : c.args.workload.now.spaces ≡ straight_space c.len.result ∷ [] =
     sym c.spaces.ensures.value
     ∙ list-of-one c.spaces.result.now c.space-item.result (omega arith) (omega arith) c.space-item.is
-    ∙ ap (λ (s : SpaceView). s ∷ []) space in
-    (
+    ∙ ap (λ (s : SpaceView). s ∷ []) space in (
       some-instruction c.program-item.result c.len.result len program,
       (c.args.workload.now.fetch, workload-is c.args.workload.now c.len.result machine.0 spaces machine.1 machine.2 machine.3),
     )

@@ -1,7 +1,6 @@
-use Rattle.std.proofs.Common.{◌≡◌, List, ◌∷◌, [], ◌++◌, ap, ◌∙◌, subst, sym, codes, arith, rules}
+use Rattle.std.proofs.Common.{◌∷◌, ap, ◌∙◌, subst, sym, codes, arith, rules}
 use Rattle.std.proofs.lemmas.Result.{MatchResult-weaker}
 use Rattle.std.proofs.lemmas.Slice.Eq.{text_from_reads}
-use Rattle.sa_base.specs.declared.number.ProcNo.{ProcNo}
 use Rattle.sa_workload.specs.Stage.{IsNext, machine_of, position_of}
 use Rattle.sa_workload.specs.Position.{AtEvict}
 use Rattle.sa_workload.specs.Refused.{IsRefusedBehindTurn}

@@ -1,4 +1,4 @@
-use Rattle.std.proofs.Common.{◌≡◌, ◌∷◌, ap, ◌∙◌, sym, codes, arith, rules}
+use Rattle.std.proofs.Common.{◌∷◌, ap, ◌∙◌, codes, arith, rules}
 use Rattle.std.proofs.lemmas.Result.{MatchResult-weaker}
 use Rattle.std.proofs.lemmas.Slice.Eq.{text_from_reads}
 use Rattle.sa_workload.specs.Stage.{machine_of}

@@ -19,9 +19,9 @@ returns-in_err-end c = let p = err_from_is_err_and c.from_residual-in_err-end.re
 
 pub returns-then-not-matches : goal.returns-then-not-matches
 returns-then-not-matches c = elim c.match-matches.branch [
-    | in-End w ↦ absurd (cc (w.matches-is, c.if-not-matches.true))
-    | in_default w ↦
-        wrong_end (draft_of c.args.draft.now) c.args.len c.args.is_last c.in_ok-instr.instr _ _ c.if-is_last.true
-        (c.in_ok-instr.ensures.0 ∙ ap (λ w. instr_line c.in_ok-instr.instr ++ w) c.in_ok-end.ensures ∙ append-nil _)
-        c.requires c.in_ok-instr.ensures.1 w.in_default.not-End refl
-  ]
+  | in-End w ↦ absurd (cc (w.matches-is, c.if-not-matches.true))
+  | in_default w ↦
+      wrong_end (draft_of c.args.draft.now) c.args.len c.args.is_last c.in_ok-instr.instr _ _ c.if-is_last.true
+      (c.in_ok-instr.ensures.0 ∙ ap (λ w. instr_line c.in_ok-instr.instr ++ w) c.in_ok-end.ensures ∙ append-nil _)
+      c.requires c.in_ok-instr.ensures.1 w.in_default.not-End refl
+]

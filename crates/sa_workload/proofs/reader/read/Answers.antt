@@ -15,5 +15,5 @@ returns c = record {
   ok = MatchResult-weaker c.read_versions.result (answer c) (λ w h. h) (λ unread h. record {});
   bad = MatchResult-weaker c.read_versions.result (answer c) (λ w h. record {}) (λ unread h. h);
   text = answer-text (IsText c.args.bytes.now) (BadAt c.args.bytes.now) (same_any c.args.bytes.now) (not_bad_any c.args.bytes.now) c.read_versions.result (answer c);
-  refused = answer-refused (IsText c.args.bytes.now) (BadAt c.args.bytes.now) (once_any c.args.bytes.now) (not_bad_any c.args.bytes.now) c.read_versions.result (answer c)
+  refused = answer-refused (IsText c.args.bytes.now) (BadAt c.args.bytes.now) (once_any c.args.bytes.now) (not_bad_any c.args.bytes.now) c.read_versions.result (answer c);
 }

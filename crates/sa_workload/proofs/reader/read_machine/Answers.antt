@@ -17,4 +17,3 @@ returns-in-Slice c = rw c.in-Slice.is (MatchResult-weaker c.read_slice.result c.
 pub returns-in-Spaces : goal.returns-in-Spaces
 returns-in-Spaces c = rw c.in-Spaces.is (MatchResult-weaker c.read_spaces.result c.read_spaces.ensures
     (λ next h. goes_on _ _ _ _ c.requires.few (rw c.in-Spaces.is at c.requires.reached) h) (λ cause h. h))
-

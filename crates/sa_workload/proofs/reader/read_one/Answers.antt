@@ -15,5 +15,5 @@ returns c = record {
   ok = MatchResult-weaker c.read_versions.result (answer c) (λ w h. h) (λ unread h. record {});
   bad = MatchResult-weaker c.read_versions.result (answer c) (λ w h. record {}) (λ unread h. h);
   text = answer-text (IsText1 c.args.bytes.now) (BadAt1 c.args.bytes.now) (same_1 c.args.bytes.now) (not_bad_1 c.args.bytes.now) c.read_versions.result (answer c);
-  refused = answer-refused (IsText1 c.args.bytes.now) (BadAt1 c.args.bytes.now) (once_1 c.args.bytes.now) (not_bad_1 c.args.bytes.now) c.read_versions.result (answer c)
+  refused = answer-refused (IsText1 c.args.bytes.now) (BadAt1 c.args.bytes.now) (once_1 c.args.bytes.now) (not_bad_1 c.args.bytes.now) c.read_versions.result (answer c);
 }

@@ -1,4 +1,4 @@
-use Rattle.std.proofs.Common.{◌≡◌, ap, ◌∙◌, refl}
+use Rattle.std.proofs.Common.{ap, ◌∙◌, refl}
 use Rattle.std.proofs.lemmas.Result.{err_from_is_err_and}
 use Rattle.sa_text.specs.Line.{LinesLeft}
 use Rattle.sa_workload.specs.Stage.{position_of}
@@ -13,9 +13,11 @@ returns-in_err-stage c = let p = err_from_is_err_and c.from_residual.result c.fr
     c.in_err-stage.ensures)
 
 pub loop-line-preserved : goal.loop-line-preserved
-loop-line-preserved c = (c.in-Some.ensures.text ∙ c.loop-line.invariant.0,
-    going_on c.args.versions c.args.bytes.now (position_of c.loop-line.stage) (position_of c.in_ok-stage.stage) _ _ _ _ c.in-Some.line
-    c.loop-line.invariant.1 c.in-Some.ensures.first c.in-Some.ensures.number.1 c.in_ok-stage.ensures.0 c.in_ok-stage.ensures.1)
+loop-line-preserved c = (
+  c.in-Some.ensures.text ∙ c.loop-line.invariant.0,
+  going_on c.args.versions c.args.bytes.now (position_of c.loop-line.stage) (position_of c.in_ok-stage.stage) _ _ _ _ c.in-Some.line
+      c.loop-line.invariant.1 c.in-Some.ensures.first c.in-Some.ensures.number.1 c.in_ok-stage.ensures.0 c.in_ok-stage.ensures.1,
+)
 
 pub returns : goal.returns
 returns c = rw c.at.ensures (going_misses c.args.versions c.args.bytes.now (position_of c.loop-line.stage) _ _ _ _

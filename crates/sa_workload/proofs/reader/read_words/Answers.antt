@@ -27,4 +27,3 @@ returns-in-Space c = rw c.in-Space.is (goes_on _ _ _ _ c.requires.few (rw c.in-S
 
 pub returns-in-Program : goal.returns-in-Program
 returns-in-Program c = rw c.in-Program.is (goes_on _ _ _ _ c.requires.few (rw c.in-Program.is at c.requires.reached) c.in_ok-read_program-in-Program.ensures)
-

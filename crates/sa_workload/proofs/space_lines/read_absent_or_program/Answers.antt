@@ -1,4 +1,4 @@
-use Rattle.std.proofs.Common.{◌≡◌, ◌∷◌, ap, ◌∙◌, subst, sym, codes, arith, rules}
+use Rattle.std.proofs.Common.{◌∷◌, ap, ◌∙◌, subst, sym, codes, arith, rules}
 use Rattle.std.proofs.lemmas.Result.{MatchResult-weaker, err_from_is_err_and}
 use Rattle.std.proofs.lemmas.Slice.Eq.{text_from_reads}
 use Rattle.sa_workload.specs.Stage.{IsNext, machine_of, draft_of, position_of}

@@ -1,4 +1,4 @@
-use Rattle.std.proofs.Common.{◌≡◌, ℕ, Bool, arith, ap, sym, ◌∙◌, if◌then◌else◌}
+use Rattle.std.proofs.Common.{ℕ, Bool, arith, ap, sym, ◌∙◌, if◌then◌else◌}
 use Rattle.sa_workload.proofs.Cut.{patience_read}
 use Rattle.sa_workload.proofs.space_lines.read_patience.Goals as goal
 use Rattle.sa_workload.proofs.space_lines.read_patience.Goals.{then-needs_patience, else-needs_patience}

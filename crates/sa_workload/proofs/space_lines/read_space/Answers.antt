@@ -1,4 +1,4 @@
-use Rattle.std.proofs.Common.{◌≡◌, ◌∷◌, ◌++◌, ap, ◌∙◌, subst, codes, inl, rules}
+use Rattle.std.proofs.Common.{◌++◌, ap, ◌∙◌, subst, codes, inl}
 use Rattle.std.proofs.lemmas.List.{append-nil}
 use Rattle.std.proofs.lemmas.Result.{err_from_is_err_and}
 use Rattle.sa_workload.specs.Bad.{IsFirstWrong}
