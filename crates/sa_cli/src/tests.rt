@@ -92,19 +92,30 @@ fn straight_workloads_run(rt: HostRuntime) -> Result<(), Fail> {
     Ok(())
 }
 
-// A text that would read on, longer than the limit: programs of 4,096 instructions.
+// A text of 1,048,577 bytes that would read on: a program of 4,096 instructions takes 32,777 bytes in 4,097 lines.
 fn long_workload(alloc: Global) -> Result<String, AllocError> {
     let head = "workload 1\nprocessors 1\nfetch 10\nspaces 1\nspace 0 0 0 0 256\n";
     let mut text = String::from_str(alloc, head)?;
-    for _ in 0..33 {
-        text.push_str("program 4096\n")?;
-        for _ in 1..4096 {
-            text.push_str("compute\n")?;
-        }
+    for _ in 0..31 {
+        push_program(&mut text, 4095)?;
         text.push_str("end\n")?;
     }
+    push_program(&mut text, 4052)?;
+    text.push_str("c")?;
     Ok(text)
 }
+
+// The first lines of a program of 4,096 instructions.
+fn push_program(text: &mut String, computes: u16) -> Result<(), AllocError> {
+    text.push_str("program 4096\n")?;
+    for _ in 0..computes {
+        text.push_str("compute\n")?;
+    }
+    Ok(())
+}
+
+// The line of its last byte.
+const LONG_LINE: u64 = 5 + 31 * 4097 + 1 + 4052 + 1;
 
 #[test]
 fn other_inputs_are_refused(rt: HostRuntime) -> Result<(), Fail> {
@@ -112,11 +123,7 @@ fn other_inputs_are_refused(rt: HostRuntime) -> Result<(), Fail> {
     let letters = vec![in alloc; b'a'; 1_048_577]?;
     let feeds = vec![in alloc; b'\n'; 1_048_577]?;
     let long = long_workload(alloc)?;
-    let long_line = long.as_bytes()[..1_048_576]
-        .iter()
-        .filter(|byte| **byte == b'\n')
-        .count() as u64
-        + 1;
+    assert_eq!(rt; long.len(), 1_048_577);
     let behind = format!(in alloc; "{}close\n", workload(alloc, 10, 1)?)?;
     let cases: [(&[u8], Status); 8] = [
         (b"", bad(1, 9)),
@@ -124,7 +131,7 @@ fn other_inputs_are_refused(rt: HostRuntime) -> Result<(), Fail> {
         (b"workload 1\nprocessors 04\n", bad(2, 3)),
         (&letters, bad(1, 8)),
         (&feeds, bad(1_048_577, 8)),
-        (long.as_bytes(), bad(long_line, 8)),
+        (long.as_bytes(), bad(LONG_LINE, 8)),
         (behind.as_bytes(), bad(9, 2)),
         (
             b"workload 1\nprocessors 1\nfetch 10\nspaces 1\nspace 0 0 0 0 1\nprogram 2\nio 5\nend\nclose\n",
@@ -183,41 +190,38 @@ fn words_and_faults_decide(rt: HostRuntime) -> Result<(), Fail> {
                 failing_writes,
             },
         )?;
-        assert_eq!(rt; outcome.status, status, "of {words:?}");
+        assert_eq!(rt; outcome.status, status);
         assert_eq!(rt; Some(sink.taken()), whole.as_bytes().get(..taken));
     }
     Ok(())
 }
 
+// The answer of a run of the smallest workload.
+fn smallest(alloc: Global, words: &[&str]) -> Result<(Outcome, MemSink), AllocError> {
+    let input = workload(alloc, 10, 1)?;
+    answer(
+        alloc,
+        Case {
+            words,
+            input: input.as_bytes(),
+            failing_reads: &[],
+            failing_writes: &[],
+        },
+    )
+}
+
 #[test]
 fn a_budget_ends_the_run(rt: HostRuntime) -> Result<(), Fail> {
     let alloc = rt.alloc();
-    let input = workload(alloc, 10, 1)?;
     let last = "end budget 4 0 0 1 0 0 0 0 0 0 1 1 1 1 1 1 1 1 0 0 0 0 0 0\n";
     let four = format!(in alloc; "{START}{last}")?;
-    let five = trace(alloc, 1)?;
-    let cases: [(&[&str], Status, &str); 3] = [
-        (&["run", "--budget", "4"], Status::Budget, four.as_str()),
-        (&["run", "--budget", "5"], Status::AllDone, five.as_str()),
-        (
-            &["run", "--budget", "5", "--budget", "5"],
-            Status::Usage,
-            "",
-        ),
-    ];
-    for (words, status, text) in cases {
-        let (outcome, sink) = answer(
-            alloc,
-            Case {
-                words,
-                input: input.as_bytes(),
-                failing_reads: &[],
-                failing_writes: &[],
-            },
-        )?;
-        assert_eq!(rt; outcome.status, status, "of {words:?}");
-        assert_eq!(rt; sink.taken(), text.as_bytes());
-    }
+    let (outcome, sink) = smallest(alloc, &["run", "--budget", "4"])?;
+    assert_eq!(rt; outcome.status, Status::Budget);
+    assert_eq!(rt; sink.taken(), four.as_bytes());
+
+    let (outcome, sink) = smallest(alloc, &["run", "--budget", "5"])?;
+    assert_eq!(rt; outcome.status, Status::AllDone);
+    assert_eq!(rt; sink.taken(), trace(alloc, 1)?.as_bytes());
     Ok(())
 }
 
