@@ -8,7 +8,7 @@ const SMALLEST: &[u8] =
     b"workload 1\nprocessors 1\nfetch 10\nspaces 1\nspace 0 0 0 0 1\nprogram 1\nend\nclose\n";
 
 // two equal spaces, in each of which three threads add to a cell under a mutex
-const TWO_SPACES: &[u8] = b"\
+pub(crate) const TWO_SPACES: &[u8] = b"\
 workload 1\n\
 processors 4\n\
 fetch 10\n\
@@ -66,12 +66,31 @@ end\n\
 close\n\
 ";
 
-// a slice, and a patience
-const SLICED: &[u8] =
+// a slice, a patience, and both
+pub(crate) const SLICED: &[u8] =
     b"workload 2\nprocessors 1\nfetch 10\nslice 6\nspaces 1\nspace 0 0 0 0 1\nprogram 1\nend\nclose\n";
 
-const PATIENT: &[u8] =
+pub(crate) const PATIENT: &[u8] =
     b"workload 3\nprocessors 1\nfetch 10\nslice 0\nspaces 1\nspace 0 0 0 0 1 3\nprogram 2\nio 9\nend\nclose\n";
+
+const BOTH: &[u8] = b"\
+workload 3\n\
+processors 2\n\
+fetch 1\n\
+slice 6\n\
+spaces 2\n\
+space 0 0 0 0 1 1\n\
+program 1\n\
+end\n\
+space 7 0 1 0 1 2\n\
+sem 5\n\
+absent 3\n\
+program 1\n\
+end\n\
+evict 1 0 2\n\
+turn 1\n\
+close\n\
+";
 
 // The text is refused in this line for this cause.
 fn is_bad(rt: &(impl AllocGlobal + Abort), text: &[u8], line: u64, why: u8) {
@@ -275,17 +294,11 @@ fn refuses_each_proper_prefix(rt: HostRuntime) {
 }
 
 #[test]
-fn reads_texts(rt: HostRuntime) -> Result<(), Fail> {
-    let rows = [
-        (SMALLEST, 1, 0),
-        (SLICED, 1, 6),
-        (PATIENT, 1, 0),
-        (TWO_SPACES, 2, 0),
-    ];
-    for (text, spaces, slice) in rows {
+fn prints_what_it_reads(rt: HostRuntime) -> Result<(), Fail> {
+    for text in [SMALLEST, TWO_SPACES, SLICED, PATIENT, BOTH] {
         let workload = read(rt.alloc(), text)?;
-        assert_eq!(rt; workload.spaces().len(), spaces, "in {text:?}");
-        assert_eq!(rt; workload.slice(), slice, "in {text:?}");
+        let printed = print(rt.alloc(), &workload)?;
+        assert_eq!(rt; printed.as_slice(), text);
     }
     Ok(())
 }

@@ -1,4 +1,5 @@
 use super::print;
+use crate::tests::{PATIENT, SLICED, TWO_SPACES};
 use sa_base::{ProcNo, SpaceNo};
 use sa_instr::{Evict, Instr, Program, Reg, SpaceDef, Workload};
 use std::alloc::Global;
@@ -32,63 +33,6 @@ const ADDING: [Instr; 8] = [
     Instr::Unlock(0),
     Instr::End,
 ];
-
-const REALISTIC: &str = "workload 1
-processors 4
-fetch 10
-spaces 2
-space 0 1 0 1 2
-program 14
-set r1 1
-set r0 3
-fork r2 1
-sub r0 r1
-jnz r0 2
-set r0 3
-set r3 0
-add r3 r0
-join r3
-sub r0 r1
-jnz r0 6
-load r4 0
-out r4
-end
-program 8
-io 5
-lock 0
-load r2 0
-set r1 1
-add r2 r1
-store r2 0
-unlock 0
-end
-space 0 1 0 1 2
-program 14
-set r1 1
-set r0 3
-fork r2 1
-sub r0 r1
-jnz r0 2
-set r0 3
-set r3 0
-add r3 r0
-join r3
-sub r0 r1
-jnz r0 6
-load r4 0
-out r4
-end
-program 8
-io 5
-lock 0
-load r2 0
-set r1 1
-add r2 r1
-store r2 0
-unlock 0
-end
-close
-";
 
 const OUTSIDE: [Instr; 6] = [
     Instr::Compute,
@@ -153,7 +97,7 @@ fn version_1_is_printed(rt: HostRuntime) -> Result<(), Fail> {
     }
     let workload = Workload::new(4, 10, spaces, Vec::new(alloc), Vec::new(alloc));
     let text = print(alloc, &workload.ok_or("a workload")?)?;
-    assert_eq!(rt; text.as_slice(), REALISTIC.as_bytes());
+    assert_eq!(rt; text.as_slice(), TWO_SPACES);
     Ok(())
 }
 
@@ -185,9 +129,7 @@ fn a_slice_needs_version_2(rt: HostRuntime) -> Result<(), Fail> {
     let alloc = rt.alloc();
     let workload = alone(&rt, alloc, space(&rt, alloc, 0, &[&[Instr::End]]));
     let text = print(alloc, &workload.with_slice(6).ok_or("a slice")?)?;
-    let want =
-        "workload 2\nprocessors 1\nfetch 10\nslice 6\nspaces 1\nspace 0 0 0 0 1\nprogram 1\nend\nclose\n";
-    assert_eq!(rt; text.as_slice(), want.as_bytes());
+    assert_eq!(rt; text.as_slice(), SLICED);
     Ok(())
 }
 
@@ -197,8 +139,6 @@ fn a_patience_needs_version_3(rt: HostRuntime) -> Result<(), Fail> {
     let patient = space(&rt, alloc, 0, &[&[Instr::Io(9), Instr::End]]).with_patience(3);
     let workload = alone(&rt, alloc, patient.ok_or("a patience")?);
     let text = print(alloc, &workload)?;
-    let want =
-        "workload 3\nprocessors 1\nfetch 10\nslice 0\nspaces 1\nspace 0 0 0 0 1 3\nprogram 2\nio 9\nend\nclose\n";
-    assert_eq!(rt; text.as_slice(), want.as_bytes());
+    assert_eq!(rt; text.as_slice(), PATIENT);
     Ok(())
 }
