@@ -4,7 +4,6 @@ pub mod Operands
 pub mod Causes
 pub mod Assembled
 pub mod Standing
-pub mod Keeping
 pub mod Reached
 pub mod Completion
 pub mod Following

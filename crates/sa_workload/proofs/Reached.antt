@@ -14,7 +14,7 @@ use Rattle.sa_instr.specs.Space.{SpaceView, IsSpace}
 use Rattle.sa_instr.specs.Workload.{IsWorkload, IsEviction, IsBefore}
 use Rattle.sa_workload.specs.Position.{Machine, Draft, Position, AtProcessors, AtFetch, AtSlice, AtSpaces, AtSpace, AtSem, AtAbsent, AtProgram, AtInstr, AtEvict, AtTurn, Closed, CanSlice, IsMachine, AreSpaces, IsDraft, IsBegun, AreEvictions, AreTurns, IsReached}
 use Rattle.sa_workload.specs.Steps.{workload, space_of_draft, IsFresh, with_sem, with_absent, with_program, after_fetch, after_sem, after_spaces, after_program, after_instr}
-use Rattle.sa_workload.proofs.Keeping.{version_is}
+use Rattle.sa_workload.proofs.ShownStep.{version_of-workload}
 
 pub reached-version : (versions v : ℕ) → 1 ≤ v → v ≤ versions → IsReached versions (AtProcessors v)
 reached-version versions v low high = (low, high)
@@ -384,12 +384,12 @@ pub reached-first_close : (versions : ℕ) (m : Machine) (spaces : List SpaceVie
     → IsReached versions (AtEvict m spaces evictions) → IsReached versions (Closed (workload m spaces evictions []))
 reached-first_close versions m spaces evictions r = (
   whole_workload versions m spaces evictions [] r.0 r.1 r.2 r.3 (record { few = omega arith; each = All-nil _ }),
-  omega (arith, version_is versions m spaces evictions [] r.0 r.1 r.2, r.0.version),
+  omega (arith, version_of-workload m spaces evictions [] r.0.slice r.1 r.2, r.0.version),
 )
 
 pub reached-close : (versions : ℕ) (m : Machine) (spaces : List SpaceView) (evictions : List Evict) (turns : List ProcNo)
     → IsReached versions (AtTurn m spaces evictions turns) → IsReached versions (Closed (workload m spaces evictions turns))
 reached-close versions m spaces evictions turns r = (
   whole_workload versions m spaces evictions turns r.0 r.1 r.2 r.3 r.4,
-  omega (arith, version_is versions m spaces evictions turns r.0 r.1 r.2, r.0.version),
+  omega (arith, version_of-workload m spaces evictions turns r.0.slice r.1 r.2, r.0.version),
 )
