@@ -19,7 +19,6 @@ pub mod OneCause
 pub mod RightLine
 pub mod NoCause
 pub mod OneBad
-pub mod Reaching
 pub mod Takes
 pub mod Judge
 pub mod TextOrBad
