@@ -13,7 +13,7 @@ use Rattle.sa_workload.specs.Text.{version_of, workload_lines}
 use Rattle.sa_workload.specs.Bad.{Grammar, AnyVersion, Version1, Begins}
 use Rattle.sa_workload.specs.Position.{Machine, Draft, Position, AtVersion, AtProcessors, AtFetch, AtSlice, AtSpaces, AtSpace, AtSem, AtAbsent, AtProgram, AtInstr, AtEvict, AtTurn, Closed, shown, IsReached}
 use Rattle.sa_workload.specs.Steps.{workload, space_of_draft, with_sem, with_program, after_fetch, after_sem, after_spaces, after_program, after_instr, Steps, step_version, step_processors, step_fetch, step_slice, step_spaces, step_space, step_sem, step_first_program, step_program, step_instr, step_first_close, step_close}
-use Rattle.sa_workload.proofs.Keeping.{shown-step}
+use Rattle.sa_workload.proofs.ShownStep.{shown-step}
 use Rattle.sa_workload.proofs.Reached.{IsSpaceLine, reached-version, reached-processors, reached-fetch, reached-slice, reached-spaces, reached-space, reached-sem, reached-first_program, reached-program, reached-instr, reached-first_close, reached-close}
 
 -- what each `after_` position is: with all read, and with more to come
@@ -106,7 +106,7 @@ AcceptsUpTo versions g = (w : WorkloadView) → IsWorkload w → version_of w �
 
 module _ (versions : ℕ) (g : Grammar) (accepts : AcceptsUpTo versions g) (one : 1 ≤ versions) (three : versions ≤ 3) where
   by_step : (p q : Position) (line : List (List ℕ)) → Steps p line q → IsReached versions q → Completes versions g q → Completes versions g p
-  by_step p q line s reached rest = λ r. begins-front g (shown p) line (subst (Begins g) (shown-step p q line versions s r) (rest reached))
+  by_step p q line s reached rest = λ r. begins-front g (shown p) line (subst (Begins g) (shown-step versions p line q s r) (rest reached))
 
   closed : (w : WorkloadView) → Completes versions g (Closed w)
   closed w = λ r. record { workload = w; accepted = accepts w r.0 r.1; more = []; text = sym (append-nil (workload_lines w)) }

@@ -12,7 +12,7 @@ use Rattle.sa_workload.specs.Text.{sem_line, absent_line, evict_line, turn_line}
 use Rattle.sa_workload.specs.Bad.{Grammar, AnyVersion, Version1, Begins, MayFollow, IsRightWord, instr_words, first_word, last_line}
 use Rattle.sa_workload.specs.Position.{Machine, Draft, Position, AtVersion, AtProcessors, AtFetch, AtSlice, AtSpaces, AtSpace, AtSem, AtAbsent, AtProgram, AtInstr, AtEvict, AtTurn, Closed, draft_line, shown_spaces, shown, IsReached}
 use Rattle.sa_workload.specs.Steps.{Steps, step_version, step_processors, step_fetch, step_slice, step_spaces, step_space, step_sem, step_absent, step_first_program, step_program, step_instr, step_evict, step_first_turn, step_first_close, step_close, expected}
-use Rattle.sa_workload.proofs.Keeping.{shown-step}
+use Rattle.sa_workload.proofs.ShownStep.{shown-step}
 use Rattle.sa_workload.proofs.Reached.{reached-version, reached-processors, reached-fetch, reached-slice, reached-spaces, reached-space, reached-sem, reached-absent, reached-first_program, reached-program, reached-instr, reached-evict, reached-first_turn, reached-first_close, reached-close}
 use Rattle.sa_workload.proofs.Completion.{AcceptsUpTo, any_version, version_1, new_draft, own_patience, usual_patience, completes}
 
@@ -100,7 +100,7 @@ module _ (versions : ℕ) (g : Grammar) (accepts : AcceptsUpTo versions g) (one 
       → IsReached versions q → MayFollow g (shown p) word
   follows p q word others s r reached = record {
     others = others;
-    begins = subst (Begins g) (shown-step p q (word ∷ others) versions s r) (completes versions g accepts one three q reached);
+    begins = subst (Begins g) (shown-step versions p (word ∷ others) q s r) (completes versions g accepts one three q reached);
   }
 
   space_follows : (m : Machine) (spaces : List SpaceView) → IsReached versions (AtSpace m spaces)

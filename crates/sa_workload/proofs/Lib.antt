@@ -4,7 +4,6 @@ pub mod Operands
 pub mod Causes
 pub mod Assembled
 pub mod Standing
-pub mod Keeping
 pub mod Reached
 pub mod Completion
 pub mod Following
@@ -20,7 +19,6 @@ pub mod OneCause
 pub mod RightLine
 pub mod NoCause
 pub mod OneBad
-pub mod Reaching
 pub mod Takes
 pub mod Judge
 pub mod TextOrBad

@@ -14,7 +14,9 @@ use Rattle.sa_instr.specs.Space.{SpaceView, IsSpace}
 use Rattle.sa_instr.specs.Workload.{IsWorkload, IsEviction, IsBefore}
 use Rattle.sa_workload.specs.Position.{Machine, Draft, Position, AtProcessors, AtFetch, AtSlice, AtSpaces, AtSpace, AtSem, AtAbsent, AtProgram, AtInstr, AtEvict, AtTurn, Closed, CanSlice, IsMachine, AreSpaces, IsDraft, IsBegun, AreEvictions, AreTurns, IsReached}
 use Rattle.sa_workload.specs.Steps.{workload, space_of_draft, IsFresh, with_sem, with_absent, with_program, after_fetch, after_sem, after_spaces, after_program, after_instr}
-use Rattle.sa_workload.proofs.Keeping.{version_is}
+use Rattle.sa_workload.proofs.Fronts.{All-front, All-last}
+use Rattle.sa_workload.proofs.ShownStep.{version_of-workload}
+use Rattle.sa_workload.proofs.Before.{redrafted}
 
 pub reached-version : (versions v : ℕ) → 1 ≤ v → v ≤ versions → IsReached versions (AtProcessors v)
 reached-version versions v low high = (low, high)
@@ -105,27 +107,10 @@ reached-space versions m spaces d r h =
 pub reached-sem : (versions : ℕ) (m : Machine) (spaces : List SpaceView) (d : Draft) (n : ℕ) → IsReached versions (AtSem m spaces d)
     → n ≤ 1000000 → IsReached versions (after_sem m spaces (with_sem d n))
 reached-sem versions m spaces d n r h =
-    reached-after_sem versions m spaces (with_sem d n) r.0 r.1 drafted r.4 r.5
-  where
-    drafted : IsDraft m spaces (with_sem d n)
-    drafted = record {
-      room = r.2.room;
-      priority = r.2.priority;
-      mutexes = r.2.mutexes;
-      sem_count = r.2.sem_count;
-      cells = r.2.cells;
-      program_count = r.2.program_count;
-      patience = r.2.patience;
-      patient = r.2.patient;
-      own = r.2.own;
-      sems = omega (arith, length_push d.sems n);
-      starts = All-push (λ start. start ≤ 1000000) d.sems n r.2.starts h;
-      pages = r.2.pages;
-      absent_rise = r.2.absent_rise;
-      programs = r.2.programs;
-      each = r.2.each;
-      names = r.2.names;
-    }
+    reached-after_sem versions m spaces (with_sem d n) r.0 r.1
+    (redrafted m spaces d (d.sems ++ n ∷ []) d.absent d.programs r.2 (omega (arith, length_push d.sems n))
+    (All-push (λ start. start ≤ 1000000) d.sems n r.2.starts h) r.2.pages r.2.absent_rise r.2.programs r.2.each r.2.names)
+    r.4 r.5
 
 -- a list that rises goes on rising with an element that is above its last one
 rise-push : {X : Type 0} (R : X → X → Type 0) (xs : List X) (x d : X)
@@ -146,27 +131,14 @@ rise-push {X} R xs x d rise last k h =
 pub reached-absent : (versions : ℕ) (m : Machine) (spaces : List SpaceView) (d : Draft) (k : ℕ) → IsReached versions (AtAbsent m spaces d)
     → k ≤ 15 → (0 < length d.absent → slice_index d.absent (length d.absent - 1) < k)
     → IsReached versions (AtAbsent m spaces (with_absent d k))
-reached-absent versions m spaces d k r h last = (r.0, r.1, drafted, r.3, r.4)
-  where
-    drafted : IsDraft m spaces (with_absent d k)
-    drafted = record {
-      room = r.2.room;
-      priority = r.2.priority;
-      mutexes = r.2.mutexes;
-      sem_count = r.2.sem_count;
-      cells = r.2.cells;
-      program_count = r.2.program_count;
-      patience = r.2.patience;
-      patient = r.2.patient;
-      own = r.2.own;
-      sems = r.2.sems;
-      starts = r.2.starts;
-      pages = All-push (λ page. page ≤ 15) d.absent k r.2.pages h;
-      absent_rise = rise-push (λ (a b : ℕ). a < b) d.absent k 0 r.2.absent_rise last;
-      programs = r.2.programs;
-      each = r.2.each;
-      names = r.2.names;
-    }
+reached-absent versions m spaces d k r h last = (
+  r.0,
+  r.1,
+  redrafted m spaces d d.sems (d.absent ++ k ∷ []) d.programs r.2 r.2.sems r.2.starts (All-push (λ page. page ≤ 15) d.absent k r.2.pages h)
+      (rise-push (λ (a b : ℕ). a < b) d.absent k 0 r.2.absent_rise last) r.2.programs r.2.each r.2.names,
+  r.3,
+  r.4,
+)
 
 nothing_begun : (d : Draft) (len : ℕ) → 1 ≤ len → len ≤ 4096 → IsBegun d len []
 nothing_begun d len low high = record {
@@ -193,16 +165,6 @@ reached-after_spaces versions m spaces k a =
     cond_both (length spaces == m.count) (AtEvict m spaces []) (AtSpace m spaces) (λ (q : Position). IsReached versions q)
     (λ e. (k, a, eqb-true _ _ e, record { few = omega arith; each = All-nil (IsEviction m.count); rise = λ n d b. absurd (omega arith) }))
     (λ e. let ne : length spaces ≢ m.count = eqb-false _ _ e in let few : length spaces ≤ m.count = a.few in (k, a, omega arith))
-
--- what holds of each element of a list with one more behind it holds of those before, and of the one
-All-front : {X : Type 0} (P : X → Type 0) (xs : List X) (x : X) → All P (xs ++ x ∷ []) → All P xs
-All-front P xs x h = λ k d b. let l : length (xs ++ x ∷ []) ≡ length xs + 1 = length_push xs x in
-    subst P (get_or_append_left xs (x ∷ []) d k b) (h k d (omega arith))
-
-All-last : {X : Type 0} (P : X → Type 0) (xs : List X) (x : X) → All P (xs ++ x ∷ []) → P x
-All-last P xs x h =
-    let l : length (xs ++ x ∷ []) ≡ length xs + 1 = length_push xs x in
-    subst P (get_or_push xs x x (length xs) refl) (h (length xs) x (omega arith))
 
 -- a draft with all its semaphores and programs is a space
 pub whole_space : (m : Machine) (spaces : List SpaceView) (d : Draft) → IsDraft m spaces d → length d.sems ≡ d.sem_count
@@ -277,24 +239,10 @@ whole_program d len instrs i h range jump name last e =
 pub with_program-drafted : (m : Machine) (spaces : List SpaceView) (d : Draft) (p : List Instr) → IsDraft m spaces d
     → length d.programs < d.program_count → IsProgram p → All (NamesDeclared d.mutexes d.sem_count d.cells d.program_count) p
     → IsDraft m spaces (with_program d p)
-with_program-drafted m spaces d p h room program names = record {
-  room = h.room;
-  priority = h.priority;
-  mutexes = h.mutexes;
-  sem_count = h.sem_count;
-  cells = h.cells;
-  program_count = h.program_count;
-  patience = h.patience;
-  patient = h.patient;
-  own = h.own;
-  sems = h.sems;
-  starts = h.starts;
-  pages = h.pages;
-  absent_rise = h.absent_rise;
-  programs = omega (arith, length_push d.programs p);
-  each = All-push IsProgram d.programs p h.each program;
-  names = All-push (All (NamesDeclared d.mutexes d.sem_count d.cells d.program_count)) d.programs p h.names names;
-}
+with_program-drafted m spaces d p h room program names =
+    redrafted m spaces d d.sems d.absent (d.programs ++ p ∷ []) h h.sems h.starts h.pages h.absent_rise (omega (arith, length_push d.programs p))
+    (All-push IsProgram d.programs p h.each program)
+    (All-push (All (NamesDeclared d.mutexes d.sem_count d.cells d.program_count)) d.programs p h.names names)
 
 pub reached-instr : (versions : ℕ) (m : Machine) (spaces : List SpaceView) (d : Draft) (len : ℕ) (instrs : List Instr) (i : Instr)
     → IsReached versions (AtInstr m spaces d len instrs) → IsInRange i → JumpsBelow len i
@@ -384,12 +332,12 @@ pub reached-first_close : (versions : ℕ) (m : Machine) (spaces : List SpaceVie
     → IsReached versions (AtEvict m spaces evictions) → IsReached versions (Closed (workload m spaces evictions []))
 reached-first_close versions m spaces evictions r = (
   whole_workload versions m spaces evictions [] r.0 r.1 r.2 r.3 (record { few = omega arith; each = All-nil _ }),
-  omega (arith, version_is versions m spaces evictions [] r.0 r.1 r.2, r.0.version),
+  omega (arith, version_of-workload m spaces evictions [] r.0.slice r.1 r.2, r.0.version),
 )
 
 pub reached-close : (versions : ℕ) (m : Machine) (spaces : List SpaceView) (evictions : List Evict) (turns : List ProcNo)
     → IsReached versions (AtTurn m spaces evictions turns) → IsReached versions (Closed (workload m spaces evictions turns))
 reached-close versions m spaces evictions turns r = (
   whole_workload versions m spaces evictions turns r.0 r.1 r.2 r.3 r.4,
-  omega (arith, version_is versions m spaces evictions turns r.0 r.1 r.2, r.0.version),
+  omega (arith, version_of-workload m spaces evictions turns r.0.slice r.1 r.2, r.0.version),
 )

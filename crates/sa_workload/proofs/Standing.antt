@@ -21,7 +21,7 @@ use Rattle.sa_workload.specs.Reading.{IsBehind, IsStopped}
 use Rattle.sa_workload.specs.Answer.{IfBad}
 use Rattle.sa_workload.specs.Refused.{IsLineBad}
 use Rattle.sa_workload.specs.Stage.{GoesOn, position_of}
-use Rattle.sa_workload.proofs.Keeping.{shown-step}
+use Rattle.sa_workload.proofs.ShownStep.{shown-step}
 
 pub at_first : (versions : ℕ) → IsBehind versions AtVersion []
 at_first versions = record { reached = record {}; ended = All-nil _; lines = refl }
@@ -36,7 +36,7 @@ pub one_more : (versions : ℕ) (p q : Position) (front : List LineText) (line :
 one_more versions p q front line h e g = record {
   reached = g.1;
   ended = All-push (λ (l : LineText). l.ended ≡ true) front line h.ended e;
-  lines = shown-step p q (pieces_of line.bytes) versions g.0 h.reached ∙ ap (λ ws. ws ++ pieces_of line.bytes ∷ []) h.lines ∙ sym (words_push front line);
+  lines = shown-step versions p (pieces_of line.bytes) q g.0 h.reached ∙ ap (λ ws. ws ++ pieces_of line.bytes ∷ []) h.lines ∙ sym (words_push front line);
 }
 
 take_front : (front : List LineText) (line : LineText) (back : List LineText) → take (length front) (front ++ line ∷ back) ≡ front

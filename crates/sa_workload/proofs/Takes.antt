@@ -4,7 +4,7 @@ use Rattle.std.specs.List.{list_all, AllByRecursion}
 use Rattle.std.proofs.lemmas.Fmt.{decimal_digit}
 use Rattle.std.proofs.lemmas.Bool.{cases_eq, cases_lt}
 use Rattle.std.proofs.lemmas.List.{length_push, get_or_push}
-use Rattle.std.proofs.lemmas.List.Elements.{All-contains, All-from_recursion, All-nil, All-weaker}
+use Rattle.std.proofs.lemmas.List.Elements.{All-contains, All-from_recursion, All-weaker}
 use Rattle.sa_base.specs.declared.number.ProcNo.{ProcNo}
 use Rattle.sa_instr.specs.declared.instr.Reg.{Reg}
 use Rattle.sa_instr.specs.declared.instr.Reg.TheVariants.{R0, R1, R2, R3, R4, R5, R6, R7}
@@ -12,12 +12,10 @@ use Rattle.sa_instr.specs.declared.instr.Instr.{Instr}
 use Rattle.sa_instr.specs.declared.instr.Instr.TheVariants.{Compute, Set, Add, Sub, Jnz, Load, Store, Out, Fork, Join, Lock, Unlock, Wait, Signal, Io, Touch, End}
 use Rattle.sa_instr.specs.declared.workload.Evict.{Evict}
 use Rattle.sa_instr.specs.Space.{SpaceView, IsSpace}
-use Rattle.sa_instr.specs.Program.{IsProgram}
 use Rattle.sa_instr.specs.Workload.{IsEviction, IsBefore}
-use Rattle.sa_instr.specs.Instr.{NamesDeclared}
 use Rattle.sa_workload.specs.Text.{register, instr_line, absent_line, evict_line}
 use Rattle.sa_workload.specs.Bad.{Field, Register, Number, within, declared, registers, IsRightFor, AreRight, IsTooMany, IsInOrder, fields_behind, patience_field, needs_patience, version_in, processors_in, spaces_in, mutexes_in, sems_in, cells_in, programs_in, length_in, numbers_of, list_lt, first_word, last_line, instr_words, count_of_word}
-use Rattle.sa_workload.specs.Position.{Machine, Draft, Position, AtVersion, AtProcessors, AtFetch, AtSlice, AtSpaces, AtSpace, AtSem, AtAbsent, AtProgram, AtInstr, AtEvict, AtTurn, Closed, IsReached, IsDraft, shown}
+use Rattle.sa_workload.specs.Position.{Machine, Draft, Position, AtVersion, AtProcessors, AtFetch, AtSlice, AtSpaces, AtSpace, AtSem, AtAbsent, AtProgram, AtInstr, AtEvict, AtTurn, Closed, IsReached, shown}
 use Rattle.sa_workload.specs.Steps.{Steps, expected, step_version, step_processors, step_fetch, step_slice, step_spaces, step_space, step_sem, step_absent, step_first_program, step_program, step_instr, step_evict, step_first_turn, step_turn, step_first_close, step_close, workload, after_sem, with_sem, with_absent, after_fetch, after_instr}
 use Rattle.sa_workload.proofs.Readings.{reads, version-at_slice, version-at_space, needs-at_space, mutexes-at_instr, sems-at_instr, cells-at_instr, programs-at_instr, length-at_instr, spaces-at_evict, processors-at_evict, processors-at_turn, count_evict-at_evict, count_turn-at_turn, last_line-at_absent, last_line-at_evict}
 use Rattle.sa_workload.proofs.Fronts.{Pushed, split_last, All-last, all_true}
@@ -26,7 +24,7 @@ use Rattle.sa_workload.proofs.Determined.{Kept}
 use Rattle.sa_workload.proofs.NextLine.{StepTo}
 use Rattle.sa_workload.proofs.OneCause.{before_heads}
 use Rattle.sa_workload.proofs.RightLine.{eviction_numbers, own_word}
-use Rattle.sa_workload.proofs.Reaching.{increasing_push, reached_fetch, reached_slice, reached_spaces, reached_after_sem, reached_sem, reached_absent, reached_program, reached_instr, reached_evict, reached_turn, reached_close}
+use Rattle.sa_workload.proofs.Reached.{IsSpaceLine, reached-version, reached-processors, reached-fetch, reached-slice, reached-spaces, reached-space, reached-sem, reached-absent, reached-first_program, reached-program, reached-instr, reached-evict, reached-first_turn, reached-turn, reached-first_close, reached-close}
 
 -- a line of words that are right for these fields, and as many
 pub record One (test : ℕ → Bool) (words : List (List ℕ)) : Type 0 where
@@ -106,21 +104,22 @@ take_version : (versions : ℕ) (words : List (List ℕ)) → Taken versions AtV
 take_version versions words few r o c =
     let n = one (λ n. leb 1 n && leb n versions) 4 words r c in
     let a = in_range 1 versions n.number n.passes in
-    step_with versions AtVersion (codes "workload") words (decimal n.number ∷ []) (AtProcessors n.number) n.spelled tt (step_version n.number) a
+    step_with versions AtVersion (codes "workload") words (decimal n.number ∷ []) (AtProcessors n.number) n.spelled tt (step_version n.number)
+    (reached-version versions n.number a.0 a.1)
 
 take_processors : (versions v : ℕ) (words : List (List ℕ)) → IsReached versions (AtProcessors v) → Taken versions (AtProcessors v) words (codes "processors")
 take_processors versions v words h few r o c =
     let n = one (λ n. leb 1 n && leb n 16) 4 words r c in
     let a = in_range 1 16 n.number n.passes in
     step_with versions (AtProcessors v) (codes "processors") words (decimal n.number ∷ []) (AtFetch v n.number) n.spelled h (step_processors v n.number)
-    (h.0, h.1, a.0, a.1)
+    (reached-processors versions v n.number h a.0 a.1)
 
 take_fetch : (versions v n : ℕ) (words : List (List ℕ)) → IsReached versions (AtFetch v n) → Taken versions (AtFetch v n) words (codes "fetch")
 take_fetch versions v n words h few r o c =
     let f = one (λ n. leb 1 n && leb n 1000) 4 words r c in
     let a = in_range 1 1000 f.number f.passes in
     step_with versions (AtFetch v n) (codes "fetch") words (decimal f.number ∷ []) (after_fetch v n f.number) f.spelled h (step_fetch v n f.number)
-    (reached_fetch versions v n f.number h a.0 a.1)
+    (reached-fetch versions v n f.number h a.0 a.1)
 
 take_slice : (versions v n f : ℕ) (words : List (List ℕ)) → versions ≤ 3 → IsReached versions (AtSlice v n f) → Taken versions (AtSlice v n f) words (codes "slice")
 take_slice versions v n f words three h few r o c =
@@ -130,7 +129,7 @@ take_slice versions v n f words three h few r o c =
     let low : (if eqb v 3 then 0 else 1) ≤ s.number =
     subst (λ (u : ℕ). (if eqb u 3 then 0 else 1) ≤ s.number) (version-at_slice v n f (omega (arith, h.1))) a.0 in
     step_with versions (AtSlice v n f) (codes "slice") words (decimal s.number ∷ []) (AtSpaces v n f s.number) s.spelled h (step_slice v n f s.number)
-    (reached_slice versions v n f s.number three h low a.1)
+    (reached-slice versions v n f s.number three h (λ other. subst (λ (b : Bool). (if b then 0 else 1) ≤ s.number) (ne_eqb v 3 other) low) a.1)
 
 take_spaces : (versions v n f s : ℕ) (words : List (List ℕ)) → IsReached versions (AtSpaces v n f s) → Taken versions (AtSpaces v n f s) words (codes "spaces")
 take_spaces versions v n f s words h few r o c =
@@ -138,7 +137,7 @@ take_spaces versions v n f s words h few r o c =
     let a = in_range 1 16 k.number k.passes in
     step_with versions (AtSpaces v n f s) (codes "spaces") words (decimal k.number ∷ [])
     (AtSpace (record { version = v; processors = n; fetch = f; slice = s; count = k.number }) []) k.spelled h (step_spaces v n f s k.number)
-    (reached_spaces versions v n f s k.number h a.0 a.1)
+    (reached-spaces versions v n f s k.number h a.0 a.1)
 
 -- the patience of a space
 record PatienceOf (m : Machine) (spaces : List SpaceView) (words : List (List ℕ)) : Type 0 where
@@ -238,8 +237,8 @@ take_space versions m spaces words three h few r o c =
     let spelled : words ≡ decimal d.priority ∷ decimal d.mutexes ∷ decimal d.sem_count ∷ decimal d.cells ∷ decimal d.program_count
     ∷ (if eqb m.version 3 then decimal d.patience ∷ [] else []) =
     space_spelled m lines words a b s k g p.number p.spelled in
-    let is : IsDraft m spaces d = record {
-      room = h.2;
+    let is : IsSpaceLine m spaces d = record {
+      fresh = (refl, refl, refl);
       priority = (in_range 0 7 d.priority a.right.3).1;
       mutexes = (in_range 0 64 d.mutexes b.right.3).1;
       sem_count = (in_range 0 64 d.sem_count s.right.3).1;
@@ -248,18 +247,11 @@ take_space versions m spaces words three h few r o c =
       patience = (p.some, p.few);
       patient = p.patient;
       own = p.own;
-      sems = omega arith;
-      starts = All-nil (λ (n : ℕ). n ≤ 1000000);
-      pages = All-nil (λ (n : ℕ). n ≤ 15);
-      absent_rise = λ k l. absurd (omega arith);
-      programs = omega arith;
-      each = All-nil IsProgram;
-      names = All-nil (All (NamesDeclared d.mutexes d.sem_count d.cells d.program_count));
     } in
     step_with versions (AtSpace m spaces) (codes "space") words
     (decimal d.priority ∷ decimal d.mutexes ∷ decimal d.sem_count ∷ decimal d.cells ∷ decimal d.program_count
     ∷ (if eqb m.version 3 then decimal d.patience ∷ [] else [])) (after_sem m spaces d) spelled h
-    (step_space m spaces d (refl, refl, refl)) (reached_after_sem versions m spaces d h.0 h.1 is refl refl)
+    (step_space m spaces d is.fresh) (reached-space versions m spaces d h is)
 
 take_sem : (versions : ℕ) (m : Machine) (spaces : List SpaceView) (d : Draft) (words : List (List ℕ)) → IsReached versions (AtSem m spaces d)
     → Taken versions (AtSem m spaces d) words (codes "sem")
@@ -267,7 +259,7 @@ take_sem versions m spaces d words h few r o c =
     let n = one (λ n. leb 0 n && leb n 1000000) 4 words r c in
     let a = in_range 0 1000000 n.number n.passes in
     step_with versions (AtSem m spaces d) (codes "sem") words (decimal n.number ∷ []) (after_sem m spaces (with_sem d n.number)) n.spelled h
-    (step_sem m spaces d n.number) (reached_sem versions m spaces d n.number h a.1)
+    (step_sem m spaces d n.number) (reached-sem versions m spaces d n.number h a.1)
 
 -- the pages rise
 page_above : (versions : ℕ) (m : Machine) (spaces : List SpaceView) (d : Draft) (k : ℕ) → IsReached versions (AtAbsent m spaces d) → k ≤ 15
@@ -300,8 +292,8 @@ take_absent versions m spaces d words h few r o c =
     subst (λ (ws : List (List ℕ)). IsInOrder (shown (AtAbsent m spaces d)) 1 (codes "absent" ∷ ws)) n.spelled o in
     step_with versions (AtAbsent m spaces d) (codes "absent") words (decimal n.number ∷ []) (AtAbsent m spaces (with_absent d n.number)) n.spelled h
     (step_absent m spaces d n.number)
-    (reached_absent versions m spaces d n.number h a.1
-    (increasing_push d.absent n.number h.2.absent_rise (page_above versions m spaces d n.number h a.1 order)))
+    (reached-absent versions m spaces d n.number h a.1
+    (λ some. page_above versions m spaces d n.number h a.1 order (length d.absent - 1) (omega arith)))
 
 take_first_program : (versions : ℕ) (m : Machine) (spaces : List SpaceView) (d : Draft) (words : List (List ℕ)) → IsReached versions (AtAbsent m spaces d)
     → Taken versions (AtAbsent m spaces d) words (codes "program")
@@ -310,7 +302,7 @@ take_first_program versions m spaces d words h few r o c =
     let a = in_range 1 4096 n.number n.passes in
     step_with versions (AtAbsent m spaces d) (codes "program") words (decimal n.number ∷ []) (AtInstr m spaces d n.number []) n.spelled h
     (step_first_program m spaces d n.number)
-    (reached_program versions m spaces d n.number h.0 h.1 h.2 h.3 (omega (arith, ap length h.4, h.2.program_count)) a.0 a.1)
+    (reached-first_program versions m spaces d n.number h a.0 a.1)
 
 take_program : (versions : ℕ) (m : Machine) (spaces : List SpaceView) (d : Draft) (words : List (List ℕ)) → IsReached versions (AtProgram m spaces d)
     → Taken versions (AtProgram m spaces d) words (codes "program")
@@ -319,7 +311,7 @@ take_program versions m spaces d words h few r o c =
     let a = in_range 1 4096 n.number n.passes in
     step_with versions (AtProgram m spaces d) (codes "program") words (decimal n.number ∷ []) (AtInstr m spaces d n.number []) n.spelled h
     (step_program m spaces d n.number)
-    (reached_program versions m spaces d n.number h.0 h.1 h.2 h.3 h.5 a.0 a.1)
+    (reached-program versions m spaces d n.number h a.0 a.1)
 
 -- the register of a word
 register_of : (word : List ℕ) → Contains registers word → (r : Reg) × (word ≡ register r)
@@ -382,7 +374,7 @@ take_instr versions m spaces d len instrs word words h i = pick (cases_eq (lengt
         (record {
           position = after_instr m spaces d len (instrs ++ i.instr ∷ []);
           step = s;
-          reached = reached_instr versions m spaces d len instrs i.instr h i.kept end;
+          reached = reached-instr versions m spaces d len instrs i.instr h i.kept.range i.kept.jump i.kept.name end;
           shows = shown-step versions p (instr_line i.instr) (after_instr m spaces d len (instrs ++ i.instr ∷ [])) s h;
         }))
 
@@ -703,7 +695,8 @@ take_evict versions m spaces es words h few r o c =
         step_with versions (AtEvict m spaces es) (codes "evict") words
         (decimal e.eviction.event ∷ decimal e.eviction.space.0 ∷ decimal e.eviction.page ∷ [])
         (AtEvict m spaces (es ++ e.eviction ∷ [])) e.spelled h (step_evict m spaces es e.eviction)
-        (reached_evict versions m spaces es e.eviction h (room (cases_lt (length es) 4096)) e.is (eviction_above versions m spaces es e.eviction h e.is order))
+        (reached-evict versions m spaces es e.eviction h e.is (room (cases_lt (length es) 4096))
+        (λ d some. eviction_above versions m spaces es e.eviction h e.is order (length es - 1) d (omega arith)))
 
 room_of : (lines : List (List (List ℕ))) (n : ℕ) → count_of_word lines (codes "turn") ≡ n → ¬ IsTooMany lines (codes "turn") → n < 65536
 room_of lines n e few = pick (cases_lt n 65536)
@@ -721,7 +714,7 @@ take_first_turn versions m spaces es words h few r o c =
     let t : ProcNo = record { 0 = n.number } in
     step_with versions (AtEvict m spaces es) (codes "turn") words (decimal n.number ∷ []) (AtTurn m spaces es (t ∷ [])) n.spelled h
     (step_first_turn m spaces es t)
-    (reached_turn versions m spaces es [] t h (omega arith) (All-nil (λ (p : ProcNo). p.0 < m.processors))
+    (reached-first_turn versions m spaces es t h
     (omega (arith, a.1, processors-at_evict m spaces es (omega (arith, h.0.processors.1)), h.0.processors.0)))
 
 take_turn : (versions : ℕ) (m : Machine) (spaces : List SpaceView) (es : List Evict) (ts : List ProcNo) (words : List (List ℕ)) → IsReached versions (AtTurn m spaces es ts)
@@ -733,20 +726,21 @@ take_turn versions m spaces es ts words h few r o c =
     let t : ProcNo = record { 0 = n.number } in
     step_with versions (AtTurn m spaces es ts) (codes "turn") words (decimal n.number ∷ []) (AtTurn m spaces es (ts ++ t ∷ [])) n.spelled h
     (step_turn m spaces es ts t)
-    (reached_turn versions m spaces es ts t (h.0, h.1, h.2, h.3) (room_of lines (length ts) (count_turn-at_turn m spaces es ts) few) h.4.each
-    (omega (arith, a.1, processors-at_turn m spaces es ts (omega (arith, h.0.processors.1)), h.0.processors.0)))
+    (reached-turn versions m spaces es ts t h
+    (omega (arith, a.1, processors-at_turn m spaces es ts (omega (arith, h.0.processors.1)), h.0.processors.0))
+    (room_of lines (length ts) (count_turn-at_turn m spaces es ts) few))
 
 take_first_close : (versions : ℕ) (m : Machine) (spaces : List SpaceView) (es : List Evict) (words : List (List ℕ)) → IsReached versions (AtEvict m spaces es)
     → Taken versions (AtEvict m spaces es) words (codes "close")
 take_first_close versions m spaces es words h few r o c =
     step_with versions (AtEvict m spaces es) (codes "close") words [] (Closed (workload m spaces es [])) (no_words words c) h (step_first_close m spaces es)
-    (reached_close versions m spaces es [] h (record { few = omega arith; each = All-nil (λ (p : ProcNo). p.0 < m.processors) }))
+    (reached-first_close versions m spaces es h)
 
 take_close : (versions : ℕ) (m : Machine) (spaces : List SpaceView) (es : List Evict) (ts : List ProcNo) (words : List (List ℕ)) → IsReached versions (AtTurn m spaces es ts)
     → Taken versions (AtTurn m spaces es ts) words (codes "close")
 take_close versions m spaces es ts words h few r o c =
     step_with versions (AtTurn m spaces es ts) (codes "close") words [] (Closed (workload m spaces es ts)) (no_words words c) h (step_close m spaces es ts)
-    (reached_close versions m spaces es ts (h.0, h.1, h.2, h.3) h.4)
+    (reached-close versions m spaces es ts h)
 
 pub by_word : (ks : List (List ℕ)) (word : List ℕ) (G : List ℕ → Type 0) → AllByRecursion G ks → Contains ks word → G word
 by_word ks word G all c = All-contains G ks word (All-from_recursion G ks all) c
