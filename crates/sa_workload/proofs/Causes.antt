@@ -21,8 +21,7 @@ use Rattle.sa_workload.proofs.NoCause.{WordFault, FieldFault}
 use Rattle.sa_workload.proofs.Readings.{reads, last_line-at_absent, last_line-at_evict, spaces-at_evict, processors-at_evict, count_evict-at_evict, count_turn-at_evict, version-at_slice, version-at_space, needs-at_space, mutexes-at_instr, sems-at_instr, cells-at_instr, programs-at_instr, length-at_instr, processors-at_turn, count_turn-at_turn}
 use Rattle.sa_workload.proofs.RightLine.{ordered_words, own_word, less_head, numbers_before, PageLast, page_last, EvictionLast, eviction_last, eviction_numbers}
 use Rattle.sa_workload.proofs.Before.{StepBefore, before}
-use Rattle.sa_workload.proofs.Cut.{right_within, some_length}
-use Rattle.sa_workload.proofs.Operands.{right_declared}
+use Rattle.sa_workload.proofs.Cut.{right-within, right-declared, some_length}
 use Rattle.sa_workload.proofs.Fronts.{Pushed, split_last, All-last}
 use Rattle.sa_workload.proofs.RightWord.{Accepts, apart, right_word-in, last-shown}
 use Rattle.sa_workload.proofs.Takes.{IsLastNotEnd, by_word}
@@ -282,7 +281,7 @@ absent_fault versions g s m spaces d words why h r =
       s.expects p (codes "absent") h (0, omega arith, refl),
       inr (
         not_many (codes "absent" ∷ []) lines (codes "absent") (0, omega arith, refl) refl,
-        inr ((right_within 0 15 r.page (omega arith) r.range (omega arith), record {}), by_cause r.cause),
+        inr ((right-within 0 15 r.page (omega arith) r.range (omega (arith, r.range)), record {}), by_cause r.cause),
       ),
     ))
   where
@@ -392,10 +391,10 @@ evict_fault versions g s m spaces es words why h room f =
         subst (λ ws. FieldFault lines (evict_fields m.count) (codes "evict") ws why) (sym r.words_are)
         (inr (
           (
-            right_within 1 1000000 r.evict.event r.range.first r.range.last (omega arith),
+            right-within 1 1000000 r.evict.event r.range.first r.range.last (omega (arith, r.range.last)),
             (
-              right_declared m.count r.evict.space.0 r.range.space (omega (arith, h.0.count.1)),
-              (right_within 0 15 r.evict.page (omega arith) r.range.page (omega arith), record {}),
+              right-declared m.count r.evict.space.0 r.range.space (omega (arith, r.range.space, h.0.count.1)),
+              (right-within 0 15 r.evict.page (omega arith) r.range.page (omega (arith, r.range.page)), record {}),
             ),
           ),
           by_cause r.cause,

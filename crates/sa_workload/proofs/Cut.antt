@@ -1,12 +1,12 @@
 -- The fields of a line, cut one after another: what is right, what is refused, and words that are one too many.
 use Rattle.std.proofs.Common.{◌≡◌, ◌≢◌, ◌⊎◌, ℕ, ◌+◌, ◌^◌, ◌<◌, ◌≤◌, ◌==◌, List, [], ◌∷◌, ◌++◌, length, codes, decimal, subst, sym, ◌∙◌, ap, refl, inl, inr, arith, rules, Bool, true, false, if◌then◌else◌}
-use Rattle.std.proofs.lemmas.Bool.{and_from, le-leb, eq-eqb, eqb-true}
+use Rattle.std.proofs.lemmas.Bool.{and_from, le-leb, lt-ltb, eq-eqb, eqb-true}
 use Rattle.sa_base.specs.declared.number.ProcNo.{ProcNo}
 use Rattle.sa_instr.specs.declared.workload.Evict.{Evict}
 use Rattle.sa_instr.specs.Space.{SpaceView}
 use Rattle.sa_workload.specs.declared.cause.Refusal.{Refusal}
 use Rattle.sa_workload.specs.declared.cause.Refusal.TheVariants.{Because, OutOfMemory}
-use Rattle.sa_workload.specs.Bad.{Field, within, IsRightFor, IsFirstWrong, AreRight}
+use Rattle.sa_workload.specs.Bad.{Field, within, declared, IsRightFor, IsFirstWrong, AreRight}
 use Rattle.sa_workload.specs.Position.{Machine, Draft, draft_line}
 use Rattle.sa_workload.specs.Refused.{cause_number, IfBecause, IsAbsentRefused, IsAbsentOrProgramRefused, IsRefusedBehindEvict, IsRefusedBehindTurn, IsEvictOrTurnRefused, IsTurnOrCloseRefused, IsRefusedBehind, IsLineRefused, is_last_impatient, space_fields}
 use Rattle.sa_workload.specs.Stage.{IsPatience, IsSpaceStart}
@@ -32,8 +32,12 @@ pub too_many : (fs : List Field) (words rest : List (List ℕ)) (why : ℕ) → 
 too_many fs words rest why h some e =
     let t = right_when_read fs words rest h in inr (t.0, omega (arith, t.1, some_length rest some), e)
 
-pub right_within : (low high n : ℕ) → low ≤ n → n ≤ high → high < 2 ^ 64 → IsRightFor (within low high) (decimal n)
-right_within low high n l h fits = (n, omega arith, refl, and_from _ _ (le-leb low n l) (le-leb n high h))
+-- words for their fields
+pub right-within : (low high n : ℕ) → low ≤ n → n ≤ high → n < 2 ^ 64 → IsRightFor (within low high) (decimal n)
+right-within low high n l h small = (n, small, refl, and_from _ _ (le-leb low n l) (le-leb n high h))
+
+pub right-declared : (count n : ℕ) → n < count → n < 2 ^ 64 → IsRightFor (declared count) (decimal n)
+right-declared count n h small = (n, small, refl, lt-ltb n count h)
 
 -- behind its keyword a line is refused
 pub behind_keyword : (keyword : List ℕ) (fields : List Field) (words rest : List (List ℕ)) (why : ℕ) → words ≡ keyword ∷ rest
@@ -68,15 +72,15 @@ right_space : (m : Machine) (spaces : List SpaceView) (d : Draft) (rest : List (
     ∷ ((if m.version == 3 then decimal d.patience ∷ [] else []) ++ rest))
     rest
 right_space m spaces d rest h = (
-  right_within 0 7 d.priority (omega arith) h.priority (omega arith),
+  right-within 0 7 d.priority (omega arith) h.priority (omega (arith, h.priority)),
   (
-    right_within 0 64 d.mutexes (omega arith) h.mutexes (omega arith),
+    right-within 0 64 d.mutexes (omega arith) h.mutexes (omega (arith, h.mutexes)),
     (
-      right_within 0 64 d.sem_count (omega arith) h.sem_count (omega arith),
+      right-within 0 64 d.sem_count (omega arith) h.sem_count (omega (arith, h.sem_count)),
       (
-        right_within 0 64 d.cells (omega arith) h.cells (omega arith),
+        right-within 0 64 d.cells (omega arith) h.cells (omega (arith, h.cells)),
         (
-          right_within 1 256 d.program_count h.program_count.0 h.program_count.1 (omega arith),
+          right-within 1 256 d.program_count h.program_count.0 h.program_count.1 (omega (arith, h.program_count.1)),
           last (m.version == 3) (is_last_impatient m spaces) (λ e. h.patience.own (eqb-true m.version 3 e)),
         ),
       ),
@@ -87,10 +91,10 @@ right_space m spaces d rest h = (
     last : (b i : Bool) → (b ≡ true → i ≡ true → d.patience ≢ 1)
         → AreRead (if b then within (if i then 2 else 1) 1000 ∷ [] else []) ((if b then decimal d.patience ∷ [] else []) ++ rest) rest
     last false i own = refl
-    last true false own = (right_within 1 1000 d.patience h.patience.range.0 h.patience.range.1 (omega arith), refl)
+    last true false own = (right-within 1 1000 d.patience h.patience.range.0 h.patience.range.1 (omega (arith, h.patience.range.1)), refl)
     last true true own =
         let ne : d.patience ≢ 1 = own refl refl in
-        (right_within 2 1000 d.patience (omega (arith, h.patience.range.0)) h.patience.range.1 (omega arith), refl)
+        (right-within 2 1000 d.patience (omega (arith, h.patience.range.0)) h.patience.range.1 (omega (arith, h.patience.range.1)), refl)
 
 pub too_long_space : (m : Machine) (spaces : List SpaceView) (d : Draft) (words rest : List (List ℕ)) (why : ℕ)
     → codes "space" ∷ words ≡ draft_line m.version d ++ rest → IsSpaceStart m spaces d → rest ≢ [] → why ≡ 2

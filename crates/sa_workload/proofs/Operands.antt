@@ -12,23 +12,23 @@ use Rattle.sa_workload.specs.declared.operations.Operation.TheVariants.{Compute,
 use Rattle.sa_workload.specs.declared.operations.RegisterOperation.{RegisterOperation}
 use Rattle.sa_workload.specs.declared.operations.RegisterOperation.TheVariants.{Set, Add, Sub, Jnz, Load, Store, Out, Fork, Join}
 use Rattle.sa_workload.specs.Text.{register, instr_line}
-use Rattle.sa_workload.specs.Bad.{declared, registers, instr_words, first_word, IsRightFor, IsFirstWrong}
+use Rattle.sa_workload.specs.Bad.{registers, instr_words, first_word, IsRightFor, IsFirstWrong}
 use Rattle.sa_workload.specs.Position.{Draft}
 use Rattle.sa_workload.specs.Refused.{target, instr_fields, IsInstrRefused}
 use Rattle.sa_workload.specs.Operation.{word_of, operands_of, behind_register, IsAllowed, HasLimits, IsOperationRefused}
-use Rattle.sa_workload.proofs.Cut.{AreRead, right_when_read, right_within, too_many}
+use Rattle.sa_workload.proofs.Cut.{AreRead, right_when_read, right-within, right-declared, too_many}
 use Rattle.sa_workload.proofs.Words.{instr_word}
 
 -- the word of a register is one of the registers
-pub right_register : (r : Reg) → Contains registers (register r)
-right_register R0 = (0, omega arith, ap (λ (ds : List ℕ). 114 ∷ ds) (sym (decimal_digit 0 (omega arith))))
-right_register R1 = (1, omega arith, ap (λ (ds : List ℕ). 114 ∷ ds) (sym (decimal_digit 1 (omega arith))))
-right_register R2 = (2, omega arith, ap (λ (ds : List ℕ). 114 ∷ ds) (sym (decimal_digit 2 (omega arith))))
-right_register R3 = (3, omega arith, ap (λ (ds : List ℕ). 114 ∷ ds) (sym (decimal_digit 3 (omega arith))))
-right_register R4 = (4, omega arith, ap (λ (ds : List ℕ). 114 ∷ ds) (sym (decimal_digit 4 (omega arith))))
-right_register R5 = (5, omega arith, ap (λ (ds : List ℕ). 114 ∷ ds) (sym (decimal_digit 5 (omega arith))))
-right_register R6 = (6, omega arith, ap (λ (ds : List ℕ). 114 ∷ ds) (sym (decimal_digit 6 (omega arith))))
-right_register R7 = (7, omega arith, ap (λ (ds : List ℕ). 114 ∷ ds) (sym (decimal_digit 7 (omega arith))))
+pub right-register : (r : Reg) → Contains registers (register r)
+right-register R0 = (0, omega arith, ap (λ (ds : List ℕ). 114 ∷ ds) (sym (decimal_digit 0 (omega arith))))
+right-register R1 = (1, omega arith, ap (λ (ds : List ℕ). 114 ∷ ds) (sym (decimal_digit 1 (omega arith))))
+right-register R2 = (2, omega arith, ap (λ (ds : List ℕ). 114 ∷ ds) (sym (decimal_digit 2 (omega arith))))
+right-register R3 = (3, omega arith, ap (λ (ds : List ℕ). 114 ∷ ds) (sym (decimal_digit 3 (omega arith))))
+right-register R4 = (4, omega arith, ap (λ (ds : List ℕ). 114 ∷ ds) (sym (decimal_digit 4 (omega arith))))
+right-register R5 = (5, omega arith, ap (λ (ds : List ℕ). 114 ∷ ds) (sym (decimal_digit 5 (omega arith))))
+right-register R6 = (6, omega arith, ap (λ (ds : List ℕ). 114 ∷ ds) (sym (decimal_digit 6 (omega arith))))
+right-register R7 = (7, omega arith, ap (λ (ds : List ℕ). 114 ∷ ds) (sym (decimal_digit 7 (omega arith))))
 
 -- what stands behind the word of an operation
 pub fields_of : (d : Draft) (len : ℕ) (operation : Operation) → instr_fields d len (word_of operation) ≡ operands_of d len operation
@@ -75,7 +75,7 @@ pub wrong_behind_register : (d : Draft) (len : ℕ) (operation : RegisterOperati
     → words ≡ register r ∷ rest → IsFirstWrong (behind_register d len operation) rest why
     → IsFirstWrong (operands_of d len (OnRegister operation)) words why
 wrong_behind_register d len operation r words rest why e h =
-    subst (λ w. IsFirstWrong (operands_of d len (OnRegister operation)) w why) (sym e) (inr (right_register r, h))
+    subst (λ w. IsFirstWrong (operands_of d len (OnRegister operation)) w why) (sym e) (inr (right-register r, h))
 
 -- behind the word of an operation its operands decide
 pub wrong_behind_word : (d : Draft) (len : ℕ) (operation : Operation) (words rest : List (List ℕ)) (why : ℕ)
@@ -91,9 +91,6 @@ operation_refused d len is_last [] why h = h
 operation_refused d len is_last (word ∷ words) why (inl h) = inl h
 operation_refused d len is_last (word ∷ words) why (inr h) = inr (inl (h.0, inl h.1))
 
-pub right_declared : (count n : ℕ) → n < count → count ≤ 256 → IsRightFor (declared count) (decimal n)
-right_declared count n h few = (n, omega arith, refl, lt-ltb n count h)
-
 right_target : (len n : ℕ) → n < len → len ≤ 4096 → IsRightFor (target len) (decimal n)
 right_target len n h short = (n, omega arith, refl, lt-ltb n len h)
 
@@ -101,21 +98,21 @@ right_target len n h short = (n, omega arith, refl, lt-ltb n len h)
 allowed_read : (d : Draft) (len : ℕ) (i : Instr) (rest : List (List ℕ)) → HasLimits d len → IsAllowed d len i
     → AreRead (instr_fields d len (first_word (instr_line i))) (drop 1 (instr_line i) ++ rest) rest
 allowed_read d len instr.Compute rest l h = refl
-allowed_read d len (instr.Set r n) rest l h = (right_register r, (right_within 0 (2 ^ 64 - 1) n (omega arith) (omega (arith, h.range)) (omega arith), refl))
-allowed_read d len (instr.Add r q) rest l h = (right_register r, (right_register q, refl))
-allowed_read d len (instr.Sub r q) rest l h = (right_register r, (right_register q, refl))
-allowed_read d len (instr.Jnz r n) rest l h = (right_register r, (right_target len n h.jump l.short, refl))
-allowed_read d len (instr.Load r n) rest l h = (right_register r, (right_declared d.cells n h.name (omega (arith, l.cells)), refl))
-allowed_read d len (instr.Store r n) rest l h = (right_register r, (right_declared d.cells n h.name (omega (arith, l.cells)), refl))
-allowed_read d len (instr.Out r) rest l h = (right_register r, refl)
-allowed_read d len (instr.Fork r n) rest l h = (right_register r, (right_declared d.program_count n h.name l.program_count, refl))
-allowed_read d len (instr.Join r) rest l h = (right_register r, refl)
-allowed_read d len (instr.Lock n) rest l h = (right_declared d.mutexes n h.name (omega (arith, l.mutexes)), refl)
-allowed_read d len (instr.Unlock n) rest l h = (right_declared d.mutexes n h.name (omega (arith, l.mutexes)), refl)
-allowed_read d len (instr.Wait n) rest l h = (right_declared d.sem_count n h.name (omega (arith, l.sem_count)), refl)
-allowed_read d len (instr.Signal n) rest l h = (right_declared d.sem_count n h.name (omega (arith, l.sem_count)), refl)
-allowed_read d len (instr.Io n) rest l h = (right_within 1 1000000 n h.range.0 h.range.1 (omega arith), refl)
-allowed_read d len (instr.Touch n) rest l h = (right_within 2 15 n h.range.0 h.range.1 (omega arith), refl)
+allowed_read d len (instr.Set r n) rest l h = (right-register r, (right-within 0 (2 ^ 64 - 1) n (omega arith) (omega (arith, h.range)) h.range, refl))
+allowed_read d len (instr.Add r q) rest l h = (right-register r, (right-register q, refl))
+allowed_read d len (instr.Sub r q) rest l h = (right-register r, (right-register q, refl))
+allowed_read d len (instr.Jnz r n) rest l h = (right-register r, (right_target len n h.jump l.short, refl))
+allowed_read d len (instr.Load r n) rest l h = (right-register r, (right-declared d.cells n h.name (omega (arith, h.name, l.cells)), refl))
+allowed_read d len (instr.Store r n) rest l h = (right-register r, (right-declared d.cells n h.name (omega (arith, h.name, l.cells)), refl))
+allowed_read d len (instr.Out r) rest l h = (right-register r, refl)
+allowed_read d len (instr.Fork r n) rest l h = (right-register r, (right-declared d.program_count n h.name (omega (arith, h.name, l.program_count)), refl))
+allowed_read d len (instr.Join r) rest l h = (right-register r, refl)
+allowed_read d len (instr.Lock n) rest l h = (right-declared d.mutexes n h.name (omega (arith, h.name, l.mutexes)), refl)
+allowed_read d len (instr.Unlock n) rest l h = (right-declared d.mutexes n h.name (omega (arith, h.name, l.mutexes)), refl)
+allowed_read d len (instr.Wait n) rest l h = (right-declared d.sem_count n h.name (omega (arith, h.name, l.sem_count)), refl)
+allowed_read d len (instr.Signal n) rest l h = (right-declared d.sem_count n h.name (omega (arith, h.name, l.sem_count)), refl)
+allowed_read d len (instr.Io n) rest l h = (right-within 1 1000000 n h.range.0 h.range.1 (omega (arith, h.range.1)), refl)
+allowed_read d len (instr.Touch n) rest l h = (right-within 2 15 n h.range.0 h.range.1 (omega (arith, h.range.1)), refl)
 allowed_read d len instr.End rest l h = refl
 
 -- the line of an instruction begins with its word

@@ -1,24 +1,23 @@
 -- The line of a step is right: its words are right for their fields, as many as the fields, in order, and no line too many.
-use Rattle.std.proofs.Common.{◌≡◌, ◌≢◌, ℕ, ◌+◌, ◌-◌, ◌^◌, ◌<◌, ◌≤◌, ◌⊎◌, Bool, true, false, ◌&&◌, ◌||◌, List, [], ◌∷◌, ◌++◌, length, drop, All, Contains, IsTrue, codes, decimal, ltb, leb, eqb, arith, refl, sym, ap, ap₂, ◌∙◌, subst, subst₂, inl, inr, suc, if◌then◌else◌, lt-ltb, le-leb, eq-eqb, eqb-true, leb-true}
+use Rattle.std.proofs.Common.{◌≡◌, ◌≢◌, ℕ, ◌+◌, ◌-◌, ◌^◌, ◌<◌, ◌≤◌, ◌⊎◌, Bool, true, false, ◌&&◌, ◌||◌, List, [], ◌∷◌, ◌++◌, length, drop, All, Contains, IsTrue, codes, decimal, ltb, leb, eqb, arith, refl, sym, ap, ap₂, ◌∙◌, subst, subst₂, inl, inr, suc, if◌then◌else◌, lt-ltb, eq-eqb, eqb-true, leb-true}
 use Rattle.std.specs.List.{list_all, AllAdjacentBelow}
 use Rattle.std.specs.List.Sorted.{IsStrictlyIncreasing}
 use Rattle.std.specs.Str.Parse.{digits_value}
-use Rattle.std.proofs.lemmas.Fmt.{decimal_digit}
 use Rattle.std.proofs.lemmas.List.{length_push, get_or_push, get_or_append_left}
 use Rattle.std.proofs.lemmas.List.Elements.{All-weaker}
 use Rattle.sa_base.specs.declared.number.ProcNo.{ProcNo}
-use Rattle.sa_instr.specs.declared.instr.Reg.{Reg}
-use Rattle.sa_instr.specs.declared.instr.Reg.TheVariants.{R0, R1, R2, R3, R4, R5, R6, R7}
 use Rattle.sa_instr.specs.declared.instr.Instr.{Instr}
 use Rattle.sa_instr.specs.declared.instr.Instr.TheVariants.{Compute, Set, Add, Sub, Jnz, Load, Store, Out, Fork, Join, Lock, Unlock, Wait, Signal, Io, Touch, End}
 use Rattle.sa_instr.specs.declared.workload.Evict.{Evict}
 use Rattle.sa_instr.specs.Instr.{IsInRange, JumpsBelow, NamesDeclared}
 use Rattle.sa_instr.specs.Space.{SpaceView, IsSpace}
 use Rattle.sa_instr.specs.Workload.{IsEviction, IsBefore}
-use Rattle.sa_workload.specs.Text.{register, instr_line, absent_line, evict_line, turn_line}
-use Rattle.sa_workload.specs.Bad.{Register, within, declared, IsRightFor, AreRight, IsTooMany, IsOutOfOrder, fields_behind, patience_field, needs_patience, version_in, processors_in, spaces_in, mutexes_in, sems_in, cells_in, programs_in, length_in, numbers_of, list_lt, first_word, last_line, instr_words, count_of_word}
+use Rattle.sa_workload.specs.Text.{instr_line, absent_line, evict_line, turn_line}
+use Rattle.sa_workload.specs.Bad.{within, AreRight, IsTooMany, IsOutOfOrder, fields_behind, patience_field, needs_patience, version_in, processors_in, spaces_in, mutexes_in, sems_in, cells_in, programs_in, length_in, numbers_of, list_lt, first_word, last_line, instr_words, count_of_word}
 use Rattle.sa_workload.specs.Position.{Machine, Draft, Position, AtVersion, AtSlice, AtSpace, AtAbsent, AtInstr, AtEvict, IsReached, IsDraft, CanSlice, draft_line, shown}
 use Rattle.sa_workload.specs.Steps.{Steps, step_version, step_processors, step_fetch, step_slice, step_spaces, step_space, step_sem, step_absent, step_first_program, step_program, step_instr, step_evict, step_first_turn, step_turn, step_first_close, step_close, with_sem, with_absent, after_instr}
+use Rattle.sa_workload.proofs.Cut.{right-within, right-declared}
+use Rattle.sa_workload.proofs.Operands.{right-register}
 use Rattle.sa_workload.proofs.Words.{is_other, instr_word}
 use Rattle.sa_workload.proofs.Readings.{reads, version-at_slice, version-at_space, needs-at_space, mutexes-at_instr, sems-at_instr, cells-at_instr, programs-at_instr, length-at_instr, spaces-at_evict, processors-at_evict, processors-at_turn, count_evict-at_evict, count_turn-at_evict, count_turn-at_turn}
 use Rattle.sa_workload.proofs.Fronts.{All-last, true_all}
@@ -33,23 +32,6 @@ pub record RightLine (versions : ℕ) (lines : List (List (List ℕ))) (line : L
   pub right : AreRight (fields_behind versions lines (first_word line)) (drop 1 line)
   pub order : (why : ℕ) → ¬ IsOutOfOrder lines (length (fields_behind versions lines (first_word line))) line why
   pub count : length (drop 1 line) ≡ length (fields_behind versions lines (first_word line))
-
--- words for their fields
-pub right-within : (low high n : ℕ) → low ≤ n → n ≤ high → n < 2 ^ 64 → IsRightFor (within low high) (decimal n)
-right-within low high n a b small = (n, small, refl, ap₂ (λ (a b : Bool). a && b) (le-leb low n a) (le-leb n high b))
-
-pub right-declared : (count n : ℕ) → n < count → n < 2 ^ 64 → IsRightFor (declared count) (decimal n)
-right-declared count n a small = (n, small, refl, lt-ltb n count a)
-
-pub right-register : (r : Reg) → IsRightFor Register (register r)
-right-register R0 = (0, omega arith, ap (λ (ds : List ℕ). 114 ∷ ds) (sym (decimal_digit 0 (omega arith))))
-right-register R1 = (1, omega arith, ap (λ (ds : List ℕ). 114 ∷ ds) (sym (decimal_digit 1 (omega arith))))
-right-register R2 = (2, omega arith, ap (λ (ds : List ℕ). 114 ∷ ds) (sym (decimal_digit 2 (omega arith))))
-right-register R3 = (3, omega arith, ap (λ (ds : List ℕ). 114 ∷ ds) (sym (decimal_digit 3 (omega arith))))
-right-register R4 = (4, omega arith, ap (λ (ds : List ℕ). 114 ∷ ds) (sym (decimal_digit 4 (omega arith))))
-right-register R5 = (5, omega arith, ap (λ (ds : List ℕ). 114 ∷ ds) (sym (decimal_digit 5 (omega arith))))
-right-register R6 = (6, omega arith, ap (λ (ds : List ℕ). 114 ∷ ds) (sym (decimal_digit 6 (omega arith))))
-right-register R7 = (7, omega arith, ap (λ (ds : List ℕ). 114 ∷ ds) (sym (decimal_digit 7 (omega arith))))
 
 -- the words whose lines keep an order, and those of whose lines there is a greatest number
 abbrev pub ordered_words : List (List ℕ)
