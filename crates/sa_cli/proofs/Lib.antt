@@ -4,3 +4,4 @@ mod StraightRuns
 mod StraightWorkloads
 mod Refusals
 mod Outcomes
+mod StraightTexts

@@ -1,6 +1,6 @@
 -- What the parts of the top call say together.
-use Rattle.std.proofs.Common.{◌≡◌, ◌⊎◌, ℕ, ◌<◌, ◌≤◌, List, [], ◌∷◌, length, Option, Some, refl, sym, ap, ◌∙◌, subst, arith, inl, inr, get_or}
-use Rattle.std.specs.Prelude.{IfSome, codes, decimal}
+use Rattle.std.proofs.Common.{◌≡◌, ◌⊎◌, ℕ, ◌≤◌, List, [], Option, Some, refl, sym, ap, ◌∙◌, subst, arith, inl, inr, get_or}
+use Rattle.std.specs.Prelude.{IfSome}
 use Rattle.std.proofs.lemmas.Fmt.{decimal_injective}
 use Rattle.sa_base.specs.declared.refusal.Bad.{Bad}
 use Rattle.sa_base.specs.declared.record.End.{End}
@@ -13,21 +13,20 @@ use Rattle.sa_workload.specs.Bad.{AnyVersion, BadAt}
 use Rattle.sa_workload.proofs.OneBad.{one-bad, text-not_bad, texts_differ}
 use Rattle.sa_cli.specs.declared.outcome.Status.{Status}
 use Rattle.sa_cli.specs.declared.outcome.Status.TheVariants.{AllDone, Usage, BadWorkload, Stuck, Budget, ReadFault, WriteFault, OutOfMemory}
-use Rattle.sa_cli.specs.Input.{input_limit}
 use Rattle.sa_cli.specs.Straight.{straight_workload}
 use Rattle.sa_cli.specs.Outcome.{status_of_end, IsRefused, RanStraight, StopsBeforeRun, EndsWriting}
 use Rattle.sa_cli.specs.Words.{IsRun}
 use Rattle.sa_cli.proofs.StraightWorkloads.{straight-once}
+use Rattle.sa_cli.proofs.StraightTexts.{straight-short}
 
 not-bad : (input : List ℕ) (w : WorkloadView) (line why : ℕ) → IsText input w → BadAt input line why → ⊥
 not-bad input w line why is bad = text-not_bad AnyVersion 3 input w line why is.workload is.workload is.text bad
 
 -- a straight workload is not refused
-straight-taken : (input : List ℕ) (fetch n : ℕ) (bad : Bad) → IsText input (straight_workload fetch n) → length input ≤ input_limit
-    → IsRefused input bad → ⊥
-straight-taken input fetch n bad straight short (inl long) = absurd (omega (arith, long.0))
-straight-taken input fetch n bad straight short (inr (inl wrong)) = not-bad input (straight_workload fetch n) bad.line bad.why straight wrong.1
-straight-taken input fetch n bad straight short (inr (inr (few, (w, is, other), built))) =
+straight-taken : (input : List ℕ) (fetch n : ℕ) (bad : Bad) → IsText input (straight_workload fetch n) → IsRefused input bad → ⊥
+straight-taken input fetch n bad straight (inl long) = absurd (omega (arith, long.0, straight-short input fetch n straight))
+straight-taken input fetch n bad straight (inr (inl wrong)) = not-bad input (straight_workload fetch n) bad.line bad.why straight wrong.1
+straight-taken input fetch n bad straight (inr (inr (few, (w, is, other), built))) =
     other fetch n (texts_differ input w (straight_workload fetch n) is straight)
 
 same_bad : (a b : Bad) → a.line ≡ b.line → a.why ≡ b.why → a ≡ b
@@ -58,7 +57,7 @@ pub ran-not-refused : (before after : Option (List ℕ)) (items : List Item) (bu
 ran-not-refused before after items budget n input bad told ran =
     let same : input ≡ ran.text = ran-input before after items budget n input told ran in
     let Straight : List ℕ → Type 0 = λ v. IsText v (straight_workload ran.fetch n) in
-    straight-taken input ran.fetch n bad (subst Straight (sym same) ran.straight) (omega (arith, ap length same, ran.short))
+    straight-taken input ran.fetch n bad (subst Straight (sym same) ran.straight)
 
 -- and it has the length of the input's workload
 pub ran-length : (before after : Option (List ℕ)) (items : List Item) (budget n : ℕ) (input : List ℕ) (fetch m : ℕ) → before ≡ Some input
@@ -71,18 +70,18 @@ ran-length before after items budget n input fetch m told ran some straight =
 
 -- a straight workload stops before its run only for a fault or for memory
 pub stops-for-memory : (left : Option (List ℕ)) (before after : ℕ) (status : Status) (input : List ℕ) (fetch n : ℕ)
-    → left ≡ Some input → IsText input (straight_workload fetch n) → length input ≤ input_limit → (HasRisen before after → ⊥)
+    → left ≡ Some input → IsText input (straight_workload fetch n) → (HasRisen before after → ⊥)
     → StopsBeforeRun left before after status → status ≡ OutOfMemory
-stops-for-memory left before after (BadWorkload bad) input fetch n told straight short calm stops =
+stops-for-memory left before after (BadWorkload bad) input fetch n told straight calm stops =
     let Refused : Option (List ℕ) → Type 0 = λ o. IfSome o (λ v. IsRefused v bad) in
-    absurd (straight-taken input fetch n bad straight short (subst Refused told stops))
-stops-for-memory left before after ReadFault input fetch n told straight short calm stops = absurd (calm stops)
-stops-for-memory left before after OutOfMemory input fetch n told straight short calm stops = refl
-stops-for-memory left before after AllDone input fetch n told straight short calm stops = absurd stops
-stops-for-memory left before after Usage input fetch n told straight short calm stops = absurd stops
-stops-for-memory left before after Stuck input fetch n told straight short calm stops = absurd stops
-stops-for-memory left before after Budget input fetch n told straight short calm stops = absurd stops
-stops-for-memory left before after WriteFault input fetch n told straight short calm stops = absurd stops
+    absurd (straight-taken input fetch n bad straight (subst Refused told stops))
+stops-for-memory left before after ReadFault input fetch n told straight calm stops = absurd (calm stops)
+stops-for-memory left before after OutOfMemory input fetch n told straight calm stops = refl
+stops-for-memory left before after AllDone input fetch n told straight calm stops = absurd stops
+stops-for-memory left before after Usage input fetch n told straight calm stops = absurd stops
+stops-for-memory left before after Stuck input fetch n told straight calm stops = absurd stops
+stops-for-memory left before after Budget input fetch n told straight calm stops = absurd stops
+stops-for-memory left before after WriteFault input fetch n told straight calm stops = absurd stops
 
 -- a refused input is refused so
 pub stops-refused : (left : Option (List ℕ)) (before after : ℕ) (status : Status) (input : List ℕ) (bad : Bad)

@@ -1,5 +1,5 @@
 -- Lists of words.
-use Rattle.std.proofs.Common.{◌≡◌, ◌≢◌, ℕ, ◌<◌, ◌≤◌, List, [], ◌∷◌, length, get_or, Option, Some, None, IsTrue, refl, ap, sym, ◌∙◌, arith, inl, inr}
+use Rattle.std.proofs.Common.{◌≡◌, ◌≢◌, ℕ, ◌<◌, ◌≤◌, List, [], ◌∷◌, length, get_or, Option, Some, None, ap, sym, ◌∙◌, arith, inl, inr}
 use Rattle.std.specs.Prelude.{String, string_bytes, map, codes, decimal, MatchOption}
 use Rattle.std.specs.declared.alloc.Global.{Global}
 use Rattle.sa_cli.specs.Words.{IsRun}

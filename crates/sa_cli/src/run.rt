@@ -60,7 +60,7 @@ pub fn run_one<S: Source, K: Sink>(
 
     // Where the input is told and no fault comes, a straight workload runs, and any other input is refused.
     ensures runs { (input : List ℕ) (budget fetch length : ℕ) → IsRun words.now budget → S.left source.old ≡ Some input
-        → 1 ≤ length → IsText input (straight_workload fetch length) → len input ≤ input_limit
+        → 1 ≤ length → IsText input (straight_workload fetch length)
         → ¬ HasRisen (S.faults source.old) (S.faults source.new) → ¬ HasRisen (K.faults sink.old) (K.faults sink.new)
         → (result.status ≡ status_of_end (straight_end budget length)) ⊎ (result.status ≡ Status.OutOfMemory) }
     ensures refuses { (input : List ℕ) (budget : ℕ) (bad : Bad) → IsRun words.now budget → S.left source.old ≡ Some input

@@ -1,7 +1,7 @@
 use Rattle.std.proofs.Common.{◌≡◌, List, [], ◌∷◌, sym, ◌∙◌, ap, arith}
 use Rattle.sa_instr.specs.declared.instr.Instr.{Instr}
 use Rattle.sa_instr.specs.Space.{SpaceView}
-use Rattle.sa_cli.specs.Straight.{straight_program, straight_space, straight_workload}
+use Rattle.sa_cli.specs.Straight.{straight_program, straight_space}
 use Rattle.sa_cli.proofs.StraightWorkloads.{list-of-one, some-instruction, space-is, workload-is}
 use Rattle.sa_cli.proofs.straight.straight_length.Goals as goal
 

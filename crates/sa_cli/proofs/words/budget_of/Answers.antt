@@ -1,4 +1,4 @@
-use Rattle.std.proofs.Common.{◌≡◌, List, ℕ, [], ◌∷◌, inl, refl, sym, ◌∙◌, ap, arith}
+use Rattle.std.proofs.Common.{◌≡◌, [], ◌∷◌, inl, refl, sym, ◌∙◌, ap, arith}
 use Rattle.std.specs.Prelude.{codes, string_bytes}
 use Rattle.sa_cli.proofs.WordLemmas.{one-word, three-words, budget-words}
 use Rattle.sa_cli.proofs.words.budget_of.Goals as goal
