@@ -121,10 +121,6 @@ number_small d len (Io n) a b c e f range jump name = omega arith
 number_small d len (Touch n) a b c e f range jump name = omega arith
 number_small d len End a b c e f range jump name = omega arith
 
--- what is kept behind an instruction is kept of it
-pub program_of_draft : (m : Machine) (spaces : List SpaceView) (d : Draft) (p : List Instr) → IsDraft m spaces (with_program d p) → IsProgram p
-program_of_draft m spaces d p is = All-last IsProgram d.programs p is.each
-
 kept_of_program : (d : Draft) (instrs : List Instr) (i : Instr) (len : ℕ) → length (instrs ++ i ∷ []) ≡ len → IsProgram (instrs ++ i ∷ [])
     → All (NamesDeclared d.mutexes d.sem_count d.cells d.program_count) (instrs ++ i ∷ []) → Kept d len i
 kept_of_program d instrs i len e is names = record {

@@ -1,48 +1,19 @@
 -- A line with which some text goes on has no cause but the last one, that all its words are right.
-use Rattle.std.proofs.Common.{◌≡◌, ℕ, ◌+◌, ◌-◌, ◌<◌, ◌≤◌, ◌⊎◌, List, [], ◌∷◌, ◌++◌, length, drop, codes, Some, arith, refl, sym, ap, ◌∙◌, subst, inl, inr, slice_get}
+use Rattle.std.proofs.Common.{◌≡◌, ℕ, ◌+◌, ◌-◌, ◌<◌, ◌≤◌, ◌⊎◌, List, [], ◌∷◌, ◌++◌, length, codes, Some, arith, refl, sym, ap, ◌∙◌, inl, inr, slice_get}
 use Rattle.std.proofs.lemmas.List.{length_push}
 use Rattle.sa_instr.specs.declared.instr.Instr.{Instr}
 use Rattle.sa_instr.specs.declared.instr.Instr.TheVariants.{End}
 use Rattle.sa_instr.specs.Program.{IsProgram}
 use Rattle.sa_instr.specs.Space.{SpaceView}
 use Rattle.sa_workload.specs.Text.{instr_line}
-use Rattle.sa_workload.specs.Bad.{Grammar, Begins, IsRightWord, IsTooMany, Field, IsFirstWrong, AreRight, IsOutOfOrder, IsInOrder, FieldCause, WordCause, fields_behind, first_word}
+use Rattle.sa_workload.specs.Bad.{Grammar, Begins, IsRightWord, IsTooMany, Field, IsFirstWrong, AreRight, IsOutOfOrder, IsInOrder, FieldCause, WordCause, fields_behind}
 use Rattle.sa_workload.specs.Position.{Machine, Draft, Position, AtInstr, IsReached, shown}
 use Rattle.sa_workload.specs.Steps.{Steps, step_instr}
-use Rattle.sa_workload.proofs.ShownStep.{shown-step}
 use Rattle.sa_workload.proofs.NextLine.{StepTo}
 use Rattle.sa_workload.proofs.Determined.{kept_behind}
 use Rattle.sa_workload.proofs.RightWord.{Accepts, begins-step}
 use Rattle.sa_workload.proofs.RightLine.{RightLine, step-right}
 use Rattle.sa_workload.proofs.OneCause.{right_none_wrong}
-
--- the last of the causes: all words of the line are right
-pub record IsLastCause (versions : ℕ) (lines : List (List (List ℕ))) (line : List (List ℕ)) (why : ℕ) : Type 0 where
-  pub right : AreRight (fields_behind versions lines (first_word line)) (drop 1 line)
-  pub order : IsInOrder lines (length (fields_behind versions lines (first_word line))) line
-  pub count : length (drop 1 line) ≡ length (fields_behind versions lines (first_word line))
-  pub cause : why ≡ 9
-
-field_cause-last : (versions : ℕ) (lines : List (List (List ℕ))) (word : List ℕ) (words : List (List ℕ)) (why : ℕ) → RightLine versions lines (word ∷ words)
-    → FieldCause lines (fields_behind versions lines word) word words why → IsLastCause versions lines (word ∷ words) why
-field_cause-last versions lines word words why r (inl w) = absurd (right_none_wrong (fields_behind versions lines word) words why r.right w)
-field_cause-last versions lines word words why r (inr (right, inl o)) = absurd (r.order why o)
-field_cause-last versions lines word words why r (inr (right, inr (order, inl more))) = absurd (omega (arith, more.0, r.count))
-field_cause-last versions lines word words why r (inr (right, inr (order, inr last))) = record { right = right; order = order; count = last.0; cause = last.1 }
-
-cause-last : (g : Grammar) (versions : ℕ) (lines : List (List (List ℕ))) (line : List (List ℕ)) (why : ℕ) → RightLine versions lines line
-    → Begins g (lines ++ line ∷ []) → WordCause g versions lines line why → IsLastCause versions lines line why
-cause-last g versions lines [] why r b c = absurd c
-cause-last g versions lines (word ∷ words) why r b (inl c) = absurd (c.0 (inl (record { others = words; begins = b })))
-cause-last g versions lines (word ∷ words) why r b (inr (first, inl many)) = absurd (r.few many.0)
-cause-last g versions lines (word ∷ words) why r b (inr (first, inr c)) = field_cause-last versions lines word words why r c.1
-
--- a line with which some text goes on has no cause but the last one
-pub no-cause : (versions : ℕ) → versions ≤ 3 → (g : Grammar) → Accepts versions g → (p : Position) (line : List (List ℕ)) (why : ℕ) → IsReached versions p
-    → Begins g (shown p ++ line ∷ []) → WordCause g versions (shown p) line why → IsLastCause versions (shown p) line why
-no-cause versions few g accepts p line why h b c =
-    let s : StepTo versions p line = begins-step versions few g accepts p line h b in
-    cause-last g versions (shown p) line why (step-right versions few p line s.position s.step h s.reached) b c
 
 -- the causes but the last one: each refuses a line with which no text goes on
 abbrev pub FieldFault : List (List (List ℕ)) → List Field → List ℕ → List (List ℕ) → ℕ → Type 0
@@ -117,10 +88,3 @@ pub last_is_end : (versions : ℕ) → versions ≤ 3 → (g : Grammar) → Acce
 last_is_end versions few g accepts m spaces d len instrs line h e b =
     let s : StepTo versions (AtInstr m spaces d len instrs) line = begins-step versions few g accepts (AtInstr m spaces d len instrs) line h b in
     step_end versions m spaces d len instrs line s.position s.step h.3 e s.reached
-
--- the same of a step, where some text begins with what it leads to
-pub step-no_fault : (versions : ℕ) → versions ≤ 3 → (g : Grammar) → (p : Position) (line : List (List ℕ)) (q : Position) (why : ℕ) → IsReached versions p
-    → Steps p line q → IsReached versions q → Begins g (shown q) → WordFault g versions (shown p) line why → ⊥
-step-no_fault versions few g p line q why h s k b c =
-    fault-none g versions (shown p) line why (step-right versions few p line q s h k)
-    (subst (λ (ls : List (List (List ℕ))). Begins g ls) (shown-step versions p line q s h) b) c

@@ -70,15 +70,6 @@ spaces-behind m rest h small =
     (spaces_line m.count) rest refl h)
     ∙ reads m.count small
 
--- the same where spaces and more lines follow
-version-after : (m : Machine) (spaces : List SpaceView) (rest : List (List (List ℕ))) → Lacks (codes "workload") rest → m.version < 2 ^ 64
-    → version_in (shown_spaces m spaces ++ rest) ≡ m.version
-version-after m spaces rest h small =
-    ap version_in (append_assoc (shown_machine m) (flat_map (space_lines m.version) spaces) rest)
-    ∙ version-behind m (flat_map (space_lines m.version) spaces ++ rest)
-    (All-append (λ (l : List (List ℕ)). bytes_eq (first_word l) (codes "workload") ≡ false) (flat_map (space_lines m.version) spaces) rest
-    (lacks (codes "workload") space_words (flat_map (space_lines m.version) spaces) (spaces_begin m.version spaces) refl) h) small
-
 processors-after : (m : Machine) (spaces : List SpaceView) (rest : List (List (List ℕ))) → Lacks (codes "processors") rest → m.processors < 2 ^ 64
     → processors_in (shown_spaces m spaces ++ rest) ≡ m.processors
 processors-after m spaces rest h small =
@@ -294,12 +285,3 @@ last_line-at_evict m spaces evictions e =
     (ap (λ (ls : List (List (List ℕ))). shown_spaces m spaces ++ ls) (map_push evict_line evictions e)
     ∙ sym (append_assoc (shown_spaces m spaces) (map evict_line evictions) (evict_line e ∷ [])))
     ∙ last_line-push (shown_spaces m spaces ++ map evict_line evictions) (evict_line e)
-
-pub last_line-at_turn : (m : Machine) (spaces : List SpaceView) (evictions : List Evict) (turns : List ProcNo) (p : ProcNo)
-    → last_line (shown (AtTurn m spaces evictions (turns ++ p ∷ []))) ≡ turn_line p
-last_line-at_turn m spaces evictions turns p =
-    ap last_line
-    (ap (λ (ls : List (List (List ℕ))). shown_spaces m spaces ++ (map evict_line evictions ++ ls)) (map_push turn_line turns p)
-    ∙ ap (λ (ls : List (List (List ℕ))). shown_spaces m spaces ++ ls) (sym (append_assoc (map evict_line evictions) (map turn_line turns) (turn_line p ∷ [])))
-    ∙ sym (append_assoc (shown_spaces m spaces) (map evict_line evictions ++ map turn_line turns) (turn_line p ∷ [])))
-    ∙ last_line-push (shown_spaces m spaces ++ (map evict_line evictions ++ map turn_line turns)) (turn_line p)

@@ -129,13 +129,6 @@ right_word-in versions few g accepts p word h (inr (inl i)) =
     expects_instrs p word i.1.0 (follows versions few g accepts p i.1.0 h i.1.2) i.1.1 i.0
 right_word-in versions few g accepts p word h (inr (inr r)) = repeated versions p word h r.0 r.1
 
--- a word that may begin a line is expected
-pub right-word : (p : Position) (word : List ℕ) → IsReached 3 p → IsRightWord AnyVersion (shown p) word → Contains (expected p) word
-right-word p word h r = right_word-in 3 (omega arith) AnyVersion any_accepts p word h r
-
-pub right-word_1 : (p : Position) (word : List ℕ) → IsReached 1 p → IsRightWord Version1 (shown p) word → Contains (expected p) word
-right-word_1 p word h r = right_word-in 1 (omega arith) Version1 version1_accepts p word h r
-
 at_least_1 : (all none : Bool) → 1 ≤ (if all then (if none then 1 else 2) else 3)
 at_least_1 true true = omega arith
 at_least_1 true false = omega arith

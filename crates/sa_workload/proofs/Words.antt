@@ -11,7 +11,7 @@ use Rattle.sa_instr.specs.declared.workload.Evict.{Evict}
 use Rattle.sa_instr.specs.Space.{SpaceView}
 use Rattle.sa_workload.specs.Text.{instr_line, program_lines, sem_line, absent_line, space_line, space_lines, evict_line, turn_line, slice_lines}
 use Rattle.sa_workload.specs.Bad.{first_word, last_line, last_with, instr_words, count_of_word}
-use Rattle.sa_workload.specs.Position.{Machine, Draft, version_line, processors_line, fetch_line, spaces_line, shown_machine, draft_line, shown_draft}
+use Rattle.sa_workload.specs.Position.{Machine, version_line, processors_line, fetch_line, spaces_line, shown_machine}
 
 -- each line begins with one of the words
 abbrev pub BeginWith : List (List ℕ) → List (List (List ℕ)) → Type 0
@@ -99,9 +99,6 @@ instrs_begin is = All-mapped (λ (l : List (List ℕ)). Contains instr_words (fi
 more_words : (ks js : List (List ℕ)) (w : List ℕ) → Contains js w → Contains (ks ++ js) w
 more_words ks js w c = Contains-append_right ks js w c
 
-before_instrs : List (List ℕ)
-before_instrs = codes "sem" ∷ codes "absent" ∷ codes "program" ∷ []
-
 instr_inner : (i : Instr) → Contains inner_words (first_word (instr_line i))
 instr_inner i = more_words (codes "sem" ∷ codes "absent" ∷ codes "program" ∷ []) instr_words (first_word (instr_line i)) (instr_word i)
 
@@ -135,15 +132,6 @@ space_begins version s =
 
 pub spaces_begin : (version : ℕ) (ss : List SpaceView) → BeginWith space_words (flat_map (space_lines version) ss)
 spaces_begin version ss = All-flat_map (λ (l : List (List ℕ)). Contains space_words (first_word l)) (space_lines version) ss (space_begins version)
-
-pub draft_begins : (version : ℕ) (d : Draft) → BeginWith space_words (shown_draft version d)
-draft_begins version d =
-    All-cons (λ (l : List (List ℕ)). Contains space_words (first_word l)) (draft_line version d)
-    (map sem_line d.sems ++ (map absent_line d.absent ++ flat_map program_lines d.programs)) (0, omega arith, refl)
-    (inner_is_space _ (inner_begins d.sems d.absent d.programs))
-
-pub program_begins_space : (len : ℕ) (is : List Instr) → BeginWith space_words ((codes "program" ∷ decimal len ∷ []) ∷ map instr_line is)
-program_begins_space len is = inner_is_space ((codes "program" ∷ decimal len ∷ []) ∷ map instr_line is) (program_begins len is)
 
 pub evictions_begin : (es : List Evict) → BeginWith (codes "evict" ∷ []) (map evict_line es)
 evictions_begin es = All-mapped (λ (l : List (List ℕ)). Contains (codes "evict" ∷ []) (first_word l)) evict_line es (λ e. (0, omega arith, refl))
