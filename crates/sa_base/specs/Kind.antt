@@ -1,5 +1,5 @@
 -- The kinds of records, and how each is written.
-use Rattle.std.specs.Prelude.{ℕ, List, [], ◌∷◌, codes}
+use Rattle.std.specs.Prelude.{◌≢◌, ℕ, List, [], ◌∷◌, codes}
 use Rattle.sa_base.specs.declared.field.Field.{Field}
 use Rattle.sa_base.specs.declared.field.Field.TheVariants.{Space, OptionalSpace, Thread, OptionalThread, Processor, Activation, Io, Place, Value, Demand}
 use Rattle.sa_base.specs.declared.kind.Kind.{Kind}
@@ -42,3 +42,7 @@ form_of GiveBack = written 20 (codes "giveback") (Activation ∷ [])
 form_of Idle = written 21 (codes "idle") []
 form_of Spin = written 22 (codes "spin") (Processor ∷ [])
 form_of Tick = written 23 (codes "tick") []
+
+-- no kind has this word
+abbrev pub IsNoWord : List ℕ → Type 0
+IsNoWord word = (kind : Kind) → (form_of kind).word ≢ word

@@ -2,6 +2,7 @@
 use Rattle.std.specs.Prelude.{◌≡◌, ◌↔◌, ℕ, Option, Some, List, IsSome}
 use Rattle.sa_base.specs.declared.kind.Kind.{Kind}
 use Rattle.sa_base.specs.declared.record.Record.{Record}
+use Rattle.sa_base.specs.Kind.{form_of}
 use Rattle.sa_base.specs.Parts.{FitTheKind, parts, parts_of, record_of}
 
 -- the kind and the fields of a record whose numbers are in their ranges make the record
@@ -18,3 +19,7 @@ RecordsHaveTheParts =
 abbrev pub FittingPartsMakeRecords : Type 0
 FittingPartsMakeRecords =
     (kind : Kind) (fields : List (Option ℕ)) → IsSome (record_of kind fields) ↔ FitTheKind (parts kind fields)
+
+-- no two kinds have one word
+abbrev pub WordsDiffer : Type 0
+WordsDiffer = (a b : Kind) → (form_of a).word ≡ (form_of b).word → a ≡ b

@@ -2,7 +2,7 @@
 ghost use Rattle.std.specs.Prelude.{◌≡◌, ◌↔◌, IsTrue};
 ghost use Rattle.sa_base.specs.Field.{range_of, Fits};
 
-/// What a field of a record is. Behind `Optional` it may be absent, which the trace text writes as `-`.
+/// What a field of a record is. An `Optional` one may be absent, which the trace text writes as `-`.
 #[derive(Clone, Copy, Debug, PartialEq, Eq)]
 pub enum Field {
     /// A space.

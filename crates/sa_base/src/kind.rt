@@ -1,11 +1,12 @@
 // The kinds of records.
-ghost use Rattle.std.specs.Prelude.{◌≡◌, ◌≤◌, length};
-ghost use Rattle.sa_base.specs.Kind.{form_of};
+ghost use Rattle.std.specs.Prelude.{◌≡◌, ◌≤◌, ◌↔◌, length, IsTrue, IfSome, IfNone};
+ghost use Rattle.sa_base.specs.Kind.{form_of, IsNoWord};
 
 use crate::field::Field;
 use crate::limits::{MAX_FIELDS, RECORD_KINDS};
 
-/// The kind of a record. There are 23, but each of the four notices has its own word.
+/// The kind of a record, named as the record is, or as the notice. There are 23, of which the four
+/// notices are one, though each has its own word.
 #[derive(Clone, Copy, Debug, PartialEq, Eq)]
 pub enum Kind {
     Ins,
@@ -36,10 +37,41 @@ pub enum Kind {
     Tick,
 }
 
+/// Every kind, in the order of the numbers.
+pub const KINDS: [Kind; 26] = [
+    Kind::Ins,
+    Kind::Out,
+    Kind::Run,
+    Kind::Stop,
+    Kind::Block,
+    Kind::Unblock,
+    Kind::Cont,
+    Kind::Back,
+    Kind::Ready,
+    Kind::Take,
+    Kind::Free,
+    Kind::Up,
+    Kind::ToldAdd,
+    Kind::ToldPreempted,
+    Kind::ToldBlocked,
+    Kind::ToldUnblocked,
+    Kind::Move,
+    Kind::Want,
+    Kind::Aim,
+    Kind::Line,
+    Kind::Fetch,
+    Kind::Fetched,
+    Kind::GiveBack,
+    Kind::Idle,
+    Kind::Spin,
+    Kind::Tick,
+];
+
 /// How the records of a kind are written.
 #[derive(Clone, Copy, Debug, PartialEq, Eq)]
 pub struct Form {
-    /// The kind's number, from 1 to 23, in the order of the trace text's counts. The notices have one number.
+    /// The kind's number, from 1 to 23, in the order of the trace text's counts. The notices have
+    /// one number.
     pub number: u8,
     /// The kind's word; of a notice two, with a space between them.
     pub word: &'static [u8],
@@ -62,6 +94,26 @@ impl Form {
 }
 
 impl Kind {
+    /// The kind whose word this is, or `None` where it is no kind's.
+    pub fn of_word(word: &[u8]) -> Option<Kind>
+        ensures found { IfSome result (λ kind. (form_of kind).word ≡ word.now) }
+        ensures none { IfNone result (IsNoWord word.now) }
+    {
+        for kind in &KINDS {
+            if kind.has_word(word) {
+                return Some(*kind);
+            }
+        }
+        None
+    }
+
+    // Whether the kind has this word.
+    fn has_word(self, word: &[u8]) -> bool
+        ensures { IsTrue result ↔ ((form_of self).word ≡ word.now) }
+    {
+        self.form().word == word
+    }
+
     /// How the records of this kind are written.
     pub fn form(self) -> Form
         ensures number { result.number ≡ (form_of self).number }

@@ -15,7 +15,7 @@ mod trace;
 
 pub use context::{Seen, Stopped};
 pub use field::{Field, FieldRange};
-pub use kind::{Form, Kind};
+pub use kind::{Form, KINDS, Kind};
 pub use limits::{
     BULK_RETURN, DEFAULT_BUDGET, DEFAULT_BURST, FIRST_THREAD_PAGE, MAX_BURST, MAX_EVENTS,
     MAX_FIELDS, MAX_PROCESSORS, MAX_SPACES, MAX_THREADS, PACKAGE_PAGE, PAGES, RECORD_KINDS,
