@@ -1,0 +1,6 @@
+//! The assignment of processors to spaces.
+#![tactic(auto)]
+
+mod assign;
+
+pub use assign::Assign;
