@@ -42,6 +42,7 @@ least_below-none (suc n) test none p below = go (least_below n test) (λ is. lea
   last : (b : Bool) → test n ≡ b → cond {A = Option ℕ} b (Some n) None ≡ None → test n ≡ false
   last true is e = absurd (none-some n (sym e))
   last false is e = is
+
   go : (before : Option ℕ) → (before ≡ None → p < n → test p ≡ false) → option_or before (cond (test n) (Some n) None) ≡ None → test p ≡ false
   go None again e = elim (cases_eq p n) [
     | inl same ↦ ap test same ∙ last (test n) refl e

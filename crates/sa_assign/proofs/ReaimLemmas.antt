@@ -42,8 +42,8 @@ carried_out-append event proc xs ys x =
     let mine = records_of event lines xs in
     let others = records_of event (lines_after event lines xs) ys in
     let items_path = ap (λ (v : List Record). x.1 ++ items_at event proc v) (records_of-append event lines xs ys)
-      ∙ ap (λ (v : List Item). x.1 ++ v) (map-append (λ (r : Record). item_of event proc r) mine others)
-      ∙ sym (append_assoc x.1 (items_at event proc mine) (items_at event proc others)) in
+    ∙ ap (λ (v : List Item). x.1 ++ v) (map-append (λ (r : Record). item_of event proc r) mine others)
+    ∙ sym (append_assoc x.1 (items_at event proc mine) (items_at event proc others)) in
     λ i. (record x.0 { aims = aims_path i; lines = lines_path i }, items_path i)
 
 -- one change, and then the others

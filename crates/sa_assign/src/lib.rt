@@ -2,5 +2,6 @@
 #![tactic(auto)]
 
 mod assign;
+pub mod laws;
 
 pub use assign::Assign;
