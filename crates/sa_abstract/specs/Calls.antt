@@ -1,5 +1,5 @@
 -- The calls of a user level as functions.
-use Rattle.std.specs.Prelude.{ℕ, ◌==◌, Bool, Option, List, if◌then◌else◌}
+use Rattle.std.specs.Prelude.{ℕ, Bool, Option, List}
 use Rattle.sa_base.specs.declared.number.ThreadNo.{ThreadNo}
 use Rattle.sa_base.specs.declared.context.Seen.{Seen}
 use Rattle.sa_base.specs.declared.context.Stopped.{Stopped}
@@ -41,6 +41,3 @@ pub record Calls (U C : Type 0) : Type 0 where
 abbrev pub Contexts : Type 0 → Type 0
 Contexts C = ℕ → Option C
 
--- the contexts with this one, or none, under the number a
-abbrev pub put : {C : Type 0} → Contexts C → ℕ → Option C → Contexts C
-put cs a c b = if b == a then c else cs b

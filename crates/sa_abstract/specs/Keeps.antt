@@ -3,6 +3,7 @@ use Rattle.std.specs.Prelude.{◌≡◌, ◌≢◌, ℕ, ◌+◌, ◌-◌, ◌�
 use Rattle.std.specs.Int.{bit_at}
 use Rattle.sa_base.specs.declared.number.SpaceNo.{SpaceNo}
 use Rattle.sa_base.specs.declared.number.ThreadNo.{ThreadNo}
+use Rattle.sa_base.specs.declared.limits.TheConstants.{MAX_EVENTS, PAGES}
 use Rattle.sa_base.specs.declared.context.Seen.{Seen}
 use Rattle.sa_base.specs.declared.context.Stopped.{Stopped}
 use Rattle.sa_base.specs.declared.record.Note.{Note}
@@ -13,9 +14,10 @@ use Rattle.sa_abstract.specs.declared.answer.SeatState.{SeatState}
 use Rattle.sa_abstract.specs.declared.answer.SeatState.TheVariants.{Local, Away}
 use Rattle.sa_abstract.specs.declared.answer.Step.{Step}
 use Rattle.sa_abstract.specs.declared.answer.Step.TheVariants.{Did, Block, More, Idle, GiveBack, InterruptOwn}
+use Rattle.sa_lemmas.specs.Function.{put}
 use Rattle.sa_abstract.specs.Setting.{Setting, IsSetting}
 use Rattle.sa_abstract.specs.Walk.{Spot, AreLocal, after_many, ins_records, program_at}
-use Rattle.sa_abstract.specs.Calls.{Calls, Contexts, Stepped, Gone, put}
+use Rattle.sa_abstract.specs.Calls.{Calls, Contexts, Stepped, Gone}
 
 -- in a space of this setting, and with the steps of events up to this one, a value and the contexts of its space's
 -- activations stand beside one another
@@ -63,7 +65,7 @@ pub record IsStep {U C : Type 0} (stands : Standing U C) (u : U) (seen : Seen) (
   pub mine : others act ≡ Some c
   pub sees : IsSeen setting seen
   pub later : event < seen.event
-  pub within : seen.event ≤ 1000000
+  pub within : seen.event ≤ MAX_EVENTS
 
 -- the context of another activation is handed over
 pub record IsHandedOver {C : Type 0} (others : Contexts C) (act b : ℕ) (held : Option (Stopped C)) : Type 0 where
@@ -133,14 +135,14 @@ pub record IsGoing {U C : Type 0} (calls : Calls U C) (stands : Standing U C) (u
   pub sees : IsSeen setting seen
   pub later : event < seen.event
   pub some : 1 ≤ n
-  pub within : seen.event + n ≤ 1000001
+  pub within : seen.event + n ≤ MAX_EVENTS + 1
   pub goes : GoesOn setting n (calls.local u c)
 
 -- what a step asks for, the kernel can do
 abbrev pub IsAsked : Setting → Seen → Step → Type 0
 IsAsked s seen Did = Unit {0}
 IsAsked s seen (Block length page) =
-    (1 ≤ length) × (length ≤ 1000000) × IfSome page (λ k. (1 ≤ k) × (k ≤ 15))
+    (1 ≤ length) × (length ≤ 1000000) × IfSome page (λ k. (1 ≤ k) × (k < PAGES))
 IsAsked s seen (More n) = (1 ≤ n) × (seen.demand + n ≤ s.processors)
 IsAsked s seen Idle = 1 ≤ seen.demand
 IsAsked s seen GiveBack = 1 ≤ seen.taken
@@ -192,10 +194,10 @@ pub record Keeps {U C : Type 0} (calls : Calls U C) (stands : Standing U C) : Ty
       → stands s e u cs → cs a ≡ Some c → IsSeen s seen
       → stands s e (calls.answered u seen c).0 (put cs a (Some (calls.answered u seen c).1))
   pub steps : (s : Setting) (e : ℕ) (u : U) (cs : Contexts C) (a : ℕ) (c : C) (seen : Seen)
-      → stands s e u cs → cs a ≡ Some c → IsSeen s seen → e < seen.event → seen.event ≤ 1000000
+      → stands s e u cs → cs a ≡ Some c → IsSeen s seen → e < seen.event → seen.event ≤ MAX_EVENTS
       → IsStepped stands s seen cs a (calls.stepped u seen c)
   pub goes : (s : Setting) (e : ℕ) (u : U) (cs : Contexts C) (a : ℕ) (c : C) (seen : Seen) (n : ℕ)
-      → stands s e u cs → cs a ≡ Some c → IsSeen s seen → e < seen.event → 1 ≤ n → seen.event + n ≤ 1000001
+      → stands s e u cs → cs a ≡ Some c → IsSeen s seen → e < seen.event → 1 ≤ n → seen.event + n ≤ MAX_EVENTS + 1
       → GoesOn s n (calls.local u c)
       → IsGone calls stands s seen cs a n (calls.local u c) (calls.went u seen c n)
   pub seats : (s : Setting) (e : ℕ) (u : U) (cs : Contexts C) (a : ℕ) (c : C) → stands s e u cs → cs a ≡ Some c
