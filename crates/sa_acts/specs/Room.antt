@@ -1,8 +1,9 @@
 -- The room in which activations are kept.
-use Rattle.std.specs.Prelude.{◌≡◌, ℕ, ◌+◌, ◌≤◌, ◌<◌, ◌^◌, Bool, true, false, List, All, length, sum_by, Option, Some, None, IsSome, if◌then◌else◌}
+use Rattle.std.specs.Prelude.{◌≡◌, ℕ, ◌+◌, ◌≤◌, ◌<◌, ◌^◌, false, List, length, sum_by, Option, Some, None, IsSome, if◌then◌else◌}
+use Rattle.sa_base.specs.declared.limits.TheConstants.{MAX_SPACES}
 use Rattle.slab.specs.Slab.{Slab, get, slab_len, HasRoomFor}
 use Rattle.sa_acts.specs.declared.acts.Act.{Act}
-use Rattle.sa_acts.specs.Queues.{QueueView}
+use Rattle.sa_acts.specs.Queues.{QueueView, HaveRoom, queued}
 
 module _ {C : Type 0} where
   -- 1 for a number whose activation is not taken
@@ -12,18 +13,14 @@ module _ {C : Type 0} where
 
   -- an activation is of a space that there can be, and none that is taken holds a context
   pub record IsKept (x : Act C) : Type 0 where
-    pub space : x.space.0 < 16
+    pub space : x.space.0 < MAX_SPACES
     pub held : IsSome x.held → x.taken ≡ false
-
--- how many stand in a queue
-abbrev pub queued : QueueView → ℕ
-queued q = length q.numbers
 
 -- there is room for so many more activations, each of which can be taken
 pub record HasRoom {C : Type 0} (table : Slab (Act C)) (taken : List QueueView) (spare : ℕ) : Type 0 where
-  pub queues : length taken ≡ 16
+  pub queues : length taken ≡ MAX_SPACES
   pub slots : HasRoomFor table spare
-  pub rooms : All (λ q. slab_len table + spare ≤ q.room) taken
+  pub rooms : HaveRoom (slab_len table + spare) taken
   -- what is taken was in use before
   pub few : sum_by queued taken + sum_by untaken table.slots ≤ slab_len table
   pub small : slab_len table < 2 ^ 32

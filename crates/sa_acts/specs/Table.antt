@@ -1,5 +1,6 @@
 -- The activations in use, as a contract sees them, and what each call does to them.
-use Rattle.std.specs.Prelude.{◌≡◌, ℕ, ◌+◌, ◌-◌, ◌<◌, ◌==◌, Bool, true, false, if◌then◌else◌, List, [], ◌∷◌, ◌++◌, drop, Option, Some, None, IsSome, is_some, slice_get, slice_index_or, slice_set}
+use Rattle.std.specs.Prelude.{◌≡◌, ℕ, ◌+◌, ◌-◌, true, false, if◌then◌else◌, List, [], ◌∷◌, ◌++◌, drop, Option, Some, None, is_some, slice_get, slice_index_or, slice_set}
+use Rattle.sa_lemmas.specs.Function.{put}
 use Rattle.slab.specs.Slab.{Slab, get, slab_len}
 use Rattle.sa_base.specs.declared.number.SpaceNo.{SpaceNo}
 use Rattle.sa_base.specs.declared.number.ActNo.{ActNo}
@@ -15,10 +16,6 @@ module _ {C : Type 0} where
   -- an activation that runs: no context of it is held, and none was taken
   abbrev pub runs_in : SpaceNo → Act C
   runs_in s = record { space = s; held = None; taken = false }
-
-  -- the table with this under the number a
-  abbrev pub with_act : (ℕ → Option (Act C)) → ℕ → Option (Act C) → ℕ → Option (Act C)
-  with_act acts a act n = if n == a then act else acts n
 
   abbrev pub holding : Stopped C → Option (Act C) → Option (Act C)
   holding held None = None
@@ -66,30 +63,34 @@ module _ {C : Type 0} where
 
   -- a number is used for a space
   abbrev pub begun : ActsView C → SpaceNo → ActNo → ActsView C
-  begun v s a = record v { acts = with_act v.acts a.0 (Some (runs_in s)); used = v.used + 1; spare = v.spare - 1 }
+  begun v s a = record v { acts = put v.acts a.0 (Some (runs_in s)); used = v.used + 1; spare = v.spare - 1 }
 
   -- the context of an activation is held
   abbrev pub saved : ActsView C → ActNo → Stopped C → ActsView C
-  saved v a held = record v { acts = with_act v.acts a.0 (holding held (v.acts a.0)) }
+  saved v a held = record v { acts = put v.acts a.0 (holding held (v.acts a.0)) }
 
   -- the context of an activation is handed over, and the activation is the last of the taken ones of its space
   abbrev pub took : ActsView C → ActNo → ActsView C
   took v a = record v {
-    acts = with_act v.acts a.0 (taken_from (v.acts a.0));
+    acts = put v.acts a.0 (taken_from (v.acts a.0));
     taken = slice_set v.taken (space_of (v.acts a.0)).0 (taken_in v (space_of (v.acts a.0)).0 ++ a ∷ []);
   }
 
   -- a number is no longer used
   abbrev pub without : ActsView C → ActNo → ActsView C
   without v a = record v {
-    acts = with_act v.acts a.0 None;
+    acts = put v.acts a.0 None;
     used = if is_some (v.acts a.0) then v.used - 1 else v.used;
   }
 
-  abbrev pub gave : ActsView C → ℕ → Option ActNo → ActsView C
-  gave v s None = v
-  gave v s (Some a) = record (without v a) { taken = slice_set v.taken s (drop 1 (taken_in v s)) }
+  -- the first taken activation of a space is no longer the first
+  abbrev pub without_first : ActsView C → ℕ → ActsView C
+  without_first v s = record v { taken = slice_set v.taken s (drop 1 (taken_in v s)) }
+
+  abbrev pub gave : ActsView C → Option ActNo → ActsView C
+  gave v None = v
+  gave v (Some a) = without v a
 
   -- the activation of a space that was taken first is given back, if there is one
   abbrev pub gave_back : ActsView C → ℕ → ActsView C
-  gave_back v s = gave v s (slice_get (taken_in v s) 0)
+  gave_back v s = gave (without_first v s) (slice_get (taken_in v s) 0)

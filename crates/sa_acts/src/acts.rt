@@ -1,15 +1,13 @@
-ghost use Rattle.std.specs.Prelude.{◌≡◌, ℕ, ◌+◌, ◌≤◌, ◌<◌, ◌^◌, length, replicate, [], Some, None, IsSome, IfSome, slice_get, All, OnOk, OnErr};
+ghost use Rattle.std.specs.Prelude.{◌≡◌, ℕ, ◌+◌, ◌≤◌, ◌<◌, ◌^◌, length, replicate, [], ◌∷◌, ◌++◌, drop, slice_set, Some, None, IsSome, IfSome, slice_get, All, OnOk, OnErr};
 ghost use Rattle.std.specs.Option.{option_copied};
+ghost use Rattle.sa_acts.specs.Queues.{queue_at, queued, all_numbers, HaveRoom, IsGrown};
 ghost use Rattle.sa_acts.specs.Table.{acts_of, IsRunning, held_of, begun, saved, took, gave_back, taken_in};
 
 use crate::queue::Queue;
-use sa_base::{ActNo, SpaceNo, Stopped};
+use sa_base::{ActNo, MAX_SPACES, SpaceNo, Stopped};
 use slab::Slab;
 use std::alloc::{AllocError, Global};
 use std::marker::Model;
-
-/// How many spaces there can be.
-const MAX_SPACES: usize = 16;
 
 /// An activation whose number is in use.
 #[derive(Debug, Drop)]
@@ -31,7 +29,7 @@ pub struct Acts<C: Drop> {
 }
 
 impl<C: Drop> Model for Acts<C> {
-    ghost use Rattle.std.specs.Prelude.{map};
+    ghost use Rattle.sa_acts.specs.Queues.{all_numbers};
     ghost use Rattle.sa_acts.specs.Table.{Slots};
 
     ghost Value = { Slots C };
@@ -40,7 +38,7 @@ impl<C: Drop> Model for Acts<C> {
 
     ghost view = { λ x. record {
       table = x.slots;
-      taken = map (λ q. q.numbers) x.taken;
+      taken = all_numbers x.taken;
       spare = x.spare;
     } };
 
@@ -50,7 +48,7 @@ impl<C: Drop> Model for Acts<C> {
 impl<C: Drop> Acts<C> {
     /// No activation, and no room.
     pub fn new(alloc: Global) -> Self
-        ensures { acts_of result ≡ record { acts = λ n. None; taken = replicate 16 []; used = 0; spare = 0 } }
+        ensures { acts_of result ≡ record { acts = λ n. None; taken = replicate MAX_SPACES []; used = 0; spare = 0 } }
     {
         Acts {
             slots: Slab::new(alloc),
@@ -67,11 +65,9 @@ impl<C: Drop> Acts<C> {
         ensures err { OnErr result (self.new.spare ≡ self.old.spare) }
     {
         if self.spare < n {
+            let room = self.slots.len().checked_add(n).ok_or(AllocError)?;
             self.slots.reserve(n)?;
-            let room = self.slots.len() + n;
-            for s in 0..MAX_SPACES {
-                self.taken[s].reserve(room)?;
-            }
+            reserve_all(&mut self.taken, room)?;
             self.spare = n;
         }
         Ok(())
@@ -79,7 +75,7 @@ impl<C: Drop> Acts<C> {
 
     /// A number that is not in use, which is used for the space from now on.
     pub fn fresh(&mut self, s: SpaceNo) -> ActNo
-        requires space { s.0 < 16 }
+        requires space { s.0 < MAX_SPACES }
         requires room { 1 ≤ self.old.spare }
         requires few { (acts_of self.old).used + 1 < 2 ^ 32 }
         ensures unused { (acts_of self.old).acts result.0 ≡ None }
@@ -99,9 +95,10 @@ impl<C: Drop> Acts<C> {
         requires { IsRunning ((acts_of self.old).acts a.0) }
         ensures { acts_of self.new ≡ saved (acts_of self.old) a held }
     {
-        if let Some(act) = self.slots.get_mut(a.0 as usize) {
-            act.held = Some(held);
-        }
+        let Some(act) = self.slots.get_mut(a.0 as usize) else {
+            unreachable!()
+        };
+        act.held = Some(held);
     }
 
     /// The context that is held of an activation: `None` exactly where none is.
@@ -125,7 +122,7 @@ impl<C: Drop> Acts<C> {
         };
         act.taken = true;
         let space = act.space;
-        self.taken[usize::from(space.0)].push(a);
+        push_on(&mut self.taken, space, a);
         held
     }
 
@@ -133,10 +130,7 @@ impl<C: Drop> Acts<C> {
     pub fn taken(&self, s: SpaceNo) -> u32
         ensures { result ≡ length (taken_in (acts_of self.now) s.0) }
     {
-        match self.taken.get(usize::from(s.0)) {
-            Some(queue) => queue.len() as u32,
-            None => 0,
-        }
+        length_of(&self.taken, s) as u32
     }
 
     /// Ends the use of the taken activation of the space that was taken first: `None` exactly where it has none.
@@ -144,7 +138,7 @@ impl<C: Drop> Acts<C> {
         ensures first { result ≡ slice_get (taken_in (acts_of self.old) s.0) 0 }
         ensures gave { acts_of self.new ≡ gave_back (acts_of self.old) s.0 }
     {
-        let a = self.taken.get_mut(usize::from(s.0))?.pop()?;
+        let a = pop_from(&mut self.taken, s)?;
         let _ = self.slots.try_remove(a.0 as usize);
         Some(a)
     }
@@ -173,4 +167,55 @@ fn no_queues(alloc: Global) -> [Queue; MAX_SPACES]
         queue(),
         queue(),
     ]
+}
+
+// Makes room for so many numbers in each queue.
+fn reserve_all(queues: &mut [Queue; MAX_SPACES], room: usize) -> Result<(), AllocError>
+    ensures ok { OnOk result (HaveRoom room queues.new) }
+    ensures numbers { all_numbers queues.new ≡ all_numbers queues.old }
+    ensures grows { (n : ℕ) → HaveRoom n queues.old → HaveRoom n queues.new }
+{
+    for s in 0..MAX_SPACES {
+        reserve_one(queues, s, room)?;
+    }
+    Ok(())
+}
+
+// Makes room for so many numbers in one queue.
+fn reserve_one(queues: &mut [Queue; MAX_SPACES], s: usize, room: usize) -> Result<(), AllocError>
+    requires { s < MAX_SPACES }
+    ensures ok { OnOk result (room ≤ (queue_at queues.new s).room) }
+    ensures grown { IsGrown queues.old s queues.new }
+{
+    queues[s].reserve(room)
+}
+
+// Puts a number behind the others of the space's queue, in which there is room.
+fn push_on(queues: &mut [Queue; MAX_SPACES], s: SpaceNo, a: ActNo)
+    requires space { s.0 < MAX_SPACES }
+    requires room { queued (queue_at queues.old s.0) < (queue_at queues.old s.0).room }
+    ensures { let queue = queue_at queues.old s.0 in
+        queues.new ≡ slice_set queues.old s.0 (record queue { numbers = queue.numbers ++ a ∷ [] }) }
+{
+    queues[usize::from(s.0)].push(a);
+}
+
+// Takes the first number out of the space's queue, if there is one.
+fn pop_from(queues: &mut [Queue; MAX_SPACES], s: SpaceNo) -> Option<ActNo>
+    ensures first { result ≡ slice_get (queue_at queues.old s.0).numbers 0 }
+    ensures rest { let queue = queue_at queues.old s.0 in
+        queues.new ≡ slice_set queues.old s.0 (record queue { numbers = drop 1 queue.numbers }) }
+{
+    if usize::from(s.0) < MAX_SPACES {
+        queues[usize::from(s.0)].pop()
+    } else {
+        None
+    }
+}
+
+// How many numbers stand in the space's queue.
+fn length_of(queues: &[Queue; MAX_SPACES], s: SpaceNo) -> usize
+    ensures { result ≡ queued (queue_at queues.now s.0) }
+{
+    queues.get(usize::from(s.0)).map_or(0, Queue::len)
 }
