@@ -1,6 +1,6 @@
 use Rattle.std.proofs.Common.{◌∷◌, ap, ◌∙◌}
-use Rattle.sa_links.proofs.PlainSteps.{changed, read}
-use Rattle.sa_links.proofs.plain.Plain.push_front.Goals as goal
+use Rattle.tests_parts.proofs.PlainSteps.{changed, read}
+use Rattle.tests_parts.proofs.plain.Plain.push_front.Goals as goal
 
 pub returns : goal.returns
 returns c =

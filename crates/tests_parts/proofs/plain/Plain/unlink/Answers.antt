@@ -1,7 +1,7 @@
 use Rattle.std.proofs.Common.{ap, ◌∙◌}
 use Rattle.sa_links.specs.Lists.{without}
-use Rattle.sa_links.proofs.PlainSteps.{changed, read}
-use Rattle.sa_links.proofs.plain.Plain.unlink.Goals as goal
+use Rattle.tests_parts.proofs.PlainSteps.{changed, read}
+use Rattle.tests_parts.proofs.plain.Plain.unlink.Goals as goal
 
 pub returns : goal.returns
 returns c =

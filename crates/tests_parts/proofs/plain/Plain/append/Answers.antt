@@ -1,7 +1,7 @@
 use Rattle.std.proofs.Common.{◌++◌, ◌∙◌}
 use Rattle.std.proofs.lemmas.List.Elements.{same_from_all_zip}
-use Rattle.sa_links.proofs.PlainSteps.{changed, read}
-use Rattle.sa_links.proofs.plain.Plain.append.Goals as goal
+use Rattle.tests_parts.proofs.PlainSteps.{changed, read}
+use Rattle.tests_parts.proofs.plain.Plain.append.Goals as goal
 
 pub returns : goal.returns
 returns c =

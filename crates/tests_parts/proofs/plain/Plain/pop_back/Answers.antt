@@ -1,6 +1,6 @@
 use Rattle.std.proofs.Common.{◌-◌, length, take, ap, ◌∙◌}
-use Rattle.sa_links.proofs.PlainSteps.{changed, read}
-use Rattle.sa_links.proofs.plain.Plain.pop_back.Goals as goal
+use Rattle.tests_parts.proofs.PlainSteps.{changed, read}
+use Rattle.tests_parts.proofs.plain.Plain.pop_back.Goals as goal
 
 pub returns-clause-lists : goal.returns-clause-lists
 returns-clause-lists c =

@@ -1,10 +1,10 @@
 use Rattle.std.proofs.Common.{drop, sym, ap, ◌∙◌}
 use Rattle.std.proofs.lemmas.Bool.{eqb-true}
 use Rattle.std.proofs.lemmas.List.{nil_from_length}
-use Rattle.sa_links.proofs.PlainSteps.{changed, read}
-use Rattle.sa_links.proofs.plain.Plain.pop_front.Goals as goal
-use Rattle.sa_links.proofs.plain.Plain.pop_front.Goals.{then-is_empty, else-is_empty}
-use Rattle.sa_links.specs.contracts.plain.Plain.{the_view}
+use Rattle.tests_parts.proofs.PlainSteps.{changed, read}
+use Rattle.tests_parts.proofs.plain.Plain.pop_front.Goals as goal
+use Rattle.tests_parts.proofs.plain.Plain.pop_front.Goals.{then-is_empty, else-is_empty}
+use Rattle.tests_parts.specs.contracts.plain.Plain.{the_view}
 
 pub returns-clause-lists : goal.returns-clause-lists
 returns-clause-lists c =

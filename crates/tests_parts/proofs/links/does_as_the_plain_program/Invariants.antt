@@ -1,5 +1,5 @@
 use Rattle.std.proofs.Common.{◌≡◌, length}
-use Rattle.sa_links.proofs.tests.does_as_the_plain_program.Given as goal
+use Rattle.tests_parts.proofs.links.does_as_the_plain_program.Given as goal
 
 abbrev pub invariant-loop-turn : goal.invariant-loop-turn
 invariant-loop-turn g l = record {
