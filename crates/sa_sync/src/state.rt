@@ -1,7 +1,7 @@
 ghost use Rattle.std.specs.Prelude.{◌≡◌, ◌-◌, ◌+◌, ◌<◌, ◌≤◌, ◌^◌, ◌↔◌, length, IfOk, IfSome};
 ghost use Rattle.std.specs.Option.{option_map};
 ghost use Rattle.sa_sync.specs.Sync.{Sync, opening, cell_at, semaphore_at, is_done, WaitsNowhere, WaitsOnce};
-ghost use Rattle.sa_sync.specs.Calls.{locked, unlocked, waited, signalled, joined, finished, first_joiner, without_joiner, stored};
+ghost use Rattle.sa_sync.specs.Calls.{locked, unlocked, waited, signalled, joined, finished, first_joiner, without_joiner, stored, is_holder};
 
 use crate::answer::SyncAnswer;
 use crate::{MAX_MUTEXES, MAX_SEMAPHORES, MAX_THREADS};
@@ -29,11 +29,11 @@ impl Model for SyncState {
 
     ghost Value = { Sync };
 
-    ghost use Rattle.sa_sync.specs.Parts.{sync_of, HasQueues};
+    ghost use Rattle.sa_sync.specs.Parts.{sync_of, IsState};
 
     ghost view = { sync_of };
 
-    ghost invariant = { HasQueues };
+    ghost invariant = { IsState };
 }
 
 impl SyncState {
@@ -63,32 +63,40 @@ impl SyncState {
         ensures answer { result ≡ (locked self.old t.0 m).answer }
     {
         let mutex = m as usize;
-        if self.holders[mutex].is_none() {
-            self.holders[mutex] = Some(t);
-            return SyncAnswer::Goes;
+        match self.holders[mutex] {
+            None => {
+                self.holders[mutex] = Some(t);
+                SyncAnswer::Goes
+            }
+            Some(_) => {
+                self.queues.push_back(mutex_queue(m), t.0 as u32);
+                SyncAnswer::Waits
+            }
         }
-        self.queues.push_back(mutex_queue(m), t.0 as u32);
-        SyncAnswer::Waits
     }
 
     /// The instruction `unlock m`: nothing where the thread does not hold the mutex; else the first in its
     /// queue holds it and is woken, or it is free.
     pub fn unlock(&mut self, t: ThreadNo, m: u16) -> SyncAnswer
-        requires declared { m < length self.old.mutexes }
+        requires { m < length self.old.mutexes }
         ensures state { self.new ≡ (unlocked self.old t.0 m).state }
         ensures answer { result ≡ (unlocked self.old t.0 m).answer }
     {
         let mutex = m as usize;
-        if self.holders[mutex] != Some(t) {
+        if !is_held_by(self.holders[mutex], t) {
             return SyncAnswer::Goes;
         }
-        let Some(next) = self.queues.pop_front(mutex_queue(m)) else {
-            self.holders[mutex] = None;
-            return SyncAnswer::Goes;
-        };
-        let next = ThreadNo(next as u16);
-        self.holders[mutex] = Some(next);
-        SyncAnswer::Wakes(next)
+        match self.queues.pop_front(mutex_queue(m)) {
+            None => {
+                self.holders[mutex] = None;
+                SyncAnswer::Goes
+            }
+            Some(next) => {
+                let next = ThreadNo(next as u16);
+                self.holders[mutex] = Some(next);
+                SyncAnswer::Wakes(next)
+            }
+        }
     }
 
     /// The instruction `wait k` of a thread that waits nowhere: it takes one from a count above 0, else it
@@ -101,13 +109,15 @@ impl SyncState {
         ensures answer { result ≡ (waited self.old t.0 k).answer }
     {
         let semaphore = k as usize;
-        if self.counts[semaphore] == 0 {
+        let count = self.counts[semaphore];
+        if count == 0 {
             let queue = semaphore_queue(self.holders.len(), k);
             self.queues.push_back(queue, t.0 as u32);
-            return SyncAnswer::Waits;
+            SyncAnswer::Waits
+        } else {
+            self.counts[semaphore] = count - 1;
+            SyncAnswer::Goes
         }
-        self.counts[semaphore] -= 1;
-        SyncAnswer::Goes
     }
 
     /// The instruction `signal k`: it wakes the first in the semaphore's queue, or adds one to its count,
@@ -120,11 +130,13 @@ impl SyncState {
     {
         let semaphore = k as usize;
         let queue = semaphore_queue(self.holders.len(), k);
-        let Some(first) = self.queues.pop_front(queue) else {
-            self.counts[semaphore] += 1;
-            return SyncAnswer::Goes;
-        };
-        SyncAnswer::Wakes(ThreadNo(first as u16))
+        match self.queues.pop_front(queue) {
+            None => {
+                self.counts[semaphore] += 1;
+                SyncAnswer::Goes
+            }
+            Some(first) => SyncAnswer::Wakes(ThreadNo(first as u16)),
+        }
     }
 
     /// The instruction `join` of a thread that waits nowhere, where `made` threads, at most 512, were made:
@@ -136,11 +148,12 @@ impl SyncState {
         ensures state { self.new ≡ (joined self.old t.0 other made).state }
         ensures answer { result ≡ (joined self.old t.0 other made).answer }
     {
-        if other >= made as u64 || self.done[other as usize] {
-            return SyncAnswer::Goes;
+        if other < made as u64 && !self.done[other as usize] {
+            self.queues.push_back(other as u32, t.0 as u32);
+            SyncAnswer::Waits
+        } else {
+            SyncAnswer::Goes
         }
-        self.queues.push_back(other as u32, t.0 as u32);
-        SyncAnswer::Waits
     }
 
     /// The thread is done. Those that join it go on waiting until `next_joiner` takes them.
@@ -182,6 +195,16 @@ impl SyncState {
         ensures { WaitsOnce self.now }
     {
         self.queues.are_apart();
+    }
+}
+
+// Whether a mutex with this holder is held by the thread.
+fn is_held_by(holder: Option<ThreadNo>, t: ThreadNo) -> bool
+    ensures { result ≡ is_holder t.0 (option_map (λ u. u.0) holder) }
+{
+    match holder {
+        None => false,
+        Some(holder) => holder.0 == t.0,
     }
 }
 
