@@ -1,13 +1,13 @@
 -- How a state shows what its fields say, and what it shows once one of them changes.
-use Rattle.std.proofs.Common.{◌≡◌, ℕ, ◌+◌, ◌-◌, ◌≤◌, ◌<◌, Bool, List, [], ◌∷◌, ◌++◌, length, map, take, drop, set, get_or, Option, Some, None, refl, ap, add_assoc, take_all, ◌∙◌, arith, length-drop}
-use Rattle.std.proofs.lemmas.List.{get_or-drop, drop-set-add, drop-set-lt, take-set-le, length-set, take-append-drop, append_assoc}
+use Rattle.std.proofs.Common.{◌≡◌, ℕ, ◌+◌, ◌<◌, Bool, List, [], length, map, take, drop, set, get_or, Option, None, refl, ap, add_assoc, take_all, ◌∙◌, arith, length-drop}
+use Rattle.std.proofs.lemmas.List.{get_or-drop, drop-set-add, drop-set-lt, take-set-le, length-set}
 use Rattle.std.proofs.Math.Seq.{take-set-lt, take-add}
 use Rattle.std.proofs.lemmas.Simd.{get_or-zip2}
 use Rattle.std.specs.Option.{option_map}
 use Rattle.std.specs.Simd.Lanes.{zip2}
 use Rattle.sa_base.specs.declared.number.ThreadNo.{ThreadNo}
 use Rattle.sa_sync.specs.declared.TheConstants.{MAX_THREADS}
-use Rattle.sa_sync.specs.Sync.{Sync, Mutex, Semaphore, free_mutex, semaphore_of, mutex_at, semaphore_at, queues_of, with_mutex, with_semaphore, with_joiners}
+use Rattle.sa_sync.specs.Sync.{Mutex, Semaphore, free_mutex, semaphore_of, mutex_at, semaphore_at, queues_of, with_mutex, with_semaphore, with_joiners}
 use Rattle.sa_sync.specs.Parts.{HasQueues, mutex_of, semaphore_of as semaphore_with, shown}
 use Rattle.sa_sync.proofs.Lists.{zip2-set, zip2-set_past, map-zip2}
 

@@ -1,5 +1,5 @@
 -- What a state shows after each call is what the call's definition says.
-use Rattle.std.proofs.Common.{◌≡◌, ◌≢◌, ℕ, zero, suc, ◌+◌, ◌-◌, ◌≤◌, ◌<◌, Bool, true, false, cond, not, ◌&&◌, List, [], ◌∷◌, ◌++◌, length, drop, take, set, get_or, Option, Some, None, slice_get, nat_lt, refl, sym, ap, ◌∙◌, subst, arith, length-drop}
+use Rattle.std.proofs.Common.{◌≡◌, ◌≢◌, ℕ, suc, ◌+◌, ◌-◌, ◌≤◌, ◌<◌, true, false, cond, not, ◌&&◌, List, [], ◌∷◌, ◌++◌, length, drop, set, get_or, Option, Some, None, slice_get, nat_lt, refl, sym, ap, ◌∙◌, subst, arith, length-drop}
 use Rattle.std.proofs.lemmas.Bool.{lt-ltb}
 use Rattle.std.proofs.lemmas.List.{get_or_default, get_or-take, set-get_or}
 use Rattle.std.specs.Option.{option_map}
@@ -9,7 +9,7 @@ use Rattle.sa_links.specs.Lists.{Lists, IsApart, IsFree, count_in_all, with_list
 use Rattle.sa_sync.specs.declared.TheConstants.{MAX_THREADS}
 use Rattle.sa_sync.specs.declared.state.SyncState.TheInside.{Inside}
 use Rattle.sa_sync.specs.Sync.{Sync, WaitsNowhere, WaitsOnce, queues_of, mutex_at, semaphore_at, joiners_at, with_mutex, with_semaphore, with_joiners}
-use Rattle.sa_sync.specs.Calls.{Change, goes, waits, wakes, is_holder, locked, locked_by, passed_on, unlocked, waited, waited_by, signalled, signalled_by, joined, first_joiner, without_joiner}
+use Rattle.sa_sync.specs.Calls.{goes, waits, wakes, is_holder, locked, locked_by, passed_on, unlocked, waited, waited_by, signalled, signalled_by, joined, first_joiner, without_joiner}
 use Rattle.sa_sync.specs.Parts.{IsState, mutex_of, semaphore_of, shown, sync_of}
 use Rattle.sa_sync.proofs.Lists.{length_zip2}
 use Rattle.sa_sync.proofs.Shown.{queues-shown, mutex-shown, semaphore-shown, shown-mutex, shown-semaphore, shown-joiners}
@@ -40,7 +40,7 @@ module _ (s : Inside) (v : Sync) (is : sync_of s ≡ v) (good : IsState s) where
       let same = ap (λ (x : Sync). length x.semaphores) is in omega (arith, all, same)
 
   -- a thread waits nowhere where its node is free, and once where the lists are apart
-  queues_are : (t : ℕ) → count_in_all t s.queues.lists ≡ count_in_all t (queues_of v)
+  pub queues_are : (t : ℕ) → count_in_all t s.queues.lists ≡ count_in_all t (queues_of v)
   queues_are t = ap (count_in_all t) (sym (queues-shown s.holders.items s.counts.items s.queues.lists s.done.items s.cells.items good.queues) ∙ ap queues_of is)
 
   pub waits-nowhere : (t : ℕ) → WaitsNowhere v t → IsFree s.queues t

@@ -1,6 +1,6 @@
 -- What each call changes and answers: the effects of the instructions `lock`, `unlock`, `wait`, `signal`, `join`,
 -- `load` and `store`, and of a thread's end, on what the threads of a space wait on.
-use Rattle.std.specs.Prelude.{◌≡◌, ℕ, zero, suc, ◌+◌, Bool, true, false, not, ◌&&◌, List, [], ◌∷◌, ◌++◌, drop, Option, Some, None, ◌==◌, nat_lt, slice_get, slice_set, if◌then◌else◌}
+use Rattle.std.specs.Prelude.{ℕ, zero, suc, ◌+◌, Bool, true, false, not, ◌&&◌, List, [], ◌∷◌, ◌++◌, drop, Option, Some, None, ◌==◌, nat_lt, slice_get, slice_set, if◌then◌else◌}
 use Rattle.sa_sync.specs.declared.answer.SyncAnswer.{SyncAnswer}
 use Rattle.sa_sync.specs.declared.answer.SyncAnswer.TheVariants as answer
 use Rattle.sa_sync.specs.Sync.{Sync, mutex_at, semaphore_at, joiners_at, is_done, with_mutex, with_semaphore, with_joiners}

@@ -2,6 +2,7 @@
 #![tactic(auto)]
 
 mod answer;
+pub mod laws;
 mod state;
 
 pub use answer::SyncAnswer;

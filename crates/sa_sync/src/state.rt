@@ -1,6 +1,6 @@
-ghost use Rattle.std.specs.Prelude.{◌≡◌, ◌-◌, ◌+◌, ◌<◌, ◌≤◌, ◌^◌, ◌↔◌, length, IfOk, IfSome};
+ghost use Rattle.std.specs.Prelude.{◌≡◌, ◌-◌, ◌+◌, ◌<◌, ◌≤◌, ◌^◌, ◌↔◌, length, IfOk, IsTrue};
 ghost use Rattle.std.specs.Option.{option_map};
-ghost use Rattle.sa_sync.specs.Sync.{Sync, opening, cell_at, semaphore_at, is_done, WaitsNowhere, WaitsOnce};
+ghost use Rattle.sa_sync.specs.Sync.{opening, cell_at, semaphore_at, WaitsNowhere, WaitsOnce};
 ghost use Rattle.sa_sync.specs.Calls.{locked, unlocked, waited, signalled, joined, finished, first_joiner, without_joiner, stored, is_holder};
 
 use crate::answer::SyncAnswer;
@@ -188,6 +188,22 @@ impl SyncState {
         ensures { self.new ≡ stored self.old c v }
     {
         self.cells[c as usize] = v;
+    }
+
+    /// Whether the thread stands in no queue.
+    pub fn waits_nowhere(&self, t: ThreadNo) -> bool
+        requires { t.0 < MAX_THREADS }
+        ensures { IsTrue result ↔ WaitsNowhere self.now t.0 }
+    {
+        self.queues.is_free(t.0 as u32)
+    }
+
+    /// The count of a semaphore.
+    pub fn count(&self, k: u16) -> u32
+        requires { k < length self.now.semaphores }
+        ensures { result ≡ (semaphore_at self.now k).count }
+    {
+        self.counts[k as usize]
     }
 
     /// Says that each thread stands in one queue at most. It does nothing.

@@ -1,4 +1,4 @@
-use Rattle.std.proofs.Common.{◌≡◌, ℕ, ◌+◌, ◌-◌, ◌<◌, false, ap, sym, ◌∙◌, length, refl, arith}
+use Rattle.std.proofs.Common.{false, ap, sym, ◌∙◌, arith}
 use Rattle.std.proofs.lemmas.List.{get_or_default}
 use Rattle.sa_sync.proofs.Steps.{waits-nowhere, join_waits}
 use Rattle.sa_sync.proofs.state.SyncState.join.Goals as goal

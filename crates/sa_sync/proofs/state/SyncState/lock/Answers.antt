@@ -1,4 +1,4 @@
-use Rattle.std.proofs.Common.{◌<◌, ap, length, refl, arith}
+use Rattle.std.proofs.Common.{ap, arith}
 use Rattle.sa_sync.proofs.Steps.{waits-nowhere}
 use Rattle.sa_sync.proofs.Steps.{mutex_declared, lock_goes, lock_waits}
 use Rattle.sa_sync.proofs.state.SyncState.lock.Goals as goal

@@ -1,4 +1,4 @@
-use Rattle.std.proofs.Common.{rules, ap, ◌∙◌, replicate, None, arith, length, ◌+◌, ◌≡◌, ℕ}
+use Rattle.std.proofs.Common.{rules, ap, ◌∙◌, replicate, None, arith, length}
 use Rattle.sa_sync.proofs.Start.{shown-new}
 use Rattle.sa_sync.proofs.state.SyncState.new.Goals as goal
 

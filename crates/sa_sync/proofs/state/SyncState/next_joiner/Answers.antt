@@ -1,4 +1,4 @@
-use Rattle.std.proofs.Common.{◌≡◌, ℕ, ◌+◌, ◌-◌, ◌<◌, ap, sym, ◌∙◌, length, refl, arith}
+use Rattle.std.proofs.Common.{ap, sym, ◌∙◌}
 use Rattle.std.specs.Option.{option_map}
 use Rattle.sa_sync.proofs.Steps.{joiner_first, joiner_taken}
 use Rattle.sa_sync.proofs.state.SyncState.next_joiner.Goals as goal

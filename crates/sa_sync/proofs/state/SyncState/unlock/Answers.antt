@@ -1,4 +1,4 @@
-use Rattle.std.proofs.Common.{◌<◌, ap, sym, ◌∙◌, length, refl, arith}
+use Rattle.std.proofs.Common.{ap, sym, ◌∙◌, arith}
 use Rattle.sa_sync.proofs.Steps.{mutex_declared, unlock_nothing, unlock_frees, unlock_wakes}
 use Rattle.sa_sync.proofs.state.SyncState.unlock.Goals as goal
 
