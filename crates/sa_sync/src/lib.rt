@@ -8,9 +8,6 @@ mod state;
 pub use answer::SyncAnswer;
 pub use state::SyncState;
 
-/// How many threads a space makes at most: their numbers are those below.
-pub const MAX_THREADS: u16 = 512;
-
 /// How many mutexes a space declares at most.
 pub const MAX_MUTEXES: u16 = 64;
 
