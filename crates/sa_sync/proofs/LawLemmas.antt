@@ -5,7 +5,7 @@ use Rattle.std.proofs.lemmas.List.{get_or-map, get_or-set_same, length-map, leng
 use Rattle.std.proofs.lemmas.List.Sums.{sum_by-append, sum_by-cons}
 use Rattle.sa_links.specs.Lists.{count_in, count_in_all, list_at}
 use Rattle.sa_links.proofs.Counting.{count_set}
-use Rattle.sa_base.specs.declared.TheConstants.{MAX_THREADS}
+use Rattle.sa_base.specs.declared.limits.TheConstants.{MAX_THREADS}
 use Rattle.sa_sync.specs.declared.answer.SyncAnswer.{SyncAnswer}
 use Rattle.sa_sync.specs.declared.answer.SyncAnswer.TheVariants.{Goes, Waits, Wakes}
 use Rattle.sa_sync.specs.Sync.{Sync, Mutex, Semaphore, free_mutex, semaphore_of, mutex_at, semaphore_at, joiners_at, is_done, with_mutex, with_semaphore, with_joiners, waits_of, WaitsNowhere, WaitsOnce}

@@ -6,7 +6,7 @@ use Rattle.std.proofs.lemmas.Simd.{get_or-zip2}
 use Rattle.std.specs.Option.{option_map}
 use Rattle.std.specs.Simd.Lanes.{zip2}
 use Rattle.sa_base.specs.declared.number.ThreadNo.{ThreadNo}
-use Rattle.sa_base.specs.declared.TheConstants.{MAX_THREADS}
+use Rattle.sa_base.specs.declared.limits.TheConstants.{MAX_THREADS}
 use Rattle.sa_sync.specs.Sync.{Mutex, Semaphore, free_mutex, semaphore_of, mutex_at, semaphore_at, queues_of, with_mutex, with_semaphore, with_joiners}
 use Rattle.sa_sync.specs.Parts.{HasQueues, mutex_of, semaphore_of as semaphore_with, shown}
 use Rattle.sa_sync.proofs.Lists.{zip2-set, zip2-set_past, map-zip2}

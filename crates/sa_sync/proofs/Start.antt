@@ -4,7 +4,7 @@ use Rattle.std.specs.Simd.Lanes.{zip2}
 use Rattle.sa_base.specs.declared.number.ThreadNo.{ThreadNo}
 use Rattle.sa_instr.specs.Space.{SpaceView}
 use Rattle.sa_links.specs.Lists.{Lists}
-use Rattle.sa_base.specs.declared.TheConstants.{MAX_THREADS}
+use Rattle.sa_base.specs.declared.limits.TheConstants.{MAX_THREADS}
 use Rattle.sa_sync.specs.Sync.{opening, free_mutex, semaphore_of as unwaited}
 use Rattle.sa_sync.specs.Parts.{mutex_of, semaphore_of, shown}
 use Rattle.sa_sync.proofs.Lists.{zip2-replicate, map-replicate, drop-replicate, take-replicate}

@@ -6,7 +6,7 @@ use Rattle.std.specs.Option.{option_map}
 use Rattle.std.specs.Simd.Lanes.{zip2}
 use Rattle.sa_base.specs.declared.number.ThreadNo.{ThreadNo}
 use Rattle.sa_links.specs.Lists.{Lists, IsApart, IsFree, count_in_all, with_list, list_at}
-use Rattle.sa_base.specs.declared.TheConstants.{MAX_THREADS}
+use Rattle.sa_base.specs.declared.limits.TheConstants.{MAX_THREADS}
 use Rattle.sa_sync.specs.declared.state.SyncState.TheInside.{Inside}
 use Rattle.sa_sync.specs.Sync.{Sync, WaitsNowhere, WaitsOnce, queues_of, mutex_at, semaphore_at, joiners_at, with_mutex, with_semaphore, with_joiners}
 use Rattle.sa_sync.specs.Calls.{goes, waits, wakes, is_holder, locked, locked_by, passed_on, unlocked, waited, waited_by, signalled, signalled_by, joined, first_joiner, without_joiner}

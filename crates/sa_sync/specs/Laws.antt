@@ -1,6 +1,6 @@
 -- What holds of the calls, whatever the state: who waits after each, and in what order threads are woken.
 use Rattle.std.specs.Prelude.{◌≡◌, ℕ, zero, suc, ◌+◌, ◌≤◌, ◌<◌, ◌==◌, List, [], ◌∷◌, ◌++◌, length, slice_get, if◌then◌else◌}
-use Rattle.sa_base.specs.declared.TheConstants.{MAX_THREADS}
+use Rattle.sa_base.specs.declared.limits.TheConstants.{MAX_THREADS}
 use Rattle.sa_sync.specs.declared.answer.SyncAnswer.{SyncAnswer}
 use Rattle.sa_sync.specs.declared.answer.SyncAnswer.TheVariants as answer
 use Rattle.sa_sync.specs.Sync.{Sync, mutex_at, semaphore_at, joiners_at, waits_of, WaitsNowhere, WaitsOnce}

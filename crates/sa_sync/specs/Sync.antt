@@ -3,7 +3,7 @@
 use Rattle.std.specs.Prelude.{◌≡◌, ℕ, ◌≤◌, ◌<◌, Bool, false, List, [], ◌++◌, map, replicate, Option, None, slice_index, slice_index_or, slice_set}
 use Rattle.sa_instr.specs.Space.{SpaceView}
 use Rattle.sa_links.specs.Lists.{list_at, count_in_all}
-use Rattle.sa_base.specs.declared.TheConstants.{MAX_THREADS}
+use Rattle.sa_base.specs.declared.limits.TheConstants.{MAX_THREADS}
 
 -- who holds a mutex, and who waits for it
 pub record Mutex : Type 0 where

@@ -1,6 +1,6 @@
 use Rattle.std.proofs.Common.{◌+◌, ap, sym, ◌∙◌, arith}
 use Rattle.std.proofs.lemmas.List.{get_or_default}
-use Rattle.sa_base.specs.declared.TheConstants.{MAX_THREADS}
+use Rattle.sa_base.specs.declared.limits.TheConstants.{MAX_THREADS}
 use Rattle.sa_sync.proofs.Steps.{semaphore_declared, semaphore_read, signal_goes, signal_wakes}
 use Rattle.sa_sync.proofs.state.SyncState.signal.Goals as goal
 

@@ -1,6 +1,6 @@
 use Rattle.std.proofs.Common.{◌+◌, ◌-◌, ap, sym, ◌∙◌, arith}
 use Rattle.std.proofs.lemmas.List.{get_or_default}
-use Rattle.sa_base.specs.declared.TheConstants.{MAX_THREADS}
+use Rattle.sa_base.specs.declared.limits.TheConstants.{MAX_THREADS}
 use Rattle.sa_sync.proofs.Steps.{semaphore_declared, waits-nowhere, wait_waits, wait_goes, more_than_none}
 use Rattle.sa_sync.proofs.state.SyncState.wait.Goals as goal
 
