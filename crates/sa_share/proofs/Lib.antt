@@ -2,3 +2,4 @@ pub mod ExistLemmas
 pub mod FairLemmas
 pub mod ShareLemmas
 pub mod TurnLemmas
+pub mod RoundLemmas

@@ -1,3 +1,4 @@
 pub mod Fair
+pub mod Rounds
 pub mod Share
 pub mod Turn

@@ -1,13 +1,22 @@
 //! Laws of shares alone. No function here does anything: its clauses are proved for all shares.
-ghost use Rattle.std.specs.Prelude.{◌≡◌, ℕ, List, length};
+ghost use Rattle.std.specs.Prelude.{◌≡◌, ℕ, ◌≤◌, List, length};
 ghost use Rattle.sa_share.specs.declared.Claim.{Claim};
 ghost use Rattle.sa_share.specs.Share.{share_at, IsFirst, IsShare};
+ghost use Rattle.sa_share.specs.Rounds.{shares_of};
 ghost use Rattle.sa_share.specs.Fair.{IsSpent, ServesHigherFirst, IsEven, IsLowered};
 
 /// Whatever the claims and however many the processors, there are shares.
 pub fn shares_exist()
     ensures { (processors first : ℕ) (claims : List Claim) → IsFirst first claims
         → (shares : List ℕ) × (length shares ≡ length claims) × IsShare processors first claims shares }
+{}
+
+/// Giving the processors one after another gives the shares.
+pub fn shares_come_one_by_one()
+    ensures shares { (processors first : ℕ) (claims : List Claim) → length claims ≤ 16
+        → IsFirst first claims → IsShare processors first claims (shares_of processors first claims) }
+    ensures places { (processors first : ℕ) (claims : List Claim) → length claims ≤ 16
+        → IsFirst first claims → length (shares_of processors first claims) ≡ 16 }
 {}
 
 /// Two sharings of the same processors among the same claims give each space the same.

@@ -3,6 +3,7 @@
 
 ghost use Rattle.std.specs.Prelude.{◌≡◌, ℕ, ◌<◌, ◌≤◌, ◌↔◌, length, IsTrue, IfSome, IfNone};
 ghost use Rattle.sa_share.specs.Share.{rank_of, want_at, share_at, IsFirst, IsShare};
+ghost use Rattle.sa_share.specs.Rounds.{shares_of};
 ghost use Rattle.sa_share.specs.Turn.{IsBefore, GoesFirst, IsNext};
 
 pub mod laws;
@@ -31,6 +32,7 @@ pub fn shares(processors: u16, first: u16, claims: &[Claim]) -> [u16; MAX_SPACES
     requires spaces { length claims.now ≤ MAX_SPACES }
     requires first { IsFirst first claims.now }
     ensures shares { IsShare processors first claims.now result }
+    ensures function { result ≡ shares_of processors first claims.now }
     ensures past { (s : ℕ) → length claims.now ≤ s → share_at result s ≡ 0 }
 {
     let mut shares = [0; MAX_SPACES];

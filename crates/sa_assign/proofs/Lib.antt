@@ -1,0 +1,4 @@
+pub mod AimLemmas
+pub mod ChoiceLemmas
+pub mod LineLemmas
+pub mod ReaimLemmas

@@ -1,0 +1,4 @@
+pub mod Aims
+pub mod AssignView
+pub mod Laws
+pub mod Reaim

@@ -1,0 +1,295 @@
+ghost use Rattle.std.specs.Prelude.{◌≡◌, ℕ, ◌+◌, ◌*◌, ◌≤◌, ◌<◌, List, ◌++◌, length, replicate, false, None, Some, IfSome, slice_index_or, slice_set};
+ghost use Rattle.sa_share.specs.Share.{IsFirst, share_at};
+ghost use Rattle.sa_share.specs.Rounds.{shares_of};
+
+use arrayvec::ArrayVec;
+use sa_base::{Item, ProcNo, Record, SpaceNo, Trace};
+use sa_share::{Claim, MAX_PROCESSORS, MAX_SPACES, shares};
+use std::marker::Model;
+
+// How many processors there are at most, as a length.
+const PLACES: usize = 16;
+
+/// Of each processor: the space that owns it, its aim, its interrupt line and its idle mark. The owner
+/// is the space whose activation runs there; the aim is the space that the policy gave it to; a raised
+/// line asks for an interrupt. No call takes memory.
+#[derive(Debug, Drop)]
+pub struct Assign {
+    owners: ArrayVec<Option<SpaceNo>, PLACES>,
+    aims: ArrayVec<Option<SpaceNo>, PLACES>,
+    lines: ArrayVec<Option<u64>, PLACES>,
+    marks: ArrayVec<bool, PLACES>,
+}
+
+impl Model for Assign {
+    ghost use Rattle.std.specs.Prelude.{◌≡◌, length, ◌≤◌};
+    ghost use Rattle.sa_assign.specs.AssignView.{AssignView};
+
+    ghost Value = { AssignView };
+
+    ghost view = { λ a. record {
+      owners = a.owners.items;
+      aims = a.aims.items;
+      lines = a.lines.items;
+      marks = a.marks.items;
+    } };
+
+    ghost invariant = { λ a. (1 ≤ length a.owners.items)
+        × (length a.aims.items ≡ length a.owners.items)
+        × (length a.lines.items ≡ length a.owners.items)
+        × (length a.marks.items ≡ length a.owners.items) };
+}
+
+impl Assign {
+    ghost use Rattle.sa_assign.specs.AssignView.{AssignView};
+    ghost use Rattle.sa_assign.specs.Aims.{aimed, has_no_aim, can_be_spared, is_idle_and_spared, least_below, greatest_below, choice, missing, changes_for};
+    ghost use Rattle.sa_base.specs.Items.{items_at};
+    ghost use Rattle.sa_assign.specs.Reaim.{reaimed, reaim_records, carried_out};
+
+    /// So many processors, 1 to 16: none is owned, aimed or marked, and every line is low.
+    pub fn new(processors: u16) -> Self
+        requires some { 1 ≤ processors }
+        requires few { processors ≤ MAX_PROCESSORS }
+        ensures { let none : AssignView = record {
+          owners = replicate processors None;
+          aims = replicate processors None;
+          lines = replicate processors None;
+          marks = replicate processors false;
+        } in result ≡ none }
+    {
+        Assign {
+            owners: cells(processors, None),
+            aims: cells(processors, None),
+            lines: cells(processors, None),
+            marks: cells(processors, false),
+        }
+    }
+
+    /// The space whose activation runs on the processor.
+    pub fn owner(&self, p: ProcNo) -> Option<SpaceNo>
+        requires { p.0 < length self.now.owners }
+        ensures { result ≡ slice_index_or self.now.owners p.0 None }
+    {
+        self.owners[usize::from(p.0)]
+    }
+
+    /// The space that the policy gave the processor to.
+    pub fn aim(&self, p: ProcNo) -> Option<SpaceNo>
+        requires { p.0 < length self.now.owners }
+        ensures { result ≡ slice_index_or self.now.aims p.0 None }
+    {
+        self.aims[usize::from(p.0)]
+    }
+
+    /// The event that raised the processor's interrupt line, or `None` where the line is low.
+    pub fn line(&self, p: ProcNo) -> Option<u64>
+        requires { p.0 < length self.now.owners }
+        ensures { result ≡ slice_index_or self.now.lines p.0 None }
+    {
+        self.lines[usize::from(p.0)]
+    }
+
+    /// Another space owns the processor, or none.
+    pub fn set_owner(&mut self, p: ProcNo, s: Option<SpaceNo>)
+        requires { p.0 < length self.old.owners }
+        ensures { self.new ≡ record self.old { owners = slice_set self.old.owners p.0 s } }
+    {
+        self.owners[usize::from(p.0)] = s;
+    }
+
+    /// The processor is given to no space.
+    pub fn clear_aim(&mut self, p: ProcNo)
+        requires { p.0 < length self.old.owners }
+        ensures { self.new ≡ record self.old { aims = slice_set self.old.aims p.0 None } }
+    {
+        self.aims[usize::from(p.0)] = None;
+    }
+
+    /// Marks the processor idle, or takes the mark away.
+    pub fn mark(&mut self, p: ProcNo, idle: bool)
+        requires { p.0 < length self.old.owners }
+        ensures { self.new ≡ record self.old { marks = slice_set self.old.marks p.0 idle } }
+    {
+        self.marks[usize::from(p.0)] = idle;
+    }
+
+    /// The event raises the processor's line, which is low.
+    pub fn raise(&mut self, p: ProcNo, event: u64)
+        requires within { p.0 < length self.old.owners }
+        requires low { slice_index_or self.old.lines p.0 None ≡ None }
+        ensures { self.new ≡ record self.old { lines = slice_set self.old.lines p.0 (Some event) } }
+    {
+        self.lines[usize::from(p.0)] = Some(event);
+    }
+
+    /// The processor's line is low from now on.
+    pub fn lower(&mut self, p: ProcNo)
+        requires { p.0 < length self.old.owners }
+        ensures { self.new ≡ record self.old { lines = slice_set self.old.lines p.0 None } }
+    {
+        self.lines[usize::from(p.0)] = None;
+    }
+
+    /// Changes aims until each claim's space has at least its share of them, where the turns for the
+    /// remainder begin at the space `first`. Space by space, in the order of their numbers, each missing aim
+    /// is that of the lowest-numbered processor without one, else of the lowest-numbered processor that is
+    /// marked idle and aimed at a space with more than its share, else of the highest-numbered processor
+    /// aimed at such a space. Each change is recorded for the event and the processor of `item`, and behind it
+    /// the line that it raises where that was low. There are at most 16 claims; `first` is one of them, or 0
+    /// where there are none.
+    pub fn reaim(&mut self, claims: &[Claim], first: u16, item: Item, trace: &mut Trace)
+        requires spaces { length claims.now ≤ MAX_SPACES }
+        requires first { IsFirst first claims.now }
+        requires room { 32 ≤ trace.old.spare }
+        ensures assign { self.new ≡ reaimed item.event (length claims.now)
+            (shares_of (length self.old.owners) first claims.now) self.old }
+        ensures items { trace.new.items ≡ trace.old.items ++ items_at item.event item.proc
+            (reaim_records item.event (length claims.now)
+            (shares_of (length self.old.owners) first claims.now) self.old) }
+        ensures spare { trace.new.spare + length trace.new.items
+            ≡ trace.old.spare + length trace.old.items }
+    {
+        let shares = shares(self.processors(), first, claims);
+        for s in 0..claims.len() {
+            self.fill(&shares, SpaceNo(s as u16), item, trace);
+        }
+    }
+
+    // Aims as many processors at the space as it misses.
+    fn fill(&mut self, shares: &[u16; MAX_SPACES], s: SpaceNo, item: Item, trace: &mut Trace)
+        requires space { s.0 < MAX_SPACES }
+        requires room { 2 * share_at shares.now s.0 ≤ trace.old.spare }
+        ensures carried { (self.new, trace.new.items) ≡ carried_out item.event item.proc
+            (changes_for (missing shares.now self.old.aims s.0) shares.now self.old.marks s.0 self.old.aims)
+            (self.old, trace.old.items) }
+        ensures cost { trace.old.spare ≤ trace.new.spare + 2 * share_at shares.now s.0 }
+        ensures spare { trace.new.spare + length trace.new.items
+            ≡ trace.old.spare + length trace.old.items }
+    {
+        let missing = usize::from(shares[usize::from(s.0)]).saturating_sub(self.aimed(s));
+        for _ in 0..missing {
+            self.aim_one(shares, s, item, trace);
+        }
+    }
+
+    // Aims one processor more at the space, if one can be chosen.
+    fn aim_one(&mut self, shares: &[u16; MAX_SPACES], s: SpaceNo, item: Item, trace: &mut Trace)
+        requires room { 2 ≤ trace.old.spare }
+        ensures carried { (self.new, trace.new.items) ≡ carried_out item.event item.proc
+            (changes_for 1 shares.now self.old.marks s.0 self.old.aims) (self.old, trace.old.items) }
+        ensures cost { trace.old.spare ≤ trace.new.spare + 2 }
+        ensures spare { trace.new.spare + length trace.new.items
+            ≡ trace.old.spare + length trace.old.items }
+    {
+        let Some(p) = self.choice(shares) else {
+            return;
+        };
+        self.aims[usize::from(p)] = Some(s);
+        trace.add(Item {
+            what: Record::Aim(ProcNo(p), Some(s)),
+            ..item
+        });
+        if self.lines[usize::from(p)].is_none() {
+            self.lines[usize::from(p)] = Some(item.event);
+            trace.add(Item {
+                what: Record::Line(ProcNo(p)),
+                ..item
+            });
+        }
+    }
+
+    // The processor for a space that misses one.
+    fn choice(&self, shares: &[u16; MAX_SPACES]) -> Option<u16>
+        ensures choice { result ≡ choice shares.now self.now.marks self.now.aims }
+        ensures within { IfSome result (λ p. p < length self.now.aims) }
+    {
+        if let Some(p) = self.first_without_aim() {
+            return Some(p);
+        }
+        if let Some(p) = self.first_idle(shares) {
+            return Some(p);
+        }
+        self.last_to_spare(shares)
+    }
+
+    // The lowest-numbered processor without an aim.
+    fn first_without_aim(&self) -> Option<u16>
+        ensures { result ≡ least_below (length self.now.aims) (has_no_aim self.now.aims) }
+    {
+        for p in 0..self.processors() {
+            if self.aims[usize::from(p)].is_none() {
+                return Some(p);
+            }
+        }
+        None
+    }
+
+    // The lowest-numbered processor that is marked idle and aimed at a space with more than its share.
+    fn first_idle(&self, shares: &[u16; MAX_SPACES]) -> Option<u16>
+        ensures { result ≡ least_below (length self.now.aims)
+            (is_idle_and_spared shares.now self.now.marks self.now.aims) }
+    {
+        for p in 0..self.processors() {
+            if self.marks[usize::from(p)] && self.can_be_spared(shares, p) {
+                return Some(p);
+            }
+        }
+        None
+    }
+
+    // The highest-numbered processor aimed at a space with more than its share.
+    fn last_to_spare(&self, shares: &[u16; MAX_SPACES]) -> Option<u16>
+        ensures { result ≡ greatest_below (length self.now.aims) (can_be_spared shares.now self.now.aims) }
+    {
+        for p in (0..self.processors()).rev() {
+            if self.can_be_spared(shares, p) {
+                return Some(p);
+            }
+        }
+        None
+    }
+
+    // Whether the processor is aimed at a space with more than its share.
+    fn can_be_spared(&self, shares: &[u16; MAX_SPACES], p: u16) -> bool
+        requires { p < length self.now.aims }
+        ensures { result ≡ can_be_spared shares.now self.now.aims p }
+    {
+        match self.aims[usize::from(p)] {
+            None => false,
+            Some(s) => {
+                let share = shares.get(usize::from(s.0)).copied().unwrap_or(0);
+                usize::from(share) < self.aimed(s)
+            }
+        }
+    }
+
+    // How many processors are aimed at the space.
+    fn aimed(&self, s: SpaceNo) -> usize
+        ensures { result ≡ aimed s.0 self.now.aims }
+    {
+        self.aims.iter().filter(|aim| **aim == Some(s)).count()
+    }
+
+    // The number of processors.
+    fn processors(&self) -> u16
+        ensures owners { result ≡ length self.now.owners }
+        ensures aims { result ≡ length self.now.aims }
+        ensures marks { result ≡ length self.now.marks }
+        ensures some { 1 ≤ result }
+        ensures few { result ≤ MAX_PROCESSORS }
+    {
+        self.owners.len() as u16
+    }
+}
+
+// The same for each of so many processors.
+fn cells<T: Copy + Default>(processors: u16, value: T) -> ArrayVec<T, PLACES>
+    requires { processors ≤ MAX_PROCESSORS }
+    ensures { result.items ≡ replicate processors value }
+{
+    let mut cells = ArrayVec::new();
+    for _ in 0..processors {
+        cells.push(value);
+    }
+    cells
+}
