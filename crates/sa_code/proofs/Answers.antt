@@ -6,7 +6,7 @@ use Rattle.sa_base.specs.declared.number.ThreadNo.{ThreadNo}
 use Rattle.sa_lists.specs.ReadyView.{ReadyView, list_of, is_locked}
 use Rattle.sa_code.specs.declared.code.Op.{Op}
 use Rattle.sa_code.specs.declared.code.Op.TheVariants.{TakePush, Push, TakePop, Pop, Free, Leave, Yield}
-use Rattle.sa_code.specs.declared.state.TheConstants.{CODE_PAGE}
+use Rattle.sa_base.specs.declared.limits.TheConstants.{PACKAGE_PAGE}
 use Rattle.sa_code.specs.declared.state.PackageState.{PackageState}
 use Rattle.sa_code.specs.declared.state.Frame.{Frame}
 use Rattle.sa_code.specs.Micro.{micro, micro_at, taken, pushed, popped, chosen, list_in, is_resident, CanDo}
@@ -43,8 +43,8 @@ micro_at-answer s f resident (Some Leave) can = refl
 micro_at-answer s f resident (Some Yield) can = refl
 micro_at-answer s f resident None can = absurd can
 
-pub micro-answer : (s : PackageState) (f : Frame) (pages : ℕ) → CanDo s f (slice_get s.code f.pc) → (micro s f pages).done ≡ answer_of (slice_get s.code f.pc) (is_locked s.lists (list_in f).0) (is_resident pages CODE_PAGE)
-micro-answer s f pages can = micro_at-answer s f (is_resident pages CODE_PAGE) (slice_get s.code f.pc) can
+pub micro-answer : (s : PackageState) (f : Frame) (pages : ℕ) → CanDo s f (slice_get s.code f.pc) → (micro s f pages).done ≡ answer_of (slice_get s.code f.pc) (is_locked s.lists (list_in f).0) (is_resident pages PACKAGE_PAGE)
+micro-answer s f pages can = micro_at-answer s f (is_resident pages PACKAGE_PAGE) (slice_get s.code f.pc) can
 
 -- the frame goes on where the operation was done
 taken-goes_on : (s : PackageState) (f : Frame) (l : ProcNo) (held : Bool) → GoesOn f (taken s f l held).frame (is_did (taken s f l held).done)
@@ -72,7 +72,7 @@ micro_at-goes_on s f resident l (Some Yield) = record { list = refl; own = refl;
 micro_at-goes_on s f resident l None = record { list = refl; own = refl; place = refl }
 
 pub micro-goes_on : (s : PackageState) (f : Frame) (pages : ℕ) → GoesOn f (micro s f pages).frame (is_did (micro s f pages).done)
-micro-goes_on s f pages = micro_at-goes_on s f (is_resident pages CODE_PAGE) (list_in f) (slice_get s.code f.pc)
+micro-goes_on s f pages = micro_at-goes_on s f (is_resident pages PACKAGE_PAGE) (list_in f) (slice_get s.code f.pc)
 
 -- nothing changes where it was not done
 taken-still : (s : PackageState) (f : Frame) (l : ProcNo) (held : Bool) → is_did (taken s f l held).done ≡ false → IsStill s f (taken s f l held)
@@ -100,4 +100,4 @@ micro_at-still s f resident l (Some Yield) e = record { state = refl; frame = re
 micro_at-still s f resident l None e = record { state = refl; frame = refl }
 
 pub micro-still : (s : PackageState) (f : Frame) (pages : ℕ) → is_did (micro s f pages).done ≡ false → IsStill s f (micro s f pages)
-micro-still s f pages e = micro_at-still s f (is_resident pages CODE_PAGE) (list_in f) (slice_get s.code f.pc) e
+micro-still s f pages e = micro_at-still s f (is_resident pages PACKAGE_PAGE) (list_in f) (slice_get s.code f.pc) e

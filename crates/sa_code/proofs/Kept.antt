@@ -5,12 +5,12 @@ use Rattle.std.proofs.lemmas.Option.{same_Some}
 use Rattle.sa_base.specs.declared.number.ProcNo.{ProcNo}
 use Rattle.sa_base.specs.declared.number.SpaceNo.{SpaceNo}
 use Rattle.sa_base.specs.declared.number.ThreadNo.{ThreadNo}
-use Rattle.sa_lists.specs.declared.ready.TheConstants.{MAX_PROCESSORS, MAX_THREADS}
+use Rattle.sa_base.specs.declared.limits.TheConstants.{MAX_PROCESSORS, MAX_THREADS}
 use Rattle.sa_lists.specs.ReadyView.{ReadyView, is_locked, with_list, IsUnlisted, IsReady}
 use Rattle.sa_lists.proofs.Changes.{ready-no_threads, ready-pushed, ready-without_newest, ready-without_oldest, ready-with_lock}
 use Rattle.sa_code.specs.declared.code.Op.{Op}
 use Rattle.sa_code.specs.declared.code.Op.TheVariants.{TakePush, Push, TakePop, Pop, Free, Leave, Yield}
-use Rattle.sa_code.specs.declared.state.TheConstants.{CODE_PAGE}
+use Rattle.sa_base.specs.declared.limits.TheConstants.{PACKAGE_PAGE}
 use Rattle.sa_code.specs.declared.state.PackageState.{PackageState}
 use Rattle.sa_code.specs.declared.state.Frame.{Frame}
 use Rattle.sa_code.specs.Micro.{micro, micro_at, taken, pushed, popped, freed, chosen, without_chosen, list_in, is_resident, CanDo}
@@ -77,7 +77,7 @@ micro_at-package s f resident (Some Yield) h can = h
 micro_at-package s f resident None h can = h
 
 pub micro-package : (s : PackageState) (f : Frame) (pages : ℕ) → IsPackage s → CanDo s f (slice_get s.code f.pc) → IsPackage (micro s f pages).state
-micro-package s f pages h can = micro_at-package s f (is_resident pages CODE_PAGE) (slice_get s.code f.pc) h can
+micro-package s f pages h can = micro_at-package s f (is_resident pages PACKAGE_PAGE) (slice_get s.code f.pc) h can
 
 no_holder : (n l : ℕ) → get_or (replicate n (let none : Option ThreadNo = None in none)) l None ≡ None
 no_holder zero l = refl

@@ -7,7 +7,7 @@ use Rattle.sa_lists.specs.ReadyView.{thread, list_of, is_locked}
 use Rattle.sa_lists.proofs.Changes.{list_of-with_list_same, list_of-with_list_other, is_locked-with_lock_same, is_locked-with_lock_other}
 use Rattle.sa_code.specs.declared.code.Op.{Op}
 use Rattle.sa_code.specs.declared.code.Op.TheVariants.{TakePush, Push, TakePop, Pop, Free, Leave, Yield}
-use Rattle.sa_code.specs.declared.state.TheConstants.{CODE_PAGE}
+use Rattle.sa_base.specs.declared.limits.TheConstants.{PACKAGE_PAGE}
 use Rattle.sa_code.specs.declared.state.PackageState.{PackageState}
 use Rattle.sa_code.specs.declared.state.Frame.{Frame}
 use Rattle.sa_code.specs.Micro.{micro, micro_at, taken, pushed, popped, freed, chosen, without_chosen, list_in, is_resident}
@@ -94,7 +94,7 @@ micro_at-changes_only s f resident l (Some Yield) = changes_only-refl l.0 s
 micro_at-changes_only s f resident l None = changes_only-refl l.0 s
 
 pub micro-changes_only : (s : PackageState) (f : Frame) (pages : ℕ) → ChangesOnly (list_in f).0 s (micro s f pages).state
-micro-changes_only s f pages = micro_at-changes_only s f (is_resident pages CODE_PAGE) (list_in f) (slice_get s.code f.pc)
+micro-changes_only s f pages = micro_at-changes_only s f (is_resident pages PACKAGE_PAGE) (list_in f) (slice_get s.code f.pc)
 
 -- what each kind of operation makes of its own list, where it is done
 pub taken-list : (s : PackageState) (f : Frame) (l : ProcNo) → l.0 < length s.lists.locked → l.0 < length s.holders → IsList (taken s f l false).state l.0 (list_of s.lists l.0) true f.thread

@@ -10,14 +10,13 @@ ghost use Rattle.sa_code.specs.declared.state.Frame.{Frame};
 ghost use Rattle.sa_code.specs.Micro.{micro, taken, pushed, popped, freed, without_chosen, list_in, is_resident, CanDo};
 ghost use Rattle.sa_code.specs.Changes.{holder_of, IsList, ChangesOnly, IsPackage, begun, GoesOn, IsStill, answer_of, is_did};
 
-use crate::state::CODE_PAGE;
-use sa_lists::{MAX_PROCESSORS, MAX_THREADS};
+use sa_base::{MAX_PROCESSORS, MAX_THREADS, PACKAGE_PAGE};
 
 /// Each answer comes exactly where the table says.
 pub fn answers_are_those_of_the_table()
     ensures { (s : PackageState) (f : Frame) (pages : ℕ) → CanDo s f (slice_get s.code f.pc)
         → (micro s f pages).done ≡ answer_of (slice_get s.code f.pc)
-        (is_locked s.lists (list_in f).0) (is_resident pages CODE_PAGE) }
+        (is_locked s.lists (list_in f).0) (is_resident pages PACKAGE_PAGE) }
 {}
 
 /// Where an operation was not done, nothing changes. The frame keeps its list, and goes on to the next place

@@ -9,4 +9,4 @@ mod state;
 
 pub use code::{CODE_PLACES, Code, Op, routines};
 pub use operation::micro;
-pub use state::{CODE_PAGE, Frame, MAX_LISTS, MicroDone, PackageState};
+pub use state::{Frame, MAX_LISTS, MicroDone, PackageState};

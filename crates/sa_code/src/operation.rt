@@ -1,17 +1,18 @@
 // One micro-operation.
-ghost use Rattle.std.specs.Prelude.{◌≡◌, ◌+◌, ◌<◌, ◌≤◌, ◌++◌, length, slice_get, IsSome};
+ghost use Rattle.std.specs.Prelude.{◌≡◌, ◌+◌, ◌<◌, ◌≤◌, ◌++◌, [], ◌∷◌, length, slice_get, IsSome};
 ghost use Rattle.std.specs.Option.{option_map};
+ghost use Rattle.sa_base.specs.Items.{items_at};
 ghost use Rattle.sa_lists.specs.ReadyView.{thread, with_list, is_locked, IsLocked};
-ghost use Rattle.sa_code.specs.Micro.{micro, micro_at, taken, pushed, popped, freed, chosen, without_chosen, items_of, list_in, is_resident, Does, HasList, CanChange, CanPush, CanPop, CanDo};
+ghost use Rattle.sa_code.specs.Micro.{micro, micro_at, taken, pushed, popped, freed, chosen, without_chosen, list_in, is_resident, Does, HasList, CanChange, CanPush, CanPop, CanDo};
 
 use crate::code::{CODE_PLACES, Op};
-use crate::state::{CODE_PAGE, Frame, MicroDone, PackageState};
-use sa_base::{Item, ProcNo, Record, Seen, ThreadNo, Trace};
+use crate::state::{Frame, MicroDone, PackageState};
+use sa_base::{Item, PACKAGE_PAGE, ProcNo, Record, Seen, ThreadNo, Trace};
 use sa_lists::ReadyLists;
 
 /// Does the operation at the frame's place, and adds its record, for which the trace has room. It takes no memory.
 ///
-/// `Spun` comes exactly where a take finds the lock held, `Faulted` exactly where an effect finds the code's page
+/// `Spun` comes exactly where a take finds the lock held, `Faulted` exactly where an effect finds the package's page
 /// absent, `Left` exactly at a `Leave`, `Yielded` exactly at a `Yield`.
 pub fn micro(
     state: &mut PackageState,
@@ -24,10 +25,10 @@ pub fn micro(
     ensures state { state.new ≡ (micro state.old frame.old seen.now.pages).state }
     ensures frame { frame.new ≡ (micro state.old frame.old seen.now.pages).frame }
     ensures done { result ≡ (micro state.old frame.old seen.now.pages).done }
-    ensures items { trace.new.items ≡ trace.old.items
-        ++ items_of seen.now (micro state.old frame.old seen.now.pages).says }
-    ensures spare { trace.new.spare
-        + length (items_of seen.now (micro state.old frame.old seen.now.pages).says) ≡ trace.old.spare }
+    ensures items { let says = (micro state.old frame.old seen.now.pages).says in
+        trace.new.items ≡ trace.old.items ++ items_at seen.now.event seen.now.proc says }
+    ensures spare { let says = (micro state.old frame.old seen.now.pages).says in
+        trace.new.spare + length says ≡ trace.old.spare }
 {
     let Some(op) = state.code.at(frame.pc) else {
         unreachable!()
@@ -47,7 +48,7 @@ fn operate(
     requires can { CanDo state.old frame.old (Some op) }
     requires place { frame.old.pc < CODE_PLACES }
     requires room { 1 ≤ trace.old.spare }
-    ensures { let resident = is_resident seen.now.pages CODE_PAGE in
+    ensures { let resident = is_resident seen.now.pages PACKAGE_PAGE in
         Does (micro_at state.old frame.old resident (list_in frame.old) (Some op))
         seen.now trace.old state.new frame.new result trace.new }
 {
@@ -67,8 +68,8 @@ fn operate(
 // Adds a record of the event.
 fn add(trace: &mut Trace, seen: &Seen, what: Record)
     requires { 1 ≤ trace.old.spare }
-    ensures items { trace.new.items ≡ trace.old.items ++ items_of seen.now (Some what) }
-    ensures spare { trace.new.spare + length (items_of seen.now (Some what)) ≡ trace.old.spare }
+    ensures items { trace.new.items ≡ trace.old.items ++ items_at seen.now.event seen.now.proc (what ∷ []) }
+    ensures spare { trace.new.spare + 1 ≡ trace.old.spare }
 {
     trace.add(Item {
         event: seen.event,
@@ -88,11 +89,11 @@ fn list_of(frame: &Frame) -> ProcNo
     }
 }
 
-// Whether the page of the package's code is resident.
+// Whether the package's page is resident.
 fn is_code_resident(seen: &Seen) -> bool
-    ensures { result ≡ is_resident seen.now.pages CODE_PAGE }
+    ensures { result ≡ is_resident seen.now.pages PACKAGE_PAGE }
 {
-    (seen.pages >> CODE_PAGE) % 2 == 1
+    (seen.pages >> PACKAGE_PAGE) % 2 == 1
 }
 
 // Takes the lock of the frame's list.
@@ -122,7 +123,7 @@ fn push(state: &mut PackageState, frame: &mut Frame, seen: &Seen, trace: &mut Tr
     requires thread { CanPush state.old frame.old }
     requires place { frame.old.pc < CODE_PLACES }
     requires room { 1 ≤ trace.old.spare }
-    ensures { let resident = is_resident seen.now.pages CODE_PAGE in
+    ensures { let resident = is_resident seen.now.pages PACKAGE_PAGE in
         Does (pushed state.old frame.old resident (list_in frame.old) frame.old.pushed)
         seen.now trace.old state.new frame.new result trace.new }
 {
@@ -145,7 +146,7 @@ fn pop(state: &mut PackageState, frame: &mut Frame, seen: &Seen, trace: &mut Tra
     requires thread { CanPop state.old frame.old }
     requires place { frame.old.pc < CODE_PLACES }
     requires room { 1 ≤ trace.old.spare }
-    ensures { let resident = is_resident seen.now.pages CODE_PAGE in let list = list_in frame.old in
+    ensures { let resident = is_resident seen.now.pages PACKAGE_PAGE in let list = list_in frame.old in
         let thread = chosen state.old.lists frame.old.own list.0 in
         Does (popped state.old frame.old resident list thread)
         seen.now trace.old state.new frame.new result trace.new }

@@ -1,10 +1,7 @@
 // What the package's code works on.
 use crate::code::Code;
-use sa_base::{ProcNo, SpaceNo, ThreadNo};
-use sa_lists::{MAX_PROCESSORS, ReadyLists};
-
-/// The page of a space that the package's effects touch.
-pub const CODE_PAGE: u16 = 1;
+use sa_base::{MAX_PROCESSORS, ProcNo, SpaceNo, ThreadNo};
+use sa_lists::ReadyLists;
 
 /// How many ready lists a space has at most: one for each processor.
 pub const MAX_LISTS: usize = MAX_PROCESSORS as usize;
@@ -43,7 +40,7 @@ pub enum MicroDone {
     Did,
     /// The lock was held, and nothing changed.
     Spun,
-    /// The code's page was absent, and nothing changed.
+    /// The package's page was absent, and nothing changed.
     Faulted,
     /// The routine is over.
     Left,

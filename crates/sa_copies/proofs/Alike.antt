@@ -2,14 +2,15 @@
 use Rattle.std.proofs.Common.{◌≡◌, ℕ, ◌+◌, Bool, true, false, List, [], ◌∷◌, ◌++◌, Option, Some, None, slice_get, if◌then◌else◌, refl, sym, ap, ◌∙◌, subst, inl, inr}
 use Rattle.sa_base.specs.declared.number.ProcNo.{ProcNo}
 use Rattle.sa_base.specs.declared.number.ThreadNo.{ThreadNo}
+use Rattle.sa_base.specs.Items.{items_at}
 use Rattle.sa_base.specs.declared.context.Seen.{Seen}
 use Rattle.sa_code.specs.declared.code.Op.{Op}
 use Rattle.sa_code.specs.declared.code.Op.TheVariants.{TakePush, Push, TakePop, Pop, Free, Leave, Yield}
-use Rattle.sa_code.specs.declared.state.TheConstants.{CODE_PAGE}
+use Rattle.sa_base.specs.declared.limits.TheConstants.{PACKAGE_PAGE}
 use Rattle.sa_code.specs.declared.state.PackageState.{PackageState}
 use Rattle.sa_code.specs.declared.state.Frame.{Frame}
 use Rattle.sa_lists.specs.ReadyView.{thread}
-use Rattle.sa_code.specs.Micro.{Micro, micro, micro_at, pushed, popped, chosen, list_in, is_resident, items_of}
+use Rattle.sa_code.specs.Micro.{Micro, micro, micro_at, pushed, popped, chosen, list_in, is_resident}
 use Rattle.sa_code.proofs.Steps.{micro-changes_only}
 use Rattle.sa_copies.specs.Copies.{package_ops, is_in_section, copy_at}
 use Rattle.sa_copies.specs.Runs.{at, is_over, Run, over, behind, run_of, IsAlike}
@@ -53,7 +54,7 @@ micro_at-alike s f c d resident l Yield e = absurd cc
 pub micro-alike : (s : PackageState) (f : Frame) (c d : ℕ) (pages : ℕ) → s.code ≡ package_ops → copy_at c ≡ Some d → StepsAlike c d (micro s (at f c) pages) (micro s (at f d) pages)
 micro-alike s f c d pages code copy =
     let h = has_copy c d copy in
-    let resident = is_resident pages CODE_PAGE in
+    let resident = is_resident pages PACKAGE_PAGE in
     let here : slice_get s.code c ≡ Some h.op = ap (λ ops. slice_get ops c) code ∙ h.here in
     let there : slice_get s.code d ≡ Some h.op = ap (λ ops. slice_get ops d) code ∙ h.there in
     let left : micro s (at f c) pages ≡ micro_at s (at f c) resident (list_in f) (Some h.op) = ap (λ o. micro_at s (at f c) resident (list_in f) o) here in
@@ -107,7 +108,7 @@ run_of-alike (seen ∷ more) s f c d code (inl copy) =
     (subst (λ (r : Run). IsAlike (behind seen m (run_of m.state m.frame more)) r) (sym right)
     (record {
       answers = ap (λ x. x ∷ (run_of m.state m.frame more).answers) step.done ∙ ap (λ xs. n.done ∷ xs) rest_state.answers;
-      items = ap (λ x. items_of seen x ++ (run_of m.state m.frame more).items) step.says ∙ ap (λ xs. items_of seen n.says ++ xs) rest_state.items;
+      items = ap (λ x. items_at seen.event seen.proc x ++ (run_of m.state m.frame more).items) step.says ∙ ap (λ xs. items_at seen.event seen.proc n.says ++ xs) rest_state.items;
       state = rest_state.state;
       frame = rest_state.frame;
     }))

@@ -4,7 +4,7 @@ use Rattle.sa_base.specs.declared.number.ProcNo.{ProcNo}
 use Rattle.sa_base.specs.declared.context.Seen.{Seen}
 use Rattle.sa_code.specs.declared.code.Op.{Op}
 use Rattle.sa_code.specs.declared.code.Op.TheVariants.{TakePush, Push, TakePop, Pop, Free, Leave, Yield}
-use Rattle.sa_code.specs.declared.state.TheConstants.{CODE_PAGE}
+use Rattle.sa_base.specs.declared.limits.TheConstants.{PACKAGE_PAGE}
 use Rattle.sa_code.specs.declared.state.PackageState.{PackageState}
 use Rattle.sa_code.specs.declared.state.Frame.{Frame}
 use Rattle.sa_code.specs.declared.state.MicroDone.TheVariants.{Did}
@@ -23,7 +23,7 @@ freed-pc : (s : PackageState) (f : Frame) (seen : Seen) (more : List Seen) → s
 freed-pc s f seen more op end =
     let m = micro s f seen.pages in
     let only = micro-changes_only s f seen.pages in
-    let done : m.done ≡ Did = ap (λ o. (micro_at s f (is_resident seen.pages CODE_PAGE) (list_in f) o).done) op in
+    let done : m.done ≡ Did = ap (λ o. (micro_at s f (is_resident seen.pages PACKAGE_PAGE) (list_in f) o).done) op in
     let on = micro-goes_on s f seen.pages in
     let place : m.frame.pc ≡ f.pc + 1 = subst (λ b. m.frame.pc ≡ (if b then f.pc + 1 else f.pc)) (ap is_did done) on.place in
     let over_there : is_over (slice_get m.state.code m.frame.pc) ≡ true = ap (λ ops. is_over (slice_get ops m.frame.pc)) only.code ∙ ap (λ k. is_over (slice_get s.code k)) place ∙ end in
@@ -50,7 +50,7 @@ effect-pc s f first second more goes done free end =
     let end_there : is_over (slice_get m.state.code (m.frame.pc + 1)) ≡ true = ap (λ ops. is_over (slice_get ops (m.frame.pc + 1))) only.code ∙ ap (λ k. is_over (slice_get s.code (k + 1))) step.1 ∙ end in
     step.0 ∙ freed-pc m.state m.frame second more free_there end_there ∙ ap (λ k. k + 1) step.1
 
--- an effect is done where the code's page is resident
+-- an effect is done where the package's page is resident
 effect-answer : (op : Op) (held : Bool) → is_effect (Some op) ≡ true → answer_of (Some op) held true ≡ Did
 effect-answer TakePush held e = absurd cc
 effect-answer Push held e = refl
@@ -71,7 +71,7 @@ effect-goes_on Yield e = absurd cc
 
 -- the frames of the package's code that a run leads to an end
 abbrev ReachesEnd : ℕ → Op → Type 0
-ReachesEnd c end = (s : PackageState) (f : Frame) (first second : Seen) (more : List Seen) → s.code ≡ package_ops → CanDo s (at f c) (slice_get s.code c) → is_resident first.pages CODE_PAGE ≡ true
+ReachesEnd c end = (s : PackageState) (f : Frame) (first second : Seen) (more : List Seen) → s.code ≡ package_ops → CanDo s (at f c) (slice_get s.code c) → is_resident first.pages PACKAGE_PAGE ≡ true
     → slice_get s.code (run_of s (at f c) (first ∷ second ∷ more)).frame.pc ≡ Some end
 
 free-end : (c : ℕ) (end : Op) → slice_get package_ops c ≡ Some Free → slice_get package_ops (c + 1) ≡ Some end → is_over (Some end) ≡ true → ReachesEnd c end
@@ -87,7 +87,7 @@ effect-end c op end here effect next last over s f first second more code can re
     let stop : slice_get s.code (c + 1 + 1) ≡ Some end = ap (λ ops. slice_get ops (c + 1 + 1)) code ∙ last in
     let held = is_locked s.lists (list_in f).0 in
     let done : (micro s (at f c) first.pages).done ≡ Did =
-    micro-answer s (at f c) first.pages can ∙ ap (λ o. answer_of o held (is_resident first.pages CODE_PAGE)) there ∙ ap (λ b. answer_of (Some op) held b) resident ∙ effect-answer op held effect in
+    micro-answer s (at f c) first.pages can ∙ ap (λ o. answer_of o held (is_resident first.pages PACKAGE_PAGE)) there ∙ ap (λ b. answer_of (Some op) held b) resident ∙ effect-answer op held effect in
     ap (λ k. slice_get s.code k) (effect-pc s (at f c) first second more (ap is_over there ∙ effect-goes_on op effect) done free (ap is_over stop ∙ over)) ∙ stop
 
 -- the run of a section ends at Leave, and that of a copy at Yield
@@ -101,7 +101,7 @@ copy-yields = at_copies (λ c d. ReachesEnd d Yield)
     (effect-end 8 Push Yield refl refl refl refl refl) (free-end 9 Yield refl refl refl) (effect-end 11 Pop Yield refl refl refl refl refl) (free-end 12 Yield refl refl refl)
     (effect-end 8 Push Yield refl refl refl refl refl) (free-end 9 Yield refl refl refl) (effect-end 11 Pop Yield refl refl refl refl refl) (free-end 12 Yield refl refl refl)
 
--- an effect faults where the code's page is absent
+-- an effect faults where the package's page is absent
 micro_at-faults : (s : PackageState) (f : Frame) (resident : Bool) (l : ProcNo) (op : Option Op) → is_effect op ≡ true → resident ≡ false → IsFault s f (micro_at s f resident l op)
 micro_at-faults s f true l op effect absent = absurd cc
 micro_at-faults s f false l (Some TakePush) effect absent = absurd cc
@@ -113,5 +113,5 @@ micro_at-faults s f false l (Some Leave) effect absent = absurd cc
 micro_at-faults s f false l (Some Yield) effect absent = absurd cc
 micro_at-faults s f false l None effect absent = absurd cc
 
-pub micro-faults : (s : PackageState) (f : Frame) (pages : ℕ) → is_effect (slice_get s.code f.pc) ≡ true → is_resident pages CODE_PAGE ≡ false → IsFault s f (micro s f pages)
-micro-faults s f pages effect absent = micro_at-faults s f (is_resident pages CODE_PAGE) (list_in f) (slice_get s.code f.pc) effect absent
+pub micro-faults : (s : PackageState) (f : Frame) (pages : ℕ) → is_effect (slice_get s.code f.pc) ≡ true → is_resident pages PACKAGE_PAGE ≡ false → IsFault s f (micro s f pages)
+micro-faults s f pages effect absent = micro_at-faults s f (is_resident pages PACKAGE_PAGE) (list_in f) (slice_get s.code f.pc) effect absent

@@ -1,5 +1,6 @@
 -- Runs of micro-operations, in a section and in its copy.
 use Rattle.std.specs.Prelude.{◌≡◌, ℕ, Bool, true, false, List, [], ◌∷◌, ◌++◌, Option, Some, None, slice_get, if◌then◌else◌}
+use Rattle.sa_base.specs.Items.{items_at}
 use Rattle.sa_base.specs.declared.record.Item.{Item}
 use Rattle.sa_base.specs.declared.context.Seen.{Seen}
 use Rattle.sa_code.specs.declared.code.Op.{Op}
@@ -8,7 +9,7 @@ use Rattle.sa_code.specs.declared.state.PackageState.{PackageState}
 use Rattle.sa_code.specs.declared.state.Frame.{Frame}
 use Rattle.sa_code.specs.declared.state.MicroDone.{MicroDone}
 use Rattle.sa_code.specs.declared.state.MicroDone.TheVariants.{Faulted}
-use Rattle.sa_code.specs.Micro.{Micro, micro, items_of}
+use Rattle.sa_code.specs.Micro.{Micro, micro}
 use Rattle.sa_copies.specs.Copies.{is_end, is_in_section}
 
 -- the same frame at another place
@@ -32,7 +33,7 @@ abbrev pub over : PackageState → Frame → Run
 over s f = record { state = s; frame = f; answers = []; items = [] }
 
 abbrev pub behind : Seen → Micro → Run → Run
-behind seen m rest = record { state = rest.state; frame = rest.frame; answers = m.done ∷ rest.answers; items = items_of seen m.says ++ rest.items }
+behind seen m rest = record { state = rest.state; frame = rest.frame; answers = m.done ∷ rest.answers; items = items_at seen.event seen.proc m.says ++ rest.items }
 
 -- one operation behind another, each with what it sees, up to an end, which is not done
 abbrev pub run_of : PackageState → Frame → List Seen → Run
@@ -52,10 +53,10 @@ is_effect (Some Push) = true
 is_effect (Some Pop) = true
 is_effect _ = false
 
--- the code's page was absent, and nothing changed
+-- the package's page was absent, and nothing changed
 pub record IsFault (s : PackageState) (f : Frame) (m : Micro) : Type 0 where
   pub done : m.done ≡ Faulted
-  pub says : m.says ≡ None
+  pub says : m.says ≡ []
   pub state : m.state ≡ s
   pub frame : m.frame ≡ f
 

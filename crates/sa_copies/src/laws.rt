@@ -8,7 +8,7 @@ ghost use Rattle.sa_code.specs.Micro.{micro, is_resident, CanDo};
 ghost use Rattle.sa_copies.specs.Copies.{package_ops, section_at, copy_at};
 ghost use Rattle.sa_copies.specs.Runs.{at, run_of, is_effect, is_section_op, IsAlike, IsFault};
 
-use sa_code::CODE_PAGE;
+use sa_base::PACKAGE_PAGE;
 
 /// The copy law. From a place of a section and from its copy, with whatever is seen at each operation, a run to the
 /// end gives the same answers on the way, the same items, the same package state, and the same frame but its place.
@@ -17,20 +17,20 @@ pub fn a_copy_does_as_its_section()
         → s.code ≡ package_ops → copy_at c ≡ Some d
         → IsAlike (run_of s (at f c) seen) (run_of s (at f d) seen) }
 
-    // Two operations at most lead to the end, where the first finds the code's page.
+    // Two operations at most lead to the end, where the first finds the package's page.
     ensures leaves { (s : PackageState) (f : Frame) (c d : ℕ) (first second : Seen) (more : List Seen)
         → s.code ≡ package_ops → copy_at c ≡ Some d → c ≢ d → CanDo s (at f c) (slice_get s.code c)
-        → is_resident first.pages CODE_PAGE ≡ true
+        → is_resident first.pages PACKAGE_PAGE ≡ true
         → slice_get s.code (run_of s (at f c) (first ∷ second ∷ more)).frame.pc ≡ Some Leave }
     ensures yields { (s : PackageState) (f : Frame) (c d : ℕ) (first second : Seen) (more : List Seen)
         → s.code ≡ package_ops → copy_at c ≡ Some d → CanDo s (at f d) (slice_get s.code d)
-        → is_resident first.pages CODE_PAGE ≡ true
+        → is_resident first.pages PACKAGE_PAGE ≡ true
         → slice_get s.code (run_of s (at f d) (first ∷ second ∷ more)).frame.pc ≡ Some Yield }
 
-    // Where the code's page is absent, neither changes anything.
+    // Where the package's page is absent, neither changes anything.
     ensures faults { (s : PackageState) (f : Frame) (c d pages : ℕ)
         → s.code ≡ package_ops → copy_at c ≡ Some d → is_effect (slice_get s.code c) ≡ true
-        → is_resident pages CODE_PAGE ≡ false
+        → is_resident pages PACKAGE_PAGE ≡ false
         → IsFault s (at f c) (micro s (at f c) pages) × IsFault s (at f d) (micro s (at f d) pages) }
 {}
 

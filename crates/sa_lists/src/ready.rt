@@ -5,16 +5,10 @@ ghost use Rattle.std.specs.List.{range_with_len};
 ghost use Rattle.std.specs.Option.{option_map};
 ghost use Rattle.sa_lists.specs.ReadyView.{no_threads, thread, processor, ready_count, is_locked, IsLocked, IsUnlisted, with_lock, pushed, newest, without_newest, oldest, without_oldest, is_open, sought, next_made, with_made, IsReady};
 
-use sa_base::{ProcNo, ThreadNo};
+use sa_base::{MAX_PROCESSORS, MAX_THREADS, ProcNo, ThreadNo};
 use sa_links::Links;
 use std::alloc::{AllocError, Global};
 use std::marker::Model;
-
-/// How many processors there are at most.
-pub const MAX_PROCESSORS: u16 = 16;
-
-/// How many threads a space makes at most.
-pub const MAX_THREADS: u16 = 512;
 
 /// The ready lists of a space, one for each processor, and the numbers of the threads that were made.
 ///
