@@ -1,5 +1,5 @@
 -- The places of the package's code.
-use Rattle.std.proofs.Common.{◌≡◌, ℕ, zero, suc, ◌+◌, true, Some, is_some, slice_get, refl, subst, ◌⊎◌, inl, inr}
+use Rattle.std.proofs.Common.{rules, ◌≡◌, ℕ, zero, suc, ◌+◌, true, Some, is_some, slice_get, refl, subst, ◌⊎◌, inl, inr}
 use Rattle.std.proofs.lemmas.Option.{same_Some}
 use Rattle.sa_code.specs.declared.code.Op.{Op}
 use Rattle.sa_code.specs.declared.code.Op.TheVariants.{TakePush, Push, TakePop, Pop, Free, Leave, Yield}
@@ -66,28 +66,23 @@ pub copies-copied : (c d : ℕ) → copy_at c ≡ Some d → copy_at d ≡ Some 
 copies-copied = at_copies (λ c d. copy_at d ≡ Some d) refl refl refl refl refl refl refl refl
 
 pub sections-ops : (pc : ℕ) → is_some (section_at pc) ≡ is_section_op (slice_get package_ops pc)
-sections-ops = at_places (λ pc. is_some (section_at pc) ≡ is_section_op (slice_get package_ops pc)) refl refl refl refl refl refl refl refl refl refl refl refl refl refl (λ n. refl)
+sections-ops pc = search rules
 
 pub copies-ops : (pc : ℕ) → is_some (copy_at pc) ≡ is_section_op (slice_get package_ops pc)
-copies-ops = at_places (λ pc. is_some (copy_at pc) ≡ is_section_op (slice_get package_ops pc)) refl refl refl refl refl refl refl refl refl refl refl refl refl refl (λ n. refl)
+copies-ops pc = search rules
 
 -- the operation behind another
 pub next-take_push : (pc : ℕ) → slice_get package_ops pc ≡ Some TakePush → slice_get package_ops (pc + 1) ≡ Some Push
-next-take_push = at_places (λ pc. slice_get package_ops pc ≡ Some TakePush → slice_get package_ops (pc + 1) ≡ Some Push)
-    (λ e. refl) (λ e. absurd cc) (λ e. absurd cc) (λ e. absurd cc) (λ e. absurd cc) (λ e. absurd cc) (λ e. absurd cc) (λ e. absurd cc) (λ e. absurd cc) (λ e. absurd cc) (λ e. absurd cc) (λ e. absurd cc) (λ e. absurd cc) (λ e. absurd cc) (λ n e. absurd cc)
+next-take_push pc e = search rules
 
 pub next-push : (pc : ℕ) → slice_get package_ops pc ≡ Some Push → slice_get package_ops (pc + 1) ≡ Some Free
-next-push = at_places (λ pc. slice_get package_ops pc ≡ Some Push → slice_get package_ops (pc + 1) ≡ Some Free)
-    (λ e. absurd cc) (λ e. refl) (λ e. absurd cc) (λ e. absurd cc) (λ e. absurd cc) (λ e. absurd cc) (λ e. absurd cc) (λ e. absurd cc) (λ e. refl) (λ e. absurd cc) (λ e. absurd cc) (λ e. absurd cc) (λ e. absurd cc) (λ e. absurd cc) (λ n e. absurd cc)
+next-push pc e = search rules
 
 pub next-take_pop : (pc : ℕ) → slice_get package_ops pc ≡ Some TakePop → slice_get package_ops (pc + 1) ≡ Some Pop
-next-take_pop = at_places (λ pc. slice_get package_ops pc ≡ Some TakePop → slice_get package_ops (pc + 1) ≡ Some Pop)
-    (λ e. absurd cc) (λ e. absurd cc) (λ e. absurd cc) (λ e. absurd cc) (λ e. refl) (λ e. absurd cc) (λ e. absurd cc) (λ e. absurd cc) (λ e. absurd cc) (λ e. absurd cc) (λ e. absurd cc) (λ e. absurd cc) (λ e. absurd cc) (λ e. absurd cc) (λ n e. absurd cc)
+next-take_pop pc e = search rules
 
 pub next-pop : (pc : ℕ) → slice_get package_ops pc ≡ Some Pop → slice_get package_ops (pc + 1) ≡ Some Free
-next-pop = at_places (λ pc. slice_get package_ops pc ≡ Some Pop → slice_get package_ops (pc + 1) ≡ Some Free)
-    (λ e. absurd cc) (λ e. absurd cc) (λ e. absurd cc) (λ e. absurd cc) (λ e. absurd cc) (λ e. refl) (λ e. absurd cc) (λ e. absurd cc) (λ e. absurd cc) (λ e. absurd cc) (λ e. absurd cc) (λ e. refl) (λ e. absurd cc) (λ e. absurd cc) (λ n e. absurd cc)
+next-pop pc e = search rules
 
 pub next-free : (pc : ℕ) → slice_get package_ops pc ≡ Some Free → (slice_get package_ops (pc + 1) ≡ Some Leave) ⊎ (slice_get package_ops (pc + 1) ≡ Some Yield)
-next-free = at_places (λ pc. slice_get package_ops pc ≡ Some Free → (slice_get package_ops (pc + 1) ≡ Some Leave) ⊎ (slice_get package_ops (pc + 1) ≡ Some Yield))
-    (λ e. absurd cc) (λ e. absurd cc) (λ e. inl refl) (λ e. absurd cc) (λ e. absurd cc) (λ e. absurd cc) (λ e. inl refl) (λ e. absurd cc) (λ e. absurd cc) (λ e. inr refl) (λ e. absurd cc) (λ e. absurd cc) (λ e. inr refl) (λ e. absurd cc) (λ n e. absurd cc)
+next-free pc e = search rules
