@@ -1,5 +1,5 @@
 // Lists of micro-operations.
-ghost use Rattle.std.specs.Prelude.{◌≡◌, ◌<◌, ◌≤◌, [], ◌∷◌, ◌++◌, length, slice_get};
+ghost use Rattle.std.specs.Prelude.{◌≡◌, ◌<◌, ◌≤◌, [], ◌∷◌, ◌++◌, length, slice_get, OnSome};
 ghost use Rattle.sa_code.specs.Routines.{routine_ops};
 
 use arrayvec::ArrayVec;
@@ -66,14 +66,6 @@ impl Code {
         self.ops.push(op);
     }
 
-    /// How many places there are.
-    pub fn len(&self) -> u16
-        ensures len { result ≡ length self.now }
-        ensures most { result ≤ CODE_PLACES }
-    {
-        self.ops.len() as u16
-    }
-
     /// The operations, in the order of their places.
     pub fn ops(&self) -> &[Op]
         ensures { result.now ≡ self.now }
@@ -83,7 +75,8 @@ impl Code {
 
     /// The operation at a place: `None` exactly where there is no such place.
     pub fn at(&self, pc: u16) -> Option<Op>
-        ensures { result ≡ slice_get self.now pc }
+        ensures op { result ≡ slice_get self.now pc }
+        ensures place { OnSome result (pc < CODE_PLACES) }
     {
         self.ops.get(usize::from(pc)).copied()
     }

@@ -33,7 +33,6 @@ pub fn micro(
     let Some(op) = state.code.at(frame.pc) else {
         unreachable!()
     };
-    state.code.len();
     operate(op, state, frame, seen, trace)
 }
 

@@ -1,5 +1,5 @@
 -- A section and its copy do alike.
-use Rattle.std.proofs.Common.{◌≡◌, ℕ, ◌+◌, Bool, true, false, List, [], ◌∷◌, ◌++◌, Option, Some, None, slice_get, if◌then◌else◌, refl, sym, ap, ◌∙◌, subst, inl, inr}
+use Rattle.std.proofs.Common.{◌≡◌, ◌↔◌, ℕ, ◌+◌, Bool, true, false, List, [], ◌∷◌, ◌++◌, Option, Some, None, slice_get, if◌then◌else◌, refl, sym, ap, ◌∙◌, subst, inl, inr}
 use Rattle.sa_base.specs.declared.number.ProcNo.{ProcNo}
 use Rattle.sa_base.specs.declared.number.ThreadNo.{ThreadNo}
 use Rattle.sa_base.specs.Items.{items_at}
@@ -10,7 +10,7 @@ use Rattle.sa_base.specs.declared.limits.TheConstants.{PACKAGE_PAGE}
 use Rattle.sa_code.specs.declared.state.PackageState.{PackageState}
 use Rattle.sa_code.specs.declared.state.Frame.{Frame}
 use Rattle.sa_lists.specs.ReadyView.{thread}
-use Rattle.sa_code.specs.Micro.{Micro, micro, micro_at, pushed, popped, chosen, list_in, is_resident}
+use Rattle.sa_code.specs.Micro.{HasList, CanChange, CanPush, CanDo, Micro, micro, micro_at, pushed, popped, chosen, list_in, is_resident}
 use Rattle.sa_code.proofs.Steps.{micro-changes_only}
 use Rattle.sa_copies.specs.Copies.{package_ops, is_in_section, copy_at}
 use Rattle.sa_copies.specs.Runs.{at, is_over, Run, over, behind, run_of, IsAlike}
@@ -112,3 +112,30 @@ run_of-alike (seen ∷ more) s f c d code (inl copy) =
       state = rest_state.state;
       frame = rest_state.frame;
     }))
+
+-- what an operation asks does not depend on its place
+has_list-at : (s : PackageState) (f : Frame) (c d : ℕ) → HasList s (at f c) → HasList s (at f d)
+has_list-at s f c d h = record { there = h.there; inside = h.inside }
+
+can_change-at : (s : PackageState) (f : Frame) (c d : ℕ) → CanChange s (at f c) → CanChange s (at f d)
+can_change-at s f c d h = record { list = has_list-at s f c d h.list; locked = h.locked }
+
+can_push-at : (s : PackageState) (f : Frame) (c d : ℕ) → CanPush s (at f c) → CanPush s (at f d)
+can_push-at s f c d h = record { thread = h.thread; pushes = h.pushes; below = h.below; unlisted = h.unlisted }
+
+pub can_do-at : (s : PackageState) (f : Frame) (c d : ℕ) (op : Option Op) → CanDo s (at f c) op → CanDo s (at f d) op
+can_do-at s f c d (Some TakePush) h = (has_list-at s f c d h.0, can_push-at s f c d h.1)
+can_do-at s f c d (Some Push) h = (can_change-at s f c d h.0, can_push-at s f c d h.1)
+can_do-at s f c d (Some TakePop) h = has_list-at s f c d h
+can_do-at s f c d (Some Pop) h = (can_change-at s f c d h.0, record { some = h.1.some; carries = h.1.carries })
+can_do-at s f c d (Some Free) h = can_change-at s f c d h
+can_do-at s f c d (Some Leave) h = h
+can_do-at s f c d (Some Yield) h = h
+can_do-at s f c d None h = h
+
+-- so a copy asks what its section asks
+pub can_do-copied : (s : PackageState) (f : Frame) (c d : ℕ) → s.code ≡ package_ops → copy_at c ≡ Some d → CanDo s (at f c) (slice_get s.code c) ↔ CanDo s (at f d) (slice_get s.code d)
+can_do-copied s f c d code copy =
+    let h = has_copy c d copy in
+    let same : slice_get s.code c ≡ slice_get s.code d = ap (λ ops. slice_get ops c) code ∙ h.here ∙ sym h.there ∙ sym (ap (λ ops. slice_get ops d) code) in
+    (λ can. can_do-at s f c d (slice_get s.code d) (subst (λ (o : Option Op). CanDo s (at f c) o) same can), λ can. can_do-at s f d c (slice_get s.code c) (subst (λ (o : Option Op). CanDo s (at f d) o) (sym same) can))

@@ -1,5 +1,5 @@
 //! Laws of the copies alone, over the values that contracts see. No function here does anything.
-ghost use Rattle.std.specs.Prelude.{◌≡◌, ◌≢◌, ◌+◌, ℕ, List, ◌∷◌, Bool, true, false, ◌⊎◌, is_some, Some, slice_get};
+ghost use Rattle.std.specs.Prelude.{◌≡◌, ◌≢◌, ◌+◌, ℕ, List, ◌∷◌, Bool, true, false, ◌⊎◌, ◌↔◌, is_some, Some, slice_get};
 ghost use Rattle.sa_base.specs.declared.context.Seen.{Seen};
 ghost use Rattle.sa_code.specs.declared.code.Op.TheVariants.{TakePush, Push, TakePop, Pop, Free, Leave, Yield};
 ghost use Rattle.sa_code.specs.declared.state.PackageState.{PackageState};
@@ -39,6 +39,9 @@ pub fn a_copy_does_as_its_section()
 pub fn a_copy_has_the_same_operation()
     ensures same { (c d : ℕ) → copy_at c ≡ Some d
         → slice_get package_ops d ≡ slice_get package_ops c }
+    ensures asks { (s : PackageState) (f : Frame) (c d : ℕ)
+        → s.code ≡ package_ops → copy_at c ≡ Some d
+        → CanDo s (at f c) (slice_get s.code c) ↔ CanDo s (at f d) (slice_get s.code d) }
     ensures section { (c d : ℕ) → copy_at c ≡ Some d → section_at d ≡ section_at c }
     ensures again { (c d : ℕ) → copy_at c ≡ Some d → copy_at d ≡ Some d }
     ensures sections { (pc : ℕ) → is_some (section_at pc) ≡ is_section_op (slice_get package_ops pc) }
