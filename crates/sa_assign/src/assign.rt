@@ -145,6 +145,8 @@ impl Assign {
         ensures items { trace.new.items ≡ trace.old.items ++ items_at item.event item.proc
             (reaim_records item.event (length claims.now)
             (shares_of (length self.old.owners) first claims.now) self.old) }
+        ensures met { (s : ℕ) → s < length claims.now
+            → share_at (shares_of (length self.old.owners) first claims.now) s ≤ aimed s self.new.aims }
         ensures spare { trace.new.spare + length trace.new.items
             ≡ trace.old.spare + length trace.old.items }
     {
