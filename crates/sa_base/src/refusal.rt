@@ -1,15 +1,62 @@
 ghost use Rattle.std.specs.Prelude.{◌≡◌, None};
+ghost use Rattle.sa_base.specs.Cause.{cause_number, bad_at};
 ghost use Rattle.sa_base.specs.declared.refusal.Unread.TheVariants.{OutOfMemory};
 
 use std::alloc::{AllocError, AllocFailed};
 use std::error::Error;
 use std::fmt;
 
+/// The first thing that is wrong with a line of a text.
+#[derive(Clone, Copy, Debug, PartialEq, Eq)]
+pub enum Cause {
+    /// A byte is not from 0x20 to 0x7E.
+    NotAscii = 1,
+    /// Another word is expected, or none.
+    BadWord = 2,
+    /// A number is expected.
+    BadNumber = 3,
+    /// The number is out of its range, or not in its order.
+    OutOfRange = 4,
+    /// The line says again what the one before says.
+    Twice = 5,
+    /// What the number names is not declared.
+    NoSuchName = 6,
+    /// A jump goes to no place of its program.
+    BadTarget = 7,
+    /// There are more lines of this kind, or more bytes, than may be.
+    TooMany = 8,
+    /// A word, a line or the end of a line is missing.
+    Missing = 9,
+    /// The text is right, but what it asks for is not built yet.
+    NotBuilt = 10,
+}
+
+impl Cause {
+    /// The number of the cause, from 1 to 10.
+    pub fn number(self) -> u8
+        ensures { result ≡ cause_number self }
+    {
+        self as u8
+    }
+}
+
 /// Why a text is refused: the first line that is wrong, from 1, and the number of the cause.
 #[derive(Clone, Copy, Debug, PartialEq, Eq)]
 pub struct Bad {
     pub line: u64,
     pub why: u8,
+}
+
+impl Bad {
+    /// The refusal of the line of this number, from 1, for this cause.
+    pub fn new(line: u64, cause: Cause) -> Bad
+        ensures { result ≡ bad_at line cause }
+    {
+        Bad {
+            line,
+            why: cause.number(),
+        }
+    }
 }
 
 impl fmt::Display for Bad {
@@ -53,20 +100,5 @@ impl<T: Drop> From<AllocFailed<T>> for Unread {
 
     fn from(_: AllocFailed<T>) -> Self {
         Unread::OutOfMemory
-    }
-}
-
-#[cfg(test)]
-mod tests {
-    use super::*;
-    use std::test::Fail;
-
-    #[test]
-    fn a_refusal_names_its_line_and_cause(rt: HostRuntime) -> Result<(), Fail> {
-        let bad = Bad { line: 7, why: 9 };
-        let text = Unread::Bad(bad).to_string(rt.alloc())?;
-        assert_eq!(rt; text.as_str(), "line 7: why 9");
-        assert_eq!(rt; Unread::from(AllocError), Unread::OutOfMemory);
-        Ok(())
     }
 }

@@ -87,37 +87,3 @@ impl Trace {
         self.items.as_slice()
     }
 }
-
-#[cfg(test)]
-mod tests {
-    use super::*;
-    use crate::number::ProcNo;
-    use crate::record::Record;
-    use std::test::Fail;
-
-    const FIRST: Item = Item {
-        event: 0,
-        proc: ProcNo(0),
-        what: Record::Line(ProcNo(0)),
-    };
-
-    const SECOND: Item = Item {
-        event: 1,
-        proc: ProcNo(0),
-        what: Record::Tick,
-    };
-
-    #[test]
-    fn items_stand_in_the_order_of_adding(rt: HostRuntime) -> Result<(), Fail> {
-        let mut trace = Trace::new(rt.alloc());
-        assert!(rt; trace.is_empty());
-        trace.reserve(2)?;
-        trace.add(FIRST);
-        trace.add(SECOND);
-        assert_eq!(rt; trace.len(), 2);
-        assert_eq!(rt; trace.get(1).copied(), Some(SECOND));
-        assert_eq!(rt; trace.get(2).copied(), None);
-        assert_eq!(rt; trace.items(), [FIRST, SECOND].as_slice());
-        Ok(())
-    }
-}

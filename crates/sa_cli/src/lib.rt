@@ -11,6 +11,3 @@ mod words;
 pub use outcome::{Outcome, Ran, Status};
 pub use run::run_one;
 pub use words::Words;
-
-#[cfg(test)]
-mod tests;

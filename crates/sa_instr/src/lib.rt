@@ -18,6 +18,3 @@ pub use regs::Regs;
 pub use space::SpaceDef;
 pub use step::local;
 pub use workload::{Evict, Workload};
-
-#[cfg(test)]
-mod tests;

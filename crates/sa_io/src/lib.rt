@@ -8,6 +8,3 @@ mod traits;
 pub use adapters::{StdSink, StdSource};
 pub use memory::{MemSink, MemSource};
 pub use traits::{Failed, Sink, Source};
-
-#[cfg(test)]
-mod tests;

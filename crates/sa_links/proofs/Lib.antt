@@ -5,4 +5,3 @@ pub mod RingChanges
 pub mod Joining
 pub mod LinksSteps
 pub mod CallerLemmas
-pub mod PlainSteps

@@ -8,8 +8,3 @@ mod node;
 mod start;
 
 pub use links::Links;
-
-#[cfg(test)]
-mod plain;
-#[cfg(test)]
-mod tests;

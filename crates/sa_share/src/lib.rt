@@ -106,6 +106,3 @@ fn rank(first: usize, claims: &[Claim], space: usize) -> usize
 {
     (space + claims.len() - first) % claims.len()
 }
-
-#[cfg(test)]
-mod tests;

@@ -10,6 +10,3 @@ mod scan;
 pub use line_reader::{Line, Lines};
 pub use number::{print_number, read_number};
 pub use pieces::token;
-
-#[cfg(test)]
-mod tests;

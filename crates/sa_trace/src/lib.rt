@@ -6,6 +6,3 @@ mod fields;
 mod text;
 
 pub use text::print;
-
-#[cfg(test)]
-mod tests;

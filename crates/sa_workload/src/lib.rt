@@ -16,6 +16,3 @@ mod text;
 
 pub use reader::{read, read_one};
 pub use text::print;
-
-#[cfg(test)]
-mod tests;

@@ -199,6 +199,3 @@ fn push_turns(out: &mut Vec<u8>, turns: &[ProcNo]) -> Result<(), AllocError>
     }
     Ok(())
 }
-
-#[cfg(test)]
-mod tests;

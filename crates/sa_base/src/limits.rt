@@ -1,0 +1,43 @@
+// What a run may have at most.
+
+/// The most processors of a machine; there is at least 1.
+pub const MAX_PROCESSORS: u16 = 16;
+
+/// The most address spaces of a workload; there is at least 1.
+pub const MAX_SPACES: usize = 16;
+
+/// The most threads that a space ever makes, its first among them.
+pub const MAX_THREADS: u16 = 512;
+
+/// The pages of a space, which are numbered from 0.
+pub const PAGES: u16 = 16;
+
+/// The page that an upcall needs.
+pub const UPCALL_PAGE: u16 = 0;
+
+/// The page that the package's operations on ready lists need.
+pub const PACKAGE_PAGE: u16 = 1;
+
+/// The first page of the threads' own, which reach to the last one.
+pub const FIRST_THREAD_PAGE: u16 = 2;
+
+/// The most events of a run, and so the greatest budget; the least is 1.
+pub const MAX_EVENTS: u64 = 1_000_000;
+
+/// The budget of a run where none is given, in events.
+pub const DEFAULT_BUDGET: u64 = 100_000;
+
+/// The most instructions of a burst; the least is 1.
+pub const MAX_BURST: u16 = 64;
+
+/// The burst where none is given, in instructions.
+pub const DEFAULT_BURST: u16 = 16;
+
+/// The taken activations of a space at which they are given back in bulk (SOSP 1991, section 4.3).
+pub const BULK_RETURN: u32 = 8;
+
+/// How many kinds of records there are; their numbers begin at 1.
+pub const RECORD_KINDS: usize = 23;
+
+/// The most fields of a record.
+pub const MAX_FIELDS: usize = 4;

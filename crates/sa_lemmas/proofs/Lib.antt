@@ -1,0 +1,2 @@
+pub mod FunctionUpdates
+pub mod ListUpdates

@@ -1,0 +1,64 @@
+-- A list that was updated at one place, or got one item more. The same for `get_or`, two updates, the length
+-- and `map` stand in `Rattle.std.proofs.lemmas.List`; sums and counts in its `Sums`; folds over `++` in `Sums`
+-- and `Folds`.
+use Rattle.std.proofs.Common.{◌≡◌, ◌≢◌, ℕ, zero, suc, ◌<◌, ◌≤◌, Some, None, List, [], ◌∷◌, ◌++◌, length, slice_get, slice_set, ◌⊎◌, inl, inr, refl, ap, arith}
+use Rattle.std.proofs.lemmas.List.{length-set}
+use Rattle.std.proofs.lemmas.Option.{slice_get_past}
+
+-- at the place itself, within the list
+pub slice_get-set_same : {A : Type 0} (xs : List A) (i : ℕ) (x : A) → i < length xs → slice_get (slice_set xs i x) i ≡ Some x
+slice_get-set_same [] i x within = absurd (omega arith)
+slice_get-set_same (y ∷ xs) zero x within = refl
+slice_get-set_same (y ∷ xs) (suc i) x within = slice_get-set_same xs i x (omega arith)
+
+-- at another place
+pub slice_get-set_other : {A : Type 0} (xs : List A) (i j : ℕ) (x : A) → j ≢ i → slice_get (slice_set xs i x) j ≡ slice_get xs j
+slice_get-set_other [] i j x apart = refl
+slice_get-set_other (y ∷ xs) zero zero x apart = absurd (apart refl)
+slice_get-set_other (y ∷ xs) zero (suc j) x apart = refl
+slice_get-set_other (y ∷ xs) (suc i) zero x apart = refl
+slice_get-set_other (y ∷ xs) (suc i) (suc j) x apart = slice_get-set_other xs i j x (λ e. apart (ap suc e))
+
+-- behind the list nothing comes to stand
+pub slice_get-set_past : {A : Type 0} (xs : List A) (i j : ℕ) (x : A) → length xs ≤ j → slice_get (slice_set xs i x) j ≡ None
+slice_get-set_past xs i j x past = slice_get_past (slice_set xs i x) j (omega (arith, length-set xs i x))
+
+-- what stands somewhere after an update is the new item or an old one
+pub slice_get-set_cases : {A : Type 0} (xs : List A) (i j : ℕ) (x y : A) → slice_get (slice_set xs i x) j ≡ Some y
+    → ((j ≡ i) × (y ≡ x)) ⊎ ((j ≢ i) × (slice_get xs j ≡ Some y))
+slice_get-set_cases [] i j x y is = inr (cc, is)
+slice_get-set_cases (z ∷ xs) zero zero x y is = inl (refl, cc)
+slice_get-set_cases (z ∷ xs) zero (suc j) x y is = inr ((λ e. cc), is)
+slice_get-set_cases (z ∷ xs) (suc i) zero x y is = inr ((λ e. cc), is)
+slice_get-set_cases (z ∷ xs) (suc i) (suc j) x y is = elim (slice_get-set_cases xs i j x y is) [
+  | inl at ↦ inl (ap suc at.0, at.1)
+  | inr other ↦ inr ((λ e. other.0 cc), other.1)
+]
+
+-- an item put in at its own place changes nothing
+pub set-slice_get : {A : Type 0} (xs : List A) (i : ℕ) (x : A) → slice_get xs i ≡ Some x → slice_set xs i x ≡ xs
+set-slice_get [] i x is = refl
+set-slice_get (y ∷ xs) zero x is = cc
+set-slice_get (y ∷ xs) (suc i) x is = ap (λ rest. y ∷ rest) (set-slice_get xs i x is)
+
+-- the items of a list stand at their places also before others
+pub slice_get-append_left : {A : Type 0} (xs ys : List A) (i : ℕ) → i < length xs → slice_get (xs ++ ys) i ≡ slice_get xs i
+slice_get-append_left [] ys i within = absurd (omega arith)
+slice_get-append_left (x ∷ xs) ys zero within = refl
+slice_get-append_left (x ∷ xs) ys (suc i) within = slice_get-append_left xs ys i (omega arith)
+
+-- and the one behind them at their length
+pub slice_get-append_seam : {A : Type 0} (xs ys : List A) (x : A) → slice_get (xs ++ x ∷ ys) (length xs) ≡ Some x
+slice_get-append_seam [] ys x = refl
+slice_get-append_seam (y ∷ xs) ys x = slice_get-append_seam xs ys x
+
+-- what stands somewhere after a push is the new item, at the end, or an old one
+pub slice_get-push_cases : {A : Type 0} (xs : List A) (i : ℕ) (x y : A) → slice_get (xs ++ x ∷ []) i ≡ Some y
+    → ((i ≡ length xs) × (y ≡ x)) ⊎ (slice_get xs i ≡ Some y)
+slice_get-push_cases [] zero x y is = inl (refl, cc)
+slice_get-push_cases [] (suc i) x y is = inr is
+slice_get-push_cases (z ∷ xs) zero x y is = inr is
+slice_get-push_cases (z ∷ xs) (suc i) x y is = elim (slice_get-push_cases xs i x y is) [
+  | inl at ↦ inl (ap suc at.0, at.1)
+  | inr old ↦ inr old
+]

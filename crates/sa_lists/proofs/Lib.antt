@@ -1,0 +1,4 @@
+pub mod Storing
+pub mod Seeking
+pub mod Changes
+pub mod Rounds

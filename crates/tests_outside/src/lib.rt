@@ -1,0 +1,7 @@
+//! Tests of the outside: sources and sinks, and the top call over those in memory.
+#![tactic(auto)]
+
+#[cfg(test)]
+mod sources;
+#[cfg(test)]
+mod top;

@@ -1,0 +1,160 @@
+// What the sources and sinks of this crate do, by tables.
+use sa_io::{MemSink, MemSource, Sink, Source, StdSink, StdSource};
+use std::alloc::{AllocError, Global};
+use std::collections::VecDeque;
+use std::io::{Cursor, Error, ErrorKind, Read, Write};
+use std::process::Abort;
+use std::test::Fail;
+
+/// Reads as often as there are answers, each time into four bytes, and returns what came.
+fn read_through<S: Source>(
+    rt: &impl Abort,
+    alloc: Global,
+    source: &mut S,
+    answers: &[Option<usize>],
+) -> Result<Vec<u8>, AllocError> {
+    let mut came = Vec::new(alloc);
+    let mut room = [0u8; 4];
+    for answer in answers {
+        let read = source.read(&mut room);
+        if let Ok(count) = read {
+            came.extend_from_slice(&room[..count])?;
+        }
+        assert_eq!(rt; read.ok(), *answer);
+    }
+    Ok(came)
+}
+
+/// Writes "abc", "" and "def", and compares the answers.
+fn write_through<K: Sink>(rt: &impl Abort, sink: &mut K, answers: [bool; 3]) {
+    assert_eq!(rt; sink.write(b"abc").is_ok(), answers[0]);
+    assert_eq!(rt; sink.write(b"").is_ok(), answers[1]);
+    assert_eq!(rt; sink.write(b"def").is_ok(), answers[2]);
+}
+
+#[test]
+fn a_source_in_memory_gives_in_steps(rt: HostRuntime) -> Result<(), Fail> {
+    let alloc = rt.alloc();
+    let rows: [(usize, &[u64], &[Option<usize>]); 3] = [
+        (
+            1,
+            &[],
+            &[Some(1), Some(1), Some(1), Some(1), Some(1), Some(0)],
+        ),
+        (
+            2,
+            &[2],
+            &[Some(2), None, Some(2), Some(1), Some(0), Some(0)],
+        ),
+        (9, &[1, 4, 4], &[None, Some(4), Some(1), None, Some(0)]),
+    ];
+    for (step, failing, answers) in rows {
+        let bytes = Vec::from_slice(alloc, b"abcde")?;
+        let mut source = MemSource::new(bytes, step, Vec::from_slice(alloc, failing)?);
+        let came = read_through(&rt, alloc, &mut source, answers)?;
+        assert_eq!(rt; came.as_slice(), b"abcde".as_slice(), "at step {step}");
+    }
+    Ok(())
+}
+
+#[test]
+fn a_sink_in_memory_holds_its_room(rt: HostRuntime) -> Result<(), Fail> {
+    let alloc = rt.alloc();
+    let rows: [(usize, &[u64], [bool; 3], &[u8]); 5] = [
+        (6, &[], [true, true, true], b"abcdef"),
+        (5, &[], [true, true, false], b"abc"),
+        (2, &[], [false, true, false], b""),
+        (9, &[3, 2], [true, false, false], b"abc"),
+        (3, &[1], [false, true, true], b"def"),
+    ];
+    for (room, failing, answers, wanted) in rows {
+        let mut sink = MemSink::new(alloc, room, Vec::from_slice(alloc, failing)?)?;
+        write_through(&rt, &mut sink, answers);
+        assert_eq!(rt; sink.taken(), wanted, "at room {room}");
+    }
+    Ok(())
+}
+
+#[test]
+fn std_objects_pass_their_bytes_on(rt: HostRuntime) -> Result<(), Fail> {
+    let alloc = rt.alloc();
+    let answers = [Some(4), Some(1), Some(0)];
+    let mut source = StdSource::new(b"abcde".as_slice());
+    let came = read_through(&rt, alloc, &mut source, &answers)?;
+    assert_eq!(rt; came.as_slice(), b"abcde".as_slice());
+    let mut source = StdSource::new(Cursor::new(Vec::from_slice(alloc, b"abcde")?));
+    let came = read_through(&rt, alloc, &mut source, &answers)?;
+    assert_eq!(rt; came.as_slice(), b"abcde".as_slice());
+
+    let mut taken = Vec::new(alloc);
+    write_through(&rt, &mut StdSink::new(&mut taken), [true, true, true]);
+    assert_eq!(rt; taken.as_slice(), b"abcdef".as_slice());
+    Ok(())
+}
+
+/// A reader and a writer that moves at most so many bytes a call, or fails in this way.
+#[derive(Drop)]
+struct Halting {
+    turns: VecDeque<Result<usize, ErrorKind>>,
+    written: Vec<u8>,
+}
+
+impl Halting {
+    fn new(alloc: Global, turns: &[Result<usize, ErrorKind>]) -> Result<Halting, AllocError> {
+        let mut all = VecDeque::new(alloc);
+        for turn in turns {
+            all.push_back(*turn)?;
+        }
+        Ok(Halting {
+            turns: all,
+            written: Vec::new(alloc),
+        })
+    }
+
+    fn next_turn(&mut self) -> Result<usize, Error> {
+        match self.turns.pop_front() {
+            Some(Err(kind)) => Err(Error::from(kind)),
+            Some(Ok(most)) => Ok(most),
+            None => Ok(0),
+        }
+    }
+}
+
+impl Read for Halting {
+    fn read(&mut self, buf: &mut [u8]) -> std::io::Result<usize> {
+        Ok(self.next_turn()?.min(buf.len()))
+    }
+}
+
+impl Write for Halting {
+    fn write(&mut self, buf: &[u8]) -> std::io::Result<usize> {
+        let count = self.next_turn()?.min(buf.len());
+        self.written.extend_from_slice(&buf[..count])?;
+        Ok(count)
+    }
+
+    fn flush(&mut self) -> std::io::Result<()> {
+        Ok(())
+    }
+}
+
+#[test]
+fn an_interrupted_call_is_made_again(rt: HostRuntime) -> Result<(), Fail> {
+    let alloc = rt.alloc();
+    let again = Err(ErrorKind::Interrupted);
+    let broken = Err(ErrorKind::BrokenPipe);
+    let turns = [again, again, Ok(3), broken, again, Ok(9), Ok(0)];
+    let mut source = StdSource::new(Halting::new(alloc, &turns)?);
+    read_through(&rt, alloc, &mut source, &[Some(3), None, Some(4), Some(0)])?;
+
+    // The whole piece in parts; nothing to write; a write of no byte.
+    let mut halting = Halting::new(alloc, &[Ok(1), again, Ok(2), Ok(1), again, Ok(0)])?;
+    write_through(&rt, &mut StdSink::new(&mut halting), [true, true, false]);
+    assert_eq!(rt; halting.written.as_slice(), b"abcd".as_slice());
+
+    // An error in mid-piece, and a write after it.
+    let mut halting = Halting::new(alloc, &[Ok(2), again, broken, Ok(3)])?;
+    write_through(&rt, &mut StdSink::new(&mut halting), [false, true, true]);
+    assert_eq!(rt; halting.written.as_slice(), b"abdef".as_slice());
+    Ok(())
+}

@@ -1,0 +1,11 @@
+//! Tests of the parts below the kernel and the package.
+#![tactic(auto)]
+
+#[cfg(test)]
+mod links;
+#[cfg(test)]
+mod plain;
+#[cfg(test)]
+mod shares;
+#[cfg(test)]
+mod words;
