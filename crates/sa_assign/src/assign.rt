@@ -8,7 +8,7 @@ use sa_share::{Claim, MAX_PROCESSORS, MAX_SPACES, shares};
 use std::marker::Model;
 
 // How many processors there are at most, as a length.
-const PLACES: usize = 16;
+const PLACES: usize = MAX_PROCESSORS as usize;
 
 /// Of each processor: the space that owns it, its aim, its interrupt line and its idle mark. The owner
 /// is the space whose activation runs there; the aim is the space that the policy gave it to; a raised
