@@ -1,0 +1,3 @@
+pub mod IosLemmas
+pub mod KeptLemmas
+pub mod SoundLemmas
