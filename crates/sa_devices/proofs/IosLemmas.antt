@@ -1,10 +1,10 @@
 -- The I/Os that stand at their places, and which of them is due.
 use Rattle.std.proofs.Common.{◌≡◌, ℕ, zero, suc, ◌+◌, ◌<◌, ◌≤◌, Bool, true, false, cond, eqb, leb, ◌⊎◌, inl, inr, List, [], ◌∷◌, ◌++◌, length, set, Option, Some, None, option_map, refl, sym, ap, subst, ◌∙◌, arith}
-use Rattle.std.proofs.lemmas.Bool.{cases_eq, cases_Bool, eq-eqb, ne_eqb, leb-true, leb-false, cond-true, cond-false}
+use Rattle.std.proofs.lemmas.Bool.{eq-eqb, ne_eqb, leb-true, leb-false, cond-true, cond-false}
 use Rattle.std.proofs.lemmas.Bool.Decides.{nat_tests}
 use Rattle.std.proofs.lemmas.Option.{none-some, same_Some}
 use Rattle.sa_devices.specs.declared.under_way.Entry.{Entry}
-use Rattle.sa_devices.specs.Ios.{Io, is_sooner, sooner_of, due_of, is_number, io_at, without, io_no}
+use Rattle.sa_devices.specs.Ios.{Io, is_sooner, sooner_of, due_of, io_at, without}
 use Rattle.sa_devices.specs.Kept.{listed, entry_at, ends_at}
 
 -- the I/O of a number that stands at a place

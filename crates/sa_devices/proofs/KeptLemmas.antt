@@ -3,7 +3,7 @@ use Rattle.std.proofs.Common.{◌≡◌, ℕ, zero, suc, ◌+◌, ◌<◌, ◌�
 use Rattle.std.specs.Ordering.{is_lt}
 use Rattle.std.specs.BinaryHeap.{IsHeap, KeepsHeap, PopsGreatest, IsUpperBound, lt_by_cmp}
 use Rattle.std.specs.List.Sorted.{IsPermutation}
-use Rattle.std.proofs.lemmas.Bool.{cases_eq, cases_lt, cases_order}
+use Rattle.std.proofs.lemmas.Bool.{cases_eq, cases_lt}
 use Rattle.std.proofs.lemmas.Bool.Decides.{nat_tests}
 use Rattle.std.proofs.lemmas.List.{get_or-set_same, get_or-set_other, get_or_past, get_or_append_left, get_or_at, length-append}
 use Rattle.std.proofs.lemmas.List.Elements.{All-from_recursion}
@@ -14,7 +14,7 @@ use Rattle.sa_devices.specs.declared.under_way.Entry.{Entry}
 use Rattle.sa_devices.specs.Ios.{Io, due_of, io_no, io_at, without}
 use Rattle.sa_devices.specs.DevicesView.{IosView, begun_with, ended_with}
 use Rattle.sa_devices.specs.Kept.{Key, key_of, key_cmp, IsNotAfter, listed, entry_at, ends_at, IsOfOne, HaveKeys, IsCovered, AreKept}
-use Rattle.sa_devices.proofs.IosLemmas.{io_of, listed-append, without-listed, io_at-listed, Member, stands-under_way, IsListed, ends_at-listed, ComesFirst, IsDueOf, due_of-due}
+use Rattle.sa_devices.proofs.IosLemmas.{io_of, listed-append, without-listed, io_at-listed, Member, stands-under_way, IsListed, ends_at-listed, IsDueOf, due_of-due}
 
 -- ---- elements
 

@@ -1,3 +1,4 @@
 pub mod IosLemmas
 pub mod KeptLemmas
+pub mod LawLemmas
 pub mod SoundLemmas

@@ -1,5 +1,5 @@
 -- What always holds of devices.
-use Rattle.std.specs.Prelude.{◌≡◌, ℕ, ◌<◌, ◌≤◌, ◌^◌, List, length, count_by, slice_index, All}
+use Rattle.std.specs.Prelude.{◌≡◌, ℕ, ◌<◌, ◌≤◌, List, length, count_by, slice_index, All}
 use Rattle.std.specs.List.Sorted.{IsNonDecreasingBy}
 use Rattle.sa_instr.specs.declared.workload.Evict.{Evict}
 use Rattle.sa_instr.specs.Workload.{IsEviction}

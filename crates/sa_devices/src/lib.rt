@@ -3,6 +3,7 @@
 
 mod devices;
 mod kind;
+pub mod laws;
 mod under_way;
 
 pub use devices::Devices;

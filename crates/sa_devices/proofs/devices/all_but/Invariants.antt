@@ -1,4 +1,4 @@
-use Rattle.std.proofs.Common.{◌≡◌, ◌-◌, ◌^◌, ◌<◌, drop}
+use Rattle.std.proofs.Common.{◌≡◌, ◌-◌, ◌^◌, drop}
 use Rattle.sa_devices.specs.Pages.{without_pages}
 use Rattle.sa_devices.proofs.devices.all_but.Given as goal
 

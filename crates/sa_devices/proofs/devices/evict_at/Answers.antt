@@ -1,9 +1,9 @@
-use Rattle.std.proofs.Common.{◌≡◌, ◌-◌, ◌+◌, ◌<◌, ℕ, List, ltb, true, false, length, take, drop, slice_index_or, refl, sym, ap, ◌∙◌, arith, rules}
+use Rattle.std.proofs.Common.{List, ltb, refl, sym, ap, ◌∙◌, rules}
 use Rattle.std.proofs.lemmas.List.{take_rest}
 use Rattle.std.proofs.lemmas.List.Sorted.{IsPartitionPoint-from_clause}
 use Rattle.sa_instr.specs.declared.workload.Evict.{Evict}
 use Rattle.sa_devices.specs.Pages.{evicted}
-use Rattle.sa_devices.proofs.SoundLemmas.{IsCut, IsCut-from_point, IsPartitionedBy-event, evicted-skip, evicted-then}
+use Rattle.sa_devices.proofs.SoundLemmas.{IsCut-from_point, IsPartitionedBy-event, evicted-skip, evicted-then}
 use Rattle.sa_devices.proofs.devices.evict_at.Goals as goal
 
 pub loop-evict-init : goal.loop-evict-init

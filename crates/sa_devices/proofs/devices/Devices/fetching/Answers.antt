@@ -1,4 +1,4 @@
-use Rattle.std.proofs.Common.{◌≡◌, ℕ, List, ltb, count_by, get_or, slice_index, length, sym, ap, ◌∙◌, arith}
+use Rattle.std.proofs.Common.{◌≡◌, ℕ, List, ltb, get_or, slice_index, length, sym, ap, ◌∙◌, arith}
 use Rattle.std.specs.List.{list_any}
 use Rattle.sa_devices.specs.DevicesView.{DevicesView}
 use Rattle.sa_devices.specs.Ios.{fetches}

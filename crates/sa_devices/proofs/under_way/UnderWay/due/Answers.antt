@@ -1,4 +1,4 @@
-use Rattle.std.proofs.Common.{◌≡◌, ◌<◌, ltb, false, length, Contains, option_map, is_some, sym, ap, ◌∙◌, arith}
+use Rattle.std.proofs.Common.{◌≡◌, ltb, false, length, Contains, option_map, is_some, sym, ap, ◌∙◌, arith}
 use Rattle.std.specs.BinaryHeap.{heap_items}
 use Rattle.std.proofs.lemmas.Bool.{ltb-false}
 use Rattle.sa_devices.specs.DevicesView.{IosView}

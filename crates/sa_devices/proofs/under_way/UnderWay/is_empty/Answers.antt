@@ -1,4 +1,4 @@
-use Rattle.std.proofs.Common.{◌≡◌, ℕ, eqb, length, sym, ap, ◌∙◌}
+use Rattle.std.proofs.Common.{◌≡◌, eqb, length, sym, ap, ◌∙◌}
 use Rattle.std.specs.BinaryHeap.{heap_items}
 use Rattle.std.proofs.lemmas.Bool.{eqb-true, eq-eqb}
 use Rattle.sa_devices.specs.DevicesView.{IosView}
