@@ -6,6 +6,8 @@ use Rattle.std.proofs.lemmas.Bool.{cases_eq, cases_lt, cases_Bool, eqb-true, eq-
 use Rattle.sa_base.specs.declared.number.SpaceNo.{SpaceNo}
 use Rattle.sa_share.specs.Share.{share_at}
 use Rattle.sa_assign.specs.Aims.{Change, space_no, is_aim, aim_at, aimed, has_no_aim, is_surplus, can_be_spared, choice, aims_with, aims_after, missing, change_to, changes_for, changes_from}
+use Rattle.sa_assign.specs.AssignView.{AssignView}
+use Rattle.sa_assign.specs.Reaim.{reaimed}
 use Rattle.sa_assign.specs.Laws.{AreDue, AreInOrder, is_for}
 use Rattle.sa_assign.proofs.ChoiceLemmas.{choice-passes, choice-none}
 use Rattle.sa_assign.proofs.ReaimLemmas.{aims_after-append}
@@ -336,3 +338,10 @@ aimed-kept n s shares marks aims fits le =
       | inl below ↦ let met = all.met s (omega arith) (omega arith) in omega arith
       | inr past ↦ let same = (all.others s (inr (omega arith))).up_to_share le in omega arith
     ]
+
+-- an assignment whose aims were changed so gives each space its share
+pub met-reaimed : (event spaces : ℕ) (shares : List ℕ) (old new : AssignView) → sum shares ≤ length old.aims → new ≡ reaimed event spaces shares old
+    → (s : ℕ) → s < spaces → share_at shares s ≤ aimed s new.aims
+met-reaimed event spaces shares old new fits is s below =
+    let met : share_at shares s ≤ aimed s (reaimed event spaces shares old).aims = (all-filled 0 spaces shares old.marks old.aims fits).met s (omega arith) (omega arith) in
+    subst (λ (a : AssignView). share_at shares s ≤ aimed s a.aims) (sym is) met

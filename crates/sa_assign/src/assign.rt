@@ -8,7 +8,7 @@ use sa_share::{Claim, MAX_PROCESSORS, MAX_SPACES, shares};
 use std::marker::Model;
 
 // How many processors there are at most, as a length.
-const PLACES: usize = 16;
+const PLACES: usize = MAX_PROCESSORS as usize;
 
 /// Of each processor: the space that owns it, its aim, its interrupt line and its idle mark. The owner
 /// is the space whose activation runs there; the aim is the space that the policy gave it to; a raised
@@ -146,6 +146,8 @@ impl Assign {
         ensures items { trace.new.items ≡ trace.old.items ++ items_at item.event item.proc
             (reaim_records item.event (length claims.now)
             (shares_of (length self.old.owners) first claims.now) self.old) }
+        ensures met { (s : ℕ) → s < length claims.now
+            → share_at (shares_of (length self.old.owners) first claims.now) s ≤ aimed s self.new.aims }
         ensures spare { trace.new.spare + length trace.new.items
             ≡ trace.old.spare + length trace.old.items }
     {

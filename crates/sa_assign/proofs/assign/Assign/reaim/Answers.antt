@@ -1,7 +1,11 @@
-use Rattle.std.proofs.Common.{◌≡◌, ℕ, List, suc, ◌+◌, ◌-◌, ◌<◌, length, sym, ap, ◌∙◌, arith}
+use Rattle.std.proofs.Common.{◌≤◌, sum, ◌≡◌, ℕ, List, suc, ◌+◌, ◌-◌, ◌<◌, length, sym, ap, ◌∙◌, arith}
 use Rattle.std.proofs.lemmas.List.Sums.{sum_by_more}
 use Rattle.sa_base.specs.declared.record.Item.{Item}
 use Rattle.sa_assign.specs.AssignView.{AssignView}
+use Rattle.sa_share.specs.Rounds.{shares_of}
+use Rattle.sa_share.proofs.RoundLemmas.{shares_of-share}
+use Rattle.sa_assign.specs.Reaim.{reaimed}
+use Rattle.sa_assign.proofs.AimLemmas.{met-reaimed}
 use Rattle.sa_assign.proofs.ReaimLemmas.{filled_from, filled_from-suc}
 use Rattle.sa_assign.proofs.assign.Assign.reaim.Goals as goal
 
@@ -24,3 +28,30 @@ loop-s-preserved c =
       cost = omega arith;
       spare = omega arith;
     }
+
+-- the assignment when all spaces were served
+pub returns-clause-assign : goal.returns-clause-assign
+returns-clause-assign c =
+    let event = c.args.item.event in
+    let proc = c.args.item.proc in
+    let shares = c.shares-shares.result in
+    let s = c.loop-s.s in
+    let old = c.args.self.now in
+    let claims = c.args.claims.now in
+    let last : AssignView × List Item = (c.loop-s.self, c.loop-s.trace.items) in
+    let none_left : 0 ≡ length claims - s = omega arith in
+    let all : last.0 ≡ reaimed event (length claims) shares old = ap (λ (x : AssignView × List Item). x.0)
+    (ap (λ (n : ℕ). filled_from event proc s n shares last) none_left ∙ c.loop-s.invariant.carried) in
+    let which : shares ≡ shares_of (length old.owners) c.args.first claims =
+    c.shares-shares.ensures.function ∙ ap (λ (n : ℕ). shares_of n c.args.first claims) c.processors.ensures.owners in
+    all ∙ ap (λ (xs : List ℕ). reaimed event (length claims) xs old) which
+
+pub returns-clause-met : goal.returns-clause-met
+returns-clause-met c =
+    let old = c.args.self.now in
+    let claims = c.args.claims.now in
+    let shares = shares_of (length old.owners) c.args.first claims in
+    let given = shares_of-share (length old.owners) c.args.first claims c.requires.spaces c.requires.first in
+    let total = given.total in
+    let fits : sum shares ≤ length old.aims = omega arith in
+    met-reaimed c.args.item.event (length claims) shares old c.loop-s.self fits (returns-clause-assign c)

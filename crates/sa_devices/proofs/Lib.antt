@@ -1,0 +1,4 @@
+pub mod IosLemmas
+pub mod KeptLemmas
+pub mod LawLemmas
+pub mod SoundLemmas
