@@ -3,12 +3,13 @@ ghost use Rattle.std.specs.Prelude.{◌≡◌, replicate};
 ghost use Rattle.sa_instr.specs.Regs.{AreRegisters, reg_value, with_reg};
 
 use crate::instr::Reg;
+use crate::limits::REGISTERS;
 use std::marker::Model;
 
 /// The eight registers of a thread, in the order of their numbers.
 #[derive(Clone, Copy, Debug, PartialEq, Eq)]
 pub struct Regs {
-    values: [u64; 8],
+    values: [u64; REGISTERS],
 }
 
 impl Model for Regs {
@@ -28,9 +29,11 @@ impl Model for Regs {
 impl Regs {
     /// Each register 0.
     pub fn zero() -> Self
-        ensures { result ≡ replicate 8 0 }
+        ensures { result ≡ replicate REGISTERS 0 }
     {
-        Regs { values: [0; 8] }
+        Regs {
+            values: [0; REGISTERS],
+        }
     }
 
     /// What the register holds.
