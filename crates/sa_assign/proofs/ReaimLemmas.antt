@@ -8,7 +8,8 @@ use Rattle.sa_base.specs.declared.record.Record.TheVariants.{Aim}
 use Rattle.sa_base.specs.declared.record.Item.{Item}
 use Rattle.sa_assign.specs.AssignView.{AssignView}
 use Rattle.sa_assign.specs.Aims.{Change, space_no, aims_with, aims_after, changes_for, change_to, choice, changes_from, missing}
-use Rattle.sa_assign.specs.Reaim.{lines_with, lines_after, line_at, line_records, proc_no, records_of, carried_out, items_at}
+use Rattle.sa_assign.specs.Reaim.{lines_with, lines_after, line_at, line_records, proc_no, records_of, carried_out}
+use Rattle.sa_base.specs.Items.{items_at}
 
 pub aims_after-append : (aims : List (Option SpaceNo)) (xs ys : List Change) → aims_after aims (xs ++ ys) ≡ aims_after (aims_after aims xs) ys
 aims_after-append aims [] ys = refl

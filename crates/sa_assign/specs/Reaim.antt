@@ -1,9 +1,10 @@
 -- What changed aims do to an assignment, and how they are recorded.
-use Rattle.std.specs.Prelude.{ℕ, List, [], ◌∷◌, ◌++◌, map, Option, Some, None, slice_index_or, slice_set}
+use Rattle.std.specs.Prelude.{ℕ, List, [], ◌∷◌, ◌++◌, Option, Some, None, slice_index_or, slice_set}
 use Rattle.sa_base.specs.declared.number.ProcNo.{ProcNo}
 use Rattle.sa_base.specs.declared.record.Record.{Record}
 use Rattle.sa_base.specs.declared.record.Record.TheVariants.{Aim, Line}
 use Rattle.sa_base.specs.declared.record.Item.{Item}
+use Rattle.sa_base.specs.Items.{items_at}
 use Rattle.sa_assign.specs.AssignView.{AssignView}
 use Rattle.sa_assign.specs.Aims.{Change, space_no, aims_after, changes}
 
@@ -55,10 +56,6 @@ reaimed event spaces shares a = changed event a (changes_in spaces shares a)
 -- .. and the records of that
 abbrev pub reaim_records : ℕ → ℕ → List ℕ → AssignView → List Record
 reaim_records event spaces shares a = records_of event a.lines (changes_in spaces shares a)
-
--- the items of records of one event and its processor
-abbrev pub items_at : ℕ → ProcNo → List Record → List Item
-items_at event proc records = map (λ r. record { event = event; proc = proc; what = r }) records
 
 -- an assignment and the items of a trace, after changes by this event of this processor
 abbrev pub carried_out : ℕ → ProcNo → List Change → AssignView × List Item → AssignView × List Item

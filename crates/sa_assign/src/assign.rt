@@ -43,7 +43,8 @@ impl Model for Assign {
 impl Assign {
     ghost use Rattle.sa_assign.specs.AssignView.{AssignView};
     ghost use Rattle.sa_assign.specs.Aims.{aimed, has_no_aim, can_be_spared, is_idle_and_spared, least_below, greatest_below, choice, missing, changes_for};
-    ghost use Rattle.sa_assign.specs.Reaim.{reaimed, reaim_records, items_at, carried_out};
+    ghost use Rattle.sa_base.specs.Items.{items_at};
+    ghost use Rattle.sa_assign.specs.Reaim.{reaimed, reaim_records, carried_out};
 
     /// So many processors, 1 to 16: none is owned, aimed or marked, and every line is low.
     pub fn new(processors: u16) -> Self

@@ -13,6 +13,13 @@ pub enum Note {
     Unblocked(ActNo),
 }
 
+/// What stands where no notice was put yet.
+impl Default for Note {
+    fn default() -> Note {
+        Note::Add(ProcNo(0))
+    }
+}
+
 /// What happened, without its event. The 23 kinds stand in the order of the trace text's counts.
 /// A thread that may be absent is the one that the context carries.
 #[derive(Clone, Copy, Debug, PartialEq, Eq)]

@@ -6,7 +6,7 @@ use Rattle.std.proofs.lemmas.List.Sums.{sum_by-cons, sum_by-take-drop}
 use Rattle.std.proofs.lemmas.List.{get_or-set_other, get_or-set_same, length-replicate, length-set}
 use Rattle.sa_links.specs.Lists.{count_in, count_in_all, IsIn}
 use Rattle.sa_links.proofs.Counting.{count_set, count_same, count_other, count_at, count_two}
-use Rattle.sa_lists.specs.declared.ready.TheConstants.{MAX_PROCESSORS, MAX_THREADS}
+use Rattle.sa_base.specs.declared.limits.TheConstants.{MAX_PROCESSORS, MAX_THREADS}
 use Rattle.sa_lists.specs.ReadyView.{ReadyView, no_threads, list_of, is_locked, IsUnlisted, with_list, with_lock, pushed, newest, without_newest, oldest, without_oldest, with_made, next_made, IsReady}
 
 -- list l and the others, once list l is xs

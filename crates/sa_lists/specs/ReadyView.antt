@@ -4,7 +4,7 @@ use Rattle.std.specs.List.{range_with_len}
 use Rattle.sa_base.specs.declared.number.ProcNo.{ProcNo}
 use Rattle.sa_base.specs.declared.number.ThreadNo.{ThreadNo}
 use Rattle.sa_links.specs.Lists.{Lists, list_at, count_in_all}
-use Rattle.sa_lists.specs.declared.ready.TheConstants.{MAX_PROCESSORS, MAX_THREADS}
+use Rattle.sa_base.specs.declared.limits.TheConstants.{MAX_PROCESSORS, MAX_THREADS}
 
 pub record ReadyView : Type 0 where
   -- the numbers of the threads in each processor's list, the newest first

@@ -3,7 +3,7 @@ ghost use Rattle.std.specs.Prelude.{◌≡◌, ℕ, ◌<◌, ◌≤◌, Bool, tr
 ghost use Rattle.sa_links.specs.Lists.{IsIn};
 ghost use Rattle.sa_lists.specs.ReadyView.{ReadyView, no_threads, list_of, IsUnlisted, with_lock, pushed, newest, without_newest, oldest, without_oldest, is_open, steps_round, sought, next_made, with_made, IsReady};
 
-use crate::ready::{MAX_PROCESSORS, MAX_THREADS};
+use sa_base::{MAX_PROCESSORS, MAX_THREADS};
 
 /// A thread stands in at most one list.
 pub fn a_thread_stands_in_one_list()

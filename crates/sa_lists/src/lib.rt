@@ -5,4 +5,4 @@
 pub mod laws;
 mod ready;
 
-pub use ready::{MAX_PROCESSORS, MAX_THREADS, ReadyLists};
+pub use ready::ReadyLists;

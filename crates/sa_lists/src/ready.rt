@@ -1,20 +1,14 @@
 // Ready lists under locks, as callers see them.
-ghost use Rattle.std.specs.Prelude.{◌≡◌, ◌<◌, ◌≤◌, ◌-◌, true, false, not, find, length, IfOk};
+ghost use Rattle.std.specs.Prelude.{◌≡◌, ◌<◌, ◌≤◌, ◌-◌, ◌↔◌, [], true, false, not, find, length, IsTrue, IfOk};
 ghost use Rattle.std.specs.Bool.{OnFalse};
 ghost use Rattle.std.specs.List.{range_with_len};
 ghost use Rattle.std.specs.Option.{option_map};
-ghost use Rattle.sa_lists.specs.ReadyView.{no_threads, thread, processor, ready_count, is_locked, IsLocked, IsUnlisted, with_lock, pushed, newest, without_newest, oldest, without_oldest, is_open, sought, next_made, with_made, IsReady};
+ghost use Rattle.sa_lists.specs.ReadyView.{no_threads, thread, processor, list_of, ready_count, is_locked, IsLocked, IsUnlisted, with_lock, pushed, newest, without_newest, oldest, without_oldest, is_open, sought, next_made, with_made, IsReady};
 
-use sa_base::{ProcNo, ThreadNo};
+use sa_base::{MAX_PROCESSORS, MAX_THREADS, ProcNo, ThreadNo};
 use sa_links::Links;
 use std::alloc::{AllocError, Global};
 use std::marker::Model;
-
-/// How many processors there are at most.
-pub const MAX_PROCESSORS: u16 = 16;
-
-/// How many threads a space makes at most.
-pub const MAX_THREADS: u16 = 512;
 
 /// The ready lists of a space, one for each processor, and the numbers of the threads that were made.
 ///
@@ -176,6 +170,51 @@ impl ReadyLists {
         let thread = ThreadNo(self.made);
         self.made += 1;
         Some(thread)
+    }
+
+    /// How many lists there are, one for each processor: 1 to 16.
+    pub fn processors(&self) -> u16
+        ensures { result ≡ length self.now.lists }
+    {
+        self.locked.len() as u16
+    }
+
+    /// How many threads there can be: 1 to 512.
+    pub fn threads(&self) -> u16
+        ensures { result ≡ self.now.threads }
+    {
+        self.threads
+    }
+
+    /// How many threads were made.
+    pub fn made(&self) -> u16
+        ensures { result ≡ self.now.made }
+    {
+        self.made
+    }
+
+    /// Whether the lock of list `l` is held.
+    pub fn is_locked(&self, l: ProcNo) -> bool
+        requires { l.0 < length self.now.lists }
+        ensures { result ≡ is_locked self.now l.0 }
+    {
+        self.locked[usize::from(l.0)]
+    }
+
+    /// Whether list `l` has no thread.
+    pub fn is_empty(&self, l: ProcNo) -> bool
+        requires { l.0 < length self.now.lists }
+        ensures { IsTrue result ↔ (list_of self.now l.0 ≡ []) }
+    {
+        self.links.is_empty(u32::from(l.0))
+    }
+
+    /// Whether a thread stands in no list.
+    pub fn is_unlisted(&self, t: ThreadNo) -> bool
+        requires { t.0 < self.now.threads }
+        ensures { IsTrue result ↔ IsUnlisted self.now t.0 }
+    {
+        self.links.is_free(u32::from(t.0))
     }
 
     /// Says what holds of all ready lists: above all, that a thread stands in at most one of them, and once.

@@ -1,0 +1,4 @@
+pub mod Setting
+pub mod Walk
+pub mod Calls
+pub mod Keeps

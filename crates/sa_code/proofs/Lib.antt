@@ -1,0 +1,4 @@
+pub mod Steps
+pub mod Answers
+pub mod Kept
+pub mod Cases

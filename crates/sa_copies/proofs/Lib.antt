@@ -1,0 +1,4 @@
+pub mod Places
+pub mod Alike
+pub mod Adding
+pub mod Ends

@@ -1,0 +1,4 @@
+pub mod Sync
+pub mod Calls
+pub mod Parts
+pub mod Laws
