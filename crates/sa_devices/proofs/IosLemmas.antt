@@ -1,10 +1,10 @@
 -- The I/Os that stand at their places, and which of them is due.
-use Rattle.std.proofs.Common.{◌≡◌, ℕ, zero, suc, ◌+◌, ◌<◌, ◌≤◌, Bool, true, false, cond, eqb, leb, ◌⊎◌, inl, inr, List, [], ◌∷◌, ◌++◌, length, set, Option, Some, None, option_map, refl, sym, ap, subst, ◌∙◌, arith}
-use Rattle.std.proofs.lemmas.Bool.{eq-eqb, ne_eqb, leb-true, leb-false, cond-true, cond-false}
+use Rattle.std.proofs.Common.{IsSome, IfSome, ◌≡◌, ℕ, zero, suc, ◌+◌, ◌<◌, ◌≤◌, Bool, true, false, cond, eqb, leb, ◌⊎◌, inl, inr, List, [], ◌∷◌, ◌++◌, length, set, Option, Some, None, option_map, refl, sym, ap, subst, ◌∙◌, arith}
+use Rattle.std.proofs.lemmas.Bool.{both_ways, eq-eqb, ne_eqb, leb-true, leb-false, cond-true, cond-false}
 use Rattle.std.proofs.lemmas.Bool.Decides.{nat_tests}
 use Rattle.std.proofs.lemmas.Option.{none-some, same_Some}
 use Rattle.sa_devices.specs.declared.under_way.Entry.{Entry}
-use Rattle.sa_devices.specs.Ios.{Io, is_sooner, sooner_of, due_of, io_at, without}
+use Rattle.sa_devices.specs.Ios.{Io, is_number, io_no, is_sooner, sooner_of, due_of, io_at, without}
 use Rattle.sa_devices.specs.Kept.{listed, entry_at, ends_at}
 
 -- the I/O of a number that stands at a place
@@ -179,3 +179,18 @@ due_of-due event (x ∷ xs) = go (leb x.ends event) refl (due_of-due event xs) w
   go : (b : Bool) → leb x.ends event ≡ b → IsDueOf event xs (due_of event xs) → IsDueOf event (x ∷ xs) (cond b (Some (sooner_of x (due_of event xs))) (due_of event xs))
   go true is due = IsDueOf-sooner event x xs (due_of event xs) (leb-true x.ends event is) due
   go false is due = IsDueOf-later event x xs (due_of event xs) (leb-false x.ends event is) due
+
+-- the one that is due is under way
+io_at-member : (d : Io) (ios : List Io) → Member d ios → IsSome (io_at d.number ios)
+io_at-member d [] member = absurd member
+io_at-member d (x ∷ xs) member = go (is_number d.number x) refl member (io_at-member d xs) where
+  go : (b : Bool) → is_number d.number x ≡ b → (d ≡ x) ⊎ Member d xs → (Member d xs → IsSome (io_at d.number xs)) → IsSome (cond b (Some x) (io_at d.number xs))
+  go true is at again = refl
+  go false is (inl same) again = absurd (both_ways (is_number d.number x) is (eq-eqb x.number d.number (ap (λ (io : Io). io.number) (sym same))))
+  go false is (inr there) again = again there
+
+pub due_of-under_way : (event : ℕ) (ios : List Io) → IfSome (option_map io_no (due_of event ios)) (λ io. IsSome (io_at io.0 ios))
+due_of-under_way event ios = go (due_of event ios) (due_of-due event ios) where
+  go : (d : Option Io) → IsDueOf event ios d → IfSome (option_map io_no d) (λ io. IsSome (io_at io.0 ios))
+  go None due = tt
+  go (Some d) due = io_at-member d ios due.0

@@ -13,7 +13,7 @@ use Rattle.sa_instr.proofs.EvictionLemmas.{in_order}
 use Rattle.sa_devices.specs.declared.kind.IoKind.{IoKind}
 use Rattle.sa_devices.specs.declared.kind.IoKind.TheVariants.{Plain, Page, Upcall}
 use Rattle.sa_devices.specs.Ios.{Io, is_number, io_at, without, fetches, one_fetch}
-use Rattle.sa_devices.specs.Pages.{IsKind, gone, evicted, completed, with_page, upcall_page}
+use Rattle.sa_devices.specs.Pages.{IsKind, gone, evicted, completed, with_page, without_page, upcall_page}
 use Rattle.sa_devices.specs.DevicesView.{IosView, begun_with, ended_with}
 use Rattle.sa_devices.specs.Sound.{IsSound}
 
@@ -234,3 +234,10 @@ evicted-then event from i es pages d order cut bound below other =
     let le = cut.1 (from + i) d (omega arith) (omega arith) in
     let apart : (slice_index_or es (from + i) d).event ≡ event → ⊥ = λ e. other (is ∙ e) in
     ap (λ (xs : List Evict). evicted event (drop i xs) pages) rest ∙ evicted-rest event from i es pages d order (omega arith) (omega arith)
+
+pub length-evicted : (event : ℕ) (es : List Evict) (pages : List ℕ) → length (evicted event es pages) ≡ length pages
+length-evicted event [] pages = refl
+length-evicted event (e ∷ es) pages = length-evicted event es (cond (eqb e.event event) (gone pages e.space.0 e.page) pages) ∙ one (eqb e.event event) where
+  one : (b : Bool) → length (cond b (gone pages e.space.0 e.page) pages) ≡ length pages
+  one true = length-set pages e.space.0 (without_page (slice_index pages e.space.0) e.page)
+  one false = refl

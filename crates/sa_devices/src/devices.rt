@@ -1,4 +1,4 @@
-ghost use Rattle.std.specs.Prelude.{◌≡◌, ◌≢◌, ℕ, ◌+◌, ◌-◌, ◌≤◌, ◌<◌, ◌^◌, ◌↔◌, [], length, All, IsTrue, IsSome, Some, IfOk, OnOk, OnErr, slice_index};
+ghost use Rattle.std.specs.Prelude.{◌≡◌, ◌≢◌, ℕ, ◌+◌, ◌-◌, ◌≤◌, ◌<◌, ◌^◌, ◌↔◌, [], length, All, IsTrue, IsSome, IfSome, Some, IfOk, OnOk, OnErr, slice_index};
 ghost use Rattle.std.specs.List.{list_any};
 ghost use Rattle.std.specs.Option.{option_map};
 ghost use Rattle.std.specs.List.Sorted.{IsNonDecreasingBy};
@@ -91,7 +91,8 @@ impl Devices {
     /// Of the I/Os under way whose end is at most `event` the one with the least end, and of these the one with
     /// the least number, or `None` where there is none.
     pub fn due(&self, event: u64) -> Option<IoNo>
-        ensures { result ≡ option_map io_no (due_of event self.now.ios.under_way) }
+        ensures soonest { result ≡ option_map io_no (due_of event self.now.ios.under_way) }
+        ensures under_way { IfSome result (λ io. IsSome (io_at io.0 self.now.ios.under_way)) }
     {
         self.ios.due(event)
     }

@@ -1,7 +1,9 @@
 //! Laws of I/Os and pages alone. No function here does anything: its clauses are proved for all of them.
-ghost use Rattle.std.specs.Prelude.{◌≡◌, ◌≢◌, ℕ, ◌<◌, ◌^◌, true, false, List, MatchOption};
+ghost use Rattle.std.specs.Prelude.{◌≡◌, ◌≢◌, ℕ, ◌<◌, ◌^◌, true, false, List, length, MatchOption};
+ghost use Rattle.sa_instr.specs.declared.workload.Evict.{Evict};
+ghost use Rattle.sa_devices.specs.declared.kind.IoKind.{IoKind};
 ghost use Rattle.sa_devices.specs.Ios.{Io, due_of};
-ghost use Rattle.sa_devices.specs.Pages.{with_page, without_page};
+ghost use Rattle.sa_devices.specs.Pages.{with_page, without_page, completed, evicted};
 ghost use Rattle.sa_devices.specs.Laws.{IsSoonest, NoneIsDue, has_page};
 
 /// The one that is due is the soonest of those whose end has come, and there is none exactly where no end has.
@@ -18,4 +20,12 @@ pub fn one_page_comes_or_goes()
         → has_page (with_page pages k) j ≡ has_page pages j }
     ensures goes_alone { (pages k j : ℕ) → k < 16 → j < 16 → j ≢ k
         → has_page (without_page pages k) j ≡ has_page pages j }
+{}
+
+/// No I/O that is over, and no eviction, changes the number of spaces.
+pub fn spaces_stay()
+    ensures completed { (kind : IoKind) (pages : List ℕ)
+        → length (completed kind pages) ≡ length pages }
+    ensures evicted { (event : ℕ) (evictions : List Evict) (pages : List ℕ)
+        → length (evicted event evictions pages) ≡ length pages }
 {}

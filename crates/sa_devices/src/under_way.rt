@@ -1,4 +1,4 @@
-ghost use Rattle.std.specs.Prelude.{◌≡◌, ℕ, ◌+◌, ◌≤◌, ◌<◌, ◌^◌, ◌↔◌, [], ◌∷◌, length, IsTrue, IsSome, Some, OnOk, OnErr, vec_len};
+ghost use Rattle.std.specs.Prelude.{◌≡◌, ℕ, ◌+◌, ◌≤◌, ◌<◌, ◌^◌, ◌↔◌, [], ◌∷◌, length, IsTrue, IsSome, IfSome, Some, OnOk, OnErr, vec_len};
 ghost use Rattle.std.specs.Option.{option_map};
 ghost use Rattle.std.specs.BinaryHeap.{heap_items, heap_len, heap_capacity, IsHeap, KeepsHeap};
 ghost use Rattle.std.specs.List.Sorted.{IsPermutation};
@@ -95,7 +95,8 @@ impl UnderWay {
     /// Of the I/Os whose end is at most `event` the one with the least end, and of these the one with the least
     /// number, or `None` where there is none.
     pub fn due(&self, event: u64) -> Option<IoNo>
-        ensures { result ≡ option_map io_no (due_of event self.now.under_way) }
+        ensures soonest { result ≡ option_map io_no (due_of event self.now.under_way) }
+        ensures under_way { IfSome result (λ io. IsSome (io_at io.0 self.now.under_way)) }
     {
         match self.by_end.peek() {
             Some(Reverse((ends, number))) if *ends <= event => Some(IoNo(*number)),
