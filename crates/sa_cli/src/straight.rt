@@ -52,6 +52,7 @@ fn is_plain_space(space: &SpaceDef) -> bool
 fn only_computes(program: &Program) -> bool
     ensures { IsTrue result ↔ (program.now ≡ straight_program (length program.now)) }
 {
+    program.ranges();
     for pc in 0..program.len() - 1 {
         if program.at(pc) != Instr::Compute {
             return false;

@@ -45,9 +45,17 @@ impl Program {
     /// The number of instructions, from 1 to 4,096.
     pub fn len(&self) -> u16
         ensures len { result ≡ length self.now }
-        ensures program { IsProgram self.now }
+        ensures some { 1 ≤ result }
+        ensures few { result ≤ MAX_INSTRUCTIONS }
     {
         self.instrs.len() as u16
+    }
+
+    /// What every program keeps to. It does nothing.
+    pub fn ranges(&self)
+        ensures { IsProgram self.now }
+    {
+        let _program = &self.instrs;
     }
 
     /// The instruction at the place `pc`.
