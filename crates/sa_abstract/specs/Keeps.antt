@@ -14,6 +14,7 @@ use Rattle.sa_abstract.specs.declared.answer.SeatState.{SeatState}
 use Rattle.sa_abstract.specs.declared.answer.SeatState.TheVariants.{Local, Away}
 use Rattle.sa_abstract.specs.declared.answer.Step.{Step}
 use Rattle.sa_abstract.specs.declared.answer.Step.TheVariants.{Did, Block, More, Idle, GiveBack, InterruptOwn}
+use Rattle.sa_instr.specs.declared.limits.TheConstants.{MAX_IO_LENGTH}
 use Rattle.sa_lemmas.specs.Function.{put}
 use Rattle.sa_abstract.specs.Setting.{Setting, IsSetting}
 use Rattle.sa_abstract.specs.Walk.{Spot, AreLocal, after_many, ins_records, program_at}
@@ -142,7 +143,7 @@ pub record IsGoing {U C : Type 0} (calls : Calls U C) (stands : Standing U C) (u
 abbrev pub IsAsked : Setting → Seen → Step → Type 0
 IsAsked s seen Did = Unit {0}
 IsAsked s seen (Block length page) =
-    (1 ≤ length) × (length ≤ 1000000) × IfSome page (λ k. (1 ≤ k) × (k < PAGES))
+    (1 ≤ length) × (length ≤ MAX_IO_LENGTH) × IfSome page (λ k. (1 ≤ k) × (k < PAGES))
 IsAsked s seen (More n) = (1 ≤ n) × (seen.demand + n ≤ s.processors)
 IsAsked s seen Idle = 1 ≤ seen.demand
 IsAsked s seen GiveBack = 1 ≤ seen.taken
