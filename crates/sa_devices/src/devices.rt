@@ -10,7 +10,7 @@ ghost use Rattle.sa_devices.specs.Pages.{IsKind, come, gone, without_pages, comp
 use crate::kind::IoKind;
 use crate::under_way::UnderWay;
 use arrayvec::ArrayVec;
-use sa_base::{IoNo, MAX_SPACES, SpaceNo, UPCALL_PAGE};
+use sa_base::{IoNo, MAX_EVENTS, MAX_SPACES, SpaceNo, UPCALL_PAGE};
 use sa_instr::{Evict, Workload};
 use std::alloc::{AllocError, Global};
 use std::marker::Model;
@@ -76,7 +76,7 @@ impl Devices {
     /// begun before. There is room for it, and it takes no memory.
     pub fn begin(&mut self, kind: IoKind, event: u64, len: u32) -> IoNo
         requires room { 1 ≤ self.old.ios.spare }
-        requires event { event ≤ 1000000 }
+        requires event { event ≤ MAX_EVENTS }
         requires few { self.old.ios.begun < 2 ^ 32 }
         requires kind { IsKind (length self.old.pages) kind }
         ensures number { result.0 ≡ self.old.ios.begun }
