@@ -14,7 +14,7 @@ use Rattle.sa_workload.proofs.OneBad.{one-bad, text-not_bad, texts_differ}
 use Rattle.sa_cli.specs.declared.outcome.Status.{Status}
 use Rattle.sa_cli.specs.declared.outcome.Status.TheVariants.{AllDone, Usage, BadWorkload, Stuck, Budget, ReadFault, WriteFault, OutOfMemory}
 use Rattle.sa_cli.specs.Straight.{straight_workload}
-use Rattle.sa_cli.specs.Outcome.{status_of_end, IsRefused, RanStraight, StopsBeforeRun, EndsWriting}
+use Rattle.sa_cli.specs.Outcome.{status_of_end, IsInputRefused, RanStraight, StopsBeforeRun, EndsWriting}
 use Rattle.sa_cli.specs.Words.{IsRun}
 use Rattle.sa_cli.proofs.StraightWorkloads.{straight-once}
 use Rattle.sa_cli.proofs.StraightTexts.{straight-short}
@@ -23,7 +23,7 @@ not-bad : (input : List ℕ) (w : WorkloadView) (line why : ℕ) → IsText inpu
 not-bad input w line why is bad = text-not_bad AnyVersion 3 input w line why is.workload is.workload is.text bad
 
 -- a straight workload is not refused
-straight-taken : (input : List ℕ) (fetch n : ℕ) (bad : Bad) → IsText input (straight_workload fetch n) → IsRefused input bad → ⊥
+straight-taken : (input : List ℕ) (fetch n : ℕ) (bad : Bad) → IsText input (straight_workload fetch n) → IsInputRefused input bad → ⊥
 straight-taken input fetch n bad straight (inl long) = absurd (omega (arith, long.0, straight-short input fetch n straight))
 straight-taken input fetch n bad straight (inr (inl wrong)) = not-bad input (straight_workload fetch n) bad.line bad.why straight wrong.1
 straight-taken input fetch n bad straight (inr (inr (few, (w, is, other), built))) =
@@ -33,7 +33,7 @@ same_bad : (a b : Bad) → a.line ≡ b.line → a.why ≡ b.why → a ≡ b
 same_bad a b line why = λ i. record { line = line i; why = why i }
 
 -- an input is refused in one way at most
-pub refused-once : (input : List ℕ) (a b : Bad) → IsRefused input a → IsRefused input b → a ≡ b
+pub refused-once : (input : List ℕ) (a b : Bad) → IsInputRefused input a → IsInputRefused input b → a ≡ b
 refused-once input a b (inl long) (inl more) = long.1 ∙ sym more.1
 refused-once input a b (inl long) (inr (inl wrong)) = absurd (omega (arith, long.0, wrong.0))
 refused-once input a b (inl long) (inr (inr other)) = absurd (omega (arith, long.0, other.0))
@@ -53,7 +53,7 @@ ran-input before after items budget n input told ran =
 
 -- what ran was not refused
 pub ran-not-refused : (before after : Option (List ℕ)) (items : List Item) (budget n : ℕ) (input : List ℕ) (bad : Bad) → before ≡ Some input
-    → RanStraight before after items budget n → IsRefused input bad → ⊥
+    → RanStraight before after items budget n → IsInputRefused input bad → ⊥
 ran-not-refused before after items budget n input bad told ran =
     let same : input ≡ ran.text = ran-input before after items budget n input told ran in
     let Straight : List ℕ → Type 0 = λ v. IsText v (straight_workload ran.fetch n) in
@@ -73,7 +73,7 @@ pub stops-for-memory : (left : Option (List ℕ)) (before after : ℕ) (status :
     → left ≡ Some input → IsText input (straight_workload fetch n) → (HasRisen before after → ⊥)
     → StopsBeforeRun left before after status → status ≡ OutOfMemory
 stops-for-memory left before after (BadWorkload bad) input fetch n told straight calm stops =
-    let Refused : Option (List ℕ) → Type 0 = λ o. IfSome o (λ v. IsRefused v bad) in
+    let Refused : Option (List ℕ) → Type 0 = λ o. IfSome o (λ v. IsInputRefused v bad) in
     absurd (straight-taken input fetch n bad straight (subst Refused told stops))
 stops-for-memory left before after ReadFault input fetch n told straight calm stops = absurd (calm stops)
 stops-for-memory left before after OutOfMemory input fetch n told straight calm stops = refl
@@ -85,10 +85,10 @@ stops-for-memory left before after WriteFault input fetch n told straight calm s
 
 -- a refused input is refused so
 pub stops-refused : (left : Option (List ℕ)) (before after : ℕ) (status : Status) (input : List ℕ) (bad : Bad)
-    → left ≡ Some input → IsRefused input bad → (HasRisen before after → ⊥)
+    → left ≡ Some input → IsInputRefused input bad → (HasRisen before after → ⊥)
     → StopsBeforeRun left before after status → (status ≡ BadWorkload bad) ⊎ (status ≡ OutOfMemory)
 stops-refused left before after (BadWorkload other) input bad told refused calm stops =
-    let Refused : Option (List ℕ) → Type 0 = λ o. IfSome o (λ v. IsRefused v other) in
+    let Refused : Option (List ℕ) → Type 0 = λ o. IfSome o (λ v. IsInputRefused v other) in
     inl (ap BadWorkload (refused-once input other bad (subst Refused told stops) refused))
 stops-refused left before after ReadFault input bad told refused calm stops = absurd (calm stops)
 stops-refused left before after OutOfMemory input bad told refused calm stops = inr refl

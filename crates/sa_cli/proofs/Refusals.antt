@@ -3,20 +3,22 @@ use Rattle.std.proofs.Common.{◌≡◌, ℕ, ◌+◌, ◌<◌, List, length, ta
 use Rattle.std.specs.Prelude.{IfSome, count_by, ◌==◌}
 use Rattle.std.proofs.lemmas.List.{take-append-le}
 use Rattle.std.specs.Io.KnownBytes.{Consumes}
+use Rattle.sa_base.specs.Cause.{bad_at}
+use Rattle.sa_base.specs.declared.refusal.Cause.TheVariants.{TooMany}
 use Rattle.sa_base.specs.declared.refusal.Bad.{Bad}
-use Rattle.sa_cli.specs.Input.{input_limit}
-use Rattle.sa_cli.specs.Outcome.{IsRefused, too_long}
+use Rattle.sa_cli.specs.declared.input.TheConstants.{INPUT_LIMIT}
+use Rattle.sa_cli.specs.Outcome.{IsInputRefused, too_long}
 
 -- what was read of an input that is too long shows the line
 pub long-refused : (before after : Option (List ℕ)) (bytes : List ℕ) (bad : Bad) → Consumes before after bytes
-    → input_limit < length bytes → bad ≡ too_long bytes → IfSome before (λ input. IsRefused input bad)
+    → INPUT_LIMIT < length bytes → bad ≡ too_long bytes → IfSome before (λ input. IsInputRefused input bad)
 unfolding too_long
 long-refused None after bytes bad taken long is = tt
 long-refused (Some xs) None bytes bad taken long is = absurd taken
 long-refused (Some xs) (Some ys) bytes bad taken long is =
-    let front : take input_limit xs ≡ take input_limit bytes =
-    ap (take input_limit) taken ∙ take-append-le input_limit bytes ys (omega (arith, long)) in
+    let front : take INPUT_LIMIT xs ≡ take INPUT_LIMIT bytes =
+    ap (take INPUT_LIMIT) taken ∙ take-append-le INPUT_LIMIT bytes ys (omega (arith, long)) in
     inl (
       omega (arith, long, ap length taken, length-append bytes ys),
-      is ∙ sym (ap (λ (v : List ℕ). record { line = count_by (λ b. b == 10) v + 1; why = 8 }) front),
+      is ∙ sym (ap (λ (v : List ℕ). bad_at (count_by (λ b. b == 10) v + 1) TooMany) front),
     )

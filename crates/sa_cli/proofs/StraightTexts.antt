@@ -11,7 +11,7 @@ use Rattle.sa_instr.specs.declared.instr.Instr.TheVariants.{Compute, End}
 use Rattle.sa_instr.specs.Program.{IsProgram}
 use Rattle.sa_instr.specs.Space.{IsSpace}
 use Rattle.sa_workload.specs.Text.{instr_line, line_text, workload_lines, text_of, IsText}
-use Rattle.sa_cli.specs.Input.{input_limit}
+use Rattle.sa_cli.specs.declared.input.TheConstants.{INPUT_LIMIT}
 use Rattle.sa_cli.specs.Straight.{straight_program, straight_space, straight_workload}
 
 -- a line of a word and a number
@@ -88,7 +88,7 @@ straight_length : (fetch n : ℕ) → length (text_of (straight_workload fetch n
 unfolding text_of workload_lines space_words
 straight_length fetch n = refl
 
-pub straight-short : (input : List ℕ) (fetch n : ℕ) → IsText input (straight_workload fetch n) → length input ≤ input_limit
+pub straight-short : (input : List ℕ) (fetch n : ℕ) → IsText input (straight_workload fetch n) → length input ≤ INPUT_LIMIT
 straight-short input fetch n is =
     let p : List Instr = straight_program n in
     let long : length p ≡ n - 1 + 1 = omega (arith, length-append (replicate (n - 1) Compute) (End ∷ []), length-replicate (n - 1) Compute) in

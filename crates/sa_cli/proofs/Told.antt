@@ -3,14 +3,15 @@ use Rattle.std.proofs.Common.{◌≡◌, ℕ, ◌+◌, ◌≤◌, min, List, [],
 use Rattle.std.proofs.lemmas.List.{take-append-le, take_min}
 use Rattle.std.proofs.lemmas.Bool.{false≢true}
 use Rattle.std.proofs.Math.Seq.{take-append-add}
-use Rattle.std.proofs.KnownBytes.{Appends-trans}
+use Rattle.std.proofs.KnownBytes.{Appends-trans, Consumes-trans}
 use Rattle.std.specs.Prelude.{IfSome, ◌↔◌, Result, Ok, Err, OnErr}
 use Rattle.std.specs.Io.KnownBytes.{Appends, Consumes}
 use Rattle.sa_io.specs.Faults.{AppendsPrefix}
-use Rattle.sa_cli.specs.Input.{ReadsInput}
+use Rattle.sa_cli.specs.declared.input.TheConstants.{INPUT_LIMIT}
+use Rattle.sa_cli.specs.Input.{ReadsInput, LosesPrefix}
 
 -- a read of nothing ends the input
-pub end-of-input : (before at after : Option (List ℕ)) (bytes piece : List ℕ) (n : ℕ) → n ≡ 0 → length bytes ≤ 1048577
+pub end-of-input : (before at after : Option (List ℕ)) (bytes piece : List ℕ) (n : ℕ) → n ≡ 0 → length bytes ≤ INPUT_LIMIT + 1
     → Consumes before at bytes → Consumes at after (take n piece) → IfSome at (λ xs. (n ≡ 0) ↔ (xs ≡ []))
     → ReadsInput before after bytes
 end-of-input None at after bytes piece n none within taken nothing end =
@@ -20,6 +21,10 @@ end-of-input (Some xs) (Some ys) None bytes piece n none within taken nothing en
 end-of-input (Some xs) (Some ys) (Some zs) bytes piece n none within taken nothing end =
     let same : ys ≡ zs = nothing ∙ ap (λ k. take k piece ++ zs) none in
     record { taken = taken ∙ ap (λ v. bytes ++ v) same; end = λ told short. sym same ∙ end.0 none; limit = within }
+
+-- what was lost before a read that gave more
+pub lost-more : (before at after : Option (List ℕ)) (bytes more : List ℕ) → Consumes before at bytes → Consumes at after more → LosesPrefix before after
+lost-more before at after bytes more taken then = (bytes ++ more, Consumes-trans before at after bytes more taken then)
 
 -- a piece of the rest was taken whole
 pub piece-taken : (before at after : Option (List ℕ)) (text written rest piece behind : List ℕ) (n : ℕ)

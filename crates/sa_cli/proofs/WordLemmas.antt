@@ -2,6 +2,7 @@
 use Rattle.std.proofs.Common.{◌≡◌, ◌≢◌, ℕ, ◌<◌, ◌≤◌, List, [], ◌∷◌, length, get_or, Option, Some, None, ap, sym, ◌∙◌, arith, inl, inr}
 use Rattle.std.specs.Prelude.{String, string_bytes, map, codes, decimal, MatchOption}
 use Rattle.std.specs.declared.alloc.Global.{Global}
+use Rattle.sa_base.specs.declared.limits.TheConstants.{MAX_EVENTS}
 use Rattle.sa_cli.specs.Words.{IsRun}
 
 -- a list of one word has that word's bytes
@@ -28,7 +29,7 @@ three-words (x ∷ y ∷ z ∷ u ∷ rest) a b c some few first second third = a
 -- a run with the option of the budget
 pub budget-words : (words : List (List ℕ)) (value : List ℕ) (r : Option ℕ)
     → words ≡ codes "run" ∷ codes "--budget" ∷ value ∷ []
-    → MatchOption r ((n : ℕ) → 1 ≤ n → n ≤ 1000000 → value ≢ decimal n) (λ n. (1 ≤ n) × (n ≤ 1000000) × (value ≡ decimal n))
+    → MatchOption r ((n : ℕ) → 1 ≤ n → n ≤ MAX_EVENTS → value ≢ decimal n) (λ n. (1 ≤ n) × (n ≤ MAX_EVENTS) × (value ≡ decimal n))
     → MatchOption r ((n : ℕ) → ¬ IsRun words n) (IsRun words)
 budget-words words value (Some n) are found =
     inr (found.0, found.1, are ∙ ap (λ v. codes "run" ∷ codes "--budget" ∷ v ∷ []) found.2)

@@ -1,6 +1,8 @@
 -- What the top call answers.
 use Rattle.std.specs.Prelude.{◌≡◌, ◌⊎◌, ⊤, ℕ, ◌+◌, ◌<◌, ◌≤◌, ◌==◌, List, [], length, take, count_by, Option, IfSome, IsSome}
-use Rattle.std.specs.Io.KnownBytes.{Appends, IsAtEnd}
+use Rattle.std.specs.Io.KnownBytes.{Appends, Consumes, IsAtEnd}
+use Rattle.sa_base.specs.Cause.{bad_at}
+use Rattle.sa_base.specs.declared.refusal.Cause.TheVariants.{NotBuilt, TooMany}
 use Rattle.sa_base.specs.declared.refusal.Bad.{Bad}
 use Rattle.sa_base.specs.declared.refusal.Unread.{Unread}
 use Rattle.sa_base.specs.declared.refusal.Unread.TheVariants as unread
@@ -10,6 +12,7 @@ use Rattle.sa_base.specs.declared.record.End.TheVariants as end
 use Rattle.sa_instr.specs.Workload.{WorkloadView}
 use Rattle.sa_workload.specs.Text.{IsText}
 use Rattle.sa_workload.specs.Bad.{BadAt}
+use Rattle.sa_trace.specs.TraceText.{trace_text}
 use Rattle.sa_io.specs.Faults.{HasRisen, AppendsPrefix}
 use Rattle.sa_cli.specs.declared.outcome.Status.{Status}
 use Rattle.sa_cli.specs.declared.outcome.Status.TheVariants.{AllDone, Usage, BadWorkload, Stuck, Budget, ReadFault, WriteFault, OutOfMemory}
@@ -17,8 +20,8 @@ use Rattle.sa_cli.specs.declared.input.ReadError.{ReadError}
 use Rattle.sa_cli.specs.declared.input.ReadError.TheVariants as read
 use Rattle.sa_cli.specs.declared.outcome.Ran.{Ran}
 use Rattle.sa_cli.specs.declared.outcome.Ran.TheVariants.{Nothing, Plain}
-use Rattle.sa_cli.specs.Input.{input_limit}
-use Rattle.sa_cli.specs.Straight.{IsNotStraight, straight_workload, straight_run}
+use Rattle.sa_cli.specs.declared.input.TheConstants.{INPUT_LIMIT}
+use Rattle.sa_cli.specs.Straight.{IsNotStraight, straight_workload, straight_run, straight_end, straight_events}
 
 -- the exit status of the program
 abbrev pub code_of : Status → ℕ
@@ -54,29 +57,34 @@ status_of_end end.Budget = Budget
 
 -- what a workload is refused with whose kind is not built yet
 abbrev pub not_built : Bad
-not_built = record { line = 1; why = 10 }
+not_built = bad_at 1 NotBuilt
 
--- what an input is refused with that is longer than the limit: the line in which the first byte past it stands, and why 8
+-- what an input is refused with that is longer than the limit: it is too much in the line of the first byte past it
 unfoldable pub too_long : List ℕ → Bad
-too_long input = record { line = count_by (λ b. b == 10) (take input_limit input) + 1; why = 8 }
+too_long input = bad_at (count_by (λ b. b == 10) (take INPUT_LIMIT input) + 1) TooMany
 
 -- the refusal of an input: it is too long; or it is bad so; or it is the text of a workload that is no straight one
-abbrev pub IsRefused : List ℕ → Bad → Type 0
-IsRefused input bad =
-    ((input_limit < length input) × (bad ≡ too_long input))
-    ⊎ (((length input ≤ input_limit) × BadAt input bad.line bad.why)
-    ⊎ ((length input ≤ input_limit) × ((w : WorkloadView) × IsText input w × IsNotStraight w) × (bad ≡ not_built)))
+abbrev pub IsInputRefused : List ℕ → Bad → Type 0
+IsInputRefused input bad =
+    ((INPUT_LIMIT < length input) × (bad ≡ too_long input))
+    ⊎ (((length input ≤ INPUT_LIMIT) × BadAt input bad.line bad.why)
+    ⊎ ((length input ≤ INPUT_LIMIT) × ((w : WorkloadView) × IsText input w × IsNotStraight w) × (bad ≡ not_built)))
 
--- A straight workload of so many instructions ran within the budget. Its text is the whole input, and the source was
--- read to its end, where the source tells.
+-- the same, where the source tells its input
+abbrev pub IsRefusedInput : Option (List ℕ) → Bad → Type 0
+IsRefusedInput left bad = IfSome left (λ input. IsInputRefused input bad)
+
+-- A straight workload of so many instructions ran within the budget. The source gave exactly its text, and is at its
+-- end, where it tells.
 pub record RanStraight (before after : Option (List ℕ)) (items : List Item) (budget instructions : ℕ) : Type 0 where
   pub fetch : ℕ
   pub text : List ℕ
   pub some : 1 ≤ instructions
   pub straight : IsText text (straight_workload fetch instructions)
-  pub short : length text ≤ input_limit
-  pub input : IfSome before (λ input. input ≡ text)
+  pub short : length text ≤ INPUT_LIMIT
+  pub taken : Consumes before after text
   pub end : IsSome before → IsAtEnd after
+  pub input : IfSome before (λ input. input ≡ text)
   pub run : items ≡ straight_run budget instructions
 
 -- the statuses of a run that ended and was written
@@ -103,7 +111,7 @@ RunsNothing other = ⊥
 
 -- the causes of the statuses that come before a run
 abbrev pub StopsBeforeRun : Option (List ℕ) → ℕ → ℕ → Status → Type 0
-StopsBeforeRun left faults_before faults_after (BadWorkload bad) = IfSome left (λ input. IsRefused input bad)
+StopsBeforeRun left faults_before faults_after (BadWorkload bad) = IsRefusedInput left bad
 StopsBeforeRun left faults_before faults_after ReadFault = HasRisen faults_before faults_after
 StopsBeforeRun left faults_before faults_after OutOfMemory = ⊤
 StopsBeforeRun left faults_before faults_after other = ⊥
@@ -114,3 +122,7 @@ EndsWriting before after faults_before faults_after text end WriteFault =
     HasRisen faults_before faults_after × AppendsPrefix before after text
 EndsWriting before after faults_before faults_after text end OutOfMemory = ⊤
 EndsWriting before after faults_before faults_after text end status = (status ≡ status_of_end end) × Appends before after text
+
+-- the text of the trace of a straight run
+abbrev pub straight_text : List Item → (budget length : ℕ) → List ℕ
+straight_text items budget length = trace_text items (straight_end budget length) (straight_events budget length)

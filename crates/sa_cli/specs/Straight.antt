@@ -1,5 +1,5 @@
 -- Straight workloads: one processor, one space and one thread, which computes and ends; and their run.
-use Rattle.std.specs.Prelude.{◌≡◌, ℕ, ◌+◌, ◌-◌, nat_le, min, if◌then◌else◌, List, [], ◌∷◌, ◌++◌, Some, None, map, filter, replicate}
+use Rattle.std.specs.Prelude.{◌≡◌, ℕ, ◌+◌, ◌-◌, ◌≤◌, nat_le, min, if◌then◌else◌, List, [], ◌∷◌, ◌++◌, Some, None, map, filter, replicate}
 use Rattle.std.specs.List.{range_with_len}
 use Rattle.sa_base.specs.declared.number.ProcNo.{ProcNo}
 use Rattle.sa_base.specs.declared.number.SpaceNo.{SpaceNo}
@@ -42,6 +42,10 @@ straight_workload fetch length = record {
   turns = [];
   slice = 0;
 }
+
+-- the workload is a straight one of so many instructions
+abbrev pub IsStraight : WorkloadView → ℕ → Type 0
+IsStraight w length = (1 ≤ length) × ((fetch : ℕ) × (w ≡ straight_workload fetch length))
 
 -- the workload is no straight one
 abbrev pub IsNotStraight : WorkloadView → Type 0

@@ -1,7 +1,7 @@
 // The reading loop.
 ghost use Rattle.std.specs.Prelude.{◌≡◌, ◌≤◌, IfOk, IsErrOf};
 ghost use Rattle.sa_io.specs.Faults.{HasRisen};
-ghost use Rattle.sa_cli.specs.Input.{ReadsInput};
+ghost use Rattle.sa_cli.specs.Input.{ReadsInput, LosesPrefix};
 ghost use Rattle.sa_cli.specs.declared.input.ReadError.TheVariants.{Fault, OutOfMemory};
 
 use sa_io::{Failed, Source};
@@ -10,7 +10,8 @@ use std::alloc::{AllocError, Global};
 /// The longest input that is read whole, in bytes.
 pub const INPUT_LIMIT: usize = 1_048_576;
 
-const PIECE: usize = 4096;
+/// How many bytes are read at once at most, and how many are written; the last piece is the rest.
+pub(crate) const PIECE: usize = 4_096;
 
 /// Why the input was not read.
 #[derive(Clone, Copy, Debug, PartialEq, Eq)]
@@ -35,10 +36,13 @@ impl From<AllocError> for ReadError {
     }
 }
 
-/// Reads the source to its end, or until one byte more than the limit was got.
+/// Reads the source to its end, or until one byte more than the limit was got. Whatever it answers, the
+/// source has lost the bytes that were got, and no others.
 pub fn read_input<S: Source>(alloc: Global, source: &mut S) -> Result<Vec<u8>, ReadError>
     ensures input { IfOk result (λ bytes. ReadsInput (S.left source.old) (S.left source.new) bytes.items) }
-    ensures fault { IsErrOf result ReadError.Fault → HasRisen (S.faults source.old) (S.faults source.new) }
+    ensures fault { IsErrOf result ReadError.Fault
+        → HasRisen (S.faults source.old) (S.faults source.new) }
+    ensures lost { LosesPrefix (S.left source.old) (S.left source.new) }
     ensures counted { S.faults source.old ≤ S.faults source.new }
 {
     let mut input = Vec::new(alloc);

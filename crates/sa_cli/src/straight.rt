@@ -1,6 +1,6 @@
 // The engine for straight workloads, which stands in for the core until that is built.
 ghost use Rattle.std.specs.Prelude.{◌≡◌, ℕ, ◌+◌, ◌≤◌, ◌↔◌, [], ◌∷◌, ◌++◌, IsTrue, IfOk, MatchOption, length};
-ghost use Rattle.sa_cli.specs.Straight.{IsNotStraight, straight_workload, straight_program, straight_run, straight_events, straight_end, until};
+ghost use Rattle.sa_cli.specs.Straight.{IsStraight, IsNotStraight, straight_workload, straight_program, straight_run, straight_events, straight_end, until};
 
 use sa_base::{ActNo, End, Item, Note, ProcNo, Record, SpaceNo, ThreadNo, Trace};
 use sa_instr::{Instr, Program, SpaceDef, Workload};
@@ -8,7 +8,7 @@ use std::alloc::{AllocError, Global};
 
 /// The number of instructions of a straight workload, or `None` where it is none.
 pub fn straight_length(workload: &Workload) -> Option<u16>
-    ensures { MatchOption result (IsNotStraight workload.now) (λ length. (1 ≤ length) × ((fetch : ℕ) × (workload.now ≡ straight_workload fetch length))) }
+    ensures { MatchOption result (IsNotStraight workload.now) (IsStraight workload.now) }
 {
     let [space] = workload.spaces() else {
         return None;
@@ -25,7 +25,8 @@ pub fn straight_length(workload: &Workload) -> Option<u16>
 
 /// Whether there is one processor, and there are no evictions, no turns and no slice.
 fn is_plain_machine(workload: &Workload) -> bool
-    ensures { IsTrue result ↔ ((workload.now.processors ≡ 1) × (workload.now.evictions ≡ []) × (workload.now.turns ≡ []) × (workload.now.slice ≡ 0)) }
+    ensures { IsTrue result ↔ ((workload.now.processors ≡ 1) × (workload.now.evictions ≡ [])
+        × (workload.now.turns ≡ []) × (workload.now.slice ≡ 0)) }
 {
     workload.processors() == 1
         && workload.evictions().is_empty()
@@ -35,7 +36,8 @@ fn is_plain_machine(workload: &Workload) -> bool
 
 /// Whether the space has priority 0 and patience 1 and declares nothing but programs.
 fn is_plain_space(space: &SpaceDef) -> bool
-    ensures { IsTrue result ↔ ((space.now.priority ≡ 0) × (space.now.mutexes ≡ 0) × (space.now.sems ≡ []) × (space.now.cells ≡ 0)
+    ensures { IsTrue result ↔ ((space.now.priority ≡ 0) × (space.now.mutexes ≡ 0)
+        × (space.now.sems ≡ []) × (space.now.cells ≡ 0)
         × (space.now.absent ≡ []) × (space.now.patience ≡ 1)) }
 {
     space.priority() == 0
@@ -50,6 +52,7 @@ fn is_plain_space(space: &SpaceDef) -> bool
 fn only_computes(program: &Program) -> bool
     ensures { IsTrue result ↔ (program.now ≡ straight_program (length program.now)) }
 {
+    program.ranges();
     for pc in 0..program.len() - 1 {
         if program.at(pc) != Instr::Compute {
             return false;

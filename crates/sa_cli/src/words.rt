@@ -1,14 +1,9 @@
 ghost use Rattle.std.specs.Prelude.{◌≡◌, ◌≢◌, ◌↔◌, IsTrue, ℕ, ◌≤◌, List, ◌∷◌, map, codes, decimal, string_bytes, MatchOption};
-ghost use Rattle.sa_cli.specs.Words.{IsRun};
+ghost use Rattle.sa_cli.specs.Words.{IsRun, IsNoRun};
 
+use sa_base::{DEFAULT_BUDGET, MAX_EVENTS};
 use sa_text::read_number;
 use std::marker::Model;
-
-/// The budget of events of a run whose words name none.
-const DEFAULT_BUDGET: u64 = 100_000;
-
-/// The greatest budget.
-const MAX_BUDGET: u64 = 1_000_000;
 
 /// The words of a command line behind the program's name, in order. Contracts see the list of their bytes.
 #[derive(Debug, Drop)]
@@ -33,14 +28,15 @@ impl Words {
 
     /// The budget of events of the run that the words ask for, or `None` where they are no command.
     pub(crate) fn run_budget(&self) -> Option<u64>
-        ensures { MatchOption result ((budget : ℕ) → ¬ IsRun self.now budget) (IsRun self.now) }
+        ensures { MatchOption result (IsNoRun self.now) (IsRun self.now) }
     {
         budget_of(&self.list)
     }
 }
 
 fn budget_of(words: &[String]) -> Option<u64>
-    ensures { MatchOption result ((budget : ℕ) → ¬ IsRun (map string_bytes words.now) budget) (IsRun (map string_bytes words.now)) }
+    ensures { MatchOption result (IsNoRun (map string_bytes words.now))
+        (IsRun (map string_bytes words.now)) }
 {
     match words {
         [command] if is_word(command, "run") => Some(DEFAULT_BUDGET),
@@ -60,8 +56,8 @@ fn is_word(word: &String, text: &str) -> bool
 /// A number from 1 to the greatest budget.
 fn read_budget(word: &[u8]) -> Option<u64>
     ensures { MatchOption result
-        ((budget : ℕ) → 1 ≤ budget → budget ≤ MAX_BUDGET → word.now ≢ decimal budget)
-        (λ budget. (1 ≤ budget) × (budget ≤ MAX_BUDGET) × (word.now ≡ decimal budget)) }
+        ((budget : ℕ) → 1 ≤ budget → budget ≤ MAX_EVENTS → word.now ≢ decimal budget)
+        (λ budget. (1 ≤ budget) × (budget ≤ MAX_EVENTS) × (word.now ≡ decimal budget)) }
 {
-    read_number(word).filter(|budget| (1..=MAX_BUDGET).contains(budget))
+    read_number(word).filter(|budget| (1..=MAX_EVENTS).contains(budget))
 }

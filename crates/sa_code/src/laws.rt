@@ -1,5 +1,5 @@
 //! Laws of the micro-operations alone, over the values that contracts see. No function here does anything.
-ghost use Rattle.std.specs.Prelude.{◌≡◌, ◌<◌, ◌≤◌, ℕ, List, ◌∷◌, true, false, length, Some, None, slice_get};
+ghost use Rattle.std.specs.Prelude.{◌≡◌, ◌≢◌, ◌<◌, ◌≤◌, ℕ, List, ◌∷◌, true, false, length, Some, None, slice_get};
 ghost use Rattle.sa_base.specs.declared.number.ProcNo.{ProcNo};
 ghost use Rattle.sa_base.specs.declared.number.SpaceNo.{SpaceNo};
 ghost use Rattle.sa_base.specs.declared.number.ThreadNo.{ThreadNo};
@@ -7,7 +7,7 @@ ghost use Rattle.sa_lists.specs.ReadyView.{thread, list_of, is_locked};
 ghost use Rattle.sa_code.specs.declared.code.Op.{Op};
 ghost use Rattle.sa_code.specs.declared.state.PackageState.{PackageState};
 ghost use Rattle.sa_code.specs.declared.state.Frame.{Frame};
-ghost use Rattle.sa_code.specs.Micro.{micro, taken, pushed, popped, freed, without_chosen, list_in, is_resident, CanDo};
+ghost use Rattle.sa_code.specs.Micro.{micro, taken, pushed, popped, freed, without_chosen, list_in, is_resident, HasList, CanChange, CanPop, CanDo};
 ghost use Rattle.sa_code.specs.Changes.{holder_of, IsList, ChangesOnly, IsPackage, begun, GoesOn, IsStill, answer_of, is_did};
 
 use sa_base::{MAX_PROCESSORS, MAX_THREADS, PACKAGE_PAGE};
@@ -59,4 +59,24 @@ pub fn operations_keep_what_holds()
         → IsPackage (begun space code processors threads) }
     ensures step { (s : PackageState) (f : Frame) (pages : ℕ) → IsPackage s
         → CanDo s f (slice_get s.code f.pc) → IsPackage (micro s f pages).state }
+{}
+
+/// Behind a take its list can be changed, and behind an effect freed.
+pub fn an_operation_leads_to_what_the_next_asks()
+    ensures taken { (s : PackageState) (f : Frame) → IsPackage s → HasList s f
+        → CanChange (taken s f (list_in f) false).state (taken s f (list_in f) false).frame }
+    ensures pushed { (s : PackageState) (f : Frame) (t : ThreadNo) → CanChange s f
+        → CanChange (pushed s f true (list_in f) (Some t)).state
+        (pushed s f true (list_in f) (Some t)).frame }
+    ensures popped { (s : PackageState) (f : Frame) (t : ℕ) → CanChange s f
+        → CanChange (popped s f true (list_in f) (Some t)).state
+        (popped s f true (list_in f) (Some t)).frame }
+{}
+
+/// What is asked of a list lasts where another list changes.
+pub fn what_is_asked_of_a_list_lasts()
+    ensures change { (s new : PackageState) (f : Frame) (m : ℕ) → ChangesOnly m s new
+        → (list_in f).0 ≢ m → CanChange s f → CanChange new f }
+    ensures pop { (s new : PackageState) (f : Frame) (m : ℕ) → ChangesOnly m s new
+        → (list_in f).0 ≢ m → CanPop s f → CanPop new f }
 {}

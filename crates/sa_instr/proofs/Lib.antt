@@ -1,1 +1,3 @@
 pub mod EvictionLemmas
+pub mod OperationLemmas
+pub mod PartsLemmas

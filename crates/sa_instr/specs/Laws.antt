@@ -1,8 +1,12 @@
 -- What holds of the local effect and of workloads, whichever they are.
-use Rattle.std.specs.Prelude.{◌≡◌, ◌≢◌, ℕ, ◌<◌, List, length, AllPairs}
+use Rattle.std.specs.Prelude.{◌≡◌, ◌≢◌, ◌↔◌, ℕ, ◌<◌, Some, List, length, AllPairs, IsSome}
 use Rattle.sa_instr.specs.declared.instr.Reg.{Reg}
 use Rattle.sa_instr.specs.declared.instr.Instr.{Instr}
 use Rattle.sa_instr.specs.declared.instr.Instr.TheVariants.{Add, Sub}
+use Rattle.sa_instr.specs.declared.operand.Operand.{Operand}
+use Rattle.sa_instr.specs.declared.operation.Operation.{Operation}
+use Rattle.sa_instr.specs.Operation.{form_of}
+use Rattle.sa_instr.specs.Parts.{FitTheOperation, parts, parts_of, instr_of}
 use Rattle.sa_instr.specs.Instr.{reg_number, IsInRange}
 use Rattle.sa_instr.specs.Regs.{AreRegisters}
 use Rattle.sa_instr.specs.Program.{IsProgram}
@@ -36,3 +40,22 @@ EvictionsAreInOrder = (w : WorkloadView) → IsWorkload w → AllPairs IsBefore 
 
 abbrev pub EvictionsDiffer : Type 0
 EvictionsDiffer = (w : WorkloadView) → IsWorkload w → AllPairs (λ a b. a ≢ b) w.evictions
+
+-- the operation and the operands of an instruction make the instruction
+abbrev pub PartsMakeTheInstr : Type 0
+PartsMakeTheInstr = (i : Instr) → instr_of (parts_of i).operation (parts_of i).operands ≡ Some i
+
+-- what an operation and operands make has this operation and these operands
+abbrev pub InstrsHaveTheParts : Type 0
+InstrsHaveTheParts =
+    (operation : Operation) (operands : List Operand) (i : Instr) → instr_of operation operands ≡ Some i
+    → parts_of i ≡ parts operation operands
+
+-- an operation and operands make an instruction exactly where the operands fit the operation
+abbrev pub FittingPartsMakeInstrs : Type 0
+FittingPartsMakeInstrs =
+    (operation : Operation) (operands : List Operand) → IsSome (instr_of operation operands) ↔ FitTheOperation (parts operation operands)
+
+-- no two operations have one word
+abbrev pub WordsDiffer : Type 0
+WordsDiffer = (a b : Operation) → (form_of a).word ≡ (form_of b).word → a ≡ b

@@ -1,6 +1,10 @@
 pub mod Instr
 pub mod Laws
 pub mod Local
+pub mod Operand
+pub mod Operation
+pub mod Parts
+pub mod PartsFields
 pub mod Program
 pub mod Regs
 pub mod Space

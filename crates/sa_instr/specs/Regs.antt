@@ -1,11 +1,12 @@
 -- A thread's registers: the list of what they hold.
 use Rattle.std.specs.Prelude.{◌≡◌, ℕ, ◌^◌, ◌<◌, List, length, slice_index, slice_set, All}
+use Rattle.sa_instr.specs.declared.limits.TheConstants.{REGISTERS}
 use Rattle.sa_instr.specs.declared.instr.Reg.{Reg}
 use Rattle.sa_instr.specs.Instr.{reg_number}
 
 -- eight numbers of 64 bits
 pub record AreRegisters (regs : List ℕ) : Type 0 where
-  pub eight : length regs ≡ 8
+  pub eight : length regs ≡ REGISTERS
   pub words : All (λ value. value < 2 ^ 64) regs
 
 -- what a register holds

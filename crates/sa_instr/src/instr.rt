@@ -1,6 +1,9 @@
 // Registers and instructions.
-ghost use Rattle.std.specs.Prelude.{◌≡◌, ◌≤◌, ◌<◌, ◌↔◌, IsTrue, IsSome, IfSome};
+ghost use Rattle.std.specs.Prelude.{◌≡◌, ◌<◌, ◌↔◌, IsTrue, IsSome, IfSome};
 ghost use Rattle.sa_instr.specs.Instr.{reg_number, IsInRange, JumpsBelow, NamesDeclared};
+
+use crate::declared::Declared;
+use crate::limits::REGISTERS;
 
 /// One of a thread's eight registers, each of 64 bits.
 #[derive(Clone, Copy, Debug, PartialEq, Eq)]
@@ -18,7 +21,7 @@ pub enum Reg {
 impl Reg {
     /// The register of number `n`, or `None` exactly where `n` is not below 8.
     pub fn new(n: u8) -> Option<Reg>
-        ensures some { IsSome result ↔ (n < 8) }
+        ensures some { IsSome result ↔ (n < REGISTERS) }
         ensures number { IfSome result (λ reg. reg_number reg ≡ n) }
     {
         match n {
@@ -37,32 +40,9 @@ impl Reg {
     /// The register's number, from 0 to 7.
     pub fn number(self) -> u8
         ensures number { result ≡ reg_number self }
-        ensures below { result < 8 }
+        ensures below { result < REGISTERS }
     {
         self as u8
-    }
-}
-
-// How many of each thing a space declares.
-#[derive(Clone, Copy)]
-pub(crate) struct Declared {
-    pub mutexes: u16,
-    pub sems: usize,
-    pub cells: u16,
-    pub programs: usize,
-}
-
-impl Declared {
-    // Whether a space may declare so many.
-    pub(crate) fn is_in_range(&self) -> bool
-        ensures { IsTrue result ↔ ((self.now.mutexes ≤ 64) × (self.now.sems ≤ 64) × (self.now.cells ≤ 64)
-            × (1 ≤ self.now.programs) × (self.now.programs ≤ 256)) }
-    {
-        self.mutexes <= 64
-            && self.sems <= 64
-            && self.cells <= 64
-            && 1 <= self.programs
-            && self.programs <= 256
     }
 }
 
@@ -108,42 +88,34 @@ pub enum Instr {
 }
 
 impl Instr {
-    // Whether the number of an I/O or a touch is in its range.
+    // Whether each number with a range of its own is in it.
     pub(crate) fn is_in_range(&self) -> bool
         ensures { IsTrue result ↔ IsInRange self.now }
     {
-        match self {
-            // Any number of 64 bits; the proof reads its range from the type.
-            Instr::Set(_, value) => {
-                let _value = *value;
-                true
-            }
-            Instr::Io(length) => 1 <= *length && *length <= 1_000_000,
-            Instr::Touch(page) => 2 <= *page && *page <= 15,
-            _ => true,
-        }
+        self.parts()
+            .operands()
+            .iter()
+            .all(|operand| operand.is_in_range())
     }
 
     // Whether a jump goes to a place below `len`.
     pub(crate) fn jumps_below(&self, len: usize) -> bool
         ensures { IsTrue result ↔ JumpsBelow len self.now }
     {
-        match self {
-            Instr::Jnz(_, place) => (*place as usize) < len,
-            _ => true,
-        }
+        self.parts()
+            .operands()
+            .iter()
+            .all(|operand| operand.is_below(len))
     }
 
     // Whether the mutex, semaphore, cell or program that the instruction names is declared.
     pub(crate) fn names_declared(&self, declared: &Declared) -> bool
-        ensures { IsTrue result ↔ NamesDeclared declared.now.mutexes declared.now.sems declared.now.cells declared.now.programs self.now }
+        ensures { IsTrue result ↔ NamesDeclared declared.now.mutexes declared.now.sems
+            declared.now.cells declared.now.programs self.now }
     {
-        match self {
-            Instr::Load(_, cell) | Instr::Store(_, cell) => *cell < declared.cells,
-            Instr::Fork(_, program) => (*program as usize) < declared.programs,
-            Instr::Lock(mutex) | Instr::Unlock(mutex) => *mutex < declared.mutexes,
-            Instr::Wait(sem) | Instr::Signal(sem) => (*sem as usize) < declared.sems,
-            _ => true,
-        }
+        self.parts()
+            .operands()
+            .iter()
+            .all(|operand| operand.is_declared(declared))
     }
 }

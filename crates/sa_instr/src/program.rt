@@ -4,7 +4,9 @@ ghost use Rattle.sa_instr.specs.Instr.{IsInRange, JumpsBelow, NamesDeclared};
 ghost use Rattle.sa_instr.specs.Local.{instr_at};
 ghost use Rattle.sa_instr.specs.Program.{IsProgram};
 
-use crate::instr::{Declared, Instr};
+use crate::declared::Declared;
+use crate::instr::Instr;
+use crate::limits::MAX_INSTRUCTIONS;
 use std::alloc::{AllocError, Global};
 use std::marker::Model;
 
@@ -43,9 +45,17 @@ impl Program {
     /// The number of instructions, from 1 to 4,096.
     pub fn len(&self) -> u16
         ensures len { result ≡ length self.now }
-        ensures program { IsProgram self.now }
+        ensures some { 1 ≤ result }
+        ensures few { result ≤ MAX_INSTRUCTIONS }
     {
         self.instrs.len() as u16
+    }
+
+    /// What every program keeps to. It does nothing.
+    pub fn ranges(&self)
+        ensures { IsProgram self.now }
+    {
+        let _program = &self.instrs;
     }
 
     /// The instruction at the place `pc`.
@@ -55,7 +65,7 @@ impl Program {
         ensures instr { result ≡ instr_at self.now pc }
 
         // What a program keeps to, at this place: there is a next one, but behind an `End`.
-        ensures short { length self.now ≤ 4096 }
+        ensures short { length self.now ≤ MAX_INSTRUCTIONS }
         ensures next { result ≢ Instr.End → pc + 1 < length self.now }
         ensures jumps { JumpsBelow (length self.now) result }
         ensures range { IsInRange result }
@@ -75,7 +85,8 @@ impl Program {
     // Whether each instruction names only what is declared. Each program says so of itself.
     pub(crate) fn names_only(&self, declared: &Declared) -> bool
         ensures { IsTrue result ↔ (IsProgram self.now
-            × All (NamesDeclared declared.now.mutexes declared.now.sems declared.now.cells declared.now.programs) self.now) }
+            × All (NamesDeclared declared.now.mutexes declared.now.sems declared.now.cells
+            declared.now.programs) self.now) }
     {
         self.instrs
             .iter()
@@ -88,7 +99,7 @@ fn is_program(instrs: &[Instr]) -> bool
     ensures { IsTrue result ↔ IsProgram instrs.now }
 {
     let len = instrs.len();
-    len <= 4_096
+    len <= MAX_INSTRUCTIONS
         && matches!(instrs.last(), Some(Instr::End))
         && instrs.iter().all(|instr| instr.jumps_below(len))
         && instrs.iter().all(|instr| instr.is_in_range())

@@ -3,12 +3,13 @@ ghost use Rattle.std.specs.Prelude.{◌≡◌, replicate};
 ghost use Rattle.sa_instr.specs.Regs.{AreRegisters, reg_value, with_reg};
 
 use crate::instr::Reg;
+use crate::limits::REGISTERS;
 use std::marker::Model;
 
 /// The eight registers of a thread, in the order of their numbers.
 #[derive(Clone, Copy, Debug, PartialEq, Eq)]
 pub struct Regs {
-    values: [u64; 8],
+    values: [u64; REGISTERS],
 }
 
 impl Model for Regs {
@@ -28,17 +29,25 @@ impl Model for Regs {
 impl Regs {
     /// Each register 0.
     pub fn zero() -> Self
-        ensures { result ≡ replicate 8 0 }
+        ensures { result ≡ replicate REGISTERS 0 }
     {
-        Regs { values: [0; 8] }
+        Regs {
+            values: [0; REGISTERS],
+        }
     }
 
     /// What the register holds.
     pub fn get(&self, reg: Reg) -> u64
-        ensures value { result ≡ reg_value self.now reg }
-        ensures registers { AreRegisters self.now }
+        ensures { result ≡ reg_value self.now reg }
     {
         self.values[reg.number() as usize]
+    }
+
+    /// What all registers keep to. It does nothing.
+    pub fn ranges(&self)
+        ensures { AreRegisters self.now }
+    {
+        let _registers = &self.values;
     }
 
     /// Puts `value` into the register. The others stay.

@@ -5,7 +5,11 @@ ghost use Rattle.sa_instr.specs.Instr.{NamesDeclared};
 ghost use Rattle.sa_instr.specs.Program.{IsProgram};
 ghost use Rattle.sa_instr.specs.Space.{SpaceView, IsSpace};
 
-use crate::instr::Declared;
+use crate::declared::Declared;
+use crate::limits::{
+    LAST_PAGE, MAX_CELLS, MAX_MUTEXES, MAX_PATIENCE, MAX_PRIORITY, MAX_PROGRAMS, MAX_SEMAPHORES,
+    MAX_START,
+};
 use crate::program::Program;
 use std::alloc::{AllocError, Global};
 use std::marker::Model;
@@ -64,7 +68,7 @@ impl SpaceDef {
             cells,
             programs: programs.len(),
         };
-        if priority > 7
+        if priority > MAX_PRIORITY
             || !declared.is_in_range()
             || !are_starts(&sems)
             || !are_absent_pages(&absent)
@@ -87,9 +91,10 @@ impl SpaceDef {
     ///
     /// `None` exactly where the patience is not 1 to 1,000.
     pub fn with_patience(mut self, patience: u16) -> Option<SpaceDef>
-        ensures { SomeIff result ((1 ≤ patience) × (patience ≤ 1000)) (record self { patience = patience }) }
+        ensures { SomeIff result ((1 ≤ patience) × (patience ≤ MAX_PATIENCE))
+            (record self { patience = patience }) }
     {
-        if patience < 1 || patience > 1_000 {
+        if patience < 1 || patience > MAX_PATIENCE {
             return None;
         }
         self.patience = patience;
@@ -114,7 +119,7 @@ impl SpaceDef {
     /// The priority, 0 to 7: spaces of priority 7 come first.
     pub fn priority(&self) -> u8
         ensures value { result ≡ self.now.priority }
-        ensures range { result ≤ 7 }
+        ensures range { result ≤ MAX_PRIORITY }
     {
         self.priority
     }
@@ -122,7 +127,7 @@ impl SpaceDef {
     /// The number of mutexes, 0 to 64.
     pub fn mutexes(&self) -> u16
         ensures value { result ≡ self.now.mutexes }
-        ensures range { result ≤ 64 }
+        ensures range { result ≤ MAX_MUTEXES }
     {
         self.mutexes
     }
@@ -130,8 +135,8 @@ impl SpaceDef {
     /// The count that each semaphore starts with, 0 to 1,000,000; there are 0 to 64 of them.
     pub fn sems(&self) -> &[u32]
         ensures value { result.now ≡ self.now.sems }
-        ensures few { length result.now ≤ 64 }
-        ensures range { All (λ start. start ≤ 1000000) result.now }
+        ensures few { length result.now ≤ MAX_SEMAPHORES }
+        ensures range { All (λ start. start ≤ MAX_START) result.now }
     {
         self.sems.as_slice()
     }
@@ -139,7 +144,7 @@ impl SpaceDef {
     /// The number of cells, 0 to 64.
     pub fn cells(&self) -> u16
         ensures value { result ≡ self.now.cells }
-        ensures range { result ≤ 64 }
+        ensures range { result ≤ MAX_CELLS }
     {
         self.cells
     }
@@ -147,7 +152,7 @@ impl SpaceDef {
     /// The pages that are absent at the opening, 0 to 15, rising.
     pub fn absent(&self) -> &[u16]
         ensures value { result.now ≡ self.now.absent }
-        ensures range { All (λ page. page ≤ 15) result.now }
+        ensures range { All (λ page. page ≤ LAST_PAGE) result.now }
         ensures rise { IsStrictlyIncreasing result.now }
     {
         self.absent.as_slice()
@@ -157,7 +162,7 @@ impl SpaceDef {
     pub fn programs(&self) -> &[Program]
         ensures value { result.now ≡ self.now.programs }
         ensures some { 1 ≤ length result.now }
-        ensures few { length result.now ≤ 256 }
+        ensures few { length result.now ≤ MAX_PROGRAMS }
     {
         self.programs.as_slice()
     }
@@ -167,7 +172,7 @@ impl SpaceDef {
     pub fn patience(&self) -> u16
         ensures value { result ≡ self.now.patience }
         ensures some { 1 ≤ result }
-        ensures range { result ≤ 1000 }
+        ensures range { result ≤ MAX_PATIENCE }
     {
         self.patience
     }
@@ -182,16 +187,18 @@ impl SpaceDef {
 
 // Whether each semaphore's start is in its range, and there are few enough.
 fn are_starts(sems: &[u32]) -> bool
-    ensures { IsTrue result ↔ ((length sems.now ≤ 64) × All (λ start. start ≤ 1000000) sems.now) }
+    ensures { IsTrue result ↔ ((length sems.now ≤ MAX_SEMAPHORES)
+        × All (λ start. start ≤ MAX_START) sems.now) }
 {
-    sems.len() <= 64 && sems.iter().all(|start| *start <= 1_000_000)
+    sems.len() <= MAX_SEMAPHORES && sems.iter().all(|start| *start <= MAX_START)
 }
 
 // Whether the pages are in their range and rise.
 fn are_absent_pages(pages: &[u16]) -> bool
-    ensures { IsTrue result ↔ (All (λ page. page ≤ 15) pages.now × IsStrictlyIncreasing pages.now) }
+    ensures { IsTrue result ↔ (All (λ page. page ≤ LAST_PAGE) pages.now
+        × IsStrictlyIncreasing pages.now) }
 {
-    pages.iter().all(|page| *page <= 15) && rise(pages)
+    pages.iter().all(|page| *page <= LAST_PAGE) && rise(pages)
 }
 
 // Whether each page is greater than the one before it.
@@ -209,7 +216,8 @@ fn rise(pages: &[u16]) -> bool
 // Whether the programs name only what is declared.
 fn name_only(programs: &[Program], declared: &Declared) -> bool
     ensures { IsTrue result ↔ (All IsProgram programs.now
-        × All (All (NamesDeclared declared.now.mutexes declared.now.sems declared.now.cells declared.now.programs)) programs.now) }
+        × All (All (NamesDeclared declared.now.mutexes declared.now.sems declared.now.cells
+        declared.now.programs)) programs.now) }
 {
     programs.iter().all(|program| program.names_only(declared))
 }

@@ -3,8 +3,9 @@ ghost use Rattle.std.specs.Prelude.{◌≡◌, ◌≤◌, ◌<◌, ◌↔◌, Is
 ghost use Rattle.std.specs.List.{AllAdjacentBelow};
 ghost use Rattle.sa_instr.specs.Space.{IsSpace};
 
+use crate::limits::{LAST_PAGE, MAX_EVICTIONS, MAX_FETCH, MAX_SLICE, MAX_TURNS};
 use crate::space::SpaceDef;
-use sa_base::{ProcNo, SpaceNo};
+use sa_base::{MAX_EVENTS, MAX_PROCESSORS, MAX_SPACES, ProcNo, SpaceNo};
 use std::alloc::{AllocError, Global};
 use std::marker::Model;
 
@@ -27,9 +28,9 @@ impl Evict {
         ensures { IsTrue result ↔ IsEviction spaces self.now }
     {
         1 <= self.event
-            && self.event <= 1_000_000
+            && self.event <= MAX_EVENTS
             && (self.space.0 as usize) < spaces
-            && self.page <= 15
+            && self.page <= LAST_PAGE
     }
 
     // Whether it comes before the other, by the event, then by the space, then by the page.
@@ -47,10 +48,11 @@ impl Evict {
 
     // Whether the evictions are few enough, each in its range and before the next.
     fn are_in_order(evictions: &[Evict], spaces: usize) -> bool
-        ensures { IsTrue result ↔ ((length evictions.now ≤ 4096) × All (IsEviction spaces) evictions.now
+        ensures { IsTrue result ↔ ((length evictions.now ≤ MAX_EVICTIONS)
+            × All (IsEviction spaces) evictions.now
             × AllAdjacentBelow IsBefore evictions.now (length evictions.now)) }
     {
-        evictions.len() <= 4_096
+        evictions.len() <= MAX_EVICTIONS
             && evictions.iter().all(|evict| evict.is_in_range(spaces))
             && Evict::rise(evictions)
     }
@@ -137,9 +139,9 @@ impl Workload {
     ///
     /// `None` exactly where the slice is above 1,000,000.
     pub fn with_slice(mut self, slice: u32) -> Option<Workload>
-        ensures { SomeIff result (slice ≤ 1000000) (record self { slice = slice }) }
+        ensures { SomeIff result (slice ≤ MAX_SLICE) (record self { slice = slice }) }
     {
-        if slice > 1_000_000 {
+        if slice > MAX_SLICE {
             return None;
         }
         self.slice = slice;
@@ -164,7 +166,7 @@ impl Workload {
     pub fn processors(&self) -> u16
         ensures value { result ≡ self.now.processors }
         ensures some { 1 ≤ result }
-        ensures few { result ≤ 16 }
+        ensures few { result ≤ MAX_PROCESSORS }
     {
         self.processors
     }
@@ -173,7 +175,7 @@ impl Workload {
     pub fn fetch(&self) -> u32
         ensures value { result ≡ self.now.fetch }
         ensures some { 1 ≤ result }
-        ensures short { result ≤ 1000 }
+        ensures short { result ≤ MAX_FETCH }
     {
         self.fetch
     }
@@ -182,7 +184,7 @@ impl Workload {
     pub fn spaces(&self) -> &[SpaceDef]
         ensures value { result.now ≡ self.now.spaces }
         ensures some { 1 ≤ length result.now }
-        ensures few { length result.now ≤ 16 }
+        ensures few { length result.now ≤ MAX_SPACES }
         ensures spaces { All IsSpace result.now }
     {
         self.spaces.as_slice()
@@ -191,7 +193,7 @@ impl Workload {
     /// The evictions, at most 4,096, in order.
     pub fn evictions(&self) -> &[Evict]
         ensures value { result.now ≡ self.now.evictions }
-        ensures few { length result.now ≤ 4096 }
+        ensures few { length result.now ≤ MAX_EVICTIONS }
         ensures range { All (IsEviction (length self.now.spaces)) result.now }
         ensures rise { AllAdjacentBelow IsBefore result.now (length result.now) }
     {
@@ -201,7 +203,7 @@ impl Workload {
     /// The processors of the first turns, at most 65,536.
     pub fn turns(&self) -> &[ProcNo]
         ensures value { result.now ≡ self.now.turns }
-        ensures few { length result.now ≤ 65536 }
+        ensures few { length result.now ≤ MAX_TURNS }
         ensures range { All (λ proc. proc.0 < self.now.processors) result.now }
     {
         self.turns.as_slice()
@@ -210,7 +212,7 @@ impl Workload {
     /// After how many events the remainder of the processors rotates, 0 to 1,000,000; 0 is never.
     pub fn slice(&self) -> u32
         ensures value { result ≡ self.now.slice }
-        ensures range { result ≤ 1000000 }
+        ensures range { result ≤ MAX_SLICE }
     {
         self.slice
     }
@@ -225,22 +227,23 @@ impl Workload {
 
 // Whether a machine may have so many processors and spaces, and take so long for a fetch.
 fn is_machine(processors: u16, fetch: u32, spaces: usize) -> bool
-    ensures { IsTrue result ↔ ((1 ≤ processors) × (processors ≤ 16) × (1 ≤ fetch) × (fetch ≤ 1000)
-        × (1 ≤ spaces) × (spaces ≤ 16)) }
+    ensures { IsTrue result ↔ ((1 ≤ processors) × (processors ≤ MAX_PROCESSORS)
+        × (1 ≤ fetch) × (fetch ≤ MAX_FETCH) × (1 ≤ spaces) × (spaces ≤ MAX_SPACES)) }
 {
     1 <= processors
-        && processors <= 16
+        && processors <= MAX_PROCESSORS
         && 1 <= fetch
-        && fetch <= 1_000
+        && fetch <= MAX_FETCH
         && 1 <= spaces
-        && spaces <= 16
+        && spaces <= MAX_SPACES
 }
 
 // Whether there are few enough turns, each of one of so many processors.
 fn are_turns(turns: &[ProcNo], processors: u16) -> bool
-    ensures { IsTrue result ↔ ((length turns.now ≤ 65536) × All (λ proc. proc.0 < processors) turns.now) }
+    ensures { IsTrue result ↔ ((length turns.now ≤ MAX_TURNS)
+        × All (λ proc. proc.0 < processors) turns.now) }
 {
-    turns.len() <= 65_536 && turns.iter().all(|proc| proc.0 < processors)
+    turns.len() <= MAX_TURNS && turns.iter().all(|proc| proc.0 < processors)
 }
 
 // Each space keeps to its ranges. It does nothing.

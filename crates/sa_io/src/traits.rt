@@ -25,7 +25,8 @@ pub trait Source {
     /// The bytes that reads will give from here on, where the source tells them.
     ghost left: { Self → Option (List ℕ) };
 
-    /// How many reads have failed, up to 2^64 - 1, where the count stands still.
+    /// How many reads have failed, up to 2^64 - 1, where the count stands still. It may rise at a read
+    /// that gives bytes, too.
     ghost faults: { Self → ℕ };
 
     /// Puts the next bytes at the front of `into`, and returns how many came. A read that fails takes
@@ -49,7 +50,8 @@ pub trait Sink {
     /// The bytes that the sink took, where it tells them.
     ghost taken: { Self → Option (List ℕ) };
 
-    /// How many writes have failed, up to 2^64 - 1, where the count stands still.
+    /// How many writes have failed, up to 2^64 - 1, where the count stands still. It may rise at a write
+    /// that takes the piece, too.
     ghost faults: { Self → ℕ };
 
     /// Takes the whole piece. A write that fails takes a prefix of it.

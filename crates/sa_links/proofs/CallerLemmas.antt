@@ -1,9 +1,9 @@
 -- What proofs of callers need of the lists.
-use Rattle.std.proofs.Common.{◌≡◌, ◌≢◌, ℕ, ◌+◌, ◌<◌, List, length, inl, inr, arith}
+use Rattle.std.proofs.Common.{◌≡◌, ◌≢◌, ℕ, ◌+◌, ◌<◌, List, [], ◌++◌, length, inl, inr, ap, sym, arith}
 use Rattle.std.proofs.lemmas.Bool.{cases_eq}
 use Rattle.std.proofs.lemmas.List.{get_or-set_other, get_or-set_same, length-set}
-use Rattle.sa_links.specs.Lists.{Lists, list_at, count_in, count_in_all, IsApart, IsIn, IsListed, with_list}
-use Rattle.sa_links.proofs.Counting.{count_at, count_set, count_two}
+use Rattle.sa_links.specs.Lists.{Lists, list_at, count_in, count_in_all, HasSameCounts, IsApart, IsIn, IsListed, with_list}
+use Rattle.sa_links.proofs.Counting.{count-append, count_at, count_set, count_two}
 
 -- the lists once one of them is replaced
 pub list_same : (c : Lists) (l : ℕ) (xs : List ℕ) → l < length c.lists → list_at (with_list c l xs).lists l ≡ xs
@@ -28,3 +28,16 @@ in_one c l m x apart h hl hm = elim (cases_eq l m) [
   | inl same ↦ same
   | inr other ↦ let t = count_two x c.lists l m other h in let o = apart.once x in absurd (omega arith)
 ]
+
+-- a list that is moved behind another leaves each number as often as it was
+pub counts_moved : (c : Lists) (l m : ℕ) → l ≢ m → l < length c.lists → m < length c.lists
+    → HasSameCounts c (with_list (with_list c l (list_at c.lists l ++ list_at c.lists m)) m [])
+counts_moved c l m differ left right x =
+    let xs : List ℕ = list_at c.lists l in
+    let ys : List ℕ = list_at c.lists m in
+    let one : Lists = with_list c l (xs ++ ys) in
+    let first = count_with x c l (xs ++ ys) left in
+    let second = count_with x one m [] (omega (arith, lists_same c l (xs ++ ys))) in
+    let both : count_in x (xs ++ ys) ≡ count_in x xs + count_in x ys = count-append x xs ys in
+    let same : count_in x (list_at one.lists m) ≡ count_in x ys = ap (count_in x) (list_other c l m (xs ++ ys) (λ e. differ (sym e))) in
+    omega arith

@@ -44,3 +44,7 @@ without x xs = filter (λ y. not (y == x)) xs
 pub record IsApart (c : Lists) : Type 0 where
   pub below : (x : ℕ) → 1 ≤ count_in_all x c.lists → x < c.nodes
   pub once : (x : ℕ) → count_in_all x c.lists ≤ 1
+
+-- each number stands in them as often as before
+abbrev pub HasSameCounts : Lists → Lists → Type 0
+HasSameCounts old new = (x : ℕ) → count_in_all x new.lists ≡ count_in_all x old.lists

@@ -7,7 +7,7 @@ ghost use Rattle.sa_links.specs.Place.{IsPlace, index_of};
 
 use std::alloc::{AllocError, Allocator};
 use std::fmt;
-use std::marker::{Send, Sync};
+use std::marker::Send;
 
 // Where a value of a block lies. It owns nothing.
 pub(crate) struct Place<T> {
@@ -28,8 +28,6 @@ impl<T> Copy for Place<T> {}
 
 // A place gives no access by itself: `at` and `put` want the block too.
 unsafe impl<T> Send for Place<T> {}
-
-unsafe impl<T> Sync for Place<T> {}
 
 impl<T> fmt::Debug for Place<T> {
     fn fmt<W: fmt::Write>(&self, f: &mut fmt::Formatter<W>) -> fmt::Result {
@@ -67,7 +65,8 @@ pub(crate) fn place_at<T, A: Allocator>(
 // The value at a place of the block.
 pub(crate) fn at<T, A: Allocator>(block: &Vec<T, A>, place: Place<T>) -> &T
     requires { IsPlace T.row (vec_ptr block.now) (length block.now.items) place.ptr }
-    ensures { result.now ≡ slice_index_or block.now.items (index_of T.row (vec_ptr block.now) place.ptr) result.now }
+    ensures { let i = index_of T.row (vec_ptr block.now) place.ptr in
+        result.now ≡ slice_index_or block.now.items i result.now }
 {
     unsafe { &*place.ptr }
 }
@@ -75,7 +74,8 @@ pub(crate) fn at<T, A: Allocator>(block: &Vec<T, A>, place: Place<T>) -> &T
 // Writes a value at a place of the block. What stood there is forgotten.
 pub(crate) fn put<T, A: Allocator>(block: &mut Vec<T, A>, place: Place<T>, value: T)
     requires { IsPlace T.row (vec_ptr block.old) (length block.old.items) place.ptr }
-    ensures items { block.new.items ≡ slice_set block.old.items (index_of T.row (vec_ptr block.old) place.ptr) value }
+    ensures items { let i = index_of T.row (vec_ptr block.old) place.ptr in
+        block.new.items ≡ slice_set block.old.items i value }
     ensures stays { vec_ptr block.new ≡ vec_ptr block.old }
 {
     unsafe {

@@ -1,6 +1,6 @@
 // Disjoint lists of node numbers, as callers see them.
 ghost use Rattle.std.specs.Prelude.{◌≡◌, ◌≢◌, ◌-◌, ◌<◌, ◌≤◌, ◌↔◌, [], ◌∷◌, ◌++◌, length, take, drop, replicate, slice_get, IfOk, IfSome, IsTrue};
-ghost use Rattle.sa_links.specs.Lists.{IsApart, IsFree, IsIn, IsListed, IsNext, list_at, with_list, without};
+ghost use Rattle.sa_links.specs.Lists.{HasSameCounts, IsApart, IsFree, IsIn, IsListed, IsNext, list_at, with_list, without};
 
 use crate::block::{Place, at, begin_of};
 use crate::node::{Node, insert, join, place_of, remove};
@@ -93,8 +93,10 @@ impl Links {
     /// Takes the last node out of `list`: `None` exactly where the list is empty.
     pub fn pop_back(&mut self, list: u32) -> Option<u32>
         requires { list < length self.old.lists }
-        ensures last { let xs = list_at self.old.lists list in result ≡ slice_get xs (length xs - 1) }
-        ensures lists { let xs = list_at self.old.lists list in self.new ≡ with_list self.old list (take (length xs - 1) xs) }
+        ensures last { let xs = list_at self.old.lists list in
+            result ≡ slice_get xs (length xs - 1) }
+        ensures lists { let xs = list_at self.old.lists list in
+            self.new ≡ with_list self.old list (take (length xs - 1) xs) }
         ensures node { IfSome result (λ node. node < self.new.nodes) }
         ensures free { IfSome result (λ node. IsFree self.new node) }
     {
@@ -109,7 +111,8 @@ impl Links {
     pub fn unlink(&mut self, list: u32, node: u32)
         requires list { list < length self.old.lists }
         requires stands { IsIn node (list_at self.old.lists list) }
-        ensures lists { self.new ≡ with_list self.old list (without node (list_at self.old.lists list)) }
+        ensures lists { let xs = list_at self.old.lists list in
+            self.new ≡ with_list self.old list (without node xs) }
         ensures free { IsFree self.new node }
     {
         let _ = list;
@@ -117,12 +120,15 @@ impl Links {
         remove(&mut self.nodes, place);
     }
 
-    /// Moves all nodes of the list `from` behind the last of `list`, in their order.
+    /// Moves all nodes of the list `from` behind the last of `list`, in their order. A node that is in no
+    /// list stays so.
     pub fn append(&mut self, list: u32, from: u32)
         requires list { list < length self.old.lists }
         requires from { from < length self.old.lists }
         requires differ { list ≢ from }
-        ensures { self.new ≡ with_list (with_list self.old list (list_at self.old.lists list ++ list_at self.old.lists from)) from [] }
+        ensures lists { let xs = list_at self.old.lists list ++ list_at self.old.lists from in
+            self.new ≡ with_list (with_list self.old list xs) from [] }
+        ensures counts { HasSameCounts self.old self.new }
     {
         let head = place_of(&self.nodes, self.begin, self.count as usize + list as usize);
         let emptied = place_of(&self.nodes, self.begin, self.count as usize + from as usize);
@@ -141,6 +147,7 @@ impl Links {
     pub fn front(&self, list: u32) -> Option<u32>
         requires { list < length self.now.lists }
         ensures first { result ≡ slice_get (list_at self.now.lists list) 0 }
+        ensures node { IfSome result (λ node. node < self.now.nodes) }
         ensures stands { IfSome result (λ node. IsIn node (list_at self.now.lists list)) }
         ensures listed { IfSome result (λ node. IsListed self.now node) }
     {
@@ -151,7 +158,9 @@ impl Links {
     /// The last node of `list`: `None` exactly where the list is empty.
     pub fn back(&self, list: u32) -> Option<u32>
         requires { list < length self.now.lists }
-        ensures last { let xs = list_at self.now.lists list in result ≡ slice_get xs (length xs - 1) }
+        ensures last { let xs = list_at self.now.lists list in
+            result ≡ slice_get xs (length xs - 1) }
+        ensures node { IfSome result (λ node. node < self.now.nodes) }
         ensures stands { IfSome result (λ node. IsIn node (list_at self.now.lists list)) }
         ensures listed { IfSome result (λ node. IsListed self.now node) }
     {
@@ -171,6 +180,7 @@ impl Links {
     pub fn after(&self, node: u32) -> Option<u32>
         requires { IsListed self.now node }
         ensures next { IsNext self.now node result }
+        ensures node { IfSome result (λ next. next < self.now.nodes) }
         ensures listed { IfSome result (λ next. IsListed self.now next) }
     {
         let here = place_of(&self.nodes, self.begin, node as usize);

@@ -29,7 +29,9 @@ pub(crate) fn place_of(nodes: &Vec<Node>, begin: Place<Node>, index: usize) -> P
 pub(crate) fn join(nodes: &mut Vec<Node>, front: Place<Node>, back: Place<Node>)
     requires front { IsNodePlace (vec_ptr nodes.old) (length nodes.old.items) front.ptr }
     requires back { IsNodePlace (vec_ptr nodes.old) (length nodes.old.items) back.ptr }
-    ensures wires { wires_of (vec_ptr nodes.new) nodes.new.items ≡ joined (wires_of (vec_ptr nodes.old) nodes.old.items) (node_index (vec_ptr nodes.old) front.ptr) (node_index (vec_ptr nodes.old) back.ptr) }
+    ensures wires { let base = vec_ptr nodes.old in
+        wires_of (vec_ptr nodes.new) nodes.new.items
+        ≡ joined (wires_of base nodes.old.items) (node_index base front.ptr) (node_index base back.ptr) }
     ensures relinked { IsRelinked (vec_ptr nodes.old) nodes.old.items (vec_ptr nodes.new) nodes.new.items }
 {
     let node = *at(nodes, front);
@@ -50,7 +52,9 @@ pub(crate) fn insert(nodes: &mut Vec<Node>, front: Place<Node>, place: Place<Nod
     requires front { IsNodePlace (vec_ptr nodes.old) (length nodes.old.items) front.ptr }
     requires place { IsNodePlace (vec_ptr nodes.old) (length nodes.old.items) place.ptr }
     requires linked { AreLinked (vec_ptr nodes.old) nodes.old.items }
-    ensures wires { let old = wires_of (vec_ptr nodes.old) nodes.old.items in let a = node_index (vec_ptr nodes.old) front.ptr in let x = node_index (vec_ptr nodes.old) place.ptr in
+    ensures wires { let base = vec_ptr nodes.old in
+        let old = wires_of base nodes.old.items in
+        let a = node_index base front.ptr in let x = node_index base place.ptr in
         wires_of (vec_ptr nodes.new) nodes.new.items ≡ joined (joined old a x) x (slice_index old.next a) }
     ensures relinked { IsRelinked (vec_ptr nodes.old) nodes.old.items (vec_ptr nodes.new) nodes.new.items }
 {
@@ -63,8 +67,10 @@ pub(crate) fn insert(nodes: &mut Vec<Node>, front: Place<Node>, place: Place<Nod
 pub(crate) fn remove(nodes: &mut Vec<Node>, place: Place<Node>)
     requires place { IsNodePlace (vec_ptr nodes.old) (length nodes.old.items) place.ptr }
     requires linked { AreLinked (vec_ptr nodes.old) nodes.old.items }
-    ensures wires { let old = wires_of (vec_ptr nodes.old) nodes.old.items in let x = node_index (vec_ptr nodes.old) place.ptr in
-        wires_of (vec_ptr nodes.new) nodes.new.items ≡ joined (joined old (slice_index old.prev x) (slice_index old.next x)) x x }
+    ensures wires { let base = vec_ptr nodes.old in
+        let old = wires_of base nodes.old.items in let x = node_index base place.ptr in
+        wires_of (vec_ptr nodes.new) nodes.new.items
+        ≡ joined (joined old (slice_index old.prev x) (slice_index old.next x)) x x }
     ensures relinked { IsRelinked (vec_ptr nodes.old) nodes.old.items (vec_ptr nodes.new) nodes.new.items }
 {
     let node = *at(nodes, place);

@@ -3,6 +3,7 @@ use Rattle.std.proofs.Common.{◌≡◌, ℕ, zero, suc, ◌+◌, ◌≤◌, ◌
 use Rattle.std.proofs.lemmas.Bool.{cases_lt, lt-ltb, ltb-true, cond_both, and_parts, and_cases, both_ways}
 use Rattle.std.proofs.lemmas.Bool.Decides.{nat_tests}
 use Rattle.std.proofs.lemmas.List.Folds.{sum_by-replicate}
+use Rattle.sa_base.specs.declared.limits.TheConstants.{MAX_SPACES}
 use Rattle.sa_share.specs.declared.Claim.{Claim}
 use Rattle.sa_share.specs.Share.{want_at, share_at, IsFirst, IsShare}
 use Rattle.sa_share.specs.Turn.{IsBefore, GoesFirst}
@@ -49,9 +50,9 @@ next_below-next (suc n) first claims shares is_first within =
 -- what giving one more processor keeps
 record AreShares (processors first : ℕ) (claims : List Claim) (shares : List ℕ) : Type 0 where
   given : IsShare processors first claims shares
-  places : length shares ≡ 16
+  places : length shares ≡ MAX_SPACES
 
-with_one_more-shares : (processors first : ℕ) (claims : List Claim) (shares : List ℕ) (next : Option ℕ) → length claims ≤ 16 → AreShares processors first claims shares → IsNextSoFar (length claims) first claims shares next → AreShares (processors + 1) first claims (with_one_more shares next)
+with_one_more-shares : (processors first : ℕ) (claims : List Claim) (shares : List ℕ) (next : Option ℕ) → length claims ≤ MAX_SPACES → AreShares processors first claims shares → IsNextSoFar (length claims) first claims shares next → AreShares (processors + 1) first claims (with_one_more shares next)
 with_one_more-shares processors first claims shares None fits old none = record {
   given = IsShare-all processors (processors + 1) first claims shares (omega arith) old.given met;
   places = old.places;
@@ -63,9 +64,9 @@ with_one_more-shares processors first claims shares (Some s) fits old next = rec
   places = length-set shares s (share_at shares s + 1) ∙ old.places;
 }
 
-shares_of-shares : (processors first : ℕ) (claims : List Claim) → length claims ≤ 16 → IsFirst first claims → AreShares processors first claims (shares_of processors first claims)
+shares_of-shares : (processors first : ℕ) (claims : List Claim) → length claims ≤ MAX_SPACES → IsFirst first claims → AreShares processors first claims (shares_of processors first claims)
 shares_of-shares zero first claims fits is_first = record {
-  given = IsShare-none first claims (replicate 16 0) (sum_by-replicate (λ (n : ℕ). n) 16 0);
+  given = IsShare-none first claims (replicate MAX_SPACES 0) (sum_by-replicate (λ (n : ℕ). n) MAX_SPACES 0);
   places = refl;
 }
 shares_of-shares (suc processors) first claims fits is_first =
@@ -75,14 +76,14 @@ shares_of-shares (suc processors) first claims fits is_first =
     (shares_of-shares processors first claims fits is_first)
     (next_below-next (length claims) first claims shares is_first (omega arith)))
 
-pub shares_of-share : (processors first : ℕ) (claims : List Claim) → length claims ≤ 16 → IsFirst first claims → IsShare processors first claims (shares_of processors first claims)
+pub shares_of-share : (processors first : ℕ) (claims : List Claim) → length claims ≤ MAX_SPACES → IsFirst first claims → IsShare processors first claims (shares_of processors first claims)
 shares_of-share processors first claims fits is_first = (shares_of-shares processors first claims fits is_first).given
 
-pub length-shares_of : (processors first : ℕ) (claims : List Claim) → length claims ≤ 16 → IsFirst first claims → length (shares_of processors first claims) ≡ 16
+pub length-shares_of : (processors first : ℕ) (claims : List Claim) → length claims ≤ MAX_SPACES → IsFirst first claims → length (shares_of processors first claims) ≡ MAX_SPACES
 length-shares_of processors first claims fits is_first = (shares_of-shares processors first claims fits is_first).places
 
 -- shares in 16 places are those
-pub shares_of-unique : (processors first : ℕ) (claims : List Claim) (shares : List ℕ) → length claims ≤ 16 → IsFirst first claims → IsShare processors first claims shares → length shares ≡ 16 → shares ≡ shares_of processors first claims
+pub shares_of-unique : (processors first : ℕ) (claims : List Claim) (shares : List ℕ) → length claims ≤ MAX_SPACES → IsFirst first claims → IsShare processors first claims shares → length shares ≡ MAX_SPACES → shares ≡ shares_of processors first claims
 shares_of-unique processors first claims shares fits is_first given places =
     let own = shares_of-shares processors first claims fits is_first in
     shares_unique processors first claims shares (shares_of processors first claims) given own.given (places ∙ sym own.places)

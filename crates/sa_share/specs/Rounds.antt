@@ -1,7 +1,7 @@
 -- The shares as a function: the processors are given one after another.
 use Rattle.std.specs.Prelude.{ℕ, zero, suc, ◌+◌, ◌==◌, nat_lt, Bool, true, ◌&&◌, ◌||◌, if◌then◌else◌, List, length, replicate, Option, None, Some, slice_set}
 use Rattle.sa_share.specs.declared.Claim.{Claim}
-use Rattle.sa_share.specs.declared.TheConstants.{MAX_SPACES}
+use Rattle.sa_base.specs.declared.limits.TheConstants.{MAX_SPACES}
 use Rattle.sa_share.specs.Share.{priority_at, want_at, share_at, rank_of}
 
 -- s is served before t: by its higher priority, then by its smaller share, then by its lower rank

@@ -5,6 +5,8 @@ ghost use Rattle.sa_share.specs.Share.{share_at, IsFirst, IsShare};
 ghost use Rattle.sa_share.specs.Rounds.{shares_of};
 ghost use Rattle.sa_share.specs.Fair.{IsSpent, ServesHigherFirst, IsEven, IsLowered};
 
+use sa_base::MAX_SPACES;
+
 /// Whatever the claims and however many the processors, there are shares.
 pub fn shares_exist()
     ensures { (processors first : ℕ) (claims : List Claim) → IsFirst first claims
@@ -13,10 +15,10 @@ pub fn shares_exist()
 
 /// Giving the processors one after another gives the shares.
 pub fn shares_come_one_by_one()
-    ensures shares { (processors first : ℕ) (claims : List Claim) → length claims ≤ 16
+    ensures shares { (processors first : ℕ) (claims : List Claim) → length claims ≤ MAX_SPACES
         → IsFirst first claims → IsShare processors first claims (shares_of processors first claims) }
-    ensures places { (processors first : ℕ) (claims : List Claim) → length claims ≤ 16
-        → IsFirst first claims → length (shares_of processors first claims) ≡ 16 }
+    ensures places { (processors first : ℕ) (claims : List Claim) → length claims ≤ MAX_SPACES
+        → IsFirst first claims → length (shares_of processors first claims) ≡ MAX_SPACES }
 {}
 
 /// Two sharings of the same processors among the same claims give each space the same.

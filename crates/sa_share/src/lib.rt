@@ -8,11 +8,7 @@ ghost use Rattle.sa_share.specs.Turn.{IsBefore, GoesFirst, IsNext};
 
 pub mod laws;
 
-/// How many processors there are at most.
-pub const MAX_PROCESSORS: u16 = 16;
-
-/// How many spaces can make claims at once.
-pub const MAX_SPACES: usize = 16;
+pub use sa_base::{MAX_PROCESSORS, MAX_SPACES};
 
 /// What one space claims.
 #[derive(Clone, Copy, Debug, PartialEq, Eq)]

@@ -4,24 +4,24 @@ use Rattle.std.proofs.lemmas.Bool.Decides.{eqb_tells}
 use Rattle.std.proofs.lemmas.List.Sums.{count_by_more_yes, count_by_more_no}
 use Rattle.std.specs.Prelude.{◌==◌}
 use Rattle.sa_base.specs.declared.record.Item.{Item}
-use Rattle.sa_trace.specs.TraceText.{kind_of, count_of_kind}
+use Rattle.sa_trace.specs.TraceText.{kind_number, count_of_kind}
 
--- one more item, whose kind's count is raised, keeps each count
-pub count-more : (items : List Item) (i kind k : ℕ) (counts : List ℕ) (d : Item) → i < length items
-    → kind ≡ kind_of (get_or items i d).what → kind < length counts
-    → get_or counts k 0 ≡ count_of_kind (take i items) k
-    → get_or (set counts kind (get_or counts kind 0 + 1)) k 0 ≡ count_of_kind (take (i + 1) items) k
-count-more items i kind k counts d within is below so_far =
-    elim (eqb_tells (kind_of (get_or items i d).what) k) [
+-- one more item, whose kind's count is raised, keeps each count; the count of the kind k + 1 stands at the place k
+pub count-more : (items : List Item) (i place k : ℕ) (counts : List ℕ) (d : Item) → i < length items
+    → place + 1 ≡ kind_number (get_or items i d).what → place < length counts
+    → get_or counts k 0 ≡ count_of_kind (take i items) (k + 1)
+    → get_or (set counts place (get_or counts place 0 + 1)) k 0 ≡ count_of_kind (take (i + 1) items) (k + 1)
+count-more items i place k counts d within is below so_far =
+    elim (eqb_tells (kind_number (get_or items i d).what) (k + 1)) [
       | inl same ↦
-          let at : kind ≡ k = is ∙ same.1 in
+          let at : place ≡ k = omega (arith, is, same.1) in
           ap (λ n. get_or (set counts n (get_or counts n 0 + 1)) k 0) at
           ∙ get_or-set_same counts k (get_or counts k 0 + 1) 0 (omega arith)
           ∙ ap (λ n. n + 1) so_far
-          ∙ sym (count_by_more_yes (λ (x : Item). kind_of x.what == k) items i d within same.0)
+          ∙ sym (count_by_more_yes (λ (x : Item). kind_number x.what == k + 1) items i d within same.0)
       | inr other ↦
-          let apart : k ≢ kind = λ e. other.1 (sym is ∙ sym e) in
-          get_or-set_other counts kind k (get_or counts kind 0 + 1) 0 apart
+          let apart : k ≢ place = λ e. other.1 (sym is ∙ ap (λ n. n + 1) (sym e)) in
+          get_or-set_other counts place k (get_or counts place 0 + 1) 0 apart
           ∙ so_far
-          ∙ sym (count_by_more_no (λ (x : Item). kind_of x.what == k) items i d within other.0)
+          ∙ sym (count_by_more_no (λ (x : Item). kind_number x.what == k + 1) items i d within other.0)
     ]

@@ -1,50 +1,24 @@
 // How many records of each kind a trace has.
-ghost use Rattle.std.specs.Prelude.{◌≡◌, ◌<◌};
-ghost use Rattle.sa_trace.specs.TraceText.{kind_of, counts_of};
+ghost use Rattle.std.specs.Prelude.{◌≡◌, ◌+◌, ◌<◌};
+ghost use Rattle.sa_trace.specs.TraceText.{counts_of, kind_number};
 
-use sa_base::{Item, Record};
+use sa_base::{Item, RECORD_KINDS, Record};
 
-/// How many kinds of records there are.
-pub const KINDS: usize = 23;
-
-/// The counts of the kinds, in order.
-pub fn counts(items: &[Item]) -> [u64; KINDS]
+/// The counts of the kinds, in the order of their numbers.
+pub fn counts(items: &[Item]) -> [u64; RECORD_KINDS]
     ensures { result ≡ counts_of items.now }
 {
-    let mut counts = [0; KINDS];
+    let mut counts = [0; RECORD_KINDS];
     for item in items {
-        counts[kind(&item.what)] += 1;
+        counts[place(&item.what)] += 1;
     }
     counts
 }
 
-fn kind(what: &Record) -> usize
-    ensures kind { result ≡ kind_of what.now }
-    ensures below { result < KINDS }
+// The place of the record's kind among the counts.
+fn place(what: &Record) -> usize
+    ensures place { result + 1 ≡ kind_number what.now }
+    ensures within { result < RECORD_KINDS }
 {
-    match what {
-        Record::Ins(..) => 0,
-        Record::Out(..) => 1,
-        Record::Run(..) => 2,
-        Record::Stop(..) => 3,
-        Record::Block(..) => 4,
-        Record::Unblock(..) => 5,
-        Record::Cont(..) => 6,
-        Record::Back(..) => 7,
-        Record::Ready(..) => 8,
-        Record::Take(..) => 9,
-        Record::Free(..) => 10,
-        Record::Up(..) => 11,
-        Record::Told(_) => 12,
-        Record::Move(..) => 13,
-        Record::Want(..) => 14,
-        Record::Aim(..) => 15,
-        Record::Line(_) => 16,
-        Record::Fetch(_) => 17,
-        Record::Fetched(_) => 18,
-        Record::GiveBack(_) => 19,
-        Record::Idle => 20,
-        Record::Spin(_) => 21,
-        Record::Tick => 22,
-    }
+    usize::from(what.parts().kind().form().number) - 1
 }

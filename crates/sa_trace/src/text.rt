@@ -1,6 +1,6 @@
 ghost use Rattle.std.specs.Prelude.{◌≡◌, ◌++◌, IfOk, OnOk};
 ghost use Rattle.std.specs.List.{flat_map};
-ghost use Rattle.sa_trace.specs.TraceText.{field, line_of, last_line_of, trace_text, end_word};
+ghost use Rattle.sa_trace.specs.TraceText.{counts_text, line_of, last_line_of, trace_text, end_word};
 
 use crate::counts::counts;
 use crate::fields::{push_field, push_record};
@@ -64,7 +64,7 @@ fn word(end: End) -> &'static [u8]
 }
 
 fn push_counts(out: &mut Vec<u8>, counts: &[u64]) -> Result<(), AllocError>
-    ensures { OnOk result (out.new.items ≡ out.old.items ++ flat_map (λ n. field (Some n)) counts.now) }
+    ensures { OnOk result (out.new.items ≡ out.old.items ++ counts_text counts.now) }
 {
     for &count in counts {
         push_field(out, Some(count))?;

@@ -5,6 +5,7 @@ use Rattle.std.specs.List.Sorted.{IsStrictlyIncreasing}
 use Rattle.std.proofs.lemmas.List.{length_push}
 use Rattle.std.proofs.lemmas.List.Elements.{All-push}
 use Rattle.std.proofs.lemmas.Bool.{cases_eq}
+use Rattle.sa_instr.specs.declared.limits.TheConstants.{LAST_PAGE, MAX_SLICE, MAX_START}
 use Rattle.sa_base.specs.declared.number.ProcNo.{ProcNo}
 use Rattle.sa_instr.specs.declared.instr.Instr.{Instr}
 use Rattle.sa_instr.specs.declared.workload.Evict.{Evict}
@@ -29,7 +30,7 @@ to versions q r e b = subst (λ (p : Position). StepBefore versions p) e b
 
 -- a draft with other lists behind its first line
 pub redrafted : (m : Machine) (spaces : List SpaceView) (d : Draft) (sems absent : List ℕ) (programs : List (List Instr)) → IsDraft m spaces d
-    → length sems ≤ d.sem_count → All (λ start. start ≤ 1000000) sems → All (λ page. page ≤ 15) absent → IsStrictlyIncreasing absent
+    → length sems ≤ d.sem_count → All (λ start. start ≤ MAX_START) sems → All (λ page. page ≤ LAST_PAGE) absent → IsStrictlyIncreasing absent
     → length programs ≤ d.program_count → All IsProgram programs → All (All (NamesDeclared d.mutexes d.sem_count d.cells d.program_count)) programs
     → IsDraft m spaces (record d { sems = sems; absent = absent; programs = programs })
 redrafted m spaces d sems absent programs is a b c e f g h = record {
@@ -67,7 +68,7 @@ before_sem versions m spaces d im are is a p = pick (split_last d.sems)
             im,
             are,
             redrafted m spaces d s.front d.absent d.programs is (omega (arith, long, is.sems))
-                (All-front (λ (n : ℕ). n ≤ 1000000) s.front s.last (subst (λ (xs : List ℕ). All (λ (n : ℕ). n ≤ 1000000) xs) s.whole is.starts))
+                (All-front (λ (n : ℕ). n ≤ MAX_START) s.front s.last (subst (λ (xs : List ℕ). All (λ (n : ℕ). n ≤ MAX_START) xs) s.whole is.starts))
                 is.pages is.absent_rise is.programs is.each is.names,
             omega (arith, long, is.sems),
             a,
@@ -88,7 +89,7 @@ before_absent versions m spaces d h s = record {
     h.0,
     h.1,
     redrafted m spaces d d.sems s.front d.programs h.2 h.2.sems h.2.starts
-        (All-front (λ (k : ℕ). k ≤ 15) s.front s.last (subst (λ (xs : List ℕ). All (λ (k : ℕ). k ≤ 15) xs) s.whole h.2.pages))
+        (All-front (λ (k : ℕ). k ≤ LAST_PAGE) s.front s.last (subst (λ (xs : List ℕ). All (λ (k : ℕ). k ≤ LAST_PAGE) xs) s.whole h.2.pages))
         (increasing-front s.front s.last (subst (λ (xs : List ℕ). IsStrictlyIncreasing xs) s.whole h.2.absent_rise))
         h.2.programs h.2.each h.2.names,
     h.3,
@@ -397,7 +398,7 @@ record VersionSuits (w : WorkloadView) : Type 0 where
   patient : version_of w ≢ 3 → All (λ (s : SpaceView). s.patience ≡ 1) w.spaces
   own : version_of w ≡ 3 → ¬ All (λ (s : SpaceView). s.patience ≡ 1) w.spaces
 
-version_suits : (w : WorkloadView) → w.slice ≤ 1000000 → VersionSuits w
+version_suits : (w : WorkloadView) → w.slice ≤ MAX_SLICE → VersionSuits w
 version_suits w h = pick all refl
   where
     all : Bool

@@ -5,6 +5,8 @@ use Rattle.std.proofs.lemmas.Bool.{eqb-true, ne_eqb, cases_eq, cond-false}
 use Rattle.std.proofs.lemmas.List.{length_push, get_or_push}
 use Rattle.std.proofs.lemmas.List.Elements.{All-weaker}
 use Rattle.std.proofs.lemmas.Option.{slice_get-get_or}
+use Rattle.sa_base.specs.declared.limits.TheConstants.{MAX_EVENTS, MAX_PROCESSORS, MAX_SPACES}
+use Rattle.sa_instr.specs.declared.limits.TheConstants.{LAST_PAGE, MAX_CELLS, MAX_EVICTIONS, MAX_FETCH, MAX_INSTRUCTIONS, MAX_MUTEXES, MAX_PATIENCE, MAX_PRIORITY, MAX_PROGRAMS, MAX_SEMAPHORES, MAX_SLICE, MAX_START}
 use Rattle.sa_base.specs.declared.number.ProcNo.{ProcNo}
 use Rattle.sa_instr.specs.declared.instr.Instr.{Instr}
 use Rattle.sa_instr.specs.declared.instr.Instr.TheVariants.{Compute, Set, Add, Sub, Jnz, Load, Store, Out, Fork, Join, Lock, Unlock, Wait, Signal, Io, Touch, End}
@@ -95,14 +97,14 @@ keyword_fault versions g s p keyword fields (word ∷ words) why h x a b e some 
 patience_same : (versions : ℕ) (m : Machine) (spaces : List SpaceView) → IsReached versions (AtSpace m spaces) → versions ≤ 3
     → patience_field (shown (AtSpace m spaces)) ≡ patience_fields m spaces
 patience_same versions m spaces h three =
-    ap (λ (u : ℕ). if eqb u 3 then within (if needs_patience lines then 2 else 1) 1000 ∷ [] else []) (version-at_space m spaces (omega (arith, h.0.version)))
+    ap (λ (u : ℕ). if eqb u 3 then within (if needs_patience lines then 2 else 1) MAX_PATIENCE ∷ [] else []) (version-at_space m spaces (omega (arith, h.0.version)))
     ∙ pick (cases_eq m.version 3)
   where
     lines : List (List (List ℕ))
     lines = shown (AtSpace m spaces)
 
     field : Bool → List Field
-    field b = if eqb m.version 3 then within (if b then 2 else 1) 1000 ∷ [] else []
+    field b = if eqb m.version 3 then within (if b then 2 else 1) MAX_PATIENCE ∷ [] else []
 
     pick : (m.version ≡ 3) ⊎ (m.version ≢ 3) → field (needs_patience lines) ≡ field (is_last_impatient m spaces)
     pick (inl v) = ap field (needs-at_space m spaces v (omega (arith, h.0.count.1))
@@ -269,7 +271,7 @@ last_of-push xs front x e =
     ∙ ap Some (get_or_push front x x (length (front ++ x ∷ []) - 1) (omega (arith, length_push front x)))
 
 -- a page
-absent_number : (page : ℕ) (others : List (List ℕ)) → page ≤ 15 → numbers_of 1 (codes "absent" ∷ decimal page ∷ others) ≡ page ∷ []
+absent_number : (page : ℕ) (others : List (List ℕ)) → page ≤ LAST_PAGE → numbers_of 1 (codes "absent" ∷ decimal page ∷ others) ≡ page ∷ []
 absent_number page others h = ap (λ n. n ∷ []) (reads page (omega arith))
 
 absent_fault : (versions : ℕ) (g : Grammar) → Setting versions g → (m : Machine) (spaces : List SpaceView) (d : Draft) (words : List (List ℕ)) (why : ℕ)
@@ -281,7 +283,7 @@ absent_fault versions g s m spaces d words why h r =
       s.expects p (codes "absent") h (0, omega arith, refl),
       inr (
         not_many (codes "absent" ∷ []) lines (codes "absent") (0, omega arith, refl) refl,
-        inr ((right-within 0 15 r.page (omega arith) r.range (omega (arith, r.range)), record {}), by_cause r.cause),
+        inr ((right-within 0 LAST_PAGE r.page (omega arith) r.range (omega (arith, r.range)), record {}), by_cause r.cause),
       ),
     ))
   where
@@ -299,7 +301,7 @@ absent_fault versions g s m spaces d words why h r =
 
     old_number : (last : ℕ) (front : List ℕ) → d.absent ≡ front ++ last ∷ [] → last_line lines ≡ absent_line last → numbers_of 1 (last_line lines) ≡ last ∷ []
     old_number last front e l =
-        let small : last ≤ 15 = All-last (λ (n : ℕ). n ≤ 15) front last (subst (λ (xs : List ℕ). All (λ (n : ℕ). n ≤ 15) xs) e h.2.pages) in
+        let small : last ≤ LAST_PAGE = All-last (λ (n : ℕ). n ≤ LAST_PAGE) front last (subst (λ (xs : List ℕ). All (λ (n : ℕ). n ≤ LAST_PAGE) xs) e h.2.pages) in
         ap (numbers_of 1) l ∙ absent_number last [] small
 
     misplaced : IsPageMisplaced (last_of d.absent) r.page why → (d.absent ≡ []) ⊎ Pushed d.absent → IsOutOfOrder lines 1 line why
@@ -359,7 +361,7 @@ absent_found versions g s m spaces d (word ∷ words) why h some (inr (inr r)) =
 
 -- an eviction
 evict_fault : (versions : ℕ) (g : Grammar) → Setting versions g → (m : Machine) (spaces : List SpaceView) (es : List Evict) (words : List (List ℕ)) (why : ℕ)
-    → IsReached versions (AtEvict m spaces es) → length es < 4096 → IsFirstWrong (evict_fields m.count) words why ⊎ IsEvictRefused m.count es words why
+    → IsReached versions (AtEvict m spaces es) → length es < MAX_EVICTIONS → IsFirstWrong (evict_fields m.count) words why ⊎ IsEvictRefused m.count es words why
     → WordFault g versions (shown (AtEvict m spaces es)) (codes "evict" ∷ words) why
 evict_fault versions g s m spaces es words why h room f =
     inr (s.expects p (codes "evict") h (0, omega arith, refl), inr (few, by_fields f))
@@ -391,10 +393,10 @@ evict_fault versions g s m spaces es words why h room f =
         subst (λ ws. FieldFault lines (evict_fields m.count) (codes "evict") ws why) (sym r.words_are)
         (inr (
           (
-            right-within 1 1000000 r.evict.event r.range.first r.range.last (omega (arith, r.range.last)),
+            right-within 1 MAX_EVENTS r.evict.event r.range.first r.range.last (omega (arith, r.range.last)),
             (
               right-declared m.count r.evict.space.0 r.range.space (omega (arith, r.range.space, h.0.count.1)),
-              (right-within 0 15 r.evict.page (omega arith) r.range.page (omega (arith, r.range.page)), record {}),
+              (right-within 0 LAST_PAGE r.evict.page (omega arith) r.range.page (omega (arith, r.range.page)), record {}),
             ),
           ),
           by_cause r.cause,
@@ -464,9 +466,9 @@ evict_found versions g s m spaces es (word ∷ words) why h some (inr (inr (inr 
     (close_fault versions g (shown (AtEvict m spaces es)) words why (s.expects (AtEvict m spaces es) (codes "close") h (2, omega arith, refl)) r.1)
 
 slice_same : (versions v n f : ℕ) → versions ≤ 3 → IsReached versions (AtSlice v n f)
-    → fields_behind versions (shown (AtSlice v n f)) (codes "slice") ≡ within (if v == 3 then 0 else 1) 1000000 ∷ []
+    → fields_behind versions (shown (AtSlice v n f)) (codes "slice") ≡ within (if v == 3 then 0 else 1) MAX_SLICE ∷ []
 slice_same versions v n f three h =
-    ap (λ (u : ℕ). within (if eqb u 3 then 0 else 1) 1000000 ∷ []) (version-at_slice v n f (omega (arith, h.1)))
+    ap (λ (u : ℕ). within (if eqb u 3 then 0 else 1) MAX_SLICE ∷ []) (version-at_slice v n f (omega (arith, h.1)))
 
 -- what is refused at a position is refused of texts
 pub found : (versions : ℕ) (g : Grammar) → Setting versions g → (p : Position) (words : List (List ℕ)) (why : ℕ) → IsReached versions p → words ≢ []
@@ -474,22 +476,22 @@ pub found : (versions : ℕ) (g : Grammar) → Setting versions g → (p : Posit
 found versions g s AtVersion words why h some r =
     inl (keyword_fault versions g s AtVersion (codes "workload") (within 1 versions ∷ []) words why h refl refl refl refl some r)
 found versions g s (AtProcessors v) words why h some r =
-    inl (keyword_fault versions g s (AtProcessors v) (codes "processors") (within 1 16 ∷ []) words why h refl refl refl refl some r)
+    inl (keyword_fault versions g s (AtProcessors v) (codes "processors") (within 1 MAX_PROCESSORS ∷ []) words why h refl refl refl refl some r)
 found versions g s (AtFetch v n) words why h some r =
-    inl (keyword_fault versions g s (AtFetch v n) (codes "fetch") (within 1 1000 ∷ []) words why h refl refl refl refl some r)
+    inl (keyword_fault versions g s (AtFetch v n) (codes "fetch") (within 1 MAX_FETCH ∷ []) words why h refl refl refl refl some r)
 found versions g s (AtSlice v n f) words why h some r =
-    inl (keyword_fault versions g s (AtSlice v n f) (codes "slice") (within (if v == 3 then 0 else 1) 1000000 ∷ []) words why h refl refl refl
+    inl (keyword_fault versions g s (AtSlice v n f) (codes "slice") (within (if v == 3 then 0 else 1) MAX_SLICE ∷ []) words why h refl refl refl
     (slice_same versions v n f s.few h) some r)
 found versions g s (AtSpaces v n f l) words why h some r =
-    inl (keyword_fault versions g s (AtSpaces v n f l) (codes "spaces") (within 1 16 ∷ []) words why h refl refl refl refl some r)
+    inl (keyword_fault versions g s (AtSpaces v n f l) (codes "spaces") (within 1 MAX_SPACES ∷ []) words why h refl refl refl refl some r)
 found versions g s (AtSpace m spaces) words why h some r =
     inl (keyword_fault versions g s (AtSpace m spaces) (codes "space") (space_fields m spaces) words why h refl refl refl
-    (ap (λ fs. within 0 7 ∷ within 0 64 ∷ within 0 64 ∷ within 0 64 ∷ within 1 256 ∷ fs) (patience_same versions m spaces h s.few)) some r)
+    (ap (λ fs. within 0 MAX_PRIORITY ∷ within 0 MAX_MUTEXES ∷ within 0 MAX_SEMAPHORES ∷ within 0 MAX_CELLS ∷ within 1 MAX_PROGRAMS ∷ fs) (patience_same versions m spaces h s.few)) some r)
 found versions g s (AtSem m spaces d) words why h some r =
-    inl (keyword_fault versions g s (AtSem m spaces d) (codes "sem") (within 0 1000000 ∷ []) words why h refl refl refl refl some r)
+    inl (keyword_fault versions g s (AtSem m spaces d) (codes "sem") (within 0 MAX_START ∷ []) words why h refl refl refl refl some r)
 found versions g s (AtAbsent m spaces d) words why h some r = inl (absent_found versions g s m spaces d words why h some r)
 found versions g s (AtProgram m spaces d) words why h some r =
-    inl (keyword_fault versions g s (AtProgram m spaces d) (codes "program") (within 1 4096 ∷ []) words why h refl refl refl refl some r)
+    inl (keyword_fault versions g s (AtProgram m spaces d) (codes "program") (within 1 MAX_INSTRUCTIONS ∷ []) words why h refl refl refl refl some r)
 found versions g s (AtInstr m spaces d len instrs) words why h some r = instr_found versions g s m spaces d len instrs words why h some r
 found versions g s (AtEvict m spaces evictions) words why h some r = inl (evict_found versions g s m spaces evictions words why h some r)
 found versions g s (AtTurn m spaces evictions turns) words why h some r = inl (turn_found versions g s m spaces evictions turns words why h some r)

@@ -1,6 +1,7 @@
 -- The fields of a line, cut one after another: what is right, what is refused, and words that are one too many.
 use Rattle.std.proofs.Common.{◌≡◌, ◌≢◌, ◌⊎◌, ℕ, ◌+◌, ◌^◌, ◌<◌, ◌≤◌, ◌==◌, List, [], ◌∷◌, ◌++◌, length, codes, decimal, subst, sym, ◌∙◌, ap, refl, inl, inr, arith, rules, Bool, true, false, if◌then◌else◌}
 use Rattle.std.proofs.lemmas.Bool.{and_from, le-leb, lt-ltb, eq-eqb, eqb-true}
+use Rattle.sa_instr.specs.declared.limits.TheConstants.{LAST_PAGE, MAX_CELLS, MAX_FETCH, MAX_INSTRUCTIONS, MAX_MUTEXES, MAX_PATIENCE, MAX_PRIORITY, MAX_PROGRAMS, MAX_SEMAPHORES}
 use Rattle.sa_base.specs.declared.number.ProcNo.{ProcNo}
 use Rattle.sa_instr.specs.declared.workload.Evict.{Evict}
 use Rattle.sa_instr.specs.Space.{SpaceView}
@@ -8,7 +9,8 @@ use Rattle.sa_workload.specs.declared.cause.Refusal.{Refusal}
 use Rattle.sa_workload.specs.declared.cause.Refusal.TheVariants.{Because, OutOfMemory}
 use Rattle.sa_workload.specs.Bad.{Field, within, declared, IsRightFor, IsFirstWrong, AreRight}
 use Rattle.sa_workload.specs.Position.{Machine, Draft, draft_line}
-use Rattle.sa_workload.specs.Refused.{cause_number, IfBecause, IsAbsentRefused, IsAbsentOrProgramRefused, IsRefusedBehindEvict, IsRefusedBehindTurn, IsEvictOrTurnRefused, IsTurnOrCloseRefused, IsRefusedBehind, IsLineRefused, is_last_impatient, space_fields}
+use Rattle.sa_base.specs.Cause.{cause_number}
+use Rattle.sa_workload.specs.Refused.{IfBecause, IsAbsentRefused, IsAbsentOrProgramRefused, IsRefusedBehindEvict, IsRefusedBehindTurn, IsEvictOrTurnRefused, IsTurnOrCloseRefused, IsRefusedBehind, IsLineRefused, is_last_impatient, space_fields}
 use Rattle.sa_workload.specs.Stage.{IsPatience, IsSpaceStart}
 
 -- the fields have their words, right, and these follow
@@ -46,7 +48,7 @@ behind_keyword keyword fields words rest why e h = subst (λ w. IsLineRefused ke
 
 -- the patience of a space in version 3
 pub patience_read : (m : Machine) (spaces : List SpaceView) (n least : ℕ) (words rest : List (List ℕ)) → m.version ≡ 3
-    → words ≡ decimal n ∷ rest → least ≡ (if is_last_impatient m spaces then 2 else 1) → least ≤ n → n ≤ 1000
+    → words ≡ decimal n ∷ rest → least ≡ (if is_last_impatient m spaces then 2 else 1) → least ≤ n → n ≤ MAX_FETCH
     → (words ≡ (if m.version == 3 then decimal n ∷ [] else []) ++ rest) × IsPatience m spaces n
 patience_read m spaces n least words rest v e l low high = (
   subst (λ (b : Bool). words ≡ (if b then decimal n ∷ [] else []) ++ rest) (sym (eq-eqb m.version 3 v)) e,
@@ -72,15 +74,15 @@ right_space : (m : Machine) (spaces : List SpaceView) (d : Draft) (rest : List (
     ∷ ((if m.version == 3 then decimal d.patience ∷ [] else []) ++ rest))
     rest
 right_space m spaces d rest h = (
-  right-within 0 7 d.priority (omega arith) h.priority (omega (arith, h.priority)),
+  right-within 0 MAX_PRIORITY d.priority (omega arith) h.priority (omega (arith, h.priority)),
   (
-    right-within 0 64 d.mutexes (omega arith) h.mutexes (omega (arith, h.mutexes)),
+    right-within 0 MAX_MUTEXES d.mutexes (omega arith) h.mutexes (omega (arith, h.mutexes)),
     (
-      right-within 0 64 d.sem_count (omega arith) h.sem_count (omega (arith, h.sem_count)),
+      right-within 0 MAX_SEMAPHORES d.sem_count (omega arith) h.sem_count (omega (arith, h.sem_count)),
       (
-        right-within 0 64 d.cells (omega arith) h.cells (omega (arith, h.cells)),
+        right-within 0 MAX_CELLS d.cells (omega arith) h.cells (omega (arith, h.cells)),
         (
-          right-within 1 256 d.program_count h.program_count.0 h.program_count.1 (omega (arith, h.program_count.1)),
+          right-within 1 MAX_PROGRAMS d.program_count h.program_count.0 h.program_count.1 (omega (arith, h.program_count.1)),
           last (m.version == 3) (is_last_impatient m spaces) (λ e. h.patience.own (eqb-true m.version 3 e)),
         ),
       ),
@@ -89,12 +91,12 @@ right_space m spaces d rest h = (
 )
   where
     last : (b i : Bool) → (b ≡ true → i ≡ true → d.patience ≢ 1)
-        → AreRead (if b then within (if i then 2 else 1) 1000 ∷ [] else []) ((if b then decimal d.patience ∷ [] else []) ++ rest) rest
+        → AreRead (if b then within (if i then 2 else 1) MAX_PATIENCE ∷ [] else []) ((if b then decimal d.patience ∷ [] else []) ++ rest) rest
     last false i own = refl
-    last true false own = (right-within 1 1000 d.patience h.patience.range.0 h.patience.range.1 (omega (arith, h.patience.range.1)), refl)
+    last true false own = (right-within 1 MAX_FETCH d.patience h.patience.range.0 h.patience.range.1 (omega (arith, h.patience.range.1)), refl)
     last true true own =
         let ne : d.patience ≢ 1 = own refl refl in
-        (right-within 2 1000 d.patience (omega (arith, h.patience.range.0)) h.patience.range.1 (omega (arith, h.patience.range.1)), refl)
+        (right-within 2 MAX_PATIENCE d.patience (omega (arith, h.patience.range.0)) h.patience.range.1 (omega (arith, h.patience.range.1)), refl)
 
 pub too_long_space : (m : Machine) (spaces : List SpaceView) (d : Draft) (words rest : List (List ℕ)) (why : ℕ)
     → codes "space" ∷ words ≡ draft_line m.version d ++ rest → IsSpaceStart m spaces d → rest ≢ [] → why ≡ 2
@@ -111,11 +113,11 @@ because_weaker (Because cause) P Q more h = more (cause_number cause) h
 because_weaker OutOfMemory P Q more h = h
 
 pub absent_refused : (pages : List ℕ) (words rest : List (List ℕ)) (why : ℕ) → words ≡ codes "absent" ∷ rest
-    → IsFirstWrong (within 0 15 ∷ []) rest why ⊎ IsAbsentRefused pages rest why → IsAbsentOrProgramRefused pages words why
+    → IsFirstWrong (within 0 LAST_PAGE ∷ []) rest why ⊎ IsAbsentRefused pages rest why → IsAbsentOrProgramRefused pages words why
 absent_refused pages words rest why e h = subst (λ w. IsAbsentOrProgramRefused pages w why) (sym e) (inr (inl (refl, h)))
 
 pub program_refused : (pages : List ℕ) (words rest : List (List ℕ)) (why : ℕ) → words ≡ codes "program" ∷ rest
-    → IsRefusedBehind (within 1 4096 ∷ []) rest why → IsAbsentOrProgramRefused pages words why
+    → IsRefusedBehind (within 1 MAX_INSTRUCTIONS ∷ []) rest why → IsAbsentOrProgramRefused pages words why
 program_refused pages words rest why e h = subst (λ w. IsAbsentOrProgramRefused pages w why) (sym e) (inr (inr (refl, h)))
 
 -- the first word of a line, read byte by byte

@@ -2,6 +2,8 @@
 use Rattle.std.proofs.Common.{◌≡◌, ◌≢◌, ℕ, ◌^◌, ◌<◌, ◌≤◌, Bool, true, false, List, [], ◌∷◌, ◌++◌, length, get_or, drop, All, codes, decimal, arith, refl, sym, ap, ap₂, ◌∙◌, subst, inl, inr, eqb, bytes_eq, if◌then◌else◌, eq-eqb, eqb-true}
 use Rattle.std.specs.Str.Parse.{digits_value}
 use Rattle.std.proofs.lemmas.Fmt.{decimal_injective}
+use Rattle.sa_base.specs.declared.limits.TheConstants.{MAX_SPACES}
+use Rattle.sa_instr.specs.declared.limits.TheConstants.{LAST_PAGE, MAX_CELLS, MAX_FETCH, MAX_INSTRUCTIONS, MAX_MUTEXES, MAX_PROGRAMS, MAX_SEMAPHORES, MAX_SLICE, MAX_START}
 use Rattle.sa_base.specs.declared.number.ProcNo.{ProcNo}
 use Rattle.sa_instr.specs.declared.instr.Reg.{Reg}
 use Rattle.sa_instr.specs.declared.instr.Reg.TheVariants.{R0, R1, R2, R3, R4, R5, R6, R7}
@@ -101,7 +103,7 @@ pub record Kept (d : Draft) (len : ℕ) (i : Instr) : Type 0 where
   pub jump : JumpsBelow len i
   pub name : NamesDeclared d.mutexes d.sem_count d.cells d.program_count i
 
-number_small : (d : Draft) (len : ℕ) (i : Instr) → len ≤ 4096 → d.mutexes ≤ 64 → d.sem_count ≤ 64 → d.cells ≤ 64 → d.program_count ≤ 256
+number_small : (d : Draft) (len : ℕ) (i : Instr) → len ≤ MAX_INSTRUCTIONS → d.mutexes ≤ MAX_MUTEXES → d.sem_count ≤ MAX_SEMAPHORES → d.cells ≤ MAX_CELLS → d.program_count ≤ MAX_PROGRAMS
     → IsInRange i → JumpsBelow len i → NamesDeclared d.mutexes d.sem_count d.cells d.program_count i → number_of i < 2 ^ 64
 number_small d len Compute a b c e f range jump name = omega arith
 number_small d len (Set r n) a b c e f range jump name = omega arith
@@ -200,14 +202,14 @@ draft_kept versions m spaces d = by_test (eqb (length d.sems) d.sem_count)
     by_test true h = h.2
     by_test false h = h.2
 
-pub fetch_kept : (versions v n f : ℕ) → IsReached versions (after_fetch v n f) → (1 ≤ f) × (f ≤ 1000)
+pub fetch_kept : (versions v n f : ℕ) → IsReached versions (after_fetch v n f) → (1 ≤ f) × (f ≤ MAX_FETCH)
 fetch_kept versions v n f = by_test (eqb v 1)
   where
-    by_test : (b : Bool) → IsReached versions (if b then AtSpaces v n f 0 else AtSlice v n f) → (1 ≤ f) × (f ≤ 1000)
+    by_test : (b : Bool) → IsReached versions (if b then AtSpaces v n f 0 else AtSlice v n f) → (1 ≤ f) × (f ≤ MAX_FETCH)
     by_test true h = (h.3, h.4)
     by_test false h = (h.4, h.5)
 
-pub slice_kept : (v s : ℕ) → CanSlice v s → s ≤ 1000000
+pub slice_kept : (v s : ℕ) → CanSlice v s → s ≤ MAX_SLICE
 slice_kept v s (inl one) = omega (arith, one.1)
 slice_kept v s (inr (inl two)) = two.2
 slice_kept v s (inr (inr three)) = three.1
@@ -243,7 +245,7 @@ same_draft m spaces d c f g h k e = λ i. record {
         same_patience (eqb m.version 3) d.patience c.patience (ap (λ (l : List (List ℕ)). drop 6 l) e)
         (λ t. h.patient (before_3 t) ∙ sym (k.patient (before_3 t))) (omega (arith, h.patience.1)) (omega (arith, k.patience.1))
 
-same_evict : (a b : Evict) (count : ℕ) → count ≤ 16 → IsEviction count a → IsEviction count b → evict_line a ≡ evict_line b → a ≡ b
+same_evict : (a b : Evict) (count : ℕ) → count ≤ MAX_SPACES → IsEviction count a → IsEviction count b → evict_line a ≡ evict_line b → a ≡ b
 same_evict a b count few h k e = λ i. record {
   event = decimal_injective a.event b.event (omega (arith, h.last)) (omega (arith, k.last)) (word 1 e) i;
   space = space i;
@@ -256,7 +258,7 @@ same_evict a b count few h k e = λ i. record {
     space : a.space ≡ b.space
     space = λ i. record { 0 = number i }
 
-same_turn : (a b : ProcNo) (count : ℕ) → count ≤ 16 → a.0 < count → b.0 < count → turn_line a ≡ turn_line b → a ≡ b
+same_turn : (a b : ProcNo) (count : ℕ) → count ≤ MAX_SPACES → a.0 < count → b.0 < count → turn_line a ≡ turn_line b → a ≡ b
 same_turn a b count few h k e = λ i. record { 0 = number i }
   where
     number : a.0 ≡ b.0
@@ -282,12 +284,12 @@ determined versions few p line q other r (step_space m spaces d fresh) (step_spa
     (same_draft m spaces d c fresh clean (draft_kept versions m spaces d h) (draft_kept versions m spaces c k) e)
 determined versions few p line q other r (step_sem m spaces d n) (step_sem _ _ _ u) e g h k =
     ap (λ (n : ℕ). after_sem m spaces (with_sem d n))
-    (decimal_injective n u (omega (arith, All-last (λ (n : ℕ). n ≤ 1000000) d.sems n (draft_kept versions m spaces (with_sem d n) h).starts))
-    (omega (arith, All-last (λ (n : ℕ). n ≤ 1000000) d.sems u (draft_kept versions m spaces (with_sem d u) k).starts)) (word 1 e))
+    (decimal_injective n u (omega (arith, All-last (λ (n : ℕ). n ≤ MAX_START) d.sems n (draft_kept versions m spaces (with_sem d n) h).starts))
+    (omega (arith, All-last (λ (n : ℕ). n ≤ MAX_START) d.sems u (draft_kept versions m spaces (with_sem d u) k).starts)) (word 1 e))
 determined versions few p line q other r (step_absent m spaces d n) (step_absent _ _ _ u) e g h k =
     ap (λ (n : ℕ). AtAbsent m spaces (with_absent d n))
-    (decimal_injective n u (omega (arith, All-last (λ (n : ℕ). n ≤ 15) d.absent n h.2.pages))
-    (omega (arith, All-last (λ (n : ℕ). n ≤ 15) d.absent u k.2.pages)) (word 1 e))
+    (decimal_injective n u (omega (arith, All-last (λ (n : ℕ). n ≤ LAST_PAGE) d.absent n h.2.pages))
+    (omega (arith, All-last (λ (n : ℕ). n ≤ LAST_PAGE) d.absent u k.2.pages)) (word 1 e))
 determined versions few p line q other r (step_absent m spaces d n) (step_first_program _ _ _ u) e g h k = absurd (cc e)
 determined versions few p line q other r (step_first_program m spaces d n) (step_absent _ _ _ u) e g h k = absurd (cc e)
 determined versions few p line q other r (step_first_program m spaces d n) (step_first_program _ _ _ u) e g h k =

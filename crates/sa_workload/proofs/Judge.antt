@@ -4,6 +4,7 @@ use Rattle.std.specs.Str.Parse.{digits_value}
 use Rattle.std.proofs.lemmas.Bool.{cases_lt}
 use Rattle.std.proofs.lemmas.List.{length-map, length-take-le}
 use Rattle.std.proofs.lemmas.Slice.Eq.{bytes_eq-Decides}
+use Rattle.sa_instr.specs.declared.limits.TheConstants.{MAX_EVICTIONS, MAX_TURNS}
 use Rattle.sa_workload.specs.Bad.{Grammar, Begins, IsRightWord, IsTooMany, Field, Register, Number, registers, IsNoNumber, IsWrongFor, IsRightFor, IsFirstWrong, AreRight, IsOutOfOrder, IsInOrder, WordCause, fields_behind, numbers_of, list_lt, first_word, last_line, count_of_word}
 use Rattle.sa_workload.specs.Position.{Position, AtVersion, IsReached, shown}
 use Rattle.sa_workload.specs.Steps.{expected}
@@ -102,10 +103,10 @@ cases_list_lt (x ∷ xs) (y ∷ ys) e = pick (cases_lt x y) (cases_lt y x) (case
     pick (inr a) (inr b) (inr (inr c)) = inr (inr (same_head y x ys xs (omega arith) c))
 
 pub cases_many : (lines : List (List (List ℕ))) (word : List ℕ) → IsTooMany lines word ⊎ (¬ IsTooMany lines word)
-cases_many lines word = pick (cases_bytes word (codes "evict")) (cases_lt (count_of_word lines word) 4096) (cases_bytes word (codes "turn")) (cases_lt (count_of_word lines word) 65536)
+cases_many lines word = pick (cases_bytes word (codes "evict")) (cases_lt (count_of_word lines word) MAX_EVICTIONS) (cases_bytes word (codes "turn")) (cases_lt (count_of_word lines word) MAX_TURNS)
   where
-    pick : (word ≡ codes "evict") ⊎ (word ≢ codes "evict") → (count_of_word lines word < 4096) ⊎ (4096 ≤ count_of_word lines word)
-        → (word ≡ codes "turn") ⊎ (word ≢ codes "turn") → (count_of_word lines word < 65536) ⊎ (65536 ≤ count_of_word lines word)
+    pick : (word ≡ codes "evict") ⊎ (word ≢ codes "evict") → (count_of_word lines word < MAX_EVICTIONS) ⊎ (MAX_EVICTIONS ≤ count_of_word lines word)
+        → (word ≡ codes "turn") ⊎ (word ≢ codes "turn") → (count_of_word lines word < MAX_TURNS) ⊎ (MAX_TURNS ≤ count_of_word lines word)
         → IsTooMany lines word ⊎ (¬ IsTooMany lines word)
     pick (inl e) (inr m) _ _ = inl (inl (e, m))
     pick _ _ (inl t) (inr m) = inl (inr (t, m))

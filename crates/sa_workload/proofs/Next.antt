@@ -4,6 +4,8 @@ use Rattle.std.proofs.lemmas.Bool.{ne_eqb, eq-eqb, and_from, le-leb, cond-true, 
 use Rattle.std.proofs.lemmas.List.{length_push}
 use Rattle.std.proofs.lemmas.Fmt.{decimal_digit}
 use Rattle.std.proofs.lemmas.Option.{slice_get-get_or}
+use Rattle.sa_base.specs.declared.limits.TheConstants.{MAX_PROCESSORS, MAX_SPACES}
+use Rattle.sa_instr.specs.declared.limits.TheConstants.{LAST_PAGE, MAX_EVICTIONS, MAX_FETCH, MAX_INSTRUCTIONS, MAX_SLICE, MAX_START, MAX_TURNS}
 use Rattle.sa_base.specs.declared.number.ProcNo.{ProcNo}
 use Rattle.sa_instr.specs.declared.instr.Reg.{Reg}
 use Rattle.sa_instr.specs.declared.instr.Reg.TheVariants.{R0, R1, R2, R3, R4, R5, R6, R7}
@@ -51,28 +53,28 @@ pub next_version : (versions v : ℕ) (words : List (List ℕ)) → words ≡ co
     → Steps AtVersion words (AtProcessors v) × IsReached versions (AtProcessors v)
 next_version versions v words e low high = (along _ _ _ words e (step_version v), (low, high))
 
-pub next_processors : (v n : ℕ) (words : List (List ℕ)) → words ≡ codes "processors" ∷ decimal n ∷ [] → 1 ≤ n → n ≤ 16
+pub next_processors : (v n : ℕ) (words : List (List ℕ)) → words ≡ codes "processors" ∷ decimal n ∷ [] → 1 ≤ n → n ≤ MAX_PROCESSORS
     → IsNext (AtProcessors v) words (AtFetch v n)
 next_processors v n words e low high = record {
   steps = along _ _ _ words e (step_processors v n);
   keeps = λ versions few h. (h.0, h.1, low, high);
 }
 
-pub next_fetch : (v n f : ℕ) (words : List (List ℕ)) → words ≡ codes "fetch" ∷ decimal f ∷ [] → 1 ≤ f → f ≤ 1000
+pub next_fetch : (v n f : ℕ) (words : List (List ℕ)) → words ≡ codes "fetch" ∷ decimal f ∷ [] → 1 ≤ f → f ≤ MAX_FETCH
     → IsNext (AtFetch v n) words (after_fetch v n f)
 next_fetch v n f words e low high = record {
   steps = along _ _ _ words e (step_fetch v n f);
   keeps = λ versions few h. reached-fetch versions v n f h low high;
 }
 
-pub next_slice : (v n f s : ℕ) (words : List (List ℕ)) → words ≡ codes "slice" ∷ decimal s ∷ [] → (if v == 3 then 0 else 1) ≤ s → s ≤ 1000000
+pub next_slice : (v n f s : ℕ) (words : List (List ℕ)) → words ≡ codes "slice" ∷ decimal s ∷ [] → (if v == 3 then 0 else 1) ≤ s → s ≤ MAX_SLICE
     → IsNext (AtSlice v n f) words (AtSpaces v n f s)
 next_slice v n f s words e low high = record {
   steps = along _ _ _ words e (step_slice v n f s);
   keeps = λ versions few h. reached-slice versions v n f s few h (λ other. subst (λ b. (if b then 0 else 1) ≤ s) (ne_eqb v 3 other) low) high;
 }
 
-pub next_spaces : (v n f s c : ℕ) (words : List (List ℕ)) → words ≡ codes "spaces" ∷ decimal c ∷ [] → 1 ≤ c → c ≤ 16
+pub next_spaces : (v n f s c : ℕ) (words : List (List ℕ)) → words ≡ codes "spaces" ∷ decimal c ∷ [] → 1 ≤ c → c ≤ MAX_SPACES
     → IsNext (AtSpaces v n f s) words (AtSpace (record { version = v; processors = n; fetch = f; slice = s; count = c }) [])
 next_spaces v n f s c words e low high = record {
   steps = along _ _ _ words e (step_spaces v n f s c);
@@ -100,7 +102,7 @@ next_space m spaces d words e h = record {
 }
 
 pub next_sem : (m : Machine) (spaces : List SpaceView) (d : Draft) (n : ℕ) (words : List (List ℕ)) → words ≡ codes "sem" ∷ decimal n ∷ []
-    → n ≤ 1000000 → IsNext (AtSem m spaces d) words (after_sem m spaces (with_sem d n))
+    → n ≤ MAX_START → IsNext (AtSem m spaces d) words (after_sem m spaces (with_sem d n))
 next_sem m spaces d n words e high = record {
   steps = along _ _ _ words e (step_sem m spaces d n);
   keeps = λ versions few h. reached-sem versions m spaces d n h high;
@@ -110,21 +112,21 @@ above_last : (pages : List ℕ) (k : ℕ) → IsPagePlaced (last_of pages) k →
 above_last pages k h some = subst (λ (o : Option ℕ). IsPagePlaced o k) (slice_get-get_or pages (length pages - 1) 0 (omega arith)) h
 
 pub next_absent : (m : Machine) (spaces : List SpaceView) (d : Draft) (k : ℕ) (words : List (List ℕ)) → words ≡ codes "absent" ∷ decimal k ∷ []
-    → k ≤ 15 → IsPagePlaced (last_of d.absent) k → IsNext (AtAbsent m spaces d) words (AtAbsent m spaces (with_absent d k))
+    → k ≤ LAST_PAGE → IsPagePlaced (last_of d.absent) k → IsNext (AtAbsent m spaces d) words (AtAbsent m spaces (with_absent d k))
 next_absent m spaces d k words e high placed = record {
   steps = along _ _ _ words e (step_absent m spaces d k);
   keeps = λ versions few h. reached-absent versions m spaces d k h high (above_last d.absent k placed);
 }
 
 pub next_first_program : (m : Machine) (spaces : List SpaceView) (d : Draft) (len : ℕ) (words : List (List ℕ))
-    → words ≡ codes "program" ∷ decimal len ∷ [] → 1 ≤ len → len ≤ 4096 → IsNext (AtAbsent m spaces d) words (AtInstr m spaces d len [])
+    → words ≡ codes "program" ∷ decimal len ∷ [] → 1 ≤ len → len ≤ MAX_INSTRUCTIONS → IsNext (AtAbsent m spaces d) words (AtInstr m spaces d len [])
 next_first_program m spaces d len words e low high = record {
   steps = along _ _ _ words e (step_first_program m spaces d len);
   keeps = λ versions few h. reached-first_program versions m spaces d len h low high;
 }
 
 pub next_program : (m : Machine) (spaces : List SpaceView) (d : Draft) (len : ℕ) (words : List (List ℕ))
-    → words ≡ codes "program" ∷ decimal len ∷ [] → 1 ≤ len → len ≤ 4096 → IsNext (AtProgram m spaces d) words (AtInstr m spaces d len [])
+    → words ≡ codes "program" ∷ decimal len ∷ [] → 1 ≤ len → len ≤ MAX_INSTRUCTIONS → IsNext (AtProgram m spaces d) words (AtInstr m spaces d len [])
 next_program m spaces d len words e low high = record {
   steps = along _ _ _ words e (step_program m spaces d len);
   keeps = λ versions few h. reached-program versions m spaces d len h low high;
@@ -143,7 +145,7 @@ after_last : (evictions : List Evict) (e : Evict) → IsEvictPlaced (last_of evi
 after_last evictions e h d some = subst (λ (o : Option Evict). IsEvictPlaced o e) (slice_get-get_or evictions (length evictions - 1) d (omega arith)) h
 
 pub next_evict : (m : Machine) (spaces : List SpaceView) (evictions : List Evict) (e : Evict) (words : List (List ℕ)) → words ≡ evict_line e
-    → IsEviction m.count e → length evictions < 4096 → IsEvictPlaced (last_of evictions) e
+    → IsEviction m.count e → length evictions < MAX_EVICTIONS → IsEvictPlaced (last_of evictions) e
     → IsNext (AtEvict m spaces evictions) words (AtEvict m spaces (evictions ++ e ∷ []))
 next_evict m spaces evictions e words is range few placed = record {
   steps = along _ _ _ words is (step_evict m spaces evictions e);
@@ -158,7 +160,7 @@ next_first_turn m spaces evictions p words e below = record {
 }
 
 pub next_turn : (m : Machine) (spaces : List SpaceView) (evictions : List Evict) (turns : List ProcNo) (p : ProcNo) (words : List (List ℕ))
-    → words ≡ turn_line p → p.0 < m.processors → length turns < 65536
+    → words ≡ turn_line p → p.0 < m.processors → length turns < MAX_TURNS
     → IsNext (AtTurn m spaces evictions turns) words (AtTurn m spaces evictions (turns ++ p ∷ []))
 next_turn m spaces evictions turns p words e below room = record {
   steps = along _ _ _ words e (step_turn m spaces evictions turns p);

@@ -3,6 +3,8 @@ use Rattle.std.proofs.Common.{◌≡◌, ◌≢◌, ℕ, ◌-◌, ◌^◌, ◌<�
 use Rattle.std.proofs.lemmas.Bool.{lt-ltb}
 use Rattle.std.proofs.lemmas.Fmt.{decimal_digit}
 use Rattle.std.proofs.lemmas.List.{append-nil}
+use Rattle.sa_base.specs.declared.limits.TheConstants.{FIRST_THREAD_PAGE}
+use Rattle.sa_instr.specs.declared.limits.TheConstants.{LAST_PAGE, MAX_INSTRUCTIONS, MAX_IO_LENGTH}
 use Rattle.sa_instr.specs.declared.instr.Reg.{Reg}
 use Rattle.sa_instr.specs.declared.instr.Reg.TheVariants.{R0, R1, R2, R3, R4, R5, R6, R7}
 use Rattle.sa_instr.specs.declared.instr.Instr.{Instr}
@@ -91,28 +93,28 @@ operation_refused d len is_last [] why h = h
 operation_refused d len is_last (word ∷ words) why (inl h) = inl h
 operation_refused d len is_last (word ∷ words) why (inr h) = inr (inl (h.0, inl h.1))
 
-right_target : (len n : ℕ) → n < len → len ≤ 4096 → IsRightFor (target len) (decimal n)
+right_target : (len n : ℕ) → n < len → len ≤ MAX_INSTRUCTIONS → IsRightFor (target len) (decimal n)
 right_target len n h short = (n, omega arith, refl, lt-ltb n len h)
 
 -- the operands of an allowed instruction are right
 allowed_read : (d : Draft) (len : ℕ) (i : Instr) (rest : List (List ℕ)) → HasLimits d len → IsAllowed d len i
     → AreRead (instr_fields d len (first_word (instr_line i))) (drop 1 (instr_line i) ++ rest) rest
 allowed_read d len instr.Compute rest l h = refl
-allowed_read d len (instr.Set r n) rest l h = (right-register r, (right-within 0 (2 ^ 64 - 1) n (omega arith) (omega (arith, h.range)) h.range, refl))
+allowed_read d len (instr.Set r n) rest l h = (right-register r, (right-within 0 (2 ^ 64 - 1) n (omega arith) (omega (arith, h.range)) h.range.1.0, refl))
 allowed_read d len (instr.Add r q) rest l h = (right-register r, (right-register q, refl))
 allowed_read d len (instr.Sub r q) rest l h = (right-register r, (right-register q, refl))
-allowed_read d len (instr.Jnz r n) rest l h = (right-register r, (right_target len n h.jump l.short, refl))
-allowed_read d len (instr.Load r n) rest l h = (right-register r, (right-declared d.cells n h.name (omega (arith, h.name, l.cells)), refl))
-allowed_read d len (instr.Store r n) rest l h = (right-register r, (right-declared d.cells n h.name (omega (arith, h.name, l.cells)), refl))
+allowed_read d len (instr.Jnz r n) rest l h = (right-register r, (right_target len n h.jump.1.0 l.short, refl))
+allowed_read d len (instr.Load r n) rest l h = (right-register r, (right-declared d.cells n h.name.1.0 (omega (arith, h.name.1.0, l.cells)), refl))
+allowed_read d len (instr.Store r n) rest l h = (right-register r, (right-declared d.cells n h.name.1.0 (omega (arith, h.name.1.0, l.cells)), refl))
 allowed_read d len (instr.Out r) rest l h = (right-register r, refl)
-allowed_read d len (instr.Fork r n) rest l h = (right-register r, (right-declared d.program_count n h.name (omega (arith, h.name, l.program_count)), refl))
+allowed_read d len (instr.Fork r n) rest l h = (right-register r, (right-declared d.program_count n h.name.1.0 (omega (arith, h.name.1.0, l.program_count)), refl))
 allowed_read d len (instr.Join r) rest l h = (right-register r, refl)
-allowed_read d len (instr.Lock n) rest l h = (right-declared d.mutexes n h.name (omega (arith, h.name, l.mutexes)), refl)
-allowed_read d len (instr.Unlock n) rest l h = (right-declared d.mutexes n h.name (omega (arith, h.name, l.mutexes)), refl)
-allowed_read d len (instr.Wait n) rest l h = (right-declared d.sem_count n h.name (omega (arith, h.name, l.sem_count)), refl)
-allowed_read d len (instr.Signal n) rest l h = (right-declared d.sem_count n h.name (omega (arith, h.name, l.sem_count)), refl)
-allowed_read d len (instr.Io n) rest l h = (right-within 1 1000000 n h.range.0 h.range.1 (omega (arith, h.range.1)), refl)
-allowed_read d len (instr.Touch n) rest l h = (right-within 2 15 n h.range.0 h.range.1 (omega (arith, h.range.1)), refl)
+allowed_read d len (instr.Lock n) rest l h = (right-declared d.mutexes n h.name.0 (omega (arith, h.name.0, l.mutexes)), refl)
+allowed_read d len (instr.Unlock n) rest l h = (right-declared d.mutexes n h.name.0 (omega (arith, h.name.0, l.mutexes)), refl)
+allowed_read d len (instr.Wait n) rest l h = (right-declared d.sem_count n h.name.0 (omega (arith, h.name.0, l.sem_count)), refl)
+allowed_read d len (instr.Signal n) rest l h = (right-declared d.sem_count n h.name.0 (omega (arith, h.name.0, l.sem_count)), refl)
+allowed_read d len (instr.Io n) rest l h = (right-within 1 MAX_IO_LENGTH n h.range.0.0 h.range.0.1 (omega (arith, h.range.0.1)), refl)
+allowed_read d len (instr.Touch n) rest l h = (right-within FIRST_THREAD_PAGE LAST_PAGE n h.range.0.0 h.range.0.1 (omega (arith, h.range.0.1)), refl)
 allowed_read d len instr.End rest l h = refl
 
 -- the line of an instruction begins with its word

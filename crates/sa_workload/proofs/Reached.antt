@@ -4,6 +4,8 @@ use Rattle.std.proofs.lemmas.Bool.{cond_both, cases_lt, eqb-false}
 use Rattle.std.proofs.lemmas.List.{length_push, get_or_append_left, get_or_push}
 use Rattle.std.proofs.lemmas.List.Elements.{All-nil, All-push, All-same}
 use Rattle.std.proofs.lemmas.Option.{slice_get-get_or}
+use Rattle.sa_base.specs.declared.limits.TheConstants.{MAX_PROCESSORS, MAX_SPACES}
+use Rattle.sa_instr.specs.declared.limits.TheConstants.{LAST_PAGE, MAX_CELLS, MAX_EVICTIONS, MAX_FETCH, MAX_INSTRUCTIONS, MAX_MUTEXES, MAX_PATIENCE, MAX_PRIORITY, MAX_PROGRAMS, MAX_SEMAPHORES, MAX_SLICE, MAX_START, MAX_TURNS}
 use Rattle.sa_base.specs.declared.number.ProcNo.{ProcNo}
 use Rattle.sa_instr.specs.declared.instr.Instr.{Instr}
 use Rattle.sa_instr.specs.declared.instr.Instr.TheVariants.{End}
@@ -21,16 +23,16 @@ use Rattle.sa_workload.proofs.Before.{redrafted}
 pub reached-version : (versions v : ℕ) → 1 ≤ v → v ≤ versions → IsReached versions (AtProcessors v)
 reached-version versions v low high = (low, high)
 
-pub reached-processors : (versions v n : ℕ) → IsReached versions (AtProcessors v) → 1 ≤ n → n ≤ 16 → IsReached versions (AtFetch v n)
+pub reached-processors : (versions v n : ℕ) → IsReached versions (AtProcessors v) → 1 ≤ n → n ≤ MAX_PROCESSORS → IsReached versions (AtFetch v n)
 reached-processors versions v n r low high = (r.0, r.1, low, high)
 
-pub reached-fetch : (versions v n f : ℕ) → IsReached versions (AtFetch v n) → 1 ≤ f → f ≤ 1000 → IsReached versions (after_fetch v n f)
+pub reached-fetch : (versions v n f : ℕ) → IsReached versions (AtFetch v n) → 1 ≤ f → f ≤ MAX_FETCH → IsReached versions (after_fetch v n f)
 reached-fetch versions v n f r low high =
     cond_both (v == 1) (AtSpaces v n f 0) (AtSlice v n f) (λ (q : Position). IsReached versions q)
     (λ e. (r.1, r.2, r.3, low, high, inl (eqb-true v 1 e, refl)))
     (λ e. let ne : v ≢ 1 = eqb-false v 1 e in (omega arith, r.1, r.2, r.3, low, high))
 
-can_slice : (v s : ℕ) → 2 ≤ v → v ≤ 3 → (v ≢ 3 → 1 ≤ s) → s ≤ 1000000 → CanSlice v s
+can_slice : (v s : ℕ) → 2 ≤ v → v ≤ 3 → (v ≢ 3 → 1 ≤ s) → s ≤ MAX_SLICE → CanSlice v s
 can_slice v s two three low high =
     elim (cases_lt v 3) [
       | inl h ↦ inr (inl (omega arith, low (omega arith), high))
@@ -38,7 +40,7 @@ can_slice v s two three low high =
     ]
 
 -- only version 3 has slice 0
-pub reached-slice : (versions v n f s : ℕ) → versions ≤ 3 → IsReached versions (AtSlice v n f) → (v ≢ 3 → 1 ≤ s) → s ≤ 1000000
+pub reached-slice : (versions v n f s : ℕ) → versions ≤ 3 → IsReached versions (AtSlice v n f) → (v ≢ 3 → 1 ≤ s) → s ≤ MAX_SLICE
     → IsReached versions (AtSpaces v n f s)
 reached-slice versions v n f s three r low high =
     (r.1, r.2, r.3, r.4, r.5, can_slice v s r.0 (omega arith) low high)
@@ -51,7 +53,7 @@ no_spaces m h = record {
   own = λ _ full. absurd (omega arith);
 }
 
-pub reached-spaces : (versions v n f s c : ℕ) → IsReached versions (AtSpaces v n f s) → 1 ≤ c → c ≤ 16
+pub reached-spaces : (versions v n f s c : ℕ) → IsReached versions (AtSpaces v n f s) → 1 ≤ c → c ≤ MAX_SPACES
     → IsReached versions (AtSpace (record { version = v; processors = n; fetch = f; slice = s; count = c }) [])
 reached-spaces versions v n f s c r low high = (
   record { version = r.0; processors = (r.1, r.2); fetch = (r.3, r.4); slice = r.5; count = (low, high) },
@@ -70,12 +72,12 @@ reached-after_sem versions m spaces d k a h absent programs =
 -- where that of all before is 1
 pub record IsSpaceLine (m : Machine) (spaces : List SpaceView) (d : Draft) : Type 0 where
   pub fresh : IsFresh d
-  pub priority : d.priority ≤ 7
-  pub mutexes : d.mutexes ≤ 64
-  pub sem_count : d.sem_count ≤ 64
-  pub cells : d.cells ≤ 64
-  pub program_count : (1 ≤ d.program_count) × (d.program_count ≤ 256)
-  pub patience : (1 ≤ d.patience) × (d.patience ≤ 1000)
+  pub priority : d.priority ≤ MAX_PRIORITY
+  pub mutexes : d.mutexes ≤ MAX_MUTEXES
+  pub sem_count : d.sem_count ≤ MAX_SEMAPHORES
+  pub cells : d.cells ≤ MAX_CELLS
+  pub program_count : (1 ≤ d.program_count) × (d.program_count ≤ MAX_PROGRAMS)
+  pub patience : (1 ≤ d.patience) × (d.patience ≤ MAX_PATIENCE)
   pub patient : m.version ≢ 3 → d.patience ≡ 1
   pub own : m.version ≡ 3 → length spaces + 1 ≡ m.count → All (λ (s : SpaceView). s.patience ≡ 1) spaces → d.patience ≢ 1
 
@@ -91,8 +93,8 @@ fresh_draft m spaces d room h = record {
   patient = h.patient;
   own = h.own;
   sems = omega (arith, ap length h.fresh.0);
-  starts = All-same (λ start. start ≤ 1000000) d.sems [] h.fresh.0 (All-nil _);
-  pages = All-same (λ page. page ≤ 15) d.absent [] h.fresh.1 (All-nil _);
+  starts = All-same (λ start. start ≤ MAX_START) d.sems [] h.fresh.0 (All-nil _);
+  pages = All-same (λ page. page ≤ LAST_PAGE) d.absent [] h.fresh.1 (All-nil _);
   absent_rise = λ k b. absurd (omega (arith, ap length h.fresh.1));
   programs = omega (arith, ap length h.fresh.2);
   each = All-same IsProgram d.programs [] h.fresh.2 (All-nil _);
@@ -105,11 +107,11 @@ reached-space versions m spaces d r h =
     reached-after_sem versions m spaces d r.0 r.1 (fresh_draft m spaces d r.2 h) h.fresh.1 h.fresh.2
 
 pub reached-sem : (versions : ℕ) (m : Machine) (spaces : List SpaceView) (d : Draft) (n : ℕ) → IsReached versions (AtSem m spaces d)
-    → n ≤ 1000000 → IsReached versions (after_sem m spaces (with_sem d n))
+    → n ≤ MAX_START → IsReached versions (after_sem m spaces (with_sem d n))
 reached-sem versions m spaces d n r h =
     reached-after_sem versions m spaces (with_sem d n) r.0 r.1
     (redrafted m spaces d (d.sems ++ n ∷ []) d.absent d.programs r.2 (omega (arith, length_push d.sems n))
-    (All-push (λ start. start ≤ 1000000) d.sems n r.2.starts h) r.2.pages r.2.absent_rise r.2.programs r.2.each r.2.names)
+    (All-push (λ start. start ≤ MAX_START) d.sems n r.2.starts h) r.2.pages r.2.absent_rise r.2.programs r.2.each r.2.names)
     r.4 r.5
 
 -- a list that rises goes on rising with an element that is above its last one
@@ -129,18 +131,18 @@ rise-push {X} R xs x d rise last k h =
     ]
 
 pub reached-absent : (versions : ℕ) (m : Machine) (spaces : List SpaceView) (d : Draft) (k : ℕ) → IsReached versions (AtAbsent m spaces d)
-    → k ≤ 15 → (0 < length d.absent → slice_index d.absent (length d.absent - 1) < k)
+    → k ≤ LAST_PAGE → (0 < length d.absent → slice_index d.absent (length d.absent - 1) < k)
     → IsReached versions (AtAbsent m spaces (with_absent d k))
 reached-absent versions m spaces d k r h last = (
   r.0,
   r.1,
-  redrafted m spaces d d.sems (d.absent ++ k ∷ []) d.programs r.2 r.2.sems r.2.starts (All-push (λ page. page ≤ 15) d.absent k r.2.pages h)
+  redrafted m spaces d d.sems (d.absent ++ k ∷ []) d.programs r.2 r.2.sems r.2.starts (All-push (λ page. page ≤ LAST_PAGE) d.absent k r.2.pages h)
       (rise-push (λ (a b : ℕ). a < b) d.absent k 0 r.2.absent_rise last) r.2.programs r.2.each r.2.names,
   r.3,
   r.4,
 )
 
-nothing_begun : (d : Draft) (len : ℕ) → 1 ≤ len → len ≤ 4096 → IsBegun d len []
+nothing_begun : (d : Draft) (len : ℕ) → 1 ≤ len → len ≤ MAX_INSTRUCTIONS → IsBegun d len []
 nothing_begun d len low high = record {
   short = (low, high);
   room = omega arith;
@@ -150,12 +152,12 @@ nothing_begun d len low high = record {
 }
 
 pub reached-first_program : (versions : ℕ) (m : Machine) (spaces : List SpaceView) (d : Draft) (len : ℕ)
-    → IsReached versions (AtAbsent m spaces d) → 1 ≤ len → len ≤ 4096 → IsReached versions (AtInstr m spaces d len [])
+    → IsReached versions (AtAbsent m spaces d) → 1 ≤ len → len ≤ MAX_INSTRUCTIONS → IsReached versions (AtInstr m spaces d len [])
 reached-first_program versions m spaces d len r low high =
     (r.0, r.1, r.2, r.3, omega (arith, ap length r.4, r.2.program_count.0), nothing_begun d len low high)
 
 pub reached-program : (versions : ℕ) (m : Machine) (spaces : List SpaceView) (d : Draft) (len : ℕ)
-    → IsReached versions (AtProgram m spaces d) → 1 ≤ len → len ≤ 4096 → IsReached versions (AtInstr m spaces d len [])
+    → IsReached versions (AtProgram m spaces d) → 1 ≤ len → len ≤ MAX_INSTRUCTIONS → IsReached versions (AtInstr m spaces d len [])
 reached-program versions m spaces d len r low high =
     (r.0, r.1, r.2, r.3, r.5, nothing_begun d len low high)
 
@@ -271,7 +273,7 @@ reached-instr versions m spaces d len instrs i r range jump name last =
         (r.0, r.1, r.2, r.3, r.4, record { short = r.5.short; room = omega (arith, l); ranges = all.0; jumps = all.1; names = all.2 })
 
 pub reached-evict : (versions : ℕ) (m : Machine) (spaces : List SpaceView) (evictions : List Evict) (e : Evict)
-    → IsReached versions (AtEvict m spaces evictions) → IsEviction m.count e → length evictions < 4096
+    → IsReached versions (AtEvict m spaces evictions) → IsEviction m.count e → length evictions < MAX_EVICTIONS
     → ((d : Evict) → 0 < length evictions → IsBefore (get_or evictions (length evictions - 1) d) e)
     → IsReached versions (AtEvict m spaces (evictions ++ e ∷ []))
 reached-evict versions m spaces evictions e r h few last = (
@@ -293,7 +295,7 @@ pub reached-first_turn : (versions : ℕ) (m : Machine) (spaces : List SpaceView
 reached-first_turn versions m spaces evictions p r h = (r.0, r.1, r.2, r.3, one_turn m p h, omega arith)
 
 pub reached-turn : (versions : ℕ) (m : Machine) (spaces : List SpaceView) (evictions : List Evict) (turns : List ProcNo) (p : ProcNo)
-    → IsReached versions (AtTurn m spaces evictions turns) → p.0 < m.processors → length turns < 65536
+    → IsReached versions (AtTurn m spaces evictions turns) → p.0 < m.processors → length turns < MAX_TURNS
     → IsReached versions (AtTurn m spaces evictions (turns ++ p ∷ []))
 reached-turn versions m spaces evictions turns p r h few = (
   r.0,
@@ -304,7 +306,7 @@ reached-turn versions m spaces evictions turns p r h few = (
   omega (arith, length_push turns p),
 )
 
-can_slice-below : (v s : ℕ) → CanSlice v s → s ≤ 1000000
+can_slice-below : (v s : ℕ) → CanSlice v s → s ≤ MAX_SLICE
 can_slice-below v s (inl h) = omega arith
 can_slice-below v s (inr (inl h)) = omega arith
 can_slice-below v s (inr (inr h)) = omega arith

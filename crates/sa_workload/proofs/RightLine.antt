@@ -5,6 +5,8 @@ use Rattle.std.specs.List.Sorted.{IsStrictlyIncreasing}
 use Rattle.std.specs.Str.Parse.{digits_value}
 use Rattle.std.proofs.lemmas.List.{length_push, get_or_push, get_or_append_left}
 use Rattle.std.proofs.lemmas.List.Elements.{All-weaker}
+use Rattle.sa_base.specs.declared.limits.TheConstants.{FIRST_THREAD_PAGE, MAX_EVENTS, MAX_PROCESSORS, MAX_SPACES}
+use Rattle.sa_instr.specs.declared.limits.TheConstants.{LAST_PAGE, MAX_CELLS, MAX_FETCH, MAX_INSTRUCTIONS, MAX_IO_LENGTH, MAX_MUTEXES, MAX_PATIENCE, MAX_PRIORITY, MAX_PROGRAMS, MAX_SEMAPHORES, MAX_SLICE, MAX_START, MAX_TURNS}
 use Rattle.sa_base.specs.declared.number.ProcNo.{ProcNo}
 use Rattle.sa_instr.specs.declared.instr.Instr.{Instr}
 use Rattle.sa_instr.specs.declared.instr.Instr.TheVariants.{Compute, Set, Add, Sub, Jnz, Load, Store, Out, Fork, Join, Lock, Unlock, Wait, Signal, Io, Touch, End}
@@ -74,7 +76,7 @@ slice_right versions v n f s h small can =
     let lines : List (List (List ℕ)) = shown (AtSlice v n f) in
     let low : (if eqb (version_in lines) 3 then 0 else 1) ≤ s =
     subst (λ (u : ℕ). (if eqb u 3 then 0 else 1) ≤ s) (sym (version-at_slice v n f small)) (slice_low v s h can (eqb v 3) refl) in
-    (right-within (if eqb (version_in lines) 3 then 0 else 1) 1000000 s low (slice_kept v s can) (omega (arith, slice_kept v s can)), tt)
+    (right-within (if eqb (version_in lines) 3 then 0 else 1) MAX_SLICE s low (slice_kept v s can) (omega (arith, slice_kept v s can)), tt)
 
 -- the first line of a space
 patience_right : (m : Machine) (spaces : List SpaceView) (d : Draft) (lines : List (List (List ℕ))) → IsDraft m spaces d
@@ -84,12 +86,12 @@ patience_right : (m : Machine) (spaces : List SpaceView) (d : Draft) (lines : Li
     → AreRight (patience_field lines) (if b then decimal d.patience ∷ [] else [])
     × (length (if b then decimal d.patience ∷ [] else []) ≡ length (patience_field lines))
 patience_right m spaces d lines is e needs true t =
-    subst Goal (sym test) ((right-within (if needs_patience lines then 2 else 1) 1000 d.patience low is.patience.1 (omega (arith, is.patience.1)), tt), refl)
+    subst Goal (sym test) ((right-within (if needs_patience lines then 2 else 1) MAX_PATIENCE d.patience low is.patience.1 (omega (arith, is.patience.1)), tt), refl)
   where
     Goal : Bool → Type 0
     Goal b =
-        AreRight (if b then within (if needs_patience lines then 2 else 1) 1000 ∷ [] else []) (decimal d.patience ∷ [])
-        × (1 ≡ length (if b then within (if needs_patience lines then 2 else 1) 1000 ∷ [] else []))
+        AreRight (if b then within (if needs_patience lines then 2 else 1) MAX_PATIENCE ∷ [] else []) (decimal d.patience ∷ [])
+        × (1 ≡ length (if b then within (if needs_patience lines then 2 else 1) MAX_PATIENCE ∷ [] else []))
 
     test : eqb (version_in lines) 3 ≡ true
     test = ap (λ (v : ℕ). eqb v 3) e ∙ t
@@ -116,8 +118,8 @@ patience_right m spaces d lines is e needs false t = subst Goal (sym test) (tt, 
   where
     Goal : Bool → Type 0
     Goal b =
-        AreRight (if b then within (if needs_patience lines then 2 else 1) 1000 ∷ [] else []) []
-        × (0 ≡ length (if b then within (if needs_patience lines then 2 else 1) 1000 ∷ [] else []))
+        AreRight (if b then within (if needs_patience lines then 2 else 1) MAX_PATIENCE ∷ [] else []) []
+        × (0 ≡ length (if b then within (if needs_patience lines then 2 else 1) MAX_PATIENCE ∷ [] else []))
 
     test : eqb (version_in lines) 3 ≡ false
     test = ap (λ (v : ℕ). eqb v 3) e ∙ t
@@ -130,14 +132,14 @@ space_right versions few m spaces d h is =
     (λ v. needs-at_space m spaces v (omega (arith, h.0.count.1))
     (All-weaker IsSpace (λ (s : SpaceView). s.patience < 2 ^ 64) (λ s k. omega (arith, k.patience)) spaces h.1.each)) (eqb m.version 3) refl in
     plain versions lines (draft_line m.version d) (codes "space" ∷ []) (0, omega arith, refl) refl refl (
-      right-within 0 7 d.priority (omega arith) is.priority (omega (arith, is.priority)),
+      right-within 0 MAX_PRIORITY d.priority (omega arith) is.priority (omega (arith, is.priority)),
       (
-        right-within 0 64 d.mutexes (omega arith) is.mutexes (omega (arith, is.mutexes)),
+        right-within 0 MAX_MUTEXES d.mutexes (omega arith) is.mutexes (omega (arith, is.mutexes)),
         (
-          right-within 0 64 d.sem_count (omega arith) is.sem_count (omega (arith, is.sem_count)),
+          right-within 0 MAX_SEMAPHORES d.sem_count (omega arith) is.sem_count (omega (arith, is.sem_count)),
           (
-            right-within 0 64 d.cells (omega arith) is.cells (omega (arith, is.cells)),
-            (right-within 1 256 d.program_count is.program_count.0 is.program_count.1 (omega (arith, is.program_count.1)), patience.0),
+            right-within 0 MAX_CELLS d.cells (omega arith) is.cells (omega (arith, is.cells)),
+            (right-within 1 MAX_PROGRAMS d.program_count is.program_count.0 is.program_count.1 (omega (arith, is.program_count.1)), patience.0),
           ),
         ),
       ),
@@ -147,13 +149,13 @@ space_right versions few m spaces d h is =
 -- an instruction
 pub instr_right : (versions : ℕ) (lines : List (List (List ℕ))) (d : Draft) (len : ℕ) (i : Instr)
     → mutexes_in lines ≡ d.mutexes → sems_in lines ≡ d.sem_count → cells_in lines ≡ d.cells → programs_in lines ≡ d.program_count → length_in lines ≡ len
-    → d.mutexes ≤ 64 → d.sem_count ≤ 64 → d.cells ≤ 64 → d.program_count ≤ 256 → len ≤ 4096
+    → d.mutexes ≤ MAX_MUTEXES → d.sem_count ≤ MAX_SEMAPHORES → d.cells ≤ MAX_CELLS → d.program_count ≤ MAX_PROGRAMS → len ≤ MAX_INSTRUCTIONS
     → IsInRange i → JumpsBelow len i → NamesDeclared d.mutexes d.sem_count d.cells d.program_count i
     → AreRight (fields_behind versions lines (first_word (instr_line i))) (drop 1 (instr_line i))
     × (length (drop 1 (instr_line i)) ≡ length (fields_behind versions lines (first_word (instr_line i))))
 instr_right versions lines d len Compute a b c e f g h k l m range jump name = (tt, refl)
 instr_right versions lines d len (Set r n) a b c e f g h k l m range jump name =
-    ((right-register r, (right-within 0 (2 ^ 64 - 1) n (omega arith) (omega arith) range, tt)), refl)
+    ((right-register r, (right-within 0 (2 ^ 64 - 1) n (omega arith) (omega arith) range.1.0, tt)), refl)
 instr_right versions lines d len (Add r q) a b c e f g h k l m range jump name = ((right-register r, (right-register q, tt)), refl)
 instr_right versions lines d len (Sub r q) a b c e f g h k l m range jump name = ((right-register r, (right-register q, tt)), refl)
 instr_right versions lines d len (Jnz r n) a b c e f g h k l m range jump name =
@@ -171,9 +173,9 @@ instr_right versions lines d len (Unlock n) a b c e f g h k l m range jump name 
 instr_right versions lines d len (Wait n) a b c e f g h k l m range jump name = ((right-declared (sems_in lines) n (omega arith) (omega arith), tt), refl)
 instr_right versions lines d len (Signal n) a b c e f g h k l m range jump name = ((right-declared (sems_in lines) n (omega arith) (omega arith), tt), refl)
 instr_right versions lines d len (Io n) a b c e f g h k l m range jump name =
-    ((right-within 1 1000000 n (omega (arith, range)) (omega (arith, range)) (omega (arith, range)), tt), refl)
+    ((right-within 1 MAX_IO_LENGTH n (omega (arith, range)) (omega (arith, range)) (omega (arith, range)), tt), refl)
 instr_right versions lines d len (Touch n) a b c e f g h k l m range jump name =
-    ((right-within 2 15 n (omega (arith, range)) (omega (arith, range)) (omega (arith, range)), tt), refl)
+    ((right-within FIRST_THREAD_PAGE LAST_PAGE n (omega (arith, range)) (omega (arith, range)) (omega (arith, range)), tt), refl)
 instr_right versions lines d len End a b c e f g h k l m range jump name = (tt, refl)
 
 instr_step : (versions : ℕ) (m : Machine) (spaces : List SpaceView) (d : Draft) (len : ℕ) (instrs : List Instr) (i : Instr)
@@ -318,13 +320,13 @@ absent_greater versions m spaces d k h g e = pick (before versions p h)
         let last : PageLast p b.line = page_last b.position b.line p b.step (ap first_word (sym (last-shown versions p b)) ∙ e) in
         let rise : last.page < k =
         increasing_last last.pages last.page k (subst (λ (ks : List ℕ). IsStrictlyIncreasing (ks ++ k ∷ [])) last.whole g.2.absent_rise) in
-        let small : k ≤ 15 = All-last (λ (page : ℕ). page ≤ 15) d.absent k g.2.pages in
+        let small : k ≤ LAST_PAGE = All-last (λ (page : ℕ). page ≤ LAST_PAGE) d.absent k g.2.pages in
         let old : numbers_of 1 (last_line (shown p)) ≡ last.page ∷ [] =
         ap (numbers_of 1) (last-shown versions p b ∙ last.is) ∙ ap (λ (n : ℕ). n ∷ []) (reads last.page (omega arith)) in
         let new : numbers_of 1 (absent_line k) ≡ k ∷ [] = ap (λ (n : ℕ). n ∷ []) (reads k (omega arith)) in
         ap₂ list_lt old new ∙ less_head last.page k [] [] rise
 
-pub eviction_numbers : (count : ℕ) (e : Evict) → count ≤ 16 → IsEviction count e → numbers_of 3 (evict_line e) ≡ e.event ∷ e.space.0 ∷ e.page ∷ []
+pub eviction_numbers : (count : ℕ) (e : Evict) → count ≤ MAX_SPACES → IsEviction count e → numbers_of 3 (evict_line e) ≡ e.event ∷ e.space.0 ∷ e.page ∷ []
 eviction_numbers count e few h =
     ap (λ (n : ℕ). n ∷ digits_value 10 (decimal e.space.0) ∷ digits_value 10 (decimal e.page) ∷ []) (reads e.event (omega (arith, h.last)))
     ∙ ap (λ (n : ℕ). e.event ∷ n ∷ digits_value 10 (decimal e.page) ∷ []) (reads e.space.0 (omega (arith, h.space)))
@@ -361,10 +363,10 @@ evict_right versions m spaces es e h g =
     record {
       few = not_too_many;
       right = (
-        right-within 1 1000000 e.event is.first is.last (omega (arith, is.last)),
+        right-within 1 MAX_EVENTS e.event is.first is.last (omega (arith, is.last)),
         (
           right-declared (spaces_in lines) e.space.0 (omega (arith, is.space)) (omega (arith, is.space, h.0.count)),
-          (right-within 0 15 e.page (omega arith) is.page (omega (arith, is.page)), tt),
+          (right-within 0 LAST_PAGE e.page (omega arith) is.page (omega (arith, is.page)), tt),
         ),
       );
       order = λ why. greater lines 3 (evict_line e) why (eviction_greater versions m spaces es e h g);
@@ -375,8 +377,8 @@ evict_right versions m spaces es e h g =
     not_too_many (inl t) = absurd (omega (arith, t.1, count_evict-at_evict m spaces es, g.3.few, length_push es e))
     not_too_many (inr t) = own_word (codes "evict") (codes "turn") refl t.0
 
-turn_right : (versions : ℕ) (lines : List (List (List ℕ))) (processors seen : ℕ) (t : ProcNo) → processors_in lines ≡ processors → t.0 < processors → processors ≤ 16
-    → count_of_word lines (codes "turn") ≡ seen → seen < 65536 → RightLine versions lines (turn_line t)
+turn_right : (versions : ℕ) (lines : List (List (List ℕ))) (processors seen : ℕ) (t : ProcNo) → processors_in lines ≡ processors → t.0 < processors → processors ≤ MAX_PROCESSORS
+    → count_of_word lines (codes "turn") ≡ seen → seen < MAX_TURNS → RightLine versions lines (turn_line t)
 turn_right versions lines processors seen t e below few s room = record {
   few = not_too_many;
   right = (right-within 0 (processors_in lines - 1) t.0 (omega arith) (omega arith) (omega arith), tt);
@@ -391,10 +393,10 @@ turn_right versions lines processors seen t e below few s room = record {
 absent_right : (versions : ℕ) (m : Machine) (spaces : List SpaceView) (d : Draft) (k : ℕ) → IsReached versions (AtAbsent m spaces d)
     → IsReached versions (AtAbsent m spaces (with_absent d k)) → RightLine versions (shown (AtAbsent m spaces d)) (absent_line k)
 absent_right versions m spaces d k h g =
-    let small : k ≤ 15 = All-last (λ (page : ℕ). page ≤ 15) d.absent k g.2.pages in
+    let small : k ≤ LAST_PAGE = All-last (λ (page : ℕ). page ≤ LAST_PAGE) d.absent k g.2.pages in
     record {
       few = unlimited (codes "absent" ∷ []) (shown (AtAbsent m spaces d)) (codes "absent") (0, omega arith, refl) refl;
-      right = (right-within 0 15 k (omega arith) small (omega arith), tt);
+      right = (right-within 0 LAST_PAGE k (omega arith) small (omega arith), tt);
       order = λ why. greater (shown (AtAbsent m spaces d)) 1 (absent_line k) why (absent_greater versions m spaces d k h g);
       count = refl;
     }
@@ -405,26 +407,26 @@ pub step-right : (versions : ℕ) → versions ≤ 3 → (p : Position) (line : 
 step-right versions few p line q (step_version v) h g =
     plain versions (shown p) line (codes "workload" ∷ []) (0, omega arith, refl) refl refl (right-within 1 versions v g.0 g.1 (omega (arith, g.1)), tt) refl
 step-right versions few p line q (step_processors v n) h g =
-    plain versions (shown p) line (codes "processors" ∷ []) (0, omega arith, refl) refl refl (right-within 1 16 n g.2 g.3 (omega (arith, g.3)), tt) refl
+    plain versions (shown p) line (codes "processors" ∷ []) (0, omega arith, refl) refl refl (right-within 1 MAX_PROCESSORS n g.2 g.3 (omega (arith, g.3)), tt) refl
 step-right versions few p line q (step_fetch v n f) h g =
     let k = fetch_kept versions v n f g in
-    plain versions (shown p) line (codes "fetch" ∷ []) (0, omega arith, refl) refl refl (right-within 1 1000 f k.0 k.1 (omega (arith, k.1)), tt) refl
+    plain versions (shown p) line (codes "fetch" ∷ []) (0, omega arith, refl) refl refl (right-within 1 MAX_FETCH f k.0 k.1 (omega (arith, k.1)), tt) refl
 step-right versions few p line q (step_slice v n f s) h g =
     plain versions (shown p) line (codes "slice" ∷ []) (0, omega arith, refl) refl refl (slice_right versions v n f s h.0 (omega (arith, h.1)) g.5) refl
 step-right versions few p line q (step_spaces v n f s c) h g =
     plain versions (shown p) line (codes "spaces" ∷ []) (0, omega arith, refl) refl refl
-    (right-within 1 16 c g.0.count.0 g.0.count.1 (omega (arith, g.0.count.1)), tt) refl
+    (right-within 1 MAX_SPACES c g.0.count.0 g.0.count.1 (omega (arith, g.0.count.1)), tt) refl
 step-right versions few p line q (step_space m spaces d fresh) h g = space_right versions few m spaces d h (draft_kept versions m spaces d g)
 step-right versions few p line q (step_sem m spaces d n) h g =
-    let small : n ≤ 1000000 = All-last (λ (start : ℕ). start ≤ 1000000) d.sems n (draft_kept versions m spaces (with_sem d n) g).starts in
-    plain versions (shown p) line (codes "sem" ∷ []) (0, omega arith, refl) refl refl (right-within 0 1000000 n (omega arith) small (omega arith), tt) refl
+    let small : n ≤ MAX_START = All-last (λ (start : ℕ). start ≤ MAX_START) d.sems n (draft_kept versions m spaces (with_sem d n) g).starts in
+    plain versions (shown p) line (codes "sem" ∷ []) (0, omega arith, refl) refl refl (right-within 0 MAX_START n (omega arith) small (omega arith), tt) refl
 step-right versions few p line q (step_absent m spaces d k) h g = absent_right versions m spaces d k h g
 step-right versions few p line q (step_first_program m spaces d len) h g =
     plain versions (shown p) line (codes "program" ∷ []) (0, omega arith, refl) refl refl
-    (right-within 1 4096 len g.5.short.0 g.5.short.1 (omega (arith, g.5.short.1)), tt) refl
+    (right-within 1 MAX_INSTRUCTIONS len g.5.short.0 g.5.short.1 (omega (arith, g.5.short.1)), tt) refl
 step-right versions few p line q (step_program m spaces d len) h g =
     plain versions (shown p) line (codes "program" ∷ []) (0, omega arith, refl) refl refl
-    (right-within 1 4096 len g.5.short.0 g.5.short.1 (omega (arith, g.5.short.1)), tt) refl
+    (right-within 1 MAX_INSTRUCTIONS len g.5.short.0 g.5.short.1 (omega (arith, g.5.short.1)), tt) refl
 step-right versions few p line q (step_instr m spaces d len instrs i) h g = instr_step versions m spaces d len instrs i h g
 step-right versions few p line q (step_evict m spaces es e) h g = evict_right versions m spaces es e h g
 step-right versions few p line q (step_first_turn m spaces es t) h g =

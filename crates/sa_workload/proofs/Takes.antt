@@ -5,6 +5,8 @@ use Rattle.std.proofs.lemmas.Fmt.{decimal_digit}
 use Rattle.std.proofs.lemmas.Bool.{cases_eq, cases_lt}
 use Rattle.std.proofs.lemmas.List.{length_push, get_or_push}
 use Rattle.std.proofs.lemmas.List.Elements.{All-contains, All-from_recursion, All-weaker}
+use Rattle.sa_base.specs.declared.limits.TheConstants.{FIRST_THREAD_PAGE, MAX_EVENTS, MAX_PROCESSORS, MAX_SPACES}
+use Rattle.sa_instr.specs.declared.limits.TheConstants.{LAST_PAGE, MAX_CELLS, MAX_EVICTIONS, MAX_FETCH, MAX_INSTRUCTIONS, MAX_IO_LENGTH, MAX_MUTEXES, MAX_PATIENCE, MAX_PRIORITY, MAX_PROGRAMS, MAX_SEMAPHORES, MAX_SLICE, MAX_START, MAX_TURNS}
 use Rattle.sa_base.specs.declared.number.ProcNo.{ProcNo}
 use Rattle.sa_instr.specs.declared.instr.Reg.{Reg}
 use Rattle.sa_instr.specs.declared.instr.Reg.TheVariants.{R0, R1, R2, R3, R4, R5, R6, R7}
@@ -109,23 +111,23 @@ take_version versions words few r o c =
 
 take_processors : (versions v : ℕ) (words : List (List ℕ)) → IsReached versions (AtProcessors v) → Taken versions (AtProcessors v) words (codes "processors")
 take_processors versions v words h few r o c =
-    let n = one (λ n. leb 1 n && leb n 16) 4 words r c in
-    let a = in_range 1 16 n.number n.passes in
+    let n = one (λ n. leb 1 n && leb n MAX_PROCESSORS) 4 words r c in
+    let a = in_range 1 MAX_PROCESSORS n.number n.passes in
     step_with versions (AtProcessors v) (codes "processors") words (decimal n.number ∷ []) (AtFetch v n.number) n.spelled h (step_processors v n.number)
     (reached-processors versions v n.number h a.0 a.1)
 
 take_fetch : (versions v n : ℕ) (words : List (List ℕ)) → IsReached versions (AtFetch v n) → Taken versions (AtFetch v n) words (codes "fetch")
 take_fetch versions v n words h few r o c =
-    let f = one (λ n. leb 1 n && leb n 1000) 4 words r c in
-    let a = in_range 1 1000 f.number f.passes in
+    let f = one (λ n. leb 1 n && leb n MAX_FETCH) 4 words r c in
+    let a = in_range 1 MAX_FETCH f.number f.passes in
     step_with versions (AtFetch v n) (codes "fetch") words (decimal f.number ∷ []) (after_fetch v n f.number) f.spelled h (step_fetch v n f.number)
     (reached-fetch versions v n f.number h a.0 a.1)
 
 take_slice : (versions v n f : ℕ) (words : List (List ℕ)) → versions ≤ 3 → IsReached versions (AtSlice v n f) → Taken versions (AtSlice v n f) words (codes "slice")
 take_slice versions v n f words three h few r o c =
     let lines : List (List (List ℕ)) = shown (AtSlice v n f) in
-    let s = one (λ n. leb (if eqb (version_in lines) 3 then 0 else 1) n && leb n 1000000) 4 words r c in
-    let a = in_range (if eqb (version_in lines) 3 then 0 else 1) 1000000 s.number s.passes in
+    let s = one (λ n. leb (if eqb (version_in lines) 3 then 0 else 1) n && leb n MAX_SLICE) 4 words r c in
+    let a = in_range (if eqb (version_in lines) 3 then 0 else 1) MAX_SLICE s.number s.passes in
     let low : (if eqb v 3 then 0 else 1) ≤ s.number =
     subst (λ (u : ℕ). (if eqb u 3 then 0 else 1) ≤ s.number) (version-at_slice v n f (omega (arith, h.1))) a.0 in
     step_with versions (AtSlice v n f) (codes "slice") words (decimal s.number ∷ []) (AtSpaces v n f s.number) s.spelled h (step_slice v n f s.number)
@@ -133,8 +135,8 @@ take_slice versions v n f words three h few r o c =
 
 take_spaces : (versions v n f s : ℕ) (words : List (List ℕ)) → IsReached versions (AtSpaces v n f s) → Taken versions (AtSpaces v n f s) words (codes "spaces")
 take_spaces versions v n f s words h few r o c =
-    let k = one (λ n. leb 1 n && leb n 16) 4 words r c in
-    let a = in_range 1 16 k.number k.passes in
+    let k = one (λ n. leb 1 n && leb n MAX_SPACES) 4 words r c in
+    let a = in_range 1 MAX_SPACES k.number k.passes in
     step_with versions (AtSpaces v n f s) (codes "spaces") words (decimal k.number ∷ [])
     (AtSpace (record { version = v; processors = n; fetch = f; slice = s; count = k.number }) []) k.spelled h (step_spaces v n f s k.number)
     (reached-spaces versions v n f s k.number h a.0 a.1)
@@ -144,7 +146,7 @@ record PatienceOf (m : Machine) (spaces : List SpaceView) (words : List (List �
   number : ℕ
   spelled : words ≡ (if eqb m.version 3 then decimal number ∷ [] else [])
   some : 1 ≤ number
-  few : number ≤ 1000
+  few : number ≤ MAX_PATIENCE
   patient : m.version ≢ 3 → number ≡ 1
   own : m.version ≡ 3 → length spaces + 1 ≡ m.count → All (λ (s : SpaceView). s.patience ≡ 1) spaces → number ≢ 1
 
@@ -154,7 +156,7 @@ take_patience : (m : Machine) (spaces : List SpaceView) (lines : List (List (Lis
 take_patience m spaces lines words e needs r c = pick (cases_eq m.version 3)
   where
     Field' : Bool → List Field
-    Field' b = if b then within (if needs_patience lines then 2 else 1) 1000 ∷ [] else []
+    Field' b = if b then within (if needs_patience lines then 2 else 1) MAX_PATIENCE ∷ [] else []
 
     Goal : Bool → Type 0
     Goal b = AreRight (Field' b) words × (length words ≡ length (Field' b))
@@ -165,8 +167,8 @@ take_patience m spaces lines words e needs r c = pick (cases_eq m.version 3)
     pick : (m.version ≡ 3) ⊎ (m.version ≢ 3) → PatienceOf m spaces words
     pick (inl v) =
         let g : Goal true = at true (eq-eqb (version_in lines) 3 (e ∙ v)) in
-        let n = one (λ n. leb (if needs_patience lines then 2 else 1) n && leb n 1000) 4 words g.0 g.1 in
-        let a = in_range (if needs_patience lines then 2 else 1) 1000 n.number n.passes in
+        let n = one (λ n. leb (if needs_patience lines then 2 else 1) n && leb n MAX_PATIENCE) 4 words g.0 g.1 in
+        let a = in_range (if needs_patience lines then 2 else 1) MAX_PATIENCE n.number n.passes in
         record {
           number = n.number;
           spelled = n.spelled ∙ ap (λ (b : Bool). if b then decimal n.number ∷ [] else []) (sym (eq-eqb m.version 3 v));
@@ -197,10 +199,10 @@ take_patience m spaces lines words e needs r c = pick (cases_eq m.version 3)
         }
 
 space_spelled : (m : Machine) (lines : List (List (List ℕ))) (words : List (List ℕ))
-    (a : First (within 0 7) (within 0 64 ∷ within 0 64 ∷ within 0 64 ∷ within 1 256 ∷ patience_field lines) words)
-    (b : First (within 0 64) (within 0 64 ∷ within 0 64 ∷ within 1 256 ∷ patience_field lines) a.others)
-    (s : First (within 0 64) (within 0 64 ∷ within 1 256 ∷ patience_field lines) b.others)
-    (k : First (within 0 64) (within 1 256 ∷ patience_field lines) s.others) (g : First (within 1 256) (patience_field lines) k.others) (n : ℕ)
+    (a : First (within 0 MAX_PRIORITY) (within 0 MAX_MUTEXES ∷ within 0 MAX_SEMAPHORES ∷ within 0 MAX_CELLS ∷ within 1 MAX_PROGRAMS ∷ patience_field lines) words)
+    (b : First (within 0 MAX_MUTEXES) (within 0 MAX_SEMAPHORES ∷ within 0 MAX_CELLS ∷ within 1 MAX_PROGRAMS ∷ patience_field lines) a.others)
+    (s : First (within 0 MAX_SEMAPHORES) (within 0 MAX_CELLS ∷ within 1 MAX_PROGRAMS ∷ patience_field lines) b.others)
+    (k : First (within 0 MAX_CELLS) (within 1 MAX_PROGRAMS ∷ patience_field lines) s.others) (g : First (within 1 MAX_PROGRAMS) (patience_field lines) k.others) (n : ℕ)
     → g.others ≡ (if eqb m.version 3 then decimal n ∷ [] else [])
     → words ≡ decimal a.right.0 ∷ decimal b.right.0 ∷ decimal s.right.0 ∷ decimal k.right.0 ∷ decimal g.right.0 ∷ (if eqb m.version 3 then decimal n ∷ [] else [])
 space_spelled m lines words a b s k g n e =
@@ -214,11 +216,11 @@ take_space : (versions : ℕ) (m : Machine) (spaces : List SpaceView) (words : L
     → Taken versions (AtSpace m spaces) words (codes "space")
 take_space versions m spaces words three h few r o c =
     let lines : List (List (List ℕ)) = shown (AtSpace m spaces) in
-    let a = first (within 0 7) (within 0 64 ∷ within 0 64 ∷ within 0 64 ∷ within 1 256 ∷ patience_field lines) words r in
-    let b = first (within 0 64) (within 0 64 ∷ within 0 64 ∷ within 1 256 ∷ patience_field lines) a.others a.rest in
-    let s = first (within 0 64) (within 0 64 ∷ within 1 256 ∷ patience_field lines) b.others b.rest in
-    let k = first (within 0 64) (within 1 256 ∷ patience_field lines) s.others s.rest in
-    let g = first (within 1 256) (patience_field lines) k.others k.rest in
+    let a = first (within 0 MAX_PRIORITY) (within 0 MAX_MUTEXES ∷ within 0 MAX_SEMAPHORES ∷ within 0 MAX_CELLS ∷ within 1 MAX_PROGRAMS ∷ patience_field lines) words r in
+    let b = first (within 0 MAX_MUTEXES) (within 0 MAX_SEMAPHORES ∷ within 0 MAX_CELLS ∷ within 1 MAX_PROGRAMS ∷ patience_field lines) a.others a.rest in
+    let s = first (within 0 MAX_SEMAPHORES) (within 0 MAX_CELLS ∷ within 1 MAX_PROGRAMS ∷ patience_field lines) b.others b.rest in
+    let k = first (within 0 MAX_CELLS) (within 1 MAX_PROGRAMS ∷ patience_field lines) s.others s.rest in
+    let g = first (within 1 MAX_PROGRAMS) (patience_field lines) k.others k.rest in
     let p = take_patience m spaces lines g.others (version-at_space m spaces (omega (arith, h.0.version)))
     (λ v. needs-at_space m spaces v (omega (arith, h.0.count.1))
     (All-weaker IsSpace (λ (s : SpaceView). s.patience < 2 ^ 64) (λ s k. omega (arith, k.patience)) spaces h.1.each)) g.rest
@@ -239,11 +241,11 @@ take_space versions m spaces words three h few r o c =
     space_spelled m lines words a b s k g p.number p.spelled in
     let is : IsSpaceLine m spaces d = record {
       fresh = (refl, refl, refl);
-      priority = (in_range 0 7 d.priority a.right.3).1;
-      mutexes = (in_range 0 64 d.mutexes b.right.3).1;
-      sem_count = (in_range 0 64 d.sem_count s.right.3).1;
-      cells = (in_range 0 64 d.cells k.right.3).1;
-      program_count = in_range 1 256 d.program_count g.right.3;
+      priority = (in_range 0 MAX_PRIORITY d.priority a.right.3).1;
+      mutexes = (in_range 0 MAX_MUTEXES d.mutexes b.right.3).1;
+      sem_count = (in_range 0 MAX_SEMAPHORES d.sem_count s.right.3).1;
+      cells = (in_range 0 MAX_CELLS d.cells k.right.3).1;
+      program_count = in_range 1 MAX_PROGRAMS d.program_count g.right.3;
       patience = (p.some, p.few);
       patient = p.patient;
       own = p.own;
@@ -256,13 +258,13 @@ take_space versions m spaces words three h few r o c =
 take_sem : (versions : ℕ) (m : Machine) (spaces : List SpaceView) (d : Draft) (words : List (List ℕ)) → IsReached versions (AtSem m spaces d)
     → Taken versions (AtSem m spaces d) words (codes "sem")
 take_sem versions m spaces d words h few r o c =
-    let n = one (λ n. leb 0 n && leb n 1000000) 4 words r c in
-    let a = in_range 0 1000000 n.number n.passes in
+    let n = one (λ n. leb 0 n && leb n MAX_START) 4 words r c in
+    let a = in_range 0 MAX_START n.number n.passes in
     step_with versions (AtSem m spaces d) (codes "sem") words (decimal n.number ∷ []) (after_sem m spaces (with_sem d n.number)) n.spelled h
     (step_sem m spaces d n.number) (reached-sem versions m spaces d n.number h a.1)
 
 -- the pages rise
-page_above : (versions : ℕ) (m : Machine) (spaces : List SpaceView) (d : Draft) (k : ℕ) → IsReached versions (AtAbsent m spaces d) → k ≤ 15
+page_above : (versions : ℕ) (m : Machine) (spaces : List SpaceView) (d : Draft) (k : ℕ) → IsReached versions (AtAbsent m spaces d) → k ≤ LAST_PAGE
     → IsInOrder (shown (AtAbsent m spaces d)) 1 (absent_line k) → (i : ℕ) → i + 1 ≡ length d.absent → get_or d.absent i 0 < k
 page_above versions m spaces d k h small o i e = pick (split_last d.absent)
   where
@@ -271,7 +273,7 @@ page_above versions m spaces d k h small o i e = pick (split_last d.absent)
     pick (inr s) =
         let place : length s.front ≡ i = omega (arith, ap length s.whole, length_push s.front s.last) in
         let line : last_line (shown (AtAbsent m spaces d)) ≡ absent_line s.last = last_line-at_absent m spaces d s.front s.last s.whole h.4 in
-        let old : s.last ≤ 15 = All-last (λ (n : ℕ). n ≤ 15) s.front s.last (subst (λ (xs : List ℕ). All (λ (n : ℕ). n ≤ 15) xs) s.whole h.2.pages) in
+        let old : s.last ≤ LAST_PAGE = All-last (λ (n : ℕ). n ≤ LAST_PAGE) s.front s.last (subst (λ (xs : List ℕ). All (λ (n : ℕ). n ≤ LAST_PAGE) xs) s.whole h.2.pages) in
         let less : list_lt (numbers_of 1 (last_line (shown (AtAbsent m spaces d)))) (numbers_of 1 (absent_line k)) ≡ true =
         o (0, omega arith, refl) (ap first_word line) in
         let numbers : list_lt (s.last ∷ []) (k ∷ []) ≡ true =
@@ -286,8 +288,8 @@ page_above versions m spaces d k h small o i e = pick (split_last d.absent)
 take_absent : (versions : ℕ) (m : Machine) (spaces : List SpaceView) (d : Draft) (words : List (List ℕ)) → IsReached versions (AtAbsent m spaces d)
     → Taken versions (AtAbsent m spaces d) words (codes "absent")
 take_absent versions m spaces d words h few r o c =
-    let n = one (λ n. leb 0 n && leb n 15) 4 words r c in
-    let a = in_range 0 15 n.number n.passes in
+    let n = one (λ n. leb 0 n && leb n LAST_PAGE) 4 words r c in
+    let a = in_range 0 LAST_PAGE n.number n.passes in
     let order : IsInOrder (shown (AtAbsent m spaces d)) 1 (absent_line n.number) =
     subst (λ (ws : List (List ℕ)). IsInOrder (shown (AtAbsent m spaces d)) 1 (codes "absent" ∷ ws)) n.spelled o in
     step_with versions (AtAbsent m spaces d) (codes "absent") words (decimal n.number ∷ []) (AtAbsent m spaces (with_absent d n.number)) n.spelled h
@@ -298,8 +300,8 @@ take_absent versions m spaces d words h few r o c =
 take_first_program : (versions : ℕ) (m : Machine) (spaces : List SpaceView) (d : Draft) (words : List (List ℕ)) → IsReached versions (AtAbsent m spaces d)
     → Taken versions (AtAbsent m spaces d) words (codes "program")
 take_first_program versions m spaces d words h few r o c =
-    let n = one (λ n. leb 1 n && leb n 4096) 4 words r c in
-    let a = in_range 1 4096 n.number n.passes in
+    let n = one (λ n. leb 1 n && leb n MAX_INSTRUCTIONS) 4 words r c in
+    let a = in_range 1 MAX_INSTRUCTIONS n.number n.passes in
     step_with versions (AtAbsent m spaces d) (codes "program") words (decimal n.number ∷ []) (AtInstr m spaces d n.number []) n.spelled h
     (step_first_program m spaces d n.number)
     (reached-first_program versions m spaces d n.number h a.0 a.1)
@@ -307,8 +309,8 @@ take_first_program versions m spaces d words h few r o c =
 take_program : (versions : ℕ) (m : Machine) (spaces : List SpaceView) (d : Draft) (words : List (List ℕ)) → IsReached versions (AtProgram m spaces d)
     → Taken versions (AtProgram m spaces d) words (codes "program")
 take_program versions m spaces d words h few r o c =
-    let n = one (λ n. leb 1 n && leb n 4096) 4 words r c in
-    let a = in_range 1 4096 n.number n.passes in
+    let n = one (λ n. leb 1 n && leb n MAX_INSTRUCTIONS) 4 words r c in
+    let a = in_range 1 MAX_INSTRUCTIONS n.number n.passes in
     step_with versions (AtProgram m spaces d) (codes "program") words (decimal n.number ∷ []) (AtInstr m spaces d n.number []) n.spelled h
     (step_program m spaces d n.number)
     (reached-program versions m spaces d n.number h a.0 a.1)
@@ -439,7 +441,7 @@ spelled_set versions lines d len words g r c =
     let a = register_and (within 0 (2 ^ 64 - 1)) words r c in
     record {
       instr = Set a.reg a.right.0;
-      kept = record { range = a.right.1; jump = tt; name = tt };
+      kept = record { range = (tt, (a.right.1, tt)); jump = (tt, (tt, tt)); name = (tt, (tt, tt)) };
       is = ap (λ (ws : List (List ℕ)). codes "set" ∷ ws) (a.spelled ∙ ap (λ (w : List ℕ). register a.reg ∷ w ∷ []) a.right.2);
     }
 
@@ -449,7 +451,7 @@ spelled_add versions lines d len words g r c =
     let b = register_of a.word a.right in
     record {
       instr = Add a.reg b.0;
-      kept = record { range = tt; jump = tt; name = tt };
+      kept = record { range = (tt, (tt, tt)); jump = (tt, (tt, tt)); name = (tt, (tt, tt)) };
       is = ap (λ (ws : List (List ℕ)). codes "add" ∷ ws) (a.spelled ∙ ap (λ (w : List ℕ). register a.reg ∷ w ∷ []) b.1);
     }
 
@@ -459,7 +461,7 @@ spelled_sub versions lines d len words g r c =
     let b = register_of a.word a.right in
     record {
       instr = Sub a.reg b.0;
-      kept = record { range = tt; jump = tt; name = tt };
+      kept = record { range = (tt, (tt, tt)); jump = (tt, (tt, tt)); name = (tt, (tt, tt)) };
       is = ap (λ (ws : List (List ℕ)). codes "sub" ∷ ws) (a.spelled ∙ ap (λ (w : List ℕ). register a.reg ∷ w ∷ []) b.1);
     }
 
@@ -468,7 +470,7 @@ spelled_jnz versions lines d len words g r c =
     let a = register_and (Number (λ n. ltb n (length_in lines)) 7) words r c in
     record {
       instr = Jnz a.reg a.right.0;
-      kept = record { range = tt; jump = omega (arith, ltb-true a.right.0 (length_in lines) a.right.3, g.places); name = tt };
+      kept = record { range = (tt, (tt, tt)); jump = (tt, (omega (arith, ltb-true a.right.0 (length_in lines) a.right.3, g.places), tt)); name = (tt, (tt, tt)) };
       is = ap (λ (ws : List (List ℕ)). codes "jnz" ∷ ws) (a.spelled ∙ ap (λ (w : List ℕ). register a.reg ∷ w ∷ []) a.right.2);
     }
 
@@ -477,7 +479,7 @@ spelled_load versions lines d len words g r c =
     let a = register_and (declared (cells_in lines)) words r c in
     record {
       instr = Load a.reg a.right.0;
-      kept = record { range = tt; jump = tt; name = omega (arith, ltb-true a.right.0 (cells_in lines) a.right.3, g.cells) };
+      kept = record { range = (tt, (tt, tt)); jump = (tt, (tt, tt)); name = (tt, (omega (arith, ltb-true a.right.0 (cells_in lines) a.right.3, g.cells), tt)) };
       is = ap (λ (ws : List (List ℕ)). codes "load" ∷ ws) (a.spelled ∙ ap (λ (w : List ℕ). register a.reg ∷ w ∷ []) a.right.2);
     }
 
@@ -486,58 +488,58 @@ spelled_store versions lines d len words g r c =
     let a = register_and (declared (cells_in lines)) words r c in
     record {
       instr = Store a.reg a.right.0;
-      kept = record { range = tt; jump = tt; name = omega (arith, ltb-true a.right.0 (cells_in lines) a.right.3, g.cells) };
+      kept = record { range = (tt, (tt, tt)); jump = (tt, (tt, tt)); name = (tt, (omega (arith, ltb-true a.right.0 (cells_in lines) a.right.3, g.cells), tt)) };
       is = ap (λ (ws : List (List ℕ)). codes "store" ∷ ws) (a.spelled ∙ ap (λ (w : List ℕ). register a.reg ∷ w ∷ []) a.right.2);
     }
 
 spelled_out : (versions : ℕ) (lines : List (List (List ℕ))) (d : Draft) (len : ℕ) (words : List (List ℕ)) → Declared lines d len → Spelled versions lines d len words (codes "out")
 spelled_out versions lines d len words g r c =
     let a = register_alone words r c in
-    record { instr = Out a.0; is = ap (λ (ws : List (List ℕ)). codes "out" ∷ ws) a.1; kept = record { range = tt; jump = tt; name = tt } }
+    record { instr = Out a.0; is = ap (λ (ws : List (List ℕ)). codes "out" ∷ ws) a.1; kept = record { range = (tt, tt); jump = (tt, tt); name = (tt, tt) } }
 
 spelled_fork : (versions : ℕ) (lines : List (List (List ℕ))) (d : Draft) (len : ℕ) (words : List (List ℕ)) → Declared lines d len → Spelled versions lines d len words (codes "fork")
 spelled_fork versions lines d len words g r c =
     let a = register_and (declared (programs_in lines)) words r c in
     record {
       instr = Fork a.reg a.right.0;
-      kept = record { range = tt; jump = tt; name = omega (arith, ltb-true a.right.0 (programs_in lines) a.right.3, g.programs) };
+      kept = record { range = (tt, (tt, tt)); jump = (tt, (tt, tt)); name = (tt, (omega (arith, ltb-true a.right.0 (programs_in lines) a.right.3, g.programs), tt)) };
       is = ap (λ (ws : List (List ℕ)). codes "fork" ∷ ws) (a.spelled ∙ ap (λ (w : List ℕ). register a.reg ∷ w ∷ []) a.right.2);
     }
 
 spelled_join : (versions : ℕ) (lines : List (List (List ℕ))) (d : Draft) (len : ℕ) (words : List (List ℕ)) → Declared lines d len → Spelled versions lines d len words (codes "join")
 spelled_join versions lines d len words g r c =
     let a = register_alone words r c in
-    record { instr = Join a.0; is = ap (λ (ws : List (List ℕ)). codes "join" ∷ ws) a.1; kept = record { range = tt; jump = tt; name = tt } }
+    record { instr = Join a.0; is = ap (λ (ws : List (List ℕ)). codes "join" ∷ ws) a.1; kept = record { range = (tt, tt); jump = (tt, tt); name = (tt, tt) } }
 
 spelled_lock : (versions : ℕ) (lines : List (List (List ℕ))) (d : Draft) (len : ℕ) (words : List (List ℕ)) → Declared lines d len → Spelled versions lines d len words (codes "lock")
 spelled_lock versions lines d len words g r c =
     let a = one (λ n. ltb n (mutexes_in lines)) 6 words r c in
-    record { instr = Lock a.number; is = ap (λ (ws : List (List ℕ)). codes "lock" ∷ ws) a.spelled; kept = record { range = tt; jump = tt; name = omega (arith, ltb-true a.number (mutexes_in lines) a.passes, g.mutexes) } }
+    record { instr = Lock a.number; is = ap (λ (ws : List (List ℕ)). codes "lock" ∷ ws) a.spelled; kept = record { range = (tt, tt); jump = (tt, tt); name = (omega (arith, ltb-true a.number (mutexes_in lines) a.passes, g.mutexes), tt) } }
 
 spelled_unlock : (versions : ℕ) (lines : List (List (List ℕ))) (d : Draft) (len : ℕ) (words : List (List ℕ)) → Declared lines d len → Spelled versions lines d len words (codes "unlock")
 spelled_unlock versions lines d len words g r c =
     let a = one (λ n. ltb n (mutexes_in lines)) 6 words r c in
-    record { instr = Unlock a.number; is = ap (λ (ws : List (List ℕ)). codes "unlock" ∷ ws) a.spelled; kept = record { range = tt; jump = tt; name = omega (arith, ltb-true a.number (mutexes_in lines) a.passes, g.mutexes) } }
+    record { instr = Unlock a.number; is = ap (λ (ws : List (List ℕ)). codes "unlock" ∷ ws) a.spelled; kept = record { range = (tt, tt); jump = (tt, tt); name = (omega (arith, ltb-true a.number (mutexes_in lines) a.passes, g.mutexes), tt) } }
 
 spelled_wait : (versions : ℕ) (lines : List (List (List ℕ))) (d : Draft) (len : ℕ) (words : List (List ℕ)) → Declared lines d len → Spelled versions lines d len words (codes "wait")
 spelled_wait versions lines d len words g r c =
     let a = one (λ n. ltb n (sems_in lines)) 6 words r c in
-    record { instr = Wait a.number; is = ap (λ (ws : List (List ℕ)). codes "wait" ∷ ws) a.spelled; kept = record { range = tt; jump = tt; name = omega (arith, ltb-true a.number (sems_in lines) a.passes, g.sems) } }
+    record { instr = Wait a.number; is = ap (λ (ws : List (List ℕ)). codes "wait" ∷ ws) a.spelled; kept = record { range = (tt, tt); jump = (tt, tt); name = (omega (arith, ltb-true a.number (sems_in lines) a.passes, g.sems), tt) } }
 
 spelled_signal : (versions : ℕ) (lines : List (List (List ℕ))) (d : Draft) (len : ℕ) (words : List (List ℕ)) → Declared lines d len → Spelled versions lines d len words (codes "signal")
 spelled_signal versions lines d len words g r c =
     let a = one (λ n. ltb n (sems_in lines)) 6 words r c in
-    record { instr = Signal a.number; is = ap (λ (ws : List (List ℕ)). codes "signal" ∷ ws) a.spelled; kept = record { range = tt; jump = tt; name = omega (arith, ltb-true a.number (sems_in lines) a.passes, g.sems) } }
+    record { instr = Signal a.number; is = ap (λ (ws : List (List ℕ)). codes "signal" ∷ ws) a.spelled; kept = record { range = (tt, tt); jump = (tt, tt); name = (omega (arith, ltb-true a.number (sems_in lines) a.passes, g.sems), tt) } }
 
 spelled_io : (versions : ℕ) (lines : List (List (List ℕ))) (d : Draft) (len : ℕ) (words : List (List ℕ)) → Declared lines d len → Spelled versions lines d len words (codes "io")
 spelled_io versions lines d len words g r c =
-    let a = one (λ n. leb 1 n && leb n 1000000) 4 words r c in
-    record { instr = Io a.number; is = ap (λ (ws : List (List ℕ)). codes "io" ∷ ws) a.spelled; kept = record { range = in_range 1 1000000 a.number a.passes; jump = tt; name = tt } }
+    let a = one (λ n. leb 1 n && leb n MAX_IO_LENGTH) 4 words r c in
+    record { instr = Io a.number; is = ap (λ (ws : List (List ℕ)). codes "io" ∷ ws) a.spelled; kept = record { range = (in_range 1 MAX_IO_LENGTH a.number a.passes, tt); jump = (tt, tt); name = (tt, tt) } }
 
 spelled_touch : (versions : ℕ) (lines : List (List (List ℕ))) (d : Draft) (len : ℕ) (words : List (List ℕ)) → Declared lines d len → Spelled versions lines d len words (codes "touch")
 spelled_touch versions lines d len words g r c =
-    let a = one (λ n. leb 2 n && leb n 15) 4 words r c in
-    record { instr = Touch a.number; is = ap (λ (ws : List (List ℕ)). codes "touch" ∷ ws) a.spelled; kept = record { range = in_range 2 15 a.number a.passes; jump = tt; name = tt } }
+    let a = one (λ n. leb FIRST_THREAD_PAGE n && leb n LAST_PAGE) 4 words r c in
+    record { instr = Touch a.number; is = ap (λ (ws : List (List ℕ)). codes "touch" ∷ ws) a.spelled; kept = record { range = (in_range FIRST_THREAD_PAGE LAST_PAGE a.number a.passes, tt); jump = (tt, tt); name = (tt, tt) } }
 
 spelled_end : (versions : ℕ) (lines : List (List (List ℕ))) (d : Draft) (len : ℕ) (words : List (List ℕ)) → Declared lines d len → Spelled versions lines d len words (codes "end")
 spelled_end versions lines d len words g r c = record { instr = End; is = ap (λ (ws : List (List ℕ)). codes "end" ∷ ws) (no_words words c); kept = record { range = tt; jump = tt; name = tt } }
@@ -656,25 +658,25 @@ record EvictOf (count : ℕ) (words : List (List ℕ)) : Type 0 where
   spelled : words ≡ decimal eviction.event ∷ decimal eviction.space.0 ∷ decimal eviction.page ∷ []
   is : IsEviction count eviction
 
-evict_spelled : (lines : List (List (List ℕ))) (words : List (List ℕ)) (a : First (within 1 1000000) (declared (spaces_in lines) ∷ within 0 15 ∷ []) words)
-    (b : First (declared (spaces_in lines)) (within 0 15 ∷ []) a.others) (n : ℕ) → b.others ≡ decimal n ∷ []
+evict_spelled : (lines : List (List (List ℕ))) (words : List (List ℕ)) (a : First (within 1 MAX_EVENTS) (declared (spaces_in lines) ∷ within 0 LAST_PAGE ∷ []) words)
+    (b : First (declared (spaces_in lines)) (within 0 LAST_PAGE ∷ []) a.others) (n : ℕ) → b.others ≡ decimal n ∷ []
     → words ≡ decimal a.right.0 ∷ decimal b.right.0 ∷ decimal n ∷ []
 evict_spelled lines words a b n e = spelled_more _ _ words a _ _ a.right.2 (spelled_more _ _ a.others b _ _ b.right.2 e)
 
 evict_of : (lines : List (List (List ℕ))) (count : ℕ) (words : List (List ℕ)) → spaces_in lines ≡ count
-    → AreRight (within 1 1000000 ∷ declared (spaces_in lines) ∷ within 0 15 ∷ []) words → length words ≡ 3 → EvictOf count words
+    → AreRight (within 1 MAX_EVENTS ∷ declared (spaces_in lines) ∷ within 0 LAST_PAGE ∷ []) words → length words ≡ 3 → EvictOf count words
 evict_of lines count words e r c =
-    let a = first (within 1 1000000) (declared (spaces_in lines) ∷ within 0 15 ∷ []) words r in
-    let b = first (declared (spaces_in lines)) (within 0 15 ∷ []) a.others a.rest in
-    let k = one (λ n. leb 0 n && leb n 15) 4 b.others b.rest (omega (arith, c, a.long, b.long)) in
-    let event = in_range 1 1000000 a.right.0 a.right.3 in
+    let a = first (within 1 MAX_EVENTS) (declared (spaces_in lines) ∷ within 0 LAST_PAGE ∷ []) words r in
+    let b = first (declared (spaces_in lines)) (within 0 LAST_PAGE ∷ []) a.others a.rest in
+    let k = one (λ n. leb 0 n && leb n LAST_PAGE) 4 b.others b.rest (omega (arith, c, a.long, b.long)) in
+    let event = in_range 1 MAX_EVENTS a.right.0 a.right.3 in
     record {
       eviction = record { event = a.right.0; space = record { 0 = b.right.0 }; page = k.number };
       spelled = evict_spelled lines words a b k.number k.spelled;
       is = record {
         first = event.0;
         last = event.1;
-        page = (in_range 0 15 k.number k.passes).1;
+        page = (in_range 0 LAST_PAGE k.number k.passes).1;
         space = omega (arith, ltb-true b.right.0 (spaces_in lines) b.right.3, e);
       };
     }
@@ -684,7 +686,7 @@ take_evict : (versions : ℕ) (m : Machine) (spaces : List SpaceView) (es : List
 take_evict versions m spaces es words h few r o c =
     go (evict_of (shown (AtEvict m spaces es)) m.count words (spaces-at_evict m spaces es (omega (arith, h.0.count.1))) r c)
   where
-    room : (length es < 4096) ⊎ (4096 ≤ length es) → length es < 4096
+    room : (length es < MAX_EVICTIONS) ⊎ (MAX_EVICTIONS ≤ length es) → length es < MAX_EVICTIONS
     room (inl l) = l
     room (inr l) = absurd (few (inl (refl, omega (arith, count_evict-at_evict m spaces es))))
 
@@ -695,13 +697,13 @@ take_evict versions m spaces es words h few r o c =
         step_with versions (AtEvict m spaces es) (codes "evict") words
         (decimal e.eviction.event ∷ decimal e.eviction.space.0 ∷ decimal e.eviction.page ∷ [])
         (AtEvict m spaces (es ++ e.eviction ∷ [])) e.spelled h (step_evict m spaces es e.eviction)
-        (reached-evict versions m spaces es e.eviction h e.is (room (cases_lt (length es) 4096))
+        (reached-evict versions m spaces es e.eviction h e.is (room (cases_lt (length es) MAX_EVICTIONS))
         (λ d some. eviction_above versions m spaces es e.eviction h e.is order (length es - 1) d (omega arith)))
 
-room_of : (lines : List (List (List ℕ))) (n : ℕ) → count_of_word lines (codes "turn") ≡ n → ¬ IsTooMany lines (codes "turn") → n < 65536
-room_of lines n e few = pick (cases_lt n 65536)
+room_of : (lines : List (List (List ℕ))) (n : ℕ) → count_of_word lines (codes "turn") ≡ n → ¬ IsTooMany lines (codes "turn") → n < MAX_TURNS
+room_of lines n e few = pick (cases_lt n MAX_TURNS)
   where
-    pick : (n < 65536) ⊎ (65536 ≤ n) → n < 65536
+    pick : (n < MAX_TURNS) ⊎ (MAX_TURNS ≤ n) → n < MAX_TURNS
     pick (inl l) = l
     pick (inr l) = absurd (few (inr (refl, omega (arith, e))))
 

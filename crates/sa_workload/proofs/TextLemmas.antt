@@ -5,6 +5,8 @@ use Rattle.std.proofs.lemmas.List.Elements.{All-nil, All-cons, All-head, All-tai
 use Rattle.std.proofs.lemmas.List.Sums.{AllPass-from_list_all}
 use Rattle.std.proofs.lemmas.List.Folds.{flat_map-map}
 use Rattle.std.proofs.lemmas.List.Splits.{join_with_byte-slice_split}
+use Rattle.sa_base.specs.declared.limits.TheConstants.{MAX_PROCESSORS, MAX_SPACES}
+use Rattle.sa_instr.specs.declared.limits.TheConstants.{MAX_CELLS, MAX_INSTRUCTIONS, MAX_MUTEXES, MAX_PROGRAMS, MAX_SEMAPHORES, MAX_SLICE}
 use Rattle.sa_base.specs.declared.number.ProcNo.{ProcNo}
 use Rattle.sa_instr.specs.declared.instr.Reg.{Reg}
 use Rattle.sa_instr.specs.declared.instr.Reg.TheVariants.{R0, R1, R2, R3, R4, R5, R6, R7}
@@ -71,24 +73,24 @@ words_line word registers numbers t fit = (
 )
 
 -- the line of an instruction, whose numbers are as its program and its space have them
-instr-words : (len mutexes sems cells programs : ℕ) → len ≤ 4096 → mutexes ≤ 64 → sems ≤ 64 → cells ≤ 64 → programs ≤ 256
+instr-words : (len mutexes sems cells programs : ℕ) → len ≤ MAX_INSTRUCTIONS → mutexes ≤ MAX_MUTEXES → sems ≤ MAX_SEMAPHORES → cells ≤ MAX_CELLS → programs ≤ MAX_PROGRAMS
     → (i : Instr) → IsInRange i → JumpsBelow len i → NamesDeclared mutexes sems cells programs i → IsWords (instr_line i)
 instr-words len mutexes sems cells programs l m s c g Compute range jump names = words_line (codes "compute") [] [] refl tt
-instr-words len mutexes sems cells programs l m s c g (Set r n) range jump names = words_line (codes "set") (r ∷ []) (n ∷ []) refl (range, tt)
+instr-words len mutexes sems cells programs l m s c g (Set r n) range jump names = words_line (codes "set") (r ∷ []) (n ∷ []) refl (range.1.0, tt)
 instr-words len mutexes sems cells programs l m s c g (Add r q) range jump names = words_line (codes "add") (r ∷ q ∷ []) [] refl tt
 instr-words len mutexes sems cells programs l m s c g (Sub r q) range jump names = words_line (codes "sub") (r ∷ q ∷ []) [] refl tt
-instr-words len mutexes sems cells programs l m s c g (Jnz r n) range jump names = words_line (codes "jnz") (r ∷ []) (n ∷ []) refl (omega (arith, jump), tt)
-instr-words len mutexes sems cells programs l m s c g (Load r n) range jump names = words_line (codes "load") (r ∷ []) (n ∷ []) refl (omega (arith, names), tt)
-instr-words len mutexes sems cells programs l m s c g (Store r n) range jump names = words_line (codes "store") (r ∷ []) (n ∷ []) refl (omega (arith, names), tt)
+instr-words len mutexes sems cells programs l m s c g (Jnz r n) range jump names = words_line (codes "jnz") (r ∷ []) (n ∷ []) refl (omega arith, tt)
+instr-words len mutexes sems cells programs l m s c g (Load r n) range jump names = words_line (codes "load") (r ∷ []) (n ∷ []) refl (omega arith, tt)
+instr-words len mutexes sems cells programs l m s c g (Store r n) range jump names = words_line (codes "store") (r ∷ []) (n ∷ []) refl (omega arith, tt)
 instr-words len mutexes sems cells programs l m s c g (Out r) range jump names = words_line (codes "out") (r ∷ []) [] refl tt
-instr-words len mutexes sems cells programs l m s c g (Fork r n) range jump names = words_line (codes "fork") (r ∷ []) (n ∷ []) refl (omega (arith, names), tt)
+instr-words len mutexes sems cells programs l m s c g (Fork r n) range jump names = words_line (codes "fork") (r ∷ []) (n ∷ []) refl (omega arith, tt)
 instr-words len mutexes sems cells programs l m s c g (Join r) range jump names = words_line (codes "join") (r ∷ []) [] refl tt
-instr-words len mutexes sems cells programs l m s c g (Lock n) range jump names = words_line (codes "lock") [] (n ∷ []) refl (omega (arith, names), tt)
-instr-words len mutexes sems cells programs l m s c g (Unlock n) range jump names = words_line (codes "unlock") [] (n ∷ []) refl (omega (arith, names), tt)
-instr-words len mutexes sems cells programs l m s c g (Wait n) range jump names = words_line (codes "wait") [] (n ∷ []) refl (omega (arith, names), tt)
-instr-words len mutexes sems cells programs l m s c g (Signal n) range jump names = words_line (codes "signal") [] (n ∷ []) refl (omega (arith, names), tt)
-instr-words len mutexes sems cells programs l m s c g (Io n) range jump names = words_line (codes "io") [] (n ∷ []) refl (omega (arith, range.1), tt)
-instr-words len mutexes sems cells programs l m s c g (Touch n) range jump names = words_line (codes "touch") [] (n ∷ []) refl (omega (arith, range.1), tt)
+instr-words len mutexes sems cells programs l m s c g (Lock n) range jump names = words_line (codes "lock") [] (n ∷ []) refl (omega arith, tt)
+instr-words len mutexes sems cells programs l m s c g (Unlock n) range jump names = words_line (codes "unlock") [] (n ∷ []) refl (omega arith, tt)
+instr-words len mutexes sems cells programs l m s c g (Wait n) range jump names = words_line (codes "wait") [] (n ∷ []) refl (omega arith, tt)
+instr-words len mutexes sems cells programs l m s c g (Signal n) range jump names = words_line (codes "signal") [] (n ∷ []) refl (omega arith, tt)
+instr-words len mutexes sems cells programs l m s c g (Io n) range jump names = words_line (codes "io") [] (n ∷ []) refl (omega arith, tt)
+instr-words len mutexes sems cells programs l m s c g (Touch n) range jump names = words_line (codes "touch") [] (n ∷ []) refl (omega arith, tt)
 instr-words len mutexes sems cells programs l m s c g End range jump names = words_line (codes "end") [] [] refl tt
 
 -- what holds of all the parts holds of all that is made of them
@@ -97,7 +99,7 @@ All-flat_map P f [] h = All-nil P
 All-flat_map P f (x ∷ xs) h =
     All-append P (f x) (flat_map f xs) (All-head (λ x. All P (f x)) x xs h) (All-flat_map P f xs (All-tail (λ x. All P (f x)) x xs h))
 
-program-words : (mutexes sems cells programs : ℕ) → mutexes ≤ 64 → sems ≤ 64 → cells ≤ 64 → programs ≤ 256
+program-words : (mutexes sems cells programs : ℕ) → mutexes ≤ MAX_MUTEXES → sems ≤ MAX_SEMAPHORES → cells ≤ MAX_CELLS → programs ≤ MAX_PROGRAMS
     → (p : List Instr) → IsProgram p → All (NamesDeclared mutexes sems cells programs) p → All IsWords (program_lines p)
 program-words mutexes sems cells programs m s c g p is names =
     All-cons IsWords (codes "program" ∷ decimal (length p) ∷ []) (map instr_line p)
@@ -154,7 +156,7 @@ version-fits true true = omega arith
 version-fits true false = omega arith
 version-fits false c = omega arith
 
-slice-words : (b : Bool) (slice : ℕ) → slice ≤ 1000000 → All IsWords (cond b [] ((codes "slice" ∷ decimal slice ∷ []) ∷ []))
+slice-words : (b : Bool) (slice : ℕ) → slice ≤ MAX_SLICE → All IsWords (cond b [] ((codes "slice" ∷ decimal slice ∷ []) ∷ []))
 slice-words true slice h = All-nil IsWords
 slice-words false slice h = All-cons IsWords (codes "slice" ∷ decimal slice ∷ []) [] (words_line (codes "slice") [] (slice ∷ []) refl (omega (arith, h), tt)) (All-nil IsWords)
 
@@ -175,12 +177,12 @@ machine-words w is =
     (All-append IsWords slice (spaces ∷ []) (slice-words (eqb (version_of w) 1) w.slice is.slice)
     (All-cons IsWords spaces [] (words_line (codes "spaces") [] (length w.spaces ∷ []) refl (omega (arith, is.few_spaces), tt)) (All-nil IsWords)))))
 
-evict-words : (spaces : ℕ) (e : Evict) → spaces ≤ 16 → IsEviction spaces e → IsWords (evict_line e)
+evict-words : (spaces : ℕ) (e : Evict) → spaces ≤ MAX_SPACES → IsEviction spaces e → IsWords (evict_line e)
 evict-words spaces e few is =
     words_line (codes "evict") [] (e.event ∷ e.space.0 ∷ e.page ∷ []) refl
     (omega (arith, is.last), (omega (arith, is.space), (omega (arith, is.page), tt)))
 
-turn-words : (processors : ℕ) (p : ProcNo) → processors ≤ 16 → p.0 < processors → IsWords (turn_line p)
+turn-words : (processors : ℕ) (p : ProcNo) → processors ≤ MAX_PROCESSORS → p.0 < processors → IsWords (turn_line p)
 turn-words processors p few below = words_line (codes "turn") [] (p.0 ∷ []) refl (omega (arith, below), tt)
 
 closing-words : (w : WorkloadView) → IsWorkload w → All IsWords (closing_lines w)

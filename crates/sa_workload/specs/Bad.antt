@@ -5,6 +5,8 @@ use Rattle.std.specs.Map.{lookup}
 use Rattle.std.specs.Str.Parse.{digits_value}
 use Rattle.std.specs.List.{list_all}
 use Rattle.std.specs.Str.{bytes_eq}
+use Rattle.sa_base.specs.declared.limits.TheConstants.{FIRST_THREAD_PAGE, MAX_EVENTS, MAX_PROCESSORS, MAX_SPACES}
+use Rattle.sa_instr.specs.declared.limits.TheConstants.{LAST_PAGE, MAX_CELLS, MAX_EVICTIONS, MAX_FETCH, MAX_INSTRUCTIONS, MAX_IO_LENGTH, MAX_MUTEXES, MAX_PATIENCE, MAX_PRIORITY, MAX_PROGRAMS, MAX_SEMAPHORES, MAX_SLICE, MAX_START, MAX_TURNS}
 use Rattle.sa_instr.specs.Workload.{WorkloadView, IsWorkload}
 use Rattle.sa_text.specs.LineText.{LineText, line_texts}
 use Rattle.sa_text.specs.Pieces.{pieces_of}
@@ -75,7 +77,7 @@ count_of_word lines word = count_by (λ line. bytes_eq (first_word line) word) l
 -- an evict or turn line more than there may be
 abbrev pub IsTooMany : List (List (List ℕ)) → List ℕ → Type 0
 IsTooMany lines word =
-    ((word ≡ codes "evict") × (4096 ≤ count_of_word lines word)) ⊎ ((word ≡ codes "turn") × (65536 ≤ count_of_word lines word))
+    ((word ≡ codes "evict") × (MAX_EVICTIONS ≤ count_of_word lines word)) ⊎ ((word ≡ codes "turn") × (MAX_TURNS ≤ count_of_word lines word))
 
 -- What stands behind the first word: a register, or a number below 2 ^ 64 that passes a test, else it is refused with a cause.
 pub data Field : Type 0 where
@@ -131,21 +133,21 @@ needs_patience lines =
 
 -- in version 3 a space line has its patience, which is at least 2 in the last one where each before it has 1
 abbrev pub patience_field : List (List (List ℕ)) → List Field
-patience_field lines = if version_in lines == 3 then within (if needs_patience lines then 2 else 1) 1000 ∷ [] else []
+patience_field lines = if version_in lines == 3 then within (if needs_patience lines then 2 else 1) MAX_PATIENCE ∷ [] else []
 
 -- each first word with what stands behind it
 abbrev pub line_forms : ℕ → List (List (List ℕ)) → List (List ℕ × List Field)
 line_forms versions lines =
     (codes "workload", within 1 versions ∷ [])
-    ∷ (codes "processors", within 1 16 ∷ [])
-    ∷ (codes "fetch", within 1 1000 ∷ [])
-    ∷ (codes "slice", within (if version_in lines == 3 then 0 else 1) 1000000 ∷ [])
-    ∷ (codes "spaces", within 1 16 ∷ [])
-    ∷ (codes "space", within 0 7 ∷ within 0 64 ∷ within 0 64 ∷ within 0 64 ∷ within 1 256 ∷ patience_field lines)
-    ∷ (codes "sem", within 0 1000000 ∷ [])
-    ∷ (codes "absent", within 0 15 ∷ [])
-    ∷ (codes "program", within 1 4096 ∷ [])
-    ∷ (codes "evict", within 1 1000000 ∷ declared (spaces_in lines) ∷ within 0 15 ∷ [])
+    ∷ (codes "processors", within 1 MAX_PROCESSORS ∷ [])
+    ∷ (codes "fetch", within 1 MAX_FETCH ∷ [])
+    ∷ (codes "slice", within (if version_in lines == 3 then 0 else 1) MAX_SLICE ∷ [])
+    ∷ (codes "spaces", within 1 MAX_SPACES ∷ [])
+    ∷ (codes "space", within 0 MAX_PRIORITY ∷ within 0 MAX_MUTEXES ∷ within 0 MAX_SEMAPHORES ∷ within 0 MAX_CELLS ∷ within 1 MAX_PROGRAMS ∷ patience_field lines)
+    ∷ (codes "sem", within 0 MAX_START ∷ [])
+    ∷ (codes "absent", within 0 LAST_PAGE ∷ [])
+    ∷ (codes "program", within 1 MAX_INSTRUCTIONS ∷ [])
+    ∷ (codes "evict", within 1 MAX_EVENTS ∷ declared (spaces_in lines) ∷ within 0 LAST_PAGE ∷ [])
     ∷ (codes "turn", within 0 (processors_in lines - 1) ∷ [])
     ∷ (codes "compute", [])
     ∷ (codes "set", Register ∷ within 0 (2 ^ 64 - 1) ∷ [])
@@ -161,8 +163,8 @@ line_forms versions lines =
     ∷ (codes "unlock", declared (mutexes_in lines) ∷ [])
     ∷ (codes "wait", declared (sems_in lines) ∷ [])
     ∷ (codes "signal", declared (sems_in lines) ∷ [])
-    ∷ (codes "io", within 1 1000000 ∷ [])
-    ∷ (codes "touch", within 2 15 ∷ [])
+    ∷ (codes "io", within 1 MAX_IO_LENGTH ∷ [])
+    ∷ (codes "touch", within FIRST_THREAD_PAGE LAST_PAGE ∷ [])
     ∷ []
 
 -- what stands behind a first word; `end` and `close` have nothing

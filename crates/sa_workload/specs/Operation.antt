@@ -1,5 +1,7 @@
 -- The operations of instructions: their words, and what stands behind these. Private functions of the reader cite this.
 use Rattle.std.specs.Prelude.{◌≡◌, ◌⊎◌, ℕ, ◌^◌, ◌-◌, ◌≤◌, List, [], ◌∷◌, Contains, codes}
+use Rattle.sa_base.specs.declared.limits.TheConstants.{FIRST_THREAD_PAGE}
+use Rattle.sa_instr.specs.declared.limits.TheConstants.{LAST_PAGE, MAX_CELLS, MAX_INSTRUCTIONS, MAX_IO_LENGTH, MAX_MUTEXES, MAX_PROGRAMS, MAX_SEMAPHORES}
 use Rattle.sa_instr.specs.declared.instr.Instr.{Instr}
 use Rattle.sa_instr.specs.Instr.{IsInRange, JumpsBelow, NamesDeclared}
 use Rattle.sa_workload.specs.declared.operations.Operation.{Operation}
@@ -50,8 +52,8 @@ operands_of d len Lock = declared d.mutexes ∷ []
 operands_of d len Unlock = declared d.mutexes ∷ []
 operands_of d len Wait = declared d.sem_count ∷ []
 operands_of d len Signal = declared d.sem_count ∷ []
-operands_of d len Io = within 1 1000000 ∷ []
-operands_of d len Touch = within 2 15 ∷ []
+operands_of d len Io = within 1 MAX_IO_LENGTH ∷ []
+operands_of d len Touch = within FIRST_THREAD_PAGE LAST_PAGE ∷ []
 operands_of d len End = []
 operands_of d len (OnRegister operation) = Register ∷ behind_register d len operation
 
@@ -69,8 +71,8 @@ IsOperationRefused d len (word ∷ words) why =
 
 -- the limits of what a space declares, and of a program's length
 pub record HasLimits (d : Draft) (len : ℕ) : Type 0 where
-  pub mutexes : d.mutexes ≤ 64
-  pub sem_count : d.sem_count ≤ 64
-  pub cells : d.cells ≤ 64
-  pub program_count : d.program_count ≤ 256
-  pub short : len ≤ 4096
+  pub mutexes : d.mutexes ≤ MAX_MUTEXES
+  pub sem_count : d.sem_count ≤ MAX_SEMAPHORES
+  pub cells : d.cells ≤ MAX_CELLS
+  pub program_count : d.program_count ≤ MAX_PROGRAMS
+  pub short : len ≤ MAX_INSTRUCTIONS

@@ -2,6 +2,8 @@
 use Rattle.std.specs.Prelude.{◌≡◌, ◌≢◌, ◌⊎◌, ℕ, ◌+◌, ◌<◌, ◌≤◌, ◌==◌, ⊤, if◌then◌else◌, List, [], ◌∷◌, ◌++◌, length, map, All, codes, decimal}
 use Rattle.std.specs.List.{flat_map, AllAdjacentBelow}
 use Rattle.std.specs.List.Sorted.{IsStrictlyIncreasing}
+use Rattle.sa_base.specs.declared.limits.TheConstants.{MAX_PROCESSORS, MAX_SPACES}
+use Rattle.sa_instr.specs.declared.limits.TheConstants.{LAST_PAGE, MAX_CELLS, MAX_EVICTIONS, MAX_FETCH, MAX_INSTRUCTIONS, MAX_MUTEXES, MAX_PATIENCE, MAX_PRIORITY, MAX_PROGRAMS, MAX_SEMAPHORES, MAX_SLICE, MAX_START, MAX_TURNS}
 use Rattle.sa_base.specs.declared.number.ProcNo.{ProcNo}
 use Rattle.sa_instr.specs.declared.instr.Instr.{Instr}
 use Rattle.sa_instr.specs.declared.workload.Evict.{Evict}
@@ -96,14 +98,14 @@ shown (Closed w) = workload_lines w
 -- the version is one that is read, and the slice one that it can have
 abbrev pub CanSlice : ℕ → ℕ → Type 0
 CanSlice version slice =
-    ((version ≡ 1) × (slice ≡ 0)) ⊎ (((version ≡ 2) × (1 ≤ slice) × (slice ≤ 1000000)) ⊎ ((version ≡ 3) × (slice ≤ 1000000)))
+    ((version ≡ 1) × (slice ≡ 0)) ⊎ (((version ≡ 2) × (1 ≤ slice) × (slice ≤ MAX_SLICE)) ⊎ ((version ≡ 3) × (slice ≤ MAX_SLICE)))
 
 pub record IsMachine (versions : ℕ) (m : Machine) : Type 0 where
   pub version : m.version ≤ versions
-  pub processors : (1 ≤ m.processors) × (m.processors ≤ 16)
-  pub fetch : (1 ≤ m.fetch) × (m.fetch ≤ 1000)
+  pub processors : (1 ≤ m.processors) × (m.processors ≤ MAX_PROCESSORS)
+  pub fetch : (1 ≤ m.fetch) × (m.fetch ≤ MAX_FETCH)
   pub slice : CanSlice m.version m.slice
-  pub count : (1 ≤ m.count) × (m.count ≤ 16)
+  pub count : (1 ≤ m.count) × (m.count ≤ MAX_SPACES)
 
 -- all spaces so far are spaces; before version 3 their patience is 1, and in it not all of them have patience 1 where they are all
 pub record AreSpaces (m : Machine) (spaces : List SpaceView) : Type 0 where
@@ -115,17 +117,17 @@ pub record AreSpaces (m : Machine) (spaces : List SpaceView) : Type 0 where
 -- the first line of the space, and the lines that came behind it
 pub record IsDraft (m : Machine) (spaces : List SpaceView) (d : Draft) : Type 0 where
   pub room : length spaces < m.count
-  pub priority : d.priority ≤ 7
-  pub mutexes : d.mutexes ≤ 64
-  pub sem_count : d.sem_count ≤ 64
-  pub cells : d.cells ≤ 64
-  pub program_count : (1 ≤ d.program_count) × (d.program_count ≤ 256)
-  pub patience : (1 ≤ d.patience) × (d.patience ≤ 1000)
+  pub priority : d.priority ≤ MAX_PRIORITY
+  pub mutexes : d.mutexes ≤ MAX_MUTEXES
+  pub sem_count : d.sem_count ≤ MAX_SEMAPHORES
+  pub cells : d.cells ≤ MAX_CELLS
+  pub program_count : (1 ≤ d.program_count) × (d.program_count ≤ MAX_PROGRAMS)
+  pub patience : (1 ≤ d.patience) × (d.patience ≤ MAX_PATIENCE)
   pub patient : m.version ≢ 3 → d.patience ≡ 1
   pub own : m.version ≡ 3 → length spaces + 1 ≡ m.count → All (λ (s : SpaceView). s.patience ≡ 1) spaces → d.patience ≢ 1
   pub sems : length d.sems ≤ d.sem_count
-  pub starts : All (λ start. start ≤ 1000000) d.sems
-  pub pages : All (λ page. page ≤ 15) d.absent
+  pub starts : All (λ start. start ≤ MAX_START) d.sems
+  pub pages : All (λ page. page ≤ LAST_PAGE) d.absent
   pub absent_rise : IsStrictlyIncreasing d.absent
   pub programs : length d.programs ≤ d.program_count
   pub each : All IsProgram d.programs
@@ -133,30 +135,30 @@ pub record IsDraft (m : Machine) (spaces : List SpaceView) (d : Draft) : Type 0 
 
 -- the program so far: at least one instruction is to come
 pub record IsBegun (d : Draft) (len : ℕ) (instrs : List Instr) : Type 0 where
-  pub short : (1 ≤ len) × (len ≤ 4096)
+  pub short : (1 ≤ len) × (len ≤ MAX_INSTRUCTIONS)
   pub room : length instrs < len
   pub ranges : All IsInRange instrs
   pub jumps : All (JumpsBelow len) instrs
   pub names : All (NamesDeclared d.mutexes d.sem_count d.cells d.program_count) instrs
 
 pub record AreEvictions (m : Machine) (evictions : List Evict) : Type 0 where
-  pub few : length evictions ≤ 4096
+  pub few : length evictions ≤ MAX_EVICTIONS
   pub each : All (IsEviction m.count) evictions
   pub rise : AllAdjacentBelow IsBefore evictions (length evictions)
 
 pub record AreTurns (m : Machine) (turns : List ProcNo) : Type 0 where
-  pub few : length turns ≤ 65536
+  pub few : length turns ≤ MAX_TURNS
   pub each : All (λ (p : ProcNo). p.0 < m.processors) turns
 
 -- what a reader that has refused no line keeps, where texts of so many versions are read
 abbrev pub IsReached : ℕ → Position → Type 0
 IsReached versions AtVersion = ⊤
 IsReached versions (AtProcessors version) = (1 ≤ version) × (version ≤ versions)
-IsReached versions (AtFetch version processors) = (1 ≤ version) × (version ≤ versions) × (1 ≤ processors) × (processors ≤ 16)
+IsReached versions (AtFetch version processors) = (1 ≤ version) × (version ≤ versions) × (1 ≤ processors) × (processors ≤ MAX_PROCESSORS)
 IsReached versions (AtSlice version processors fetch) =
-    (2 ≤ version) × (version ≤ versions) × (1 ≤ processors) × (processors ≤ 16) × (1 ≤ fetch) × (fetch ≤ 1000)
+    (2 ≤ version) × (version ≤ versions) × (1 ≤ processors) × (processors ≤ MAX_PROCESSORS) × (1 ≤ fetch) × (fetch ≤ MAX_FETCH)
 IsReached versions (AtSpaces version processors fetch slice) =
-    (version ≤ versions) × (1 ≤ processors) × (processors ≤ 16) × (1 ≤ fetch) × (fetch ≤ 1000) × CanSlice version slice
+    (version ≤ versions) × (1 ≤ processors) × (processors ≤ MAX_PROCESSORS) × (1 ≤ fetch) × (fetch ≤ MAX_FETCH) × CanSlice version slice
 IsReached versions (AtSpace m spaces) = IsMachine versions m × AreSpaces m spaces × (length spaces < m.count)
 IsReached versions (AtSem m spaces d) =
     IsMachine versions m × AreSpaces m spaces × IsDraft m spaces d × (length d.sems < d.sem_count) × (d.absent ≡ []) × (d.programs ≡ [])

@@ -3,6 +3,9 @@ use Rattle.std.specs.Prelude.{◌≡◌, ◌≢◌, ◌⊎◌, ℕ, ◌+◌, ◌
 use Rattle.std.specs.Map.{lookup}
 use Rattle.std.specs.List.{list_all}
 use Rattle.std.specs.Str.{bytes_eq}
+use Rattle.sa_base.specs.declared.limits.TheConstants.{FIRST_THREAD_PAGE, MAX_EVENTS, MAX_PROCESSORS, MAX_SPACES}
+use Rattle.sa_instr.specs.declared.limits.TheConstants.{LAST_PAGE, MAX_CELLS, MAX_EVICTIONS, MAX_FETCH, MAX_INSTRUCTIONS, MAX_IO_LENGTH, MAX_MUTEXES, MAX_PATIENCE, MAX_PRIORITY, MAX_PROGRAMS, MAX_SEMAPHORES, MAX_SLICE, MAX_START, MAX_TURNS}
+use Rattle.sa_base.specs.Cause.{cause_number}
 use Rattle.sa_base.specs.declared.number.ProcNo.{ProcNo}
 use Rattle.sa_base.specs.declared.refusal.Unread.{Unread}
 use Rattle.sa_base.specs.declared.refusal.Unread.TheVariants.{Bad as refused, OutOfMemory as memory}
@@ -13,25 +16,11 @@ use Rattle.sa_instr.specs.Space.{SpaceView}
 use Rattle.sa_instr.specs.Workload.{IsEviction, IsBefore}
 use Rattle.sa_text.specs.LineText.{LineText}
 use Rattle.sa_text.specs.Pieces.{pieces_of}
-use Rattle.sa_workload.specs.declared.cause.Cause.{Cause}
-use Rattle.sa_workload.specs.declared.cause.Cause.TheVariants.{NotAscii, BadWord, BadNumber, OutOfRange, Twice, NoSuchName, BadTarget, TooMany, Missing}
 use Rattle.sa_workload.specs.declared.cause.Refusal.{Refusal}
 use Rattle.sa_workload.specs.declared.cause.Refusal.TheVariants.{Because, OutOfMemory}
 use Rattle.sa_workload.specs.Text.{instr_line}
 use Rattle.sa_workload.specs.Bad.{Field, Register, Number, within, declared, instr_words, IsWrongFor, IsFirstWrong, AreRight, IsPrinted}
 use Rattle.sa_workload.specs.Position.{Machine, Draft, Position, AtVersion, AtProcessors, AtFetch, AtSlice, AtSpaces, AtSpace, AtSem, AtAbsent, AtProgram, AtInstr, AtEvict, AtTurn, Closed}
-
--- the number of a cause
-abbrev pub cause_number : Cause → ℕ
-cause_number NotAscii = 1
-cause_number BadWord = 2
-cause_number BadNumber = 3
-cause_number OutOfRange = 4
-cause_number Twice = 5
-cause_number NoSuchName = 6
-cause_number BadTarget = 7
-cause_number TooMany = 8
-cause_number Missing = 9
 
 -- where a line is wrong, its cause is such a one
 abbrev pub IfBecause : Refusal → (ℕ → Type 0) → Type 0
@@ -64,11 +53,11 @@ is_last_impatient m spaces =
     nat_le m.count (length spaces + 1) && list_all (λ (s : SpaceView). s.patience == 1) spaces
 
 abbrev pub patience_fields : Machine → List SpaceView → List Field
-patience_fields m spaces = if m.version == 3 then within (if is_last_impatient m spaces then 2 else 1) 1000 ∷ [] else []
+patience_fields m spaces = if m.version == 3 then within (if is_last_impatient m spaces then 2 else 1) MAX_PATIENCE ∷ [] else []
 
 abbrev pub space_fields : Machine → List SpaceView → List Field
 space_fields m spaces =
-    within 0 7 ∷ within 0 64 ∷ within 0 64 ∷ within 0 64 ∷ within 1 256 ∷ patience_fields m spaces
+    within 0 MAX_PRIORITY ∷ within 0 MAX_MUTEXES ∷ within 0 MAX_SEMAPHORES ∷ within 0 MAX_CELLS ∷ within 1 MAX_PROGRAMS ∷ patience_fields m spaces
 
 -- a page is not behind the last: equal, why 5, or below it, why 4
 abbrev pub IsPageMisplaced : Option ℕ → ℕ → ℕ → Type 0
@@ -87,7 +76,7 @@ pub record IsAbsentRefused (pages : List ℕ) (words : List (List ℕ)) (why : �
   pub page : ℕ
   pub others : List (List ℕ)
   pub words_are : words ≡ decimal page ∷ others
-  pub range : page ≤ 15
+  pub range : page ≤ LAST_PAGE
   pub cause : IsPageMisplaced (last_of pages) page why ⊎ (IsPagePlaced (last_of pages) page × (others ≢ []) × (why ≡ 2))
 
 abbrev pub IsEvictMisplaced : Option Evict → Evict → ℕ → Type 0
@@ -99,7 +88,7 @@ IsEvictPlaced None e = ⊤
 IsEvictPlaced (Some last) e = IsBefore last e
 
 abbrev pub evict_fields : ℕ → List Field
-evict_fields count = within 1 1000000 ∷ declared count ∷ within 0 15 ∷ []
+evict_fields count = within 1 MAX_EVENTS ∷ declared count ∷ within 0 LAST_PAGE ∷ []
 
 -- an eviction whose numbers are right, likewise
 pub record IsEvictRefused (count : ℕ) (evictions : List Evict) (words : List (List ℕ)) (why : ℕ) : Type 0 where
@@ -127,8 +116,8 @@ instr_forms d len =
     ∷ (codes "unlock", declared d.mutexes ∷ [])
     ∷ (codes "wait", declared d.sem_count ∷ [])
     ∷ (codes "signal", declared d.sem_count ∷ [])
-    ∷ (codes "io", within 1 1000000 ∷ [])
-    ∷ (codes "touch", within 2 15 ∷ [])
+    ∷ (codes "io", within 1 MAX_IO_LENGTH ∷ [])
+    ∷ (codes "touch", within FIRST_THREAD_PAGE LAST_PAGE ∷ [])
     ∷ []
 
 abbrev pub instr_fields : Draft → ℕ → List ℕ → List Field
@@ -148,19 +137,19 @@ abbrev pub IsAbsentOrProgramRefused : List ℕ → List (List ℕ) → ℕ → T
 IsAbsentOrProgramRefused pages [] why = why ≡ 2
 IsAbsentOrProgramRefused pages (word ∷ words) why =
     ((word ≢ codes "absent") × (word ≢ codes "program") × (why ≡ 2))
-    ⊎ (((word ≡ codes "absent") × (IsFirstWrong (within 0 15 ∷ []) words why ⊎ IsAbsentRefused pages words why))
-    ⊎ ((word ≡ codes "program") × IsRefusedBehind (within 1 4096 ∷ []) words why))
+    ⊎ (((word ≡ codes "absent") × (IsFirstWrong (within 0 LAST_PAGE ∷ []) words why ⊎ IsAbsentRefused pages words why))
+    ⊎ ((word ≡ codes "program") × IsRefusedBehind (within 1 MAX_INSTRUCTIONS ∷ []) words why))
 
 -- what is wrong behind `evict`, and behind `turn`, where so many came before
 abbrev pub IsRefusedBehindEvict : Machine → List Evict → List (List ℕ) → ℕ → Type 0
 IsRefusedBehindEvict m evictions words why =
-    ((4096 ≤ length evictions) × (why ≡ 8))
-    ⊎ ((length evictions < 4096) × (IsFirstWrong (evict_fields m.count) words why ⊎ IsEvictRefused m.count evictions words why))
+    ((MAX_EVICTIONS ≤ length evictions) × (why ≡ 8))
+    ⊎ ((length evictions < MAX_EVICTIONS) × (IsFirstWrong (evict_fields m.count) words why ⊎ IsEvictRefused m.count evictions words why))
 
 abbrev pub IsRefusedBehindTurn : Machine → List ProcNo → List (List ℕ) → ℕ → Type 0
 IsRefusedBehindTurn m turns words why =
-    ((65536 ≤ length turns) × (why ≡ 8))
-    ⊎ ((length turns < 65536) × IsRefusedBehind (within 0 (m.processors - 1) ∷ []) words why)
+    ((MAX_TURNS ≤ length turns) × (why ≡ 8))
+    ⊎ ((length turns < MAX_TURNS) × IsRefusedBehind (within 0 (m.processors - 1) ∷ []) words why)
 
 abbrev pub IsEvictOrTurnRefused : Machine → List Evict → List (List ℕ) → ℕ → Type 0
 IsEvictOrTurnRefused m evictions [] why = why ≡ 2
@@ -180,14 +169,14 @@ IsTurnOrCloseRefused m turns (word ∷ words) why =
 -- the words are no line that may come at the position, and this is the first cause
 abbrev pub IsRefused : ℕ → Position → List (List ℕ) → ℕ → Type 0
 IsRefused versions AtVersion words why = IsLineRefused (codes "workload") (within 1 versions ∷ []) words why
-IsRefused versions (AtProcessors v) words why = IsLineRefused (codes "processors") (within 1 16 ∷ []) words why
-IsRefused versions (AtFetch v n) words why = IsLineRefused (codes "fetch") (within 1 1000 ∷ []) words why
-IsRefused versions (AtSlice v n f) words why = IsLineRefused (codes "slice") (within (if v == 3 then 0 else 1) 1000000 ∷ []) words why
-IsRefused versions (AtSpaces v n f s) words why = IsLineRefused (codes "spaces") (within 1 16 ∷ []) words why
+IsRefused versions (AtProcessors v) words why = IsLineRefused (codes "processors") (within 1 MAX_PROCESSORS ∷ []) words why
+IsRefused versions (AtFetch v n) words why = IsLineRefused (codes "fetch") (within 1 MAX_FETCH ∷ []) words why
+IsRefused versions (AtSlice v n f) words why = IsLineRefused (codes "slice") (within (if v == 3 then 0 else 1) MAX_SLICE ∷ []) words why
+IsRefused versions (AtSpaces v n f s) words why = IsLineRefused (codes "spaces") (within 1 MAX_SPACES ∷ []) words why
 IsRefused versions (AtSpace m spaces) words why = IsLineRefused (codes "space") (space_fields m spaces) words why
-IsRefused versions (AtSem m spaces d) words why = IsLineRefused (codes "sem") (within 0 1000000 ∷ []) words why
+IsRefused versions (AtSem m spaces d) words why = IsLineRefused (codes "sem") (within 0 MAX_START ∷ []) words why
 IsRefused versions (AtAbsent m spaces d) words why = IsAbsentOrProgramRefused d.absent words why
-IsRefused versions (AtProgram m spaces d) words why = IsLineRefused (codes "program") (within 1 4096 ∷ []) words why
+IsRefused versions (AtProgram m spaces d) words why = IsLineRefused (codes "program") (within 1 MAX_INSTRUCTIONS ∷ []) words why
 IsRefused versions (AtInstr m spaces d len instrs) words why = IsInstrRefused d len (length instrs + 1 == len) words why
 IsRefused versions (AtEvict m spaces evictions) words why = IsEvictOrTurnRefused m evictions words why
 IsRefused versions (AtTurn m spaces evictions turns) words why = IsTurnOrCloseRefused m turns words why

@@ -1,5 +1,6 @@
 -- What a reader's stage says, as a position. Private functions of the reader cite this; no public clause does.
 use Rattle.std.specs.Prelude.{◌≡◌, ◌≢◌, ℕ, ◌≤◌, true, List}
+use Rattle.sa_instr.specs.declared.limits.TheConstants.{MAX_CELLS, MAX_FETCH, MAX_MUTEXES, MAX_PRIORITY, MAX_PROGRAMS, MAX_SEMAPHORES}
 use Rattle.sa_workload.specs.declared.stage.Header.{Header}
 use Rattle.sa_workload.specs.declared.stage.SpaceDraft.{SpaceDraft}
 use Rattle.sa_workload.specs.declared.stage.MachineStage.{MachineStage}
@@ -52,18 +53,18 @@ pub record IsNext (p : Position) (line : List (List ℕ)) (q : Position) : Type 
 
 -- a space that comes behind these may have this patience: 1 before version 3, and in it not 1 in the last where each before has 1
 pub record IsPatience (m : Machine) (spaces : List SpaceView) (n : ℕ) : Type 0 where
-  pub range : (1 ≤ n) × (n ≤ 1000)
+  pub range : (1 ≤ n) × (n ≤ MAX_FETCH)
   pub patient : m.version ≢ 3 → n ≡ 1
   pub own : m.version ≡ 3 → is_last_impatient m spaces ≡ true → n ≢ 1
 
 -- what the numbers of the first line of a space keep to, where nothing stands behind it yet
 pub record IsSpaceStart (m : Machine) (spaces : List SpaceView) (d : Draft) : Type 0 where
   pub fresh : IsFresh d
-  pub priority : d.priority ≤ 7
-  pub mutexes : d.mutexes ≤ 64
-  pub sem_count : d.sem_count ≤ 64
-  pub cells : d.cells ≤ 64
-  pub program_count : (1 ≤ d.program_count) × (d.program_count ≤ 256)
+  pub priority : d.priority ≤ MAX_PRIORITY
+  pub mutexes : d.mutexes ≤ MAX_MUTEXES
+  pub sem_count : d.sem_count ≤ MAX_SEMAPHORES
+  pub cells : d.cells ≤ MAX_CELLS
+  pub program_count : (1 ≤ d.program_count) × (d.program_count ≤ MAX_PROGRAMS)
   pub patience : IsPatience m spaces d.patience
 
 -- what a reader of some version keeps

@@ -4,22 +4,17 @@ ghost use Rattle.sa_base.specs.declared.number.ProcNo.{ProcNo};
 ghost use Rattle.sa_instr.specs.Workload.{IsBefore, IsEviction, IsWorkload};
 ghost use Rattle.sa_workload.specs.Bad.{IsFirstWrong};
 ghost use Rattle.sa_workload.specs.Position.{AtEvict, AtTurn, Closed};
-ghost use Rattle.sa_workload.specs.Refused.{cause_number, IfBecause, last_of, evict_fields, IsEvictPlaced, IsEvictMisplaced, IsRefusedBehind, IsRefusedBehindEvict, IsRefusedBehindTurn, IsRefused};
+ghost use Rattle.sa_base.specs.Cause.{cause_number};
+ghost use Rattle.sa_workload.specs.Refused.{IfBecause, last_of, evict_fields, IsEvictPlaced, IsEvictMisplaced, IsRefusedBehind, IsRefusedBehindEvict, IsRefusedBehindTurn, IsRefused};
 ghost use Rattle.sa_workload.specs.Stage.{machine_of, position_of, IsNext, IsSound};
 ghost use Rattle.sa_workload.specs.Steps.{workload};
 
-use crate::cause::{Cause, Refusal};
+use crate::cause::Refusal;
 use crate::line_words::{Words, last_number};
 use crate::stage::{Header, Stage};
-use sa_base::{ProcNo, SpaceNo};
-use sa_instr::{Evict, SpaceDef, Workload};
+use sa_base::{Cause, MAX_EVENTS, ProcNo, SpaceNo};
+use sa_instr::{Evict, LAST_PAGE, MAX_EVICTIONS, MAX_TURNS, SpaceDef, Workload};
 use std::alloc::Global;
-
-/// The greatest number of evictions.
-const MAX_EVICTIONS: usize = 4_096;
-
-/// The greatest number of turns.
-const MAX_TURNS: usize = 65_536;
 
 /// `evict E S K`, the first `turn P`, or `close`.
 pub(crate) fn read_evict_or_turn(
@@ -89,9 +84,9 @@ fn evict_of(spaces: u16, words: &mut Words) -> Result<Evict, Cause>
         (λ e. (words.old ≡ decimal e.event ∷ decimal e.space.0 ∷ decimal e.page ∷ words.new) × IsEviction spaces e)
         (λ cause. IsFirstWrong (evict_fields spaces) words.old (cause_number cause)) }
 {
-    let event = words.within(1, 1_000_000)?;
+    let event = words.within(1, MAX_EVENTS)?;
     let space = words.declared(spaces)?;
-    let page = words.within(0, 15)?;
+    let page = words.within(0, LAST_PAGE as u64)?;
     Ok(Evict {
         event,
         space: SpaceNo(space),
@@ -135,7 +130,7 @@ fn read_turn(
 ) -> Result<Stage, Refusal>
     requires { 1 ≤ header.processors }
     ensures { MatchResult result
-        (λ stage. (p : ProcNo) × (words.entry ≡ decimal p.0 ∷ []) × (p.0 < header.processors) × (length turns.items < 65536)
+        (λ stage. (p : ProcNo) × (words.entry ≡ decimal p.0 ∷ []) × (p.0 < header.processors) × (length turns.items < MAX_TURNS)
         × (position_of stage ≡ AtTurn (machine_of header) spaces.items evictions.items (turns.items ++ p ∷ [])))
         (λ refusal. IfBecause refusal (IsRefusedBehindTurn (machine_of header) turns.items words.entry)) }
 {

@@ -4,15 +4,17 @@ ghost use Rattle.sa_instr.specs.Program.{IsProgram};
 ghost use Rattle.sa_instr.specs.Space.{IsSpace};
 ghost use Rattle.sa_workload.specs.Operation.{IsAllowed, HasLimits};
 ghost use Rattle.sa_workload.specs.Position.{AtInstr};
-ghost use Rattle.sa_workload.specs.Refused.{cause_number, IfBecause, IsInstrRefused, IsRefused};
+ghost use Rattle.sa_base.specs.Cause.{cause_number};
+ghost use Rattle.sa_workload.specs.Refused.{IfBecause, IsInstrRefused, IsRefused};
 ghost use Rattle.sa_workload.specs.Stage.{machine_of, draft_of, position_of, IsNext, IsSound};
 ghost use Rattle.sa_workload.specs.Steps.{after_program as behind_program, space_of_draft, with_program};
 ghost use Rattle.sa_workload.specs.Text.{instr_line};
 
-use crate::cause::{Cause, Refusal};
+use crate::cause::Refusal;
 use crate::line_words::Words;
 use crate::operations::read_operation;
 use crate::stage::{Header, SpaceDraft, Stage, after_spaces};
+use sa_base::Cause;
 use sa_instr::{Instr, Program, SpaceDef};
 use std::alloc::Global;
 

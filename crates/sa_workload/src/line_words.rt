@@ -4,9 +4,10 @@ ghost use Rattle.sa_text.specs.Line.{IsWithin};
 ghost use Rattle.sa_text.specs.Pieces.{pieces_of};
 ghost use Rattle.sa_workload.specs.Text.{register};
 ghost use Rattle.sa_workload.specs.Bad.{Field, Register, Number, within, declared, registers};
-ghost use Rattle.sa_workload.specs.Refused.{cause_number, target, IsWrongAt, IsRefusedBehind, IsLineRefused};
+ghost use Rattle.sa_base.specs.Cause.{cause_number};
+ghost use Rattle.sa_workload.specs.Refused.{target, IsWrongAt, IsRefusedBehind, IsLineRefused};
 
-use crate::cause::Cause;
+use sa_base::Cause;
 use sa_instr::Reg;
 use sa_text::{Line, read_number, token};
 use std::marker::Model;

@@ -1,13 +1,15 @@
 // The lines before those of the spaces.
 ghost use Rattle.std.specs.Prelude.{◌≡◌, ◌≢◌, ◌≤◌, MatchResult};
 ghost use Rattle.sa_workload.specs.Position.{AtVersion, AtProcessors, AtFetch, AtSlice, AtSpaces, IsReached};
-ghost use Rattle.sa_workload.specs.Refused.{cause_number, IsRefused};
+ghost use Rattle.sa_base.specs.Cause.{cause_number};
+ghost use Rattle.sa_workload.specs.Refused.{IsRefused};
 ghost use Rattle.sa_workload.specs.Stage.{position_of, IsNext};
 ghost use Rattle.sa_workload.specs.Steps.{Steps};
 
-use crate::cause::Cause;
 use crate::line_words::{Words, keyword_and_number};
 use crate::stage::{Header, MachineStage, Stage, after_fetch};
+use sa_base::{Cause, MAX_PROCESSORS, MAX_SPACES};
+use sa_instr::{MAX_FETCH, MAX_SLICE};
 use std::alloc::Global;
 
 /// `workload V`, where texts of so many versions are read.
@@ -28,7 +30,7 @@ pub(crate) fn read_processors(version: u16, words: Words) -> Result<Stage, Cause
         (λ stage. IsNext (AtProcessors version) words.entry (position_of stage))
         (λ cause. IsRefused 0 (AtProcessors version) words.entry (cause_number cause)) }
 {
-    let processors = keyword_and_number(words, b"processors", 1, 16)?;
+    let processors = keyword_and_number(words, b"processors", 1, MAX_PROCESSORS as u64)?;
     Ok(Stage::Machine(MachineStage::Fetch {
         version,
         processors: processors as u16,
@@ -41,7 +43,7 @@ pub(crate) fn read_fetch(version: u16, processors: u16, words: Words) -> Result<
         (λ stage. IsNext (AtFetch version processors) words.entry (position_of stage))
         (λ cause. IsRefused 0 (AtFetch version processors) words.entry (cause_number cause)) }
 {
-    let fetch = keyword_and_number(words, b"fetch", 1, 1_000)?;
+    let fetch = keyword_and_number(words, b"fetch", 1, MAX_FETCH as u64)?;
     Ok(after_fetch(version, processors, fetch as u32))
 }
 
@@ -57,7 +59,7 @@ pub(crate) fn read_slice(
         (λ cause. IsRefused 0 (AtSlice version processors fetch) words.entry (cause_number cause)) }
 {
     let low = if version == 3 { 0 } else { 1 };
-    let slice = keyword_and_number(words, b"slice", low, 1_000_000)?;
+    let slice = keyword_and_number(words, b"slice", low, MAX_SLICE as u64)?;
     Ok(Stage::Machine(MachineStage::Spaces {
         version,
         processors,
@@ -79,7 +81,7 @@ pub(crate) fn read_spaces(
         (λ stage. IsNext (AtSpaces version processors fetch slice) words.entry (position_of stage))
         (λ cause. IsRefused 0 (AtSpaces version processors fetch slice) words.entry (cause_number cause)) }
 {
-    let count = keyword_and_number(words, b"spaces", 1, 16)?;
+    let count = keyword_and_number(words, b"spaces", 1, MAX_SPACES as u64)?;
     let header = Header {
         version,
         processors,

@@ -3,13 +3,13 @@ ghost use Rattle.std.specs.Prelude.{◌≡◌, ◌∷◌, ◌++◌, MatchOption,
 ghost use Rattle.sa_workload.specs.Text.{register, instr_line};
 ghost use Rattle.sa_workload.specs.Bad.{instr_words, IsFirstWrong};
 ghost use Rattle.sa_workload.specs.Operation.{word_of, register_word_of, operands_of, behind_register, IsAllowed, IsOperationRefused};
-ghost use Rattle.sa_workload.specs.Refused.{cause_number};
+ghost use Rattle.sa_base.specs.Cause.{cause_number};
 ghost use Rattle.sa_workload.specs.Stage.{draft_of};
 
-use crate::cause::Cause;
 use crate::line_words::Words;
 use crate::stage::SpaceDraft;
-use sa_instr::{Instr, Reg};
+use sa_base::{Cause, FIRST_THREAD_PAGE};
+use sa_instr::{Instr, LAST_PAGE, MAX_IO_LENGTH, Reg};
 
 /// What the first word of an instruction names.
 #[derive(Clone, Copy)]
@@ -101,8 +101,10 @@ fn read_operands(
         Operation::Unlock => Ok(Instr::Unlock(words.declared(draft.mutexes)?)),
         Operation::Wait => Ok(Instr::Wait(words.declared(draft.sem_count)?)),
         Operation::Signal => Ok(Instr::Signal(words.declared(draft.sem_count)?)),
-        Operation::Io => Ok(Instr::Io(words.within(1, 1_000_000)? as u32)),
-        Operation::Touch => Ok(Instr::Touch(words.within(2, 15)? as u16)),
+        Operation::Io => Ok(Instr::Io(words.within(1, MAX_IO_LENGTH as u64)? as u32)),
+        Operation::Touch => Ok(Instr::Touch(
+            words.within(FIRST_THREAD_PAGE as u64, LAST_PAGE as u64)? as u16,
+        )),
         Operation::End => Ok(Instr::End),
         Operation::OnRegister(operation) => {
             let register = words.register()?;

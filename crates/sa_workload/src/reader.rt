@@ -8,18 +8,19 @@ ghost use Rattle.sa_workload.specs.Answer.{IfBad};
 ghost use Rattle.sa_workload.specs.Bad.{IsPrinted, BadAt, BadAt1};
 ghost use Rattle.sa_workload.specs.Position.{Closed, IsReached};
 ghost use Rattle.sa_workload.specs.Reading.{IsBehind, IsStopped};
-ghost use Rattle.sa_workload.specs.Refused.{cause_number, IfBecause, IsLineBad, IsRefused};
+ghost use Rattle.sa_base.specs.Cause.{cause_number};
+ghost use Rattle.sa_workload.specs.Refused.{IfBecause, IsLineBad, IsRefused};
 ghost use Rattle.sa_workload.specs.Text.{IsText, IsText1};
 ghost use Rattle.sa_workload.specs.Stage.{machine_position, position_of, GoesOn};
 
-use crate::cause::{Cause, Refusal};
+use crate::cause::Refusal;
 use crate::closing_lines::{read_evict_or_turn, read_turn_or_close};
 use crate::instr_lines::read_instr;
 use crate::line_words::Words;
 use crate::machine_lines::{read_fetch, read_processors, read_slice, read_spaces, read_version};
 use crate::space_lines::{read_absent_or_program, read_program, read_sem, read_space};
 use crate::stage::{MachineStage, Stage};
-use sa_base::Unread;
+use sa_base::{Bad, Cause, Unread};
 use sa_instr::Workload;
 use sa_text::{Line, Lines};
 use std::alloc::Global;
@@ -72,7 +73,7 @@ fn read_versions(alloc: Global, versions: u16, bytes: &[u8]) -> Result<Workload,
     }
     match stage {
         Stage::Closed(workload) => Ok(workload),
-        _ => Err(Cause::Missing.at(lines.number())),
+        _ => Err(Unread::Bad(Bad::new(lines.number(), Cause::Missing))),
     }
 }
 
@@ -94,10 +95,10 @@ fn read_line(
         × IsLineBad versions (position_of stage) (text_of_line bytes.now line) bad.why)) }
 {
     if !is_printed(&bytes[line.start..line.end]) {
-        return Err(Cause::NotAscii.at(line.number));
+        return Err(Unread::Bad(Bad::new(line.number, Cause::NotAscii)));
     }
     if !line.ended {
-        return Err(Cause::Missing.at(line.number));
+        return Err(Unread::Bad(Bad::new(line.number, Cause::Missing)));
     }
     read_words(alloc, versions, stage, Words::new(bytes, line)).map_err(|refusal| refusal.at(
         line.number,

@@ -4,13 +4,18 @@ ghost use Rattle.std.specs.List.{list_all};
 ghost use Rattle.sa_instr.specs.Space.{SpaceView};
 ghost use Rattle.sa_workload.specs.Bad.{within, IsFirstWrong};
 ghost use Rattle.sa_workload.specs.Position.{AtSpace, AtSem, AtAbsent, AtProgram, AtInstr, draft_line};
-ghost use Rattle.sa_workload.specs.Refused.{cause_number, IfBecause, is_last_impatient, patience_fields, space_fields, IsPagePlaced, IsPageMisplaced, last_of, IsAbsentRefused, IsRefusedBehind, IsRefused};
+ghost use Rattle.sa_base.specs.Cause.{cause_number};
+ghost use Rattle.sa_workload.specs.Refused.{IfBecause, is_last_impatient, patience_fields, space_fields, IsPagePlaced, IsPageMisplaced, last_of, IsAbsentRefused, IsRefusedBehind, IsRefused};
 ghost use Rattle.sa_workload.specs.Stage.{machine_of, draft_of, position_of, IsNext, IsPatience, IsSpaceStart};
 
-use crate::cause::{Cause, Refusal};
+use crate::cause::Refusal;
 use crate::line_words::{Words, keyword_and_number, last_number};
 use crate::stage::{Header, SpaceDraft, Stage, after_sem};
-use sa_instr::SpaceDef;
+use sa_base::Cause;
+use sa_instr::{
+    LAST_PAGE, MAX_CELLS, MAX_INSTRUCTIONS, MAX_MUTEXES, MAX_PATIENCE, MAX_PRIORITY, MAX_PROGRAMS,
+    MAX_SEMAPHORES, MAX_START, SpaceDef,
+};
 use std::alloc::Global;
 
 /// `space R M E C G`, with the patience behind it in version 3.
@@ -42,11 +47,11 @@ fn read_draft(
         × IsSpaceStart (machine_of header.now) spaces.now (draft_of draft))
         (λ cause. IsFirstWrong (space_fields (machine_of header.now) spaces.now) words.old (cause_number cause)) }
 {
-    let priority = words.within(0, 7)?;
-    let mutexes = words.within(0, 64)?;
-    let sem_count = words.within(0, 64)?;
-    let cells = words.within(0, 64)?;
-    let program_count = words.within(1, 256)?;
+    let priority = words.within(0, MAX_PRIORITY as u64)?;
+    let mutexes = words.within(0, MAX_MUTEXES as u64)?;
+    let sem_count = words.within(0, MAX_SEMAPHORES as u64)?;
+    let cells = words.within(0, MAX_CELLS as u64)?;
+    let program_count = words.within(1, MAX_PROGRAMS as u64)?;
     let patience = read_patience(header, spaces, words)?;
     Ok(SpaceDraft {
         priority: priority as u8,
@@ -71,7 +76,7 @@ fn read_patience(header: &Header, spaces: &[SpaceDef], words: &mut Words) -> Res
         return Ok(1);
     }
     let least = if needs_patience(header, spaces) { 2 } else { 1 };
-    let patience = words.within(least, 1_000)?;
+    let patience = words.within(least, MAX_PATIENCE as u64)?;
     Ok(patience as u16)
 }
 
@@ -100,7 +105,7 @@ pub(crate) fn read_sem(
         (λ stage. IsNext position words.entry (position_of stage))
         (λ refusal. IfBecause refusal (IsRefused 0 position words.entry)) }
 {
-    let start = keyword_and_number(words, b"sem", 0, 1_000_000)?;
+    let start = keyword_and_number(words, b"sem", 0, MAX_START as u64)?;
     draft.sems.push(start as u32)?;
     Ok(after_sem(header, spaces, draft))
 }
@@ -134,9 +139,9 @@ fn read_absent(
     ensures { MatchResult result
         (λ stage. IsNext (AtAbsent (machine_of header) spaces.items (draft_of draft)) (codes "absent" ∷ words.entry) (position_of stage))
         (λ refusal. IfBecause refusal (λ why.
-        IsFirstWrong (within 0 15 ∷ []) words.entry why ⊎ IsAbsentRefused draft.absent.items words.entry why)) }
+        IsFirstWrong (within 0 LAST_PAGE ∷ []) words.entry why ⊎ IsAbsentRefused draft.absent.items words.entry why)) }
 {
-    let page = words.within(0, 15)? as u16;
+    let page = words.within(0, LAST_PAGE as u64)? as u16;
     in_order(&draft.absent, page)?;
     words.end()?;
     draft.absent.push(page)?;
@@ -181,11 +186,11 @@ fn read_length(
     words: Words,
 ) -> Result<Stage, Cause>
     ensures { MatchResult result
-        (λ stage. (len : ℕ) × (words.entry ≡ decimal len ∷ []) × (1 ≤ len) × (len ≤ 4096)
+        (λ stage. (len : ℕ) × (words.entry ≡ decimal len ∷ []) × (1 ≤ len) × (len ≤ MAX_INSTRUCTIONS)
         × (position_of stage ≡ AtInstr (machine_of header) spaces.items (draft_of draft) len []))
-        (λ cause. IsRefusedBehind (within 1 4096 ∷ []) words.entry (cause_number cause)) }
+        (λ cause. IsRefusedBehind (within 1 MAX_INSTRUCTIONS ∷ []) words.entry (cause_number cause)) }
 {
-    let len = last_number(words, 1, 4_096)?;
+    let len = last_number(words, 1, MAX_INSTRUCTIONS as u64)?;
     let instrs = Vec::new(alloc);
     Ok(Stage::Instr(header, spaces, draft, len as u16, instrs))
 }

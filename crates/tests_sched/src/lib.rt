@@ -1,6 +1,8 @@
-//! Tests of the orders of turns.
+//! Tests of the orders of turns and of generated workloads.
 #![tactic(auto)]
 
+#[cfg(test)]
+mod generated;
 #[cfg(test)]
 mod orders;
 #[cfg(test)]

@@ -2,7 +2,7 @@ use Rattle.std.proofs.Common.{◌++◌, ap, ◌∙◌, refl}
 use Rattle.std.proofs.lemmas.List.{append-nil}
 use Rattle.sa_workload.specs.Text.{instr_line}
 use Rattle.std.proofs.lemmas.Result.{err_from_is_err_and}
-use Rattle.sa_workload.specs.Refused.{cause_number}
+use Rattle.sa_base.specs.Cause.{cause_number}
 use Rattle.sa_workload.specs.Stage.{draft_of}
 use Rattle.sa_workload.proofs.Operands.{operation_refused, too_long_instr, wrong_end}
 use Rattle.sa_workload.proofs.instr_lines.instr_of.Goals as goal

@@ -20,6 +20,6 @@ loop-line-preserved c = (
 )
 
 pub returns : goal.returns
-returns c = rw c.at.ensures (going_misses c.args.versions c.args.bytes.now (position_of c.loop-line.stage) _ _ _ _
+returns c = rw c.new.ensures (going_misses c.args.versions c.args.bytes.now (position_of c.loop-line.stage) _ _ _ _
     c.loop-line.invariant.1 c.in_default.ensures.first.0 (c.number.ensures ∙ ap (λ (l : LinesLeft). l.number) c.in_default.ensures.first.1)
     (not_closed c.loop-line.stage c.in_default-stage.not-Closed) refl)

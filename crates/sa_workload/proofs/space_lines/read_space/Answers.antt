@@ -2,7 +2,8 @@ use Rattle.std.proofs.Common.{◌++◌, ap, ◌∙◌, subst, codes, inl}
 use Rattle.std.proofs.lemmas.List.{append-nil}
 use Rattle.std.proofs.lemmas.Result.{err_from_is_err_and}
 use Rattle.sa_workload.specs.Bad.{IsFirstWrong}
-use Rattle.sa_workload.specs.Refused.{space_fields, cause_number}
+use Rattle.sa_base.specs.Cause.{cause_number}
+use Rattle.sa_workload.specs.Refused.{space_fields}
 use Rattle.sa_workload.specs.Stage.{IsSpaceStart, machine_of, draft_of}
 use Rattle.sa_workload.specs.Position.{draft_line}
 use Rattle.sa_workload.proofs.Cut.{behind_keyword, too_long_space}

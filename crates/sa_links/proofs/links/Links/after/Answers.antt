@@ -1,4 +1,5 @@
 use Rattle.std.proofs.Common.{◌∙◌, arith, ap, get_or, sym, subst}
+use Rattle.std.proofs.lemmas.Option.{IfSome_then}
 use Rattle.std.specs.Vec.{vec_ptr}
 use Rattle.sa_links.specs.Lists.{IsNext}
 use Rattle.sa_links.specs.Wiring.{node_index, number_at, wires_of}
@@ -24,3 +25,9 @@ returns-clause-next c =
 
 pub returns-clause-listed : goal.returns-clause-listed
 returns-clause-listed c = next_listed (wires_of (vec_ptr c.self.inside.nodes) c.self.inside.nodes.items) c.args.self.now c.args.node _ c.requires (returns-clause-next c)
+
+pub returns-clause-node : goal.returns-clause-node
+returns-clause-node c =
+    let rings = rings_are (vec_ptr c.self.inside.nodes) c.self.inside.nodes.items c.self.inside.count c.args.self.now c.self.view_is c.self.invariant in
+    let apart = rings.apart in
+    IfSome_then _ (returns-clause-listed c) (λ x listed. apart.below x listed)

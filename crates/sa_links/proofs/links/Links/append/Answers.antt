@@ -1,19 +1,23 @@
-use Rattle.std.proofs.Common.{[], ◌++◌, not, refl, sym, ap, ◌∙◌}
+use Rattle.std.proofs.Common.{[], ◌++◌, not, refl, sym, subst, ap, ◌∙◌}
 use Rattle.std.specs.Option.{is_some}
 use Rattle.std.specs.Vec.{vec_ptr}
-use Rattle.sa_links.specs.Lists.{list_at, with_list}
+use Rattle.sa_links.specs.Lists.{HasSameCounts, list_at, with_list}
 use Rattle.sa_links.specs.Rings.{IsRings}
 use Rattle.sa_links.specs.Wiring.{IsRelinked, node_index, wires_of}
 use Rattle.sa_links.specs.declared.node.Node.{out-Node}
+use Rattle.sa_links.proofs.CallerLemmas.{counts_moved}
 use Rattle.sa_links.proofs.Joining.{relinked_twice}
 use Rattle.sa_links.proofs.LinksSteps.{first_led, front_read, head_is, last_led, links_after, moved, moved_none, next_read, prev_read, rings_are, view_after}
 use Rattle.sa_links.proofs.links.Links.append.Goals as goal
 
-pub returns-then-is_none : goal.returns-then-is_none
-returns-then-is_none c =
+pub returns-then-is_none-clause-lists : goal.returns-then-is_none-clause-lists
+returns-then-is_none-clause-lists c =
     let read = front_read (vec_ptr c.self.inside.nodes) c.self.inside.nodes.items c.self.inside.count c.args.self.now c.self.view_is c.self.invariant c.args.from c.requires.from _ c.place_of-emptied.ensures.index
     c.at.result.now c.at-2.result.now c.place_of-emptied.ensures.place.inside c.at.ensures c.at-2.ensures in
     moved_none c.args.self.now c.args.list c.args.from (sym (ap is_some read) ∙ c.is_none.ensures ∙ ap not c.if-is_none.true)
+
+pub returns-then-is_none-clause-counts : goal.returns-then-is_none-clause-counts
+returns-then-is_none-clause-counts c = λ x. refl
 
 relinked : (c : goal.After-join-3) → IsRelinked (vec_ptr c.self.inside.nodes) c.self.inside.nodes.items (vec_ptr c.join-3.new.nodes) c.join-3.new.nodes.items
 relinked c = relinked_twice _ _ _ _ _ _ c.join.ensures.relinked (relinked_twice _ _ _ _ _ _ c.join-2.ensures.relinked c.join-3.ensures.relinked)
@@ -37,5 +41,9 @@ changed c =
 pub invariant_of-self : goal.invariant_of-self
 invariant_of-self c = links_after (vec_ptr c.self.inside.nodes) c.self.inside.nodes.items c.self.inside.count c.args.self.now c.self.view_is c.self.invariant _ _ _ (relinked c) (changed c) refl
 
-pub returns : goal.returns
-returns c = view_after (vec_ptr c.self.inside.nodes) c.self.inside.nodes.items c.self.inside.count c.args.self.now c.self.view_is c.self.invariant _ _ _ (relinked c) (changed c) refl
+pub returns-clause-lists : goal.returns-clause-lists
+returns-clause-lists c = view_after (vec_ptr c.self.inside.nodes) c.self.inside.nodes.items c.self.inside.count c.args.self.now c.self.view_is c.self.invariant _ _ _ (relinked c) (changed c) refl
+
+pub returns-clause-counts : goal.returns-clause-counts
+returns-clause-counts c =
+    subst (HasSameCounts c.args.self.now) (sym (returns-clause-lists c)) (counts_moved c.args.self.now c.args.list c.args.from c.requires.differ c.requires.list c.requires.from)

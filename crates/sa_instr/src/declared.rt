@@ -1,0 +1,28 @@
+// How many of each thing a space declares.
+ghost use Rattle.std.specs.Prelude.{◌≤◌, ◌↔◌, IsTrue};
+
+use crate::limits::{MAX_CELLS, MAX_MUTEXES, MAX_PROGRAMS, MAX_SEMAPHORES};
+
+#[derive(Clone, Copy)]
+pub(crate) struct Declared {
+    pub mutexes: u16,
+    pub sems: usize,
+    pub cells: u16,
+    pub programs: usize,
+}
+
+impl Declared {
+    // Whether a space may declare so many.
+    pub(crate) fn is_in_range(&self) -> bool
+        ensures { IsTrue result ↔
+            ((self.now.mutexes ≤ MAX_MUTEXES) × (self.now.sems ≤ MAX_SEMAPHORES)
+            × (self.now.cells ≤ MAX_CELLS)
+            × (1 ≤ self.now.programs) × (self.now.programs ≤ MAX_PROGRAMS)) }
+    {
+        self.mutexes <= MAX_MUTEXES
+            && self.sems <= MAX_SEMAPHORES
+            && self.cells <= MAX_CELLS
+            && 1 <= self.programs
+            && self.programs <= MAX_PROGRAMS
+    }
+}
