@@ -32,7 +32,11 @@ impl Model for Devices {
 
     ghost Value = { DevicesView };
 
-    ghost view = { λ d. record { ios = d.ios; pages = d.pages.items; evictions = d.evictions.items } };
+    ghost view = { λ d. record {
+      ios = d.ios;
+      pages = d.pages.items;
+      evictions = d.evictions.items;
+    } };
 
     ghost invariant = { λ d. IsSound d.ios d.fetching.items d.pages.items d.evictions.items };
 }
@@ -100,7 +104,8 @@ impl Devices {
     /// The I/O, which is under way, is over, and its page is resident. Answers what it was for.
     pub fn complete(&mut self, io: IoNo) -> IoKind
         requires { IsSome (io_at io.0 self.old.ios.under_way) }
-        ensures kind { option_map (λ (x : Io). x.kind) (io_at io.0 self.old.ios.under_way) ≡ Some result }
+        ensures kind { option_map (λ (x : Io). x.kind) (io_at io.0 self.old.ios.under_way)
+            ≡ Some result }
         ensures exact { self.new ≡ record self.old {
           ios = ended_with self.old.ios io.0;
           pages = completed result self.old.pages;
@@ -113,7 +118,9 @@ impl Devices {
 
     /// Makes the pages absent that the workload evicts at this event.
     pub fn evict(&mut self, event: u64)
-        ensures { self.new ≡ record self.old { pages = evicted event self.old.evictions self.old.pages } }
+        ensures { self.new ≡ record self.old {
+          pages = evicted event self.old.evictions self.old.pages;
+        } }
     {
         evict_at(event, self.evictions.as_slice(), &mut self.pages);
     }
