@@ -146,8 +146,8 @@ impl Assign {
         ensures items { trace.new.items ≡ trace.old.items ++ items_at item.event item.proc
             (reaim_records item.event (length claims.now)
             (shares_of (length self.old.owners) first claims.now) self.old) }
-        ensures met { (s : ℕ) → s < length claims.now
-            → share_at (shares_of (length self.old.owners) first claims.now) s ≤ aimed s self.new.aims }
+        ensures met { let shares = shares_of (length self.old.owners) first claims.now in
+            (s : ℕ) → s < length claims.now → share_at shares s ≤ aimed s self.new.aims }
         ensures spare { trace.new.spare + length trace.new.items
             ≡ trace.old.spare + length trace.old.items }
     {
@@ -162,7 +162,8 @@ impl Assign {
         requires space { s.0 < MAX_SPACES }
         requires room { 2 * share_at shares.now s.0 ≤ trace.old.spare }
         ensures carried { (self.new, trace.new.items) ≡ carried_out item.event item.proc
-            (changes_for (missing shares.now self.old.aims s.0) shares.now self.old.marks s.0 self.old.aims)
+            (changes_for (missing shares.now self.old.aims s.0)
+            shares.now self.old.marks s.0 self.old.aims)
             (self.old, trace.old.items) }
         ensures cost { trace.old.spare ≤ trace.new.spare + 2 * share_at shares.now s.0 }
         ensures spare { trace.new.spare + length trace.new.items
@@ -178,7 +179,8 @@ impl Assign {
     fn aim_one(&mut self, shares: &[u16; MAX_SPACES], s: SpaceNo, item: Item, trace: &mut Trace)
         requires room { 2 ≤ trace.old.spare }
         ensures carried { (self.new, trace.new.items) ≡ carried_out item.event item.proc
-            (changes_for 1 shares.now self.old.marks s.0 self.old.aims) (self.old, trace.old.items) }
+            (changes_for 1 shares.now self.old.marks s.0 self.old.aims)
+            (self.old, trace.old.items) }
         ensures cost { trace.old.spare ≤ trace.new.spare + 2 }
         ensures spare { trace.new.spare + length trace.new.items
             ≡ trace.old.spare + length trace.old.items }
@@ -241,7 +243,8 @@ impl Assign {
 
     // The highest-numbered processor aimed at a space with more than its share.
     fn last_to_spare(&self, shares: &[u16; MAX_SPACES]) -> Option<u16>
-        ensures { result ≡ greatest_below (length self.now.aims) (can_be_spared shares.now self.now.aims) }
+        ensures { result ≡ greatest_below (length self.now.aims)
+            (can_be_spared shares.now self.now.aims) }
     {
         for p in (0..self.processors()).rev() {
             if self.can_be_spared(shares, p) {

@@ -9,10 +9,12 @@ ghost use Rattle.sa_assign.specs.Laws.{AreDue, AreInOrder, is_for, is_changed, i
 
 /// Afterwards each space has at least its share of aims, and what it had up to its share.
 pub fn shares_are_met()
-    ensures met { (spaces s : ℕ) (shares : List ℕ) (marks : List Bool) (aims : List (Option SpaceNo))
+    ensures met { (spaces s : ℕ) (shares : List ℕ) (marks : List Bool)
+        (aims : List (Option SpaceNo))
         → sum shares ≤ length aims → s < spaces
         → share_at shares s ≤ aimed s (aims_after aims (changes spaces shares marks aims)) }
-    ensures kept { (spaces s : ℕ) (shares : List ℕ) (marks : List Bool) (aims : List (Option SpaceNo))
+    ensures kept { (spaces s : ℕ) (shares : List ℕ) (marks : List Bool)
+        (aims : List (Option SpaceNo))
         → sum shares ≤ length aims → aimed s aims ≤ share_at shares s
         → aimed s aims ≤ aimed s (aims_after aims (changes spaces shares marks aims)) }
 {}
@@ -20,18 +22,22 @@ pub fn shares_are_met()
 /// A processor is aimed at a space only where that has fewer aims than its share. It is the one to choose at
 /// that moment, and it had no aim, or that of a space with more than its share at that moment.
 pub fn changes_are_due()
-    ensures { (spaces : ℕ) (shares : List ℕ) (marks : List Bool) (aims : List (Option SpaceNo))
+    ensures { (spaces : ℕ) (shares : List ℕ) (marks : List Bool)
+        (aims : List (Option SpaceNo))
         → sum shares ≤ length aims → AreDue shares marks aims (changes spaces shares marks aims) }
 {}
 
 /// Aims are added in the order of the spaces' numbers, to each space as many as it misses.
 pub fn aims_are_added_as_they_are_missing()
-    ensures order { (spaces : ℕ) (shares : List ℕ) (marks : List Bool) (aims : List (Option SpaceNo))
+    ensures order { (spaces : ℕ) (shares : List ℕ) (marks : List Bool)
+        (aims : List (Option SpaceNo))
         → AreInOrder 0 (changes spaces shares marks aims) }
-    ensures counts { (spaces s : ℕ) (shares : List ℕ) (marks : List Bool) (aims : List (Option SpaceNo))
+    ensures counts { (spaces s : ℕ) (shares : List ℕ) (marks : List Bool)
+        (aims : List (Option SpaceNo))
         → sum shares ≤ length aims → s < spaces
         → count_by (is_for s) (changes spaces shares marks aims) ≡ missing shares aims s }
-    ensures others { (spaces s : ℕ) (shares : List ℕ) (marks : List Bool) (aims : List (Option SpaceNo))
+    ensures others { (spaces s : ℕ) (shares : List ℕ) (marks : List Bool)
+        (aims : List (Option SpaceNo))
         → sum shares ≤ length aims → spaces ≤ s
         → count_by (is_for s) (changes spaces shares marks aims) ≡ 0 }
 {}

@@ -10,7 +10,7 @@ ghost use Rattle.sa_devices.specs.Pages.{IsKind, come, gone, without_pages, comp
 use crate::kind::IoKind;
 use crate::under_way::UnderWay;
 use arrayvec::ArrayVec;
-use sa_base::{IoNo, MAX_SPACES, SpaceNo, UPCALL_PAGE};
+use sa_base::{IoNo, MAX_EVENTS, MAX_SPACES, SpaceNo, UPCALL_PAGE};
 use sa_instr::{Evict, Workload};
 use std::alloc::{AllocError, Global};
 use std::marker::Model;
@@ -32,7 +32,11 @@ impl Model for Devices {
 
     ghost Value = { DevicesView };
 
-    ghost view = { λ d. record { ios = d.ios; pages = d.pages.items; evictions = d.evictions.items } };
+    ghost view = { λ d. record {
+      ios = d.ios;
+      pages = d.pages.items;
+      evictions = d.evictions.items;
+    } };
 
     ghost invariant = { λ d. IsSound d.ios d.fetching.items d.pages.items d.evictions.items };
 }
@@ -76,7 +80,7 @@ impl Devices {
     /// begun before. There is room for it, and it takes no memory.
     pub fn begin(&mut self, kind: IoKind, event: u64, len: u32) -> IoNo
         requires room { 1 ≤ self.old.ios.spare }
-        requires event { event ≤ 1000000 }
+        requires event { event ≤ MAX_EVENTS }
         requires few { self.old.ios.begun < 2 ^ 32 }
         requires kind { IsKind (length self.old.pages) kind }
         ensures number { result.0 ≡ self.old.ios.begun }
@@ -100,7 +104,8 @@ impl Devices {
     /// The I/O, which is under way, is over, and its page is resident. Answers what it was for.
     pub fn complete(&mut self, io: IoNo) -> IoKind
         requires { IsSome (io_at io.0 self.old.ios.under_way) }
-        ensures kind { option_map (λ (x : Io). x.kind) (io_at io.0 self.old.ios.under_way) ≡ Some result }
+        ensures kind { option_map (λ (x : Io). x.kind) (io_at io.0 self.old.ios.under_way)
+            ≡ Some result }
         ensures exact { self.new ≡ record self.old {
           ios = ended_with self.old.ios io.0;
           pages = completed result self.old.pages;
@@ -113,7 +118,9 @@ impl Devices {
 
     /// Makes the pages absent that the workload evicts at this event.
     pub fn evict(&mut self, event: u64)
-        ensures { self.new ≡ record self.old { pages = evicted event self.old.evictions self.old.pages } }
+        ensures { self.new ≡ record self.old {
+          pages = evicted event self.old.evictions self.old.pages;
+        } }
     {
         evict_at(event, self.evictions.as_slice(), &mut self.pages);
     }

@@ -54,7 +54,8 @@ impl UnderWay {
 
     /// No I/O was begun. It takes no memory.
     pub fn new(alloc: Global) -> Self
-        ensures { let none : IosView = record { begun = 0; under_way = []; spare = 0 } in result ≡ none }
+        ensures { let none : IosView = record { begun = 0; under_way = []; spare = 0 } in
+            result ≡ none }
     {
         UnderWay {
             places: Vec::new(alloc),
@@ -107,7 +108,8 @@ impl UnderWay {
     /// The I/O, which is under way, is over. Answers what it was for.
     pub fn complete(&mut self, io: IoNo) -> IoKind
         requires { IsSome (io_at io.0 self.old.under_way) }
-        ensures kind { option_map (λ (x : Io). x.kind) (io_at io.0 self.old.under_way) ≡ Some result }
+        ensures kind { option_map (λ (x : Io). x.kind) (io_at io.0 self.old.under_way)
+            ≡ Some result }
         ensures exact { self.new ≡ ended_with self.old io.0 }
     {
         let Some(entry) = self.places[io.0 as usize] else {
