@@ -40,4 +40,3 @@ pub record Calls (U C : Type 0) : Type 0 where
 -- the contexts of a space's activations that run, or were stopped or blocked and not yet handed over, by their numbers
 abbrev pub Contexts : Type 0 → Type 0
 Contexts C = ℕ → Option C
-

@@ -5,12 +5,11 @@ ghost use Rattle.sa_abstract.specs.Calls.{Calls, Contexts};
 ghost use Rattle.sa_abstract.specs.Setting.{Setting, IsSetting};
 ghost use Rattle.sa_abstract.specs.Keeps.{Standing, IsBefore, IsOf, IsSeenOf, IsTelling, IsStep, IsGoing, Keeps};
 
+use crate::answer::{SeatState, Step, Tally};
 use sa_base::{Note, ProcNo, Seen, SpaceNo, Stopped, ThreadNo, Trace};
 use sa_instr::SpaceDef;
 use std::alloc::{AllocError, Global};
 use std::marker::Send;
-
-use crate::answer::{SeatState, Step, Tally};
 
 /// The user level of one address space: it decides which of its threads run on the processors that the kernel gives it.
 ///
@@ -66,9 +65,9 @@ pub trait UserLevel: Sized + Drop + Send {
         ensures ctx { ctx.new ≡ (calls.stepped self.old seen.now ctx.old).ctx }
         ensures answer { result ≡ (calls.stepped self.old seen.now ctx.old).answer }
         ensures items { let says = (calls.stepped self.old seen.now ctx.old).says in
-          trace.new.items ≡ trace.old.items ++ items_at seen.now.event seen.now.proc says }
+            trace.new.items ≡ trace.old.items ++ items_at seen.now.event seen.now.proc says }
         ensures spare { let says = (calls.stepped self.old seen.now ctx.old).says in
-          trace.new.spare + length says ≡ trace.old.spare };
+            trace.new.spare + length says ≡ trace.old.spare };
 
     /// The thread that the context carries.
     fn thread(&self, ctx: &Self::Ctx) -> Option<ThreadNo>
@@ -98,7 +97,7 @@ pub trait UserLevel: Sized + Drop + Send {
         ensures user { self.new ≡ (calls.went self.old seen.now ctx.old n).user }
         ensures ctx { ctx.new ≡ (calls.went self.old seen.now ctx.old n).ctx }
         ensures items { let says = (calls.went self.old seen.now ctx.old n).says in
-          trace.new.items ≡ trace.old.items ++ items_from seen.now.event seen.now.proc says }
+            trace.new.items ≡ trace.old.items ++ items_from seen.now.event seen.now.proc says }
         ensures spare { trace.new.spare + n ≡ trace.old.spare };
 
     /// How many threads there are.
