@@ -48,7 +48,8 @@ impl<C: Drop> Model for Acts<C> {
 impl<C: Drop> Acts<C> {
     /// No activation, and no room.
     pub fn new(alloc: Global) -> Self
-        ensures { acts_of result ≡ record { acts = λ n. None; taken = replicate MAX_SPACES []; used = 0; spare = 0 } }
+        ensures { acts_of result
+            ≡ record { acts = λ n. None; taken = replicate MAX_SPACES []; used = 0; spare = 0 } }
     {
         Acts {
             slots: Slab::new(alloc),

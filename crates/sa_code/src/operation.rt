@@ -67,7 +67,8 @@ fn operate(
 // Adds a record of the event.
 fn add(trace: &mut Trace, seen: &Seen, what: Record)
     requires { 1 ≤ trace.old.spare }
-    ensures items { trace.new.items ≡ trace.old.items ++ items_at seen.now.event seen.now.proc (what ∷ []) }
+    ensures items { trace.new.items ≡ trace.old.items
+        ++ items_at seen.now.event seen.now.proc (what ∷ []) }
     ensures spare { trace.new.spare + 1 ≡ trace.old.spare }
 {
     trace.add(Item {
@@ -145,7 +146,8 @@ fn pop(state: &mut PackageState, frame: &mut Frame, seen: &Seen, trace: &mut Tra
     requires thread { CanPop state.old frame.old }
     requires place { frame.old.pc < CODE_PLACES }
     requires room { 1 ≤ trace.old.spare }
-    ensures { let resident = is_resident seen.now.pages PACKAGE_PAGE in let list = list_in frame.old in
+    ensures { let resident = is_resident seen.now.pages PACKAGE_PAGE in
+        let list = list_in frame.old in
         let thread = chosen state.old.lists frame.old.own list.0 in
         Does (popped state.old frame.old resident list thread)
         seen.now trace.old state.new frame.new result trace.new }

@@ -31,7 +31,8 @@ pub fn a_copy_does_as_its_section()
     ensures faults { (s : PackageState) (f : Frame) (c d pages : ℕ)
         → s.code ≡ package_ops → copy_at c ≡ Some d → is_effect (slice_get s.code c) ≡ true
         → is_resident pages PACKAGE_PAGE ≡ false
-        → IsFault s (at f c) (micro s (at f c) pages) × IsFault s (at f d) (micro s (at f d) pages) }
+        → IsFault s (at f c) (micro s (at f c) pages)
+        × IsFault s (at f d) (micro s (at f d) pages) }
 {}
 
 /// A place and its copy have the same operation, which asks the same of state and frame. A place has a section
@@ -44,7 +45,8 @@ pub fn a_copy_has_the_same_operation()
         → CanDo s (at f c) (slice_get s.code c) ↔ CanDo s (at f d) (slice_get s.code d) }
     ensures section { (c d : ℕ) → copy_at c ≡ Some d → section_at d ≡ section_at c }
     ensures again { (c d : ℕ) → copy_at c ≡ Some d → copy_at d ≡ Some d }
-    ensures sections { (pc : ℕ) → is_some (section_at pc) ≡ is_section_op (slice_get package_ops pc) }
+    ensures sections { (pc : ℕ) → is_some (section_at pc)
+        ≡ is_section_op (slice_get package_ops pc) }
     ensures copies { (pc : ℕ) → is_some (copy_at pc) ≡ is_section_op (slice_get package_ops pc) }
 {}
 
@@ -59,5 +61,6 @@ pub fn operations_follow_one_another()
     ensures pop { (pc : ℕ) → slice_get package_ops pc ≡ Some Pop
         → slice_get package_ops (pc + 1) ≡ Some Free }
     ensures free { (pc : ℕ) → slice_get package_ops pc ≡ Some Free
-        → (slice_get package_ops (pc + 1) ≡ Some Leave) ⊎ (slice_get package_ops (pc + 1) ≡ Some Yield) }
+        → (slice_get package_ops (pc + 1) ≡ Some Leave)
+        ⊎ (slice_get package_ops (pc + 1) ≡ Some Yield) }
 {}

@@ -17,7 +17,8 @@ pub fn workload(alloc: Global, n: u64) -> Result<Workload, AllocError>
 
 // The spaces of that workload.
 fn spaces(alloc: Global, n: u64, count: u16) -> Result<Vec<SpaceDef>, AllocError>
-    ensures { IfOk result (λ spaces. spaces.items ≡ map (generated_space n) (range_with_len 0 count)) }
+    ensures { IfOk result (λ spaces. spaces.items
+        ≡ map (generated_space n) (range_with_len 0 count)) }
 {
     let mut spaces = Vec::new(alloc);
     for k in 0..count {

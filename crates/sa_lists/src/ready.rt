@@ -133,7 +133,8 @@ impl ReadyLists {
     // The first open list of those from `from` on that are below `end`.
     fn first_open(&self, from: u16, end: u16) -> Option<ProcNo>
         requires { end ≤ length self.now.lists }
-        ensures { result ≡ option_map processor (find (is_open self.now) (range_with_len from (end - from))) }
+        ensures { result
+            ≡ option_map processor (find (is_open self.now) (range_with_len from (end - from))) }
     {
         for list in from..end {
             if self.is_open(list) {

@@ -137,7 +137,8 @@ fn next_held(proc: ProcNo, before: &mut u64, over: &mut u16, turn: u16, processo
     requires few { processors ≤ MAX_PROCESSORS }
     requires over { over.old ≤ HOLD_EVENTS }
     ensures processor { result.0 ≡ next_of processors turn (Holding proc.0 before.old over.old) }
-    ensures rest { Holding proc.0 before.new over.new ≡ behind (Holding proc.0 before.old over.old) }
+    ensures rest { Holding proc.0 before.new over.new
+        ≡ behind (Holding proc.0 before.old over.old) }
     ensures among { result.0 < processors }
     ensures over { over.new ≤ HOLD_EVENTS }
 {

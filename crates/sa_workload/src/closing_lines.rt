@@ -25,7 +25,8 @@ pub(crate) fn read_evict_or_turn(
     mut words: Words,
 ) -> Result<Stage, Refusal>
     requires { IsSound (AtEvict (machine_of header) spaces.items evictions.items) }
-    ensures { let position = AtEvict (machine_of header) spaces.items evictions.items in MatchResult result
+    ensures { let position = AtEvict (machine_of header) spaces.items evictions.items in
+        MatchResult result
         (λ stage. IsNext position words.entry (position_of stage))
         (λ refusal. IfBecause refusal (IsRefused 0 position words.entry)) }
 {
@@ -46,7 +47,8 @@ pub(crate) fn read_turn_or_close(
     mut words: Words,
 ) -> Result<Stage, Refusal>
     requires { IsSound (AtTurn (machine_of header) spaces.items evictions.items turns.items) }
-    ensures { let position = AtTurn (machine_of header) spaces.items evictions.items turns.items in MatchResult result
+    ensures { let position = AtTurn (machine_of header) spaces.items evictions.items turns.items in
+        MatchResult result
         (λ stage. IsNext position words.entry (position_of stage))
         (λ refusal. IfBecause refusal (IsRefused 0 position words.entry)) }
 {
@@ -81,7 +83,8 @@ fn read_evict(
 /// The three numbers behind `evict`, where there are so many spaces.
 fn evict_of(spaces: u16, words: &mut Words) -> Result<Evict, Cause>
     ensures { MatchResult result
-        (λ e. (words.old ≡ decimal e.event ∷ decimal e.space.0 ∷ decimal e.page ∷ words.new) × IsEviction spaces e)
+        (λ e. (words.old ≡ decimal e.event ∷ decimal e.space.0 ∷ decimal e.page ∷ words.new)
+        × IsEviction spaces e)
         (λ cause. IsFirstWrong (evict_fields spaces) words.old (cause_number cause)) }
 {
     let event = words.within(1, MAX_EVENTS)?;
@@ -130,8 +133,10 @@ fn read_turn(
 ) -> Result<Stage, Refusal>
     requires { 1 ≤ header.processors }
     ensures { MatchResult result
-        (λ stage. (p : ProcNo) × (words.entry ≡ decimal p.0 ∷ []) × (p.0 < header.processors) × (length turns.items < MAX_TURNS)
-        × (position_of stage ≡ AtTurn (machine_of header) spaces.items evictions.items (turns.items ++ p ∷ [])))
+        (λ stage. (p : ProcNo) × (words.entry ≡ decimal p.0 ∷ []) × (p.0 < header.processors)
+        × (length turns.items < MAX_TURNS)
+        × (position_of stage ≡ AtTurn (machine_of header) spaces.items evictions.items (turns.items
+        ++ p ∷ [])))
         (λ refusal. IfBecause refusal (IsRefusedBehindTurn (machine_of header) turns.items words.entry)) }
 {
     if turns.len() >= MAX_TURNS {
@@ -153,7 +158,8 @@ fn close(
     requires { IsWorkload (workload (machine_of header) spaces.items evictions.items turns.items) }
     ensures { MatchResult result
         (λ stage. (words.entry ≡ [])
-        × (position_of stage ≡ Closed (workload (machine_of header) spaces.items evictions.items turns.items)))
+        × (position_of stage
+        ≡ Closed (workload (machine_of header) spaces.items evictions.items turns.items)))
         (λ cause. IsRefusedBehind [] words.entry (cause_number cause)) }
 {
     words.end()?;

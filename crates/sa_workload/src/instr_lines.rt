@@ -46,7 +46,8 @@ pub(crate) fn read_instr(
 fn instr_of(draft: &SpaceDraft, len: u16, is_last: bool, mut words: Words) -> Result<Instr, Cause>
     requires { HasLimits (draft_of draft.now) len }
     ensures { MatchResult result
-        (λ instr. (words.entry ≡ instr_line instr) × IsAllowed (draft_of draft.now) len instr × (IsTrue is_last → instr ≡ Instr.End))
+        (λ instr. (words.entry ≡ instr_line instr) × IsAllowed (draft_of draft.now) len instr
+        × (IsTrue is_last → instr ≡ Instr.End))
         (λ cause. IsInstrRefused (draft_of draft.now) len is_last words.entry (cause_number cause)) }
 {
     let instr = read_operation(draft, len, &mut words)?;

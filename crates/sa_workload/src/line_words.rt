@@ -47,7 +47,8 @@ impl<'a> Words<'a> {
 
     /// The next word; `None` exactly where none is left.
     pub(crate) fn next(&mut self) -> Option<&'a [u8]>
-        ensures { MatchOption result ((self.old ≡ []) × (self.new ≡ [])) (λ word. self.old ≡ word.now ∷ self.new) }
+        ensures { MatchOption result ((self.old ≡ []) × (self.new ≡ []))
+            (λ word. self.old ≡ word.now ∷ self.new) }
     {
         let (start, end) = token(self.text, &self.line, self.from)?;
         self.from = end + 1;
@@ -58,7 +59,8 @@ impl<'a> Words<'a> {
     pub(crate) fn keyword(&mut self, keyword: &[u8]) -> Result<(), Cause>
         ensures { MatchResult result
             (λ _. self.old ≡ keyword.now ∷ self.new)
-            (λ cause. (fields : List Field) → IsLineRefused keyword.now fields self.old (cause_number cause)) }
+            (λ cause. (fields : List Field)
+            → IsLineRefused keyword.now fields self.old (cause_number cause)) }
     {
         match self.next() {
             Some(word) if word == keyword => Ok(()),
@@ -70,7 +72,8 @@ impl<'a> Words<'a> {
     fn number(&mut self) -> Result<u64, Cause>
         ensures { MatchResult result
             (λ n. self.old ≡ decimal n ∷ self.new)
-            (λ cause. (test : ℕ → Bool) (why : ℕ) → IsWrongAt (Number test why) self.old (cause_number cause)) }
+            (λ cause. (test : ℕ → Bool) (why : ℕ)
+            → IsWrongAt (Number test why) self.old (cause_number cause)) }
     {
         let word = self.next().ok_or(Cause::Missing)?;
         read_number(word).ok_or(Cause::BadNumber)
@@ -127,7 +130,8 @@ impl<'a> Words<'a> {
 
     /// No word is left.
     pub(crate) fn end(&mut self) -> Result<(), Cause>
-        ensures { MatchResult result (λ _. self.old ≡ []) (λ cause. (self.old ≢ []) × (cause_number cause ≡ 2)) }
+        ensures { MatchResult result (λ _. self.old ≡ [])
+            (λ cause. (self.old ≢ []) × (cause_number cause ≡ 2)) }
     {
         match self.next() {
             None => Ok(()),

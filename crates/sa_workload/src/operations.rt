@@ -41,7 +41,8 @@ enum RegisterOperation {
 
 /// The operation of this word; `None` exactly where it has none.
 fn operation_of(word: &[u8]) -> Option<Operation>
-    ensures { MatchOption result (¬ Contains instr_words word.now) (λ operation. word.now ≡ word_of operation) }
+    ensures { MatchOption result (¬ Contains instr_words word.now)
+        (λ operation. word.now ≡ word_of operation) }
 {
     match word {
         b"compute" => Some(Operation::Compute),
@@ -72,7 +73,8 @@ pub(crate) fn read_operation(
     words: &mut Words,
 ) -> Result<Instr, Cause>
     ensures { MatchResult result
-        (λ instr. (words.old ≡ instr_line instr ++ words.new) × IsAllowed (draft_of draft.now) len instr)
+        (λ instr. (words.old ≡ instr_line instr ++ words.new)
+        × IsAllowed (draft_of draft.now) len instr)
         (λ cause. IsOperationRefused (draft_of draft.now) len words.old (cause_number cause)) }
 {
     let Some(word) = words.next() else {
@@ -92,7 +94,8 @@ fn read_operands(
     words: &mut Words,
 ) -> Result<Instr, Cause>
     ensures { MatchResult result
-        (λ instr. (word_of operation ∷ words.old ≡ instr_line instr ++ words.new) × IsAllowed (draft_of draft.now) len instr)
+        (λ instr. (word_of operation ∷ words.old ≡ instr_line instr ++ words.new)
+        × IsAllowed (draft_of draft.now) len instr)
         (λ cause. IsFirstWrong (operands_of (draft_of draft.now) len operation) words.old (cause_number cause)) }
 {
     match operation {
@@ -122,7 +125,8 @@ fn read_behind_register(
     words: &mut Words,
 ) -> Result<Instr, Cause>
     ensures { MatchResult result
-        (λ instr. (register_word_of operation ∷ register reg ∷ words.old ≡ instr_line instr ++ words.new)
+        (λ instr. (register_word_of operation ∷ register reg ∷ words.old ≡ instr_line instr
+        ++ words.new)
         × IsAllowed (draft_of draft.now) len instr)
         (λ cause. IsFirstWrong (behind_register (draft_of draft.now) len operation) words.old (cause_number cause)) }
 {

@@ -15,7 +15,8 @@ pub fn push_line(
     numbers: &[u64],
 ) -> Result<(), AllocError>
     ensures { OnOk result (out.new.items
-        ≡ out.old.items ++ line_text (word.now ∷ (map register registers.now ++ map decimal numbers.now))) }
+        ≡ out.old.items ++ line_text (word.now ∷ (map register registers.now
+        ++ map decimal numbers.now))) }
 {
     out.extend_from_slice(word)?;
     push_registers(out, registers)?;
@@ -25,7 +26,8 @@ pub fn push_line(
 
 // Appends each register behind a space.
 fn push_registers(out: &mut Vec<u8>, registers: &[Reg]) -> Result<(), AllocError>
-    ensures { OnOk result (out.new.items ≡ out.old.items ++ flat_map (λ r. 32 ∷ register r) registers.now) }
+    ensures { OnOk result (out.new.items ≡ out.old.items
+        ++ flat_map (λ r. 32 ∷ register r) registers.now) }
 {
     for reg in registers {
         out.extend_from_slice(b" r")?;
@@ -36,7 +38,8 @@ fn push_registers(out: &mut Vec<u8>, registers: &[Reg]) -> Result<(), AllocError
 
 // Appends each number behind a space.
 fn push_numbers(out: &mut Vec<u8>, numbers: &[u64]) -> Result<(), AllocError>
-    ensures { OnOk result (out.new.items ≡ out.old.items ++ flat_map (λ n. 32 ∷ decimal n) numbers.now) }
+    ensures { OnOk result (out.new.items ≡ out.old.items
+        ++ flat_map (λ n. 32 ∷ decimal n) numbers.now) }
 {
     for n in numbers {
         out.extend_from_slice(b" ")?;

@@ -37,9 +37,11 @@ pub fn read(alloc: Global, bytes: &[u8]) -> Result<Workload, Unread>
     ensures bad { IfErr result (λ unread. IfBad unread (λ bad. BadAt bytes.now bad.line bad.why)) }
 
     // A text is read, and what is bad is refused, unless memory runs out.
-    ensures text { (w : WorkloadView) → IsText bytes.now w → MatchResult result (λ read. read ≡ w) (λ unread. unread ≡ Unread.OutOfMemory) }
+    ensures text { (w : WorkloadView) → IsText bytes.now w → MatchResult result (λ read. read
+        ≡ w) (λ unread. unread ≡ Unread.OutOfMemory) }
     ensures refused { (k why : ℕ) → BadAt bytes.now k why
-        → MatchResult result (λ _. ⊥) (λ unread. IfBad unread (λ bad. (bad.line ≡ k) × (bad.why ≡ why))) }
+        → MatchResult result (λ _. ⊥) (λ unread. IfBad unread (λ bad. (bad.line ≡ k) × (bad.why
+        ≡ why))) }
 {
     read_versions(alloc, VERSIONS, bytes)
 }
@@ -52,9 +54,11 @@ pub fn read_one(alloc: Global, bytes: &[u8]) -> Result<Workload, Unread>
     ensures bad { IfErr result (λ unread. IfBad unread (λ bad. BadAt1 bytes.now bad.line bad.why)) }
 
     // A text is read, and what is bad is refused, unless memory runs out.
-    ensures text { (w : WorkloadView) → IsText1 bytes.now w → MatchResult result (λ read. read ≡ w) (λ unread. unread ≡ Unread.OutOfMemory) }
+    ensures text { (w : WorkloadView) → IsText1 bytes.now w → MatchResult result (λ read. read
+        ≡ w) (λ unread. unread ≡ Unread.OutOfMemory) }
     ensures refused { (k why : ℕ) → BadAt1 bytes.now k why
-        → MatchResult result (λ _. ⊥) (λ unread. IfBad unread (λ bad. (bad.line ≡ k) × (bad.why ≡ why))) }
+        → MatchResult result (λ _. ⊥) (λ unread. IfBad unread (λ bad. (bad.line ≡ k) × (bad.why
+        ≡ why))) }
 {
     read_versions(alloc, 1, bytes)
 }

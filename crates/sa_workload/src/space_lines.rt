@@ -43,7 +43,8 @@ fn read_draft(
     words: &mut Words,
 ) -> Result<SpaceDraft, Cause>
     ensures { MatchResult result
-        (λ draft. (codes "space" ∷ words.old ≡ draft_line header.now.version (draft_of draft) ++ words.new)
+        (λ draft. (codes "space" ∷ words.old ≡ draft_line header.now.version (draft_of draft)
+        ++ words.new)
         × IsSpaceStart (machine_of header.now) spaces.now (draft_of draft))
         (λ cause. IsFirstWrong (space_fields (machine_of header.now) spaces.now) words.old (cause_number cause)) }
 {
@@ -69,7 +70,8 @@ fn read_draft(
 /// The patience of a space: 1 where the version has none.
 fn read_patience(header: &Header, spaces: &[SpaceDef], words: &mut Words) -> Result<u16, Cause>
     ensures { let machine = machine_of header.now in MatchResult result
-        (λ n. (words.old ≡ (if header.now.version == 3 then decimal n ∷ [] else []) ++ words.new) × IsPatience machine spaces.now n)
+        (λ n. (words.old ≡ (if header.now.version == 3 then decimal n ∷ [] else []) ++ words.new)
+        × IsPatience machine spaces.now n)
         (λ cause. IsFirstWrong (patience_fields machine spaces.now) words.old (cause_number cause)) }
 {
     if header.version != 3 {
@@ -101,7 +103,8 @@ pub(crate) fn read_sem(
     mut draft: SpaceDraft,
     words: Words,
 ) -> Result<Stage, Refusal>
-    ensures { let position = AtSem (machine_of header) spaces.items (draft_of draft) in MatchResult result
+    ensures { let position = AtSem (machine_of header) spaces.items (draft_of draft) in
+        MatchResult result
         (λ stage. IsNext position words.entry (position_of stage))
         (λ refusal. IfBecause refusal (IsRefused 0 position words.entry)) }
 {
@@ -118,7 +121,8 @@ pub(crate) fn read_absent_or_program(
     draft: SpaceDraft,
     mut words: Words,
 ) -> Result<Stage, Refusal>
-    ensures { let position = AtAbsent (machine_of header) spaces.items (draft_of draft) in MatchResult result
+    ensures { let position = AtAbsent (machine_of header) spaces.items (draft_of draft) in
+        MatchResult result
         (λ stage. IsNext position words.entry (position_of stage))
         (λ refusal. IfBecause refusal (IsRefused 0 position words.entry)) }
 {
@@ -169,7 +173,8 @@ pub(crate) fn read_program(
     draft: SpaceDraft,
     mut words: Words,
 ) -> Result<Stage, Cause>
-    ensures { let position = AtProgram (machine_of header) spaces.items (draft_of draft) in MatchResult result
+    ensures { let position = AtProgram (machine_of header) spaces.items (draft_of draft) in
+        MatchResult result
         (λ stage. IsNext position words.entry (position_of stage))
         (λ cause. IsRefused 0 position words.entry (cause_number cause)) }
 {
@@ -186,7 +191,8 @@ fn read_length(
     words: Words,
 ) -> Result<Stage, Cause>
     ensures { MatchResult result
-        (λ stage. (len : ℕ) × (words.entry ≡ decimal len ∷ []) × (1 ≤ len) × (len ≤ MAX_INSTRUCTIONS)
+        (λ stage. (len : ℕ) × (words.entry ≡ decimal len ∷ []) × (1 ≤ len)
+        × (len ≤ MAX_INSTRUCTIONS)
         × (position_of stage ≡ AtInstr (machine_of header) spaces.items (draft_of draft) len []))
         (λ cause. IsRefusedBehind (within 1 MAX_INSTRUCTIONS ∷ []) words.entry (cause_number cause)) }
 {

@@ -44,7 +44,8 @@ fn are_patiences_one(spaces: &[SpaceDef]) -> bool
 
 // Appends the lines before those of the spaces.
 fn push_machine(out: &mut Vec<u8>, w: &Workload) -> Result<(), AllocError>
-    ensures { OnOk result (out.new.items ≡ out.old.items ++ flat_map line_text (machine_lines w.now)) }
+    ensures { OnOk result (out.new.items ≡ out.old.items
+        ++ flat_map line_text (machine_lines w.now)) }
 {
     let version = version(w);
     push_line(out, b"workload", &[], &[version])?;
@@ -56,7 +57,8 @@ fn push_machine(out: &mut Vec<u8>, w: &Workload) -> Result<(), AllocError>
 
 // Appends the line of the slice, which version 1 lacks.
 fn push_slice(out: &mut Vec<u8>, version: u64, slice: u32) -> Result<(), AllocError>
-    ensures { OnOk result (out.new.items ≡ out.old.items ++ flat_map line_text (slice_lines version slice)) }
+    ensures { OnOk result (out.new.items ≡ out.old.items
+        ++ flat_map line_text (slice_lines version slice)) }
 {
     if version == 1 {
         return Ok(());
@@ -66,7 +68,8 @@ fn push_slice(out: &mut Vec<u8>, version: u64, slice: u32) -> Result<(), AllocEr
 
 // Appends the lines of the spaces.
 fn push_spaces(out: &mut Vec<u8>, version: u64, spaces: &[SpaceDef]) -> Result<(), AllocError>
-    ensures { OnOk result (out.new.items ≡ out.old.items ++ flat_map (λ s. flat_map line_text (space_lines version s)) spaces.now) }
+    ensures { OnOk result (out.new.items ≡ out.old.items
+        ++ flat_map (λ s. flat_map line_text (space_lines version s)) spaces.now) }
 {
     for space in spaces {
         push_space(out, version, space)?;
@@ -76,7 +79,8 @@ fn push_spaces(out: &mut Vec<u8>, version: u64, spaces: &[SpaceDef]) -> Result<(
 
 // Appends the lines of a space.
 fn push_space(out: &mut Vec<u8>, version: u64, space: &SpaceDef) -> Result<(), AllocError>
-    ensures { OnOk result (out.new.items ≡ out.old.items ++ flat_map line_text (space_lines version space.now)) }
+    ensures { OnOk result (out.new.items ≡ out.old.items
+        ++ flat_map line_text (space_lines version space.now)) }
 {
     push_space_line(out, version, space)?;
     push_sems(out, space.sems())?;
@@ -86,7 +90,8 @@ fn push_space(out: &mut Vec<u8>, version: u64, space: &SpaceDef) -> Result<(), A
 
 // Appends the first line of a space.
 fn push_space_line(out: &mut Vec<u8>, version: u64, space: &SpaceDef) -> Result<(), AllocError>
-    ensures { OnOk result (out.new.items ≡ out.old.items ++ line_text (space_line version space.now)) }
+    ensures { OnOk result (out.new.items ≡ out.old.items
+        ++ line_text (space_line version space.now)) }
 {
     let priority = u64::from(space.priority());
     let mutexes = u64::from(space.mutexes());
@@ -105,7 +110,8 @@ fn push_space_line(out: &mut Vec<u8>, version: u64, space: &SpaceDef) -> Result<
 
 // Appends a line for each semaphore.
 fn push_sems(out: &mut Vec<u8>, sems: &[u32]) -> Result<(), AllocError>
-    ensures { OnOk result (out.new.items ≡ out.old.items ++ flat_map (λ start. line_text (sem_line start)) sems.now) }
+    ensures { OnOk result (out.new.items ≡ out.old.items
+        ++ flat_map (λ start. line_text (sem_line start)) sems.now) }
 {
     for start in sems {
         push_line(out, b"sem", &[], &[u64::from(*start)])?;
@@ -115,7 +121,8 @@ fn push_sems(out: &mut Vec<u8>, sems: &[u32]) -> Result<(), AllocError>
 
 // Appends a line for each absent page.
 fn push_absent(out: &mut Vec<u8>, pages: &[u16]) -> Result<(), AllocError>
-    ensures { OnOk result (out.new.items ≡ out.old.items ++ flat_map (λ page. line_text (absent_line page)) pages.now) }
+    ensures { OnOk result (out.new.items ≡ out.old.items
+        ++ flat_map (λ page. line_text (absent_line page)) pages.now) }
 {
     for page in pages {
         push_line(out, b"absent", &[], &[u64::from(*page)])?;
@@ -125,7 +132,8 @@ fn push_absent(out: &mut Vec<u8>, pages: &[u16]) -> Result<(), AllocError>
 
 // Appends the lines of each program.
 fn push_programs(out: &mut Vec<u8>, programs: &[Program]) -> Result<(), AllocError>
-    ensures { OnOk result (out.new.items ≡ out.old.items ++ flat_map (λ p. flat_map line_text (program_lines p)) programs.now) }
+    ensures { OnOk result (out.new.items ≡ out.old.items
+        ++ flat_map (λ p. flat_map line_text (program_lines p)) programs.now) }
 {
     for program in programs {
         push_program(out, program)?;
@@ -135,7 +143,8 @@ fn push_programs(out: &mut Vec<u8>, programs: &[Program]) -> Result<(), AllocErr
 
 // Appends the lines of a program.
 fn push_program(out: &mut Vec<u8>, program: &Program) -> Result<(), AllocError>
-    ensures { OnOk result (out.new.items ≡ out.old.items ++ flat_map line_text (program_lines program.now)) }
+    ensures { OnOk result (out.new.items ≡ out.old.items
+        ++ flat_map line_text (program_lines program.now)) }
 {
     let len = program.len();
     push_line(out, b"program", &[], &[u64::from(len)])?;
@@ -172,7 +181,8 @@ fn push_instr(out: &mut Vec<u8>, instr: Instr) -> Result<(), AllocError>
 
 // Appends the lines behind those of the spaces.
 fn push_closing(out: &mut Vec<u8>, w: &Workload) -> Result<(), AllocError>
-    ensures { OnOk result (out.new.items ≡ out.old.items ++ flat_map line_text (closing_lines w.now)) }
+    ensures { OnOk result (out.new.items ≡ out.old.items
+        ++ flat_map line_text (closing_lines w.now)) }
 {
     push_evictions(out, w.evictions())?;
     push_turns(out, w.turns())?;
@@ -181,7 +191,8 @@ fn push_closing(out: &mut Vec<u8>, w: &Workload) -> Result<(), AllocError>
 
 // Appends a line for each eviction.
 fn push_evictions(out: &mut Vec<u8>, evictions: &[Evict]) -> Result<(), AllocError>
-    ensures { OnOk result (out.new.items ≡ out.old.items ++ flat_map (λ e. line_text (evict_line e)) evictions.now) }
+    ensures { OnOk result (out.new.items ≡ out.old.items
+        ++ flat_map (λ e. line_text (evict_line e)) evictions.now) }
 {
     for evict in evictions {
         let numbers = [evict.event, u64::from(evict.space.0), u64::from(evict.page)];
@@ -192,7 +203,8 @@ fn push_evictions(out: &mut Vec<u8>, evictions: &[Evict]) -> Result<(), AllocErr
 
 // Appends a line for each turn.
 fn push_turns(out: &mut Vec<u8>, turns: &[ProcNo]) -> Result<(), AllocError>
-    ensures { OnOk result (out.new.items ≡ out.old.items ++ flat_map (λ p. line_text (turn_line p)) turns.now) }
+    ensures { OnOk result (out.new.items ≡ out.old.items
+        ++ flat_map (λ p. line_text (turn_line p)) turns.now) }
 {
     for proc in turns {
         push_line(out, b"turn", &[], &[u64::from(proc.0)])?;

@@ -22,7 +22,8 @@ impl Model for Plain {
 
 impl Plain {
     pub(crate) fn new(alloc: Global, nodes: u32, lists: u32) -> Result<Plain, AllocError>
-        ensures { IfOk result (λ plain. plain ≡ record { nodes = nodes; lists = replicate lists [] }) }
+        ensures { IfOk result (λ plain. plain
+            ≡ record { nodes = nodes; lists = replicate lists [] }) }
     {
         let mut empty = Vec::with_capacity(alloc, lists as usize)?;
         for _ in 0..lists {
@@ -36,7 +37,8 @@ impl Plain {
 
     pub(crate) fn push_front(&mut self, list: u32, node: u32) -> Result<(), AllocError>
         requires { list < length self.old.lists }
-        ensures { IfOk result (λ _. self.new ≡ with_list self.old list (node ∷ list_at self.old.lists list)) }
+        ensures { IfOk result (λ _. self.new
+            ≡ with_list self.old list (node ∷ list_at self.old.lists list)) }
     {
         self.lists[list as usize].insert(0, node)?;
         Ok(())
@@ -44,7 +46,8 @@ impl Plain {
 
     pub(crate) fn push_back(&mut self, list: u32, node: u32) -> Result<(), AllocError>
         requires { list < length self.old.lists }
-        ensures { IfOk result (λ _. self.new ≡ with_list self.old list (list_at self.old.lists list ++ node ∷ [])) }
+        ensures { IfOk result (λ _. self.new ≡ with_list self.old list (list_at self.old.lists list
+            ++ node ∷ [])) }
     {
         self.lists[list as usize].push(node)?;
         Ok(())
@@ -65,8 +68,10 @@ impl Plain {
 
     pub(crate) fn pop_back(&mut self, list: u32) -> Option<u32>
         requires { list < length self.old.lists }
-        ensures last { let xs = list_at self.old.lists list in result ≡ slice_get xs (length xs - 1) }
-        ensures lists { let xs = list_at self.old.lists list in self.new ≡ with_list self.old list (take (length xs - 1) xs) }
+        ensures last { let xs = list_at self.old.lists list in result
+            ≡ slice_get xs (length xs - 1) }
+        ensures lists { let xs = list_at self.old.lists list in self.new
+            ≡ with_list self.old list (take (length xs - 1) xs) }
     {
         self.lists[list as usize].pop()
     }
@@ -82,7 +87,9 @@ impl Plain {
         requires list { list < length self.old.lists }
         requires from { from < length self.old.lists }
         requires differ { list ≢ from }
-        ensures { IfOk result (λ _. self.new ≡ with_list (with_list self.old list (list_at self.old.lists list ++ list_at self.old.lists from)) from []) }
+        ensures { IfOk result (λ _. self.new
+            ≡ with_list (with_list self.old list (list_at self.old.lists list
+            ++ list_at self.old.lists from)) from []) }
     {
         let moved = self.lists[from as usize].clone()?;
         self.lists[list as usize].extend_from_slice(&moved)?;
