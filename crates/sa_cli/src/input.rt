@@ -39,7 +39,8 @@ impl From<AllocError> for ReadError {
 /// Reads the source to its end, or until one byte more than the limit was got. Whatever it answers, the
 /// source has lost the bytes that were got, and no others.
 pub fn read_input<S: Source>(alloc: Global, source: &mut S) -> Result<Vec<u8>, ReadError>
-    ensures input { IfOk result (λ bytes. ReadsInput (S.left source.old) (S.left source.new) bytes.items) }
+    ensures input { IfOk result
+        (λ bytes. ReadsInput (S.left source.old) (S.left source.new) bytes.items) }
     ensures fault { IsErrOf result ReadError.Fault
         → HasRisen (S.faults source.old) (S.faults source.new) }
     ensures lost { LosesPrefix (S.left source.old) (S.left source.new) }

@@ -37,7 +37,8 @@ impl Model for Links {
 impl Links {
     /// `lists` empty lists for `nodes` nodes, in one block. Fails only where memory runs out.
     pub fn new(alloc: Global, nodes: u32, lists: u32) -> Result<Links, AllocError>
-        ensures { IfOk result (λ links. links ≡ record { nodes = nodes; lists = replicate lists [] }) }
+        ensures { IfOk result
+            (λ links. links ≡ record { nodes = nodes; lists = replicate lists [] }) }
     {
         let count = nodes;
         let mut nodes = numbered(alloc, count, lists)?;

@@ -31,8 +31,10 @@ pub(crate) fn join(nodes: &mut Vec<Node>, front: Place<Node>, back: Place<Node>)
     requires back { IsNodePlace (vec_ptr nodes.old) (length nodes.old.items) back.ptr }
     ensures wires { let base = vec_ptr nodes.old in
         wires_of (vec_ptr nodes.new) nodes.new.items
-        ≡ joined (wires_of base nodes.old.items) (node_index base front.ptr) (node_index base back.ptr) }
-    ensures relinked { IsRelinked (vec_ptr nodes.old) nodes.old.items (vec_ptr nodes.new) nodes.new.items }
+        ≡ joined (wires_of base nodes.old.items)
+        (node_index base front.ptr) (node_index base back.ptr) }
+    ensures relinked { IsRelinked (vec_ptr nodes.old) nodes.old.items
+        (vec_ptr nodes.new) nodes.new.items }
 {
     let node = *at(nodes, front);
     put(nodes, front, Node { next: back, ..node });
@@ -55,8 +57,10 @@ pub(crate) fn insert(nodes: &mut Vec<Node>, front: Place<Node>, place: Place<Nod
     ensures wires { let base = vec_ptr nodes.old in
         let old = wires_of base nodes.old.items in
         let a = node_index base front.ptr in let x = node_index base place.ptr in
-        wires_of (vec_ptr nodes.new) nodes.new.items ≡ joined (joined old a x) x (slice_index old.next a) }
-    ensures relinked { IsRelinked (vec_ptr nodes.old) nodes.old.items (vec_ptr nodes.new) nodes.new.items }
+        wires_of (vec_ptr nodes.new) nodes.new.items
+        ≡ joined (joined old a x) x (slice_index old.next a) }
+    ensures relinked { IsRelinked (vec_ptr nodes.old) nodes.old.items
+        (vec_ptr nodes.new) nodes.new.items }
 {
     let back = at(nodes, front).next;
     join(nodes, front, place);
@@ -71,7 +75,8 @@ pub(crate) fn remove(nodes: &mut Vec<Node>, place: Place<Node>)
         let old = wires_of base nodes.old.items in let x = node_index base place.ptr in
         wires_of (vec_ptr nodes.new) nodes.new.items
         ≡ joined (joined old (slice_index old.prev x) (slice_index old.next x)) x x }
-    ensures relinked { IsRelinked (vec_ptr nodes.old) nodes.old.items (vec_ptr nodes.new) nodes.new.items }
+    ensures relinked { IsRelinked (vec_ptr nodes.old) nodes.old.items
+        (vec_ptr nodes.new) nodes.new.items }
 {
     let node = *at(nodes, place);
     join(nodes, node.prev, node.next);

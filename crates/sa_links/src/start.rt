@@ -42,8 +42,10 @@ pub(crate) fn numbered(alloc: Global, count: u32, lists: u32) -> Result<Vec<Node
 pub(crate) fn close(nodes: &mut Vec<Node>, begin: Place<Node>)
     requires begin { begin.ptr ≡ vec_ptr nodes.old }
     requires linked { AreLinked (vec_ptr nodes.old) nodes.old.items }
-    ensures relinked { IsRelinked (vec_ptr nodes.old) nodes.old.items (vec_ptr nodes.new) nodes.new.items }
-    ensures closed { (k : ℕ) → k < length nodes.old.items → IsEdge (wires_of (vec_ptr nodes.new) nodes.new.items) k k }
+    ensures relinked { IsRelinked (vec_ptr nodes.old) nodes.old.items
+        (vec_ptr nodes.new) nodes.new.items }
+    ensures closed { (k : ℕ) → k < length nodes.old.items
+        → IsEdge (wires_of (vec_ptr nodes.new) nodes.new.items) k k }
 {
     for index in 0..nodes.len() {
         let place = place_of(nodes, begin, index);

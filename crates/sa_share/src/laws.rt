@@ -10,13 +10,15 @@ use sa_base::MAX_SPACES;
 /// Whatever the claims and however many the processors, there are shares.
 pub fn shares_exist()
     ensures { (processors first : ℕ) (claims : List Claim) → IsFirst first claims
-        → (shares : List ℕ) × (length shares ≡ length claims) × IsShare processors first claims shares }
+        → (shares : List ℕ) × (length shares ≡ length claims)
+        × IsShare processors first claims shares }
 {}
 
 /// Giving the processors one after another gives the shares.
 pub fn shares_come_one_by_one()
     ensures shares { (processors first : ℕ) (claims : List Claim) → length claims ≤ MAX_SPACES
-        → IsFirst first claims → IsShare processors first claims (shares_of processors first claims) }
+        → IsFirst first claims
+        → IsShare processors first claims (shares_of processors first claims) }
     ensures places { (processors first : ℕ) (claims : List Claim) → length claims ≤ MAX_SPACES
         → IsFirst first claims → length (shares_of processors first claims) ≡ MAX_SPACES }
 {}

@@ -16,7 +16,8 @@ pub fn token(text: &[u8], line: &Line, from: usize) -> Option<(usize, usize)>
     ensures start { IfSome result (λ piece. piece.0 ≡ from) }
     ensures end { IfSome result (λ piece. (from ≤ piece.1) × (piece.1 ≤ line.now.end)) }
     ensures no_space { IfSome result (λ piece. LacksSpace (slice_range text.now from piece.1)) }
-    ensures at_space { IfSome result (λ piece. piece.1 < line.now.end → slice_index text.now piece.1 ≡ 32) }
+    ensures at_space { IfSome result
+        (λ piece. piece.1 < line.now.end → slice_index text.now piece.1 ≡ 32) }
 
     // Of the pieces from `from` on, this is the first, and the others are those from behind its end on.
     ensures pieces { MatchOption result (pieces_from text.now from line.now.end ≡ [])
