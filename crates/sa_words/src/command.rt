@@ -1,0 +1,25 @@
+use sa_base::ProcNo;
+
+/// The order of turns that a run is asked for.
+#[derive(Clone, Copy, Debug, PartialEq, Eq)]
+pub enum ScheduleWord {
+    /// `rr`: each processor in turn.
+    RoundRobin,
+    /// `seed:N`: by the generator of this seed.
+    Seed(u64),
+    /// `given`: by the workload's turn lines.
+    Given,
+    /// `hold:P:N`: the processor, 0 to 15, is held from this event on, 1 to 1,000,000.
+    Hold(ProcNo, u64),
+}
+
+/// What the program is asked to do.
+#[derive(Clone, Copy, Debug, PartialEq, Eq)]
+pub enum Command {
+    /// Runs the workload of standard input, for at most so many events, 1 to 1,000,000.
+    Run { schedule: ScheduleWord, budget: u64 },
+    /// Runs the workload that is made of the number, for at most so many events, 1 to 1,000,000.
+    Load { number: u64, budget: u64 },
+    /// Writes the workload of standard input with this slice, 1 to 1,000,000.
+    Migrate { slice: u32 },
+}

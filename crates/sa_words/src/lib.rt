@@ -1,0 +1,12 @@
+//! The words of a command line, and the command that they are.
+#![tactic(auto)]
+
+mod command;
+mod options;
+mod read;
+mod value;
+mod words;
+
+pub use command::{Command, ScheduleWord};
+pub use read::read_words;
+pub use words::Words;

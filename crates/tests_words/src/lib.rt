@@ -1,0 +1,5 @@
+//! Tests of the command language.
+#![tactic(auto)]
+
+#[cfg(test)]
+mod commands;
