@@ -6,7 +6,7 @@ use Rattle.std.specs.Simd.Lanes.{zip2}
 use Rattle.sa_base.specs.declared.number.ThreadNo.{ThreadNo}
 use Rattle.sa_sync.specs.Sync.{Sync, Mutex, Semaphore}
 use Rattle.sa_base.specs.declared.limits.TheConstants.{MAX_THREADS}
-use Rattle.sa_sync.specs.declared.TheConstants.{MAX_MUTEXES, MAX_SEMAPHORES}
+use Rattle.sa_instr.specs.declared.limits.TheConstants.{MAX_MUTEXES, MAX_SEMAPHORES}
 use Rattle.sa_sync.specs.declared.state.SyncState.TheInside.{Inside}
 
 abbrev pub mutex_of : Option ThreadNo → List ℕ → Mutex

@@ -7,9 +7,3 @@ mod state;
 
 pub use answer::SyncAnswer;
 pub use state::SyncState;
-
-/// How many mutexes a space declares at most.
-pub const MAX_MUTEXES: u16 = 64;
-
-/// How many semaphores a space declares at most.
-pub const MAX_SEMAPHORES: u16 = 64;

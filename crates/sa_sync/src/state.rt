@@ -4,9 +4,8 @@ ghost use Rattle.sa_sync.specs.Sync.{opening, cell_at, semaphore_at, WaitsNowher
 ghost use Rattle.sa_sync.specs.Calls.{locked, unlocked, waited, signalled, joined, finished, first_joiner, without_joiner, stored, is_holder};
 
 use crate::answer::SyncAnswer;
-use crate::{MAX_MUTEXES, MAX_SEMAPHORES};
 use sa_base::{MAX_THREADS, ThreadNo};
-use sa_instr::SpaceDef;
+use sa_instr::{MAX_MUTEXES, SpaceDef};
 use sa_links::Links;
 use std::alloc::{AllocError, Global};
 use std::marker::Model;
