@@ -4,6 +4,7 @@ use Rattle.std.specs.Prelude.{All}
 use Rattle.std.specs.List.{range_with_len}
 use Rattle.std.proofs.lemmas.List.FromFn.{length-map-range_with_len}
 use Rattle.std.proofs.lemmas.List.Elements.{All-cons, All-map}
+use Rattle.sa_instr.specs.declared.limits.TheConstants.{LAST_PAGE, MAX_START}
 use Rattle.sa_instr.specs.declared.instr.Instr.{Instr}
 use Rattle.sa_instr.specs.Instr.{IsInRange, JumpsBelow, NamesDeclared}
 use Rattle.sa_instr.specs.Program.{IsProgram}
@@ -45,9 +46,9 @@ is_space n k = record {
   priority = omega arith;
   mutexes = omega arith;
   sems = omega arith;
-  starts = all_of (λ start. start ≤ 1000000) (0 ∷ []) (search rules);
+  starts = all_of (λ start. start ≤ MAX_START) (0 ∷ []) (search rules);
   cells = omega arith;
-  pages = all_of (λ page. page ≤ 15) [] tt;
+  pages = all_of (λ page. page ≤ LAST_PAGE) [] tt;
   absent_rise = λ i h. absurd (omega arith);
   some_program = omega arith;
   few_programs = omega arith;

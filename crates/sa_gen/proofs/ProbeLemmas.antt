@@ -4,6 +4,7 @@ use Rattle.std.specs.Prelude.{All}
 use Rattle.std.proofs.lemmas.List.{length-replicate}
 use Rattle.std.proofs.lemmas.List.Elements.{All-append, All-replicate}
 use Rattle.sa_base.specs.declared.number.ProcNo.{ProcNo}
+use Rattle.sa_instr.specs.declared.limits.TheConstants.{LAST_PAGE, MAX_START, MAX_TURNS}
 use Rattle.sa_instr.specs.declared.workload.Evict.{Evict}
 use Rattle.sa_instr.specs.Instr.{IsInRange, JumpsBelow, NamesDeclared}
 use Rattle.sa_instr.specs.Program.{IsProgram}
@@ -44,7 +45,7 @@ are_turns k =
     (turns_below 1 1 (omega arith)))
     (turns_below 0 11 (omega arith))
 
-few_turns : (k : ℕ) → k ≤ 40 → length (probe_turns k) ≤ 65536
+few_turns : (k : ℕ) → k ≤ 40 → length (probe_turns k) ≤ MAX_TURNS
 few_turns k few = simp (length-append, length-replicate) (omega arith)
 
 is_probe_space : (k : ℕ) → k ≤ 40 → IsSpace (probe_space k)
@@ -52,9 +53,9 @@ is_probe_space k few = record {
   priority = omega arith;
   mutexes = omega arith;
   sems = omega arith;
-  starts = all_of (λ start. start ≤ 1000000) [] tt;
+  starts = all_of (λ start. start ≤ MAX_START) [] tt;
   cells = omega arith;
-  pages = all_of (λ page. page ≤ 15) [] tt;
+  pages = all_of (λ page. page ≤ LAST_PAGE) [] tt;
   absent_rise = λ i h. absurd (omega arith);
   some_program = omega arith;
   few_programs = omega arith;
