@@ -5,5 +5,5 @@ mod counts;
 mod fields;
 mod text;
 
-pub use counts::counts;
+pub use counts::kind_counts;
 pub use text::{last_line, print};

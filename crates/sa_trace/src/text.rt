@@ -2,7 +2,7 @@ ghost use Rattle.std.specs.Prelude.{◌≡◌, ◌++◌, IfOk, OnOk};
 ghost use Rattle.std.specs.List.{flat_map};
 ghost use Rattle.sa_trace.specs.TraceText.{counts_text, line_of, last_line_of, trace_text, end_word};
 
-use crate::counts::counts;
+use crate::counts::kind_counts;
 use crate::fields::{push_field, push_record};
 use sa_base::{End, Item, Trace};
 use sa_text::print_number;
@@ -64,7 +64,7 @@ fn push_last_line(
     out.extend_from_slice(b"end ")?;
     out.extend_from_slice(word(end))?;
     push_field(out, Some(events))?;
-    push_counts(out, &counts(items))?;
+    push_counts(out, &kind_counts(items))?;
     out.extend_from_slice(b"\n")
 }
 
