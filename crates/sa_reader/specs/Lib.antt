@@ -1,0 +1,3 @@
+pub mod Pieces
+pub mod Line
+pub mod Reading
