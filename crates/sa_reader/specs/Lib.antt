@@ -1,3 +1,4 @@
 pub mod Pieces
 pub mod Line
 pub mod Reading
+pub mod Text
