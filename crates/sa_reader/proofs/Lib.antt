@@ -1,3 +1,5 @@
 pub mod Spelling
 pub mod Steps
 pub mod Readings
+pub mod Records
+pub mod Lines

@@ -28,7 +28,7 @@ if_some : (b : Bool) (x n : ℕ) → cond b (Some x) None ≡ Some n → (b ≡ 
 if_some true x n h = (refl, same_Some x n h)
 if_some false x n h = absurd cc
 
-both_true : (a b : Bool) → (a && b) ≡ true → (a ≡ true) × (b ≡ true)
+pub both_true : (a b : Bool) → (a && b) ≡ true → (a ≡ true) × (b ≡ true)
 both_true true true h = (refl, refl)
 both_true true false h = absurd (false≢true h)
 both_true false b h = absurd (false≢true h)
@@ -42,7 +42,7 @@ number_of-some piece n h =
     let small : v < 2 ^ 64 = ltb-true v (2 ^ 64) tests.0 in
     ((bytes_eq-Decides piece (decimal v)).0 tests.1 ∙ ap decimal made.1, subst (λ m. m < 2 ^ 64) made.1 small)
 
-or_cause-ok : {A E : Type 0} (o : Option A) (cause : E) (a : A) → or_cause o cause ≡ Ok a → o ≡ Some a
+pub or_cause-ok : {A E : Type 0} (o : Option A) (cause : E) (a : A) → or_cause o cause ≡ Ok a → o ≡ Some a
 or_cause-ok None cause a h = absurd cc
 or_cause-ok (Some b) cause a h = cc
 
@@ -97,7 +97,7 @@ pub if_either : {A : Type 0} (b : Bool) (x y z : A) → cond b x y ≡ z → ((b
 if_either true x y z h = inl (refl, h)
 if_either false x y z h = inr (refl, h)
 
-not_true : (b : Bool) → (b ≡ true → ⊥) → b ≡ false
+pub not_true : (b : Bool) → (b ≡ true → ⊥) → b ≡ false
 not_true true h = absurd (h refl)
 not_true false h = refl
 
