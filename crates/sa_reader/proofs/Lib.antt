@@ -3,3 +3,4 @@ pub mod Steps
 pub mod Readings
 pub mod Records
 pub mod Lines
+pub mod LineTexts

@@ -156,6 +156,7 @@ pub record IsLastAt (least : ℕ) (counts : List ℕ) (ps : List (List ℕ)) (sa
   pub pieces : ps ≡ end_word end ∷ decimal events ∷ map decimal counts
   pub enough : least ≤ events
   pub small : events < 2 ^ 64
+  pub few : All (λ n. n < 2 ^ 64) counts
 
 counts_at-ok : (least : ℕ) (counts : List ℕ) (end : End) (w : List ℕ) (ps : List (List ℕ)) (said : Said) → w ≡ end_word end → counts_at least counts end ps ≡ Ok said
     → IsLastAt least counts (w ∷ ps) said
@@ -168,9 +169,10 @@ counts_at-ok least counts end w (p ∷ rest) said word h =
       end = end;
       events = events.0;
       is = sym none.1;
-      pieces = ap (λ x. x ∷ p ∷ rest) word ∙ ap (λ x. end_word end ∷ x ∷ rest) read.0 ∙ ap (λ r. end_word end ∷ decimal events.0 ∷ r) (wrong_count-none counts rest none.0);
+      pieces = ap (λ x. x ∷ p ∷ rest) word ∙ ap (λ x. end_word end ∷ x ∷ rest) read.0 ∙ ap (λ r. end_word end ∷ decimal events.0 ∷ r) (wrong_count-none counts rest none.0).0;
       enough = read.2;
       small = read.1;
+      few = (wrong_count-none counts rest none.0).1;
     }
 
 pub end_at-ok : (items : List Item) (ps : List (List ℕ)) (said : Said) → end_at items ps ≡ Ok said → IsLastAt (least_event (last_of items)) (counts_of items) ps said
@@ -218,7 +220,7 @@ said_by-next items (p ∷ rest) item fits lacks h =
 
 -- and pieces that are read as the end are those of the last line
 pub said_by-end : (items : List Item) (ps : List (List ℕ)) (end : End) (events : ℕ) → FitsProc (last_of items) → All LacksSpace ps → said_by items ps ≡ Ok (Last end events)
-    → (ps ≡ last_pieces (counts_of items) end events) × (least_event (last_of items) ≤ events) × (events < 2 ^ 64)
+    → (ps ≡ last_pieces (counts_of items) end events) × (least_event (last_of items) ≤ events) × (events < 2 ^ 64) × All (λ n. n < 2 ^ 64) (counts_of items)
 said_by-end items [] end events fits lacks h = absurd cc
 said_by-end items (p ∷ rest) end events fits lacks h =
     elim (if_either (bytes_eq p (codes "end")) (end_at items rest) (and_then (number_in (least_event (last_of items)) MAX64 p) (λ event. item_at (last_of items) event rest)) (Ok (Last end events)) h) [
@@ -227,7 +229,7 @@ said_by-end items (p ∷ rest) end events fits lacks h =
           let same = same_Last is.end end is.events events (sym is.is) in
           (ap (λ x. x ∷ rest) ((bytes_eq-Decides p (codes "end")).0 ended.0)
             ∙ ap (λ r. codes "end" ∷ r) (is.pieces ∙ ap (λ e. end_word e ∷ decimal is.events ∷ map decimal (counts_of items)) same.0 ∙ ap (λ n. end_word end ∷ decimal n ∷ map decimal (counts_of items)) same.1),
-            subst (λ n. least_event (last_of items) ≤ n) same.1 is.enough, subst (λ n. n < 2 ^ 64) same.1 is.small)
+            subst (λ n. least_event (last_of items) ≤ n) same.1 is.enough, subst (λ n. n < 2 ^ 64) same.1 is.small, is.few)
       | inr other ↦
           let event = and_then-ok (number_in (least_event (last_of items)) MAX64 p) (λ event. item_at (last_of items) event rest) (Last end events) other.1 in
           absurd (last_no_next (item_at-ok (last_of items) event.0 rest (Last end events) fits (All-tail LacksSpace p rest lacks) event.2))

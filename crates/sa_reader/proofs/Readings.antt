@@ -6,7 +6,7 @@ use Rattle.std.specs.Str.Parse.{digits_value}
 use Rattle.std.proofs.lemmas.Bool.{false≢true, ltb-true, leb-true, le-leb}
 use Rattle.std.proofs.lemmas.Slice.Eq.{bytes_eq-Decides}
 use Rattle.std.proofs.lemmas.Option.{same_Some}
-use Rattle.std.proofs.lemmas.List.Elements.{All-head, All-tail}
+use Rattle.std.proofs.lemmas.List.Elements.{All-nil, All-cons, All-head, All-tail}
 use Rattle.sa_base.specs.declared.field.Field.{Field}
 use Rattle.sa_base.specs.declared.field.Field.TheVariants.{Space, OptionalSpace, Thread, OptionalThread, Processor, Activation, Io, Place, Value, Demand}
 use Rattle.sa_base.specs.declared.refusal.Cause.{Cause}
@@ -71,15 +71,17 @@ wrong_or-none (Ok n) later h = (n, refl, h)
 wrong_or-none (Err cause) later h = absurd cc
 
 -- pieces that are these numbers
-pub wrong_count-none : (counts : List ℕ) (pieces : List (List ℕ)) → wrong_count counts pieces ≡ None → pieces ≡ map decimal counts
-wrong_count-none [] [] h = refl
+pub wrong_count-none : (counts : List ℕ) (pieces : List (List ℕ)) → wrong_count counts pieces ≡ None → (pieces ≡ map decimal counts) × All (λ n. n < 2 ^ 64) counts
+wrong_count-none [] [] h = (refl, All-nil (λ n. n < 2 ^ 64))
 wrong_count-none [] (piece ∷ rest) h = absurd cc
 wrong_count-none (count ∷ counts) [] h = absurd cc
 wrong_count-none (count ∷ counts) (piece ∷ rest) h =
     let first = wrong_or-none (number_in count count piece) (wrong_count counts rest) h in
     let read = number_in-ok count count piece first.0 first.1 in
     let same : first.0 ≡ count = omega (arith, read.2, read.3) in
-    ap (λ p. p ∷ rest) (read.0 ∙ ap decimal same) ∙ ap (λ r. decimal count ∷ r) (wrong_count-none counts rest first.2)
+    let others = wrong_count-none counts rest first.2 in
+    (ap (λ p. p ∷ rest) (read.0 ∙ ap decimal same) ∙ ap (λ r. decimal count ∷ r) others.0,
+      All-cons (λ n. n < 2 ^ 64) count counts (subst (λ n. n < 2 ^ 64) same read.1) others.1)
 
 pub wrong_count-decimals : (counts : List ℕ) → All (λ n. n < 2 ^ 64) counts → wrong_count counts (map decimal counts) ≡ None
 wrong_count-decimals [] small = refl
@@ -105,7 +107,7 @@ cond-and_false : {A : Type 0} (a : Bool) (x y : A) → cond (a && false) x y ≡
 cond-and_false true x y = refl
 cond-and_false false x y = refl
 
-greatest-small : (field : Field) → (range_of field).greatest < 2 ^ 64
+pub greatest-small : (field : Field) → (range_of field).greatest < 2 ^ 64
 greatest-small Space = omega arith
 greatest-small OptionalSpace = omega arith
 greatest-small Thread = omega arith

@@ -1,8 +1,8 @@
 -- The texts that are accepted: the trace texts of items in order, which fit their types.
-use Rattle.std.specs.Prelude.{◌≡◌, ℕ, ◌^◌, ◌<◌, ◌≤◌, List, [], ◌∷◌, length, All, Option, Some, None}
+use Rattle.std.specs.Prelude.{◌≡◌, ℕ, ◌^◌, ◌<◌, ◌≤◌, List, [], ◌∷◌, All, Option, Some, None}
 use Rattle.sa_base.specs.declared.record.Item.{Item}
 use Rattle.sa_base.specs.Parts.{FitTheKind, parts_of}
-use Rattle.sa_trace.specs.TraceText.{trace_text}
+use Rattle.sa_trace.specs.TraceText.{counts_of, trace_text}
 use Rattle.sa_reader.specs.Line.{last_of, least_event}
 use Rattle.sa_reader.specs.Reading.{Told}
 
@@ -28,7 +28,7 @@ pub record IsAccepted (t : Told) : Type 0 where
   pub in_order : InOrder None t.items
   pub enough : least_event (last_of t.items) ≤ t.events
   pub events : t.events < 2 ^ 64
-  pub few : length t.items < 2 ^ 64
+  pub few : All (λ n. n < 2 ^ 64) (counts_of t.items)
 
 -- the text of these items, this end and this number of events, and accepted
 pub record IsTextOf (text : List ℕ) (t : Told) : Type 0 where
