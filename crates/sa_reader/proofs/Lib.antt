@@ -4,3 +4,4 @@ pub mod Readings
 pub mod Records
 pub mod Lines
 pub mod LineTexts
+pub mod Whole
