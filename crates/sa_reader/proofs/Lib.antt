@@ -5,3 +5,4 @@ pub mod Records
 pub mod Lines
 pub mod LineTexts
 pub mod Whole
+pub mod FirstBad

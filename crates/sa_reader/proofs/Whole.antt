@@ -206,3 +206,6 @@ read_of-ok text t h =
         few = is.accepted.few;
       };
     }
+
+pub same_told : (t u : Told) (r : Result Told Bad) → r ≡ Ok t → r ≡ Ok u → t ≡ u
+same_told t u r a b = cc

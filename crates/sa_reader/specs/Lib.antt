@@ -2,3 +2,4 @@ pub mod Pieces
 pub mod Line
 pub mod Reading
 pub mod Text
+pub mod Laws
