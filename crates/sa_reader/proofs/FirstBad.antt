@@ -1,5 +1,5 @@
 -- The line that is refused is the first that no text has behind the lines before it.
-use Rattle.std.proofs.Common.{◌≡◌, ◌≢◌, ℕ, zero, suc, ◌+◌, ◌-◌, ◌^◌, ◌<◌, ◌≤◌, List, [], ◌∷◌, ◌++◌, length, map, take, Option, Some, None, Result, Ok, Err, ◌⊎◌, refl, sym, ap, ◌∙◌, subst, inl, inr, arith, append_assoc, append-nil, length-append}
+use Rattle.std.proofs.Common.{◌≡◌, ◌≢◌, ℕ, zero, suc, ◌+◌, ◌-◌, ◌^◌, ◌<◌, ◌≤◌, List, [], ◌∷◌, ◌++◌, length, take, Option, Some, None, Result, Ok, Err, ◌⊎◌, refl, sym, ap, ◌∙◌, subst, inl, inr, arith, append_assoc, append-nil, length-append}
 use Rattle.std.specs.Prelude.{All, ◌==◌}
 use Rattle.std.specs.List.{range_with_len}
 use Rattle.std.proofs.lemmas.Bool.Decides.{eqb_tells, leb_tells}
@@ -21,10 +21,10 @@ use Rattle.sa_reader.specs.declared.line.Said.TheVariants.{Next, Last}
 use Rattle.sa_reader.specs.Pieces.{unless}
 use Rattle.sa_reader.specs.Line.{last_of, least_event, line_in}
 use Rattle.sa_reader.specs.Reading.{Told, told, bad_behind, goes_on, read_from, read_of}
-use Rattle.sa_reader.specs.Text.{FitsItem, InOrder, IsTextOf}
+use Rattle.sa_reader.specs.Text.{FitsItem, InOrder}
 use Rattle.sa_reader.specs.Laws.{IsFirstBad}
 use Rattle.sa_reader.proofs.Lines.{FitsProc}
-use Rattle.sa_reader.proofs.Whole.{item_line, last_line, text_lines, line_in-next, line_in-end, last_of-append, step, AreAccepted, text-lines, read_of-text}
+use Rattle.sa_reader.proofs.Whole.{item_line, text_lines, line_in-next, line_in-end, last_of-append, step, AreAccepted, text-lines, read_of-text}
 
 same_bad : (a b : Bad) → (λ (r : Result Told Bad). r) (Err a) ≡ Err b → a ≡ b
 same_bad a b h = cc
@@ -129,20 +129,25 @@ last-alike number before line lines end events bad last behind (other ∷ others
 
 pub stops : (number : ℕ) (before : List Item) (lines : List LineText) (bad : Bad) → FitsLast (last_of before) → length before + length lines < 2 ^ 64
     → read_from number before lines ≡ Err bad → (k : ℕ) × Stops number before lines bad k
-stops number before [] bad fits few h = (0, record {
-  line = omega (arith, ap (λ (b : Bad). b.line) (same_bad _ bad h));
-  within = omega arith;
-  more = [];
-  whole = before;
-  end = AllDone;
-  events = least_event (last_of before);
-  accepted = can_end before fits (omega arith);
-  front = refl;
-  alike = no_line-alike number before bad h;
-})
+stops number before [] bad fits few h = (
+  0,
+  record {
+    line = omega (arith, ap (λ (b : Bad). b.line) (same_bad _ bad h));
+    within = omega arith;
+    more = [];
+    whole = before;
+    end = AllDone;
+    events = least_event (last_of before);
+    accepted = can_end before fits (omega arith);
+    front = refl;
+    alike = no_line-alike number before bad h;
+  },
+)
 stops number before (line ∷ lines) bad fits few h =
     elim (goes_on-err number (line_in before line) (λ item. read_from (number + 1) (before ++ item ∷ []) lines) (λ end events. unless (bad_behind (number + 1) lines) (told before end events)) bad h) [
-      | inl wrong ↦ (0, record {
+      | inl wrong ↦ (
+        0,
+        record {
           line = omega (arith, ap (λ (b : Bad). b.line) wrong.2);
           within = omega arith;
           more = [];
@@ -152,45 +157,50 @@ stops number before (line ∷ lines) bad fits few h =
           accepted = can_end before fits (omega arith);
           front = refl;
           alike = cause-alike number before line lines wrong.0 bad wrong.1 wrong.2;
-        })
+        },
+      )
       | inr right ↦ elim right [
         | inl next ↦
             let is = line_in-next before line next.0 (fits_proc (last_of before) fits) next.1 in
             let rest = stops (number + 1) (before ++ next.0 ∷ []) lines bad (subst FitsLast (sym (last_of-append before next.0)) is.1) (omega (arith, length-append before (next.0 ∷ []))) next.2 in
-            let later = rest.1 in
-            (suc rest.0, record {
-              line = omega (arith, later.line);
-              within = omega (arith, later.within);
-              more = next.0 ∷ later.more;
-              whole = later.whole;
-              end = later.end;
-              events = later.events;
-              accepted = record {
-                all = later.accepted.all ∙ append_assoc before (next.0 ∷ []) later.more;
-                fit = All-cons FitsItem next.0 later.more is.1 later.accepted.fit;
-                in_order = (is.2, subst (λ last. InOrder last later.more) (last_of-append before next.0) later.accepted.in_order);
-                enough = later.accepted.enough;
-                small = later.accepted.small;
-                few = later.accepted.few;
-              };
-              front = ap (λ ls. item_line next.0 ∷ ls) later.front ∙ ap (λ l. l ∷ take rest.0 lines) (sym is.0);
-              alike = next-alike number before line lines next.0 bad rest.0 next.1 later.alike;
-            })
+            let later = rest.1 in (
+              suc rest.0,
+              record {
+                line = omega (arith, later.line);
+                within = omega (arith, later.within);
+                more = next.0 ∷ later.more;
+                whole = later.whole;
+                end = later.end;
+                events = later.events;
+                accepted = record {
+                  all = later.accepted.all ∙ append_assoc before (next.0 ∷ []) later.more;
+                  fit = All-cons FitsItem next.0 later.more is.1 later.accepted.fit;
+                  in_order = (is.2, subst (λ last. InOrder last later.more) (last_of-append before next.0) later.accepted.in_order);
+                  enough = later.accepted.enough;
+                  small = later.accepted.small;
+                  few = later.accepted.few;
+                };
+                front = ap (λ ls. item_line next.0 ∷ ls) later.front ∙ ap (λ l. l ∷ take rest.0 lines) (sym is.0);
+                alike = next-alike number before line lines next.0 bad rest.0 next.1 later.alike;
+              },
+            )
         | inr last ↦
             let is = line_in-end before line last.0 last.1 (fits_proc (last_of before) fits) last.2 in
             let behind = unless-err (bad_behind (number + 1) lines) (told before last.0 last.1) bad last.3 in
-            let some = some_behind (number + 1) lines bad behind in
-            (1, record {
-              line = some.0;
-              within = omega arith;
-              more = [];
-              whole = before;
-              end = last.0;
-              events = last.1;
-              accepted = record { all = sym (append-nil before); fit = All-nil FitsItem; in_order = tt; enough = is.1; small = is.2; few = is.3 };
-              front = ap (λ l. l ∷ []) (sym is.0);
-              alike = last-alike number before line lines last.0 last.1 bad last.2 behind;
-            })
+            let some = some_behind (number + 1) lines bad behind in (
+              1,
+              record {
+                line = some.0;
+                within = omega arith;
+                more = [];
+                whole = before;
+                end = last.0;
+                events = last.1;
+                accepted = record { all = sym (append-nil before); fit = All-nil FitsItem; in_order = tt; enough = is.1; small = is.2; few = is.3 };
+                front = ap (λ l. l ∷ []) (sym is.0);
+                alike = last-alike number before line lines last.0 last.1 bad last.2 behind;
+              },
+            )
       ]
     ]
 
@@ -207,17 +217,22 @@ refused-first text bad few h =
     let all : is.more ≡ is.whole = sym is.accepted.all in
     let fit : All FitsItem is.whole = subst (All FitsItem) all is.accepted.fit in
     let lines : line_texts (trace_text is.whole is.end is.events) ≡ text_lines is.more is.whole is.end is.events =
-        text-lines is.whole is.end is.events fit is.accepted.small is.accepted.few ∙ ap (λ m. text_lines m is.whole is.end is.events) (sym all) in
+    text-lines is.whole is.end is.events fit is.accepted.small is.accepted.few ∙ ap (λ m. text_lines m is.whole is.end is.events) (sym all) in
     let front : take k (line_texts (trace_text is.whole is.end is.events)) ≡ take k (line_texts text) = ap (take k) lines ∙ is.front in
     let place : k ≡ bad.line - 1 = omega (arith, is.line) in
     let next : bad.line ≡ suc k = omega (arith, is.line) in
     record {
       counted = omega (arith, is.line);
       within = omega (arith, is.line, is.within);
-      before = (trace_text is.whole is.end is.events, told is.whole is.end is.events, record {
-        printed = refl;
-        accepted = record { fit = fit; in_order = subst (InOrder None) all is.accepted.in_order; enough = is.accepted.enough; events = is.accepted.small; few = is.accepted.few };
-      }, subst (λ n. take n (line_texts (trace_text is.whole is.end is.events)) ≡ take n (line_texts text)) place front);
+      before = (
+        trace_text is.whole is.end is.events,
+        told is.whole is.end is.events,
+        record {
+          printed = refl;
+          accepted = record { fit = fit; in_order = subst (InOrder None) all is.accepted.in_order; enough = is.accepted.enough; events = is.accepted.small; few = is.accepted.few };
+        },
+        subst (λ n. take n (line_texts (trace_text is.whole is.end is.events)) ≡ take n (line_texts text)) place front,
+      );
       none = λ other t text_of same. no_both (read_of other) bad t (is.alike (line_texts other) (subst (λ n. take n (line_texts other) ≡ take n (line_texts text)) next same)) (read_of-text other t text_of);
     }
 
@@ -230,7 +245,7 @@ take-take (suc m) (suc n) (x ∷ xs) h = ap (λ ys. x ∷ ys) (take-take m n xs 
 compared : (j k : ℕ) → (j < k) ⊎ ((k < j) ⊎ (j ≡ k))
 compared j k = elim (eqb_tells j k) [
   | inl same ↦ inr (inr same.1)
-  | inr other ↦ elim (leb_tells j k) [ | inl low ↦ let apart : j ≢ k = other.1 in let at : j ≤ k = low.1 in inl (omega arith) | inr high ↦ inr (inl high.1) ]
+  | inr other ↦ elim (leb_tells j k) [ inl low ↦ let apart : j ≢ k = other.1 in let at : j ≤ k = low.1 in inl (omega arith) | inr high ↦ inr (inl high.1) ]
 ]
 
 -- a text has one first bad line at most
@@ -245,5 +260,5 @@ pub first-one : (text : List ℕ) (j k : ℕ) → IsFirstBad text j → IsFirstB
 first-one text j k a b =
     elim (compared j k) [
       | inl less ↦ absurd (not_before text j k a b less)
-      | inr other ↦ elim other [ | inl more ↦ absurd (not_before text k j b a more) | inr same ↦ same ]
+      | inr other ↦ elim other [ inl more ↦ absurd (not_before text k j b a more) | inr same ↦ same ]
     ]

@@ -1,5 +1,5 @@
 -- A line has one spelling in bytes, which is read back.
-use Rattle.std.proofs.Common.{◌≡◌, ◌≢◌, ℕ, ◌^◌, ◌<◌, ◌≤◌, ◌&&◌, Bool, true, false, cond, List, [], ◌∷◌, ◌++◌, length, map, Option, Some, None, Result, Ok, Err, refl, sym, ap, ◌∙◌, subst, inl, inr, arith, append_assoc, append-nil, nat_le}
+use Rattle.std.proofs.Common.{◌≡◌, ◌≢◌, ℕ, ◌^◌, ◌<◌, ◌≤◌, ◌&&◌, Bool, true, cond, List, [], ◌∷◌, ◌++◌, map, Option, Some, None, Ok, Err, refl, sym, ap, ◌∙◌, subst, inl, inr, arith, append_assoc, append-nil, nat_le}
 use Rattle.std.specs.Prelude.{All, codes, decimal}
 use Rattle.std.specs.List.{flat_map, list_all, join_with_byte}
 use Rattle.std.proofs.lemmas.Bool.{le-leb, leb-true}
@@ -19,7 +19,7 @@ use Rattle.sa_base.specs.Field.{range_of, AllFit}
 use Rattle.sa_base.specs.Kind.{form_of}
 use Rattle.sa_base.specs.Parts.{parts_of}
 use Rattle.sa_text.specs.LineText.{LineText, LacksLineFeed}
-use Rattle.sa_text.specs.Pieces.{pieces_of, LacksSpace, IsPiecesOf}
+use Rattle.sa_text.specs.Pieces.{pieces_of, LacksSpace}
 use Rattle.sa_text.proofs.PieceLemmas.{pieces_of-are_pieces, pieces_only}
 use Rattle.sa_text.proofs.Spelling.{decimal-is_spelling, decimal-lacks}
 use Rattle.sa_text.proofs.Lacking.{lacks_by_test}
@@ -54,7 +54,7 @@ decimal-printed : (n : ℕ) → n < 2 ^ 64 → is_printed (decimal n) ≡ true
 decimal-printed n small =
     list_all-from_AllPass (λ b. nat_le 32 b && nat_le b 126) (decimal n)
     (All-weaker (λ b. (48 ≤ b) × (b ≤ 57)) (λ b. (nat_le 32 b && nat_le b 126) ≡ true) (λ b d. and_true (nat_le 32 b) (nat_le b 126) (le-leb 32 b (omega (arith, d.0))) (le-leb b 126 (omega (arith, d.1))))
-      (decimal n) (decimal-is_spelling n small).digits)
+    (decimal n) (decimal-is_spelling n small).digits)
 
 fine-decimal : (n : ℕ) (ps : List (List ℕ)) → n < 2 ^ 64 → AreFine ps → AreFine (decimal n ∷ ps)
 fine-decimal n ps small h = fine-cons (decimal n) ps (decimal-printed n small) (decimal-lacks n 32 small (omega arith)) h
@@ -131,8 +131,8 @@ fine-words kind = record { printed = words-printed kind; spaceless = (pieces_of-
 pub fine-item : (item : Item) → FitsItem item → AreFine (item_pieces item)
 fine-item item fits =
     fine-decimal item.event _ fits.event (fine-decimal item.proc.0 _ (omega (arith, fits.proc))
-      (fine-append (word_pieces (parts_of item.what).kind) (map piece (parts_of item.what).fields) (fine-words (parts_of item.what).kind)
-        (fine-fields (form_of (parts_of item.what).kind).fields (parts_of item.what).fields fits.what)))
+    (fine-append (word_pieces (parts_of item.what).kind) (map piece (parts_of item.what).fields) (fine-words (parts_of item.what).kind)
+    (fine-fields (form_of (parts_of item.what).kind).fields (parts_of item.what).fields fits.what)))
 
 fine-decimals : (counts : List ℕ) → All (λ n. n < 2 ^ 64) counts → AreFine (map decimal counts)
 fine-decimals [] small = fine-nil
@@ -180,10 +180,11 @@ pieces_in-ok line ps h =
     elim (if_either (is_printed line.bytes) (cond line.ended (Ok (pieces_of line.bytes)) (Err Missing)) (Err NotAscii) (Ok ps) h) [
       | inl printed ↦ elim (if_either line.ended (Ok (pieces_of line.bytes)) (Err Missing) (Ok ps) printed.1) [
         | inl ended ↦
-            let e = same_Ok (pieces_of line.bytes) ps ended.1 in
-            (ap (λ (b : Bool). (λ (l : LineText). l) (record { bytes = line.bytes; ended = b })) ended.0
-              ∙ ap (λ (bs : List ℕ). (λ (l : LineText). l) (record { bytes = bs; ended = true })) (sym (pieces_of-are_pieces line.bytes).joined ∙ ap (join_with_byte 32) e),
-              subst (All LacksSpace) e (pieces_of-are_pieces line.bytes).apart)
+            let e = same_Ok (pieces_of line.bytes) ps ended.1 in (
+              ap (λ (b : Bool). (λ (l : LineText). l) (record { bytes = line.bytes; ended = b })) ended.0
+                  ∙ ap (λ (bs : List ℕ). (λ (l : LineText). l) (record { bytes = bs; ended = true })) (sym (pieces_of-are_pieces line.bytes).joined ∙ ap (join_with_byte 32) e),
+              subst (All LacksSpace) e (pieces_of-are_pieces line.bytes).apart,
+            )
         | inr cut ↦ absurd (refused Missing ps cut.1)
       ]
       | inr other ↦ absurd (refused NotAscii ps other.1)
@@ -213,7 +214,7 @@ line_of-pieces item =
     let fields = (parts_of item.what).fields in
     regroup_item (decimal item.event) (decimal item.proc.0) (form_of kind).word (flat_map field fields)
     ∙ ap (λ bs. (decimal item.event ++ ((32 ∷ decimal item.proc.0) ++ bs)) ++ 10 ∷ [])
-      (sym (flat_map-append (λ w. 32 ∷ w) (word_pieces kind) (map piece fields) ∙ ap (λ bs. bs ++ flat_map (λ w. 32 ∷ w) (map piece fields)) (words-spaced kind) ∙ ap (λ bs. (32 ∷ (form_of kind).word) ++ bs) (fields-spaced fields)))
+    (sym (flat_map-append (λ w. 32 ∷ w) (word_pieces kind) (map piece fields) ∙ ap (λ bs. bs ++ flat_map (λ w. 32 ∷ w) (map piece fields)) (words-spaced kind) ∙ ap (λ bs. (32 ∷ (form_of kind).word) ++ bs) (fields-spaced fields)))
     ∙ ap (λ bs. bs ++ 10 ∷ []) (sym (spaced (decimal item.event) (decimal item.proc.0 ∷ record_pieces item.what)))
 
 regroup_last : (w e c : List ℕ) → ((((codes "end " ++ w) ++ (32 ∷ e)) ++ c) ++ 10 ∷ []) ≡ ((codes "end" ++ ((32 ∷ w) ++ ((32 ∷ e) ++ c))) ++ 10 ∷ [])

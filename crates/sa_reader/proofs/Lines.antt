@@ -1,5 +1,5 @@
 -- A line has one spelling in pieces, which is read back.
-use Rattle.std.proofs.Common.{◌≡◌, ◌≢◌, ℕ, ◌-◌, ◌^◌, ◌<◌, ◌≤◌, ◌&&◌, Bool, true, false, cond, List, [], ◌∷◌, ◌++◌, map, Option, Some, None, Result, Ok, Err, refl, sym, ap, ◌∙◌, subst, inl, inr, arith, eqb}
+use Rattle.std.proofs.Common.{◌≡◌, ℕ, ◌^◌, ◌<◌, ◌≤◌, false, cond, List, [], ◌∷◌, map, Option, Some, None, Result, Ok, Err, refl, sym, ap, ◌∙◌, subst, inl, inr, arith}
 use Rattle.std.specs.Prelude.{All, codes, decimal}
 use Rattle.std.specs.Str.{bytes_eq}
 use Rattle.std.proofs.lemmas.Bool.Decides.{eqb_tells}
@@ -116,10 +116,10 @@ pub said_by-item : (items : List Item) (item : Item) → FitsItem item → MayFo
 said_by-item items item fits follows =
     let low = follows_least (last_of items) item follows in
     ap (λ b. cond b (end_at items (decimal item.proc.0 ∷ record_pieces item.what))
-        (and_then (number_in (least_event (last_of items)) MAX64 (decimal item.event)) (λ event. item_at (last_of items) event (decimal item.proc.0 ∷ record_pieces item.what))))
-      (no_end item.event fits.event)
+    (and_then (number_in (least_event (last_of items)) MAX64 (decimal item.event)) (λ event. item_at (last_of items) event (decimal item.proc.0 ∷ record_pieces item.what))))
+    (no_end item.event fits.event)
     ∙ ap (λ r. and_then r (λ event. item_at (last_of items) event (decimal item.proc.0 ∷ record_pieces item.what)))
-      (number_in-decimal (least_event (last_of items)) MAX64 item.event fits.event low.0 (omega (arith, fits.event)))
+    (number_in-decimal (least_event (last_of items)) MAX64 item.event fits.event low.0 (omega (arith, fits.event)))
     ∙ ap (λ r. and_then r (λ proc. item_by item.event proc (record_pieces item.what))) (processor_in-decimal (last_of items) item.event item.proc.0 fits.proc low.1)
     ∙ ap (λ r. and_then r (λ what. Ok (Next (record { event = item.event; proc = record { 0 = item.proc.0 }; what = what })))) (record_in-pieces item.what fits.what)
 
@@ -213,9 +213,11 @@ said_by-next items (p ∷ rest) item fits lacks h =
           let read = number_in-ok (least_event (last_of items)) MAX64 p event.0 event.1 in
           let is = item_at-ok (last_of items) event.0 rest (Next item) fits (All-tail LacksSpace p rest lacks) event.2 in
           let same : record { event = event.0; proc = record { 0 = is.proc }; what = is.what } ≡ item = same_Next _ item (sym is.is) in
-          subst (λ i. (p ∷ rest ≡ item_pieces i) × FitsItem i × MayFollow (last_of items) i) same
-          (ap (λ x. x ∷ rest) read.0 ∙ ap (λ r. decimal event.0 ∷ r) is.pieces, record { event = read.1; proc = is.small; what = is.fit },
-            least_follows (last_of items) event.0 is.proc is.what read.2 is.same)
+          subst (λ i. (p ∷ rest ≡ item_pieces i) × FitsItem i × MayFollow (last_of items) i) same (
+            ap (λ x. x ∷ rest) read.0 ∙ ap (λ r. decimal event.0 ∷ r) is.pieces,
+            record { event = read.1; proc = is.small; what = is.fit },
+            least_follows (last_of items) event.0 is.proc is.what read.2 is.same,
+          )
     ]
 
 -- and pieces that are read as the end are those of the last line
@@ -226,10 +228,13 @@ said_by-end items (p ∷ rest) end events fits lacks h =
     elim (if_either (bytes_eq p (codes "end")) (end_at items rest) (and_then (number_in (least_event (last_of items)) MAX64 p) (λ event. item_at (last_of items) event rest)) (Ok (Last end events)) h) [
       | inl ended ↦
           let is = end_at-ok items rest (Last end events) ended.1 in
-          let same = same_Last is.end end is.events events (sym is.is) in
-          (ap (λ x. x ∷ rest) ((bytes_eq-Decides p (codes "end")).0 ended.0)
-            ∙ ap (λ r. codes "end" ∷ r) (is.pieces ∙ ap (λ e. end_word e ∷ decimal is.events ∷ map decimal (counts_of items)) same.0 ∙ ap (λ n. end_word end ∷ decimal n ∷ map decimal (counts_of items)) same.1),
-            subst (λ n. least_event (last_of items) ≤ n) same.1 is.enough, subst (λ n. n < 2 ^ 64) same.1 is.small, is.few)
+          let same = same_Last is.end end is.events events (sym is.is) in (
+            ap (λ x. x ∷ rest) ((bytes_eq-Decides p (codes "end")).0 ended.0)
+                ∙ ap (λ r. codes "end" ∷ r) (is.pieces ∙ ap (λ e. end_word e ∷ decimal is.events ∷ map decimal (counts_of items)) same.0 ∙ ap (λ n. end_word end ∷ decimal n ∷ map decimal (counts_of items)) same.1),
+            subst (λ n. least_event (last_of items) ≤ n) same.1 is.enough,
+            subst (λ n. n < 2 ^ 64) same.1 is.small,
+            is.few,
+          )
       | inr other ↦
           let event = and_then-ok (number_in (least_event (last_of items)) MAX64 p) (λ event. item_at (last_of items) event rest) (Last end events) other.1 in
           absurd (last_no_next (item_at-ok (last_of items) event.0 rest (Last end events) fits (All-tail LacksSpace p rest lacks) event.2))

@@ -1,5 +1,5 @@
 -- A number, a field and a record have each one spelling in pieces, which is read back.
-use Rattle.std.proofs.Common.{◌≡◌, ◌≢◌, ℕ, ◌+◌, ◌-◌, ◌^◌, ◌<◌, ◌≤◌, ◌&&◌, Bool, true, false, cond, List, [], ◌∷◌, ◌++◌, length, map, get_or, take, drop, find, Option, Some, None, Result, Ok, Err, refl, sym, ap, ◌∙◌, subst, arith, nat_le, nat_lt, ◌⊎◌, inl, inr}
+use Rattle.std.proofs.Common.{◌≡◌, ◌≢◌, ℕ, ◌^◌, ◌<◌, ◌≤◌, ◌&&◌, Bool, true, false, cond, List, [], ◌∷◌, map, Option, Some, None, Result, Ok, Err, refl, ap, ◌∙◌, subst, arith, nat_le, nat_lt, ◌⊎◌, inl, inr}
 use Rattle.std.specs.Prelude.{All, codes, decimal}
 use Rattle.std.specs.Str.{bytes_eq}
 use Rattle.std.specs.Str.Parse.{digits_value}
@@ -12,7 +12,7 @@ use Rattle.sa_base.specs.declared.field.Field.TheVariants.{Space, OptionalSpace,
 use Rattle.sa_base.specs.declared.refusal.Cause.{Cause}
 use Rattle.sa_base.specs.declared.refusal.Cause.TheVariants.{BadNumber, OutOfRange}
 use Rattle.sa_base.specs.Field.{range_of, Fits, AllFit}
-use Rattle.sa_reader.specs.Pieces.{and_then, or_cause, number_of, within, number_in, field_in, fields_in, at_end, unless, wrong_or, wrong_count}
+use Rattle.sa_reader.specs.Pieces.{and_then, or_cause, number_of, within, number_in, field_in, fields_in, wrong_or, wrong_count}
 use Rattle.sa_text.proofs.Spelling.{decimal-lacks}
 use Rattle.sa_reader.proofs.Spelling.{reads_number}
 
@@ -56,9 +56,12 @@ number_in-ok least greatest piece n h =
     let got = and_then-ok (or_cause (number_of piece) BadNumber) (within least greatest) n h in
     let spelled = number_of-some piece got.0 (or_cause-ok (number_of piece) BadNumber got.0 got.1) in
     let inside = if_ok (nat_le least got.0 && nat_le got.0 greatest) got.0 n OutOfRange got.2 in
-    let tests = both_true (nat_le least got.0) (nat_le got.0 greatest) inside.0 in
-    (spelled.0 ∙ ap decimal inside.1, subst (λ m. m < 2 ^ 64) inside.1 spelled.1,
-      subst (λ m. least ≤ m) inside.1 (leb-true least got.0 tests.0), subst (λ m. m ≤ greatest) inside.1 (leb-true got.0 greatest tests.1))
+    let tests = both_true (nat_le least got.0) (nat_le got.0 greatest) inside.0 in (
+      spelled.0 ∙ ap decimal inside.1,
+      subst (λ m. m < 2 ^ 64) inside.1 spelled.1,
+      subst (λ m. least ≤ m) inside.1 (leb-true least got.0 tests.0),
+      subst (λ m. m ≤ greatest) inside.1 (leb-true got.0 greatest tests.1),
+    )
 
 pub number_in-decimal : (least greatest n : ℕ) → n < 2 ^ 64 → least ≤ n → n ≤ greatest → number_in least greatest (decimal n) ≡ Ok n
 number_in-decimal least greatest n small low high =
@@ -79,9 +82,10 @@ wrong_count-none (count ∷ counts) (piece ∷ rest) h =
     let first = wrong_or-none (number_in count count piece) (wrong_count counts rest) h in
     let read = number_in-ok count count piece first.0 first.1 in
     let same : first.0 ≡ count = omega (arith, read.2, read.3) in
-    let others = wrong_count-none counts rest first.2 in
-    (ap (λ p. p ∷ rest) (read.0 ∙ ap decimal same) ∙ ap (λ r. decimal count ∷ r) others.0,
-      All-cons (λ n. n < 2 ^ 64) count counts (subst (λ n. n < 2 ^ 64) same read.1) others.1)
+    let others = wrong_count-none counts rest first.2 in (
+      ap (λ p. p ∷ rest) (read.0 ∙ ap decimal same) ∙ ap (λ r. decimal count ∷ r) others.0,
+      All-cons (λ n. n < 2 ^ 64) count counts (subst (λ n. n < 2 ^ 64) same read.1) others.1,
+    )
 
 pub wrong_count-decimals : (counts : List ℕ) → All (λ n. n < 2 ^ 64) counts → wrong_count counts (map decimal counts) ≡ None
 wrong_count-decimals [] small = refl

@@ -1,25 +1,24 @@
 -- A record has one spelling in pieces, which is read back.
-use Rattle.std.proofs.Common.{◌≡◌, ℕ, ◌&&◌, Bool, true, false, cond, List, [], ◌∷◌, ◌++◌, map, take, drop, find, Option, Some, None, Result, Ok, Err, refl, sym, ap, ◌∙◌, subst, inl, inr}
+use Rattle.std.proofs.Common.{◌≡◌, ℕ, Bool, true, List, [], ◌∷◌, ◌++◌, map, find, Option, Some, None, Ok, refl, sym, ap, ◌∙◌, subst, inl, inr}
 use Rattle.std.specs.Prelude.{All, codes}
 use Rattle.std.specs.Str.{bytes_eq}
 use Rattle.std.proofs.lemmas.Bool.{false≢true}
 use Rattle.std.proofs.lemmas.Slice.Eq.{bytes_eq-Decides}
 use Rattle.std.proofs.lemmas.Option.{same_Some}
-use Rattle.std.proofs.lemmas.List.Elements.{All-head, All-tail}
+use Rattle.std.proofs.lemmas.List.Elements.{All-head}
 use Rattle.sa_base.specs.declared.kind.Kind.{Kind}
 use Rattle.sa_base.specs.declared.kind.Kind.TheVariants.{Ins, Out, Run, Stop, Block, Unblock, Cont, Back, Ready, Take, Free, Up, ToldAdd, ToldPreempted, ToldBlocked, ToldUnblocked, Move, Want, Aim, Line, Fetch, Fetched, GiveBack, Idle, Spin, Tick}
 use Rattle.sa_base.specs.declared.kind.TheConstants.{KINDS}
 use Rattle.sa_base.specs.declared.record.Record.{Record}
-use Rattle.sa_base.specs.declared.refusal.Cause.{Cause}
 use Rattle.sa_base.specs.declared.refusal.Cause.TheVariants.{OutOfRange}
 use Rattle.sa_base.specs.Kind.{form_of}
-use Rattle.sa_base.specs.Parts.{RecordParts, parts, parts_of, record_of, FitTheKind}
+use Rattle.sa_base.specs.Parts.{parts_of, record_of, FitTheKind}
 use Rattle.sa_base.proofs.PartsLemmas.{remade, parts-back}
 use Rattle.sa_text.specs.Pieces.{pieces_of, LacksSpace}
 use Rattle.sa_text.proofs.PieceLemmas.{pieces_of-one}
 use Rattle.sa_reader.specs.Pieces.{and_then, or_cause, fields_in, has_word, has_note, known, note_at, kind_at}
 use Rattle.sa_reader.specs.Line.{record_by, record_in}
-use Rattle.sa_reader.proofs.Readings.{and_then-ok, or_cause-ok, both_true, if_either, same_Ok, piece, fields_in-ok, fields_in-pieces}
+use Rattle.sa_reader.proofs.Readings.{and_then-ok, or_cause-ok, if_either, same_Ok, piece, fields_in-ok, fields_in-pieces}
 
 -- the word of a kind in pieces, which are two for a notice
 abbrev pub word_pieces : Kind → List (List ℕ)

@@ -1,6 +1,6 @@
 -- A whole text is read as what it tells.
 use Rattle.std.proofs.Common.{◌≡◌, ℕ, ◌+◌, ◌-◌, ◌^◌, ◌<◌, ◌≤◌, List, [], ◌∷◌, ◌++◌, length, map, get_or, Option, Some, None, Result, Ok, Err, ◌⊎◌, refl, sym, ap, ◌∙◌, subst, inl, inr, arith, append_assoc, append-nil, length-append}
-use Rattle.std.specs.Prelude.{All, slice_get}
+use Rattle.std.specs.Prelude.{All}
 use Rattle.std.specs.List.{flat_map, join_with_byte}
 use Rattle.std.proofs.Math.Seq.{get_or-append_seam}
 use Rattle.std.proofs.lemmas.Grind.{flat_map-append}
@@ -11,7 +11,6 @@ use Rattle.sa_base.specs.declared.record.Item.{Item}
 use Rattle.sa_base.specs.declared.refusal.Bad.{Bad}
 use Rattle.sa_base.specs.declared.refusal.Cause.{Cause}
 use Rattle.sa_text.specs.LineText.{LineText, whole_line, line_texts}
-use Rattle.sa_text.specs.Pieces.{LacksSpace}
 use Rattle.sa_text.proofs.LineLemmas.{line_texts-ended, line_texts-joined}
 use Rattle.sa_trace.specs.TraceText.{line_of, counts_of, last_line_of, trace_text}
 use Rattle.sa_reader.specs.declared.line.Said.{Said}
@@ -19,7 +18,7 @@ use Rattle.sa_reader.specs.declared.line.Said.TheVariants.{Next, Last}
 use Rattle.sa_reader.specs.Pieces.{and_then, unless}
 use Rattle.sa_reader.specs.Line.{last_of, least_event, said_by, pieces_in, line_in}
 use Rattle.sa_reader.specs.Reading.{Told, told, bad_behind, goes_on, read_from, read_of}
-use Rattle.sa_reader.specs.Text.{FitsItem, MayFollow, InOrder, IsAccepted, IsTextOf}
+use Rattle.sa_reader.specs.Text.{FitsItem, MayFollow, InOrder, IsTextOf}
 use Rattle.sa_reader.proofs.Readings.{and_then-ok}
 use Rattle.sa_reader.proofs.Lines.{item_pieces, last_pieces, FitsProc, said_by-item, said_by-last, said_by-next, said_by-end}
 use Rattle.sa_reader.proofs.LineTexts.{line_by, fine-item, fine-last, fine-lacks, pieces_in-line, pieces_in-ok, line_of-pieces, last_line_of-pieces}
@@ -89,7 +88,7 @@ lines-read number before [] whole end events a =
     let same : before ≡ whole = sym (a.all ∙ append-nil before) in
     subst (λ w. read_from number before (last_line w end events ∷ []) ≡ Ok (told w end events)) same
     (ap (step number before []) (line_in-last before end events
-      (subst (λ w. least_event (last_of w) ≤ events) (sym same) a.enough) a.small (subst (λ w. All (λ n. n < 2 ^ 64) (counts_of w)) (sym same) a.few)))
+    (subst (λ w. least_event (last_of w) ≤ events) (sym same) a.enough) a.small (subst (λ w. All (λ n. n < 2 ^ 64) (counts_of w)) (sym same) a.few)))
 lines-read number before (item ∷ more) whole end events a =
     ap (step number before (text_lines more whole end events)) (line_in-item before item (All-head FitsItem item more a.fit) a.in_order.0)
     ∙ lines-read (number + 1) (before ++ item ∷ []) more whole end events (record {
@@ -189,7 +188,13 @@ read_of-text text t is =
     ap (λ bs. read_from 1 [] (line_texts bs)) is.printed
     ∙ ap (read_from 1 []) (text-lines t.items t.end t.events is.accepted.fit is.accepted.events is.accepted.few)
     ∙ lines-read 1 [] t.items t.items t.end t.events (record {
-      all = refl; fit = is.accepted.fit; in_order = is.accepted.in_order; enough = is.accepted.enough; small = is.accepted.events; few = is.accepted.few })
+      all = refl;
+      fit = is.accepted.fit;
+      in_order = is.accepted.in_order;
+      enough = is.accepted.enough;
+      small = is.accepted.events;
+      few = is.accepted.few;
+    })
 
 pub read_of-ok : (text : List ℕ) (t : Told) → read_of text ≡ Ok t → IsTextOf text t
 unfolding read_of

@@ -1,5 +1,5 @@
 -- What holds of every text.
-use Rattle.std.specs.Prelude.{◌≡◌, ◌≢◌, ◌↔◌, ℕ, ◌+◌, ◌-◌, ◌^◌, ◌<◌, ◌≤◌, List, length, take, Result, Ok, Err}
+use Rattle.std.specs.Prelude.{◌≡◌, ◌≢◌, ◌↔◌, ℕ, ◌+◌, ◌-◌, ◌^◌, ◌<◌, ◌≤◌, List, length, take, Ok, Err}
 use Rattle.sa_base.specs.declared.refusal.Bad.{Bad}
 use Rattle.sa_text.specs.LineText.{line_texts}
 use Rattle.sa_reader.specs.Reading.{Told, read_of}

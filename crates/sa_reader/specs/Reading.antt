@@ -6,7 +6,6 @@ use Rattle.sa_base.specs.declared.refusal.Bad.{Bad}
 use Rattle.sa_base.specs.declared.refusal.Cause.{Cause}
 use Rattle.sa_base.specs.declared.refusal.Cause.TheVariants.{BadWord, Missing}
 use Rattle.sa_base.specs.declared.refusal.Unread.{Unread}
-use Rattle.sa_base.specs.declared.refusal.Unread.TheVariants as Unread
 use Rattle.sa_base.specs.Cause.{bad_at}
 use Rattle.sa_text.specs.LineText.{LineText, line_texts}
 use Rattle.sa_reader.specs.declared.line.Said.{Said}
@@ -45,7 +44,7 @@ abbrev pub read_from : ℕ → List Item → List LineText → Result Told Bad
 read_from number items [] = Err (bad_at number Missing)
 read_from number items (line ∷ rest) =
     goes_on number (line_in items line) (λ item. read_from (number + 1) (items ++ item ∷ []) rest)
-        (λ end events. unless (bad_behind (number + 1) rest) (told items end events))
+    (λ end events. unless (bad_behind (number + 1) rest) (told items end events))
 
 -- what a text is read as: what it tells, or the first line that is bad, from 1, and why
 unfoldable pub read_of : List ℕ → Result Told Bad

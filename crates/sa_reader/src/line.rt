@@ -136,12 +136,7 @@ fn read_last(items: &[Item], words: &mut Words) -> Result<Said, Cause>
 }
 
 // The number of events, and the counts.
-fn read_counts(
-    least: u64,
-    counts: &[u64],
-    end: End,
-    words: &mut Words,
-) -> Result<Said, Cause>
+fn read_counts(least: u64, counts: &[u64], end: End, words: &mut Words) -> Result<Said, Cause>
     ensures { result ≡ counts_at least counts.now end words.old }
 {
     let piece = words.next()?;

@@ -161,7 +161,9 @@ end budget 60 4 0 5 3 4 3 2 1 2 7 5 11 14 6 5 8 9 2 2 0 6 0 11
 fn prints_what_it_reads(rt: HostRuntime) -> Result<(), Fail> {
     let alloc = rt.alloc();
     let gaps = "3 0 tick\n9 1 tick\nend stuck 12 0 0 0 0 0 0 0 0 0 0 0 0 0 0 0 0 0 0 0 0 0 0 2\n";
-    for text in [KINDS, RUN, gaps] {
+    let example = "4 0 free 0 0 0\n5 0 ins 0 0 0\n5 0 giveback 0\n\
+        end alldone 5 1 0 0 0 0 0 0 0 0 0 1 0 0 0 0 0 0 0 0 1 0 0 0\n";
+    for text in [KINDS, RUN, gaps, example] {
         let told = read(alloc, text.as_bytes())?;
         let printed = print(alloc, &told.trace, told.end, told.events)?;
         assert_eq!(rt; printed.as_slice(), text.as_bytes());

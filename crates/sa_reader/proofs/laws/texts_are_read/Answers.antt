@@ -1,5 +1,4 @@
-use Rattle.std.proofs.Common.{◌≡◌, Ok, sym, ◌∙◌}
-use Rattle.sa_reader.specs.Reading.{Told, read_of}
+use Rattle.sa_reader.specs.Reading.{read_of}
 use Rattle.sa_reader.proofs.Whole.{read_of-ok, read_of-text, same_told}
 use Rattle.sa_reader.proofs.laws.texts_are_read.Goals as goal
 
