@@ -5,7 +5,7 @@ ghost use Rattle.sa_trace.specs.TraceText.{counts_of, kind_number};
 use sa_base::{Item, RECORD_KINDS, Record};
 
 /// The counts of the kinds, in the order of their numbers.
-pub fn counts(items: &[Item]) -> [u64; RECORD_KINDS]
+pub fn kind_counts(items: &[Item]) -> [u64; RECORD_KINDS]
     ensures { result ≡ counts_of items.now }
 {
     let mut counts = [0; RECORD_KINDS];

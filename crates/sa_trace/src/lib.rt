@@ -5,4 +5,5 @@ mod counts;
 mod fields;
 mod text;
 
-pub use text::print;
+pub use counts::kind_counts;
+pub use text::{last_line, print};

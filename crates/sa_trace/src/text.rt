@@ -2,7 +2,7 @@ ghost use Rattle.std.specs.Prelude.{◌≡◌, ◌++◌, IfOk, OnOk};
 ghost use Rattle.std.specs.List.{flat_map};
 ghost use Rattle.sa_trace.specs.TraceText.{counts_text, line_of, last_line_of, trace_text, end_word};
 
-use crate::counts::counts;
+use crate::counts::kind_counts;
 use crate::fields::{push_field, push_record};
 use sa_base::{End, Item, Trace};
 use sa_text::print_number;
@@ -15,6 +15,21 @@ pub fn print(alloc: Global, trace: &Trace, end: End, events: u64) -> Result<Vec<
 {
     let mut out = Vec::new(alloc);
     push_lines(&mut out, trace.items())?;
+    push_last_line(&mut out, trace.items(), end, events)?;
+    Ok(out)
+}
+
+/// The last line alone of the trace text of these items, this end and this number of events, with its
+/// line feed. Its only error is want of memory.
+pub fn last_line(
+    alloc: Global,
+    trace: &Trace,
+    end: End,
+    events: u64,
+) -> Result<Vec<u8>, AllocError>
+    ensures { IfOk result (λ line. line.items ≡ last_line_of trace.now.items end events) }
+{
+    let mut out = Vec::new(alloc);
     push_last_line(&mut out, trace.items(), end, events)?;
     Ok(out)
 }
@@ -49,7 +64,7 @@ fn push_last_line(
     out.extend_from_slice(b"end ")?;
     out.extend_from_slice(word(end))?;
     push_field(out, Some(events))?;
-    push_counts(out, &counts(items))?;
+    push_counts(out, &kind_counts(items))?;
     out.extend_from_slice(b"\n")
 }
 

@@ -3,7 +3,7 @@ use Rattle.std.proofs.lemmas.List.FromFn.{fill_by_all}
 use Rattle.sa_base.specs.declared.limits.TheConstants.{RECORD_KINDS}
 use Rattle.sa_trace.specs.TraceText.{counts_of, count_of_kind}
 use Rattle.sa_trace.proofs.Counting.{count-more}
-use Rattle.sa_trace.proofs.counts.counts.Goals as goal
+use Rattle.sa_trace.proofs.counts.kind_counts.Goals as goal
 
 pub loop-item-preserved : goal.loop-item-preserved
 loop-item-preserved c = (

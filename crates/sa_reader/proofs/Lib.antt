@@ -1,0 +1,8 @@
+pub mod Spelling
+pub mod Steps
+pub mod Readings
+pub mod Records
+pub mod Lines
+pub mod LineTexts
+pub mod Whole
+pub mod FirstBad

@@ -1,0 +1,5 @@
+pub mod Pieces
+pub mod Line
+pub mod Reading
+pub mod Text
+pub mod Laws
