@@ -21,12 +21,7 @@ pub fn print(alloc: Global, trace: &Trace, end: End, events: u64) -> Result<Vec<
 
 /// The last line alone of the trace text of these items, this end and this number of events, with its
 /// line feed. Its only error is want of memory.
-pub fn last_line(
-    alloc: Global,
-    trace: &Trace,
-    end: End,
-    events: u64,
-) -> Result<Vec<u8>, AllocError>
+pub fn last_line(alloc: Global, trace: &Trace, end: End, events: u64) -> Result<Vec<u8>, AllocError>
     ensures { IfOk result (λ line. line.items ≡ last_line_of trace.now.items end events) }
 {
     let mut out = Vec::new(alloc);

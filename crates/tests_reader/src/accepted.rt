@@ -1,6 +1,6 @@
 use sa_base::{Bad, End, Unread};
 use sa_reader::read;
-use sa_trace::print;
+use sa_trace::{kind_counts, last_line, print};
 use std::test::Fail;
 
 // Each kind of record, with its absent fields once there and once not.
@@ -157,13 +157,16 @@ const RUN: &str = "0 0 want 0 1
 end budget 60 4 0 5 3 4 3 2 1 2 7 5 11 14 6 5 8 9 2 2 0 6 0 11
 ";
 
+// Events that leave out numbers, and fewer of them than there were.
+const GAPS: &str =
+    "3 0 tick\n9 1 tick\nend stuck 12 0 0 0 0 0 0 0 0 0 0 0 0 0 0 0 0 0 0 0 0 0 0 2\n";
+
 #[test]
 fn prints_what_it_reads(rt: HostRuntime) -> Result<(), Fail> {
     let alloc = rt.alloc();
-    let gaps = "3 0 tick\n9 1 tick\nend stuck 12 0 0 0 0 0 0 0 0 0 0 0 0 0 0 0 0 0 0 0 0 0 0 2\n";
     let example = "4 0 free 0 0 0\n5 0 ins 0 0 0\n5 0 giveback 0\n\
         end alldone 5 1 0 0 0 0 0 0 0 0 0 1 0 0 0 0 0 0 0 0 1 0 0 0\n";
-    for text in [KINDS, RUN, gaps, example] {
+    for text in [KINDS, RUN, GAPS, example] {
         let told = read(alloc, text.as_bytes())?;
         let printed = print(alloc, &told.trace, told.end, told.events)?;
         assert_eq!(rt; printed.as_slice(), text.as_bytes());
@@ -187,4 +190,15 @@ fn refuses_an_event_that_falls(rt: HostRuntime) {
         0 0 take 0 0 -\n";
     let bad = Unread::Bad(Bad { line: 7, why: 4 });
     assert_eq!(rt; read(rt.alloc(), text).err(), Some(bad));
+}
+
+#[test]
+fn prints_the_last_line_alone(rt: HostRuntime) -> Result<(), Fail> {
+    let alloc = rt.alloc();
+    let told = read(alloc, GAPS.as_bytes())?;
+    let line = last_line(alloc, &told.trace, told.end, told.events)?;
+    let expected = "end stuck 12 0 0 0 0 0 0 0 0 0 0 0 0 0 0 0 0 0 0 0 0 0 0 2\n";
+    assert_eq!(rt; line.as_slice(), expected.as_bytes());
+    assert_eq!(rt; kind_counts(told.trace.items())[22], 2);
+    Ok(())
 }
