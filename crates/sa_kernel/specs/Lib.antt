@@ -1,0 +1,4 @@
+pub mod State
+pub mod Parts
+pub mod Closing
+pub mod Entries
