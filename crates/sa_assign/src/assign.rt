@@ -265,15 +265,15 @@ impl Assign {
         }
     }
 
-    // How many processors are aimed at the space.
-    fn aimed(&self, s: SpaceNo) -> usize
+    /// How many processors are aimed at the space.
+    pub fn aimed(&self, s: SpaceNo) -> usize
         ensures { result ≡ aimed s.0 self.now.aims }
     {
         self.aims.iter().filter(|aim| **aim == Some(s)).count()
     }
 
-    // The number of processors.
-    fn processors(&self) -> u16
+    /// The number of processors, 1 to 16.
+    pub fn processors(&self) -> u16
         ensures owners { result ≡ length self.now.owners }
         ensures aims { result ≡ length self.now.aims }
         ensures marks { result ≡ length self.now.marks }

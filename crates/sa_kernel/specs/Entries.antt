@@ -1,5 +1,5 @@
 -- The entries of the kernel, one by one.
-use Rattle.std.specs.Prelude.{ℕ, ◌+◌, ◌-◌, Bool, true, false, List, [], ◌∷◌, ◌++◌, Option, Some, None, slice_get, slice_set}
+use Rattle.std.specs.Prelude.{ℕ, ◌+◌, ◌-◌, ◌≤◌, Bool, true, false, List, [], ◌∷◌, ◌++◌, map, Option, Some, None, slice_get, slice_set}
 use Rattle.std.specs.Option.{option_map}
 use Rattle.sa_base.specs.declared.number.ProcNo.{ProcNo}
 use Rattle.sa_base.specs.declared.number.SpaceNo.{SpaceNo}
@@ -10,6 +10,7 @@ use Rattle.sa_base.specs.declared.context.Stopped.{Stopped}
 use Rattle.sa_base.specs.declared.record.Note.{Note}
 use Rattle.sa_base.specs.declared.record.Note.TheVariants.{Add, Preempted, Blocked, Unblocked}
 use Rattle.sa_base.specs.declared.record.Record.TheVariants.{Stop, Block as BlockRecord, Unblock, Want, Line, Fetched, GiveBack as GiveBackRecord}
+use Rattle.sa_base.specs.Items.{items_at}
 use Rattle.sa_lemmas.specs.Function.{put}
 use Rattle.sa_acts.specs.declared.acts.Act.{Act}
 use Rattle.sa_acts.specs.Table.{held_of, taken_from, space_of}
@@ -23,10 +24,18 @@ use Rattle.sa_kernel.specs.State.{State, Scene, owner_of, aim_of, life_of, deman
 use Rattle.sa_kernel.specs.Parts.{with_line, with_mark, with_demand, noted, with_io, put_aside, upcall, leave, go_to}
 use Rattle.sa_kernel.specs.Closing.{closed}
 
+-- a page for which a context may block
+abbrev pub IsOwnPage : ℕ → Type 0
+IsOwnPage k = (1 ≤ k) × (k ≤ 15)
+
 -- a block: the I/O begins, the context is held, and the space is told in a fresh activation, if its page is there
 abbrev pub io_for : SpaceNo → ActNo → Option ℕ → IoKind
 io_for s a None = Plain s a
 io_for s a (Some k) = Page s a k
+
+-- what an I/O under way is for
+abbrev pub kind_at : ℕ → List Io → Option IoKind
+kind_at n ios = option_map (λ (io : Io). io.kind) (io_at n ios)
 
 module _ {C : Type 0} where
   -- an interrupt: the line is lowered, the context that ran here is stopped, and the processor goes to its aim
@@ -48,11 +57,15 @@ module _ {C : Type 0} where
   told_or_left e p s fresh true x = upcall e p s fresh false x
   told_or_left e p s fresh false x = leave e p s x
 
+  abbrev pub block_begun : ℕ → ProcNo → SpaceNo → ActNo → Stopped C → ℕ → Option ℕ → Scene C → Scene C
+  block_begun e p s a held length page x =
+      let io : IoNo = record { 0 = x.state.begun } in
+      says e p (BlockRecord s held.thread a io)
+      (record x { state = put_aside p s a (Blocked a) held (with_io (io_for s a page) (e + length) x.state) })
+
   abbrev pub blocked_by : ℕ → ProcNo → ActNo → Option SpaceNo → Option ActNo → Stopped C → ℕ → Option ℕ → Scene C → Scene C
   blocked_by e p fresh (Some s) (Some a) held length page x =
-      let io : IoNo = record { 0 = x.state.begun } in
-      let begun = record x { state = put_aside p s a (Blocked a) held (with_io (io_for s a page) (e + length) x.state) } in
-      told_or_left e p s fresh (can_upcall x.state s) (says e p (BlockRecord s held.thread a io) begun)
+      told_or_left e p s fresh (can_upcall x.state s) (block_begun e p s a held length page x)
   blocked_by e p fresh _ _ held length page x = x
 
   abbrev pub blocked : ℕ → ProcNo → ActNo → Stopped C → ℕ → Option ℕ → Scene C → Scene C
@@ -72,11 +85,11 @@ module _ {C : Type 0} where
   over_for e p (Page s a k) x = come_back e p s a x
   over_for e p (Upcall s) x = says e p (Fetched s) x
 
-  abbrev pub over : ℕ → ProcNo → Option Io → Scene C → Scene C
-  over e p None x = x
-  over e p (Some io) x = over_for e p io.kind (record x { state = record x.state {
-    under_way = without io.number x.state.under_way;
-    pages = completed io.kind x.state.pages;
+  abbrev pub over : ℕ → ProcNo → IoNo → Option IoKind → Scene C → Scene C
+  over e p io None x = x
+  over e p io (Some kind) x = over_for e p kind (record x { state = record x.state {
+    under_way = without io.0 x.state.under_way;
+    pages = completed kind x.state.pages;
   } })
 
   -- the hints: the demand is another, which is recorded, and the processor is marked idle or not
@@ -97,8 +110,7 @@ module _ {C : Type 0} where
   without_acts (a ∷ others) acts = without_acts others (put acts a.0 None)
 
   abbrev pub say_given : ℕ → ProcNo → List ActNo → Scene C → Scene C
-  say_given e p [] x = x
-  say_given e p (a ∷ others) x = say_given e p others (says e p (GiveBackRecord a) x)
+  say_given e p given x = record x { items = x.items ++ items_at e p (map GiveBackRecord given) }
 
   abbrev pub gave_back : ℕ → ProcNo → Option SpaceNo → Scene C → Scene C
   gave_back e p None x = x
@@ -116,7 +128,7 @@ module _ {C : Type 0} where
   abbrev pub entered_as : ℕ → ProcNo → ActNo → Entry C → Scene C → Scene C
   entered_as e p fresh (Interrupt held) x = interrupted e p fresh held x
   entered_as e p fresh (Block held length page) x = blocked e p fresh held length page x
-  entered_as e p fresh (Complete io) x = over e p (io_at io.0 x.state.under_way) x
+  entered_as e p fresh (Complete io) x = over e p io (kind_at io.0 x.state.under_way) x
   entered_as e p fresh (More n) x = more e p n (owner_of x.state p) x
   entered_as e p fresh Idle x = idled e p (owner_of x.state p) x
   entered_as e p fresh GiveBack x = gave_back e p (owner_of x.state p) x

@@ -1,5 +1,5 @@
 -- What entries are made of. Each part takes the event and the processor on which it happens.
-use Rattle.std.specs.Prelude.{ℕ, ◌+◌, ◌==◌, Bool, true, false, not, List, [], ◌∷◌, ◌++◌, Option, Some, None, slice_set}
+use Rattle.std.specs.Prelude.{ℕ, ◌+◌, Bool, true, false, not, List, [], ◌∷◌, ◌++◌, map, Option, Some, None, slice_set}
 use Rattle.sa_base.specs.declared.number.ProcNo.{ProcNo}
 use Rattle.sa_base.specs.declared.number.SpaceNo.{SpaceNo}
 use Rattle.sa_base.specs.declared.number.ActNo.{ActNo}
@@ -7,9 +7,11 @@ use Rattle.sa_base.specs.declared.context.Stopped.{Stopped}
 use Rattle.sa_base.specs.declared.record.Note.{Note}
 use Rattle.sa_base.specs.declared.record.Note.TheVariants.{Add}
 use Rattle.sa_base.specs.declared.record.Record.TheVariants.{Up, Told, Move, Aim, Fetch}
+use Rattle.sa_base.specs.Items.{items_at}
 use Rattle.sa_lemmas.specs.Function.{put}
 use Rattle.sa_acts.specs.declared.acts.Act.{Act}
 use Rattle.sa_acts.specs.Table.{holding, runs_in}
+use Rattle.sa_assign.specs.Aims.{is_aim}
 use Rattle.sa_devices.specs.declared.kind.IoKind.{IoKind}
 use Rattle.sa_devices.specs.declared.kind.IoKind.TheVariants.{Upcall}
 use Rattle.sa_kernel.specs.State.{State, Scene, owner_of, untold_of, can_upcall, is_fetching, says}
@@ -18,11 +20,6 @@ use Rattle.sa_kernel.specs.State.{State, Scene, owner_of, untold_of, can_upcall,
 abbrev pub notes_told : Bool → ProcNo → List Note → List Note
 notes_told true p notes = Add p ∷ notes
 notes_told false p notes = notes
-
--- the processor goes to a space: by an upcall where its page is resident, else it is left
-abbrev pub is_space : SpaceNo → Option SpaceNo → Bool
-is_space s None = false
-is_space s (Some t) = t.0 == s.0
 
 module _ {C : Type 0} where
   abbrev pub with_owner : ProcNo → Option SpaceNo → State C → State C
@@ -70,8 +67,7 @@ module _ {C : Type 0} where
   }))
 
   abbrev pub say_told : ℕ → ProcNo → List Note → Scene C → Scene C
-  say_told e p [] x = x
-  say_told e p (note ∷ notes) x = say_told e p notes (says e p (Told note) x)
+  say_told e p notes x = record x { items = x.items ++ items_at e p (map Told notes) }
 
   -- an upcall in a fresh activation; `added` says that the space has just become the owner
   abbrev pub upcall : ℕ → ProcNo → SpaceNo → ActNo → Bool → Scene C → Scene C
@@ -100,5 +96,6 @@ module _ {C : Type 0} where
   go_to_by e p s a owned false x = leave e p s x
   go_to_by e p s a owned true x = upcall e p s a (not owned) (moved e p s owned x)
 
+  -- the processor goes to a space: by an upcall where its page is resident, else it is left
   abbrev pub go_to : ℕ → ProcNo → SpaceNo → ActNo → Scene C → Scene C
-  go_to e p s a x = go_to_by e p s a (is_space s (owner_of x.state p)) (can_upcall x.state s) x
+  go_to e p s a x = go_to_by e p s a (is_aim s.0 (owner_of x.state p)) (can_upcall x.state s) x
