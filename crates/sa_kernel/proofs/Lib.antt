@@ -1,3 +1,4 @@
 mod Batches
 mod RunLemmas
 mod GivenBack
+mod ClosingLemmas

@@ -49,8 +49,11 @@ module _ {C : Type 0} where
   want_one e p false s x = x
   want_one e p true s x = says e p (Want (record { 0 = s }) 1) (record x { state = with_demand s 1 x.state })
 
+  abbrev pub want_for : ℕ → ProcNo → ℕ → Scene C → Scene C
+  want_for e p s x = want_one e p (must_want x.state s) s x
+
   abbrev pub wants : ℕ → ProcNo → Scene C → Scene C
-  wants e p x = for_spaces (λ s y. want_one e p (must_want y.state s) s y) 0 (spaces x.state) x
+  wants e p x = for_spaces (want_for e p) 0 (spaces x.state) x
 
   -- second, the aims: what a space claims is its demand, and while its upcall page is fetched no more than it is aimed at
   abbrev pub claim_of : State C → ℕ → Claim
@@ -96,12 +99,15 @@ module _ {C : Type 0} where
   interrupt e p None x = x
   interrupt e p (Some q) x = says e p (Line (proc_no q)) (record x { state = with_line (proc_no q) (Some e) x.state })
 
-  abbrev pub interrupt_for : ℕ → ProcNo → Bool → ℕ → Scene C → Scene C
-  interrupt_for e p false s x = x
-  interrupt_for e p true s x = interrupt e p (least_below (length x.state.lives) (has_low_line x.state s)) x
+  abbrev pub interrupt_one : ℕ → ProcNo → Bool → ℕ → Scene C → Scene C
+  interrupt_one e p false s x = x
+  interrupt_one e p true s x = interrupt e p (least_below (length x.state.lives) (has_low_line x.state s)) x
+
+  abbrev pub interrupt_for : ℕ → ProcNo → ℕ → Scene C → Scene C
+  interrupt_for e p s x = interrupt_one e p (must_interrupt x.state s) s x
 
   abbrev pub lines : ℕ → ProcNo → Scene C → Scene C
-  lines e p x = for_spaces (λ s y. interrupt_for e p (must_interrupt y.state s) s y) 0 (spaces x.state) x
+  lines e p x = for_spaces (interrupt_for e p) 0 (spaces x.state) x
 
   abbrev pub closed : ℕ → ProcNo → Scene C → Scene C
   closed e p x = lines e p (aims e p (wants e p x))

@@ -1,5 +1,5 @@
 // The closing of an event.
-ghost use Rattle.std.specs.Prelude.{◌≡◌, ℕ, ◌+◌, ◌*◌, ◌≤◌, ◌<◌, ◌&&◌, [], ◌∷◌, ◌++◌, length, not, max, Some, None, IfSome, if◌then◌else◌, slice_index, slice_index_or};
+ghost use Rattle.std.specs.Prelude.{◌≡◌, ℕ, ◌+◌, ◌*◌, ◌≤◌, ◌<◌, ◌&&◌, [], ◌∷◌, ◌++◌, length, not, max, is_some, Some, None, IfSome, if◌then◌else◌, slice_index, slice_index_or};
 ghost use Rattle.std.specs.List.{list_any};
 ghost use Rattle.sa_acts.specs.Table.{held_of};
 ghost use Rattle.sa_assign.specs.Aims.{aimed, least_below};
@@ -16,7 +16,7 @@ impl<C: Drop> Machine<C> {
     ghost use Rattle.sa_kernel.specs.View.{state_of, scene_of, used, Spends};
     ghost use Rattle.sa_kernel.specs.State.{owner_of, aim_of, life_of, demand_of, can_upcall, untold_of, taken_of};
     ghost use Rattle.sa_kernel.specs.Sound.{HasSizes};
-    ghost use Rattle.sa_kernel.specs.Closing.{calls_for, must_want, want_one, wants, claim_of, claims, first_space, aims, is_told_by, has_low_line, must_interrupt, interrupt_for, lines, closed};
+    ghost use Rattle.sa_kernel.specs.Closing.{calls_for, must_want, want_for, wants, claim_of, claims, first_space, aims, is_told_by, has_low_line, must_interrupt, interrupt, interrupt_one, interrupt_for, lines, closed};
 
     // Whether the context that is held of an activation was idle.
     fn was_idle(&self, a: ActNo) -> bool
@@ -66,8 +66,9 @@ impl<C: Drop> Machine<C> {
         requires sizes { HasSizes (state_of self.old) }
         requires space { s.0 < length self.old.demands.items }
         requires trace { 1 ≤ trace.old.spare }
-        ensures exact { scene_of self.new trace.new
-            ≡ want_one event p (must_want (state_of self.old) s.0) s.0 (scene_of self.old trace.old) }
+        ensures exact { scene_of self.new trace.new ≡ want_for event p s.0 (scene_of self.old trace.old) }
+        ensures sizes { HasSizes (state_of self.new) }
+        ensures spaces { length self.new.demands.items ≡ length self.old.demands.items }
         ensures room { Spends self.old self.new 0 0 0 }
         ensures items { Adds 1 trace.old trace.new }
     {
@@ -120,5 +121,156 @@ impl<C: Drop> Machine<C> {
             return 0;
         }
         (event / u64::from(self.slice) % self.demands.len() as u64) as u16
+    }
+
+    // Each space that must be told something wants a processor.
+    fn want_all(&mut self, event: u64, p: ProcNo, trace: &mut Trace)
+        requires sizes { HasSizes (state_of self.old) }
+        requires trace { MAX_SPACES ≤ trace.old.spare }
+        ensures exact { scene_of self.new trace.new ≡ wants event p (scene_of self.old trace.old) }
+        ensures sizes { HasSizes (state_of self.new) }
+        ensures room { Spends self.old self.new 0 0 0 }
+        ensures items { Adds MAX_SPACES trace.old trace.new }
+    {
+        for s in 0..self.demands.len() {
+            self.want_one(event, p, SpaceNo(s as u16), trace);
+        }
+    }
+
+    // The aims follow the shares.
+    fn aim(&mut self, event: u64, p: ProcNo, trace: &mut Trace)
+        requires sizes { HasSizes (state_of self.old) }
+        requires trace { 32 ≤ trace.old.spare }
+        ensures exact { scene_of self.new trace.new ≡ aims event p (scene_of self.old trace.old) }
+        ensures sizes { HasSizes (state_of self.new) }
+        ensures room { Spends self.old self.new 0 0 0 }
+        ensures items { Adds 32 trace.old trace.new }
+    {
+        let claims = self.claims();
+        let first = self.first_space(event);
+        let item = Item {
+            event,
+            proc: p,
+            what: Record::Tick,
+        };
+        self.assign.reaim(&claims, first, item, trace);
+    }
+
+    // Whether this processor of the space, with a raised line, is aimed at it.
+    fn is_told_by(&self, s: SpaceNo, q: ProcNo) -> bool
+        requires sizes { HasSizes (state_of self.now) }
+        requires within { q.0 < length self.now.lives.items }
+        ensures { result ≡ is_told_by (state_of self.now) s.0 q.0 }
+    {
+        is_owner(self.assign.owner(q), s)
+            && is_owner(self.assign.aim(q), s)
+            && self.assign.line(q).is_some()
+    }
+
+    // Whether the space owns this processor, whose line is low.
+    fn has_low_line(&self, s: SpaceNo, q: ProcNo) -> bool
+        requires sizes { HasSizes (state_of self.now) }
+        requires within { q.0 < length self.now.lives.items }
+        ensures { result ≡ has_low_line (state_of self.now) s.0 q.0 }
+    {
+        is_owner(self.assign.owner(q), s) && self.assign.line(q).is_none()
+    }
+
+    // Whether a processor of the space is to be interrupted by which it is told.
+    fn is_told(&self, s: SpaceNo) -> bool
+        requires { HasSizes (state_of self.now) }
+        ensures { result ≡ is_some (least_below (length self.now.lives.items) (is_told_by (state_of self.now) s.0)) }
+    {
+        for q in 0..self.assign.processors() {
+            if self.is_told_by(s, ProcNo(q)) {
+                return true;
+            }
+        }
+        false
+    }
+
+    // The lowest-numbered processor of the space with a low line.
+    fn first_low(&self, s: SpaceNo) -> Option<u16>
+        requires { HasSizes (state_of self.now) }
+        ensures is { result ≡ least_below (length self.now.lives.items) (has_low_line (state_of self.now) s.0) }
+        ensures low { IfSome result (λ q. (q < length self.now.lives.items)
+            × (slice_index_or self.now.assign.lines q None ≡ None)) }
+    {
+        for q in 0..self.assign.processors() {
+            if self.has_low_line(s, ProcNo(q)) {
+                return Some(q);
+            }
+        }
+        None
+    }
+
+    // Whether the space has something to be told and would not be told it.
+    fn must_interrupt(&self, s: SpaceNo) -> bool
+        requires sizes { HasSizes (state_of self.now) }
+        requires space { s.0 < length self.now.demands.items }
+        ensures { result ≡ must_interrupt (state_of self.now) s.0 }
+    {
+        self.notices.has_untold(s) && !self.devices.fetching(s) && !self.is_told(s)
+    }
+
+    // The line of this processor is raised, if there is one.
+    fn raise(&mut self, event: u64, p: ProcNo, q: Option<u16>, trace: &mut Trace)
+        requires sizes { HasSizes (state_of self.old) }
+        requires low { IfSome q (λ q. (q < length self.old.lives.items)
+            × (slice_index_or self.old.assign.lines q None ≡ None)) }
+        requires trace { 1 ≤ trace.old.spare }
+        ensures exact { scene_of self.new trace.new ≡ interrupt event p q (scene_of self.old trace.old) }
+        ensures sizes { HasSizes (state_of self.new) }
+        ensures spaces { length self.new.demands.items ≡ length self.old.demands.items }
+        ensures room { Spends self.old self.new 0 0 0 }
+        ensures items { Adds 1 trace.old trace.new }
+    {
+        if let Some(q) = q {
+            self.assign.raise(ProcNo(q), event);
+            say(trace, event, p, Record::Line(ProcNo(q)));
+        }
+    }
+
+    // A processor of a space is interrupted, if the space must be told something.
+    fn interrupt_for(&mut self, event: u64, p: ProcNo, s: SpaceNo, trace: &mut Trace)
+        requires sizes { HasSizes (state_of self.old) }
+        requires space { s.0 < length self.old.demands.items }
+        requires trace { 1 ≤ trace.old.spare }
+        ensures exact { scene_of self.new trace.new ≡ interrupt_for event p s.0 (scene_of self.old trace.old) }
+        ensures sizes { HasSizes (state_of self.new) }
+        ensures spaces { length self.new.demands.items ≡ length self.old.demands.items }
+        ensures room { Spends self.old self.new 0 0 0 }
+        ensures items { Adds 1 trace.old trace.new }
+    {
+        if self.must_interrupt(s) {
+            self.raise(event, p, self.first_low(s), trace);
+        }
+    }
+
+    // Each space that must be told something has a processor interrupted.
+    fn interrupt_all(&mut self, event: u64, p: ProcNo, trace: &mut Trace)
+        requires sizes { HasSizes (state_of self.old) }
+        requires trace { MAX_SPACES ≤ trace.old.spare }
+        ensures exact { scene_of self.new trace.new ≡ lines event p (scene_of self.old trace.old) }
+        ensures sizes { HasSizes (state_of self.new) }
+        ensures room { Spends self.old self.new 0 0 0 }
+        ensures items { Adds MAX_SPACES trace.old trace.new }
+    {
+        for s in 0..self.demands.len() {
+            self.interrupt_for(event, p, SpaceNo(s as u16), trace);
+        }
+    }
+
+    // The closing of an event.
+    pub(crate) fn close(&mut self, event: u64, p: ProcNo, trace: &mut Trace)
+        requires sizes { HasSizes (state_of self.old) }
+        requires trace { 64 ≤ trace.old.spare }
+        ensures exact { scene_of self.new trace.new ≡ closed event p (scene_of self.old trace.old) }
+        ensures room { Spends self.old self.new 0 0 0 }
+        ensures items { Adds 64 trace.old trace.new }
+    {
+        self.want_all(event, p, trace);
+        self.aim(event, p, trace);
+        self.interrupt_all(event, p, trace);
     }
 }
