@@ -4,16 +4,27 @@ use Rattle.std.proofs.lemmas.List.{length-set}
 use Rattle.sa_base.specs.declared.number.ProcNo.{ProcNo}
 use Rattle.sa_base.specs.declared.number.SpaceNo.{SpaceNo}
 use Rattle.sa_base.specs.declared.record.Item.{Item}
+use Rattle.sa_base.specs.declared.record.Record.TheVariants.{Want}
 use Rattle.sa_base.specs.Items.{items_at}
 use Rattle.sa_share.specs.declared.Claim.{Claim}
 use Rattle.sa_share.specs.Share.{IsFirst}
 use Rattle.sa_share.specs.Rounds.{shares_of}
 use Rattle.sa_assign.specs.AssignView.{AssignView}
-use Rattle.sa_assign.specs.Aims.{Change, aims_with, aims_after}
-use Rattle.sa_assign.specs.Reaim.{raised, line_at, lines_with, lines_after, changes_in, reaimed, reaim_records}
+use Rattle.sa_assign.specs.Aims.{Change, space_no, aims_with, aims_after}
+use Rattle.sa_assign.specs.Reaim.{proc_no, raised, line_at, lines_with, lines_after, changes_in, reaimed, reaim_records}
 use Rattle.sa_kernel.specs.Sound.{HasSizes}
+use Rattle.sa_kernel.specs.Opening.{first_wants}
 use Rattle.sa_kernel.specs.State.{State, Scene}
 use Rattle.sa_kernel.specs.Closing.{for_spaces, claims_from, claim_of, claims, spaces, first_space, aims}
+
+-- one space more has said what it wants
+pub one-said : (s n : ℕ) (items after : List Item) → s < n → after ≡ items ++ record { event = 0; proc = proc_no 0; what = Want (space_no s) 1 } ∷ []
+    → after ++ items_at 0 (proc_no 0) (first_wants (s + 1) (n - (s + 1))) ≡ items ++ items_at 0 (proc_no 0) (first_wants s (n - s))
+one-said s n items after below is =
+    let e : suc (n - (s + 1)) ≡ n - s = omega arith in
+    ap (λ xs. xs ++ items_at 0 (proc_no 0) (first_wants (s + 1) (n - (s + 1)))) is
+    ∙ append_assoc items (record { event = 0; proc = proc_no 0; what = Want (space_no s) 1 } ∷ []) (items_at 0 (proc_no 0) (first_wants (s + 1) (n - (s + 1))))
+    ∙ ap (λ k. items ++ items_at 0 (proc_no 0) (first_wants s k)) e
 
 pub length-aims_after : (aims : List (Option SpaceNo)) (cs : List Change) → length (aims_after aims cs) ≡ length aims
 length-aims_after aims [] = refl

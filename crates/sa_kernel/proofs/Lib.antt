@@ -2,3 +2,5 @@ mod Batches
 mod RunLemmas
 mod GivenBack
 mod ClosingLemmas
+mod LifeLemmas
+mod SoundLemmas

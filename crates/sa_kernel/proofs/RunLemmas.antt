@@ -215,3 +215,7 @@ module _ {C : Type 0} where
       let same : untold_count mid.state ≡ untold_count (stopped e p o l held (lowered p old)).state = ap (λ (x : Scene C). untold_count x.state) (stopped-low e p held a old mid low is) in
       let more : untold_count (stopped e p o l held (lowered p old)).state ≤ untold_count old.state + 1 = count-stopped e p o l held (lowered p old) in
       omega arith
+
+  -- a call that does not upcall
+  pub enters-nothing : (f : ActNo → Scene C → Scene C) (a : ActNo) (old new : Scene C) (up : Bool) → up ≡ false → old.state.acts a.0 ≡ None → new ≡ f a old → Enters old new Nothing up f
+  enters-nothing f a old new up is unused scene = record { fresh = a; unused = unused; given = ap (λ b. given_by b a) (sym is); scene = scene }

@@ -15,7 +15,7 @@ use Rattle.sa_lemmas.specs.Function.{put}
 use Rattle.sa_acts.specs.declared.acts.Act.{Act}
 use Rattle.sa_acts.specs.Table.{held_of, taken_from, space_of}
 use Rattle.sa_devices.specs.Ios.{Io, io_at, without}
-use Rattle.sa_devices.specs.Pages.{completed}
+use Rattle.sa_devices.specs.Pages.{completed, evicted}
 use Rattle.sa_devices.specs.declared.kind.IoKind.{IoKind}
 use Rattle.sa_devices.specs.declared.kind.IoKind.TheVariants.{Plain, Page, Upcall}
 use Rattle.sa_kernel.specs.declared.entry.Entry.{Entry}
@@ -144,11 +144,16 @@ module _ {C : Type 0} where
     taken = slice_set k.taken (space_of (k.acts a.0)).0 (taken_of k (space_of (k.acts a.0)).0 ++ a ∷ []);
   }
 
+  -- .. if one is held of the activation
+  abbrev pub handed_by : Option (Stopped C) → ActNo → State C → State C
+  handed_by None a k = k
+  handed_by (Some held) a k = handed_over a k
+
   abbrev pub fetched : Note → State C → State C
   fetched (Add p) k = k
   fetched (Blocked a) k = k
-  fetched (Preempted a) k = handed_over a k
-  fetched (Unblocked a) k = handed_over a k
+  fetched (Preempted a) k = handed_by (held_of (k.acts a.0)) a k
+  fetched (Unblocked a) k = handed_by (held_of (k.acts a.0)) a k
 
   abbrev pub held_for : State C → Note → Option (Stopped C)
   held_for k (Add p) = None
@@ -162,3 +167,7 @@ module _ {C : Type 0} where
 
   abbrev pub next_note : State C → Option (Note × Option (Stopped C))
   next_note k = option_map (λ note. (note, held_for k note)) (slice_get k.telling 0)
+
+  -- the pages that the workload evicts at an event are absent
+  abbrev pub evicted_at : ℕ → State C → State C
+  evicted_at event k = record k { pages = evicted event k.fixed.evictions k.pages }

@@ -7,3 +7,5 @@ pub mod Room
 pub mod Sound
 pub mod View
 pub mod Runs
+pub mod Opening
+pub mod Kept

@@ -32,11 +32,12 @@ module _ {C : Type 0} where
     pub pages : length k.pages ≡ length k.demands
     pub priorities : length k.fixed.priorities ≡ length k.demands
 
-  -- the activation was taken
-  pub record IsTaken (act : Option (Act C)) : Type 0 where
+  -- the activation was taken, and is of this space
+  pub record IsTaken (s : ℕ) (act : Option (Act C)) : Type 0 where
     pub here : Act C
     pub is : act ≡ Some here
     pub taken : here.taken ≡ true
+    pub space : here.space.0 ≡ s
 
   -- the activation of a processor runs there in the space that owns it
   pub record RunsIn (owners : List (Option SpaceNo)) (acts : ℕ → Option (Act C)) (p : ℕ) (a : ActNo) : Type 0 where
@@ -51,7 +52,7 @@ module _ {C : Type 0} where
 
   -- what is listed as taken was taken
   abbrev pub AreTaken : List (List ActNo) → (ℕ → Option (Act C)) → Type 0
-  AreTaken taken acts = (s : ℕ) (a : ActNo) → Contains (slice_index_or taken s []) a → IsTaken (acts a.0)
+  AreTaken taken acts = (s : ℕ) (a : ActNo) → Contains (slice_index_or taken s []) a → IsTaken s (acts a.0)
 
   pub record IsSound (k : State C) : Type 0 where
     pub sizes : HasSizes k

@@ -4,8 +4,12 @@
 mod closing;
 mod entries;
 mod entry;
+pub mod laws;
+mod kernel;
 mod machine;
 mod notices;
 mod say;
+mod start;
 
 pub use entry::{Entry, Given};
+pub use kernel::Kernel;
