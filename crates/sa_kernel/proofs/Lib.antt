@@ -4,3 +4,4 @@ mod GivenBack
 mod ClosingLemmas
 mod LifeLemmas
 mod SoundLemmas
+mod KeptLemmas

@@ -28,9 +28,10 @@ module _ {C : Type 0} where
   abbrev pub used : Machine C → ℕ
   used m = (acts_of m.acts).used
 
-  -- at most so much of the room of each kind was spent: for notices, for activations, for I/Os; and so many more numbers are used
+  -- at most so much of the room of each kind was spent: for notices, for activations, for I/Os; and so many more I/Os were begun and numbers are used
   pub record Spends (old new : Machine C) (notes fresh begun : ℕ) : Type 0 where
     pub notices : old.notices.spare ≤ new.notices.spare + notes
     pub acts : old.acts.spare ≤ new.acts.spare + fresh
     pub ios : old.devices.ios.spare ≤ new.devices.ios.spare + begun
+    pub count : new.devices.ios.begun ≤ old.devices.ios.begun + begun
     pub used : used new ≤ used old + fresh

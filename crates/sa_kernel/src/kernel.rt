@@ -120,6 +120,18 @@ impl<C: Drop> Kernel<C> {
         self.parts.devices.evict(event);
     }
 
+    /// The next notice that the last upcall told, in order, with the context that it hands over, which is taken
+    /// from now on; `None` exactly where all were fetched.
+    pub fn next_note(&mut self) -> Option<(Note, Option<Stopped<C>>)>
+        ensures note { result ≡ next_note (kernel_of self.old) }
+        ensures state { kernel_of self.new
+            ≡ after_fetch (kernel_of self.old).telling (kernel_of self.old) }
+        ensures spare { self.new.spare ≡ self.old.spare }
+        ensures last { self.new.last ≡ self.old.last }
+    {
+        self.parts.next_note()
+    }
+
     /// The space whose activation runs on the processor.
     pub fn owner(&self, p: ProcNo) -> Option<SpaceNo>
         requires { p.0 < processors self.now }

@@ -4,7 +4,6 @@
 mod closing;
 mod entries;
 mod entry;
-pub mod laws;
 mod kernel;
 mod machine;
 mod notices;

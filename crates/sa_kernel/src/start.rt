@@ -1,5 +1,6 @@
 // The opening, and what is done at each entry.
 ghost use Rattle.std.specs.Prelude.{◌≡◌, ℕ, ◌+◌, ◌*◌, ◌≤◌, ◌<◌, ◌^◌, [], ◌++◌, length, map, replicate, Some, None, IfOk, OnOk, slice_index_or};
+ghost use Rattle.sa_acts.specs.Table.{held_of};
 ghost use Rattle.sa_base.specs.Items.{items_at};
 ghost use Rattle.sa_instr.specs.Space.{SpaceView};
 ghost use Rattle.sa_assign.specs.Reaim.{proc_no};
@@ -12,7 +13,7 @@ use crate::notices::Notices;
 use crate::say::say;
 use sa_acts::Acts;
 use sa_assign::Assign;
-use sa_base::{MAX_SPACES, ProcNo, Record, SpaceNo, Trace};
+use sa_base::{ActNo, MAX_SPACES, Note, ProcNo, Record, SpaceNo, Stopped, Trace};
 use sa_devices::Devices;
 use sa_instr::{SpaceDef, Workload};
 use std::alloc::{AllocError, Global};
@@ -26,7 +27,7 @@ impl<C: Drop> Machine<C> {
     ghost use Rattle.sa_kernel.specs.Runs.{Enters, untold_count, taken_count};
     ghost use Rattle.sa_kernel.specs.Opening.{opening_state};
     ghost use Rattle.sa_kernel.specs.Closing.{closed};
-    ghost use Rattle.sa_kernel.specs.Entries.{entered_as, entered};
+    ghost use Rattle.sa_kernel.specs.Entries.{entered_as, held_for, handed_by, fetched, next_note, after_fetch};
     ghost use Rattle.sa_kernel.specs.Kept.{need_of, IsFit, upcalls};
 
     // The parts at the opening of a workload.
@@ -74,6 +75,44 @@ impl<C: Drop> Machine<C> {
         self.notices.reserve(n)?;
         self.acts.reserve(n)?;
         self.devices.reserve(ios)
+    }
+
+    // The context that is held of an activation, if one is, which is taken from now on.
+    fn take(&mut self, a: ActNo) -> Option<Stopped<C>>
+        ensures held { result ≡ held_of ((state_of self.old).acts a.0) }
+        ensures state { state_of self.new
+            ≡ handed_by (held_of ((state_of self.old).acts a.0)) a (state_of self.old) }
+        ensures room { Spends self.old self.new 0 0 0 }
+    {
+        if self.acts.held(a).is_none() {
+            return None;
+        }
+        Some(self.acts.take_context(a))
+    }
+
+    // The context that a notice hands over.
+    fn hand_over(&mut self, note: Note) -> Option<Stopped<C>>
+        ensures held { result ≡ held_for (state_of self.old) note }
+        ensures state { state_of self.new ≡ fetched note (state_of self.old) }
+        ensures room { Spends self.old self.new 0 0 0 }
+    {
+        match note {
+            Note::Add(_) => None,
+            Note::Blocked(_) => None,
+            Note::Preempted(a) => self.take(a),
+            Note::Unblocked(a) => self.take(a),
+        }
+    }
+
+    // The next notice that the last upcall told, with the context that it hands over.
+    pub(crate) fn next_note(&mut self) -> Option<(Note, Option<Stopped<C>>)>
+        ensures note { result ≡ next_note (state_of self.old) }
+        ensures state { state_of self.new ≡ after_fetch (state_of self.old).telling (state_of self.old) }
+        ensures room { Spends self.old self.new 0 0 0 }
+    {
+        let note = self.notices.next()?;
+        let held = self.hand_over(note);
+        Some((note, held))
     }
 
     // What an entry does, but for the closing.

@@ -13,7 +13,7 @@ loop-s-preserved g c =
           ∙ c.loop-s.invariant.exact;
       sizes = c.want_one.ensures.sizes;
       spaces = c.want_one.ensures.spaces ∙ c.loop-s.invariant.spaces;
-      room = record { notices = omega arith; acts = omega arith; ios = omega arith; used = omega arith };
+      room = record { notices = omega arith; acts = omega arith; ios = omega arith; count = omega arith; used = omega arith };
       cost = omega arith;
       same = omega arith;
     }
