@@ -1,5 +1,5 @@
 -- The closing, space by space.
-use Rattle.std.proofs.Common.{◌≡◌, ℕ, zero, suc, ◌+◌, ◌-◌, ◌<◌, ◌≤◌, max, Option, List, [], ◌∷◌, ◌++◌, length, refl, sym, ap, subst, ◌∙◌, arith, append_assoc}
+use Rattle.std.proofs.Common.{◌≡◌, ℕ, zero, suc, ◌+◌, ◌-◌, ◌<◌, Option, List, [], ◌∷◌, ◌++◌, length, refl, sym, ap, subst, ◌∙◌, arith, append_assoc}
 use Rattle.std.proofs.lemmas.List.{length-set}
 use Rattle.sa_base.specs.declared.number.ProcNo.{ProcNo}
 use Rattle.sa_base.specs.declared.number.SpaceNo.{SpaceNo}
@@ -11,7 +11,7 @@ use Rattle.sa_share.specs.Share.{IsFirst}
 use Rattle.sa_share.specs.Rounds.{shares_of}
 use Rattle.sa_assign.specs.AssignView.{AssignView}
 use Rattle.sa_assign.specs.Aims.{Change, space_no, aims_with, aims_after}
-use Rattle.sa_assign.specs.Reaim.{proc_no, raised, line_at, lines_with, lines_after, changes_in, reaimed, reaim_records}
+use Rattle.sa_assign.specs.Reaim.{proc_no, lines_with, lines_after, changes_in, reaimed, reaim_records}
 use Rattle.sa_kernel.specs.Sound.{HasSizes}
 use Rattle.sa_kernel.specs.Opening.{first_wants}
 use Rattle.sa_kernel.specs.State.{State, Scene}
@@ -75,7 +75,7 @@ module _ {C : Type 0} where
         items = old.items ++ items_at e p (reaim_records e m (shares_of n f xs) old.state.assign);
       } in
       let made : record old { state = record old.state { assign = a }; items = items } ≡ F cs (length cs) first =
-          λ i. record old { state = record old.state { assign = assign i }; items = says i } in
+      λ i. record old { state = record old.state { assign = assign i }; items = says i } in
       made
       ∙ ap (λ (xs : List Claim). F xs (length xs) first) claimed
       ∙ ap (λ m. F (claims old.state) m first) (length-claims old.state)

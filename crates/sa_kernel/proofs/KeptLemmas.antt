@@ -1,5 +1,5 @@
 -- What the kernel keeps.
-use Rattle.std.proofs.Common.{◌≡◌, ℕ, ◌+◌, ◌-◌, ◌*◌, ◌<◌, ◌≤◌, Bool, List, [], ◌++◌, length, replicate, refl, sym, ap, subst, ◌∙◌, arith}
+use Rattle.std.proofs.Common.{◌≡◌, ℕ, ◌-◌, ◌<◌, ◌≤◌, Bool, List, [], ◌++◌, length, sym, ap, subst, ◌∙◌, arith}
 use Rattle.std.proofs.lemmas.List.{length-replicate}
 use Rattle.sa_base.specs.declared.number.ProcNo.{ProcNo}
 use Rattle.sa_base.specs.declared.record.Item.{Item}
@@ -18,7 +18,7 @@ use Rattle.sa_kernel.specs.Closing.{closed}
 use Rattle.sa_kernel.specs.Entries.{entered_as, after_fetch}
 use Rattle.sa_kernel.specs.Opening.{opening_state, first_wants, opened}
 use Rattle.sa_kernel.specs.Runs.{Enters}
-use Rattle.sa_kernel.specs.Sound.{IsSound, HasSizes}
+use Rattle.sa_kernel.specs.Sound.{IsSound}
 use Rattle.sa_kernel.specs.View.{state_of, scene_of, used, Spends}
 use Rattle.sa_kernel.specs.Kept.{IsFit, IsKept}
 use Rattle.sa_kernel.proofs.SoundLemmas.{sound-evicted, sound-closed, sound-entered_as, sound-opening, sound-after_fetch}
@@ -29,7 +29,12 @@ module _ {C : Type 0} where
   kept-evict m d event room last is kept =
       subst (λ (v : DevicesView). IsKept (record m { devices = v }) room last) (sym is) (record {
         sound = sound-evicted event (state_of m) kept.sound;
-        notices = kept.notices; acts = kept.acts; ios = kept.ios; used = kept.used; begun = kept.begun; last = kept.last;
+        notices = kept.notices;
+        acts = kept.acts;
+        ios = kept.ios;
+        used = kept.used;
+        begun = kept.begun;
+        last = kept.last;
       })
 
   sound-at : (x y : Scene C) → x ≡ y → IsSound y.state → IsSound x.state
@@ -89,7 +94,9 @@ module _ {C : Type 0} where
       record {
         sound = sound-at (scene_of new tn) (closed 0 (proc_no 0) (record { state = state_of m; items = items })) is
             (sound-closed 0 (proc_no 0) (record { state = state_of m; items = items }) sound);
-        notices = omega arith; acts = omega arith; ios = omega arith;
+        notices = omega arith;
+        acts = omega arith;
+        ios = omega arith;
         used = omega (arith, spends.used);
         begun = omega (arith, spends.count);
         last = omega arith;

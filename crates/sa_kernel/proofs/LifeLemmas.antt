@@ -1,7 +1,7 @@
 -- What runs and what was taken, as cells and numbers change.
-use Rattle.std.proofs.Common.{◌≡◌, ◌≢◌, ℕ, zero, suc, ◌+◌, ◌<◌, true, false, Option, Some, None, IfSome, List, [], ◌∷◌, ◌++◌, length, get_or, slice_set, Contains, refl, sym, ap, subst, ◌∙◌, ◌⊎◌, inl, inr, arith}
+use Rattle.std.proofs.Common.{◌≡◌, ◌≢◌, ℕ, zero, suc, ◌<◌, true, false, Option, Some, None, List, [], ◌∷◌, ◌++◌, get_or, slice_set, Contains, refl, sym, ap, subst, ◌∙◌, ◌⊎◌, inl, inr, arith}
 use Rattle.std.proofs.lemmas.Bool.{cases_eq}
-use Rattle.std.proofs.lemmas.List.{get_or-set_same, get_or-set_other}
+use Rattle.std.proofs.lemmas.List.{get_or-set_other}
 use Rattle.std.proofs.lemmas.List.Elements.{Contains-push_cases}
 use Rattle.sa_base.specs.declared.number.SpaceNo.{SpaceNo}
 use Rattle.sa_base.specs.declared.number.ActNo.{ActNo}
@@ -9,7 +9,7 @@ use Rattle.sa_base.specs.declared.context.Stopped.{Stopped}
 use Rattle.sa_lemmas.specs.Function.{put}
 use Rattle.sa_lemmas.proofs.FunctionUpdates.{put-at, put-other}
 use Rattle.sa_acts.specs.declared.acts.Act.{Act}
-use Rattle.sa_acts.specs.Table.{runs_in, holding, held_of, taken_from, space_of}
+use Rattle.sa_acts.specs.Table.{runs_in, held_of, taken_from, space_of}
 use Rattle.sa_kernel.specs.Entries.{without_acts}
 use Rattle.sa_kernel.specs.Sound.{AreSpaces, AreAlive, AreTaken, RunsIn, IsTaken}
 
@@ -101,6 +101,7 @@ module _ {C : Type 0} where
     where
       same : (b : ActNo) → Some a ≡ Some b → b.0 ≡ a.0
       same b e = cc
+
       fresh : (q : ℕ) (b : ActNo) → get_or lives q None ≡ Some b → b.0 ≢ a.0
       fresh q b is e = not-none (acts b.0) (runs_in (alive.run q b is).space) (ap acts e ∙ unused) (alive.run q b is).act
 

@@ -1,5 +1,5 @@
 -- Calls that may take a fresh activation.
-use Rattle.std.proofs.Common.{◌≡◌, ℕ, ◌+◌, ◌≤◌, ◌<◌, Bool, true, false, not, Option, Some, None, List, [], ◌∷◌, ◌++◌, length, sum_by, slice_index, slice_index_or, slice_set, get_or, refl, sym, ap, ◌∙◌, ◌⊎◌, inl, inr, arith, length-append}
+use Rattle.std.proofs.Common.{◌≡◌, ℕ, ◌+◌, ◌≤◌, Bool, true, false, not, Option, Some, None, List, [], ◌∷◌, ◌++◌, length, sum_by, slice_index, slice_set, get_or, refl, sym, ap, ◌∙◌, ◌⊎◌, inl, inr, arith, length-append}
 use Rattle.std.proofs.lemmas.Bool.{cases_eq, cases_lt}
 use Rattle.std.proofs.lemmas.List.{get_or_past, set_past}
 use Rattle.std.proofs.lemmas.List.Sums.{sum_by-set}
@@ -129,8 +129,8 @@ module _ {C : Type 0} where
       let o = owner_of old.state p in
       let l = life_of old.state p in
       let same : upcalls_for mid.state aim ≡ upcalls_for old.state (aim_of old.state p) =
-          ap (upcalls_for mid.state) is
-          ∙ upcalls-same mid.state old.state (aim_of old.state p) (ap (λ (x : Scene C). x.state.pages) stops ∙ pages-stopped e p o l held (lowered p old)) in
+      ap (upcalls_for mid.state) is
+      ∙ upcalls-same mid.state old.state (aim_of old.state p) (ap (λ (x : Scene C). x.state.pages) stops ∙ pages-stopped e p o l held (lowered p old)) in
       record {
         fresh = enters.fresh;
         unused = unused-stopped e p o l held (lowered p old) enters.fresh.0 (sym (ap (λ (x : Scene C). x.state.acts enters.fresh.0) stops) ∙ enters.unused);
@@ -171,6 +171,7 @@ module _ {C : Type 0} where
       nothing None l none = refl
       nothing (Some s) None none = refl
       nothing (Some s) (Some a) none = elim none [ inl h ↦ cc | inr h ↦ cc ]
+
       same : (o : Option SpaceNo) (l : Option ActNo) → (o ≡ None) ⊎ (l ≡ None) → blocked_by e p b o l held len page x ≡ x
       same None l none = refl
       same (Some s) None none = refl

@@ -1,8 +1,8 @@
 -- What an entry leaves is sound.
-use Rattle.std.proofs.Common.{◌≡◌, ◌≢◌, ℕ, zero, suc, ◌+◌, ◌-◌, ◌<◌, ◌≤◌, Bool, true, false, not, cond, Option, Some, None, IsSome, IfSome, List, [], ◌∷◌, ◌++◌, length, get_or, slice_index_or, slice_set, replicate, map, Contains, All, refl, sym, ap, subst, ◌∙◌, ◌⊎◌, inl, inr, arith}
+use Rattle.std.proofs.Common.{◌≡◌, ◌≢◌, ℕ, zero, suc, ◌+◌, ◌<◌, ◌≤◌, Bool, true, false, not, cond, Option, Some, None, IsSome, IfSome, List, [], ◌∷◌, ◌++◌, length, get_or, slice_set, replicate, Contains, All, refl, sym, ap, subst, ◌∙◌, inl, inr, arith}
 use Rattle.std.proofs.lemmas.List.{length-set, length-map, length-replicate, get_or-set_same}
-use Rattle.std.proofs.lemmas.Bool.{cases_lt, cases_eq, eqb-true}
-use Rattle.std.proofs.lemmas.List.Elements.{All-nil, All-cons, All-head, All-tail, All-push, Contains-append_cases}
+use Rattle.std.proofs.lemmas.Bool.{cases_eq, eqb-true}
+use Rattle.std.proofs.lemmas.List.Elements.{All-nil, All-cons, All-head, All-tail, All-push}
 use Rattle.sa_base.specs.declared.number.ProcNo.{ProcNo}
 use Rattle.sa_base.specs.declared.number.SpaceNo.{SpaceNo}
 use Rattle.sa_base.specs.declared.number.ActNo.{ActNo}
@@ -23,18 +23,18 @@ use Rattle.sa_assign.specs.Aims.{Change, is_aim, space_no, choice, missing, chan
 use Rattle.sa_assign.specs.Reaim.{proc_no, reaimed, changes_in}
 use Rattle.sa_devices.specs.declared.kind.IoKind.{IoKind}
 use Rattle.sa_devices.specs.Pages.{IsKind, completed, evicted, opening_pages}
-use Rattle.sa_devices.specs.Ios.{Io, io_at, without, is_number}
+use Rattle.sa_devices.specs.Ios.{Io, without, is_number}
 use Rattle.sa_devices.specs.declared.kind.IoKind.TheVariants.{Plain, Page, Upcall}
 use Rattle.sa_devices.proofs.SoundLemmas.{length-completed, length-evicted}
 use Rattle.sa_kernel.specs.State.{State, Scene, owner_of, aim_of, life_of, untold_of, taken_of, can_upcall, is_fetching}
-use Rattle.sa_kernel.specs.Parts.{with_owner, without_aim, with_line, with_mark, with_demand, noted, with_io, put_aside, run_in, notes_told, upcall, fetch_page, leave, moved, go_to, go_to_by}
+use Rattle.sa_kernel.specs.Parts.{with_owner, without_aim, with_line, with_mark, with_demand, noted, with_io, put_aside, notes_told, upcall, fetch_page, leave, moved, go_to_by}
 use Rattle.sa_kernel.specs.Entries.{stopped, go_to_aim, interrupted, told_or_left, block_begun, blocked_by, io_for, IsOwnPage, come_back, over_for, over, announced, more, idled, gave_back, interrupted_own, kind_at, entered_as, handed_over, handed_by, fetched, after_fetch, evicted_at}
 use Rattle.sa_kernel.specs.Closing.{for_spaces, spaces, want_one, want_for, must_want, wants, shares, aims, interrupt, interrupt_one, interrupt_for, must_interrupt, has_low_line, closed}
 use Rattle.sa_kernel.specs.Kept.{IsFit}
 use Rattle.sa_kernel.specs.declared.entry.Entry.{Entry}
 use Rattle.sa_kernel.specs.declared.entry.Entry.TheVariants.{Interrupt, Block, Complete, More, Idle, GiveBack, InterruptOwn}
 use Rattle.sa_kernel.proofs.ClosingLemmas.{length-aims_after, length-lines_after}
-use Rattle.sa_kernel.specs.Sound.{HasSizes, AreSpaces, AreIos, AreAlive, AreTaken, RunsIn, IsTaken, IsSound}
+use Rattle.sa_kernel.specs.Sound.{AreSpaces, AreIos, AreAlive, IsSound}
 use Rattle.sa_kernel.proofs.LifeLemmas.{spaces-set, alive-aside, alive-run, alive-owner, taken-other, running-free, unused-free, alive-without, taken-without, taken-rests, alive-other, held-rests, taken-handed, contains-nil}
 
 abbrev no_life : Option ActNo
@@ -118,9 +118,17 @@ module _ {C : Type 0} where
   sound-assign k a owners aims lines marks below sound =
       let z = sound.sizes in record {
         sizes = record {
-          some_processor = z.some_processor; few_processors = z.few_processors;
-          owners = ap (λ (xs : List (Option SpaceNo)). length xs) owners ∙ z.owners; aims = aims ∙ z.aims; lines = lines ∙ z.lines; marks = marks ∙ z.marks;
-          some_space = z.some_space; few_spaces = z.few_spaces; untold = z.untold; pages = z.pages; priorities = z.priorities;
+          some_processor = z.some_processor;
+          few_processors = z.few_processors;
+          owners = ap (λ (xs : List (Option SpaceNo)). length xs) owners ∙ z.owners;
+          aims = aims ∙ z.aims;
+          lines = lines ∙ z.lines;
+          marks = marks ∙ z.marks;
+          some_space = z.some_space;
+          few_spaces = z.few_spaces;
+          untold = z.untold;
+          pages = z.pages;
+          priorities = z.priorities;
         };
         owners = subst (AreSpaces (length k.demands)) (sym owners) sound.owners;
         aims = below;
@@ -145,9 +153,17 @@ module _ {C : Type 0} where
   sound-owner p o k free below sound =
       let z = sound.sizes in record {
         sizes = record {
-          some_processor = z.some_processor; few_processors = z.few_processors; owners = length-set k.assign.owners p.0 o ∙ z.owners;
-          aims = z.aims; lines = z.lines; marks = z.marks;
-          some_space = z.some_space; few_spaces = z.few_spaces; untold = z.untold; pages = z.pages; priorities = z.priorities;
+          some_processor = z.some_processor;
+          few_processors = z.few_processors;
+          owners = length-set k.assign.owners p.0 o ∙ z.owners;
+          aims = z.aims;
+          lines = z.lines;
+          marks = z.marks;
+          some_space = z.some_space;
+          few_spaces = z.few_spaces;
+          untold = z.untold;
+          pages = z.pages;
+          priorities = z.priorities;
         };
         owners = spaces-set (length k.demands) k.assign.owners p.0 o below sound.owners;
         aims = sound.aims;
@@ -160,10 +176,23 @@ module _ {C : Type 0} where
   sound-noted s note k sound =
       let z = sound.sizes in record {
         sizes = record {
-          some_processor = z.some_processor; few_processors = z.few_processors; owners = z.owners; aims = z.aims; lines = z.lines; marks = z.marks;
-          some_space = z.some_space; few_spaces = z.few_spaces; untold = length-set k.untold s.0 (untold_of k s.0 ++ note ∷ []) ∙ z.untold; pages = z.pages; priorities = z.priorities;
+          some_processor = z.some_processor;
+          few_processors = z.few_processors;
+          owners = z.owners;
+          aims = z.aims;
+          lines = z.lines;
+          marks = z.marks;
+          some_space = z.some_space;
+          few_spaces = z.few_spaces;
+          untold = length-set k.untold s.0 (untold_of k s.0 ++ note ∷ []) ∙ z.untold;
+          pages = z.pages;
+          priorities = z.priorities;
         };
-        owners = sound.owners; aims = sound.aims; ios = sound.ios; lives = sound.lives; taken = sound.taken;
+        owners = sound.owners;
+        aims = sound.aims;
+        ios = sound.ios;
+        lives = sound.lives;
+        taken = sound.taken;
       }
 
   sound-aside_acts : (p : ProcNo) (a : ActNo) (held : Stopped C) (k : State C) → life_of k p ≡ Some a → IsSound k
@@ -174,10 +203,21 @@ module _ {C : Type 0} where
       let len : length (slice_set k.lives p.0 None) ≡ length k.lives = length-set k.lives p.0 None in
       record {
         sizes = record {
-          some_processor = omega (arith, z.some_processor); few_processors = omega (arith, z.few_processors); owners = z.owners ∙ sym len; aims = z.aims ∙ sym len; lines = z.lines ∙ sym len; marks = z.marks ∙ sym len;
-          some_space = z.some_space; few_spaces = z.few_spaces; untold = z.untold; pages = z.pages; priorities = z.priorities;
+          some_processor = omega (arith, z.some_processor);
+          few_processors = omega (arith, z.few_processors);
+          owners = z.owners ∙ sym len;
+          aims = z.aims ∙ sym len;
+          lines = z.lines ∙ sym len;
+          marks = z.marks ∙ sym len;
+          some_space = z.some_space;
+          few_spaces = z.few_spaces;
+          untold = z.untold;
+          pages = z.pages;
+          priorities = z.priorities;
         };
-        owners = sound.owners; aims = sound.aims; ios = sound.ios;
+        owners = sound.owners;
+        aims = sound.aims;
+        ios = sound.ios;
         lives = alive-aside k.assign.owners k.lives k.acts p.0 a (holding held (k.acts a.0)) here sound.lives;
         taken = taken-other k.taken k.acts a.0 (holding held (k.acts a.0)) (running-free (k.acts a.0) runs.space runs.act) sound.taken;
       }
@@ -192,11 +232,21 @@ module _ {C : Type 0} where
       let len : length (slice_set k.lives p.0 (Some a)) ≡ length k.lives = length-set k.lives p.0 (Some a) in
       record {
         sizes = record {
-          some_processor = omega (arith, z.some_processor); few_processors = omega (arith, z.few_processors); owners = z.owners ∙ sym len; aims = z.aims ∙ sym len; lines = z.lines ∙ sym len;
+          some_processor = omega (arith, z.some_processor);
+          few_processors = omega (arith, z.few_processors);
+          owners = z.owners ∙ sym len;
+          aims = z.aims ∙ sym len;
+          lines = z.lines ∙ sym len;
           marks = length-set k.assign.marks p.0 false ∙ z.marks ∙ sym len;
-          some_space = z.some_space; few_spaces = z.few_spaces; untold = length-set k.untold s.0 [] ∙ z.untold; pages = z.pages; priorities = z.priorities;
+          some_space = z.some_space;
+          few_spaces = z.few_spaces;
+          untold = length-set k.untold s.0 [] ∙ z.untold;
+          pages = z.pages;
+          priorities = z.priorities;
         };
-        owners = sound.owners; aims = sound.aims; ios = sound.ios;
+        owners = sound.owners;
+        aims = sound.aims;
+        ios = sound.ios;
         lives = alive-run k.assign.owners k.lives k.acts p.0 a s owner unused sound.lives;
         taken = taken-other k.taken k.acts a.0 (Some (runs_in s)) (unused-free (k.acts a.0) unused) sound.taken;
       }
@@ -211,14 +261,23 @@ module _ {C : Type 0} where
       let len : length (slice_set k.demands s n) ≡ length k.demands = length-set k.demands s n in
       record {
         sizes = record {
-          some_processor = z.some_processor; few_processors = z.few_processors; owners = z.owners; aims = z.aims; lines = z.lines; marks = z.marks;
-          some_space = omega (arith, z.some_space); few_spaces = omega (arith, z.few_spaces);
-          untold = z.untold ∙ sym len; pages = z.pages ∙ sym len; priorities = z.priorities ∙ sym len;
+          some_processor = z.some_processor;
+          few_processors = z.few_processors;
+          owners = z.owners;
+          aims = z.aims;
+          lines = z.lines;
+          marks = z.marks;
+          some_space = omega (arith, z.some_space);
+          few_spaces = omega (arith, z.few_spaces);
+          untold = z.untold ∙ sym len;
+          pages = z.pages ∙ sym len;
+          priorities = z.priorities ∙ sym len;
         };
         owners = subst (λ m. AreSpaces m k.assign.owners) (sym len) sound.owners;
         aims = subst (λ m. AreSpaces m k.assign.aims) (sym len) sound.aims;
         ios = subst (λ m. AreIos m k.under_way) (sym len) sound.ios;
-        lives = sound.lives; taken = sound.taken;
+        lives = sound.lives;
+        taken = sound.taken;
       }
 
   sound-devices : (k : State C) (begun : ℕ) (ios : List Io) (pages : List ℕ) → length pages ≡ length k.pages → AreIos (length k.demands) ios → IsSound k
@@ -226,10 +285,23 @@ module _ {C : Type 0} where
   sound-devices k begun ios pages len kinds sound =
       let z = sound.sizes in record {
         sizes = record {
-          some_processor = z.some_processor; few_processors = z.few_processors; owners = z.owners; aims = z.aims; lines = z.lines; marks = z.marks;
-          some_space = z.some_space; few_spaces = z.few_spaces; untold = z.untold; pages = len ∙ z.pages; priorities = z.priorities;
+          some_processor = z.some_processor;
+          few_processors = z.few_processors;
+          owners = z.owners;
+          aims = z.aims;
+          lines = z.lines;
+          marks = z.marks;
+          some_space = z.some_space;
+          few_spaces = z.few_spaces;
+          untold = z.untold;
+          pages = len ∙ z.pages;
+          priorities = z.priorities;
         };
-        owners = sound.owners; aims = sound.aims; ios = kinds; lives = sound.lives; taken = sound.taken;
+        owners = sound.owners;
+        aims = sound.aims;
+        ios = kinds;
+        lives = sound.lives;
+        taken = sound.taken;
       }
 
   sound-io : (kind : IoKind) (ends : ℕ) (k : State C) → IsKind (length k.demands) kind → IsSound k → IsSound (with_io kind ends k)
@@ -329,7 +401,7 @@ module _ {C : Type 0} where
       sound-go_to_aim e p a (aim_of x.state p) mid inside
       (λ s is. subst (λ n. s.0 < n) (sym spaces) (sound.aims p.0 s is))
       (free-stopped e p o l held low refl (λ s is. owned (subst (λ (v : Option SpaceNo). IsSome v) (sym is) refl))
-        (λ b is none. none-some (sound.lives.run p.0 b is).space (sym none ∙ (sound.lives.run p.0 b is).owner)))
+      (λ b is none. none-some (sound.lives.run p.0 b is).space (sym none ∙ (sound.lives.run p.0 b is).owner)))
       (unused-after e p o l held low a.0 refl sound_low unused)
       (sound-stopped e p o l held low refl sound_low)
 
@@ -342,16 +414,20 @@ module _ {C : Type 0} where
     where
       below : s.0 < length x.state.demands
       below = sound.owners p.0 s (sym owner)
+
       kind : (q : Option ℕ) → IfSome q IsOwnPage → IsKind (length x.state.demands) (io_for s a q)
       kind None h = below
       kind (Some k) h = (below, h.0, h.1)
+
       begun : IsSound (block_begun e p s a held len page x).state
       begun = sound-aside p s a (Blocked a) held (with_io (io_for s a page) (e + len) x.state) (sym life) (sound-io (io_for s a page) (e + len) x.state (kind page fits) sound)
+
       free : (block_begun e p s a held len page x).state.acts b.0 ≡ None
       free = elim (cases_eq b.0 a.0) [
         | inl same ↦ put-at x.state.acts a.0 b.0 (holding held (x.state.acts a.0)) same ∙ ap (holding held) (ap x.state.acts (sym same) ∙ unused)
         | inr apart ↦ put-other x.state.acts a.0 b.0 (holding held (x.state.acts a.0)) apart ∙ unused
       ]
+
       told : (can : Bool) → IsSound (told_or_left e p s b can (block_begun e p s a held len page x)).state
       told true = sound-upcall e p s b false (block_begun e p s a held len page x) (sym owner) free begun
       told false = sound-leave e p s (block_begun e p s a held len page x) below (free-set x.state.lives p.0) begun
@@ -368,7 +444,7 @@ module _ {C : Type 0} where
   sound-over e p io None x sound = sound
   sound-over e p io (Some kind) x sound =
       sound-over_for e p kind _ (sound-devices x.state x.state.begun (without io.0 x.state.under_way) (completed kind x.state.pages) (length-completed kind x.state.pages)
-        (All-without (λ (i : Io). IsKind (length x.state.demands) i.kind) io.0 x.state.under_way sound.ios) sound)
+      (All-without (λ (i : Io). IsKind (length x.state.demands) i.kind) io.0 x.state.under_way sound.ios) sound)
 
   sound-announced : (e : ℕ) (p : ProcNo) (s : SpaceNo) (n : ℕ) (idle : Bool) (x : Scene C) → IsSound x.state → IsSound (announced e p s n idle x).state
   sound-announced e p s n idle x sound = sound-mark p idle (with_demand s.0 n x.state) (sound-demand s.0 n x.state sound)
@@ -387,10 +463,21 @@ module _ {C : Type 0} where
       let k = x.state in
       let z = sound.sizes in record {
         sizes = record {
-          some_processor = z.some_processor; few_processors = z.few_processors; owners = z.owners; aims = z.aims; lines = z.lines; marks = z.marks;
-          some_space = z.some_space; few_spaces = z.few_spaces; untold = z.untold; pages = z.pages; priorities = z.priorities;
+          some_processor = z.some_processor;
+          few_processors = z.few_processors;
+          owners = z.owners;
+          aims = z.aims;
+          lines = z.lines;
+          marks = z.marks;
+          some_space = z.some_space;
+          few_spaces = z.few_spaces;
+          untold = z.untold;
+          pages = z.pages;
+          priorities = z.priorities;
         };
-        owners = sound.owners; aims = sound.aims; ios = sound.ios;
+        owners = sound.owners;
+        aims = sound.aims;
+        ios = sound.ios;
         lives = alive-without k.assign.owners k.lives (taken_of k s.0) k.acts (λ a has u is. taken-rests s.0 (k.acts a.0) u (sound.taken s.0 a has) is) sound.lives;
         taken = taken-without k.taken k.acts s.0 sound.taken;
       }
@@ -446,10 +533,21 @@ module _ {C : Type 0} where
   sound-taken a h k is sound =
       let z = sound.sizes in record {
         sizes = record {
-          some_processor = z.some_processor; few_processors = z.few_processors; owners = z.owners; aims = z.aims; lines = z.lines; marks = z.marks;
-          some_space = z.some_space; few_spaces = z.few_spaces; untold = z.untold; pages = z.pages; priorities = z.priorities;
+          some_processor = z.some_processor;
+          few_processors = z.few_processors;
+          owners = z.owners;
+          aims = z.aims;
+          lines = z.lines;
+          marks = z.marks;
+          some_space = z.some_space;
+          few_spaces = z.few_spaces;
+          untold = z.untold;
+          pages = z.pages;
+          priorities = z.priorities;
         };
-        owners = sound.owners; aims = sound.aims; ios = sound.ios;
+        owners = sound.owners;
+        aims = sound.aims;
+        ios = sound.ios;
         lives = alive-other k.assign.owners k.lives k.acts a.0 (taken_from (k.acts a.0)) (held-rests (k.acts a.0) h is) sound.lives;
         taken = taken-handed k.taken k.acts a h is sound.taken;
       }
@@ -462,10 +560,23 @@ module _ {C : Type 0} where
   sound-telling notes k sound =
       let z = sound.sizes in record {
         sizes = record {
-          some_processor = z.some_processor; few_processors = z.few_processors; owners = z.owners; aims = z.aims; lines = z.lines; marks = z.marks;
-          some_space = z.some_space; few_spaces = z.few_spaces; untold = z.untold; pages = z.pages; priorities = z.priorities;
+          some_processor = z.some_processor;
+          few_processors = z.few_processors;
+          owners = z.owners;
+          aims = z.aims;
+          lines = z.lines;
+          marks = z.marks;
+          some_space = z.some_space;
+          few_spaces = z.few_spaces;
+          untold = z.untold;
+          pages = z.pages;
+          priorities = z.priorities;
         };
-        owners = sound.owners; aims = sound.aims; ios = sound.ios; lives = sound.lives; taken = sound.taken;
+        owners = sound.owners;
+        aims = sound.aims;
+        ios = sound.ios;
+        lives = sound.lives;
+        taken = sound.taken;
       }
 
   sound-fetched : (note : Note) (k : State C) → IsSound k → IsSound (fetched note k)

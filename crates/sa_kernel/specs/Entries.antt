@@ -87,10 +87,12 @@ module _ {C : Type 0} where
 
   abbrev pub over : ℕ → ProcNo → IoNo → Option IoKind → Scene C → Scene C
   over e p io None x = x
-  over e p io (Some kind) x = over_for e p kind (record x { state = record x.state {
-    under_way = without io.0 x.state.under_way;
-    pages = completed kind x.state.pages;
-  } })
+  over e p io (Some kind) x = over_for e p kind (record x {
+    state = record x.state {
+      under_way = without io.0 x.state.under_way;
+      pages = completed kind x.state.pages;
+    };
+  })
 
   -- the hints: the demand is another, which is recorded, and the processor is marked idle or not
   abbrev pub announced : ℕ → ProcNo → SpaceNo → ℕ → Bool → Scene C → Scene C
@@ -115,10 +117,12 @@ module _ {C : Type 0} where
   abbrev pub gave_back : ℕ → ProcNo → Option SpaceNo → Scene C → Scene C
   gave_back e p None x = x
   gave_back e p (Some s) x =
-      say_given e p (taken_of x.state s.0) (record x { state = record x.state {
-        acts = without_acts (taken_of x.state s.0) x.state.acts;
-        taken = slice_set x.state.taken s.0 [];
-      } })
+      say_given e p (taken_of x.state s.0) (record x {
+        state = record x.state {
+          acts = without_acts (taken_of x.state s.0) x.state.acts;
+          taken = slice_set x.state.taken s.0 [];
+        };
+      })
 
   -- the line of another processor is raised
   abbrev pub interrupted_own : ℕ → ProcNo → ProcNo → Scene C → Scene C

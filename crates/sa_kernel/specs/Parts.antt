@@ -9,7 +9,6 @@ use Rattle.sa_base.specs.declared.record.Note.TheVariants.{Add}
 use Rattle.sa_base.specs.declared.record.Record.TheVariants.{Up, Told, Move, Aim, Fetch}
 use Rattle.sa_base.specs.Items.{items_at}
 use Rattle.sa_lemmas.specs.Function.{put}
-use Rattle.sa_acts.specs.declared.acts.Act.{Act}
 use Rattle.sa_acts.specs.Table.{holding, runs_in}
 use Rattle.sa_assign.specs.Aims.{is_aim}
 use Rattle.sa_devices.specs.declared.kind.IoKind.{IoKind}
@@ -85,7 +84,7 @@ module _ {C : Type 0} where
   leave e p s x =
       let owner = owner_of x.state p in
       let left = says e p (Aim p None) (says e p (Move owner None)
-          (record x { state = without_aim p (with_owner p None x.state) })) in
+      (record x { state = without_aim p (with_owner p None x.state) })) in
       fetch_page e p s (is_fetching left.state s.0) left
 
   abbrev pub moved : ℕ → ProcNo → SpaceNo → Bool → Scene C → Scene C

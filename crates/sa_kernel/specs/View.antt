@@ -1,5 +1,5 @@
 -- The fields of the machine as the state, and its room.
-use Rattle.std.specs.Prelude.{◌≡◌, ℕ, ◌+◌, ◌≤◌}
+use Rattle.std.specs.Prelude.{ℕ, ◌+◌, ◌≤◌}
 use Rattle.sa_base.specs.Recorded.{Recorded}
 use Rattle.sa_acts.specs.Table.{acts_of}
 use Rattle.sa_kernel.specs.declared.machine.Machine.{Machine}

@@ -87,7 +87,11 @@ impl<C: Drop> Machine<C> {
         let demand = self.demands[usize::from(s.0)];
         Claim {
             priority: self.priorities[usize::from(s.0)],
-            want: if self.devices.fetching(s) { demand.min(self.aimed(s)) } else { demand },
+            want: if self.devices.fetching(s) {
+                demand.min(self.aimed(s))
+            } else {
+                demand
+            },
         }
     }
 

@@ -102,15 +102,7 @@ impl<C: Drop> Machine<C> {
     }
 
     // The demand of a space is another, and the processor is marked idle or not.
-    fn announce(
-        &mut self,
-        event: u64,
-        p: ProcNo,
-        s: SpaceNo,
-        n: u16,
-        idle: bool,
-        trace: &mut Trace,
-    )
+    fn announce(&mut self, event: u64, p: ProcNo, s: SpaceNo, n: u16, idle: bool, trace: &mut Trace)
         requires sizes { HasSizes (state_of self.old) }
         requires within { p.0 < length self.old.lives.items }
         requires space { s.0 < length self.old.demands.items }
@@ -355,13 +347,7 @@ fn io_for(s: SpaceNo, a: ActNo, page: Option<u16>) -> IoKind
 }
 
 // The taken activations of a space are given back, in the order of taking.
-fn give_all_back<C: Drop>(
-    acts: &mut Acts<C>,
-    s: SpaceNo,
-    event: u64,
-    p: ProcNo,
-    trace: &mut Trace,
-)
+fn give_all_back<C: Drop>(acts: &mut Acts<C>, s: SpaceNo, event: u64, p: ProcNo, trace: &mut Trace)
     requires { length (taken_in (acts_of acts.old) s.0) ≤ trace.old.spare }
     ensures acts { (acts_of acts.new).acts
         ≡ without_acts (taken_in (acts_of acts.old) s.0) (acts_of acts.old).acts }
@@ -378,13 +364,7 @@ fn give_all_back<C: Drop>(
 }
 
 // The activation that was taken first is given back: what is left to be done makes up the rest.
-fn give_one_back<C: Drop>(
-    acts: &mut Acts<C>,
-    s: SpaceNo,
-    event: u64,
-    p: ProcNo,
-    trace: &mut Trace,
-)
+fn give_one_back<C: Drop>(acts: &mut Acts<C>, s: SpaceNo, event: u64, p: ProcNo, trace: &mut Trace)
     requires some { 1 ≤ length (taken_in (acts_of acts.old) s.0) }
     requires trace { 1 ≤ trace.old.spare }
     ensures acts { without_acts (taken_in (acts_of acts.new) s.0) (acts_of acts.new).acts

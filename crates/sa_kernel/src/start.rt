@@ -116,7 +116,13 @@ impl<C: Drop> Machine<C> {
     }
 
     // What an entry does, but for the closing.
-    pub(crate) fn enter_as(&mut self, event: u64, p: ProcNo, entry: Entry<C>, trace: &mut Trace) -> Given
+    pub(crate) fn enter_as(
+        &mut self,
+        event: u64,
+        p: ProcNo,
+        entry: Entry<C>,
+        trace: &mut Trace,
+    ) -> Given
         requires sound { IsSound (state_of self.old) }
         requires within { p.0 < length self.old.lives.items }
         requires fit { IsFit (state_of self.old) p event entry }

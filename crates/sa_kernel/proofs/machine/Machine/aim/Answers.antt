@@ -1,4 +1,4 @@
-use Rattle.std.proofs.Common.{length, ◌≡◌, ◌∙◌}
+use Rattle.std.proofs.Common.{length, ◌≡◌}
 use Rattle.sa_share.specs.Rounds.{shares_of}
 use Rattle.sa_kernel.specs.View.{state_of, scene_of}
 use Rattle.sa_kernel.specs.Closing.{claims}

@@ -1,4 +1,4 @@
-use Rattle.std.proofs.Common.{◌≡◌, ◌-◌, ◌+◌, ◌<◌, [], ◌∷◌, ◌++◌, ap, ◌∙◌, arith, length}
+use Rattle.std.proofs.Common.{◌≡◌, ◌-◌, ◌+◌, [], ◌∷◌, ◌++◌, ap, ◌∙◌, arith, length}
 use Rattle.std.proofs.lemmas.List.{length_push}
 use Rattle.sa_kernel.specs.View.{state_of}
 use Rattle.sa_kernel.specs.Closing.{claims_from}

@@ -1,5 +1,5 @@
 use Rattle.std.proofs.Common.{sym, ap, ◌∙◌}
-use Rattle.sa_kernel.specs.View.{state_of, scene_of}
+use Rattle.sa_kernel.specs.View.{scene_of}
 use Rattle.sa_kernel.specs.Entries.{entered_as}
 use Rattle.sa_kernel.specs.Kept.{upcalls}
 use Rattle.sa_kernel.proofs.RunLemmas.{vacant, vacant-unused, enters-nothing}

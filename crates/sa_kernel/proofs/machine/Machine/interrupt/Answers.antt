@@ -1,8 +1,5 @@
-use Rattle.std.proofs.Common.{◌≡◌, ◌≤◌, ◌+◌, ap, ◌∙◌, arith}
-use Rattle.sa_assign.specs.AssignView.{AssignView}
-use Rattle.sa_kernel.specs.View.{state_of, scene_of}
-use Rattle.sa_kernel.specs.State.{Scene, owner_of, life_of}
-use Rattle.sa_kernel.specs.Runs.{untold_count}
+use Rattle.std.proofs.Common.{arith}
+use Rattle.sa_kernel.specs.View.{scene_of}
 use Rattle.sa_kernel.proofs.RunLemmas.{enters-interrupt, count-interrupt, stopped-low}
 use Rattle.sa_kernel.proofs.machine.Machine.interrupt.Goals as goal
 

@@ -1,4 +1,4 @@
-use Rattle.std.proofs.Common.{◌≡◌, ℕ, false, List, [], length, map, replicate, None, Option, ap, ◌∙◌}
+use Rattle.std.proofs.Common.{ℕ, false, List, [], length, map, replicate, None, Option, ap, ◌∙◌}
 use Rattle.sa_base.specs.declared.number.ActNo.{ActNo}
 use Rattle.sa_base.specs.declared.record.Note.{Note}
 use Rattle.sa_instr.specs.Space.{SpaceView}
