@@ -148,6 +148,7 @@ impl Assign {
             (shares_of (length self.old.owners) first claims.now) self.old) }
         ensures met { let shares = shares_of (length self.old.owners) first claims.now in
             (s : ℕ) → s < length claims.now → share_at shares s ≤ aimed s self.new.aims }
+        ensures cost { trace.old.spare ≤ trace.new.spare + 32 }
         ensures spare { trace.new.spare + length trace.new.items
             ≡ trace.old.spare + length trace.old.items }
     {

@@ -10,8 +10,8 @@ pub mod laws;
 
 pub use sa_base::{MAX_PROCESSORS, MAX_SPACES};
 
-/// What one space claims.
-#[derive(Clone, Copy, Debug, PartialEq, Eq)]
+/// What one space claims; by default nothing.
+#[derive(Clone, Copy, Debug, Default, PartialEq, Eq)]
 pub struct Claim {
     /// 0 to 255; a space of higher priority is served first.
     pub priority: u8,

@@ -1,5 +1,5 @@
 use Rattle.std.proofs.Common.{◌≤◌, sum, ◌≡◌, ℕ, List, suc, ◌+◌, ◌-◌, ◌<◌, length, sym, ap, ◌∙◌, arith}
-use Rattle.std.proofs.lemmas.List.Sums.{sum_by_more}
+use Rattle.std.proofs.lemmas.List.Sums.{sum_by_more, sum_by-take-le}
 use Rattle.sa_base.specs.declared.record.Item.{Item}
 use Rattle.sa_assign.specs.AssignView.{AssignView}
 use Rattle.sa_share.specs.Rounds.{shares_of}
@@ -55,3 +55,10 @@ returns-clause-met c =
     let total = given.total in
     let fits : sum shares ≤ length old.aims = omega arith in
     met-reaimed c.args.item.event (length claims) shares old c.loop-s.self fits (returns-clause-assign c)
+
+pub returns-clause-cost : goal.returns-clause-cost
+returns-clause-cost c =
+    let shares = c.shares-shares.result in
+    let total = c.shares-shares.ensures.shares.total in
+    let part = sum_by-take-le (λ (x : ℕ). x) shares c.loop-s.s in
+    omega arith

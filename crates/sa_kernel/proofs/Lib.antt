@@ -1,0 +1,7 @@
+mod Batches
+mod RunLemmas
+mod GivenBack
+mod ClosingLemmas
+mod LifeLemmas
+mod SoundLemmas
+mod KeptLemmas

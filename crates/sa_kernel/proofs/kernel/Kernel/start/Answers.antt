@@ -1,0 +1,13 @@
+use Rattle.std.proofs.Common.{◌∙◌}
+use Rattle.sa_kernel.proofs.KeptLemmas.{kept-start, opened-is}
+use Rattle.sa_kernel.specs.View.{scene_of}
+use Rattle.sa_kernel.proofs.kernel.Kernel.start.Goals as goal
+
+pub invariant_of-result : goal.invariant_of-result
+invariant_of-result g c =
+    kept-start c.in_ok-parts.parts c.open.new.self c.open.new.trace c.args.w.now _ c.ranges-2.ensures c.in_ok-parts.ensures.state c.in_ok-parts.ensures.used c.open.ensures.exact c.open.ensures.room
+
+pub returns-clause-opened : goal.returns-clause-opened
+returns-clause-opened g c =
+    opened-is c.in_ok-parts.parts c.args.w.now c.reserve.new.self.items (scene_of c.open.new.self c.open.new.trace) c.in_ok-parts.ensures.state
+    (c.reserve.ensures.items ∙ c.requires) c.open.ensures.exact

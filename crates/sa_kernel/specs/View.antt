@@ -1,0 +1,37 @@
+-- The fields of the machine as the state, and its room.
+use Rattle.std.specs.Prelude.{ℕ, ◌+◌, ◌≤◌}
+use Rattle.sa_base.specs.Recorded.{Recorded}
+use Rattle.sa_acts.specs.Table.{acts_of}
+use Rattle.sa_kernel.specs.declared.machine.Machine.{Machine}
+use Rattle.sa_kernel.specs.State.{State, Scene}
+
+module _ {C : Type 0} where
+  abbrev pub state_of : Machine C → State C
+  state_of m = record {
+    fixed = record { priorities = m.priorities.items; fetch = m.fetch; slice = m.slice; evictions = m.devices.evictions };
+    assign = m.assign;
+    lives = m.lives.items;
+    acts = (acts_of m.acts).acts;
+    taken = m.acts.taken;
+    demands = m.demands.items;
+    untold = m.notices.untold;
+    telling = m.notices.telling;
+    begun = m.devices.ios.begun;
+    under_way = m.devices.ios.under_way;
+    pages = m.devices.pages;
+  }
+
+  abbrev pub scene_of : Machine C → Recorded → Scene C
+  scene_of m trace = record { state = state_of m; items = trace.items }
+
+  -- how many numbers are in use
+  abbrev pub used : Machine C → ℕ
+  used m = (acts_of m.acts).used
+
+  -- at most so much of the room of each kind was spent: for notices, for activations, for I/Os; and so many more I/Os were begun and numbers are used
+  pub record Spends (old new : Machine C) (notes fresh begun : ℕ) : Type 0 where
+    pub notices : old.notices.spare ≤ new.notices.spare + notes
+    pub acts : old.acts.spare ≤ new.acts.spare + fresh
+    pub ios : old.devices.ios.spare ≤ new.devices.ios.spare + begun
+    pub count : new.devices.ios.begun ≤ old.devices.ios.begun + begun
+    pub used : used new ≤ used old + fresh

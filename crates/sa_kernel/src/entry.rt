@@ -1,0 +1,34 @@
+// What enters the kernel.
+use sa_base::{ActNo, IoNo, ProcNo, Stopped};
+
+/// Why the kernel is entered on a processor, and what is handed over.
+#[derive(Debug, Drop)]
+pub enum Entry<C> {
+    /// The processor's raised line. The context that ran there is handed over, if one did.
+    Interrupt(Option<Stopped<C>>),
+    /// The running context blocks for so many events, for an I/O or, where there is one, until the page is resident.
+    Block {
+        held: Stopped<C>,
+        length: u32,
+        page: Option<u16>,
+    },
+    /// The I/O is over.
+    Complete(IoNo),
+    /// The hint that the space can use so many more processors.
+    More(u16),
+    /// The hint that this processor is idle.
+    Idle,
+    /// The taken activations of the space are given back.
+    GiveBack,
+    /// The line of another processor of the space is raised.
+    InterruptOwn(ProcNo),
+}
+
+/// What an entry gave.
+#[derive(Clone, Copy, Debug, PartialEq, Eq)]
+pub enum Given {
+    /// No upcall.
+    Nothing,
+    /// An upcall on the processor of the entry, in this fresh activation.
+    Upcall(ActNo),
+}

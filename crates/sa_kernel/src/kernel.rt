@@ -1,0 +1,157 @@
+ghost use Rattle.std.specs.Prelude.{◌≡◌, ℕ, ◌+◌, ◌*◌, ◌≤◌, ◌<◌, [], length, IsSome, IfSome, IfOk, OnOk, OnErr, slice_index_or};
+ghost use Rattle.std.specs.Option.{option_map};
+ghost use Rattle.sa_devices.specs.Ios.{due_of, io_no};
+ghost use Rattle.sa_kernel.specs.Room.{Adds};
+
+use crate::entry::{Entry, Given};
+use crate::machine::Machine;
+use crate::start::OPENING;
+use sa_base::{IoNo, MAX_EVENTS, Note, ProcNo, SpaceNo, Stopped, Trace};
+use sa_instr::Workload;
+use std::alloc::{AllocError, Global};
+use std::marker::Model;
+
+/// The kernel of a machine, over contexts that it keeps and does not look into. It says who runs where, what each
+/// space is to be told, and what is under way. No call but `start` and `reserve` takes memory.
+#[derive(Debug, Drop)]
+pub struct Kernel<C: Drop> {
+    parts: Machine<C>,
+    spare: usize,
+    last: u64,
+}
+
+impl<C: Drop> Model for Kernel<C> {
+    ghost use Rattle.sa_kernel.specs.Kept.{KernelView, IsKept};
+
+    ghost Value = { KernelView C };
+
+    ghost view = { λ k. record { parts = k.parts; spare = k.spare; last = k.last } };
+
+    ghost invariant = { λ k. IsKept k.parts k.spare k.last };
+}
+
+impl<C: Drop> Kernel<C> {
+    ghost use Rattle.sa_kernel.specs.Kept.{KernelView, kernel_of, scene, processors, need_of, IsFit, upcalls};
+    ghost use Rattle.sa_kernel.specs.State.{owner_of, line_of};
+    ghost use Rattle.sa_kernel.specs.Closing.{closed};
+    ghost use Rattle.sa_kernel.specs.Entries.{entered, next_note, after_fetch, evicted_at};
+    ghost use Rattle.sa_kernel.specs.Opening.{opened};
+    ghost use Rattle.sa_kernel.specs.Runs.{Enters};
+
+    /// The kernel at the opening of a workload, which is event 0; its items are added to the trace, which is
+    /// empty. Fails only where memory runs out; the trace is then as it was, but for its room.
+    pub fn start(alloc: Global, w: &Workload, trace: &mut Trace) -> Result<Self, AllocError>
+        requires { trace.old.items ≡ [] }
+        ensures opened { IfOk result (λ k. scene k trace.new ≡ opened w.now) }
+        ensures spare { IfOk result (λ k. k.spare ≡ 0) }
+        ensures last { IfOk result (λ k. k.last ≡ 0) }
+        ensures err { OnErr result (trace.new.items ≡ []) }
+    {
+        w.ranges();
+        trace.reserve(OPENING)?;
+        let mut parts = Machine::new(alloc, w)?;
+        parts.open(trace);
+        Ok(Kernel {
+            parts,
+            spare: 0,
+            last: 0,
+        })
+    }
+
+    /// Makes room for at least `n` entries. An error changes nothing but the room, which does not shrink.
+    pub fn reserve(&mut self, n: usize) -> Result<(), AllocError>
+        ensures ok { OnOk result (n ≤ self.new.spare) }
+        ensures grows { self.old.spare ≤ self.new.spare }
+        ensures state { kernel_of self.new ≡ kernel_of self.old }
+        ensures last { self.new.last ≡ self.old.last }
+        ensures err { OnErr result (self.new.spare ≡ self.old.spare) }
+    {
+        if self.spare < n {
+            self.parts.reserve(n)?;
+            self.spare = n;
+        }
+        Ok(())
+    }
+
+    /// Does an entry on the processor at the event, and the closing of the event: exactly what `entered` says, in
+    /// some fresh activation if it upcalls. Answers that activation where it did, else `Nothing`.
+    pub fn enter(&mut self, p: ProcNo, event: u64, entry: Entry<C>, trace: &mut Trace) -> Given
+        requires within { p.0 < processors self.old }
+        requires later { self.old.last < event }
+        requires event { event ≤ MAX_EVENTS }
+        requires fit { IsFit (kernel_of self.old) p event entry }
+        requires room { 1 ≤ self.old.spare }
+        requires trace { need_of (kernel_of self.old) ≤ trace.old.spare }
+        requires fetched { (kernel_of self.old).telling ≡ [] }
+        ensures exact { Enters (scene self.old trace.old) (scene self.new trace.new) result
+            (upcalls (kernel_of self.old) p entry) (λ a. entered event p a entry) }
+        ensures spare { self.new.spare + 1 ≡ self.old.spare }
+        ensures last { self.new.last ≡ event }
+        ensures items { Adds (need_of (kernel_of self.old)) trace.old trace.new }
+    {
+        let given = self.parts.enter_as(event, p, entry, trace);
+        self.parts.close(event, p, trace);
+        self.spare -= 1;
+        self.last = event;
+        given
+    }
+
+    /// Does the closing of an event at which a slice ends and no entry came.
+    pub fn slice_end(&mut self, p: ProcNo, event: u64, trace: &mut Trace)
+        requires within { p.0 < processors self.old }
+        requires later { self.old.last < event }
+        requires event { event ≤ MAX_EVENTS }
+        requires trace { need_of (kernel_of self.old) ≤ trace.old.spare }
+        ensures exact { scene self.new trace.new ≡ closed event p (scene self.old trace.old) }
+        ensures spare { self.new.spare ≡ self.old.spare }
+        ensures last { self.new.last ≡ event }
+        ensures items { Adds (need_of (kernel_of self.old)) trace.old trace.new }
+    {
+        self.parts.close(event, p, trace);
+        self.last = event;
+    }
+
+    /// The pages that the workload evicts at this event are absent from now on.
+    pub fn evict(&mut self, event: u64)
+        ensures state { kernel_of self.new ≡ evicted_at event (kernel_of self.old) }
+        ensures spare { self.new.spare ≡ self.old.spare }
+        ensures last { self.new.last ≡ self.old.last }
+    {
+        self.parts.devices.evict(event);
+    }
+
+    /// The next notice that the last upcall told, in order, with the context that it hands over, which is taken
+    /// from now on; `None` exactly where all were fetched.
+    pub fn next_note(&mut self) -> Option<(Note, Option<Stopped<C>>)>
+        ensures note { result ≡ next_note (kernel_of self.old) }
+        ensures state { kernel_of self.new
+            ≡ after_fetch (kernel_of self.old).telling (kernel_of self.old) }
+        ensures spare { self.new.spare ≡ self.old.spare }
+        ensures last { self.new.last ≡ self.old.last }
+    {
+        self.parts.next_note()
+    }
+
+    /// The space whose activation runs on the processor.
+    pub fn owner(&self, p: ProcNo) -> Option<SpaceNo>
+        requires { p.0 < processors self.now }
+        ensures { result ≡ owner_of (kernel_of self.now) p }
+    {
+        self.parts.assign.owner(p)
+    }
+
+    /// The event that raised the processor's line, or `None` where the line is low.
+    pub fn line(&self, p: ProcNo) -> Option<u64>
+        requires { p.0 < processors self.now }
+        ensures { result ≡ line_of (kernel_of self.now) p }
+    {
+        self.parts.assign.line(p)
+    }
+
+    /// The I/O that is due at the event and was due first, or `None` where none is due.
+    pub fn due(&self, event: u64) -> Option<IoNo>
+        ensures { result ≡ option_map io_no (due_of event (kernel_of self.now).under_way) }
+    {
+        self.parts.devices.due(event)
+    }
+}

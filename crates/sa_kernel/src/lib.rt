@@ -1,0 +1,14 @@
+//! The kernel: it gives processors to spaces, and tells each space by upcalls what happened to its activations.
+#![tactic(auto)]
+
+mod closing;
+mod entries;
+mod entry;
+mod kernel;
+mod machine;
+mod notices;
+mod say;
+mod start;
+
+pub use entry::{Entry, Given};
+pub use kernel::Kernel;
