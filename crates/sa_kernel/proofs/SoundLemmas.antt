@@ -17,7 +17,7 @@ use Rattle.sa_base.specs.declared.limits.TheConstants.{MAX_SPACES}
 use Rattle.sa_instr.specs.Space.{SpaceView}
 use Rattle.sa_instr.specs.Workload.{WorkloadView, IsWorkload}
 use Rattle.sa_kernel.specs.Opening.{opening_state}
-use Rattle.sa_acts.specs.Table.{holding, runs_in, held_of, taken_from}
+use Rattle.sa_acts.specs.Table.{holding, runs_in, held_of, taken_from, space_of}
 use Rattle.sa_assign.specs.AssignView.{AssignView}
 use Rattle.sa_assign.specs.Aims.{Change, is_aim, space_no, choice, missing, change_to, changes_for, changes_from, aims_with, aims_after, least_below}
 use Rattle.sa_assign.specs.Reaim.{proc_no, reaimed, changes_in}
@@ -128,7 +128,7 @@ module _ {C : Type 0} where
           few_spaces = z.few_spaces;
           untold = z.untold;
           pages = z.pages;
-          priorities = z.priorities;
+          priorities = z.priorities; taken = z.taken;
         };
         owners = subst (AreSpaces (length k.demands)) (sym owners) sound.owners;
         aims = below;
@@ -163,7 +163,7 @@ module _ {C : Type 0} where
           few_spaces = z.few_spaces;
           untold = z.untold;
           pages = z.pages;
-          priorities = z.priorities;
+          priorities = z.priorities; taken = z.taken;
         };
         owners = spaces-set (length k.demands) k.assign.owners p.0 o below sound.owners;
         aims = sound.aims;
@@ -186,7 +186,7 @@ module _ {C : Type 0} where
           few_spaces = z.few_spaces;
           untold = length-set k.untold s.0 (untold_of k s.0 ++ note ∷ []) ∙ z.untold;
           pages = z.pages;
-          priorities = z.priorities;
+          priorities = z.priorities; taken = z.taken;
         };
         owners = sound.owners;
         aims = sound.aims;
@@ -213,7 +213,7 @@ module _ {C : Type 0} where
           few_spaces = z.few_spaces;
           untold = z.untold;
           pages = z.pages;
-          priorities = z.priorities;
+          priorities = z.priorities; taken = z.taken;
         };
         owners = sound.owners;
         aims = sound.aims;
@@ -242,7 +242,7 @@ module _ {C : Type 0} where
           few_spaces = z.few_spaces;
           untold = length-set k.untold s.0 [] ∙ z.untold;
           pages = z.pages;
-          priorities = z.priorities;
+          priorities = z.priorities; taken = z.taken;
         };
         owners = sound.owners;
         aims = sound.aims;
@@ -271,7 +271,7 @@ module _ {C : Type 0} where
           few_spaces = omega (arith, z.few_spaces);
           untold = z.untold ∙ sym len;
           pages = z.pages ∙ sym len;
-          priorities = z.priorities ∙ sym len;
+          priorities = z.priorities ∙ sym len; taken = z.taken;
         };
         owners = subst (λ m. AreSpaces m k.assign.owners) (sym len) sound.owners;
         aims = subst (λ m. AreSpaces m k.assign.aims) (sym len) sound.aims;
@@ -295,7 +295,7 @@ module _ {C : Type 0} where
           few_spaces = z.few_spaces;
           untold = z.untold;
           pages = len ∙ z.pages;
-          priorities = z.priorities;
+          priorities = z.priorities; taken = z.taken;
         };
         owners = sound.owners;
         aims = sound.aims;
@@ -473,7 +473,7 @@ module _ {C : Type 0} where
           few_spaces = z.few_spaces;
           untold = z.untold;
           pages = z.pages;
-          priorities = z.priorities;
+          priorities = z.priorities; taken = length-set k.taken s.0 [] ∙ z.taken;
         };
         owners = sound.owners;
         aims = sound.aims;
@@ -543,7 +543,7 @@ module _ {C : Type 0} where
           few_spaces = z.few_spaces;
           untold = z.untold;
           pages = z.pages;
-          priorities = z.priorities;
+          priorities = z.priorities; taken = length-set k.taken (space_of (k.acts a.0)).0 _ ∙ z.taken;
         };
         owners = sound.owners;
         aims = sound.aims;
@@ -570,7 +570,7 @@ module _ {C : Type 0} where
           few_spaces = z.few_spaces;
           untold = z.untold;
           pages = z.pages;
-          priorities = z.priorities;
+          priorities = z.priorities; taken = z.taken;
         };
         owners = sound.owners;
         aims = sound.aims;
@@ -606,6 +606,7 @@ module _ {C : Type 0} where
       untold = length-replicate (length w.spaces) no_notes ∙ sym (length-replicate (length w.spaces) one);
       pages = length-map w.spaces opening_pages ∙ sym (length-replicate (length w.spaces) one);
       priorities = length-map w.spaces (λ (s : SpaceView). s.priority) ∙ sym (length-replicate (length w.spaces) one);
+      taken = length-replicate MAX_SPACES no_acts;
     };
     owners = λ p s is. absurd (none-some s (sym (all-same w.processors p no_space) ∙ is));
     aims = λ p s is. absurd (none-some s (sym (all-same w.processors p no_space) ∙ is));
