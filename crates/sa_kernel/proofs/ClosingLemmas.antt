@@ -95,5 +95,6 @@ module _ {C : Type 0} where
         few_spaces = sizes.few_spaces;
         untold = sizes.untold;
         pages = sizes.pages;
-        priorities = sizes.priorities; taken = sizes.taken;
+        priorities = sizes.priorities;
+        taken = sizes.taken;
       })

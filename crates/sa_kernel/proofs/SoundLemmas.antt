@@ -128,7 +128,8 @@ module _ {C : Type 0} where
           few_spaces = z.few_spaces;
           untold = z.untold;
           pages = z.pages;
-          priorities = z.priorities; taken = z.taken;
+          priorities = z.priorities;
+          taken = z.taken;
         };
         owners = subst (AreSpaces (length k.demands)) (sym owners) sound.owners;
         aims = below;
@@ -163,7 +164,8 @@ module _ {C : Type 0} where
           few_spaces = z.few_spaces;
           untold = z.untold;
           pages = z.pages;
-          priorities = z.priorities; taken = z.taken;
+          priorities = z.priorities;
+          taken = z.taken;
         };
         owners = spaces-set (length k.demands) k.assign.owners p.0 o below sound.owners;
         aims = sound.aims;
@@ -186,7 +188,8 @@ module _ {C : Type 0} where
           few_spaces = z.few_spaces;
           untold = length-set k.untold s.0 (untold_of k s.0 ++ note ∷ []) ∙ z.untold;
           pages = z.pages;
-          priorities = z.priorities; taken = z.taken;
+          priorities = z.priorities;
+          taken = z.taken;
         };
         owners = sound.owners;
         aims = sound.aims;
@@ -213,7 +216,8 @@ module _ {C : Type 0} where
           few_spaces = z.few_spaces;
           untold = z.untold;
           pages = z.pages;
-          priorities = z.priorities; taken = z.taken;
+          priorities = z.priorities;
+          taken = z.taken;
         };
         owners = sound.owners;
         aims = sound.aims;
@@ -242,7 +246,8 @@ module _ {C : Type 0} where
           few_spaces = z.few_spaces;
           untold = length-set k.untold s.0 [] ∙ z.untold;
           pages = z.pages;
-          priorities = z.priorities; taken = z.taken;
+          priorities = z.priorities;
+          taken = z.taken;
         };
         owners = sound.owners;
         aims = sound.aims;
@@ -271,7 +276,8 @@ module _ {C : Type 0} where
           few_spaces = omega (arith, z.few_spaces);
           untold = z.untold ∙ sym len;
           pages = z.pages ∙ sym len;
-          priorities = z.priorities ∙ sym len; taken = z.taken;
+          priorities = z.priorities ∙ sym len;
+          taken = z.taken;
         };
         owners = subst (λ m. AreSpaces m k.assign.owners) (sym len) sound.owners;
         aims = subst (λ m. AreSpaces m k.assign.aims) (sym len) sound.aims;
@@ -295,7 +301,8 @@ module _ {C : Type 0} where
           few_spaces = z.few_spaces;
           untold = z.untold;
           pages = len ∙ z.pages;
-          priorities = z.priorities; taken = z.taken;
+          priorities = z.priorities;
+          taken = z.taken;
         };
         owners = sound.owners;
         aims = sound.aims;
@@ -473,7 +480,8 @@ module _ {C : Type 0} where
           few_spaces = z.few_spaces;
           untold = z.untold;
           pages = z.pages;
-          priorities = z.priorities; taken = length-set k.taken s.0 [] ∙ z.taken;
+          priorities = z.priorities;
+          taken = length-set k.taken s.0 [] ∙ z.taken;
         };
         owners = sound.owners;
         aims = sound.aims;
@@ -543,7 +551,8 @@ module _ {C : Type 0} where
           few_spaces = z.few_spaces;
           untold = z.untold;
           pages = z.pages;
-          priorities = z.priorities; taken = length-set k.taken (space_of (k.acts a.0)).0 _ ∙ z.taken;
+          priorities = z.priorities;
+          taken = length-set k.taken (space_of (k.acts a.0)).0 _ ∙ z.taken;
         };
         owners = sound.owners;
         aims = sound.aims;
@@ -570,7 +579,8 @@ module _ {C : Type 0} where
           few_spaces = z.few_spaces;
           untold = z.untold;
           pages = z.pages;
-          priorities = z.priorities; taken = z.taken;
+          priorities = z.priorities;
+          taken = z.taken;
         };
         owners = sound.owners;
         aims = sound.aims;
