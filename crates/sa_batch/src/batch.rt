@@ -26,7 +26,7 @@ impl Model for Batch {
     ghost view = { λ b. record { notes = drop b.first b.notes.items; spare = b.spare } };
 
     ghost invariant = { λ b. (b.first ≤ length b.notes.items)
-      × (length b.notes.items + b.spare ≤ b.notes.capacity) };
+        × (length b.notes.items + b.spare ≤ b.notes.capacity) };
 }
 
 impl Batch {
