@@ -96,4 +96,5 @@ module _ {C : Type 0} where
         untold = sizes.untold;
         pages = sizes.pages;
         priorities = sizes.priorities;
+        taken = sizes.taken;
       })

@@ -17,7 +17,7 @@ use Rattle.sa_base.specs.declared.limits.TheConstants.{MAX_SPACES}
 use Rattle.sa_instr.specs.Space.{SpaceView}
 use Rattle.sa_instr.specs.Workload.{WorkloadView, IsWorkload}
 use Rattle.sa_kernel.specs.Opening.{opening_state}
-use Rattle.sa_acts.specs.Table.{holding, runs_in, held_of, taken_from}
+use Rattle.sa_acts.specs.Table.{holding, runs_in, held_of, taken_from, space_of}
 use Rattle.sa_assign.specs.AssignView.{AssignView}
 use Rattle.sa_assign.specs.Aims.{Change, is_aim, space_no, choice, missing, change_to, changes_for, changes_from, aims_with, aims_after, least_below}
 use Rattle.sa_assign.specs.Reaim.{proc_no, reaimed, changes_in}
@@ -129,6 +129,7 @@ module _ {C : Type 0} where
           untold = z.untold;
           pages = z.pages;
           priorities = z.priorities;
+          taken = z.taken;
         };
         owners = subst (AreSpaces (length k.demands)) (sym owners) sound.owners;
         aims = below;
@@ -164,6 +165,7 @@ module _ {C : Type 0} where
           untold = z.untold;
           pages = z.pages;
           priorities = z.priorities;
+          taken = z.taken;
         };
         owners = spaces-set (length k.demands) k.assign.owners p.0 o below sound.owners;
         aims = sound.aims;
@@ -187,6 +189,7 @@ module _ {C : Type 0} where
           untold = length-set k.untold s.0 (untold_of k s.0 ++ note ∷ []) ∙ z.untold;
           pages = z.pages;
           priorities = z.priorities;
+          taken = z.taken;
         };
         owners = sound.owners;
         aims = sound.aims;
@@ -214,6 +217,7 @@ module _ {C : Type 0} where
           untold = z.untold;
           pages = z.pages;
           priorities = z.priorities;
+          taken = z.taken;
         };
         owners = sound.owners;
         aims = sound.aims;
@@ -243,6 +247,7 @@ module _ {C : Type 0} where
           untold = length-set k.untold s.0 [] ∙ z.untold;
           pages = z.pages;
           priorities = z.priorities;
+          taken = z.taken;
         };
         owners = sound.owners;
         aims = sound.aims;
@@ -272,6 +277,7 @@ module _ {C : Type 0} where
           untold = z.untold ∙ sym len;
           pages = z.pages ∙ sym len;
           priorities = z.priorities ∙ sym len;
+          taken = z.taken;
         };
         owners = subst (λ m. AreSpaces m k.assign.owners) (sym len) sound.owners;
         aims = subst (λ m. AreSpaces m k.assign.aims) (sym len) sound.aims;
@@ -296,6 +302,7 @@ module _ {C : Type 0} where
           untold = z.untold;
           pages = len ∙ z.pages;
           priorities = z.priorities;
+          taken = z.taken;
         };
         owners = sound.owners;
         aims = sound.aims;
@@ -474,6 +481,7 @@ module _ {C : Type 0} where
           untold = z.untold;
           pages = z.pages;
           priorities = z.priorities;
+          taken = length-set k.taken s.0 [] ∙ z.taken;
         };
         owners = sound.owners;
         aims = sound.aims;
@@ -544,6 +552,7 @@ module _ {C : Type 0} where
           untold = z.untold;
           pages = z.pages;
           priorities = z.priorities;
+          taken = length-set k.taken (space_of (k.acts a.0)).0 _ ∙ z.taken;
         };
         owners = sound.owners;
         aims = sound.aims;
@@ -571,6 +580,7 @@ module _ {C : Type 0} where
           untold = z.untold;
           pages = z.pages;
           priorities = z.priorities;
+          taken = z.taken;
         };
         owners = sound.owners;
         aims = sound.aims;
@@ -606,6 +616,7 @@ module _ {C : Type 0} where
       untold = length-replicate (length w.spaces) no_notes ∙ sym (length-replicate (length w.spaces) one);
       pages = length-map w.spaces opening_pages ∙ sym (length-replicate (length w.spaces) one);
       priorities = length-map w.spaces (λ (s : SpaceView). s.priority) ∙ sym (length-replicate (length w.spaces) one);
+      taken = length-replicate MAX_SPACES no_acts;
     };
     owners = λ p s is. absurd (none-some s (sym (all-same w.processors p no_space) ∙ is));
     aims = λ p s is. absurd (none-some s (sym (all-same w.processors p no_space) ∙ is));

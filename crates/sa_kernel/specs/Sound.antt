@@ -31,6 +31,7 @@ module _ {C : Type 0} where
     pub untold : length k.untold ≡ length k.demands
     pub pages : length k.pages ≡ length k.demands
     pub priorities : length k.fixed.priorities ≡ length k.demands
+    pub taken : length k.taken ≡ MAX_SPACES
 
   -- the activation was taken, and is of this space
   pub record IsTaken (s : ℕ) (act : Option (Act C)) : Type 0 where

@@ -37,6 +37,7 @@ impl<C: Drop> Kernel<C> {
     ghost use Rattle.sa_kernel.specs.Entries.{entered, next_note, after_fetch, evicted_at};
     ghost use Rattle.sa_kernel.specs.Opening.{opened};
     ghost use Rattle.sa_kernel.specs.Runs.{Enters};
+    ghost use Rattle.sa_kernel.specs.Sound.{IsSound};
 
     /// The kernel at the opening of a workload, which is event 0; its items are added to the trace, which is
     /// empty. Fails only where memory runs out; the trace is then as it was, but for its room.
@@ -130,6 +131,22 @@ impl<C: Drop> Kernel<C> {
         ensures last { self.new.last ≡ self.old.last }
     {
         self.parts.next_note()
+    }
+
+    /// A spare of the trace that suffices for an entry: 80, and one for each notice that was not told and for each
+    /// activation that is taken and not given back. `None` only where that number does not fit.
+    pub fn need(&self) -> Option<usize>
+        ensures { IfSome result (λ n. n ≡ need_of (kernel_of self.now)) }
+    {
+        self.parts.need()
+    }
+
+    /// Shows what always holds: what runs on a processor is an activation of its owner, which runs nowhere else. It
+    /// does nothing.
+    pub fn keeps(&self)
+        ensures { IsSound (kernel_of self.now) }
+    {
+        let _kernel = &self.spare;
     }
 
     /// The space whose activation runs on the processor.

@@ -1,4 +1,4 @@
-ghost use Rattle.std.specs.Prelude.{◌≡◌, ℕ, ◌+◌, ◌≤◌, ◌<◌, [], ◌∷◌, ◌++◌, length, map, drop, replicate, slice_get, slice_index_or, slice_set, OnOk, IfOk};
+ghost use Rattle.std.specs.Prelude.{sum_by, IfSome, ◌≡◌, ℕ, ◌+◌, ◌≤◌, ◌<◌, [], ◌∷◌, ◌++◌, length, map, drop, replicate, slice_get, slice_index_or, slice_set, OnOk, IfOk};
 ghost use Rattle.sa_kernel.specs.Notices.{notes_of, behind_added, HaveRoom};
 ghost use Rattle.sa_kernel.specs.Room.{Adds};
 ghost use Rattle.sa_base.specs.Items.{items_at};
@@ -119,6 +119,13 @@ impl Notices {
         self.untold[usize::from(s.0)].notes()
     }
 
+    /// How many notices were not told, if that fits a number.
+    pub(crate) fn count(&self) -> Option<usize>
+        ensures { IfSome result (λ n. n ≡ sum_by length self.now.untold) }
+    {
+        count_all(&self.untold)
+    }
+
     /// Whether the space is to be told something.
     pub(crate) fn has_untold(&self, s: SpaceNo) -> bool
         requires { s.0 < length self.now.untold }
@@ -148,6 +155,17 @@ fn say_all_told(notes: &[Note], event: u64, p: ProcNo, trace: &mut Trace)
     for note in notes {
         say(trace, event, p, Record::Told(*note));
     }
+}
+
+// How many notices there are in all batches, if that fits a number.
+fn count_all(batches: &Vec<Batch>) -> Option<usize>
+    ensures { IfSome result (λ n. n ≡ sum_by length (map notes_of batches.now.items)) }
+{
+    let mut count: usize = 0;
+    for i in 0..batches.len() {
+        count = count.checked_add(batches[i].len())?;
+    }
+    Some(count)
 }
 
 // So many batches without notices and room.

@@ -1,5 +1,5 @@
 // The opening, and what is done at each entry.
-ghost use Rattle.std.specs.Prelude.{◌≡◌, ℕ, ◌+◌, ◌*◌, ◌≤◌, ◌<◌, ◌^◌, [], ◌++◌, length, map, replicate, Some, None, IfOk, OnOk, slice_index_or};
+ghost use Rattle.std.specs.Prelude.{IfSome, ◌≡◌, ℕ, ◌+◌, ◌*◌, ◌≤◌, ◌<◌, ◌^◌, [], ◌++◌, length, map, replicate, Some, None, IfOk, OnOk, slice_index_or};
 ghost use Rattle.sa_acts.specs.Table.{held_of};
 ghost use Rattle.sa_base.specs.Items.{items_at};
 ghost use Rattle.sa_instr.specs.Space.{SpaceView};
@@ -113,6 +113,27 @@ impl<C: Drop> Machine<C> {
         let note = self.notices.next()?;
         let held = self.hand_over(note);
         Some((note, held))
+    }
+
+    // How many activations are taken and not given back.
+    fn taken_count(&self) -> usize
+        requires { HasSizes (state_of self.now) }
+        ensures is { result ≡ taken_count (state_of self.now) }
+        ensures few { result ≤ MAX_SPACES * 2 ^ 32 }
+    {
+        let mut count: usize = 0;
+        for s in 0..MAX_SPACES {
+            count += self.acts.taken(SpaceNo(s as u16)) as usize;
+        }
+        count
+    }
+
+    // A spare of the trace that suffices for an entry, if it fits a number.
+    pub(crate) fn need(&self) -> Option<usize>
+        requires { HasSizes (state_of self.now) }
+        ensures { IfSome result (λ n. n ≡ need_of (state_of self.now)) }
+    {
+        self.notices.count()?.checked_add(80 + self.taken_count())
     }
 
     // What an entry does, but for the closing.
