@@ -1,13 +1,13 @@
 -- Who is woken waited before, and stands in no work list.
-use Rattle.std.proofs.Common.{◌≡◌, ◌≢◌, ℕ, ◌+◌, ◌<◌, ◌≤◌, Bool, true, cond, eqb, List, [], ◌∷◌, ◌++◌, length, map, drop, set, Option, Some, None, slice_get, refl, sym, ap, ◌∙◌, subst, inl, inr, arith}
+use Rattle.std.proofs.Common.{◌≡◌, ℕ, ◌+◌, ◌<◌, cond, List, [], ◌∷◌, ◌++◌, length, map, drop, Some, slice_get, refl, sym, ap, ◌∙◌, inl, inr, arith}
 use Rattle.std.proofs.lemmas.Bool.{cases_eq, eq-eqb}
 use Rattle.std.proofs.lemmas.Option.{same_Some}
-use Rattle.std.proofs.lemmas.List.{get_or-set_same, length-set, set-set}
+use Rattle.std.proofs.lemmas.List.{get_or-set_same, set-set}
 use Rattle.std.proofs.lemmas.List.Sums.{sum_by-append}
 use Rattle.sa_base.specs.declared.number.ThreadNo.{ThreadNo}
 use Rattle.sa_base.specs.declared.limits.TheConstants.{MAX_THREADS}
-use Rattle.sa_links.specs.Lists.{count_in, count_in_all, list_at}
-use Rattle.sa_links.proofs.Counting.{count_set, count_same, count_other, count_at}
+use Rattle.sa_links.specs.Lists.{count_in, count_in_all}
+use Rattle.sa_links.proofs.Counting.{count_set, count_same, count_other}
 use Rattle.sa_sync.specs.declared.answer.SyncAnswer.{SyncAnswer}
 use Rattle.sa_sync.specs.declared.answer.SyncAnswer.TheVariants.{Wakes}
 use Rattle.sa_sync.specs.Sync.{Sync, Mutex, Semaphore, joiners_at, with_joiners, waits_of, Waits, WaitsOnce}

@@ -4,7 +4,7 @@ use Rattle.sa_base.specs.declared.limits.TheConstants.{MAX_THREADS}
 use Rattle.sa_instr.specs.declared.limits.TheConstants.{REGISTERS}
 use Rattle.sa_fast.specs.declared.threads.Block.{Block}
 use Rattle.sa_fast.specs.declared.threads.Place.{Place}
-use Rattle.sa_fast.specs.declared.threads.Place.TheVariants.{Unmade, Ready, Running, Waiting, Blocked, Carried, Done}
+use Rattle.sa_fast.specs.declared.threads.Place.TheVariants.{Unmade, Ready, Running, Carried, Done}
 
 -- a thread at the beginning of a program
 abbrev pub at_start : ℕ → Place → Block

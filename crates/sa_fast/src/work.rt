@@ -76,7 +76,9 @@ impl WorkLists {
         requires work { IsWork self.old work.old }
         requires other { IsWork self.old other }
         requires apart { AreApart work.old other }
-        ensures { with_name self.new work.new ≡ joined self.old work.old other }
+        ensures work { with_name self.new work.new ≡ joined self.old work.old other }
+        ensures named { IsWork self.new work.new }
+        ensures counts { (u : ℕ) → count_in_all u self.new ≡ count_in_all u self.old }
     {
         match (*work, other) {
             (_, None) => {}

@@ -1,4 +1,4 @@
-use Rattle.std.proofs.Common.{sym, ap, ◌∙◌}
+use Rattle.std.proofs.Common.{ap, ◌∙◌}
 use Rattle.sa_fast.specs.Instruction.{touched}
 use Rattle.sa_fast.proofs.instruction.touch.Goals as goal
 

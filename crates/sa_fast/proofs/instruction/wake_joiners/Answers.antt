@@ -1,10 +1,9 @@
-use Rattle.std.proofs.Common.{ℕ, ◌+◌, ◌≡◌, sym, ap, ◌∙◌, subst, arith, length, drop, Some, ◌<◌, [], ◌∷◌}
+use Rattle.std.proofs.Common.{◌≡◌, sym, ap, ◌∙◌, subst, arith, length, drop, Some, ◌<◌, []}
 use Rattle.std.proofs.lemmas.List.{length-set}
-use Rattle.sa_base.specs.declared.limits.TheConstants.{MAX_THREADS}
-use Rattle.sa_links.specs.Lists.{count_in, count_in_all}
-use Rattle.sa_sync.specs.Sync.{Sync, joiners_at, with_joiners, Waits, WaitsOnce}
+use Rattle.sa_links.specs.Lists.{count_in_all}
+use Rattle.sa_sync.specs.Sync.{Sync, joiners_at, with_joiners, Waits}
 use Rattle.sa_sync.specs.Calls.{first_joiner, without_joiner}
-use Rattle.sa_fast.specs.Work.{with_name, added, added_all, IsUnlisted}
+use Rattle.sa_fast.specs.Work.{with_name, added, added_all}
 use Rattle.sa_fast.proofs.WakeLemmas.{first_waits, still_waits, rest_joins, joiners_twice, queue}
 use Rattle.sa_fast.proofs.instruction.wake_joiners.Goals as goal
 

@@ -1,4 +1,4 @@
-use Rattle.std.proofs.Common.{sym, subst, ap, ◌∙◌}
+use Rattle.std.proofs.Common.{sym, subst}
 use Rattle.sa_fast.specs.Work.{IsWork}
 use Rattle.sa_fast.proofs.WorkLemmas.{named-add}
 use Rattle.sa_fast.proofs.work.WorkLists.add.Goals as goal

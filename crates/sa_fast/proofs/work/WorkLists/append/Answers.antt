@@ -1,4 +1,4 @@
-use Rattle.std.proofs.Common.{sym, subst, Some}
+use Rattle.std.proofs.Common.{Some, sym, subst}
 use Rattle.sa_fast.specs.Work.{IsWork}
 use Rattle.sa_fast.proofs.WorkLemmas.{named-join}
 use Rattle.sa_fast.proofs.work.WorkLists.append.Goals as goal

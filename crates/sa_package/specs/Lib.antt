@@ -1,0 +1,4 @@
+pub mod Context
+pub mod Rules
+pub mod Step
+pub mod Conditions
