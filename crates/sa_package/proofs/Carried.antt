@@ -1,17 +1,17 @@
 -- What a context carries behind a micro-operation is a thread of the space.
-use Rattle.std.proofs.Common.{◌≡◌, ℕ, zero, suc, ◌+◌, ◌-◌, ◌<◌, ◌≤◌, Bool, true, false, List, [], ◌∷◌, length, Option, Some, None, slice_get, IfSome, refl, sym, ap, ◌∙◌, subst, arith}
+use Rattle.std.proofs.Common.{◌≡◌, ℕ, zero, suc, ◌-◌, ◌<◌, ◌≤◌, Bool, true, false, List, [], ◌∷◌, length, Option, Some, None, slice_get, IfSome, refl, ap, arith}
 use Rattle.std.proofs.lemmas.Option.{same_Some}
 use Rattle.std.specs.Option.{option_map}
 use Rattle.sa_base.specs.declared.number.ProcNo.{ProcNo}
 use Rattle.sa_base.specs.declared.number.ThreadNo.{ThreadNo}
 use Rattle.sa_base.specs.declared.limits.TheConstants.{MAX_THREADS}
-use Rattle.sa_links.specs.Lists.{count_in, count_in_all, list_at}
+use Rattle.sa_links.specs.Lists.{count_in}
 use Rattle.sa_links.proofs.Counting.{count_same, count-cons-ge, count_at}
 use Rattle.sa_lists.specs.ReadyView.{ReadyView, processor, list_of, sought, IsReady}
 use Rattle.sa_lists.proofs.Rounds.{sought-first}
 use Rattle.sa_code.specs.declared.state.PackageState.{PackageState}
 use Rattle.sa_code.specs.declared.state.Frame.{Frame}
-use Rattle.sa_code.specs.Micro.{Micro, micro, chosen, list_in, CanDo}
+use Rattle.sa_code.specs.Micro.{micro, chosen, list_in, CanDo}
 use Rattle.sa_code.proofs.Cases.{micro-outcome}
 use Rattle.sa_package.specs.Conditions.{IsThread}
 

@@ -1,26 +1,21 @@
 -- The worked rows of the handler, computed by the definitions: two holders of locks that were stopped, in one batch; and
 -- the same handler stopped behind its first step, and told to a new one.
-use Rattle.std.proofs.Common.{◌≡◌, ℕ, zero, suc, ◌++◌, List, [], ◌∷◌, Option, Some, None, Bool, true, false, replicate, refl}
+use Rattle.std.proofs.Common.{◌≡◌, ℕ, zero, suc, ◌++◌, List, [], ◌∷◌, Some, None, true, false, replicate, refl}
 use Rattle.sa_base.specs.declared.number.SpaceNo.{SpaceNo}
-use Rattle.sa_base.specs.declared.number.ProcNo.{ProcNo}
-use Rattle.sa_base.specs.declared.number.ThreadNo.{ThreadNo}
-use Rattle.sa_base.specs.declared.number.ActNo.{ActNo}
 use Rattle.sa_base.specs.declared.context.Seen.{Seen}
 use Rattle.sa_base.specs.declared.context.Stopped.{Stopped}
-use Rattle.sa_base.specs.declared.record.Note.{Note}
 use Rattle.sa_base.specs.declared.record.Note.TheVariants.{Add, Preempted}
 use Rattle.sa_base.specs.declared.record.Record.{Record}
-use Rattle.sa_base.specs.declared.record.Record.TheVariants.{Cont, Ready as ReadyOf, Free, Back, Take, Run, Idle as IdleOf}
+use Rattle.sa_base.specs.declared.record.Record.TheVariants.{Cont, Ready as ReadyOf, Free, Back, Take}
 use Rattle.sa_instr.specs.Space.{SpaceView}
 use Rattle.sa_instr.specs.declared.instr.Instr.TheVariants.{End}
 use Rattle.sa_lists.specs.ReadyView.{thread, processor}
-use Rattle.sa_code.specs.declared.state.Frame.{Frame}
 use Rattle.sa_copies.specs.Copies.{package_ops}
 use Rattle.sa_sync.specs.Sync.{opening}
-use Rattle.sa_fast.specs.declared.threads.Place.TheVariants.{Ready, Running, Waiting}
+use Rattle.sa_fast.specs.declared.threads.Place.TheVariants.{Running, Waiting}
 use Rattle.sa_fast.specs.Threads.{at_start}
 use Rattle.sa_package.specs.declared.context.Context.{Context}
-use Rattle.sa_package.specs.declared.context.State.TheVariants.{Code, Look}
+use Rattle.sa_package.specs.declared.context.State.TheVariants.{Code}
 use Rattle.sa_package.specs.declared.package.FastThreads.{FastThreads}
 use Rattle.sa_package.specs.Rules.{Pair, pair}
 use Rattle.sa_package.specs.Context.{fresh}

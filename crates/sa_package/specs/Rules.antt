@@ -1,16 +1,16 @@
 -- The rules of the package, one each: what a context does in its step, and what it takes over from another one.
-use Rattle.std.specs.Prelude.{◌≡◌, ℕ, ◌+◌, ◌==◌, Bool, true, false, ◌&&◌, Option, Some, None, is_some, List, [], ◌∷◌, ◌++◌, drop, length, slice_get, nat_le, nat_lt, min, if◌then◌else◌}
+use Rattle.std.specs.Prelude.{◌≡◌, ℕ, ◌+◌, ◌==◌, Bool, true, false, ◌&&◌, Option, Some, None, is_some, List, [], ◌∷◌, ◌++◌, drop, length, slice_get, nat_le, min}
 use Rattle.sa_base.specs.Recorded.{Recorded}
 use Rattle.sa_base.specs.Items.{items_at}
 use Rattle.sa_base.specs.declared.number.ProcNo.{ProcNo}
 use Rattle.sa_base.specs.declared.number.ThreadNo.{ThreadNo}
-use Rattle.sa_base.specs.declared.limits.TheConstants.{BULK_RETURN, PACKAGE_PAGE}
+use Rattle.sa_base.specs.declared.limits.TheConstants.{PACKAGE_PAGE}
 use Rattle.sa_base.specs.declared.context.Seen.{Seen}
 use Rattle.sa_base.specs.declared.record.Record.{Record}
 use Rattle.sa_base.specs.declared.record.Record.TheVariants.{Cont, Idle as IdleRecord}
 use Rattle.sa_instr.specs.declared.limits.TheConstants.{MAX_PATIENCE}
 use Rattle.sa_abstract.specs.declared.answer.Step.{Step}
-use Rattle.sa_abstract.specs.declared.answer.Step.TheVariants.{Did, Block, More, Idle, GiveBack}
+use Rattle.sa_abstract.specs.declared.answer.Step.TheVariants.{Did, Block, Idle}
 use Rattle.sa_abstract.specs.Calls.{Stepped}
 use Rattle.sa_lists.specs.ReadyView.{processor, sought}
 use Rattle.sa_code.specs.declared.code.Op.{Op}
@@ -28,10 +28,10 @@ use Rattle.sa_fast.specs.declared.instruction.Ran.{Ran}
 use Rattle.sa_fast.specs.Hints.{more_owed, idle_owed}
 use Rattle.sa_fast.specs.Threads.{block_at, moved_to, load_of}
 use Rattle.sa_fast.specs.Work.{Work as WorkOf, with_name, added, joined, without_first}
-use Rattle.sa_fast.specs.Instruction.{Outcome, run, run_says, with_thread, with_works}
+use Rattle.sa_fast.specs.Instruction.{run, run_says, with_thread, with_works}
 use Rattle.sa_package.specs.declared.context.Context.{Context}
 use Rattle.sa_package.specs.declared.context.State.{State}
-use Rattle.sa_package.specs.declared.context.State.TheVariants.{Code, Work, Hint, Return, User, Look}
+use Rattle.sa_package.specs.declared.context.State.TheVariants.{Code, User, Look}
 use Rattle.sa_package.specs.declared.package.FastThreads.{FastThreads}
 use Rattle.sa_package.specs.Context.{carried_by, section_in, before_all, is_left, settled_to, has_bulk}
 

@@ -1,5 +1,5 @@
 -- The package's calls as functions.
-use Rattle.std.specs.Prelude.{ℕ, ◌+◌, Bool, true, false, Option, Some, None, List, [], ◌∷◌, slice_get, replicate, if◌then◌else◌}
+use Rattle.std.specs.Prelude.{ℕ, Bool, true, false, Option, Some, None, [], slice_get, replicate, if◌then◌else◌}
 use Rattle.std.specs.Option.{option_map}
 use Rattle.sa_base.specs.declared.number.ThreadNo.{ThreadNo}
 use Rattle.sa_base.specs.declared.limits.TheConstants.{MAX_THREADS}
@@ -14,7 +14,7 @@ use Rattle.sa_abstract.specs.declared.answer.Tally.{Tally}
 use Rattle.sa_abstract.specs.Setting.{Setting}
 use Rattle.sa_abstract.specs.Calls.{Calls, Stepped, Gone}
 use Rattle.sa_abstract.specs.Walk.{Spot, after_many, ins_records, program_at}
-use Rattle.sa_lists.specs.ReadyView.{ReadyView, thread, no_threads, with_lock, with_made, pushed}
+use Rattle.sa_lists.specs.ReadyView.{ReadyView, no_threads, with_lock, with_made, pushed}
 use Rattle.sa_code.specs.declared.state.Frame.{Frame}
 use Rattle.sa_code.specs.Micro.{list_in}
 use Rattle.sa_code.specs.Changes.{begun as package_begun, in_section as is_in_section}
@@ -22,7 +22,6 @@ use Rattle.sa_copies.specs.Copies.{package_ops}
 use Rattle.sa_sync.specs.Sync.{opening}
 use Rattle.sa_fast.specs.declared.threads.Block.{Block}
 use Rattle.sa_fast.specs.declared.threads.Place.TheVariants.{Ready}
-use Rattle.sa_fast.specs.declared.shared.Shared.{Shared}
 use Rattle.sa_fast.specs.Threads.{unmade, at_start, block_at, with_block, gone_to, active_of, done_of}
 use Rattle.sa_fast.specs.Instruction.{with_thread}
 use Rattle.sa_package.specs.declared.context.Context.{Context}
