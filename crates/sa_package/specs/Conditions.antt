@@ -13,7 +13,8 @@ use Rattle.sa_code.specs.Micro.{CanDo}
 use Rattle.sa_copies.specs.Copies.{package_ops}
 use Rattle.sa_fast.specs.declared.shared.Shared.{Shared}
 use Rattle.sa_fast.specs.Work.{IsWork, IsUnlisted, AreApart}
-use Rattle.sa_fast.specs.Instruction.{CanRun}
+use Rattle.sa_fast.specs.Threads.{block_at}
+use Rattle.sa_fast.specs.Instruction.{CanRun, IsAt}
 use Rattle.sa_package.specs.declared.context.Context.{Context}
 use Rattle.sa_package.specs.declared.context.State.{State}
 use Rattle.sa_package.specs.declared.context.State.TheVariants.{Code, Work, Hint, Return, User, Look}
@@ -76,3 +77,11 @@ CanBeTold u c (Add p) held = Unit {0}
 CanBeTold u c (Blocked a) held = Unit {0}
 CanBeTold u c (Preempted a) held = IfSome held (λ s. CanTakeOver u c s.ctx)
 CanBeTold u c (Unblocked a) held = IfSome held (λ s. CanTakeOver u c s.ctx)
+
+-- the context stands at an instruction of its thread, within its program
+abbrev pub CanGoAt : FastThreads → State → Type 0
+CanGoAt u (User t) = (t.0 < MAX_THREADS) × IsAt u.def (block_at u.shared.threads t.0)
+CanGoAt u _ = ⊥
+
+abbrev pub CanGo : FastThreads → Context → Type 0
+CanGo u c = CanGoAt u c.state

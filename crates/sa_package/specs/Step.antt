@@ -1,7 +1,10 @@
 -- The package's calls as functions.
-use Rattle.std.specs.Prelude.{ℕ, Bool, true, false, Option, Some, None, [], slice_get, replicate, if◌then◌else◌}
+use Rattle.std.specs.Prelude.{List, ℕ, Bool, true, false, Option, Some, None, [], slice_get, replicate, if◌then◌else◌}
 use Rattle.std.specs.Option.{option_map}
+use Rattle.sa_base.specs.declared.number.SpaceNo.{SpaceNo}
 use Rattle.sa_base.specs.declared.number.ThreadNo.{ThreadNo}
+use Rattle.sa_base.specs.declared.record.Record.{Record}
+use Rattle.sa_instr.specs.declared.instr.Instr.{Instr}
 use Rattle.sa_base.specs.declared.limits.TheConstants.{MAX_THREADS}
 use Rattle.sa_base.specs.declared.context.Seen.{Seen}
 use Rattle.sa_base.specs.declared.context.Stopped.{Stopped}
@@ -105,15 +108,25 @@ abbrev pub stepped : FastThreads → Seen → Context → Stepped FastThreads Co
 stepped u seen c = let d = resettled u seen c c.state in stepped_at u seen d d.state
 
 -- a run of local instructions
+abbrev pub spot_of : Block → Spot
+spot_of b = record { pc = b.pc; regs = b.regs }
+
+abbrev pub at_spot : Block → Spot → Block
+at_spot b spot = gone_to b spot.pc spot.regs
+
+abbrev pub block_after : List Instr → ℕ → Block → Block
+block_after program n b = at_spot b (after_many program n (spot_of b))
+
+abbrev pub says_between : SpaceNo → ThreadNo → List Instr → ℕ → Block → List Record
+says_between s t program n b = ins_records s t program n (spot_of b)
+
 abbrev pub gone_by : FastThreads → Context → ℕ → ThreadNo → Block → Gone FastThreads Context
 gone_by u c n t b =
     let program = program_at u.def.programs b.program in
-    let spot : Spot = record { pc = b.pc; regs = b.regs } in
-    let new = after_many program n spot in
     record {
-      user = with_shared u (with_thread u.shared t (gone_to b new.pc new.regs));
+      user = with_shared u (with_thread u.shared t (block_after program n b));
       ctx = c;
-      says = ins_records u.shared.state.space t program n spot;
+      says = says_between u.shared.state.space t program n b;
     }
 
 abbrev pub gone_at : FastThreads → Context → ℕ → State → Gone FastThreads Context

@@ -28,7 +28,15 @@ impl FastThreads {
         if let State::User(thread) = ctx.state {
             let mut block = self.shared.threads.block(thread);
             let program = &self.def.programs()[usize::from(block.program)];
-            run_on(program, self.shared.state.space, thread, &mut block, seen, n, trace);
+            run_on(
+                program,
+                self.shared.state.space,
+                thread,
+                &mut block,
+                seen,
+                n,
+                trace,
+            );
             self.shared.threads.set(thread, block);
         }
     }

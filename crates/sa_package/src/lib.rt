@@ -4,6 +4,8 @@
 
 mod calls;
 mod context;
+mod going;
+pub mod laws;
 mod notice;
 mod opening;
 mod package;
