@@ -19,7 +19,7 @@ pub struct PackageState {
 }
 
 /// Where a context stands in the package's code, and with what.
-#[derive(Clone, Copy, Debug, PartialEq, Eq)]
+#[derive(Clone, Copy, Debug, Default, PartialEq, Eq)]
 pub struct Frame {
     /// The place.
     pub pc: u16,

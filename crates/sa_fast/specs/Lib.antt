@@ -1,0 +1,4 @@
+pub mod Hints
+pub mod Threads
+pub mod Work
+pub mod Instruction

@@ -1,0 +1,167 @@
+// The blocks of a space's threads.
+ghost use Rattle.std.specs.Prelude.{◌≡◌, ◌<◌, ◌≤◌, ◌+◌, Bool, length, count_by, cond, IfOk, replicate};
+ghost use Rattle.sa_fast.specs.Threads.{unmade, block_at, with_block, is_loaded, is_active, is_done};
+ghost use Rattle.sa_fast.specs.declared.threads.Place.TheVariants as places;
+
+use sa_base::{MAX_THREADS, ThreadNo};
+use sa_instr::Regs;
+use std::alloc::{AllocError, Global};
+use std::marker::Model;
+
+/// Where a thread is.
+#[derive(Clone, Copy, Debug, PartialEq, Eq)]
+pub enum Place {
+    /// It was not made.
+    Unmade,
+    /// In a ready list.
+    Ready,
+    /// Carried by the context of an activation that runs, or was stopped, of which the space was not told.
+    Running,
+    /// Waiting for a mutex, a semaphore or another thread; or it was forked or woken, and is still to be made ready.
+    Waiting,
+    /// Blocked in the kernel; or unblocked, of which the space was not told.
+    Blocked,
+    /// Stopped or unblocked, and still to be made ready or to be continued.
+    Carried,
+    /// At its end.
+    Done,
+}
+
+impl Place {
+    // Whether a thread there is of its space's load.
+    fn is_loaded(self) -> bool
+        ensures { result ≡ is_loaded self }
+    {
+        matches!(self, Place::Ready | Place::Running)
+    }
+
+    // Whether a thread there is active.
+    fn is_active(self) -> bool
+        ensures { result ≡ is_active self }
+    {
+        matches!(self, Place::Ready | Place::Running | Place::Carried)
+    }
+
+    // Whether a thread there is at its end.
+    fn is_done(self) -> bool
+        ensures { result ≡ is_done self }
+    {
+        matches!(self, Place::Done)
+    }
+}
+
+/// What a space keeps of one thread.
+#[derive(Clone, Copy, Debug, PartialEq, Eq)]
+pub struct Block {
+    /// The number of its program in the space.
+    pub program: u16,
+    /// The place of its next instruction.
+    pub pc: u16,
+    pub regs: Regs,
+    pub place: Place,
+}
+
+/// The blocks of the 512 threads that a space can have, by their numbers.
+///
+/// Each call but `new` takes constant time and no memory.
+#[derive(Debug, Drop)]
+pub struct Threads {
+    blocks: Vec<Block>,
+    // how many are of the load, active, and done
+    load: u16,
+    active: u16,
+    done: u16,
+}
+
+impl Model for Threads {
+    ghost use Rattle.std.specs.Prelude.{List};
+    ghost use Rattle.sa_fast.specs.declared.threads.Block.{Block};
+    ghost use Rattle.sa_fast.specs.Threads.{IsCounted};
+
+    ghost Value = { List Block };
+
+    ghost view = { λ t. t.blocks.items };
+
+    ghost invariant = { λ t. IsCounted t.blocks.items t.load t.active t.done };
+}
+
+impl Threads {
+    /// No thread was made. Fails only where memory runs out.
+    pub fn new(alloc: Global) -> Result<Threads, AllocError>
+        ensures { IfOk result (λ threads. threads ≡ replicate MAX_THREADS unmade) }
+    {
+        let block = Block {
+            program: 0,
+            pc: 0,
+            regs: Regs::zero(),
+            place: Place::Unmade,
+        };
+        Ok(Threads {
+            blocks: vec![in alloc; block; MAX_THREADS as usize]?,
+            load: 0,
+            active: 0,
+            done: 0,
+        })
+    }
+
+    /// The block of a thread.
+    pub fn block(&self, t: ThreadNo) -> Block
+        requires { t.0 < MAX_THREADS }
+        ensures { result ≡ block_at self.now t.0 }
+    {
+        self.blocks[t.0 as usize]
+    }
+
+    /// Replaces the block of a thread.
+    pub fn set(&mut self, t: ThreadNo, block: Block)
+        requires { t.0 < MAX_THREADS }
+        ensures { self.new ≡ with_block self.old t.0 block }
+    {
+        let old = self.blocks[t.0 as usize].place;
+        self.load = moved(self.load, old.is_loaded(), block.place.is_loaded());
+        self.active = moved(self.active, old.is_active(), block.place.is_active());
+        self.done = moved(self.done, old.is_done(), block.place.is_done());
+        self.blocks[t.0 as usize] = block;
+    }
+
+    /// How many threads are ready or run.
+    pub fn load(&self) -> u16
+        ensures { result ≡ count_by (λ b. is_loaded b.place) self.now }
+    {
+        self.load
+    }
+
+    /// How many threads are ready, run, or were stopped or unblocked and are not yet ready again.
+    pub fn active(&self) -> u16
+        ensures { result ≡ count_by (λ b. is_active b.place) self.now }
+    {
+        self.active
+    }
+
+    /// How many threads are done.
+    pub fn done(&self) -> u16
+        ensures { result ≡ count_by (λ b. is_done b.place) self.now }
+    {
+        self.done
+    }
+
+    /// Says that there are 512 blocks. It does nothing.
+    pub fn has_all(&self)
+        ensures { length self.now ≡ MAX_THREADS }
+    {
+        let _ = &self.blocks;
+    }
+}
+
+// A count of things of which one changed: whether it counted, and whether it counts now.
+fn moved(count: u16, counted: bool, counts: bool) -> u16
+    requires some { cond counted 1 0 ≤ count }
+    requires few { count ≤ MAX_THREADS }
+    ensures { result + cond counted 1 0 ≡ count + cond counts 1 0 }
+{
+    match (counted, counts) {
+        (true, false) => count - 1,
+        (false, true) => count + 1,
+        _ => count,
+    }
+}

@@ -1,0 +1,71 @@
+// Runs of local instructions.
+ghost use Rattle.std.specs.Prelude.{◌≡◌, ◌+◌, ◌≤◌, ◌<◌, ◌++◌, length};
+ghost use Rattle.sa_base.specs.Items.{items_from};
+ghost use Rattle.sa_instr.specs.Space.{SpaceView};
+ghost use Rattle.sa_abstract.specs.Walk.{program_at};
+ghost use Rattle.sa_fast.specs.Threads.{block_at};
+ghost use Rattle.sa_fast.specs.Instruction.{IsAt};
+ghost use Rattle.sa_package.specs.Conditions.{CanGo};
+ghost use Rattle.sa_package.specs.Step.{went, block_after, says_between};
+
+use crate::context::{Context, State};
+use crate::package::FastThreads;
+use sa_base::{Item, MAX_EVENTS, ProcNo, Record, Seen, SpaceNo, ThreadNo, Trace};
+use sa_fast::Block;
+use sa_instr::{Program, local};
+
+impl FastThreads {
+    /// The context's thread runs `n` local instructions, one in each event from `seen.event` on. It takes no memory.
+    pub fn went(&mut self, seen: &Seen, ctx: &Context, n: u16, trace: &mut Trace)
+        requires can { CanGo self.old ctx.now }
+        requires room { n ≤ trace.old.spare }
+        requires events { seen.now.event + n ≤ MAX_EVENTS + 1 }
+        ensures user { self.new ≡ (went self.old seen.now ctx.now n).user }
+        ensures items { let says = (went self.old seen.now ctx.now n).says in
+            trace.new.items ≡ trace.old.items ++ items_from seen.now.event seen.now.proc says }
+        ensures spare { trace.new.spare + n ≡ trace.old.spare }
+    {
+        if let State::User(thread) = ctx.state {
+            let mut block = self.shared.threads.block(thread);
+            let program = &self.def.programs()[usize::from(block.program)];
+            run_on(
+                program,
+                self.shared.state.space,
+                thread,
+                &mut block,
+                seen,
+                n,
+                trace,
+            );
+            self.shared.threads.set(thread, block);
+        }
+    }
+}
+
+// A thread runs `n` instructions of its program, each of which is local.
+fn run_on(
+    program: &Program,
+    space: SpaceNo,
+    thread: ThreadNo,
+    block: &mut Block,
+    seen: &Seen,
+    n: u16,
+    trace: &mut Trace,
+)
+    requires place { block.old.pc < length program.now }
+    requires room { n ≤ trace.old.spare }
+    requires events { seen.now.event + n ≤ MAX_EVENTS + 1 }
+    ensures block { block.new ≡ block_after program.now n block.old }
+    ensures items { let says = says_between space thread program.now n block.old in
+        trace.new.items ≡ trace.old.items ++ items_from seen.now.event seen.now.proc says }
+    ensures spare { trace.new.spare + n ≡ trace.old.spare }
+{
+    for done in 0..n {
+        trace.add(Item {
+            event: seen.event + u64::from(done),
+            proc: seen.proc,
+            what: Record::Ins(space, thread, block.pc),
+        });
+        local(program, &mut block.regs, &mut block.pc);
+    }
+}

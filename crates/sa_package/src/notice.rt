@@ -1,0 +1,73 @@
+// The check of a notice.
+ghost use Rattle.std.specs.Prelude.{◌≡◌, ◌+◌, ◌≤◌, length, IfSome};
+ghost use Rattle.std.specs.Option.{ForSome};
+ghost use Rattle.sa_copies.specs.Copies.{package_ops, copy_at};
+ghost use Rattle.sa_package.specs.Conditions.{CanTakeOver, CanBeTold};
+ghost use Rattle.sa_package.specs.Step.{told, told_of};
+ghost use Rattle.sa_package.specs.Context.{at_copy, section_in, carried_by};
+ghost use Rattle.sa_package.specs.Rules.{pair, took_over, thread_alone};
+
+use crate::context::{Context, State};
+use crate::package::FastThreads;
+use crate::settling::place;
+use sa_base::{Note, Stopped};
+use sa_code::{Code, Frame};
+use sa_copies::copy_place;
+use sa_fast::Place;
+
+impl FastThreads {
+    /// The context is told a notice of its upcall. With `Preempted` and `Unblocked` comes the context that was stopped or
+    /// unblocked, which it takes over. It takes no memory.
+    pub fn told(&mut self, ctx: &mut Context, note: Note, held: Option<Stopped<Context>>)
+        requires { CanBeTold self.old ctx.old note held }
+        ensures { (self.new, ctx.new) ≡ told self.old ctx.old note held }
+    {
+        match note {
+            Note::Add(_) | Note::Blocked(_) => {}
+            Note::Preempted(_) => self.told_of(ctx, held),
+            Note::Unblocked(_) => self.told_of(ctx, held),
+        }
+    }
+
+    // The context is told of another one, if one comes with the notice.
+    fn told_of(&mut self, ctx: &mut Context, held: Option<Stopped<Context>>)
+        requires { IfSome held (λ s. CanTakeOver self.old ctx.old s.ctx) }
+        ensures { pair self.new ctx.new ≡ told_of self.old ctx.old held }
+    {
+        if let Some(held) = held {
+            self.take_over(ctx, &held.ctx);
+        }
+    }
+
+    /// The context takes over what another one, which was stopped or blocked, had to do: its critical section and those
+    /// that it had to continue, its work list, and, where it is in no section, its thread (SOSP 1991, section 3.3).
+    pub fn take_over(&mut self, ctx: &mut Context, other: &Context)
+        requires { CanTakeOver self.old ctx.old other.now }
+        ensures { pair self.new ctx.new ≡ took_over self.old ctx.old other.now }
+    {
+        let thread = other.state.thread();
+        place(&mut self.shared, thread, Place::Carried);
+        let own = section_of(&self.shared.state.code, other.state);
+        if let Some(frame) = own {
+            ctx.sections.add(frame);
+        }
+        ctx.sections.append(&other.sections);
+        self.shared.works.append(&mut ctx.work, other.work);
+        let alone = if own.is_some() { None } else { thread };
+        self.put_last(ctx, alone);
+    }
+}
+
+// The section in which a context stands, or of which it stands in a copy, at the place of the copy.
+fn section_of(code: &Code, state: State) -> Option<Frame>
+    requires { code.now ≡ package_ops }
+    ensures { result ≡ section_in state }
+{
+    match state {
+        State::Code(mut frame) => {
+            frame.pc = copy_place(code, frame.pc)?;
+            Some(frame)
+        }
+        _ => None,
+    }
+}

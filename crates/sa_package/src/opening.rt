@@ -1,0 +1,78 @@
+// The opening of a space.
+ghost use Rattle.std.specs.Prelude.{◌≡◌, ◌≤◌, IfOk};
+ghost use Rattle.sa_abstract.specs.Setting.{Setting, IsSetting};
+ghost use Rattle.sa_package.specs.Step.{started, opened};
+
+use crate::package::FastThreads;
+use sa_base::{MAX_PROCESSORS, MAX_THREADS, ProcNo, SpaceNo, ThreadNo};
+use sa_code::{MAX_LISTS, PackageState, routines};
+use sa_copies::make_copies;
+use sa_fast::{Block, Place, Shared, Threads, WorkLists};
+use sa_instr::{Regs, SpaceDef};
+use sa_lists::ReadyLists;
+use sa_sync::SyncState;
+use std::alloc::{AllocError, Global};
+
+impl FastThreads {
+    /// The package of a space at its opening: thread 0 is ready in list 0, and all locks are free. The space has so many
+    /// processors at most, 1 to 16, and the fetch of a page takes `fetch` events, 1 to 1,000. Fails only where memory
+    /// runs out; no other call takes memory.
+    pub fn start(
+        alloc: Global,
+        space: SpaceNo,
+        def: SpaceDef,
+        processors: u16,
+        fetch: u32,
+    ) -> Result<FastThreads, AllocError>
+        requires { IsSetting (record { space = space; def = def; processors = processors; fetch = fetch }) }
+        ensures { let setting : Setting = record {
+          space = space;
+          def = def;
+          processors = processors;
+          fetch = fetch;
+        } in IfOk result (λ user. user ≡ started setting) }
+    {
+        let sync = SyncState::new(alloc, &def)?;
+        let mut threads = Threads::new(alloc)?;
+        threads.set(
+            ThreadNo(0),
+            Block {
+                program: 0,
+                pc: 0,
+                regs: Regs::zero(),
+                place: Place::Ready,
+            },
+        );
+        let state = PackageState {
+            space,
+            lists: open_lists(alloc, processors)?,
+            holders: [None; MAX_LISTS],
+            code: make_copies(&routines()),
+        };
+        Ok(FastThreads {
+            def,
+            processors,
+            fetch,
+            shared: Shared {
+                state,
+                sync,
+                threads,
+                works: WorkLists::new(alloc)?,
+            },
+        })
+    }
+}
+
+// The ready lists of a space at its opening.
+fn open_lists(alloc: Global, processors: u16) -> Result<ReadyLists, AllocError>
+    requires some { 1 ≤ processors }
+    requires few { processors ≤ MAX_PROCESSORS }
+    ensures { IfOk result (λ lists. lists ≡ opened processors) }
+{
+    let mut lists = ReadyLists::new(alloc, processors, MAX_THREADS)?;
+    let _ = lists.make();
+    let _ = lists.try_lock(ProcNo(0));
+    lists.push(ProcNo(0), ThreadNo(0));
+    lists.unlock(ProcNo(0));
+    Ok(lists)
+}

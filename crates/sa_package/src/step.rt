@@ -1,0 +1,307 @@
+// The step of a context.
+ghost use Rattle.std.specs.Prelude.{◌≡◌, ◌≢◌, ◌+◌, ◌<◌, ◌≤◌, ◌++◌, [], ◌∷◌, length, Some, None, IfSome, slice_get};
+ghost use Rattle.sa_base.specs.Items.{items_at};
+ghost use Rattle.sa_copies.specs.Copies.{package_ops};
+ghost use Rattle.sa_code.specs.Micro.{CanDo, HasList};
+ghost use Rattle.sa_lists.specs.ReadyView.{sought};
+ghost use Rattle.sa_lists.specs.ReadyView as ready;
+ghost use Rattle.sa_fast.specs.Work.{IsWork};
+ghost use Rattle.sa_fast.specs.Instruction.{CanRun};
+ghost use Rattle.sa_package.specs.Conditions.{CanCode, CanStep, CanWork, IsThread};
+ghost use Rattle.sa_package.specs.Context.{carried_by};
+ghost use Rattle.sa_package.specs.Rules.{Steps, moved_by, goes_on, coded, continued, pushing, used, is_idle, popping, looked, with_shared};
+ghost use Rattle.sa_package.specs.Step.{resettled, stepped, stepped_at, worked};
+
+use crate::context::{Context, State};
+use crate::package::FastThreads;
+use crate::settling::place;
+use sa_abstract::Step;
+use sa_base::{
+    BULK_RETURN, Item, MAX_THREADS, PACKAGE_PAGE, ProcNo, Record, Seen, ThreadNo, Trace,
+};
+use sa_code::{Frame, MicroDone, Op, micro};
+use sa_fast::{Place, Ran, Shared, idle_owed, run};
+use sa_instr::MAX_PATIENCE;
+
+// Where the routines of the package's code begin.
+const PUSH: u16 = 0;
+
+const POP: u16 = 4;
+
+impl FastThreads {
+    /// One step of a context: what it does, and what it asks of the kernel. It adds at most 2 records.
+    pub fn step(&mut self, seen: &Seen, ctx: &mut Context, trace: &mut Trace) -> Step
+        requires can { CanStep self.old seen.now ctx.old }
+        requires room { 2 ≤ trace.old.spare }
+        ensures { Steps (stepped self.old seen.now ctx.old) seen.now trace.old self.new ctx.new result trace.new }
+    {
+        self.settle_again(seen, ctx);
+        self.act(seen, ctx, trace)
+    }
+
+    // Where a hint is no longer owed, or the activations to give back are no longer so many, the context settles.
+    fn settle_again(&self, seen: &Seen, ctx: &mut Context)
+        ensures { ctx.new ≡ resettled self.now seen.now ctx.old ctx.old.state }
+    {
+        match ctx.state {
+            State::Hint(thread) => {
+                if self.owed(seen).is_none() {
+                    self.settle(seen, ctx, thread);
+                }
+            }
+            State::Return => {
+                if seen.taken < BULK_RETURN {
+                    self.settle(seen, ctx, None);
+                }
+            }
+            _ => {}
+        }
+    }
+
+    // The step of a context that has settled.
+    fn act(&mut self, seen: &Seen, ctx: &mut Context, trace: &mut Trace) -> Step
+        requires can { CanStep self.old seen.now ctx.old }
+        requires room { 2 ≤ trace.old.spare }
+        ensures { Steps (stepped_at self.old seen.now ctx.old ctx.old.state) seen.now trace.old
+            self.new ctx.new result trace.new }
+    {
+        match ctx.state {
+            State::Code(frame) => self.do_code(seen, ctx, frame, trace),
+            State::Work(_) => self.do_work(seen, ctx, trace),
+            State::Hint(_) => match self.owed(seen) {
+                Some(more) => Step::More(more),
+                None => Step::Did,
+            },
+            State::Return => Step::GiveBack,
+            State::User(thread) => self.do_thread(seen, ctx, thread, trace),
+            State::Look(looks) => self.look(seen, ctx, looks, trace),
+        }
+    }
+
+    // A context with something left to do: its first section, or its first thread to make ready.
+    fn do_work(&mut self, seen: &Seen, ctx: &mut Context, trace: &mut Trace) -> Step
+        requires code { self.old.shared.state.code ≡ package_ops }
+        requires threads { self.old.shared.state.lists.threads ≡ MAX_THREADS }
+        requires proc { seen.now.proc.0 < length self.old.shared.state.lists.lists }
+        requires work { IsWork self.old.shared.works ctx.old.work }
+        requires can { CanWork self.old ctx.old }
+        requires room { 1 ≤ trace.old.spare }
+        ensures { Steps (worked self.old seen.now ctx.old (slice_get ctx.old.sections 0) ctx.old.work)
+            seen.now trace.old self.new ctx.new result trace.new }
+    {
+        if let Some(frame) = ctx.sections.first() {
+            return self.go_on_with(seen, ctx, frame, trace);
+        }
+        match ctx.work {
+            Some(first) => self.begin_push(seen, ctx, first, trace),
+            None => Step::Did,
+        }
+    }
+
+    // The first section is continued in its copy, with its thread.
+    fn go_on_with(
+        &mut self,
+        seen: &Seen,
+        ctx: &mut Context,
+        frame: Frame,
+        trace: &mut Trace,
+    ) -> Step
+        requires some { 0 < length ctx.old.sections }
+        requires thread { IsThread frame.thread }
+        requires room { 1 ≤ trace.old.spare }
+        ensures { Steps (continued self.old ctx.old frame) seen.now trace.old self.new ctx.new result trace.new }
+    {
+        place(&mut self.shared, frame.thread, Place::Running);
+        ctx.sections.remove_first();
+        ctx.state = State::Code(frame);
+        trace.add(Item {
+            event: seen.event,
+            proc: seen.proc,
+            what: Record::Cont(self.shared.state.space, frame.thread),
+        });
+        Step::Did
+    }
+
+    // The take of the push of a thread on the list of the processor.
+    fn begin_push(
+        &mut self,
+        seen: &Seen,
+        ctx: &mut Context,
+        first: ThreadNo,
+        trace: &mut Trace,
+    ) -> Step
+        requires threads { self.old.shared.state.lists.threads ≡ MAX_THREADS }
+        requires proc { seen.now.proc.0 < length self.old.shared.state.lists.lists }
+        requires first { ctx.old.work ≡ Some first }
+        requires work { IsWork self.old.shared.works ctx.old.work }
+        requires unlisted { ready.IsUnlisted self.old.shared.state.lists first.0 }
+        requires code { self.old.shared.state.code ≡ package_ops }
+        requires room { 1 ≤ trace.old.spare }
+        ensures { Steps (pushing self.old seen.now ctx.old first) seen.now trace.old
+            self.new ctx.new result trace.new }
+    {
+        let mut frame = Frame {
+            pc: PUSH,
+            list: Some(seen.proc),
+            own: true,
+            pushed: Some(first),
+            thread: ctx.state.thread(),
+        };
+        if let MicroDone::Did = micro(&mut self.shared.state, &mut frame, seen, trace) {
+            self.shared.works.take_first(&mut ctx.work, first);
+            ctx.state = State::Code(frame);
+        }
+        Step::Did
+    }
+
+    // The next instruction of the context's thread.
+    fn do_thread(
+        &mut self,
+        seen: &Seen,
+        ctx: &mut Context,
+        thread: ThreadNo,
+        trace: &mut Trace,
+    ) -> Step
+        requires can { CanRun self.old.def self.old.shared ctx.old.work thread }
+        requires room { 2 ≤ trace.old.spare }
+        ensures { Steps (used self.old seen.now ctx.old thread) seen.now trace.old self.new ctx.new result trace.new }
+    {
+        let ran = run(
+            &self.def,
+            self.fetch,
+            &mut self.shared,
+            &mut ctx.work,
+            thread,
+            seen,
+            trace,
+        );
+        match ran {
+            Ran::Goes => {
+                if ctx.work.is_some() {
+                    self.settle(seen, ctx, Some(thread));
+                } else {
+                    ctx.state = State::User(thread);
+                }
+                Step::Did
+            }
+            Ran::Leaves => {
+                self.settle(seen, ctx, None);
+                Step::Did
+            }
+            Ran::Blocks { length, page } => Step::Block { length, page },
+        }
+    }
+
+    // A look at the ready lists.
+    fn look(&mut self, seen: &Seen, ctx: &mut Context, looks: u16, trace: &mut Trace) -> Step
+        requires proc { seen.now.proc.0 < length self.old.shared.state.lists.lists }
+        requires code { self.old.shared.state.code ≡ package_ops }
+        requires few { looks ≤ 1000 }
+        requires room { 1 ≤ trace.old.spare }
+        ensures { Steps (looked self.old seen.now ctx.old looks) seen.now trace.old self.new ctx.new result trace.new }
+    {
+        if let Some(list) = self.shared.state.lists.seek(seen.proc) {
+            return self.begin_pop(seen, ctx, list, trace);
+        }
+        if self.is_idle(seen, looks) {
+            return Step::Idle;
+        }
+        ctx.state = State::Look((looks + 1).min(MAX_PATIENCE));
+        trace.add(Item {
+            event: seen.event,
+            proc: seen.proc,
+            what: Record::Idle,
+        });
+        Step::Did
+    }
+
+    // Whether a processor that looked so often is to be offered to the kernel.
+    fn is_idle(&self, seen: &Seen, looks: u16) -> bool
+        ensures { result ≡ is_idle self.now seen.now looks }
+    {
+        self.def.patience() <= looks && idle_owed(seen.demand, self.load())
+    }
+
+    // The take of the pop on a list.
+    fn begin_pop(&mut self, seen: &Seen, ctx: &mut Context, list: ProcNo, trace: &mut Trace) -> Step
+        requires list { list.0 < length self.old.shared.state.lists.lists }
+        requires code { self.old.shared.state.code ≡ package_ops }
+        requires room { 1 ≤ trace.old.spare }
+        ensures { Steps (popping self.old seen.now ctx.old list.0) seen.now trace.old
+            self.new ctx.new result trace.new }
+    {
+        let mut frame = Frame {
+            pc: POP,
+            list: Some(list),
+            own: list.0 == seen.proc.0,
+            pushed: None,
+            thread: None,
+        };
+        if let MicroDone::Did = micro(&mut self.shared.state, &mut frame, seen, trace) {
+            ctx.state = State::Code(frame);
+        }
+        Step::Did
+    }
+
+    // A context in the package's code: the operation at its place.
+    fn do_code(&mut self, seen: &Seen, ctx: &mut Context, frame: Frame, trace: &mut Trace) -> Step
+        requires code { self.old.shared.state.code ≡ package_ops }
+        requires threads { self.old.shared.state.lists.threads ≡ MAX_THREADS }
+        requires work { IsWork self.old.shared.works ctx.old.work }
+        requires can { CanCode self.old frame }
+        requires room { 1 ≤ trace.old.spare }
+        ensures { Steps (coded self.old seen.now ctx.old frame) seen.now trace.old self.new ctx.new result trace.new }
+    {
+        self.shared.state.lists.are_apart();
+        let op = self.shared.state.code.at(frame.pc);
+        let mut next = frame;
+        match micro(&mut self.shared.state, &mut next, seen, trace) {
+            MicroDone::Did => {
+                move_thread(&mut self.shared, op, frame, next);
+                self.go_on(seen, ctx, next);
+                Step::Did
+            }
+            MicroDone::Spun => Step::Did,
+            MicroDone::Faulted => {
+                place(&mut self.shared, frame.thread, Place::Blocked);
+                Step::Block {
+                    length: self.fetch,
+                    page: Some(PACKAGE_PAGE),
+                }
+            }
+            MicroDone::Left => {
+                self.settle(seen, ctx, frame.thread);
+                Step::Did
+            }
+            MicroDone::Yielded => {
+                self.put_last(ctx, frame.thread);
+                self.settle(seen, ctx, None);
+                Step::Did
+            }
+        }
+    }
+
+    // The context goes on in the code, or settles at the end of a routine.
+    fn go_on(&self, seen: &Seen, ctx: &mut Context, next: Frame)
+        ensures { ctx.new ≡ goes_on self.now seen.now ctx.old next
+            (slice_get self.now.shared.state.code next.pc) }
+    {
+        match self.shared.state.code.at(next.pc) {
+            Some(Op::Leave) => self.settle(seen, ctx, next.thread),
+            _ => ctx.state = State::Code(next),
+        }
+    }
+}
+
+// The effects of a push and of a pop move a thread.
+fn move_thread(shared: &mut Shared, op: Option<Op>, before: Frame, after: Frame)
+    requires pushed { IsThread before.pushed }
+    requires carried { IsThread after.thread }
+    ensures { shared.new ≡ moved_by shared.old op before after }
+{
+    match op {
+        Some(Op::Push) => place(shared, before.pushed, Place::Ready),
+        Some(Op::Pop) => place(shared, after.thread, Place::Running),
+        _ => {}
+    }
+}
