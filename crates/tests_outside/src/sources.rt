@@ -139,6 +139,16 @@ impl Write for Halting {
 }
 
 #[test]
+fn a_large_room_takes_what_is_there(rt: HostRuntime) -> Result<(), Fail> {
+    let mut room = vec![in rt.alloc(); 0u8; 65_536]?;
+    let mut source = StdSource::new(Cursor::new(b"abc".as_slice()));
+    assert_eq!(rt; source.read(&mut room).ok(), Some(3));
+    assert_eq!(rt; room.get(..3), Some(b"abc".as_slice()));
+    assert_eq!(rt; source.read(&mut room).ok(), Some(0));
+    Ok(())
+}
+
+#[test]
 fn an_interrupted_call_is_made_again(rt: HostRuntime) -> Result<(), Fail> {
     let alloc = rt.alloc();
     let again = Err(ErrorKind::Interrupted);

@@ -159,7 +159,7 @@ fn words_and_faults_decide(rt: HostRuntime) -> Result<(), Fail> {
     let alloc = rt.alloc();
     let input = workload(alloc, 10, 4096)?;
     let whole = trace(alloc, 4096)?;
-    let cases: [(&[&str], &[u64], &[u64], Status, usize); 13] = [
+    let cases: [(&[&str], &[u64], &[u64], Status, usize); 15] = [
         (&[], &[], &[], Status::Usage, 0),
         (&["run", "x"], &[], &[], Status::Usage, 0),
         (&["run", "--help"], &[], &[], Status::Usage, 0),
@@ -167,6 +167,14 @@ fn words_and_faults_decide(rt: HostRuntime) -> Result<(), Fail> {
         (&["run", "--budget", "0"], &[], &[], Status::Usage, 0),
         (&["run", "--budget", "05"], &[], &[], Status::Usage, 0),
         (&["run", "--budget", "1000001"], &[], &[], Status::Usage, 0),
+        (&["run", "--budget=5"], &[], &[], Status::Usage, 0),
+        (
+            &["run", "--budget", "5", "--budget", "5"],
+            &[],
+            &[],
+            Status::Usage,
+            0,
+        ),
         (&["Run"], &[1], &[1], Status::Usage, 0),
         (&["run"], &[1], &[], Status::ReadFault, 0),
         (&["run"], &[3], &[1], Status::ReadFault, 0),

@@ -3,9 +3,9 @@ ghost use Rattle.sa_links.specs.Lists.{list_at};
 
 use crate::plain::Plain;
 use sa_links::Links;
-use std::marker::Send;
 use std::process::Abort;
 use std::test::Fail;
+use std::thread;
 
 // The list has these numbers, from its front on.
 fn has_numbers(rt: &impl Abort, links: &Links, list: u32, want: &[u32])
@@ -131,18 +131,10 @@ fn moves_nodes_between_two_lists(rt: HostRuntime) -> Result<(), Fail> {
     Ok(())
 }
 
-// What comes back of a value that may go to another thread.
-fn sent<T: Send>(value: T) -> T
-    ensures { result ≡ value }
-{
-    value
-}
-
 #[test]
-fn goes_to_another_thread(rt: HostRuntime) -> Result<(), Fail> {
-    let links = sent(Links::new(rt.alloc(), 1, 1)?);
-    links.are_apart();
-    assert!(rt; links.is_free(0));
-    assert!(rt; links.is_empty(0));
+fn goes_to_another_thread_and_back(rt: HostRuntime) -> Result<(), Fail> {
+    let links = Links::new(rt.alloc(), 1, 1)?;
+    let child = thread::spawn(&rt, move || links)?;
+    child.join(&rt).are_apart();
     Ok(())
 }
