@@ -40,6 +40,6 @@ fn report(rt: &impl Eprint, status: Status) -> io::Result<()> {
         Status::ReadFault => eprintln!(rt; "read fault"),
         Status::WriteFault => eprintln!(rt; "write fault"),
         Status::OutOfMemory => eprintln!(rt; "out of memory"),
-        Status::AllDone | Status::Stuck | Status::Budget => Ok(()),
+        Status::AllDone | Status::Stuck | Status::Budget | Status::Migrated => Ok(()),
     }
 }

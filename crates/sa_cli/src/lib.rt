@@ -1,13 +1,12 @@
 //! The command line and the top call: from words and a source to a run, and its text to a sink.
 #![tactic(auto)]
 
+mod commands;
 mod input;
 mod outcome;
 mod output;
-mod run;
-mod straight;
-mod words;
+mod top;
 
 pub use outcome::{Outcome, Ran, Status};
-pub use run::run_one;
-pub use words::Words;
+pub use sa_words::Words;
+pub use top::run_one;

@@ -25,6 +25,8 @@ pub enum Status {
     WriteFault,
     /// Memory ran out.
     OutOfMemory,
+    /// The workload was written anew, whole.
+    Migrated,
 }
 
 impl From<ReadError> for Status {
@@ -75,7 +77,7 @@ impl Status {
         ensures { result ≡ code_of self }
     {
         match self {
-            Status::AllDone => 0,
+            Status::AllDone | Status::Migrated => 0,
             Status::Usage => 1,
             Status::BadWorkload(_) => 2,
             Status::Stuck => 3,
