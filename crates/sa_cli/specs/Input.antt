@@ -1,6 +1,7 @@
 -- What is read of a source.
-use Rattle.std.specs.Prelude.{ℕ, ◌+◌, ◌≤◌, List, length, Option, IsSome}
+use Rattle.std.specs.Prelude.{◌≡◌, ℕ, ◌+◌, ◌≤◌, List, length, Option, IsSome, IfSome}
 use Rattle.std.specs.Io.KnownBytes.{Consumes, IsAtEnd}
+use Rattle.sa_instr.specs.Workload.{WorkloadView}
 use Rattle.sa_cli.specs.declared.input.TheConstants.{INPUT_LIMIT}
 
 -- The bytes were taken from the source: all that it had, or one more than the limit. A source that does not
@@ -13,3 +14,16 @@ pub record ReadsInput (before after : Option (List ℕ)) (bytes : List ℕ) : Ty
 -- The source lost some bytes at its front, or none.
 abbrev pub LosesPrefix : Option (List ℕ) → Option (List ℕ) → Type 0
 LosesPrefix before after = (bytes : List ℕ) × Consumes before after bytes
+
+-- which bytes are the text of which workload
+abbrev pub Texts : Type 1
+Texts = List ℕ → WorkloadView → Type 0
+
+-- The source gave exactly the text of the workload, no longer than the limit, and is at its end, where it tells.
+pub record GaveText (is_text : Texts) (before after : Option (List ℕ)) (w : WorkloadView) : Type 0 where
+  pub text : List ℕ
+  pub is : is_text text w
+  pub short : length text ≤ INPUT_LIMIT
+  pub taken : Consumes before after text
+  pub end : IsSome before → IsAtEnd after
+  pub input : IfSome before (λ input. input ≡ text)

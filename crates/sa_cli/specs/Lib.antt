@@ -1,4 +1,7 @@
-pub mod Straight
-pub mod Words
 pub mod Input
 pub mod Outcome
+pub mod Refusals
+pub mod Schedules
+pub mod Answers
+pub mod Commands
+pub mod Complete
