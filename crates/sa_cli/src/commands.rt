@@ -14,6 +14,7 @@ use sa_base::MAX_EVENTS;
 use sa_instr::{MAX_SLICE, Workload};
 use sa_io::{Sink, Source};
 use sa_package::FastThreads;
+use sa_package::FastThreads;
 use sa_run::run;
 use sa_sched::Kind;
 use sa_words::ScheduleWord;
