@@ -38,7 +38,7 @@ pub record Ended (ran : WorkloadView → Type 0) (plan : Plan) (goes : List ℕ 
   pub is : ran workload
   pub events : ℕ
   pub run : RunsTo fast_calls workload (plan.order workload) plan.budget items end events
-  pub goes : goes (plan.shown items end events)
+  pub went : goes (plan.shown items end events)
 
 -- the run of one of these workloads came so far
 pub record Came (ran : WorkloadView → Type 0) (plan : Plan) (items : List Item) : Type 0 where

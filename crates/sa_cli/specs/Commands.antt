@@ -38,7 +38,7 @@ AnswersLoad number budget old new items status = RunAnswers (λ w. w ≡ generat
 pub record Migrates (slice : ℕ) (old new : World) (goes : List ℕ → Type 0) : Type 0 where
   pub text : List ℕ
   pub gave : GaveSliced slice old.left new.left text
-  pub goes : goes text
+  pub went : goes text
 
 abbrev pub MigrateAnswers : ℕ → World → World → Status → Type 0
 MigrateAnswers slice old new ReadFault = HasRisen old.reads new.reads

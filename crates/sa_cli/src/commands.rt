@@ -1,6 +1,6 @@
 // The commands.
 ghost use Rattle.std.specs.Prelude.{◌≡◌, ℕ, ◌≤◌, List, Option, IfOk};
-ghost use Rattle.sa_sched.specs.Kind.{order_of};
+ghost use Rattle.sa_sched.specs.Kind.{order_of, AreAmong};
 ghost use Rattle.sa_cli.specs.Input.{LosesPrefix};
 ghost use Rattle.sa_cli.specs.Outcome.{history, WritesNothing};
 ghost use Rattle.sa_cli.specs.Schedules.{order_by};
@@ -13,7 +13,6 @@ use crate::writing::{write_last_line, write_trace, written};
 use sa_base::MAX_EVENTS;
 use sa_instr::{MAX_SLICE, Workload};
 use sa_io::{Sink, Source};
-use sa_package::FastThreads;
 use sa_package::FastThreads;
 use sa_run::run;
 use sa_sched::Kind;
@@ -103,7 +102,8 @@ pub(crate) fn migrate<S: Source, K: Sink>(
 
 // The order of turns of the word, for this workload.
 fn kind_of(alloc: Global, word: ScheduleWord, workload: &Workload) -> Result<Kind, AllocError>
-    ensures { IfOk result (λ kind. order_of kind ≡ order_by word workload.now) }
+    ensures order { IfOk result (λ kind. order_of kind ≡ order_by word workload.now) }
+    ensures among { IfOk result (λ kind. AreAmong workload.now.processors (order_of kind)) }
 {
     match word {
         ScheduleWord::RoundRobin => Ok(Kind::RoundRobin),

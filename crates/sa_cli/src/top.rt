@@ -9,6 +9,7 @@ ghost use Rattle.sa_cli.specs.Complete.{IsCompleteTo};
 use crate::commands::{migrate, run_generated, run_text};
 use crate::outcome::{Outcome, Status};
 use sa_io::{Sink, Source};
+use sa_words::laws::commands_are_in_range;
 use sa_words::{Command, Words, read_words};
 use std::alloc::Global;
 
@@ -44,6 +45,7 @@ pub fn run_one<S: Source, K: Sink>(
             = world (S.left source.new) (K.taken sink.new) (S.faults source.new) (K.faults sink.new) in
         IsCompleteTo (command_of words.now) before after result.status }
 {
+    commands_are_in_range();
     match read_words(words) {
         None => Outcome::nothing(Status::Usage),
         Some(Command::Run { schedule, budget }) => run_text(alloc, schedule, budget, source, sink),

@@ -3,6 +3,7 @@ ghost use Rattle.std.specs.Prelude.{◌≡◌, ◌≤◌};
 ghost use Rattle.sa_trace.specs.TraceText.{trace_text, last_line_of};
 ghost use Rattle.sa_cli.specs.Outcome.{status_of_end, WritesNothing};
 ghost use Rattle.sa_cli.specs.Answers.{Writes, WritesOrStops};
+ghost use Rattle.sa_cli.specs.declared.outcome.Ran.TheVariants.{Plain};
 
 use crate::outcome::{Outcome, Status};
 use crate::output::write_text;
@@ -13,7 +14,7 @@ use std::alloc::Global;
 
 /// Writes the text of a run that ended.
 pub(crate) fn write_trace<K: Sink>(alloc: Global, ended: Ended, sink: &mut K) -> Outcome
-    ensures ran { result.ran ≡ Ran.Plain ended.trace }
+    ensures ran { result.ran ≡ Plain ended.trace }
     ensures status { WritesOrStops (K.taken sink.old) (K.taken sink.new)
         (K.faults sink.old) (K.faults sink.new)
         (trace_text ended.trace.items ended.end ended.events)
@@ -30,7 +31,7 @@ pub(crate) fn write_trace<K: Sink>(alloc: Global, ended: Ended, sink: &mut K) ->
 
 /// Writes the last line of the text of a run that ended.
 pub(crate) fn write_last_line<K: Sink>(alloc: Global, ended: Ended, sink: &mut K) -> Outcome
-    ensures ran { result.ran ≡ Ran.Plain ended.trace }
+    ensures ran { result.ran ≡ Plain ended.trace }
     ensures status { WritesOrStops (K.taken sink.old) (K.taken sink.new)
         (K.faults sink.old) (K.faults sink.new)
         (last_line_of ended.trace.items ended.end ended.events)
