@@ -1,5 +1,6 @@
 ghost use Rattle.std.specs.Prelude.{◌≡◌, ℕ, ◌+◌, ◌*◌, ◌≤◌, ◌<◌, [], length, Some, IsSome, IfSome, IfOk, OnOk, OnErr, slice_index_or};
 ghost use Rattle.std.specs.Option.{option_map};
+ghost use Rattle.sa_base.specs.declared.number.ActNo.{ActNo};
 ghost use Rattle.sa_devices.specs.Ios.{due_of, io_no};
 ghost use Rattle.sa_kernel.specs.Room.{Adds};
 
@@ -40,8 +41,6 @@ impl<C: Drop> Kernel<C> {
     ghost use Rattle.sa_kernel.specs.Sound.{IsSound, AreClaimed, IsUpcalled};
     ghost use Rattle.sa_kernel.specs.Owed.{owed_items, pending_count};
     ghost use Rattle.sa_kernel.specs.Seen.{seen_of, is_quiet};
-    ghost use Rattle.sa_kernel.specs.declared.entry.Given.{Given};
-    ghost use Rattle.sa_kernel.specs.declared.entry.Given.TheVariants.{Upcall};
 
     /// The kernel at the opening of a workload, which is event 0; its items are added to the trace, which is
     /// empty. Fails only where memory runs out; the trace is then as it was, but for its room.
@@ -99,7 +98,7 @@ impl<C: Drop> Kernel<C> {
         ensures items { Adds (need_of (kernel_of self.old)) trace.old trace.new }
         ensures owed { trace.old.spare + owed_items (kernel_of self.new)
             ≤ trace.new.spare + owed_items (kernel_of self.old) + ENTRY_ITEMS }
-        ensures upcalled { (a : ActNo) → result ≡ Upcall a → IsUpcalled (kernel_of self.new) p a }
+        ensures upcalled { (a : ActNo) → result ≡ Given.Upcall a → IsUpcalled (kernel_of self.new) p a }
     {
         let given = self.parts.enter_as(event, p, entry, trace);
         self.parts.close(event, p, trace);

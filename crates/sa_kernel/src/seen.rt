@@ -16,10 +16,10 @@ impl<C: Drop> Machine<C> {
         requires { HasSizes (state_of self.now) }
         ensures { result ≡ low_of (state_of self.now) s }
     {
-        let mut low = 0;
+        let mut low: u16 = 0;
         for q in 0..self.assign.processors() {
             if self.has_low_line(s, ProcNo(q)) {
-                low += 1 << q;
+                low |= 1 << q;
             }
         }
         low
