@@ -9,5 +9,7 @@ pub mod PlacedLemmas
 pub mod ClaimLemmas
 pub mod HeldLemmas
 pub mod OwedLemmas
+pub mod PromptLemmas
+pub mod LawLemmas
 mod SoundLemmas
 mod KeptLemmas

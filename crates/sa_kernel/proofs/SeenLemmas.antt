@@ -13,7 +13,7 @@ use Rattle.sa_assign.specs.Aims.{is_aim}
 use Rattle.sa_kernel.specs.State.{State, owner_of, line_of}
 use Rattle.sa_kernel.specs.Closing.{has_low_line}
 use Rattle.sa_kernel.specs.Sound.{HasSizes}
-use Rattle.sa_kernel.specs.Seen.{bits_where, low_of}
+use Rattle.sa_kernel.specs.Seen.{bits_where, low_of, IsLow}
 
 -- a bit as a number
 abbrev pub bit_of : Bool → ℕ
@@ -52,11 +52,6 @@ bit_at-bits_where test (suc n) q below = elim (cases_eq q n) [
       ∙ ap (λ i. bit_of (test i)) (sym same)
   | inr apart ↦ other-bit (bits_where test n) n q (test n) apart ∙ bit_at-bits_where test n q (omega arith)
 ]
-
--- the space owns the processor, and the line is low
-pub record IsLow {C : Type 0} (k : State C) (s : SpaceNo) (q : ProcNo) : Type 0 where
-  pub owner : owner_of k q ≡ Some s
-  pub line : line_of k q ≡ None
 
 low-from : (s : SpaceNo) (owner : Option SpaceNo) (line : Option ℕ) → (is_aim s.0 owner && is_none line) ≡ true → (owner ≡ Some s) × (line ≡ None)
 low-from s None line is = absurd cc

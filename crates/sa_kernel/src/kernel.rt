@@ -38,7 +38,7 @@ impl<C: Drop> Kernel<C> {
     ghost use Rattle.sa_kernel.specs.Entries.{entered, next_note, after_fetch, evicted_at};
     ghost use Rattle.sa_kernel.specs.Opening.{opened};
     ghost use Rattle.sa_kernel.specs.Runs.{Enters};
-    ghost use Rattle.sa_kernel.specs.Sound.{IsSound, AreClaimed, IsUpcalled};
+    ghost use Rattle.sa_kernel.specs.Sound.{IsSound, IsPrompt, AreClaimed, IsUpcalled};
     ghost use Rattle.sa_kernel.specs.Owed.{owed_items, pending_count};
     ghost use Rattle.sa_kernel.specs.Seen.{seen_of, is_quiet};
 
@@ -156,10 +156,12 @@ impl<C: Drop> Kernel<C> {
     }
 
     /// Shows what always holds: an activation runs on each processor that is owned, in its owner and nowhere else; a
-    /// raised line has an aim; and each context that is held has one claim on it, an I/O under way or a notice. It does
-    /// nothing.
+    /// raised line has an aim; each context that is held has one claim on it, an I/O under way or a notice; and a notice
+    /// waits only where its space owns no processor, its upcall page is being fetched, or the line of one that it owns is
+    /// raised. It does nothing.
     pub fn keeps(&self)
         ensures sound { IsSound (kernel_of self.now) }
+        ensures prompt { IsPrompt (kernel_of self.now) }
         ensures pending { pending_count (kernel_of self.now) ≤ self.now.last }
         ensures last { self.now.last ≤ MAX_EVENTS }
     {
