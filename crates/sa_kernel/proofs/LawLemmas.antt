@@ -1,7 +1,7 @@
 -- The laws of the kernel as a value.
-use Rattle.std.proofs.Common.{◌≡◌, ◌≢◌, ℕ, zero, suc, ◌+◌, ◌<◌, ◌≤◌, ◌^◌, ◌↔◌, Bool, true, false, ◌&&◌, ◌||◌, cond, eqb, not, Option, Some, None, IsSome, is_some, option_map, List, [], ◌∷◌, length, map, sum_by, get_or, slice_get, Contains, refl, sym, ap, subst, ◌∙◌, inl, inr, arith}
+use Rattle.std.proofs.Common.{◌≡◌, ◌≢◌, ℕ, suc, ◌<◌, ◌≤◌, ◌^◌, Bool, true, false, ◌&&◌, ◌||◌, eqb, not, Option, Some, None, IsSome, is_some, option_map, List, [], ◌∷◌, length, map, sum_by, slice_get, Contains, refl, sym, ap, ◌∙◌, inl, inr, arith}
 use Rattle.std.specs.List.{list_any}
-use Rattle.std.proofs.lemmas.Bool.{cases_eq, cases_lt, cond-true, eqb-true, eq-eqb, ne_eqb}
+use Rattle.std.proofs.lemmas.Bool.{cases_lt, cond-true, eqb-true, eq-eqb}
 use Rattle.std.proofs.lemmas.List.{get_or_past}
 use Rattle.std.proofs.lemmas.List.Folds.{list_any_at}
 use Rattle.std.proofs.lemmas.List.Sums.{sum_by-cons, get_or-le-sum_by}
@@ -14,18 +14,16 @@ use Rattle.sa_base.specs.declared.record.Note.{Note}
 use Rattle.sa_base.specs.declared.record.Note.TheVariants.{Add, Preempted, Blocked, Unblocked}
 use Rattle.sa_lemmas.proofs.FunctionUpdates.{put-other}
 use Rattle.sa_acts.specs.declared.acts.Act.{Act}
-use Rattle.sa_acts.specs.Table.{held_of, taken_from, space_of}
+use Rattle.sa_acts.specs.Table.{held_of, taken_from}
 use Rattle.sa_assign.specs.Aims.{space_no, least_below}
 use Rattle.sa_assign.specs.Reaim.{proc_no}
 use Rattle.sa_assign.proofs.ChoiceLemmas.{least_below-passes, least_below-none}
 use Rattle.sa_devices.specs.Ios.{Io}
 use Rattle.sa_kernel.specs.State.{State, owner_of, line_of, life_of, untold_of}
 use Rattle.sa_kernel.specs.Closing.{spaces, calls_for}
-use Rattle.sa_kernel.specs.Entries.{next_note, held_for, handed_by, fetched, after_fetch}
+use Rattle.sa_kernel.specs.Entries.{next_note, held_for, handed_by, after_fetch}
 use Rattle.sa_kernel.specs.Sound.{HasSizes, IsSound, AreClaimed, note_claim, held_in}
 use Rattle.sa_kernel.specs.Seen.{low_of, is_raised, has_line, is_called, has_call, is_quiet}
-use Rattle.sa_kernel.specs.Owed.{owed_items}
-use Rattle.sa_kernel.specs.Kept.{need_of}
 use Rattle.sa_kernel.specs.Laws.{RunsOn, IsHeldIn, IsQuiet, answers, answer_in, OwnersRun, LowBitsSayWhere, LowBitsAreFew, QuietSaysSo, ToldContextsAreHeld, NotesAreHandedOut, OwedIsEnough}
 use Rattle.sa_kernel.proofs.SeenLemmas.{bits_where-lt, low-bit, bit_of}
 use Rattle.sa_kernel.proofs.ClaimLemmas.{held-none, space-held}

@@ -1,6 +1,6 @@
 -- After the closing of an event no notice waits without cause.
-use Rattle.std.proofs.Common.{◌≡◌, ◌≢◌, ℕ, zero, suc, ◌+◌, ◌<◌, ◌≤◌, Bool, true, false, ◌&&◌, not, Option, Some, None, IsSome, is_some, is_none, List, [], ◌∷◌, length, get_or, slice_set, refl, sym, ap, subst, ◌∙◌, inl, inr, arith}
-use Rattle.std.proofs.lemmas.Bool.{cases_eq, cases_lt, eqb-true, eq-eqb}
+use Rattle.std.proofs.Common.{◌≡◌, ℕ, zero, suc, ◌+◌, ◌<◌, ◌≤◌, Bool, true, false, ◌&&◌, not, Option, Some, None, IsSome, is_some, is_none, List, [], ◌∷◌, length, get_or, slice_set, refl, sym, ap, subst, ◌∙◌, inl, inr, arith}
+use Rattle.std.proofs.lemmas.Bool.{cases_eq, cases_lt, eqb-true}
 use Rattle.std.proofs.lemmas.List.{get_or_past, get_or-set_other, get_or-set_same, length-set}
 use Rattle.sa_base.specs.declared.number.ProcNo.{ProcNo}
 use Rattle.sa_base.specs.declared.number.SpaceNo.{SpaceNo}
@@ -19,8 +19,7 @@ use Rattle.sa_assign.proofs.ChoiceLemmas.{least_below-passes, least_below-none}
 use Rattle.sa_kernel.specs.State.{State, Scene, owner_of, aim_of, line_of, untold_of, is_fetching}
 use Rattle.sa_kernel.specs.Closing.{for_spaces, spaces, has_untold, want_one, want_for, must_want, wants, shares, aims, is_told_by, has_low_line, must_interrupt, interrupt, interrupt_one, interrupt_for, closed}
 use Rattle.sa_kernel.specs.Sound.{HasSizes, HasRaised, IsPrompt}
-use Rattle.sa_kernel.specs.Seen.{IsLow}
-use Rattle.sa_kernel.proofs.ClosingLemmas.{length-aims_after, length-lines_after}
+use Rattle.sa_kernel.proofs.ClosingLemmas.{length-lines_after}
 use Rattle.sa_kernel.proofs.SeenLemmas.{is-low}
 use Rattle.sa_kernel.proofs.PlacedLemmas.{for_spaces-keeps}
 
