@@ -1,9 +1,9 @@
 mod Batches
 mod RunLemmas
 mod GivenBack
-mod ClosingLemmas
-mod LifeLemmas
-mod FormedLemmas
+pub mod ClosingLemmas
+pub mod LifeLemmas
+pub mod FormedLemmas
 pub mod SeenLemmas
 pub mod PlacedLemmas
 pub mod ClaimLemmas
@@ -11,5 +11,5 @@ pub mod HeldLemmas
 pub mod OwedLemmas
 pub mod PromptLemmas
 pub mod LawLemmas
-mod SoundLemmas
+pub mod SoundLemmas
 mod KeptLemmas
