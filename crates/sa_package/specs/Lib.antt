@@ -3,3 +3,5 @@ pub mod Rules
 pub mod Step
 pub mod Conditions
 pub mod Laws
+pub mod Stands
+pub mod Keeping

@@ -132,10 +132,13 @@ abbrev pub coded : FastThreads → Seen → Context → Frame → Stepped FastTh
 coded u seen c f =
     let m = micro u.shared.state f seen.pages in coded_by u seen c f (slice_get u.shared.state.code f.pc) m m.done
 
--- work: the first section is continued in its copy, with its thread
+-- work: the first section is continued in its copy, with its thread; one that is carried comes last in the work list
+abbrev pub continuing : Pair → Frame → Stepped FastThreads Context
+continuing p f =
+    did (pair (placed_in p.user f.thread Running) (record p.ctx { state = Code f; sections = drop 1 p.ctx.sections })) (Cont p.user.shared.state.space f.thread ∷ [])
+
 abbrev pub continued : FastThreads → Context → Frame → Stepped FastThreads Context
-continued u c f =
-    did (pair (placed_in u f.thread Running) (record c { state = Code f; sections = drop 1 c.sections })) (Cont u.shared.state.space f.thread ∷ [])
+continued u c f = continuing (put_last u c (carried_by c.state)) f
 
 -- work: the take of the push of thread first on the processor's list; it spins where that is locked
 abbrev pub push_of : ProcNo → ThreadNo → Option ThreadNo → Frame
