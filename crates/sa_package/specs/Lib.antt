@@ -3,5 +3,6 @@ pub mod Rules
 pub mod Step
 pub mod Conditions
 pub mod Laws
+pub mod Hands
 pub mod Stands
-pub mod Keeping
+pub mod Kept

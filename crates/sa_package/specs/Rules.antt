@@ -20,15 +20,16 @@ use Rattle.sa_code.specs.declared.state.Frame.{Frame}
 use Rattle.sa_code.specs.declared.state.MicroDone.{MicroDone}
 use Rattle.sa_code.specs.declared.state.MicroDone.TheVariants as micros
 use Rattle.sa_code.specs.Micro.{Micro, micro}
+use Rattle.sa_fast.specs.declared.threads.Block.{Block}
 use Rattle.sa_fast.specs.declared.threads.Place.{Place}
 use Rattle.sa_fast.specs.declared.threads.Place.TheVariants.{Ready, Running, Blocked, Carried}
 use Rattle.sa_fast.specs.declared.shared.Shared.{Shared}
 use Rattle.sa_fast.specs.declared.instruction.Ran.TheVariants as rans
 use Rattle.sa_fast.specs.declared.instruction.Ran.{Ran}
 use Rattle.sa_fast.specs.Hints.{more_owed, idle_owed}
-use Rattle.sa_fast.specs.Threads.{block_at, moved_to, load_of}
+use Rattle.sa_fast.specs.Threads.{block_at, with_block, moved_to, load_of}
 use Rattle.sa_fast.specs.Work.{Work as WorkOf, with_name, added, joined, without_first}
-use Rattle.sa_fast.specs.Instruction.{run, run_says, with_thread, with_works}
+use Rattle.sa_fast.specs.Instruction.{run, run_says, with_works}
 use Rattle.sa_package.specs.declared.context.Context.{Context}
 use Rattle.sa_package.specs.declared.context.State.{State}
 use Rattle.sa_package.specs.declared.context.State.TheVariants.{Code, User, Look}
@@ -53,9 +54,12 @@ abbrev pub at_state : Context → State → Context
 at_state c state = record c { state = state }
 
 -- a thread is elsewhere, if there is one
+abbrev pub blocks_placed : List Block → Option ThreadNo → Place → List Block
+blocks_placed blocks None place = blocks
+blocks_placed blocks (Some t) place = with_block blocks t.0 (moved_to (block_at blocks t.0) place)
+
 abbrev pub placed : Shared → Option ThreadNo → Place → Shared
-placed x None place = x
-placed x (Some t) place = with_thread x t (moved_to (block_at x.threads t.0) place)
+placed x t place = record x { threads = blocks_placed x.threads t place }
 
 abbrev pub placed_in : FastThreads → Option ThreadNo → Place → FastThreads
 placed_in u t place = with_shared u (placed u.shared t place)
