@@ -1,3 +1,6 @@
 pub mod WorkLemmas
 pub mod ThreadLemmas
 pub mod WakeLemmas
+pub mod Moves
+pub mod WorkSteps
+pub mod RunSteps

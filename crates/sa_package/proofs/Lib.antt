@@ -4,8 +4,3 @@ pub mod Settled
 pub mod LocalRuns
 pub mod Asking
 pub mod Saying
-pub mod OnePlace
-pub mod Moves
-pub mod WorkSteps
-pub mod RunSteps
-pub mod Keeping

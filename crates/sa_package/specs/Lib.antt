@@ -5,4 +5,5 @@ pub mod Conditions
 pub mod Laws
 pub mod Hands
 pub mod Stands
-pub mod Kept
+pub mod OnePlace
+pub mod Keeping

@@ -20,7 +20,7 @@ use Rattle.sa_code.specs.declared.state.Frame.{Frame}
 use Rattle.sa_code.specs.declared.state.MicroDone.{MicroDone}
 use Rattle.sa_code.specs.declared.state.MicroDone.TheVariants as micros
 use Rattle.sa_code.specs.Micro.{Micro, micro}
-use Rattle.sa_fast.specs.declared.threads.Block.{Block}
+use Rattle.sa_fast.specs.declared.threads.Block.{Block as BlockOf}
 use Rattle.sa_fast.specs.declared.threads.Place.{Place}
 use Rattle.sa_fast.specs.declared.threads.Place.TheVariants.{Ready, Running, Blocked, Carried}
 use Rattle.sa_fast.specs.declared.shared.Shared.{Shared}
@@ -54,7 +54,7 @@ abbrev pub at_state : Context → State → Context
 at_state c state = record c { state = state }
 
 -- a thread is elsewhere, if there is one
-abbrev pub blocks_placed : List Block → Option ThreadNo → Place → List Block
+abbrev pub blocks_placed : List BlockOf → Option ThreadNo → Place → List BlockOf
 blocks_placed blocks None place = blocks
 blocks_placed blocks (Some t) place = with_block blocks t.0 (moved_to (block_at blocks t.0) place)
 

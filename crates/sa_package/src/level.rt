@@ -12,7 +12,7 @@ use std::alloc::{AllocError, Global};
 impl UserLevel for FastThreads {
     ghost use Rattle.sa_package.specs.Step.{fast_calls};
     ghost use Rattle.sa_package.specs.Stands.{fast_stands};
-    ghost use Rattle.sa_package.specs.Kept.{fast_keeps};
+    ghost use Rattle.sa_package.specs.Keeping.{fast_keeps};
 
     type Ctx = Context;
 

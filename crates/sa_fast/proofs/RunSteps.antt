@@ -7,9 +7,8 @@ use Rattle.sa_links.specs.Lists.{count_in_all}
 use Rattle.sa_fast.specs.declared.shared.Shared.{Shared}
 use Rattle.sa_fast.specs.Work.{IsWork, IsUnlisted}
 use Rattle.sa_fast.specs.Instruction.{run}
-use Rattle.sa_package.specs.Hands.{threads_at_rest}
-use Rattle.sa_package.specs.Stands.{ArePartsFor}
-use Rattle.sa_package.proofs.Moves.{RunStep}
+use Rattle.sa_fast.specs.Rest.{threads_at_rest, ArePartsFor}
+use Rattle.sa_fast.proofs.Moves.{RunStep}
 
 -- t is in its context's hand, so neither at rest nor in a work list; threads at rest are in none
 pub run-step : (def : SpaceView) (processors event fetch pages : ℕ) (x : Shared) (w : Option ThreadNo) (t : ThreadNo) → IsSpace def → ArePartsFor def processors event x
