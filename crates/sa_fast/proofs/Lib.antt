@@ -3,4 +3,3 @@ pub mod ThreadLemmas
 pub mod WakeLemmas
 pub mod Moves
 pub mod WorkSteps
-pub mod RunSteps
