@@ -14,4 +14,5 @@ pub mod Changing
 pub mod Views
 pub mod Holding
 pub mod Parts
+pub mod CodeRule
 pub mod Keeping
