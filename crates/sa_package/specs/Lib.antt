@@ -3,7 +3,14 @@ pub mod Rules
 pub mod Step
 pub mod Conditions
 pub mod Laws
+pub mod Settled
+pub mod Asking
+pub mod Saying
 pub mod Hands
 pub mod Stands
 pub mod OnePlace
+pub mod Changing
+pub mod Views
+pub mod Holding
+pub mod Parts
 pub mod Keeping
