@@ -3,3 +3,5 @@ pub mod ThreadLemmas
 pub mod WakeLemmas
 pub mod Moves
 pub mod WorkSteps
+pub mod SyncSteps
+pub mod RunSteps

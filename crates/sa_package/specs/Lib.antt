@@ -9,7 +9,6 @@ pub mod Saying
 pub mod Hands
 pub mod Stands
 pub mod OnePlace
-pub mod RunSteps
 pub mod Changing
 pub mod Views
 pub mod Holding
