@@ -1,4 +1,4 @@
--- A step in the package's code keeps all standing.
+-- A step in the code of the package keeps all standing.
 use Rattle.std.proofs.Common.{◌≡◌, ◌≢◌, ℕ, ◌+◌, ◌≤◌, ◌<◌, Bool, true, false, List, [], ◌∷◌, length, Option, Some, None, IsSome, is_some, slice_get, refl, sym, ap, ◌∙◌, subst, ◌⊎◌, inl, inr, arith}
 use Rattle.std.proofs.lemmas.Bool.{cases_eq}
 use Rattle.sa_base.specs.declared.number.ThreadNo.{ThreadNo}
@@ -166,7 +166,7 @@ module _ (s : Setting) (e : ℕ) (u : FastThreads) (cs : Contexts Context) (h : 
 
     -- the thread that is carried blocks
     faults : (op : Option Op) → Keeps op (stays u.shared.state f micros.Faulted [])
-    faults op package = record {
+    faults op sound = record {
       made = made_with s u (placed u.shared f.thread Blocked) h.made refl;
       code = h.code;
       parts = parts_placed u.def u.processors e u.shared f.thread Blocked h.parts;
@@ -177,7 +177,7 @@ module _ (s : Setting) (e : ℕ) (u : FastThreads) (cs : Contexts Context) (h : 
     module _ (k : ℕ) (copy : copy_at f.pc ≡ Some k) where
       -- the effect of a push
       pushes_so : (t : ThreadNo) → slice_get package_ops f.pc ≡ Some Push → f.pushed ≡ Some t → Keeps (Some Push) (pushed u.shared.state f true (list_in f) (Some t))
-      pushes_so t op pushes package =
+      pushes_so t op pushes sound =
           let m = pushed u.shared.state f true (list_in f) (Some t) in
           let g : Frame = m.frame in
           let next : slice_get package_ops g.pc ≡ Some Free = next-push f.pc op in
@@ -190,7 +190,7 @@ module _ (s : Setting) (e : ℕ) (u : FastThreads) (cs : Contexts Context) (h : 
             made = made_with s u x h.made refl;
             code = h.code;
             parts = parts_placed u.def u.processors e (record u.shared { state = m.state }) f.pushed Ready
-                (parts_state u.def u.processors e (list_in f).0 u.shared m.state h.parts package (pushed-changes_only u.shared.state f true (list_in f) (Some t)));
+                (parts_state u.def u.processors e (list_in f).0 u.shared m.state h.parts sound (pushed-changes_only u.shared.state f true (list_in f) (Some t)));
             locks = λ y. omega (arith, section_locks new g copied.0 refl copied.1 y, locks_are k copy y);
             threads = λ y.
                 let all = count-with_list u.shared.state.lists (list_in f).0 y (t.0 ∷ list_of u.shared.state.lists (list_in f).0) (inside k copy) in
@@ -209,7 +209,7 @@ module _ (s : Setting) (e : ℕ) (u : FastThreads) (cs : Contexts Context) (h : 
 
       -- the effect of a pop
       pops_so : (t : ℕ) → slice_get package_ops f.pc ≡ Some Pop → chosen u.shared.state.lists f.own (list_in f).0 ≡ Some t → Keeps (Some Pop) (popped u.shared.state f true (list_in f) (Some t))
-      pops_so t op takes package =
+      pops_so t op takes sound =
           let m = popped u.shared.state f true (list_in f) (Some t) in
           let g : Frame = m.frame in
           let next : slice_get package_ops g.pc ≡ Some Free = next-pop f.pc op in
@@ -223,7 +223,7 @@ module _ (s : Setting) (e : ℕ) (u : FastThreads) (cs : Contexts Context) (h : 
             made = made_with s u x h.made refl;
             code = h.code;
             parts = parts_placed u.def u.processors e (record u.shared { state = m.state }) g.thread Running
-                (parts_state u.def u.processors e (list_in f).0 u.shared m.state h.parts package (popped-changes_only u.shared.state f true (list_in f) (Some t)));
+                (parts_state u.def u.processors e (list_in f).0 u.shared m.state h.parts sound (popped-changes_only u.shared.state f true (list_in f) (Some t)));
             locks = λ y. omega (arith, section_locks new g copied.0 refl copied.1 y, locks_are k copy y);
             threads = λ y.
                 let all = count-with_list u.shared.state.lists (list_in f).0 y left (inside k copy) in
@@ -242,7 +242,7 @@ module _ (s : Setting) (e : ℕ) (u : FastThreads) (cs : Contexts Context) (h : 
 
       -- the free
       frees_so : slice_get package_ops f.pc ≡ Some Free → Keeps (Some Free) (freed u.shared.state f (list_in f))
-      frees_so op package =
+      frees_so op sound =
           let m = freed u.shared.state f (list_in f) in
           let g : Frame = m.frame in
           let v = with_package u m.state in
@@ -252,7 +252,7 @@ module _ (s : Setting) (e : ℕ) (u : FastThreads) (cs : Contexts Context) (h : 
           let done : (state : State) → IsBetween state f.thread → IsChange s e u v (Some c) (at_state c state) = λ state between. record {
             made = made_with s u (record u.shared { state = m.state }) h.made refl;
             code = h.code;
-            parts = parts_state u.def u.processors e (list_in f).0 u.shared m.state h.parts package (freed-changes_only u.shared.state f (list_in f));
+            parts = parts_state u.def u.processors e (list_in f).0 u.shared m.state h.parts sound (freed-changes_only u.shared.state f (list_in f));
             locks = λ y. omega (arith, between_locks (at_state c state) f.thread between.section between.carries y, locks_are k copy y, lock_freed u.shared.state.lists (list_in f).0 within held y);
             threads = λ y.
                 let none : one_of f.pushed y ≡ 0 = ap (λ p. one_of p y) own.1 in
@@ -275,9 +275,9 @@ module _ (s : Setting) (e : ℕ) (u : FastThreads) (cs : Contexts Context) (h : 
 
     -- a copy gives control back
     yields_so : slice_get package_ops f.pc ≡ Some Yield → f.pushed ≡ None → Keeps (Some Yield) (stays u.shared.state f micros.Yielded (Back u.shared.state.space f.thread ∷ []))
-    yields_so op none package =
+    yields_so op none sound =
         let p = put_last u c f.thread in
-        let step = due-step (placed u.shared f.thread Carried) c.work f.thread h.parts.works (own_work s e u cs h a c is) (yield_can op none).carries in
+        let step = due-step u.shared c.work f.thread h.parts.works (own_work s e u cs h a c is) (yield_can op none).carries in
         let between = yields_between f op none in
         let no : section_in c.state ≡ None = ap section_in at ∙ between.section in
         let carries : carried_by c.state ≡ f.thread = ap carried_by at in
@@ -296,14 +296,14 @@ module _ (s : Setting) (e : ℕ) (u : FastThreads) (cs : Contexts Context) (h : 
         }
 
     not_at : (op : Op) → (StandsAt f (Some op) → ⊥) → slice_get u.shared.state.code f.pc ≡ Some op → ⊥
-    not_at op no is_op = no (subst (StandsAt f) (sym op_is ∙ is_op) stands)
+    not_at op never is_op = never (subst (StandsAt f) (sym op_is ∙ is_op) stands)
 
     section_of : (op : Op) → is_section_op (Some op) ≡ true → slice_get u.shared.state.code f.pc ≡ Some op → (k : ℕ) × (copy_at f.pc ≡ Some k)
     section_of op section is_op = has_copy f.pc (ap is_section_op (sym op_is ∙ is_op) ∙ section)
 
     outcome : Keeps (slice_get u.shared.state.code f.pc) (micro u.shared.state f seen.pages)
     outcome = micro-outcome (Keeps (slice_get u.shared.state.code f.pc)) u.shared.state f seen.pages code_can.does (record {
-      spun = λ list held package. stays_so;
+      spun = λ list held sound. stays_so;
       took_to_push = λ op list push free. absurd (not_at TakePush (λ x. x) op);
       took_to_pop = λ op list free. absurd (not_at TakePop (λ x. x) op);
       faulted = λ change absent. faults (slice_get u.shared.state.code f.pc);

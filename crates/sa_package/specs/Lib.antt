@@ -14,4 +14,6 @@ pub mod Views
 pub mod Holding
 pub mod Parts
 pub mod CodeRule
+pub mod WorkRule
+pub mod TakeRule
 pub mod Keeping
