@@ -13,4 +13,6 @@ pub mod Changing
 pub mod Views
 pub mod Holding
 pub mod Parts
+pub mod SettleRule
+pub mod UseRule
 pub mod Keeping
