@@ -15,7 +15,7 @@ use Rattle.sa_instr.specs.declared.instr.Reg.{Reg}
 use Rattle.sa_instr.specs.Instr.{JumpsBelow, NamesDeclared}
 use Rattle.sa_instr.specs.Local.{instr_at, place_after, regs_after}
 use Rattle.sa_instr.specs.Program.{IsProgram}
-use Rattle.sa_instr.specs.Regs.{reg_value, with_reg}
+use Rattle.sa_instr.specs.Regs.{reg_value}
 use Rattle.sa_instr.specs.Space.{SpaceView, IsSpace}
 use Rattle.sa_links.specs.Lists.{count_in, count_in_all}
 use Rattle.sa_abstract.specs.Walk.{program_at}
@@ -35,7 +35,7 @@ use Rattle.sa_fast.specs.declared.instruction.Ran.TheVariants.{Goes, Leaves, Blo
 use Rattle.sa_fast.specs.declared.instruction.TheConstants.{NOT_MADE}
 use Rattle.sa_fast.specs.Threads.{at_start, unmade, block_at, with_block, moved_to, gone_to}
 use Rattle.sa_fast.specs.Work.{Work, with_name, added, added_all, IsWork, IsUnlisted}
-use Rattle.sa_fast.specs.Instruction.{outcome, outcome_of, with_thread, with_sync, with_works, next_of, value_in, told_by, synced, forked, joins, blocks, touched, ended, instr_of, run, IsAt}
+use Rattle.sa_fast.specs.Instruction.{outcome, outcome_of, with_thread, with_sync, with_works, next_of, value_in, went, told_by, synced, forked, joins, blocks, touched, ended, instr_of, run, IsAt}
 use Rattle.sa_fast.specs.Rest.{one_if, one_of, done_at, unmade_at, threads_at_rest, FitsSpace, ArePartsFor}
 use Rattle.sa_fast.proofs.Moves.{WorkStep, RunStep, stays_with}
 use Rattle.sa_fast.proofs.WorkSteps.{one_same, still-step, added-step, added_all-step}
@@ -54,6 +54,17 @@ next_inside p pc is inside more = elim (cases_lt (pc + 1) (length p)) [
 test_below : (b : Bool) (m k n : ℕ) → m < n → k < n → cond b m k < n
 test_below true m k n left right = left
 test_below false m k n left right = right
+
+-- an instruction that stays within its thread leads to a place of the program, and others stay at theirs
+pub place_inside : (p : List Instr) (pc : ℕ) (regs : List ℕ) (i : Instr) → IsProgram p → pc < length p → i ≡ instr_at p pc → place_after i pc regs < length p
+place_inside p pc regs Compute is inside at = next_inside p pc is inside (λ e. let no = at ∙ e in cc)
+place_inside p pc regs (Set reg n) is inside at = next_inside p pc is inside (λ e. let no = at ∙ e in cc)
+place_inside p pc regs (Add reg other) is inside at = next_inside p pc is inside (λ e. let no = at ∙ e in cc)
+place_inside p pc regs (Sub reg other) is inside at = next_inside p pc is inside (λ e. let no = at ∙ e in cc)
+place_inside p pc regs (Jnz reg place) is inside at =
+    let jumps : JumpsBelow (length p) (Jnz reg place) = subst (JumpsBelow (length p)) (sym at) (All-get_or (JumpsBelow (length p)) p pc End inside is.jumps) in
+    test_below (eqb (reg_value regs reg) 0) (pc + 1) place (length p) (next_inside p pc is inside (λ e. let no = at ∙ e in cc)) jumps.1.0
+place_inside p pc regs i is inside at = inside
 
 -- NUMBERS OF THREADS
 made_below : (r : ReadyView) (t : ℕ) → unmade_at r t ≡ 0 → t < r.made
@@ -232,15 +243,20 @@ module _ (def : SpaceView) (processors event : ℕ) (x : Shared) (w : Option Thr
       (added_all-step x.works w ts parts.works work (λ u some. waits_below u (omega (arith, waits u, some))) apart)
       (λ u. omega (arith, waits u, ends u))
 
+  program_is : (b : Block) → IsAt def b → IsProgram (program_at def.programs b.program)
+  program_is b at = All-get_or IsProgram def.programs b.program [] at.program space.programs
+
   -- where the thread stands
   next : (b : Block) (i : Instr) → IsAt def b → i ≡ instr_of def b → i ≢ End → IsAt def (next_of b)
   next b i at is more = record {
     program = at.program;
-    place = next_inside (program_at def.programs b.program) b.pc (All-get_or IsProgram def.programs b.program [] at.program space.programs) at.place (λ ends. more (is ∙ ends));
+    place = next_inside (program_at def.programs b.program) b.pc (program_is b at) at.place (λ ends. more (is ∙ ends));
   }
 
-  went-step : (b : Block) (pc : ℕ) (regs : List ℕ) → IsAt def b → pc < length (program_at def.programs b.program) → RunStep def processors event x w t (outcome (with_thread x t (gone_to b pc regs)) w Goes)
-  went-step b pc regs at place = goes-step (gone_to b pc regs) (record { program = at.program; place = place })
+  went-step : (b : Block) (i : Instr) → IsAt def b → i ≡ instr_of def b → RunStep def processors event x w t (went x w t b i)
+  went-step b i at is =
+      goes-step (gone_to b (place_after i b.pc b.regs) (regs_after i b.regs))
+      (record { program = at.program; place = place_inside (program_at def.programs b.program) b.pc b.regs i (program_is b at) at.place is })
 
   named : (b : Block) (i : Instr) → IsAt def b → i ≡ instr_of def b → NamesDeclared def.mutexes (length def.sems) def.cells (length def.programs) i
   named b i at is =
@@ -248,21 +264,13 @@ module _ (def : SpaceView) (processors event : ℕ) (x : Shared) (w : Option Thr
       (All-get_or (NamesDeclared def.mutexes (length def.sems) def.cells (length def.programs)) (program_at def.programs b.program) b.pc End at.place
       (All-get_or (All (NamesDeclared def.mutexes (length def.sems) def.cells (length def.programs))) def.programs b.program [] at.program space.names))
 
-  jumps : (b : Block) (i : Instr) → IsAt def b → i ≡ instr_of def b → JumpsBelow (length (program_at def.programs b.program)) i
-  jumps b i at is =
-      subst (JumpsBelow (length (program_at def.programs b.program))) (sym is)
-      (All-get_or (JumpsBelow (length (program_at def.programs b.program))) (program_at def.programs b.program) b.pc End at.place
-      (All-get_or IsProgram def.programs b.program [] at.program space.programs).jumps)
-
   instr-step : (fetch pages : ℕ) (b : Block) (i : Instr) → IsAt def b → i ≡ instr_of def b → RunStep def processors event x w t (outcome_of fetch pages x w t b i)
-  instr-step fetch pages b Compute at is = went-step b (b.pc + 1) b.regs at (next b Compute at is (λ e. cc)).place
-  instr-step fetch pages b (Set reg n) at is = went-step b (b.pc + 1) (regs_after (Set reg n) b.regs) at (next b (Set reg n) at is (λ e. cc)).place
-  instr-step fetch pages b (Add reg other) at is = went-step b (b.pc + 1) (regs_after (Add reg other) b.regs) at (next b (Add reg other) at is (λ e. cc)).place
-  instr-step fetch pages b (Sub reg other) at is = went-step b (b.pc + 1) (regs_after (Sub reg other) b.regs) at (next b (Sub reg other) at is (λ e. cc)).place
-  instr-step fetch pages b (Jnz reg place) at is =
-      went-step b (place_after (Jnz reg place) b.pc b.regs) b.regs at
-      (test_below (eqb (reg_value b.regs reg) 0) (b.pc + 1) place (length (program_at def.programs b.program)) (next b (Jnz reg place) at is (λ e. cc)).place (jumps b (Jnz reg place) at is).1.0)
-  instr-step fetch pages b (Load reg cell) at is = went-step b (b.pc + 1) (with_reg b.regs reg (cell_at x.sync cell)) at (next b (Load reg cell) at is (λ e. cc)).place
+  instr-step fetch pages b Compute at is = went-step b Compute at is
+  instr-step fetch pages b (Set reg n) at is = went-step b (Set reg n) at is
+  instr-step fetch pages b (Add reg other) at is = went-step b (Add reg other) at is
+  instr-step fetch pages b (Sub reg other) at is = went-step b (Sub reg other) at is
+  instr-step fetch pages b (Jnz reg place) at is = went-step b (Jnz reg place) at is
+  instr-step fetch pages b (Load reg cell) at is = let n = next b (Load reg cell) at is (λ e. cc) in goes-step (value_in b reg (cell_at x.sync cell)) (record { program = n.program; place = n.place })
   instr-step fetch pages b (Store reg cell) at is = stored-step (next_of b) cell (reg_value b.regs reg) (next b (Store reg cell) at is (λ e. cc))
   instr-step fetch pages b (Out reg) at is = goes-step (next_of b) (next b (Out reg) at is (λ e. cc))
   instr-step fetch pages b (Fork reg program) at is =
@@ -280,12 +288,12 @@ module _ (def : SpaceView) (processors event : ℕ) (x : Shared) (w : Option Thr
   instr-step fetch pages b (Touch page) at is = touched-step b fetch page (is_resident pages page) at (next b (Touch page) at is (λ e. cc))
   instr-step fetch pages b End at is = ended-step b at
 
--- t is in its context's hand, so neither at rest nor in a work list; threads at rest are in none
+-- t is in its context's hand, so not at rest; threads at rest are in no work list
 pub run-step : (def : SpaceView) (processors event fetch pages : ℕ) (x : Shared) (w : Option ThreadNo) (t : ThreadNo) → IsSpace def → ArePartsFor def processors event x
-    → IsWork x.works w → threads_at_rest x t.0 ≡ 0 → IsUnlisted x.works t.0
+    → IsWork x.works w → threads_at_rest x t.0 ≡ 0
     → ((u : ℕ) → 1 ≤ threads_at_rest x u → IsUnlisted x.works u) → ((u : ℕ) → threads_at_rest x u ≤ 1)
     → RunStep def processors event x w t (run def fetch pages x w t)
-run-step def processors event fetch pages x w t space parts work hand unlisted rest once =
+run-step def processors event fetch pages x w t space parts work hand rest once =
     let b : Block = block_at x.threads t.0 in
     let at : IsAt def b = parts.at t.0 (made_below x.state.lists t.0 (omega (arith, hand))) in
     instr-step def processors event x w t space parts work hand rest once fetch pages b (instr_of def b) at refl

@@ -16,4 +16,8 @@ pub mod Parts
 pub mod CodeRule
 pub mod WorkRule
 pub mod TakeRule
+pub mod SettleRule
+pub mod UseRule
+pub mod Able
+pub mod StepRule
 pub mod Keeping
