@@ -28,10 +28,10 @@ module _ (s : Setting) (e : ℕ) (u : FastThreads) (cs : Contexts Context) (h : 
   -- a step
   module _ (f : ℕ) (later : e < f) (within : f ≤ MAX_EVENTS) where
     thread_runs : (t : Option ThreadNo) → section_in c.state ≡ None → carried_by c.state ≡ t → IfSome t (λ n. CanRun u.def u.shared c.work n)
-    thread_runs None no carries = tt
-    thread_runs (Some n) no carries = own_runs s e u cs h a c is f later within n (λ x.
+    thread_runs None outside carries = tt
+    thread_runs (Some n) outside carries = own_runs s e u cs h a c is f later within n (λ x.
         let alone : one_of (thread_alone (section_in c.state) (carried_by c.state)) x ≡ one_if n.0 x =
-            ap (λ o. one_of (thread_alone o (carried_by c.state)) x) no ∙ ap (λ o. one_of o x) carries in
+            ap (λ o. one_of (thread_alone o (carried_by c.state)) x) outside ∙ ap (λ o. one_of o x) carries in
         omega arith)
 
     acts : (state : State) → c.state ≡ state → CanAct u c state

@@ -41,7 +41,7 @@ open_filled false n e = ltb-true 0 n e
 module _ (s : Setting) (e : ℕ) (u : FastThreads) (cs : Contexts Context) (h : IsStanding s e u cs) (a : ℕ) (c : Context) (is : cs a ≡ Some c) where
   -- before the rules: the context settles again, or stays
   stays : (state : State) → c.state ≡ state → (section_in state ≡ None) → IsChange s e u u (Some c) c
-  stays state at no = still s e u cs h a c is (carried_by state) (ap section_in at ∙ no) (ap carried_by at)
+  stays state at outside = still s e u cs h a c is (carried_by state) (ap section_in at ∙ outside) (ap carried_by at)
 
   owed_change : (seen : Seen) (t : Option ThreadNo) → c.state ≡ Hint t → (more : Option ℕ) → IsChange s e u u (Some c) (if_owed u seen c t more)
   owed_change seen t at (Some n) = stays (Hint t) at refl
@@ -74,7 +74,7 @@ module _ (s : Setting) (e : ℕ) (u : FastThreads) (cs : Contexts Context) (h : 
     proc_inside = let lists = h.parts.lists in let processors = h.made.processors in omega arith
 
     unchanged : (state : State) → c.state ≡ state → section_in state ≡ None → IsStanding s seen.event u (put cs a (Some c))
-    unchanged state at no = then_later seen.event u c (omega arith) (stays state at no)
+    unchanged state at outside = then_later seen.event u c (omega arith) (stays state at outside)
 
     work_stands : (t : Option ThreadNo) → c.state ≡ Work t → (first : Option Frame) → slice_get c.sections 0 ≡ first → (w : Option ThreadNo) → c.work ≡ w → Stands (worked u seen c first w)
     work_stands t at (Some f) sections w work =
