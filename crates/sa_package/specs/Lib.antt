@@ -15,4 +15,6 @@ pub mod Holding
 pub mod Parts
 pub mod SettleRule
 pub mod UseRule
+pub mod GoRule
+pub mod BeginRule
 pub mod Keeping

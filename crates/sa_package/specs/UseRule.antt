@@ -30,6 +30,10 @@ use Rattle.sa_package.specs.Views.{IsBetween, settled_between, between_locks, be
 use Rattle.sa_package.specs.Holding.{rest_unlisted, rest_once, own_rest, own_unlisted, own_work}
 use Rattle.sa_package.specs.Parts.{parts_later, made_with}
 
+-- the thread of a context that stands at an instruction is in its hand
+pub user_has : (works : List (List ℕ)) (c : Context) (t : ThreadNo) → c.state ≡ User t → 1 ≤ threads_of works (Some c) t.0
+user_has works c t at = omega (arith, between_threads c (Some t) (ap section_in at) (ap carried_by at) works t.0, one_same t.0 t.0 refl)
+
 module _ (s : Setting) (e : ℕ) (u : FastThreads) (cs : Contexts Context) (h : IsStanding s e u cs) (a : ℕ) (c : Context) (is : cs a ≡ Some c) (t : ThreadNo) (at : c.state ≡ User t) where
   outside : section_in c.state ≡ None
   outside = ap section_in at
@@ -37,14 +41,10 @@ module _ (s : Setting) (e : ℕ) (u : FastThreads) (cs : Contexts Context) (h : 
   carries : carried_by c.state ≡ Some t
   carries = ap carried_by at
 
-  -- the thread is in the context's hand
-  mine : 1 ≤ threads_of u.shared.works (Some c) t.0
-  mine = omega (arith, between_threads c (Some t) outside carries u.shared.works t.0, one_same t.0 t.0 refl)
-
   ran : (fetch pages : ℕ) → RunStep u.def u.processors e u.shared c.work t (run u.def fetch pages u.shared c.work t)
   ran fetch pages =
       run-step u.def u.processors e fetch pages u.shared c.work t (subst IsSpace (sym h.made.def) h.made.setting.def) h.parts
-      (own_work s e u cs h a c is) (own_rest s e u cs h a c is t.0 mine) (rest_unlisted s e u cs h) (rest_once s e u cs h)
+      (own_work s e u cs h a c is) (own_rest s e u cs h a c is t.0 (user_has u.shared.works c t at)) (rest_unlisted s e u cs h) (rest_once s e u cs h)
 
   -- behind the instruction the context has what the instruction left it, and carries the thread or none
   outcome-change : (f : ℕ) (o : Outcome) (state : State) (n : Option ThreadNo) → e < f → RunStep u.def u.processors e u.shared c.work t o → IsBetween state n
