@@ -66,16 +66,23 @@ opening_waits : (def : SpaceView) (t : ℕ) → waits_of (opening def) t ≡ 0
 opening_waits def t = all_none MAX_THREADS where
   mutexes : List (List ℕ)
   mutexes = map (λ (m : Mutex). m.queue) (replicate def.mutexes free_mutex)
+
   semaphores : List (List ℕ)
   semaphores = map (λ (k : Semaphore). k.queue) (map semaphore_of def.sems)
+
   no_mutex : count_in_all t mutexes ≡ 0
   no_mutex = ap (count_in_all t) (map-replicate (λ (m : Mutex). m.queue) def.mutexes free_mutex) ∙ empties def.mutexes t
+
   all_none : (n : ℕ) → count_in_all t (replicate n [] ++ mutexes ++ semaphores) ≡ 0
   all_none n =
       let none : List ℕ = [] in
       omega (
-        arith, sum_by-append (count_in t) (replicate n none ++ mutexes) semaphores, sum_by-append (count_in t) (replicate n none) mutexes,
-        empties n t, no_mutex, no_waits t def.sems
+        arith,
+        sum_by-append (count_in t) (replicate n none ++ mutexes) semaphores,
+        sum_by-append (count_in t) (replicate n none) mutexes,
+        empties n t,
+        no_mutex,
+        no_waits t def.sems,
       )
 
 all_false : (n i : ℕ) → get_or (replicate n false) i false ≡ false
@@ -97,8 +104,11 @@ opened_count processors t some =
     let lists : List (List ℕ) = replicate processors none in
     let first : one_if 0 t + unmade_at (opened processors) t ≡ 1 = grind (arith, nat_tests) in
     omega (
-      arith, first, empties processors t, count_one t 0 (list_at lists 0),
-      count_set t lists 0 (0 ∷ list_at lists 0) (omega (arith, some, length-replicate processors none))
+      arith,
+      first,
+      empties processors t,
+      count_one t 0 (list_at lists 0),
+      count_set t lists 0 (0 ∷ list_at lists 0) (omega (arith, some, length-replicate processors none)),
     )
 
 opened_ready : (s : Setting) → IsSetting s → IsReady (opened s.processors)

@@ -66,7 +66,12 @@ module _ (s : Setting) (e : ℕ) (u : FastThreads) (cs : Contexts Context) (h : 
         made = record { setting = h.made.setting; space = h.made.space; def = h.made.def; processors = h.made.processors; fetch = h.made.fetch };
         code = h.code;
         parts = record {
-          state = parts.state; lists = parts.lists; threads = parts.threads; sync = parts.sync; works = parts.works; counts = parts.counts;
+          state = parts.state;
+          lists = parts.lists;
+          threads = parts.threads;
+          sync = parts.sync;
+          works = parts.works;
+          counts = parts.counts;
           blocks = length-set u.shared.threads t.0 b ∙ parts.blocks;
           at = λ n made. holds-set (IsAt u.def) u.shared.threads t.0 n b unmade (omega (arith, below, parts.blocks)) (λ same. there) (λ other. parts.at n made);
         };

@@ -52,8 +52,8 @@ module _ (s : Setting) (e : ℕ) (u : FastThreads) (cs : Contexts Context) (h : 
   outcome-change f o state n later step new stays =
       let d : Context = at_state (record c { work = o.work }) state in
       let sections : AreSections o.shared.state.lists c.sections =
-          sections_kept u.shared.state.lists o.shared.state.lists c.sections (λ l some. ap (λ ls. list_at ls l) step.lists)
-          (between_rest c (Some t) outside carries u.shared.state.lists (h.contexts a c is)) in
+      sections_kept u.shared.state.lists o.shared.state.lists c.sections (λ l some. ap (λ ls. list_at ls l) step.lists)
+      (between_rest c (Some t) outside carries u.shared.state.lists (h.contexts a c is)) in
       record {
         made = made_with s u o.shared h.made step.space;
         code = step.code ∙ h.code;
@@ -62,8 +62,12 @@ module _ (s : Setting) (e : ℕ) (u : FastThreads) (cs : Contexts Context) (h : 
             let free : free_locks o.shared.state.lists l ≡ free_locks u.shared.state.lists l = ap (λ bs. cond (get_or bs l false) 0 1) step.locked in
             omega (arith, free, between_locks d n new.section new.carries l, between_locks c (Some t) outside carries l);
         threads = λ x. omega (
-          arith, step.threads x, step.works.threads x, stays x, between_threads d n new.section new.carries o.shared.works x,
-          between_threads c (Some t) outside carries u.shared.works x
+          arith,
+          step.threads x,
+          step.works.threads x,
+          stays x,
+          between_threads d n new.section new.carries o.shared.works x,
+          between_threads c (Some t) outside carries u.shared.works x,
         );
         names = λ l. step.works.names l;
         works = λ l none some. step.works.others l none some;
@@ -83,7 +87,7 @@ module _ (s : Setting) (e : ℕ) (u : FastThreads) (cs : Contexts Context) (h : 
 
   used_by-change : (f : ℕ) (seen : Seen) (o : Outcome) (answer : Ran) (says : List Record) → e < f → RunStep u.def u.processors e u.shared c.work t o → o.answer ≡ answer
       → IsChange s f u (used_by (with_shared u o.shared) seen (record c { work = o.work }) t answer says).user (Some c)
-        (used_by (with_shared u o.shared) seen (record c { work = o.work }) t answer says).ctx
+      (used_by (with_shared u o.shared) seen (record c { work = o.work }) t answer says).ctx
   used_by-change f seen o rans.Goes says later step answer = goes-change f seen o o.work later step answer
   used_by-change f seen o rans.Leaves says later step answer =
       let v : FastThreads = with_shared u o.shared in
