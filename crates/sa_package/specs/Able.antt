@@ -8,7 +8,7 @@ use Rattle.sa_base.specs.declared.record.Note.{Note}
 use Rattle.sa_base.specs.declared.record.Note.TheVariants.{Add, Preempted, Blocked, Unblocked}
 use Rattle.sa_abstract.specs.Setting.{Setting}
 use Rattle.sa_abstract.specs.Calls.{Contexts}
-use Rattle.sa_abstract.specs.Keeps.{IsSeen, IsHandedOver, IsHanded}
+use Rattle.sa_abstract.specs.Keeps.{IsSeen, IsHandedOver, IsHanded, GoesOn}
 use Rattle.sa_fast.specs.Instruction.{CanRun}
 use Rattle.sa_fast.specs.Rest.{one_if, one_of}
 use Rattle.sa_package.specs.declared.context.Context.{Context}
@@ -16,13 +16,17 @@ use Rattle.sa_package.specs.declared.context.State.{State}
 use Rattle.sa_package.specs.declared.context.State.TheVariants.{Code, Work, Hint, Return, User, Look}
 use Rattle.sa_package.specs.declared.package.FastThreads.{FastThreads}
 use Rattle.sa_package.specs.Context.{carried_by, section_in}
-use Rattle.sa_package.specs.Conditions.{CanWork, CanAct, CanStep, CanTakeOver, CanBeTold}
+use Rattle.sa_package.specs.Conditions.{IsThread, CanGo, CanGoAt, CanAct, CanStep, CanTakeOver, CanBeTold}
 use Rattle.sa_package.specs.Rules.{thread_alone}
 use Rattle.sa_package.specs.Stands.{IsState, IsStanding}
-use Rattle.sa_package.specs.Holding.{own_work, own_runs}
+use Rattle.sa_package.specs.Holding.{own_work, own_runs, own_thread, own_made, own_below}
+use Rattle.sa_package.specs.Hands.{threads_of}
+use Rattle.sa_package.specs.Step.{local_at}
+use Rattle.sa_package.specs.Views.{between_threads}
+use Rattle.sa_fast.proofs.WorkSteps.{one_same}
 use Rattle.sa_package.specs.CodeRule.{code_can}
 use Rattle.sa_package.specs.WorkRule.{work_can}
-use Rattle.sa_package.specs.TakeRule.{take_over_can}
+use Rattle.sa_package.specs.TakeRule.{carried_less, take_over_can}
 
 module _ (s : Setting) (e : ℕ) (u : FastThreads) (cs : Contexts Context) (h : IsStanding s e u cs) (a : ℕ) (c : Context) (is : cs a ≡ Some c) where
   -- a step
@@ -50,6 +54,25 @@ module _ (s : Setting) (e : ℕ) (u : FastThreads) (cs : Contexts Context) (h : 
       work = own_work s e u cs h a c is;
       acts = acts c.state refl;
     }
+
+  -- where it stands, and a run of local instructions
+  pub seat_can : IsThread (carried_by c.state)
+  seat_can = thread_there c.state refl where
+    thread_there : (state : State) → c.state ≡ state → IsThread (carried_by state)
+    thread_there state at = subst (λ x. IsThread (carried_by x)) at (own_thread s e u cs h a c is (carried_by c.state) (λ x. let less = carried_less c.state c.sections x in omega arith))
+
+  pub go_can : (n : ℕ) → GoesOn s n (local_at u c.state) → CanGo u c
+  go_can n local = go_at c.state refl local where
+    go_at : (state : State) → c.state ≡ state → GoesOn s n (local_at u state) → CanGoAt u c.state
+    go_at (Code g) at local = absurd local
+    go_at (Work t) at local = absurd local
+    go_at (Hint t) at local = absurd local
+    go_at Return at local = absurd local
+    go_at (User t) at local =
+        let mine : 1 ≤ threads_of u.shared.works (Some c) t.0 =
+            (let all = between_threads c (Some t) (ap section_in at) (ap carried_by at) u.shared.works t.0 in let one = one_same t.0 t.0 refl in omega arith) in
+        subst (CanGoAt u) (sym at) (own_below s e u cs h a c is t.0 mine, h.parts.at t.0 (own_made s e u cs h a c is t.0 mine))
+    go_at (Look looks) at local = absurd local
 
   -- a notice
   handed_can : (b : ℕ) (held : Option (Stopped Context)) → IsHandedOver cs a b held → IfSome held (λ x. CanTakeOver u c x.ctx)

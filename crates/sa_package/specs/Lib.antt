@@ -20,4 +20,6 @@ pub mod SettleRule
 pub mod UseRule
 pub mod Able
 pub mod StepRule
+pub mod GoRule
+pub mod BeginRule
 pub mod Keeping

@@ -62,7 +62,7 @@ carried_at : (f : Frame) (fs : List Frame) (x : ℕ) (k : Option ℕ) → one_of
 carried_at f fs x None = omega arith
 carried_at f fs x (Some k) = omega arith
 
-carried_less : (state : State) (fs : List Frame) (x : ℕ) → one_of (carried_by state) x ≤ threads_in (before_all (section_in state) fs) x + one_of (thread_alone (section_in state) (carried_by state)) x
+pub carried_less : (state : State) (fs : List Frame) (x : ℕ) → one_of (carried_by state) x ≤ threads_in (before_all (section_in state) fs) x + one_of (thread_alone (section_in state) (carried_by state)) x
 carried_less (Code f) fs x = carried_at f fs x (copy_at f.pc)
 carried_less (Work t) fs x = omega arith
 carried_less (Hint t) fs x = omega arith

@@ -30,6 +30,10 @@ use Rattle.sa_package.specs.Views.{IsBetween, settled_between, between_locks, be
 use Rattle.sa_package.specs.Holding.{rest_unlisted, rest_once, own_rest, own_unlisted, own_work}
 use Rattle.sa_package.specs.Parts.{parts_later, made_with}
 
+-- the thread of a context that stands at an instruction is in its hand
+pub user_has : (works : List (List ℕ)) (c : Context) (t : ThreadNo) → c.state ≡ User t → 1 ≤ threads_of works (Some c) t.0
+user_has works c t at = omega (arith, between_threads c (Some t) (ap section_in at) (ap carried_by at) works t.0, one_same t.0 t.0 refl)
+
 module _ (s : Setting) (e : ℕ) (u : FastThreads) (cs : Contexts Context) (h : IsStanding s e u cs) (a : ℕ) (c : Context) (is : cs a ≡ Some c) (t : ThreadNo) (at : c.state ≡ User t) where
   outside : section_in c.state ≡ None
   outside = ap section_in at
@@ -37,14 +41,10 @@ module _ (s : Setting) (e : ℕ) (u : FastThreads) (cs : Contexts Context) (h : 
   carries : carried_by c.state ≡ Some t
   carries = ap carried_by at
 
-  -- the thread is in the context's hand
-  mine : 1 ≤ threads_of u.shared.works (Some c) t.0
-  mine = omega (arith, between_threads c (Some t) outside carries u.shared.works t.0, one_same t.0 t.0 refl)
-
   ran : (fetch pages : ℕ) → RunStep u.def u.processors e u.shared c.work t (run u.def fetch pages u.shared c.work t)
   ran fetch pages =
       run-step u.def u.processors e fetch pages u.shared c.work t (subst IsSpace (sym h.made.def) h.made.setting.def) h.parts
-      (own_work s e u cs h a c is) (own_rest s e u cs h a c is t.0 mine) (rest_unlisted s e u cs h) (rest_once s e u cs h)
+      (own_work s e u cs h a c is) (own_rest s e u cs h a c is t.0 (user_has u.shared.works c t at)) (rest_unlisted s e u cs h) (rest_once s e u cs h)
 
   -- behind the instruction the context has what the instruction left it, and carries the thread or none
   outcome-change : (f : ℕ) (o : Outcome) (state : State) (n : Option ThreadNo) → e < f → RunStep u.def u.processors e u.shared c.work t o → IsBetween state n
@@ -52,8 +52,8 @@ module _ (s : Setting) (e : ℕ) (u : FastThreads) (cs : Contexts Context) (h : 
   outcome-change f o state n later step new stays =
       let d : Context = at_state (record c { work = o.work }) state in
       let sections : AreSections o.shared.state.lists c.sections =
-          sections_kept u.shared.state.lists o.shared.state.lists c.sections (λ l some. ap (λ ls. list_at ls l) step.lists)
-          (between_rest c (Some t) outside carries u.shared.state.lists (h.contexts a c is)) in
+      sections_kept u.shared.state.lists o.shared.state.lists c.sections (λ l some. ap (λ ls. list_at ls l) step.lists)
+      (between_rest c (Some t) outside carries u.shared.state.lists (h.contexts a c is)) in
       record {
         made = made_with s u o.shared h.made step.space;
         code = step.code ∙ h.code;
@@ -62,8 +62,12 @@ module _ (s : Setting) (e : ℕ) (u : FastThreads) (cs : Contexts Context) (h : 
             let free : free_locks o.shared.state.lists l ≡ free_locks u.shared.state.lists l = ap (λ bs. cond (get_or bs l false) 0 1) step.locked in
             omega (arith, free, between_locks d n new.section new.carries l, between_locks c (Some t) outside carries l);
         threads = λ x. omega (
-          arith, step.threads x, step.works.threads x, stays x, between_threads d n new.section new.carries o.shared.works x,
-          between_threads c (Some t) outside carries u.shared.works x
+          arith,
+          step.threads x,
+          step.works.threads x,
+          stays x,
+          between_threads d n new.section new.carries o.shared.works x,
+          between_threads c (Some t) outside carries u.shared.works x,
         );
         names = λ l. step.works.names l;
         works = λ l none some. step.works.others l none some;
@@ -83,7 +87,7 @@ module _ (s : Setting) (e : ℕ) (u : FastThreads) (cs : Contexts Context) (h : 
 
   used_by-change : (f : ℕ) (seen : Seen) (o : Outcome) (answer : Ran) (says : List Record) → e < f → RunStep u.def u.processors e u.shared c.work t o → o.answer ≡ answer
       → IsChange s f u (used_by (with_shared u o.shared) seen (record c { work = o.work }) t answer says).user (Some c)
-        (used_by (with_shared u o.shared) seen (record c { work = o.work }) t answer says).ctx
+      (used_by (with_shared u o.shared) seen (record c { work = o.work }) t answer says).ctx
   used_by-change f seen o rans.Goes says later step answer = goes-change f seen o o.work later step answer
   used_by-change f seen o rans.Leaves says later step answer =
       let v : FastThreads = with_shared u o.shared in
