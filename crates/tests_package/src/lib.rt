@@ -3,3 +3,5 @@
 
 #[cfg(test)]
 mod hints;
+#[cfg(test)]
+mod story;
