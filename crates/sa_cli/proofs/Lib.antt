@@ -1,7 +1,5 @@
 mod Told
-mod WordLemmas
-mod StraightRuns
-mod StraightWorkloads
 mod Refusals
-mod Outcomes
-mod StraightTexts
+mod Inputs
+mod Results
+mod Completeness

@@ -1,21 +1,21 @@
--- Why an input is refused.
+-- Why an input is refused that is too long.
 use Rattle.std.proofs.Common.{◌≡◌, ℕ, ◌+◌, ◌<◌, List, length, take, Option, Some, None, sym, ap, ◌∙◌, arith, inl, length-append}
-use Rattle.std.specs.Prelude.{IfSome, count_by, ◌==◌}
+use Rattle.std.specs.Prelude.{count_by, ◌==◌}
 use Rattle.std.proofs.lemmas.List.{take-append-le}
 use Rattle.std.specs.Io.KnownBytes.{Consumes}
 use Rattle.sa_base.specs.Cause.{bad_at}
 use Rattle.sa_base.specs.declared.refusal.Cause.TheVariants.{TooMany}
 use Rattle.sa_base.specs.declared.refusal.Bad.{Bad}
 use Rattle.sa_cli.specs.declared.input.TheConstants.{INPUT_LIMIT}
-use Rattle.sa_cli.specs.Outcome.{IsInputRefused, too_long}
+use Rattle.sa_cli.specs.Refusals.{Badness, IsRefused, too_long}
 
 -- what was read of an input that is too long shows the line
-pub long-refused : (before after : Option (List ℕ)) (bytes : List ℕ) (bad : Bad) → Consumes before after bytes
-    → INPUT_LIMIT < length bytes → bad ≡ too_long bytes → IfSome before (λ input. IsInputRefused input bad)
+pub long-refused : (is_bad : Badness) (before after : Option (List ℕ)) (bytes : List ℕ) (bad : Bad) → Consumes before after bytes
+    → INPUT_LIMIT < length bytes → bad ≡ too_long bytes → IsRefused is_bad before bad
 unfolding too_long
-long-refused None after bytes bad taken long is = tt
-long-refused (Some xs) None bytes bad taken long is = absurd taken
-long-refused (Some xs) (Some ys) bytes bad taken long is =
+long-refused is_bad None after bytes bad taken long is = tt
+long-refused is_bad (Some xs) None bytes bad taken long is = absurd taken
+long-refused is_bad (Some xs) (Some ys) bytes bad taken long is =
     let front : take INPUT_LIMIT xs ≡ take INPUT_LIMIT bytes =
     ap (take INPUT_LIMIT) taken ∙ take-append-le INPUT_LIMIT bytes ys (omega (arith, long)) in
     inl (

@@ -2,6 +2,7 @@
 use Rattle.std.specs.Prelude.{◌≡◌, ℕ, ◌+◌, ◌≤◌, List, length, Option, IsSome, IfSome}
 use Rattle.std.specs.Io.KnownBytes.{Consumes, IsAtEnd}
 use Rattle.sa_instr.specs.Workload.{WorkloadView}
+use Rattle.sa_workload.specs.Text.{IsText1, text_of}
 use Rattle.sa_cli.specs.declared.input.TheConstants.{INPUT_LIMIT}
 
 -- The bytes were taken from the source: all that it had, or one more than the limit. A source that does not
@@ -27,3 +28,9 @@ pub record GaveText (is_text : Texts) (before after : Option (List ℕ)) (w : Wo
   pub taken : Consumes before after text
   pub end : IsSome before → IsAtEnd after
   pub input : IfSome before (λ input. input ≡ text)
+
+-- The source gave exactly the text of a workload, of version 1, and these bytes are its text with this slice.
+pub record GaveSliced (slice : ℕ) (before after : Option (List ℕ)) (bytes : List ℕ) : Type 0 where
+  pub workload : WorkloadView
+  pub gave : GaveText IsText1 before after workload
+  pub sliced : bytes ≡ text_of (record workload { slice = slice })

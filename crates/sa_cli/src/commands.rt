@@ -1,14 +1,21 @@
 // The commands.
-use crate::input::{INPUT_LIMIT, read_input};
+ghost use Rattle.std.specs.Prelude.{◌≡◌, ℕ, ◌≤◌, List, Option, IfOk};
+ghost use Rattle.sa_sched.specs.Kind.{order_of, AreAmong};
+ghost use Rattle.sa_cli.specs.Input.{LosesPrefix};
+ghost use Rattle.sa_cli.specs.Outcome.{history, WritesNothing};
+ghost use Rattle.sa_cli.specs.Schedules.{order_by};
+ghost use Rattle.sa_cli.specs.Answers.{World, world};
+ghost use Rattle.sa_cli.specs.Commands.{AnswersRun, AnswersLoad, MigrateAnswers};
+
 use crate::outcome::{Outcome, Status};
-use crate::output::write_text;
-use sa_base::{Bad, Cause, Unread};
-use sa_instr::Workload;
+use crate::reading::{migrated_text, read_workload};
+use crate::writing::{write_last_line, write_trace, written};
+use sa_base::MAX_EVENTS;
+use sa_instr::{MAX_SLICE, Workload};
 use sa_io::{Sink, Source};
 use sa_package::FastThreads;
-use sa_run::{Ended, run};
+use sa_run::run;
 use sa_sched::Kind;
-use sa_trace::{last_line, print};
 use sa_words::ScheduleWord;
 use std::alloc::{AllocError, Global};
 
@@ -19,7 +26,19 @@ pub(crate) fn run_text<S: Source, K: Sink>(
     budget: u64,
     source: &mut S,
     sink: &mut K,
-) -> Outcome {
+) -> Outcome
+    requires some { 1 ≤ budget }
+    requires few { budget ≤ MAX_EVENTS }
+    ensures unwritten { WritesNothing result.status → sink.new ≡ sink.old }
+    ensures lost { LosesPrefix (S.left source.old) (S.left source.new) }
+    ensures reads_counted { S.faults source.old ≤ S.faults source.new }
+    ensures writes_counted { K.faults sink.old ≤ K.faults sink.new }
+    ensures answers { let before : World
+            = world (S.left source.old) (K.taken sink.old) (S.faults source.old) (K.faults sink.old) in
+        let after : World
+            = world (S.left source.new) (K.taken sink.new) (S.faults source.new) (K.faults sink.new) in
+        AnswersRun schedule budget before after (history result.ran) result.status }
+{
     let workload = match read_workload(alloc, source) {
         Ok(workload) => workload,
         Err(status) => return Outcome::nothing(status),
@@ -34,7 +53,20 @@ pub(crate) fn run_text<S: Source, K: Sink>(
 }
 
 /// `load`: the workload of the number by round robin, within the budget; writes the last line of the trace text alone.
-pub(crate) fn run_generated<K: Sink>(alloc: Global, number: u64, budget: u64, sink: &mut K) -> Outcome {
+pub(crate) fn run_generated<K: Sink>(
+    alloc: Global,
+    number: u64,
+    budget: u64,
+    sink: &mut K,
+) -> Outcome
+    requires some { 1 ≤ budget }
+    requires few { budget ≤ MAX_EVENTS }
+    ensures unwritten { WritesNothing result.status → sink.new ≡ sink.old }
+    ensures writes_counted { K.faults sink.old ≤ K.faults sink.new }
+    ensures answers { (left : Option (List ℕ)) (reads : ℕ) →
+        AnswersLoad number budget (world left (K.taken sink.old) reads (K.faults sink.old))
+        (world left (K.taken sink.new) reads (K.faults sink.new)) (history result.ran) result.status }
+{
     let Ok(workload) = sa_gen::workload(alloc, number) else {
         return Outcome::nothing(Status::OutOfMemory);
     };
@@ -50,79 +82,33 @@ pub(crate) fn migrate<S: Source, K: Sink>(
     slice: u32,
     source: &mut S,
     sink: &mut K,
-) -> Status {
+) -> Status
+    requires { slice ≤ MAX_SLICE }
+    ensures unwritten { WritesNothing result → sink.new ≡ sink.old }
+    ensures lost { LosesPrefix (S.left source.old) (S.left source.new) }
+    ensures reads_counted { S.faults source.old ≤ S.faults source.new }
+    ensures writes_counted { K.faults sink.old ≤ K.faults sink.new }
+    ensures answers { let before : World
+            = world (S.left source.old) (K.taken sink.old) (S.faults source.old) (K.faults sink.old) in
+        let after : World
+            = world (S.left source.new) (K.taken sink.new) (S.faults source.new) (K.faults sink.new) in
+        MigrateAnswers slice before after result }
+{
     match migrated_text(alloc, slice, source) {
         Ok(text) => written(sink, &text, Status::Migrated),
         Err(status) => status,
     }
 }
 
-// The text of the source's workload with this slice.
-fn migrated_text<S: Source>(alloc: Global, slice: u32, source: &mut S) -> Result<Vec<u8>, Status> {
-    let input = read_within_limit(alloc, source)?;
-    let workload = sa_workload::read_one(alloc, &input)?;
-    let sliced = workload.with_slice(slice).unwrap();
-    let text = sa_workload::print(alloc, &sliced)?;
-    Ok(text)
-}
-
-// The workload of the source.
-fn read_workload<S: Source>(alloc: Global, source: &mut S) -> Result<Workload, Status> {
-    let input = read_within_limit(alloc, source)?;
-    let workload = sa_workload::read(alloc, &input)?;
-    Ok(workload)
-}
-
-// The whole input, where it is not too long.
-fn read_within_limit<S: Source>(alloc: Global, source: &mut S) -> Result<Vec<u8>, Status> {
-    let input = read_input(alloc, source)?;
-    if input.len() > INPUT_LIMIT {
-        return Err(Status::BadWorkload(refusal_of_long(&input)));
-    }
-    Ok(input)
-}
-
-// What an input is refused with that is longer than the limit.
-fn refusal_of_long(input: &[u8]) -> Bad {
-    let before = input[..INPUT_LIMIT]
-        .iter()
-        .filter(|byte| **byte == b'\n')
-        .count();
-    Bad::new(before as u64 + 1, Cause::TooMany)
-}
-
 // The order of turns of the word, for this workload.
-fn kind_of(alloc: Global, word: ScheduleWord, workload: &Workload) -> Result<Kind, AllocError> {
+fn kind_of(alloc: Global, word: ScheduleWord, workload: &Workload) -> Result<Kind, AllocError>
+    ensures order { IfOk result (λ kind. order_of kind ≡ order_by word workload.now) }
+    ensures among { IfOk result (λ kind. AreAmong workload.now.processors (order_of kind)) }
+{
     match word {
         ScheduleWord::RoundRobin => Ok(Kind::RoundRobin),
         ScheduleWord::Seed(seed) => Ok(Kind::Seed(seed)),
         ScheduleWord::Given => Ok(Kind::Given(Vec::from_slice(alloc, workload.turns())?)),
         ScheduleWord::Hold(proc, from) => Ok(Kind::Hold { proc, from }),
-    }
-}
-
-// Writes the text of a run that ended.
-fn write_trace<K: Sink>(alloc: Global, ended: Ended, sink: &mut K) -> Outcome {
-    let status = match print(alloc, &ended.trace, ended.end, ended.events) {
-        Ok(text) => written(sink, &text, Status::from(ended.end)),
-        Err(_) => Status::OutOfMemory,
-    };
-    Outcome::plain(status, ended.trace)
-}
-
-// Writes the last line of the text of a run that ended.
-fn write_last_line<K: Sink>(alloc: Global, ended: Ended, sink: &mut K) -> Outcome {
-    let status = match last_line(alloc, &ended.trace, ended.end, ended.events) {
-        Ok(line) => written(sink, &line, Status::from(ended.end)),
-        Err(_) => Status::OutOfMemory,
-    };
-    Outcome::plain(status, ended.trace)
-}
-
-// Writes the text. Where all was written the answer is this status.
-fn written<K: Sink>(sink: &mut K, text: &[u8], status: Status) -> Status {
-    match write_text(sink, text) {
-        Ok(()) => status,
-        Err(_) => Status::WriteFault,
     }
 }

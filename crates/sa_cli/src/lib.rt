@@ -5,7 +5,9 @@ mod commands;
 mod input;
 mod outcome;
 mod output;
+mod reading;
 mod top;
+mod writing;
 
 pub use outcome::{Outcome, Ran, Status};
 pub use sa_words::Words;

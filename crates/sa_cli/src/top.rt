@@ -1,6 +1,15 @@
+ghost use Rattle.std.specs.Prelude.{◌≡◌, ◌↔◌, ◌≤◌, None};
+ghost use Rattle.sa_words.specs.Commands.{command_of};
+ghost use Rattle.sa_cli.specs.Input.{LosesPrefix};
+ghost use Rattle.sa_cli.specs.Outcome.{history, WritesNothing};
+ghost use Rattle.sa_cli.specs.Answers.{World, world};
+ghost use Rattle.sa_cli.specs.Commands.{AnswersTo};
+ghost use Rattle.sa_cli.specs.Complete.{IsCompleteTo};
+
 use crate::commands::{migrate, run_generated, run_text};
 use crate::outcome::{Outcome, Status};
 use sa_io::{Sink, Source};
+use sa_words::laws::commands_are_in_range;
 use sa_words::{Command, Words, read_words};
 use std::alloc::Global;
 
@@ -11,7 +20,32 @@ pub fn run_one<S: Source, K: Sink>(
     words: &Words,
     source: &mut S,
     sink: &mut K,
-) -> Outcome {
+) -> Outcome
+    ensures usage { (result.status ≡ Status.Usage) ↔ (command_of words.now ≡ None) }
+    ensures untouched { result.status ≡ Status.Usage
+        → (source.new ≡ source.old) × (sink.new ≡ sink.old) }
+    ensures unwritten { WritesNothing result.status → sink.new ≡ sink.old }
+
+    // Whatever the answer, the source lost some bytes at its front or none, and no count fell.
+    ensures lost { LosesPrefix (S.left source.old) (S.left source.new) }
+    ensures reads_counted { S.faults source.old ≤ S.faults source.new }
+    ensures writes_counted { K.faults sink.old ≤ K.faults sink.new }
+
+    // Each answer comes only for its cause, and says what ran and what was written.
+    ensures answers { let before : World
+            = world (S.left source.old) (K.taken sink.old) (S.faults source.old) (K.faults sink.old) in
+        let after : World
+            = world (S.left source.new) (K.taken sink.new) (S.faults source.new) (K.faults sink.new) in
+        AnswersTo (command_of words.now) before after (history result.ran) result.status }
+
+    // Where nothing fails and the input is told, the command is done, or the input refused.
+    ensures complete { let before : World
+            = world (S.left source.old) (K.taken sink.old) (S.faults source.old) (K.faults sink.old) in
+        let after : World
+            = world (S.left source.new) (K.taken sink.new) (S.faults source.new) (K.faults sink.new) in
+        IsCompleteTo (command_of words.now) before after result.status }
+{
+    commands_are_in_range();
     match read_words(words) {
         None => Outcome::nothing(Status::Usage),
         Some(Command::Run { schedule, budget }) => run_text(alloc, schedule, budget, source, sink),

@@ -1,6 +1,6 @@
 //! A whole run: a machine of any user level, turned by a schedule until it ends.
 #![tactic(auto)]
 
-mod run;
+mod turns;
 
-pub use run::{Ended, run};
+pub use turns::{Ended, run};

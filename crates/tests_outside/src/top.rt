@@ -125,7 +125,7 @@ fn other_inputs_are_refused(rt: HostRuntime) -> Result<(), Fail> {
     let long = long_workload(alloc)?;
     assert_eq!(rt; long.len(), 1_048_577);
     let behind = format!(in alloc; "{}close\n", workload(alloc, 10, 1)?)?;
-    let cases: [(&[u8], Status); 8] = [
+    let cases: [(&[u8], Status); 7] = [
         (b"", bad(1, 9)),
         (b"workload 2\n", bad(2, 9)),
         (b"workload 1\nprocessors 04\n", bad(2, 3)),
@@ -133,10 +133,6 @@ fn other_inputs_are_refused(rt: HostRuntime) -> Result<(), Fail> {
         (&feeds, bad(1_048_577, 8)),
         (long.as_bytes(), bad(LONG_LINE, 8)),
         (behind.as_bytes(), bad(9, 2)),
-        (
-            b"workload 1\nprocessors 1\nfetch 10\nspaces 1\nspace 0 0 0 0 1\nprogram 2\nio 5\nend\nclose\n",
-            bad(1, 10),
-        ),
     ];
     for (input, status) in cases {
         let (outcome, sink) = answer(
@@ -159,7 +155,7 @@ fn words_and_faults_decide(rt: HostRuntime) -> Result<(), Fail> {
     let alloc = rt.alloc();
     let input = workload(alloc, 10, 4096)?;
     let whole = trace(alloc, 4096)?;
-    let cases: [(&[&str], &[u64], &[u64], Status, usize); 15] = [
+    let cases: [(&[&str], &[u64], &[u64], Status, usize); 18] = [
         (&[], &[], &[], Status::Usage, 0),
         (&["run", "x"], &[], &[], Status::Usage, 0),
         (&["run", "--help"], &[], &[], Status::Usage, 0),
@@ -168,6 +164,9 @@ fn words_and_faults_decide(rt: HostRuntime) -> Result<(), Fail> {
         (&["run", "--budget", "05"], &[], &[], Status::Usage, 0),
         (&["run", "--budget", "1000001"], &[], &[], Status::Usage, 0),
         (&["run", "--budget=5"], &[], &[], Status::Usage, 0),
+        (&["load"], &[1], &[1], Status::Usage, 0),
+        (&["load", "5", "--schedule", "rr"], &[], &[], Status::Usage, 0),
+        (&["run", "--schedule", "seed:07"], &[], &[], Status::Usage, 0),
         (
             &["run", "--budget", "5", "--budget", "5"],
             &[],
@@ -234,6 +233,24 @@ fn a_budget_ends_the_run(rt: HostRuntime) -> Result<(), Fail> {
 }
 
 #[test]
+fn a_number_makes_a_workload(rt: HostRuntime) -> Result<(), Fail> {
+    let last = "end alldone 55 25 1 4 1 1 1 0 0 3 7 7 3 4 1 3 1 2 0 0 0 5 0 0\n";
+    let (outcome, sink) = smallest(rt.alloc(), &["load", "0"])?;
+    assert_eq!(rt; outcome.status, Status::AllDone);
+    assert_eq!(rt; sink.taken(), last.as_bytes());
+    Ok(())
+}
+
+#[test]
+fn a_workload_gets_a_slice(rt: HostRuntime) -> Result<(), Fail> {
+    let text = "workload 2\nprocessors 1\nfetch 10\nslice 6\nspaces 1\nspace 0 0 0 0 1\nprogram 1\nend\nclose\n";
+    let (outcome, sink) = smallest(rt.alloc(), &["migrate", "6"])?;
+    assert_eq!(rt; outcome.status, Status::Migrated);
+    assert_eq!(rt; sink.taken(), text.as_bytes());
+    Ok(())
+}
+
+#[test]
 fn each_status_has_its_code(rt: HostRuntime) {
     let statuses = [
         (Status::AllDone, 0),
@@ -244,6 +261,7 @@ fn each_status_has_its_code(rt: HostRuntime) {
         (Status::ReadFault, 5),
         (Status::WriteFault, 6),
         (Status::OutOfMemory, 7),
+        (Status::Migrated, 0),
     ];
     for (status, code) in statuses {
         assert_eq!(rt; status.code(), code);

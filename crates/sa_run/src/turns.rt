@@ -1,5 +1,9 @@
+ghost use Rattle.std.specs.Prelude.{◌≡◌, ◌⊎◌, ◌≤◌, [], IfOk, IfErr};
+ghost use Rattle.sa_sched.specs.Kind.{order_of, AreAmong};
+ghost use Rattle.sa_run.specs.Run.{RunsTo, RunsSoFar};
+
 use sa_abstract::UserLevel;
-use sa_base::{End, Trace};
+use sa_base::{End, MAX_EVENTS, Trace};
 use sa_core::Core;
 use sa_instr::Workload;
 use sa_sched::{Kind, Schedule};
@@ -21,7 +25,15 @@ pub fn run<U: UserLevel>(
     workload: Workload,
     kind: Kind,
     budget: u64,
-) -> Result<Ended, Trace> {
+) -> Result<Ended, Trace>
+    requires some { 1 ≤ budget }
+    requires few { budget ≤ MAX_EVENTS }
+    requires among { AreAmong workload.processors (order_of kind) }
+    ensures ok { IfOk result (λ ended. RunsTo U.calls workload (order_of kind) budget
+        ended.trace.items ended.end ended.events) }
+    ensures err { IfErr result (λ trace. (trace.items ≡ [])
+        ⊎ RunsSoFar U.calls workload (order_of kind) budget trace.items) }
+{
     let mut schedule = Schedule::new(kind, workload.processors());
     let Ok(mut core) = Core::<U>::start(alloc, workload, budget) else {
         return Err(Trace::new(alloc));

@@ -1,0 +1,66 @@
+-- An input is the text of a workload, or refused in one way.
+use Rattle.std.proofs.Common.{◌≡◌, ℕ, ◌≤◌, List, length, Option, Some, sym, ap, ◌∙◌, subst, arith, inl, inr}
+use Rattle.std.specs.Prelude.{IfSome}
+use Rattle.sa_base.specs.declared.refusal.Bad.{Bad}
+use Rattle.sa_instr.specs.Workload.{WorkloadView}
+use Rattle.sa_text.specs.LineText.{line_texts}
+use Rattle.sa_workload.specs.Text.{IsText, IsText1}
+use Rattle.sa_workload.specs.Bad.{AnyVersion, Version1, BadAt, BadAt1}
+use Rattle.sa_workload.proofs.OneBad.{one-bad, text-not_bad}
+use Rattle.sa_cli.specs.declared.input.TheConstants.{INPUT_LIMIT}
+use Rattle.sa_cli.specs.Input.{Texts, GaveText}
+use Rattle.sa_cli.specs.Refusals.{Badness, IsInputRefused, IsRefused}
+
+-- texts and what is bad are apart, and bytes are bad in one way
+pub record AreParted (is_text : Texts) (is_bad : Badness) : Type 0 where
+  pub once : (input : List ℕ) (k j why cause : ℕ) → is_bad input k why → is_bad input j cause → (k ≡ j) × (why ≡ cause)
+  pub apart : (input : List ℕ) (w : WorkloadView) (k why : ℕ) → is_text input w → is_bad input k why → ⊥
+
+pub all-parted : AreParted IsText BadAt
+all-parted = record {
+  once = λ input k j why cause a b. one-bad AnyVersion 3 (line_texts input) k j why cause a b;
+  apart = λ input w k why is bad. text-not_bad AnyVersion 3 input w k why is.workload is.workload is.text bad;
+}
+
+pub first-parted : AreParted IsText1 BadAt1
+first-parted = record {
+  once = λ input k j why cause a b. one-bad Version1 1 (line_texts input) k j why cause a b;
+  apart = λ input w k why is bad.
+      text-not_bad Version1 1 input w k why (is.text.workload, is.version) is.text.workload is.text.text bad;
+}
+
+same_bad : (a b : Bad) → a.line ≡ b.line → a.why ≡ b.why → a ≡ b
+same_bad a b line why = λ i. record { line = line i; why = why i }
+
+module _ (is_text : Texts) (is_bad : Badness) (parted : AreParted is_text is_bad) where
+  pub refused-once : (input : List ℕ) (a b : Bad) → IsInputRefused is_bad input a → IsInputRefused is_bad input b → a ≡ b
+  refused-once input a b (inl long) (inl more) = long.1 ∙ sym more.1
+  refused-once input a b (inl long) (inr wrong) = absurd (omega (arith, long.0, wrong.0))
+  refused-once input a b (inr wrong) (inl long) = absurd (omega (arith, long.0, wrong.0))
+  refused-once input a b (inr wrong) (inr bad) =
+      let one = parted.once input a.line b.line a.why b.why wrong.1 bad.1 in same_bad a b one.0 one.1
+
+  pub text-not_refused : (input : List ℕ) (w : WorkloadView) (bad : Bad) → is_text input w → length input ≤ INPUT_LIMIT
+      → IsInputRefused is_bad input bad → ⊥
+  text-not_refused input w bad is short (inl long) = absurd (omega (arith, long.0, short))
+  text-not_refused input w bad is short (inr wrong) = parted.apart input w bad.line bad.why is wrong.1
+
+  -- the same of what a source told
+  pub told-not_refused : (left : Option (List ℕ)) (input : List ℕ) (w : WorkloadView) (bad : Bad) → left ≡ Some input
+      → is_text input w → length input ≤ INPUT_LIMIT → IsRefused is_bad left bad → ⊥
+  told-not_refused left input w bad told is short refused =
+      let P : Option (List ℕ) → Type 0 = λ o. IsRefused is_bad o bad in text-not_refused input w bad is short (subst P told refused)
+
+  pub told-refused_once : (left : Option (List ℕ)) (input : List ℕ) (a b : Bad) → left ≡ Some input
+      → IsRefused is_bad left a → IsInputRefused is_bad input b → a ≡ b
+  told-refused_once left input a b told refused is =
+      let P : Option (List ℕ) → Type 0 = λ o. IsRefused is_bad o a in refused-once input a b (subst P told refused) is
+
+  -- a source that gave the text of a workload is not refused
+  pub gave-not_refused : (before after : Option (List ℕ)) (w : WorkloadView) (input : List ℕ) (bad : Bad) → before ≡ Some input
+      → GaveText is_text before after w → IsInputRefused is_bad input bad → ⊥
+  gave-not_refused before after w input bad told gave refused =
+      let HoldsInput : Option (List ℕ) → Type 0 = λ o. IfSome o (λ (v : List ℕ). v ≡ gave.text) in
+      let same : input ≡ gave.text = subst HoldsInput told gave.input in
+      let P : List ℕ → Type 0 = λ v. IsInputRefused is_bad v bad in
+      text-not_refused gave.text w bad gave.is gave.short (subst P same refused)

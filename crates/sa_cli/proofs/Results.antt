@@ -1,0 +1,121 @@
+-- What the parts of a command say together.
+use Rattle.std.proofs.Common.{◌≡◌, ◌⊎◌, ℕ, List, [], Option, Some, None, refl, sym, subst, ◌∙◌, inl, inr}
+use Rattle.std.specs.Prelude.{◌↔◌}
+use Rattle.sa_base.specs.Recorded.{Recorded}
+use Rattle.sa_base.specs.declared.record.Item.{Item}
+use Rattle.sa_base.specs.declared.record.End.{End}
+use Rattle.sa_base.specs.declared.record.End.TheVariants as end
+use Rattle.sa_instr.specs.Workload.{WorkloadView}
+use Rattle.sa_workload.specs.Text.{IsText}
+use Rattle.sa_workload.specs.Bad.{BadAt, BadAt1}
+use Rattle.sa_package.specs.Step.{fast_calls}
+use Rattle.sa_run.specs.Run.{RunsTo}
+use Rattle.sa_run.proofs.SoFar.{so-far}
+use Rattle.sa_words.specs.declared.command.ScheduleWord.{ScheduleWord}
+use Rattle.sa_words.specs.declared.command.Command.{Command}
+use Rattle.sa_words.specs.declared.command.Command.TheVariants.{Run, Load, Migrate}
+use Rattle.sa_cli.specs.declared.outcome.Status.{Status}
+use Rattle.sa_cli.specs.declared.outcome.Status.TheVariants.{AllDone, Usage, BadWorkload, Stuck, Budget, ReadFault, WriteFault, OutOfMemory, Migrated}
+use Rattle.sa_cli.specs.declared.outcome.Ran.{Ran}
+use Rattle.sa_cli.specs.declared.outcome.Ran.TheVariants.{Plain}
+use Rattle.sa_cli.specs.Outcome.{status_of_end, history}
+use Rattle.sa_cli.specs.Input.{GaveText, GaveSliced}
+use Rattle.sa_cli.specs.Refusals.{NothingRead}
+use Rattle.sa_cli.specs.Answers.{World, Plan, Ended, RunAnswers, TookAll, TookSome, Writes, WritesOrStops}
+use Rattle.sa_cli.specs.Commands.{run_plan, AnswersRun, MigrateAnswers, Migrates, Answers, AnswersTo}
+
+-- where nothing was read, nothing ran
+pub nothing-run : (schedule : ScheduleWord) (budget : ℕ) (old new : World) (status : Status)
+    → NothingRead BadAt old.left old.reads new.reads status → AnswersRun schedule budget old new [] status
+nothing-run schedule budget old new (BadWorkload bad) cause = (cause, refl)
+nothing-run schedule budget old new ReadFault cause = (cause, refl)
+nothing-run schedule budget old new OutOfMemory cause = inl refl
+nothing-run schedule budget old new AllDone cause = absurd cause
+nothing-run schedule budget old new Usage cause = absurd cause
+nothing-run schedule budget old new Stuck cause = absurd cause
+nothing-run schedule budget old new Budget cause = absurd cause
+nothing-run schedule budget old new WriteFault cause = absurd cause
+nothing-run schedule budget old new Migrated cause = absurd cause
+
+-- what a run answers, `run` answers
+pub run-answers : (schedule : ScheduleWord) (budget : ℕ) (old new : World) (items : List Item) (status : Status)
+    → RunAnswers (GaveText IsText old.left new.left) (run_plan schedule budget) old new items status
+    → AnswersRun schedule budget old new items status
+run-answers schedule budget old new items AllDone answers = answers
+run-answers schedule budget old new items Stuck answers = answers
+run-answers schedule budget old new items Budget answers = answers
+run-answers schedule budget old new items WriteFault answers = answers
+run-answers schedule budget old new items OutOfMemory answers = answers
+run-answers schedule budget old new items Usage answers = answers
+run-answers schedule budget old new items Migrated answers = answers
+run-answers schedule budget old new items ReadFault answers = absurd answers
+run-answers schedule budget old new items (BadWorkload bad) answers = absurd answers
+
+-- a run that ended was written, or cut, or memory ran out
+module _ (mine : WorkloadView → Type 0) (plan : Plan) (old new : World) where
+  ended-written : (items : List Item) (e : End) → Ended mine plan (TookAll old new) items e
+      → RunAnswers mine plan old new items (status_of_end e)
+  ended-written items end.AllDone ended = ended
+  ended-written items end.Stuck ended = ended
+  ended-written items end.Budget ended = ended
+
+  written-answers : (items : List Item) (w : WorkloadView) (e : End) (events : ℕ) (status : Status) → mine w
+      → RunsTo fast_calls w (plan.order w) plan.budget items e events
+      → WritesOrStops old.taken new.taken old.writes new.writes (plan.shown items e events) (status_of_end e) status
+      → RunAnswers mine plan old new items status
+  written-answers items w e events status is runs (inl none) =
+      subst (λ (v : Status). RunAnswers mine plan old new items v) (sym none)
+      (inr (record { workload = w; is = is; run = so-far fast_calls w (plan.order w) plan.budget items e events runs }))
+  written-answers items w e events status is runs (inr (inl whole)) =
+      subst (λ (v : Status). RunAnswers mine plan old new items v) (sym whole.0)
+      (ended-written items e (record { workload = w; is = is; events = events; run = runs; went = whole.1 }))
+  written-answers items w e events status is runs (inr (inr cut)) =
+      subst (λ (v : Status). RunAnswers mine plan old new items v) (sym cut.0)
+      (cut.1, (e, record { workload = w; is = is; events = events; run = runs; went = cut.2 }))
+
+  -- .. where the machine that ran has this trace
+  pub ended-answers : (ran : Ran) (trace : Recorded) (w : WorkloadView) (e : End) (events : ℕ) (status : Status) → ran ≡ Plain trace → mine w
+      → RunsTo fast_calls w (plan.order w) plan.budget trace.items e events
+      → WritesOrStops old.taken new.taken old.writes new.writes (plan.shown trace.items e events) (status_of_end e) status
+      → RunAnswers mine plan old new (history ran) status
+  ended-answers ran trace w e events status plain is runs writes =
+      subst (λ (r : Ran). RunAnswers mine plan old new (history r) status) (sym plain) (written-answers trace.items w e events status is runs writes)
+
+-- the same of a workload that is written anew
+pub nothing-migrated : (slice : ℕ) (old new : World) (status : Status)
+    → NothingRead BadAt1 old.left old.reads new.reads status → MigrateAnswers slice old new status
+nothing-migrated slice old new (BadWorkload bad) cause = cause
+nothing-migrated slice old new ReadFault cause = cause
+nothing-migrated slice old new OutOfMemory cause = tt
+nothing-migrated slice old new AllDone cause = absurd cause
+nothing-migrated slice old new Usage cause = absurd cause
+nothing-migrated slice old new Stuck cause = absurd cause
+nothing-migrated slice old new Budget cause = absurd cause
+nothing-migrated slice old new WriteFault cause = absurd cause
+nothing-migrated slice old new Migrated cause = absurd cause
+
+pub migrated-answers : (slice : ℕ) (old new : World) (text : List ℕ) (status : Status) → GaveSliced slice old.left new.left text
+    → Writes old.taken new.taken old.writes new.writes text Migrated status → MigrateAnswers slice old new status
+migrated-answers slice old new text status gave (inl whole) =
+    subst (λ (v : Status). MigrateAnswers slice old new v) (sym whole.0) (record { text = text; gave = gave; went = whole.1 })
+migrated-answers slice old new text status gave (inr cut) =
+    subst (λ (v : Status). MigrateAnswers slice old new v) (sym cut.0) (cut.1, record { text = text; gave = gave; went = cut.2 })
+
+-- what a command answers is what the words are answered
+pub answers-to : (o : Option Command) (command : Command) (old new : World) (items : List Item) (status : Status) → o ≡ Some command
+    → Answers command old new items status → AnswersTo o old new items status
+answers-to o command old new items status is answers =
+    subst (λ (v : Option Command). AnswersTo v old new items status) (sym is) answers
+
+-- no command is answered as words that are none
+not-usage : (command : Command) (old new : World) (items : List Item) → Answers command old new items Usage → ⊥
+not-usage (Run schedule budget) old new items answers = answers
+not-usage (Load number budget) old new items answers = answers
+not-usage (Migrate slice) old new items answers = answers.1
+
+pub is-no-usage : (o : Option Command) (command : Command) (old new : World) (items : List Item) (status : Status) → o ≡ Some command
+    → Answers command old new items status → (status ≡ Usage) ↔ (o ≡ None)
+is-no-usage o command old new items status is answers = (
+  λ usage. absurd (not-usage command old new items (subst (λ (v : Status). Answers command old new items v) usage answers)),
+  λ none. let e : Some command ≡ None = sym is ∙ none in cc,
+)

@@ -1,0 +1,22 @@
+use Rattle.std.proofs.Common.{◌≡◌, subst}
+use Rattle.sa_sched.specs.Order.{Order}
+use Rattle.sa_workload.specs.Text.{IsText}
+use Rattle.sa_package.specs.Step.{fast_calls}
+use Rattle.sa_run.specs.Run.{RunsTo}
+use Rattle.sa_cli.specs.Schedules.{order_by}
+use Rattle.sa_cli.specs.Input.{GaveText}
+use Rattle.sa_cli.specs.Answers.{world}
+use Rattle.sa_cli.specs.Commands.{run_plan}
+use Rattle.sa_cli.proofs.Results.{ended-answers, run-answers}
+use Rattle.sa_cli.proofs.commands.run_text.Goals as goal
+
+pub returns-in-Ok-run-clause-answers : goal.returns-in-Ok-run-clause-answers
+returns-in-Ok-run-clause-answers g c =
+    let runs : RunsTo fast_calls c.in-Ok.workload (order_by c.args.schedule c.in-Ok.workload) c.args.budget c.in-Ok-run.ended.trace.items c.in-Ok-run.ended.end c.in-Ok-run.ended.events =
+    subst (λ (o : Order). RunsTo fast_calls c.in-Ok.workload o c.args.budget c.in-Ok-run.ended.trace.items c.in-Ok-run.ended.end c.in-Ok-run.ended.events)
+    c.in-Ok-kind_of.ensures.order c.in-Ok-run.ensures.ok in
+    run-answers c.args.schedule c.args.budget
+    (world (g.S.Source.left c.args.source.now) _ (g.S.Source.faults c.args.source.now) _) (world (g.S.Source.left c.read_workload.new.source) _ (g.S.Source.faults c.read_workload.new.source) _) _ _
+    (ended-answers (GaveText IsText (g.S.Source.left c.args.source.now) (g.S.Source.left c.read_workload.new.source)) (run_plan c.args.schedule c.args.budget)
+    (world (g.S.Source.left c.args.source.now) _ (g.S.Source.faults c.args.source.now) _) (world (g.S.Source.left c.read_workload.new.source) _ (g.S.Source.faults c.read_workload.new.source) _) _
+    c.in-Ok-run.ended.trace c.in-Ok.workload c.in-Ok-run.ended.end c.in-Ok-run.ended.events _ c.write_trace.ensures.ran c.in-Ok.ensures.ok runs c.write_trace.ensures.status)

@@ -1,0 +1,59 @@
+-- What each command answers.
+use Rattle.std.specs.Prelude.{◌≡◌, ⊤, ℕ, List, [], Option, Some, None}
+use Rattle.sa_base.specs.declared.record.Item.{Item}
+use Rattle.sa_io.specs.Faults.{HasRisen}
+use Rattle.sa_sched.specs.Order.{RoundRobin}
+use Rattle.sa_gen.specs.Generated.{generated}
+use Rattle.sa_trace.specs.TraceText.{trace_text, last_line_of}
+use Rattle.sa_workload.specs.Text.{IsText}
+use Rattle.sa_workload.specs.Bad.{BadAt, BadAt1}
+use Rattle.sa_words.specs.declared.command.ScheduleWord.{ScheduleWord}
+use Rattle.sa_words.specs.declared.command.Command.{Command}
+use Rattle.sa_words.specs.declared.command.Command.TheVariants.{Run, Load, Migrate}
+use Rattle.sa_cli.specs.declared.outcome.Status.{Status}
+use Rattle.sa_cli.specs.declared.outcome.Status.TheVariants.{BadWorkload, ReadFault, WriteFault, OutOfMemory, Migrated}
+use Rattle.sa_cli.specs.Input.{GaveText, GaveSliced}
+use Rattle.sa_cli.specs.Refusals.{IsRefused}
+use Rattle.sa_cli.specs.Schedules.{order_by}
+use Rattle.sa_cli.specs.Answers.{World, Plan, RunAnswers, TookAll, TookSome}
+
+-- `run`: the workload is that of which the source gave the text, and the whole trace text is written
+abbrev pub run_plan : ScheduleWord → ℕ → Plan
+run_plan schedule budget = record { order = order_by schedule; budget = budget; shown = trace_text }
+
+abbrev pub AnswersRun : ScheduleWord → ℕ → World → World → List Item → Status → Type 0
+AnswersRun schedule budget old new items ReadFault = HasRisen old.reads new.reads × (items ≡ [])
+AnswersRun schedule budget old new items (BadWorkload bad) = IsRefused BadAt old.left bad × (items ≡ [])
+AnswersRun schedule budget old new items status =
+    RunAnswers (GaveText IsText old.left new.left) (run_plan schedule budget) old new items status
+
+-- `load`: the workload is that of the number, and the last line alone is written; nothing is read
+abbrev pub load_plan : ℕ → Plan
+load_plan budget = record { order = λ w. RoundRobin; budget = budget; shown = last_line_of }
+
+abbrev pub AnswersLoad : ℕ → ℕ → World → World → List Item → Status → Type 0
+AnswersLoad number budget old new items status = RunAnswers (λ w. w ≡ generated number) (load_plan budget) old new items status
+
+-- `migrate`: the text of the source's workload with this slice is written; nothing runs
+pub record Migrates (slice : ℕ) (old new : World) (goes : List ℕ → Type 0) : Type 0 where
+  pub text : List ℕ
+  pub gave : GaveSliced slice old.left new.left text
+  pub went : goes text
+
+abbrev pub MigrateAnswers : ℕ → World → World → Status → Type 0
+MigrateAnswers slice old new ReadFault = HasRisen old.reads new.reads
+MigrateAnswers slice old new (BadWorkload bad) = IsRefused BadAt1 old.left bad
+MigrateAnswers slice old new Migrated = Migrates slice old new (TookAll old new)
+MigrateAnswers slice old new WriteFault = HasRisen old.writes new.writes × Migrates slice old new (TookSome old new)
+MigrateAnswers slice old new OutOfMemory = ⊤
+MigrateAnswers slice old new other = ⊥
+
+abbrev pub Answers : Command → World → World → List Item → Status → Type 0
+Answers (Run schedule budget) old new items status = AnswersRun schedule budget old new items status
+Answers (Load number budget) old new items status = AnswersLoad number budget old new items status
+Answers (Migrate slice) old new items status = (items ≡ []) × MigrateAnswers slice old new status
+
+-- the same, where the words are a command
+abbrev pub AnswersTo : Option Command → World → World → List Item → Status → Type 0
+AnswersTo None old new items status = ⊤
+AnswersTo (Some command) old new items status = Answers command old new items status

@@ -1,0 +1,43 @@
+-- When a command does what it is for: where nothing fails, and the input is told.
+use Rattle.std.specs.Prelude.{◌≡◌, ◌⊎◌, ⊤, ℕ, ◌≤◌, List, length, Option, Some, None}
+use Rattle.sa_base.specs.declared.refusal.Bad.{Bad}
+use Rattle.sa_instr.specs.Workload.{WorkloadView}
+use Rattle.sa_io.specs.Faults.{HasRisen}
+use Rattle.sa_workload.specs.Text.{IsText, IsText1}
+use Rattle.sa_workload.specs.Bad.{BadAt, BadAt1}
+use Rattle.sa_words.specs.declared.command.Command.{Command}
+use Rattle.sa_words.specs.declared.command.Command.TheVariants.{Run, Load, Migrate}
+use Rattle.sa_cli.specs.declared.outcome.Status.{Status}
+use Rattle.sa_cli.specs.declared.outcome.Status.TheVariants.{BadWorkload, OutOfMemory, Migrated}
+use Rattle.sa_cli.specs.declared.input.TheConstants.{INPUT_LIMIT}
+use Rattle.sa_cli.specs.Input.{Texts}
+use Rattle.sa_cli.specs.Refusals.{Badness, IsInputRefused}
+use Rattle.sa_cli.specs.Outcome.{HasEnded}
+use Rattle.sa_cli.specs.Answers.{World}
+
+abbrev pub NoReadFailed : World → World → Type 0
+NoReadFailed old new = ¬ HasRisen old.reads new.reads
+
+abbrev pub NoWriteFailed : World → World → Type 0
+NoWriteFailed old new = ¬ HasRisen old.writes new.writes
+
+-- an accepted input is run or written anew, unless memory runs out
+abbrev pub Takes : Texts → World → World → Status → Type 0 → Type 0
+Takes is_text old new status done =
+    (input : List ℕ) (w : WorkloadView) → old.left ≡ Some input → is_text input w → length input ≤ INPUT_LIMIT
+    → NoReadFailed old new → NoWriteFailed old new → done ⊎ (status ≡ OutOfMemory)
+
+-- any other input is refused, unless memory runs out
+abbrev pub Refuses : Badness → World → World → Status → Type 0
+Refuses is_bad old new status =
+    (input : List ℕ) (bad : Bad) → old.left ≡ Some input → IsInputRefused is_bad input bad
+    → NoReadFailed old new → (status ≡ BadWorkload bad) ⊎ (status ≡ OutOfMemory)
+
+abbrev pub IsComplete : Command → World → World → Status → Type 0
+IsComplete (Run schedule budget) old new status = Takes IsText old new status (HasEnded status) × Refuses BadAt old new status
+IsComplete (Load number budget) old new status = NoWriteFailed old new → HasEnded status ⊎ (status ≡ OutOfMemory)
+IsComplete (Migrate slice) old new status = Takes IsText1 old new status (status ≡ Migrated) × Refuses BadAt1 old new status
+
+abbrev pub IsCompleteTo : Option Command → World → World → Status → Type 0
+IsCompleteTo None old new status = ⊤
+IsCompleteTo (Some command) old new status = IsComplete command old new status
