@@ -15,14 +15,14 @@ use Rattle.sa_code.specs.declared.state.Frame.{Frame}
 use Rattle.sa_code.specs.Micro.{list_in}
 use Rattle.sa_copies.specs.Copies.{package_ops}
 use Rattle.sa_fast.specs.Work.{work_of}
-use Rattle.sa_fast.specs.Rest.{one_of, threads_at_rest, empty_at, ArePartsFor}
+use Rattle.sa_fast.specs.Rest.{one_of, threads_at_rest, empty_at, ArePartsFor, AgreesAt, not_carried}
 use Rattle.sa_fast.proofs.WorkSteps.{one_same}
 use Rattle.sa_package.specs.declared.context.Context.{Context}
 use Rattle.sa_package.specs.declared.package.FastThreads.{FastThreads}
 use Rattle.sa_package.specs.Laws.{IsMadeFor}
 use Rattle.sa_package.specs.Context.{carried_by, section_in}
 use Rattle.sa_package.specs.Rules.{thread_alone}
-use Rattle.sa_package.specs.Hands.{AreInOnePlace, sections_of, locks_in, free_locks, locks_of, threads_in, threads_of, name_of}
+use Rattle.sa_package.specs.Hands.{AreInOnePlace, sections_of, locks_in, free_locks, locks_of, threads_in, threads_of, name_of, carried_of}
 use Rattle.sa_package.specs.Stands.{Fits, IsSection, AreSections, IsContext, IsStanding}
 use Rattle.sa_package.specs.OnePlace.{moves, joins}
 
@@ -70,6 +70,8 @@ pub record IsChange (s : Setting) (event : ℕ) (u v : FastThreads) (old : Optio
   -- the lists of others stay
   pub works : (l : ℕ) → name_of old l ≡ 0 → empty_at u.shared.works l ≡ 0 → list_at v.shared.works l ≡ list_at u.shared.works l
   pub lists : (l : ℕ) → locks_of old l ≡ 0 → free_locks u.shared.state.lists l ≡ 0 → list_of v.shared.state.lists l ≡ list_of u.shared.state.lists l
+  pub places : (t : ℕ) → AgreesAt v.shared t
+  pub carries : (t : ℕ) → not_carried v.shared t + carried_of (Some new) t ≡ not_carried u.shared t + carried_of old t
   pub context : IsContext v.shared.state.lists new
 
 module _ (s : Setting) (e : ℕ) (u : FastThreads) (cs : Contexts Context) (h : IsStanding s e u cs) where
@@ -111,6 +113,10 @@ module _ (s : Setting) (e : ℕ) (u : FastThreads) (cs : Contexts Context) (h : 
         works = moves (empty_at u.shared.works) (empty_at v.shared.works) (λ b. name_of (cs b)) (λ b. name_of (put cs a (Some new) b)) a h.works
             (λ l. ap (λ x. empty_at v.shared.works l + name_of x l) here ∙ k.names l ∙ ap (λ x. empty_at u.shared.works l + name_of x l) (sym is))
             (λ b l ne. ap (λ x. name_of x l) (there b ne));
+        places = k.places;
+        carries = moves (not_carried u.shared) (not_carried v.shared) (λ b. carried_of (cs b)) (λ b. carried_of (put cs a (Some new) b)) a h.carries
+            (λ t. ap (λ x. not_carried v.shared t + carried_of x t) here ∙ k.carries t ∙ ap (λ x. not_carried u.shared t + carried_of x t) (sym is))
+            (λ b t ne. ap (λ x. carried_of x t) (there b ne));
         contexts = λ b c at. elim (cases_eq b a) [
           | inl same ↦
               let one : c ≡ new = same_Some c new (sym at ∙ ap (put cs a (Some new)) same ∙ here) in
@@ -130,7 +136,7 @@ module _ (s : Setting) (e : ℕ) (u : FastThreads) (cs : Contexts Context) (h : 
 
   -- the same value and contexts stand at a later event, where the parts do
   pub later-stands : (f : ℕ) → ArePartsFor u.def u.processors f u.shared → IsStanding s f u cs
-  later-stands f parts = record { made = h.made; code = h.code; parts = parts; locks = h.locks; threads = h.threads; works = h.works; contexts = h.contexts }
+  later-stands f parts = record { made = h.made; code = h.code; parts = parts; locks = h.locks; threads = h.threads; works = h.works; places = h.places; carries = h.carries; contexts = h.contexts }
 
 -- ONE CONTEXT IS TAKEN OVER: what is to be shown of it
 pub record IsJoin (s : Setting) (event : ℕ) (u v : FastThreads) (c d new : Context) : Type 0 where
@@ -143,6 +149,8 @@ pub record IsJoin (s : Setting) (event : ℕ) (u v : FastThreads) (c d new : Con
   pub names : (l : ℕ) → empty_at v.shared.works l + name_of (Some new) l ≡ empty_at u.shared.works l + name_of (Some c) l + name_of (Some d) l
   pub works : (l : ℕ) → name_of (Some c) l ≡ 0 → name_of (Some d) l ≡ 0 → empty_at u.shared.works l ≡ 0 → list_at v.shared.works l ≡ list_at u.shared.works l
   pub lists : v.shared.state.lists ≡ u.shared.state.lists
+  pub places : (t : ℕ) → AgreesAt v.shared t
+  pub carries : (t : ℕ) → not_carried v.shared t + carried_of (Some new) t ≡ not_carried u.shared t + carried_of (Some c) t + carried_of (Some d) t
   pub context : IsContext v.shared.state.lists new
 
 module _ (s : Setting) (e : ℕ) (u : FastThreads) (cs : Contexts Context) (h : IsStanding s e u cs) where
@@ -177,6 +185,12 @@ module _ (s : Setting) (e : ℕ) (u : FastThreads) (cs : Contexts Context) (h : 
                 ∙ ap (λ x. empty_at u.shared.works l + name_of x l + name_of (Some d) l) (sym is_a) ∙ ap (λ x. empty_at u.shared.works l + name_of (cs a) l + name_of x l) (sym is_b))
             (λ l. ap (λ x. name_of x l) at_b)
             (λ x l na nb. ap (λ y. name_of y l) (there x na nb));
+        places = k.places;
+        carries = joins (not_carried u.shared) (not_carried v.shared) (λ x. carried_of (cs x)) (λ x. carried_of (ds x)) a b h.carries ne
+            (λ t. ap (λ x. not_carried v.shared t + carried_of x t) at_a ∙ k.carries t
+                ∙ ap (λ x. not_carried u.shared t + carried_of x t + carried_of (Some d) t) (sym is_a) ∙ ap (λ x. not_carried u.shared t + carried_of (cs a) t + carried_of x t) (sym is_b))
+            (λ t. ap (λ x. carried_of x t) at_b)
+            (λ x t na nb. ap (λ y. carried_of y t) (there x na nb));
         contexts = λ x y at. elim (cases_eq x b) [
           | inl same ↦ absurd (let none : None ≡ Some y = sym at_b ∙ ap ds (sym same) ∙ at in cc)
           | inr nb ↦ elim (cases_eq x a) [
