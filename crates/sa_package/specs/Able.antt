@@ -22,11 +22,11 @@ use Rattle.sa_package.specs.Stands.{IsState, IsStanding}
 use Rattle.sa_package.specs.Holding.{own_work, own_runs, own_thread, own_made, own_below}
 use Rattle.sa_package.specs.Hands.{threads_of}
 use Rattle.sa_package.specs.Step.{local_at}
-use Rattle.sa_package.specs.Views.{between_threads}
+use Rattle.sa_package.specs.Views.{between_threads, carried_less}
 use Rattle.sa_fast.proofs.WorkSteps.{one_same}
 use Rattle.sa_package.specs.CodeRule.{code_can}
 use Rattle.sa_package.specs.WorkRule.{work_can}
-use Rattle.sa_package.specs.TakeRule.{carried_less, take_over_can}
+use Rattle.sa_package.specs.TakeRule.{take_over_can}
 
 module _ (s : Setting) (e : ℕ) (u : FastThreads) (cs : Contexts Context) (h : IsStanding s e u cs) (a : ℕ) (c : Context) (is : cs a ≡ Some c) where
   -- a step

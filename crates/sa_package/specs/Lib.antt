@@ -13,6 +13,7 @@ pub mod Changing
 pub mod Views
 pub mod Holding
 pub mod Parts
+pub mod PlaceFacts
 pub mod CodeRule
 pub mod WorkRule
 pub mod TakeRule

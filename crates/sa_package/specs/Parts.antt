@@ -35,7 +35,7 @@ parts_later def p e f x h later = record {
 }
 
 -- a thread is elsewhere
-length_placed : (blocks : List Block) (t : Option ThreadNo) (place : Place) → length (blocks_placed blocks t place) ≡ length blocks
+pub length_placed : (blocks : List Block) (t : Option ThreadNo) (place : Place) → length (blocks_placed blocks t place) ≡ length blocks
 length_placed blocks None place = refl
 length_placed blocks (Some n) place = length-set blocks n.0 (moved_to (block_at blocks n.0) place)
 

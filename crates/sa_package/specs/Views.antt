@@ -133,3 +133,16 @@ yields_between f op none = record {
   carries = refl;
   is = subst (StandsAt f) (sym op) none;
 }
+
+-- the thread that a context carries is that of its section, or its own
+carried_at : (f : Frame) (fs : List Frame) (x : ℕ) (k : Option ℕ) → one_of f.thread x ≤ threads_in (before_all (at_copy f k) fs) x + one_of (thread_alone (at_copy f k) f.thread) x
+carried_at f fs x None = omega arith
+carried_at f fs x (Some k) = omega arith
+
+pub carried_less : (state : State) (fs : List Frame) (x : ℕ) → one_of (carried_by state) x ≤ threads_in (before_all (section_in state) fs) x + one_of (thread_alone (section_in state) (carried_by state)) x
+carried_less (Code f) fs x = carried_at f fs x (copy_at f.pc)
+carried_less (Work t) fs x = omega arith
+carried_less (Hint t) fs x = omega arith
+carried_less Return fs x = omega arith
+carried_less (User t) fs x = omega arith
+carried_less (Look looks) fs x = omega arith
