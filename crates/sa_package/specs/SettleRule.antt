@@ -3,7 +3,7 @@ use Rattle.std.proofs.Common.{◌≡◌, ℕ, ◌+◌, ◌≤◌, Option, Some, 
 use Rattle.sa_base.specs.declared.number.ThreadNo.{ThreadNo}
 use Rattle.sa_abstract.specs.Setting.{Setting}
 use Rattle.sa_abstract.specs.Calls.{Contexts}
-use Rattle.sa_fast.specs.Rest.{threads_at_rest}
+use Rattle.sa_fast.specs.Rest.{one_of, threads_at_rest, not_carried}
 use Rattle.sa_package.specs.declared.context.Context.{Context}
 use Rattle.sa_package.specs.declared.context.State.{State}
 use Rattle.sa_package.specs.declared.package.FastThreads.{FastThreads}
@@ -27,6 +27,8 @@ module _ (s : Setting) (e f : ℕ) (u : FastThreads) (cs : Contexts Context) (h 
     names = λ l. refl;
     works = λ l none some. refl;
     lists = λ l none held. refl;
+    places = h.places;
+    carries = λ t. refl;
     context = h.contexts a c is;
   }
 
@@ -42,5 +44,7 @@ module _ (s : Setting) (e f : ℕ) (u : FastThreads) (cs : Contexts Context) (h 
     names = λ l. refl;
     works = λ l none some. refl;
     lists = λ l none held. refl;
+    places = h.places;
+    carries = λ x. ap (λ o. not_carried u.shared x + one_of o x) (new.carries ∙ sym carries);
     context = between_context (at_state c state) t new.section new.carries u.shared.state.lists new.is (between_rest c t outside carries u.shared.state.lists (h.contexts a c is));
   }
