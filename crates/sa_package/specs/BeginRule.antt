@@ -44,10 +44,10 @@ use Rattle.sa_package.specs.Rules.{owed, settled}
 use Rattle.sa_package.specs.Step.{opened, started, answered}
 use Rattle.sa_package.specs.Hands.{AreInOnePlace, free_locks}
 use Rattle.sa_package.specs.Stands.{IsStanding}
-use Rattle.sa_package.specs.Changing.{IsChange, change-stands, later-stands}
+use Rattle.sa_package.specs.Changing.{IsChange, still-change, change-stands, later-stands}
 use Rattle.sa_package.specs.Views.{settled_between}
 use Rattle.sa_package.specs.Parts.{parts_later}
-use Rattle.sa_package.specs.SettleRule.{same-change, settled-change}
+use Rattle.sa_package.specs.WorkRule.{settled-change}
 
 -- THE OPENING. Lists of which none has anything
 empty_lists : (n l : ℕ) → list_at (replicate n []) l ≡ []
@@ -258,19 +258,16 @@ begins s e u cs a h none = change-stands s e u cs h e a u None fresh none (recor
 
 -- BEHIND NOTICES AND ANSWERS
 module _ (s : Setting) (e : ℕ) (u : FastThreads) (cs : Contexts Context) (h : IsStanding s e u cs) (a : ℕ) (c : Context) (is : cs a ≡ Some c) (seen : Seen) where
-  settled-here : section_in c.state ≡ None → IsChange s e u u (Some c) (settled u seen c (carried_by c.state))
-  settled-here outside =
-      let t : Option ThreadNo = carried_by c.state in
-      settled-change s e e u cs h (omega arith) a c t (settled_to t (is_left c) (is_some (owed u seen)) (has_bulk seen)) is outside refl
-      (settled_between t (is_left c) (is_some (owed u seen)) (has_bulk seen))
+  settles : section_in c.state ≡ None → IsChange s e u u (Some c) (settled u seen c (carried_by c.state))
+  settles outside = settled-change s e u cs h a c is (carried_by c.state) outside refl seen
 
   answered-by : (state : State) → c.state ≡ state → IsChange s e u u (Some c) (cond (stands_between state) (settled u seen c (carried_by c.state)) c)
-  answered-by (Code f) at = same-change s e e u cs h (omega arith) a c is
-  answered-by (Work t) at = settled-here (ap section_in at)
-  answered-by (Hint t) at = settled-here (ap section_in at)
-  answered-by Return at = settled-here (ap section_in at)
-  answered-by (User t) at = settled-here (ap section_in at)
-  answered-by (Look looks) at = same-change s e e u cs h (omega arith) a c is
+  answered-by (Code f) at = still-change s e u cs h a c is
+  answered-by (Work t) at = settles (ap section_in at)
+  answered-by (Hint t) at = settles (ap section_in at)
+  answered-by Return at = settles (ap section_in at)
+  answered-by (User t) at = settles (ap section_in at)
+  answered-by (Look looks) at = still-change s e u cs h a c is
 
   pub answers : IsStanding s e (answered u seen c).0 (put cs a (Some (answered u seen c).1))
   answers = change-stands s e u cs h e a u (Some c) (answered u seen c).1 is (answered-by c.state refl)

@@ -134,6 +134,15 @@ module _ (s : Setting) (e : ℕ) (u : FastThreads) (cs : Contexts Context) (h : 
         ];
       }
 
+  -- nothing changes
+  pub still-change : (a : ℕ) (c : Context) → cs a ≡ Some c → IsChange s e u u (Some c) c
+  still-change a c is = record {
+    made = h.made; code = h.code; parts = h.parts;
+    locks = λ l. refl; threads = λ t. refl; names = λ l. refl; works = λ l none some. refl; lists = λ l none held. refl;
+    places = h.places; carries = λ t. refl;
+    context = h.contexts a c is;
+  }
+
   -- the same value and contexts stand at a later event, where the parts do
   pub later-stands : (f : ℕ) → ArePartsFor u.def u.processors f u.shared → IsStanding s f u cs
   later-stands f parts = record { made = h.made; code = h.code; parts = parts; locks = h.locks; threads = h.threads; works = h.works; places = h.places; carries = h.carries; contexts = h.contexts }

@@ -36,7 +36,7 @@ use Rattle.sa_package.specs.Conditions.{IsThread, CanBeDue, CanCode}
 use Rattle.sa_package.specs.Rules.{thread_alone, at_state, owed, settled, placed, with_shared, with_package, put_last, due_last, coded_by, coded, goes_on}
 use Rattle.sa_package.specs.Hands.{carried_of, sections_of, locks_in, free_locks, locks_of, threads_in, threads_of}
 use Rattle.sa_package.specs.Stands.{Fits, AreSections, StandsAt, IsState, IsContext, IsStanding}
-use Rattle.sa_package.specs.Changing.{IsChange, sections_kept}
+use Rattle.sa_package.specs.Changing.{IsChange, sections_kept, still-change}
 use Rattle.sa_package.specs.Views.{IsBetween, settled_between, yields_between, between_locks, between_threads, between_context, between_rest, section_sections, section_locks, section_threads, section_context, section_fits, section_rest, has_copy}
 use Rattle.sa_package.specs.Holding.{lock_once, own_locked, own_inside, own_made, own_below, own_unready, own_due, own_thread, own_work, own_rest, rest_once}
 use Rattle.sa_package.specs.PlaceFacts.{IsPlaceable, agree_one, agree_in_hand, put_down, picked_up, put_still, rest_not_carried, own_placeable, own_at_rest, beside_placeable, blocked_hand, carried_hand_place}
@@ -171,15 +171,6 @@ module _ (s : Setting) (e : ℕ) (u : FastThreads) (cs : Contexts Context) (h : 
     -- what comes of an operation, where it leaves a package state
     abbrev Keeps : Option Op → Micro → Type 0
     Keeps op m = IsPackage m.state → IsChange s e u (coded_by u seen c f op m m.done).user (Some c) (coded_by u seen c f op m m.done).ctx
-
-    -- nothing changes
-    pub stays_so : IsChange s e u u (Some c) c
-    stays_so = record {
-      made = h.made; code = h.code; parts = h.parts;
-      locks = λ m. refl; threads = λ x. refl; names = λ m. refl; works = λ m x y. refl; lists = λ m x y. refl;
-      places = h.places; carries = λ x. refl;
-      context = here;
-    }
 
     -- the thread that is carried blocks
     faults : (op : Option Op) → Keeps op (stays u.shared.state f micros.Faulted [])
@@ -366,7 +357,7 @@ module _ (s : Setting) (e : ℕ) (u : FastThreads) (cs : Contexts Context) (h : 
 
     outcome : Keeps (slice_get u.shared.state.code f.pc) (micro u.shared.state f seen.pages)
     outcome = micro-outcome (Keeps (slice_get u.shared.state.code f.pc)) u.shared.state f seen.pages code_can.does (record {
-      spun = λ list held sound. stays_so;
+      spun = λ list held sound. still-change s e u cs h a c is;
       took_to_push = λ op list push free. absurd (not_at TakePush (λ x. x) op);
       took_to_pop = λ op list free. absurd (not_at TakePop (λ x. x) op);
       faulted = λ change absent. faults (slice_get u.shared.state.code f.pc);

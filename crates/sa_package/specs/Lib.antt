@@ -17,7 +17,6 @@ pub mod PlaceFacts
 pub mod CodeRule
 pub mod WorkRule
 pub mod TakeRule
-pub mod SettleRule
 pub mod UseRule
 pub mod Able
 pub mod StepRule

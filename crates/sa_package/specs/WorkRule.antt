@@ -32,7 +32,7 @@ use Rattle.sa_package.specs.Conditions.{IsThread, CanBeDue, CanWork}
 use Rattle.sa_package.specs.Rules.{thread_alone, at_state, owed, settled, placed, with_shared, with_package, put_last, due_last, continued, push_of, pushing_by, pushing, pop_of, popping_by, popping}
 use Rattle.sa_package.specs.Hands.{carried_of, sections_of, locks_in, free_locks, locks_of, threads_in, threads_of}
 use Rattle.sa_package.specs.Stands.{Fits, IsSection, AreSections, StandsAt, IsContext, IsStanding}
-use Rattle.sa_package.specs.Changing.{IsChange, sections_kept}
+use Rattle.sa_package.specs.Changing.{IsChange, sections_kept, still-change}
 use Rattle.sa_package.specs.Views.{IsBetween, settled_between, between_locks, between_threads, between_context, between_rest, section_locks, section_threads, section_context}
 use Rattle.sa_package.specs.Holding.{own_made, own_unready, own_due, own_thread, own_work}
 use Rattle.sa_package.specs.PlaceFacts.{IsPlaceable, agree_in_hand, put_down, picked_up, carried_small, own_placeable, own_at_rest, beside_placeable, beside_at_rest, running_hand, carried_hand_place}
@@ -126,15 +126,6 @@ module _ (s : Setting) (e : ℕ) (u : FastThreads) (cs : Contexts Context) (h : 
         context = section_context new f f.pc refl one.copy u.shared.state.lists (fits_stands u.shared.state.lists f (slice_get package_ops f.pc) one.fits) one.fits both.1;
       }
 
-  -- nothing changes
-  pub still : IsChange s e u u (Some c) c
-  still = record {
-    made = h.made; code = h.code; parts = h.parts;
-    locks = λ m. refl; threads = λ x. refl; names = λ m. refl; works = λ m x y. refl; lists = λ m x y. refl;
-    places = h.places; carries = λ x. refl;
-    context = here;
-  }
-
   -- the first thread of the work list
   module _ (first : ThreadNo) (work : c.work ≡ Some first) where
     has_work : IsWork u.shared.works (Some first)
@@ -156,7 +147,7 @@ module _ (s : Setting) (e : ℕ) (u : FastThreads) (cs : Contexts Context) (h : 
 
     pushing_taken : (held : Bool) → is_locked u.shared.state.lists p.0 ≡ held → IsPackage (taken u.shared.state (push_of p first (carried_by c.state)) p held).state
         → let m = taken u.shared.state (push_of p first (carried_by c.state)) p held in IsChange s e u (pushing_by u c first m m.done).user (Some c) (pushing_by u c first m m.done).ctx
-    pushing_taken true held sound = still
+    pushing_taken true held sound = still-change s e u cs h a c is
     pushing_taken false free sound =
         let f = push_of p first (carried_by c.state) in
         let m = taken u.shared.state f p false in
@@ -239,7 +230,7 @@ module _ (s : Setting) (e : ℕ) (u : FastThreads) (cs : Contexts Context) (h : 
 
     popping_taken : (held : Bool) → is_locked u.shared.state.lists l ≡ held → IsPackage (taken u.shared.state (pop_of p l) (processor l) held).state
         → let m = taken u.shared.state (pop_of p l) (processor l) held in IsChange s e u (popping_by u c m m.done).user (Some c) (popping_by u c m m.done).ctx
-    popping_taken true held sound = still
+    popping_taken true held sound = still-change s e u cs h a c is
     popping_taken false free sound =
         let f = pop_of p l in
         let m = taken u.shared.state f (processor l) false in
