@@ -3,14 +3,13 @@ use Rattle.std.proofs.Common.{◌≡◌, ◌≢◌, ℕ, ◌+◌, ◌≤◌, ◌
 use Rattle.std.proofs.lemmas.Bool.{cases_eq}
 use Rattle.std.proofs.lemmas.List.{get_or-set_same, get_or-set_other, length-set}
 use Rattle.sa_base.specs.declared.number.ThreadNo.{ThreadNo}
-use Rattle.sa_base.specs.declared.limits.TheConstants.{MAX_THREADS}
 use Rattle.sa_instr.specs.declared.instr.Instr.{Instr}
 use Rattle.sa_instr.specs.declared.instr.Instr.TheVariants.{Compute, Set, Add, Sub, Jnz, Load, Store, Out, Fork, Join, Lock, Unlock, Wait, Signal, Io, Touch, End}
 use Rattle.sa_instr.specs.declared.instr.Reg.{Reg}
 use Rattle.sa_instr.specs.Regs.{reg_value}
 use Rattle.sa_instr.specs.Space.{SpaceView}
 use Rattle.sa_links.specs.Lists.{count_in_all}
-use Rattle.sa_lists.specs.ReadyView.{thread, next_made}
+use Rattle.sa_lists.specs.ReadyView.{next_made}
 use Rattle.sa_code.specs.Micro.{is_resident}
 use Rattle.sa_sync.specs.declared.answer.SyncAnswer.{SyncAnswer}
 use Rattle.sa_sync.specs.declared.answer.SyncAnswer.TheVariants as answer
@@ -140,7 +139,7 @@ module _ (def : SpaceView) (processors event : ℕ) (x : Shared) (w : Option Thr
     agrees_other u ne =
         let was = all u in
         let waiting : waits_of o.shared.sync u ≤ one_where (is_waiting (place_at x u)) =
-            omega (arith, was.waiting, step.threads u, stays_other o.answer t u ne, one_other t.0 u (λ e. ne (sym e)), same_listed u, same_unmade u, shape.done u ne) in
+        omega (arith, was.waiting, step.threads u, stays_other o.answer t u ne, one_other t.0 u (λ e. ne (sym e)), same_listed u, same_unmade u, shape.done u ne) in
         subst (λ p. AgreesBy (count_in_all u o.shared.state.lists.lists) (waits_of o.shared.sync u) (done_at o.shared.sync u) (unmade_at o.shared.state.lists u) p) (sym (place_other u ne))
         (record { ready = same_listed u ∙ was.ready; waiting = waiting; ends = shape.done u ne ∙ was.ends; new = same_unmade u ∙ was.new })
 
@@ -271,7 +270,7 @@ module _ (def : SpaceView) (processors event : ℕ) (x : Shared) (w : Option Thr
   instr_place fetch pages b End at step =
       let live : done_at x.sync t.0 ≡ 0 = omega (arith, hand) in
       let ends : (u : ℕ) → done_at (ended_sync x.sync t.0) u ≡ done_at x.sync u + one_if t.0 u =
-          λ u. ended-done x.sync t.0 u (omega (arith, inside, parts.blocks, parts.sync.done)) live in
+      λ u. ended-done x.sync t.0 u (omega (arith, inside, parts.blocks, parts.sync.done)) live in
       shaped (outcome_of fetch pages x w t b End) step (record {
         block = moved_to b Done;
         threads = refl;

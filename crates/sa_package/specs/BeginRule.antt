@@ -1,12 +1,11 @@
 -- All stands at the opening, stays so at later events, with a fresh context, and where a context settles.
-use Rattle.std.proofs.Common.{◌≡◌, ◌≢◌, ℕ, zero, suc, ◌+◌, ◌≤◌, ◌<◌, Bool, true, false, cond, eqb, ltb, List, [], ◌∷◌, ◌++◌, length, map, set, replicate, get_or, Option, Some, None, refl, sym, ap, ◌∙◌, subst, inl, inr, arith}
-use Rattle.std.specs.Prelude.{All, is_some}
+use Rattle.std.proofs.Common.{◌≡◌, ◌≢◌, ℕ, zero, suc, ◌+◌, ◌≤◌, Bool, true, false, cond, List, [], ◌∷◌, ◌++◌, length, map, set, replicate, get_or, Some, None, refl, sym, ap, ◌∙◌, subst, inl, inr, arith}
+use Rattle.std.specs.Prelude.{All}
 use Rattle.std.proofs.lemmas.Bool.{cases_eq, cases_lt}
 use Rattle.std.proofs.lemmas.Bool.Decides.{nat_tests}
 use Rattle.std.proofs.lemmas.List.{length-set, length-map, length-replicate, get_or-map, get_or_past, get_or-set_same, get_or-set_other}
 use Rattle.std.proofs.lemmas.List.Elements.{All-get_or}
 use Rattle.std.proofs.lemmas.List.Sums.{sum_by-append, sum_by-cons}
-use Rattle.sa_base.specs.declared.number.ThreadNo.{ThreadNo}
 use Rattle.sa_base.specs.declared.limits.TheConstants.{MAX_THREADS}
 use Rattle.sa_base.specs.declared.context.Seen.{Seen}
 use Rattle.sa_instr.specs.declared.limits.TheConstants.{MAX_START}
@@ -22,15 +21,14 @@ use Rattle.sa_lists.specs.ReadyView.{ReadyView, no_threads, with_made, with_lock
 use Rattle.sa_lists.proofs.Changes.{ready-with_made, ready-with_lock, ready-pushed}
 use Rattle.sa_sync.specs.Sync.{Mutex, Semaphore, free_mutex, semaphore_of, semaphore_at, opening, waits_of}
 use Rattle.sa_sync.proofs.Lists.{map-replicate}
-use Rattle.sa_code.specs.Changes.{IsPackage}
 use Rattle.sa_code.proofs.Kept.{begun-package}
 use Rattle.sa_copies.specs.Copies.{package_ops}
 use Rattle.sa_fast.specs.declared.threads.Place.{Place}
 use Rattle.sa_fast.specs.declared.threads.Place.TheVariants.{Ready, Unmade}
 use Rattle.sa_fast.specs.declared.threads.Block.{Block}
-use Rattle.sa_fast.specs.Threads.{unmade, at_start, block_at, with_block}
+use Rattle.sa_fast.specs.Threads.{unmade, at_start, block_at}
 use Rattle.sa_fast.specs.Instruction.{IsAt}
-use Rattle.sa_fast.specs.Rest.{one_if, done_at, unmade_at, one_if_empty, threads_at_rest, empty_at, FitsSpace, AreWorks, ArePartsFor, AgreesBy, AgreesAt, place_at, is_carried, not_carried}
+use Rattle.sa_fast.specs.Rest.{one_if, done_at, unmade_at, one_if_empty, threads_at_rest, empty_at, FitsSpace, AreWorks, AgreesBy, AgreesAt, place_at, is_carried, not_carried}
 use Rattle.sa_fast.proofs.WorkLemmas.{named-new}
 use Rattle.sa_fast.proofs.WorkSteps.{count_one}
 use Rattle.sa_fast.proofs.SyncSteps.{holds-set}
@@ -39,13 +37,12 @@ use Rattle.sa_package.specs.declared.context.Context.{Context}
 use Rattle.sa_package.specs.declared.context.State.{State}
 use Rattle.sa_package.specs.declared.context.State.TheVariants.{Code, Work, Hint, Return, User, Look}
 use Rattle.sa_package.specs.declared.package.FastThreads.{FastThreads}
-use Rattle.sa_package.specs.Context.{fresh, carried_by, section_in, settled_to, stands_between, is_left, has_bulk}
-use Rattle.sa_package.specs.Rules.{owed, settled}
+use Rattle.sa_package.specs.Context.{fresh, carried_by, section_in, stands_between}
+use Rattle.sa_package.specs.Rules.{settled}
 use Rattle.sa_package.specs.Step.{opened, started, answered}
 use Rattle.sa_package.specs.Hands.{AreInOnePlace, free_locks}
 use Rattle.sa_package.specs.Stands.{IsStanding}
 use Rattle.sa_package.specs.Changing.{IsChange, still-change, change-stands, later-stands}
-use Rattle.sa_package.specs.Views.{settled_between}
 use Rattle.sa_package.specs.Parts.{parts_later}
 use Rattle.sa_package.specs.WorkRule.{settled-change}
 

@@ -1,6 +1,5 @@
 -- A step in the code of the package keeps all standing.
-use Rattle.std.proofs.Common.{◌≡◌, ◌≢◌, ℕ, ◌+◌, ◌≤◌, ◌<◌, Bool, true, false, List, [], ◌∷◌, length, Option, Some, None, IsSome, is_some, slice_get, refl, sym, ap, ◌∙◌, subst, ◌⊎◌, inl, inr, arith}
-use Rattle.std.proofs.lemmas.Bool.{cases_eq}
+use Rattle.std.proofs.Common.{◌≡◌, ◌≢◌, ℕ, ◌+◌, ◌≤◌, ◌<◌, true, [], ◌∷◌, length, Option, Some, None, IsSome, is_some, slice_get, refl, sym, ap, ◌∙◌, subst, ◌⊎◌, inl, inr, arith}
 use Rattle.sa_base.specs.declared.number.ThreadNo.{ThreadNo}
 use Rattle.sa_base.specs.declared.context.Seen.{Seen}
 use Rattle.sa_base.specs.declared.record.Record.TheVariants.{Back}
@@ -9,13 +8,13 @@ use Rattle.sa_abstract.specs.Calls.{Contexts}
 use Rattle.sa_links.specs.Lists.{count_in, count_in_all}
 use Rattle.sa_links.proofs.Counting.{count_at}
 use Rattle.std.proofs.lemmas.Option.{same_Some}
-use Rattle.sa_lists.specs.ReadyView.{ReadyView, list_of, thread}
+use Rattle.sa_lists.specs.ReadyView.{list_of, thread}
 use Rattle.sa_lists.proofs.Changes.{list_of-with_list_other, count-with_list}
 use Rattle.sa_code.specs.declared.code.Op.{Op}
 use Rattle.sa_code.specs.declared.code.Op.TheVariants.{TakePush, Push, TakePop, Pop, Free, Leave, Yield}
 use Rattle.sa_code.specs.declared.state.Frame.{Frame}
 use Rattle.sa_code.specs.declared.state.MicroDone.TheVariants as micros
-use Rattle.sa_code.specs.Micro.{Micro, micro, stays, pushed, popped, freed, chosen, without_chosen, list_in, CanChange, CanPush, CanPop, CanDo}
+use Rattle.sa_code.specs.Micro.{Micro, micro, stays, pushed, popped, freed, chosen, without_chosen, list_in, CanChange, CanPush, CanDo}
 use Rattle.sa_code.specs.Changes.{IsPackage}
 use Rattle.sa_code.proofs.Steps.{pushed-changes_only, popped-changes_only, freed-changes_only}
 use Rattle.sa_code.proofs.Kept.{micro-package}
@@ -33,12 +32,12 @@ use Rattle.sa_package.specs.declared.context.State.TheVariants.{Code}
 use Rattle.sa_package.specs.declared.package.FastThreads.{FastThreads}
 use Rattle.sa_package.specs.Context.{carried_by, section_in, is_left, has_bulk, settled_to}
 use Rattle.sa_package.specs.Conditions.{IsThread, CanBeDue, CanCode}
-use Rattle.sa_package.specs.Rules.{thread_alone, at_state, owed, settled, placed, with_shared, with_package, put_last, due_last, coded_by, coded, goes_on}
-use Rattle.sa_package.specs.Hands.{carried_of, sections_of, locks_in, free_locks, locks_of, threads_in, threads_of}
+use Rattle.sa_package.specs.Rules.{thread_alone, at_state, owed, settled, placed, with_shared, with_package, put_last, coded_by, coded, goes_on}
+use Rattle.sa_package.specs.Hands.{carried_of, sections_of, locks_in, locks_of, threads_in, threads_of}
 use Rattle.sa_package.specs.Stands.{Fits, AreSections, StandsAt, IsState, IsContext, IsStanding}
 use Rattle.sa_package.specs.Changing.{IsChange, sections_kept, still-change}
 use Rattle.sa_package.specs.Views.{IsBetween, settled_between, yields_between, between_locks, between_threads, between_context, between_rest, section_sections, section_locks, section_threads, section_context, section_fits, section_rest, has_copy}
-use Rattle.sa_package.specs.Holding.{lock_once, own_locked, own_inside, own_made, own_below, own_unready, own_due, own_thread, own_work, own_rest, rest_once}
+use Rattle.sa_package.specs.Holding.{lock_once, own_locked, own_inside, own_made, own_unready, own_due, own_thread, own_work, own_rest, rest_once}
 use Rattle.sa_package.specs.PlaceFacts.{IsPlaceable, agree_one, agree_in_hand, put_down, picked_up, put_still, rest_not_carried, own_placeable, own_at_rest, beside_placeable, blocked_hand, carried_hand_place}
 use Rattle.sa_package.specs.Parts.{parts_placed, parts_state, parts_works, made_with, due-step, lock_freed, count_chosen}
 
@@ -178,7 +177,11 @@ module _ (s : Setting) (e : ℕ) (u : FastThreads) (cs : Contexts Context) (h : 
       made = made_with s u (placed u.shared f.thread Blocked) h.made refl;
       code = h.code;
       parts = parts_placed u.def u.processors e u.shared f.thread Blocked h.parts;
-      locks = λ m. refl; threads = λ x. refl; names = λ m. refl; works = λ m x y. refl; lists = λ m x y. refl;
+      locks = λ m. refl;
+      threads = λ x. refl;
+      names = λ m. refl;
+      works = λ m x y. refl;
+      lists = λ m x y. refl;
       places = agree_in_hand u.shared f.thread 0 Blocked blocked_hand thread_placeable thread_rest h.places;
       carries = λ x. let same = put_still u.shared f.thread Blocked thread_placeable x in omega arith;
       context = here;
@@ -213,22 +216,22 @@ module _ (s : Setting) (e : ℕ) (u : FastThreads) (cs : Contexts Context) (h : 
             lists = λ y none held. list_of-with_list_other u.shared.state.lists (list_in f).0 y (t.0 ∷ list_of u.shared.state.lists (list_in f).0) (apart_others k copy y none);
             places = subst (λ p. (y : ℕ) → AgreesAt (placed (record u.shared { state = m.state }) p Ready) y) (sym pushes)
                 (agree_one (record u.shared { state = m.state }) t Ready (pushed_placeable.inside t pushes)
-                  (let all = count-with_list u.shared.state.lists (list_in f).0 t.0 (t.0 ∷ list_of u.shared.state.lists (list_in f).0) (inside k copy) in
-                   let one = count_one t.0 t.0 (list_of u.shared.state.lists (list_in f).0) in let same = one_same t.0 t.0 refl in
-                   let none = own_rest s e u cs h a c is t.0 (own_pushed k copy t pushes) in
-                   record { ready = omega arith; waiting = omega arith; ends = omega arith; new = omega arith })
-                  (λ y ne.
-                    let all = count-with_list u.shared.state.lists (list_in f).0 y (t.0 ∷ list_of u.shared.state.lists (list_in f).0) (inside k copy) in
-                    let one = count_one y t.0 (list_of u.shared.state.lists (list_in f).0) in let other = one_other t.0 y (λ q. ne (sym q)) in
-                    let was = h.places y in
-                    let ready = was.ready in
-                    record { ready = omega arith; waiting = was.waiting; ends = was.ends; new = was.new }));
+                (let all = count-with_list u.shared.state.lists (list_in f).0 t.0 (t.0 ∷ list_of u.shared.state.lists (list_in f).0) (inside k copy) in
+                let one = count_one t.0 t.0 (list_of u.shared.state.lists (list_in f).0) in let same = one_same t.0 t.0 refl in
+                let none = own_rest s e u cs h a c is t.0 (own_pushed k copy t pushes) in
+                record { ready = omega arith; waiting = omega arith; ends = omega arith; new = omega arith })
+                (λ y ne.
+                let all = count-with_list u.shared.state.lists (list_in f).0 y (t.0 ∷ list_of u.shared.state.lists (list_in f).0) (inside k copy) in
+                let one = count_one y t.0 (list_of u.shared.state.lists (list_in f).0) in let other = one_other t.0 y (λ q. ne (sym q)) in
+                let was = h.places y in
+                let ready = was.ready in
+                record { ready = omega arith; waiting = was.waiting; ends = was.ends; new = was.new }));
             carries = λ y. let same = put_still (record u.shared { state = m.state }) f.pushed Ready (record { inside = pushed_placeable.inside; carried = pushed_placeable.carried }) y in
                 omega (arith, carried_x y);
             context = section_context new g copied.0 refl copied.1 m.state.lists
                 (subst (StandsAt g) (sym next) tt) (subst (Fits m.state.lists g) (sym next) (own.0, refl))
                 (sections_kept u.shared.state.lists m.state.lists c.sections
-                  (λ y some. list_of-with_list_other u.shared.state.lists (list_in f).0 y (t.0 ∷ list_of u.shared.state.lists (list_in f).0) (apart_rest k copy y some)) (rest k copy));
+                (λ y some. list_of-with_list_other u.shared.state.lists (list_in f).0 y (t.0 ∷ list_of u.shared.state.lists (list_in f).0) (apart_rest k copy y some)) (rest k copy));
           } in
           subst (λ o. IsChange s e u (with_shared u x) (Some c) (goes_on (with_shared u x) seen c g o)) (sym now) done
 
@@ -245,7 +248,7 @@ module _ (s : Setting) (e : ℕ) (u : FastThreads) (cs : Contexts Context) (h : 
           let left = without_chosen u.shared.state.lists f.own (list_in f).0 in
           let own : Fits u.shared.state.lists f (Some Pop) = subst (Fits u.shared.state.lists f) op (fits k copy) in
           let listed : 1 ≤ count_in_all t u.shared.state.lists.lists =
-              (let one = count_chosen u.shared.state.lists f.own (list_in f).0 t t takes in let same = one_same t t refl in let all = count_at t u.shared.state.lists.lists (list_in f).0 in omega arith) in
+          (let one = count_chosen u.shared.state.lists f.own (list_in f).0 t t takes in let same = one_same t t refl in let all = count_at t u.shared.state.lists.lists (list_in f).0 in omega arith) in
           let popped_rest : 1 ≤ threads_at_rest u.shared t = omega arith in
           let popped_below : t < length u.shared.threads = (let below = h.parts.state.ready.below t listed in let all = h.parts.blocks in let most = h.parts.threads in omega arith) in
           let done : IsChange s e u (with_shared u x) (Some c) new = record {
@@ -264,15 +267,15 @@ module _ (s : Setting) (e : ℕ) (u : FastThreads) (cs : Contexts Context) (h : 
             lists = λ y none held. list_of-with_list_other u.shared.state.lists (list_in f).0 y left (apart_others k copy y none);
             places = agree_one (record u.shared { state = m.state }) (thread t) Running popped_below
                 (let all = count-with_list u.shared.state.lists (list_in f).0 t left (inside k copy) in
-                 let one = count_chosen u.shared.state.lists f.own (list_in f).0 t t takes in let same = one_same t t refl in
-                 let once = rest_once s e u cs h t in let some = popped_rest in
-                 record { ready = omega arith; waiting = omega arith; ends = omega arith; new = omega arith })
+                let one = count_chosen u.shared.state.lists f.own (list_in f).0 t t takes in let same = one_same t t refl in
+                let once = rest_once s e u cs h t in let some = popped_rest in
+                record { ready = omega arith; waiting = omega arith; ends = omega arith; new = omega arith })
                 (λ y ne.
-                  let all = count-with_list u.shared.state.lists (list_in f).0 y left (inside k copy) in
-                  let one = count_chosen u.shared.state.lists f.own (list_in f).0 t y takes in let other = one_other t y (λ q. ne (sym q)) in
-                  let was = h.places y in
-                  let ready = was.ready in
-                  record { ready = omega arith; waiting = was.waiting; ends = was.ends; new = was.new });
+                let all = count-with_list u.shared.state.lists (list_in f).0 y left (inside k copy) in
+                let one = count_chosen u.shared.state.lists f.own (list_in f).0 t y takes in let other = one_other t y (λ q. ne (sym q)) in
+                let was = h.places y in
+                let ready = was.ready in
+                record { ready = omega arith; waiting = was.waiting; ends = was.ends; new = was.new });
             carries = λ y.
                 let up = picked_up (record u.shared { state = m.state }) (Some (thread t)) Running refl (record {
                   inside = λ n at. subst (λ (z : ThreadNo). z.0 < length u.shared.threads) (same_Some (thread t) n at) popped_below;
@@ -283,7 +286,7 @@ module _ (s : Setting) (e : ℕ) (u : FastThreads) (cs : Contexts Context) (h : 
             context = section_context new g copied.0 refl copied.1 m.state.lists
                 (subst (StandsAt g) (sym next) tt) (subst (Fits m.state.lists g) (sym next) (own.0, own.1))
                 (sections_kept u.shared.state.lists m.state.lists c.sections
-                  (λ y some. list_of-with_list_other u.shared.state.lists (list_in f).0 y left (apart_rest k copy y some)) (rest k copy));
+                (λ y some. list_of-with_list_other u.shared.state.lists (list_in f).0 y left (apart_rest k copy y some)) (rest k copy));
           } in
           subst (λ o. IsChange s e u (with_shared u x) (Some c) (goes_on (with_shared u x) seen c g o)) (sym now) done
 

@@ -1,5 +1,5 @@
 -- Where a context stands; and a run of local instructions of its thread, which leaves all standing.
-use Rattle.std.proofs.Common.{◌≡◌, ℕ, zero, suc, ◌+◌, ◌-◌, ◌≤◌, ◌<◌, List, [], length, Option, Some, refl, sym, ap, ◌∙◌, subst, inl, inr, arith}
+use Rattle.std.proofs.Common.{◌≡◌, ℕ, zero, suc, ◌+◌, ◌-◌, ◌≤◌, ◌<◌, List, [], length, Some, refl, sym, ap, ◌∙◌, subst, inl, inr, arith}
 use Rattle.std.specs.Prelude.{◌||◌, is_none, if◌then◌else◌}
 use Rattle.std.proofs.lemmas.Bool.{cases_eq}
 use Rattle.std.proofs.lemmas.List.{length-set, get_or-set_same, get_or-set_other}
@@ -10,7 +10,6 @@ use Rattle.sa_instr.specs.declared.instr.Instr.{Instr}
 use Rattle.sa_instr.specs.Local.{instr_at}
 use Rattle.sa_instr.specs.Program.{IsProgram}
 use Rattle.sa_instr.specs.Space.{IsSpace}
-use Rattle.sa_lemmas.specs.Function.{put}
 use Rattle.sa_links.specs.Lists.{count_in_all}
 use Rattle.sa_sync.specs.Sync.{waits_of}
 use Rattle.sa_abstract.specs.Setting.{Setting}
@@ -20,7 +19,7 @@ use Rattle.sa_abstract.specs.Keeps.{IsSeat, GoesOn, is_away, moved_to, IsGone}
 use Rattle.sa_fast.specs.declared.threads.Block.{Block}
 use Rattle.sa_fast.specs.Threads.{unmade, block_at}
 use Rattle.sa_fast.specs.Instruction.{with_thread, IsAt}
-use Rattle.sa_fast.specs.Rest.{ArePartsFor, AgreesBy, place_at, done_at, unmade_at, is_carried}
+use Rattle.sa_fast.specs.Rest.{AgreesBy, place_at, done_at, unmade_at, is_carried}
 use Rattle.sa_fast.proofs.SyncSteps.{holds-set}
 use Rattle.sa_fast.proofs.RunSteps.{place_inside}
 use Rattle.sa_package.specs.declared.context.Context.{Context}

@@ -1,5 +1,5 @@
 -- Where a thread's place is changed, it agrees with where the thread is.
-use Rattle.std.proofs.Common.{◌≡◌, ◌≢◌, ℕ, ◌+◌, ◌≤◌, ◌<◌, Bool, true, false, cond, List, length, Option, Some, None, refl, sym, ap, ◌∙◌, subst, inl, inr, arith}
+use Rattle.std.proofs.Common.{◌≡◌, ◌≢◌, ℕ, ◌+◌, ◌≤◌, ◌<◌, Bool, true, false, cond, length, Option, Some, None, refl, sym, ap, ◌∙◌, subst, inl, inr, arith}
 use Rattle.std.proofs.lemmas.Bool.{cases_eq, cases_lt}
 use Rattle.std.proofs.lemmas.List.{get_or-set_same, get_or-set_other}
 use Rattle.sa_base.specs.declared.number.ThreadNo.{ThreadNo}
@@ -12,7 +12,7 @@ use Rattle.sa_fast.specs.declared.threads.Block.{Block}
 use Rattle.sa_fast.specs.declared.threads.Place.{Place}
 use Rattle.sa_fast.specs.declared.threads.Place.TheVariants.{Running, Blocked, Carried}
 use Rattle.sa_fast.specs.Threads.{unmade, block_at, moved_to, is_done}
-use Rattle.sa_fast.specs.Rest.{one_if, one_of, one_where, done_at, unmade_at, threads_at_rest, is_ready, is_waiting, is_unmade, is_carried, place_at, AgreesBy, AgreesAt, not_carried}
+use Rattle.sa_fast.specs.Rest.{one_if, one_of, one_where, done_at, unmade_at, threads_at_rest, is_ready, is_unmade, is_carried, place_at, AgreesBy, AgreesAt, not_carried}
 use Rattle.sa_fast.proofs.WorkSteps.{one_same, one_other}
 use Rattle.sa_package.specs.declared.context.Context.{Context}
 use Rattle.sa_package.specs.declared.package.FastThreads.{FastThreads}

@@ -7,24 +7,22 @@ use Rattle.sa_abstract.specs.Calls.{Contexts}
 use Rattle.sa_links.specs.Lists.{list_at}
 use Rattle.sa_lists.specs.ReadyView.{ReadyView}
 use Rattle.sa_code.specs.declared.state.Frame.{Frame}
-use Rattle.sa_code.specs.declared.state.TheConstants.{MAX_LISTS}
-use Rattle.sa_code.specs.Micro.{list_in}
 use Rattle.sa_fast.specs.declared.shared.Shared.{Shared}
 use Rattle.sa_fast.specs.declared.threads.Place.TheVariants.{Carried}
 use Rattle.sa_fast.specs.Work.{joined, IsWork, AreApart}
 use Rattle.sa_fast.specs.Instruction.{with_works}
-use Rattle.sa_fast.specs.Rest.{one_if, one_of, threads_at_rest}
+use Rattle.sa_fast.specs.Rest.{one_of, threads_at_rest}
 use Rattle.sa_fast.proofs.Moves.{JoinStep}
 use Rattle.sa_fast.proofs.WorkSteps.{one_same, one_other, filled, not_empty, joined-step}
 use Rattle.sa_package.specs.declared.context.Context.{Context}
 use Rattle.sa_package.specs.declared.package.FastThreads.{FastThreads}
 use Rattle.sa_package.specs.Context.{carried_by, section_in, before_all}
 use Rattle.sa_package.specs.Conditions.{CanBeDue, CanTakeOver}
-use Rattle.sa_package.specs.Rules.{thread_alone, placed, due_last, took_over}
+use Rattle.sa_package.specs.Rules.{thread_alone, placed, took_over}
 use Rattle.sa_package.specs.Hands.{sections_of, locks_in, locks_of, threads_in, threads_of, name_of}
-use Rattle.sa_package.specs.Stands.{AreSections, IsContext, IsStanding}
+use Rattle.sa_package.specs.Stands.{AreSections, IsStanding}
 use Rattle.sa_package.specs.Changing.{IsJoin, names_own}
-use Rattle.sa_package.specs.Holding.{lock_once, own_inside, own_below, own_due, own_work, few_sections}
+use Rattle.sa_package.specs.Holding.{lock_once, own_inside, own_due, own_work, few_sections}
 use Rattle.sa_package.specs.Views.{carried_less}
 use Rattle.sa_package.specs.PlaceFacts.{IsPlaceable, agree_in_hand, put_down, put_still, own_placeable, own_at_rest, carried_hand_place}
 use Rattle.sa_package.specs.Parts.{length_placed, parts_placed, parts_works, made_with, due-step}
@@ -159,7 +157,7 @@ module _ (s : Setting) (e : ℕ) (u : FastThreads) (cs : Contexts Context) (h : 
       let moved : Shared = with_works (placed u.shared (carried_by d.state) Carried) (joined u.shared.works c.work d.work) in
       let name = (joined u.shared.works c.work d.work).name in
       let last = due-step moved name t step.works (joined_work u.shared.works c.work d.work (own_work s e u cs h a c is) (own_work s e u cs h b d was) works_apart step)
-          (due_moved t (alone_due u.shared own (carried_by d.state) due)) in
+      (due_moved t (alone_due u.shared own (carried_by d.state) due)) in
       let theirs = own_placeable s e u cs h b d was (carried_by d.state) refl in
       let theirs_rest = own_at_rest s e u cs h b d was (carried_by d.state) refl in
       let base = again_placeable own theirs in
@@ -171,7 +169,7 @@ module _ (s : Setting) (e : ℕ) (u : FastThreads) (cs : Contexts Context) (h : 
         code = h.code;
         parts = parts_works u.def u.processors e (placed moved t Carried) v.shared.works
             (parts_placed u.def u.processors e moved t Carried
-              (parts_works u.def u.processors e (placed u.shared (carried_by d.state) Carried) moved.works (parts_placed u.def u.processors e u.shared (carried_by d.state) Carried h.parts) step.works))
+            (parts_works u.def u.processors e (placed u.shared (carried_by d.state) Carried) moved.works (parts_placed u.def u.processors e u.shared (carried_by d.state) Carried h.parts) step.works))
             last.works;
         locks = λ l.
             let sum : locks_in (sections_of new) l ≡ locks_in (sections_of c) l + locks_in (sections_of d) l = ap (λ fs. locks_in fs l) all ∙ locks_append (sections_of c) (sections_of d) l in

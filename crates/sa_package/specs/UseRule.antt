@@ -7,10 +7,9 @@ use Rattle.std.specs.Prelude.{List}
 use Rattle.sa_instr.specs.Space.{IsSpace}
 use Rattle.sa_abstract.specs.Setting.{Setting}
 use Rattle.sa_abstract.specs.Calls.{Contexts}
-use Rattle.sa_links.specs.Lists.{list_at, count_in}
+use Rattle.sa_links.specs.Lists.{list_at}
 use Rattle.sa_fast.specs.declared.instruction.Ran.{Ran}
 use Rattle.sa_fast.specs.declared.instruction.Ran.TheVariants as rans
-use Rattle.sa_fast.specs.Work.{work_of}
 use Rattle.sa_fast.specs.Instruction.{Outcome, run, run_says}
 use Rattle.sa_fast.specs.Rest.{one_if, one_of, threads_at_rest, not_carried}
 use Rattle.sa_fast.proofs.Moves.{RunStep, PlaceStep, stays_with}
@@ -24,11 +23,11 @@ use Rattle.sa_package.specs.declared.package.FastThreads.{FastThreads}
 use Rattle.sa_package.specs.Context.{carried_by, section_in, settled_to, is_left, has_bulk}
 use Rattle.sa_package.specs.Rules.{at_state, owed, with_shared, stays_user, used_by, used}
 use Rattle.std.specs.Prelude.{is_some}
-use Rattle.sa_package.specs.Hands.{free_locks, locks_in, locks_of, threads_in, threads_of}
+use Rattle.sa_package.specs.Hands.{free_locks, threads_of}
 use Rattle.sa_package.specs.Stands.{AreSections, IsStanding}
 use Rattle.sa_package.specs.Changing.{IsChange, sections_kept}
 use Rattle.sa_package.specs.Views.{IsBetween, settled_between, between_locks, between_threads, between_context, between_rest}
-use Rattle.sa_package.specs.Holding.{rest_unlisted, rest_once, own_rest, own_unlisted, own_work}
+use Rattle.sa_package.specs.Holding.{rest_unlisted, rest_once, own_rest, own_work}
 use Rattle.sa_package.specs.PlaceFacts.{own_carried}
 use Rattle.sa_package.specs.Parts.{parts_later, made_with}
 
@@ -56,10 +55,10 @@ module _ (s : Setting) (e : ℕ) (u : FastThreads) (cs : Contexts Context) (h : 
   ran : (fetch pages : ℕ) → HasRun (run u.def fetch pages u.shared c.work t)
   ran fetch pages = let step = ran_step fetch pages in
       (step, place-step u.def u.processors e fetch pages u.shared c.work t h.parts hand (rest_once s e u cs h) h.places runs step) where
-    ran_step : (fetch pages : ℕ) → RunStep u.def u.processors e u.shared c.work t (run u.def fetch pages u.shared c.work t)
-    ran_step fetch pages =
-      run-step u.def u.processors e fetch pages u.shared c.work t (subst IsSpace (sym h.made.def) h.made.setting.def) h.parts
-      (own_work s e u cs h a c is) (own_rest s e u cs h a c is t.0 (user_has u.shared.works c t at)) (rest_unlisted s e u cs h) (rest_once s e u cs h)
+        ran_step : (fetch pages : ℕ) → RunStep u.def u.processors e u.shared c.work t (run u.def fetch pages u.shared c.work t)
+        ran_step fetch pages =
+            run-step u.def u.processors e fetch pages u.shared c.work t (subst IsSpace (sym h.made.def) h.made.setting.def) h.parts
+            (own_work s e u cs h a c is) (own_rest s e u cs h a c is t.0 (user_has u.shared.works c t at)) (rest_unlisted s e u cs h) (rest_once s e u cs h)
 
   -- behind the instruction the context has what the instruction left it, and carries the thread or none
   outcome-change : (f : ℕ) (o : Outcome) (state : State) (n : Option ThreadNo) → e < f → HasRun o → IsBetween state n

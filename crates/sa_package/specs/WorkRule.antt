@@ -1,5 +1,5 @@
 -- A step between routines keeps all standing: a section is continued, a push begins, a pop begins.
-use Rattle.std.proofs.Common.{◌≡◌, ℕ, ◌+◌, ◌==◌, ◌≤◌, ◌<◌, Bool, true, false, List, [], ◌∷◌, length, drop, Option, Some, None, IfSome, is_some, slice_get, refl, sym, ap, ◌∙◌, subst, arith}
+use Rattle.std.proofs.Common.{◌≡◌, ℕ, ◌+◌, ◌≤◌, ◌<◌, Bool, true, false, List, [], ◌∷◌, length, drop, Option, Some, None, IfSome, is_some, slice_get, refl, sym, ap, ◌∙◌, subst, arith}
 use Rattle.std.proofs.lemmas.Option.{same_Some}
 use Rattle.sa_base.specs.declared.number.ThreadNo.{ThreadNo}
 use Rattle.sa_base.specs.declared.number.ProcNo.{ProcNo}
@@ -14,23 +14,23 @@ use Rattle.sa_lists.specs.ReadyView as ready
 use Rattle.sa_code.specs.declared.code.Op.{Op}
 use Rattle.sa_code.specs.declared.code.Op.TheVariants.{TakePush, Push, TakePop, Pop, Free, Leave, Yield}
 use Rattle.sa_code.specs.declared.state.Frame.{Frame}
-use Rattle.sa_code.specs.Micro.{Micro, micro, micro_at, taken, is_resident, list_in, HasList, CanPush, CanDo}
+use Rattle.sa_code.specs.Micro.{micro_at, taken, is_resident, list_in, HasList, CanDo}
 use Rattle.sa_code.specs.Changes.{IsPackage}
 use Rattle.sa_code.proofs.Steps.{taken-changes_only}
 use Rattle.sa_code.proofs.Kept.{micro-package}
-use Rattle.sa_copies.specs.Copies.{package_ops, copy_at}
+use Rattle.sa_copies.specs.Copies.{package_ops}
 use Rattle.sa_fast.specs.declared.threads.Place.TheVariants.{Running, Carried}
-use Rattle.sa_fast.specs.Work.{work_of, without_first, IsWork}
+use Rattle.sa_fast.specs.Work.{work_of, IsWork}
 use Rattle.sa_fast.specs.Rest.{one_if, one_of}
-use Rattle.sa_fast.proofs.WorkSteps.{one_same, without_first-step}
+use Rattle.sa_fast.proofs.WorkSteps.{without_first-step}
 use Rattle.sa_package.specs.declared.context.Context.{Context}
 use Rattle.sa_package.specs.declared.context.State.{State}
 use Rattle.sa_package.specs.declared.context.State.TheVariants.{Code}
 use Rattle.sa_package.specs.declared.package.FastThreads.{FastThreads}
 use Rattle.sa_package.specs.Context.{carried_by, section_in, is_left, has_bulk, settled_to}
 use Rattle.sa_package.specs.Conditions.{IsThread, CanBeDue, CanWork}
-use Rattle.sa_package.specs.Rules.{thread_alone, at_state, owed, settled, placed, with_shared, with_package, put_last, due_last, continued, push_of, pushing_by, pushing, pop_of, popping_by, popping}
-use Rattle.sa_package.specs.Hands.{carried_of, sections_of, locks_in, free_locks, locks_of, threads_in, threads_of}
+use Rattle.sa_package.specs.Rules.{thread_alone, at_state, owed, settled, placed, put_last, continued, push_of, pushing_by, pushing, pop_of, popping_by, popping}
+use Rattle.sa_package.specs.Hands.{carried_of, locks_in, locks_of, threads_in, threads_of}
 use Rattle.sa_package.specs.Stands.{Fits, IsSection, AreSections, StandsAt, IsContext, IsStanding}
 use Rattle.sa_package.specs.Changing.{IsChange, sections_kept, still-change}
 use Rattle.sa_package.specs.Views.{IsBetween, settled_between, between_locks, between_threads, between_context, between_rest, section_locks, section_threads, section_context}
@@ -93,8 +93,8 @@ module _ (s : Setting) (e : ℕ) (u : FastThreads) (cs : Contexts Context) (h : 
       let both : AreSections u.shared.state.lists (f ∷ drop 1 c.sections) = subst (AreSections u.shared.state.lists) fs rest in
       let one : IsSection u.shared.state.lists f = both.0 in
       let has : (y : ℕ) → one_of f.thread y + one_of (carried_by c.state) y ≤ threads_of u.shared.works (Some c) y = λ y.
-          (let split : threads_in c.sections y ≡ one_of f.thread y + one_of f.pushed y + threads_in (drop 1 c.sections) y = ap (λ xs. threads_in xs y) fs in
-           omega (arith, threads_are y, carried_x y)) in
+      (let split : threads_in c.sections y ≡ one_of f.thread y + one_of f.pushed y + threads_in (drop 1 c.sections) y = ap (λ xs. threads_in xs y) fs in
+      omega (arith, threads_are y, carried_x y)) in
       let beside = beside_placeable s e u cs h a c is f.thread has in
       let second_rest = beside_at_rest s e u cs h a c is f.thread has in
       let second : IsPlaceable p.user.shared f.thread 1 = record {
@@ -168,7 +168,8 @@ module _ (s : Setting) (e : ℕ) (u : FastThreads) (cs : Contexts Context) (h : 
           names = λ y. let old : one_of c.work y ≡ one_of (Some first) y = ap (λ w. one_of w y) work in omega (arith, step.names y);
           works = λ y none some. step.others y (ap (λ w. one_of w y) (sym work) ∙ none) some;
           lists = λ y none held. refl;
-          places = h.places; carries = λ y. refl;
+          places = h.places;
+          carries = λ y. refl;
           context = section_context new g 8 refl refl m.state.lists tt (refl, refl) (sections_kept u.shared.state.lists m.state.lists c.sections (λ y some. refl) rest);
         }
 
@@ -196,10 +197,14 @@ module _ (s : Setting) (e : ℕ) (u : FastThreads) (cs : Contexts Context) (h : 
   -- another state in no section, which carries the same
   pub between-change : (state : State) → IsBetween state t → IsChange s e u u (Some c) (at_state c state)
   between-change state between = record {
-    made = h.made; code = h.code; parts = h.parts;
+    made = h.made;
+    code = h.code;
+    parts = h.parts;
     locks = λ m. omega (arith, between_locks (at_state c state) t between.section between.carries m, locks_are m);
     threads = λ x. omega (arith, between_threads (at_state c state) t between.section between.carries u.shared.works x, threads_are x);
-    names = λ m. refl; works = λ m x y. refl; lists = λ m x y. refl;
+    names = λ m. refl;
+    works = λ m x y. refl;
+    lists = λ m x y. refl;
     places = h.places;
     carries = λ x. let new : one_of (carried_by state) x ≡ one_of t x = ap (λ o. one_of o x) between.carries in omega (arith, carried_x x);
     context = between_context (at_state c state) t between.section between.carries u.shared.state.lists between.is rest;
