@@ -8,7 +8,7 @@ use Rattle.sa_fast.specs.declared.instruction.Ran.{Ran}
 use Rattle.sa_fast.specs.declared.instruction.Ran.TheVariants.{Goes, Leaves, Blocks}
 use Rattle.sa_fast.specs.Work.{Work, with_name, work_of}
 use Rattle.sa_fast.specs.Instruction.{Outcome}
-use Rattle.sa_fast.specs.Rest.{one_if, one_of, threads_at_rest, empty_at, AreWorks, ArePartsFor}
+use Rattle.sa_fast.specs.Rest.{one_if, one_of, threads_at_rest, empty_at, AreWorks, ArePartsFor, AgreesAt, not_carried}
 
 -- a change of work lists by one context, which gains and loses these threads and keeps the name of what it has
 pub record WorkStep (old new : Work) (lost gained : ℕ → ℕ) : Type 0 where
@@ -44,3 +44,8 @@ pub record JoinStep (lists : List (List ℕ)) (w v : Option ThreadNo) (new : Wor
   pub counts : (t : ℕ) → count_in_all t new.lists ≡ count_in_all t lists
   -- the lists of others stay
   pub others : (l : ℕ) → one_of w l ≡ 0 → one_of v l ≡ 0 → list_at new.lists l ≡ list_at lists l
+
+-- the places of threads behind an instruction of thread t
+pub record PlaceStep (x : Shared) (t : ThreadNo) (o : Outcome) : Type 0 where
+  pub places : (u : ℕ) → AgreesAt o.shared u
+  pub carries : (u : ℕ) → not_carried o.shared u + stays_with o.answer t u ≡ not_carried x u + one_if t.0 u

@@ -67,14 +67,14 @@ place_inside p pc regs (Jnz reg place) is inside at =
 place_inside p pc regs i is inside at = inside
 
 -- NUMBERS OF THREADS
-made_below : (r : ReadyView) (t : ℕ) → unmade_at r t ≡ 0 → t < r.made
+pub made_below : (r : ReadyView) (t : ℕ) → unmade_at r t ≡ 0 → t < r.made
 made_below r t made = grind (arith, nat_tests)
 
-unmade_above : (r : ReadyView) (t : ℕ) → r.made ≤ t → unmade_at r t ≡ 1
+pub unmade_above : (r : ReadyView) (t : ℕ) → r.made ≤ t → unmade_at r t ≡ 1
 unmade_above r t above = grind (arith, nat_tests)
 
 -- one more is made
-one_made : (r : ReadyView) (n u : ℕ) → r.made ≡ n → unmade_at (record r { made = n + 1 }) u + one_if n u ≡ unmade_at r u
+pub one_made : (r : ReadyView) (n u : ℕ) → r.made ≡ n → unmade_at (record r { made = n + 1 }) u + one_if n u ≡ unmade_at r u
 one_made r n u is = grind (arith, nat_tests)
 
 -- the next thread to make is the one behind those that were made
@@ -82,7 +82,7 @@ next_by : (b : Bool) (m n : ℕ) → Some n ≡ cond b (Some m) None → (b ≡ 
 next_by true m n e = (refl, sym (same_Some _ _ e))
 next_by false m n e = absurd cc
 
-next_is : (r : ReadyView) (n : ℕ) → Some n ≡ next_made r → (r.made < r.threads) × (r.made ≡ n)
+pub next_is : (r : ReadyView) (n : ℕ) → Some n ≡ next_made r → (r.made < r.threads) × (r.made ≡ n)
 next_is r n e = let by = next_by (nat_lt r.made r.threads) r.made n e in (ltb-true r.made r.threads by.0, by.1)
 
 -- the same numbers of what is declared

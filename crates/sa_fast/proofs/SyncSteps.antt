@@ -35,7 +35,7 @@ count_of s k count q j inside most =
     holds-set (λ (x : Semaphore). x.count ≤ (semaphore_at s j).count + 1) s.semaphores k j (record { count = count; queue = q }) (semaphore_of 0) inside
     (λ same. subst (λ i. count ≤ (semaphore_at s i).count + 1) (sym same) most) (λ other. one_more (semaphore_at s j).count)
 
-locked_by-done : (s : Sync) (t m : ℕ) (holder : Option ℕ) (q : List ℕ) → (locked_by s t m holder q).state.done ≡ s.done
+pub locked_by-done : (s : Sync) (t m : ℕ) (holder : Option ℕ) (q : List ℕ) → (locked_by s t m holder q).state.done ≡ s.done
 locked_by-done s t m None q = refl
 locked_by-done s t m (Some holder) q = refl
 
@@ -55,7 +55,7 @@ locked-step s t m inside = record {
   counts = same_counts s (locked s t m).state (locked_by-semaphores s t m (mutex_at s m).holder (mutex_at s m).queue);
 }
 
-passed_on-done : (s : Sync) (m : ℕ) (q : List ℕ) → (passed_on s m q).state.done ≡ s.done
+pub passed_on-done : (s : Sync) (m : ℕ) (q : List ℕ) → (passed_on s m q).state.done ≡ s.done
 passed_on-done s m [] = refl
 passed_on-done s m (next ∷ q) = refl
 
@@ -74,7 +74,7 @@ unlocked-step s t m inside =
           (elim (is_holder t (mutex_at s m).holder) as (λ b. (cond b (passed_on s m q) (goes s)).state.semaphores ≡ s.semaphores) [ true ↦ passed_on-semaphores s m q | false ↦ refl ]);
     }
 
-waited_by-done : (s : Sync) (t k count : ℕ) (q : List ℕ) → (waited_by s t k count q).state.done ≡ s.done
+pub waited_by-done : (s : Sync) (t k count : ℕ) (q : List ℕ) → (waited_by s t k count q).state.done ≡ s.done
 waited_by-done s t k zero q = refl
 waited_by-done s t k (suc count) q = refl
 
@@ -90,7 +90,7 @@ waited-step s t k inside = record {
   counts = λ j. waited_by-counts s t k (semaphore_at s k).count (semaphore_at s k).queue j inside refl;
 }
 
-signalled_by-done : (s : Sync) (k count : ℕ) (q : List ℕ) → (signalled_by s k count q).state.done ≡ s.done
+pub signalled_by-done : (s : Sync) (k count : ℕ) (q : List ℕ) → (signalled_by s k count q).state.done ≡ s.done
 signalled_by-done s k count [] = refl
 signalled_by-done s k count (first ∷ q) = refl
 

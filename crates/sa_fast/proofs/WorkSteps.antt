@@ -9,7 +9,7 @@ use Rattle.sa_base.specs.declared.limits.TheConstants.{MAX_THREADS}
 use Rattle.sa_links.specs.Lists.{Lists, list_at, count_in, count_in_all}
 use Rattle.sa_links.proofs.Counting.{count-append, count_set, count_at, count_two, count_same}
 use Rattle.sa_links.proofs.CallerLemmas.{counts_moved}
-use Rattle.sa_fast.specs.Work.{Work, with_name, work_of, added, added_all, moved, renamed, joined, without_first, IsWork, IsUnlisted, AreApart}
+use Rattle.sa_fast.specs.Work.{Work, with_name, added, added_all, moved, renamed, joined, without_first, IsWork, IsUnlisted, AreApart}
 use Rattle.sa_fast.specs.Rest.{one_if, one_of, one_if_empty, empty_at, AreWorks}
 use Rattle.sa_fast.proofs.Moves.{WorkStep, JoinStep}
 use Rattle.sa_fast.proofs.WorkLemmas.{named-added, named-empties, named-renames, named-join, added_counts, added_named}
@@ -160,8 +160,8 @@ added_all-step works w (t ∷ ts) h work below once =
     let unlisted : count_in_all t works ≡ 0 = let one = count_one t t ts in let same = one_same t t refl in let o = once t in omega arith in
     let first = added-step works w n h work inside unlisted in
     let rest = added_all-step mid.lists mid.name ts first.works (added-work works w n h work inside)
-        (λ u some. below u (let one = count_one u t ts in omega arith))
-        (λ u. let one = count_one u t ts in let more = counts works w n h work inside unlisted u in let o = once u in omega arith) in
+    (λ u some. below u (let one = count_one u t ts in omega arith))
+    (λ u. let one = count_one u t ts in let more = counts works w n h work inside unlisted u in let o = once u in omega arith) in
     let both = then-step (with_name works w) mid (added_all mid ts) (λ u. 0) (one_of (Some n)) (λ u. 0) (λ u. count_in u ts) first rest in
     record {
       works = both.works;

@@ -2,7 +2,7 @@
 use Rattle.std.proofs.Common.{◌≡◌, ℕ, ◌+◌, ◌≤◌, Bool, true, false, not, Option, Some, None, List, [], ◌∷◌, ◌++◌, length, map, sum_by, get_or, slice_set, refl, ap, ◌∙◌, inl, inr, arith, length-append}
 use Rattle.std.proofs.lemmas.Bool.{cases_lt}
 use Rattle.std.proofs.lemmas.List.{get_or_past, set_past, length-map}
-use Rattle.std.proofs.lemmas.List.Sums.{sum_by-set, sum_by-cons}
+use Rattle.std.proofs.lemmas.List.Sums.{sum_by-set, sum_by-cons, get_or-le-sum_by}
 use Rattle.sa_base.specs.declared.number.ProcNo.{ProcNo}
 use Rattle.sa_base.specs.declared.number.SpaceNo.{SpaceNo}
 use Rattle.sa_base.specs.declared.number.ActNo.{ActNo}
@@ -239,3 +239,10 @@ module _ {C : Type 0} where
       let h = owed-handed (held_of (k.acts a.0)) a (record k { telling = notes }) in
       let x = h.0 in let y = h.1 in let z = h.2 in
       (omega arith, omega arith)
+
+  -- what is taken of a space is on its way
+  pub taken-pending : (k : State C) (s : ℕ) → length (taken_of k s) ≤ pending_count k
+  taken-pending k s = elim (cases_lt s (length k.taken)) [
+    | inl within ↦ let some = get_or-le-sum_by (λ (list : List ActNo). length list) k.taken s [] within in omega arith
+    | inr past ↦ let none = ap length (get_or_past k.taken s [] past) in omega arith
+  ]

@@ -8,12 +8,12 @@ use Rattle.sa_base.specs.declared.context.Stopped.{Stopped}
 use Rattle.sa_base.specs.declared.record.Note.{Note}
 use Rattle.sa_acts.specs.Table.{runs_in, held_of, space_of}
 use Rattle.sa_kernel.specs.declared.entry.TheConstants.{ENTRY_ITEMS}
-use Rattle.sa_kernel.specs.State.{State, Scene, owner_of, line_of, life_of, untold_of}
+use Rattle.sa_kernel.specs.State.{State, Scene, owner_of, line_of, life_of, untold_of, taken_of}
 use Rattle.sa_kernel.specs.Closing.{calls_for, closed}
 use Rattle.sa_kernel.specs.Entries.{next_note, held_for, after_fetch}
 use Rattle.sa_kernel.specs.Sound.{HasSizes, IsSound, AreClaimed, IsPrompt, note_claim}
 use Rattle.sa_kernel.specs.Seen.{low_of, IsLow, is_quiet}
-use Rattle.sa_kernel.specs.Owed.{owed_items}
+use Rattle.sa_kernel.specs.Owed.{owed_items, pending_count}
 use Rattle.sa_kernel.specs.Kept.{need_of}
 
 module _ {C : Type 0} where
@@ -75,3 +75,7 @@ module _ (C : Type 0) where
   -- the room for one entry and for what is owed suffices for the next entry
   abbrev pub OwedIsEnough : Type 0
   OwedIsEnough = (k : State C) → need_of k ≤ ENTRY_ITEMS + owed_items k
+
+  -- what is taken of a space is on its way, and so is at most one for each event
+  abbrev pub TakenIsPending : Type 0
+  TakenIsPending = (k : State C) (s : SpaceNo) → length (taken_of k s.0) ≤ pending_count k

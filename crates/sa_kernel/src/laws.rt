@@ -1,5 +1,5 @@
 // What holds of the kernel as a value, whatever its callers do: each contract is a law, and the bodies do nothing.
-ghost use Rattle.sa_kernel.specs.Laws.{OwnersRun, LowBitsSayWhere, LowBitsAreFew, QuietSaysSo, ToldContextsAreHeld, NotesAreHandedOut, NoticesWaitRightly, OwedIsEnough};
+ghost use Rattle.sa_kernel.specs.Laws.{OwnersRun, LowBitsSayWhere, LowBitsAreFew, QuietSaysSo, ToldContextsAreHeld, NotesAreHandedOut, NoticesWaitRightly, OwedIsEnough, TakenIsPending};
 
 /// Where a space owns a processor, an activation of it runs there.
 pub fn owners_run<C: Drop>()
@@ -31,7 +31,9 @@ pub fn notices_wait_rightly<C: Drop>()
     ensures { NoticesWaitRightly C }
 {}
 
-/// The room for an entry and for what is owed is no less than what `need` answers.
+/// The room for an entry and for what is owed is no less than what `need` answers; and of the activations that are
+/// taken of a space there are no more than notices are on their way.
 pub fn owed_is_enough<C: Drop>()
-    ensures { OwedIsEnough C }
+    ensures need { OwedIsEnough C }
+    ensures taken { TakenIsPending C }
 {}

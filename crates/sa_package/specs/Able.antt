@@ -1,5 +1,5 @@
 -- Where all stand, the package can do what is asked of it.
-use Rattle.std.proofs.Common.{◌≡◌, ◌≢◌, ℕ, ◌≤◌, ◌<◌, length, Option, Some, None, IfSome, refl, sym, ap, ◌∙◌, subst, arith}
+use Rattle.std.proofs.Common.{◌≡◌, ℕ, ◌≤◌, ◌<◌, Option, Some, None, IfSome, refl, sym, ap, ◌∙◌, subst, arith}
 use Rattle.sa_base.specs.declared.number.ThreadNo.{ThreadNo}
 use Rattle.sa_base.specs.declared.limits.TheConstants.{MAX_EVENTS}
 use Rattle.sa_base.specs.declared.context.Seen.{Seen}
@@ -22,11 +22,11 @@ use Rattle.sa_package.specs.Stands.{IsState, IsStanding}
 use Rattle.sa_package.specs.Holding.{own_work, own_runs, own_thread, own_made, own_below}
 use Rattle.sa_package.specs.Hands.{threads_of}
 use Rattle.sa_package.specs.Step.{local_at}
-use Rattle.sa_package.specs.Views.{between_threads}
+use Rattle.sa_package.specs.Views.{between_threads, carried_less}
 use Rattle.sa_fast.proofs.WorkSteps.{one_same}
 use Rattle.sa_package.specs.CodeRule.{code_can}
 use Rattle.sa_package.specs.WorkRule.{work_can}
-use Rattle.sa_package.specs.TakeRule.{carried_less, take_over_can}
+use Rattle.sa_package.specs.TakeRule.{take_over_can}
 
 module _ (s : Setting) (e : ℕ) (u : FastThreads) (cs : Contexts Context) (h : IsStanding s e u cs) (a : ℕ) (c : Context) (is : cs a ≡ Some c) where
   -- a step
@@ -35,7 +35,7 @@ module _ (s : Setting) (e : ℕ) (u : FastThreads) (cs : Contexts Context) (h : 
     thread_runs None outside carries = tt
     thread_runs (Some n) outside carries = own_runs s e u cs h a c is f later within n (λ x.
         let alone : one_of (thread_alone (section_in c.state) (carried_by c.state)) x ≡ one_if n.0 x =
-            ap (λ o. one_of (thread_alone o (carried_by c.state)) x) outside ∙ ap (λ o. one_of o x) carries in
+        ap (λ o. one_of (thread_alone o (carried_by c.state)) x) outside ∙ ap (λ o. one_of o x) carries in
         omega arith)
 
     acts : (state : State) → c.state ≡ state → CanAct u c state
@@ -70,7 +70,7 @@ module _ (s : Setting) (e : ℕ) (u : FastThreads) (cs : Contexts Context) (h : 
     go_at Return at local = absurd local
     go_at (User t) at local =
         let mine : 1 ≤ threads_of u.shared.works (Some c) t.0 =
-            (let all = between_threads c (Some t) (ap section_in at) (ap carried_by at) u.shared.works t.0 in let one = one_same t.0 t.0 refl in omega arith) in
+        (let all = between_threads c (Some t) (ap section_in at) (ap carried_by at) u.shared.works t.0 in let one = one_same t.0 t.0 refl in omega arith) in
         subst (CanGoAt u) (sym at) (own_below s e u cs h a c is t.0 mine, h.parts.at t.0 (own_made s e u cs h a c is t.0 mine))
     go_at (Look looks) at local = absurd local
 

@@ -1,12 +1,11 @@
 -- All stands at the opening, stays so at later events, with a fresh context, and where a context settles.
-use Rattle.std.proofs.Common.{◌≡◌, ℕ, zero, suc, ◌+◌, ◌≤◌, ◌<◌, Bool, true, false, cond, eqb, ltb, List, [], ◌∷◌, ◌++◌, length, map, set, replicate, get_or, Option, Some, None, refl, sym, ap, ◌∙◌, subst, inl, inr, arith}
-use Rattle.std.specs.Prelude.{All, is_some}
-use Rattle.std.proofs.lemmas.Bool.{cases_lt}
+use Rattle.std.proofs.Common.{◌≡◌, ◌≢◌, ℕ, zero, suc, ◌+◌, ◌≤◌, Bool, true, false, cond, List, [], ◌∷◌, ◌++◌, length, map, set, replicate, get_or, Some, None, refl, sym, ap, ◌∙◌, subst, inl, inr, arith}
+use Rattle.std.specs.Prelude.{All}
+use Rattle.std.proofs.lemmas.Bool.{cases_eq, cases_lt}
 use Rattle.std.proofs.lemmas.Bool.Decides.{nat_tests}
-use Rattle.std.proofs.lemmas.List.{length-set, length-map, length-replicate, get_or-map, get_or_past, get_or-set_other}
+use Rattle.std.proofs.lemmas.List.{length-set, length-map, length-replicate, get_or-map, get_or_past, get_or-set_same, get_or-set_other}
 use Rattle.std.proofs.lemmas.List.Elements.{All-get_or}
 use Rattle.std.proofs.lemmas.List.Sums.{sum_by-append, sum_by-cons}
-use Rattle.sa_base.specs.declared.number.ThreadNo.{ThreadNo}
 use Rattle.sa_base.specs.declared.limits.TheConstants.{MAX_THREADS}
 use Rattle.sa_base.specs.declared.context.Seen.{Seen}
 use Rattle.sa_instr.specs.declared.limits.TheConstants.{MAX_START}
@@ -22,29 +21,30 @@ use Rattle.sa_lists.specs.ReadyView.{ReadyView, no_threads, with_made, with_lock
 use Rattle.sa_lists.proofs.Changes.{ready-with_made, ready-with_lock, ready-pushed}
 use Rattle.sa_sync.specs.Sync.{Mutex, Semaphore, free_mutex, semaphore_of, semaphore_at, opening, waits_of}
 use Rattle.sa_sync.proofs.Lists.{map-replicate}
-use Rattle.sa_code.specs.Changes.{IsPackage}
 use Rattle.sa_code.proofs.Kept.{begun-package}
 use Rattle.sa_copies.specs.Copies.{package_ops}
-use Rattle.sa_fast.specs.declared.threads.Place.TheVariants.{Ready}
-use Rattle.sa_fast.specs.Threads.{unmade, at_start, block_at, with_block}
+use Rattle.sa_fast.specs.declared.threads.Place.{Place}
+use Rattle.sa_fast.specs.declared.threads.Place.TheVariants.{Ready, Unmade}
+use Rattle.sa_fast.specs.declared.threads.Block.{Block}
+use Rattle.sa_fast.specs.Threads.{unmade, at_start, block_at}
 use Rattle.sa_fast.specs.Instruction.{IsAt}
-use Rattle.sa_fast.specs.Rest.{one_if, done_at, unmade_at, one_if_empty, threads_at_rest, empty_at, FitsSpace, AreWorks, ArePartsFor}
+use Rattle.sa_fast.specs.Rest.{one_if, done_at, unmade_at, one_if_empty, threads_at_rest, empty_at, FitsSpace, AreWorks, AgreesBy, AgreesAt, place_at, is_carried, not_carried}
 use Rattle.sa_fast.proofs.WorkLemmas.{named-new}
 use Rattle.sa_fast.proofs.WorkSteps.{count_one}
 use Rattle.sa_fast.proofs.SyncSteps.{holds-set}
+use Rattle.sa_fast.proofs.RunSteps.{unmade_above}
 use Rattle.sa_package.specs.declared.context.Context.{Context}
 use Rattle.sa_package.specs.declared.context.State.{State}
 use Rattle.sa_package.specs.declared.context.State.TheVariants.{Code, Work, Hint, Return, User, Look}
 use Rattle.sa_package.specs.declared.package.FastThreads.{FastThreads}
-use Rattle.sa_package.specs.Context.{fresh, carried_by, section_in, settled_to, stands_between, is_left, has_bulk}
-use Rattle.sa_package.specs.Rules.{owed, settled}
+use Rattle.sa_package.specs.Context.{fresh, carried_by, section_in, stands_between}
+use Rattle.sa_package.specs.Rules.{settled}
 use Rattle.sa_package.specs.Step.{opened, started, answered}
 use Rattle.sa_package.specs.Hands.{AreInOnePlace, free_locks}
 use Rattle.sa_package.specs.Stands.{IsStanding}
-use Rattle.sa_package.specs.Changing.{IsChange, change-stands, later-stands}
-use Rattle.sa_package.specs.Views.{settled_between}
+use Rattle.sa_package.specs.Changing.{IsChange, still-change, change-stands, later-stands}
 use Rattle.sa_package.specs.Parts.{parts_later}
-use Rattle.sa_package.specs.SettleRule.{same-change, settled-change}
+use Rattle.sa_package.specs.WorkRule.{settled-change}
 
 -- THE OPENING. Lists of which none has anything
 empty_lists : (n l : ℕ) → list_at (replicate n []) l ≡ []
@@ -89,6 +89,11 @@ all_false : (n i : ℕ) → get_or (replicate n false) i false ≡ false
 all_false zero i = refl
 all_false (suc n) zero = refl
 all_false (suc n) (suc i) = all_false n i
+
+all_unmade : (n t : ℕ) → block_at (replicate n unmade) t ≡ unmade
+all_unmade zero t = refl
+all_unmade (suc n) zero = refl
+all_unmade (suc n) (suc t) = all_unmade n t
 
 -- all locks are free
 opened_free : (processors l : ℕ) → 1 ≤ processors → is_locked (opened processors) l ≡ false
@@ -153,6 +158,52 @@ all_at_rest rest all = record {
   somewhere = λ t none. absurd (omega (arith, all t));
 }
 
+-- thread 0 is Ready, all others are Unmade
+module _ (s : Setting) (h : IsSetting s) where
+  place_first : place_at (started s).shared 0 ≡ Ready
+  place_first = ap (λ (b : Block). b.place) (get_or-set_same (replicate MAX_THREADS unmade) 0 (at_start 0 Ready) unmade (omega (arith, length-replicate MAX_THREADS unmade)))
+
+  place_rest : (t : ℕ) → t ≢ 0 → place_at (started s).shared t ≡ Unmade
+  place_rest t ne = ap (λ (b : Block). b.place) (get_or-set_other (replicate MAX_THREADS unmade) 0 t (at_start 0 Ready) unmade ne ∙ all_unmade MAX_THREADS t)
+
+  ends : (t : ℕ) → done_at (opening s.def) t ≡ 0
+  ends t = ap (λ b. cond b 1 0) (all_false MAX_THREADS t)
+
+  abbrev Agrees : ℕ → Place → Type 0
+  Agrees t p = AgreesBy (count_in_all t (opened s.processors).lists) (waits_of (opening s.def) t) (done_at (opening s.def) t) (unmade_at (opened s.processors) t) p
+
+  agrees_first : Agrees 0 Ready
+  agrees_first =
+      let made : unmade_at (opened s.processors) 0 ≡ 0 = refl in
+      record {
+        ready = omega (arith, opened_count s.processors 0 h.some_processor, made);
+        waiting = omega (arith, opening_waits s.def 0);
+        ends = ends 0;
+        new = made;
+      }
+
+  agrees_rest : (t : ℕ) → t ≢ 0 → Agrees t Unmade
+  agrees_rest t ne =
+      let made : unmade_at (opened s.processors) t ≡ 1 = unmade_above (opened s.processors) t (omega arith) in
+      record {
+        ready = omega (arith, opened_count s.processors t h.some_processor, made);
+        waiting = omega (arith, opening_waits s.def t);
+        ends = ends t;
+        new = made;
+      }
+
+  started_places : (t : ℕ) → AgreesAt (started s).shared t
+  started_places t = elim (cases_eq t 0) [
+    | inl e ↦ subst (AgreesAt (started s).shared) (sym e) (subst (Agrees 0) (sym place_first) agrees_first)
+    | inr ne ↦ subst (Agrees t) (sym (place_rest t ne)) (agrees_rest t ne)
+  ]
+
+  started_carries : (t : ℕ) → not_carried (started s).shared t ≡ 1
+  started_carries t = elim (cases_eq t 0) [
+    | inl e ↦ ap (not_carried (started s).shared) e ∙ ap (λ p. cond (is_carried p) 0 1) place_first
+    | inr ne ↦ ap (λ p. cond (is_carried p) 0 1) (place_rest t ne)
+  ]
+
 pub starts : (s : Setting) → IsSetting s → IsStanding s 0 (started s) (λ a. None)
 starts s h =
     let none : List ℕ = [] in
@@ -177,6 +228,8 @@ starts s h =
       threads = all_at_rest (threads_at_rest (started s).shared)
           (λ t. let ends : done_at (opening s.def) t ≡ 0 = ap (λ b. cond b 1 0) (all_false MAX_THREADS t) in omega (arith, opened_count s.processors t h.some_processor, opening_waits s.def t, ends));
       works = all_at_rest (empty_at (replicate MAX_THREADS [])) (λ l. ap one_if_empty (empty_lists MAX_THREADS l));
+      places = started_places s h;
+      carries = all_at_rest (not_carried (started s).shared) (started_carries s h);
       contexts = λ a c nothing. absurd cc;
     }
 
@@ -195,24 +248,23 @@ begins s e u cs a h none = change-stands s e u cs h e a u None fresh none (recor
   names = λ l. refl;
   works = λ l nothing some. refl;
   lists = λ l nothing held. refl;
+  places = h.places;
+  carries = λ t. refl;
   context = record { state = tt; sections = tt };
 })
 
 -- BEHIND NOTICES AND ANSWERS
 module _ (s : Setting) (e : ℕ) (u : FastThreads) (cs : Contexts Context) (h : IsStanding s e u cs) (a : ℕ) (c : Context) (is : cs a ≡ Some c) (seen : Seen) where
-  settled-here : section_in c.state ≡ None → IsChange s e u u (Some c) (settled u seen c (carried_by c.state))
-  settled-here outside =
-      let t : Option ThreadNo = carried_by c.state in
-      settled-change s e e u cs h (omega arith) a c t (settled_to t (is_left c) (is_some (owed u seen)) (has_bulk seen)) is outside refl
-      (settled_between t (is_left c) (is_some (owed u seen)) (has_bulk seen))
+  settles : section_in c.state ≡ None → IsChange s e u u (Some c) (settled u seen c (carried_by c.state))
+  settles outside = settled-change s e u cs h a c is (carried_by c.state) outside refl seen
 
   answered-by : (state : State) → c.state ≡ state → IsChange s e u u (Some c) (cond (stands_between state) (settled u seen c (carried_by c.state)) c)
-  answered-by (Code f) at = same-change s e e u cs h (omega arith) a c is
-  answered-by (Work t) at = settled-here (ap section_in at)
-  answered-by (Hint t) at = settled-here (ap section_in at)
-  answered-by Return at = settled-here (ap section_in at)
-  answered-by (User t) at = settled-here (ap section_in at)
-  answered-by (Look looks) at = same-change s e e u cs h (omega arith) a c is
+  answered-by (Code f) at = still-change s e u cs h a c is
+  answered-by (Work t) at = settles (ap section_in at)
+  answered-by (Hint t) at = settles (ap section_in at)
+  answered-by Return at = settles (ap section_in at)
+  answered-by (User t) at = settles (ap section_in at)
+  answered-by (Look looks) at = still-change s e u cs h a c is
 
   pub answers : IsStanding s e (answered u seen c).0 (put cs a (Some (answered u seen c).1))
   answers = change-stands s e u cs h e a u (Some c) (answered u seen c).1 is (answered-by c.state refl)

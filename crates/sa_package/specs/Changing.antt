@@ -15,15 +15,15 @@ use Rattle.sa_code.specs.declared.state.Frame.{Frame}
 use Rattle.sa_code.specs.Micro.{list_in}
 use Rattle.sa_copies.specs.Copies.{package_ops}
 use Rattle.sa_fast.specs.Work.{work_of}
-use Rattle.sa_fast.specs.Rest.{one_of, threads_at_rest, empty_at, ArePartsFor}
+use Rattle.sa_fast.specs.Rest.{one_of, threads_at_rest, empty_at, ArePartsFor, AgreesAt, not_carried}
 use Rattle.sa_fast.proofs.WorkSteps.{one_same}
 use Rattle.sa_package.specs.declared.context.Context.{Context}
 use Rattle.sa_package.specs.declared.package.FastThreads.{FastThreads}
 use Rattle.sa_package.specs.Laws.{IsMadeFor}
 use Rattle.sa_package.specs.Context.{carried_by, section_in}
 use Rattle.sa_package.specs.Rules.{thread_alone}
-use Rattle.sa_package.specs.Hands.{AreInOnePlace, sections_of, locks_in, free_locks, locks_of, threads_in, threads_of, name_of}
-use Rattle.sa_package.specs.Stands.{Fits, IsSection, AreSections, IsContext, IsStanding}
+use Rattle.sa_package.specs.Hands.{sections_of, locks_in, free_locks, locks_of, threads_in, threads_of, name_of, carried_of}
+use Rattle.sa_package.specs.Stands.{Fits, AreSections, IsContext, IsStanding}
 use Rattle.sa_package.specs.OnePlace.{moves, joins}
 
 -- sections stay sections where their lists stay
@@ -40,8 +40,7 @@ fits_kept r s f (Some Yield) same h = absurd h
 pub sections_kept : (r s : ReadyView) (fs : List Frame) → ((l : ℕ) → 1 ≤ locks_in fs l → list_of s l ≡ list_of r l) → AreSections r fs → AreSections s fs
 sections_kept r s [] same h = tt
 sections_kept r s (f ∷ fs) same h =
-    let one = one_same (list_in f).0 (list_in f).0 refl in
-    (
+    let one = one_same (list_in f).0 (list_in f).0 refl in (
       record { copy = h.0.copy; fits = fits_kept r s f (slice_get package_ops f.pc) (same (list_in f).0 (omega arith)) h.0.fits },
       sections_kept r s fs (λ l some. same l (omega arith)) h.1,
     )
@@ -51,9 +50,9 @@ pub hand_kept : (works after : List (List ℕ)) (c : Context) → ((n : ThreadNo
     → (t : ℕ) → threads_of after (Some c) t ≡ threads_of works (Some c) t
 hand_kept works after c same t =
     ap (λ (xs : List ℕ). threads_in (sections_of c) t + one_of (thread_alone (section_in c.state) (carried_by c.state)) t + count_in t xs) (kept_by c.work same) where
-  kept_by : (w : Option ThreadNo) → ((n : ThreadNo) → w ≡ Some n → list_at after n.0 ≡ list_at works n.0) → work_of after w ≡ work_of works w
-  kept_by None h = refl
-  kept_by (Some n) h = h n refl
+      kept_by : (w : Option ThreadNo) → ((n : ThreadNo) → w ≡ Some n → list_at after n.0 ≡ list_at works n.0) → work_of after w ≡ work_of works w
+      kept_by None h = refl
+      kept_by (Some n) h = h n refl
 
 -- a context that names a work list
 pub names_own : (c : Context) (n : ThreadNo) → c.work ≡ Some n → name_of (Some c) n.0 ≡ 1
@@ -70,6 +69,8 @@ pub record IsChange (s : Setting) (event : ℕ) (u v : FastThreads) (old : Optio
   -- the lists of others stay
   pub works : (l : ℕ) → name_of old l ≡ 0 → empty_at u.shared.works l ≡ 0 → list_at v.shared.works l ≡ list_at u.shared.works l
   pub lists : (l : ℕ) → locks_of old l ≡ 0 → free_locks u.shared.state.lists l ≡ 0 → list_of v.shared.state.lists l ≡ list_of u.shared.state.lists l
+  pub places : (t : ℕ) → AgreesAt v.shared t
+  pub carries : (t : ℕ) → not_carried v.shared t + carried_of (Some new) t ≡ not_carried u.shared t + carried_of old t
   pub context : IsContext v.shared.state.lists new
 
 module _ (s : Setting) (e : ℕ) (u : FastThreads) (cs : Contexts Context) (h : IsStanding s e u cs) where
@@ -107,10 +108,14 @@ module _ (s : Setting) (e : ℕ) (u : FastThreads) (cs : Contexts Context) (h : 
         threads = moves (threads_at_rest u.shared) (threads_at_rest v.shared) (λ b. threads_of u.shared.works (cs b)) (λ b. threads_of v.shared.works (put cs a (Some new) b)) a h.threads
             (λ t. ap (λ x. threads_at_rest v.shared t + threads_of v.shared.works x t) here ∙ k.threads t ∙ ap (λ x. threads_at_rest u.shared t + threads_of u.shared.works x t) (sym is))
             (λ b t ne. ap (λ x. threads_of v.shared.works x t) (there b ne)
-                ∙ other_hand v.shared.works b (cs b) refl (λ l some. k.works l (ap (λ x. name_of x l) (sym is) ∙ name_none a b l ne some) (name_full b l some)) t);
+            ∙ other_hand v.shared.works b (cs b) refl (λ l some. k.works l (ap (λ x. name_of x l) (sym is) ∙ name_none a b l ne some) (name_full b l some)) t);
         works = moves (empty_at u.shared.works) (empty_at v.shared.works) (λ b. name_of (cs b)) (λ b. name_of (put cs a (Some new) b)) a h.works
             (λ l. ap (λ x. empty_at v.shared.works l + name_of x l) here ∙ k.names l ∙ ap (λ x. empty_at u.shared.works l + name_of x l) (sym is))
             (λ b l ne. ap (λ x. name_of x l) (there b ne));
+        places = k.places;
+        carries = moves (not_carried u.shared) (not_carried v.shared) (λ b. carried_of (cs b)) (λ b. carried_of (put cs a (Some new) b)) a h.carries
+            (λ t. ap (λ x. not_carried v.shared t + carried_of x t) here ∙ k.carries t ∙ ap (λ x. not_carried u.shared t + carried_of x t) (sym is))
+            (λ b t ne. ap (λ x. carried_of x t) (there b ne));
         contexts = λ b c at. elim (cases_eq b a) [
           | inl same ↦
               let one : c ≡ new = same_Some c new (sym at ∙ ap (put cs a (Some new)) same ∙ here) in
@@ -122,15 +127,31 @@ module _ (s : Setting) (e : ℕ) (u : FastThreads) (cs : Contexts Context) (h : 
                 state = was.state;
                 sections = sections_kept u.shared.state.lists v.shared.state.lists (sections_of c)
                     (λ l some. let has : 1 ≤ locks_of (cs b) l = subst (λ x. 1 ≤ locks_of x l) (sym old_at) some in
-                        k.lists l (ap (λ x. locks_of x l) (sym is) ∙ lock_none a b l ne has) (lock_held b l has))
+                    k.lists l (ap (λ x. locks_of x l) (sym is) ∙ lock_none a b l ne has) (lock_held b l has))
                     was.sections;
               }
         ];
       }
 
+  -- nothing changes
+  pub still-change : (a : ℕ) (c : Context) → cs a ≡ Some c → IsChange s e u u (Some c) c
+  still-change a c is = record {
+    made = h.made;
+    code = h.code;
+    parts = h.parts;
+    locks = λ l. refl;
+    threads = λ t. refl;
+    names = λ l. refl;
+    works = λ l none some. refl;
+    lists = λ l none held. refl;
+    places = h.places;
+    carries = λ t. refl;
+    context = h.contexts a c is;
+  }
+
   -- the same value and contexts stand at a later event, where the parts do
   pub later-stands : (f : ℕ) → ArePartsFor u.def u.processors f u.shared → IsStanding s f u cs
-  later-stands f parts = record { made = h.made; code = h.code; parts = parts; locks = h.locks; threads = h.threads; works = h.works; contexts = h.contexts }
+  later-stands f parts = record { made = h.made; code = h.code; parts = parts; locks = h.locks; threads = h.threads; works = h.works; places = h.places; carries = h.carries; contexts = h.contexts }
 
 -- ONE CONTEXT IS TAKEN OVER: what is to be shown of it
 pub record IsJoin (s : Setting) (event : ℕ) (u v : FastThreads) (c d new : Context) : Type 0 where
@@ -143,6 +164,8 @@ pub record IsJoin (s : Setting) (event : ℕ) (u v : FastThreads) (c d new : Con
   pub names : (l : ℕ) → empty_at v.shared.works l + name_of (Some new) l ≡ empty_at u.shared.works l + name_of (Some c) l + name_of (Some d) l
   pub works : (l : ℕ) → name_of (Some c) l ≡ 0 → name_of (Some d) l ≡ 0 → empty_at u.shared.works l ≡ 0 → list_at v.shared.works l ≡ list_at u.shared.works l
   pub lists : v.shared.state.lists ≡ u.shared.state.lists
+  pub places : (t : ℕ) → AgreesAt v.shared t
+  pub carries : (t : ℕ) → not_carried v.shared t + carried_of (Some new) t ≡ not_carried u.shared t + carried_of (Some c) t + carried_of (Some d) t
   pub context : IsContext v.shared.state.lists new
 
 module _ (s : Setting) (e : ℕ) (u : FastThreads) (cs : Contexts Context) (h : IsStanding s e u cs) where
@@ -160,23 +183,29 @@ module _ (s : Setting) (e : ℕ) (u : FastThreads) (cs : Contexts Context) (h : 
         parts = k.parts;
         locks = joins (free_locks u.shared.state.lists) (free_locks v.shared.state.lists) (λ x. locks_of (cs x)) (λ x. locks_of (ds x)) a b h.locks ne
             (λ l. ap (λ x. free_locks v.shared.state.lists l + locks_of x l) at_a ∙ k.locks l
-                ∙ ap (λ x. free_locks u.shared.state.lists l + locks_of x l + locks_of (Some d) l) (sym is_a) ∙ ap (λ x. free_locks u.shared.state.lists l + locks_of (cs a) l + locks_of x l) (sym is_b))
+            ∙ ap (λ x. free_locks u.shared.state.lists l + locks_of x l + locks_of (Some d) l) (sym is_a) ∙ ap (λ x. free_locks u.shared.state.lists l + locks_of (cs a) l + locks_of x l) (sym is_b))
             (λ l. ap (λ x. locks_of x l) at_b)
             (λ x l na nb. ap (λ y. locks_of y l) (there x na nb));
         threads = joins (threads_at_rest u.shared) (threads_at_rest v.shared) (λ x. threads_of u.shared.works (cs x)) (λ x. threads_of v.shared.works (ds x)) a b h.threads ne
             (λ t. ap (λ x. threads_at_rest v.shared t + threads_of v.shared.works x t) at_a ∙ k.threads t
-                ∙ ap (λ x. threads_at_rest u.shared t + threads_of u.shared.works x t + threads_of u.shared.works (Some d) t) (sym is_a)
-                ∙ ap (λ x. threads_at_rest u.shared t + threads_of u.shared.works (cs a) t + threads_of u.shared.works x t) (sym is_b))
+            ∙ ap (λ x. threads_at_rest u.shared t + threads_of u.shared.works x t + threads_of u.shared.works (Some d) t) (sym is_a)
+            ∙ ap (λ x. threads_at_rest u.shared t + threads_of u.shared.works (cs a) t + threads_of u.shared.works x t) (sym is_b))
             (λ t. ap (λ x. threads_of v.shared.works x t) at_b)
             (λ x t na nb. ap (λ y. threads_of v.shared.works y t) (there x na nb)
-                ∙ other_hand s e u cs h v.shared.works x (cs x) refl
-                    (λ l some. k.works l (ap (λ y. name_of y l) (sym is_a) ∙ name_none s e u cs h a x l na some) (ap (λ y. name_of y l) (sym is_b) ∙ name_none s e u cs h b x l nb some)
-                        (name_full s e u cs h x l some)) t);
+            ∙ other_hand s e u cs h v.shared.works x (cs x) refl
+            (λ l some. k.works l (ap (λ y. name_of y l) (sym is_a) ∙ name_none s e u cs h a x l na some) (ap (λ y. name_of y l) (sym is_b) ∙ name_none s e u cs h b x l nb some)
+            (name_full s e u cs h x l some)) t);
         works = joins (empty_at u.shared.works) (empty_at v.shared.works) (λ x. name_of (cs x)) (λ x. name_of (ds x)) a b h.works ne
             (λ l. ap (λ x. empty_at v.shared.works l + name_of x l) at_a ∙ k.names l
-                ∙ ap (λ x. empty_at u.shared.works l + name_of x l + name_of (Some d) l) (sym is_a) ∙ ap (λ x. empty_at u.shared.works l + name_of (cs a) l + name_of x l) (sym is_b))
+            ∙ ap (λ x. empty_at u.shared.works l + name_of x l + name_of (Some d) l) (sym is_a) ∙ ap (λ x. empty_at u.shared.works l + name_of (cs a) l + name_of x l) (sym is_b))
             (λ l. ap (λ x. name_of x l) at_b)
             (λ x l na nb. ap (λ y. name_of y l) (there x na nb));
+        places = k.places;
+        carries = joins (not_carried u.shared) (not_carried v.shared) (λ x. carried_of (cs x)) (λ x. carried_of (ds x)) a b h.carries ne
+            (λ t. ap (λ x. not_carried v.shared t + carried_of x t) at_a ∙ k.carries t
+            ∙ ap (λ x. not_carried u.shared t + carried_of x t + carried_of (Some d) t) (sym is_a) ∙ ap (λ x. not_carried u.shared t + carried_of (cs a) t + carried_of x t) (sym is_b))
+            (λ t. ap (λ x. carried_of x t) at_b)
+            (λ x t na nb. ap (λ y. carried_of y t) (there x na nb));
         contexts = λ x y at. elim (cases_eq x b) [
           | inl same ↦ absurd (let none : None ≡ Some y = sym at_b ∙ ap ds (sym same) ∙ at in cc)
           | inr nb ↦ elim (cases_eq x a) [

@@ -1,19 +1,20 @@
 -- A step in the code of the package keeps all standing.
-use Rattle.std.proofs.Common.{◌≡◌, ◌≢◌, ℕ, ◌+◌, ◌≤◌, ◌<◌, Bool, true, false, List, [], ◌∷◌, length, Option, Some, None, IsSome, is_some, slice_get, refl, sym, ap, ◌∙◌, subst, ◌⊎◌, inl, inr, arith}
-use Rattle.std.proofs.lemmas.Bool.{cases_eq}
+use Rattle.std.proofs.Common.{◌≡◌, ◌≢◌, ℕ, ◌+◌, ◌≤◌, ◌<◌, true, [], ◌∷◌, length, Option, Some, None, IsSome, is_some, slice_get, refl, sym, ap, ◌∙◌, subst, ◌⊎◌, inl, inr, arith}
 use Rattle.sa_base.specs.declared.number.ThreadNo.{ThreadNo}
 use Rattle.sa_base.specs.declared.context.Seen.{Seen}
 use Rattle.sa_base.specs.declared.record.Record.TheVariants.{Back}
 use Rattle.sa_abstract.specs.Setting.{Setting}
 use Rattle.sa_abstract.specs.Calls.{Contexts}
 use Rattle.sa_links.specs.Lists.{count_in, count_in_all}
-use Rattle.sa_lists.specs.ReadyView.{ReadyView, list_of, thread}
+use Rattle.sa_links.proofs.Counting.{count_at}
+use Rattle.std.proofs.lemmas.Option.{same_Some}
+use Rattle.sa_lists.specs.ReadyView.{list_of, thread}
 use Rattle.sa_lists.proofs.Changes.{list_of-with_list_other, count-with_list}
 use Rattle.sa_code.specs.declared.code.Op.{Op}
 use Rattle.sa_code.specs.declared.code.Op.TheVariants.{TakePush, Push, TakePop, Pop, Free, Leave, Yield}
 use Rattle.sa_code.specs.declared.state.Frame.{Frame}
 use Rattle.sa_code.specs.declared.state.MicroDone.TheVariants as micros
-use Rattle.sa_code.specs.Micro.{Micro, micro, stays, pushed, popped, freed, chosen, without_chosen, list_in, CanChange, CanPush, CanPop, CanDo}
+use Rattle.sa_code.specs.Micro.{Micro, micro, stays, pushed, popped, freed, chosen, without_chosen, list_in, CanChange, CanPush, CanDo}
 use Rattle.sa_code.specs.Changes.{IsPackage}
 use Rattle.sa_code.proofs.Steps.{pushed-changes_only, popped-changes_only, freed-changes_only}
 use Rattle.sa_code.proofs.Kept.{micro-package}
@@ -23,7 +24,7 @@ use Rattle.sa_copies.specs.Runs.{is_section_op}
 use Rattle.sa_copies.proofs.Places.{next-push, next-pop, next-free}
 use Rattle.sa_fast.specs.declared.threads.Place.TheVariants.{Ready, Running, Blocked, Carried}
 use Rattle.sa_fast.specs.Work.{work_of}
-use Rattle.sa_fast.specs.Rest.{one_if, one_of}
+use Rattle.sa_fast.specs.Rest.{one_if, one_of, threads_at_rest, AgreesAt, not_carried}
 use Rattle.sa_fast.proofs.WorkSteps.{count_one, one_same, one_other}
 use Rattle.sa_package.specs.declared.context.Context.{Context}
 use Rattle.sa_package.specs.declared.context.State.{State}
@@ -31,12 +32,13 @@ use Rattle.sa_package.specs.declared.context.State.TheVariants.{Code}
 use Rattle.sa_package.specs.declared.package.FastThreads.{FastThreads}
 use Rattle.sa_package.specs.Context.{carried_by, section_in, is_left, has_bulk, settled_to}
 use Rattle.sa_package.specs.Conditions.{IsThread, CanBeDue, CanCode}
-use Rattle.sa_package.specs.Rules.{thread_alone, at_state, owed, settled, placed, with_shared, with_package, put_last, due_last, coded_by, coded, goes_on}
-use Rattle.sa_package.specs.Hands.{sections_of, locks_in, free_locks, locks_of, threads_in, threads_of}
+use Rattle.sa_package.specs.Rules.{thread_alone, at_state, owed, settled, placed, with_shared, with_package, put_last, coded_by, coded, goes_on}
+use Rattle.sa_package.specs.Hands.{carried_of, sections_of, locks_in, locks_of, threads_in, threads_of}
 use Rattle.sa_package.specs.Stands.{Fits, AreSections, StandsAt, IsState, IsContext, IsStanding}
-use Rattle.sa_package.specs.Changing.{IsChange, sections_kept}
+use Rattle.sa_package.specs.Changing.{IsChange, sections_kept, still-change}
 use Rattle.sa_package.specs.Views.{IsBetween, settled_between, yields_between, between_locks, between_threads, between_context, between_rest, section_sections, section_locks, section_threads, section_context, section_fits, section_rest, has_copy}
-use Rattle.sa_package.specs.Holding.{lock_once, own_locked, own_inside, own_made, own_below, own_unready, own_due, own_thread, own_work}
+use Rattle.sa_package.specs.Holding.{lock_once, own_locked, own_inside, own_made, own_unready, own_due, own_thread, own_work, own_rest, rest_once}
+use Rattle.sa_package.specs.PlaceFacts.{IsPlaceable, agree_one, agree_in_hand, put_down, picked_up, put_still, rest_not_carried, own_placeable, own_at_rest, beside_placeable, blocked_hand, carried_hand_place}
 use Rattle.sa_package.specs.Parts.{parts_placed, parts_state, parts_works, made_with, due-step, lock_freed, count_chosen}
 
 -- where a context stands in the code
@@ -63,6 +65,19 @@ module _ (s : Setting) (e : ℕ) (u : FastThreads) (cs : Contexts Context) (h : 
 
   op_is : slice_get u.shared.state.code f.pc ≡ slice_get package_ops f.pc
   op_is = ap (λ ops. slice_get ops f.pc) h.code
+
+  -- the thread that is carried
+  carries : carried_by c.state ≡ f.thread
+  carries = ap carried_by at
+
+  thread_placeable : IsPlaceable u.shared f.thread 0
+  thread_placeable = own_placeable s e u cs h a c is f.thread carries
+
+  thread_rest : (m : ThreadNo) → f.thread ≡ Some m → threads_at_rest u.shared m.0 ≡ 0
+  thread_rest = own_at_rest s e u cs h a c is f.thread carries
+
+  carried_x : (x : ℕ) → carried_of (Some c) x ≡ one_of f.thread x
+  carried_x x = ap (λ o. one_of o x) carries
 
   -- IN A SECTION
   module _ (k : ℕ) (copy : copy_at f.pc ≡ Some k) where
@@ -156,21 +171,19 @@ module _ (s : Setting) (e : ℕ) (u : FastThreads) (cs : Contexts Context) (h : 
     abbrev Keeps : Option Op → Micro → Type 0
     Keeps op m = IsPackage m.state → IsChange s e u (coded_by u seen c f op m m.done).user (Some c) (coded_by u seen c f op m m.done).ctx
 
-    -- nothing changes
-    pub stays_so : IsChange s e u u (Some c) c
-    stays_so = record {
-      made = h.made; code = h.code; parts = h.parts;
-      locks = λ m. refl; threads = λ x. refl; names = λ m. refl; works = λ m x y. refl; lists = λ m x y. refl;
-      context = here;
-    }
-
     -- the thread that is carried blocks
     faults : (op : Option Op) → Keeps op (stays u.shared.state f micros.Faulted [])
     faults op sound = record {
       made = made_with s u (placed u.shared f.thread Blocked) h.made refl;
       code = h.code;
       parts = parts_placed u.def u.processors e u.shared f.thread Blocked h.parts;
-      locks = λ m. refl; threads = λ x. refl; names = λ m. refl; works = λ m x y. refl; lists = λ m x y. refl;
+      locks = λ m. refl;
+      threads = λ x. refl;
+      names = λ m. refl;
+      works = λ m x y. refl;
+      lists = λ m x y. refl;
+      places = agree_in_hand u.shared f.thread 0 Blocked blocked_hand thread_placeable thread_rest h.places;
+      carries = λ x. let same = put_still u.shared f.thread Blocked thread_placeable x in omega arith;
       context = here;
     }
 
@@ -185,6 +198,7 @@ module _ (s : Setting) (e : ℕ) (u : FastThreads) (cs : Contexts Context) (h : 
           let copied = has_copy g.pc (ap is_section_op next) in
           let new = at_state c (Code g) in
           let x = placed (record u.shared { state = m.state }) f.pushed Ready in
+          let pushed_placeable = beside_placeable s e u cs h a c is f.pushed (λ y. omega (arith, threads_are k copy y, carried_x y)) in
           let own : Fits u.shared.state.lists f (Some Push) = subst (Fits u.shared.state.lists f) op (fits k copy) in
           let done : IsChange s e u (with_shared u x) (Some c) new = record {
             made = made_with s u x h.made refl;
@@ -200,10 +214,24 @@ module _ (s : Setting) (e : ℕ) (u : FastThreads) (cs : Contexts Context) (h : 
             names = λ y. refl;
             works = λ y p q. refl;
             lists = λ y none held. list_of-with_list_other u.shared.state.lists (list_in f).0 y (t.0 ∷ list_of u.shared.state.lists (list_in f).0) (apart_others k copy y none);
+            places = subst (λ p. (y : ℕ) → AgreesAt (placed (record u.shared { state = m.state }) p Ready) y) (sym pushes)
+                (agree_one (record u.shared { state = m.state }) t Ready (pushed_placeable.inside t pushes)
+                (let all = count-with_list u.shared.state.lists (list_in f).0 t.0 (t.0 ∷ list_of u.shared.state.lists (list_in f).0) (inside k copy) in
+                let one = count_one t.0 t.0 (list_of u.shared.state.lists (list_in f).0) in let same = one_same t.0 t.0 refl in
+                let none = own_rest s e u cs h a c is t.0 (own_pushed k copy t pushes) in
+                record { ready = omega arith; waiting = omega arith; ends = omega arith; new = omega arith })
+                (λ y ne.
+                let all = count-with_list u.shared.state.lists (list_in f).0 y (t.0 ∷ list_of u.shared.state.lists (list_in f).0) (inside k copy) in
+                let one = count_one y t.0 (list_of u.shared.state.lists (list_in f).0) in let other = one_other t.0 y (λ q. ne (sym q)) in
+                let was = h.places y in
+                let ready = was.ready in
+                record { ready = omega arith; waiting = was.waiting; ends = was.ends; new = was.new }));
+            carries = λ y. let same = put_still (record u.shared { state = m.state }) f.pushed Ready (record { inside = pushed_placeable.inside; carried = pushed_placeable.carried }) y in
+                omega (arith, carried_x y);
             context = section_context new g copied.0 refl copied.1 m.state.lists
                 (subst (StandsAt g) (sym next) tt) (subst (Fits m.state.lists g) (sym next) (own.0, refl))
                 (sections_kept u.shared.state.lists m.state.lists c.sections
-                  (λ y some. list_of-with_list_other u.shared.state.lists (list_in f).0 y (t.0 ∷ list_of u.shared.state.lists (list_in f).0) (apart_rest k copy y some)) (rest k copy));
+                (λ y some. list_of-with_list_other u.shared.state.lists (list_in f).0 y (t.0 ∷ list_of u.shared.state.lists (list_in f).0) (apart_rest k copy y some)) (rest k copy));
           } in
           subst (λ o. IsChange s e u (with_shared u x) (Some c) (goes_on (with_shared u x) seen c g o)) (sym now) done
 
@@ -219,6 +247,10 @@ module _ (s : Setting) (e : ℕ) (u : FastThreads) (cs : Contexts Context) (h : 
           let x = placed (record u.shared { state = m.state }) g.thread Running in
           let left = without_chosen u.shared.state.lists f.own (list_in f).0 in
           let own : Fits u.shared.state.lists f (Some Pop) = subst (Fits u.shared.state.lists f) op (fits k copy) in
+          let listed : 1 ≤ count_in_all t u.shared.state.lists.lists =
+          (let one = count_chosen u.shared.state.lists f.own (list_in f).0 t t takes in let same = one_same t t refl in let all = count_at t u.shared.state.lists.lists (list_in f).0 in omega arith) in
+          let popped_rest : 1 ≤ threads_at_rest u.shared t = omega arith in
+          let popped_below : t < length u.shared.threads = (let below = h.parts.state.ready.below t listed in let all = h.parts.blocks in let most = h.parts.threads in omega arith) in
           let done : IsChange s e u (with_shared u x) (Some c) new = record {
             made = made_with s u x h.made refl;
             code = h.code;
@@ -233,10 +265,28 @@ module _ (s : Setting) (e : ℕ) (u : FastThreads) (cs : Contexts Context) (h : 
             names = λ y. refl;
             works = λ y p q. refl;
             lists = λ y none held. list_of-with_list_other u.shared.state.lists (list_in f).0 y left (apart_others k copy y none);
+            places = agree_one (record u.shared { state = m.state }) (thread t) Running popped_below
+                (let all = count-with_list u.shared.state.lists (list_in f).0 t left (inside k copy) in
+                let one = count_chosen u.shared.state.lists f.own (list_in f).0 t t takes in let same = one_same t t refl in
+                let once = rest_once s e u cs h t in let some = popped_rest in
+                record { ready = omega arith; waiting = omega arith; ends = omega arith; new = omega arith })
+                (λ y ne.
+                let all = count-with_list u.shared.state.lists (list_in f).0 y left (inside k copy) in
+                let one = count_chosen u.shared.state.lists f.own (list_in f).0 t y takes in let other = one_other t y (λ q. ne (sym q)) in
+                let was = h.places y in
+                let ready = was.ready in
+                record { ready = omega arith; waiting = was.waiting; ends = was.ends; new = was.new });
+            carries = λ y.
+                let up = picked_up (record u.shared { state = m.state }) (Some (thread t)) Running refl (record {
+                  inside = λ n at. subst (λ (z : ThreadNo). z.0 < length u.shared.threads) (same_Some (thread t) n at) popped_below;
+                  carried = λ n at. subst (λ (z : ThreadNo). not_carried u.shared z.0 ≡ 1) (same_Some (thread t) n at) (rest_not_carried s e u cs h t popped_rest);
+                }) y in
+                let none : one_of f.thread y ≡ 0 = ap (λ p. one_of p y) own.2 in
+                omega (arith, carried_x y);
             context = section_context new g copied.0 refl copied.1 m.state.lists
                 (subst (StandsAt g) (sym next) tt) (subst (Fits m.state.lists g) (sym next) (own.0, own.1))
                 (sections_kept u.shared.state.lists m.state.lists c.sections
-                  (λ y some. list_of-with_list_other u.shared.state.lists (list_in f).0 y left (apart_rest k copy y some)) (rest k copy));
+                (λ y some. list_of-with_list_other u.shared.state.lists (list_in f).0 y left (apart_rest k copy y some)) (rest k copy));
           } in
           subst (λ o. IsChange s e u (with_shared u x) (Some c) (goes_on (with_shared u x) seen c g o)) (sym now) done
 
@@ -260,6 +310,8 @@ module _ (s : Setting) (e : ℕ) (u : FastThreads) (cs : Contexts Context) (h : 
             names = λ y. refl;
             works = λ y p q. refl;
             lists = λ y none held. refl;
+            places = h.places;
+            carries = λ y. let new : one_of (carried_by state) y ≡ one_of f.thread y = ap (λ o. one_of o y) between.carries in omega (arith, carried_x y);
             context = between_context (at_state c state) f.thread between.section between.carries m.state.lists between.is
                 (sections_kept u.shared.state.lists m.state.lists c.sections (λ y some. refl) (rest k copy));
           } in
@@ -292,6 +344,11 @@ module _ (s : Setting) (e : ℕ) (u : FastThreads) (cs : Contexts Context) (h : 
           names = λ y. step.names y;
           works = λ y p q. step.others y p q;
           lists = λ y p q. refl;
+          places = agree_in_hand u.shared f.thread 0 Carried carried_hand_place thread_placeable thread_rest h.places;
+          carries = λ y.
+              let down = put_down u.shared f.thread Carried refl thread_placeable y in
+              let none : one_of (carried_by new.state) y ≡ 0 = ap (λ o. one_of o y) state.carries in
+              omega (arith, carried_x y);
           context = between_context new None state.section state.carries u.shared.state.lists state.is (between_rest c f.thread no carries u.shared.state.lists here);
         }
 
@@ -303,7 +360,7 @@ module _ (s : Setting) (e : ℕ) (u : FastThreads) (cs : Contexts Context) (h : 
 
     outcome : Keeps (slice_get u.shared.state.code f.pc) (micro u.shared.state f seen.pages)
     outcome = micro-outcome (Keeps (slice_get u.shared.state.code f.pc)) u.shared.state f seen.pages code_can.does (record {
-      spun = λ list held sound. stays_so;
+      spun = λ list held sound. still-change s e u cs h a c is;
       took_to_push = λ op list push free. absurd (not_at TakePush (λ x. x) op);
       took_to_pop = λ op list free. absurd (not_at TakePop (λ x. x) op);
       faulted = λ change absent. faults (slice_get u.shared.state.code f.pc);

@@ -1,7 +1,8 @@
 -- Where a context stands; and a run of local instructions of its thread, which leaves all standing.
-use Rattle.std.proofs.Common.{◌≡◌, ℕ, zero, suc, ◌+◌, ◌-◌, ◌≤◌, ◌<◌, List, [], length, Option, Some, refl, sym, ap, ◌∙◌, subst, arith}
-use Rattle.std.specs.Prelude.{◌||◌, is_none}
-use Rattle.std.proofs.lemmas.List.{length-set, get_or-set_same}
+use Rattle.std.proofs.Common.{◌≡◌, ℕ, zero, suc, ◌+◌, ◌-◌, ◌≤◌, ◌<◌, List, [], length, Some, refl, sym, ap, ◌∙◌, subst, inl, inr, arith}
+use Rattle.std.specs.Prelude.{◌||◌, is_none, if◌then◌else◌}
+use Rattle.std.proofs.lemmas.Bool.{cases_eq}
+use Rattle.std.proofs.lemmas.List.{length-set, get_or-set_same, get_or-set_other}
 use Rattle.std.proofs.lemmas.List.Elements.{All-get_or}
 use Rattle.sa_base.specs.declared.number.ThreadNo.{ThreadNo}
 use Rattle.sa_base.specs.declared.context.Seen.{Seen}
@@ -9,7 +10,8 @@ use Rattle.sa_instr.specs.declared.instr.Instr.{Instr}
 use Rattle.sa_instr.specs.Local.{instr_at}
 use Rattle.sa_instr.specs.Program.{IsProgram}
 use Rattle.sa_instr.specs.Space.{IsSpace}
-use Rattle.sa_lemmas.specs.Function.{put}
+use Rattle.sa_links.specs.Lists.{count_in_all}
+use Rattle.sa_sync.specs.Sync.{waits_of}
 use Rattle.sa_abstract.specs.Setting.{Setting}
 use Rattle.sa_abstract.specs.Calls.{Contexts}
 use Rattle.sa_abstract.specs.Walk.{Spot, program_at, after_one, after_many, ins_records}
@@ -17,7 +19,7 @@ use Rattle.sa_abstract.specs.Keeps.{IsSeat, GoesOn, is_away, moved_to, IsGone}
 use Rattle.sa_fast.specs.declared.threads.Block.{Block}
 use Rattle.sa_fast.specs.Threads.{unmade, block_at}
 use Rattle.sa_fast.specs.Instruction.{with_thread, IsAt}
-use Rattle.sa_fast.specs.Rest.{ArePartsFor}
+use Rattle.sa_fast.specs.Rest.{AgreesBy, place_at, done_at, unmade_at, is_carried}
 use Rattle.sa_fast.proofs.SyncSteps.{holds-set}
 use Rattle.sa_fast.proofs.RunSteps.{place_inside}
 use Rattle.sa_package.specs.declared.context.Context.{Context}
@@ -27,6 +29,7 @@ use Rattle.sa_package.specs.declared.package.FastThreads.{FastThreads}
 use Rattle.sa_package.specs.Context.{carried_by, stands_inside}
 use Rattle.sa_package.specs.Rules.{with_shared}
 use Rattle.sa_package.specs.Step.{spot_of, block_after, stands_at, local_at, gone_at, went, fast_calls}
+use Rattle.sa_package.specs.Hands.{carried_of}
 use Rattle.sa_package.specs.Stands.{IsStanding, fast_stands}
 use Rattle.sa_package.specs.Changing.{IsChange, change-stands}
 use Rattle.sa_package.specs.Holding.{own_made, own_below}
@@ -58,8 +61,14 @@ module _ (s : Setting) (e : ℕ) (u : FastThreads) (cs : Contexts Context) (h : 
   seats = seat_by c.state refl
 
   -- A RUN
-  gone-change : (f : ℕ) (t : ThreadNo) (b : Block) → e ≤ f → c.state ≡ User t → IsAt u.def b → IsChange s f u (with_shared u (with_thread u.shared t b)) (Some c) c
-  gone-change f t b later at there =
+  place_kept : (t : ThreadNo) (b : Block) → t.0 < length u.shared.threads → b.place ≡ place_at u.shared t.0 → (n : ℕ) → place_at (with_thread u.shared t b) n ≡ place_at u.shared n
+  place_kept t b inside same n = elim (cases_eq n t.0) [
+    | inl here ↦ ap (place_at (with_thread u.shared t b)) here ∙ ap (λ (x : Block). x.place) (get_or-set_same u.shared.threads t.0 b unmade inside) ∙ same ∙ ap (place_at u.shared) (sym here)
+    | inr there ↦ ap (λ (x : Block). x.place) (get_or-set_other u.shared.threads t.0 n b unmade there)
+  ]
+
+  gone-change : (f : ℕ) (t : ThreadNo) (b : Block) → e ≤ f → c.state ≡ User t → IsAt u.def b → b.place ≡ place_at u.shared t.0 → IsChange s f u (with_shared u (with_thread u.shared t b)) (Some c) c
+  gone-change f t b later at there same =
       let parts = parts_later u.def u.processors e f u.shared h.parts later in
       let below = own_below s e u cs h a c is t.0 (user_has u.shared.works c t at) in
       record {
@@ -80,6 +89,10 @@ module _ (s : Setting) (e : ℕ) (u : FastThreads) (cs : Contexts Context) (h : 
         names = λ l. refl;
         works = λ l none some. refl;
         lists = λ l none held. refl;
+        places = λ n.
+            subst (λ p. AgreesBy (count_in_all n u.shared.state.lists.lists) (waits_of u.shared.sync n) (done_at u.shared.sync n) (unmade_at u.shared.state.lists n) p)
+            (sym (place_kept t b (omega (arith, below, parts.blocks)) same n)) (h.places n);
+        carries = λ n. ap (λ p. (if is_carried p then 0 else 1) + carried_of (Some c) n) (place_kept t b (omega (arith, below, parts.blocks)) same n);
         context = h.contexts a c is;
       }
 
@@ -98,7 +111,7 @@ module _ (s : Setting) (e : ℕ) (u : FastThreads) (cs : Contexts Context) (h : 
       let below = own_below s e u cs h a c is t.0 (user_has u.shared.works c t at) in
       record {
         value = change-stands s e u cs h (seen.event + n - 1) a v (Some c) c is
-            (gone-change (seen.event + n - 1) t after (omega arith) at (record { program = there.program; place = after_inside program n (spot_of b) is_program there.place }));
+            (gone-change (seen.event + n - 1) t after (omega arith) at (record { program = there.program; place = after_inside program n (spot_of b) is_program there.place }) refl);
         says = ap (λ d. ins_records u.shared.state.space t (program_at d.programs b.program) n (spot_of b)) h.made.def;
         state =
             ap (local_at v) at ∙ ap (stands_at v t) (get_or-set_same u.shared.threads t.0 after unmade (omega (arith, below, h.parts.blocks)))

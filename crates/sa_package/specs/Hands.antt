@@ -49,3 +49,8 @@ threads_of works (Some c) t =
 abbrev pub name_of : Option Context → ℕ → ℕ
 name_of None l = 0
 name_of (Some c) l = one_of c.work l
+
+-- CARRIED is the thread with which a context stands
+abbrev pub carried_of : Option Context → ℕ → ℕ
+carried_of None t = 0
+carried_of (Some c) t = one_of (carried_by c.state) t

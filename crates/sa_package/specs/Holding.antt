@@ -1,5 +1,5 @@
 -- What follows for one context from how all stand: its locks are held, its threads are nowhere else, its work list is its own.
-use Rattle.std.proofs.Common.{◌≡◌, ◌≢◌, ℕ, zero, suc, ◌+◌, ◌≤◌, ◌<◌, ◌^◌, Bool, true, false, cond, List, [], ◌∷◌, length, Option, Some, None, IfSome, slice_get, slice_index_or, nat_lt, refl, sym, ap, ◌∙◌, subst, inl, inr, arith}
+use Rattle.std.proofs.Common.{◌≡◌, ℕ, zero, suc, ◌+◌, ◌≤◌, ◌<◌, Bool, true, false, cond, List, [], ◌∷◌, length, Option, Some, None, nat_lt, refl, sym, ap, ◌∙◌, subst, inl, inr, arith}
 use Rattle.std.proofs.lemmas.Bool.{cases_eq, cases_lt, ltb-true, le-ltb}
 use Rattle.std.proofs.lemmas.List.{get_or_past}
 use Rattle.std.proofs.lemmas.List.Sums.{sum_by-cons}
@@ -9,25 +9,23 @@ use Rattle.sa_base.specs.declared.limits.TheConstants.{MAX_THREADS, MAX_EVENTS}
 use Rattle.sa_abstract.specs.Setting.{Setting}
 use Rattle.sa_abstract.specs.Calls.{Contexts}
 use Rattle.sa_links.specs.Lists.{list_at, count_in, count_in_all}
-use Rattle.sa_links.proofs.Counting.{few_below, count_at}
+use Rattle.sa_links.proofs.Counting.{few_below}
 use Rattle.sa_lists.specs.ReadyView.{ReadyView, is_locked, IsLocked}
 use Rattle.sa_lists.specs.ReadyView as ready
-use Rattle.sa_sync.specs.Sync.{WaitsNowhere, Waits}
+use Rattle.sa_sync.specs.Sync.{WaitsNowhere}
 use Rattle.sa_code.specs.declared.state.Frame.{Frame}
-use Rattle.sa_code.specs.declared.state.TheConstants.{MAX_LISTS}
 use Rattle.sa_code.specs.Micro.{list_in}
-use Rattle.sa_fast.specs.Threads.{block_at}
-use Rattle.sa_fast.specs.Work.{work_of, IsWork, IsUnlisted, AreApart}
-use Rattle.sa_fast.specs.Instruction.{CanRun, IsAt}
+use Rattle.sa_fast.specs.Work.{work_of, IsWork, IsUnlisted}
+use Rattle.sa_fast.specs.Instruction.{CanRun}
 use Rattle.sa_fast.specs.Rest.{one_if, one_of, one_if_empty, unmade_at, threads_at_rest, empty_at}
 use Rattle.sa_fast.proofs.WorkSteps.{count_one, one_same, one_other, not_empty}
 use Rattle.sa_package.specs.declared.context.Context.{Context}
 use Rattle.sa_package.specs.declared.package.FastThreads.{FastThreads}
-use Rattle.sa_package.specs.Context.{carried_by, section_in, before_all}
+use Rattle.sa_package.specs.Context.{carried_by, section_in}
 use Rattle.sa_package.specs.Rules.{thread_alone}
 use Rattle.sa_package.specs.Conditions.{IsThread, CanBeDue}
-use Rattle.sa_package.specs.Hands.{AreInOnePlace, sections_of, locks_in, free_locks, locks_of, threads_in, threads_of, name_of}
-use Rattle.sa_package.specs.Stands.{IsStanding, IsContext}
+use Rattle.sa_package.specs.Hands.{sections_of, locks_in, free_locks, locks_of, threads_in, threads_of, name_of}
+use Rattle.sa_package.specs.Stands.{IsStanding}
 use Rattle.sa_package.specs.Changing.{names_own}
 
 -- 0 or 1 by a test
@@ -68,9 +66,10 @@ module _ (s : Setting) (e : ℕ) (u : FastThreads) (cs : Contexts Context) (h : 
       let at = stands_in_one u.shared.works t some in
       let found = h.works.somewhere at.0 (filled_by (list_at u.shared.works at.0) t at.1) in
       let whose = context_naming (cs found.0) at.0 found.1 in
-      let name = named_by whose.0.work at.0 whose.2 in
-      (
-        found.0, whose.0, whose.1,
+      let name = named_by whose.0.work at.0 whose.2 in (
+        found.0,
+        whose.0,
+        whose.1,
         subst (λ w. 1 ≤ count_in t (work_of u.shared.works w)) (sym name.1) (subst (λ l. 1 ≤ count_in t (list_at u.shared.works l)) (sym name.2) at.1),
       )
 
@@ -80,7 +79,7 @@ module _ (s : Setting) (e : ℕ) (u : FastThreads) (cs : Contexts Context) (h : 
     | inr more ↦
         let held = works_held t more in
         let once : threads_at_rest u.shared t + threads_of u.shared.works (Some held.1) t ≤ 1 =
-            subst (λ x. threads_at_rest u.shared t + threads_of u.shared.works x t ≤ 1) held.2 (h.threads.once held.0 t) in
+        subst (λ x. threads_at_rest u.shared t + threads_of u.shared.works x t ≤ 1) held.2 (h.threads.once held.0 t) in
         absurd (let there = held.3 in omega arith)
   ]
 
@@ -181,8 +180,8 @@ module _ (s : Setting) (e : ℕ) (u : FastThreads) (cs : Contexts Context) (h : 
           waiting = λ x waits. rest_unlisted x (omega arith);
           unmade = λ x unmade. rest_unlisted x (let no = no_made x unmade in omega arith);
         } where
-      no_made : (x : ℕ) → u.shared.state.lists.made ≤ x → unmade_at u.shared.state.lists x ≡ 1
-      no_made x past = ap zero_if (le-ltb x u.shared.state.lists.made past)
+          no_made : (x : ℕ) → u.shared.state.lists.made ≤ x → unmade_at u.shared.state.lists x ≡ 1
+          no_made x past = ap zero_if (le-ltb x u.shared.state.lists.made past)
 
 -- each section has a lock
 abbrev lists_in : List Frame → List ℕ

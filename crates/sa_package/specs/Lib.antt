@@ -13,10 +13,10 @@ pub mod Changing
 pub mod Views
 pub mod Holding
 pub mod Parts
+pub mod PlaceFacts
 pub mod CodeRule
 pub mod WorkRule
 pub mod TakeRule
-pub mod SettleRule
 pub mod UseRule
 pub mod Able
 pub mod StepRule

@@ -1,7 +1,7 @@
 -- The parts of the package stay what they are where a rule changes some of them.
-use Rattle.std.proofs.Common.{◌≡◌, ◌≢◌, ℕ, ◌+◌, ◌-◌, ◌≤◌, ◌<◌, zero, suc, Bool, true, false, cond, List, [], ◌∷◌, length, take, drop, Option, Some, None, slice_get, refl, sym, ap, ◌∙◌, subst, inl, inr, arith}
+use Rattle.std.proofs.Common.{◌≡◌, ℕ, ◌+◌, ◌-◌, ◌≤◌, ◌<◌, zero, suc, Bool, true, false, cond, List, [], ◌∷◌, length, take, drop, Option, Some, None, slice_get, refl, sym, ap, ◌∙◌, subst, inl, inr, arith}
 use Rattle.std.proofs.lemmas.Bool.{cases_eq, cases_lt}
-use Rattle.std.proofs.lemmas.List.{get_or-set_same, get_or-set_other, get_or_past, length-set, set_past}
+use Rattle.std.proofs.lemmas.List.{get_or-set_same, get_or-set_other, length-set, set_past}
 use Rattle.std.proofs.lemmas.Option.{same_Some}
 use Rattle.sa_base.specs.declared.number.ThreadNo.{ThreadNo}
 use Rattle.sa_instr.specs.Space.{SpaceView}
@@ -16,7 +16,7 @@ use Rattle.sa_fast.specs.declared.shared.Shared.{Shared}
 use Rattle.sa_fast.specs.declared.threads.Block.{Block}
 use Rattle.sa_fast.specs.declared.threads.Place.{Place}
 use Rattle.sa_fast.specs.Threads.{unmade, block_at, with_block, moved_to}
-use Rattle.sa_fast.specs.Work.{with_name, IsWork, IsUnlisted}
+use Rattle.sa_fast.specs.Work.{with_name, IsWork}
 use Rattle.sa_fast.specs.Instruction.{IsAt}
 use Rattle.sa_fast.specs.Rest.{one_if, one_of, AreWorks, ArePartsFor}
 use Rattle.sa_fast.proofs.Moves.{WorkStep}
@@ -30,12 +30,18 @@ use Rattle.sa_package.specs.Hands.{free_locks}
 -- a later event
 pub parts_later : (def : SpaceView) (p e f : ℕ) (x : Shared) → ArePartsFor def p e x → e ≤ f → ArePartsFor def p f x
 parts_later def p e f x h later = record {
-  state = h.state; lists = h.lists; threads = h.threads; blocks = h.blocks; sync = h.sync; works = h.works; at = h.at;
+  state = h.state;
+  lists = h.lists;
+  threads = h.threads;
+  blocks = h.blocks;
+  sync = h.sync;
+  works = h.works;
+  at = h.at;
   counts = λ k. let few = h.counts k in omega arith;
 }
 
 -- a thread is elsewhere
-length_placed : (blocks : List Block) (t : Option ThreadNo) (place : Place) → length (blocks_placed blocks t place) ≡ length blocks
+pub length_placed : (blocks : List Block) (t : Option ThreadNo) (place : Place) → length (blocks_placed blocks t place) ≡ length blocks
 length_placed blocks None place = refl
 length_placed blocks (Some n) place = length-set blocks n.0 (moved_to (block_at blocks n.0) place)
 
@@ -56,7 +62,12 @@ at_placed def blocks t (Some n) place h =
 
 pub parts_placed : (def : SpaceView) (p e : ℕ) (x : Shared) (t : Option ThreadNo) (place : Place) → ArePartsFor def p e x → ArePartsFor def p e (placed x t place)
 parts_placed def p e x t place h = record {
-  state = h.state; lists = h.lists; threads = h.threads; sync = h.sync; works = h.works; counts = h.counts;
+  state = h.state;
+  lists = h.lists;
+  threads = h.threads;
+  sync = h.sync;
+  works = h.works;
+  counts = h.counts;
   blocks = length_placed x.threads t place ∙ h.blocks;
   at = λ n made. at_placed def x.threads n t place (h.at n made);
 }
@@ -64,7 +75,11 @@ parts_placed def p e x t place h = record {
 -- another package state, with as many lists and threads
 pub parts_state : (def : SpaceView) (p e l : ℕ) (x : Shared) (state : PackageState) → ArePartsFor def p e x → IsPackage state → ChangesOnly l x.state state → ArePartsFor def p e (record x { state = state })
 parts_state def p e l x state h is only = record {
-  state = is; sync = h.sync; works = h.works; counts = h.counts; blocks = h.blocks;
+  state = is;
+  sync = h.sync;
+  works = h.works;
+  counts = h.counts;
+  blocks = h.blocks;
   lists = only.lists ∙ h.lists;
   threads = only.most ∙ h.threads;
   at = λ n made. h.at n (subst (λ m. n < m) only.made made);
@@ -73,7 +88,14 @@ parts_state def p e l x state h is only = record {
 -- other work lists
 pub parts_works : (def : SpaceView) (p e : ℕ) (x : Shared) (works : List (List ℕ)) → ArePartsFor def p e x → AreWorks works → ArePartsFor def p e (record x { works = works })
 parts_works def p e x works h is = record {
-  state = h.state; lists = h.lists; threads = h.threads; sync = h.sync; works = is; counts = h.counts; blocks = h.blocks; at = h.at;
+  state = h.state;
+  lists = h.lists;
+  threads = h.threads;
+  sync = h.sync;
+  works = is;
+  counts = h.counts;
+  blocks = h.blocks;
+  at = h.at;
 }
 
 -- the package stays made for its setting

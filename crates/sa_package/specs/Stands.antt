@@ -10,13 +10,13 @@ use Rattle.sa_code.specs.declared.code.Op.TheVariants.{Push, Pop, Free, Yield}
 use Rattle.sa_code.specs.declared.state.Frame.{Frame}
 use Rattle.sa_code.specs.Micro.{list_in}
 use Rattle.sa_copies.specs.Copies.{package_ops, copy_at}
-use Rattle.sa_fast.specs.Rest.{threads_at_rest, empty_at, ArePartsFor}
+use Rattle.sa_fast.specs.Rest.{threads_at_rest, empty_at, ArePartsFor, AgreesAt, not_carried}
 use Rattle.sa_package.specs.declared.context.Context.{Context}
 use Rattle.sa_package.specs.declared.context.State.{State}
 use Rattle.sa_package.specs.declared.context.State.TheVariants.{Code, Look}
 use Rattle.sa_package.specs.declared.package.FastThreads.{FastThreads}
 use Rattle.sa_package.specs.Laws.{IsMadeFor}
-use Rattle.sa_package.specs.Hands.{AreInOnePlace, sections_of, free_locks, locks_of, threads_of, name_of}
+use Rattle.sa_package.specs.Hands.{AreInOnePlace, sections_of, free_locks, locks_of, threads_of, name_of, carried_of}
 
 -- CONTEXTS. A section has a list; before its effect it pushes a thread, or carries none while its list has some, and it
 -- pushes none else
@@ -60,6 +60,9 @@ pub record IsStanding (s : Setting) (event : ℕ) (u : FastThreads) (cs : Contex
   pub locks : AreInOnePlace (free_locks u.shared.state.lists) (λ a. locks_of (cs a))
   pub threads : AreInOnePlace (threads_at_rest u.shared) (λ a. threads_of u.shared.works (cs a))
   pub works : AreInOnePlace (empty_at u.shared.works) (λ a. name_of (cs a))
+  -- each thread's place says where it is
+  pub places : (t : ℕ) → AgreesAt u.shared t
+  pub carries : AreInOnePlace (not_carried u.shared) (λ a. carried_of (cs a))
   pub contexts : (a : ℕ) (c : Context) → cs a ≡ Some c → IsContext u.shared.state.lists c
 
 abbrev pub fast_stands : Standing FastThreads Context

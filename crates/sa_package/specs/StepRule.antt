@@ -1,5 +1,5 @@
 -- A step, and a notice, keep all standing.
-use Rattle.std.proofs.Common.{◌≡◌, ◌≢◌, ℕ, ◌+◌, ◌≤◌, ◌<◌, Bool, true, false, not, ◌&&◌, nat_lt, length, List, Option, Some, None, slice_get, min, refl, sym, ap, ◌∙◌, subst, arith}
+use Rattle.std.proofs.Common.{◌≡◌, ℕ, ◌+◌, ◌≤◌, ◌<◌, Bool, true, false, not, ◌&&◌, nat_lt, length, Option, Some, None, slice_get, min, refl, sym, ap, ◌∙◌, subst, arith}
 use Rattle.std.proofs.lemmas.Bool.{ltb-true}
 use Rattle.sa_base.specs.declared.number.ThreadNo.{ThreadNo}
 use Rattle.sa_base.specs.declared.limits.TheConstants.{MAX_EVENTS}
@@ -24,12 +24,12 @@ use Rattle.sa_package.specs.Context.{carried_by, section_in, has_bulk}
 use Rattle.sa_package.specs.Rules.{at_state, owed, took_over, looked_by, is_idle}
 use Rattle.sa_package.specs.Step.{told_of, told, worked, hinted, if_owed, if_bulk, resettled, stepped_at, stepped}
 use Rattle.sa_package.specs.Stands.{IsStanding}
-use Rattle.sa_package.specs.Changing.{IsChange, change-stands, later-stands, join-stands}
+use Rattle.sa_package.specs.Changing.{IsChange, still-change, change-stands, later-stands, join-stands}
 use Rattle.sa_package.specs.Parts.{parts_later}
 use Rattle.sa_package.specs.Asking.{step-asks}
 use Rattle.sa_package.specs.Saying.{step-own}
-use Rattle.sa_package.specs.CodeRule.{coded-change, stays_so}
-use Rattle.sa_package.specs.WorkRule.{continued-change, pushing-change, popping-change, between-change, settled-change, still}
+use Rattle.sa_package.specs.CodeRule.{coded-change}
+use Rattle.sa_package.specs.WorkRule.{continued-change, pushing-change, popping-change, between-change, settled-change}
 use Rattle.sa_package.specs.UseRule.{used-change}
 use Rattle.sa_package.specs.TakeRule.{took_over-join}
 use Rattle.sa_package.specs.Able.{step_can}
@@ -40,24 +40,24 @@ open_filled false n e = ltb-true 0 n e
 
 module _ (s : Setting) (e : ℕ) (u : FastThreads) (cs : Contexts Context) (h : IsStanding s e u cs) (a : ℕ) (c : Context) (is : cs a ≡ Some c) where
   -- before the rules: the context settles again, or stays
-  stays : (state : State) → c.state ≡ state → (section_in state ≡ None) → IsChange s e u u (Some c) c
-  stays state at outside = still s e u cs h a c is (carried_by state) (ap section_in at ∙ outside) (ap carried_by at)
+  stays : IsChange s e u u (Some c) c
+  stays = still-change s e u cs h a c is
 
   owed_change : (seen : Seen) (t : Option ThreadNo) → c.state ≡ Hint t → (more : Option ℕ) → IsChange s e u u (Some c) (if_owed u seen c t more)
-  owed_change seen t at (Some n) = stays (Hint t) at refl
+  owed_change seen t at (Some n) = stays
   owed_change seen t at None = settled-change s e u cs h a c is t (ap section_in at) (ap carried_by at) seen
 
   bulk_change : (seen : Seen) → c.state ≡ Return → (bulk : Bool) → IsChange s e u u (Some c) (if_bulk u seen c bulk)
-  bulk_change seen at true = stays Return at refl
+  bulk_change seen at true = stays
   bulk_change seen at false = settled-change s e u cs h a c is None (ap section_in at) (ap carried_by at) seen
 
   resettled_stands : (seen : Seen) (state : State) → c.state ≡ state → IsStanding s e u (put cs a (Some (resettled u seen c state)))
-  resettled_stands seen (Code f) at = change-stands s e u cs h e a u (Some c) c is (stays_so s e u cs h a c is f at seen)
-  resettled_stands seen (Work t) at = change-stands s e u cs h e a u (Some c) c is (stays (Work t) at refl)
+  resettled_stands seen (Code f) at = change-stands s e u cs h e a u (Some c) c is stays
+  resettled_stands seen (Work t) at = change-stands s e u cs h e a u (Some c) c is stays
   resettled_stands seen (Hint t) at = change-stands s e u cs h e a u (Some c) (if_owed u seen c t (owed u seen)) is (owed_change seen t at (owed u seen))
   resettled_stands seen Return at = change-stands s e u cs h e a u (Some c) (if_bulk u seen c (has_bulk seen)) is (bulk_change seen at (has_bulk seen))
-  resettled_stands seen (User t) at = change-stands s e u cs h e a u (Some c) c is (stays (User t) at refl)
-  resettled_stands seen (Look looks) at = change-stands s e u cs h e a u (Some c) c is (stays (Look looks) at refl)
+  resettled_stands seen (User t) at = change-stands s e u cs h e a u (Some c) c is stays
+  resettled_stands seen (Look looks) at = change-stands s e u cs h e a u (Some c) c is stays
 
   -- a change, and then a later event
   then_later : (f : ℕ) (v : FastThreads) (new : Context) → e ≤ f → IsChange s e u v (Some c) new → IsStanding s f v (put cs a (Some new))
@@ -73,8 +73,8 @@ module _ (s : Setting) (e : ℕ) (u : FastThreads) (cs : Contexts Context) (h : 
     proc_inside : seen.proc.0 < length u.shared.state.lists.lists
     proc_inside = let lists = h.parts.lists in let processors = h.made.processors in omega arith
 
-    unchanged : (state : State) → c.state ≡ state → section_in state ≡ None → IsStanding s seen.event u (put cs a (Some c))
-    unchanged state at outside = then_later seen.event u c (omega arith) (stays state at outside)
+    unchanged : IsStanding s seen.event u (put cs a (Some c))
+    unchanged = then_later seen.event u c (omega arith) stays
 
     work_stands : (t : Option ThreadNo) → c.state ≡ Work t → (first : Option Frame) → slice_get c.sections 0 ≡ first → (w : Option ThreadNo) → c.work ≡ w → Stands (worked u seen c first w)
     work_stands t at (Some f) sections w work =
@@ -83,11 +83,11 @@ module _ (s : Setting) (e : ℕ) (u : FastThreads) (cs : Contexts Context) (h : 
     work_stands t at None sections (Some n) work =
         then_later seen.event (worked u seen c None (Some n)).user (worked u seen c None (Some n)).ctx (omega arith)
         (pushing-change s e u cs h a c is t (ap section_in at) (ap carried_by at) seen n proc_inside work)
-    work_stands t at None sections None work = unchanged (Work t) at refl
+    work_stands t at None sections None work = unchanged
 
     hint_stands : (t : Option ThreadNo) → c.state ≡ Hint t → (more : Option ℕ) → Stands (hinted u c more)
-    hint_stands t at (Some n) = unchanged (Hint t) at refl
-    hint_stands t at None = unchanged (Hint t) at refl
+    hint_stands t at (Some n) = unchanged
+    hint_stands t at None = unchanged
 
     look_stands : (looks : ℕ) → c.state ≡ Look looks → (idle : Bool) (l : Option ℕ) → sought u.shared.state.lists seen.proc.0 ≡ l → Stands (looked_by u seen c looks idle l)
     look_stands looks at idle (Some l) found =
@@ -95,7 +95,7 @@ module _ (s : Setting) (e : ℕ) (u : FastThreads) (cs : Contexts Context) (h : 
         let some = open_filled (is_locked u.shared.state.lists l) (length (list_of u.shared.state.lists l)) first.here in
         then_later seen.event (looked_by u seen c looks idle (Some l)).user (looked_by u seen c looks idle (Some l)).ctx (omega arith)
         (popping-change s e u cs h a c is None (ap section_in at) (ap carried_by at) seen l first.inside some refl)
-    look_stands looks at true None found = unchanged (Look looks) at refl
+    look_stands looks at true None found = unchanged
     look_stands looks at false None found =
         let more = Look (min (looks + 1) MAX_PATIENCE) in
         then_later seen.event u (at_state c more) (omega arith)
@@ -106,7 +106,7 @@ module _ (s : Setting) (e : ℕ) (u : FastThreads) (cs : Contexts Context) (h : 
         then_later seen.event (stepped_at u seen c (Code f)).user (stepped_at u seen c (Code f)).ctx (omega arith) (coded-change s e u cs h a c is f at seen)
     at_stands (Work t) at = work_stands t at (slice_get c.sections 0) refl c.work refl
     at_stands (Hint t) at = hint_stands t at (owed u seen)
-    at_stands Return at = unchanged Return at refl
+    at_stands Return at = unchanged
     at_stands (User t) at =
         change-stands s e u cs h seen.event a (stepped_at u seen c (User t)).user (Some c) (stepped_at u seen c (User t)).ctx is
         (used-change s e u cs h a c is t at seen later)

@@ -7,28 +7,25 @@ use Rattle.sa_abstract.specs.Calls.{Contexts}
 use Rattle.sa_links.specs.Lists.{list_at}
 use Rattle.sa_lists.specs.ReadyView.{ReadyView}
 use Rattle.sa_code.specs.declared.state.Frame.{Frame}
-use Rattle.sa_code.specs.declared.state.TheConstants.{MAX_LISTS}
-use Rattle.sa_code.specs.Micro.{list_in}
-use Rattle.sa_copies.specs.Copies.{copy_at}
 use Rattle.sa_fast.specs.declared.shared.Shared.{Shared}
 use Rattle.sa_fast.specs.declared.threads.Place.TheVariants.{Carried}
 use Rattle.sa_fast.specs.Work.{joined, IsWork, AreApart}
 use Rattle.sa_fast.specs.Instruction.{with_works}
-use Rattle.sa_fast.specs.Rest.{one_if, one_of}
+use Rattle.sa_fast.specs.Rest.{one_of, threads_at_rest}
 use Rattle.sa_fast.proofs.Moves.{JoinStep}
-use Rattle.sa_fast.proofs.WorkSteps.{one_other, filled, not_empty, joined-step}
+use Rattle.sa_fast.proofs.WorkSteps.{one_same, one_other, filled, not_empty, joined-step}
 use Rattle.sa_package.specs.declared.context.Context.{Context}
-use Rattle.sa_package.specs.declared.context.State.{State}
-use Rattle.sa_package.specs.declared.context.State.TheVariants.{Code, Work, Hint, Return, User, Look}
 use Rattle.sa_package.specs.declared.package.FastThreads.{FastThreads}
-use Rattle.sa_package.specs.Context.{carried_by, section_in, before_all, at_copy}
+use Rattle.sa_package.specs.Context.{carried_by, section_in, before_all}
 use Rattle.sa_package.specs.Conditions.{CanBeDue, CanTakeOver}
-use Rattle.sa_package.specs.Rules.{thread_alone, placed, due_last, took_over}
+use Rattle.sa_package.specs.Rules.{thread_alone, placed, took_over}
 use Rattle.sa_package.specs.Hands.{sections_of, locks_in, locks_of, threads_in, threads_of, name_of}
-use Rattle.sa_package.specs.Stands.{AreSections, IsContext, IsStanding}
+use Rattle.sa_package.specs.Stands.{AreSections, IsStanding}
 use Rattle.sa_package.specs.Changing.{IsJoin, names_own}
-use Rattle.sa_package.specs.Holding.{lock_once, own_inside, own_below, own_due, own_work, few_sections}
-use Rattle.sa_package.specs.Parts.{parts_placed, parts_works, made_with, due-step}
+use Rattle.sa_package.specs.Holding.{lock_once, own_inside, own_due, own_work, few_sections}
+use Rattle.sa_package.specs.Views.{carried_less}
+use Rattle.sa_package.specs.PlaceFacts.{IsPlaceable, agree_in_hand, put_down, put_still, own_placeable, own_at_rest, carried_hand_place}
+use Rattle.sa_package.specs.Parts.{length_placed, parts_placed, parts_works, made_with, due-step}
 
 -- sections, one list of them behind another
 locks_append : (fs gs : List Frame) (l : ℕ) → locks_in (fs ++ gs) l ≡ locks_in fs l + locks_in gs l
@@ -57,22 +54,13 @@ apart_by None (Some m) h = tt
 apart_by (Some n) None h = tt
 apart_by (Some n) (Some m) h = h n m refl refl
 
--- the thread that a context carries is that of its section, or its own
-carried_at : (f : Frame) (fs : List Frame) (x : ℕ) (k : Option ℕ) → one_of f.thread x ≤ threads_in (before_all (at_copy f k) fs) x + one_of (thread_alone (at_copy f k) f.thread) x
-carried_at f fs x None = omega arith
-carried_at f fs x (Some k) = omega arith
-
-pub carried_less : (state : State) (fs : List Frame) (x : ℕ) → one_of (carried_by state) x ≤ threads_in (before_all (section_in state) fs) x + one_of (thread_alone (section_in state) (carried_by state)) x
-carried_less (Code f) fs x = carried_at f fs x (copy_at f.pc)
-carried_less (Work t) fs x = omega arith
-carried_less (Hint t) fs x = omega arith
-carried_less Return fs x = omega arith
-carried_less (User t) fs x = omega arith
-carried_less (Look looks) fs x = omega arith
-
 alone_due : (x : Shared) (own : Option Frame) (t : Option ThreadNo) → CanBeDue x t → CanBeDue x (thread_alone own t)
 alone_due x None t due = due
 alone_due x (Some f) t due = tt
+
+alone_is : (own : Option Frame) (t : Option ThreadNo) (m : ThreadNo) → thread_alone own t ≡ Some m → t ≡ Some m
+alone_is None t m at = at
+alone_is (Some f) t m at = absurd cc
 
 -- the list that the two have
 joined_work : (works : List (List ℕ)) (w v : Option ThreadNo) → IsWork works w → IsWork works v → AreApart w v → JoinStep works w v (joined works w v) → IsWork (joined works w v).lists (joined works w v).name
@@ -149,6 +137,16 @@ module _ (s : Setting) (e : ℕ) (u : FastThreads) (cs : Contexts Context) (h : 
   due_moved None can = tt
   due_moved (Some n) can = (can.0, step.counts n.0 ∙ can.1)
 
+  again_placeable : (own : Option Frame) → IsPlaceable u.shared (carried_by d.state) 0 → IsPlaceable (placed u.shared (carried_by d.state) Carried) (thread_alone own (carried_by d.state)) 1
+  again_placeable own theirs = record {
+    inside = λ m at.
+        let below = theirs.inside m (alone_is own (carried_by d.state) m at) in let all = length_placed u.shared.threads (carried_by d.state) Carried in omega arith;
+    carried = λ m at.
+        let down = put_down u.shared (carried_by d.state) Carried refl theirs m.0 in
+        let free = theirs.carried m (alone_is own (carried_by d.state) m at) in
+        let one : one_of (carried_by d.state) m.0 ≡ 1 = ap (λ o. one_of o m.0) (alone_is own (carried_by d.state) m at) ∙ one_same m.0 m.0 refl in omega arith;
+  }
+
   -- THE CHANGE
   pub took_over-join : IsJoin s e u (took_over u c d).user c d (took_over u c d).ctx
   took_over-join =
@@ -159,14 +157,19 @@ module _ (s : Setting) (e : ℕ) (u : FastThreads) (cs : Contexts Context) (h : 
       let moved : Shared = with_works (placed u.shared (carried_by d.state) Carried) (joined u.shared.works c.work d.work) in
       let name = (joined u.shared.works c.work d.work).name in
       let last = due-step moved name t step.works (joined_work u.shared.works c.work d.work (own_work s e u cs h a c is) (own_work s e u cs h b d was) works_apart step)
-          (due_moved t (alone_due u.shared own (carried_by d.state) due)) in
+      (due_moved t (alone_due u.shared own (carried_by d.state) due)) in
+      let theirs = own_placeable s e u cs h b d was (carried_by d.state) refl in
+      let theirs_rest = own_at_rest s e u cs h b d was (carried_by d.state) refl in
+      let base = again_placeable own theirs in
+      let again : IsPlaceable moved t 1 = record { inside = base.inside; carried = base.carried } in
+      let again_rest : (m : ThreadNo) → t ≡ Some m → threads_at_rest u.shared m.0 ≡ 0 = λ m at. theirs_rest m (alone_is own (carried_by d.state) m at) in
       let all : sections_of new ≡ sections_of c ++ sections_of d = before_append (section_in c.state) c.sections (sections_of d) in
       record {
         made = made_with s u v.shared h.made refl;
         code = h.code;
         parts = parts_works u.def u.processors e (placed moved t Carried) v.shared.works
             (parts_placed u.def u.processors e moved t Carried
-              (parts_works u.def u.processors e (placed u.shared (carried_by d.state) Carried) moved.works (parts_placed u.def u.processors e u.shared (carried_by d.state) Carried h.parts) step.works))
+            (parts_works u.def u.processors e (placed u.shared (carried_by d.state) Carried) moved.works (parts_placed u.def u.processors e u.shared (carried_by d.state) Carried h.parts) step.works))
             last.works;
         locks = λ l.
             let sum : locks_in (sections_of new) l ≡ locks_in (sections_of c) l + locks_in (sections_of d) l = ap (λ fs. locks_in fs l) all ∙ locks_append (sections_of c) (sections_of d) l in
@@ -181,6 +184,11 @@ module _ (s : Setting) (e : ℕ) (u : FastThreads) (cs : Contexts Context) (h : 
             let there = step.names l in
             last.others l gone (omega arith) ∙ same;
         lists = refl;
+        places = agree_in_hand moved t 1 Carried carried_hand_place again again_rest
+            (agree_in_hand u.shared (carried_by d.state) 0 Carried carried_hand_place theirs theirs_rest h.places);
+        carries = λ x.
+            let down = put_down u.shared (carried_by d.state) Carried refl theirs x in
+            let still = put_still moved t Carried again x in omega arith;
         context = record {
           state = (h.contexts a c is).state;
           sections = subst (AreSections u.shared.state.lists) (sym all)

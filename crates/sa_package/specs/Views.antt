@@ -1,6 +1,5 @@
 -- What a context has, by where it stands.
-use Rattle.std.proofs.Common.{◌≡◌, ℕ, ◌+◌, ◌≤◌, Bool, true, false, List, [], ◌∷◌, Option, Some, None, is_some, slice_get, refl, sym, ap, ◌∙◌, subst, arith}
-use Rattle.std.proofs.lemmas.Option.{same_Some}
+use Rattle.std.proofs.Common.{◌≡◌, ℕ, ◌+◌, ◌≤◌, Bool, true, false, List, ◌∷◌, Option, Some, None, is_some, slice_get, refl, sym, ap, ◌∙◌, subst, arith}
 use Rattle.sa_base.specs.declared.number.ThreadNo.{ThreadNo}
 use Rattle.sa_links.specs.Lists.{count_in}
 use Rattle.sa_lists.specs.ReadyView.{ReadyView}
@@ -17,7 +16,7 @@ use Rattle.sa_package.specs.declared.context.Context.{Context}
 use Rattle.sa_package.specs.declared.context.State.{State}
 use Rattle.sa_package.specs.declared.context.State.TheVariants.{Code, Work, Hint, Return, User, Look}
 use Rattle.sa_package.specs.Context.{carried_by, section_in, before_all, at_copy, settled_to}
-use Rattle.sa_package.specs.Rules.{thread_alone, at_state}
+use Rattle.sa_package.specs.Rules.{thread_alone}
 use Rattle.sa_package.specs.Hands.{sections_of, locks_in, locks_of, threads_in, threads_of}
 use Rattle.sa_package.specs.Stands.{Fits, IsSection, AreSections, StandsAt, IsState, IsContext}
 
@@ -83,15 +82,15 @@ module _ (c : Context) (f : Frame) (k : ℕ) (at : c.state ≡ Code f) (copy : c
         state = subst IsState (sym at) state;
         sections = subst (AreSections r) (sym section_sections) (own, sections);
       } where
-    refit : (r : ReadyView) (op : Option Op) → Fits r f op → Fits r (moved_at f k) op
-    refit r None h = absurd h
-    refit r (Some TakePush) h = absurd h
-    refit r (Some Push) h = h
-    refit r (Some TakePop) h = absurd h
-    refit r (Some Pop) h = h
-    refit r (Some Free) h = h
-    refit r (Some Leave) h = absurd h
-    refit r (Some Yield) h = absurd h
+        refit : (r : ReadyView) (op : Option Op) → Fits r f op → Fits r (moved_at f k) op
+        refit r None h = absurd h
+        refit r (Some TakePush) h = absurd h
+        refit r (Some Push) h = h
+        refit r (Some TakePop) h = absurd h
+        refit r (Some Pop) h = h
+        refit r (Some Free) h = h
+        refit r (Some Leave) h = absurd h
+        refit r (Some Yield) h = absurd h
 
   pub section_fits : (r : ReadyView) → IsContext r c → Fits r f (slice_get package_ops f.pc)
   section_fits r h =
@@ -99,15 +98,15 @@ module _ (c : Context) (f : Frame) (k : ℕ) (at : c.state ≡ Code f) (copy : c
       let own : IsSection r (moved_at f k) = both.0 in
       let fits : Fits r (moved_at f k) (slice_get package_ops f.pc) = subst (Fits r (moved_at f k)) (ops-copied f.pc k copy) own.fits in
       refit r (slice_get package_ops f.pc) fits where
-    refit : (r : ReadyView) (op : Option Op) → Fits r (moved_at f k) op → Fits r f op
-    refit r None h = absurd h
-    refit r (Some TakePush) h = absurd h
-    refit r (Some Push) h = h
-    refit r (Some TakePop) h = absurd h
-    refit r (Some Pop) h = h
-    refit r (Some Free) h = h
-    refit r (Some Leave) h = absurd h
-    refit r (Some Yield) h = absurd h
+        refit : (r : ReadyView) (op : Option Op) → Fits r (moved_at f k) op → Fits r f op
+        refit r None h = absurd h
+        refit r (Some TakePush) h = absurd h
+        refit r (Some Push) h = h
+        refit r (Some TakePop) h = absurd h
+        refit r (Some Pop) h = h
+        refit r (Some Free) h = h
+        refit r (Some Leave) h = absurd h
+        refit r (Some Yield) h = absurd h
 
   pub section_rest : (r : ReadyView) → IsContext r c → AreSections r c.sections
   section_rest r h =
@@ -133,3 +132,16 @@ yields_between f op none = record {
   carries = refl;
   is = subst (StandsAt f) (sym op) none;
 }
+
+-- the thread that a context carries is that of its section, or its own
+carried_at : (f : Frame) (fs : List Frame) (x : ℕ) (k : Option ℕ) → one_of f.thread x ≤ threads_in (before_all (at_copy f k) fs) x + one_of (thread_alone (at_copy f k) f.thread) x
+carried_at f fs x None = omega arith
+carried_at f fs x (Some k) = omega arith
+
+pub carried_less : (state : State) (fs : List Frame) (x : ℕ) → one_of (carried_by state) x ≤ threads_in (before_all (section_in state) fs) x + one_of (thread_alone (section_in state) (carried_by state)) x
+carried_less (Code f) fs x = carried_at f fs x (copy_at f.pc)
+carried_less (Work t) fs x = omega arith
+carried_less (Hint t) fs x = omega arith
+carried_less Return fs x = omega arith
+carried_less (User t) fs x = omega arith
+carried_less (Look looks) fs x = omega arith

@@ -1,5 +1,5 @@
 -- A step between routines keeps all standing: a section is continued, a push begins, a pop begins.
-use Rattle.std.proofs.Common.{◌≡◌, ℕ, ◌+◌, ◌==◌, ◌≤◌, ◌<◌, Bool, true, false, List, [], ◌∷◌, length, drop, Option, Some, None, IfSome, is_some, slice_get, refl, sym, ap, ◌∙◌, subst, arith}
+use Rattle.std.proofs.Common.{◌≡◌, ℕ, ◌+◌, ◌≤◌, ◌<◌, Bool, true, false, List, [], ◌∷◌, length, drop, Option, Some, None, IfSome, is_some, slice_get, refl, sym, ap, ◌∙◌, subst, arith}
 use Rattle.std.proofs.lemmas.Option.{same_Some}
 use Rattle.sa_base.specs.declared.number.ThreadNo.{ThreadNo}
 use Rattle.sa_base.specs.declared.number.ProcNo.{ProcNo}
@@ -14,28 +14,29 @@ use Rattle.sa_lists.specs.ReadyView as ready
 use Rattle.sa_code.specs.declared.code.Op.{Op}
 use Rattle.sa_code.specs.declared.code.Op.TheVariants.{TakePush, Push, TakePop, Pop, Free, Leave, Yield}
 use Rattle.sa_code.specs.declared.state.Frame.{Frame}
-use Rattle.sa_code.specs.Micro.{Micro, micro, micro_at, taken, is_resident, list_in, HasList, CanPush, CanDo}
+use Rattle.sa_code.specs.Micro.{micro_at, taken, is_resident, list_in, HasList, CanDo}
 use Rattle.sa_code.specs.Changes.{IsPackage}
 use Rattle.sa_code.proofs.Steps.{taken-changes_only}
 use Rattle.sa_code.proofs.Kept.{micro-package}
-use Rattle.sa_copies.specs.Copies.{package_ops, copy_at}
+use Rattle.sa_copies.specs.Copies.{package_ops}
 use Rattle.sa_fast.specs.declared.threads.Place.TheVariants.{Running, Carried}
-use Rattle.sa_fast.specs.Work.{work_of, without_first, IsWork}
+use Rattle.sa_fast.specs.Work.{work_of, IsWork}
 use Rattle.sa_fast.specs.Rest.{one_if, one_of}
-use Rattle.sa_fast.proofs.WorkSteps.{one_same, without_first-step}
+use Rattle.sa_fast.proofs.WorkSteps.{without_first-step}
 use Rattle.sa_package.specs.declared.context.Context.{Context}
 use Rattle.sa_package.specs.declared.context.State.{State}
 use Rattle.sa_package.specs.declared.context.State.TheVariants.{Code}
 use Rattle.sa_package.specs.declared.package.FastThreads.{FastThreads}
 use Rattle.sa_package.specs.Context.{carried_by, section_in, is_left, has_bulk, settled_to}
 use Rattle.sa_package.specs.Conditions.{IsThread, CanBeDue, CanWork}
-use Rattle.sa_package.specs.Rules.{thread_alone, at_state, owed, settled, placed, with_shared, with_package, put_last, due_last, continued, push_of, pushing_by, pushing, pop_of, popping_by, popping}
-use Rattle.sa_package.specs.Hands.{sections_of, locks_in, free_locks, locks_of, threads_in, threads_of}
+use Rattle.sa_package.specs.Rules.{thread_alone, at_state, owed, settled, placed, put_last, continued, push_of, pushing_by, pushing, pop_of, popping_by, popping}
+use Rattle.sa_package.specs.Hands.{carried_of, locks_in, locks_of, threads_in, threads_of}
 use Rattle.sa_package.specs.Stands.{Fits, IsSection, AreSections, StandsAt, IsContext, IsStanding}
-use Rattle.sa_package.specs.Changing.{IsChange, sections_kept}
+use Rattle.sa_package.specs.Changing.{IsChange, sections_kept, still-change}
 use Rattle.sa_package.specs.Views.{IsBetween, settled_between, between_locks, between_threads, between_context, between_rest, section_locks, section_threads, section_context}
 use Rattle.sa_package.specs.Holding.{own_made, own_unready, own_due, own_thread, own_work}
-use Rattle.sa_package.specs.Parts.{parts_placed, parts_state, parts_works, made_with, due-step, lock_taken}
+use Rattle.sa_package.specs.PlaceFacts.{IsPlaceable, agree_in_hand, put_down, picked_up, carried_small, own_placeable, own_at_rest, beside_placeable, beside_at_rest, running_hand, carried_hand_place}
+use Rattle.sa_package.specs.Parts.{length_placed, parts_placed, parts_state, parts_works, made_with, due-step, lock_taken}
 
 -- a section can stand in the code
 fits_stands : (r : ReadyView) (f : Frame) (op : Option Op) → Fits r f op → StandsAt f op
@@ -71,6 +72,9 @@ module _ (s : Setting) (e : ℕ) (u : FastThreads) (cs : Contexts Context) (h : 
   threads_are : (x : ℕ) → threads_of u.shared.works (Some c) x ≡ threads_in c.sections x + one_of t x + count_in x (work_of u.shared.works c.work)
   threads_are = between_threads c t no carries u.shared.works
 
+  carried_x : (x : ℕ) → carried_of (Some c) x ≡ one_of t x
+  carried_x x = ap (λ o. one_of o x) carries
+
   -- a thread that is carried can be put into the work list
   pub between_due : CanBeDue u.shared t
   between_due = own_due s e u cs h a c is t (λ x.
@@ -88,6 +92,17 @@ module _ (s : Setting) (e : ℕ) (u : FastThreads) (cs : Contexts Context) (h : 
       let fs : c.sections ≡ f ∷ drop 1 c.sections = first_of c.sections f first in
       let both : AreSections u.shared.state.lists (f ∷ drop 1 c.sections) = subst (AreSections u.shared.state.lists) fs rest in
       let one : IsSection u.shared.state.lists f = both.0 in
+      let has : (y : ℕ) → one_of f.thread y + one_of (carried_by c.state) y ≤ threads_of u.shared.works (Some c) y = λ y.
+      (let split : threads_in c.sections y ≡ one_of f.thread y + one_of f.pushed y + threads_in (drop 1 c.sections) y = ap (λ xs. threads_in xs y) fs in
+      omega (arith, threads_are y, carried_x y)) in
+      let beside = beside_placeable s e u cs h a c is f.thread has in
+      let second_rest = beside_at_rest s e u cs h a c is f.thread has in
+      let second : IsPlaceable p.user.shared f.thread 1 = record {
+        inside = λ n at. let below = beside.inside n at in let all = length_placed u.shared.threads (carried_by c.state) Carried in omega arith;
+        carried = λ n at.
+            let down = put_down u.shared (carried_by c.state) Carried refl (own_placeable s e u cs h a c is (carried_by c.state) refl) n.0 in
+            let was = beside.carried n at in let small = carried_small p.user.shared n.0 in omega arith;
+      } in
       record {
         made = made_with s u v.shared h.made refl;
         code = h.code;
@@ -103,16 +118,13 @@ module _ (s : Setting) (e : ℕ) (u : FastThreads) (cs : Contexts Context) (h : 
         names = λ y. step.names y;
         works = λ y p q. step.others y p q;
         lists = λ y p q. refl;
+        places = agree_in_hand p.user.shared f.thread 1 Running running_hand second second_rest
+            (agree_in_hand u.shared (carried_by c.state) 0 Carried carried_hand_place (own_placeable s e u cs h a c is (carried_by c.state) refl) (own_at_rest s e u cs h a c is (carried_by c.state) refl) h.places);
+        carries = λ y.
+            let down = put_down u.shared (carried_by c.state) Carried refl (own_placeable s e u cs h a c is (carried_by c.state) refl) y in
+            let up = picked_up p.user.shared f.thread Running refl second y in omega arith;
         context = section_context new f f.pc refl one.copy u.shared.state.lists (fits_stands u.shared.state.lists f (slice_get package_ops f.pc) one.fits) one.fits both.1;
       }
-
-  -- nothing changes
-  pub still : IsChange s e u u (Some c) c
-  still = record {
-    made = h.made; code = h.code; parts = h.parts;
-    locks = λ m. refl; threads = λ x. refl; names = λ m. refl; works = λ m x y. refl; lists = λ m x y. refl;
-    context = here;
-  }
 
   -- the first thread of the work list
   module _ (first : ThreadNo) (work : c.work ≡ Some first) where
@@ -135,7 +147,7 @@ module _ (s : Setting) (e : ℕ) (u : FastThreads) (cs : Contexts Context) (h : 
 
     pushing_taken : (held : Bool) → is_locked u.shared.state.lists p.0 ≡ held → IsPackage (taken u.shared.state (push_of p first (carried_by c.state)) p held).state
         → let m = taken u.shared.state (push_of p first (carried_by c.state)) p held in IsChange s e u (pushing_by u c first m m.done).user (Some c) (pushing_by u c first m m.done).ctx
-    pushing_taken true held sound = still
+    pushing_taken true held sound = still-change s e u cs h a c is
     pushing_taken false free sound =
         let f = push_of p first (carried_by c.state) in
         let m = taken u.shared.state f p false in
@@ -156,6 +168,8 @@ module _ (s : Setting) (e : ℕ) (u : FastThreads) (cs : Contexts Context) (h : 
           names = λ y. let old : one_of c.work y ≡ one_of (Some first) y = ap (λ w. one_of w y) work in omega (arith, step.names y);
           works = λ y none some. step.others y (ap (λ w. one_of w y) (sym work) ∙ none) some;
           lists = λ y none held. refl;
+          places = h.places;
+          carries = λ y. refl;
           context = section_context new g 8 refl refl m.state.lists tt (refl, refl) (sections_kept u.shared.state.lists m.state.lists c.sections (λ y some. refl) rest);
         }
 
@@ -183,10 +197,16 @@ module _ (s : Setting) (e : ℕ) (u : FastThreads) (cs : Contexts Context) (h : 
   -- another state in no section, which carries the same
   pub between-change : (state : State) → IsBetween state t → IsChange s e u u (Some c) (at_state c state)
   between-change state between = record {
-    made = h.made; code = h.code; parts = h.parts;
+    made = h.made;
+    code = h.code;
+    parts = h.parts;
     locks = λ m. omega (arith, between_locks (at_state c state) t between.section between.carries m, locks_are m);
     threads = λ x. omega (arith, between_threads (at_state c state) t between.section between.carries u.shared.works x, threads_are x);
-    names = λ m. refl; works = λ m x y. refl; lists = λ m x y. refl;
+    names = λ m. refl;
+    works = λ m x y. refl;
+    lists = λ m x y. refl;
+    places = h.places;
+    carries = λ x. let new : one_of (carried_by state) x ≡ one_of t x = ap (λ o. one_of o x) between.carries in omega (arith, carried_x x);
     context = between_context (at_state c state) t between.section between.carries u.shared.state.lists between.is rest;
   }
 
@@ -215,7 +235,7 @@ module _ (s : Setting) (e : ℕ) (u : FastThreads) (cs : Contexts Context) (h : 
 
     popping_taken : (held : Bool) → is_locked u.shared.state.lists l ≡ held → IsPackage (taken u.shared.state (pop_of p l) (processor l) held).state
         → let m = taken u.shared.state (pop_of p l) (processor l) held in IsChange s e u (popping_by u c m m.done).user (Some c) (popping_by u c m m.done).ctx
-    popping_taken true held sound = still
+    popping_taken true held sound = still-change s e u cs h a c is
     popping_taken false free sound =
         let f = pop_of p l in
         let m = taken u.shared.state f (processor l) false in
@@ -230,6 +250,8 @@ module _ (s : Setting) (e : ℕ) (u : FastThreads) (cs : Contexts Context) (h : 
           names = λ y. refl;
           works = λ y q r. refl;
           lists = λ y q r. refl;
+          places = h.places;
+          carries = λ y. let none : one_of t y ≡ 0 = ap (λ o. one_of o y) nothing in omega (arith, carried_x y);
           context = section_context new g 11 refl refl m.state.lists tt (refl, refl, refl, some) (sections_kept u.shared.state.lists m.state.lists c.sections (λ y some. refl) rest);
         }
 

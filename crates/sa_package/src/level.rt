@@ -38,7 +38,8 @@ impl UserLevel for FastThreads {
 
     fn told(&mut self, ctx: &mut Context, note: Note, held: Option<Stopped<Context>>)
         requires { IsTelling ⟦<FastThreads as UserLevel>⟧.stands self.old ctx.old note held }
-        ensures { (self.new, ctx.new) ≡ ⟦<FastThreads as UserLevel>⟧.calls.told self.old ctx.old note held }
+        ensures { (self.new, ctx.new)
+            ≡ ⟦<FastThreads as UserLevel>⟧.calls.told self.old ctx.old note held }
     {
         self.told(ctx, note, held);
     }
