@@ -21,7 +21,6 @@ begun w e r = record r {
   pages = evicted e.number w.evictions r.pages;
   last = None;
   moved = None;
-  telling = None;
 }
 
 abbrev pub after_records : WorkloadView → ℕ → ProcNo → Readings → List Record → Readings
@@ -119,7 +118,7 @@ with_up test w before e after =
 
 -- the moment after an event
 abbrev pub ended : Readings → Readings
-ended r = record r { number = r.number + 1; last = None; moved = None; telling = None }
+ended r = record r { number = r.number + 1; last = None; moved = None }
 
 abbrev pub after_event : Test → WorkloadView → Readings → Event → Readings
 after_event test w r e =

@@ -47,11 +47,11 @@ pub record Readings : Type 0 where
   pub pages : List ℕ
   -- of each space: the ready threads in the order of their ready records, each with its list
   pub ready : List (List Listed)
-  -- of the event that goes on: the record directly before; the space that its processor moved to; and, in a run of told
-  -- records behind an up, the life of that up
+  -- the life of the last up
+  pub upped : Option ActNo
+  -- of the event that goes on: the record directly before, and the space that its processor moved to
   pub last : Option Record
   pub moved : Option SpaceNo
-  pub telling : Option ActNo
 
 -- before any record: thread 0 of each space is ready in list 0
 abbrev pub first_listed : Listed
@@ -73,9 +73,9 @@ opening_readings w = record {
   under_way = [];
   pages = map opening_pages w.spaces;
   ready = replicate (length w.spaces) (first_listed ∷ []);
+  upped = None;
   last = None;
   moved = None;
-  telling = None;
 }
 
 -- of a processor

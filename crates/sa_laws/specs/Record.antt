@@ -156,6 +156,7 @@ begun_on p s a r = record r {
   running = slice_set r.running p.0 (Some a);
   lives = put r.lives a.0 (Some (new_life s p));
   marks = slice_set r.marks p.0 false;
+  upped = Some a;
 }
 
 -- a number is in use no longer
@@ -222,7 +223,7 @@ read w e p r (Ready s t) =
 read w e p r (Take s l t) = with_life_on (locks r p l t) p r
 read w e p r (Free s l t) = with_life_on without_lock p r
 read w e p r (Up s a) = begun_on p s a r
-read w e p r (Told n) = told r.telling n r
+read w e p r (Told n) = told r.upped n r
 read w e p r (Move old new) = record r { moved = new }
 read w e p r (Want s n) = wanted p s n r
 read w e p r (Aim q s) = record r { aims = slice_set r.aims q.0 s }
@@ -234,16 +235,9 @@ read w e p r Idle = r
 read w e p r (Spin l) = r
 read w e p r Tick = r
 
--- the life whose up's run of told records may go on behind a record
-abbrev pub telling_after : Option ActNo → Record → Option ActNo
-telling_after telling (Up s a) = Some a
-telling_after telling (Told n) = telling
-telling_after telling _ = None
-
 -- the readings after a record
 abbrev pub after_record : WorkloadView → ℕ → ProcNo → Readings → Record → Readings
 after_record w e p r x = record (read w e p r x) {
   state = changed w p r.state x;
   last = Some x;
-  telling = telling_after r.telling x;
 }

@@ -31,15 +31,15 @@ EachRecord L w e p r (x ∷ xs) = L r x xs × EachRecord L w e p (after_record w
 abbrev pub EachOf : RecordLaw → WorkloadView → Readings → Event → Type 0
 EachOf L w r e = EachRecord L w e.number e.proc (begun w e r) e.records
 
--- Tells at most once: each told record stands in the run behind an up, and each but `told add` tells what was untold to the up's space;
--- what is told is untold no longer.
+-- Tells at most once: each told record but `told add` tells what was untold to the space of the up before it; what is told is untold no
+-- longer.
 abbrev pub IsUntoldTo : Readings → Option SpaceNo → Note → Type 0
+IsUntoldTo r s (Add p) = Unit {0}
 IsUntoldTo r None n = ⊥
-IsUntoldTo r (Some s) (Add p) = Unit {0}
 IsUntoldTo r (Some s) n = Contains (untold_of r s) n
 
 abbrev pub TellsOnce : RecordLaw
-TellsOnce r (Told n) rest = IsUntoldTo r (space_of_life r r.telling) n
+TellsOnce r (Told n) rest = IsUntoldTo r (space_of_life r r.upped) n
 TellsOnce r _ rest = Unit {0}
 
 pub record IsToldOnce (w : WorkloadView) (r : Readings) (e : Event) : Type 0 where
