@@ -12,7 +12,7 @@ use Rattle.sa_laws.specs.Event.{Event}
 use Rattle.sa_laws.specs.State.{thread_at}
 use Rattle.sa_laws.specs.Life.{Life, has_lock}
 use Rattle.sa_laws.specs.Readings.{Readings, opening_readings, demand_of, usable, running_of, carried_by, has_hand, many_taken}
-use Rattle.sa_laws.specs.Record.{after_record, with_life_if}
+use Rattle.sa_laws.specs.Record.{after_record, with_life}
 
 -- at the beginning of an event its evictions are done and its processor's line is low
 abbrev pub begun : WorkloadView → Event → Readings → Readings
@@ -105,25 +105,28 @@ stepped test w before e after first life = record life {
 abbrev pub arisen : Test → WorkloadView → Readings → Event → Readings → Life → Life
 arisen test w before e after life = record life { inside = test w before e after true life }
 
--- the life that ran on the processor before the event, where the event is a step of it
-abbrev pub with_step : Test → WorkloadView → Readings → Event → List Record → Readings → Readings
-with_step test w before e [] after = after
-with_step test w before e (first ∷ others) after =
-    if is_step first then with_life_if (stepped test w before e after first) (running_of before e.proc) after else after
+-- the lives after an event: the one that ran on the processor before it is changed where the event is a step of it, and that of an up in the
+-- event
+abbrev pub with_step : Test → WorkloadView → Readings → Event → Readings → List Record → (ℕ → Option Life) → ℕ → Option Life
+with_step test w before e after [] lives = lives
+with_step test w before e after (first ∷ others) lives =
+    if is_step first then with_life (stepped test w before e after first) (running_of before e.proc) lives else lives
 
--- the life of an up in the event
-abbrev pub with_up : Test → WorkloadView → Readings → Event → Readings → Readings
-with_up test w before e after =
-    if list_any is_up e.records then with_life_if (arisen test w before e after) (running_of after e.proc) after else after
+abbrev pub with_up : Test → WorkloadView → Readings → Event → Readings → (ℕ → Option Life) → ℕ → Option Life
+with_up test w before e after lives =
+    if list_any is_up e.records then with_life (arisen test w before e after) (running_of after e.proc) lives else lives
 
 -- the moment after an event
-abbrev pub ended : Readings → Readings
-ended r = record r { number = r.number + 1; last = None; moved = None }
+abbrev pub ended : Test → WorkloadView → Readings → Event → Readings → Readings
+ended test w before e after = record after {
+  number = after.number + 1;
+  lives = with_up test w before e after (with_step test w before e after e.records after.lives);
+  last = None;
+  moved = None;
+}
 
 abbrev pub after_event : Test → WorkloadView → Readings → Event → Readings
-after_event test w r e =
-    let after = behind_all w e r in
-    ended (with_up test w r e (with_step test w r e e.records after))
+after_event test w r e = ended test w r e (behind_all w e r)
 
 abbrev pub after_events : Test → WorkloadView → Readings → List Event → Readings
 after_events test w r [] = r

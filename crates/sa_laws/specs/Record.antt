@@ -1,4 +1,4 @@
--- What each record adds to what is read off a history.
+-- What each record changes in what is read off a history: for each reading a function, which says at which records it changes.
 use Rattle.std.specs.Prelude.{ℕ, ◌+◌, ◌==◌, Bool, true, false, not, ◌&&◌, if◌then◌else◌, is_none, nat_lt, List, [], ◌∷◌, ◌++◌, filter, find, Option, Some, None, slice_index_or, slice_set}
 use Rattle.std.specs.Option.{option_map}
 use Rattle.sa_base.specs.declared.number.ProcNo.{ProcNo}
@@ -21,35 +21,91 @@ use Rattle.sa_devices.specs.declared.kind.IoKind.TheVariants.{Plain, Page, Upcal
 use Rattle.sa_laws.specs.State.{instr_of, next_instr}
 use Rattle.sa_laws.specs.Machine.{changed, next_effect}
 use Rattle.sa_laws.specs.Life.{Life, Lock, new_life, has_lock, first_lock, with_lock, without_lock, with_first, readied, ran, with_hand, without_thread, with_cont, held_with, inherits, bereft}
-use Rattle.sa_laws.specs.Readings.{Readings, Listed, running_of, life_of, life_on, demand_of, untold_of, taken_of, ready_of, has_hand}
+use Rattle.sa_laws.specs.Readings.{Readings, Listed, space_of_life, running_of, life_of, life_on, demand_of, untold_of, taken_of, ready_of, has_hand}
 
--- a life is changed; the running life of a processor is
-abbrev pub with_life : (Life → Life) → ActNo → Readings → Readings
-with_life f a r = record r { lives = put r.lives a.0 (option_map f (r.lives a.0)) }
+-- The aim of a processor is that of its last aim record; the demand of a space that of its last want record.
+abbrev pub aims_after : List (Option SpaceNo) → Record → List (Option SpaceNo)
+aims_after aims (Aim q s) = slice_set aims q.0 s
+aims_after aims _ = aims
 
-abbrev pub with_life_if : (Life → Life) → Option ActNo → Readings → Readings
-with_life_if f None r = r
-with_life_if f (Some a) r = with_life f a r
+abbrev pub demands_after : List ℕ → Record → List ℕ
+demands_after demands (Want s n) = slice_set demands s.0 n
+demands_after demands _ = demands
 
-abbrev pub with_life_on : (Life → Life) → ProcNo → Readings → Readings
-with_life_on f p r = with_life_if f (running_of r p) r
+-- A line is raised at its record. (It is lowered at the beginning of the next event of its processor.)
+abbrev pub lines_after : ℕ → List (Option ℕ) → Record → List (Option ℕ)
+lines_after e lines (Line q) = slice_set lines q.0 (Some e)
+lines_after e lines _ = lines
 
--- the threads of an optional one
-abbrev pub one_thread : Option ThreadNo → List ThreadNo
-one_thread None = []
-one_thread (Some t) = t ∷ []
+-- A processor is marked idle at its lowering hint, and is not from its next up or raising hint on. A hint is a want that is its event's
+-- first record.
+abbrev pub mark_after : Option Record → ℕ → ℕ → Bool → Bool
+mark_after None old new mark = nat_lt new old
+mark_after (Some before) old new mark = mark
 
--- the space is to be told this
-abbrev pub noted : SpaceNo → Note → Readings → Readings
-noted s n r = record r { untold = slice_set r.untold s.0 (untold_of r s ++ n ∷ []) }
+abbrev pub marks_after : ProcNo → Readings → Record → List Bool
+marks_after p r (Up s a) = slice_set r.marks p.0 false
+marks_after p r (Want s n) = slice_set r.marks p.0 (mark_after r.last (demand_of r s) n (slice_index_or r.marks p.0 false))
+marks_after p r _ = r.marks
 
--- no life runs on the processor any more
-abbrev pub ended_on : ProcNo → Readings → Readings
-ended_on p r = record r { running = slice_set r.running p.0 None }
+-- A life runs on its processor from its up until its stop or block.
+abbrev pub running_after : ProcNo → List (Option ActNo) → Record → List (Option ActNo)
+running_after p running (Up s a) = slice_set running p.0 (Some a)
+running_after p running (Stop s t a) = slice_set running p.0 None
+running_after p running (Block s t a io) = slice_set running p.0 None
+running_after p running _ = running
 
--- a life is idle where it is not in and carries no thread
-abbrev pub stopped_with : Option ThreadNo → Life → Life
-stopped_with t life = record (held_with t (with_hand (one_thread t) life)) { idle = not life.inside && is_none t }
+-- The life of the last up; and the space that the event's processor moved to.
+abbrev pub upped_after : Option ActNo → Record → Option ActNo
+upped_after upped (Up s a) = Some a
+upped_after upped _ = upped
+
+abbrev pub moved_after : Option SpaceNo → Record → Option SpaceNo
+moved_after moved (Move old new) = new
+moved_after moved _ = moved
+
+-- A stop, block or unblock is untold until it is told. What is told is of the space of the last up.
+abbrev pub same_note : Note → Note → Bool
+same_note (note.Add p) (note.Add q) = p.0 == q.0
+same_note (note.Preempted a) (note.Preempted b) = a.0 == b.0
+same_note (note.Blocked a) (note.Blocked b) = a.0 == b.0
+same_note (note.Unblocked a) (note.Unblocked b) = a.0 == b.0
+same_note m n = false
+
+abbrev pub with_note : List (List Note) → SpaceNo → Note → List (List Note)
+with_note untold s n = slice_set untold s.0 (slice_index_or untold s.0 [] ++ n ∷ [])
+
+abbrev pub is_other_note : Note → Note → Bool
+is_other_note n m = not (same_note m n)
+
+abbrev pub without_note : List (List Note) → Option SpaceNo → Note → List (List Note)
+without_note untold None n = untold
+without_note untold (Some s) n = slice_set untold s.0 (filter (is_other_note n) (slice_index_or untold s.0 []))
+
+abbrev pub untold_after : Readings → Record → List (List Note)
+untold_after r (Stop s t a) = with_note r.untold s (note.Preempted a)
+untold_after r (Block s t a io) = with_note r.untold s (note.Blocked a)
+untold_after r (Unblock s t a) = with_note r.untold s (note.Unblocked a)
+untold_after r (Told n) = without_note r.untold (space_of_life r r.upped) n
+untold_after r _ = r.untold
+
+-- A life is taken from the telling of its stop or its unblock to its giveback.
+abbrev pub with_act : List (List ActNo) → Option SpaceNo → ActNo → List (List ActNo)
+with_act taken None a = taken
+with_act taken (Some s) a = slice_set taken s.0 (slice_index_or taken s.0 [] ++ a ∷ [])
+
+abbrev pub is_other_act : ActNo → ActNo → Bool
+is_other_act a b = not (b.0 == a.0)
+
+abbrev pub without_act : List (List ActNo) → Option SpaceNo → ActNo → List (List ActNo)
+without_act taken None a = taken
+without_act taken (Some s) a = slice_set taken s.0 (filter (is_other_act a) (slice_index_or taken s.0 []))
+
+abbrev pub taken_after : Readings → Record → List (List ActNo)
+taken_after r (Told (note.Preempted a)) = with_act r.taken (space_of_life r r.upped) a
+taken_after r (Told (note.Unblocked a)) = with_act r.taken (space_of_life r r.upped) a
+taken_after r (GiveBack a) = without_act r.taken (space_of_life r (Some a)) a
+taken_after r _ = r.taken
 
 -- the length of the `io` instruction whose record stands directly before, if one of this thread does
 abbrev pub length_in : Instr → Option ℕ
@@ -78,7 +134,7 @@ abbrev pub locks_one : Option Life → Bool
 locks_one None = false
 locks_one (Some life) = has_lock life
 
--- what a block is for: directly behind an `io` its length, and no page; where its life has a lock, the package's page;
+-- What a block is for: directly behind an `io` its length, and no page; where its life has a lock, the package's page;
 -- else the page that its thread touches
 pub record Blocking : Type 0 where
   pub kind : IoKind
@@ -94,14 +150,16 @@ blocking_for w r s t a None = record {
 abbrev pub blocking : WorkloadView → Readings → SpaceNo → Option ThreadNo → ActNo → Blocking
 blocking w r s t a = blocking_for w r s t a (length_behind w r s t r.last)
 
--- an I/O begins at an event
-abbrev pub with_io : ℕ → Blocking → Readings → Readings
-with_io e b r = record r {
-  begun = r.begun + 1;
-  under_way = r.under_way ++ record { number = r.begun; ends = e + b.length; kind = b.kind } ∷ [];
-}
+-- An I/O is numbered from 0 in the order of the block and fetch records, and is under way until the unblock of its life, or until the next
+-- `fetched` of its space. Its end is its event plus its length.
+abbrev pub begun_after : ℕ → Record → ℕ
+begun_after begun (Block s t a io) = begun + 1
+begun_after begun (Fetch s) = begun + 1
+begun_after begun _ = begun
 
--- an I/O is over: that of a life, or the fetch of a space's upcall page
+abbrev pub with_io : ℕ → Blocking → Readings → List Io
+with_io e b r = r.under_way ++ record { number = r.begun; ends = e + b.length; kind = b.kind } ∷ []
+
 abbrev pub is_kind_of : ActNo → IoKind → Bool
 is_kind_of a (Plain s b) = b.0 == a.0
 is_kind_of a (Page s b page) = b.0 == a.0
@@ -110,75 +168,34 @@ is_kind_of a (Upcall s) = false
 abbrev pub is_io_of : ActNo → Io → Bool
 is_io_of a io = is_kind_of a io.kind
 
-abbrev pub without_io : Option Io → Readings → Readings
-without_io None r = r
-without_io (Some io) r = record r {
-  under_way = filter (λ other. not (is_number io.number other)) r.under_way;
-  pages = completed io.kind r.pages;
-}
+-- the I/O that is over: that of a life; the fetch of the upcall page of a space
+abbrev pub io_over : Readings → Record → Option Io
+io_over r (Unblock s t a) = find (is_io_of a) r.under_way
+io_over r (Fetched s) = find (fetches s.0) r.under_way
+io_over r _ = None
 
--- a record of the kernel's tells what its upcall's space was not told: it is taken from what is untold; of a stop and an unblock
--- the life is taken, and its locks and its hand pass to the life of the upcall
-abbrev pub same_note : Note → Note → Bool
-same_note (note.Add p) (note.Add q) = p.0 == q.0
-same_note (note.Preempted a) (note.Preempted b) = a.0 == b.0
-same_note (note.Blocked a) (note.Blocked b) = a.0 == b.0
-same_note (note.Unblocked a) (note.Unblocked b) = a.0 == b.0
-same_note m n = false
+abbrev pub is_other_io : Io → Io → Bool
+is_other_io io other = not (is_number io.number other)
 
-abbrev pub forgotten : SpaceNo → Note → Readings → Readings
-forgotten s n r = record r { untold = slice_set r.untold s.0 (filter (λ m. not (same_note m n)) (untold_of r s)) }
+abbrev pub without_io : List Io → Option Io → List Io
+without_io ios None = ios
+without_io ios (Some io) = filter (is_other_io io) ios
 
-abbrev pub took : SpaceNo → ActNo → Readings → Readings
-took s a r = record r { taken = slice_set r.taken s.0 (taken_of r s ++ a ∷ []) }
+abbrev pub under_way_after : WorkloadView → ℕ → Readings → Record → List Io
+under_way_after w e r (Block s t a io) = with_io e (blocking w r s t a) r
+under_way_after w e r (Fetch s) = with_io e (record { kind = Upcall s; length = w.fetch }) r
+under_way_after w e r x = without_io r.under_way (io_over r x)
 
-abbrev pub passed_on : ActNo → ActNo → Option Life → Readings → Readings
-passed_on up a None r = r
-passed_on up a (Some life) r = with_life (inherits life) up (with_life bereft a r)
+-- A page is resident by the last of the workload's absent lines, the evict lines up to the event, and the completions of I/Os for it. (The evict
+-- lines of an event come at its beginning.)
+abbrev pub with_page : List ℕ → Option Io → List ℕ
+with_page pages None = pages
+with_page pages (Some io) = completed io.kind pages
 
-abbrev pub told_of : ActNo → SpaceNo → Note → Readings → Readings
-told_of up s (note.Add p) r = r
-told_of up s (note.Preempted a) r = passed_on up a (life_of r a) (took s a (forgotten s (note.Preempted a) r))
-told_of up s (note.Blocked a) r = forgotten s (note.Blocked a) r
-told_of up s (note.Unblocked a) r = passed_on up a (life_of r a) (took s a (forgotten s (note.Unblocked a) r))
+abbrev pub pages_after : Readings → Record → List ℕ
+pages_after r x = with_page r.pages (io_over r x)
 
-abbrev pub told_by : ActNo → Option Life → Note → Readings → Readings
-told_by up None n r = r
-told_by up (Some life) n r = told_of up life.space n r
-
-abbrev pub told : Option ActNo → Note → Readings → Readings
-told None n r = r
-told (Some up) n r = told_by up (life_of r up) n r
-
--- a fresh life runs on the processor
-abbrev pub begun_on : ProcNo → SpaceNo → ActNo → Readings → Readings
-begun_on p s a r = record r {
-  running = slice_set r.running p.0 (Some a);
-  lives = put r.lives a.0 (Some (new_life s p));
-  marks = slice_set r.marks p.0 false;
-  upped = Some a;
-}
-
--- a number is in use no longer
-abbrev pub without_act : ActNo → Option Life → Readings → Readings
-without_act a None r = r
-without_act a (Some life) r = record r {
-  lives = put r.lives a.0 None;
-  taken = slice_set r.taken life.space.0 (filter (λ b. not (b.0 == a.0)) (taken_of r life.space));
-}
-
--- a processor's idle mark after a want: the first record of an event is a hint, which marks it where the demand falls
-abbrev pub marked : Option Record → ℕ → ℕ → Bool → Bool
-marked None old new mark = nat_lt new old
-marked (Some before) old new mark = mark
-
-abbrev pub wanted : ProcNo → SpaceNo → ℕ → Readings → Readings
-wanted p s n r = record r {
-  demands = slice_set r.demands s.0 n;
-  marks = slice_set r.marks p.0 (marked r.last (demand_of r s) n (slice_index_or r.marks p.0 false));
-}
-
--- the thread stands last among the ready ones, in the list of its life's first lock; it is ready no longer
+-- A ready thread's list is the first of its life's locks at its ready record.
 abbrev pub list_of : Option Lock → ProcNo → ProcNo
 list_of None p = p
 list_of (Some lock) p = lock.list
@@ -187,13 +204,17 @@ abbrev pub first_list : Option Life → ProcNo → ProcNo
 first_list None p = p
 first_list (Some life) p = list_of (first_lock life) p
 
-abbrev pub listed : SpaceNo → ThreadNo → ProcNo → Readings → Readings
-listed s t l r = record r { ready = slice_set r.ready s.0 (ready_of r s ++ record { thread = t; list = l } ∷ []) }
+abbrev pub is_other_thread : ThreadNo → Listed → Bool
+is_other_thread t listed = not (listed.thread.0 == t.0)
 
-abbrev pub unlisted : SpaceNo → ThreadNo → Readings → Readings
-unlisted s t r = record r { ready = slice_set r.ready s.0 (filter (λ (x : Listed). not (x.thread.0 == t.0)) (ready_of r s)) }
+abbrev pub ready_after : ProcNo → Readings → Record → List (List Listed)
+ready_after p r (Ready s t) = slice_set r.ready s.0 (ready_of r s ++ record { thread = t; list = first_list (life_on r p) p } ∷ [])
+ready_after p r (Run s t) = slice_set r.ready s.0 (filter (is_other_thread t) (ready_of r s))
+ready_after p r _ = r.ready
 
--- the lock of a list is taken: for a push, where the hand is not empty
+-- Lives. An up begins one, and the telling of a stop or an unblock hands the locks and the hand of that life over to the life of the up. A take
+-- adds a lock, for a push where the hand is not empty; a free removes the first. Forked and woken threads, and those of stops, unblocks and
+-- backs, join the hand; a ready takes its thread from it. A giveback ends the use of the number.
 abbrev pub lock_for : Readings → ProcNo → ProcNo → Option ThreadNo → Life → Lock
 lock_for r p l t life = record {
   list = l;
@@ -207,37 +228,65 @@ lock_for r p l t life = record {
 abbrev pub locks : Readings → ProcNo → ProcNo → Option ThreadNo → Life → Life
 locks r p l t life = with_lock (lock_for r p l t life) life
 
--- what a record of event e of processor p adds, but for the state and the record itself
-abbrev pub read : WorkloadView → ℕ → ProcNo → Readings → Record → Readings
-read w e p r (Ins s t i) = with_life_on (with_hand (next_effect w r.state s t).roused) p r
-read w e p r (Out s t value) = r
-read w e p r (Run s t) = with_life_on (with_first (ran t)) p (unlisted s t r)
-read w e p r (Stop s t a) = noted s (note.Preempted a) (ended_on p (with_life (stopped_with t) a r))
-read w e p r (Block s t a io) = noted s (note.Blocked a) (ended_on p (with_io e (blocking w r s t a) (with_life (held_with t) a r)))
-read w e p r (Unblock s t a) =
-    noted s (note.Unblocked a) (with_life (with_hand (one_thread t)) a (without_io (find (is_io_of a) r.under_way) r))
-read w e p r (Cont s t) = with_life_on (with_cont true) p r
-read w e p r (Back s t) = with_life_on (λ life. with_cont false (with_hand (one_thread t) life)) p r
-read w e p r (Ready s t) =
-    with_life_on (λ life. with_first readied (without_thread t life)) p (listed s t (first_list (life_on r p) p) r)
-read w e p r (Take s l t) = with_life_on (locks r p l t) p r
-read w e p r (Free s l t) = with_life_on without_lock p r
-read w e p r (Up s a) = begun_on p s a r
-read w e p r (Told n) = told r.upped n r
-read w e p r (Move old new) = record r { moved = new }
-read w e p r (Want s n) = wanted p s n r
-read w e p r (Aim q s) = record r { aims = slice_set r.aims q.0 s }
-read w e p r (Line q) = record r { lines = slice_set r.lines q.0 (Some e) }
-read w e p r (Fetch s) = with_io e (record { kind = Upcall s; length = w.fetch }) r
-read w e p r (Fetched s) = without_io (find (fetches s.0) r.under_way) r
-read w e p r (GiveBack a) = without_act a (life_of r a) r
-read w e p r Idle = r
-read w e p r (Spin l) = r
-read w e p r Tick = r
+abbrev pub one_thread : Option ThreadNo → List ThreadNo
+one_thread None = []
+one_thread (Some t) = t ∷ []
 
--- the readings after a record
+-- a life is idle where it is not in and carries no thread
+abbrev pub stopped_with : Option ThreadNo → Life → Life
+stopped_with t life = record (held_with t (with_hand (one_thread t) life)) { idle = not life.inside && is_none t }
+
+abbrev pub back_with : Option ThreadNo → Life → Life
+back_with t life = with_cont false (with_hand (one_thread t) life)
+
+abbrev pub made_ready : ThreadNo → Life → Life
+made_ready t life = with_first readied (without_thread t life)
+
+-- the lives, one of which is changed
+abbrev pub with_life : (Life → Life) → Option ActNo → (ℕ → Option Life) → ℕ → Option Life
+with_life f None lives = lives
+with_life f (Some a) lives = put lives a.0 (option_map f (lives a.0))
+
+-- a life is told of another: it inherits what that one has
+abbrev pub handed : Option ActNo → ActNo → Option Life → (ℕ → Option Life) → ℕ → Option Life
+handed upped a None lives = lives
+handed upped a (Some from) lives = with_life (inherits from) upped (with_life bereft (Some a) lives)
+
+abbrev pub lives_after : WorkloadView → ProcNo → Readings → Record → ℕ → Option Life
+lives_after w p r (Ins s t i) = with_life (with_hand (next_effect w r.state s t).roused) (running_of r p) r.lives
+lives_after w p r (Run s t) = with_life (with_first (ran t)) (running_of r p) r.lives
+lives_after w p r (Stop s t a) = with_life (stopped_with t) (Some a) r.lives
+lives_after w p r (Block s t a io) = with_life (held_with t) (Some a) r.lives
+lives_after w p r (Unblock s t a) = with_life (with_hand (one_thread t)) (Some a) r.lives
+lives_after w p r (Cont s t) = with_life (with_cont true) (running_of r p) r.lives
+lives_after w p r (Back s t) = with_life (back_with t) (running_of r p) r.lives
+lives_after w p r (Ready s t) = with_life (made_ready t) (running_of r p) r.lives
+lives_after w p r (Take s l t) = with_life (locks r p l t) (running_of r p) r.lives
+lives_after w p r (Free s l t) = with_life without_lock (running_of r p) r.lives
+lives_after w p r (Up s a) = put r.lives a.0 (Some (new_life s p))
+lives_after w p r (Told (note.Preempted a)) = handed r.upped a (life_of r a) r.lives
+lives_after w p r (Told (note.Unblocked a)) = handed r.upped a (life_of r a) r.lives
+lives_after w p r (GiveBack a) = put r.lives a.0 None
+lives_after w p r _ = r.lives
+
+-- The readings after a record of event e of processor p.
 abbrev pub after_record : WorkloadView → ℕ → ProcNo → Readings → Record → Readings
-after_record w e p r x = record (read w e p r x) {
+after_record w e p r x = record {
+  number = r.number;
   state = changed w p r.state x;
+  aims = aims_after r.aims x;
+  lines = lines_after e r.lines x;
+  marks = marks_after p r x;
+  running = running_after p r.running x;
+  lives = lives_after w p r x;
+  taken = taken_after r x;
+  demands = demands_after r.demands x;
+  untold = untold_after r x;
+  begun = begun_after r.begun x;
+  under_way = under_way_after w e r x;
+  pages = pages_after r x;
+  ready = ready_after p r x;
+  upped = upped_after r.upped x;
   last = Some x;
+  moved = moved_after r.moved x;
 }
