@@ -8,7 +8,7 @@ use Rattle.sa_base.specs.declared.number.ActNo.{ActNo}
 use Rattle.sa_base.specs.declared.record.Note.{Note}
 use Rattle.sa_base.specs.declared.record.Note.TheVariants as note
 use Rattle.sa_base.specs.declared.record.Record.{Record}
-use Rattle.sa_base.specs.declared.record.Record.TheVariants.{Ins, Out, Run, Stop, Block, Unblock, Cont, Back, Ready, Take, Free, Up, Told, Move, Want, Aim, Line, Fetch, Fetched, GiveBack, Idle, Spin, Tick}
+use Rattle.sa_base.specs.declared.record.Record.TheVariants.{Ins, Run, Stop, Block, Unblock, Cont, Back, Ready, Take, Free, Up, Told, Move, Want, Aim, Line, Fetch, Fetched, GiveBack}
 use Rattle.sa_base.specs.declared.limits.TheConstants.{PACKAGE_PAGE}
 use Rattle.sa_instr.specs.declared.instr.Instr.{Instr}
 use Rattle.sa_instr.specs.declared.instr.Instr.TheVariants.{Io as IoOf, Touch}
@@ -21,7 +21,7 @@ use Rattle.sa_devices.specs.declared.kind.IoKind.TheVariants.{Plain, Page, Upcal
 use Rattle.sa_laws.specs.State.{instr_of, next_instr}
 use Rattle.sa_laws.specs.Machine.{changed, next_effect}
 use Rattle.sa_laws.specs.Life.{Life, Lock, new_life, has_lock, first_lock, with_lock, without_lock, with_first, readied, ran, with_hand, without_thread, with_cont, held_with, inherits, bereft}
-use Rattle.sa_laws.specs.Readings.{Readings, Listed, space_of_life, running_of, life_of, life_on, demand_of, untold_of, taken_of, ready_of, has_hand}
+use Rattle.sa_laws.specs.Readings.{Readings, Listed, space_of_life, running_of, life_of, life_on, demand_of, ready_of, has_hand}
 
 -- The aim of a processor is that of its last aim record; the demand of a space that of its last want record.
 abbrev pub aims_after : List (Option SpaceNo) → Record → List (Option SpaceNo)
