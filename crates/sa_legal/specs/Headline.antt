@@ -1,0 +1,106 @@
+-- What a legal run promises its reader, said of the records of the flat trace alone.
+use Rattle.std.specs.Prelude.{◌≡◌, ◌≢◌, ℕ, ◌≤◌, ◌<◌, ◌⊎◌, true, min, if◌then◌else◌, List, [], ◌∷◌, ◌++◌, length, map, count_by, Option, Some, None, slice_get, slice_index_or}
+use Rattle.std.specs.List.{range_with_len}
+use Rattle.sa_base.specs.declared.number.ProcNo.{ProcNo}
+use Rattle.sa_base.specs.declared.number.SpaceNo.{SpaceNo}
+use Rattle.sa_base.specs.declared.number.ThreadNo.{ThreadNo}
+use Rattle.sa_base.specs.declared.number.ActNo.{ActNo}
+use Rattle.sa_base.specs.declared.record.Note.{Note}
+use Rattle.sa_base.specs.declared.record.Note.TheVariants.{Add}
+use Rattle.sa_base.specs.declared.record.Record.{Record}
+use Rattle.sa_base.specs.declared.record.Record.TheVariants.{Run, Ready, Take, Free, Up, Told, GiveBack}
+use Rattle.sa_base.specs.declared.record.Item.{Item}
+use Rattle.sa_instr.specs.Workload.{WorkloadView}
+use Rattle.sa_share.specs.declared.Claim.{Claim}
+use Rattle.sa_share.specs.Share.{IsShare, share_at}
+use Rattle.sa_assign.specs.Aims.{is_aim, space_no}
+use Rattle.sa_assign.specs.Reaim.{proc_no}
+use Rattle.sa_laws.specs.State.{space_def}
+use Rattle.sa_laws.specs.Closing.{first_space, spaces_of}
+use Rattle.sa_legal.specs.Words.{last_aim, last_want, last_owner, is_fetched, IsRaised, StandsUntold}
+
+-- a record stands at a place
+pub record Stands (items : List Item) (k : ℕ) (r : Record) : Type 0 where
+  pub item : Item
+  pub at : slice_get items k ≡ Some item
+  pub what : item.what ≡ r
+
+-- the items up to the end of an event: what follows is of a later one
+pub record IsMoment (items past : List Item) (e : ℕ) : Type 0 where
+  pub rest : List Item
+  pub whole : items ≡ past ++ rest
+  pub last : Item
+  pub at : slice_get past (length past - 1) ≡ Some last
+  pub event : last.event ≡ e
+  pub later : (x : Item) → slice_get rest 0 ≡ Some x → e < x.event
+
+-- Each told record but `told add` tells a stop, block or unblock that stands before it and that no record between tells: so no two tell the same.
+abbrev pub TellsAtMostOnce : List Item → Type 0
+TellsAtMostOnce items =
+    (j : ℕ) (n : Note) → Stands items j (Told n) → ((p : ProcNo) → n ≢ Add p)
+    → (s : SpaceNo) × StandsUntold items j s n
+
+-- After each event, a space with an untold stop, block or unblock has no processor, or its upcall page is being fetched, or it owns a processor
+-- whose line is raised.
+abbrev pub HasNoProcessor : List Item → SpaceNo → Type 0
+HasNoProcessor past s = (p : ProcNo) → last_owner past p ≢ Some s
+
+abbrev pub HasRaised : List Item → SpaceNo → Type 0
+HasRaised past s = (p : ProcNo) × (last_owner past p ≡ Some s) × IsRaised past p
+
+abbrev pub TellsInTime : List Item → Type 0
+TellsInTime items =
+    (past : List Item) (event : ℕ) (s : SpaceNo) (n : Note) → IsMoment items past event
+    → StandsUntold past (length past) s n
+    → HasNoProcessor past s ⊎ ((is_fetched past s ≡ true) ⊎ HasRaised past s)
+
+-- The number of each upcall is in use by nobody: between two ups of one number stands its giveback.
+abbrev pub IsGivenBack : List Item → ℕ → ℕ → ActNo → Type 0
+IsGivenBack items i j a = (k : ℕ) × (i < k) × (k < j) × Stands items k (GiveBack a)
+
+abbrev pub NumbersAreFresh : List Item → Type 0
+NumbersAreFresh items =
+    (i j : ℕ) (s t : SpaceNo) (a : ActNo) → i < j → Stands items i (Up s a) → Stands items j (Up t a)
+    → IsGivenBack items i j a
+
+-- After each event each space has at least its share of aims. What it claims is its demand, and while its upcall page is fetched no more than it
+-- has aims.
+abbrev pub procs_of : WorkloadView → List ProcNo
+procs_of w = map proc_no (range_with_len 0 w.processors)
+
+abbrev pub aims_of : WorkloadView → List Item → SpaceNo → ℕ
+aims_of w past s = count_by (λ p. is_aim s.0 (last_aim past p)) (procs_of w)
+
+abbrev pub claim_in : WorkloadView → List Item → SpaceNo → Claim
+claim_in w past s = record {
+  priority = (space_def w s).priority;
+  want = if is_fetched past s then min (last_want past s) (aims_of w past s) else last_want past s;
+}
+
+abbrev pub SharesAreCovered : WorkloadView → List Item → Type 0
+SharesAreCovered w items =
+    (past : List Item) (event : ℕ) (shares : List ℕ) (s : SpaceNo) → IsMoment items past event
+    → IsShare w.processors (first_space w event) (map (claim_in w past) (spaces_of w)) shares
+    → share_at shares s.0 ≤ aims_of w past s
+
+-- A thread holds a list lock from a take that names it, or from its run, until a free that names it. No ready names a thread that holds one.
+abbrev pub Begins : SpaceNo → ThreadNo → Record → Type 0
+Begins s t (Take of l u) = (of ≡ s) × (u ≡ Some t)
+Begins s t (Run of u) = (of ≡ s) × (u ≡ t)
+Begins s t _ = ⊥
+
+abbrev pub Frees : SpaceNo → ThreadNo → Record → Type 0
+Frees s t (Free of l u) = (of ≡ s) × (u ≡ Some t)
+Frees s t _ = ⊥
+
+pub record HoldsListLock (items : List Item) (j : ℕ) (s : SpaceNo) (t : ThreadNo) : Type 0 where
+  pub place : ℕ
+  pub before : place < j
+  pub item : Item
+  pub at : slice_get items place ≡ Some item
+  pub begins : Begins s t item.what
+  pub kept : (k : ℕ) (x : Item) → place < k → k < j → slice_get items k ≡ Some x → Frees s t x.what → ⊥
+
+abbrev pub NoHolderIsReady : List Item → Type 0
+NoHolderIsReady items =
+    (j : ℕ) (s : SpaceNo) (t : ThreadNo) → Stands items j (Ready s t) → HoldsListLock items j s t → ⊥

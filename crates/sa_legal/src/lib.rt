@@ -1,0 +1,2 @@
+//! Legal runs: how a trace is judged, its end, its first break, and what its reader is promised.
+#![tactic(auto)]
