@@ -1,0 +1,3 @@
+pub mod ExampleLemmas
+pub mod SmallestLemmas
+pub mod FoldLemmas

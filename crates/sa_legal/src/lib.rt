@@ -1,2 +1,7 @@
 //! Legal runs: how a trace is judged, its end, its first break, and what its reader is promised.
 #![tactic(auto)]
+
+
+mod examples;
+
+pub use examples::smallest_run_is_legal;
