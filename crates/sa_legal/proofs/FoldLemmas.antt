@@ -1,7 +1,7 @@
 -- Legality at each place of a history is legality along it.
 use Rattle.std.proofs.Common.{◌≡◌, ◌≢◌, ℕ, zero, suc, ◌+◌, ◌<◌, ◌≤◌, refl, sym, ◌∙◌, ap, subst, arith, Some, None, List, [], ◌∷◌, ◌++◌, length, take, true, false, length-append}
 use Rattle.std.specs.Prelude.{slice_get, Option, ◌==◌, if◌then◌else◌}
-use Rattle.std.proofs.lemmas.Bool.{eqb-neq}
+use Rattle.std.proofs.lemmas.Bool.Decides.{nat_tests}
 use Rattle.std.proofs.lemmas.Option.{same_Some, none-some}
 use Rattle.sa_lemmas.proofs.ListUpdates.{slice_get-append_left, slice_get-append_seam}
 use Rattle.sa_instr.specs.Workload.{WorkloadView}
@@ -51,10 +51,13 @@ take-whole : (xs : List Event) (e : Event) → take (length xs) (xs ++ e ∷ [])
 take-whole [] e = refl
 take-whole (x ∷ xs) e = ap (λ ys. x ∷ ys) (take-whole xs e)
 
+not-equal : (a b : ℕ) → a < b → (a == b) ≡ false
+not-equal a b below = grind (arith, nat_tests)
+
 no-line : (xs : List Event) (e : Event) (line : LastLine) (n : ℕ) → n < length xs → line_at (xs ++ e ∷ []) line n ≡ None
 no-line xs e line n below =
     let len : length (xs ++ e ∷ []) ≡ length xs + 1 = length-append xs (e ∷ []) in
-    ap (λ b. if b then Some line else None) (eqb-neq (n + 1) (length (xs ++ e ∷ [])) (omega arith))
+    ap (λ b. if b then Some line else None) (not-equal (n + 1) (length (xs ++ e ∷ [])) (omega arith))
 
 -- where all rules hold along a history, the event behind it that breaks a rule is the first break
 pub break-behind : (u : UserRules) (w : WorkloadView) (events : List Event) (e : Event) (line : LastLine) (rule : Rule)

@@ -1,3 +1,4 @@
 pub mod ExampleLemmas
 pub mod SmallestLemmas
 pub mod FoldLemmas
+pub mod BreakLemmas

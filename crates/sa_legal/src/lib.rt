@@ -4,4 +4,4 @@
 
 mod examples;
 
-pub use examples::smallest_run_is_legal;
+pub use examples::{rules_can_be_broken, smallest_run_is_legal};
