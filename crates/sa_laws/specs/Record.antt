@@ -1,5 +1,5 @@
 -- What each record changes in what is read off a history: for each reading a function, which says at which records it changes.
-use Rattle.std.specs.Prelude.{ℕ, ◌+◌, ◌==◌, Bool, true, false, not, ◌&&◌, if◌then◌else◌, is_none, nat_lt, List, [], ◌∷◌, ◌++◌, filter, find, Option, Some, None, slice_index_or, slice_set}
+use Rattle.std.specs.Prelude.{ℕ, ◌+◌, ◌==◌, Bool, true, false, not, ◌&&◌, if◌then◌else◌, is_none, nat_lt, List, [], ◌∷◌, ◌++◌, map, filter, find, Option, Some, None, slice_index_or, slice_set}
 use Rattle.std.specs.Option.{option_map}
 use Rattle.sa_base.specs.declared.number.ProcNo.{ProcNo}
 use Rattle.sa_base.specs.declared.number.SpaceNo.{SpaceNo}
@@ -14,7 +14,7 @@ use Rattle.sa_instr.specs.declared.instr.Instr.{Instr}
 use Rattle.sa_instr.specs.declared.instr.Instr.TheVariants.{Io as IoOf, Touch}
 use Rattle.sa_instr.specs.Workload.{WorkloadView}
 use Rattle.sa_lemmas.specs.Function.{put}
-use Rattle.sa_devices.specs.Ios.{Io, fetches, is_number}
+use Rattle.sa_devices.specs.Ios.{Io, fetches}
 use Rattle.sa_devices.specs.Pages.{completed}
 use Rattle.sa_devices.specs.declared.kind.IoKind.{IoKind}
 use Rattle.sa_devices.specs.declared.kind.IoKind.TheVariants.{Plain, Page, Upcall}
@@ -64,7 +64,7 @@ abbrev pub moved_after : Option SpaceNo → Record → Option SpaceNo
 moved_after moved (Move old new) = new
 moved_after moved _ = moved
 
--- A stop, block or unblock is untold until it is told. What is told is of the space of the last up.
+-- A stop, block or unblock is untold until a record tells it.
 abbrev pub same_note : Note → Note → Bool
 same_note (note.Add p) (note.Add q) = p.0 == q.0
 same_note (note.Preempted a) (note.Preempted b) = a.0 == b.0
@@ -78,15 +78,14 @@ with_note untold s n = slice_set untold s.0 (slice_index_or untold s.0 [] ++ n �
 abbrev pub is_other_note : Note → Note → Bool
 is_other_note n m = not (same_note m n)
 
-abbrev pub without_note : List (List Note) → Option SpaceNo → Note → List (List Note)
-without_note untold None n = untold
-without_note untold (Some s) n = slice_set untold s.0 (filter (is_other_note n) (slice_index_or untold s.0 []))
+abbrev pub without_note : List (List Note) → Note → List (List Note)
+without_note untold n = map (filter (is_other_note n)) untold
 
 abbrev pub untold_after : Readings → Record → List (List Note)
 untold_after r (Stop s t a) = with_note r.untold s (note.Preempted a)
 untold_after r (Block s t a io) = with_note r.untold s (note.Blocked a)
 untold_after r (Unblock s t a) = with_note r.untold s (note.Unblocked a)
-untold_after r (Told n) = without_note r.untold (space_of_life r r.upped) n
+untold_after r (Told n) = without_note r.untold n
 untold_after r _ = r.untold
 
 -- A life is taken from the telling of its stop or its unblock to its giveback.
@@ -102,8 +101,8 @@ without_act taken None a = taken
 without_act taken (Some s) a = slice_set taken s.0 (filter (is_other_act a) (slice_index_or taken s.0 []))
 
 abbrev pub taken_after : Readings → Record → List (List ActNo)
-taken_after r (Told (note.Preempted a)) = with_act r.taken (space_of_life r r.upped) a
-taken_after r (Told (note.Unblocked a)) = with_act r.taken (space_of_life r r.upped) a
+taken_after r (Told (note.Preempted a)) = with_act r.taken (space_of_life r (Some a)) a
+taken_after r (Told (note.Unblocked a)) = with_act r.taken (space_of_life r (Some a)) a
 taken_after r (GiveBack a) = without_act r.taken (space_of_life r (Some a)) a
 taken_after r _ = r.taken
 
@@ -174,17 +173,18 @@ io_over r (Unblock s t a) = find (is_io_of a) r.under_way
 io_over r (Fetched s) = find (fetches s.0) r.under_way
 io_over r _ = None
 
-abbrev pub is_other_io : Io → Io → Bool
-is_other_io io other = not (is_number io.number other)
+abbrev pub is_io_of_other : ActNo → Io → Bool
+is_io_of_other a io = not (is_io_of a io)
 
-abbrev pub without_io : List Io → Option Io → List Io
-without_io ios None = ios
-without_io ios (Some io) = filter (is_other_io io) ios
+abbrev pub fetches_other : SpaceNo → Io → Bool
+fetches_other s io = not (fetches s.0 io)
 
 abbrev pub under_way_after : WorkloadView → ℕ → Readings → Record → List Io
 under_way_after w e r (Block s t a io) = with_io e (blocking w r s t a) r
 under_way_after w e r (Fetch s) = with_io e (record { kind = Upcall s; length = w.fetch }) r
-under_way_after w e r x = without_io r.under_way (io_over r x)
+under_way_after w e r (Unblock s t a) = filter (is_io_of_other a) r.under_way
+under_way_after w e r (Fetched s) = filter (fetches_other s) r.under_way
+under_way_after w e r _ = r.under_way
 
 -- A page is resident by the last of the workload's absent lines, the evict lines up to the event, and the completions of I/Os for it. (The evict
 -- lines of an event come at its beginning.)

@@ -1,25 +1,20 @@
 -- For each rule a history that breaks it first.
-use Rattle.std.proofs.Common.{◌≡◌, ◌≢◌, ℕ, zero, suc, ◌⊎◌, inl, inr, refl, sym, ap, arith, Some, None, List, [], ◌∷◌, length, true, false}
+use Rattle.std.proofs.Common.{◌≡◌, ℕ, zero, suc, inl, inr, refl, ap, arith, Some, None, List, [], ◌∷◌, length, true, false}
 use Rattle.std.specs.Prelude.{slice_get, slice_index_or, is_some, Option}
 use Rattle.std.specs.List.{list_all}
-use Rattle.sa_base.specs.declared.number.SpaceNo.{SpaceNo}
-use Rattle.sa_base.specs.declared.number.IoNo.{IoNo}
 use Rattle.sa_base.specs.declared.record.Note.TheVariants.{Add, Preempted, Blocked}
-use Rattle.sa_base.specs.declared.record.Record.{Record}
-use Rattle.sa_base.specs.declared.record.Record.TheVariants.{Ins, Run, Stop, Block, Take, Free, Up, Told, Move, Want, Aim, Line, Idle, Tick}
+use Rattle.sa_base.specs.declared.record.Record.TheVariants.{Ins, Stop, Block, Take, Free, Up, Told, Move, Want, Aim, Line, Idle, Tick}
 use Rattle.sa_instr.specs.declared.instr.Instr.{Instr}
 use Rattle.sa_instr.specs.declared.instr.Instr.TheVariants.{Io as IoOf, End}
-use Rattle.sa_laws.specs.declared.rule.Rule.{Rule}
-use Rattle.sa_laws.specs.declared.rule.Rule.TheVariants.{D11, D6, U1, U2, U3, U4, U5, U6, U7, U8, L1, L2, L3, L4, L5, D12}
+use Rattle.sa_laws.specs.declared.rule.Rule.TheVariants.{D11, D6, U1, U2, U3, U4, U5, U6, U7, U8, L1, L2, L3, L4, D12}
 use Rattle.sa_laws.specs.Event.{Event}
-use Rattle.sa_laws.specs.Readings.{Readings, opening_readings, IsLocked}
-use Rattle.sa_laws.specs.History.{begun, after_events}
-use Rattle.sa_laws.specs.Ends.{LastLine, GoesOn, IsStuck, are_done, are_at_rest}
-use Rattle.sa_laws.specs.Rules.{fast_threads, Breaks, HoldEach, rules}
-use Rattle.sa_legal.specs.Legal.{BreaksAt, FirstBreak}
+use Rattle.sa_laws.specs.Readings.{Readings}
+use Rattle.sa_laws.specs.Ends.{GoesOn, are_done, are_at_rest}
+use Rattle.sa_laws.specs.Rules.{fast_threads, HoldEach, rules}
+use Rattle.sa_legal.specs.Legal.{FirstBreak}
 use Rattle.sa_legal.specs.Fold.{AreRight}
-use Rattle.sa_legal.specs.Examples.{workload_with, smallest, blocking, smallest_end, stops_at, told_done, at, s0, p0, t0, act, other_opening, other_place, told_of_nothing, stopped_untold, two_lives, not_told_added, other_io, interrupt_put_off, raised_for_nothing, wanted_for_nothing, aimed_for_nothing, idle_with_lock, idle_beside_thread, freed_unused, not_done}
-use Rattle.sa_legal.proofs.ExampleLemmas.{prompt-calm, no-wants, one-share, only-none, only-put, none-locked}
+use Rattle.sa_legal.specs.Examples.{workload_with, smallest, blocking, stops_at, told_done, at, s0, p0, t0, act, other_opening, other_place, told_of_nothing, stopped_untold, two_lives, not_told_added, other_io, interrupt_put_off, raised_for_nothing, wanted_for_nothing, aimed_for_nothing, idle_with_lock, idle_beside_thread, freed_unused, not_done}
+use Rattle.sa_legal.proofs.ExampleLemmas.{prompt-calm, no-wants, one-share}
 use Rattle.sa_legal.proofs.SmallestLemmas.{e0, e1, e2, e3, e4, r0, r1, r2, r3, r4, r5, next, lawful0, lawful1, lawful2, lawful3, lawful4, unlocked2}
 use Rattle.sa_legal.proofs.FoldLemmas.{with-end, break-behind}
 
@@ -66,8 +61,8 @@ abbrev low_lines : List (Option ℕ)
 low_lines = None ∷ []
 
 low : (k : ℕ) → is_some (slice_index_or low_lines k None) ≡ true → ⊥
-low zero no = cc
-low (suc k) no = cc
+low zero raised = cc
+low (suc k) raised = cc
 
 pub breaks-D11 : FirstBreak fast_threads smallest other_opening (stops_at 0) 0 D11
 breaks-D11 = break-behind fast_threads smallest [] _ (stops_at 0) D11 tt

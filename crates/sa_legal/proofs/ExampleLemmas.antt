@@ -1,18 +1,16 @@
 -- What holds at the moments of a run of one space on one processor, where nothing is untold.
-use Rattle.std.proofs.Common.{◌≡◌, ◌≢◌, ℕ, zero, suc, ◌<◌, ◌≤◌, ◌⊎◌, inl, inr, refl, sym, ◌∙◌, ap, subst, arith, Some, None, List, [], ◌∷◌, Bool, true, false}
-use Rattle.std.specs.Prelude.{Contains, ◌+◌, slice_index_or, slice_index, slice_get, replicate, Option, ◌&&◌, ◌==◌, if◌then◌else◌}
+use Rattle.std.proofs.Common.{◌≡◌, ◌≢◌, ℕ, zero, suc, ◌≤◌, inl, inr, refl, sym, ◌∙◌, ap, subst, arith, Some, None, List, [], ◌∷◌, Bool, true, false}
+use Rattle.std.specs.Prelude.{Contains, ◌+◌, slice_index_or, slice_index, replicate, Option, ◌&&◌, ◌==◌, if◌then◌else◌}
 use Rattle.std.specs.List.{list_any}
 use Rattle.std.proofs.lemmas.Bool.{cases_eq}
 use Rattle.std.proofs.lemmas.Option.{same_Some}
 use Rattle.sa_base.specs.declared.number.SpaceNo.{SpaceNo}
 use Rattle.sa_base.specs.declared.number.ProcNo.{ProcNo}
 use Rattle.sa_base.specs.declared.record.Note.{Note}
-use Rattle.sa_instr.specs.Workload.{WorkloadView}
 use Rattle.sa_lemmas.specs.Function.{put}
-use Rattle.sa_lemmas.proofs.FunctionUpdates.{put-at, put-other}
-use Rattle.sa_laws.specs.Event.{Event}
+use Rattle.sa_lemmas.proofs.FunctionUpdates.{put-other}
 use Rattle.sa_laws.specs.Life.{Life, Lock}
-use Rattle.sa_laws.specs.Readings.{Readings, HasList, IsLocked, untold_of, demand_of, must_hear, life_of}
+use Rattle.sa_laws.specs.Readings.{Readings, IsLocked, demand_of, must_hear}
 use Rattle.sa_laws.specs.Closing.{must_want}
 use Rattle.sa_laws.specs.Upcalls.{IsPrompt}
 

@@ -1,5 +1,5 @@
 -- Legality at each place of a history is legality along it.
-use Rattle.std.proofs.Common.{◌≡◌, ◌≢◌, ℕ, zero, suc, ◌+◌, ◌<◌, ◌≤◌, refl, sym, ◌∙◌, ap, subst, arith, Some, None, List, [], ◌∷◌, ◌++◌, length, take, true, false, length-append}
+use Rattle.std.proofs.Common.{◌≡◌, ◌≢◌, ℕ, zero, suc, ◌+◌, ◌<◌, refl, sym, ◌∙◌, ap, subst, arith, Some, None, List, [], ◌∷◌, ◌++◌, length, take, false, length-append}
 use Rattle.std.specs.Prelude.{slice_get, Option, ◌==◌, if◌then◌else◌}
 use Rattle.std.proofs.lemmas.Bool.Decides.{nat_tests}
 use Rattle.std.proofs.lemmas.Option.{same_Some, none-some}
@@ -11,7 +11,7 @@ use Rattle.sa_laws.specs.Readings.{Readings, opening_readings}
 use Rattle.sa_laws.specs.History.{after_event, after_events}
 use Rattle.sa_laws.specs.Ends.{LastLine, EndIsTold}
 use Rattle.sa_laws.specs.Rules.{UserRules, IsLawful, HoldEach, Breaks, rules}
-use Rattle.sa_legal.specs.Legal.{before, IsLegalHistory, HoldsBefore, BreaksAt, line_at}
+use Rattle.sa_legal.specs.Legal.{IsLegalHistory, BreaksAt, line_at}
 use Rattle.sa_legal.specs.Fold.{AreLawful, AreRight}
 
 pub lawful-at : (u : UserRules) (w : WorkloadView) (r : Readings) (events : List Event) → AreLawful u w r events

@@ -1,5 +1,5 @@
 -- The run of the smallest workload is legal.
-use Rattle.std.proofs.Common.{◌≡◌, ◌≢◌, ℕ, ◌⊎◌, inl, inr, refl, arith, Some, None, List, [], ◌∷◌, false}
+use Rattle.std.proofs.Common.{inl, refl, arith, Some, None, List, [], ◌∷◌}
 use Rattle.sa_base.specs.declared.record.Note.TheVariants.{Add}
 use Rattle.sa_base.specs.declared.record.Record.TheVariants.{Ins, Run, Take, Free, Up, Told, Move, Want, Aim, Line}
 use Rattle.sa_instr.specs.declared.instr.Instr.{Instr}
@@ -9,7 +9,7 @@ use Rattle.sa_laws.specs.Readings.{Readings, opening_readings, IsLocked}
 use Rattle.sa_laws.specs.History.{is_inside, after_event, begun}
 use Rattle.sa_laws.specs.Rules.{fast_threads, IsLawful}
 use Rattle.sa_legal.specs.Examples.{smallest, workload_with, at, s0, p0, t0, act}
-use Rattle.sa_legal.proofs.ExampleLemmas.{prompt-calm, no-wants, one-share, OnlyZero, only-none, only-put, none-locked}
+use Rattle.sa_legal.proofs.ExampleLemmas.{prompt-calm, no-wants, one-share, only-none, only-put, none-locked}
 
 abbrev pub e0 : Event
 e0 = at 0 (Want s0 1 ∷ Aim p0 (Some s0) ∷ Line p0 ∷ [])

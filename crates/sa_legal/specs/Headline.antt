@@ -1,5 +1,5 @@
 -- What a legal run promises its reader, said of the records of the flat trace alone.
-use Rattle.std.specs.Prelude.{◌≡◌, ◌≢◌, ℕ, ◌-◌, ◌≤◌, ◌<◌, ◌⊎◌, true, min, if◌then◌else◌, List, [], ◌∷◌, ◌++◌, length, map, count_by, Option, Some, None, slice_get, slice_index_or}
+use Rattle.std.specs.Prelude.{◌≡◌, ◌≢◌, ℕ, ◌-◌, ◌≤◌, ◌<◌, ◌⊎◌, true, min, if◌then◌else◌, List, ◌++◌, length, map, count_by, Some, slice_get}
 use Rattle.std.specs.List.{range_with_len}
 use Rattle.sa_base.specs.declared.number.ProcNo.{ProcNo}
 use Rattle.sa_base.specs.declared.number.SpaceNo.{SpaceNo}
@@ -13,7 +13,7 @@ use Rattle.sa_base.specs.declared.record.Item.{Item}
 use Rattle.sa_instr.specs.Workload.{WorkloadView}
 use Rattle.sa_share.specs.declared.Claim.{Claim}
 use Rattle.sa_share.specs.Share.{IsShare, share_at}
-use Rattle.sa_assign.specs.Aims.{is_aim, space_no}
+use Rattle.sa_assign.specs.Aims.{is_aim}
 use Rattle.sa_assign.specs.Reaim.{proc_no}
 use Rattle.sa_laws.specs.State.{space_def}
 use Rattle.sa_laws.specs.Closing.{first_space, spaces_of}

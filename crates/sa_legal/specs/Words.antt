@@ -1,14 +1,12 @@
 -- What is read off a flat trace, in plain words and without a fold: the last record that says it.
-use Rattle.std.specs.Prelude.{◌≡◌, ◌≢◌, ℕ, ◌<◌, ◌==◌, Bool, true, false, ◌&&◌, if◌then◌else◌, List, [], ◌∷◌, Option, Some, None, slice_get, unwrap_or}
-use Rattle.std.specs.Option.{option_map, option_or}
+use Rattle.std.specs.Prelude.{◌≡◌, ◌≢◌, ℕ, ◌<◌, ◌==◌, Bool, true, false, if◌then◌else◌, List, [], ◌∷◌, Option, Some, None, slice_get, unwrap_or}
+use Rattle.std.specs.Option.{option_or}
 use Rattle.sa_base.specs.declared.number.ProcNo.{ProcNo}
 use Rattle.sa_base.specs.declared.number.SpaceNo.{SpaceNo}
-use Rattle.sa_base.specs.declared.number.ThreadNo.{ThreadNo}
-use Rattle.sa_base.specs.declared.number.ActNo.{ActNo}
 use Rattle.sa_base.specs.declared.record.Note.{Note}
-use Rattle.sa_base.specs.declared.record.Note.TheVariants.{Add, Preempted, Blocked, Unblocked}
+use Rattle.sa_base.specs.declared.record.Note.TheVariants.{Preempted, Blocked, Unblocked}
 use Rattle.sa_base.specs.declared.record.Record.{Record}
-use Rattle.sa_base.specs.declared.record.Record.TheVariants.{Stop, Block, Unblock, Up, Told, Move, Want, Aim, Line, Fetch, Fetched}
+use Rattle.sa_base.specs.declared.record.Record.TheVariants.{Stop, Block, Unblock, Told, Move, Want, Aim, Line, Fetch, Fetched}
 use Rattle.sa_base.specs.declared.record.Item.{Item}
 
 -- what the last item says of those that say something
