@@ -1,5 +1,5 @@
 -- What a legal run promises its reader, said of the records of the flat trace alone.
-use Rattle.std.specs.Prelude.{◌≡◌, ◌≢◌, ℕ, ◌-◌, ◌≤◌, ◌<◌, ◌⊎◌, true, min, if◌then◌else◌, List, ◌++◌, length, map, count_by, Some, slice_get}
+use Rattle.std.specs.Prelude.{Bool, nat_le, take_while, Contains, ◌≡◌, ◌≢◌, ℕ, ◌≤◌, ◌<◌, ◌⊎◌, true, min, if◌then◌else◌, List, length, map, count_by, Some, slice_get}
 use Rattle.std.specs.List.{range_with_len}
 use Rattle.sa_base.specs.declared.number.ProcNo.{ProcNo}
 use Rattle.sa_base.specs.declared.number.SpaceNo.{SpaceNo}
@@ -25,14 +25,12 @@ pub record Stands (items : List Item) (k : ℕ) (r : Record) : Type 0 where
   pub at : slice_get items k ≡ Some item
   pub what : item.what ≡ r
 
--- the items up to the end of an event: what follows is of a later one
-pub record IsMoment (items past : List Item) (e : ℕ) : Type 0 where
-  pub rest : List Item
-  pub whole : items ≡ past ++ rest
-  pub last : Item
-  pub at : slice_get past (length past - 1) ≡ Some last
-  pub event : last.event ≡ e
-  pub later : (x : Item) → slice_get rest 0 ≡ Some x → e < x.event
+-- the items up to the end of an event
+abbrev pub is_up_to : ℕ → Item → Bool
+is_up_to e x = nat_le x.event e
+
+abbrev pub up_to : ℕ → List Item → List Item
+up_to e items = take_while (is_up_to e) items
 
 -- Each told record but `told add` tells a stop, block or unblock that stands before it and that no record between tells: so no two tell the same.
 abbrev pub TellsAtMostOnce : List Item → Type 0
@@ -48,11 +46,13 @@ HasNoProcessor past s = (p : ProcNo) → last_owner past p ≢ Some s
 abbrev pub HasRaised : List Item → SpaceNo → Type 0
 HasRaised past s = (p : ProcNo) × (last_owner past p ≡ Some s) × IsRaised past p
 
+abbrev pub IsTimely : List Item → SpaceNo → Type 0
+IsTimely past s = HasNoProcessor past s ⊎ ((is_fetched past s ≡ true) ⊎ HasRaised past s)
+
 abbrev pub TellsInTime : List Item → Type 0
 TellsInTime items =
-    (past : List Item) (event : ℕ) (s : SpaceNo) (n : Note) → IsMoment items past event
-    → StandsUntold past (length past) s n
-    → HasNoProcessor past s ⊎ ((is_fetched past s ≡ true) ⊎ HasRaised past s)
+    (x : Item) (s : SpaceNo) (n : Note) → Contains items x
+    → StandsUntold (up_to x.event items) (length (up_to x.event items)) s n → IsTimely (up_to x.event items) s
 
 -- The number of each upcall is in use by nobody: between two ups of one number stands its giveback.
 abbrev pub IsGivenBack : List Item → ℕ → ℕ → ActNo → Type 0
@@ -79,9 +79,9 @@ claim_in w past s = record {
 
 abbrev pub SharesAreCovered : WorkloadView → List Item → Type 0
 SharesAreCovered w items =
-    (past : List Item) (event : ℕ) (shares : List ℕ) (s : SpaceNo) → IsMoment items past event
-    → IsShare w.processors (first_space w event) (map (claim_in w past) (spaces_of w)) shares
-    → share_at shares s.0 ≤ aims_of w past s
+    (x : Item) (shares : List ℕ) (s : SpaceNo) → Contains items x
+    → IsShare w.processors (first_space w x.event) (map (claim_in w (up_to x.event items)) (spaces_of w)) shares
+    → share_at shares s.0 ≤ aims_of w (up_to x.event items) s
 
 -- A thread holds a list lock from a take that names it, or from its run, until a free that names it. No ready names a thread that holds one.
 abbrev pub Begins : SpaceNo → ThreadNo → Record → Type 0

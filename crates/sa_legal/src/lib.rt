@@ -3,5 +3,7 @@
 
 
 mod examples;
+mod headline;
 
+pub use headline::legal_runs_tell_at_most_once;
 pub use examples::{rules_can_be_broken, smallest_run_is_legal};

@@ -1,0 +1,13 @@
+//! What a legal run promises its reader, said of the records of the flat trace alone. No function here does anything.
+ghost use Rattle.std.specs.Prelude.{List};
+ghost use Rattle.sa_base.specs.declared.record.Item.{Item};
+ghost use Rattle.sa_instr.specs.Workload.{WorkloadView};
+ghost use Rattle.sa_laws.specs.Rules.{fast_threads};
+ghost use Rattle.sa_legal.specs.Legal.{IsLegal};
+ghost use Rattle.sa_legal.specs.Headline.{TellsAtMostOnce};
+
+/// A legal run tells each stop, block and unblock at most once, behind it.
+pub fn legal_runs_tell_at_most_once()
+    ensures { (w : WorkloadView) (items : List Item) → IsLegal fast_threads w items
+        → TellsAtMostOnce items }
+{}
