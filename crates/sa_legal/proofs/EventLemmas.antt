@@ -55,12 +55,13 @@ pub legal-lawful : (u : UserRules) (w : WorkloadView) (items : List Item) → Is
 legal-lawful u w items legal = lawful-along u w (opening_readings w) (events_of items) legal.each
 
 -- so what is kept by such a law is good at each place of a legal trace
-pub good-at : (u : UserRules) (w : WorkloadView) (items : List Item) (L : ProcNo → RecordLaw) (Inv : List Item → Readings → Type 0) (Good : List Item → Item → Type 0)
-    → IsLegal u w items → IsKept u.inside w L Inv Good
+pub good-at : (u : UserRules) (w : WorkloadView) (items : List Item) (L : ProcNo → RecordLaw) (Inv : List Item → Readings → Type 0)
+    (Mid : ℕ → ProcNo → List Item → Readings → Type 0) (Good : List Item → Item → Type 0)
+    → IsLegal u w items → IsKept u.inside w L Inv Mid Good
     → ((r : Readings) (e : Event) → IsLawful u w r e → EachRecord (L e.proc) w e.number e.proc (begun w e r) e.records)
     → Inv [] (opening_readings w) → (j : ℕ) (x : Item) → slice_get items j ≡ Some x → Good (take j items) x
-good-at u w items L Inv Good legal kept gives start j x at =
+good-at u w items L Inv Mid Good legal kept gives start j x at =
     let law = along u w L gives (opening_readings w) (events_of items) (legal-lawful u w items legal) in
-    let all = (walk u.inside w L Inv Good kept [] (opening_readings w) (events_of items) start law).1 in
+    let all = (walk u.inside w L Inv Mid Good kept [] (opening_readings w) (events_of items) start law).1 in
     let all' : AllGood Good [] items = subst (λ ys. AllGood Good [] ys) (items-events items) all in
     all' j x at

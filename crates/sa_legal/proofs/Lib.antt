@@ -6,3 +6,4 @@ pub mod WalkLemmas
 pub mod UntoldLemmas
 pub mod EventLemmas
 pub mod OnceLemmas
+pub mod FreshLemmas

@@ -54,7 +54,7 @@ covered-start w s n has = absurd (no-notes (length w.spaces) s.0 n has)
 
 pub tells-at-most-once : (u : UserRules) (w : WorkloadView) (items : List Item) → IsLegal u w items → TellsAtMostOnce items
 tells-at-most-once u w items legal j n stands other =
-    let good = good-at u w items (λ p. TellsOnce) IsCovered TellsUntold legal (tells-kept u.inside w) (λ r e law. law.1.1.0.told) (covered-start w) j stands.item stands.at in
+    let good = good-at u w items (λ p. TellsOnce) IsCovered (λ e p. IsCovered) TellsUntold legal (tells-kept u.inside w) (λ r e law. law.1.1.0.told) (covered-start w) j stands.item stands.at in
     let h = good n stands.what other in
     let within = slice_get_within items j stands.item stands.at in
     (h.0, stands-within items j h.0 n (omega arith) h.1)

@@ -150,7 +150,7 @@ tells-step e p past r (Told m) rest covered law n same other =
     let h = untold-told r (space_of_life r r.upped) n other (subst (λ k. IsUntoldTo r (space_of_life r r.upped) k) one law) in (h.0, covered h.0 n h.1)
 tells-step e p past r x rest covered law n same other = absurd (cc)
 
-pub tells-kept : (test : Test) (w : WorkloadView) → IsKept test w (λ p. TellsOnce) IsCovered TellsUntold
+pub tells-kept : (test : Test) (w : WorkloadView) → IsKept test w (λ p. TellsOnce) IsCovered (λ e p. IsCovered) TellsUntold
 tells-kept test w = record {
   step = λ e p past r x rest covered law. (covered-step w e p past r x covered, tells-step e p past r x rest covered law);
   begins = λ past r e covered. covered;

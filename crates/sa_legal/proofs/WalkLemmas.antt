@@ -12,16 +12,20 @@ use Rattle.sa_laws.specs.Readings.{Readings}
 use Rattle.sa_laws.specs.Record.{after_record}
 use Rattle.sa_laws.specs.History.{Test, begun, ended, after_records, after_event, after_events, behind_all}
 use Rattle.sa_laws.specs.Upcalls.{RecordLaw, EachRecord}
+use Rattle.sa_laws.specs.Rules.{UserRules, IsLawful}
+use Rattle.sa_legal.specs.Fold.{AreLawful}
 
 abbrev pub item : ℕ → ProcNo → Record → Item
 item e p x = record { event = e; proc = p; what = x }
 
--- it is kept by a record of which the law holds, at which moreover something good is so; by the beginning of an event; and by its end
-pub record IsKept (test : Test) (w : WorkloadView) (L : ProcNo → RecordLaw) (Inv : List Item → Readings → Type 0) (Good : List Item → Item → Type 0) : Type 0 where
-  pub step : (e : ℕ) (p : ProcNo) (past : List Item) (r : Readings) (x : Record) (rest : List Record) → Inv past r → L p r x rest
-      → Inv (past ++ item e p x ∷ []) (after_record w e p r x) × Good past (item e p x)
-  pub begins : (past : List Item) (r : Readings) (e : Event) → Inv past r → Inv past (begun w e r)
-  pub ends : (past : List Item) (before : Readings) (e : Event) (r : Readings) → Inv past r → Inv past (ended test w before e r)
+-- it is kept from event to event; within an event a like thing, `Mid`, is kept by each record of which the law holds, and moreover something good
+-- is so at it
+pub record IsKept (test : Test) (w : WorkloadView) (L : ProcNo → RecordLaw) (Inv : List Item → Readings → Type 0)
+    (Mid : ℕ → ProcNo → List Item → Readings → Type 0) (Good : List Item → Item → Type 0) : Type 0 where
+  pub begins : (past : List Item) (r : Readings) (e : Event) → Inv past r → Mid e.number e.proc past (begun w e r)
+  pub step : (e : ℕ) (p : ProcNo) (past : List Item) (r : Readings) (x : Record) (rest : List Record) → Mid e p past r → L p r x rest
+      → Mid e p (past ++ item e p x ∷ []) (after_record w e p r x) × Good past (item e p x)
+  pub ends : (past : List Item) (before : Readings) (e : Event) (r : Readings) → Mid e.number e.proc past r → Inv past (ended test w before e r)
 
 -- something good is so at each of these items, behind others
 abbrev pub AllGood : (List Item → Item → Type 0) → List Item → List Item → Type 0
@@ -46,14 +50,15 @@ good-append Good past (x ∷ xs) ys left right = good-cons Good past x (xs ++ ys
       (λ j y at. subst (λ past'. Good past' y) (sym (append_assoc past (x ∷ []) (take j xs))) (left (suc j) y at))
       (subst (λ past'. AllGood Good past' ys) (sym (append_assoc past (x ∷ []) xs)) right))
 
-pub walk-records : (test : Test) (w : WorkloadView) (L : ProcNo → RecordLaw) (Inv : List Item → Readings → Type 0) (Good : List Item → Item → Type 0)
-    → IsKept test w L Inv Good → (e : ℕ) (p : ProcNo) (past : List Item) (r : Readings) (xs : List Record) → Inv past r → EachRecord (L p) w e p r xs
-    → Inv (past ++ items_at e p xs) (after_records w e p r xs) × AllGood Good past (items_at e p xs)
-walk-records test w L Inv Good kept e p past r [] inv law = (subst (λ past'. Inv past' r) (sym (append-nil past)) inv, good-nil Good past)
-walk-records test w L Inv Good kept e p past r (x ∷ xs) inv law =
+pub walk-records : (test : Test) (w : WorkloadView) (L : ProcNo → RecordLaw) (Inv : List Item → Readings → Type 0)
+    (Mid : ℕ → ProcNo → List Item → Readings → Type 0) (Good : List Item → Item → Type 0)
+    → IsKept test w L Inv Mid Good → (e : ℕ) (p : ProcNo) (past : List Item) (r : Readings) (xs : List Record) → Mid e p past r → EachRecord (L p) w e p r xs
+    → Mid e p (past ++ items_at e p xs) (after_records w e p r xs) × AllGood Good past (items_at e p xs)
+walk-records test w L Inv Mid Good kept e p past r [] inv law = (subst (λ past'. Mid e p past' r) (sym (append-nil past)) inv, good-nil Good past)
+walk-records test w L Inv Mid Good kept e p past r (x ∷ xs) inv law =
     let one = kept.step e p past r x xs inv law.0 in
-    let more = walk-records test w L Inv Good kept e p (past ++ item e p x ∷ []) (after_record w e p r x) xs one.0 law.1 in
-    (subst (λ past'. Inv past' (after_records w e p (after_record w e p r x) xs)) (append_assoc past (item e p x ∷ []) (items_at e p xs)) more.0,
+    let more = walk-records test w L Inv Mid Good kept e p (past ++ item e p x ∷ []) (after_record w e p r x) xs one.0 law.1 in
+    (subst (λ past'. Mid e p past' (after_records w e p (after_record w e p r x) xs)) (append_assoc past (item e p x ∷ []) (items_at e p xs)) more.0,
     good-cons Good past (item e p x) (items_at e p xs) one.1 more.1)
 
 -- the law holds of each record of these events
@@ -61,13 +66,32 @@ abbrev pub Along : Test → WorkloadView → (ProcNo → RecordLaw) → Readings
 Along test w L r [] = Unit {0}
 Along test w L r (e ∷ es) = EachRecord (L e.proc) w e.number e.proc (begun w e r) e.records × Along test w L (after_event test w r e) es
 
-pub walk : (test : Test) (w : WorkloadView) (L : ProcNo → RecordLaw) (Inv : List Item → Readings → Type 0) (Good : List Item → Item → Type 0)
-    → IsKept test w L Inv Good → (past : List Item) (r : Readings) (events : List Event) → Inv past r → Along test w L r events
+pub walk : (test : Test) (w : WorkloadView) (L : ProcNo → RecordLaw) (Inv : List Item → Readings → Type 0)
+    (Mid : ℕ → ProcNo → List Item → Readings → Type 0) (Good : List Item → Item → Type 0)
+    → IsKept test w L Inv Mid Good → (past : List Item) (r : Readings) (events : List Event) → Inv past r → Along test w L r events
     → Inv (past ++ items_of events) (after_events test w r events) × AllGood Good past (items_of events)
-walk test w L Inv Good kept past r [] inv law = (subst (λ past'. Inv past' r) (sym (append-nil past)) inv, good-nil Good past)
-walk test w L Inv Good kept past r (e ∷ es) inv law =
-    let one = walk-records test w L Inv Good kept e.number e.proc past (begun w e r) e.records (kept.begins past r e inv) law.0 in
+walk test w L Inv Mid Good kept past r [] inv law = (subst (λ past'. Inv past' r) (sym (append-nil past)) inv, good-nil Good past)
+walk test w L Inv Mid Good kept past r (e ∷ es) inv law =
+    let one = walk-records test w L Inv Mid Good kept e.number e.proc past (begun w e r) e.records (kept.begins past r e inv) law.0 in
     let first = items_at e.number e.proc e.records in
-    let more = walk test w L Inv Good kept (past ++ first) (after_event test w r e) es (kept.ends (past ++ first) r e (behind_all w e r) one.0) law.1 in
+    let more = walk test w L Inv Mid Good kept (past ++ first) (after_event test w r e) es (kept.ends (past ++ first) r e (behind_all w e r) one.0) law.1 in
     (subst (λ past'. Inv past' (after_events test w (after_event test w r e) es)) (append_assoc past first (items_of es)) more.0,
     good-append Good past first (items_of es) one.1 more.1)
+
+-- something is so at the end of each of these events
+abbrev pub AtEnds : (List Item → ℕ → Type 0) → List Item → List Event → Type 0
+AtEnds E past [] = Unit {0}
+AtEnds E past (e ∷ es) = E (past ++ items_at e.number e.proc e.records) e.number × AtEnds E (past ++ items_at e.number e.proc e.records) es
+
+pub walk-ends : (u : UserRules) (w : WorkloadView) (L : ProcNo → RecordLaw) (Inv : List Item → Readings → Type 0)
+    (Mid : ℕ → ProcNo → List Item → Readings → Type 0) (Good : List Item → Item → Type 0) (E : List Item → ℕ → Type 0)
+    → IsKept u.inside w L Inv Mid Good
+    → ((r : Readings) (e : Event) → IsLawful u w r e → EachRecord (L e.proc) w e.number e.proc (begun w e r) e.records)
+    → ((past : List Item) (r : Readings) (e : Event) → IsLawful u w r e → Inv past (after_event u.inside w r e) → E past e.number)
+    → (past : List Item) (r : Readings) (events : List Event) → Inv past r → AreLawful u w r events → AtEnds E past events
+walk-ends u w L Inv Mid Good E kept gives close past r [] inv law = tt
+walk-ends u w L Inv Mid Good E kept gives close past r (e ∷ es) inv law =
+    let first = items_at e.number e.proc e.records in
+    let one = walk-records u.inside w L Inv Mid Good kept e.number e.proc past (begun w e r) e.records (kept.begins past r e inv) (gives r e law.0) in
+    let after = kept.ends (past ++ first) r e (behind_all w e r) one.0 in
+    (close (past ++ first) r e law.0 after, walk-ends u w L Inv Mid Good E kept gives close (past ++ first) (after_event u.inside w r e) es after law.1)

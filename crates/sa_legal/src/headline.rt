@@ -4,10 +4,16 @@ ghost use Rattle.sa_base.specs.declared.record.Item.{Item};
 ghost use Rattle.sa_instr.specs.Workload.{WorkloadView};
 ghost use Rattle.sa_laws.specs.Rules.{fast_threads};
 ghost use Rattle.sa_legal.specs.Legal.{IsLegal};
-ghost use Rattle.sa_legal.specs.Headline.{TellsAtMostOnce};
+ghost use Rattle.sa_legal.specs.Headline.{TellsAtMostOnce, NumbersAreFresh};
 
 /// A legal run tells each stop, block and unblock at most once, behind it.
 pub fn legal_runs_tell_at_most_once()
     ensures { (w : WorkloadView) (items : List Item) → IsLegal fast_threads w items
         → TellsAtMostOnce items }
+{}
+
+/// The number of each upcall of a legal run is in use by nobody: between two upcalls of one number it is given back.
+pub fn legal_runs_use_fresh_numbers()
+    ensures { (w : WorkloadView) (items : List Item) → IsLegal fast_threads w items
+        → NumbersAreFresh items }
 {}

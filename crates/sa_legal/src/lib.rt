@@ -5,5 +5,5 @@
 mod examples;
 mod headline;
 
-pub use headline::legal_runs_tell_at_most_once;
+pub use headline::{legal_runs_tell_at_most_once, legal_runs_use_fresh_numbers};
 pub use examples::{rules_can_be_broken, smallest_run_is_legal};
