@@ -7,3 +7,7 @@ pub mod UntoldLemmas
 pub mod EventLemmas
 pub mod OnceLemmas
 pub mod FreshLemmas
+pub mod MomentLemmas
+pub mod ReadLemmas
+pub mod MomentsRead
+pub mod TimelyLemmas

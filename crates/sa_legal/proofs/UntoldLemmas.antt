@@ -62,7 +62,7 @@ other-note n z other same =
     let no : is_other_note n z ≡ false = ap (λ m. is_other_note m z) e ∙ ap not (same-itself z) in
     let both = sym other ∙ no in cc
 
-same-space : (s t : SpaceNo) → t.0 ≡ s.0 → s ≡ t
+pub same-space : (s t : SpaceNo) → t.0 ≡ s.0 → s ≡ t
 same-space s t e = ap (λ n. record { 0 = n }) (sym e)
 
 -- after a record a note is untold that was untold before, and which it does not tell, or it is the record's own

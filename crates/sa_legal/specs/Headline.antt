@@ -1,5 +1,5 @@
 -- What a legal run promises its reader, said of the records of the flat trace alone.
-use Rattle.std.specs.Prelude.{Bool, nat_le, take_while, Contains, ◌≡◌, ◌≢◌, ℕ, ◌≤◌, ◌<◌, ◌⊎◌, true, min, if◌then◌else◌, List, length, map, count_by, Some, slice_get}
+use Rattle.std.specs.Prelude.{nat_le, [], ◌∷◌, ◌≡◌, ◌≢◌, ℕ, ◌≤◌, ◌<◌, ◌⊎◌, true, min, if◌then◌else◌, List, length, map, Some, slice_get}
 use Rattle.std.specs.List.{range_with_len}
 use Rattle.sa_base.specs.declared.number.ProcNo.{ProcNo}
 use Rattle.sa_base.specs.declared.number.SpaceNo.{SpaceNo}
@@ -13,7 +13,7 @@ use Rattle.sa_base.specs.declared.record.Item.{Item}
 use Rattle.sa_instr.specs.Workload.{WorkloadView}
 use Rattle.sa_share.specs.declared.Claim.{Claim}
 use Rattle.sa_share.specs.Share.{IsShare, share_at}
-use Rattle.sa_assign.specs.Aims.{is_aim}
+use Rattle.sa_assign.specs.Aims.{aimed}
 use Rattle.sa_assign.specs.Reaim.{proc_no}
 use Rattle.sa_laws.specs.State.{space_def}
 use Rattle.sa_laws.specs.Closing.{first_space, spaces_of}
@@ -25,12 +25,10 @@ pub record Stands (items : List Item) (k : ℕ) (r : Record) : Type 0 where
   pub at : slice_get items k ≡ Some item
   pub what : item.what ≡ r
 
--- the items up to the end of an event
-abbrev pub is_up_to : ℕ → Item → Bool
-is_up_to e x = nat_le x.event e
-
+-- the items up to the end of an event: those before the first of a later one
 abbrev pub up_to : ℕ → List Item → List Item
-up_to e items = take_while (is_up_to e) items
+up_to e [] = []
+up_to e (x ∷ xs) = if nat_le x.event e then x ∷ up_to e xs else []
 
 -- Each told record but `told add` tells a stop, block or unblock that stands before it and that no record between tells: so no two tell the same.
 abbrev pub TellsAtMostOnce : List Item → Type 0
@@ -49,10 +47,16 @@ HasRaised past s = (p : ProcNo) × (last_owner past p ≡ Some s) × IsRaised pa
 abbrev pub IsTimely : List Item → SpaceNo → Type 0
 IsTimely past s = HasNoProcessor past s ⊎ ((is_fetched past s ≡ true) ⊎ HasRaised past s)
 
-abbrev pub TellsInTime : List Item → Type 0
-TellsInTime items =
-    (x : Item) (s : SpaceNo) (n : Note) → Contains items x
-    → StandsUntold (up_to x.event items) (length (up_to x.event items)) s n → IsTimely (up_to x.event items) s
+-- what holds at the end of each event of the trace
+abbrev pub AtEachEnd : (List Item → ℕ → Type 0) → List Item → Type 0
+AtEachEnd E items = (j : ℕ) (x : Item) → slice_get items j ≡ Some x → E (up_to x.event items) x.event
+
+abbrev pub IsInTime : WorkloadView → List Item → ℕ → Type 0
+IsInTime w past event =
+    (s : SpaceNo) (n : Note) → s.0 < length w.spaces → StandsUntold past (length past) s n → IsTimely past s
+
+abbrev pub TellsInTime : WorkloadView → List Item → Type 0
+TellsInTime w items = AtEachEnd (IsInTime w) items
 
 -- The number of each upcall is in use by nobody: between two ups of one number stands its giveback.
 abbrev pub IsGivenBack : List Item → ℕ → ℕ → ActNo → Type 0
@@ -69,7 +73,7 @@ abbrev pub procs_of : WorkloadView → List ProcNo
 procs_of w = map proc_no (range_with_len 0 w.processors)
 
 abbrev pub aims_of : WorkloadView → List Item → SpaceNo → ℕ
-aims_of w past s = count_by (λ p. is_aim s.0 (last_aim past p)) (procs_of w)
+aims_of w past s = aimed s.0 (map (last_aim past) (procs_of w))
 
 abbrev pub claim_in : WorkloadView → List Item → SpaceNo → Claim
 claim_in w past s = record {
@@ -77,11 +81,14 @@ claim_in w past s = record {
   want = if is_fetched past s then min (last_want past s) (aims_of w past s) else last_want past s;
 }
 
+abbrev pub CoversShares : WorkloadView → List Item → ℕ → Type 0
+CoversShares w past event =
+    (shares : List ℕ) (s : SpaceNo)
+    → IsShare w.processors (first_space w event) (map (claim_in w past) (spaces_of w)) shares
+    → share_at shares s.0 ≤ aims_of w past s
+
 abbrev pub SharesAreCovered : WorkloadView → List Item → Type 0
-SharesAreCovered w items =
-    (x : Item) (shares : List ℕ) (s : SpaceNo) → Contains items x
-    → IsShare w.processors (first_space w x.event) (map (claim_in w (up_to x.event items)) (spaces_of w)) shares
-    → share_at shares s.0 ≤ aims_of w (up_to x.event items) s
+SharesAreCovered w items = AtEachEnd (CoversShares w) items
 
 -- A thread holds a list lock from a take that names it, or from its run, until a free that names it. No ready names a thread that holds one.
 abbrev pub Begins : SpaceNo → ThreadNo → Record → Type 0

@@ -37,12 +37,12 @@ abbrev pub last_want : List Item → SpaceNo → ℕ
 last_want items s = unwrap_or (last_said (want_said s) items) 0
 
 -- the owner of a processor is that of the last move record of one of its events; before any record it is none
-abbrev pub move_in : Bool → Record → Option (Option SpaceNo)
-move_in true (Move old new) = Some new
-move_in _ _ = None
+abbrev pub move_in : ProcNo → ProcNo → Record → Option (Option SpaceNo)
+move_in p q (Move old new) = if q.0 == p.0 then Some new else None
+move_in p q _ = None
 
 abbrev pub move_said : ProcNo → Item → Option (Option SpaceNo)
-move_said p x = move_in (x.proc.0 == p.0) x.what
+move_said p x = move_in p x.proc x.what
 
 abbrev pub last_owner : List Item → ProcNo → Option SpaceNo
 last_owner items p = unwrap_or (last_said (move_said p) items) None
@@ -57,7 +57,7 @@ pub record IsRaised (items : List Item) (p : ProcNo) : Type 0 where
   pub item : Item
   pub at : slice_get items place ≡ Some item
   pub line : line_in p item.what ≡ true
-  pub none : (k : ℕ) (x : Item) → slice_get items k ≡ Some x → item.event < x.event → x.proc ≢ p
+  pub none : (k : ℕ) (x : Item) → place < k → slice_get items k ≡ Some x → item.event < x.event → x.proc ≢ p
 
 -- the upcall page of a space is being fetched where a fetch of it stands and no `fetched` behind that
 abbrev pub fetch_in : SpaceNo → Record → Option Bool
