@@ -11,3 +11,4 @@ pub mod MomentLemmas
 pub mod ReadLemmas
 pub mod MomentsRead
 pub mod TimelyLemmas
+pub mod AppendLemmas
