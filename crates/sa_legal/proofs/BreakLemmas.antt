@@ -75,7 +75,9 @@ pub breaks-D6 : FirstBreak fast_threads smallest other_place (stops_at 5) 5 D6
 breaks-D6 = break-behind fast_threads smallest (e0 ∷ e1 ∷ e2 ∷ e3 ∷ e4 ∷ []) (at 5 (Ins s0 t0 1 ∷ [])) (stops_at 5) D6 (before5 one)
     (record {
       earlier = (
-      record { number = refl; proc = omega arith; some = λ no. cc; opening = λ no. absurd (omega arith) }, tt);
+        record { number = refl; proc = omega arith; some = λ no. cc; opening = λ no. absurd (omega arith) },
+        tt,
+      );
       broken = λ h. let place = h.steps.0.place in omega (arith, place);
     })
 
@@ -83,8 +85,9 @@ pub breaks-U1 : FirstBreak fast_threads smallest told_of_nothing (stops_at 1) 1 
 breaks-U1 = break-behind fast_threads smallest (e0 ∷ []) (at 1 (Move None (Some s0) ∷ Up s0 (act 0) ∷ Told (Add p0) ∷ Told (Preempted (act 7)) ∷ [])) (stops_at 1) U1 (before1 one)
     (record {
       earlier = (
-      record { number = refl; proc = omega arith; some = λ no. cc; opening = λ no. absurd (omega arith) },
-      (record { steps = ((refl, refl), (tt, (tt, (tt, tt)))) }, tt));
+        record { number = refl; proc = omega arith; some = λ no. cc; opening = λ no. absurd (omega arith) },
+        (record { steps = ((refl, refl), (tt, (tt, (tt, tt)))) }, tt),
+      );
       broken = λ h. let has = h.told.1.1.1.0 in omega (arith, has.1);
     })
 
@@ -92,9 +95,12 @@ pub breaks-U2 : FirstBreak fast_threads smallest stopped_untold (stops_at 5) 5 U
 breaks-U2 = break-behind fast_threads smallest (e0 ∷ e1 ∷ e2 ∷ e3 ∷ e4 ∷ []) (at 5 (Stop s0 (Some t0) (act 0) ∷ [])) (stops_at 5) U2 (before5 one)
     (record {
       earlier = (
-      record { number = refl; proc = omega arith; some = λ no. cc; opening = λ no. absurd (omega arith) },
-      (record { steps = ((refl, refl), tt) },
-      (record { told = (tt, tt) }, tt)));
+        record { number = refl; proc = omega arith; some = λ no. cc; opening = λ no. absurd (omega arith) },
+        (
+          record { steps = ((refl, refl), tt) },
+          (record { told = (tt, tt) }, tt),
+        ),
+      );
       broken = λ h. elim (h.prompt.each s0 (λ no. cc)) [
         | inl none ↦ none p0 refl
         | inr (inl fetching) ↦ cc
@@ -106,10 +112,15 @@ pub breaks-U3 : FirstBreak fast_threads smallest two_lives (stops_at 2) 2 U3
 breaks-U3 = break-behind fast_threads smallest (e0 ∷ e1 ∷ []) (at 2 (Up s0 (act 1) ∷ Told (Add p0) ∷ [])) (stops_at 2) U3 (before2 one)
     (record {
       earlier = (
-      record { number = refl; proc = omega arith; some = λ no. cc; opening = λ no. absurd (omega arith) },
-      (record { steps = (tt, (tt, tt)) },
-      (record { told = (tt, (tt, tt)) },
-      (record { prompt = prompt-calm (next one (r2 one) (at 2 (Up s0 (act 1) ∷ Told (Add p0) ∷ []))) refl }, tt))));
+        record { number = refl; proc = omega arith; some = λ no. cc; opening = λ no. absurd (omega arith) },
+        (
+          record { steps = (tt, (tt, tt)) },
+          (
+            record { told = (tt, (tt, tt)) },
+            (record { prompt = prompt-calm (next one (r2 one) (at 2 (Up s0 (act 1) ∷ Told (Add p0) ∷ []))) refl }, tt),
+          ),
+        ),
+      );
       broken = λ h. let no : Some (act 0) ≡ None = h.named.0 in cc;
     })
 
@@ -117,11 +128,18 @@ pub breaks-U4 : FirstBreak fast_threads smallest not_told_added (stops_at 1) 1 U
 breaks-U4 = break-behind fast_threads smallest (e0 ∷ []) (at 1 (Move None (Some s0) ∷ Up s0 (act 0) ∷ [])) (stops_at 1) U4 (before1 one)
     (record {
       earlier = (
-      record { number = refl; proc = omega arith; some = λ no. cc; opening = λ no. absurd (omega arith) },
-      (record { steps = ((refl, refl), (tt, tt)) },
-      (record { told = (tt, (tt, tt)) },
-      (record { prompt = prompt-calm (next one (r1 one) (at 1 (Move None (Some s0) ∷ Up s0 (act 0) ∷ []))) refl },
-      (record { named = (tt, (refl, tt)); owned = refl }, tt)))));
+        record { number = refl; proc = omega arith; some = λ no. cc; opening = λ no. absurd (omega arith) },
+        (
+          record { steps = ((refl, refl), (tt, tt)) },
+          (
+            record { told = (tt, (tt, tt)) },
+            (
+              record { prompt = prompt-calm (next one (r1 one) (at 1 (Move None (Some s0) ∷ Up s0 (act 0) ∷ []))) refl },
+              (record { named = (tt, (refl, tt)); owned = refl }, tt),
+            ),
+          ),
+        ),
+      );
       broken = λ h. h.told.1.0.some refl;
     })
 
@@ -129,12 +147,21 @@ pub breaks-U5 : FirstBreak fast_threads blocking other_io (stops_at 5) 5 U5
 breaks-U5 = break-behind fast_threads blocking (e0 ∷ e1 ∷ e2 ∷ e3 ∷ e4 ∷ []) (at 5 (Ins s0 t0 0 ∷ Block s0 (Some t0) (act 0) (record { 0 = 1 }) ∷ Up s0 (act 1) ∷ Told (Blocked (act 0)) ∷ [])) (stops_at 5) U5 (before5 (IoOf 2 ∷ End ∷ []))
     (record {
       earlier = (
-      record { number = refl; proc = omega arith; some = λ no. cc; opening = λ no. absurd (omega arith) },
-      (record { steps = (record { owned = refl; runs = refl; place = refl; within = omega arith; page = tt }, (record { owned = refl; runs = refl; cause = inl refl }, (tt, (tt, tt)))) },
-      (record { told = (tt, (tt, (tt, ((0, omega arith, refl), tt)))) },
-      (record { prompt = prompt-calm (next (IoOf 2 ∷ End ∷ []) (r5 (IoOf 2 ∷ End ∷ [])) (at 5 (Ins s0 t0 0 ∷ Block s0 (Some t0) (act 0) (record { 0 = 1 }) ∷ Up s0 (act 1) ∷ Told (Blocked (act 0)) ∷ []))) refl },
-      (record { named = (tt, (record { act = refl; space = refl }, (refl, (tt, tt)))); owned = refl },
-      (record { told = (tt, (tt, (record { fresh = refl; notes = refl; some = λ no. cc }, (tt, tt)))) }, tt))))));
+        record { number = refl; proc = omega arith; some = λ no. cc; opening = λ no. absurd (omega arith) },
+        (
+          record { steps = (record { owned = refl; runs = refl; place = refl; within = omega arith; page = tt }, (record { owned = refl; runs = refl; cause = inl refl }, (tt, (tt, tt)))) },
+          (
+            record { told = (tt, (tt, (tt, ((0, omega arith, refl), tt)))) },
+            (
+              record { prompt = prompt-calm (next (IoOf 2 ∷ End ∷ []) (r5 (IoOf 2 ∷ End ∷ [])) (at 5 (Ins s0 t0 0 ∷ Block s0 (Some t0) (act 0) (record { 0 = 1 }) ∷ Up s0 (act 1) ∷ Told (Blocked (act 0)) ∷ []))) refl },
+              (
+                record { named = (tt, (record { act = refl; space = refl }, (refl, (tt, tt)))); owned = refl },
+                (record { told = (tt, (tt, (record { fresh = refl; notes = refl; some = λ no. cc }, (tt, tt)))) }, tt),
+              ),
+            ),
+          ),
+        ),
+      );
       broken = λ h. let number = h.blocks.1.0.number in omega (arith, number);
     })
 
@@ -142,13 +169,24 @@ pub breaks-U6 : FirstBreak fast_threads smallest interrupt_put_off (stops_at 1) 
 breaks-U6 = break-behind fast_threads smallest (e0 ∷ []) (at 1 (Tick ∷ [])) (stops_at 1) U6 (before1 one)
     (record {
       earlier = (
-      record { number = refl; proc = omega arith; some = λ no. cc; opening = λ no. absurd (omega arith) },
-      (record { steps = (tt, tt) },
-      (record { told = (tt, tt) },
-      (record { prompt = prompt-calm (next one (r1 one) (at 1 (Tick ∷ []))) refl },
-      (record { named = (tt, tt); owned = refl },
-      (record { told = (tt, tt) },
-      (record { blocks = (tt, tt) }, tt)))))));
+        record { number = refl; proc = omega arith; some = λ no. cc; opening = λ no. absurd (omega arith) },
+        (
+          record { steps = (tt, tt) },
+          (
+            record { told = (tt, tt) },
+            (
+              record { prompt = prompt-calm (next one (r1 one) (at 1 (Tick ∷ []))) refl },
+              (
+                record { named = (tt, tt); owned = refl },
+                (
+                  record { told = (tt, tt) },
+                  (record { blocks = (tt, tt) }, tt),
+                ),
+              ),
+            ),
+          ),
+        ),
+      );
       broken = λ h. h.interrupt refl;
     })
 
@@ -156,14 +194,27 @@ pub breaks-U7 : FirstBreak fast_threads smallest raised_for_nothing (stops_at 2)
 breaks-U7 = break-behind fast_threads smallest (e0 ∷ e1 ∷ []) (at 2 (Take s0 p0 None ∷ Line p0 ∷ [])) (stops_at 2) U7 (before2 one)
     (record {
       earlier = (
-      record { number = refl; proc = omega arith; some = λ no. cc; opening = λ no. absurd (omega arith) },
-      (record { steps = (tt, (tt, tt)) },
-      (record { told = (tt, (tt, tt)) },
-      (record { prompt = prompt-calm (next one (r2 one) (at 2 (Take s0 p0 None ∷ Line p0 ∷ []))) refl },
-      (record { named = (tt, (tt, tt)); owned = refl },
-      (record { told = (tt, (tt, tt)) },
-      (record { blocks = (tt, (tt, tt)) },
-      (record { interrupt = λ no. absurd (cc); calm = λ no. absurd no }, tt))))))));
+        record { number = refl; proc = omega arith; some = λ no. cc; opening = λ no. absurd (omega arith) },
+        (
+          record { steps = (tt, (tt, tt)) },
+          (
+            record { told = (tt, (tt, tt)) },
+            (
+              record { prompt = prompt-calm (next one (r2 one) (at 2 (Take s0 p0 None ∷ Line p0 ∷ []))) refl },
+              (
+                record { named = (tt, (tt, tt)); owned = refl },
+                (
+                  record { told = (tt, (tt, tt)) },
+                  (
+                    record { blocks = (tt, (tt, tt)) },
+                    (record { interrupt = λ no. absurd (cc); calm = λ no. absurd no }, tt),
+                  ),
+                ),
+              ),
+            ),
+          ),
+        ),
+      );
       broken = λ h. let due : Line p0 ∷ [] ≡ [] = h.due in cc;
     })
 
@@ -171,15 +222,30 @@ pub breaks-U8 : FirstBreak fast_threads smallest wanted_for_nothing (stops_at 2)
 breaks-U8 = break-behind fast_threads smallest (e0 ∷ e1 ∷ []) (at 2 (Take s0 p0 None ∷ Want s0 1 ∷ [])) (stops_at 2) U8 (before2 one)
     (record {
       earlier = (
-      record { number = refl; proc = omega arith; some = λ no. cc; opening = λ no. absurd (omega arith) },
-      (record { steps = (tt, (tt, tt)) },
-      (record { told = (tt, (tt, tt)) },
-      (record { prompt = prompt-calm (next one (r2 one) (at 2 (Take s0 p0 None ∷ Want s0 1 ∷ []))) refl },
-      (record { named = (tt, (tt, tt)); owned = refl },
-      (record { told = (tt, (tt, tt)) },
-      (record { blocks = (tt, (tt, tt)) },
-      (record { interrupt = λ no. absurd (cc); calm = λ no. absurd no },
-      (record { heard = (tt, (tt, tt)); first = tt; order = refl; due = refl }, tt)))))))));
+        record { number = refl; proc = omega arith; some = λ no. cc; opening = λ no. absurd (omega arith) },
+        (
+          record { steps = (tt, (tt, tt)) },
+          (
+            record { told = (tt, (tt, tt)) },
+            (
+              record { prompt = prompt-calm (next one (r2 one) (at 2 (Take s0 p0 None ∷ Want s0 1 ∷ []))) refl },
+              (
+                record { named = (tt, (tt, tt)); owned = refl },
+                (
+                  record { told = (tt, (tt, tt)) },
+                  (
+                    record { blocks = (tt, (tt, tt)) },
+                    (
+                      record { interrupt = λ no. absurd (cc); calm = λ no. absurd no },
+                      (record { heard = (tt, (tt, tt)); first = tt; order = refl; due = refl }, tt),
+                    ),
+                  ),
+                ),
+              ),
+            ),
+          ),
+        ),
+      );
       broken = λ h. let due : Want s0 1 ∷ [] ≡ [] = h.due (omega arith) in cc;
     })
 
@@ -187,16 +253,33 @@ pub breaks-L1 : FirstBreak fast_threads smallest aimed_for_nothing (stops_at 2) 
 breaks-L1 = break-behind fast_threads smallest (e0 ∷ e1 ∷ []) (at 2 (Take s0 p0 None ∷ Aim p0 (Some s0) ∷ Line p0 ∷ [])) (stops_at 2) L1 (before2 one)
     (record {
       earlier = (
-      record { number = refl; proc = omega arith; some = λ no. cc; opening = λ no. absurd (omega arith) },
-      (record { steps = (tt, (tt, (tt, tt))) },
-      (record { told = (tt, (tt, (tt, tt))) },
-      (record { prompt = prompt-calm (next one (r2 one) (at 2 (Take s0 p0 None ∷ Aim p0 (Some s0) ∷ Line p0 ∷ []))) refl },
-      (record { named = (tt, (tt, (tt, tt))); owned = refl },
-      (record { told = (tt, (tt, (tt, tt))) },
-      (record { blocks = (tt, (tt, (tt, tt))) },
-      (record { interrupt = λ no. absurd (cc); calm = λ no. absurd no },
-      (record { heard = (tt, (record { line = λ _. refl }, (refl, tt))); first = tt; order = refl; due = refl },
-      (record { due = λ _. refl; none = no-wants (next one (r2 one) (at 2 (Take s0 p0 None ∷ Aim p0 (Some s0) ∷ Line p0 ∷ []))) refl }, tt))))))))));
+        record { number = refl; proc = omega arith; some = λ no. cc; opening = λ no. absurd (omega arith) },
+        (
+          record { steps = (tt, (tt, (tt, tt))) },
+          (
+            record { told = (tt, (tt, (tt, tt))) },
+            (
+              record { prompt = prompt-calm (next one (r2 one) (at 2 (Take s0 p0 None ∷ Aim p0 (Some s0) ∷ Line p0 ∷ []))) refl },
+              (
+                record { named = (tt, (tt, (tt, tt))); owned = refl },
+                (
+                  record { told = (tt, (tt, (tt, tt))) },
+                  (
+                    record { blocks = (tt, (tt, (tt, tt))) },
+                    (
+                      record { interrupt = λ no. absurd (cc); calm = λ no. absurd no },
+                      (
+                        record { heard = (tt, (record { line = λ _. refl }, (refl, tt))); first = tt; order = refl; due = refl },
+                        (record { due = λ _. refl; none = no-wants (next one (r2 one) (at 2 (Take s0 p0 None ∷ Aim p0 (Some s0) ∷ Line p0 ∷ []))) refl }, tt),
+                      ),
+                    ),
+                  ),
+                ),
+              ),
+            ),
+          ),
+        ),
+      );
       broken = λ h. let due = ap length h.due in omega (arith, due);
     })
 
@@ -204,17 +287,36 @@ pub breaks-L2 : FirstBreak fast_threads smallest idle_with_lock (stops_at 3) 3 L
 breaks-L2 = break-behind fast_threads smallest (e0 ∷ e1 ∷ e2 ∷ []) (at 3 (Idle ∷ [])) (stops_at 3) L2 (before3 one)
     (record {
       earlier = (
-      record { number = refl; proc = omega arith; some = λ no. cc; opening = λ no. absurd (omega arith) },
-      (record { steps = (tt, tt) },
-      (record { told = (tt, tt) },
-      (record { prompt = prompt-calm (next one (r3 one) (at 3 (Idle ∷ []))) refl },
-      (record { named = (tt, tt); owned = refl },
-      (record { told = (tt, tt) },
-      (record { blocks = (tt, tt) },
-      (record { interrupt = λ no. absurd (cc); calm = λ no. absurd no },
-      (record { heard = (tt, tt); first = tt; order = refl; due = refl },
-      (record { due = λ _. refl; none = no-wants (next one (r3 one) (at 3 (Idle ∷ []))) refl },
-      (record { covered = one-share; due = refl }, tt)))))))))));
+        record { number = refl; proc = omega arith; some = λ no. cc; opening = λ no. absurd (omega arith) },
+        (
+          record { steps = (tt, tt) },
+          (
+            record { told = (tt, tt) },
+            (
+              record { prompt = prompt-calm (next one (r3 one) (at 3 (Idle ∷ []))) refl },
+              (
+                record { named = (tt, tt); owned = refl },
+                (
+                  record { told = (tt, tt) },
+                  (
+                    record { blocks = (tt, tt) },
+                    (
+                      record { interrupt = λ no. absurd (cc); calm = λ no. absurd no },
+                      (
+                        record { heard = (tt, tt); first = tt; order = refl; due = refl },
+                        (
+                          record { due = λ _. refl; none = no-wants (next one (r3 one) (at 3 (Idle ∷ []))) refl },
+                          (record { covered = one-share; due = refl }, tt),
+                        ),
+                      ),
+                    ),
+                  ),
+                ),
+              ),
+            ),
+          ),
+        ),
+      );
       broken = λ h. elim ((h.step (omega arith)).free refl) [
         | inl out ↦ cc
         | inr owes ↦ let no = ap length owes.nothing.locks in omega (arith, no)
@@ -225,18 +327,39 @@ pub breaks-L3 : FirstBreak fast_threads smallest idle_beside_thread (stops_at 2)
 breaks-L3 = break-behind fast_threads smallest (e0 ∷ e1 ∷ []) (at 2 (Idle ∷ [])) (stops_at 2) L3 (before2 one)
     (record {
       earlier = (
-      record { number = refl; proc = omega arith; some = λ no. cc; opening = λ no. absurd (omega arith) },
-      (record { steps = (tt, tt) },
-      (record { told = (tt, tt) },
-      (record { prompt = prompt-calm (next one (r2 one) (at 2 (Idle ∷ []))) refl },
-      (record { named = (tt, tt); owned = refl },
-      (record { told = (tt, tt) },
-      (record { blocks = (tt, tt) },
-      (record { interrupt = λ no. absurd (cc); calm = λ no. absurd no },
-      (record { heard = (tt, tt); first = tt; order = refl; due = refl },
-      (record { due = λ _. refl; none = no-wants (next one (r2 one) (at 2 (Idle ∷ []))) refl },
-      (record { covered = one-share; due = refl },
-      (record { step = λ _. record { free = λ _. inl refl } }, tt))))))))))));
+        record { number = refl; proc = omega arith; some = λ no. cc; opening = λ no. absurd (omega arith) },
+        (
+          record { steps = (tt, tt) },
+          (
+            record { told = (tt, tt) },
+            (
+              record { prompt = prompt-calm (next one (r2 one) (at 2 (Idle ∷ []))) refl },
+              (
+                record { named = (tt, tt); owned = refl },
+                (
+                  record { told = (tt, tt) },
+                  (
+                    record { blocks = (tt, tt) },
+                    (
+                      record { interrupt = λ no. absurd (cc); calm = λ no. absurd no },
+                      (
+                        record { heard = (tt, tt); first = tt; order = refl; due = refl },
+                        (
+                          record { due = λ _. refl; none = no-wants (next one (r2 one) (at 2 (Idle ∷ []))) refl },
+                          (
+                            record { covered = one-share; due = refl },
+                            (record { step = λ _. record { free = λ _. inl refl } }, tt),
+                          ),
+                        ),
+                      ),
+                    ),
+                  ),
+                ),
+              ),
+            ),
+          ),
+        ),
+      );
       broken = λ h. unlocked2 one (at 2 (Idle ∷ [])) ((h.turn (omega arith)).1.finds.none.locked p0 refl);
     })
 
@@ -244,19 +367,42 @@ pub breaks-L4 : FirstBreak fast_threads smallest freed_unused (stops_at 3) 3 L4
 breaks-L4 = break-behind fast_threads smallest (e0 ∷ e1 ∷ e2 ∷ []) (at 3 (Free s0 p0 None ∷ [])) (stops_at 3) L4 (before3 one)
     (record {
       earlier = (
-      record { number = refl; proc = omega arith; some = λ no. cc; opening = λ no. absurd (omega arith) },
-      (record { steps = (tt, tt) },
-      (record { told = (tt, tt) },
-      (record { prompt = prompt-calm (next one (r3 one) (at 3 (Free s0 p0 None ∷ []))) refl },
-      (record { named = (tt, tt); owned = refl },
-      (record { told = (tt, tt) },
-      (record { blocks = (tt, tt) },
-      (record { interrupt = λ no. absurd (cc); calm = λ no. absurd no },
-      (record { heard = (tt, tt); first = tt; order = refl; due = refl },
-      (record { due = λ _. refl; none = no-wants (next one (r3 one) (at 3 (Free s0 p0 None ∷ []))) refl },
-      (record { covered = one-share; due = refl },
-      (record { step = λ _. record { free = λ no. absurd (cc) } },
-      (record { turn = λ _. refl; closing = λ _. tt }, tt)))))))))))));
+        record { number = refl; proc = omega arith; some = λ no. cc; opening = λ no. absurd (omega arith) },
+        (
+          record { steps = (tt, tt) },
+          (
+            record { told = (tt, tt) },
+            (
+              record { prompt = prompt-calm (next one (r3 one) (at 3 (Free s0 p0 None ∷ []))) refl },
+              (
+                record { named = (tt, tt); owned = refl },
+                (
+                  record { told = (tt, tt) },
+                  (
+                    record { blocks = (tt, tt) },
+                    (
+                      record { interrupt = λ no. absurd (cc); calm = λ no. absurd no },
+                      (
+                        record { heard = (tt, tt); first = tt; order = refl; due = refl },
+                        (
+                          record { due = λ _. refl; none = no-wants (next one (r3 one) (at 3 (Free s0 p0 None ∷ []))) refl },
+                          (
+                            record { covered = one-share; due = refl },
+                            (
+                              record { step = λ _. record { free = λ no. absurd (cc) } },
+                              (record { turn = λ _. refl; closing = λ _. tt }, tt),
+                            ),
+                          ),
+                        ),
+                      ),
+                    ),
+                  ),
+                ),
+              ),
+            ),
+          ),
+        ),
+      );
       broken = λ h. let used = (h.step (omega arith)).0.keeps.used in cc;
     })
 

@@ -95,14 +95,14 @@ ends-at E past m (e ∷ es) numbered ends j x at =
       | inl here ↦
           let same = event-at e.number e.proc e.records j x here in
           let whole : up_to x.event (first ++ items_of es) ≡ first =
-              up-event x.event e.number e.proc e.records (items_of es) (omega arith)
-              ∙ ap (λ ys. first ++ ys) (up-later x.event (m + 1) es (omega arith) numbered.1) ∙ append-nil first in
+          up-event x.event e.number e.proc e.records (items_of es) (omega arith)
+          ∙ ap (λ ys. first ++ ys) (up-later x.event (m + 1) es (omega arith) numbered.1) ∙ append-nil first in
           subst (λ n. E (past ++ up_to x.event (first ++ items_of es)) n) (sym same)
           (subst (λ ys. E (past ++ ys) e.number) (sym whole) ends.0)
       | inr later ↦
           let above = from-number (m + 1) es numbered.1 later.0 x later.1 in
           let whole : up_to x.event (first ++ items_of es) ≡ first ++ up_to x.event (items_of es) =
-              up-event x.event e.number e.proc e.records (items_of es) (omega arith) in
+          up-event x.event e.number e.proc e.records (items_of es) (omega arith) in
           let there = ends-at E (past ++ first) (m + 1) es numbered.1 ends.1 later.0 x later.1 in
           subst (λ ys. E (past ++ ys) x.event) (sym whole)
           (subst (λ ys. E ys x.event) (append_assoc past first (up_to x.event (items_of es))) there)

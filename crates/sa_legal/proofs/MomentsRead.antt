@@ -94,7 +94,8 @@ stands-cases past x s n o =
           untold = λ k y above below at. o.untold k y above (omega arith) (slice_get-append_left past (x ∷ []) k below ∙ at);
         },
         let within = slice_get_within past o.place o.item old in
-        o.untold (length past) x within (omega arith) (slice_get-append_seam past [] x))
+            o.untold (length past) x within (omega arith) (slice_get-append_seam past [] x),
+      )
     ]
 
 reads-step : (w : WorkloadView) (e : ℕ) (p : ProcNo) (past : List Item) (r : Readings) (x : Record) → ReadsIn w e p past r → p.0 < w.processors

@@ -62,8 +62,10 @@ set-said xs i j v d within = elim (cases_eq i j) [
 ] where
   not-same : (a b : ℕ) → a ≢ b → (a == b) ≡ false
   not-same a b apart = grind (arith, nat_tests)
+
   yes-same : (a b : ℕ) → a ≡ b → (a == b) ≡ true
   yes-same a b same = grind (arith, nat_tests)
+
   at : (k : ℕ) → k ≡ j → j < length xs → get_or (slice_set xs k v) j d ≡ unwrap_or (if k == j then Some v else None) (get_or xs j d)
   at k same below =
       ap (λ n. get_or (slice_set xs n v) j d) same ∙ get_or-set_same xs j v d below
@@ -285,6 +287,7 @@ filter-keeps test (m ∷ ms) z passes has = elim (Contains-append_cases (m ∷ [
   only : (m z : Note) → Contains (m ∷ []) z → m ≡ z
   only m z (zero, below, is) = is
   only m z (suc k, below, is) = absurd (omega arith)
+
   one : (b : Bool) → Contains (filter test ms) z → Contains (if b then m ∷ filter test ms else filter test ms) z
   one true rest = Contains-append_right (m ∷ []) (filter test ms) z rest
   one false rest = rest

@@ -36,11 +36,11 @@ pub at-each-end : (u : UserRules) (w : WorkloadView) (items : List Item) (E : Li
 at-each-end u w items E legal close j x at =
     let law = legal-lawful u w items legal in
     let gives : (r : Readings) (e : Event) → IsLawful u w r e → EachRecord (OnMachine w e.proc) w e.number e.proc (begun w e r) e.records =
-        λ r e lawful. on-machine w e.proc e.number (begun w e r) e.records lawful.0.proc in
+    λ r e lawful. on-machine w e.proc e.number (begun w e r) e.records lawful.0.proc in
     let ends = walk-ends u w (OnMachine w) (Reads w) (ReadsIn w) Any E (reads-kept u.inside w) gives close [] (opening_readings w) (events_of items) (reads-start w) law in
     let all = ends-at E [] 0 (events_of items) (numbered-lawful u w (opening_readings w) (events_of items) law) ends in
     let all' : (k : ℕ) (y : Item) → slice_get items k ≡ Some y → E (up_to y.event items) y.event =
-        subst (λ (ys : List Item). (k : ℕ) (y : Item) → slice_get ys k ≡ Some y → E (up_to y.event ys) y.event) (items-events items) all in
+    subst (λ (ys : List Item). (k : ℕ) (y : Item) → slice_get ys k ≡ Some y → E (up_to y.event ys) y.event) (items-events items) all in
     all' j x at
 
 has-some : (o : Option ℕ) → is_some o ≡ true → (v : ℕ) × (o ≡ Some v)
@@ -125,10 +125,10 @@ covers u w ok past r e law reads shares s given =
     let len = claims-length w after in
     let first = first-below w e.number some in
     let given' : IsShare w.processors (first_space w e.number) (claims_of w after) shares =
-        subst (λ (cs : List Claim). IsShare w.processors (first_space w e.number) cs shares) (claims-are w past after reads) given in
+    subst (λ (cs : List Claim). IsShare w.processors (first_space w e.number) cs shares) (claims-are w past after reads) given in
     let own = shares_of-share w.processors (first_space w e.number) (claims_of w after) (omega arith) (omega arith) in
     let same : share_at shares s.0 ≡ share_at (shares_at w e.number after) s.0 =
-        share_at-unique w.processors (first_space w e.number) (claims_of w after) shares (shares_at w e.number after) given' own s.0 in
+    share_at-unique w.processors (first_space w e.number) (claims_of w after) shares (shares_at w e.number after) given' own s.0 in
     let covered = law.1.1.1.1.1.1.1.1.1.1.0.covered s.0 in
     let aims = aimed-are w past after s reads in
     omega arith

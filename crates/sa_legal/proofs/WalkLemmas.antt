@@ -47,8 +47,8 @@ good-append Good past [] ys left right = subst (λ past'. AllGood Good past' ys)
 good-append Good past (x ∷ xs) ys left right = good-cons Good past x (xs ++ ys)
     (subst (λ past'. Good past' x) (append-nil past) (left 0 x refl))
     (good-append Good (past ++ x ∷ []) xs ys
-      (λ j y at. subst (λ past'. Good past' y) (sym (append_assoc past (x ∷ []) (take j xs))) (left (suc j) y at))
-      (subst (λ past'. AllGood Good past' ys) (sym (append_assoc past (x ∷ []) xs)) right))
+    (λ j y at. subst (λ past'. Good past' y) (sym (append_assoc past (x ∷ []) (take j xs))) (left (suc j) y at))
+    (subst (λ past'. AllGood Good past' ys) (sym (append_assoc past (x ∷ []) xs)) right))
 
 pub walk-records : (test : Test) (w : WorkloadView) (L : ProcNo → RecordLaw) (Inv : List Item → Readings → Type 0)
     (Mid : ℕ → ProcNo → List Item → Readings → Type 0) (Good : List Item → Item → Type 0)
@@ -57,9 +57,10 @@ pub walk-records : (test : Test) (w : WorkloadView) (L : ProcNo → RecordLaw) (
 walk-records test w L Inv Mid Good kept e p past r [] inv law = (subst (λ past'. Mid e p past' r) (sym (append-nil past)) inv, good-nil Good past)
 walk-records test w L Inv Mid Good kept e p past r (x ∷ xs) inv law =
     let one = kept.step e p past r x xs inv law.0 in
-    let more = walk-records test w L Inv Mid Good kept e p (past ++ item e p x ∷ []) (after_record w e p r x) xs one.0 law.1 in
-    (subst (λ past'. Mid e p past' (after_records w e p (after_record w e p r x) xs)) (append_assoc past (item e p x ∷ []) (items_at e p xs)) more.0,
-    good-cons Good past (item e p x) (items_at e p xs) one.1 more.1)
+    let more = walk-records test w L Inv Mid Good kept e p (past ++ item e p x ∷ []) (after_record w e p r x) xs one.0 law.1 in (
+      subst (λ past'. Mid e p past' (after_records w e p (after_record w e p r x) xs)) (append_assoc past (item e p x ∷ []) (items_at e p xs)) more.0,
+      good-cons Good past (item e p x) (items_at e p xs) one.1 more.1,
+    )
 
 -- the law holds of each record of these events
 abbrev pub Along : Test → WorkloadView → (ProcNo → RecordLaw) → Readings → List Event → Type 0
@@ -74,9 +75,10 @@ walk test w L Inv Mid Good kept past r [] inv law = (subst (λ past'. Inv past' 
 walk test w L Inv Mid Good kept past r (e ∷ es) inv law =
     let one = walk-records test w L Inv Mid Good kept e.number e.proc past (begun w e r) e.records (kept.begins past r e inv) law.0 in
     let first = items_at e.number e.proc e.records in
-    let more = walk test w L Inv Mid Good kept (past ++ first) (after_event test w r e) es (kept.ends (past ++ first) r e (behind_all w e r) one.0) law.1 in
-    (subst (λ past'. Inv past' (after_events test w (after_event test w r e) es)) (append_assoc past first (items_of es)) more.0,
-    good-append Good past first (items_of es) one.1 more.1)
+    let more = walk test w L Inv Mid Good kept (past ++ first) (after_event test w r e) es (kept.ends (past ++ first) r e (behind_all w e r) one.0) law.1 in (
+      subst (λ past'. Inv past' (after_events test w (after_event test w r e) es)) (append_assoc past first (items_of es)) more.0,
+      good-append Good past first (items_of es) one.1 more.1,
+    )
 
 -- something is so at the end of each of these events
 abbrev pub AtEnds : (List Item → ℕ → Type 0) → List Item → List Event → Type 0
