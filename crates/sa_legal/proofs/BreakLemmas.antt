@@ -1,0 +1,411 @@
+-- For each rule a history that breaks it first.
+use Rattle.std.proofs.Common.{◌≡◌, ℕ, zero, suc, inl, inr, refl, ap, arith, Some, None, List, [], ◌∷◌, length, true, false}
+use Rattle.std.specs.Prelude.{slice_get, slice_index_or, is_some, Option}
+use Rattle.std.specs.List.{list_all}
+use Rattle.sa_base.specs.declared.record.Note.TheVariants.{Add, Preempted, Blocked}
+use Rattle.sa_base.specs.declared.record.Record.TheVariants.{Ins, Stop, Block, Take, Free, Up, Told, Move, Want, Aim, Line, Idle, Tick}
+use Rattle.sa_instr.specs.declared.instr.Instr.{Instr}
+use Rattle.sa_instr.specs.declared.instr.Instr.TheVariants.{Io as IoOf, End}
+use Rattle.sa_laws.specs.declared.rule.Rule.TheVariants.{D11, D6, U1, U2, U3, U4, U5, U6, U7, U8, L1, L2, L3, L4, D12}
+use Rattle.sa_laws.specs.Event.{Event}
+use Rattle.sa_laws.specs.Readings.{Readings}
+use Rattle.sa_laws.specs.Ends.{GoesOn, are_done, are_at_rest}
+use Rattle.sa_laws.specs.Rules.{fast_threads, HoldEach, rules}
+use Rattle.sa_legal.specs.Legal.{FirstBreak}
+use Rattle.sa_legal.specs.Fold.{AreRight}
+use Rattle.sa_legal.specs.Examples.{workload_with, smallest, blocking, stops_at, told_done, at, s0, p0, t0, act, other_opening, other_place, told_of_nothing, stopped_untold, two_lives, not_told_added, other_io, interrupt_put_off, raised_for_nothing, wanted_for_nothing, aimed_for_nothing, idle_with_lock, idle_beside_thread, freed_unused, not_done}
+use Rattle.sa_legal.proofs.ExampleLemmas.{prompt-calm, no-wants, one-share}
+use Rattle.sa_legal.proofs.SmallestLemmas.{e0, e1, e2, e3, e4, r0, r1, r2, r3, r4, r5, next, lawful0, lawful1, lawful2, lawful3, lawful4, unlocked2}
+use Rattle.sa_legal.proofs.FoldLemmas.{with-end, break-behind}
+
+-- while thread 0 is ready or runs, the run goes on
+goes-on : (r : Readings) → list_all are_done r.state.spaces ≡ false → list_all are_at_rest r.state.spaces ≡ false → GoesOn r
+goes-on r done rest = record { done = λ no. cc; stuck = λ no. let h = no.rest in cc }
+
+right0 : (g : List Instr) → HoldEach fast_threads (workload_with g) rules (r0 g) e0 None
+right0 g = with-end fast_threads (workload_with g) (r0 g) e0 None (lawful0 g) (goes-on (r1 g) refl refl)
+
+right1 : (g : List Instr) → HoldEach fast_threads (workload_with g) rules (r1 g) e1 None
+right1 g = with-end fast_threads (workload_with g) (r1 g) e1 None (lawful1 g) (goes-on (r2 g) refl refl)
+
+right2 : (g : List Instr) → HoldEach fast_threads (workload_with g) rules (r2 g) e2 None
+right2 g = with-end fast_threads (workload_with g) (r2 g) e2 None (lawful2 g) (goes-on (r3 g) refl refl)
+
+right3 : (g : List Instr) → HoldEach fast_threads (workload_with g) rules (r3 g) e3 None
+right3 g = with-end fast_threads (workload_with g) (r3 g) e3 None (lawful3 g) (goes-on (r4 g) refl refl)
+
+right4 : (g : List Instr) → HoldEach fast_threads (workload_with g) rules (r4 g) e4 None
+right4 g = with-end fast_threads (workload_with g) (r4 g) e4 None (lawful4 g) (goes-on (r5 g) refl refl)
+
+-- the events before the one at 1, 2, 3, 4, 5
+before1 : (g : List Instr) → AreRight fast_threads (workload_with g) (r0 g) (e0 ∷ [])
+before1 g = (right0 g, tt)
+
+before2 : (g : List Instr) → AreRight fast_threads (workload_with g) (r0 g) (e0 ∷ e1 ∷ [])
+before2 g = (right0 g, (right1 g, tt))
+
+before3 : (g : List Instr) → AreRight fast_threads (workload_with g) (r0 g) (e0 ∷ e1 ∷ e2 ∷ [])
+before3 g = (right0 g, (right1 g, (right2 g, tt)))
+
+before4 : (g : List Instr) → AreRight fast_threads (workload_with g) (r0 g) (e0 ∷ e1 ∷ e2 ∷ e3 ∷ [])
+before4 g = (right0 g, (right1 g, (right2 g, (right3 g, tt))))
+
+before5 : (g : List Instr) → AreRight fast_threads (workload_with g) (r0 g) (e0 ∷ e1 ∷ e2 ∷ e3 ∷ e4 ∷ [])
+before5 g = (right0 g, (right1 g, (right2 g, (right3 g, (right4 g, tt)))))
+
+abbrev one : List Instr
+one = End ∷ []
+
+-- no line is raised
+abbrev low_lines : List (Option ℕ)
+low_lines = None ∷ []
+
+low : (k : ℕ) → is_some (slice_index_or low_lines k None) ≡ true → ⊥
+low zero raised = cc
+low (suc k) raised = cc
+
+pub breaks-D11 : FirstBreak fast_threads smallest other_opening (stops_at 0) 0 D11
+breaks-D11 = break-behind fast_threads smallest [] _ (stops_at 0) D11 tt
+    (record { earlier = tt; broken = λ h. let e = ap (λ (x : Event). slice_get x.records 0) (h.opening refl) in differs e })
+  where
+    differs : Some (Want s0 2) ≡ Some (Want s0 1) → ⊥
+    differs e = cc
+
+pub breaks-D6 : FirstBreak fast_threads smallest other_place (stops_at 5) 5 D6
+breaks-D6 = break-behind fast_threads smallest (e0 ∷ e1 ∷ e2 ∷ e3 ∷ e4 ∷ []) (at 5 (Ins s0 t0 1 ∷ [])) (stops_at 5) D6 (before5 one)
+    (record {
+      earlier = (
+        record { number = refl; proc = omega arith; some = λ no. cc; opening = λ no. absurd (omega arith) },
+        tt,
+      );
+      broken = λ h. let place = h.steps.0.place in omega (arith, place);
+    })
+
+pub breaks-U1 : FirstBreak fast_threads smallest told_of_nothing (stops_at 1) 1 U1
+breaks-U1 = break-behind fast_threads smallest (e0 ∷ []) (at 1 (Move None (Some s0) ∷ Up s0 (act 0) ∷ Told (Add p0) ∷ Told (Preempted (act 7)) ∷ [])) (stops_at 1) U1 (before1 one)
+    (record {
+      earlier = (
+        record { number = refl; proc = omega arith; some = λ no. cc; opening = λ no. absurd (omega arith) },
+        (record { steps = ((refl, refl), (tt, (tt, (tt, tt)))) }, tt),
+      );
+      broken = λ h. let has = h.told.1.1.1.0 in omega (arith, has.1);
+    })
+
+pub breaks-U2 : FirstBreak fast_threads smallest stopped_untold (stops_at 5) 5 U2
+breaks-U2 = break-behind fast_threads smallest (e0 ∷ e1 ∷ e2 ∷ e3 ∷ e4 ∷ []) (at 5 (Stop s0 (Some t0) (act 0) ∷ [])) (stops_at 5) U2 (before5 one)
+    (record {
+      earlier = (
+        record { number = refl; proc = omega arith; some = λ no. cc; opening = λ no. absurd (omega arith) },
+        (
+          record { steps = ((refl, refl), tt) },
+          (record { told = (tt, tt) }, tt),
+        ),
+      );
+      broken = λ h. elim (h.prompt.each s0 (λ no. cc)) [
+        | inl none ↦ none p0 refl
+        | inr (inl fetching) ↦ cc
+        | inr (inr raised) ↦ low raised.0.0 raised.2
+      ];
+    })
+
+pub breaks-U3 : FirstBreak fast_threads smallest two_lives (stops_at 2) 2 U3
+breaks-U3 = break-behind fast_threads smallest (e0 ∷ e1 ∷ []) (at 2 (Up s0 (act 1) ∷ Told (Add p0) ∷ [])) (stops_at 2) U3 (before2 one)
+    (record {
+      earlier = (
+        record { number = refl; proc = omega arith; some = λ no. cc; opening = λ no. absurd (omega arith) },
+        (
+          record { steps = (tt, (tt, tt)) },
+          (
+            record { told = (tt, (tt, tt)) },
+            (record { prompt = prompt-calm (next one (r2 one) (at 2 (Up s0 (act 1) ∷ Told (Add p0) ∷ []))) refl }, tt),
+          ),
+        ),
+      );
+      broken = λ h. let no : Some (act 0) ≡ None = h.named.0 in cc;
+    })
+
+pub breaks-U4 : FirstBreak fast_threads smallest not_told_added (stops_at 1) 1 U4
+breaks-U4 = break-behind fast_threads smallest (e0 ∷ []) (at 1 (Move None (Some s0) ∷ Up s0 (act 0) ∷ [])) (stops_at 1) U4 (before1 one)
+    (record {
+      earlier = (
+        record { number = refl; proc = omega arith; some = λ no. cc; opening = λ no. absurd (omega arith) },
+        (
+          record { steps = ((refl, refl), (tt, tt)) },
+          (
+            record { told = (tt, (tt, tt)) },
+            (
+              record { prompt = prompt-calm (next one (r1 one) (at 1 (Move None (Some s0) ∷ Up s0 (act 0) ∷ []))) refl },
+              (record { named = (tt, (refl, tt)); owned = refl }, tt),
+            ),
+          ),
+        ),
+      );
+      broken = λ h. h.told.1.0.some refl;
+    })
+
+pub breaks-U5 : FirstBreak fast_threads blocking other_io (stops_at 5) 5 U5
+breaks-U5 = break-behind fast_threads blocking (e0 ∷ e1 ∷ e2 ∷ e3 ∷ e4 ∷ []) (at 5 (Ins s0 t0 0 ∷ Block s0 (Some t0) (act 0) (record { 0 = 1 }) ∷ Up s0 (act 1) ∷ Told (Blocked (act 0)) ∷ [])) (stops_at 5) U5 (before5 (IoOf 2 ∷ End ∷ []))
+    (record {
+      earlier = (
+        record { number = refl; proc = omega arith; some = λ no. cc; opening = λ no. absurd (omega arith) },
+        (
+          record { steps = (record { owned = refl; runs = refl; place = refl; within = omega arith; page = tt }, (record { owned = refl; runs = refl; cause = inl refl }, (tt, (tt, tt)))) },
+          (
+            record { told = (tt, (tt, (tt, ((0, omega arith, refl), tt)))) },
+            (
+              record { prompt = prompt-calm (next (IoOf 2 ∷ End ∷ []) (r5 (IoOf 2 ∷ End ∷ [])) (at 5 (Ins s0 t0 0 ∷ Block s0 (Some t0) (act 0) (record { 0 = 1 }) ∷ Up s0 (act 1) ∷ Told (Blocked (act 0)) ∷ []))) refl },
+              (
+                record { named = (tt, (record { act = refl; space = refl }, (refl, (tt, tt)))); owned = refl },
+                (record { told = (tt, (tt, (record { fresh = refl; notes = refl; some = λ no. cc }, (tt, tt)))) }, tt),
+              ),
+            ),
+          ),
+        ),
+      );
+      broken = λ h. let number = h.blocks.1.0.number in omega (arith, number);
+    })
+
+pub breaks-U6 : FirstBreak fast_threads smallest interrupt_put_off (stops_at 1) 1 U6
+breaks-U6 = break-behind fast_threads smallest (e0 ∷ []) (at 1 (Tick ∷ [])) (stops_at 1) U6 (before1 one)
+    (record {
+      earlier = (
+        record { number = refl; proc = omega arith; some = λ no. cc; opening = λ no. absurd (omega arith) },
+        (
+          record { steps = (tt, tt) },
+          (
+            record { told = (tt, tt) },
+            (
+              record { prompt = prompt-calm (next one (r1 one) (at 1 (Tick ∷ []))) refl },
+              (
+                record { named = (tt, tt); owned = refl },
+                (
+                  record { told = (tt, tt) },
+                  (record { blocks = (tt, tt) }, tt),
+                ),
+              ),
+            ),
+          ),
+        ),
+      );
+      broken = λ h. h.interrupt refl;
+    })
+
+pub breaks-U7 : FirstBreak fast_threads smallest raised_for_nothing (stops_at 2) 2 U7
+breaks-U7 = break-behind fast_threads smallest (e0 ∷ e1 ∷ []) (at 2 (Take s0 p0 None ∷ Line p0 ∷ [])) (stops_at 2) U7 (before2 one)
+    (record {
+      earlier = (
+        record { number = refl; proc = omega arith; some = λ no. cc; opening = λ no. absurd (omega arith) },
+        (
+          record { steps = (tt, (tt, tt)) },
+          (
+            record { told = (tt, (tt, tt)) },
+            (
+              record { prompt = prompt-calm (next one (r2 one) (at 2 (Take s0 p0 None ∷ Line p0 ∷ []))) refl },
+              (
+                record { named = (tt, (tt, tt)); owned = refl },
+                (
+                  record { told = (tt, (tt, tt)) },
+                  (
+                    record { blocks = (tt, (tt, tt)) },
+                    (record { interrupt = λ no. absurd (cc); calm = λ no. absurd no }, tt),
+                  ),
+                ),
+              ),
+            ),
+          ),
+        ),
+      );
+      broken = λ h. let due : Line p0 ∷ [] ≡ [] = h.due in cc;
+    })
+
+pub breaks-U8 : FirstBreak fast_threads smallest wanted_for_nothing (stops_at 2) 2 U8
+breaks-U8 = break-behind fast_threads smallest (e0 ∷ e1 ∷ []) (at 2 (Take s0 p0 None ∷ Want s0 1 ∷ [])) (stops_at 2) U8 (before2 one)
+    (record {
+      earlier = (
+        record { number = refl; proc = omega arith; some = λ no. cc; opening = λ no. absurd (omega arith) },
+        (
+          record { steps = (tt, (tt, tt)) },
+          (
+            record { told = (tt, (tt, tt)) },
+            (
+              record { prompt = prompt-calm (next one (r2 one) (at 2 (Take s0 p0 None ∷ Want s0 1 ∷ []))) refl },
+              (
+                record { named = (tt, (tt, tt)); owned = refl },
+                (
+                  record { told = (tt, (tt, tt)) },
+                  (
+                    record { blocks = (tt, (tt, tt)) },
+                    (
+                      record { interrupt = λ no. absurd (cc); calm = λ no. absurd no },
+                      (record { heard = (tt, (tt, tt)); first = tt; order = refl; due = refl }, tt),
+                    ),
+                  ),
+                ),
+              ),
+            ),
+          ),
+        ),
+      );
+      broken = λ h. let due : Want s0 1 ∷ [] ≡ [] = h.due (omega arith) in cc;
+    })
+
+pub breaks-L1 : FirstBreak fast_threads smallest aimed_for_nothing (stops_at 2) 2 L1
+breaks-L1 = break-behind fast_threads smallest (e0 ∷ e1 ∷ []) (at 2 (Take s0 p0 None ∷ Aim p0 (Some s0) ∷ Line p0 ∷ [])) (stops_at 2) L1 (before2 one)
+    (record {
+      earlier = (
+        record { number = refl; proc = omega arith; some = λ no. cc; opening = λ no. absurd (omega arith) },
+        (
+          record { steps = (tt, (tt, (tt, tt))) },
+          (
+            record { told = (tt, (tt, (tt, tt))) },
+            (
+              record { prompt = prompt-calm (next one (r2 one) (at 2 (Take s0 p0 None ∷ Aim p0 (Some s0) ∷ Line p0 ∷ []))) refl },
+              (
+                record { named = (tt, (tt, (tt, tt))); owned = refl },
+                (
+                  record { told = (tt, (tt, (tt, tt))) },
+                  (
+                    record { blocks = (tt, (tt, (tt, tt))) },
+                    (
+                      record { interrupt = λ no. absurd (cc); calm = λ no. absurd no },
+                      (
+                        record { heard = (tt, (record { line = λ _. refl }, (refl, tt))); first = tt; order = refl; due = refl },
+                        (record { due = λ _. refl; none = no-wants (next one (r2 one) (at 2 (Take s0 p0 None ∷ Aim p0 (Some s0) ∷ Line p0 ∷ []))) refl }, tt),
+                      ),
+                    ),
+                  ),
+                ),
+              ),
+            ),
+          ),
+        ),
+      );
+      broken = λ h. let due = ap length h.due in omega (arith, due);
+    })
+
+pub breaks-L2 : FirstBreak fast_threads smallest idle_with_lock (stops_at 3) 3 L2
+breaks-L2 = break-behind fast_threads smallest (e0 ∷ e1 ∷ e2 ∷ []) (at 3 (Idle ∷ [])) (stops_at 3) L2 (before3 one)
+    (record {
+      earlier = (
+        record { number = refl; proc = omega arith; some = λ no. cc; opening = λ no. absurd (omega arith) },
+        (
+          record { steps = (tt, tt) },
+          (
+            record { told = (tt, tt) },
+            (
+              record { prompt = prompt-calm (next one (r3 one) (at 3 (Idle ∷ []))) refl },
+              (
+                record { named = (tt, tt); owned = refl },
+                (
+                  record { told = (tt, tt) },
+                  (
+                    record { blocks = (tt, tt) },
+                    (
+                      record { interrupt = λ no. absurd (cc); calm = λ no. absurd no },
+                      (
+                        record { heard = (tt, tt); first = tt; order = refl; due = refl },
+                        (
+                          record { due = λ _. refl; none = no-wants (next one (r3 one) (at 3 (Idle ∷ []))) refl },
+                          (record { covered = one-share; due = refl }, tt),
+                        ),
+                      ),
+                    ),
+                  ),
+                ),
+              ),
+            ),
+          ),
+        ),
+      );
+      broken = λ h. elim ((h.step (omega arith)).free refl) [
+        | inl out ↦ cc
+        | inr owes ↦ let no = ap length owes.nothing.locks in omega (arith, no)
+      ];
+    })
+
+pub breaks-L3 : FirstBreak fast_threads smallest idle_beside_thread (stops_at 2) 2 L3
+breaks-L3 = break-behind fast_threads smallest (e0 ∷ e1 ∷ []) (at 2 (Idle ∷ [])) (stops_at 2) L3 (before2 one)
+    (record {
+      earlier = (
+        record { number = refl; proc = omega arith; some = λ no. cc; opening = λ no. absurd (omega arith) },
+        (
+          record { steps = (tt, tt) },
+          (
+            record { told = (tt, tt) },
+            (
+              record { prompt = prompt-calm (next one (r2 one) (at 2 (Idle ∷ []))) refl },
+              (
+                record { named = (tt, tt); owned = refl },
+                (
+                  record { told = (tt, tt) },
+                  (
+                    record { blocks = (tt, tt) },
+                    (
+                      record { interrupt = λ no. absurd (cc); calm = λ no. absurd no },
+                      (
+                        record { heard = (tt, tt); first = tt; order = refl; due = refl },
+                        (
+                          record { due = λ _. refl; none = no-wants (next one (r2 one) (at 2 (Idle ∷ []))) refl },
+                          (
+                            record { covered = one-share; due = refl },
+                            (record { step = λ _. record { free = λ _. inl refl } }, tt),
+                          ),
+                        ),
+                      ),
+                    ),
+                  ),
+                ),
+              ),
+            ),
+          ),
+        ),
+      );
+      broken = λ h. unlocked2 one (at 2 (Idle ∷ [])) ((h.turn (omega arith)).1.finds.none.locked p0 refl);
+    })
+
+pub breaks-L4 : FirstBreak fast_threads smallest freed_unused (stops_at 3) 3 L4
+breaks-L4 = break-behind fast_threads smallest (e0 ∷ e1 ∷ e2 ∷ []) (at 3 (Free s0 p0 None ∷ [])) (stops_at 3) L4 (before3 one)
+    (record {
+      earlier = (
+        record { number = refl; proc = omega arith; some = λ no. cc; opening = λ no. absurd (omega arith) },
+        (
+          record { steps = (tt, tt) },
+          (
+            record { told = (tt, tt) },
+            (
+              record { prompt = prompt-calm (next one (r3 one) (at 3 (Free s0 p0 None ∷ []))) refl },
+              (
+                record { named = (tt, tt); owned = refl },
+                (
+                  record { told = (tt, tt) },
+                  (
+                    record { blocks = (tt, tt) },
+                    (
+                      record { interrupt = λ no. absurd (cc); calm = λ no. absurd no },
+                      (
+                        record { heard = (tt, tt); first = tt; order = refl; due = refl },
+                        (
+                          record { due = λ _. refl; none = no-wants (next one (r3 one) (at 3 (Free s0 p0 None ∷ []))) refl },
+                          (
+                            record { covered = one-share; due = refl },
+                            (
+                              record { step = λ _. record { free = λ no. absurd (cc) } },
+                              (record { turn = λ _. refl; closing = λ _. tt }, tt),
+                            ),
+                          ),
+                        ),
+                      ),
+                    ),
+                  ),
+                ),
+              ),
+            ),
+          ),
+        ),
+      );
+      broken = λ h. let used = (h.step (omega arith)).0.keeps.used in cc;
+    })
+
+pub breaks-D12 : FirstBreak fast_threads smallest not_done told_done 4 D12
+breaks-D12 = break-behind fast_threads smallest (e0 ∷ e1 ∷ e2 ∷ e3 ∷ []) e4 told_done D12 (before4 one)
+    (record { earlier = lawful4 one; broken = λ h. let done = h.1 in cc })

@@ -1,0 +1,14 @@
+pub mod ExampleLemmas
+pub mod SmallestLemmas
+pub mod FoldLemmas
+pub mod BreakLemmas
+pub mod WalkLemmas
+pub mod UntoldLemmas
+pub mod EventLemmas
+pub mod OnceLemmas
+pub mod FreshLemmas
+pub mod MomentLemmas
+pub mod ReadLemmas
+pub mod MomentsRead
+pub mod TimelyLemmas
+pub mod AppendLemmas

@@ -1,0 +1,147 @@
+-- Short histories: the run of the smallest workload, and for each rule one that breaks it first.
+use Rattle.std.specs.Prelude.{ℕ, List, [], ◌∷◌, ◌++◌, take, Some, None}
+use Rattle.sa_base.specs.declared.number.ProcNo.{ProcNo}
+use Rattle.sa_base.specs.declared.number.SpaceNo.{SpaceNo}
+use Rattle.sa_base.specs.declared.number.ThreadNo.{ThreadNo}
+use Rattle.sa_base.specs.declared.number.ActNo.{ActNo}
+use Rattle.sa_base.specs.declared.record.Note.TheVariants.{Add, Preempted, Blocked}
+use Rattle.sa_base.specs.declared.record.Record.{Record}
+use Rattle.sa_base.specs.declared.record.Record.TheVariants.{Ins, Run, Stop, Block, Take, Free, Up, Told, Move, Want, Aim, Line, Idle, Tick}
+use Rattle.sa_base.specs.declared.record.Item.{Item}
+use Rattle.sa_base.specs.declared.record.End.TheVariants.{AllDone, Budget}
+use Rattle.sa_instr.specs.declared.instr.Instr.{Instr}
+use Rattle.sa_instr.specs.declared.instr.Instr.TheVariants.{Io as IoOf, End}
+use Rattle.sa_instr.specs.Space.{SpaceView}
+use Rattle.sa_instr.specs.Workload.{WorkloadView}
+use Rattle.sa_laws.specs.Event.{Event, items_of}
+use Rattle.sa_laws.specs.Ends.{LastLine}
+
+-- one processor, and one space with one program
+abbrev pub space_with : List Instr → SpaceView
+space_with program = record {
+  priority = 0;
+  mutexes = 0;
+  sems = [];
+  cells = 0;
+  absent = [];
+  programs = program ∷ [];
+  patience = 1;
+}
+
+abbrev pub workload_with : List Instr → WorkloadView
+workload_with program =
+    record { processors = 1; fetch = 10; spaces = space_with program ∷ []; evictions = []; turns = []; slice = 0 }
+
+-- the smallest workload: its program is `end`
+abbrev pub smallest : WorkloadView
+smallest = workload_with (End ∷ [])
+
+abbrev pub p0 : ProcNo
+p0 = record { 0 = 0 }
+
+abbrev pub s0 : SpaceNo
+s0 = record { 0 = 0 }
+
+abbrev pub t0 : ThreadNo
+t0 = record { 0 = 0 }
+
+abbrev pub act : ℕ → ActNo
+act n = record { 0 = n }
+
+-- an event of processor 0
+abbrev pub at : ℕ → List Record → Event
+at n records = record { number = n; proc = p0; records = records }
+
+-- its run: the space wants a processor and gets it, the upcall's life takes thread 0 from its list, and the thread ends
+abbrev pub smallest_run : List Event
+smallest_run =
+    at 0 (Want s0 1 ∷ Aim p0 (Some s0) ∷ Line p0 ∷ [])
+    ∷ at 1 (Move None (Some s0) ∷ Up s0 (act 0) ∷ Told (Add p0) ∷ [])
+    ∷ at 2 (Take s0 p0 None ∷ [])
+    ∷ at 3 (Run s0 t0 ∷ [])
+    ∷ at 4 (Free s0 p0 (Some t0) ∷ [])
+    ∷ at 5 (Ins s0 t0 0 ∷ [])
+    ∷ []
+
+abbrev pub smallest_trace : List Item
+smallest_trace = items_of smallest_run
+
+abbrev pub smallest_end : LastLine
+smallest_end = record { end = AllDone; events = 5 }
+
+-- the run's first events, and behind them another one
+abbrev pub then : ℕ → List Record → List Event
+then n records = take n smallest_run ++ at n records ∷ []
+
+abbrev pub trace_then : ℕ → List Record → List Item
+trace_then n records = items_of (then n records)
+
+-- a last line that tells of a budget
+abbrev pub stops_at : ℕ → LastLine
+stops_at n = record { end = Budget; events = n }
+
+-- The opening and the numbering: the opening announces another demand.
+abbrev pub other_opening : List Item
+other_opening = trace_then 0 (Want s0 2 ∷ [])
+
+-- A step of the abstract machine: the thread stands at another place of its program.
+abbrev pub other_place : List Item
+other_place = trace_then 5 (Ins s0 t0 1 ∷ [])
+
+-- Tells at most once: what never happened is told.
+abbrev pub told_of_nothing : List Item
+told_of_nothing = trace_then 1 (Move None (Some s0) ∷ Up s0 (act 0) ∷ Told (Add p0) ∷ Told (Preempted (act 7)) ∷ [])
+
+-- Tells in time: a life is stopped, and its space goes on owning the processor untold.
+abbrev pub stopped_untold : List Item
+stopped_untold = trace_then 5 (Stop s0 (Some t0) (act 0) ∷ [])
+
+-- Runs where owned: an up comes where a life runs.
+abbrev pub two_lives : List Item
+two_lives = trace_then 2 (Up s0 (act 1) ∷ Told (Add p0) ∷ [])
+
+-- An upcall tells all: a space is not told of its new processor.
+abbrev pub not_told_added : List Item
+not_told_added = trace_then 1 (Move None (Some s0) ∷ Up s0 (act 0) ∷ [])
+
+-- A block gives an upcall: a block names another I/O. The workload's program is `io 2`, `end`.
+abbrev pub blocking : WorkloadView
+blocking = workload_with (IoOf 2 ∷ End ∷ [])
+
+abbrev pub other_io : List Item
+other_io = trace_then 5 (Ins s0 t0 0 ∷ Block s0 (Some t0) (act 0) (record { 0 = 1 }) ∷ Up s0 (act 1) ∷ Told (Blocked (act 0)) ∷ [])
+
+-- An interrupt is the next event: it is put off.
+abbrev pub interrupt_put_off : List Item
+interrupt_put_off = trace_then 1 (Tick ∷ [])
+
+-- A line has its cause: a line is raised for nothing.
+abbrev pub raised_for_nothing : List Item
+raised_for_nothing = trace_then 2 (Take s0 p0 None ∷ Line p0 ∷ [])
+
+-- A want has its cause: a want stands behind a take.
+abbrev pub wanted_for_nothing : List Item
+wanted_for_nothing = trace_then 2 (Take s0 p0 None ∷ Want s0 1 ∷ [])
+
+-- Aims cover shares: a processor is aimed at a space that has its share.
+abbrev pub aimed_for_nothing : List Item
+aimed_for_nothing = trace_then 2 (Take s0 p0 None ∷ Aim p0 (Some s0) ∷ Line p0 ∷ [])
+
+-- Demand is announced: a life that has a lock idles.
+abbrev pub idle_with_lock : List Item
+idle_with_lock = trace_then 3 (Idle ∷ [])
+
+-- Turns and steps: a processor idles beside a ready thread.
+abbrev pub idle_beside_thread : List Item
+idle_beside_thread = trace_then 2 (Idle ∷ [])
+
+-- List locks: a lock is freed before its list was changed.
+abbrev pub freed_unused : List Item
+freed_unused = trace_then 3 (Free s0 p0 None ∷ [])
+
+-- The end: the last line tells that all is done, and it is not.
+abbrev pub not_done : List Item
+not_done = trace_then 4 (Free s0 p0 (Some t0) ∷ [])
+
+abbrev pub told_done : LastLine
+told_done = record { end = AllDone; events = 4 }

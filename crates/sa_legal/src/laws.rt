@@ -1,0 +1,33 @@
+//! Laws of histories, for those who prove that a run is legal. No function here does anything.
+ghost use Rattle.std.specs.Prelude.{◌≡◌, ◌≢◌, ◌↔◌, ℕ, List, [], ◌++◌};
+ghost use Rattle.sa_base.specs.declared.record.Item.{Item};
+ghost use Rattle.sa_instr.specs.Workload.{WorkloadView};
+ghost use Rattle.sa_laws.specs.Event.{Event, items_of, events_of};
+ghost use Rattle.sa_laws.specs.Readings.{Readings, opening_readings};
+ghost use Rattle.sa_laws.specs.History.{is_inside, after_events};
+ghost use Rattle.sa_laws.specs.Rules.{fast_threads};
+ghost use Rattle.sa_legal.specs.Legal.{IsLegal, IsLegalHistory};
+ghost use Rattle.sa_legal.specs.Fold.{AreLawful, AreNumbered};
+
+/// The history of a trace has its items, and no others.
+pub fn traces_are_histories()
+    ensures { (items : List Item) → items_of (events_of items) ≡ items }
+{}
+
+/// Events with consecutive numbers, each with some record, are the history of their items.
+pub fn histories_are_traces()
+    ensures events { (first : ℕ) (events : List Event) → AreNumbered first events
+        → events_of (items_of events) ≡ events }
+    ensures legal { (w : WorkloadView) (events : List Event) → IsLegalHistory fast_threads w events
+        → IsLegal fast_threads w (items_of events) }
+{}
+
+/// A history is legal where the laws hold event by event, and so where they hold of a first part, and of the rest behind it.
+pub fn laws_hold_along_histories()
+    ensures along { (w : WorkloadView) (events : List Event) → events ≢ []
+        → (AreLawful fast_threads w (opening_readings w) events ↔ IsLegalHistory fast_threads w events) }
+    ensures append { (w : WorkloadView) (r : Readings) (before more : List Event)
+        → AreLawful fast_threads w r before
+        → AreLawful fast_threads w (after_events is_inside w r before) more
+        → AreLawful fast_threads w r (before ++ more) }
+{}

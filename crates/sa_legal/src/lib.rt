@@ -1,0 +1,13 @@
+//! Legal runs: how a trace is judged, its end, its first break, and what its reader is promised.
+#![tactic(auto)]
+
+mod examples;
+mod headline;
+mod laws;
+
+pub use examples::{rules_can_be_broken, smallest_run_is_legal};
+pub use headline::{
+    legal_runs_cover_shares, legal_runs_tell_at_most_once, legal_runs_tell_in_time,
+    legal_runs_use_fresh_numbers,
+};
+pub use laws::{histories_are_traces, laws_hold_along_histories, traces_are_histories};
