@@ -1,5 +1,5 @@
 -- Each change keeps the agreement of a processor's words with what the keeper and the poller know.
-use Rattle.std.proofs.Common.{◌≡◌, ◌≢◌, ℕ, zero, suc, ◌+◌, ◌-◌, ◌*◌, ◌/◌, ◌<◌, ◌≤◌, ◌==◌, Bool, true, false, List, [], ◌∷◌, ◌++◌, length, slice_index, slice_index_or, slice_set, MatchBool, ◌⊎◌, inl, inr, refl, sym, ◌∙◌, ap, subst, arith, Option, Some, None}
+use Rattle.std.proofs.Common.{◌≡◌, ◌≢◌, ℕ, ◌+◌, ◌-◌, ◌<◌, ◌≤◌, ◌==◌, Bool, true, false, List, [], ◌∷◌, ◌++◌, length, slice_index, slice_index_or, slice_set, MatchBool, inl, inr, refl, sym, ◌∙◌, ap, subst, arith, Some, None}
 use Rattle.std.proofs.lemmas.Bool.Decides.{nat_tests}
 use Rattle.std.proofs.lemmas.List.{get_or-set_same, get_or-set_other}
 use Rattle.std.proofs.lemmas.List.Elements.{Contains-append_left, Contains-push, All-push}
@@ -8,7 +8,7 @@ use Rattle.sa_lines.specs.declared.credit.Account.{Account}
 use Rattle.sa_lines.specs.declared.view.Lane.{Lane}
 use Rattle.sa_lines.specs.declared.view.Polled.{Polled}
 use Rattle.sa_lines.specs.Credit.{applied}
-use Rattle.sa_lines.specs.Words.{line_word, credit_word, lane_at, changed, IsLineOf, AreBalanced, Agree, AgreeAt}
+use Rattle.sa_lines.specs.Words.{line_word, credit_word, IsLineOf, Agree, AgreeAt}
 use Rattle.sa_lines.specs.Steps.{raised, lowered, granted, cleared, polled, taken, joined_with}
 
 -- a later raise makes no value wrong

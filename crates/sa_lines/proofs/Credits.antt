@@ -1,5 +1,5 @@
 -- A credit goes through its number, and leaves the keeper as it was but for the account.
-use Rattle.std.proofs.Common.{◌≡◌, ◌≢◌, ℕ, zero, suc, ◌+◌, ◌-◌, ◌*◌, ◌<◌, ◌≤◌, ◌==◌, nat_lt, Bool, true, false, List, [], ◌∷◌, length, slice_index_or, slice_set, ◌⊎◌, inl, inr, refl, sym, ◌∙◌, ap, subst, arith, Option, Some, None, if◌then◌else◌}
+use Rattle.std.proofs.Common.{◌≡◌, ℕ, zero, suc, ◌-◌, ◌*◌, ◌<◌, ◌≤◌, nat_lt, Bool, true, false, List, [], ◌∷◌, length, slice_set, refl, sym, ◌∙◌, ap, subst, arith, Option, None, if◌then◌else◌}
 use Rattle.std.proofs.lemmas.Bool.Decides.{nat_tests}
 use Rattle.sa_base.specs.declared.limits.TheConstants.{MAX_EVENTS}
 use Rattle.sa_base.specs.declared.record.End.TheVariants.{AllDone, Stuck, Budget}
@@ -10,11 +10,11 @@ use Rattle.sa_lines.specs.declared.credit.Credit.TheVariants.{Turns, End as Ende
 use Rattle.sa_lines.specs.declared.view.Lane.{Lane}
 use Rattle.sa_lines.specs.declared.view.View.{View}
 use Rattle.sa_lines.specs.declared.view.View.TheVariants.{Keeping, Polling, Spent}
-use Rattle.sa_lines.specs.Credit.{credited, MayCredit, number_of, end_of, credit_of, applied}
+use Rattle.sa_lines.specs.Credit.{credited, MayCredit, number_of, end_of, credit_of}
 use Rattle.sa_lines.specs.Words.{lane_at, changed, lanes_of, IsKeeping}
 use Rattle.sa_lines.specs.Steps.{granted, cleared, on_lane}
 use Rattle.sa_lines.specs.Seen.{credited_lane, IsQuiet, KeepsWell, MayGrant}
-use Rattle.sa_lines.proofs.Steps.{lane_here, length_changed}
+use Rattle.sa_lines.proofs.Steps.{lane_here, length_changed, all_changed}
 
 turns_back : (b : Bool) (n : ℕ) → nat_lt MAX_EVENTS n ≡ b → n ≤ MAX_EVENTS → (if b then Ended (end_of (n - MAX_EVENTS)) else Turns n) ≡ Turns n
 turns_back true n e le = absurd (let lt : MAX_EVENTS < n = grind (arith, nat_tests, e) in omega (arith, lt, le))
@@ -72,13 +72,6 @@ credit_view (Keeping lanes split) p c k lt none_handed back = ap (λ (l : List L
 credit_view (Polling q own) p c k lt none_handed back = refl
 credit_view Spent p c k lt none_handed back = refl
 
-quiet_changed : (change : Lane → Lane) (lanes : List Lane) (p q : ℕ) → ((i : ℕ) → IsQuiet (lane_at lanes i)) → IsQuiet (change (lane_at lanes p)) → IsQuiet (lane_at (changed p change lanes) q)
-quiet_changed change [] p q quiet now = quiet q
-quiet_changed change (l ∷ lanes) zero zero quiet now = now
-quiet_changed change (l ∷ lanes) zero (suc q) quiet now = quiet (suc q)
-quiet_changed change (l ∷ lanes) (suc p) zero quiet now = quiet zero
-quiet_changed change (l ∷ lanes) (suc p) (suc q) quiet now = quiet_changed change lanes p q (λ i. quiet (suc i)) now
-
 -- behind a credit the keeper is as between calls
 pub keeps_credited : (table : TableId) (v : View) (p : ℕ) (c : Credit) → KeepsWell table v → MayCredit (lane_at (lanes_of v) p).account c → KeepsWell table (on_lane p (credited_lane c) v)
 keeps_credited table (Polling q own) p c well may = absurd well.keeping
@@ -86,7 +79,7 @@ keeps_credited table Spent p c well may = absurd well.keeping
 keeps_credited table (Keeping lanes split) p c well may = record {
   keeping = tt;
   size = well.size ∙ ap (λ (n : ℕ). 2 * n) (sym (length_changed p (credited_lane c) lanes));
-  quiet = λ q. quiet_changed (credited_lane c) lanes p q well.quiet record {
+  quiet = λ q. all_changed IsQuiet (credited_lane c) lanes p q well.quiet record {
     none_handed = (well.quiet p).none_handed;
     counted = room_for c (lane_at lanes p).account may (well.quiet p).counted;
   };

@@ -1,5 +1,5 @@
 -- Each step of the keeper and of a poller keeps the rule.
-use Rattle.std.proofs.Common.{◌≡◌, ◌≢◌, ℕ, zero, suc, ◌+◌, ◌-◌, ◌*◌, ◌/◌, ◌<◌, ◌≤◌, ◌==◌, Bool, true, false, List, [], ◌∷◌, ◌++◌, length, slice_index, slice_index_or, slice_set, MatchBool, ◌⊎◌, inl, inr, refl, sym, ◌∙◌, ap, subst, arith, Option, Some, None}
+use Rattle.std.proofs.Common.{◌≡◌, ◌≢◌, ℕ, zero, suc, ◌+◌, ◌*◌, ◌<◌, ◌≤◌, ◌==◌, Bool, true, false, List, [], ◌∷◌, length, slice_index, slice_set, MatchBool, inl, inr, refl, sym, ◌∙◌, ap, subst, arith}
 use Rattle.std.proofs.lemmas.Bool.Decides.{nat_tests}
 use Rattle.std.proofs.lemmas.List.{length-set, set-get_or, get_or-set_same, get_or-set_other}
 use Rattle.std.proofs.Math.Nat.{mul-div_cancel_left}
@@ -8,7 +8,7 @@ use mathlib.Core.Logic.{dite}
 use native.Mathlib.Decide.{ℕ_discrete}
 use lib.ListN.{get_elem?}
 use prog.Atomic.{either}
-use Rattle.atomic_table.specs.Table.{State, Me, Step, step, Act, keeps, Valid, carried_after, stepped, Allows}
+use Rattle.atomic_table.specs.Table.{State, step, Act, keeps, Valid, carried_after, stepped, Allows}
 use Rattle.atomic_table.specs.Seated.{TableId}
 use Rattle.atomic_table.proofs.Lists.{at_set, set_again, set_else}
 use Rattle.sa_base.specs.declared.number.ProcNo.{ProcNo}
@@ -19,7 +19,7 @@ use Rattle.sa_lines.specs.declared.view.View.{View}
 use Rattle.sa_lines.specs.declared.view.View.TheVariants.{Keeping, Polling, Spent}
 use Rattle.sa_lines.specs.Credit.{applied}
 use Rattle.sa_lines.specs.Words.{line_word, credit_word, proc_of, lane_at, changed, fresh_lane, Agree, AgreeAt, IsKeeping, lanes_of, Knows, FitsWords, Holds}
-use Rattle.sa_lines.specs.Steps.{raised, lowered, granted, cleared, polled, taken, on_lane, on_poller, polled_of, Becomes, Raises, Lowers, Polls, Grants, Takes, Clears}
+use Rattle.sa_lines.specs.Steps.{raised, lowered, granted, cleared, polled, taken, on_lane, on_poller, Becomes, Raises, Lowers, Polls, Grants, Takes, Clears}
 use Rattle.sa_lines.specs.Seen.{IsPollerOf, MayGrant, KeepsWell}
 use Rattle.sa_lines.proofs.Agreeing.{agree_raised, agree_lowered, agree_polled, agree_granted, agree_taken, room_taken, agree_cleared, agree_away, agree_line, agree_credit}
 
@@ -37,6 +37,13 @@ same_field g change keep (l ∷ lanes) zero zero = keep l
 same_field g change keep (l ∷ lanes) zero (suc q) = refl
 same_field g change keep (l ∷ lanes) (suc p) zero = refl
 same_field g change keep (l ∷ lanes) (suc p) (suc q) = same_field g change keep lanes p q
+
+pub all_changed : (P : Lane → Type 0) (change : Lane → Lane) (lanes : List Lane) (p q : ℕ) → ((i : ℕ) → P (lane_at lanes i)) → P (change (lane_at lanes p)) → P (lane_at (changed p change lanes) q)
+all_changed P change [] p q all now = all q
+all_changed P change (l ∷ lanes) zero zero all now = now
+all_changed P change (l ∷ lanes) zero (suc q) all now = all (suc q)
+all_changed P change (l ∷ lanes) (suc p) zero all now = all zero
+all_changed P change (l ∷ lanes) (suc p) (suc q) all now = all_changed P change lanes p q (λ i. all (suc i)) now
 
 pub lane_here : (p : ℕ) (change : Lane → Lane) (lanes : List Lane) → p < length lanes → lane_at (changed p change lanes) p ≡ change (lane_at lanes p)
 lane_here p change lanes lt = get_or-set_same lanes p (change (lane_at lanes p)) fresh_lane lt

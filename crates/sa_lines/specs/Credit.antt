@@ -16,7 +16,8 @@ abbrev pub credited : Credit → Account → Account
 credited (Turns n) a = record a { count = a.count + n }
 credited (Ended x) a = record a { end = Some x }
 
--- at least one turn and at most 1,000,000 in all, or an end where the account has none or the same one
+-- at least one turn and at most 1,000,000 in all, or an end where the account has none or the same
+-- one
 abbrev pub MayCredit : Account → Credit → Type 0
 MayCredit a (Turns n) = (0 < n) × (a.count + n ≤ MAX_EVENTS)
 MayCredit a (Ended x) = (a.end ≡ None) ⊎ (a.end ≡ Some x)

@@ -10,15 +10,16 @@ use Rattle.sa_lines.specs.declared.view.Polled.{Polled}
 use Rattle.sa_lines.specs.declared.view.View.{View}
 use Rattle.sa_lines.specs.declared.view.View.TheVariants.{Keeping, Polling, Spent}
 use Rattle.sa_lines.specs.Credit.{fresh_account, credited, applied}
-use Rattle.sa_lines.specs.Words.{lane_at, fresh_lane, changed, lanes_of, IsKeeping, IsLineOf, line_word, credit_word}
-use Rattle.sa_lines.specs.Steps.{raised, lowered, joined_with, polled_of}
+use Rattle.sa_lines.specs.Words.{lane_at, fresh_lane, changed, lanes_of, IsKeeping, IsLineOf}
+use Rattle.sa_lines.specs.Steps.{raised, lowered, joined_with}
 
 -- a keeper: the words that it is of, and what it knows of each processor
 pub record KeeperSeen : Type 0 where
   pub table : TableId
   pub lanes : List Lane
 
--- a poller: the words that it is of, its processor, the values that it read, in order, and its account
+-- a poller: the words that it is of, its processor, the values that it read, in order, and its
+-- account
 pub record PollerSeen : Type 0 where
   pub table : TableId
   pub proc : ProcNo
@@ -30,7 +31,8 @@ abbrev pub fresh_keeper : TableId → ℕ → KeeperSeen
 fresh_keeper table processors = record { table = table; lanes = replicate processors fresh_lane }
 
 abbrev pub fresh_poller : TableId → ℕ → PollerSeen
-fresh_poller table p = record { table = table; proc = record { 0 = p }; read = []; account = fresh_account }
+fresh_poller table p =
+    record { table = table; proc = record { 0 = p }; read = []; account = fresh_account }
 
 -- one for each processor, in order
 abbrev pub fresh_pollers : TableId → ℕ → List PollerSeen
@@ -69,8 +71,8 @@ with_poller poller keeper =
     let known : Polled = record { read = poller.read; account = poller.account } in
     record keeper { lanes = changed poller.proc.0 (joined_with known) keeper.lanes }
 
--- the poller that was joined, if one was, has the keeper's account, and each value that it read is 0 or
--- says an event at which the keeper raised the line
+-- the poller that was joined, if one was, has the keeper's account, and each value that it read is
+-- 0 or says an event at which the keeper raised the line
 abbrev pub IsSettled : Lane → Type 0
 IsSettled lane =
     MatchOption lane.joined (Unit {0})

@@ -1,8 +1,7 @@
 -- The eight kinds of step on the words, and what each changes in the view of the one who makes it.
-use Rattle.std.specs.Prelude.{◌≡◌, ℕ, ◌+◌, ◌-◌, ◌==◌, ◌≤◌, List, [], ◌∷◌, ◌++◌, MatchBool, Some, None}
+use Rattle.std.specs.Prelude.{◌≡◌, ℕ, ◌+◌, ◌-◌, ◌==◌, ◌≤◌, [], ◌∷◌, ◌++◌, MatchBool, Some, None}
 use Rattle.atomic_table.specs.Table.{Step, Me}
 use Rattle.sa_base.specs.declared.limits.TheConstants.{MAX_EVENTS}
-use Rattle.sa_lines.specs.declared.credit.Account.{Account}
 use Rattle.sa_lines.specs.declared.view.Lane.{Lane}
 use Rattle.sa_lines.specs.declared.view.Polled.{Polled}
 use Rattle.sa_lines.specs.declared.view.View.{View}
@@ -10,8 +9,8 @@ use Rattle.sa_lines.specs.declared.view.View.TheVariants.{Keeping, Polling, Spen
 use Rattle.sa_lines.specs.Credit.{applied}
 use Rattle.sa_lines.specs.Words.{changed, proc_of, fresh_polled}
 
--- what the keeper knows of a processor, when n is stored in its line word for a raise, when 0 is, when n is stored
--- in its credit word, and when that is seen to be taken
+-- what the keeper knows of a processor, when n is stored in its line word for a raise, when 0 is,
+-- when n is stored in its credit word, and when that is seen to be taken
 abbrev pub raised : ℕ → Lane → Lane
 raised n lane = record lane { line = n; raised = lane.raised ++ (n - 1) ∷ [] }
 
@@ -69,17 +68,21 @@ module _ {S : Type 0} where
   abbrev pub Grants : Step S → Me S View → ℕ → Me S View → Type 0
   Grants s me n after = Becomes me (on_lane (proc_of s.word) (granted s.first) me.0) after
 
-  -- take: one compare and exchange of that number for 0 in the credit word; where it fails, nothing changes
+  -- take: one compare and exchange of that number for 0 in the credit word; where it fails, nothing
+  -- changes
   abbrev pub Takes : Step S → Me S View → ℕ → Me S View → Type 0
   Takes s me n after =
       MatchBool (n == s.first)
-      (Becomes me (on_poller (taken s.first) me.0) after × ((applied s.first (polled_of me.0).account).count ≤ MAX_EVENTS))
+      (Becomes me (on_poller (taken s.first) me.0) after
+      × ((applied s.first (polled_of me.0).account).count ≤ MAX_EVENTS))
       (Becomes me me.0 after)
 
   -- clear: one load of the credit word; where it reads another number than 0, nothing changes
   abbrev pub Clears : Step S → Me S View → ℕ → Me S View → Type 0
   Clears s me n after =
-      MatchBool (n == 0) (Becomes me (on_lane (proc_of s.word) cleared me.0) after) (Becomes me me.0 after)
+      MatchBool (n == 0)
+      (Becomes me (on_lane (proc_of s.word) cleared me.0) after)
+      (Becomes me me.0 after)
 
 -- split at the making: the next poller leaves the keeper
 abbrev pub left_view : View → View

@@ -1,5 +1,5 @@
 -- The words, what the keeper and the pollers know of them, and the rule.
-use Rattle.std.specs.Prelude.{◌≡◌, ℕ, ◌+◌, ◌*◌, ◌-◌, ◌/◌, ◌<◌, ◌≤◌, ◌==◌, ◌⊎◌, List, [], length, replicate, All, Contains, MatchBool, Option, Some, None, slice_index, slice_index_or, slice_set}
+use Rattle.std.specs.Prelude.{◌≡◌, ℕ, ◌+◌, ◌*◌, ◌/◌, ◌<◌, ◌≤◌, ◌==◌, ◌⊎◌, List, [], length, replicate, All, Contains, MatchBool, Some, None, slice_index, slice_index_or, slice_set}
 use mathlib.Core.Option.{some}
 use lib.ListN.{get_elem?}
 use Rattle.atomic_table.specs.Table.{State}
@@ -44,8 +44,8 @@ first_view processors = Keeping (replicate processors fresh_lane) 0
 abbrev pub IsLineOf : List ℕ → ℕ → Type 0
 IsLineOf raised n = (n ≡ 0) ⊎ ((e : ℕ) × Contains raised e × (n ≡ e + 1))
 
--- the keeper's account and the poller's are the same, or they differ by the number in the credit word,
--- which is the one that the keeper has handed over
+-- the keeper's account and the poller's are the same, or they differ by the number in the credit
+-- word, which is the one that the keeper has handed over
 abbrev pub AreBalanced : ℕ → Lane → Account → Type 0
 AreBalanced credit lane account =
     MatchBool (credit == 0) (lane.account ≡ account)
@@ -84,8 +84,8 @@ split_of (Keeping lanes split) = split
 split_of (Polling p poller) = 0
 split_of Spent = 0
 
--- The view has what the poller of p knows. It is that poller's own; or the keeper's, as long as the poller
--- is not split off, and again once it is joined. A spent view has nothing
+-- The view has what the poller of p knows. It is that poller's own; or the keeper's, as long as the
+-- poller is not split off, and again once it is joined. A spent view has nothing
 abbrev pub Knows : View → ℕ → Polled → Type 0
 Knows (Keeping lanes split) p poller =
     ((split ≤ p) × (poller ≡ fresh_polled)) ⊎ ((lane_at lanes p).joined ≡ Some poller)
@@ -101,13 +101,16 @@ pub record FitsWords (words : List ℕ) (keeper : View) : Type 0 where
 pub record Holds {S : Type 0} (s : State S View) : Type 0 where
   -- there is one keeper's view
   pub keeper : (i : ℕ) × (k : View) × (get_elem? s.views i ≡ some k) × IsKeeping k
-  pub one_keeper : (i j : ℕ) (v w : View) → get_elem? s.views i ≡ some v → get_elem? s.views j ≡ some w
+  pub one_keeper : (i j : ℕ) (v w : View)
+      → get_elem? s.views i ≡ some v → get_elem? s.views j ≡ some w
       → IsKeeping v → IsKeeping w → i ≡ j
   -- there is one view with what the poller of p knows
-  pub one_poller : (i j p : ℕ) (v w : View) (a b : Polled) → get_elem? s.views i ≡ some v → get_elem? s.views j ≡ some w
+  pub one_poller : (i j p : ℕ) (v w : View) (a b : Polled)
+      → get_elem? s.views i ≡ some v → get_elem? s.views j ≡ some w
       → Knows v p a → Knows w p b → i ≡ j
   pub fits : (i : ℕ) (k : View) → get_elem? s.views i ≡ some k → IsKeeping k → FitsWords s.words k
   -- of each processor the words, the keeper and the poller agree
-  pub agree : (i j p : ℕ) (k v : View) (poller : Polled) → get_elem? s.views i ≡ some k → get_elem? s.views j ≡ some v
+  pub agree : (i j p : ℕ) (k v : View) (poller : Polled)
+      → get_elem? s.views i ≡ some k → get_elem? s.views j ≡ some v
       → IsKeeping k → Knows v p poller → p < length (lanes_of k)
       → AgreeAt s.words p (lane_at (lanes_of k) p) poller

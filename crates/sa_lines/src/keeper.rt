@@ -15,8 +15,9 @@ use sa_base::ProcNo;
 use std::marker::Model;
 use std::sync::Wait;
 
-/// The one that raises and lowers the lines, and credits turns and the end. Contracts see the words that it
-/// is of, and what it knows of each processor; between calls nothing is handed over. No call takes memory.
+/// The one that raises and lowers the lines, and credits turns and the end. Contracts see the words
+/// that it is of, and what it knows of each processor; between calls nothing is handed over. No
+/// call takes memory.
 #[derive(Drop)]
 pub struct Keeper {
     seat: Seat<u8, View>,
@@ -78,8 +79,9 @@ impl Keeper {
             .store::<Lower>(&mut self.seat, line_word(p), 0);
     }
 
-    /// Applies a credit to the keeper's account of the poller's processor and to the poller's account. The number
-    /// of the credit goes through the credit word, and the call waits until it was taken.
+    /// Applies a credit to the keeper's account of the poller's processor and to the poller's
+    /// account. The number of the credit goes through the credit word, and the call waits until it
+    /// was taken.
     pub fn credit<R: Wait>(&mut self, rt: &R, words: &LineWords, poller: &mut Poller, what: Credit)
         requires own { self.old.table ≡ words.now }
         requires poller { poller.old.table ≡ words.now }
@@ -126,7 +128,9 @@ fn clear(seat: &mut Seat<u8, View>, words: &LineWords, p: ProcNo) -> bool
     requires word { credit_word p.0 < words.now.words }
     requires keeping { IsKeeping seat.old.me.0 }
     ensures own { seat.new.table_id ≡ seat.old.table_id }
-    ensures cleared { MatchBool result (seat.new.me ≡ (on_lane p.0 cleared seat.old.me.0, seat.old.me.1)) (seat.new.me ≡ seat.old.me) }
+    ensures cleared { MatchBool result
+        (seat.new.me ≡ (on_lane p.0 cleared seat.old.me.0, seat.old.me.1))
+        (seat.new.me ≡ seat.old.me) }
 {
     words.table.shared.load::<Clear>(seat, credit_word(p)) == 0
 }

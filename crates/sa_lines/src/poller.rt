@@ -1,5 +1,6 @@
 // A poller's side of the words.
-ghost use Rattle.std.specs.Prelude.{◌≡◌, ◌+◌, ◌*◌, ◌<◌, ◌≤◌, [], true, false, MatchBool};
+ghost use Rattle.std.specs.Prelude.{◌≡◌, ◌+◌, ◌*◌, ◌<◌, ◌≤◌, [], MatchBool};
+ghost use Rattle.std.specs.Bool.{OnTrue};
 ghost use Rattle.sa_base.specs.declared.limits.TheConstants.{MAX_EVENTS};
 ghost use Rattle.sa_lines.specs.Credit.{fresh_account, applied, credit_of, number_of};
 ghost use Rattle.sa_lines.specs.Words.{credit_word, fresh_polled};
@@ -14,8 +15,9 @@ use sa_base::ProcNo;
 use std::marker::Model;
 use std::sync::Wait;
 
-/// The one that reads the line of a processor, and takes what is credited to it. Contracts see the words that
-/// it is of, its processor, the values that it read, in order, and its account. No call takes memory.
+/// The one that reads the line of a processor, and takes what is credited to it. Contracts see the
+/// words that it is of, its processor, the values that it read, in order, and its account. No call
+/// takes memory.
 #[derive(Drop)]
 pub struct Poller {
     proc: ProcNo,
@@ -90,7 +92,8 @@ impl Poller {
         self.account
     }
 
-    /// Reads the processor's line word: the event at which its line was raised, or `None` exactly where it read 0.
+    /// Reads the processor's line word: the event at which its line was raised, or `None` exactly
+    /// where it read 0.
     pub fn poll(&mut self, words: &LineWords) -> Option<u64>
         requires { self.old.table ≡ words.now }
         ensures { self.new ≡ with_poll result self.old }
@@ -102,7 +105,8 @@ impl Poller {
             .checked_sub(1)
     }
 
-    // Waits until the credit's number stands in the credit word, takes it from there, and applies it.
+    // Waits until the credit's number stands in the credit word, takes it from there, and applies
+    // it.
     pub(crate) fn take<R: Wait>(&mut self, rt: &R, words: &LineWords, what: Credit)
         requires own { self.old.table ≡ words.now }
         requires some { 0 < number_of what }
@@ -121,8 +125,11 @@ fn try_take(seat: &mut Seat<u8, View>, words: &LineWords, p: ProcNo, number: u64
     requires poller { IsPollerOf seat.old.me.0 p.0 }
     requires some { 0 < number }
     ensures own { seat.new.table_id ≡ seat.old.table_id }
-    ensures taken { MatchBool result (seat.new.me ≡ (on_poller (taken number) seat.old.me.0, seat.old.me.1)) (seat.new.me ≡ seat.old.me) }
-    ensures counted { result ≡ true → (applied number (polled_of seat.old.me.0).account).count ≤ MAX_EVENTS }
+    ensures taken { MatchBool result
+        (seat.new.me ≡ (on_poller (taken number) seat.old.me.0, seat.old.me.1))
+        (seat.new.me ≡ seat.old.me) }
+    ensures counted { OnTrue result
+        ((applied number (polled_of seat.old.me.0).account).count ≤ MAX_EVENTS) }
 {
     words
         .table

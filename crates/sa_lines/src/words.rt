@@ -16,9 +16,9 @@ use std::marker::Model;
 // Two words for each of the most processors.
 const MAX_WORDS: usize = 2 * MAX_PROCESSORS as usize;
 
-/// A line word and a credit word for each processor, which threads share. The line word is 0 for low, and
-/// e + 1 says that the line was raised at event e. The credit word is 0 where nothing is handed over.
-/// Contracts see the words as the name of their table.
+/// A line word and a credit word for each processor, which threads share. The line word is 0 for
+/// low, and e + 1 says that the line was raised at event e. The credit word is 0 where nothing is
+/// handed over. Contracts see the words as the name of their table.
 #[derive(Drop)]
 pub struct LineWords {
     pub(crate) table: Table<u8, View, u16, Rule, Global>,
@@ -38,8 +38,8 @@ impl Model for LineWords {
 }
 
 impl LineWords {
-    /// The words for 1 to 16 processors, all lines low and nothing handed over, with their keeper and a poller
-    /// for each processor, in order.
+    /// The words for 1 to 16 processors, all lines low and nothing handed over, with their keeper
+    /// and a poller for each processor, in order.
     pub fn new(
         alloc: Global,
         processors: u16,
@@ -57,8 +57,8 @@ impl LineWords {
         Ok((words, Keeper::of(seat), pollers))
     }
 
-    /// Ends the words. Each poller that was joined to the keeper has the keeper's account, and read nothing but 0
-    /// and events at which the keeper raised its line.
+    /// Ends the words. Each poller that was joined to the keeper has the keeper's account, and read
+    /// nothing but 0 and events at which the keeper raised its line.
     pub fn close(self, keeper: Keeper)
         requires { keeper.table ≡ self }
         ensures { All IsSettled keeper.lanes }
@@ -93,7 +93,8 @@ fn split_all(
     requires size { words.now.words ≡ 2 * processors }
     requires fresh { seat.old.me ≡ (Keeping (replicate processors fresh_lane) 0, []) }
     ensures own { seat.new.table_id ≡ seat.old.table_id }
-    ensures keeper { IfOk result (λ _. seat.new.me ≡ (Keeping (replicate processors fresh_lane) processors, [])) }
+    ensures keeper { IfOk result
+        (λ _. seat.new.me ≡ (Keeping (replicate processors fresh_lane) processors, [])) }
     ensures pollers { IfOk result (λ pollers. pollers.items ≡ fresh_pollers words.now processors) }
 {
     let mut pollers = Vec::with_capacity(alloc, processors as usize)?;

@@ -1,4 +1,4 @@
-use Rattle.std.proofs.Common.{◌≡◌, ◌+◌, ◌*◌, ◌<◌, sym, ◌∙◌, ap, arith}
+use Rattle.std.proofs.Common.{sym, ◌∙◌, ap, arith}
 use Rattle.atomic_table.specs.Seated.{TableId}
 use Rattle.sa_lines.proofs.Steps.{take_allows}
 use Rattle.sa_lines.proofs.poller.try_take.Goals as goal

@@ -1,4 +1,4 @@
-use Rattle.std.proofs.Common.{◌≡◌, ◌+◌, ◌*◌, ◌<◌, List, ℕ, replicate, sym, ◌∙◌, ap, arith, subst}
+use Rattle.std.proofs.Common.{List, ℕ, replicate, sym, ◌∙◌, ap, arith, subst}
 use Rattle.atomic_table.specs.Seated.{TableId}
 use Rattle.atomic_table.specs.Table.{Splits}
 use Rattle.sa_lines.specs.declared.view.View.{View}

@@ -1,9 +1,8 @@
-use Rattle.std.proofs.Common.{◌≡◌, ◌+◌, ◌*◌, ◌<◌, List, ℕ, length, sym, ◌∙◌, ap, arith, subst}
+use Rattle.std.proofs.Common.{◌≡◌, ◌<◌, List, ℕ, length, ◌∙◌, ap, arith}
 use Rattle.atomic_table.specs.Seated.{TableId}
 use Rattle.sa_base.specs.declared.number.ProcNo.{ProcNo}
-use Rattle.sa_lines.specs.declared.view.Lane.{Lane}
 use Rattle.sa_lines.specs.declared.view.View.{View}
-use Rattle.sa_lines.specs.Words.{lanes_of, changed, credit_word}
+use Rattle.sa_lines.specs.Words.{lanes_of, changed}
 use Rattle.sa_lines.specs.Seen.{KeeperSeen, credited_lane}
 use Rattle.sa_lines.proofs.Credits.{grants, credits, lanes_on}
 use Rattle.sa_lines.proofs.keeper.Keeper.credit.Goals as goal

@@ -1,4 +1,4 @@
-use Rattle.std.proofs.Common.{◌≡◌, ◌+◌, ◌*◌, ◌<◌, sym, ◌∙◌, ap, arith}
+use Rattle.std.proofs.Common.{◌≡◌, ◌<◌, sym, ◌∙◌, ap, arith}
 use Rattle.sa_lines.specs.Words.{lanes_of, credit_word}
 use Rattle.sa_lines.specs.Seen.{KeeperSeen}
 use Rattle.sa_lines.proofs.Steps.{raise_allows, words_inside}

@@ -1,4 +1,4 @@
-use Rattle.std.proofs.Common.{◌≡◌, ◌+◌, ◌*◌, ◌≤◌, zero, suc, ℕ, length, take, replicate, slice_index, refl, arith}
+use Rattle.std.proofs.Common.{◌≡◌, ◌*◌, zero, suc, ℕ, take, replicate, slice_index, refl, arith}
 use Rattle.std.proofs.lemmas.List.{length-take}
 use Rattle.sa_lines.proofs.Ends.{opens}
 use Rattle.sa_lines.proofs.words.LineWords.new.Goals as goal
