@@ -1,5 +1,5 @@
 // A keeper under a lock, and a watcher with a poller for each processor, all of the same words.
-ghost use Rattle.std.specs.Prelude.{◌≡◌, ◌+◌, ◌≤◌, ◌<◌, All, length, vec_len, IfOk};
+ghost use Rattle.std.specs.Prelude.{◌≡◌, ℕ, ◌+◌, ◌≤◌, ◌<◌, length};
 ghost use Rattle.atomic_table.specs.Seated.{TableId};
 ghost use Rattle.sa_base.specs.declared.limits.TheConstants.{MAX_EVENTS, MAX_PROCESSORS};
 ghost use Rattle.sa_lines.specs.Seen.{fresh_keeper, fresh_pollers};
