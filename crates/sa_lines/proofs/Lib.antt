@@ -1,0 +1,4 @@
+pub mod Agreeing
+pub mod Steps
+pub mod Ends
+pub mod Credits

@@ -1,0 +1,4 @@
+pub mod Credit
+pub mod Words
+pub mod Steps
+pub mod Seen
