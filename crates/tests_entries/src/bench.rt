@@ -1,10 +1,10 @@
 // A kernel whose contexts are numbers, with its trace: an entry that does not fit is refused.
 ghost use Rattle.std.specs.Prelude.{◌≡◌, ◌<◌, [], IsTrue, IfSome};
-ghost use Rattle.sa_kernel.specs.Kept.{kernel_of, processors, IsFit, FitsMore, FitsOwn};
+ghost use Rattle.sa_kernel.specs.Kept.{kernel_of, processors, IsFit, FitsComplete, FitsMore, FitsOwn};
 ghost use Rattle.sa_kernel.specs.Entries.{IsOwnPage};
 ghost use Rattle.tests_entries.specs.Asks.{AsksFor};
 
-use sa_base::{End, MAX_EVENTS, Note, ProcNo, Stopped, ThreadNo, Trace};
+use sa_base::{End, IoNo, MAX_EVENTS, Note, ProcNo, Stopped, ThreadNo, Trace};
 use sa_kernel::{Entry, Given, Kernel};
 use sa_trace::{last_line, print};
 use sa_workload::read;
@@ -12,8 +12,32 @@ use std::alloc::Global;
 use std::process::Abort;
 use std::test::Fail;
 
+// What a turn does.
+#[derive(Clone, Copy)]
+pub(crate) enum Does {
+    // No context ran.
+    Interrupt,
+    // The context of this thread ran, or one without a thread, which was idle.
+    Stop(Option<u16>),
+    // The context of this thread blocks for so many events.
+    Block(u16, u32),
+    Complete(u32),
+    More(u16),
+    Idle,
+    SliceEnd,
+}
+
+// A turn, and what is fetched behind it.
+#[derive(Clone, Copy)]
+pub(crate) struct Turn {
+    pub(crate) event: u64,
+    pub(crate) p: ProcNo,
+    pub(crate) does: Does,
+    pub(crate) told: &'static [(Note, Option<u64>)],
+}
+
 // The context of a thread, or of none where it was idle: the number is the thread's.
-pub(crate) fn context(thread: Option<u16>) -> Stopped<u64> {
+fn context(thread: Option<u16>) -> Stopped<u64> {
     Stopped {
         ctx: thread.map_or(100, u64::from),
         thread: thread.map(ThreadNo),
@@ -21,12 +45,20 @@ pub(crate) fn context(thread: Option<u16>) -> Stopped<u64> {
     }
 }
 
-// The context of a thread that blocks for so many events, for an I/O or for a page.
-pub(crate) fn block(thread: u16, length: u32, page: Option<u16>) -> Entry<u64> {
-    Entry::Block {
-        held: context(Some(thread)),
-        length,
-        page,
+// The entry of a turn, if it is one.
+fn entry_of(does: Does) -> Option<Entry<u64>> {
+    match does {
+        Does::Interrupt => Some(Entry::Interrupt(None)),
+        Does::Stop(thread) => Some(Entry::Interrupt(Some(context(thread)))),
+        Does::Block(thread, length) => Some(Entry::Block {
+            held: context(Some(thread)),
+            length,
+            page: None,
+        }),
+        Does::Complete(io) => Some(Entry::Complete(IoNo(io))),
+        Does::More(n) => Some(Entry::More(n)),
+        Does::Idle => Some(Entry::Idle),
+        Does::SliceEnd => None,
     }
 }
 
@@ -60,6 +92,17 @@ fn can_interrupt(kernel: &Kernel<u64>, p: ProcNo, q: ProcNo) -> bool
         && kernel.owner(q) == kernel.owner(p)
 }
 
+// Whether this is the I/O that is due.
+fn can_complete(kernel: &Kernel<u64>, p: ProcNo, event: u64, io: IoNo) -> bool
+    requires { p.0 < processors kernel.now }
+    ensures { IsTrue result → FitsComplete (kernel_of kernel.now) p event io }
+{
+    let Some(due) = kernel.due(event) else {
+        return false;
+    };
+    due.0 == io.0 && kernel.line(p).is_none()
+}
+
 // Whether the entry fits the processor at the event, as the getters show it.
 fn fits(kernel: &Kernel<u64>, p: ProcNo, event: u64, entry: &Entry<u64>) -> bool
     requires { p.0 < processors kernel.now }
@@ -70,7 +113,7 @@ fn fits(kernel: &Kernel<u64>, p: ProcNo, event: u64, entry: &Entry<u64>) -> bool
             kernel.line(p).is_some() && held.is_some() == kernel.owner(p).is_some()
         }
         Entry::Block { page, .. } => asks(kernel, p) && is_own_page(*page),
-        Entry::Complete(io) => kernel.line(p).is_none() && kernel.due(event) == Some(*io),
+        Entry::Complete(io) => can_complete(kernel, p, event, *io),
         Entry::More(n) => can_want(kernel, p, event, *n),
         Entry::Idle => asks(kernel, p) && kernel.seen(p, event).demand >= 1,
         Entry::GiveBack => asks(kernel, p) && kernel.seen(p, event).taken >= 1,
@@ -123,30 +166,32 @@ impl Bench {
         Ok(Some(self.kernel.enter(p, event, entry, &mut self.trace)))
     }
 
-    // The entry fits.
-    pub(crate) fn enter(
-        &mut self,
-        rt: &impl Abort,
-        event: u64,
-        p: u16,
-        entry: Entry<u64>,
-    ) -> Result<(), Fail> {
-        let given = self.try_enter(event, ProcNo(p), entry)?;
-        assert!(rt; given.is_some(), "at event {event}");
-        Ok(())
+    // The turn fits, and tells what is said.
+    pub(crate) fn turn(&mut self, rt: &impl Abort, turn: Turn) -> Result<(), Fail> {
+        self.kernel.evict(turn.event);
+        match entry_of(turn.does) {
+            None => self.slice_end(rt, turn.event, turn.p)?,
+            Some(entry) => {
+                let given = self.try_enter(turn.event, turn.p, entry)?;
+                assert!(rt; given.is_some(), "at event {}", turn.event);
+            }
+        }
+        self.told(rt, turn.told)
     }
 
     // A slice ends at the event.
-    pub(crate) fn slice_end(&mut self, rt: &impl Abort, event: u64, p: u16) -> Result<(), Fail> {
+    pub(crate) fn slice_end(&mut self, rt: &impl Abort, event: u64, p: ProcNo) -> Result<(), Fail> {
         self.trace.reserve(self.kernel.need())?;
-        let can = p < self.kernel.processors() && event > self.kernel.last_event() && event <= MAX_EVENTS;
+        let can = p.0 < self.kernel.processors()
+            && event > self.kernel.last_event()
+            && event <= MAX_EVENTS;
         assert!(rt; can, "at event {event}");
-        self.kernel.slice_end(ProcNo(p), event, &mut self.trace);
+        self.kernel.slice_end(p, event, &mut self.trace);
         Ok(())
     }
 
     // The last upcall told these notices, with these contexts.
-    pub(crate) fn told(&mut self, rt: &impl Abort, notes: &[(Note, Option<u64>)]) -> Result<(), Fail> {
+    fn told(&mut self, rt: &impl Abort, notes: &[(Note, Option<u64>)]) -> Result<(), Fail> {
         for (note, ctx) in notes {
             let told = self.kernel.next_note();
             let told = told.map(|(note, held)| (note, held.map(|held| held.ctx)));

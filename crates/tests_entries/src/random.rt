@@ -4,7 +4,7 @@ ghost use Rattle.sa_kernel.specs.Kept.{processors};
 
 use crate::bench::Bench;
 use sa_base::{MAX_EVENTS, ProcNo, Stopped, ThreadNo};
-use sa_kernel::{Entry, Kernel};
+use sa_kernel::{Entry, Given, Kernel};
 use sa_trace::kind_counts;
 use std::process::Abort;
 use std::test::Fail;
@@ -14,7 +14,8 @@ const EVENTS: u16 = 3000;
 const SLICE: u64 = 50;
 
 // Three spaces, of which the last comes first, on four processors; upcall pages go away now and then.
-const TEXT: &str = "workload 2\nprocessors 4\nfetch 3\nslice 50\nspaces 3\nspace 0 0 0 0 1\nprogram 1\nend\nspace 0 0 0 0 1\nabsent 0\nprogram 1\nend\nspace 3 0 0 0 1\nprogram 1\nend\nevict 100 0 0\nevict 300 2 0\nevict 700 1 0\nevict 900 0 0\nevict 1500 2 0\nevict 2100 0 0\nclose\n";
+const TEXT: &str =
+    "workload 2\nprocessors 4\nfetch 3\nslice 50\nspaces 3\nspace 0 0 0 0 1\nprogram 1\nend\nspace 0 0 0 0 1\nabsent 0\nprogram 1\nend\nspace 3 0 0 0 1\nprogram 1\nend\nevict 100 0 0\nevict 300 2 0\nevict 700 1 0\nevict 900 0 0\nevict 1500 2 0\nevict 2100 0 0\nclose\n";
 
 // Numbers that look random.
 #[derive(Clone, Copy)]
@@ -96,7 +97,10 @@ fn look_at(rt: &impl Abort, kernel: &Kernel<u64>, event: u64, p: ProcNo) -> Resu
         return Ok(());
     }
     let seen = kernel.seen(p, event);
-    assert!(rt; seen.demand <= kernel.processors(), "demand at event {event}");
+    assert!(rt;
+        seen.demand <= kernel.processors(),
+        "demand at event {event}"
+    );
     for q in 0..kernel.processors() {
         let low = kernel.owner(ProcNo(q)) == owner && kernel.line(ProcNo(q)).is_none();
         assert_eq!(rt; seen.low >> q & 1 == 1, low, "low lines at event {event}");
@@ -107,22 +111,29 @@ fn look_at(rt: &impl Abort, kernel: &Kernel<u64>, event: u64, p: ProcNo) -> Resu
 // Nothing is due, and no line is raised, where the kernel is quiet.
 fn look(rt: &impl Abort, kernel: &Kernel<u64>, event: u64) -> Result<(), Fail> {
     let quiet = kernel.quiet();
-    assert!(rt; !quiet || kernel.due(2 * MAX_EVENTS).is_none(), "due at event {event}");
+    assert!(rt;
+        !quiet || kernel.due(2 * MAX_EVENTS).is_none(),
+        "due at event {event}"
+    );
     for p in 0..kernel.processors() {
-        assert!(rt; !quiet || kernel.line(ProcNo(p)).is_none(), "a line at event {event}");
+        assert!(rt;
+            !quiet || kernel.line(ProcNo(p)).is_none(),
+            "a line at event {event}"
+        );
         look_at(rt, kernel, event, ProcNo(p))?;
     }
     Ok(())
 }
 
-// What the last upcall told is fetched: each context comes back once, as it was handed over.
-fn fetch(rt: &impl Abort, bench: &mut Bench, out: &mut Vec<bool>) -> Result<u64, Fail> {
-    let mut told = 0;
+// What the last upcall told is fetched: each context comes back once, as it was handed over. Answers whether something
+// was told.
+fn fetch(rt: &impl Abort, bench: &mut Bench, out: &mut Vec<bool>) -> Result<bool, Fail> {
+    let mut told = false;
     for _ in 0..EVENTS {
         let Some((_, held)) = bench.kernel.next_note() else {
             return Ok(told);
         };
-        told += 1;
+        told = true;
         if let Some(held) = held {
             let place = out.get_mut(held.ctx as usize);
             assert_eq!(rt; place.as_deref(), Some(&true), "context {}", held.ctx);
@@ -135,7 +146,13 @@ fn fetch(rt: &impl Abort, bench: &mut Bench, out: &mut Vec<bool>) -> Result<u64,
 }
 
 // One turn: the entry, where it fits; whether it upcalled.
-fn turn(rt: &impl Abort, bench: &mut Bench, dice: &mut Dice, event: u64, out: &mut Vec<bool>) -> Result<(), Fail> {
+fn turn(
+    rt: &impl Abort,
+    bench: &mut Bench,
+    dice: &mut Dice,
+    event: u64,
+    out: &mut Vec<bool>,
+) -> Result<(), Fail> {
     bench.kernel.evict(event);
     let p = ProcNo(dice.roll(4) as u16);
     if p.0 >= bench.kernel.processors() {
@@ -153,11 +170,15 @@ fn turn(rt: &impl Abort, bench: &mut Bench, dice: &mut Dice, event: u64, out: &m
             *place = false;
         }
         if event % SLICE == 0 {
-            bench.slice_end(rt, event, p.0)?;
+            bench.slice_end(rt, event, p)?;
         }
     }
     let told = fetch(rt, bench, out)?;
-    assert_eq!(rt; told > 0, matches!(given, Some(sa_kernel::Given::Upcall(_))), "told at event {event}");
+    assert_eq!(rt;
+        told,
+        matches!(given, Some(Given::Upcall(_))),
+        "told at event {event}"
+    );
     look(rt, &bench.kernel, event)
 }
 
@@ -175,7 +196,10 @@ fn random_entries(rt: HostRuntime) -> Result<(), Fail> {
         }
         let counts = kind_counts(bench.trace.items());
         for kind in [3, 4, 5, 11, 12, 13, 14, 15, 16, 17, 18, 19] {
-            assert!(rt; counts[kind] > 0, "no record of kind {kind} with seed {seed}");
+            assert!(rt;
+                counts[kind] > 0,
+                "no record of kind {kind} with seed {seed}"
+            );
         }
     }
     Ok(())
