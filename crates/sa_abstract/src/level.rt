@@ -26,7 +26,7 @@ pub trait UserLevel: Sized + Drop + Send {
     ghost stands: { Standing Self Self.Ctx };
 
     /// The user level of a space: thread 0 is ready, and nothing runs. Fails only where memory runs out. No other call
-    /// takes memory.
+    /// can fail so.
     fn start(
         alloc: Global,
         space: SpaceNo,

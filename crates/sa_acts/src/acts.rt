@@ -19,7 +19,8 @@ pub struct Act<C> {
     pub taken: bool,
 }
 
-/// The activations whose numbers are in use, and room for some more, which `reserve` makes. No other call takes memory.
+/// The activations whose numbers are in use, and room for some more, which `reserve` makes. No other call can fail for
+/// want of memory.
 #[derive(Debug, Drop)]
 pub struct Acts<C: Drop> {
     slots: Slab<Act<C>>,

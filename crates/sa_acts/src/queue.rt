@@ -5,7 +5,7 @@ use std::alloc::{AllocError, Global};
 use std::collections::VecDeque;
 use std::marker::Model;
 
-// Numbers of activations, in the order in which they were taken. Only `reserve` takes memory.
+// Numbers of activations, in the order in which they were taken. Only `reserve` can fail for want of memory.
 #[derive(Debug, Drop)]
 pub(crate) struct Queue {
     numbers: VecDeque<ActNo>,

@@ -2,7 +2,7 @@
 use Rattle.std.specs.Prelude.{ℕ}
 use Rattle.sa_base.specs.declared.refusal.Bad.{Bad}
 use Rattle.sa_base.specs.declared.refusal.Cause.{Cause}
-use Rattle.sa_base.specs.declared.refusal.Cause.TheVariants.{NotAscii, BadWord, BadNumber, OutOfRange, Twice, NoSuchName, BadTarget, TooMany, Missing, NotBuilt}
+use Rattle.sa_base.specs.declared.refusal.Cause.TheVariants.{NotAscii, BadWord, BadNumber, OutOfRange, Twice, NoSuchName, BadTarget, TooMany, Missing}
 
 -- the number of a cause
 abbrev pub cause_number : Cause → ℕ
@@ -15,7 +15,6 @@ cause_number NoSuchName = 6
 cause_number BadTarget = 7
 cause_number TooMany = 8
 cause_number Missing = 9
-cause_number NotBuilt = 10
 
 -- a line is refused for a cause
 abbrev pub bad_at : ℕ → Cause → Bad

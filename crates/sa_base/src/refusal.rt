@@ -27,12 +27,10 @@ pub enum Cause {
     TooMany = 8,
     /// A word, a line or the end of a line is missing.
     Missing = 9,
-    /// The text is right, but what it asks for is not built yet.
-    NotBuilt = 10,
 }
 
 impl Cause {
-    /// The number of the cause, from 1 to 10.
+    /// The number of the cause, from 1 to 9.
     pub fn number(self) -> u8
         ensures { result ≡ cause_number self }
     {

@@ -24,7 +24,7 @@ impl Model for Trace {
 }
 
 impl Trace {
-    /// An empty trace, which takes no memory.
+    /// An empty trace. It cannot fail for want of memory.
     pub fn new(alloc: Global) -> Self
         ensures items { result.items ≡ [] }
         ensures spare { result.spare ≡ 0 }
@@ -49,7 +49,7 @@ impl Trace {
         Ok(())
     }
 
-    /// Appends an item, for which there is room. It takes no memory.
+    /// Appends an item, for which there is room. It cannot fail for want of memory.
     pub fn add(&mut self, item: Item)
         requires { 1 ≤ self.old.spare }
         ensures items { self.new.items ≡ self.old.items ++ item ∷ [] }

@@ -8,7 +8,8 @@ use std::marker::Model;
 /// How many notices a batch holds in itself: few wait at a time.
 const INLINE: usize = 8;
 
-/// Notices that wait to be told, and room for some more, which `reserve` makes. No other call takes memory.
+/// Notices that wait to be told, and room for some more, which `reserve` makes. No other call can fail for
+/// want of memory.
 #[derive(Debug, Drop)]
 pub struct Batch {
     notes: SmallVec<Note, INLINE>,

@@ -10,7 +10,8 @@ use crate::state::{Frame, MicroDone, PackageState};
 use sa_base::{Item, PACKAGE_PAGE, ProcNo, Record, Seen, ThreadNo, Trace};
 use sa_lists::ReadyLists;
 
-/// Does the operation at the frame's place, and adds its record, for which the trace has room. It takes no memory.
+/// Does the operation at the frame's place, and adds its record, for which the trace has room. It cannot fail for want
+/// of memory.
 ///
 /// `Spun` comes exactly where a take finds the lock held, `Faulted` exactly where an effect finds the package's page
 /// absent, `Left` exactly at a `Leave`, `Yielded` exactly at a `Yield`.

@@ -6,7 +6,7 @@ ghost use Rattle.sa_copies.specs.Copies.{copied, with_copies, package_ops, is_in
 
 use sa_code::{CODE_PLACES, Code, Op};
 
-/// The code with a copy of each section behind it, each copy ending in `Yield`. It takes no memory.
+/// The code with a copy of each section behind it, each copy ending in `Yield`. It cannot fail for want of memory.
 pub fn make_copies(code: &Code) -> Code
     requires { code.now ≡ routine_ops }
     ensures { result ≡ with_copies code.now }

@@ -77,7 +77,7 @@ impl Devices {
     }
 
     /// Begins an I/O that is due `len` events behind `event`, and answers its number, which is how many were
-    /// begun before. There is room for it, and it takes no memory.
+    /// begun before. There is room for it, so it cannot fail for want of memory.
     pub fn begin(&mut self, kind: IoKind, event: u64, len: u32) -> IoNo
         requires room { 1 ≤ self.old.ios.spare }
         requires event { event ≤ MAX_EVENTS }

@@ -52,7 +52,7 @@ impl UnderWay {
     ghost use Rattle.sa_devices.specs.DevicesView.{IosView, begun_with, ended_with};
     ghost use Rattle.sa_devices.specs.Ios.{Io, due_of, io_at, io_no};
 
-    /// No I/O was begun. It takes no memory.
+    /// No I/O was begun. It cannot fail for want of memory.
     pub fn new(alloc: Global) -> Self
         ensures { let none : IosView = record { begun = 0; under_way = []; spare = 0 } in
             result ≡ none }
@@ -79,7 +79,7 @@ impl UnderWay {
         Ok(())
     }
 
-    /// Begins an I/O that is due from the event `ends` on, and answers its number. It takes no memory.
+    /// Begins an I/O that is due from the event `ends` on, and answers its number. It cannot fail for want of memory.
     pub fn begin(&mut self, kind: IoKind, ends: u64) -> IoNo
         requires room { 1 ≤ self.old.spare }
         requires few { self.old.begun < 2 ^ 32 }

@@ -33,7 +33,7 @@ pub enum Ran {
 pub const NOT_MADE: u64 = u64::MAX;
 
 /// Runs the next instruction of thread `t`, whose context has the work list `work`, and adds its records, at most two,
-/// for which the trace has room. The fetch of a page takes `fetch` events. It takes no memory.
+/// for which the trace has room. The fetch of a page takes `fetch` events. It cannot fail for want of memory.
 pub fn run(
     def: &SpaceDef,
     fetch: u32,

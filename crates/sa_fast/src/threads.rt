@@ -63,7 +63,7 @@ pub struct Block {
 
 /// The blocks of the 512 threads that a space can have, by their numbers.
 ///
-/// Each call but `new` takes constant time and no memory.
+/// Each call but `new` takes constant time and cannot fail for want of memory.
 #[derive(Debug, Drop)]
 pub struct Threads {
     blocks: Vec<Block>,

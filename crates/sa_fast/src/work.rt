@@ -11,7 +11,7 @@ use std::marker::Model;
 /// The work lists of a space's contexts: the threads that each has still to make ready.
 ///
 /// A context names its list by the first thread in it, and names none while its list is empty. Each call but `new`
-/// takes constant time and no memory.
+/// takes constant time and cannot fail for want of memory.
 #[derive(Debug, Drop)]
 pub struct WorkLists {
     // a list that is not empty has the number of its first thread

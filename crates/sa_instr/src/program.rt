@@ -29,7 +29,7 @@ impl Model for Program {
 }
 
 impl Program {
-    /// The program of these instructions. It takes no memory.
+    /// The program of these instructions. It cannot fail for want of memory.
     ///
     /// `None` exactly where their number is not 1 to 4,096, the last is not `End`, a jump goes to no
     /// place of theirs, or the number of an `Io` or a `Touch` is out of its range.

@@ -39,7 +39,7 @@ impl Model for SpaceDef {
 }
 
 impl SpaceDef {
-    /// A space of patience 1. It takes no memory.
+    /// A space of patience 1. It cannot fail for want of memory.
     ///
     /// `None` exactly where one of these is broken: the priority is 0 to 7; there are 0 to 64 mutexes,
     /// semaphores and cells each, and 1 to 256 programs; a semaphore starts with 0 to 1,000,000; the absent
@@ -87,7 +87,7 @@ impl SpaceDef {
         })
     }
 
-    /// The space with this patience. It takes no memory.
+    /// The space with this patience. It cannot fail for want of memory.
     ///
     /// `None` exactly where the patience is not 1 to 1,000.
     pub fn with_patience(mut self, patience: u16) -> Option<SpaceDef>

@@ -96,7 +96,7 @@ impl Model for Workload {
 impl Workload {
     ghost use Rattle.sa_instr.specs.Workload.{WorkloadView, IsWorkload, IsEviction, IsBefore};
 
-    /// A workload of slice 0. It takes no memory.
+    /// A workload of slice 0. It cannot fail for want of memory.
     ///
     /// `None` exactly where one of these is broken: there are 1 to 16 processors and 1 to 16 spaces; a fetch
     /// takes 1 to 1,000 events; there are at most 4,096 evictions, each of an event from 1 to 1,000,000, of
@@ -135,7 +135,7 @@ impl Workload {
         })
     }
 
-    /// The workload with this slice. It takes no memory.
+    /// The workload with this slice. It cannot fail for want of memory.
     ///
     /// `None` exactly where the slice is above 1,000,000.
     pub fn with_slice(mut self, slice: u32) -> Option<Workload>

@@ -143,7 +143,7 @@ impl Model for MemSink {
 }
 
 impl MemSink {
-    /// A sink that holds at most `room` bytes, all reserved here, so that no write takes memory. The
+    /// A sink that holds at most `room` bytes, all reserved here, so that no write fails for want of memory. The
     /// writes whose numbers, from 1 on, are in `failing` fail, as does one whose piece does not fit.
     pub fn new(alloc: Global, room: usize, failing: Vec<u64>) -> Result<MemSink, AllocError>
         ensures { IfOk result (λ sink. sink ≡ record {

@@ -12,7 +12,7 @@ use std::alloc::{AllocError, Global};
 use std::marker::Model;
 
 /// The notices of each space that it was not told yet, and those that the last upcall told, as far as its context has
-/// not fetched them. Only `new` and `reserve` take memory.
+/// not fetched them. Only `new` and `reserve` can fail for want of memory.
 #[derive(Debug, Drop)]
 pub(crate) struct Notices {
     untold: Vec<Batch>,

@@ -17,7 +17,7 @@ use std::sync::Wait;
 
 /// The one that raises and lowers the lines, and credits turns and the end. Contracts see the words
 /// that it is of, and what it knows of each processor; between calls nothing is handed over. No
-/// call takes memory.
+/// call can fail for want of memory.
 #[derive(Drop)]
 pub struct Keeper {
     seat: Seat<u8, View>,

@@ -17,7 +17,7 @@ use std::sync::Wait;
 
 /// The one that reads the line of a processor, and takes what is credited to it. Contracts see the
 /// words that it is of, its processor, the values that it read, in order, and its account. No call
-/// takes memory.
+/// can fail for want of memory.
 #[derive(Drop)]
 pub struct Poller {
     proc: ProcNo,

@@ -11,7 +11,7 @@ use std::marker::Model;
 /// Disjoint lists of node numbers, in one block of nodes that are linked in place.
 ///
 /// Nodes and lists are numbered from 0, each below a count that `new` is given. A node stands in at most one
-/// list. Every call takes constant time, and none but `new` takes memory.
+/// list. Every call takes constant time, and none but `new` can fail for want of memory.
 #[derive(Debug, Drop)]
 pub struct Links {
     // the nodes, and behind them the heads of the lists

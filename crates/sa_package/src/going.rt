@@ -15,7 +15,8 @@ use sa_fast::Block;
 use sa_instr::{Program, local};
 
 impl FastThreads {
-    /// The context's thread runs `n` local instructions, one in each event from `seen.event` on. It takes no memory.
+    /// The context's thread runs `n` local instructions, one in each event from `seen.event` on. It cannot fail
+    /// for want of memory.
     pub fn went(&mut self, seen: &Seen, ctx: &Context, n: u16, trace: &mut Trace)
         requires can { CanGo self.old ctx.now }
         requires room { n ≤ trace.old.spare }

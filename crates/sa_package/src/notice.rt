@@ -17,7 +17,7 @@ use sa_fast::Place;
 
 impl FastThreads {
     /// The context is told a notice of its upcall. With `Preempted` and `Unblocked` comes the context that was stopped or
-    /// unblocked, which it takes over. It takes no memory.
+    /// unblocked, which it takes over. It cannot fail for want of memory.
     pub fn told(&mut self, ctx: &mut Context, note: Note, held: Option<Stopped<Context>>)
         requires { CanBeTold self.old ctx.old note held }
         ensures { (self.new, ctx.new) ≡ told self.old ctx.old note held }

@@ -16,7 +16,7 @@ use std::alloc::{AllocError, Global};
 impl FastThreads {
     /// The package of a space at its opening: thread 0 is ready in list 0, and all locks are free. The space has so many
     /// processors at most, 1 to 16, and the fetch of a page takes `fetch` events, 1 to 1,000. Fails only where memory
-    /// runs out; no other call takes memory.
+    /// runs out; no other call can fail so.
     pub fn start(
         alloc: Global,
         space: SpaceNo,

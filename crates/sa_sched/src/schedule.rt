@@ -27,7 +27,7 @@ enum Order {
     },
 }
 
-/// Whose turn each event is. It takes no memory.
+/// Whose turn each event is. It cannot fail for want of memory.
 #[derive(Debug, Drop)]
 pub struct Schedule {
     order: Order,

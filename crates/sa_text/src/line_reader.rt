@@ -17,7 +17,7 @@ pub struct Line {
     pub ended: bool,
 }
 
-/// A reader of the lines of a text. It takes no memory.
+/// A reader of the lines of a text. It cannot fail for want of memory.
 ///
 /// A line feed ends a line, and what stands behind the last one is a line where it is not empty.
 #[derive(Debug, Drop)]

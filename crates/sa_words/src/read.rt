@@ -7,7 +7,7 @@ use crate::value::{read_any, read_within};
 use crate::words::Words;
 use sa_base::{DEFAULT_BUDGET, MAX_EVENTS};
 
-/// The command that the words are: `None` exactly where they are none. It takes no memory.
+/// The command that the words are: `None` exactly where they are none. It cannot fail for want of memory.
 pub fn read_words(words: &Words) -> Option<Command>
     ensures { result ≡ command_of words.now }
 {
