@@ -4,9 +4,10 @@ ghost use Rattle.sa_base.specs.declared.record.Item.{Item};
 ghost use Rattle.sa_instr.specs.Workload.{WorkloadView};
 ghost use Rattle.sa_laws.specs.Event.{Event, items_of, events_of};
 ghost use Rattle.sa_laws.specs.Readings.{Readings, opening_readings};
-ghost use Rattle.sa_laws.specs.History.{is_inside, after_events};
+ghost use Rattle.sa_laws.specs.History.{is_inside, after_events, readings};
 ghost use Rattle.sa_laws.specs.Rules.{fast_threads};
 ghost use Rattle.sa_legal.specs.Legal.{IsLegal, IsLegalHistory};
+ghost use Rattle.sa_legal.specs.Read.{Reads};
 ghost use Rattle.sa_legal.specs.Fold.{AreLawful, AreNumbered};
 
 /// The history of a trace has its items, and no others.
@@ -30,4 +31,11 @@ pub fn laws_hold_along_histories()
         → AreLawful fast_threads w r before
         → AreLawful fast_threads w (after_events is_inside w r before) more
         → AreLawful fast_threads w r (before ++ more) }
+{}
+
+/// What the fold reads off a legal trace as owners, aims, demands, fetches, raised lines and untold records is what the
+/// plain words say.
+pub fn legal_traces_are_read()
+    ensures { (w : WorkloadView) (items : List Item) → IsLegal fast_threads w items
+        → Reads w items (readings is_inside w (events_of items)) }
 {}
