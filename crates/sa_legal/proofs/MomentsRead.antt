@@ -189,7 +189,7 @@ reads-start w = record {
 pub legal-reads : (u : UserRules) (w : WorkloadView) (items : List Item) → IsLegal u w items → Reads w items (readings u.inside w (events_of items))
 legal-reads u w items legal =
     let gives : (r : Readings) (e : Event) → IsLawful u w r e → EachRecord (OnMachine w e.proc) w e.number e.proc (begun w e r) e.records =
-        λ r e lawful. on-machine w e.proc e.number (begun w e r) e.records lawful.0.proc in
+    λ r e lawful. on-machine w e.proc e.number (begun w e r) e.records lawful.0.proc in
     let law = along u w (OnMachine w) gives (opening_readings w) (events_of items) (legal-lawful u w items legal) in
     let read = (walk u.inside w (OnMachine w) (Reads w) (ReadsIn w) Any (reads-kept u.inside w) [] (opening_readings w) (events_of items) (reads-start w) law).0 in
     subst (λ (ys : List Item). Reads w ys (readings u.inside w (events_of items))) (items-events items) read
