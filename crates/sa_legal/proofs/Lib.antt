@@ -13,3 +13,4 @@ pub mod MomentsRead
 pub mod TimelyLemmas
 pub mod AppendLemmas
 pub mod FirstLemmas
+pub mod OrderLemmas

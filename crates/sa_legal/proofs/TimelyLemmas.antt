@@ -29,7 +29,8 @@ use Rattle.sa_legal.proofs.EventLemmas.{items-events, legal-lawful}
 use Rattle.sa_legal.proofs.MomentLemmas.{numbered-lawful, ends-at}
 use Rattle.sa_legal.proofs.MomentsRead.{ReadsIn, OnMachine, on-machine, Any, reads-kept, reads-start}
 
--- what follows from the laws of an event and from what is read at its end holds at the end of each event of a legal trace
+-- what follows from the laws of an event and from what is read at its end holds at the end of each event of a legal
+-- trace
 pub at-each-end : (u : UserRules) (w : WorkloadView) (items : List Item) (E : List Item → ℕ → Type 0) → IsLegal u w items
     → ((past : List Item) (r : Readings) (e : Event) → IsLawful u w r e → Reads w past (after_event u.inside w r e) → E past e.number)
     → AtEachEnd E items
