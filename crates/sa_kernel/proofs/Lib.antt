@@ -1,7 +1,15 @@
 mod Batches
 mod RunLemmas
 mod GivenBack
-mod ClosingLemmas
-mod LifeLemmas
-mod SoundLemmas
+pub mod ClosingLemmas
+pub mod LifeLemmas
+pub mod FormedLemmas
+pub mod SeenLemmas
+pub mod PlacedLemmas
+pub mod ClaimLemmas
+pub mod HeldLemmas
+pub mod OwedLemmas
+pub mod PromptLemmas
+pub mod LawLemmas
+pub mod SoundLemmas
 mod KeptLemmas

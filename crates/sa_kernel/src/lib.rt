@@ -5,10 +5,12 @@ mod closing;
 mod entries;
 mod entry;
 mod kernel;
+pub mod laws;
 mod machine;
 mod notices;
 mod say;
+mod seen;
 mod start;
 
-pub use entry::{Entry, Given};
+pub use entry::{ENTRY_ITEMS, Entry, Given};
 pub use kernel::Kernel;
