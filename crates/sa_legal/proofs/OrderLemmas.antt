@@ -112,21 +112,50 @@ holds-none r life lock t only is locks other s holds =
 lawful5 : IsLawful fast_threads forking q5 f5
 lawful5 = (
   record { number = refl; proc = omega arith; some = λ no. cc; opening = λ no. absurd (omega arith) },
-  (record { steps = (record { owned = refl; runs = refl; place = refl; within = omega arith; page = tt }, tt) },
-  (record { told = (tt, tt) },
-  (record { prompt = prompt-calm (next g q5 f5) refl },
-  (record { named = (tt, tt); owned = refl },
-  (record { told = (tt, tt) },
-  (record { blocks = (tt, tt) },
-  (record { interrupt = λ no. absurd (cc); calm = λ no. absurd no },
-  (record { heard = (tt, tt); first = tt; order = refl; due = refl },
-  (record { due = λ _. refl; none = no-wants (next g q5 f5) refl },
-  (record { covered = one-share; due = refl },
-  (record { step = λ _. record { free = λ _. inl refl } },
-  (record { turn = λ _. refl; closing = λ _. tt },
-  (record { step = λ _. (record { keeps = tt; back = refl }, tt) },
-  (record { run = tt },
-  tt)))))))))))))))
+  (
+    record { steps = (record { owned = refl; runs = refl; place = refl; within = omega arith; page = tt }, tt) },
+    (
+      record { told = (tt, tt) },
+      (
+        record { prompt = prompt-calm (next g q5 f5) refl },
+        (
+          record { named = (tt, tt); owned = refl },
+          (
+            record { told = (tt, tt) },
+            (
+              record { blocks = (tt, tt) },
+              (
+                record { interrupt = λ no. absurd (cc); calm = λ no. absurd no },
+                (
+                  record { heard = (tt, tt); first = tt; order = refl; due = refl },
+                  (
+                    record { due = λ _. refl; none = no-wants (next g q5 f5) refl },
+                    (
+                      record { covered = one-share; due = refl },
+                      (
+                        record { step = λ _. record { free = λ _. inl refl } },
+                        (
+                          record { turn = λ _. refl; closing = λ _. tt },
+                          (
+                            record { step = λ _. (record { keeps = tt; back = refl }, tt) },
+                            (
+                              record { run = tt },
+                              tt,
+                            ),
+                          ),
+                        ),
+                      ),
+                    ),
+                  ),
+                ),
+              ),
+            ),
+          ),
+        ),
+      ),
+    ),
+  ),
+)
 
 right5 : HoldEach fast_threads forking rules q5 f5 None
 right5 = with-end fast_threads forking q5 f5 None lawful5 (goes-on q6 refl refl)
@@ -137,21 +166,50 @@ unlocked6 locked = none-locked (begun (workload_with g) f6 q6) _ (only-put _ _ (
 lawful6 : IsLawful fast_threads forking q6 f6
 lawful6 = (
   record { number = refl; proc = omega arith; some = λ no. cc; opening = λ no. absurd (omega arith) },
-  (record { steps = (tt, tt) },
-  (record { told = (tt, tt) },
-  (record { prompt = prompt-calm (next g q6 f6) refl },
-  (record { named = (tt, tt); owned = refl },
-  (record { told = (tt, tt) },
-  (record { blocks = (tt, tt) },
-  (record { interrupt = λ no. absurd (cc); calm = λ no. absurd no },
-  (record { heard = (tt, tt); first = tt; order = refl; due = refl },
-  (record { due = λ _. refl; none = no-wants (next g q6 f6) refl },
-  (record { covered = one-share; due = refl },
-  (record { step = λ _. record { free = λ no. absurd (cc) } },
-  (record { turn = λ _. refl; closing = λ _. tt },
-  (record { step = λ _. (record { keeps = record { space = refl; unlocked = unlocked6; locks = refl; cont = refl; thread = refl; target = refl }; back = refl }, refl) },
-  (record { run = tt },
-  tt)))))))))))))))
+  (
+    record { steps = (tt, tt) },
+    (
+      record { told = (tt, tt) },
+      (
+        record { prompt = prompt-calm (next g q6 f6) refl },
+        (
+          record { named = (tt, tt); owned = refl },
+          (
+            record { told = (tt, tt) },
+            (
+              record { blocks = (tt, tt) },
+              (
+                record { interrupt = λ no. absurd (cc); calm = λ no. absurd no },
+                (
+                  record { heard = (tt, tt); first = tt; order = refl; due = refl },
+                  (
+                    record { due = λ _. refl; none = no-wants (next g q6 f6) refl },
+                    (
+                      record { covered = one-share; due = refl },
+                      (
+                        record { step = λ _. record { free = λ no. absurd (cc) } },
+                        (
+                          record { turn = λ _. refl; closing = λ _. tt },
+                          (
+                            record { step = λ _. (record { keeps = record { space = refl; unlocked = unlocked6; locks = refl; cont = refl; thread = refl; target = refl }; back = refl }, refl) },
+                            (
+                              record { run = tt },
+                              tt,
+                            ),
+                          ),
+                        ),
+                      ),
+                    ),
+                  ),
+                ),
+              ),
+            ),
+          ),
+        ),
+      ),
+    ),
+  ),
+)
 
 right6 : HoldEach fast_threads forking rules q6 f6 None
 right6 = with-end fast_threads forking q6 f6 None lawful6 (goes-on q7 refl refl)
@@ -162,21 +220,50 @@ holds7 holds = holds-none (begun (workload_with g) f7 q7) _ _ t1 (only-put _ _ (
 lawful7 : IsLawful fast_threads forking q7 f7
 lawful7 = (
   record { number = refl; proc = omega arith; some = λ no. cc; opening = λ no. absurd (omega arith) },
-  (record { steps = ((refl, inr refl), tt) },
-  (record { told = (tt, tt) },
-  (record { prompt = prompt-calm (next g q7 f7) refl },
-  (record { named = (tt, tt); owned = refl },
-  (record { told = (tt, tt) },
-  (record { blocks = (tt, tt) },
-  (record { interrupt = λ no. absurd (cc); calm = λ no. absurd no },
-  (record { heard = (tt, tt); first = tt; order = refl; due = refl },
-  (record { due = λ _. refl; none = no-wants (next g q7 f7) refl },
-  (record { covered = one-share; due = refl },
-  (record { step = λ _. record { free = λ no. absurd (cc) } },
-  (record { turn = λ _. refl; closing = λ _. tt },
-  (record { step = λ _. (record { keeps = record { push = refl; used = record { unused = refl; page = refl; cont = λ no. absurd (cc) }; space = refl; hand = (0, omega arith, refl); counts = refl; holds = holds7 }; back = refl }, refl) },
-  (record { run = tt },
-  tt)))))))))))))))
+  (
+    record { steps = ((refl, inr refl), tt) },
+    (
+      record { told = (tt, tt) },
+      (
+        record { prompt = prompt-calm (next g q7 f7) refl },
+        (
+          record { named = (tt, tt); owned = refl },
+          (
+            record { told = (tt, tt) },
+            (
+              record { blocks = (tt, tt) },
+              (
+                record { interrupt = λ no. absurd (cc); calm = λ no. absurd no },
+                (
+                  record { heard = (tt, tt); first = tt; order = refl; due = refl },
+                  (
+                    record { due = λ _. refl; none = no-wants (next g q7 f7) refl },
+                    (
+                      record { covered = one-share; due = refl },
+                      (
+                        record { step = λ _. record { free = λ no. absurd (cc) } },
+                        (
+                          record { turn = λ _. refl; closing = λ _. tt },
+                          (
+                            record { step = λ _. (record { keeps = record { push = refl; used = record { unused = refl; page = refl; cont = λ no. absurd (cc) }; space = refl; hand = (0, omega arith, refl); counts = refl; holds = holds7 }; back = refl }, refl) },
+                            (
+                              record { run = tt },
+                              tt,
+                            ),
+                          ),
+                        ),
+                      ),
+                    ),
+                  ),
+                ),
+              ),
+            ),
+          ),
+        ),
+      ),
+    ),
+  ),
+)
 
 right7 : HoldEach fast_threads forking rules q7 f7 None
 right7 = with-end fast_threads forking q7 f7 None lawful7 (goes-on q8 refl refl)
@@ -184,21 +271,50 @@ right7 = with-end fast_threads forking q7 f7 None lawful7 (goes-on q8 refl refl)
 lawful8 : IsLawful fast_threads forking q8 f8
 lawful8 = (
   record { number = refl; proc = omega arith; some = λ no. cc; opening = λ no. absurd (omega arith) },
-  (record { steps = (tt, tt) },
-  (record { told = (tt, tt) },
-  (record { prompt = prompt-calm (next g q8 f8) refl },
-  (record { named = (tt, tt); owned = refl },
-  (record { told = (tt, tt) },
-  (record { blocks = (tt, tt) },
-  (record { interrupt = λ no. absurd (cc); calm = λ no. absurd no },
-  (record { heard = (tt, tt); first = tt; order = refl; due = refl },
-  (record { due = λ _. refl; none = no-wants (next g q8 f8) refl },
-  (record { covered = one-share; due = refl },
-  (record { step = λ _. record { free = λ no. absurd (cc) } },
-  (record { turn = λ _. refl; closing = λ _. tt },
-  (record { step = λ _. (record { keeps = record { space = refl; list = refl; thread = refl; used = refl; cont = λ no. absurd (cc) }; back = refl }, refl) },
-  (record { run = tt },
-  tt)))))))))))))))
+  (
+    record { steps = (tt, tt) },
+    (
+      record { told = (tt, tt) },
+      (
+        record { prompt = prompt-calm (next g q8 f8) refl },
+        (
+          record { named = (tt, tt); owned = refl },
+          (
+            record { told = (tt, tt) },
+            (
+              record { blocks = (tt, tt) },
+              (
+                record { interrupt = λ no. absurd (cc); calm = λ no. absurd no },
+                (
+                  record { heard = (tt, tt); first = tt; order = refl; due = refl },
+                  (
+                    record { due = λ _. refl; none = no-wants (next g q8 f8) refl },
+                    (
+                      record { covered = one-share; due = refl },
+                      (
+                        record { step = λ _. record { free = λ no. absurd (cc) } },
+                        (
+                          record { turn = λ _. refl; closing = λ _. tt },
+                          (
+                            record { step = λ _. (record { keeps = record { space = refl; list = refl; thread = refl; used = refl; cont = λ no. absurd (cc) }; back = refl }, refl) },
+                            (
+                              record { run = tt },
+                              tt,
+                            ),
+                          ),
+                        ),
+                      ),
+                    ),
+                  ),
+                ),
+              ),
+            ),
+          ),
+        ),
+      ),
+    ),
+  ),
+)
 
 right8 : HoldEach fast_threads forking rules q8 f8 None
 right8 = with-end fast_threads forking q8 f8 None lawful8 (goes-on q9 refl refl)
@@ -206,21 +322,50 @@ right8 = with-end fast_threads forking q8 f8 None lawful8 (goes-on q9 refl refl)
 lawful9 : IsLawful fast_threads forking q9 f9
 lawful9 = (
   record { number = refl; proc = omega arith; some = λ no. cc; opening = λ no. absurd (omega arith) },
-  (record { steps = (record { owned = refl; runs = refl; place = refl; within = omega arith; page = tt }, tt) },
-  (record { told = (tt, tt) },
-  (record { prompt = prompt-calm (next g q9 f9) refl },
-  (record { named = (tt, tt); owned = refl },
-  (record { told = (tt, tt) },
-  (record { blocks = (tt, tt) },
-  (record { interrupt = λ no. absurd (cc); calm = λ no. absurd no },
-  (record { heard = (tt, tt); first = tt; order = refl; due = refl },
-  (record { due = λ _. refl; none = no-wants (next g q9 f9) refl },
-  (record { covered = one-share; due = refl },
-  (record { step = λ _. record { free = λ _. inl refl } },
-  (record { turn = λ _. refl; closing = λ _. tt },
-  (record { step = λ _. (record { keeps = tt; back = refl }, tt) },
-  (record { run = tt },
-  tt)))))))))))))))
+  (
+    record { steps = (record { owned = refl; runs = refl; place = refl; within = omega arith; page = tt }, tt) },
+    (
+      record { told = (tt, tt) },
+      (
+        record { prompt = prompt-calm (next g q9 f9) refl },
+        (
+          record { named = (tt, tt); owned = refl },
+          (
+            record { told = (tt, tt) },
+            (
+              record { blocks = (tt, tt) },
+              (
+                record { interrupt = λ no. absurd (cc); calm = λ no. absurd no },
+                (
+                  record { heard = (tt, tt); first = tt; order = refl; due = refl },
+                  (
+                    record { due = λ _. refl; none = no-wants (next g q9 f9) refl },
+                    (
+                      record { covered = one-share; due = refl },
+                      (
+                        record { step = λ _. record { free = λ _. inl refl } },
+                        (
+                          record { turn = λ _. refl; closing = λ _. tt },
+                          (
+                            record { step = λ _. (record { keeps = tt; back = refl }, tt) },
+                            (
+                              record { run = tt },
+                              tt,
+                            ),
+                          ),
+                        ),
+                      ),
+                    ),
+                  ),
+                ),
+              ),
+            ),
+          ),
+        ),
+      ),
+    ),
+  ),
+)
 
 right9 : HoldEach fast_threads forking rules q9 f9 None
 right9 = with-end fast_threads forking q9 f9 None lawful9 (goes-on q10 refl refl)
@@ -231,21 +376,50 @@ unlocked10 locked = none-locked (begun (workload_with g) f10 q10) _ (only-put _ 
 lawful10 : IsLawful fast_threads forking q10 f10
 lawful10 = (
   record { number = refl; proc = omega arith; some = λ no. cc; opening = λ no. absurd (omega arith) },
-  (record { steps = (tt, tt) },
-  (record { told = (tt, tt) },
-  (record { prompt = prompt-calm (next g q10 f10) refl },
-  (record { named = (tt, tt); owned = refl },
-  (record { told = (tt, tt) },
-  (record { blocks = (tt, tt) },
-  (record { interrupt = λ no. absurd (cc); calm = λ no. absurd no },
-  (record { heard = (tt, tt); first = tt; order = refl; due = refl },
-  (record { due = λ _. refl; none = no-wants (next g q10 f10) refl },
-  (record { covered = one-share; due = refl },
-  (record { step = λ _. record { free = λ no. absurd (cc) } },
-  (record { turn = λ _. refl; closing = λ _. tt },
-  (record { step = λ _. (record { keeps = record { space = refl; unlocked = unlocked10; locks = refl; cont = refl; thread = refl; target = refl }; back = refl }, refl) },
-  (record { run = tt },
-  tt)))))))))))))))
+  (
+    record { steps = (tt, tt) },
+    (
+      record { told = (tt, tt) },
+      (
+        record { prompt = prompt-calm (next g q10 f10) refl },
+        (
+          record { named = (tt, tt); owned = refl },
+          (
+            record { told = (tt, tt) },
+            (
+              record { blocks = (tt, tt) },
+              (
+                record { interrupt = λ no. absurd (cc); calm = λ no. absurd no },
+                (
+                  record { heard = (tt, tt); first = tt; order = refl; due = refl },
+                  (
+                    record { due = λ _. refl; none = no-wants (next g q10 f10) refl },
+                    (
+                      record { covered = one-share; due = refl },
+                      (
+                        record { step = λ _. record { free = λ no. absurd (cc) } },
+                        (
+                          record { turn = λ _. refl; closing = λ _. tt },
+                          (
+                            record { step = λ _. (record { keeps = record { space = refl; unlocked = unlocked10; locks = refl; cont = refl; thread = refl; target = refl }; back = refl }, refl) },
+                            (
+                              record { run = tt },
+                              tt,
+                            ),
+                          ),
+                        ),
+                      ),
+                    ),
+                  ),
+                ),
+              ),
+            ),
+          ),
+        ),
+      ),
+    ),
+  ),
+)
 
 right10 : HoldEach fast_threads forking rules q10 f10 None
 right10 = with-end fast_threads forking q10 f10 None lawful10 (goes-on q11 refl refl)
@@ -256,21 +430,50 @@ holds11 holds = holds-none (begun (workload_with g) f11 q11) _ _ t2 (only-put _ 
 lawful11 : IsLawful fast_threads forking q11 f11
 lawful11 = (
   record { number = refl; proc = omega arith; some = λ no. cc; opening = λ no. absurd (omega arith) },
-  (record { steps = ((refl, inr refl), tt) },
-  (record { told = (tt, tt) },
-  (record { prompt = prompt-calm (next g q11 f11) refl },
-  (record { named = (tt, tt); owned = refl },
-  (record { told = (tt, tt) },
-  (record { blocks = (tt, tt) },
-  (record { interrupt = λ no. absurd (cc); calm = λ no. absurd no },
-  (record { heard = (tt, tt); first = tt; order = refl; due = refl },
-  (record { due = λ _. refl; none = no-wants (next g q11 f11) refl },
-  (record { covered = one-share; due = refl },
-  (record { step = λ _. record { free = λ no. absurd (cc) } },
-  (record { turn = λ _. refl; closing = λ _. tt },
-  (record { step = λ _. (record { keeps = record { push = refl; used = record { unused = refl; page = refl; cont = λ no. absurd (cc) }; space = refl; hand = (0, omega arith, refl); counts = refl; holds = holds11 }; back = refl }, refl) },
-  (record { run = tt },
-  tt)))))))))))))))
+  (
+    record { steps = ((refl, inr refl), tt) },
+    (
+      record { told = (tt, tt) },
+      (
+        record { prompt = prompt-calm (next g q11 f11) refl },
+        (
+          record { named = (tt, tt); owned = refl },
+          (
+            record { told = (tt, tt) },
+            (
+              record { blocks = (tt, tt) },
+              (
+                record { interrupt = λ no. absurd (cc); calm = λ no. absurd no },
+                (
+                  record { heard = (tt, tt); first = tt; order = refl; due = refl },
+                  (
+                    record { due = λ _. refl; none = no-wants (next g q11 f11) refl },
+                    (
+                      record { covered = one-share; due = refl },
+                      (
+                        record { step = λ _. record { free = λ no. absurd (cc) } },
+                        (
+                          record { turn = λ _. refl; closing = λ _. tt },
+                          (
+                            record { step = λ _. (record { keeps = record { push = refl; used = record { unused = refl; page = refl; cont = λ no. absurd (cc) }; space = refl; hand = (0, omega arith, refl); counts = refl; holds = holds11 }; back = refl }, refl) },
+                            (
+                              record { run = tt },
+                              tt,
+                            ),
+                          ),
+                        ),
+                      ),
+                    ),
+                  ),
+                ),
+              ),
+            ),
+          ),
+        ),
+      ),
+    ),
+  ),
+)
 
 right11 : HoldEach fast_threads forking rules q11 f11 None
 right11 = with-end fast_threads forking q11 f11 None lawful11 (goes-on q12 refl refl)
@@ -278,21 +481,50 @@ right11 = with-end fast_threads forking q11 f11 None lawful11 (goes-on q12 refl 
 lawful12 : IsLawful fast_threads forking q12 f12
 lawful12 = (
   record { number = refl; proc = omega arith; some = λ no. cc; opening = λ no. absurd (omega arith) },
-  (record { steps = (tt, tt) },
-  (record { told = (tt, tt) },
-  (record { prompt = prompt-calm (next g q12 f12) refl },
-  (record { named = (tt, tt); owned = refl },
-  (record { told = (tt, tt) },
-  (record { blocks = (tt, tt) },
-  (record { interrupt = λ no. absurd (cc); calm = λ no. absurd no },
-  (record { heard = (tt, tt); first = tt; order = refl; due = refl },
-  (record { due = λ _. refl; none = no-wants (next g q12 f12) refl },
-  (record { covered = one-share; due = refl },
-  (record { step = λ _. record { free = λ no. absurd (cc) } },
-  (record { turn = λ _. refl; closing = λ _. tt },
-  (record { step = λ _. (record { keeps = record { space = refl; list = refl; thread = refl; used = refl; cont = λ no. absurd (cc) }; back = refl }, refl) },
-  (record { run = tt },
-  tt)))))))))))))))
+  (
+    record { steps = (tt, tt) },
+    (
+      record { told = (tt, tt) },
+      (
+        record { prompt = prompt-calm (next g q12 f12) refl },
+        (
+          record { named = (tt, tt); owned = refl },
+          (
+            record { told = (tt, tt) },
+            (
+              record { blocks = (tt, tt) },
+              (
+                record { interrupt = λ no. absurd (cc); calm = λ no. absurd no },
+                (
+                  record { heard = (tt, tt); first = tt; order = refl; due = refl },
+                  (
+                    record { due = λ _. refl; none = no-wants (next g q12 f12) refl },
+                    (
+                      record { covered = one-share; due = refl },
+                      (
+                        record { step = λ _. record { free = λ no. absurd (cc) } },
+                        (
+                          record { turn = λ _. refl; closing = λ _. tt },
+                          (
+                            record { step = λ _. (record { keeps = record { space = refl; list = refl; thread = refl; used = refl; cont = λ no. absurd (cc) }; back = refl }, refl) },
+                            (
+                              record { run = tt },
+                              tt,
+                            ),
+                          ),
+                        ),
+                      ),
+                    ),
+                  ),
+                ),
+              ),
+            ),
+          ),
+        ),
+      ),
+    ),
+  ),
+)
 
 right12 : HoldEach fast_threads forking rules q12 f12 None
 right12 = with-end fast_threads forking q12 f12 None lawful12 (goes-on q13 refl refl)
@@ -300,21 +532,50 @@ right12 = with-end fast_threads forking q12 f12 None lawful12 (goes-on q13 refl 
 lawful13 : IsLawful fast_threads forking q13 f13
 lawful13 = (
   record { number = refl; proc = omega arith; some = λ no. cc; opening = λ no. absurd (omega arith) },
-  (record { steps = (record { owned = refl; runs = refl; place = refl; within = omega arith; page = tt }, tt) },
-  (record { told = (tt, tt) },
-  (record { prompt = prompt-calm (next g q13 f13) refl },
-  (record { named = (tt, tt); owned = refl },
-  (record { told = (tt, tt) },
-  (record { blocks = (tt, tt) },
-  (record { interrupt = λ no. absurd (cc); calm = λ no. absurd no },
-  (record { heard = (tt, tt); first = tt; order = refl; due = refl },
-  (record { due = λ _. refl; none = no-wants (next g q13 f13) refl },
-  (record { covered = one-share; due = refl },
-  (record { step = λ _. record { free = λ _. inl refl } },
-  (record { turn = λ _. refl; closing = λ _. tt },
-  (record { step = λ _. (record { keeps = tt; back = refl }, tt) },
-  (record { run = tt },
-  tt)))))))))))))))
+  (
+    record { steps = (record { owned = refl; runs = refl; place = refl; within = omega arith; page = tt }, tt) },
+    (
+      record { told = (tt, tt) },
+      (
+        record { prompt = prompt-calm (next g q13 f13) refl },
+        (
+          record { named = (tt, tt); owned = refl },
+          (
+            record { told = (tt, tt) },
+            (
+              record { blocks = (tt, tt) },
+              (
+                record { interrupt = λ no. absurd (cc); calm = λ no. absurd no },
+                (
+                  record { heard = (tt, tt); first = tt; order = refl; due = refl },
+                  (
+                    record { due = λ _. refl; none = no-wants (next g q13 f13) refl },
+                    (
+                      record { covered = one-share; due = refl },
+                      (
+                        record { step = λ _. record { free = λ _. inl refl } },
+                        (
+                          record { turn = λ _. refl; closing = λ _. tt },
+                          (
+                            record { step = λ _. (record { keeps = tt; back = refl }, tt) },
+                            (
+                              record { run = tt },
+                              tt,
+                            ),
+                          ),
+                        ),
+                      ),
+                    ),
+                  ),
+                ),
+              ),
+            ),
+          ),
+        ),
+      ),
+    ),
+  ),
+)
 
 right13 : HoldEach fast_threads forking rules q13 f13 None
 right13 = with-end fast_threads forking q13 f13 None lawful13 (goes-on q14 refl refl)
@@ -325,21 +586,50 @@ unlocked14 locked = none-locked (begun (workload_with g) f14 q14) _ (only-put _ 
 lawful14 : IsLawful fast_threads forking q14 f14
 lawful14 = (
   record { number = refl; proc = omega arith; some = λ no. cc; opening = λ no. absurd (omega arith) },
-  (record { steps = (tt, tt) },
-  (record { told = (tt, tt) },
-  (record { prompt = prompt-calm (next g q14 f14) refl },
-  (record { named = (tt, tt); owned = refl },
-  (record { told = (tt, tt) },
-  (record { blocks = (tt, tt) },
-  (record { interrupt = λ no. absurd (cc); calm = λ no. absurd no },
-  (record { heard = (tt, tt); first = tt; order = refl; due = refl },
-  (record { due = λ _. refl; none = no-wants (next g q14 f14) refl },
-  (record { covered = one-share; due = refl },
-  (record { step = λ _. record { free = λ _. inl refl } },
-  (record { turn = λ _. refl; closing = λ _. tt },
-  (record { step = λ _. (record { keeps = record { space = refl; unlocked = unlocked14; locks = refl; cont = refl; thread = refl; target = (refl, record { steps = 0; within = omega arith; list = refl; opens = record { ready = refl; unlocked = unlocked14 }; first = λ k no. absurd (omega arith) }) }; back = refl }, refl) },
-  (record { run = tt },
-  tt)))))))))))))))
+  (
+    record { steps = (tt, tt) },
+    (
+      record { told = (tt, tt) },
+      (
+        record { prompt = prompt-calm (next g q14 f14) refl },
+        (
+          record { named = (tt, tt); owned = refl },
+          (
+            record { told = (tt, tt) },
+            (
+              record { blocks = (tt, tt) },
+              (
+                record { interrupt = λ no. absurd (cc); calm = λ no. absurd no },
+                (
+                  record { heard = (tt, tt); first = tt; order = refl; due = refl },
+                  (
+                    record { due = λ _. refl; none = no-wants (next g q14 f14) refl },
+                    (
+                      record { covered = one-share; due = refl },
+                      (
+                        record { step = λ _. record { free = λ _. inl refl } },
+                        (
+                          record { turn = λ _. refl; closing = λ _. tt },
+                          (
+                            record { step = λ _. (record { keeps = record { space = refl; unlocked = unlocked14; locks = refl; cont = refl; thread = refl; target = (refl, record { steps = 0; within = omega arith; list = refl; opens = record { ready = refl; unlocked = unlocked14 }; first = λ k no. absurd (omega arith) }) }; back = refl }, refl) },
+                            (
+                              record { run = tt },
+                              tt,
+                            ),
+                          ),
+                        ),
+                      ),
+                    ),
+                  ),
+                ),
+              ),
+            ),
+          ),
+        ),
+      ),
+    ),
+  ),
+)
 
 right14 : HoldEach fast_threads forking rules q14 f14 None
 right14 = with-end fast_threads forking q14 f14 None lawful14 (goes-on q15 refl refl)
@@ -349,19 +639,49 @@ all-right = (right0 g, (right1 g, (right2 g, (right3 g, (right4 g, (right5, (rig
 
 pub breaks-L5 : FirstBreak fast_threads forking older_taken (stops_at 15) 15 L5
 breaks-L5 = break-behind fast_threads forking forking_run (at 15 (Run s0 t1 ∷ [])) (stops_at 15) L5 all-right
-    (record { earlier = (
-  record { number = refl; proc = omega arith; some = λ no. cc; opening = λ no. absurd (omega arith) },
-  (record { steps = ((refl, refl, refl), tt) },
-  (record { told = (tt, tt) },
-  (record { prompt = prompt-calm (next g q15 (at 15 (Run s0 t1 ∷ []))) refl },
-  (record { named = (tt, tt); owned = refl },
-  (record { told = (tt, tt) },
-  (record { blocks = (tt, tt) },
-  (record { interrupt = λ no. absurd (cc); calm = λ no. absurd no },
-  (record { heard = (tt, tt); first = tt; order = refl; due = refl },
-  (record { due = λ _. refl; none = no-wants (next g q15 (at 15 (Run s0 t1 ∷ []))) refl },
-  (record { covered = one-share; due = refl },
-  (record { step = λ _. record { free = λ no. absurd (cc) } },
-  (record { turn = λ _. refl; closing = λ _. tt },
-  (record { step = λ _. (record { keeps = record { pop = refl; used = record { unused = refl; page = refl; cont = λ no. absurd (cc) }; space = refl }; back = refl }, refl) },
-  tt)))))))))))))); broken = λ h. apart21 h.run })
+    (record {
+      earlier = (
+        record { number = refl; proc = omega arith; some = λ no. cc; opening = λ no. absurd (omega arith) },
+        (
+          record { steps = ((refl, refl, refl), tt) },
+          (
+            record { told = (tt, tt) },
+            (
+              record { prompt = prompt-calm (next g q15 (at 15 (Run s0 t1 ∷ []))) refl },
+              (
+                record { named = (tt, tt); owned = refl },
+                (
+                  record { told = (tt, tt) },
+                  (
+                    record { blocks = (tt, tt) },
+                    (
+                      record { interrupt = λ no. absurd (cc); calm = λ no. absurd no },
+                      (
+                        record { heard = (tt, tt); first = tt; order = refl; due = refl },
+                        (
+                          record { due = λ _. refl; none = no-wants (next g q15 (at 15 (Run s0 t1 ∷ []))) refl },
+                          (
+                            record { covered = one-share; due = refl },
+                            (
+                              record { step = λ _. record { free = λ no. absurd (cc) } },
+                              (
+                                record { turn = λ _. refl; closing = λ _. tt },
+                                (
+                                  record { step = λ _. (record { keeps = record { pop = refl; used = record { unused = refl; page = refl; cont = λ no. absurd (cc) }; space = refl }; back = refl }, refl) },
+                                  tt,
+                                ),
+                              ),
+                            ),
+                          ),
+                        ),
+                      ),
+                    ),
+                  ),
+                ),
+              ),
+            ),
+          ),
+        ),
+      );
+      broken = λ h. apart21 h.run;
+    })
