@@ -51,8 +51,8 @@ shares_at w e r = shares_of w.processors (first_space w e) (claims_of w r)
 abbrev pub aims_due : WorkloadView → ℕ → Readings → List Change
 aims_due w e r = changes (length w.spaces) (shares_at w e r) r.marks r.aims
 
--- a processor that the space owns is aimed at it and has its line raised, so that the space will be told there; a processor that it
--- owns has a low line
+-- a processor that the space owns is aimed at it and has its line raised, so that the space will be told there; a
+-- processor that it owns has a low line
 abbrev pub will_tell : Readings → SpaceNo → ℕ → Bool
 will_tell r s q = is_aim s.0 (owner_of r (proc_no q)) && is_aim s.0 (aim_of r (proc_no q)) && is_some (line_of r (proc_no q))
 

@@ -32,8 +32,8 @@ is_at_rest _ = true
 abbrev pub are_at_rest : SpaceState → Bool
 are_at_rest x = list_all (λ (thread : Thread). is_at_rest thread.place) x.threads
 
--- some thread is not done, and nothing can happen any more: no thread is ready, runs or is carried, no I/O is under way, no line is raised, and
--- no life is in
+-- some thread is not done, and nothing can happen any more: no thread is ready, runs or is carried, no I/O is under
+-- way, no line is raised, and no life is in
 pub record IsStuck (r : Readings) : Type 0 where
   pub some : IsAllDone r → ⊥
   pub rest : list_all are_at_rest r.state.spaces ≡ true
@@ -58,7 +58,8 @@ pub record LastLine : Type 0 where
   pub end : End
   pub events : ℕ
 
--- The end, at an event with this moment after it: where more events follow, the run goes on; else the last line tells how it ended.
+-- The end, at an event with this moment after it: where more events follow, the run goes on; else the last line tells
+-- how it ended.
 abbrev pub IsToldEnd : Readings → End → Type 0
 IsToldEnd r AllDone = IsAllDone r
 IsToldEnd r Stuck = IsStuck r

@@ -35,7 +35,8 @@ behind w e r records = after_records w e.number e.proc (begun w e r) records
 abbrev pub behind_all : WorkloadView → Event → Readings → Readings
 behind_all w e r = behind w e r e.records
 
--- an event is a step of its processor's running life where it begins with one of these; else that life has no part in it
+-- an event is a step of its processor's running life where it begins with one of these; else that life has no part in
+-- it
 abbrev pub is_step : Record → Bool
 is_step (Ins s t i) = true
 is_step (Run s t) = true
@@ -60,8 +61,8 @@ abbrev pub is_free : Record → Bool
 is_free (Free s l t) = true
 is_free _ = false
 
--- a step settles its life, but for these four: an instruction after which the life's thread runs or is blocked, an idle record,
--- a lowering hint, and the life's block
+-- a step settles its life, but for these four: an instruction after which the life's thread runs or is blocked, an idle
+-- record, a lowering hint, and the life's block
 abbrev pub goes_on : Place → Bool
 goes_on (Running p) = true
 goes_on Blocked = true
@@ -80,14 +81,14 @@ scans_after before Idle scans = scans + 1
 scans_after before (Want s n) scans = if nat_lt n (demand_of before s) then scans else 0
 scans_after before _ scans = 0
 
--- the test of a user level: which lives are in. It is asked at the end of each own event of a life, and sees the moment before
--- the event, the event, the moment behind its records, whether the event settled the life, and the life.
+-- the test of a user level: which lives are in. It is asked at the end of each own event of a life, and sees the moment
+-- before the event, the event, the moment behind its records, whether the event settled the life, and the life.
 abbrev pub Test : Type 0
 Test = WorkloadView → Readings → Event → Readings → Bool → Life → Bool
 
--- FastThreads' test: at the end of its last own event the life had a lock, or a cont without its back, or a thread in its hand;
--- or that event settled it, and the demand was below what the load can use, or it carried no thread while 8 or more lives of
--- its space were taken and not given back
+-- FastThreads' test: at the end of its last own event the life had a lock, or a cont without its back, or a thread in
+-- its hand; or that event settled it, and the demand was below what the load can use, or it carried no thread while 8
+-- or more lives of its space were taken and not given back
 abbrev pub is_inside : Test
 is_inside w before e after settled life =
     has_lock life || life.cont || has_hand after life
@@ -105,8 +106,8 @@ stepped test w before e after first life = record life {
 abbrev pub arisen : Test → WorkloadView → Readings → Event → Readings → Life → Life
 arisen test w before e after life = record life { inside = test w before e after true life }
 
--- the lives after an event: the one that ran on the processor before it is changed where the event is a step of it, and that of an up in the
--- event
+-- the lives after an event: the one that ran on the processor before it is changed where the event is a step of it, and
+-- that of an up in the event
 abbrev pub with_step : Test → WorkloadView → Readings → Event → Readings → List Record → (ℕ → Option Life) → ℕ → Option Life
 with_step test w before e after [] lives = lives
 with_step test w before e after (first ∷ others) lives =

@@ -22,7 +22,8 @@ use Rattle.sa_laws.specs.Turns.{is_of_locks}
 abbrev pub list_round : WorkloadView → ProcNo → ℕ → ProcNo
 list_round w p k = record { 0 = (p.0 + k) % w.processors }
 
--- of the lists from that of the processor on, round, this one is the first that nobody locks and in which a ready thread stands
+-- of the lists from that of the processor on, round, this one is the first that nobody locks and in which a ready
+-- thread stands
 pub record IsFirstOpen (w : WorkloadView) (r : Readings) (s : SpaceNo) (p l : ProcNo) : Type 0 where
   pub steps : ℕ
   pub within : steps < w.processors
@@ -35,8 +36,8 @@ abbrev pub TakesFor : Bool → WorkloadView → Readings → ProcNo → Life →
 TakesFor true w r p life l = l ≡ p
 TakesFor false w r p life l = (carried_by r life ≡ None) × IsFirstOpen w r life.space p l
 
--- a take comes on a life with no lock and no open cont, of a list that nobody locks, and names the thread that the life carries; it is for a
--- push exactly where the hand is not empty
+-- a take comes on a life with no lock and no open cont, of a list that nobody locks, and names the thread that the life
+-- carries; it is for a push exactly where the hand is not empty
 pub record CanTake (w : WorkloadView) (r : Readings) (p : ProcNo) (life : Life) (s : SpaceNo) (l : ProcNo) (t : Option ThreadNo) : Type 0 where
   pub space : s ≡ life.space
   pub unlocked : IsLocked r s l → ⊥
@@ -45,7 +46,8 @@ pub record CanTake (w : WorkloadView) (r : Readings) (p : ProcNo) (life : Life) 
   pub thread : t ≡ carried_by r life
   pub target : TakesFor (has_hand r life) w r p life l
 
--- a lock can get its ready or run record: it has got none, the package's page is resident, and if it was inherited, a cont is open
+-- a lock can get its ready or run record: it has got none, the package's page is resident, and if it was inherited, a
+-- cont is open
 pub record CanBeUsed (r : Readings) (life : Life) (lock : Lock) : Type 0 where
   pub unused : lock.used ≡ false
   pub page : is_resident r life.space PACKAGE_PAGE ≡ true
@@ -75,7 +77,8 @@ pub record CanRun (r : Readings) (life : Life) (lock : Lock) (s : SpaceNo) : Typ
   pub used : CanBeUsed r life lock
   pub space : s ≡ life.space
 
--- a free names the first lock and its thread, behind its ready or run, and where the lock was inherited, under an open cont
+-- a free names the first lock and its thread, behind its ready or run, and where the lock was inherited, under an open
+-- cont
 pub record CanFree (life : Life) (lock : Lock) (s : SpaceNo) (l : ProcNo) (t : Option ThreadNo) : Type 0 where
   pub space : s ≡ life.space
   pub list : l ≡ lock.list
@@ -112,8 +115,8 @@ KeepsLocks w r p life (Cont s t) = WithFirst (first_lock life) (λ lock. CanCont
 KeepsLocks w r p life (Back s t) = s ≡ life.space
 KeepsLocks w r p life _ = Unit {0}
 
--- List locks: a step keeps to the rules above; a back comes exactly directly behind the free of a continued lock; and take, ready, run,
--- free, cont and back stand each in an event of its own.
+-- List locks: a step keeps to the rules above; a back comes exactly directly behind the free of a continued lock; and
+-- take, ready, run, free, cont and back stand each in an event of its own.
 pub record StepKeepsLocks (w : WorkloadView) (r : Readings) (p : ProcNo) (life : Life) (first : Record) : Type 0 where
   pub keeps : KeepsLocks w r p life first
   pub back : is_back first ≡ back_is_due life
@@ -134,8 +137,8 @@ KeepsLocksIn w r p (first ∷ others) =
 pub record LocksAreKept (w : WorkloadView) (r : Readings) (e : Event) : Type 0 where
   pub step : 1 ≤ e.number → KeepsLocksIn w (begun w e r) e.proc (own_part e.records)
 
--- List order: a run takes a ready thread of the list that its life locks first: the newest where the list was taken on its own processor, else
--- the oldest.
+-- List order: a run takes a ready thread of the list that its life locks first: the newest where the list was taken on
+-- its own processor, else the oldest.
 abbrev pub threads_in : Readings → SpaceNo → ProcNo → List Listed
 threads_in r s l = filter (is_in l) (ready_of r s)
 

@@ -8,8 +8,8 @@ use Rattle.sa_laws.specs.Readings.{Readings, opening_readings}
 use Rattle.sa_laws.specs.History.{after_records}
 use Rattle.sa_laws.specs.Closing.{want_one, spaces_of, aims_due}
 
--- event 0: each space wants one processor, and behind that stands the closing; nothing is untold then, so no line is raised but for
--- an aim
+-- event 0: each space wants one processor, and behind that stands the closing; nothing is untold then, so no line is
+-- raised but for an aim
 abbrev pub first_wants : WorkloadView → List Record
 first_wants w = map want_one (spaces_of w)
 
@@ -21,8 +21,8 @@ opening_records w =
 abbrev pub opening_event : WorkloadView → Event
 opening_event w = record { number = 0; proc = proc_no 0; records = opening_records w }
 
--- The opening and the numbering: the events are numbered from 0 on, each has a processor of the machine and some record, and event 0 is
--- the opening.
+-- The opening and the numbering: the events are numbered from 0 on, each has a processor of the machine and some
+-- record, and event 0 is the opening.
 pub record IsNumbered (w : WorkloadView) (r : Readings) (e : Event) : Type 0 where
   pub number : e.number ≡ r.number
   pub proc : e.proc.0 < w.processors

@@ -26,7 +26,8 @@ pub record Readings : Type 0 where
   -- how many events there were: the number of the next one
   pub number : ℕ
   pub state : State
-  -- of each processor: the space of its last aim record; the event that raised its line, none where it is low; its idle mark
+  -- of each processor: the space of its last aim record; the event that raised its line, none where it is low; its idle
+  -- mark
   pub aims : List (Option SpaceNo)
   pub lines : List (Option ℕ)
   pub marks : List Bool
@@ -191,7 +192,8 @@ pub record IsOpen (r : Readings) (s : SpaceNo) (l : ProcNo) : Type 0 where
 pub record NoneIsOpen (r : Readings) (s : SpaceNo) : Type 0 where
   pub locked : (l : ProcNo) → has_ready r s l ≡ true → IsLocked r s l
 
--- an upcall must be made even where the space wants no processor: a life has come back, or one was stopped that was not idle
+-- an upcall must be made even where the space wants no processor: a life has come back, or one was stopped that was not
+-- idle
 abbrev pub was_idle : Option Life → Bool
 was_idle None = false
 was_idle (Some life) = life.idle

@@ -1,4 +1,5 @@
--- What each record changes in what is read off a history: for each reading a function, which says at which records it changes.
+-- What each record changes in what is read off a history: for each reading a function, which says at which records it
+-- changes.
 use Rattle.std.specs.Prelude.{ℕ, ◌+◌, ◌==◌, Bool, true, false, not, ◌&&◌, if◌then◌else◌, is_none, nat_lt, List, [], ◌∷◌, ◌++◌, map, filter, find, Option, Some, None, slice_index_or, slice_set}
 use Rattle.std.specs.Option.{option_map}
 use Rattle.sa_base.specs.declared.number.ProcNo.{ProcNo}
@@ -37,8 +38,8 @@ abbrev pub lines_after : ℕ → List (Option ℕ) → Record → List (Option �
 lines_after e lines (Line q) = slice_set lines q.0 (Some e)
 lines_after e lines _ = lines
 
--- A processor is marked idle at its lowering hint, and is not from its next up or raising hint on. A hint is a want that is its event's
--- first record.
+-- A processor is marked idle at its lowering hint, and is not from its next up or raising hint on. A hint is a want
+-- that is its event's first record.
 abbrev pub mark_after : Option Record → ℕ → ℕ → Bool → Bool
 mark_after None old new mark = nat_lt new old
 mark_after (Some before) old new mark = mark
@@ -149,8 +150,8 @@ blocking_for w r s t a None = record {
 abbrev pub blocking : WorkloadView → Readings → SpaceNo → Option ThreadNo → ActNo → Blocking
 blocking w r s t a = blocking_for w r s t a (length_behind w r s t r.last)
 
--- An I/O is numbered from 0 in the order of the block and fetch records, and is under way until the unblock of its life, or until the next
--- `fetched` of its space. Its end is its event plus its length.
+-- An I/O is numbered from 0 in the order of the block and fetch records, and is under way until the unblock of its
+-- life, or until the next `fetched` of its space. Its end is its event plus its length.
 abbrev pub begun_after : ℕ → Record → ℕ
 begun_after begun (Block s t a io) = begun + 1
 begun_after begun (Fetch s) = begun + 1
@@ -186,8 +187,8 @@ under_way_after w e r (Unblock s t a) = filter (is_io_of_other a) r.under_way
 under_way_after w e r (Fetched s) = filter (fetches_other s) r.under_way
 under_way_after w e r _ = r.under_way
 
--- A page is resident by the last of the workload's absent lines, the evict lines up to the event, and the completions of I/Os for it. (The evict
--- lines of an event come at its beginning.)
+-- A page is resident by the last of the workload's absent lines, the evict lines up to the event, and the completions
+-- of I/Os for it. (The evict lines of an event come at its beginning.)
 abbrev pub with_page : List ℕ → Option Io → List ℕ
 with_page pages None = pages
 with_page pages (Some io) = completed io.kind pages
@@ -212,9 +213,10 @@ ready_after p r (Ready s t) = slice_set r.ready s.0 (ready_of r s ++ record { th
 ready_after p r (Run s t) = slice_set r.ready s.0 (filter (is_other_thread t) (ready_of r s))
 ready_after p r _ = r.ready
 
--- Lives. An up begins one, and the telling of a stop or an unblock hands the locks and the hand of that life over to the life of the up. A take
--- adds a lock, for a push where the hand is not empty; a free removes the first. Forked and woken threads, and those of stops, unblocks and
--- backs, join the hand; a ready takes its thread from it. A giveback ends the use of the number.
+-- Lives. An up begins one, and the telling of a stop or an unblock hands the locks and the hand of that life over to
+-- the life of the up. A take adds a lock, for a push where the hand is not empty; a free removes the first. Forked and
+-- woken threads, and those of stops, unblocks and backs, join the hand; a ready takes its thread from it. A giveback
+-- ends the use of the number.
 abbrev pub lock_for : Readings → ProcNo → ProcNo → Option ThreadNo → Life → Lock
 lock_for r p l t life = record {
   list = l;

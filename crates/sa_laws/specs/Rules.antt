@@ -18,7 +18,8 @@ use Rattle.sa_laws.specs.Ends.{LastLine, EndIsTold}
 abbrev pub Law : Type 1
 Law = WorkloadView → Readings → Event → Type 0
 
--- what a user level brings: its test of which lives are in, its table of steps, which lines it asks for, and its own laws
+-- what a user level brings: its test of which lives are in, its table of steps, which lines it asks for, and its own
+-- laws
 pub record UserRules : Type 1 where
   pub inside : Test
   pub Steps : Steps

@@ -67,8 +67,8 @@ abbrev pub IsFaulting : WorkloadView → Readings → SpaceNo → Option ThreadN
 IsFaulting w r s None = ⊥
 IsFaulting w r s (Some t) = IsMissed r s (next_instr w r.state s t)
 
--- what a block is for: it stands directly behind an `io` of its thread, or its thread touches an absent page, or its life has a lock and the
--- package's page is absent
+-- what a block is for: it stands directly behind an `io` of its thread, or its thread touches an absent page, or its
+-- life has a lock and the package's page is absent
 abbrev pub HasCause : WorkloadView → Readings → SpaceNo → Option ThreadNo → ActNo → Type 0
 HasCause w r s t a =
     (is_some (length_behind w r s t r.last) ≡ true)

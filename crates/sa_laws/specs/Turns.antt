@@ -77,7 +77,8 @@ IsInsOf (OutOf reg) records = IsOut records
 IsInsOf (IoOf length) records = IsBlock records
 IsInsOf _ records = records ≡ []
 
--- where a block's life has a lock: its first lock has got no ready or run record yet, and if it was inherited, a cont is open
+-- where a block's life has a lock: its first lock has got no ready or run record yet, and if it was inherited, a cont
+-- is open
 pub record IsUnused (life : Life) (lock : Lock) : Type 0 where
   pub used : lock.used ≡ false
   pub cont : lock.inherited ≡ true → life.cont ≡ true
@@ -188,9 +189,9 @@ abbrev pub IsTurn : Steps → Bool → ℕ → WorkloadView → Readings → Pro
 IsTurn Step true e w r p records = IsInterrupt records
 IsTurn Step false e w r p records = IsTurnWhileDue Step (due_of e r.under_way) w r p records
 
--- Turns and steps: an event from 1 on is the first that applies of an interrupt, where its processor's line was raised; the completion of
--- the I/O that is due; a tick, where nobody owns the processor; a step of its running life. Behind it stand the closing's records, and no
--- others.
+-- Turns and steps: an event from 1 on is the first that applies of an interrupt, where its processor's line was raised;
+-- the completion of the I/O that is due; a tick, where nobody owns the processor; a step of its running life. Behind it
+-- stand the closing's records, and no others.
 pub record TurnsAreTaken (Step : Steps) (w : WorkloadView) (r : Readings) (e : Event) : Type 0 where
   pub turn : 1 ≤ e.number → IsTurn Step (is_some (line_of r e.proc)) e.number w (begun w e r) e.proc (own_part e.records)
   pub closing : 1 ≤ e.number → IsClosing (closing_part e.records)

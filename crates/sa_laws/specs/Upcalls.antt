@@ -31,8 +31,8 @@ EachRecord L w e p r (x ∷ xs) = L r x xs × EachRecord L w e p (after_record w
 abbrev pub EachOf : RecordLaw → WorkloadView → Readings → Event → Type 0
 EachOf L w r e = EachRecord L w e.number e.proc (begun w e r) e.records
 
--- Tells at most once: each told record but `told add` tells what was untold to the space of the up before it; what is told is untold no
--- longer.
+-- Tells at most once: each told record but `told add` tells what was untold to the space of the up before it; what is
+-- told is untold no longer.
 abbrev pub IsUntoldTo : Readings → Option SpaceNo → Note → Type 0
 IsUntoldTo r s (Add p) = Unit {0}
 IsUntoldTo r None n = ⊥
@@ -45,8 +45,8 @@ TellsOnce r _ rest = Unit {0}
 pub record IsToldOnce (w : WorkloadView) (r : Readings) (e : Event) : Type 0 where
   pub told : EachOf TellsOnce w r e
 
--- Tells in time: after the event each space with something untold owns no processor, or its upcall page is being fetched, or it owns a
--- processor whose line is raised.
+-- Tells in time: after the event each space with something untold owns no processor, or its upcall page is being
+-- fetched, or it owns a processor whose line is raised.
 abbrev pub OwnsNone : Readings → SpaceNo → Type 0
 OwnsNone r s = (p : ProcNo) → owner_of r p ≢ Some s
 
@@ -60,8 +60,8 @@ pub record IsPrompt (r : Readings) : Type 0 where
 pub record IsToldInTime (test : Test) (w : WorkloadView) (r : Readings) (e : Event) : Type 0 where
   pub prompt : IsPrompt (after_event test w r e)
 
--- Runs where owned: after the event each processor is owned by the space of its running life; an up comes where no life runs, and a stop
--- or block names the life that runs there.
+-- Runs where owned: after the event each processor is owned by the space of its running life; an up comes where no life
+-- runs, and a stop or block names the life that runs there.
 pub record RunsOn (r : Readings) (p : ProcNo) (s : SpaceNo) (a : ActNo) : Type 0 where
   pub act : running_of r p ≡ Some a
   pub space : space_of_life r (Some a) ≡ Some s
@@ -76,8 +76,9 @@ pub record RunsWhereOwned (test : Test) (w : WorkloadView) (r : Readings) (e : E
   pub named : EachOf (NamesTheLife e.proc) w r e
   pub owned : (after_event test w r e).state.owners ≡ map (space_of_life (after_event test w r e)) (after_event test w r e).running
 
--- An upcall tells all: an up's number is in use by nobody; behind it stand `told add`, exactly where a move to its space stands in the same
--- event, and all that its space was not told, in order, and that is something. A giveback names a life that was taken and not given back.
+-- An upcall tells all: an up's number is in use by nobody; behind it stand `told add`, exactly where a move to its
+-- space stands in the same event, and all that its space was not told, in order, and that is something. A giveback
+-- names a life that was taken and not given back.
 abbrev pub is_moved_to : Option SpaceNo → SpaceNo → Bool
 is_moved_to moved s = is_aim s.0 moved
 
@@ -102,8 +103,9 @@ TellsAllThen p r _ rest = Unit {0}
 pub record UpcallsTellAll (w : WorkloadView) (r : Readings) (e : Event) : Type 0 where
   pub told : EachOf (TellsAllThen e.proc) w r e
 
--- what stands behind where a processor goes on in a space: an up of that space where its upcall page is resident; else the leave, which
--- is a move from the owner to none, an aim at none, and a fetch of the page exactly where it was not being fetched
+-- what stands behind where a processor goes on in a space: an up of that space where its upcall page is resident; else
+-- the leave, which is a move from the owner to none, an aim at none, and a fetch of the page exactly where it was not
+-- being fetched
 abbrev pub fetch_records : SpaceNo → Bool → List Record
 fetch_records s true = []
 fetch_records s false = Fetch s ∷ []
@@ -114,7 +116,8 @@ leave_records p owner s fetching = Move owner None ∷ Aim p None ∷ fetch_reco
 abbrev pub Leaves : ProcNo → Readings → Option SpaceNo → SpaceNo → List Record → Type 0
 Leaves p r owner s rest = leave_run rest ≡ leave_records p owner s (is_fetching r s)
 
--- A block gives an upcall: a block names the number of its I/O, and directly behind it stands an up of its space, or the leave.
+-- A block gives an upcall: a block names the number of its I/O, and directly behind it stands an up of its space, or
+-- the leave.
 abbrev pub GoesOn : Bool → ProcNo → Readings → SpaceNo → List Record → Type 0
 GoesOn true p r s rest = BeginsWithUp s rest
 GoesOn false p r s rest = Leaves p r (Some s) s rest
@@ -130,9 +133,9 @@ GivesUpcallThen p r _ rest = Unit {0}
 pub record BlocksGiveUpcalls (w : WorkloadView) (r : Readings) (e : Event) : Type 0 where
   pub blocks : EachOf (GivesUpcallThen e.proc) w r e
 
--- An interrupt is the next event: an event is an interrupt exactly where its processor's line was raised. It begins with the stop of the
--- owner's life, if there is an owner. Then, where the upcall page of the aim is resident, a move to the aim exactly where it is not the
--- owner, and an up of it; else the leave.
+-- An interrupt is the next event: an event is an interrupt exactly where its processor's line was raised. It begins
+-- with the stop of the owner's life, if there is an owner. Then, where the upcall page of the aim is resident, a move
+-- to the aim exactly where it is not the owner, and an up of it; else the leave.
 abbrev pub BeginsAsInterrupt : List Record → Type 0
 BeginsAsInterrupt (Stop s t a ∷ rest) = Unit {0}
 BeginsAsInterrupt (Move old new ∷ rest) = Unit {0}
@@ -159,8 +162,9 @@ pub record InterruptsNext (w : WorkloadView) (r : Readings) (e : Event) : Type 0
       → StopsAndGoes e.proc (begun w e r) (owner_of r e.proc) (aim_of r e.proc) e.records
   pub calm : BeginsAsInterrupt e.records → is_some (line_of r e.proc) ≡ true
 
--- A line has its cause: no line is raised that is raised already. Directly behind each aim at a space of a processor with a low line stands its
--- line. All other lines, but for one that a user level asked for, stand behind all aims, and they are those that are due there.
+-- A line has its cause: no line is raised that is raised already. Directly behind each aim at a space of a processor
+-- with a low line stands its line. All other lines, but for one that a user level asked for, stand behind all aims, and
+-- they are those that are due there.
 abbrev pub BeginsWithLine : ProcNo → List Record → Type 0
 BeginsWithLine p (Line q ∷ rest) = q ≡ p
 BeginsWithLine p _ = ⊥
@@ -173,8 +177,8 @@ RaisesLine r (Aim p (Some s)) rest = IsHeard r p rest
 RaisesLine r (Line p) rest = line_of r p ≡ None
 RaisesLine r _ rest = Unit {0}
 
--- the line of another processor of its space, which a user level asked for: it is the event's first record. Which of these lines come is said
--- by the user level's own law.
+-- the line of another processor of its space, which a user level asked for: it is the event's first record. Which of
+-- these lines come is said by the user level's own law.
 abbrev pub OwnLines : Type 1
 OwnLines = WorkloadView → Readings → ProcNo → ProcNo → Type 0
 
@@ -195,14 +199,15 @@ pub record LinesHaveCause (Asked : OwnLines) (w : WorkloadView) (r : Readings) (
   pub order : aims_in (last_lines e.records) ≡ []
   pub due : lines_in (last_lines e.records) ≡ lines_due w (behind w e r (front_part e.records))
 
--- A want has its cause: but for the opening, and for the first record of an event, the wants are those that are due; and after the event no
--- space that wants no processor must be told anything.
+-- A want has its cause: but for the opening, and for the first record of an event, the wants are those that are due;
+-- and after the event no space that wants no processor must be told anything.
 pub record WantsHaveCause (test : Test) (w : WorkloadView) (r : Readings) (e : Event) : Type 0 where
   pub due : 1 ≤ e.number → wants_in (others_of e.records) ≡ wants_due w (behind w e r (before_wants e.records))
   pub none : (s : SpaceNo) → must_want (after_event test w r e) s ≡ false
 
--- Aims cover shares: after the event each space has at least its share of aims. Aims at spaces come only where a space misses some, as often
--- as it does, in the order of the spaces' numbers, each of the processor that is first to be chosen.
+-- Aims cover shares: after the event each space has at least its share of aims. Aims at spaces come only where a space
+-- misses some, as often as it does, in the order of the spaces' numbers, each of the processor that is first to be
+-- chosen.
 pub record AimsCoverShares (test : Test) (w : WorkloadView) (r : Readings) (e : Event) : Type 0 where
   pub covered : (s : ℕ) → share_at (shares_at w e.number (after_event test w r e)) s ≤ aimed s (after_event test w r e).aims
   pub due : aims_in e.records ≡ aims_due w e.number (behind w e r (before_aims e.records))

@@ -19,22 +19,22 @@ use Rattle.sa_legal.proofs.SmallestLemmas.{e0, e1, e2, e3, e4, r0, r1, r2, r3, r
 use Rattle.sa_legal.proofs.FoldLemmas.{with-end, break-behind}
 
 -- while thread 0 is ready or runs, the run goes on
-goes-on : (r : Readings) → list_all are_done r.state.spaces ≡ false → list_all are_at_rest r.state.spaces ≡ false → GoesOn r
+pub goes-on : (r : Readings) → list_all are_done r.state.spaces ≡ false → list_all are_at_rest r.state.spaces ≡ false → GoesOn r
 goes-on r done rest = record { done = λ no. cc; stuck = λ no. let h = no.rest in cc }
 
-right0 : (g : List Instr) → HoldEach fast_threads (workload_with g) rules (r0 g) e0 None
+pub right0 : (g : List Instr) → HoldEach fast_threads (workload_with g) rules (r0 g) e0 None
 right0 g = with-end fast_threads (workload_with g) (r0 g) e0 None (lawful0 g) (goes-on (r1 g) refl refl)
 
-right1 : (g : List Instr) → HoldEach fast_threads (workload_with g) rules (r1 g) e1 None
+pub right1 : (g : List Instr) → HoldEach fast_threads (workload_with g) rules (r1 g) e1 None
 right1 g = with-end fast_threads (workload_with g) (r1 g) e1 None (lawful1 g) (goes-on (r2 g) refl refl)
 
-right2 : (g : List Instr) → HoldEach fast_threads (workload_with g) rules (r2 g) e2 None
+pub right2 : (g : List Instr) → HoldEach fast_threads (workload_with g) rules (r2 g) e2 None
 right2 g = with-end fast_threads (workload_with g) (r2 g) e2 None (lawful2 g) (goes-on (r3 g) refl refl)
 
-right3 : (g : List Instr) → HoldEach fast_threads (workload_with g) rules (r3 g) e3 None
+pub right3 : (g : List Instr) → HoldEach fast_threads (workload_with g) rules (r3 g) e3 None
 right3 g = with-end fast_threads (workload_with g) (r3 g) e3 None (lawful3 g) (goes-on (r4 g) refl refl)
 
-right4 : (g : List Instr) → HoldEach fast_threads (workload_with g) rules (r4 g) e4 None
+pub right4 : (g : List Instr) → HoldEach fast_threads (workload_with g) rules (r4 g) e4 None
 right4 g = with-end fast_threads (workload_with g) (r4 g) e4 None (lawful4 g) (goes-on (r5 g) refl refl)
 
 -- the events before the one at 1, 2, 3, 4, 5

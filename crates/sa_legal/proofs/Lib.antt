@@ -12,3 +12,5 @@ pub mod ReadLemmas
 pub mod MomentsRead
 pub mod TimelyLemmas
 pub mod AppendLemmas
+pub mod FirstLemmas
+pub mod OrderLemmas

@@ -1,6 +1,6 @@
 -- At each moment of a legal trace the fold has read what the plain words say.
 use Rattle.std.proofs.Common.{◌≡◌, ◌≢◌, ℕ, zero, suc, ◌+◌, ◌<◌, ◌⊎◌, inl, inr, refl, sym, ◌∙◌, ap, subst, arith, Some, None, List, [], ◌∷◌, ◌++◌, length, false, length-append}
-use Rattle.std.specs.Prelude.{get_or, replicate, Option, Contains}
+use Rattle.std.specs.Prelude.{get_or, replicate, Option}
 use Rattle.std.proofs.lemmas.List.{length-replicate}
 use Rattle.std.proofs.lemmas.Option.{none-some, slice_get_within}
 use Rattle.sa_lemmas.proofs.ListUpdates.{slice_get-append_left, slice_get-append_seam, slice_get-push_cases}
@@ -11,27 +11,18 @@ use Rattle.sa_base.specs.declared.record.Record.{Record}
 use Rattle.sa_base.specs.declared.record.Record.TheVariants.{Line, Told}
 use Rattle.sa_base.specs.declared.record.Item.{Item}
 use Rattle.sa_instr.specs.Workload.{WorkloadView}
-use Rattle.sa_laws.specs.Event.{Event}
-use Rattle.sa_laws.specs.Readings.{Readings, opening_readings, owner_of, aim_of, line_of, demand_of, is_fetching, untold_of}
+use Rattle.sa_laws.specs.Event.{Event, events_of}
+use Rattle.sa_laws.specs.Readings.{Readings, opening_readings, owner_of, aim_of, line_of, demand_of, is_fetching}
 use Rattle.sa_laws.specs.Record.{lines_after, after_record}
-use Rattle.sa_laws.specs.History.{Test, begun, ended}
+use Rattle.sa_laws.specs.History.{readings, Test, begun, ended}
 use Rattle.sa_laws.specs.Upcalls.{RecordLaw, EachRecord}
-use Rattle.sa_legal.specs.Words.{last_aim, aim_said, last_want, want_said, last_owner, move_said, is_fetched, fetch_said, Notes, StandsUntold}
-use Rattle.sa_legal.proofs.WalkLemmas.{IsKept, item}
-use Rattle.sa_legal.proofs.ReadLemmas.{said-more, aim-more, aims-length, demand-more, demands-length, owners-changed, owner-more, owners-length, fetch-more, RaisedAt, raised-more, raised-new, set-cases, clear-cases, untold-stays, untold-comes, untold-length}
-
--- the fold has read what the words say of these items
-pub record Reads (w : WorkloadView) (past : List Item) (r : Readings) : Type 0 where
-  pub owners_len : length r.state.owners ≡ w.processors
-  pub aims_len : length r.aims ≡ w.processors
-  pub demands_len : length r.demands ≡ length w.spaces
-  pub untold_len : length r.untold ≡ length w.spaces
-  pub owners : (p : ProcNo) → owner_of r p ≡ last_owner past p
-  pub aims : (p : ProcNo) → p.0 < w.processors → aim_of r p ≡ last_aim past p
-  pub demands : (s : SpaceNo) → s.0 < length w.spaces → demand_of r s ≡ last_want past s
-  pub fetching : (s : SpaceNo) → is_fetching r s ≡ is_fetched past s
-  pub lines : (p : ProcNo) (e : ℕ) → line_of r p ≡ Some e → RaisedAt past p e
-  pub untold : (s : SpaceNo) (n : Note) → s.0 < length w.spaces → StandsUntold past (length past) s n → Contains (untold_of r s) n
+use Rattle.sa_legal.specs.Words.{RaisedAt, aim_said, want_said, move_said, fetch_said, Notes, StandsUntold}
+use Rattle.sa_laws.specs.Rules.{UserRules, IsLawful}
+use Rattle.sa_legal.specs.Legal.{IsLegal}
+use Rattle.sa_legal.specs.Read.{Reads}
+use Rattle.sa_legal.proofs.EventLemmas.{along, legal-lawful, items-events}
+use Rattle.sa_legal.proofs.WalkLemmas.{walk, IsKept, item}
+use Rattle.sa_legal.proofs.ReadLemmas.{said-more, aim-more, aims-length, demand-more, demands-length, owners-changed, owner-more, owners-length, fetch-more, raised-more, raised-new, set-cases, clear-cases, untold-stays, untold-comes, untold-length}
 
 -- within an event of p, a raised line of p was raised by that event
 pub record ReadsIn (w : WorkloadView) (e : ℕ) (p : ProcNo) (past : List Item) (r : Readings) : Type 0 where
@@ -193,3 +184,12 @@ reads-start w = record {
   lines = λ p e is. absurd (none-some e (sym (all-same None w.processors p.0) ∙ is));
   untold = λ s n below stands. absurd (stands-nowhere s n stands);
 }
+
+-- so the whole of a legal trace is read as the words say
+pub legal-reads : (u : UserRules) (w : WorkloadView) (items : List Item) → IsLegal u w items → Reads w items (readings u.inside w (events_of items))
+legal-reads u w items legal =
+    let gives : (r : Readings) (e : Event) → IsLawful u w r e → EachRecord (OnMachine w e.proc) w e.number e.proc (begun w e r) e.records =
+    λ r e lawful. on-machine w e.proc e.number (begun w e r) e.records lawful.0.proc in
+    let law = along u w (OnMachine w) gives (opening_readings w) (events_of items) (legal-lawful u w items legal) in
+    let read = (walk u.inside w (OnMachine w) (Reads w) (ReadsIn w) Any (reads-kept u.inside w) [] (opening_readings w) (events_of items) (reads-start w) law).0 in
+    subst (λ (ys : List Item). Reads w ys (readings u.inside w (events_of items))) (items-events items) read

@@ -1,5 +1,5 @@
 -- A legal trace tells at most once.
-use Rattle.std.proofs.Common.{◌≡◌, ℕ, zero, suc, ◌<◌, ◌≤◌, refl, sym, ◌∙◌, ap, arith, List, [], ◌∷◌, length, take}
+use Rattle.std.proofs.Common.{subst, ◌≡◌, ℕ, zero, suc, ◌<◌, ◌≤◌, refl, sym, ◌∙◌, ap, arith, List, [], ◌∷◌, length, take}
 use Rattle.std.specs.Prelude.{slice_get, slice_index_or, replicate, Contains}
 use Rattle.std.proofs.lemmas.Option.{slice_get_within}
 use Rattle.sa_base.specs.declared.number.SpaceNo.{SpaceNo}
@@ -12,7 +12,10 @@ use Rattle.sa_laws.specs.Rules.{UserRules}
 use Rattle.sa_legal.specs.Legal.{IsLegal}
 use Rattle.sa_legal.specs.Words.{StandsUntold}
 use Rattle.sa_legal.specs.Headline.{TellsAtMostOnce}
-use Rattle.sa_legal.proofs.EventLemmas.{good-at}
+use Rattle.sa_legal.proofs.EventLemmas.{good-at, along, legal-lawful, items-events}
+use Rattle.sa_legal.proofs.WalkLemmas.{walk}
+use Rattle.sa_laws.specs.Event.{events_of}
+use Rattle.sa_laws.specs.History.{readings}
 use Rattle.sa_legal.proofs.UntoldLemmas.{IsCovered, TellsUntold, tells-kept}
 
 -- before a place of a list stands what stands there in the list
@@ -58,3 +61,10 @@ tells-at-most-once u w items legal j n stands other =
     let h = good n stands.what other in
     let within = slice_get_within items j stands.item stands.at in
     (h.0, stands-within items j h.0 n (omega arith) h.1)
+
+-- all that is read as untold off a legal trace stands untold
+pub covered-whole : (u : UserRules) (w : WorkloadView) (items : List Item) → IsLegal u w items → IsCovered items (readings u.inside w (events_of items))
+covered-whole u w items legal =
+    let law = along u w (λ p. TellsOnce) (λ r e lawful. lawful.1.1.0.told) (opening_readings w) (events_of items) (legal-lawful u w items legal) in
+    let read = (walk u.inside w (λ p. TellsOnce) IsCovered (λ e p. IsCovered) TellsUntold (tells-kept u.inside w) [] (opening_readings w) (events_of items) (covered-start w) law).0 in
+    subst (λ (ys : List Item). IsCovered ys (readings u.inside w (events_of items))) (items-events items) read

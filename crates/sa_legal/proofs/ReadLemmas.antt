@@ -1,6 +1,6 @@
 -- The fold reads what the plain words say: owners, aims, demands, lines, fetches, and what is untold.
 use Rattle.std.proofs.Common.{◌≡◌, ◌≢◌, ℕ, zero, suc, ◌<◌, ◌⊎◌, inl, inr, refl, sym, ◌∙◌, ap, subst, arith, Some, None, List, [], ◌∷◌, ◌++◌, length, map, true, false}
-use Rattle.std.specs.Prelude.{slice_get, slice_set, get_or, unwrap_or, Option, Bool, ◌==◌, not, ◌||◌, if◌then◌else◌, Contains, filter}
+use Rattle.std.specs.Prelude.{slice_set, get_or, unwrap_or, Option, Bool, ◌==◌, not, ◌||◌, if◌then◌else◌, Contains, filter}
 use Rattle.std.specs.List.{list_any}
 use Rattle.std.specs.Option.{option_or}
 use Rattle.std.proofs.lemmas.Bool.{cases_eq, cases_lt}
@@ -28,7 +28,7 @@ use Rattle.sa_laws.specs.State.{State, placed_if}
 use Rattle.sa_laws.specs.Machine.{changed}
 use Rattle.sa_laws.specs.Readings.{Readings, untold_of}
 use Rattle.sa_laws.specs.Record.{aims_after, demands_after, under_way_after, untold_after, with_note, is_other_note, same_note, blocking_for, length_behind, is_io_of, is_io_of_other, is_kind_of}
-use Rattle.sa_legal.specs.Words.{last_said, aim_in, want_in, move_in, fetch_in, line_in, IsRaised, Notes}
+use Rattle.sa_legal.specs.Words.{last_said, aim_in, want_in, move_in, fetch_in, RaisedAt, Notes}
 use Rattle.sa_legal.proofs.WalkLemmas.{item}
 
 or-none : {A : Type 0} (x : Option A) → option_or None x ≡ option_or x None
@@ -208,27 +208,15 @@ fetch-more w e r (Unblock of t a) s =
 fetch-more w e r (Fetched t) s = fetched-said s.0 t.0 r.under_way
 fetch-more w e r x s = refl
 
--- a raised line, and the event that raised it
-pub record RaisedAt (past : List Item) (p : ProcNo) (e : ℕ) : Type 0 where
-  pub place : ℕ
-  pub item : Item
-  pub at : slice_get past place ≡ Some item
-  pub line : line_in p item.what ≡ true
-  pub event : item.event ≡ e
-  pub none : (k : ℕ) (x : Item) → place < k → slice_get past k ≡ Some x → item.event < x.event → x.proc ≢ p
-
-pub raised-plain : (past : List Item) (p : ProcNo) (e : ℕ) → RaisedAt past p e → IsRaised past p
-raised-plain past p e o = record { place = o.place; item = o.item; at = o.at; line = o.line; none = o.none }
-
 pub raised-more : (past : List Item) (x : Item) (p : ProcNo) (e : ℕ) → (e < x.event → x.proc ≢ p) → RaisedAt past p e → RaisedAt (past ++ x ∷ []) p e
 raised-more past x p e apart o = record {
   place = o.place;
   item = o.item;
   at = slice_get-append_left past (x ∷ []) o.place (slice_get_within past o.place o.item o.at) ∙ o.at;
   line = o.line;
-  event = o.event;
+  raised = o.raised;
   none = λ k y above at below. elim (slice_get-push_cases past k x y at) [
-    | inl new ↦ (let event = o.event in let same = ap (λ (z : Item). z.event) new.1 in λ proc. apart (omega arith) (ap (λ (z : Item). z.proc) (sym new.1) ∙ proc))
+    | inl new ↦ (let raised = o.raised in let same = ap (λ (z : Item). z.event) new.1 in λ proc. apart (omega arith) (ap (λ (z : Item). z.proc) (sym new.1) ∙ proc))
     | inr old ↦ o.none k y above old below
   ];
 }
@@ -242,7 +230,7 @@ raised-new past e q p = record {
   item = item e q (Line p);
   at = slice_get-append_seam past [] (item e q (Line p));
   line = alike p.0;
-  event = refl;
+  raised = refl;
   none = λ k y above at below. elim (slice_get-push_cases past k (item e q (Line p)) y at) [
     | inl new ↦ (let place = new.0 in absurd (omega arith))
     | inr old ↦ (let within = slice_get_within past k y old in absurd (omega arith))

@@ -23,13 +23,14 @@ use Rattle.sa_laws.specs.Rules.{UserRules, IsLawful}
 use Rattle.sa_legal.specs.Legal.{IsLegal}
 use Rattle.sa_legal.specs.Words.{last_aim}
 use Rattle.sa_legal.specs.Headline.{up_to, AtEachEnd, IsInTime, TellsInTime, CoversShares, SharesAreCovered, claim_in, aims_of, procs_of}
+use Rattle.sa_legal.specs.Read.{Reads}
 use Rattle.sa_legal.proofs.WalkLemmas.{walk-ends}
 use Rattle.sa_legal.proofs.EventLemmas.{items-events, legal-lawful}
 use Rattle.sa_legal.proofs.MomentLemmas.{numbered-lawful, ends-at}
-use Rattle.sa_legal.proofs.ReadLemmas.{raised-plain}
-use Rattle.sa_legal.proofs.MomentsRead.{Reads, ReadsIn, OnMachine, on-machine, Any, reads-kept, reads-start}
+use Rattle.sa_legal.proofs.MomentsRead.{ReadsIn, OnMachine, on-machine, Any, reads-kept, reads-start}
 
--- what follows from the laws of an event and from what is read at its end holds at the end of each event of a legal trace
+-- what follows from the laws of an event and from what is read at its end holds at the end of each event of a legal
+-- trace
 pub at-each-end : (u : UserRules) (w : WorkloadView) (items : List Item) (E : List Item → ℕ → Type 0) → IsLegal u w items
     → ((past : List Item) (r : Readings) (e : Event) → IsLawful u w r e → Reads w past (after_event u.inside w r e) → E past e.number)
     → AtEachEnd E items
@@ -58,7 +59,7 @@ in-time u w past r e law reads s n below stands =
       | inr (inl fetching) ↦ inr (inl (sym (reads.fetching s) ∙ fetching))
       | inr (inr raised) ↦
           let line = has-some (line_of (after_event u.inside w r e) raised.0) raised.2 in
-          inr (inr (raised.0, sym (reads.owners raised.0) ∙ raised.1, raised-plain past raised.0 line.0 (reads.lines raised.0 line.0 line.1)))
+          inr (inr (raised.0, sym (reads.owners raised.0) ∙ raised.1, (line.0, reads.lines raised.0 line.0 line.1)))
     ]
 
 pub tells-in-time : (u : UserRules) (w : WorkloadView) (items : List Item) → IsLegal u w items → TellsInTime w items

@@ -18,8 +18,8 @@ use Rattle.sa_legal.specs.Fold.{AreLawful}
 abbrev pub item : ℕ → ProcNo → Record → Item
 item e p x = record { event = e; proc = p; what = x }
 
--- it is kept from event to event; within an event a like thing, `Mid`, is kept by each record of which the law holds, and moreover something good
--- is so at it
+-- it is kept from event to event; within an event a like thing, `Mid`, is kept by each record of which the law holds,
+-- and moreover something good is so at it
 pub record IsKept (test : Test) (w : WorkloadView) (L : ProcNo → RecordLaw) (Inv : List Item → Readings → Type 0)
     (Mid : ℕ → ProcNo → List Item → Readings → Type 0) (Good : List Item → Item → Type 0) : Type 0 where
   pub begins : (past : List Item) (r : Readings) (e : Event) → Inv past r → Mid e.number e.proc past (begun w e r)

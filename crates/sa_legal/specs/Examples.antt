@@ -6,11 +6,12 @@ use Rattle.sa_base.specs.declared.number.ThreadNo.{ThreadNo}
 use Rattle.sa_base.specs.declared.number.ActNo.{ActNo}
 use Rattle.sa_base.specs.declared.record.Note.TheVariants.{Add, Preempted, Blocked}
 use Rattle.sa_base.specs.declared.record.Record.{Record}
-use Rattle.sa_base.specs.declared.record.Record.TheVariants.{Ins, Run, Stop, Block, Take, Free, Up, Told, Move, Want, Aim, Line, Idle, Tick}
+use Rattle.sa_base.specs.declared.record.Record.TheVariants.{Ins, Run, Ready, Stop, Block, Take, Free, Up, Told, Move, Want, Aim, Line, Idle, Tick}
 use Rattle.sa_base.specs.declared.record.Item.{Item}
 use Rattle.sa_base.specs.declared.record.End.TheVariants.{AllDone, Budget}
 use Rattle.sa_instr.specs.declared.instr.Instr.{Instr}
-use Rattle.sa_instr.specs.declared.instr.Instr.TheVariants.{Io as IoOf, End}
+use Rattle.sa_instr.specs.declared.instr.Instr.TheVariants.{Io as IoOf, Fork, End}
+use Rattle.sa_instr.specs.declared.instr.Reg.TheVariants.{R0}
 use Rattle.sa_instr.specs.Space.{SpaceView}
 use Rattle.sa_instr.specs.Workload.{WorkloadView}
 use Rattle.sa_laws.specs.Event.{Event, items_of}
@@ -145,3 +146,34 @@ not_done = trace_then 4 (Free s0 p0 (Some t0) ∷ [])
 
 abbrev pub told_done : LastLine
 told_done = record { end = AllDone; events = 4 }
+
+-- List order: of two ready threads the older one is taken from the processor's own list. The workload's program is `fork r0 0` twice, and `end`.
+abbrev pub forking_program : List Instr
+forking_program = Fork R0 0 ∷ Fork R0 0 ∷ End ∷ []
+
+abbrev pub forking : WorkloadView
+forking = workload_with forking_program
+
+abbrev pub t1 : ThreadNo
+t1 = record { 0 = 1 }
+
+abbrev pub t2 : ThreadNo
+t2 = record { 0 = 2 }
+
+abbrev pub forking_run : List Event
+forking_run =
+    take 5 smallest_run
+    ++ at 5 (Ins s0 t0 0 ∷ [])
+    ∷ at 6 (Take s0 p0 (Some t0) ∷ [])
+    ∷ at 7 (Ready s0 t1 ∷ [])
+    ∷ at 8 (Free s0 p0 (Some t0) ∷ [])
+    ∷ at 9 (Ins s0 t0 1 ∷ [])
+    ∷ at 10 (Take s0 p0 (Some t0) ∷ [])
+    ∷ at 11 (Ready s0 t2 ∷ [])
+    ∷ at 12 (Free s0 p0 (Some t0) ∷ [])
+    ∷ at 13 (Ins s0 t0 2 ∷ [])
+    ∷ at 14 (Take s0 p0 None ∷ [])
+    ∷ []
+
+abbrev pub older_taken : List Item
+older_taken = items_of (forking_run ++ at 15 (Run s0 t1 ∷ []) ∷ [])

@@ -30,14 +30,15 @@ abbrev pub up_to : ℕ → List Item → List Item
 up_to e [] = []
 up_to e (x ∷ xs) = if nat_le x.event e then x ∷ up_to e xs else []
 
--- Each told record but `told add` tells a stop, block or unblock that stands before it and that no record between tells: so no two tell the same.
+-- Each told record but `told add` tells a stop, block or unblock that stands before it and that no record between
+-- tells: so no two tell the same.
 abbrev pub TellsAtMostOnce : List Item → Type 0
 TellsAtMostOnce items =
     (j : ℕ) (n : Note) → Stands items j (Told n) → ((p : ProcNo) → n ≢ Add p)
     → (s : SpaceNo) × StandsUntold items j s n
 
--- After each event, a space with an untold stop, block or unblock has no processor, or its upcall page is being fetched, or it owns a processor
--- whose line is raised.
+-- After each event, a space with an untold stop, block or unblock has no processor, or its upcall page is being
+-- fetched, or it owns a processor whose line is raised.
 abbrev pub HasNoProcessor : List Item → SpaceNo → Type 0
 HasNoProcessor past s = (p : ProcNo) → last_owner past p ≢ Some s
 
@@ -67,8 +68,8 @@ NumbersAreFresh items =
     (i j : ℕ) (s t : SpaceNo) (a : ActNo) → i < j → Stands items i (Up s a) → Stands items j (Up t a)
     → IsGivenBack items i j a
 
--- After each event each space has at least its share of aims. What it claims is its demand, and while its upcall page is fetched no more than it
--- has aims.
+-- After each event each space has at least its share of aims. What it claims is its demand, and while its upcall page
+-- is fetched no more than it has aims.
 abbrev pub procs_of : WorkloadView → List ProcNo
 procs_of w = map proc_no (range_with_len 0 w.processors)
 
@@ -90,7 +91,8 @@ CoversShares w past event =
 abbrev pub SharesAreCovered : WorkloadView → List Item → Type 0
 SharesAreCovered w items = AtEachEnd (CoversShares w) items
 
--- A thread holds a list lock from a take that names it, or from its run, until a free that names it. No ready names a thread that holds one.
+-- A thread holds a list lock from a take that names it, or from its run, until a free that names it. No ready names a
+-- thread that holds one.
 abbrev pub Begins : SpaceNo → ThreadNo → Record → Type 0
 Begins s t (Take of l u) = (of ≡ s) × (u ≡ Some t)
 Begins s t (Run of u) = (of ≡ s) × (u ≡ t)

@@ -49,8 +49,8 @@ pub record IsRight (u : UserRules) (w : WorkloadView) (items : List Item) (line 
   pub some : events_of items ≢ []
   pub each : HoldsBefore u w (events_of items) line (length (events_of items))
 
--- The first break of a history: every rule holds at the events before the one at n, whose number is this, and at that one this rule is the
--- first that does not hold.
+-- The first break of a history: every rule holds at the events before the one at n, whose number is this, and at that
+-- one this rule is the first that does not hold.
 pub record BreaksAt (u : UserRules) (w : WorkloadView) (events : List Event) (line : LastLine) (number : ℕ) (rule : Rule) : Type 0 where
   pub place : ℕ
   pub event : Event

@@ -1,5 +1,6 @@
 pub mod Legal
 pub mod Words
+pub mod Read
 pub mod Headline
 pub mod Examples
 pub mod Fold

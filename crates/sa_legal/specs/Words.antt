@@ -52,12 +52,16 @@ abbrev pub line_in : ProcNo → Record → Bool
 line_in p (Line q) = q.0 == p.0
 line_in p _ = false
 
-pub record IsRaised (items : List Item) (p : ProcNo) : Type 0 where
+pub record RaisedAt (items : List Item) (p : ProcNo) (event : ℕ) : Type 0 where
   pub place : ℕ
   pub item : Item
   pub at : slice_get items place ≡ Some item
   pub line : line_in p item.what ≡ true
+  pub raised : item.event ≡ event
   pub none : (k : ℕ) (x : Item) → place < k → slice_get items k ≡ Some x → item.event < x.event → x.proc ≢ p
+
+abbrev pub IsRaised : List Item → ProcNo → Type 0
+IsRaised items p = (event : ℕ) × RaisedAt items p event
 
 -- the upcall page of a space is being fetched where a fetch of it stands and no `fetched` behind that
 abbrev pub fetch_in : SpaceNo → Record → Option Bool

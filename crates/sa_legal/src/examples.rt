@@ -1,8 +1,8 @@
 //! Short histories. No function here does anything: its clauses are proved.
-ghost use Rattle.sa_laws.specs.declared.rule.Rule.TheVariants.{D11, D6, U1, U2, U3, U4, U5, U6, U7, U8, L1, L2, L3, L4, D12};
+ghost use Rattle.sa_laws.specs.declared.rule.Rule.TheVariants.{D11, D6, U1, U2, U3, U4, U5, U6, U7, U8, L1, L2, L3, L4, L5, D12};
 ghost use Rattle.sa_laws.specs.Rules.{fast_threads};
 ghost use Rattle.sa_legal.specs.Legal.{IsLegal, FirstBreak};
-ghost use Rattle.sa_legal.specs.Examples.{smallest, smallest_trace, blocking, stops_at, told_done, other_opening, other_place, told_of_nothing, stopped_untold, two_lives, not_told_added, other_io, interrupt_put_off, raised_for_nothing, wanted_for_nothing, aimed_for_nothing, idle_with_lock, idle_beside_thread, freed_unused, not_done};
+ghost use Rattle.sa_legal.specs.Examples.{smallest, smallest_trace, blocking, stops_at, told_done, other_opening, other_place, told_of_nothing, stopped_untold, two_lives, not_told_added, other_io, interrupt_put_off, raised_for_nothing, wanted_for_nothing, aimed_for_nothing, idle_with_lock, idle_beside_thread, freed_unused, not_done, forking, older_taken};
 
 /// The run of the smallest workload is legal.
 pub fn smallest_run_is_legal()
@@ -25,5 +25,6 @@ pub fn rules_can_be_broken()
     ensures demand { FirstBreak fast_threads smallest idle_with_lock (stops_at 3) 3 L2 }
     ensures turn { FirstBreak fast_threads smallest idle_beside_thread (stops_at 2) 2 L3 }
     ensures locks { FirstBreak fast_threads smallest freed_unused (stops_at 3) 3 L4 }
+    ensures order { FirstBreak fast_threads forking older_taken (stops_at 15) 15 L5 }
     ensures end { FirstBreak fast_threads smallest not_done told_done 4 D12 }
 {}

@@ -1,12 +1,19 @@
 //! Laws of histories, for those who prove that a run is legal. No function here does anything.
-ghost use Rattle.std.specs.Prelude.{◌≡◌, ◌≢◌, ◌↔◌, ℕ, List, [], ◌++◌};
+ghost use Rattle.std.specs.Prelude.{◌≡◌, ◌≢◌, ◌↔◌, ℕ, List, [], ◌++◌, length, Contains};
+ghost use Rattle.sa_base.specs.declared.number.SpaceNo.{SpaceNo};
+ghost use Rattle.sa_base.specs.declared.record.Note.{Note};
 ghost use Rattle.sa_base.specs.declared.record.Item.{Item};
 ghost use Rattle.sa_instr.specs.Workload.{WorkloadView};
 ghost use Rattle.sa_laws.specs.Event.{Event, items_of, events_of};
 ghost use Rattle.sa_laws.specs.Readings.{Readings, opening_readings};
-ghost use Rattle.sa_laws.specs.History.{is_inside, after_events};
+ghost use Rattle.sa_laws.specs.History.{is_inside, after_events, readings};
+ghost use Rattle.sa_laws.specs.declared.rule.Rule.{Rule};
+ghost use Rattle.sa_laws.specs.Readings.{untold_of};
+ghost use Rattle.sa_laws.specs.Ends.{LastLine};
 ghost use Rattle.sa_laws.specs.Rules.{fast_threads};
-ghost use Rattle.sa_legal.specs.Legal.{IsLegal, IsLegalHistory};
+ghost use Rattle.sa_legal.specs.Legal.{IsLegal, IsLegalHistory, IsRight, FirstBreak};
+ghost use Rattle.sa_legal.specs.Words.{StandsUntold};
+ghost use Rattle.sa_legal.specs.Read.{Reads};
 ghost use Rattle.sa_legal.specs.Fold.{AreLawful, AreNumbered};
 
 /// The history of a trace has its items, and no others.
@@ -30,4 +37,24 @@ pub fn laws_hold_along_histories()
         → AreLawful fast_threads w r before
         → AreLawful fast_threads w (after_events is_inside w r before) more
         → AreLawful fast_threads w r (before ++ more) }
+{}
+
+/// What the fold reads off a legal trace as owners, aims, demands, fetches, raised lines and untold records is what the
+/// plain words say.
+pub fn legal_traces_are_read()
+    ensures words { (w : WorkloadView) (items : List Item) → IsLegal fast_threads w items
+        → Reads w items (readings is_inside w (events_of items)) }
+    ensures untold { (w : WorkloadView) (items : List Item) → IsLegal fast_threads w items
+        → (s : SpaceNo) (n : Note)
+        → Contains (untold_of (readings is_inside w (events_of items)) s) n
+        → StandsUntold items (length items) s n }
+{}
+
+/// A trace has one first break, and none where every rule holds.
+pub fn traces_break_once()
+    ensures once { (w : WorkloadView) (items : List Item) (line : LastLine) (m n : ℕ) (a b : Rule)
+        → FirstBreak fast_threads w items line m a → FirstBreak fast_threads w items line n b
+        → (m ≡ n) × (a ≡ b) }
+    ensures none { (w : WorkloadView) (items : List Item) (line : LastLine) (n : ℕ) (rule : Rule)
+        → IsRight fast_threads w items line → FirstBreak fast_threads w items line n rule → ⊥ }
 {}

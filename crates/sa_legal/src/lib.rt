@@ -10,4 +10,7 @@ pub use headline::{
     legal_runs_cover_shares, legal_runs_tell_at_most_once, legal_runs_tell_in_time,
     legal_runs_use_fresh_numbers,
 };
-pub use laws::{histories_are_traces, laws_hold_along_histories, traces_are_histories};
+pub use laws::{
+    histories_are_traces, laws_hold_along_histories, legal_traces_are_read, traces_are_histories,
+    traces_break_once,
+};

@@ -1,4 +1,5 @@
 use Rattle.sa_legal.proofs.BreakLemmas.{breaks-D11, breaks-D6, breaks-U1, breaks-U2, breaks-U3, breaks-U4, breaks-U5, breaks-U6, breaks-U7, breaks-U8, breaks-L1, breaks-L2, breaks-L3, breaks-L4, breaks-D12}
+use Rattle.sa_legal.proofs.OrderLemmas.{breaks-L5}
 use Rattle.sa_legal.proofs.examples.rules_can_be_broken.Goals as goal
 
 pub returns-clause-opening : goal.returns-clause-opening
@@ -45,3 +46,6 @@ returns-clause-locks c = breaks-L4
 
 pub returns-clause-end : goal.returns-clause-end
 returns-clause-end c = breaks-D12
+
+pub returns-clause-order : goal.returns-clause-order
+returns-clause-order c = breaks-L5

@@ -1,0 +1,143 @@
+-- There is one first break, and none where every rule holds.
+use Rattle.std.proofs.Common.{◌≡◌, ℕ, zero, suc, ◌<◌, inl, inr, refl, sym, ◌∙◌, ap, subst, arith, Some, List, [], ◌∷◌, length, take}
+use Rattle.std.specs.Prelude.{◌≢◌, slice_get, Option}
+use Rattle.std.proofs.lemmas.Bool.{cases_order}
+use Rattle.std.proofs.lemmas.Option.{none-some, same_Some, slice_get_within}
+use Rattle.sa_instr.specs.Workload.{WorkloadView}
+use Rattle.sa_base.specs.declared.record.Item.{Item}
+use Rattle.sa_laws.specs.declared.rule.Rule.{Rule}
+use Rattle.sa_laws.specs.declared.rule.Rule.TheVariants.{D11, D6, U1, U2, U3, U4, U5, U6, U7, U8, L1, L2, L3, L4, L5, D12}
+use Rattle.sa_laws.specs.Event.{Event, events_of}
+use Rattle.sa_laws.specs.Readings.{Readings}
+use Rattle.sa_laws.specs.Ends.{LastLine}
+use Rattle.sa_laws.specs.Rules.{UserRules, Holds, HoldEach, Breaks, rules, rules_before}
+use Rattle.sa_legal.specs.Legal.{before, BreaksAt, FirstBreak, FirstBreakIn, IsRight, HoldsBefore, line_at}
+
+abbrev rank : Rule → ℕ
+rank D11 = 0
+rank D6 = 1
+rank U1 = 2
+rank U2 = 3
+rank U3 = 4
+rank U4 = 5
+rank U5 = 6
+rank U6 = 7
+rank U7 = 8
+rank U8 = 9
+rank L1 = 10
+rank L2 = 11
+rank L3 = 12
+rank L4 = 13
+rank L5 = 14
+rank D12 = 15
+
+at-rank : (rule : Rule) → slice_get rules (rank rule) ≡ Some rule
+at-rank D11 = refl
+at-rank D6 = refl
+at-rank U1 = refl
+at-rank U2 = refl
+at-rank U3 = refl
+at-rank U4 = refl
+at-rank U5 = refl
+at-rank U6 = refl
+at-rank U7 = refl
+at-rank U8 = refl
+at-rank L1 = refl
+at-rank L2 = refl
+at-rank L3 = refl
+at-rank L4 = refl
+at-rank L5 = refl
+at-rank D12 = refl
+
+before-rank : (rule : Rule) → rules_before rule ≡ take (rank rule) rules
+before-rank D11 = refl
+before-rank D6 = refl
+before-rank U1 = refl
+before-rank U2 = refl
+before-rank U3 = refl
+before-rank U4 = refl
+before-rank U5 = refl
+before-rank U6 = refl
+before-rank U7 = refl
+before-rank U8 = refl
+before-rank L1 = refl
+before-rank L2 = refl
+before-rank L3 = refl
+before-rank L4 = refl
+before-rank L5 = refl
+before-rank D12 = refl
+
+-- one of rules that all hold
+holds-one : (u : UserRules) (w : WorkloadView) (list : List Rule) (r : Readings) (e : Event) (last : Option LastLine) (k : ℕ) (rule : Rule)
+    → HoldEach u w list r e last → slice_get list k ≡ Some rule → Holds u w rule r e last
+holds-one u w [] r e last k rule all at = absurd (none-some rule at)
+holds-one u w (x ∷ xs) r e last zero rule all at = subst (λ y. Holds u w y r e last) (same_Some x rule at) all.0
+holds-one u w (x ∷ xs) r e last (suc k) rule all at = holds-one u w xs r e last k rule all.1 at
+
+get-front : (list : List Rule) (n k : ℕ) → k < n → slice_get (take n list) k ≡ slice_get list k
+get-front [] zero k below = refl
+get-front [] (suc n) k below = refl
+get-front (x ∷ xs) zero k below = absurd (omega arith)
+get-front (x ∷ xs) (suc n) zero below = refl
+get-front (x ∷ xs) (suc n) (suc k) below = get-front xs n k (omega arith)
+
+pub holds-each : (u : UserRules) (w : WorkloadView) (r : Readings) (e : Event) (last : Option LastLine) (rule : Rule) → HoldEach u w rules r e last → Holds u w rule r e last
+holds-each u w r e last rule all = holds-one u w rules r e last (rank rule) rule all (at-rank rule)
+
+holds-earlier : (u : UserRules) (w : WorkloadView) (r : Readings) (e : Event) (last : Option LastLine) (a b : Rule) → rank a < rank b
+    → HoldEach u w (rules_before b) r e last → Holds u w a r e last
+holds-earlier u w r e last a b less all =
+    holds-one u w (take (rank b) rules) r e last (rank a) a (subst (λ list. HoldEach u w list r e last) (before-rank b) all)
+    (get-front rules (rank b) (rank a) less ∙ at-rank a)
+
+same-rank : (a b : Rule) → rank a ≡ rank b → a ≡ b
+same-rank a b same = same_Some a b (sym (at-rank a) ∙ ap (slice_get rules) same ∙ at-rank b)
+
+-- at one event one rule is the first that fails
+one-rule : (u : UserRules) (w : WorkloadView) (r : Readings) (e : Event) (last : Option LastLine) (a b : Rule) → Breaks u w r e last a → Breaks u w r e last b → a ≡ b
+one-rule u w r e last a b of_a of_b = elim (cases_order (rank a) (rank b)) [
+  | inl same ↦ same-rank a b same
+  | inr (inl less) ↦ absurd (of_a.broken (holds-earlier u w r e last a b less of_b.earlier))
+  | inr (inr more) ↦ absurd (of_b.broken (holds-earlier u w r e last b a more of_a.earlier))
+]
+
+-- and no break stands before another
+not-before : (u : UserRules) (w : WorkloadView) (events : List Event) (line : LastLine) (m n : ℕ) (a b : Rule)
+    → (x : BreaksAt u w events line m a) → (y : BreaksAt u w events line n b) → x.place < y.place → ⊥
+not-before u w events line m n a b x y below =
+    x.breaks.broken (holds-each u w (before u w events x.place) x.event (line_at events line x.place) a (y.earlier x.place x.event below x.at))
+
+one-place : (u : UserRules) (w : WorkloadView) (events : List Event) (line : LastLine) (m n : ℕ) (a b : Rule) (k : ℕ) (e f : Event)
+    → slice_get events k ≡ Some e → slice_get events k ≡ Some f → e.number ≡ m → f.number ≡ n
+    → Breaks u w (before u w events k) e (line_at events line k) a → Breaks u w (before u w events k) f (line_at events line k) b → (m ≡ n) × (a ≡ b)
+one-place u w events line m n a b k e f at_e at_f is_m is_n of_a of_b =
+    let same : e ≡ f = same_Some e f (sym at_e ∙ at_f) in (
+      sym is_m ∙ ap (λ (x : Event). x.number) same ∙ is_n,
+      one-rule u w (before u w events k) f (line_at events line k) a b (subst (λ (x : Event). Breaks u w (before u w events k) x (line_at events line k) a) same of_a) of_b,
+    )
+
+one-break : (u : UserRules) (w : WorkloadView) (events : List Event) (line : LastLine) (m n : ℕ) (a b : Rule)
+    → BreaksAt u w events line m a → BreaksAt u w events line n b → (m ≡ n) × (a ≡ b)
+one-break u w events line m n a b x y = elim (cases_order x.place y.place) [
+  | inl same ↦ one-place u w events line m n a b y.place x.event y.event
+      (subst (λ k. slice_get events k ≡ Some x.event) same x.at) y.at x.numbered y.numbered
+      (subst (λ k. Breaks u w (before u w events k) x.event (line_at events line k) a) same x.breaks) y.breaks
+  | inr (inl less) ↦ absurd (not-before u w events line m n a b x y less)
+  | inr (inr more) ↦ absurd (not-before u w events line n m b a y x more)
+]
+
+pub breaks-once : (u : UserRules) (w : WorkloadView) (items : List Item) (line : LastLine) (m n : ℕ) (a b : Rule)
+    → FirstBreak u w items line m a → FirstBreak u w items line n b → (m ≡ n) × (a ≡ b)
+breaks-once u w items line m n a b x y = by (events_of items) x y where
+  by : (events : List Event) → FirstBreakIn u w events line m a → FirstBreakIn u w events line n b → (m ≡ n) × (a ≡ b)
+  by [] p q = (p.0 ∙ sym q.0, p.1 ∙ sym q.1)
+  by (e ∷ es) p q = one-break u w (e ∷ es) line m n a b p q
+
+pub right-or-broken : (u : UserRules) (w : WorkloadView) (items : List Item) (line : LastLine) (n : ℕ) (rule : Rule)
+    → IsRight u w items line → FirstBreak u w items line n rule → ⊥
+right-or-broken u w items line n rule right broken = by (events_of items) right.some right.each broken where
+  by : (events : List Event) → events ≢ [] → HoldsBefore u w events line (length events) → FirstBreakIn u w events line n rule → ⊥
+  by [] some each broken = some refl
+  by (e ∷ es) some each broken =
+      broken.breaks.broken (holds-each u w (before u w (e ∷ es) broken.place) broken.event (line_at (e ∷ es) line broken.place) rule
+      (each broken.place broken.event (slice_get_within (e ∷ es) broken.place broken.event broken.at) broken.at))
