@@ -1,5 +1,5 @@
 -- Each change keeps the agreement of a processor's words with what the keeper and the poller know.
-use Rattle.std.proofs.Common.{◌≡◌, ◌≢◌, ℕ, ◌+◌, ◌-◌, ◌<◌, ◌≤◌, ◌==◌, Bool, true, false, List, [], ◌∷◌, ◌++◌, length, slice_index, slice_index_or, slice_set, MatchBool, inl, inr, refl, sym, ◌∙◌, ap, subst, arith, Some, None}
+use Rattle.std.proofs.Common.{◌≡◌, ◌≢◌, ℕ, ◌+◌, ◌<◌, ◌≤◌, ◌==◌, Bool, true, false, List, [], ◌∷◌, ◌++◌, length, slice_index, slice_index_or, slice_set, MatchBool, inl, inr, refl, sym, ◌∙◌, ap, subst, arith, Some, None}
 use Rattle.std.proofs.lemmas.Bool.Decides.{nat_tests}
 use Rattle.std.proofs.lemmas.List.{get_or-set_same, get_or-set_other}
 use Rattle.std.proofs.lemmas.List.Elements.{Contains-append_left, Contains-push, All-push}
@@ -15,11 +15,11 @@ use Rattle.sa_lines.specs.Steps.{raised, lowered, granted, cleared, polled, take
 line_more : (events : List ℕ) (e n : ℕ) → IsLineOf events n → IsLineOf (events ++ e ∷ []) n
 line_more events e n h = elim h [ inl z ↦ inl z | inr w ↦ inr (w.0, Contains-append_left events (e ∷ []) w.0 w.1, w.2) ]
 
-pub agree_raised : (line credit e : ℕ) (l : Lane) (q : Polled) → Agree line credit l q → Agree (e + 1) credit (raised (e + 1) l) q
+pub agree_raised : (line credit e : ℕ) (l : Lane) (q : Polled) → Agree line credit l q → Agree (e + 1) credit (raised e l) q
 agree_raised line credit e l q h = record {
   stored = refl;
-  raised = inr (e + 1 - 1, Contains-push l.raised (e + 1 - 1), omega arith);
-  polled = λ k d lt. line_more l.raised (e + 1 - 1) (slice_index_or q.read k d) (h.polled k d lt);
+  raised = inr (e, Contains-push l.raised e, refl);
+  polled = λ k d lt. line_more l.raised e (slice_index_or q.read k d) (h.polled k d lt);
   balanced = h.balanced;
   counted = h.counted;
 }

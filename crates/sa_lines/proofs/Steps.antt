@@ -1,5 +1,5 @@
 -- Each step of the keeper and of a poller keeps the rule.
-use Rattle.std.proofs.Common.{◌≡◌, ◌≢◌, ℕ, zero, suc, ◌+◌, ◌*◌, ◌<◌, ◌≤◌, ◌==◌, Bool, true, false, List, [], ◌∷◌, length, slice_index, slice_set, MatchBool, inl, inr, refl, sym, ◌∙◌, ap, subst, arith}
+use Rattle.std.proofs.Common.{◌-◌, ◌≡◌, ◌≢◌, ℕ, zero, suc, ◌+◌, ◌*◌, ◌<◌, ◌≤◌, ◌==◌, Bool, true, false, List, [], ◌∷◌, length, slice_index, slice_set, MatchBool, inl, inr, refl, sym, ◌∙◌, ap, subst, arith}
 use Rattle.std.proofs.lemmas.Bool.Decides.{nat_tests}
 use Rattle.std.proofs.lemmas.List.{length-set, set-get_or, get_or-set_same, get_or-set_other}
 use Rattle.std.proofs.Math.Nat.{mul-div_cancel_left}
@@ -210,6 +210,10 @@ apart_line p q ne = (λ e. ne (omega (arith, e)), λ e. omega (arith, e))
 apart_credit : (p q : ℕ) → q ≢ p → (line_word q ≢ credit_word p) × (credit_word q ≢ credit_word p)
 apart_credit p q ne = (λ e. omega (arith, e), λ e. ne (omega (arith, e)))
 
+-- the event of a number that is stored for a raise
+pub one_less : (e : ℕ) → e + 1 - 1 ≡ e
+one_less e = omega arith
+
 module _ {S : Type 0} (slots id : ℕ) (held : List (ℕ × S)) where
   -- a view that becomes one with the lane of this processor changed
   becomes_at : (change : Lane → Lane) (v : View) (p q : ℕ) → q ≡ p → Becomes (v, held) (on_lane q change v) (on_lane p change v, held)
@@ -219,13 +223,14 @@ module _ {S : Type 0} (slots id : ℕ) (held : List (ℕ × S)) where
   raise_keeps (Polling q own) p e k = absurd k
   raise_keeps Spent p e k = absurd k
   raise_keeps (Keeping lanes split) p e k = λ s h len is fits. (
-    on_lane p (raised (e + 1)) (Keeping lanes split),
+    on_lane p (raised e) (Keeping lanes split),
     keeps,
     tt,
-    keeper_keeps s id h (line_word p) (e + 1) s.homes lanes split is p (raised (e + 1)) (λ l. refl) (apart_line p)
-        (λ b room a. agree_line s.words p (e + 1) (raised (e + 1) (lane_at lanes p)) b room
+    keeper_keeps s id h (line_word p) (e + 1) s.homes lanes split is p (raised e) (λ l. refl) (apart_line p)
+        (λ b room a. agree_line s.words p (e + 1) (raised e (lane_at lanes p)) b room
         (agree_raised (slice_index s.words (line_word p)) (slice_index s.words (credit_word p)) e (lane_at lanes p) b a)),
-    becomes_at (raised (e + 1)) (Keeping lanes split) p (proc_of (line_word p)) (proc_line p),
+    ap (λ (z : ℕ). (on_lane p (raised z) (Keeping lanes split), held)) (sym (one_less e))
+        ∙ becomes_at (raised (e + 1 - 1)) (Keeping lanes split) p (proc_of (line_word p)) (proc_line p),
   )
 
   lower_keeps : (v : View) (p : ℕ) → IsKeeping v → Allows Holds slots id (v, held) (line_word p) (λ _. 0) (λ _. Lowers (step slots (line_word p) 0 0 none) (v, held) 0)

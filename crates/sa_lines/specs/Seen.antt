@@ -41,7 +41,7 @@ fresh_pollers table (suc n) = fresh_pollers table n ++ fresh_poller table n ∷ 
 
 -- the line of p is raised at event e, or lowered
 abbrev pub raised_at : ℕ → ℕ → KeeperSeen → KeeperSeen
-raised_at p e keeper = record keeper { lanes = changed p (raised (e + 1)) keeper.lanes }
+raised_at p e keeper = record keeper { lanes = changed p (raised e) keeper.lanes }
 
 abbrev pub lowered_at : ℕ → KeeperSeen → KeeperSeen
 lowered_at p keeper = record keeper { lanes = changed p lowered keeper.lanes }

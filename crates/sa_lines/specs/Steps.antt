@@ -9,10 +9,10 @@ use Rattle.sa_lines.specs.declared.view.View.TheVariants.{Keeping, Polling, Spen
 use Rattle.sa_lines.specs.Credit.{applied}
 use Rattle.sa_lines.specs.Words.{changed, proc_of, fresh_polled}
 
--- what the keeper knows of a processor, when n is stored in its line word for a raise, when 0 is,
--- when n is stored in its credit word, and when that is seen to be taken
+-- what the keeper knows of a processor, when its line is raised at event e, when its line is
+-- lowered, when n is stored in its credit word, and when that is seen to be taken
 abbrev pub raised : ℕ → Lane → Lane
-raised n lane = record lane { line = n; raised = lane.raised ++ (n - 1) ∷ [] }
+raised e lane = record lane { line = e + 1; raised = lane.raised ++ e ∷ [] }
 
 abbrev pub lowered : Lane → Lane
 lowered lane = record lane { line = 0 }
@@ -54,7 +54,7 @@ module _ {S : Type 0} where
 
   -- raise: stores e + 1 in the line word
   abbrev pub Raises : Step S → Me S View → ℕ → Me S View → Type 0
-  Raises s me n after = Becomes me (on_lane (proc_of s.word) (raised s.first) me.0) after
+  Raises s me n after = Becomes me (on_lane (proc_of s.word) (raised (s.first - 1)) me.0) after
 
   -- lower: stores 0 in the line word
   abbrev pub Lowers : Step S → Me S View → ℕ → Me S View → Type 0
