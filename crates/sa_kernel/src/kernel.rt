@@ -6,7 +6,7 @@ ghost use Rattle.sa_kernel.specs.Room.{Adds};
 use crate::entry::{Entry, Given};
 use crate::machine::Machine;
 use crate::start::OPENING;
-use sa_base::{IoNo, MAX_EVENTS, Note, ProcNo, SpaceNo, Stopped, Trace};
+use sa_base::{IoNo, MAX_EVENTS, Note, ProcNo, Seen, SpaceNo, Stopped, Trace};
 use sa_instr::Workload;
 use std::alloc::{AllocError, Global};
 use std::marker::Model;
@@ -170,5 +170,15 @@ impl<C: Drop> Kernel<C> {
         ensures { result ≡ option_map io_no (due_of event (kernel_of self.now).under_way) }
     {
         self.parts.devices.due(event)
+    }
+
+    /// Stand-in.
+    pub fn seen(&self, p: ProcNo, event: u64) -> Seen {
+        self.parts.seen(p, event)
+    }
+
+    /// Stand-in.
+    pub fn quiet(&self) -> bool {
+        self.parts.quiet()
     }
 }

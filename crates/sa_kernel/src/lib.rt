@@ -8,6 +8,7 @@ mod kernel;
 mod machine;
 mod notices;
 mod say;
+mod stand_in;
 mod start;
 
 pub use entry::{Entry, Given};

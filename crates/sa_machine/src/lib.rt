@@ -1,0 +1,2 @@
+//! What a machine is, as a value, and what its events do.
+#![tactic(auto)]

@@ -1,0 +1,7 @@
+//! Tests of the machine's events.
+#![tactic(auto)]
+
+mod worker;
+
+#[cfg(test)]
+mod runs;
