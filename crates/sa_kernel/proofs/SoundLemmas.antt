@@ -34,7 +34,7 @@ use Rattle.sa_kernel.specs.Kept.{IsFit}
 use Rattle.sa_kernel.specs.declared.entry.Entry.{Entry}
 use Rattle.sa_kernel.specs.declared.entry.Entry.TheVariants.{Interrupt, Block, Complete, More, Idle, GiveBack, InterruptOwn}
 use Rattle.sa_kernel.proofs.ClosingLemmas.{length-aims_after, length-lines_after}
-use Rattle.sa_kernel.specs.Sound.{AreSpaces, AreIos, AreAlive, IsSound}
+use Rattle.sa_kernel.specs.Sound.{AreSpaces, AreIos, AreAlive, IsFormed}
 use Rattle.sa_kernel.proofs.LifeLemmas.{spaces-set, alive-aside, alive-run, alive-owner, taken-other, running-free, unused-free, alive-without, taken-without, taken-rests, alive-other, held-rests, taken-handed, contains-nil}
 
 abbrev no_life : Option ActNo
@@ -114,7 +114,7 @@ spaces-aims_after n aims (c ∷ cs) below each =
 module _ {C : Type 0} where
   -- another assignment, whose owners are the same
   sound-assign : (k : State C) (a : AssignView) → a.owners ≡ k.assign.owners → length a.aims ≡ length k.assign.aims → length a.lines ≡ length k.assign.lines
-      → length a.marks ≡ length k.assign.marks → AreSpaces (length k.demands) a.aims → IsSound k → IsSound (record k { assign = a })
+      → length a.marks ≡ length k.assign.marks → AreSpaces (length k.demands) a.aims → IsFormed k → IsFormed (record k { assign = a })
   sound-assign k a owners aims lines marks below sound =
       let z = sound.sizes in record {
         sizes = record {
@@ -138,19 +138,19 @@ module _ {C : Type 0} where
         taken = sound.taken;
       }
 
-  pub sound-line : (p : ProcNo) (event : Option ℕ) (k : State C) → IsSound k → IsSound (with_line p event k)
+  pub sound-line : (p : ProcNo) (event : Option ℕ) (k : State C) → IsFormed k → IsFormed (with_line p event k)
   sound-line p event k sound = sound-assign k _ refl refl (length-set k.assign.lines p.0 event) refl sound.aims sound
 
-  pub sound-mark : (p : ProcNo) (idle : Bool) (k : State C) → IsSound k → IsSound (with_mark p idle k)
+  pub sound-mark : (p : ProcNo) (idle : Bool) (k : State C) → IsFormed k → IsFormed (with_mark p idle k)
   sound-mark p idle k sound = sound-assign k _ refl refl refl (length-set k.assign.marks p.0 idle) sound.aims sound
 
-  pub sound-no_aim : (p : ProcNo) (k : State C) → IsSound k → IsSound (without_aim p k)
+  pub sound-no_aim : (p : ProcNo) (k : State C) → IsFormed k → IsFormed (without_aim p k)
   sound-no_aim p k sound =
       sound-assign k _ refl (length-set k.assign.aims p.0 None) refl refl
       (spaces-set (length k.demands) k.assign.aims p.0 None (λ s is. absurd (none-some s is)) sound.aims) sound
 
   pub sound-owner : (p : ProcNo) (o : Option SpaceNo) (k : State C) → life_of k p ≡ None → ((s : SpaceNo) → o ≡ Some s → s.0 < length k.demands)
-      → IsSound k → IsSound (with_owner p o k)
+      → IsFormed k → IsFormed (with_owner p o k)
   sound-owner p o k free below sound =
       let z = sound.sizes in record {
         sizes = record {
@@ -174,7 +174,7 @@ module _ {C : Type 0} where
         taken = sound.taken;
       }
 
-  pub sound-noted : (s : SpaceNo) (note : Note) (k : State C) → IsSound k → IsSound (noted s note k)
+  pub sound-noted : (s : SpaceNo) (note : Note) (k : State C) → IsFormed k → IsFormed (noted s note k)
   sound-noted s note k sound =
       let z = sound.sizes in record {
         sizes = record {
@@ -198,8 +198,8 @@ module _ {C : Type 0} where
         taken = sound.taken;
       }
 
-  sound-aside_acts : (p : ProcNo) (a : ActNo) (held : Stopped C) (k : State C) → life_of k p ≡ Some a → IsSound k
-      → IsSound (record k { lives = slice_set k.lives p.0 None; acts = put k.acts a.0 (holding held (k.acts a.0)) })
+  sound-aside_acts : (p : ProcNo) (a : ActNo) (held : Stopped C) (k : State C) → life_of k p ≡ Some a → IsFormed k
+      → IsFormed (record k { lives = slice_set k.lives p.0 None; acts = put k.acts a.0 (holding held (k.acts a.0)) })
   sound-aside_acts p a held k here sound =
       let z = sound.sizes in
       let runs = sound.lives.run p.0 a here in
@@ -226,11 +226,11 @@ module _ {C : Type 0} where
         taken = taken-other k.taken k.acts a.0 (holding held (k.acts a.0)) (running-free (k.acts a.0) runs.space runs.act) sound.taken;
       }
 
-  pub sound-aside : (p : ProcNo) (s : SpaceNo) (a : ActNo) (note : Note) (held : Stopped C) (k : State C) → life_of k p ≡ Some a → IsSound k → IsSound (put_aside p s a note held k)
+  pub sound-aside : (p : ProcNo) (s : SpaceNo) (a : ActNo) (note : Note) (held : Stopped C) (k : State C) → life_of k p ≡ Some a → IsFormed k → IsFormed (put_aside p s a note held k)
   sound-aside p s a note held k here sound = sound-noted s note _ (sound-aside_acts p a held k here sound)
 
-  sound-run_acts : (p : ProcNo) (s : SpaceNo) (a : ActNo) (notes : List Note) (k : State C) → owner_of k p ≡ Some s → k.acts a.0 ≡ None → IsSound k
-      → IsSound (with_mark p false (record k { lives = slice_set k.lives p.0 (Some a); acts = put k.acts a.0 (Some (runs_in s)); untold = slice_set k.untold s.0 []; telling = notes }))
+  sound-run_acts : (p : ProcNo) (s : SpaceNo) (a : ActNo) (notes : List Note) (k : State C) → owner_of k p ≡ Some s → k.acts a.0 ≡ None → IsFormed k
+      → IsFormed (with_mark p false (record k { lives = slice_set k.lives p.0 (Some a); acts = put k.acts a.0 (Some (runs_in s)); untold = slice_set k.untold s.0 []; telling = notes }))
   sound-run_acts p s a notes k owner unused sound =
       let z = sound.sizes in
       let len : length (slice_set k.lives p.0 (Some a)) ≡ length k.lives = length-set k.lives p.0 (Some a) in
@@ -257,10 +257,10 @@ module _ {C : Type 0} where
       }
 
   pub sound-upcall : (e : ℕ) (p : ProcNo) (s : SpaceNo) (a : ActNo) (added : Bool) (x : Scene C) → owner_of x.state p ≡ Some s → x.state.acts a.0 ≡ None
-      → IsSound x.state → IsSound (upcall e p s a added x).state
+      → IsFormed x.state → IsFormed (upcall e p s a added x).state
   sound-upcall e p s a added x owner unused sound = sound-run_acts p s a (notes_told added p (untold_of x.state s.0)) x.state owner unused sound
 
-  pub sound-demand : (s n : ℕ) (k : State C) → IsSound k → IsSound (with_demand s n k)
+  pub sound-demand : (s n : ℕ) (k : State C) → IsFormed k → IsFormed (with_demand s n k)
   sound-demand s n k sound =
       let z = sound.sizes in
       let len : length (slice_set k.demands s n) ≡ length k.demands = length-set k.demands s n in
@@ -286,8 +286,8 @@ module _ {C : Type 0} where
         taken = sound.taken;
       }
 
-  sound-devices : (k : State C) (begun : ℕ) (ios : List Io) (pages : List ℕ) → length pages ≡ length k.pages → AreIos (length k.demands) ios → IsSound k
-      → IsSound (record k { begun = begun; under_way = ios; pages = pages })
+  sound-devices : (k : State C) (begun : ℕ) (ios : List Io) (pages : List ℕ) → length pages ≡ length k.pages → AreIos (length k.demands) ios → IsFormed k
+      → IsFormed (record k { begun = begun; under_way = ios; pages = pages })
   sound-devices k begun ios pages len kinds sound =
       let z = sound.sizes in record {
         sizes = record {
@@ -311,20 +311,20 @@ module _ {C : Type 0} where
         taken = sound.taken;
       }
 
-  sound-io : (kind : IoKind) (ends : ℕ) (k : State C) → IsKind (length k.demands) kind → IsSound k → IsSound (with_io kind ends k)
+  sound-io : (kind : IoKind) (ends : ℕ) (k : State C) → IsKind (length k.demands) kind → IsFormed k → IsFormed (with_io kind ends k)
   sound-io kind ends k fits sound =
       sound-devices k (k.begun + 1) _ k.pages refl (All-push (λ (io : Io). IsKind (length k.demands) io.kind) k.under_way _ sound.ios fits) sound
 
-  sound-fetch : (e : ℕ) (p : ProcNo) (s : SpaceNo) (b : Bool) (x : Scene C) → s.0 < length x.state.demands → IsSound x.state → IsSound (fetch_page e p s b x).state
+  sound-fetch : (e : ℕ) (p : ProcNo) (s : SpaceNo) (b : Bool) (x : Scene C) → s.0 < length x.state.demands → IsFormed x.state → IsFormed (fetch_page e p s b x).state
   sound-fetch e p s true x below sound = sound
   sound-fetch e p s false x below sound = sound-io (Upcall s) (e + x.state.fixed.fetch) x.state below sound
 
-  pub sound-leave : (e : ℕ) (p : ProcNo) (s : SpaceNo) (x : Scene C) → s.0 < length x.state.demands → life_of x.state p ≡ None → IsSound x.state → IsSound (leave e p s x).state
+  pub sound-leave : (e : ℕ) (p : ProcNo) (s : SpaceNo) (x : Scene C) → s.0 < length x.state.demands → life_of x.state p ≡ None → IsFormed x.state → IsFormed (leave e p s x).state
   sound-leave e p s x below free sound =
       let left = sound-no_aim p (with_owner p None x.state) (sound-owner p None x.state free (λ t is. absurd (none-some t is)) sound) in
       sound-fetch e p s (is_fetching x.state s.0) _ below left
 
-  sound-moved : (e : ℕ) (p : ProcNo) (s : SpaceNo) (owned : Bool) (x : Scene C) → s.0 < length x.state.demands → life_of x.state p ≡ None → IsSound x.state → IsSound (moved e p s owned x).state
+  sound-moved : (e : ℕ) (p : ProcNo) (s : SpaceNo) (owned : Bool) (x : Scene C) → s.0 < length x.state.demands → life_of x.state p ≡ None → IsFormed x.state → IsFormed (moved e p s owned x).state
   sound-moved e p s true x below free sound = sound
   sound-moved e p s false x below free sound = sound-owner p (Some s) x.state free (λ t is. below-same t is) sound
     where
@@ -345,19 +345,19 @@ module _ {C : Type 0} where
   acts-moved e p s false x n = refl
 
   sound-go_to_by : (e : ℕ) (p : ProcNo) (s : SpaceNo) (a : ActNo) (owned can : Bool) (x : Scene C) → owned ≡ is_aim s.0 (owner_of x.state p) → p.0 < length x.state.assign.owners
-      → s.0 < length x.state.demands → life_of x.state p ≡ None → x.state.acts a.0 ≡ None → IsSound x.state → IsSound (go_to_by e p s a owned can x).state
+      → s.0 < length x.state.demands → life_of x.state p ≡ None → x.state.acts a.0 ≡ None → IsFormed x.state → IsFormed (go_to_by e p s a owned can x).state
   sound-go_to_by e p s a owned false x is within below free unused sound = sound-leave e p s x below free sound
   sound-go_to_by e p s a owned true x is within below free unused sound =
       sound-upcall e p s a (not owned) (moved e p s owned x) (owner-moved e p s owned x is within) (acts-moved e p s owned x a.0 ∙ unused) (sound-moved e p s owned x below free sound)
 
   sound-go_to_aim : (e : ℕ) (p : ProcNo) (a : ActNo) (aim : Option SpaceNo) (x : Scene C) → p.0 < length x.state.assign.owners → ((s : SpaceNo) → aim ≡ Some s → s.0 < length x.state.demands)
-      → life_of x.state p ≡ None → x.state.acts a.0 ≡ None → IsSound x.state → IsSound (go_to_aim e p a aim x).state
+      → life_of x.state p ≡ None → x.state.acts a.0 ≡ None → IsFormed x.state → IsFormed (go_to_aim e p a aim x).state
   sound-go_to_aim e p a None x within below free unused sound = sound
   sound-go_to_aim e p a (Some s) x within below free unused sound =
       sound-go_to_by e p s a (is_aim s.0 (owner_of x.state p)) (can_upcall x.state s) x refl within (below s refl) free unused sound
 
-  pub sound-stopped : (e : ℕ) (p : ProcNo) (o : Option SpaceNo) (l : Option ActNo) (held : Option (Stopped C)) (x : Scene C) → l ≡ life_of x.state p → IsSound x.state
-      → IsSound (stopped e p o l held x).state
+  pub sound-stopped : (e : ℕ) (p : ProcNo) (o : Option SpaceNo) (l : Option ActNo) (held : Option (Stopped C)) (x : Scene C) → l ≡ life_of x.state p → IsFormed x.state
+      → IsFormed (stopped e p o l held x).state
   sound-stopped e p None l held x life sound = sound
   sound-stopped e p (Some s) None held x life sound = sound
   sound-stopped e p (Some s) (Some a) None x life sound = sound
@@ -379,7 +379,7 @@ module _ {C : Type 0} where
   same-stopped e p (Some s) (Some a) (Some h) x = (refl, refl)
 
   unused-after : (e : ℕ) (p : ProcNo) (o : Option SpaceNo) (l : Option ActNo) (held : Option (Stopped C)) (x : Scene C) (n : ℕ)
-      → l ≡ life_of x.state p → IsSound x.state → x.state.acts n ≡ None → (stopped e p o l held x).state.acts n ≡ None
+      → l ≡ life_of x.state p → IsFormed x.state → x.state.acts n ≡ None → (stopped e p o l held x).state.acts n ≡ None
   unused-after e p None l held x n life sound none = none
   unused-after e p (Some s) None held x n life sound none = none
   unused-after e p (Some s) (Some a) None x n life sound none = none
@@ -393,7 +393,7 @@ module _ {C : Type 0} where
       ]
 
   pub sound-interrupted : (e : ℕ) (p : ProcNo) (a : ActNo) (held : Option (Stopped C)) (x : Scene C) → p.0 < length x.state.lives
-      → (IsSome (owner_of x.state p) → IsSome held) → x.state.acts a.0 ≡ None → IsSound x.state → IsSound (interrupted e p a held x).state
+      → (IsSome (owner_of x.state p) → IsSome held) → x.state.acts a.0 ≡ None → IsFormed x.state → IsFormed (interrupted e p a held x).state
   sound-interrupted e p a held x within owned unused sound =
       let low : Scene C = record x { state = with_line p None x.state } in
       let o = owner_of x.state p in
@@ -413,8 +413,8 @@ module _ {C : Type 0} where
       (sound-stopped e p o l held low refl sound_low)
 
   pub sound-blocked : (e : ℕ) (p : ProcNo) (b : ActNo) (o : Option SpaceNo) (l : Option ActNo) (held : Stopped C) (len : ℕ) (page : Option ℕ) (x : Scene C)
-      → o ≡ owner_of x.state p → l ≡ life_of x.state p → IfSome page IsOwnPage → x.state.acts b.0 ≡ None → IsSound x.state
-      → IsSound (blocked_by e p b o l held len page x).state
+      → o ≡ owner_of x.state p → l ≡ life_of x.state p → IfSome page IsOwnPage → x.state.acts b.0 ≡ None → IsFormed x.state
+      → IsFormed (blocked_by e p b o l held len page x).state
   sound-blocked e p b None l held len page x owner life fits unused sound = sound
   sound-blocked e p b (Some s) None held len page x owner life fits unused sound = sound
   sound-blocked e p b (Some s) (Some a) held len page x owner life fits unused sound = told (can_upcall x.state s)
@@ -426,7 +426,7 @@ module _ {C : Type 0} where
       kind None h = below
       kind (Some k) h = (below, h.0, h.1)
 
-      begun : IsSound (block_begun e p s a held len page x).state
+      begun : IsFormed (block_begun e p s a held len page x).state
       begun = sound-aside p s a (Blocked a) held (with_io (io_for s a page) (e + len) x.state) (sym life) (sound-io (io_for s a page) (e + len) x.state (kind page fits) sound)
 
       free : (block_begun e p s a held len page x).state.acts b.0 ≡ None
@@ -435,36 +435,36 @@ module _ {C : Type 0} where
         | inr apart ↦ put-other x.state.acts a.0 b.0 (holding held (x.state.acts a.0)) apart ∙ unused
       ]
 
-      told : (can : Bool) → IsSound (told_or_left e p s b can (block_begun e p s a held len page x)).state
+      told : (can : Bool) → IsFormed (told_or_left e p s b can (block_begun e p s a held len page x)).state
       told true = sound-upcall e p s b false (block_begun e p s a held len page x) (sym owner) free begun
       told false = sound-leave e p s (block_begun e p s a held len page x) below (free-set x.state.lives p.0) begun
 
-  sound-come_back : (e : ℕ) (p : ProcNo) (s : SpaceNo) (a : ActNo) (x : Scene C) → IsSound x.state → IsSound (come_back e p s a x).state
+  sound-come_back : (e : ℕ) (p : ProcNo) (s : SpaceNo) (a : ActNo) (x : Scene C) → IsFormed x.state → IsFormed (come_back e p s a x).state
   sound-come_back e p s a x sound = sound-noted s (Unblocked a) x.state sound
 
-  sound-over_for : (e : ℕ) (p : ProcNo) (kind : IoKind) (x : Scene C) → IsSound x.state → IsSound (over_for e p kind x).state
+  sound-over_for : (e : ℕ) (p : ProcNo) (kind : IoKind) (x : Scene C) → IsFormed x.state → IsFormed (over_for e p kind x).state
   sound-over_for e p (Plain s a) x sound = sound-come_back e p s a x sound
   sound-over_for e p (Page s a k) x sound = sound-come_back e p s a x sound
   sound-over_for e p (Upcall s) x sound = sound
 
-  pub sound-over : (e : ℕ) (p : ProcNo) (io : IoNo) (kind : Option IoKind) (x : Scene C) → IsSound x.state → IsSound (over e p io kind x).state
+  pub sound-over : (e : ℕ) (p : ProcNo) (io : IoNo) (kind : Option IoKind) (x : Scene C) → IsFormed x.state → IsFormed (over e p io kind x).state
   sound-over e p io None x sound = sound
   sound-over e p io (Some kind) x sound =
       sound-over_for e p kind _ (sound-devices x.state x.state.begun (without io.0 x.state.under_way) (completed kind x.state.pages) (length-completed kind x.state.pages)
       (All-without (λ (i : Io). IsKind (length x.state.demands) i.kind) io.0 x.state.under_way sound.ios) sound)
 
-  sound-announced : (e : ℕ) (p : ProcNo) (s : SpaceNo) (n : ℕ) (idle : Bool) (x : Scene C) → IsSound x.state → IsSound (announced e p s n idle x).state
+  sound-announced : (e : ℕ) (p : ProcNo) (s : SpaceNo) (n : ℕ) (idle : Bool) (x : Scene C) → IsFormed x.state → IsFormed (announced e p s n idle x).state
   sound-announced e p s n idle x sound = sound-mark p idle (with_demand s.0 n x.state) (sound-demand s.0 n x.state sound)
 
-  pub sound-more : (e : ℕ) (p : ProcNo) (n : ℕ) (o : Option SpaceNo) (x : Scene C) → IsSound x.state → IsSound (more e p n o x).state
+  pub sound-more : (e : ℕ) (p : ProcNo) (n : ℕ) (o : Option SpaceNo) (x : Scene C) → IsFormed x.state → IsFormed (more e p n o x).state
   sound-more e p n None x sound = sound
   sound-more e p n (Some s) x sound = sound-announced e p s _ false x sound
 
-  pub sound-idled : (e : ℕ) (p : ProcNo) (o : Option SpaceNo) (x : Scene C) → IsSound x.state → IsSound (idled e p o x).state
+  pub sound-idled : (e : ℕ) (p : ProcNo) (o : Option SpaceNo) (x : Scene C) → IsFormed x.state → IsFormed (idled e p o x).state
   sound-idled e p None x sound = sound
   sound-idled e p (Some s) x sound = sound-announced e p s _ true x sound
 
-  pub sound-gave_back : (e : ℕ) (p : ProcNo) (o : Option SpaceNo) (x : Scene C) → IsSound x.state → IsSound (gave_back e p o x).state
+  pub sound-gave_back : (e : ℕ) (p : ProcNo) (o : Option SpaceNo) (x : Scene C) → IsFormed x.state → IsFormed (gave_back e p o x).state
   sound-gave_back e p None x sound = sound
   sound-gave_back e p (Some s) x sound =
       let k = x.state in
@@ -490,28 +490,28 @@ module _ {C : Type 0} where
         taken = taken-without k.taken k.acts s.0 sound.taken;
       }
 
-  pub sound-own : (e : ℕ) (p q : ProcNo) (x : Scene C) → IsSound x.state → IsSound (interrupted_own e p q x).state
+  pub sound-own : (e : ℕ) (p q : ProcNo) (x : Scene C) → IsFormed x.state → IsFormed (interrupted_own e p q x).state
   sound-own e p q x sound = sound-line q (Some e) x.state sound
 
   -- the closing
-  sound-for_spaces : (f : ℕ → Scene C → Scene C) → ((s : ℕ) (x : Scene C) → IsSound x.state → IsSound (f s x).state)
-      → (s n : ℕ) (x : Scene C) → IsSound x.state → IsSound (for_spaces f s n x).state
+  sound-for_spaces : (f : ℕ → Scene C → Scene C) → ((s : ℕ) (x : Scene C) → IsFormed x.state → IsFormed (f s x).state)
+      → (s n : ℕ) (x : Scene C) → IsFormed x.state → IsFormed (for_spaces f s n x).state
   sound-for_spaces f keeps s zero x sound = sound
   sound-for_spaces f keeps s (suc n) x sound = sound-for_spaces f keeps (s + 1) n (f s x) (keeps s x sound)
 
-  sound-want_one : (e : ℕ) (p : ProcNo) (b : Bool) (s : ℕ) (x : Scene C) → IsSound x.state → IsSound (want_one e p b s x).state
+  sound-want_one : (e : ℕ) (p : ProcNo) (b : Bool) (s : ℕ) (x : Scene C) → IsFormed x.state → IsFormed (want_one e p b s x).state
   sound-want_one e p false s x sound = sound
   sound-want_one e p true s x sound = sound-demand s 1 x.state sound
 
-  sound-interrupt : (e : ℕ) (p : ProcNo) (q : Option ℕ) (x : Scene C) → IsSound x.state → IsSound (interrupt e p q x).state
+  sound-interrupt : (e : ℕ) (p : ProcNo) (q : Option ℕ) (x : Scene C) → IsFormed x.state → IsFormed (interrupt e p q x).state
   sound-interrupt e p None x sound = sound
   sound-interrupt e p (Some q) x sound = sound-line (proc_no q) (Some e) x.state sound
 
-  sound-interrupt_one : (e : ℕ) (p : ProcNo) (b : Bool) (s : ℕ) (x : Scene C) → IsSound x.state → IsSound (interrupt_one e p b s x).state
+  sound-interrupt_one : (e : ℕ) (p : ProcNo) (b : Bool) (s : ℕ) (x : Scene C) → IsFormed x.state → IsFormed (interrupt_one e p b s x).state
   sound-interrupt_one e p false s x sound = sound
   sound-interrupt_one e p true s x sound = sound-interrupt e p (least_below (length x.state.lives) (has_low_line x.state s)) x sound
 
-  sound-aims : (e : ℕ) (p : ProcNo) (x : Scene C) → IsSound x.state → IsSound (aims e p x).state
+  sound-aims : (e : ℕ) (p : ProcNo) (x : Scene C) → IsFormed x.state → IsFormed (aims e p x).state
   sound-aims e p x sound =
       let k = x.state in
       let n = spaces k in
@@ -519,15 +519,15 @@ module _ {C : Type 0} where
       sound-assign k (reaimed e n (shares k e) k.assign) refl (length-aims_after k.assign.aims cs) (length-lines_after e k.assign.lines cs) refl
       (spaces-aims_after n k.assign.aims cs (below-changes_from n 0 n (shares k e) k.assign.marks k.assign.aims (omega arith)) sound.aims) sound
 
-  pub sound-closed : (e : ℕ) (p : ProcNo) (x : Scene C) → IsSound x.state → IsSound (closed e p x).state
+  pub sound-closed : (e : ℕ) (p : ProcNo) (x : Scene C) → IsFormed x.state → IsFormed (closed e p x).state
   sound-closed e p x sound =
       let w = wants e p x in
-      let wanted : IsSound w.state = sound-for_spaces (want_for e p) (λ s y h. sound-want_one e p (must_want y.state s) s y h) 0 (spaces x.state) x sound in
+      let wanted : IsFormed w.state = sound-for_spaces (want_for e p) (λ s y h. sound-want_one e p (must_want y.state s) s y h) 0 (spaces x.state) x sound in
       let aimed = sound-aims e p w wanted in
       sound-for_spaces (interrupt_for e p) (λ s y h. sound-interrupt_one e p (must_interrupt y.state s) s y h) 0 (spaces (aims e p w).state) (aims e p w) aimed
 
   pub sound-entered_as : (e : ℕ) (p : ProcNo) (a : ActNo) (entry : Entry C) (x : Scene C) → p.0 < length x.state.lives → IsFit x.state p e entry
-      → x.state.acts a.0 ≡ None → IsSound x.state → IsSound (entered_as e p a entry x).state
+      → x.state.acts a.0 ≡ None → IsFormed x.state → IsFormed (entered_as e p a entry x).state
   sound-entered_as e p a (Interrupt held) x within fit unused sound = sound-interrupted e p a held x within fit.owned unused sound
   sound-entered_as e p a (Block held len page) x within fit unused sound =
       sound-blocked e p a (owner_of x.state p) (life_of x.state p) held len page x refl refl fit.page unused sound
@@ -537,7 +537,7 @@ module _ {C : Type 0} where
   sound-entered_as e p a GiveBack x within fit unused sound = sound-gave_back e p (owner_of x.state p) x sound
   sound-entered_as e p a (InterruptOwn q) x within fit unused sound = sound-own e p q x sound
 
-  sound-taken : (a : ActNo) (h : Stopped C) (k : State C) → held_of (k.acts a.0) ≡ Some h → IsSound k → IsSound (handed_over a k)
+  sound-taken : (a : ActNo) (h : Stopped C) (k : State C) → held_of (k.acts a.0) ≡ Some h → IsFormed k → IsFormed (handed_over a k)
   sound-taken a h k is sound =
       let z = sound.sizes in record {
         sizes = record {
@@ -561,11 +561,11 @@ module _ {C : Type 0} where
         taken = taken-handed k.taken k.acts a h is sound.taken;
       }
 
-  sound-handed : (a : ActNo) (o : Option (Stopped C)) (k : State C) → held_of (k.acts a.0) ≡ o → IsSound k → IsSound (handed_by o a k)
+  sound-handed : (a : ActNo) (o : Option (Stopped C)) (k : State C) → held_of (k.acts a.0) ≡ o → IsFormed k → IsFormed (handed_by o a k)
   sound-handed a None k is sound = sound
   sound-handed a (Some h) k is sound = sound-taken a h k is sound
 
-  sound-telling : (notes : List Note) (k : State C) → IsSound k → IsSound (record k { telling = notes })
+  sound-telling : (notes : List Note) (k : State C) → IsFormed k → IsFormed (record k { telling = notes })
   sound-telling notes k sound =
       let z = sound.sizes in record {
         sizes = record {
@@ -589,20 +589,20 @@ module _ {C : Type 0} where
         taken = sound.taken;
       }
 
-  sound-fetched : (note : Note) (k : State C) → IsSound k → IsSound (fetched note k)
+  sound-fetched : (note : Note) (k : State C) → IsFormed k → IsFormed (fetched note k)
   sound-fetched (Add p) k sound = sound
   sound-fetched (Blocked a) k sound = sound
   sound-fetched (Preempted a) k sound = sound-handed a (held_of (k.acts a.0)) k refl sound
   sound-fetched (Unblocked a) k sound = sound-handed a (held_of (k.acts a.0)) k refl sound
 
-  pub sound-after_fetch : (notes : List Note) (k : State C) → IsSound k → IsSound (after_fetch notes k)
+  pub sound-after_fetch : (notes : List Note) (k : State C) → IsFormed k → IsFormed (after_fetch notes k)
   sound-after_fetch [] k sound = sound
   sound-after_fetch (note ∷ notes) k sound = sound-fetched note (record k { telling = notes }) (sound-telling notes k sound)
 
-  pub sound-evicted : (event : ℕ) (k : State C) → IsSound k → IsSound (evicted_at event k)
+  pub sound-evicted : (event : ℕ) (k : State C) → IsFormed k → IsFormed (evicted_at event k)
   sound-evicted event k sound = sound-devices k k.begun k.under_way (evicted event k.fixed.evictions k.pages) (length-evicted event k.fixed.evictions k.pages) sound.ios sound
 
-  pub sound-opening : (w : WorkloadView) → IsWorkload w → IsSound (opening_state {C = C} w)
+  pub sound-opening : (w : WorkloadView) → IsWorkload w → IsFormed (opening_state {C = C} w)
   sound-opening w ok = record {
     sizes = record {
       some_processor = omega (arith, length-replicate w.processors no_life, ok.some_processor);

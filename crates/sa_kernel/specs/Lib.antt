@@ -8,4 +8,6 @@ pub mod Sound
 pub mod View
 pub mod Runs
 pub mod Opening
+pub mod Owed
 pub mod Kept
+pub mod Seen

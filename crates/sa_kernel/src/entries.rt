@@ -17,7 +17,7 @@ use sa_devices::IoKind;
 impl<C: Drop> Machine<C> {
     ghost use Rattle.sa_kernel.specs.View.{state_of, scene_of, used, Spends};
     ghost use Rattle.sa_kernel.specs.State.{owner_of, aim_of, life_of, demand_of, can_upcall, untold_of, taken_of};
-    ghost use Rattle.sa_kernel.specs.Sound.{IsSound, HasSizes, AreSpaces, AreIos, AreAlive};
+    ghost use Rattle.sa_kernel.specs.Sound.{IsFormed, HasSizes, AreSpaces, AreIos, AreAlive};
     ghost use Rattle.sa_kernel.specs.Runs.{Enters, upcalls_for, upcalls_in, untold_count, taken_count};
     ghost use Rattle.sa_kernel.specs.Parts.{go_to};
     ghost use Rattle.sa_kernel.specs.Entries.{stopped, go_to_aim, interrupted, told_or_left, block_begun, blocked, kind_at, come_back, over_for, over, more, idled, announced, gave_back, interrupted_own};
@@ -79,7 +79,7 @@ impl<C: Drop> Machine<C> {
         held: Option<Stopped<C>>,
         trace: &mut Trace,
     ) -> Given
-        requires sound { IsSound (state_of self.old) }
+        requires sound { IsFormed (state_of self.old) }
         requires within { p.0 < length self.old.lives.items }
         requires fetched { self.old.notices.telling ≡ [] }
         requires notes { 1 ≤ self.old.notices.spare }
@@ -119,7 +119,7 @@ impl<C: Drop> Machine<C> {
 
     // The space can use so many more processors.
     pub(crate) fn more(&mut self, event: u64, p: ProcNo, n: u16, trace: &mut Trace)
-        requires sound { IsSound (state_of self.old) }
+        requires sound { IsFormed (state_of self.old) }
         requires within { p.0 < length self.old.lives.items }
         requires few { (s : SpaceNo) → owner_of (state_of self.old) p ≡ Some s
             → demand_of (state_of self.old) s.0 + n ≤ 16 }
@@ -137,7 +137,7 @@ impl<C: Drop> Machine<C> {
 
     // This processor is idle.
     pub(crate) fn idle(&mut self, event: u64, p: ProcNo, trace: &mut Trace)
-        requires sound { IsSound (state_of self.old) }
+        requires sound { IsFormed (state_of self.old) }
         requires within { p.0 < length self.old.lives.items }
         requires trace { 1 ≤ trace.old.spare }
         ensures exact { scene_of self.new trace.new
@@ -233,7 +233,7 @@ impl<C: Drop> Machine<C> {
         page: Option<u16>,
         trace: &mut Trace,
     ) -> Given
-        requires sound { IsSound (state_of self.old) }
+        requires sound { IsFormed (state_of self.old) }
         requires within { p.0 < length self.old.lives.items }
         requires page { IfSome page IsOwnPage }
         requires fetched { self.old.notices.telling ≡ [] }

@@ -13,7 +13,7 @@ fn start(alloc: Global, text: &str, budget: u64) -> Result<Core<Worker>, AllocEr
 }
 
 fn run(alloc: Global) -> Result<(u64, Option<End>, usize), AllocError> {
-    let text = "workload 3\nprocessors 2\nfetch 10\nspaces 2\nslice 3\nspace 0 0 0 0 1\npatience 5\nprogram 1\nend\nspace 0 0 0 0 1\npatience 2\nprogram 1\nend\nclose\n";
+    let text = "workload 3\nprocessors 2\nfetch 10\nslice 3\nspaces 2\nspace 0 0 0 0 1 5\nprogram 1\nend\nspace 0 0 0 0 1 2\nprogram 1\nend\nclose\n";
     let mut core = start(alloc, text, 40)?;
     for i in 0..40u16 {
         if core.end().is_some() {

@@ -1,0 +1,5 @@
+pub mod Machine
+pub mod Turn
+pub mod End
+pub mod Run
+pub mod Standing

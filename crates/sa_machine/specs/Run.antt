@@ -1,0 +1,55 @@
+-- A run: the opening, and then turns and commits in any order.
+use Rattle.std.specs.Prelude.{◌≡◌, ℕ, zero, suc, ◌+◌, None, List, [], ◌∷◌, length, replicate}
+use Rattle.sa_base.specs.declared.number.ProcNo.{ProcNo}
+use Rattle.sa_base.specs.declared.number.ActNo.{ActNo}
+use Rattle.sa_instr.specs.Space.{SpaceView}
+use Rattle.sa_instr.specs.Workload.{WorkloadView}
+use Rattle.sa_abstract.specs.Calls.{Calls}
+use Rattle.sa_abstract.specs.Setting.{Setting}
+use Rattle.sa_assign.specs.Aims.{space_no}
+use Rattle.sa_kernel.specs.State.{State, Scene}
+use Rattle.sa_kernel.specs.Opening.{opened}
+use Rattle.sa_machine.specs.Machine.{Machine}
+use Rattle.sa_machine.specs.Turn.{turned, committed}
+
+-- the setting of a space, by its number and what the workload declares of it
+abbrev pub setting : WorkloadView → ℕ → SpaceView → Setting
+setting w s def = record { space = space_no s; def = def; processors = w.processors; fetch = w.fetch }
+
+module _ {U C : Type 0} (f : Calls U C) where
+  -- the user levels of spaces from number s on
+  abbrev pub started_from : WorkloadView → ℕ → List SpaceView → List U
+  started_from w s [] = []
+  started_from w s (def ∷ defs) = f.started (setting w s def) ∷ started_from w (s + 1) defs
+
+  -- the machine at the opening, which is event 0
+  abbrev pub opening : WorkloadView → Machine U C
+  opening w = record {
+    workload = w;
+    kernel = (opened w).state;
+    users = started_from w 0 w.spaces;
+    contexts = replicate w.processors None;
+    event = 0;
+    items = (opened w).items;
+  }
+
+  -- a turn, with some number that is not in use
+  pub record IsTurn (m : Machine U C) (p : ProcNo) (after : Machine U C) : Type 0 where
+    pub fresh : ActNo
+    pub unused : m.kernel.acts fresh.0 ≡ None
+    pub is : after ≡ turned f p fresh m
+
+-- what is done to a machine: a turn of a processor, or so many local instructions of the context that runs there
+pub data Move : Type 0 where
+  turn : ProcNo → Move
+  commit : ProcNo → ℕ → Move
+
+module _ {U C : Type 0} (f : Calls U C) where
+  abbrev pub IsMove : Machine U C → Move → Machine U C → Type 0
+  IsMove m (turn p) after = IsTurn f m p after
+  IsMove m (commit p n) after = after ≡ committed f p n m
+
+  -- the moves, in order
+  abbrev pub IsRun : Machine U C → List Move → Machine U C → Type 0
+  IsRun m [] after = after ≡ m
+  IsRun m (move ∷ moves) after = (between : Machine U C) × IsMove m move between × IsRun between moves after
