@@ -18,7 +18,7 @@ use Rattle.sa_kernel.specs.Closing.{closed}
 use Rattle.sa_kernel.specs.Entries.{entered_as, after_fetch}
 use Rattle.sa_kernel.specs.Opening.{opening_state, first_wants, opened}
 use Rattle.sa_kernel.specs.Runs.{Enters}
-use Rattle.sa_kernel.specs.Sound.{IsSound}
+use Rattle.sa_kernel.specs.Sound.{IsFormed}
 use Rattle.sa_kernel.specs.View.{state_of, scene_of, used, Spends}
 use Rattle.sa_kernel.specs.Kept.{IsFit, IsKept}
 use Rattle.sa_kernel.proofs.SoundLemmas.{sound-evicted, sound-closed, sound-entered_as, sound-opening, sound-after_fetch}
@@ -37,8 +37,8 @@ module _ {C : Type 0} where
         last = kept.last;
       })
 
-  sound-at : (x y : Scene C) → x ≡ y → IsSound y.state → IsSound x.state
-  sound-at x y is sound = subst (λ (z : Scene C). IsSound z.state) (sym is) sound
+  sound-at : (x y : Scene C) → x ≡ y → IsFormed y.state → IsFormed x.state
+  sound-at x y is sound = subst (λ (z : Scene C). IsFormed z.state) (sym is) sound
 
   pub kept-closed : (m new : Machine C) (t tn : Recorded) (event room last : ℕ) (p : ProcNo) → scene_of new tn ≡ closed event p (scene_of m t)
       → Spends m new 0 0 0 → last < event → event ≤ MAX_EVENTS → IsKept m room last → IsKept new room event
@@ -57,7 +57,7 @@ module _ {C : Type 0} where
   kept-fetch m new room last is spends kept =
       let begun : new.devices.ios.begun ≤ m.devices.ios.begun = omega (arith, spends.count) in
       record {
-        sound = subst (λ (k : State C). IsSound k) (sym is) (sound-after_fetch (state_of m).telling (state_of m) kept.sound);
+        sound = subst (λ (k : State C). IsFormed k) (sym is) (sound-after_fetch (state_of m).telling (state_of m) kept.sound);
         notices = omega (arith, spends.notices, kept.notices);
         acts = omega (arith, spends.acts, kept.acts);
         ios = omega (arith, spends.ios, kept.ios);
@@ -68,12 +68,12 @@ module _ {C : Type 0} where
 
   pub sound-mid : (m mid : Machine C) (t tm : Recorded) (event room last : ℕ) (p : ProcNo) (entry : Entry C) (given : Given) (up : Bool)
       → p.0 < length m.lives.items → IsFit (state_of m) p event entry → Enters (scene_of m t) (scene_of mid tm) given up (λ a. entered_as event p a entry)
-      → IsKept m room last → IsSound (state_of mid)
+      → IsKept m room last → IsFormed (state_of mid)
   sound-mid m mid t tm event room last p entry given up within fit enters kept =
       sound-at (scene_of mid tm) (entered_as event p enters.fresh entry (scene_of m t)) enters.scene
       (sound-entered_as event p enters.fresh entry (scene_of m t) within fit enters.unused kept.sound)
 
-  pub kept-entered : (m mid new : Machine C) (tm tn : Recorded) (event room last : ℕ) (p : ProcNo) → IsSound (state_of mid)
+  pub kept-entered : (m mid new : Machine C) (tm tn : Recorded) (event room last : ℕ) (p : ProcNo) → IsFormed (state_of mid)
       → scene_of new tn ≡ closed event p (scene_of mid tm) → Spends m mid 1 1 2 → Spends mid new 0 0 0 → 1 ≤ room → last < event → event ≤ MAX_EVENTS
       → IsKept m room last → IsKept new (room - 1) event
   kept-entered m mid new tm tn event room last p sound is spent spends some later few kept = record {
@@ -89,7 +89,7 @@ module _ {C : Type 0} where
   pub kept-start : (m new : Machine C) (tn : Recorded) (w : WorkloadView) (items : List Item) → IsWorkload w → state_of m ≡ opening_state w → used m ≡ 0
       → scene_of new tn ≡ closed 0 (proc_no 0) (record { state = state_of m; items = items }) → Spends m new 0 0 0 → IsKept new 0 0
   kept-start m new tn w items ok opens none is spends =
-      let sound : IsSound (state_of m) = subst (λ (k : State C). IsSound k) (sym opens) (sound-opening w ok) in
+      let sound : IsFormed (state_of m) = subst (λ (k : State C). IsFormed k) (sym opens) (sound-opening w ok) in
       let begun : m.devices.ios.begun ≡ 0 = ap (λ (k : State C). k.begun) opens in
       record {
         sound = sound-at (scene_of new tn) (closed 0 (proc_no 0) (record { state = state_of m; items = items })) is

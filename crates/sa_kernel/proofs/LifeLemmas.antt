@@ -132,7 +132,7 @@ module _ {C : Type 0} where
   taken-none s x taken none = not-none x taken.here none taken.is
 
   is-taken : (s : ℕ) (x y : Option (Act C)) → x ≡ y → IsTaken s y → IsTaken s x
-  is-taken s x y e taken = record { here = taken.here; is = e ∙ taken.is; taken = taken.taken; space = taken.space }
+  is-taken s x y e taken = record { here = taken.here; is = e ∙ taken.is; taken = taken.taken; none_held = taken.none_held; space = taken.space }
 
   -- a number changes that was not taken
   pub taken-other : (taken : List (List ActNo)) (acts : ℕ → Option (Act C)) (n : ℕ) (x : Option (Act C)) → ((s : ℕ) → IsTaken s (acts n) → ⊥)
@@ -200,6 +200,7 @@ module _ {C : Type 0} where
     here = record y { held = None; taken = true };
     is = refl;
     taken = refl;
+    none_held = refl;
     space = (let e : y ≡ taken.here = same (taken.here) taken.is in ap (λ (z : Act C). z.space.0) e ∙ taken.space);
   }
     where
@@ -208,7 +209,7 @@ module _ {C : Type 0} where
 
   taken-now : (x : Option (Act C)) (h : Stopped C) → held_of x ≡ Some h → IsTaken (space_of x).0 (taken_from x)
   taken-now None h is = absurd cc
-  taken-now (Some y) h is = record { here = record y { held = None; taken = true }; is = refl; taken = refl; space = refl }
+  taken-now (Some y) h is = record { here = record y { held = None; taken = true }; is = refl; taken = refl; none_held = refl; space = refl }
 
   pub held-rests : (x : Option (Act C)) (h : Stopped C) → held_of x ≡ Some h → (u : SpaceNo) → x ≡ Some (runs_in u) → ⊥
   held-rests x h is u runs = let e : held_of x ≡ None = ap held_of runs in absurd (none-held h (sym e ∙ is))

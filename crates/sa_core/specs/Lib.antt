@@ -1,0 +1,3 @@
+pub mod Users
+pub mod View
+pub mod Room
