@@ -1,1 +1,3 @@
 pub mod Running
+pub mod Effects
+pub mod Phases
