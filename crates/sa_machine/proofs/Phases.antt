@@ -68,17 +68,17 @@ module _ {C : Type 0} where
       ap (λ (x : List (Option ActNo)). contexts_in x f cs t b) (sym l) ∙ ap (λ (x : ℕ → Option (Act C)). contexts_in ms x cs t b) (sym a)
 
 -- nothing runs on the processor, and all else stands
-pub record Paused {U C : Type 0} (stands : Standing U C) (e : ℕ) (p : ProcNo) (lives : List (Option ActNo)) (acts : ℕ → Option (Act C)) (m : Machine U C) : Type 0 where
+pub record Paused {U C : Type 0} (stands : Standing U C) (e : ℕ) (p : ProcNo) (ls : List (Option ActNo)) (acts : ℕ → Option (Act C)) (m : Machine U C) : Type 0 where
   pub workload : IsWorkload m.workload
-  pub within : p.0 < length lives
-  pub none : get_or lives p.0 None ≡ None
+  pub within : p.0 < length ls
+  pub none : get_or ls p.0 None ≡ None
   pub owners : List (Option SpaceNo)
-  pub alive : AreAlive owners lives acts
-  pub lives : length lives ≡ m.workload.processors
+  pub alive : AreAlive owners ls acts
+  pub lives : length ls ≡ m.workload.processors
   pub contexts : length m.contexts ≡ m.workload.processors
   pub users : length m.users ≡ length m.workload.spaces
-  pub there : (q : ℕ) → is_some (get_or m.contexts q None) ≡ is_some (get_or lives q None)
-  pub values : AreValues stands m.workload e m.users (contexts_in lives acts m.contexts)
+  pub there : (q : ℕ) → is_some (get_or m.contexts q None) ≡ is_some (get_or ls q None)
+  pub values : AreValues stands m.workload e m.users (contexts_in ls acts m.contexts)
 
 module _ {U C : Type 0} (stands : Standing U C) where
   pub values-same : (w : WorkloadView) (e : ℕ) (users : List U) (old new : ℕ → Contexts C) → ((t b : ℕ) → old t b ≡ new t b)
@@ -152,7 +152,7 @@ module _ {U C : Type 0} (f : Calls U C) (stands : Standing U C) (keep : Keeps f 
     pub is_def : slice_get m.workload.spaces s.0 ≡ Some def
 
   some-true : {A : Type 0} (o : Option A) (x : A) → o ≡ Some x → is_some o ≡ true
-  some-true o x e = ap (λ (y : Option A). is_some y) e
+  some-true {A = A} o x e = ap (λ (y : Option A). is_some y) e
 
   pub at-owned : (e : ℕ) (m : Machine U C) (p : ProcNo) (s : SpaceNo) → Stands stands e m → owner_of m.kernel p ≡ Some s → IsAt m p s
   at-owned e m p s st owner =
@@ -172,7 +172,7 @@ module _ {U C : Type 0} (f : Calls U C) (stands : Standing U C) (keep : Keeps f 
       read : {A : Type 0} (xs : List A) (i : ℕ) → i < length xs → (x : A) × (slice_get xs i ≡ Some x)
       read [] i below = absurd (omega (arith, below))
       read (x ∷ xs) zero below = (x, refl)
-      read {A} (x ∷ xs) (suc i) below = read {A} xs i (omega arith)
+      read (x ∷ xs) (suc i) below = read xs i (omega (arith, below))
 
   -- a context is set aside
   pub paused-stop : (e : ℕ) (m : Machine U C) (p : ProcNo) (s : SpaceNo) (held : Stopped C) → Stands stands e m → (here : IsAt m p s) → held.ctx ≡ here.ctx
