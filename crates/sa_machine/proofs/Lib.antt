@@ -1,3 +1,4 @@
 pub mod Running
 pub mod Effects
 pub mod Phases
+pub mod Calls

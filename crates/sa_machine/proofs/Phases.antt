@@ -106,19 +106,23 @@ module _ {U C : Type 0} (f : Calls U C) (stands : Standing U C) (keep : Keeps f 
   }
 
   -- the kernel changes, but not what runs
-  pub stands-kernel : (e event : ℕ) (m : Machine U C) (k : State C) (items : List Item) → Stands stands e m → IsSound k → SameRuns m.kernel k
-      → Stands stands e (record m { kernel = k; event = event; items = items })
-  stands-kernel e event m k items st sound same = record {
+  pub stands-runs : (e event : ℕ) (m : Machine U C) (k : State C) (items : List Item) → Stands stands e m → IsSound k → k.lives ≡ m.kernel.lives → k.acts ≡ m.kernel.acts
+      → length k.demands ≡ length m.kernel.demands → Stands stands e (record m { kernel = k; event = event; items = items })
+  stands-runs e event m k items st sound lives acts demands = record {
     workload = st.workload;
     sound = sound;
-    lives = ap (λ (ls : List (Option ActNo)). length ls) same.lives ∙ st.lives;
+    lives = ap (λ (ls : List (Option ActNo)). length ls) lives ∙ st.lives;
     contexts = st.contexts;
-    demands = same.demands ∙ st.demands;
+    demands = demands ∙ st.demands;
     users = st.users;
-    there = λ q. st.there q ∙ ap (λ (ls : List (Option ActNo)). is_some (get_or ls q None)) (sym same.lives);
+    there = λ q. st.there q ∙ ap (λ (ls : List (Option ActNo)). is_some (get_or ls q None)) (sym lives);
     values = values-same stands m.workload e m.users (contexts_of m) (contexts_in k.lives k.acts m.contexts)
-        (contexts-same m.kernel.lives k.lives m.kernel.acts k.acts m.contexts same.lives same.acts) st.values;
+        (contexts-same m.kernel.lives k.lives m.kernel.acts k.acts m.contexts lives acts) st.values;
   }
+
+  pub stands-kernel : (e event : ℕ) (m : Machine U C) (k : State C) (items : List Item) → Stands stands e m → IsSound k → SameRuns m.kernel k
+      → Stands stands e (record m { kernel = k; event = event; items = items })
+  stands-kernel e event m k items st sound same = stands-runs e event m k items st sound same.lives same.acts same.demands
 
   -- activations are given back that have no context
   pub stands-emptied : (e : ℕ) (m : Machine U C) (k : State C) (items : List Item) → Stands stands e m → IsSound k → k.lives ≡ m.kernel.lives
