@@ -15,6 +15,7 @@ use Rattle.sa_base.specs.declared.record.Note.{Note}
 use Rattle.sa_base.specs.declared.record.Note.TheVariants.{Add, Preempted, Blocked, Unblocked}
 use Rattle.sa_lemmas.specs.Function.{put}
 use Rattle.sa_instr.specs.Space.{SpaceView}
+use Rattle.sa_instr.specs.Workload.{WorkloadView}
 use Rattle.sa_abstract.specs.Calls.{Calls, Contexts, Stepped, Gone}
 use Rattle.sa_abstract.specs.Keeps.{Standing, Keeps, IsOf, IsSeenOf, IsStep, IsGoing, IsTelling, IsHanded, IsHandedOver, GoesOn, IsStepped, IsGone, told_contexts}
 use Rattle.sa_acts.specs.declared.acts.Act.{Act}
@@ -214,7 +215,9 @@ module _ {U C : Type 0} (f : Calls U C) (stands : Standing U C) (keep : Keeps f 
       over-next e m p s b st here (next-kept s.0 (Unblocked b) notes b.0 m.kernel is (grind (arith, nat_tests)) claimed)
 
   -- an upcall's context is about to be told these notices
-  pub record Tells (e : ℕ) (p : ProcNo) (s : SpaceNo) (notes : List Note) (m : Machine U C) : Type 0 where
+  pub record Tells (w : WorkloadView) (e g : ℕ) (p : ProcNo) (s : SpaceNo) (notes : List Note) (m : Machine U C) : Type 0 where
+    pub workload : m.workload ≡ w
+    pub event : m.event ≡ g
     pub standing : Stands stands e m
     pub claimed : AreClaimed m.kernel s.0
     pub owner : owner_of m.kernel p ≡ Some s
@@ -224,11 +227,11 @@ module _ {U C : Type 0} (f : Calls U C) (stands : Standing U C) (keep : Keeps f 
       → called_by call p s (user_of m s) (context_on m p) n ≡ with_pair p s (call u c).0 (call u c).1 n
   called-is call p s m n u c user ctx = rw (user, ctx) refl
 
-  tells-plain : (e : ℕ) (m : Machine U C) (p : ProcNo) (s : SpaceNo) (note : Note) (notes : List Note) → (tells : Tells e p s (note ∷ notes) m)
+  tells-plain : (w : WorkloadView) (e g : ℕ) (m : Machine U C) (p : ProcNo) (s : SpaceNo) (note : Note) (notes : List Note) → (tells : Tells w e g p s (note ∷ notes) m)
       → (k : State C) → k ≡ record m.kernel { telling = notes } → IsSound k → AreClaimed k s.0
       → ((cs : Contexts C) (a : ℕ) (c : C) → told_contexts cs a c note ≡ put cs a (Some c))
-      → Tells e p s notes (called (λ u c. f.told u c note (held_for m.kernel note)) p s (record m { kernel = k }))
-  tells-plain e m p s note notes tells k same sound claimed plain =
+      → Tells w e g p s notes (called (λ u c. f.told u c note (held_for m.kernel note)) p s (record m { kernel = k }))
+  tells-plain w e g m p s note notes tells k same sound claimed plain =
       let st = tells.standing in
       let here = at-owned f stands keep e m p s st tells.owner in
       let n : Machine U C = record m { kernel = k } in
@@ -242,18 +245,20 @@ module _ {U C : Type 0} (f : Calls U C) (stands : Standing U C) (keep : Keeps f 
       let lives : k.lives ≡ m.kernel.lives = ap (λ (z : State C). z.lives) same in
       let acts : k.acts ≡ m.kernel.acts = ap (λ (z : State C). z.acts) same in
       let demands : length k.demands ≡ length m.kernel.demands = ap (λ (z : State C). length z.demands) same in
-      subst (λ (z : Machine U C). Tells e p s notes z) (sym (called-is call p s m n here.user here.ctx here.is_user here.is_ctx)) (record {
+      subst (λ (z : Machine U C). Tells w e g p s notes z) (sym (called-is call p s m n here.user here.ctx here.is_user here.is_ctx)) (record {
+        workload = tells.workload;
+        event = tells.event;
         standing = stands-runs f stands keep e m.event (with_pair p s r.0 r.1 m) k m.items done sound lives acts demands;
         claimed = claimed;
         owner = ap (λ (z : State C). owner_of z p) same ∙ tells.owner;
         telling = ap (λ (z : State C). z.telling) same;
       })
 
-  tells-handed : (e : ℕ) (m : Machine U C) (p : ProcNo) (s : SpaceNo) (note : Note) (notes : List Note) (b : ActNo) → (tells : Tells e p s (note ∷ notes) m)
+  tells-handed : (w : WorkloadView) (e g : ℕ) (m : Machine U C) (p : ProcNo) (s : SpaceNo) (note : Note) (notes : List Note) (b : ActNo) → (tells : Tells w e g p s (note ∷ notes) m)
       → (k : State C) → k ≡ handed_by (held_of (m.kernel.acts b.0)) b (record m.kernel { telling = notes }) → IsSound k → AreClaimed k s.0 → note_claim b.0 note ≡ 1
       → ((cs : Contexts C) (a : ℕ) (c : C) → told_contexts cs a c note ≡ put (put cs a (Some c)) b.0 None)
-      → Tells e p s notes (called (λ u c. f.told u c note (held_for m.kernel note)) p s (record m { kernel = k }))
-  tells-handed e m p s note notes b tells k same sound claimed one both =
+      → Tells w e g p s notes (called (λ u c. f.told u c note (held_for m.kernel note)) p s (record m { kernel = k }))
+  tells-handed w e g m p s note notes b tells k same sound claimed one both =
       let st = tells.standing in
       let here = at-owned f stands keep e m p s st tells.owner in
       let n : Machine U C = record m { kernel = k } in
@@ -267,7 +272,9 @@ module _ {U C : Type 0} (f : Calls U C) (stands : Standing U C) (keep : Keeps f 
       let j : State C = record m.kernel { telling = notes } in
       let o = held_of (m.kernel.acts b.0) in
       let rest = handed-lives o b j in
-      subst (λ (z : Machine U C). Tells e p s notes z) (sym (called-is call p s m n here.user here.ctx here.is_user here.is_ctx)) (record {
+      subst (λ (z : Machine U C). Tells w e g p s notes z) (sym (called-is call p s m n here.user here.ctx here.is_user here.is_ctx)) (record {
+        workload = tells.workload;
+        event = tells.event;
         standing = stands-handed e m p s k b.0 r.0 r.1 st here kept sound
             (ap (λ (z : State C). z.lives) same ∙ rest.0)
             (ap (λ (z : State C). z.acts) same ∙ handed-acts o kept.stopped b j (held-for s.0 (m.kernel.acts b.0) kept))
@@ -277,20 +284,20 @@ module _ {U C : Type 0} (f : Calls U C) (stands : Standing U C) (keep : Keeps f 
         telling = ap (λ (z : State C). z.telling) same ∙ rest.2;
       })
 
-  pub tells-next : (e : ℕ) (m : Machine U C) (p : ProcNo) (s : SpaceNo) (note : Note) (notes : List Note) → Tells e p s (note ∷ notes) m → Tells e p s notes (told_one f p s note notes m)
-  tells-next e m p s note notes tells =
+  pub tells-next : (w : WorkloadView) (e g : ℕ) (m : Machine U C) (p : ProcNo) (s : SpaceNo) (note : Note) (notes : List Note) → Tells w e g p s (note ∷ notes) m → Tells w e g p s notes (told_one f p s note notes m)
+  tells-next w e g m p s note notes tells =
       let sound = sound-after_fetch (note ∷ notes) m.kernel (sym tells.telling) tells.standing.sound in
       let claimed = claimed-after_fetch (note ∷ notes) m.kernel s.0 (sym tells.telling) tells.claimed in
       go note tells sound claimed
     where
-      go : (n : Note) → Tells e p s (n ∷ notes) m → IsSound (fetched n (record m.kernel { telling = notes })) → AreClaimed (fetched n (record m.kernel { telling = notes })) s.0
-          → Tells e p s notes (told_one f p s n notes m)
-      go (Add q) t sound claimed = tells-plain e m p s (Add q) notes t _ refl sound claimed (λ cs a c. refl)
-      go (Blocked b) t sound claimed = tells-plain e m p s (Blocked b) notes t _ refl sound claimed (λ cs a c. refl)
-      go (Preempted b) t sound claimed = tells-handed e m p s (Preempted b) notes b t _ refl sound claimed (grind (arith, nat_tests)) (λ cs a c. refl)
-      go (Unblocked b) t sound claimed = tells-handed e m p s (Unblocked b) notes b t _ refl sound claimed (grind (arith, nat_tests)) (λ cs a c. refl)
+      go : (n : Note) → Tells w e g p s (n ∷ notes) m → IsSound (fetched n (record m.kernel { telling = notes })) → AreClaimed (fetched n (record m.kernel { telling = notes })) s.0
+          → Tells w e g p s notes (told_one f p s n notes m)
+      go (Add q) t sound claimed = tells-plain w e g m p s (Add q) notes t _ refl sound claimed (λ cs a c. refl)
+      go (Blocked b) t sound claimed = tells-plain w e g m p s (Blocked b) notes t _ refl sound claimed (λ cs a c. refl)
+      go (Preempted b) t sound claimed = tells-handed w e g m p s (Preempted b) notes b t _ refl sound claimed (grind (arith, nat_tests)) (λ cs a c. refl)
+      go (Unblocked b) t sound claimed = tells-handed w e g m p s (Unblocked b) notes b t _ refl sound claimed (grind (arith, nat_tests)) (λ cs a c. refl)
 
   -- .. and all of them
-  pub tells-all : (e : ℕ) (p : ProcNo) (s : SpaceNo) (notes : List Note) (m : Machine U C) → Tells e p s notes m → Tells e p s [] (told_all f p s notes m)
-  tells-all e p s [] m tells = tells
-  tells-all e p s (note ∷ notes) m tells = tells-all e p s notes (told_one f p s note notes m) (tells-next e m p s note notes tells)
+  pub tells-all : (w : WorkloadView) (e g : ℕ) (p : ProcNo) (s : SpaceNo) (notes : List Note) (m : Machine U C) → Tells w e g p s notes m → Tells w e g p s [] (told_all f p s notes m)
+  tells-all w e g p s [] m tells = tells
+  tells-all w e g p s (note ∷ notes) m tells = tells-all w e g p s notes (told_one f p s note notes m) (tells-next w e g m p s note notes tells)

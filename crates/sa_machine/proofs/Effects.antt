@@ -124,3 +124,51 @@ module _ {C : Type 0} where
         acts = ap (λ (fs : ℕ → Option (Act C)). put fs a.0 (Some (runs_in s))) h.acts;
         demands = h.demands;
       }
+
+  -- the processor goes to its aim, which is in its space or not
+
+  pub record Aims (x y : Scene C) (p : ProcNo) (a : ActNo) (aim : Option SpaceNo) : Type 0 where
+    pub started : upcalls_for x.state aim ≡ true → (s : SpaceNo) × Starts x.state y.state p a s
+    pub same : upcalls_for x.state aim ≡ false → SameRuns x.state y.state
+
+  aims-by : (e : ℕ) (p : ProcNo) (s : SpaceNo) (a : ActNo) (owned b : Bool) (x : Scene C) → can_upcall x.state s ≡ b → Aims x (go_to_by e p s a owned b x) p a (Some s)
+  aims-by e p s a owned true x can = record {
+    started = λ up. (s, starts-go_to e p s a owned x);
+    same = λ up. absurd (let z = sym can ∙ up in cc);
+  }
+  aims-by e p s a owned false x can = record {
+    started = λ up. absurd (let z = sym can ∙ up in cc);
+    same = λ up. same-leave e p s x;
+  }
+
+  pub aims-at : (e : ℕ) (p : ProcNo) (a : ActNo) (aim : Option SpaceNo) (x : Scene C) → Aims x (go_to_aim e p a aim x) p a aim
+  aims-at e p a None x = record {
+    started = λ up. absurd (let z = up in cc);
+    same = λ up. record { lives = refl; acts = refl; telling = refl; demands = refl };
+  }
+  aims-at e p a (Some s) x = aims-by e p s a (is_aim s.0 (owner_of x.state p)) (can_upcall x.state s) x refl
+
+  -- the context of a life is set aside
+  pub record SetsAside (k l : State C) (p : ProcNo) (a : ActNo) (held : Stopped C) : Type 0 where
+    pub lives : l.lives ≡ slice_set k.lives p.0 None
+    pub acts : l.acts ≡ put k.acts a.0 (holding held (k.acts a.0))
+    pub telling : l.telling ≡ k.telling
+    pub pages : l.pages ≡ k.pages
+    pub demands : length l.demands ≡ length k.demands
+
+  pub stopped-aside : (e : ℕ) (p : ProcNo) (o : Option SpaceNo) (l : Option ActNo) (h : Option (Stopped C)) (x : Scene C) (s : SpaceNo) (a : ActNo) (held : Stopped C)
+      → o ≡ Some s → l ≡ Some a → h ≡ Some held → SetsAside x.state (stopped e p o l h x).state p a held
+  stopped-aside e p o l h x s a held owner life is =
+      rw (owner, life, is) (record { lives = refl; acts = refl; telling = refl; pages = refl; demands = refl })
+
+  pub stopped-off : (e : ℕ) (p : ProcNo) (o : Option SpaceNo) (l : Option ActNo) (h : Option (Stopped C)) (x : Scene C) → o ≡ None → stopped e p o l h x ≡ x
+  stopped-off e p o l h x off = rw off refl
+
+  pub blocked-aside : (e : ℕ) (p : ProcNo) (s : SpaceNo) (a : ActNo) (held : Stopped C) (len : ℕ) (page : Option ℕ) (x : Scene C)
+      → SetsAside x.state (block_begun e p s a held len page x).state p a held
+  blocked-aside e p s a held len page x = record { lives = refl; acts = refl; telling = refl; pages = refl; demands = refl }
+
+  pub told-or-left : (e : ℕ) (p : ProcNo) (s : SpaceNo) (a : ActNo) (b : Bool) (x : Scene C)
+      → (b ≡ true → Starts x.state (told_or_left e p s a b x).state p a s) × (b ≡ false → SameRuns x.state (told_or_left e p s a b x).state)
+  told-or-left e p s a true x = ((λ up. starts-upcall e p s a false x), λ up. absurd (let z = up in cc))
+  told-or-left e p s a false x = ((λ up. absurd (let z = up in cc)), λ up. same-leave e p s x)

@@ -2,3 +2,4 @@ pub mod Running
 pub mod Effects
 pub mod Phases
 pub mod Calls
+pub mod Turns
