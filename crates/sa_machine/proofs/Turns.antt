@@ -110,3 +110,104 @@ module _ {U C : Type 0} (f : Calls U C) (stands : Standing U C) (keep : Keeps f 
       let told = tells-all f stands keep w e g p t k.telling (begun f p t after) first in
       subst (λ (o : Option SpaceNo). Rests w e g (welcomed_in f p o after)) (sym up.owner)
       (rests-answered w e g (told_all f p t k.telling (begun f p t after)) p t told.standing told.owner told.telling told.workload told.event)
+
+  -- an entry
+
+  sound-after : (e : ℕ) (m : Machine U C) (p : ProcNo) (n : ActNo) (entry : Entry C) → Stands stands e m → m.kernel.telling ≡ [] → p.0 < length m.kernel.lives
+      → IsFit m.kernel p m.event entry → m.kernel.acts n.0 ≡ None → IsSound (entered m.event p n entry (scene_of m)).state
+  sound-after e m p n entry st fetched within fit unused =
+      sound-closed m.event p (entered_as m.event p n entry (scene_of m)) (sound-entered_as m.event p n entry (scene_of m) within fit unused fetched st.sound)
+
+  -- .. behind which the same activations run
+  rests-entered : (w : WorkloadView) (e g : ℕ) (m : Machine U C) (p : ProcNo) (n : ActNo) (entry : Entry C) → Rests w e g m → p.0 < length m.kernel.lives
+      → IsFit m.kernel p m.event entry → m.kernel.acts n.0 ≡ None → SameRuns m.kernel (entered_as m.event p n entry (scene_of m)).state → Rests w e g (kernel_entered p n entry m)
+  rests-entered w e g m p n entry rest within fit unused same =
+      let x = entered_as m.event p n entry (scene_of m) in
+      let y = closed m.event p x in
+      let both = same-again m.kernel x.state y.state same (same-closed m.event p x) in record {
+        standing = stands-kernel f stands keep e m.event m y.state y.items rest.standing (sound-after e m p n entry rest.standing rest.fetched within fit unused) both;
+        fetched = both.telling ∙ rest.fetched;
+        workload = rest.workload;
+        event = rest.event;
+      }
+
+  -- .. by which activations are given back
+  none-taken : (e : ℕ) (m : Machine U C) (s : SpaceNo) → Stands stands e m → (a : ActNo) → Contains (taken_of m.kernel s.0) a → (t : ℕ) → contexts_of m t a.0 ≡ None
+  none-taken e m s st a has t =
+      let k = m.kernel in
+      let taken = st.sound.formed.taken s.0 a has in
+      let idle = running-none k.lives m.contexts a.0 (rests k.assign.owners k.lives k.acts a.0 st.sound.formed.lives (λ u is. both taken.here u (sym taken.is ∙ is) taken.taken)) in
+      ap (λ (x : Option (Act C)). context_in t x (running k.lives m.contexts a.0)) taken.is
+      ∙ ap (context_in t (Some taken.here)) idle
+      ∙ nothing taken.here taken.none_held t
+    where
+      both : (act : Act C) (u : SpaceNo) → Some act ≡ Some (runs_in u) → act.taken ≡ true → ⊥
+      both act u is t = let z : act.taken ≡ false = cc in cc
+
+      if-none : (b : Bool) (o : Option C) → o ≡ None → Rattle.std.proofs.Common.cond b o None ≡ None
+      if-none true o e = e
+      if-none false o e = refl
+
+      nothing : (act : Act C) → act.held ≡ None → (t : ℕ) → context_in t (Some act) None ≡ None
+      nothing act none t = if-none _ _ (ap (λ (h : Option (Stopped C)). Rattle.sa_machine.specs.Standing.held_or_running h None) none)
+
+  rests-given : (w : WorkloadView) (e g : ℕ) (m : Machine U C) (p : ProcNo) (n : ActNo) (s : SpaceNo) → Rests w e g m → p.0 < length m.kernel.lives → owner_of m.kernel p ≡ Some s
+      → IsFit m.kernel p m.event GiveBackEntry → m.kernel.acts n.0 ≡ None → Rests w e g (kernel_entered p n GiveBackEntry m)
+  rests-given w e g m p n s rest within owner fit unused =
+      let k = m.kernel in
+      let x = entered_as m.event p n GiveBackEntry (scene_of m) in
+      let y = closed m.event p x in
+      let close = same-closed m.event p x in
+      let gave : x ≡ gave_back m.event p (Some s) (scene_of m) = ap (λ (o : Option SpaceNo). gave_back m.event p o (scene_of m)) owner in
+      let acts : y.state.acts ≡ without_acts (taken_of k s.0) k.acts = close.acts ∙ ap (λ (z : Scene C). z.state.acts) gave in
+      record {
+        standing = stands-emptied f stands keep e m y.state y.items rest.standing (sound-after e m p n GiveBackEntry rest.standing rest.fetched within fit unused)
+            (close.lives ∙ ap (λ (z : Scene C). z.state.lives) gave)
+            (close.demands ∙ ap (λ (z : Scene C). length z.state.demands) gave)
+            (λ t b. contexts-back k.lives m.contexts (taken_of k s.0) k.acts (none-taken e m s rest.standing) t b
+            ∙ ap (λ (fs : ℕ → Option (Act C)). contexts_in k.lives fs m.contexts t b) (sym acts));
+        fetched = close.telling ∙ ap (λ (z : Scene C). z.state.telling) gave ∙ rest.fetched;
+        workload = rest.workload;
+        event = rest.event;
+      }
+
+  -- the context that asked for an entry goes on
+  rests-in : (w : WorkloadView) (e g : ℕ) (m : Machine U C) (p : ProcNo) (o : Option SpaceNo) → Rests w e g m → owner_of m.kernel p ≡ o → Rests w e g (answered_in f p o m)
+  rests-in w e g m p None rest owner = rest
+  rests-in w e g m p (Some s) rest owner = rests-answered w e g m p s rest.standing owner rest.fetched rest.workload rest.event
+
+  rests-hinted : (w : WorkloadView) (e g : ℕ) (m : Machine U C) (p : ProcNo) (n : ActNo) (entry : Entry C) → Rests w e g (kernel_entered p n entry m) → Rests w e g (hinted f p n entry m)
+  rests-hinted w e g m p n entry rest = rests-in w e g (kernel_entered p n entry m) p (owner_of (kernel_entered p n entry m).kernel p) rest refl
+
+  -- an entry that sets a context aside, or finds none, and may upcall
+  pub record Pauses (e : ℕ) (m : Machine U C) (p : ProcNo) (n : ActNo) (entry : Entry C) (k : State C) : Type 0 where
+    pub paused : Paused stands e p k.lives k.acts m
+    pub unused : k.acts n.0 ≡ None
+    pub telling : k.telling ≡ []
+    pub demands : length k.demands ≡ length m.workload.spaces
+    pub started : upcalls m.kernel p entry ≡ true → (s : SpaceNo) × Starts k (entered_as m.event p n entry (scene_of m)).state p n s
+    pub same : upcalls m.kernel p entry ≡ false → SameRuns k (entered_as m.event p n entry (scene_of m)).state
+
+  rests-paused : (w : WorkloadView) (e g : ℕ) (m : Machine U C) (p : ProcNo) (n : ActNo) (entry : Entry C) (k : State C) → Pauses e m p n entry k → m.workload ≡ w → m.event ≡ g
+      → IsSound (entered m.event p n entry (scene_of m)).state → (upcalls m.kernel p entry ≡ true → IsUpcalled (entered m.event p n entry (scene_of m)).state p n)
+      → Rests w e g (entered_on f p n entry m)
+  rests-paused w e g m p n entry k pauses workload event sound up = go (upcalls m.kernel p entry) refl
+    where
+      x : Scene C
+      x = entered_as m.event p n entry (scene_of m)
+
+      y : Scene C
+      y = closed m.event p x
+
+      go : (b : Bool) → upcalls m.kernel p entry ≡ b → Rests w e g (welcomed_if f p b (kernel_entered p n entry m))
+      go true is =
+          let start = pauses.started is in
+          let all = starts-same k x.state y.state p n start.0 start.1 (same-closed m.event p x) in
+          rests-welcomed w e g m p start.0 n k.lives k.acts y.state y.items pauses.paused sound all.lives all.acts (all.demands ∙ pauses.demands) pauses.unused (up is) workload event
+      go false is =
+          let all = same-again k x.state y.state (pauses.same is) (same-closed m.event p x) in record {
+            standing = stands-left f stands keep e m p k.lives k.acts y.state y.items pauses.paused sound all.lives all.acts (all.demands ∙ pauses.demands);
+            fetched = all.telling ∙ pauses.telling;
+            workload = workload;
+            event = event;
+          }
