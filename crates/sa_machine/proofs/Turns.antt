@@ -211,3 +211,147 @@ module _ {U C : Type 0} (f : Calls U C) (stands : Standing U C) (keep : Keeps f 
             workload = workload;
             event = event;
           }
+
+  -- a context is set aside
+
+  stopped-is : (m : Machine U C) (p : ProcNo) (s : SpaceNo) → (here : IsAt f stands keep m p s)
+      → stopped_in f m p (owner_of m.kernel p) ≡ Some (record { ctx = here.ctx; thread = f.thread here.user here.ctx; idle = f.idle here.user here.ctx })
+  stopped-is m p s here =
+      ap (λ (o : Option SpaceNo). stopped_in f m p o) here.owner
+      ∙ ap (λ (u : Option U). stopped_by f u (context_on m p)) here.is_user
+      ∙ ap (λ (c : Option C). stopped_by f (Some here.user) c) here.is_ctx
+
+  upcalls-pages : (k l : State C) (aim : Option SpaceNo) → l.pages ≡ k.pages → upcalls_for l aim ≡ upcalls_for k aim
+  upcalls-pages k l None e = refl
+  upcalls-pages k l (Some s) e = ap (λ (ps : List ℕ). has_page (get_or ps s.0 0) 0) e
+
+  other-act : (acts : ℕ → Option (Act C)) (n a : ActNo) (s : SpaceNo) → acts n.0 ≡ None → acts a.0 ≡ Some (runs_in s) → n.0 ≢ a.0
+  other-act acts n a s none some e = let z : acts n.0 ≡ Some (runs_in s) = ap acts e ∙ some in cc
+
+  pub rests-upcall : (w : WorkloadView) (e g : ℕ) (m : Machine U C) (p : ProcNo) (n : ActNo) (entry : Entry C) (k : State C) → Rests w e g m → p.0 < length m.kernel.lives
+      → IsFit m.kernel p m.event entry → m.kernel.acts n.0 ≡ None → Pauses e (without_context p m) p n entry k → Rests w e g (entered_on f p n entry (without_context p m))
+  rests-upcall w e g m p n entry k rest within fit unused pauses =
+      let st = rest.standing in
+      let x = entered_as m.event p n entry (scene_of m) in
+      rests-paused w e g (without_context p m) p n entry k pauses rest.workload rest.event
+      (sound-after e m p n entry st rest.fetched within fit unused)
+      (λ up. upcalled-closed m.event p x p n (upcalled-entered_as m.event p n entry (scene_of m) st.sound.claimed.told_to up within unused rest.fetched st.sound.formed st.sound.claimed.once))
+
+  -- .. by an interrupt
+  pauses-aside : (e : ℕ) (m : Machine U C) (p : ProcNo) (n : ActNo) (s : SpaceNo) (entry : Entry C) (k : State C) (held : Stopped C) → Stands stands e m → m.kernel.telling ≡ []
+      → m.kernel.acts n.0 ≡ None → (here : IsAt f stands keep m p s) → held.ctx ≡ here.ctx → SetsAside m.kernel k p here.act held
+      → (upcalls m.kernel p entry ≡ true → (t : SpaceNo) × Starts k (entered_as m.event p n entry (scene_of m)).state p n t)
+      → (upcalls m.kernel p entry ≡ false → SameRuns k (entered_as m.event p n entry (scene_of m)).state)
+      → Pauses e (without_context p m) p n entry k
+  pauses-aside e m p n s entry k held st fetched unused here is aside started same = record {
+    paused = subst (λ (ls : List (Option ActNo)). Paused stands e p ls k.acts (without_context p m)) (sym aside.lives)
+        (subst (λ (fs : ℕ → Option (Act C)). Paused stands e p (slice_set m.kernel.lives p.0 None) fs (without_context p m)) (sym aside.acts)
+        (paused-stop f stands keep e m p s held st here is));
+    unused = ap (λ (fs : ℕ → Option (Act C)). fs n.0) aside.acts
+        ∙ put-other m.kernel.acts here.act.0 n.0 _ (other-act m.kernel.acts n here.act s unused here.runs) ∙ unused;
+    telling = aside.telling ∙ fetched;
+    demands = aside.demands ∙ st.demands;
+    started = started;
+    same = same;
+  }
+
+  interrupted-some : (w : WorkloadView) (e g : ℕ) (m : Machine U C) (p : ProcNo) (n : ActNo) (s : SpaceNo) (raised : ℕ) (held : Stopped C) → Rests w e g m → p.0 < length m.kernel.lives
+      → line_of m.kernel p ≡ Some raised → m.kernel.acts n.0 ≡ None → (here : IsAt f stands keep m p s) → held.ctx ≡ here.ctx
+      → Rests w e g (entered_on f p n (Interrupt (Some held)) (without_context p m))
+  interrupted-some w e g m p n s raised held rest within line unused here is =
+      let k = m.kernel in
+      let low : Scene C = record { state = with_line p None k; items = m.items } in
+      let y : Scene C = stopped m.event p (owner_of k p) (life_of k p) (Some held) low in
+      let aside = stopped-aside m.event p (owner_of k p) (life_of k p) (Some held) low s here.act held here.owner here.life refl in
+      let mine : SetsAside k y.state p here.act held = record { lives = aside.lives; acts = aside.acts; telling = aside.telling; pages = aside.pages; demands = aside.demands } in
+      let aims = aims-at m.event p n (aim_of k p) y in
+      let same = upcalls-pages k y.state (aim_of k p) mine.pages in
+      rests-upcall w e g m p n (Interrupt (Some held)) y.state rest within
+      (record { raised = ap (λ (o : Option ℕ). is_some o) line; held = λ h. ap (λ (o : Option SpaceNo). is_some o) here.owner; owned = λ h. refl }) unused
+      (pauses-aside e m p n s (Interrupt (Some held)) y.state held rest.standing rest.fetched unused here is mine (λ up. aims.started (same ∙ up)) (λ up. aims.same (same ∙ up)))
+
+  interrupted-none : (w : WorkloadView) (e g : ℕ) (m : Machine U C) (p : ProcNo) (n : ActNo) (raised : ℕ) → Rests w e g m → p.0 < length m.kernel.lives
+      → line_of m.kernel p ≡ Some raised → m.kernel.acts n.0 ≡ None → owner_of m.kernel p ≡ None → Rests w e g (entered_on f p n (Interrupt None) (without_context p m))
+  interrupted-none w e g m p n raised rest within line unused off =
+      let k = m.kernel in
+      let low : Scene C = record { state = with_line p None k; items = m.items } in
+      let y : Scene C = stopped m.event p (owner_of k p) (life_of k p) None low in
+      let is : y ≡ low = stopped-off m.event p (owner_of k p) (life_of k p) None low off in
+      let aims = aims-at m.event p n (aim_of k p) y in
+      let same = upcalls-pages k y.state (aim_of k p) (ap (λ (z : Scene C). z.state.pages) is) in
+      let lives : y.state.lives ≡ k.lives = ap (λ (z : Scene C). z.state.lives) is in
+      let acts : y.state.acts ≡ k.acts = ap (λ (z : Scene C). z.state.acts) is in
+      rests-upcall w e g m p n (Interrupt None) y.state rest within
+      (record { raised = ap (λ (o : Option ℕ). is_some o) line; held = λ h. absurd cc; owned = λ h. absurd (let z = sym h ∙ ap (λ (o : Option SpaceNo). is_some o) off in cc) }) unused
+      (record {
+        paused = subst (λ (ls : List (Option ActNo)). Paused stands e p ls y.state.acts (without_context p m)) (sym lives)
+            (subst (λ (fs : ℕ → Option (Act C)). Paused stands e p k.lives fs (without_context p m)) (sym acts) (paused-off f stands keep e m p rest.standing within off));
+        unused = ap (λ (fs : ℕ → Option (Act C)). fs n.0) acts ∙ unused;
+        telling = ap (λ (z : Scene C). z.state.telling) is ∙ rest.fetched;
+        demands = ap (λ (z : Scene C). length z.state.demands) is ∙ rest.standing.demands;
+        started = λ up. aims.started (same ∙ up);
+        same = λ up. aims.same (same ∙ up);
+      })
+
+  pub rests-interrupted : (w : WorkloadView) (e g : ℕ) (m : Machine U C) (p : ProcNo) (n : ActNo) (raised : ℕ) → Rests w e g m → p.0 < length m.kernel.lives
+      → line_of m.kernel p ≡ Some raised → m.kernel.acts n.0 ≡ None → Rests w e g (interrupted f p n m)
+  rests-interrupted w e g m p n raised rest within line unused = go (owner_of m.kernel p) refl
+    where
+      go : (o : Option SpaceNo) → owner_of m.kernel p ≡ o → Rests w e g (interrupted f p n m)
+      go None off =
+          subst (λ (h : Option (Stopped C)). Rests w e g (entered_on f p n (Interrupt h) (without_context p m))) (sym (ap (λ (o : Option SpaceNo). stopped_in f m p o) off))
+          (interrupted-none w e g m p n raised rest within line unused off)
+      go (Some s) owner =
+          let here = at-owned f stands keep e m p s rest.standing owner in
+          subst (λ (h : Option (Stopped C)). Rests w e g (entered_on f p n (Interrupt h) (without_context p m))) (sym (stopped-is m p s here))
+          (interrupted-some w e g m p n s raised _ rest within line unused here refl)
+
+  -- .. by a block
+  blocked-is : (m : Machine U C) (p : ProcNo) (n : ActNo) (s : SpaceNo) (held : Stopped C) (len : ℕ) (page : Option ℕ) → (here : IsAt f stands keep m p s)
+      → entered_as m.event p n (BlockEntry held len page) (scene_of m)
+      ≡ told_or_left m.event p s n (can_upcall m.kernel s) (block_begun m.event p s here.act held len page (scene_of m))
+  blocked-is m p n s held len page here =
+      ap (λ (o : Option SpaceNo). kernel_blocked_by m.event p n o (life_of m.kernel p) held len page (scene_of m)) here.owner
+      ∙ ap (λ (l : Option ActNo). kernel_blocked_by m.event p n (Some s) l held len page (scene_of m)) here.life
+
+  pub rests-blocked : (w : WorkloadView) (e g : ℕ) (m : Machine U C) (p : ProcNo) (n : ActNo) (s : SpaceNo) (len : ℕ) (page : Option ℕ) → Rests w e g m
+      → owner_of m.kernel p ≡ Some s → line_of m.kernel p ≡ None → m.kernel.acts n.0 ≡ None → IfSome page IsOwnPage → Rests w e g (blocked f p n len page m)
+  rests-blocked w e g m p n s len page rest owner low unused own =
+      let k = m.kernel in
+      let here = at-owned f stands keep e m p s rest.standing owner in
+      let held : Stopped C = record { ctx = here.ctx; thread = f.thread here.user here.ctx; idle = f.idle here.user here.ctx } in
+      let entry : Entry C = BlockEntry held len page in
+      let y : Scene C = block_begun m.event p s here.act held len page (scene_of m) in
+      let x : Scene C = entered_as m.event p n entry (scene_of m) in
+      let is = blocked-is m p n s held len page here in
+      let cases = told-or-left m.event p s n (can_upcall k s) y in
+      let up : upcalls k p entry ≡ can_upcall k s =
+          ap (λ (o : Option SpaceNo). upcalls_in k o (life_of k p)) here.owner ∙ ap (λ (l : Option ActNo). upcalls_in k (Some s) l) here.life in
+      subst (λ (h : Option (Stopped C)). Rests w e g (blocked_by f p n len page h (without_context p m))) (sym (stopped-is m p s here))
+      (rests-upcall w e g m p n entry y.state rest here.within (record { space = s; asks = record { owner = owner; low = low }; page = own }) unused
+      (pauses-aside e m p n s entry y.state held rest.standing rest.fetched unused here refl (blocked-aside m.event p s here.act held len page (scene_of m))
+      (λ can. (s, subst (λ (z : Scene C). Starts y.state z.state p n s) (sym is) (cases.0 (sym up ∙ can))))
+      (λ can. subst (λ (z : Scene C). SameRuns y.state z.state) (sym is) (cases.1 (sym up ∙ can)))))
+
+  -- where a slice ends
+  rests-sliced_if : (w : WorkloadView) (e g : ℕ) (m : Machine U C) (p : ProcNo) (b : Bool) → Rests w e g m → Rests w e g (sliced_if p b m)
+  rests-sliced_if w e g m p false rest = rest
+  rests-sliced_if w e g m p true rest =
+      let same = same-closed m.event p (scene_of m) in
+      let y = closed m.event p (scene_of m) in record {
+        standing = stands-kernel f stands keep e m.event m y.state y.items rest.standing (sound-closed m.event p (scene_of m) rest.standing.sound) same;
+        fetched = same.telling ∙ rest.fetched;
+        workload = rest.workload;
+        event = rest.event;
+      }
+
+  pub rests-sliced : (w : WorkloadView) (e g : ℕ) (m : Machine U C) (p : ProcNo) → Rests w e g m → Rests w e g (sliced p m)
+  rests-sliced w e g m p rest = rests-sliced_if w e g m p (ends_slice m) rest
+
+  rests-ticked : (w : WorkloadView) (e g : ℕ) (m : Machine U C) (p : ProcNo) → Rests w e g m → Rests w e g (ticked p m)
+  rests-ticked w e g m p rest = record {
+    standing = stands-runs f stands keep e m.event m m.kernel _ rest.standing rest.standing.sound refl refl refl;
+    fetched = rest.fetched;
+    workload = rest.workload;
+    event = rest.event;
+  }
