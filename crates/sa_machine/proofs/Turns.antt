@@ -2,6 +2,8 @@
 use Rattle.std.proofs.Common.{◌≡◌, ◌≢◌, ℕ, zero, suc, ◌+◌, ◌-◌, ◌<◌, ◌≤◌, Bool, true, false, Option, Some, None, is_some, IsSome, IfSome, List, [], ◌∷◌, ◌++◌, get_or, slice_get, slice_set, length, Contains, refl, sym, ap, subst, ◌∙◌, inl, inr, arith}
 use Rattle.std.specs.Option.{option_map}
 use Rattle.std.proofs.lemmas.List.{length-set}
+use Rattle.std.proofs.lemmas.Option.{same_Some}
+use Rattle.std.specs.Int.{bit_at}
 use Rattle.sa_base.specs.declared.number.ProcNo.{ProcNo}
 use Rattle.sa_base.specs.declared.number.SpaceNo.{SpaceNo}
 use Rattle.sa_base.specs.declared.number.ActNo.{ActNo}
@@ -355,3 +357,139 @@ module _ {U C : Type 0} (f : Calls U C) (stands : Standing U C) (keep : Keeps f 
     workload = rest.workload;
     event = rest.event;
   }
+
+  -- a step, and what it asks for
+
+  stepped-is : (m : Machine U C) (p : ProcNo) (s : SpaceNo) → (here : IsAt f stands keep m p s)
+      → stepped f p s m ≡ (step_to f p s (f.stepped here.user (seen_on m p s) here.ctx) m, (f.stepped here.user (seen_on m p s) here.ctx).answer)
+  stepped-is m p s here = rw (here.is_user, here.is_ctx) refl
+
+  pub step-law : (e : ℕ) (m : Machine U C) (p : ProcNo) (s : SpaceNo) → (st : Stands stands e m) → (here : IsAt f stands keep m p s) → e < m.event → m.event ≤ MAX_EVENTS
+      → IsStepped stands (setting m.workload s.0 here.def) (seen_on m p s) (contexts_of m s.0) here.act.0 (f.stepped here.user (seen_on m p s) here.ctx)
+  step-law e m p s st here later few =
+      keep.steps (setting m.workload s.0 here.def) e here.user (contexts_of m s.0) here.act.0 here.ctx (seen_on m p s)
+      (value-at f stands keep e m p s st here) (mine f stands keep e m p s st here) (sees-at f stands keep e m p s st here) later few
+
+  rests-stepped : (w : WorkloadView) (e g : ℕ) (m : Machine U C) (p : ProcNo) (s : SpaceNo) → (rest : Rests w e g m) → (here : IsAt f stands keep m p s) → e < m.event → m.event ≤ MAX_EVENTS
+      → Rests w g g (step_to f p s (f.stepped here.user (seen_on m p s) here.ctx) m)
+  rests-stepped w e g m p s rest here later few =
+      let r = f.stepped here.user (seen_on m p s) here.ctx in
+      let law = step-law e m p s rest.standing here later few in record {
+        standing = subst (λ (n : ℕ). Stands stands n (step_to f p s r m)) rest.event
+            (stands-put f stands keep e m.event m.event m p s r.user r.ctx _ (omega (arith, later)) rest.standing here law.value);
+        fetched = rest.fetched;
+        workload = rest.workload;
+        event = rest.event;
+      }
+
+  own-page : (page : Option ℕ) → IfSome page (λ k. (1 ≤ k) × (k < 16)) → IfSome page IsOwnPage
+  own-page None h = tt
+  own-page (Some k) h = (h.0, let z = h.1 in omega arith)
+
+  rests-asked : (w : WorkloadView) (g : ℕ) (m : Machine U C) (p : ProcNo) (n : ActNo) (s : SpaceNo) (seen : Seen) (answer : Step) → Rests w g g m → (here : IsAt f stands keep m p s)
+      → seen ≡ seen_on m p s → line_of m.kernel p ≡ None → m.kernel.acts n.0 ≡ None → IsAsked (setting m.workload s.0 here.def) seen answer → Rests w g g (asked f p n answer m)
+  rests-asked w g m p n s seen Did rest here sees low unused ask = rests-sliced w g g m p rest
+  rests-asked w g m p n s seen (Block len page) rest here sees low unused ask =
+      rests-blocked w g g m p n s len page rest here.owner low unused (own-page page ask.2)
+  rests-asked w g m p n s seen (More i) rest here sees low unused ask =
+      let asks : Asks m.kernel p s = record { owner = here.owner; low = low } in
+      let few = subst (λ (z : Seen). z.demand + i ≤ m.workload.processors) sees ask.1 in
+      rests-hinted w g g m p n (MoreEntry i) (rests-entered w g g m p n (MoreEntry i) rest here.within
+      (record { space = s; asks = asks; some = ask.0; few = omega (arith, few, rest.standing.lives) }) unused (same-more m.event p i (owner_of m.kernel p) (scene_of m)))
+  rests-asked w g m p n s seen Idle rest here sees low unused ask =
+      let asks : Asks m.kernel p s = record { owner = here.owner; low = low } in
+      let some = subst (λ (z : Seen). 1 ≤ z.demand) sees ask in
+      rests-hinted w g g m p n IdleEntry (rests-entered w g g m p n IdleEntry rest here.within
+      (record { space = s; asks = asks; some = some }) unused (same-idled m.event p (owner_of m.kernel p) (scene_of m)))
+  rests-asked w g m p n s seen GiveBack rest here sees low unused ask =
+      let asks : Asks m.kernel p s = record { owner = here.owner; low = low } in
+      let some = subst (λ (z : Seen). 1 ≤ z.taken) sees ask in
+      rests-hinted w g g m p n GiveBackEntry (rests-given w g g m p n s rest here.within here.owner (record { space = s; asks = asks; some = some }) unused)
+  rests-asked w g m p n s seen (InterruptOwn q) rest here sees low unused ask =
+      let asks : Asks m.kernel p s = record { owner = here.owner; low = low } in
+      let bit = subst (λ (z : Seen). bit_at z.low q.0 ≡ 1) sees ask.2 in
+      let other = (low-bit m.kernel s q rest.standing.sound.formed.sizes).0 bit in
+      let apart = subst (λ (z : Seen). q ≢ z.proc) sees ask.0 in
+      rests-hinted w g g m p n (InterruptOwnEntry q) (rests-entered w g g m p n (InterruptOwnEntry q) rest here.within
+      (record {
+        space = s;
+        asks = asks;
+        other = λ is. apart (sym (ap (λ i. record { 0 = i }) is));
+        within = (let z = ask.1 in omega (arith, rest.standing.lives));
+        owned = record { owner = other.owner; low = other.line };
+      }) unused (same-own m.event p q (scene_of m)))
+
+  -- the I/O that is due
+  rests-due : (w : WorkloadView) (e g : ℕ) (m : Machine U C) (p : ProcNo) (n : ActNo) (io : IoNo) → Rests w e g m → p.0 < length m.kernel.lives
+      → line_of m.kernel p ≡ None → m.kernel.acts n.0 ≡ None → option_map io_no (due_of m.event m.kernel.under_way) ≡ Some io → Rests w e g (entered_on f p n (Complete io) m)
+  rests-due w e g m p n io rest within low unused due =
+      let there = subst (λ (o : Option IoNo). IfSome o (λ i. IsSome (io_at i.0 m.kernel.under_way))) due (due_of-under_way m.event m.kernel.under_way) in
+      let here = some-is (io_at io.0 m.kernel.under_way) there in
+      rests-entered w e g m p n (Complete io) rest within (record { here = here.0; under_way = here.1; low = low }) unused
+      (same-over m.event p io (kind_at io.0 m.kernel.under_way) (scene_of m))
+
+  -- a turn, in an event that has begun
+
+  rests-owned : (w : WorkloadView) (e g : ℕ) (m : Machine U C) (p : ProcNo) (n : ActNo) (o : Option SpaceNo) → Rests w e g m → e < m.event → m.event ≤ MAX_EVENTS
+      → line_of m.kernel p ≡ None → m.kernel.acts n.0 ≡ None → owner_of m.kernel p ≡ o → Rests w g g (turned_owned f p n o m)
+  rests-owned w e g m p n None rest later few low unused owner =
+      let done = rests-sliced w e g (ticked p m) p (rests-ticked w e g m p rest) in
+      rests-later w e g (sliced p (ticked p m)) (omega (arith, later, rest.event)) done
+    where
+      rests-later : (w : WorkloadView) (e g : ℕ) (m : Machine U C) → e ≤ g → Rests w e g m → Rests w g g m
+      rests-later w e g m later rest = record {
+        standing = stands-later f stands keep e g m later rest.standing; fetched = rest.fetched; workload = rest.workload; event = rest.event;
+      }
+  rests-owned w e g m p n (Some s) rest later few low unused owner =
+      let here = at-owned f stands keep e m p s rest.standing owner in
+      let r = f.stepped here.user (seen_on m p s) here.ctx in
+      let after = step_to f p s r m in
+      let done = rests-stepped w e g m p s rest here later few in
+      let law = step-law e m p s rest.standing here later few in
+      let there = at-owned f stands keep g after p s done.standing owner in
+      let same : there.def ≡ here.def = same_Some there.def here.def (sym there.is_def ∙ here.is_def) in
+      subst (λ (z : Machine U C × Step). Rests w g g (asked f p n z.1 z.0)) (sym (stepped-is m p s here))
+      (rests-asked w g after p n s (seen_on m p s) r.answer done there refl low unused
+      (subst (λ d. IsAsked (setting m.workload s.0 d) (seen_on m p s) r.answer) (sym same) law.asked))
+
+  rests-later : (w : WorkloadView) (e g : ℕ) (m : Machine U C) → e ≤ g → Rests w e g m → Rests w g g m
+  rests-later w e g m later rest = record {
+    standing = stands-later f stands keep e g m later rest.standing; fetched = rest.fetched; workload = rest.workload; event = rest.event;
+  }
+
+  rests-turned_due : (w : WorkloadView) (e g : ℕ) (m : Machine U C) (p : ProcNo) (n : ActNo) (o : Option IoNo) → Rests w e g m → e < m.event → m.event ≤ MAX_EVENTS
+      → p.0 < length m.kernel.lives → line_of m.kernel p ≡ None → m.kernel.acts n.0 ≡ None → option_map io_no (due_of m.event m.kernel.under_way) ≡ o → Rests w g g (turned_due f p n o m)
+  rests-turned_due w e g m p n None rest later few within low unused due = rests-owned w e g m p n (owner_of m.kernel p) rest later few low unused refl
+  rests-turned_due w e g m p n (Some io) rest later few within low unused due =
+      rests-later w e g (entered_on f p n (Complete io) m) (omega (arith, later, rest.event)) (rests-due w e g m p n io rest within low unused due)
+
+  rests-raised : (w : WorkloadView) (e g : ℕ) (m : Machine U C) (p : ProcNo) (n : ActNo) (o : Option ℕ) → Rests w e g m → e < m.event → m.event ≤ MAX_EVENTS
+      → p.0 < length m.kernel.lives → m.kernel.acts n.0 ≡ None → line_of m.kernel p ≡ o → Rests w g g (turned_raised f p n o m)
+  rests-raised w e g m p n None rest later few within unused line =
+      rests-turned_due w e g m p n (option_map io_no (due_of m.event m.kernel.under_way)) rest later few within line unused refl
+  rests-raised w e g m p n (Some raised) rest later few within unused line =
+      rests-later w e g (interrupted f p n m) (omega (arith, later, rest.event)) (rests-interrupted w e g m p n raised rest within line unused)
+
+  -- an event begins
+  pub rests-next : (w : WorkloadView) (e g : ℕ) (m : Machine U C) → Rests w e g m → Rests w e (g + 1) (next_event m)
+  rests-next w e g m rest = record {
+    standing = stands-runs f stands keep e (m.event + 1) m (evicted_at (m.event + 1) m.kernel) m.items rest.standing
+        (sound-evicted (m.event + 1) m.kernel rest.standing.sound) refl refl refl;
+    fetched = rest.fetched;
+    workload = rest.workload;
+    event = ap (λ (i : ℕ). i + 1) rest.event;
+  }
+
+  pub rests-between : (m : Machine U C) → IsBetween stands m → Rests m.workload m.event m.event m
+  rests-between m between = record { standing = between.standing; fetched = between.fetched; workload = refl; event = refl }
+
+  -- a turn keeps a machine standing, and is one event
+  pub rests-turned : (m : Machine U C) (p : ProcNo) (n : ActNo) → IsBetween stands m → m.event + 1 ≤ MAX_EVENTS → p.0 < m.workload.processors → m.kernel.acts n.0 ≡ None
+      → Rests m.workload (m.event + 1) (m.event + 1) (turned f p n m)
+  rests-turned m p n between few within unused =
+      let first = rests-next m.workload m.event m.event m (rests-between m between) in
+      rests-raised m.workload m.event (m.event + 1) (next_event m) p n (line_of (next_event m).kernel p) first (omega arith) few
+      (omega (arith, within, between.standing.lives)) unused refl
+
+  pub between-rests : (w : WorkloadView) (g : ℕ) (m : Machine U C) → Rests w g g m → IsBetween stands m
+  between-rests w g m rest = record { standing = subst (λ (i : ℕ). Stands stands i m) (sym rest.event) rest.standing; fetched = rest.fetched }
