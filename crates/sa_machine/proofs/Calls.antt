@@ -1,5 +1,5 @@
 -- What a machine keeps through the calls of a user level, and that each call meets its condition.
-use Rattle.std.proofs.Common.{◌≡◌, ◌≢◌, ℕ, ◌+◌, ◌-◌, ◌<◌, ◌≤◌, Option, Some, None, is_some, true, List, [], ◌∷◌, ◌++◌, get_or, slice_get, slice_set, length, refl, sym, ap, subst, ◌∙◌, arith}
+use Rattle.std.proofs.Common.{◌≡◌, ◌≢◌, ℕ, ◌+◌, ◌<◌, ◌≤◌, Option, Some, None, is_some, true, List, [], ◌∷◌, get_or, slice_set, length, refl, sym, ap, subst, ◌∙◌, arith}
 use Rattle.std.proofs.Math.Path.{fun_ext}
 use Rattle.std.proofs.lemmas.List.{length-set}
 use Rattle.std.proofs.lemmas.Option.{same_Some}
@@ -16,20 +16,20 @@ use Rattle.sa_base.specs.declared.record.Note.TheVariants.{Add, Preempted, Block
 use Rattle.sa_lemmas.specs.Function.{put}
 use Rattle.sa_instr.specs.Space.{SpaceView}
 use Rattle.sa_instr.specs.Workload.{WorkloadView}
-use Rattle.sa_abstract.specs.Calls.{Calls, Contexts, Stepped, Gone}
-use Rattle.sa_abstract.specs.Keeps.{Standing, Keeps, IsOf, IsSeenOf, IsStep, IsGoing, IsTelling, IsHanded, IsHandedOver, GoesOn, IsStepped, IsGone, told_contexts}
+use Rattle.sa_abstract.specs.Calls.{Calls, Contexts}
+use Rattle.sa_abstract.specs.Keeps.{Standing, Keeps, IsOf, IsSeenOf, IsStep, IsGoing, IsHanded, IsHandedOver, GoesOn, told_contexts}
 use Rattle.sa_acts.specs.declared.acts.Act.{Act}
 use Rattle.sa_assign.specs.AssignView.{AssignView}
-use Rattle.sa_acts.specs.Table.{runs_in, held_of, taken_from, space_of}
-use Rattle.sa_kernel.specs.State.{State, owner_of, life_of, untold_of}
-use Rattle.sa_kernel.specs.Sound.{IsSound, AreAlive, RunsIn, AreClaimed, held_in, note_claim}
-use Rattle.sa_kernel.specs.Entries.{fetched, held_for, after_fetch, handed_by}
+use Rattle.sa_acts.specs.Table.{runs_in, held_of, taken_from}
+use Rattle.sa_kernel.specs.State.{State, owner_of, life_of}
+use Rattle.sa_kernel.specs.Sound.{IsSound, AreClaimed, held_in, note_claim}
+use Rattle.sa_kernel.specs.Entries.{fetched, held_for, handed_by}
 use Rattle.sa_kernel.proofs.ClaimLemmas.{held-next, held-none, space-held}
 use Rattle.sa_kernel.proofs.SoundLemmas.{sound-after_fetch}
 use Rattle.sa_kernel.proofs.HeldLemmas.{claimed-after_fetch}
-use Rattle.sa_machine.specs.Machine.{Machine, with_pair, context_on, user_of, called, called_by, answered, told, seen_on, step_to, gone_to}
+use Rattle.sa_machine.specs.Machine.{Machine, with_pair, context_on, user_of, called, called_by, answered, seen_on}
 use Rattle.sa_machine.specs.Run.{setting}
-use Rattle.sa_machine.specs.Standing.{context_in, contexts_in, contexts_of, running, AreValues, Stands}
+use Rattle.sa_machine.specs.Standing.{contexts_in, contexts_of, Stands}
 use Rattle.sa_machine.specs.Turn.{told_one, told_all}
 use Rattle.sa_machine.proofs.Running.{RunsOn, context-here, contexts-put, contexts-put_kept, IsHeld, context-held, contexts-hand, contexts-hand_kept}
 use Rattle.sa_machine.proofs.Phases.{there-put, values-same, values-put, values-later, stands-runs, IsAt, at-owned, contexts-same}
@@ -61,32 +61,54 @@ module _ {U C : Type 0} (f : Calls U C) (stands : Standing U C) (keep : Keeps f 
 
   pub is-of : (e : ℕ) (m : Machine U C) (p : ProcNo) (s : SpaceNo) → Stands stands e m → (here : IsAt f stands keep m p s) → IsOf stands here.user here.ctx
   is-of e m p s st here = record {
-    setting = setting m.workload s.0 here.def; event = e; others = contexts_of m s.0; act = here.act.0;
-    value = value-at e m p s st here; mine = mine e m p s st here;
+    setting = setting m.workload s.0 here.def;
+    event = e;
+    others = contexts_of m s.0;
+    act = here.act.0;
+    value = value-at e m p s st here;
+    mine = mine e m p s st here;
   }
 
   pub is-seen_of : (e : ℕ) (m : Machine U C) (p : ProcNo) (s : SpaceNo) (seen : Seen) → Stands stands e m → (here : IsAt f stands keep m p s) → seen.proc ≡ p → IsSeenOf stands here.user seen here.ctx
   is-seen_of e m p s seen st here at = record {
-    setting = setting m.workload s.0 here.def; event = e; others = contexts_of m s.0; act = here.act.0;
-    value = value-at e m p s st here; mine = mine e m p s st here;
+    setting = setting m.workload s.0 here.def;
+    event = e;
+    others = contexts_of m s.0;
+    act = here.act.0;
+    value = value-at e m p s st here;
+    mine = mine e m p s st here;
     sees = rw at (sees-at e m p s st here);
   }
 
   pub is-step : (e : ℕ) (m : Machine U C) (p : ProcNo) (s : SpaceNo) (seen : Seen) → Stands stands e m → (here : IsAt f stands keep m p s) → seen.proc ≡ p
       → e < seen.event → seen.event ≤ MAX_EVENTS → IsStep stands here.user seen here.ctx
   is-step e m p s seen st here at later within = record {
-    setting = setting m.workload s.0 here.def; event = e; others = contexts_of m s.0; act = here.act.0;
-    value = value-at e m p s st here; mine = mine e m p s st here;
-    sees = rw at (sees-at e m p s st here); later = later; within = within;
+    setting = setting m.workload s.0 here.def;
+    event = e;
+    others = contexts_of m s.0;
+    act = here.act.0;
+    value = value-at e m p s st here;
+    mine = mine e m p s st here;
+    sees = rw at (sees-at e m p s st here);
+    later = later;
+    within = within;
   }
 
   pub is-going : (e n : ℕ) (m : Machine U C) (p : ProcNo) (s : SpaceNo) (seen : Seen) → Stands stands e m → (here : IsAt f stands keep m p s) → seen.proc ≡ p
       → e < seen.event → 1 ≤ n → seen.event + n ≤ MAX_EVENTS + 1 → GoesOn (setting m.workload s.0 here.def) n (f.local here.user here.ctx)
       → IsGoing f stands here.user seen here.ctx n
   is-going e n m p s seen st here at later some within goes = record {
-    setting = setting m.workload s.0 here.def; event = e; others = contexts_of m s.0; act = here.act.0;
-    value = value-at e m p s st here; mine = mine e m p s st here;
-    sees = rw at (sees-at e m p s st here); later = later; some = some; within = within; goes = goes;
+    setting = setting m.workload s.0 here.def;
+    event = e;
+    others = contexts_of m s.0;
+    act = here.act.0;
+    value = value-at e m p s st here;
+    mine = mine e m p s st here;
+    sees = rw at (sees-at e m p s st here);
+    later = later;
+    some = some;
+    within = within;
+    goes = goes;
   }
 
   -- another value and another context of it
@@ -169,12 +191,12 @@ module _ {U C : Type 0} (f : Calls U C) (stands : Standing U C) (keep : Keeps f 
       let is_held : IsHeld j.assign.owners j.lives j.acts cs b kept.act kept.stopped = record { alive = st.sound.formed.lives; is = kept.is; holds = kept.holds } in
       let given : ℕ → Option (Act C) = put j.acts b (taken_from (j.acts b)) in
       let own : put (put (contexts_of m s.0) here.act.0 (Some c)) b None ≡ contexts_in j.lives given cs s.0 =
-          ap (λ (x : Contexts C). put x b None) (fun_ext (contexts-put j.assign.owners j.lives j.acts m.contexts p.0 here.act s runs size here.within c))
-          ∙ fun_ext (subst (λ (n : ℕ). (i : ℕ) → put (contexts_in j.lives j.acts cs n) b None i ≡ contexts_in j.lives given cs n i) kept.space
-          (contexts-hand j.assign.owners j.lives j.acts cs b kept.act kept.stopped is_held)) in
+      ap (λ (x : Contexts C). put x b None) (fun_ext (contexts-put j.assign.owners j.lives j.acts m.contexts p.0 here.act s runs size here.within c))
+      ∙ fun_ext (subst (λ (n : ℕ). (i : ℕ) → put (contexts_in j.lives j.acts cs n) b None i ≡ contexts_in j.lives given cs n i) kept.space
+      (contexts-hand j.assign.owners j.lives j.acts cs b kept.act kept.stopped is_held)) in
       let others : (t : ℕ) → t ≢ s.0 → (i : ℕ) → contexts_of m t i ≡ contexts_in j.lives given cs t i =
-          λ t apart i. contexts-put_kept j.assign.owners j.lives j.acts m.contexts p.0 here.act s runs (Some c) t apart i
-          ∙ contexts-hand_kept j.assign.owners j.lives j.acts cs b kept.act kept.stopped is_held t (λ q. apart (q ∙ kept.space)) i in
+      λ t apart i. contexts-put_kept j.assign.owners j.lives j.acts m.contexts p.0 here.act s runs (Some c) t apart i
+      ∙ contexts-hand_kept j.assign.owners j.lives j.acts cs b kept.act kept.stopped is_held t (λ q. apart (q ∙ kept.space)) i in
       record {
         workload = st.workload;
         sound = sound;
@@ -238,9 +260,9 @@ module _ {U C : Type 0} (f : Calls U C) (stands : Standing U C) (keep : Keeps f 
       let call : U → C → U × C = λ u c. f.told u c note (held_for m.kernel note) in
       let r : U × C = call here.user here.ctx in
       let law = keep.tells (setting m.workload s.0 here.def) e here.user (contexts_of m s.0) here.act.0 here.ctx note (held_for m.kernel note)
-          (value-at f stands keep e m p s st here) (mine f stands keep e m p s st here) (handed-next e m p s note notes st here tells.telling tells.claimed) in
+      (value-at f stands keep e m p s st here) (mine f stands keep e m p s st here) (handed-next e m p s note notes st here tells.telling tells.claimed) in
       let put_law : stands (setting m.workload s.0 here.def) e r.0 (put (contexts_of m s.0) here.act.0 (Some r.1)) =
-          subst (λ (x : Contexts C). stands (setting m.workload s.0 here.def) e r.0 x) (plain (contexts_of m s.0) here.act.0 r.1) law in
+      subst (λ (x : Contexts C). stands (setting m.workload s.0 here.def) e r.0 x) (plain (contexts_of m s.0) here.act.0 r.1) law in
       let done : Stands stands e (with_pair p s r.0 r.1 m) = stands-put f stands keep e e m.event m p s r.0 r.1 m.items (omega arith) st here put_law in
       let lives : k.lives ≡ m.kernel.lives = ap (λ (z : State C). z.lives) same in
       let acts : k.acts ≡ m.kernel.acts = ap (λ (z : State C). z.acts) same in
@@ -265,9 +287,9 @@ module _ {U C : Type 0} (f : Calls U C) (stands : Standing U C) (keep : Keeps f 
       let call : U → C → U × C = λ u c. f.told u c note (held_for m.kernel note) in
       let r : U × C = call here.user here.ctx in
       let law = keep.tells (setting m.workload s.0 here.def) e here.user (contexts_of m s.0) here.act.0 here.ctx note (held_for m.kernel note)
-          (value-at f stands keep e m p s st here) (mine f stands keep e m p s st here) (handed-next e m p s note notes st here tells.telling tells.claimed) in
+      (value-at f stands keep e m p s st here) (mine f stands keep e m p s st here) (handed-next e m p s note notes st here tells.telling tells.claimed) in
       let put_law : stands (setting m.workload s.0 here.def) e r.0 (put (put (contexts_of m s.0) here.act.0 (Some r.1)) b.0 None) =
-          subst (λ (x : Contexts C). stands (setting m.workload s.0 here.def) e r.0 x) (both (contexts_of m s.0) here.act.0 r.1) law in
+      subst (λ (x : Contexts C). stands (setting m.workload s.0 here.def) e r.0 x) (both (contexts_of m s.0) here.act.0 r.1) law in
       let kept = next-kept s.0 note notes b.0 m.kernel tells.telling one tells.claimed in
       let j : State C = record m.kernel { telling = notes } in
       let o = held_of (m.kernel.acts b.0) in

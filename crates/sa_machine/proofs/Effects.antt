@@ -1,26 +1,24 @@
 -- What the entries of the kernel do to lives and activations, and that the rest of them leaves these alone.
-use Rattle.std.proofs.Common.{◌≡◌, ℕ, ◌+◌, ◌-◌, zero, suc, Bool, true, false, Option, Some, None, List, [], ◌∷◌, length, slice_set, refl, sym, ap, ◌∙◌}
+use Rattle.std.proofs.Common.{◌≡◌, ℕ, Bool, true, false, Option, Some, None, length, slice_set, refl, sym, ap, ◌∙◌}
 use Rattle.std.proofs.lemmas.List.{length-set}
 use Rattle.sa_base.specs.declared.number.ProcNo.{ProcNo}
 use Rattle.sa_base.specs.declared.number.SpaceNo.{SpaceNo}
 use Rattle.sa_base.specs.declared.number.ActNo.{ActNo}
 use Rattle.sa_base.specs.declared.number.IoNo.{IoNo}
 use Rattle.sa_base.specs.declared.context.Stopped.{Stopped}
-use Rattle.sa_base.specs.declared.record.Note.{Note}
-use Rattle.sa_base.specs.declared.record.Note.TheVariants.{Preempted, Blocked}
 use Rattle.sa_lemmas.specs.Function.{put}
 use Rattle.sa_acts.specs.declared.acts.Act.{Act}
 use Rattle.sa_acts.specs.Table.{runs_in, holding}
 use Rattle.sa_assign.specs.Aims.{least_below, is_aim}
 use Rattle.sa_devices.specs.declared.kind.IoKind.{IoKind}
 use Rattle.sa_devices.specs.declared.kind.IoKind.TheVariants.{Plain, Page, Upcall}
-use Rattle.sa_kernel.specs.State.{State, Scene, owner_of, can_upcall, is_fetching}
-use Rattle.sa_kernel.specs.Parts.{with_line, fetch_page, leave, moved, upcall, go_to_by, go_to}
+use Rattle.sa_kernel.specs.State.{State, Scene, owner_of, can_upcall}
+use Rattle.sa_kernel.specs.Parts.{fetch_page, leave, moved, upcall, go_to_by}
 use Rattle.sa_kernel.specs.Closing.{spaces, want_one, want_for, wants, must_want, aims, interrupt, interrupt_one, interrupt_for, must_interrupt, has_low_line, closed}
-use Rattle.sa_kernel.specs.Entries.{stopped, go_to_aim, over, over_for, more, idled, interrupted_own, told_or_left, block_begun, blocked_by, kind_at}
+use Rattle.sa_kernel.specs.Entries.{stopped, go_to_aim, over, over_for, more, idled, interrupted_own, told_or_left, block_begun}
 use Rattle.sa_kernel.specs.Runs.{upcalls_for}
 use Rattle.sa_kernel.proofs.PlacedLemmas.{for_spaces-keeps}
-use Rattle.sa_kernel.proofs.HeldLemmas.{Stays, stays-closed}
+use Rattle.sa_kernel.proofs.HeldLemmas.{stays-closed}
 
 module _ {C : Type 0} where
   -- the same activations run, and as many spaces have a demand

@@ -3,3 +3,4 @@ pub mod Effects
 pub mod Phases
 pub mod Calls
 pub mod Turns
+pub mod Runs

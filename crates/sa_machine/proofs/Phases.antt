@@ -1,5 +1,5 @@
 -- What a machine keeps while an entry of the kernel goes on: a context is set aside, and another begins.
-use Rattle.std.proofs.Common.{◌≡◌, ◌≢◌, ℕ, zero, suc, ◌<◌, ◌≤◌, Bool, true, false, Option, Some, None, is_some, List, [], ◌∷◌, get_or, slice_get, slice_set, length, refl, sym, ap, subst, ◌∙◌, ◌⊎◌, inl, inr, arith}
+use Rattle.std.proofs.Common.{◌≡◌, ◌≢◌, ℕ, zero, suc, ◌<◌, ◌≤◌, true, false, Option, Some, None, is_some, List, [], ◌∷◌, get_or, slice_get, slice_set, length, refl, sym, ap, subst, ◌∙◌, inl, inr, arith}
 use Rattle.std.proofs.Math.Path.{fun_ext}
 use Rattle.std.proofs.lemmas.List.{length-set, set-get_or}
 use Rattle.sa_base.specs.declared.number.ProcNo.{ProcNo}
@@ -17,14 +17,14 @@ use Rattle.sa_abstract.specs.Keeps.{Standing, Keeps}
 use Rattle.sa_acts.specs.declared.acts.Act.{Act}
 use Rattle.sa_acts.specs.Table.{runs_in, holding}
 use Rattle.sa_kernel.specs.State.{State, owner_of, life_of}
-use Rattle.sa_kernel.specs.Sound.{IsSound, AreAlive, RunsIn}
+use Rattle.sa_kernel.specs.Sound.{IsSound, AreAlive}
 use Rattle.sa_kernel.proofs.LifeLemmas.{alive-aside}
 use Rattle.sa_kernel.proofs.FormedLemmas.{free-set}
 use Rattle.sa_kernel.proofs.HeldLemmas.{runs-here}
 use Rattle.sa_machine.specs.Machine.{Machine, with_pair, without_context, context_on}
 use Rattle.sa_machine.specs.Run.{setting}
 use Rattle.sa_machine.specs.Standing.{context_in, contexts_in, contexts_of, running, AreValues, Stands}
-use Rattle.sa_machine.proofs.Running.{RunsOn, rests, contexts-stop, IsFree, contexts-begin, contexts-begin_kept}
+use Rattle.sa_machine.proofs.Running.{rests, contexts-stop, IsFree, contexts-begin, contexts-begin_kept}
 use Rattle.sa_machine.proofs.Effects.{SameRuns}
 
 -- where two lists have the same cells filled
@@ -101,7 +101,13 @@ module _ {U C : Type 0} (f : Calls U C) (stands : Standing U C) (keep : Keeps f 
 
   pub stands-later : (e g : ℕ) (m : Machine U C) → e ≤ g → Stands stands e m → Stands stands g m
   stands-later e g m later st = record {
-    workload = st.workload; sound = st.sound; lives = st.lives; contexts = st.contexts; demands = st.demands; users = st.users; there = st.there;
+    workload = st.workload;
+    sound = st.sound;
+    lives = st.lives;
+    contexts = st.contexts;
+    demands = st.demands;
+    users = st.users;
+    there = st.there;
     values = values-later m.workload e g m.users (contexts_of m) later st.values;
   }
 
@@ -167,10 +173,17 @@ module _ {U C : Type 0} (f : Calls U C) (stands : Standing U C) (keep : Keeps f 
       let u = read m.users s.0 (omega (arith, st.users, st.demands, within)) in
       let d = read m.workload.spaces s.0 (omega (arith, st.demands, within)) in
       record {
-        act = a; user = u.0; ctx = c.0; def = d.0; owner = owner; life = life.1;
+        act = a;
+        user = u.0;
+        ctx = c.0;
+        def = d.0;
+        owner = owner;
+        life = life.1;
         within = within-of m.kernel.lives p.0 a life.1;
         runs = runs-here m.kernel p s a owner life.1 st.sound.formed;
-        is_user = u.1; is_ctx = c.1; is_def = d.1;
+        is_user = u.1;
+        is_ctx = c.1;
+        is_def = d.1;
       }
     where
       read : {A : Type 0} (xs : List A) (i : ℕ) → i < length xs → (x : A) × (slice_get xs i ≡ Some x)
@@ -207,8 +220,16 @@ module _ {U C : Type 0} (f : Calls U C) (stands : Standing U C) (keep : Keeps f 
       let gone : context_on m p ≡ None = none-is (context_on m p) (st.there p.0 ∙ ap (λ (o : Option ActNo). is_some o) free) in
       let same : slice_set m.contexts p.0 None ≡ m.contexts = ap (slice_set m.contexts p.0) (sym gone) ∙ set-get_or m.contexts p.0 None in
       subst (λ (cs : List (Option C)). Paused stands e p k.lives k.acts (record m { contexts = cs })) (sym same) (record {
-        workload = st.workload; within = within; none = free; owners = k.assign.owners; alive = st.sound.formed.lives;
-        lives = st.lives; contexts = st.contexts; users = st.users; there = st.there; values = st.values;
+        workload = st.workload;
+        within = within;
+        none = free;
+        owners = k.assign.owners;
+        alive = st.sound.formed.lives;
+        lives = st.lives;
+        contexts = st.contexts;
+        users = st.users;
+        there = st.there;
+        values = st.values;
       })
     where
       no-life : (o : Option ActNo) → life_of m.kernel p ≡ o → o ≡ None
@@ -242,7 +263,10 @@ module _ {U C : Type 0} (f : Calls U C) (stands : Standing U C) (keep : Keeps f 
       let cs : List (Option C) = slice_set m.contexts p.0 (Some c) in
       let size : length m.contexts ≡ length lives = paused.contexts ∙ sym paused.lives in
       let free : IsFree lives acts m.contexts p.0 n s = record {
-        none = paused.none; within = paused.within; size = size; unused = unused;
+        none = paused.none;
+        within = paused.within;
+        size = size;
+        unused = unused;
         rest = rests paused.owners lives acts n.0 paused.alive (λ t is. not-both (acts n.0) (runs_in t) unused is);
       } in
       let none : contexts_in lives acts m.contexts s.0 n.0 ≡ None = ap (λ (x : Option (Act C)). context_in s.0 x (running lives m.contexts n.0)) unused in

@@ -1,7 +1,6 @@
 -- What a machine keeps through its events.
 use Rattle.std.proofs.Common.{◌≡◌, ◌≢◌, ℕ, zero, suc, ◌+◌, ◌-◌, ◌<◌, ◌≤◌, Bool, true, false, Option, Some, None, is_some, IsSome, IfSome, List, [], ◌∷◌, ◌++◌, get_or, slice_get, slice_set, length, Contains, refl, sym, ap, subst, ◌∙◌, inl, inr, arith}
 use Rattle.std.specs.Option.{option_map}
-use Rattle.std.proofs.lemmas.List.{length-set}
 use Rattle.std.proofs.lemmas.Option.{same_Some}
 use Rattle.std.specs.Int.{bit_at}
 use Rattle.sa_base.specs.declared.number.ProcNo.{ProcNo}
@@ -12,39 +11,36 @@ use Rattle.sa_base.specs.declared.context.Seen.{Seen}
 use Rattle.sa_base.specs.declared.context.Stopped.{Stopped}
 use Rattle.sa_base.specs.declared.limits.TheConstants.{MAX_EVENTS}
 use Rattle.sa_base.specs.declared.record.Item.{Item}
-use Rattle.sa_base.specs.declared.record.Note.{Note}
-use Rattle.sa_base.specs.declared.record.Record.TheVariants.{Tick}
 use Rattle.sa_lemmas.specs.Function.{put}
 use Rattle.sa_lemmas.proofs.FunctionUpdates.{put-same, put-other}
 use Rattle.sa_instr.specs.Workload.{WorkloadView}
-use Rattle.sa_abstract.specs.Calls.{Calls, Contexts, Stepped, Gone}
-use Rattle.sa_abstract.specs.Keeps.{Standing, Keeps, IsAsked, IsStepped, IsGone, GoesOn}
+use Rattle.sa_abstract.specs.Calls.{Calls}
+use Rattle.sa_abstract.specs.Keeps.{Standing, Keeps, IsAsked, IsStepped}
 use Rattle.sa_abstract.specs.declared.answer.Step.{Step}
 use Rattle.sa_abstract.specs.declared.answer.Step.TheVariants.{Did, Block, More, Idle, GiveBack, InterruptOwn}
 use Rattle.sa_acts.specs.declared.acts.Act.{Act}
-use Rattle.sa_acts.specs.Table.{runs_in, space_of, holding}
-use Rattle.sa_devices.specs.Ios.{Io, due_of, io_at, io_no}
+use Rattle.sa_acts.specs.Table.{runs_in, space_of}
+use Rattle.sa_devices.specs.Ios.{due_of, io_at, io_no}
 use Rattle.sa_devices.specs.Laws.{has_page}
 use Rattle.sa_devices.proofs.IosLemmas.{due_of-under_way}
 use Rattle.sa_kernel.specs.declared.entry.Entry.{Entry}
 use Rattle.sa_kernel.specs.declared.entry.Entry.TheVariants.{Interrupt, Block as BlockEntry, Complete, More as MoreEntry, Idle as IdleEntry, GiveBack as GiveBackEntry, InterruptOwn as InterruptOwnEntry}
-use Rattle.sa_kernel.specs.State.{State, Scene, owner_of, aim_of, line_of, life_of, taken_of, can_upcall, says}
+use Rattle.sa_kernel.specs.State.{State, Scene, owner_of, aim_of, line_of, life_of, taken_of, can_upcall}
 use Rattle.sa_kernel.specs.Parts.{with_line}
 use Rattle.sa_kernel.specs.Closing.{closed}
-use Rattle.sa_kernel.specs.Entries.{entered, entered_as, evicted_at, stopped, go_to_aim, gave_back, block_begun, blocked_by as kernel_blocked_by, told_or_left, without_acts, kind_at, IsOwnPage}
-use Rattle.sa_kernel.specs.Kept.{IsFit, FitsInterrupt, Asks, upcalls}
+use Rattle.sa_kernel.specs.Entries.{entered, entered_as, evicted_at, stopped, gave_back, block_begun, blocked_by as kernel_blocked_by, told_or_left, without_acts, kind_at, IsOwnPage}
+use Rattle.sa_kernel.specs.Kept.{IsFit, Asks, upcalls}
 use Rattle.sa_kernel.specs.Runs.{upcalls_for, upcalls_in}
-use Rattle.sa_kernel.specs.Sound.{IsSound, IsTaken, IsUpcalled, AreClaimed}
-use Rattle.sa_kernel.specs.Seen.{seen_of, low_of}
+use Rattle.sa_kernel.specs.Sound.{IsSound, IsUpcalled}
 use Rattle.sa_kernel.proofs.SoundLemmas.{sound-entered_as, sound-closed, sound-evicted}
 use Rattle.sa_kernel.proofs.HeldLemmas.{upcalled-entered_as, upcalled-closed}
-use Rattle.sa_kernel.proofs.SeenLemmas.{IsLow, low-bit}
-use Rattle.sa_machine.specs.Machine.{Machine, user_of, context_on, seen_on, scene_of, with_scene, with_pair, without_context, called, called_by, begun, begun_by, answered, stopped_by, stopped_in, step_to, stepped, stepped_by, gone, gone_by, gone_to}
-use Rattle.sa_machine.specs.Turn.{next_event, more_events, ticked, ends_slice, sliced_if, sliced, kernel_entered, told_all, welcomed_in, welcomed_if, entered_on, answered_in, hinted, blocked_by, blocked, interrupted, asked, turned_owned, turned_due, turned_raised, turned_now, turned, gone_in, committed}
+use Rattle.sa_kernel.proofs.SeenLemmas.{low-bit}
+use Rattle.sa_machine.specs.Machine.{Machine, user_of, context_on, seen_on, scene_of, with_pair, without_context, called_by, begun, answered, stopped_by, stopped_in, step_to, stepped}
+use Rattle.sa_machine.specs.Turn.{next_event, ticked, ends_slice, sliced_if, sliced, kernel_entered, told_all, welcomed_in, welcomed_if, entered_on, answered_in, hinted, blocked_by, blocked, interrupted, asked, turned_owned, turned_due, turned_raised, turned}
 use Rattle.sa_machine.specs.Run.{setting}
 use Rattle.sa_machine.specs.Standing.{contexts_in, contexts_of, context_in, running, Stands, IsBetween}
 use Rattle.sa_machine.proofs.Running.{running-none, rests, contexts-back}
-use Rattle.sa_machine.proofs.Effects.{SameRuns, same-again, same-closed, same-over, same-more, same-idled, same-own, Starts, starts-same, Aims, aims-at, SetsAside, stopped-aside, stopped-off, blocked-aside, told-or-left}
+use Rattle.sa_machine.proofs.Effects.{SameRuns, same-again, same-closed, same-over, same-more, same-idled, same-own, Starts, starts-same, aims-at, SetsAside, stopped-aside, stopped-off, blocked-aside, told-or-left}
 use Rattle.sa_machine.proofs.Phases.{some-is, Paused, IsAt, at-owned, stands-later, stands-kernel, stands-runs, stands-emptied, paused-stop, paused-off, stands-left, stands-begun}
 use Rattle.sa_machine.proofs.Calls.{value-at, mine, sees-at, stands-put, stands-answered, Tells, tells-all}
 
@@ -101,14 +97,14 @@ module _ {U C : Type 0} (f : Calls U C) (stands : Standing U C) (keep : Keeps f 
       let seen = seen_on after p t in
       let sees : p.0 < m.workload.processors = omega (arith, paused.within, paused.lives) in
       let first : Tells f stands keep w e g p t k.telling (begun f p t after) =
-          subst (λ (z : Machine U C). Tells f stands keep w e g p t k.telling z) (sym (begun-is p t after u.0 u.1)) (record {
-            workload = workload;
-            event = event;
-            standing = stands-begun f stands keep e m p t n lives acts k items u.0 seen paused sound new_lives new demands unused u.1 sees;
-            claimed = up.told;
-            owner = up.owner;
-            telling = refl;
-          }) in
+      subst (λ (z : Machine U C). Tells f stands keep w e g p t k.telling z) (sym (begun-is p t after u.0 u.1)) (record {
+        workload = workload;
+        event = event;
+        standing = stands-begun f stands keep e m p t n lives acts k items u.0 seen paused sound new_lives new demands unused u.1 sees;
+        claimed = up.told;
+        owner = up.owner;
+        telling = refl;
+      }) in
       let told = tells-all f stands keep w e g p t k.telling (begun f p t after) first in
       subst (λ (o : Option SpaceNo). Rests w e g (welcomed_in f p o after)) (sym up.owner)
       (rests-answered w e g (told_all f p t k.telling (begun f p t after)) p t told.standing told.owner told.telling told.workload told.event)
@@ -328,7 +324,7 @@ module _ {U C : Type 0} (f : Calls U C) (stands : Standing U C) (keep : Keeps f 
       let is = blocked-is m p n s held len page here in
       let cases = told-or-left m.event p s n (can_upcall k s) y in
       let up : upcalls k p entry ≡ can_upcall k s =
-          ap (λ (o : Option SpaceNo). upcalls_in k o (life_of k p)) here.owner ∙ ap (λ (l : Option ActNo). upcalls_in k (Some s) l) here.life in
+      ap (λ (o : Option SpaceNo). upcalls_in k o (life_of k p)) here.owner ∙ ap (λ (l : Option ActNo). upcalls_in k (Some s) l) here.life in
       subst (λ (h : Option (Stopped C)). Rests w e g (blocked_by f p n len page h (without_context p m))) (sym (stopped-is m p s here))
       (rests-upcall w e g m p n entry y.state rest here.within (record { space = s; asks = record { owner = owner; low = low }; page = own }) unused
       (pauses-aside e m p n s entry y.state held rest.standing rest.fetched unused here refl (blocked-aside m.event p s here.act held len page (scene_of m))
@@ -438,7 +434,10 @@ module _ {U C : Type 0} (f : Calls U C) (stands : Standing U C) (keep : Keeps f 
     where
       rests-later : (w : WorkloadView) (e g : ℕ) (m : Machine U C) → e ≤ g → Rests w e g m → Rests w g g m
       rests-later w e g m later rest = record {
-        standing = stands-later f stands keep e g m later rest.standing; fetched = rest.fetched; workload = rest.workload; event = rest.event;
+        standing = stands-later f stands keep e g m later rest.standing;
+        fetched = rest.fetched;
+        workload = rest.workload;
+        event = rest.event;
       }
   rests-owned w e g m p n (Some s) rest later few low unused owner =
       let here = at-owned f stands keep e m p s rest.standing owner in
@@ -454,7 +453,10 @@ module _ {U C : Type 0} (f : Calls U C) (stands : Standing U C) (keep : Keeps f 
 
   rests-later : (w : WorkloadView) (e g : ℕ) (m : Machine U C) → e ≤ g → Rests w e g m → Rests w g g m
   rests-later w e g m later rest = record {
-    standing = stands-later f stands keep e g m later rest.standing; fetched = rest.fetched; workload = rest.workload; event = rest.event;
+    standing = stands-later f stands keep e g m later rest.standing;
+    fetched = rest.fetched;
+    workload = rest.workload;
+    event = rest.event;
   }
 
   rests-turned_due : (w : WorkloadView) (e g : ℕ) (m : Machine U C) (p : ProcNo) (n : ActNo) (o : Option IoNo) → Rests w e g m → e < m.event → m.event ≤ MAX_EVENTS

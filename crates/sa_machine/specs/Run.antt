@@ -1,5 +1,5 @@
 -- A run: the opening, and then turns and commits in any order.
-use Rattle.std.specs.Prelude.{◌≡◌, ℕ, zero, suc, ◌+◌, Some, None, List, [], ◌∷◌, length, replicate, slice_get}
+use Rattle.std.specs.Prelude.{◌≡◌, ℕ, ◌+◌, Some, None, List, [], ◌∷◌, replicate, slice_get}
 use Rattle.sa_base.specs.declared.number.ProcNo.{ProcNo}
 use Rattle.sa_base.specs.declared.number.SpaceNo.{SpaceNo}
 use Rattle.sa_base.specs.declared.number.ActNo.{ActNo}
@@ -9,7 +9,7 @@ use Rattle.sa_abstract.specs.Calls.{Calls}
 use Rattle.sa_abstract.specs.Setting.{Setting}
 use Rattle.sa_assign.specs.Aims.{space_no}
 use Rattle.sa_abstract.specs.Keeps.{GoesOn}
-use Rattle.sa_kernel.specs.State.{State, Scene, owner_of}
+use Rattle.sa_kernel.specs.State.{owner_of}
 use Rattle.sa_kernel.specs.Opening.{opened}
 use Rattle.sa_machine.specs.Machine.{Machine}
 use Rattle.sa_machine.specs.Turn.{turned, committed}
