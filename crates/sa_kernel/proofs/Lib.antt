@@ -1,7 +1,7 @@
 mod Batches
 mod RunLemmas
 mod GivenBack
-mod ClosingLemmas
+pub mod ClosingLemmas
 pub mod LifeLemmas
 pub mod FormedLemmas
 pub mod SeenLemmas
@@ -9,5 +9,7 @@ pub mod PlacedLemmas
 pub mod ClaimLemmas
 pub mod HeldLemmas
 pub mod OwedLemmas
+pub mod PromptLemmas
+pub mod LawLemmas
 pub mod SoundLemmas
 mod KeptLemmas
