@@ -20,14 +20,15 @@ use Rattle.sa_kernel.specs.Opening.{opening_state, first_wants}
 use Rattle.sa_kernel.proofs.SoundLemmas.{sound-opening, sound-closed}
 use Rattle.sa_kernel.proofs.FormedLemmas.{all-same}
 use Rattle.sa_machine.specs.Machine.{Machine, seen_on, gone, gone_to}
-use Rattle.sa_machine.specs.Turn.{next_event, more_events, gone_in, committed}
+use Rattle.sa_machine.specs.Turn.{turned, next_event, more_events, gone_in, committed}
 use Rattle.sa_machine.specs.End.{local_on, local_in, local_by}
-use Rattle.sa_machine.specs.Run.{setting, started_from, opening, CanGo}
+use Rattle.sa_machine.specs.Run.{setting, started_from, opening, CanGo, CanTurn, CanCommit, IsTurn, Move, IsMove, IsRun}
+use Rattle.sa_machine.specs.Run.Move.{turn, commit}
 use Rattle.sa_machine.specs.Standing.{context_in, contexts_of, running, Stands, IsBetween}
 use Rattle.sa_machine.proofs.Effects.{same-closed}
 use Rattle.sa_machine.proofs.Phases.{IsAt, at-owned}
 use Rattle.sa_machine.proofs.Calls.{value-at, mine, sees-at, stands-put}
-use Rattle.sa_machine.proofs.Turns.{Rests, rests-next, rests-sliced, rests-between}
+use Rattle.sa_machine.proofs.Turns.{Rests, rests-next, rests-sliced, rests-between, between-rests, rests-turned}
 
 module _ {U C : Type 0} (f : Calls U C) (stands : Standing U C) (keep : Keeps f stands) where
   -- more events begin, which the user levels have gone through already
@@ -147,3 +148,30 @@ module _ {U C : Type 0} (f : Calls U C) (stands : Standing U C) (keep : Keeps f 
         workload = refl;
         event = refl;
       }
+
+  -- each move keeps a machine standing, and so does a run
+
+  stands-committed : (m after : Machine U C) (p : ProcNo) (n : ℕ) → IsBetween stands m → CanCommit f m p n → after ≡ committed f p n m → IsBetween stands after
+  stands-committed m after p zero between can is = absurd (let z = can.some in omega arith)
+  stands-committed m after p (suc n) between can is =
+      subst (λ (z : Machine U C). IsBetween stands z) (sym is)
+      (between-rests f stands keep m.workload (m.event + suc n) (committed f p (suc n) m) (rests-committed m p n between can.event can.go))
+
+  pub stands-move : (m : Machine U C) (move : Move) (after : Machine U C) → IsBetween stands m → IsMove f m move after → IsBetween stands after
+  stands-move m (turn p) after between made =
+      let can = made.0 in
+      let is = made.1 in
+      subst (λ (z : Machine U C). IsBetween stands z) (sym is.is)
+      (between-rests f stands keep m.workload (m.event + 1) (turned f p is.fresh m)
+      (rests-turned f stands keep m p is.fresh between (let z = can.event in omega arith) can.within is.unused))
+  stands-move m (commit p n) after between made = stands-committed m after p n between made.0 made.1
+
+  pub stands-run : (m : Machine U C) (moves : List Move) (after : Machine U C) → IsBetween stands m → IsRun f m moves after → IsBetween stands after
+  stands-run m [] after between run = subst (λ (z : Machine U C). IsBetween stands z) (sym run) between
+  stands-run m (move ∷ moves) after between run = stands-run run.0 moves after (stands-move m move run.0 between run.1) run.2
+
+  pub stands-opening : (w : WorkloadView) → IsWorkload w → IsBetween stands (opening f w)
+  stands-opening w ok = between-rests f stands keep w 0 (opening f w) (rests-opening w ok)
+
+  pub runs-stand : (w : WorkloadView) (moves : List Move) (after : Machine U C) → IsWorkload w → IsRun f (opening f w) moves after → IsBetween stands after
+  runs-stand w moves after ok run = stands-run (opening f w) moves after (stands-opening w ok) run

@@ -1,19 +1,20 @@
 -- A run: the opening, and then turns and commits in any order.
-use Rattle.std.specs.Prelude.{◌≡◌, ℕ, ◌+◌, Some, None, List, [], ◌∷◌, replicate, slice_get}
+use Rattle.std.specs.Prelude.{◌≡◌, ℕ, zero, suc, ◌+◌, ◌<◌, ◌≤◌, Some, None, List, [], ◌∷◌, length, replicate, slice_get}
 use Rattle.sa_base.specs.declared.number.ProcNo.{ProcNo}
 use Rattle.sa_base.specs.declared.number.SpaceNo.{SpaceNo}
 use Rattle.sa_base.specs.declared.number.ActNo.{ActNo}
+use Rattle.sa_base.specs.declared.limits.TheConstants.{MAX_EVENTS}
 use Rattle.sa_instr.specs.Space.{SpaceView}
 use Rattle.sa_instr.specs.Workload.{WorkloadView}
 use Rattle.sa_abstract.specs.Calls.{Calls}
 use Rattle.sa_abstract.specs.Setting.{Setting}
 use Rattle.sa_assign.specs.Aims.{space_no}
 use Rattle.sa_abstract.specs.Keeps.{GoesOn}
-use Rattle.sa_kernel.specs.State.{owner_of}
+use Rattle.sa_kernel.specs.State.{owner_of, line_of}
 use Rattle.sa_kernel.specs.Opening.{opened}
 use Rattle.sa_machine.specs.Machine.{Machine}
 use Rattle.sa_machine.specs.Turn.{turned, committed}
-use Rattle.sa_machine.specs.End.{local_on}
+use Rattle.sa_machine.specs.End.{local_on, within_slice}
 
 -- the setting of a space, by its number and what the workload declares of it
 abbrev pub setting : WorkloadView → ℕ → SpaceView → Setting
@@ -50,6 +51,19 @@ module _ {U C : Type 0} (f : Calls U C) where
     pub is_def : slice_get m.workload.spaces space.0 ≡ Some def
     pub goes : GoesOn (setting m.workload space.0 def) n (local_on f m p)
 
+  -- a turn of a processor can be made
+  pub record CanTurn (m : Machine U C) (p : ProcNo) : Type 0 where
+    pub within : p.0 < m.workload.processors
+    pub event : m.event < MAX_EVENTS
+
+  -- so many local instructions can be committed: the line is low, and no slice ends before the last of them
+  pub record CanCommit (m : Machine U C) (p : ProcNo) (n : ℕ) : Type 0 where
+    pub some : 1 ≤ n
+    pub event : m.event + n ≤ MAX_EVENTS
+    pub low : line_of m.kernel p ≡ None
+    pub slice : within_slice n m ≡ n
+    pub go : CanGo m p n
+
 -- what is done to a machine: a turn of a processor, or so many local instructions of the context that runs there
 pub data Move : Type 0 where
   turn : ProcNo → Move
@@ -57,8 +71,8 @@ pub data Move : Type 0 where
 
 module _ {U C : Type 0} (f : Calls U C) where
   abbrev pub IsMove : Machine U C → Move → Machine U C → Type 0
-  IsMove m (turn p) after = IsTurn f m p after
-  IsMove m (commit p n) after = after ≡ committed f p n m
+  IsMove m (turn p) after = CanTurn f m p × IsTurn f m p after
+  IsMove m (commit p n) after = CanCommit f m p n × (after ≡ committed f p n m)
 
   -- the moves, in order
   abbrev pub IsRun : Machine U C → List Move → Machine U C → Type 0
