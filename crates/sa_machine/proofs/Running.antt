@@ -38,6 +38,12 @@ life-is n (Some b) e = ap (λ k. Some (record { 0 = k })) (eq-true b.0 n e)
 not-life : (n : ℕ) (o : Option ActNo) → (o ≡ Some (record { 0 = n }) → ⊥) → is_life n o ≡ false
 not-life n o apart = elim (bool-cases (is_life n o)) [ inl t ↦ absurd (apart (life-is n o t)) | inr f ↦ f ]
 
+contains-head : {A : Type 0} (a : A) (list : List A) → Contains (a ∷ list) a
+contains-head a list = (0, omega arith, refl)
+
+contains-tail : {A : Type 0} (a : A) (list : List A) (b : A) → Contains list b → Contains (a ∷ list) b
+contains-tail a list b has = (suc has.0, (let h = has.1 in omega arith), has.2)
+
 module _ {C : Type 0} where
   pub running-other : (lives : List (Option ActNo)) (contexts : List (Option C)) (p n : ℕ) (l : Option ActNo) (c : Option C)
       → is_life n (get_or lives p None) ≡ false → is_life n l ≡ false → running (slice_set lives p l) (slice_set contexts p c) n ≡ running lives contexts n
@@ -73,9 +79,6 @@ module _ {C : Type 0} where
   abbrev pub RunsOn : List (Option SpaceNo) → List (Option ActNo) → (ℕ → Option (Act C)) → ℕ → ActNo → SpaceNo → Type 0
   RunsOn owners lives acts p a s = AreAlive owners lives acts × (get_or lives p None ≡ Some a) × (acts a.0 ≡ Some (runs_in s))
 
-  some-act : (a b : ActNo) → Some a ≡ Some b → a ≡ b
-  some-act a b e = ap (λ n. record { 0 = n }) (let z : a.0 ≡ b.0 = cc in z)
-
   -- a life is that of one processor
   only-one : (owners : List (Option SpaceNo)) (lives : List (Option ActNo)) (acts : ℕ → Option (Act C)) (p : ℕ) (a : ActNo) → AreAlive owners lives acts
       → get_or lives p None ≡ Some a → (q : ℕ) → is_life a.0 (get_or lives q None) ≡ true → q ≡ p
@@ -84,8 +87,8 @@ module _ {C : Type 0} where
   -- a number in which nothing runs is no life
   pub rests : (owners : List (Option SpaceNo)) (lives : List (Option ActNo)) (acts : ℕ → Option (Act C)) (n : ℕ) → AreAlive owners lives acts
       → ((s : SpaceNo) → acts n ≡ Some (runs_in s) → ⊥) → (q : ℕ) → is_life n (get_or lives q None) ≡ false
-  rests owners lives acts n alive no q =
-      not-life n (get_or lives q None) (λ e. let r = alive.run q (record { 0 = n }) e in no r.space r.act)
+  rests owners lives acts n alive idle q =
+      not-life n (get_or lives q None) (λ e. let r = alive.run q (record { 0 = n }) e in idle r.space r.act)
 
   in-other : (s t : ℕ) (act : Act C) (c d : Option C) → act.space.0 ≡ s → t ≢ s → context_in t (Some act) c ≡ context_in t (Some act) d
   in-other s t act c d is apart =
@@ -102,7 +105,10 @@ module _ {C : Type 0} where
       let f : (act.space.0 == s) ≡ true = grind (arith, nat_tests, is) in
       rw f refl
 
-  if-none : (b : Bool) → (if b then None else None) ≡ None {A = C}
+  abbrev no_context : Option C
+  no_context = None
+
+  if-none : (b : Bool) → (if b then no_context else None) ≡ None
   if-none true = refl
   if-none false = refl
 
@@ -162,7 +168,9 @@ module _ {C : Type 0} where
                   ap (running lives contexts) y
                   ∙ running-at lives contexts p a.0 (ap (is_life a.0) runs.1 ∙ life-same a.0) (only-one owners lives acts p a runs.0 runs.1) size ∙ is in
               let was : acts b ≡ Some (runs_in s) = ap acts y ∙ runs.2 in
-              rw (was, ran, at) refl
+              ap (λ (x : Option (Act C)). context_in t x (running lives contexts b)) was
+              ∙ ap (context_in t (Some (runs_in s))) ran
+              ∙ sym (ap (λ (x : Option (Act C)). context_in t x rest) at)
           | inr y ↦
               let at : new b ≡ acts b = put-other acts a.0 b (holding held (acts a.0)) y in
               let ran : rest ≡ running lives contexts b = running-other lives contexts p b None None (ap (is_life b) runs.1 ∙ life-other b a y) refl in
@@ -234,16 +242,16 @@ module _ {C : Type 0} where
     pub record IsHeld : Type 0 where
       pub alive : AreAlive owners lives acts
       pub is : acts b ≡ Some act
-      pub held : act.held ≡ Some held
+      pub holds : act.held ≡ Some held
 
     pub held-no_life : IsHeld → (q : ℕ) → is_life b (get_or lives q None) ≡ false
-    held-no_life h = rests owners lives acts b h.alive (λ s e. let z : Some act ≡ Some (runs_in s) = sym h.is ∙ e in let y : act.held ≡ None = cc in let w = h.held in cc)
+    held-no_life h = rests owners lives acts b h.alive (λ s e. let z : Some act ≡ Some (runs_in s) = sym h.is ∙ e in let y : act.held ≡ None = cc in let w = h.holds in cc)
 
     pub context-held : IsHeld → contexts_in lives acts contexts act.space.0 b ≡ Some held.ctx
     context-held h =
         ap (λ (x : Option (Act C)). context_in act.space.0 x (running lives contexts b)) h.is
         ∙ in-own act.space.0 act (running lives contexts b) refl
-        ∙ ap (λ (x : Option (Stopped C)). held_or_running x (running lives contexts b)) h.held
+        ∙ ap (λ (x : Option (Stopped C)). held_or_running x (running lives contexts b)) h.holds
 
     none-behind : IsHeld → (t : ℕ) → contexts_in lives (put acts b (taken_from (acts b))) contexts t b ≡ None
     none-behind h t =
@@ -270,12 +278,6 @@ module _ {C : Type 0} where
           ∙ sym (ap (contexts_in lives (put acts b (taken_from (acts b))) contexts t) y ∙ none-behind h t)
       | inr y ↦ sym (ap (λ (x : Option (Act C)). context_in t x (running lives contexts k)) (put-other acts b k (taken_from (acts b)) y))
     ]
-
-  contains-head : {A : Type 0} (a : A) (list : List A) → Contains (a ∷ list) a
-  contains-head a list = (0, omega arith, refl)
-
-  contains-tail : {A : Type 0} (a : A) (list : List A) (b : A) → Contains list b → Contains (a ∷ list) b
-  contains-tail a list b has = (suc has.0, (let h = has.1 in omega arith), has.2)
 
   -- activations are given back that have no context
   module _ (lives : List (Option ActNo)) (contexts : List (Option C)) where

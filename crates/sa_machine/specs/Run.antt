@@ -26,11 +26,11 @@ module _ {U C : Type 0} (f : Calls U C) where
   abbrev pub opening : WorkloadView → Machine U C
   opening w = record {
     workload = w;
-    kernel = (opened w).state;
+    kernel = (opened {C = C} w).state;
     users = started_from w 0 w.spaces;
     contexts = replicate w.processors None;
     event = 0;
-    items = (opened w).items;
+    items = (opened {C = C} w).items;
   }
 
   -- a turn, with some number that is not in use
