@@ -1,9 +1,12 @@
 -- What the kernel keeps.
-use Rattle.std.proofs.Common.{◌≡◌, ℕ, ◌-◌, ◌<◌, ◌≤◌, Bool, List, [], ◌++◌, length, sym, ap, subst, ◌∙◌, arith}
+use Rattle.std.proofs.Common.{◌≡◌, ℕ, ◌+◌, ◌-◌, ◌<◌, ◌≤◌, Bool, true, false, List, [], ◌++◌, length, refl, sym, ap, subst, ◌∙◌, arith}
+use Rattle.std.proofs.lemmas.List.Folds.{sum_by-replicate}
 use Rattle.std.proofs.lemmas.List.{length-replicate}
 use Rattle.sa_base.specs.declared.number.ProcNo.{ProcNo}
+use Rattle.sa_base.specs.declared.number.ActNo.{ActNo}
+use Rattle.sa_base.specs.declared.record.Note.{Note}
 use Rattle.sa_base.specs.declared.record.Item.{Item}
-use Rattle.sa_base.specs.declared.limits.TheConstants.{MAX_EVENTS}
+use Rattle.sa_base.specs.declared.limits.TheConstants.{MAX_EVENTS, MAX_SPACES}
 use Rattle.sa_base.specs.Recorded.{Recorded}
 use Rattle.sa_base.specs.Items.{items_at}
 use Rattle.sa_instr.specs.Workload.{WorkloadView, IsWorkload}
@@ -13,15 +16,31 @@ use Rattle.sa_devices.specs.Pages.{evicted}
 use Rattle.sa_kernel.specs.declared.machine.Machine.{Machine}
 use Rattle.sa_kernel.specs.declared.entry.Entry.{Entry}
 use Rattle.sa_kernel.specs.declared.entry.Given.{Given}
+use Rattle.sa_kernel.specs.declared.entry.Given.TheVariants.{Upcall}
 use Rattle.sa_kernel.specs.State.{State, Scene}
 use Rattle.sa_kernel.specs.Closing.{closed}
 use Rattle.sa_kernel.specs.Entries.{entered_as, after_fetch}
 use Rattle.sa_kernel.specs.Opening.{opening_state, first_wants, opened}
-use Rattle.sa_kernel.specs.Runs.{Enters}
-use Rattle.sa_kernel.specs.Sound.{IsFormed}
+use Rattle.sa_kernel.specs.Runs.{Enters, given_by}
+use Rattle.sa_kernel.specs.Sound.{IsSound, AreClaimed, IsUpcalled}
 use Rattle.sa_kernel.specs.View.{state_of, scene_of, used, Spends}
-use Rattle.sa_kernel.specs.Kept.{IsFit, IsKept}
+use Rattle.sa_kernel.specs.Kept.{KernelView, kernel_of, processors, IsFit, IsKept, upcalls}
+use Rattle.sa_kernel.specs.Owed.{owed_items, pending_count}
+use Rattle.sa_kernel.specs.Room.{Adds}
+use Rattle.sa_kernel.proofs.FormedLemmas.{no_notes, no_acts}
+use Rattle.sa_kernel.proofs.HeldLemmas.{stays-closed, claimed-after_fetch, upcalled-entered_as, upcalled-closed}
+use Rattle.sa_kernel.proofs.OwedLemmas.{owes-entered_as, owed-closed, owed-after_fetch}
 use Rattle.sa_kernel.proofs.SoundLemmas.{sound-evicted, sound-closed, sound-entered_as, sound-opening, sound-after_fetch}
+
+given-upcall : (up : Bool) (b a : ActNo) → given_by up b ≡ Upcall a → (up ≡ true) × (b ≡ a)
+given-upcall true b a is = (refl, cc)
+given-upcall false b a is = absurd cc
+
+none-owed : (C : Type 0) (w : WorkloadView) → owed_items (opening_state {C = C} w) ≡ 0
+none-owed C w =
+    let a = sum_by-replicate (λ (ns : List Note). length ns) (length w.spaces) no_notes in
+    let b = sum_by-replicate (λ (list : List ActNo). length list) MAX_SPACES no_acts in
+    omega arith
 
 module _ {C : Type 0} where
   pub kept-evict : (m : Machine C) (d : DevicesView) (event room last : ℕ) → d ≡ record m.devices { pages = evicted event m.devices.evictions m.devices.pages }
@@ -34,11 +53,12 @@ module _ {C : Type 0} where
         ios = kept.ios;
         used = kept.used;
         begun = kept.begun;
+        pending = kept.pending;
         last = kept.last;
       })
 
-  sound-at : (x y : Scene C) → x ≡ y → IsFormed y.state → IsFormed x.state
-  sound-at x y is sound = subst (λ (z : Scene C). IsFormed z.state) (sym is) sound
+  sound-at : (x y : Scene C) → x ≡ y → IsSound y.state → IsSound x.state
+  sound-at x y is sound = subst (λ (z : Scene C). IsSound z.state) (sym is) sound
 
   pub kept-closed : (m new : Machine C) (t tn : Recorded) (event room last : ℕ) (p : ProcNo) → scene_of new tn ≡ closed event p (scene_of m t)
       → Spends m new 0 0 0 → last < event → event ≤ MAX_EVENTS → IsKept m room last → IsKept new room event
@@ -49,6 +69,7 @@ module _ {C : Type 0} where
     ios = omega (arith, spends.ios, kept.ios);
     used = omega (arith, spends.used, kept.used);
     begun = omega (arith, spends.count, kept.begun);
+    pending = (let h = kept.pending in let same = (owed-closed event p (scene_of m t)).1 in let now = ap (λ (x : Scene C). pending_count x.state) is in omega arith);
     last = few;
   }
 
@@ -57,39 +78,109 @@ module _ {C : Type 0} where
   kept-fetch m new room last is spends kept =
       let begun : new.devices.ios.begun ≤ m.devices.ios.begun = omega (arith, spends.count) in
       record {
-        sound = subst (λ (k : State C). IsFormed k) (sym is) (sound-after_fetch (state_of m).telling (state_of m) kept.sound);
+        sound = subst (λ (k : State C). IsSound k) (sym is) (sound-after_fetch (state_of m).telling (state_of m) refl kept.sound);
         notices = omega (arith, spends.notices, kept.notices);
         acts = omega (arith, spends.acts, kept.acts);
         ios = omega (arith, spends.ios, kept.ios);
         used = omega (arith, spends.used, kept.used);
         begun = omega (arith, kept.begun);
+        pending = (let h = kept.pending in let less = (owed-after_fetch (state_of m).telling (state_of m) refl).1 in let now = ap pending_count is in omega arith);
         last = kept.last;
       }
 
-  pub sound-mid : (m mid : Machine C) (t tm : Recorded) (event room last : ℕ) (p : ProcNo) (entry : Entry C) (given : Given) (up : Bool)
-      → p.0 < length m.lives.items → IsFit (state_of m) p event entry → Enters (scene_of m t) (scene_of mid tm) given up (λ a. entered_as event p a entry)
-      → IsKept m room last → IsFormed (state_of mid)
-  sound-mid m mid t tm event room last p entry given up within fit enters kept =
-      sound-at (scene_of mid tm) (entered_as event p enters.fresh entry (scene_of m t)) enters.scene
-      (sound-entered_as event p enters.fresh entry (scene_of m t) within fit enters.unused kept.sound)
+  pub told-fetch : (m new : Machine C) (s : ℕ) → state_of new ≡ after_fetch (state_of m).telling (state_of m) → AreClaimed (state_of m) s → AreClaimed (state_of new) s
+  told-fetch m new s is claimed = subst (λ (k : State C). AreClaimed k s) (sym is) (claimed-after_fetch (state_of m).telling (state_of m) s refl claimed)
 
-  pub kept-entered : (m mid new : Machine C) (tm tn : Recorded) (event room last : ℕ) (p : ProcNo) → IsFormed (state_of mid)
+  pub owed-fetch : (m new : Machine C) → state_of new ≡ after_fetch (state_of m).telling (state_of m) → owed_items (state_of new) ≤ owed_items (state_of m)
+  owed-fetch m new is = let less = (owed-after_fetch (state_of m).telling (state_of m) refl).0 in let now = ap owed_items is in omega arith
+
+  -- an entry, before its closing
+  pub record IsEntered (m mid : Machine C) (t tm : Recorded) (given : Given) (p : ProcNo) : Type 0 where
+    pub sound : IsSound (state_of mid)
+    pub items : length tm.items + owed_items (state_of mid) ≤ length t.items + owed_items (state_of m) + 6
+    pub pending : pending_count (state_of mid) ≤ pending_count (state_of m) + 1
+    pub upcalled : (a : ActNo) → given ≡ Upcall a → IsUpcalled (state_of mid) p a
+
+  pub entered-mid : (v : KernelView C) (m mid : Machine C) (t tm : Recorded) (event room last : ℕ) (p : ProcNo) (entry : Entry C) (given : Given)
+      → record { parts = m; spare = room; last = last } ≡ v → p.0 < processors v → IsFit (kernel_of v) p event entry → (kernel_of v).telling ≡ []
+      → Enters (scene_of m t) (scene_of mid tm) given (upcalls (state_of m) p entry) (λ a. entered_as event p a entry)
+      → IsKept m room last → IsEntered m mid t tm given p
+  entered-mid v m mid t tm event room last p entry given view inside fits none enters kept =
+      let old = scene_of m t in
+      let within : p.0 < length m.lives.items = subst (λ (w : KernelView C). p.0 < processors w) (sym view) inside in
+      let fit : IsFit (state_of m) p event entry = subst (λ (w : KernelView C). IsFit (kernel_of w) p event entry) (sym view) fits in
+      let empty : (state_of m).telling ≡ [] = subst (λ (w : KernelView C). (kernel_of w).telling ≡ []) (sym view) none in
+      let claimed = kept.sound.claimed in
+      let owes = owes-entered_as event p enters.fresh entry old in
+      let now = ap (λ (x : Scene C). pending_count x.state) enters.scene in
+      let owed = ap (λ (x : Scene C). owed_items x.state) enters.scene in
+      let len = ap (λ (x : Scene C). length x.items) enters.scene in
+      let items = owes.items in
+      let pending = owes.pending in
+      record {
+        sound = sound-at (scene_of mid tm) (entered_as event p enters.fresh entry old) enters.scene (sound-entered_as event p enters.fresh entry old within fit enters.unused empty kept.sound);
+        items = omega arith;
+        pending = omega arith;
+        upcalled = λ a is.
+            let both = given-upcall (upcalls (state_of m) p entry) enters.fresh a (sym enters.given ∙ is) in
+            let up = upcalled-entered_as event p enters.fresh entry old claimed.told_to both.0 within enters.unused empty kept.sound.formed claimed.once in
+            subst (λ (x : Scene C). IsUpcalled x.state p a) (sym enters.scene) (subst (λ b. IsUpcalled (entered_as event p enters.fresh entry old).state p b) both.1 up);
+      }
+
+  pub kept-entered : (m mid new : Machine C) (t tm tn : Recorded) (event room last : ℕ) (p : ProcNo) (given : Given) → IsEntered m mid t tm given p
       → scene_of new tn ≡ closed event p (scene_of mid tm) → Spends m mid 1 1 2 → Spends mid new 0 0 0 → 1 ≤ room → last < event → event ≤ MAX_EVENTS
       → IsKept m room last → IsKept new (room - 1) event
-  kept-entered m mid new tm tn event room last p sound is spent spends some later few kept = record {
-    sound = sound-at (scene_of new tn) (closed event p (scene_of mid tm)) is (sound-closed event p (scene_of mid tm) sound);
+  kept-entered m mid new t tm tn event room last p given entered is spent spends some later few kept = record {
+    sound = sound-at (scene_of new tn) (closed event p (scene_of mid tm)) is (sound-closed event p (scene_of mid tm) entered.sound);
     notices = omega (arith, spends.notices, spent.notices, kept.notices);
     acts = omega (arith, spends.acts, spent.acts, kept.acts);
     ios = omega (arith, spends.ios, spent.ios, kept.ios);
     used = omega (arith, spends.used, spent.used, kept.used);
     begun = omega (arith, spends.count, spent.count, kept.begun);
+    pending = (let h = kept.pending in let more = entered.pending in let same = (owed-closed event p (scene_of mid tm)).1 in let now = ap (λ (x : Scene C). pending_count x.state) is in omega arith);
     last = few;
   }
+
+  -- what is owed behind the closing
+  pub owed-entered : (m mid new : Machine C) (t tm tn : Recorded) (event most : ℕ) (p : ProcNo) (given : Given) → IsEntered m mid t tm given p
+      → scene_of new tn ≡ closed event p (scene_of mid tm) → Adds most t tm → Adds 64 tm tn
+      → t.spare + owed_items (state_of new) ≤ tn.spare + owed_items (state_of m) + 80
+  owed-entered m mid new t tm tn event most p given entered is adds closes =
+      let items = entered.items in
+      let same = (owed-closed event p (scene_of mid tm)).0 in
+      let now = ap (λ (x : Scene C). owed_items x.state) is in
+      let a = adds.same in
+      let b = closes.spare in
+      omega arith
+
+  pub owed-slice : (m new : Machine C) (t tn : Recorded) (event : ℕ) (p : ProcNo) → scene_of new tn ≡ closed event p (scene_of m t) → Adds 64 t tn
+      → t.spare + owed_items (state_of new) ≤ tn.spare + owed_items (state_of m) + 80
+  owed-slice m new t tn event p is closes =
+      let same = (owed-closed event p (scene_of m t)).0 in
+      let now = ap (λ (x : Scene C). owed_items x.state) is in
+      let b = closes.spare in
+      omega arith
+
+  pub upcalled-new : (m mid new : Machine C) (t tm tn : Recorded) (event : ℕ) (p : ProcNo) (given : Given) → IsEntered m mid t tm given p
+      → scene_of new tn ≡ closed event p (scene_of mid tm) → (a : ActNo) → given ≡ Upcall a → IsUpcalled (state_of new) p a
+  upcalled-new m mid new t tm tn event p given entered is a up =
+      subst (λ (x : Scene C). IsUpcalled x.state p a) (sym is) (upcalled-closed event p (scene_of mid tm) p a (entered.upcalled a up))
+
+  -- nothing is owed at the opening
+  pub owed-new : (m new : Machine C) (tn : Recorded) (w : WorkloadView) (items : List Item) → state_of m ≡ opening_state w
+      → scene_of new tn ≡ closed 0 (proc_no 0) (record { state = state_of m; items = items }) → owed_items (state_of new) ≡ 0
+  owed-new m new tn w items opens is =
+      ap (λ (x : Scene C). owed_items x.state) is ∙ (owed-closed 0 (proc_no 0) (record { state = state_of m; items = items })).0 ∙ ap owed_items opens ∙ none-owed C w
+
+  pub telling-new : (m new : Machine C) (tn : Recorded) (w : WorkloadView) (items : List Item) → state_of m ≡ opening_state w
+      → scene_of new tn ≡ closed 0 (proc_no 0) (record { state = state_of m; items = items }) → (state_of new).telling ≡ []
+  telling-new m new tn w items opens is =
+      ap (λ (x : Scene C). x.state.telling) is ∙ (stays-closed 0 (proc_no 0) (record { state = state_of m; items = items })).telling ∙ ap (λ (k : State C). k.telling) opens
 
   pub kept-start : (m new : Machine C) (tn : Recorded) (w : WorkloadView) (items : List Item) → IsWorkload w → state_of m ≡ opening_state w → used m ≡ 0
       → scene_of new tn ≡ closed 0 (proc_no 0) (record { state = state_of m; items = items }) → Spends m new 0 0 0 → IsKept new 0 0
   kept-start m new tn w items ok opens none is spends =
-      let sound : IsFormed (state_of m) = subst (λ (k : State C). IsFormed k) (sym opens) (sound-opening w ok) in
+      let sound : IsSound (state_of m) = subst (λ (k : State C). IsSound k) (sym opens) (sound-opening w ok) in
       let begun : m.devices.ios.begun ≡ 0 = ap (λ (k : State C). k.begun) opens in
       record {
         sound = sound-at (scene_of new tn) (closed 0 (proc_no 0) (record { state = state_of m; items = items })) is
@@ -99,6 +190,7 @@ module _ {C : Type 0} where
         ios = omega arith;
         used = omega (arith, spends.used);
         begun = omega (arith, spends.count);
+        pending = (let h = owed-new m new tn w items opens is in omega arith);
         last = omega arith;
       }
 

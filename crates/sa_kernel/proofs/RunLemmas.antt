@@ -107,7 +107,7 @@ module _ {C : Type 0} where
   unused-stopped e p (Some s) (Some a) None x n none = none
   unused-stopped e p (Some s) (Some a) (Some h) x n none = unused-held x.state.acts a.0 n h none
 
-  pages-stopped : (e : ℕ) (p : ProcNo) (o : Option SpaceNo) (l : Option ActNo) (held : Option (Stopped C)) (x : Scene C)
+  pub pages-stopped : (e : ℕ) (p : ProcNo) (o : Option SpaceNo) (l : Option ActNo) (held : Option (Stopped C)) (x : Scene C)
       → (stopped e p o l held x).state.pages ≡ x.state.pages
   pages-stopped e p None l held x = refl
   pages-stopped e p (Some s) None held x = refl

@@ -8,12 +8,14 @@ use Rattle.sa_base.specs.declared.limits.TheConstants.{MAX_EVENTS}
 use Rattle.sa_base.specs.Recorded.{Recorded}
 use Rattle.sa_devices.specs.Ios.{Io, io_at}
 use Rattle.sa_kernel.specs.declared.machine.Machine.{Machine}
+use Rattle.sa_kernel.specs.declared.entry.TheConstants.{ENTRY_ITEMS}
 use Rattle.sa_kernel.specs.declared.entry.Entry.{Entry}
 use Rattle.sa_kernel.specs.declared.entry.Entry.TheVariants.{Interrupt, Block, Complete, More, Idle, GiveBack, InterruptOwn}
 use Rattle.sa_kernel.specs.State.{State, Scene, owner_of, line_of, life_of, aim_of, demand_of, taken_of}
 use Rattle.sa_kernel.specs.Entries.{IsOwnPage}
 use Rattle.sa_kernel.specs.Runs.{upcalls_for, upcalls_in, untold_count, taken_count}
-use Rattle.sa_kernel.specs.Sound.{IsFormed}
+use Rattle.sa_kernel.specs.Owed.{pending_count}
+use Rattle.sa_kernel.specs.Sound.{IsSound}
 use Rattle.sa_kernel.specs.View.{state_of, used}
 
 -- the parts, for how many more entries there is room, and the event of the last entry
@@ -24,12 +26,13 @@ pub record KernelView (C : Type 0) : Type 0 where
 
 -- what always holds
 pub record IsKept {C : Type 0} (m : Machine C) (room event : ℕ) : Type 0 where
-  pub sound : IsFormed (state_of m)
+  pub sound : IsSound (state_of m)
   pub notices : room ≤ m.notices.spare
   pub acts : room ≤ m.acts.spare
   pub ios : 2 * room ≤ m.devices.ios.spare
   pub used : used m ≤ event
   pub begun : m.devices.ios.begun ≤ 2 * event
+  pub pending : pending_count (state_of m) ≤ event
   pub last : event ≤ MAX_EVENTS
 
 module _ {C : Type 0} where
@@ -47,7 +50,7 @@ module _ {C : Type 0} where
 
   -- a spare of the trace that suffices for an entry
   abbrev pub need_of : State C → ℕ
-  need_of k = 80 + untold_count k + taken_count k
+  need_of k = ENTRY_ITEMS + untold_count k + taken_count k
 
   -- when an interrupt fits: the line is raised, and a context is handed over exactly where the processor is owned
   pub record FitsInterrupt (k : State C) (p : ProcNo) (context : Option (Stopped C)) : Type 0 where

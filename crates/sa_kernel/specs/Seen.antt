@@ -1,5 +1,5 @@
 -- What a user level sees of the kernel, and when nothing can happen any more.
-use Rattle.std.specs.Prelude.{ℕ, zero, suc, ◌+◌, ◌^◌, Bool, ◌&&◌, ◌==◌, not, if◌then◌else◌, length, is_some, slice_index}
+use Rattle.std.specs.Prelude.{ℕ, zero, suc, ◌^◌, bit_or, Bool, ◌&&◌, ◌==◌, not, if◌then◌else◌, length, is_some, slice_index}
 use Rattle.std.specs.List.{list_any}
 use Rattle.sa_base.specs.declared.number.ProcNo.{ProcNo}
 use Rattle.sa_base.specs.declared.number.SpaceNo.{SpaceNo}
@@ -12,7 +12,7 @@ use Rattle.sa_kernel.specs.Closing.{spaces, calls_for, has_low_line}
 -- the number below 2 ^ n whose bit q says that the test holds of q
 abbrev pub bits_where : (ℕ → Bool) → ℕ → ℕ
 bits_where test zero = 0
-bits_where test (suc n) = bits_where test n + (if test n then 2 ^ n else 0)
+bits_where test (suc n) = if test n then bit_or (bits_where test n) (2 ^ n) else bits_where test n
 
 module _ {C : Type 0} where
   -- bit q says that the space owns processor q, whose line is low

@@ -39,14 +39,14 @@ ArePlaced assign lives = (p : ℕ) → IsPlaced (slice_index_or assign.owners p 
 -- a notice hands over the context of activation a, once or not
 abbrev pub note_claim : ℕ → Note → ℕ
 note_claim a (Add p) = 0
-note_claim a (Preempted b) = if b.0 == a then 1 else 0
+note_claim a (Preempted b) = if a == b.0 then 1 else 0
 note_claim a (Blocked b) = 0
-note_claim a (Unblocked b) = if b.0 == a then 1 else 0
+note_claim a (Unblocked b) = if a == b.0 then 1 else 0
 
 -- an I/O of space s is for the context of activation a, once or not
 abbrev pub kind_claim : ℕ → ℕ → IoKind → ℕ
-kind_claim s a (Plain t b) = if t.0 == s && b.0 == a then 1 else 0
-kind_claim s a (Page t b k) = if t.0 == s && b.0 == a then 1 else 0
+kind_claim s a (Plain t b) = if s == t.0 && a == b.0 then 1 else 0
+kind_claim s a (Page t b k) = if s == t.0 && a == b.0 then 1 else 0
 kind_claim s a (Upcall t) = 0
 
 abbrev pub io_claim : ℕ → ℕ → Io → ℕ
@@ -57,12 +57,12 @@ module _ {C : Type 0} where
   -- under way, notices that were not told, and told ones that were not fetched
   abbrev pub claims_on : State C → ℕ → ℕ → ℕ → ℕ
   claims_on k told_to s a =
-      sum_by (io_claim s a) k.under_way + sum_by (note_claim a) (untold_of k s) + (if told_to == s then sum_by (note_claim a) k.telling else 0)
+      sum_by (io_claim s a) k.under_way + sum_by (note_claim a) (untold_of k s) + (if s == told_to then sum_by (note_claim a) k.telling else 0)
 
   -- a context is held of an activation of space s, once or not
   abbrev pub held_in : ℕ → Option (Act C) → ℕ
   held_in s None = 0
-  held_in s (Some x) = if x.space.0 == s && is_some x.held then 1 else 0
+  held_in s (Some x) = if s == x.space.0 && is_some x.held then 1 else 0
 
   -- each context that is held has one claim on it, of its own space, and no other has any
   abbrev pub AreClaimed : State C → ℕ → Type 0

@@ -41,7 +41,7 @@ impl<C: Drop> Machine<C> {
     }
 
     // Whether the space must be told some of this even where it wants no processor.
-    fn some_calls(&self, notes: &[Note]) -> bool
+    pub(crate) fn some_calls(&self, notes: &[Note]) -> bool
         ensures { result ≡ list_any (calls_for (state_of self.now)) notes.now }
     {
         for note in notes {
@@ -172,7 +172,7 @@ impl<C: Drop> Machine<C> {
     }
 
     // Whether the space owns this processor, whose line is low.
-    fn has_low_line(&self, s: SpaceNo, q: ProcNo) -> bool
+    pub(crate) fn has_low_line(&self, s: SpaceNo, q: ProcNo) -> bool
         requires sizes { HasSizes (state_of self.now) }
         requires within { q.0 < length self.now.lives.items }
         ensures { result ≡ has_low_line (state_of self.now) s.0 q.0 }

@@ -1,6 +1,10 @@
 // What enters the kernel.
 use sa_base::{ActNo, IoNo, ProcNo, Stopped};
 
+/// How many items an entry, or the end of a slice, adds to the trace at most, beside those that were owed before it: what
+/// is told of notices that waited, and what is given back of what was taken.
+pub const ENTRY_ITEMS: usize = 80;
+
 /// Why the kernel is entered on a processor, and what is handed over.
 #[derive(Debug, Drop)]
 pub enum Entry<C> {

@@ -1,12 +1,13 @@
-ghost use Rattle.std.specs.Prelude.{◌≡◌, ℕ, ◌+◌, ◌*◌, ◌≤◌, ◌<◌, [], length, IsSome, IfSome, IfOk, OnOk, OnErr, slice_index_or};
+ghost use Rattle.std.specs.Prelude.{◌≡◌, ℕ, ◌+◌, ◌*◌, ◌≤◌, ◌<◌, [], length, Some, IsSome, IfSome, IfOk, OnOk, OnErr, slice_index_or};
 ghost use Rattle.std.specs.Option.{option_map};
+ghost use Rattle.sa_base.specs.declared.number.ActNo.{ActNo};
 ghost use Rattle.sa_devices.specs.Ios.{due_of, io_no};
 ghost use Rattle.sa_kernel.specs.Room.{Adds};
 
-use crate::entry::{Entry, Given};
+use crate::entry::{ENTRY_ITEMS, Entry, Given};
 use crate::machine::Machine;
 use crate::start::OPENING;
-use sa_base::{IoNo, MAX_EVENTS, Note, ProcNo, SpaceNo, Stopped, Trace};
+use sa_base::{IoNo, MAX_EVENTS, Note, ProcNo, Seen, SpaceNo, Stopped, Trace};
 use sa_instr::Workload;
 use std::alloc::{AllocError, Global};
 use std::marker::Model;
@@ -37,7 +38,9 @@ impl<C: Drop> Kernel<C> {
     ghost use Rattle.sa_kernel.specs.Entries.{entered, next_note, after_fetch, evicted_at};
     ghost use Rattle.sa_kernel.specs.Opening.{opened};
     ghost use Rattle.sa_kernel.specs.Runs.{Enters};
-    ghost use Rattle.sa_kernel.specs.Sound.{IsFormed};
+    ghost use Rattle.sa_kernel.specs.Sound.{IsSound, AreClaimed, IsUpcalled};
+    ghost use Rattle.sa_kernel.specs.Owed.{owed_items, pending_count};
+    ghost use Rattle.sa_kernel.specs.Seen.{seen_of, is_quiet};
 
     /// The kernel at the opening of a workload, which is event 0; its items are added to the trace, which is
     /// empty. Fails only where memory runs out; the trace is then as it was, but for its room.
@@ -46,6 +49,8 @@ impl<C: Drop> Kernel<C> {
         ensures opened { IfOk result (λ k. scene k trace.new ≡ opened w.now) }
         ensures spare { IfOk result (λ k. k.spare ≡ 0) }
         ensures last { IfOk result (λ k. k.last ≡ 0) }
+        ensures owed { IfOk result (λ k. owed_items (kernel_of k) ≡ 0) }
+        ensures fetched { IfOk result (λ k. (kernel_of k).telling ≡ []) }
         ensures err { OnErr result (trace.new.items ≡ []) }
     {
         w.ranges();
@@ -75,7 +80,9 @@ impl<C: Drop> Kernel<C> {
     }
 
     /// Does an entry on the processor at the event, and the closing of the event: exactly what `entered` says, in
-    /// some fresh activation if it upcalls. Answers that activation where it did, else `Nothing`.
+    /// some fresh activation if it upcalls. Answers that activation where it did, else `Nothing`. It adds at most
+    /// `ENTRY_ITEMS` items beside those that are owed no longer, so room for `ENTRY_ITEMS` an entry and for what is owed
+    /// suffices for many.
     pub fn enter(&mut self, p: ProcNo, event: u64, entry: Entry<C>, trace: &mut Trace) -> Given
         requires within { p.0 < processors self.old }
         requires later { self.old.last < event }
@@ -89,6 +96,9 @@ impl<C: Drop> Kernel<C> {
         ensures spare { self.new.spare + 1 ≡ self.old.spare }
         ensures last { self.new.last ≡ event }
         ensures items { Adds (need_of (kernel_of self.old)) trace.old trace.new }
+        ensures owed { trace.old.spare + owed_items (kernel_of self.new)
+            ≤ trace.new.spare + owed_items (kernel_of self.old) + ENTRY_ITEMS }
+        ensures upcalled { (a : ActNo) → result ≡ Given.Upcall a → IsUpcalled (kernel_of self.new) p a }
     {
         let given = self.parts.enter_as(event, p, entry, trace);
         self.parts.close(event, p, trace);
@@ -107,6 +117,8 @@ impl<C: Drop> Kernel<C> {
         ensures spare { self.new.spare ≡ self.old.spare }
         ensures last { self.new.last ≡ event }
         ensures items { Adds (need_of (kernel_of self.old)) trace.old trace.new }
+        ensures owed { trace.old.spare + owed_items (kernel_of self.new)
+            ≤ trace.new.spare + owed_items (kernel_of self.old) + ENTRY_ITEMS }
     {
         self.parts.close(event, p, trace);
         self.last = event;
@@ -129,22 +141,27 @@ impl<C: Drop> Kernel<C> {
             ≡ after_fetch (kernel_of self.old).telling (kernel_of self.old) }
         ensures spare { self.new.spare ≡ self.old.spare }
         ensures last { self.new.last ≡ self.old.last }
+        ensures told { (s : ℕ) → AreClaimed (kernel_of self.old) s → AreClaimed (kernel_of self.new) s }
+        ensures owed { owed_items (kernel_of self.new) ≤ owed_items (kernel_of self.old) }
     {
         self.parts.next_note()
     }
 
-    /// A spare of the trace that suffices for an entry: 80, and one for each notice that was not told and for each
-    /// activation that is taken and not given back. `None` only where that number does not fit.
-    pub fn need(&self) -> Option<usize>
-        ensures { IfSome result (λ n. n ≡ need_of (kernel_of self.now)) }
+    /// A spare of the trace that suffices for an entry: `ENTRY_ITEMS`, and one for each notice that was not told and for
+    /// each activation that is taken and not given back.
+    pub fn need(&self) -> usize
+        ensures { result ≡ need_of (kernel_of self.now) }
     {
         self.parts.need()
     }
 
-    /// Shows what always holds: what runs on a processor is an activation of its owner, which runs nowhere else. It
-    /// does nothing.
+    /// Shows what always holds: an activation runs on each processor that is owned, in its owner and nowhere else; a
+    /// raised line has an aim; and each context that is held has one claim on it, an I/O under way or a notice. It does
+    /// nothing.
     pub fn keeps(&self)
-        ensures { IsFormed (kernel_of self.now) }
+        ensures sound { IsSound (kernel_of self.now) }
+        ensures pending { pending_count (kernel_of self.now) ≤ self.now.last }
+        ensures last { self.now.last ≤ MAX_EVENTS }
     {
         let _kernel = &self.spare;
     }
@@ -170,5 +187,23 @@ impl<C: Drop> Kernel<C> {
         ensures { result ≡ option_map io_no (due_of event (kernel_of self.now).under_way) }
     {
         self.parts.devices.due(event)
+    }
+
+    /// What a user level sees on a processor of its space at the event.
+    pub fn seen(&self, p: ProcNo, event: u64) -> Seen
+        requires within { p.0 < processors self.now }
+        requires owned { IsSome (owner_of (kernel_of self.now) p) }
+        ensures { (s : SpaceNo) → owner_of (kernel_of self.now) p ≡ Some s
+            → result ≡ seen_of (kernel_of self.now) p s event }
+    {
+        self.parts.seen(p, event)
+    }
+
+    /// Whether nothing can come any more of what was done: no I/O or fetch is under way, no line is raised, and no space
+    /// waits to be told of a context that was not idle. Takes constant time while an I/O is under way.
+    pub fn quiet(&self) -> bool
+        ensures { result ≡ is_quiet (kernel_of self.now) }
+    {
+        self.parts.quiet()
     }
 }

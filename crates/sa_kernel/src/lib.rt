@@ -8,7 +8,8 @@ mod kernel;
 mod machine;
 mod notices;
 mod say;
+mod seen;
 mod start;
 
-pub use entry::{Entry, Given};
+pub use entry::{ENTRY_ITEMS, Entry, Given};
 pub use kernel::Kernel;

@@ -1,4 +1,4 @@
-ghost use Rattle.std.specs.Prelude.{sum_by, IfSome, ◌≡◌, ℕ, ◌+◌, ◌≤◌, ◌<◌, [], ◌∷◌, ◌++◌, length, map, drop, replicate, slice_get, slice_index_or, slice_set, OnOk, IfOk};
+ghost use Rattle.std.specs.Prelude.{sum_by, ◌≡◌, ℕ, ◌+◌, ◌≤◌, ◌<◌, [], ◌∷◌, ◌++◌, length, map, drop, replicate, slice_get, slice_index_or, slice_set, OnOk, IfOk};
 ghost use Rattle.sa_kernel.specs.Notices.{notes_of, behind_added, HaveRoom};
 ghost use Rattle.sa_kernel.specs.Room.{Adds};
 ghost use Rattle.sa_base.specs.Items.{items_at};
@@ -6,7 +6,7 @@ ghost use Rattle.sa_kernel.specs.Parts.{notes_told};
 ghost use Rattle.sa_kernel.specs.Closing.{has_untold};
 
 use crate::say::say;
-use sa_base::{Note, ProcNo, Record, SpaceNo, Trace};
+use sa_base::{MAX_EVENTS, Note, ProcNo, Record, SpaceNo, Trace};
 use sa_batch::Batch;
 use std::alloc::{AllocError, Global};
 use std::marker::Model;
@@ -119,9 +119,10 @@ impl Notices {
         self.untold[usize::from(s.0)].notes()
     }
 
-    /// How many notices were not told, if that fits a number.
-    pub(crate) fn count(&self) -> Option<usize>
-        ensures { IfSome result (λ n. n ≡ sum_by length self.now.untold) }
+    /// How many notices were not told.
+    pub(crate) fn count(&self) -> usize
+        requires { sum_by length self.now.untold ≤ MAX_EVENTS }
+        ensures { result ≡ sum_by length self.now.untold }
     {
         count_all(&self.untold)
     }
@@ -157,15 +158,16 @@ fn say_all_told(notes: &[Note], event: u64, p: ProcNo, trace: &mut Trace)
     }
 }
 
-// How many notices there are in all batches, if that fits a number.
-fn count_all(batches: &Vec<Batch>) -> Option<usize>
-    ensures { IfSome result (λ n. n ≡ sum_by length (map notes_of batches.now.items)) }
+// How many notices there are in all batches.
+fn count_all(batches: &Vec<Batch>) -> usize
+    requires { sum_by length (map notes_of batches.now.items) ≤ MAX_EVENTS }
+    ensures { result ≡ sum_by length (map notes_of batches.now.items) }
 {
     let mut count: usize = 0;
     for i in 0..batches.len() {
-        count = count.checked_add(batches[i].len())?;
+        count += batches[i].len();
     }
-    Some(count)
+    count
 }
 
 // So many batches without notices and room.

@@ -7,13 +7,13 @@ ghost use Rattle.sa_assign.specs.Reaim.{proc_no};
 ghost use Rattle.sa_kernel.specs.Room.{Adds};
 ghost use Rattle.sa_kernel.specs.Opening.{first_wants};
 
-use crate::entry::{Entry, Given};
+use crate::entry::{ENTRY_ITEMS, Entry, Given};
 use crate::machine::Machine;
 use crate::notices::Notices;
 use crate::say::say;
 use sa_acts::Acts;
 use sa_assign::Assign;
-use sa_base::{ActNo, MAX_SPACES, Note, ProcNo, Record, SpaceNo, Stopped, Trace};
+use sa_base::{ActNo, MAX_EVENTS, MAX_SPACES, Note, ProcNo, Record, SpaceNo, Stopped, Trace};
 use sa_devices::Devices;
 use sa_instr::{SpaceDef, Workload};
 use std::alloc::{AllocError, Global};
@@ -28,6 +28,7 @@ impl<C: Drop> Machine<C> {
     ghost use Rattle.sa_kernel.specs.Opening.{opening_state};
     ghost use Rattle.sa_kernel.specs.Closing.{closed};
     ghost use Rattle.sa_kernel.specs.Entries.{entered_as, held_for, handed_by, fetched, next_note, after_fetch};
+    ghost use Rattle.sa_kernel.specs.Owed.{pending_count};
     ghost use Rattle.sa_kernel.specs.Kept.{need_of, IsFit, upcalls};
 
     // The parts at the opening of a workload.
@@ -128,12 +129,13 @@ impl<C: Drop> Machine<C> {
         count
     }
 
-    // A spare of the trace that suffices for an entry, if it fits a number.
-    pub(crate) fn need(&self) -> Option<usize>
-        requires { HasSizes (state_of self.now) }
-        ensures { IfSome result (λ n. n ≡ need_of (state_of self.now)) }
+    // A spare of the trace that suffices for an entry.
+    pub(crate) fn need(&self) -> usize
+        requires sizes { HasSizes (state_of self.now) }
+        requires few { pending_count (state_of self.now) ≤ MAX_EVENTS }
+        ensures { result ≡ need_of (state_of self.now) }
     {
-        self.notices.count()?.checked_add(80 + self.taken_count())
+        ENTRY_ITEMS + self.notices.count() + self.taken_count()
     }
 
     // What an entry does, but for the closing.

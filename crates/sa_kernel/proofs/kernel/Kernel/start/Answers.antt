@@ -1,5 +1,5 @@
 use Rattle.std.proofs.Common.{◌∙◌}
-use Rattle.sa_kernel.proofs.KeptLemmas.{kept-start, opened-is}
+use Rattle.sa_kernel.proofs.KeptLemmas.{kept-start, opened-is, owed-new, telling-new}
 use Rattle.sa_kernel.specs.View.{scene_of}
 use Rattle.sa_kernel.proofs.kernel.Kernel.start.Goals as goal
 
@@ -11,3 +11,9 @@ pub returns-clause-opened : goal.returns-clause-opened
 returns-clause-opened g c =
     opened-is c.in_ok-parts.parts c.args.w.now c.reserve.new.self.items (scene_of c.open.new.self c.open.new.trace) c.in_ok-parts.ensures.state
     (c.reserve.ensures.items ∙ c.requires) c.open.ensures.exact
+
+pub returns-clause-owed : goal.returns-clause-owed
+returns-clause-owed g c = owed-new c.in_ok-parts.parts c.open.new.self c.open.new.trace c.args.w.now _ c.in_ok-parts.ensures.state c.open.ensures.exact
+
+pub returns-clause-fetched : goal.returns-clause-fetched
+returns-clause-fetched g c = telling-new c.in_ok-parts.parts c.open.new.self c.open.new.trace c.args.w.now _ c.in_ok-parts.ensures.state c.open.ensures.exact
