@@ -1,8 +1,5 @@
 //! The machine: the kernel, the user level of each space, and the contexts that run. One call is one event.
 #![tactic(auto)]
 
-mod core;
 mod machine;
 mod users;
-
-pub use core::Core;

@@ -1,82 +1,196 @@
 // The machine in the middle of an event.
+ghost use Rattle.std.specs.Prelude.{◌≡◌, ℕ, ◌+◌, ◌*◌, ◌≤◌, ◌<◌, Some, None, IfOk, [], ◌∷◌, length, replicate, slice_get};
+ghost use Rattle.sa_base.specs.declared.number.ActNo.{ActNo};
+ghost use Rattle.sa_base.specs.declared.limits.TheConstants.{MAX_EVENTS};
+ghost use Rattle.sa_kernel.specs.State.{owner_of, line_of};
+ghost use Rattle.sa_kernel.specs.Kept.{IsFit, upcalls};
+ghost use Rattle.sa_kernel.specs.Sound.{AreClaimed};
+ghost use Rattle.sa_machine.specs.Machine.{Machine as Whole, user_of, context_on, begun, answered, told, stopped_in, stepped, without_context};
+ghost use Rattle.sa_machine.specs.Turn.{next_event, more_events, ticked, ends_slice, sliced, kernel_entered, told_one, told_all, welcomed_in, entered_on, hinted, blocked, interrupted, asked, turned_owned, turned_now, turned, gone_in, committed};
+ghost use Rattle.sa_machine.specs.End.{is_inside, is_any_inside, local_on};
+ghost use Rattle.sa_machine.specs.Run.{opening, CanGo};
+ghost use Rattle.sa_machine.specs.Standing.{Stands, IsBetween};
+ghost use Rattle.sa_core.specs.View.{machine_of};
+ghost use Rattle.sa_core.specs.Room.{owed, Spends};
+ghost use Rattle.sa_core.specs.Needs.{ByFresh, Welcomes, IsNext, Asks};
+
 use crate::users::Users;
 use sa_abstract::{SeatState, Step, UserLevel};
-use sa_base::{Item, ProcNo, Record, SpaceNo, Stopped, Trace};
+use sa_base::{Item, MAX_EVENTS, ProcNo, Record, SpaceNo, Stopped, Trace};
 use sa_instr::Workload;
-use sa_kernel::{Entry, Given, Kernel};
+use sa_kernel::{ENTRY_ITEMS, Entry, Given, Kernel};
 use std::alloc::{AllocError, Global};
+
+/// The items of an event at most, but for notices told and activations given back: four of a step, and an entry's.
+pub(crate) const EVENT_ITEMS: usize = 84;
 
 /// The parts of the machine.
 #[derive(Drop)]
 pub(crate) struct Machine<U: UserLevel> {
-    pub(crate) slice: u32,
+    pub(crate) workload: Workload,
     pub(crate) kernel: Kernel<U::Ctx>,
     pub(crate) users: Users<U>,
     // of each processor, the context that runs there
     pub(crate) contexts: Vec<Option<U::Ctx>>,
     pub(crate) trace: Trace,
-    // the number of the last event, and so of all but the opening
+    // the number of the last event
     pub(crate) events: u64,
 }
 
 // No context on any of so many processors.
-fn no_contexts<C: Drop>(alloc: Global, processors: u16) -> Result<Vec<Option<C>>, AllocError> {
+fn no_contexts<C: Drop>(alloc: Global, processors: u16) -> Result<Vec<Option<C>>, AllocError>
+    ensures { IfOk result (λ contexts. contexts.items ≡ replicate processors None) }
+{
     let mut contexts = Vec::new(alloc);
-    for _ in 0..processors {
+    for _p in 0..processors {
         contexts.push(None)?;
     }
     Ok(contexts)
 }
 
 impl<U: UserLevel> Machine<U> {
-    /// The machine at the opening of a workload.
-    pub(crate) fn start(alloc: Global, w: &Workload) -> Result<Self, AllocError> {
+    /// The machine at the opening of a workload. Fails only where memory runs out.
+    pub(crate) fn start(alloc: Global, w: Workload) -> Result<Self, AllocError>
+        ensures opened { IfOk result (λ m. machine_of m ≡ opening U.calls w) }
+        ensures owed { IfOk result (λ m. owed m ≡ 0) }
+        ensures fetched { IfOk result (λ m. (machine_of m).kernel.telling ≡ []) }
+        ensures last { IfOk result (λ m. m.kernel.last ≡ 0) }
+    {
         let mut trace = Trace::new(alloc);
-        let kernel = Kernel::start(alloc, w, &mut trace)?;
+        let kernel = Kernel::start(alloc, &w, &mut trace)?;
+        let users = Users::start(alloc, &w)?;
+        let contexts = no_contexts(alloc, w.processors())?;
         Ok(Machine {
-            slice: w.slice(),
+            workload: w,
             kernel,
-            users: Users::start(alloc, w)?,
-            contexts: no_contexts(alloc, w.processors())?,
+            users,
+            contexts,
             trace,
             events: 0,
         })
     }
 
     // Whether a slice ends with the last event.
-    fn is_slice_end(&self) -> bool {
-        self.slice != 0 && self.events % u64::from(self.slice) == 0
+    fn is_slice_end(&self) -> bool
+        ensures { result ≡ ends_slice (machine_of self.now) }
+    {
+        let slice = u64::from(self.workload.slice());
+        slice != 0 && self.events % slice == 0
     }
 
-    // The context that runs on a processor, as it is handed over.
-    fn stop(&mut self, p: ProcNo) -> Option<Stopped<U::Ctx>> {
+    // The context that runs on a processor, as it is handed over; it runs there no more.
+    fn stop(&mut self, p: ProcNo) -> Option<Stopped<U::Ctx>>
+        requires within { p.0 < self.old.workload.processors }
+        requires stands { (e : ℕ) × Stands U.stands e (machine_of self.old) }
+        ensures held { result ≡ stopped_in U.calls (machine_of self.old) p (owner_of (machine_of self.old).kernel p) }
+        ensures machine { machine_of self.new ≡ without_context p (machine_of self.old) }
+        ensures kernel { self.new.kernel ≡ self.old.kernel }
+        ensures trace { self.new.trace ≡ self.old.trace }
+    {
+        let ctx = self.contexts[usize::from(p.0)].take();
         let s = self.kernel.owner(p)?;
-        let ctx = self.contexts[usize::from(p.0)].take()?;
-        Some(self.users.stopped(s, ctx))
+        Some(self.users.stopped(s, ctx?))
+    }
+
+    // The context of an upcall begins.
+    fn begin(&mut self, p: ProcNo, s: SpaceNo)
+        requires welcomes { Welcomes U.calls U.stands p (machine_of self.old) }
+        requires owner { owner_of (machine_of self.old).kernel p ≡ Some s }
+        ensures machine { machine_of self.new ≡ begun U.calls p s (machine_of self.old) }
+        ensures kernel { self.new.kernel ≡ self.old.kernel }
+        ensures trace { self.new.trace ≡ self.old.trace }
+    {
+        let seen = self.kernel.seen(p, self.events);
+        let ctx = self.users.begin(s, &seen);
+        self.contexts[usize::from(p.0)] = Some(ctx);
+    }
+
+    // The context is told the next notice of its upcall, if one is left; whether one was.
+    fn tell_one(&mut self, p: ProcNo, s: SpaceNo) -> bool
+        requires stands { Stands U.stands self.old.events (machine_of self.old) }
+        requires owner { owner_of (machine_of self.old).kernel p ≡ Some s }
+        requires claimed { AreClaimed (machine_of self.old).kernel s.0 }
+        ensures none { (machine_of self.old).kernel.telling ≡ []
+            → (result ≡ false) × (machine_of self.new ≡ machine_of self.old) }
+        ensures some { (note : Note) (notes : List Note) → (machine_of self.old).kernel.telling ≡ note ∷ notes
+            → (result ≡ true) × (machine_of self.new ≡ told_one U.calls p s note notes (machine_of self.old)) }
+        ensures spends { Spends self.old self.new 0 0 }
+    {
+        let Some((note, held)) = self.kernel.next_note() else {
+            return false;
+        };
+        let Some(mut ctx) = self.contexts[usize::from(p.0)].take() else {
+            unreachable!()
+        };
+        self.users.told(s, &mut ctx, note, held);
+        self.contexts[usize::from(p.0)] = Some(ctx);
+        true
     }
 
     // The context of an upcall is told all its notices.
-    fn tell(&mut self, s: SpaceNo, ctx: &mut U::Ctx) {
-        while let Some((note, held)) = self.kernel.next_note() {
-            self.users.told(s, ctx, note, held);
+    fn tell(&mut self, p: ProcNo, s: SpaceNo)
+        requires stands { Stands U.stands self.old.events (machine_of self.old) }
+        requires owner { owner_of (machine_of self.old).kernel p ≡ Some s }
+        requires claimed { AreClaimed (machine_of self.old).kernel s.0 }
+        ensures machine { machine_of self.new
+            ≡ told_all U.calls p s (machine_of self.old).kernel.telling (machine_of self.old) }
+        ensures stands { Stands U.stands self.new.events (machine_of self.new) }
+        ensures owner { owner_of (machine_of self.new).kernel p ≡ Some s }
+        ensures spends { Spends self.old self.new 0 0 }
+    {
+        let mut left = true;
+        while left {
+            left = self.tell_one(p, s);
         }
     }
 
-    // The context of an upcall begins, is told what happened, and goes on.
-    fn welcome(&mut self, p: ProcNo) {
-        let Some(s) = self.kernel.owner(p) else {
-            return;
+    // The context goes on behind its upcall, or behind an entry that it asked for.
+    fn respond(&mut self, p: ProcNo, s: SpaceNo)
+        requires stands { Stands U.stands self.old.events (machine_of self.old) }
+        requires owner { owner_of (machine_of self.old).kernel p ≡ Some s }
+        ensures machine { machine_of self.new ≡ answered U.calls p s (machine_of self.old) }
+        ensures kernel { self.new.kernel ≡ self.old.kernel }
+        ensures trace { self.new.trace ≡ self.old.trace }
+    {
+        let Some(mut ctx) = self.contexts[usize::from(p.0)].take() else {
+            unreachable!()
         };
-        let seen = self.kernel.seen(p, self.events);
-        let mut ctx = self.users.begin(s, &seen);
-        self.tell(s, &mut ctx);
         let seen = self.kernel.seen(p, self.events);
         self.users.answered(s, &seen, &mut ctx);
         self.contexts[usize::from(p.0)] = Some(ctx);
     }
 
+    // The context of an upcall begins, is told what happened, and goes on.
+    fn welcome(&mut self, p: ProcNo)
+        requires { Welcomes U.calls U.stands p (machine_of self.old) }
+        ensures machine { machine_of self.new
+            ≡ welcomed_in U.calls p (owner_of (machine_of self.old).kernel p) (machine_of self.old) }
+        ensures spends { Spends self.old self.new 0 0 }
+    {
+        let Some(s) = self.kernel.owner(p) else {
+            unreachable!()
+        };
+        self.begin(p, s);
+        self.tell(p, s);
+        self.respond(p, s);
+    }
+
     // An entry that may upcall.
-    fn enter(&mut self, p: ProcNo, entry: Entry<U::Ctx>) {
+    fn enter(&mut self, p: ProcNo, entry: Entry<U::Ctx>)
+        requires within { p.0 < length (machine_of self.old).kernel.lives }
+        requires later { self.old.kernel.last < self.old.events }
+        requires event { self.old.events ≤ MAX_EVENTS }
+        requires fit { IsFit (machine_of self.old).kernel p self.old.events entry }
+        requires fetched { (machine_of self.old).kernel.telling ≡ [] }
+        requires welcomes { (fresh : ActNo) → (machine_of self.old).kernel.acts fresh.0 ≡ None
+            → upcalls (machine_of self.old).kernel p entry ≡ true
+            → Welcomes U.calls U.stands p (kernel_entered p fresh entry (machine_of self.old)) }
+        requires entries { 1 ≤ self.old.kernel.spare }
+        requires room { ENTRY_ITEMS + owed self.old ≤ self.old.trace.spare }
+        ensures machine { ByFresh (machine_of self.old) (machine_of self.new)
+            (λ fresh. entered_on U.calls p fresh entry (machine_of self.old)) }
+        ensures spends { Spends self.old self.new ENTRY_ITEMS 1 }
+    {
         let given = self.kernel.enter(p, self.events, entry, &mut self.trace);
         if given != Given::Nothing {
             self.welcome(p);
@@ -84,31 +198,70 @@ impl<U: UserLevel> Machine<U> {
     }
 
     // An entry that the running context asked for, behind which it goes on.
-    fn hint(&mut self, p: ProcNo, entry: Entry<U::Ctx>) {
+    fn hint(&mut self, p: ProcNo, entry: Entry<U::Ctx>)
+        requires within { p.0 < length (machine_of self.old).kernel.lives }
+        requires later { self.old.kernel.last < self.old.events }
+        requires event { self.old.events ≤ MAX_EVENTS }
+        requires fit { IsFit (machine_of self.old).kernel p self.old.events entry }
+        requires fetched { (machine_of self.old).kernel.telling ≡ [] }
+        requires stands { (fresh : ActNo) → (machine_of self.old).kernel.acts fresh.0 ≡ None
+            → Stands U.stands self.old.events (kernel_entered p fresh entry (machine_of self.old)) }
+        requires entries { 1 ≤ self.old.kernel.spare }
+        requires room { ENTRY_ITEMS + owed self.old ≤ self.old.trace.spare }
+        ensures machine { ByFresh (machine_of self.old) (machine_of self.new)
+            (λ fresh. hinted U.calls p fresh entry (machine_of self.old)) }
+        ensures spends { Spends self.old self.new ENTRY_ITEMS 1 }
+    {
         let _given = self.kernel.enter(p, self.events, entry, &mut self.trace);
-        let Some(s) = self.kernel.owner(p) else {
-            return;
-        };
-        let Some(mut ctx) = self.contexts[usize::from(p.0)].take() else {
-            return;
-        };
-        let seen = self.kernel.seen(p, self.events);
-        self.users.answered(s, &seen, &mut ctx);
-        self.contexts[usize::from(p.0)] = Some(ctx);
+        if let Some(s) = self.kernel.owner(p) {
+            self.respond(p, s);
+        }
     }
 
     // The running context blocks.
-    fn block(&mut self, p: ProcNo, length: u32, page: Option<u16>) {
+    fn block(&mut self, p: ProcNo, length: u32, page: Option<u16>)
+        requires asks { Asks U.stands p (Step.Block length page) (machine_of self.old) }
+        requires later { self.old.kernel.last < self.old.events }
+        requires event { self.old.events ≤ MAX_EVENTS }
+        requires entries { 1 ≤ self.old.kernel.spare }
+        requires room { ENTRY_ITEMS + owed self.old ≤ self.old.trace.spare }
+        ensures machine { ByFresh (machine_of self.old) (machine_of self.new)
+            (λ fresh. blocked U.calls p fresh length page (machine_of self.old)) }
+        ensures spends { Spends self.old self.new ENTRY_ITEMS 1 }
+    {
         let Some(held) = self.stop(p) else {
-            return;
+            unreachable!()
         };
         self.enter(p, Entry::Block { held, length, page });
     }
 
+    // The line of the processor is raised: the context that runs there is stopped, wherever it is.
+    fn interrupt(&mut self, p: ProcNo)
+        requires next { IsNext U.stands (machine_of self.old) }
+        requires within { p.0 < self.old.workload.processors }
+        requires raised { IsSome (line_of (machine_of self.old).kernel p) }
+        requires later { self.old.kernel.last < self.old.events }
+        requires entries { 1 ≤ self.old.kernel.spare }
+        requires room { ENTRY_ITEMS + owed self.old ≤ self.old.trace.spare }
+        ensures machine { ByFresh (machine_of self.old) (machine_of self.new)
+            (λ fresh. interrupted U.calls p fresh (machine_of self.old)) }
+        ensures spends { Spends self.old self.new ENTRY_ITEMS 1 }
+    {
+        let held = self.stop(p);
+        self.enter(p, Entry::Interrupt(held));
+    }
+
     // One step of the context that runs on a processor of a space.
-    fn step(&mut self, p: ProcNo, s: SpaceNo) -> Step {
+    fn step(&mut self, p: ProcNo, s: SpaceNo) -> Step
+        requires next { IsNext U.stands (machine_of self.old) }
+        requires owner { owner_of (machine_of self.old).kernel p ≡ Some s }
+        requires room { 4 ≤ self.old.trace.spare }
+        ensures machine { (machine_of self.new, result) ≡ stepped U.calls p s (machine_of self.old) }
+        ensures kernel { self.new.kernel ≡ self.old.kernel }
+        ensures room { self.old.trace.spare ≤ self.new.trace.spare + 4 }
+    {
         let Some(mut ctx) = self.contexts[usize::from(p.0)].take() else {
-            return Step::Did;
+            unreachable!()
         };
         let seen = self.kernel.seen(p, self.events);
         let asked = self.users.step(s, &seen, &mut ctx, &mut self.trace);
@@ -116,98 +269,194 @@ impl<U: UserLevel> Machine<U> {
         asked
     }
 
-    // What a step asked for; whether it was an entry, which closed the event.
-    fn answer(&mut self, p: ProcNo, asked: Step) -> bool {
+    // The closing of an event with which a slice ends.
+    fn end_slice(&mut self, p: ProcNo)
+        requires within { p.0 < length (machine_of self.old).kernel.lives }
+        requires later { self.old.kernel.last < self.old.events }
+        requires event { self.old.events ≤ MAX_EVENTS }
+        requires room { ENTRY_ITEMS + owed self.old ≤ self.old.trace.spare }
+        ensures machine { machine_of self.new ≡ sliced p (machine_of self.old) }
+        ensures spends { Spends self.old self.new ENTRY_ITEMS 0 }
+    {
+        if self.is_slice_end() {
+            self.kernel.slice_end(p, self.events, &mut self.trace);
+        }
+    }
+
+    // What a step asked for.
+    fn answer(&mut self, p: ProcNo, asked: Step)
+        requires asks { Asks U.stands p asked (machine_of self.old) }
+        requires later { self.old.kernel.last < self.old.events }
+        requires event { self.old.events ≤ MAX_EVENTS }
+        requires entries { 1 ≤ self.old.kernel.spare }
+        requires room { ENTRY_ITEMS + owed self.old ≤ self.old.trace.spare }
+        ensures machine { ByFresh (machine_of self.old) (machine_of self.new)
+            (λ fresh. asked U.calls p fresh asked (machine_of self.old)) }
+        ensures spends { Spends self.old self.new ENTRY_ITEMS 1 }
+    {
         match asked {
-            Step::Did => return false,
+            Step::Did => self.end_slice(p),
             Step::Block { length, page } => self.block(p, length, page),
             Step::More(n) => self.hint(p, Entry::More(n)),
             Step::Idle => self.hint(p, Entry::Idle),
             Step::GiveBack => self.hint(p, Entry::GiveBack),
             Step::InterruptOwn(q) => self.hint(p, Entry::InterruptOwn(q)),
         }
-        true
     }
 
-    // What applies first on a processor; whether it was an entry, which closed the event.
-    fn first(&mut self, p: ProcNo) -> bool {
-        if self.kernel.line(p).is_some() {
-            let held = self.stop(p);
-            self.enter(p, Entry::Interrupt(held));
-            return true;
-        }
-        if let Some(io) = self.kernel.due(self.events) {
-            self.enter(p, Entry::Complete(io));
-            return true;
-        }
+    // What a processor does that no space owns.
+    fn tick(&mut self, p: ProcNo)
+        requires within { p.0 < length (machine_of self.old).kernel.lives }
+        requires later { self.old.kernel.last < self.old.events }
+        requires event { self.old.events ≤ MAX_EVENTS }
+        requires room { ENTRY_ITEMS + owed self.old + 1 ≤ self.old.trace.spare }
+        ensures machine { machine_of self.new ≡ sliced p (ticked p (machine_of self.old)) }
+        ensures spends { Spends self.old self.new EVENT_ITEMS 0 }
+    {
+        self.trace.add(Item {
+            event: self.events,
+            proc: p,
+            what: Record::Tick,
+        });
+        self.end_slice(p);
+    }
+
+    // A step of the running context and what it asked for, or a tick where none runs.
+    fn run(&mut self, p: ProcNo)
+        requires next { IsNext U.stands (machine_of self.old) }
+        requires within { p.0 < self.old.workload.processors }
+        requires low { line_of (machine_of self.old).kernel p ≡ None }
+        requires later { self.old.kernel.last < self.old.events }
+        requires entries { 1 ≤ self.old.kernel.spare }
+        requires room { EVENT_ITEMS + owed self.old ≤ self.old.trace.spare }
+        ensures machine { ByFresh (machine_of self.old) (machine_of self.new)
+            (λ fresh. turned_owned U.calls p fresh (owner_of (machine_of self.old).kernel p) (machine_of self.old)) }
+        ensures spends { Spends self.old self.new EVENT_ITEMS 1 }
+    {
         let Some(s) = self.kernel.owner(p) else {
-            self.trace.add(Item {
-                event: self.events,
-                proc: p,
-                what: Record::Tick,
-            });
-            return false;
+            return self.tick(p);
         };
         let asked = self.step(p, s);
-        self.answer(p, asked)
+        self.answer(p, asked);
     }
 
-    // The closing of an event with which a slice ends.
-    fn end_slice(&mut self, p: ProcNo) {
-        if self.is_slice_end() {
-            self.kernel.slice_end(p, self.events, &mut self.trace);
+    // What applies first: a raised line, an I/O that is due, else a step.
+    fn turn_now(&mut self, p: ProcNo)
+        requires next { IsNext U.stands (machine_of self.old) }
+        requires within { p.0 < self.old.workload.processors }
+        requires later { self.old.kernel.last < self.old.events }
+        requires entries { 1 ≤ self.old.kernel.spare }
+        requires room { EVENT_ITEMS + owed self.old ≤ self.old.trace.spare }
+        ensures machine { ByFresh (machine_of self.old) (machine_of self.new)
+            (λ fresh. turned_now U.calls p fresh (machine_of self.old)) }
+        ensures spends { Spends self.old self.new EVENT_ITEMS 1 }
+    {
+        if self.kernel.line(p).is_some() {
+            return self.interrupt(p);
         }
+        match self.kernel.due(self.events) {
+            Some(io) => self.enter(p, Entry::Complete(io)),
+            None => self.run(p),
+        }
+    }
+
+    // An event begins.
+    fn next(&mut self)
+        requires { self.old.events < MAX_EVENTS }
+        ensures machine { machine_of self.new ≡ next_event (machine_of self.old) }
+        ensures spare { self.new.kernel.spare ≡ self.old.kernel.spare }
+        ensures last { self.new.kernel.last ≡ self.old.kernel.last }
+        ensures trace { self.new.trace ≡ self.old.trace }
+    {
+        self.events += 1;
+        self.kernel.evict(self.events);
     }
 
     /// One event of a processor.
-    pub(crate) fn turn(&mut self, p: ProcNo) {
-        self.events += 1;
-        self.kernel.evict(self.events);
-        if !self.first(p) {
-            self.end_slice(p);
-        }
+    pub(crate) fn turn(&mut self, p: ProcNo)
+        requires between { IsBetween U.stands (machine_of self.old) }
+        requires within { p.0 < self.old.workload.processors }
+        requires event { self.old.events < MAX_EVENTS }
+        requires later { self.old.kernel.last ≤ self.old.events }
+        requires entries { 1 ≤ self.old.kernel.spare }
+        requires room { EVENT_ITEMS + owed self.old ≤ self.old.trace.spare }
+        ensures machine { ByFresh (machine_of self.old) (machine_of self.new)
+            (λ fresh. turned U.calls p fresh (machine_of self.old)) }
+        ensures spends { Spends self.old self.new EVENT_ITEMS 1 }
+    {
+        self.next();
+        self.turn_now(p);
     }
 
-    // The pages that go at so many events from `first` on.
-    fn evict(&mut self, first: u64, n: u16) {
-        for i in 0..n {
-            self.kernel.evict(first + u64::from(i));
-        }
-    }
-
-    // `n` local instructions of the context that runs on a processor, from the next event on.
-    fn go(&mut self, p: ProcNo, n: u16) {
+    // `n` local instructions of the context that runs on a processor, in this event and those behind it.
+    fn go(&mut self, p: ProcNo, n: u16)
+        requires next { IsNext U.stands (machine_of self.old) }
+        requires can { CanGo U.calls (machine_of self.old) p n }
+        requires some { 1 ≤ n }
+        requires within { self.old.events + n ≤ MAX_EVENTS + 1 }
+        requires room { n ≤ self.old.trace.spare }
+        ensures machine { machine_of self.new
+            ≡ gone_in U.calls p n (owner_of (machine_of self.old).kernel p) (machine_of self.old) }
+        ensures kernel { self.new.kernel ≡ self.old.kernel }
+        ensures room { self.new.trace.spare + n ≡ self.old.trace.spare }
+    {
         let Some(s) = self.kernel.owner(p) else {
-            return;
+            unreachable!()
         };
         let Some(mut ctx) = self.contexts[usize::from(p.0)].take() else {
-            return;
+            unreachable!()
         };
-        let seen = self.kernel.seen(p, self.events + 1);
+        let seen = self.kernel.seen(p, self.events);
         self.users.went(s, &seen, &mut ctx, n, &mut self.trace);
         self.contexts[usize::from(p.0)] = Some(ctx);
     }
 
+    // So many events more begin.
+    fn skip(&mut self, n: u16)
+        requires { self.old.events + n ≤ MAX_EVENTS }
+        ensures machine { machine_of self.new ≡ more_events n (machine_of self.old) }
+        ensures spare { self.new.kernel.spare ≡ self.old.kernel.spare }
+        ensures last { self.new.kernel.last ≡ self.old.kernel.last }
+        ensures trace { self.new.trace ≡ self.old.trace }
+    {
+        for _i in 0..n {
+            self.next();
+        }
+    }
+
     /// `n` events of a processor, each a local instruction; no slice ends before the last.
-    pub(crate) fn commit(&mut self, p: ProcNo, n: u16) {
-        let first = self.events + 1;
-        self.kernel.evict(first);
+    pub(crate) fn commit(&mut self, p: ProcNo, n: u16)
+        requires between { IsBetween U.stands (machine_of self.old) }
+        requires can { CanGo U.calls (machine_of self.old) p n }
+        requires some { 1 ≤ n }
+        requires within { p.0 < self.old.workload.processors }
+        requires event { self.old.events + n ≤ MAX_EVENTS }
+        requires later { self.old.kernel.last ≤ self.old.events }
+        requires room { n + ENTRY_ITEMS + owed self.old ≤ self.old.trace.spare }
+        ensures machine { machine_of self.new ≡ committed U.calls p n (machine_of self.old) }
+        ensures spends { Spends self.old self.new (n + ENTRY_ITEMS) 0 }
+    {
+        self.next();
         self.go(p, n);
-        self.evict(first + 1, n - 1);
-        self.events += u64::from(n);
+        self.skip(n - 1);
         self.end_slice(p);
     }
 
     /// How many events there are until a slice ends, if one does.
     pub(crate) fn left_of_slice(&self) -> Option<u64> {
-        if self.slice == 0 {
+        let slice = u64::from(self.workload.slice());
+        if slice == 0 {
             return None;
         }
-        Some(u64::from(self.slice) - self.events % u64::from(self.slice))
+        Some(slice - self.events % slice)
     }
 
     // Whether the context that runs on a processor is inside the package.
-    fn is_inside(&self, p: ProcNo) -> bool {
+    fn is_inside(&self, p: ProcNo) -> bool
+        requires within { p.0 < self.now.workload.processors }
+        requires stands { Stands U.stands self.now.events (machine_of self.now) }
+        ensures { result ≡ is_inside U.calls (machine_of self.now) p.0 }
+    {
         let Some(s) = self.kernel.owner(p) else {
             return false;
         };
@@ -218,9 +467,12 @@ impl<U: UserLevel> Machine<U> {
     }
 
     /// Whether some running context is inside the package.
-    pub(crate) fn is_any_inside(&self) -> bool {
-        for p in 0..self.contexts.len() {
-            if self.is_inside(ProcNo(p as u16)) {
+    pub(crate) fn is_any_inside(&self) -> bool
+        requires { Stands U.stands self.now.events (machine_of self.now) }
+        ensures { result ≡ is_any_inside U.calls (machine_of self.now) }
+    {
+        for p in 0..self.workload.processors() {
+            if self.is_inside(ProcNo(p)) {
                 return true;
             }
         }
@@ -228,7 +480,11 @@ impl<U: UserLevel> Machine<U> {
     }
 
     /// Where the context that runs on a processor stands.
-    pub(crate) fn context(&self, p: ProcNo) -> SeatState {
+    pub(crate) fn context(&self, p: ProcNo) -> SeatState
+        requires within { p.0 < self.now.workload.processors }
+        requires stands { Stands U.stands self.now.events (machine_of self.now) }
+        ensures { result ≡ local_on U.calls (machine_of self.now) p }
+    {
         let Some(s) = self.kernel.owner(p) else {
             return SeatState::Away;
         };
@@ -237,4 +493,5 @@ impl<U: UserLevel> Machine<U> {
             Some(ctx) => self.users.local(s, ctx),
         }
     }
+}
 }
