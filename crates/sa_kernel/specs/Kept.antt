@@ -71,7 +71,6 @@ module _ {C : Type 0} where
   pub record FitsComplete (k : State C) (p : ProcNo) (event : ℕ) (io : IoNo) : Type 0 where
     pub here : Io
     pub under_way : io_at io.0 k.under_way ≡ Some here
-    pub due : here.ends ≤ event
     pub low : line_of k p ≡ None
 
   pub record FitsMore (k : State C) (p : ProcNo) (n : ℕ) : Type 0 where

@@ -1,1 +1,6 @@
 pub mod Running
+pub mod Effects
+pub mod Phases
+pub mod Calls
+pub mod Turns
+pub mod Runs

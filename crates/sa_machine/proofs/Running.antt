@@ -9,8 +9,8 @@ use Rattle.sa_base.specs.declared.context.Stopped.{Stopped}
 use Rattle.sa_lemmas.specs.Function.{put}
 use Rattle.sa_lemmas.proofs.FunctionUpdates.{put-same, put-at, put-other}
 use Rattle.sa_acts.specs.declared.acts.Act.{Act}
-use Rattle.sa_acts.specs.Table.{runs_in, held_of, holding, taken_from}
-use Rattle.sa_kernel.specs.Sound.{AreAlive, RunsIn}
+use Rattle.sa_acts.specs.Table.{runs_in, holding, taken_from}
+use Rattle.sa_kernel.specs.Sound.{AreAlive}
 use Rattle.sa_kernel.specs.Entries.{without_acts}
 use Rattle.sa_kernel.proofs.LifeLemmas.{cell-cases}
 use Rattle.sa_machine.specs.Standing.{is_life, running, held_or_running, context_in, contexts_in}
@@ -165,8 +165,8 @@ module _ {C : Type 0} where
           | inl y ↦
               let at : new b ≡ Some (record (runs_in s) { held = Some held }) = put-at acts a.0 b (holding held (acts a.0)) y ∙ ap (holding held) runs.2 in
               let ran : running lives contexts b ≡ Some held.ctx =
-                  ap (running lives contexts) y
-                  ∙ running-at lives contexts p a.0 (ap (is_life a.0) runs.1 ∙ life-same a.0) (only-one owners lives acts p a runs.0 runs.1) size ∙ is in
+              ap (running lives contexts) y
+              ∙ running-at lives contexts p a.0 (ap (is_life a.0) runs.1 ∙ life-same a.0) (only-one owners lives acts p a runs.0 runs.1) size ∙ is in
               let was : acts b ≡ Some (runs_in s) = ap acts y ∙ runs.2 in
               ap (λ (x : Option (Act C)). context_in t x (running lives contexts b)) was
               ∙ ap (context_in t (Some (runs_in s))) ran
@@ -202,9 +202,9 @@ module _ {C : Type 0} where
         elim (cases_eq b n.0) [
           | inl y ↦
               let ran : running ls cs n.0 ≡ Some c =
-                  running-at ls cs p n.0 (ap (is_life n.0) (get_or-set_same lives p (Some n) None free.within) ∙ life-same n.0) (only-fresh free)
-                  (length-set contexts p (Some c) ∙ free.size ∙ sym (length-set lives p (Some n)))
-                  ∙ get_or-set_same contexts p (Some c) None (omega (arith, free.within, free.size)) in
+              running-at ls cs p n.0 (ap (is_life n.0) (get_or-set_same lives p (Some n) None free.within) ∙ life-same n.0) (only-fresh free)
+              (length-set contexts p (Some c) ∙ free.size ∙ sym (length-set lives p (Some n)))
+              ∙ get_or-set_same contexts p (Some c) None (omega (arith, free.within, free.size)) in
               put-at (contexts_in lives acts contexts s.0) n.0 b (Some c) y
               ∙ sym (ap (contexts_in ls new cs s.0) y
               ∙ ap (λ (x : Option (Act C)). context_in s.0 x (running ls cs n.0)) (put-same acts n.0 (Some (runs_in s)))

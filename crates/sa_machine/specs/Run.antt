@@ -1,16 +1,19 @@
 -- A run: the opening, and then turns and commits in any order.
-use Rattle.std.specs.Prelude.{◌≡◌, ℕ, zero, suc, ◌+◌, None, List, [], ◌∷◌, length, replicate}
+use Rattle.std.specs.Prelude.{◌≡◌, ℕ, ◌+◌, Some, None, List, [], ◌∷◌, replicate, slice_get}
 use Rattle.sa_base.specs.declared.number.ProcNo.{ProcNo}
+use Rattle.sa_base.specs.declared.number.SpaceNo.{SpaceNo}
 use Rattle.sa_base.specs.declared.number.ActNo.{ActNo}
 use Rattle.sa_instr.specs.Space.{SpaceView}
 use Rattle.sa_instr.specs.Workload.{WorkloadView}
 use Rattle.sa_abstract.specs.Calls.{Calls}
 use Rattle.sa_abstract.specs.Setting.{Setting}
 use Rattle.sa_assign.specs.Aims.{space_no}
-use Rattle.sa_kernel.specs.State.{State, Scene}
+use Rattle.sa_abstract.specs.Keeps.{GoesOn}
+use Rattle.sa_kernel.specs.State.{owner_of}
 use Rattle.sa_kernel.specs.Opening.{opened}
 use Rattle.sa_machine.specs.Machine.{Machine}
 use Rattle.sa_machine.specs.Turn.{turned, committed}
+use Rattle.sa_machine.specs.End.{local_on}
 
 -- the setting of a space, by its number and what the workload declares of it
 abbrev pub setting : WorkloadView → ℕ → SpaceView → Setting
@@ -38,6 +41,14 @@ module _ {U C : Type 0} (f : Calls U C) where
     pub fresh : ActNo
     pub unused : m.kernel.acts fresh.0 ≡ None
     pub is : after ≡ turned f p fresh m
+
+  -- the context that runs on a processor stands at an instruction of its thread, and the next n are local
+  pub record CanGo (m : Machine U C) (p : ProcNo) (n : ℕ) : Type 0 where
+    pub space : SpaceNo
+    pub def : SpaceView
+    pub owner : owner_of m.kernel p ≡ Some space
+    pub is_def : slice_get m.workload.spaces space.0 ≡ Some def
+    pub goes : GoesOn (setting m.workload space.0 def) n (local_on f m p)
 
 -- what is done to a machine: a turn of a processor, or so many local instructions of the context that runs there
 pub data Move : Type 0 where

@@ -57,3 +57,8 @@ pub record Stands {U C : Type 0} (stands : Standing U C) (e : ℕ) (m : Machine 
   -- a context is there exactly where an activation runs
   pub there : (p : ℕ) → is_some (slice_index_or m.contexts p None) ≡ is_some (slice_index_or m.kernel.lives p None)
   pub values : AreValues stands m.workload e m.users (contexts_of m)
+
+-- between two events: the steps of the last one are done, and the context of its upcall has fetched all that it was told
+pub record IsBetween {U C : Type 0} (stands : Standing U C) (m : Machine U C) : Type 0 where
+  pub standing : Stands stands m.event m
+  pub fetched : m.kernel.telling ≡ []

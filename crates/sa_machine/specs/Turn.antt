@@ -1,5 +1,5 @@
 -- One event of a processor.
-use Rattle.std.specs.Prelude.{ℕ, zero, suc, ◌+◌, ◌%◌, ◌==◌, Bool, true, false, ◌&&◌, not, Option, Some, None, List, [], ◌∷◌, ◌++◌}
+use Rattle.std.specs.Prelude.{ℕ, zero, suc, ◌+◌, ◌%◌, ◌==◌, Bool, true, false, ◌&&◌, not, Option, Some, None, List, [], ◌∷◌}
 use Rattle.std.specs.Option.{option_map}
 use Rattle.sa_base.specs.declared.number.ProcNo.{ProcNo}
 use Rattle.sa_base.specs.declared.number.SpaceNo.{SpaceNo}
@@ -14,7 +14,7 @@ use Rattle.sa_abstract.specs.declared.answer.Step.TheVariants.{Did, Block, More,
 use Rattle.sa_devices.specs.Ios.{due_of, io_no}
 use Rattle.sa_kernel.specs.declared.entry.Entry.{Entry}
 use Rattle.sa_kernel.specs.declared.entry.Entry.TheVariants.{Interrupt, Block as BlockEntry, Complete, More as MoreEntry, Idle as IdleEntry, GiveBack as GiveBackEntry, InterruptOwn as InterruptOwnEntry}
-use Rattle.sa_kernel.specs.State.{State, owner_of, line_of, says}
+use Rattle.sa_kernel.specs.State.{owner_of, line_of, says}
 use Rattle.sa_kernel.specs.Closing.{closed}
 use Rattle.sa_kernel.specs.Entries.{entered, fetched, held_for, evicted_at}
 use Rattle.sa_kernel.specs.Kept.{upcalls}
