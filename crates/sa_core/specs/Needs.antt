@@ -13,6 +13,9 @@ use Rattle.sa_kernel.specs.Sound.{AreClaimed}
 use Rattle.sa_machine.specs.Machine.{Machine, user_of, seen_on, begun}
 use Rattle.sa_machine.specs.Run.{setting}
 use Rattle.sa_machine.specs.Standing.{Stands, IsBetween}
+use Rattle.sa_core.specs.declared.machine.Machine.{Machine as Parts}
+use Rattle.sa_core.specs.View.{machine_of}
+use Rattle.sa_core.specs.Room.{HasRoom}
 
 module _ {U C : Type 0} where
   -- the machine is another by f at some number that was not in use
@@ -52,3 +55,11 @@ module _ {U C : Type 0} (stands : Standing U C) where
     pub is_def : slice_get m.workload.spaces space.0 ≡ Some def
     pub low : line_of m.kernel p ≡ None
     pub can : IsAsked (setting m.workload space.0 def) (seen_on m p space) asked
+
+-- what always holds of a run: it stands between two events, within its budget, and there is room for so many more
+pub record IsRunning {U C : Type 0} (stands : Standing U C) (m : Parts U C) (budget spare : ℕ) : Type 0 where
+  pub between : IsBetween stands (machine_of m)
+  pub within : m.events ≤ budget
+  pub few : budget ≤ MAX_EVENTS
+  pub last : m.kernel.last ≤ m.events
+  pub room : HasRoom m spare

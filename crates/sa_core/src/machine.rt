@@ -1,5 +1,5 @@
 // The machine in the middle of an event.
-ghost use Rattle.std.specs.Prelude.{◌≡◌, ℕ, ◌+◌, ◌≤◌, ◌<◌, true, false, List, Some, None, IfOk, IsSome, [], ◌∷◌, length, replicate};
+ghost use Rattle.std.specs.Prelude.{◌≡◌, ℕ, ◌+◌, ◌*◌, ◌≤◌, ◌<◌, true, false, List, Some, None, IfOk, IfSome, OnOk, IsSome, [], ◌∷◌, length, replicate};
 ghost use Rattle.sa_base.specs.declared.number.ActNo.{ActNo};
 ghost use Rattle.sa_base.specs.declared.record.Note.{Note};
 ghost use Rattle.sa_base.specs.declared.limits.TheConstants.{MAX_EVENTS};
@@ -8,11 +8,11 @@ ghost use Rattle.sa_kernel.specs.Kept.{IsFit, upcalls};
 ghost use Rattle.sa_kernel.specs.Sound.{AreClaimed};
 ghost use Rattle.sa_machine.specs.Machine.{begun, answered, stopped_in, stepped, without_context};
 ghost use Rattle.sa_machine.specs.Turn.{next_event, more_events, ticked, ends_slice, sliced, kernel_entered, told_one, told_all, welcomed_in, entered_on, hinted, blocked, interrupted, asked, turned_owned, turned_now, turned, gone_in, committed};
-ghost use Rattle.sa_machine.specs.End.{is_inside, is_any_inside, local_on};
+ghost use Rattle.sa_machine.specs.End.{is_inside, is_any_inside, local_on, within_slice};
 ghost use Rattle.sa_machine.specs.Run.{opening, CanGo};
 ghost use Rattle.sa_machine.specs.Standing.{Stands, IsBetween};
 ghost use Rattle.sa_core.specs.View.{machine_of};
-ghost use Rattle.sa_core.specs.Room.{owed, Spends};
+ghost use Rattle.sa_core.specs.Room.{owed, HasRoom, Spends};
 ghost use Rattle.sa_core.specs.Needs.{ByFresh, Welcomes, IsNext, Asks};
 
 use crate::users::Users;
@@ -47,6 +47,16 @@ fn no_contexts<C: Drop>(alloc: Global, processors: u16) -> Result<Vec<Option<C>>
         contexts.push(None)?;
     }
     Ok(contexts)
+}
+
+// The items of so many events, and twice those that an entry needs, for what is owed already.
+fn items_for(events: usize, need: usize) -> Option<usize>
+    ensures { IfSome result (λ items. EVENT_ITEMS * events + need + need ≤ items) }
+{
+    EVENT_ITEMS
+        .checked_mul(events)?
+        .checked_add(need)?
+        .checked_add(need)
 }
 
 impl<U: UserLevel> Machine<U> {
@@ -200,7 +210,8 @@ impl<U: UserLevel> Machine<U> {
 
     // An entry that the running context asked for, behind which it goes on.
     fn hint(&mut self, p: ProcNo, entry: Entry<U::Ctx>)
-        requires within { p.0 < length (machine_of self.old).kernel.lives }
+        requires within { p.0 < self.old.workload.processors }
+        requires now { Stands U.stands self.old.events (machine_of self.old) }
         requires later { self.old.kernel.last < self.old.events }
         requires event { self.old.events ≤ MAX_EVENTS }
         requires fit { IsFit (machine_of self.old).kernel p self.old.events entry }
@@ -285,17 +296,17 @@ impl<U: UserLevel> Machine<U> {
     }
 
     // What a step asked for.
-    fn answer(&mut self, p: ProcNo, asked: Step)
-        requires asks { Asks U.stands p asked (machine_of self.old) }
+    fn answer(&mut self, p: ProcNo, step: Step)
+        requires asks { Asks U.stands p step (machine_of self.old) }
         requires later { self.old.kernel.last < self.old.events }
         requires event { self.old.events ≤ MAX_EVENTS }
         requires entries { 1 ≤ self.old.kernel.spare }
         requires room { ENTRY_ITEMS + owed self.old ≤ self.old.trace.spare }
         ensures machine { ByFresh (machine_of self.old) (machine_of self.new)
-            (λ fresh. asked U.calls p fresh asked (machine_of self.old)) }
+            (λ fresh. asked U.calls p fresh step (machine_of self.old)) }
         ensures spends { Spends self.old self.new ENTRY_ITEMS 1 }
     {
-        match asked {
+        match step {
             Step::Did => self.end_slice(p),
             Step::Block { length, page } => self.block(p, length, page),
             Step::More(n) => self.hint(p, Entry::More(n)),
@@ -441,6 +452,31 @@ impl<U: UserLevel> Machine<U> {
         self.go(p, n);
         self.skip(n - 1);
         self.end_slice(p);
+    }
+
+    /// Makes room for `events` events. An error changes nothing but the room, which does not shrink.
+    pub(crate) fn reserve(&mut self, events: usize) -> Result<(), AllocError>
+        requires fetched { (machine_of self.old).kernel.telling ≡ [] }
+        ensures ok { OnOk result (HasRoom self.new events) }
+        ensures machine { machine_of self.new ≡ machine_of self.old }
+        ensures last { self.new.kernel.last ≡ self.old.kernel.last }
+        ensures entries { self.old.kernel.spare ≤ self.new.kernel.spare }
+        ensures items { self.old.trace.spare ≤ self.new.trace.spare }
+    {
+        let items = items_for(events, self.kernel.need()).ok_or(AllocError)?;
+        self.kernel.reserve(events)?;
+        self.trace.reserve(items)
+    }
+
+    /// How many of `n` events are not behind the end of a slice.
+    pub(crate) fn within_slice(&self, n: u64) -> u64
+        ensures { result ≡ within_slice n (machine_of self.now) }
+    {
+        let slice = u64::from(self.workload.slice());
+        if slice == 0 {
+            return n;
+        }
+        n.min(slice - self.events % slice)
     }
 
     // Whether the context that runs on a processor is inside the package.

@@ -37,10 +37,10 @@ module _ {U C : Type 0} (f : Calls U C) (stands : Standing U C) (keep : Keeps f 
   rests-more w e (suc n) g m rest =
       subst (λ (i : ℕ). Rests f stands keep w e i (more_events n (next_event m))) (omega arith) (rests-more w e n (g + 1) (next_event m) (rests-next f stands keep w e g m rest))
 
-  gone-is : (m : Machine U C) (p : ProcNo) (s : SpaceNo) (n : ℕ) → (here : IsAt f stands keep m p s) → gone f p s n m ≡ gone_to f p s (f.went here.user (seen_on m p s) here.ctx n) m
+  pub gone-is : (m : Machine U C) (p : ProcNo) (s : SpaceNo) (n : ℕ) → (here : IsAt f stands keep m p s) → gone f p s n m ≡ gone_to f p s (f.went here.user (seen_on m p s) here.ctx n) m
   gone-is m p s n here = rw (here.is_user, here.is_ctx) refl
 
-  local-is : (m : Machine U C) (p : ProcNo) (s : SpaceNo) → (here : IsAt f stands keep m p s) → local_on f m p ≡ f.local here.user here.ctx
+  pub local-is : (m : Machine U C) (p : ProcNo) (s : SpaceNo) → (here : IsAt f stands keep m p s) → local_on f m p ≡ f.local here.user here.ctx
   local-is m p s here =
       ap (λ (o : Option SpaceNo). local_in f m p o) here.owner
       ∙ ap (λ (u : Option U). local_by f u (get_or m.contexts p.0 None)) here.is_user

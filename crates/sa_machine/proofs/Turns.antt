@@ -1,6 +1,7 @@
 -- What a machine keeps through its events.
 use Rattle.std.proofs.Common.{◌≡◌, ◌≢◌, ℕ, zero, suc, ◌+◌, ◌-◌, ◌<◌, ◌≤◌, Bool, true, false, Option, Some, None, is_some, IsSome, IfSome, List, [], ◌∷◌, ◌++◌, get_or, slice_get, slice_set, length, Contains, refl, sym, ap, subst, ◌∙◌, inl, inr, arith}
 use Rattle.std.specs.Option.{option_map}
+use Rattle.std.proofs.lemmas.List.{length-set}
 use Rattle.std.proofs.lemmas.Option.{same_Some}
 use Rattle.std.specs.Int.{bit_at}
 use Rattle.sa_base.specs.declared.number.ProcNo.{ProcNo}
@@ -15,7 +16,7 @@ use Rattle.sa_lemmas.specs.Function.{put}
 use Rattle.sa_lemmas.proofs.FunctionUpdates.{put-same, put-other}
 use Rattle.sa_instr.specs.Workload.{WorkloadView}
 use Rattle.sa_abstract.specs.Calls.{Calls}
-use Rattle.sa_abstract.specs.Keeps.{Standing, Keeps, IsAsked, IsStepped}
+use Rattle.sa_abstract.specs.Keeps.{Standing, Keeps, IsBefore, IsAsked, IsStepped}
 use Rattle.sa_abstract.specs.declared.answer.Step.{Step}
 use Rattle.sa_abstract.specs.declared.answer.Step.TheVariants.{Did, Block, More, Idle, GiveBack, InterruptOwn}
 use Rattle.sa_acts.specs.declared.acts.Act.{Act}
@@ -74,50 +75,82 @@ module _ {U C : Type 0} (f : Calls U C) (stands : Standing U C) (keep : Keeps f 
       }
 
   -- behind an upcall the context begins, is told, and goes on
-  read-at : {A : Type 0} (xs : List A) (i : ℕ) → i < length xs → (x : A) × (slice_get xs i ≡ Some x)
+  pub read-at : {A : Type 0} (xs : List A) (i : ℕ) → i < length xs → (x : A) × (slice_get xs i ≡ Some x)
   read-at [] i below = absurd (omega (arith, below))
   read-at (x ∷ xs) zero below = (x, refl)
   read-at (x ∷ xs) (suc i) below = read-at xs i (omega (arith, below))
 
-  begun-is : (p : ProcNo) (s : SpaceNo) (m : Machine U C) (u : U) → user_of m s ≡ Some u
+  pub begun-is : (p : ProcNo) (s : SpaceNo) (m : Machine U C) (u : U) → user_of m s ≡ Some u
       → begun f p s m ≡ with_pair p s (f.begun u (seen_on m p s)).0 (f.begun u (seen_on m p s)).1 m
   begun-is p s m u user = rw user refl
 
-  rests-welcomed : (w : WorkloadView) (e g : ℕ) (m : Machine U C) (p : ProcNo) (s : SpaceNo) (n : ActNo) (lives : List (Option ActNo)) (acts : ℕ → Option (Act C)) (k : State C) (items : List Item)
+  -- an upcall was made in a fresh activation, whose context can begin
+  pub record Welcomed (w : WorkloadView) (e g : ℕ) (p : ProcNo) (m : Machine U C) : Type 0 where
+    pub space : SpaceNo
+    pub user : U
+    pub owner : owner_of m.kernel p ≡ Some space
+    pub is_user : user_of m space ≡ Some user
+    pub before : IsBefore stands user (seen_on m p space)
+    pub within : p.0 < length m.kernel.lives
+    pub place : p.0 < length m.contexts
+    pub begins : Tells f stands keep w e g p space m.kernel.telling (begun f p space m)
+
+  welcomed-new : (w : WorkloadView) (e g : ℕ) (m : Machine U C) (p : ProcNo) (s : SpaceNo) (n : ActNo) (lives : List (Option ActNo)) (acts : ℕ → Option (Act C)) (k : State C) (items : List Item)
       → Paused stands e p lives acts m → IsSound k → k.lives ≡ slice_set lives p.0 (Some n) → k.acts ≡ put acts n.0 (Some (runs_in s)) → length k.demands ≡ length m.workload.spaces
-      → acts n.0 ≡ None → IsUpcalled k p n → m.workload ≡ w → m.event ≡ g → Rests w e g (welcomed_in f p (owner_of k p) (record m { kernel = k; items = items }))
-  rests-welcomed w e g m p s n lives acts k items paused sound new_lives new_acts demands unused up workload event =
+      → acts n.0 ≡ None → IsUpcalled k p n → m.workload ≡ w → m.event ≡ g → Welcomed w e g p (record m { kernel = k; items = items })
+  welcomed-new w e g m p s n lives acts k items paused sound new_lives new_acts demands unused up workload event =
       let t : SpaceNo = up.space in
       let here : Some (runs_in s) ≡ k.acts n.0 = sym (ap (λ (fs : ℕ → Option (Act C)). fs n.0) new_acts ∙ put-same acts n.0 (Some (runs_in s))) in
       let same : s ≡ t = ap space_of (here ∙ up.act) in
       let new : k.acts ≡ put acts n.0 (Some (runs_in t)) = new_acts ∙ ap (λ (z : SpaceNo). put acts n.0 (Some (runs_in z))) same in
       let owned : t.0 < length k.demands = sound.formed.owners p.0 t up.owner in
       let u = read-at m.users t.0 (omega (arith, owned, demands, paused.users)) in
+      let d = read-at m.workload.spaces t.0 (omega (arith, owned, demands)) in
       let after : Machine U C = record m { kernel = k; items = items } in
       let seen = seen_on after p t in
       let sees : p.0 < m.workload.processors = omega (arith, paused.within, paused.lives) in
-      let first : Tells f stands keep w e g p t k.telling (begun f p t after) =
-      subst (λ (z : Machine U C). Tells f stands keep w e g p t k.telling z) (sym (begun-is p t after u.0 u.1)) (record {
-        workload = workload;
-        event = event;
-        standing = stands-begun f stands keep e m p t n lives acts k items u.0 seen paused sound new_lives new demands unused u.1 sees;
-        claimed = up.told;
+      let long : length k.lives ≡ length lives = ap (λ (ls : List (Option ActNo)). length ls) new_lives ∙ length-set lives p.0 (Some n) in
+      record {
+        space = t;
+        user = u.0;
         owner = up.owner;
-        telling = refl;
-      }) in
-      let told = tells-all f stands keep w e g p t k.telling (begun f p t after) first in
-      subst (λ (o : Option SpaceNo). Rests w e g (welcomed_in f p o after)) (sym up.owner)
-      (rests-answered w e g (told_all f p t k.telling (begun f p t after)) p t told.standing told.owner told.telling told.workload told.event)
+        is_user = u.1;
+        before = record {
+          setting = setting m.workload t.0 d.0;
+          event = e;
+          others = contexts_in lives acts m.contexts t.0;
+          value = paused.values t.0 u.0 d.0 u.1 d.1;
+          sees = sees;
+        };
+        within = omega (arith, paused.within, long);
+        place = omega (arith, paused.within, paused.lives, paused.contexts);
+        begins = subst (λ (z : Machine U C). Tells f stands keep w e g p t k.telling z) (sym (begun-is p t after u.0 u.1)) (record {
+          workload = workload;
+          event = event;
+          standing = stands-begun f stands keep e m p t n lives acts k items u.0 seen paused sound new_lives new demands unused u.1 sees;
+          claimed = up.told;
+          owner = up.owner;
+          telling = refl;
+        });
+      }
+
+  rests-welcomed : (w : WorkloadView) (e g : ℕ) (m : Machine U C) (p : ProcNo) → Welcomed w e g p m → Rests w e g (welcomed_in f p (owner_of m.kernel p) m)
+  rests-welcomed w e g m p new =
+      let t = new.space in
+      let first = new.begins in
+      let told = tells-all f stands keep w e g p t m.kernel.telling (begun f p t m) first in
+      subst (λ (o : Option SpaceNo). Rests w e g (welcomed_in f p o m)) (sym new.owner)
+      (rests-answered w e g (told_all f p t m.kernel.telling (begun f p t m)) p t told.standing told.owner told.telling told.workload told.event)
 
   -- an entry
 
-  sound-after : (e : ℕ) (m : Machine U C) (p : ProcNo) (n : ActNo) (entry : Entry C) → Stands stands e m → m.kernel.telling ≡ [] → p.0 < length m.kernel.lives
+  pub sound-after : (e : ℕ) (m : Machine U C) (p : ProcNo) (n : ActNo) (entry : Entry C) → Stands stands e m → m.kernel.telling ≡ [] → p.0 < length m.kernel.lives
       → IsFit m.kernel p m.event entry → m.kernel.acts n.0 ≡ None → IsSound (entered m.event p n entry (scene_of m)).state
   sound-after e m p n entry st fetched within fit unused =
       sound-closed m.event p (entered_as m.event p n entry (scene_of m)) (sound-entered_as m.event p n entry (scene_of m) within fit unused fetched st.sound)
 
   -- .. behind which the same activations run
-  rests-entered : (w : WorkloadView) (e g : ℕ) (m : Machine U C) (p : ProcNo) (n : ActNo) (entry : Entry C) → Rests w e g m → p.0 < length m.kernel.lives
+  pub rests-entered : (w : WorkloadView) (e g : ℕ) (m : Machine U C) (p : ProcNo) (n : ActNo) (entry : Entry C) → Rests w e g m → p.0 < length m.kernel.lives
       → IsFit m.kernel p m.event entry → m.kernel.acts n.0 ≡ None → SameRuns m.kernel (entered_as m.event p n entry (scene_of m)).state → Rests w e g (kernel_entered p n entry m)
   rests-entered w e g m p n entry rest within fit unused same =
       let x = entered_as m.event p n entry (scene_of m) in
@@ -149,7 +182,7 @@ module _ {U C : Type 0} (f : Calls U C) (stands : Standing U C) (keep : Keeps f 
       nothing : (act : Act C) → act.held ≡ None → (t : ℕ) → context_in t (Some act) None ≡ None
       nothing act none t = if-none _ _ (ap (λ (h : Option (Stopped C)). Rattle.sa_machine.specs.Standing.held_or_running h None) none)
 
-  rests-given : (w : WorkloadView) (e g : ℕ) (m : Machine U C) (p : ProcNo) (n : ActNo) (s : SpaceNo) → Rests w e g m → p.0 < length m.kernel.lives → owner_of m.kernel p ≡ Some s
+  pub rests-given : (w : WorkloadView) (e g : ℕ) (m : Machine U C) (p : ProcNo) (n : ActNo) (s : SpaceNo) → Rests w e g m → p.0 < length m.kernel.lives → owner_of m.kernel p ≡ Some s
       → IsFit m.kernel p m.event GiveBackEntry → m.kernel.acts n.0 ≡ None → Rests w e g (kernel_entered p n GiveBackEntry m)
   rests-given w e g m p n s rest within owner fit unused =
       let k = m.kernel in
@@ -201,7 +234,8 @@ module _ {U C : Type 0} (f : Calls U C) (stands : Standing U C) (keep : Keeps f 
       go true is =
           let start = pauses.started is in
           let all = starts-same k x.state y.state p n start.0 start.1 (same-closed m.event p x) in
-          rests-welcomed w e g m p start.0 n k.lives k.acts y.state y.items pauses.paused sound all.lives all.acts (all.demands ∙ pauses.demands) pauses.unused (up is) workload event
+          rests-welcomed w e g (kernel_entered p n entry m) p
+          (welcomed-new w e g m p start.0 n k.lives k.acts y.state y.items pauses.paused sound all.lives all.acts (all.demands ∙ pauses.demands) pauses.unused (up is) workload event)
       go false is =
           let all = same-again k x.state y.state (pauses.same is) (same-closed m.event p x) in record {
             standing = stands-left f stands keep e m p k.lives k.acts y.state y.items pauses.paused sound all.lives all.acts (all.demands ∙ pauses.demands);
@@ -212,7 +246,7 @@ module _ {U C : Type 0} (f : Calls U C) (stands : Standing U C) (keep : Keeps f 
 
   -- a context is set aside
 
-  stopped-is : (m : Machine U C) (p : ProcNo) (s : SpaceNo) → (here : IsAt f stands keep m p s)
+  pub stopped-is : (m : Machine U C) (p : ProcNo) (s : SpaceNo) → (here : IsAt f stands keep m p s)
       → stopped_in f m p (owner_of m.kernel p) ≡ Some (record { ctx = here.ctx; thread = f.thread here.user here.ctx; idle = f.idle here.user here.ctx })
   stopped-is m p s here =
       ap (λ (o : Option SpaceNo). stopped_in f m p o) here.owner
@@ -235,6 +269,20 @@ module _ {U C : Type 0} (f : Calls U C) (stands : Standing U C) (keep : Keeps f 
       (sound-after e m p n entry st rest.fetched within fit unused)
       (λ up. upcalled-closed m.event p x p n (upcalled-entered_as m.event p n entry (scene_of m) st.sound.claimed.told_to up within unused rest.fetched st.sound.formed st.sound.claimed.once))
 
+  pub welcomed-upcall : (w : WorkloadView) (e g : ℕ) (m : Machine U C) (p : ProcNo) (n : ActNo) (entry : Entry C) (k : State C) → Rests w e g m → p.0 < length m.kernel.lives
+      → IsFit m.kernel p m.event entry → m.kernel.acts n.0 ≡ None → Pauses e (without_context p m) p n entry k → upcalls m.kernel p entry ≡ true
+      → Welcomed w e g p (kernel_entered p n entry (without_context p m))
+  welcomed-upcall w e g m p n entry k rest within fit unused pauses is =
+      let st = rest.standing in
+      let x = entered_as m.event p n entry (scene_of m) in
+      let y = closed m.event p x in
+      let start = pauses.started is in
+      let all = starts-same k x.state y.state p n start.0 start.1 (same-closed m.event p x) in
+      welcomed-new w e g (without_context p m) p start.0 n k.lives k.acts y.state y.items pauses.paused (sound-after e m p n entry st rest.fetched within fit unused)
+      all.lives all.acts (all.demands ∙ pauses.demands) pauses.unused
+      (upcalled-closed m.event p x p n (upcalled-entered_as m.event p n entry (scene_of m) st.sound.claimed.told_to is within unused rest.fetched st.sound.formed st.sound.claimed.once))
+      rest.workload rest.event
+
   -- .. by an interrupt
   pauses-aside : (e : ℕ) (m : Machine U C) (p : ProcNo) (n : ActNo) (s : SpaceNo) (entry : Entry C) (k : State C) (held : Stopped C) → Stands stands e m → m.kernel.telling ≡ []
       → m.kernel.acts n.0 ≡ None → (here : IsAt f stands keep m p s) → held.ctx ≡ here.ctx → SetsAside m.kernel k p here.act held
@@ -253,9 +301,15 @@ module _ {U C : Type 0} (f : Calls U C) (stands : Standing U C) (keep : Keeps f 
     same = same;
   }
 
+  -- an entry fits a processor whose context is set aside, or that has none
+  pub record CanEnter (e : ℕ) (m : Machine U C) (p : ProcNo) (n : ActNo) (entry : Entry C) : Type 0 where
+    pub state : State C
+    pub fit : IsFit m.kernel p m.event entry
+    pub pauses : Pauses e (without_context p m) p n entry state
+
   interrupted-some : (w : WorkloadView) (e g : ℕ) (m : Machine U C) (p : ProcNo) (n : ActNo) (s : SpaceNo) (raised : ℕ) (held : Stopped C) → Rests w e g m → p.0 < length m.kernel.lives
       → line_of m.kernel p ≡ Some raised → m.kernel.acts n.0 ≡ None → (here : IsAt f stands keep m p s) → held.ctx ≡ here.ctx
-      → Rests w e g (entered_on f p n (Interrupt (Some held)) (without_context p m))
+      → CanEnter e m p n (Interrupt (Some held))
   interrupted-some w e g m p n s raised held rest within line unused here is =
       let k = m.kernel in
       let low : Scene C = record { state = with_line p None k; items = m.items } in
@@ -264,12 +318,14 @@ module _ {U C : Type 0} (f : Calls U C) (stands : Standing U C) (keep : Keeps f 
       let mine : SetsAside k y.state p here.act held = record { lives = aside.lives; acts = aside.acts; telling = aside.telling; pages = aside.pages; demands = aside.demands } in
       let aims = aims-at m.event p n (aim_of k p) y in
       let same = upcalls-pages k y.state (aim_of k p) mine.pages in
-      rests-upcall w e g m p n (Interrupt (Some held)) y.state rest within
-      (record { raised = ap (λ (o : Option ℕ). is_some o) line; held = λ h. ap (λ (o : Option SpaceNo). is_some o) here.owner; owned = λ h. refl }) unused
-      (pauses-aside e m p n s (Interrupt (Some held)) y.state held rest.standing rest.fetched unused here is mine (λ up. aims.started (same ∙ up)) (λ up. aims.same (same ∙ up)))
+      record {
+        state = y.state;
+        fit = record { raised = ap (λ (o : Option ℕ). is_some o) line; held = λ h. ap (λ (o : Option SpaceNo). is_some o) here.owner; owned = λ h. refl };
+        pauses = pauses-aside e m p n s (Interrupt (Some held)) y.state held rest.standing rest.fetched unused here is mine (λ up. aims.started (same ∙ up)) (λ up. aims.same (same ∙ up));
+      }
 
   interrupted-none : (w : WorkloadView) (e g : ℕ) (m : Machine U C) (p : ProcNo) (n : ActNo) (raised : ℕ) → Rests w e g m → p.0 < length m.kernel.lives
-      → line_of m.kernel p ≡ Some raised → m.kernel.acts n.0 ≡ None → owner_of m.kernel p ≡ None → Rests w e g (entered_on f p n (Interrupt None) (without_context p m))
+      → line_of m.kernel p ≡ Some raised → m.kernel.acts n.0 ≡ None → owner_of m.kernel p ≡ None → CanEnter e m p n (Interrupt None)
   interrupted-none w e g m p n raised rest within line unused off =
       let k = m.kernel in
       let low : Scene C = record { state = with_line p None k; items = m.items } in
@@ -279,30 +335,38 @@ module _ {U C : Type 0} (f : Calls U C) (stands : Standing U C) (keep : Keeps f 
       let same = upcalls-pages k y.state (aim_of k p) (ap (λ (z : Scene C). z.state.pages) is) in
       let lives : y.state.lives ≡ k.lives = ap (λ (z : Scene C). z.state.lives) is in
       let acts : y.state.acts ≡ k.acts = ap (λ (z : Scene C). z.state.acts) is in
-      rests-upcall w e g m p n (Interrupt None) y.state rest within
-      (record { raised = ap (λ (o : Option ℕ). is_some o) line; held = λ h. absurd cc; owned = λ h. absurd (let z = sym h ∙ ap (λ (o : Option SpaceNo). is_some o) off in cc) }) unused
-      (record {
-        paused = subst (λ (ls : List (Option ActNo)). Paused stands e p ls y.state.acts (without_context p m)) (sym lives)
-            (subst (λ (fs : ℕ → Option (Act C)). Paused stands e p k.lives fs (without_context p m)) (sym acts) (paused-off f stands keep e m p rest.standing within off));
-        unused = ap (λ (fs : ℕ → Option (Act C)). fs n.0) acts ∙ unused;
-        telling = ap (λ (z : Scene C). z.state.telling) is ∙ rest.fetched;
-        demands = ap (λ (z : Scene C). length z.state.demands) is ∙ rest.standing.demands;
-        started = λ up. aims.started (same ∙ up);
-        same = λ up. aims.same (same ∙ up);
-      })
+      record {
+        state = y.state;
+        fit = record { raised = ap (λ (o : Option ℕ). is_some o) line; held = λ h. absurd cc; owned = λ h. absurd (let z = sym h ∙ ap (λ (o : Option SpaceNo). is_some o) off in cc) };
+        pauses = record {
+          paused = subst (λ (ls : List (Option ActNo)). Paused stands e p ls y.state.acts (without_context p m)) (sym lives)
+              (subst (λ (fs : ℕ → Option (Act C)). Paused stands e p k.lives fs (without_context p m)) (sym acts) (paused-off f stands keep e m p rest.standing within off));
+          unused = ap (λ (fs : ℕ → Option (Act C)). fs n.0) acts ∙ unused;
+          telling = ap (λ (z : Scene C). z.state.telling) is ∙ rest.fetched;
+          demands = ap (λ (z : Scene C). length z.state.demands) is ∙ rest.standing.demands;
+          started = λ up. aims.started (same ∙ up);
+          same = λ up. aims.same (same ∙ up);
+        };
+      }
 
-  pub rests-interrupted : (w : WorkloadView) (e g : ℕ) (m : Machine U C) (p : ProcNo) (n : ActNo) (raised : ℕ) → Rests w e g m → p.0 < length m.kernel.lives
-      → line_of m.kernel p ≡ Some raised → m.kernel.acts n.0 ≡ None → Rests w e g (interrupted f p n m)
-  rests-interrupted w e g m p n raised rest within line unused = go (owner_of m.kernel p) refl
+  pub can-interrupt : (w : WorkloadView) (e g : ℕ) (m : Machine U C) (p : ProcNo) (n : ActNo) (raised : ℕ) → Rests w e g m → p.0 < length m.kernel.lives
+      → line_of m.kernel p ≡ Some raised → m.kernel.acts n.0 ≡ None → CanEnter e m p n (Interrupt (stopped_in f m p (owner_of m.kernel p)))
+  can-interrupt w e g m p n raised rest within line unused = go (owner_of m.kernel p) refl
     where
-      go : (o : Option SpaceNo) → owner_of m.kernel p ≡ o → Rests w e g (interrupted f p n m)
+      go : (o : Option SpaceNo) → owner_of m.kernel p ≡ o → CanEnter e m p n (Interrupt (stopped_in f m p (owner_of m.kernel p)))
       go None off =
-          subst (λ (h : Option (Stopped C)). Rests w e g (entered_on f p n (Interrupt h) (without_context p m))) (sym (ap (λ (o : Option SpaceNo). stopped_in f m p o) off))
+          subst (λ (h : Option (Stopped C)). CanEnter e m p n (Interrupt h)) (sym (ap (λ (o : Option SpaceNo). stopped_in f m p o) off))
           (interrupted-none w e g m p n raised rest within line unused off)
       go (Some s) owner =
           let here = at-owned f stands keep e m p s rest.standing owner in
-          subst (λ (h : Option (Stopped C)). Rests w e g (entered_on f p n (Interrupt h) (without_context p m))) (sym (stopped-is m p s here))
+          subst (λ (h : Option (Stopped C)). CanEnter e m p n (Interrupt h)) (sym (stopped-is m p s here))
           (interrupted-some w e g m p n s raised _ rest within line unused here refl)
+
+  pub rests-interrupted : (w : WorkloadView) (e g : ℕ) (m : Machine U C) (p : ProcNo) (n : ActNo) (raised : ℕ) → Rests w e g m → p.0 < length m.kernel.lives
+      → line_of m.kernel p ≡ Some raised → m.kernel.acts n.0 ≡ None → Rests w e g (interrupted f p n m)
+  rests-interrupted w e g m p n raised rest within line unused =
+      let can = can-interrupt w e g m p n raised rest within line unused in
+      rests-upcall w e g m p n (Interrupt (stopped_in f m p (owner_of m.kernel p))) can.state rest within can.fit unused can.pauses
 
   -- .. by a block
   blocked-is : (m : Machine U C) (p : ProcNo) (n : ActNo) (s : SpaceNo) (held : Stopped C) (len : ℕ) (page : Option ℕ) → (here : IsAt f stands keep m p s)
@@ -312,24 +376,35 @@ module _ {U C : Type 0} (f : Calls U C) (stands : Standing U C) (keep : Keeps f 
       ap (λ (o : Option SpaceNo). kernel_blocked_by m.event p n o (life_of m.kernel p) held len page (scene_of m)) here.owner
       ∙ ap (λ (l : Option ActNo). kernel_blocked_by m.event p n (Some s) l held len page (scene_of m)) here.life
 
-  pub rests-blocked : (w : WorkloadView) (e g : ℕ) (m : Machine U C) (p : ProcNo) (n : ActNo) (s : SpaceNo) (len : ℕ) (page : Option ℕ) → Rests w e g m
-      → owner_of m.kernel p ≡ Some s → line_of m.kernel p ≡ None → m.kernel.acts n.0 ≡ None → IfSome page IsOwnPage → Rests w e g (blocked f p n len page m)
-  rests-blocked w e g m p n s len page rest owner low unused own =
+  pub can-block : (w : WorkloadView) (e g : ℕ) (m : Machine U C) (p : ProcNo) (n : ActNo) (s : SpaceNo) (len : ℕ) (page : Option ℕ) (held : Stopped C) → Rests w e g m
+      → owner_of m.kernel p ≡ Some s → line_of m.kernel p ≡ None → m.kernel.acts n.0 ≡ None → IfSome page IsOwnPage
+      → stopped_in f m p (owner_of m.kernel p) ≡ Some held → CanEnter e m p n (BlockEntry held len page)
+  can-block w e g m p n s len page held rest owner low unused own is_held =
       let k = m.kernel in
       let here = at-owned f stands keep e m p s rest.standing owner in
-      let held : Stopped C = record { ctx = here.ctx; thread = f.thread here.user here.ctx; idle = f.idle here.user here.ctx } in
+      let same_ctx : held.ctx ≡ here.ctx = ap (λ (h : Stopped C). h.ctx) (same_Some held (record { ctx = here.ctx; thread = f.thread here.user here.ctx; idle = f.idle here.user here.ctx }) (sym is_held ∙ stopped-is m p s here)) in
       let entry : Entry C = BlockEntry held len page in
       let y : Scene C = block_begun m.event p s here.act held len page (scene_of m) in
-      let x : Scene C = entered_as m.event p n entry (scene_of m) in
       let is = blocked-is m p n s held len page here in
       let cases = told-or-left m.event p s n (can_upcall k s) y in
       let up : upcalls k p entry ≡ can_upcall k s =
       ap (λ (o : Option SpaceNo). upcalls_in k o (life_of k p)) here.owner ∙ ap (λ (l : Option ActNo). upcalls_in k (Some s) l) here.life in
+      record {
+        state = y.state;
+        fit = record { space = s; asks = record { owner = owner; low = low }; page = own };
+        pauses = pauses-aside e m p n s entry y.state held rest.standing rest.fetched unused here same_ctx (blocked-aside m.event p s here.act held len page (scene_of m))
+            (λ can. (s, subst (λ (z : Scene C). Starts y.state z.state p n s) (sym is) (cases.0 (sym up ∙ can))))
+            (λ can. subst (λ (z : Scene C). SameRuns y.state z.state) (sym is) (cases.1 (sym up ∙ can)));
+      }
+
+  pub rests-blocked : (w : WorkloadView) (e g : ℕ) (m : Machine U C) (p : ProcNo) (n : ActNo) (s : SpaceNo) (len : ℕ) (page : Option ℕ) → Rests w e g m
+      → owner_of m.kernel p ≡ Some s → line_of m.kernel p ≡ None → m.kernel.acts n.0 ≡ None → IfSome page IsOwnPage → Rests w e g (blocked f p n len page m)
+  rests-blocked w e g m p n s len page rest owner low unused own =
+      let here = at-owned f stands keep e m p s rest.standing owner in
+      let held : Stopped C = record { ctx = here.ctx; thread = f.thread here.user here.ctx; idle = f.idle here.user here.ctx } in
+      let can = can-block w e g m p n s len page held rest owner low unused own (stopped-is m p s here) in
       subst (λ (h : Option (Stopped C)). Rests w e g (blocked_by f p n len page h (without_context p m))) (sym (stopped-is m p s here))
-      (rests-upcall w e g m p n entry y.state rest here.within (record { space = s; asks = record { owner = owner; low = low }; page = own }) unused
-      (pauses-aside e m p n s entry y.state held rest.standing rest.fetched unused here refl (blocked-aside m.event p s here.act held len page (scene_of m))
-      (λ can. (s, subst (λ (z : Scene C). Starts y.state z.state p n s) (sym is) (cases.0 (sym up ∙ can))))
-      (λ can. subst (λ (z : Scene C). SameRuns y.state z.state) (sym is) (cases.1 (sym up ∙ can)))))
+      (rests-upcall w e g m p n (BlockEntry held len page) can.state rest here.within can.fit unused can.pauses)
 
   -- where a slice ends
   rests-sliced_if : (w : WorkloadView) (e g : ℕ) (m : Machine U C) (p : ProcNo) (b : Bool) → Rests w e g m → Rests w e g (sliced_if p b m)
@@ -346,7 +421,7 @@ module _ {U C : Type 0} (f : Calls U C) (stands : Standing U C) (keep : Keeps f 
   pub rests-sliced : (w : WorkloadView) (e g : ℕ) (m : Machine U C) (p : ProcNo) → Rests w e g m → Rests w e g (sliced p m)
   rests-sliced w e g m p rest = rests-sliced_if w e g m p (ends_slice m) rest
 
-  rests-ticked : (w : WorkloadView) (e g : ℕ) (m : Machine U C) (p : ProcNo) → Rests w e g m → Rests w e g (ticked p m)
+  pub rests-ticked : (w : WorkloadView) (e g : ℕ) (m : Machine U C) (p : ProcNo) → Rests w e g m → Rests w e g (ticked p m)
   rests-ticked w e g m p rest = record {
     standing = stands-runs f stands keep e m.event m m.kernel _ rest.standing rest.standing.sound refl refl refl;
     fetched = rest.fetched;
@@ -356,7 +431,7 @@ module _ {U C : Type 0} (f : Calls U C) (stands : Standing U C) (keep : Keeps f 
 
   -- a step, and what it asks for
 
-  stepped-is : (m : Machine U C) (p : ProcNo) (s : SpaceNo) → (here : IsAt f stands keep m p s)
+  pub stepped-is : (m : Machine U C) (p : ProcNo) (s : SpaceNo) → (here : IsAt f stands keep m p s)
       → stepped f p s m ≡ (step_to f p s (f.stepped here.user (seen_on m p s) here.ctx) m, (f.stepped here.user (seen_on m p s) here.ctx).answer)
   stepped-is m p s here = rw (here.is_user, here.is_ctx) refl
 
@@ -366,7 +441,7 @@ module _ {U C : Type 0} (f : Calls U C) (stands : Standing U C) (keep : Keeps f 
       keep.steps (setting m.workload s.0 here.def) e here.user (contexts_of m s.0) here.act.0 here.ctx (seen_on m p s)
       (value-at f stands keep e m p s st here) (mine f stands keep e m p s st here) (sees-at f stands keep e m p s st here) later few
 
-  rests-stepped : (w : WorkloadView) (e g : ℕ) (m : Machine U C) (p : ProcNo) (s : SpaceNo) → (rest : Rests w e g m) → (here : IsAt f stands keep m p s) → e < m.event → m.event ≤ MAX_EVENTS
+  pub rests-stepped : (w : WorkloadView) (e g : ℕ) (m : Machine U C) (p : ProcNo) (s : SpaceNo) → (rest : Rests w e g m) → (here : IsAt f stands keep m p s) → e < m.event → m.event ≤ MAX_EVENTS
       → Rests w g g (step_to f p s (f.stepped here.user (seen_on m p s) here.ctx) m)
   rests-stepped w e g m p s rest here later few =
       let r = f.stepped here.user (seen_on m p s) here.ctx in
@@ -378,7 +453,7 @@ module _ {U C : Type 0} (f : Calls U C) (stands : Standing U C) (keep : Keeps f 
         event = rest.event;
       }
 
-  own-page : (page : Option ℕ) → IfSome page (λ k. (1 ≤ k) × (k < 16)) → IfSome page IsOwnPage
+  pub own-page : (page : Option ℕ) → IfSome page (λ k. (1 ≤ k) × (k < 16)) → IfSome page IsOwnPage
   own-page None h = tt
   own-page (Some k) h = (h.0, let z = h.1 in omega arith)
 

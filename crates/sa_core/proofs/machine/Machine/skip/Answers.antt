@@ -1,0 +1,17 @@
+use Rattle.std.proofs.Common.{◌≡◌, ◌≢◌, ◌+◌, ◌-◌, ◌<◌, ◌≤◌, ◌++◌, Option, Some, None, List, [], ◌∷◌, true, false, length, slice_set, refl, sym, ap, subst, ◌∙◌, arith}
+use Rattle.sa_core.specs.View.{machine_of}
+use Rattle.sa_core.proofs.EndLemmas.{skip-one}
+use Rattle.sa_core.proofs.machine.Machine.skip.Goals as goal
+
+pub loop-i-preserved : goal.loop-i-preserved
+loop-i-preserved g c =
+    let inv = c.loop-i.invariant in
+    let next = c.next.ensures in
+    let event = ap (λ z. z.event) next.machine in
+    record {
+      machine = skip-one c.args.n c.loop-i._i (machine_of c.loop-i.self) (machine_of c.next.new.self) _ c.loop-i-test.true next.machine inv.machine;
+      events = omega (arith, event, inv.events);
+      spare = next.spare ∙ inv.spare;
+      last = next.last ∙ inv.last;
+      trace = next.trace ∙ inv.trace;
+    }
