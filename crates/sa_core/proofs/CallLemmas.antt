@@ -55,13 +55,13 @@ module _ {C : Type 0} where
     pub telling : k.telling ≡ note ∷ notes
     pub held_is : held ≡ held_for k note
 
-  pub next-is : (k : State C) (note : Note) (held : Option (Stopped C)) → Some (note, held) ≡ next_note k → IsNote k note held
+  pub next-is : (k : State C) (note : Note) (held : Option (Stopped C)) → ◌≡◌ {A = Option (Note × Option (Stopped C))} (Some (note, held)) (next_note k) → IsNote k note held
   next-is k note held is = go k.telling refl is
     where
-      go : (ns : List Note) → k.telling ≡ ns → Some (note, held) ≡ option_map (λ n. (n, held_for k n)) (slice_get ns 0) → IsNote k note held
+      go : (ns : List Note) → k.telling ≡ ns → ◌≡◌ {A = Option (Note × Option (Stopped C))} (Some (note, held)) (option_map (λ n. (n, held_for k n)) (slice_get ns 0)) → IsNote k note held
       go [] e none = absurd cc
       go (n ∷ ns) e some =
-          let pair : (note, held) ≡ (n, held_for k n) = same_Some (note, held) (n, held_for k n) some in
+          let pair : ◌≡◌ {A = Note × Option (Stopped C)} (note, held) (n, held_for k n) = same_Some (note, held) (n, held_for k n) some in
           let first : note ≡ n = ap (λ (z : Note × Option (Stopped C)). z.0) pair in
           record {
             notes = ns;

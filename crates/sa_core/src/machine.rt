@@ -49,16 +49,6 @@ fn no_contexts<C: Drop>(alloc: Global, processors: u16) -> Result<Vec<Option<C>>
     Ok(contexts)
 }
 
-// The items of so many events, and twice those that an entry needs, for what is owed already.
-fn items_for(events: usize, need: usize) -> Option<usize>
-    ensures { IfSome result (λ items. EVENT_ITEMS * events + need + need ≤ items) }
-{
-    EVENT_ITEMS
-        .checked_mul(events)?
-        .checked_add(need)?
-        .checked_add(need)
-}
-
 impl<U: UserLevel> Machine<U> {
     /// The machine at the opening of a workload. Fails only where memory runs out.
     pub(crate) fn start(alloc: Global, w: Workload) -> Result<Self, AllocError>
@@ -452,31 +442,6 @@ impl<U: UserLevel> Machine<U> {
         self.go(p, n);
         self.skip(n - 1);
         self.end_slice(p);
-    }
-
-    /// Makes room for `events` events. An error changes nothing but the room, which does not shrink.
-    pub(crate) fn reserve(&mut self, events: usize) -> Result<(), AllocError>
-        requires fetched { (machine_of self.old).kernel.telling ≡ [] }
-        ensures ok { OnOk result (HasRoom self.new events) }
-        ensures machine { machine_of self.new ≡ machine_of self.old }
-        ensures last { self.new.kernel.last ≡ self.old.kernel.last }
-        ensures entries { self.old.kernel.spare ≤ self.new.kernel.spare }
-        ensures items { self.old.trace.spare ≤ self.new.trace.spare }
-    {
-        let items = items_for(events, self.kernel.need()).ok_or(AllocError)?;
-        self.kernel.reserve(events)?;
-        self.trace.reserve(items)
-    }
-
-    /// How many of `n` events are not behind the end of a slice.
-    pub(crate) fn within_slice(&self, n: u64) -> u64
-        ensures { result ≡ within_slice n (machine_of self.now) }
-    {
-        let slice = u64::from(self.workload.slice());
-        if slice == 0 {
-            return n;
-        }
-        n.min(slice - self.events % slice)
     }
 
     // Whether the context that runs on a processor is inside the package.

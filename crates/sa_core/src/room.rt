@@ -7,6 +7,7 @@ ghost use Rattle.sa_core.specs.Room.{owed, HasRoom};
 
 use crate::machine::{EVENT_ITEMS, Machine};
 use sa_abstract::UserLevel;
+use sa_base::Trace;
 use std::alloc::AllocError;
 
 impl<U: UserLevel> Machine<U> {
@@ -59,5 +60,12 @@ impl<U: UserLevel> Machine<U> {
         ensures { result ≡ is_stuck U.calls (machine_of self.now) }
     {
         self.users.counts().active == 0 && self.kernel.quiet() && !self.is_any_inside()
+    }
+
+    /// The trace alone.
+    pub(crate) fn into_trace(self) -> Trace
+        ensures { result ≡ self.trace }
+    {
+        self.trace
     }
 }

@@ -3,7 +3,7 @@ ghost use Rattle.sa_base.specs.declared.limits.TheConstants.{MAX_EVENTS};
 ghost use Rattle.sa_kernel.specs.State.{line_of};
 ghost use Rattle.sa_machine.specs.Turn.{committed};
 ghost use Rattle.sa_machine.specs.End.{end_of, committable, local_on};
-ghost use Rattle.sa_machine.specs.Run.{opening, IsTurn, CanGo};
+ghost use Rattle.sa_machine.specs.Run.{opening, IsTurn, AreNextLocal};
 ghost use Rattle.sa_core.specs.View.{machine, IsSame};
 
 use crate::machine::Machine;
@@ -13,7 +13,7 @@ use sa_instr::Workload;
 use std::alloc::{AllocError, Global};
 use std::marker::Model;
 
-// For how many events a turn makes room where none is left.
+// For how many events at least room is made where it is wanted.
 const EVENTS_AT_ONCE: usize = 64;
 
 /// A run of a workload within a budget of events, over any user level.
@@ -69,6 +69,20 @@ impl<U: UserLevel> Core<U> {
         Ok(())
     }
 
+    // Room for at least `n` events. Where it is not there yet, it is made for some more. An error changes nothing.
+    fn make_room(&mut self, n: usize) -> Result<(), AllocError>
+        ensures ok { OnOk result (n ≤ self.new.spare) }
+        ensures grows { self.old.spare ≤ self.new.spare }
+        ensures machine { (machine self.new) ≡ (machine self.old) }
+        ensures budget { self.new.budget ≡ self.old.budget }
+        ensures err { OnErr result ((self.old.spare < n) × IsSame self.old self.new) }
+    {
+        if self.spare < n {
+            return self.reserve(n.max(EVENTS_AT_ONCE));
+        }
+        Ok(())
+    }
+
     /// One event of the processor. It takes no memory where there is room; an error changes nothing.
     pub fn turn(&mut self, p: ProcNo) -> Result<(), AllocError>
         requires within { p.0 < (machine self.old).workload.processors }
@@ -80,9 +94,7 @@ impl<U: UserLevel> Core<U> {
         ensures spare { self.old.spare ≤ self.new.spare + 1 }
         ensures err { OnErr result ((self.old.spare ≡ 0) × IsSame self.old self.new) }
     {
-        if self.spare == 0 {
-            self.reserve(EVENTS_AT_ONCE)?;
-        }
+        self.make_room(1)?;
         self.machine.turn(p);
         self.spare -= 1;
         Ok(())
@@ -96,7 +108,7 @@ impl<U: UserLevel> Core<U> {
         requires within { p.0 < (machine self.old).workload.processors }
         requires goes_on { end_of U.calls self.old.budget (machine self.old) ≡ None }
         requires low { line_of (machine self.old).kernel p ≡ None }
-        requires can { CanGo U.calls (machine self.old) p n }
+        requires next { AreNextLocal (machine self.old).workload n (local_on U.calls (machine self.old) p) }
         ensures made { IfOk result (λ k. k ≡ committable self.old.budget (machine self.old) n) }
         ensures some { IfOk result (λ k. 1 ≤ k) }
         ensures machine { IfOk result (λ k. (machine self.new) ≡ committed U.calls p k (machine self.old)) }
@@ -105,9 +117,7 @@ impl<U: UserLevel> Core<U> {
         ensures spare { self.old.spare ≤ self.new.spare + n }
         ensures err { OnErr result ((self.old.spare < n) × IsSame self.old self.new) }
     {
-        if self.spare < usize::from(n) {
-            self.reserve(usize::from(n))?;
-        }
+        self.make_room(usize::from(n))?;
         let made = self.machine.committable(self.budget, n);
         self.machine.commit(p, made);
         self.spare -= usize::from(made);
@@ -171,6 +181,6 @@ impl<U: UserLevel> Core<U> {
     pub fn into_trace(self) -> Trace
         ensures { result.items ≡ (machine self).items }
     {
-        self.machine.trace
+        self.machine.into_trace()
     }
 }

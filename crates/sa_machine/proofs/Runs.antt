@@ -12,7 +12,10 @@ use Rattle.sa_instr.specs.Space.{SpaceView, IsSpace}
 use Rattle.sa_instr.specs.Workload.{WorkloadView, IsWorkload}
 use Rattle.sa_abstract.specs.Calls.{Calls, Contexts}
 use Rattle.sa_abstract.specs.Setting.{IsSetting}
-use Rattle.sa_abstract.specs.Keeps.{Standing, Keeps, GoesOn, IsGone}
+use Rattle.sa_abstract.specs.Keeps.{Standing, Keeps, GoesOn, IsGone, IsSeat}
+use Rattle.sa_abstract.specs.Walk.{AreLocal, program_at}
+use Rattle.sa_abstract.specs.declared.answer.SeatState.{SeatState}
+use Rattle.sa_abstract.specs.declared.answer.SeatState.TheVariants.{Local, Away}
 use Rattle.sa_acts.specs.declared.acts.Act.{Act}
 use Rattle.sa_assign.specs.Reaim.{proc_no}
 use Rattle.sa_kernel.specs.State.{Scene, owner_of}
@@ -22,7 +25,7 @@ use Rattle.sa_kernel.proofs.FormedLemmas.{all-same}
 use Rattle.sa_machine.specs.Machine.{Machine, seen_on, gone, gone_to}
 use Rattle.sa_machine.specs.Turn.{turned, next_event, more_events, gone_in, committed}
 use Rattle.sa_machine.specs.End.{local_on, local_in, local_by}
-use Rattle.sa_machine.specs.Run.{setting, started_from, opening, CanGo, CanTurn, CanCommit, IsTurn, Move, IsMove, IsRun}
+use Rattle.sa_machine.specs.Run.{setting, started_from, opening, CanGo, programs_in, AreNextLocal, CanCommit, Move, IsMove, IsRun}
 use Rattle.sa_machine.specs.Run.Move.{turn, commit}
 use Rattle.sa_machine.specs.Standing.{context_in, contexts_of, running, Stands, IsBetween}
 use Rattle.sa_machine.proofs.Effects.{same-closed}
@@ -149,13 +152,37 @@ module _ {U C : Type 0} (f : Calls U C) (stands : Standing U C) (keep : Keeps f 
         event = refl;
       }
 
+  -- where a context stands, its space is the one that owns its processor
+
+  seat-go : (w : WorkloadView) (s : SpaceNo) (def : SpaceView) (n : ℕ) (x : SeatState) → slice_get w.spaces s.0 ≡ Some def → IsSeat (setting w s.0 def) x → AreNextLocal w n x
+      → GoesOn (setting w s.0 def) n x
+  seat-go w s def n (Local space thread program pc regs) of seat next =
+      let here : slice_get w.spaces space.0 ≡ Some def = ap (λ (z : SpaceNo). slice_get w.spaces z.0) seat.0 ∙ of in
+      subst (λ (o : Option SpaceView). AreLocal (program_at (programs_in o) program) n (record { pc = pc; regs = regs })) here next
+  seat-go w s def n Away of seat next = next
+
+  pub can-go : (e n : ℕ) (m : Machine U C) (p : ProcNo) → Stands stands e m → AreNextLocal m.workload n (local_on f m p) → CanGo f m p n
+  can-go e n m p st next = go (owner_of m.kernel p) refl
+    where
+      go : (o : Option SpaceNo) → owner_of m.kernel p ≡ o → CanGo f m p n
+      go None off = absurd (subst (λ (x : SeatState). AreNextLocal m.workload n x) (ap (λ (o : Option SpaceNo). local_in f m p o) off) next)
+      go (Some s) owner =
+          let here = at-owned f stands keep e m p s st owner in
+          let is = local-is m p s here in
+          let seat = (keep.seats (setting m.workload s.0 here.def) e here.user (contexts_of m s.0) here.act.0 here.ctx (value-at f stands keep e m p s st here) (mine f stands keep e m p s st here)).0 in
+          record {
+            space = s; def = here.def; owner = owner; is_def = here.is_def;
+            goes = subst (λ (x : SeatState). GoesOn (setting m.workload s.0 here.def) n x) (sym is)
+                (seat-go m.workload s here.def n (f.local here.user here.ctx) here.is_def seat (subst (λ (x : SeatState). AreNextLocal m.workload n x) is next));
+          }
+
   -- each move keeps a machine standing, and so does a run
 
   stands-committed : (m after : Machine U C) (p : ProcNo) (n : ℕ) → IsBetween stands m → CanCommit f m p n → after ≡ committed f p n m → IsBetween stands after
   stands-committed m after p zero between can is = absurd (let z = can.some in omega arith)
   stands-committed m after p (suc n) between can is =
       subst (λ (z : Machine U C). IsBetween stands z) (sym is)
-      (between-rests f stands keep m.workload (m.event + suc n) (committed f p (suc n) m) (rests-committed m p n between can.event can.go))
+      (between-rests f stands keep m.workload (m.event + suc n) (committed f p (suc n) m) (rests-committed m p n between can.event (can-go m.event (suc n) m p between.standing can.go)))
 
   pub stands-move : (m : Machine U C) (move : Move) (after : Machine U C) → IsBetween stands m → IsMove f m move after → IsBetween stands after
   stands-move m (turn p) after between made =

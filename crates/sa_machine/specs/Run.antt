@@ -1,11 +1,15 @@
 -- A run: the opening, and then turns and commits in any order.
-use Rattle.std.specs.Prelude.{◌≡◌, ℕ, zero, suc, ◌+◌, ◌<◌, ◌≤◌, Some, None, List, [], ◌∷◌, length, replicate, slice_get}
+use Rattle.std.specs.Prelude.{◌≡◌, ℕ, ◌+◌, ◌<◌, ◌≤◌, Some, None, Option, List, [], ◌∷◌, replicate, slice_get}
 use Rattle.sa_base.specs.declared.number.ProcNo.{ProcNo}
 use Rattle.sa_base.specs.declared.number.SpaceNo.{SpaceNo}
 use Rattle.sa_base.specs.declared.number.ActNo.{ActNo}
 use Rattle.sa_base.specs.declared.limits.TheConstants.{MAX_EVENTS}
 use Rattle.sa_instr.specs.Space.{SpaceView}
 use Rattle.sa_instr.specs.Workload.{WorkloadView}
+use Rattle.sa_instr.specs.declared.instr.Instr.{Instr}
+use Rattle.sa_abstract.specs.Walk.{AreLocal, program_at}
+use Rattle.sa_abstract.specs.declared.answer.SeatState.{SeatState}
+use Rattle.sa_abstract.specs.declared.answer.SeatState.TheVariants.{Local, Away}
 use Rattle.sa_abstract.specs.Calls.{Calls}
 use Rattle.sa_abstract.specs.Setting.{Setting}
 use Rattle.sa_assign.specs.Aims.{space_no}
@@ -51,6 +55,18 @@ module _ {U C : Type 0} (f : Calls U C) where
     pub is_def : slice_get m.workload.spaces space.0 ≡ Some def
     pub goes : GoesOn (setting m.workload space.0 def) n (local_on f m p)
 
+-- the programs of a space of a workload
+abbrev pub programs_in : Option SpaceView → List (List Instr)
+programs_in None = []
+programs_in (Some def) = def.programs
+
+-- the context stands at an instruction of its thread, and the next n are local
+abbrev pub AreNextLocal : WorkloadView → ℕ → SeatState → Type 0
+AreNextLocal w n (Local space thread program pc regs) =
+    AreLocal (program_at (programs_in (slice_get w.spaces space.0)) program) n (record { pc = pc; regs = regs })
+AreNextLocal w n Away = ⊥
+
+module _ {U C : Type 0} (f : Calls U C) where
   -- a turn of a processor can be made
   pub record CanTurn (m : Machine U C) (p : ProcNo) : Type 0 where
     pub within : p.0 < m.workload.processors
@@ -62,7 +78,7 @@ module _ {U C : Type 0} (f : Calls U C) where
     pub event : m.event + n ≤ MAX_EVENTS
     pub low : line_of m.kernel p ≡ None
     pub slice : within_slice n m ≡ n
-    pub go : CanGo m p n
+    pub go : AreNextLocal m.workload n (local_on f m p)
 
 -- what is done to a machine: a turn of a processor, or so many local instructions of the context that runs there
 pub data Move : Type 0 where

@@ -1,13 +1,14 @@
 -- A user level of one job.
-use Rattle.std.specs.Prelude.{◌≡◌, ℕ, ◌-◌, ◌==◌, Bool, true, false, not, if◌then◌else◌, Option, Some, None, List, [], ◌∷◌}
+use Rattle.std.proofs.Common.{◌≡◌, ℕ, zero, suc, ◌-◌, ◌==◌, ◌||◌, Bool, true, false, not, if◌then◌else◌, Option, Some, None, List, [], ◌∷◌, All, refl, arith}
 use Rattle.sa_base.specs.declared.number.ThreadNo.{ThreadNo}
 use Rattle.sa_base.specs.declared.context.Stopped.{Stopped}
+use Rattle.sa_base.specs.declared.context.Seen.{Seen}
 use Rattle.sa_base.specs.declared.record.Record.TheVariants.{Ins, Run, Idle}
 use Rattle.sa_abstract.specs.declared.answer.SeatState.TheVariants.{Away}
 use Rattle.sa_abstract.specs.declared.answer.Step.TheVariants.{Did}
 use Rattle.sa_abstract.specs.Calls.{Calls, Contexts, Stepped}
 use Rattle.sa_abstract.specs.Setting.{Setting}
-use Rattle.sa_abstract.specs.Keeps.{Standing, Keeps}
+use Rattle.sa_abstract.specs.Keeps.{Standing, Keeps, IsOwn, IsStepped}
 use Rattle.tests_core.specs.declared.worker.Worker.{Worker}
 use Rattle.tests_core.specs.declared.worker.Hand.{Hand}
 
@@ -52,5 +53,28 @@ worker_calls = record {
 abbrev pub worker_stands : Standing Worker Hand
 worker_stands s e u cs = u.space ≡ s.space
 
+one-of : {A : Type 0} (P : A → Type 0) (x : A) → P x → All P (x ∷ [])
+one-of P x here zero d within = here
+one-of P x here (suc k) d within = absurd (omega (arith, within))
+
+steps-by : (s : Setting) (seen : Seen) (cs : Contexts Hand) (a : ℕ) (u : Worker) (has free : Bool) → u.space ≡ s.space
+    → IsStepped worker_stands s seen cs a (stepped_by u has free)
+steps-by s seen cs a u true free of = record { value = of; asked = tt; own = one-of (IsOwn s.space) _ of; few = omega arith }
+steps-by s seen cs a u false true of = record { value = of; asked = tt; own = one-of (IsOwn s.space) _ of; few = omega arith }
+steps-by s seen cs a u false false of = record { value = of; asked = tt; own = one-of (IsOwn s.space) _ tt; few = omega arith }
+
+away-or : (b : Bool) → true ≡ (b || true)
+away-or true = refl
+away-or false = refl
+
 pub worker_keeps : Keeps worker_calls worker_stands
-worker_keeps = ?
+worker_keeps = record {
+  starts = λ s ok. refl;
+  later = λ s e f u cs st later. st;
+  begins = λ s e u cs a seen st none sees. st;
+  tells = λ s e u cs a c note held st mine handed. st;
+  answers = λ s e u cs a c seen st mine sees. st;
+  steps = λ s e u cs a c seen st mine sees later within. steps-by s seen cs a u c.has u.free st;
+  goes = λ s e u cs a c seen n st mine sees later some within goes. absurd goes;
+  seats = λ s e u cs a c st mine. (tt, away-or c.has);
+}

@@ -5,7 +5,7 @@ use Rattle.sa_core.proofs.CallLemmas.{read-ctx, set-again, gone-as, the-user, ha
 use Rattle.sa_core.proofs.machine.Machine.go.Goals as goal
 
 pub went-requires-clause-going : goal.went-requires-clause-going
-went-requires-clause-going g c = λ u at.
+went-requires-clause-going g c = λ κs k u at.
     let keep = (g.met.U.UserLevel g.world.𝓛 g.world.𝓜 g.world.𝓡 ((λ s x. x), (λ x. x), (λ x. x), λ x. x)).keeps in
     let f = g.U.UserLevel.calls in
     let stands = g.U.UserLevel.stands in

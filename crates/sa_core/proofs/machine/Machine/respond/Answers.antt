@@ -5,7 +5,7 @@ use Rattle.sa_core.proofs.CallLemmas.{read-ctx, set-again, called-as, the-user, 
 use Rattle.sa_core.proofs.machine.Machine.respond.Goals as goal
 
 pub answered-requires-clause-sees : goal.answered-requires-clause-sees
-answered-requires-clause-sees g c = λ u at.
+answered-requires-clause-sees g c = λ κs k u at.
     let keep = (g.met.U.UserLevel g.world.𝓛 g.world.𝓜 g.world.𝓡 ((λ s x. x), (λ x. x), (λ x. x), λ x. x)).keeps in
     let f = g.U.UserLevel.calls in
     let stands = g.U.UserLevel.stands in

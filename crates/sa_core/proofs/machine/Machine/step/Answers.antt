@@ -4,7 +4,7 @@ use Rattle.sa_core.proofs.CallLemmas.{read-ctx, set-again, stepped-as, the-user,
 use Rattle.sa_core.proofs.machine.Machine.step.Goals as goal
 
 pub step-asked-requires-clause-turn : goal.step-asked-requires-clause-turn
-step-asked-requires-clause-turn g c = λ u at.
+step-asked-requires-clause-turn g c = λ κs k u at.
     let keep = (g.met.U.UserLevel g.world.𝓛 g.world.𝓜 g.world.𝓡 ((λ s x. x), (λ x. x), (λ x. x), λ x. x)).keeps in
     let f = g.U.UserLevel.calls in
     let stands = g.U.UserLevel.stands in

@@ -5,7 +5,7 @@ use Rattle.sa_core.proofs.CallLemmas.{read-ctx, set-again, next-is, told-as, tol
 use Rattle.sa_core.proofs.machine.Machine.tell_one.Goals as goal
 
 pub told-requires-clause-telling : goal.told-requires-clause-telling
-told-requires-clause-telling g c = λ u at.
+told-requires-clause-telling g c = λ κs k u at.
     let keep = (g.met.U.UserLevel g.world.𝓛 g.world.𝓜 g.world.𝓡 ((λ s x. x), (λ x. x), (λ x. x), λ x. x)).keeps in
     let f = g.U.UserLevel.calls in
     let stands = g.U.UserLevel.stands in

@@ -6,17 +6,17 @@ use Rattle.sa_core.proofs.EntryLemmas.{begun-so, user-so, welcomed-as}
 use Rattle.sa_core.proofs.machine.Machine.welcome.Goals as goal
 
 pub tell-requires-clause-stands : goal.tell-requires-clause-stands
-tell-requires-clause-stands g c =
+tell-requires-clause-stands g c = λ κs k.
     (begun-so g.U.UserLevel.calls g.U.UserLevel.stands c.args.p c.in-Some.s (machine_of c.args.self.now) (machine_of c.begin.new.self) c.requires
     (sym c.owner.ensures ∙ c.in-Some.is) c.begin.ensures.machine).standing
 
 pub tell-requires-clause-owner : goal.tell-requires-clause-owner
-tell-requires-clause-owner g c =
+tell-requires-clause-owner g c = λ κs k.
     (begun-so g.U.UserLevel.calls g.U.UserLevel.stands c.args.p c.in-Some.s (machine_of c.args.self.now) (machine_of c.begin.new.self) c.requires
     (sym c.owner.ensures ∙ c.in-Some.is) c.begin.ensures.machine).owner
 
 pub tell-requires-clause-claimed : goal.tell-requires-clause-claimed
-tell-requires-clause-claimed g c =
+tell-requires-clause-claimed g c = λ κs k.
     (begun-so g.U.UserLevel.calls g.U.UserLevel.stands c.args.p c.in-Some.s (machine_of c.args.self.now) (machine_of c.begin.new.self) c.requires
     (sym c.owner.ensures ∙ c.in-Some.is) c.begin.ensures.machine).claimed
 
