@@ -18,13 +18,13 @@ use Rattle.sa_kernel.specs.declared.entry.TheConstants.{ENTRY_ITEMS}
 use Rattle.sa_machine.specs.Machine.{Machine}
 use Rattle.sa_machine.specs.Turn.{turned, committed}
 use Rattle.sa_machine.specs.End.{all_done, is_stuck, end_of, committable, local_on}
-use Rattle.sa_machine.specs.Run.{setting, opening, IsTurn, CanGo}
+use Rattle.sa_machine.specs.Run.{setting, opening, IsTurn, CanGo, AreNextLocal}
 use Rattle.sa_machine.specs.Standing.{IsBetween}
 use Rattle.sa_machine.proofs.Turns.{Rests, rests-turned, between-rests}
-use Rattle.sa_machine.proofs.Runs.{rests-committed, stands-opening}
+use Rattle.sa_machine.proofs.Runs.{rests-committed, stands-opening, can-go}
 use Rattle.sa_core.specs.declared.machine.Machine.{Machine as Parts}
 use Rattle.sa_core.specs.declared.machine.TheConstants.{EVENT_ITEMS}
-use Rattle.sa_core.specs.View.{machine_of}
+use Rattle.sa_core.specs.View.{CoreView, machine_of, machine}
 use Rattle.sa_core.specs.Room.{owed, HasRoom, Spends, IsKept}
 use Rattle.sa_core.specs.Needs.{ByFresh}
 
@@ -154,3 +154,24 @@ module _ {U C : Type 0} (f : Calls U C) (stands : Standing U C) (keep : Keeps f 
         };
         workload = rest.workload;
       }
+
+-- room was made, and the run goes on
+pub record IsReady {U C : Type 0} (m : Parts U C) (old : CoreView U C) (budget : ℕ) : Type 0 where
+  pub same : machine_of m ≡ machine old
+  pub left : m.events < budget
+
+pub ready : {U C : Type 0} (f : Calls U C) (stands : Standing U C) (m : Parts U C) (mid old : CoreView U C) (budget spare : ℕ)
+    → record { parts = m; budget = budget; spare = spare } ≡ mid → machine mid ≡ machine old → mid.budget ≡ old.budget → end_of f old.budget (machine old) ≡ None
+    → IsKept stands m budget spare → IsReady m old budget
+ready {U} {C} f stands m mid old budget spare view is budgets none kept =
+    let same : machine_of m ≡ machine old = ap (λ (v : CoreView U C). machine v) view ∙ is in
+    let limit : budget ≡ old.budget = ap (λ (v : CoreView U C). v.budget) view ∙ budgets in
+    let on : end_of f budget (machine_of m) ≡ None =
+        ap (λ (b : ℕ). end_of f b (machine_of m)) limit ∙ ap (λ (z : Machine U C). end_of f old.budget z) same ∙ none in
+    record { same = same; left = goes-on f budget (machine_of m) on kept.within }
+
+pub next-go : {U C : Type 0} (f : Calls U C) (stands : Standing U C) (keep : Keeps f stands) (m : Parts U C) (old : CoreView U C) (budget spare n k : ℕ) (p : ProcNo)
+    → IsReady m old budget → IsKept stands m budget spare → AreNextLocal (machine old).workload n (local_on f (machine old) p) → k ≤ n → CanGo f (machine_of m) p k
+next-go {U} {C} f stands keep m old budget spare n k p is kept next few =
+    can-fewer f (machine_of m) p n k few (can-go f stands keep m.events n (machine_of m) p kept.between.standing
+    (subst (λ (z : Machine U C). AreNextLocal z.workload n (local_on f z p)) (sym is.same) next))

@@ -190,3 +190,22 @@ module _ {U C : Type 0} (f : Calls U C) (stands : Standing U C) (keep : Keeps f 
 
   pub can-next : (m n : Machine U C) (p : ProcNo) (k : ℕ) → CanGo f m p k → n ≡ next_event m → CanGo f n p k
   can-next m n p k can is = subst (λ z. CanGo f z p k) (sym is) (record { space = can.space; def = can.def; owner = can.owner; is_def = can.is_def; goes = can.goes })
+
+  -- .. at a machine that is known to be so
+  pub stopped-welcomes : (m n : Machine U C) (p : ProcNo) (a : ActNo) (held : Option (Stopped C)) → IsNext stands m → p.0 < m.workload.processors → IsSome (line_of m.kernel p)
+      → n ≡ without_context p m → held ≡ stopped_in f m p (owner_of m.kernel p) → n.kernel.acts a.0 ≡ None → upcalls n.kernel p (Interrupt held) ≡ true
+      → Welcomes f stands p (kernel_entered p a (Interrupt held) n)
+  stopped-welcomes m n p a held next within raised is is_held unused up =
+      let kernel : n.kernel ≡ m.kernel = ap (λ (z : Machine U C). z.kernel) is in
+      subst (λ z. Welcomes f stands p (kernel_entered p a (Interrupt held) z)) (sym is)
+      (interrupt-welcomes m p a held next within raised (ap (λ (k : State C). k.acts a.0) (sym kernel) ∙ unused) is_held
+      (ap (λ (k : State C). upcalls k p (Interrupt held)) (sym kernel) ∙ up))
+
+  pub blocked-welcomes : (m n : Machine U C) (p : ProcNo) (a : ActNo) (len : ℕ) (page : Option ℕ) (held : Stopped C) → Asks stands p (Block len page) m → n ≡ without_context p m
+      → stopped_in f m p (owner_of m.kernel p) ≡ Some held → n.kernel.acts a.0 ≡ None → upcalls n.kernel p (BlockEntry held len page) ≡ true
+      → Welcomes f stands p (kernel_entered p a (BlockEntry held len page) n)
+  blocked-welcomes m n p a len page held asks is is_held unused up =
+      let kernel : n.kernel ≡ m.kernel = ap (λ (z : Machine U C). z.kernel) is in
+      subst (λ z. Welcomes f stands p (kernel_entered p a (BlockEntry held len page) z)) (sym is)
+      (block-welcomes m p a len page held asks (ap (λ (k : State C). k.acts a.0) (sym kernel) ∙ unused) is_held
+      (ap (λ (k : State C). upcalls k p (BlockEntry held len page)) (sym kernel) ∙ up))

@@ -366,6 +366,9 @@ impl<U: UserLevel> Machine<U> {
     fn next(&mut self)
         requires { self.old.events < MAX_EVENTS }
         ensures machine { machine_of self.new ≡ next_event (machine_of self.old) }
+        ensures events { self.new.events ≡ self.old.events + 1 }
+        ensures owed { owed self.new ≡ owed self.old }
+        ensures lives { (machine_of self.new).kernel.lives ≡ (machine_of self.old).kernel.lives }
         ensures spare { self.new.kernel.spare ≡ self.old.kernel.spare }
         ensures last { self.new.kernel.last ≡ self.old.kernel.last }
         ensures trace { self.new.trace ≡ self.old.trace }
@@ -399,6 +402,7 @@ impl<U: UserLevel> Machine<U> {
         requires room { n ≤ self.old.trace.spare }
         ensures machine { machine_of self.new
             ≡ gone_in U.calls p n (owner_of (machine_of self.old).kernel p) (machine_of self.old) }
+        ensures events { self.new.events ≡ self.old.events }
         ensures kernel { self.new.kernel ≡ self.old.kernel }
         ensures room { self.new.trace.spare + n ≡ self.old.trace.spare }
     {
@@ -417,6 +421,9 @@ impl<U: UserLevel> Machine<U> {
     fn skip(&mut self, n: u16)
         requires { self.old.events + n ≤ MAX_EVENTS }
         ensures machine { machine_of self.new ≡ more_events n (machine_of self.old) }
+        ensures events { self.new.events ≡ self.old.events + n }
+        ensures owed { owed self.new ≡ owed self.old }
+        ensures lives { (machine_of self.new).kernel.lives ≡ (machine_of self.old).kernel.lives }
         ensures spare { self.new.kernel.spare ≡ self.old.kernel.spare }
         ensures last { self.new.kernel.last ≡ self.old.kernel.last }
         ensures trace { self.new.trace ≡ self.old.trace }

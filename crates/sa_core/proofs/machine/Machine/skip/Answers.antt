@@ -7,10 +7,11 @@ pub loop-i-preserved : goal.loop-i-preserved
 loop-i-preserved g c =
     let inv = c.loop-i.invariant in
     let next = c.next.ensures in
-    let event = ap (λ z. z.event) next.machine in
     record {
       machine = skip-one c.args.n c.loop-i._i (machine_of c.loop-i.self) (machine_of c.next.new.self) _ c.loop-i-test.true next.machine inv.machine;
-      events = omega (arith, event, inv.events);
+      events = omega (arith, next.events, inv.events);
+      owed = next.owed ∙ inv.owed;
+      lives = next.lives ∙ inv.lives;
       spare = next.spare ∙ inv.spare;
       last = next.last ∙ inv.last;
       trace = next.trace ∙ inv.trace;
