@@ -24,6 +24,7 @@ module _ {U C : Type 0} where
     pub items : old.trace.spare + owed new ≤ new.trace.spare + owed old + most
     pub entries : old.kernel.spare ≤ new.kernel.spare + turns
     pub last : new.kernel.last ≤ max old.kernel.last new.events
+    pub events : old.events ≤ new.events
 
 -- what always holds of a core: the room is there, and all stands between two events within the budget
 pub record IsKept {U C : Type 0} (stands : Standing U C) (m : Parts U C) (budget spare : ℕ) : Type 0 where

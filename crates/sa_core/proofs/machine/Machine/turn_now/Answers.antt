@@ -13,4 +13,4 @@ enter-requires-clause-fit g c = λ κs k.
     let m = machine_of c.args.self.now in
     let p = c.args.p in
     let low : line_of m.kernel p ≡ None = none-is (line_of m.kernel p) (ap is_some (sym c.line.ensures) ∙ sym c.is_some.ensures ∙ c.if-is_some.false) in
-    due-fits f stands keep m p c.in-Some.io low (sym c.due.ensures ∙ c.in-Some.is)
+    due-fits f stands keep m p c.in-Some.io low (sym c.due.ensures.soonest ∙ c.in-Some.is)
