@@ -1,0 +1,74 @@
+-- The user levels of a list, one of which changes, and how many have something to do.
+use Rattle.std.proofs.Common.{◌≡◌, ℕ, ◌+◌, ◌*◌, ◌<◌, ◌≤◌, Bool, true, false, Some, List, [], ◌∷◌, ◌++◌, length, get_or, slice_get, slice_set, drop, append_assoc, refl, sym, ap, subst, ◌∙◌, arith}
+use Rattle.std.proofs.lemmas.Option.{slice_get_read}
+use Rattle.std.proofs.lemmas.List.Sums.{sum_by-cons}
+use Rattle.std.specs.Prelude.{sum_by, zero, suc}
+use Rattle.sa_base.specs.declared.limits.TheConstants.{MAX_SPACES}
+use Rattle.sa_instr.specs.Space.{SpaceView}
+use Rattle.sa_instr.specs.Workload.{WorkloadView}
+use Rattle.sa_abstract.specs.Calls.{Calls}
+use Rattle.sa_machine.specs.Run.{setting, started_from}
+use Rattle.sa_core.specs.Users.{one_unless, is_over, is_still, unfinished, active, Counted}
+
+sum-few : {X : Type 0} (test : X → Bool) (xs : List X) → sum_by (λ x. one_unless (test x)) xs ≤ length xs
+sum-few test [] = omega arith
+sum-few test (x ∷ xs) =
+    let h = sum-few test xs in
+    let one = at-most (test x) in
+    rw (sum_by-cons (λ y. one_unless (test y)) x xs) (omega (arith, h, one))
+  where
+    at-most : (b : Bool) → one_unless b ≤ 1
+    at-most true = omega arith
+    at-most false = omega arith
+
+module _ {U C : Type 0} (f : Calls U C) where
+  pub counted-few : (users : List U) (n k : ℕ) → Counted f users n k → (n ≤ length users) × (k ≤ length users)
+  counted-few users n k counted =
+      let a = sum-few (λ u. is_over (f.tally u)) users in
+      let b = sum-few (λ u. is_still (f.tally u)) users in
+      (rw counted.left a, rw counted.work b)
+
+-- one of a list, as it was read there
+module _ {U : Type 0} (xs ys : List U) (i j : ℕ) (x u : U) where
+  pub user-is : xs ≡ ys → j ≡ i → x ≡ get_or xs j x → i < length ys → slice_get ys i ≡ Some u → x ≡ u
+  user-is same here read within at =
+      let got : slice_get ys i ≡ Some x = slice_get_read ys (length ys) i x refl within (read ∙ ap (λ zs. get_or zs j x) same ∙ ap (λ n. get_or ys n x) here) in
+      let e : Some x ≡ Some u = sym got ∙ at in
+      cc
+
+  pub set-by : (g : U → U) (v : U) → xs ≡ ys → j ≡ i → x ≡ u → v ≡ g x → slice_set xs j v ≡ slice_set ys i (g u)
+  set-by g v same here is new = ap (λ zs. slice_set zs j v) same ∙ ap (λ n. slice_set ys n v) here ∙ ap (slice_set ys i) (new ∙ ap g is)
+
+-- the user level of one space more
+pub started-next : {U C : Type 0} (f : Calls U C) (w : WorkloadView) (s m n : ℕ) (defs : List SpaceView) (def : SpaceView) → slice_get defs s ≡ Some def → m ≡ suc s
+    → started_from f w (n + s) (drop s defs) ≡ f.started (setting w (n + s) def) ∷ started_from f w (n + s + 1) (drop m defs)
+started-next f w s m n [] def at next = absurd cc
+started-next f w s zero n (d ∷ defs) def at next = absurd (omega (arith, next))
+started-next f w zero (suc m) n (d ∷ defs) def at next =
+    let e : d ≡ def = cc in
+    let z : m ≡ 0 = omega (arith, next) in
+    let k : n + 0 ≡ n = omega arith in
+    rw (k, z, e) refl
+started-next f w (suc s) (suc m) n (d ∷ defs) def at next =
+    let h = started-next f w s m (n + 1) defs def at (omega (arith, next)) in
+    let e : n + 1 + s ≡ n + suc s = omega arith in
+    subst (λ k. started_from f w k (drop s defs) ≡ f.started (setting w k def) ∷ started_from f w (k + 1) (drop m defs)) e h
+
+-- .. behind those that are started
+pub started-more : {U C : Type 0} (f : Calls U C) (w : WorkloadView) (s m : ℕ) (old new all : List U) (def : SpaceView) → slice_get w.spaces s ≡ Some def → m ≡ suc s
+    → new ≡ old ++ f.started (setting w s def) ∷ [] → old ++ started_from f w s (drop s w.spaces) ≡ all → new ++ started_from f w m (drop m w.spaces) ≡ all
+started-more f w s m old new all def at next is was =
+    let h = started-next f w s m 0 w.spaces def at next in
+    let z : 0 + s ≡ s = omega arith in
+    let y : s + 1 ≡ m = omega (arith, next) in
+    let here : started_from f w s (drop s w.spaces) ≡ f.started (setting w s def) ∷ started_from f w m (drop m w.spaces) =
+        subst (λ k. started_from f w s (drop s w.spaces) ≡ f.started (setting w s def) ∷ started_from f w k (drop m w.spaces)) y
+        (subst (λ k. started_from f w k (drop s w.spaces) ≡ f.started (setting w k def) ∷ started_from f w (k + 1) (drop m w.spaces)) z h) in
+    ap (λ xs. xs ++ started_from f w m (drop m w.spaces)) is
+    ∙ append_assoc old (f.started (setting w s def) ∷ []) (started_from f w m (drop m w.spaces))
+    ∙ ap (λ xs. old ++ xs) (sym here) ∙ was
+
+pub read-at : {A : Type 0} (xs : List A) (i : ℕ) → i < length xs → (x : A) × (slice_get xs i ≡ Some x)
+read-at [] i below = absurd (omega (arith, below))
+read-at (x ∷ xs) zero below = (x, refl)
+read-at (x ∷ xs) (suc i) below = read-at xs i (omega (arith, below))

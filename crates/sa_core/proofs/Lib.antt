@@ -1,0 +1,6 @@
+pub mod CountLemmas
+pub mod EndLemmas
+pub mod EnterLemmas
+pub mod CallLemmas
+pub mod EntryLemmas
+pub mod CoreLemmas

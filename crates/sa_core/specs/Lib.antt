@@ -1,0 +1,4 @@
+pub mod Users
+pub mod View
+pub mod Room
+pub mod Needs

@@ -1,0 +1,9 @@
+//! The machine: the kernel, the user level of each space, and the contexts that run. One call is one event.
+#![tactic(auto)]
+
+mod machine;
+mod room;
+mod run;
+mod users;
+
+pub use run::Core;
