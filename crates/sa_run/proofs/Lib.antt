@@ -1,1 +1,2 @@
 pub mod SoFar
+mod Chain

@@ -9,4 +9,4 @@ use Rattle.sa_run.specs.Run.{RunsTo, RunsSoFar}
 
 pub so-far : {U C : Type 0} (f : Calls U C) (w : WorkloadView) (order : Order) (budget : ℕ) (items : List Item) (e : End) (events : ℕ)
     → RunsTo f w order budget items e events → RunsSoFar f w order budget items
-so-far f w order budget items e events runs = record { events = events; machine = runs.machine; turns = runs.turns; items = runs.items }
+so-far f w order budget items e events runs = record { events = events; machine = runs.machine; turns = runs.turns; shows = runs.shows }

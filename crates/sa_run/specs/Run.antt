@@ -23,12 +23,12 @@ module _ {U C : Type 0} (f : Calls U C) where
   pub record RunsTo (w : WorkloadView) (order : Order) (budget : ℕ) (items : List Item) (end : End) (events : ℕ) : Type 0 where
     pub machine : Machine U C
     pub turns : TurnsTo w order budget events machine
-    pub items : items ≡ machine.items
-    pub end : end_of f budget machine ≡ Some end
+    pub shows : items ≡ machine.items
+    pub ends : end_of f budget machine ≡ Some end
 
   -- the run of the workload comes so far
   pub record RunsSoFar (w : WorkloadView) (order : Order) (budget : ℕ) (items : List Item) : Type 0 where
     pub events : ℕ
     pub machine : Machine U C
     pub turns : TurnsTo w order budget events machine
-    pub items : items ≡ machine.items
+    pub shows : items ≡ machine.items

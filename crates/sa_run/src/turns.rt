@@ -6,6 +6,7 @@ use sa_abstract::UserLevel;
 use sa_base::{End, MAX_EVENTS, Trace};
 use sa_core::Core;
 use sa_instr::Workload;
+use sa_sched::laws::turns_are_in_order;
 use sa_sched::{Kind, Schedule};
 use std::alloc::Global;
 
@@ -34,6 +35,7 @@ pub fn run<U: UserLevel>(
     ensures err { IfErr result (λ trace. (trace.items ≡ [])
         ⊎ RunsSoFar U.calls workload (order_of kind) budget trace.items) }
 {
+    turns_are_in_order();
     let mut schedule = Schedule::new(kind, workload.processors());
     let Ok(mut core) = Core::<U>::start(alloc, workload, budget) else {
         return Err(Trace::new(alloc));
@@ -47,8 +49,8 @@ pub fn run<U: UserLevel>(
                 events,
             });
         }
-        if core.turn(schedule.next()).is_err() {
+        let Ok(()) = core.turn(schedule.next()) else {
             return Err(core.into_trace());
-        }
+        };
     }
 }
