@@ -19,16 +19,15 @@ use Rattle.sa_kernel.specs.State.{State, owner_of}
 use Rattle.sa_kernel.specs.Entries.{held_for, next_note, after_fetch, fetched}
 use Rattle.sa_kernel.specs.Sound.{AreClaimed}
 use Rattle.sa_instr.specs.Space.{SpaceView}
-use Rattle.sa_machine.specs.Machine.{Machine, user_of, context_on, seen_on, called, answered, told, stepped, gone}
+use Rattle.sa_machine.specs.Machine.{Machine, user_of, context_on, seen_on, called, told, stepped, gone}
 use Rattle.sa_machine.specs.Turn.{told_one, told_all, gone_in}
-use Rattle.sa_machine.specs.End.{local_on, local_in, local_by}
+use Rattle.sa_machine.specs.End.{local_on}
 use Rattle.sa_machine.specs.Run.{setting, CanGo}
 use Rattle.sa_machine.specs.Standing.{Stands}
 use Rattle.sa_machine.proofs.Phases.{IsAt, at-owned}
-use Rattle.sa_machine.proofs.Calls.{is-of, is-seen_of, is-step, is-going, value-at, mine, handed-next, Tells, tells-next}
+use Rattle.sa_machine.proofs.Calls.{is-of, is-seen_of, is-step, is-going, value-at, mine, handed-next, tells-next}
 use Rattle.sa_machine.proofs.Turns.{step-law}
 use Rattle.sa_machine.proofs.Runs.{local-is}
-use Rattle.sa_core.specs.Needs.{IsNext}
 
 -- a context that was read in its place
 pub read-ctx : {C : Type 0} (cs : List (Option C)) (i j : ℕ) (x : Option C) (d : C) → i < length cs → j ≡ i → x ≡ get_or cs j x → x ≡ Some d → get_or cs i None ≡ Some d
@@ -231,13 +230,22 @@ module _ {U C : Type 0} (f : Calls U C) (stands : Standing U C) (keep : Keeps f 
       go [] is =
           let h = none is in
           subst (λ (z : Machine U C). ToldOne p s m z more) (sym h.1) (record {
-            standing = st; owner = owner; claimed = claimed; rest = refl; done = λ e. is;
+            standing = st;
+            owner = owner;
+            claimed = claimed;
+            rest = refl;
+            done = λ e. is;
             less = rw (h.0, is) (omega arith);
           })
       go (note ∷ notes) is =
           let h = some note notes is in
           let t = tells-next f stands keep m.workload m.event m.event m p s note notes (record {
-            workload = refl; event = refl; standing = st; claimed = claimed; owner = owner; telling = is;
+            workload = refl;
+            event = refl;
+            standing = st;
+            claimed = claimed;
+            owner = owner;
+            telling = is;
           }) in
           let after = told_one f p s note notes m in
           let len : length after.kernel.telling ≡ length notes = ap (λ ns. length ns) t.telling in

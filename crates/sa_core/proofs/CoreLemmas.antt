@@ -1,10 +1,9 @@
 -- What a core keeps.
-use Rattle.std.proofs.Common.{◌≡◌, ◌≢◌, ℕ, zero, suc, ◌+◌, ◌-◌, ◌*◌, ◌%◌, ◌<◌, ◌≤◌, ◌==◌, if◌then◌else◌, min, max, Bool, true, false, Option, Some, None, List, [], length, refl, sym, ap, subst, ◌∙◌, inl, inr, arith, mod-lt}
+use Rattle.std.proofs.Common.{◌≡◌, ◌≢◌, ℕ, zero, suc, ◌+◌, ◌-◌, ◌%◌, ◌<◌, ◌≤◌, ◌==◌, if◌then◌else◌, min, Bool, true, false, Some, None, List, refl, sym, ap, subst, ◌∙◌, inl, inr, arith, mod-lt}
 use Rattle.std.proofs.lemmas.Bool.{cases_eq}
 use Rattle.std.proofs.lemmas.Bool.Decides.{nat_tests}
 use Rattle.sa_base.specs.declared.number.ProcNo.{ProcNo}
 use Rattle.sa_base.specs.declared.limits.TheConstants.{MAX_EVENTS}
-use Rattle.sa_base.specs.declared.record.End.{End}
 use Rattle.sa_base.specs.declared.record.End.TheVariants.{AllDone, Stuck, Budget}
 use Rattle.sa_instr.specs.Workload.{WorkloadView, IsWorkload}
 use Rattle.sa_instr.specs.declared.instr.Instr.{Instr}
@@ -75,8 +74,8 @@ module _ {U C : Type 0} (f : Calls U C) (stands : Standing U C) (keep : Keeps f 
   kept-turn m new p budget spare kept by spends within left some =
       let few : m.events + 1 ≤ MAX_EVENTS = omega (arith, left, kept.few) in
       let rest : Rests f stands keep m.workload (m.events + 1) (m.events + 1) (machine_of new) =
-          subst (λ (z : Machine U C). Rests f stands keep m.workload (m.events + 1) (m.events + 1) z) (sym by.is)
-          (rests-turned f stands keep (machine_of m) p by.fresh kept.between few within by.unused) in
+      subst (λ (z : Machine U C). Rests f stands keep m.workload (m.events + 1) (m.events + 1) z) (sym by.is)
+      (rests-turned f stands keep (machine_of m) p by.fresh kept.between few within by.unused) in
       let e : new.events ≡ m.events + 1 = rest.event in
       record {
         kept = record {
@@ -108,7 +107,10 @@ goes-fewer s n k Away few goes = goes
 module _ {U C : Type 0} (f : Calls U C) where
   pub can-fewer : (m : Machine U C) (p : ProcNo) (n k : ℕ) → k ≤ n → CanGo f m p n → CanGo f m p k
   can-fewer m p n k few can = record {
-    space = can.space; def = can.def; owner = can.owner; is_def = can.is_def;
+    space = can.space;
+    def = can.def;
+    owner = can.owner;
+    is_def = can.is_def;
     goes = goes-fewer (setting m.workload can.space.0 can.def) n k (local_on f m p) few can.goes;
   }
 
@@ -138,8 +140,8 @@ module _ {U C : Type 0} (f : Calls U C) (stands : Standing U C) (keep : Keeps f 
   kept-commit m new p zero budget spare kept is spends some room left can = absurd (omega (arith, some))
   kept-commit m new p (suc j) budget spare kept is spends some room left can =
       let rest : Rests f stands keep m.workload (m.events + suc j) (m.events + suc j) (machine_of new) =
-          subst (λ (z : Machine U C). Rests f stands keep m.workload (m.events + suc j) (m.events + suc j) z) (sym is)
-          (rests-committed f stands keep (machine_of m) p j kept.between (omega (arith, left, kept.few)) can) in
+      subst (λ (z : Machine U C). Rests f stands keep m.workload (m.events + suc j) (m.events + suc j) z) (sym is)
+      (rests-committed f stands keep (machine_of m) p j kept.between (omega (arith, left, kept.few)) can) in
       let e : new.events ≡ m.events + suc j = rest.event in
       record {
         kept = record {
@@ -167,7 +169,7 @@ ready {U} {C} f stands m mid old budget spare view is budgets none kept =
     let same : machine_of m ≡ machine old = ap (λ (v : CoreView U C). machine v) view ∙ is in
     let limit : budget ≡ old.budget = ap (λ (v : CoreView U C). v.budget) view ∙ budgets in
     let on : end_of f budget (machine_of m) ≡ None =
-        ap (λ (b : ℕ). end_of f b (machine_of m)) limit ∙ ap (λ (z : Machine U C). end_of f old.budget z) same ∙ none in
+    ap (λ (b : ℕ). end_of f b (machine_of m)) limit ∙ ap (λ (z : Machine U C). end_of f old.budget z) same ∙ none in
     record { same = same; left = goes-on f budget (machine_of m) on kept.within }
 
 pub next-go : {U C : Type 0} (f : Calls U C) (stands : Standing U C) (keep : Keeps f stands) (m : Parts U C) (old : CoreView U C) (budget spare n k : ℕ) (p : ProcNo)

@@ -1,14 +1,13 @@
 -- The user levels of a list, one of which changes, and how many have something to do.
-use Rattle.std.proofs.Common.{◌≡◌, ℕ, ◌+◌, ◌*◌, ◌<◌, ◌≤◌, Bool, true, false, Some, List, [], ◌∷◌, ◌++◌, length, get_or, slice_get, slice_set, drop, append_assoc, refl, sym, ap, subst, ◌∙◌, arith}
+use Rattle.std.proofs.Common.{◌≡◌, ℕ, ◌+◌, ◌<◌, ◌≤◌, Bool, true, false, Some, List, [], ◌∷◌, ◌++◌, length, get_or, slice_get, slice_set, drop, append_assoc, refl, sym, ap, subst, ◌∙◌, arith}
 use Rattle.std.proofs.lemmas.Option.{slice_get_read}
 use Rattle.std.proofs.lemmas.List.Sums.{sum_by-cons}
 use Rattle.std.specs.Prelude.{sum_by, zero, suc}
-use Rattle.sa_base.specs.declared.limits.TheConstants.{MAX_SPACES}
 use Rattle.sa_instr.specs.Space.{SpaceView}
 use Rattle.sa_instr.specs.Workload.{WorkloadView}
 use Rattle.sa_abstract.specs.Calls.{Calls}
 use Rattle.sa_machine.specs.Run.{setting, started_from}
-use Rattle.sa_core.specs.Users.{one_unless, is_over, is_still, unfinished, active, Counted}
+use Rattle.sa_core.specs.Users.{one_unless, is_over, is_still, Counted}
 
 sum-few : {X : Type 0} (test : X → Bool) (xs : List X) → sum_by (λ x. one_unless (test x)) xs ≤ length xs
 sum-few test [] = omega arith
@@ -62,8 +61,8 @@ started-more f w s m old new all def at next is was =
     let z : 0 + s ≡ s = omega arith in
     let y : s + 1 ≡ m = omega (arith, next) in
     let here : started_from f w s (drop s w.spaces) ≡ f.started (setting w s def) ∷ started_from f w m (drop m w.spaces) =
-        subst (λ k. started_from f w s (drop s w.spaces) ≡ f.started (setting w s def) ∷ started_from f w k (drop m w.spaces)) y
-        (subst (λ k. started_from f w k (drop s w.spaces) ≡ f.started (setting w k def) ∷ started_from f w (k + 1) (drop m w.spaces)) z h) in
+    subst (λ k. started_from f w s (drop s w.spaces) ≡ f.started (setting w s def) ∷ started_from f w k (drop m w.spaces)) y
+    (subst (λ k. started_from f w k (drop s w.spaces) ≡ f.started (setting w k def) ∷ started_from f w (k + 1) (drop m w.spaces)) z h) in
     ap (λ xs. xs ++ started_from f w m (drop m w.spaces)) is
     ∙ append_assoc old (f.started (setting w s def) ∷ []) (started_from f w m (drop m w.spaces))
     ∙ ap (λ xs. old ++ xs) (sym here) ∙ was

@@ -1,35 +1,30 @@
 -- What entries and steps need, and what holds behind them.
-use Rattle.std.proofs.Common.{◌≡◌, ◌≢◌, ℕ, ◌+◌, ◌<◌, ◌≤◌, Bool, true, false, Option, Some, None, is_some, IsSome, IfSome, List, [], ◌∷◌, length, refl, sym, ap, subst, ◌∙◌, arith}
+use Rattle.std.proofs.Common.{◌≡◌, ◌≢◌, ℕ, ◌+◌, ◌<◌, ◌≤◌, true, Option, Some, None, IsSome, IfSome, length, refl, sym, ap, subst, ◌∙◌, arith}
 use Rattle.std.specs.Option.{option_map}
-use Rattle.std.specs.Int.{bit_at}
-use Rattle.std.proofs.lemmas.Option.{same_Some}
 use Rattle.sa_base.specs.declared.number.ProcNo.{ProcNo}
 use Rattle.sa_base.specs.declared.number.SpaceNo.{SpaceNo}
 use Rattle.sa_base.specs.declared.number.ActNo.{ActNo}
 use Rattle.sa_base.specs.declared.number.IoNo.{IoNo}
-use Rattle.sa_base.specs.declared.context.Seen.{Seen}
 use Rattle.sa_base.specs.declared.context.Stopped.{Stopped}
 use Rattle.sa_base.specs.declared.limits.TheConstants.{MAX_EVENTS}
-use Rattle.sa_instr.specs.Space.{SpaceView}
 use Rattle.sa_instr.specs.Workload.{WorkloadView}
 use Rattle.sa_abstract.specs.Calls.{Calls}
-use Rattle.sa_abstract.specs.Keeps.{Standing, Keeps, IsAsked}
+use Rattle.sa_abstract.specs.Keeps.{Standing, Keeps}
 use Rattle.sa_abstract.specs.declared.answer.Step.{Step}
-use Rattle.sa_abstract.specs.declared.answer.Step.TheVariants.{Did, Block, More, Idle, GiveBack, InterruptOwn}
+use Rattle.sa_abstract.specs.declared.answer.Step.TheVariants.{Block, More, Idle, GiveBack, InterruptOwn}
 use Rattle.sa_devices.specs.Ios.{due_of, io_at, io_no}
 use Rattle.sa_devices.proofs.IosLemmas.{due_of-under_way}
-use Rattle.sa_kernel.specs.declared.entry.Entry.{Entry}
 use Rattle.sa_kernel.specs.declared.entry.Entry.TheVariants.{Interrupt, Block as BlockEntry, Complete, More as MoreEntry, Idle as IdleEntry, GiveBack as GiveBackEntry, InterruptOwn as InterruptOwnEntry}
 use Rattle.sa_kernel.specs.State.{State, owner_of, line_of}
 use Rattle.sa_kernel.specs.Kept.{IsFit, Asks as KernelAsks, upcalls}
 use Rattle.sa_kernel.specs.Sound.{AreClaimed}
 use Rattle.sa_kernel.proofs.SeenLemmas.{low-bit}
-use Rattle.sa_machine.specs.Machine.{Machine, user_of, context_on, seen_on, scene_of, without_context, stopped_in, stepped, step_to, begun}
+use Rattle.sa_machine.specs.Machine.{Machine, seen_on, scene_of, without_context, stopped_in, stepped, step_to, begun}
 use Rattle.sa_machine.specs.Turn.{kernel_entered, next_event}
-use Rattle.sa_machine.specs.Run.{setting, CanGo}
+use Rattle.sa_machine.specs.Run.{CanGo}
 use Rattle.sa_machine.specs.Standing.{Stands, IsBetween}
 use Rattle.sa_machine.proofs.Effects.{same-more, same-idled, same-own}
-use Rattle.sa_machine.proofs.Phases.{some-is, IsAt, at-owned, stands-later}
+use Rattle.sa_machine.proofs.Phases.{some-is, at-owned, stands-later}
 use Rattle.sa_machine.proofs.Turns.{Rests, begun-is, rests-next, Welcomed, CanEnter, can-interrupt, can-block, welcomed-upcall, rests-between, rests-entered, rests-given, stopped-is, stepped-is, rests-stepped, step-law, between-rests, own-page}
 use Rattle.sa_core.specs.Needs.{Welcomes, IsNext, Asks}
 
@@ -109,7 +104,9 @@ module _ {U C : Type 0} (f : Calls U C) (stands : Standing U C) (keep : Keeps f 
 
   pub more-fits : (m : Machine U C) (p : ProcNo) (n : ℕ) → Asks stands p (More n) m → IsFit m.kernel p m.event (MoreEntry n)
   more-fits m p n asks = record {
-    space = asks.space; asks = asks-of m p (More n) asks; some = asks.can.0;
+    space = asks.space;
+    asks = asks-of m p (More n) asks;
+    some = asks.can.0;
     few = (let few = asks.can.1 in omega (arith, few, asks.between.standing.lives));
   }
 

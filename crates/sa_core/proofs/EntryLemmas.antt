@@ -1,5 +1,5 @@
 -- What an entry makes of the machine, and the upcall behind it.
-use Rattle.std.proofs.Common.{◌≡◌, ◌≢◌, ℕ, ◌+◌, ◌<◌, ◌≤◌, Bool, true, false, Option, Some, None, List, [], ◌∷◌, length, refl, sym, ap, subst, ◌∙◌, arith}
+use Rattle.std.proofs.Common.{◌≡◌, ◌≢◌, Bool, true, false, Some, None, refl, sym, ap, subst, ◌∙◌}
 use Rattle.std.proofs.lemmas.Option.{same_Some}
 use Rattle.sa_base.specs.declared.number.ProcNo.{ProcNo}
 use Rattle.sa_base.specs.declared.number.SpaceNo.{SpaceNo}
@@ -8,7 +8,7 @@ use Rattle.sa_abstract.specs.Calls.{Calls}
 use Rattle.sa_abstract.specs.Keeps.{Standing}
 use Rattle.sa_kernel.specs.declared.entry.Entry.{Entry}
 use Rattle.sa_kernel.specs.declared.entry.Given.{Given}
-use Rattle.sa_kernel.specs.declared.entry.Given.TheVariants.{Nothing, Upcall}
+use Rattle.sa_kernel.specs.declared.entry.Given.TheVariants.{Nothing}
 use Rattle.sa_kernel.specs.State.{State, Scene, owner_of}
 use Rattle.sa_kernel.specs.Entries.{entered}
 use Rattle.sa_kernel.specs.Kept.{upcalls}

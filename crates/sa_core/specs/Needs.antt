@@ -1,5 +1,5 @@
 -- What holds in the middle of an event.
-use Rattle.std.specs.Prelude.{◌≡◌, ℕ, ◌+◌, ◌≤◌, ◌<◌, Option, Some, None, [], length, slice_get}
+use Rattle.std.specs.Prelude.{◌≡◌, ℕ, ◌≤◌, ◌<◌, Some, None, [], length, slice_get}
 use Rattle.sa_base.specs.declared.number.ProcNo.{ProcNo}
 use Rattle.sa_base.specs.declared.number.SpaceNo.{SpaceNo}
 use Rattle.sa_base.specs.declared.number.ActNo.{ActNo}
@@ -8,7 +8,7 @@ use Rattle.sa_instr.specs.Space.{SpaceView}
 use Rattle.sa_abstract.specs.Calls.{Calls}
 use Rattle.sa_abstract.specs.Keeps.{Standing, IsBefore, IsAsked}
 use Rattle.sa_abstract.specs.declared.answer.Step.{Step}
-use Rattle.sa_kernel.specs.State.{State, owner_of, line_of}
+use Rattle.sa_kernel.specs.State.{owner_of, line_of}
 use Rattle.sa_kernel.specs.Sound.{AreClaimed}
 use Rattle.sa_machine.specs.Machine.{Machine, user_of, seen_on, begun}
 use Rattle.sa_machine.specs.Run.{setting}

@@ -83,7 +83,8 @@ impl<U: UserLevel> Machine<U> {
     fn stop(&mut self, p: ProcNo) -> Option<Stopped<U::Ctx>>
         requires within { p.0 < self.old.workload.processors }
         requires stands { (e : ℕ) × Stands U.stands e (machine_of self.old) }
-        ensures held { result ≡ stopped_in U.calls (machine_of self.old) p (owner_of (machine_of self.old).kernel p) }
+        ensures held { let m = machine_of self.old in
+            result ≡ stopped_in U.calls m p (owner_of m.kernel p) }
         ensures machine { machine_of self.new ≡ without_context p (machine_of self.old) }
         ensures kernel { self.new.kernel ≡ self.old.kernel }
         ensures trace { self.new.trace ≡ self.old.trace }
@@ -113,8 +114,10 @@ impl<U: UserLevel> Machine<U> {
         requires claimed { AreClaimed (machine_of self.old).kernel s.0 }
         ensures none { (machine_of self.old).kernel.telling ≡ []
             → (result ≡ false) × (machine_of self.new ≡ machine_of self.old) }
-        ensures some { (note : Note) (notes : List Note) → (machine_of self.old).kernel.telling ≡ note ∷ notes
-            → (result ≡ true) × (machine_of self.new ≡ told_one U.calls p s note notes (machine_of self.old)) }
+        ensures some { (note : Note) (notes : List Note)
+            → (machine_of self.old).kernel.telling ≡ note ∷ notes
+            → (result ≡ true)
+            × (machine_of self.new ≡ told_one U.calls p s note notes (machine_of self.old)) }
         ensures spends { Spends self.old self.new 0 0 }
     {
         let Some((note, held)) = self.kernel.next_note() else {
@@ -165,7 +168,8 @@ impl<U: UserLevel> Machine<U> {
     fn welcome(&mut self, p: ProcNo)
         requires { Welcomes U.calls U.stands p (machine_of self.old) }
         ensures machine { machine_of self.new
-            ≡ welcomed_in U.calls p (owner_of (machine_of self.old).kernel p) (machine_of self.old) }
+            ≡ welcomed_in U.calls p (owner_of (machine_of self.old).kernel p)
+            (machine_of self.old) }
         ensures spends { Spends self.old self.new 0 0 }
     {
         let Some(s) = self.kernel.owner(p) else {
@@ -332,7 +336,8 @@ impl<U: UserLevel> Machine<U> {
         requires entries { 1 ≤ self.old.kernel.spare }
         requires room { EVENT_ITEMS + owed self.old ≤ self.old.trace.spare }
         ensures machine { ByFresh (machine_of self.old) (machine_of self.new)
-            (λ fresh. turned_owned U.calls p fresh (owner_of (machine_of self.old).kernel p) (machine_of self.old)) }
+            (λ fresh. turned_owned U.calls p fresh (owner_of (machine_of self.old).kernel p)
+            (machine_of self.old)) }
         ensures spends { Spends self.old self.new EVENT_ITEMS 1 }
     {
         let Some(s) = self.kernel.owner(p) else {

@@ -58,7 +58,7 @@ impl<U: UserLevel> Core<U> {
     pub fn reserve(&mut self, events: usize) -> Result<(), AllocError>
         ensures ok { OnOk result (events ≤ self.new.spare) }
         ensures grows { self.old.spare ≤ self.new.spare }
-        ensures machine { (machine self.new) ≡ (machine self.old) }
+        ensures machine { machine self.new ≡ machine self.old }
         ensures budget { self.new.budget ≡ self.old.budget }
         ensures err { OnErr result (IsSame self.old self.new) }
     {
@@ -73,7 +73,7 @@ impl<U: UserLevel> Core<U> {
     fn make_room(&mut self, n: usize) -> Result<(), AllocError>
         ensures ok { OnOk result (n ≤ self.new.spare) }
         ensures grows { self.old.spare ≤ self.new.spare }
-        ensures machine { (machine self.new) ≡ (machine self.old) }
+        ensures machine { machine self.new ≡ machine self.old }
         ensures budget { self.new.budget ≡ self.old.budget }
         ensures err { OnErr result ((self.old.spare < n) × IsSame self.old self.new) }
     {
@@ -108,10 +108,12 @@ impl<U: UserLevel> Core<U> {
         requires within { p.0 < (machine self.old).workload.processors }
         requires goes_on { end_of U.calls self.old.budget (machine self.old) ≡ None }
         requires low { line_of (machine self.old).kernel p ≡ None }
-        requires next { AreNextLocal (machine self.old).workload n (local_on U.calls (machine self.old) p) }
+        requires next { AreNextLocal (machine self.old).workload n
+            (local_on U.calls (machine self.old) p) }
         ensures made { IfOk result (λ k. k ≡ committable self.old.budget (machine self.old) n) }
         ensures some { IfOk result (λ k. 1 ≤ k) }
-        ensures machine { IfOk result (λ k. (machine self.new) ≡ committed U.calls p k (machine self.old)) }
+        ensures machine { IfOk result (λ k.
+            machine self.new ≡ committed U.calls p k (machine self.old)) }
         ensures workload { (machine self.new).workload ≡ (machine self.old).workload }
         ensures budget { self.new.budget ≡ self.old.budget }
         ensures spare { self.old.spare ≤ self.new.spare + n }

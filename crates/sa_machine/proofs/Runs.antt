@@ -171,7 +171,10 @@ module _ {U C : Type 0} (f : Calls U C) (stands : Standing U C) (keep : Keeps f 
           let is = local-is m p s here in
           let seat = (keep.seats (setting m.workload s.0 here.def) e here.user (contexts_of m s.0) here.act.0 here.ctx (value-at f stands keep e m p s st here) (mine f stands keep e m p s st here)).0 in
           record {
-            space = s; def = here.def; owner = owner; is_def = here.is_def;
+            space = s;
+            def = here.def;
+            owner = owner;
+            is_def = here.is_def;
             goes = subst (λ (x : SeatState). GoesOn (setting m.workload s.0 here.def) n x) (sym is)
                 (seat-go m.workload s here.def n (f.local here.user here.ctx) here.is_def seat (subst (λ (x : SeatState). AreNextLocal m.workload n x) is next));
           }

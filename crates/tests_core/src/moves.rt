@@ -51,7 +51,8 @@ fn goes(program: &Program, regs: &mut Regs, pc: &mut u16, n: u16) -> bool
 // Whether the next n instructions of the context that runs on a processor are local.
 fn can_go<U: UserLevel>(core: &Core<U>, p: ProcNo, n: u16) -> bool
     requires { p.0 < (machine core.now).workload.processors }
-    ensures { result ≡ true → AreNextLocal (machine core.now).workload n (local_on U.calls (machine core.now) p) }
+    ensures { result ≡ true → AreNextLocal (machine core.now).workload n
+        (local_on U.calls (machine core.now) p) }
 {
     let SeatState::Local {
         space,

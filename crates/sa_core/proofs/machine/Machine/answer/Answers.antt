@@ -1,4 +1,4 @@
-use Rattle.std.proofs.Common.{◌≡◌, ◌+◌, ◌<◌, ◌≤◌, Option, Some, None, is_some, false, sym, ap, subst, ◌∙◌, arith}
+use Rattle.std.proofs.Common.{sym, ap, subst, ◌∙◌}
 use Rattle.sa_core.specs.View.{machine_of}
 use Rattle.sa_abstract.specs.declared.answer.Step.{Step}
 use Rattle.sa_machine.specs.Turn.{asked}

@@ -1,4 +1,4 @@
-use Rattle.std.proofs.Common.{◌≡◌, ◌+◌, ◌<◌, ◌≤◌, Option, Some, None, is_some, false, sym, ap, subst, ◌∙◌, arith}
+use Rattle.std.proofs.Common.{sym, ◌∙◌}
 use Rattle.sa_core.specs.View.{machine_of}
 use Rattle.sa_core.proofs.EnterLemmas.{blocked-welcomes}
 use Rattle.sa_core.proofs.machine.Machine.block.Goals as goal

@@ -1,8 +1,6 @@
-use Rattle.std.proofs.Common.{◌≡◌, ◌≢◌, ◌+◌, ◌-◌, ◌<◌, ◌≤◌, ◌++◌, Option, Some, None, List, [], ◌∷◌, true, false, length, slice_set, refl, sym, ap, subst, ◌∙◌, arith}
+use Rattle.std.proofs.Common.{◌≡◌, Some, sym, ◌∙◌}
 use Rattle.sa_core.specs.View.{machine_of}
-use Rattle.sa_base.specs.declared.number.SpaceNo.{SpaceNo}
 use Rattle.sa_kernel.specs.State.{owner_of}
-use Rattle.sa_machine.specs.End.{local_in}
 use Rattle.sa_core.proofs.CallLemmas.{read-ctx, the-user, has-place, of-here, local-here}
 use Rattle.sa_core.proofs.machine.Machine.context.Goals as goal
 

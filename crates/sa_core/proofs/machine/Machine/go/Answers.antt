@@ -1,4 +1,4 @@
-use Rattle.std.proofs.Common.{◌≡◌, ◌≢◌, ◌+◌, ◌-◌, ◌<◌, ◌≤◌, ◌++◌, Option, Some, None, List, [], ◌∷◌, true, false, length, slice_set, refl, sym, ap, subst, ◌∙◌, arith}
+use Rattle.std.proofs.Common.{◌≡◌, Some, sym, ◌∙◌}
 use Rattle.sa_core.specs.View.{machine_of}
 use Rattle.sa_kernel.specs.State.{owner_of}
 use Rattle.sa_core.proofs.CallLemmas.{read-ctx, set-again, gone-as, the-user, has-place, going-here}

@@ -1,4 +1,3 @@
-use Rattle.std.proofs.Common.{◌≡◌, ◌+◌, ◌<◌, ◌≤◌, Option, Some, None, is_some, false, sym, ap, subst, ◌∙◌, arith}
 use Rattle.sa_core.specs.View.{machine_of}
 use Rattle.sa_core.proofs.EnterLemmas.{stopped-welcomes}
 use Rattle.sa_core.proofs.machine.Machine.interrupt.Goals as goal

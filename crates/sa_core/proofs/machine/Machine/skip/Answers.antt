@@ -1,4 +1,4 @@
-use Rattle.std.proofs.Common.{◌≡◌, ◌≢◌, ◌+◌, ◌-◌, ◌<◌, ◌≤◌, ◌++◌, Option, Some, None, List, [], ◌∷◌, true, false, length, slice_set, refl, sym, ap, subst, ◌∙◌, arith}
+use Rattle.std.proofs.Common.{◌∙◌, arith}
 use Rattle.sa_core.specs.View.{machine_of}
 use Rattle.sa_core.proofs.EndLemmas.{skip-one}
 use Rattle.sa_core.proofs.machine.Machine.skip.Goals as goal

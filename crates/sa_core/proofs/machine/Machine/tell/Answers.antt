@@ -1,7 +1,6 @@
-use Rattle.std.proofs.Common.{◌≡◌, ◌≢◌, ℕ, ◌+◌, ◌-◌, ◌<◌, ◌≤◌, ◌++◌, Option, Some, None, List, [], ◌∷◌, true, false, cond, length, slice_set, refl, sym, ap, subst, ◌∙◌, arith}
+use Rattle.std.proofs.Common.{◌≡◌, ℕ, cond, ap, ◌∙◌, arith}
 use Rattle.sa_core.specs.View.{machine_of}
 use Rattle.sa_core.proofs.CallLemmas.{told-one}
-use Rattle.sa_machine.specs.Turn.{told_all}
 use Rattle.sa_core.proofs.machine.Machine.tell.Goals as goal
 
 pub loop-left-smaller : goal.loop-left-smaller

@@ -1,4 +1,4 @@
-use Rattle.std.proofs.Common.{◌≡◌, ◌≢◌, ◌+◌, ◌<◌, ◌≤◌, ◌++◌, Option, Some, None, List, [], ◌∷◌, true, false, length, slice_set, refl, sym, ap, subst, ◌∙◌, arith}
+use Rattle.std.proofs.Common.{Some, refl, sym, ◌∙◌}
 use Rattle.sa_core.specs.View.{machine_of}
 use Rattle.sa_kernel.specs.Kept.{kernel_of}
 use Rattle.sa_core.proofs.CallLemmas.{read-ctx, set-again, next-is, told-as, told-cons, the-user, has-place, telling-here}

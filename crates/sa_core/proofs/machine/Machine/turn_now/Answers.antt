@@ -1,4 +1,4 @@
-use Rattle.std.proofs.Common.{◌≡◌, ◌+◌, ◌<◌, ◌≤◌, Option, Some, None, is_some, false, sym, ap, subst, ◌∙◌, arith}
+use Rattle.std.proofs.Common.{◌≡◌, None, is_some, sym, ap, ◌∙◌}
 use Rattle.sa_core.specs.View.{machine_of}
 use Rattle.sa_kernel.specs.State.{line_of}
 use Rattle.sa_machine.proofs.Phases.{none-is}

@@ -1,6 +1,5 @@
-use Rattle.std.proofs.Common.{◌≡◌, Some, sym, ap, subst, ◌∙◌}
+use Rattle.std.proofs.Common.{◌≡◌, Some, sym, ◌∙◌}
 use Rattle.sa_kernel.specs.State.{owner_of}
-use Rattle.sa_machine.specs.Standing.{Stands}
 use Rattle.sa_core.specs.View.{machine_of}
 use Rattle.sa_core.proofs.EntryLemmas.{begun-so, user-so, welcomed-as}
 use Rattle.sa_core.proofs.machine.Machine.welcome.Goals as goal

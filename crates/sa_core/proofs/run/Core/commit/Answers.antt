@@ -1,7 +1,6 @@
-use Rattle.std.proofs.Common.{◌≡◌, ◌+◌, ◌-◌, ◌<◌, ◌≤◌, sym, ap, subst, ◌∙◌, arith}
+use Rattle.std.proofs.Common.{◌-◌, ◌≤◌, ap, ◌∙◌, arith}
 use Rattle.sa_machine.specs.Machine.{Machine}
-use Rattle.sa_core.specs.View.{CoreView, machine_of, machine}
-use Rattle.sa_core.specs.Room.{IsKept}
+use Rattle.sa_core.specs.View.{CoreView, machine_of}
 use Rattle.sa_core.proofs.CoreLemmas.{ready, are-left, next-go, kept-commit}
 use Rattle.sa_core.proofs.run.Core.commit.Goals as goal
 
@@ -11,7 +10,7 @@ commit-requires-clause-can g c =
     let f = g.U.UserLevel.calls in
     let k = c.self.inside in
     let is = ready f g.U.UserLevel.stands k.machine c.make_room.new.self c.args.self.now k.budget k.spare c.self.view_is c.make_room.ensures.machine c.make_room.ensures.budget
-        c.requires.goes_on c.self.invariant in
+    c.requires.goes_on c.self.invariant in
     let are = are-left k.budget (machine_of k.machine) c.args.n c.requires.some is.left in
     next-go f g.U.UserLevel.stands keep k.machine c.args.self.now k.budget k.spare c.args.n c.committable-made.result c.args.p is c.self.invariant c.requires.next
     (rw c.committable-made.ensures are.few)
@@ -22,7 +21,7 @@ invariant_of-self g c =
     let f = g.U.UserLevel.calls in
     let k = c.self.inside in
     let is = ready f g.U.UserLevel.stands k.machine c.make_room.new.self c.args.self.now k.budget k.spare c.self.view_is c.make_room.ensures.machine c.make_room.ensures.budget
-        c.requires.goes_on c.self.invariant in
+    c.requires.goes_on c.self.invariant in
     let are = are-left k.budget (machine_of k.machine) c.args.n c.requires.some is.left in
     let made = c.committable-made.result in
     let some : 1 ≤ made = rw c.committable-made.ensures are.some in
@@ -40,7 +39,7 @@ returns-clause-workload g c =
     let f = g.U.UserLevel.calls in
     let k = c.self.inside in
     let is = ready f g.U.UserLevel.stands k.machine c.make_room.new.self c.args.self.now k.budget k.spare c.self.view_is c.make_room.ensures.machine c.make_room.ensures.budget
-        c.requires.goes_on c.self.invariant in
+    c.requires.goes_on c.self.invariant in
     let are = are-left k.budget (machine_of k.machine) c.args.n c.requires.some is.left in
     let made = c.committable-made.result in
     let some : 1 ≤ made = rw c.committable-made.ensures are.some in

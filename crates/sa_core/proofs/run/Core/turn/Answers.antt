@@ -1,8 +1,7 @@
-use Rattle.std.proofs.Common.{◌≡◌, ◌+◌, ◌-◌, ◌<◌, ◌≤◌, sym, ap, subst, ◌∙◌, arith}
+use Rattle.std.proofs.Common.{◌+◌, ◌<◌, sym, ap, subst, ◌∙◌, arith}
 use Rattle.sa_machine.specs.Machine.{Machine}
 use Rattle.sa_machine.specs.Run.{IsTurn}
-use Rattle.sa_core.specs.View.{CoreView, machine_of, machine}
-use Rattle.sa_core.specs.Room.{IsKept}
+use Rattle.sa_core.specs.View.{CoreView, machine_of}
 use Rattle.sa_core.proofs.CoreLemmas.{ready, kept-turn}
 use Rattle.sa_core.proofs.run.Core.turn.Goals as goal
 
@@ -12,12 +11,12 @@ invariant_of-self g c =
     let f = g.U.UserLevel.calls in
     let k = c.self.inside in
     let is = ready f g.U.UserLevel.stands k.machine c.make_room.new.self c.args.self.now k.budget k.spare c.self.view_is c.make_room.ensures.machine c.make_room.ensures.budget
-        c.requires.goes_on c.self.invariant in
+    c.requires.goes_on c.self.invariant in
     let within = subst (λ (z : Machine g.row.U.Denot g.row.U-Ctx.Denot). c.args.p.0 < z.workload.processors) (sym is.same) c.requires.within in
     let spare = ap (λ (v : CoreView g.row.U.Denot g.row.U-Ctx.Denot). v.spare) c.self.view_is in
     let room = c.in_ok-make_room.ensures.ok in
     let done = kept-turn f g.U.UserLevel.stands keep k.machine c.turn.new.self c.args.p k.budget k.spare c.self.invariant c.turn.ensures.machine c.turn.ensures.spends within is.left
-        (omega (arith, spare, room)) in
+    (omega (arith, spare, room)) in
     done.kept
 
 pub returns-clause-ok : goal.returns-clause-ok
@@ -26,12 +25,12 @@ returns-clause-ok g c =
     let f = g.U.UserLevel.calls in
     let k = c.self.inside in
     let is = ready f g.U.UserLevel.stands k.machine c.make_room.new.self c.args.self.now k.budget k.spare c.self.view_is c.make_room.ensures.machine c.make_room.ensures.budget
-        c.requires.goes_on c.self.invariant in
+    c.requires.goes_on c.self.invariant in
     let within = subst (λ (z : Machine g.row.U.Denot g.row.U-Ctx.Denot). c.args.p.0 < z.workload.processors) (sym is.same) c.requires.within in
     let spare = ap (λ (v : CoreView g.row.U.Denot g.row.U-Ctx.Denot). v.spare) c.self.view_is in
     let room = c.in_ok-make_room.ensures.ok in
     let done = kept-turn f g.U.UserLevel.stands keep k.machine c.turn.new.self c.args.p k.budget k.spare c.self.invariant c.turn.ensures.machine c.turn.ensures.spends within is.left
-        (omega (arith, spare, room)) in
+    (omega (arith, spare, room)) in
     subst (λ (z : Machine g.row.U.Denot g.row.U-Ctx.Denot). IsTurn f z c.args.p (machine_of c.turn.new.self)) is.same done.turn
 
 pub returns-clause-event : goal.returns-clause-event
@@ -40,12 +39,12 @@ returns-clause-event g c =
     let f = g.U.UserLevel.calls in
     let k = c.self.inside in
     let is = ready f g.U.UserLevel.stands k.machine c.make_room.new.self c.args.self.now k.budget k.spare c.self.view_is c.make_room.ensures.machine c.make_room.ensures.budget
-        c.requires.goes_on c.self.invariant in
+    c.requires.goes_on c.self.invariant in
     let within = subst (λ (z : Machine g.row.U.Denot g.row.U-Ctx.Denot). c.args.p.0 < z.workload.processors) (sym is.same) c.requires.within in
     let spare = ap (λ (v : CoreView g.row.U.Denot g.row.U-Ctx.Denot). v.spare) c.self.view_is in
     let room = c.in_ok-make_room.ensures.ok in
     let done = kept-turn f g.U.UserLevel.stands keep k.machine c.turn.new.self c.args.p k.budget k.spare c.self.invariant c.turn.ensures.machine c.turn.ensures.spends within is.left
-        (omega (arith, spare, room)) in
+    (omega (arith, spare, room)) in
     done.event ∙ ap (λ (z : Machine g.row.U.Denot g.row.U-Ctx.Denot). z.event + 1) is.same
 
 pub returns-clause-workload : goal.returns-clause-workload
@@ -54,10 +53,10 @@ returns-clause-workload g c =
     let f = g.U.UserLevel.calls in
     let k = c.self.inside in
     let is = ready f g.U.UserLevel.stands k.machine c.make_room.new.self c.args.self.now k.budget k.spare c.self.view_is c.make_room.ensures.machine c.make_room.ensures.budget
-        c.requires.goes_on c.self.invariant in
+    c.requires.goes_on c.self.invariant in
     let within = subst (λ (z : Machine g.row.U.Denot g.row.U-Ctx.Denot). c.args.p.0 < z.workload.processors) (sym is.same) c.requires.within in
     let spare = ap (λ (v : CoreView g.row.U.Denot g.row.U-Ctx.Denot). v.spare) c.self.view_is in
     let room = c.in_ok-make_room.ensures.ok in
     let done = kept-turn f g.U.UserLevel.stands keep k.machine c.turn.new.self c.args.p k.budget k.spare c.self.invariant c.turn.ensures.machine c.turn.ensures.spends within is.left
-        (omega (arith, spare, room)) in
+    (omega (arith, spare, room)) in
     done.workload ∙ ap (λ (z : Machine g.row.U.Denot g.row.U-Ctx.Denot). z.workload) is.same

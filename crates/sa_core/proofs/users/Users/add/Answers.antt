@@ -1,4 +1,4 @@
-use Rattle.std.proofs.Common.{◌≡◌, ◌<◌, ◌++◌, [], ◌∷◌, Some, List, length, refl, sym, ap, ◌∙◌, arith}
+use Rattle.std.proofs.Common.{◌≡◌, ◌++◌, [], ◌∷◌, List, length, refl, ap, ◌∙◌, arith}
 use Rattle.sa_instr.specs.Space.{SpaceView}
 use Rattle.sa_machine.specs.Run.{setting}
 use Rattle.sa_core.proofs.CountLemmas.{counted-few, user-is}
@@ -19,6 +19,6 @@ returns g c = λ def at.
     let here = user-is c.spaces.result.now c.args.w.now.spaces c.args.s c.args.s c.index-spaces-s.result def c.spaces.ensures.value refl c.index-spaces-s.is c.requires.within at in
     let copied = c.in_ok-def.ensures ∙ here in
     let level : c.in_ok-level.level ≡ g.U.UserLevel.calls.started (setting c.args.w.now c.args.s def) =
-        c.in_ok-level.ensures ∙ rw (copied, c.processors.ensures.value, c.fetch.ensures.value) refl in
+    c.in_ok-level.ensures ∙ rw (copied, c.processors.ensures.value, c.fetch.ensures.value) refl in
     c.in_ok-push.ensures.items ∙ ap (λ (xs : List g.row.U.Denot). xs ++ c.in_ok-level.level ∷ []) c.self.view_is
     ∙ ap (λ (u : g.row.U.Denot). c.args.self.now ++ u ∷ []) level

@@ -1,4 +1,4 @@
-use Rattle.std.proofs.Common.{◌≡◌, ◌<◌, ◌+◌, List, length, ap, arith}
+use Rattle.std.proofs.Common.{◌+◌, List, length, ap, arith}
 use Rattle.std.proofs.lemmas.List.{length_push}
 use Rattle.sa_instr.specs.Space.{SpaceView}
 use Rattle.sa_machine.specs.Run.{setting, started_from}

@@ -1,5 +1,4 @@
-use Rattle.std.proofs.Common.{◌≡◌, ◌≤◌, ◌+◌, ◌++◌, length, refl, sym, ap, ◌∙◌, arith}
-use Rattle.sa_base.specs.Items.{items_at, items_from}
+use Rattle.std.proofs.Common.{ap, ◌∙◌, arith}
 use Rattle.sa_core.proofs.CountLemmas.{counted-few, user-is, set-by}
 use Rattle.sa_core.proofs.users.Users.told.Goals as goal
 
