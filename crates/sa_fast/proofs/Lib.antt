@@ -1,3 +1,8 @@
 pub mod WorkLemmas
 pub mod ThreadLemmas
 pub mod WakeLemmas
+pub mod Moves
+pub mod WorkSteps
+pub mod SyncSteps
+pub mod RunSteps
+pub mod PlaceSteps

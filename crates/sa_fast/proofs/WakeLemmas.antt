@@ -35,7 +35,7 @@ waits_parts s u =
     let mutexes = map (λ (m : Mutex). m.queue) s.mutexes in let semaphores = map (λ (k : Semaphore). k.queue) s.semaphores in
     sum_by-append (count_in u) (s.joiners ++ mutexes) semaphores ∙ ap (λ n. n + count_in_all u semaphores) (sum_by-append (count_in u) s.joiners mutexes)
 
-waits_with : (s : Sync) (t : ℕ) (q : List ℕ) (u : ℕ) → t < length s.joiners → waits_of (with_joiners s t q) u + count_in u (joiners_at s t) ≡ waits_of s u + count_in u q
+pub waits_with : (s : Sync) (t : ℕ) (q : List ℕ) (u : ℕ) → t < length s.joiners → waits_of (with_joiners s t q) u + count_in u (joiners_at s t) ≡ waits_of s u + count_in u q
 waits_with s t q u h = omega (arith, count_set u s.joiners t q h, waits_parts s u, waits_parts (with_joiners s t q) u)
 
 behind : (q : List ℕ) (u : ℕ) → slice_get q 0 ≡ Some u → q ≡ u ∷ drop 1 q

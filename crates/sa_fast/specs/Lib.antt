@@ -2,3 +2,4 @@ pub mod Hints
 pub mod Threads
 pub mod Work
 pub mod Instruction
+pub mod Rest

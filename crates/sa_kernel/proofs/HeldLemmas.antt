@@ -1,5 +1,5 @@
 -- No context is lost, and an upcall tells its own space, entry by entry.
-use Rattle.std.proofs.Common.{◌≡◌, ◌≢◌, ℕ, ◌+◌, ◌<◌, ◌≤◌, Bool, true, false, not, eqb, Option, Some, None, IsSome, IfSome, option_map, List, [], ◌∷◌, ◌++◌, length, get_or, slice_set, Contains, refl, sym, ap, subst, ◌∙◌, inl, inr, arith}
+use Rattle.std.proofs.Common.{◌≡◌, ℕ, ◌+◌, ◌<◌, Bool, true, false, not, eqb, Option, Some, None, option_map, List, [], ◌∷◌, ◌++◌, length, get_or, refl, sym, ap, subst, ◌∙◌, inl, inr, arith}
 use Rattle.std.proofs.lemmas.Bool.{cases_eq, eq-eqb}
 use Rattle.std.proofs.lemmas.List.{get_or-set_same, length-set}
 use Rattle.sa_base.specs.declared.number.ProcNo.{ProcNo}
@@ -12,7 +12,7 @@ use Rattle.sa_base.specs.declared.context.Stopped.{Stopped}
 use Rattle.sa_lemmas.specs.Function.{put}
 use Rattle.sa_lemmas.proofs.FunctionUpdates.{put-same, put-at, put-other}
 use Rattle.sa_acts.specs.declared.acts.Act.{Act}
-use Rattle.sa_acts.specs.Table.{holding, runs_in, held_of, taken_from, space_of}
+use Rattle.sa_acts.specs.Table.{holding, runs_in, held_of}
 use Rattle.sa_assign.specs.AssignView.{AssignView}
 use Rattle.sa_assign.specs.Aims.{is_aim, least_below}
 use Rattle.sa_devices.specs.declared.kind.IoKind.{IoKind}
@@ -20,16 +20,16 @@ use Rattle.sa_devices.specs.declared.kind.IoKind.TheVariants.{Plain, Page, Upcal
 use Rattle.sa_devices.specs.Ios.{Io, io_at, without}
 use Rattle.sa_devices.specs.Pages.{IsKind}
 use Rattle.sa_devices.specs.Laws.{has_page}
-use Rattle.sa_kernel.specs.State.{State, Scene, owner_of, aim_of, line_of, life_of, can_upcall, is_fetching, untold_of, taken_of}
-use Rattle.sa_kernel.specs.Parts.{with_line, with_io, upcall, fetch_page, leave, moved, go_to_by}
-use Rattle.sa_kernel.specs.Entries.{stopped, go_to_aim, interrupted, told_or_left, block_begun, blocked_by, io_for, over_for, over, more, idled, gave_back, interrupted_own, kind_at, entered_as, handed_over, handed_by, fetched, after_fetch}
-use Rattle.sa_kernel.specs.Closing.{for_spaces, spaces, want_one, want_for, must_want, wants, shares, aims, interrupt, interrupt_one, interrupt_for, must_interrupt, has_low_line, closed}
-use Rattle.sa_kernel.specs.Kept.{IsFit, upcalls}
+use Rattle.sa_kernel.specs.State.{State, Scene, owner_of, aim_of, life_of, can_upcall, is_fetching, untold_of, taken_of}
+use Rattle.sa_kernel.specs.Parts.{with_line, upcall, fetch_page, leave, moved, go_to_by}
+use Rattle.sa_kernel.specs.Entries.{stopped, go_to_aim, interrupted, told_or_left, block_begun, blocked_by, io_for, over_for, over, more, idled, gave_back, entered_as, handed_by, fetched, after_fetch}
+use Rattle.sa_kernel.specs.Closing.{spaces, want_one, want_for, must_want, wants, aims, interrupt, interrupt_one, interrupt_for, must_interrupt, has_low_line, closed}
+use Rattle.sa_kernel.specs.Kept.{upcalls}
 use Rattle.sa_kernel.specs.Runs.{upcalls_for, upcalls_in}
 use Rattle.sa_kernel.specs.declared.entry.Entry.{Entry}
 use Rattle.sa_kernel.specs.declared.entry.Entry.TheVariants.{Interrupt, Block, Complete, More, Idle, GiveBack, InterruptOwn}
-use Rattle.sa_kernel.specs.Sound.{note_claim, IsFormed, IsClaimed, AreClaimed, IsUpcalled, RunsIn}
-use Rattle.sa_kernel.proofs.FormedLemmas.{free-set, owner-moved, same-stopped, acts-moved, unused-after, formed-line}
+use Rattle.sa_kernel.specs.Sound.{note_claim, IsFormed, IsClaimed, AreClaimed, IsUpcalled}
+use Rattle.sa_kernel.proofs.FormedLemmas.{owner-moved, same-stopped, acts-moved, unused-after, formed-line}
 use Rattle.sa_kernel.proofs.SeenLemmas.{bit_of}
 use Rattle.sa_kernel.proofs.PlacedLemmas.{cells-moved, for_spaces-keeps}
 use Rattle.sa_kernel.proofs.RunLemmas.{pages-stopped}

@@ -22,7 +22,7 @@ use Rattle.sa_kernel.specs.Closing.{closed}
 use Rattle.sa_kernel.specs.Entries.{entered_as, after_fetch}
 use Rattle.sa_kernel.specs.Opening.{opening_state, first_wants, opened}
 use Rattle.sa_kernel.specs.Runs.{Enters, given_by}
-use Rattle.sa_kernel.specs.Sound.{IsSound, AreClaimed, IsUpcalled}
+use Rattle.sa_kernel.specs.Sound.{IsSound, IsPrompt, AreClaimed, IsUpcalled}
 use Rattle.sa_kernel.specs.View.{state_of, scene_of, used, Spends}
 use Rattle.sa_kernel.specs.Kept.{KernelView, kernel_of, processors, IsFit, IsKept, upcalls}
 use Rattle.sa_kernel.specs.Owed.{owed_items, pending_count}
@@ -30,6 +30,7 @@ use Rattle.sa_kernel.specs.Room.{Adds}
 use Rattle.sa_kernel.proofs.FormedLemmas.{no_notes, no_acts}
 use Rattle.sa_kernel.proofs.HeldLemmas.{stays-closed, claimed-after_fetch, upcalled-entered_as, upcalled-closed}
 use Rattle.sa_kernel.proofs.OwedLemmas.{owes-entered_as, owed-closed, owed-after_fetch}
+use Rattle.sa_kernel.proofs.PromptLemmas.{prompt-closed, prompt-evicted, prompt-after_fetch}
 use Rattle.sa_kernel.proofs.SoundLemmas.{sound-evicted, sound-closed, sound-entered_as, sound-opening, sound-after_fetch}
 
 given-upcall : (up : Bool) (b a : ActNo) → given_by up b ≡ Upcall a → (up ≡ true) × (b ≡ a)
@@ -54,11 +55,15 @@ module _ {C : Type 0} where
         used = kept.used;
         begun = kept.begun;
         pending = kept.pending;
+        prompt = prompt-evicted event (state_of m) kept.prompt;
         last = kept.last;
       })
 
   sound-at : (x y : Scene C) → x ≡ y → IsSound y.state → IsSound x.state
   sound-at x y is sound = subst (λ (z : Scene C). IsSound z.state) (sym is) sound
+
+  prompt-at : (x y : Scene C) → x ≡ y → IsPrompt y.state → IsPrompt x.state
+  prompt-at x y is prompt = subst (λ (z : Scene C). IsPrompt z.state) (sym is) prompt
 
   pub kept-closed : (m new : Machine C) (t tn : Recorded) (event room last : ℕ) (p : ProcNo) → scene_of new tn ≡ closed event p (scene_of m t)
       → Spends m new 0 0 0 → last < event → event ≤ MAX_EVENTS → IsKept m room last → IsKept new room event
@@ -70,6 +75,7 @@ module _ {C : Type 0} where
     used = omega (arith, spends.used, kept.used);
     begun = omega (arith, spends.count, kept.begun);
     pending = (let h = kept.pending in let same = (owed-closed event p (scene_of m t)).1 in let now = ap (λ (x : Scene C). pending_count x.state) is in omega arith);
+    prompt = prompt-at (scene_of new tn) (closed event p (scene_of m t)) is (prompt-closed event p (scene_of m t) kept.sound.formed.sizes);
     last = few;
   }
 
@@ -85,6 +91,7 @@ module _ {C : Type 0} where
         used = omega (arith, spends.used, kept.used);
         begun = omega (arith, kept.begun);
         pending = (let h = kept.pending in let less = (owed-after_fetch (state_of m).telling (state_of m) refl).1 in let now = ap pending_count is in omega arith);
+        prompt = subst (λ (k : State C). IsPrompt k) (sym is) (prompt-after_fetch (state_of m).telling (state_of m) kept.prompt);
         last = kept.last;
       }
 
@@ -138,6 +145,7 @@ module _ {C : Type 0} where
     used = omega (arith, spends.used, spent.used, kept.used);
     begun = omega (arith, spends.count, spent.count, kept.begun);
     pending = (let h = kept.pending in let more = entered.pending in let same = (owed-closed event p (scene_of mid tm)).1 in let now = ap (λ (x : Scene C). pending_count x.state) is in omega arith);
+    prompt = prompt-at (scene_of new tn) (closed event p (scene_of mid tm)) is (prompt-closed event p (scene_of mid tm) entered.sound.formed.sizes);
     last = few;
   }
 
@@ -191,6 +199,8 @@ module _ {C : Type 0} where
         used = omega (arith, spends.used);
         begun = omega (arith, spends.count);
         pending = (let h = owed-new m new tn w items opens is in omega arith);
+        prompt = prompt-at (scene_of new tn) (closed 0 (proc_no 0) (record { state = state_of m; items = items })) is
+            (prompt-closed 0 (proc_no 0) (record { state = state_of m; items = items }) sound.formed.sizes);
         last = omega arith;
       }
 

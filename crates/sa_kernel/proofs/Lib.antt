@@ -1,13 +1,15 @@
 mod Batches
 mod RunLemmas
 mod GivenBack
-mod ClosingLemmas
-mod LifeLemmas
-mod FormedLemmas
+pub mod ClosingLemmas
+pub mod LifeLemmas
+pub mod FormedLemmas
 pub mod SeenLemmas
 pub mod PlacedLemmas
 pub mod ClaimLemmas
 pub mod HeldLemmas
 pub mod OwedLemmas
-mod SoundLemmas
+pub mod PromptLemmas
+pub mod LawLemmas
+pub mod SoundLemmas
 mod KeptLemmas

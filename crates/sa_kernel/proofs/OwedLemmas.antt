@@ -1,8 +1,8 @@
 -- What is owed to the trace, part by part.
-use Rattle.std.proofs.Common.{◌≡◌, ℕ, zero, suc, ◌+◌, ◌<◌, ◌≤◌, Bool, true, false, not, cond, Option, Some, None, List, [], ◌∷◌, ◌++◌, length, map, sum_by, get_or, slice_set, refl, sym, ap, subst, ◌∙◌, inl, inr, arith, length-append}
+use Rattle.std.proofs.Common.{◌≡◌, ℕ, ◌+◌, ◌≤◌, Bool, true, false, not, Option, Some, None, List, [], ◌∷◌, ◌++◌, length, map, sum_by, get_or, slice_set, refl, ap, ◌∙◌, inl, inr, arith, length-append}
 use Rattle.std.proofs.lemmas.Bool.{cases_lt}
 use Rattle.std.proofs.lemmas.List.{get_or_past, set_past, length-map}
-use Rattle.std.proofs.lemmas.List.Sums.{sum_by-set, sum_by-cons}
+use Rattle.std.proofs.lemmas.List.Sums.{sum_by-set, sum_by-cons, get_or-le-sum_by}
 use Rattle.sa_base.specs.declared.number.ProcNo.{ProcNo}
 use Rattle.sa_base.specs.declared.number.SpaceNo.{SpaceNo}
 use Rattle.sa_base.specs.declared.number.ActNo.{ActNo}
@@ -22,7 +22,7 @@ use Rattle.sa_devices.specs.Ios.{without}
 use Rattle.sa_devices.specs.Pages.{completed}
 use Rattle.sa_kernel.specs.State.{State, Scene, owner_of, aim_of, life_of, can_upcall, is_fetching, untold_of, taken_of, says}
 use Rattle.sa_kernel.specs.Parts.{with_line, with_owner, without_aim, upcall, fetch_page, leave, moved, go_to_by, notes_told}
-use Rattle.sa_kernel.specs.Entries.{stopped, go_to_aim, interrupted, told_or_left, block_begun, blocked_by, over_for, over, more, idled, gave_back, interrupted_own, kind_at, entered_as, handed_over, handed_by, fetched, after_fetch}
+use Rattle.sa_kernel.specs.Entries.{stopped, go_to_aim, interrupted, told_or_left, block_begun, blocked_by, over_for, over, more, idled, gave_back, interrupted_own, kind_at, entered_as, handed_by, after_fetch}
 use Rattle.sa_kernel.specs.Closing.{closed}
 use Rattle.sa_kernel.specs.Runs.{untold_count, taken_count}
 use Rattle.sa_kernel.specs.Owed.{hand_over, told_count, pending_count, owed_items}
@@ -239,3 +239,10 @@ module _ {C : Type 0} where
       let h = owed-handed (held_of (k.acts a.0)) a (record k { telling = notes }) in
       let x = h.0 in let y = h.1 in let z = h.2 in
       (omega arith, omega arith)
+
+  -- what is taken of a space is on its way
+  pub taken-pending : (k : State C) (s : ℕ) → length (taken_of k s) ≤ pending_count k
+  taken-pending k s = elim (cases_lt s (length k.taken)) [
+    | inl within ↦ let some = get_or-le-sum_by (λ (list : List ActNo). length list) k.taken s [] within in omega arith
+    | inr past ↦ let none = ap length (get_or_past k.taken s [] past) in omega arith
+  ]

@@ -1,5 +1,5 @@
 -- Who owns a processor, where it is aimed, and what runs there, as cells change.
-use Rattle.std.proofs.Common.{◌≡◌, ◌≢◌, ℕ, zero, suc, ◌+◌, ◌<◌, Bool, true, false, ◌&&◌, not, Option, Some, None, IsSome, is_none, List, [], ◌∷◌, length, get_or, slice_set, refl, sym, ap, subst, ◌∙◌, ◌⊎◌, inl, inr, arith}
+use Rattle.std.proofs.Common.{◌≡◌, ◌≢◌, ℕ, zero, suc, ◌+◌, ◌<◌, Bool, true, false, not, Option, Some, None, IsSome, List, [], ◌∷◌, length, get_or, slice_set, refl, sym, ap, subst, ◌∙◌, ◌⊎◌, inl, inr, arith}
 use Rattle.std.proofs.lemmas.Bool.{cases_eq}
 use Rattle.std.proofs.lemmas.List.{get_or-set_other, get_or-set_same, length-set}
 use Rattle.sa_base.specs.declared.number.ProcNo.{ProcNo}
@@ -18,14 +18,13 @@ use Rattle.sa_devices.specs.declared.kind.IoKind.{IoKind}
 use Rattle.sa_devices.specs.declared.kind.IoKind.TheVariants.{Plain, Page, Upcall}
 use Rattle.sa_kernel.specs.State.{State, Scene, owner_of, aim_of, line_of, life_of, can_upcall, is_fetching}
 use Rattle.sa_kernel.specs.Parts.{upcall, fetch_page, leave, moved, go_to_by}
-use Rattle.sa_kernel.specs.Entries.{stopped, go_to_aim, interrupted, told_or_left, block_begun, blocked_by, over_for, over, more, idled, gave_back, interrupted_own, kind_at, entered_as, handed_by, fetched, after_fetch}
+use Rattle.sa_kernel.specs.Entries.{stopped, go_to_aim, interrupted, told_or_left, block_begun, blocked_by, over_for, over, more, idled, gave_back, kind_at, entered_as, handed_by, after_fetch}
 use Rattle.sa_kernel.specs.Closing.{for_spaces, spaces, want_one, want_for, must_want, wants, shares, aims, interrupt, interrupt_one, interrupt_for, must_interrupt, has_low_line, closed}
 use Rattle.sa_kernel.specs.Kept.{IsFit}
 use Rattle.sa_kernel.specs.declared.entry.Entry.{Entry}
 use Rattle.sa_kernel.specs.declared.entry.Entry.TheVariants.{Interrupt, Block, Complete, More, Idle, GiveBack, InterruptOwn}
 use Rattle.sa_kernel.specs.Sound.{IsPlaced, ArePlaced, HasSizes}
-use Rattle.sa_kernel.proofs.ClosingLemmas.{length-aims_after, length-lines_after}
-use Rattle.sa_kernel.proofs.FormedLemmas.{free-set, owner-moved, same-stopped}
+use Rattle.sa_kernel.proofs.FormedLemmas.{owner-moved, same-stopped}
 use Rattle.sa_kernel.proofs.SeenLemmas.{low-is}
 
 none-set : {A : Type 0} (xs : List (Option A)) (p : ℕ) → get_or (slice_set xs p None) p None ≡ None

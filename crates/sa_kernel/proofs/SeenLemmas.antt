@@ -1,10 +1,9 @@
 -- The bits of a test, and what a quiet kernel has not.
-use Rattle.std.proofs.Common.{◌≡◌, ◌≢◌, ℕ, zero, suc, ◌<◌, ◌≤◌, ◌^◌, ◌↔◌, bit_or, Bool, true, false, ◌&&◌, cond, not, Option, Some, None, is_some, is_none, List, [], length, get_or, refl, sym, ap, subst, ◌∙◌, inl, inr, arith}
+use Rattle.std.proofs.Common.{◌≡◌, ◌≢◌, ℕ, zero, suc, ◌<◌, ◌^◌, ◌↔◌, bit_or, Bool, true, false, ◌&&◌, cond, Option, Some, None, is_none, length, refl, sym, ap, ◌∙◌, inl, inr, arith}
 use Rattle.std.specs.Int.{bit_at}
-use Rattle.std.specs.List.{list_any}
-use Rattle.std.proofs.lemmas.Bool.{cases_eq, cases_lt, cases_Bool, both_ways, eqb-true, eq-eqb}
+use Rattle.std.proofs.lemmas.Bool.{cases_eq, cases_lt, eqb-true, eq-eqb}
 use Rattle.std.proofs.lemmas.Nat.{or_lt}
-use Rattle.std.proofs.lemmas.Nat.Bits.{bit_at-pow_same, bit_at-pow_other, bit_at_above, bit_at_or, bit_at-zero}
+use Rattle.std.proofs.lemmas.Nat.Bits.{bit_at-pow_same, bit_at-pow_other, bit_at_above, bit_at_or}
 use Rattle.std.proofs.lemmas.List.{get_or_past}
 use Rattle.std.proofs.Math.Pow.{pow-lt}
 use Rattle.sa_base.specs.declared.number.ProcNo.{ProcNo}
@@ -13,7 +12,7 @@ use Rattle.sa_assign.specs.Aims.{is_aim}
 use Rattle.sa_kernel.specs.State.{State, owner_of, line_of}
 use Rattle.sa_kernel.specs.Closing.{has_low_line}
 use Rattle.sa_kernel.specs.Sound.{HasSizes}
-use Rattle.sa_kernel.specs.Seen.{bits_where, low_of}
+use Rattle.sa_kernel.specs.Seen.{bits_where, low_of, IsLow}
 
 -- a bit as a number
 abbrev pub bit_of : Bool → ℕ
@@ -53,11 +52,6 @@ bit_at-bits_where test (suc n) q below = elim (cases_eq q n) [
   | inr apart ↦ other-bit (bits_where test n) n q (test n) apart ∙ bit_at-bits_where test n q (omega arith)
 ]
 
--- the space owns the processor, and the line is low
-pub record IsLow {C : Type 0} (k : State C) (s : SpaceNo) (q : ProcNo) : Type 0 where
-  pub owner : owner_of k q ≡ Some s
-  pub line : line_of k q ≡ None
-
 low-from : (s : SpaceNo) (owner : Option SpaceNo) (line : Option ℕ) → (is_aim s.0 owner && is_none line) ≡ true → (owner ≡ Some s) × (line ≡ None)
 low-from s None line is = absurd cc
 low-from s (Some t) None is = (ap (λ n. Some (record { 0 = n })) (eqb-true t.0 s.0 (and-true (is_aim s.0 (Some t)) is)), refl)
@@ -87,9 +81,10 @@ module _ {C : Type 0} where
     | inl below ↦
         let bit = bit_at-bits_where (has_low_line k s.0) (length k.lives) q.0 below in
         (λ is. low-is k s q (one-true (has_low_line k s.0 q.0) (sym bit ∙ is)), λ low. bit ∙ ap bit_of (is-low k s q low))
-    | inr past ↦
-        (λ is. absurd (let none = bit_at_above (low_of k s) (length k.lives) q.0 (bits_where-lt (has_low_line k s.0) (length k.lives)) past in omega arith),
-        λ low. absurd (no-owner s (sym (get_or_past k.assign.owners q.0 None (let e = sizes.owners in omega arith)) ∙ low.owner)))
+    | inr past ↦ (
+      λ is. absurd (let none = bit_at_above (low_of k s) (length k.lives) q.0 (bits_where-lt (has_low_line k s.0) (length k.lives)) past in omega arith),
+      λ low. absurd (no-owner s (sym (get_or_past k.assign.owners q.0 None (let e = sizes.owners in omega arith)) ∙ low.owner)),
+    )
   ]
     where
       one-true : (b : Bool) → bit_of b ≡ 1 → b ≡ true

@@ -1,21 +1,21 @@
 -- What always holds, kept by each call.
-use Rattle.std.proofs.Common.{◌≡◌, ℕ, ◌+◌, ◌<◌, eqb, Bool, true, Option, Some, None, IsSome, List, [], ◌∷◌, length, sum_by, get_or, replicate, refl, sym, ap, subst, ◌∙◌, arith}
+use Rattle.std.proofs.Common.{◌≡◌, ℕ, ◌<◌, eqb, None, IsSome, List, [], length, sum_by, get_or, replicate, true, refl, ap, arith}
 use Rattle.sa_base.specs.declared.number.ProcNo.{ProcNo}
-use Rattle.sa_base.specs.declared.number.SpaceNo.{SpaceNo}
 use Rattle.sa_base.specs.declared.number.ActNo.{ActNo}
 use Rattle.sa_base.specs.declared.record.Note.{Note}
 use Rattle.sa_instr.specs.Workload.{WorkloadView, IsWorkload}
+use Rattle.sa_assign.specs.Reaim.{proc_no}
 use Rattle.sa_kernel.specs.State.{State, Scene}
 use Rattle.sa_kernel.specs.Closing.{closed}
-use Rattle.sa_kernel.specs.Entries.{entered_as, after_fetch, evicted_at}
-use Rattle.sa_kernel.specs.Opening.{opening_state}
-use Rattle.sa_kernel.specs.Kept.{IsFit}
+use Rattle.sa_kernel.specs.Entries.{entered_as, entered, after_fetch, evicted_at}
+use Rattle.sa_kernel.specs.Opening.{opening_state, opened}
+use Rattle.sa_kernel.specs.Kept.{IsFit, upcalls}
 use Rattle.sa_kernel.specs.declared.entry.Entry.{Entry}
-use Rattle.sa_kernel.specs.Sound.{note_claim, IsPlaced, ArePlaced, AreClaimed, IsSound}
+use Rattle.sa_kernel.specs.Sound.{note_claim, IsPlaced, ArePlaced, AreClaimed, IsUpcalled, IsSound}
 use Rattle.sa_kernel.proofs.FormedLemmas.{all-same, no_life, no_event, no_space, no_notes, formed-opening, formed-entered_as, formed-closed, formed-after_fetch, formed-evicted}
 use Rattle.sa_kernel.proofs.PlacedLemmas.{placed-same, placed-entered_as, placed-closed, placed-after_fetch}
 use Rattle.sa_kernel.proofs.ClaimLemmas.{cond-zero}
-use Rattle.sa_kernel.proofs.HeldLemmas.{claimed-entered_as, claimed-closed, claimed-after_fetch}
+use Rattle.sa_kernel.proofs.HeldLemmas.{upcalled-entered_as, upcalled-closed, claimed-entered_as, claimed-closed, claimed-after_fetch}
 
 nothing-placed : IsPlaced no_space no_space no_event no_life
 nothing-placed = record { runs = λ h. absurd (none h); aimed = λ h. absurd (low h); settled = λ h. refl }
@@ -69,3 +69,17 @@ module _ {C : Type 0} where
     placed = sound.placed;
     claimed = record { told_to = sound.claimed.told_to; once = sound.claimed.once };
   }
+
+  -- a whole entry, and the opening
+  pub sound-entered : (e : ℕ) (p : ProcNo) (a : ActNo) (entry : Entry C) (x : Scene C) → p.0 < length x.state.lives → IsFit x.state p e entry
+      → x.state.acts a.0 ≡ None → x.state.telling ≡ [] → IsSound x.state → IsSound (entered e p a entry x).state
+  sound-entered e p a entry x within fit unused empty sound = sound-closed e p (entered_as e p a entry x) (sound-entered_as e p a entry x within fit unused empty sound)
+
+  pub upcalled-entered : (e : ℕ) (p : ProcNo) (a : ActNo) (entry : Entry C) (x : Scene C) → upcalls x.state p entry ≡ true → p.0 < length x.state.lives
+      → x.state.acts a.0 ≡ None → x.state.telling ≡ [] → IsSound x.state → IsUpcalled (entered e p a entry x).state p a
+  upcalled-entered e p a entry x up within unused empty sound =
+      upcalled-closed e p (entered_as e p a entry x) p a
+      (upcalled-entered_as e p a entry x sound.claimed.told_to up within unused empty sound.formed sound.claimed.once)
+
+  pub sound-opened : (w : WorkloadView) → IsWorkload w → IsSound (opened {C = C} w).state
+  sound-opened w ok = sound-closed 0 (proc_no 0) _ (sound-opening w ok)

@@ -15,7 +15,7 @@ use Rattle.sa_kernel.specs.State.{State, Scene, owner_of, line_of, life_of, aim_
 use Rattle.sa_kernel.specs.Entries.{IsOwnPage}
 use Rattle.sa_kernel.specs.Runs.{upcalls_for, upcalls_in, untold_count, taken_count}
 use Rattle.sa_kernel.specs.Owed.{pending_count}
-use Rattle.sa_kernel.specs.Sound.{IsSound}
+use Rattle.sa_kernel.specs.Sound.{IsSound, IsPrompt}
 use Rattle.sa_kernel.specs.View.{state_of, used}
 
 -- the parts, for how many more entries there is room, and the event of the last entry
@@ -33,6 +33,7 @@ pub record IsKept {C : Type 0} (m : Machine C) (room event : ℕ) : Type 0 where
   pub used : used m ≤ event
   pub begun : m.devices.ios.begun ≤ 2 * event
   pub pending : pending_count (state_of m) ≤ event
+  pub prompt : IsPrompt (state_of m)
   pub last : event ≤ MAX_EVENTS
 
 module _ {C : Type 0} where
@@ -71,7 +72,6 @@ module _ {C : Type 0} where
   pub record FitsComplete (k : State C) (p : ProcNo) (event : ℕ) (io : IoNo) : Type 0 where
     pub here : Io
     pub under_way : io_at io.0 k.under_way ≡ Some here
-    pub due : here.ends ≤ event
     pub low : line_of k p ≡ None
 
   pub record FitsMore (k : State C) (p : ProcNo) (n : ℕ) : Type 0 where

@@ -11,3 +11,4 @@ pub mod Opening
 pub mod Owed
 pub mod Kept
 pub mod Seen
+pub mod Laws

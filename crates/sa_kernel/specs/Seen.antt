@@ -1,12 +1,12 @@
 -- What a user level sees of the kernel, and when nothing can happen any more.
-use Rattle.std.specs.Prelude.{ℕ, zero, suc, ◌^◌, bit_or, Bool, ◌&&◌, ◌==◌, not, if◌then◌else◌, length, is_some, slice_index}
+use Rattle.std.specs.Prelude.{◌≡◌, ℕ, zero, suc, ◌^◌, bit_or, Bool, ◌&&◌, ◌==◌, not, if◌then◌else◌, length, Some, None, is_some, slice_index}
 use Rattle.std.specs.List.{list_any}
 use Rattle.sa_base.specs.declared.number.ProcNo.{ProcNo}
 use Rattle.sa_base.specs.declared.number.SpaceNo.{SpaceNo}
 use Rattle.sa_base.specs.declared.context.Seen.{Seen}
 use Rattle.sa_assign.specs.Aims.{least_below}
 use Rattle.sa_assign.specs.Reaim.{proc_no}
-use Rattle.sa_kernel.specs.State.{State, line_of, demand_of, untold_of, taken_of}
+use Rattle.sa_kernel.specs.State.{State, owner_of, line_of, demand_of, untold_of, taken_of}
 use Rattle.sa_kernel.specs.Closing.{spaces, calls_for, has_low_line}
 
 -- the number below 2 ^ n whose bit q says that the test holds of q
@@ -29,6 +29,11 @@ module _ {C : Type 0} where
     taken = length (taken_of k s.0);
     low = low_of k s;
   }
+
+  -- the space owns the processor, and the line is low
+  pub record IsLow (k : State C) (s : SpaceNo) (q : ProcNo) : Type 0 where
+    pub owner : owner_of k q ≡ Some s
+    pub line : line_of k q ≡ None
 
   -- the line of a processor is raised
   abbrev pub is_raised : State C → ℕ → Bool

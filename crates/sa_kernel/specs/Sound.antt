@@ -1,5 +1,5 @@
 -- What always holds of a state.
-use Rattle.std.specs.Prelude.{◌≡◌, ℕ, ◌+◌, ◌≤◌, ◌<◌, ◌==◌, ◌&&◌, true, if◌then◌else◌, List, [], length, sum_by, Option, Some, None, is_some, IsSome, All, Contains, slice_index_or}
+use Rattle.std.specs.Prelude.{◌≡◌, ℕ, ◌+◌, ◌≤◌, ◌<◌, ◌==◌, ◌&&◌, true, false, if◌then◌else◌, List, [], length, sum_by, Option, Some, None, is_some, IsSome, All, Contains, slice_index_or}
 use Rattle.sa_base.specs.declared.number.ProcNo.{ProcNo}
 use Rattle.sa_base.specs.declared.number.SpaceNo.{SpaceNo}
 use Rattle.sa_base.specs.declared.number.ActNo.{ActNo}
@@ -13,7 +13,8 @@ use Rattle.sa_devices.specs.declared.kind.IoKind.{IoKind}
 use Rattle.sa_devices.specs.declared.kind.IoKind.TheVariants.{Plain, Page, Upcall}
 use Rattle.sa_devices.specs.Ios.{Io}
 use Rattle.sa_devices.specs.Pages.{IsKind}
-use Rattle.sa_kernel.specs.State.{State, owner_of, life_of, untold_of}
+use Rattle.sa_kernel.specs.State.{State, owner_of, line_of, life_of, untold_of, is_fetching}
+use Rattle.sa_kernel.specs.Closing.{has_untold}
 
 -- what stands there are spaces of the workload
 abbrev pub AreSpaces : ℕ → List (Option SpaceNo) → Type 0
@@ -119,6 +120,16 @@ module _ {C : Type 0} where
     pub ios : AreIos (length k.demands) k.under_way
     pub lives : AreAlive k.assign.owners k.lives k.acts
     pub taken : AreTaken k.taken k.acts
+
+  -- the space owns a processor whose line is raised
+  pub record HasRaised (k : State C) (s : SpaceNo) : Type 0 where
+    pub proc : ProcNo
+    pub owner : owner_of k proc ≡ Some s
+    pub raised : IsSome (line_of k proc)
+
+  -- a notice waits only where its space owns no processor, or its upcall page is being fetched, or the line of one that it owns is raised
+  abbrev pub IsPrompt : State C → Type 0
+  IsPrompt k = (s : SpaceNo) → has_untold (untold_of k s.0) ≡ true → is_fetching k s.0 ≡ false → (p : ProcNo) → owner_of k p ≡ Some s → HasRaised k s
 
   -- what always holds: nothing is lost
   pub record IsSound (k : State C) : Type 0 where

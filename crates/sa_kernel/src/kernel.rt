@@ -1,13 +1,13 @@
 ghost use Rattle.std.specs.Prelude.{◌≡◌, ℕ, ◌+◌, ◌*◌, ◌≤◌, ◌<◌, [], length, Some, IsSome, IfSome, IfOk, OnOk, OnErr, slice_index_or};
 ghost use Rattle.std.specs.Option.{option_map};
 ghost use Rattle.sa_base.specs.declared.number.ActNo.{ActNo};
-ghost use Rattle.sa_devices.specs.Ios.{due_of, io_no};
+ghost use Rattle.sa_devices.specs.Ios.{due_of, io_at, io_no};
 ghost use Rattle.sa_kernel.specs.Room.{Adds};
 
 use crate::entry::{ENTRY_ITEMS, Entry, Given};
 use crate::machine::Machine;
 use crate::start::OPENING;
-use sa_base::{IoNo, MAX_EVENTS, Note, ProcNo, Seen, SpaceNo, Stopped, Trace};
+use sa_base::{IoNo, MAX_EVENTS, MAX_PROCESSORS, Note, ProcNo, Seen, SpaceNo, Stopped, Trace};
 use sa_instr::Workload;
 use std::alloc::{AllocError, Global};
 use std::marker::Model;
@@ -38,7 +38,7 @@ impl<C: Drop> Kernel<C> {
     ghost use Rattle.sa_kernel.specs.Entries.{entered, next_note, after_fetch, evicted_at};
     ghost use Rattle.sa_kernel.specs.Opening.{opened};
     ghost use Rattle.sa_kernel.specs.Runs.{Enters};
-    ghost use Rattle.sa_kernel.specs.Sound.{IsSound, AreClaimed, IsUpcalled};
+    ghost use Rattle.sa_kernel.specs.Sound.{IsSound, IsPrompt, AreClaimed, IsUpcalled};
     ghost use Rattle.sa_kernel.specs.Owed.{owed_items, pending_count};
     ghost use Rattle.sa_kernel.specs.Seen.{seen_of, is_quiet};
 
@@ -156,14 +156,31 @@ impl<C: Drop> Kernel<C> {
     }
 
     /// Shows what always holds: an activation runs on each processor that is owned, in its owner and nowhere else; a
-    /// raised line has an aim; and each context that is held has one claim on it, an I/O under way or a notice. It does
-    /// nothing.
+    /// raised line has an aim; each context that is held has one claim on it, an I/O under way or a notice; and a notice
+    /// waits only where its space owns no processor, its upcall page is being fetched, or the line of one that it owns is
+    /// raised. It does nothing.
     pub fn keeps(&self)
         ensures sound { IsSound (kernel_of self.now) }
+        ensures prompt { IsPrompt (kernel_of self.now) }
         ensures pending { pending_count (kernel_of self.now) ≤ self.now.last }
         ensures last { self.now.last ≤ MAX_EVENTS }
     {
         let _kernel = &self.spare;
+    }
+
+    /// The number of processors.
+    pub fn processors(&self) -> u16
+        ensures is { result ≡ processors self.now }
+        ensures few { result ≤ MAX_PROCESSORS }
+    {
+        self.parts.assign.processors()
+    }
+
+    /// The event of the last entry or end of a slice, 0 at the opening.
+    pub fn last_event(&self) -> u64
+        ensures { result ≡ self.now.last }
+    {
+        self.last
     }
 
     /// The space whose activation runs on the processor.
@@ -184,7 +201,8 @@ impl<C: Drop> Kernel<C> {
 
     /// The I/O that is due at the event and was due first, or `None` where none is due.
     pub fn due(&self, event: u64) -> Option<IoNo>
-        ensures { result ≡ option_map io_no (due_of event (kernel_of self.now).under_way) }
+        ensures under_way { IfSome result (λ io. IsSome (io_at io.0 (kernel_of self.now).under_way)) }
+        ensures soonest { result ≡ option_map io_no (due_of event (kernel_of self.now).under_way) }
     {
         self.parts.devices.due(event)
     }

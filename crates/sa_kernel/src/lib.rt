@@ -5,6 +5,7 @@ mod closing;
 mod entries;
 mod entry;
 mod kernel;
+pub mod laws;
 mod machine;
 mod notices;
 mod say;

@@ -1,5 +1,5 @@
 -- What the calls ask of the package and of the context in hand.
-use Rattle.std.specs.Prelude.{◌≡◌, ◌+◌, ◌<◌, ◌≤◌, Option, None, [], length, IfSome, slice_get}
+use Rattle.std.specs.Prelude.{◌≡◌, ◌+◌, ◌<◌, ◌≤◌, Option, None, length, IfSome, slice_get}
 use Rattle.sa_base.specs.declared.number.ThreadNo.{ThreadNo}
 use Rattle.sa_base.specs.declared.limits.TheConstants.{MAX_THREADS}
 use Rattle.sa_base.specs.declared.context.Seen.{Seen}
@@ -35,20 +35,21 @@ pub record CanCode (u : FastThreads) (f : Frame) : Type 0 where
   pub pushes : IsThread f.pushed
   pub carries : CanBeDue u.shared f.thread
 
--- the first section to continue carries a thread of the space; else the first thread to make ready stands in no list
-pub record CanWork (u : FastThreads) (c : Context) : Type 0 where
+-- the first section to continue carries a thread of the space, and the one that is carried can be put into a work list;
+-- the first thread to make ready stands in no list
+pub record CanWork (u : FastThreads) (c : Context) (t : Option ThreadNo) : Type 0 where
   pub section : IfSome (slice_get c.sections 0) (λ f. IsThread f.thread)
-  pub thread : IfSome c.work (λ t. ready.IsUnlisted u.shared.state.lists t.0)
+  pub carries : CanBeDue u.shared t
+  pub thread : IfSome c.work (λ n. ready.IsUnlisted u.shared.state.lists n.0)
 
--- nothing is left to do, and a thread that is carried can run
+-- whatever comes next, the context can do it
 pub record CanSettle (u : FastThreads) (c : Context) (t : Option ThreadNo) : Type 0 where
-  pub sections : c.sections ≡ []
-  pub works : c.work ≡ None
-  pub thread : IfSome t (λ n. CanRun u.def u.shared None n)
+  pub works : CanWork u c t
+  pub thread : IfSome t (λ n. CanRun u.def u.shared c.work n)
 
 abbrev pub CanAct : FastThreads → Context → State → Type 0
 CanAct u c (Code f) = CanCode u f
-CanAct u c (Work t) = CanWork u c
+CanAct u c (Work t) = CanWork u c t
 CanAct u c (Hint t) = CanSettle u c t
 CanAct u c Return = CanSettle u c None
 CanAct u c (User t) = CanRun u.def u.shared c.work t

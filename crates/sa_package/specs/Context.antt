@@ -27,6 +27,12 @@ abbrev pub stands_idle : State → Bool
 stands_idle (Look looks) = true
 stands_idle _ = false
 
+-- it is between routines, or at an instruction
+abbrev pub stands_between : State → Bool
+stands_between (Code f) = false
+stands_between (Look looks) = false
+stands_between _ = true
+
 -- it is inside the package
 abbrev pub stands_inside : State → Bool
 stands_inside (User t) = false

@@ -20,15 +20,16 @@ use Rattle.sa_code.specs.declared.state.Frame.{Frame}
 use Rattle.sa_code.specs.declared.state.MicroDone.{MicroDone}
 use Rattle.sa_code.specs.declared.state.MicroDone.TheVariants as micros
 use Rattle.sa_code.specs.Micro.{Micro, micro}
+use Rattle.sa_fast.specs.declared.threads.Block.{Block as BlockOf}
 use Rattle.sa_fast.specs.declared.threads.Place.{Place}
 use Rattle.sa_fast.specs.declared.threads.Place.TheVariants.{Ready, Running, Blocked, Carried}
 use Rattle.sa_fast.specs.declared.shared.Shared.{Shared}
 use Rattle.sa_fast.specs.declared.instruction.Ran.TheVariants as rans
 use Rattle.sa_fast.specs.declared.instruction.Ran.{Ran}
 use Rattle.sa_fast.specs.Hints.{more_owed, idle_owed}
-use Rattle.sa_fast.specs.Threads.{block_at, moved_to, load_of}
+use Rattle.sa_fast.specs.Threads.{block_at, with_block, moved_to, load_of}
 use Rattle.sa_fast.specs.Work.{Work as WorkOf, with_name, added, joined, without_first}
-use Rattle.sa_fast.specs.Instruction.{run, run_says, with_thread, with_works}
+use Rattle.sa_fast.specs.Instruction.{run, run_says, with_works}
 use Rattle.sa_package.specs.declared.context.Context.{Context}
 use Rattle.sa_package.specs.declared.context.State.{State}
 use Rattle.sa_package.specs.declared.context.State.TheVariants.{Code, User, Look}
@@ -53,9 +54,12 @@ abbrev pub at_state : Context → State → Context
 at_state c state = record c { state = state }
 
 -- a thread is elsewhere, if there is one
+abbrev pub blocks_placed : List BlockOf → Option ThreadNo → Place → List BlockOf
+blocks_placed blocks None place = blocks
+blocks_placed blocks (Some t) place = with_block blocks t.0 (moved_to (block_at blocks t.0) place)
+
 abbrev pub placed : Shared → Option ThreadNo → Place → Shared
-placed x None place = x
-placed x (Some t) place = with_thread x t (moved_to (block_at x.threads t.0) place)
+placed x t place = record x { threads = blocks_placed x.threads t place }
 
 abbrev pub placed_in : FastThreads → Option ThreadNo → Place → FastThreads
 placed_in u t place = with_shared u (placed u.shared t place)
@@ -132,10 +136,13 @@ abbrev pub coded : FastThreads → Seen → Context → Frame → Stepped FastTh
 coded u seen c f =
     let m = micro u.shared.state f seen.pages in coded_by u seen c f (slice_get u.shared.state.code f.pc) m m.done
 
--- work: the first section is continued in its copy, with its thread
+-- work: the first section is continued in its copy, with its thread; one that is carried comes last in the work list
+abbrev pub continuing : Pair → Frame → Stepped FastThreads Context
+continuing p f =
+    did (pair (placed_in p.user f.thread Running) (record p.ctx { state = Code f; sections = drop 1 p.ctx.sections })) (Cont p.user.shared.state.space f.thread ∷ [])
+
 abbrev pub continued : FastThreads → Context → Frame → Stepped FastThreads Context
-continued u c f =
-    did (pair (placed_in u f.thread Running) (record c { state = Code f; sections = drop 1 c.sections })) (Cont u.shared.state.space f.thread ∷ [])
+continued u c f = continuing (put_last u c (carried_by c.state)) f
 
 -- work: the take of the push of thread first on the processor's list; it spins where that is locked
 abbrev pub push_of : ProcNo → ThreadNo → Option ThreadNo → Frame

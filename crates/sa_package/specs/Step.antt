@@ -31,7 +31,7 @@ use Rattle.sa_package.specs.declared.context.Context.{Context}
 use Rattle.sa_package.specs.declared.context.State.{State}
 use Rattle.sa_package.specs.declared.context.State.TheVariants.{Code, Work, Hint, Return, User, Look}
 use Rattle.sa_package.specs.declared.package.FastThreads.{FastThreads}
-use Rattle.sa_package.specs.Context.{fresh, carried_by, stands_idle, stands_inside, before_all, has_bulk}
+use Rattle.sa_package.specs.Context.{fresh, carried_by, stands_idle, stands_between, stands_inside, before_all, has_bulk}
 use Rattle.sa_package.specs.Rules.{Pair, pair, with_shared, owed, settled, took_over, did, asks, coded, continued, pushing, used, looked}
 
 -- the opening: thread 0 is ready in list 0, and all locks are free
@@ -67,9 +67,10 @@ told u c (Blocked a) held = (u, c)
 told u c (Preempted a) held = let p = told_of u c held in (p.user, p.ctx)
 told u c (Unblocked a) held = let p = told_of u c held in (p.user, p.ctx)
 
--- behind an upcall's notices, a More and a GiveBack the context settles; behind an Idle its state and count stay
+-- behind an upcall's notices, a More and a GiveBack the context settles; behind an Idle its state and count stay, and in
+-- the code it goes on there
 abbrev pub answered : FastThreads → Seen → Context → FastThreads × Context
-answered u seen c = (u, if stands_idle c.state then c else settled u seen c (carried_by c.state))
+answered u seen c = (u, if stands_between c.state then settled u seen c (carried_by c.state) else c)
 
 -- what a settled context does, with its first section to continue and the first thread of its work list
 abbrev pub worked : FastThreads → Seen → Context → Option Frame → Option ThreadNo → Stepped FastThreads Context

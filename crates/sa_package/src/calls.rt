@@ -12,11 +12,11 @@ use sa_code::{Frame, Op};
 
 impl FastThreads {
     /// The context goes on behind the last notice of its upcall, or behind an entry of the kernel that it asked for: it
-    /// settles, but for a processor that was offered as idle.
+    /// settles, where it is between routines. A processor that was offered as idle looks on.
     pub fn answered(&mut self, seen: &Seen, ctx: &mut Context)
         ensures { (self.new, ctx.new) ≡ answered self.old seen.now ctx.old }
     {
-        if !ctx.state.is_idle() {
+        if ctx.state.is_between() {
             self.settle(seen, ctx, ctx.state.thread());
         }
     }

@@ -1,6 +1,6 @@
 // What an activation runs.
 ghost use Rattle.std.specs.Prelude.{◌≡◌};
-ghost use Rattle.sa_package.specs.Context.{fresh, carried_by, stands_idle, stands_inside};
+ghost use Rattle.sa_package.specs.Context.{fresh, carried_by, stands_idle, stands_between, stands_inside};
 
 use crate::sections::Sections;
 use sa_base::ThreadNo;
@@ -41,6 +41,13 @@ impl State {
         ensures { result ≡ stands_idle self }
     {
         matches!(self, State::Look(_))
+    }
+
+    /// Whether it is between routines, or at an instruction.
+    pub fn is_between(self) -> bool
+        ensures { result ≡ stands_between self }
+    {
+        !matches!(self, State::Code(_) | State::Look(_))
     }
 
     /// Whether it is inside the package.

@@ -6,6 +6,7 @@ mod calls;
 mod context;
 mod going;
 pub mod laws;
+mod level;
 mod notice;
 mod opening;
 mod package;

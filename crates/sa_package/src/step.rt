@@ -7,7 +7,7 @@ ghost use Rattle.sa_lists.specs.ReadyView.{sought};
 ghost use Rattle.sa_lists.specs.ReadyView as ready;
 ghost use Rattle.sa_fast.specs.Work.{IsWork};
 ghost use Rattle.sa_fast.specs.Instruction.{CanRun};
-ghost use Rattle.sa_package.specs.Conditions.{CanCode, CanStep, CanWork, IsThread};
+ghost use Rattle.sa_package.specs.Conditions.{CanBeDue, CanCode, CanStep, CanWork, IsThread};
 ghost use Rattle.sa_package.specs.Context.{carried_by};
 ghost use Rattle.sa_package.specs.Rules.{Steps, moved_by, goes_on, coded, continued, pushing, used, is_idle, popping, looked, with_shared};
 ghost use Rattle.sa_package.specs.Step.{resettled, stepped, stepped_at, worked};
@@ -84,7 +84,7 @@ impl FastThreads {
         requires threads { self.old.shared.state.lists.threads ≡ MAX_THREADS }
         requires proc { seen.now.proc.0 < length self.old.shared.state.lists.lists }
         requires work { IsWork self.old.shared.works ctx.old.work }
-        requires can { CanWork self.old ctx.old }
+        requires can { CanWork self.old ctx.old (carried_by ctx.old.state) }
         requires room { 1 ≤ trace.old.spare }
         ensures { Steps (worked self.old seen.now ctx.old (slice_get ctx.old.sections 0) ctx.old.work)
             seen.now trace.old self.new ctx.new result trace.new }
@@ -98,7 +98,7 @@ impl FastThreads {
         }
     }
 
-    // The first section is continued in its copy, with its thread.
+    // The first section is continued in its copy, with its thread. A thread that is carried comes last in the work list.
     fn go_on_with(
         &mut self,
         seen: &Seen,
@@ -108,9 +108,12 @@ impl FastThreads {
     ) -> Step
         requires some { 0 < length ctx.old.sections }
         requires thread { IsThread frame.thread }
+        requires work { IsWork self.old.shared.works ctx.old.work }
+        requires carries { CanBeDue self.old.shared (carried_by ctx.old.state) }
         requires room { 1 ≤ trace.old.spare }
         ensures { Steps (continued self.old ctx.old frame) seen.now trace.old self.new ctx.new result trace.new }
     {
+        self.put_last(ctx, ctx.state.thread());
         place(&mut self.shared, frame.thread, Place::Running);
         ctx.sections.remove_first();
         ctx.state = State::Code(frame);

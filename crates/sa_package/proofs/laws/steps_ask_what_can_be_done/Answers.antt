@@ -1,4 +1,4 @@
-use Rattle.sa_package.proofs.Asking.{step-asks}
+use Rattle.sa_package.specs.Asking.{step-asks}
 use Rattle.sa_package.proofs.laws.steps_ask_what_can_be_done.Goals as goal
 
 pub returns : goal.returns

@@ -1,4 +1,4 @@
-use Rattle.sa_package.proofs.Saying.{step-own}
+use Rattle.sa_package.specs.Saying.{step-own}
 use Rattle.sa_package.proofs.laws.steps_say_their_own.Goals as goal
 
 pub returns : goal.returns

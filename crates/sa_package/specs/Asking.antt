@@ -39,7 +39,7 @@ use Rattle.sa_package.specs.Conditions.{CanAct, CanStep}
 use Rattle.sa_package.specs.Laws.{IsMadeFor}
 use Rattle.sa_package.specs.Rules.{owed, load, coded_by, pushing_by, used_by, popping_by, is_idle, looked_by, push_of, pop_of}
 use Rattle.sa_package.specs.Step.{worked, hinted, if_owed, if_bulk, resettled, stepped_at, stepped}
-use Rattle.sa_package.proofs.Settled.{can-resettled}
+use Rattle.sa_package.specs.Settled.{can-resettled}
 
 -- the hints
 owed_fits : (demand processors load n : ℕ) → more_owed demand processors load ≡ Some n → (1 ≤ n) × (demand + n ≤ processors)

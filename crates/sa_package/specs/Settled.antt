@@ -1,26 +1,25 @@
 -- A context that settles can go on.
-use Rattle.std.proofs.Common.{◌≡◌, ℕ, Bool, true, false, ◌||◌, Option, Some, None, is_some, sym, ap, ◌∙◌, subst, arith}
+use Rattle.std.proofs.Common.{ℕ, Bool, true, false, Option, Some, None, is_some, arith}
 use Rattle.sa_base.specs.declared.number.ThreadNo.{ThreadNo}
 use Rattle.sa_base.specs.declared.context.Seen.{Seen}
-use Rattle.sa_fast.specs.Instruction.{CanRun}
 use Rattle.sa_package.specs.declared.context.Context.{Context}
 use Rattle.sa_package.specs.declared.context.State.{State}
 use Rattle.sa_package.specs.declared.context.State.TheVariants.{Code, Work, Hint, Return, User, Look}
 use Rattle.sa_package.specs.declared.package.FastThreads.{FastThreads}
-use Rattle.sa_package.specs.Context.{has_some, is_left, settled_to, has_bulk}
-use Rattle.sa_package.specs.Conditions.{CanSettle, CanAct, CanStep}
+use Rattle.sa_package.specs.Context.{is_left, settled_to, has_bulk}
+use Rattle.sa_package.specs.Conditions.{CanWork, CanSettle, CanAct, CanStep}
 use Rattle.sa_package.specs.Rules.{at_state, owed, settled}
 use Rattle.sa_package.specs.Step.{if_owed, if_bulk, resettled}
 
-nothing_left : (u : FastThreads) (c : Context) (t : Option ThreadNo) → CanSettle u c t → is_left c ≡ false
-nothing_left u c t h = ap (λ fs. has_some fs || is_some c.work) h.sections ∙ ap is_some h.works
+works_at : (u : FastThreads) (c : Context) (t : Option ThreadNo) (s : State) → CanWork u c t → CanWork u (at_state c s) t
+works_at u c t s h = record { section = h.section; carries = h.carries; thread = h.thread }
 
-acts : (u : FastThreads) (c : Context) (t : Option ThreadNo) (left owes bulk : Bool) → left ≡ false → CanSettle u c t → (s : State) → CanAct u (at_state c s) (settled_to t left owes bulk)
-acts u c t true owes bulk none h s = absurd cc
-acts u c t false true bulk none h s = record { sections = h.sections; works = h.works; thread = h.thread }
-acts u c (Some n) false false bulk none h s = subst (λ w. CanRun u.def u.shared w n) (sym h.works) h.thread
-acts u c None false false true none h s = record { sections = h.sections; works = h.works; thread = tt }
-acts u c None false false false none h s = omega arith
+acts : (u : FastThreads) (c : Context) (t : Option ThreadNo) (left owes bulk : Bool) → CanSettle u c t → (s : State) → CanAct u (at_state c s) (settled_to t left owes bulk)
+acts u c t true owes bulk h s = works_at u c t s h.works
+acts u c t false true bulk h s = record { works = works_at u c t s h.works; thread = h.thread }
+acts u c (Some n) false false bulk h s = h.thread
+acts u c None false false true h s = record { works = works_at u c None s h.works; thread = tt }
+acts u c None false false false h s = omega arith
 
 can-settled : (u : FastThreads) (seen : Seen) (c : Context) (t : Option ThreadNo) → CanStep u seen c → CanSettle u c t → CanStep u seen (settled u seen c t)
 can-settled u seen c t can h = record {
@@ -28,7 +27,7 @@ can-settled u seen c t can h = record {
   threads = can.threads;
   proc = can.proc;
   work = can.work;
-  acts = acts u c t (is_left c) (is_some (owed u seen)) (has_bulk seen) (nothing_left u c t h) h (settled_to t (is_left c) (is_some (owed u seen)) (has_bulk seen));
+  acts = acts u c t (is_left c) (is_some (owed u seen)) (has_bulk seen) h (settled_to t (is_left c) (is_some (owed u seen)) (has_bulk seen));
 }
 
 can-if_owed : (u : FastThreads) (seen : Seen) (c : Context) (t : Option ThreadNo) (more : Option ℕ) → CanStep u seen c → CanSettle u c t → CanStep u seen (if_owed u seen c t more)

@@ -1,0 +1,9 @@
+//! Tests of the kernel's entries over public calls.
+#![tactic(auto)]
+
+#[cfg(test)]
+mod bench;
+#[cfg(test)]
+mod random;
+#[cfg(test)]
+mod rows;
