@@ -27,7 +27,6 @@ run-takes schedule budget old new items WriteFault answers = λ input w told is 
 run-takes schedule budget old new items Usage answers = absurd answers
 run-takes schedule budget old new items Migrated answers = absurd answers
 
-
 run-refuses : (schedule : ScheduleWord) (budget : ℕ) (old new : World) (items : List Item) (status : Status)
     → AnswersRun schedule budget old new items status → Refuses BadAt old new status
 run-refuses schedule budget old new items AllDone answers = λ input bad told refused reads.

@@ -34,9 +34,9 @@ pub(crate) fn run_text<S: Source, K: Sink>(
     ensures reads_counted { S.faults source.old ≤ S.faults source.new }
     ensures writes_counted { K.faults sink.old ≤ K.faults sink.new }
     ensures answers { let before : World
-            = world (S.left source.old) (K.taken sink.old) (S.faults source.old) (K.faults sink.old) in
+        = world (S.left source.old) (K.taken sink.old) (S.faults source.old) (K.faults sink.old) in
         let after : World
-            = world (S.left source.new) (K.taken sink.new) (S.faults source.new) (K.faults sink.new) in
+        = world (S.left source.new) (K.taken sink.new) (S.faults source.new) (K.faults sink.new) in
         AnswersRun schedule budget before after (history result.ran) result.status }
 {
     let workload = match read_workload(alloc, source) {
@@ -89,9 +89,9 @@ pub(crate) fn migrate<S: Source, K: Sink>(
     ensures reads_counted { S.faults source.old ≤ S.faults source.new }
     ensures writes_counted { K.faults sink.old ≤ K.faults sink.new }
     ensures answers { let before : World
-            = world (S.left source.old) (K.taken sink.old) (S.faults source.old) (K.faults sink.old) in
+        = world (S.left source.old) (K.taken sink.old) (S.faults source.old) (K.faults sink.old) in
         let after : World
-            = world (S.left source.new) (K.taken sink.new) (S.faults source.new) (K.faults sink.new) in
+        = world (S.left source.new) (K.taken sink.new) (S.faults source.new) (K.faults sink.new) in
         MigrateAnswers slice before after result }
 {
     match migrated_text(alloc, slice, source) {

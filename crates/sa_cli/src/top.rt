@@ -33,16 +33,16 @@ pub fn run_one<S: Source, K: Sink>(
 
     // Each answer comes only for its cause, and says what ran and what was written.
     ensures answers { let before : World
-            = world (S.left source.old) (K.taken sink.old) (S.faults source.old) (K.faults sink.old) in
+        = world (S.left source.old) (K.taken sink.old) (S.faults source.old) (K.faults sink.old) in
         let after : World
-            = world (S.left source.new) (K.taken sink.new) (S.faults source.new) (K.faults sink.new) in
+        = world (S.left source.new) (K.taken sink.new) (S.faults source.new) (K.faults sink.new) in
         AnswersTo (command_of words.now) before after (history result.ran) result.status }
 
     // Where nothing fails and the input is told, the command is done, or the input refused.
     ensures complete { let before : World
-            = world (S.left source.old) (K.taken sink.old) (S.faults source.old) (K.faults sink.old) in
+        = world (S.left source.old) (K.taken sink.old) (S.faults source.old) (K.faults sink.old) in
         let after : World
-            = world (S.left source.new) (K.taken sink.new) (S.faults source.new) (K.faults sink.new) in
+        = world (S.left source.new) (K.taken sink.new) (S.faults source.new) (K.faults sink.new) in
         IsCompleteTo (command_of words.now) before after result.status }
 {
     commands_are_in_range();

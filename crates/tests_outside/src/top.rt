@@ -165,8 +165,20 @@ fn words_and_faults_decide(rt: HostRuntime) -> Result<(), Fail> {
         (&["run", "--budget", "1000001"], &[], &[], Status::Usage, 0),
         (&["run", "--budget=5"], &[], &[], Status::Usage, 0),
         (&["load"], &[1], &[1], Status::Usage, 0),
-        (&["load", "5", "--schedule", "rr"], &[], &[], Status::Usage, 0),
-        (&["run", "--schedule", "seed:07"], &[], &[], Status::Usage, 0),
+        (
+            &["load", "5", "--schedule", "rr"],
+            &[],
+            &[],
+            Status::Usage,
+            0,
+        ),
+        (
+            &["run", "--schedule", "seed:07"],
+            &[],
+            &[],
+            Status::Usage,
+            0,
+        ),
         (
             &["run", "--budget", "5", "--budget", "5"],
             &[],
@@ -243,7 +255,8 @@ fn a_number_makes_a_workload(rt: HostRuntime) -> Result<(), Fail> {
 
 #[test]
 fn a_workload_gets_a_slice(rt: HostRuntime) -> Result<(), Fail> {
-    let text = "workload 2\nprocessors 1\nfetch 10\nslice 6\nspaces 1\nspace 0 0 0 0 1\nprogram 1\nend\nclose\n";
+    let text =
+        "workload 2\nprocessors 1\nfetch 10\nslice 6\nspaces 1\nspace 0 0 0 0 1\nprogram 1\nend\nclose\n";
     let (outcome, sink) = smallest(rt.alloc(), &["migrate", "6"])?;
     assert_eq!(rt; outcome.status, Status::Migrated);
     assert_eq!(rt; sink.taken(), text.as_bytes());

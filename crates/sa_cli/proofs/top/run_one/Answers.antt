@@ -46,8 +46,10 @@ returns-in-Some-Migrate-clause-complete g c =
     complete-to _ (Migrate c.in-Some-Migrate.slice)
     (world (g.S.Source.left c.args.source.now) (g.K.Sink.taken c.args.sink.now) (g.S.Source.faults c.args.source.now) (g.K.Sink.faults c.args.sink.now))
     (world (g.S.Source.left c.migrate.new.source) (g.K.Sink.taken c.migrate.new.sink) (g.S.Source.faults c.migrate.new.source) (g.K.Sink.faults c.migrate.new.sink)) [] _
-    (sym c.read_words.ensures ∙ c.in-Some-Migrate.is ∙ ap Some c.in-Some-Migrate.field-0-is)
-    (refl, subst (λ (v : Status). MigrateAnswers c.in-Some-Migrate.slice
-    (world (g.S.Source.left c.args.source.now) (g.K.Sink.taken c.args.sink.now) (g.S.Source.faults c.args.source.now) (g.K.Sink.faults c.args.sink.now))
-    (world (g.S.Source.left c.migrate.new.source) (g.K.Sink.taken c.migrate.new.sink) (g.S.Source.faults c.migrate.new.source) (g.K.Sink.faults c.migrate.new.sink)) v)
-    (sym c.nothing-in-Some-Migrate.ensures.status) c.migrate.ensures.answers)
+    (sym c.read_words.ensures ∙ c.in-Some-Migrate.is ∙ ap Some c.in-Some-Migrate.field-0-is) (
+      refl,
+      subst (λ (v : Status). MigrateAnswers c.in-Some-Migrate.slice
+          (world (g.S.Source.left c.args.source.now) (g.K.Sink.taken c.args.sink.now) (g.S.Source.faults c.args.source.now) (g.K.Sink.faults c.args.sink.now))
+          (world (g.S.Source.left c.migrate.new.source) (g.K.Sink.taken c.migrate.new.sink) (g.S.Source.faults c.migrate.new.source) (g.K.Sink.faults c.migrate.new.sink)) v)
+          (sym c.nothing-in-Some-Migrate.ensures.status) c.migrate.ensures.answers,
+    )

@@ -25,10 +25,10 @@ loop-end-preserved g c =
     let some : 1 ≤ c.args.workload.processors = omega (arith, c.processors.ensures.some, c.processors.ensures.value) in
     record {
       turns = subst (λ (n : ℕ). TurnsTo g.U.UserLevel.calls c.args.workload (order_of c.args.kind) c.args.budget n (machine c.turn.new.self)) (sym c.in-Ok-turn.ensures.event)
-      (one-more g.U.UserLevel.calls c.args.workload (order_of c.args.kind) c.args.budget (machine c.loop-end.core).event (machine c.loop-end.core) (machine c.turn.new.self)
-      c.loop-end.schedule c.next.result c.turns_are_in_order.ensures some c.loop-end.invariant.schedule c.next.ensures.processor c.loop-end.invariant.turns open_still c.in-Ok-turn.ensures.ok);
+          (one-more g.U.UserLevel.calls c.args.workload (order_of c.args.kind) c.args.budget (machine c.loop-end.core).event (machine c.loop-end.core) (machine c.turn.new.self)
+          c.loop-end.schedule c.next.result c.turns_are_in_order.ensures some c.loop-end.invariant.schedule c.next.ensures.processor c.loop-end.invariant.turns open_still c.in-Ok-turn.ensures.ok);
       schedule = subst (λ (n : ℕ). c.next.new.self ≡ turned_often (start (order_of c.args.kind) c.args.workload.processors) n) (sym c.in-Ok-turn.ensures.event)
-      (schedule-more (order_of c.args.kind) c.args.workload.processors (machine c.loop-end.core).event c.loop-end.schedule c.next.new.self c.loop-end.invariant.schedule c.next.ensures.turned);
+          (schedule-more (order_of c.args.kind) c.args.workload.processors (machine c.loop-end.core).event c.loop-end.schedule c.next.new.self c.loop-end.invariant.schedule c.next.ensures.turned);
       processors = search rules;
       workload = search rules;
       budget = search rules;
