@@ -14,3 +14,4 @@ pub mod TimelyLemmas
 pub mod AppendLemmas
 pub mod FirstLemmas
 pub mod OrderLemmas
+pub mod StandingLemmas
