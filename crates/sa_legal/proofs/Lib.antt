@@ -15,3 +15,4 @@ pub mod AppendLemmas
 pub mod FirstLemmas
 pub mod OrderLemmas
 pub mod StandingLemmas
+pub mod ShapeLemmas
