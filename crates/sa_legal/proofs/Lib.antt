@@ -16,3 +16,4 @@ pub mod FirstLemmas
 pub mod OrderLemmas
 pub mod StandingLemmas
 pub mod ShapeLemmas
+pub mod MovesLemmas

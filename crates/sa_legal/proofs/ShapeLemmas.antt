@@ -59,7 +59,7 @@ MovesLives w p r (Free s l t) rest = OnLife w p r (Free s l t)
 MovesLives w p r _ rest = Unit {0}
 
 -- which records stand first, and which behind another one
-abbrev fits : Option Record → Record → Bool
+abbrev pub fits : Option Record → Record → Bool
 fits None (Told n) = false
 fits None x = true
 fits (Some y) (Told n) = is_telling (Some y)
@@ -70,12 +70,12 @@ fits (Some y) (Free s l t) = false
 fits (Some y) (Unblock s t a) = false
 fits (Some y) x = true
 
-abbrev AllFit : Option Record → List Record → Type 0
+abbrev pub AllFit : Option Record → List Record → Type 0
 AllFit last [] = Unit {0}
 AllFit last (x ∷ xs) = (fits last x ≡ true) × AllFit (Some x) xs
 
 -- what is known of the first one
-abbrev FirstLaw : WorkloadView → ProcNo → Readings → Record → Type 0
+abbrev pub FirstLaw : WorkloadView → ProcNo → Readings → Record → Type 0
 FirstLaw w p r (Unblock s t a) = list_any (is_io_of a) r.under_way ≡ true
 FirstLaw w p r (Run s t) = OnLife w p r (Run s t)
 FirstLaw w p r (Ready s t) = OnLife w p r (Ready s t)
@@ -83,23 +83,23 @@ FirstLaw w p r (Take s l t) = OnLife w p r (Take s l t)
 FirstLaw w p r (Free s l t) = OnLife w p r (Free s l t)
 FirstLaw w p r _ = Unit {0}
 
-abbrev FirstOf : WorkloadView → ProcNo → Readings → List Record → Type 0
+abbrev pub FirstOf : WorkloadView → ProcNo → Readings → List Record → Type 0
 FirstOf w p r [] = Unit {0}
 FirstOf w p r (x ∷ xs) = FirstLaw w p r x
 
-abbrev IsShaped : WorkloadView → ProcNo → Readings → List Record → Type 0
+abbrev pub IsShaped : WorkloadView → ProcNo → Readings → List Record → Type 0
 IsShaped w p r xs = AllFit None xs × FirstOf w p r xs
 
 -- wants, aims and lines stand anywhere
-fits-want : (last : Option Record) (s : SpaceNo) (n : ℕ) → fits last (Want s n) ≡ true
+pub fits-want : (last : Option Record) (s : SpaceNo) (n : ℕ) → fits last (Want s n) ≡ true
 fits-want None s n = refl
 fits-want (Some y) s n = refl
 
-fits-aim : (last : Option Record) (p : ProcNo) (s : Option SpaceNo) → fits last (Aim p s) ≡ true
+pub fits-aim : (last : Option Record) (p : ProcNo) (s : Option SpaceNo) → fits last (Aim p s) ≡ true
 fits-aim None p s = refl
 fits-aim (Some y) p s = refl
 
-fits-line : (last : Option Record) (p : ProcNo) → fits last (Line p) ≡ true
+pub fits-line : (last : Option Record) (p : ProcNo) → fits last (Line p) ≡ true
 fits-line None p = refl
 fits-line (Some y) p = refl
 
@@ -250,7 +250,7 @@ due-shaped w r p e (Some io) xs due (inl over) keeps =
     over-shaped w p r io.kind xs (λ a of. due-any (is_io_of a) e r.under_way io due of) over
 due-shaped w r p e (Some io) xs due (inr local) keeps = step-shaped w r p xs local.1 keeps
 
-turn-shaped : (w : WorkloadView) (r : Readings) (p : ProcNo) (e : ℕ) (raised : Bool) (xs : List Record) → IsTurn IsStep raised e w r p xs → KeepsLocksIn w r p xs → IsShaped w p r xs
+pub turn-shaped : (w : WorkloadView) (r : Readings) (p : ProcNo) (e : ℕ) (raised : Bool) (xs : List Record) → IsTurn IsStep raised e w r p xs → KeepsLocksIn w r p xs → IsShaped w p r xs
 turn-shaped w r p e true xs is keeps = interrupt-shaped w p r xs is
 turn-shaped w r p e false xs is keeps = due-shaped w r p e (due_of e r.under_way) xs refl is keeps
 
@@ -268,7 +268,7 @@ all-append : (last : Option Record) (xs ys : List Record) → AllFit last xs →
 all-append last [] ys left right = right last
 all-append last (x ∷ xs) ys left right = (left.0, all-append (Some x) xs ys left.1 right)
 
-whole-shaped : (w : WorkloadView) (p : ProcNo) (r : Readings) (xs : List Record) → IsShaped w p r (own_part xs) → IsClosing (closing_part xs) → IsShaped w p r xs
+pub whole-shaped : (w : WorkloadView) (p : ProcNo) (r : Readings) (xs : List Record) → IsShaped w p r (own_part xs) → IsClosing (closing_part xs) → IsShaped w p r xs
 whole-shaped w p r [] own closing = (tt, tt)
 whole-shaped w p r (x ∷ xs) own closing =
     let is : own_part (x ∷ xs) ++ closing_part (x ∷ xs) ≡ x ∷ xs = ap (λ ys. x ∷ ys) (parts-of is_own xs) in
