@@ -17,3 +17,4 @@ pub mod OrderLemmas
 pub mod StandingLemmas
 pub mod ShapeLemmas
 pub mod MovesLemmas
+pub mod HolderLemmas

@@ -106,7 +106,7 @@ kind_before (Told n) = kind_told n
 kind_before (GiveBack a) = 5
 kind_before x = 6
 
-told-kind : (n : Note) (k : ℕ) → k ≢ 3 → k ≢ 4 → k ≢ 6 → k ≢ kind_told n
+pub told-kind : (n : Note) (k : ℕ) → k ≢ 3 → k ≢ 4 → k ≢ 6 → k ≢ kind_told n
 told-kind (note.Preempted a) k three four six = three
 told-kind (note.Unblocked a) k three four six = four
 told-kind (note.Add p) k three four six = six
