@@ -241,3 +241,353 @@ kept-step w p st r (GiveBack a) rest agrees was law runs kept = λ n life at. el
   | inr apart ↦ subst (λ y. Kept (is_taken y) life.locks) (sym (put-other st a.0 n Nowhere apart)) (kept n life (sym (put-other r.lives a.0 n None apart) ∙ at))
 ]
 kept-step w p st r x rest agrees was law runs kept = kept
+
+-- a thread holds a lock among these
+abbrev pub HasThread : List Lock → ThreadNo → Type 0
+HasThread ls t = (lock : Lock) × Contains ls lock × (lock.thread ≡ Some t)
+
+-- .. and one of a life of this space
+pub record Holds (lives : ℕ → Option Life) (s : SpaceNo) (t : ThreadNo) : Type 0 where
+  pub act : ℕ
+  pub life : Life
+  pub is : lives act ≡ Some life
+  pub space : life.space ≡ s
+  pub has : HasThread life.locks t
+
+with-at : (f : Life → Life) (b : Option ActNo) (a : ActNo) (lives : ℕ → Option Life) (life : Life) → b ≡ Some a → lives a.0 ≡ Some life → with_life f b lives a.0 ≡ Some (f life)
+with-at f b a lives life at is =
+    ap (λ o. with_life f o lives a.0) at ∙ put-at lives a.0 a.0 (option_map f (lives a.0)) refl ∙ ap (option_map f) is
+
+holds-with : (f : Life → Life) (b : Option ActNo) (lives : ℕ → Option Life) (s : SpaceNo) (t : ThreadNo) (X : Type 0) → ((l : Life) → (f l).space ≡ l.space)
+    → ((a : ActNo) (life : Life) → b ≡ Some a → lives a.0 ≡ Some life → life.space ≡ s → HasThread life.locks t → HasThread (f life).locks t ⊎ X)
+    → Holds lives s t → Holds (with_life f b lives) s t ⊎ X
+holds-with f None lives s t X same own holds = inl holds
+holds-with f (Some b) lives s t X same own holds = elim (cases_eq holds.act b.0) [
+  | inr apart ↦
+      inl (record { act = holds.act; life = holds.life; is = put-other lives b.0 holds.act (option_map f (lives b.0)) apart ∙ holds.is; space = holds.space; has = holds.has })
+  | inl at ↦
+      let is : lives b.0 ≡ Some holds.life = ap lives (sym at) ∙ holds.is in
+      elim (own b holds.life refl is holds.space holds.has) [
+        | inl has ↦ inl (record { act = b.0; life = f holds.life; is = with-at f (Some b) b lives holds.life refl is; space = same holds.life ∙ holds.space; has = has })
+        | inr x ↦ inr x
+      ]
+]
+
+-- where the locks stay
+holds-same : (f : Life → Life) (b : Option ActNo) (lives : ℕ → Option Life) (s : SpaceNo) (t : ThreadNo) (X : Type 0) → ((l : Life) → (f l).space ≡ l.space)
+    → ((l : Life) → (f l).locks ≡ l.locks) → Holds lives s t → Holds (with_life f b lives) s t ⊎ X
+holds-same f b lives s t X space same holds =
+    holds-with f b lives s t X space (λ a life at is of has. inl (subst (λ ls. HasThread ls t) (sym (same life)) has)) holds
+
+only-lock : (m k : Lock) → Contains (m ∷ []) k → m ≡ k
+only-lock m k (zero, below, is) = is
+only-lock m k (suc i, below, is) = absurd (omega arith)
+
+thread-first : (f : Lock → Lock) (ls : List Lock) (t : ThreadNo) → ((l : Lock) → slice_get ls 0 ≡ Some l → l.thread ≡ Some t → (f l).thread ≡ Some t) → HasThread ls t
+    → HasThread (change_first f ls) t
+thread-first f [] t keeps has = absurd (no-lock has.0 has.1)
+thread-first f (l ∷ ls) t keeps has = elim (Contains-append_cases (l ∷ []) ls has.0 has.1) [
+  | inl first ↦ (f l, (0, omega arith, refl), keeps l refl (ap (λ (k : Lock). k.thread) (only-lock l has.0 first) ∙ has.2))
+  | inr later ↦ (has.0, Contains-append_right (f l ∷ []) ls has.0 later, has.2)
+]
+
+thread-drop : (ls : List Lock) (t : ThreadNo) → HasThread ls t → HasThread (drop 1 ls) t ⊎ ((l : Lock) × (slice_get ls 0 ≡ Some l) × (l.thread ≡ Some t))
+thread-drop [] t has = absurd (no-lock has.0 has.1)
+thread-drop (l ∷ ls) t has = elim (Contains-append_cases (l ∷ []) ls has.0 has.1) [
+  | inl first ↦ inr (l, refl, ap (λ (k : Lock). k.thread) (only-lock l has.0 first) ∙ has.2)
+  | inr later ↦ inl (has.0, later, has.2)
+]
+
+the-first : (o : Option Lock) (P : Lock → Type 0) → WithFirst o P → (l : Lock) × (o ≡ Some l) × P l
+the-first None P is = absurd is
+the-first (Some l) P is = (l, refl, is)
+
+first-among : (ls : List Lock) (l : Lock) → slice_get ls 0 ≡ Some l → Contains ls l
+first-among [] l is = absurd (none-some l is)
+first-among (m ∷ ls) l is = subst (λ k. Contains (m ∷ ls) k) (same_Some m l is) (0, omega arith, refl)
+
+-- a run gives the first lock its thread, which had none
+run-keeps : (w : WorkloadView) (r : Readings) (s : SpaceNo) (t u : ThreadNo) (taken : Bool) (life : Life) → Kept taken life.locks
+    → WithFirst (first_lock life) (λ lock. CanRun r life lock s) → HasThread life.locks u → HasThread (change_first (ran t) life.locks) u
+run-keeps w r s t u taken life kept law has =
+    let first = the-first (first_lock life) (λ lock. CanRun r life lock s) law in
+    thread-first (ran t) life.locks u (λ l at is.
+      let same : first.0 ≡ l = same_Some first.0 l (sym first.1 ∙ at) in
+      let none = kept.popped first.0 (first-among life.locks first.0 first.1) first.2.pop first.2.used.unused in
+      absurd (none-some u (sym none ∙ ap (λ (k : Lock). k.thread) same ∙ is))) has
+
+-- a free takes the first lock away, and names its thread
+free-keeps : (s of : SpaceNo) (l : ProcNo) (t : Option ThreadNo) (u : ThreadNo) (life : Life) → life.space ≡ s
+    → WithFirst (first_lock life) (λ lock. CanFree life lock of l t) → HasThread life.locks u → HasThread (drop 1 life.locks) u ⊎ ((of ≡ s) × (t ≡ Some u))
+free-keeps s of l t u life space law has =
+    let first = the-first (first_lock life) (λ lock. CanFree life lock of l t) law in
+    elim (thread-drop life.locks u has) [
+      | inl still ↦ inl still
+      | inr gone ↦
+          let same : first.0 ≡ gone.0 = same_Some first.0 gone.0 (sym first.1 ∙ gone.1) in
+          inr (first.2.space ∙ space, first.2.thread ∙ ap (λ (k : Lock). k.thread) same ∙ gone.2)
+    ]
+
+has-life : (lives : ℕ → Option Life) (a : ℕ) (s : SpaceNo) (o : Option Life) → lives a ≡ o → space_of o ≡ Some s → (life : Life) × (lives a ≡ Some life) × (life.space ≡ s)
+has-life lives a s None is space = absurd (none-some s space)
+has-life lives a s (Some life) is space = (life, is, same_Some life.space s space)
+
+-- what a told life holds is held by the life of the up
+holds-handed : (st : ℕ → Standing) (r : Readings) (a u : ActNo) (s of : SpaceNo) (t : ThreadNo) (from : Option Life) (X : Type 0) → r.upped ≡ Some u → u.0 ≢ a.0 → life_of r a ≡ from
+    → space_of (r.lives a.0) ≡ Some of → space_of (r.lives u.0) ≡ Some of → Holds r.lives s t → Holds (handed r.upped a from r.lives) s t ⊎ X
+holds-handed st r a u s of t None X upped apart is space other holds = inl holds
+holds-handed st r a u s of t (Some from) X upped apart is space other holds = elim (cases_eq holds.act a.0) [
+  | inr away ↦
+      holds-with (inherits from) r.upped (with_life bereft (Some a) r.lives) s t X (λ l. refl) (λ b life at there in_it has. inl (has.0, Contains-append_left life.locks (map inherited from.locks) has.0 has.1, has.2))
+      (record { act = holds.act; life = holds.life; is = put-other r.lives a.0 holds.act (option_map bereft (r.lives a.0)) away ∙ holds.is; space = holds.space; has = holds.has })
+  | inl at ↦
+      let same : holds.life ≡ from = same_Some holds.life from (sym holds.is ∙ ap r.lives at ∙ is) in
+      let has : HasThread from.locks t = subst (λ (l : Life). HasThread l.locks t) same holds.has in
+      let heir = has-life r.lives u.0 of (r.lives u.0) refl other in
+      let owner : from.space ≡ of = same_Some from.space of (sym (ap space_of is) ∙ space) in
+      inl (record {
+        act = u.0;
+        life = inherits from heir.0;
+        is = with-at (inherits from) r.upped u (with_life bereft (Some a) r.lives) heir.0 upped (put-other r.lives a.0 u.0 (option_map bereft (r.lives a.0)) apart ∙ heir.1);
+        space = heir.2 ∙ sym owner ∙ ap (λ (l : Life). l.space) (sym same) ∙ holds.space;
+        has = (inherited has.0, Contains-append_right heir.0.locks (map inherited from.locks) (inherited has.0) (map-has from.locks has.0 has.1), has.2);
+      })
+]
+
+-- the life of the up has the space of what is told to it
+told-space : (r : Readings) (u : ActNo) (n : Note) (o : Option SpaceNo) → r.upped ≡ Some u → space_of_life r r.upped ≡ o → IsUntoldTo r o n → ((q : ProcNo) → n ≢ note.Add q)
+    → (s : SpaceNo) × (space_of (r.lives u.0) ≡ Some s) × Contains (untold_of r s) n
+told-space r u (note.Add q) o upped is told other = absurd (other q refl)
+told-space r u n None upped is told other = absurd (told)
+told-space r u (note.Preempted a) (Some s) upped is told other = (s, sym (ap (space_of_life r) upped) ∙ is, told)
+told-space r u (note.Blocked a) (Some s) upped is told other = (s, sym (ap (space_of_life r) upped) ∙ is, told)
+told-space r u (note.Unblocked a) (Some s) upped is told other = (s, sym (ap (space_of_life r) upped) ∙ is, told)
+
+pub holds-step : (w : WorkloadView) (p : ProcNo) (st : ℕ → Standing) (r : Readings) (x : Record) (rest : List Record) (s : SpaceNo) (t : ThreadNo) → Agrees st r → Stood p st x
+    → MovesLives w p r x rest → UppedRuns st p r → AreKept st r.lives → Holds r.lives s t → Holds (lives_after w p r x) s t ⊎ Frees s t x
+holds-step w p st r (Ins of u i) rest s t agrees was law runs kept holds = holds-same (with_hand (next_effect w r.state of u).roused) (running_of r p) r.lives s t ⊥ (λ l. refl) (λ l. refl) holds
+holds-step w p st r (Run of u) rest s t agrees was law runs kept holds = holds-with (with_first (ran u)) (running_of r p) r.lives s t ⊥ (λ l. refl)
+    (λ a life at is space has. inl (run-keeps w r of u t (is_taken (st a.0)) life (kept a.0 life is)
+    (subst (λ (m : Life). WithFirst (first_lock m) (λ lock. CanRun r m lock of)) (sym (on-life r p a life law.0 at is law.1)) law.2) has)) holds
+holds-step w p st r (Stop of u a) rest s t agrees was law runs kept holds = holds-same (stopped_with u) (Some a) r.lives s t ⊥ (λ l. refl) (λ l. refl) holds
+holds-step w p st r (Block of u a io) rest s t agrees was law runs kept holds = holds-same (held_with u) (Some a) r.lives s t ⊥ (λ l. refl) (λ l. refl) holds
+holds-step w p st r (Unblock of u a) rest s t agrees was law runs kept holds = holds-same (with_hand (one_thread u)) (Some a) r.lives s t ⊥ (λ l. refl) (λ l. refl) holds
+holds-step w p st r (Cont of u) rest s t agrees was law runs kept holds = holds-same (with_cont true) (running_of r p) r.lives s t ⊥ (λ l. refl) (λ l. refl) holds
+holds-step w p st r (Back of u) rest s t agrees was law runs kept holds = holds-same (back_with u) (running_of r p) r.lives s t ⊥ (λ l. refl) (λ l. refl) holds
+holds-step w p st r (Ready of u) rest s t agrees was law runs kept holds = holds-with (made_ready u) (running_of r p) r.lives s t ⊥ (λ l. refl)
+    (λ a life at is space has. inl (thread-first readied life.locks t (λ l first same. same) has)) holds
+holds-step w p st r (Take of l u) rest s t agrees was law runs kept holds = holds-with (locks r p l u) (running_of r p) r.lives s t ⊥ (λ m. refl)
+    (λ a life at is space has. inl (has.0, Contains-append_left life.locks (lock_for r p l u life ∷ []) has.0 has.1, has.2)) holds
+holds-step w p st r (Free of l u) rest s t agrees was law runs kept holds = holds-with without_lock (running_of r p) r.lives s t ((of ≡ s) × (u ≡ Some t)) (λ m. refl)
+    (λ a life at is space has. free-keeps s of l u t life space
+    (subst (λ (m : Life). WithFirst (first_lock m) (λ lock. CanFree m lock of l u)) (sym (on-life r p a life law.0 at is law.1)) law.2) has) holds
+holds-step w p st r (Up of a) rest s t agrees was law runs kept holds = elim (cases_eq holds.act a.0) [
+  | inl same ↦ absurd (none-some holds.life (sym law ∙ ap r.lives (sym same) ∙ holds.is))
+  | inr apart ↦
+      inl (record { act = holds.act; life = holds.life; is = put-other r.lives a.0 holds.act (Some (new_life of p)) apart ∙ holds.is; space = holds.space; has = holds.has })
+]
+holds-step w p st r (Told (note.Preempted a)) rest s t agrees was law runs kept holds =
+    let up = runs law.1 in
+    let told = told-space r up.0 (note.Preempted a) (space_of_life r r.upped) up.1 refl law.0 (λ q e. cc) in
+    let space : space_of (r.lives a.0) ≡ Some told.0 = agrees.lives a ∙ ap space_in (agrees.stopped told.0 a told.2) in
+    holds-handed st r a up.0 s told.0 t (life_of r a) ⊥ up.1 (apart-told st a.0 up.0.0 up.2 was.0 p (Stopped was.0) up.3 was.1 (λ e. cc)) refl space told.1 holds
+holds-step w p st r (Told (note.Unblocked a)) rest s t agrees was law runs kept holds =
+    let up = runs law.1 in
+    let told = told-space r up.0 (note.Unblocked a) (space_of_life r r.upped) up.1 refl law.0 (λ q e. cc) in
+    let space : space_of (r.lives a.0) ≡ Some told.0 = agrees.lives a ∙ ap space_in (agrees.returned told.0 a told.2) in
+    holds-handed st r a up.0 s told.0 t (life_of r a) ⊥ up.1 (apart-told st a.0 up.0.0 up.2 was.0 p (Returned was.0) up.3 was.1 (λ e. cc)) refl space told.1 holds
+holds-step w p st r (Told (note.Add q)) rest s t agrees was law runs kept holds = inl holds
+holds-step w p st r (Told (note.Blocked a)) rest s t agrees was law runs kept holds = inl holds
+holds-step w p st r (GiveBack a) rest s t agrees was law runs kept holds = elim (cases_eq holds.act a.0) [
+  | inl same ↦
+      let bare = (kept holds.act holds.life holds.is).bare (ap (λ n. is_taken (st n)) same ∙ ap is_taken was.1) in
+      absurd (no-lock holds.has.0 (subst (λ ls. Contains ls holds.has.0) bare holds.has.1))
+  | inr apart ↦ inl (record { act = holds.act; life = holds.life; is = put-other r.lives a.0 holds.act None apart ∙ holds.is; space = holds.space; has = holds.has })
+]
+holds-step w p st r x rest s t agrees was law runs kept holds = inl holds
+
+-- a take that names a thread, and a run, give it a lock
+some-life : (r : Readings) (p : ProcNo) (a : Option ActNo) (life : Life) → running_of r p ≡ a → life_if r a ≡ Some life → (b : ActNo) × (running_of r p ≡ Some b) × (r.lives b.0 ≡ Some life)
+some-life r p None life runs is = absurd (none-some life is)
+some-life r p (Some b) life runs is = (b, runs, is)
+
+run-has : (t : ThreadNo) (ls : List Lock) (l : Lock) → slice_get ls 0 ≡ Some l → HasThread (change_first (ran t) ls) t
+run-has t [] l is = absurd (none-some l is)
+run-has t (m ∷ ls) l is = (ran t m, (0, omega arith, refl), refl)
+
+begins-holds : (w : WorkloadView) (p : ProcNo) (r : Readings) (x : Record) (rest : List Record) (s : SpaceNo) (t : ThreadNo) → MovesLives w p r x rest → Begins s t x
+    → Holds (lives_after w p r x) s t
+begins-holds w p r (Take of l u) rest s t law begins =
+    let on = some-life r p (running_of r p) law.0 refl law.1 in
+    record {
+      act = on.0.0;
+      life = locks r p l u law.0;
+      is = with-at (locks r p l u) (running_of r p) on.0 r.lives law.0 on.1 on.2;
+      space = sym law.2.space ∙ begins.0;
+      has = (lock_for r p l u law.0, Contains-push law.0.locks (lock_for r p l u law.0), begins.1);
+    }
+begins-holds w p r (Run of u) rest s t law begins =
+    let on = some-life r p (running_of r p) law.0 refl law.1 in
+    let first = the-first (first_lock law.0) (λ lock. CanRun r law.0 lock of) law.2 in
+    record {
+      act = on.0.0;
+      life = with_first (ran u) law.0;
+      is = with-at (with_first (ran u)) (running_of r p) on.0 r.lives law.0 on.1 on.2;
+      space = sym first.2.space ∙ begins.0;
+      has = subst (λ v. HasThread (change_first (ran u) law.0.locks) v) begins.1 (run-has u law.0.locks first.0 first.1);
+    }
+begins-holds w p r x rest s t law begins = absurd (begins)
+
+-- at the end of an event lives keep their locks
+abbrev pub LocksOnly : (Life → Life) → Type 0
+LocksOnly f = (l : Life) → ((f l).locks ≡ l.locks) × ((f l).space ≡ l.space)
+
+kept-if : (b : Bool) (f : Life → Life) (n : Option ActNo) (st : ℕ → Standing) (lives : ℕ → Option Life) → LocksOnly f → AreKept st lives → AreKept st (if b then with_life f n lives else lives)
+kept-if true f n st lives same kept = kept-same f n st st lives (λ l. (same l).0) (λ m is. is) kept
+kept-if false f n st lives same kept = kept
+
+holds-if : (b : Bool) (f : Life → Life) (n : Option ActNo) (lives : ℕ → Option Life) (s : SpaceNo) (t : ThreadNo) → LocksOnly f → Holds lives s t → Holds (if b then with_life f n lives else lives) s t
+holds-if true f n lives s t same holds = elim (holds-same f n lives s t ⊥ (λ l. (same l).1) (λ l. (same l).0) holds) [ inl still ↦ still | inr never ↦ absurd never ]
+holds-if false f n lives s t same holds = holds
+
+kept-stepped : (test : Test) (w : WorkloadView) (st : ℕ → Standing) (before : Readings) (e : Event) (after : Readings) (xs : List Record) (lives : ℕ → Option Life)
+    → AreKept st lives → AreKept st (with_step test w before e after xs lives)
+kept-stepped test w st before e after [] lives kept = kept
+kept-stepped test w st before e after (x ∷ xs) lives kept =
+    kept-if (is_step x) (stepped test w before e after x) (running_of before e.proc) st lives (λ l. (refl, refl)) kept
+
+holds-stepped : (test : Test) (w : WorkloadView) (before : Readings) (e : Event) (after : Readings) (xs : List Record) (lives : ℕ → Option Life) (s : SpaceNo) (t : ThreadNo)
+    → Holds lives s t → Holds (with_step test w before e after xs lives) s t
+holds-stepped test w before e after [] lives s t holds = holds
+holds-stepped test w before e after (x ∷ xs) lives s t holds =
+    holds-if (is_step x) (stepped test w before e after x) (running_of before e.proc) lives s t (λ l. (refl, refl)) holds
+
+pub kept-ended : (test : Test) (w : WorkloadView) (st : ℕ → Standing) (before : Readings) (e : Event) (r : Readings) → AreKept st r.lives → AreKept st (ended test w before e r).lives
+kept-ended test w st before e r kept =
+    kept-if (list_any is_up e.records) (arisen test w before e r) (running_of r e.proc) st (with_step test w before e r e.records r.lives) (λ l. (refl, refl))
+    (kept-stepped test w st before e r e.records r.lives kept)
+
+holds-ended : (test : Test) (w : WorkloadView) (before : Readings) (e : Event) (r : Readings) (s : SpaceNo) (t : ThreadNo) → Holds r.lives s t → Holds (ended test w before e r).lives s t
+holds-ended test w before e r s t holds =
+    holds-if (list_any is_up e.records) (arisen test w before e r) (running_of r e.proc) (with_step test w before e r e.records r.lives) s t (λ l. (refl, refl))
+    (holds-stepped test w before e r e.records r.lives s t holds)
+
+-- what is kept: numbers stand in one place each, taken lives have no locks, and who holds a lock in the trace holds it
+-- in what is read
+pub record AreHeld (past : List Item) (r : Readings) : Type 0 where
+  pub st : ℕ → Standing
+  pub agrees : Agrees st r
+  pub kept : AreKept st r.lives
+  pub holds : (s : SpaceNo) (t : ThreadNo) → HoldsListLock past (length past) s t → Holds r.lives s t
+
+pub record AreHeldIn (p : ProcNo) (past : List Item) (r : Readings) : Type 0 where
+  pub held : AreHeld past r
+  pub runs : UppedRuns held.st p r
+
+abbrev pub ReadiesNoHolder : List Item → Item → Type 0
+ReadiesNoHolder past x = (s : SpaceNo) (t : ThreadNo) → x.what ≡ Ready s t → HoldsListLock past (length past) s t → ⊥
+
+-- a thread that holds a lock behind one item more held one before it, or got it there
+held-cases : (past : List Item) (x : Item) (s : SpaceNo) (t : ThreadNo) → HoldsListLock (past ++ x ∷ []) (length (past ++ x ∷ [])) s t
+    → Begins s t x.what ⊎ (HoldsListLock past (length past) s t × (Frees s t x.what → ⊥))
+held-cases past x s t o =
+    let len : length (past ++ x ∷ []) ≡ length past + 1 = length-append past (x ∷ []) in
+    elim (slice_get-push_cases past o.place x o.item o.at) [
+      | inl new ↦ inl (subst (λ (y : Item). Begins s t y.what) new.1 o.begins)
+      | inr old ↦
+          let within = slice_get_within past o.place o.item old in
+          inr (
+            record {
+              place = o.place;
+              before = within;
+              item = o.item;
+              at = old;
+              begins = o.begins;
+              kept = λ k y above below at. o.kept k y above (omega arith) (slice_get-append_left past (x ∷ []) k below ∙ at);
+            },
+            λ frees. o.kept (length past) x within (omega arith) (slice_get-append_seam past [] x) frees,
+          )
+    ]
+
+held-step : (w : WorkloadView) (e : ℕ) (p : ProcNo) (past : List Item) (r : Readings) (x : Record) (rest : List Record) → AreHeldIn p past r → MovesLives w p r x rest
+    → AreHeldIn p (past ++ item e p x ∷ []) (after_record w e p r x)
+held-step w e p past r x rest inv law =
+    let st = inv.held.st in
+    let was = stood w p st r x rest inv.held.agrees law in
+    record {
+      held = record {
+        st = standing_after p st x;
+        agrees = agrees-step w e p st r x inv.held.agrees was;
+        kept = kept-step w p st r x rest inv.held.agrees was law inv.runs inv.held.kept;
+        holds = λ s t o. elim (held-cases past (item e p x) s t o) [
+          | inl begins ↦ begins-holds w p r x rest s t law begins
+          | inr old ↦ elim (holds-step w p st r x rest s t inv.held.agrees was law inv.runs inv.held.kept (inv.held.holds s t old.0)) [
+            | inl still ↦ still
+            | inr frees ↦ absurd (old.1 frees)
+          ]
+        ];
+      };
+      runs = upped-step w e p st r x rest was law inv.runs;
+    }
+
+holds-lock : (r : Readings) (s : SpaceNo) (t : ThreadNo) → Holds r.lives s t → HoldsLock r s t
+holds-lock r s t holds = record {
+  act = record { 0 = holds.act };
+  life = holds.life;
+  is = holds.is;
+  space = holds.space;
+  lock = holds.has.0;
+  among = holds.has.1;
+  thread = holds.has.2;
+}
+
+held-good : (w : WorkloadView) (e : ℕ) (p : ProcNo) (past : List Item) (r : Readings) (x : Record) (rest : List Record) → AreHeldIn p past r → MovesLives w p r x rest
+    → ReadiesNoHolder past (item e p x)
+held-good w e p past r (Ready of u) rest inv law s t is o =
+    let space : of ≡ s = cc in
+    let thread : u ≡ t = cc in
+    let first = the-first (first_lock law.0) (λ lock. CanReady r law.0 lock of u) law.2 in
+    first.2.holds (subst (λ v. HoldsLock r of v) (sym thread) (subst (λ v. HoldsLock r v t) (sym space) (holds-lock r s t (inv.held.holds s t o))))
+held-good w e p past r x rest inv law s t is o = absurd (cc)
+
+pub held-kept : (test : Test) (w : WorkloadView) → IsKept test w (MovesLives w) AreHeld (λ e p. AreHeldIn p) ReadiesNoHolder
+held-kept test w = record {
+  step = λ e p past r x rest inv law. (held-step w e p past r x rest inv law, held-good w e p past r x rest inv law);
+  begins = λ past r e inv. record {
+    held = record { st = inv.st; agrees = agrees-begun w inv.st e r inv.agrees; kept = inv.kept; holds = inv.holds };
+    runs = λ no_record. absurd (cc);
+  };
+  ends = λ past before e r inv. record {
+    st = inv.held.st;
+    agrees = agrees-ended test w inv.held.st before e r inv.held.agrees;
+    kept = kept-ended test w inv.held.st before e r inv.held.kept;
+    holds = λ s t o. holds-ended test w before e r s t (inv.held.holds s t o);
+  };
+}
+
+pub held-start : (w : WorkloadView) → AreHeld [] (opening_readings w)
+held-start w = record {
+  st = nowhere_first;
+  agrees = agrees-start w;
+  kept = λ n life is. absurd (none-some life is);
+  holds = λ s t o. absurd (none-some o.item o.at);
+}
+
+held-within : (items : List Item) (j : ℕ) (s : SpaceNo) (t : ThreadNo) → j ≤ length items → HoldsListLock items j s t → HoldsListLock (take j items) (length (take j items)) s t
+held-within items j s t within o =
+    let len = length-take_within items j within in
+    let before = o.before in
+    record {
+      place = o.place;
+      before = omega arith;
+      item = o.item;
+      at = get-take items j o.place before ∙ o.at;
+      begins = o.begins;
+      kept = λ k x above below at. o.kept k x above (omega arith) (sym (get-take items j k (omega arith)) ∙ at);
+    }
+
+pub no-holder-is-ready : (w : WorkloadView) (items : List Item) → IsLegal fast_threads w items → NoHolderIsReady items
+no-holder-is-ready w items legal j s t stands o =
+    let good = good-at fast_threads w items (MovesLives w) AreHeld (λ e p. AreHeldIn p) ReadiesNoHolder legal (held-kept fast_threads.inside w) (moves-lives w) (held-start w) j stands.item stands.at in
+    let within = slice_get_within items j stands.item stands.at in
+    good s t stands.what (held-within items j s t (omega arith) o)

@@ -7,8 +7,8 @@ mod laws;
 
 pub use examples::{rules_can_be_broken, smallest_run_is_legal};
 pub use headline::{
-    legal_runs_cover_shares, legal_runs_tell_at_most_once, legal_runs_tell_in_time,
-    legal_runs_use_fresh_numbers,
+    legal_runs_cover_shares, legal_runs_ready_no_holder, legal_runs_tell_at_most_once,
+    legal_runs_tell_in_time, legal_runs_use_fresh_numbers,
 };
 pub use laws::{
     histories_are_traces, laws_hold_along_histories, legal_traces_are_read, traces_are_histories,
