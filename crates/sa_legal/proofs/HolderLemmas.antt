@@ -382,7 +382,7 @@ holds-step w p st r (Free of l u) rest s t agrees was law runs kept holds = hold
     (λ a life at is space has. free-keeps s of l u t life space
     (subst (λ (m : Life). WithFirst (first_lock m) (λ lock. CanFree m lock of l u)) (sym (on-life r p a life law.0 at is law.1)) law.2) has) holds
 holds-step w p st r (Up of a) rest s t agrees was law runs kept holds = elim (cases_eq holds.act a.0) [
-  | inl same ↦ absurd (none-some holds.life (sym law ∙ ap r.lives (sym same) ∙ holds.is))
+  | inl same ↦ absurd (none-some holds.life (sym law.1 ∙ ap r.lives (sym same) ∙ holds.is))
   | inr apart ↦
       inl (record { act = holds.act; life = holds.life; is = put-other r.lives a.0 holds.act (Some (new_life of p)) apart ∙ holds.is; space = holds.space; has = holds.has })
 ]

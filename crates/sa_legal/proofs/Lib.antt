@@ -18,3 +18,4 @@ pub mod StandingLemmas
 pub mod ShapeLemmas
 pub mod MovesLemmas
 pub mod HolderLemmas
+pub mod ShownLemmas

@@ -101,7 +101,7 @@ moves-one w p r (Stop s t a) rest last is fit first named tells once needs = nam
 moves-one w p r (Block s t a io) rest last is fit first named tells once needs = named
 moves-one w p r (Unblock s t a) rest None is fit first named tells once needs = (first, life-space r s a needs.life needs.is needs.space)
 moves-one w p r (Unblock s t a) rest (Some y) is fit first named tells once needs = absurd (cc)
-moves-one w p r (Up s a) rest last is fit first named tells once needs = tells.fresh
+moves-one w p r (Up s a) rest last is fit first named tells once needs = (named, tells.fresh)
 moves-one w p r (Told n) rest None is fit first named tells once needs = absurd (cc)
 moves-one w p r (Told n) rest (Some y) is fit first named tells once needs = (once, ap is_telling is ∙ fit)
 moves-one w p r (GiveBack a) rest last is fit first named tells once needs = tells
@@ -161,7 +161,7 @@ stood w p st r (Block s t a io) rest agrees law =
     let there = agrees.running p a law.act in there.1 ∙ ap (λ u. Runs u p) (its-space st r a s there.0 (Runs there.0 p) agrees law.space there.1 refl)
 stood w p st r (Unblock s t a) rest agrees law =
     let there = agrees.blocked a law.0 in there.1 ∙ ap Blocked (its-space st r a s there.0 (Blocked there.0) agrees law.1 there.1 refl)
-stood w p st r (Up s a) rest agrees law = nowhere (st a.0) (sym (agrees.lives a) ∙ ap space_of law)
+stood w p st r (Up s a) rest agrees law = nowhere (st a.0) (sym (agrees.lives a) ∙ ap space_of law.1)
 stood w p st r (Told n) rest agrees law = told n (space_of_life r r.upped) law.0 where
   told : (m : Note) (u : Option SpaceNo) → IsUntoldTo r u m → Stood p st (Told m)
   told (note.Add q) u is = tt

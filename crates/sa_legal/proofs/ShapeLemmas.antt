@@ -49,7 +49,7 @@ abbrev pub MovesLives : WorkloadView → ProcNo → RecordLaw
 MovesLives w p r (Stop s t a) rest = RunsOn r p s a
 MovesLives w p r (Block s t a io) rest = RunsOn r p s a
 MovesLives w p r (Unblock s t a) rest = (list_any (is_io_of a) r.under_way ≡ true) × (space_of_life r (Some a) ≡ Some s)
-MovesLives w p r (Up s a) rest = life_of r a ≡ None
+MovesLives w p r (Up s a) rest = (running_of r p ≡ None) × (life_of r a ≡ None)
 MovesLives w p r (Told n) rest = IsUntoldTo r (space_of_life r r.upped) n × (is_telling r.last ≡ true)
 MovesLives w p r (GiveBack a) rest = IsTaken r a
 MovesLives w p r (Run s t) rest = OnLife w p r (Run s t)

@@ -147,11 +147,11 @@ clear-cases (x ∷ xs) zero (suc j) a is = ((λ e. cc), is)
 clear-cases (x ∷ xs) (suc i) zero a is = ((λ e. cc), is)
 clear-cases (x ∷ xs) (suc i) (suc j) a is = let h = clear-cases xs i j a is in ((λ e. h.0 (omega arith)), h.1)
 
-abbrev proc_in : Standing → Option ProcNo
+abbrev pub proc_in : Standing → Option ProcNo
 proc_in (Runs s p) = Some p
 proc_in x = None
 
-same-proc : (s t : SpaceNo) (p q : ProcNo) → Runs s p ≡ Runs t q → p.0 ≡ q.0
+pub same-proc : (s t : SpaceNo) (p q : ProcNo) → Runs s p ≡ Runs t q → p.0 ≡ q.0
 same-proc s t p q e = ap (λ (o : ProcNo). o.0) (same_Some p q (ap proc_in e))
 
 -- its running life leaves a processor
@@ -193,7 +193,7 @@ or-first : (b : Bool) → (b || false) ≡ true → b ≡ true
 or-first true is = refl
 or-first false is = is
 
-same-number : (a b : ℕ) → (a == b) ≡ true → a ≡ b
+pub same-number : (a b : ℕ) → (a == b) ≡ true → a ≡ b
 same-number a b is = grind (arith, nat_tests)
 
 kind-number : (a b : ActNo) (k : IoKind) → is_kind_of b k ≡ true → is_kind_of a k ≡ true → b.0 ≡ a.0
@@ -255,10 +255,10 @@ blocked-step w e p st r x b agrees was is =
     let there = agrees.blocked b is in (there.0, stays p st x b.0 (Blocked there.0) was there.1 (λ e'. cc))
 
 -- what is untold
-note-act : (m n : ActNo) → note.Preempted m ≡ note.Preempted n → m.0 ≡ n.0
+pub note-act : (m n : ActNo) → note.Preempted m ≡ note.Preempted n → m.0 ≡ n.0
 note-act m n e = cc
 
-note-back : (m n : ActNo) → note.Unblocked m ≡ note.Unblocked n → m.0 ≡ n.0
+pub note-back : (m n : ActNo) → note.Unblocked m ≡ note.Unblocked n → m.0 ≡ n.0
 note-back m n e = cc
 
 same-number-act : (a b : ActNo) → b.0 ≡ a.0 → a ≡ b
