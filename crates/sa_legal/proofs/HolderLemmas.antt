@@ -61,7 +61,7 @@ pub record Kept (taken : Bool) (locks : List Lock) : Type 0 where
 abbrev pub AreKept : (ℕ → Standing) → (ℕ → Option Life) → Type 0
 AreKept st lives = (n : ℕ) (life : Life) → lives n ≡ Some life → Kept (is_taken (st n)) life.locks
 
-no-lock : (lock : Lock) → Contains [] lock → ⊥
+pub no-lock : (lock : Lock) → Contains [] lock → ⊥
 no-lock lock has = let h = has in omega (arith, h.1)
 
 kept-none : (taken : Bool) → Kept taken []
@@ -118,7 +118,7 @@ kept-first f taken ls used kept = record {
   ];
 }
 
-drop-has : (ls : List Lock) (lock : Lock) → Contains (drop 1 ls) lock → Contains ls lock
+pub drop-has : (ls : List Lock) (lock : Lock) → Contains (drop 1 ls) lock → Contains ls lock
 drop-has [] lock has = has
 drop-has (l ∷ ls) lock has = Contains-append_right (l ∷ []) ls lock has
 
@@ -128,7 +128,7 @@ kept-drop taken ls kept = record {
   popped = λ lock has push unused. kept.popped lock (drop-has ls lock has) push unused;
 }
 
-map-cases : (ls : List Lock) (lock : Lock) → Contains (map inherited ls) lock → (l : Lock) × Contains ls l × (inherited l ≡ lock)
+pub map-cases : (ls : List Lock) (lock : Lock) → Contains (map inherited ls) lock → (l : Lock) × Contains ls l × (inherited l ≡ lock)
 map-cases [] lock has = absurd (no-lock lock has)
 map-cases (l ∷ ls) lock has = elim (Contains-append_cases (inherited l ∷ []) (map inherited ls) lock has) [
   | inl first ↦ (l, (0, omega arith, refl), only (inherited l) lock first)
@@ -200,7 +200,7 @@ kept-handed st r p a u s v (Some from) upped runs apart is kept =
     kept-with (inherits from) r.upped new new (with_life bereft (Some a) r.lives) (λ n life other k. k)
     (λ b life same at k. kept-both (is_taken (new b.0)) (is_taken (st a.0)) life.locks from.locks (free b same) k (kept a.0 from is)) bereaved
 
-apart-told : (st : ℕ → Standing) (a u : ℕ) (s t : SpaceNo) (p : ProcNo) (y : Standing) → st u ≡ Runs s p → st a ≡ y → kind y ≢ 1 → u ≢ a
+pub apart-told : (st : ℕ → Standing) (a u : ℕ) (s t : SpaceNo) (p : ProcNo) (y : Standing) → st u ≡ Runs s p → st a ≡ y → kind y ≢ 1 → u ≢ a
 apart-told st a u s t p y runs is other same = other (ap kind (sym is ∙ ap st (sym same) ∙ runs))
 
 pub kept-step : (w : WorkloadView) (p : ProcNo) (st : ℕ → Standing) (r : Readings) (x : Record) (rest : List Record) → Agrees st r → Stood p st x → MovesLives w p r x rest
@@ -279,7 +279,7 @@ holds-same : (f : Life → Life) (b : Option ActNo) (lives : ℕ → Option Life
 holds-same f b lives s t X space same holds =
     holds-with f b lives s t X space (λ a life at is of has. inl (subst (λ ls. HasThread ls t) (sym (same life)) has)) holds
 
-only-lock : (m k : Lock) → Contains (m ∷ []) k → m ≡ k
+pub only-lock : (m k : Lock) → Contains (m ∷ []) k → m ≡ k
 only-lock m k (zero, below, is) = is
 only-lock m k (suc i, below, is) = absurd (omega arith)
 
@@ -328,7 +328,7 @@ free-keeps s of l t u life space law has =
           inr (first.2.space ∙ space, first.2.thread ∙ ap (λ (k : Lock). k.thread) same ∙ gone.2)
     ]
 
-has-life : (lives : ℕ → Option Life) (a : ℕ) (s : SpaceNo) (o : Option Life) → lives a ≡ o → space_of o ≡ Some s → (life : Life) × (lives a ≡ Some life) × (life.space ≡ s)
+pub has-life : (lives : ℕ → Option Life) (a : ℕ) (s : SpaceNo) (o : Option Life) → lives a ≡ o → space_of o ≡ Some s → (life : Life) × (lives a ≡ Some life) × (life.space ≡ s)
 has-life lives a s None is space = absurd (none-some s space)
 has-life lives a s (Some life) is space = (life, is, same_Some life.space s space)
 
@@ -355,7 +355,7 @@ holds-handed st r a u s of t (Some from) X upped apart is space other holds = el
 ]
 
 -- the life of the up has the space of what is told to it
-told-space : (r : Readings) (u : ActNo) (n : Note) (o : Option SpaceNo) → r.upped ≡ Some u → space_of_life r r.upped ≡ o → IsUntoldTo r o n → ((q : ProcNo) → n ≢ note.Add q)
+pub told-space : (r : Readings) (u : ActNo) (n : Note) (o : Option SpaceNo) → r.upped ≡ Some u → space_of_life r r.upped ≡ o → IsUntoldTo r o n → ((q : ProcNo) → n ≢ note.Add q)
     → (s : SpaceNo) × (space_of (r.lives u.0) ≡ Some s) × Contains (untold_of r s) n
 told-space r u (note.Add q) o upped is told other = absurd (other q refl)
 told-space r u n None upped is told other = absurd (told)
@@ -407,7 +407,7 @@ holds-step w p st r (GiveBack a) rest s t agrees was law runs kept holds = elim 
 holds-step w p st r x rest s t agrees was law runs kept holds = inl holds
 
 -- a take that names a thread, and a run, give it a lock
-some-life : (r : Readings) (p : ProcNo) (a : Option ActNo) (life : Life) → running_of r p ≡ a → life_if r a ≡ Some life → (b : ActNo) × (running_of r p ≡ Some b) × (r.lives b.0 ≡ Some life)
+pub some-life : (r : Readings) (p : ProcNo) (a : Option ActNo) (life : Life) → running_of r p ≡ a → life_if r a ≡ Some life → (b : ActNo) × (running_of r p ≡ Some b) × (r.lives b.0 ≡ Some life)
 some-life r p None life runs is = absurd (none-some life is)
 some-life r p (Some b) life runs is = (b, runs, is)
 

@@ -19,3 +19,4 @@ pub mod ShapeLemmas
 pub mod MovesLemmas
 pub mod HolderLemmas
 pub mod ShownLemmas
+pub mod WhoseLemmas

@@ -4,3 +4,4 @@ pub mod Read
 pub mod Headline
 pub mod Examples
 pub mod Fold
+pub mod Consequences
