@@ -20,3 +20,4 @@ pub mod MovesLemmas
 pub mod HolderLemmas
 pub mod ShownLemmas
 pub mod WhoseLemmas
+pub mod SoundLemmas

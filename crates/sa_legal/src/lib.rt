@@ -1,10 +1,14 @@
 //! Legal runs: how a trace is judged, its end, its first break, and what its reader is promised.
 #![tactic(auto)]
 
+mod consequences;
 mod examples;
 mod headline;
 mod laws;
 
+pub use consequences::{
+    claims_have_one_sharing, legal_runs_keep_lives_apart, legal_runs_lock_lists_once,
+};
 pub use examples::{rules_can_be_broken, smallest_run_is_legal};
 pub use headline::{
     legal_runs_cover_shares, legal_runs_ready_no_holder, legal_runs_tell_at_most_once,
