@@ -5,3 +5,4 @@ pub mod Headline
 pub mod Examples
 pub mod Fold
 pub mod Consequences
+pub mod Lives

@@ -14,6 +14,7 @@ ghost use Rattle.sa_laws.specs.Rules.{fast_threads};
 ghost use Rattle.sa_legal.specs.Legal.{IsLegal, IsLegalHistory, IsRight, FirstBreak};
 ghost use Rattle.sa_legal.specs.Words.{StandsUntold};
 ghost use Rattle.sa_legal.specs.Read.{Reads};
+ghost use Rattle.sa_legal.specs.Lives.{LivesAreRead};
 ghost use Rattle.sa_legal.specs.Fold.{AreLawful, AreNumbered};
 
 /// The history of a trace has its items, and no others.
@@ -39,8 +40,8 @@ pub fn laws_hold_along_histories()
         → AreLawful fast_threads w r (before ++ more) }
 {}
 
-/// What the fold reads off a legal trace as owners, aims, demands, fetches, raised lines and untold records is what the
-/// plain words say.
+/// What the fold reads off a legal trace as owners, aims, demands, fetches, raised lines, untold records, and of lives as in
+/// use, running, blocked and taken, is what the plain words say.
 pub fn legal_traces_are_read()
     ensures words { (w : WorkloadView) (items : List Item) → IsLegal fast_threads w items
         → Reads w items (readings is_inside w (events_of items)) }
@@ -48,6 +49,8 @@ pub fn legal_traces_are_read()
         → (s : SpaceNo) (n : Note)
         → Contains (untold_of (readings is_inside w (events_of items)) s) n
         → StandsUntold items (length items) s n }
+    ensures lives { (w : WorkloadView) (items : List Item) → IsLegal fast_threads w items
+        → LivesAreRead items (readings is_inside w (events_of items)) }
 {}
 
 /// A trace has one first break, and none where every rule holds.
