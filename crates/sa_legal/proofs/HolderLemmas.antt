@@ -1,5 +1,5 @@
 -- In a legal run of FastThreads no record makes a thread ready that holds a list lock.
-use Rattle.std.proofs.Common.{◌≡◌, ◌≢◌, ℕ, zero, suc, ◌+◌, ◌<◌, ◌≤◌, ◌⊎◌, inl, inr, refl, sym, ◌∙◌, ap, subst, arith, Some, None, List, [], ◌∷◌, ◌++◌, length, map, drop, take, true, false, length-append}
+use Rattle.std.proofs.Common.{◌≡◌, ◌≢◌, ℕ, zero, suc, ◌+◌, ◌≤◌, ◌⊎◌, inl, inr, refl, sym, ◌∙◌, ap, subst, arith, Some, None, List, [], ◌∷◌, ◌++◌, length, map, drop, take, true, false, length-append}
 use Rattle.std.specs.Prelude.{Option, Bool, if◌then◌else◌, slice_get, Contains}
 use Rattle.std.specs.List.{list_any}
 use Rattle.std.specs.Option.{option_map}
@@ -21,20 +21,20 @@ use Rattle.sa_base.specs.declared.record.Item.{Item}
 use Rattle.sa_instr.specs.Workload.{WorkloadView}
 use Rattle.sa_laws.specs.Event.{Event}
 use Rattle.sa_laws.specs.Machine.{next_effect}
-use Rattle.sa_laws.specs.Life.{Life, Lock, with_hand, without_lock, with_first, with_lock, with_cont, change_first, first_lock, ran, readied, held_with, inherits, inherited, bereft, new_life}
-use Rattle.sa_laws.specs.Readings.{Readings, opening_readings, life_of, life_if, life_on, running_of, space_of_life, untold_of, taken_of, carried_by, has_hand}
+use Rattle.sa_laws.specs.Life.{Life, Lock, with_hand, without_lock, with_first, with_cont, change_first, first_lock, ran, readied, held_with, inherits, inherited, bereft, new_life}
+use Rattle.sa_laws.specs.Readings.{Readings, opening_readings, life_of, life_if, life_on, running_of, space_of_life, untold_of, carried_by, has_hand}
 use Rattle.sa_laws.specs.Record.{with_life, handed, lives_after, after_record, stopped_with, back_with, made_ready, one_thread, locks, lock_for}
-use Rattle.sa_laws.specs.History.{Test, begun, is_step, is_up, with_step, with_up, ended, stepped, arisen}
+use Rattle.sa_laws.specs.History.{Test, is_step, is_up, with_step, ended, stepped, arisen}
 use Rattle.sa_laws.specs.Locks.{HoldsLock, TakesFor, CanTake, CanRun, CanReady, CanFree, WithFirst}
 use Rattle.sa_laws.specs.Upcalls.{IsUntoldTo}
 use Rattle.sa_laws.specs.Rules.{fast_threads}
 use Rattle.sa_legal.specs.Legal.{IsLegal}
-use Rattle.sa_legal.specs.Headline.{Stands, Begins, Frees, HoldsListLock, NoHolderIsReady}
+use Rattle.sa_legal.specs.Headline.{Begins, Frees, HoldsListLock, NoHolderIsReady}
 use Rattle.sa_legal.proofs.WalkLemmas.{IsKept, item}
 use Rattle.sa_legal.proofs.EventLemmas.{good-at}
 use Rattle.sa_legal.proofs.OnceLemmas.{get-take, length-take_within}
 use Rattle.sa_legal.proofs.StandingLemmas.{Standing, Nowhere, Runs, Blocked, Stopped, Returned, Taken, space_in, took, Stood, Agrees, space_of, standing_after, agrees-step, stays, told-kind, kind}
-use Rattle.sa_legal.proofs.ShapeLemmas.{is_telling, OnLife, MovesLives}
+use Rattle.sa_legal.proofs.ShapeLemmas.{is_telling, MovesLives}
 use Rattle.sa_legal.proofs.MovesLemmas.{moves-lives, stood, agrees-start, agrees-begun, agrees-ended, nowhere_first}
 
 -- the life of the last up runs while told records follow it
@@ -312,9 +312,9 @@ run-keeps : (w : WorkloadView) (r : Readings) (s : SpaceNo) (t u : ThreadNo) (ta
 run-keeps w r s t u taken life kept law has =
     let first = the-first (first_lock life) (λ lock. CanRun r life lock s) law in
     thread-first (ran t) life.locks u (λ l at is.
-      let same : first.0 ≡ l = same_Some first.0 l (sym first.1 ∙ at) in
-      let none = kept.popped first.0 (first-among life.locks first.0 first.1) first.2.pop first.2.used.unused in
-      absurd (none-some u (sym none ∙ ap (λ (k : Lock). k.thread) same ∙ is))) has
+    let same : first.0 ≡ l = same_Some first.0 l (sym first.1 ∙ at) in
+    let none = kept.popped first.0 (first-among life.locks first.0 first.1) first.2.pop first.2.used.unused in
+    absurd (none-some u (sym none ∙ ap (λ (k : Lock). k.thread) same ∙ is))) has
 
 -- a free takes the first lock away, and names its thread
 free-keeps : (s of : SpaceNo) (l : ProcNo) (t : Option ThreadNo) (u : ThreadNo) (life : Life) → life.space ≡ s

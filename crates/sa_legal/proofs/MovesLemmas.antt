@@ -1,6 +1,6 @@
 -- The law of records that change lives holds along a legal run of FastThreads, and with it what is read agrees with
 -- where the numbers stand.
-use Rattle.std.proofs.Common.{◌≡◌, ◌≢◌, ℕ, zero, suc, ◌≤◌, ◌⊎◌, inl, inr, refl, sym, ◌∙◌, ap, subst, arith, Some, None, List, [], ◌∷◌, ◌++◌, length, map, true, false}
+use Rattle.std.proofs.Common.{◌≡◌, ℕ, zero, suc, ◌≤◌, refl, sym, ◌∙◌, ap, subst, arith, Some, None, List, [], ◌∷◌, ◌++◌, length, map, true, false}
 use Rattle.std.specs.Prelude.{Option, Bool, if◌then◌else◌, replicate, get_or, Contains}
 use Rattle.std.specs.List.{list_any}
 use Rattle.std.proofs.lemmas.Option.{none-some, same_Some}
@@ -10,22 +10,22 @@ use Rattle.sa_base.specs.declared.number.ActNo.{ActNo}
 use Rattle.sa_base.specs.declared.record.Note.{Note}
 use Rattle.sa_base.specs.declared.record.Note.TheVariants as note
 use Rattle.sa_base.specs.declared.record.Record.{Record}
-use Rattle.sa_base.specs.declared.record.Record.TheVariants.{Ins, Out, Run, Stop, Block, Unblock, Cont, Back, Ready, Take, Free, Up, Told, Move, Want, Aim, Line, Fetch, Fetched, GiveBack, Idle, Spin, Tick}
+use Rattle.sa_base.specs.declared.record.Record.TheVariants.{Run, Stop, Block, Unblock, Ready, Take, Free, Up, Told, Want, Aim, Line, GiveBack}
 use Rattle.sa_instr.specs.Workload.{WorkloadView}
 use Rattle.sa_assign.specs.Aims.{Change}
 use Rattle.sa_assign.specs.Reaim.{records_of, line_at, lines_with, line_records, proc_no}
 use Rattle.sa_laws.specs.Event.{Event}
 use Rattle.sa_laws.specs.Life.{Life}
-use Rattle.sa_laws.specs.Readings.{Readings, opening_readings, life_of, running_of, space_of_life, untold_of}
-use Rattle.sa_laws.specs.Record.{after_record, with_life, is_io_of}
-use Rattle.sa_laws.specs.History.{Test, begun, after_records, is_step, is_up, with_step, with_up, ended, stepped, arisen}
+use Rattle.sa_laws.specs.Readings.{Readings, opening_readings, life_of, running_of, space_of_life}
+use Rattle.sa_laws.specs.Record.{after_record, with_life}
+use Rattle.sa_laws.specs.History.{Test, begun, after_records, is_step, is_up, with_step, ended, stepped, arisen}
 use Rattle.sa_laws.specs.Step.{Needs, AreSteps}
-use Rattle.sa_laws.specs.Upcalls.{RecordLaw, EachRecord, IsUntoldTo, TellsOnce, RunsOn, NamesTheLife, IsTaken, TellsAllThen}
+use Rattle.sa_laws.specs.Upcalls.{EachRecord, IsUntoldTo, TellsOnce, NamesTheLife, TellsAllThen}
 use Rattle.sa_laws.specs.Closing.{spaces_of, want_one, aims_due}
-use Rattle.sa_laws.specs.Opening.{first_wants, opening_records, opening_event}
+use Rattle.sa_laws.specs.Opening.{first_wants, opening_records}
 use Rattle.sa_laws.specs.Rules.{IsLawful, fast_threads}
-use Rattle.sa_legal.proofs.StandingLemmas.{Standing, Nowhere, Runs, Blocked, Stopped, Returned, Taken, space_in, Stood, Agrees, space_of, space-with, standing_after, agrees-step}
-use Rattle.sa_legal.proofs.ShapeLemmas.{is_telling, OnLife, MovesLives, fits, AllFit, FirstLaw, FirstOf, IsShaped, fits-want, fits-aim, fits-line, whole-shaped, turn-shaped}
+use Rattle.sa_legal.proofs.StandingLemmas.{Standing, Nowhere, Runs, Blocked, Stopped, Returned, Taken, space_in, Stood, Agrees, space_of, space-with}
+use Rattle.sa_legal.proofs.ShapeLemmas.{is_telling, MovesLives, fits, AllFit, FirstLaw, FirstOf, IsShaped, fits-want, fits-aim, fits-line, whole-shaped, turn-shaped}
 
 -- the opening has wants, aims and lines alone
 abbrev is_calm : Record → Bool

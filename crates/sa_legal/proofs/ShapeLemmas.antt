@@ -1,38 +1,28 @@
 -- In a lawful event of FastThreads each record that changes a life is one that may: a law of records, from the laws of
 -- events.
-use Rattle.std.proofs.Common.{◌≡◌, ℕ, zero, suc, ◌≤◌, ◌⊎◌, inl, inr, refl, sym, ◌∙◌, ap, subst, arith, Some, None, List, [], ◌∷◌, ◌++◌, length, map, true, false}
-use Rattle.std.specs.Prelude.{Option, Bool, not, ◌||◌, ◌==◌, if◌then◌else◌, take, drop, take_while, is_some, nat_le}
-use Rattle.std.specs.List.{list_any, list_all, prefix_len}
-use Rattle.std.specs.Option.{option_map}
+use Rattle.std.proofs.Common.{◌≡◌, ℕ, zero, suc, inl, inr, refl, sym, ◌∙◌, ap, subst, arith, Some, None, List, [], ◌∷◌, ◌++◌, length, map, true, false}
+use Rattle.std.specs.Prelude.{Option, Bool, ◌||◌, ◌==◌, if◌then◌else◌, take, drop, take_while, nat_le}
+use Rattle.std.specs.List.{list_any, prefix_len}
 use Rattle.std.proofs.lemmas.Bool.Decides.{nat_tests}
 use Rattle.std.proofs.lemmas.Option.{none-some, same_Some}
 use Rattle.sa_base.specs.declared.number.SpaceNo.{SpaceNo}
 use Rattle.sa_base.specs.declared.number.ProcNo.{ProcNo}
 use Rattle.sa_base.specs.declared.number.ActNo.{ActNo}
-use Rattle.sa_base.specs.declared.record.Note.{Note}
 use Rattle.sa_base.specs.declared.record.Record.{Record}
-use Rattle.sa_base.specs.declared.record.Record.TheVariants.{Ins, Out, Run, Stop, Block, Unblock, Cont, Back, Ready, Take, Free, Up, Told, Move, Want, Aim, Line, Fetch, Fetched, GiveBack, Idle, Spin, Tick}
+use Rattle.sa_base.specs.declared.record.Record.TheVariants.{Ins, Out, Run, Stop, Block, Unblock, Cont, Back, Ready, Take, Free, Up, Told, Move, Want, Aim, Line, Fetch, Fetched, GiveBack, Idle, Spin}
 use Rattle.sa_instr.specs.declared.instr.Instr.{Instr}
 use Rattle.sa_instr.specs.declared.instr.Instr.TheVariants as instr
 use Rattle.sa_instr.specs.Workload.{WorkloadView}
 use Rattle.sa_devices.specs.declared.kind.IoKind.{IoKind}
 use Rattle.sa_devices.specs.declared.kind.IoKind.TheVariants.{Plain, Page, Upcall}
 use Rattle.sa_devices.specs.Ios.{Io, due_of, sooner_of, is_sooner}
-use Rattle.sa_assign.specs.Aims.{Change}
-use Rattle.sa_assign.specs.Reaim.{records_of, line_at, lines_with, line_records, proc_no}
-use Rattle.sa_laws.specs.Event.{Event}
 use Rattle.sa_laws.specs.Life.{Life}
-use Rattle.sa_laws.specs.Readings.{Readings, opening_readings, life_of, life_on, running_of, owner_of, line_of, space_of_life, taken_of}
-use Rattle.sa_laws.specs.Record.{after_record, is_io_of, is_kind_of}
-use Rattle.sa_laws.specs.History.{begun, is_step, after_records}
+use Rattle.sa_laws.specs.Readings.{Readings, life_of, life_on, running_of, owner_of, space_of_life, taken_of}
+use Rattle.sa_laws.specs.Record.{is_io_of, is_kind_of}
 use Rattle.sa_laws.specs.Shape.{own_part, closing_part, is_own}
-use Rattle.sa_laws.specs.Step.{Needs, AreSteps}
-use Rattle.sa_laws.specs.Turns.{AreRaising, IsClosing, AreTold, IsFetchOrNothing, IsPassage, IsInterrupt, IsOver, IsOut, IsBlock, IsInsOf, is_of_locks, StepBy, StepIn, IsStep, IsTickOrStep, IsLocalIns, IsTurnWhileDue, IsTurn}
+use Rattle.sa_laws.specs.Turns.{AreRaising, IsClosing, AreTold, IsFetchOrNothing, IsPassage, IsInterrupt, IsOver, IsOut, IsBlock, IsInsOf, is_of_locks, StepBy, StepIn, IsStep, IsTickOrStep, IsTurnWhileDue, IsTurn}
 use Rattle.sa_laws.specs.Locks.{KeepsLocks, KeepsLocksIf, KeepsLocksIn, StandsAlone}
-use Rattle.sa_laws.specs.Upcalls.{RecordLaw, EachRecord, IsUntoldTo, TellsOnce, RunsOn, NamesTheLife, IsTaken, TellsAllThen}
-use Rattle.sa_laws.specs.Closing.{spaces_of, want_one, aims_due}
-use Rattle.sa_laws.specs.Opening.{first_wants, opening_records, opening_event}
-use Rattle.sa_laws.specs.Rules.{IsLawful, fast_threads}
+use Rattle.sa_laws.specs.Upcalls.{RecordLaw, IsUntoldTo, RunsOn, IsTaken}
 
 -- told records stand behind an up or another told record
 abbrev pub is_telling : Option Record → Bool

@@ -1,5 +1,5 @@
 -- Where a number stands is shown by what is read.
-use Rattle.std.proofs.Common.{◌≡◌, ◌≢◌, ℕ, zero, suc, ◌+◌, ◌<◌, ◌⊎◌, inl, inr, refl, sym, ◌∙◌, ap, subst, arith, Some, None, List, [], ◌∷◌, ◌++◌, length, true, false}
+use Rattle.std.proofs.Common.{◌≡◌, ◌≢◌, ℕ, ◌<◌, ◌⊎◌, inl, inr, refl, sym, ◌∙◌, ap, arith, Some, None, List, [], length, true, false}
 use Rattle.std.specs.Prelude.{Option, Bool, ◌==◌, ◌||◌, get_or, slice_set, Contains}
 use Rattle.std.specs.List.{list_any}
 use Rattle.std.proofs.lemmas.Bool.{cases_eq}
@@ -13,18 +13,17 @@ use Rattle.sa_base.specs.declared.number.SpaceNo.{SpaceNo}
 use Rattle.sa_base.specs.declared.number.ProcNo.{ProcNo}
 use Rattle.sa_base.specs.declared.number.ThreadNo.{ThreadNo}
 use Rattle.sa_base.specs.declared.number.ActNo.{ActNo}
-use Rattle.sa_base.specs.declared.record.Note.{Note}
 use Rattle.sa_base.specs.declared.record.Note.TheVariants as note
 use Rattle.sa_base.specs.declared.record.Record.{Record}
 use Rattle.sa_base.specs.declared.record.Record.TheVariants.{Stop, Block, Unblock, Up, Told, Fetch, Fetched, GiveBack}
 use Rattle.sa_instr.specs.Workload.{WorkloadView}
 use Rattle.sa_devices.specs.declared.kind.IoKind.{IoKind}
 use Rattle.sa_devices.specs.declared.kind.IoKind.TheVariants.{Plain, Page, Upcall}
-use Rattle.sa_devices.specs.Ios.{Io, is_fetch_of, fetches}
+use Rattle.sa_devices.specs.Ios.{is_fetch_of, fetches}
 use Rattle.sa_laws.specs.Readings.{Readings, running_of, untold_of}
 use Rattle.sa_laws.specs.Record.{after_record, running_after, under_way_after, untold_after, is_kind_of, is_io_of, is_io_of_other, fetches_other, blocking_for, length_behind}
-use Rattle.sa_legal.proofs.ReadLemmas.{filter-any, io-is-no-fetch, not-true, untold-stays, untold-comes, untold-length}
-use Rattle.sa_legal.proofs.StandingLemmas.{Standing, Nowhere, Runs, Blocked, Stopped, Returned, Taken, space_in, proc_in, took, Stood, standing_after, same-proc, same-number}
+use Rattle.sa_legal.proofs.ReadLemmas.{filter-any, not-true, untold-stays, untold-comes, untold-length}
+use Rattle.sa_legal.proofs.StandingLemmas.{Standing, Nowhere, Runs, Blocked, Stopped, Returned, space_in, proc_in, took, Stood, standing_after, same-proc, same-number}
 use Rattle.sa_legal.proofs.ShapeLemmas.{MovesLives}
 
 pub record Shows (w : WorkloadView) (st : ℕ → Standing) (r : Readings) : Type 0 where

@@ -1,6 +1,6 @@
 -- What follows from the laws of a legal run of FastThreads at each moment of it.
-use Rattle.std.proofs.Common.{◌≡◌, ◌≢◌, ℕ, zero, suc, ◌<◌, ◌≤◌, ◌⊎◌, inl, inr, refl, sym, ◌∙◌, ap, subst, arith, Some, None, List, [], ◌∷◌, ◌++◌, length, take, true, false}
-use Rattle.std.specs.Prelude.{Contains, Option, Bool, ◌==◌, if◌then◌else◌, is_some, unwrap_or, replicate}
+use Rattle.std.proofs.Common.{◌≡◌, ◌≢◌, ℕ, zero, suc, ◌⊎◌, inl, inr, refl, sym, ◌∙◌, ap, subst, arith, Some, None, List, [], ◌∷◌, ◌++◌, length, take, true, false}
+use Rattle.std.specs.Prelude.{Contains, Option, ◌==◌, if◌then◌else◌, is_some, unwrap_or}
 use Rattle.std.proofs.lemmas.Bool.{cases_eq}
 use Rattle.std.proofs.lemmas.Bool.Decides.{nat_tests}
 use Rattle.std.proofs.lemmas.List.{length-replicate}
@@ -15,12 +15,11 @@ use Rattle.sa_base.specs.declared.record.Record.{Record}
 use Rattle.sa_base.specs.declared.record.Record.TheVariants.{Stop, Block, Unblock, Up, Told, GiveBack}
 use Rattle.sa_base.specs.declared.record.Item.{Item}
 use Rattle.sa_instr.specs.Workload.{WorkloadView, IsWorkload}
-use Rattle.sa_share.specs.Share.{IsShare, share_at}
 use Rattle.sa_share.proofs.RoundLemmas.{shares_of-share}
 use Rattle.sa_share.proofs.ShareLemmas.{share_at-unique}
 use Rattle.sa_laws.specs.Event.{Event, items_of, events_of}
 use Rattle.sa_laws.specs.Life.{Life}
-use Rattle.sa_laws.specs.Readings.{Readings, IsLocked, opening_readings, running_of, life_of}
+use Rattle.sa_laws.specs.Readings.{Readings, IsLocked, opening_readings, life_of}
 use Rattle.sa_laws.specs.Record.{after_record}
 use Rattle.sa_laws.specs.History.{Test, begun, after_event, after_events, readings}
 use Rattle.sa_laws.specs.Closing.{first_space, claims_of, shares_at}

@@ -22,13 +22,13 @@ use Rattle.sa_base.specs.declared.record.Record.TheVariants.{Ins, Run, Stop, Blo
 use Rattle.sa_instr.specs.Workload.{WorkloadView}
 use Rattle.sa_devices.specs.declared.kind.IoKind.{IoKind}
 use Rattle.sa_devices.specs.declared.kind.IoKind.TheVariants.{Plain, Page, Upcall}
-use Rattle.sa_devices.specs.Ios.{Io, fetches}
+use Rattle.sa_devices.specs.Ios.{Io}
 use Rattle.sa_laws.specs.Machine.{next_effect}
 use Rattle.sa_laws.specs.Life.{Life, with_hand, without_lock, with_first, with_cont, ran, held_with, inherits, bereft, new_life}
 use Rattle.sa_laws.specs.Readings.{Readings, life_of, running_of, space_of_life, untold_of, taken_of}
 use Rattle.sa_laws.specs.Record.{with_life, handed, lives_after, after_record, running_after, under_way_after, untold_after, taken_after, with_act, without_act, is_other_act, is_kind_of, is_io_of, is_io_of_other, fetches_other, blocking_for, length_behind, stopped_with, back_with, made_ready, one_thread, locks}
 use Rattle.sa_legal.specs.Words.{Notes}
-use Rattle.sa_legal.proofs.UntoldLemmas.{untold-cases, same-space}
+use Rattle.sa_legal.proofs.UntoldLemmas.{untold-cases}
 
 -- where an activation number stands
 pub data Standing : Type 0 where

@@ -1,5 +1,5 @@
 -- In a legal run of FastThreads each locked list is among the locks of one life.
-use Rattle.std.proofs.Common.{◌≡◌, ◌≢◌, ℕ, zero, suc, ◌<◌, ◌⊎◌, inl, inr, refl, sym, ◌∙◌, ap, subst, arith, Some, None, List, [], ◌∷◌, ◌++◌, length, map, take, true, false}
+use Rattle.std.proofs.Common.{◌≡◌, ◌≢◌, ℕ, ◌⊎◌, inl, inr, refl, sym, ◌∙◌, ap, subst, arith, Some, None, List, [], ◌∷◌, map, true, false}
 use Rattle.std.specs.Prelude.{Option, Bool, ◌==◌, ◌&&◌, if◌then◌else◌, Contains}
 use Rattle.std.specs.List.{list_any}
 use Rattle.std.specs.Option.{option_map}
@@ -7,13 +7,11 @@ use Rattle.std.proofs.lemmas.Bool.{cases_eq}
 use Rattle.std.proofs.lemmas.Bool.Decides.{nat_tests}
 use Rattle.std.proofs.lemmas.List.Elements.{Contains-push_cases, Contains-append_right, Contains-append_cases}
 use Rattle.std.proofs.lemmas.Option.{none-some, same_Some}
-use Rattle.sa_lemmas.specs.Function.{put}
 use Rattle.sa_lemmas.proofs.FunctionUpdates.{put-at, put-other}
 use Rattle.sa_base.specs.declared.number.SpaceNo.{SpaceNo}
 use Rattle.sa_base.specs.declared.number.ProcNo.{ProcNo}
 use Rattle.sa_base.specs.declared.number.ThreadNo.{ThreadNo}
 use Rattle.sa_base.specs.declared.number.ActNo.{ActNo}
-use Rattle.sa_base.specs.declared.record.Note.{Note}
 use Rattle.sa_base.specs.declared.record.Note.TheVariants as note
 use Rattle.sa_base.specs.declared.record.Record.{Record}
 use Rattle.sa_base.specs.declared.record.Record.TheVariants.{Ins, Run, Stop, Block, Unblock, Cont, Back, Ready, Take, Free, Up, Told, GiveBack}
@@ -25,8 +23,7 @@ use Rattle.sa_laws.specs.Readings.{Readings, IsLocked, life_of, running_of, spac
 use Rattle.sa_laws.specs.Record.{with_life, handed, lives_after, stopped_with, back_with, made_ready, one_thread, locks, lock_for}
 use Rattle.sa_laws.specs.History.{Test, is_step, is_up, with_step, ended, stepped, arisen}
 use Rattle.sa_laws.specs.Locks.{CanTake}
-use Rattle.sa_laws.specs.Upcalls.{IsUntoldTo}
-use Rattle.sa_legal.proofs.StandingLemmas.{Standing, Runs, Stopped, Returned, space_in, Stood, Agrees, space_of, kind}
+use Rattle.sa_legal.proofs.StandingLemmas.{Standing, Stopped, Returned, space_in, Stood, Agrees, space_of}
 use Rattle.sa_legal.proofs.ShapeLemmas.{MovesLives}
 use Rattle.sa_legal.proofs.HolderLemmas.{UppedRuns, LocksOnly, on-life, drop-has, map-cases, no-lock, apart-told, told-space, has-life, some-life, only-lock}
 
@@ -60,8 +57,8 @@ named-fewer : (f : Life → Life) (b : Option ActNo) (who : ℕ → ℕ → ℕ)
     → AreNamed who (with_life f b lives)
 named-fewer f b who lives same fewer = named-with f b who who lives (λ n life is other k. k)
     (λ a life at is k lock has.
-      let old = fewer life lock has in
-      ap (λ (x : ProcNo). who (f life).space.0 x.0) (sym old.2) ∙ ap (λ (x : SpaceNo). who x.0 old.0.list.0) (same life) ∙ k old.0 old.1)
+    let old = fewer life lock has in
+    ap (λ (x : ProcNo). who (f life).space.0 x.0) (sym old.2) ∙ ap (λ (x : SpaceNo). who x.0 old.0.list.0) (same life) ∙ k old.0 old.1)
 
 same-locks : (ls : List Lock) (lock : Lock) → Contains ls lock → (k : Lock) × Contains ls k × (k.list ≡ lock.list)
 same-locks ls lock has = (lock, has, refl)
@@ -107,19 +104,19 @@ named-take w p r s l t a who runs can unlocked named = named-with (locks r p l t
       }))
     ])
     (λ b life at is k lock has.
-      let same : b ≡ a = same_Some b a (sym at ∙ runs) in
-      let number : b.0 ≡ a.0 = ap (λ (c : ActNo). c.0) same in
-      elim (Contains-push_cases life.locks (lock_for r p l t life) lock has) [
-        | inl old ↦ elim (take-cases s.0 l.0 a.0 who life.space.0 lock.list.0) [
-          | inl kept ↦ kept ∙ k lock old
-          | inr here ↦ here.2 ∙ sym number
-        ]
-        | inr new ↦
-            let law = can life (ap r.lives (sym number) ∙ is) in
-            let space : life.space.0 ≡ s.0 = ap (λ (c : SpaceNo). c.0) (sym law.space) in
-            let list : lock.list.0 ≡ l.0 = ap (λ (c : Lock). c.list.0) (sym new) in
-            ap (λ m. take_who s.0 l.0 a.0 who m lock.list.0) space ∙ ap (λ m. take_who s.0 l.0 a.0 who s.0 m) list ∙ take-here s.0 l.0 a.0 who ∙ sym number
-      ]) named
+    let same : b ≡ a = same_Some b a (sym at ∙ runs) in
+    let number : b.0 ≡ a.0 = ap (λ (c : ActNo). c.0) same in
+    elim (Contains-push_cases life.locks (lock_for r p l t life) lock has) [
+      | inl old ↦ elim (take-cases s.0 l.0 a.0 who life.space.0 lock.list.0) [
+        | inl kept ↦ kept ∙ k lock old
+        | inr here ↦ here.2 ∙ sym number
+      ]
+      | inr new ↦
+          let law = can life (ap r.lives (sym number) ∙ is) in
+          let space : life.space.0 ≡ s.0 = ap (λ (c : SpaceNo). c.0) (sym law.space) in
+          let list : lock.list.0 ≡ l.0 = ap (λ (c : Lock). c.list.0) (sym new) in
+          ap (λ m. take_who s.0 l.0 a.0 who m lock.list.0) space ∙ ap (λ m. take_who s.0 l.0 a.0 who s.0 m) list ∙ take-here s.0 l.0 a.0 who ∙ sym number
+    ]) named
 
 -- the lists of a told life go to the life of the up
 hand_who : ℕ → ℕ → (ℕ → ℕ → ℕ) → ℕ → ℕ → ℕ
@@ -145,19 +142,19 @@ named-handed r a u of who (Some from) upped apart is space other named =
     let owner : from.space ≡ of = same_Some from.space of (ap space_of (sym is) ∙ space) in
     named-with (inherits from) r.upped new new (with_life bereft (Some a) r.lives) (λ n life old away k. k)
     (λ b life at old k lock has.
-      let same : b.0 ≡ u.0 = ap (λ (c : ActNo). c.0) (same_Some b u (sym at ∙ upped)) in
-      elim (Contains-append_cases life.locks (map inherited from.locks) lock has) [
-        | inl own ↦ k lock own
-        | inr got ↦
-            let old_lock = map-cases from.locks lock got in
-            let heir = has-life r.lives u.0 of (r.lives u.0) refl other in
-            let there : r.lives u.0 ≡ Some life = sym (put-other r.lives a.0 u.0 (option_map bereft (r.lives a.0)) apart) ∙ ap (λ m. with_life bereft (Some a) r.lives m) (sym same) ∙ old in
-            let one : heir.0 ≡ life = same_Some heir.0 life (sym heir.1 ∙ there) in
-            let spaces : life.space.0 ≡ from.space.0 = ap (λ (c : Life). c.space.0) (sym one) ∙ ap (λ (c : SpaceNo). c.0) (heir.2 ∙ sym owner) in
-            let lists : lock.list.0 ≡ old_lock.0.list.0 = ap (λ (c : Lock). c.list.0) (sym old_lock.2) in
-            let mine : who from.space.0 old_lock.0.list.0 ≡ a.0 = named a.0 from is old_lock.0 old_lock.1 in
-            hand-from a.0 u.0 who life.space.0 lock.list.0 (ap (λ m. who m lock.list.0) spaces ∙ ap (λ m. who from.space.0 m) lists ∙ mine) ∙ sym same
-      ]) bereaved
+    let same : b.0 ≡ u.0 = ap (λ (c : ActNo). c.0) (same_Some b u (sym at ∙ upped)) in
+    elim (Contains-append_cases life.locks (map inherited from.locks) lock has) [
+      | inl own ↦ k lock own
+      | inr got ↦
+          let old_lock = map-cases from.locks lock got in
+          let heir = has-life r.lives u.0 of (r.lives u.0) refl other in
+          let there : r.lives u.0 ≡ Some life = sym (put-other r.lives a.0 u.0 (option_map bereft (r.lives a.0)) apart) ∙ ap (λ m. with_life bereft (Some a) r.lives m) (sym same) ∙ old in
+          let one : heir.0 ≡ life = same_Some heir.0 life (sym heir.1 ∙ there) in
+          let spaces : life.space.0 ≡ from.space.0 = ap (λ (c : Life). c.space.0) (sym one) ∙ ap (λ (c : SpaceNo). c.0) (heir.2 ∙ sym owner) in
+          let lists : lock.list.0 ≡ old_lock.0.list.0 = ap (λ (c : Lock). c.list.0) (sym old_lock.2) in
+          let mine : who from.space.0 old_lock.0.list.0 ≡ a.0 = named a.0 from is old_lock.0 old_lock.1 in
+          hand-from a.0 u.0 who life.space.0 lock.list.0 (ap (λ m. who m lock.list.0) spaces ∙ ap (λ m. who from.space.0 m) lists ∙ mine) ∙ sym same
+    ]) bereaved
 
 abbrev pub SomeNamed : (ℕ → Option Life) → Type 0
 SomeNamed lives = (who : ℕ → ℕ → ℕ) × AreNamed who lives
@@ -177,17 +174,22 @@ named-step w p st r (Back s t) rest agrees was law runs named = (named.0, named-
 named-step w p st r (Ready s t) rest agrees was law runs named =
     (named.0, named-fewer (made_ready t) (running_of r p) named.0 r.lives (λ l. refl) (λ l lock. first-fewer readied l.locks lock (λ k. refl)) named.1)
 named-step w p st r (Take s l t) rest agrees was law runs named =
-    let on = some-life r p (running_of r p) law.0 refl law.1 in
-    (take_who s.0 l.0 on.0.0 named.0, named-take w p r s l t on.0 named.0 on.1
-    (λ life is. subst (λ (m : Life). CanTake w r p m s l t) (sym (on-life r p on.0 life law.0 on.1 is law.1)) law.2) law.2.unlocked named.1)
+    let on = some-life r p (running_of r p) law.0 refl law.1 in (
+      take_who s.0 l.0 on.0.0 named.0,
+      named-take w p r s l t on.0 named.0 on.1
+          (λ life is. subst (λ (m : Life). CanTake w r p m s l t) (sym (on-life r p on.0 life law.0 on.1 is law.1)) law.2) law.2.unlocked named.1,
+    )
 named-step w p st r (Free s l t) rest agrees was law runs named =
     (named.0, named-fewer without_lock (running_of r p) named.0 r.lives (λ m. refl) (λ m lock has. (lock, drop-has m.locks lock has, refl)) named.1)
-named-step w p st r (Up s a) rest agrees was law runs named = (named.0, λ n life at. elim (cases_eq n a.0) [
-  | inl same ↦
-      let new : new_life s p ≡ life = same_Some (new_life s p) life (sym (put-at r.lives a.0 n (Some (new_life s p)) same) ∙ at) in
-      λ lock has. absurd (no-lock lock (subst (λ (m : Life). Contains m.locks lock) (sym new) has))
-  | inr apart ↦ named.1 n life (sym (put-other r.lives a.0 n (Some (new_life s p)) apart) ∙ at)
-])
+named-step w p st r (Up s a) rest agrees was law runs named = (
+  named.0,
+  λ n life at. elim (cases_eq n a.0) [
+    | inl same ↦
+        let new : new_life s p ≡ life = same_Some (new_life s p) life (sym (put-at r.lives a.0 n (Some (new_life s p)) same) ∙ at) in
+        λ lock has. absurd (no-lock lock (subst (λ (m : Life). Contains m.locks lock) (sym new) has))
+    | inr apart ↦ named.1 n life (sym (put-other r.lives a.0 n (Some (new_life s p)) apart) ∙ at)
+  ],
+)
 named-step w p st r (Told (note.Preempted a)) rest agrees was law runs named =
     let up = runs law.1 in
     let told = told-space r up.0 (note.Preempted a) (space_of_life r r.upped) up.1 refl law.0 (λ q e. cc) in
@@ -200,10 +202,13 @@ named-step w p st r (Told (note.Unblocked a)) rest agrees was law runs named =
     (hand_who a.0 up.0.0 named.0, named-handed r a up.0 told.0 named.0 (life_of r a) up.1 (apart-told st a.0 up.0.0 up.2 was.0 p (Returned was.0) up.3 was.1 (λ e. cc)) refl space told.1 named.1)
 named-step w p st r (Told (note.Add q)) rest agrees was law runs named = named
 named-step w p st r (Told (note.Blocked a)) rest agrees was law runs named = named
-named-step w p st r (GiveBack a) rest agrees was law runs named = (named.0, λ n life at. elim (cases_eq n a.0) [
-  | inl same ↦ absurd (none-some life (sym (put-at r.lives a.0 n None same) ∙ at))
-  | inr apart ↦ named.1 n life (sym (put-other r.lives a.0 n None apart) ∙ at)
-])
+named-step w p st r (GiveBack a) rest agrees was law runs named = (
+  named.0,
+  λ n life at. elim (cases_eq n a.0) [
+    | inl same ↦ absurd (none-some life (sym (put-at r.lives a.0 n None same) ∙ at))
+    | inr apart ↦ named.1 n life (sym (put-other r.lives a.0 n None apart) ∙ at)
+  ],
+)
 named-step w p st r x rest agrees was law runs named = named
 
 -- at the end of an event
@@ -221,5 +226,5 @@ pub named-ended : (test : Test) (w : WorkloadView) (before : Readings) (e : Even
 named-ended test w before e r named = (
   named.0,
   named-if (list_any is_up e.records) (arisen test w before e r) (running_of r e.proc) named.0 (with_step test w before e r e.records r.lives) (λ l. (refl, refl))
-  (named-stepped test w named.0 before e r e.records r.lives named.1),
+      (named-stepped test w named.0 before e r e.records r.lives named.1),
 )
