@@ -13,6 +13,7 @@ ghost use Rattle.sa_laws.specs.Ends.{LastLine};
 ghost use Rattle.sa_laws.specs.Rules.{fast_threads};
 ghost use Rattle.sa_legal.specs.Legal.{IsLegal, IsLegalHistory, IsRight, FirstBreak};
 ghost use Rattle.sa_legal.specs.Words.{StandsUntold};
+ghost use Rattle.sa_legal.specs.Headline.{BlocksNameTheirIo};
 ghost use Rattle.sa_legal.specs.Read.{Reads};
 ghost use Rattle.sa_legal.specs.Lives.{LivesAreRead};
 ghost use Rattle.sa_legal.specs.Fold.{AreLawful, AreNumbered};
@@ -60,4 +61,10 @@ pub fn traces_break_once()
         → (m ≡ n) × (a ≡ b) }
     ensures none { (w : WorkloadView) (items : List Item) (line : LastLine) (n : ℕ) (rule : Rule)
         → IsRight fast_threads w items line → FirstBreak fast_threads w items line n rule → ⊥ }
+{}
+
+/// I/Os are numbered from 0 in the order of their block and fetch records, and each block names the number of its I/O.
+pub fn legal_runs_number_ios()
+    ensures { (w : WorkloadView) (items : List Item) → IsLegal fast_threads w items
+        → BlocksNameTheirIo items }
 {}
