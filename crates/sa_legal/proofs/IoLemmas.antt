@@ -1,6 +1,6 @@
 -- In a legal trace I/Os are numbered from 0 in the order of their block and fetch records.
-use Rattle.std.proofs.Common.{◌≡◌, ℕ, zero, suc, ◌+◌, ◌≤◌, refl, sym, ◌∙◌, ap, subst, arith, Some, List, [], ◌∷◌, ◌++◌, length, take}
-use Rattle.std.specs.Prelude.{Option, Bool, true, false, if◌then◌else◌, slice_get}
+use Rattle.std.proofs.Common.{◌≡◌, ℕ, ◌+◌, refl, sym, ◌∙◌, ap, arith, List, [], ◌∷◌, ◌++◌}
+use Rattle.std.specs.Prelude.{Option, Bool, true, false, if◌then◌else◌}
 use Rattle.sa_base.specs.declared.number.SpaceNo.{SpaceNo}
 use Rattle.sa_base.specs.declared.number.ProcNo.{ProcNo}
 use Rattle.sa_base.specs.declared.number.ThreadNo.{ThreadNo}
@@ -10,10 +10,9 @@ use Rattle.sa_base.specs.declared.record.Record.{Record}
 use Rattle.sa_base.specs.declared.record.Record.TheVariants.{Block, Fetch}
 use Rattle.sa_base.specs.declared.record.Item.{Item}
 use Rattle.sa_instr.specs.Workload.{WorkloadView}
-use Rattle.sa_laws.specs.Event.{Event}
-use Rattle.sa_laws.specs.Readings.{Readings, opening_readings}
-use Rattle.sa_laws.specs.Record.{after_record, begun_after}
-use Rattle.sa_laws.specs.History.{Test, begun, ended}
+use Rattle.sa_laws.specs.Readings.{Readings}
+use Rattle.sa_laws.specs.Record.{begun_after}
+use Rattle.sa_laws.specs.History.{Test}
 use Rattle.sa_laws.specs.Upcalls.{GivesUpcallThen}
 use Rattle.sa_laws.specs.Rules.{UserRules}
 use Rattle.sa_legal.specs.Legal.{IsLegal}

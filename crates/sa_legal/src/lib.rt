@@ -15,6 +15,6 @@ pub use headline::{
     legal_runs_tell_in_time, legal_runs_use_fresh_numbers,
 };
 pub use laws::{
-    histories_are_traces, laws_hold_along_histories, legal_runs_number_ios, legal_traces_are_read, traces_are_histories,
-    traces_break_once,
+    histories_are_traces, laws_hold_along_histories, legal_runs_number_ios, legal_traces_are_read,
+    traces_are_histories, traces_break_once,
 };
