@@ -150,7 +150,7 @@ or-said false true = refl
 or-said false false = refl
 
 -- what a filter takes away does not pass the test
-filter-any : (f g : Io → Bool) → ((io : Io) → g io ≡ false → f io ≡ false) → (ios : List Io) → list_any f (filter g ios) ≡ list_any f ios
+pub filter-any : (f g : Io → Bool) → ((io : Io) → g io ≡ false → f io ≡ false) → (ios : List Io) → list_any f (filter g ios) ≡ list_any f ios
 filter-any f g gone [] = refl
 filter-any f g gone (io ∷ ios) = one (filter-any f g gone ios) (g io) refl where
   one : list_any f (filter g ios) ≡ list_any f ios → (b : Bool) → g io ≡ b → list_any f (if b then io ∷ filter g ios else filter g ios) ≡ (f io || list_any f ios)
@@ -164,7 +164,7 @@ filter-none f g gone (io ∷ ios) = one (filter-none f g gone ios) (g io) refl w
   one rest true is = ap (λ c. c || list_any f (filter g ios)) (gone io is) ∙ rest
   one rest false is = rest
 
-not-true : (b : Bool) → not b ≡ false → b ≡ true
+pub not-true : (b : Bool) → not b ≡ false → b ≡ true
 not-true true is = refl
 not-true false is = absurd (cc)
 
@@ -172,7 +172,7 @@ not-false : (b : Bool) → not b ≡ true → b ≡ false
 not-false true is = absurd (cc)
 not-false false is = refl
 
-io-is-no-fetch : (s : ℕ) (a : ActNo) (kind : IoKind) → is_kind_of a kind ≡ true → is_fetch_of s kind ≡ false
+pub io-is-no-fetch : (s : ℕ) (a : ActNo) (kind : IoKind) → is_kind_of a kind ≡ true → is_fetch_of s kind ≡ false
 io-is-no-fetch s a (Plain of b) is = refl
 io-is-no-fetch s a (Page of b k) is = refl
 io-is-no-fetch s a (Upcall of) is = absurd (cc)

@@ -108,10 +108,10 @@ claims-are w past r reads =
     ∙ agree (λ k. claim_in w past (space_no k)) (λ k. claim_of w r (space_no k)) 0 (length w.spaces) (λ k above below. claim-is w past r (space_no k) (omega arith) reads)
     ∙ sym (map-map (claim_of w r) space_no (range_with_len 0 (length w.spaces)))
 
-claims-length : (w : WorkloadView) (r : Readings) → length (claims_of w r) ≡ length w.spaces
+pub claims-length : (w : WorkloadView) (r : Readings) → length (claims_of w r) ≡ length w.spaces
 claims-length w r = length-map (spaces_of w) (claim_of w r) ∙ length-map-range_with_len space_no 0 (length w.spaces)
 
-first-below : (w : WorkloadView) (e : ℕ) → 1 ≤ length w.spaces → first_space w e < length w.spaces
+pub first-below : (w : WorkloadView) (e : ℕ) → 1 ≤ length w.spaces → first_space w e < length w.spaces
 first-below w e some = one (w.slice == 0) where
   one : (b : Bool) → (if b then 0 else (e / w.slice) % length w.spaces) < length w.spaces
   one true = omega arith

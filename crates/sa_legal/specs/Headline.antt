@@ -1,14 +1,15 @@
 -- What a legal run promises its reader, said of the records of the flat trace alone.
-use Rattle.std.specs.Prelude.{nat_le, [], ◌∷◌, ◌≡◌, ◌≢◌, ℕ, ◌≤◌, ◌<◌, ◌⊎◌, true, min, if◌then◌else◌, List, length, map, Some, slice_get}
+use Rattle.std.specs.Prelude.{nat_le, [], ◌∷◌, ◌≡◌, ◌≢◌, ℕ, ◌≤◌, ◌<◌, ◌⊎◌, true, min, if◌then◌else◌, List, length, map, take, Option, Some, slice_get}
 use Rattle.std.specs.List.{range_with_len}
 use Rattle.sa_base.specs.declared.number.ProcNo.{ProcNo}
 use Rattle.sa_base.specs.declared.number.SpaceNo.{SpaceNo}
 use Rattle.sa_base.specs.declared.number.ThreadNo.{ThreadNo}
 use Rattle.sa_base.specs.declared.number.ActNo.{ActNo}
+use Rattle.sa_base.specs.declared.number.IoNo.{IoNo}
 use Rattle.sa_base.specs.declared.record.Note.{Note}
 use Rattle.sa_base.specs.declared.record.Note.TheVariants.{Add}
 use Rattle.sa_base.specs.declared.record.Record.{Record}
-use Rattle.sa_base.specs.declared.record.Record.TheVariants.{Run, Ready, Take, Free, Up, Told, GiveBack}
+use Rattle.sa_base.specs.declared.record.Record.TheVariants.{Block, Run, Ready, Take, Free, Up, Told, GiveBack}
 use Rattle.sa_base.specs.declared.record.Item.{Item}
 use Rattle.sa_instr.specs.Workload.{WorkloadView}
 use Rattle.sa_share.specs.declared.Claim.{Claim}
@@ -17,7 +18,7 @@ use Rattle.sa_assign.specs.Aims.{aimed}
 use Rattle.sa_assign.specs.Reaim.{proc_no}
 use Rattle.sa_laws.specs.State.{space_def}
 use Rattle.sa_laws.specs.Closing.{first_space, spaces_of}
-use Rattle.sa_legal.specs.Words.{last_aim, last_want, last_owner, is_fetched, IsRaised, StandsUntold}
+use Rattle.sa_legal.specs.Words.{last_aim, last_want, last_owner, is_fetched, ios_begun, IsRaised, StandsUntold}
 
 -- a record stands at a place
 pub record Stands (items : List Item) (k : ℕ) (r : Record) : Type 0 where
@@ -113,3 +114,9 @@ pub record HoldsListLock (items : List Item) (j : ℕ) (s : SpaceNo) (t : Thread
 abbrev pub NoHolderIsReady : List Item → Type 0
 NoHolderIsReady items =
     (j : ℕ) (s : SpaceNo) (t : ThreadNo) → Stands items j (Ready s t) → HoldsListLock items j s t → ⊥
+
+-- A block names the number of its I/O: how many block and fetch records stand before it.
+abbrev pub BlocksNameTheirIo : List Item → Type 0
+BlocksNameTheirIo items =
+    (j : ℕ) (s : SpaceNo) (t : Option ThreadNo) (a : ActNo) (io : IoNo) → Stands items j (Block s t a io)
+    → io.0 ≡ ios_begun (take j items)

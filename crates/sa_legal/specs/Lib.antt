@@ -4,3 +4,5 @@ pub mod Read
 pub mod Headline
 pub mod Examples
 pub mod Fold
+pub mod Consequences
+pub mod Lives

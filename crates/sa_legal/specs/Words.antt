@@ -1,5 +1,5 @@
 -- What is read off a flat trace, in plain words and without a fold: the last record that says it.
-use Rattle.std.specs.Prelude.{◌≡◌, ◌≢◌, ℕ, ◌<◌, ◌==◌, Bool, true, false, if◌then◌else◌, List, [], ◌∷◌, Option, Some, None, slice_get, unwrap_or}
+use Rattle.std.specs.Prelude.{◌≡◌, ◌≢◌, ℕ, ◌+◌, ◌<◌, ◌==◌, Bool, true, false, if◌then◌else◌, List, [], ◌∷◌, Option, Some, None, slice_get, unwrap_or}
 use Rattle.std.specs.Option.{option_or}
 use Rattle.sa_base.specs.declared.number.ProcNo.{ProcNo}
 use Rattle.sa_base.specs.declared.number.SpaceNo.{SpaceNo}
@@ -90,3 +90,13 @@ pub record StandsUntold (items : List Item) (j : ℕ) (s : SpaceNo) (n : Note) :
   pub at : slice_get items place ≡ Some item
   pub notes : Notes item.what s n
   pub untold : (k : ℕ) (x : Item) → place < k → k < j → slice_get items k ≡ Some x → x.what ≢ Told n
+
+-- how many I/Os and fetches were begun: the block and fetch records
+abbrev pub begins_io : Record → Bool
+begins_io (Block s t a io) = true
+begins_io (Fetch s) = true
+begins_io _ = false
+
+abbrev pub ios_begun : List Item → ℕ
+ios_begun [] = 0
+ios_begun (x ∷ xs) = (if begins_io x.what then 1 else 0) + ios_begun xs

@@ -4,7 +4,7 @@ ghost use Rattle.sa_base.specs.declared.record.Item.{Item};
 ghost use Rattle.sa_instr.specs.Workload.{WorkloadView, IsWorkload};
 ghost use Rattle.sa_laws.specs.Rules.{fast_threads};
 ghost use Rattle.sa_legal.specs.Legal.{IsLegal};
-ghost use Rattle.sa_legal.specs.Headline.{TellsAtMostOnce, TellsInTime, NumbersAreFresh, SharesAreCovered};
+ghost use Rattle.sa_legal.specs.Headline.{TellsAtMostOnce, TellsInTime, NumbersAreFresh, SharesAreCovered, NoHolderIsReady};
 
 /// A legal run tells each stop, block and unblock at most once, behind it.
 pub fn legal_runs_tell_at_most_once()
@@ -29,4 +29,10 @@ pub fn legal_runs_tell_in_time()
 pub fn legal_runs_cover_shares()
     ensures { (w : WorkloadView) (items : List Item) → IsWorkload w
         → IsLegal fast_threads w items → SharesAreCovered w items }
+{}
+
+/// No record of a legal run makes a thread ready that holds a list lock.
+pub fn legal_runs_ready_no_holder()
+    ensures { (w : WorkloadView) (items : List Item) → IsLegal fast_threads w items
+        → NoHolderIsReady items }
 {}

@@ -13,7 +13,9 @@ ghost use Rattle.sa_laws.specs.Ends.{LastLine};
 ghost use Rattle.sa_laws.specs.Rules.{fast_threads};
 ghost use Rattle.sa_legal.specs.Legal.{IsLegal, IsLegalHistory, IsRight, FirstBreak};
 ghost use Rattle.sa_legal.specs.Words.{StandsUntold};
+ghost use Rattle.sa_legal.specs.Headline.{BlocksNameTheirIo};
 ghost use Rattle.sa_legal.specs.Read.{Reads};
+ghost use Rattle.sa_legal.specs.Lives.{LivesAreRead};
 ghost use Rattle.sa_legal.specs.Fold.{AreLawful, AreNumbered};
 
 /// The history of a trace has its items, and no others.
@@ -39,8 +41,8 @@ pub fn laws_hold_along_histories()
         → AreLawful fast_threads w r (before ++ more) }
 {}
 
-/// What the fold reads off a legal trace as owners, aims, demands, fetches, raised lines and untold records is what the
-/// plain words say.
+/// What the fold reads off a legal trace as owners, aims, demands, fetches, raised lines, untold records, and of lives as in
+/// use, running, blocked and taken, is what the plain words say.
 pub fn legal_traces_are_read()
     ensures words { (w : WorkloadView) (items : List Item) → IsLegal fast_threads w items
         → Reads w items (readings is_inside w (events_of items)) }
@@ -48,6 +50,8 @@ pub fn legal_traces_are_read()
         → (s : SpaceNo) (n : Note)
         → Contains (untold_of (readings is_inside w (events_of items)) s) n
         → StandsUntold items (length items) s n }
+    ensures lives { (w : WorkloadView) (items : List Item) → IsLegal fast_threads w items
+        → LivesAreRead items (readings is_inside w (events_of items)) }
 {}
 
 /// A trace has one first break, and none where every rule holds.
@@ -57,4 +61,10 @@ pub fn traces_break_once()
         → (m ≡ n) × (a ≡ b) }
     ensures none { (w : WorkloadView) (items : List Item) (line : LastLine) (n : ℕ) (rule : Rule)
         → IsRight fast_threads w items line → FirstBreak fast_threads w items line n rule → ⊥ }
+{}
+
+/// I/Os are numbered from 0 in the order of their block and fetch records, and each block names the number of its I/O.
+pub fn legal_runs_number_ios()
+    ensures { (w : WorkloadView) (items : List Item) → IsLegal fast_threads w items
+        → BlocksNameTheirIo items }
 {}

@@ -1,0 +1,234 @@
+-- The law of records that change lives holds along a legal run of FastThreads, and with it what is read agrees with
+-- where the numbers stand.
+use Rattle.std.proofs.Common.{◌≡◌, ℕ, zero, suc, ◌≤◌, refl, sym, ◌∙◌, ap, subst, arith, Some, None, List, [], ◌∷◌, ◌++◌, length, map, true, false}
+use Rattle.std.specs.Prelude.{Option, Bool, if◌then◌else◌, replicate, get_or, Contains}
+use Rattle.std.specs.List.{list_any}
+use Rattle.std.proofs.lemmas.Option.{none-some, same_Some}
+use Rattle.sa_base.specs.declared.number.SpaceNo.{SpaceNo}
+use Rattle.sa_base.specs.declared.number.ProcNo.{ProcNo}
+use Rattle.sa_base.specs.declared.number.ActNo.{ActNo}
+use Rattle.sa_base.specs.declared.record.Note.{Note}
+use Rattle.sa_base.specs.declared.record.Note.TheVariants as note
+use Rattle.sa_base.specs.declared.record.Record.{Record}
+use Rattle.sa_base.specs.declared.record.Record.TheVariants.{Run, Stop, Block, Unblock, Ready, Take, Free, Up, Told, Want, Aim, Line, GiveBack}
+use Rattle.sa_instr.specs.Workload.{WorkloadView}
+use Rattle.sa_assign.specs.Aims.{Change}
+use Rattle.sa_assign.specs.Reaim.{records_of, line_at, lines_with, line_records, proc_no}
+use Rattle.sa_laws.specs.Event.{Event}
+use Rattle.sa_laws.specs.Life.{Life}
+use Rattle.sa_laws.specs.Readings.{Readings, opening_readings, life_of, running_of, space_of_life}
+use Rattle.sa_laws.specs.Record.{after_record, with_life}
+use Rattle.sa_laws.specs.History.{Test, begun, after_records, is_step, is_up, with_step, ended, stepped, arisen}
+use Rattle.sa_laws.specs.Step.{Needs, AreSteps}
+use Rattle.sa_laws.specs.Upcalls.{EachRecord, IsUntoldTo, TellsOnce, NamesTheLife, TellsAllThen}
+use Rattle.sa_laws.specs.Closing.{spaces_of, want_one, aims_due}
+use Rattle.sa_laws.specs.Opening.{first_wants, opening_records}
+use Rattle.sa_laws.specs.Rules.{IsLawful, fast_threads}
+use Rattle.sa_legal.proofs.StandingLemmas.{Standing, Nowhere, Runs, Blocked, Stopped, Returned, Taken, space_in, Stood, Agrees, space_of, space-with}
+use Rattle.sa_legal.proofs.ShapeLemmas.{is_telling, MovesLives, fits, AllFit, FirstLaw, FirstOf, IsShaped, fits-want, fits-aim, fits-line, whole-shaped, turn-shaped}
+
+-- the opening has wants, aims and lines alone
+abbrev is_calm : Record → Bool
+is_calm (Want s n) = true
+is_calm (Aim p s) = true
+is_calm (Line p) = true
+is_calm _ = false
+
+abbrev AreCalm : List Record → Type 0
+AreCalm [] = Unit {0}
+AreCalm (x ∷ xs) = (is_calm x ≡ true) × AreCalm xs
+
+calm-fit : (last : Option Record) (xs : List Record) → AreCalm xs → AllFit last xs
+calm-fit last [] calm = tt
+calm-fit last (Want s n ∷ xs) calm = (fits-want last s n, calm-fit (Some (Want s n)) xs calm.1)
+calm-fit last (Aim p s ∷ xs) calm = (fits-aim last p s, calm-fit (Some (Aim p s)) xs calm.1)
+calm-fit last (Line p ∷ xs) calm = (fits-line last p, calm-fit (Some (Line p)) xs calm.1)
+calm-fit last (x ∷ xs) calm = absurd (let clash = calm.0 in cc)
+
+calm-first : (w : WorkloadView) (p : ProcNo) (r : Readings) (xs : List Record) → AreCalm xs → FirstOf w p r xs
+calm-first w p r [] calm = tt
+calm-first w p r (Want s n ∷ xs) calm = tt
+calm-first w p r (Aim q s ∷ xs) calm = tt
+calm-first w p r (Line q ∷ xs) calm = tt
+calm-first w p r (x ∷ xs) calm = absurd (let clash = calm.0 in cc)
+
+calm-append : (xs ys : List Record) → AreCalm xs → AreCalm ys → AreCalm (xs ++ ys)
+calm-append [] ys left right = right
+calm-append (x ∷ xs) ys left right = (left.0, calm-append xs ys left.1 right)
+
+calm-wants : (spaces : List SpaceNo) → AreCalm (map want_one spaces)
+calm-wants [] = tt
+calm-wants (s ∷ ss) = (refl, calm-wants ss)
+
+calm-line : (p : ℕ) (line : Option ℕ) → AreCalm (line_records p line)
+calm-line p None = (refl, tt)
+calm-line p (Some e) = tt
+
+calm-aims : (e : ℕ) (lines : List (Option ℕ)) (cs : List Change) → AreCalm (records_of e lines cs)
+calm-aims e lines [] = tt
+calm-aims e lines (c ∷ cs) = (refl, calm-append (line_records c.proc (line_at lines c.proc)) (records_of e (lines_with e lines c) cs) (calm-line c.proc (line_at lines c.proc)) (calm-aims e (lines_with e lines c) cs))
+
+calm-opening : (w : WorkloadView) → AreCalm (opening_records w)
+calm-opening w =
+    let wanting = after_records w 0 (proc_no 0) (opening_readings w) (first_wants w) in
+    calm-append (first_wants w) (records_of 0 wanting.lines (aims_due w 0 wanting)) (calm-wants (spaces_of w)) (calm-aims 0 wanting.lines (aims_due w 0 wanting))
+
+-- the records of a lawful event are in their places
+event-shaped : (w : WorkloadView) (r : Readings) (e : Event) → IsLawful fast_threads w r e → IsShaped w e.proc (begun w e r) e.records
+event-shaped w r e law = one e.number refl where
+  one : (n : ℕ) → e.number ≡ n → IsShaped w e.proc (begun w e r) e.records
+  one zero is =
+      let same = ap (λ (f : Event). f.records) (law.0.opening is) in
+      let calm : AreCalm e.records = subst AreCalm (sym same) (calm-opening w) in
+      (calm-fit None e.records calm, calm-first w e.proc (begun w e r) e.records calm)
+  one (suc n) is =
+      let later : 1 ≤ e.number = omega arith in
+      let turns = law.1.1.1.1.1.1.1.1.1.1.1.1.0 in
+      let locks = law.1.1.1.1.1.1.1.1.1.1.1.1.1.0 in
+      whole-shaped w e.proc (begun w e r) e.records (turn-shaped w (begun w e r) e.proc e.number _ _ (turns.turn later) (locks.step later)) (turns.closing later)
+
+-- so each of them may change what it changes
+abbrev FirstIf : Option Record → WorkloadView → ProcNo → Readings → Record → Type 0
+FirstIf None w p r x = FirstLaw w p r x
+FirstIf (Some y) w p r x = Unit {0}
+
+life-space : (r : Readings) (s : SpaceNo) (a : ActNo) (life : Life) → life_of r a ≡ Some life → life.space ≡ s → space_of_life r (Some a) ≡ Some s
+life-space r s a life is same = ap space_of is ∙ ap Some same
+
+moves-one : (w : WorkloadView) (p : ProcNo) (r : Readings) (x : Record) (rest : List Record) (last : Option Record) → r.last ≡ last → fits last x ≡ true → FirstIf last w p r x
+    → NamesTheLife p r x rest → TellsAllThen p r x rest → TellsOnce r x rest → Needs w p r x → MovesLives w p r x rest
+moves-one w p r (Stop s t a) rest last is fit first named tells once needs = named
+moves-one w p r (Block s t a io) rest last is fit first named tells once needs = named
+moves-one w p r (Unblock s t a) rest None is fit first named tells once needs = (first, life-space r s a needs.life needs.is needs.space)
+moves-one w p r (Unblock s t a) rest (Some y) is fit first named tells once needs = absurd (cc)
+moves-one w p r (Up s a) rest last is fit first named tells once needs = (named, tells.fresh)
+moves-one w p r (Told n) rest None is fit first named tells once needs = absurd (cc)
+moves-one w p r (Told n) rest (Some y) is fit first named tells once needs = (once, ap is_telling is ∙ fit)
+moves-one w p r (GiveBack a) rest last is fit first named tells once needs = tells
+moves-one w p r (Run s t) rest None is fit first named tells once needs = first
+moves-one w p r (Run s t) rest (Some y) is fit first named tells once needs = absurd (cc)
+moves-one w p r (Ready s t) rest None is fit first named tells once needs = first
+moves-one w p r (Ready s t) rest (Some y) is fit first named tells once needs = absurd (cc)
+moves-one w p r (Take s l t) rest None is fit first named tells once needs = first
+moves-one w p r (Take s l t) rest (Some y) is fit first named tells once needs = absurd (cc)
+moves-one w p r (Free s l t) rest None is fit first named tells once needs = first
+moves-one w p r (Free s l t) rest (Some y) is fit first named tells once needs = absurd (cc)
+moves-one w p r x rest last is fit first named tells once needs = tt
+
+abbrev FirstOfIf : Option Record → WorkloadView → ProcNo → Readings → List Record → Type 0
+FirstOfIf last w p r [] = Unit {0}
+FirstOfIf last w p r (x ∷ xs) = FirstIf last w p r x
+
+none-first : (y : Record) (w : WorkloadView) (p : ProcNo) (r : Readings) (xs : List Record) → FirstOfIf (Some y) w p r xs
+none-first y w p r [] = tt
+none-first y w p r (x ∷ xs) = tt
+
+moves-each : (w : WorkloadView) (e : ℕ) (p : ProcNo) (r : Readings) (xs : List Record) (last : Option Record) → r.last ≡ last → AllFit last xs → FirstOfIf last w p r xs
+    → EachRecord (NamesTheLife p) w e p r xs → EachRecord (TellsAllThen p) w e p r xs → EachRecord TellsOnce w e p r xs → AreSteps w e p r xs
+    → EachRecord (MovesLives w p) w e p r xs
+moves-each w e p r [] last is fit first named tells once steps = tt
+moves-each w e p r (x ∷ xs) last is fit first named tells once steps = (
+  moves-one w p r x xs last is fit.0 first named.0 tells.0 once.0 steps.0,
+  moves-each w e p (after_record w e p r x) xs (Some x) refl fit.1 (none-first x w p (after_record w e p r x) xs) named.1 tells.1 once.1 steps.1,
+)
+
+first-if : (w : WorkloadView) (p : ProcNo) (r : Readings) (xs : List Record) → FirstOf w p r xs → FirstOfIf None w p r xs
+first-if w p r [] first = tt
+first-if w p r (x ∷ xs) first = first
+
+pub moves-lives : (w : WorkloadView) (r : Readings) (e : Event) → IsLawful fast_threads w r e → EachRecord (MovesLives w e.proc) w e.number e.proc (begun w e r) e.records
+moves-lives w r e law =
+    let shaped = event-shaped w r e law in
+    moves-each w e.number e.proc (begun w e r) e.records None refl shaped.0 (first-if w e.proc (begun w e r) e.records shaped.1)
+    law.1.1.1.1.0.named law.1.1.1.1.1.0.told law.1.1.0.told law.1.0.steps
+
+-- where the number of such a record stood
+nowhere : (x : Standing) → space_in x ≡ None → x ≡ Nowhere
+nowhere Nowhere is = refl
+nowhere (Runs s p) is = absurd (cc)
+nowhere (Blocked s) is = absurd (cc)
+nowhere (Stopped s) is = absurd (cc)
+nowhere (Returned s) is = absurd (cc)
+nowhere (Taken s) is = absurd (cc)
+
+its-space : (st : ℕ → Standing) (r : Readings) (a : ActNo) (s t : SpaceNo) (x : Standing) → Agrees st r → space_of_life r (Some a) ≡ Some s → st a.0 ≡ x → space_in x ≡ Some t → t ≡ s
+its-space st r a s t x agrees space is in_it = same_Some t s (sym in_it ∙ ap space_in (sym is) ∙ sym (agrees.lives a) ∙ space)
+
+pub stood : (w : WorkloadView) (p : ProcNo) (st : ℕ → Standing) (r : Readings) (x : Record) (rest : List Record) → Agrees st r → MovesLives w p r x rest → Stood p st x
+stood w p st r (Stop s t a) rest agrees law =
+    let there = agrees.running p a law.act in there.1 ∙ ap (λ u. Runs u p) (its-space st r a s there.0 (Runs there.0 p) agrees law.space there.1 refl)
+stood w p st r (Block s t a io) rest agrees law =
+    let there = agrees.running p a law.act in there.1 ∙ ap (λ u. Runs u p) (its-space st r a s there.0 (Runs there.0 p) agrees law.space there.1 refl)
+stood w p st r (Unblock s t a) rest agrees law =
+    let there = agrees.blocked a law.0 in there.1 ∙ ap Blocked (its-space st r a s there.0 (Blocked there.0) agrees law.1 there.1 refl)
+stood w p st r (Up s a) rest agrees law = nowhere (st a.0) (sym (agrees.lives a) ∙ ap space_of law.1)
+stood w p st r (Told n) rest agrees law = told n (space_of_life r r.upped) law.0 where
+  told : (m : Note) (u : Option SpaceNo) → IsUntoldTo r u m → Stood p st (Told m)
+  told (note.Add q) u is = tt
+  told (note.Blocked a) u is = tt
+  told (note.Preempted a) None is = absurd is
+  told (note.Preempted a) (Some s) is = (s, agrees.stopped s a is)
+  told (note.Unblocked a) None is = absurd is
+  told (note.Unblocked a) (Some s) is = (s, agrees.returned s a is)
+stood w p st r (GiveBack a) rest agrees law = (law.life.space, agrees.taken law.life.space a law.taken)
+stood w p st r x rest agrees law = tt
+
+-- at the end of an event nothing of it changes
+pub space-ended : (test : Test) (w : WorkloadView) (before : Readings) (e : Event) (r : Readings) (a : ℕ) → space_of ((ended test w before e r).lives a) ≡ space_of (r.lives a)
+space-ended test w before e r a = up (list_any is_up e.records) ∙ step e.records where
+  if-same : (b : Bool) (f : Life → Life) (n : Option ActNo) (lives : ℕ → Option Life) → ((l : Life) → (f l).space ≡ l.space)
+      → space_of ((if b then with_life f n lives else lives) a) ≡ space_of (lives a)
+  if-same true f n lives same = space-with f n lives a same
+  if-same false f n lives same = refl
+
+  step : (xs : List Record) → space_of (with_step test w before e r xs r.lives a) ≡ space_of (r.lives a)
+  step [] = refl
+  step (x ∷ xs) = if-same (is_step x) (stepped test w before e r x) (running_of before e.proc) r.lives (λ l. refl)
+
+  up : (b : Bool) → space_of ((if b then with_life (arisen test w before e r) (running_of r e.proc) (with_step test w before e r e.records r.lives) else with_step test w before e r e.records r.lives) a)
+      ≡ space_of (with_step test w before e r e.records r.lives a)
+  up b = if-same b (arisen test w before e r) (running_of r e.proc) (with_step test w before e r e.records r.lives) (λ l. refl)
+
+pub agrees-ended : (test : Test) (w : WorkloadView) (st : ℕ → Standing) (before : Readings) (e : Event) (r : Readings) → Agrees st r → Agrees st (ended test w before e r)
+agrees-ended test w st before e r agrees = record {
+  lives = λ a. space-ended test w before e r a.0 ∙ agrees.lives a;
+  running = agrees.running;
+  blocked = agrees.blocked;
+  stopped = agrees.stopped;
+  returned = agrees.returned;
+  taken = agrees.taken;
+}
+
+pub agrees-begun : (w : WorkloadView) (st : ℕ → Standing) (e : Event) (r : Readings) → Agrees st r → Agrees st (begun w e r)
+agrees-begun w st e r agrees = record {
+  lives = agrees.lives;
+  running = agrees.running;
+  blocked = agrees.blocked;
+  stopped = agrees.stopped;
+  returned = agrees.returned;
+  taken = agrees.taken;
+}
+
+-- before any record each number is in nobody's use
+nobody-runs : (n k : ℕ) (a : ActNo) → get_or (replicate n None) k None ≡ Some a → ⊥
+nobody-runs zero k a is = none-some a is
+nobody-runs (suc n) zero a is = none-some a is
+nobody-runs (suc n) (suc k) a is = nobody-runs n k a is
+
+nothing-in : {A : Type 0} (n k : ℕ) (z : A) → Contains (get_or (replicate n []) k []) z → ⊥
+nothing-in zero k z has = let h = has in omega (arith, h.1)
+nothing-in (suc n) zero z has = let h = has in omega (arith, h.1)
+nothing-in (suc n) (suc k) z has = nothing-in n k z has
+
+abbrev pub nowhere_first : ℕ → Standing
+nowhere_first n = Nowhere
+
+pub agrees-start : (w : WorkloadView) → Agrees nowhere_first (opening_readings w)
+agrees-start w = record {
+  lives = λ a. refl;
+  running = λ p a is. absurd (nobody-runs w.processors p.0 a is);
+  blocked = λ a is. absurd (cc);
+  stopped = λ s a has. absurd (nothing-in (length w.spaces) s.0 (note.Preempted a) has);
+  returned = λ s a has. absurd (nothing-in (length w.spaces) s.0 (note.Unblocked a) has);
+  taken = λ s a has. absurd (nothing-in (length w.spaces) s.0 a has);
+}

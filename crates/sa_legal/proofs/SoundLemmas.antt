@@ -1,0 +1,310 @@
+-- What follows from the laws of a legal run of FastThreads at each moment of it.
+use Rattle.std.proofs.Common.{◌≡◌, ◌≢◌, ℕ, zero, suc, ◌⊎◌, inl, inr, refl, sym, ◌∙◌, ap, subst, arith, Some, None, List, [], ◌∷◌, ◌++◌, length, take, true, false}
+use Rattle.std.specs.Prelude.{Contains, Option, ◌==◌, if◌then◌else◌, is_some, unwrap_or}
+use Rattle.std.proofs.lemmas.Bool.{cases_eq}
+use Rattle.std.proofs.lemmas.Bool.Decides.{nat_tests}
+use Rattle.std.proofs.lemmas.List.{length-replicate}
+use Rattle.std.proofs.lemmas.Option.{none-some, same_Some}
+use Rattle.sa_lemmas.specs.Function.{put}
+use Rattle.sa_lemmas.proofs.FunctionUpdates.{put-at, put-other}
+use Rattle.sa_base.specs.declared.number.SpaceNo.{SpaceNo}
+use Rattle.sa_base.specs.declared.number.ProcNo.{ProcNo}
+use Rattle.sa_base.specs.declared.number.ActNo.{ActNo}
+use Rattle.sa_base.specs.declared.record.Note.TheVariants as note
+use Rattle.sa_base.specs.declared.record.Record.{Record}
+use Rattle.sa_base.specs.declared.record.Record.TheVariants.{Stop, Block, Unblock, Up, Told, GiveBack}
+use Rattle.sa_base.specs.declared.record.Item.{Item}
+use Rattle.sa_instr.specs.Workload.{WorkloadView, IsWorkload}
+use Rattle.sa_share.proofs.RoundLemmas.{shares_of-share}
+use Rattle.sa_share.proofs.ShareLemmas.{share_at-unique}
+use Rattle.sa_laws.specs.Event.{Event, items_of, events_of}
+use Rattle.sa_laws.specs.Life.{Life}
+use Rattle.sa_laws.specs.Readings.{Readings, IsLocked, opening_readings, life_of}
+use Rattle.sa_laws.specs.Record.{after_record}
+use Rattle.sa_laws.specs.History.{Test, begun, after_event, after_events, readings}
+use Rattle.sa_laws.specs.Closing.{first_space, claims_of, shares_at}
+use Rattle.sa_laws.specs.Upcalls.{RecordLaw, EachRecord}
+use Rattle.sa_laws.specs.Rules.{IsLawful, fast_threads}
+use Rattle.sa_legal.specs.Legal.{IsLegal, before}
+use Rattle.sa_legal.specs.Lives.{Stand, stand_if, stand_in, stand_said, stand_of, LivesAreRead}
+use Rattle.sa_legal.specs.Lives as life
+use Rattle.sa_legal.specs.Consequences.{AtEachMoment, RunApart, AreLockedOnce, LockersStand, IsRunning, IsBlocked, IsUntold, SharesAreTheOnes}
+use Rattle.sa_legal.proofs.WalkLemmas.{IsKept, Along, walk, item}
+use Rattle.sa_legal.proofs.ReadLemmas.{said-more}
+use Rattle.sa_legal.proofs.EventLemmas.{along, legal-lawful, items-events}
+use Rattle.sa_legal.proofs.MomentsRead.{OnMachine, on-machine, Any}
+use Rattle.sa_legal.proofs.TimelyLemmas.{claims-length, first-below}
+use Rattle.sa_legal.proofs.StandingLemmas.{Standing, Nowhere, Runs, Blocked, Stopped, Returned, Taken, Agrees, space_of, space_in, took, Stood, standing_after, agrees-step, same-proc}
+use Rattle.sa_legal.proofs.ShapeLemmas.{MovesLives}
+use Rattle.sa_legal.proofs.MovesLemmas.{moves-lives, stood, agrees-start, agrees-begun, agrees-ended, nowhere_first}
+use Rattle.sa_legal.proofs.HolderLemmas.{UppedRuns, AreKept, is_taken, upped-step, kept-step, kept-ended, no-lock}
+use Rattle.sa_legal.proofs.ShownLemmas.{Shows, shows-step}
+use Rattle.sa_legal.proofs.WhoseLemmas.{SomeNamed, named-step, named-ended}
+
+-- where a number stands, in plain words
+abbrev pub plain : Standing → Stand
+plain Nowhere = life.Unused
+plain (Runs s p) = life.Running p
+plain (Blocked s) = life.InBlock
+plain (Stopped s) = life.Stopped
+plain (Returned s) = life.Returned
+plain (Taken s) = life.Taken
+
+differ : (a b : ℕ) → a ≢ b → (a == b) ≡ false
+differ a b apart = grind (arith, nat_tests)
+
+alike : (a b : ℕ) → a ≡ b → (a == b) ≡ true
+alike a b same = grind (arith, nat_tests)
+
+plain-put : (st : ℕ → Standing) (a b : ActNo) (v : Standing) (x : Stand) → plain v ≡ x → plain (put st b.0 v a.0) ≡ unwrap_or (stand_if a b x) (plain (st a.0))
+plain-put st a b v x is = elim (cases_eq a.0 b.0) [
+  | inl same ↦ ap plain (put-at st b.0 a.0 v same) ∙ is ∙ sym (ap (λ c. unwrap_or (if c then Some x else None) (plain (st a.0))) (alike b.0 a.0 (sym same)))
+  | inr apart ↦ ap plain (put-other st b.0 a.0 v apart) ∙ sym (ap (λ c. unwrap_or (if c then Some x else None) (plain (st a.0))) (differ b.0 a.0 (λ e. apart (sym e))))
+]
+
+plain-after : (p : ProcNo) (st : ℕ → Standing) (x : Record) (a : ActNo) → Stood p st x → plain (standing_after p st x a.0) ≡ unwrap_or (stand_in a p x) (plain (st a.0))
+plain-after p st (Stop s t b) a was = plain-put st a b (Stopped s) life.Stopped refl
+plain-after p st (Block s t b io) a was = plain-put st a b (Blocked s) life.InBlock refl
+plain-after p st (Unblock s t b) a was = plain-put st a b (Returned s) life.Returned refl
+plain-after p st (Up s b) a was = plain-put st a b (Runs s p) (life.Running p) refl
+plain-after p st (Told (note.Preempted b)) a was = plain-put st a b (took (st b.0)) life.Taken (ap (λ y. plain (took y)) was.1)
+plain-after p st (Told (note.Unblocked b)) a was = plain-put st a b (took (st b.0)) life.Taken (ap (λ y. plain (took y)) was.1)
+plain-after p st (Told (note.Add q)) a was = refl
+plain-after p st (Told (note.Blocked b)) a was = refl
+plain-after p st (GiveBack b) a was = plain-put st a b Nowhere life.Unused refl
+plain-after p st x a was = refl
+
+-- each number stands in one place, as is read; taken lives have no locks; each locked list is one life's
+pub record IsSound (w : WorkloadView) (past : List Item) (r : Readings) : Type 0 where
+  pub st : ℕ → Standing
+  pub agrees : Agrees st r
+  pub shows : Shows w st r
+  pub kept : AreKept st r.lives
+  pub named : SomeNamed r.lives
+  pub told : (a : ActNo) → plain (st a.0) ≡ stand_of past a
+
+pub record IsSoundIn (w : WorkloadView) (p : ProcNo) (past : List Item) (r : Readings) : Type 0 where
+  pub sound : IsSound w past r
+  pub runs : UppedRuns sound.st p r
+
+abbrev Moves : WorkloadView → ProcNo → RecordLaw
+Moves w p r x rest = MovesLives w p r x rest × OnMachine w p r x rest
+
+both : (w : WorkloadView) (e : ℕ) (p : ProcNo) (r : Readings) (xs : List Record) → EachRecord (MovesLives w p) w e p r xs → EachRecord (OnMachine w p) w e p r xs → EachRecord (Moves w p) w e p r xs
+both w e p r [] left right = tt
+both w e p r (x ∷ xs) left right = ((left.0, right.0), both w e p (after_record w e p r x) xs left.1 right.1)
+
+sound-step : (w : WorkloadView) (e : ℕ) (p : ProcNo) (past : List Item) (r : Readings) (x : Record) (rest : List Record) → IsSoundIn w p past r → Moves w p r x rest
+    → IsSoundIn w p (past ++ item e p x ∷ []) (after_record w e p r x)
+sound-step w e p past r x rest inv law =
+    let s = inv.sound in
+    let was = stood w p s.st r x rest s.agrees law.0 in
+    record {
+      sound = record {
+        st = standing_after p s.st x;
+        agrees = agrees-step w e p s.st r x s.agrees was;
+        shows = shows-step w e p s.st r x rest s.shows was law.0 law.1;
+        kept = kept-step w p s.st r x rest s.agrees was law.0 inv.runs s.kept;
+        named = named-step w p s.st r x rest s.agrees was law.0 inv.runs s.named;
+        told = λ a. said-more (stand_said a) past (item e p x) life.Unused (plain (s.st a.0)) (plain (standing_after p s.st x a.0)) (s.told a) (plain-after p s.st x a was);
+      };
+      runs = upped-step w e p s.st r x rest was law.0 inv.runs;
+    }
+
+sound-kept : (test : Test) (w : WorkloadView) → IsKept test w (Moves w) (IsSound w) (λ e p. IsSoundIn w p) Any
+sound-kept test w = record {
+  step = λ e p past r x rest inv law. (sound-step w e p past r x rest inv law, tt);
+  begins = λ past r e s. record {
+    sound = record {
+      st = s.st;
+      agrees = agrees-begun w s.st e r s.agrees;
+      shows = record {
+        running_len = s.shows.running_len;
+        untold_len = s.shows.untold_len;
+        running = s.shows.running;
+        blocked = s.shows.blocked;
+        stopped = s.shows.stopped;
+        returned = s.shows.returned;
+      };
+      kept = s.kept;
+      named = s.named;
+      told = s.told;
+    };
+    runs = λ no_record. absurd (cc);
+  };
+  ends = λ past first e r inv. let s = inv.sound in record {
+    st = s.st;
+    agrees = agrees-ended test w s.st first e r s.agrees;
+    shows = record {
+      running_len = s.shows.running_len;
+      untold_len = s.shows.untold_len;
+      running = s.shows.running;
+      blocked = s.shows.blocked;
+      stopped = s.shows.stopped;
+      returned = s.shows.returned;
+    };
+    kept = kept-ended test w s.st first e r s.kept;
+    named = named-ended test w first e r s.named;
+    told = s.told;
+  };
+}
+
+sound-start : (w : WorkloadView) → IsSound w [] (opening_readings w)
+sound-start w = record {
+  st = nowhere_first;
+  agrees = agrees-start w;
+  shows = record {
+    running_len = length-replicate w.processors None;
+    untold_len = length-replicate (length w.spaces) [];
+    running = λ s p a is. absurd (cc);
+    blocked = λ s a is. absurd (cc);
+    stopped = λ s a within is. absurd (cc);
+    returned = λ s a within is. absurd (cc);
+  };
+  kept = λ n life is. absurd (none-some life is);
+  named = ((λ s l. 0), λ n life is. absurd (none-some life is));
+  told = λ a. refl;
+}
+
+along-take : (test : Test) (w : WorkloadView) (L : ProcNo → RecordLaw) (r : Readings) (events : List Event) (n : ℕ) → Along test w L r events → Along test w L r (take n events)
+along-take test w L r [] zero law = tt
+along-take test w L r [] (suc n) law = tt
+along-take test w L r (e ∷ es) zero law = tt
+along-take test w L r (e ∷ es) (suc n) law = (law.0, along-take test w L (after_event test w r e) es n law.1)
+
+sound-along : (w : WorkloadView) (items : List Item) → IsLegal fast_threads w items → Along fast_threads.inside w (Moves w) (opening_readings w) (events_of items)
+sound-along w items legal =
+    let gives : (r : Readings) (e : Event) → IsLawful fast_threads w r e → EachRecord (Moves w e.proc) w e.number e.proc (begun w e r) e.records =
+    λ r e law. both w e.number e.proc (begun w e r) e.records (moves-lives w r e law) (on-machine w e.proc e.number (begun w e r) e.records law.0.proc) in
+    along fast_threads w (Moves w) gives (opening_readings w) (events_of items) (legal-lawful fast_threads w items legal)
+
+sound-walk : (w : WorkloadView) (events : List Event) → Along fast_threads.inside w (Moves w) (opening_readings w) events
+    → IsSound w (items_of events) (after_events fast_threads.inside w (opening_readings w) events)
+sound-walk w events law =
+    (walk fast_threads.inside w (Moves w) (IsSound w) (λ e p. IsSoundIn w p) Any (sound-kept fast_threads.inside w) [] (opening_readings w) events (sound-start w) law).0
+
+sound-before : (w : WorkloadView) (items : List Item) → IsLegal fast_threads w items → (n : ℕ)
+    → IsSound w (items_of (take n (events_of items))) (before fast_threads w (events_of items) n)
+sound-before w items legal n =
+    sound-walk w (take n (events_of items)) (along-take fast_threads.inside w (Moves w) (opening_readings w) (events_of items) n (sound-along w items legal))
+
+-- running lives have different numbers
+proc-is : (p q : ProcNo) → p.0 ≡ q.0 → p ≡ q
+proc-is p q e = ap (λ n. record { 0 = n }) e
+
+run-apart : (w : WorkloadView) (past : List Item) (r : Readings) → IsSound w past r → RunApart r
+run-apart w past r sound p q a one other =
+    let here = sound.agrees.running p a one in
+    let there = sound.agrees.running q a other in
+    proc-is p q (same-proc here.0 there.0 p q (sym here.1 ∙ there.1))
+
+-- each locked list is one life's, which stands somewhere
+locker : (w : WorkloadView) (past : List Item) (r : Readings) (s : SpaceNo) (l : ProcNo) (sound : IsSound w past r) (locked : IsLocked r s l) → sound.named.0 s.0 l.0 ≡ locked.act.0
+locker w past r s l sound locked =
+    let who = sound.named.0 in
+    ap (λ (x : SpaceNo). who x.0 l.0) (sym locked.has.space)
+    ∙ ap (λ (x : ProcNo). who locked.life.space.0 x.0) (sym locked.has.list)
+    ∙ sound.named.1 locked.act.0 locked.life locked.is locked.has.lock locked.has.among
+
+act-is : (a b : ActNo) → a.0 ≡ b.0 → a ≡ b
+act-is a b e = ap (λ n. record { 0 = n }) e
+
+locked-once : (w : WorkloadView) (past : List Item) (r : Readings) → IsSound w past r → AreLockedOnce r
+locked-once w past r sound s l one other = act-is one.act other.act (sym (locker w past r s l sound one) ∙ locker w past r s l sound other)
+
+lockers-stand : (w : WorkloadView) (past : List Item) (r : Readings) → IsSound w past r → LockersStand w r
+lockers-stand w past r sound s l within locked = stands (sound.st locked.act.0) refl where
+  space : space_in (sound.st locked.act.0) ≡ Some s
+  space = sym (sound.agrees.lives locked.act) ∙ ap space_of locked.is ∙ ap Some locked.has.space
+
+  stands : (x : Standing) → sound.st locked.act.0 ≡ x → IsRunning r locked.act ⊎ (IsBlocked r locked.act ⊎ IsUntold r s locked.act)
+  stands Nowhere is = absurd (none-some s (sym (ap space_in is) ∙ space))
+  stands (Runs t q) is = inl (q, sound.shows.running t q locked.act is)
+  stands (Blocked t) is = inr (inl (sound.shows.blocked t locked.act is))
+  stands (Stopped t) is = inr (inr (inl (sound.shows.stopped s locked.act within (is ∙ ap Stopped (same_Some t s (sym (ap space_in is) ∙ space))))))
+  stands (Returned t) is = inr (inr (inr (sound.shows.returned s locked.act within (is ∙ ap Returned (same_Some t s (sym (ap space_in is) ∙ space))))))
+  stands (Taken t) is =
+      let bare = (sound.kept locked.act.0 locked.life locked.is).bare (ap is_taken is) in
+      absurd (no-lock locked.has.lock (subst (λ ls. Contains ls locked.has.lock) bare locked.has.among))
+
+pub lives-run-apart : (w : WorkloadView) (items : List Item) → IsLegal fast_threads w items → AtEachMoment RunApart w items
+lives-run-apart w items legal n = run-apart w (items_of (take n (events_of items))) (before fast_threads w (events_of items) n) (sound-before w items legal n)
+
+pub lists-are-locked-once : (w : WorkloadView) (items : List Item) → IsLegal fast_threads w items → AtEachMoment AreLockedOnce w items
+lists-are-locked-once w items legal n = locked-once w (items_of (take n (events_of items))) (before fast_threads w (events_of items) n) (sound-before w items legal n)
+
+pub lockers-stand-somewhere : (w : WorkloadView) (items : List Item) → IsLegal fast_threads w items → AtEachMoment (LockersStand w) w items
+lockers-stand-somewhere w items legal n = lockers-stand w (items_of (take n (events_of items))) (before fast_threads w (events_of items) n) (sound-before w items legal n)
+
+-- the shares are the only ones
+pub shares-are-the-ones : (w : WorkloadView) (event : ℕ) (r : Readings) → IsWorkload w → SharesAreTheOnes w event r
+shares-are-the-ones w event r ok shares s given =
+    let some = ok.some_space in
+    let few = ok.few_spaces in
+    let len = claims-length w r in
+    let first = first-below w event some in
+    let own = shares_of-share w.processors (first_space w event) (claims_of w r) (omega arith) (omega arith) in
+    share_at-unique w.processors (first_space w event) (claims_of w r) shares (shares_at w event r) given own s
+
+-- what is read of lives is what the words say
+some-space : (o : Option Life) → is_some (space_of o) ≡ is_some o
+some-space None = refl
+some-space (Some l) = refl
+
+used-plain : (x : Standing) → is_some (space_in x) ≡ true → plain x ≢ life.Unused
+used-plain Nowhere is same = absurd (cc)
+used-plain (Runs s p) is same = cc
+used-plain (Blocked s) is same = cc
+used-plain (Stopped s) is same = cc
+used-plain (Returned s) is same = cc
+used-plain (Taken s) is same = cc
+
+plain-used : (x : Standing) → plain x ≢ life.Unused → is_some (space_in x) ≡ true
+plain-used Nowhere other = absurd (other refl)
+plain-used (Runs s p) other = refl
+plain-used (Blocked s) other = refl
+plain-used (Stopped s) other = refl
+plain-used (Returned s) other = refl
+plain-used (Taken s) other = refl
+
+abbrev running_in : Stand → Option ProcNo
+running_in (life.Running p) = Some p
+running_in x = None
+
+runs-plain : (x : Standing) (p : ProcNo) → plain x ≡ life.Running p → (s : SpaceNo) × (x ≡ Runs s p)
+runs-plain (Runs s q) p is = (s, ap (Runs s) (same_Some q p (ap running_in is)))
+runs-plain Nowhere p is = absurd (cc)
+runs-plain (Blocked s) p is = absurd (cc)
+runs-plain (Stopped s) p is = absurd (cc)
+runs-plain (Returned s) p is = absurd (cc)
+runs-plain (Taken s) p is = absurd (cc)
+
+blocked-plain : (x : Standing) → plain x ≡ life.InBlock → (s : SpaceNo) × (x ≡ Blocked s)
+blocked-plain (Blocked s) is = (s, refl)
+blocked-plain Nowhere is = absurd (cc)
+blocked-plain (Runs s p) is = absurd (cc)
+blocked-plain (Stopped s) is = absurd (cc)
+blocked-plain (Returned s) is = absurd (cc)
+blocked-plain (Taken s) is = absurd (cc)
+
+lives-read : (w : WorkloadView) (past : List Item) (r : Readings) → IsSound w past r → LivesAreRead past r
+lives-read w past r sound = record {
+  used = λ a.
+      let same : is_some (life_of r a) ≡ is_some (space_in (sound.st a.0)) = sym (some-space (life_of r a)) ∙ ap is_some (sound.agrees.lives a) in
+      ((λ is none. used-plain (sound.st a.0) (sym same ∙ is) (sound.told a ∙ none)), λ other. same ∙ plain-used (sound.st a.0) (λ none. other (sym (sound.told a) ∙ none)));
+  running = λ p a. (
+    (λ is. sym (sound.told a) ∙ ap plain (sound.agrees.running p a is).1),
+    λ is. let there = runs-plain (sound.st a.0) p (sound.told a ∙ is) in sound.shows.running there.0 p a there.1,
+  );
+  blocked = λ a. (
+    (λ is. sym (sound.told a) ∙ ap plain (sound.agrees.blocked a is).1),
+    λ is. let there = blocked-plain (sound.st a.0) (sound.told a ∙ is) in sound.shows.blocked there.0 a there.1,
+  );
+  taken = λ s a has. sym (sound.told a) ∙ ap plain (sound.agrees.taken s a has);
+}
+
+pub lives-are-read : (w : WorkloadView) (items : List Item) → IsLegal fast_threads w items → LivesAreRead items (readings fast_threads.inside w (events_of items))
+lives-are-read w items legal =
+    let sound = sound-walk w (events_of items) (sound-along w items legal) in
+    subst (λ (ys : List Item). LivesAreRead ys (readings fast_threads.inside w (events_of items))) (items-events items)
+    (lives-read w (items_of (events_of items)) (readings fast_threads.inside w (events_of items)) sound)
