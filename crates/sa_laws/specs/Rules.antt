@@ -2,7 +2,7 @@
 use Rattle.std.specs.Prelude.{List, [], ◌∷◌, take, Option, None}
 use Rattle.sa_instr.specs.Workload.{WorkloadView}
 use Rattle.sa_laws.specs.declared.rule.Rule.{Rule}
-use Rattle.sa_laws.specs.declared.rule.Rule.TheVariants.{D11, D6, U1, U2, U3, U4, U5, U6, U7, U8, L1, L2, L3, L4, L5, D12}
+use Rattle.sa_laws.specs.declared.rule.Rule.TheVariants.{Numbering, StepTaken, AtMostOnce, InTime, WhereOwned, AllTold, BlockUpcall, InterruptNext, LineCause, WantCause, SharesCovered, DemandSaid, TurnsAndSteps, ListLocks, ListOrder, EndTold}
 use Rattle.sa_laws.specs.Event.{Event}
 use Rattle.sa_laws.specs.Readings.{Readings}
 use Rattle.sa_laws.specs.History.{Test, is_inside, after_event}
@@ -44,48 +44,48 @@ fast_threads = record {
 
 -- the rule holds at an event, before which this is read; the last line is that of the trace, if this is its last event
 abbrev pub Holds : UserRules → WorkloadView → Rule → Readings → Event → Option LastLine → Type 0
-Holds u w D11 r e last = IsNumbered w r e
-Holds u w D6 r e last = IsStepwise w r e
-Holds u w U1 r e last = IsToldOnce w r e
-Holds u w U2 r e last = IsToldInTime u.inside w r e
-Holds u w U3 r e last = RunsWhereOwned u.inside w r e
-Holds u w U4 r e last = UpcallsTellAll w r e
-Holds u w U5 r e last = BlocksGiveUpcalls w r e
-Holds u w U6 r e last = InterruptsNext w r e
-Holds u w U7 r e last = LinesHaveCause u.Lines w r e
-Holds u w U8 r e last = WantsHaveCause u.inside w r e
-Holds u w L1 r e last = AimsCoverShares u.inside w r e
-Holds u w L2 r e last = u.Demand w r e
-Holds u w L3 r e last = TurnsAreTaken u.Steps w r e
-Holds u w L4 r e last = u.Locks w r e
-Holds u w L5 r e last = u.Order w r e
-Holds u w D12 r e last = EndIsTold (after_event u.inside w r e) e.number last
+Holds u w Numbering r e last = IsNumbered w r e
+Holds u w StepTaken r e last = IsStepwise w r e
+Holds u w AtMostOnce r e last = IsToldOnce w r e
+Holds u w InTime r e last = IsToldInTime u.inside w r e
+Holds u w WhereOwned r e last = RunsWhereOwned u.inside w r e
+Holds u w AllTold r e last = UpcallsTellAll w r e
+Holds u w BlockUpcall r e last = BlocksGiveUpcalls w r e
+Holds u w InterruptNext r e last = InterruptsNext w r e
+Holds u w LineCause r e last = LinesHaveCause u.Lines w r e
+Holds u w WantCause r e last = WantsHaveCause u.inside w r e
+Holds u w SharesCovered r e last = AimsCoverShares u.inside w r e
+Holds u w DemandSaid r e last = u.Demand w r e
+Holds u w TurnsAndSteps r e last = TurnsAreTaken u.Steps w r e
+Holds u w ListLocks r e last = u.Locks w r e
+Holds u w ListOrder r e last = u.Order w r e
+Holds u w EndTold r e last = EndIsTold (after_event u.inside w r e) e.number last
 
 -- the laws of a legal run in their order, and behind them the rule of the end
 abbrev pub laws : List Rule
-laws = D11 ∷ D6 ∷ U1 ∷ U2 ∷ U3 ∷ U4 ∷ U5 ∷ U6 ∷ U7 ∷ U8 ∷ L1 ∷ L2 ∷ L3 ∷ L4 ∷ L5 ∷ []
+laws = Numbering ∷ StepTaken ∷ AtMostOnce ∷ InTime ∷ WhereOwned ∷ AllTold ∷ BlockUpcall ∷ InterruptNext ∷ LineCause ∷ WantCause ∷ SharesCovered ∷ DemandSaid ∷ TurnsAndSteps ∷ ListLocks ∷ ListOrder ∷ []
 
 abbrev pub rules : List Rule
-rules = D11 ∷ D6 ∷ U1 ∷ U2 ∷ U3 ∷ U4 ∷ U5 ∷ U6 ∷ U7 ∷ U8 ∷ L1 ∷ L2 ∷ L3 ∷ L4 ∷ L5 ∷ D12 ∷ []
+rules = Numbering ∷ StepTaken ∷ AtMostOnce ∷ InTime ∷ WhereOwned ∷ AllTold ∷ BlockUpcall ∷ InterruptNext ∷ LineCause ∷ WantCause ∷ SharesCovered ∷ DemandSaid ∷ TurnsAndSteps ∷ ListLocks ∷ ListOrder ∷ EndTold ∷ []
 
 -- the rules before one
 abbrev pub rules_before : Rule → List Rule
-rules_before D11 = take 0 rules
-rules_before D6 = take 1 rules
-rules_before U1 = take 2 rules
-rules_before U2 = take 3 rules
-rules_before U3 = take 4 rules
-rules_before U4 = take 5 rules
-rules_before U5 = take 6 rules
-rules_before U6 = take 7 rules
-rules_before U7 = take 8 rules
-rules_before U8 = take 9 rules
-rules_before L1 = take 10 rules
-rules_before L2 = take 11 rules
-rules_before L3 = take 12 rules
-rules_before L4 = take 13 rules
-rules_before L5 = take 14 rules
-rules_before D12 = take 15 rules
+rules_before Numbering = take 0 rules
+rules_before StepTaken = take 1 rules
+rules_before AtMostOnce = take 2 rules
+rules_before InTime = take 3 rules
+rules_before WhereOwned = take 4 rules
+rules_before AllTold = take 5 rules
+rules_before BlockUpcall = take 6 rules
+rules_before InterruptNext = take 7 rules
+rules_before LineCause = take 8 rules
+rules_before WantCause = take 9 rules
+rules_before SharesCovered = take 10 rules
+rules_before DemandSaid = take 11 rules
+rules_before TurnsAndSteps = take 12 rules
+rules_before ListLocks = take 13 rules
+rules_before ListOrder = take 14 rules
+rules_before EndTold = take 15 rules
 
 -- each of these rules holds at an event
 abbrev pub HoldEach : UserRules → WorkloadView → List Rule → Readings → Event → Option LastLine → Type 0

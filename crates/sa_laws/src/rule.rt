@@ -1,36 +1,36 @@
-/// A rule of legal runs, as the checker names it. They stand in the order in which they are looked at.
+/// A rule of legal runs. They stand in the order in which they are looked at.
 #[derive(Clone, Copy, Debug, PartialEq, Eq)]
 pub enum Rule {
     /// The opening and the numbering of events.
-    D11,
+    Numbering,
     /// Each record is a step of the abstract machine.
-    D6,
+    StepTaken,
     /// Tells at most once.
-    U1,
+    AtMostOnce,
     /// Tells in time.
-    U2,
+    InTime,
     /// Runs where owned.
-    U3,
+    WhereOwned,
     /// An upcall tells all.
-    U4,
+    AllTold,
     /// A block gives an upcall.
-    U5,
+    BlockUpcall,
     /// An interrupt is the next event.
-    U6,
+    InterruptNext,
     /// A line has its cause.
-    U7,
+    LineCause,
     /// A want has its cause.
-    U8,
+    WantCause,
     /// Aims cover shares.
-    L1,
+    SharesCovered,
     /// Demand is announced.
-    L2,
+    DemandSaid,
     /// Turns and steps.
-    L3,
+    TurnsAndSteps,
     /// List locks.
-    L4,
+    ListLocks,
     /// List order.
-    L5,
+    ListOrder,
     /// The end.
-    D12,
+    EndTold,
 }

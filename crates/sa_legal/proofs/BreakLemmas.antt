@@ -6,7 +6,7 @@ use Rattle.sa_base.specs.declared.record.Note.TheVariants.{Add, Preempted, Block
 use Rattle.sa_base.specs.declared.record.Record.TheVariants.{Ins, Stop, Block, Take, Free, Up, Told, Move, Want, Aim, Line, Idle, Tick}
 use Rattle.sa_instr.specs.declared.instr.Instr.{Instr}
 use Rattle.sa_instr.specs.declared.instr.Instr.TheVariants.{Io as IoOf, End}
-use Rattle.sa_laws.specs.declared.rule.Rule.TheVariants.{D11, D6, U1, U2, U3, U4, U5, U6, U7, U8, L1, L2, L3, L4, D12}
+use Rattle.sa_laws.specs.declared.rule.Rule.TheVariants.{Numbering, StepTaken, AtMostOnce, InTime, WhereOwned, AllTold, BlockUpcall, InterruptNext, LineCause, WantCause, SharesCovered, DemandSaid, TurnsAndSteps, ListLocks, EndTold}
 use Rattle.sa_laws.specs.Event.{Event}
 use Rattle.sa_laws.specs.Readings.{Readings}
 use Rattle.sa_laws.specs.Ends.{GoesOn, are_done, are_at_rest}
@@ -64,15 +64,15 @@ low : (k : ℕ) → is_some (slice_index_or low_lines k None) ≡ true → ⊥
 low zero raised = cc
 low (suc k) raised = cc
 
-pub breaks-D11 : FirstBreak fast_threads smallest other_opening (stops_at 0) 0 D11
-breaks-D11 = break-behind fast_threads smallest [] _ (stops_at 0) D11 tt
+pub breaks-Numbering : FirstBreak fast_threads smallest other_opening (stops_at 0) 0 Numbering
+breaks-Numbering = break-behind fast_threads smallest [] _ (stops_at 0) Numbering tt
     (record { earlier = tt; broken = λ h. let e = ap (λ (x : Event). slice_get x.records 0) (h.opening refl) in differs e })
   where
     differs : Some (Want s0 2) ≡ Some (Want s0 1) → ⊥
     differs e = cc
 
-pub breaks-D6 : FirstBreak fast_threads smallest other_place (stops_at 5) 5 D6
-breaks-D6 = break-behind fast_threads smallest (e0 ∷ e1 ∷ e2 ∷ e3 ∷ e4 ∷ []) (at 5 (Ins s0 t0 1 ∷ [])) (stops_at 5) D6 (before5 one)
+pub breaks-StepTaken : FirstBreak fast_threads smallest other_place (stops_at 5) 5 StepTaken
+breaks-StepTaken = break-behind fast_threads smallest (e0 ∷ e1 ∷ e2 ∷ e3 ∷ e4 ∷ []) (at 5 (Ins s0 t0 1 ∷ [])) (stops_at 5) StepTaken (before5 one)
     (record {
       earlier = (
         record { number = refl; proc = omega arith; some = λ no. cc; opening = λ no. absurd (omega arith) },
@@ -81,8 +81,8 @@ breaks-D6 = break-behind fast_threads smallest (e0 ∷ e1 ∷ e2 ∷ e3 ∷ e4 �
       broken = λ h. let place = h.steps.0.place in omega (arith, place);
     })
 
-pub breaks-U1 : FirstBreak fast_threads smallest told_of_nothing (stops_at 1) 1 U1
-breaks-U1 = break-behind fast_threads smallest (e0 ∷ []) (at 1 (Move None (Some s0) ∷ Up s0 (act 0) ∷ Told (Add p0) ∷ Told (Preempted (act 7)) ∷ [])) (stops_at 1) U1 (before1 one)
+pub breaks-AtMostOnce : FirstBreak fast_threads smallest told_of_nothing (stops_at 1) 1 AtMostOnce
+breaks-AtMostOnce = break-behind fast_threads smallest (e0 ∷ []) (at 1 (Move None (Some s0) ∷ Up s0 (act 0) ∷ Told (Add p0) ∷ Told (Preempted (act 7)) ∷ [])) (stops_at 1) AtMostOnce (before1 one)
     (record {
       earlier = (
         record { number = refl; proc = omega arith; some = λ no. cc; opening = λ no. absurd (omega arith) },
@@ -91,8 +91,8 @@ breaks-U1 = break-behind fast_threads smallest (e0 ∷ []) (at 1 (Move None (Som
       broken = λ h. let has = h.told.1.1.1.0 in omega (arith, has.1);
     })
 
-pub breaks-U2 : FirstBreak fast_threads smallest stopped_untold (stops_at 5) 5 U2
-breaks-U2 = break-behind fast_threads smallest (e0 ∷ e1 ∷ e2 ∷ e3 ∷ e4 ∷ []) (at 5 (Stop s0 (Some t0) (act 0) ∷ [])) (stops_at 5) U2 (before5 one)
+pub breaks-InTime : FirstBreak fast_threads smallest stopped_untold (stops_at 5) 5 InTime
+breaks-InTime = break-behind fast_threads smallest (e0 ∷ e1 ∷ e2 ∷ e3 ∷ e4 ∷ []) (at 5 (Stop s0 (Some t0) (act 0) ∷ [])) (stops_at 5) InTime (before5 one)
     (record {
       earlier = (
         record { number = refl; proc = omega arith; some = λ no. cc; opening = λ no. absurd (omega arith) },
@@ -108,8 +108,8 @@ breaks-U2 = break-behind fast_threads smallest (e0 ∷ e1 ∷ e2 ∷ e3 ∷ e4 �
       ];
     })
 
-pub breaks-U3 : FirstBreak fast_threads smallest two_lives (stops_at 2) 2 U3
-breaks-U3 = break-behind fast_threads smallest (e0 ∷ e1 ∷ []) (at 2 (Up s0 (act 1) ∷ Told (Add p0) ∷ [])) (stops_at 2) U3 (before2 one)
+pub breaks-WhereOwned : FirstBreak fast_threads smallest two_lives (stops_at 2) 2 WhereOwned
+breaks-WhereOwned = break-behind fast_threads smallest (e0 ∷ e1 ∷ []) (at 2 (Up s0 (act 1) ∷ Told (Add p0) ∷ [])) (stops_at 2) WhereOwned (before2 one)
     (record {
       earlier = (
         record { number = refl; proc = omega arith; some = λ no. cc; opening = λ no. absurd (omega arith) },
@@ -124,8 +124,8 @@ breaks-U3 = break-behind fast_threads smallest (e0 ∷ e1 ∷ []) (at 2 (Up s0 (
       broken = λ h. let no : Some (act 0) ≡ None = h.named.0 in cc;
     })
 
-pub breaks-U4 : FirstBreak fast_threads smallest not_told_added (stops_at 1) 1 U4
-breaks-U4 = break-behind fast_threads smallest (e0 ∷ []) (at 1 (Move None (Some s0) ∷ Up s0 (act 0) ∷ [])) (stops_at 1) U4 (before1 one)
+pub breaks-AllTold : FirstBreak fast_threads smallest not_told_added (stops_at 1) 1 AllTold
+breaks-AllTold = break-behind fast_threads smallest (e0 ∷ []) (at 1 (Move None (Some s0) ∷ Up s0 (act 0) ∷ [])) (stops_at 1) AllTold (before1 one)
     (record {
       earlier = (
         record { number = refl; proc = omega arith; some = λ no. cc; opening = λ no. absurd (omega arith) },
@@ -143,8 +143,8 @@ breaks-U4 = break-behind fast_threads smallest (e0 ∷ []) (at 1 (Move None (Som
       broken = λ h. h.told.1.0.some refl;
     })
 
-pub breaks-U5 : FirstBreak fast_threads blocking other_io (stops_at 5) 5 U5
-breaks-U5 = break-behind fast_threads blocking (e0 ∷ e1 ∷ e2 ∷ e3 ∷ e4 ∷ []) (at 5 (Ins s0 t0 0 ∷ Block s0 (Some t0) (act 0) (record { 0 = 1 }) ∷ Up s0 (act 1) ∷ Told (Blocked (act 0)) ∷ [])) (stops_at 5) U5 (before5 (IoOf 2 ∷ End ∷ []))
+pub breaks-BlockUpcall : FirstBreak fast_threads blocking other_io (stops_at 5) 5 BlockUpcall
+breaks-BlockUpcall = break-behind fast_threads blocking (e0 ∷ e1 ∷ e2 ∷ e3 ∷ e4 ∷ []) (at 5 (Ins s0 t0 0 ∷ Block s0 (Some t0) (act 0) (record { 0 = 1 }) ∷ Up s0 (act 1) ∷ Told (Blocked (act 0)) ∷ [])) (stops_at 5) BlockUpcall (before5 (IoOf 2 ∷ End ∷ []))
     (record {
       earlier = (
         record { number = refl; proc = omega arith; some = λ no. cc; opening = λ no. absurd (omega arith) },
@@ -165,8 +165,8 @@ breaks-U5 = break-behind fast_threads blocking (e0 ∷ e1 ∷ e2 ∷ e3 ∷ e4 �
       broken = λ h. let number = h.blocks.1.0.number in omega (arith, number);
     })
 
-pub breaks-U6 : FirstBreak fast_threads smallest interrupt_put_off (stops_at 1) 1 U6
-breaks-U6 = break-behind fast_threads smallest (e0 ∷ []) (at 1 (Tick ∷ [])) (stops_at 1) U6 (before1 one)
+pub breaks-InterruptNext : FirstBreak fast_threads smallest interrupt_put_off (stops_at 1) 1 InterruptNext
+breaks-InterruptNext = break-behind fast_threads smallest (e0 ∷ []) (at 1 (Tick ∷ [])) (stops_at 1) InterruptNext (before1 one)
     (record {
       earlier = (
         record { number = refl; proc = omega arith; some = λ no. cc; opening = λ no. absurd (omega arith) },
@@ -190,8 +190,8 @@ breaks-U6 = break-behind fast_threads smallest (e0 ∷ []) (at 1 (Tick ∷ [])) 
       broken = λ h. h.interrupt refl;
     })
 
-pub breaks-U7 : FirstBreak fast_threads smallest raised_for_nothing (stops_at 2) 2 U7
-breaks-U7 = break-behind fast_threads smallest (e0 ∷ e1 ∷ []) (at 2 (Take s0 p0 None ∷ Line p0 ∷ [])) (stops_at 2) U7 (before2 one)
+pub breaks-LineCause : FirstBreak fast_threads smallest raised_for_nothing (stops_at 2) 2 LineCause
+breaks-LineCause = break-behind fast_threads smallest (e0 ∷ e1 ∷ []) (at 2 (Take s0 p0 None ∷ Line p0 ∷ [])) (stops_at 2) LineCause (before2 one)
     (record {
       earlier = (
         record { number = refl; proc = omega arith; some = λ no. cc; opening = λ no. absurd (omega arith) },
@@ -218,8 +218,8 @@ breaks-U7 = break-behind fast_threads smallest (e0 ∷ e1 ∷ []) (at 2 (Take s0
       broken = λ h. let due : Line p0 ∷ [] ≡ [] = h.due in cc;
     })
 
-pub breaks-U8 : FirstBreak fast_threads smallest wanted_for_nothing (stops_at 2) 2 U8
-breaks-U8 = break-behind fast_threads smallest (e0 ∷ e1 ∷ []) (at 2 (Take s0 p0 None ∷ Want s0 1 ∷ [])) (stops_at 2) U8 (before2 one)
+pub breaks-WantCause : FirstBreak fast_threads smallest wanted_for_nothing (stops_at 2) 2 WantCause
+breaks-WantCause = break-behind fast_threads smallest (e0 ∷ e1 ∷ []) (at 2 (Take s0 p0 None ∷ Want s0 1 ∷ [])) (stops_at 2) WantCause (before2 one)
     (record {
       earlier = (
         record { number = refl; proc = omega arith; some = λ no. cc; opening = λ no. absurd (omega arith) },
@@ -249,8 +249,8 @@ breaks-U8 = break-behind fast_threads smallest (e0 ∷ e1 ∷ []) (at 2 (Take s0
       broken = λ h. let due : Want s0 1 ∷ [] ≡ [] = h.due (omega arith) in cc;
     })
 
-pub breaks-L1 : FirstBreak fast_threads smallest aimed_for_nothing (stops_at 2) 2 L1
-breaks-L1 = break-behind fast_threads smallest (e0 ∷ e1 ∷ []) (at 2 (Take s0 p0 None ∷ Aim p0 (Some s0) ∷ Line p0 ∷ [])) (stops_at 2) L1 (before2 one)
+pub breaks-SharesCovered : FirstBreak fast_threads smallest aimed_for_nothing (stops_at 2) 2 SharesCovered
+breaks-SharesCovered = break-behind fast_threads smallest (e0 ∷ e1 ∷ []) (at 2 (Take s0 p0 None ∷ Aim p0 (Some s0) ∷ Line p0 ∷ [])) (stops_at 2) SharesCovered (before2 one)
     (record {
       earlier = (
         record { number = refl; proc = omega arith; some = λ no. cc; opening = λ no. absurd (omega arith) },
@@ -283,8 +283,8 @@ breaks-L1 = break-behind fast_threads smallest (e0 ∷ e1 ∷ []) (at 2 (Take s0
       broken = λ h. let due = ap length h.due in omega (arith, due);
     })
 
-pub breaks-L2 : FirstBreak fast_threads smallest idle_with_lock (stops_at 3) 3 L2
-breaks-L2 = break-behind fast_threads smallest (e0 ∷ e1 ∷ e2 ∷ []) (at 3 (Idle ∷ [])) (stops_at 3) L2 (before3 one)
+pub breaks-DemandSaid : FirstBreak fast_threads smallest idle_with_lock (stops_at 3) 3 DemandSaid
+breaks-DemandSaid = break-behind fast_threads smallest (e0 ∷ e1 ∷ e2 ∷ []) (at 3 (Idle ∷ [])) (stops_at 3) DemandSaid (before3 one)
     (record {
       earlier = (
         record { number = refl; proc = omega arith; some = λ no. cc; opening = λ no. absurd (omega arith) },
@@ -323,8 +323,8 @@ breaks-L2 = break-behind fast_threads smallest (e0 ∷ e1 ∷ e2 ∷ []) (at 3 (
       ];
     })
 
-pub breaks-L3 : FirstBreak fast_threads smallest idle_beside_thread (stops_at 2) 2 L3
-breaks-L3 = break-behind fast_threads smallest (e0 ∷ e1 ∷ []) (at 2 (Idle ∷ [])) (stops_at 2) L3 (before2 one)
+pub breaks-TurnsAndSteps : FirstBreak fast_threads smallest idle_beside_thread (stops_at 2) 2 TurnsAndSteps
+breaks-TurnsAndSteps = break-behind fast_threads smallest (e0 ∷ e1 ∷ []) (at 2 (Idle ∷ [])) (stops_at 2) TurnsAndSteps (before2 one)
     (record {
       earlier = (
         record { number = refl; proc = omega arith; some = λ no. cc; opening = λ no. absurd (omega arith) },
@@ -363,8 +363,8 @@ breaks-L3 = break-behind fast_threads smallest (e0 ∷ e1 ∷ []) (at 2 (Idle �
       broken = λ h. unlocked2 one (at 2 (Idle ∷ [])) ((h.turn (omega arith)).1.finds.none.locked p0 refl);
     })
 
-pub breaks-L4 : FirstBreak fast_threads smallest freed_unused (stops_at 3) 3 L4
-breaks-L4 = break-behind fast_threads smallest (e0 ∷ e1 ∷ e2 ∷ []) (at 3 (Free s0 p0 None ∷ [])) (stops_at 3) L4 (before3 one)
+pub breaks-ListLocks : FirstBreak fast_threads smallest freed_unused (stops_at 3) 3 ListLocks
+breaks-ListLocks = break-behind fast_threads smallest (e0 ∷ e1 ∷ e2 ∷ []) (at 3 (Free s0 p0 None ∷ [])) (stops_at 3) ListLocks (before3 one)
     (record {
       earlier = (
         record { number = refl; proc = omega arith; some = λ no. cc; opening = λ no. absurd (omega arith) },
@@ -406,6 +406,6 @@ breaks-L4 = break-behind fast_threads smallest (e0 ∷ e1 ∷ e2 ∷ []) (at 3 (
       broken = λ h. let used = (h.step (omega arith)).0.keeps.used in cc;
     })
 
-pub breaks-D12 : FirstBreak fast_threads smallest not_done told_done 4 D12
-breaks-D12 = break-behind fast_threads smallest (e0 ∷ e1 ∷ e2 ∷ e3 ∷ []) e4 told_done D12 (before4 one)
+pub breaks-EndTold : FirstBreak fast_threads smallest not_done told_done 4 EndTold
+breaks-EndTold = break-behind fast_threads smallest (e0 ∷ e1 ∷ e2 ∷ e3 ∷ []) e4 told_done EndTold (before4 one)
     (record { earlier = lawful4 one; broken = λ h. let done = h.1 in cc })

@@ -6,7 +6,7 @@ use Rattle.std.proofs.lemmas.Option.{none-some, same_Some, slice_get_within}
 use Rattle.sa_instr.specs.Workload.{WorkloadView}
 use Rattle.sa_base.specs.declared.record.Item.{Item}
 use Rattle.sa_laws.specs.declared.rule.Rule.{Rule}
-use Rattle.sa_laws.specs.declared.rule.Rule.TheVariants.{D11, D6, U1, U2, U3, U4, U5, U6, U7, U8, L1, L2, L3, L4, L5, D12}
+use Rattle.sa_laws.specs.declared.rule.Rule.TheVariants.{Numbering, StepTaken, AtMostOnce, InTime, WhereOwned, AllTold, BlockUpcall, InterruptNext, LineCause, WantCause, SharesCovered, DemandSaid, TurnsAndSteps, ListLocks, ListOrder, EndTold}
 use Rattle.sa_laws.specs.Event.{Event, events_of}
 use Rattle.sa_laws.specs.Readings.{Readings}
 use Rattle.sa_laws.specs.Ends.{LastLine}
@@ -14,58 +14,58 @@ use Rattle.sa_laws.specs.Rules.{UserRules, Holds, HoldEach, Breaks, rules, rules
 use Rattle.sa_legal.specs.Legal.{before, BreaksAt, FirstBreak, FirstBreakIn, IsRight, HoldsBefore, line_at}
 
 abbrev rank : Rule → ℕ
-rank D11 = 0
-rank D6 = 1
-rank U1 = 2
-rank U2 = 3
-rank U3 = 4
-rank U4 = 5
-rank U5 = 6
-rank U6 = 7
-rank U7 = 8
-rank U8 = 9
-rank L1 = 10
-rank L2 = 11
-rank L3 = 12
-rank L4 = 13
-rank L5 = 14
-rank D12 = 15
+rank Numbering = 0
+rank StepTaken = 1
+rank AtMostOnce = 2
+rank InTime = 3
+rank WhereOwned = 4
+rank AllTold = 5
+rank BlockUpcall = 6
+rank InterruptNext = 7
+rank LineCause = 8
+rank WantCause = 9
+rank SharesCovered = 10
+rank DemandSaid = 11
+rank TurnsAndSteps = 12
+rank ListLocks = 13
+rank ListOrder = 14
+rank EndTold = 15
 
 at-rank : (rule : Rule) → slice_get rules (rank rule) ≡ Some rule
-at-rank D11 = refl
-at-rank D6 = refl
-at-rank U1 = refl
-at-rank U2 = refl
-at-rank U3 = refl
-at-rank U4 = refl
-at-rank U5 = refl
-at-rank U6 = refl
-at-rank U7 = refl
-at-rank U8 = refl
-at-rank L1 = refl
-at-rank L2 = refl
-at-rank L3 = refl
-at-rank L4 = refl
-at-rank L5 = refl
-at-rank D12 = refl
+at-rank Numbering = refl
+at-rank StepTaken = refl
+at-rank AtMostOnce = refl
+at-rank InTime = refl
+at-rank WhereOwned = refl
+at-rank AllTold = refl
+at-rank BlockUpcall = refl
+at-rank InterruptNext = refl
+at-rank LineCause = refl
+at-rank WantCause = refl
+at-rank SharesCovered = refl
+at-rank DemandSaid = refl
+at-rank TurnsAndSteps = refl
+at-rank ListLocks = refl
+at-rank ListOrder = refl
+at-rank EndTold = refl
 
 before-rank : (rule : Rule) → rules_before rule ≡ take (rank rule) rules
-before-rank D11 = refl
-before-rank D6 = refl
-before-rank U1 = refl
-before-rank U2 = refl
-before-rank U3 = refl
-before-rank U4 = refl
-before-rank U5 = refl
-before-rank U6 = refl
-before-rank U7 = refl
-before-rank U8 = refl
-before-rank L1 = refl
-before-rank L2 = refl
-before-rank L3 = refl
-before-rank L4 = refl
-before-rank L5 = refl
-before-rank D12 = refl
+before-rank Numbering = refl
+before-rank StepTaken = refl
+before-rank AtMostOnce = refl
+before-rank InTime = refl
+before-rank WhereOwned = refl
+before-rank AllTold = refl
+before-rank BlockUpcall = refl
+before-rank InterruptNext = refl
+before-rank LineCause = refl
+before-rank WantCause = refl
+before-rank SharesCovered = refl
+before-rank DemandSaid = refl
+before-rank TurnsAndSteps = refl
+before-rank ListLocks = refl
+before-rank ListOrder = refl
+before-rank EndTold = refl
 
 -- one of rules that all hold
 holds-one : (u : UserRules) (w : WorkloadView) (list : List Rule) (r : Readings) (e : Event) (last : Option LastLine) (k : ℕ) (rule : Rule)

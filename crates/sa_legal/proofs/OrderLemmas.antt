@@ -6,7 +6,7 @@ use Rattle.sa_base.specs.declared.number.SpaceNo.{SpaceNo}
 use Rattle.sa_base.specs.declared.number.ThreadNo.{ThreadNo}
 use Rattle.sa_base.specs.declared.record.Record.TheVariants.{Ins, Run, Ready, Take, Free}
 use Rattle.sa_instr.specs.declared.instr.Instr.{Instr}
-use Rattle.sa_laws.specs.declared.rule.Rule.TheVariants.{L5}
+use Rattle.sa_laws.specs.declared.rule.Rule.TheVariants.{ListOrder}
 use Rattle.sa_laws.specs.Event.{Event}
 use Rattle.sa_laws.specs.Life.{Life, Lock}
 use Rattle.sa_laws.specs.Readings.{Readings, IsLocked}
@@ -637,8 +637,8 @@ right14 = with-end fast_threads forking q14 f14 None lawful14 (goes-on q15 refl 
 all-right : AreRight fast_threads forking (r0 g) forking_run
 all-right = (right0 g, (right1 g, (right2 g, (right3 g, (right4 g, (right5, (right6, (right7, (right8, (right9, (right10, (right11, (right12, (right13, (right14, tt)))))))))))))))
 
-pub breaks-L5 : FirstBreak fast_threads forking older_taken (stops_at 15) 15 L5
-breaks-L5 = break-behind fast_threads forking forking_run (at 15 (Run s0 t1 ∷ [])) (stops_at 15) L5 all-right
+pub breaks-ListOrder : FirstBreak fast_threads forking older_taken (stops_at 15) 15 ListOrder
+breaks-ListOrder = break-behind fast_threads forking forking_run (at 15 (Run s0 t1 ∷ [])) (stops_at 15) ListOrder all-right
     (record {
       earlier = (
         record { number = refl; proc = omega arith; some = λ no. cc; opening = λ no. absurd (omega arith) },

@@ -1,5 +1,5 @@
 //! Short histories. No function here does anything: its clauses are proved.
-ghost use Rattle.sa_laws.specs.declared.rule.Rule.TheVariants.{D11, D6, U1, U2, U3, U4, U5, U6, U7, U8, L1, L2, L3, L4, L5, D12};
+ghost use Rattle.sa_laws.specs.declared.rule.Rule.TheVariants.{Numbering, StepTaken, AtMostOnce, InTime, WhereOwned, AllTold, BlockUpcall, InterruptNext, LineCause, WantCause, SharesCovered, DemandSaid, TurnsAndSteps, ListLocks, ListOrder, EndTold};
 ghost use Rattle.sa_laws.specs.Rules.{fast_threads};
 ghost use Rattle.sa_legal.specs.Legal.{IsLegal, FirstBreak};
 ghost use Rattle.sa_legal.specs.Examples.{smallest, smallest_trace, blocking, stops_at, told_done, other_opening, other_place, told_of_nothing, stopped_untold, two_lives, not_told_added, other_io, interrupt_put_off, raised_for_nothing, wanted_for_nothing, aimed_for_nothing, idle_with_lock, idle_beside_thread, freed_unused, not_done, forking, older_taken};
@@ -11,20 +11,20 @@ pub fn smallest_run_is_legal()
 
 /// For each rule a history that breaks it first.
 pub fn rules_can_be_broken()
-    ensures opening { FirstBreak fast_threads smallest other_opening (stops_at 0) 0 D11 }
-    ensures step { FirstBreak fast_threads smallest other_place (stops_at 5) 5 D6 }
-    ensures once { FirstBreak fast_threads smallest told_of_nothing (stops_at 1) 1 U1 }
-    ensures in_time { FirstBreak fast_threads smallest stopped_untold (stops_at 5) 5 U2 }
-    ensures owned { FirstBreak fast_threads smallest two_lives (stops_at 2) 2 U3 }
-    ensures all { FirstBreak fast_threads smallest not_told_added (stops_at 1) 1 U4 }
-    ensures block { FirstBreak fast_threads blocking other_io (stops_at 5) 5 U5 }
-    ensures interrupt { FirstBreak fast_threads smallest interrupt_put_off (stops_at 1) 1 U6 }
-    ensures line { FirstBreak fast_threads smallest raised_for_nothing (stops_at 2) 2 U7 }
-    ensures want { FirstBreak fast_threads smallest wanted_for_nothing (stops_at 2) 2 U8 }
-    ensures aims { FirstBreak fast_threads smallest aimed_for_nothing (stops_at 2) 2 L1 }
-    ensures demand { FirstBreak fast_threads smallest idle_with_lock (stops_at 3) 3 L2 }
-    ensures turn { FirstBreak fast_threads smallest idle_beside_thread (stops_at 2) 2 L3 }
-    ensures locks { FirstBreak fast_threads smallest freed_unused (stops_at 3) 3 L4 }
-    ensures order { FirstBreak fast_threads forking older_taken (stops_at 15) 15 L5 }
-    ensures end { FirstBreak fast_threads smallest not_done told_done 4 D12 }
+    ensures opening { FirstBreak fast_threads smallest other_opening (stops_at 0) 0 Numbering }
+    ensures step { FirstBreak fast_threads smallest other_place (stops_at 5) 5 StepTaken }
+    ensures once { FirstBreak fast_threads smallest told_of_nothing (stops_at 1) 1 AtMostOnce }
+    ensures in_time { FirstBreak fast_threads smallest stopped_untold (stops_at 5) 5 InTime }
+    ensures owned { FirstBreak fast_threads smallest two_lives (stops_at 2) 2 WhereOwned }
+    ensures all { FirstBreak fast_threads smallest not_told_added (stops_at 1) 1 AllTold }
+    ensures block { FirstBreak fast_threads blocking other_io (stops_at 5) 5 BlockUpcall }
+    ensures interrupt { FirstBreak fast_threads smallest interrupt_put_off (stops_at 1) 1 InterruptNext }
+    ensures line { FirstBreak fast_threads smallest raised_for_nothing (stops_at 2) 2 LineCause }
+    ensures want { FirstBreak fast_threads smallest wanted_for_nothing (stops_at 2) 2 WantCause }
+    ensures aims { FirstBreak fast_threads smallest aimed_for_nothing (stops_at 2) 2 SharesCovered }
+    ensures demand { FirstBreak fast_threads smallest idle_with_lock (stops_at 3) 3 DemandSaid }
+    ensures turn { FirstBreak fast_threads smallest idle_beside_thread (stops_at 2) 2 TurnsAndSteps }
+    ensures locks { FirstBreak fast_threads smallest freed_unused (stops_at 3) 3 ListLocks }
+    ensures order { FirstBreak fast_threads forking older_taken (stops_at 15) 15 ListOrder }
+    ensures end { FirstBreak fast_threads smallest not_done told_done 4 EndTold }
 {}

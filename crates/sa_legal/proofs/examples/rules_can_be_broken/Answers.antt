@@ -1,51 +1,51 @@
-use Rattle.sa_legal.proofs.BreakLemmas.{breaks-D11, breaks-D6, breaks-U1, breaks-U2, breaks-U3, breaks-U4, breaks-U5, breaks-U6, breaks-U7, breaks-U8, breaks-L1, breaks-L2, breaks-L3, breaks-L4, breaks-D12}
-use Rattle.sa_legal.proofs.OrderLemmas.{breaks-L5}
+use Rattle.sa_legal.proofs.BreakLemmas.{breaks-Numbering, breaks-StepTaken, breaks-AtMostOnce, breaks-InTime, breaks-WhereOwned, breaks-AllTold, breaks-BlockUpcall, breaks-InterruptNext, breaks-LineCause, breaks-WantCause, breaks-SharesCovered, breaks-DemandSaid, breaks-TurnsAndSteps, breaks-ListLocks, breaks-EndTold}
+use Rattle.sa_legal.proofs.OrderLemmas.{breaks-ListOrder}
 use Rattle.sa_legal.proofs.examples.rules_can_be_broken.Goals as goal
 
 pub returns-clause-opening : goal.returns-clause-opening
-returns-clause-opening c = breaks-D11
+returns-clause-opening c = breaks-Numbering
 
 pub returns-clause-step : goal.returns-clause-step
-returns-clause-step c = breaks-D6
+returns-clause-step c = breaks-StepTaken
 
 pub returns-clause-once : goal.returns-clause-once
-returns-clause-once c = breaks-U1
+returns-clause-once c = breaks-AtMostOnce
 
 pub returns-clause-in_time : goal.returns-clause-in_time
-returns-clause-in_time c = breaks-U2
+returns-clause-in_time c = breaks-InTime
 
 pub returns-clause-owned : goal.returns-clause-owned
-returns-clause-owned c = breaks-U3
+returns-clause-owned c = breaks-WhereOwned
 
 pub returns-clause-all : goal.returns-clause-all
-returns-clause-all c = breaks-U4
+returns-clause-all c = breaks-AllTold
 
 pub returns-clause-block : goal.returns-clause-block
-returns-clause-block c = breaks-U5
+returns-clause-block c = breaks-BlockUpcall
 
 pub returns-clause-interrupt : goal.returns-clause-interrupt
-returns-clause-interrupt c = breaks-U6
+returns-clause-interrupt c = breaks-InterruptNext
 
 pub returns-clause-line : goal.returns-clause-line
-returns-clause-line c = breaks-U7
+returns-clause-line c = breaks-LineCause
 
 pub returns-clause-want : goal.returns-clause-want
-returns-clause-want c = breaks-U8
+returns-clause-want c = breaks-WantCause
 
 pub returns-clause-aims : goal.returns-clause-aims
-returns-clause-aims c = breaks-L1
+returns-clause-aims c = breaks-SharesCovered
 
 pub returns-clause-demand : goal.returns-clause-demand
-returns-clause-demand c = breaks-L2
+returns-clause-demand c = breaks-DemandSaid
 
 pub returns-clause-turn : goal.returns-clause-turn
-returns-clause-turn c = breaks-L3
+returns-clause-turn c = breaks-TurnsAndSteps
 
 pub returns-clause-locks : goal.returns-clause-locks
-returns-clause-locks c = breaks-L4
+returns-clause-locks c = breaks-ListLocks
 
 pub returns-clause-end : goal.returns-clause-end
-returns-clause-end c = breaks-D12
+returns-clause-end c = breaks-EndTold
 
 pub returns-clause-order : goal.returns-clause-order
-returns-clause-order c = breaks-L5
+returns-clause-order c = breaks-ListOrder
