@@ -56,7 +56,10 @@ fn run_named<K: Named + Send + Sync, R: Threads + Wait + Abort + Sync>(
     for watcher in watchers.iter_mut() {
         assert!(rt; watcher.is_right(None), "a wrong value or count");
         assert!(rt; watcher.turns() == TURNS);
-        assert!(rt; board.agrees(rt, watcher), "not the line that was stored last");
+        assert!(rt;
+            board.agrees(rt, watcher),
+            "not the line that was stored last"
+        );
         board.finish(rt, watcher);
         assert!(rt; watcher.is_right(Some(End::AllDone)), "a wrong end");
         turns = turns.saturating_add(watcher.turns());
