@@ -2,27 +2,18 @@
 #![tactic(auto)]
 
 mod context;
-mod field;
-mod from_parts;
-mod kind;
-pub mod laws;
 mod limits;
 mod number;
-mod parts;
 mod record;
 mod refusal;
 mod trace;
 
 pub use context::{Seen, Stopped};
-pub use field::{Field, FieldRange};
-pub use kind::{Form, KINDS, Kind};
 pub use limits::{
     BULK_RETURN, DEFAULT_BUDGET, DEFAULT_BURST, FIRST_THREAD_PAGE, MAX_BURST, MAX_EVENTS,
-    MAX_FIELDS, MAX_PROCESSORS, MAX_SPACES, MAX_THREADS, PACKAGE_PAGE, PAGES, RECORD_KINDS,
-    UPCALL_PAGE,
+    MAX_PROCESSORS, MAX_SPACES, MAX_THREADS, PACKAGE_PAGE, PAGES, UPCALL_PAGE,
 };
 pub use number::{ActNo, IoNo, ProcNo, SpaceNo, ThreadNo};
-pub use parts::Parts;
 pub use record::{End, Item, Note, Record};
 pub use refusal::{Bad, Cause, Unread};
 pub use trace::Trace;

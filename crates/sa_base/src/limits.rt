@@ -35,9 +35,3 @@ pub const DEFAULT_BURST: u16 = 16;
 
 /// The taken activations of a space at which they are given back in bulk (SOSP 1991, section 4.3).
 pub const BULK_RETURN: u32 = 8;
-
-/// How many kinds of records there are; their numbers begin at 1.
-pub const RECORD_KINDS: usize = 23;
-
-/// The most fields of a record.
-pub const MAX_FIELDS: usize = 4;

@@ -6,7 +6,7 @@ use Rattle.std.proofs.lemmas.Bool.Decides.{eqb_tells, leb_tells}
 use Rattle.std.proofs.lemmas.List.Sums.{count_by-le-length}
 use Rattle.std.proofs.lemmas.Option.{same_Some}
 use Rattle.std.proofs.lemmas.List.Elements.{All-nil, All-cons, All-map}
-use Rattle.sa_base.specs.declared.limits.TheConstants.{RECORD_KINDS}
+use Rattle.sa_fields.specs.declared.kind.TheConstants.{RECORD_KINDS}
 use Rattle.sa_base.specs.declared.record.End.{End}
 use Rattle.sa_base.specs.declared.record.End.TheVariants.{AllDone}
 use Rattle.sa_base.specs.declared.record.Item.{Item}

@@ -12,7 +12,7 @@ use Rattle.sa_base.specs.declared.record.Item.{Item}
 use Rattle.sa_base.specs.declared.record.Record.{Record}
 use Rattle.sa_base.specs.declared.refusal.Cause.{Cause}
 use Rattle.sa_base.specs.declared.refusal.Cause.TheVariants.{BadWord}
-use Rattle.sa_base.specs.Parts.{parts_of, FitTheKind}
+use Rattle.sa_fields.specs.Parts.{parts_of, FitTheKind}
 use Rattle.sa_text.specs.Pieces.{LacksSpace}
 use Rattle.sa_text.proofs.Spelling.{decimal-is_spelling}
 use Rattle.sa_trace.specs.TraceText.{counts_of, end_word}

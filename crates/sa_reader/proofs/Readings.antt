@@ -7,11 +7,11 @@ use Rattle.std.proofs.lemmas.Bool.{false≢true, ltb-true, leb-true, le-leb}
 use Rattle.std.proofs.lemmas.Slice.Eq.{bytes_eq-Decides}
 use Rattle.std.proofs.lemmas.Option.{same_Some}
 use Rattle.std.proofs.lemmas.List.Elements.{All-nil, All-cons, All-head, All-tail}
-use Rattle.sa_base.specs.declared.field.Field.{Field}
-use Rattle.sa_base.specs.declared.field.Field.TheVariants.{Space, OptionalSpace, Thread, OptionalThread, Processor, Activation, Io, Place, Value, Demand}
+use Rattle.sa_fields.specs.declared.field.Field.{Field}
+use Rattle.sa_fields.specs.declared.field.Field.TheVariants.{Space, OptionalSpace, Thread, OptionalThread, Processor, Activation, Io, Place, Value, Demand}
 use Rattle.sa_base.specs.declared.refusal.Cause.{Cause}
 use Rattle.sa_base.specs.declared.refusal.Cause.TheVariants.{BadNumber, OutOfRange}
-use Rattle.sa_base.specs.Field.{range_of, Fits, AllFit}
+use Rattle.sa_fields.specs.Field.{range_of, Fits, AllFit}
 use Rattle.sa_reader.specs.Pieces.{and_then, or_cause, number_of, within, number_in, field_in, fields_in, wrong_or, wrong_count}
 use Rattle.sa_text.proofs.Spelling.{decimal-lacks}
 use Rattle.sa_reader.proofs.Spelling.{reads_number}

@@ -6,14 +6,14 @@ use Rattle.std.proofs.lemmas.Bool.{false≢true}
 use Rattle.std.proofs.lemmas.Slice.Eq.{bytes_eq-Decides}
 use Rattle.std.proofs.lemmas.Option.{same_Some}
 use Rattle.std.proofs.lemmas.List.Elements.{All-head}
-use Rattle.sa_base.specs.declared.kind.Kind.{Kind}
-use Rattle.sa_base.specs.declared.kind.Kind.TheVariants.{Ins, Out, Run, Stop, Block, Unblock, Cont, Back, Ready, Take, Free, Up, ToldAdd, ToldPreempted, ToldBlocked, ToldUnblocked, Move, Want, Aim, Line, Fetch, Fetched, GiveBack, Idle, Spin, Tick}
-use Rattle.sa_base.specs.declared.kind.TheConstants.{KINDS}
+use Rattle.sa_fields.specs.declared.kind.Kind.{Kind}
+use Rattle.sa_fields.specs.declared.kind.Kind.TheVariants.{Ins, Out, Run, Stop, Block, Unblock, Cont, Back, Ready, Take, Free, Up, ToldAdd, ToldPreempted, ToldBlocked, ToldUnblocked, Move, Want, Aim, Line, Fetch, Fetched, GiveBack, Idle, Spin, Tick}
+use Rattle.sa_fields.specs.declared.kind.TheConstants.{KINDS}
 use Rattle.sa_base.specs.declared.record.Record.{Record}
 use Rattle.sa_base.specs.declared.refusal.Cause.TheVariants.{OutOfRange}
-use Rattle.sa_base.specs.Kind.{form_of}
-use Rattle.sa_base.specs.Parts.{parts_of, record_of, FitTheKind}
-use Rattle.sa_base.proofs.PartsLemmas.{remade, parts-back}
+use Rattle.sa_fields.specs.Kind.{form_of}
+use Rattle.sa_fields.specs.Parts.{parts_of, record_of, FitTheKind}
+use Rattle.sa_fields.proofs.PartsLemmas.{remade, parts-back}
 use Rattle.sa_text.specs.Pieces.{pieces_of, LacksSpace}
 use Rattle.sa_text.proofs.PieceLemmas.{pieces_of-one}
 use Rattle.sa_reader.specs.Pieces.{and_then, or_cause, fields_in, has_word, has_note, known, note_at, kind_at}

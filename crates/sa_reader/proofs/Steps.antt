@@ -1,8 +1,8 @@
 -- One field, one count: the first of those that are left.
 use Rattle.std.proofs.Common.{◌≡◌, ℕ, ◌+◌, ◌<◌, List, [], ◌∷◌, ◌++◌, length, get_or, drop, Option, Some, Result, Ok, Err, refl, sym, ap, ◌∙◌, append_assoc}
 use Rattle.std.proofs.lemmas.List.{drop_more}
-use Rattle.sa_base.specs.declared.field.Field.{Field}
-use Rattle.sa_base.specs.declared.field.Field.TheVariants.{Space}
+use Rattle.sa_fields.specs.declared.field.Field.{Field}
+use Rattle.sa_fields.specs.declared.field.Field.TheVariants.{Space}
 use Rattle.sa_base.specs.declared.refusal.Cause.{Cause}
 use Rattle.sa_base.specs.declared.refusal.Cause.TheVariants.{Missing}
 use Rattle.sa_reader.specs.Pieces.{and_then, number_in, field_in, fields_in, wrong_or, wrong_count}

@@ -2,14 +2,14 @@
 use Rattle.std.specs.Prelude.{ℕ, Bool, ◌-◌, ◌^◌, ◌==◌, ◌&&◌, List, [], ◌∷◌, length, slice_get, codes, Option, Some, None, Result, Ok, Err, nat_le, if◌then◌else◌}
 use Rattle.std.specs.List.{list_all}
 use Rattle.std.specs.Str.{bytes_eq}
-use Rattle.sa_base.specs.declared.kind.Kind.{Kind}
+use Rattle.sa_fields.specs.declared.kind.Kind.{Kind}
 use Rattle.sa_base.specs.declared.record.End.{End}
 use Rattle.sa_base.specs.declared.record.Item.{Item}
 use Rattle.sa_base.specs.declared.record.Record.{Record}
 use Rattle.sa_base.specs.declared.refusal.Cause.{Cause}
 use Rattle.sa_base.specs.declared.refusal.Cause.TheVariants.{NotAscii, OutOfRange, Missing}
-use Rattle.sa_base.specs.Kind.{form_of}
-use Rattle.sa_base.specs.Parts.{record_of}
+use Rattle.sa_fields.specs.Kind.{form_of}
+use Rattle.sa_fields.specs.Parts.{record_of}
 use Rattle.sa_text.specs.LineText.{LineText}
 use Rattle.sa_text.specs.Pieces.{pieces_of}
 use Rattle.sa_trace.specs.TraceText.{counts_of}

@@ -2,15 +2,15 @@
 use Rattle.std.specs.Prelude.{ℕ, Bool, ◌^◌, ◌&&◌, List, [], ◌∷◌, take, drop, find, decimal, codes, Option, Some, None, Result, Ok, Err, nat_lt, nat_le, if◌then◌else◌}
 use Rattle.std.specs.Str.{bytes_eq}
 use Rattle.std.specs.Str.Parse.{digits_value}
-use Rattle.sa_base.specs.declared.field.Field.{Field}
-use Rattle.sa_base.specs.declared.kind.Kind.{Kind}
-use Rattle.sa_base.specs.declared.kind.TheConstants.{KINDS}
+use Rattle.sa_fields.specs.declared.field.Field.{Field}
+use Rattle.sa_fields.specs.declared.kind.Kind.{Kind}
+use Rattle.sa_fields.specs.declared.kind.TheConstants.{KINDS}
 use Rattle.sa_base.specs.declared.record.End.{End}
 use Rattle.sa_base.specs.declared.record.End.TheVariants.{AllDone, Stuck, Budget}
 use Rattle.sa_base.specs.declared.refusal.Cause.{Cause}
 use Rattle.sa_base.specs.declared.refusal.Cause.TheVariants.{BadWord, BadNumber, OutOfRange, Missing}
-use Rattle.sa_base.specs.Field.{range_of}
-use Rattle.sa_base.specs.Kind.{form_of}
+use Rattle.sa_fields.specs.Field.{range_of}
+use Rattle.sa_fields.specs.Kind.{form_of}
 use Rattle.sa_trace.specs.TraceText.{end_word}
 
 -- what is made of a value; a cause stays

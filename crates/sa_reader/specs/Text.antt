@@ -1,7 +1,7 @@
 -- The texts that are accepted: the trace texts of items in order, which fit their types.
 use Rattle.std.specs.Prelude.{◌≡◌, ℕ, ◌^◌, ◌<◌, ◌≤◌, List, [], ◌∷◌, All, Option, Some, None}
 use Rattle.sa_base.specs.declared.record.Item.{Item}
-use Rattle.sa_base.specs.Parts.{FitTheKind, parts_of}
+use Rattle.sa_fields.specs.Parts.{FitTheKind, parts_of}
 use Rattle.sa_trace.specs.TraceText.{counts_of, trace_text}
 use Rattle.sa_reader.specs.Line.{last_of, least_event}
 use Rattle.sa_reader.specs.Reading.{Told}

@@ -7,6 +7,7 @@ ghost use Rattle.sa_reader.specs.Line.{last_of, least_event, processor_in, recor
 use crate::pieces::{check_counts, read_end, read_fields, read_kind, read_within};
 use crate::words::Words;
 use sa_base::{Cause, End, Item, ProcNo, Record};
+use sa_fields::record_with;
 use sa_text::Line;
 use sa_trace::kind_counts;
 
@@ -122,7 +123,7 @@ fn read_record(words: &mut Words) -> Result<Record, Cause>
 {
     let kind = read_kind(words)?;
     let fields = read_fields(kind.form().fields, words)?;
-    Record::from_parts(kind, fields.as_slice()).ok_or(Cause::OutOfRange)
+    record_with(kind, fields.as_slice()).ok_or(Cause::OutOfRange)
 }
 
 // What stands behind the word `end`: how the run ended, the number of events, and the counts.

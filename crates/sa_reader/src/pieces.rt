@@ -5,7 +5,8 @@ ghost use Rattle.sa_reader.specs.Pieces.{number_of, number_in, field_in, fields_
 
 use crate::words::Words;
 use arrayvec::ArrayVec;
-use sa_base::{Cause, End, Field, KINDS, Kind, MAX_FIELDS};
+use sa_base::{Cause, End};
+use sa_fields::{Field, KINDS, Kind, MAX_FIELDS};
 use sa_text::read_number;
 
 /// The fields of a record.

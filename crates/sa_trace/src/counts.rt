@@ -2,7 +2,8 @@
 ghost use Rattle.std.specs.Prelude.{◌≡◌, ◌+◌, ◌<◌};
 ghost use Rattle.sa_trace.specs.TraceText.{counts_of, kind_number};
 
-use sa_base::{Item, RECORD_KINDS, Record};
+use sa_base::{Item, Record};
+use sa_fields::{Parts, RECORD_KINDS};
 
 /// The counts of the kinds, in the order of their numbers.
 pub fn kind_counts(items: &[Item]) -> [u64; RECORD_KINDS]
@@ -20,5 +21,5 @@ fn place(what: &Record) -> usize
     ensures place { result + 1 ≡ kind_number what.now }
     ensures within { result < RECORD_KINDS }
 {
-    usize::from(what.parts().kind().form().number) - 1
+    usize::from(Parts::of(what).kind().form().number) - 1
 }

@@ -4,6 +4,7 @@ ghost use Rattle.std.specs.List.{flat_map};
 ghost use Rattle.sa_trace.specs.TraceText.{field, record_text};
 
 use sa_base::Record;
+use sa_fields::Parts;
 use sa_text::print_number;
 use std::alloc::AllocError;
 
@@ -34,7 +35,7 @@ fn push_fields(out: &mut Vec<u8>, values: &[Option<u64>]) -> Result<(), AllocErr
 pub fn push_record(out: &mut Vec<u8>, what: &Record) -> Result<(), AllocError>
     ensures { OnOk result (out.new.items ≡ out.old.items ++ record_text what.now) }
 {
-    let parts = what.parts();
+    let parts = Parts::of(what);
     out.extend_from_slice(parts.kind().form().word)?;
     push_fields(out, parts.fields())
 }

@@ -1,14 +1,12 @@
 // A record as its kind and its fields.
 ghost use Rattle.std.specs.Prelude.{◌≡◌, [], ◌∷◌, length};
-ghost use Rattle.sa_base.specs.Field.{Fits};
-ghost use Rattle.sa_base.specs.Kind.{form_of};
-ghost use Rattle.sa_base.specs.Parts.{parts, parts_of, FitTheKind, thread_number, space_number};
+ghost use Rattle.sa_fields.specs.Field.{Fits};
+ghost use Rattle.sa_fields.specs.Kind.{form_of};
+ghost use Rattle.sa_fields.specs.Parts.{parts, parts_of, FitTheKind, thread_number, space_number};
 
 use crate::field::Field;
-use crate::kind::Kind;
-use crate::limits::MAX_FIELDS;
-use crate::number::{ActNo, IoNo, ProcNo, SpaceNo, ThreadNo};
-use crate::record::{Note, Record};
+use crate::kind::{Kind, MAX_FIELDS};
+use sa_base::{ActNo, IoNo, Note, ProcNo, Record, SpaceNo, ThreadNo};
 use std::marker::Model;
 
 /// A record as its kind and its fields, of which each is a number or absent.
@@ -20,8 +18,8 @@ pub struct Parts {
 }
 
 impl Model for Parts {
-    ghost use Rattle.sa_base.specs.PartsFields.{parts_inside};
-    ghost use Rattle.sa_base.specs.Parts.{RecordParts};
+    ghost use Rattle.sa_fields.specs.PartsFields.{parts_inside};
+    ghost use Rattle.sa_fields.specs.Parts.{RecordParts};
 
     ghost Value = { RecordParts };
 
@@ -42,15 +40,13 @@ impl Parts {
     {
         &self.values[..self.kind.form().fields.len()]
     }
-}
 
-impl Record {
-    /// The record as its kind and its fields, which fit the kind.
-    pub fn parts(&self) -> Parts
-        ensures parts { result ≡ parts_of self.now }
+    /// A record as its kind and its fields, which fit the kind.
+    pub fn of(what: &Record) -> Parts
+        ensures parts { result ≡ parts_of what.now }
         ensures fit { FitTheKind result }
     {
-        match *self {
+        match *what {
             Record::Ins(s, t, i) => three(Kind::Ins, space(s), thread(t), Some(u64::from(i))),
             Record::Out(s, t, v) => three(Kind::Out, space(s), thread(t), Some(v)),
             Record::Run(s, t) => two(Kind::Run, space(s), thread(t)),

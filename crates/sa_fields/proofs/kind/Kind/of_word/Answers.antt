@@ -1,11 +1,11 @@
 use Rattle.std.proofs.Common.{ap, ◌∙◌, arith, below_more}
 use Rattle.std.proofs.lemmas.Bool.{false≢true}
 use Rattle.std.proofs.lemmas.List.{get_or_default}
-use Rattle.sa_base.specs.declared.kind.Kind.TheVariants.{Tick}
-use Rattle.sa_base.specs.declared.kind.TheConstants.{KINDS}
-use Rattle.sa_base.specs.Kind.{form_of}
-use Rattle.sa_base.proofs.KindLemmas.{place_of}
-use Rattle.sa_base.proofs.kind.Kind.of_word.Goals as goal
+use Rattle.sa_fields.specs.declared.kind.Kind.TheVariants.{Tick}
+use Rattle.sa_fields.specs.declared.kind.TheConstants.{KINDS}
+use Rattle.sa_fields.specs.Kind.{form_of}
+use Rattle.sa_fields.proofs.KindLemmas.{place_of}
+use Rattle.sa_fields.proofs.kind.Kind.of_word.Goals as goal
 
 pub loop-kind-preserved : goal.loop-kind-preserved
 loop-kind-preserved c = below_more _ _ c.loop-kind.invariant (λ same.

@@ -6,14 +6,14 @@ use Rattle.sa_base.specs.declared.number.SpaceNo.{SpaceNo}
 use Rattle.sa_base.specs.declared.number.ThreadNo.{ThreadNo}
 use Rattle.sa_base.specs.declared.number.ActNo.{ActNo}
 use Rattle.sa_base.specs.declared.number.IoNo.{IoNo}
-use Rattle.sa_base.specs.declared.field.Field.TheVariants as Fields
-use Rattle.sa_base.specs.declared.kind.Kind.{Kind}
-use Rattle.sa_base.specs.declared.kind.Kind.TheVariants as Kinds
+use Rattle.sa_fields.specs.declared.field.Field.TheVariants as Fields
+use Rattle.sa_fields.specs.declared.kind.Kind.{Kind}
+use Rattle.sa_fields.specs.declared.kind.Kind.TheVariants as Kinds
 use Rattle.sa_base.specs.declared.record.Note.TheVariants.{Add, Preempted, Blocked, Unblocked}
 use Rattle.sa_base.specs.declared.record.Record.{Record}
 use Rattle.sa_base.specs.declared.record.Record.TheVariants.{Ins, Out, Run, Stop, Block, Unblock, Cont, Back, Ready, Take, Free, Up, Told, Move, Want, Aim, Line, Fetch, Fetched, GiveBack, Idle, Spin, Tick}
-use Rattle.sa_base.specs.Field.{AllFit, number_in, optional_in}
-use Rattle.sa_base.specs.Kind.{form_of}
+use Rattle.sa_fields.specs.Field.{AllFit, number_in, optional_in}
+use Rattle.sa_fields.specs.Kind.{form_of}
 
 -- a kind and its fields, each a number or absent
 pub record RecordParts : Type 0 where

@@ -4,17 +4,17 @@ use Rattle.std.proofs.lemmas.Bool.{false≢true}
 use Rattle.std.proofs.lemmas.Option.{same_Some}
 use Rattle.std.proofs.lemmas.Bool.Decides.{nat_tests}
 use Rattle.std.specs.Prelude.{◌==◌, ◌↔◌, if◌then◌else◌}
-use Rattle.sa_base.specs.declared.kind.Kind.{Kind}
-use Rattle.sa_base.specs.declared.kind.Kind.TheVariants as Kinds
-use Rattle.sa_base.specs.declared.field.Field.{Field}
+use Rattle.sa_fields.specs.declared.kind.Kind.{Kind}
+use Rattle.sa_fields.specs.declared.kind.Kind.TheVariants as Kinds
+use Rattle.sa_fields.specs.declared.field.Field.{Field}
 use Rattle.sa_base.specs.declared.record.Note.TheVariants.{Add, Preempted, Blocked, Unblocked}
 use Rattle.sa_base.specs.declared.record.Record.{Record}
 use Rattle.sa_base.specs.declared.record.Record.TheVariants.{Ins, Out, Run, Stop, Block, Unblock, Cont, Back, Ready, Take, Free, Up, Told, Move, Want, Aim, Line, Fetch, Fetched, GiveBack, Idle, Spin, Tick}
-use Rattle.sa_base.specs.Field.{AllFit}
-use Rattle.sa_base.specs.Kind.{form_of}
-use Rattle.sa_base.specs.Parts.{FitTheKind, parts, parts_of, field_at, from_two, from_three, from_four, record_from, record_of}
+use Rattle.sa_fields.specs.Field.{AllFit}
+use Rattle.sa_fields.specs.Kind.{form_of}
+use Rattle.sa_fields.specs.Parts.{FitTheKind, parts, parts_of, field_at, from_two, from_three, from_four, record_from, record_of}
 use Rattle.std.specs.Option.{option_map}
-use Rattle.sa_base.proofs.Coding.{Coded, IsReading, space, thread, processor, activation, io, optional_space, optional_thread, place, value, demand}
+use Rattle.sa_fields.proofs.Coding.{Coded, IsReading, space, thread, processor, activation, io, optional_space, optional_thread, place, value, demand}
 
 -- a record is made exactly where the fields fit, and then it has this kind and these fields
 abbrev pub IsMaking : List Field → Kind → List (Option ℕ) → Option Record → Type 0

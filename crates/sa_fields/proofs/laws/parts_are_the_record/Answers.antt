@@ -1,5 +1,5 @@
-use Rattle.sa_base.proofs.PartsLemmas.{remade, parts-back, fit-some}
-use Rattle.sa_base.proofs.laws.parts_are_the_record.Goals as goal
+use Rattle.sa_fields.proofs.PartsLemmas.{remade, parts-back, fit-some}
+use Rattle.sa_fields.proofs.laws.parts_are_the_record.Goals as goal
 
 pub returns-clause-made : goal.returns-clause-made
 returns-clause-made c = remade

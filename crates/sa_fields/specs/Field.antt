@@ -1,8 +1,8 @@
 -- What the fields of records hold: numbers, of which some may be absent.
 use Rattle.std.specs.Prelude.{ℕ, ◌^◌, ◌-◌, ◌≤◌, true, false, IsTrue, Option, Some, None, List, [], ◌∷◌, nat_le, if◌then◌else◌}
-use Rattle.sa_base.specs.declared.field.Field.{Field}
-use Rattle.sa_base.specs.declared.field.Field.TheVariants.{Space, OptionalSpace, Thread, OptionalThread, Processor, Activation, Io, Place, Value, Demand}
-use Rattle.sa_base.specs.declared.field.FieldRange.{FieldRange}
+use Rattle.sa_fields.specs.declared.field.Field.{Field}
+use Rattle.sa_fields.specs.declared.field.Field.TheVariants.{Space, OptionalSpace, Thread, OptionalThread, Processor, Activation, Io, Place, Value, Demand}
+use Rattle.sa_fields.specs.declared.field.FieldRange.{FieldRange}
 
 -- a number of so many bits
 abbrev pub bits : ℕ → FieldRange

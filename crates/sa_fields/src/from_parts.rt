@@ -1,26 +1,23 @@
 // The record of a kind and fields.
 ghost use Rattle.std.specs.Prelude.{◌≡◌, ◌≤◌, ◌↔◌, IsSome, IfSome};
 ghost use Rattle.std.specs.Option.{ForSome};
-ghost use Rattle.sa_base.specs.Field.{range_of, number_in, optional_in};
-ghost use Rattle.sa_base.specs.Parts.{parts, parts_of, FitTheKind, field_at, space_at, thread_at, processor_at, activation_at, io_at, optional_space_at, optional_thread_at, record_from, record_of};
+ghost use Rattle.sa_fields.specs.Field.{range_of, number_in, optional_in};
+ghost use Rattle.sa_fields.specs.Parts.{parts, parts_of, FitTheKind, field_at, space_at, thread_at, processor_at, activation_at, io_at, optional_space_at, optional_thread_at, record_from, record_of};
 
 use crate::field::Field;
 use crate::kind::Kind;
-use crate::number::{ActNo, IoNo, ProcNo, SpaceNo, ThreadNo};
-use crate::record::{Note, Record};
+use sa_base::{ActNo, IoNo, Note, ProcNo, Record, SpaceNo, ThreadNo};
 
-impl Record {
-    /// The record of this kind with these fields, or `None` exactly where they do not fit the kind.
-    pub fn from_parts(kind: Kind, fields: &[Option<u64>]) -> Option<Record>
-        ensures record { result ≡ record_of kind fields.now }
-        ensures fit { IsSome result ↔ FitTheKind (parts kind fields.now) }
-        ensures parts { IfSome result (λ made. parts_of made ≡ parts kind fields.now) }
-    {
-        if fields.len() != kind.form().fields.len() {
-            return None;
-        }
-        from_fields(kind, fields)
+/// The record of this kind with these fields, or `None` exactly where they do not fit the kind.
+pub fn record_with(kind: Kind, fields: &[Option<u64>]) -> Option<Record>
+    ensures record { result ≡ record_of kind fields.now }
+    ensures fit { IsSome result ↔ FitTheKind (parts kind fields.now) }
+    ensures parts { IfSome result (λ made. parts_of made ≡ parts kind fields.now) }
+{
+    if fields.len() != kind.form().fields.len() {
+        return None;
     }
+    from_fields(kind, fields)
 }
 
 // The record of a kind whose fields begin like these, if they are in their ranges.

@@ -1,6 +1,6 @@
 use Rattle.std.proofs.Common.{ap, arith, length}
-use Rattle.sa_base.proofs.PartsLemmas.{made-if}
-use Rattle.sa_base.proofs.record.Record.from_parts.Goals as goal
+use Rattle.sa_fields.proofs.PartsLemmas.{made-if}
+use Rattle.sa_fields.proofs.from_parts.record_with.Goals as goal
 
 pub returns-clause-fit : goal.returns-clause-fit
 returns-clause-fit c =

@@ -1,8 +1,8 @@
 use Rattle.std.proofs.Common.{◌≢◌, ℕ, ◌<◌, get_or}
-use Rattle.sa_base.specs.declared.kind.Kind.TheVariants.{Tick}
-use Rattle.sa_base.specs.declared.kind.TheConstants.{KINDS}
-use Rattle.sa_base.specs.Kind.{form_of}
-use Rattle.sa_base.proofs.kind.Kind.of_word.Given as goal
+use Rattle.sa_fields.specs.declared.kind.Kind.TheVariants.{Tick}
+use Rattle.sa_fields.specs.declared.kind.TheConstants.{KINDS}
+use Rattle.sa_fields.specs.Kind.{form_of}
+use Rattle.sa_fields.proofs.kind.Kind.of_word.Given as goal
 
 -- none of so many kinds has the word
 abbrev pub invariant-loop-kind : goal.invariant-loop-kind

@@ -1,6 +1,6 @@
 // The fields of records.
 ghost use Rattle.std.specs.Prelude.{◌≡◌, ◌↔◌, IsTrue};
-ghost use Rattle.sa_base.specs.Field.{range_of, Fits};
+ghost use Rattle.sa_fields.specs.Field.{range_of, Fits};
 
 /// What a field of a record is. An `Optional` one may be absent, which the trace text writes as `-`.
 #[derive(Clone, Copy, Debug, PartialEq, Eq)]

@@ -1,9 +1,9 @@
 -- A record and its parts undo each other.
 use Rattle.std.specs.Prelude.{◌≡◌, ◌↔◌, ℕ, Option, Some, List, IsSome}
-use Rattle.sa_base.specs.declared.kind.Kind.{Kind}
+use Rattle.sa_fields.specs.declared.kind.Kind.{Kind}
 use Rattle.sa_base.specs.declared.record.Record.{Record}
-use Rattle.sa_base.specs.Kind.{form_of}
-use Rattle.sa_base.specs.Parts.{FitTheKind, parts, parts_of, record_of}
+use Rattle.sa_fields.specs.Kind.{form_of}
+use Rattle.sa_fields.specs.Parts.{FitTheKind, parts, parts_of, record_of}
 
 -- the kind and the fields of a record whose numbers are in their ranges make the record
 abbrev pub PartsMakeTheRecord : Type 0

@@ -1,9 +1,14 @@
 // The kinds of records.
 ghost use Rattle.std.specs.Prelude.{◌≡◌, ◌≤◌, ◌↔◌, length, IsTrue, IfSome, IfNone};
-ghost use Rattle.sa_base.specs.Kind.{form_of, IsNoWord};
+ghost use Rattle.sa_fields.specs.Kind.{form_of, IsNoWord};
 
 use crate::field::Field;
-use crate::limits::{MAX_FIELDS, RECORD_KINDS};
+
+/// How many kinds of records there are; their numbers begin at 1.
+pub const RECORD_KINDS: usize = 23;
+
+/// The most fields of a record.
+pub const MAX_FIELDS: usize = 4;
 
 /// The kind of a record, named as the record is, or as the notice. There are 23, of which the four
 /// notices are one, though each has its own word.

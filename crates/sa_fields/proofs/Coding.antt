@@ -9,9 +9,9 @@ use Rattle.sa_base.specs.declared.number.SpaceNo.{SpaceNo}
 use Rattle.sa_base.specs.declared.number.ThreadNo.{ThreadNo}
 use Rattle.sa_base.specs.declared.number.ActNo.{ActNo}
 use Rattle.sa_base.specs.declared.number.IoNo.{IoNo}
-use Rattle.sa_base.specs.declared.field.Field.{Field}
-use Rattle.sa_base.specs.declared.field.Field.TheVariants.{Space, OptionalSpace, Thread, OptionalThread, Processor, Activation, Io, Place, Value, Demand}
-use Rattle.sa_base.specs.Field.{range_of, Fits, number_in, optional_in}
+use Rattle.sa_fields.specs.declared.field.Field.{Field}
+use Rattle.sa_fields.specs.declared.field.Field.TheVariants.{Space, OptionalSpace, Thread, OptionalThread, Processor, Activation, Io, Place, Value, Demand}
+use Rattle.sa_fields.specs.Field.{range_of, Fits, number_in, optional_in}
 
 -- what is read from a value is held by the field like this, and nothing is read exactly where it may not hold the value
 abbrev pub IsReading : {A : Type 0} → Field → (A → Option ℕ) → Option ℕ → Option A → Type 0

@@ -1,0 +1,5 @@
+pub mod Field
+pub mod Kind
+pub mod Laws
+pub mod Parts
+pub mod PartsFields
