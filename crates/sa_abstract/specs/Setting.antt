@@ -3,7 +3,7 @@ use Rattle.std.specs.Prelude.{ℕ, ◌≤◌}
 use Rattle.sa_base.specs.declared.number.SpaceNo.{SpaceNo}
 use Rattle.sa_base.specs.declared.limits.TheConstants.{MAX_PROCESSORS}
 use Rattle.sa_instr.specs.declared.limits.TheConstants.{MAX_FETCH}
-use Rattle.sa_instr.specs.Space.{SpaceView, IsSpace}
+use Rattle.sa_spaces.specs.Space.{SpaceView, IsSpace}
 
 pub record Setting : Type 0 where
   pub space : SpaceNo

@@ -7,7 +7,7 @@ ghost use Rattle.sa_abstract.specs.Keeps.{Standing, IsBefore, IsOf, IsSeenOf, Is
 
 use crate::answer::{SeatState, Step, Tally};
 use sa_base::{Note, ProcNo, Seen, SpaceNo, Stopped, ThreadNo, Trace};
-use sa_instr::SpaceDef;
+use sa_spaces::SpaceDef;
 use std::alloc::{AllocError, Global};
 use std::marker::Send;
 

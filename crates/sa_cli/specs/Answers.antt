@@ -5,7 +5,7 @@ use Rattle.sa_base.specs.declared.record.Item.{Item}
 use Rattle.sa_base.specs.declared.record.End.{End}
 use Rattle.sa_base.specs.declared.record.End.TheVariants as end
 use Rattle.sa_io.specs.Faults.{HasRisen, AppendsPrefix}
-use Rattle.sa_instr.specs.Workload.{WorkloadView}
+use Rattle.sa_spaces.specs.Workload.{WorkloadView}
 use Rattle.sa_sched.specs.Order.{Order}
 use Rattle.sa_package.specs.Step.{fast_calls}
 use Rattle.sa_run.specs.Run.{RunsTo, RunsSoFar}

@@ -1,7 +1,7 @@
 -- When a command does what it is for: where nothing fails, and the input is told.
 use Rattle.std.specs.Prelude.{◌≡◌, ◌⊎◌, ⊤, ℕ, ◌≤◌, List, length, Option, Some, None}
 use Rattle.sa_base.specs.declared.refusal.Bad.{Bad}
-use Rattle.sa_instr.specs.Workload.{WorkloadView}
+use Rattle.sa_spaces.specs.Workload.{WorkloadView}
 use Rattle.sa_io.specs.Faults.{HasRisen}
 use Rattle.sa_workload.specs.Text.{IsText, IsText1}
 use Rattle.sa_workload.specs.Bad.{BadAt, BadAt1}

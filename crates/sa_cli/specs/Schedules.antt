@@ -1,6 +1,6 @@
 -- The order of turns that a word asks for.
 use Rattle.std.specs.Prelude.{map}
-use Rattle.sa_instr.specs.Workload.{WorkloadView}
+use Rattle.sa_spaces.specs.Workload.{WorkloadView}
 use Rattle.sa_sched.specs.Order.{Order, RoundRobin, Seed, Given, Hold}
 use Rattle.sa_words.specs.declared.command.ScheduleWord.{ScheduleWord}
 use Rattle.sa_words.specs.declared.command.ScheduleWord.TheVariants as word

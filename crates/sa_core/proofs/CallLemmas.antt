@@ -18,7 +18,7 @@ use Rattle.sa_abstract.specs.declared.answer.SeatState.{SeatState}
 use Rattle.sa_kernel.specs.State.{State, owner_of}
 use Rattle.sa_kernel.specs.Entries.{held_for, next_note, after_fetch, fetched}
 use Rattle.sa_kernel.specs.Sound.{AreClaimed}
-use Rattle.sa_instr.specs.Space.{SpaceView}
+use Rattle.sa_spaces.specs.Space.{SpaceView}
 use Rattle.sa_machine.specs.Machine.{Machine, user_of, context_on, seen_on, called, told, stepped, gone}
 use Rattle.sa_machine.specs.Turn.{told_one, told_all, gone_in}
 use Rattle.sa_machine.specs.End.{local_on}

@@ -3,8 +3,8 @@ use Rattle.std.proofs.Common.{◌≡◌, ℕ, ◌+◌, ◌<◌, ◌≤◌, Bool,
 use Rattle.std.proofs.lemmas.Option.{slice_get_read}
 use Rattle.std.proofs.lemmas.List.Sums.{sum_by-cons}
 use Rattle.std.specs.Prelude.{sum_by, zero, suc}
-use Rattle.sa_instr.specs.Space.{SpaceView}
-use Rattle.sa_instr.specs.Workload.{WorkloadView}
+use Rattle.sa_spaces.specs.Space.{SpaceView}
+use Rattle.sa_spaces.specs.Workload.{WorkloadView}
 use Rattle.sa_abstract.specs.Calls.{Calls}
 use Rattle.sa_machine.specs.Run.{setting, started_from}
 use Rattle.sa_core.specs.Users.{one_unless, is_over, is_still, Counted}

@@ -7,7 +7,7 @@ use Rattle.sa_base.specs.declared.number.ActNo.{ActNo}
 use Rattle.sa_base.specs.declared.number.IoNo.{IoNo}
 use Rattle.sa_base.specs.declared.context.Stopped.{Stopped}
 use Rattle.sa_base.specs.declared.limits.TheConstants.{MAX_EVENTS}
-use Rattle.sa_instr.specs.Workload.{WorkloadView}
+use Rattle.sa_spaces.specs.Workload.{WorkloadView}
 use Rattle.sa_abstract.specs.Calls.{Calls}
 use Rattle.sa_abstract.specs.Keeps.{Standing, Keeps}
 use Rattle.sa_abstract.specs.declared.answer.Step.{Step}

@@ -4,7 +4,7 @@ use Rattle.sa_base.specs.declared.number.ProcNo.{ProcNo}
 use Rattle.sa_base.specs.declared.number.SpaceNo.{SpaceNo}
 use Rattle.sa_base.specs.declared.number.ActNo.{ActNo}
 use Rattle.sa_base.specs.declared.limits.TheConstants.{MAX_EVENTS}
-use Rattle.sa_instr.specs.Space.{SpaceView}
+use Rattle.sa_spaces.specs.Space.{SpaceView}
 use Rattle.sa_abstract.specs.Calls.{Calls}
 use Rattle.sa_abstract.specs.Keeps.{Standing, IsBefore, IsAsked}
 use Rattle.sa_abstract.specs.declared.answer.Step.{Step}

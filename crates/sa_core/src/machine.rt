@@ -18,7 +18,7 @@ ghost use Rattle.sa_core.specs.Needs.{ByFresh, Welcomes, IsNext, Asks};
 use crate::users::Users;
 use sa_abstract::{SeatState, Step, UserLevel};
 use sa_base::{Item, MAX_EVENTS, ProcNo, Record, SpaceNo, Stopped, Trace};
-use sa_instr::Workload;
+use sa_spaces::Workload;
 use sa_kernel::{ENTRY_ITEMS, Entry, Given, Kernel};
 use std::alloc::{AllocError, Global};
 

@@ -9,7 +9,7 @@ ghost use Rattle.sa_core.specs.View.{machine, IsSame};
 use crate::machine::Machine;
 use sa_abstract::{SeatState, UserLevel};
 use sa_base::{End, ProcNo, Trace};
-use sa_instr::Workload;
+use sa_spaces::Workload;
 use std::alloc::{AllocError, Global};
 use std::marker::Model;
 

@@ -1,8 +1,8 @@
 -- What always holds of devices.
 use Rattle.std.specs.Prelude.{◌≡◌, ℕ, ◌<◌, ◌≤◌, List, length, count_by, slice_index, All}
 use Rattle.std.specs.List.Sorted.{IsNonDecreasingBy}
-use Rattle.sa_instr.specs.declared.workload.Evict.{Evict}
-use Rattle.sa_instr.specs.Workload.{IsEviction}
+use Rattle.sa_spaces.specs.declared.workload.Evict.{Evict}
+use Rattle.sa_spaces.specs.Workload.{IsEviction}
 use Rattle.sa_devices.specs.Ios.{Io, fetches}
 use Rattle.sa_devices.specs.Pages.{IsKind}
 use Rattle.sa_devices.specs.DevicesView.{IosView}

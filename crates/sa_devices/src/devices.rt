@@ -2,8 +2,8 @@ ghost use Rattle.std.specs.Prelude.{◌≡◌, ◌≢◌, ℕ, ◌+◌, ◌-◌,
 ghost use Rattle.std.specs.List.{list_any};
 ghost use Rattle.std.specs.Option.{option_map};
 ghost use Rattle.std.specs.List.Sorted.{IsNonDecreasingBy};
-ghost use Rattle.sa_instr.specs.declared.workload.Evict.{Evict};
-ghost use Rattle.sa_instr.specs.Workload.{IsEviction};
+ghost use Rattle.sa_spaces.specs.declared.workload.Evict.{Evict};
+ghost use Rattle.sa_spaces.specs.Workload.{IsEviction};
 ghost use Rattle.sa_devices.specs.Ios.{one_fetch};
 ghost use Rattle.sa_devices.specs.Pages.{IsKind, come, gone, without_pages, completed, evicted};
 
@@ -11,7 +11,7 @@ use crate::kind::IoKind;
 use crate::under_way::UnderWay;
 use arrayvec::ArrayVec;
 use sa_base::{IoNo, MAX_EVENTS, MAX_SPACES, SpaceNo, UPCALL_PAGE};
-use sa_instr::{Evict, Workload};
+use sa_spaces::{Evict, Workload};
 use std::alloc::{AllocError, Global};
 use std::marker::Model;
 

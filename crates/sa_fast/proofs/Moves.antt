@@ -1,7 +1,7 @@
 -- What the effects on work lists and of instructions do to the counts of threads: the statements that the lemmas prove.
 use Rattle.std.proofs.Common.{◌≡◌, ℕ, ◌+◌, List, Option}
 use Rattle.sa_base.specs.declared.number.ThreadNo.{ThreadNo}
-use Rattle.sa_instr.specs.Space.{SpaceView}
+use Rattle.sa_spaces.specs.Space.{SpaceView}
 use Rattle.sa_links.specs.Lists.{list_at, count_in, count_in_all}
 use Rattle.sa_fast.specs.declared.shared.Shared.{Shared}
 use Rattle.sa_fast.specs.declared.instruction.Ran.{Ran}

@@ -16,7 +16,7 @@ use Rattle.sa_instr.specs.Instr.{JumpsBelow, NamesDeclared}
 use Rattle.sa_instr.specs.Local.{instr_at, place_after, regs_after}
 use Rattle.sa_instr.specs.Program.{IsProgram}
 use Rattle.sa_instr.specs.Regs.{reg_value}
-use Rattle.sa_instr.specs.Space.{SpaceView, IsSpace}
+use Rattle.sa_spaces.specs.Space.{SpaceView, IsSpace}
 use Rattle.sa_links.specs.Lists.{count_in, count_in_all}
 use Rattle.sa_abstract.specs.Walk.{program_at}
 use Rattle.sa_lists.specs.ReadyView.{ReadyView, thread, next_made}

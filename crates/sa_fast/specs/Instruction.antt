@@ -10,7 +10,7 @@ use Rattle.sa_instr.specs.declared.instr.Instr.TheVariants.{Load, Store, Out, Fo
 use Rattle.sa_instr.specs.declared.instr.Reg.{Reg}
 use Rattle.sa_instr.specs.Local.{instr_at, place_after, regs_after}
 use Rattle.sa_instr.specs.Regs.{reg_value, with_reg}
-use Rattle.sa_instr.specs.Space.{SpaceView}
+use Rattle.sa_spaces.specs.Space.{SpaceView}
 use Rattle.sa_abstract.specs.Walk.{program_at}
 use Rattle.sa_lists.specs.ReadyView.{thread, next_made, with_made}
 use Rattle.sa_code.specs.Micro.{is_resident}

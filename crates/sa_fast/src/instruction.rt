@@ -15,7 +15,8 @@ use crate::shared::Shared;
 use crate::threads::{Block, Place};
 use crate::work::WorkLists;
 use sa_base::{Item, MAX_THREADS, Record, Seen, SpaceNo, ThreadNo, Trace};
-use sa_instr::{Instr, Reg, Regs, SpaceDef, local};
+use sa_instr::{Instr, Reg, Regs, local};
+use sa_spaces::SpaceDef;
 use sa_sync::{SyncAnswer, SyncState};
 
 /// What became of a thread with its instruction.

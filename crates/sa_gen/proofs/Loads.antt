@@ -8,9 +8,9 @@ use Rattle.sa_instr.specs.declared.limits.TheConstants.{LAST_PAGE, MAX_START}
 use Rattle.sa_instr.specs.declared.instr.Instr.{Instr}
 use Rattle.sa_instr.specs.Instr.{IsInRange, JumpsBelow, NamesDeclared}
 use Rattle.sa_instr.specs.Program.{IsProgram}
-use Rattle.sa_instr.specs.Space.{SpaceView, IsSpace}
-use Rattle.sa_instr.specs.declared.workload.Evict.{Evict}
-use Rattle.sa_instr.specs.Workload.{IsWorkload}
+use Rattle.sa_spaces.specs.Space.{SpaceView, IsSpace}
+use Rattle.sa_spaces.specs.declared.workload.Evict.{Evict}
+use Rattle.sa_spaces.specs.Workload.{IsWorkload}
 use Rattle.sa_base.specs.declared.number.ProcNo.{ProcNo}
 use Rattle.sa_gen.specs.Generated.{main_program, worker_program, generated_space, generated, processors_of, spaces_of, workers_of, rounds_of}
 

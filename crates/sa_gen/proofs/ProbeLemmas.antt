@@ -5,11 +5,11 @@ use Rattle.std.proofs.lemmas.List.{length-replicate}
 use Rattle.std.proofs.lemmas.List.Elements.{All-append, All-replicate}
 use Rattle.sa_base.specs.declared.number.ProcNo.{ProcNo}
 use Rattle.sa_instr.specs.declared.limits.TheConstants.{LAST_PAGE, MAX_START, MAX_TURNS}
-use Rattle.sa_instr.specs.declared.workload.Evict.{Evict}
+use Rattle.sa_spaces.specs.declared.workload.Evict.{Evict}
 use Rattle.sa_instr.specs.Instr.{IsInRange, JumpsBelow, NamesDeclared}
 use Rattle.sa_instr.specs.Program.{IsProgram}
-use Rattle.sa_instr.specs.Space.{SpaceView, IsSpace}
-use Rattle.sa_instr.specs.Workload.{IsWorkload}
+use Rattle.sa_spaces.specs.Space.{SpaceView, IsSpace}
+use Rattle.sa_spaces.specs.Workload.{IsWorkload}
 use Rattle.sa_gen.specs.Probe.{forking_program, io_program, probe_space, turns_of, probe_turns, probing}
 use Rattle.sa_gen.proofs.Loads.{all_of}
 

@@ -2,7 +2,8 @@ ghost use Rattle.std.specs.Prelude.{◌≡◌, ◌≤◌, map, IfOk};
 ghost use Rattle.std.specs.List.{range_with_len};
 ghost use Rattle.sa_gen.specs.Generated.{main_program, worker_program, generated_space, generated};
 
-use sa_instr::{Instr, Program, Reg, SpaceDef, Workload};
+use sa_instr::{Instr, Program, Reg};
+use sa_spaces::{SpaceDef, Workload};
 use std::alloc::{AllocError, Global};
 
 /// The workload of the number `n`. Fails only where memory runs out.

@@ -2,7 +2,8 @@ ghost use Rattle.std.specs.Prelude.{◌≡◌, ◌≤◌, ◌++◌, OnOk, IfOk};
 ghost use Rattle.sa_gen.specs.Probe.{forking_program, io_program, probe_space, turns_of, probe_turns, probing};
 
 use sa_base::ProcNo;
-use sa_instr::{Instr, Program, Reg, SpaceDef, Workload};
+use sa_instr::{Instr, Program, Reg};
+use sa_spaces::{SpaceDef, Workload};
 use std::alloc::{AllocError, Global};
 
 /// The greatest number of a probe.

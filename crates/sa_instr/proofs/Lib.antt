@@ -1,3 +1,2 @@
-pub mod EvictionLemmas
 pub mod OperationLemmas
 pub mod PartsLemmas

@@ -1,5 +1,5 @@
--- What holds of the local effect and of workloads, whichever they are.
-use Rattle.std.specs.Prelude.{◌≡◌, ◌≢◌, ◌↔◌, ℕ, ◌<◌, Some, List, length, AllPairs, IsSome}
+-- What holds of the local effect and of instructions, whichever they are.
+use Rattle.std.specs.Prelude.{◌≡◌, ◌≢◌, ◌↔◌, ℕ, ◌<◌, Some, List, length, IsSome}
 use Rattle.sa_instr.specs.declared.instr.Reg.{Reg}
 use Rattle.sa_instr.specs.declared.instr.Instr.{Instr}
 use Rattle.sa_instr.specs.declared.instr.Instr.TheVariants.{Add, Sub}
@@ -11,7 +11,6 @@ use Rattle.sa_instr.specs.Instr.{reg_number, IsInRange}
 use Rattle.sa_instr.specs.Regs.{AreRegisters}
 use Rattle.sa_instr.specs.Program.{IsProgram}
 use Rattle.sa_instr.specs.Local.{instr_at, place_after, regs_after}
-use Rattle.sa_instr.specs.Workload.{WorkloadView, IsWorkload, IsBefore}
 
 -- a thread stays within its program
 abbrev pub PlacesStayInPrograms : Type 0
@@ -33,13 +32,6 @@ abbrev pub AddUndoesSub : Type 0
 AddUndoesSub =
     (reg other : Reg) (regs : List ℕ) → reg_number reg ≢ reg_number other → AreRegisters regs
     → regs_after (Add reg other) (regs_after (Sub reg other) regs) ≡ regs
-
--- each eviction is before all that follow it, so none comes twice
-abbrev pub EvictionsAreInOrder : Type 0
-EvictionsAreInOrder = (w : WorkloadView) → IsWorkload w → AllPairs IsBefore w.evictions
-
-abbrev pub EvictionsDiffer : Type 0
-EvictionsDiffer = (w : WorkloadView) → IsWorkload w → AllPairs (λ a b. a ≢ b) w.evictions
 
 -- the operation and the operands of an instruction make the instruction
 abbrev pub PartsMakeTheInstr : Type 0

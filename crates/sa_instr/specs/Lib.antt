@@ -7,7 +7,3 @@ pub mod Parts
 pub mod PartsFields
 pub mod Program
 pub mod Regs
-pub mod Space
-pub mod SpaceFields
-pub mod Workload
-pub mod WorkloadFields

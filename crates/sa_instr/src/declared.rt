@@ -3,17 +3,22 @@ ghost use Rattle.std.specs.Prelude.{◌≤◌, ◌↔◌, IsTrue};
 
 use crate::limits::{MAX_CELLS, MAX_MUTEXES, MAX_PROGRAMS, MAX_SEMAPHORES};
 
+/// How many of each thing a space declares, which its programs may name.
 #[derive(Clone, Copy)]
-pub(crate) struct Declared {
+pub struct Declared {
+    /// Mutexes.
     pub mutexes: u16,
+    /// Semaphores.
     pub sems: usize,
+    /// Cells.
     pub cells: u16,
+    /// Programs.
     pub programs: usize,
 }
 
 impl Declared {
-    // Whether a space may declare so many.
-    pub(crate) fn is_in_range(&self) -> bool
+    /// Whether a space may declare so many.
+    pub fn is_in_range(&self) -> bool
         ensures { IsTrue result ↔
             ((self.now.mutexes ≤ MAX_MUTEXES) × (self.now.sems ≤ MAX_SEMAPHORES)
             × (self.now.cells ≤ MAX_CELLS)

@@ -1,6 +1,6 @@
-// What holds of the local effect, of instructions and of workloads, whichever they are: each contract is
-// a law, and the bodies do nothing.
-ghost use Rattle.sa_instr.specs.Laws.{PlacesStayInPrograms, RegistersStayWords, SubUndoesAdd, AddUndoesSub, EvictionsAreInOrder, EvictionsDiffer, PartsMakeTheInstr, InstrsHaveTheParts, FittingPartsMakeInstrs, WordsDiffer};
+// What holds of the local effect and of instructions, whichever they are: each contract is a law, and the bodies do
+// nothing.
+ghost use Rattle.sa_instr.specs.Laws.{PlacesStayInPrograms, RegistersStayWords, SubUndoesAdd, AddUndoesSub, PartsMakeTheInstr, InstrsHaveTheParts, FittingPartsMakeInstrs, WordsDiffer};
 
 /// A thread stays within its program, and its registers stay eight numbers of 64 bits.
 pub fn threads_stay_within()
@@ -12,12 +12,6 @@ pub fn threads_stay_within()
 pub fn sums_are_undone()
     ensures sub { SubUndoesAdd }
     ensures add { AddUndoesSub }
-{}
-
-/// Each eviction of a workload is before all that follow it, and none comes twice.
-pub fn evictions_are_in_order()
-    ensures before { EvictionsAreInOrder }
-    ensures differ { EvictionsDiffer }
 {}
 
 /// An instruction and its operation and operands undo each other, and an operation with operands that

@@ -1,5 +1,4 @@
-//! What a run is given: registers, instructions, programs, spaces and the workload, each checked where it
-//! is made, and the instructions that stay within their thread.
+//! Registers, instructions and programs, each checked where it is made, and the instructions that stay within their thread.
 #![tactic(auto)]
 
 mod answer;
@@ -12,11 +11,10 @@ mod operation;
 mod parts;
 mod program;
 mod regs;
-mod space;
 mod step;
-mod workload;
 
 pub use answer::Local;
+pub use declared::Declared;
 pub use instr::{Instr, Reg};
 pub use limits::{
     LAST_PAGE, MAX_CELLS, MAX_EVICTIONS, MAX_FETCH, MAX_INSTRUCTIONS, MAX_IO_LENGTH, MAX_MUTEXES,
@@ -28,6 +26,4 @@ pub use operation::{OPERATIONS, Operation, OperationForm};
 pub use parts::InstrParts;
 pub use program::Program;
 pub use regs::Regs;
-pub use space::SpaceDef;
 pub use step::local;
-pub use workload::{Evict, Workload};

@@ -82,8 +82,8 @@ impl Program {
         })
     }
 
-    // Whether each instruction names only what is declared. Each program says so of itself.
-    pub(crate) fn names_only(&self, declared: &Declared) -> bool
+    /// Whether each instruction names only what is declared. Each program says so of itself.
+    pub fn names_only(&self, declared: &Declared) -> bool
         ensures { IsTrue result ↔ (IsProgram self.now
             × All (NamesDeclared declared.now.mutexes declared.now.sems declared.now.cells
             declared.now.programs) self.now) }

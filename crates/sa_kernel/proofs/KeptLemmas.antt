@@ -9,7 +9,7 @@ use Rattle.sa_base.specs.declared.record.Item.{Item}
 use Rattle.sa_base.specs.declared.limits.TheConstants.{MAX_EVENTS, MAX_SPACES}
 use Rattle.sa_base.specs.Recorded.{Recorded}
 use Rattle.sa_base.specs.Items.{items_at}
-use Rattle.sa_instr.specs.Workload.{WorkloadView, IsWorkload}
+use Rattle.sa_spaces.specs.Workload.{WorkloadView, IsWorkload}
 use Rattle.sa_assign.specs.Reaim.{proc_no}
 use Rattle.sa_devices.specs.DevicesView.{DevicesView}
 use Rattle.sa_devices.specs.Pages.{evicted}

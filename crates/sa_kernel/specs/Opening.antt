@@ -4,8 +4,8 @@ use Rattle.sa_base.specs.declared.limits.TheConstants.{MAX_SPACES}
 use Rattle.sa_base.specs.declared.record.Record.{Record}
 use Rattle.sa_base.specs.declared.record.Record.TheVariants.{Want}
 use Rattle.sa_base.specs.Items.{items_at}
-use Rattle.sa_instr.specs.Space.{SpaceView}
-use Rattle.sa_instr.specs.Workload.{WorkloadView}
+use Rattle.sa_spaces.specs.Space.{SpaceView}
+use Rattle.sa_spaces.specs.Workload.{WorkloadView}
 use Rattle.sa_assign.specs.Aims.{space_no}
 use Rattle.sa_assign.specs.Reaim.{proc_no}
 use Rattle.sa_devices.specs.Pages.{opening_pages}

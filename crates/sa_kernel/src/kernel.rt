@@ -8,7 +8,7 @@ use crate::entry::{ENTRY_ITEMS, Entry, Given};
 use crate::machine::Machine;
 use crate::start::OPENING;
 use sa_base::{IoNo, MAX_EVENTS, MAX_PROCESSORS, Note, ProcNo, Seen, SpaceNo, Stopped, Trace};
-use sa_instr::Workload;
+use sa_spaces::Workload;
 use std::alloc::{AllocError, Global};
 use std::marker::Model;
 

@@ -2,7 +2,7 @@
 ghost use Rattle.std.specs.Prelude.{IfSome, ◌≡◌, ℕ, ◌+◌, ◌*◌, ◌≤◌, ◌<◌, ◌^◌, [], ◌++◌, length, map, replicate, Some, None, IfOk, OnOk, slice_index_or};
 ghost use Rattle.sa_acts.specs.Table.{held_of};
 ghost use Rattle.sa_base.specs.Items.{items_at};
-ghost use Rattle.sa_instr.specs.Space.{SpaceView};
+ghost use Rattle.sa_spaces.specs.Space.{SpaceView};
 ghost use Rattle.sa_assign.specs.Reaim.{proc_no};
 ghost use Rattle.sa_kernel.specs.Room.{Adds};
 ghost use Rattle.sa_kernel.specs.Opening.{first_wants};
@@ -15,7 +15,7 @@ use sa_acts::Acts;
 use sa_assign::Assign;
 use sa_base::{ActNo, MAX_EVENTS, MAX_SPACES, Note, ProcNo, Record, SpaceNo, Stopped, Trace};
 use sa_devices::Devices;
-use sa_instr::{SpaceDef, Workload};
+use sa_spaces::{SpaceDef, Workload};
 use std::alloc::{AllocError, Global};
 
 /// How many items the opening has at most: a want of each space, and those of a closing.

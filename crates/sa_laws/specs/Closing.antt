@@ -8,7 +8,7 @@ use Rattle.sa_base.specs.declared.record.Record.{Record}
 use Rattle.sa_base.specs.declared.record.Record.TheVariants.{Want, Line}
 use Rattle.sa_share.specs.declared.Claim.{Claim}
 use Rattle.sa_share.specs.Rounds.{shares_of}
-use Rattle.sa_instr.specs.Workload.{WorkloadView}
+use Rattle.sa_spaces.specs.Workload.{WorkloadView}
 use Rattle.sa_assign.specs.Aims.{Change, aimed, is_aim, changes, least_below, space_no}
 use Rattle.sa_assign.specs.Reaim.{proc_no}
 use Rattle.sa_laws.specs.State.{space_def}

@@ -9,7 +9,7 @@ use Rattle.sa_base.specs.declared.number.ActNo.{ActNo}
 use Rattle.sa_base.specs.declared.limits.TheConstants.{PACKAGE_PAGE}
 use Rattle.sa_base.specs.declared.record.Record.{Record}
 use Rattle.sa_base.specs.declared.record.Record.TheVariants.{Run, Cont, Back, Ready, Take, Free}
-use Rattle.sa_instr.specs.Workload.{WorkloadView}
+use Rattle.sa_spaces.specs.Workload.{WorkloadView}
 use Rattle.sa_laws.specs.Event.{Event}
 use Rattle.sa_laws.specs.State.{space_at}
 use Rattle.sa_laws.specs.Life.{Life, Lock, first_lock}

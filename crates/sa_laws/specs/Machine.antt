@@ -4,7 +4,7 @@ use Rattle.sa_base.specs.declared.number.SpaceNo.{SpaceNo}
 use Rattle.sa_base.specs.declared.number.ThreadNo.{ThreadNo}
 use Rattle.sa_base.specs.declared.record.Record.{Record}
 use Rattle.sa_base.specs.declared.record.Record.TheVariants.{Ins, Run, Stop, Block, Unblock, Cont, Back, Ready, Move}
-use Rattle.sa_instr.specs.Workload.{WorkloadView}
+use Rattle.sa_spaces.specs.Workload.{WorkloadView}
 use Rattle.sa_laws.specs.declared.place.Place.TheVariants as place
 use Rattle.sa_laws.specs.State.{State, space_at, with_space, thread_at, placed, placed_if, next_instr, with_owner}
 use Rattle.sa_laws.specs.Effect.{Effect, effect_of}

@@ -1,7 +1,7 @@
 -- The opening and the numbering of events.
 use Rattle.std.specs.Prelude.{◌≡◌, ◌≢◌, ◌<◌, List, [], ◌++◌, map}
 use Rattle.sa_base.specs.declared.record.Record.{Record}
-use Rattle.sa_instr.specs.Workload.{WorkloadView}
+use Rattle.sa_spaces.specs.Workload.{WorkloadView}
 use Rattle.sa_assign.specs.Reaim.{proc_no, records_of}
 use Rattle.sa_laws.specs.Event.{Event}
 use Rattle.sa_laws.specs.Readings.{Readings, opening_readings}

@@ -10,7 +10,7 @@ use Rattle.sa_base.specs.declared.record.Note.{Note}
 use Rattle.sa_base.specs.declared.record.Note.TheVariants.{Preempted, Unblocked}
 use Rattle.sa_base.specs.declared.record.Record.{Record}
 use Rattle.sa_base.specs.declared.limits.TheConstants.{BULK_RETURN}
-use Rattle.sa_instr.specs.Workload.{WorkloadView}
+use Rattle.sa_spaces.specs.Workload.{WorkloadView}
 use Rattle.sa_devices.specs.Ios.{Io, fetches}
 use Rattle.sa_devices.specs.Pages.{opening_pages}
 use Rattle.sa_devices.specs.Laws.{has_page}

@@ -13,7 +13,7 @@ use Rattle.sa_base.specs.declared.record.Record.TheVariants.{Ins, Run, Stop, Blo
 use Rattle.sa_base.specs.declared.limits.TheConstants.{PACKAGE_PAGE}
 use Rattle.sa_instr.specs.declared.instr.Instr.{Instr}
 use Rattle.sa_instr.specs.declared.instr.Instr.TheVariants.{Io as IoOf, Touch}
-use Rattle.sa_instr.specs.Workload.{WorkloadView}
+use Rattle.sa_spaces.specs.Workload.{WorkloadView}
 use Rattle.sa_lemmas.specs.Function.{put}
 use Rattle.sa_devices.specs.Ios.{Io, fetches}
 use Rattle.sa_devices.specs.Pages.{completed}

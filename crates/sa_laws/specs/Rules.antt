@@ -1,6 +1,6 @@
 -- The rules of legal runs in their order, each as what must hold at an event, given what was read before it.
 use Rattle.std.specs.Prelude.{List, [], ◌∷◌, take, Option, None}
-use Rattle.sa_instr.specs.Workload.{WorkloadView}
+use Rattle.sa_spaces.specs.Workload.{WorkloadView}
 use Rattle.sa_laws.specs.declared.rule.Rule.{Rule}
 use Rattle.sa_laws.specs.declared.rule.Rule.TheVariants.{Numbering, StepTaken, AtMostOnce, InTime, WhereOwned, AllTold, BlockUpcall, InterruptNext, LineCause, WantCause, SharesCovered, DemandSaid, TurnsAndSteps, ListLocks, ListOrder, EndTold}
 use Rattle.sa_laws.specs.Event.{Event}

@@ -10,7 +10,7 @@ use Rattle.sa_base.specs.declared.record.Record.TheVariants.{Ins, Out, Run, Stop
 use Rattle.sa_instr.specs.declared.instr.Instr.{Instr}
 use Rattle.sa_instr.specs.declared.instr.Instr.TheVariants.{Out as OutOf, Touch}
 use Rattle.sa_instr.specs.Regs.{reg_value}
-use Rattle.sa_instr.specs.Workload.{WorkloadView}
+use Rattle.sa_spaces.specs.Workload.{WorkloadView}
 use Rattle.sa_laws.specs.declared.place.Place.{Place}
 use Rattle.sa_laws.specs.declared.place.Place.TheVariants as place
 use Rattle.sa_laws.specs.Event.{Event}

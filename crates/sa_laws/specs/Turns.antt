@@ -11,7 +11,7 @@ use Rattle.sa_instr.specs.declared.instr.Instr.{Instr}
 use Rattle.sa_instr.specs.declared.instr.Instr.TheVariants.{Out as OutOf, Io as IoOf}
 use Rattle.sa_instr.specs.declared.answer.Local.TheVariants.{Went}
 use Rattle.sa_instr.specs.Local.{local_answer}
-use Rattle.sa_instr.specs.Workload.{WorkloadView}
+use Rattle.sa_spaces.specs.Workload.{WorkloadView}
 use Rattle.sa_devices.specs.declared.kind.IoKind.{IoKind}
 use Rattle.sa_devices.specs.declared.kind.IoKind.TheVariants.{Plain, Page, Upcall}
 use Rattle.sa_devices.specs.Ios.{Io, due_of}

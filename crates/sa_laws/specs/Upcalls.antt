@@ -9,7 +9,7 @@ use Rattle.sa_base.specs.declared.record.Note.{Note}
 use Rattle.sa_base.specs.declared.record.Note.TheVariants.{Add}
 use Rattle.sa_base.specs.declared.record.Record.{Record}
 use Rattle.sa_base.specs.declared.record.Record.TheVariants.{Stop, Block, Up, Told, Move, Aim, Line, Fetch, GiveBack}
-use Rattle.sa_instr.specs.Workload.{WorkloadView}
+use Rattle.sa_spaces.specs.Workload.{WorkloadView}
 use Rattle.sa_share.specs.Share.{share_at}
 use Rattle.sa_assign.specs.Aims.{aimed, is_aim}
 use Rattle.sa_laws.specs.Event.{Event}

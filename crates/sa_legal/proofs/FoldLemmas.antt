@@ -4,7 +4,7 @@ use Rattle.std.specs.Prelude.{slice_get, Option, ◌==◌, if◌then◌else◌}
 use Rattle.std.proofs.lemmas.Bool.Decides.{nat_tests}
 use Rattle.std.proofs.lemmas.Option.{same_Some, none-some}
 use Rattle.sa_lemmas.proofs.ListUpdates.{slice_get-append_left, slice_get-append_seam}
-use Rattle.sa_instr.specs.Workload.{WorkloadView}
+use Rattle.sa_spaces.specs.Workload.{WorkloadView}
 use Rattle.sa_laws.specs.declared.rule.Rule.{Rule}
 use Rattle.sa_laws.specs.Event.{Event}
 use Rattle.sa_laws.specs.Readings.{Readings, opening_readings}

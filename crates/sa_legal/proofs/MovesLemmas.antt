@@ -11,7 +11,7 @@ use Rattle.sa_base.specs.declared.record.Note.{Note}
 use Rattle.sa_base.specs.declared.record.Note.TheVariants as note
 use Rattle.sa_base.specs.declared.record.Record.{Record}
 use Rattle.sa_base.specs.declared.record.Record.TheVariants.{Run, Stop, Block, Unblock, Ready, Take, Free, Up, Told, Want, Aim, Line, GiveBack}
-use Rattle.sa_instr.specs.Workload.{WorkloadView}
+use Rattle.sa_spaces.specs.Workload.{WorkloadView}
 use Rattle.sa_assign.specs.Aims.{Change}
 use Rattle.sa_assign.specs.Reaim.{records_of, line_at, lines_with, line_records, proc_no}
 use Rattle.sa_laws.specs.Event.{Event}

@@ -14,7 +14,7 @@ use Rattle.sa_base.specs.declared.record.Note.TheVariants as note
 use Rattle.sa_base.specs.declared.record.Record.{Record}
 use Rattle.sa_base.specs.declared.record.Record.TheVariants.{Stop, Block, Unblock, Up, Told, GiveBack}
 use Rattle.sa_base.specs.declared.record.Item.{Item}
-use Rattle.sa_instr.specs.Workload.{WorkloadView, IsWorkload}
+use Rattle.sa_spaces.specs.Workload.{WorkloadView, IsWorkload}
 use Rattle.sa_share.proofs.RoundLemmas.{shares_of-share}
 use Rattle.sa_share.proofs.ShareLemmas.{share_at-unique}
 use Rattle.sa_laws.specs.Event.{Event, items_of, events_of}

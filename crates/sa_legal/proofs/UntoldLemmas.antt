@@ -12,7 +12,7 @@ use Rattle.sa_base.specs.declared.record.Note.TheVariants as note
 use Rattle.sa_base.specs.declared.record.Record.{Record}
 use Rattle.sa_base.specs.declared.record.Record.TheVariants.{Stop, Block, Unblock, Told}
 use Rattle.sa_base.specs.declared.record.Item.{Item}
-use Rattle.sa_instr.specs.Workload.{WorkloadView}
+use Rattle.sa_spaces.specs.Workload.{WorkloadView}
 use Rattle.sa_laws.specs.Readings.{Readings, untold_of, space_of_life}
 use Rattle.sa_laws.specs.Record.{same_note, is_other_note, untold_after, after_record}
 use Rattle.sa_laws.specs.Upcalls.{IsUntoldTo, TellsOnce}

@@ -6,7 +6,7 @@ use Rattle.sa_base.specs.declared.number.SpaceNo.{SpaceNo}
 use Rattle.sa_base.specs.declared.number.ActNo.{ActNo}
 use Rattle.sa_base.specs.declared.record.Note.TheVariants.{Preempted, Unblocked}
 use Rattle.sa_base.specs.declared.record.Item.{Item}
-use Rattle.sa_instr.specs.Workload.{WorkloadView}
+use Rattle.sa_spaces.specs.Workload.{WorkloadView}
 use Rattle.sa_share.specs.Share.{IsShare, share_at}
 use Rattle.sa_laws.specs.Event.{events_of}
 use Rattle.sa_laws.specs.Readings.{Readings, IsLocked, running_of, untold_of}

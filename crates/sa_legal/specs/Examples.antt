@@ -12,8 +12,8 @@ use Rattle.sa_base.specs.declared.record.End.TheVariants.{AllDone, Budget}
 use Rattle.sa_instr.specs.declared.instr.Instr.{Instr}
 use Rattle.sa_instr.specs.declared.instr.Instr.TheVariants.{Io as IoOf, Fork, End}
 use Rattle.sa_instr.specs.declared.instr.Reg.TheVariants.{R0}
-use Rattle.sa_instr.specs.Space.{SpaceView}
-use Rattle.sa_instr.specs.Workload.{WorkloadView}
+use Rattle.sa_spaces.specs.Space.{SpaceView}
+use Rattle.sa_spaces.specs.Workload.{WorkloadView}
 use Rattle.sa_laws.specs.Event.{Event, items_of}
 use Rattle.sa_laws.specs.Ends.{LastLine}
 

@@ -11,7 +11,7 @@ use Rattle.sa_base.specs.declared.record.Note.TheVariants.{Add}
 use Rattle.sa_base.specs.declared.record.Record.{Record}
 use Rattle.sa_base.specs.declared.record.Record.TheVariants.{Block, Run, Ready, Take, Free, Up, Told, GiveBack}
 use Rattle.sa_base.specs.declared.record.Item.{Item}
-use Rattle.sa_instr.specs.Workload.{WorkloadView}
+use Rattle.sa_spaces.specs.Workload.{WorkloadView}
 use Rattle.sa_share.specs.declared.Claim.{Claim}
 use Rattle.sa_share.specs.Share.{IsShare, share_at}
 use Rattle.sa_assign.specs.Aims.{aimed}

@@ -1,7 +1,7 @@
 //! What follows from the laws of a legal run, at each moment of it. No function here does anything.
 ghost use Rattle.std.specs.Prelude.{ℕ, List};
 ghost use Rattle.sa_base.specs.declared.record.Item.{Item};
-ghost use Rattle.sa_instr.specs.Workload.{WorkloadView, IsWorkload};
+ghost use Rattle.sa_spaces.specs.Workload.{WorkloadView, IsWorkload};
 ghost use Rattle.sa_laws.specs.Readings.{Readings};
 ghost use Rattle.sa_laws.specs.Rules.{fast_threads};
 ghost use Rattle.sa_legal.specs.Legal.{IsLegal};

@@ -1,7 +1,7 @@
 //! What a legal run promises its reader, said of the records of the flat trace alone. No function here does anything.
 ghost use Rattle.std.specs.Prelude.{List};
 ghost use Rattle.sa_base.specs.declared.record.Item.{Item};
-ghost use Rattle.sa_instr.specs.Workload.{WorkloadView, IsWorkload};
+ghost use Rattle.sa_spaces.specs.Workload.{WorkloadView, IsWorkload};
 ghost use Rattle.sa_laws.specs.Rules.{fast_threads};
 ghost use Rattle.sa_legal.specs.Legal.{IsLegal};
 ghost use Rattle.sa_legal.specs.Headline.{TellsAtMostOnce, TellsInTime, NumbersAreFresh, SharesAreCovered, NoHolderIsReady};

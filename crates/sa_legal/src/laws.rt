@@ -3,7 +3,7 @@ ghost use Rattle.std.specs.Prelude.{◌≡◌, ◌≢◌, ◌↔◌, ℕ, List, 
 ghost use Rattle.sa_base.specs.declared.number.SpaceNo.{SpaceNo};
 ghost use Rattle.sa_base.specs.declared.record.Note.{Note};
 ghost use Rattle.sa_base.specs.declared.record.Item.{Item};
-ghost use Rattle.sa_instr.specs.Workload.{WorkloadView};
+ghost use Rattle.sa_spaces.specs.Workload.{WorkloadView};
 ghost use Rattle.sa_laws.specs.Event.{Event, items_of, events_of};
 ghost use Rattle.sa_laws.specs.Readings.{Readings, opening_readings};
 ghost use Rattle.sa_laws.specs.History.{is_inside, after_events, readings};

@@ -8,8 +8,8 @@ use Rattle.sa_base.specs.declared.number.SpaceNo.{SpaceNo}
 use Rattle.sa_base.specs.declared.number.ActNo.{ActNo}
 use Rattle.sa_base.specs.declared.limits.TheConstants.{MAX_EVENTS}
 use Rattle.sa_base.specs.Items.{items_at}
-use Rattle.sa_instr.specs.Space.{SpaceView, IsSpace}
-use Rattle.sa_instr.specs.Workload.{WorkloadView, IsWorkload}
+use Rattle.sa_spaces.specs.Space.{SpaceView, IsSpace}
+use Rattle.sa_spaces.specs.Workload.{WorkloadView, IsWorkload}
 use Rattle.sa_abstract.specs.Calls.{Calls, Contexts}
 use Rattle.sa_abstract.specs.Setting.{IsSetting}
 use Rattle.sa_abstract.specs.Keeps.{Standing, Keeps, GoesOn, IsGone, IsSeat}

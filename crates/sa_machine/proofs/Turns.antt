@@ -14,7 +14,7 @@ use Rattle.sa_base.specs.declared.limits.TheConstants.{MAX_EVENTS}
 use Rattle.sa_base.specs.declared.record.Item.{Item}
 use Rattle.sa_lemmas.specs.Function.{put}
 use Rattle.sa_lemmas.proofs.FunctionUpdates.{put-same, put-other}
-use Rattle.sa_instr.specs.Workload.{WorkloadView}
+use Rattle.sa_spaces.specs.Workload.{WorkloadView}
 use Rattle.sa_abstract.specs.Calls.{Calls}
 use Rattle.sa_abstract.specs.Keeps.{Standing, Keeps, IsBefore, IsAsked, IsStepped}
 use Rattle.sa_abstract.specs.declared.answer.Step.{Step}

@@ -7,7 +7,7 @@ use Rattle.sa_base.specs.declared.context.Stopped.{Stopped}
 use Rattle.sa_base.specs.declared.record.Item.{Item}
 use Rattle.sa_base.specs.declared.record.Note.{Note}
 use Rattle.sa_base.specs.Items.{items_at, items_from}
-use Rattle.sa_instr.specs.Workload.{WorkloadView}
+use Rattle.sa_spaces.specs.Workload.{WorkloadView}
 use Rattle.sa_abstract.specs.Calls.{Calls, Stepped, Gone}
 use Rattle.sa_abstract.specs.declared.answer.Step.{Step}
 use Rattle.sa_abstract.specs.declared.answer.Step.TheVariants.{Did}

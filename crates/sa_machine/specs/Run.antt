@@ -4,8 +4,8 @@ use Rattle.sa_base.specs.declared.number.ProcNo.{ProcNo}
 use Rattle.sa_base.specs.declared.number.SpaceNo.{SpaceNo}
 use Rattle.sa_base.specs.declared.number.ActNo.{ActNo}
 use Rattle.sa_base.specs.declared.limits.TheConstants.{MAX_EVENTS}
-use Rattle.sa_instr.specs.Space.{SpaceView}
-use Rattle.sa_instr.specs.Workload.{WorkloadView}
+use Rattle.sa_spaces.specs.Space.{SpaceView}
+use Rattle.sa_spaces.specs.Workload.{WorkloadView}
 use Rattle.sa_instr.specs.declared.instr.Instr.{Instr}
 use Rattle.sa_abstract.specs.Walk.{AreLocal, program_at}
 use Rattle.sa_abstract.specs.declared.answer.SeatState.{SeatState}

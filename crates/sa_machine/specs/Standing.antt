@@ -2,8 +2,8 @@
 use Rattle.std.specs.Prelude.{◌≡◌, ℕ, ◌==◌, Bool, false, if◌then◌else◌, Option, Some, None, is_some, List, [], ◌∷◌, length, slice_get, slice_index_or}
 use Rattle.sa_base.specs.declared.number.ActNo.{ActNo}
 use Rattle.sa_base.specs.declared.context.Stopped.{Stopped}
-use Rattle.sa_instr.specs.Space.{SpaceView}
-use Rattle.sa_instr.specs.Workload.{WorkloadView, IsWorkload}
+use Rattle.sa_spaces.specs.Space.{SpaceView}
+use Rattle.sa_spaces.specs.Workload.{WorkloadView, IsWorkload}
 use Rattle.sa_abstract.specs.Calls.{Contexts}
 use Rattle.sa_abstract.specs.Keeps.{Standing}
 use Rattle.sa_acts.specs.declared.acts.Act.{Act}

@@ -3,7 +3,7 @@
 ghost use Rattle.std.specs.Prelude.{◌≡◌, ◌+◌, None, List};
 ghost use Rattle.sa_base.specs.declared.number.ProcNo.{ProcNo};
 ghost use Rattle.sa_base.specs.declared.number.ActNo.{ActNo};
-ghost use Rattle.sa_instr.specs.Workload.{WorkloadView, IsWorkload};
+ghost use Rattle.sa_spaces.specs.Workload.{WorkloadView, IsWorkload};
 ghost use Rattle.sa_machine.specs.Machine.{Machine};
 ghost use Rattle.sa_machine.specs.Turn.{turned};
 ghost use Rattle.sa_machine.specs.Run.{opening, CanTurn, Move, IsMove, IsRun};

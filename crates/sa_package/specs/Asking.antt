@@ -7,7 +7,7 @@ use Rattle.sa_base.specs.declared.limits.TheConstants.{PAGES, BULK_RETURN}
 use Rattle.sa_base.specs.declared.context.Seen.{Seen}
 use Rattle.sa_base.specs.declared.record.Record.{Record}
 use Rattle.sa_instr.specs.Instr.{IsInRange}
-use Rattle.sa_instr.specs.Space.{SpaceView, IsSpace}
+use Rattle.sa_spaces.specs.Space.{SpaceView, IsSpace}
 use Rattle.sa_instr.specs.Program.{IsProgram}
 use Rattle.sa_instr.specs.declared.instr.Reg.{Reg}
 use Rattle.sa_instr.specs.declared.instr.Instr.{Instr}

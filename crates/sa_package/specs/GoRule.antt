@@ -9,7 +9,7 @@ use Rattle.sa_base.specs.declared.context.Seen.{Seen}
 use Rattle.sa_instr.specs.declared.instr.Instr.{Instr}
 use Rattle.sa_instr.specs.Local.{instr_at}
 use Rattle.sa_instr.specs.Program.{IsProgram}
-use Rattle.sa_instr.specs.Space.{IsSpace}
+use Rattle.sa_spaces.specs.Space.{IsSpace}
 use Rattle.sa_links.specs.Lists.{count_in_all}
 use Rattle.sa_sync.specs.Sync.{waits_of}
 use Rattle.sa_abstract.specs.Setting.{Setting}

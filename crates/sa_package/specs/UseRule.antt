@@ -4,7 +4,7 @@ use Rattle.sa_base.specs.declared.number.ThreadNo.{ThreadNo}
 use Rattle.sa_base.specs.declared.context.Seen.{Seen}
 use Rattle.sa_base.specs.declared.record.Record.{Record}
 use Rattle.std.specs.Prelude.{List}
-use Rattle.sa_instr.specs.Space.{IsSpace}
+use Rattle.sa_spaces.specs.Space.{IsSpace}
 use Rattle.sa_abstract.specs.Setting.{Setting}
 use Rattle.sa_abstract.specs.Calls.{Contexts}
 use Rattle.sa_links.specs.Lists.{list_at}

@@ -1,7 +1,7 @@
 // Runs of local instructions.
 ghost use Rattle.std.specs.Prelude.{◌≡◌, ◌+◌, ◌≤◌, ◌<◌, ◌++◌, length};
 ghost use Rattle.sa_base.specs.Items.{items_from};
-ghost use Rattle.sa_instr.specs.Space.{SpaceView};
+ghost use Rattle.sa_spaces.specs.Space.{SpaceView};
 ghost use Rattle.sa_abstract.specs.Walk.{program_at};
 ghost use Rattle.sa_fast.specs.Threads.{block_at};
 ghost use Rattle.sa_fast.specs.Instruction.{IsAt};

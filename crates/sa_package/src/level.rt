@@ -6,7 +6,7 @@ use crate::context::Context;
 use crate::package::FastThreads;
 use sa_abstract::{SeatState, Step, Tally, UserLevel};
 use sa_base::{Note, Seen, SpaceNo, Stopped, ThreadNo, Trace};
-use sa_instr::SpaceDef;
+use sa_spaces::SpaceDef;
 use std::alloc::{AllocError, Global};
 
 impl UserLevel for FastThreads {

@@ -1,6 +1,6 @@
 // The package.
 use sa_fast::Shared;
-use sa_instr::SpaceDef;
+use sa_spaces::SpaceDef;
 
 /// The FastThreads package of one address space (SOSP 1991, section 4).
 #[derive(Debug, Drop)]

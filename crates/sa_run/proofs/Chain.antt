@@ -1,7 +1,7 @@
 -- A run goes on by one turn.
 use Rattle.std.proofs.Common.{◌≡◌, ℕ, ◌+◌, ◌≤◌, None, sym, ap, ◌∙◌, subst, add-one}
 use Rattle.sa_base.specs.declared.number.ProcNo.{ProcNo}
-use Rattle.sa_instr.specs.Workload.{WorkloadView}
+use Rattle.sa_spaces.specs.Workload.{WorkloadView}
 use Rattle.sa_abstract.specs.Calls.{Calls}
 use Rattle.sa_assign.specs.Reaim.{proc_no}
 use Rattle.sa_sched.specs.Order.{Order, processor_at}

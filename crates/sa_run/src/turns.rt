@@ -5,7 +5,7 @@ ghost use Rattle.sa_run.specs.Run.{RunsTo, RunsSoFar};
 use sa_abstract::UserLevel;
 use sa_base::{End, MAX_EVENTS, Trace};
 use sa_core::Core;
-use sa_instr::Workload;
+use sa_spaces::Workload;
 use sa_sched::laws::turns_are_in_order;
 use sa_sched::{Kind, Schedule};
 use std::alloc::Global;

@@ -1,7 +1,7 @@
 -- What the threads of one space wait on: mutexes, semaphores and one another; and the cells that they share.
 -- Threads, mutexes, semaphores and cells are numbered from 0. A queue has the thread that came first at its front.
 use Rattle.std.specs.Prelude.{◌≡◌, ℕ, ◌≤◌, ◌<◌, Bool, false, List, [], ◌++◌, map, replicate, Option, None, slice_index, slice_index_or, slice_set}
-use Rattle.sa_instr.specs.Space.{SpaceView}
+use Rattle.sa_spaces.specs.Space.{SpaceView}
 use Rattle.sa_links.specs.Lists.{list_at, count_in_all}
 use Rattle.sa_base.specs.declared.limits.TheConstants.{MAX_THREADS}
 

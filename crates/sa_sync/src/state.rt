@@ -5,7 +5,8 @@ ghost use Rattle.sa_sync.specs.Calls.{locked, unlocked, waited, signalled, joine
 
 use crate::answer::SyncAnswer;
 use sa_base::{MAX_THREADS, ThreadNo};
-use sa_instr::{MAX_MUTEXES, SpaceDef};
+use sa_instr::MAX_MUTEXES;
+use sa_spaces::SpaceDef;
 use sa_links::Links;
 use std::alloc::{AllocError, Global};
 use std::marker::Model;

@@ -1,7 +1,7 @@
 -- A reader that stops has found what is bad in the text, and one that reads all lines has read a text.
 use Rattle.std.proofs.Common.{◌≡◌, ◌≢◌, ℕ, ◌+◌, ◌-◌, true, List, [], ◌∷◌, ◌++◌, length, take, Option, Some, None, MatchOption, Result, Ok, Err, MatchResult, slice_get, subst, sym, ◌∙◌, ap, refl, inl, inr, arith}
 use Rattle.std.proofs.Math.Seq.{take-length}
-use Rattle.sa_instr.specs.Workload.{WorkloadView}
+use Rattle.sa_spaces.specs.Workload.{WorkloadView}
 use Rattle.sa_text.specs.LineText.{LineText, line_texts}
 use Rattle.sa_text.specs.Pieces.{pieces_of}
 use Rattle.sa_text.proofs.PieceLemmas.{pieces_of-are_pieces}

@@ -10,9 +10,9 @@ use Rattle.sa_instr.specs.declared.limits.TheConstants.{LAST_PAGE, MAX_CELLS, MA
 use Rattle.sa_base.specs.declared.number.ProcNo.{ProcNo}
 use Rattle.sa_instr.specs.declared.instr.Instr.{Instr}
 use Rattle.sa_instr.specs.declared.instr.Instr.TheVariants.{Compute, Set, Add, Sub, Jnz, Load, Store, Out, Fork, Join, Lock, Unlock, Wait, Signal, Io, Touch, End}
-use Rattle.sa_instr.specs.declared.workload.Evict.{Evict}
-use Rattle.sa_instr.specs.Space.{SpaceView, IsSpace}
-use Rattle.sa_instr.specs.Workload.{IsEviction, IsBefore}
+use Rattle.sa_spaces.specs.declared.workload.Evict.{Evict}
+use Rattle.sa_spaces.specs.Space.{SpaceView, IsSpace}
+use Rattle.sa_spaces.specs.Workload.{IsEviction, IsBefore}
 use Rattle.sa_workload.specs.Text.{instr_line, absent_line, evict_line}
 use Rattle.sa_workload.specs.Bad.{Grammar, IsRightWord, IsTooMany, IsOutOfOrder, IsInOrder, IsFirstWrong, AreRight, numbers_of, list_lt, first_word, last_line, count_of_word, spaces_in, Field, Register, within, declared, fields_behind, patience_field, needs_patience, mutexes_in, sems_in, cells_in, programs_in, length_in, processors_in, instr_words, WordCause}
 use Rattle.sa_workload.specs.Position.{Machine, Draft, Position, AtVersion, AtProcessors, AtFetch, AtSlice, AtSpaces, AtSpace, AtSem, AtAbsent, AtProgram, AtInstr, AtEvict, AtTurn, Closed, IsReached, shown}

@@ -1,7 +1,7 @@
 -- The next line of any text is a step from the position that shows the lines before it.
 use Rattle.std.proofs.Common.{◌≡◌, ℕ, ◌+◌, ◌≤◌, ◌⊎◌, List, [], ◌∷◌, ◌++◌, length, arith, refl, sym, ap, ◌∙◌, subst, inl, inr, zero, suc, append_assoc}
 use Rattle.std.proofs.lemmas.List.{length_push, length-append, same_from_push}
-use Rattle.sa_instr.specs.Workload.{WorkloadView, IsWorkload}
+use Rattle.sa_spaces.specs.Workload.{WorkloadView, IsWorkload}
 use Rattle.sa_workload.specs.Text.{version_of, workload_lines}
 use Rattle.sa_workload.specs.Position.{Position, AtVersion, Closed, IsReached, shown}
 use Rattle.sa_workload.specs.Steps.{Steps}

@@ -4,7 +4,7 @@ use Rattle.std.proofs.lemmas.List.{length_push}
 use Rattle.sa_instr.specs.declared.instr.Instr.{Instr}
 use Rattle.sa_instr.specs.declared.instr.Instr.TheVariants.{End}
 use Rattle.sa_instr.specs.Program.{IsProgram}
-use Rattle.sa_instr.specs.Space.{SpaceView}
+use Rattle.sa_spaces.specs.Space.{SpaceView}
 use Rattle.sa_workload.specs.Text.{instr_line}
 use Rattle.sa_workload.specs.Bad.{Grammar, Begins, IsRightWord, IsTooMany, Field, IsFirstWrong, AreRight, IsOutOfOrder, IsInOrder, FieldCause, WordCause, fields_behind}
 use Rattle.sa_workload.specs.Position.{Machine, Draft, Position, AtInstr, IsReached, shown}

@@ -4,7 +4,7 @@ use Rattle.std.proofs.lemmas.Bool.{cases_lt}
 use Rattle.std.proofs.lemmas.List.{map-append, drop_more, take-take, get_or-take}
 use Rattle.std.proofs.lemmas.List.Elements.{All-map}
 use Rattle.std.proofs.lemmas.Option.{slice_get_past, slice_get_within, slice_get-get_or}
-use Rattle.sa_instr.specs.Workload.{WorkloadView, IsWorkload}
+use Rattle.sa_spaces.specs.Workload.{WorkloadView, IsWorkload}
 use Rattle.sa_text.specs.LineText.{LineText, line_texts}
 use Rattle.sa_text.specs.Pieces.{pieces_of}
 use Rattle.sa_workload.specs.Text.{workload_lines, text_of}

@@ -7,8 +7,8 @@ use Rattle.std.proofs.lemmas.List.Concat.{flat_map-append}
 use Rattle.std.proofs.lemmas.List.Folds.{flat_map-map}
 use Rattle.sa_instr.specs.declared.instr.Reg.{Reg}
 use Rattle.sa_instr.specs.declared.instr.Instr.{Instr}
-use Rattle.sa_instr.specs.Space.{SpaceView}
-use Rattle.sa_instr.specs.Workload.{WorkloadView}
+use Rattle.sa_spaces.specs.Space.{SpaceView}
+use Rattle.sa_spaces.specs.Workload.{WorkloadView}
 use Rattle.sa_workload.specs.Text.{register, instr_line, program_lines, space_line, space_lines, sem_line, absent_line, evict_line, turn_line, version_of, slice_lines, machine_lines, closing_lines, workload_lines, line_text, text_of}
 
 -- words with a space between each two are the first, and each other behind a space

@@ -8,8 +8,8 @@ use Rattle.std.proofs.lemmas.List.Elements.{All-nil, All-cons, All-append, All-h
 use Rattle.std.proofs.lemmas.List.Folds.{list_all-append}
 use Rattle.sa_base.specs.declared.number.ProcNo.{ProcNo}
 use Rattle.sa_instr.specs.declared.instr.Instr.{Instr}
-use Rattle.sa_instr.specs.declared.workload.Evict.{Evict}
-use Rattle.sa_instr.specs.Space.{SpaceView}
+use Rattle.sa_spaces.specs.declared.workload.Evict.{Evict}
+use Rattle.sa_spaces.specs.Space.{SpaceView}
 use Rattle.sa_workload.specs.Text.{instr_line, program_lines, sem_line, absent_line, space_line, space_lines, evict_line, turn_line, slice_lines}
 use Rattle.sa_workload.specs.Bad.{first_word, last_line, last_with, instr_words, count_of_word, number_in, version_in, processors_in, spaces_in, mutexes_in, sems_in, cells_in, programs_in, length_in, needs_patience}
 use Rattle.sa_workload.specs.Position.{Machine, Draft, AtSlice, AtSpace, AtAbsent, AtInstr, AtEvict, AtTurn, version_line, processors_line, fetch_line, spaces_line, shown_machine, shown_spaces, draft_line, shown_draft, shown}

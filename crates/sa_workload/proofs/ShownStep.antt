@@ -5,8 +5,8 @@ use Rattle.std.proofs.lemmas.List.{map_push}
 use Rattle.std.proofs.lemmas.List.Concat.{flat_map-append}
 use Rattle.sa_base.specs.declared.number.ProcNo.{ProcNo}
 use Rattle.sa_instr.specs.declared.instr.Instr.{Instr}
-use Rattle.sa_instr.specs.declared.workload.Evict.{Evict}
-use Rattle.sa_instr.specs.Space.{SpaceView}
+use Rattle.sa_spaces.specs.declared.workload.Evict.{Evict}
+use Rattle.sa_spaces.specs.Space.{SpaceView}
 use Rattle.sa_workload.specs.Text.{instr_line, program_lines, sem_line, absent_line, space_lines, evict_line, turn_line, slice_lines, version_of, workload_lines}
 use Rattle.sa_workload.specs.Position.{Machine, Draft, Position, AtSlice, AtSpaces, AtSpace, AtSem, AtAbsent, AtProgram, AtInstr, AtEvict, IsReached, AreSpaces, CanSlice, version_line, processors_line, fetch_line, spaces_line, shown_machine, shown_spaces, draft_line, shown_draft, shown}
 use Rattle.sa_workload.specs.Steps.{Steps, step_version, step_processors, step_fetch, step_slice, step_spaces, step_space, step_sem, step_absent, step_first_program, step_program, step_instr, step_evict, step_first_turn, step_turn, step_first_close, step_close, slice_line, program_line, close_line, workload, space_of_draft, IsFresh, with_sem, with_absent, with_program, after_sem, after_spaces, after_program, after_instr}

@@ -12,9 +12,9 @@ use Rattle.sa_instr.specs.declared.instr.Reg.{Reg}
 use Rattle.sa_instr.specs.declared.instr.Reg.TheVariants.{R0, R1, R2, R3, R4, R5, R6, R7}
 use Rattle.sa_instr.specs.declared.instr.Instr.{Instr}
 use Rattle.sa_instr.specs.declared.instr.Instr.TheVariants.{Compute, Set, Add, Sub, Jnz, Load, Store, Out, Fork, Join, Lock, Unlock, Wait, Signal, Io, Touch, End}
-use Rattle.sa_instr.specs.declared.workload.Evict.{Evict}
-use Rattle.sa_instr.specs.Space.{SpaceView, IsSpace}
-use Rattle.sa_instr.specs.Workload.{IsEviction, IsBefore}
+use Rattle.sa_spaces.specs.declared.workload.Evict.{Evict}
+use Rattle.sa_spaces.specs.Space.{SpaceView, IsSpace}
+use Rattle.sa_spaces.specs.Workload.{IsEviction, IsBefore}
 use Rattle.sa_workload.specs.Text.{register, instr_line, absent_line, evict_line}
 use Rattle.sa_workload.specs.Bad.{Field, Register, Number, within, declared, registers, IsRightFor, AreRight, IsTooMany, IsInOrder, fields_behind, patience_field, needs_patience, version_in, processors_in, spaces_in, mutexes_in, sems_in, cells_in, programs_in, length_in, numbers_of, list_lt, first_word, last_line, instr_words, count_of_word}
 use Rattle.sa_workload.specs.Position.{Machine, Draft, Position, AtVersion, AtProcessors, AtFetch, AtSlice, AtSpaces, AtSpace, AtSem, AtAbsent, AtProgram, AtInstr, AtEvict, AtTurn, Closed, IsReached, shown}

@@ -1,6 +1,6 @@
 -- Where a reader of lines stands, and where it stops. Private functions of the reader cite this; no public clause does.
 use Rattle.std.specs.Prelude.{◌≡◌, ◌≢◌, ℕ, ◌+◌, ◌-◌, ◌≤◌, true, List, length, take, All, MatchOption, slice_get}
-use Rattle.sa_instr.specs.Workload.{WorkloadView}
+use Rattle.sa_spaces.specs.Workload.{WorkloadView}
 use Rattle.sa_text.specs.LineText.{LineText}
 use Rattle.sa_workload.specs.Bad.{words_of}
 use Rattle.sa_workload.specs.Position.{Position, Closed, IsReached, shown}

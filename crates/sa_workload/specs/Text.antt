@@ -5,10 +5,10 @@ use Rattle.sa_base.specs.declared.number.ProcNo.{ProcNo}
 use Rattle.sa_instr.specs.declared.instr.Reg.{Reg}
 use Rattle.sa_instr.specs.declared.instr.Instr.{Instr}
 use Rattle.sa_instr.specs.declared.instr.Instr.TheVariants.{Compute, Set, Add, Sub, Jnz, Load, Store, Out, Fork, Join, Lock, Unlock, Wait, Signal, Io, Touch, End}
-use Rattle.sa_instr.specs.declared.workload.Evict.{Evict}
+use Rattle.sa_spaces.specs.declared.workload.Evict.{Evict}
 use Rattle.sa_instr.specs.Instr.{reg_number}
-use Rattle.sa_instr.specs.Space.{SpaceView}
-use Rattle.sa_instr.specs.Workload.{WorkloadView, IsWorkload}
+use Rattle.sa_spaces.specs.Space.{SpaceView}
+use Rattle.sa_spaces.specs.Workload.{WorkloadView, IsWorkload}
 
 -- the word of a register
 abbrev pub register : Reg → List ℕ

@@ -1,7 +1,7 @@
 -- What holds of the texts of workloads, line by line and byte by byte.
 use Rattle.std.specs.Prelude.{◌≡◌, ◌⊎◌, ℕ, ◌≤◌, true, List, map, All}
 use Rattle.std.specs.List.{join_with_byte}
-use Rattle.sa_instr.specs.Workload.{WorkloadView, IsWorkload}
+use Rattle.sa_spaces.specs.Workload.{WorkloadView, IsWorkload}
 use Rattle.sa_text.specs.LineText.{LineText, line_texts}
 use Rattle.sa_workload.specs.Text.{workload_lines, text_of, IsText1}
 use Rattle.sa_workload.specs.Bad.{words_of, BadAt1}

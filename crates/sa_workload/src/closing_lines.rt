@@ -1,7 +1,7 @@
 // The lines behind those of the spaces.
 ghost use Rattle.std.specs.Prelude.{◌≡◌, ◌↔◌, ◌<◌, ◌≤◌, [], ◌∷◌, ◌++◌, IsTrue, MatchResult, codes, decimal, length};
 ghost use Rattle.sa_base.specs.declared.number.ProcNo.{ProcNo};
-ghost use Rattle.sa_instr.specs.Workload.{IsBefore, IsEviction, IsWorkload};
+ghost use Rattle.sa_spaces.specs.Workload.{IsBefore, IsEviction, IsWorkload};
 ghost use Rattle.sa_workload.specs.Bad.{IsFirstWrong};
 ghost use Rattle.sa_workload.specs.Position.{AtEvict, AtTurn, Closed};
 ghost use Rattle.sa_base.specs.Cause.{cause_number};
@@ -13,7 +13,8 @@ use crate::cause::Refusal;
 use crate::line_words::{Words, last_number};
 use crate::stage::{Header, Stage};
 use sa_base::{Cause, MAX_EVENTS, ProcNo, SpaceNo};
-use sa_instr::{Evict, LAST_PAGE, MAX_EVICTIONS, MAX_TURNS, SpaceDef, Workload};
+use sa_instr::{LAST_PAGE, MAX_EVICTIONS, MAX_TURNS};
+use sa_spaces::{Evict, SpaceDef, Workload};
 use std::alloc::Global;
 
 /// `evict E S K`, the first `turn P`, or `close`.

@@ -1,7 +1,7 @@
 // The lines of instructions, and what their last one ends.
 ghost use Rattle.std.specs.Prelude.{◌≡◌, ◌+◌, IsTrue, MatchResult, length};
 ghost use Rattle.sa_instr.specs.Program.{IsProgram};
-ghost use Rattle.sa_instr.specs.Space.{IsSpace};
+ghost use Rattle.sa_spaces.specs.Space.{IsSpace};
 ghost use Rattle.sa_workload.specs.Operation.{IsAllowed, HasLimits};
 ghost use Rattle.sa_workload.specs.Position.{AtInstr};
 ghost use Rattle.sa_base.specs.Cause.{cause_number};
@@ -15,7 +15,8 @@ use crate::line_words::Words;
 use crate::operations::read_operation;
 use crate::stage::{Header, SpaceDraft, Stage, after_spaces};
 use sa_base::Cause;
-use sa_instr::{Instr, Program, SpaceDef};
+use sa_instr::{Instr, Program};
+use sa_spaces::SpaceDef;
 use std::alloc::Global;
 
 /// An instruction of a program of this length; the last one is `end`.

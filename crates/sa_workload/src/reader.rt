@@ -1,6 +1,6 @@
 // The reader: one line after another.
 ghost use Rattle.std.specs.Prelude.{◌≡◌, ℕ, ◌≤◌, ◌↔◌, true, IsTrue, IfOk, IfErr, MatchResult, slice_range};
-ghost use Rattle.sa_instr.specs.Workload.{WorkloadView};
+ghost use Rattle.sa_spaces.specs.Workload.{WorkloadView};
 ghost use Rattle.sa_text.specs.Line.{IsWithin, text_of_line};
 ghost use Rattle.sa_text.specs.LineText.{line_texts};
 ghost use Rattle.sa_text.specs.Pieces.{pieces_of};
@@ -21,7 +21,7 @@ use crate::machine_lines::{read_fetch, read_processors, read_slice, read_spaces,
 use crate::space_lines::{read_absent_or_program, read_program, read_sem, read_space};
 use crate::stage::{MachineStage, Stage};
 use sa_base::{Bad, Cause, Unread};
-use sa_instr::Workload;
+use sa_spaces::Workload;
 use sa_text::{Line, Lines};
 use std::alloc::Global;
 

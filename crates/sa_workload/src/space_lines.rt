@@ -1,7 +1,7 @@
 // The lines of a space but for its instructions.
 ghost use Rattle.std.specs.Prelude.{◌≡◌, ◌≢◌, ◌⊎◌, ℕ, ◌<◌, ◌≤◌, ◌==◌, ◌∷◌, ◌++◌, [], if◌then◌else◌, length, MatchResult, codes, decimal};
 ghost use Rattle.std.specs.List.{list_all};
-ghost use Rattle.sa_instr.specs.Space.{SpaceView};
+ghost use Rattle.sa_spaces.specs.Space.{SpaceView};
 ghost use Rattle.sa_workload.specs.Bad.{within, IsFirstWrong};
 ghost use Rattle.sa_workload.specs.Position.{AtSpace, AtSem, AtAbsent, AtProgram, AtInstr, draft_line};
 ghost use Rattle.sa_base.specs.Cause.{cause_number};
@@ -12,10 +12,8 @@ use crate::cause::Refusal;
 use crate::line_words::{Words, keyword_and_number, last_number};
 use crate::stage::{Header, SpaceDraft, Stage, after_sem};
 use sa_base::Cause;
-use sa_instr::{
-    LAST_PAGE, MAX_CELLS, MAX_INSTRUCTIONS, MAX_MUTEXES, MAX_PATIENCE, MAX_PRIORITY, MAX_PROGRAMS,
-    MAX_SEMAPHORES, MAX_START, SpaceDef,
-};
+use sa_instr::{LAST_PAGE, MAX_CELLS, MAX_INSTRUCTIONS, MAX_MUTEXES, MAX_PATIENCE, MAX_PRIORITY, MAX_PROGRAMS, MAX_SEMAPHORES, MAX_START};
+use sa_spaces::SpaceDef;
 use std::alloc::Global;
 
 /// `space R M E C G`, with the patience behind it in version 3.

@@ -4,7 +4,8 @@ ghost use Rattle.sa_workload.specs.Stage.{machine_of, draft_of, position_of};
 ghost use Rattle.sa_workload.specs.Steps.{after_fetch as behind_fetch, after_sem as behind_sem, after_spaces as behind_spaces};
 
 use sa_base::ProcNo;
-use sa_instr::{Evict, Instr, Program, SpaceDef, Workload};
+use sa_instr::{Instr, Program};
+use sa_spaces::{Evict, SpaceDef, Workload};
 use std::alloc::Global;
 
 /// What the lines before the spaces say.

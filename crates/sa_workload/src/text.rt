@@ -5,7 +5,8 @@ ghost use Rattle.sa_workload.specs.Text.{text_of, line_text, version_of, machine
 
 use crate::push::push_line;
 use sa_base::ProcNo;
-use sa_instr::{Evict, Instr, Program, SpaceDef, Workload};
+use sa_instr::{Instr, Program};
+use sa_spaces::{Evict, SpaceDef, Workload};
 use std::alloc::{AllocError, Global};
 
 /// The one text of the workload: version 3 where some space has a patience other than 1, else version 2

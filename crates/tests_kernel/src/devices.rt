@@ -2,7 +2,8 @@ ghost use Rattle.std.specs.Prelude.{◌≡◌, length, IfOk};
 
 use sa_base::{ActNo, IoNo, SpaceNo};
 use sa_devices::{Devices, IoKind};
-use sa_instr::{Evict, Instr, Program, SpaceDef, Workload};
+use sa_instr::{Instr, Program};
+use sa_spaces::{Evict, SpaceDef, Workload};
 use std::alloc::Global;
 use std::test::Fail;
 

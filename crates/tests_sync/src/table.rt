@@ -5,7 +5,8 @@ ghost use Rattle.sa_sync.specs.Sync.{WaitsNowhere};
 
 use crate::plain::Plain;
 use sa_base::ThreadNo;
-use sa_instr::{Instr, Program, SpaceDef};
+use sa_instr::{Instr, Program};
+use sa_spaces::SpaceDef;
 use sa_sync::SyncState;
 use std::alloc::Global;
 use std::process::Abort;

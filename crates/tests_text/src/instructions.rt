@@ -1,5 +1,6 @@
 use sa_base::{ProcNo, SpaceNo};
-use sa_instr::{Evict, Instr, Local, Program, Reg, Regs, SpaceDef, Workload, local};
+use sa_instr::{Instr, Local, Program, Reg, Regs, local};
+use sa_spaces::{Evict, SpaceDef, Workload};
 use std::alloc::{AllocError, Global};
 use std::process::Abort;
 use std::test::Fail;

@@ -1,6 +1,7 @@
 use crate::workloads::{PATIENT, SLICED, TWO_SPACES};
 use sa_base::{ProcNo, SpaceNo};
-use sa_instr::{Evict, Instr, Program, Reg, SpaceDef, Workload};
+use sa_instr::{Instr, Program, Reg};
+use sa_spaces::{Evict, SpaceDef, Workload};
 use sa_workload::print;
 use std::alloc::Global;
 use std::process::Abort;

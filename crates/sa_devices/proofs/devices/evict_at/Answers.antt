@@ -1,7 +1,7 @@
 use Rattle.std.proofs.Common.{List, ltb, refl, sym, ap, ◌∙◌, rules}
 use Rattle.std.proofs.lemmas.List.{take_rest}
 use Rattle.std.proofs.lemmas.List.Sorted.{IsPartitionPoint-from_clause}
-use Rattle.sa_instr.specs.declared.workload.Evict.{Evict}
+use Rattle.sa_spaces.specs.declared.workload.Evict.{Evict}
 use Rattle.sa_devices.specs.Pages.{evicted}
 use Rattle.sa_devices.proofs.SoundLemmas.{IsCut-from_point, IsPartitionedBy-event, evicted-skip, evicted-then}
 use Rattle.sa_devices.proofs.devices.evict_at.Goals as goal

@@ -1,5 +1,5 @@
 use Rattle.std.proofs.Common.{◌≡◌, map, take}
-use Rattle.sa_instr.specs.Space.{SpaceView}
+use Rattle.sa_spaces.specs.Space.{SpaceView}
 use Rattle.sa_kernel.proofs.start.priorities.Given as goal
 
 abbrev pub invariant-loop-space : goal.invariant-loop-space

@@ -1,5 +1,5 @@
 use Rattle.std.proofs.Common.{◌≡◌, ◌++◌, [], ◌∷◌, List, length, refl, ap, ◌∙◌, arith}
-use Rattle.sa_instr.specs.Space.{SpaceView}
+use Rattle.sa_spaces.specs.Space.{SpaceView}
 use Rattle.sa_machine.specs.Run.{setting}
 use Rattle.sa_core.proofs.CountLemmas.{counted-few, user-is}
 use Rattle.sa_core.proofs.users.Users.add.Goals as goal

@@ -1,7 +1,7 @@
 use Rattle.std.proofs.Common.{ℕ, false, List, [], length, map, replicate, None, Option, ap, ◌∙◌}
 use Rattle.sa_base.specs.declared.number.ActNo.{ActNo}
 use Rattle.sa_base.specs.declared.record.Note.{Note}
-use Rattle.sa_instr.specs.Space.{SpaceView}
+use Rattle.sa_spaces.specs.Space.{SpaceView}
 use Rattle.sa_assign.specs.AssignView.{AssignView}
 use Rattle.sa_kernel.specs.Notices.{NoticesView}
 use Rattle.sa_kernel.proofs.machine.Machine.new.Goals as goal

@@ -1,6 +1,6 @@
 -- A space's fields as a contract sees them.
-use Rattle.sa_instr.specs.declared.space.SpaceDef.TheInside.{Inside}
-use Rattle.sa_instr.specs.Space.{SpaceView}
+use Rattle.sa_spaces.specs.declared.space.SpaceDef.TheInside.{Inside}
+use Rattle.sa_spaces.specs.Space.{SpaceView}
 
 abbrev pub space_of : Inside → SpaceView
 space_of s = record {

@@ -1,8 +1,8 @@
 use Rattle.std.proofs.Common.{subst, sym, get_or}
-use Rattle.sa_instr.specs.declared.workload.Evict.{Evict}
-use Rattle.sa_instr.specs.Workload.{IsBefore}
-use Rattle.sa_instr.proofs.EvictionLemmas.{in_order, not_before_itself}
-use Rattle.sa_instr.proofs.laws.evictions_are_in_order.Goals as goal
+use Rattle.sa_spaces.specs.declared.workload.Evict.{Evict}
+use Rattle.sa_spaces.specs.Workload.{IsBefore}
+use Rattle.sa_spaces.proofs.EvictionLemmas.{in_order, not_before_itself}
+use Rattle.sa_spaces.proofs.laws.evictions_are_in_order.Goals as goal
 
 pub returns-clause-before : goal.returns-clause-before
 returns-clause-before c = λ w h. in_order w.evictions h.evictions_rise

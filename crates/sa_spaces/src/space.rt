@@ -3,14 +3,12 @@ ghost use Rattle.std.specs.Prelude.{◌≡◌, ◌≤◌, ◌<◌, ◌↔◌, Is
 ghost use Rattle.std.specs.List.Sorted.{IsStrictlyIncreasing};
 ghost use Rattle.sa_instr.specs.Instr.{NamesDeclared};
 ghost use Rattle.sa_instr.specs.Program.{IsProgram};
-ghost use Rattle.sa_instr.specs.Space.{SpaceView, IsSpace};
+ghost use Rattle.sa_spaces.specs.Space.{SpaceView, IsSpace};
 
-use crate::declared::Declared;
-use crate::limits::{
-    LAST_PAGE, MAX_CELLS, MAX_MUTEXES, MAX_PATIENCE, MAX_PRIORITY, MAX_PROGRAMS, MAX_SEMAPHORES,
-    MAX_START,
+use sa_instr::{
+    Declared, LAST_PAGE, MAX_CELLS, MAX_MUTEXES, MAX_PATIENCE, MAX_PRIORITY, MAX_PROGRAMS,
+    MAX_SEMAPHORES, MAX_START, Program,
 };
-use crate::program::Program;
 use std::alloc::{AllocError, Global};
 use std::marker::Model;
 
@@ -27,11 +25,11 @@ pub struct SpaceDef {
 }
 
 impl Model for SpaceDef {
-    ghost use Rattle.sa_instr.specs.Space.{SpaceView, IsSpace};
+    ghost use Rattle.sa_spaces.specs.Space.{SpaceView, IsSpace};
 
     ghost Value = { SpaceView };
 
-    ghost use Rattle.sa_instr.specs.SpaceFields.{space_of};
+    ghost use Rattle.sa_spaces.specs.SpaceFields.{space_of};
 
     ghost view = { space_of };
 

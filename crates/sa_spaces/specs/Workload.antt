@@ -4,8 +4,8 @@ use Rattle.std.specs.List.{AllAdjacentBelow}
 use Rattle.sa_base.specs.declared.number.ProcNo.{ProcNo}
 use Rattle.sa_base.specs.declared.limits.TheConstants.{MAX_EVENTS, MAX_PROCESSORS, MAX_SPACES}
 use Rattle.sa_instr.specs.declared.limits.TheConstants.{LAST_PAGE, MAX_EVICTIONS, MAX_FETCH, MAX_SLICE, MAX_TURNS}
-use Rattle.sa_instr.specs.declared.workload.Evict.{Evict}
-use Rattle.sa_instr.specs.Space.{SpaceView, IsSpace}
+use Rattle.sa_spaces.specs.declared.workload.Evict.{Evict}
+use Rattle.sa_spaces.specs.Space.{SpaceView, IsSpace}
 
 -- what a contract sees of a workload
 pub record WorkloadView : Type 0 where

@@ -1,5 +1,5 @@
 use Rattle.std.proofs.Common.{ℕ, ◌+◌, ◌<◌, slice_index}
-use Rattle.sa_instr.proofs.space.rise.Given as goal
+use Rattle.sa_spaces.proofs.space.rise.Given as goal
 
 -- the pages below i rise
 abbrev pub invariant-loop-i : goal.invariant-loop-i

@@ -1,6 +1,6 @@
 -- A workload's fields as a contract sees them.
-use Rattle.sa_instr.specs.declared.workload.Workload.TheInside.{Inside}
-use Rattle.sa_instr.specs.Workload.{WorkloadView}
+use Rattle.sa_spaces.specs.declared.workload.Workload.TheInside.{Inside}
+use Rattle.sa_spaces.specs.Workload.{WorkloadView}
 
 abbrev pub workload_of : Inside → WorkloadView
 workload_of w = record {

@@ -1,6 +1,6 @@
 use Rattle.std.specs.List.{AllWithin}
-use Rattle.sa_instr.specs.Space.{IsSpace}
-use Rattle.sa_instr.proofs.workload.show_ranges.Given as goal
+use Rattle.sa_spaces.specs.Space.{IsSpace}
+use Rattle.sa_spaces.proofs.workload.show_ranges.Given as goal
 
 -- so many spaces keep to their ranges
 abbrev pub invariant-loop-space : goal.invariant-loop-space

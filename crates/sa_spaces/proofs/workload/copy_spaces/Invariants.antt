@@ -1,5 +1,5 @@
 use Rattle.std.proofs.Common.{◌≡◌, take}
-use Rattle.sa_instr.proofs.workload.copy_spaces.Given as goal
+use Rattle.sa_spaces.proofs.workload.copy_spaces.Given as goal
 
 -- so many spaces are copied
 abbrev pub invariant-loop-space : goal.invariant-loop-space

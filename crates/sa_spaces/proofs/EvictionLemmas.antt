@@ -1,8 +1,8 @@
 -- Evictions that rise, each above the one before, are in order throughout.
 use Rattle.std.proofs.Common.{◌≡◌, ℕ, ◌+◌, ◌-◌, ◌<◌, zero, suc, List, length, get_or, arith, subst}
 use Rattle.std.specs.List.{AllAdjacentBelow, AllPairs}
-use Rattle.sa_instr.specs.declared.workload.Evict.{Evict}
-use Rattle.sa_instr.specs.Workload.{IsBefore}
+use Rattle.sa_spaces.specs.declared.workload.Evict.{Evict}
+use Rattle.sa_spaces.specs.Workload.{IsBefore}
 
 -- a relation that holds of each element and the next holds over a gap of n more
 over_gap : {X : Type 0} (R : X → X → Type 0) → ((a b c : X) → R a b → R b c → R a c) → (xs : List X) (d : X)

@@ -1,11 +1,11 @@
 // Workloads.
 ghost use Rattle.std.specs.Prelude.{◌≡◌, ◌≤◌, ◌<◌, ◌↔◌, IsTrue, SomeIff, IfOk, All, length};
 ghost use Rattle.std.specs.List.{AllAdjacentBelow};
-ghost use Rattle.sa_instr.specs.Space.{IsSpace};
+ghost use Rattle.sa_spaces.specs.Space.{IsSpace};
 
-use crate::limits::{LAST_PAGE, MAX_EVICTIONS, MAX_FETCH, MAX_SLICE, MAX_TURNS};
 use crate::space::SpaceDef;
 use sa_base::{MAX_EVENTS, MAX_PROCESSORS, MAX_SPACES, ProcNo, SpaceNo};
+use sa_instr::{LAST_PAGE, MAX_EVICTIONS, MAX_FETCH, MAX_SLICE, MAX_TURNS};
 use std::alloc::{AllocError, Global};
 use std::marker::Model;
 
@@ -21,7 +21,7 @@ pub struct Evict {
 }
 
 impl Evict {
-    ghost use Rattle.sa_instr.specs.Workload.{IsEviction, IsBefore};
+    ghost use Rattle.sa_spaces.specs.Workload.{IsEviction, IsBefore};
 
     // Whether it is of a page of one of so many spaces, at an event that a run can have.
     fn is_in_range(&self, spaces: usize) -> bool
@@ -82,11 +82,11 @@ pub struct Workload {
 }
 
 impl Model for Workload {
-    ghost use Rattle.sa_instr.specs.Workload.{WorkloadView, IsWorkload};
+    ghost use Rattle.sa_spaces.specs.Workload.{WorkloadView, IsWorkload};
 
     ghost Value = { WorkloadView };
 
-    ghost use Rattle.sa_instr.specs.WorkloadFields.{workload_of};
+    ghost use Rattle.sa_spaces.specs.WorkloadFields.{workload_of};
 
     ghost view = { workload_of };
 
@@ -94,7 +94,7 @@ impl Model for Workload {
 }
 
 impl Workload {
-    ghost use Rattle.sa_instr.specs.Workload.{WorkloadView, IsWorkload, IsEviction, IsBefore};
+    ghost use Rattle.sa_spaces.specs.Workload.{WorkloadView, IsWorkload, IsEviction, IsBefore};
 
     /// A workload of slice 0. It cannot fail for want of memory.
     ///

@@ -1,5 +1,5 @@
 use Rattle.std.proofs.Common.{◌≡◌, take}
-use Rattle.sa_instr.proofs.space.copy_programs.Given as goal
+use Rattle.sa_spaces.proofs.space.copy_programs.Given as goal
 
 -- so many programs are copied
 abbrev pub invariant-loop-program : goal.invariant-loop-program
