@@ -1,7 +1,9 @@
 ghost use Rattle.std.specs.Prelude.{◌≡◌, ◌+◌, ◌≤◌, [], ◌∷◌, ◌++◌, length, slice_get, IsTrue, ◌↔◌, OnOk, OnErr};
 ghost use Rattle.std.specs.Option.{option_copied};
+ghost use Rattle.sa_base.specs.Recorded.{Adds};
 
-use crate::record::Item;
+use crate::number::ProcNo;
+use crate::record::{Item, Record};
 use std::alloc::{AllocError, Global};
 use std::marker::Model;
 
@@ -57,6 +59,19 @@ impl Trace {
     {
         self.items.push_reserved(item);
         self.spare -= 1;
+    }
+
+    /// Appends a record of an event on a processor, for which there is room. It cannot fail for want of memory.
+    pub fn say(&mut self, event: u64, p: ProcNo, what: Record)
+        requires { 1 ≤ self.old.spare }
+        ensures items { self.new.items ≡ self.old.items ++ record { event = event; proc = p; what = what } ∷ [] }
+        ensures room { Adds 1 self.old self.new }
+    {
+        self.add(Item {
+            event,
+            proc: p,
+            what,
+        });
     }
 
     /// The number of items.

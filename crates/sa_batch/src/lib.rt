@@ -1,6 +1,8 @@
-//! A queue of notices: what a space was not told yet.
+//! Notices that wait: what each space was not told yet, and what the last upcall told.
 #![tactic(auto)]
 
 mod batch;
+mod notices;
 
 pub use batch::Batch;
+pub use notices::Notices;

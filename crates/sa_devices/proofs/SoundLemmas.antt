@@ -9,7 +9,7 @@ use Rattle.std.proofs.lemmas.List.Elements.{All-nil, All-cons, All-head, All-tai
 use Rattle.std.proofs.lemmas.Option.{none-some, same_Some}
 use Rattle.sa_spaces.specs.declared.workload.Evict.{Evict}
 use Rattle.sa_spaces.specs.Workload.{IsEviction, IsBefore}
-use Rattle.sa_instr.proofs.EvictionLemmas.{in_order}
+use Rattle.sa_spaces.proofs.EvictionLemmas.{in_order}
 use Rattle.sa_devices.specs.declared.kind.IoKind.{IoKind}
 use Rattle.sa_devices.specs.declared.kind.IoKind.TheVariants.{Plain, Page, Upcall}
 use Rattle.sa_devices.specs.Ios.{Io, is_number, io_at, without, fetches, one_fetch}

@@ -1,5 +1,6 @@
 -- The resident pages of each space: a number whose bit k says that page k is resident.
 use Rattle.std.specs.Prelude.{ℕ, ◌-◌, ◌^◌, ◌<◌, ◌≤◌, ◌==◌, if◌then◌else◌, List, [], ◌∷◌, bit_and, bit_or, slice_index, slice_set}
+use Rattle.sa_instr.specs.declared.limits.TheConstants.{LAST_PAGE}
 use Rattle.sa_spaces.specs.declared.workload.Evict.{Evict}
 use Rattle.sa_spaces.specs.Space.{SpaceView}
 use Rattle.sa_devices.specs.declared.kind.IoKind.{IoKind}
@@ -43,8 +44,8 @@ abbrev pub evicted : ℕ → List Evict → List ℕ → List ℕ
 evicted event [] pages = pages
 evicted event (e ∷ es) pages = evicted event es (if e.event == event then gone pages e.space.0 e.page else pages)
 
--- the I/O is for one of so many spaces, and for one of the pages 1 to 15, if it is for a page other than the upcall page
+-- the I/O is for one of so many spaces, and a page that it is for is not the upcall page
 abbrev pub IsKind : ℕ → IoKind → Type 0
 IsKind spaces (Plain s a) = s.0 < spaces
-IsKind spaces (Page s a k) = (s.0 < spaces) × (1 ≤ k) × (k ≤ 15)
+IsKind spaces (Page s a k) = (s.0 < spaces) × (1 ≤ k) × (k ≤ LAST_PAGE)
 IsKind spaces (Upcall s) = s.0 < spaces

@@ -11,6 +11,7 @@ use crate::kind::IoKind;
 use crate::under_way::UnderWay;
 use arrayvec::ArrayVec;
 use sa_base::{IoNo, MAX_EVENTS, MAX_SPACES, SpaceNo, UPCALL_PAGE};
+use sa_instr::LAST_PAGE;
 use sa_spaces::{Evict, Workload};
 use std::alloc::{AllocError, Global};
 use std::marker::Model;
@@ -205,7 +206,7 @@ fn evict_at(event: u64, evictions: &[Evict], pages: &mut ArrayVec<u16, MAX_SPACE
 
 // All pages but these.
 fn all_but(absent: &[u16]) -> u16
-    requires { All (λ page. page ≤ 15) absent.now }
+    requires { All (λ page. page ≤ LAST_PAGE) absent.now }
     ensures { result ≡ without_pages (2 ^ 16 - 1) absent.now }
 {
     let mut pages = u16::MAX;
@@ -218,7 +219,7 @@ fn all_but(absent: &[u16]) -> u16
 // The page of the space is resident.
 fn come(pages: &mut ArrayVec<u16, MAX_SPACES>, s: SpaceNo, page: u16)
     requires space { s.0 < length pages.old.items }
-    requires page { page ≤ 15 }
+    requires page { page ≤ LAST_PAGE }
     ensures { pages.new.items ≡ come pages.old.items s.0 page }
 {
     pages[usize::from(s.0)] |= 1 << page;
@@ -227,7 +228,7 @@ fn come(pages: &mut ArrayVec<u16, MAX_SPACES>, s: SpaceNo, page: u16)
 // The page of the space is absent.
 fn leave(pages: &mut ArrayVec<u16, MAX_SPACES>, s: SpaceNo, page: u16)
     requires space { s.0 < length pages.old.items }
-    requires page { page ≤ 15 }
+    requires page { page ≤ LAST_PAGE }
     ensures { pages.new.items ≡ gone pages.old.items s.0 page }
 {
     pages[usize::from(s.0)] &= !(1 << page);

@@ -6,6 +6,8 @@ ghost use Rattle.sa_devices.specs.Ios.{Io, due_of};
 ghost use Rattle.sa_devices.specs.Pages.{with_page, without_page, completed, evicted};
 ghost use Rattle.sa_devices.specs.Laws.{IsSoonest, NoneIsDue, has_page};
 
+use sa_base::PAGES;
+
 /// The one that is due is the soonest of those whose end has come, and there is none exactly where no end has.
 pub fn the_due_one_is_the_soonest()
     ensures { (event : ℕ) (ios : List Io)
@@ -14,11 +16,11 @@ pub fn the_due_one_is_the_soonest()
 
 /// A page that comes is resident, one that goes is absent, and every other page stays as it was.
 pub fn one_page_comes_or_goes()
-    ensures comes { (pages k : ℕ) → k < 16 → has_page (with_page pages k) k ≡ true }
-    ensures goes { (pages k : ℕ) → k < 16 → has_page (without_page pages k) k ≡ false }
+    ensures comes { (pages k : ℕ) → k < PAGES → has_page (with_page pages k) k ≡ true }
+    ensures goes { (pages k : ℕ) → k < PAGES → has_page (without_page pages k) k ≡ false }
     ensures comes_alone { (pages k j : ℕ) → j ≢ k
         → has_page (with_page pages k) j ≡ has_page pages j }
-    ensures goes_alone { (pages k j : ℕ) → k < 16 → j < 16 → j ≢ k
+    ensures goes_alone { (pages k j : ℕ) → k < PAGES → j < PAGES → j ≢ k
         → has_page (without_page pages k) j ≡ has_page pages j }
 {}
 

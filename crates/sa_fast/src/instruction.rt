@@ -14,8 +14,8 @@ ghost use Rattle.sa_fast.specs.Instruction.{Outcome, outcome, outcome_of, went, 
 use crate::shared::Shared;
 use crate::threads::{Block, Place};
 use crate::work::WorkLists;
-use sa_base::{Item, MAX_THREADS, Record, Seen, SpaceNo, ThreadNo, Trace};
-use sa_instr::{Instr, Reg, Regs, local};
+use sa_base::{Item, MAX_THREADS, PAGES, Record, Seen, SpaceNo, ThreadNo, Trace};
+use sa_instr::{Instr, MAX_INSTRUCTIONS, Reg, Regs, local};
 use sa_spaces::SpaceDef;
 use sa_sync::{SyncAnswer, SyncState};
 
@@ -64,7 +64,7 @@ pub fn run(
 fn instr_at(def: &SpaceDef, block: &Block) -> Instr
     requires { IsAt def.now block.now }
     ensures instr { result ≡ instr_of def.now block.now }
-    ensures next { result ≢ Instr.End → block.now.pc + 1 < 4096 }
+    ensures next { result ≢ Instr.End → block.now.pc + 1 < MAX_INSTRUCTIONS }
     ensures range { IsInRange result }
     ensures named { NamesDeclared def.now.mutexes (length def.now.sems) def.now.cells
         (length def.now.programs) result }
@@ -119,7 +119,7 @@ fn add(trace: &mut Trace, seen: &Seen, what: Record)
 
 // Whether a page of the space is resident.
 fn has_page(seen: &Seen, page: u16) -> bool
-    requires { page < 16 }
+    requires { page < PAGES }
     ensures { result ≡ is_resident seen.now.pages page }
 {
     (seen.pages >> page) % 2 == 1
@@ -139,7 +139,7 @@ fn does(
     requires can { CanRun def.now shared.old work.old t }
     requires block { block ≡ block_at shared.old.threads t.0 }
     requires instr { instr ≡ instr_of def.now block }
-    requires next { instr ≢ Instr.End → block.pc + 1 < 4096 }
+    requires next { instr ≢ Instr.End → block.pc + 1 < MAX_INSTRUCTIONS }
     requires range { IsInRange instr }
     requires named { NamesDeclared def.now.mutexes (length def.now.sems) def.now.cells
         (length def.now.programs) instr }
@@ -191,7 +191,7 @@ fn does(
 
 // The block of a thread that goes on at the next place.
 fn next(mut block: Block) -> Block
-    requires { block.pc + 1 < 4096 }
+    requires { block.pc + 1 < MAX_INSTRUCTIONS }
     ensures { result ≡ next_of block }
 {
     block.pc += 1;
@@ -200,7 +200,7 @@ fn next(mut block: Block) -> Block
 
 // The same, with a value in a register.
 fn with_value(mut block: Block, reg: Reg, value: u64) -> Block
-    requires { block.pc + 1 < 4096 }
+    requires { block.pc + 1 < MAX_INSTRUCTIONS }
     ensures { result ≡ value_in block reg value }
 {
     block.regs.set(reg, value);
@@ -273,7 +273,7 @@ fn fork(
     program: u16,
 ) -> Ran
     requires thread { t.0 < MAX_THREADS }
-    requires next { block.pc + 1 < 4096 }
+    requires next { block.pc + 1 < MAX_INSTRUCTIONS }
     requires work { IsWork shared.old.works work.old }
     requires threads { shared.old.state.lists.threads ≡ MAX_THREADS }
     requires unmade { IsUnlisted shared.old.works shared.old.state.lists.made }
@@ -308,7 +308,7 @@ fn join(
     reg: Reg,
 ) -> Ran
     requires thread { t.0 < MAX_THREADS }
-    requires next { block.pc + 1 < 4096 }
+    requires next { block.pc + 1 < MAX_INSTRUCTIONS }
     requires work { IsWork shared.old.works work.old }
     requires nowhere { WaitsNowhere shared.old.sync t.0 }
     requires threads { shared.old.state.lists.threads ≡ MAX_THREADS }
@@ -335,8 +335,8 @@ fn block_for(shared: &mut Shared, t: ThreadNo, block: Block, length: u32, page: 
 // A touch of a page.
 fn touch(fetch: u32, shared: &mut Shared, t: ThreadNo, block: Block, page: u16, seen: &Seen) -> Ran
     requires thread { t.0 < MAX_THREADS }
-    requires next { block.pc + 1 < 4096 }
-    requires page { page < 16 }
+    requires next { block.pc + 1 < MAX_INSTRUCTIONS }
+    requires page { page < PAGES }
     ensures { (w : _) → outcome shared.new w result
         ≡ touched shared.old w t block fetch page (is_resident seen.now.pages page) }
 {

@@ -16,7 +16,7 @@ use Rattle.sa_acts.specs.declared.acts.Act.{Act}
 use Rattle.sa_acts.specs.Table.{holding, runs_in, held_of, taken_from, space_of}
 use Rattle.sa_devices.specs.declared.kind.IoKind.TheVariants.{Upcall}
 use Rattle.sa_devices.specs.Ios.{Io, io_at, without, is_number}
-use Rattle.sa_kernel.specs.Parts.{notes_told}
+use Rattle.sa_batch.specs.Notices.{notes_told}
 use Rattle.sa_kernel.specs.Entries.{io_for, without_acts}
 use Rattle.sa_kernel.specs.Sound.{note_claim, kind_claim, io_claim, held_in, IsTaken}
 use Rattle.sa_kernel.proofs.SeenLemmas.{bit_of}

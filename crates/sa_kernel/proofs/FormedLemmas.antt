@@ -27,7 +27,8 @@ use Rattle.sa_devices.specs.Ios.{Io, without, is_number}
 use Rattle.sa_devices.specs.declared.kind.IoKind.TheVariants.{Plain, Page, Upcall}
 use Rattle.sa_devices.proofs.SoundLemmas.{length-completed, length-evicted}
 use Rattle.sa_kernel.specs.State.{State, Scene, owner_of, aim_of, life_of, untold_of, taken_of, can_upcall, is_fetching}
-use Rattle.sa_kernel.specs.Parts.{with_owner, without_aim, with_line, with_mark, with_demand, noted, with_io, put_aside, notes_told, upcall, fetch_page, leave, moved, go_to_by}
+use Rattle.sa_batch.specs.Notices.{notes_told}
+use Rattle.sa_kernel.specs.Parts.{with_owner, without_aim, with_line, with_mark, with_demand, noted, with_io, put_aside, upcall, fetch_page, leave, moved, go_to_by}
 use Rattle.sa_kernel.specs.Entries.{stopped, go_to_aim, interrupted, told_or_left, block_begun, blocked_by, io_for, IsOwnPage, come_back, over_for, over, announced, more, idled, gave_back, interrupted_own, kind_at, entered_as, handed_over, handed_by, fetched, after_fetch, evicted_at}
 use Rattle.sa_kernel.specs.Closing.{for_spaces, spaces, want_one, want_for, must_want, wants, shares, aims, interrupt, interrupt_one, interrupt_for, must_interrupt, has_low_line, closed}
 use Rattle.sa_kernel.specs.Kept.{IsFit}

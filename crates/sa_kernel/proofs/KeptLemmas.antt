@@ -26,7 +26,7 @@ use Rattle.sa_kernel.specs.Sound.{IsSound, IsPrompt, AreClaimed, IsUpcalled}
 use Rattle.sa_kernel.specs.View.{state_of, scene_of, used, Spends}
 use Rattle.sa_kernel.specs.Kept.{KernelView, kernel_of, processors, IsFit, IsKept, upcalls}
 use Rattle.sa_kernel.specs.Owed.{owed_items, pending_count}
-use Rattle.sa_kernel.specs.Room.{Adds}
+use Rattle.sa_base.specs.Recorded.{Adds}
 use Rattle.sa_kernel.proofs.FormedLemmas.{no_notes, no_acts}
 use Rattle.sa_kernel.proofs.HeldLemmas.{stays-closed, claimed-after_fetch, upcalled-entered_as, upcalled-closed}
 use Rattle.sa_kernel.proofs.OwedLemmas.{owes-entered_as, owed-closed, owed-after_fetch}

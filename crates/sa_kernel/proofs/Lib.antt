@@ -1,4 +1,3 @@
-mod Batches
 mod RunLemmas
 mod GivenBack
 pub mod ClosingLemmas

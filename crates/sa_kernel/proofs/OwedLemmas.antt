@@ -21,7 +21,8 @@ use Rattle.sa_devices.specs.declared.kind.IoKind.TheVariants.{Plain, Page, Upcal
 use Rattle.sa_devices.specs.Ios.{without}
 use Rattle.sa_devices.specs.Pages.{completed}
 use Rattle.sa_kernel.specs.State.{State, Scene, owner_of, aim_of, life_of, can_upcall, is_fetching, untold_of, taken_of, says}
-use Rattle.sa_kernel.specs.Parts.{with_line, with_owner, without_aim, upcall, fetch_page, leave, moved, go_to_by, notes_told}
+use Rattle.sa_batch.specs.Notices.{notes_told}
+use Rattle.sa_kernel.specs.Parts.{with_line, with_owner, without_aim, upcall, fetch_page, leave, moved, go_to_by}
 use Rattle.sa_kernel.specs.Entries.{stopped, go_to_aim, interrupted, told_or_left, block_begun, blocked_by, over_for, over, more, idled, gave_back, interrupted_own, kind_at, entered_as, handed_by, after_fetch}
 use Rattle.sa_kernel.specs.Closing.{closed}
 use Rattle.sa_kernel.specs.Runs.{untold_count, taken_count}

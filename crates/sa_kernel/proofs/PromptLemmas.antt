@@ -17,7 +17,8 @@ use Rattle.sa_assign.specs.Aims.{is_aim, space_no, least_below}
 use Rattle.sa_assign.specs.Reaim.{proc_no, changes_in}
 use Rattle.sa_assign.proofs.ChoiceLemmas.{least_below-passes, least_below-none}
 use Rattle.sa_kernel.specs.State.{State, Scene, owner_of, aim_of, line_of, untold_of, is_fetching}
-use Rattle.sa_kernel.specs.Closing.{for_spaces, spaces, has_untold, want_one, want_for, must_want, wants, shares, aims, is_told_by, has_low_line, must_interrupt, interrupt, interrupt_one, interrupt_for, closed}
+use Rattle.sa_batch.specs.Notices.{has_untold}
+use Rattle.sa_kernel.specs.Closing.{for_spaces, spaces, want_one, want_for, must_want, wants, shares, aims, is_told_by, has_low_line, must_interrupt, interrupt, interrupt_one, interrupt_for, closed}
 use Rattle.sa_kernel.specs.Sound.{HasSizes, HasRaised, IsPrompt}
 use Rattle.sa_kernel.proofs.ClosingLemmas.{length-lines_after}
 use Rattle.sa_kernel.proofs.SeenLemmas.{is-low}

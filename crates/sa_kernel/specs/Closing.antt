@@ -12,12 +12,9 @@ use Rattle.sa_share.specs.Rounds.{shares_of}
 use Rattle.sa_acts.specs.Table.{held_of}
 use Rattle.sa_assign.specs.Aims.{aimed, is_aim, least_below}
 use Rattle.sa_assign.specs.Reaim.{proc_no, reaimed, reaim_records}
+use Rattle.sa_batch.specs.Notices.{has_untold}
 use Rattle.sa_kernel.specs.State.{State, Scene, owner_of, aim_of, line_of, demand_of, untold_of, is_fetching, says}
 use Rattle.sa_kernel.specs.Parts.{with_demand, with_line}
-
-abbrev pub has_untold : List Note → Bool
-has_untold [] = false
-has_untold (note ∷ notes) = true
 
 module _ {C : Type 0} where
   -- for so many spaces from s on, in the order of their numbers

@@ -1,6 +1,7 @@
 -- The entries of the kernel, one by one.
 use Rattle.std.specs.Prelude.{ℕ, ◌+◌, ◌-◌, ◌≤◌, Bool, true, false, List, [], ◌∷◌, ◌++◌, map, Option, Some, None, slice_get, slice_set}
 use Rattle.std.specs.Option.{option_map}
+use Rattle.sa_instr.specs.declared.limits.TheConstants.{LAST_PAGE}
 use Rattle.sa_base.specs.declared.number.ProcNo.{ProcNo}
 use Rattle.sa_base.specs.declared.number.SpaceNo.{SpaceNo}
 use Rattle.sa_base.specs.declared.number.ThreadNo.{ThreadNo}
@@ -26,7 +27,7 @@ use Rattle.sa_kernel.specs.Closing.{closed}
 
 -- a page for which a context may block
 abbrev pub IsOwnPage : ℕ → Type 0
-IsOwnPage k = (1 ≤ k) × (k ≤ 15)
+IsOwnPage k = (1 ≤ k) × (k ≤ LAST_PAGE)
 
 -- a block: the I/O begins, the context is held, and the space is told in a fresh activation, if its page is there
 abbrev pub io_for : SpaceNo → ActNo → Option ℕ → IoKind

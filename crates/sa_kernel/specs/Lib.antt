@@ -2,8 +2,6 @@ pub mod State
 pub mod Parts
 pub mod Closing
 pub mod Entries
-pub mod Notices
-pub mod Room
 pub mod Sound
 pub mod View
 pub mod Runs

@@ -11,14 +11,10 @@ use Rattle.sa_base.specs.Items.{items_at}
 use Rattle.sa_lemmas.specs.Function.{put}
 use Rattle.sa_acts.specs.Table.{holding, runs_in}
 use Rattle.sa_assign.specs.Aims.{is_aim}
+use Rattle.sa_batch.specs.Notices.{notes_told}
 use Rattle.sa_devices.specs.declared.kind.IoKind.{IoKind}
 use Rattle.sa_devices.specs.declared.kind.IoKind.TheVariants.{Upcall}
 use Rattle.sa_kernel.specs.State.{State, Scene, owner_of, untold_of, can_upcall, is_fetching, says}
-
--- an activation of a space runs on a processor: it is told what the space was not told
-abbrev pub notes_told : Bool → ProcNo → List Note → List Note
-notes_told true p notes = Add p ∷ notes
-notes_told false p notes = notes
 
 module _ {C : Type 0} where
   abbrev pub with_owner : ProcNo → Option SpaceNo → State C → State C

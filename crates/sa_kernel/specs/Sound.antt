@@ -14,7 +14,7 @@ use Rattle.sa_devices.specs.declared.kind.IoKind.TheVariants.{Plain, Page, Upcal
 use Rattle.sa_devices.specs.Ios.{Io}
 use Rattle.sa_devices.specs.Pages.{IsKind}
 use Rattle.sa_kernel.specs.State.{State, owner_of, line_of, life_of, untold_of, is_fetching}
-use Rattle.sa_kernel.specs.Closing.{has_untold}
+use Rattle.sa_batch.specs.Notices.{has_untold}
 
 -- what stands there are spaces of the workload
 abbrev pub AreSpaces : ℕ → List (Option SpaceNo) → Type 0

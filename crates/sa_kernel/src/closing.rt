@@ -3,14 +3,16 @@ ghost use Rattle.std.specs.Prelude.{◌≡◌, ℕ, ◌+◌, ◌*◌, ◌≤◌,
 ghost use Rattle.std.specs.List.{list_any};
 ghost use Rattle.sa_acts.specs.Table.{held_of};
 ghost use Rattle.sa_assign.specs.Aims.{aimed, least_below};
-ghost use Rattle.sa_kernel.specs.Room.{Adds};
+ghost use Rattle.sa_base.specs.Recorded.{Adds};
 ghost use Rattle.sa_kernel.specs.Closing.{was_idle};
 
 use crate::machine::{Machine, is_owner};
-use crate::say::say;
 use arrayvec::ArrayVec;
 use sa_base::{ActNo, Item, MAX_SPACES, Note, ProcNo, Record, SpaceNo, Trace};
 use sa_share::Claim;
+
+// The most items that a closing says: a want and a line of each space, and an aim and its line of each processor.
+pub(crate) const CLOSING_ITEMS: usize = 64;
 
 impl<C: Drop> Machine<C> {
     ghost use Rattle.sa_kernel.specs.View.{state_of, scene_of, used, Spends};
@@ -74,7 +76,7 @@ impl<C: Drop> Machine<C> {
     {
         if self.must_want(s) {
             self.demands[usize::from(s.0)] = 1;
-            say(trace, event, p, Record::Want(s, 1));
+            trace.say(event, p, Record::Want(s, 1));
         }
     }
 
@@ -231,7 +233,7 @@ impl<C: Drop> Machine<C> {
     {
         if let Some(q) = q {
             self.assign.raise(ProcNo(q), event);
-            say(trace, event, p, Record::Line(ProcNo(q)));
+            trace.say(event, p, Record::Line(ProcNo(q)));
         }
     }
 
@@ -268,10 +270,10 @@ impl<C: Drop> Machine<C> {
     // The closing of an event.
     pub(crate) fn close(&mut self, event: u64, p: ProcNo, trace: &mut Trace)
         requires sizes { HasSizes (state_of self.old) }
-        requires trace { 64 ≤ trace.old.spare }
+        requires trace { CLOSING_ITEMS ≤ trace.old.spare }
         ensures exact { scene_of self.new trace.new ≡ closed event p (scene_of self.old trace.old) }
         ensures room { Spends self.old self.new 0 0 0 }
-        ensures items { Adds 64 trace.old trace.new }
+        ensures items { Adds CLOSING_ITEMS trace.old trace.new }
     {
         self.want_all(event, p, trace);
         self.aim(event, p, trace);

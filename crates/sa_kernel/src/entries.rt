@@ -4,14 +4,16 @@ ghost use Rattle.sa_base.specs.Items.{items_at};
 ghost use Rattle.sa_acts.specs.Table.{acts_of, held_of, taken_in, IsRunning};
 ghost use Rattle.sa_devices.specs.Ios.{io_at};
 ghost use Rattle.sa_devices.specs.Pages.{IsKind};
-ghost use Rattle.sa_kernel.specs.Room.{Adds};
+ghost use Rattle.sa_base.specs.Recorded.{Adds};
 ghost use Rattle.sa_kernel.specs.Entries.{io_for, thread_of, without_acts, IsOwnPage};
 
 use crate::entry::Given;
 use crate::machine::Machine;
-use crate::say::say;
 use sa_acts::Acts;
-use sa_base::{ActNo, IoNo, Note, ProcNo, Record, SpaceNo, Stopped, ThreadNo, Trace};
+use sa_base::{
+    ActNo, IoNo, MAX_EVENTS, MAX_PROCESSORS, Note, ProcNo, Record, SpaceNo, Stopped, ThreadNo,
+    Trace,
+};
 use sa_devices::IoKind;
 
 impl<C: Drop> Machine<C> {
@@ -44,7 +46,7 @@ impl<C: Drop> Machine<C> {
         let Some(held) = held else {
             return;
         };
-        say(trace, event, p, Record::Stop(s, held.thread, a));
+        trace.say(event, p, Record::Stop(s, held.thread, a));
         self.put_aside(p, s, a, Note::Preempted(a), held);
     }
 
@@ -56,7 +58,7 @@ impl<C: Drop> Machine<C> {
         requires fetched { self.old.notices.telling ≡ [] }
         requires acts { 1 ≤ self.old.acts.spare }
         requires ios { 1 ≤ self.old.devices.ios.spare }
-        requires event { event ≤ 1000000 }
+        requires event { event ≤ MAX_EVENTS }
         requires few { used self.old + 1 < 2 ^ 32 }
         requires begun { self.old.devices.ios.begun < 2 ^ 32 }
         requires trace { 3 + untold_count (state_of self.old) ≤ trace.old.spare }
@@ -85,7 +87,7 @@ impl<C: Drop> Machine<C> {
         requires notes { 1 ≤ self.old.notices.spare }
         requires acts { 1 ≤ self.old.acts.spare }
         requires ios { 1 ≤ self.old.devices.ios.spare }
-        requires event { event ≤ 1000000 }
+        requires event { event ≤ MAX_EVENTS }
         requires few { used self.old + 1 < 2 ^ 32 }
         requires begun { self.old.devices.ios.begun < 2 ^ 32 }
         requires trace { 5 + untold_count (state_of self.old) ≤ trace.old.spare }
@@ -114,7 +116,7 @@ impl<C: Drop> Machine<C> {
     {
         self.demands[usize::from(s.0)] = n;
         self.assign.mark(p, idle);
-        say(trace, event, p, Record::Want(s, n));
+        trace.say(event, p, Record::Want(s, n));
     }
 
     // The space can use so many more processors.
@@ -122,7 +124,7 @@ impl<C: Drop> Machine<C> {
         requires sound { IsFormed (state_of self.old) }
         requires within { p.0 < length self.old.lives.items }
         requires few { (s : SpaceNo) → owner_of (state_of self.old) p ≡ Some s
-            → demand_of (state_of self.old) s.0 + n ≤ 16 }
+            → demand_of (state_of self.old) s.0 + n ≤ MAX_PROCESSORS }
         requires trace { 1 ≤ trace.old.spare }
         ensures exact { scene_of self.new trace.new
             ≡ more event p n (owner_of (state_of self.old) p) (scene_of self.old trace.old) }
@@ -163,7 +165,7 @@ impl<C: Drop> Machine<C> {
         ensures items { Adds 1 trace.old trace.new }
     {
         self.assign.raise(q, event);
-        say(trace, event, p, Record::Line(q));
+        trace.say(event, p, Record::Line(q));
     }
 
     // The I/O of a block begins, and the context is held.
@@ -185,7 +187,7 @@ impl<C: Drop> Machine<C> {
         requires page { IfSome page IsOwnPage }
         requires notes { 1 ≤ self.old.notices.spare }
         requires ios { 1 ≤ self.old.devices.ios.spare }
-        requires event { event ≤ 1000000 }
+        requires event { event ≤ MAX_EVENTS }
         requires begun { self.old.devices.ios.begun < 2 ^ 32 }
         requires trace { 1 ≤ trace.old.spare }
         ensures exact { scene_of self.new trace.new
@@ -194,7 +196,7 @@ impl<C: Drop> Machine<C> {
         ensures items { Adds 1 trace.old trace.new }
     {
         let io = self.devices.begin(io_for(s, a, page), event, len);
-        say(trace, event, p, Record::Block(s, held.thread, a, io));
+        trace.say(event, p, Record::Block(s, held.thread, a, io));
         self.put_aside(p, s, a, Note::Blocked(a), held);
     }
 
@@ -206,7 +208,7 @@ impl<C: Drop> Machine<C> {
         requires fetched { self.old.notices.telling ≡ [] }
         requires acts { 1 ≤ self.old.acts.spare }
         requires ios { 1 ≤ self.old.devices.ios.spare }
-        requires event { event ≤ 1000000 }
+        requires event { event ≤ MAX_EVENTS }
         requires few { used self.old + 1 < 2 ^ 32 }
         requires begun { self.old.devices.ios.begun < 2 ^ 32 }
         requires trace { 3 + untold_count (state_of self.old) ≤ trace.old.spare }
@@ -240,7 +242,7 @@ impl<C: Drop> Machine<C> {
         requires notes { 1 ≤ self.old.notices.spare }
         requires acts { 1 ≤ self.old.acts.spare }
         requires ios { 2 ≤ self.old.devices.ios.spare }
-        requires event { event ≤ 1000000 }
+        requires event { event ≤ MAX_EVENTS }
         requires few { used self.old + 1 < 2 ^ 32 }
         requires begun { self.old.devices.ios.begun + 1 < 2 ^ 32 }
         requires trace { 5 + untold_count (state_of self.old) ≤ trace.old.spare }
@@ -283,7 +285,7 @@ impl<C: Drop> Machine<C> {
     {
         let thread = self.thread_held(a);
         self.notices.add(s, Note::Unblocked(a));
-        say(trace, event, p, Record::Unblock(s, thread, a));
+        trace.say(event, p, Record::Unblock(s, thread, a));
     }
 
     // What an I/O that is over means for its space.
@@ -300,7 +302,7 @@ impl<C: Drop> Machine<C> {
         match kind {
             IoKind::Plain(s, a) => self.come_back(event, p, s, a, trace),
             IoKind::Page(s, a, _) => self.come_back(event, p, s, a, trace),
-            IoKind::Upcall(s) => say(trace, event, p, Record::Fetched(s)),
+            IoKind::Upcall(s) => trace.say(event, p, Record::Fetched(s)),
         }
     }
 
@@ -380,5 +382,5 @@ fn give_one_back<C: Drop>(acts: &mut Acts<C>, s: SpaceNo, event: u64, p: ProcNo,
     let Some(a) = acts.give_back(s) else {
         return;
     };
-    say(trace, event, p, Record::GiveBack(a));
+    trace.say(event, p, Record::GiveBack(a));
 }

@@ -2,7 +2,7 @@ ghost use Rattle.std.specs.Prelude.{◌≡◌, ℕ, ◌+◌, ◌*◌, ◌≤◌,
 ghost use Rattle.std.specs.Option.{option_map};
 ghost use Rattle.sa_base.specs.declared.number.ActNo.{ActNo};
 ghost use Rattle.sa_devices.specs.Ios.{due_of, io_at, io_no};
-ghost use Rattle.sa_kernel.specs.Room.{Adds};
+ghost use Rattle.sa_base.specs.Recorded.{Adds};
 
 use crate::entry::{ENTRY_ITEMS, Entry, Given};
 use crate::machine::Machine;

@@ -7,8 +7,6 @@ mod entry;
 mod kernel;
 pub mod laws;
 mod machine;
-mod notices;
-mod say;
 mod seen;
 mod start;
 

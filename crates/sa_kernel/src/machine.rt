@@ -1,14 +1,13 @@
 ghost use Rattle.std.specs.Prelude.{◌≡◌, ℕ, ◌+◌, ◌≤◌, ◌<◌, ◌^◌, [], ◌∷◌, ◌++◌, length, not, Some, None, slice_index, slice_index_or};
 ghost use Rattle.sa_acts.specs.Table.{IsRunning};
 ghost use Rattle.sa_assign.specs.Aims.{is_aim};
-ghost use Rattle.sa_kernel.specs.Room.{Adds};
+ghost use Rattle.sa_base.specs.Recorded.{Adds};
 
 use crate::entry::Given;
-use crate::notices::Notices;
-use crate::say::say;
 use sa_acts::Acts;
 use sa_assign::Assign;
-use sa_base::{ActNo, Note, ProcNo, Record, SpaceNo, Stopped, Trace};
+use sa_base::{ActNo, MAX_EVENTS, Note, ProcNo, Record, SpaceNo, Stopped, Trace};
+use sa_batch::Notices;
 use sa_devices::{Devices, IoKind};
 
 /// The parts of the kernel.
@@ -29,7 +28,8 @@ impl<C: Drop> Machine<C> {
     ghost use Rattle.sa_kernel.specs.View.{state_of, scene_of, used, Spends};
     ghost use Rattle.sa_kernel.specs.State.{life_of, can_upcall, is_fetching, untold_of};
     ghost use Rattle.sa_kernel.specs.Sound.{HasSizes};
-    ghost use Rattle.sa_kernel.specs.Parts.{notes_told, put_aside, run_in, upcall, leave, fetch_page, moved, go_to};
+    ghost use Rattle.sa_batch.specs.Notices.{notes_told};
+    ghost use Rattle.sa_kernel.specs.Parts.{put_aside, run_in, upcall, leave, fetch_page, moved, go_to};
     ghost use Rattle.sa_kernel.specs.Runs.{Enters};
 
     // The context that runs on a processor is no longer there: it is held, and its space is to be told.
@@ -96,7 +96,7 @@ impl<C: Drop> Machine<C> {
         ensures items { Adds (2 + length (untold_of (state_of self.old) s.0)) trace.old trace.new }
     {
         let a = self.run_in(p, s, added);
-        say(trace, event, p, Record::Up(s, a));
+        trace.say(event, p, Record::Up(s, a));
         self.notices.say_told(event, p, trace);
         a
     }
@@ -106,7 +106,7 @@ impl<C: Drop> Machine<C> {
         requires sizes { HasSizes (state_of self.old) }
         requires space { s.0 < length self.old.demands.items }
         requires room { 1 ≤ self.old.devices.ios.spare }
-        requires event { event ≤ 1000000 }
+        requires event { event ≤ MAX_EVENTS }
         requires few { self.old.devices.ios.begun < 2 ^ 32 }
         requires trace { 1 ≤ trace.old.spare }
         ensures exact { scene_of self.new trace.new
@@ -116,7 +116,7 @@ impl<C: Drop> Machine<C> {
     {
         if !self.devices.fetching(s) {
             let _io = self.devices.begin(IoKind::Upcall(s), event, self.fetch);
-            say(trace, event, p, Record::Fetch(s));
+            trace.say(event, p, Record::Fetch(s));
         }
     }
 
@@ -126,7 +126,7 @@ impl<C: Drop> Machine<C> {
         requires within { p.0 < length self.old.lives.items }
         requires space { s.0 < length self.old.demands.items }
         requires room { 1 ≤ self.old.devices.ios.spare }
-        requires event { event ≤ 1000000 }
+        requires event { event ≤ MAX_EVENTS }
         requires few { self.old.devices.ios.begun < 2 ^ 32 }
         requires trace { 3 ≤ trace.old.spare }
         ensures exact { scene_of self.new trace.new ≡ leave event p s (scene_of self.old trace.old) }
@@ -136,8 +136,8 @@ impl<C: Drop> Machine<C> {
         let owner = self.assign.owner(p);
         self.assign.set_owner(p, None);
         self.assign.clear_aim(p);
-        say(trace, event, p, Record::Move(owner, None));
-        say(trace, event, p, Record::Aim(p, None));
+        trace.say(event, p, Record::Move(owner, None));
+        trace.say(event, p, Record::Aim(p, None));
         self.fetch_page(event, p, s, trace);
     }
 
@@ -168,7 +168,7 @@ impl<C: Drop> Machine<C> {
         ensures items { Adds 1 trace.old trace.new }
     {
         if !owned {
-            say(trace, event, p, Record::Move(self.assign.owner(p), Some(s)));
+            trace.say(event, p, Record::Move(self.assign.owner(p), Some(s)));
             self.assign.set_owner(p, Some(s));
         }
     }
@@ -181,7 +181,7 @@ impl<C: Drop> Machine<C> {
         requires fetched { self.old.notices.telling ≡ [] }
         requires acts { 1 ≤ self.old.acts.spare }
         requires ios { 1 ≤ self.old.devices.ios.spare }
-        requires event { event ≤ 1000000 }
+        requires event { event ≤ MAX_EVENTS }
         requires few { used self.old + 1 < 2 ^ 32 }
         requires begun { self.old.devices.ios.begun < 2 ^ 32 }
         requires trace { 3 + length (untold_of (state_of self.old) s.0) ≤ trace.old.spare }

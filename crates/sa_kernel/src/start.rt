@@ -4,22 +4,22 @@ ghost use Rattle.sa_acts.specs.Table.{held_of};
 ghost use Rattle.sa_base.specs.Items.{items_at};
 ghost use Rattle.sa_spaces.specs.Space.{SpaceView};
 ghost use Rattle.sa_assign.specs.Reaim.{proc_no};
-ghost use Rattle.sa_kernel.specs.Room.{Adds};
+ghost use Rattle.sa_base.specs.Recorded.{Adds};
 ghost use Rattle.sa_kernel.specs.Opening.{first_wants};
 
+use crate::closing::CLOSING_ITEMS;
 use crate::entry::{ENTRY_ITEMS, Entry, Given};
 use crate::machine::Machine;
-use crate::notices::Notices;
-use crate::say::say;
 use sa_acts::Acts;
 use sa_assign::Assign;
 use sa_base::{ActNo, MAX_EVENTS, MAX_SPACES, Note, ProcNo, Record, SpaceNo, Stopped, Trace};
+use sa_batch::Notices;
 use sa_devices::Devices;
 use sa_spaces::{SpaceDef, Workload};
 use std::alloc::{AllocError, Global};
 
 /// How many items the opening has at most: a want of each space, and those of a closing.
-pub(crate) const OPENING: usize = MAX_SPACES + 64;
+pub(crate) const OPENING: usize = MAX_SPACES + CLOSING_ITEMS;
 
 impl<C: Drop> Machine<C> {
     ghost use Rattle.sa_kernel.specs.View.{state_of, scene_of, used, Spends};
@@ -153,7 +153,7 @@ impl<C: Drop> Machine<C> {
         requires notes { 1 ≤ self.old.notices.spare }
         requires acts { 1 ≤ self.old.acts.spare }
         requires ios { 2 ≤ self.old.devices.ios.spare }
-        requires event { event ≤ 1000000 }
+        requires event { event ≤ MAX_EVENTS }
         requires few { used self.old + 1 < 2 ^ 32 }
         requires begun { self.old.devices.ios.begun + 1 < 2 ^ 32 }
         requires trace { 5 + untold_count (state_of self.old) + taken_count (state_of self.old) ≤ trace.old.spare }
@@ -218,6 +218,6 @@ fn say_wants(spaces: u16, trace: &mut Trace)
     ensures room { Adds spaces trace.old trace.new }
 {
     for s in 0..spaces {
-        say(trace, 0, ProcNo(0), Record::Want(SpaceNo(s), 1));
+        trace.say(0, ProcNo(0), Record::Want(SpaceNo(s), 1));
     }
 }

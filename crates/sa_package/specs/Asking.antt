@@ -4,6 +4,7 @@ use Rattle.std.proofs.lemmas.Bool.Decides.{nat_tests}
 use Rattle.std.proofs.lemmas.List.Elements.{All-get_or}
 use Rattle.sa_base.specs.declared.number.ThreadNo.{ThreadNo}
 use Rattle.sa_base.specs.declared.limits.TheConstants.{PAGES, BULK_RETURN}
+use Rattle.sa_instr.specs.declared.limits.TheConstants.{MAX_IO_LENGTH}
 use Rattle.sa_base.specs.declared.context.Seen.{Seen}
 use Rattle.sa_base.specs.declared.record.Record.{Record}
 use Rattle.sa_instr.specs.Instr.{IsInRange}
@@ -57,7 +58,7 @@ idle_fits demand load patience looks e = grind (arith, nat_tests)
 
 -- an instruction blocks for a length, and for a page, in their ranges
 abbrev CanBlock : Ran → Type 0
-CanBlock (Blocks length page) = (1 ≤ length) × (length ≤ 1000000) × IfSome page (λ k. (1 ≤ k) × (k < PAGES))
+CanBlock (Blocks length page) = (1 ≤ length) × (length ≤ MAX_IO_LENGTH) × IfSome page (λ k. (1 ≤ k) × (k < PAGES))
 CanBlock _ = Unit {0}
 
 told_blocks : (x : Shared) (w : Option ThreadNo) (t : ThreadNo) (b : Block) (a : SyncAnswer) → CanBlock (told_by x w t b a).answer

@@ -9,8 +9,8 @@ use sa_code::{MAX_LISTS, PackageState, routines};
 use sa_copies::make_copies;
 use sa_fast::{Block, Place, Shared, Threads, WorkLists};
 use sa_instr::Regs;
-use sa_spaces::SpaceDef;
 use sa_lists::ReadyLists;
+use sa_spaces::SpaceDef;
 use sa_sync::SyncState;
 use std::alloc::{AllocError, Global};
 

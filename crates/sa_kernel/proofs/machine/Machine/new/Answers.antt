@@ -3,7 +3,7 @@ use Rattle.sa_base.specs.declared.number.ActNo.{ActNo}
 use Rattle.sa_base.specs.declared.record.Note.{Note}
 use Rattle.sa_spaces.specs.Space.{SpaceView}
 use Rattle.sa_assign.specs.AssignView.{AssignView}
-use Rattle.sa_kernel.specs.Notices.{NoticesView}
+use Rattle.sa_batch.specs.Notices.{NoticesView}
 use Rattle.sa_kernel.proofs.machine.Machine.new.Goals as goal
 
 pub returns-clause-state : goal.returns-clause-state

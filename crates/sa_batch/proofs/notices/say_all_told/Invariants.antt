@@ -1,7 +1,7 @@
 use Rattle.std.proofs.Common.{◌≡◌, ◌+◌, ◌++◌, map, take, length}
 use Rattle.sa_base.specs.declared.record.Record.TheVariants.{Told}
 use Rattle.sa_base.specs.Items.{items_at}
-use Rattle.sa_kernel.proofs.notices.say_all_told.Given as goal
+use Rattle.sa_batch.proofs.notices.say_all_told.Given as goal
 
 abbrev pub invariant-loop-note : goal.invariant-loop-note
 invariant-loop-note l = record {

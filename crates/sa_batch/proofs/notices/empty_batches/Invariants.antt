@@ -1,6 +1,6 @@
 use Rattle.std.proofs.Common.{◌≡◌, [], map, replicate}
-use Rattle.sa_kernel.specs.Notices.{notes_of, HaveRoom}
-use Rattle.sa_kernel.proofs.notices.empty_batches.Given as goal
+use Rattle.sa_batch.specs.Notices.{notes_of, HaveRoom}
+use Rattle.sa_batch.proofs.notices.empty_batches.Given as goal
 
 abbrev pub invariant-loop : goal.invariant-loop
 invariant-loop l = record {

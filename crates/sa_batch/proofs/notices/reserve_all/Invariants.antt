@@ -1,8 +1,8 @@
 use Rattle.std.proofs.Common.{◌≡◌, ℕ, ◌≤◌, map, length}
 use Rattle.std.specs.List.{AllWithin}
 use Rattle.sa_batch.specs.Noted.{Noted}
-use Rattle.sa_kernel.specs.Notices.{notes_of, HaveRoom}
-use Rattle.sa_kernel.proofs.notices.reserve_all.Given as goal
+use Rattle.sa_batch.specs.Notices.{notes_of, HaveRoom}
+use Rattle.sa_batch.proofs.notices.reserve_all.Given as goal
 
 abbrev pub invariant-loop-i : goal.invariant-loop-i
 invariant-loop-i l = record {

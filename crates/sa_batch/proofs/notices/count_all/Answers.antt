@@ -2,9 +2,9 @@ use Rattle.std.proofs.Common.{◌<◌, [], List, length, map, ap, arith}
 use Rattle.std.proofs.lemmas.List.{length-map}
 use Rattle.std.proofs.lemmas.List.Sums.{sum_by-drop_more}
 use Rattle.sa_base.specs.declared.record.Note.{Note}
-use Rattle.sa_kernel.specs.Notices.{notes_of}
-use Rattle.sa_kernel.proofs.Batches.{notes-at}
-use Rattle.sa_kernel.proofs.notices.count_all.Goals as goal
+use Rattle.sa_batch.specs.Notices.{notes_of}
+use Rattle.sa_batch.proofs.Batches.{notes-at}
+use Rattle.sa_batch.proofs.notices.count_all.Goals as goal
 
 pub overflow_add-count : goal.overflow_add-count
 overflow_add-count c =

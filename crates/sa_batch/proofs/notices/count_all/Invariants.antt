@@ -1,6 +1,6 @@
 use Rattle.std.proofs.Common.{◌≡◌, ◌+◌, length, map, drop, sum_by}
-use Rattle.sa_kernel.specs.Notices.{notes_of}
-use Rattle.sa_kernel.proofs.notices.count_all.Given as goal
+use Rattle.sa_batch.specs.Notices.{notes_of}
+use Rattle.sa_batch.proofs.notices.count_all.Given as goal
 
 -- what is left to be counted makes up the rest
 abbrev pub invariant-loop-i : goal.invariant-loop-i

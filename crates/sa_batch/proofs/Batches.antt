@@ -4,7 +4,7 @@ use Rattle.std.proofs.lemmas.List.{map-set, get_or-map, set-get_or}
 use Rattle.std.proofs.lemmas.List.Elements.{All-set}
 use Rattle.sa_base.specs.declared.record.Note.{Note}
 use Rattle.sa_batch.specs.Noted.{Noted}
-use Rattle.sa_kernel.specs.Notices.{notes_of, HaveRoom}
+use Rattle.sa_batch.specs.Notices.{notes_of, HaveRoom}
 
 -- what a batch of the list holds
 pub notes-at : (bs : List Noted) (i : ℕ) (b : Noted) → i < length bs → b ≡ get_or bs i b → b.notes ≡ get_or (map notes_of bs) i []

@@ -1,5 +1,5 @@
 -- Notices as a contract sees them.
-use Rattle.std.specs.Prelude.{ℕ, ◌≤◌, List, ◌∷◌, Option, Some, None, All}
+use Rattle.std.specs.Prelude.{ℕ, ◌≤◌, Bool, true, false, List, [], ◌∷◌, Option, Some, None, All}
 use Rattle.sa_base.specs.declared.number.ProcNo.{ProcNo}
 use Rattle.sa_base.specs.declared.record.Note.{Note}
 use Rattle.sa_base.specs.declared.record.Note.TheVariants.{Add}
@@ -24,3 +24,12 @@ behind_added (Some p) notes = Add p ∷ notes
 -- each batch has room for so many more
 abbrev pub HaveRoom : ℕ → List Noted → Type 0
 HaveRoom n batches = All (λ (b : Noted). n ≤ b.spare) batches
+
+-- an upcall tells a space what it was not told, behind the notice of its processor, if that was added
+abbrev pub notes_told : Bool → ProcNo → List Note → List Note
+notes_told true p notes = Add p ∷ notes
+notes_told false p notes = notes
+
+abbrev pub has_untold : List Note → Bool
+has_untold [] = false
+has_untold (note ∷ notes) = true

@@ -2,8 +2,8 @@ use Rattle.std.proofs.Common.{◌<◌, ◌≤◌, length, ◌∙◌, arith}
 use Rattle.std.proofs.lemmas.List.{length-set}
 use Rattle.std.proofs.lemmas.List.Elements.{AllWithin-more_set}
 use Rattle.sa_batch.specs.Noted.{Noted}
-use Rattle.sa_kernel.proofs.Batches.{notes-kept, room-grown}
-use Rattle.sa_kernel.proofs.notices.reserve_all.Goals as goal
+use Rattle.sa_batch.proofs.Batches.{notes-kept, room-grown}
+use Rattle.sa_batch.proofs.notices.reserve_all.Goals as goal
 
 pub loop-i-preserved : goal.loop-i-preserved
 loop-i-preserved c =

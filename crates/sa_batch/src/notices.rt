@@ -1,20 +1,17 @@
 ghost use Rattle.std.specs.Prelude.{sum_by, ◌≡◌, ℕ, ◌+◌, ◌≤◌, ◌<◌, [], ◌∷◌, ◌++◌, length, map, drop, replicate, slice_get, slice_index_or, slice_set, OnOk, IfOk};
-ghost use Rattle.sa_kernel.specs.Notices.{notes_of, behind_added, HaveRoom};
-ghost use Rattle.sa_kernel.specs.Room.{Adds};
+ghost use Rattle.sa_batch.specs.Notices.{notes_of, behind_added, notes_told, has_untold, HaveRoom};
+ghost use Rattle.sa_base.specs.Recorded.{Adds};
 ghost use Rattle.sa_base.specs.Items.{items_at};
-ghost use Rattle.sa_kernel.specs.Parts.{notes_told};
-ghost use Rattle.sa_kernel.specs.Closing.{has_untold};
 
-use crate::say::say;
+use crate::batch::Batch;
 use sa_base::{MAX_EVENTS, Note, ProcNo, Record, SpaceNo, Trace};
-use sa_batch::Batch;
 use std::alloc::{AllocError, Global};
 use std::marker::Model;
 
 /// The notices of each space that it was not told yet, and those that the last upcall told, as far as its context has
 /// not fetched them. Only `new` and `reserve` can fail for want of memory.
 #[derive(Debug, Drop)]
-pub(crate) struct Notices {
+pub struct Notices {
     untold: Vec<Batch>,
     // The notice of the upcall that a processor was added, which comes before the others of `telling`.
     added: Option<ProcNo>,
@@ -24,7 +21,7 @@ pub(crate) struct Notices {
 
 impl Model for Notices {
     ghost use Rattle.std.specs.Prelude.{◌≤◌, map};
-    ghost use Rattle.sa_kernel.specs.Notices.{NoticesView, notes_of, behind_added, HaveRoom};
+    ghost use Rattle.sa_batch.specs.Notices.{NoticesView, notes_of, behind_added, HaveRoom};
 
     ghost Value = { NoticesView };
 
@@ -38,10 +35,10 @@ impl Model for Notices {
 }
 
 impl Notices {
-    ghost use Rattle.sa_kernel.specs.Notices.{NoticesView};
+    ghost use Rattle.sa_batch.specs.Notices.{NoticesView};
 
     /// No notice of any of so many spaces, and no room.
-    pub(crate) fn new(alloc: Global, spaces: usize) -> Result<Self, AllocError>
+    pub fn new(alloc: Global, spaces: usize) -> Result<Self, AllocError>
         ensures { IfOk result (λ n. let none : NoticesView = record { untold = replicate spaces []; telling = []; spare = 0 } in n ≡ none) }
     {
         Ok(Notices {
@@ -53,7 +50,7 @@ impl Notices {
     }
 
     /// Makes room for at least `n` more notices. An error changes no notice.
-    pub(crate) fn reserve(&mut self, n: usize) -> Result<(), AllocError>
+    pub fn reserve(&mut self, n: usize) -> Result<(), AllocError>
         ensures ok { OnOk result (n ≤ self.new.spare) }
         ensures grows { self.old.spare ≤ self.new.spare }
         ensures rest { self.new ≡ record self.old { spare = self.new.spare } }
@@ -67,7 +64,7 @@ impl Notices {
     }
 
     /// A notice for a space, behind those that it was not told.
-    pub(crate) fn add(&mut self, s: SpaceNo, note: Note)
+    pub fn add(&mut self, s: SpaceNo, note: Note)
         requires space { s.0 < length self.old.untold }
         requires room { 1 ≤ self.old.spare }
         ensures notes { self.new.untold ≡ slice_set self.old.untold s.0 (slice_index_or self.old.untold s.0 [] ++ note ∷ []) }
@@ -79,7 +76,7 @@ impl Notices {
     }
 
     /// An upcall tells the space what it was not told, behind the notice of a processor that was added.
-    pub(crate) fn tell(&mut self, s: SpaceNo, p: ProcNo, added: bool)
+    pub fn tell(&mut self, s: SpaceNo, p: ProcNo, added: bool)
         requires space { s.0 < length self.old.untold }
         requires fetched { self.old.telling ≡ [] }
         ensures untold { self.new.untold ≡ slice_set self.old.untold s.0 [] }
@@ -91,7 +88,7 @@ impl Notices {
     }
 
     /// The next notice that the last upcall told: `None` exactly where all were fetched.
-    pub(crate) fn next(&mut self) -> Option<Note>
+    pub fn next(&mut self) -> Option<Note>
         ensures first { result ≡ slice_get self.old.telling 0 }
         ensures rest { self.new ≡ record self.old { telling = drop 1 self.old.telling } }
     {
@@ -102,7 +99,7 @@ impl Notices {
     }
 
     /// Records what the last upcall tells.
-    pub(crate) fn say_told(&self, event: u64, p: ProcNo, trace: &mut Trace)
+    pub fn say_told(&self, event: u64, p: ProcNo, trace: &mut Trace)
         requires { length self.now.telling ≤ trace.old.spare }
         ensures items { trace.new.items ≡ trace.old.items ++ items_at event p (map Record.Told self.now.telling) }
         ensures room { Adds (length self.now.telling) trace.old trace.new }
@@ -112,7 +109,7 @@ impl Notices {
     }
 
     /// What the space was not told, in order.
-    pub(crate) fn untold(&self, s: SpaceNo) -> &[Note]
+    pub fn untold(&self, s: SpaceNo) -> &[Note]
         requires { s.0 < length self.now.untold }
         ensures { result.now ≡ slice_index_or self.now.untold s.0 [] }
     {
@@ -120,7 +117,7 @@ impl Notices {
     }
 
     /// How many notices were not told.
-    pub(crate) fn count(&self) -> usize
+    pub fn count(&self) -> usize
         requires { sum_by length self.now.untold ≤ MAX_EVENTS }
         ensures { result ≡ sum_by length self.now.untold }
     {
@@ -128,7 +125,7 @@ impl Notices {
     }
 
     /// Whether the space is to be told something.
-    pub(crate) fn has_untold(&self, s: SpaceNo) -> bool
+    pub fn has_untold(&self, s: SpaceNo) -> bool
         requires { s.0 < length self.now.untold }
         ensures { result ≡ has_untold (slice_index_or self.now.untold s.0 []) }
     {
@@ -143,7 +140,7 @@ fn say_added(added: Option<ProcNo>, event: u64, p: ProcNo, trace: &mut Trace)
     ensures room { Adds (length (behind_added added [])) trace.old trace.new }
 {
     if let Some(q) = added {
-        say(trace, event, p, Record::Told(Note::Add(q)));
+        trace.say(event, p, Record::Told(Note::Add(q)));
     }
 }
 
@@ -154,7 +151,7 @@ fn say_all_told(notes: &[Note], event: u64, p: ProcNo, trace: &mut Trace)
     ensures room { Adds (length notes.now) trace.old trace.new }
 {
     for note in notes {
-        say(trace, event, p, Record::Told(*note));
+        trace.say(event, p, Record::Told(*note));
     }
 }
 
