@@ -1,4 +1,3 @@
-pub mod Spelling
 pub mod Steps
 pub mod Readings
 pub mod Records

@@ -12,9 +12,10 @@ use Rattle.sa_fields.specs.declared.field.Field.TheVariants.{Space, OptionalSpac
 use Rattle.sa_base.specs.declared.refusal.Cause.{Cause}
 use Rattle.sa_base.specs.declared.refusal.Cause.TheVariants.{BadNumber, OutOfRange}
 use Rattle.sa_fields.specs.Field.{range_of, Fits, AllFit}
-use Rattle.sa_reader.specs.Pieces.{and_then, or_cause, number_of, within, number_in, field_in, fields_in, wrong_or, wrong_count}
+use Rattle.sa_reader.specs.Pieces.{and_then, or_cause, within, number_in, field_in, fields_in, wrong_or, wrong_count}
 use Rattle.sa_text.proofs.Spelling.{decimal-lacks}
-use Rattle.sa_reader.proofs.Spelling.{reads_number}
+use Rattle.sa_text.proofs.NumberOf.{reads_number}
+use Rattle.sa_text.specs.Number.{number_of}
 
 -- what an answer is made of
 pub and_then-ok : {A B E : Type 0} (r : Result A E) (f : A → Result B E) (b : B) → and_then r f ≡ Ok b → (a : A) × (r ≡ Ok a) × (f a ≡ Ok b)

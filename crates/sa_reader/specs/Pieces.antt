@@ -1,7 +1,7 @@
 -- What a piece of a line says where a number, a field or a word is expected, or what is wrong with it.
 use Rattle.std.specs.Prelude.{ℕ, Bool, ◌^◌, ◌&&◌, List, [], ◌∷◌, take, drop, find, decimal, codes, Option, Some, None, Result, Ok, Err, nat_lt, nat_le, if◌then◌else◌}
 use Rattle.std.specs.Str.{bytes_eq}
-use Rattle.std.specs.Str.Parse.{digits_value}
+use Rattle.sa_text.specs.Number.{number_of}
 use Rattle.sa_fields.specs.declared.field.Field.{Field}
 use Rattle.sa_fields.specs.declared.kind.Kind.{Kind}
 use Rattle.sa_fields.specs.declared.kind.TheConstants.{KINDS}
@@ -32,11 +32,6 @@ or_cause (Some a) cause = Ok a
 abbrev pub with_rest : {A B E : Type 0} → Result A E → B → Result (A × B) E
 with_rest (Ok a) rest = Ok (a, rest)
 with_rest (Err cause) rest = Err cause
-
--- the number of 64 bits of which the piece is the one decimal spelling
-abbrev pub number_of : List ℕ → Option ℕ
-number_of piece =
-    let n = digits_value 10 piece in if nat_lt n (2 ^ 64) && bytes_eq piece (decimal n) then Some n else None
 
 -- a number from the one to the other
 abbrev pub within : ℕ → ℕ → ℕ → Result ℕ Cause

@@ -1,7 +1,7 @@
 // What a piece says where a number, a field or a word is expected.
 ghost use Rattle.std.specs.Prelude.{◌≡◌, ◌≤◌, ◌++◌, ◌↔◌, length, find, codes, IsTrue, IfOk, MatchResult};
 ghost use Rattle.std.specs.Result.{result_err};
-ghost use Rattle.sa_reader.specs.Pieces.{number_of, number_in, field_in, fields_in, and_then, wrong_count, has_note, has_word, kind_at, note_at, end_of, with_rest};
+ghost use Rattle.sa_reader.specs.Pieces.{number_in, field_in, fields_in, and_then, wrong_count, has_note, has_word, kind_at, note_at, end_of, with_rest};
 
 use crate::words::Words;
 use arrayvec::ArrayVec;
@@ -12,19 +12,12 @@ use sa_text::read_number;
 /// The fields of a record.
 pub(crate) type Fields = ArrayVec<Option<u64>, MAX_FIELDS>;
 
-// The number of 64 bits that the piece spells.
-fn read_any(piece: &[u8]) -> Option<u64>
-    ensures { result ≡ number_of piece.now }
-{
-    read_number(piece)
-}
-
 /// The number that the piece spells, where it is from `least` to `greatest`.
 pub(crate) fn read_within(least: u64, greatest: u64, piece: &[u8]) -> Result<u64, Cause>
     ensures number { result ≡ number_in least greatest piece.now }
     ensures small { IfOk result (λ n. n ≤ greatest) }
 {
-    let n = read_any(piece).ok_or(Cause::BadNumber)?;
+    let n = read_number(piece).ok_or(Cause::BadNumber)?;
     if least <= n && n <= greatest {
         Ok(n)
     } else {

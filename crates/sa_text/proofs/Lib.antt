@@ -1,4 +1,5 @@
 pub mod Spelling
+pub mod NumberOf
 pub mod LineLemmas
 pub mod PieceLemmas
 pub mod Lacking

@@ -1,7 +1,13 @@
 -- What a decimal spelling is made of.
-use Rattle.std.specs.Prelude.{◌≡◌, ℕ, ◌^◌, ◌<◌, ◌≤◌, List, length, Option, All, slice_index}
+use Rattle.std.specs.Prelude.{◌≡◌, ℕ, ◌^◌, ◌<◌, ◌≤◌, ◌&&◌, if◌then◌else◌, nat_lt, List, length, Option, Some, None, All, decimal, slice_index}
 use Rattle.std.specs.Option.{SomeIff}
+use Rattle.std.specs.Str.{bytes_eq}
 use Rattle.std.specs.Str.Parse.{IsNumeral, digits_value}
+
+-- the number of 64 bits of which the bytes are the one decimal spelling
+abbrev pub number_of : List ℕ → Option ℕ
+number_of bytes =
+    let n = digits_value 10 bytes in if nat_lt n (2 ^ 64) && bytes_eq bytes (decimal n) then Some n else None
 
 -- the first byte is a digit, and `0` only where it stands alone
 pub record BeginsNumber (bytes : List ℕ) : Type 0 where

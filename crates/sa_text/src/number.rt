@@ -1,6 +1,6 @@
 // The one decimal spelling of a number of 64 bits: written and read.
 ghost use Rattle.std.specs.Prelude.{◌≡◌, ◌≢◌, ℕ, ◌^◌, ◌<◌, ◌++◌, Some, IfSome, IfNone, IsTrue, ◌↔◌, OnErr, OnOk, decimal};
-ghost use Rattle.sa_text.specs.Number.{BeginsNumber, ReadsDigits};
+ghost use Rattle.sa_text.specs.Number.{BeginsNumber, ReadsDigits, number_of};
 
 use itoa::Buffer;
 use std::alloc::AllocError;
@@ -21,6 +21,7 @@ pub fn print_number(n: u64, out: &mut Vec<u8>) -> Result<(), AllocError>
 /// `None` exactly where it is none of a number below 2^64: it is empty, has a sign, another byte than a
 /// digit or a leading zero, or the number is too large.
 pub fn read_number(piece: &[u8]) -> Option<u64>
+    ensures number { result ≡ number_of piece.now }
     ensures some { IfSome result (λ n. piece.now ≡ decimal n) }
     ensures none { IfNone result ((n : ℕ) → n < 2 ^ 64 → piece.now ≢ decimal n) }
 

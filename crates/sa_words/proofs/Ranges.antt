@@ -12,7 +12,8 @@ use Rattle.sa_words.specs.declared.command.Command.{Command}
 use Rattle.sa_words.specs.declared.command.Command.TheVariants.{Run, Load, Migrate}
 use Rattle.sa_words.specs.declared.options.Options.{Options}
 use Rattle.sa_words.specs.declared.options.Settings.{Settings}
-use Rattle.sa_words.specs.Values.{number_of, within, number_within, schedule_of}
+use Rattle.sa_text.specs.Number.{number_of}
+use Rattle.sa_words.specs.Values.{within, number_within, schedule_of}
 use Rattle.sa_words.specs.Commands.{with_schedule, with_budget, with_option, settings_of, nothing_set, set_by, run_of, load_of, migrate_of, named, command_of}
 use Rattle.sa_words.specs.Ranges.{IsFrom, IsInRange, CommandsAreInRange}
 

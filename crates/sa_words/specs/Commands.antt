@@ -9,7 +9,8 @@ use Rattle.sa_words.specs.declared.command.Command.{Command}
 use Rattle.sa_words.specs.declared.command.Command.TheVariants.{Run, Load, Migrate}
 use Rattle.sa_words.specs.declared.options.Options.{Options}
 use Rattle.sa_words.specs.declared.options.Settings.{Settings}
-use Rattle.sa_words.specs.Values.{number_of, number_within, schedule_of}
+use Rattle.sa_text.specs.Number.{number_of}
+use Rattle.sa_words.specs.Values.{number_within, schedule_of}
 
 -- the options: a name, and what its value may be
 --   --schedule   an order of turns; `rr` where it is left out

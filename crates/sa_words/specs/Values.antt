@@ -2,17 +2,12 @@
 use Rattle.std.specs.Prelude.{ℕ, ◌+◌, ◌-◌, ◌^◌, ◌&&◌, List, length, take, drop, position, decimal, codes, Option, Some, None, option_and_then, nat_lt, nat_le, ◌==◌, if◌then◌else◌}
 use Rattle.std.specs.Option.{option_map}
 use Rattle.std.specs.Str.{bytes_eq}
-use Rattle.std.specs.Str.Parse.{digits_value}
+use Rattle.sa_text.specs.Number.{number_of}
 use Rattle.sa_base.specs.declared.limits.TheConstants.{MAX_EVENTS, MAX_PROCESSORS}
 use Rattle.sa_words.specs.declared.command.ScheduleWord.{ScheduleWord}
 use Rattle.sa_words.specs.declared.command.ScheduleWord.TheVariants.{RoundRobin, Seed, Given, Hold}
 
--- the number of 64 bits of which the bytes are the one decimal spelling
-abbrev pub number_of : List ℕ → Option ℕ
-number_of bytes =
-    let n = digits_value 10 bytes in if nat_lt n (2 ^ 64) && bytes_eq bytes (decimal n) then Some n else None
-
--- the same, from the one number to the other
+-- a number from the one to the other
 abbrev pub within : ℕ → ℕ → ℕ → Option ℕ
 within low high n = if nat_le low n && nat_le n high then Some n else None
 

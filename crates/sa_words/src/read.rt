@@ -3,9 +3,10 @@ ghost use Rattle.sa_words.specs.Commands.{command_of, named, run_of, load_of, mi
 
 use crate::command::{Command, ScheduleWord};
 use crate::options::{Options, read_options};
-use crate::value::{read_any, read_within};
+use crate::value::read_within;
 use crate::words::Words;
 use sa_base::{DEFAULT_BUDGET, MAX_EVENTS};
+use sa_text::read_number;
 
 /// The command that the words are: `None` exactly where they are none. It cannot fail for want of memory.
 pub fn read_words(words: &Words) -> Option<Command>
@@ -63,7 +64,7 @@ fn read_load(words: &[String]) -> Option<Command>
     match words {
         [] => None,
         [number, rest @ ..] => {
-            let number = read_any(number.as_bytes())?;
+            let number = read_number(number.as_bytes())?;
             let settings = read_options(taken, rest)?;
             Some(Command::Load {
                 number,

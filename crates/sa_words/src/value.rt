@@ -1,22 +1,15 @@
 ghost use Rattle.std.specs.Prelude.{◌≡◌, ◌<◌, ◌==◌, length, position, IfSome};
-ghost use Rattle.sa_words.specs.Values.{number_of, number_within, hold_by_parts, hold_of, schedule_of};
+ghost use Rattle.sa_words.specs.Values.{number_within, hold_by_parts, hold_of, schedule_of};
 
 use crate::command::ScheduleWord;
 use sa_base::{MAX_EVENTS, MAX_PROCESSORS, ProcNo};
 use sa_text::read_number;
 
-// The number of 64 bits that the word spells.
-pub(crate) fn read_any(word: &[u8]) -> Option<u64>
-    ensures { result ≡ number_of word.now }
-{
-    read_number(word)
-}
-
 // The number that the word spells, where it is from `low` to `high`.
 pub(crate) fn read_within(low: u64, high: u64, word: &[u8]) -> Option<u64>
     ensures { result ≡ number_within low high word.now }
 {
-    let n = read_any(word)?;
+    let n = read_number(word)?;
     if low <= n && n <= high { Some(n) } else { None }
 }
 
@@ -31,7 +24,7 @@ pub(crate) fn read_schedule(word: &[u8]) -> Option<ScheduleWord>
         return Some(ScheduleWord::Given);
     }
     if let Some(seed) = word.strip_prefix(b"seed:") {
-        return read_any(seed).map(ScheduleWord::Seed);
+        return read_number(seed).map(ScheduleWord::Seed);
     }
     read_hold(word.strip_prefix(b"hold:")?)
 }

@@ -1,4 +1,4 @@
--- The number that bytes spell.
+-- The number that bytes spell, as a function of them.
 use Rattle.std.proofs.Common.{◌≡◌, ◌≢◌, ◌<◌, ◌^◌, ◌&&◌, ℕ, Bool, true, false, cond, List, Option, Some, None, refl, sym, ap, ◌∙◌, nat_lt}
 use Rattle.std.specs.Prelude.{decimal, IfSome, IfNone}
 use Rattle.std.specs.Str.{bytes_eq}
@@ -6,7 +6,7 @@ use Rattle.std.specs.Str.Parse.{digits_value}
 use Rattle.std.proofs.lemmas.Fmt.{decimal_is_IsNumeral}
 use Rattle.std.proofs.lemmas.Bool.{lt-ltb, ltb-true}
 use Rattle.std.proofs.lemmas.Slice.Eq.{bytes_eq-Decides}
-use Rattle.sa_words.specs.Values.{number_of}
+use Rattle.sa_text.specs.Number.{number_of}
 
 none_where : (a b : Bool) (x : Option ℕ) → (a ≡ true → b ≡ true → ⊥) → cond (a && b) x None ≡ None
 none_where true true x h = absurd (h refl refl)
