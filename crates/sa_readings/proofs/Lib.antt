@@ -1,0 +1,17 @@
+pub mod AlongLemmas
+pub mod LifeLemmas
+pub mod ListLemmas
+pub mod StepLemmas
+pub mod FieldLemmas
+pub mod PageLemmas
+pub mod RaisedLemmas
+pub mod TrackLemmas
+pub mod KnownLemmas
+pub mod TraceLemmas
+pub mod LoadLemmas
+pub mod UntouchedLemmas
+pub mod OwnLemmas
+pub mod InLemmas
+pub mod AfterLemmas
+pub mod RangeLemmas
+pub mod ReadingLemmas
