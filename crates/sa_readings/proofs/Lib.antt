@@ -15,3 +15,4 @@ pub mod InLemmas
 pub mod AfterLemmas
 pub mod RangeLemmas
 pub mod ReadingLemmas
+pub mod ClosingLemmas

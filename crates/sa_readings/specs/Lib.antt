@@ -7,3 +7,4 @@ pub mod Ios
 pub mod Pages
 pub mod Steps
 pub mod Reads
+pub mod Closings
