@@ -22,7 +22,7 @@ use Rattle.sa_readings.specs.Holdings.{change, locks_at, hands_at, conts_at}
 use Rattle.sa_readings.specs.Steps.{stepping, rising, with_event, settles_by, settles_at, set_in, in_by, renewed, scans_by, scans_at, is_free_event, freed_at}
 use Rattle.sa_readings.proofs.AlongLemmas.{along-more}
 use Rattle.sa_readings.proofs.LifeLemmas.{Said, said-with, said-if, said-same}
-use Rattle.sa_readings.proofs.FieldLemmas.{held_locks, in_hand, open_cont, at_home}
+use Rattle.sa_readings.proofs.FieldLemmas.{in_locks, in_hand, open_cont, at_home}
 use Rattle.sa_readings.proofs.UntouchedLemmas.{in_now, scanned, was_freed, in-untouched, scanned-untouched, freed-untouched, untouched-records}
 use Rattle.sa_readings.proofs.TrackLemmas.{IsRead}
 use Rattle.sa_readings.proofs.KnownLemmas.{first-want}
@@ -115,7 +115,7 @@ items-more [] e = append-nil (items_at e.number e.proc e.records)
 items-more (x ∷ es) e = ap (λ ys. items_at x.number x.proc x.records ++ ys) (items-more es e) ∙ sym (append_assoc (items_at x.number x.proc x.records) (items_of es) (items_at e.number e.proc e.records))
 
 -- lives with these fields have what the words say
-has-at : (w : WorkloadView) (now : List Item) (lives : ℕ → Option Life) → Said held_locks lives (along locks_at (λ b. []) now) → Said in_hand lives (along (hands_at w) (λ b. []) now)
+has-at : (w : WorkloadView) (now : List Item) (lives : ℕ → Option Life) → Said in_locks lives (along (locks_at w) (λ b. []) now) → Said in_hand lives (along (hands_at w) (λ b. []) now)
     → Said open_cont lives (along conts_at (λ b. false) now) → Said at_home lives (λ b. home_of now (record { 0 = b })) → (a : ActNo) (life : Life) → lives a.0 ≡ Some life → HasAt w now a life
 has-at w now lives locks hands conts homes a life is = record {
   locks = locks a.0 life is;
@@ -132,7 +132,7 @@ in-next w past r e has known within said =
     let read = known.after in
     let stepped_lives = with_step is_inside w r e after e.records after.lives in
     let first_has = has-at w now after.lives read.locks read.hands read.conts read.homes in
-    let then_has = has-at w now stepped_lives (keep-step held_locks w r e after after.lives _ e.records (λ x l. refl) read.locks)
+    let then_has = has-at w now stepped_lives (keep-step in_locks w r e after after.lives _ e.records (λ x l. refl) read.locks)
     (keep-step in_hand w r e after after.lives _ e.records (λ x l. refl) read.hands) (keep-step open_cont w r e after after.lives _ e.records (λ x l. refl) read.conts)
     (keep-step at_home w r e after after.lives _ e.records (λ x l. refl) read.homes) in
     let renewed_said = untouched-records in_now false (Some false) w e.number e.proc (begun w e r) e.records has in-untouched said in

@@ -1,7 +1,6 @@
 -- What one record changes in what each life has, as the words have it.
 use Rattle.std.proofs.Common.{◌≡◌, ℕ, refl, sym, ◌∙◌, ap, subst, Some, None, List, [], ◌∷◌, ◌++◌, map, true, false}
 use Rattle.std.specs.Prelude.{Option, Bool, drop}
-use Rattle.std.proofs.lemmas.List.{map-append}
 use Rattle.sa_lemmas.specs.Function.{put}
 use Rattle.sa_base.specs.declared.number.ProcNo.{ProcNo}
 use Rattle.sa_base.specs.declared.number.ThreadNo.{ThreadNo}
@@ -15,10 +14,10 @@ use Rattle.sa_laws.specs.State.{State}
 use Rattle.sa_laws.specs.Machine.{next_effect}
 use Rattle.sa_laws.specs.Life.{Life, Lock, new_life, with_hand, without_lock, with_first, change_first, readied, ran, with_cont, held_with, inherits, inherited, bereft}
 use Rattle.sa_laws.specs.Readings.{Readings, running_of, life_of}
-use Rattle.sa_laws.specs.Record.{with_life, handed, lives_after, locks, one_thread, stopped_with, back_with, made_ready}
+use Rattle.sa_laws.specs.Record.{with_life, handed, lives_after, lock_for, locks, one_thread, stopped_with, back_with, made_ready}
 use Rattle.sa_readings.specs.Moments.{Home, machine_of, runs_on, last_up}
-use Rattle.sa_readings.specs.Holdings.{Held, held, change, pass, with_thread, without, locks_by, hands_by, conts_by, stopped_by}
-use Rattle.sa_readings.proofs.LifeLemmas.{Said, said-with, said-keep, said-new, said-gone, said-passed, said-lost, said-stays}
+use Rattle.sa_readings.specs.Holdings.{change, taken_lock, without, locks_by, hands_by, conts_by, stopped_by}
+use Rattle.sa_readings.proofs.LifeLemmas.{Said, pass_as, said-with, said-where, said-keep, said-new, said-gone, said-passed, said-lost, said-stays}
 
 -- the running life is that of the words
 on-running : {F : Type 0} (g : Life → F) (f : Life → Life) (h : F → F) (n m : Option ActNo) (lives : ℕ → Option Life) (has : ℕ → F) → n ≡ m → ((l : Life) → g (f l) ≡ h (g l))
@@ -26,12 +25,12 @@ on-running : {F : Type 0} (g : Life → F) (f : Life → Life) (h : F → F) (n 
 on-running g f h n m lives has same step said = subst (λ k. Said g (with_life f n lives) (change h k has)) same (said-with g f h n lives has step said)
 
 -- so is the life of the up, and the life that is told of is in use
-on-told : {X : Type 0} (g : Life → List X) (up named : Option ActNo) (a : ActNo) (o : Option Life) (from : Life) (lives : ℕ → Option Life) (has : ℕ → List X)
-    → up ≡ named → o ≡ Some from → lives a.0 ≡ o → ((f l : Life) → g (inherits f l) ≡ g l ++ g f) → ((l : Life) → g (bereft l) ≡ [])
-    → Said g lives has → Said g (handed up a o lives) (pass named a has)
-on-told g up named a o from lives has same is at joined bare said =
-    subst (λ k. Said g (handed up a o lives) (pass k a has)) same
-    (subst (λ k. Said g (handed up a k lives) (pass up a has)) (sym is) (said-passed g up a from lives has (joined from) bare (at ∙ is) said))
+on-told : {X : Type 0} (g : Life → List X) (m : List X → List X) (up named : Option ActNo) (a : ActNo) (o : Option Life) (from : Life) (lives : ℕ → Option Life) (has : ℕ → List X)
+    → up ≡ named → o ≡ Some from → lives a.0 ≡ o → ((f l : Life) → g (inherits f l) ≡ g l ++ m (g f)) → ((l : Life) → g (bereft l) ≡ [])
+    → Said g lives has → Said g (handed up a o lives) (pass_as m named a has)
+on-told g m up named a o from lives has same is at joined bare said =
+    subst (λ k. Said g (handed up a o lives) (pass_as m k a has)) same
+    (subst (λ k. Said g (handed up a k lives) (pass_as m up a has)) (sym is) (said-passed g m up a from lives has (joined from) bare (at ∙ is) said))
 
 -- the lives that records name are in use
 abbrev pub NamesLife : Readings → Record → Type 0
@@ -49,60 +48,42 @@ pub record Agrees (past : List Item) (p : ProcNo) (r : Readings) (x : Record) : 
   pub upped : r.upped ≡ last_up past
   pub names : NamesLife r x
 
--- locks
-abbrev pub held_of : Lock → Held
-held_of lock = held lock.list lock.thread
+-- locks: a take gives the lock that the words say
+abbrev pub in_locks : Life → List Lock
+in_locks life = life.locks
 
-abbrev pub helds : List Lock → List Held
-helds ls = map held_of ls
+abbrev pub TakesLock : WorkloadView → List Item → ProcNo → Readings → Record → Type 0
+TakesLock w past p r (Take s l t) =
+    (a : ActNo) (life : Life) → running_of r p ≡ Some a → r.lives a.0 ≡ Some life → lock_for r p l t life ≡ taken_lock w past p s l t
+TakesLock w past p r _ = Unit {0}
 
-abbrev pub held_locks : Life → List Held
-held_locks life = helds life.locks
-
-used-same : (ls : List Lock) → helds (change_first readied ls) ≡ helds ls
-used-same [] = refl
-used-same (l ∷ ls) = refl
-
-ran-same : (t : ThreadNo) (ls : List Lock) → helds (change_first (ran t) ls) ≡ with_thread t (helds ls)
-ran-same t [] = refl
-ran-same t (l ∷ ls) = refl
-
-inherited-same : (ls : List Lock) → helds (map inherited ls) ≡ helds ls
-inherited-same [] = refl
-inherited-same (l ∷ ls) = ap (λ hs. held_of l ∷ hs) (inherited-same ls)
-
-joined-locks : (from l : Life) → held_locks (inherits from l) ≡ held_locks l ++ held_locks from
-joined-locks from l = map-append held_of l.locks (map inherited from.locks) ∙ ap (λ hs. helds l.locks ++ hs) (inherited-same from.locks)
-
-free-same : (ls : List Lock) → helds (drop 1 ls) ≡ drop 1 (helds ls)
-free-same [] = refl
-free-same (l ∷ ls) = refl
-
-pub locks-step : (w : WorkloadView) (past : List Item) (p : ProcNo) (r : Readings) (x : Record) (has : ℕ → List Held) → Agrees past p r x → Said held_locks r.lives has
-    → Said held_locks (lives_after w p r x) (locks_by past has p x)
-locks-step w past p r (Ins s t i) has agrees said = said-keep held_locks (with_hand (next_effect w r.state s t).roused) (running_of r p) r.lives has (λ l. refl) said
-locks-step w past p r (Run s t) has agrees said =
-    on-running held_locks (with_first (ran t)) (with_thread t) (running_of r p) (runs_on past p) r.lives has agrees.running (λ l. ran-same t l.locks) said
-locks-step w past p r (Stop s t a) has agrees said = said-keep held_locks (stopped_with t) (Some a) r.lives has (λ l. refl) said
-locks-step w past p r (Block s t a io) has agrees said = said-keep held_locks (held_with t) (Some a) r.lives has (λ l. refl) said
-locks-step w past p r (Unblock s t a) has agrees said = said-keep held_locks (with_hand (one_thread t)) (Some a) r.lives has (λ l. refl) said
-locks-step w past p r (Cont s t) has agrees said = said-keep held_locks (with_cont true) (running_of r p) r.lives has (λ l. refl) said
-locks-step w past p r (Back s t) has agrees said = said-keep held_locks (back_with t) (running_of r p) r.lives has (λ l. refl) said
-locks-step w past p r (Ready s t) has agrees said = said-keep held_locks (made_ready t) (running_of r p) r.lives has (λ l. used-same l.locks) said
-locks-step w past p r (Take s l t) has agrees said =
-    on-running held_locks (locks r p l t) (λ ls. ls ++ held l t ∷ []) (running_of r p) (runs_on past p) r.lives has agrees.running
-    (λ life. map-append held_of life.locks _) said
-locks-step w past p r (Free s l t) has agrees said =
-    on-running held_locks without_lock (drop 1) (running_of r p) (runs_on past p) r.lives has agrees.running (λ life. free-same life.locks) said
-locks-step w past p r (Up s a) has agrees said = said-new held_locks a.0 (new_life s p) [] r.lives has refl said
-locks-step w past p r (Told (note.Preempted a)) has agrees said =
-    on-told held_locks r.upped (last_up past) a (life_of r a) agrees.names.0 r.lives has agrees.upped agrees.names.1 refl joined-locks (λ l. refl) said
-locks-step w past p r (Told (note.Unblocked a)) has agrees said =
-    on-told held_locks r.upped (last_up past) a (life_of r a) agrees.names.0 r.lives has agrees.upped agrees.names.1 refl joined-locks (λ l. refl) said
-locks-step w past p r (Told (note.Add q)) has agrees said = said
-locks-step w past p r (Told (note.Blocked a)) has agrees said = said
-locks-step w past p r (GiveBack a) has agrees said = said-gone held_locks a.0 r.lives has said
-locks-step w past p r x has agrees said = said
+pub locks-step : (w : WorkloadView) (past : List Item) (p : ProcNo) (r : Readings) (x : Record) (has : ℕ → List Lock) → Agrees past p r x → TakesLock w past p r x → Said in_locks r.lives has
+    → Said in_locks (lives_after w p r x) (locks_by w past has p x)
+locks-step w past p r (Ins s t i) has agrees takes said = said-keep in_locks (with_hand (next_effect w r.state s t).roused) (running_of r p) r.lives has (λ l. refl) said
+locks-step w past p r (Run s t) has agrees takes said =
+    on-running in_locks (with_first (ran t)) (change_first (ran t)) (running_of r p) (runs_on past p) r.lives has agrees.running (λ l. refl) said
+locks-step w past p r (Stop s t a) has agrees takes said = said-keep in_locks (stopped_with t) (Some a) r.lives has (λ l. refl) said
+locks-step w past p r (Block s t a io) has agrees takes said = said-keep in_locks (held_with t) (Some a) r.lives has (λ l. refl) said
+locks-step w past p r (Unblock s t a) has agrees takes said = said-keep in_locks (with_hand (one_thread t)) (Some a) r.lives has (λ l. refl) said
+locks-step w past p r (Cont s t) has agrees takes said = said-keep in_locks (with_cont true) (running_of r p) r.lives has (λ l. refl) said
+locks-step w past p r (Back s t) has agrees takes said = said-keep in_locks (back_with t) (running_of r p) r.lives has (λ l. refl) said
+locks-step w past p r (Ready s t) has agrees takes said =
+    on-running in_locks (made_ready t) (change_first readied) (running_of r p) (runs_on past p) r.lives has agrees.running (λ l. refl) said
+locks-step w past p r (Take s l t) has agrees takes said =
+    subst (λ k. Said in_locks (with_life (locks r p l t) (running_of r p) r.lives) (change (λ ls. ls ++ taken_lock w past p s l t ∷ []) k has)) agrees.running
+    (said-where in_locks (locks r p l t) (λ ls. ls ++ taken_lock w past p s l t ∷ []) (running_of r p) r.lives has
+    (λ a life runs is. ap (λ lock. life.locks ++ lock ∷ []) (takes a life runs is)) said)
+locks-step w past p r (Free s l t) has agrees takes said =
+    on-running in_locks without_lock (drop 1) (running_of r p) (runs_on past p) r.lives has agrees.running (λ life. refl) said
+locks-step w past p r (Up s a) has agrees takes said = said-new in_locks a.0 (new_life s p) [] r.lives has refl said
+locks-step w past p r (Told (note.Preempted a)) has agrees takes said =
+    on-told in_locks (map inherited) r.upped (last_up past) a (life_of r a) agrees.names.0 r.lives has agrees.upped agrees.names.1 refl (λ from l. refl) (λ l. refl) said
+locks-step w past p r (Told (note.Unblocked a)) has agrees takes said =
+    on-told in_locks (map inherited) r.upped (last_up past) a (life_of r a) agrees.names.0 r.lives has agrees.upped agrees.names.1 refl (λ from l. refl) (λ l. refl) said
+locks-step w past p r (Told (note.Add q)) has agrees takes said = said
+locks-step w past p r (Told (note.Blocked a)) has agrees takes said = said
+locks-step w past p r (GiveBack a) has agrees takes said = said-gone in_locks a.0 r.lives has said
+locks-step w past p r x has agrees takes said = said
 
 -- hands
 abbrev pub in_hand : Life → List ThreadNo
@@ -127,9 +108,9 @@ hands-step w past p r (Take s l t) has agrees state said = said-keep in_hand (lo
 hands-step w past p r (Free s l t) has agrees state said = said-keep in_hand without_lock (running_of r p) r.lives has (λ life. refl) said
 hands-step w past p r (Up s a) has agrees state said = said-new in_hand a.0 (new_life s p) [] r.lives has refl said
 hands-step w past p r (Told (note.Preempted a)) has agrees state said =
-    on-told in_hand r.upped (last_up past) a (life_of r a) agrees.names.0 r.lives has agrees.upped agrees.names.1 refl (λ from l. refl) (λ l. refl) said
+    on-told in_hand (λ ts. ts) r.upped (last_up past) a (life_of r a) agrees.names.0 r.lives has agrees.upped agrees.names.1 refl (λ from l. refl) (λ l. refl) said
 hands-step w past p r (Told (note.Unblocked a)) has agrees state said =
-    on-told in_hand r.upped (last_up past) a (life_of r a) agrees.names.0 r.lives has agrees.upped agrees.names.1 refl (λ from l. refl) (λ l. refl) said
+    on-told in_hand (λ ts. ts) r.upped (last_up past) a (life_of r a) agrees.names.0 r.lives has agrees.upped agrees.names.1 refl (λ from l. refl) (λ l. refl) said
 hands-step w past p r (Told (note.Add q)) has agrees state said = said
 hands-step w past p r (Told (note.Blocked a)) has agrees state said = said
 hands-step w past p r (GiveBack a) has agrees state said = said-gone in_hand a.0 r.lives has said

@@ -14,7 +14,7 @@ use Rattle.sa_base.specs.declared.record.Item.{Item}
 use Rattle.sa_instr.specs.Workload.{WorkloadView}
 use Rattle.sa_laws.specs.Event.{Event}
 use Rattle.sa_laws.specs.State.{State, Runner, runner_on, space_at, thread_at}
-use Rattle.sa_laws.specs.Life.{Life, has_lock}
+use Rattle.sa_laws.specs.Life.{Life, has_lock, some_lock}
 use Rattle.sa_laws.specs.Readings.{Readings, demand_of, usable, counts, taken_of}
 use Rattle.sa_laws.specs.Record.{with_life}
 use Rattle.sa_laws.specs.History.{settles, goes_on, is_inside}
@@ -22,12 +22,11 @@ use Rattle.sa_legal.specs.Words.{last_want}
 use Rattle.sa_readings.specs.Moments.{Home, machine_of, home_of}
 use Rattle.sa_readings.specs.Loads.{load_in}
 use Rattle.sa_readings.specs.Holdings.{locks_of, hand_of, has_cont, taken_in}
-use Rattle.sa_readings.specs.Ios.{has_locks}
 use Rattle.sa_readings.specs.Steps.{settles_by, is_in_with, is_in_at, set_in}
 use Rattle.sa_readings.proofs.LifeLemmas.{Said, mapped}
-use Rattle.sa_readings.proofs.FieldLemmas.{held_locks, at_home}
+use Rattle.sa_readings.proofs.FieldLemmas.{in_locks, at_home}
 use Rattle.sa_readings.proofs.UntouchedLemmas.{in_now}
-use Rattle.sa_readings.proofs.TrackLemmas.{IsRead, some-locks}
+use Rattle.sa_readings.proofs.TrackLemmas.{IsRead}
 use Rattle.sa_readings.proofs.LoadLemmas.{loads-same}
 
 -- the test, its parts grouped in another way
@@ -49,7 +48,7 @@ none-mapped f (Some x) = refl
 
 -- what a life has at a moment
 pub record HasAt (w : WorkloadView) (now : List Item) (a : ActNo) (life : Life) : Type 0 where
-  pub locks : held_locks life ≡ locks_of now a
+  pub locks : in_locks life ≡ locks_of w now a
   pub hand : life.hand ≡ hand_of w now a
   pub cont : life.cont ≡ has_cont now a
   pub home : at_home life ≡ home_of now a
@@ -60,11 +59,11 @@ test-same w now before r e settled a life read within has =
     regroup (has_lock life) life.cont (list_any (counts (space_at r.state life.space)) life.hand) settled (nat_lt (demand_of r life.space) (usable w r life.space))
     (is_none (option_map (λ (runner : Runner). runner.thread) (runner_on r.state life.proc))) (nat_le BULK_RETURN (length (taken_of r life.space)))
     ∙ ap (λ x. whole settled x life.cont (list_any (counts (space_at r.state life.space)) life.hand) (nat_lt (demand_of r life.space) (usable w r life.space)) carries many) locks
-    ∙ ap (λ x. whole settled (has_locks (locks_of now a)) x (list_any (counts (space_at r.state life.space)) life.hand) (nat_lt (demand_of r life.space) (usable w r life.space)) carries many) has.cont
-    ∙ ap (λ x. whole settled (has_locks (locks_of now a)) (has_cont now a) x (nat_lt (demand_of r life.space) (usable w r life.space)) carries many) hand
-    ∙ ap (λ x. whole settled (has_locks (locks_of now a)) (has_cont now a) (list_any (counts (space_at m life.space)) (hand_of w now a)) x carries many) want
-    ∙ ap (λ x. whole settled (has_locks (locks_of now a)) (has_cont now a) (list_any (counts (space_at m life.space)) (hand_of w now a)) wants x many) carried
-    ∙ ap (λ x. whole settled (has_locks (locks_of now a)) (has_cont now a) (list_any (counts (space_at m life.space)) (hand_of w now a)) wants (is_none (runner_on m life.proc)) x) taken
+    ∙ ap (λ x. whole settled (some_lock (locks_of w now a)) x (list_any (counts (space_at r.state life.space)) life.hand) (nat_lt (demand_of r life.space) (usable w r life.space)) carries many) has.cont
+    ∙ ap (λ x. whole settled (some_lock (locks_of w now a)) (has_cont now a) x (nat_lt (demand_of r life.space) (usable w r life.space)) carries many) hand
+    ∙ ap (λ x. whole settled (some_lock (locks_of w now a)) (has_cont now a) (list_any (counts (space_at m life.space)) (hand_of w now a)) x carries many) want
+    ∙ ap (λ x. whole settled (some_lock (locks_of w now a)) (has_cont now a) (list_any (counts (space_at m life.space)) (hand_of w now a)) wants x many) carried
+    ∙ ap (λ x. whole settled (some_lock (locks_of w now a)) (has_cont now a) (list_any (counts (space_at m life.space)) (hand_of w now a)) wants (is_none (runner_on m life.proc)) x) taken
     ∙ ap (λ (o : Option Home). is_in_with w now settled a o) has.home
   where
     m : State
@@ -79,8 +78,8 @@ test-same w now before r e settled a life read within has =
     many : Bool
     many = nat_le BULK_RETURN (length (taken_of r life.space))
 
-    locks : has_lock life ≡ has_locks (locks_of now a)
-    locks = some-locks life.locks ∙ ap has_locks has.locks
+    locks : has_lock life ≡ some_lock (locks_of w now a)
+    locks = ap some_lock has.locks
 
     hand : list_any (counts (space_at r.state life.space)) life.hand ≡ list_any (counts (space_at (machine_of w now) life.space)) (hand_of w now a)
     hand = ap (λ (k : State). list_any (counts (space_at k life.space)) life.hand) read.state ∙ ap (list_any (counts (space_at (machine_of w now) life.space))) has.hand

@@ -9,7 +9,7 @@ use Rattle.sa_lemmas.proofs.FunctionUpdates.{put-at, put-other}
 use Rattle.sa_base.specs.declared.number.ActNo.{ActNo}
 use Rattle.sa_laws.specs.Life.{Life, inherits, bereft}
 use Rattle.sa_laws.specs.Record.{with_life, handed}
-use Rattle.sa_readings.specs.Holdings.{change, pass}
+use Rattle.sa_readings.specs.Holdings.{change}
 
 -- of each number in use the life has what is said of the number
 abbrev pub Said : {F : Type 0} → (Life → F) → (ℕ → Option Life) → (ℕ → F) → Type 0
@@ -33,6 +33,17 @@ pub said-with : {F : Type 0} (g : Life → F) (f : Life → Life) (h : F → F) 
     → Said g lives has → Said g (with_life f n lives) (change h n has)
 said-with g f h None lives has same said = said
 said-with g f h (Some a) lives has same said = said-at g f h a.0 lives has same said
+
+-- .. in a way that is known of that life alone
+pub said-where : {F : Type 0} (g : Life → F) (f : Life → Life) (h : F → F) (n : Option ActNo) (lives : ℕ → Option Life) (has : ℕ → F)
+    → ((a : ActNo) (l : Life) → n ≡ Some a → lives a.0 ≡ Some l → g (f l) ≡ h (g l)) → Said g lives has → Said g (with_life f n lives) (change h n has)
+said-where g f h None lives has same said = said
+said-where g f h (Some a) lives has same said = λ b life is. elim (cases_eq b a.0) [
+  | inl at ↦
+      let was = mapped f (lives a.0) life (sym (put-at lives a.0 b (option_map f (lives a.0)) at) ∙ is) in
+      ap g (sym was.2) ∙ same a was.0 refl was.1 ∙ ap h (said a.0 was.0 was.1) ∙ sym (put-at has a.0 b (h (has a.0)) at)
+  | inr apart ↦ said b life (sym (put-other lives a.0 b (option_map f (lives a.0)) apart) ∙ is) ∙ sym (put-other has a.0 b (h (has a.0)) apart)
+]
 
 -- .. in a way that leaves what is said
 pub said-keep : {F : Type 0} (g : Life → F) (f : Life → Life) (n : Option ActNo) (lives : ℕ → Option Life) (has : ℕ → F) → ((l : Life) → g (f l) ≡ g l)
@@ -65,13 +76,16 @@ said-gone g a lives has said b life is = elim (cases_eq b a) [
 ]
 
 -- a life is told of: what it has passes to the life of the up
-pub said-passed : {X : Type 0} (g : Life → List X) (up : Option ActNo) (a : ActNo) (from : Life) (lives : ℕ → Option Life) (has : ℕ → List X)
-    → ((l : Life) → g (inherits from l) ≡ g l ++ g from) → ((l : Life) → g (bereft l) ≡ []) → lives a.0 ≡ Some from
-    → Said g lives has → Said g (handed up a (Some from) lives) (pass up a has)
-said-passed g up a from lives has joined bare is said =
+abbrev pub pass_as : {X : Type 0} → (List X → List X) → Option ActNo → ActNo → (ℕ → List X) → ℕ → List X
+pass_as m up a has = change (λ things. things ++ m (has a.0)) up (put has a.0 [])
+
+pub said-passed : {X : Type 0} (g : Life → List X) (m : List X → List X) (up : Option ActNo) (a : ActNo) (from : Life) (lives : ℕ → Option Life) (has : ℕ → List X)
+    → ((l : Life) → g (inherits from l) ≡ g l ++ m (g from)) → ((l : Life) → g (bereft l) ≡ []) → lives a.0 ≡ Some from
+    → Said g lives has → Said g (handed up a (Some from) lives) (pass_as m up a has)
+said-passed g m up a from lives has joined bare is said =
     let bereaved : Said g (with_life bereft (Some a) lives) (put has a.0 []) = said-with g bereft (λ old. []) (Some a) lives has bare said in
-    said-with g (inherits from) (λ things. things ++ has a.0) up (with_life bereft (Some a) lives) (put has a.0 [])
-    (λ l. joined l ∙ ap (λ things. g l ++ things) (said a.0 from is)) bereaved
+    said-with g (inherits from) (λ things. things ++ m (has a.0)) up (with_life bereft (Some a) lives) (put has a.0 [])
+    (λ l. joined l ∙ ap (λ things. g l ++ m things) (said a.0 from is)) bereaved
 
 -- .. or is over
 pub said-lost : {F : Type 0} (g : Life → F) (up : Option ActNo) (a : ActNo) (o : Option Life) (v : F) (lives : ℕ → Option Life) (has : ℕ → F)

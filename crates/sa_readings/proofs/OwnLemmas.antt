@@ -23,7 +23,7 @@ use Rattle.sa_laws.specs.Upcalls.{StopsAndGoes}
 use Rattle.sa_laws.specs.Rules.{IsLawful, fast_threads}
 use Rattle.sa_readings.specs.Moments.{runs_on}
 use Rattle.sa_readings.specs.Steps.{begins_otherwise, stepping}
-use Rattle.sa_readings.proofs.TrackLemmas.{IsRead, some-locks}
+use Rattle.sa_readings.proofs.TrackLemmas.{IsRead}
 use Rattle.sa_readings.proofs.RaisedLemmas.{Until}
 
 -- records that begin neither a step nor an interrupt nor a completion

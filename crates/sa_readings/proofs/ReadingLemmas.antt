@@ -13,7 +13,7 @@ use Rattle.sa_legal.specs.Fold.{AreLawful}
 use Rattle.sa_legal.specs.Legal.{IsLegal, before}
 use Rattle.sa_legal.proofs.EventLemmas.{legal-lawful}
 use Rattle.sa_readings.specs.Steps.{with_event}
-use Rattle.sa_readings.specs.Reads.{AreRead, AreReadAtEvents, MachineIsRead, MarksAreRead, LinesAreRead, LoadsAreRead, HoldingsAreRead, TakenAreRead, IosAreRead, PagesAreRead, StepsAreRead, step_of, OwnEventIsRead, LivesHaveSpaces}
+use Rattle.sa_readings.specs.Reads.{AreRead, AreReadAtEvents, MachineIsRead, MarksAreRead, LinesAreRead, LoadsAreRead, HoldingsAreRead, ReadyAreRead, TakenAreRead, IosAreRead, PagesAreRead, StepsAreRead, step_of, OwnEventIsRead, LivesHaveSpaces}
 use Rattle.sa_readings.proofs.LoadLemmas.{loads-same}
 use Rattle.sa_readings.proofs.TraceLemmas.{read-begins, read-start}
 use Rattle.sa_readings.proofs.OwnLemmas.{stepper}
@@ -90,6 +90,9 @@ legal-holdings w items legal n a life is = let read = (legal-after w items legal
   cont = read.conts a.0 life is;
   thread = read.stopped a.0 life is;
 }
+
+pub legal-ready : (w : WorkloadView) (items : List Item) → IsLegal fast_threads w items → AreRead (ReadyAreRead w) w items
+legal-ready w items legal n = (legal-after w items legal n).said.at.read.ready
 
 pub legal-taken : (w : WorkloadView) (items : List Item) → IsLegal fast_threads w items → AreRead (TakenAreRead w) w items
 legal-taken w items legal n = let after = legal-after w items legal n in record {

@@ -18,14 +18,15 @@ use Rattle.sa_devices.specs.Ios.{Io}
 use Rattle.sa_laws.specs.declared.place.Place.{Place}
 use Rattle.sa_laws.specs.State.{State, placed_if, next_instr}
 use Rattle.sa_laws.specs.Machine.{changed}
-use Rattle.sa_laws.specs.Readings.{Readings, demand_of, untold_of, taken_of, space_of_life, life_of}
-use Rattle.sa_laws.specs.Record.{running_after, marks_after, mark_after, untold_after, taken_after, with_act, without_act, begun_after, is_other_note, is_other_act, length_behind, blocking, blocking_for, locks_one, under_way_after, with_io, page_touched, page_in, is_io_of_other, fetches_other}
+use Rattle.sa_laws.specs.Life.{some_lock}
+use Rattle.sa_laws.specs.Readings.{Readings, Listed, demand_of, untold_of, taken_of, ready_of, space_of_life, life_of, life_on}
+use Rattle.sa_laws.specs.Record.{running_after, marks_after, mark_after, untold_after, taken_after, with_act, without_act, begun_after, is_other_note, is_other_act, length_behind, blocking, blocking_for, locks_one, under_way_after, with_io, page_touched, page_in, is_io_of_other, fetches_other, first_list, is_other_thread, ready_after}
 use Rattle.sa_legal.specs.Words.{last_want, begins_io, ios_begun}
-use Rattle.sa_readings.specs.Moments.{Home, machine_of, directly_before, run_in, home_of}
+use Rattle.sa_readings.specs.Moments.{Home, machine_of, directly_before, run_in, home_of, runs_on}
 use Rattle.sa_readings.specs.Marks.{mark_in}
 use Rattle.sa_readings.specs.Loads.{Untold, untold, untold_by, with_noted}
-use Rattle.sa_readings.specs.Holdings.{is_home, is_other, taken_by, locks_of}
-use Rattle.sa_readings.specs.Ios.{io_before, has_locks, touched, block_with, block_for, io_from, ios_by}
+use Rattle.sa_readings.specs.Holdings.{is_home, is_other, taken_by, locks_of, first_list_of, ready_by}
+use Rattle.sa_readings.specs.Ios.{io_before, touched, block_with, block_for, io_from, ios_by}
 use Rattle.sa_readings.proofs.ListLemmas.{set-said, if-out, none-said, set-absent, set-list, map-list, map-filter}
 
 -- the running lives
@@ -107,6 +108,22 @@ untold-more r (Told n) s us within is =
     map-list (filter (is_other_note n)) r.untold s.0 refl ∙ ap (filter (is_other_note n)) is ∙ sym (map-filter note_of (is_other_note n) us)
 untold-more r x s us within is = is
 
+-- the ready threads
+pub ready-more : (w : WorkloadView) (p : ProcNo) (past : List Item) (r : Readings) (x : Record) (s : SpaceNo) (all : List Listed) → s.0 < length r.ready → ready_of r s ≡ all
+    → first_list (life_on r p) p ≡ first_list_of w past (runs_on past p) p → get_or (ready_after p r x) s.0 [] ≡ ready_by w s past all p x
+ready-more w p past r (Ready of t) s all within is first =
+    set-list (λ ls. ls ++ record { thread = t; list = first_list (life_on r p) p } ∷ []) r.ready of.0 s.0 within
+    ∙ ap (λ ls. if of.0 == s.0 then ls ++ record { thread = t; list = first_list (life_on r p) p } ∷ [] else ls) is
+    ∙ ap (λ (l : ProcNo). if of.0 == s.0 then all ++ record { thread = t; list = l } ∷ [] else all) first
+ready-more w p past r (Run of t) s all within is first =
+    set-list (filter (is_other_thread t)) r.ready of.0 s.0 within ∙ ap (λ ls. if of.0 == s.0 then filter (is_other_thread t) ls else ls) is
+ready-more w p past r x s all within is first = is
+
+pub ready-length : (p : ProcNo) (r : Readings) (x : Record) → length (ready_after p r x) ≡ length r.ready
+ready-length p r (Ready s t) = length-set r.ready s.0 _
+ready-length p r (Run s t) = length-set r.ready s.0 _
+ready-length p r x = refl
+
 -- what is taken
 pub record AtHome (r : Readings) (past : List Item) (a : ActNo) : Type 0 where
   pub home : Home
@@ -181,25 +198,25 @@ touched-same w r m s None is = refl
 touched-same w r m s (Some t) is = ap (λ (k : State). page_in (next_instr w k s t)) is
 
 blocks-same : (w : WorkloadView) (r : Readings) (past : List Item) (s : SpaceNo) (t : Option ThreadNo) (a : ActNo) (o : Option ℕ) → r.state ≡ machine_of w past
-    → locks_one (life_of r a) ≡ has_locks (locks_of past a) → blocking_for w r s t a o ≡ block_with w past s t a o
+    → locks_one (life_of r a) ≡ some_lock (locks_of w past a) → blocking_for w r s t a o ≡ block_with w past s t a o
 blocks-same w r past s t a (Some n) state locks = refl
 blocks-same w r past s t a None state locks =
     ap (λ page. record { kind = Page s a page; length = w.fetch })
-    (ap (λ b. if b then PACKAGE_PAGE else page_touched w r s t) locks ∙ ap (λ k. if has_locks (locks_of past a) then PACKAGE_PAGE else k) (touched-same w r (machine_of w past) s t state))
+    (ap (λ b. if b then PACKAGE_PAGE else page_touched w r s t) locks ∙ ap (λ k. if some_lock (locks_of w past a) then PACKAGE_PAGE else k) (touched-same w r (machine_of w past) s t state))
 
 pub block-same : (w : WorkloadView) (r : Readings) (past : List Item) (e : ℕ) (s : SpaceNo) (t : Option ThreadNo) (a : ActNo) → r.state ≡ machine_of w past → r.last ≡ directly_before e past
-    → locks_one (life_of r a) ≡ has_locks (locks_of past a) → blocking w r s t a ≡ block_for w past e s t a
+    → locks_one (life_of r a) ≡ some_lock (locks_of w past a) → blocking w r s t a ≡ block_for w past e s t a
 block-same w r past e s t a state last locks =
     blocks-same w r past s t a (length_behind w r s t r.last) state locks
     ∙ ap (block_with w past s t a) (behind-same w r s t r.last ∙ ap (λ (m : State). io_before w m s t r.last) state ∙ ap (io_before w (machine_of w past) s t) last)
 
 -- the life of a block has the locks that are said
-abbrev pub BlocksWith : Readings → List Item → Record → Type 0
-BlocksWith r past (Block s t a io) = locks_one (life_of r a) ≡ has_locks (locks_of past a)
-BlocksWith r past _ = Unit {0}
+abbrev pub BlocksWith : WorkloadView → Readings → List Item → Record → Type 0
+BlocksWith w r past (Block s t a io) = locks_one (life_of r a) ≡ some_lock (locks_of w past a)
+BlocksWith w r past _ = Unit {0}
 
 pub under-more : (w : WorkloadView) (r : Readings) (past : List Item) (e : ℕ) (x : Record) (ios : List Io) → r.under_way ≡ ios → r.begun ≡ ios_begun past → r.state ≡ machine_of w past
-    → r.last ≡ directly_before e past → BlocksWith r past x → under_way_after w e r x ≡ ios_by w past ios e x
+    → r.last ≡ directly_before e past → BlocksWith w r past x → under_way_after w e r x ≡ ios_by w past ios e x
 under-more w r past e (Block s t a io) ios is begun state last locks =
     ap (λ b. with_io e b r) (block-same w r past e s t a state last locks)
     ∙ ap (λ (n : ℕ). r.under_way ++ record { number = n; ends = e + (block_for w past e s t a).length; kind = (block_for w past e s t a).kind } ∷ []) begun

@@ -16,7 +16,7 @@ use Rattle.sa_instr.specs.Space.{IsSpace}
 use Rattle.sa_devices.specs.Pages.{opening_pages}
 use Rattle.sa_laws.specs.Event.{Event, items_of, events_of}
 use Rattle.sa_laws.specs.State.{opening_space, no_space}
-use Rattle.sa_laws.specs.Readings.{Readings, opening_readings}
+use Rattle.sa_laws.specs.Readings.{Readings, opening_readings, first_listed}
 use Rattle.sa_laws.specs.Record.{after_record}
 use Rattle.sa_laws.specs.History.{is_inside, begun, ended, stepped, arisen, is_step, is_up, with_step, after_records, after_event, after_events, behind_all, readings}
 use Rattle.sa_laws.specs.Upcalls.{EachRecord}
@@ -32,7 +32,7 @@ use Rattle.sa_readings.specs.Moments.{directly_before, record_of_event}
 use Rattle.sa_readings.specs.Pages.{is_resident_in, evicted_if, is_evicted}
 use Rattle.sa_readings.proofs.ListLemmas.{differ}
 use Rattle.sa_readings.proofs.LifeLemmas.{Said, said-if}
-use Rattle.sa_readings.proofs.FieldLemmas.{held_locks, in_hand, open_cont, held_thread, at_home}
+use Rattle.sa_readings.proofs.FieldLemmas.{in_locks, in_hand, open_cont, held_thread, at_home}
 use Rattle.sa_readings.proofs.PageLemmas.{has_at, IsSmall, evicted-more, evicted-length, opening-pages}
 use Rattle.sa_readings.proofs.RaisedLemmas.{Until, RaisedAll, raised-begins, raised-ends, EndsWithEvent}
 use Rattle.sa_readings.proofs.KnownLemmas.{known-event}
@@ -81,6 +81,7 @@ read-begins w past r e number at =
           demands = read.sized.demands;
           untold = read.sized.untold;
           taken = read.sized.taken;
+          ready = read.sized.ready;
           pages = evicted-length e.number w.evictions r.pages ∙ read.sized.pages;
         };
         state = read.state;
@@ -96,6 +97,7 @@ read-begins w past r e number at =
         conts = read.conts;
         stopped = read.stopped;
         taken = read.taken;
+        ready = read.ready;
         all_taken = read.all_taken;
         begun = read.begun;
         ios = read.ios;
@@ -136,6 +138,7 @@ read-ends w past before e r number ends inv =
           demands = read.sized.demands;
           untold = read.sized.untold;
           taken = read.sized.taken;
+          ready = read.sized.ready;
           pages = read.sized.pages;
         };
         state = read.state;
@@ -146,11 +149,12 @@ read-ends w past before e r number ends inv =
         marks = read.marks;
         untold = read.untold;
         stops = read.stops;
-        locks = said-ended held_locks w before e r _ (λ x l. refl) (λ l. refl) read.locks;
+        locks = said-ended in_locks w before e r _ (λ x l. refl) (λ l. refl) read.locks;
         hands = said-ended in_hand w before e r _ (λ x l. refl) (λ l. refl) read.hands;
         conts = said-ended open_cont w before e r _ (λ x l. refl) (λ l. refl) read.conts;
         stopped = said-ended held_thread w before e r _ (λ x l. refl) (λ l. refl) read.stopped;
         taken = read.taken;
+        ready = read.ready;
         all_taken = read.all_taken;
         begun = read.begun;
         ios = read.ios;
@@ -226,6 +230,7 @@ read-start w = record {
       demands = length-replicate (length w.spaces) 0;
       untold = length-replicate (length w.spaces) [];
       taken = length-replicate (length w.spaces) [];
+      ready = length-replicate (length w.spaces) (first_listed ∷ []);
       pages = length-map w.spaces opening_pages;
     };
     state = refl;
@@ -241,6 +246,7 @@ read-start w = record {
     conts = λ b life is. absurd (none-some life is);
     stopped = λ b life is. absurd (none-some life is);
     taken = λ s below. absent (length w.spaces) s.0 [];
+    ready = λ s below. get_or-replicate (length w.spaces) s.0 (first_listed ∷ []) [] below;
     all_taken = λ a home is taken. absurd (none-some home is);
     begun = refl;
     ios = refl;

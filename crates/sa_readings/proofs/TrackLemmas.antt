@@ -4,6 +4,7 @@ use Rattle.std.specs.Prelude.{Option, Bool, ◌==◌, if◌then◌else◌, get_o
 use Rattle.std.specs.List.{list_any}
 use Rattle.std.specs.Option.{option_map, option_or}
 use Rattle.std.proofs.lemmas.Bool.{cases_eq}
+use Rattle.std.proofs.lemmas.Option.{none-some}
 use Rattle.sa_lemmas.proofs.FunctionUpdates.{put-at, put-other}
 use Rattle.sa_base.specs.declared.number.SpaceNo.{SpaceNo}
 use Rattle.sa_base.specs.declared.number.ProcNo.{ProcNo}
@@ -11,12 +12,13 @@ use Rattle.sa_base.specs.declared.number.ThreadNo.{ThreadNo}
 use Rattle.sa_base.specs.declared.number.ActNo.{ActNo}
 use Rattle.sa_base.specs.declared.record.Note.TheVariants as note
 use Rattle.sa_base.specs.declared.record.Record.{Record}
-use Rattle.sa_base.specs.declared.record.Record.TheVariants.{Stop, Block, Unblock, Up, Told, Want, GiveBack}
+use Rattle.sa_base.specs.declared.record.Record.TheVariants.{Stop, Block, Unblock, Up, Told, Want, GiveBack, Take}
 use Rattle.sa_base.specs.declared.record.Item.{Item}
 use Rattle.sa_instr.specs.Workload.{WorkloadView, IsWorkload}
-use Rattle.sa_laws.specs.Life.{Life}
-use Rattle.sa_laws.specs.Readings.{Readings, running_of, life_of, demand_of, untold_of, taken_of}
-use Rattle.sa_laws.specs.Record.{after_record, lives_after, lines_after, locks_one, marks_after}
+use Rattle.sa_laws.specs.State.{State, space_at}
+use Rattle.sa_laws.specs.Life.{Life, some_lock}
+use Rattle.sa_laws.specs.Readings.{Readings, running_of, life_of, demand_of, untold_of, taken_of, counts, has_hand, life_if, life_on, ready_of}
+use Rattle.sa_laws.specs.Record.{after_record, lives_after, lines_after, locks_one, marks_after, first_list, list_of}
 use Rattle.sa_laws.specs.Upcalls.{RaisesLine}
 use Rattle.sa_legal.specs.Words.{last_want, want_said, begins_io, ios_begun}
 use Rattle.sa_legal.proofs.WalkLemmas.{item}
@@ -24,19 +26,19 @@ use Rattle.sa_legal.proofs.ReadLemmas.{said-more, last-more, demand-more, demand
 use Rattle.sa_legal.proofs.ShapeLemmas.{MovesLives}
 use Rattle.sa_legal.proofs.MovesLemmas.{stood}
 use Rattle.sa_legal.proofs.StandingLemmas.{Standing, Runs, Blocked, Stopped, Returned, Taken, Agrees, Stood, space_in, standing_after, agrees-step, kind}
-use Rattle.sa_legal.proofs.HolderLemmas.{has-life}
+use Rattle.sa_legal.proofs.HolderLemmas.{has-life, on-life}
 use Rattle.sa_readings.specs.Moments.{Home, machine_of, machine_by, directly_before, record_of_event, is_first, runs_on, run_said, last_up, up_said, home_of}
 use Rattle.sa_readings.specs.Marks.{is_marked, mark_said}
 use Rattle.sa_readings.specs.Loads.{Untold, untold_in, untold_at, untold_by, is_not_told, with_noted}
-use Rattle.sa_readings.specs.Holdings.{locks_of, locks_at, hand_of, hands_at, has_cont, conts_at, stopped_of, stopped_at, stopped_by, taken_in, taken_at}
-use Rattle.sa_readings.specs.Ios.{ios_of, ios_at, has_locks}
+use Rattle.sa_readings.specs.Holdings.{locks_of, locks_at, hands_at, conts_at, stopped_of, stopped_at, stopped_by, taken_in, taken_at, has_in_hand, first_list_of, ready_in, ready_at}
+use Rattle.sa_readings.specs.Ios.{ios_of, ios_at}
 use Rattle.sa_readings.specs.Pages.{is_resident_in, resident_at, evicted_if, comes_at}
 use Rattle.sa_readings.specs.Along.{along, says_on}
 use Rattle.sa_readings.proofs.AlongLemmas.{along-more, along-step}
 use Rattle.sa_readings.proofs.ListLemmas.{alike, same-number}
 use Rattle.sa_readings.proofs.LifeLemmas.{Said, said-same}
-use Rattle.sa_readings.proofs.StepLemmas.{WantKnown, NamesHome, AtHome, BlocksWith, note_of, run-more, run-length, spaces-length, mark-more, marks-length, untold-more, taken-more, taken-length, ios-more, begun-more, under-more}
-use Rattle.sa_readings.proofs.FieldLemmas.{Agrees as AgreesWith, NamesLife, held_locks, helds, in_hand, open_cont, held_thread, at_home, homes_by, locks-step, hands-step, conts-step, stopped-step, homes-step}
+use Rattle.sa_readings.proofs.StepLemmas.{WantKnown, NamesHome, AtHome, BlocksWith, note_of, run-more, run-length, spaces-length, mark-more, marks-length, untold-more, taken-more, taken-length, ios-more, begun-more, under-more, ready-more, ready-length}
+use Rattle.sa_readings.proofs.FieldLemmas.{Agrees as AgreesWith, NamesLife, in_locks, in_hand, open_cont, held_thread, at_home, homes_by, locks-step, hands-step, conts-step, stopped-step, homes-step, TakesLock}
 use Rattle.sa_readings.proofs.PageLemmas.{has_at, pages-more, pages-length}
 use Rattle.sa_readings.proofs.RaisedLemmas.{Until, until-more, RaisedIn, raised-step, TakenAll, taken-all-step, home-more}
 
@@ -56,6 +58,7 @@ pub record IsSized (w : WorkloadView) (r : Readings) : Type 0 where
   pub demands : length r.demands ≡ length w.spaces
   pub untold : length r.untold ≡ length w.spaces
   pub taken : length r.taken ≡ length w.spaces
+  pub ready : length r.ready ≡ length w.spaces
   pub pages : length r.pages ≡ length w.spaces
 
 -- the threads of untold stops are those of the lives
@@ -76,11 +79,12 @@ pub record IsRead (w : WorkloadView) (past : List Item) (r : Readings) : Type 0 
   pub marks : (p : ProcNo) → p.0 < w.processors → get_or r.marks p.0 false ≡ is_marked past p
   pub untold : (s : SpaceNo) → s.0 < length w.spaces → untold_of r s ≡ map note_of (untold_in past s)
   pub stops : StopsRead w past
-  pub locks : Said held_locks r.lives (along locks_at (λ b. []) past)
+  pub locks : Said in_locks r.lives (along (locks_at w) (λ b. []) past)
   pub hands : Said in_hand r.lives (along (hands_at w) (λ b. []) past)
   pub conts : Said open_cont r.lives (along conts_at (λ b. false) past)
   pub stopped : Said held_thread r.lives (along stopped_at (λ b. None) past)
   pub taken : (s : SpaceNo) → s.0 < length w.spaces → taken_of r s ≡ taken_in past s
+  pub ready : (s : SpaceNo) → s.0 < length w.spaces → ready_of r s ≡ ready_in w past s
   pub all_taken : TakenAll past
   pub begun : r.begun ≡ ios_begun past
   pub ios : r.under_way ≡ ios_of w past
@@ -126,13 +130,40 @@ names-home w past r (Told (note.Blocked a)) read names = tt
 names-home w past r (GiveBack a) read names = home-at w past r a names.0 read names.1
 names-home w past r x read names = tt
 
-pub some-locks : (ls : List Rattle.sa_laws.specs.Life.Lock) → Rattle.sa_laws.specs.Life.some_lock ls ≡ has_locks (helds ls)
-some-locks [] = refl
-some-locks (l ∷ ls) = refl
-
-blocks-with : (w : WorkloadView) (past : List Item) (r : Readings) (x : Record) → IsRead w past r → NamesLife r x → BlocksWith r past x
-blocks-with w past r (Block s t a io) read names = ap locks_one names.1 ∙ some-locks names.0.locks ∙ ap has_locks (read.locks a.0 names.0 names.1)
+blocks-with : (w : WorkloadView) (past : List Item) (r : Readings) (x : Record) → IsRead w past r → NamesLife r x → BlocksWith w r past x
+blocks-with w past r (Block s t a io) read names = ap locks_one names.1 ∙ ap some_lock (read.locks a.0 names.0 names.1)
 blocks-with w past r x read names = tt
+
+-- a take gives the lock that the words say
+hand-same : (w : WorkloadView) (past : List Item) (p : ProcNo) (r : Readings) (s : SpaceNo) (a : ActNo) (life : Life) (n : Option ActNo) → IsRead w past r → n ≡ Some a → r.lives a.0 ≡ Some life
+    → s ≡ life.space → has_hand r life ≡ has_in_hand w past s n
+hand-same w past p r s a life n read runs is space =
+    ap (λ (m : State). list_any (counts (space_at m life.space)) life.hand) read.state
+    ∙ ap (λ (of : SpaceNo). list_any (counts (space_at (machine_of w past) of)) life.hand) (sym space)
+    ∙ ap (list_any (counts (space_at (machine_of w past) s))) (read.hands a.0 life is)
+    ∙ ap (has_in_hand w past s) (sym runs)
+
+takes-lock : (w : WorkloadView) (past : List Item) (p : ProcNo) (r : Readings) (x : Record) (rest : List Record) → IsRead w past r → MovesLives w p r x rest → TakesLock w past p r x
+takes-lock w past p r (Take s l t) rest read law = λ a life runs is.
+    let same : life ≡ law.0 = on-life r p a life law.0 runs is law.1 in
+    let space : s ≡ life.space = law.2.space ∙ ap (λ (k : Life). k.space) (sym same) in
+    ap (λ b. record { list = l; thread = t; for_push = b; used = false; own = l.0 == p.0; inherited = false })
+    (hand-same w past p r s a life (runs_on past p) read (sym (read.running p) ∙ runs) is space)
+takes-lock w past p r x rest read law = tt
+
+-- a thread made ready goes to the list that the words say
+first-same : (w : WorkloadView) (past : List Item) (p : ProcNo) (r : Readings) → IsRead w past r → first_list (life_on r p) p ≡ first_list_of w past (runs_on past p) p
+first-same w past p r read = one (running_of r p) refl ∙ ap (λ o. first_list_of w past o p) (read.running p) where
+  at_life : (a : ActNo) (o : Option Life) → life_of r a ≡ o → (life : Life) → life_of r a ≡ Some life → first_list o p ≡ list_of (slice_get (locks_of w past a) 0) p
+  at_life a None none life is = absurd (none-some life (sym none ∙ is))
+  at_life a (Some l) is life same = ap (λ ls. list_of (slice_get ls 0) p) (read.locks a.0 l is)
+
+  one : (o : Option ActNo) → running_of r p ≡ o → first_list (life_if r o) p ≡ first_list_of w past o p
+  one None is = refl
+  one (Some a) is =
+      let there = read.agrees.running p a is in
+      let life = life-at w past r a there.0 (Runs there.0 p) read there.1 refl in
+      at_life a (life_of r a) refl life.0 life.1
 
 -- the homes after a record
 homes-said : (past : List Item) (e : ℕ) (p : ProcNo) (x : Record) (b : ℕ) → homes_by (λ c. home_of past (record { 0 = c })) p x b ≡ home_of (past ++ item e p x ∷ []) (record { 0 = b })
@@ -219,6 +250,7 @@ sized-step w e p r x sized = record {
   demands = demands-length r.demands x ∙ sized.demands;
   untold = untold-length r x ∙ sized.untold;
   taken = taken-length r x ∙ sized.taken;
+  ready = ready-length p r x ∙ sized.ready;
   pages = pages-length r x ∙ sized.pages;
 }
 
@@ -243,6 +275,7 @@ read-after w e p past r x rest inv known =
     let demands_len = sized.demands in
     let untold_len = sized.untold in
     let taken_len = sized.taken in
+    let ready_len = sized.ready in
     let within = known.within in
     let was = stood w p read.st r x rest read.agrees known.moves in
     let names = names-life w past p r x read was in
@@ -261,8 +294,8 @@ read-after w e p past r x rest inv known =
           (mark-more w e p q past r x (omega arith) inv.last read.demands known.want);
       untold = λ s below. untold-more r x s (untold_in past s) (omega arith) (read.untold s below) ∙ ap (map note_of) (sym (along-more (untold_at s) [] past y));
       stops = stops-step w e p past r x read was;
-      locks = said-same held_locks (lives_after w p r x) _ _ (λ b. ap (λ (f : ℕ → List Rattle.sa_readings.specs.Holdings.Held). f b) (sym (along-more locks_at (λ c. []) past y)))
-          (locks-step w past p r x (along locks_at (λ c. []) past) agrees read.locks);
+      locks = said-same in_locks (lives_after w p r x) _ _ (λ b. ap (λ (f : ℕ → List Rattle.sa_laws.specs.Life.Lock). f b) (sym (along-more (locks_at w) (λ c. []) past y)))
+          (locks-step w past p r x (along (locks_at w) (λ c. []) past) agrees (takes-lock w past p r x rest read known.moves) read.locks);
       hands = said-same in_hand (lives_after w p r x) _ _ (λ b. ap (λ (f : ℕ → List ThreadNo). f b) (sym (along-more (hands_at w) (λ c. []) past y)))
           (hands-step w past p r x (along (hands_at w) (λ c. []) past) agrees read.state read.hands);
       conts = said-same open_cont (lives_after w p r x) _ _ (λ b. ap (λ (f : ℕ → Bool). f b) (sym (along-more conts_at (λ c. false) past y)))
@@ -270,6 +303,7 @@ read-after w e p past r x rest inv known =
       stopped = said-same held_thread (lives_after w p r x) _ _ (λ b. ap (λ (f : ℕ → Option ThreadNo). f b) (sym (along-more stopped_at (λ c. None) past y)))
           (stopped-step w p r x (along stopped_at (λ c. None) past) read.stopped);
       taken = λ s below. taken-more r past x s (taken_in past s) (names-home w past r x read names) (omega arith) (read.taken s below) ∙ sym (along-more (taken_at s) [] past y);
+      ready = λ s below. ready-more w p past r x s (ready_in w past s) (omega arith) (read.ready s below) (first-same w past p r read) ∙ sym (along-more (ready_at w s) _ past y);
       all_taken = taken-all-step past e p x read.all_taken;
       begun = begun-more r.begun x ∙ ap (λ n. n + (if begins_io x then 1 else 0)) read.begun ∙ sym (ios-more past y);
       ios = under-more w r past e x (ios_of w past) read.ios read.begun read.state inv.last (blocks-with w past r x read names) ∙ sym (along-more (ios_at w) [] past y);

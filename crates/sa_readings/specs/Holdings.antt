@@ -1,5 +1,6 @@
 -- What a life has: locks of ready lists, threads in its hand, an open cont; and the lives that are taken.
-use Rattle.std.specs.Prelude.{ℕ, ◌==◌, Bool, true, false, not, if◌then◌else◌, List, [], ◌∷◌, ◌++◌, drop, filter, Option, Some, None}
+use Rattle.std.specs.Prelude.{ℕ, ◌==◌, Bool, true, false, not, if◌then◌else◌, List, [], ◌∷◌, ◌++◌, map, drop, filter, Option, Some, None, slice_get}
+use Rattle.std.specs.List.{list_any}
 use Rattle.sa_base.specs.declared.number.ProcNo.{ProcNo}
 use Rattle.sa_base.specs.declared.number.SpaceNo.{SpaceNo}
 use Rattle.sa_base.specs.declared.number.ThreadNo.{ThreadNo}
@@ -11,8 +12,10 @@ use Rattle.sa_base.specs.declared.record.Item.{Item}
 use Rattle.sa_instr.specs.Workload.{WorkloadView}
 use Rattle.sa_lemmas.specs.Function.{put}
 use Rattle.sa_laws.specs.Machine.{next_effect}
-use Rattle.sa_laws.specs.Life.{same_thread}
-use Rattle.sa_laws.specs.Record.{one_thread}
+use Rattle.sa_laws.specs.State.{space_at}
+use Rattle.sa_laws.specs.Life.{Lock, same_thread, change_first, readied, ran, inherited}
+use Rattle.sa_laws.specs.Readings.{Listed, first_listed, counts}
+use Rattle.sa_laws.specs.Record.{one_thread, list_of, is_other_thread}
 use Rattle.sa_readings.specs.Along.{along}
 use Rattle.sa_readings.specs.Moments.{Home, machine_of, runs_on, last_up, home_of}
 
@@ -24,36 +27,6 @@ change f (Some a) has = put has a.0 (f (has a.0))
 
 abbrev pub pass : {A : Type 0} → Option ActNo → ActNo → (ℕ → List A) → ℕ → List A
 pass up a has = change (λ things. things ++ has a.0) up (put has a.0 [])
-
--- a locked list and the thread of its lock
-pub record Held : Type 0 where
-  pub list : ProcNo
-  pub thread : Option ThreadNo
-
-abbrev pub held : ProcNo → Option ThreadNo → Held
-held l t = record { list = l; thread = t }
-
--- the first lock gets this thread
-abbrev pub with_thread : ThreadNo → List Held → List Held
-with_thread t [] = []
-with_thread t (first ∷ others) = held first.list (Some t) ∷ others
-
--- The locks of a life: none at its up, and then those of the lives of which its up tells, in order; a take of the life
--- adds one with the thread that it names; a run gives the first its thread; a free takes the first away.
-abbrev pub locks_by : List Item → (ℕ → List Held) → ProcNo → Record → ℕ → List Held
-locks_by past has p (Up s a) = put has a.0 []
-locks_by past has p (Told (Preempted a)) = pass (last_up past) a has
-locks_by past has p (Told (Unblocked a)) = pass (last_up past) a has
-locks_by past has p (Take s l t) = change (λ locks. locks ++ held l t ∷ []) (runs_on past p) has
-locks_by past has p (Run s t) = change (with_thread t) (runs_on past p) has
-locks_by past has p (Free s l t) = change (drop 1) (runs_on past p) has
-locks_by past has p _ = has
-
-abbrev pub locks_at : List Item → (ℕ → List Held) → Item → ℕ → List Held
-locks_at past has x = locks_by past has x.proc x.what
-
-abbrev pub locks_of : List Item → ActNo → List Held
-locks_of items a = along locks_at (λ b. []) items a.0
 
 -- The hand of a life: none at its up, and then those of the lives of which its up tells; the threads that its
 -- instructions fork and wake join it, and those that its stop, unblock and back records name; a ready record of the
@@ -77,6 +50,63 @@ hands_at w past has x = hands_by w past has x.proc x.what
 
 abbrev pub hand_of : WorkloadView → List Item → ActNo → List ThreadNo
 hand_of w items a = along (hands_at w) (λ b. []) items a.0
+
+-- a thread that is carried or due is in the hand of a life
+abbrev pub has_in_hand : WorkloadView → List Item → SpaceNo → Option ActNo → Bool
+has_in_hand w past s None = false
+has_in_hand w past s (Some a) = list_any (counts (space_at (machine_of w past) s)) (hand_of w past a)
+
+-- the lock that a take gives: for a push where the life has threads in its hand, else for a pop; on the list's own
+-- processor, or on another one
+abbrev pub taken_lock : WorkloadView → List Item → ProcNo → SpaceNo → ProcNo → Option ThreadNo → Lock
+taken_lock w past p s l t = record {
+  list = l;
+  thread = t;
+  for_push = has_in_hand w past s (runs_on past p);
+  used = false;
+  own = l.0 == p.0;
+  inherited = false;
+}
+
+-- The locks of a life: none at its up, and then those of the lives of which its up tells, in order, each inherited; a take of
+-- the life adds one with the thread that it names; a ready or a run uses the first, and a run gives it its thread; a free
+-- takes the first away.
+abbrev pub pass_locks : Option ActNo → ActNo → (ℕ → List Lock) → ℕ → List Lock
+pass_locks up a has = change (λ locks. locks ++ map inherited (has a.0)) up (put has a.0 [])
+
+abbrev pub locks_by : WorkloadView → List Item → (ℕ → List Lock) → ProcNo → Record → ℕ → List Lock
+locks_by w past has p (Up s a) = put has a.0 []
+locks_by w past has p (Told (Preempted a)) = pass_locks (last_up past) a has
+locks_by w past has p (Told (Unblocked a)) = pass_locks (last_up past) a has
+locks_by w past has p (Take s l t) = change (λ locks. locks ++ taken_lock w past p s l t ∷ []) (runs_on past p) has
+locks_by w past has p (Ready s t) = change (change_first readied) (runs_on past p) has
+locks_by w past has p (Run s t) = change (change_first (ran t)) (runs_on past p) has
+locks_by w past has p (Free s l t) = change (drop 1) (runs_on past p) has
+locks_by w past has p _ = has
+
+abbrev pub locks_at : WorkloadView → List Item → (ℕ → List Lock) → Item → ℕ → List Lock
+locks_at w past has x = locks_by w past has x.proc x.what
+
+abbrev pub locks_of : WorkloadView → List Item → ActNo → List Lock
+locks_of w items a = along (locks_at w) (λ b. []) items a.0
+
+-- The ready threads of a space, in the order of their ready records: at the opening thread 0 in list 0; a ready thread's
+-- list is the first of its life's locks at its record; a run takes the thread out.
+abbrev pub first_list_of : WorkloadView → List Item → Option ActNo → ProcNo → ProcNo
+first_list_of w past None p = p
+first_list_of w past (Some a) p = list_of (slice_get (locks_of w past a) 0) p
+
+abbrev pub ready_by : WorkloadView → SpaceNo → List Item → List Listed → ProcNo → Record → List Listed
+ready_by w s past all p (Ready of t) =
+    if of.0 == s.0 then all ++ record { thread = t; list = first_list_of w past (runs_on past p) p } ∷ [] else all
+ready_by w s past all p (Run of t) = if of.0 == s.0 then filter (is_other_thread t) all else all
+ready_by w s past all p _ = all
+
+abbrev pub ready_at : WorkloadView → SpaceNo → List Item → List Listed → Item → List Listed
+ready_at w s past all x = ready_by w s past all x.proc x.what
+
+abbrev pub ready_in : WorkloadView → List Item → SpaceNo → List Listed
+ready_in w items s = along (ready_at w s) (first_listed ∷ []) items
 
 -- A cont of a life is open until its back; at the life's up there is none, and once it is told of, its thread is in the
 -- hand of another.

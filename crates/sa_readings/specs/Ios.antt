@@ -1,5 +1,5 @@
 -- I/Os: their numbers, lengths and pages, and which of them are under way.
-use Rattle.std.specs.Prelude.{ℕ, ◌+◌, ◌==◌, Bool, true, false, ◌&&◌, if◌then◌else◌, List, [], ◌∷◌, ◌++◌, filter, Option, Some, None}
+use Rattle.std.specs.Prelude.{ℕ, ◌+◌, ◌==◌, ◌&&◌, if◌then◌else◌, List, [], ◌∷◌, ◌++◌, filter, Option, Some, None}
 use Rattle.sa_base.specs.declared.number.SpaceNo.{SpaceNo}
 use Rattle.sa_base.specs.declared.number.ThreadNo.{ThreadNo}
 use Rattle.sa_base.specs.declared.number.ActNo.{ActNo}
@@ -11,20 +11,17 @@ use Rattle.sa_instr.specs.Workload.{WorkloadView}
 use Rattle.sa_devices.specs.declared.kind.IoKind.TheVariants.{Plain, Page, Upcall}
 use Rattle.sa_devices.specs.Ios.{Io}
 use Rattle.sa_laws.specs.State.{State, instr_of, next_instr}
+use Rattle.sa_laws.specs.Life.{some_lock}
 use Rattle.sa_laws.specs.Record.{Blocking, length_in, page_in, is_thread, is_io_of_other, fetches_other}
 use Rattle.sa_legal.specs.Words.{ios_begun}
 use Rattle.sa_readings.specs.Along.{along}
 use Rattle.sa_readings.specs.Moments.{machine_of, directly_before}
-use Rattle.sa_readings.specs.Holdings.{Held, locks_of}
+use Rattle.sa_readings.specs.Holdings.{locks_of}
 
 -- the length of the `io` instruction of a thread whose record stands directly before, if one does
 abbrev pub io_before : WorkloadView → State → SpaceNo → Option ThreadNo → Option Record → Option ℕ
 io_before w m s t (Some (Ins of u i)) = if of.0 == s.0 && is_thread u t then length_in (instr_of w m of u i) else None
 io_before w m s t _ = None
-
-abbrev pub has_locks : List Held → Bool
-has_locks [] = false
-has_locks (lock ∷ locks) = true
 
 -- the page that a thread touches
 abbrev pub touched : WorkloadView → State → SpaceNo → Option ThreadNo → ℕ
@@ -36,7 +33,7 @@ touched w m s (Some t) = page_in (next_instr w m s t)
 abbrev pub block_with : WorkloadView → List Item → SpaceNo → Option ThreadNo → ActNo → Option ℕ → Blocking
 block_with w past s t a (Some length) = record { kind = Plain s a; length = length }
 block_with w past s t a None = record {
-  kind = Page s a (if has_locks (locks_of past a) then PACKAGE_PAGE else touched w (machine_of w past) s t);
+  kind = Page s a (if some_lock (locks_of w past a) then PACKAGE_PAGE else touched w (machine_of w past) s t);
   length = w.fetch;
 }
 

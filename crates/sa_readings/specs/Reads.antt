@@ -8,8 +8,8 @@ use Rattle.sa_base.specs.declared.record.Record.{Record}
 use Rattle.sa_base.specs.declared.record.Item.{Item}
 use Rattle.sa_instr.specs.Workload.{WorkloadView}
 use Rattle.sa_laws.specs.Event.{Event, items_of, events_of}
-use Rattle.sa_laws.specs.Life.{Life, Lock}
-use Rattle.sa_laws.specs.Readings.{Readings, running_of, line_of, life_of, load_of, untold_of, taken_of, is_resident}
+use Rattle.sa_laws.specs.Life.{Life}
+use Rattle.sa_laws.specs.Readings.{Readings, running_of, line_of, life_of, load_of, untold_of, taken_of, ready_of, is_resident}
 use Rattle.sa_laws.specs.History.{is_step, settles, behind_all}
 use Rattle.sa_laws.specs.Rules.{fast_threads}
 use Rattle.sa_legal.specs.Legal.{before}
@@ -19,7 +19,7 @@ use Rattle.sa_legal.specs.Lives.{Taken}
 use Rattle.sa_readings.specs.Moments.{Home, machine_of, runs_on, last_up, home_of}
 use Rattle.sa_readings.specs.Marks.{is_marked}
 use Rattle.sa_readings.specs.Loads.{Untold, untold_in, load_in}
-use Rattle.sa_readings.specs.Holdings.{Held, held, locks_of, hand_of, has_cont, stopped_of, taken_in}
+use Rattle.sa_readings.specs.Holdings.{locks_of, ready_in, hand_of, has_cont, stopped_of, taken_in}
 use Rattle.sa_readings.specs.Ios.{ios_of}
 use Rattle.sa_readings.specs.Pages.{is_resident_in}
 use Rattle.sa_readings.specs.Steps.{stepping, with_event, settles_by, is_in, scans_of, was_free}
@@ -58,17 +58,14 @@ pub record LoadsAreRead (w : WorkloadView) (events : List Event) (r : Readings) 
   pub untold : (s : SpaceNo) → s.0 < length w.spaces → untold_of r s ≡ map noted (untold_in (items_of events) s)
   pub load : (s : SpaceNo) → s.0 < length w.spaces → load_of r s ≡ load_in w (items_of events) s
 
--- of each life: its home, its locks with their lists and threads, its hand, whether it has an open cont, the thread of its
+-- of each life: its home, its locks, its hand, whether it has an open cont, the thread of its
 -- stop or block
 abbrev pub home_at : Life → Home
 home_at life = record { space = life.space; proc = life.proc }
 
-abbrev pub held_by : Lock → Held
-held_by lock = held lock.list lock.thread
-
 pub record HasWhatIsSaid (w : WorkloadView) (items : List Item) (a : ActNo) (life : Life) : Type 0 where
   pub home : home_of items a ≡ Some (home_at life)
-  pub locks : map held_by life.locks ≡ locks_of items a
+  pub locks : life.locks ≡ locks_of w items a
   pub hand : life.hand ≡ hand_of w items a
   pub cont : life.cont ≡ has_cont items a
   pub thread : life.thread ≡ stopped_of items a
@@ -76,6 +73,11 @@ pub record HasWhatIsSaid (w : WorkloadView) (items : List Item) (a : ActNo) (lif
 abbrev pub HoldingsAreRead : WorkloadView → List Event → Readings → Type 0
 HoldingsAreRead w events r =
     (a : ActNo) (life : Life) → life_of r a ≡ Some life → HasWhatIsSaid w (items_of events) a life
+
+-- the ready threads, in order, each with its list
+abbrev pub ReadyAreRead : WorkloadView → List Event → Readings → Type 0
+ReadyAreRead w events r =
+    (s : SpaceNo) → s.0 < length w.spaces → ready_of r s ≡ ready_in w (items_of events) s
 
 -- the lives that are taken, in order, and by the last record about their numbers
 pub record TakenAreRead (w : WorkloadView) (events : List Event) (r : Readings) : Type 0 where

@@ -13,6 +13,7 @@ use Rattle.sa_instr.specs.Workload.{WorkloadView}
 use Rattle.sa_lemmas.specs.Function.{put}
 use Rattle.sa_laws.specs.Event.{Event, items_of}
 use Rattle.sa_laws.specs.State.{space_at, thread_at, runner_on}
+use Rattle.sa_laws.specs.Life.{some_lock}
 use Rattle.sa_laws.specs.Readings.{counts}
 use Rattle.sa_laws.specs.History.{goes_on, is_up}
 use Rattle.sa_legal.specs.Words.{last_want}
@@ -20,7 +21,6 @@ use Rattle.sa_readings.specs.Along.{along}
 use Rattle.sa_readings.specs.Moments.{Home, machine_of, runs_on, home_of}
 use Rattle.sa_readings.specs.Loads.{load_in}
 use Rattle.sa_readings.specs.Holdings.{change, locks_of, hand_of, has_cont, taken_in}
-use Rattle.sa_readings.specs.Ios.{has_locks}
 
 -- Of each number a value, which the up of its life sets, and the telling of its stop or unblock too where that is given.
 abbrev pub told_of : {A : Type 0} → Option A → ActNo → (ℕ → A) → ℕ → A
@@ -73,7 +73,7 @@ settles_at w past now (first ∷ others) = settles_by w past now first
 -- at a moment: the life has a lock, an open cont, or a thread in its hand that is carried or due
 abbrev pub has_something : WorkloadView → List Item → ActNo → Home → Bool
 has_something w now a home =
-    has_locks (locks_of now a) || has_cont now a
+    some_lock (locks_of w now a) || has_cont now a
     || list_any (counts (space_at (machine_of w now) home.space)) (hand_of w now a)
 
 -- .. its space announced less than its load can use; it carries no thread while 8 or more lives of its space are taken

@@ -4,7 +4,7 @@ ghost use Rattle.sa_base.specs.declared.record.Item.{Item};
 ghost use Rattle.sa_instr.specs.Workload.{WorkloadView, IsWorkload};
 ghost use Rattle.sa_laws.specs.Rules.{fast_threads};
 ghost use Rattle.sa_legal.specs.Legal.{IsLegal};
-ghost use Rattle.sa_readings.specs.Reads.{AreRead, AreReadAtEvents, MachineIsRead, MarksAreRead, LinesAreRead, LoadsAreRead, HoldingsAreRead, TakenAreRead, IosAreRead, PagesAreRead, StepsAreRead, OwnEventIsRead, LivesHaveSpaces};
+ghost use Rattle.sa_readings.specs.Reads.{AreRead, AreReadAtEvents, MachineIsRead, MarksAreRead, LinesAreRead, LoadsAreRead, HoldingsAreRead, ReadyAreRead, TakenAreRead, IosAreRead, PagesAreRead, StepsAreRead, OwnEventIsRead, LivesHaveSpaces};
 
 /// The state of the abstract machine is where its cases lead from the opening; a life runs on a processor from its up until a
 /// stop or block there.
@@ -32,10 +32,16 @@ pub fn loads_are_read()
         → AreRead (LoadsAreRead w) w items }
 {}
 
-/// What each life has: its home, its locks with their threads, its hand, an open cont, and the thread of its stop or block.
+/// What each life has: its home, its locks, its hand, an open cont, and the thread of its stop or block.
 pub fn holdings_are_read()
     ensures { (w : WorkloadView) (items : List Item) → IsLegal fast_threads w items
         → AreRead (HoldingsAreRead w) w items }
+{}
+
+/// The ready threads of each space, in the order of their ready records, each with its list.
+pub fn ready_threads_are_read()
+    ensures { (w : WorkloadView) (items : List Item) → IsLegal fast_threads w items
+        → AreRead (ReadyAreRead w) w items }
 {}
 
 /// A life is taken from the telling of its stop or unblock to its giveback.
