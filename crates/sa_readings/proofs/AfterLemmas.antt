@@ -19,11 +19,11 @@ use Rattle.sa_legal.specs.Words.{last_want}
 use Rattle.sa_readings.specs.Along.{along}
 use Rattle.sa_readings.specs.Moments.{Home, home_of}
 use Rattle.sa_readings.specs.Holdings.{change, locks_at, hands_at, conts_at}
-use Rattle.sa_readings.specs.Steps.{stepping, rising, with_event, settles_by, settles_at, set_in, in_by, renewed, scans_by, scans_at, is_free_event, freed_at}
+use Rattle.sa_readings.specs.Steps.{stepping, rising, with_event, settles_by, settles_at, set_in, in_by, renewed, scans_by, scans_at, is_free_event, freed_at, idle_behind, idle_by}
 use Rattle.sa_readings.proofs.AlongLemmas.{along-more}
 use Rattle.sa_readings.proofs.LifeLemmas.{Said, said-with, said-if, said-same}
 use Rattle.sa_readings.proofs.FieldLemmas.{in_locks, in_hand, open_cont, at_home}
-use Rattle.sa_readings.proofs.UntouchedLemmas.{in_now, scanned, was_freed, in-untouched, scanned-untouched, freed-untouched, untouched-records}
+use Rattle.sa_readings.proofs.UntouchedLemmas.{in_now, scanned, was_freed, in-untouched, scanned-untouched, freed-untouched, untouched-records, idle_then, idle-records}
 use Rattle.sa_readings.proofs.TrackLemmas.{IsRead}
 use Rattle.sa_readings.proofs.KnownLemmas.{first-want}
 use Rattle.sa_readings.proofs.TraceLemmas.{IsReadAt, read-begins, read-event, read-next}
@@ -40,6 +40,7 @@ pub record IsSaidAt (w : WorkloadView) (es : List Event) (r : Readings) : Type 0
   pub inside : Said in_now r.lives (along (in_by w) (λ b. false) es)
   pub scans : Said scanned r.lives (along scans_at (λ b. 0) es)
   pub freed : Said was_freed r.lives (along freed_at (λ b. false) es)
+  pub idle : Said idle_then r.lives (along (idle_by w) (λ b. false) es)
 
 -- the step of an event, if it is one
 step-said : {F : Type 0} (g : Life → F) (h : F → F) (w : WorkloadView) (r : Readings) (e : Event) (after : Readings) (n : Option ActNo) (lives : ℕ → Option Life) (has : ℕ → F) (xs : List Record)
@@ -164,6 +165,13 @@ freed-next w past r e has known said =
     (λ first others is l. free-same first others ∙ ap is_free_event (sym is))
     (untouched-records was_freed false None w e.number e.proc (begun w e r) e.records has freed-untouched said))
 
+idle-next : (w : WorkloadView) (r : Readings) (e : Event) (ins has : ℕ → Bool) → Said in_now r.lives ins → Said idle_then r.lives has
+    → Said idle_then (ended is_inside w r e (behind_all w e r)).lives (idle_behind ins e.records has)
+idle-next w r e ins has within said =
+    let after = behind_all w e r in
+    said-if idle_then (list_any is_up e.records) (arisen is_inside w r e after) (running_of after e.proc) (with_step is_inside w r e after e.records after.lives) _ (λ l. refl)
+    (keep-step idle_then w r e after after.lives _ e.records (λ x l. refl) (idle-records w e.number e.proc (begun w e r) e.records ins has within said))
+
 pub said-next : (w : WorkloadView) (es : List Event) (r : Readings) (e : Event) → IsSaidAt w es r → IsLawful fast_threads w r e → HomesIn w (with_event (items_of es) e)
     → IsSaidAt w (es ++ e ∷ []) (after_event is_inside w r e)
 said-next w es r e inv law within =
@@ -175,4 +183,5 @@ said-next w es r e inv law within =
       inside = said-same in_now _ _ _ (λ b. ap (λ (f : ℕ → Bool). f b) (sym (along-more (in_by w) (λ c. false) es e))) (in-next w past r e _ known within inv.inside);
       scans = said-same scanned _ _ _ (λ b. ap (λ (f : ℕ → ℕ). f b) (sym (along-more scans_at (λ c. 0) es e))) (scans-next w past r e _ known inv.scans);
       freed = said-same was_freed _ _ _ (λ b. ap (λ (f : ℕ → Bool). f b) (sym (along-more freed_at (λ c. false) es e))) (freed-next w past r e _ known inv.freed);
+      idle = said-same idle_then _ _ _ (λ b. ap (λ (f : ℕ → Bool). f b) (sym (along-more (idle_by w) (λ c. false) es e))) (idle-next w r e _ _ inv.inside inv.idle);
     }

@@ -52,6 +52,7 @@ after-start w = record {
     inside = λ b life is. absurd (none-some life is);
     scans = λ b life is. absurd (none-some life is);
     freed = λ b life is. absurd (none-some life is);
+    idle = λ b life is. absurd (none-some life is);
   };
   range = range-start w;
 } where
@@ -111,6 +112,7 @@ legal-steps w items legal n a life is = let said = (legal-after w items legal n)
   inside = said.inside a.0 life is;
   scans = said.scans a.0 life is;
   freed = said.freed a.0 life is;
+  idle = said.idle a.0 life is;
 }
 
 stepper-is : (r : Readings) (e : Event) (xs : List Record) → step_of r e xs ≡ stepper r e xs

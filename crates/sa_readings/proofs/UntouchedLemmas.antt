@@ -1,6 +1,7 @@
 -- Fields of lives that no record changes, but for the up of the life and the telling of its stop or unblock.
-use Rattle.std.proofs.Common.{◌≡◌, ℕ, refl, Some, None, List, [], ◌∷◌, true, false}
-use Rattle.std.specs.Prelude.{Option, Bool, unwrap_or}
+use Rattle.std.proofs.Common.{◌≡◌, ℕ, refl, Some, None, List, [], ◌∷◌, true, false, sym, ◌∙◌, ap}
+use Rattle.std.specs.Prelude.{Option, Bool, unwrap_or, not, ◌&&◌, is_none}
+use Rattle.std.proofs.lemmas.Option.{same_Some}
 use Rattle.sa_base.specs.declared.number.ProcNo.{ProcNo}
 use Rattle.sa_base.specs.declared.number.SpaceNo.{SpaceNo}
 use Rattle.sa_base.specs.declared.number.ThreadNo.{ThreadNo}
@@ -14,8 +15,8 @@ use Rattle.sa_laws.specs.Life.{Life, Lock, new_life, with_hand, without_lock, wi
 use Rattle.sa_laws.specs.Readings.{Readings, running_of, life_of}
 use Rattle.sa_laws.specs.Record.{handed, lives_after, after_record, locks, one_thread, stopped_with, back_with, made_ready}
 use Rattle.sa_laws.specs.History.{after_records}
-use Rattle.sa_readings.specs.Steps.{told_of, renewed_at, renewed}
-use Rattle.sa_readings.proofs.LifeLemmas.{Said, said-keep, said-new, said-gone, said-lost, said-stays}
+use Rattle.sa_readings.specs.Steps.{told_of, renewed_at, renewed, idle_at, idle_behind}
+use Rattle.sa_readings.proofs.LifeLemmas.{Said, said-where, said-keep, said-new, said-gone, said-lost, said-stays}
 
 pub record Untouched {F : Type 0} (g : Life → F) (first : F) (told : Option F) : Type 0 where
   pub fresh : (s : SpaceNo) (p : ProcNo) → g (new_life s p) ≡ first
@@ -62,7 +63,8 @@ untouched-records g first told w e p r [] has same said = said
 untouched-records g first told w e p r (x ∷ xs) has same said =
     untouched-records g first told w e p (after_record w e p r x) xs (renewed_at first told x has) same (untouched-step g first told w p r x has same said)
 
--- whether a life is in, its scan count, and whether its last own event was a free
+-- its scan count, and whether its last own event was a free
+-- whether a life is in
 abbrev pub in_now : Life → Bool
 in_now life = life.inside
 
@@ -119,3 +121,35 @@ freed-untouched = record {
   locked = λ r p q t l. refl;
   freed = λ l. refl;
 }
+
+-- whether a stopped life was idle
+abbrev pub idle_then : Life → Bool
+idle_then life = life.idle
+
+idle-step : (w : WorkloadView) (p : ProcNo) (r : Readings) (x : Record) (ins has : ℕ → Bool) → Said in_now r.lives ins → Said idle_then r.lives has
+    → Said idle_then (lives_after w p r x) (idle_at ins x has)
+idle-step w p r (Ins s t i) ins has within said = said-keep idle_then (with_hand (next_effect w r.state s t).roused) (running_of r p) r.lives has (λ l. refl) said
+idle-step w p r (Run s t) ins has within said = said-keep idle_then (with_first (ran t)) (running_of r p) r.lives has (λ l. refl) said
+idle-step w p r (Stop s t a) ins has within said = said-where idle_then (stopped_with t) (λ old. not (ins a.0) && is_none t) (Some a) r.lives has
+    (λ b life same is. ap (λ c. not c && is_none t) (within b.0 life is ∙ ap (λ (c : ActNo). ins c.0) (sym (same_Some a b same)))) said
+idle-step w p r (Block s t a io) ins has within said = said-keep idle_then (held_with t) (Some a) r.lives has (λ l. refl) said
+idle-step w p r (Unblock s t a) ins has within said = said-keep idle_then (with_hand (one_thread t)) (Some a) r.lives has (λ l. refl) said
+idle-step w p r (Cont s t) ins has within said = said-keep idle_then (with_cont true) (running_of r p) r.lives has (λ l. refl) said
+idle-step w p r (Back s t) ins has within said = said-keep idle_then (back_with t) (running_of r p) r.lives has (λ l. refl) said
+idle-step w p r (Ready s t) ins has within said = said-keep idle_then (made_ready t) (running_of r p) r.lives has (λ l. refl) said
+idle-step w p r (Take s l t) ins has within said = said-keep idle_then (locks r p l t) (running_of r p) r.lives has (λ life. refl) said
+idle-step w p r (Free s l t) ins has within said = said-keep idle_then without_lock (running_of r p) r.lives has (λ life. refl) said
+idle-step w p r (Up s a) ins has within said = said-new idle_then a.0 (new_life s p) false r.lives has refl said
+idle-step w p r (Told (note.Preempted a)) ins has within said = said-stays idle_then r.upped a (life_of r a) r.lives has (λ from l. refl) (λ l. refl) said
+idle-step w p r (Told (note.Unblocked a)) ins has within said = said-stays idle_then r.upped a (life_of r a) r.lives has (λ from l. refl) (λ l. refl) said
+idle-step w p r (Told (note.Add q)) ins has within said = said
+idle-step w p r (Told (note.Blocked a)) ins has within said = said
+idle-step w p r (GiveBack a) ins has within said = said-gone idle_then a.0 r.lives has said
+idle-step w p r x ins has within said = said
+
+pub idle-records : (w : WorkloadView) (e : ℕ) (p : ProcNo) (r : Readings) (xs : List Record) (ins has : ℕ → Bool) → Said in_now r.lives ins → Said idle_then r.lives has
+    → Said idle_then (after_records w e p r xs).lives (idle_behind ins xs has)
+idle-records w e p r [] ins has within said = said
+idle-records w e p r (x ∷ xs) ins has within said =
+    idle-records w e p (after_record w e p r x) xs (renewed_at false (Some false) x ins) (idle_at ins x has)
+    (untouched-step in_now false (Some false) w p r x ins in-untouched within) (idle-step w p r x ins has within said)

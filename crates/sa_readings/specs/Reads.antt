@@ -22,7 +22,7 @@ use Rattle.sa_readings.specs.Loads.{Untold, untold_in, load_in}
 use Rattle.sa_readings.specs.Holdings.{locks_of, ready_in, hand_of, has_cont, stopped_of, taken_in}
 use Rattle.sa_readings.specs.Ios.{ios_of}
 use Rattle.sa_readings.specs.Pages.{is_resident_in}
-use Rattle.sa_readings.specs.Steps.{stepping, with_event, settles_by, is_in, scans_of, was_free}
+use Rattle.sa_readings.specs.Steps.{stepping, with_event, settles_by, is_in, scans_of, was_free, was_idle}
 
 -- something holds of the first n events of a trace and of what is read after them, for each n
 abbrev pub AreRead : (List Event → Readings → Type 0) → WorkloadView → List Item → Type 0
@@ -96,11 +96,13 @@ PagesAreRead w events r =
     (s : SpaceNo) (page : ℕ) → s.0 < length w.spaces → page < 16
     → is_resident r s page ≡ is_resident_in w (items_of events) s page
 
--- of each life: whether it is in, its scan count, and whether its last own event was a free
+-- of each life: whether it is in, its scan count, whether its last own event was a free, and whether it was idle at its
+-- stop
 pub record StepsAsIsSaid (w : WorkloadView) (events : List Event) (a : ActNo) (life : Life) : Type 0 where
   pub inside : life.inside ≡ is_in w events a
   pub scans : life.scans ≡ scans_of events a
   pub freed : life.freed ≡ was_free events a
+  pub idle : life.idle ≡ was_idle w events a
 
 abbrev pub StepsAreRead : WorkloadView → List Event → Readings → Type 0
 StepsAreRead w events r = (a : ActNo) (life : Life) → life_of r a ≡ Some life → StepsAsIsSaid w events a life

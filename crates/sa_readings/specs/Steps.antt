@@ -108,6 +108,22 @@ in_by w before has e = in_with w (items_of before) (with_event (items_of before)
 abbrev pub is_in : WorkloadView → List Event → ActNo → Bool
 is_in w events a = along (in_by w) (λ b. false) events a.0
 
+-- A life whose stop was recorded was idle then, where directly before it was not in and its stop names no thread.
+abbrev pub idle_at : (ℕ → Bool) → Record → (ℕ → Bool) → ℕ → Bool
+idle_at ins (Up s a) has = put has a.0 false
+idle_at ins (Stop s t a) has = put has a.0 (not (ins a.0) && is_none t)
+idle_at ins _ has = has
+
+abbrev pub idle_behind : (ℕ → Bool) → List Record → (ℕ → Bool) → ℕ → Bool
+idle_behind ins [] has = has
+idle_behind ins (x ∷ xs) has = idle_behind (renewed_at false (Some false) x ins) xs (idle_at ins x has)
+
+abbrev pub idle_by : WorkloadView → List Event → (ℕ → Bool) → Event → ℕ → Bool
+idle_by w before has e = idle_behind (along (in_by w) (λ b. false) before) e.records has
+
+abbrev pub was_idle : WorkloadView → List Event → ActNo → Bool
+was_idle w events a = along (idle_by w) (λ b. false) events a.0
+
 -- The scan count of a life: how many idle records it has since its up or its last own event of another kind; a lowering
 -- hint neither counts nor ends the count.
 abbrev pub scans_by : List Item → List Record → ℕ → ℕ

@@ -62,7 +62,7 @@ pub fn pages_are_read()
         → AreRead (PagesAreRead w) w items }
 {}
 
-/// Whether each life is in, its scan count, and whether its last own event was a free.
+/// Whether each life is in, its scan count, whether its last own event was a free, and whether it was idle at its stop.
 pub fn steps_are_read()
     ensures { (w : WorkloadView) (items : List Item) → IsLegal fast_threads w items
         → AreRead (StepsAreRead w) w items }
