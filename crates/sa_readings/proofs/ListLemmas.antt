@@ -1,0 +1,79 @@
+-- Lists that were changed at one place, and tests that choose.
+use Rattle.std.proofs.Common.{◌≡◌, ◌≢◌, ℕ, zero, suc, ◌<◌, inl, inr, refl, sym, ◌∙◌, ap, arith, Some, None, List, [], ◌∷◌, length, map, true, false}
+use Rattle.std.specs.Prelude.{Option, Bool, ◌==◌, if◌then◌else◌, get_or, slice_set, unwrap_or, filter}
+use Rattle.std.proofs.lemmas.Bool.{cases_eq, cases_lt}
+use Rattle.std.proofs.lemmas.Bool.Decides.{nat_tests}
+use Rattle.std.proofs.lemmas.List.{get_or-set_same, get_or-set_other}
+
+pub differ : (a b : ℕ) → a ≢ b → (a == b) ≡ false
+differ a b apart = grind (arith, nat_tests)
+
+pub alike : (a b : ℕ) → a ≡ b → (a == b) ≡ true
+alike a b same = grind (arith, nat_tests)
+
+pub same-number : (a b : ℕ) → (a == b) ≡ true → a ≡ b
+same-number a b is = grind (arith, nat_tests)
+
+pub if-yes : {A : Type 0} (b : Bool) (x y : A) → b ≡ true → (if b then x else y) ≡ x
+if-yes true x y is = refl
+if-yes false x y is = absurd (cc)
+
+pub if-no : {A : Type 0} (b : Bool) (x y : A) → b ≡ false → (if b then x else y) ≡ y
+if-no false x y is = refl
+if-no true x y is = absurd (cc)
+
+-- a function may be taken out of a choice
+pub if-out : {A B : Type 0} (f : A → B) (b : Bool) (x y : A) → f (if b then x else y) ≡ (if b then f x else f y)
+if-out f true x y = refl
+if-out f false x y = refl
+
+-- nothing is said either way
+pub none-said : {A : Type 0} (b : Bool) (y : A) → unwrap_or (if b then None else None) y ≡ y
+none-said true y = refl
+none-said false y = refl
+
+-- a list that was set at one place
+pub set-said : {A : Type 0} (xs : List A) (i j : ℕ) (v d : A) → j < length xs → get_or (slice_set xs i v) j d ≡ unwrap_or (if i == j then Some v else None) (get_or xs j d)
+set-said xs i j v d within = elim (cases_eq i j) [
+  | inl same ↦
+      ap (λ n. get_or (slice_set xs n v) j d) same ∙ get_or-set_same xs j v d within
+      ∙ sym (ap (λ b. unwrap_or (if b then Some v else None) (get_or xs j d)) (alike i j same))
+  | inr apart ↦
+      get_or-set_other xs i j v d (λ e. apart (sym e)) ∙ sym (ap (λ b. unwrap_or (if b then Some v else None) (get_or xs j d)) (differ i j apart))
+]
+
+-- .. also behind the list, where its items may be absent
+pub set-absent : {A : Type 0} (xs : List (Option A)) (p q : ℕ) (v : Option A) → p < length xs
+    → get_or (slice_set xs p v) q None ≡ unwrap_or (if p == q then Some v else None) (get_or xs q None)
+set-absent xs p q v within = elim (cases_lt q (length xs)) [
+  | inl below ↦ set-said xs p q v None below
+  | inr past ↦ (
+      let other : q ≢ p = λ e. absurd (omega arith) in
+      get_or-set_other xs p q v None other
+      ∙ sym (ap (λ b. unwrap_or (if b then Some v else None) (get_or xs q None)) (differ p q (λ e. other (sym e))))
+      )
+]
+
+-- a list of lists, one of which is changed
+pub set-list : {A : Type 0} (f : List A → List A) (xs : List (List A)) (i j : ℕ) → j < length xs
+    → get_or (slice_set xs i (f (get_or xs i []))) j [] ≡ (if i == j then f (get_or xs j []) else get_or xs j [])
+set-list f xs i j within = elim (cases_eq i j) [
+  | inl same ↦
+      ap (λ n. get_or (slice_set xs n (f (get_or xs n []))) j []) same ∙ get_or-set_same xs j (f (get_or xs j [])) [] within
+      ∙ sym (if-yes (i == j) (f (get_or xs j [])) (get_or xs j []) (alike i j same))
+  | inr apart ↦
+      get_or-set_other xs i j (f (get_or xs i [])) [] (λ e. apart (sym e)) ∙ sym (if-no (i == j) (f (get_or xs j [])) (get_or xs j []) (differ i j apart))
+]
+
+-- each list of lists is changed
+pub map-list : {A : Type 0} (f : List A → List A) (xs : List (List A)) (j : ℕ) → f [] ≡ [] → get_or (map f xs) j [] ≡ f (get_or xs j [])
+map-list f [] j none = sym none
+map-list f (x ∷ xs) zero none = refl
+map-list f (x ∷ xs) (suc j) none = map-list f xs j none
+
+-- what is left of what was made
+pub map-filter : {A B : Type 0} (f : A → B) (test : B → Bool) (xs : List A) → map f (filter (λ x. test (f x)) xs) ≡ filter test (map f xs)
+map-filter f test [] = refl
+map-filter f test (x ∷ xs) =
+    if-out (map f) (test (f x)) (x ∷ filter (λ y. test (f y)) xs) (filter (λ y. test (f y)) xs)
+    ∙ ap (λ ys. if test (f x) then f x ∷ ys else ys) (map-filter f test xs)

@@ -1,0 +1,20 @@
+-- What is due at a closing after an event: nothing, where nothing changed since.
+use Rattle.std.specs.Prelude.{◌≡◌, ℕ, ◌+◌, List, [], Some, slice_get}
+use Rattle.sa_base.specs.declared.record.Item.{Item}
+use Rattle.sa_instr.specs.Workload.{WorkloadView}
+use Rattle.sa_laws.specs.Event.{Event, events_of}
+use Rattle.sa_laws.specs.Readings.{Readings}
+use Rattle.sa_laws.specs.Closing.{first_space, wants_due, aims_due}
+use Rattle.sa_laws.specs.Rules.{fast_threads}
+use Rattle.sa_legal.specs.Legal.{before}
+
+-- no want is due, and no aim while the remainder of the processors begins with the same space as at this event
+pub record NothingIsDue (w : WorkloadView) (event : ℕ) (r : Readings) : Type 0 where
+  pub wants : wants_due w r ≡ []
+  pub aims : (next : ℕ) → first_space w next ≡ first_space w event → aims_due w next r ≡ []
+
+-- .. after each event of a trace
+abbrev pub ClosingsAddNothing : WorkloadView → List Item → Type 0
+ClosingsAddNothing w items =
+    (n : ℕ) (e : Event) → slice_get (events_of items) n ≡ Some e
+    → NothingIsDue w e.number (before fast_threads w (events_of items) (n + 1))

@@ -1,0 +1,10 @@
+pub mod Along
+pub mod Moments
+pub mod Marks
+pub mod Loads
+pub mod Holdings
+pub mod Ios
+pub mod Pages
+pub mod Steps
+pub mod Reads
+pub mod Closings
