@@ -1,0 +1,4 @@
+pub mod TotalLemmas
+pub mod IndexLemmas
+pub mod ChangeLemmas
+pub mod ReplayLemmas
