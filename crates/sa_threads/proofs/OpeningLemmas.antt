@@ -1,9 +1,8 @@
 -- At the opening nobody waits.
-use Rattle.std.proofs.Common.{◌≡◌, ℕ, zero, suc, ◌+◌, ◌*◌, ◌≤◌, List, [], ◌∷◌, length, map, replicate, refl, arith}
+use Rattle.std.proofs.Common.{◌≡◌, ℕ, zero, suc, List, [], ◌∷◌, map, replicate, refl, arith}
 use Rattle.std.proofs.lemmas.List.{length-replicate}
 use Rattle.std.proofs.lemmas.List.Sums.{sum_by-cons}
 use Rattle.sa_base.specs.declared.limits.TheConstants.{MAX_THREADS}
-use Rattle.sa_base.specs.declared.number.ThreadNo.{ThreadNo}
 use Rattle.sa_instr.specs.Space.{SpaceView}
 use Rattle.sa_links.specs.Lists.{count_in, count_in_all}
 use Rattle.sa_sync.specs.Sync.{Mutex, Semaphore, free_mutex, semaphore_of, opening, waits_of}

@@ -1,5 +1,5 @@
 -- Each instruction changes the threads of its space alike, and keeps what always holds of them.
-use Rattle.std.proofs.Common.{◌≡◌, ◌≢◌, ℕ, zero, suc, ◌+◌, ◌<◌, ◌≤◌, ◌^◌, ◌-◌, Bool, true, false, cond, nat_lt, List, [], ◌∷◌, ◌++◌, length, map, get_or, set, ◌⊎◌, inl, inr, refl, sym, ap, subst, ◌∙◌, arith, length-append}
+use Rattle.std.proofs.Common.{◌≡◌, ◌≢◌, ℕ, zero, suc, ◌+◌, ◌<◌, ◌≤◌, ◌^◌, ◌-◌, Bool, true, false, cond, nat_lt, List, [], ◌∷◌, ◌++◌, length, get_or, set, inl, inr, refl, sym, ap, subst, ◌∙◌, arith, length-append}
 use Rattle.std.proofs.lemmas.Bool.{cases_eq, cases_lt, ltb-true, ne_eqb}
 use Rattle.std.proofs.lemmas.List.{length-set, get_or-set_same, get_or-set_other, get_or_append_left, get_or-append_right, get_or_past, append-nil}
 use Rattle.sa_base.specs.declared.number.ProcNo.{ProcNo}
@@ -11,11 +11,11 @@ use Rattle.sa_instr.specs.declared.instr.Reg.{Reg}
 use Rattle.sa_instr.specs.Instr.{NamesDeclared}
 use Rattle.sa_instr.specs.Regs.{reg_value}
 use Rattle.sa_instr.specs.Space.{SpaceView}
-use Rattle.sa_links.specs.Lists.{count_in, count_in_all}
+use Rattle.sa_links.specs.Lists.{count_in}
 use Rattle.sa_links.proofs.Counting.{count_set}
 use Rattle.sa_sync.specs.declared.answer.SyncAnswer.{SyncAnswer}
 use Rattle.sa_sync.specs.declared.answer.SyncAnswer.TheVariants as answers
-use Rattle.sa_sync.specs.Sync.{Sync, Mutex, Semaphore, joiners_at, with_joiners, waits_of, Waits, WaitsNowhere}
+use Rattle.sa_sync.specs.Sync.{Sync, joiners_at, with_joiners, waits_of}
 use Rattle.sa_sync.specs.Calls.{Change, locked, unlocked, waited, signalled, joined, finished, stored}
 use Rattle.sa_sync.specs.Laws.{SameNumbers, TellsWhoWaits, woken, joining}
 use Rattle.sa_sync.proofs.LawLemmas.{locked_tells, unlocked_tells, waited_tells, signalled_tells, joined_tells}
@@ -23,12 +23,12 @@ use Rattle.sa_sync.proofs.Numbers.{locked_keeps, unlocked_keeps, waited_keeps, s
 use Rattle.sa_laws.specs.declared.place.Place.{Place}
 use Rattle.sa_laws.specs.declared.place.Place.TheVariants as places
 use Rattle.sa_laws.specs.State.{Thread, SpaceState, at_start, thread_in, with_thread}
-use Rattle.sa_laws.specs.Effect.{Effect, effect, next, next_with, with_sync, local_effect, answered, sync_effect, fork_effect, join_effect, end_effect, effect_of}
+use Rattle.sa_laws.specs.Effect.{Effect, effect, next, next_with, with_sync, answered, sync_effect, fork_effect, end_effect, effect_of}
 use Rattle.sa_threads.specs.Running.{is_running, instr_in, IsAt, HasDeclared, HasCount, CanRun}
 use Rattle.sa_threads.specs.Sound.{IsSound}
 use Rattle.sa_threads.specs.Space.{CanDo}
 use Rattle.sa_threads.proofs.JoinerLemmas.{waits_parts}
-use Rattle.sa_threads.specs.Shape.{IsShaped, IsForked, StaysOrRests, TellsWaiting}
+use Rattle.sa_threads.specs.Shape.{IsShaped, StaysOrRests, TellsWaiting}
 
 same_numbers : (s : Sync) → SameNumbers s s
 same_numbers s = record { mutexes = refl; semaphores = refl; joiners = refl; done = refl; cells = refl }

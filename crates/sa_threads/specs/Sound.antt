@@ -1,8 +1,8 @@
 -- What always holds of the threads of a space.
-use Rattle.std.specs.Prelude.{◌≡◌, ℕ, ◌≤◌, ◌<◌, Bool, true, length}
+use Rattle.std.specs.Prelude.{◌≡◌, ◌≤◌, length}
 use Rattle.sa_base.specs.declared.number.ThreadNo.{ThreadNo}
 use Rattle.sa_base.specs.declared.limits.TheConstants.{MAX_THREADS}
-use Rattle.sa_sync.specs.Sync.{Waits, WaitsNowhere}
+use Rattle.sa_sync.specs.Sync.{Waits}
 use Rattle.sa_laws.specs.declared.place.Place.TheVariants.{Waiting}
 use Rattle.sa_laws.specs.State.{SpaceState, thread_in}
 

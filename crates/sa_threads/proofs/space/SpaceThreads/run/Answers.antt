@@ -1,6 +1,6 @@
-use Rattle.std.proofs.Common.{◌≡◌, sym, subst}
+use Rattle.std.proofs.Common.{sym, subst}
 use Rattle.sa_laws.specs.State.{SpaceState, thread_in}
-use Rattle.sa_laws.specs.Effect.{Effect, effect}
+use Rattle.sa_laws.specs.Effect.{effect}
 use Rattle.sa_threads.specs.Running.{CanRun}
 use Rattle.sa_threads.specs.Space.{space}
 use Rattle.sa_threads.specs.Sound.{IsSound}
@@ -23,4 +23,6 @@ pub invariant_of-self : goal.invariant_of-self
 invariant_of-self c = (kept c).0
 
 pub returns-clause-shape : goal.returns-clause-shape
-returns-clause-shape c = ?
+returns-clause-shape c =
+    let new = space c.does.new.table c.does.new.sync in
+    subst (λ (x : SpaceState). IsShaped x c.args.t (thread_in x c.args.t).place new) c.self.view_is (kept c).1
