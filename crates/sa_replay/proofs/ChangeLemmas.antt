@@ -1,5 +1,5 @@
 -- What a change of one space does to where threads stand, and to what always holds of a replay.
-use Rattle.std.proofs.Common.{◌≡◌, ◌≢◌, ℕ, zero, suc, ◌<◌, ◌≤◌, Bool, true, false, ◌&&◌, ◌||◌, ◌==◌, List, length, get_or, set, Option, Some, None, inl, inr, refl, sym, ap, subst, ◌∙◌, arith}
+use Rattle.std.proofs.Common.{◌≡◌, ◌≢◌, ℕ, ◌<◌, true, false, ◌&&◌, ◌||◌, ◌==◌, List, length, get_or, set, inl, inr, sym, ap, subst, ◌∙◌, arith}
 use Rattle.std.proofs.lemmas.Bool.{cases_eq, cases_lt}
 use Rattle.std.proofs.lemmas.List.{length-set, get_or-set_same, get_or-set_other, get_or_past}
 use Rattle.sa_base.specs.declared.number.ProcNo.{ProcNo}
@@ -10,9 +10,7 @@ use Rattle.sa_sync.specs.Sync.{waits_of}
 use Rattle.sa_laws.specs.declared.place.Place.{Place}
 use Rattle.sa_laws.specs.declared.place.Place.TheVariants as places
 use Rattle.sa_laws.specs.State.{Thread, SpaceState, at_start, thread_in, put_thread, no_space, is_waiting}
-use Rattle.sa_threads.specs.Running.{is_running, is_settled, can_move, HasDeclared}
-use Rattle.sa_threads.specs.Shape.{IsShaped}
-use Rattle.sa_threads.proofs.ShapeLemmas.{at_rest, was_made, own_after, other_runs, other_ran, stays_declared}
+use Rattle.sa_threads.specs.Running.{is_settled, can_move, HasDeclared}
 use Rattle.sa_replay.specs.Spaces.{no_threads, space_in, with_space_in, place_in}
 use Rattle.sa_replay.specs.Inside.{AreDeclared}
 use Rattle.sa_replay.proofs.IndexLemmas.{OthersRun}

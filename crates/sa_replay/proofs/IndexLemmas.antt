@@ -1,8 +1,8 @@
 -- The index of who runs stays right, and tells what a search through all threads finds.
-use Rattle.std.proofs.Common.{◌≡◌, ◌≢◌, ℕ, zero, suc, ◌+◌, ◌<◌, ◌≤◌, Bool, true, false, cond, List, [], ◌∷◌, length, get_or, set, Option, Some, None, ◌⊎◌, inl, inr, refl, sym, ap, subst, ◌∙◌, zero-add, arith}
+use Rattle.std.proofs.Common.{◌≡◌, ◌≢◌, ℕ, zero, suc, ◌+◌, ◌<◌, true, false, cond, List, [], ◌∷◌, length, get_or, set, Option, Some, None, ◌⊎◌, inl, inr, refl, sym, ap, subst, ◌∙◌, zero-add, arith}
 use Rattle.std.proofs.lemmas.Bool.{cases_eq, cases_lt, eq-eqb, eqb-true}
 use Rattle.std.proofs.lemmas.Option.{same_Some}
-use Rattle.std.proofs.lemmas.List.{length-set, get_or-set_same, get_or-set_other, get_or_past}
+use Rattle.std.proofs.lemmas.List.{get_or-set_same, get_or-set_other, get_or_past}
 use Rattle.sa_base.specs.declared.number.ProcNo.{ProcNo}
 use Rattle.sa_base.specs.declared.number.SpaceNo.{SpaceNo}
 use Rattle.sa_base.specs.declared.number.ThreadNo.{ThreadNo}
@@ -40,13 +40,11 @@ of_same : (places : Places) (s r : SpaceNo) (t u : ThreadNo) (p : ProcNo) → (r
 of_same places s r t u p same is = at_same places r s u t p (sym same.0, sym same.1) is
 
 -- a thread runs on one processor
-proc_of : Place → ℕ
-unfolding proc_of
+abbrev proc_of : Place → ℕ
 proc_of (Running p) = p.0
 proc_of _ = 0
 
 one_proc : (place : Place) (p q : ProcNo) → place ≡ Running p → place ≡ Running q → p.0 ≡ q.0
-unfolding proc_of
 one_proc place p q at there = ap proc_of (sym at ∙ there)
 
 -- a runner is that of its numbers
@@ -59,7 +57,7 @@ same_runner s r t u same =
     let Of : ℕ → ℕ → Option Runner = λ n m. Some (runner (record { 0 = n }) (record { 0 = m })) in ap (λ n. Of n t.0) (sym same.0) ∙ ap (λ m. Of r.0 m) (sym same.1)
 
 -- a processor with a runner is one of the list
-runs_within : (runners : List (Option Runner)) (p : ProcNo) (x : Runner) → runner_at runners p ≡ Some x → p.0 < length runners
+pub runs_within : (runners : List (Option Runner)) (p : ProcNo) (x : Runner) → runner_at runners p ≡ Some x → p.0 < length runners
 runs_within runners p x is = elim (cases_lt p.0 (length runners)) [
   | inl within ↦ within
   | inr past ↦ let none : runner_at runners p ≡ None = get_or_past runners p.0 None past in let both : None ≡ Some x = sym none ∙ is in cc
@@ -134,14 +132,14 @@ runs_there p Carried is = cc
 runs_there p Done is = cc
 
 runs_not : (p : ProcNo) (place : Place) → is_running_on p place ≡ false → place ≡ Running p → ⊥
-runs_not p place no is = let both : true ≡ false = sym (ap (is_running_on p) is ∙ eq-eqb p.0 p.0 refl) ∙ no in cc
+runs_not p place fails is = let both : true ≡ false = sym (ap (is_running_on p) is ∙ eq-eqb p.0 p.0 refl) ∙ fails in cc
 
 abbrev place_of : List Thread → ℕ → Place
 place_of threads i = (get_or threads i (at_start 0 Done)).place
 
 passed : (p : ProcNo) (thread : Thread) (threads : List Thread) → is_running_on p thread.place ≡ false → ((i : ℕ) → place_of threads i ≡ Running p → ⊥) → (i : ℕ) → place_of (thread ∷ threads) i ≡ Running p → ⊥
-passed p thread threads no rest zero runs = runs_not p thread.place no runs
-passed p thread threads no rest (suc i) runs = rest i runs
+passed p thread threads fails rest zero runs = runs_not p thread.place fails runs
+passed p thread threads fails rest (suc i) runs = rest i runs
 
 -- what the search finds in a space, and what it passes
 found_in : (p : ProcNo) (k j : ℕ) (threads : List Thread) (x : Runner) → runner_in p k j threads ≡ Some x → (x.space.0 ≡ k) × ((i : ℕ) × (x.thread.0 ≡ j + i) × (place_of threads i ≡ Running p))

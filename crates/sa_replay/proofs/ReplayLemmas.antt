@@ -1,5 +1,5 @@
 -- What always holds of a replay is kept by each change.
-use Rattle.std.proofs.Common.{◌≡◌, ◌≢◌, ℕ, zero, suc, ◌<◌, ◌≤◌, Bool, true, false, ◌&&◌, ◌||◌, ◌==◌, List, [], length, get_or, set, map, replicate, Option, Some, None, inl, inr, refl, sym, ap, subst, ◌∙◌, arith}
+use Rattle.std.proofs.Common.{◌≡◌, ℕ, zero, suc, ◌<◌, true, false, ◌&&◌, ◌||◌, ◌==◌, List, [], length, get_or, set, map, replicate, Option, Some, None, inl, inr, refl, sym, ap, subst, ◌∙◌, arith}
 use Rattle.std.proofs.lemmas.Bool.{cases_lt}
 use Rattle.std.proofs.lemmas.List.{length-set, length-map, length-replicate, get_or_past, get_or-map}
 use Rattle.sa_base.specs.declared.number.ProcNo.{ProcNo}
@@ -10,16 +10,18 @@ use Rattle.sa_instr.specs.Workload.{WorkloadView}
 use Rattle.sa_sync.specs.Sync.{Mutex, free_mutex, semaphore_of, waits_of}
 use Rattle.sa_laws.specs.declared.place.Place.{Place}
 use Rattle.sa_laws.specs.declared.place.Place.TheVariants as places
-use Rattle.sa_laws.specs.State.{Thread, SpaceState, Runner, thread_in, put_thread, no_space, is_waiting, State, space_def, runner_from, opening_space}
+use Rattle.sa_laws.specs.State.{Thread, SpaceState, Runner, thread_in, put_thread, no_space, is_waiting, State, space_def, owner_at, runner_on, runner_of, runner_from, opening_space}
 use Rattle.sa_threads.specs.Running.{is_running, is_settled, can_move, HasDeclared, CanRun}
 use Rattle.sa_threads.specs.Shape.{IsShaped}
 use Rattle.sa_threads.proofs.ShapeLemmas.{at_rest, was_made, own_after, other_runs, other_ran, stays_declared}
-use Rattle.sa_replay.specs.Spaces.{no_threads, space_in, with_space_in, place_in}
-use Rattle.sa_replay.specs.Needs.{CanGo}
-use Rattle.sa_replay.specs.Index.{IsIndex, runner_at}
+use Rattle.sa_replay.specs.Spaces.{no_threads, space_in, with_space_in, place_in, run_of, HasRun}
+use Rattle.sa_laws.specs.Step.{IsRunner, NobodyRuns}
+use Rattle.sa_replay.specs.Replayed.{Replayed}
+use Rattle.sa_replay.specs.Needs.{CanGo, CanPut}
+use Rattle.sa_replay.specs.Index.{runner_at}
 use Rattle.sa_replay.specs.Inside.{AreDeclared, IsReplay}
-use Rattle.sa_replay.proofs.IndexLemmas.{runner, index-stays, index-leaves, index-enters, index-finds, OthersRun}
-use Rattle.sa_replay.proofs.ChangeLemmas.{is_there, moves_there, own_place, others_run, declared-set, placed_others, placed_own, placed_declared}
+use Rattle.sa_replay.proofs.IndexLemmas.{runner, runs_within, index-stays, index-leaves, index-enters, index-finds, OthersRun}
+use Rattle.sa_replay.proofs.ChangeLemmas.{is_there, own_place, others_run, declared-set, placed_others, placed_own, placed_declared}
 
 -- a thread that runs can be put elsewhere
 pub runs_moves : (spaces : List SpaceState) (s : SpaceNo) (t : ThreadNo) (p : ProcNo) → place_in spaces s t ≡ places.Running p → can_move (space_in spaces s) t ≡ true
@@ -130,6 +132,18 @@ module _ (w : WorkloadView) (spaces : List SpaceState) (owners : List (Option Sp
       index = index-leaves s t _ _ runners others kept.index p runs (λ q is. at_rest (place_in (with_space_in spaces s x) s t) q rests is);
     }
 
+  -- as it is known of a run
+  module _ (p : ProcNo) (s : SpaceNo) (t : ThreadNo) (def : SpaceView) (new : List SpaceState) (roused : List ThreadNo) (runs : place_in spaces s t ≡ places.Running p) (ran : HasRun spaces def s t new roused) where
+    pub goes_on : is_running (place_in new s t) ≡ true → IsReplay w new owners runners
+    goes_on goes =
+        subst (λ (xs : List SpaceState). IsReplay w xs owners runners) (sym ran.spaces)
+        (go_kept p s t (run_of def (space_in spaces s) t).space runs ran.shape (subst (λ (xs : List SpaceState). is_running (place_in xs s t) ≡ true) ran.spaces goes))
+
+    pub goes_off : is_running (place_in new s t) ≡ false → IsReplay w new owners (set runners p.0 None)
+    goes_off rests =
+        subst (λ (xs : List SpaceState). IsReplay w xs owners (set runners p.0 None)) (sym ran.spaces)
+        (stop_kept p s t (run_of def (space_in spaces s) t).space runs ran.shape (subst (λ (xs : List SpaceState). is_running (place_in xs s t) ≡ false) ran.spaces rests))
+
   -- another owner
   pub owner_kept : (p : ProcNo) (owner : Option SpaceNo) → IsReplay w spaces (set owners p.0 owner) runners
   owner_kept p owner = record {
@@ -138,6 +152,30 @@ module _ (w : WorkloadView) (spaces : List SpaceState) (owners : List (Option Sp
     processors = kept.processors ∙ sym (length-set owners p.0 owner);
     index = kept.index;
   }
+
+-- what is known of a replay is known of its value
+module _ (w : WorkloadView) (spaces : List SpaceState) (owners : List (Option SpaceNo)) (runners : List (Option Runner)) (roused : List ThreadNo) (kept : IsReplay w spaces owners runners)
+    (v : Replayed) (view : let x : Replayed = record { workload = w; state = record { spaces = spaces; owners = owners }; roused = roused } in x ≡ v) (p : ProcNo) (s : SpaceNo) where
+  pub leave_runs : (o : Option ThreadNo) (t : ThreadNo) → IsRunner v.state p s o → o ≡ Some t → place_in spaces s t ≡ places.Running p
+  leave_runs o t runs is =
+      runner_runs w spaces owners runners kept p s t (ap (λ (x : Replayed). runner_on x.state p) view ∙ runs ∙ ap (λ (q : Option ThreadNo). runner_of s q) is)
+
+  pub listed_within : (t : ThreadNo) → place_in spaces s t ≡ places.Running p → p.0 < length runners
+  listed_within t runs = runs_within runners p (runner s t) (kept.index.listed p s t runs)
+
+  pub put_can : (o : Option ThreadNo) (t : ThreadNo) → CanPut v.state s o → o ≡ Some t → (is_running (place_in spaces s t) ≡ false) × (can_move (space_in spaces s) t ≡ true)
+  put_can o t can is =
+      let at : CanPut v.state s (Some t) = subst (λ (q : Option ThreadNo). CanPut v.state s q) is can in
+      subst (λ (x : Replayed). (is_running (place_in x.state.spaces s t) ≡ false) × (can_move (space_in x.state.spaces s) t ≡ true)) (sym view) at
+
+  pub owned_here : owner_at v.state p ≡ Some s → get_or owners p.0 None ≡ Some s
+  owned_here owned = ap (λ (x : Replayed). owner_at x.state p) view ∙ owned
+
+  pub nobody_here : NobodyRuns v.state p → runner_from p 0 spaces ≡ None
+  nobody_here nobody = ap (λ (x : Replayed). runner_on x.state p) view ∙ nobody
+
+  pub go_runs : (t : ThreadNo) → CanGo v.workload p v.state s t → place_in spaces s t ≡ places.Running p
+  go_runs t go = ap (λ (x : Replayed). place_in x.state.spaces s t) view ∙ go.runs
 
 -- at the opening nobody runs
 first_rests : (def : SpaceView) (t : ℕ) (p : ProcNo) → (thread_in (opening_space def) (record { 0 = t })).place ≡ places.Running p → ⊥
@@ -184,3 +222,11 @@ opening_kept w = record {
     there = λ p s t is. absurd (free w.processors p (runner s t) is);
   };
 }
+
+pub opened_kept : (w v : WorkloadView) (spaces : List SpaceState) (owners : List (Option SpaceNo)) (runners : List (Option Runner)) → v ≡ w → spaces ≡ map opening_space w.spaces → owners ≡ replicate w.processors None → runners ≡ replicate w.processors None
+    → IsReplay v spaces owners runners
+opened_kept w v spaces owners runners same first unowned idle =
+    subst (λ (u : WorkloadView). IsReplay u spaces owners runners) (sym same)
+    (subst (λ (xs : List SpaceState). IsReplay w xs owners runners) (sym first)
+    (subst (λ (os : List (Option SpaceNo)). IsReplay w (map opening_space w.spaces) os runners) (sym unowned)
+    (subst (λ (rs : List (Option Runner)). IsReplay w (map opening_space w.spaces) (replicate w.processors None) rs) (sym idle) (opening_kept w))))

@@ -31,7 +31,7 @@ all_count : (test : SpaceState → Bool) (defs : List SpaceView) → ((def : Spa
 all_count test [] none = refl
 all_count test (def ∷ defs) none =
     let rest = all_count test defs none in
-    let one : cond (not (test (opening_space def))) 1 0 ≡ 1 = ap (λ b. cond (not b) 1 0) (none def) in
+    let one : ◌≡◌ {A = ℕ} (cond (not (test (opening_space def))) 1 0) 1 = ap (λ b. cond (not b) 1 0) (none def) in
     omega (arith, sum_by-cons (λ (x : SpaceState). cond (not (test x)) 1 0) (opening_space def) (map opening_space defs), rest, one)
 
 pub counted-opening : (defs : List SpaceView) → length defs ≤ MAX_SPACES → IsCounted (map opening_space defs) (length defs) (length defs)

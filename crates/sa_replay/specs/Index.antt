@@ -1,5 +1,5 @@
 -- Who runs on each processor, as a list that tells it at once.
-use Rattle.std.specs.Prelude.{◌≡◌, ℕ, List, Option, Some, None, slice_index_or}
+use Rattle.std.specs.Prelude.{◌≡◌, List, Option, Some, None, slice_index_or}
 use Rattle.sa_base.specs.declared.number.ProcNo.{ProcNo}
 use Rattle.sa_base.specs.declared.number.SpaceNo.{SpaceNo}
 use Rattle.sa_base.specs.declared.number.ThreadNo.{ThreadNo}

@@ -1,5 +1,5 @@
 -- The replay of a trace: the workload, the abstract machine's state, and what the last instruction roused.
-use Rattle.std.specs.Prelude.{ℕ, List, [], slice_index_or}
+use Rattle.std.specs.Prelude.{List, [], slice_index_or}
 use Rattle.sa_base.specs.declared.number.ProcNo.{ProcNo}
 use Rattle.sa_base.specs.declared.number.SpaceNo.{SpaceNo}
 use Rattle.sa_base.specs.declared.number.ThreadNo.{ThreadNo}

@@ -6,7 +6,7 @@ use Rattle.sa_base.specs.declared.limits.TheConstants.{MAX_SPACES}
 use Rattle.sa_instr.specs.Space.{SpaceView}
 use Rattle.sa_sync.specs.Sync.{opening as sync_opening}
 use Rattle.sa_laws.specs.declared.place.Place.{Place}
-use Rattle.sa_laws.specs.State.{Thread, SpaceState, no_space, thread_in}
+use Rattle.sa_laws.specs.State.{SpaceState, no_space, thread_in}
 use Rattle.sa_laws.specs.Effect.{Effect, effect_of}
 use Rattle.sa_laws.specs.Ends.{are_done, are_at_rest}
 use Rattle.sa_threads.specs.Running.{instr_in}

@@ -1,5 +1,5 @@
 // Which records the abstract machine can do.
-ghost use Rattle.std.specs.Prelude.{◌≡◌, ◌<◌, ◌×◌, ◌⊎◌, ◌↔◌, ◌^◌, true, Some, None, IsTrue, is_some};
+ghost use Rattle.std.specs.Prelude.{◌≡◌, ◌<◌, ◌⊎◌, ◌↔◌, ◌^◌, true, Some, None, IsTrue, is_some};
 ghost use Rattle.sa_devices.specs.Laws.{has_page};
 ghost use Rattle.sa_laws.specs.State.{thread_at, instr_of, next_instr, owner_at};
 ghost use Rattle.sa_laws.specs.Record.{length_in, is_thread};

@@ -7,6 +7,7 @@ ghost use Rattle.sa_laws.specs.Ends.{are_done, are_at_rest};
 ghost use Rattle.sa_laws.specs.Step.{IsRunner, NobodyRuns};
 ghost use Rattle.sa_threads.specs.Running.{is_running, IsFull};
 ghost use Rattle.sa_replay.specs.Replayed.{opened, after, gone, program_of};
+ghost use Rattle.sa_replay.specs.Index.{runner_at};
 ghost use Rattle.sa_replay.specs.Needs.{CanGo, CanPut, CanChange, IsOverfull};
 
 use crate::runner::RunningThread;
@@ -95,10 +96,7 @@ impl Replay {
     pub fn runner(&self, p: ProcNo) -> Option<RunningThread>
         ensures { result ≡ runner_on self.now.state p }
     {
-        match self.runners.get(usize::from(p.0)) {
-            Some(runner) => *runner,
-            None => None,
-        }
+        runner_in(&self.runners, p)
     }
 
     /// The thread; one that was not made counts as done.
@@ -273,4 +271,14 @@ fn is_running(place: Place) -> bool
     ensures { result ≡ is_running place }
 {
     matches!(place, Place::Running(_))
+}
+
+// The runner of a processor in a list.
+fn runner_in(runners: &[Option<RunningThread>], p: ProcNo) -> Option<RunningThread>
+    ensures { result ≡ runner_at runners.now p }
+{
+    match runners.get(usize::from(p.0)) {
+        Some(runner) => *runner,
+        None => None,
+    }
 }
