@@ -1,0 +1,5 @@
+pub mod Spaces
+pub mod Replayed
+pub mod Needs
+pub mod Index
+pub mod Inside

@@ -1,0 +1,4 @@
+pub mod CountLemmas
+pub mod ShapeLemmas
+pub mod JoinerLemmas
+pub mod OpeningLemmas
