@@ -7,7 +7,7 @@ ghost use Rattle.sa_machine.specs.Run.{AreNextLocal};
 ghost use Rattle.sa_core.specs.View.{machine};
 
 use sa_abstract::{SeatState, UserLevel};
-use sa_base::{MAX_EVENTS, ProcNo, Record, Trace};
+use sa_base::{Item, MAX_EVENTS, ProcNo, Record, Trace};
 use sa_core::Core;
 use sa_instr::{Local, Program, Regs, Workload, local};
 use sa_workload::read;
@@ -27,16 +27,36 @@ pub(crate) fn opened<U: UserLevel>(
     Ok(Core::start(alloc, workload, budget)?)
 }
 
-// An event of the trace has these records, in this order, on the processor.
-pub(crate) fn has(rt: &impl Abort, trace: &Trace, event: u64, p: u16, records: &[Record]) {
-    let mut left = records.iter();
-    for item in trace.items() {
-        if item.event == event {
-            assert_eq!(rt; Some(item.what), left.next().copied(), "at event {event}");
-            assert_eq!(rt; item.proc.0, p, "at event {event}");
+// An event, and its records on the processor.
+#[derive(Clone, Copy)]
+pub(crate) struct Event {
+    pub(crate) number: u64,
+    pub(crate) p: u16,
+    pub(crate) records: &'static [Record],
+}
+
+// The event of the trace has these records, in this order.
+fn has_one(rt: &impl Abort, items: &[Item], event: &Event) {
+    let mut left = event.records.iter();
+    for item in items {
+        if item.event == event.number {
+            assert_eq!(rt;
+                Some(item.what),
+                left.next().copied(),
+                "at {}",
+                event.number
+            );
+            assert_eq!(rt; item.proc.0, event.p, "at {}", event.number);
         }
     }
-    assert!(rt; left.next().is_none(), "at event {event}");
+    assert!(rt; left.next().is_none(), "at {}", event.number);
+}
+
+// These events of the trace have these records.
+pub(crate) fn has(rt: &impl Abort, trace: &Trace, events: &[Event]) {
+    for event in events {
+        has_one(rt, trace.items(), event);
+    }
 }
 
 // Whether the run goes on, with a turn of the processor.
