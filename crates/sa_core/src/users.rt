@@ -68,6 +68,17 @@ impl Counts {
     }
 }
 
+// The user level of a space of a workload at its opening.
+fn level_at<U: UserLevel>(alloc: Global, s: usize, w: &Workload) -> Result<U, AllocError>
+    requires { s < length w.now.spaces }
+    ensures { IfOk result (λ level. (def : SpaceView) → slice_get w.now.spaces s ≡ Some def
+        → level ≡ U.calls.started (setting w.now s def)) }
+{
+    let def = w.spaces()[s].copy(alloc)?;
+    let level = U::start(alloc, SpaceNo(s as u16), def, w.processors(), w.fetch())?;
+    Ok(level)
+}
+
 /// The user level of each space, and how many of them still have something to do.
 #[derive(Drop)]
 pub(crate) struct Users<U: UserLevel> {
@@ -99,20 +110,17 @@ impl<U: UserLevel> Users<U> {
             },
         };
         for s in 0..w.spaces().len() {
-            users.add(alloc, s, w)?;
+            let level = level_at(alloc, s, w)?;
+            users.add(level)?;
         }
         Ok(users)
     }
 
     // The user level of one space more.
-    fn add(&mut self, alloc: Global, s: usize, w: &Workload) -> Result<(), AllocError>
-        requires next { length self.old ≡ s }
-        requires within { s < length w.now.spaces }
-        ensures { OnOk result ((def : SpaceView) → slice_get w.now.spaces s ≡ Some def
-            → self.new ≡ self.old ++ U.calls.started (setting w.now s def) ∷ []) }
+    fn add(&mut self, level: U) -> Result<(), AllocError>
+        requires { length self.old < MAX_SPACES }
+        ensures { OnOk result (self.new ≡ self.old ++ level ∷ []) }
     {
-        let def = w.spaces()[s].copy(alloc)?;
-        let level = U::start(alloc, SpaceNo(s as u16), def, w.processors(), w.fetch())?;
         let tally = level.tally();
         self.levels.push(level)?;
         self.counts = self.counts.with(tally);

@@ -4,3 +4,4 @@ pub mod Phases
 pub mod Calls
 pub mod Turns
 pub mod Runs
+pub mod Commits

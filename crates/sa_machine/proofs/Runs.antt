@@ -56,7 +56,7 @@ module _ {U C : Type 0} (f : Calls U C) (stands : Standing U C) (keep : Keeps f 
       keep.goes (setting m.workload s.0 here.def) e here.user (contexts_of m s.0) here.act.0 here.ctx (seen_on m p s) n
       (value-at f stands keep e m p s st here) (mine f stands keep e m p s st here) (sees-at f stands keep e m p s st here) later some few goes
 
-  rests-gone : (w : WorkloadView) (e g n : ℕ) (m : Machine U C) (p : ProcNo) (s : SpaceNo) → (rest : Rests f stands keep w e g m) → (here : IsAt f stands keep m p s) → e < m.event → 1 ≤ n
+  pub rests-gone : (w : WorkloadView) (e g n : ℕ) (m : Machine U C) (p : ProcNo) (s : SpaceNo) → (rest : Rests f stands keep w e g m) → (here : IsAt f stands keep m p s) → e < m.event → 1 ≤ n
       → m.event + n ≤ MAX_EVENTS + 1 → GoesOn (setting m.workload s.0 here.def) n (f.local here.user here.ctx)
       → Rests f stands keep w (g + n - 1) g (gone_to f p s (f.went here.user (seen_on m p s) here.ctx n) m)
   rests-gone w e g n m p s rest here later some few goes =

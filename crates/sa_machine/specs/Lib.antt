@@ -3,3 +3,4 @@ pub mod Turn
 pub mod End
 pub mod Run
 pub mod Standing
+pub mod Steps

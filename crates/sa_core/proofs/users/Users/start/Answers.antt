@@ -1,4 +1,4 @@
-use Rattle.std.proofs.Common.{◌+◌, List, length, ap, arith}
+use Rattle.std.proofs.Common.{◌+◌, ◌++◌, [], ◌∷◌, List, length, ap, ◌∙◌, arith}
 use Rattle.std.proofs.lemmas.List.{length_push}
 use Rattle.sa_spaces.specs.Space.{SpaceView}
 use Rattle.sa_machine.specs.Run.{setting, started_from}
@@ -13,7 +13,8 @@ loop-s-preserved g c =
     let size = ap (λ (xs : List SpaceView). length xs) c.spaces-s-end.ensures.value in
     let test = c.loop-s-test.true in
     let def = read-at w.spaces s (omega (arith, size, test)) in
-    let is = c.in_ok-add.ensures def.0 def.1 in
+    let level = c.in_ok-level.ensures def.0 def.1 in
+    let is = c.in_ok-add.ensures ∙ ap (λ (u : g.row.U.Denot). c.loop-s.users ++ u ∷ []) level in
     record {
       users = started-more f w s (s + 1) c.loop-s.users c.add.new.self (started_from f w 0 w.spaces) def.0 def.1 (omega arith) is c.loop-s.invariant.users;
       len =

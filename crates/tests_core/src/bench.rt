@@ -1,0 +1,150 @@
+// A core whose calls are tried where their conditions hold: what each adds to the trace is compared.
+ghost use Rattle.std.specs.Prelude.{◌≡◌, ◌≤◌, ◌<◌, None, IsTrue};
+ghost use Rattle.sa_kernel.specs.State.{line_of};
+ghost use Rattle.sa_abstract.specs.Walk.{AreLocal};
+ghost use Rattle.sa_machine.specs.End.{end_of, local_on};
+ghost use Rattle.sa_machine.specs.Run.{AreNextLocal};
+ghost use Rattle.sa_core.specs.View.{machine};
+
+use sa_abstract::{SeatState, UserLevel};
+use sa_base::{Item, MAX_EVENTS, ProcNo, Record, Trace};
+use sa_core::Core;
+use sa_instr::{Local, Program, Regs, Workload, local};
+use sa_workload::read;
+use std::alloc::Global;
+use std::process::Abort;
+use std::test::Fail;
+
+// The core at the opening of the workload of a text.
+pub(crate) fn opened<U: UserLevel>(
+    rt: &impl Abort,
+    alloc: Global,
+    text: &str,
+    budget: u64,
+) -> Result<Core<U>, Fail> {
+    let workload = read(alloc, text.as_bytes())?;
+    assert!(rt; 1 <= budget && budget <= MAX_EVENTS);
+    Ok(Core::start(alloc, workload, budget)?)
+}
+
+// An event, and its records on the processor.
+#[derive(Clone, Copy)]
+pub(crate) struct Event {
+    pub(crate) number: u64,
+    pub(crate) p: u16,
+    pub(crate) records: &'static [Record],
+}
+
+// The event of the trace has these records, in this order.
+fn has_one(rt: &impl Abort, items: &[Item], event: &Event) {
+    let mut left = event.records.iter();
+    for item in items {
+        if item.event == event.number {
+            assert_eq!(rt;
+                Some(item.what),
+                left.next().copied(),
+                "at {}",
+                event.number
+            );
+            assert_eq!(rt; item.proc.0, event.p, "at {}", event.number);
+        }
+    }
+    assert!(rt; left.next().is_none(), "at {}", event.number);
+}
+
+// These events of the trace have these records.
+pub(crate) fn has(rt: &impl Abort, trace: &Trace, events: &[Event]) {
+    for event in events {
+        has_one(rt, trace.items(), event);
+    }
+}
+
+// Whether the run goes on, with a turn of the processor.
+fn can_turn<U: UserLevel>(core: &Core<U>, p: ProcNo) -> bool
+    ensures within { IsTrue result → p.0 < (machine core.now).workload.processors }
+    ensures goes_on { IsTrue result → end_of U.calls core.now.budget (machine core.now) ≡ None }
+{
+    p.0 < core.workload().processors() && core.end().is_none()
+}
+
+// The processor has its turn, in the next event.
+pub(crate) fn turn<U: UserLevel>(rt: &impl Abort, core: &mut Core<U>, p: u16) -> Result<(), Fail> {
+    let p = ProcNo(p);
+    assert!(rt; can_turn(core, p), "at event {}", core.events());
+    core.turn(p)?;
+    Ok(())
+}
+
+// So many turns of the processor.
+pub(crate) fn turns<U: UserLevel>(
+    rt: &impl Abort,
+    core: &mut Core<U>,
+    p: u16,
+    n: u16,
+) -> Result<(), Fail> {
+    for _turn in 0..n {
+        turn(rt, core, p)?;
+    }
+    Ok(())
+}
+
+// Whether the next instructions of a program are local.
+fn are_local(program: &Program, n: u16, pc: u16, regs: Regs) -> bool
+    ensures { IsTrue result → AreLocal program.now n (record { pc = pc; regs = regs }) }
+{
+    if n == 0 {
+        return true;
+    }
+    if pc >= program.len() {
+        return false;
+    }
+    let mut place = pc;
+    let mut after = regs;
+    local(program, &mut after, &mut place) == Local::Went && are_local(program, n - 1, place, after)
+}
+
+// Whether a context stands at an instruction of its thread, and the next ones are local.
+fn are_next_local(workload: &Workload, n: u16, state: SeatState) -> bool
+    ensures { IsTrue result → AreNextLocal workload.now n state }
+{
+    let SeatState::Local {
+        space,
+        program,
+        pc,
+        regs,
+        ..
+    } = state
+    else {
+        return false;
+    };
+    let Some(def) = workload.spaces().get(usize::from(space.0)) else {
+        return false;
+    };
+    let Some(program) = def.programs().get(usize::from(program)) else {
+        return false;
+    };
+    are_local(program, n, pc, regs)
+}
+
+// Whether so many instructions can be committed.
+fn can_commit<U: UserLevel>(core: &Core<U>, p: ProcNo, n: u16) -> bool
+    requires { p.0 < (machine core.now).workload.processors }
+    ensures low { IsTrue result → line_of (machine core.now).kernel p ≡ None }
+    ensures next { IsTrue result → AreNextLocal (machine core.now).workload n
+        (local_on U.calls (machine core.now) p) }
+{
+    core.line(p).is_none() && are_next_local(core.workload(), n, core.context(p))
+}
+
+// So many instructions are committed, as far as budget and slice go; answers how many.
+pub(crate) fn commit<U: UserLevel>(
+    rt: &impl Abort,
+    core: &mut Core<U>,
+    p: u16,
+    n: u16,
+) -> Result<u16, Fail> {
+    let p = ProcNo(p);
+    assert!(rt; n >= 1 && can_turn(core, p), "at event {}", core.events());
+    assert!(rt; can_commit(core, p, n), "at event {}", core.events());
+    Ok(core.commit(p, n)?)
+}
