@@ -12,11 +12,11 @@ use crate::reading::{migrated_text, read_workload};
 use crate::writing::{write_last_line, write_trace, written};
 use sa_base::MAX_EVENTS;
 use sa_instr::MAX_SLICE;
-use sa_spaces::Workload;
 use sa_io::{Sink, Source};
 use sa_package::FastThreads;
 use sa_run::run;
 use sa_sched::Kind;
+use sa_spaces::Workload;
 use sa_words::ScheduleWord;
 use std::alloc::{AllocError, Global};
 

@@ -9,8 +9,8 @@ use crate::input::{INPUT_LIMIT, read_input};
 use crate::outcome::Status;
 use sa_base::{Bad, Cause};
 use sa_instr::MAX_SLICE;
-use sa_spaces::Workload;
 use sa_io::Source;
+use sa_spaces::Workload;
 use sa_workload::{print, read, read_one};
 use std::alloc::Global;
 

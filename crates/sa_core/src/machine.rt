@@ -18,8 +18,8 @@ ghost use Rattle.sa_core.specs.Needs.{ByFresh, Welcomes, IsNext, Asks};
 use crate::users::Users;
 use sa_abstract::{SeatState, Step, UserLevel};
 use sa_base::{Item, MAX_EVENTS, ProcNo, Record, SpaceNo, Stopped, Trace};
-use sa_spaces::Workload;
 use sa_kernel::{ENTRY_ITEMS, Entry, Given, Kernel};
+use sa_spaces::Workload;
 use std::alloc::{AllocError, Global};
 
 /// The items of an event at most, but for notices told and activations given back: four of a step, and an entry's.

@@ -4,7 +4,7 @@ use Rattle.std.specs.Prelude.{slice_get, filter, Bool, if◌then◌else◌, Opti
 use Rattle.std.proofs.lemmas.Option.{none-some, same_Some}
 use Rattle.sa_base.specs.declared.number.SpaceNo.{SpaceNo}
 use Rattle.sa_base.specs.declared.record.Item.{Item}
-use Rattle.sa_instr.specs.Workload.{WorkloadView}
+use Rattle.sa_spaces.specs.Workload.{WorkloadView}
 use Rattle.sa_share.specs.Share.{share_at}
 use Rattle.sa_share.specs.Rounds.{shares_of}
 use Rattle.sa_assign.specs.Aims.{aimed, missing, changes, changes_from, changes_for, aims_after}

@@ -11,7 +11,7 @@ use Rattle.sa_base.specs.declared.limits.TheConstants.{BULK_RETURN}
 use Rattle.sa_base.specs.declared.record.Record.{Record}
 use Rattle.sa_base.specs.declared.record.Record.TheVariants.{Ins, Block, Want, Idle}
 use Rattle.sa_base.specs.declared.record.Item.{Item}
-use Rattle.sa_instr.specs.Workload.{WorkloadView}
+use Rattle.sa_spaces.specs.Workload.{WorkloadView}
 use Rattle.sa_laws.specs.Event.{Event}
 use Rattle.sa_laws.specs.State.{State, Runner, runner_on, space_at, thread_at}
 use Rattle.sa_laws.specs.Life.{Life, has_lock, some_lock}

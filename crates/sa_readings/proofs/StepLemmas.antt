@@ -12,7 +12,7 @@ use Rattle.sa_base.specs.declared.record.Record.{Record}
 use Rattle.sa_base.specs.declared.record.Record.TheVariants.{Ins, Run, Stop, Block, Unblock, Cont, Back, Ready, Up, Told, Move, Want, Fetch, Fetched, GiveBack}
 use Rattle.sa_base.specs.declared.record.Item.{Item}
 use Rattle.sa_base.specs.declared.limits.TheConstants.{PACKAGE_PAGE}
-use Rattle.sa_instr.specs.Workload.{WorkloadView}
+use Rattle.sa_spaces.specs.Workload.{WorkloadView}
 use Rattle.sa_devices.specs.declared.kind.IoKind.TheVariants.{Page, Upcall}
 use Rattle.sa_devices.specs.Ios.{Io}
 use Rattle.sa_laws.specs.declared.place.Place.{Place}

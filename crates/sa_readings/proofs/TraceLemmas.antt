@@ -11,8 +11,8 @@ use Rattle.sa_base.specs.declared.number.ProcNo.{ProcNo}
 use Rattle.sa_base.specs.declared.record.Record.{Record}
 use Rattle.sa_base.specs.declared.record.Item.{Item}
 use Rattle.sa_base.specs.Items.{items_at}
-use Rattle.sa_instr.specs.Workload.{WorkloadView, IsWorkload, IsEviction}
-use Rattle.sa_instr.specs.Space.{IsSpace}
+use Rattle.sa_spaces.specs.Workload.{WorkloadView, IsWorkload, IsEviction}
+use Rattle.sa_spaces.specs.Space.{IsSpace}
 use Rattle.sa_devices.specs.Pages.{opening_pages}
 use Rattle.sa_laws.specs.Event.{Event, items_of, events_of}
 use Rattle.sa_laws.specs.State.{opening_space, no_space}

@@ -14,7 +14,7 @@ use Rattle.sa_base.specs.declared.record.Note.TheVariants as note
 use Rattle.sa_base.specs.declared.record.Record.{Record}
 use Rattle.sa_base.specs.declared.record.Record.TheVariants.{Stop, Block, Unblock, Up, Told, Want, GiveBack, Take}
 use Rattle.sa_base.specs.declared.record.Item.{Item}
-use Rattle.sa_instr.specs.Workload.{WorkloadView, IsWorkload}
+use Rattle.sa_spaces.specs.Workload.{WorkloadView, IsWorkload}
 use Rattle.sa_laws.specs.State.{State, space_at}
 use Rattle.sa_laws.specs.Life.{Life, some_lock}
 use Rattle.sa_laws.specs.Readings.{Readings, running_of, life_of, demand_of, untold_of, taken_of, counts, has_hand, life_if, life_on, ready_of}

@@ -1,7 +1,7 @@
 -- What is due at a closing after an event: nothing, where nothing changed since.
 use Rattle.std.specs.Prelude.{◌≡◌, ℕ, ◌+◌, List, [], Some, slice_get}
 use Rattle.sa_base.specs.declared.record.Item.{Item}
-use Rattle.sa_instr.specs.Workload.{WorkloadView}
+use Rattle.sa_spaces.specs.Workload.{WorkloadView}
 use Rattle.sa_laws.specs.Event.{Event, events_of}
 use Rattle.sa_laws.specs.Readings.{Readings}
 use Rattle.sa_laws.specs.Closing.{first_space, wants_due, aims_due}

@@ -7,7 +7,7 @@ use Rattle.sa_base.specs.declared.record.Record.{Record}
 use Rattle.sa_base.specs.declared.record.Record.TheVariants.{Ins, Block, Unblock, Fetch, Fetched}
 use Rattle.sa_base.specs.declared.record.Item.{Item}
 use Rattle.sa_base.specs.declared.limits.TheConstants.{PACKAGE_PAGE}
-use Rattle.sa_instr.specs.Workload.{WorkloadView}
+use Rattle.sa_spaces.specs.Workload.{WorkloadView}
 use Rattle.sa_devices.specs.declared.kind.IoKind.TheVariants.{Plain, Page, Upcall}
 use Rattle.sa_devices.specs.Ios.{Io}
 use Rattle.sa_laws.specs.State.{State, instr_of, next_instr}

@@ -8,7 +8,7 @@ use Rattle.sa_base.specs.declared.record.Note.TheVariants.{Preempted, Blocked, U
 use Rattle.sa_base.specs.declared.record.Record.{Record}
 use Rattle.sa_base.specs.declared.record.Record.TheVariants.{Stop, Block, Unblock, Told}
 use Rattle.sa_base.specs.declared.record.Item.{Item}
-use Rattle.sa_instr.specs.Workload.{WorkloadView}
+use Rattle.sa_spaces.specs.Workload.{WorkloadView}
 use Rattle.sa_laws.specs.State.{space_at, active_threads}
 use Rattle.sa_laws.specs.Record.{same_note}
 use Rattle.sa_readings.specs.Along.{along}

@@ -7,7 +7,7 @@ use Rattle.sa_base.specs.declared.number.ActNo.{ActNo}
 use Rattle.sa_base.specs.declared.record.Record.{Record}
 use Rattle.sa_base.specs.declared.record.Record.TheVariants.{Stop, Block, Up}
 use Rattle.sa_base.specs.declared.record.Item.{Item}
-use Rattle.sa_instr.specs.Workload.{WorkloadView}
+use Rattle.sa_spaces.specs.Workload.{WorkloadView}
 use Rattle.sa_laws.specs.State.{State, opening_state}
 use Rattle.sa_laws.specs.Machine.{changed}
 use Rattle.sa_legal.specs.Words.{last_said}

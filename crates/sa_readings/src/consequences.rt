@@ -1,7 +1,7 @@
 //! What follows from the laws of a legal run after each event of it. No function here does anything.
 ghost use Rattle.std.specs.Prelude.{List};
 ghost use Rattle.sa_base.specs.declared.record.Item.{Item};
-ghost use Rattle.sa_instr.specs.Workload.{WorkloadView};
+ghost use Rattle.sa_spaces.specs.Workload.{WorkloadView};
 ghost use Rattle.sa_laws.specs.Rules.{fast_threads};
 ghost use Rattle.sa_legal.specs.Legal.{IsLegal};
 ghost use Rattle.sa_readings.specs.Closings.{ClosingsAddNothing};

@@ -1,7 +1,7 @@
 //! What the fold reads off a legal run is what the words say, at each moment of it. No function here does anything.
 ghost use Rattle.std.specs.Prelude.{List};
 ghost use Rattle.sa_base.specs.declared.record.Item.{Item};
-ghost use Rattle.sa_instr.specs.Workload.{WorkloadView, IsWorkload};
+ghost use Rattle.sa_spaces.specs.Workload.{WorkloadView, IsWorkload};
 ghost use Rattle.sa_laws.specs.Rules.{fast_threads};
 ghost use Rattle.sa_legal.specs.Legal.{IsLegal};
 ghost use Rattle.sa_readings.specs.Reads.{AreRead, AreReadAtEvents, MachineIsRead, MarksAreRead, LinesAreRead, LoadsAreRead, HoldingsAreRead, ReadyAreRead, TakenAreRead, IosAreRead, PagesAreRead, StepsAreRead, OwnEventIsRead, LivesHaveSpaces};

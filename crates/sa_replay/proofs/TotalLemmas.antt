@@ -6,7 +6,7 @@ use Rattle.std.proofs.lemmas.List.{length-map}
 use Rattle.std.proofs.lemmas.List.Sums.{sum_by-cons}
 use Rattle.std.proofs.lemmas.List.Folds.{sum_by-zero}
 use Rattle.sa_base.specs.declared.limits.TheConstants.{MAX_SPACES}
-use Rattle.sa_instr.specs.Space.{SpaceView}
+use Rattle.sa_spaces.specs.Space.{SpaceView}
 use Rattle.sa_laws.specs.State.{SpaceState, opening_space}
 use Rattle.sa_laws.specs.Ends.{are_done, are_at_rest}
 use Rattle.sa_replay.specs.Spaces.{live_in, restless_in, IsCounted}

@@ -1,8 +1,8 @@
 -- What always holds of a replay.
 use Rattle.std.specs.Prelude.{◌≡◌, ℕ, ◌<◌, List, Option, length, slice_index_or}
 use Rattle.sa_base.specs.declared.number.SpaceNo.{SpaceNo}
-use Rattle.sa_instr.specs.Space.{SpaceView}
-use Rattle.sa_instr.specs.Workload.{WorkloadView}
+use Rattle.sa_spaces.specs.Space.{SpaceView}
+use Rattle.sa_spaces.specs.Workload.{WorkloadView}
 use Rattle.sa_laws.specs.State.{SpaceState, Runner, no_space}
 use Rattle.sa_threads.specs.Running.{HasDeclared}
 use Rattle.sa_replay.specs.Spaces.{no_threads, place_in}

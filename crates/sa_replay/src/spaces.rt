@@ -8,8 +8,8 @@ ghost use Rattle.sa_threads.specs.Space.{HasRoom};
 ghost use Rattle.sa_replay.specs.Spaces.{space_in, with_space_in, HasRun};
 
 use sa_base::{MAX_SPACES, SpaceNo, ThreadNo};
-use sa_instr::SpaceDef;
 use sa_laws::Place;
+use sa_spaces::SpaceDef;
 use sa_threads::{SpaceThreads, ThreadState, moved};
 use std::alloc::{AllocError, Global};
 use std::marker::Model;

@@ -5,9 +5,9 @@ ghost use Rattle.sa_run.specs.Run.{RunsTo, RunsSoFar};
 use sa_abstract::UserLevel;
 use sa_base::{End, MAX_EVENTS, Trace};
 use sa_core::Core;
-use sa_spaces::Workload;
 use sa_sched::laws::turns_are_in_order;
 use sa_sched::{Kind, Schedule};
+use sa_spaces::Workload;
 use std::alloc::Global;
 
 /// A run that ended.

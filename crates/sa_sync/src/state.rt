@@ -6,8 +6,8 @@ ghost use Rattle.sa_sync.specs.Calls.{locked, unlocked, waited, signalled, joine
 use crate::answer::SyncAnswer;
 use sa_base::{MAX_THREADS, ThreadNo};
 use sa_instr::MAX_MUTEXES;
-use sa_spaces::SpaceDef;
 use sa_links::Links;
+use sa_spaces::SpaceDef;
 use std::alloc::{AllocError, Global};
 use std::marker::Model;
 

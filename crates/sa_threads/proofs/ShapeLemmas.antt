@@ -10,7 +10,7 @@ use Rattle.sa_instr.specs.declared.instr.Instr.TheVariants.{Compute, Set, Add, S
 use Rattle.sa_instr.specs.declared.instr.Reg.{Reg}
 use Rattle.sa_instr.specs.Instr.{NamesDeclared}
 use Rattle.sa_instr.specs.Regs.{reg_value}
-use Rattle.sa_instr.specs.Space.{SpaceView}
+use Rattle.sa_spaces.specs.Space.{SpaceView}
 use Rattle.sa_links.specs.Lists.{count_in}
 use Rattle.sa_links.proofs.Counting.{count_set}
 use Rattle.sa_sync.specs.declared.answer.SyncAnswer.{SyncAnswer}

@@ -6,7 +6,7 @@ use Rattle.sa_base.specs.declared.limits.TheConstants.{MAX_THREADS}
 use Rattle.sa_instr.specs.declared.instr.Instr.{Instr}
 use Rattle.sa_instr.specs.declared.instr.Instr.TheVariants.{End}
 use Rattle.sa_instr.specs.Instr.{NamesDeclared}
-use Rattle.sa_instr.specs.Space.{SpaceView}
+use Rattle.sa_spaces.specs.Space.{SpaceView}
 use Rattle.sa_sync.specs.Sync.{Sync, WaitsNowhere}
 use Rattle.sa_laws.specs.State.{Thread, SpaceState}
 use Rattle.sa_threads.specs.Running.{instr_in, IsAt, HasDeclared, HasCount}

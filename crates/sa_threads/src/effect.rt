@@ -10,8 +10,9 @@ ghost use Rattle.sa_threads.specs.Space.{space, named, CanDo, HasRoom};
 use crate::table::Threads;
 use crate::thread::ThreadState;
 use sa_base::{MAX_THREADS, ThreadNo};
-use sa_instr::{Instr, Reg, SpaceDef};
+use sa_instr::{Instr, Reg};
 use sa_laws::Place;
+use sa_spaces::SpaceDef;
 use sa_sync::{SyncAnswer, SyncState};
 
 // What a fork gives where as many threads were made as a space can have.

@@ -12,7 +12,10 @@ use crate::cause::Refusal;
 use crate::line_words::{Words, keyword_and_number, last_number};
 use crate::stage::{Header, SpaceDraft, Stage, after_sem};
 use sa_base::Cause;
-use sa_instr::{LAST_PAGE, MAX_CELLS, MAX_INSTRUCTIONS, MAX_MUTEXES, MAX_PATIENCE, MAX_PRIORITY, MAX_PROGRAMS, MAX_SEMAPHORES, MAX_START};
+use sa_instr::{
+    LAST_PAGE, MAX_CELLS, MAX_INSTRUCTIONS, MAX_MUTEXES, MAX_PATIENCE, MAX_PRIORITY, MAX_PROGRAMS,
+    MAX_SEMAPHORES, MAX_START,
+};
 use sa_spaces::SpaceDef;
 use std::alloc::Global;
 

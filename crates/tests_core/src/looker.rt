@@ -5,7 +5,7 @@ ghost use Rattle.sa_abstract.specs.Keeps.{IsTelling};
 
 use sa_abstract::{SeatState, Step, Tally, UserLevel};
 use sa_base::{Item, Note, Record, Seen, SpaceNo, Stopped, ThreadNo, Trace};
-use sa_instr::SpaceDef;
+use sa_spaces::SpaceDef;
 use std::alloc::{AllocError, Global};
 
 /// The looks that are left, 0 to 64.

@@ -1,5 +1,5 @@
 use Rattle.std.proofs.Common.{◌≡◌, List, None, map, replicate, ap, ◌∙◌, rules}
-use Rattle.sa_instr.specs.Space.{SpaceView}
+use Rattle.sa_spaces.specs.Space.{SpaceView}
 use Rattle.sa_laws.specs.State.{opening_space}
 use Rattle.sa_replay.proofs.ReplayLemmas.{opened_kept}
 use Rattle.sa_replay.proofs.replay.Replay.start.Goals as goal
