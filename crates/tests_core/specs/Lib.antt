@@ -1,2 +1,0 @@
-pub mod Looker
-pub mod Kept
