@@ -1,8 +1,8 @@
 -- How many spaces have something left to do.
-use Rattle.std.proofs.Common.{◌≡◌, ℕ, ◌≤◌, Bool, true, false, not, cond, eqb, List, [], ◌∷◌, length, map, refl, sym, ap, ◌∙◌, arith}
+use Rattle.std.proofs.Common.{◌≡◌, ℕ, ◌≤◌, Bool, true, false, not, cond, eqb, List, [], ◌∷◌, length, map, refl, sym, ap, ◌∙◌, arith, ◌<◌, ◌+◌, ◌++◌, take, get_or}
 use Rattle.std.specs.List.{list_all, count_by}
 use Rattle.std.proofs.Math.Path.{fun_ext}
-use Rattle.std.proofs.lemmas.List.{length-map}
+use Rattle.std.proofs.lemmas.List.{length-map, map_more}
 use Rattle.std.proofs.lemmas.List.Sums.{sum_by-cons}
 use Rattle.std.proofs.lemmas.List.Folds.{sum_by-zero}
 use Rattle.sa_base.specs.declared.limits.TheConstants.{MAX_SPACES}
@@ -40,3 +40,12 @@ counted-opening defs few = record {
   lives = sym (all_count are_done defs (λ def. refl));
   restless_ones = sym (all_count are_at_rest defs (λ def. refl));
 }
+
+-- one space more
+pub opening-more : (defs : List SpaceView) (i : ℕ) (def : SpaceView) (x : SpaceState) (old new : List SpaceState) → i < length defs → def ≡ get_or defs i def → x ≡ opening_space def → old ≡ map opening_space (take i defs)
+    → new ≡ old ++ x ∷ [] → new ≡ map opening_space (take (i + 1) defs)
+opening-more defs i def x old new within is made before pushed =
+    let same : x ≡ opening_space (get_or defs i def) = made ∙ ap opening_space is in
+    let all : old ++ x ∷ [] ≡ map opening_space (take i defs) ++ opening_space (get_or defs i def) ∷ [] =
+    ap (λ (xs : List SpaceState). xs ++ x ∷ []) before ∙ ap (λ (y : SpaceState). map opening_space (take i defs) ++ y ∷ []) same in
+    pushed ∙ all ∙ sym (map_more opening_space defs i def within)
