@@ -32,11 +32,11 @@ use Rattle.sa_readings.proofs.TurnLemmas.{is_calm, AllCalm, Turned, turn-turned}
 use Rattle.sa_readings.proofs.LowLemmas.{LowAimed, Fine, AllLeave, fine-step, lines-length, append-records, each-behind}
 use Rattle.sa_readings.proofs.RangeLemmas.{parts-take}
 
-and-left : (a b : Bool) → (a && b) ≡ true → a ≡ true
+pub and-left : (a b : Bool) → (a && b) ≡ true → a ≡ true
 and-left true b is = refl
 and-left false b is = absurd (cc)
 
-and-right : (a b : Bool) → (a && b) ≡ true → b ≡ true
+pub and-right : (a b : Bool) → (a && b) ≡ true → b ≡ true
 and-right true b is = is
 and-right false b is = absurd (cc)
 
@@ -59,7 +59,7 @@ calm-kept w e p r (x ∷ xs) calm =
     record { owners = more.owners ∙ one.owners; aims = more.aims ∙ one.aims }
 
 -- behind its own part an event's processor is aimed at by its owner
-own-final : (w : WorkloadView) (e : ℕ) (p : ProcNo) (r : Readings) (xs : List Record) → p.0 < length r.state.owners → p.0 < length r.aims → Turned p (owner_of r p) (aim_of r p) xs
+pub own-final : (w : WorkloadView) (e : ℕ) (p : ProcNo) (r : Readings) (xs : List Record) → p.0 < length r.state.owners → p.0 < length r.aims → Turned p (owner_of r p) (aim_of r p) xs
     → aim_of (after_records w e p r xs) p ≡ owner_of (after_records w e p r xs) p
 own-final w e p r xs owners aims (inl same) =
     let kept = calm-kept w e p r xs same.0 in ap (λ as'. get_or as' p.0 None) kept.aims ∙ same.1 ∙ sym (ap (λ os. get_or os p.0 None) kept.owners)
@@ -93,11 +93,11 @@ calm-leave p q (Move old new ∷ xs) calm = absurd (cc)
 calm-leave p q (Aim t s ∷ xs) calm = absurd (cc)
 calm-leave p q (x ∷ xs) calm = (tt, calm-leave p q xs (and-right (is_calm x) (list_all is_calm xs) calm))
 
-leave-append : (p q : ProcNo) (xs ys : List Record) → AllLeave p q xs → AllLeave p q ys → AllLeave p q (xs ++ ys)
+pub leave-append : (p q : ProcNo) (xs ys : List Record) → AllLeave p q xs → AllLeave p q ys → AllLeave p q (xs ++ ys)
 leave-append p q [] ys left right = right
 leave-append p q (x ∷ xs) ys left right = (left.0, leave-append p q xs ys left.1 right)
 
-turned-leave : (p q : ProcNo) (owner aim : Option SpaceNo) (xs : List Record) → q.0 ≢ p.0 → Turned p owner aim xs → AllLeave p q xs
+pub turned-leave : (p q : ProcNo) (owner aim : Option SpaceNo) (xs : List Record) → q.0 ≢ p.0 → Turned p owner aim xs → AllLeave p q xs
 turned-leave p q owner aim xs apart (inl same) = calm-leave p q xs same.0
 turned-leave p q owner aim xs apart (inr (inl moves)) =
     subst (AllLeave p q) (sym moves.is) (leave-append p q moves.before _ (calm-leave p q moves.before moves.calm) (apart, calm-leave p q moves.rest moves.calm_rest))
@@ -112,7 +112,7 @@ raising-leave p q (Line t ∷ xs) is = (tt, raising-leave p q xs is)
 raising-leave p q (Aim t None ∷ xs) is = absurd is
 raising-leave p q (x ∷ xs) is = absurd is
 
-closing-leave : (p q : ProcNo) (xs : List Record) → IsClosing xs → AllLeave p q xs
+pub closing-leave : (p q : ProcNo) (xs : List Record) → IsClosing xs → AllLeave p q xs
 closing-leave p q (Want s m ∷ xs) is = (tt, closing-leave p q xs is)
 closing-leave p q [] is = tt
 closing-leave p q (Aim t (Some s) ∷ xs) is = (tt, raising-leave p q xs is)
@@ -147,7 +147,7 @@ pub record HasProcs (w : WorkloadView) (r : Readings) : Type 0 where
   pub aims : length r.aims ≡ w.processors
   pub lines : length r.lines ≡ w.processors
 
-procs-records : (w : WorkloadView) (e : ℕ) (p : ProcNo) (r : Readings) (xs : List Record) → HasProcs w r → HasProcs w (after_records w e p r xs)
+pub procs-records : (w : WorkloadView) (e : ℕ) (p : ProcNo) (r : Readings) (xs : List Record) → HasProcs w r → HasProcs w (after_records w e p r xs)
 procs-records w e p r [] has = has
 procs-records w e p r (x ∷ xs) has = procs-records w e p (after_record w e p r x) xs (record {
   owners = ap length (owners-changed w p r.state x) ∙ owners-length r.state.owners p x ∙ has.owners;
@@ -155,7 +155,7 @@ procs-records w e p r (x ∷ xs) has = procs-records w e p (after_record w e p r
   lines = lines-length e r.lines x ∙ has.lines;
 })
 
-procs-begun : (w : WorkloadView) (e : Event) (r : Readings) → HasProcs w r → HasProcs w (begun w e r)
+pub procs-begun : (w : WorkloadView) (e : Event) (r : Readings) → HasProcs w r → HasProcs w (begun w e r)
 procs-begun w e r has = record { owners = has.owners; aims = has.aims; lines = length-set r.lines e.proc.0 None ∙ has.lines }
 
 pub record LowAt (w : WorkloadView) (r : Readings) : Type 0 where
@@ -194,7 +194,7 @@ in-parts w r e law from aimed = one e.records refl where
         closes = subst (λ ys. IsClosing (closing_part ys)) is (turns.closing from);
       }
 
-begun-aimed : (w : WorkloadView) (r : Readings) (e : Event) (q : ProcNo) → q.0 ≢ e.proc.0 → LowAimed r q → LowAimed (begun w e r) q
+pub begun-aimed : (w : WorkloadView) (r : Readings) (e : Event) (q : ProcNo) → q.0 ≢ e.proc.0 → LowAimed r q → LowAimed (begun w e r) q
 begun-aimed w r e q apart ok = λ is. ok (sym (get_or-set_other r.lines e.proc.0 q.0 None None apart) ∙ is)
 
 aimed-event : (w : WorkloadView) (r : Readings) (e : Event) (q : ProcNo) → LowAt w r → IsLawful fast_threads w r e → q.0 < w.processors → LowAimed (behind_all w e r) q
@@ -242,7 +242,7 @@ absent (suc n) zero d = refl
 absent (suc n) (suc k) d = absent n k d
 
 -- the opening
-low-first : (w : WorkloadView) (e : Event) → IsLawful fast_threads w (opening_readings w) e → LowAt w (after_event is_inside w (opening_readings w) e)
+pub low-first : (w : WorkloadView) (e : Event) → IsLawful fast_threads w (opening_readings w) e → LowAt w (after_event is_inside w (opening_readings w) e)
 low-first w e law =
     let start = opening_readings w in
     let procs : HasProcs w start = record { owners = length-replicate w.processors None; aims = length-replicate w.processors None; lines = length-replicate w.processors None } in
@@ -258,13 +258,13 @@ low-first w e law =
           (inl (λ is. absent w.processors q.0 None ∙ sym (absent w.processors q.0 None)));
     }
 
-low-along : (w : WorkloadView) (r : Readings) (events : List Event) → LowAt w r → AreLawful fast_threads w r events → (n : ℕ) → LowAt w (after_events is_inside w r (take n events))
+pub low-along : (w : WorkloadView) (r : Readings) (events : List Event) → LowAt w r → AreLawful fast_threads w r events → (n : ℕ) → LowAt w (after_events is_inside w r (take n events))
 low-along w r [] at law zero = at
 low-along w r [] at law (suc n) = at
 low-along w r (e ∷ es) at law zero = at
 low-along w r (e ∷ es) at law (suc n) = low-along w (after_event is_inside w r e) es (low-next w r e at law.0) law.1 n
 
-low-after : (w : WorkloadView) (events : List Event) → AreLawful fast_threads w (opening_readings w) events → (n : ℕ) (e : Event) → slice_get events n ≡ Some e
+pub low-after : (w : WorkloadView) (events : List Event) → AreLawful fast_threads w (opening_readings w) events → (n : ℕ) (e : Event) → slice_get events n ≡ Some e
     → LowAt w (after_events is_inside w (opening_readings w) (take (n + 1) events))
 low-after w [] law n e at = absurd (none-some e at)
 low-after w (x ∷ xs) law n e at =

@@ -19,3 +19,4 @@ pub mod ClosingLemmas
 pub mod LowLemmas
 pub mod TurnLemmas
 pub mod FrontLemmas
+pub mod DueLemmas
