@@ -39,13 +39,13 @@ nothing-due w r e law =
     }
 
 -- what is read before the next event
-take-next : (events : List Event) (n : ℕ) (e : Event) → slice_get events n ≡ Some e → take (n + 1) events ≡ take n events ++ e ∷ []
+pub take-next : (events : List Event) (n : ℕ) (e : Event) → slice_get events n ≡ Some e → take (n + 1) events ≡ take n events ++ e ∷ []
 take-next [] n e at = absurd (none-some e at)
 take-next (x ∷ xs) zero e at = ap (λ y. y ∷ []) (same_Some x e at)
 take-next (x ∷ xs) (suc n) e at =
     ap (λ (k : ℕ). take k (x ∷ xs)) (let k : suc n + 1 ≡ suc (n + 1) = omega arith in k) ∙ ap (λ ys. x ∷ ys) (take-next xs n e at)
 
-after-append : (w : WorkloadView) (r : Readings) (es : List Event) (e : Event) → after_events is_inside w r (es ++ e ∷ []) ≡ after_event is_inside w (after_events is_inside w r es) e
+pub after-append : (w : WorkloadView) (r : Readings) (es : List Event) (e : Event) → after_events is_inside w r (es ++ e ∷ []) ≡ after_event is_inside w (after_events is_inside w r es) e
 after-append w r [] e = refl
 after-append w r (x ∷ es) e = after-append w (after_event is_inside w r x) es e
 

@@ -16,3 +16,7 @@ pub mod AfterLemmas
 pub mod RangeLemmas
 pub mod ReadingLemmas
 pub mod ClosingLemmas
+pub mod LowLemmas
+pub mod TurnLemmas
+pub mod FrontLemmas
+pub mod DueLemmas

@@ -103,7 +103,7 @@ take-head zero xs y zs is = absurd (cc)
 take-head (suc n) [] y zs is = absurd (cc)
 take-head (suc n) (x ∷ xs) y zs is = let same : x ≡ y = cc in (xs, ap (λ z. z ∷ xs) same)
 
-head-of : (f : Record → Bool) (xs : List Record) (y : Record) (zs : List Record) → take_while f xs ≡ y ∷ zs → (ys : List Record) × (xs ≡ y ∷ ys)
+pub head-of : (f : Record → Bool) (xs : List Record) (y : Record) (zs : List Record) → take_while f xs ≡ y ∷ zs → (ys : List Record) × (xs ≡ y ∷ ys)
 head-of f xs y zs is = take-head (prefix_len f xs) xs y zs is
 
 -- where a processor goes on, the head moves to the aim
@@ -168,7 +168,7 @@ block-moves n there p r s xs goes is = move-passage n (take_while is_own xs) is
           unwrap None = None
           unwrap (Some o) = o
 
-while-more : (f : Record → Bool) (x : Record) (xs : List Record) → f x ≡ true → take_while f (x ∷ xs) ≡ x ∷ take_while f xs
+pub while-more : (f : Record → Bool) (x : Record) (xs : List Record) → f x ≡ true → take_while f (x ∷ xs) ≡ x ∷ take_while f xs
 while-more f x xs is = ap (λ b. take (cond b (1 + prefix_len f xs) 0) (x ∷ xs)) is ∙ ap (λ k. take k (x ∷ xs)) (one-add (prefix_len f xs))
 
 none-moves : (n : ℕ) (x : Record) (xs : List Record) → EachMove n (x ∷ []) → xs ≡ [] → EachMove n (x ∷ xs)
@@ -242,7 +242,7 @@ turn-moves n w e p r x xs is gives = due (due_of e r.under_way) is where
   due (Some io) (inl done) = over-moves n io.kind _ done
   due (Some io) (inr local) = in-moves n w e p r (running_of r p) (life_on r p) x xs local.1 gives
 
-parts-take : (n : ℕ) (xs : List Record) → take n xs ++ drop (length (take n xs)) xs ≡ xs
+pub parts-take : (n : ℕ) (xs : List Record) → take n xs ++ drop (length (take n xs)) xs ≡ xs
 parts-take zero [] = refl
 parts-take (suc n) [] = refl
 parts-take zero (x ∷ xs) = refl

@@ -4,11 +4,23 @@ ghost use Rattle.sa_base.specs.declared.record.Item.{Item};
 ghost use Rattle.sa_spaces.specs.Workload.{WorkloadView};
 ghost use Rattle.sa_laws.specs.Rules.{fast_threads};
 ghost use Rattle.sa_legal.specs.Legal.{IsLegal};
-ghost use Rattle.sa_readings.specs.Closings.{ClosingsAddNothing};
+ghost use Rattle.sa_readings.specs.Closings.{ClosingsAddNothing, LowLinesAreAimed, NoLineIsDue};
 
 /// After each event of a legal run no want is due, and no aim while the remainder of the processors begins with the same space: a
 /// closing adds neither where nothing changed since the last one.
 pub fn closings_add_nothing()
     ensures { (w : WorkloadView) (items : List Item) → IsLegal fast_threads w items
         → ClosingsAddNothing w items }
+{}
+
+/// After each event of a legal run a processor whose line is low is aimed at by its owner.
+pub fn low_lines_are_aimed()
+    ensures { (w : WorkloadView) (items : List Item) → IsLegal fast_threads w items
+        → LowLinesAreAimed w items }
+{}
+
+/// After each event of a legal run behind the opening no line is due: a closing adds none where nothing changed since the last one.
+pub fn closings_add_no_line()
+    ensures { (w : WorkloadView) (items : List Item) → IsLegal fast_threads w items
+        → NoLineIsDue w items }
 {}
