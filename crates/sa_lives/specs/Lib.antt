@@ -1,0 +1,4 @@
+pub mod Change
+pub mod Rows
+pub mod Table
+pub mod View
