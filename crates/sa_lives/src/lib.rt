@@ -4,6 +4,7 @@
 #![tactic(auto)]
 
 mod change;
+pub mod laws;
 mod life;
 mod lists;
 mod lives;

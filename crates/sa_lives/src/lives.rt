@@ -7,6 +7,7 @@ ghost use Rattle.sa_laws.specs.Turns.{AnotherHas};
 ghost use Rattle.sa_laws.specs.Locks.{HoldsLock};
 ghost use Rattle.sa_lives.specs.Change.{stepped_by, arisen_by};
 ghost use Rattle.sa_lives.specs.Table.{SomeIsIn};
+ghost use Rattle.sa_lives.specs.Recorded.{recorded, taken_lock};
 ghost use Rattle.sa_lives.specs.View.{lives_of, no_lives, running_at, life_if_at, space_at, taken_at, untold_at, changed, changed_on, begun, stopped, blocked, unblocked, told, given_back, untold_threads, thread_of_note, must_be_told, noted, passed};
 
 use crate::change::{Change, Stepped};
@@ -14,7 +15,7 @@ use crate::life::KeptLife;
 use crate::lists::{Row, add, no_rows, remove_act, remove_note, row_at, undo};
 use crate::lock::ListLock;
 use crate::table::Table;
-use sa_base::{ActNo, BULK_RETURN, Note, ProcNo, SpaceNo, ThreadNo};
+use sa_base::{ActNo, BULK_RETURN, Note, ProcNo, Record, SpaceNo, ThreadNo};
 use std::alloc::{AllocError, Global};
 use std::marker::Model;
 
@@ -314,6 +315,35 @@ impl Lives {
         self.table.end(a);
     }
 
+    /// What a record of the processor does to the lives. `roused` are the threads that the record's instruction forks or
+    /// wakes; `for_push` says whether the hand of the running life counts a thread, at a take. A record of any other kind
+    /// changes nothing.
+    pub fn read(&mut self, p: ProcNo, what: Record, roused: &[ThreadNo], for_push: bool) -> Result<(), AllocError>
+        ensures ok { OnOk result
+            (lives_of self.new ≡ recorded roused.now for_push p what (lives_of self.old)) }
+        ensures err { OnErr result (lives_of self.new ≡ lives_of self.old) }
+    {
+        match what {
+            Record::Ins(..) => self.rouse(p, roused),
+            Record::Run(_, t) => self.run(p, t),
+            Record::Stop(s, t, a) => self.stop(p, s, t, a),
+            Record::Block(s, t, a, _) => self.block(p, s, t, a),
+            Record::Unblock(s, t, a) => self.unblock(s, t, a),
+            Record::Cont(..) => self.cont(p),
+            Record::Back(_, t) => self.back(p, t),
+            Record::Ready(_, t) => self.ready(p, t),
+            Record::Take(_, l, t) => self.take(p, lock_at(p, l, t, for_push)),
+            Record::Free(..) => self.free(p),
+            Record::Up(s, a) => self.up(p, s, a),
+            Record::Told(note) => self.tell(note),
+            Record::GiveBack(a) => {
+                self.give_back(a);
+                Ok(())
+            }
+            _ => Ok(()),
+        }
+    }
+
     /// An own event of this life is over, if one is given: the one that ran on the processor before the event.
     pub fn step(&mut self, a: Option<ActNo>, stepped: Stepped) -> Result<(), AllocError>
         ensures ok { OnOk result
@@ -369,5 +399,19 @@ impl Lives {
             undo(&mut self.taken, s);
         }
         passed
+    }
+}
+
+// A lock at its take on the processor.
+fn lock_at(p: ProcNo, l: ProcNo, t: Option<ThreadNo>, for_push: bool) -> ListLock
+    ensures { result ≡ taken_lock p l t for_push }
+{
+    ListLock {
+        list: l,
+        thread: t,
+        for_push,
+        used: false,
+        own: l.0 == p.0,
+        inherited: false,
     }
 }

@@ -1,17 +1,19 @@
 // The lives in use, by their numbers.
-ghost use Rattle.std.specs.Prelude.{◌≡◌, ◌↔◌, IsTrue, IsSome, IfOk, OnOk, OnErr, Some, None, length};
+ghost use Rattle.std.specs.Prelude.{◌≡◌, ◌↔◌, [], false, IsTrue, IsSome, IfOk, OnOk, OnErr, Contains};
 ghost use Rattle.std.specs.Option.{option_copied};
+ghost use Rattle.std.specs.List.{list_any};
 ghost use Rattle.sa_lemmas.specs.Function.{put};
 ghost use Rattle.sa_laws.specs.Life.{bereft};
-ghost use Rattle.sa_laws.specs.Record.{with_life, handed};
+ghost use Rattle.sa_laws.specs.Record.{with_life, handed, locks_one};
 ghost use Rattle.sa_laws.specs.Readings.{Readings, IsLocked};
 ghost use Rattle.sa_laws.specs.Turns.{AnotherHas};
 ghost use Rattle.sa_laws.specs.Locks.{HoldsLock};
-ghost use Rattle.sa_lives.specs.Change.{changed_by};
-ghost use Rattle.sa_lives.specs.Table.{lives_in, SomeIsIn, has, has_list, has_thread};
+ghost use Rattle.sa_lives.specs.Change.{changed_by, inside_by};
+ghost use Rattle.sa_lives.specs.Table.{lives_in, SomeIsIn, KeepsAll, KeepsOthers, KeepsUpped, KeepsLocked, KeepsInside, IsReady, IsAddedTo, some_passes, has_list, has_thread, is_in, is_list, is_of_thread};
 
 use crate::change::Change;
 use crate::life::KeptLife;
+use crate::lock::ListLock;
 use sa_base::{ActNo, ProcNo, SpaceNo, ThreadNo};
 use std::alloc::{AllocError, Global};
 use std::collections::BTreeMap;
@@ -94,21 +96,9 @@ impl Table {
         if !self.map.contains_key(&a.0) {
             return Ok(());
         }
-        if change.adds_lock() {
-            add(&mut self.holders, a.0)?;
-        }
-        if change.inside() == Some(true) {
-            add(&mut self.insiders, a.0)?;
-        }
-        let frees = change.drops_lock();
-        let leaves = change.inside() == Some(false);
+        prepare(&mut self.holders, &mut self.insiders, a, change)?;
         let has_lock = write(&mut self.map, a, change)?;
-        if frees && !has_lock {
-            remove(&mut self.holders, a.0);
-        }
-        if leaves {
-            remove(&mut self.insiders, a.0);
-        }
+        settle(&mut self.holders, &mut self.insiders, a, change, has_lock);
         Ok(())
     }
 
@@ -121,13 +111,9 @@ impl Table {
         let Some(has_lock) = self.life(a).map(KeptLife::has_lock) else {
             return Ok(());
         };
-        if let Some(to) = upped && has_lock {
-            add(&mut self.holders, to.0)?;
-        }
+        add_to(&mut self.holders, upped, has_lock)?;
         pass_on(&mut self.map, upped, a, alloc)?;
-        if upped != Some(a) {
-            remove(&mut self.holders, a.0);
-        }
+        remove_but(&mut self.holders, upped, a);
         remove(&mut self.insiders, a.0);
         Ok(())
     }
@@ -137,12 +123,7 @@ impl Table {
         ensures { (r : Readings) → r.lives ≡ lives_in self.now
             → (IsTrue result ↔ IsLocked r s l) }
     {
-        for i in 0..self.holders.len() {
-            if self.has_list(self.holders[i], s, l) {
-                return true;
-            }
-        }
-        false
+        some_has_list(&self.map, self.holders.as_slice(), None, s, l)
     }
 
     // Some other life of the space than `a` has the list among its locks.
@@ -150,12 +131,7 @@ impl Table {
         ensures { (r : Readings) → r.lives ≡ lives_in self.now
             → (IsTrue result ↔ AnotherHas r a s l) }
     {
-        for i in 0..self.holders.len() {
-            if self.holders[i] != a.0 && self.has_list(self.holders[i], s, l) {
-                return true;
-            }
-        }
-        false
+        some_has_list(&self.map, self.holders.as_slice(), Some(a), s, l)
     }
 
     // The thread of the space holds the lock of a list.
@@ -163,58 +139,82 @@ impl Table {
         ensures { (r : Readings) → r.lives ≡ lives_in self.now
             → (IsTrue result ↔ HoldsLock r s t) }
     {
-        for i in 0..self.holders.len() {
-            if self.has_thread(self.holders[i], s, t) {
-                return true;
-            }
-        }
-        false
+        some_has_thread(&self.map, self.holders.as_slice(), s, t)
     }
 
     // Some life is in.
     pub(crate) fn some_is_in(&self) -> bool
         ensures { IsTrue result ↔ SomeIsIn (lives_in self.now) }
     {
-        for i in 0..self.insiders.len() {
-            if self.is_in(self.insiders[i]) {
-                return true;
-            }
-        }
-        false
+        some_is_in(&self.map, self.insiders.as_slice())
     }
+}
 
-    fn has_list(&self, a: u64, s: SpaceNo, l: ProcNo) -> bool
-        ensures { result ≡ has_list (lives_in self.now a) s l }
-    {
-        match self.map.get(&a) {
-            None => false,
-            Some(life) => life.space() == s && life.locks().iter().any(|lock| lock.list == l),
-        }
-    }
+// Some life of these numbers, but for one that is given, has the list of the space among its locks.
+fn some_has_list(map: &BTreeMap<u64, KeptLife>, numbers: &[u64], but: Option<ActNo>, s: SpaceNo, l: ProcNo) -> bool
+    ensures { result ≡ some_passes (has_list but s l) (lives_in map.now) numbers.now }
+{
+    numbers.iter().any(|a| has_list(map, *a, but, s, l))
+}
 
-    fn has_thread(&self, a: u64, s: SpaceNo, t: ThreadNo) -> bool
-        ensures { result ≡ has_thread (lives_in self.now a) s t }
-    {
-        match self.map.get(&a) {
-            None => false,
-            Some(life) => life.space() == s && life.locks().iter().any(|lock| lock.thread == Some(t)),
-        }
-    }
-
-    fn is_in(&self, a: u64) -> bool
-        ensures { result ≡ is_in (lives_in self.now a) }
-    {
-        match self.map.get(&a) {
-            None => false,
-            Some(life) => life.inside(),
+fn has_list(map: &BTreeMap<u64, KeptLife>, a: u64, but: Option<ActNo>, s: SpaceNo, l: ProcNo) -> bool
+    ensures { result ≡ has_list but s l a (lives_in map.now a) }
+{
+    match map.get(&a) {
+        None => false,
+        Some(life) => {
+            but != Some(ActNo(a)) && life.space().0 == s.0 && locks_list(life.locks(), l)
         }
     }
 }
 
+// The list is among the locks.
+fn locks_list(locks: &[ListLock], l: ProcNo) -> bool
+    ensures { result ≡ list_any (is_list l) locks.now }
+{
+    locks.iter().any(|lock| lock.list.0 == l.0)
+}
+
+// Some life of these numbers has a lock of the thread of the space.
+fn some_has_thread(map: &BTreeMap<u64, KeptLife>, numbers: &[u64], s: SpaceNo, t: ThreadNo) -> bool
+    ensures { result ≡ some_passes (has_thread s t) (lives_in map.now) numbers.now }
+{
+    numbers.iter().any(|a| has_thread(map, *a, s, t))
+}
+
+fn has_thread(map: &BTreeMap<u64, KeptLife>, a: u64, s: SpaceNo, t: ThreadNo) -> bool
+    ensures { result ≡ has_thread s t a (lives_in map.now a) }
+{
+    match map.get(&a) {
+        None => false,
+        Some(life) => life.space().0 == s.0 && locks_thread(life.locks(), t),
+    }
+}
+
+// The thread has one of the locks.
+fn locks_thread(locks: &[ListLock], t: ThreadNo) -> bool
+    ensures { result ≡ list_any (is_of_thread t) locks.now }
+{
+    locks.iter().any(|lock| lock.thread.is_some_and(|u| t.0 == u.0))
+}
+
+// Some life of these numbers is in.
+fn some_is_in(map: &BTreeMap<u64, KeptLife>, numbers: &[u64]) -> bool
+    ensures { result ≡ some_passes is_in (lives_in map.now) numbers.now }
+{
+    numbers.iter().any(|a| is_in(map, *a))
+}
+
+fn is_in(map: &BTreeMap<u64, KeptLife>, a: u64) -> bool
+    ensures { result ≡ is_in a (lives_in map.now a) }
+{
+    map.get(&a).is_some_and(KeptLife::inside)
+}
+
 // Adds a number, if it is not there. An error changes nothing.
 fn add(numbers: &mut Vec<u64>, n: u64) -> Result<(), AllocError>
-    ensures there { OnOk result (has numbers.new.items n ≡ true) }
-    ensures others { (k : ℕ) → has numbers.old.items k ≡ true → has numbers.new.items k ≡ true }
+    ensures there { OnOk result (Contains numbers.new.items n) }
+    ensures others { KeepsAll numbers.old.items numbers.new.items }
 {
     if !numbers.contains(&n) {
         numbers.push(n)?;
@@ -224,10 +224,60 @@ fn add(numbers: &mut Vec<u64>, n: u64) -> Result<(), AllocError>
 
 // Removes a number.
 fn remove(numbers: &mut Vec<u64>, n: u64)
-    ensures others { (k : ℕ) → k ≢ n → has numbers.old.items k ≡ true
-        → has numbers.new.items k ≡ true }
+    ensures { KeepsOthers n numbers.old.items numbers.new.items }
 {
     numbers.retain(|k| *k != n);
+}
+
+// Adds the number to those that it belongs to after the change. An error leaves both sound.
+fn prepare(holders: &mut Vec<u64>, insiders: &mut Vec<u64>, a: ActNo, change: Change<'_>) -> Result<(), AllocError>
+    ensures ready { OnOk result (IsReady change a holders.new.items insiders.new.items) }
+    ensures holders { KeepsAll holders.old.items holders.new.items }
+    ensures insiders { KeepsAll insiders.old.items insiders.new.items }
+{
+    if change.adds_lock() {
+        add(holders, a.0)?;
+    }
+    if change.inside() == Some(true) {
+        add(insiders, a.0)?;
+    }
+    Ok(())
+}
+
+// Removes the number from those that it does not belong to after the change, where it belonged to them before.
+fn settle(holders: &mut Vec<u64>, insiders: &mut Vec<u64>, a: ActNo, change: Change<'_>, has_lock: bool)
+    ensures holders { KeepsOthers a.0 holders.old.items holders.new.items }
+    ensures lock { KeepsLocked has_lock a holders.old.items holders.new.items }
+    ensures insiders { KeepsOthers a.0 insiders.old.items insiders.new.items }
+    ensures inside { KeepsInside (inside_by change) a insiders.old.items insiders.new.items }
+{
+    if !has_lock && change.drops_lock() {
+        remove(holders, a.0);
+    }
+    if change.inside() == Some(false) {
+        remove(insiders, a.0);
+    }
+}
+
+// Adds the life of the last up, if there is one and it gets a lock.
+fn add_to(holders: &mut Vec<u64>, upped: Option<ActNo>, has_lock: bool) -> Result<(), AllocError>
+    ensures there { OnOk result (IsAddedTo upped has_lock holders.new.items) }
+    ensures holders { KeepsAll holders.old.items holders.new.items }
+{
+    match upped {
+        Some(to) if has_lock => add(holders, to.0),
+        _ => Ok(()),
+    }
+}
+
+// Removes the life, if it is not that of the last up.
+fn remove_but(holders: &mut Vec<u64>, upped: Option<ActNo>, a: ActNo)
+    ensures others { KeepsOthers a.0 holders.old.items holders.new.items }
+    ensures upped { KeepsUpped upped holders.old.items holders.new.items }
+{
+    if upped != Some(a) {
+        remove(holders, a.0);
+    }
 }
 
 // Changes the life of this number, if there is one, and says whether it has a lock then. An error changes nothing.

@@ -4,7 +4,7 @@ ghost use Rattle.std.specs.Option.{option_to_list};
 ghost use Rattle.sa_laws.specs.Shape.{wants_in, lines_in, aims_in, told_run};
 ghost use Rattle.sa_shape.specs.Due.{changes_of};
 
-use crate::kinds::{is_aim_at, is_line, is_want};
+use crate::kinds::{is_line, is_want};
 use crate::parts::parted;
 use sa_base::{Note, ProcNo, Record, SpaceNo};
 
@@ -19,55 +19,60 @@ pub struct Aimed {
 pub fn are_wants(records: &[Record], due: &[Record]) -> bool
     ensures { IsTrue result ↔ (wants_in records.now ≡ due.now) }
 {
-    let mut k = 0;
+    let mut left = due;
     for what in records {
         if is_want(*what) {
-            if k == due.len() || due[k] != *what {
-                return false;
+            match parted(left) {
+                Some((next, rest)) if next == *what => left = rest,
+                _ => return false,
             }
-            k += 1;
         }
     }
-    k == due.len()
+    left.is_empty()
 }
 
 /// The lines among the records are those that are due.
 pub fn are_lines(records: &[Record], due: &[Record]) -> bool
     ensures { IsTrue result ↔ (lines_in records.now ≡ due.now) }
 {
-    let mut k = 0;
+    let mut left = due;
     for what in records {
         if is_line(*what) {
-            if k == due.len() || due[k] != *what {
-                return false;
+            match parted(left) {
+                Some((next, rest)) if next == *what => left = rest,
+                _ => return false,
             }
-            k += 1;
         }
     }
-    k == due.len()
+    left.is_empty()
 }
 
 /// The aims at spaces among the records are those that are due.
 pub fn are_aims(records: &[Record], due: &[Aimed]) -> bool
     ensures { IsTrue result ↔ (aims_in records.now ≡ changes_of due.now) }
 {
-    let mut k = 0;
+    let mut left = due;
     for what in records {
         if let Record::Aim(proc, Some(space)) = *what {
-            if k == due.len() || due[k] != (Aimed { proc, space }) {
-                return false;
+            match parted(left) {
+                Some((next, rest)) if next.proc == proc && next.space == space => left = rest,
+                _ => return false,
             }
-            k += 1;
         }
     }
-    k == due.len()
+    left.is_empty()
 }
 
 /// An aim at a space is among the records.
 pub fn has_aims(records: &[Record]) -> bool
     ensures { IsTrue result ↔ (aims_in records.now ≢ []) }
 {
-    records.iter().any(|what| is_aim_at(*what))
+    for what in records {
+        if let Record::Aim(_, Some(_)) = *what {
+            return true;
+        }
+    }
+    false
 }
 
 /// The run of told records with which the list begins tells `first`, if there is one, and `others`, in order.
@@ -87,17 +92,17 @@ pub fn are_told(records: &[Record], first: Option<Note>, others: &[Note]) -> boo
 fn tells(records: &[Record], notes: &[Note]) -> bool
     ensures { IsTrue result ↔ (told_run records.now ≡ notes.now) }
 {
-    let mut k = 0;
+    let mut left = notes;
     for what in records {
         let Record::Told(note) = *what else {
-            return k == notes.len();
+            break;
         };
-        if k == notes.len() || notes[k] != note {
-            return false;
+        match parted(left) {
+            Some((next, rest)) if next == note => left = rest,
+            _ => return false,
         }
-        k += 1;
     }
-    k == notes.len()
+    left.is_empty()
 }
 
 /// The list begins with a told record.

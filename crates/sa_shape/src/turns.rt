@@ -1,8 +1,8 @@
 // The shapes of turns: which records an event's own part and its closing consist of.
 ghost use Rattle.std.specs.Prelude.{◌≡◌, ◌↔◌, IsTrue};
-ghost use Rattle.std.specs.List.{list_any};
+ghost use Rattle.std.specs.List.{list_all, list_any};
 ghost use Rattle.sa_laws.specs.History.{is_up};
-ghost use Rattle.sa_laws.specs.Turns.{AreRaising, IsClosing, AreTold, IsFetchOrNothing, IsPassage, IsInterrupt, IsOver, IsOut, IsBlock, IsInsOf, AreOfLocks};
+ghost use Rattle.sa_laws.specs.Turns.{AreRaising, IsClosing, AreTold, IsFetchOrNothing, IsPassage, IsInterrupt, IsOver, IsOut, IsBlock, IsInsOf, AreOfLocks, is_of_locks};
 ghost use Rattle.sa_shape.specs.Parted.{OperatesAlone};
 
 use crate::kinds::{is_of_locks, is_up};
@@ -139,6 +139,12 @@ pub fn is_ins_of(instr: Instr, records: &[Record]) -> bool
 pub fn are_of_locks(records: &[Record]) -> bool
     ensures { IsTrue result ↔ AreOfLocks records.now }
 {
+    all_operate(records)
+}
+
+fn all_operate(records: &[Record]) -> bool
+    ensures { result ≡ list_all is_of_locks records.now }
+{
     records.iter().all(|what| is_of_locks(*what))
 }
 
@@ -146,8 +152,17 @@ pub fn are_of_locks(records: &[Record]) -> bool
 pub fn stands_alone(records: &[Record]) -> bool
     ensures { IsTrue result ↔ OperatesAlone records.now }
 {
-    let some = records.iter().any(|what| is_of_locks(*what));
-    !some || records.len() <= 1
+    let operates = some_operates(records);
+    match parted(records) {
+        None => true,
+        Some((_, others)) => !operates || others.is_empty(),
+    }
+}
+
+fn some_operates(records: &[Record]) -> bool
+    ensures { result ≡ list_any is_of_locks records.now }
+{
+    records.iter().any(|what| is_of_locks(*what))
 }
 
 /// An up is among the records.

@@ -1,0 +1,4 @@
+pub mod Among
+pub mod FoundLemmas
+pub mod Numbers
+pub mod ReadLemmas
