@@ -1,6 +1,6 @@
 -- Some life that passes a test, found among the numbers beside the table.
-use Rattle.std.proofs.Common.{◌≡◌, ◌≢◌, ℕ, ◌<◌, refl, sym, ◌∙◌, ap, inl, inr, true, false, not, ◌==◌, Bool, List, [], ◌∷◌, length, Option, Some, None, ◌⊎◌, ◌↔◌, IsTrue}
-use Rattle.std.specs.Prelude.{Contains, Any}
+use Rattle.std.proofs.Common.{arith, ◌≡◌, ◌≢◌, ℕ, ◌<◌, refl, sym, ◌∙◌, ap, inl, inr, true, false, not, ◌==◌, Bool, List, [], ◌∷◌, length, Option, Some, None, ◌⊎◌, ◌↔◌, IsTrue}
+use Rattle.std.specs.Prelude.{Contains, Any, ◌&&◌}
 use Rattle.std.specs.List.{list_any}
 use Rattle.std.proofs.lemmas.Bool.{and_parts, and_from, eqb-true, eq-eqb}
 use Rattle.std.proofs.lemmas.List.Folds.{Any-from_list_any, list_any-from_Any}
@@ -37,8 +37,8 @@ found test lives numbers none passes =
 -- .. is found, where it is among the numbers
 finds : (p : Life → Bool) (test : ℕ → Option Life → Bool) (lives : ℕ → Option Life) (numbers : List ℕ) → AreAmong p lives numbers
     → (n : ℕ) (life : Life) → lives n ≡ Some life → p life ≡ true → test n (Some life) ≡ true → some_passes test lives numbers ≡ true
-finds p test lives numbers among n life is yes passes =
-    let there = among.each n life is yes in
+finds p test lives numbers among n life is holds passes =
+    let there = among.each n life is holds in
     list_any-from_Any (λ a. test a (lives a)) numbers (there.0, n, there.1, there.2, ap (test n) is ∙ passes)
 
 some-contained : (locks : List Lock) (lock : Lock) → Contains locks lock → some_lock locks ≡ true
@@ -63,8 +63,8 @@ list-finds life s l h = and_from (life.space.0 == s.0) (list_any (is_list l) lif
 pub locked-iff : (r : Readings) (lives : ℕ → Option Life) (holders : List ℕ) (s : SpaceNo) (l : ProcNo) → AreAmong has_lock lives holders
     → r.lives ≡ lives → (some_passes (has_list None s l) lives holders ≡ true) ↔ IsLocked r s l
 locked-iff r lives holders s l among same = (
-    (λ yes.
-      let f = found (has_list None s l) lives holders (λ n. refl) yes in
+    (λ holds.
+      let f = found (has_list None s l) lives holders (λ n. refl) holds in
       let parts = and_parts (f.life.space.0 == s.0) (list_any (is_list l) f.life.locks) f.passes in
       record {
         act = record { 0 = f.act };
@@ -78,8 +78,7 @@ locked-iff r lives holders s l among same = (
       (list-finds locked.life s l locked.has)))
 
 not-true : (b : Bool) → not b ≡ true → b ≡ true → ⊥
-not-true true no yes = cc
-not-true false no yes = cc
+not-true b fails holds = let bad : false ≡ true = sym (ap not holds) ∙ fails in cc
 
 apart-act : (a b : ActNo) → b ≢ a → not (a.0 == b.0) ≡ true
 apart-act a b apart = go (a.0 == b.0) refl where
@@ -90,8 +89,8 @@ apart-act a b apart = go (a.0 == b.0) refl where
 pub other-iff : (r : Readings) (lives : ℕ → Option Life) (holders : List ℕ) (a : ActNo) (s : SpaceNo) (l : ProcNo) → AreAmong has_lock lives holders
     → r.lives ≡ lives → (some_passes (has_list (Some a) s l) lives holders ≡ true) ↔ AnotherHas r a s l
 other-iff r lives holders a s l among same = (
-    (λ yes.
-      let f = found (has_list (Some a) s l) lives holders (λ n. refl) yes in
+    (λ holds.
+      let f = found (has_list (Some a) s l) lives holders (λ n. refl) holds in
       let other = and_parts (not (a.0 == f.act)) (f.life.space.0 == s.0 && list_any (is_list l) f.life.locks) f.passes in
       let parts = and_parts (f.life.space.0 == s.0) (list_any (is_list l) f.life.locks) other.1 in
       record {
@@ -117,8 +116,8 @@ thread-from t o is = ap (is_thread t) is ∙ eq-eqb t.0 t.0 refl
 pub holds-iff : (r : Readings) (lives : ℕ → Option Life) (holders : List ℕ) (s : SpaceNo) (t : ThreadNo) → AreAmong has_lock lives holders
     → r.lives ≡ lives → (some_passes (has_thread s t) lives holders ≡ true) ↔ HoldsLock r s t
 holds-iff r lives holders s t among same = (
-    (λ yes.
-      let f = found (has_thread s t) lives holders (λ n. refl) yes in
+    (λ holds.
+      let f = found (has_thread s t) lives holders (λ n. refl) holds in
       let parts = and_parts (f.life.space.0 == s.0) (list_any (is_of_thread t) f.life.locks) f.passes in
       let some = Any-from_list_any (is_of_thread t) f.life.locks parts.1 in
       record {
@@ -130,15 +129,15 @@ holds-iff r lives holders s t among same = (
         among = (some.0, some.2, some.3);
         thread = thread-is t some.1.thread some.4;
       }),
-    (λ holds. finds has_lock (has_thread s t) lives holders among holds.act.0 holds.life
-      (sym (ap (λ g. g holds.act.0) same) ∙ holds.is)
-      (some-contained holds.life.locks holds.lock holds.among)
-      (and_from (holds.life.space.0 == s.0) (list_any (is_of_thread t) holds.life.locks)
-        (eq-eqb holds.life.space.0 s.0 (ap (λ (x : SpaceNo). x.0) holds.space))
-        (list_any-from_Any (is_of_thread t) holds.life.locks (holds.among.0, holds.lock, holds.among.1, holds.among.2, thread-from t holds.lock.thread holds.thread)))))
+    (λ has. finds has_lock (has_thread s t) lives holders among has.act.0 has.life
+      (sym (ap (λ g. g has.act.0) same) ∙ has.is)
+      (some-contained has.life.locks has.lock has.among)
+      (and_from (has.life.space.0 == s.0) (list_any (is_of_thread t) has.life.locks)
+        (eq-eqb has.life.space.0 s.0 (ap (λ (x : SpaceNo). x.0) has.space))
+        (list_any-from_Any (is_of_thread t) has.life.locks (has.among.0, has.lock, has.among.1, has.among.2, thread-from t has.lock.thread has.thread)))))
 
 pub in-iff : (lives : ℕ → Option Life) (insiders : List ℕ) → AreAmong is_inside lives insiders
     → (some_passes is_in lives insiders ≡ true) ↔ SomeIsIn lives
 in-iff lives insiders among = (
-    (λ yes. let f = found is_in lives insiders (λ n. refl) yes in record { act = f.act; life = f.life; is = f.is; inside = f.passes }),
+    (λ holds. let f = found is_in lives insiders (λ n. refl) holds in record { act = f.act; life = f.life; is = f.is; inside = f.passes }),
     (λ some. finds is_inside is_in lives insiders among some.act some.life some.is some.inside some.inside))

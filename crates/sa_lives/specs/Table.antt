@@ -2,19 +2,18 @@
 use Rattle.std.specs.Prelude.{◌≡◌, ◌≢◌, ℕ, ◌==◌, Bool, true, false, not, ◌&&◌, List, Contains, Option, Some, None}
 use Rattle.std.specs.List.{list_any}
 use Rattle.std.specs.Ordering.{nat_cmp}
-use Rattle.std.specs.BTreeMap.{BTreeMap, get}
+use Rattle.std.specs.BTreeMap.{is_at}
+use Rattle.std.specs.Map.{lookup}
 use Rattle.sa_base.specs.declared.number.ProcNo.{ProcNo}
 use Rattle.sa_base.specs.declared.number.SpaceNo.{SpaceNo}
 use Rattle.sa_base.specs.declared.number.ThreadNo.{ThreadNo}
 use Rattle.sa_base.specs.declared.number.ActNo.{ActNo}
 use Rattle.sa_laws.specs.Life.{Life, Lock}
 use Rattle.sa_laws.specs.Record.{is_thread}
-use Rattle.sa_lives.specs.declared.change.Change.{Change}
-use Rattle.sa_lives.specs.Change.{adds_lock, inside_by}
 
--- the lives of a table
-abbrev pub lives_in : BTreeMap ℕ Life → ℕ → Option Life
-lives_in table a = get nat_cmp table a
+-- the lives of a table, which is seen as the list of its entries
+abbrev pub lives_in : List (ℕ × Life) → ℕ → Option Life
+lives_in entries a = lookup (is_at (nat_cmp a)) entries
 
 -- each life that passes the test is among the numbers
 pub record AreAmong (test : Life → Bool) (lives : ℕ → Option Life) (numbers : List ℕ) : Type 0 where
@@ -68,17 +67,14 @@ pub record KeepsOthers (n : ℕ) (old new : List ℕ) : Type 0 where
 pub record KeepsUpped (upped : Option ActNo) (old new : List ℕ) : Type 0 where
   pub each : (to : ActNo) → upped ≡ Some to → Contains old to.0 → Contains new to.0
 
--- a life that has a lock is still there; a life is, unless it is out now
-pub record KeepsLocked (has_lock : Bool) (a : ActNo) (old new : List ℕ) : Type 0 where
-  pub each : has_lock ≡ true → Contains old a.0 → Contains new a.0
+-- a number is still there, unless it was removed
+pub record KeepsUnless (removed : Bool) (n : ℕ) (old new : List ℕ) : Type 0 where
+  pub each : removed ≡ false → Contains old n → Contains new n
 
-pub record KeepsInside (inside : Option Bool) (a : ActNo) (old new : List ℕ) : Type 0 where
-  pub each : inside ≢ Some false → Contains old a.0 → Contains new a.0
+-- a number is there, if it was added
+pub record IsThere (added : Bool) (n : ℕ) (numbers : List ℕ) : Type 0 where
+  pub each : added ≡ true → Contains numbers n
 
--- a life stands where it belongs after a change; the life of the last up does, where it gets a lock
-pub record IsReady (change : Change) (a : ActNo) (holders insiders : List ℕ) : Type 0 where
-  pub lock : adds_lock change ≡ true → Contains holders a.0
-  pub inside : inside_by change ≡ Some true → Contains insiders a.0
-
+-- the life of the last up is there, where it gets a lock
 pub record IsAddedTo (upped : Option ActNo) (has_lock : Bool) (holders : List ℕ) : Type 0 where
   pub each : (to : ActNo) → upped ≡ Some to → has_lock ≡ true → Contains holders to.0

@@ -1,7 +1,6 @@
 -- What a contract sees of the lives, and what each call does to them.
 use Rattle.std.specs.Prelude.{◌≡◌, ℕ, ◌==◌, nat_le, Bool, true, false, not, is_none, if◌then◌else◌, List, [], length, replicate, sum_by, Contains, Option, Some, None, slice_index_or, slice_set}
 use Rattle.std.specs.Option.{option_map}
-use Rattle.std.specs.BTreeMap.{BTreeMap}
 use Rattle.sa_base.specs.declared.number.ProcNo.{ProcNo}
 use Rattle.sa_base.specs.declared.number.SpaceNo.{SpaceNo}
 use Rattle.sa_base.specs.declared.number.ThreadNo.{ThreadNo}
@@ -30,7 +29,7 @@ pub record LivesView : Type 0 where
 
 -- .. a reading of the table in which they lie; and these are parts of the readings of a history
 pub record Stored : Type 0 where
-  pub table : BTreeMap ℕ Life
+  pub table : List (ℕ × Life)
   pub running : List (Option ActNo)
   pub taken : List (List ActNo)
   pub untold : List (List Note)

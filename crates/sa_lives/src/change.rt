@@ -1,7 +1,6 @@
 ghost use Rattle.std.specs.Prelude.{◌≡◌};
-ghost use Rattle.sa_lives.specs.Change.{adds_lock, inside_by};
+ghost use Rattle.sa_lives.specs.Change.{adds_lock, enters, leaves};
 
-use crate::life::KeptLife;
 use crate::lock::ListLock;
 use sa_base::ThreadNo;
 
@@ -27,10 +26,8 @@ pub struct Stepped {
 }
 
 // What a record, or the end of an event, changes in a life.
-#[derive(Clone, Copy, Drop)]
-pub(crate) enum Change<'a> {
-    // these threads join the hand
-    Rouse(&'a [ThreadNo]),
+#[derive(Debug, Drop)]
+pub(crate) enum Change {
     Stop(Option<ThreadNo>),
     Block(Option<ThreadNo>),
     Unblock(Option<ThreadNo>),
@@ -40,21 +37,18 @@ pub(crate) enum Change<'a> {
     Run(ThreadNo),
     Take(ListLock),
     Free,
-    // it gets the locks and the hand of this life
-    Inherit(&'a KeptLife),
     Step(Stepped),
     // the event of its up ends, and whether it is in
     Arise(bool),
 }
 
-impl Change<'_> {
+impl Change {
     // The change gives a life a lock.
     pub(crate) fn adds_lock(&self) -> bool
         ensures { result ≡ adds_lock self.now }
     {
         match self {
             Change::Take(_) => true,
-            Change::Inherit(from) => from.has_lock(),
             _ => false,
         }
     }
@@ -67,14 +61,25 @@ impl Change<'_> {
         }
     }
 
-    // What the change says of whether the life is in, if it says that.
-    pub(crate) fn inside(&self) -> Option<bool>
-        ensures { result ≡ inside_by self.now }
+    // The life is in by the change.
+    pub(crate) fn enters(&self) -> bool
+        ensures { result ≡ enters self.now }
     {
         match self {
-            Change::Step(stepped) => Some(stepped.inside),
-            Change::Arise(inside) => Some(*inside),
-            _ => None,
+            Change::Step(stepped) => stepped.inside,
+            Change::Arise(inside) => *inside,
+            _ => false,
+        }
+    }
+
+    // The life is out by the change.
+    pub(crate) fn leaves(&self) -> bool
+        ensures { result ≡ leaves self.now }
+    {
+        match self {
+            Change::Step(stepped) => !stepped.inside,
+            Change::Arise(inside) => !*inside,
+            _ => false,
         }
     }
 }

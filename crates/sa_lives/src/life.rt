@@ -1,4 +1,4 @@
-ghost use Rattle.std.specs.Prelude.{◌≡◌, ◌↔◌, ◌++◌, not, filter, map, IsTrue, OnOk, OnErr, Contains};
+ghost use Rattle.std.specs.Prelude.{◌≡◌, ◌↔◌, ◌+◌, ◌≤◌, ◌++◌, length, vec_len, vec_capacity, not, filter, map, IsTrue, OnOk, OnErr, Contains};
 ghost use Rattle.sa_laws.specs.Life.{new_life, has_lock, first_lock, same_thread, without_lock, with_first, change_first, ran, with_hand, inherits, inherited, bereft};
 ghost use Rattle.sa_laws.specs.Record.{one_thread, made_ready};
 ghost use Rattle.sa_lives.specs.Change.{changed_by, stepped_by, used_by};
@@ -156,12 +156,11 @@ impl KeptLife {
     }
 
     // Changes the life. An error changes nothing.
-    pub(crate) fn change(&mut self, change: Change<'_>) -> Result<(), AllocError>
-        ensures ok { OnOk result (self.new ≡ changed_by change self.old) }
+    pub(crate) fn change(&mut self, change: &Change) -> Result<(), AllocError>
+        ensures ok { OnOk result (self.new ≡ changed_by change.now self.old) }
         ensures err { OnErr result (self.new ≡ self.old) }
     {
-        match change {
-            Change::Rouse(threads) => self.hand.extend_from_slice(threads)?,
+        match *change {
             Change::Stop(t) => {
                 self.join_hand(t)?;
                 self.idle = !self.inside && t.is_none();
@@ -178,7 +177,6 @@ impl KeptLife {
             Change::Run(t) => self.run(t),
             Change::Take(lock) => self.locks.push(lock)?,
             Change::Free => self.free(),
-            Change::Inherit(from) => self.inherit(from)?,
             Change::Step(stepped) => self.step(stepped)?,
             Change::Arise(inside) => self.inside = inside,
         }
@@ -220,8 +218,16 @@ impl KeptLife {
         }
     }
 
+    // Threads join the hand. An error changes nothing.
+    pub(crate) fn rouse(&mut self, threads: &[ThreadNo]) -> Result<(), AllocError>
+        ensures ok { OnOk result (self.new ≡ with_hand threads.now self.old) }
+        ensures err { OnErr result (self.new ≡ self.old) }
+    {
+        self.hand.extend_from_slice(threads)
+    }
+
     // Gets the locks and the hand of another life. An error changes nothing.
-    fn inherit(&mut self, from: &KeptLife) -> Result<(), AllocError>
+    pub(crate) fn inherit(&mut self, from: &KeptLife) -> Result<(), AllocError>
         ensures ok { OnOk result (self.new ≡ inherits from.now self.old) }
         ensures err { OnErr result (self.new ≡ self.old) }
     {
@@ -295,8 +301,8 @@ fn add_inherited(locks: &mut Vec<ListLock>, from: &[ListLock])
     ensures { locks.new.items ≡ locks.old.items ++ map inherited from.now }
 {
     for lock in from {
-        let mut lock = *lock;
-        lock.inherited = true;
-        locks.push_reserved(lock);
+        let mut copy = *lock;
+        copy.inherited = true;
+        locks.push_reserved(copy);
     }
 }

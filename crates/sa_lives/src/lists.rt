@@ -1,9 +1,7 @@
 // Of each space: the lives that were taken, and the notices that it was not told.
-ghost use Rattle.std.specs.Prelude.{◌≡◌, ◌++◌, ◌∷◌, [], List, OnOk, OnErr, IfOk, filter, replicate, slice_index_or, slice_set};
-ghost use Rattle.sa_base.specs.declared.number.ActNo.{ActNo};
-ghost use Rattle.sa_base.specs.declared.record.Note.{Note};
-ghost use Rattle.sa_laws.specs.Record.{is_other_act, is_other_note, without_note, without_act};
-ghost use Rattle.sa_lives.specs.Rows.{row_at, with_item};
+ghost use Rattle.std.specs.Prelude.{◌≡◌, ◌++◌, ◌∷◌, [], OnOk, OnErr, IfOk, filter, replicate};
+ghost use Rattle.sa_laws.specs.Record.{is_other_act, is_other_note, same_note, without_note, without_act};
+ghost use Rattle.sa_lives.specs.Rows.{row_at, with_item, front_of, without_last};
 
 use sa_base::{ActNo, Note, SpaceNo};
 use std::alloc::{AllocError, Global};
@@ -51,19 +49,18 @@ pub(crate) fn add<T: Copy>(rows: &mut [Row<T>], s: SpaceNo, item: T) -> Result<(
     ensures ok { OnOk result (rows.new ≡ with_item rows.old s item) }
     ensures err { OnErr result (rows.new ≡ rows.old) }
 {
-    if let Some(row) = rows.get_mut(usize::from(s.0)) {
-        row.items.push(item)?;
+    if usize::from(s.0) >= rows.len() {
+        return Ok(());
     }
-    Ok(())
+    rows[usize::from(s.0)].push(item)
 }
 
-// Takes the item out again that was put in last.
+// Takes out the last item of the space.
 pub(crate) fn undo<T: Copy>(rows: &mut [Row<T>], s: SpaceNo)
-    ensures { (before : List (List T)) (item : T) → rows.old ≡ with_item before s item
-        → rows.new ≡ before }
+    ensures { rows.new ≡ without_last rows.old s }
 {
-    if let Some(row) = rows.get_mut(usize::from(s.0)) {
-        row.items.pop();
+    if usize::from(s.0) < rows.len() {
+        rows[usize::from(s.0)].pop();
     }
 }
 
@@ -74,8 +71,8 @@ pub(crate) fn remove_act(rows: &mut [Row<ActNo>], s: Option<SpaceNo>, a: ActNo)
     let Some(space) = s else {
         return;
     };
-    if let Some(row) = rows.get_mut(usize::from(space.0)) {
-        drop_act(row, a);
+    if usize::from(space.0) < rows.len() {
+        drop_act(&mut rows[usize::from(space.0)], a);
     }
 }
 
@@ -88,6 +85,35 @@ pub(crate) fn remove_note(rows: &mut [Row<Note>], note: Note)
     }
 }
 
+impl<T: Copy> Row<T> {
+    fn push(&mut self, item: T) -> Result<(), AllocError>
+        ensures ok { OnOk result (self.new ≡ self.old ++ item ∷ []) }
+        ensures err { OnErr result (self.new ≡ self.old) }
+    {
+        self.items.push(item)?;
+        Ok(())
+    }
+
+    fn pop(&mut self)
+        ensures { self.new ≡ front_of self.old }
+    {
+        let _ = self.items.pop();
+    }
+}
+
+// The two notices are the same.
+fn is_same(note: Note, other: Note) -> bool
+    ensures { result ≡ same_note note other }
+{
+    match (note, other) {
+        (Note::Add(p), Note::Add(q)) => p.0 == q.0,
+        (Note::Preempted(a), Note::Preempted(b)) => a.0 == b.0,
+        (Note::Blocked(a), Note::Blocked(b)) => a.0 == b.0,
+        (Note::Unblocked(a), Note::Unblocked(b)) => a.0 == b.0,
+        _ => false,
+    }
+}
+
 fn drop_act(row: &mut Row<ActNo>, a: ActNo)
     ensures { row.new ≡ filter (is_other_act a) row.old }
 {
@@ -97,5 +123,5 @@ fn drop_act(row: &mut Row<ActNo>, a: ActNo)
 fn drop_note(row: &mut Row<Note>, note: Note)
     ensures { row.new ≡ filter (is_other_note note) row.old }
 {
-    row.items.retain(|other| *other != note);
+    row.items.retain(|other| !is_same(*other, note));
 }

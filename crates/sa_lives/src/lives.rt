@@ -195,7 +195,8 @@ impl Lives {
         ensures ok { OnOk result (lives_of self.new ≡ begun p s a (lives_of self.old)) }
         ensures err { OnErr result (lives_of self.new ≡ lives_of self.old) }
     {
-        self.table.begin(a, KeptLife::new(self.alloc, s, p))?;
+        let life = KeptLife::new(self.alloc, s, p);
+        self.table.begin(a, life)?;
         self.set_running(p, Some(a));
         self.upped = Some(a);
         Ok(())
@@ -207,7 +208,8 @@ impl Lives {
             (lives_of self.new ≡ changed_on (with_hand threads.now) p (lives_of self.old)) }
         ensures err { OnErr result (lives_of self.new ≡ lives_of self.old) }
     {
-        self.table.change(self.running(p), Change::Rouse(threads))
+        let a = self.running(p);
+        self.table.rouse(a, threads)
     }
 
     /// The running life has run the thread.
@@ -216,7 +218,8 @@ impl Lives {
             (lives_of self.new ≡ changed_on (with_first (ran t)) p (lives_of self.old)) }
         ensures err { OnErr result (lives_of self.new ≡ lives_of self.old) }
     {
-        self.table.change(self.running(p), Change::Run(t))
+        let a = self.running(p);
+        self.table.change(a, &Change::Run(t))
     }
 
     /// The running life goes on in the copy of a section.
@@ -225,7 +228,8 @@ impl Lives {
             (lives_of self.new ≡ changed_on (with_cont true) p (lives_of self.old)) }
         ensures err { OnErr result (lives_of self.new ≡ lives_of self.old) }
     {
-        self.table.change(self.running(p), Change::Cont)
+        let a = self.running(p);
+        self.table.change(a, &Change::Cont)
     }
 
     /// The running life is back from the copy of a section, with the thread, if there is one.
@@ -234,7 +238,8 @@ impl Lives {
             (lives_of self.new ≡ changed_on (back_with t) p (lives_of self.old)) }
         ensures err { OnErr result (lives_of self.new ≡ lives_of self.old) }
     {
-        self.table.change(self.running(p), Change::Back(t))
+        let a = self.running(p);
+        self.table.change(a, &Change::Back(t))
     }
 
     /// The running life has made the thread ready.
@@ -243,7 +248,8 @@ impl Lives {
             (lives_of self.new ≡ changed_on (made_ready t) p (lives_of self.old)) }
         ensures err { OnErr result (lives_of self.new ≡ lives_of self.old) }
     {
-        self.table.change(self.running(p), Change::Ready(t))
+        let a = self.running(p);
+        self.table.change(a, &Change::Ready(t))
     }
 
     /// The running life has taken a lock.
@@ -252,7 +258,8 @@ impl Lives {
             (lives_of self.new ≡ changed_on (with_lock lock) p (lives_of self.old)) }
         ensures err { OnErr result (lives_of self.new ≡ lives_of self.old) }
     {
-        self.table.change(self.running(p), Change::Take(lock))
+        let a = self.running(p);
+        self.table.change(a, &Change::Take(lock))
     }
 
     /// The running life has freed its first lock.
@@ -261,7 +268,8 @@ impl Lives {
             (lives_of self.new ≡ changed_on without_lock p (lives_of self.old)) }
         ensures err { OnErr result (lives_of self.new ≡ lives_of self.old) }
     {
-        self.table.change(self.running(p), Change::Free)
+        let a = self.running(p);
+        self.table.change(a, &Change::Free)
     }
 
     /// The life of this number was stopped on the processor, in the space and with the thread that the record names.
@@ -269,7 +277,7 @@ impl Lives {
         ensures ok { OnOk result (lives_of self.new ≡ stopped p s t a (lives_of self.old)) }
         ensures err { OnErr result (lives_of self.new ≡ lives_of self.old) }
     {
-        self.note(s, a, Note::Preempted(a), Change::Stop(t))?;
+        self.note(s, a, Note::Preempted(a), &Change::Stop(t))?;
         self.set_running(p, None);
         Ok(())
     }
@@ -279,7 +287,7 @@ impl Lives {
         ensures ok { OnOk result (lives_of self.new ≡ blocked p s t a (lives_of self.old)) }
         ensures err { OnErr result (lives_of self.new ≡ lives_of self.old) }
     {
-        self.note(s, a, Note::Blocked(a), Change::Block(t))?;
+        self.note(s, a, Note::Blocked(a), &Change::Block(t))?;
         self.set_running(p, None);
         Ok(())
     }
@@ -289,7 +297,7 @@ impl Lives {
         ensures ok { OnOk result (lives_of self.new ≡ unblocked s t a (lives_of self.old)) }
         ensures err { OnErr result (lives_of self.new ≡ lives_of self.old) }
     {
-        self.note(s, a, Note::Unblocked(a), Change::Unblock(t))
+        self.note(s, a, Note::Unblocked(a), &Change::Unblock(t))
     }
 
     /// The notice was told: it is untold no longer, and where it hands a life over, that life is taken, and the life of the
@@ -350,7 +358,7 @@ impl Lives {
             (lives_of self.new ≡ changed (stepped_by stepped) a (lives_of self.old)) }
         ensures err { OnErr result (lives_of self.new ≡ lives_of self.old) }
     {
-        self.table.change(a, Change::Step(stepped))
+        self.table.change(a, &Change::Step(stepped))
     }
 
     /// The event of the up of the life that runs on the processor is over, and whether the life is in then.
@@ -359,7 +367,8 @@ impl Lives {
             (lives_of self.new ≡ changed_on (arisen_by inside) p (lives_of self.old)) }
         ensures err { OnErr result (lives_of self.new ≡ lives_of self.old) }
     {
-        self.table.change(self.running(p), Change::Arise(inside))
+        let a = self.running(p);
+        self.table.change(a, &Change::Arise(inside))
     }
 
     // Another life runs on the processor, or none.
@@ -373,16 +382,18 @@ impl Lives {
     }
 
     // The life is changed, and the space was not told the notice. An error changes nothing.
-    fn note(&mut self, s: SpaceNo, a: ActNo, note: Note, change: Change<'_>) -> Result<(), AllocError>
-        ensures ok { OnOk result (lives_of self.new ≡ noted s a note change (lives_of self.old)) }
+    fn note(&mut self, s: SpaceNo, a: ActNo, note: Note, change: &Change) -> Result<(), AllocError>
+        ensures ok { OnOk result (lives_of self.new ≡ noted s a note change.now (lives_of self.old)) }
         ensures err { OnErr result (lives_of self.new ≡ lives_of self.old) }
     {
         add(&mut self.untold, s, note)?;
-        let changed = self.table.change(Some(a), change);
-        if changed.is_err() {
-            undo(&mut self.untold, s);
+        match self.table.change(Some(a), change) {
+            Ok(()) => Ok(()),
+            Err(error) => {
+                undo(&mut self.untold, s);
+                Err(error)
+            }
         }
-        changed
     }
 
     // The life is taken, and the life of the last up gets its locks and its hand. An error changes nothing.
@@ -394,11 +405,15 @@ impl Lives {
             return Ok(());
         };
         add(&mut self.taken, s, a)?;
-        let passed = self.table.hand_over(self.upped, a, self.alloc);
-        if passed.is_err() {
-            undo(&mut self.taken, s);
+        let upped = self.upped;
+        let alloc = self.alloc;
+        match self.table.hand_over(upped, a, alloc) {
+            Ok(()) => Ok(()),
+            Err(error) => {
+                undo(&mut self.taken, s);
+                Err(error)
+            }
         }
-        passed
     }
 }
 

@@ -1,15 +1,15 @@
 // The lives in use, by their numbers.
-ghost use Rattle.std.specs.Prelude.{◌≡◌, ◌↔◌, [], false, IsTrue, IsSome, IfOk, OnOk, OnErr, Contains};
+ghost use Rattle.std.specs.Prelude.{◌≡◌, ◌↔◌, [], false, IsTrue, IfOk, IfNone, OnOk, OnErr, Contains};
 ghost use Rattle.std.specs.Option.{option_copied};
 ghost use Rattle.std.specs.List.{list_any};
 ghost use Rattle.sa_lemmas.specs.Function.{put};
-ghost use Rattle.sa_laws.specs.Life.{bereft};
+ghost use Rattle.sa_laws.specs.Life.{with_hand, inherits, bereft};
 ghost use Rattle.sa_laws.specs.Record.{with_life, handed, locks_one};
 ghost use Rattle.sa_laws.specs.Readings.{Readings, IsLocked};
 ghost use Rattle.sa_laws.specs.Turns.{AnotherHas};
 ghost use Rattle.sa_laws.specs.Locks.{HoldsLock};
-ghost use Rattle.sa_lives.specs.Change.{changed_by, inside_by};
-ghost use Rattle.sa_lives.specs.Table.{lives_in, SomeIsIn, KeepsAll, KeepsOthers, KeepsUpped, KeepsLocked, KeepsInside, IsReady, IsAddedTo, some_passes, has_list, has_thread, is_in, is_list, is_of_thread};
+ghost use Rattle.sa_lives.specs.Change.{changed_by};
+ghost use Rattle.sa_lives.specs.Table.{lives_in, SomeIsIn, KeepsAll, KeepsOthers, KeepsUpped, KeepsUnless, IsThere, IsAddedTo, some_passes, has_list, has_thread, is_in, is_list, is_of_thread};
 
 use crate::change::Change;
 use crate::life::KeptLife;
@@ -29,19 +29,18 @@ pub(crate) struct Table {
 }
 
 impl Model for Table {
-    ghost use Rattle.std.specs.BTreeMap.{BTreeMap};
+    ghost use Rattle.std.specs.Prelude.{ℕ, List};
     ghost use Rattle.sa_laws.specs.Life.{Life};
-    ghost use Rattle.std.specs.Prelude.{ℕ};
 
-    ghost Value = { BTreeMap ℕ Life };
+    ghost Value = { List (ℕ × Life) };
 
     ghost use Rattle.sa_laws.specs.Life.{has_lock};
     ghost use Rattle.sa_lives.specs.Table.{lives_in, AreAmong, is_inside};
 
-    ghost view = { λ x. x.map };
+    ghost view = { λ x. x.map.entries };
 
-    ghost invariant = { λ x. AreAmong has_lock (lives_in x.map) x.holders.items
-        × AreAmong is_inside (lives_in x.map) x.insiders.items };
+    ghost invariant = { λ x. AreAmong has_lock (lives_in x.map.entries) x.holders.items
+        × AreAmong is_inside (lives_in x.map.entries) x.insiders.items };
 }
 
 impl Table {
@@ -85,9 +84,9 @@ impl Table {
     }
 
     // Changes the life of this number, if it is in use. An error changes nothing.
-    pub(crate) fn change(&mut self, a: Option<ActNo>, change: Change<'_>) -> Result<(), AllocError>
+    pub(crate) fn change(&mut self, a: Option<ActNo>, change: &Change) -> Result<(), AllocError>
         ensures ok { OnOk result
-            (lives_in self.new ≡ with_life (changed_by change) a (lives_in self.old)) }
+            (lives_in self.new ≡ with_life (changed_by change.now) a (lives_in self.old)) }
         ensures err { OnErr result (lives_in self.new ≡ lives_in self.old) }
     {
         let Some(a) = a else {
@@ -96,10 +95,24 @@ impl Table {
         if !self.map.contains_key(&a.0) {
             return Ok(());
         }
-        prepare(&mut self.holders, &mut self.insiders, a, change)?;
+        add_if(&mut self.holders, a.0, change.adds_lock())?;
+        add_if(&mut self.insiders, a.0, change.enters())?;
         let has_lock = write(&mut self.map, a, change)?;
-        settle(&mut self.holders, &mut self.insiders, a, change, has_lock);
+        remove_if(&mut self.holders, a.0, !has_lock && change.drops_lock());
+        remove_if(&mut self.insiders, a.0, change.leaves());
         Ok(())
+    }
+
+    // The threads join the hand of the life of this number, if it is in use. An error changes nothing.
+    pub(crate) fn rouse(&mut self, a: Option<ActNo>, threads: &[ThreadNo]) -> Result<(), AllocError>
+        ensures ok { OnOk result
+            (lives_in self.new ≡ with_life (with_hand threads.now) a (lives_in self.old)) }
+        ensures err { OnErr result (lives_in self.new ≡ lives_in self.old) }
+    {
+        let Some(a) = a else {
+            return Ok(());
+        };
+        rouse(&mut self.map, a, threads)
     }
 
     // The life `a` was told to the life of the last up, which gets its locks and its hand. An error changes nothing.
@@ -108,9 +121,10 @@ impl Table {
             (lives_in self.new ≡ handed upped a (lives_in self.old a.0) (lives_in self.old)) }
         ensures err { OnErr result (lives_in self.new ≡ lives_in self.old) }
     {
-        let Some(has_lock) = self.life(a).map(KeptLife::has_lock) else {
+        let Some(life) = self.map.get(&a.0) else {
             return Ok(());
         };
+        let has_lock = life.has_lock();
         add_to(&mut self.holders, upped, has_lock)?;
         pass_on(&mut self.map, upped, a, alloc)?;
         remove_but(&mut self.holders, upped, a);
@@ -152,13 +166,13 @@ impl Table {
 
 // Some life of these numbers, but for one that is given, has the list of the space among its locks.
 fn some_has_list(map: &BTreeMap<u64, KeptLife>, numbers: &[u64], but: Option<ActNo>, s: SpaceNo, l: ProcNo) -> bool
-    ensures { result ≡ some_passes (has_list but s l) (lives_in map.now) numbers.now }
+    ensures { result ≡ some_passes (has_list but s l) (lives_in map.now.entries) numbers.now }
 {
     numbers.iter().any(|a| has_list(map, *a, but, s, l))
 }
 
 fn has_list(map: &BTreeMap<u64, KeptLife>, a: u64, but: Option<ActNo>, s: SpaceNo, l: ProcNo) -> bool
-    ensures { result ≡ has_list but s l a (lives_in map.now a) }
+    ensures { result ≡ has_list but s l a (lives_in map.now.entries a) }
 {
     match map.get(&a) {
         None => false,
@@ -177,13 +191,13 @@ fn locks_list(locks: &[ListLock], l: ProcNo) -> bool
 
 // Some life of these numbers has a lock of the thread of the space.
 fn some_has_thread(map: &BTreeMap<u64, KeptLife>, numbers: &[u64], s: SpaceNo, t: ThreadNo) -> bool
-    ensures { result ≡ some_passes (has_thread s t) (lives_in map.now) numbers.now }
+    ensures { result ≡ some_passes (has_thread s t) (lives_in map.now.entries) numbers.now }
 {
     numbers.iter().any(|a| has_thread(map, *a, s, t))
 }
 
 fn has_thread(map: &BTreeMap<u64, KeptLife>, a: u64, s: SpaceNo, t: ThreadNo) -> bool
-    ensures { result ≡ has_thread s t a (lives_in map.now a) }
+    ensures { result ≡ has_thread s t a (lives_in map.now.entries a) }
 {
     match map.get(&a) {
         None => false,
@@ -200,13 +214,13 @@ fn locks_thread(locks: &[ListLock], t: ThreadNo) -> bool
 
 // Some life of these numbers is in.
 fn some_is_in(map: &BTreeMap<u64, KeptLife>, numbers: &[u64]) -> bool
-    ensures { result ≡ some_passes is_in (lives_in map.now) numbers.now }
+    ensures { result ≡ some_passes is_in (lives_in map.now.entries) numbers.now }
 {
     numbers.iter().any(|a| is_in(map, *a))
 }
 
 fn is_in(map: &BTreeMap<u64, KeptLife>, a: u64) -> bool
-    ensures { result ≡ is_in a (lives_in map.now a) }
+    ensures { result ≡ is_in a (lives_in map.now.entries a) }
 {
     map.get(&a).is_some_and(KeptLife::inside)
 }
@@ -229,33 +243,24 @@ fn remove(numbers: &mut Vec<u64>, n: u64)
     numbers.retain(|k| *k != n);
 }
 
-// Adds the number to those that it belongs to after the change. An error leaves both sound.
-fn prepare(holders: &mut Vec<u64>, insiders: &mut Vec<u64>, a: ActNo, change: Change<'_>) -> Result<(), AllocError>
-    ensures ready { OnOk result (IsReady change a holders.new.items insiders.new.items) }
-    ensures holders { KeepsAll holders.old.items holders.new.items }
-    ensures insiders { KeepsAll insiders.old.items insiders.new.items }
+// Adds a number, if that is asked for.
+fn add_if(numbers: &mut Vec<u64>, n: u64, asked: bool) -> Result<(), AllocError>
+    ensures there { OnOk result (IsThere asked n numbers.new.items) }
+    ensures others { KeepsAll numbers.old.items numbers.new.items }
 {
-    if change.adds_lock() {
-        add(holders, a.0)?;
-    }
-    if change.inside() == Some(true) {
-        add(insiders, a.0)?;
+    if asked {
+        return add(numbers, n);
     }
     Ok(())
 }
 
-// Removes the number from those that it does not belong to after the change, where it belonged to them before.
-fn settle(holders: &mut Vec<u64>, insiders: &mut Vec<u64>, a: ActNo, change: Change<'_>, has_lock: bool)
-    ensures holders { KeepsOthers a.0 holders.old.items holders.new.items }
-    ensures lock { KeepsLocked has_lock a holders.old.items holders.new.items }
-    ensures insiders { KeepsOthers a.0 insiders.old.items insiders.new.items }
-    ensures inside { KeepsInside (inside_by change) a insiders.old.items insiders.new.items }
+// Removes a number, if that is asked for.
+fn remove_if(numbers: &mut Vec<u64>, n: u64, asked: bool)
+    ensures others { KeepsOthers n numbers.old.items numbers.new.items }
+    ensures itself { KeepsUnless asked n numbers.old.items numbers.new.items }
 {
-    if !has_lock && change.drops_lock() {
-        remove(holders, a.0);
-    }
-    if change.inside() == Some(false) {
-        remove(insiders, a.0);
+    if asked {
+        remove(numbers, n);
     }
 }
 
@@ -281,11 +286,11 @@ fn remove_but(holders: &mut Vec<u64>, upped: Option<ActNo>, a: ActNo)
 }
 
 // Changes the life of this number, if there is one, and says whether it has a lock then. An error changes nothing.
-fn write(map: &mut BTreeMap<u64, KeptLife>, a: ActNo, change: Change<'_>) -> Result<bool, AllocError>
+fn write(map: &mut BTreeMap<u64, KeptLife>, a: ActNo, change: &Change) -> Result<bool, AllocError>
     ensures ok { OnOk result
-        (lives_in map.new ≡ with_life (changed_by change) (Some a) (lives_in map.old)) }
-    ensures lock { IfOk result (λ has. has ≡ locks_one (lives_in map.new a.0)) }
-    ensures err { OnErr result (lives_in map.new ≡ lives_in map.old) }
+        (lives_in map.new.entries ≡ with_life (changed_by change.now) (Some a) (lives_in map.old.entries)) }
+    ensures lock { IfOk result (λ has. has ≡ locks_one (lives_in map.new.entries a.0)) }
+    ensures err { OnErr result (lives_in map.new.entries ≡ lives_in map.old.entries) }
 {
     let Some(life) = map.get_mut(&a.0) else {
         return Ok(false);
@@ -294,38 +299,75 @@ fn write(map: &mut BTreeMap<u64, KeptLife>, a: ActNo, change: Change<'_>) -> Res
     Ok(life.has_lock())
 }
 
+// The threads join the hand of the life of this number, if there is one. An error changes nothing.
+fn rouse(map: &mut BTreeMap<u64, KeptLife>, a: ActNo, threads: &[ThreadNo]) -> Result<(), AllocError>
+    ensures ok { OnOk result (lives_in map.new.entries
+        ≡ with_life (with_hand threads.now) (Some a) (lives_in map.old.entries)) }
+    ensures err { OnErr result (lives_in map.new.entries ≡ lives_in map.old.entries) }
+{
+    let Some(life) = map.get_mut(&a.0) else {
+        return Ok(());
+    };
+    life.rouse(threads)
+}
+
+// The life of this number gets the locks and the hand of another, if there is one. An error changes nothing.
+fn inherit(map: &mut BTreeMap<u64, KeptLife>, a: ActNo, from: &KeptLife) -> Result<(), AllocError>
+    ensures ok { OnOk result (lives_in map.new.entries
+        ≡ with_life (inherits from.now) (Some a) (lives_in map.old.entries)) }
+    ensures err { OnErr result (lives_in map.new.entries ≡ lives_in map.old.entries) }
+{
+    let Some(life) = map.get_mut(&a.0) else {
+        return Ok(());
+    };
+    life.inherit(from)
+}
+
 // The life `a` loses its locks and its hand to the life of the last up. An error changes nothing.
 fn pass_on(map: &mut BTreeMap<u64, KeptLife>, upped: Option<ActNo>, a: ActNo, alloc: Global) -> Result<(), AllocError>
-    ensures ok { OnOk result
-        (lives_in map.new ≡ handed upped a (lives_in map.old a.0) (lives_in map.old)) }
-    ensures err { OnErr result (lives_in map.new ≡ lives_in map.old) }
+    ensures ok { OnOk result (lives_in map.new.entries
+        ≡ handed upped a (lives_in map.old.entries a.0) (lives_in map.old.entries)) }
+    ensures err { OnErr result (lives_in map.new.entries ≡ lives_in map.old.entries) }
 {
     let Some(from) = bereave(map, a, alloc) else {
         return Ok(());
     };
-    let Some(to) = upped else {
-        return Ok(());
-    };
-    if let Err(error) = write(map, to, Change::Inherit(&from)) {
-        put_back(map, a, from);
-        return Err(error);
+    match upped {
+        None => Ok(()),
+        Some(to) => pass_to(map, to, a, from),
     }
-    Ok(())
+}
+
+// The life of the number `to` gets what `a` had. With an error `a` is again what it was.
+fn pass_to(map: &mut BTreeMap<u64, KeptLife>, to: ActNo, a: ActNo, from: KeptLife) -> Result<(), AllocError>
+    ensures ok { OnOk result (lives_in map.new.entries
+        ≡ with_life (inherits from) (Some to) (lives_in map.old.entries)) }
+    ensures err { OnErr result (lives_in map.new.entries
+        ≡ with_life (λ life. from) (Some a) (lives_in map.old.entries)) }
+{
+    match inherit(map, to, &from) {
+        Ok(()) => Ok(()),
+        Err(error) => {
+            put_back(map, a, from);
+            Err(error)
+        }
+    }
 }
 
 // Takes the locks, the open cont and the hand from a life, and gives what it was.
 fn bereave(map: &mut BTreeMap<u64, KeptLife>, a: ActNo, alloc: Global) -> Option<KeptLife>
-    ensures was { result ≡ lives_in map.old a.0 }
-    ensures now { lives_in map.new ≡ with_life bereft (Some a) (lives_in map.old) }
+    ensures was { result ≡ lives_in map.old.entries a.0 }
+    ensures now { lives_in map.new.entries ≡ with_life bereft (Some a) (lives_in map.old.entries) }
+    ensures none { IfNone result (lives_in map.new.entries ≡ lives_in map.old.entries) }
 {
     let life = map.get_mut(&a.0)?;
     Some(life.bereave(alloc))
 }
 
-// Puts a life in the place of another.
+// Puts a life in the place of another, if there is one.
 fn put_back(map: &mut BTreeMap<u64, KeptLife>, a: ActNo, life: KeptLife)
-    requires { IsSome (lives_in map.old a.0) }
-    ensures { lives_in map.new ≡ put (lives_in map.old) a.0 (Some life) }
+    ensures { lives_in map.new.entries
+        ≡ with_life (λ other. life) (Some a) (lives_in map.old.entries) }
 {
     if let Some(place) = map.get_mut(&a.0) {
         *place = life;

@@ -22,6 +22,6 @@ pub use parts::{
     others_of, own_part,
 };
 pub use turns::{
-    are_of_locks, are_told_alone, are_raising, has_up, is_block, is_closing, is_fetch_or_nothing,
+    are_of_locks, are_raising, are_told_alone, has_up, is_block, is_closing, is_fetch_or_nothing,
     is_ins_of, is_interrupt, is_out, is_over, is_passage, stands_alone,
 };

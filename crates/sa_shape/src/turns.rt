@@ -98,7 +98,9 @@ pub fn is_over(kind: IoKind, records: &[Record]) -> bool
     };
     match (kind, first) {
         (IoKind::Plain(s, a), Record::Unblock(of, _, b)) => of == s && b == a && others.is_empty(),
-        (IoKind::Page(s, a, _), Record::Unblock(of, _, b)) => of == s && b == a && others.is_empty(),
+        (IoKind::Page(s, a, _), Record::Unblock(of, _, b)) => of == s
+            && b == a
+            && others.is_empty(),
         (IoKind::Upcall(s), Record::Fetched(of)) => of == s && others.is_empty(),
         _ => false,
     }
