@@ -1,4 +1,4 @@
-ghost use Rattle.std.specs.Prelude.{◌≡◌};
+ghost use Rattle.std.specs.Prelude.{◌≡◌, true, false};
 ghost use Rattle.sa_lives.specs.Change.{adds_lock, enters, leaves};
 
 use crate::lock::ListLock;
@@ -53,10 +53,12 @@ impl Change {
         }
     }
 
-    // The change takes a lock from a life.
-    pub(crate) fn drops_lock(&self) -> bool {
+    // The change took the last lock from a life, which has one or not then.
+    pub(crate) fn bares(&self, has_lock: bool) -> bool
+        ensures { has_lock ≡ true → result ≡ false }
+    {
         match self {
-            Change::Free => true,
+            Change::Free => !has_lock,
             _ => false,
         }
     }

@@ -45,9 +45,9 @@ pub(crate) fn row_at<T: Copy>(rows: &[Row<T>], s: SpaceNo) -> &[T]
 }
 
 // Puts an item behind the others of the space. An error changes nothing.
-pub(crate) fn add<T: Copy>(rows: &mut [Row<T>], s: SpaceNo, item: T) -> Result<(), AllocError>
-    ensures ok { OnOk result (rows.new ≡ with_item rows.old s item) }
-    ensures err { OnErr result (rows.new ≡ rows.old) }
+pub(crate) fn add<T: Copy>(rows: &mut Vec<Row<T>>, s: SpaceNo, item: T) -> Result<(), AllocError>
+    ensures ok { OnOk result (rows.new.items ≡ with_item rows.old.items s item) }
+    ensures err { OnErr result (rows.new.items ≡ rows.old.items) }
 {
     if usize::from(s.0) >= rows.len() {
         return Ok(());
@@ -56,8 +56,8 @@ pub(crate) fn add<T: Copy>(rows: &mut [Row<T>], s: SpaceNo, item: T) -> Result<(
 }
 
 // Takes out the last item of the space.
-pub(crate) fn undo<T: Copy>(rows: &mut [Row<T>], s: SpaceNo)
-    ensures { rows.new ≡ without_last rows.old s }
+pub(crate) fn undo<T: Copy>(rows: &mut Vec<Row<T>>, s: SpaceNo)
+    ensures { rows.new.items ≡ without_last rows.old.items s }
 {
     if usize::from(s.0) < rows.len() {
         rows[usize::from(s.0)].pop();

@@ -98,7 +98,7 @@ impl Table {
         add_if(&mut self.holders, a.0, change.adds_lock())?;
         add_if(&mut self.insiders, a.0, change.enters())?;
         let has_lock = write(&mut self.map, a, change)?;
-        remove_if(&mut self.holders, a.0, !has_lock && change.drops_lock());
+        remove_if(&mut self.holders, a.0, change.bares(has_lock));
         remove_if(&mut self.insiders, a.0, change.leaves());
         Ok(())
     }

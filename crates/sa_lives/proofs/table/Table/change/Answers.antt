@@ -24,4 +24,13 @@ invariant_of-self-2 c =
     let after = with_life (changed_by change) (Some c.in-Some.a) old in
     let same : lives_in c.write.new.map.entries ≡ after = c.in_ok-has_lock.ensures.ok in
     let has : c.in_ok-has_lock.has_lock ≡ locks_one (after c.in-Some.a.0) = c.in_ok-has_lock.ensures.lock ∙ ap (λ lives. locks_one (lives c.in-Some.a.0)) same in
-    ?
+    let adds : IsThere (adds_lock change) c.in-Some.a.0 h1 = subst (λ b. IsThere b c.in-Some.a.0 h1) c.adds_lock.ensures c.in_ok-add_if.ensures.there in
+    let comes : IsThere (enters change) c.in-Some.a.0 i1 = subst (λ b. IsThere b c.in-Some.a.0 i1) c.enters.ensures c.in_ok-add_if-2.ensures.there in
+    let goes : KeepsUnless (leaves change) c.in-Some.a.0 i1 c.remove_if-2.new.numbers.items =
+        subst (λ b. KeepsUnless b c.in-Some.a.0 i1 c.remove_if-2.new.numbers.items) c.leaves.ensures c.remove_if-2.ensures.itself in
+    (subst (λ lives. AreAmong has_lock lives c.remove_if.new.numbers.items) (sym same)
+      (holders-changed old change c.in-Some.a c.in_ok-has_lock.has_lock c.bares.result c.self.inside.holders.items h1 c.remove_if.new.numbers.items
+        c.self.invariant.0 c.add_if.ensures.others adds has c.remove_if.ensures.others c.remove_if.ensures.itself c.bares.ensures),
+    subst (λ lives. AreAmong is_inside lives c.remove_if-2.new.numbers.items) (sym same)
+      (insiders-changed old change c.in-Some.a c.self.inside.insiders.items i1 c.remove_if-2.new.numbers.items
+        c.self.invariant.1 c.add_if-2.ensures.others comes c.remove_if-2.ensures.others goes))
