@@ -1,8 +1,8 @@
 -- Each life that passes a test stays among the numbers beside the table.
-use Rattle.std.proofs.Common.{◌≡◌, ◌≢◌, ℕ, refl, sym, ◌∙◌, ap, subst, inl, inr, true, false, not, Bool, List, Option, Some, None, ◌⊎◌}
+use Rattle.std.proofs.Common.{◌≡◌, ℕ, refl, sym, ◌∙◌, ap, subst, inl, inr, true, false, not, Bool, List, Option, Some, None, ◌⊎◌}
 use Rattle.std.specs.Prelude.{Contains, [], ◌∷◌, ◌++◌, map, drop, Result, Ok, Err, OnOk, OnErr}
 use Rattle.std.specs.Option.{option_map}
-use Rattle.std.proofs.lemmas.Bool.{cases_eq, cases_Bool}
+use Rattle.std.proofs.lemmas.Bool.{cases_eq}
 use Rattle.std.proofs.lemmas.Option.{same_Some, none-some}
 use Rattle.sa_lemmas.specs.Function.{put}
 use Rattle.sa_lemmas.proofs.FunctionUpdates.{put-at, put-other, put-same}
@@ -23,10 +23,12 @@ among-more test lives numbers more old keeps = record { each = λ a life is pass
 pub among-put : (test : Life → Bool) (lives : ℕ → Option Life) (numbers more : List ℕ) (a : ℕ) (w : Option Life)
     → AreAmong test lives numbers → KeepsOthers a numbers more → ((life : Life) → w ≡ Some life → test life ≡ true → Contains more a)
     → AreAmong test (put lives a w) more
-among-put test lives numbers more a w old keeps here = record { each = λ k life is passes. elim (cases_eq k a) [
-  | inl same ↦ subst (Contains more) (sym same) (here life (sym (put-at lives a k w same) ∙ is) passes)
-  | inr apart ↦ keeps.each k apart (old.each k life (sym (put-other lives a k w apart) ∙ is) passes)
-] }
+among-put test lives numbers more a w old keeps here = record {
+  each = λ k life is passes. elim (cases_eq k a) [
+    | inl same ↦ subst (Contains more) (sym same) (here life (sym (put-at lives a k w same) ∙ is) passes)
+    | inr apart ↦ keeps.each k apart (old.each k life (sym (put-other lives a k w apart) ∙ is) passes)
+  ];
+}
 
 -- the locks of a life after a change
 some-change : (f : Lock → Lock) (locks : List Lock) → some_lock (change_first f locks) ≡ some_lock locks
@@ -84,12 +86,12 @@ holders-changed lives change a has removed h0 h1 h2 old grown there is others ke
     let w = option_map (changed_by change) (lives a.0) in
     let more : AreAmong has_lock lives h1 = among-more has_lock lives h0 h1 old grown in
     among-put has_lock lives h1 h2 a.0 w more others (λ life new passes.
-      let at : (x : Life) × (lives a.0 ≡ Some x) × (changed_by change x ≡ life) = mapped (changed_by change) (lives a.0) life new in
-      let had : has ≡ true = is ∙ ap locks_one (put-same lives a.0 w ∙ new) ∙ passes in
-      kept.each (stays had) (elim (lock-before change at.0 (ap has_lock at.2 ∙ passes)) [
-        | inl before ↦ more.each a.0 at.0 at.1 before
-        | inr adds ↦ there.each adds
-      ]))
+    let at : (x : Life) × (lives a.0 ≡ Some x) × (changed_by change x ≡ life) = mapped (changed_by change) (lives a.0) life new in
+    let had : has ≡ true = is ∙ ap locks_one (put-same lives a.0 w ∙ new) ∙ passes in
+    kept.each (stays had) (elim (lock-before change at.0 (ap has_lock at.2 ∙ passes)) [
+      | inl before ↦ more.each a.0 at.0 at.1 before
+      | inr adds ↦ there.each adds
+    ]))
 
 stays-in : (change : Change) → enters change ≡ true → leaves change ≡ false
 stays-in (Stop t) is = refl
@@ -113,11 +115,11 @@ insiders-changed lives change a i0 i1 i2 old grown there others kept =
     let w = option_map (changed_by change) (lives a.0) in
     let more : AreAmong is_inside lives i1 = among-more is_inside lives i0 i1 old grown in
     among-put is_inside lives i1 i2 a.0 w more others (λ life new passes.
-      let at : (x : Life) × (lives a.0 ≡ Some x) × (changed_by change x ≡ life) = mapped (changed_by change) (lives a.0) life new in
-      elim (inside-before change at.0 (ap is_inside at.2 ∙ passes)) [
-        | inl before ↦ kept.each before.1 (more.each a.0 at.0 at.1 before.0)
-        | inr here ↦ kept.each (stays-in change here) (there.each here)
-      ])
+    let at : (x : Life) × (lives a.0 ≡ Some x) × (changed_by change x ≡ life) = mapped (changed_by change) (lives a.0) life new in
+    elim (inside-before change at.0 (ap is_inside at.2 ∙ passes)) [
+      | inl before ↦ kept.each before.1 (more.each a.0 at.0 at.1 before.0)
+      | inr here ↦ kept.each (stays-in change here) (there.each here)
+    ])
 
 -- where a life loses what it has to that of the last up
 keeps-self : (n : ℕ) (numbers : List ℕ) → KeepsOthers n numbers numbers
@@ -129,7 +131,7 @@ bereft-among : (test : Life → Bool) (a : ActNo) (lives : ℕ → Option Life) 
 bereft-among test a lives numbers more out old others =
     among-put test lives numbers more a.0 (option_map bereft (lives a.0)) old others
     (λ life new passes. let at : (x : Life) × (lives a.0 ≡ Some x) × (bereft x ≡ life) = mapped bereft (lives a.0) life new in
-      absurd (out at.0 (ap test at.2 ∙ passes)))
+    absurd (out at.0 (ap test at.2 ∙ passes)))
 
 handed-among : (test : Life → Bool) (upped : Option ActNo) (a : ActNo) (from : Life) (lives : ℕ → Option Life) (numbers more : List ℕ)
     → ((life : Life) → test (bereft life) ≡ true → ⊥)
@@ -142,11 +144,11 @@ handed-among test (Some to) a from lives numbers more out old others gets =
     let first : AreAmong test left more = bereft-among test a lives numbers more out old others in
     among-put test left more more to.0 (option_map (inherits from) (left to.0)) first (keeps-self to.0 more)
     (λ life new passes.
-      let at : (x : Life) × (left to.0 ≡ Some x) × (inherits from x ≡ life) = mapped (inherits from) (left to.0) life new in
-      elim (gets at.0 to refl (ap test at.2 ∙ passes)) [
-        | inl before ↦ first.each to.0 at.0 at.1 before
-        | inr there ↦ there
-      ])
+    let at : (x : Life) × (left to.0 ≡ Some x) × (inherits from x ≡ life) = mapped (inherits from) (left to.0) life new in
+    elim (gets at.0 to refl (ap test at.2 ∙ passes)) [
+      | inl before ↦ first.each to.0 at.0 at.1 before
+      | inr there ↦ there
+    ])
 
 pub holders-handed : (upped : Option ActNo) (a : ActNo) (from : Life) (lives : ℕ → Option Life) (h0 h1 h2 : List ℕ)
     → AreAmong has_lock lives h0 → KeepsAll h0 h1 → IsAddedTo upped (has_lock from) h1 → KeepsOthers a.0 h1 h2 → KeepsUpped upped h1 h2
@@ -180,8 +182,8 @@ pub among-roused : (test : Life → Bool) (lives : ℕ → Option Life) (threads
     → AreAmong test lives numbers → AreAmong test (with_life (with_hand threads) (Some a) lives) numbers
 among-roused test lives threads a numbers same old =
     among-put test lives numbers numbers a.0 (option_map (with_hand threads) (lives a.0)) old (keeps-self a.0 numbers) (λ life new passes.
-      let at : (x : Life) × (lives a.0 ≡ Some x) × (with_hand threads x ≡ life) = mapped (with_hand threads) (lives a.0) life new in
-      old.each a.0 at.0 at.1 (sym (same at.0) ∙ ap test at.2 ∙ passes))
+    let at : (x : Life) × (lives a.0 ≡ Some x) × (with_hand threads x ≡ life) = mapped (with_hand threads) (lives a.0) life new in
+    old.each a.0 at.0 at.1 (sym (same at.0) ∙ ap test at.2 ∙ passes))
 
 -- after a call that may have failed
 pub among-after : {T E : Type 0} (result : Result T E) (test : Life → Bool) (numbers : List ℕ) (old changed new : ℕ → Option Life)

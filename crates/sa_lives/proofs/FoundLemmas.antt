@@ -1,10 +1,9 @@
 -- Some life that passes a test, found among the numbers beside the table.
-use Rattle.std.proofs.Common.{arith, ◌≡◌, ◌≢◌, ℕ, ◌<◌, refl, sym, ◌∙◌, ap, inl, inr, true, false, not, ◌==◌, Bool, List, [], ◌∷◌, length, Option, Some, None, ◌⊎◌, ◌↔◌, IsTrue}
-use Rattle.std.specs.Prelude.{Contains, Any, ◌&&◌}
+use Rattle.std.proofs.Common.{arith, ◌≡◌, ◌≢◌, ℕ, refl, sym, ◌∙◌, ap, true, false, not, ◌==◌, Bool, List, [], ◌∷◌, Option, Some, None, ◌↔◌}
+use Rattle.std.specs.Prelude.{Contains, ◌&&◌}
 use Rattle.std.specs.List.{list_any}
 use Rattle.std.proofs.lemmas.Bool.{and_parts, and_from, eqb-true, eq-eqb}
 use Rattle.std.proofs.lemmas.List.Folds.{Any-from_list_any, list_any-from_Any}
-use Rattle.std.proofs.lemmas.Option.{same_Some, none-some}
 use Rattle.sa_base.specs.declared.number.ProcNo.{ProcNo}
 use Rattle.sa_base.specs.declared.number.SpaceNo.{SpaceNo}
 use Rattle.sa_base.specs.declared.number.ThreadNo.{ThreadNo}
@@ -14,7 +13,7 @@ use Rattle.sa_laws.specs.Record.{is_thread}
 use Rattle.sa_laws.specs.Readings.{Readings, IsLocked, HasList}
 use Rattle.sa_laws.specs.Turns.{AnotherHas}
 use Rattle.sa_laws.specs.Locks.{HoldsLock}
-use Rattle.sa_lives.specs.Table.{AreAmong, SomeIsIn, some_passes, has_list, has_thread, is_in, is_act, is_list, is_of_thread, is_inside}
+use Rattle.sa_lives.specs.Table.{AreAmong, SomeIsIn, some_passes, has_list, has_thread, is_in, is_list, is_of_thread, is_inside}
 
 -- a life that passes a test
 record Found (test : ℕ → Option Life → Bool) (lives : ℕ → Option Life) : Type 0 where
@@ -63,7 +62,7 @@ list-finds life s l h = and_from (life.space.0 == s.0) (list_any (is_list l) lif
 pub locked-iff : (r : Readings) (lives : ℕ → Option Life) (holders : List ℕ) (s : SpaceNo) (l : ProcNo) → AreAmong has_lock lives holders
     → r.lives ≡ lives → (some_passes (has_list None s l) lives holders ≡ true) ↔ IsLocked r s l
 locked-iff r lives holders s l among same = (
-    (λ holds.
+  (λ holds.
       let f = found (has_list None s l) lives holders (λ n. refl) holds in
       let parts = and_parts (f.life.space.0 == s.0) (list_any (is_list l) f.life.locks) f.passes in
       record {
@@ -72,10 +71,11 @@ locked-iff r lives holders s l among same = (
         is = ap (λ g. g f.act) same ∙ f.is;
         has = list-found f.life s l parts.0 parts.1;
       }),
-    (λ locked. finds has_lock (has_list None s l) lives holders among locked.act.0 locked.life
+  (λ locked. finds has_lock (has_list None s l) lives holders among locked.act.0 locked.life
       (sym (ap (λ g. g locked.act.0) same) ∙ locked.is)
       (some-contained locked.life.locks locked.has.lock locked.has.among)
-      (list-finds locked.life s l locked.has)))
+      (list-finds locked.life s l locked.has)),
+)
 
 not-true : (b : Bool) → not b ≡ true → b ≡ true → ⊥
 not-true b fails holds = let bad : false ≡ true = sym (ap not holds) ∙ fails in cc
@@ -89,7 +89,7 @@ apart-act a b apart = go (a.0 == b.0) refl where
 pub other-iff : (r : Readings) (lives : ℕ → Option Life) (holders : List ℕ) (a : ActNo) (s : SpaceNo) (l : ProcNo) → AreAmong has_lock lives holders
     → r.lives ≡ lives → (some_passes (has_list (Some a) s l) lives holders ≡ true) ↔ AnotherHas r a s l
 other-iff r lives holders a s l among same = (
-    (λ holds.
+  (λ holds.
       let f = found (has_list (Some a) s l) lives holders (λ n. refl) holds in
       let other = and_parts (not (a.0 == f.act)) (f.life.space.0 == s.0 && list_any (is_list l) f.life.locks) f.passes in
       let parts = and_parts (f.life.space.0 == s.0) (list_any (is_list l) f.life.locks) other.1 in
@@ -100,11 +100,12 @@ other-iff r lives holders a s l among same = (
         is = ap (λ g. g f.act) same ∙ f.is;
         has = list-found f.life s l parts.0 parts.1;
       }),
-    (λ another. finds has_lock (has_list (Some a) s l) lives holders among another.other.0 another.life
+  (λ another. finds has_lock (has_list (Some a) s l) lives holders among another.other.0 another.life
       (sym (ap (λ g. g another.other.0) same) ∙ another.is)
       (some-contained another.life.locks another.has.lock another.has.among)
       (and_from (not (a.0 == another.other.0)) (another.life.space.0 == s.0 && list_any (is_list l) another.life.locks)
-        (apart-act a another.other another.apart) (list-finds another.life s l another.has))))
+      (apart-act a another.other another.apart) (list-finds another.life s l another.has))),
+)
 
 thread-is : (t : ThreadNo) (o : Option ThreadNo) → is_thread t o ≡ true → o ≡ Some t
 thread-is t None is = cc
@@ -116,7 +117,7 @@ thread-from t o is = ap (is_thread t) is ∙ eq-eqb t.0 t.0 refl
 pub holds-iff : (r : Readings) (lives : ℕ → Option Life) (holders : List ℕ) (s : SpaceNo) (t : ThreadNo) → AreAmong has_lock lives holders
     → r.lives ≡ lives → (some_passes (has_thread s t) lives holders ≡ true) ↔ HoldsLock r s t
 holds-iff r lives holders s t among same = (
-    (λ holds.
+  (λ holds.
       let f = found (has_thread s t) lives holders (λ n. refl) holds in
       let parts = and_parts (f.life.space.0 == s.0) (list_any (is_of_thread t) f.life.locks) f.passes in
       let some = Any-from_list_any (is_of_thread t) f.life.locks parts.1 in
@@ -129,15 +130,17 @@ holds-iff r lives holders s t among same = (
         among = (some.0, some.2, some.3);
         thread = thread-is t some.1.thread some.4;
       }),
-    (λ has. finds has_lock (has_thread s t) lives holders among has.act.0 has.life
+  (λ has. finds has_lock (has_thread s t) lives holders among has.act.0 has.life
       (sym (ap (λ g. g has.act.0) same) ∙ has.is)
       (some-contained has.life.locks has.lock has.among)
       (and_from (has.life.space.0 == s.0) (list_any (is_of_thread t) has.life.locks)
-        (eq-eqb has.life.space.0 s.0 (ap (λ (x : SpaceNo). x.0) has.space))
-        (list_any-from_Any (is_of_thread t) has.life.locks (has.among.0, has.lock, has.among.1, has.among.2, thread-from t has.lock.thread has.thread)))))
+      (eq-eqb has.life.space.0 s.0 (ap (λ (x : SpaceNo). x.0) has.space))
+      (list_any-from_Any (is_of_thread t) has.life.locks (has.among.0, has.lock, has.among.1, has.among.2, thread-from t has.lock.thread has.thread)))),
+)
 
 pub in-iff : (lives : ℕ → Option Life) (insiders : List ℕ) → AreAmong is_inside lives insiders
     → (some_passes is_in lives insiders ≡ true) ↔ SomeIsIn lives
 in-iff lives insiders among = (
-    (λ holds. let f = found is_in lives insiders (λ n. refl) holds in record { act = f.act; life = f.life; is = f.is; inside = f.passes }),
-    (λ some. finds is_inside is_in lives insiders among some.act some.life some.is some.inside some.inside))
+  (λ holds. let f = found is_in lives insiders (λ n. refl) holds in record { act = f.act; life = f.life; is = f.is; inside = f.passes }),
+  (λ some. finds is_inside is_in lives insiders among some.act some.life some.is some.inside some.inside),
+)

@@ -7,13 +7,12 @@ use Rattle.sa_base.specs.declared.number.ActNo.{ActNo}
 use Rattle.sa_base.specs.declared.record.Note.TheVariants.{Add, Preempted, Blocked, Unblocked}
 use Rattle.sa_base.specs.declared.record.Record.TheVariants.{Ins, Out, Run, Stop, Block, Unblock, Cont, Back, Ready, Take, Free, Up, Told, Move, Want, Aim, Line, Fetch, Fetched, GiveBack, Idle, Spin, Tick}
 use Rattle.sa_lemmas.specs.Function.{put}
-use Rattle.sa_instr.specs.Workload.{WorkloadView}
 use Rattle.sa_laws.specs.Life.{Life, with_lock}
 use Rattle.sa_laws.specs.Readings.{Readings, running_of, life_if}
 use Rattle.sa_laws.specs.Record.{with_life, locks}
 use Rattle.sa_laws.specs.History.{stepped, arisen}
 use Rattle.sa_lives.specs.Change.{stepped_by, arisen_by}
-use Rattle.sa_lives.specs.View.{LivesView, read_of}
+use Rattle.sa_lives.specs.View.{read_of}
 use Rattle.sa_lives.specs.Recorded.{taken_lock, IsForPush, RecordsAreRead, StepsAreRead, UpsAreRead}
 
 mapped-as : (f g : Life → Life) (o : Option Life) → ((life : Life) → o ≡ Some life → f life ≡ g life) → option_map f o ≡ option_map g o
@@ -63,13 +62,13 @@ records-read w e p r Tick for_push is = refl
 pub steps-read : StepsAreRead
 steps-read test w before e after first a lives x said =
     with_life-as (stepped test w before e after first) (stepped_by x) a lives (λ act life at here.
-      let freed = said.freed in
-      let scan = said.scan life.scans in
-      let inside = said.inside act life at here in
-      cc)
+    let freed = said.freed in
+    let scan = said.scan life.scans in
+    let inside = said.inside act life at here in
+    cc)
 
 pub ups-read : UpsAreRead
 ups-read test w before e after a lives inside said =
     with_life-as (arisen test w before e after) (arisen_by inside) a lives (λ act life at here.
-      let same = said act life at here in
-      cc)
+    let same = said act life at here in
+    cc)

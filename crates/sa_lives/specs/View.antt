@@ -1,5 +1,5 @@
 -- What a contract sees of the lives, and what each call does to them.
-use Rattle.std.specs.Prelude.{◌≡◌, ℕ, ◌==◌, nat_le, Bool, true, false, not, is_none, if◌then◌else◌, List, [], length, replicate, sum_by, Contains, Option, Some, None, slice_index_or, slice_set}
+use Rattle.std.specs.Prelude.{ℕ, Bool, true, false, not, List, [], replicate, sum_by, Option, Some, None, slice_index_or, slice_set}
 use Rattle.std.specs.Option.{option_map}
 use Rattle.sa_base.specs.declared.number.ProcNo.{ProcNo}
 use Rattle.sa_base.specs.declared.number.SpaceNo.{SpaceNo}
@@ -7,9 +7,8 @@ use Rattle.sa_base.specs.declared.number.ThreadNo.{ThreadNo}
 use Rattle.sa_base.specs.declared.number.ActNo.{ActNo}
 use Rattle.sa_base.specs.declared.record.Note.{Note}
 use Rattle.sa_base.specs.declared.record.Note.TheVariants.{Preempted, Blocked, Unblocked}
-use Rattle.sa_base.specs.declared.limits.TheConstants.{BULK_RETURN}
 use Rattle.sa_lemmas.specs.Function.{put}
-use Rattle.sa_laws.specs.Life.{Life, Lock, new_life, held_with, with_hand}
+use Rattle.sa_laws.specs.Life.{Life, new_life, held_with, with_hand}
 use Rattle.sa_laws.specs.Readings.{Readings, stopped_thread, was_idle}
 use Rattle.sa_laws.specs.Record.{with_life, handed, with_note, without_note, with_act, without_act, one_thread, stopped_with}
 use Rattle.sa_lives.specs.declared.change.Change.{Change}

@@ -273,7 +273,13 @@ impl Lives {
     }
 
     /// The life of this number was stopped on the processor, in the space and with the thread that the record names.
-    pub fn stop(&mut self, p: ProcNo, s: SpaceNo, t: Option<ThreadNo>, a: ActNo) -> Result<(), AllocError>
+    pub fn stop(
+        &mut self,
+        p: ProcNo,
+        s: SpaceNo,
+        t: Option<ThreadNo>,
+        a: ActNo,
+    ) -> Result<(), AllocError>
         ensures ok { OnOk result (lives_of self.new ≡ stopped p s t a (lives_of self.old)) }
         ensures err { OnErr result (lives_of self.new ≡ lives_of self.old) }
     {
@@ -283,7 +289,13 @@ impl Lives {
     }
 
     /// The life of this number has blocked on the processor.
-    pub fn block(&mut self, p: ProcNo, s: SpaceNo, t: Option<ThreadNo>, a: ActNo) -> Result<(), AllocError>
+    pub fn block(
+        &mut self,
+        p: ProcNo,
+        s: SpaceNo,
+        t: Option<ThreadNo>,
+        a: ActNo,
+    ) -> Result<(), AllocError>
         ensures ok { OnOk result (lives_of self.new ≡ blocked p s t a (lives_of self.old)) }
         ensures err { OnErr result (lives_of self.new ≡ lives_of self.old) }
     {
@@ -326,7 +338,13 @@ impl Lives {
     /// What a record of the processor does to the lives. `roused` are the threads that the record's instruction forks or
     /// wakes; `for_push` says whether the hand of the running life counts a thread, at a take. A record of any other kind
     /// changes nothing.
-    pub fn read(&mut self, p: ProcNo, what: Record, roused: &[ThreadNo], for_push: bool) -> Result<(), AllocError>
+    pub fn read(
+        &mut self,
+        p: ProcNo,
+        what: Record,
+        roused: &[ThreadNo],
+        for_push: bool,
+    ) -> Result<(), AllocError>
         ensures ok { OnOk result
             (lives_of self.new ≡ recorded roused.now for_push p what (lives_of self.old)) }
         ensures err { OnErr result (lives_of self.new ≡ lives_of self.old) }

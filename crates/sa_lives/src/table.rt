@@ -116,7 +116,12 @@ impl Table {
     }
 
     // The life `a` was told to the life of the last up, which gets its locks and its hand. An error changes nothing.
-    pub(crate) fn hand_over(&mut self, upped: Option<ActNo>, a: ActNo, alloc: Global) -> Result<(), AllocError>
+    pub(crate) fn hand_over(
+        &mut self,
+        upped: Option<ActNo>,
+        a: ActNo,
+        alloc: Global,
+    ) -> Result<(), AllocError>
         ensures ok { OnOk result
             (lives_in self.new ≡ handed upped a (lives_in self.old a.0) (lives_in self.old)) }
         ensures err { OnErr result (lives_in self.new ≡ lives_in self.old) }
@@ -165,13 +170,25 @@ impl Table {
 }
 
 // Some life of these numbers, but for one that is given, has the list of the space among its locks.
-fn some_has_list(map: &BTreeMap<u64, KeptLife>, numbers: &[u64], but: Option<ActNo>, s: SpaceNo, l: ProcNo) -> bool
+fn some_has_list(
+    map: &BTreeMap<u64, KeptLife>,
+    numbers: &[u64],
+    but: Option<ActNo>,
+    s: SpaceNo,
+    l: ProcNo,
+) -> bool
     ensures { result ≡ some_passes (has_list but s l) (lives_in map.now.entries) numbers.now }
 {
     numbers.iter().any(|a| has_list(map, *a, but, s, l))
 }
 
-fn has_list(map: &BTreeMap<u64, KeptLife>, a: u64, but: Option<ActNo>, s: SpaceNo, l: ProcNo) -> bool
+fn has_list(
+    map: &BTreeMap<u64, KeptLife>,
+    a: u64,
+    but: Option<ActNo>,
+    s: SpaceNo,
+    l: ProcNo,
+) -> bool
     ensures { result ≡ has_list but s l a (lives_in map.now.entries a) }
 {
     match map.get(&a) {
@@ -209,7 +226,9 @@ fn has_thread(map: &BTreeMap<u64, KeptLife>, a: u64, s: SpaceNo, t: ThreadNo) ->
 fn locks_thread(locks: &[ListLock], t: ThreadNo) -> bool
     ensures { result ≡ list_any (is_of_thread t) locks.now }
 {
-    locks.iter().any(|lock| lock.thread.is_some_and(|u| t.0 == u.0))
+    locks
+        .iter()
+        .any(|lock| lock.thread.is_some_and(|u| t.0 == u.0))
 }
 
 // Some life of these numbers is in.
@@ -300,7 +319,11 @@ fn write(map: &mut BTreeMap<u64, KeptLife>, a: ActNo, change: &Change) -> Result
 }
 
 // The threads join the hand of the life of this number, if there is one. An error changes nothing.
-fn rouse(map: &mut BTreeMap<u64, KeptLife>, a: ActNo, threads: &[ThreadNo]) -> Result<(), AllocError>
+fn rouse(
+    map: &mut BTreeMap<u64, KeptLife>,
+    a: ActNo,
+    threads: &[ThreadNo],
+) -> Result<(), AllocError>
     ensures ok { OnOk result (lives_in map.new.entries
         ≡ with_life (with_hand threads.now) (Some a) (lives_in map.old.entries)) }
     ensures err { OnErr result (lives_in map.new.entries ≡ lives_in map.old.entries) }
@@ -324,7 +347,12 @@ fn inherit(map: &mut BTreeMap<u64, KeptLife>, a: ActNo, from: &KeptLife) -> Resu
 }
 
 // The life `a` loses its locks and its hand to the life of the last up. An error changes nothing.
-fn pass_on(map: &mut BTreeMap<u64, KeptLife>, upped: Option<ActNo>, a: ActNo, alloc: Global) -> Result<(), AllocError>
+fn pass_on(
+    map: &mut BTreeMap<u64, KeptLife>,
+    upped: Option<ActNo>,
+    a: ActNo,
+    alloc: Global,
+) -> Result<(), AllocError>
     ensures ok { OnOk result (lives_in map.new.entries
         ≡ handed upped a (lives_in map.old.entries a.0) (lives_in map.old.entries)) }
     ensures err { OnErr result (lives_in map.new.entries ≡ lives_in map.old.entries) }
@@ -339,7 +367,12 @@ fn pass_on(map: &mut BTreeMap<u64, KeptLife>, upped: Option<ActNo>, a: ActNo, al
 }
 
 // The life of the number `to` gets what `a` had. With an error `a` is again what it was.
-fn pass_to(map: &mut BTreeMap<u64, KeptLife>, to: ActNo, a: ActNo, from: KeptLife) -> Result<(), AllocError>
+fn pass_to(
+    map: &mut BTreeMap<u64, KeptLife>,
+    to: ActNo,
+    a: ActNo,
+    from: KeptLife,
+) -> Result<(), AllocError>
     ensures ok { OnOk result (lives_in map.new.entries
         ≡ with_life (inherits from) (Some to) (lives_in map.old.entries)) }
     ensures err { OnErr result (lives_in map.new.entries

@@ -11,7 +11,7 @@ loop-i-preserved c =
     let all = c.args.rows.now in
     let so_far : c.loop-i.rows ≡ map f (take i all) ++ drop i all = c.loop-i.invariant in
     let one : slice_set c.loop-i.rows i c.drop_note.new.row ≡ map f (take (suc i) all) ++ drop (suc i) all =
-        ap (λ row. slice_set c.loop-i.rows i row) c.drop_note.ensures
-        ∙ ap (λ rows. slice_set rows i (f (slice_index_or rows i c.index-rows-i.result))) so_far
-        ∙ changed-more f all i c.index-rows-i.result c.loop-i-test.true in
+    ap (λ row. slice_set c.loop-i.rows i row) c.drop_note.ensures
+    ∙ ap (λ rows. slice_set rows i (f (slice_index_or rows i c.index-rows-i.result))) so_far
+    ∙ changed-more f all i c.index-rows-i.result c.loop-i-test.true in
     subst (λ n. slice_set c.loop-i.rows i c.drop_note.new.row ≡ map f (take n all) ++ drop n all) (sym (add-one i)) one

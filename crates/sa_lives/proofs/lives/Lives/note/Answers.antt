@@ -9,10 +9,10 @@ use Rattle.sa_lives.proofs.lives.Lives.note.Goals as goal
 pub returns-in-Err-clause-err : goal.returns-in-Err-clause-err
 returns-in-Err-clause-err c =
     let rows : c.undo.new.rows.items ≡ c.self.inside.untold.items =
-        c.undo.ensures ∙ ap (λ rows. without_last rows c.args.s) c.in_ok-add.ensures.ok ∙ undone c.self.inside.untold.items c.args.s c.args.note in
+    c.undo.ensures ∙ ap (λ rows. without_last rows c.args.s) c.in_ok-add.ensures.ok ∙ undone c.self.inside.untold.items c.args.s c.args.note in
     view-same (lives_of c.args.self.now) _
-      (c.in-Err.ensures.err ∙ ap (λ (v : Stored). lives_in v.table) c.self.view_is)
-      (ap (λ (v : Stored). v.running) c.self.view_is)
-      (ap (λ (v : Stored). v.taken) c.self.view_is)
-      (rows ∙ ap (λ (v : Stored). v.untold) c.self.view_is)
-      (ap (λ (v : Stored). v.upped) c.self.view_is)
+    (c.in-Err.ensures.err ∙ ap (λ (v : Stored). lives_in v.table) c.self.view_is)
+    (ap (λ (v : Stored). v.running) c.self.view_is)
+    (ap (λ (v : Stored). v.taken) c.self.view_is)
+    (rows ∙ ap (λ (v : Stored). v.untold) c.self.view_is)
+    (ap (λ (v : Stored). v.upped) c.self.view_is)

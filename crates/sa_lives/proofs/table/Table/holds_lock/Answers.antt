@@ -1,4 +1,4 @@
-use Rattle.std.proofs.Common.{◌≡◌, ◌↔◌, sym, ◌∙◌, ap, subst, true, Some, None}
+use Rattle.std.proofs.Common.{◌≡◌, ◌↔◌, sym, ◌∙◌, ap, subst, true}
 use Rattle.sa_laws.specs.Locks.{HoldsLock}
 use Rattle.sa_lives.specs.Table.{lives_in, some_passes, has_thread}
 use Rattle.sa_lives.proofs.FoundLemmas.{holds-iff}

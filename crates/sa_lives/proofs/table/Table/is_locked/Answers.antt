@@ -1,4 +1,4 @@
-use Rattle.std.proofs.Common.{◌≡◌, ◌↔◌, sym, ◌∙◌, ap, subst, true, Some, None}
+use Rattle.std.proofs.Common.{◌≡◌, ◌↔◌, sym, ◌∙◌, ap, subst, true, None}
 use Rattle.sa_laws.specs.Readings.{IsLocked}
 use Rattle.sa_lives.specs.Table.{lives_in, some_passes, has_list}
 use Rattle.sa_lives.proofs.FoundLemmas.{locked-iff}

@@ -11,8 +11,9 @@ invariant_of-self c =
     let new = lives_in c.rouse.new.map.entries in
     let changed = with_life (with_hand c.args.threads.now) (Some c.in-Some.a) old in
     let holders = c.self.inside.holders.items in
-    let insiders = c.self.inside.insiders.items in
-    (among-after c.rouse.result has_lock holders old changed new c.rouse.ensures.ok c.rouse.ensures.err c.self.invariant.0
-      (among-roused has_lock old c.args.threads.now c.in-Some.a holders (λ life. refl) c.self.invariant.0),
-    among-after c.rouse.result is_inside insiders old changed new c.rouse.ensures.ok c.rouse.ensures.err c.self.invariant.1
-      (among-roused is_inside old c.args.threads.now c.in-Some.a insiders (λ life. refl) c.self.invariant.1))
+    let insiders = c.self.inside.insiders.items in (
+      among-after c.rouse.result has_lock holders old changed new c.rouse.ensures.ok c.rouse.ensures.err c.self.invariant.0
+          (among-roused has_lock old c.args.threads.now c.in-Some.a holders (λ life. refl) c.self.invariant.0),
+      among-after c.rouse.result is_inside insiders old changed new c.rouse.ensures.ok c.rouse.ensures.err c.self.invariant.1
+          (among-roused is_inside old c.args.threads.now c.in-Some.a insiders (λ life. refl) c.self.invariant.1),
+    )
