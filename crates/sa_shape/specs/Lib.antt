@@ -1,0 +1,4 @@
+pub mod Due
+pub mod Page
+pub mod Parted
+pub mod Runs
