@@ -9,7 +9,7 @@ use Rattle.sa_base.specs.declared.number.SpaceNo.{SpaceNo}
 use Rattle.sa_base.specs.declared.number.ProcNo.{ProcNo}
 use Rattle.sa_base.specs.declared.record.Record.{Record}
 use Rattle.sa_base.specs.declared.record.Record.TheVariants.{Want, Move, Aim, Line}
-use Rattle.sa_instr.specs.Workload.{WorkloadView}
+use Rattle.sa_spaces.specs.Workload.{WorkloadView}
 use Rattle.sa_assign.specs.Aims.{is_aim, least_below}
 use Rattle.sa_assign.specs.Reaim.{proc_no}
 use Rattle.sa_assign.proofs.ChoiceLemmas.{least_below-passes, least_below-none}

@@ -3,6 +3,7 @@ use sa_lives::{ListLock, Lives, Scan, Stepped};
 use std::test::Fail;
 
 const P: ProcNo = ProcNo(1);
+
 const S: SpaceNo = SpaceNo(0);
 
 fn lock() -> ListLock {
@@ -35,9 +36,13 @@ fn a_told_life_hands_over(rt: HostRuntime) -> Result<(), Fail> {
     assert!(rt; lives.taken(S) == [ActNo(7)].as_slice());
     assert!(rt; lives.is_locked(S, ProcNo(1)));
     assert!(rt; !lives.is_locked_by_other(ActNo(9), S, ProcNo(1)));
-    let Some(life) = lives.life_on(P) else { return Ok(()) };
+    let Some(life) = lives.life_on(P) else {
+        return Ok(())
+    };
     assert!(rt; life.hand() == [ThreadNo(5), ThreadNo(3)].as_slice());
-    let Some(first) = life.first_lock() else { return Ok(()) };
+    let Some(first) = life.first_lock() else {
+        return Ok(())
+    };
     assert!(rt; first.inherited && first.used && first.for_push);
     lives.free(P)?;
     assert!(rt; !lives.is_locked(S, ProcNo(1)));
@@ -53,9 +58,18 @@ fn a_life_is_in_or_out(rt: HostRuntime) -> Result<(), Fail> {
     assert!(rt; !lives.some_is_in());
     lives.arise(P, true)?;
     assert!(rt; lives.some_is_in());
-    lives.step(Some(ActNo(1 << 60)), Stepped { freed: true, scan: Scan::More, inside: false })?;
+    lives.step(
+        Some(ActNo(1 << 60)),
+        Stepped {
+            freed: true,
+            scan: Scan::More,
+            inside: false,
+        },
+    )?;
     assert!(rt; !lives.some_is_in());
-    let Some(life) = lives.life_on(P) else { return Ok(()) };
+    let Some(life) = lives.life_on(P) else {
+        return Ok(())
+    };
     assert_eq!(rt; life.scans(), 1);
     assert!(rt; life.freed());
     Ok(())
