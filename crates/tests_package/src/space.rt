@@ -175,9 +175,12 @@ impl<U: UserLevel> Space<U> {
 
     // Where an activation stands.
     pub(crate) fn local(&self, a: usize) -> SeatState {
-        match self.contexts.get(a) {
-            Some(Some(ctx)) => self.user.local(ctx),
-            _ => SeatState::Away,
+        if a >= self.contexts.len() {
+            return SeatState::Away;
+        }
+        match &self.contexts[a] {
+            None => SeatState::Away,
+            Some(ctx) => self.user.local(ctx),
         }
     }
 
