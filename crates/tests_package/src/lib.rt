@@ -2,6 +2,10 @@
 #![tactic(auto)]
 
 #[cfg(test)]
+mod drive;
+#[cfg(test)]
 mod rows;
+#[cfg(test)]
+mod shadow;
 #[cfg(test)]
 mod space;

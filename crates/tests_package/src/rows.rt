@@ -1,6 +1,6 @@
 // Worked rows of a handler that continues the sections of two stopped holders of list locks.
 use crate::space::Space;
-use sa_abstract::Step;
+use sa_abstract::{Step, UserLevel};
 use sa_base::{ActNo, Note, ProcNo, Record, Seen, SpaceNo, ThreadNo};
 use sa_package::FastThreads;
 use sa_workload::read;
@@ -34,13 +34,13 @@ const CONTINUED: [Record; 14] = [
 
 // Two processors, all pages resident, and demand 2.
 #[derive(Drop)]
-struct Bench {
-    space: Space<FastThreads>,
+struct Bench<U: UserLevel> {
+    space: Space<U>,
     event: u64,
 }
 
-impl Bench {
-    fn new(alloc: Global) -> Result<Bench, Fail> {
+impl<U: UserLevel> Bench<U> {
+    fn new(alloc: Global) -> Result<Bench<U>, Fail> {
         let workload = read(alloc, TEXT.as_bytes())?;
         let def = workload.spaces().first().ok_or("no space")?.copy(alloc)?;
         Ok(Bench {
@@ -135,13 +135,7 @@ impl Bench {
     }
 
     // The activation's thread forks another one, and takes the list of the processor to make it ready.
-    fn holds(
-        &mut self,
-        rt: &impl Abort,
-        p: ProcNo,
-        a: usize,
-        t: ThreadNo,
-    ) -> Result<(), Fail> {
+    fn holds(&mut self, rt: &impl Abort, p: ProcNo, a: usize, t: ThreadNo) -> Result<(), Fail> {
         let want = [Record::Ins(S, t, 0), Record::Take(S, p, Some(t))];
         self.add_all(rt, p, a, &want)?;
         assert_eq!(rt; self.space.in_section(a), Some(p.0));
@@ -180,21 +174,17 @@ impl Bench {
 
 #[test]
 fn a_handler_continues_two_sections(rt: HostRuntime) -> Result<(), Fail> {
-    let mut bench = Bench::new(rt.alloc())?;
+    let mut bench: Bench<FastThreads> = Bench::new(rt.alloc())?;
     let handler = bench.handler(&rt)?;
     bench.add_all(&rt, ProcNo(0), handler, &CONTINUED)
 }
 
 #[test]
 fn a_stopped_handler_is_continued(rt: HostRuntime) -> Result<(), Fail> {
-    let mut bench = Bench::new(rt.alloc())?;
+    let mut bench: Bench<FastThreads> = Bench::new(rt.alloc())?;
     let handler = bench.handler(&rt)?;
     bench.adds(&rt, ProcNo(0), handler, CONTINUED[0])?;
     assert_eq!(&rt; bench.space.thread(handler), Some(ThreadNo(1)));
-    let next = bench.upcall(
-        &rt,
-        ProcNo(0),
-        &[Note::Preempted(ActNo(handler as u64))],
-    )?;
+    let next = bench.upcall(&rt, ProcNo(0), &[Note::Preempted(ActNo(handler as u64))])?;
     bench.add_all(&rt, ProcNo(0), next, &CONTINUED)
 }

@@ -11,7 +11,7 @@ use std::alloc::{AllocError, Global};
 use std::marker::Model;
 
 // How many events the fetch of a page takes.
-const FETCH: u32 = 10;
+pub(crate) const FETCH: u32 = 10;
 
 #[derive(Drop)]
 pub(crate) struct Space<U: UserLevel> {
@@ -186,10 +186,6 @@ impl<U: UserLevel> Space<U> {
 
     pub(crate) fn tally(&self) -> Tally {
         self.user.tally()
-    }
-
-    pub(crate) fn processors(&self) -> u16 {
-        self.processors
     }
 
     pub(crate) fn trace(&self) -> &Trace {
