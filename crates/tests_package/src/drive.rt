@@ -53,6 +53,35 @@ impl Dice {
     }
 }
 
+// How often it came, over all values.
+#[derive(Clone, Copy, Debug, Default)]
+struct Counts {
+    steps: u32,
+    // steps that found a lock held, and faults of page 1
+    spins: u32,
+    faults: u32,
+    // sections that were continued
+    continued: u32,
+    idle_hints: u32,
+    returns: u32,
+}
+
+impl Counts {
+    // Whether each came.
+    fn is_all(self) -> bool {
+        self.spins > 0
+            && self.faults > 0
+            && self.continued > 0
+            && self.idle_hints > 0
+            && self.returns > 0
+    }
+}
+
+// One more.
+fn add(count: &mut u32) {
+    *count = count.saturating_add(1);
+}
+
 // An activation that is blocked, and the page for which it is.
 #[derive(Clone, Copy)]
 struct Sleeper {
@@ -102,7 +131,7 @@ struct Drive<U: Shows> {
     taken: u32,
     pages: u16,
     event: u64,
-    steps: u32,
+    counts: Counts,
 }
 
 // The bit of a page of those that come and go.
@@ -116,7 +145,7 @@ fn bit(page: Option<u16>) -> u16 {
 }
 
 impl<U: Shows> Drive<U> {
-    fn new(alloc: Global, processors: u16, seed: u64) -> Result<Drive<U>, Fail>
+    fn new(alloc: Global, processors: u16, seed: u64, counts: Counts) -> Result<Drive<U>, Fail>
         requires some { 1 ≤ processors }
         requires few { processors ≤ MAX_PROCESSORS }
     {
@@ -135,7 +164,7 @@ impl<U: Shows> Drive<U> {
             taken: 0,
             pages: 0xffff,
             event: 0,
-            steps: 0,
+            counts,
         })
     }
 
@@ -246,7 +275,7 @@ impl<U: Shows> Drive<U> {
         let idle_due = self.is_idle_due(a);
         let seen = self.seen(p);
         let asked = self.space.step(a, &seen)?;
-        self.steps = self.steps.saturating_add(1);
+        add(&mut self.counts.steps);
         self.follow(rt, p, a, before)?;
         if let Some(due) = idle_due {
             assert_eq!(rt; asked == Some(Step::Idle), due, "event {}", self.event);
@@ -267,6 +296,11 @@ impl<U: Shows> Drive<U> {
             if let Some(item) = self.space.trace().get(i).copied() {
                 assert_eq!(rt; (item.event, item.proc), (self.event, p));
                 self.shadow.follow(rt, a, item.what)?;
+                match item.what {
+                    Record::Spin(_) => add(&mut self.counts.spins),
+                    Record::Cont(..) => add(&mut self.counts.continued),
+                    _ => {}
+                }
             }
         }
         Ok(())
@@ -290,9 +324,13 @@ impl<U: Shows> Drive<U> {
             Step::Did => return Ok(()),
             Step::Block { length, page } => return self.block(rt, p, a, length, page),
             Step::More(n) => self.more(rt, n),
-            Step::Idle => self.demand = self.demand.saturating_sub(1),
+            Step::Idle => {
+                add(&mut self.counts.idle_hints);
+                self.demand = self.demand.saturating_sub(1);
+            }
             Step::GiveBack => {
                 assert!(rt; self.taken >= BULK_RETURN);
+                add(&mut self.counts.returns);
                 self.taken = 0;
             }
             Step::InterruptOwn(q) => assert!(rt; false, "interrupt of {q:?}"),
@@ -328,6 +366,9 @@ impl<U: Shows> Drive<U> {
             assert!(rt; bit(page) != 0);
             let inside = page == Some(PACKAGE_PAGE);
             assert_eq!(rt; self.shadow.first_lock(a).is_some(), inside);
+            if inside {
+                add(&mut self.counts.faults);
+            }
         }
         self.shadow.block(a);
         self.blocked.push(Sleeper { act: a, page })?;
@@ -423,22 +464,22 @@ impl<U: Shows> Drive<U> {
         tally.done == tally.made
     }
 
-    // Turns until each thread is done: how many steps there were.
-    fn run(&mut self, rt: &impl Abort) -> Result<u32, Fail> {
+    // Turns until each thread is done.
+    fn run(&mut self, rt: &impl Abort) -> Result<Counts, Fail> {
         for _ in 0..TURNS {
             if self.is_over() {
-                return Ok(self.steps);
+                return Ok(self.counts);
             }
             self.turn(rt)?;
         }
         assert!(rt;
             false,
             "{} steps on {}, {:?}",
-            self.steps,
+            self.counts.steps,
             self.processors,
             self.space.tally()
         );
-        Ok(0)
+        Ok(self.counts)
     }
 
     // All is done: each of the 11 threads, and the sum is right.
@@ -462,16 +503,22 @@ impl<U: Shows> Drive<U> {
 // One value ends long before 20,000 steps, so there are several in turn, on 1 to 16 processors.
 #[test]
 fn random_turns_lose_no_thread(rt: HostRuntime) -> Result<(), Fail> {
-    let mut steps: u32 = 0;
+    let mut counts = Counts::default();
     for value in 0..VALUES {
-        if steps >= STEPS && value >= MAX_PROCESSORS {
+        if counts.steps >= STEPS && value >= MAX_PROCESSORS {
+            assert!(rt; counts.is_all(), "{counts:?}");
             return Ok(());
         }
         let processors = 1 + value % MAX_PROCESSORS;
-        let mut drive: Drive<FastThreads> = Drive::new(rt.alloc(), processors, u64::from(value))?;
-        steps = steps.saturating_add(drive.run(&rt)?);
+        let mut drive: Drive<FastThreads> = Drive::new(
+            rt.alloc(),
+            processors,
+            u64::from(value),
+            counts,
+        )?;
+        counts = drive.run(&rt)?;
         drive.ended(&rt);
     }
-    assert!(rt; false, "{steps} steps");
+    assert!(rt; false, "{counts:?}");
     Ok(())
 }
