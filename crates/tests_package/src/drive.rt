@@ -2,7 +2,7 @@
 ghost use Rattle.std.specs.Prelude.{◌≤◌, ◌<◌};
 ghost use Rattle.sa_base.specs.declared.limits.TheConstants.{MAX_PROCESSORS};
 
-use crate::shadow::{Shadow, Spot};
+use crate::shadow::{Shadow, Spot, number};
 use crate::space::{FETCH, Space};
 use sa_abstract::{SeatState, Step, UserLevel};
 use sa_base::{
@@ -311,7 +311,7 @@ impl<U: Shows> Drive<U> {
     fn is_idle_due(&self, a: usize) -> Option<bool> {
         match U::state(self.space.context(a)?) {
             State::Look(looks) => {
-                let owed = usize::from(self.demand) > self.shadow.load();
+                let owed = usize::from(self.demand) > self.shadow.sums().load;
                 Some(owed && looks >= PATIENCE && !self.shadow.has_open_list())
             }
             _ => None,
@@ -348,7 +348,7 @@ impl<U: Shows> Drive<U> {
 
     // How many processors the space can use.
     fn usable(&self) -> usize {
-        self.shadow.load().min(usize::from(self.processors))
+        self.shadow.sums().load.min(usize::from(self.processors))
     }
 
     // The activation blocks: for an I/O, or for a page that is absent.
@@ -393,11 +393,11 @@ impl<U: Shows> Drive<U> {
 
     // Each thread and each lock is where the records tell, and the counts are right.
     fn look(&self, rt: &impl Abort) -> Result<(), Fail> {
-        assert!(rt;
-            self.shadow.is(self.space.tally()),
-            "{:?}",
-            self.space.tally()
-        );
+        let tally = self.space.tally();
+        let sums = self.shadow.sums();
+        assert_eq!(rt; usize::from(tally.made), sums.made);
+        assert_eq!(rt; usize::from(tally.done), sums.done);
+        assert_eq!(rt; usize::from(tally.active), sums.active);
         for a in &self.live {
             let ctx = self.space.context(*a).ok_or("no context")?;
             self.look_at(rt, *a);
@@ -409,7 +409,7 @@ impl<U: Shows> Drive<U> {
 
     // The thread and the lock of an activation are those that the records tell.
     fn look_at(&self, rt: &impl Abort, a: usize) {
-        let thread = self.space.thread(a).map(|t| usize::from(t.0));
+        let thread = number(self.space.thread(a));
         assert_eq!(rt; thread, self.shadow.carried(a), "activation {a}");
         assert_eq!(rt;
             self.space.in_section(a),
@@ -435,9 +435,13 @@ impl<U: Shows> Drive<U> {
             ..
         } = self.space.local(a)
         {
-            let found = self.shadow.thread(usize::from(thread.0));
-            let found = found.map(|t| (t.program, t.pc, t.regs));
-            assert_eq!(rt; found, Some((program, pc, regs)), "{thread:?}");
+            match self.shadow.thread(usize::from(thread.0)) {
+                Some(found) => {
+                    assert_eq!(rt; (found.program, found.pc), (program, pc));
+                    assert_eq!(rt; found.regs, regs);
+                }
+                None => assert!(rt; false, "{thread:?} was not made"),
+            }
         }
     }
 

@@ -32,6 +32,40 @@ const CONTINUED: [Record; 14] = [
     Record::Free(S, ProcNo(0), None),
 ];
 
+// How thread 0, which processor 1 takes from list 0, forks threads 1 and 2 there.
+const FORKED: [Record; 11] = [
+    Record::Take(S, ProcNo(0), None),
+    Record::Run(S, ThreadNo(0)),
+    Record::Free(S, ProcNo(0), Some(ThreadNo(0))),
+    Record::Ins(S, ThreadNo(0), 0),
+    Record::Take(S, ProcNo(1), Some(ThreadNo(0))),
+    Record::Ready(S, ThreadNo(1)),
+    Record::Free(S, ProcNo(1), Some(ThreadNo(0))),
+    Record::Ins(S, ThreadNo(0), 1),
+    Record::Take(S, ProcNo(1), Some(ThreadNo(0))),
+    Record::Ready(S, ThreadNo(2)),
+    Record::Free(S, ProcNo(1), Some(ThreadNo(0))),
+];
+
+// How processor 0 takes thread 1 from list 1, which forks thread 3 and locks list 0.
+const FIRST: [Record; 5] = [
+    Record::Take(S, ProcNo(1), None),
+    Record::Run(S, ThreadNo(1)),
+    Record::Free(S, ProcNo(1), Some(ThreadNo(1))),
+    Record::Ins(S, ThreadNo(1), 0),
+    Record::Take(S, ProcNo(0), Some(ThreadNo(1))),
+];
+
+// How thread 0 ends on processor 1, which takes thread 2 from list 1, which forks thread 4 and locks list 1.
+const SECOND: [Record; 6] = [
+    Record::Ins(S, ThreadNo(0), 2),
+    Record::Take(S, ProcNo(1), None),
+    Record::Run(S, ThreadNo(2)),
+    Record::Free(S, ProcNo(1), Some(ThreadNo(2))),
+    Record::Ins(S, ThreadNo(2), 0),
+    Record::Take(S, ProcNo(1), Some(ThreadNo(2))),
+];
+
 // Two processors, all pages resident, and demand 2.
 #[derive(Drop)]
 struct Bench<U: UserLevel> {
@@ -80,7 +114,9 @@ impl<U: UserLevel> Bench<U> {
         assert_eq!(rt; self.space.step(a, &seen)?, Some(Step::Did));
         let added = self.space.trace().items().get(before..).ok_or("no items")?;
         assert_eq!(rt; added.len(), 1, "at {want:?}");
-        assert_eq!(rt; added.first().map(|item| item.what), Some(want));
+        for item in added {
+            assert_eq!(rt; item.what, want);
+        }
         Ok(())
     }
 
@@ -98,75 +134,25 @@ impl<U: UserLevel> Bench<U> {
         Ok(())
     }
 
-    // The activation on the processor takes a thread from a list.
-    fn pops(
-        &mut self,
-        rt: &impl Abort,
-        p: ProcNo,
-        a: usize,
-        list: ProcNo,
-        t: ThreadNo,
-    ) -> Result<(), Fail> {
-        let want = [
-            Record::Take(S, list, None),
-            Record::Run(S, t),
-            Record::Free(S, list, Some(t)),
-        ];
-        self.add_all(rt, p, a, &want)
-    }
-
-    // The activation's thread, at this place, forks another one and makes it ready.
-    fn forks(
-        &mut self,
-        rt: &impl Abort,
-        p: ProcNo,
-        a: usize,
-        t: ThreadNo,
-        pc: u16,
-        new: ThreadNo,
-    ) -> Result<(), Fail> {
-        let want = [
-            Record::Ins(S, t, pc),
-            Record::Take(S, p, Some(t)),
-            Record::Ready(S, new),
-            Record::Free(S, p, Some(t)),
-        ];
-        self.add_all(rt, p, a, &want)
-    }
-
-    // The activation's thread forks another one, and takes the list of the processor to make it ready.
-    fn holds(&mut self, rt: &impl Abort, p: ProcNo, a: usize, t: ThreadNo) -> Result<(), Fail> {
-        let want = [Record::Ins(S, t, 0), Record::Take(S, p, Some(t))];
-        self.add_all(rt, p, a, &want)?;
-        assert_eq!(rt; self.space.in_section(a), Some(p.0));
-        Ok(())
-    }
-
     // Thread 1 holds list 0 on processor 0 and is about to push thread 3, and thread 2 holds list 1 on processor 1 and is
-    // about to push thread 4: the activations of the two.
-    fn two_holders(&mut self, rt: &impl Abort) -> Result<(usize, usize), Fail> {
-        let one = ProcNo(1);
-        let zero = ProcNo(0);
-        let second = self.upcall(rt, one, &[Note::Add(one)])?;
-        self.pops(rt, one, second, zero, ThreadNo(0))?;
-        self.forks(rt, one, second, ThreadNo(0), 0, ThreadNo(1))?;
-        self.forks(rt, one, second, ThreadNo(0), 1, ThreadNo(2))?;
-        let first = self.upcall(rt, zero, &[Note::Add(zero)])?;
-        self.pops(rt, zero, first, one, ThreadNo(1))?;
-        self.holds(rt, zero, first, ThreadNo(1))?;
-        self.adds(rt, one, second, Record::Ins(S, ThreadNo(0), 2))?;
-        self.pops(rt, one, second, one, ThreadNo(2))?;
-        self.holds(rt, one, second, ThreadNo(2))?;
-        Ok((first, second))
+    // about to push thread 4; they run on activations 1 and 0.
+    fn two_holders(&mut self, rt: &impl Abort) -> Result<(), Fail> {
+        let second = self.upcall(rt, ProcNo(1), &[Note::Add(ProcNo(1))])?;
+        self.add_all(rt, ProcNo(1), second, &FORKED)?;
+        let first = self.upcall(rt, ProcNo(0), &[Note::Add(ProcNo(0))])?;
+        self.add_all(rt, ProcNo(0), first, &FIRST)?;
+        self.add_all(rt, ProcNo(1), second, &SECOND)?;
+        assert_eq!(rt; (first, second), (1, 0));
+        Ok(())
     }
 
     // A handler on processor 0 is told of both holders.
     fn handler(&mut self, rt: &impl Abort) -> Result<usize, Fail> {
-        let (first, second) = self.two_holders(rt)?;
+        self.two_holders(rt)?;
         let notes = [
             Note::Add(ProcNo(0)),
-            Note::Preempted(ActNo(first as u64)),
-            Note::Preempted(ActNo(second as u64)),
+            Note::Preempted(ActNo(1)),
+            Note::Preempted(ActNo(0)),
         ];
         self.upcall(rt, ProcNo(0), &notes)
     }

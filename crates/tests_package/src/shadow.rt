@@ -1,5 +1,4 @@
 // Threads and list locks as the records of a space tell them, with no word of the package.
-use sa_abstract::Tally;
 use sa_base::{ProcNo, Record, ThreadNo};
 use sa_instr::{Instr, Local, Program, Reg, Regs, SpaceDef, local};
 use std::alloc::{AllocError, Global};
@@ -35,14 +34,6 @@ pub(crate) enum Spot {
 }
 
 impl Spot {
-    fn is_loaded(self) -> bool {
-        matches!(self, Spot::Ready(_) | Spot::Running(_))
-    }
-
-    fn is_active(self) -> bool {
-        matches!(self, Spot::Ready(_) | Spot::Running(_) | Spot::Carried(_))
-    }
-
     // Whether the activation has still to make the thread ready, or to continue it.
     fn is_in_hand_of(self, a: usize) -> bool {
         self == Spot::Due(a) || self == Spot::Carried(a)
@@ -82,6 +73,24 @@ impl Thread {
             regs: Regs::zero(),
             spot,
         }
+    }
+}
+
+// How many threads there are.
+#[derive(Clone, Copy, Debug, PartialEq, Eq)]
+pub(crate) struct Sums {
+    pub(crate) made: usize,
+    // those that are ready or run
+    pub(crate) load: usize,
+    pub(crate) active: usize,
+    pub(crate) done: usize,
+}
+
+// The number of a thread, if there is one.
+pub(crate) fn number(t: Option<ThreadNo>) -> Option<usize> {
+    match t {
+        Some(t) => Some(usize::from(t.0)),
+        None => None,
     }
 }
 
@@ -150,60 +159,78 @@ impl Shadow {
         }
     }
 
-    // How many threads are ready or run.
-    pub(crate) fn load(&self) -> usize {
-        self.threads
-            .iter()
-            .filter(|thread| thread.spot.is_loaded())
-            .count()
-    }
-
     // How many threads there are.
-    pub(crate) fn is(&self, tally: Tally) -> bool {
-        let active = self
-            .threads
-            .iter()
-            .filter(|thread| thread.spot.is_active())
-            .count();
-        let done = self
-            .threads
-            .iter()
-            .filter(|thread| thread.spot == Spot::Done)
-            .count();
-        usize::from(tally.made) == self.threads.len()
-            && usize::from(tally.done) == done
-            && usize::from(tally.active) == active
+    pub(crate) fn sums(&self) -> Sums {
+        let mut sums = Sums {
+            made: self.threads.len(),
+            load: 0,
+            active: 0,
+            done: 0,
+        };
+        for thread in &self.threads {
+            match thread.spot {
+                Spot::Ready(_) | Spot::Running(_) => {
+                    sums.load = sums.load.saturating_add(1);
+                    sums.active = sums.active.saturating_add(1);
+                }
+                Spot::Carried(_) => sums.active = sums.active.saturating_add(1),
+                Spot::Done => sums.done = sums.done.saturating_add(1),
+                _ => {}
+            }
+        }
+        sums
     }
 
     // The thread with which an activation runs, or ran when it was stopped or blocked.
     pub(crate) fn carried(&self, a: usize) -> Option<usize> {
-        self.threads
-            .iter()
-            .position(|thread| thread.spot.is_carried_by(a))
+        for (t, thread) in self.threads.iter().enumerate() {
+            if thread.spot.is_carried_by(a) {
+                return Some(t);
+            }
+        }
+        None
     }
 
     // Whether the activation has threads that are still to be made ready or to be continued.
     pub(crate) fn has_hand(&self, a: usize) -> bool {
-        self.threads
-            .iter()
-            .any(|thread| thread.spot.is_in_hand_of(a))
+        for thread in &self.threads {
+            if thread.spot.is_in_hand_of(a) {
+                return true;
+            }
+        }
+        false
     }
 
     pub(crate) fn is_in_hand(&self, t: ThreadNo, a: usize) -> bool {
-        self.spot(usize::from(t.0))
-            .is_some_and(|spot| spot.is_in_hand_of(a))
+        match self.spot(usize::from(t.0)) {
+            Some(spot) => spot.is_in_hand_of(a),
+            None => false,
+        }
+    }
+
+    // The place of the lock that the activation frees next.
+    fn lock_of(&self, a: usize) -> Option<usize> {
+        for (i, lock) in self.locks.iter().enumerate() {
+            if lock.holder == a {
+                return Some(i);
+            }
+        }
+        None
     }
 
     // The list whose lock the activation frees next.
     pub(crate) fn first_lock(&self, a: usize) -> Option<u16> {
-        let lock = self.locks.iter().find(|lock| lock.holder == a)?;
-        Some(lock.list)
+        Some(self.locks.get(self.lock_of(a)?)?.list)
     }
 
     // The activation that has the lock of a list.
-    pub(crate) fn holder(&self, list: u16) -> Option<usize> {
-        let lock = self.locks.iter().find(|lock| lock.list == list)?;
-        Some(lock.holder)
+    fn holder(&self, list: u16) -> Option<usize> {
+        for lock in &self.locks {
+            if lock.list == list {
+                return Some(lock.holder);
+            }
+        }
+        None
     }
 
     pub(crate) fn is_any_locked(&self) -> bool {
@@ -234,18 +261,21 @@ impl Shadow {
 
     // The locks of activation `b` come behind those of `a`.
     fn hand_locks(&mut self, b: usize, a: usize) -> Result<(), AllocError> {
-        for i in 0..self.locks.len() {
-            if let Some(lock) = self.locks.get(i).copied() {
-                if lock.holder == b {
-                    self.locks.push(Lock {
-                        list: lock.list,
-                        holder: a,
-                    })?;
-                }
+        for _ in 0..self.locks.len() {
+            if let Some(list) = self.remove_lock(b) {
+                self.locks.push(Lock { list, holder: a })?;
             }
         }
-        self.locks.retain(|lock| lock.holder != b);
         Ok(())
+    }
+
+    // Takes out the lock that the activation frees next.
+    fn remove_lock(&mut self, a: usize) -> Option<u16> {
+        let i = self.lock_of(a)?;
+        if i >= self.locks.len() {
+            return None;
+        }
+        Some(self.locks.remove(i).list)
     }
 
     // The activation blocks.
@@ -289,8 +319,7 @@ impl Shadow {
 
     // The activation carries this thread, or none.
     fn carries(&self, rt: &impl Abort, a: usize, t: Option<ThreadNo>) {
-        let carried = self.carried(a);
-        assert_eq!(rt; t.map(|t| usize::from(t.0)), carried, "activation {a}");
+        assert_eq!(rt; number(t), self.carried(a), "activation {a}");
     }
 
     // A free lock is taken, by an activation that has none.
@@ -301,7 +330,7 @@ impl Shadow {
         list: ProcNo,
         t: Option<ThreadNo>,
     ) -> Result<(), AllocError> {
-        assert_eq!(rt; self.holder(list.0), None, "take of {list:?}");
+        assert_eq!(rt; self.holder(list.0), None);
         assert_eq!(rt; self.first_lock(a), None, "take by {a}");
         self.carries(rt, a, t);
         self.locks.push(Lock {
@@ -313,9 +342,12 @@ impl Shadow {
 
     // A thread in the activation's hand comes into the list that it has locked.
     fn ready(&mut self, rt: &impl Abort, a: usize, t: ThreadNo) {
-        assert!(rt; self.is_in_hand(t, a), "{t:?} is made ready by {a}");
+        assert!(rt;
+            self.is_in_hand(t, a),
+            "activation {a} makes a thread ready"
+        );
         let list = self.first_lock(a);
-        assert!(rt; list.is_some(), "{t:?} is made ready by {a}");
+        assert!(rt; list.is_some(), "activation {a} makes a thread ready");
         if let Some(list) = list {
             self.set(usize::from(t.0), Spot::Ready(list));
         }
@@ -324,17 +356,18 @@ impl Shadow {
     // A thread in the list that the activation has locked runs there.
     fn run(&mut self, rt: &impl Abort, a: usize, t: ThreadNo) {
         let list = self.first_lock(a);
-        assert!(rt; list.is_some(), "{t:?} is taken by {a}");
-        assert_eq!(rt; self.spot(usize::from(t.0)), list.map(Spot::Ready), "{t:?}");
+        assert!(rt; list.is_some(), "activation {a} takes a thread");
+        if let Some(list) = list {
+            assert_eq!(rt; self.spot(usize::from(t.0)), Some(Spot::Ready(list)));
+        }
         self.carries(rt, a, None);
         self.set(usize::from(t.0), Spot::Running(a));
     }
 
     // The first of the activation's locks is freed.
     fn free(&mut self, rt: &impl Abort, a: usize, list: ProcNo, t: Option<ThreadNo>) {
-        assert_eq!(rt; self.first_lock(a), Some(list.0), "free by {a}");
         self.carries(rt, a, t);
-        self.locks.retain(|lock| lock.list != list.0);
+        assert_eq!(rt; self.remove_lock(a), Some(list.0), "free by {a}");
     }
 
     // A thread in the activation's hand is continued there.
@@ -343,7 +376,7 @@ impl Shadow {
         self.carries(rt, a, None);
         if let Some(t) = t {
             let spot = self.spot(usize::from(t.0));
-            assert_eq!(rt; spot, Some(Spot::Carried(a)), "{t:?}");
+            assert_eq!(rt; spot, Some(Spot::Carried(a)));
             self.set(usize::from(t.0), Spot::Running(a));
         }
     }
@@ -366,10 +399,7 @@ impl Shadow {
     // Another activation has the lock.
     fn spin(&self, rt: &impl Abort, a: usize, list: ProcNo) {
         let holder = self.holder(list.0);
-        assert!(rt;
-            holder.is_some() && holder != Some(a),
-            "{a} spins at {list:?}"
-        );
+        assert!(rt; holder.is_some() && holder != Some(a), "{a} spins");
         assert_eq!(rt; self.first_lock(a), None, "{a} spins");
         assert!(rt; self.has_hand(a), "{a} spins");
     }
@@ -413,7 +443,8 @@ impl Shadow {
                 }
             }
             Instr::Fork(reg, program) => {
-                self.set_reg(t, reg, self.threads.len() as u64);
+                let made = self.threads.len() as u64;
+                self.set_reg(t, reg, made);
                 self.threads.push(Thread::new(program, Spot::Due(a)))?;
             }
             Instr::Join(reg) => self.join(t, reg),

@@ -160,12 +160,18 @@ impl<U: UserLevel> Space<U> {
 
     // Whether an activation has no thread and nothing else to do.
     pub(crate) fn is_idle(&self, a: usize) -> bool {
-        self.context(a).is_some_and(|ctx| self.user.idle(ctx))
+        match self.context(a) {
+            Some(ctx) => self.user.idle(ctx),
+            None => false,
+        }
     }
 
     // Whether an activation is inside the package.
     pub(crate) fn owes(&self, a: usize) -> bool {
-        self.context(a).is_some_and(|ctx| self.user.owes(ctx))
+        match self.context(a) {
+            Some(ctx) => self.user.owes(ctx),
+            None => false,
+        }
     }
 
     // The first list whose lock an activation has.
