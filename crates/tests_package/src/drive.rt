@@ -241,7 +241,8 @@ impl<U: Shows> Drive<U> {
 
     // An upcall tells all that is untold, behind the notice of a processor that was added.
     fn upcall(&mut self, rt: &impl Abort, p: ProcNo, added: Option<Note>) -> Result<(), Fail> {
-        let a = self.space.begin(&self.seen(p))?.ok_or("no processor")?;
+        let seen = self.seen(p);
+        let a = self.space.begin(&seen)?.ok_or("no processor")?;
         self.live.push(a)?;
         if let Some(note) = added {
             assert!(rt; self.space.tell(a, note));
@@ -252,7 +253,8 @@ impl<U: Shows> Drive<U> {
             }
         }
         self.untold.clear();
-        assert!(rt; self.space.answered(a, &self.seen(p)));
+        let seen = self.seen(p);
+        assert!(rt; self.space.answered(a, &seen));
         self.set_seat(p, Some(a));
         self.settled(rt, a);
         self.look(rt)
@@ -335,7 +337,8 @@ impl<U: Shows> Drive<U> {
             }
             Step::InterruptOwn(q) => assert!(rt; false, "interrupt of {q:?}"),
         }
-        assert!(rt; self.space.answered(a, &self.seen(p)));
+        let seen = self.seen(p);
+        assert!(rt; self.space.answered(a, &seen));
         Ok(())
     }
 
@@ -505,24 +508,23 @@ impl<U: Shows> Drive<U> {
 }
 
 // One value ends long before 20,000 steps, so there are several in turn, on 1 to 16 processors.
-#[test]
-fn random_turns_lose_no_thread(rt: HostRuntime) -> Result<(), Fail> {
+fn run_all<U: Shows>(rt: &impl Abort, alloc: Global) -> Result<Counts, Fail> {
     let mut counts = Counts::default();
     for value in 0..VALUES {
         if counts.steps >= STEPS && value >= MAX_PROCESSORS {
-            assert!(rt; counts.is_all(), "{counts:?}");
-            return Ok(());
+            return Ok(counts);
         }
         let processors = 1 + value % MAX_PROCESSORS;
-        let mut drive: Drive<FastThreads> = Drive::new(
-            rt.alloc(),
-            processors,
-            u64::from(value),
-            counts,
-        )?;
-        counts = drive.run(&rt)?;
-        drive.ended(&rt);
+        let mut drive: Drive<U> = Drive::new(alloc, processors, u64::from(value), counts)?;
+        counts = drive.run(rt)?;
+        drive.ended(rt);
     }
-    assert!(rt; false, "{counts:?}");
+    Ok(counts)
+}
+
+#[test]
+fn random_turns_lose_no_thread(rt: HostRuntime) -> Result<(), Fail> {
+    let counts = run_all::<FastThreads>(&rt, rt.alloc())?;
+    assert!(rt; counts.steps >= STEPS && counts.is_all(), "{counts:?}");
     Ok(())
 }

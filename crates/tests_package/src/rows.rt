@@ -156,21 +156,32 @@ impl<U: UserLevel> Bench<U> {
         ];
         self.upcall(rt, ProcNo(0), &notes)
     }
+
+    // The handler continues both sections.
+    fn handler_continues(&mut self, rt: &impl Abort) -> Result<(), Fail> {
+        let handler = self.handler(rt)?;
+        self.add_all(rt, ProcNo(0), handler, &CONTINUED)
+    }
+
+    // The handler is stopped after its first step, with thread 1, and the one that is told of it continues both sections.
+    fn stopped_handler_is_continued(&mut self, rt: &impl Abort) -> Result<(), Fail> {
+        let handler = self.handler(rt)?;
+        self.adds(rt, ProcNo(0), handler, Record::Cont(S, Some(ThreadNo(1))))?;
+        assert_eq!(rt; self.space.thread(handler), Some(ThreadNo(1)));
+        let note = Note::Preempted(ActNo(handler as u64));
+        let next = self.upcall(rt, ProcNo(0), &[note])?;
+        self.add_all(rt, ProcNo(0), next, &CONTINUED)
+    }
 }
 
 #[test]
 fn a_handler_continues_two_sections(rt: HostRuntime) -> Result<(), Fail> {
     let mut bench: Bench<FastThreads> = Bench::new(rt.alloc())?;
-    let handler = bench.handler(&rt)?;
-    bench.add_all(&rt, ProcNo(0), handler, &CONTINUED)
+    bench.handler_continues(&rt)
 }
 
 #[test]
 fn a_stopped_handler_is_continued(rt: HostRuntime) -> Result<(), Fail> {
     let mut bench: Bench<FastThreads> = Bench::new(rt.alloc())?;
-    let handler = bench.handler(&rt)?;
-    bench.adds(&rt, ProcNo(0), handler, CONTINUED[0])?;
-    assert_eq!(&rt; bench.space.thread(handler), Some(ThreadNo(1)));
-    let next = bench.upcall(&rt, ProcNo(0), &[Note::Preempted(ActNo(handler as u64))])?;
-    bench.add_all(&rt, ProcNo(0), next, &CONTINUED)
+    bench.stopped_handler_is_continued(&rt)
 }

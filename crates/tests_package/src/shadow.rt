@@ -56,7 +56,7 @@ impl Spot {
 }
 
 // A thread at an instruction of its program.
-#[derive(Clone, Copy, Debug, PartialEq, Eq)]
+#[derive(Clone, Copy)]
 pub(crate) struct Thread {
     pub(crate) program: u16,
     pub(crate) pc: u16,
@@ -77,7 +77,7 @@ impl Thread {
 }
 
 // How many threads there are.
-#[derive(Clone, Copy, Debug, PartialEq, Eq)]
+#[derive(Clone, Copy)]
 pub(crate) struct Sums {
     pub(crate) made: usize,
     // those that are ready or run
@@ -95,7 +95,7 @@ pub(crate) fn number(t: Option<ThreadNo>) -> Option<usize> {
 }
 
 // The lock of a list, and the activation that has it.
-#[derive(Clone, Copy, Debug, PartialEq, Eq)]
+#[derive(Clone, Copy)]
 struct Lock {
     list: u16,
     holder: usize,
