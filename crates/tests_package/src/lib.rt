@@ -1,5 +1,11 @@
-//! Tests of the thread package over public calls.
+//! Tests of FastThreads over public calls, under a small kernel of their own.
 #![tactic(auto)]
 
 #[cfg(test)]
-mod hints;
+mod drive;
+#[cfg(test)]
+mod rows;
+#[cfg(test)]
+mod shadow;
+#[cfg(test)]
+mod space;
