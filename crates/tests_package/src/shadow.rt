@@ -1,6 +1,7 @@
 // Threads and list locks as the records of a space tell them, with no word of the package.
 use sa_base::{ProcNo, Record, ThreadNo};
-use sa_instr::{Instr, Local, Program, Reg, Regs, SpaceDef, local};
+use sa_instr::{Instr, Local, Program, Reg, Regs, local};
+use sa_spaces::SpaceDef;
 use std::alloc::{AllocError, Global};
 use std::process::Abort;
 

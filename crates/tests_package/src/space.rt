@@ -6,7 +6,7 @@ ghost use Rattle.tests_package.specs.Kept.{HandsNothing, HandsOver};
 
 use sa_abstract::{SeatState, Step, Tally, UserLevel};
 use sa_base::{ActNo, MAX_EVENTS, Note, Seen, SpaceNo, Stopped, ThreadNo, Trace};
-use sa_instr::SpaceDef;
+use sa_spaces::SpaceDef;
 use std::alloc::{AllocError, Global};
 use std::marker::Model;
 
