@@ -1,4 +1,3 @@
-pub mod Change
 pub mod Recorded
 pub mod Rows
 pub mod Table

@@ -12,8 +12,8 @@ use Rattle.sa_laws.specs.Readings.{Readings, life_on, has_hand}
 use Rattle.sa_laws.specs.Record.{after_record, back_with, made_ready, with_life}
 use Rattle.sa_laws.specs.Machine.{next_effect}
 use Rattle.sa_laws.specs.History.{Test, is_free, scans_after, settles, stepped, arisen}
-use Rattle.sa_lives.specs.declared.change.Stepped.{Stepped}
-use Rattle.sa_lives.specs.Change.{stepped_by, arisen_by, scans_by}
+use Rattle.sa_life.specs.declared.change.Stepped.{Stepped}
+use Rattle.sa_life.specs.Change.{stepped_by, arisen_by, scans_by}
 use Rattle.sa_lives.specs.View.{LivesView, read_of, changed_on, begun, stopped, blocked, unblocked, told, given_back}
 
 -- a lock at its take on a processor

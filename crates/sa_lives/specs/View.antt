@@ -11,8 +11,8 @@ use Rattle.sa_lemmas.specs.Function.{put}
 use Rattle.sa_laws.specs.Life.{Life, new_life, held_with, with_hand}
 use Rattle.sa_laws.specs.Readings.{Readings, stopped_thread, was_idle}
 use Rattle.sa_laws.specs.Record.{with_life, handed, with_note, without_note, with_act, without_act, one_thread, stopped_with}
-use Rattle.sa_lives.specs.declared.change.Change.{Change}
-use Rattle.sa_lives.specs.Change.{changed_by}
+use Rattle.sa_life.specs.declared.change.Change.{Change}
+use Rattle.sa_life.specs.Change.{changed_by}
 use Rattle.sa_lives.specs.Table.{lives_in}
 
 -- what a contract sees of the lives: ..

@@ -5,17 +5,15 @@ ghost use Rattle.sa_laws.specs.Record.{back_with, made_ready};
 ghost use Rattle.sa_laws.specs.Readings.{Readings, IsLocked};
 ghost use Rattle.sa_laws.specs.Turns.{AnotherHas};
 ghost use Rattle.sa_laws.specs.Locks.{HoldsLock};
-ghost use Rattle.sa_lives.specs.Change.{stepped_by, arisen_by};
+ghost use Rattle.sa_life.specs.Change.{stepped_by, arisen_by};
 ghost use Rattle.sa_lives.specs.Table.{SomeIsIn};
 ghost use Rattle.sa_lives.specs.Recorded.{recorded, taken_lock};
 ghost use Rattle.sa_lives.specs.View.{lives_of, no_lives, running_at, life_if_at, space_at, taken_at, untold_at, changed, changed_on, begun, stopped, blocked, unblocked, told, given_back, untold_threads, thread_of_note, must_be_told, noted, passed};
 
-use crate::change::{Change, Stepped};
-use crate::life::KeptLife;
 use crate::lists::{Row, add, no_rows, remove_act, remove_note, row_at, undo};
-use crate::lock::ListLock;
 use crate::table::Table;
 use sa_base::{ActNo, BULK_RETURN, Note, ProcNo, Record, SpaceNo, ThreadNo};
+use sa_life::{Change, KeptLife, ListLock, Stepped};
 use std::alloc::{AllocError, Global};
 use std::marker::Model;
 

@@ -8,13 +8,11 @@ ghost use Rattle.sa_laws.specs.Record.{with_life, handed, locks_one};
 ghost use Rattle.sa_laws.specs.Readings.{Readings, IsLocked};
 ghost use Rattle.sa_laws.specs.Turns.{AnotherHas};
 ghost use Rattle.sa_laws.specs.Locks.{HoldsLock};
-ghost use Rattle.sa_lives.specs.Change.{changed_by};
+ghost use Rattle.sa_life.specs.Change.{changed_by};
 ghost use Rattle.sa_lives.specs.Table.{lives_in, SomeIsIn, KeepsAll, KeepsOthers, KeepsUpped, KeepsUnless, IsThere, IsAddedTo, some_passes, has_list, has_thread, is_in, is_list, is_of_thread};
 
-use crate::change::Change;
-use crate::life::KeptLife;
-use crate::lock::ListLock;
 use sa_base::{ActNo, ProcNo, SpaceNo, ThreadNo};
+use sa_life::{Change, KeptLife, ListLock};
 use std::alloc::{AllocError, Global};
 use std::collections::BTreeMap;
 use std::marker::Model;

@@ -1,5 +1,6 @@
 use sa_base::{ActNo, Note, ProcNo, SpaceNo, ThreadNo};
-use sa_lives::{ListLock, Lives, Scan, Stepped};
+use sa_life::{ListLock, Scan, Stepped};
+use sa_lives::Lives;
 use std::test::Fail;
 
 const P: ProcNo = ProcNo(1);

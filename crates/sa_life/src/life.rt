@@ -1,7 +1,7 @@
 ghost use Rattle.std.specs.Prelude.{◌≡◌, ◌↔◌, ◌+◌, ◌≤◌, ◌++◌, length, vec_len, vec_capacity, not, filter, map, IsTrue, OnOk, OnErr, Contains};
 ghost use Rattle.sa_laws.specs.Life.{new_life, has_lock, first_lock, same_thread, without_lock, with_first, change_first, ran, with_hand, inherits, inherited, bereft};
 ghost use Rattle.sa_laws.specs.Record.{one_thread, made_ready};
-ghost use Rattle.sa_lives.specs.Change.{changed_by, stepped_by, used_by};
+ghost use Rattle.sa_life.specs.Change.{changed_by, stepped_by, used_by};
 
 use crate::change::{Change, Scan, Stepped};
 use crate::lock::ListLock;
@@ -47,7 +47,7 @@ impl Model for KeptLife {
 
 impl KeptLife {
     /// A life at its up.
-    pub(crate) fn new(alloc: Global, s: SpaceNo, p: ProcNo) -> Self
+    pub fn new(alloc: Global, s: SpaceNo, p: ProcNo) -> Self
         ensures { result ≡ new_life s p }
     {
         KeptLife {
@@ -155,8 +155,8 @@ impl KeptLife {
         self.hand.contains(&t)
     }
 
-    // Changes the life. An error changes nothing.
-    pub(crate) fn change(&mut self, change: &Change) -> Result<(), AllocError>
+    /// Changes the life. An error changes nothing.
+    pub fn change(&mut self, change: &Change) -> Result<(), AllocError>
         ensures ok { OnOk result (self.new ≡ changed_by change.now self.old) }
         ensures err { OnErr result (self.new ≡ self.old) }
     {
@@ -218,16 +218,16 @@ impl KeptLife {
         }
     }
 
-    // Threads join the hand. An error changes nothing.
-    pub(crate) fn rouse(&mut self, threads: &[ThreadNo]) -> Result<(), AllocError>
+    /// Threads join the hand. An error changes nothing.
+    pub fn rouse(&mut self, threads: &[ThreadNo]) -> Result<(), AllocError>
         ensures ok { OnOk result (self.new ≡ with_hand threads.now self.old) }
         ensures err { OnErr result (self.new ≡ self.old) }
     {
         self.hand.extend_from_slice(threads)
     }
 
-    // Gets the locks and the hand of another life. An error changes nothing.
-    pub(crate) fn inherit(&mut self, from: &KeptLife) -> Result<(), AllocError>
+    /// Gets the locks and the hand of another life. An error changes nothing.
+    pub fn inherit(&mut self, from: &KeptLife) -> Result<(), AllocError>
         ensures ok { OnOk result (self.new ≡ inherits from.now self.old) }
         ensures err { OnErr result (self.new ≡ self.old) }
     {
@@ -252,8 +252,8 @@ impl KeptLife {
         Ok(())
     }
 
-    // Loses its locks, its open cont and its hand, and gives back what it was.
-    pub(crate) fn bereave(&mut self, alloc: Global) -> KeptLife
+    /// Loses its locks, its open cont and its hand, and gives back what it was.
+    pub fn bereave(&mut self, alloc: Global) -> KeptLife
         ensures was { result ≡ self.old }
         ensures now { self.new ≡ bereft self.old }
     {

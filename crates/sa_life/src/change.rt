@@ -1,5 +1,5 @@
 ghost use Rattle.std.specs.Prelude.{◌≡◌, true, false};
-ghost use Rattle.sa_lives.specs.Change.{adds_lock, enters, leaves};
+ghost use Rattle.sa_life.specs.Change.{adds_lock, enters, leaves};
 
 use crate::lock::ListLock;
 use sa_base::ThreadNo;
@@ -20,31 +20,42 @@ pub enum Scan {
 pub struct Stepped {
     /// The event was a free.
     pub freed: bool,
+    /// How the looks that found no thread are counted on.
     pub scan: Scan,
     /// The life is in, by the test of the user level.
     pub inside: bool,
 }
 
-// What a record, or the end of an event, changes in a life.
+/// What a record, or the end of an event, changes in a life.
 #[derive(Debug, Drop)]
-pub(crate) enum Change {
+pub enum Change {
+    /// Its stop, of this thread.
     Stop(Option<ThreadNo>),
+    /// Its block, of this thread.
     Block(Option<ThreadNo>),
+    /// Its unblock, of this thread.
     Unblock(Option<ThreadNo>),
+    /// A cont of its own.
     Cont,
+    /// A back of its own, of this thread.
     Back(Option<ThreadNo>),
+    /// It makes this thread ready.
     Ready(ThreadNo),
+    /// It runs this thread.
     Run(ThreadNo),
+    /// It takes the lock of a list.
     Take(ListLock),
+    /// It frees its first lock.
     Free,
+    /// An event of its own ends.
     Step(Stepped),
-    // the event of its up ends, and whether it is in
+    /// The event of its up ends, and whether it is in.
     Arise(bool),
 }
 
 impl Change {
-    // The change gives a life a lock.
-    pub(crate) fn adds_lock(&self) -> bool
+    /// The change gives a life a lock.
+    pub fn adds_lock(&self) -> bool
         ensures { result ≡ adds_lock self.now }
     {
         match self {
@@ -53,8 +64,8 @@ impl Change {
         }
     }
 
-    // The change took the last lock from a life, which has one or not then.
-    pub(crate) fn bares(&self, has_lock: bool) -> bool
+    /// The change took the last lock from a life, which has one or not then.
+    pub fn bares(&self, has_lock: bool) -> bool
         ensures { has_lock ≡ true → result ≡ false }
     {
         match self {
@@ -63,8 +74,8 @@ impl Change {
         }
     }
 
-    // The life is in by the change.
-    pub(crate) fn enters(&self) -> bool
+    /// The life is in by the change.
+    pub fn enters(&self) -> bool
         ensures { result ≡ enters self.now }
     {
         match self {
@@ -74,8 +85,8 @@ impl Change {
         }
     }
 
-    // The life is out by the change.
-    pub(crate) fn leaves(&self) -> bool
+    /// The life is out by the change.
+    pub fn leaves(&self) -> bool
         ensures { result ≡ leaves self.now }
     {
         match self {

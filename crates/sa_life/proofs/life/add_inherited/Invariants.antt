@@ -1,7 +1,7 @@
 use Rattle.std.proofs.Common.{◌≡◌, ◌+◌, ◌-◌, ◌≤◌, ◌++◌, length, drop, map, vec_len}
 use Rattle.std.specs.Prelude.{vec_capacity}
 use Rattle.sa_laws.specs.Life.{inherited}
-use Rattle.sa_lives.proofs.life.add_inherited.Given as goal
+use Rattle.sa_life.proofs.life.add_inherited.Given as goal
 
 abbrev pub invariant-loop-lock : goal.invariant-loop-lock
 invariant-loop-lock l = record {

@@ -3,11 +3,11 @@ use Rattle.std.specs.Prelude.{ℕ, ◌+◌, Bool, true, false, not, Option, Some
 use Rattle.sa_base.specs.declared.number.ThreadNo.{ThreadNo}
 use Rattle.sa_laws.specs.Life.{Life, Lock, readied, with_lock, without_lock, with_first, ran, with_hand, with_cont, held_with}
 use Rattle.sa_laws.specs.Record.{one_thread, stopped_with, back_with, made_ready}
-use Rattle.sa_lives.specs.declared.change.Scan.{Scan}
-use Rattle.sa_lives.specs.declared.change.Scan.TheVariants.{More, Same, Over}
-use Rattle.sa_lives.specs.declared.change.Stepped.{Stepped}
-use Rattle.sa_lives.specs.declared.change.Change.{Change}
-use Rattle.sa_lives.specs.declared.change.Change.TheVariants.{Stop, Block, Unblock, Cont, Back, Ready, Run, Take, Free, Step, Arise}
+use Rattle.sa_life.specs.declared.change.Scan.{Scan}
+use Rattle.sa_life.specs.declared.change.Scan.TheVariants.{More, Same, Over}
+use Rattle.sa_life.specs.declared.change.Stepped.{Stepped}
+use Rattle.sa_life.specs.declared.change.Change.{Change}
+use Rattle.sa_life.specs.declared.change.Change.TheVariants.{Stop, Block, Unblock, Cont, Back, Ready, Run, Take, Free, Step, Arise}
 
 abbrev pub scans_by : Scan → ℕ → ℕ
 scans_by More scans = scans + 1

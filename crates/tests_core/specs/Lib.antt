@@ -1,0 +1,2 @@
+pub mod Looker
+pub mod Kept
