@@ -1,0 +1,9 @@
+pub mod Lines
+pub mod Events
+pub mod Chains
+pub mod Locks
+pub mod Bursts
+pub mod Follows
+pub mod Entries
+pub mod Closings
+pub mod Fresh

@@ -1,0 +1,131 @@
+// The machine that threads share.
+ghost use Rattle.std.specs.Prelude.{◌≡◌, ◌≤◌, OnErr, IfOk, length};
+ghost use Rattle.sa_base.specs.declared.limits.TheConstants.{MAX_EVENTS, MAX_PROCESSORS};
+ghost use Rattle.sa_machine.specs.Run.{opening};
+ghost use Rattle.sa_core.specs.View.{machine};
+ghost use Rattle.sa_lines.specs.Seen.{fresh_keeper, fresh_pollers};
+ghost use Rattle.sa_seat.specs.Seat.{AreFresh, AreSeats};
+ghost use Rattle.sa_seat.specs.Enter.{HasEntered};
+ghost use Rattle.sa_seat.specs.Closed.{IsClosed, AreJoined};
+
+use crate::answer::Entered;
+use crate::closed::Closed;
+use crate::follow::PLACES;
+use crate::held::Held;
+use crate::named::Named;
+use crate::seat::{Seat, seat_all};
+use sa_abstract::UserLevel;
+use sa_core::Core;
+use sa_instr::Workload;
+use sa_lines::{Keeper, LineWords, Poller};
+use std::alloc::{AllocError, Global};
+use std::marker::Model;
+use std::sync::{Mutex, Wait};
+
+/// A machine that threads share: the core behind its lock, and, outside of it, its words and a copy of its workload, which
+/// is what contracts see.
+#[derive(Drop)]
+pub struct Machine<U: UserLevel, K: Named> {
+    held: Mutex<Held<U, K>>,
+    pub(crate) words: LineWords,
+    pub(crate) workload: Workload,
+}
+
+impl<U: UserLevel, K: Named> Model for Machine<U, K> {
+    ghost use Rattle.std.specs.Prelude.{◌≡◌};
+    ghost use Rattle.sa_instr.specs.Workload.{WorkloadView};
+
+    ghost Value = { WorkloadView };
+
+    ghost view = { λ m. m.workload };
+
+    ghost invariant = { λ m. (m.words ≡ K.table) × (m.workload ≡ K.workload) };
+}
+
+impl<U: UserLevel, K: Named> Machine<U, K> {
+    /// The machine of a core at its opening, with words that were made for its processors, and a seat for each processor, in
+    /// order. Fails only where memory runs out.
+    pub fn start(
+        alloc: Global,
+        core: Core<U>,
+        words: LineWords,
+        keeper: Keeper,
+        pollers: Vec<Poller>,
+    ) -> Result<(Machine<U, K>, Vec<Seat<K>>), AllocError>
+        requires core { machine core ≡ opening U.calls K.workload }
+        requires budget { core.budget ≡ K.budget }
+        requires few { K.budget ≤ MAX_EVENTS }
+        requires words { words ≡ K.table }
+        requires keeper { keeper ≡ fresh_keeper K.table K.workload.processors }
+        requires pollers { pollers.items ≡ fresh_pollers K.table K.workload.processors }
+        ensures { IfOk result (λ made. AreFresh K.table K.workload.processors made.1.items) }
+    {
+        let workload = core.workload().copy(alloc)?;
+        let seats = seat_all::<K>(alloc, pollers)?;
+        workload.ranges();
+        let held = Held::new(core, keeper, &words);
+        let machine = Machine {
+            held: Mutex::new(held),
+            words,
+            workload,
+        };
+        Ok((machine, seats))
+    }
+
+    /// The seat enters: its burst becomes events of its processor, or one turn is made, as `Held::turn` says. Waits for the
+    /// lock. An error is want of memory, and leaves the seat as it was.
+    pub fn enter<R: Wait>(&self, rt: &R, seat: &mut Seat<K>) -> Result<Entered, AllocError>
+        ensures ok { IfOk result (λ answer. HasEntered seat.old answer seat.new) }
+        ensures err { OnErr result (seat.new ≡ seat.old) }
+    {
+        self.held.lock(rt).turn(rt, &self.words, seat)
+    }
+
+    /// The history, when every seat is back.
+    pub fn close(self, seats: Vec<Seat<K>>) -> Closed
+        requires { AreSeats K.workload.processors seats.items }
+        ensures { IsClosed U.calls K.workload K.budget seats.items result }
+    {
+        let Machine {
+            held,
+            words,
+            workload: _,
+        } = self;
+        let Held {
+            core,
+            mut keeper,
+            lines: _,
+            of: _,
+        } = held.into_inner();
+        let turns = join_all(&mut keeper, &words, seats);
+        words.close(keeper);
+        let end = core.end();
+        Closed {
+            trace: core.into_trace(),
+            end,
+            turns,
+        }
+    }
+}
+
+// Joins the pollers of the seats, and tells their counts.
+fn join_all<K: Named>(
+    keeper: &mut Keeper,
+    words: &LineWords,
+    mut seats: Vec<Seat<K>>,
+) -> [u64; PLACES]
+    requires own { words.now ≡ K.table }
+    requires keeper { keeper.old.table ≡ K.table }
+    requires lanes { length keeper.old.lanes ≡ K.workload.processors }
+    requires processors { K.workload.processors ≤ MAX_PROCESSORS }
+    requires seats { AreSeats K.workload.processors seats.items }
+    ensures { AreJoined K.workload.processors seats.items keeper.old keeper.new result }
+{
+    let mut turns = [0; PLACES];
+    while let Some(seat) = seats.pop() {
+        let poller = seat.into_poller();
+        turns[poller.proc().0 as usize] = poller.account().count;
+        keeper.join(words, poller);
+    }
+    turns
+}
