@@ -1,2 +1,2 @@
-pub mod Looker
+pub mod OneThread
 pub mod Kept

@@ -3,7 +3,7 @@
 
 #[cfg(test)]
 mod bench;
-pub mod looker;
+pub mod one_thread;
 #[cfg(test)]
 mod rows;
 #[cfg(test)]
