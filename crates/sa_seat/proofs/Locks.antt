@@ -8,7 +8,7 @@ use Rattle.atomic_table.specs.Seated.{TableId}
 use Rattle.sa_base.specs.declared.number.ProcNo.{ProcNo}
 use Rattle.sa_base.specs.declared.record.End.{End}
 use Rattle.sa_base.specs.declared.limits.TheConstants.{MAX_EVENTS, MAX_PROCESSORS}
-use Rattle.sa_instr.specs.Workload.{WorkloadView, IsWorkload}
+use Rattle.sa_spaces.specs.Workload.{WorkloadView, IsWorkload}
 use Rattle.sa_abstract.specs.Calls.{Calls}
 use Rattle.sa_abstract.specs.Keeps.{Standing, Keeps}
 use Rattle.sa_assign.specs.Reaim.{proc_no, line_at}

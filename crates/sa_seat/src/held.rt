@@ -2,7 +2,7 @@
 ghost use Rattle.std.specs.Prelude.{◌≡◌, ◌<◌, ◌≤◌, Some, None, OnOk, OnErr, IfOk};
 ghost use Rattle.sa_machine.specs.End.{end_of, local_on};
 ghost use Rattle.sa_base.specs.declared.limits.TheConstants.{MAX_EVENTS};
-ghost use Rattle.sa_instr.specs.Workload.{IsWorkload};
+ghost use Rattle.sa_spaces.specs.Workload.{IsWorkload};
 ghost use Rattle.sa_machine.specs.Run.{IsTurn, opening};
 ghost use Rattle.sa_kernel.specs.State.{line_of};
 ghost use Rattle.sa_core.specs.View.{machine};

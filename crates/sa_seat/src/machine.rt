@@ -16,8 +16,8 @@ use crate::named::Named;
 use crate::seat::{Seat, seat_all};
 use sa_abstract::UserLevel;
 use sa_core::Core;
-use sa_instr::Workload;
 use sa_lines::{Keeper, LineWords, Poller};
+use sa_spaces::Workload;
 use std::alloc::{AllocError, Global};
 use std::marker::Model;
 use std::sync::{Mutex, Wait};
@@ -33,7 +33,7 @@ pub struct Machine<U: UserLevel, K: Named> {
 
 impl<U: UserLevel, K: Named> Model for Machine<U, K> {
     ghost use Rattle.std.specs.Prelude.{◌≡◌};
-    ghost use Rattle.sa_instr.specs.Workload.{WorkloadView};
+    ghost use Rattle.sa_spaces.specs.Workload.{WorkloadView};
 
     ghost Value = { WorkloadView };
 

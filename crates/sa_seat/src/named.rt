@@ -1,7 +1,7 @@
 // Which machine it is.
 ghost use Rattle.std.specs.Prelude.{ℕ};
 ghost use Rattle.atomic_table.specs.Seated.{TableId};
-ghost use Rattle.sa_instr.specs.Workload.{WorkloadView};
+ghost use Rattle.sa_spaces.specs.Workload.{WorkloadView};
 ghost use Rattle.sa_seat.specs.Lock.{no_workload, no_table};
 
 use std::marker::Brand;

@@ -1,5 +1,5 @@
 use Rattle.std.proofs.Common.{sym, ap, subst, arith}
-use Rattle.sa_instr.specs.Workload.{WorkloadView}
+use Rattle.sa_spaces.specs.Workload.{WorkloadView}
 use Rattle.sa_abstract.specs.declared.answer.SeatState.{SeatState}
 use Rattle.sa_machine.specs.End.{local_on}
 use Rattle.sa_core.specs.View.{machine}

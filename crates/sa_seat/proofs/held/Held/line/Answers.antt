@@ -1,5 +1,5 @@
 use Rattle.std.proofs.Common.{ap, arith}
-use Rattle.sa_instr.specs.Workload.{WorkloadView}
+use Rattle.sa_spaces.specs.Workload.{WorkloadView}
 use Rattle.sa_core.specs.View.{machine}
 use Rattle.sa_seat.proofs.Chains.{reached}
 use Rattle.sa_seat.proofs.held.Held.line.Goals as goal
