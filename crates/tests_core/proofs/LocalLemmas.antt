@@ -1,9 +1,9 @@
 -- Local instructions behind a first one.
-use Rattle.std.proofs.Common.{◌≡◌, ℕ, zero, suc, ◌-◌, ◌<◌, List, sym, ap, subst, ◌∙◌, arith}
+use Rattle.std.proofs.Common.{◌≡◌, ℕ, zero, suc, ◌-◌, ◌<◌, List, subst, arith}
 use Rattle.sa_instr.specs.declared.instr.Instr.{Instr}
 use Rattle.sa_instr.specs.declared.answer.Local.TheVariants.{Went}
 use Rattle.sa_instr.specs.Local.{instr_at, local_answer, place_after, regs_after}
-use Rattle.sa_abstract.specs.Walk.{Spot, AreLocal}
+use Rattle.sa_abstract.specs.Walk.{AreLocal}
 
 -- the first is local, and those behind it are
 pub first-and-rest : (program : List Instr) (n pc place : ℕ) (regs after : List ℕ) → 0 < n → local_answer (instr_at program pc) ≡ Went

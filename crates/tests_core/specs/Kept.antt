@@ -1,19 +1,17 @@
 -- The calls of the second user level keep what the core needs.
-use Rattle.std.proofs.Common.{◌≡◌, ℕ, zero, suc, ◌+◌, ◌<◌, ◌≤◌, length, get_or, ◌==◌, ◌&&◌, ◌||◌, Bool, true, false, not, Option, is_none, List, [], ◌∷◌, replicate, All, refl, sym, ap, ◌∙◌, arith}
+use Rattle.std.proofs.Common.{◌≡◌, ℕ, zero, suc, ◌<◌, length, ◌||◌, Bool, true, false, is_none, List, [], ◌∷◌, replicate, All, refl, sym, ap, ◌∙◌, arith}
 use Rattle.std.proofs.lemmas.Bool.Decides.{nat_tests}
 use Rattle.sa_base.specs.declared.number.SpaceNo.{SpaceNo}
 use Rattle.sa_base.specs.declared.context.Seen.{Seen}
-use Rattle.sa_base.specs.declared.record.Record.{Record}
-use Rattle.sa_base.specs.declared.record.Record.TheVariants.{Idle as IdleRecord}
 use Rattle.sa_instr.specs.declared.instr.Reg.TheVariants.{R0}
 use Rattle.sa_instr.specs.declared.instr.Instr.{Instr}
 use Rattle.sa_instr.specs.declared.instr.Instr.TheVariants.{Jnz}
 use Rattle.sa_instr.specs.Local.{instr_at, place_after, regs_after}
-use Rattle.sa_abstract.specs.Walk.{Spot, after_one, after_many, ins_records, program_at}
+use Rattle.sa_abstract.specs.Walk.{Spot, after_many, ins_records, program_at}
 use Rattle.sa_abstract.specs.Keeps.{Keeps, IsAsked, IsOwn, IsSeat, GoesOn, is_away, state_after, records_of, moved_to}
 use Rattle.sa_abstract.specs.Setting.{Setting}
 use Rattle.tests_core.specs.declared.one_thread.OneThread.{OneThread}
-use Rattle.tests_core.specs.OneThread.{one_thread_calls, one_thread_stands, IsInSpace, first_instr, jumps_to_itself, the_thread, loop_regs, round_in, seat_in, said_in, carried, hints, asked_if}
+use Rattle.tests_core.specs.OneThread.{one_thread_calls, one_thread_stands, first_instr, jumps_to_itself, the_thread, loop_regs, round_in, seat_in, said_in, carried, hints, asked_if}
 
 can-ask : (s : Setting) (u : OneThread) (seen : Seen) (b : Bool) → b ≡ hints u seen → IsAsked s seen (asked_if b)
 can-ask s u seen true is = grind (arith, nat_tests)
