@@ -20,3 +20,6 @@ pub mod LowLemmas
 pub mod TurnLemmas
 pub mod FrontLemmas
 pub mod DueLemmas
+pub mod ApartLemmas
+pub mod PassLemmas
+pub mod FormLemmas
