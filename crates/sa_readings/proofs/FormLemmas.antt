@@ -81,7 +81,7 @@ pub record StepOf (w : WorkloadView) (r : Readings) (p : ProcNo) (x : Record) (y
   pub by : StepBy w r p act life x ys
   pub step : is_step x ≡ true
   pub quiet : AllQuiet (x ∷ ys)
-  pub rest : AllOut ys ⊎ ((x ∷ ys ≡ map GiveBack (taken_of r life.space)) × ((c : Readings) → Rattle.sa_laws.specs.History.settles r c x ≡ true))
+  pub rest : AllOut ys ⊎ ((x ∷ ys ≡ map GiveBack (taken_of r life.space)) × ((b c : Readings) → Rattle.sa_laws.specs.History.settles b c x ≡ true))
 
 abbrev pub Form : WorkloadView → Readings → ProcNo → Record → List Record → Type 0
 Form w r p x ys = (Turning (x ∷ ys) × BlocksFirst x ys) ⊎ (Calm x ys ⊎ StepOf w r p x ys)
@@ -152,7 +152,7 @@ by-form w r p a life (GiveBack b) ys runs on by keeps =
       by = by;
       step = refl;
       quiet = subst AllQuiet (sym by.all) (given-quiet (taken_of r life.space));
-      rest = inr (by.all, λ c. refl);
+      rest = inr (by.all, λ b' c. refl);
     }))
 by-form w r p a life (Take s l t) ys runs on by keeps = inr (inr (step-alone w r p a life (Take s l t) ys runs on by refl refl keeps.1))
 by-form w r p a life (Ready s t) ys runs on by keeps = inr (inr (step-alone w r p a life (Ready s t) ys runs on by refl refl keeps.1))

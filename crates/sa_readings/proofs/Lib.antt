@@ -23,3 +23,6 @@ pub mod DueLemmas
 pub mod ApartLemmas
 pub mod PassLemmas
 pub mod FormLemmas
+pub mod FineLemmas
+pub mod CoverLemmas
+pub mod LoadCovered
