@@ -1,25 +1,22 @@
 -- After each event of a legal run the demand of a space covers its load, where no life of it is in and nothing is untold to it.
-use Rattle.std.proofs.Common.{◌≡◌, ◌≢◌, ℕ, zero, suc, ◌+◌, ◌<◌, ◌≤◌, ◌⊎◌, inl, inr, refl, sym, ◌∙◌, ap, subst, arith, Some, None, List, [], ◌∷◌, ◌++◌, length, map, take, drop, true, false}
-use Rattle.std.specs.Prelude.{Option, Bool, ◌&&◌, ◌==◌, not, nat_lt, min, cond, if◌then◌else◌, is_some, get_or, slice_set, slice_get, take_while, filter, Contains, sum_by}
-use Rattle.std.specs.List.{list_any, range_with_len, prefix_len}
+use Rattle.std.proofs.Common.{◌≡◌, ◌≢◌, ℕ, ◌+◌, ◌<◌, ◌≤◌, ◌⊎◌, inl, inr, refl, sym, ◌∙◌, ap, subst, arith, Some, None, List, [], ◌∷◌, ◌++◌, length, map, take, drop, true, false}
+use Rattle.std.specs.Prelude.{Option, Bool, ◌==◌, not, nat_lt, min, cond, if◌then◌else◌, is_some, get_or, slice_set, take_while, filter, Contains}
+use Rattle.std.specs.List.{list_any, prefix_len}
 use Rattle.std.proofs.lemmas.Bool.{cases_eq}
-use Rattle.std.proofs.lemmas.Bool.Decides.{nat_tests}
 use Rattle.std.proofs.lemmas.List.{get_or-set_same}
 use Rattle.std.proofs.lemmas.Option.{none-some, same_Some}
 use Rattle.sa_base.specs.declared.number.SpaceNo.{SpaceNo}
 use Rattle.sa_base.specs.declared.number.ProcNo.{ProcNo}
 use Rattle.sa_base.specs.declared.number.ActNo.{ActNo}
 use Rattle.sa_base.specs.declared.record.Record.{Record}
-use Rattle.sa_base.specs.declared.record.Record.TheVariants.{Ins, Out, Run, Stop, Block, Cont, Ready, Up, Told, Want, Aim, Line, GiveBack, Idle}
-use Rattle.sa_base.specs.declared.record.Item.{Item}
+use Rattle.sa_base.specs.declared.record.Record.TheVariants.{Ins, Run, Block, Cont, Ready, Up, Want, Aim, Line, GiveBack, Idle}
 use Rattle.sa_instr.specs.Workload.{WorkloadView}
-use Rattle.sa_assign.specs.Aims.{space_no}
-use Rattle.sa_laws.specs.Event.{Event, events_of}
+use Rattle.sa_laws.specs.Event.{Event}
 use Rattle.sa_laws.specs.State.{space_at, active_threads}
 use Rattle.sa_laws.specs.Life.{Life}
-use Rattle.sa_laws.specs.Readings.{Readings, opening_readings, running_of, life_of, life_if, life_on, demand_of, untold_of, untold_thread, load_of, usable, space_of_life, owner_of, taken_of, line_of}
+use Rattle.sa_laws.specs.Readings.{Readings, running_of, life_if, life_on, demand_of, load_of, usable, space_of_life, owner_of, taken_of, line_of}
 use Rattle.sa_laws.specs.Record.{after_record}
-use Rattle.sa_laws.specs.History.{is_inside, is_step, is_up, settles, with_step, with_up, begun, behind, behind_all, after_records, after_event, after_events}
+use Rattle.sa_laws.specs.History.{is_inside, is_step, is_up, settles, with_step, with_up, begun, behind, after_records, after_event}
 use Rattle.sa_laws.specs.Shape.{own_part, closing_part, is_own, is_want, is_no_want, wants_in, before_wants}
 use Rattle.sa_laws.specs.Closing.{must_want, want_one, wants_due, spaces_of}
 use Rattle.sa_laws.specs.Demand.{BeginsFreely, StepIsFree, StepIsFreeIf, OwesNothing, is_bound}
@@ -28,24 +25,18 @@ use Rattle.sa_laws.specs.Turns.{IsClosing, AreRaising, IsTurn, IsStep, StepBy, C
 use Rattle.sa_laws.specs.Upcalls.{EachRecord, TellsAllThen}
 use Rattle.sa_laws.specs.Step.{Needs, AreSteps}
 use Rattle.sa_laws.specs.Rules.{IsLawful, fast_threads}
-use Rattle.sa_legal.specs.Fold.{AreLawful}
-use Rattle.sa_legal.specs.Legal.{IsLegal, before}
-use Rattle.sa_legal.proofs.EventLemmas.{legal-lawful}
 use Rattle.sa_legal.proofs.StandingLemmas.{Standing, Runs, space_of, space_in, standing_after}
 use Rattle.sa_legal.proofs.ShapeLemmas.{MovesLives}
-use Rattle.sa_legal.proofs.MovesLemmas.{moves-lives, stood, agrees-start, agrees-begun, agrees-ended, nowhere_first}
-use Rattle.sa_readings.specs.Demands.{NoneIsIn, DemandCoversLoad, DemandsCoverLoads}
+use Rattle.sa_legal.proofs.MovesLemmas.{moves-lives, agrees-begun}
 use Rattle.sa_readings.proofs.ListLemmas.{same-number}
 use Rattle.sa_readings.proofs.TrackLemmas.{IsSized}
 use Rattle.sa_readings.proofs.RangeLemmas.{while-more, parts-take}
 use Rattle.sa_readings.proofs.OwnLemmas.{OwnedByLives, owner-runs}
 use Rattle.sa_readings.proofs.FrontLemmas.{and-left}
-use Rattle.sa_readings.proofs.ReadingLemmas.{IsReadAfter, after-next, after-start}
-use Rattle.sa_readings.proofs.ClosingLemmas.{take-next, after-append}
 use Rattle.sa_readings.proofs.ApartLemmas.{IsApart, apart-step, none-in}
-use Rattle.sa_readings.proofs.PassLemmas.{Kept, Passes, Goes, Arrives, kept-all}
-use Rattle.sa_readings.proofs.FormLemmas.{Turning, BlocksFirst, AllOut, is_quiet, Calm, StepOf, Form, turn-form, turning-cases, RunsAt, up-runs, quiet-runs, LowWants, closing-pass, pass-append, quiet-append, closing-quiet, out-pass, given-pass}
-use Rattle.sa_readings.proofs.FineLemmas.{Within, Untold, Covers, Fine, min-less, covers-more, usable-covers, arise-fine, step-space, settle-fine, keep-fine, IsStepOf, blocks-untold}
+use Rattle.sa_readings.proofs.PassLemmas.{Kept, Passes, Goes, kept-all}
+use Rattle.sa_readings.proofs.FormLemmas.{Turning, BlocksFirst, AllOut, is_quiet, Calm, StepOf, Form, turn-form, turning-cases, up-runs, quiet-runs, LowWants, closing-pass, pass-append, quiet-append, closing-quiet, out-pass, given-pass}
+use Rattle.sa_readings.proofs.FineLemmas.{Covers, Fine, min-less, covers-more, usable-covers, arise-fine, step-space, settle-fine, keep-fine, IsStepOf, blocks-untold}
 
 -- an event in its parts
 pub record InForm (w : WorkloadView) (r : Readings) (e : Event) : Type 0 where
@@ -87,9 +78,6 @@ raising-low r (x ∷ xs) is = absurd is
 
 while-none : (f : Record → Bool) (x : Record) (xs : List Record) → f x ≡ false → take_while f (x ∷ xs) ≡ []
 while-none f x xs is = ap (λ b. take (cond b (1 + prefix_len f xs) 0) (x ∷ xs)) is
-
-drop-one : (x : Record) (ys xs : List Record) → drop (length (x ∷ ys)) (x ∷ xs) ≡ drop (length ys) xs
-drop-one x ys xs = refl
 
 -- the wants of a closing that begins with one are those of the event, and its own part is what stands before them
 pub record WantsBehind (others : List Record) : Type 0 where
@@ -276,7 +264,6 @@ up-turn-fine w r e s x ys cs known proc within fine is goes closes closing turni
   | inl up ↦
       let running = known.sized.running in
       let runs = up-runs w e.number e.proc s (begun w e r) (x ∷ ys) cs (omega arith) turning up closes in
-      let c = After w r e (x ∷ (ys ++ cs)) in
       arise-fine w r e (After w r e (x ∷ (ys ++ cs))) s (with_step is_inside w r e (After w r e (x ∷ (ys ++ cs))) (x ∷ (ys ++ cs)) (After w r e (x ∷ (ys ++ cs))).lives) runs.0
       (step-space w r e (After w r e (x ∷ (ys ++ cs))) (x ∷ (ys ++ cs)) (After w r e (x ∷ (ys ++ cs))).lives runs.0.act.0 ∙ runs.0.space) (ap (list_any is_up) is ∙ runs.1)
   | inr each ↦
@@ -328,8 +315,6 @@ other-fine w r e s x ys cs known fine goes closing step of apart =
 lower-covers : (w : WorkloadView) (r : Readings) (e : Event) (s u : SpaceNo) (n : ℕ) (cs : List Record) (life : Life) → IsCovered w r → s.0 < length w.spaces → u ≡ s → life.space ≡ s
     → CanLower w (begun w e r) life n → GoesOn w r e (Want u n ∷ cs) → EachRecord (Passes s) w e.number e.proc (After w r e (Want u n ∷ [])) cs → Covers w (After w r e (Want u n ∷ cs)) s
 lower-covers w r e s u n cs life known within same of lower goes closing =
-    let b = begun w e r in
-    let c = after_record w e.number e.proc (begun w e r) (Want u n) in
     let apart = begun-apart w known.st r e (Want u n ∷ cs) known.apart in
     let all = kept-all w e.number e.proc (standing_after e.proc known.st (Want u n)) (after_record w e.number e.proc (begun w e r) (Want u n)) s cs
     (apart-step w e.number e.proc known.st (begun w e r) (Want u n) cs apart tt tt tt)
@@ -426,7 +411,6 @@ event-fine w r e known law from s within fine = whole (in-form w r e law from) w
 
   whole : InForm w r e → Fine w (after_event is_inside w r e) (after_event is_inside w r e).lives s
   whole parts =
-      let mid = After w r e (parts.first ∷ parts.own) in
       subst (λ xs. FineAfter w r e xs s) (sym parts.is)
       (formed parts.first parts.own parts.closing parts.is parts.closes
       (closing-pass w e.number e.proc s (After w r e (parts.first ∷ parts.own)) (After w r e (parts.first ∷ parts.own)) parts.closing parts.closes parts.low (λ u less. less)) parts.form)

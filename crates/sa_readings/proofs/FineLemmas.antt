@@ -1,14 +1,13 @@
 -- Of a space at the end of an event: a life of it is in, or something is untold to it, or its demand covers what is ready or runs.
-use Rattle.std.proofs.Common.{◌≡◌, ◌≢◌, ℕ, zero, suc, ◌+◌, ◌<◌, ◌≤◌, ◌⊎◌, inl, inr, refl, sym, ◌∙◌, ap, subst, arith, Some, None, List, [], ◌∷◌, ◌++◌, length, map, drop, true, false}
-use Rattle.std.specs.Prelude.{Option, Bool, ◌||◌, ◌&&◌, ◌==◌, not, nat_lt, min, if◌then◌else◌, get_or, slice_set, take_while, filter, Contains}
+use Rattle.std.proofs.Common.{◌≡◌, ◌≢◌, ℕ, ◌<◌, ◌≤◌, ◌⊎◌, inl, inr, refl, sym, ◌∙◌, ap, subst, arith, Some, None, List, [], ◌∷◌, ◌++◌, length, true, false}
+use Rattle.std.specs.Prelude.{Option, Bool, ◌||◌, ◌&&◌, nat_lt, min, if◌then◌else◌, get_or, slice_set, Contains}
 use Rattle.std.specs.List.{list_any}
 use Rattle.std.specs.Option.{option_map}
 use Rattle.std.proofs.lemmas.Bool.{cases_eq}
 use Rattle.std.proofs.lemmas.Bool.Decides.{nat_tests}
 use Rattle.std.proofs.lemmas.List.{get_or-set_same}
 use Rattle.std.proofs.lemmas.List.Elements.{Contains-append_right}
-use Rattle.std.proofs.lemmas.Option.{none-some, same_Some}
-use Rattle.sa_lemmas.specs.Function.{put}
+use Rattle.std.proofs.lemmas.Option.{same_Some}
 use Rattle.sa_lemmas.proofs.FunctionUpdates.{put-at, put-other}
 use Rattle.sa_base.specs.declared.number.SpaceNo.{SpaceNo}
 use Rattle.sa_base.specs.declared.number.ProcNo.{ProcNo}
@@ -24,13 +23,12 @@ use Rattle.sa_laws.specs.Event.{Event}
 use Rattle.sa_laws.specs.State.{space_at, active_threads}
 use Rattle.sa_laws.specs.Machine.{next_effect}
 use Rattle.sa_laws.specs.Life.{Life, has_lock, with_hand}
-use Rattle.sa_laws.specs.Readings.{Readings, running_of, life_of, demand_of, untold_of, load_of, usable, has_hand, space_of_life}
+use Rattle.sa_laws.specs.Readings.{Readings, running_of, demand_of, untold_of, load_of, usable, has_hand, space_of_life}
 use Rattle.sa_laws.specs.Record.{after_record, with_life}
 use Rattle.sa_laws.specs.History.{is_inside, is_step, is_up, settles, stepped, arisen, with_step, with_up, after_records}
 use Rattle.sa_laws.specs.Upcalls.{EachRecord}
 use Rattle.sa_legal.proofs.StandingLemmas.{Standing, standing_after, space_of, space-with}
 use Rattle.sa_legal.proofs.HolderLemmas.{has-life}
-use Rattle.sa_legal.proofs.ShapeLemmas.{is_telling}
 use Rattle.sa_legal.proofs.MovesLemmas.{stood}
 use Rattle.sa_readings.proofs.ApartLemmas.{IsApart, apart-step, is_real}
 use Rattle.sa_readings.proofs.PassLemmas.{Kept, Passes, Goes, kept-all}
@@ -83,12 +81,12 @@ up-fine w r e c s lives (a, life, is, of, inside) = one (list_any is_up e.record
   two (Some b) = elim (cases_eq a b.0) [
     | inl at ↦ elim (test-fine w r e c life) [
       | inl good ↦ inl (
-          a,
-          arisen is_inside w r e c life,
-          put-at lives b.0 a (option_map (arisen is_inside w r e c) (lives b.0)) at ∙ ap (option_map (arisen is_inside w r e c)) (ap lives (sym at) ∙ is),
-          of,
-          good,
-        )
+        a,
+        arisen is_inside w r e c life,
+        put-at lives b.0 a (option_map (arisen is_inside w r e c) (lives b.0)) at ∙ ap (option_map (arisen is_inside w r e c)) (ap lives (sym at) ∙ is),
+        of,
+        good,
+      )
       | inr covers ↦ inr (inr (subst (Covers w c) of covers))
     ]
     | inr apart ↦ inl (a, life, put-other lives b.0 a (option_map (arisen is_inside w r e c) (lives b.0)) apart ∙ is, of, inside)
@@ -114,12 +112,12 @@ arise-fine w r e c s lives at space up =
     (subst (λ o. Fine w c (with_life (arisen is_inside w r e c) o lives) s) (sym at.runs)
     (elim (test-fine w r e c l.0) [
       | inl good ↦ inl (
-          at.act.0,
-          arisen is_inside w r e c l.0,
-          put-at lives at.act.0 at.act.0 (option_map (arisen is_inside w r e c) (lives at.act.0)) refl ∙ ap (option_map (arisen is_inside w r e c)) l.1,
-          l.2,
-          good,
-        )
+        at.act.0,
+        arisen is_inside w r e c l.0,
+        put-at lives at.act.0 at.act.0 (option_map (arisen is_inside w r e c) (lives at.act.0)) refl ∙ ap (option_map (arisen is_inside w r e c)) l.1,
+        l.2,
+        good,
+      )
       | inr covers ↦ inr (inr (subst (Covers w c) l.2 covers))
     ]))
 

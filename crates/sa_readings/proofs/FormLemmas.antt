@@ -1,13 +1,11 @@
 -- The forms of a turn: what its records do to who runs, and which spaces they concern.
-use Rattle.std.proofs.Common.{◌≡◌, ◌≢◌, ℕ, zero, suc, ◌+◌, ◌<◌, ◌≤◌, ◌⊎◌, inl, inr, refl, sym, ◌∙◌, ap, subst, arith, Some, None, List, [], ◌∷◌, ◌++◌, length, map, drop, true, false}
-use Rattle.std.specs.Prelude.{Option, Bool, ◌||◌, ◌==◌, if◌then◌else◌, get_or, slice_set, take_while, filter, Contains}
+use Rattle.std.proofs.Common.{◌≡◌, ◌≢◌, ℕ, zero, suc, ◌<◌, ◌≤◌, ◌⊎◌, inl, inr, refl, sym, ◌∙◌, ap, subst, arith, Some, None, List, [], ◌∷◌, ◌++◌, length, map, true, false}
+use Rattle.std.specs.Prelude.{Option, Bool, get_or, slice_set, Contains}
 use Rattle.std.specs.List.{list_any}
 use Rattle.std.proofs.lemmas.Bool.{cases_eq}
-use Rattle.std.proofs.lemmas.Bool.Decides.{nat_tests}
 use Rattle.std.proofs.lemmas.List.{get_or-set_same}
 use Rattle.std.proofs.lemmas.List.Elements.{Contains-append_right}
-use Rattle.std.proofs.lemmas.Option.{none-some, same_Some}
-use Rattle.sa_lemmas.specs.Function.{put}
+use Rattle.std.proofs.lemmas.Option.{none-some}
 use Rattle.sa_lemmas.proofs.FunctionUpdates.{put-at, put-other}
 use Rattle.sa_base.specs.declared.number.SpaceNo.{SpaceNo}
 use Rattle.sa_base.specs.declared.number.ProcNo.{ProcNo}
@@ -23,7 +21,7 @@ use Rattle.sa_devices.specs.declared.kind.IoKind.TheVariants.{Plain, Page, Upcal
 use Rattle.sa_devices.specs.Ios.{Io, due_of}
 use Rattle.sa_laws.specs.Life.{Life}
 use Rattle.sa_laws.specs.Readings.{Readings, running_of, life_of, life_on, demand_of, owner_of, taken_of, space_of_life}
-use Rattle.sa_laws.specs.Record.{after_record, running_after, demands_after}
+use Rattle.sa_laws.specs.Record.{after_record, running_after}
 use Rattle.sa_laws.specs.History.{after_records, is_step, is_up}
 use Rattle.sa_laws.specs.Turns.{AreRaising, IsClosing, AreTold, IsFetchOrNothing, IsPassage, IsInterrupt, IsOver, IsInsOf, StepBy, StepIn, IsStep, IsTickOrStep, IsTurnWhileDue, IsTurn}
 use Rattle.sa_laws.specs.Locks.{KeepsLocksIn}
@@ -329,9 +327,11 @@ set-one (d ∷ ds) (suc i) (suc j) low = set-one ds i j low
 pub closing-pass : (w : WorkloadView) (e : ℕ) (p : ProcNo) (s : SpaceNo) (r c : Readings) (xs : List Record) → IsClosing xs → LowWants r xs → AtMostOne r c → EachRecord (Passes s) w e p c xs
 closing-pass w e p s r c (Want u n ∷ xs) is low most =
     let same : u.0 ≡ s.0 → demand_of c s ≤ n =
-    λ at. let here = most u low.0 in let one = low.1 in let there : demand_of c s ≡ demand_of c u = ap (λ k. get_or c.demands k 0) (sym at) in omega (arith, here, one, there) in
-    (same, closing-pass w e p s r (after_record w e p c (Want u n)) xs is low.2
-    (λ v less. subst (λ k. get_or (slice_set c.demands u.0 k) v.0 0 ≤ 1) (sym low.1) (set-one c.demands u.0 v.0 (most v less))))
+    λ at. let here = most u low.0 in let one = low.1 in let there : demand_of c s ≡ demand_of c u = ap (λ k. get_or c.demands k 0) (sym at) in omega (arith, here, one, there) in (
+      same,
+      closing-pass w e p s r (after_record w e p c (Want u n)) xs is low.2
+          (λ v less. subst (λ k. get_or (slice_set c.demands u.0 k) v.0 0 ≤ 1) (sym low.1) (set-one c.demands u.0 v.0 (most v less))),
+    )
 closing-pass w e p s r c [] is low most = tt
 closing-pass w e p s r c (Aim q (Some t) ∷ xs) is low most = raising-pass w e p s c (Aim q (Some t) ∷ xs) is
 closing-pass w e p s r c (Line q ∷ xs) is low most = raising-pass w e p s c (Line q ∷ xs) is

@@ -25,4 +25,4 @@ pub mod PassLemmas
 pub mod FormLemmas
 pub mod FineLemmas
 pub mod CoverLemmas
-pub mod LoadCovered
+pub mod LoadedLemmas

@@ -1,11 +1,10 @@
 -- What the records of an event leave of a space that they do not concern.
-use Rattle.std.proofs.Common.{◌≡◌, ◌≢◌, ℕ, zero, suc, ◌+◌, ◌<◌, ◌≤◌, ◌⊎◌, inl, inr, refl, sym, ◌∙◌, ap, subst, arith, Some, None, List, [], ◌∷◌, ◌++◌, length, true, false}
+use Rattle.std.proofs.Common.{◌≡◌, ◌≢◌, ℕ, zero, suc, ◌≤◌, inl, inr, refl, sym, ◌∙◌, ap, subst, arith, Some, None, List, [], ◌∷◌, ◌++◌, length, true, false}
 use Rattle.std.specs.Prelude.{Option, Bool, if◌then◌else◌, Contains, get_or, slice_set, count_by, not, ◌==◌, filter, map, nat_lt}
 use Rattle.std.specs.Option.{option_map}
 use Rattle.std.proofs.lemmas.Bool.{cases_eq}
-use Rattle.std.proofs.lemmas.Bool.Decides.{nat_tests}
 use Rattle.std.proofs.lemmas.List.Sums.{sum_by-cons, sum_by-append}
-use Rattle.std.proofs.lemmas.List.Elements.{Contains-append_left, Contains-append_right}
+use Rattle.std.proofs.lemmas.List.Elements.{Contains-append_left}
 use Rattle.std.proofs.lemmas.Option.{none-some, same_Some}
 use Rattle.sa_lemmas.specs.Function.{put}
 use Rattle.sa_lemmas.proofs.FunctionUpdates.{put-at, put-other}
@@ -16,7 +15,7 @@ use Rattle.sa_base.specs.declared.number.ActNo.{ActNo}
 use Rattle.sa_base.specs.declared.record.Note.{Note}
 use Rattle.sa_base.specs.declared.record.Note.TheVariants as note
 use Rattle.sa_base.specs.declared.record.Record.{Record}
-use Rattle.sa_base.specs.declared.record.Record.TheVariants.{Ins, Run, Stop, Block, Unblock, Cont, Back, Ready, Take, Free, Up, Told, Move, Want, GiveBack}
+use Rattle.sa_base.specs.declared.record.Record.TheVariants.{Ins, Run, Stop, Block, Unblock, Cont, Back, Ready, Take, Free, Up, Told, Want, GiveBack}
 use Rattle.sa_instr.specs.declared.instr.Reg.{Reg}
 use Rattle.sa_instr.specs.declared.instr.Instr.{Instr}
 use Rattle.sa_instr.specs.declared.instr.Instr.TheVariants as instr
@@ -31,15 +30,14 @@ use Rattle.sa_laws.specs.Effect.{Effect, effect_of, answered, sync_effect}
 use Rattle.sa_laws.specs.Machine.{changed, next_effect}
 use Rattle.sa_laws.specs.Life.{Life, with_hand, with_first, with_cont, without_lock, ran, held_with, inherits, bereft, new_life}
 use Rattle.sa_laws.specs.Readings.{Readings, running_of, life_of, demand_of, untold_of, space_of_life}
-use Rattle.sa_laws.specs.Record.{with_life, handed, lives_after, demands_after, untold_after, after_record, with_note, without_note, is_other_note, same_note, stopped_with, back_with, made_ready, locks, one_thread}
+use Rattle.sa_laws.specs.Record.{with_life, handed, lives_after, demands_after, untold_after, after_record, without_note, is_other_note, stopped_with, back_with, made_ready, locks, one_thread}
 use Rattle.sa_laws.specs.History.{after_records}
 use Rattle.sa_laws.specs.Step.{Needs, AreSteps}
 use Rattle.sa_laws.specs.Upcalls.{RecordLaw, EachRecord, TellsAllThen}
 use Rattle.sa_legal.proofs.StandingLemmas.{Standing, Stood, space_of}
 use Rattle.sa_legal.proofs.ShapeLemmas.{is_telling, MovesLives}
 use Rattle.sa_legal.proofs.MovesLemmas.{stood}
-use Rattle.sa_legal.proofs.UntoldLemmas.{same-itself}
-use Rattle.sa_readings.proofs.ApartLemmas.{IsApart, apart-step, one-space, is_real, told-space, upped-space, none-in}
+use Rattle.sa_readings.proofs.ApartLemmas.{IsApart, apart-step, one-space, is_real, told-space, upped-space}
 
 -- of a space: no more threads are ready or run, no less is wanted, its lives are as much in, and what is untold stays so
 pub record Kept (s : SpaceNo) (r c : Readings) : Type 0 where
@@ -108,7 +106,7 @@ count-push ts thread is =
     let none : one_if thread ≡ 0 = ap (λ b. if b then 1 else 0) is in
     omega (arith, both, one, none)
 
--- of the spaces, one is changed
+-- of the spaces, one is changed; one that is not there has no threads
 abbrev no_threads : SpaceState
 no_threads = record { threads = []; sync = Rattle.sa_sync.specs.Sync.opening Rattle.sa_laws.specs.State.no_space }
 
@@ -143,9 +141,6 @@ ins-answered x t thread change runs = one change.answer where
 ins-forked : (x : SpaceState) (t : ThreadNo) (thread : Thread) (reg : Reg) (k : ℕ) → is_active (thread_in x t).place ≡ true
     → active_threads (Rattle.sa_laws.specs.Effect.fork_effect x t thread reg k).space ≤ active_threads x
 ins-forked x t thread reg k runs = one (nat_lt (length x.threads) Rattle.sa_base.specs.declared.limits.TheConstants.MAX_THREADS) where
-  forking : Thread
-  forking = Rattle.sa_laws.specs.Effect.next_with thread reg (length x.threads)
-
   one : (b : Bool) → active_threads (if b
       then Rattle.sa_laws.specs.Effect.effect (record (with_thread x t (Rattle.sa_laws.specs.Effect.next_with thread reg (length x.threads))) {
         threads = slice_set x.threads t.0 (Rattle.sa_laws.specs.Effect.next_with thread reg (length x.threads)) ++ at_start k place.Waiting ∷ [];

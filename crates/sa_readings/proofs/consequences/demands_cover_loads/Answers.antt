@@ -1,4 +1,4 @@
-use Rattle.sa_readings.proofs.LoadCovered.{demands-cover-loads}
+use Rattle.sa_readings.proofs.LoadedLemmas.{demands-cover-loads}
 use Rattle.sa_readings.proofs.consequences.demands_cover_loads.Goals as goal
 
 pub returns : goal.returns

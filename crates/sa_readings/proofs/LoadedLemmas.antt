@@ -1,10 +1,10 @@
 -- At each moment behind the opening of a legal run, the demand of a space covers its load, or a life of it is in, or something is untold to it.
-use Rattle.std.proofs.Common.{◌≡◌, ℕ, zero, suc, ◌+◌, ◌<◌, ◌≤◌, ◌⊎◌, inl, inr, refl, sym, ◌∙◌, ap, subst, arith, Some, None, List, [], ◌∷◌, ◌++◌, length, map, take, true, false}
+use Rattle.std.proofs.Common.{◌≡◌, ℕ, zero, suc, ◌+◌, ◌<◌, ◌≤◌, ◌⊎◌, inl, inr, refl, sym, ◌∙◌, ap, subst, arith, Some, None, List, [], ◌∷◌, ◌++◌, length, map, take}
 use Rattle.std.specs.Prelude.{Option, Bool, min, get_or, slice_set, slice_get, sum_by}
 use Rattle.std.specs.List.{range_with_len}
 use Rattle.std.proofs.lemmas.Bool.{cases_eq}
 use Rattle.std.proofs.lemmas.List.{get_or-set_same, length-set}
-use Rattle.std.proofs.lemmas.Option.{none-some, same_Some}
+use Rattle.std.proofs.lemmas.Option.{none-some}
 use Rattle.sa_base.specs.declared.number.SpaceNo.{SpaceNo}
 use Rattle.sa_base.specs.declared.number.ProcNo.{ProcNo}
 use Rattle.sa_base.specs.declared.record.Record.{Record}
@@ -16,24 +16,23 @@ use Rattle.sa_assign.specs.Aims.{Change, space_no}
 use Rattle.sa_assign.specs.Reaim.{records_of, line_at, lines_with, line_records, proc_no}
 use Rattle.sa_laws.specs.Event.{Event, events_of}
 use Rattle.sa_laws.specs.State.{SpaceState, space_at, active_threads, opening_space}
-use Rattle.sa_laws.specs.Readings.{Readings, opening_readings, demand_of, untold_of, untold_thread, load_of, usable, life_of}
+use Rattle.sa_laws.specs.Readings.{Readings, opening_readings, demand_of, untold_thread, load_of, usable}
 use Rattle.sa_laws.specs.Record.{after_record}
 use Rattle.sa_laws.specs.History.{is_inside, begun, behind_all, after_records, after_event, after_events}
 use Rattle.sa_laws.specs.Closing.{want_one, aims_due, spaces_of}
 use Rattle.sa_laws.specs.Opening.{first_wants, opening_records}
-use Rattle.sa_laws.specs.Upcalls.{EachRecord}
 use Rattle.sa_laws.specs.Rules.{IsLawful, fast_threads}
 use Rattle.sa_legal.specs.Fold.{AreLawful}
-use Rattle.sa_legal.specs.Legal.{IsLegal, before}
+use Rattle.sa_legal.specs.Legal.{IsLegal}
 use Rattle.sa_legal.proofs.EventLemmas.{legal-lawful}
 use Rattle.sa_legal.proofs.StandingLemmas.{Standing, standing_after}
 use Rattle.sa_legal.proofs.MovesLemmas.{moves-lives, stood, agrees-start, agrees-ended, nowhere_first}
-use Rattle.sa_readings.specs.Demands.{NoneIsIn, DemandCoversLoad, DemandsCoverLoads}
+use Rattle.sa_readings.specs.Demands.{DemandCoversLoad, DemandsCoverLoads}
 use Rattle.sa_readings.proofs.ReadingLemmas.{IsReadAfter, after-next, after-start}
 use Rattle.sa_readings.proofs.LowLemmas.{append-records}
 use Rattle.sa_readings.proofs.ApartLemmas.{IsApart, apart-step, none-in}
 use Rattle.sa_readings.proofs.PassLemmas.{Goes}
-use Rattle.sa_readings.proofs.FineLemmas.{Fine, Covers}
+use Rattle.sa_readings.proofs.FineLemmas.{Fine}
 use Rattle.sa_readings.proofs.CoverLemmas.{IsCovered, begun-apart, event-fine}
 
 -- no note is untold to two spaces, from event to event
@@ -148,11 +147,8 @@ min-one p a d low some = omega (arith, low, some)
 first-fine : (w : WorkloadView) (e : Event) → IsLawful fast_threads w (opening_readings w) e → (s : SpaceNo) → s.0 < length w.spaces
     → Fine w (after_event is_inside w (opening_readings w) e) (after_event is_inside w (opening_readings w) e).lives s
 first-fine w e law s within =
-    let start = opening_readings w in
     let wanting = after_records w 0 (proc_no 0) (opening_readings w) (first_wants w) in
-    let aims = records_of 0 wanting.lines (aims_due w 0 wanting) in
     let records : e.records ≡ opening_records w = ap (λ (f : Event). f.records) (law.0.opening law.0.number) in
-    let b = begun w e (opening_readings w) in
     let long : length (begun w e (opening_readings w)).demands ≡ length w.spaces = Rattle.std.proofs.lemmas.List.length-replicate (length w.spaces) 0 in
     let wants = wants-demand w e.number e.proc 0 (length w.spaces) (begun w e (opening_readings w)) s (omega arith) (inl (omega arith, omega arith)) in
     let same = aims-same w e.number e.proc (after_records w e.number e.proc (begun w e (opening_readings w)) (first_wants w)) (records_of 0 wanting.lines (aims_due w 0 wanting)) (aims-of 0 wanting.lines (aims_due w 0 wanting)) in
