@@ -20,3 +20,9 @@ pub mod LowLemmas
 pub mod TurnLemmas
 pub mod FrontLemmas
 pub mod DueLemmas
+pub mod ApartLemmas
+pub mod PassLemmas
+pub mod FormLemmas
+pub mod FineLemmas
+pub mod CoverLemmas
+pub mod LoadedLemmas

@@ -93,7 +93,7 @@ map-at f [] k d = refl
 map-at f (x ∷ xs) zero d = refl
 map-at f (x ∷ xs) (suc k) d = map-at f xs k d
 
-owner-runs : (r : Readings) (p : ProcNo) → OwnedByLives r → owner_of r p ≡ space_of_life r (running_of r p)
+pub owner-runs : (r : Readings) (p : ProcNo) → OwnedByLives r → owner_of r p ≡ space_of_life r (running_of r p)
 owner-runs r p owned = ap (λ os. get_or os p.0 None) owned ∙ map-at (space_of_life r) r.running p.0 None
 
 has-space : (o : Option Life) (life : Life) → o ≡ Some life → option_map (λ (l : Life). l.space) o ≡ Some life.space

@@ -26,7 +26,7 @@ pub record IsReadAfter (w : WorkloadView) (es : List Event) (r : Readings) : Typ
   pub said : IsSaidAt w es r
   pub range : IsInRange w (items_of es) r
 
-after-next : (w : WorkloadView) (es : List Event) (r : Readings) (e : Event) → IsReadAfter w es r → IsLawful fast_threads w r e → IsReadAfter w (es ++ e ∷ []) (after_event is_inside w r e)
+pub after-next : (w : WorkloadView) (es : List Event) (r : Readings) (e : Event) → IsReadAfter w es r → IsLawful fast_threads w r e → IsReadAfter w (es ++ e ∷ []) (after_event is_inside w r e)
 after-next w es r e inv law =
     let begins = read-begins w (items_of es) r e law.0.number inv.said.at in
     let range = range-event w (items_of es) r e inv.range begins.read.sized law in
@@ -44,7 +44,7 @@ after-each w es r (e ∷ events) inv law (suc n) =
     subst (λ xs. IsReadAfter w xs (after_events is_inside w (after_event is_inside w r e) (take n events))) (append_assoc es (e ∷ []) (take n events))
     (after-each w (es ++ e ∷ []) (after_event is_inside w r e) events (after-next w es r e inv law.0) law.1 n)
 
-after-start : (w : WorkloadView) → IsReadAfter w [] (opening_readings w)
+pub after-start : (w : WorkloadView) → IsReadAfter w [] (opening_readings w)
 after-start w = record {
   said = record {
     at = read-start w;

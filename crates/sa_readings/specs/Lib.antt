@@ -8,3 +8,4 @@ pub mod Pages
 pub mod Steps
 pub mod Reads
 pub mod Closings
+pub mod Demands

@@ -5,6 +5,7 @@ ghost use Rattle.sa_spaces.specs.Workload.{WorkloadView};
 ghost use Rattle.sa_laws.specs.Rules.{fast_threads};
 ghost use Rattle.sa_legal.specs.Legal.{IsLegal};
 ghost use Rattle.sa_readings.specs.Closings.{ClosingsAddNothing, LowLinesAreAimed, NoLineIsDue};
+ghost use Rattle.sa_readings.specs.Demands.{DemandsCoverLoads};
 
 /// After each event of a legal run no want is due, and no aim while the remainder of the processors begins with the same space: a
 /// closing adds neither where nothing changed since the last one.
@@ -23,4 +24,11 @@ pub fn low_lines_are_aimed()
 pub fn closings_add_no_line()
     ensures { (w : WorkloadView) (items : List Item) → IsLegal fast_threads w items
         → NoLineIsDue w items }
+{}
+
+/// After each event of a legal run, where no life of a space is in, and nothing is untold to it, its demand is at least the smaller
+/// of the number of processors and its load.
+pub fn demands_cover_loads()
+    ensures { (w : WorkloadView) (items : List Item) → IsLegal fast_threads w items
+        → DemandsCoverLoads w items }
 {}

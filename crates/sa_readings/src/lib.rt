@@ -4,7 +4,9 @@
 mod consequences;
 mod laws;
 
-pub use consequences::{closings_add_no_line, closings_add_nothing, low_lines_are_aimed};
+pub use consequences::{
+    closings_add_no_line, closings_add_nothing, demands_cover_loads, low_lines_are_aimed,
+};
 pub use laws::{
     holdings_are_read, ios_are_read, lines_are_read, lives_have_spaces, loads_are_read,
     machines_are_read, marks_are_read, own_events_are_read, pages_are_read, ready_threads_are_read,
