@@ -13,7 +13,7 @@ use Rattle.sa_base.specs.declared.record.Note.{Note}
 use Rattle.sa_base.specs.declared.record.Note.TheVariants as note
 use Rattle.sa_base.specs.declared.record.Record.{Record}
 use Rattle.sa_base.specs.declared.record.Record.TheVariants.{Stop, Block, Unblock, Up, Told, GiveBack}
-use Rattle.sa_instr.specs.Workload.{WorkloadView}
+use Rattle.sa_spaces.specs.Workload.{WorkloadView}
 use Rattle.sa_laws.specs.Readings.{Readings, untold_of, space_of_life, life_of}
 use Rattle.sa_laws.specs.Life.{Life, inherits, bereft}
 use Rattle.sa_laws.specs.Record.{after_record, with_life, handed}

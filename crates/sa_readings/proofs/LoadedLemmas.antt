@@ -10,8 +10,8 @@ use Rattle.sa_base.specs.declared.number.ProcNo.{ProcNo}
 use Rattle.sa_base.specs.declared.record.Record.{Record}
 use Rattle.sa_base.specs.declared.record.Record.TheVariants.{Want, Aim, Line}
 use Rattle.sa_base.specs.declared.record.Item.{Item}
-use Rattle.sa_instr.specs.Space.{SpaceView}
-use Rattle.sa_instr.specs.Workload.{WorkloadView}
+use Rattle.sa_spaces.specs.Space.{SpaceView}
+use Rattle.sa_spaces.specs.Workload.{WorkloadView}
 use Rattle.sa_assign.specs.Aims.{Change, space_no}
 use Rattle.sa_assign.specs.Reaim.{records_of, line_at, lines_with, line_records, proc_no}
 use Rattle.sa_laws.specs.Event.{Event, events_of}
