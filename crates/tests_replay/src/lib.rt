@@ -1,0 +1,5 @@
+//! Tests of the replay of traces over public calls.
+#![tactic(auto)]
+
+#[cfg(test)]
+mod rows;
