@@ -17,31 +17,31 @@ use Rattle.sa_workload.proofs.ShownStep.{shown-step}
 use Rattle.sa_workload.proofs.Reached.{IsSpaceLine, reached-version, reached-processors, reached-fetch, reached-slice, reached-spaces, reached-space, reached-sem, reached-first_program, reached-program, reached-instr, reached-first_close, reached-close}
 
 -- what each `after_` position is: with all read, and with more to come
-after_sem-full : (m : Machine) (spaces : List SpaceView) (d : Draft) → length d.sems ≡ d.sem_count → after_sem m spaces d ≡ AtAbsent m spaces d
+pub after_sem-full : (m : Machine) (spaces : List SpaceView) (d : Draft) → length d.sems ≡ d.sem_count → after_sem m spaces d ≡ AtAbsent m spaces d
 after_sem-full m spaces d e = cond-true _ _ _ (eq-eqb _ _ e)
 
-after_sem-more : (m : Machine) (spaces : List SpaceView) (d : Draft) → length d.sems ≢ d.sem_count → after_sem m spaces d ≡ AtSem m spaces d
+pub after_sem-more : (m : Machine) (spaces : List SpaceView) (d : Draft) → length d.sems ≢ d.sem_count → after_sem m spaces d ≡ AtSem m spaces d
 after_sem-more m spaces d ne = cond-false _ _ _ (ne_eqb _ _ ne)
 
-after_spaces-full : (m : Machine) (spaces : List SpaceView) → length spaces ≡ m.count → after_spaces m spaces ≡ AtEvict m spaces []
+pub after_spaces-full : (m : Machine) (spaces : List SpaceView) → length spaces ≡ m.count → after_spaces m spaces ≡ AtEvict m spaces []
 after_spaces-full m spaces e = cond-true _ _ _ (eq-eqb _ _ e)
 
-after_spaces-more : (m : Machine) (spaces : List SpaceView) → length spaces ≢ m.count → after_spaces m spaces ≡ AtSpace m spaces
+pub after_spaces-more : (m : Machine) (spaces : List SpaceView) → length spaces ≢ m.count → after_spaces m spaces ≡ AtSpace m spaces
 after_spaces-more m spaces ne = cond-false _ _ _ (ne_eqb _ _ ne)
 
-after_program-full : (m : Machine) (spaces : List SpaceView) (d : Draft) → length d.programs ≡ d.program_count
+pub after_program-full : (m : Machine) (spaces : List SpaceView) (d : Draft) → length d.programs ≡ d.program_count
     → after_program m spaces d ≡ after_spaces m (spaces ++ space_of_draft d ∷ [])
 after_program-full m spaces d e = cond-true _ _ _ (eq-eqb _ _ e)
 
-after_program-more : (m : Machine) (spaces : List SpaceView) (d : Draft) → length d.programs ≢ d.program_count
+pub after_program-more : (m : Machine) (spaces : List SpaceView) (d : Draft) → length d.programs ≢ d.program_count
     → after_program m spaces d ≡ AtProgram m spaces d
 after_program-more m spaces d ne = cond-false _ _ _ (ne_eqb _ _ ne)
 
-after_instr-full : (m : Machine) (spaces : List SpaceView) (d : Draft) (len : ℕ) (instrs : List Instr) → length instrs ≡ len
+pub after_instr-full : (m : Machine) (spaces : List SpaceView) (d : Draft) (len : ℕ) (instrs : List Instr) → length instrs ≡ len
     → after_instr m spaces d len instrs ≡ after_program m spaces (with_program d instrs)
 after_instr-full m spaces d len instrs e = cond-true _ _ _ (eq-eqb _ _ e)
 
-after_instr-more : (m : Machine) (spaces : List SpaceView) (d : Draft) (len : ℕ) (instrs : List Instr) → length instrs ≢ len
+pub after_instr-more : (m : Machine) (spaces : List SpaceView) (d : Draft) (len : ℕ) (instrs : List Instr) → length instrs ≢ len
     → after_instr m spaces d len instrs ≡ AtInstr m spaces d len instrs
 after_instr-more m spaces d len instrs ne = cond-false _ _ _ (ne_eqb _ _ ne)
 
@@ -240,7 +240,7 @@ module _ (versions : ℕ) (g : Grammar) (accepts : AcceptsUpTo versions g) (one 
   completes (Closed w) r = closed w r
 
 -- a workload is written in version 1 or a later one
-version-low : (w : WorkloadView) → 1 ≤ version_of w
+pub version-low : (w : WorkloadView) → 1 ≤ version_of w
 version-low w =
     cond_both (list_all (λ (s : SpaceView). s.patience == 1) w.spaces) (if w.slice == 0 then 1 else 2) 3 (λ (v : ℕ). 1 ≤ v)
     (λ _. cond_both (w.slice == 0) 1 2 (λ (v : ℕ). 1 ≤ v) (λ _. omega arith) (λ _. omega arith)) (λ _. omega arith)

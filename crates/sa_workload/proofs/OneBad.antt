@@ -10,8 +10,7 @@ use Rattle.sa_text.specs.Pieces.{pieces_of}
 use Rattle.sa_workload.specs.Text.{workload_lines, text_of}
 use Rattle.sa_workload.specs.Bad.{Grammar, Begins, LineCause, words_of, IsBad}
 use Rattle.sa_workload.specs.Laws.{TextsDiffer}
-use Rattle.sa_workload.proofs.NextLine.{lines-injective}
-use Rattle.sa_workload.proofs.RightWord.{version_of-le}
+use Rattle.sa_workload.proofs.Standing.{lines-injective}
 use Rattle.sa_workload.proofs.OneCause.{causes-are_one}
 use Rattle.sa_workload.proofs.TextLemmas.{ended_line, line_texts-text_of, words_of-text_of}
 
@@ -133,5 +132,5 @@ text-not_bad g versions bytes w k why accepted is e =
 -- two workloads never share a text: their lines would be the same
 pub texts_differ : TextsDiffer
 texts_differ bytes v w a b =
-    lines-injective v w a.workload b.workload (version_of-le v) (version_of-le w)
+    lines-injective v w a.workload b.workload
     (sym (words_of-text_of v a.workload) ∙ ap (λ (bs : List ℕ). words_of (line_texts bs)) (sym a.text ∙ b.text) ∙ words_of-text_of w b.workload)

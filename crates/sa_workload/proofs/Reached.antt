@@ -3,6 +3,7 @@ use Rattle.std.proofs.Common.{◌≡◌, ◌≢◌, ℕ, ◌+◌, ◌-◌, ◌<�
 use Rattle.std.proofs.lemmas.Bool.{cond_both, cases_lt, eqb-false}
 use Rattle.std.proofs.lemmas.List.{length_push, get_or_append_left, get_or_push}
 use Rattle.std.proofs.lemmas.List.Elements.{All-nil, All-push, All-same}
+use Rattle.std.specs.List.Sorted.{IsStrictlyIncreasing}
 use Rattle.std.proofs.lemmas.Option.{slice_get-get_or}
 use Rattle.sa_base.specs.declared.limits.TheConstants.{MAX_PROCESSORS, MAX_SPACES}
 use Rattle.sa_instr.specs.declared.limits.TheConstants.{LAST_PAGE, MAX_CELLS, MAX_EVICTIONS, MAX_FETCH, MAX_INSTRUCTIONS, MAX_MUTEXES, MAX_PATIENCE, MAX_PRIORITY, MAX_PROGRAMS, MAX_SEMAPHORES, MAX_SLICE, MAX_START, MAX_TURNS}
@@ -18,7 +19,30 @@ use Rattle.sa_workload.specs.Position.{Machine, Draft, Position, AtProcessors, A
 use Rattle.sa_workload.specs.Steps.{workload, space_of_draft, IsFresh, with_sem, with_absent, with_program, after_fetch, after_sem, after_spaces, after_program, after_instr}
 use Rattle.sa_workload.proofs.Fronts.{All-front, All-last}
 use Rattle.sa_workload.proofs.ShownStep.{version_of-workload}
-use Rattle.sa_workload.proofs.Before.{redrafted}
+
+-- a draft with other lists behind its first line
+redrafted : (m : Machine) (spaces : List SpaceView) (d : Draft) (sems absent : List ℕ) (programs : List (List Instr)) → IsDraft m spaces d
+    → length sems ≤ d.sem_count → All (λ start. start ≤ MAX_START) sems → All (λ page. page ≤ LAST_PAGE) absent → IsStrictlyIncreasing absent
+    → length programs ≤ d.program_count → All IsProgram programs → All (All (NamesDeclared d.mutexes d.sem_count d.cells d.program_count)) programs
+    → IsDraft m spaces (record d { sems = sems; absent = absent; programs = programs })
+redrafted m spaces d sems absent programs is a b c e f g h = record {
+  room = is.room;
+  priority = is.priority;
+  mutexes = is.mutexes;
+  sem_count = is.sem_count;
+  cells = is.cells;
+  program_count = is.program_count;
+  patience = is.patience;
+  patient = is.patient;
+  own = is.own;
+  sems = a;
+  starts = b;
+  pages = c;
+  absent_rise = e;
+  programs = f;
+  each = g;
+  names = h;
+}
 
 pub reached-version : (versions v : ℕ) → 1 ≤ v → v ≤ versions → IsReached versions (AtProcessors v)
 reached-version versions v low high = (low, high)

@@ -11,9 +11,37 @@ use Rattle.sa_instr.specs.declared.instr.Instr.{Instr}
 use Rattle.sa_spaces.specs.declared.workload.Evict.{Evict}
 use Rattle.sa_spaces.specs.Space.{SpaceView}
 use Rattle.sa_workload.specs.Text.{instr_line, program_lines, sem_line, absent_line, space_line, space_lines, evict_line, turn_line, slice_lines}
-use Rattle.sa_workload.specs.Bad.{first_word, last_line, last_with, instr_words, count_of_word, number_in, version_in, processors_in, spaces_in, mutexes_in, sems_in, cells_in, programs_in, length_in, needs_patience}
+use Rattle.sa_workload.specs.Bad.{numbers_in, number_in, first_word, last_line, last_with, count_of_word, instr_words}
 use Rattle.sa_workload.specs.Position.{Machine, Draft, AtSlice, AtSpace, AtAbsent, AtInstr, AtEvict, AtTurn, version_line, processors_line, fetch_line, spaces_line, shown_machine, shown_spaces, draft_line, shown_draft, shown}
 use Rattle.sa_workload.proofs.Words.{Lacks, machine_words, space_words, inner_words, is_other, lacks, instrs_begin, program_begins, inner_begins, spaces_begin, evictions_begin, turns_begin, slice_begins, machine_begins, count_lacking, count-append, count-cons, last_line-push, last_with-is}
+
+-- the readings one by one
+abbrev pub version_in : List (List (List ℕ)) → ℕ
+version_in lines = (numbers_in lines).version
+
+abbrev pub processors_in : List (List (List ℕ)) → ℕ
+processors_in lines = (numbers_in lines).processors
+
+abbrev pub spaces_in : List (List (List ℕ)) → ℕ
+spaces_in lines = (numbers_in lines).spaces
+
+abbrev pub mutexes_in : List (List (List ℕ)) → ℕ
+mutexes_in lines = (numbers_in lines).mutexes
+
+abbrev pub sems_in : List (List (List ℕ)) → ℕ
+sems_in lines = (numbers_in lines).semaphores
+
+abbrev pub cells_in : List (List (List ℕ)) → ℕ
+cells_in lines = (numbers_in lines).cells
+
+abbrev pub programs_in : List (List (List ℕ)) → ℕ
+programs_in lines = (numbers_in lines).programs
+
+abbrev pub length_in : List (List (List ℕ)) → ℕ
+length_in lines = (numbers_in lines).instructions
+
+abbrev pub needs_patience_in : List (List (List ℕ)) → Bool
+needs_patience_in lines = (numbers_in lines).needs_patience
 
 -- a number reads back
 pub reads : (n : ℕ) → n < 2 ^ 64 → digits_value 10 (decimal n) ≡ n
@@ -147,7 +175,7 @@ spaces_pass (s ∷ ss) h =
 
 -- in version 3 the next space needs a patience of its own exactly where it is the last and all before it have patience 1
 pub needs-at_space : (m : Machine) (spaces : List SpaceView) → m.version ≡ 3 → m.count < 2 ^ 64 → All (λ (s : SpaceView). s.patience < 2 ^ 64) spaces
-    → needs_patience (shown (AtSpace m spaces)) ≡ (leb m.count (length spaces + 1) && list_all (λ (s : SpaceView). eqb s.patience 1) spaces)
+    → needs_patience_in (shown (AtSpace m spaces)) ≡ (leb m.count (length spaces + 1) && list_all (λ (s : SpaceView). eqb s.patience 1) spaces)
 needs-at_space m spaces e small patient =
     ap (λ (b : Bool). leb (spaces_in (shown_spaces m spaces)) (count_of_word (shown_spaces m spaces) (codes "space") + 1) && b)
     (list_all-append of_patience_1 (shown_machine m) (flat_map (space_lines m.version) spaces)

@@ -1,136 +1,179 @@
--- A reader of lines goes on, or stops: what it keeps, over the list of lines.
-use Rattle.std.proofs.Common.{◌≡◌, ◌≢◌, ℕ, ◌+◌, ◌-◌, List, [], ◌∷◌, ◌++◌, length, take, map, true, Option, Some, MatchOption, slice_get, subst, sym, ◌∙◌, ap, refl, arith}
-use Rattle.std.proofs.Math.Seq.{take-append_seam, take-length}
-use Rattle.std.proofs.lemmas.List.{append-nil, append_assoc, length_push}
-use Rattle.std.proofs.lemmas.List.Elements.{All-nil, All-push}
-use Rattle.std.proofs.lemmas.Option.{slice_get_past}
-use Rattle.sa_spaces.specs.Workload.{WorkloadView}
-use Rattle.sa_text.specs.LineText.{LineText, line_texts}
-use Rattle.sa_text.specs.Line.{text_of_line}
-use Rattle.sa_text.specs.declared.line_reader.Line.{Line}
-use Rattle.sa_text.specs.Pieces.{pieces_of}
-use Rattle.sa_base.specs.declared.refusal.Bad.{Bad}
-use Rattle.sa_base.specs.declared.refusal.Unread.{Unread}
-use Rattle.sa_base.specs.declared.refusal.Unread.TheVariants.{Bad as refused, OutOfMemory as memory}
-use Rattle.sa_workload.specs.declared.stage.MachineStage.TheVariants.{Version, Processors, Fetch, Slice, Spaces}
-use Rattle.sa_workload.specs.declared.stage.Stage.{Stage}
-use Rattle.sa_workload.specs.declared.stage.Stage.TheVariants.{Machine as BeforeSpaces, Space, Sem, Absent, Program, Instr, Evict, Turn, Closed as Done}
-use Rattle.sa_workload.specs.Bad.{words_of}
-use Rattle.sa_workload.specs.Position.{Position, AtVersion, Closed}
-use Rattle.sa_workload.specs.Reading.{IsBehind, IsStopped}
-use Rattle.sa_workload.specs.Answer.{IfBad}
-use Rattle.sa_workload.specs.Refused.{IsLineBad}
-use Rattle.sa_workload.specs.Stage.{GoesOn, position_of}
+-- Where a reader stands behind lines: what it keeps, and which words it expects.
+use Rattle.std.proofs.Common.{◌≡◌, ℕ, ◌<◌, ◌≤◌, Bool, true, false, List, [], ◌∷◌, ◌++◌, length, get_or, Contains, Option, Some, None, Result, Ok, codes, refl, sym, ap, ◌∙◌, subst, inl, inr, arith, append_assoc, eqb, if◌then◌else◌}
+use Rattle.std.specs.Option.{is_some}
+use Rattle.std.specs.List.{list_all}
+use Rattle.std.proofs.lemmas.Bool.{false≢true}
+use Rattle.std.proofs.lemmas.Slice.Eq.{bytes_eq-Decides}
+use Rattle.sa_instr.specs.Operation.{form_of}
+use Rattle.sa_instr.specs.Parts.{parts_of}
+use Rattle.sa_spaces.specs.Space.{SpaceView}
+use Rattle.sa_spaces.specs.Workload.{WorkloadView, IsWorkload}
+use Rattle.sa_workload.specs.Text.{version_of, workload_lines}
+use Rattle.sa_workload.specs.Bad.{Grammar, AnyVersion, Version1, Begins, MayFollow, IsRightWord, instr_words, repeated_words, first_word, last_line}
+use Rattle.sa_workload.specs.Fields.{and_then, index_of}
+use Rattle.sa_workload.specs.Position.{Position, AtVersion, AtProcessors, AtFetch, AtSlice, AtSpaces, AtSpace, AtSem, AtAbsent, AtProgram, AtInstr, AtEvict, AtTurn, Closed, IsReached, shown}
+use Rattle.sa_workload.specs.Steps.{Steps, expected, step_version, step_processors, step_fetch, step_slice, step_spaces, step_space, step_sem, step_absent, step_first_program, step_program, step_instr, step_evict, step_first_turn, step_turn, step_first_close, step_close}
+use Rattle.sa_workload.specs.Next.{next}
+use Rattle.sa_workload.proofs.FieldLemmas.{same_ok, and_then-ok, index_of-none, index_of-some}
+use Rattle.sa_workload.proofs.InstrLemmas.{operation-expected}
 use Rattle.sa_workload.proofs.ShownStep.{shown-step}
+use Rattle.sa_workload.proofs.Completion.{AcceptsUpTo, any_version, version_1, completes}
+use Rattle.sa_workload.proofs.Following.{right_word}
+use Rattle.sa_workload.proofs.Words.{is_other, other, last_line-push}
+use Rattle.sa_workload.proofs.Sound.{by_word, took, GoesTo, sound}
+use Rattle.sa_workload.proofs.Complete.{run, run-append, run-then, complete}
 
-pub at_first : (versions : ℕ) → IsBehind versions AtVersion []
-at_first versions = record { reached = record {}; ended = All-nil _; lines = refl }
+-- a word among these, and one that is none of them
+pub known_word : (ks : List (List ℕ)) (word : List ℕ) → Contains ks word → is_some (index_of word ks) ≡ true
+known_word ks word c = at (index_of word ks) (index_of-none word ks)
+  where
+    at : (o : Option ℕ) → (o ≡ None → ¬ Contains ks word) → is_some o ≡ true
+    at None f = absurd (f refl c)
+    at (Some n) f = refl
 
-words_push : (front : List LineText) (line : LineText) → words_of (front ++ line ∷ []) ≡ words_of front ++ pieces_of line.bytes ∷ []
-words_push [] line = refl
-words_push (l ∷ front) line = ap (λ ws. pieces_of l.bytes ∷ ws) (words_push front line)
+pub contained : (ks : List (List ℕ)) (word : List ℕ) → is_some (index_of word ks) ≡ true → Contains ks word
+contained ks word h = at (index_of word ks) (index_of-some word ks) h
+  where
+    at : (o : Option ℕ) → ((n : ℕ) → o ≡ Some n → (n < length ks) × (get_or ks n word ≡ word)) → is_some o ≡ true → Contains ks word
+    at None f h = absurd (cc h)
+    at (Some n) f h = let r = f n refl in (n, r.0, r.1)
 
--- one line more
-pub one_more : (versions : ℕ) (p q : Position) (front : List LineText) (line : LineText) → IsBehind versions p front → line.ended ≡ true
-    → GoesOn versions p (pieces_of line.bytes) q → IsBehind versions q (front ++ line ∷ [])
-one_more versions p q front line h e g = record {
-  reached = g.1;
-  ended = All-push (λ (l : LineText). l.ended ≡ true) front line h.ended e;
-  lines = shown-step versions p (pieces_of line.bytes) q g.0 h.reached ∙ ap (λ ws. ws ++ pieces_of line.bytes ∷ []) h.lines ∙ sym (words_push front line);
-}
+none_of : (ks : List (List ℕ)) (word : List ℕ) → is_other word ks ≡ true → Contains ks word → ⊥
+none_of ks word h c = absurd (cc (other word word ks c h, (bytes_eq-Decides word word).1 refl))
 
-take_front : (front : List LineText) (line : LineText) (back : List LineText) → take (length front) (front ++ line ∷ back) ≡ front
-take_front front line back = take-append_seam front (line ∷ back)
+-- behind a line with one of the repeated words the word is expected again
+abbrev Repeats : Position → List ℕ → Type 0
+Repeats q word = Contains repeated_words word → is_some (index_of word (expected q)) ≡ true
 
-get_line : (front : List LineText) (line : LineText) (back : List LineText) → slice_get (front ++ line ∷ back) (length front) ≡ Some line
-get_line [] line back = refl
-get_line (l ∷ front) line back = get_line front line back
+not_repeated : (q : Position) (word : List ℕ) → is_other word repeated_words ≡ true → Repeats q word
+not_repeated q word h c = absurd (none_of repeated_words word h c)
 
--- it stops at a line
-pub stops_at : (versions : ℕ) (p : Position) (ls front : List LineText) (line : LineText) (back : List LineText) (k why : ℕ)
-    → IsBehind versions p front → front ++ line ∷ back ≡ ls → k ≡ length front + 1 → IsLineBad versions p line why → IsStopped versions ls k why
-stops_at versions p ls front line back k why h e n bad =
-    let m : k - 1 ≡ length front = omega arith in
-    record {
-      position = p;
-      number = omega arith;
-      behind = subst (IsBehind versions p) (sym (ap (λ i. take i ls) m ∙ ap (λ xs. take (length front) xs) (sym e) ∙ take_front front line back)) h;
-      wrong = subst (λ (o : Option LineText). MatchOption o ((k ≡ length ls + 1) × ((w : WorkloadView) → p ≢ Closed w) × (why ≡ 9)) (λ l. IsLineBad versions p l why))
-          (sym (ap (λ i. slice_get ls i) m ∙ ap (λ xs. slice_get xs (length front)) (sym e) ∙ get_line front line back)) bad;
-    }
+repeats : (p : Position) (line : List (List ℕ)) (q : Position) → Steps p line q → Repeats q (first_word line)
+repeats p line q (step_version v) = not_repeated q (codes "workload") refl
+repeats p line q (step_processors v n) = not_repeated q (codes "processors") refl
+repeats p line q (step_fetch v n f) = not_repeated q (codes "fetch") refl
+repeats p line q (step_slice v n f s) = not_repeated q (codes "slice") refl
+repeats p line q (step_spaces v n f s k) = not_repeated q (codes "spaces") refl
+repeats p line q (step_space m spaces d fresh) = not_repeated q (codes "space") refl
+repeats p line q (step_sem m spaces d n) = not_repeated q (codes "sem") refl
+repeats p line q (step_absent m spaces d k) = λ c. refl
+repeats p line q (step_first_program m spaces d len) = not_repeated q (codes "program") refl
+repeats p line q (step_program m spaces d len) = not_repeated q (codes "program") refl
+repeats p line q (step_instr m spaces d len instrs i) =
+    not_repeated q (first_word line) (by_word instr_words (form_of (parts_of i).operation).word (λ (w : List ℕ). is_other w repeated_words ≡ true)
+    (refl, (refl, (refl, (refl, (refl, (refl, (refl, (refl, (refl, (refl, (refl, (refl, (refl, (refl, (refl, (refl, (refl, tt))))))))))))))))) (operation-expected (parts_of i).operation))
+repeats p line q (step_evict m spaces es e) = λ c. refl
+repeats p line q (step_first_turn m spaces es t) = λ c. refl
+repeats p line q (step_turn m spaces es ts t) = λ c. refl
+repeats p line q (step_first_close m spaces es) = not_repeated q (codes "close") refl
+repeats p line q (step_close m spaces es ts) = not_repeated q (codes "close") refl
 
-take_all : (ls : List LineText) → take (length ls) ls ≡ ls
-take_all ls = take-length ls
+-- a reader of so many versions stands here behind the lines that the position shows
+pub record IsAt (versions : ℕ) (p : Position) : Type 0 where
+  pub run_is : run versions AtVersion (shown p) ≡ Ok p
+  pub reached : IsReached versions p
+  pub again : Repeats p (first_word (last_line (shown p)))
 
--- it stops where a line is missing
-pub stops_behind : (versions : ℕ) (p : Position) (ls front : List LineText) (k why : ℕ) → IsBehind versions p front → front ++ [] ≡ ls
-    → k ≡ length front + 1 → ((w : WorkloadView) → p ≢ Closed w) → why ≡ 9 → IsStopped versions ls k why
-stops_behind versions p ls front k why h e n still nine =
-    let same : front ≡ ls = sym (append-nil front) ∙ e in
-    let m : k - 1 ≡ length ls = omega (arith, ap length same) in
-    record {
-      position = p;
-      number = omega arith;
-      behind = subst (IsBehind versions p) (same ∙ sym (ap (λ i. take i ls) m ∙ take_all ls)) h;
-      wrong = subst (λ (o : Option LineText). MatchOption o ((k ≡ length ls + 1) × ((w : WorkloadView) → p ≢ Closed w) × (why ≡ 9)) (λ l. IsLineBad versions p l why))
-          (sym (ap (λ i. slice_get ls i) m ∙ slice_get_past ls (length ls) (omega arith))) (omega (arith, ap length same), still, nine);
-    }
+pub at_first : (versions : ℕ) → IsAt versions AtVersion
+at_first versions = record { run_is = refl; reached = tt; again = not_repeated AtVersion [] refl }
 
--- behind some lines of a text, the others still to come
-pub record IsGoing (versions : ℕ) (bytes : List ℕ) (p : Position) (number : ℕ) (left : List Line) : Type 0 where
-  pub front : List LineText
-  pub whole : front ++ map (text_of_line bytes) left ≡ line_texts bytes
-  pub count : number ≡ length front + 1
-  pub behind : IsBehind versions p front
+pub at_next : (versions : ℕ) → versions ≤ 3 → (p q : Position) (line : List (List ℕ)) → IsAt versions p → next versions p line ≡ Ok q
+    → IsAt versions q × (shown q ≡ shown p ++ line ∷ [])
+at_next versions three p q [] a h = absurd (cc h)
+at_next versions three p q (word ∷ words) a h =
+    let g : GoesTo versions p (word ∷ words) q = sound versions three p word words q a.reached (took versions p word words q h) in
+    let s : shown q ≡ shown p ++ (word ∷ words) ∷ [] = shown-step versions p (word ∷ words) q g.step a.reached in (
+      record {
+        run_is = ap (run versions AtVersion) s
+            ∙ run-then versions AtVersion p q (shown p) ((word ∷ words) ∷ []) a.run_is (ap (λ (r : Result Position ℕ). and_then r (λ x. run versions x [])) h);
+        reached = g.reached;
+        again = subst (λ (l : List (List ℕ)). Repeats q (first_word l)) (sym (ap last_line s ∙ last_line-push (shown p) (word ∷ words))) (repeats p (word ∷ words) q g.step);
+      },
+      s,
+    )
 
-pub going_first : (versions : ℕ) (bytes : List ℕ) (number : ℕ) (left : List Line) → number ≡ 1 → map (text_of_line bytes) left ≡ line_texts bytes
-    → IsGoing versions bytes AtVersion number left
-going_first versions bytes number left n e = record { front = []; whole = e; count = n; behind = at_first versions }
+-- a grammar whose workloads are those of so many versions
+pub record Setting (versions : ℕ) (g : Grammar) : Type 0 where
+  pub one : 1 ≤ versions
+  pub few : versions ≤ 3
+  pub accepts : (w : WorkloadView) → g w → IsWorkload w × (version_of w ≤ versions)
+  pub covers : AcceptsUpTo versions g
 
-pub going_on : (versions : ℕ) (bytes : List ℕ) (p q : Position) (number more : ℕ) (left rest : List Line) (line : Line)
-    → IsGoing versions bytes p number left → left ≡ line ∷ rest → more ≡ number + 1 → line.ended ≡ true
-    → GoesOn versions p (pieces_of (text_of_line bytes line).bytes) q → IsGoing versions bytes q more rest
-going_on versions bytes p q number more left rest line h e n ended g = record {
-  front = h.front ++ text_of_line bytes line ∷ [];
-  whole = append_assoc h.front (text_of_line bytes line ∷ []) (map (text_of_line bytes) rest) ∙ ap (λ ls. h.front ++ map (text_of_line bytes) ls) (sym e) ∙ h.whole;
-  count = omega (arith, n, h.count, length_push h.front (text_of_line bytes line));
-  behind = one_more versions p q h.front (text_of_line bytes line) h.behind ended g;
-}
+at_most_3 : (all none : Bool) → (if all then (if none then 1 else 2) else 3) ≤ 3
+at_most_3 true true = omega arith
+at_most_3 true false = omega arith
+at_most_3 false none = omega arith
 
-pub going_stops : (versions : ℕ) (bytes : List ℕ) (p : Position) (number : ℕ) (left rest : List Line) (line : Line) (k why : ℕ)
-    → IsGoing versions bytes p number left → left ≡ line ∷ rest → line.number ≡ number → k ≡ line.number
-    → IsLineBad versions p (text_of_line bytes line) why → IsStopped versions (line_texts bytes) k why
-going_stops versions bytes p number left rest line k why h e n m bad =
-    stops_at versions p (line_texts bytes) h.front (text_of_line bytes line) (map (text_of_line bytes) rest) k why h.behind
-    (ap (λ ls. h.front ++ map (text_of_line bytes) ls) (sym e) ∙ h.whole) (omega (arith, m, n, h.count)) bad
+pub version_of-le : (w : WorkloadView) → version_of w ≤ 3
+version_of-le w = at_most_3 (list_all (λ (s : SpaceView). eqb s.patience 1) w.spaces) (eqb w.slice 0)
 
-pub going_ends : (versions : ℕ) (bytes : List ℕ) (p : Position) (number : ℕ) (left : List Line) → IsGoing versions bytes p number left
-    → left ≡ [] → IsBehind versions p (line_texts bytes)
-going_ends versions bytes p number left h e =
-    subst (IsBehind versions p) (sym (append-nil h.front) ∙ ap (λ ls. h.front ++ map (text_of_line bytes) ls) (sym e) ∙ h.whole) h.behind
+pub any : Setting 3 AnyVersion
+any = record { one = omega arith; few = omega arith; accepts = λ w h. (h, version_of-le w); covers = any_version }
 
-pub going_misses : (versions : ℕ) (bytes : List ℕ) (p : Position) (number : ℕ) (left : List Line) (k why : ℕ) → IsGoing versions bytes p number left
-    → left ≡ [] → k ≡ number → ((w : WorkloadView) → p ≢ Closed w) → why ≡ 9 → IsStopped versions (line_texts bytes) k why
-going_misses versions bytes p number left k why h e n still nine =
-    stops_behind versions p (line_texts bytes) h.front k why h.behind
-    (ap (λ ls. h.front ++ map (text_of_line bytes) ls) (sym e) ∙ h.whole) (n ∙ h.count) still nine
+pub alone : Setting 1 Version1
+alone = record { one = omega arith; few = omega arith; accepts = λ w h. (h.0, omega (arith, h.1)); covers = version_1 }
 
-pub if_bad_weaker : (u : Unread) (P Q : Bad → Type 0) → ((b : Bad) → P b → Q b) → IfBad u P → IfBad u Q
-if_bad_weaker (refused b) P Q more h = more b h
-if_bad_weaker memory P Q more h = h
+-- a line with which some text goes on leads on
+pub begins-next : (versions : ℕ) (g : Grammar) → Setting versions g → (p : Position) (line : List (List ℕ)) → IsAt versions p → Begins g (shown p ++ line ∷ [])
+    → (q : Position) × (next versions p line ≡ Ok q)
+begins-next versions g s p line a b =
+    let k = s.accepts b.workload b.accepted in
+    let whole : run versions AtVersion (shown p ++ (line ∷ b.more)) ≡ Ok (Closed b.workload) =
+    ap (run versions AtVersion) (sym (b.text ∙ append_assoc (shown p) (line ∷ []) b.more)) ∙ complete versions b.workload k.0 s.few k.1 in
+    let behind : run versions p (line ∷ b.more) ≡ Ok (Closed b.workload) =
+    ap (λ (r : Result Position ℕ). and_then r (λ q. run versions q (line ∷ b.more))) (sym a.run_is) ∙ sym (run-append versions AtVersion (shown p) (line ∷ b.more)) ∙ whole in
+    let q = and_then-ok (next versions p line) (λ q. run versions q b.more) (Closed b.workload) behind in
+    (q.0, q.1)
 
--- a stage that is not the last stands at another position
-pub not_closed : (s : Stage) → ((w : WorkloadView) → s ≡ Done w → ⊥) → (w : WorkloadView) → position_of s ≢ Closed w
-not_closed (BeforeSpaces Version) h w e = cc
-not_closed (BeforeSpaces (Processors v)) h w e = cc
-not_closed (BeforeSpaces (Fetch v n)) h w e = cc
-not_closed (BeforeSpaces (Slice v n f)) h w e = cc
-not_closed (BeforeSpaces (Spaces v n f s)) h w e = cc
-not_closed (Space m spaces) h w e = cc
-not_closed (Sem m spaces d) h w e = cc
-not_closed (Absent m spaces d) h w e = cc
-not_closed (Program m spaces d) h w e = cc
-not_closed (Instr m spaces d len instrs) h w e = cc
-not_closed (Evict m spaces evictions) h w e = cc
-not_closed (Turn m spaces evictions turns) h w e = cc
-not_closed (Done v) h w e = absurd (h v refl)
+pub begins : (versions : ℕ) (g : Grammar) → Setting versions g → (p : Position) → IsAt versions p → Begins g (shown p)
+begins versions g s p a = completes versions g s.covers s.one s.few p a.reached
+
+-- the lines of a workload are read to their end alone
+pub whole_lines : (versions : ℕ) (g : Grammar) → Setting versions g → (p : Position) (w : WorkloadView) → IsAt versions p → g w → workload_lines w ≡ shown p → p ≡ Closed w
+whole_lines versions g s p w a h e =
+    let k = s.accepts w h in
+    same_ok p (Closed w) (sym a.run_is ∙ ap (run versions AtVersion) (sym e) ∙ complete versions w k.0 s.few k.1)
+
+pub lines-injective : (v w : WorkloadView) → IsWorkload v → IsWorkload w → workload_lines v ≡ workload_lines w → v ≡ w
+lines-injective v w a b e = same (same_ok (Closed v) (Closed w)
+    (sym (complete 3 v a (omega arith) (version_of-le v)) ∙ ap (run 3 AtVersion) e ∙ complete 3 w b (omega arith) (version_of-le w)))
+  where
+    same : Closed v ≡ Closed w → v ≡ w
+    same e = cc e
+
+-- where an instruction is expected, all are
+abbrev Together : List ℕ → Position → List ℕ → Type 0
+Together word p first = is_some (index_of first instr_words) ≡ true → is_some (index_of word (expected p)) ≡ true
+
+no_instr : (word : List ℕ) (p : Position) (first : List ℕ) → is_some (index_of first instr_words) ≡ false → Together word p first
+no_instr word p first e t = absurd (false≢true (sym e ∙ t))
+
+instrs_together : (p : Position) (word first : List ℕ) → is_some (index_of first (expected p)) ≡ true → is_some (index_of word instr_words) ≡ true → Together word p first
+instrs_together AtVersion word first known h = by_word (expected AtVersion) first (Together word AtVersion) (no_instr word AtVersion (codes "workload") refl, tt) known
+instrs_together (AtProcessors v) word first known h = by_word (expected (AtProcessors v)) first (Together word (AtProcessors v)) (no_instr word (AtProcessors v) (codes "processors") refl, tt) known
+instrs_together (AtFetch v n) word first known h = by_word (expected (AtFetch v n)) first (Together word (AtFetch v n)) (no_instr word (AtFetch v n) (codes "fetch") refl, tt) known
+instrs_together (AtSlice v n f) word first known h = by_word (expected (AtSlice v n f)) first (Together word (AtSlice v n f)) (no_instr word (AtSlice v n f) (codes "slice") refl, tt) known
+instrs_together (AtSpaces v n f s) word first known h = by_word (expected (AtSpaces v n f s)) first (Together word (AtSpaces v n f s)) (no_instr word (AtSpaces v n f s) (codes "spaces") refl, tt) known
+instrs_together (AtSpace m ss) word first known h = by_word (expected (AtSpace m ss)) first (Together word (AtSpace m ss)) (no_instr word (AtSpace m ss) (codes "space") refl, tt) known
+instrs_together (AtSem m ss d) word first known h = by_word (expected (AtSem m ss d)) first (Together word (AtSem m ss d)) (no_instr word (AtSem m ss d) (codes "sem") refl, tt) known
+instrs_together (AtAbsent m ss d) word first known h = by_word (expected (AtAbsent m ss d)) first (Together word (AtAbsent m ss d)) (no_instr word (AtAbsent m ss d) (codes "absent") refl, (no_instr word (AtAbsent m ss d) (codes "program") refl, tt)) known
+instrs_together (AtProgram m ss d) word first known h = by_word (expected (AtProgram m ss d)) first (Together word (AtProgram m ss d)) (no_instr word (AtProgram m ss d) (codes "program") refl, tt) known
+instrs_together (AtInstr m ss d len is) word first known h = λ _. h
+instrs_together (AtEvict m ss es) word first known h = by_word (expected (AtEvict m ss es)) first (Together word (AtEvict m ss es)) (no_instr word (AtEvict m ss es) (codes "evict") refl, (no_instr word (AtEvict m ss es) (codes "turn") refl, (no_instr word (AtEvict m ss es) (codes "close") refl, tt))) known
+instrs_together (AtTurn m ss es ts) word first known h = by_word (expected (AtTurn m ss es ts)) first (Together word (AtTurn m ss es ts)) (no_instr word (AtTurn m ss es ts) (codes "turn") refl, (no_instr word (AtTurn m ss es ts) (codes "close") refl, tt)) known
+instrs_together (Closed w) word first known h = absurd (cc known)
+
+-- the words that may begin a line are those that are expected
+pub expects : (versions : ℕ) (g : Grammar) → Setting versions g → (p : Position) (word : List ℕ) → IsAt versions p → is_some (index_of word (expected p)) ≡ true → IsRightWord g (shown p) word
+expects versions g s p word a known = right_word versions g s.covers s.one s.few p word a.reached (contained (expected p) word known)
+
+follows : (versions : ℕ) (g : Grammar) → Setting versions g → (p : Position) (word : List ℕ) → IsAt versions p → MayFollow g (shown p) word → is_some (index_of word (expected p)) ≡ true
+follows versions g s p word a f =
+    let n = begins-next versions g s p (word ∷ f.others) a f.begins in (took versions p word f.others n.0 n.1).known
+
+pub expected_words : (versions : ℕ) (g : Grammar) → Setting versions g → (p : Position) (word : List ℕ) → IsAt versions p → IsRightWord g (shown p) word → is_some (index_of word (expected p)) ≡ true
+expected_words versions g s p word a (inl f) = follows versions g s p word a f
+expected_words versions g s p word a (inr (inl i)) =
+    instrs_together p word i.1.0 (follows versions g s p i.1.0 a i.1.2) (known_word instr_words word i.0) (known_word instr_words i.1.0 i.1.1)
+expected_words versions g s p word a (inr (inr r)) =
+    subst (λ (w : List ℕ). is_some (index_of w (expected p)) ≡ true) r.1 (a.again (subst (Contains repeated_words) (sym r.1) r.0))

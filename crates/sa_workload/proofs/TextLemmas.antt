@@ -11,7 +11,13 @@ use Rattle.sa_base.specs.declared.number.ProcNo.{ProcNo}
 use Rattle.sa_instr.specs.declared.instr.Reg.{Reg}
 use Rattle.sa_instr.specs.declared.instr.Reg.TheVariants.{R0, R1, R2, R3, R4, R5, R6, R7}
 use Rattle.sa_instr.specs.declared.instr.Instr.{Instr}
-use Rattle.sa_instr.specs.declared.instr.Instr.TheVariants.{Compute, Set, Add, Sub, Jnz, Load, Store, Out, Fork, Join, Lock, Unlock, Wait, Signal, Io, Touch, End}
+use Rattle.sa_instr.specs.declared.operation.Operation.{Operation}
+use Rattle.sa_instr.specs.declared.operation.Operation.TheVariants as Operations
+use Rattle.sa_instr.specs.declared.operand.Operand.{Operand}
+use Rattle.sa_instr.specs.declared.operand.Operand.TheVariants.{Register, Value, Place, Cell, Program, Mutex, Semaphore, Length, Page}
+use Rattle.sa_instr.specs.Operand.{InRange, IsPlaceBelow, IsDeclared, Each}
+use Rattle.sa_instr.specs.Operation.{form_of}
+use Rattle.sa_instr.specs.Parts.{parts_of}
 use Rattle.sa_spaces.specs.declared.workload.Evict.{Evict}
 use Rattle.sa_instr.specs.Instr.{reg_number, IsInRange, JumpsBelow, NamesDeclared}
 use Rattle.sa_instr.specs.Program.{IsProgram}
@@ -22,9 +28,9 @@ use Rattle.sa_text.specs.Pieces.{pieces_of, LacksSpace}
 use Rattle.sa_text.proofs.LineLemmas.{line_texts-printed, line_texts-joined}
 use Rattle.sa_text.proofs.PieceLemmas.{pieces_of-spaced}
 use Rattle.sa_text.proofs.Spelling.{decimal-is_spelling}
-use Rattle.sa_workload.specs.Text.{register, instr_line, program_lines, space_line, space_lines, sem_line, absent_line, evict_line, turn_line, version_of, slice_lines, machine_lines, closing_lines, workload_lines, line_text, text_of}
+use Rattle.sa_workload.specs.Text.{register, operand_word, instr_line, program_lines, space_line, space_lines, sem_line, absent_line, evict_line, turn_line, version_of, slice_lines, machine_lines, closing_lines, workload_lines, line_text, text_of}
 use Rattle.sa_workload.specs.Bad.{IsPrinted, words_of}
-use Rattle.sa_workload.proofs.Printing.{join-spaced}
+use Rattle.sa_workload.proofs.PrintedText.{join-spaced}
 
 -- each byte is printed and no space
 abbrev pub IsVisible : List ℕ → Type 0
@@ -72,26 +78,51 @@ words_line word registers numbers t fit = (
       (λ k d h. decimal-visible (get_or numbers k d) (All-from_recursion (λ n. n < 2 ^ 64) numbers fit k d h)))),
 )
 
--- the line of an instruction, whose numbers are as its program and its space have them
+-- the word of an operand, whose number is as its program and its space have it
+operand-visible : (len mutexes sems cells programs : ℕ) → len ≤ MAX_INSTRUCTIONS → mutexes ≤ MAX_MUTEXES → sems ≤ MAX_SEMAPHORES → cells ≤ MAX_CELLS → programs ≤ MAX_PROGRAMS
+    → (o : Operand) → InRange o → IsPlaceBelow len o → IsDeclared mutexes sems cells programs o → IsVisible (operand_word o)
+operand-visible len mutexes sems cells programs l m s c g (Register r) a b d = register-visible r
+operand-visible len mutexes sems cells programs l m s c g (Value n) a b d = decimal-visible n a
+operand-visible len mutexes sems cells programs l m s c g (Place n) a b d = decimal-visible n (omega arith)
+operand-visible len mutexes sems cells programs l m s c g (Cell n) a b d = decimal-visible n (omega arith)
+operand-visible len mutexes sems cells programs l m s c g (Program n) a b d = decimal-visible n (omega arith)
+operand-visible len mutexes sems cells programs l m s c g (Mutex n) a b d = decimal-visible n (omega arith)
+operand-visible len mutexes sems cells programs l m s c g (Semaphore n) a b d = decimal-visible n (omega arith)
+operand-visible len mutexes sems cells programs l m s c g (Length n) a b d = decimal-visible n (omega (arith, a.1))
+operand-visible len mutexes sems cells programs l m s c g (Page n) a b d = decimal-visible n (omega (arith, a.1))
+
+operation-visible : (o : Operation) → IsVisible (form_of o).word
+operation-visible Operations.Compute = visible_by_test (form_of Operations.Compute).word refl
+operation-visible Operations.Set = visible_by_test (form_of Operations.Set).word refl
+operation-visible Operations.Add = visible_by_test (form_of Operations.Add).word refl
+operation-visible Operations.Sub = visible_by_test (form_of Operations.Sub).word refl
+operation-visible Operations.Jnz = visible_by_test (form_of Operations.Jnz).word refl
+operation-visible Operations.Load = visible_by_test (form_of Operations.Load).word refl
+operation-visible Operations.Store = visible_by_test (form_of Operations.Store).word refl
+operation-visible Operations.Out = visible_by_test (form_of Operations.Out).word refl
+operation-visible Operations.Fork = visible_by_test (form_of Operations.Fork).word refl
+operation-visible Operations.Join = visible_by_test (form_of Operations.Join).word refl
+operation-visible Operations.Lock = visible_by_test (form_of Operations.Lock).word refl
+operation-visible Operations.Unlock = visible_by_test (form_of Operations.Unlock).word refl
+operation-visible Operations.Wait = visible_by_test (form_of Operations.Wait).word refl
+operation-visible Operations.Signal = visible_by_test (form_of Operations.Signal).word refl
+operation-visible Operations.Io = visible_by_test (form_of Operations.Io).word refl
+operation-visible Operations.Touch = visible_by_test (form_of Operations.Touch).word refl
+operation-visible Operations.End = visible_by_test (form_of Operations.End).word refl
+
+-- the line of an instruction
 instr-words : (len mutexes sems cells programs : ℕ) → len ≤ MAX_INSTRUCTIONS → mutexes ≤ MAX_MUTEXES → sems ≤ MAX_SEMAPHORES → cells ≤ MAX_CELLS → programs ≤ MAX_PROGRAMS
     → (i : Instr) → IsInRange i → JumpsBelow len i → NamesDeclared mutexes sems cells programs i → IsWords (instr_line i)
-instr-words len mutexes sems cells programs l m s c g Compute range jump names = words_line (codes "compute") [] [] refl tt
-instr-words len mutexes sems cells programs l m s c g (Set r n) range jump names = words_line (codes "set") (r ∷ []) (n ∷ []) refl (range.1.0, tt)
-instr-words len mutexes sems cells programs l m s c g (Add r q) range jump names = words_line (codes "add") (r ∷ q ∷ []) [] refl tt
-instr-words len mutexes sems cells programs l m s c g (Sub r q) range jump names = words_line (codes "sub") (r ∷ q ∷ []) [] refl tt
-instr-words len mutexes sems cells programs l m s c g (Jnz r n) range jump names = words_line (codes "jnz") (r ∷ []) (n ∷ []) refl (omega arith, tt)
-instr-words len mutexes sems cells programs l m s c g (Load r n) range jump names = words_line (codes "load") (r ∷ []) (n ∷ []) refl (omega arith, tt)
-instr-words len mutexes sems cells programs l m s c g (Store r n) range jump names = words_line (codes "store") (r ∷ []) (n ∷ []) refl (omega arith, tt)
-instr-words len mutexes sems cells programs l m s c g (Out r) range jump names = words_line (codes "out") (r ∷ []) [] refl tt
-instr-words len mutexes sems cells programs l m s c g (Fork r n) range jump names = words_line (codes "fork") (r ∷ []) (n ∷ []) refl (omega arith, tt)
-instr-words len mutexes sems cells programs l m s c g (Join r) range jump names = words_line (codes "join") (r ∷ []) [] refl tt
-instr-words len mutexes sems cells programs l m s c g (Lock n) range jump names = words_line (codes "lock") [] (n ∷ []) refl (omega arith, tt)
-instr-words len mutexes sems cells programs l m s c g (Unlock n) range jump names = words_line (codes "unlock") [] (n ∷ []) refl (omega arith, tt)
-instr-words len mutexes sems cells programs l m s c g (Wait n) range jump names = words_line (codes "wait") [] (n ∷ []) refl (omega arith, tt)
-instr-words len mutexes sems cells programs l m s c g (Signal n) range jump names = words_line (codes "signal") [] (n ∷ []) refl (omega arith, tt)
-instr-words len mutexes sems cells programs l m s c g (Io n) range jump names = words_line (codes "io") [] (n ∷ []) refl (omega arith, tt)
-instr-words len mutexes sems cells programs l m s c g (Touch n) range jump names = words_line (codes "touch") [] (n ∷ []) refl (omega arith, tt)
-instr-words len mutexes sems cells programs l m s c g End range jump names = words_line (codes "end") [] [] refl tt
+instr-words len mutexes sems cells programs l m s c g i range jump names = (
+  omega arith,
+  All-cons IsVisible (form_of (parts_of i).operation).word (map operand_word (parts_of i).operands) (operation-visible (parts_of i).operation)
+      (operands (parts_of i).operands range jump names),
+)
+  where
+    operands : (os : List Operand) → Each InRange os → Each (IsPlaceBelow len) os → Each (IsDeclared mutexes sems cells programs) os → All IsVisible (map operand_word os)
+    operands [] a b d = All-nil IsVisible
+    operands (o ∷ os) a b d =
+        All-cons IsVisible (operand_word o) (map operand_word os) (operand-visible len mutexes sems cells programs l m s c g o a.0 b.0 d.0) (operands os a.1 b.1 d.1)
 
 -- what holds of all the parts holds of all that is made of them
 All-flat_map : {X Y : Type 0} (P : Y → Type 0) (f : X → List Y) (xs : List X) → All (λ x. All P (f x)) xs → All P (flat_map f xs)

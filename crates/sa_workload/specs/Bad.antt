@@ -7,6 +7,10 @@ use Rattle.std.specs.List.{list_all}
 use Rattle.std.specs.Str.{bytes_eq}
 use Rattle.sa_base.specs.declared.limits.TheConstants.{FIRST_THREAD_PAGE, MAX_EVENTS, MAX_PROCESSORS, MAX_SPACES}
 use Rattle.sa_instr.specs.declared.limits.TheConstants.{LAST_PAGE, MAX_CELLS, MAX_EVICTIONS, MAX_FETCH, MAX_INSTRUCTIONS, MAX_IO_LENGTH, MAX_MUTEXES, MAX_PATIENCE, MAX_PRIORITY, MAX_PROGRAMS, MAX_SEMAPHORES, MAX_SLICE, MAX_START, MAX_TURNS}
+use Rattle.sa_instr.specs.declared.operand.OperandKind.{OperandKind}
+use Rattle.sa_instr.specs.declared.operand.OperandKind.TheVariants as Operands
+use Rattle.sa_instr.specs.declared.operation.TheConstants.{OPERATIONS}
+use Rattle.sa_instr.specs.Operation.{form_of}
 use Rattle.sa_spaces.specs.Workload.{WorkloadView, IsWorkload}
 use Rattle.sa_text.specs.LineText.{LineText, line_texts}
 use Rattle.sa_text.specs.Pieces.{pieces_of}
@@ -46,9 +50,7 @@ list_lt xs ys = false
 
 -- the words that instructions begin with
 abbrev pub instr_words : List (List ℕ)
-instr_words =
-    codes "compute" ∷ codes "set" ∷ codes "add" ∷ codes "sub" ∷ codes "jnz" ∷ codes "load" ∷ codes "store" ∷ codes "out" ∷ codes "fork"
-    ∷ codes "join" ∷ codes "lock" ∷ codes "unlock" ∷ codes "wait" ∷ codes "signal" ∷ codes "io" ∷ codes "touch" ∷ codes "end" ∷ []
+instr_words = map (λ operation. (form_of operation).word) OPERATIONS
 
 -- the first word of a line
 abbrev pub first_word : List (List ℕ) → List ℕ
@@ -100,76 +102,74 @@ number_in line k = digits_value 10 (slice_index_or line k [])
 abbrev pub last_with : List ℕ → List (List (List ℕ)) → List (List ℕ)
 last_with word lines = last_line (filter (λ line. bytes_eq (first_word line) word) lines)
 
--- what the lines before say of the machine, of the last space and of the last program
-abbrev pub version_in : List (List (List ℕ)) → ℕ
-version_in lines = number_in (last_with (codes "workload") lines) 1
+-- the numbers that lines declare: of the machine, of the last space, and of the last program; and whether the next space is the
+-- last and each before it has patience 1
+pub record DeclaredNumbers : Type 0 where
+  pub version : ℕ
+  pub processors : ℕ
+  pub spaces : ℕ
+  pub mutexes : ℕ
+  pub semaphores : ℕ
+  pub cells : ℕ
+  pub programs : ℕ
+  pub instructions : ℕ
+  pub needs_patience : Bool
 
-abbrev pub processors_in : List (List (List ℕ)) → ℕ
-processors_in lines = number_in (last_with (codes "processors") lines) 1
-
-abbrev pub spaces_in : List (List (List ℕ)) → ℕ
-spaces_in lines = number_in (last_with (codes "spaces") lines) 1
-
-abbrev pub mutexes_in : List (List (List ℕ)) → ℕ
-mutexes_in lines = number_in (last_with (codes "space") lines) 2
-
-abbrev pub sems_in : List (List (List ℕ)) → ℕ
-sems_in lines = number_in (last_with (codes "space") lines) 3
-
-abbrev pub cells_in : List (List (List ℕ)) → ℕ
-cells_in lines = number_in (last_with (codes "space") lines) 4
-
-abbrev pub programs_in : List (List (List ℕ)) → ℕ
-programs_in lines = number_in (last_with (codes "space") lines) 5
-
-abbrev pub length_in : List (List (List ℕ)) → ℕ
-length_in lines = number_in (last_with (codes "program") lines) 1
-
--- the next space line is the last one, and each before it has patience 1
-abbrev pub needs_patience : List (List (List ℕ)) → Bool
-needs_patience lines =
-    nat_le (spaces_in lines) (count_of_word lines (codes "space") + 1)
-    && list_all (λ line. not (bytes_eq (first_word line) (codes "space")) || (number_in line 6 == 1)) lines
+-- what lines declare
+abbrev pub numbers_in : List (List (List ℕ)) → DeclaredNumbers
+numbers_in lines =
+    let spaces : ℕ = number_in (last_with (codes "spaces") lines) 1 in
+    let space : List (List ℕ) = last_with (codes "space") lines in record {
+      version = number_in (last_with (codes "workload") lines) 1;
+      processors = number_in (last_with (codes "processors") lines) 1;
+      spaces = spaces;
+      mutexes = number_in space 2;
+      semaphores = number_in space 3;
+      cells = number_in space 4;
+      programs = number_in space 5;
+      instructions = number_in (last_with (codes "program") lines) 1;
+      needs_patience = nat_le spaces (count_of_word lines (codes "space") + 1)
+          && list_all (λ line. not (bytes_eq (first_word line) (codes "space")) || (number_in line 6 == 1)) lines;
+    }
 
 -- in version 3 a space line has its patience, which is at least 2 in the last one where each before it has 1
-abbrev pub patience_field : List (List (List ℕ)) → List Field
-patience_field lines = if version_in lines == 3 then within (if needs_patience lines then 2 else 1) MAX_PATIENCE ∷ [] else []
+abbrev pub patience_field : DeclaredNumbers → List Field
+patience_field n = if n.version == 3 then within (if n.needs_patience then 2 else 1) MAX_PATIENCE ∷ [] else []
 
--- each first word with what stands behind it
-abbrev pub line_forms : ℕ → List (List (List ℕ)) → List (List ℕ × List Field)
-line_forms versions lines =
+-- an operand of an instruction
+abbrev pub operand_field : DeclaredNumbers → OperandKind → Field
+operand_field n Operands.Register = Register
+operand_field n Operands.Value = within 0 (2 ^ 64 - 1)
+operand_field n Operands.Place = Number (λ place. nat_lt place n.instructions) 7
+operand_field n Operands.Cell = declared n.cells
+operand_field n Operands.Program = declared n.programs
+operand_field n Operands.Mutex = declared n.mutexes
+operand_field n Operands.Semaphore = declared n.semaphores
+operand_field n Operands.Length = within 1 MAX_IO_LENGTH
+operand_field n Operands.Page = within FIRST_THREAD_PAGE LAST_PAGE
+
+-- the first word of each line with what stands behind it
+abbrev pub line_forms : ℕ → DeclaredNumbers → List (List ℕ × List Field)
+line_forms versions n =
     (codes "workload", within 1 versions ∷ [])
     ∷ (codes "processors", within 1 MAX_PROCESSORS ∷ [])
     ∷ (codes "fetch", within 1 MAX_FETCH ∷ [])
-    ∷ (codes "slice", within (if version_in lines == 3 then 0 else 1) MAX_SLICE ∷ [])
+    ∷ (codes "slice", within (if n.version == 3 then 0 else 1) MAX_SLICE ∷ [])
     ∷ (codes "spaces", within 1 MAX_SPACES ∷ [])
-    ∷ (codes "space", within 0 MAX_PRIORITY ∷ within 0 MAX_MUTEXES ∷ within 0 MAX_SEMAPHORES ∷ within 0 MAX_CELLS ∷ within 1 MAX_PROGRAMS ∷ patience_field lines)
+    ∷ (codes "space", within 0 MAX_PRIORITY ∷ within 0 MAX_MUTEXES ∷ within 0 MAX_SEMAPHORES ∷ within 0 MAX_CELLS ∷ within 1 MAX_PROGRAMS ∷ patience_field n)
     ∷ (codes "sem", within 0 MAX_START ∷ [])
     ∷ (codes "absent", within 0 LAST_PAGE ∷ [])
     ∷ (codes "program", within 1 MAX_INSTRUCTIONS ∷ [])
-    ∷ (codes "evict", within 1 MAX_EVENTS ∷ declared (spaces_in lines) ∷ within 0 LAST_PAGE ∷ [])
-    ∷ (codes "turn", within 0 (processors_in lines - 1) ∷ [])
-    ∷ (codes "compute", [])
-    ∷ (codes "set", Register ∷ within 0 (2 ^ 64 - 1) ∷ [])
-    ∷ (codes "add", Register ∷ Register ∷ [])
-    ∷ (codes "sub", Register ∷ Register ∷ [])
-    ∷ (codes "jnz", Register ∷ Number (λ n. nat_lt n (length_in lines)) 7 ∷ [])
-    ∷ (codes "load", Register ∷ declared (cells_in lines) ∷ [])
-    ∷ (codes "store", Register ∷ declared (cells_in lines) ∷ [])
-    ∷ (codes "out", Register ∷ [])
-    ∷ (codes "fork", Register ∷ declared (programs_in lines) ∷ [])
-    ∷ (codes "join", Register ∷ [])
-    ∷ (codes "lock", declared (mutexes_in lines) ∷ [])
-    ∷ (codes "unlock", declared (mutexes_in lines) ∷ [])
-    ∷ (codes "wait", declared (sems_in lines) ∷ [])
-    ∷ (codes "signal", declared (sems_in lines) ∷ [])
-    ∷ (codes "io", within 1 MAX_IO_LENGTH ∷ [])
-    ∷ (codes "touch", within FIRST_THREAD_PAGE LAST_PAGE ∷ [])
-    ∷ []
+    ∷ (codes "evict", within 1 MAX_EVENTS ∷ declared n.spaces ∷ within 0 LAST_PAGE ∷ [])
+    ∷ (codes "turn", within 0 (n.processors - 1) ∷ [])
+    ∷ map (λ operation. ((form_of operation).word, map (operand_field n) (form_of operation).operands)) OPERATIONS
 
--- what stands behind a first word; `end` and `close` have nothing
+-- what stands behind a first word; `close` has nothing
+abbrev pub fields_by : ℕ → DeclaredNumbers → List ℕ → List Field
+fields_by versions n word = unwrap_or (lookup (bytes_eq word) (line_forms versions n)) []
+
 abbrev pub fields_behind : ℕ → List (List (List ℕ)) → List ℕ → List Field
-fields_behind versions lines word = unwrap_or (lookup (bytes_eq word) (line_forms versions lines)) []
+fields_behind versions lines word = fields_by versions (numbers_in lines) word
 
 -- the word is the spelling of no number below 2 ^ 64, or of this one
 abbrev pub IsNoNumber : List ℕ → Type 0

@@ -1,22 +1,43 @@
--- Where a reader of lines stands, and where it stops. Private functions of the reader cite this; no public clause does.
-use Rattle.std.specs.Prelude.{◌≡◌, ◌≢◌, ℕ, ◌+◌, ◌-◌, ◌≤◌, true, List, length, take, All, MatchOption, slice_get}
+-- What a text is read as: its lines in order, each from the position behind those before it.
+use Rattle.std.specs.Prelude.{◌≡◌, ℕ, ◌+◌, ◌&&◌, nat_le, if◌then◌else◌, Bool, List, [], ◌∷◌, Result, Ok, Err, ⊤}
+use Rattle.std.specs.List.{list_all}
+use Rattle.sa_base.specs.declared.refusal.Bad.{Bad}
+use Rattle.sa_base.specs.declared.refusal.Unread.{Unread}
+use Rattle.sa_base.specs.declared.refusal.Unread.TheVariants.{Bad as refused, OutOfMemory}
 use Rattle.sa_spaces.specs.Workload.{WorkloadView}
-use Rattle.sa_text.specs.LineText.{LineText}
-use Rattle.sa_workload.specs.Bad.{words_of}
-use Rattle.sa_workload.specs.Position.{Position, Closed, IsReached, shown}
-use Rattle.sa_workload.specs.Refused.{IsLineBad}
+use Rattle.sa_text.specs.LineText.{LineText, line_texts}
+use Rattle.sa_text.specs.Pieces.{pieces_of}
+use Rattle.sa_workload.specs.Position.{Position, AtVersion, Closed}
+use Rattle.sa_workload.specs.Next.{next}
 
--- a reader of so many versions stands at the position behind these lines, each ended: the position shows their words
-pub record IsBehind (versions : ℕ) (p : Position) (ls : List LineText) : Type 0 where
-  pub reached : IsReached versions p
-  pub ended : All (λ (l : LineText). l.ended ≡ true) ls
-  pub lines : shown p ≡ words_of ls
+abbrev pub is_printed : List ℕ → Bool
+is_printed bytes = list_all (λ b. nat_le 32 b && nat_le b 126) bytes
 
--- behind the first k - 1 lines it stands at a position at which the k-th is refused with this cause, or missing: why 9
-pub record IsStopped (versions : ℕ) (ls : List LineText) (k why : ℕ) : Type 0 where
-  pub position : Position
-  pub number : 1 ≤ k
-  pub behind : IsBehind versions position (take (k - 1) ls)
-  pub wrong : MatchOption (slice_get ls (k - 1))
-      ((k ≡ length ls + 1) × ((w : WorkloadView) → position ≢ Closed w) × (why ≡ 9))
-      (λ line. IsLineBad versions position line why)
+-- the position behind a line that is printed and ended
+abbrev pub line_in : ℕ → Position → LineText → Result Position ℕ
+line_in versions p line = if is_printed line.bytes then (if line.ended then next versions p (pieces_of line.bytes) else Err 9) else Err 1
+
+-- the workload of the last position; else a line is missing
+abbrev pub finished : ℕ → Position → Result WorkloadView Bad
+finished number (Closed w) = Ok w
+finished number _ = Err (record { line = number; why = 9 })
+
+-- what comes of a line: it is bad, or the others are read behind it
+abbrev pub goes_on : ℕ → Result Position ℕ → (Position → Result WorkloadView Bad) → Result WorkloadView Bad
+goes_on number (Ok p) more = more p
+goes_on number (Err why) more = Err (record { line = number; why = why })
+
+-- what these lines are read as from a position, where the first has this number
+abbrev pub read_from : ℕ → ℕ → Position → List LineText → Result WorkloadView Bad
+read_from versions number p [] = finished number p
+read_from versions number p (line ∷ rest) = goes_on number (line_in versions p line) (λ q. read_from versions (number + 1) q rest)
+
+-- what a text of one of so many versions is read as
+unfoldable pub read_of : ℕ → List ℕ → Result WorkloadView Bad
+read_of versions bytes = read_from versions 1 AtVersion (line_texts bytes)
+
+-- r is what the text was read as, or memory ran out
+abbrev pub IsReading : Result WorkloadView Bad → Result WorkloadView Unread → Type 0
+IsReading reading (Ok w) = reading ≡ Ok w
+IsReading reading (Err (refused bad)) = reading ≡ Err bad
+IsReading reading (Err OutOfMemory) = ⊤

@@ -1,16 +1,17 @@
 -- What a reader's stage says, as a position. Private functions of the reader cite this; no public clause does.
-use Rattle.std.specs.Prelude.{◌≡◌, ◌≢◌, ℕ, ◌≤◌, true, List}
-use Rattle.sa_instr.specs.declared.limits.TheConstants.{MAX_CELLS, MAX_FETCH, MAX_MUTEXES, MAX_PRIORITY, MAX_PROGRAMS, MAX_SEMAPHORES}
+use Rattle.std.specs.Prelude.{◌≡◌, ℕ, ◌≤◌, ◌==◌, if◌then◌else◌, List, [], ◌∷◌, Result, Ok, Err, ⊤}
+use Rattle.sa_base.specs.Cause.{cause_number}
+use Rattle.sa_base.specs.declared.refusal.Unread.{Unread}
+use Rattle.sa_base.specs.declared.refusal.Unread.TheVariants.{Bad as refused, OutOfMemory as memory}
+use Rattle.sa_workload.specs.declared.cause.Refusal.{Refusal}
+use Rattle.sa_workload.specs.declared.cause.Refusal.TheVariants.{Because, OutOfMemory}
 use Rattle.sa_workload.specs.declared.stage.Header.{Header}
 use Rattle.sa_workload.specs.declared.stage.SpaceDraft.{SpaceDraft}
 use Rattle.sa_workload.specs.declared.stage.MachineStage.{MachineStage}
 use Rattle.sa_workload.specs.declared.stage.MachineStage.TheVariants.{Version, Processors, Fetch, Slice, Spaces}
 use Rattle.sa_workload.specs.declared.stage.Stage.{Stage}
 use Rattle.sa_workload.specs.declared.stage.Stage.TheVariants.{Machine as BeforeSpaces, Space, Sem, Absent, Program, Instr, Evict, Turn, Closed as Done}
-use Rattle.sa_spaces.specs.Space.{SpaceView}
 use Rattle.sa_workload.specs.Position.{Machine, Draft, Position, AtVersion, AtProcessors, AtFetch, AtSlice, AtSpaces, AtSpace, AtSem, AtAbsent, AtProgram, AtInstr, AtEvict, AtTurn, Closed, IsReached}
-use Rattle.sa_workload.specs.Refused.{is_last_impatient}
-use Rattle.sa_workload.specs.Steps.{Steps, IsFresh}
 
 abbrev pub machine_of : Header → Machine
 machine_of h = record { version = h.version; processors = h.processors; fetch = h.fetch; slice = h.slice; count = h.count }
@@ -27,6 +28,11 @@ draft_of d = record {
   absent = d.absent.items;
   programs = d.programs.items;
 }
+
+-- the numbers of a space line
+abbrev pub space_numbers : ℕ → Draft → List ℕ
+space_numbers version d =
+    d.priority ∷ d.mutexes ∷ d.sem_count ∷ d.cells ∷ d.program_count ∷ (if version == 3 then d.patience ∷ [] else [])
 
 abbrev pub machine_position : MachineStage → Position
 machine_position Version = AtVersion
@@ -46,31 +52,21 @@ position_of (Evict h spaces evictions) = AtEvict (machine_of h) spaces.items evi
 position_of (Turn h spaces evictions turns) = AtTurn (machine_of h) spaces.items evictions.items turns.items
 position_of (Done w) = Closed w
 
--- the line leads from the first position to the second, where a reader keeps what it keeps
-pub record IsNext (p : Position) (line : List (List ℕ)) (q : Position) : Type 0 where
-  pub steps : Steps p line q
-  pub keeps : (versions : ℕ) → versions ≤ 3 → IsReached versions p → IsReached versions q
-
--- a space that comes behind these may have this patience: 1 before version 3, and in it not 1 in the last where each before has 1
-pub record IsPatience (m : Machine) (spaces : List SpaceView) (n : ℕ) : Type 0 where
-  pub range : (1 ≤ n) × (n ≤ MAX_FETCH)
-  pub patient : m.version ≢ 3 → n ≡ 1
-  pub own : m.version ≡ 3 → is_last_impatient m spaces ≡ true → n ≢ 1
-
--- what the numbers of the first line of a space keep to, where nothing stands behind it yet
-pub record IsSpaceStart (m : Machine) (spaces : List SpaceView) (d : Draft) : Type 0 where
-  pub fresh : IsFresh d
-  pub priority : d.priority ≤ MAX_PRIORITY
-  pub mutexes : d.mutexes ≤ MAX_MUTEXES
-  pub sem_count : d.sem_count ≤ MAX_SEMAPHORES
-  pub cells : d.cells ≤ MAX_CELLS
-  pub program_count : (1 ≤ d.program_count) × (d.program_count ≤ MAX_PROGRAMS)
-  pub patience : IsPatience m spaces d.patience
-
 -- what a reader of some version keeps
 abbrev pub IsSound : Position → Type 0
 IsSound p = (versions : ℕ) × (versions ≤ 3) × IsReached versions p
 
--- a reader of so many versions goes on behind the line
-abbrev pub GoesOn : ℕ → Position → List (List ℕ) → Position → Type 0
-GoesOn versions p line q = Steps p line q × IsReached versions q
+-- the answer is this outcome, or memory ran out
+abbrev pub Gives : Result Position ℕ → Result Stage Refusal → Type 0
+Gives outcome (Ok stage) = outcome ≡ Ok (position_of stage)
+Gives outcome (Err (Because cause)) = outcome ≡ Err (cause_number cause)
+Gives outcome (Err OutOfMemory) = ⊤
+
+-- the same of a line behind which the version does not count
+abbrev pub GivesAny : (ℕ → Result Position ℕ) → Result Stage Refusal → Type 0
+GivesAny outcome r = (versions : ℕ) → Gives (outcome versions) r
+
+-- the refusal of the line of this number
+abbrev pub unread_at : ℕ → Refusal → Unread
+unread_at line (Because cause) = refused (record { line = line; why = cause_number cause })
+unread_at line OutOfMemory = memory

@@ -4,7 +4,10 @@ use Rattle.std.specs.List.{flat_map, list_all, join_with_byte}
 use Rattle.sa_base.specs.declared.number.ProcNo.{ProcNo}
 use Rattle.sa_instr.specs.declared.instr.Reg.{Reg}
 use Rattle.sa_instr.specs.declared.instr.Instr.{Instr}
-use Rattle.sa_instr.specs.declared.instr.Instr.TheVariants.{Compute, Set, Add, Sub, Jnz, Load, Store, Out, Fork, Join, Lock, Unlock, Wait, Signal, Io, Touch, End}
+use Rattle.sa_instr.specs.declared.operand.Operand.{Operand}
+use Rattle.sa_instr.specs.declared.operand.Operand.TheVariants.{Register, Value, Place, Cell, Program, Mutex, Semaphore, Length, Page}
+use Rattle.sa_instr.specs.Operation.{form_of}
+use Rattle.sa_instr.specs.Parts.{parts_of}
 use Rattle.sa_spaces.specs.declared.workload.Evict.{Evict}
 use Rattle.sa_instr.specs.Instr.{reg_number}
 use Rattle.sa_spaces.specs.Space.{SpaceView}
@@ -14,25 +17,21 @@ use Rattle.sa_spaces.specs.Workload.{WorkloadView, IsWorkload}
 abbrev pub register : Reg → List ℕ
 register r = codes "r" ++ decimal (reg_number r)
 
--- the words of an instruction
+-- the word of an operand
+abbrev pub operand_word : Operand → List ℕ
+operand_word (Register r) = register r
+operand_word (Value n) = decimal n
+operand_word (Place place) = decimal place
+operand_word (Cell cell) = decimal cell
+operand_word (Program program) = decimal program
+operand_word (Mutex mutex) = decimal mutex
+operand_word (Semaphore semaphore) = decimal semaphore
+operand_word (Length events) = decimal events
+operand_word (Page page) = decimal page
+
+-- the words of an instruction: its operation's and its operands'
 abbrev pub instr_line : Instr → List (List ℕ)
-instr_line Compute = codes "compute" ∷ []
-instr_line (Set r n) = codes "set" ∷ register r ∷ decimal n ∷ []
-instr_line (Add r q) = codes "add" ∷ register r ∷ register q ∷ []
-instr_line (Sub r q) = codes "sub" ∷ register r ∷ register q ∷ []
-instr_line (Jnz r place) = codes "jnz" ∷ register r ∷ decimal place ∷ []
-instr_line (Load r cell) = codes "load" ∷ register r ∷ decimal cell ∷ []
-instr_line (Store r cell) = codes "store" ∷ register r ∷ decimal cell ∷ []
-instr_line (Out r) = codes "out" ∷ register r ∷ []
-instr_line (Fork r program) = codes "fork" ∷ register r ∷ decimal program ∷ []
-instr_line (Join r) = codes "join" ∷ register r ∷ []
-instr_line (Lock mutex) = codes "lock" ∷ decimal mutex ∷ []
-instr_line (Unlock mutex) = codes "unlock" ∷ decimal mutex ∷ []
-instr_line (Wait sem) = codes "wait" ∷ decimal sem ∷ []
-instr_line (Signal sem) = codes "signal" ∷ decimal sem ∷ []
-instr_line (Io events) = codes "io" ∷ decimal events ∷ []
-instr_line (Touch page) = codes "touch" ∷ decimal page ∷ []
-instr_line End = codes "end" ∷ []
+instr_line i = (form_of (parts_of i).operation).word ∷ map operand_word (parts_of i).operands
 
 -- the lines of a program: its length, and its instructions
 abbrev pub program_lines : List Instr → List (List (List ℕ))

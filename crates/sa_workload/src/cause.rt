@@ -1,7 +1,7 @@
 // Why a line is refused, before it is known which line it is.
 ghost use Rattle.std.specs.Prelude.{◌≡◌, None};
 ghost use Rattle.sa_workload.specs.declared.cause.Refusal.TheVariants.{Because, OutOfMemory};
-ghost use Rattle.sa_workload.specs.Refused.{unread_at};
+ghost use Rattle.sa_workload.specs.Stage.{unread_at};
 
 use sa_base::{Bad, Cause, Unread};
 use std::alloc::{AllocError, AllocFailed};

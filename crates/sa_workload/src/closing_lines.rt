@@ -1,12 +1,13 @@
 // The lines behind those of the spaces.
-ghost use Rattle.std.specs.Prelude.{◌≡◌, ◌↔◌, ◌<◌, ◌≤◌, [], ◌∷◌, ◌++◌, IsTrue, MatchResult, codes, decimal, length};
-ghost use Rattle.sa_base.specs.declared.number.ProcNo.{ProcNo};
-ghost use Rattle.sa_spaces.specs.Workload.{IsBefore, IsEviction, IsWorkload};
-ghost use Rattle.sa_workload.specs.Bad.{IsFirstWrong};
-ghost use Rattle.sa_workload.specs.Position.{AtEvict, AtTurn, Closed};
+ghost use Rattle.std.specs.Prelude.{◌≡◌, ◌↔◌, ◌<◌, ◌≤◌, [], ◌∷◌, ◌-◌, MatchResult, Ok, Err, None, Some};
+ghost use Rattle.std.specs.Option.{option_map};
+ghost use Rattle.sa_spaces.specs.Workload.{IsWorkload};
 ghost use Rattle.sa_base.specs.Cause.{cause_number};
-ghost use Rattle.sa_workload.specs.Refused.{IfBecause, last_of, evict_fields, IsEvictPlaced, IsEvictMisplaced, IsRefusedBehind, IsRefusedBehindEvict, IsRefusedBehindTurn, IsRefused};
-ghost use Rattle.sa_workload.specs.Stage.{machine_of, position_of, IsNext, IsSound};
+ghost use Rattle.sa_workload.specs.Bad.{within, declared, list_lt};
+ghost use Rattle.sa_workload.specs.Fields.{and_then, numbered, fields_at, line_numbers, order_cause};
+ghost use Rattle.sa_workload.specs.Position.{AtEvict, AtTurn, Closed};
+ghost use Rattle.sa_workload.specs.Next.{evict_numbers, last_of, close_at, next_by};
+ghost use Rattle.sa_workload.specs.Stage.{machine_of, position_of, IsSound, Gives, GivesAny};
 ghost use Rattle.sa_workload.specs.Steps.{workload};
 
 use crate::cause::Refusal;
@@ -22,21 +23,27 @@ pub(crate) fn read_evict_or_turn(
     alloc: Global,
     header: Header,
     spaces: Vec<SpaceDef>,
-    evictions: Vec<Evict>,
-    mut words: Words,
+    mut evictions: Vec<Evict>,
+    word: &[u8],
+    words: Words,
 ) -> Result<Stage, Refusal>
     requires { IsSound (AtEvict (machine_of header) spaces.items evictions.items) }
-    ensures { let position = AtEvict (machine_of header) spaces.items evictions.items in
-        MatchResult result
-        (λ stage. IsNext position words.entry (position_of stage))
-        (λ refusal. IfBecause refusal (IsRefused 0 position words.entry)) }
+    ensures { GivesAny (λ versions. next_by versions (AtEvict (machine_of header) spaces.items evictions.items) word.now words.entry) result }
 {
-    match words.next() {
-        Some(b"evict") => read_evict(header, spaces, evictions, words),
-        Some(b"turn") => read_turn(header, spaces, evictions, Vec::new(alloc), words),
-        Some(b"close") => Ok(close(header, spaces, evictions, Vec::new(alloc), words)?),
-        _ => Err(Refusal::Because(Cause::BadWord)),
+    if word == b"evict".as_slice() {
+        if evictions.len() >= MAX_EVICTIONS {
+            return Err(Refusal::Because(Cause::TooMany));
+        }
+        let evict = read_evict(header.count, &evictions, words)?;
+        evictions.push(evict)?;
+        return Ok(Stage::Evict(header, spaces, evictions));
     }
+    if word == b"turn".as_slice() {
+        let mut turns = Vec::new(alloc);
+        turns.push(read_turn(&header, words)?)?;
+        return Ok(Stage::Turn(header, spaces, evictions, turns));
+    }
+    close(header, spaces, evictions, Vec::new(alloc), word, words)
 }
 
 /// A further `turn P`, or `close`.
@@ -44,125 +51,95 @@ pub(crate) fn read_turn_or_close(
     header: Header,
     spaces: Vec<SpaceDef>,
     evictions: Vec<Evict>,
-    turns: Vec<ProcNo>,
-    mut words: Words,
+    mut turns: Vec<ProcNo>,
+    word: &[u8],
+    words: Words,
 ) -> Result<Stage, Refusal>
     requires { IsSound (AtTurn (machine_of header) spaces.items evictions.items turns.items) }
-    ensures { let position = AtTurn (machine_of header) spaces.items evictions.items turns.items in
-        MatchResult result
-        (λ stage. IsNext position words.entry (position_of stage))
-        (λ refusal. IfBecause refusal (IsRefused 0 position words.entry)) }
+    ensures { GivesAny (λ versions. next_by versions (AtTurn (machine_of header) spaces.items evictions.items turns.items) word.now words.entry) result }
 {
-    match words.next() {
-        Some(b"turn") => read_turn(header, spaces, evictions, turns, words),
-        Some(b"close") => Ok(close(header, spaces, evictions, turns, words)?),
-        _ => Err(Refusal::Because(Cause::BadWord)),
+    if word == b"turn".as_slice() {
+        if turns.len() >= MAX_TURNS {
+            return Err(Refusal::Because(Cause::TooMany));
+        }
+        turns.push(read_turn(&header, words)?)?;
+        return Ok(Stage::Turn(header, spaces, evictions, turns));
     }
+    close(header, spaces, evictions, turns, word, words)
 }
 
-/// What stands behind `evict`.
-fn read_evict(
-    header: Header,
-    spaces: Vec<SpaceDef>,
-    mut evictions: Vec<Evict>,
-    mut words: Words,
-) -> Result<Stage, Refusal>
-    ensures { MatchResult result
-        (λ stage. IsNext (AtEvict (machine_of header) spaces.items evictions.items) (codes "evict" ∷ words.entry) (position_of stage))
-        (λ refusal. IfBecause refusal (IsRefusedBehindEvict (machine_of header) evictions.items words.entry)) }
-{
-    if evictions.len() >= MAX_EVICTIONS {
-        return Err(Refusal::Because(Cause::TooMany));
-    }
-    let evict = evict_of(header.count, &mut words)?;
-    in_order(&evictions, &evict)?;
-    words.end()?;
-    evictions.push(evict)?;
-    Ok(Stage::Evict(header, spaces, evictions))
-}
-
-/// The three numbers behind `evict`, where there are so many spaces.
-fn evict_of(spaces: u16, words: &mut Words) -> Result<Evict, Cause>
-    ensures { MatchResult result
-        (λ e. (words.old ≡ decimal e.event ∷ decimal e.space.0 ∷ decimal e.page ∷ words.new)
-        × IsEviction spaces e)
-        (λ cause. IsFirstWrong (evict_fields spaces) words.old (cause_number cause)) }
+/// The eviction behind `evict`, where there are so many spaces, and these came before it.
+fn read_evict(spaces: u16, evictions: &[Evict], mut words: Words) -> Result<Evict, Cause>
+    ensures { and_then (numbered result) (λ e. Ok (evict_numbers e))
+        ≡ line_numbers (within 1 MAX_EVENTS ∷ declared spaces ∷ within 0 LAST_PAGE ∷ []) (option_map evict_numbers (last_of evictions.now)) words.entry }
 {
     let event = words.within(1, MAX_EVENTS)?;
     let space = words.declared(spaces)?;
     let page = words.within(0, LAST_PAGE as u64)?;
-    Ok(Evict {
+    let evict = Evict {
         event,
         space: SpaceNo(space),
         page: page as u16,
-    })
+    };
+    in_order(evictions, &evict)?;
+    words.end()?;
+    Ok(evict)
 }
 
 /// The eviction is greater than the last of these, where there is one.
 fn in_order(evictions: &[Evict], evict: &Evict) -> Result<(), Cause>
-    ensures { MatchResult result
-        (λ _. IsEvictPlaced (last_of evictions.now) evict.now)
-        (λ cause. IsEvictMisplaced (last_of evictions.now) evict.now (cause_number cause)) }
+    ensures { let order = order_cause (option_map evict_numbers (last_of evictions.now)) (evict_numbers evict.now) in
+        MatchResult result (λ _. order ≡ None) (λ cause. order ≡ Some (cause_number cause)) }
 {
     match evictions.last() {
-        Some(last) if evict == last => Err(Cause::Twice),
-        Some(last) if is_before(evict, last) => Err(Cause::OutOfRange),
-        _ => Ok(()),
+        Some(last) => {
+            if evict == last {
+                return Err(Cause::Twice);
+            }
+            if is_before(evict, last) {
+                return Err(Cause::OutOfRange);
+            }
+            Ok(())
+        }
+        None => Ok(()),
     }
 }
 
 /// Whether the first comes before the second, by the event, then by the space, then by the page.
 fn is_before(first: &Evict, second: &Evict) -> bool
-    ensures { IsTrue result ↔ IsBefore first.now second.now }
+    ensures { result ≡ list_lt (evict_numbers first.now) (evict_numbers second.now) }
 {
-    if first.event != second.event {
-        return first.event < second.event;
-    }
-    if first.space.0 != second.space.0 {
-        return first.space.0 < second.space.0;
-    }
-    first.page < second.page
+    first.event < second.event
+        || (first.event == second.event
+            && (first.space.0 < second.space.0
+                || (first.space.0 == second.space.0 && first.page < second.page)))
 }
 
-/// What stands behind `turn`.
-fn read_turn(
-    header: Header,
-    spaces: Vec<SpaceDef>,
-    evictions: Vec<Evict>,
-    mut turns: Vec<ProcNo>,
-    words: Words,
-) -> Result<Stage, Refusal>
-    requires { 1 ≤ header.processors }
-    ensures { MatchResult result
-        (λ stage. (p : ProcNo) × (words.entry ≡ decimal p.0 ∷ []) × (p.0 < header.processors)
-        × (length turns.items < MAX_TURNS)
-        × (position_of stage ≡ AtTurn (machine_of header) spaces.items evictions.items (turns.items
-        ++ p ∷ [])))
-        (λ refusal. IfBecause refusal (IsRefusedBehindTurn (machine_of header) turns.items words.entry)) }
+/// The processor behind `turn`.
+fn read_turn(header: &Header, words: Words) -> Result<ProcNo, Cause>
+    requires { 1 ≤ header.now.processors }
+    ensures { and_then (numbered result) (λ proc. Ok (proc.0 ∷ []))
+        ≡ line_numbers (within 0 (header.now.processors - 1) ∷ []) None words.entry }
 {
-    if turns.len() >= MAX_TURNS {
-        return Err(Refusal::Because(Cause::TooMany));
-    }
     let proc = last_number(words, 0, u64::from(header.processors - 1))?;
-    turns.push(ProcNo(proc as u16))?;
-    Ok(Stage::Turn(header, spaces, evictions, turns))
+    Ok(ProcNo(proc as u16))
 }
 
-/// Nothing stands behind `close`.
+/// `close`.
 fn close(
     header: Header,
     spaces: Vec<SpaceDef>,
     evictions: Vec<Evict>,
     turns: Vec<ProcNo>,
+    word: &[u8],
     mut words: Words,
-) -> Result<Stage, Cause>
+) -> Result<Stage, Refusal>
     requires { IsWorkload (workload (machine_of header) spaces.items evictions.items turns.items) }
-    ensures { MatchResult result
-        (λ stage. (words.entry ≡ [])
-        × (position_of stage
-        ≡ Closed (workload (machine_of header) spaces.items evictions.items turns.items)))
-        (λ cause. IsRefusedBehind [] words.entry (cause_number cause)) }
+    ensures { Gives (close_at (workload (machine_of header) spaces.items evictions.items turns.items) word.now words.entry) result }
 {
+    if word != b"close".as_slice() {
+        return Err(Refusal::Because(Cause::BadWord));
+    }
     words.end()?;
     Ok(Stage::Closed(workload_of(header, spaces, evictions, turns)))
 }

@@ -1,21 +1,21 @@
 // The lines of instructions, and what their last one ends.
-ghost use Rattle.std.specs.Prelude.{◌≡◌, ◌+◌, IsTrue, MatchResult, length};
+ghost use Rattle.std.specs.Prelude.{◌≡◌, ◌+◌, IsTrue, MatchResult, length, map, List, Ok, Err, None, Some};
+ghost use Rattle.sa_instr.specs.Operation.{form_of};
+ghost use Rattle.sa_instr.specs.Parts.{instr_of};
 ghost use Rattle.sa_instr.specs.Program.{IsProgram};
 ghost use Rattle.sa_spaces.specs.Space.{IsSpace};
-ghost use Rattle.sa_workload.specs.Operation.{IsAllowed, HasLimits};
+ghost use Rattle.sa_workload.specs.Bad.{operand_field};
+ghost use Rattle.sa_workload.specs.Fields.{and_then, or_cause, numbered, with_rest, field_at, fields_at};
 ghost use Rattle.sa_workload.specs.Position.{AtInstr};
-ghost use Rattle.sa_base.specs.Cause.{cause_number};
-ghost use Rattle.sa_workload.specs.Refused.{IfBecause, IsInstrRefused, IsRefused};
-ghost use Rattle.sa_workload.specs.Stage.{machine_of, draft_of, position_of, IsNext, IsSound};
+ghost use Rattle.sa_workload.specs.Next.{draft_numbers, operand_from, operands_from, instr_in, is_end, next_by};
+ghost use Rattle.sa_workload.specs.Stage.{machine_of, draft_of, position_of, IsSound, GivesAny};
 ghost use Rattle.sa_workload.specs.Steps.{after_program as behind_program, space_of_draft, with_program};
-ghost use Rattle.sa_workload.specs.Text.{instr_line};
 
 use crate::cause::Refusal;
 use crate::line_words::Words;
-use crate::operations::read_operation;
 use crate::stage::{Header, SpaceDraft, Stage, after_spaces};
-use sa_base::Cause;
-use sa_instr::{Instr, Program};
+use sa_base::{Cause, FIRST_THREAD_PAGE};
+use sa_instr::{Instr, LAST_PAGE, MAX_IO_LENGTH, Operand, OperandKind, Operation, Program};
 use sa_spaces::SpaceDef;
 use std::alloc::Global;
 
@@ -27,36 +27,103 @@ pub(crate) fn read_instr(
     draft: SpaceDraft,
     len: u16,
     mut instrs: Vec<Instr>,
+    word: &[u8],
     words: Words,
 ) -> Result<Stage, Refusal>
     requires { IsSound (AtInstr (machine_of header) spaces.items (draft_of draft) len instrs.items) }
-    ensures { let position = AtInstr (machine_of header) spaces.items (draft_of draft) len instrs.items in MatchResult result
-        (λ stage. IsNext position words.entry (position_of stage))
-        (λ refusal. IfBecause refusal (IsRefused 0 position words.entry)) }
+    ensures { GivesAny (λ versions. next_by versions (AtInstr (machine_of header) spaces.items (draft_of draft) len instrs.items) word.now words.entry) result }
 {
     let is_last = instrs.len() + 1 == usize::from(len);
-    let instr = instr_of(&draft, len, is_last, words)?;
-    instrs.push(instr)?;
+    let instr = instr_of(&draft, len, word, words)?;
     if !is_last {
-        return Ok(Stage::Instr(header, spaces, draft, len, instrs));
+        instrs.push(instr)?;
+        return Ok(Stage::Instr {
+            header,
+            spaces,
+            draft,
+            len,
+            instrs,
+        });
     }
+    if !is_end(&instr) {
+        return Err(Refusal::Because(Cause::Missing));
+    }
+    instrs.push(instr)?;
     after_program(alloc, header, spaces, draft, instrs)
 }
 
-/// The instruction of a whole line.
-fn instr_of(draft: &SpaceDraft, len: u16, is_last: bool, mut words: Words) -> Result<Instr, Cause>
-    requires { HasLimits (draft_of draft.now) len }
-    ensures { MatchResult result
-        (λ instr. (words.entry ≡ instr_line instr) × IsAllowed (draft_of draft.now) len instr
-        × (IsTrue is_last → instr ≡ Instr.End))
-        (λ cause. IsInstrRefused (draft_of draft.now) len is_last words.entry (cause_number cause)) }
+/// Whether the instruction is `end`.
+fn is_end(instr: &Instr) -> bool
+    ensures { result ≡ is_end instr.now }
 {
-    let instr = read_operation(draft, len, &mut words)?;
+    matches!(instr, Instr::End)
+}
+
+/// The instruction of a whole line.
+fn instr_of(draft: &SpaceDraft, len: u16, word: &[u8], mut words: Words) -> Result<Instr, Cause>
+    ensures { numbered result ≡ instr_in (draft_numbers (draft_of draft.now) len) word.now words.entry }
+{
+    let Some(operation) = Operation::of_word(word) else {
+        return Err(Cause::BadWord);
+    };
+    let instr = read_operands(draft, len, operation, &mut words)?;
     words.end()?;
-    if is_last && !matches!(instr, Instr::End) {
-        return Err(Cause::Missing);
-    }
     Ok(instr)
+}
+
+/// The instruction of an operation and of the words behind it.
+fn read_operands(
+    draft: &SpaceDraft,
+    len: u16,
+    operation: Operation,
+    words: &mut Words,
+) -> Result<Instr, Cause>
+    ensures { with_rest result words.new
+        ≡ and_then (fields_at (map (operand_field (draft_numbers (draft_of draft.now) len)) (form_of operation).operands) words.old)
+        (λ read. and_then (or_cause (instr_of operation (operands_from (form_of operation).operands read.0)) 2) (λ i. Ok (i, read.1))) }
+{
+    let kinds = operation.form().operands;
+    if kinds.len() == 0 {
+        return made_of(operation, &[]);
+    }
+    let first = read_operand(draft, len, kinds[0], words)?;
+    if kinds.len() == 1 {
+        return made_of(operation, &[first]);
+    }
+    let second = read_operand(draft, len, kinds[1], words)?;
+    made_of(operation, &[first, second])
+}
+
+/// The instruction of an operation and its operands.
+fn made_of(operation: Operation, operands: &[Operand]) -> Result<Instr, Cause>
+    ensures { numbered result ≡ or_cause (instr_of operation operands.now) 2 }
+{
+    Instr::from_parts(operation, operands).ok_or(Cause::BadWord)
+}
+
+/// An operand of this kind.
+fn read_operand(
+    draft: &SpaceDraft,
+    len: u16,
+    kind: OperandKind,
+    words: &mut Words,
+) -> Result<Operand, Cause>
+    ensures { with_rest result words.new
+        ≡ and_then (field_at (operand_field (draft_numbers (draft_of draft.now) len) kind) words.old) (λ read. Ok (operand_from kind read.0, read.1)) }
+{
+    match kind {
+        OperandKind::Register => words.register().map(Operand::Register),
+        OperandKind::Value => words.within(0, u64::MAX).map(Operand::Value),
+        OperandKind::Place => words.target(len).map(Operand::Place),
+        OperandKind::Cell => words.declared(draft.cells).map(Operand::Cell),
+        OperandKind::Program => words.declared(draft.program_count).map(Operand::Program),
+        OperandKind::Mutex => words.declared(draft.mutexes).map(Operand::Mutex),
+        OperandKind::Semaphore => words.declared(draft.sem_count).map(Operand::Semaphore),
+        OperandKind::Length => Ok(Operand::Length(words.within(1, MAX_IO_LENGTH as u64)? as u32)),
+        OperandKind::Page => Ok(Operand::Page(
+            words.within(FIRST_THREAD_PAGE as u64, LAST_PAGE as u64)? as u16,
+        )),
+    }
 }
 
 /// Behind a whole program.

@@ -7,12 +7,11 @@ mod instr_lines;
 pub mod laws;
 mod line_words;
 mod machine_lines;
-mod operations;
+mod printing;
 mod push;
 mod reader;
 mod space_lines;
 mod stage;
-mod text;
 
+pub use printing::print;
 pub use reader::{read, read_one};
-pub use text::print;

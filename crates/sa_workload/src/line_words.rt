@@ -1,11 +1,12 @@
 // The words of a line, read one after another, each as what is expected there.
-ghost use Rattle.std.specs.Prelude.{◌≡◌, ◌≢◌, ℕ, Bool, ◌<◌, ◌≤◌, List, [], ◌∷◌, MatchOption, MatchResult, Contains, slice_range, decimal};
+ghost use Rattle.std.specs.Prelude.{◌≡◌, ◌<◌, ◌≤◌, List, [], ◌∷◌, MatchOption, MatchResult, IfOk, nat_lt, Ok, None, Some, slice_range};
+ghost use Rattle.std.specs.Option.{option_map};
 ghost use Rattle.sa_text.specs.Line.{IsWithin};
 ghost use Rattle.sa_text.specs.Pieces.{pieces_of};
-ghost use Rattle.sa_workload.specs.Text.{register};
-ghost use Rattle.sa_workload.specs.Bad.{Field, Register, Number, within, declared, registers};
 ghost use Rattle.sa_base.specs.Cause.{cause_number};
-ghost use Rattle.sa_workload.specs.Refused.{target, IsWrongAt, IsRefusedBehind, IsLineRefused};
+ghost use Rattle.sa_workload.specs.Bad.{Register, Number, within, declared, registers};
+ghost use Rattle.sa_workload.specs.Fields.{and_then, numbered, with_rest, index_of, field_at, number_at, at_end, line_numbers};
+ghost use Rattle.sa_workload.specs.Next.{reg_from};
 
 use sa_base::Cause;
 use sa_instr::Reg;
@@ -55,74 +56,59 @@ impl<'a> Words<'a> {
         Some(&self.text[start..end])
     }
 
-    /// This word and no other.
-    pub(crate) fn keyword(&mut self, keyword: &[u8]) -> Result<(), Cause>
-        ensures { MatchResult result
-            (λ _. self.old ≡ keyword.now ∷ self.new)
-            (λ cause. (fields : List Field)
-            → IsLineRefused keyword.now fields self.old (cause_number cause)) }
-    {
-        match self.next() {
-            Some(word) if word == keyword => Ok(()),
-            _ => Err(Cause::BadWord),
-        }
-    }
-
     /// A number of 64 bits.
     fn number(&mut self) -> Result<u64, Cause>
-        ensures { MatchResult result
-            (λ n. self.old ≡ decimal n ∷ self.new)
-            (λ cause. (test : ℕ → Bool) (why : ℕ)
-            → IsWrongAt (Number test why) self.old (cause_number cause)) }
+        ensures { with_rest result self.new ≡ number_at self.old }
     {
         let word = self.next().ok_or(Cause::Missing)?;
         read_number(word).ok_or(Cause::BadNumber)
     }
 
     /// A number between these two.
+    #[tactic(auto, using(crate::proofs::FieldLemmas::number_field))]
     pub(crate) fn within(&mut self, low: u64, high: u64) -> Result<u64, Cause>
-        ensures { MatchResult result
-            (λ n. (self.old ≡ decimal n ∷ self.new) × (low ≤ n) × (n ≤ high))
-            (λ cause. IsWrongAt (within low high) self.old (cause_number cause)) }
+        ensures read { with_rest result self.new ≡ field_at (within low high) self.old }
+        ensures fits { IfOk result (λ n. n ≤ high) }
     {
         let number = self.number()?;
-        if number < low || high < number {
-            return Err(Cause::OutOfRange);
+        if low <= number && number <= high {
+            Ok(number)
+        } else {
+            Err(Cause::OutOfRange)
         }
-        Ok(number)
     }
 
     /// The number of one of so many things that are declared.
+    #[tactic(auto, using(crate::proofs::FieldLemmas::number_field))]
     pub(crate) fn declared(&mut self, count: u16) -> Result<u16, Cause>
-        ensures { MatchResult result
-            (λ n. (self.old ≡ decimal n ∷ self.new) × (n < count))
-            (λ cause. IsWrongAt (declared count) self.old (cause_number cause)) }
+        ensures read { with_rest result self.new ≡ field_at (declared count) self.old }
     {
         let number = self.number()?;
-        if number >= u64::from(count) {
-            return Err(Cause::NoSuchName);
+        if number < u64::from(count) {
+            Ok(number as u16)
+        } else {
+            Err(Cause::NoSuchName)
         }
-        Ok(number as u16)
     }
 
     /// The place of one of so many instructions.
+    #[tactic(auto, using(crate::proofs::FieldLemmas::number_field))]
     pub(crate) fn target(&mut self, len: u16) -> Result<u16, Cause>
-        ensures { MatchResult result
-            (λ n. (self.old ≡ decimal n ∷ self.new) × (n < len))
-            (λ cause. IsWrongAt (target len) self.old (cause_number cause)) }
+        ensures read { with_rest result self.new
+            ≡ field_at (Number (λ place. nat_lt place len) 7) self.old }
     {
         let number = self.number()?;
-        if number >= u64::from(len) {
-            return Err(Cause::BadTarget);
+        if number < u64::from(len) {
+            Ok(number as u16)
+        } else {
+            Err(Cause::BadTarget)
         }
-        Ok(number as u16)
     }
 
     /// A register.
     pub(crate) fn register(&mut self) -> Result<Reg, Cause>
-        ensures { MatchResult result
-            (λ r. self.old ≡ register r ∷ self.new)
-            (λ cause. IsWrongAt Register self.old (cause_number cause)) }
+        ensures { with_rest result self.new
+            ≡ and_then (field_at Register self.old) (λ read. Ok (reg_from read.0, read.1)) }
     {
         let word = self.next().ok_or(Cause::Missing)?;
         register_of(word).ok_or(Cause::BadWord)
@@ -130,8 +116,8 @@ impl<'a> Words<'a> {
 
     /// No word is left.
     pub(crate) fn end(&mut self) -> Result<(), Cause>
-        ensures { MatchResult result (λ _. self.old ≡ [])
-            (λ cause. (self.old ≢ []) × (cause_number cause ≡ 2)) }
+        ensures { MatchResult result (λ _. at_end self.old ≡ None)
+            (λ cause. at_end self.old ≡ Some (cause_number cause)) }
     {
         match self.next() {
             None => Ok(()),
@@ -142,43 +128,36 @@ impl<'a> Words<'a> {
 
 /// The register of this name.
 fn register_of(word: &[u8]) -> Option<Reg>
-    ensures { MatchOption result (¬ Contains registers word.now) (λ r. word.now ≡ register r) }
+    ensures { result ≡ option_map reg_from (index_of word.now registers) }
 {
-    match word {
-        b"r0" => Some(Reg::R0),
-        b"r1" => Some(Reg::R1),
-        b"r2" => Some(Reg::R2),
-        b"r3" => Some(Reg::R3),
-        b"r4" => Some(Reg::R4),
-        b"r5" => Some(Reg::R5),
-        b"r6" => Some(Reg::R6),
-        b"r7" => Some(Reg::R7),
-        _ => None,
+    if word == b"r0".as_slice() {
+        Some(Reg::R0)
+    } else if word == b"r1".as_slice() {
+        Some(Reg::R1)
+    } else if word == b"r2".as_slice() {
+        Some(Reg::R2)
+    } else if word == b"r3".as_slice() {
+        Some(Reg::R3)
+    } else if word == b"r4".as_slice() {
+        Some(Reg::R4)
+    } else if word == b"r5".as_slice() {
+        Some(Reg::R5)
+    } else if word == b"r6".as_slice() {
+        Some(Reg::R6)
+    } else if word == b"r7".as_slice() {
+        Some(Reg::R7)
+    } else {
+        None
     }
 }
 
 /// A number between these two, which is the last word of the line.
 pub(crate) fn last_number(mut words: Words, low: u64, high: u64) -> Result<u64, Cause>
-    ensures { MatchResult result
-        (λ n. (words.entry ≡ decimal n ∷ []) × (low ≤ n) × (n ≤ high))
-        (λ cause. IsRefusedBehind (within low high ∷ []) words.entry (cause_number cause)) }
+    ensures read { and_then (numbered result) (λ n. Ok (n ∷ []))
+        ≡ line_numbers (within low high ∷ []) None words.entry }
+    ensures fits { IfOk result (λ n. n ≤ high) }
 {
     let number = words.within(low, high)?;
     words.end()?;
     Ok(number)
-}
-
-/// The number of a line that is the keyword and a number between these two.
-pub(crate) fn keyword_and_number(
-    mut words: Words,
-    keyword: &[u8],
-    low: u64,
-    high: u64,
-) -> Result<u64, Cause>
-    ensures { MatchResult result
-        (λ n. (words.entry ≡ keyword.now ∷ decimal n ∷ []) × (low ≤ n) × (n ≤ high))
-        (λ cause. IsLineRefused keyword.now (within low high ∷ []) words.entry (cause_number cause)) }
-{
-    words.keyword(keyword)?;
-    last_number(words, low, high)
 }

@@ -1,36 +1,36 @@
 // The lines before those of the spaces.
-ghost use Rattle.std.specs.Prelude.{◌≡◌, ◌≢◌, ◌≤◌, MatchResult};
-ghost use Rattle.sa_workload.specs.Position.{AtVersion, AtProcessors, AtFetch, AtSlice, AtSpaces, IsReached};
-ghost use Rattle.sa_base.specs.Cause.{cause_number};
-ghost use Rattle.sa_workload.specs.Refused.{IsRefused};
-ghost use Rattle.sa_workload.specs.Stage.{position_of, IsNext};
-ghost use Rattle.sa_workload.specs.Steps.{Steps};
+ghost use Rattle.sa_workload.specs.Position.{AtVersion, AtProcessors, AtFetch, AtSlice, AtSpaces};
+ghost use Rattle.sa_workload.specs.Next.{next_by};
+ghost use Rattle.sa_workload.specs.Stage.{Gives, GivesAny};
 
-use crate::line_words::{Words, keyword_and_number};
+use crate::cause::Refusal;
+use crate::line_words::{Words, last_number};
 use crate::stage::{Header, MachineStage, Stage, after_fetch};
 use sa_base::{Cause, MAX_PROCESSORS, MAX_SPACES};
 use sa_instr::{MAX_FETCH, MAX_SLICE};
 use std::alloc::Global;
 
 /// `workload V`, where texts of so many versions are read.
-pub(crate) fn read_version(versions: u16, words: Words) -> Result<Stage, Cause>
-    ensures { MatchResult result
-        (λ stage. Steps AtVersion words.entry (position_of stage) × IsReached versions (position_of stage))
-        (λ cause. IsRefused versions (AtVersion) words.entry (cause_number cause)) }
+pub(crate) fn read_version(versions: u16, word: &[u8], words: Words) -> Result<Stage, Refusal>
+    ensures { Gives (next_by versions AtVersion word.now words.entry) result }
 {
-    let version = keyword_and_number(words, b"workload", 1, u64::from(versions))?;
+    if word != b"workload".as_slice() {
+        return Err(Refusal::Because(Cause::BadWord));
+    }
+    let version = last_number(words, 1, u64::from(versions))?;
     Ok(Stage::Machine(MachineStage::Processors {
         version: version as u16,
     }))
 }
 
 /// `processors P`.
-pub(crate) fn read_processors(version: u16, words: Words) -> Result<Stage, Cause>
-    ensures { MatchResult result
-        (λ stage. IsNext (AtProcessors version) words.entry (position_of stage))
-        (λ cause. IsRefused 0 (AtProcessors version) words.entry (cause_number cause)) }
+pub(crate) fn read_processors(version: u16, word: &[u8], words: Words) -> Result<Stage, Refusal>
+    ensures { GivesAny (λ versions. next_by versions (AtProcessors version) word.now words.entry) result }
 {
-    let processors = keyword_and_number(words, b"processors", 1, MAX_PROCESSORS as u64)?;
+    if word != b"processors".as_slice() {
+        return Err(Refusal::Because(Cause::BadWord));
+    }
+    let processors = last_number(words, 1, MAX_PROCESSORS as u64)?;
     Ok(Stage::Machine(MachineStage::Fetch {
         version,
         processors: processors as u16,
@@ -38,12 +38,18 @@ pub(crate) fn read_processors(version: u16, words: Words) -> Result<Stage, Cause
 }
 
 /// `fetch F`.
-pub(crate) fn read_fetch(version: u16, processors: u16, words: Words) -> Result<Stage, Cause>
-    ensures { MatchResult result
-        (λ stage. IsNext (AtFetch version processors) words.entry (position_of stage))
-        (λ cause. IsRefused 0 (AtFetch version processors) words.entry (cause_number cause)) }
+pub(crate) fn read_fetch(
+    version: u16,
+    processors: u16,
+    word: &[u8],
+    words: Words,
+) -> Result<Stage, Refusal>
+    ensures { GivesAny (λ versions. next_by versions (AtFetch version processors) word.now words.entry) result }
 {
-    let fetch = keyword_and_number(words, b"fetch", 1, MAX_FETCH as u64)?;
+    if word != b"fetch".as_slice() {
+        return Err(Refusal::Because(Cause::BadWord));
+    }
+    let fetch = last_number(words, 1, MAX_FETCH as u64)?;
     Ok(after_fetch(version, processors, fetch as u32))
 }
 
@@ -52,14 +58,16 @@ pub(crate) fn read_slice(
     version: u16,
     processors: u16,
     fetch: u32,
+    word: &[u8],
     words: Words,
-) -> Result<Stage, Cause>
-    ensures { MatchResult result
-        (λ stage. IsNext (AtSlice version processors fetch) words.entry (position_of stage))
-        (λ cause. IsRefused 0 (AtSlice version processors fetch) words.entry (cause_number cause)) }
+) -> Result<Stage, Refusal>
+    ensures { GivesAny (λ versions. next_by versions (AtSlice version processors fetch) word.now words.entry) result }
 {
+    if word != b"slice".as_slice() {
+        return Err(Refusal::Because(Cause::BadWord));
+    }
     let low = if version == 3 { 0 } else { 1 };
-    let slice = keyword_and_number(words, b"slice", low, MAX_SLICE as u64)?;
+    let slice = last_number(words, low, MAX_SLICE as u64)?;
     Ok(Stage::Machine(MachineStage::Spaces {
         version,
         processors,
@@ -75,13 +83,15 @@ pub(crate) fn read_spaces(
     processors: u16,
     fetch: u32,
     slice: u32,
+    word: &[u8],
     words: Words,
-) -> Result<Stage, Cause>
-    ensures { MatchResult result
-        (λ stage. IsNext (AtSpaces version processors fetch slice) words.entry (position_of stage))
-        (λ cause. IsRefused 0 (AtSpaces version processors fetch slice) words.entry (cause_number cause)) }
+) -> Result<Stage, Refusal>
+    ensures { GivesAny (λ versions. next_by versions (AtSpaces version processors fetch slice) word.now words.entry) result }
 {
-    let count = keyword_and_number(words, b"spaces", 1, MAX_SPACES as u64)?;
+    if word != b"spaces".as_slice() {
+        return Err(Refusal::Because(Cause::BadWord));
+    }
+    let count = last_number(words, 1, MAX_SPACES as u64)?;
     let header = Header {
         version,
         processors,

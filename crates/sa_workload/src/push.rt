@@ -1,39 +1,20 @@
-// One line of the text: its first word, and the registers and numbers behind it.
+// One line of the text: its first word, and the numbers or the operands behind it.
 ghost use Rattle.std.specs.Prelude.{◌≡◌, ◌∷◌, ◌++◌, map, decimal, OnOk};
 ghost use Rattle.std.specs.List.{flat_map};
-ghost use Rattle.sa_workload.specs.Text.{register, line_text};
+ghost use Rattle.sa_workload.specs.Text.{operand_word, instr_line, line_text};
 
-use sa_instr::Reg;
+use sa_instr::{Instr, Operand};
 use sa_text::print_number;
 use std::alloc::AllocError;
 
-/// Appends a line of these words, with its line feed.
-pub fn push_line(
-    out: &mut Vec<u8>,
-    word: &[u8],
-    registers: &[Reg],
-    numbers: &[u64],
-) -> Result<(), AllocError>
+/// Appends a line of this word and these numbers, with its line feed.
+pub fn push_line(out: &mut Vec<u8>, word: &[u8], numbers: &[u64]) -> Result<(), AllocError>
     ensures { OnOk result (out.new.items
-        ≡ out.old.items ++ line_text (word.now ∷ (map register registers.now
-        ++ map decimal numbers.now))) }
+        ≡ out.old.items ++ line_text (word.now ∷ map decimal numbers.now)) }
 {
     out.extend_from_slice(word)?;
-    push_registers(out, registers)?;
     push_numbers(out, numbers)?;
     out.extend_from_slice(b"\n")
-}
-
-// Appends each register behind a space.
-fn push_registers(out: &mut Vec<u8>, registers: &[Reg]) -> Result<(), AllocError>
-    ensures { OnOk result (out.new.items ≡ out.old.items
-        ++ flat_map (λ r. 32 ∷ register r) registers.now) }
-{
-    for reg in registers {
-        out.extend_from_slice(b" r")?;
-        print_number(u64::from(reg.number()), out)?;
-    }
-    Ok(())
 }
 
 // Appends each number behind a space.
@@ -46,4 +27,46 @@ fn push_numbers(out: &mut Vec<u8>, numbers: &[u64]) -> Result<(), AllocError>
         print_number(*n, out)?;
     }
     Ok(())
+}
+
+/// Appends the line of an instruction, with its line feed.
+pub fn push_instr(out: &mut Vec<u8>, instr: Instr) -> Result<(), AllocError>
+    ensures { OnOk result (out.new.items ≡ out.old.items ++ line_text (instr_line instr)) }
+{
+    let parts = instr.parts();
+    out.extend_from_slice(parts.operation().form().word)?;
+    push_operands(out, parts.operands())?;
+    out.extend_from_slice(b"\n")
+}
+
+// Appends each operand behind a space.
+fn push_operands(out: &mut Vec<u8>, operands: &[Operand]) -> Result<(), AllocError>
+    ensures { OnOk result (out.new.items ≡ out.old.items
+        ++ flat_map (λ o. 32 ∷ operand_word o) operands.now) }
+{
+    for operand in operands {
+        out.extend_from_slice(b" ")?;
+        push_operand(out, *operand)?;
+    }
+    Ok(())
+}
+
+// Appends the word of an operand.
+fn push_operand(out: &mut Vec<u8>, operand: Operand) -> Result<(), AllocError>
+    ensures { OnOk result (out.new.items ≡ out.old.items ++ operand_word operand) }
+{
+    match operand {
+        Operand::Register(register) => {
+            out.extend_from_slice(b"r")?;
+            print_number(u64::from(register.number()), out)
+        }
+        Operand::Value(n) => print_number(n, out),
+        Operand::Length(n) => print_number(u64::from(n), out),
+        Operand::Place(n)
+        | Operand::Cell(n)
+        | Operand::Program(n)
+        | Operand::Mutex(n)
+        | Operand::Semaphore(n)
+        | Operand::Page(n) => print_number(u64::from(n), out),
+    }
 }

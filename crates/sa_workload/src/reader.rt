@@ -1,17 +1,14 @@
 // The reader: one line after another.
-ghost use Rattle.std.specs.Prelude.{◌≡◌, ℕ, ◌≤◌, ◌↔◌, true, IsTrue, IfOk, IfErr, MatchResult, slice_range};
+ghost use Rattle.std.specs.Prelude.{◌≡◌, ℕ, ◌≤◌, MatchResult, IfOk, IfErr};
 ghost use Rattle.sa_spaces.specs.Workload.{WorkloadView};
 ghost use Rattle.sa_text.specs.Line.{IsWithin, text_of_line};
-ghost use Rattle.sa_text.specs.LineText.{line_texts};
-ghost use Rattle.sa_text.specs.Pieces.{pieces_of};
 ghost use Rattle.sa_workload.specs.Answer.{IfBad};
-ghost use Rattle.sa_workload.specs.Bad.{IsPrinted, BadAt, BadAt1};
-ghost use Rattle.sa_workload.specs.Position.{Closed, IsReached};
-ghost use Rattle.sa_workload.specs.Reading.{IsBehind, IsStopped};
-ghost use Rattle.sa_base.specs.Cause.{cause_number};
-ghost use Rattle.sa_workload.specs.Refused.{IfBecause, IsLineBad, IsRefused};
+ghost use Rattle.sa_workload.specs.Bad.{BadAt, BadAt1};
 ghost use Rattle.sa_workload.specs.Text.{IsText, IsText1};
-ghost use Rattle.sa_workload.specs.Stage.{machine_position, position_of, GoesOn};
+ghost use Rattle.sa_workload.specs.Position.{IsReached};
+ghost use Rattle.sa_workload.specs.Next.{next_by};
+ghost use Rattle.sa_workload.specs.Reading.{is_printed, line_in, read_of, IsReading};
+ghost use Rattle.sa_workload.specs.Stage.{machine_position, position_of, Gives};
 
 use crate::cause::Refusal;
 use crate::closing_lines::{read_evict_or_turn, read_turn_or_close};
@@ -66,14 +63,15 @@ pub fn read_one(alloc: Global, bytes: &[u8]) -> Result<Workload, Unread>
 /// The workload of a text of one of so many versions.
 fn read_versions(alloc: Global, versions: u16, bytes: &[u8]) -> Result<Workload, Unread>
     requires { versions ≤ 3 }
-    ensures { MatchResult result
-        (λ w. IsBehind versions (Closed w) (line_texts bytes.now))
-        (λ unread. IfBad unread (λ bad. IsStopped versions (line_texts bytes.now) bad.line bad.why)) }
+    ensures { IsReading (read_of versions bytes.now) result }
 {
     let mut lines = Lines::new(bytes);
     let mut stage = Stage::Machine(MachineStage::Version);
     while let Some(line) = lines.next() {
-        stage = read_line(alloc, versions, stage, bytes, line)?;
+        match read_line(alloc, versions, stage, bytes, line) {
+            Ok(next) => stage = next,
+            Err(refusal) => return Err(refusal.at(line.number)),
+        }
     }
     match stage {
         Stage::Closed(workload) => Ok(workload),
@@ -88,62 +86,68 @@ fn read_line(
     stage: Stage,
     bytes: &[u8],
     line: Line,
-) -> Result<Stage, Unread>
+) -> Result<Stage, Refusal>
     requires few { versions ≤ 3 }
     requires reached { IsReached versions (position_of stage) }
     requires within { IsWithin bytes.now line }
-    ensures { MatchResult result
-        (λ next. (line.ended ≡ true)
-        × GoesOn versions (position_of stage) (pieces_of (slice_range bytes.now line.start line.end)) (position_of next))
-        (λ unread. IfBad unread (λ bad. (bad.line ≡ line.number)
-        × IsLineBad versions (position_of stage) (text_of_line bytes.now line) bad.why)) }
+    ensures { Gives (line_in versions (position_of stage) (text_of_line bytes.now line)) result }
 {
     if !is_printed(&bytes[line.start..line.end]) {
-        return Err(Unread::Bad(Bad::new(line.number, Cause::NotAscii)));
+        return Err(Refusal::Because(Cause::NotAscii));
     }
     if !line.ended {
-        return Err(Unread::Bad(Bad::new(line.number, Cause::Missing)));
+        return Err(Refusal::Because(Cause::Missing));
     }
-    read_words(alloc, versions, stage, Words::new(bytes, line)).map_err(|refusal| refusal.at(
-        line.number,
-    ))
+    let mut words = Words::new(bytes, line);
+    let Some(word) = words.next() else {
+        return Err(Refusal::Because(Cause::BadWord));
+    };
+    read_words(alloc, versions, stage, word, words)
 }
 
 /// Whether each byte is a printed ASCII character.
 fn is_printed(bytes: &[u8]) -> bool
-    ensures { IsTrue result ↔ IsPrinted bytes.now }
+    ensures { result ≡ is_printed bytes.now }
 {
     bytes.iter().all(|byte| 32 <= *byte && *byte <= 126)
 }
 
-/// The stage behind a line of these words.
-fn read_words(alloc: Global, versions: u16, stage: Stage, words: Words) -> Result<Stage, Refusal>
+/// The stage behind a line of this first word and these behind it.
+fn read_words(
+    alloc: Global,
+    versions: u16,
+    stage: Stage,
+    word: &[u8],
+    words: Words,
+) -> Result<Stage, Refusal>
     requires few { versions ≤ 3 }
     requires reached { IsReached versions (position_of stage) }
-    ensures { MatchResult result
-        (λ next. GoesOn versions (position_of stage) words.entry (position_of next))
-        (λ refusal. IfBecause refusal (IsRefused versions (position_of stage) words.entry)) }
+    ensures { Gives (next_by versions (position_of stage) word.now words.entry) result }
 {
     match stage {
-        Stage::Space(header, spaces) => Ok(read_space(alloc, header, spaces, words)?),
-        Stage::Sem(header, spaces, draft) => read_sem(header, spaces, draft, words),
+        Stage::Machine(stage) => read_machine(alloc, versions, stage, word, words),
+        Stage::Space(header, spaces) => read_space(alloc, header, spaces, word, words),
+        Stage::Sem(header, spaces, draft) => read_sem(header, spaces, draft, word, words),
         Stage::Absent(header, spaces, draft) => {
-            read_absent_or_program(alloc, header, spaces, draft, words)
+            read_absent_or_program(alloc, header, spaces, draft, word, words)
         }
         Stage::Program(header, spaces, draft) => {
-            Ok(read_program(alloc, header, spaces, draft, words)?)
+            read_program(alloc, header, spaces, draft, word, words)
         }
-        Stage::Instr(header, spaces, draft, len, instrs) => {
-            read_instr(alloc, header, spaces, draft, len, instrs, words)
-        }
+        Stage::Instr {
+            header,
+            spaces,
+            draft,
+            len,
+            instrs,
+        } => read_instr(alloc, header, spaces, draft, len, instrs, word, words),
         Stage::Evict(header, spaces, evictions) => {
-            read_evict_or_turn(alloc, header, spaces, evictions, words)
+            read_evict_or_turn(alloc, header, spaces, evictions, word, words)
         }
         Stage::Turn(header, spaces, evictions, turns) => {
-            read_turn_or_close(header, spaces, evictions, turns, words)
+            read_turn_or_close(header, spaces, evictions, turns, word, words)
         }
         Stage::Closed(_) => Err(Refusal::Because(Cause::BadWord)),
-        Stage::Machine(machine) => Ok(read_machine(alloc, versions, machine, words)?),
     }
 }
 
@@ -152,31 +156,28 @@ fn read_machine(
     alloc: Global,
     versions: u16,
     stage: MachineStage,
+    word: &[u8],
     words: Words,
-) -> Result<Stage, Cause>
-    requires few { versions ≤ 3 }
-    requires reached { IsReached versions (machine_position stage) }
-    ensures { MatchResult result
-        (λ next. GoesOn versions (machine_position stage) words.entry (position_of next))
-        (λ cause. IsRefused versions (machine_position stage) words.entry (cause_number cause)) }
+) -> Result<Stage, Refusal>
+    ensures { Gives (next_by versions (machine_position stage) word.now words.entry) result }
 {
     match stage {
-        MachineStage::Version => read_version(versions, words),
-        MachineStage::Processors { version } => read_processors(version, words),
+        MachineStage::Version => read_version(versions, word, words),
+        MachineStage::Processors { version } => read_processors(version, word, words),
         MachineStage::Fetch {
             version,
             processors,
-        } => read_fetch(version, processors, words),
+        } => read_fetch(version, processors, word, words),
         MachineStage::Slice {
             version,
             processors,
             fetch,
-        } => read_slice(version, processors, fetch, words),
+        } => read_slice(version, processors, fetch, word, words),
         MachineStage::Spaces {
             version,
             processors,
             fetch,
             slice,
-        } => read_spaces(alloc, version, processors, fetch, slice, words),
+        } => read_spaces(alloc, version, processors, fetch, slice, word, words),
     }
 }

@@ -1,15 +1,17 @@
 // The lines of a space but for its instructions.
-ghost use Rattle.std.specs.Prelude.{◌≡◌, ◌≢◌, ◌⊎◌, ℕ, ◌<◌, ◌≤◌, ◌==◌, ◌∷◌, ◌++◌, [], if◌then◌else◌, length, MatchResult, codes, decimal};
+ghost use Rattle.std.specs.Prelude.{◌≡◌, ◌≢◌, ◌==◌, ◌∷◌, [], if◌then◌else◌, length, MatchResult, Ok, Err, None, Some};
 ghost use Rattle.std.specs.List.{list_all};
+ghost use Rattle.std.specs.Option.{option_map};
 ghost use Rattle.sa_spaces.specs.Space.{SpaceView};
-ghost use Rattle.sa_workload.specs.Bad.{within, IsFirstWrong};
-ghost use Rattle.sa_workload.specs.Position.{AtSpace, AtSem, AtAbsent, AtProgram, AtInstr, draft_line};
 ghost use Rattle.sa_base.specs.Cause.{cause_number};
-ghost use Rattle.sa_workload.specs.Refused.{IfBecause, is_last_impatient, patience_fields, space_fields, IsPagePlaced, IsPageMisplaced, last_of, IsAbsentRefused, IsRefusedBehind, IsRefused};
-ghost use Rattle.sa_workload.specs.Stage.{machine_of, draft_of, position_of, IsNext, IsPatience, IsSpaceStart};
+ghost use Rattle.sa_workload.specs.Bad.{patience_field, within};
+ghost use Rattle.sa_workload.specs.Fields.{and_then, numbered, fields_at, line_numbers, order_cause};
+ghost use Rattle.sa_workload.specs.Position.{AtSpace, AtSem, AtAbsent, AtProgram};
+ghost use Rattle.sa_workload.specs.Next.{is_last_impatient, numbers_at, draft_from, last_of, next_by, space_fields};
+ghost use Rattle.sa_workload.specs.Stage.{machine_of, draft_of, space_numbers, GivesAny};
 
 use crate::cause::Refusal;
-use crate::line_words::{Words, keyword_and_number, last_number};
+use crate::line_words::{Words, last_number};
 use crate::stage::{Header, SpaceDraft, Stage, after_sem};
 use sa_base::Cause;
 use sa_instr::{
@@ -24,13 +26,14 @@ pub(crate) fn read_space(
     alloc: Global,
     header: Header,
     spaces: Vec<SpaceDef>,
+    word: &[u8],
     mut words: Words,
-) -> Result<Stage, Cause>
-    ensures { let position = AtSpace (machine_of header) spaces.items in MatchResult result
-        (λ stage. IsNext position words.entry (position_of stage))
-        (λ cause. IsRefused 0 position words.entry (cause_number cause)) }
+) -> Result<Stage, Refusal>
+    ensures { GivesAny (λ versions. next_by versions (AtSpace (machine_of header) spaces.items) word.now words.entry) result }
 {
-    words.keyword(b"space")?;
+    if word != b"space".as_slice() {
+        return Err(Refusal::Because(Cause::BadWord));
+    }
     let draft = read_draft(alloc, &header, &spaces, &mut words)?;
     words.end()?;
     Ok(after_sem(header, spaces, draft))
@@ -43,11 +46,11 @@ fn read_draft(
     spaces: &[SpaceDef],
     words: &mut Words,
 ) -> Result<SpaceDraft, Cause>
-    ensures { MatchResult result
-        (λ draft. (codes "space" ∷ words.old ≡ draft_line header.now.version (draft_of draft)
-        ++ words.new)
-        × IsSpaceStart (machine_of header.now) spaces.now (draft_of draft))
-        (λ cause. IsFirstWrong (space_fields (machine_of header.now) spaces.now) words.old (cause_number cause)) }
+    ensures { let read = fields_at (space_fields (machine_of header.now) spaces.now) words.old in
+        MatchResult result
+        (λ draft. (read ≡ Ok (space_numbers header.now.version (draft_of draft), words.new))
+        × (draft_of draft ≡ draft_from (machine_of header.now) (space_numbers header.now.version (draft_of draft))))
+        (λ cause. read ≡ Err (cause_number cause)) }
 {
     let priority = words.within(0, MAX_PRIORITY as u64)?;
     let mutexes = words.within(0, MAX_MUTEXES as u64)?;
@@ -70,10 +73,11 @@ fn read_draft(
 
 /// The patience of a space: 1 where the version has none.
 fn read_patience(header: &Header, spaces: &[SpaceDef], words: &mut Words) -> Result<u16, Cause>
-    ensures { let machine = machine_of header.now in MatchResult result
-        (λ n. (words.old ≡ (if header.now.version == 3 then decimal n ∷ [] else []) ++ words.new)
-        × IsPatience machine spaces.now n)
-        (λ cause. IsFirstWrong (patience_fields machine spaces.now) words.old (cause_number cause)) }
+    ensures { let read = fields_at (patience_field (numbers_at (AtSpace (machine_of header.now) spaces.now))) words.old in
+        MatchResult result
+        (λ n. (read ≡ Ok ((if header.now.version == 3 then n ∷ [] else []), words.new))
+        × (header.now.version ≢ 3 → n ≡ 1))
+        (λ cause. read ≡ Err (cause_number cause)) }
 {
     if header.version != 3 {
         return Ok(1);
@@ -91,7 +95,7 @@ fn needs_patience(header: &Header, spaces: &[SpaceDef]) -> bool
 }
 
 /// Whether each of the spaces has patience 1.
-fn are_impatient(spaces: &[SpaceDef]) -> bool
+pub(crate) fn are_impatient(spaces: &[SpaceDef]) -> bool
     ensures { result ≡ list_all (λ (s : SpaceView). s.patience == 1) spaces.now }
 {
     spaces.iter().all(|space| space.patience() == 1)
@@ -102,14 +106,15 @@ pub(crate) fn read_sem(
     header: Header,
     spaces: Vec<SpaceDef>,
     mut draft: SpaceDraft,
+    word: &[u8],
     words: Words,
 ) -> Result<Stage, Refusal>
-    ensures { let position = AtSem (machine_of header) spaces.items (draft_of draft) in
-        MatchResult result
-        (λ stage. IsNext position words.entry (position_of stage))
-        (λ refusal. IfBecause refusal (IsRefused 0 position words.entry)) }
+    ensures { GivesAny (λ versions. next_by versions (AtSem (machine_of header) spaces.items (draft_of draft)) word.now words.entry) result }
 {
-    let start = keyword_and_number(words, b"sem", 0, MAX_START as u64)?;
+    if word != b"sem".as_slice() {
+        return Err(Refusal::Because(Cause::BadWord));
+    }
+    let start = last_number(words, 0, MAX_START as u64)?;
     draft.sems.push(start as u32)?;
     Ok(after_sem(header, spaces, draft))
 }
@@ -119,45 +124,45 @@ pub(crate) fn read_absent_or_program(
     alloc: Global,
     header: Header,
     spaces: Vec<SpaceDef>,
-    draft: SpaceDraft,
-    mut words: Words,
+    mut draft: SpaceDraft,
+    word: &[u8],
+    words: Words,
 ) -> Result<Stage, Refusal>
-    ensures { let position = AtAbsent (machine_of header) spaces.items (draft_of draft) in
-        MatchResult result
-        (λ stage. IsNext position words.entry (position_of stage))
-        (λ refusal. IfBecause refusal (IsRefused 0 position words.entry)) }
+    ensures { GivesAny (λ versions. next_by versions (AtAbsent (machine_of header) spaces.items (draft_of draft)) word.now words.entry) result }
 {
-    match words.next() {
-        Some(b"absent") => read_absent(header, spaces, draft, words),
-        Some(b"program") => Ok(read_length(alloc, header, spaces, draft, words)?),
-        _ => Err(Refusal::Because(Cause::BadWord)),
+    if word == b"absent".as_slice() {
+        let page = read_page(&draft.absent, words)?;
+        draft.absent.push(page)?;
+        return Ok(Stage::Absent(header, spaces, draft));
     }
+    if word != b"program".as_slice() {
+        return Err(Refusal::Because(Cause::BadWord));
+    }
+    let len = last_number(words, 1, MAX_INSTRUCTIONS as u64)?;
+    Ok(Stage::Instr {
+        header,
+        spaces,
+        draft,
+        len: len as u16,
+        instrs: Vec::new(alloc),
+    })
 }
 
-/// What stands behind `absent`.
-fn read_absent(
-    header: Header,
-    spaces: Vec<SpaceDef>,
-    mut draft: SpaceDraft,
-    mut words: Words,
-) -> Result<Stage, Refusal>
-    ensures { MatchResult result
-        (λ stage. IsNext (AtAbsent (machine_of header) spaces.items (draft_of draft)) (codes "absent" ∷ words.entry) (position_of stage))
-        (λ refusal. IfBecause refusal (λ why.
-        IsFirstWrong (within 0 LAST_PAGE ∷ []) words.entry why ⊎ IsAbsentRefused draft.absent.items words.entry why)) }
+/// The page behind `absent`, where these came before it.
+fn read_page(pages: &[u16], mut words: Words) -> Result<u16, Cause>
+    ensures { and_then (numbered result) (λ page. Ok (page ∷ []))
+        ≡ line_numbers (within 0 LAST_PAGE ∷ []) (option_map (λ page. page ∷ []) (last_of pages.now)) words.entry }
 {
     let page = words.within(0, LAST_PAGE as u64)? as u16;
-    in_order(&draft.absent, page)?;
+    in_order(pages, page)?;
     words.end()?;
-    draft.absent.push(page)?;
-    Ok(Stage::Absent(header, spaces, draft))
+    Ok(page)
 }
 
 /// The page is greater than the last of these, where there is one.
 fn in_order(pages: &[u16], page: u16) -> Result<(), Cause>
-    ensures { MatchResult result
-        (λ _. IsPagePlaced (last_of pages.now) page)
-        (λ cause. IsPageMisplaced (last_of pages.now) page (cause_number cause)) }
+    ensures { let order = order_cause (option_map (λ k. k ∷ []) (last_of pages.now)) (page ∷ []) in
+        MatchResult result (λ _. order ≡ None) (λ cause. order ≡ Some (cause_number cause)) }
 {
     match pages.last() {
         Some(last) if page == *last => Err(Cause::Twice),
@@ -172,32 +177,20 @@ pub(crate) fn read_program(
     header: Header,
     spaces: Vec<SpaceDef>,
     draft: SpaceDraft,
-    mut words: Words,
-) -> Result<Stage, Cause>
-    ensures { let position = AtProgram (machine_of header) spaces.items (draft_of draft) in
-        MatchResult result
-        (λ stage. IsNext position words.entry (position_of stage))
-        (λ cause. IsRefused 0 position words.entry (cause_number cause)) }
-{
-    words.keyword(b"program")?;
-    read_length(alloc, header, spaces, draft, words)
-}
-
-/// What stands behind `program`.
-fn read_length(
-    alloc: Global,
-    header: Header,
-    spaces: Vec<SpaceDef>,
-    draft: SpaceDraft,
+    word: &[u8],
     words: Words,
-) -> Result<Stage, Cause>
-    ensures { MatchResult result
-        (λ stage. (len : ℕ) × (words.entry ≡ decimal len ∷ []) × (1 ≤ len)
-        × (len ≤ MAX_INSTRUCTIONS)
-        × (position_of stage ≡ AtInstr (machine_of header) spaces.items (draft_of draft) len []))
-        (λ cause. IsRefusedBehind (within 1 MAX_INSTRUCTIONS ∷ []) words.entry (cause_number cause)) }
+) -> Result<Stage, Refusal>
+    ensures { GivesAny (λ versions. next_by versions (AtProgram (machine_of header) spaces.items (draft_of draft)) word.now words.entry) result }
 {
+    if word != b"program".as_slice() {
+        return Err(Refusal::Because(Cause::BadWord));
+    }
     let len = last_number(words, 1, MAX_INSTRUCTIONS as u64)?;
-    let instrs = Vec::new(alloc);
-    Ok(Stage::Instr(header, spaces, draft, len as u16, instrs))
+    Ok(Stage::Instr {
+        header,
+        spaces,
+        draft,
+        len: len as u16,
+        instrs: Vec::new(alloc),
+    })
 }

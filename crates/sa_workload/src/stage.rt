@@ -72,8 +72,16 @@ pub(crate) enum Stage {
     /// An absent page, or the first program.
     Absent(Header, Vec<SpaceDef>, SpaceDraft),
     Program(Header, Vec<SpaceDef>, SpaceDraft),
-    /// An instruction of a program of this length.
-    Instr(Header, Vec<SpaceDef>, SpaceDraft, u16, Vec<Instr>),
+    /// An instruction.
+    Instr {
+        header: Header,
+        spaces: Vec<SpaceDef>,
+        draft: SpaceDraft,
+        /// How many instructions the program has.
+        len: u16,
+        /// Those that were read.
+        instrs: Vec<Instr>,
+    },
     /// An eviction, the first turn or the end.
     Evict(Header, Vec<SpaceDef>, Vec<Evict>),
     /// A further turn or the end.

@@ -1,10 +1,10 @@
+use Rattle.std.proofs.Common.{decimal}
 use Rattle.std.proofs.lemmas.Result.{on_ok_weaker}
-use Rattle.sa_workload.proofs.Printing.{pushed_line, ok_items}
+use Rattle.sa_workload.proofs.PrintedText.{pushed_line, ok_items}
 use Rattle.sa_workload.proofs.push.push_line.Goals as goal
 
 pub returns : goal.returns
 returns c =
     on_ok_weaker c.extend_from_slice-2.result
-    (pushed_line c.args.out.now.items c.args.word.now c.args.registers.now c.args.numbers.now _ _ _ _
-    c.in_ok-extend_from_slice.ensures.items c.in_ok-push_registers.ensures c.in_ok-push_numbers.ensures)
+    (pushed_line decimal c.args.out.now.items c.args.word.now c.args.numbers.now _ _ _ c.in_ok-extend_from_slice.ensures.items c.in_ok-push_numbers.ensures)
     (ok_items c.extend_from_slice-2.result _ _ _ c.extend_from_slice-2.ensures.items)

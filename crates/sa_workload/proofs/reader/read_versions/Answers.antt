@@ -1,25 +1,27 @@
-use Rattle.std.proofs.Common.{ap, ◌∙◌, refl}
-use Rattle.std.proofs.lemmas.Result.{err_from_is_err_and}
-use Rattle.sa_text.specs.Line.{LinesLeft}
+use Rattle.std.proofs.Common.{ap, sym, ◌∙◌, map}
+use Rattle.sa_text.specs.Line.{text_of_line}
+use Rattle.sa_workload.specs.Position.{AtVersion}
+use Rattle.sa_workload.specs.Reading.{read_of, read_from}
 use Rattle.sa_workload.specs.Stage.{position_of}
-use Rattle.sa_workload.proofs.Standing.{if_bad_weaker, going_on, going_stops, going_misses, not_closed}
+use Rattle.sa_workload.proofs.Calls.{read_on}
+use Rattle.sa_workload.proofs.Whole.{reached_behind}
 use Rattle.sa_workload.proofs.reader.read_versions.Goals as goal
 
-pub returns-in_err-stage : goal.returns-in_err-stage
-returns-in_err-stage c = let p = err_from_is_err_and c.from_residual.result c.from_residual.ensures.1 in
-    rw (p.1, p.2) (if_bad_weaker c.in_err-stage.field-0.0 _ _
-    (λ bad g. going_stops c.args.versions c.args.bytes.now (position_of c.loop-line.stage) _ _ _ c.in-Some.line bad.line bad.why
-    c.loop-line.invariant.1 c.in-Some.ensures.first c.in-Some.ensures.number.0 g.0 g.1)
-    c.in_err-stage.ensures)
+pub loop-line-init : goal.loop-line-init
+unfolding read_of
+loop-line-init c = (
+  c.new-lines.ensures.text,
+  tt,
+  ap (read_from c.args.versions 1 AtVersion) (sym c.new-lines.ensures.bytes)
+      ∙ ap (λ n. read_from c.args.versions n AtVersion (map (text_of_line c.args.bytes.now) c.new-lines.result.left)) (sym c.new-lines.ensures.number),
+)
 
 pub loop-line-preserved : goal.loop-line-preserved
 loop-line-preserved c = (
   c.in-Some.ensures.text ∙ c.loop-line.invariant.0,
-  going_on c.args.versions c.args.bytes.now (position_of c.loop-line.stage) (position_of c.in_ok-stage.stage) _ _ _ _ c.in-Some.line
-      c.loop-line.invariant.1 c.in-Some.ensures.first c.in-Some.ensures.number.1 c.in_ok-stage.ensures.0 c.in_ok-stage.ensures.1,
+  reached_behind c.args.versions c.requires (position_of c.loop-line.stage) (position_of c.in-Ok.next) (text_of_line c.args.bytes.now c.in-Some.line) c.loop-line.invariant.1 c.in-Ok.ensures,
+  c.loop-line.invariant.2
+      ∙ read_on c.args.versions c.loop-line.lines.number c.next.new.self.number (position_of c.loop-line.stage) (position_of c.in-Ok.next)
+      (map (text_of_line c.args.bytes.now) c.loop-line.lines.left) (map (text_of_line c.args.bytes.now) c.next.new.self.left) (text_of_line c.args.bytes.now c.in-Some.line)
+      (ap (map (text_of_line c.args.bytes.now)) c.in-Some.ensures.first) c.in-Some.ensures.number.1 c.in-Ok.ensures,
 )
-
-pub returns : goal.returns
-returns c = rw c.new.ensures (going_misses c.args.versions c.args.bytes.now (position_of c.loop-line.stage) _ _ _ _
-    c.loop-line.invariant.1 c.in_default.ensures.first.0 (c.number.ensures ∙ ap (λ (l : LinesLeft). l.number) c.in_default.ensures.first.1)
-    (not_closed c.loop-line.stage c.in_default-stage.not-Closed) refl)

@@ -1,0 +1,314 @@
+-- What the words of a line are read as, and back: a field has one spelling.
+use Rattle.std.proofs.Common.{◌≡◌, ◌≢◌, ℕ, zero, suc, ◌+◌, ◌^◌, ◌<◌, ◌≤◌, ◌&&◌, ◌⊎◌, Bool, true, false, cond, List, [], ◌∷◌, ◌++◌, length, get_or, Contains, Option, Some, None, Result, Ok, Err, codes, decimal, refl, sym, ap, ◌∙◌, subst, inl, inr, arith, nat_le, nat_lt}
+use Rattle.std.specs.Option.{option_map}
+use Rattle.std.specs.Str.{bytes_eq}
+use Rattle.std.specs.Str.Parse.{digits_value}
+use Rattle.std.proofs.lemmas.Bool.{false≢true, ltb-true, leb-true, le-leb, lt-ltb}
+use Rattle.std.proofs.lemmas.Fmt.{decimal_digit}
+use Rattle.std.proofs.lemmas.List.{append-nil}
+use Rattle.std.proofs.lemmas.Slice.Eq.{bytes_eq-Decides}
+use Rattle.sa_text.specs.Number.{number_of}
+use Rattle.sa_text.proofs.NumberOf.{reads_number}
+use Rattle.sa_workload.specs.Bad.{Field, Register, Number, within, declared, registers, IsWrongFor, IsRightFor, IsFirstWrong, AreRight}
+use Rattle.sa_workload.specs.Fields.{and_then, unless, or_cause, index_of, read_field, field_at, number_at, fields_at, at_end, order_cause, line_numbers}
+
+-- what an answer is made of
+pub same_ok : {A : Type 0} (a b : A) → (λ (r : Result A ℕ). r) (Ok a) ≡ Ok b → a ≡ b
+same_ok a b h = cc
+
+pub same_err : {A : Type 0} (a b : ℕ) → (λ (r : Result A ℕ). r) (Err a) ≡ Err b → a ≡ b
+same_err a b h = cc
+
+pub and_then-ok : {A B : Type 0} (r : Result A ℕ) (f : A → Result B ℕ) (b : B) → and_then r f ≡ Ok b → (a : A) × (r ≡ Ok a) × (f a ≡ Ok b)
+and_then-ok (Ok a) f b h = (a, refl, h)
+and_then-ok (Err e) f b h = absurd cc
+
+pub and_then-err : {A B : Type 0} (r : Result A ℕ) (f : A → Result B ℕ) (why : ℕ) → and_then r f ≡ Err why
+    → (r ≡ Err why) ⊎ ((a : A) × (r ≡ Ok a) × (f a ≡ Err why))
+and_then-err (Ok a) f why h = inr (a, refl, h)
+and_then-err {A} {B} (Err e) f why h = inl (ap Err (same_err {A = B} e why h))
+
+pub unless-ok : {A : Type 0} (o : Option ℕ) (r : Result A ℕ) (a : A) → unless o r ≡ Ok a → (o ≡ None) × (r ≡ Ok a)
+unless-ok None r a h = (refl, h)
+unless-ok (Some cause) r a h = absurd cc
+
+pub unless-err : {A : Type 0} (o : Option ℕ) (r : Result A ℕ) (why : ℕ) → unless o r ≡ Err why → (o ≡ Some why) ⊎ ((o ≡ None) × (r ≡ Err why))
+unless-err None r why h = inr (refl, h)
+unless-err {A} (Some cause) r why h = inl (ap Some (same_err {A = A} cause why h))
+
+or_cause-ok : {A : Type 0} (o : Option A) (cause : ℕ) (a : A) → or_cause o cause ≡ Ok a → o ≡ Some a
+or_cause-ok None cause a h = absurd cc
+or_cause-ok (Some b) cause a h = ap Some (same_ok b a h)
+
+or_cause-err : {A : Type 0} (o : Option A) (cause why : ℕ) → or_cause o cause ≡ Err why → (o ≡ None) × (cause ≡ why)
+or_cause-err {A} None cause why h = (refl, same_err {A = A} cause why h)
+or_cause-err (Some b) cause why h = absurd cc
+
+pub if_either : {A : Type 0} (b : Bool) (x y z : A) → cond b x y ≡ z → ((b ≡ true) × (x ≡ z)) ⊎ ((b ≡ false) × (y ≡ z))
+if_either true x y z h = inl (refl, h)
+if_either false x y z h = inr (refl, h)
+
+pub both_true : (a b : Bool) → (a && b) ≡ true → (a ≡ true) × (b ≡ true)
+both_true true b h = (refl, h)
+both_true false b h = absurd (false≢true h)
+
+-- the place of a word
+pub index_of-some : (word : List ℕ) (ks : List (List ℕ)) (n : ℕ) → index_of word ks ≡ Some n → (n < length ks) × (get_or ks n word ≡ word)
+index_of-some word [] n h = absurd cc
+index_of-some word (k ∷ ks) n h =
+    elim (if_either (bytes_eq word k) (Some 0) (option_map (λ n. n + 1) (index_of word ks)) (Some n) h) [
+      | inl here ↦ let e : n ≡ 0 = cc (here.1) in rw e (omega arith, sym ((bytes_eq-Decides word k).0 here.0))
+      | inr later ↦ more (index_of word ks) (index_of-some word ks) later.1
+    ]
+  where
+    more : (o : Option ℕ) → ((m : ℕ) → o ≡ Some m → (m < length ks) × (get_or ks m word ≡ word)) → option_map (λ n. n + 1) o ≡ Some n
+        → (n < length (k ∷ ks)) × (get_or (k ∷ ks) n word ≡ word)
+    more None rest e = absurd cc
+    more (Some m) rest e = let plus : n ≡ m + 1 = cc e in let same : n ≡ suc m = omega arith in let r = rest m refl in rw same (omega (arith, r.0), r.1)
+
+pub index_of-none : (word : List ℕ) (ks : List (List ℕ)) → index_of word ks ≡ None → ¬ Contains ks word
+index_of-none word [] h c = absurd (omega (arith, c.1))
+index_of-none word (k ∷ ks) h c =
+    elim (if_either (bytes_eq word k) (Some 0) (option_map (λ n. n + 1) (index_of word ks)) None h) [
+      | inl here ↦ absurd (cc (here.1))
+      | inr later ↦ at c.0 c.1 c.2 later.0 (index_of-none word ks (none (index_of word ks) later.1))
+    ]
+  where
+    none : (o : Option ℕ) → option_map (λ n. n + 1) o ≡ None → o ≡ None
+    none None e = refl
+    none (Some m) e = absurd cc
+
+    at : (i : ℕ) → i < length (k ∷ ks) → get_or (k ∷ ks) i word ≡ word → bytes_eq word k ≡ false → ¬ Contains ks word → ⊥
+    at zero l e other rest = false≢true (sym other ∙ (bytes_eq-Decides word k).1 (sym e))
+    at (suc i) l e other rest = rest (i, omega arith, e)
+
+-- how a field's number is spelled, and which numbers it has
+abbrev pub spelled : Field → ℕ → List ℕ
+spelled Register n = codes "r" ++ decimal n
+spelled (Number test cause) n = decimal n
+
+abbrev pub Passes : Field → ℕ → Type 0
+Passes Register n = n < 8
+Passes (Number test cause) n = (n < 2 ^ 64) × (test n ≡ true)
+
+abbrev pub spelled_all : List Field → List ℕ → List (List ℕ)
+spelled_all (f ∷ fs) (n ∷ ns) = spelled f n ∷ spelled_all fs ns
+spelled_all _ _ = []
+
+abbrev pub AllPass : List Field → List ℕ → Type 0
+AllPass [] [] = Unit {0}
+AllPass (f ∷ fs) (n ∷ ns) = Passes f n × AllPass fs ns
+AllPass _ _ = ⊥
+
+pub passes-within : (low high n : ℕ) → low ≤ n → n ≤ high → high < 2 ^ 64 → Passes (within low high) n
+passes-within low high n l h small = (omega arith, ap (λ b. b && nat_le n high) (le-leb low n l) ∙ le-leb n high h)
+
+pub passes-declared : (count n : ℕ) → n < count → count < 2 ^ 64 → Passes (declared count) n
+passes-declared count n h small = (omega arith, lt-ltb n count h)
+
+pub within-passes : (low high n : ℕ) → Passes (within low high) n → (low ≤ n) × (n ≤ high)
+within-passes low high n p = let b = both_true (nat_le low n) (nat_le n high) p.1 in (leb-true low n b.0, leb-true n high b.1)
+
+pub declared-passes : (count n : ℕ) → Passes (declared count) n → n < count
+declared-passes count n p = ltb-true n count p.1
+
+-- the word of a register
+pub register-spelled : (n : ℕ) (d : List ℕ) → n < 8 → get_or registers n d ≡ codes "r" ++ decimal n
+register-spelled zero d h = ap (λ ds. 114 ∷ ds) (sym (decimal_digit 0 (omega arith)))
+register-spelled (suc zero) d h = ap (λ ds. 114 ∷ ds) (sym (decimal_digit 1 (omega arith)))
+register-spelled (suc (suc zero)) d h = ap (λ ds. 114 ∷ ds) (sym (decimal_digit 2 (omega arith)))
+register-spelled (suc (suc (suc zero))) d h = ap (λ ds. 114 ∷ ds) (sym (decimal_digit 3 (omega arith)))
+register-spelled (suc (suc (suc (suc zero)))) d h = ap (λ ds. 114 ∷ ds) (sym (decimal_digit 4 (omega arith)))
+register-spelled (suc (suc (suc (suc (suc zero))))) d h = ap (λ ds. 114 ∷ ds) (sym (decimal_digit 5 (omega arith)))
+register-spelled (suc (suc (suc (suc (suc (suc zero)))))) d h = ap (λ ds. 114 ∷ ds) (sym (decimal_digit 6 (omega arith)))
+register-spelled (suc (suc (suc (suc (suc (suc (suc zero))))))) d h = ap (λ ds. 114 ∷ ds) (sym (decimal_digit 7 (omega arith)))
+register-spelled (suc (suc (suc (suc (suc (suc (suc (suc n)))))))) d h = absurd (omega arith)
+
+register-read : (n : ℕ) → n < 8 → index_of (get_or registers n []) registers ≡ Some n
+register-read zero h = refl
+register-read (suc zero) h = refl
+register-read (suc (suc zero)) h = refl
+register-read (suc (suc (suc zero))) h = refl
+register-read (suc (suc (suc (suc zero)))) h = refl
+register-read (suc (suc (suc (suc (suc zero))))) h = refl
+register-read (suc (suc (suc (suc (suc (suc zero)))))) h = refl
+register-read (suc (suc (suc (suc (suc (suc (suc zero))))))) h = refl
+register-read (suc (suc (suc (suc (suc (suc (suc (suc n)))))))) h = absurd (omega arith)
+
+-- a number is read from its decimal text alone
+if_some : (b : Bool) (x n : ℕ) → cond b (Some x) None ≡ Some n → (b ≡ true) × (x ≡ n)
+if_some true x n h = (refl, cc)
+if_some false x n h = absurd cc
+
+number_of-some : (word : List ℕ) (n : ℕ) → number_of word ≡ Some n → (word ≡ decimal n) × (n < 2 ^ 64)
+number_of-some word n h =
+    let v = digits_value 10 word in
+    let made = if_some (nat_lt v (2 ^ 64) && bytes_eq word (decimal v)) v n h in
+    let tests = both_true (nat_lt v (2 ^ 64)) (bytes_eq word (decimal v)) made.0 in
+    let small : v < 2 ^ 64 = ltb-true v (2 ^ 64) tests.0 in
+    ((bytes_eq-Decides word (decimal v)).0 tests.1 ∙ ap decimal made.1, subst (λ m. m < 2 ^ 64) made.1 small)
+
+number_of-none : (word : List ℕ) (n : ℕ) → number_of word ≡ None → n < 2 ^ 64 → word ≢ decimal n
+number_of-none word n h small e = absurd (cc (sym (reads_number n small) ∙ ap number_of (sym e) ∙ h))
+
+-- a field is read from its spelling alone
+pub read-spelled : (f : Field) (n : ℕ) → Passes f n → read_field f (spelled f n) ≡ Ok n
+read-spelled Register n h = ap (λ w. or_cause (index_of w registers) 2) (sym (register-spelled n [] h)) ∙ ap (λ o. or_cause o 2) (register-read n h)
+read-spelled (Number test cause) n h =
+    ap (λ o. and_then (or_cause o 3) (λ n. cond (test n) (Ok n) (Err cause))) (reads_number n h.0) ∙ ap (λ b. cond b (Ok n) (Err cause)) h.1
+
+pub read-ok : (f : Field) (word : List ℕ) (n : ℕ) → read_field f word ≡ Ok n → (word ≡ spelled f n) × Passes f n
+read-ok Register word n h =
+    let i = index_of-some word registers n (or_cause-ok (index_of word registers) 2 n h) in (sym i.1 ∙ register-spelled n word i.0, i.0)
+read-ok (Number test cause) word n h =
+    let got = and_then-ok (or_cause (number_of word) 3) (λ n. cond (test n) (Ok n) (Err cause)) n h in
+    let s = number_of-some word got.0 (or_cause-ok (number_of word) 3 got.0 got.1) in
+    elim (if_either (test got.0) (Ok got.0) (Err cause) (Ok n) got.2) [
+      | inl right ↦ let same : got.0 ≡ n = same_ok got.0 n right.1 in
+          (s.0 ∙ ap decimal same, (subst (λ (m : ℕ). m < 2 ^ 64) same s.1, ap test (sym same) ∙ right.0))
+      | inr wrong ↦ absurd (cc (wrong.1))
+    ]
+
+pub read-err : (f : Field) (word : List ℕ) (why : ℕ) → read_field f word ≡ Err why → IsWrongFor f word why
+read-err Register word why h = let o = or_cause-err (index_of word registers) 2 why h in (index_of-none word registers o.0, sym o.1)
+read-err (Number test cause) word why h =
+    elim (and_then-err (or_cause (number_of word) 3) (λ n. cond (test n) (Ok n) (Err cause)) why h) [
+      | inl none ↦ let o = or_cause-err (number_of word) 3 why none in inl ((λ n small. number_of-none word n o.0 small), sym o.1)
+      | inr got ↦
+          let s = number_of-some word got.0 (or_cause-ok (number_of word) 3 got.0 got.1) in
+          elim (if_either (test got.0) (Ok got.0) (Err cause) (Err why) got.2) [
+            | inl right ↦ absurd (cc (right.1))
+            | inr wrong ↦ inr (got.0, s.1, s.0, wrong.0, sym (same_err {A = ℕ} cause why wrong.1))
+          ]
+    ]
+
+pub right-read : (f : Field) (n : ℕ) → Passes f n → IsRightFor f (spelled f n)
+right-read Register n h = (n, h, register-spelled n (codes "r" ++ decimal n) h)
+right-read (Number test cause) n h = (n, h.0, refl, h.1)
+
+-- all fields of a line
+pub fields-spelled : (fs : List Field) (ns : List ℕ) (rest : List (List ℕ)) → AllPass fs ns → fields_at fs (spelled_all fs ns ++ rest) ≡ Ok (ns, rest)
+fields-spelled [] [] rest h = refl
+fields-spelled [] (n ∷ ns) rest h = absurd h
+fields-spelled (f ∷ fs) [] rest h = absurd h
+fields-spelled (f ∷ fs) (n ∷ ns) rest h =
+    ap (λ (r : Result ℕ ℕ). and_then {A = ℕ × List (List ℕ)} (and_then r (λ n. Ok (n, spelled_all fs ns ++ rest))) (λ first. and_then (fields_at fs first.1) (λ others. Ok (first.0 ∷ others.0, others.1)))) (read-spelled f n h.0)
+    ∙ ap (λ (r : Result (List ℕ × List (List ℕ)) ℕ). and_then r (λ others. Ok (n ∷ others.0, others.1))) (fields-spelled fs ns rest h.1)
+
+pub fields-ok : (fs : List Field) (words : List (List ℕ)) (ns : List ℕ) (rest : List (List ℕ)) → fields_at fs words ≡ Ok (ns, rest)
+    → (words ≡ spelled_all fs ns ++ rest) × AllPass fs ns
+fields-ok [] words ns rest h =
+    let e = same_ok ([], words) (ns, rest) h in
+    let a : [] ≡ ns = ap (λ (r : List ℕ × List (List ℕ)). r.0) e in
+    let b : words ≡ rest = ap (λ (r : List ℕ × List (List ℕ)). r.1) e in
+    subst (λ (ms : List ℕ). (words ≡ spelled_all [] ms ++ rest) × AllPass [] ms) a (b, tt)
+fields-ok (f ∷ fs) [] ns rest h = absurd cc
+fields-ok (f ∷ fs) (word ∷ words) ns rest h =
+    let first = and_then-ok (field_at f (word ∷ words)) (λ first. and_then (fields_at fs first.1) (λ others. Ok (first.0 ∷ others.0, others.1))) (ns, rest) h in
+    let own = and_then-ok (read_field f word) (λ n. Ok (n, words)) first.0 first.1 in
+    let same : (own.0, words) ≡ first.0 = same_ok (own.0, words) first.0 own.2 in
+    let others = and_then-ok (fields_at fs first.0.1) (λ others. Ok (first.0.0 ∷ others.0, others.1)) (ns, rest) first.2 in
+    let all = same_ok (first.0.0 ∷ others.0.0, others.0.1) (ns, rest) others.2 in
+    let a : own.0 ∷ others.0.0 ≡ ns = ap (λ (r : ℕ × List (List ℕ)). r.0 ∷ others.0.0) same ∙ ap (λ (r : List ℕ × List (List ℕ)). r.0) all in
+    let b : others.0.1 ≡ rest = ap (λ (r : List ℕ × List (List ℕ)). r.1) all in
+    let read = read-ok f word own.0 own.1 in
+    let behind = fields-ok fs words others.0.0 others.0.1 (ap (λ (r : ℕ × List (List ℕ)). fields_at fs r.1) same ∙ others.1) in
+    subst (λ (ms : List ℕ). (word ∷ words ≡ spelled_all (f ∷ fs) ms ++ rest) × AllPass (f ∷ fs) ms) a
+    (ap (λ w. w ∷ words) read.0 ∙ ap (λ ws. spelled f own.0 ∷ ws) (behind.0 ∙ ap (λ ws. spelled_all fs others.0.0 ++ ws) b), (read.1, behind.1))
+
+pub fields-err : (fs : List Field) (words : List (List ℕ)) (why : ℕ) → fields_at fs words ≡ Err why → IsFirstWrong fs words why
+fields-err [] words why h = absurd cc
+fields-err (f ∷ fs) [] why h = sym (same_err {A = List ℕ × List (List ℕ)} 9 why h)
+fields-err (f ∷ fs) (word ∷ words) why h =
+    elim (and_then-err (field_at f (word ∷ words)) (λ first. and_then (fields_at fs first.1) (λ others. Ok (first.0 ∷ others.0, others.1))) why h) [
+      | inl wrong ↦ elim (and_then-err (read_field f word) (λ n. Ok (n, words)) why wrong) [
+        | inl own ↦ inl (read-err f word why own)
+        | inr none ↦ absurd (cc (none.2))
+      ]
+      | inr first ↦
+          let own = and_then-ok (read_field f word) (λ n. Ok (n, words)) first.0 first.1 in
+          let same : words ≡ first.0.1 = ap (λ (r : ℕ × List (List ℕ)). r.1) (same_ok (own.0, words) first.0 own.2) in
+          let read = read-ok f word own.0 own.1 in
+          elim (and_then-err (fields_at fs first.0.1) (λ others. Ok (first.0.0 ∷ others.0, others.1)) why first.2) [
+            | inl behind ↦ inr (subst (IsRightFor f) (sym read.0) (right-read f own.0 read.1), fields-err fs words why (ap (fields_at fs) same ∙ behind))
+            | inr none ↦ absurd (cc (none.2))
+          ]
+    ]
+
+pub all_right : (fs : List Field) (ns : List ℕ) (rest : List (List ℕ)) → AllPass fs ns → AreRight fs (spelled_all fs ns ++ rest)
+all_right [] [] rest h = record {}
+all_right [] (n ∷ ns) rest h = absurd h
+all_right (f ∷ fs) [] rest h = absurd h
+all_right (f ∷ fs) (n ∷ ns) rest h = (right-read f n h.0, all_right fs ns rest h.1)
+
+pub all_long : (fs : List Field) (ns : List ℕ) → AllPass fs ns → (length ns ≡ length fs) × (length (spelled_all fs ns) ≡ length fs)
+all_long [] [] h = (refl, refl)
+all_long [] (n ∷ ns) h = absurd h
+all_long (f ∷ fs) [] h = absurd h
+all_long (f ∷ fs) (n ∷ ns) h = let r = all_long fs ns h.1 in (ap suc r.0, ap suc r.1)
+
+-- the numbers of one field
+pub one_number : (f : Field) (ns : List ℕ) → AllPass (f ∷ []) ns → (n : ℕ) × (ns ≡ n ∷ []) × Passes f n
+one_number f [] h = absurd h
+one_number f (n ∷ []) h = (n, refl, h.0)
+one_number f (n ∷ m ∷ ns) h = absurd h.1
+
+-- the numbers of a whole line
+pub line-spelled : (fs : List Field) (last : Option (List ℕ)) (ns : List ℕ) → AllPass fs ns → order_cause last ns ≡ None → line_numbers fs last (spelled_all fs ns) ≡ Ok ns
+line-spelled fs last ns h o =
+    ap (λ ws. line_numbers fs last ws) (sym (append-nil (spelled_all fs ns)))
+    ∙ ap (λ (r : Result (List ℕ × List (List ℕ)) ℕ). and_then r (λ read. unless (order_cause last read.0) (unless (at_end read.1) (Ok read.0)))) (fields-spelled fs ns [] h)
+    ∙ ap (λ c. unless c (Ok ns)) o
+
+at_end-none : (words : List (List ℕ)) → at_end words ≡ None → words ≡ []
+at_end-none [] h = refl
+at_end-none (word ∷ words) h = absurd cc
+
+at_end-some : (words : List (List ℕ)) (why : ℕ) → at_end words ≡ Some why → (0 < length words) × (why ≡ 2)
+at_end-some [] why h = absurd cc
+at_end-some (word ∷ words) why h = (omega arith, cc)
+
+pub line-ok : (fs : List Field) (last : Option (List ℕ)) (words : List (List ℕ)) (ns : List ℕ) → line_numbers fs last words ≡ Ok ns
+    → (words ≡ spelled_all fs ns) × AllPass fs ns × (order_cause last ns ≡ None)
+line-ok fs last words ns h =
+    let read = and_then-ok (fields_at fs words) (λ read. unless (order_cause last read.0) (unless (at_end read.1) (Ok read.0))) ns h in
+    let order = unless-ok (order_cause last read.0.0) (unless (at_end read.0.1) (Ok read.0.0)) ns read.2 in
+    let end = unless-ok (at_end read.0.1) (Ok read.0.0) ns order.1 in
+    let same : read.0.0 ≡ ns = same_ok read.0.0 ns end.1 in
+    let f = fields-ok fs words read.0.0 read.0.1 read.1 in
+    subst (λ (ms : List ℕ). (words ≡ spelled_all fs ms) × AllPass fs ms × (order_cause last ms ≡ None)) same
+    (f.0 ∙ ap (λ ws. spelled_all fs read.0.0 ++ ws) (at_end-none read.0.1 end.0) ∙ append-nil (spelled_all fs read.0.0), f.1, order.0)
+
+-- a line that is refused for its words: the first wrong one, its order, or one too many
+pub line-err : (fs : List Field) (last : Option (List ℕ)) (words : List (List ℕ)) (why : ℕ) → line_numbers fs last words ≡ Err why
+    → IsFirstWrong fs words why
+    ⊎ ((ns : List ℕ) × (rest : List (List ℕ)) × (words ≡ spelled_all fs ns ++ rest) × AllPass fs ns
+    × ((order_cause last ns ≡ Some why) ⊎ ((order_cause last ns ≡ None) × (0 < length rest) × (why ≡ 2))))
+line-err fs last words why h =
+    elim (and_then-err (fields_at fs words) (λ read. unless (order_cause last read.0) (unless (at_end read.1) (Ok read.0))) why h) [
+      | inl wrong ↦ inl (fields-err fs words why wrong)
+      | inr read ↦
+          let f = fields-ok fs words read.0.0 read.0.1 read.1 in
+          elim (unless-err (order_cause last read.0.0) (unless (at_end read.0.1) (Ok read.0.0)) why read.2) [
+            | inl order ↦ inr (read.0.0, read.0.1, f.0, f.1, inl order)
+            | inr end ↦ elim (unless-err (at_end read.0.1) (Ok read.0.0) why end.1) [
+              | inl more ↦ let s = at_end-some read.0.1 why more in inr (read.0.0, read.0.1, f.0, f.1, inr (end.0, s.0, s.1))
+              | inr none ↦ absurd (cc (none.1))
+            ]
+          ]
+    ]
+
+-- a number, and the test of a field
+pub number_field : (test : ℕ → Bool) (cause : ℕ) (words : List (List ℕ))
+    → field_at (Number test cause) words ≡ and_then (number_at words) (λ read. cond (test read.0) (Ok read) (Err cause))
+number_field test cause [] = refl
+number_field test cause (word ∷ rest) = by_number (number_of word)
+  where
+    by_number : (o : Option ℕ) → and_then {B = ℕ × List (List ℕ)} (and_then (or_cause o 3) (λ n. cond (test n) (Ok n) (Err cause))) (λ n. Ok (n, rest))
+        ≡ and_then {A = ℕ × List (List ℕ)} (and_then {B = ℕ × List (List ℕ)} (or_cause o 3) (λ n. Ok (n, rest))) (λ read. cond (test read.0) (Ok read) (Err cause))
+    by_number None = refl
+    by_number (Some n) = by_test (test n)
+      where
+        by_test : (b : Bool) → and_then {B = ℕ × List (List ℕ)} (cond b (Ok n) (Err cause)) (λ n. Ok (n, rest)) ≡ cond b (Ok (n, rest)) (Err cause)
+        by_test true = refl
+        by_test false = refl

@@ -1,0 +1,119 @@
+-- The order of lines of one word.
+use Rattle.std.proofs.Common.{◌≡◌, ℕ, ◌<◌, ◌⊎◌, ◌&&◌, ◌||◌, Bool, true, false, cond, List, [], ◌∷◌, length, Option, Some, None, refl, sym, ap, ◌∙◌, inl, inr, arith, ltb, eqb, lt-ltb, eq-eqb}
+use Rattle.std.specs.Str.{bytes_eq}
+use Rattle.std.specs.Option.{option_map}
+use Rattle.std.proofs.lemmas.Bool.{false≢true, cases_lt, cases_eq}
+use Rattle.std.proofs.lemmas.Slice.Eq.{bytes_eq-Decides}
+use Rattle.sa_spaces.specs.declared.workload.Evict.{Evict}
+use Rattle.sa_spaces.specs.Workload.{IsBefore}
+use Rattle.sa_workload.specs.Bad.{list_lt}
+use Rattle.sa_workload.specs.Fields.{order_cause}
+use Rattle.sa_workload.specs.Next.{evict_numbers}
+use Rattle.sa_workload.proofs.FieldLemmas.{if_either}
+use Rattle.sa_workload.proofs.OneCause.{before_heads, list_lt-irrefl, list_lt-asym}
+
+pub less_head : (x y : ℕ) (xs ys : List ℕ) → x < y → list_lt (x ∷ xs) (y ∷ ys) ≡ true
+less_head x y xs ys h = ap (λ (b : Bool). b || (eqb x y && list_lt xs ys)) (lt-ltb x y h)
+
+or_true : (b : Bool) → (b || true) ≡ true
+or_true true = refl
+or_true false = refl
+
+pub same_head : (x y : ℕ) (xs ys : List ℕ) → x ≡ y → list_lt xs ys ≡ true → list_lt (x ∷ xs) (y ∷ ys) ≡ true
+same_head x y xs ys e h =
+    ap (λ (b : Bool). ltb x y || (b && list_lt xs ys)) (eq-eqb x y e) ∙ ap (λ (b : Bool). ltb x y || b) h ∙ or_true (ltb x y)
+
+-- of two lists one is before the other, or they are the same
+pub cases_list_lt : (xs ys : List ℕ) → length xs ≡ length ys → (list_lt xs ys ≡ true) ⊎ ((xs ≡ ys) ⊎ (list_lt ys xs ≡ true))
+cases_list_lt [] [] e = inr (inl refl)
+cases_list_lt [] (y ∷ ys) e = absurd (omega arith)
+cases_list_lt (x ∷ xs) [] e = absurd (omega arith)
+cases_list_lt (x ∷ xs) (y ∷ ys) e =
+    elim (cases_lt x y) [
+      | inl less ↦ inl (less_head x y xs ys less)
+      | inr more ↦ elim (cases_eq x y) [
+        | inr other ↦ inr (inr (less_head y x ys xs (omega arith)))
+        | inl same ↦ elim (cases_list_lt xs ys (omega arith)) [
+          | inl before ↦ inl (same_head x y xs ys same before)
+          | inr behind ↦ elim behind [
+            | inl equal ↦ inr (inl (ap (λ (z : ℕ). z ∷ xs) same ∙ ap (λ (zs : List ℕ). y ∷ zs) equal))
+            | inr later ↦ inr (inr (same_head y x ys xs (sym same) later))
+          ]
+        ]
+      ]
+    ]
+
+pub order-some : (last ns : List ℕ) (why : ℕ) → order_cause (Some last) ns ≡ Some why
+    → ((ns ≡ last) × (why ≡ 5)) ⊎ ((list_lt ns last ≡ true) × (why ≡ 4))
+order-some last ns why h =
+    elim (if_either (bytes_eq ns last) (Some 5) (cond (list_lt ns last) (Some 4) None) (Some why) h) [
+      | inl same ↦ let e : Some 5 ≡ Some why = same.1 in inl ((bytes_eq-Decides ns last).0 same.0, cc e)
+      | inr other ↦ elim (if_either (list_lt ns last) (Some 4) None (Some why) other.1) [
+        | inl less ↦ let e : Some 4 ≡ Some why = less.1 in inr (less.0, cc e)
+        | inr none ↦ absurd (cc (none.1))
+      ]
+    ]
+
+pub order-none : (last ns : List ℕ) → length ns ≡ length last → order_cause (Some last) ns ≡ None → list_lt last ns ≡ true
+order-none last ns long h =
+    elim (if_either (bytes_eq ns last) (Some 5) (cond (list_lt ns last) (Some 4) None) None h) [
+      | inl same ↦ absurd (cc (same.1))
+      | inr other ↦ elim (if_either (list_lt ns last) (Some 4) None None other.1) [
+        | inl less ↦ absurd (cc (less.1))
+        | inr none ↦ elim (cases_list_lt ns last long) [
+          | inl before ↦ absurd (false≢true (sym none.0 ∙ before))
+          | inr behind ↦ elim behind [
+            | inl equal ↦ absurd (false≢true (sym other.0 ∙ (bytes_eq-Decides ns last).1 equal))
+            | inr later ↦ later
+          ]
+        ]
+      ]
+    ]
+
+pub none-order : (last ns : List ℕ) → list_lt last ns ≡ true → order_cause (Some last) ns ≡ None
+none-order last ns h =
+    elim (if_either (bytes_eq ns last) (Some 5) (cond (list_lt ns last) (Some 4) None) (order_cause (Some last) ns) refl) [
+      | inl same ↦ absurd (list_lt-irrefl last ns (sym ((bytes_eq-Decides ns last).0 same.0)) h)
+      | inr other ↦ elim (if_either (list_lt ns last) (Some 4) None (order_cause (Some last) ns) other.1) [
+        | inl less ↦ absurd (list_lt-asym last ns h less.0)
+        | inr none ↦ sym none.1
+      ]
+    ]
+
+-- evictions by their numbers
+pub evict_before : (a b : Evict) → list_lt (evict_numbers a) (evict_numbers b) ≡ true → IsBefore a b
+evict_before a b h =
+    elim (before_heads a.event b.event (a.space.0 ∷ a.page ∷ []) (b.space.0 ∷ b.page ∷ []) h) [
+      | inl less ↦ inl less
+      | inr same ↦ elim (before_heads a.space.0 b.space.0 (a.page ∷ []) (b.page ∷ []) same.1) [
+        | inl less ↦ inr (same.0, inl less)
+        | inr alike ↦ elim (before_heads a.page b.page [] [] alike.1) [
+          | inl less ↦ inr (same.0, inr (alike.0, less))
+          | inr none ↦ absurd (cc (none.1))
+        ]
+      ]
+    ]
+
+pub before_evict : (a b : Evict) → IsBefore a b → list_lt (evict_numbers a) (evict_numbers b) ≡ true
+before_evict a b (inl less) = less_head a.event b.event (a.space.0 ∷ a.page ∷ []) (b.space.0 ∷ b.page ∷ []) less
+before_evict a b (inr (same, rest)) =
+    same_head a.event b.event (a.space.0 ∷ a.page ∷ []) (b.space.0 ∷ b.page ∷ []) same
+    (elim rest [
+      | inl less ↦ less_head a.space.0 b.space.0 (a.page ∷ []) (b.page ∷ []) less
+      | inr alike ↦ same_head a.space.0 b.space.0 (a.page ∷ []) (b.page ∷ []) alike.0 (less_head a.page b.page [] [] alike.1)
+    ])
+
+-- an eviction behind another one
+pub order_at : (o : Option Evict) (last e : Evict) → o ≡ Some last → order_cause (option_map evict_numbers o) (evict_numbers e) ≡ order_cause (Some (evict_numbers last)) (evict_numbers e)
+order_at o last e h = ap (λ (x : Option Evict). order_cause (option_map evict_numbers x) (evict_numbers e)) h
+
+and_true : (a b c : Bool) → (a && (b && c)) ≡ true → (a && (b && (c && true))) ≡ true
+and_true true true true h = refl
+and_true true true false h = h
+and_true true false c h = h
+and_true false b c h = h
+
+pub order_same : (e last : Evict) → (eqb e.event last.event && (eqb e.space.0 last.space.0 && eqb e.page last.page)) ≡ true
+    → order_cause (Some (evict_numbers last)) (evict_numbers e) ≡ Some 5
+order_same e last h =
+    ap (λ (b : Bool). cond b (Some 5) (cond (list_lt (evict_numbers e) (evict_numbers last)) (Some 4) None)) (and_true (eqb e.event last.event) (eqb e.space.0 last.space.0) (eqb e.page last.page) h)

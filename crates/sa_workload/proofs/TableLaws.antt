@@ -1,0 +1,285 @@
+-- The table of lines is tied to the texts: a first wrong word is the first with which no text goes on, and where all words are
+-- right, only `end` is missing.
+use Rattle.std.proofs.Common.{◌≡◌, ◌≢◌, ℕ, suc, ◌+◌, ◌<◌, ◌≤◌, ◌==◌, ◌&&◌, not, Bool, true, false, List, [], ◌∷◌, ◌++◌, length, map, take, Contains, Option, None, Result, Ok, Err, codes, decimal, if◌then◌else◌, refl, sym, ap, ap₂, ◌∙◌, subst, inl, inr, arith, append_assoc, append-nil}
+use Rattle.std.specs.Option.{is_some}
+use Rattle.std.specs.Str.{bytes_eq}
+use Rattle.std.specs.Str.Parse.{digits_value}
+use Rattle.std.proofs.lemmas.Bool.{false_from_ne_true}
+use Rattle.std.proofs.lemmas.List.{length-map}
+use Rattle.sa_workload.specs.Text.{instr_line}
+use Rattle.sa_workload.specs.Bad.{Grammar, Begins, MayFollow, IsRightWord, IsTooMany, Field, Register, Number, IsRightFor, IsFirstWrong, AreRight, IsInOrder, list_lt, numbers_of, instr_words, last_line, fields_behind}
+use Rattle.sa_workload.specs.Laws.{IsFirstWrongPlace, IsFree, FirstWrongWords, IsLastPlace, LastCauseIsNoEnd}
+use Rattle.sa_workload.specs.Fields.{and_then, index_of, order_cause}
+use Rattle.sa_workload.specs.Position.{Position, AtVersion, AtProcessors, AtFetch, AtSlice, AtSpaces, AtSpace, AtSem, AtAbsent, AtProgram, AtInstr, AtEvict, AtTurn, Closed, shown, shown_spaces, shown_draft}
+use Rattle.sa_workload.specs.Steps.{expected, workload, after_instr}
+use Rattle.sa_workload.specs.Next.{numbers_at, is_full, last_numbers, fields_of, is_end, step, step_instr, evict_from, turn_from, next}
+use Rattle.sa_workload.proofs.FieldLemmas.{register-spelled, same_ok, if_either, and_then-ok, spelled, Passes, spelled_all, AllPass, right-read}
+use Rattle.sa_workload.proofs.InstrLemmas.{instr-read}
+use Rattle.sa_workload.proofs.Causes.{word_end, IsStuck, step-err}
+use Rattle.sa_workload.proofs.OneBad.{begins_front}
+use Rattle.sa_workload.proofs.Orders.{none-order}
+use Rattle.sa_workload.proofs.OneCause.{right_not_wrong}
+use Rattle.sa_workload.proofs.Sound.{Took, took}
+use Rattle.sa_workload.proofs.Complete.{complete, take-line, run, run-append}
+use Rattle.sa_workload.proofs.LineAt.{OrderAt, free, behind, LineAt, line_at, numbers_of-spelled}
+use Rattle.sa_workload.proofs.Standing.{IsAt, Setting, at_first, at_next, begins, begins-next, expected_words, contained}
+use Rattle.sa_workload.proofs.Words.{instrs_begin}
+
+-- a reader that went through lines stands behind them
+run-at : (versions : ℕ) → versions ≤ 3 → (ls : List (List (List ℕ))) (p q : Position) → IsAt versions p → run versions p ls ≡ Ok q → IsAt versions q × (shown q ≡ shown p ++ ls)
+run-at versions three [] p q a h =
+    let same : p ≡ q = same_ok p q h in
+    (subst (IsAt versions) same a, ap shown (sym same) ∙ sym (append-nil (shown p)))
+run-at versions three (l ∷ ls) p q a h =
+    let n = and_then-ok (next versions p l) (λ r. run versions r ls) q h in
+    let b = at_next versions three p n.0 l a n.1 in
+    let c = run-at versions three ls n.0 q b.0 n.2 in
+    (c.0, c.1 ∙ ap (λ (x : List (List (List ℕ))). x ++ ls) b.1 ∙ append_assoc (shown p) (l ∷ []) ls)
+
+-- behind lines that begin a text a reader stands
+stands : (versions : ℕ) (g : Grammar) → Setting versions g → (lines : List (List (List ℕ))) → Begins g lines → (p : Position) × IsAt versions p × (shown p ≡ lines)
+stands versions g s lines b =
+    let k = s.accepts b.workload b.accepted in
+    let whole : and_then (run versions AtVersion lines) (λ q. run versions q b.more) ≡ Ok (Closed b.workload) =
+    sym (run-append versions AtVersion lines b.more) ∙ ap (run versions AtVersion) (sym b.text) ∙ complete versions b.workload k.0 s.few k.1 in
+    let p = and_then-ok (run versions AtVersion lines) (λ q. run versions q b.more) (Closed b.workload) whole in
+    let r = run-at versions s.few lines AtVersion p.0 (at_first versions) p.1 in
+    (p.0, r.0, r.1)
+
+-- the numbers of right words, and the words of right numbers
+right_number : (f : Field) (word : List ℕ) → IsRightFor f word → (n : ℕ) × Passes f n × (word ≡ spelled f n)
+right_number Register word r = (r.0, r.1, sym r.2 ∙ register-spelled r.0 word r.1)
+right_number (Number test cause) word r = (r.0, (r.1, r.3), r.2)
+
+right_numbers : (fs : List Field) (words : List (List ℕ)) → AreRight fs words → length words ≡ length fs → (ns : List ℕ) × AllPass fs ns × (words ≡ spelled_all fs ns)
+right_numbers [] [] r e = ([], tt, refl)
+right_numbers [] (w ∷ ws) r e = absurd (omega arith)
+right_numbers (f ∷ fs) [] r e = absurd r
+right_numbers (f ∷ fs) (w ∷ ws) r e =
+    let n = right_number f w r.0 in
+    let ns = right_numbers fs ws r.1 (omega arith) in
+    (n.0 ∷ ns.0, (n.1, ns.1), ap₂ (λ (x : List ℕ) (xs : List (List ℕ)). x ∷ xs) n.2 ns.2)
+
+-- the words before the first wrong one, with numbers of another line behind them
+record Mixed (fs : List Field) (words : List (List ℕ)) : Type 0 where
+  place : ℕ
+  within : place ≤ length words
+  numbers : List ℕ
+  passes : AllPass fs numbers
+  others : List (List ℕ)
+  spelled_are : spelled_all fs numbers ≡ take place words ++ others
+  wrong : (ns : List ℕ) (more : List (List ℕ)) → AllPass fs ns → place < length words → spelled_all fs ns ≡ take (suc place) words ++ more → ⊥
+  short : place ≡ length words → (ns : List ℕ) → AllPass fs ns → spelled_all fs ns ≡ words → ⊥
+
+same_cons : (x y : List ℕ) (xs ys : List (List ℕ)) → x ∷ xs ≡ y ∷ ys → (x ≡ y) × (xs ≡ ys)
+same_cons x y xs ys h = (cc h, cc h)
+
+mixed : (fs : List Field) (words : List (List ℕ)) (why : ℕ) (ms : List ℕ) → AllPass fs ms → IsFirstWrong fs words why → Mixed fs words
+mixed [] words why ms pass w = absurd w
+mixed (f ∷ fs) words why [] pass w = absurd pass
+mixed (f ∷ fs) [] why (m ∷ ms) pass w = record {
+  place = 0;
+  within = omega arith;
+  numbers = m ∷ ms;
+  passes = pass;
+  others = spelled_all (f ∷ fs) (m ∷ ms);
+  spelled_are = refl;
+  wrong = λ ns more p l e. absurd (omega arith);
+  short = λ z ns p e. none ns p e;
+}
+  where
+    none : (ns : List ℕ) → AllPass (f ∷ fs) ns → spelled_all (f ∷ fs) ns ≡ [] → ⊥
+    none [] p e = absurd p
+    none (n ∷ ns) p e = absurd (cc e)
+mixed (f ∷ fs) (word ∷ words) why (m ∷ ms) pass (inl own) = record {
+  place = 0;
+  within = omega arith;
+  numbers = m ∷ ms;
+  passes = pass;
+  others = spelled_all (f ∷ fs) (m ∷ ms);
+  spelled_are = refl;
+  wrong = λ ns more p l e. none ns more p e;
+  short = λ z ns p e. absurd (omega arith);
+}
+  where
+    none : (ns : List ℕ) (more : List (List ℕ)) → AllPass (f ∷ fs) ns → spelled_all (f ∷ fs) ns ≡ word ∷ more → ⊥
+    none [] more p e = absurd p
+    none (n ∷ ns) more p e =
+        let same = same_cons (spelled f n) word (spelled_all fs ns) more e in
+        right_not_wrong f word why (subst (IsRightFor f) same.0 (right-read f n p.0)) own
+mixed (f ∷ fs) (word ∷ words) why (m ∷ ms) pass (inr (right, later)) =
+    let n = right_number f word right in
+    let rest = mixed fs words why ms pass.1 later in
+    record {
+      place = suc rest.place;
+      within = omega (arith, rest.within);
+      numbers = n.0 ∷ rest.numbers;
+      passes = (n.1, rest.passes);
+      others = rest.others;
+      spelled_are = ap₂ (λ (x : List ℕ) (xs : List (List ℕ)). x ∷ xs) (sym n.2) rest.spelled_are;
+      wrong = λ ns more p l e. wrong rest ns more p l e;
+      short = λ z ns p e. short rest z ns p e;
+    }
+  where
+    wrong : (rest : Mixed fs words) (ns : List ℕ) (more : List (List ℕ)) → AllPass (f ∷ fs) ns → suc rest.place < length (word ∷ words)
+        → spelled_all (f ∷ fs) ns ≡ take (suc (suc rest.place)) (word ∷ words) ++ more → ⊥
+    wrong rest [] more p l e = absurd p
+    wrong rest (n ∷ ns) more p l e =
+        let same = same_cons (spelled f n) word (spelled_all fs ns) (take (suc rest.place) words ++ more) e in
+        rest.wrong ns more p.1 (omega arith) same.1
+
+    short : (rest : Mixed fs words) → suc rest.place ≡ length (word ∷ words) → (ns : List ℕ) → AllPass (f ∷ fs) ns → spelled_all (f ∷ fs) ns ≡ word ∷ words → ⊥
+    short rest z [] p e = absurd p
+    short rest z (n ∷ ns) p e =
+        let same = same_cons (spelled f n) word (spelled_all fs ns) words e in
+        rest.short (omega arith) ns p.1 same.1
+
+-- where numbers lead on, others that pass do
+cond_ok : (b : Bool) (x y : Position) → (q : Position) × (◌≡◌ {A = Result Position ℕ} (if b then Ok x else Ok y) (Ok q))
+cond_ok true x y = (x, refl)
+cond_ok false x y = (y, refl)
+
+step_alike : (versions : ℕ) (p : Position) (word ms ns : List ℕ) (q : Position) → is_some (index_of word (expected p)) ≡ true
+    → AllPass (fields_of versions p word) ms → AllPass (fields_of versions p word) ns → step p word ms ≡ Ok q → (r : Position) × (step p word ns ≡ Ok r)
+step_alike versions AtVersion word ms ns q known a b h = (_, refl)
+step_alike versions (AtProcessors v) word ms ns q known a b h = (_, refl)
+step_alike versions (AtFetch v n) word ms ns q known a b h = (_, refl)
+step_alike versions (AtSlice v n f) word ms ns q known a b h = (_, refl)
+step_alike versions (AtSpaces v n f s) word ms ns q known a b h = (_, refl)
+step_alike versions (AtSpace m spaces) word ms ns q known a b h = (_, refl)
+step_alike versions (AtSem m spaces d) word ms ns q known a b h = (_, refl)
+step_alike versions (AtAbsent m spaces d) word ms ns q known a b h = cond_ok (bytes_eq word (codes "absent")) _ _
+step_alike versions (AtProgram m spaces d) word ms ns q known a b h = (_, refl)
+step_alike versions (AtInstr m spaces d len instrs) word ms ns q known a b h =
+    let p : Position = AtInstr m spaces d len instrs in
+    let i = instr-read versions (numbers_at p) word ms known a in
+    let j = instr-read versions (numbers_at p) word ns known b in
+    let same : is_end i.instr ≡ is_end j.instr =
+    word_end i.instr word (spelled_all (fields_of versions p word) ms) i.line ∙ sym (word_end j.instr word (spelled_all (fields_of versions p word) ns) j.line) in
+    elim (if_either ((length instrs + 1 == len) && not (is_end i.instr)) (Err 9) (Ok (after_instr m spaces d len (instrs ++ i.instr ∷ []))) (Ok q)
+    (ap (step_instr m spaces d len instrs) (sym i.is) ∙ h)) [
+      | inl stuck ↦ absurd (cc (stuck.1))
+      | inr fine ↦ (
+        after_instr m spaces d len (instrs ++ j.instr ∷ []),
+        ap (step_instr m spaces d len instrs) j.is
+            ∙ ap (λ (c : Bool). if c then Err 9 else Ok (after_instr m spaces d len (instrs ++ j.instr ∷ [])))
+            (ap (λ (c : Bool). (length instrs + 1 == len) && not c) (sym same) ∙ fine.0),
+      )
+    ]
+step_alike versions (AtEvict m spaces es) word ms ns q known a b h = pick (bytes_eq word (codes "evict"))
+  where
+    pick : (c : Bool) → (r : Position)
+        × (◌≡◌ {A = Result Position ℕ} (if c then Ok (AtEvict m spaces (es ++ evict_from ns ∷ []))
+        else (if bytes_eq word (codes "turn") then Ok (AtTurn m spaces es (turn_from ns ∷ [])) else Ok (Closed (workload m spaces es [])))) (Ok r))
+    pick true = (AtEvict m spaces (es ++ evict_from ns ∷ []), refl)
+    pick false = cond_ok (bytes_eq word (codes "turn")) _ _
+step_alike versions (AtTurn m spaces es ts) word ms ns q known a b h = cond_ok (bytes_eq word (codes "turn")) _ _
+step_alike versions (Closed w) word ms ns q known a b h = absurd (cc known)
+
+-- some text goes on with a line that leads on
+goes_on_with : (versions : ℕ) (g : Grammar) → Setting versions g → (p q : Position) (line : List (List ℕ)) → IsAt versions p → next versions p line ≡ Ok q
+    → Begins g (shown p ++ line ∷ [])
+goes_on_with versions g s p q line a h =
+    let n = at_next versions s.few p q line a h in subst (Begins g) n.1 (begins versions g s q n.0)
+
+wrong_at : (versions : ℕ) (g : Grammar) → Setting versions g → (p : Position) → IsAt versions p → (word : List ℕ) (words : List (List ℕ)) (why : ℕ)
+    → MayFollow g (shown p) word → IsFree (shown p) word → IsFirstWrong (fields_behind versions (shown p) word) words why
+    → (place : ℕ) × IsFirstWrongPlace g (shown p) word words place
+wrong_at versions g s p a word words why follow free_of wrong =
+    let n = begins-next versions g s p (word ∷ follow.others) a follow.begins in
+    let t : Took versions p word follow.others n.0 = took versions p word follow.others n.0 n.1 in
+    let at : LineAt versions p word = line_at versions s.few p word a.reached t.known in
+    let mix : Mixed (fields_of versions p word) words =
+    mixed (fields_of versions p word) words why t.numbers t.passes (subst (λ (fs : List Field). IsFirstWrong fs words why) at.fields wrong) in
+    let to = step_alike versions p word t.numbers mix.numbers n.0 t.known t.passes mix.passes t.to in
+    let leads : next versions p (word ∷ spelled_all (fields_of versions p word) mix.numbers) ≡ Ok to.0 =
+    take-line versions p word mix.numbers to.0 t.known t.room mix.passes (no_order at.order mix.numbers) to.1 in (
+      mix.place,
+      record {
+        within = mix.within;
+        before = record {
+          others = mix.others;
+          begins = subst (λ (ws : List (List ℕ)). Begins g (shown p ++ (word ∷ ws) ∷ [])) mix.spelled_are (goes_on_with versions g s p to.0 _ a leads);
+        };
+        next = λ l goes.
+            let m = begins-next versions g s p (word ∷ (take (mix.place + 1) words ++ goes.others)) a goes.begins in
+            let u = took versions p word (take (mix.place + 1) words ++ goes.others) m.0 m.1 in
+            mix.wrong u.numbers goes.others u.passes l (sym u.line ∙ ap (λ (k : ℕ). take k words ++ goes.others) (next_place mix.place));
+        missing = λ z b.
+            let m = begins-next versions g s p (word ∷ words) a b in
+            let u = took versions p word words m.0 m.1 in
+            mix.short z u.numbers u.passes (sym u.line);
+      },
+    )
+  where
+    next_place : (k : ℕ) → k + 1 ≡ suc k
+    next_place k = omega arith
+
+    no_order : OrderAt p word (fields_of versions p word) → (ns : List ℕ) → order_cause (last_numbers p word) ns ≡ None
+    no_order (free none f) ns = ap (λ (o : Option (List ℕ)). order_cause o ns) none
+    no_order (behind old is own first numbers long are) ns = absurd (free_of (own, first))
+
+pub first_wrong_words : (versions : ℕ) (g : Grammar) → Setting versions g → FirstWrongWords versions g
+first_wrong_words versions g s lines word words why follow free_of wrong =
+    let st = stands versions g s lines (begins_front g lines ((word ∷ follow.others) ∷ []) follow.begins) in
+    let here : MayFollow g (shown st.0) word = subst (λ (ls : List (List (List ℕ))). MayFollow g ls word) (sym st.2) follow in
+    let free_here : IsFree (shown st.0) word = subst (λ (ls : List (List (List ℕ))). IsFree ls word) (sym st.2) free_of in
+    let wrong_here : IsFirstWrong (fields_behind versions (shown st.0) word) words why =
+    subst (λ (ls : List (List (List ℕ))). IsFirstWrong (fields_behind versions ls word) words why) (sym st.2) wrong in
+    subst (λ (ls : List (List (List ℕ))). (place : ℕ) × IsFirstWrongPlace g ls word words place) st.2 (wrong_at versions g s st.0 st.1 word words why here free_here wrong_here)
+
+-- where all words are right and no text goes on
+abbrev IsStuckLine : List (List (List ℕ)) → List ℕ → Type 0
+IsStuckLine lines word = IsLastPlace lines × Contains instr_words word × (word ≢ codes "end")
+
+stuck_at : (versions : ℕ) (g : Grammar) → Setting versions g → (p : Position) → IsAt versions p → (word : List ℕ) (words : List (List ℕ))
+    → IsRightWord g (shown p) word → ¬ IsTooMany (shown p) word → AreRight (fields_behind versions (shown p) word) words
+    → IsInOrder (shown p) (length (fields_behind versions (shown p) word)) (word ∷ words) → length words ≡ length (fields_behind versions (shown p) word)
+    → ¬ Begins g (shown p ++ (word ∷ words) ∷ []) → IsStuckLine (shown p) word
+stuck_at versions g s p a word words right few are order long none =
+    let known : is_some (index_of word (expected p)) ≡ true = expected_words versions g s p word a right in
+    let at : LineAt versions p word = line_at versions s.few p word a.reached known in
+    let ns = right_numbers fields words (subst (λ (fs : List Field). AreRight fs words) at.fields are) (long ∙ ap length at.fields) in
+    let in_order : order_cause (last_numbers p word) ns.0 ≡ None =
+    ordered at.order ns.0 ns.1 (subst (λ (ws : List (List ℕ)). IsInOrder (shown p) (length fields) (word ∷ ws)) ns.2
+    (subst (λ (fs : List Field). IsInOrder (shown p) (length fs) (word ∷ words)) at.fields order)) in
+    by_step (step p word ns.0) (λ q e. none (subst (λ (ws : List (List ℕ)). Begins g (shown p ++ (word ∷ ws) ∷ [])) (sym ns.2)
+    (goes_on_with versions g s p q (word ∷ spelled_all fields ns.0) a
+    (take-line versions p word ns.0 q known (false_from_ne_true (is_full p word) (λ t. few (at.many t))) ns.1 in_order e))))
+    (λ why e. stuck known (step-err versions p word ns.0 why known ns.1 e))
+  where
+    fields : List Field
+    fields = fields_of versions p word
+
+    ordered : OrderAt p word fields → (ns : List ℕ) → AllPass fields ns → IsInOrder (shown p) (length fields) (word ∷ spelled_all fields ns) → order_cause (last_numbers p word) ns ≡ None
+    ordered (free none f) ns pass o = ap (λ (x : Option (List ℕ)). order_cause x ns) none
+    ordered (behind old is own first numbers len all) ns pass o =
+        let new : numbers_of (length fields) (word ∷ spelled_all fields ns) ≡ ns =
+        ap (λ (ws : List (List ℕ)). map (digits_value 10) (take (length fields) ws)) (sym (append-nil (spelled_all fields ns))) ∙ numbers_of-spelled fields ns [] all pass in
+        let above : list_lt (numbers_of (length fields) (last_line (shown p))) (numbers_of (length fields) (word ∷ spelled_all fields ns)) ≡ true = o own first in
+        ap (λ (x : Option (List ℕ)). order_cause x ns) is ∙ none-order old ns (ap₂ list_lt (sym numbers) (sym new) ∙ above)
+
+    stuck : is_some (index_of word (expected p)) ≡ true → {why : ℕ} → IsStuck p word why → IsStuckLine (shown p) word
+    stuck known k = (
+      subst (λ (q : Position). IsLastPlace (shown q)) (sym k.is) record {
+        front = shown_spaces k.machine k.spaces ++ shown_draft k.machine.version k.draft;
+        len = k.len;
+        instrs = map instr_line k.instrs;
+        whole = sym (append_assoc (shown_spaces k.machine k.spaces) (shown_draft k.machine.version k.draft) ((codes "program" ∷ decimal k.len ∷ []) ∷ map instr_line k.instrs));
+        each = instrs_begin k.instrs;
+        last = ap (λ (n : ℕ). n + 1) (length-map k.instrs instr_line) ∙ k.last;
+      },
+      contained instr_words word (ap (λ (q : Position). is_some (index_of word (expected q))) (sym k.is) ∙ known),
+      k.other,
+    )
+
+    by_step : (r : Result Position ℕ) → ((q : Position) → r ≡ Ok q → ⊥) → ((why : ℕ) → r ≡ Err why → IsStuckLine (shown p) word) → IsStuckLine (shown p) word
+    by_step (Ok q) leads stays = absurd (leads q refl)
+    by_step (Err why) leads stays = stays why refl
+
+pub last_cause_is_no_end : (versions : ℕ) (g : Grammar) → Setting versions g → LastCauseIsNoEnd versions g
+last_cause_is_no_end versions g s lines word words b right few are order long none =
+    let st = stands versions g s lines b in
+    subst (λ (ls : List (List (List ℕ))). IsRightWord g ls word → ¬ IsTooMany ls word → AreRight (fields_behind versions ls word) words
+    → IsInOrder ls (length (fields_behind versions ls word)) (word ∷ words) → length words ≡ length (fields_behind versions ls word) → ¬ Begins g (ls ++ (word ∷ words) ∷ []) → IsStuckLine ls word)
+    st.2 (stuck_at versions g s st.0 st.1 word words) right few are order long none

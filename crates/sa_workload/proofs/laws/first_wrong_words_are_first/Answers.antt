@@ -1,0 +1,10 @@
+use Rattle.sa_workload.specs.Bad.{AnyVersion, Version1}
+use Rattle.sa_workload.proofs.Standing.{any, alone}
+use Rattle.sa_workload.proofs.TableLaws.{first_wrong_words}
+use Rattle.sa_workload.proofs.laws.first_wrong_words_are_first.Goals as goal
+
+pub returns-clause-any : goal.returns-clause-any
+returns-clause-any c = first_wrong_words 3 AnyVersion any
+
+pub returns-clause-version1 : goal.returns-clause-version1
+returns-clause-version1 c = first_wrong_words 1 Version1 alone
