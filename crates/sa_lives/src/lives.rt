@@ -76,6 +76,13 @@ impl Lives {
         self.running.get(usize::from(p.0)).copied().flatten()
     }
 
+    /// Of each processor: the number of the life that runs on it.
+    pub fn all_running(&self) -> &[Option<ActNo>]
+        ensures { result.now ≡ (lives_of self.now).running }
+    {
+        self.running.as_slice()
+    }
+
     /// The life that runs on the processor.
     pub fn life_on(&self, p: ProcNo) -> Option<&KeptLife>
         ensures { option_copied result

@@ -93,6 +93,13 @@ impl Replay {
         }
     }
 
+    /// Of each processor: the space that owns it.
+    pub fn owners(&self) -> &[Option<SpaceNo>]
+        ensures { result.now ≡ self.now.state.owners }
+    {
+        self.owners.as_slice()
+    }
+
     /// The thread that runs on the processor.
     pub fn runner(&self, p: ProcNo) -> Option<RunningThread>
         ensures { result ≡ runner_on self.now.state p }

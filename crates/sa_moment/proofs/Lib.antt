@@ -1,0 +1,7 @@
+pub mod EndLemmas
+pub mod EndingLemmas
+pub mod JoinLemmas
+pub mod ListedLemmas
+pub mod NeedLemmas
+pub mod OpenLemmas
+pub mod PageLemmas
