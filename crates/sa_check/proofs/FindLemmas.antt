@@ -1,0 +1,34 @@
+-- The first rule that was not found to hold is the first that does not hold.
+use Rattle.std.proofs.Common.{◌≡◌, ◌↔◌, refl, sym, ◌∙◌, List, [], ◌∷◌, ◌++◌, drop, Bool, true, false, Option, Some}
+use Rattle.std.specs.Prelude.{not, find, IsTrue, MatchOption, if◌then◌else◌}
+use Rattle.sa_spaces.specs.Workload.{WorkloadView}
+use Rattle.sa_laws.specs.declared.rule.Rule.{Rule}
+use Rattle.sa_laws.specs.declared.rule.Rule.TheVariants.{Numbering, StepTaken, AtMostOnce, InTime, WhereOwned, AllTold, BlockUpcall, InterruptNext, LineCause, WantCause, SharesCovered, DemandSaid, TurnsAndSteps, ListLocks, ListOrder, EndTold}
+use Rattle.sa_laws.specs.Event.{Event}
+use Rattle.sa_laws.specs.Readings.{Readings}
+use Rattle.sa_laws.specs.Ends.{LastLine}
+use Rattle.sa_laws.specs.Rules.{fast_threads, Holds, HoldEach, Breaks, rules, rules_before}
+
+module _ (w : WorkloadView) (r : Readings) (e : Event) (last : Option LastLine) (found : Rule → Bool)
+    (each : (rule : Rule) → IsTrue (found rule) ↔ Holds fast_threads w rule r e last) where
+  abbrev pub Outcome : Option Rule → Type 0
+  Outcome o = MatchOption o (HoldEach fast_threads w rules r e last) (Breaks fast_threads w r e last)
+
+  hold-more : (list : List Rule) (rule : Rule) → HoldEach fast_threads w list r e last → Holds fast_threads w rule r e last
+      → HoldEach fast_threads w (list ++ rule ∷ []) r e last
+  hold-more [] rule all one = (one, tt)
+  hold-more (x ∷ xs) rule all one = (all.0, hold-more xs rule all.1 one)
+
+  -- one rule more
+  step : (rule : Rule) (rest : List Rule) → (HoldEach fast_threads w (rules_before rule ++ rule ∷ []) r e last → Outcome (find (λ x. not (found x)) rest))
+      → HoldEach fast_threads w (rules_before rule) r e last → Outcome (find (λ x. not (found x)) (rule ∷ rest))
+  step rule rest more held = by (found rule) refl where
+    by : (b : Bool) → found rule ≡ b → Outcome (if not b then Some rule else find (λ x. not (found x)) rest)
+    by true is = more (hold-more (rules_before rule) rule held ((each rule).0 is))
+    by false is = record { earlier = held; broken = λ holds. let yes = (each rule).1 holds in let no = sym is ∙ yes in cc }
+
+  pub first-is : Outcome (find (λ x. not (found x)) rules)
+  first-is =
+      step Numbering (drop 1 rules) (step StepTaken (drop 2 rules) (step AtMostOnce (drop 3 rules) (step InTime (drop 4 rules) (step WhereOwned (drop 5 rules)
+      (step AllTold (drop 6 rules) (step BlockUpcall (drop 7 rules) (step InterruptNext (drop 8 rules) (step LineCause (drop 9 rules) (step WantCause (drop 10 rules)
+      (step SharesCovered (drop 11 rules) (step DemandSaid (drop 12 rules) (step TurnsAndSteps (drop 13 rules) (step ListLocks (drop 14 rules) (step ListOrder (drop 15 rules) (step EndTold [] (λ all. all)))))))))))))))) tt

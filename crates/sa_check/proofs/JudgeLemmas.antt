@@ -1,0 +1,64 @@
+-- One event is judged.
+use Rattle.std.proofs.Common.{◌≡◌, ◌↔◌, sym, ◌∙◌, ap, subst, Bool, false, Option}
+use Rattle.std.specs.Prelude.{not, find, IsTrue, MatchOption}
+use Rattle.sa_spaces.specs.Workload.{WorkloadView}
+use Rattle.sa_laws.specs.declared.rule.Rule.{Rule}
+use Rattle.sa_laws.specs.declared.rule.Rule.TheVariants.{Numbering, StepTaken}
+use Rattle.sa_laws.specs.Event.{Event}
+use Rattle.sa_laws.specs.Readings.{Readings}
+use Rattle.sa_laws.specs.Opening.{IsNumbered}
+use Rattle.sa_laws.specs.Step.{AreSteps}
+use Rattle.sa_laws.specs.Ends.{LastLine}
+use Rattle.sa_laws.specs.Rules.{fast_threads, HoldEach, Breaks, rules}
+use Rattle.sa_moment.specs.Seen.{Seen, at_event, at_end}
+use Rattle.sa_check.specs.declared.begin.Beginning.{Beginning}
+use Rattle.sa_check.specs.declared.end.Ending.{Ending}
+use Rattle.sa_check.specs.declared.findings.Findings.{Findings}
+use Rattle.sa_check.specs.declared.records.ReadThrough.{ReadThrough}
+use Rattle.sa_check.specs.Findings.{found_of}
+use Rattle.sa_check.specs.Judged.{findings_of, after}
+use Rattle.sa_check.specs.Records.{behind_some, IsReadThrough}
+use Rattle.sa_check.specs.Sides.{IsBeginning, IsEnding}
+use Rattle.sa_check.proofs.FindLemmas.{first-is}
+use Rattle.sa_check.proofs.FoundLemmas.{beginning_of, each}
+
+pub numbering-breaks : (w : WorkloadView) (r : Readings) (e : Event) (last : Option LastLine) (found : Bool) → (IsTrue found ↔ IsNumbered w r e) → found ≡ false
+    → Breaks fast_threads w r e last Numbering
+numbering-breaks w r e last found is fails = record { earlier = tt; broken = λ holds. let yes = is.1 holds in cc }
+
+pub step-breaks : (m start : Seen) (e : Event) (last : Option LastLine) → IsNumbered m.workload m.readings e → start ≡ at_event e.number e.proc m
+    → (AreSteps start.workload e.number e.proc start.readings e.records → ⊥) → Breaks fast_threads m.workload m.readings e last StepTaken
+step-breaks m start e last numbered begins none =
+    let none' = subst (λ (s : Seen). AreSteps s.workload e.number e.proc s.readings e.records → ⊥) begins none in
+    record { earlier = (numbered, tt); broken = λ holds. none' holds.steps }
+
+-- the moment at the end of an event is the one after it
+pub ended-is : (m start through next : Seen) (e : Event) → start ≡ at_event e.number e.proc m → through ≡ behind_some start e e.records
+    → next ≡ at_end m.readings e.number e.proc e.records through → next ≡ after m e
+ended-is m start through next e begins reads ends =
+    ends ∙ ap (at_end m.readings e.number e.proc e.records) (reads ∙ ap (λ (s : Seen). behind_some s e e.records) begins)
+
+-- what the first rule that was not found says, or that there is none
+abbrev pub FirstIs : WorkloadView → Readings → Event → Option LastLine → Option Rule → Type 0
+FirstIs w r e last first = MatchOption first (HoldEach fast_threads w rules r e last) (Breaks fast_threads w r e last)
+
+pub outcome : (m start next : Seen) (e : Event) (last : Option LastLine) (b : Beginning) (through : ReadThrough) (ending : Ending)
+    → IsNumbered m.workload m.readings e → IsBeginning m e b → start ≡ at_event e.number e.proc m → IsReadThrough start e through
+    → next ≡ after m e → IsEnding next e.number last ending
+    → FirstIs m.workload m.readings e last (find (λ rule. not (found_of (findings_of e.number b through.laws through.due ending) rule)) rules)
+outcome m start next e last b through ending numbered begins starts read ends after_it =
+    let read' : IsReadThrough (beginning_of m e) e through = subst (λ (s : Seen). IsReadThrough s e through) starts read in
+    let after' : IsEnding (after m e) e.number last ending = subst (λ (s : Seen). IsEnding s e.number last ending) ends after_it in
+    first-is m.workload m.readings e last (λ rule. found_of (findings_of e.number b through.laws through.due ending) rule)
+    (each m e last b through.laws through.due ending numbered read'.steps begins read'.laws read'.due after')
+
+-- .. where these findings give this rule, or none
+pub judged-so : (m start next : Seen) (e : Event) (last : Option LastLine) (b : Beginning) (through : ReadThrough) (ending : Ending)
+    → IsNumbered m.workload m.readings e → IsBeginning m e b → start ≡ at_event e.number e.proc m → IsReadThrough start e through
+    → next ≡ after m e → IsEnding next e.number last ending
+    → (f : Findings) (first : Option Rule) → f ≡ findings_of e.number b through.laws through.due ending → first ≡ find (λ rule. not (found_of f rule)) rules
+    → FirstIs m.workload m.readings e last first
+judged-so m start next e last b through ending numbered begins starts read ends after_it f first is found =
+    subst (λ (o : Option Rule). FirstIs m.workload m.readings e last o)
+    (sym (found ∙ ap (λ (g : Findings). find (λ rule. not (found_of g rule)) rules) is))
+    (outcome m start next e last b through ending numbered begins starts read ends after_it)

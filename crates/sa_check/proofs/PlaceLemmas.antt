@@ -1,0 +1,29 @@
+-- The places of an event, and the moments there.
+use Rattle.std.proofs.Common.{◌≡◌, ◌↔◌, ℕ, ◌+◌, ◌<◌, refl, sym, ap, subst, inl, inr, arith, List, [], ◌∷◌, length, take, Bool}
+use Rattle.std.specs.Prelude.{IsTrue, take_while}
+use Rattle.std.proofs.lemmas.Bool.{cases_eq}
+use Rattle.std.proofs.lemmas.List.Folds.{length-prefix_len}
+use Rattle.sa_base.specs.declared.record.Record.{Record}
+use Rattle.sa_laws.specs.Shape.{before_aims, before_wants, is_no_aim, is_no_want}
+use Rattle.sa_check.specs.Places.{FoundAt}
+
+take-run : (test : Record → Bool) (xs : List Record) → take (length (take_while test xs)) xs ≡ take_while test xs
+take-run test xs = ap (λ n. take n xs) (length-prefix_len test xs)
+
+pub take-before-wants : (xs : List Record) → take (length (before_wants xs)) xs ≡ before_wants xs
+take-before-wants [] = refl
+take-before-wants (x ∷ xs) = ap (λ ys. x ∷ ys) (take-run is_no_want xs)
+
+pub take-before-aims : (xs : List Record) → take (length (before_aims xs)) xs ≡ before_aims xs
+take-before-aims xs = take-run is_no_aim xs
+
+-- what was found at its place stays found behind it
+pub found-behind : (due place : ℕ) (before now : Bool) (P Q : Type 0) → FoundAt due place P before now → (place ≡ due → (P ↔ Q))
+    → (due < place → (IsTrue before ↔ Q)) → due < place + 1 → (IsTrue now ↔ Q)
+found-behind due place before now P Q at same old behind = elim (cases_eq place due) [
+  | inl here ↦
+      let now_is = at.here here in
+      let is = same here in
+      (λ yes. is.0 (now_is.0 yes), λ q. now_is.1 (is.1 q))
+  | inr other ↦ subst (λ b. IsTrue b ↔ Q) (sym (at.other other)) (old (omega arith))
+]

@@ -1,0 +1,32 @@
+-- A verdict that is true of a trace is the only one.
+use Rattle.std.proofs.Common.{List, ◌≡◌, ◌↔◌, ℕ, refl, ◌∙◌, ap, subst, Result, Ok, Err, IfOk}
+use Rattle.sa_spaces.specs.Workload.{WorkloadView}
+use Rattle.sa_base.specs.declared.record.Item.{Item}
+use Rattle.sa_laws.specs.Ends.{LastLine}
+use Rattle.sa_laws.specs.declared.rule.Rule.{Rule}
+use Rattle.sa_laws.specs.Rules.{fast_threads}
+use Rattle.sa_legal.specs.Legal.{IsRight, FirstBreak}
+use Rattle.sa_legal.proofs.FirstLemmas.{breaks-once, right-or-broken}
+use Rattle.sa_check.specs.declared.verdict.Verdict.{Verdict}
+use Rattle.sa_check.specs.declared.verdict.Verdict.TheVariants.{Legal, Broken}
+use Rattle.sa_check.specs.Verdict.{IsVerdict}
+
+pub one-verdict : (w : WorkloadView) (items : List Item) (line : LastLine) (a b : Verdict) → IsVerdict w items line a → IsVerdict w items line b → a ≡ b
+one-verdict w items line Legal Legal x y = refl
+one-verdict w items line Legal (Broken n rule) x y = absurd (right-or-broken fast_threads w items line n rule x y)
+one-verdict w items line (Broken m a) Legal x y = absurd (right-or-broken fast_threads w items line m a y x)
+one-verdict w items line (Broken m a) (Broken n b) x y =
+    let both = breaks-once fast_threads w items line m n a b x y in
+    ap (λ k. Broken k a) both.0 ∙ ap (λ one. Broken n one) both.1
+
+pub legal-exact : {E : Type 0} (w : WorkloadView) (items : List Item) (line : LastLine) (result : Result Verdict E) → IfOk result (IsVerdict w items line)
+    → IfOk result (λ v. (v ≡ Legal) ↔ IsRight fast_threads w items line)
+legal-exact w items line (Ok v) is =
+    (λ same. subst (IsVerdict w items line) same is, λ right. one-verdict w items line v Legal is right)
+legal-exact w items line (Err e) is = tt
+
+pub broken-exact : {E : Type 0} (w : WorkloadView) (items : List Item) (line : LastLine) (result : Result Verdict E) → IfOk result (IsVerdict w items line)
+    → IfOk result (λ v. (n : ℕ) (rule : Rule) → (v ≡ Broken n rule) ↔ FirstBreak fast_threads w items line n rule)
+broken-exact w items line (Ok v) is = λ n rule.
+    (λ same. subst (IsVerdict w items line) same is, λ broken. one-verdict w items line v (Broken n rule) is broken)
+broken-exact w items line (Err e) is = tt

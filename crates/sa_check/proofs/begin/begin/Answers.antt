@@ -1,0 +1,25 @@
+use Rattle.std.proofs.Common.{◌≡◌, ap, ◌∙◌}
+use Rattle.std.specs.Prelude.{is_some}
+use Rattle.sa_laws.specs.Readings.{line_of}
+use Rattle.sa_laws.specs.Upcalls.{InterruptsNext}
+use Rattle.sa_laws.specs.Turns.{IsStep, TurnsAreTaken}
+use Rattle.sa_laws.specs.Locks.{LocksAreKept}
+use Rattle.sa_moment.specs.Seen.{seen}
+use Rattle.sa_check.specs.Items.{told_event}
+use Rattle.sa_check.proofs.FoundLemmas.{at-beginning}
+use Rattle.sa_check.proofs.begin.begin.Goals as goal
+
+pub returns-clause-found : goal.returns-clause-found
+returns-clause-found c =
+    let m = seen c.args.moment.now in
+    let next = seen c.begin.new.self in
+    let e = told_event c.args.event.now in
+    let raised : c.is_some-raised.result ≡ is_some (line_of m.readings e.proc) = c.is_some-raised.ensures ∙ ap is_some c.line.ensures in
+    record {
+      demand = c.demand_is_said-demand.ensures;
+      order = c.order_is_kept-order.ensures;
+      interrupt = at-beginning InterruptsNext m next e _ c.begin.ensures (λ begins. c.interrupts_next.ensures m.readings begins raised);
+      turns = at-beginning (TurnsAreTaken IsStep) m next e _ c.begin.ensures (λ begins. c.turns_are_taken.ensures m.readings begins raised);
+      locks = at-beginning LocksAreKept m next e _ c.begin.ensures (λ begins. c.locks_are_kept.ensures m.readings begins);
+      lines = c.lines_are_in_place.ensures m.workload m.readings e.proc;
+    }

@@ -1,0 +1,32 @@
+-- Which rules hold at an event.
+use Rattle.std.specs.Prelude.{◌↔◌, Bool, true, IsTrue, Option}
+use Rattle.sa_spaces.specs.Workload.{WorkloadView}
+use Rattle.sa_laws.specs.declared.rule.Rule.{Rule}
+use Rattle.sa_laws.specs.declared.rule.Rule.TheVariants.{Numbering, StepTaken, AtMostOnce, InTime, WhereOwned, AllTold, BlockUpcall, InterruptNext, LineCause, WantCause, SharesCovered, DemandSaid, TurnsAndSteps, ListLocks, ListOrder, EndTold}
+use Rattle.sa_laws.specs.Event.{Event}
+use Rattle.sa_laws.specs.Readings.{Readings}
+use Rattle.sa_laws.specs.Ends.{LastLine}
+use Rattle.sa_laws.specs.Rules.{fast_threads, Holds}
+use Rattle.sa_check.specs.declared.findings.Findings.{Findings}
+
+abbrev pub found_of : Findings → Rule → Bool
+found_of f Numbering = true
+found_of f StepTaken = true
+found_of f AtMostOnce = f.at_most_once
+found_of f InTime = f.in_time
+found_of f WhereOwned = f.where_owned
+found_of f AllTold = f.all_told
+found_of f BlockUpcall = f.block_upcall
+found_of f InterruptNext = f.interrupt_next
+found_of f LineCause = f.line_cause
+found_of f WantCause = f.want_cause
+found_of f SharesCovered = f.shares_covered
+found_of f DemandSaid = f.demand_said
+found_of f TurnsAndSteps = f.turns_and_steps
+found_of f ListLocks = f.list_locks
+found_of f ListOrder = f.list_order
+found_of f EndTold = f.end_told
+
+-- what was found is so
+pub record IsFound (w : WorkloadView) (r : Readings) (e : Event) (last : Option LastLine) (f : Findings) : Type 0 where
+  pub each : (rule : Rule) → IsTrue (found_of f rule) ↔ Holds fast_threads w rule r e last

@@ -1,0 +1,46 @@
+-- How an event is judged.
+use Rattle.std.specs.Prelude.{◌≡◌, ℕ, ◌==◌, ◌&&◌, ◌||◌, Option}
+use Rattle.sa_laws.specs.Event.{Event}
+use Rattle.sa_laws.specs.History.{is_inside, after_event}
+use Rattle.sa_laws.specs.Ends.{LastLine}
+use Rattle.sa_laws.specs.Rules.{fast_threads, HoldEach, Breaks, rules}
+use Rattle.sa_moment.specs.Seen.{Seen, seen}
+use Rattle.sa_check.specs.declared.begin.Beginning.{Beginning}
+use Rattle.sa_check.specs.declared.end.Ending.{Ending}
+use Rattle.sa_check.specs.declared.findings.Findings.{Findings}
+use Rattle.sa_check.specs.declared.judge.Judged.{Judged}
+use Rattle.sa_check.specs.declared.judge.Judged.TheVariants.{Right, Broken}
+use Rattle.sa_check.specs.declared.places.DueFound.{DueFound}
+use Rattle.sa_check.specs.declared.records.RecordsFound.{RecordsFound}
+
+-- the rules that hold, by what was found
+abbrev pub findings_of : ℕ → Beginning → RecordsFound → DueFound → Ending → Findings
+findings_of number beginning laws due ending = record {
+  at_most_once = laws.told_once;
+  in_time = ending.prompt;
+  where_owned = laws.named && ending.owned;
+  all_told = laws.told_all;
+  block_upcall = laws.gave_upcall;
+  interrupt_next = beginning.interrupt;
+  line_cause = (laws.heard && beginning.lines) && due.lines;
+  want_cause = (number == 0 || due.wants) && ending.wants;
+  shares_covered = ending.shares && due.aims;
+  demand_said = beginning.demand;
+  turns_and_steps = beginning.turns;
+  list_locks = beginning.locks;
+  list_order = beginning.order;
+  end_told = ending.end;
+}
+
+-- the moment after an event
+abbrev pub after : Seen → Event → Seen
+after m e = record m { readings = after_event is_inside m.workload m.readings e }
+
+-- each rule holds, and this is the moment after it; or this rule is the first that does not hold
+pub record IsRightAt (m : Seen) (e : Event) (last : Option LastLine) (moment : Seen) : Type 0 where
+  pub holds : HoldEach fast_threads m.workload rules m.readings e last
+  pub next : moment ≡ after m e
+
+abbrev pub Judges : Seen → Event → Option LastLine → Judged → Type 0
+Judges m e last (Right moment) = IsRightAt m e last (seen moment)
+Judges m e last (Broken rule) = Breaks fast_threads m.workload m.readings e last rule

@@ -1,0 +1,28 @@
+-- What is due at the places of an event.
+use Rattle.std.specs.Prelude.{◌≡◌, ◌≢◌, ◌↔◌, ℕ, Bool, IsTrue}
+use Rattle.sa_laws.specs.Event.{Event}
+use Rattle.sa_laws.specs.Closing.{wants_due, aims_due, lines_due}
+use Rattle.sa_laws.specs.Shape.{others_of, wants_in, lines_in, aims_in, last_lines}
+use Rattle.sa_moment.specs.Seen.{Seen}
+use Rattle.sa_check.specs.declared.places.Places.{Places}
+use Rattle.sa_check.specs.declared.places.DueFound.{DueFound}
+
+-- the wants, aims and lines of an event are those that are due at a moment
+pub record WantsAreDue (m : Seen) (e : Event) : Type 0 where
+  pub due : wants_in (others_of e.records) ≡ wants_due m.workload m.readings
+
+pub record AimsAreDue (m : Seen) (e : Event) : Type 0 where
+  pub due : aims_in e.records ≡ aims_due m.workload e.number m.readings
+
+pub record LinesAreDue (m : Seen) (e : Event) : Type 0 where
+  pub due : lines_in (last_lines e.records) ≡ lines_due m.workload m.readings
+
+-- at its place something is found; elsewhere what was found stays
+pub record FoundAt (due place : ℕ) (P : Type 0) (before now : Bool) : Type 0 where
+  pub here : place ≡ due → (IsTrue now ↔ P)
+  pub other : place ≢ due → now ≡ before
+
+pub record DueMore (m : Seen) (e : Event) (places : Places) (place : ℕ) (before now : DueFound) : Type 0 where
+  pub wants : FoundAt places.wants place (WantsAreDue m e) before.wants now.wants
+  pub aims : FoundAt places.aims place (AimsAreDue m e) before.aims now.aims
+  pub lines : FoundAt places.lines place (LinesAreDue m e) before.lines now.lines

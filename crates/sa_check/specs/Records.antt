@@ -1,0 +1,55 @@
+-- What is found while the records of an event are read.
+use Rattle.std.specs.Prelude.{◌≡◌, ◌↔◌, List, IsTrue, Option, Some, None}
+use Rattle.sa_base.specs.declared.number.ProcNo.{ProcNo}
+use Rattle.sa_base.specs.declared.record.Record.{Record}
+use Rattle.sa_laws.specs.Event.{Event}
+use Rattle.sa_laws.specs.Readings.{Readings}
+use Rattle.sa_laws.specs.History.{after_records}
+use Rattle.sa_laws.specs.Shape.{before_aims, before_wants, front_part}
+use Rattle.sa_laws.specs.Step.{AreSteps}
+use Rattle.sa_laws.specs.Upcalls.{RecordLaw, EachRecord, TellsOnce, NamesTheLife, TellsAllThen, GivesUpcallThen, RaisesLine}
+use Rattle.sa_moment.specs.Seen.{Seen, seen}
+use Rattle.sa_check.specs.declared.places.DueFound.{DueFound}
+use Rattle.sa_check.specs.declared.records.RecordsFound.{RecordsFound}
+use Rattle.sa_check.specs.declared.records.ReadThrough.{ReadThrough}
+use Rattle.sa_check.specs.Places.{WantsAreDue, AimsAreDue, LinesAreDue}
+
+-- one record more
+pub record FoundMore (r : Readings) (p : ProcNo) (what : Record) (rest : List Record) (before now : RecordsFound) : Type 0 where
+  pub told_once : IsTrue now.told_once ↔ (IsTrue before.told_once × TellsOnce r what rest)
+  pub named : IsTrue now.named ↔ (IsTrue before.named × NamesTheLife p r what rest)
+  pub told_all : IsTrue now.told_all ↔ (IsTrue before.told_all × TellsAllThen p r what rest)
+  pub gave_upcall : IsTrue now.gave_upcall ↔ (IsTrue before.gave_upcall × GivesUpcallThen p r what rest)
+  pub heard : IsTrue now.heard ↔ (IsTrue before.heard × RaisesLine r what rest)
+
+-- a law of records holds of each, from the moment as the event begins
+abbrev pub Each : RecordLaw → Seen → Event → Type 0
+Each L m e = EachRecord L m.workload e.number e.proc m.readings e.records
+
+pub record IsFoundOf (m : Seen) (e : Event) (found : RecordsFound) : Type 0 where
+  pub told_once : IsTrue found.told_once ↔ Each TellsOnce m e
+  pub named : IsTrue found.named ↔ Each (NamesTheLife e.proc) m e
+  pub told_all : IsTrue found.told_all ↔ Each (TellsAllThen e.proc) m e
+  pub gave_upcall : IsTrue found.gave_upcall ↔ Each (GivesUpcallThen e.proc) m e
+  pub heard : IsTrue found.heard ↔ Each RaisesLine m e
+
+-- the moment behind some records of the event
+abbrev pub behind_some : Seen → Event → List Record → Seen
+behind_some m e records = record m { readings = after_records m.workload e.number e.proc m.readings records }
+
+-- what is due at the places
+pub record IsDueFound (m : Seen) (e : Event) (found : DueFound) : Type 0 where
+  pub wants : IsTrue found.wants ↔ WantsAreDue (behind_some m e (before_wants e.records)) e
+  pub aims : IsTrue found.aims ↔ AimsAreDue (behind_some m e (before_aims e.records)) e
+  pub lines : IsTrue found.lines ↔ LinesAreDue (behind_some m e (front_part e.records)) e
+
+-- the records are steps of the abstract machine, and all is found of them; or they are not all steps
+pub record IsReadThrough (m : Seen) (e : Event) (through : ReadThrough) : Type 0 where
+  pub steps : AreSteps m.workload e.number e.proc m.readings e.records
+  pub moment : seen through.moment ≡ behind_some m e e.records
+  pub laws : IsFoundOf m e through.laws
+  pub due : IsDueFound m e through.due
+
+abbrev pub ReadsRecords : Seen → Event → Option ReadThrough → Type 0
+ReadsRecords m e None = AreSteps m.workload e.number e.proc m.readings e.records → ⊥
+ReadsRecords m e (Some through) = IsReadThrough m e through

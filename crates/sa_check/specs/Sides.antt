@@ -1,0 +1,57 @@
+-- What is found before an event and after it.
+use Rattle.std.specs.Prelude.{◌≡◌, ◌↔◌, ℕ, ◌≤◌, false, List, [], ◌∷◌, map, IsTrue, Option, Some, None}
+use Rattle.sa_base.specs.declared.number.SpaceNo.{SpaceNo}
+use Rattle.sa_share.specs.Share.{share_at}
+use Rattle.sa_assign.specs.Aims.{aimed}
+use Rattle.sa_laws.specs.Event.{Event}
+use Rattle.sa_laws.specs.Readings.{Readings, space_of_life}
+use Rattle.sa_laws.specs.Closing.{shares_at, must_want}
+use Rattle.sa_laws.specs.Upcalls.{IsPrompt, InterruptsNext, FirstLineIsAsked}
+use Rattle.sa_laws.specs.Shape.{aims_in, last_lines}
+use Rattle.sa_laws.specs.Rules.{NoLines}
+use Rattle.sa_spaces.specs.Workload.{WorkloadView}
+use Rattle.sa_base.specs.declared.number.ProcNo.{ProcNo}
+use Rattle.sa_base.specs.declared.record.Record.{Record}
+use Rattle.sa_laws.specs.Demand.{DemandIsAnnounced}
+use Rattle.sa_laws.specs.Turns.{IsStep, TurnsAreTaken}
+use Rattle.sa_laws.specs.Locks.{LocksAreKept, RunsNext}
+use Rattle.sa_laws.specs.Ends.{LastLine, EndIsTold}
+use Rattle.sa_moment.specs.Seen.{Seen}
+use Rattle.sa_check.specs.declared.begin.Beginning.{Beginning}
+use Rattle.sa_check.specs.declared.end.LastTold.{LastTold}
+use Rattle.sa_check.specs.declared.end.Ending.{Ending}
+
+-- no line is asked for that is not, and no aim stands behind the first of the last lines
+pub record LinesAreInPlace (w : WorkloadView) (r : Readings) (p : ProcNo) (records : List Record) : Type 0 where
+  pub first : FirstLineIsAsked NoLines w r p records
+  pub order : aims_in (last_lines records) ≡ []
+
+-- on the moment before the event
+pub record IsBeginning (m : Seen) (e : Event) (found : Beginning) : Type 0 where
+  pub demand : IsTrue found.demand ↔ DemandIsAnnounced m.workload m.readings e
+  pub order : IsTrue found.order ↔ RunsNext m.readings e.proc e.records
+  pub interrupt : IsTrue found.interrupt ↔ InterruptsNext m.workload m.readings e
+  pub turns : IsTrue found.turns ↔ TurnsAreTaken IsStep m.workload m.readings e
+  pub locks : IsTrue found.locks ↔ LocksAreKept m.workload m.readings e
+  pub lines : IsTrue found.lines ↔ LinesAreInPlace m.workload m.readings e.proc e.records
+
+-- what the last line tells, and if one is given
+abbrev pub told_line : LastTold → LastLine
+told_line told = record { end = told.end; events = told.events }
+
+abbrev pub line_told : Option LastTold → Option LastLine
+line_told None = None
+line_told (Some told) = Some (told_line told)
+
+-- the last line belongs to an event behind which no others stand
+abbrev pub line_before : List Event → LastLine → Option LastLine
+line_before [] line = Some line
+line_before (e ∷ es) line = None
+
+-- on the moment after an event of this number
+pub record IsEnding (m : Seen) (number : ℕ) (last : Option LastLine) (found : Ending) : Type 0 where
+  pub prompt : IsTrue found.prompt ↔ IsPrompt m.readings
+  pub owned : IsTrue found.owned ↔ (m.readings.state.owners ≡ map (space_of_life m.readings) m.readings.running)
+  pub wants : IsTrue found.wants ↔ ((s : SpaceNo) → must_want m.readings s ≡ false)
+  pub shares : IsTrue found.shares ↔ ((s : ℕ) → share_at (shares_at m.workload number m.readings) s ≤ aimed s m.readings.aims)
+  pub end : IsTrue found.end ↔ EndIsTold m.readings number last

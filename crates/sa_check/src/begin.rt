@@ -1,0 +1,74 @@
+// What is found as an event begins.
+ghost use Rattle.std.specs.Prelude.{◌≡◌, ◌↔◌, IsTrue};
+ghost use Rattle.sa_base.specs.declared.number.ProcNo.{ProcNo};
+ghost use Rattle.sa_spaces.specs.Workload.{WorkloadView};
+ghost use Rattle.sa_laws.specs.Upcalls.{FirstLineIsAsked};
+ghost use Rattle.sa_laws.specs.Rules.{NoLines};
+ghost use Rattle.sa_laws.specs.Readings.{Readings, running_of};
+ghost use Rattle.sa_moment.specs.Seen.{seen, at_event, lowers};
+ghost use Rattle.sa_check.specs.Items.{told_event};
+ghost use Rattle.sa_check.specs.Sides.{IsBeginning, LinesAreInPlace};
+
+use crate::event::TraceEvent;
+use sa_base::Record;
+use sa_moment::{Moment, Start};
+use sa_shape::{has_aims, last_lines};
+use sa_steps::{demand_is_said, locks_are_kept, order_is_kept, turns_are_taken};
+use sa_told::interrupts_next;
+
+/// What was found before an event and as it begins, and what its end will need.
+#[derive(Clone, Copy, Debug)]
+pub(crate) struct Beginning {
+    pub(crate) start: Start,
+    pub(crate) demand: bool,
+    pub(crate) order: bool,
+    pub(crate) interrupt: bool,
+    pub(crate) turns: bool,
+    pub(crate) locks: bool,
+    pub(crate) lines: bool,
+}
+
+/// The event begins.
+pub(crate) fn begin(moment: &mut Moment, event: &TraceEvent) -> Beginning
+    ensures begun { seen moment.new ≡ at_event event.now.number event.now.proc (seen moment.old) }
+    ensures running { result.start.running ≡ running_of (seen moment.old).readings event.now.proc }
+    ensures lowers { result.start.lowers ≡ lowers (seen moment.old).readings event.now.records.now }
+    ensures found { IsBeginning (seen moment.old) (told_event event.now) result }
+{
+    let number = event.number;
+    let p = event.proc;
+    let records = event.records;
+    let start = moment.before(p, records);
+    let demand = demand_is_said(moment, number, p, records);
+    let order = order_is_kept(moment, p, records);
+    let raised = moment.line(p).is_some();
+    moment.begin(number, p);
+    Beginning {
+        start,
+        demand,
+        order,
+        interrupt: interrupts_next(moment, raised, number, p, records),
+        turns: turns_are_taken(moment, raised, number, p, records),
+        locks: locks_are_kept(moment, number, p, records),
+        lines: lines_are_in_place(records),
+    }
+}
+
+// No line is asked for, and no aim stands behind the first of the last lines.
+fn lines_are_in_place(records: &[Record]) -> bool
+    ensures { (w : WorkloadView) (r : Readings) (p : ProcNo)
+        → (IsTrue result ↔ LinesAreInPlace w r p records.now) }
+{
+    first_is_asked(records) && !has_aims(last_lines(records))
+}
+
+// The event does not begin with a line: FastThreads asks for none.
+fn first_is_asked(records: &[Record]) -> bool
+    ensures { (w : WorkloadView) (r : Readings) (p : ProcNo)
+        → (IsTrue result ↔ FirstLineIsAsked NoLines w r p records.now) }
+{
+    match records {
+        [Record::Line(_), ..] => false,
+        _ => true,
+    }
+}

@@ -1,0 +1,50 @@
+// What is found after an event.
+ghost use Rattle.std.specs.Prelude.{◌↔◌, IsTrue};
+ghost use Rattle.sa_laws.specs.Ends.{EndIsTold};
+ghost use Rattle.sa_moment.specs.Seen.{seen};
+ghost use Rattle.sa_check.specs.Sides.{IsEnding, line_told};
+
+use sa_base::End;
+use sa_due::{covers_shares, is_prompt, wants_nothing};
+use sa_moment::Moment;
+use sa_told::{goes_on, is_told_end, runs_where_owned};
+
+/// What the last line of a trace tells: how the run ended, and its number of events.
+#[derive(Clone, Copy, Debug)]
+pub(crate) struct LastTold {
+    pub(crate) end: End,
+    pub(crate) events: u64,
+}
+
+/// What was found after an event.
+#[derive(Clone, Copy, Debug)]
+pub(crate) struct Ending {
+    pub(crate) prompt: bool,
+    pub(crate) owned: bool,
+    pub(crate) wants: bool,
+    pub(crate) shares: bool,
+    pub(crate) end: bool,
+}
+
+/// What is found on the moment after an event of this number; the last line, if it is the trace's last event.
+pub(crate) fn look_after(moment: &Moment, number: u64, last: Option<LastTold>) -> Ending
+    ensures { IsEnding (seen moment.now) number (line_told last) result }
+{
+    Ending {
+        prompt: is_prompt(moment),
+        owned: runs_where_owned(moment),
+        wants: wants_nothing(moment),
+        shares: covers_shares(moment, number),
+        end: end_is_told(moment, number, last),
+    }
+}
+
+// The run goes on, or the last line tells how it ended.
+fn end_is_told(moment: &Moment, number: u64, last: Option<LastTold>) -> bool
+    ensures { IsTrue result ↔ EndIsTold (seen moment.now).readings number (line_told last) }
+{
+    match last {
+        None => goes_on(moment),
+        Some(told) => told.events == number && is_told_end(moment, told.end),
+    }
+}

@@ -1,0 +1,83 @@
+// The judge of one event.
+ghost use Rattle.std.specs.Prelude.{◌≡◌, IfOk};
+ghost use Rattle.sa_moment.specs.Seen.{seen};
+ghost use Rattle.sa_check.specs.Items.{told_event};
+ghost use Rattle.sa_check.specs.Sides.{line_told};
+ghost use Rattle.sa_check.specs.Judged.{Judges, findings_of};
+
+use crate::begin::{Beginning, begin};
+use crate::end::{Ending, LastTold, look_after};
+use crate::event::TraceEvent;
+use crate::findings::Findings;
+use crate::places::DueFound;
+use crate::records::{RecordsFound, read_records};
+use sa_due::is_numbered;
+use sa_laws::Rule;
+use sa_moment::Moment;
+use std::alloc::{AllocError, Global};
+
+/// How an event was judged.
+#[derive(Debug, Drop)]
+pub(crate) enum Judged {
+    /// Each rule holds; the moment after it.
+    Right(Moment),
+    /// The first rule that does not hold.
+    Broken(Rule),
+}
+
+/// Judges an event on the moment before it; the last line, if it is the trace's last event.
+pub(crate) fn judge(
+    alloc: Global,
+    moment: Moment,
+    event: &TraceEvent,
+    last: Option<LastTold>,
+) -> Result<Judged, AllocError>
+    ensures { IfOk result (Judges (seen moment) (told_event event.now) (line_told last)) }
+{
+    let mut now = moment;
+    let records = event.records;
+    if !is_numbered(alloc, &now, event.number, event.proc, records)? {
+        return Ok(Judged::Broken(Rule::Numbering));
+    }
+    let beginning = begin(&mut now, event);
+    let Some(through) = read_records(alloc, now, event)? else {
+        return Ok(Judged::Broken(Rule::StepTaken));
+    };
+    let after = through
+        .moment
+        .finish(event.number, event.proc, records, beginning.start)?;
+    let ending = look_after(&after, event.number, last);
+    let findings = findings_of(event.number, beginning, through.laws, through.due, ending);
+    match findings.first_broken() {
+        None => Ok(Judged::Right(after)),
+        Some(rule) => Ok(Judged::Broken(rule)),
+    }
+}
+
+// Which rules hold, by what was found before the event, at its records, and after it.
+fn findings_of(
+    number: u64,
+    beginning: Beginning,
+    laws: RecordsFound,
+    due: DueFound,
+    ending: Ending,
+) -> Findings
+    ensures { result ≡ findings_of number beginning laws due ending }
+{
+    Findings {
+        at_most_once: laws.told_once,
+        in_time: ending.prompt,
+        where_owned: laws.named && ending.owned,
+        all_told: laws.told_all,
+        block_upcall: laws.gave_upcall,
+        interrupt_next: beginning.interrupt,
+        line_cause: laws.heard && beginning.lines && due.lines,
+        want_cause: (number == 0 || due.wants) && ending.wants,
+        shares_covered: ending.shares && due.aims,
+        demand_said: beginning.demand,
+        turns_and_steps: beginning.turns,
+        list_locks: beginning.locks,
+        list_order: beginning.order,
+        end_told: ending.end,
+    }
+}

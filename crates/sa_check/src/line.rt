@@ -1,0 +1,56 @@
+// What is written of a verdict.
+ghost use Rattle.std.specs.Prelude.{◌≡◌, ◌++◌, IfOk, OnOk};
+ghost use Rattle.sa_check.specs.declared.verdict.Verdict.TheVariants.{Broken};
+ghost use Rattle.sa_check.specs.Line.{word_of, line_of};
+
+use crate::verdict::Verdict;
+use sa_laws::Rule;
+use sa_text::print_number;
+use std::alloc::{AllocError, Global};
+
+/// The word of a rule.
+pub fn word(rule: Rule) -> &'static [u8]
+    ensures { result.now ≡ word_of rule }
+{
+    match rule {
+        Rule::Numbering => b"D11",
+        Rule::StepTaken => b"D6",
+        Rule::AtMostOnce => b"U1",
+        Rule::InTime => b"U2",
+        Rule::WhereOwned => b"U3",
+        Rule::AllTold => b"U4",
+        Rule::BlockUpcall => b"U5",
+        Rule::InterruptNext => b"U6",
+        Rule::LineCause => b"U7",
+        Rule::WantCause => b"U8",
+        Rule::SharesCovered => b"L1",
+        Rule::DemandSaid => b"L2",
+        Rule::TurnsAndSteps => b"L3",
+        Rule::ListLocks => b"L4",
+        Rule::ListOrder => b"L5",
+        Rule::EndTold => b"D12",
+    }
+}
+
+/// The line that says the verdict, with its line feed. Its only error is want of memory.
+pub fn verdict_line(alloc: Global, verdict: Verdict) -> Result<Vec<u8>, AllocError>
+    ensures { IfOk result (λ line. line.items ≡ line_of verdict) }
+{
+    let mut out = Vec::new(alloc);
+    match verdict {
+        Verdict::Legal => out.extend_from_slice(b"legal\n")?,
+        Verdict::Broken { event, rule } => push_broken(&mut out, event, rule)?,
+    }
+    Ok(out)
+}
+
+// Appends the line of a first break.
+fn push_broken(out: &mut Vec<u8>, event: u64, rule: Rule) -> Result<(), AllocError>
+    ensures { OnOk result (out.new.items ≡ out.old.items ++ line_of (Broken event rule)) }
+{
+    out.extend_from_slice(b"broken ")?;
+    print_number(event, out)?;
+    out.extend_from_slice(b" ")?;
+    out.extend_from_slice(word(rule))?;
+    out.extend_from_slice(b"\n")
+}

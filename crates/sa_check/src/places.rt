@@ -1,0 +1,86 @@
+// The places in an event at which wants, aims and lines are due.
+ghost use Rattle.std.specs.Prelude.{◌≡◌, ◌≤◌, length, IfOk};
+ghost use Rattle.sa_laws.specs.Shape.{before_wants, before_aims, front_part};
+ghost use Rattle.sa_moment.specs.Seen.{seen};
+ghost use Rattle.sa_check.specs.Items.{told_event};
+ghost use Rattle.sa_check.specs.Places.{DueMore};
+
+use crate::event::TraceEvent;
+use sa_base::Record;
+use sa_due::{are_aims_due, are_lines_due, are_wants_due};
+use sa_moment::Moment;
+use sa_shape::{before_aims, before_wants, front_part, last_lines, others_of};
+use std::alloc::{AllocError, Global};
+
+/// Behind how many records of an event wants, aims and lines are due.
+#[derive(Clone, Copy, Debug)]
+pub(crate) struct Places {
+    pub(crate) wants: usize,
+    pub(crate) aims: usize,
+    pub(crate) lines: usize,
+}
+
+impl Places {
+    /// Those of these records.
+    pub(crate) fn of(records: &[Record]) -> Self
+        ensures wants { result.wants ≡ length (before_wants records.now) }
+        ensures aims { result.aims ≡ length (before_aims records.now) }
+        ensures lines { result.lines ≡ length (front_part records.now) }
+    {
+        Places {
+            wants: before_wants(records).len(),
+            aims: before_aims(records).len(),
+            lines: front_part(records).len(),
+        }
+    }
+}
+
+/// The wants, aims and lines of an event are those that are due at their places.
+#[derive(Clone, Copy, Debug)]
+pub(crate) struct DueFound {
+    pub(crate) wants: bool,
+    pub(crate) aims: bool,
+    pub(crate) lines: bool,
+}
+
+impl DueFound {
+    /// Before any place.
+    pub(crate) fn new() -> Self {
+        DueFound {
+            wants: true,
+            aims: true,
+            lines: true,
+        }
+    }
+
+    /// The same at this place, on the moment there.
+    pub(crate) fn and(
+        self,
+        alloc: Global,
+        moment: &Moment,
+        event: &TraceEvent,
+        places: Places,
+        place: usize,
+    ) -> Result<Self, AllocError>
+        ensures { IfOk result
+            (DueMore (seen moment.now) (told_event event.now) places place self) }
+    {
+        let records = event.records;
+        let wants = if place == places.wants {
+            are_wants_due(alloc, moment, others_of(records))?
+        } else {
+            self.wants
+        };
+        let aims = if place == places.aims {
+            are_aims_due(alloc, moment, event.number, records)?
+        } else {
+            self.aims
+        };
+        let lines = if place == places.lines {
+            are_lines_due(alloc, moment, last_lines(records))?
+        } else {
+            self.lines
+        };
+        Ok(DueFound { wants, aims, lines })
+    }
+}

@@ -1,0 +1,92 @@
+// What is found while the records of an event are read.
+ghost use Rattle.std.specs.Prelude.{◌≡◌, true, IfOk};
+ghost use Rattle.sa_moment.specs.Seen.{seen};
+ghost use Rattle.sa_check.specs.Items.{told_event};
+ghost use Rattle.sa_check.specs.Records.{FoundMore, ReadsRecords};
+
+use crate::event::TraceEvent;
+use crate::places::{DueFound, Places};
+use sa_base::{ProcNo, Record};
+use sa_moment::Moment;
+use sa_told::{gives_upcall, names_the_life, raises_line, tells_all, tells_once};
+use std::alloc::{AllocError, Global};
+
+/// Of each law of records: it held of each so far.
+#[derive(Clone, Copy, Debug)]
+pub(crate) struct RecordsFound {
+    pub(crate) told_once: bool,
+    pub(crate) named: bool,
+    pub(crate) told_all: bool,
+    pub(crate) gave_upcall: bool,
+    pub(crate) heard: bool,
+}
+
+impl RecordsFound {
+    // Before any record.
+    fn new() -> Self
+        ensures told_once { result.told_once ≡ true }
+        ensures named { result.named ≡ true }
+        ensures told_all { result.told_all ≡ true }
+        ensures gave_upcall { result.gave_upcall ≡ true }
+        ensures heard { result.heard ≡ true }
+    {
+        RecordsFound {
+            told_once: true,
+            named: true,
+            told_all: true,
+            gave_upcall: true,
+            heard: true,
+        }
+    }
+
+    // The same of one record more, on the moment before it; `rest` stands behind it.
+    fn and(self, moment: &Moment, p: ProcNo, what: &Record, rest: &[Record]) -> Self
+        ensures { FoundMore (seen moment.now).readings p what.now rest.now self result }
+    {
+        RecordsFound {
+            told_once: self.told_once && tells_once(moment, what),
+            named: self.named && names_the_life(moment, p, what),
+            told_all: self.told_all && tells_all(moment, p, what, rest),
+            gave_upcall: self.gave_upcall && gives_upcall(moment, p, what, rest),
+            heard: self.heard && raises_line(moment, what, rest),
+        }
+    }
+}
+
+/// The moment behind the records of an event, and what was found on the way.
+#[derive(Debug, Drop)]
+pub(crate) struct ReadThrough {
+    pub(crate) moment: Moment,
+    pub(crate) laws: RecordsFound,
+    pub(crate) due: DueFound,
+}
+
+/// Reads the records of an event, on the moment as it begins. `None` exactly where one of them is no step of the
+/// abstract machine.
+pub(crate) fn read_records(
+    alloc: Global,
+    moment: Moment,
+    event: &TraceEvent,
+) -> Result<Option<ReadThrough>, AllocError>
+    ensures { IfOk result (ReadsRecords (seen moment) (told_event event.now)) }
+{
+    let records = event.records;
+    let places = Places::of(records);
+    let mut now = moment;
+    let mut laws = RecordsFound::new();
+    let mut due = DueFound::new();
+    for (i, what) in records.iter().enumerate() {
+        due = due.and(alloc, &now, event, places, i)?;
+        if !now.allows(event.proc, what) {
+            return Ok(None);
+        }
+        laws = laws.and(&now, event.proc, what, &records[i + 1..]);
+        now = now.read(event.number, event.proc, what)?;
+    }
+    let due = due.and(alloc, &now, event, places, records.len())?;
+    Ok(Some(ReadThrough {
+        moment: now,
+        laws,
+        due,
+    }))
+}

@@ -1,0 +1,76 @@
+ghost use Rattle.std.specs.Prelude.{◌≡◌, ◌↔◌, ℕ, IfOk};
+ghost use Rattle.sa_laws.specs.declared.rule.Rule.{Rule};
+ghost use Rattle.sa_laws.specs.Event.{events_of};
+ghost use Rattle.sa_laws.specs.Rules.{fast_threads};
+ghost use Rattle.sa_legal.specs.Legal.{IsRight, FirstBreak};
+ghost use Rattle.sa_check.specs.declared.verdict.Verdict.TheVariants.{Legal, Broken};
+ghost use Rattle.sa_check.specs.Sides.{told_line, line_told, line_before};
+ghost use Rattle.sa_check.specs.Verdict.{last_line, IsVerdict};
+
+use crate::end::LastTold;
+use crate::event::{TraceEvent, event_len, records_of};
+use crate::judge::{Judged, judge};
+use crate::verdict::Verdict;
+use sa_base::Item;
+use sa_laws::Rule;
+use sa_moment::Moment;
+use sa_reader::TraceText;
+use sa_spaces::Workload;
+use std::alloc::{AllocError, Global};
+
+/// What the trace text is beside the workload: `Legal` exactly where it is right, and `Broken` with exactly its first
+/// break. Its only error is want of memory.
+pub fn check(alloc: Global, workload: &Workload, text: &TraceText) -> Result<Verdict, AllocError>
+    ensures legal { IfOk result (λ verdict. (verdict ≡ Legal)
+        ↔ IsRight fast_threads workload.now text.now.trace.items (last_line text.now)) }
+    ensures broken { IfOk result (λ verdict. (event : ℕ) (rule : Rule)
+        → (verdict ≡ Broken event rule)
+        ↔ FirstBreak fast_threads workload.now text.now.trace.items (last_line text.now) event rule) }
+{
+    first_broken(alloc, workload, text)
+}
+
+// The verdict.
+fn first_broken(alloc: Global, workload: &Workload, text: &TraceText) -> Result<Verdict, AllocError>
+    ensures { IfOk result (IsVerdict workload.now text.now.trace.items (last_line text.now)) }
+{
+    let line = LastTold {
+        end: text.end,
+        events: text.events,
+    };
+    let mut moment = Moment::start(alloc, workload)?;
+    let mut items = text.trace.items();
+    if items.is_empty() {
+        return Ok(Verdict::Broken {
+            event: 0,
+            rule: Rule::Numbering,
+        });
+    }
+    while let Some(first) = items.first() {
+        let (own, others) = items.split_at(event_len(first, items));
+        let records = records_of(alloc, own)?;
+        let event = TraceEvent {
+            number: first.event,
+            proc: first.proc,
+            records: records.as_slice(),
+        };
+        match judge(alloc, moment, &event, last_behind(line, others))? {
+            Judged::Right(after) => moment = after,
+            Judged::Broken(rule) => {
+                return Ok(Verdict::Broken {
+                    event: event.number,
+                    rule,
+                });
+            }
+        }
+        items = others;
+    }
+    Ok(Verdict::Legal)
+}
+
+// The last line, where no item stands behind.
+fn last_behind(line: LastTold, others: &[Item]) -> Option<LastTold>
+    ensures { line_told result ≡ line_before (events_of others.now) (told_line line) }
+{
+    if others.is_empty() { Some(line) } else { None }
+}

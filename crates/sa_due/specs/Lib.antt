@@ -1,0 +1,4 @@
+pub mod Each
+pub mod Prompt
+pub mod Reaimed
+pub mod Wanting
