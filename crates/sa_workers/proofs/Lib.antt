@@ -1,0 +1,4 @@
+pub mod Sums
+pub mod Rounds
+pub mod Totals
+pub mod Seated

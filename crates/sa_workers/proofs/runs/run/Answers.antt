@@ -1,0 +1,9 @@
+use Rattle.std.proofs.Common.{sym, ap, ◌∙◌}
+use Rattle.sa_machine.specs.Machine.{Machine}
+use Rattle.sa_machine.specs.Run.{opening}
+use Rattle.sa_workers.proofs.runs.run.Goals as goal
+
+pub run_named-requires-clause-core : goal.run_named-requires-clause-core
+run_named-requires-clause-core g c κs within =
+    let at = c.in_ok-core.ensures.opening in
+    at ∙ ap (λ (m : Machine g.row.U.Denot g.row.U-Ctx.Denot). opening g.U.UserLevel.calls m.workload) (sym at)

@@ -1,0 +1,59 @@
+// The worker of one processor.
+ghost use Rattle.std.specs.Prelude.{◌≡◌, ◌<◌, ◌≤◌, OnOk};
+ghost use Rattle.sa_base.specs.declared.limits.TheConstants.{MAX_BURST};
+ghost use Rattle.sa_workers.specs.Worker.{HasWorked, IsThrough, HasRunAhead};
+
+use sa_abstract::UserLevel;
+use sa_gates::Gate;
+use sa_seat::{Entered, Machine, Named, Seat};
+use std::alloc::AllocError;
+use std::sync::Wait;
+
+/// Drives the processor of the seat: runs local instructions ahead, in bursts of at most so many, 1 to 64, arrives at the
+/// gate and enters, until the run has ended or the seat's count is the quota. An entry that dropped a burst is followed by one
+/// without a burst. An error is want of memory.
+pub fn work<U: UserLevel, K: Named, R: Wait, G: Gate>(
+    rt: &R,
+    machine: &Machine<U, K>,
+    seat: &mut Seat<K>,
+    quota: u64,
+    burst: u16,
+    gate: &G,
+) -> Result<(), AllocError>
+    requires some { 1 ≤ burst }
+    requires few { burst ≤ MAX_BURST }
+    ensures worked { HasWorked quota seat.old seat.new }
+    ensures through { OnOk result (IsThrough quota seat.new) }
+{
+    let mut ahead = true;
+    while seat.account().count < quota {
+        if ahead {
+            run_ahead(machine, seat, quota - seat.account().count, burst);
+        }
+        gate.arrive(seat.proc());
+        match machine.enter(rt, seat)? {
+            Entered::Turned(_) => ahead = true,
+            Entered::DroppedLine(_) | Entered::DroppedStart(_, _) => ahead = false,
+            Entered::Ended(_) => return Ok(()),
+        }
+    }
+    Ok(())
+}
+
+// One burst, unless one is pending, of no more instructions than are left of the quota.
+fn run_ahead<U: UserLevel, K: Named>(
+    machine: &Machine<U, K>,
+    seat: &mut Seat<K>,
+    left: u64,
+    burst: u16,
+)
+    requires some { 1 ≤ burst }
+    requires few { burst ≤ MAX_BURST }
+    requires left { 1 ≤ left }
+    ensures { HasRunAhead left seat.old seat.new }
+{
+    if seat.pending() == 0 {
+        let limit = left.min(u64::from(burst)) as u16;
+        seat.burst(machine, limit);
+    }
+}
