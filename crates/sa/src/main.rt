@@ -1,7 +1,8 @@
 //! `sa`: reads a workload from standard input, runs it, and writes its trace to standard output.
 #![tactic(auto)]
 
-use sa_cli::{Status, Words, run_one};
+use sa_cli::{Status, Words, top};
+use sa_gates::FreeGate;
 use sa_io::{StdSink, StdSource};
 use std::env;
 use std::io::{self, ErrorKind};
@@ -13,7 +14,7 @@ fn main(rt: HostRuntime) -> ExitCode {
         Ok(words) => {
             let mut source = StdSource::new(rt.reader());
             let mut sink = StdSink::new(io::writer(&rt));
-            run_one(rt.alloc(), &words, &mut source, &mut sink).status
+            top(&rt, rt.alloc(), &words, &mut source, &mut sink, &FreeGate).status
         }
         Err(status) => status,
     };
@@ -32,14 +33,16 @@ fn read_command_line(rt: &(impl Env + AllocGlobal)) -> Result<Words, Status> {
     Ok(Words::new(list.map_err(|_| Status::OutOfMemory)?))
 }
 
-/// Says on standard error why there is no whole trace.
+/// Says on standard error why the command was not done.
 fn report(rt: &impl Eprint, status: Status) -> io::Result<()> {
     match status {
         Status::Usage => eprintln!(rt; "usage: sa COMMAND [OPTION VALUE]..."),
         Status::BadWorkload(bad) => eprintln!(rt; "bad workload: {bad}"),
+        Status::BadTrace(bad) => eprintln!(rt; "bad trace: {bad}"),
         Status::ReadFault => eprintln!(rt; "read fault"),
         Status::WriteFault => eprintln!(rt; "write fault"),
         Status::OutOfMemory => eprintln!(rt; "out of memory"),
         Status::AllDone | Status::Stuck | Status::Budget | Status::Migrated => Ok(()),
+        Status::Checked | Status::Broken(..) => Ok(()),
     }
 }

@@ -5,13 +5,20 @@ use Rattle.sa_workload.specs.Text.{IsText, IsText1}
 use Rattle.sa_workload.specs.Bad.{BadAt, BadAt1}
 use Rattle.sa_words.specs.declared.command.ScheduleWord.{ScheduleWord}
 use Rattle.sa_words.specs.declared.command.Command.{Command}
-use Rattle.sa_words.specs.declared.command.Command.TheVariants.{Run, Load, Migrate}
+use Rattle.sa_words.specs.declared.command.Command.TheVariants.{Run, Threads, Load, Migrate, Check}
+use Rattle.sa_cli.specs.declared.outcome.Ran.{Ran}
 use Rattle.sa_cli.specs.declared.outcome.Status.{Status}
-use Rattle.sa_cli.specs.declared.outcome.Status.TheVariants.{AllDone, Usage, BadWorkload, Stuck, Budget, ReadFault, WriteFault, OutOfMemory, Migrated}
-use Rattle.sa_cli.specs.Outcome.{HasEnded}
+use Rattle.sa_cli.specs.declared.outcome.Status.TheVariants.{AllDone, Usage, BadWorkload, Stuck, Budget, ReadFault, WriteFault, OutOfMemory, Migrated, Checked, Broken, BadTrace}
+use Rattle.sa_cli.specs.Outcome.{HasEnded, history, status_of_found}
 use Rattle.sa_cli.specs.Answers.{World}
-use Rattle.sa_cli.specs.Commands.{AnswersRun, AnswersLoad, MigrateAnswers, Answers}
-use Rattle.sa_cli.specs.Complete.{NoWriteFailed, Takes, Refuses, IsComplete, IsCompleteTo}
+use Rattle.sa_cli.specs.Commands.{AnswersRun, AnswersLoad, MigrateAnswers, CheckAnswers, Answers}
+use Rattle.sa_cli.specs.Complete.{NoWriteFailed, Takes, Refuses, Finds, IsComplete, IsCompleteTo}
+use Rattle.sa_check.specs.declared.verdict.Verdict.TheVariants.{Legal}
+use Rattle.sa_check.specs.declared.verdict.Verdict.TheVariants as check
+use Rattle.sa_cli.specs.declared.found.Found.TheVariants.{Judged}
+use Rattle.sa_cli.specs.declared.found.Found.TheVariants as two
+use Rattle.sa_cli.proofs.Finds.{told-found_once}
+use Rattle.sa_cli.proofs.SharedResults.{shared-takes, shared-refuses}
 use Rattle.sa_cli.proofs.Inputs.{all-parted, first-parted, told-not_refused, told-refused_once, gave-not_refused}
 
 run-takes : (schedule : ScheduleWord) (budget : ℕ) (old new : World) (items : List Item) (status : Status)
@@ -25,6 +32,9 @@ run-takes schedule budget old new items (BadWorkload bad) answers = λ input w t
 run-takes schedule budget old new items ReadFault answers = λ input w told is short reads writes. absurd (reads answers.0)
 run-takes schedule budget old new items WriteFault answers = λ input w told is short reads writes. absurd (writes answers.0)
 run-takes schedule budget old new items Usage answers = absurd answers
+run-takes schedule budget old new items Checked answers = absurd answers
+run-takes schedule budget old new items (Broken event rule) answers = absurd answers
+run-takes schedule budget old new items (BadTrace bad) answers = absurd answers
 run-takes schedule budget old new items Migrated answers = absurd answers
 
 run-refuses : (schedule : ScheduleWord) (budget : ℕ) (old new : World) (items : List Item) (status : Status)
@@ -42,6 +52,9 @@ run-refuses schedule budget old new items ReadFault answers = λ input bad told 
 run-refuses schedule budget old new items WriteFault answers = λ input bad told refused reads.
     absurd (gave-not_refused IsText BadAt all-parted old.left new.left answers.1.1.workload input bad told answers.1.1.is refused)
 run-refuses schedule budget old new items Usage answers = absurd answers
+run-refuses schedule budget old new items Checked answers = absurd answers
+run-refuses schedule budget old new items (Broken event rule) answers = absurd answers
+run-refuses schedule budget old new items (BadTrace bad) answers = absurd answers
 run-refuses schedule budget old new items Migrated answers = absurd answers
 
 load-ends : (number budget : ℕ) (old new : World) (items : List Item) (status : Status)
@@ -54,6 +67,9 @@ load-ends number budget old new items WriteFault answers writes = absurd (writes
 load-ends number budget old new items (BadWorkload bad) answers writes = absurd answers
 load-ends number budget old new items ReadFault answers writes = absurd answers
 load-ends number budget old new items Usage answers writes = absurd answers
+load-ends number budget old new items Checked answers writes = absurd answers
+load-ends number budget old new items (Broken event rule) answers writes = absurd answers
+load-ends number budget old new items (BadTrace bad) answers writes = absurd answers
 load-ends number budget old new items Migrated answers writes = absurd answers
 
 migrate-takes : (slice : ℕ) (old new : World) (status : Status)
@@ -68,6 +84,9 @@ migrate-takes slice old new AllDone answers = absurd answers
 migrate-takes slice old new Stuck answers = absurd answers
 migrate-takes slice old new Budget answers = absurd answers
 migrate-takes slice old new Usage answers = absurd answers
+migrate-takes slice old new Checked answers = absurd answers
+migrate-takes slice old new (Broken event rule) answers = absurd answers
+migrate-takes slice old new (BadTrace bad) answers = absurd answers
 
 migrate-refuses : (slice : ℕ) (old new : World) (status : Status)
     → MigrateAnswers slice old new status → Refuses BadAt1 old new status
@@ -83,16 +102,40 @@ migrate-refuses slice old new AllDone answers = absurd answers
 migrate-refuses slice old new Stuck answers = absurd answers
 migrate-refuses slice old new Budget answers = absurd answers
 migrate-refuses slice old new Usage answers = absurd answers
+migrate-refuses slice old new Checked answers = absurd answers
+migrate-refuses slice old new (Broken event rule) answers = absurd answers
+migrate-refuses slice old new (BadTrace bad) answers = absurd answers
 
-answers-complete : (command : Command) (old new : World) (items : List Item) (status : Status)
-    → Answers command old new items status → IsComplete command old new status
-answers-complete (Run schedule budget) old new items status answers =
-    (run-takes schedule budget old new items status answers, run-refuses schedule budget old new items status answers)
-answers-complete (Load number budget) old new items status answers = load-ends number budget old new items status answers
-answers-complete (Migrate slice) old new items status answers =
+check-finds : (old new : World) (status : Status) → CheckAnswers old new status → Finds old new status
+check-finds old new Checked answers = λ input found told is reads writes.
+    inl (ap status_of_found (told-found_once old.left input (Judged Legal) found told answers.gave.told is))
+check-finds old new (Broken event rule) answers = λ input found told is reads writes.
+    inl (ap status_of_found (told-found_once old.left input (Judged (check.Broken event rule)) found told answers.gave.told is))
+check-finds old new (BadWorkload bad) answers = λ input found told is reads writes.
+    inl (ap status_of_found (told-found_once old.left input (two.BadWorkload bad) found told answers.told is))
+check-finds old new (BadTrace bad) answers = λ input found told is reads writes.
+    inl (ap status_of_found (told-found_once old.left input (two.BadTrace bad) found told answers.told is))
+check-finds old new OutOfMemory answers = λ input found told is reads writes. inr refl
+check-finds old new ReadFault answers = λ input found told is reads writes. absurd (reads answers)
+check-finds old new WriteFault answers = λ input found told is reads writes. absurd (writes answers.0)
+check-finds old new AllDone answers = absurd answers
+check-finds old new Stuck answers = absurd answers
+check-finds old new Budget answers = absurd answers
+check-finds old new Usage answers = absurd answers
+check-finds old new Migrated answers = absurd answers
+
+answers-complete : (command : Command) (old new : World) (ran : Ran) (status : Status)
+    → Answers command old new ran status → IsComplete command old new status
+answers-complete (Run schedule budget) old new ran status answers =
+    (run-takes schedule budget old new (history ran) status answers, run-refuses schedule budget old new (history ran) status answers)
+answers-complete (Threads budget burst) old new ran status answers =
+    (shared-takes budget old new ran status answers, shared-refuses budget old new ran status answers)
+answers-complete (Load number budget) old new ran status answers = load-ends number budget old new (history ran) status answers
+answers-complete (Migrate slice) old new ran status answers =
     (migrate-takes slice old new status answers.1, migrate-refuses slice old new status answers.1)
+answers-complete Check old new ran status answers = check-finds old new status answers.1
 
-pub complete-to : (o : Option Command) (command : Command) (old new : World) (items : List Item) (status : Status) → o ≡ Some command
-    → Answers command old new items status → IsCompleteTo o old new status
-complete-to o command old new items status is answers =
-    subst (λ (v : Option Command). IsCompleteTo v old new status) (sym is) (answers-complete command old new items status answers)
+pub complete-to : (o : Option Command) (command : Command) (old new : World) (ran : Ran) (status : Status) → o ≡ Some command
+    → Answers command old new ran status → IsCompleteTo o old new status
+complete-to o command old new ran status is answers =
+    subst (λ (v : Option Command). IsCompleteTo v old new status) (sym is) (answers-complete command old new ran status answers)

@@ -1,5 +1,8 @@
 mod Told
 mod Refusals
 mod Inputs
+mod Parts
+mod Finds
 mod Results
+mod SharedResults
 mod Completeness

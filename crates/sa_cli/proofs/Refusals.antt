@@ -1,24 +1,46 @@
--- Why an input is refused that is too long.
-use Rattle.std.proofs.Common.{◌≡◌, ℕ, ◌+◌, ◌<◌, List, length, take, Option, Some, None, sym, ap, ◌∙◌, arith, inl, length-append}
-use Rattle.std.specs.Prelude.{count_by, ◌==◌}
-use Rattle.std.proofs.lemmas.List.{take-append-le}
-use Rattle.std.specs.Io.KnownBytes.{Consumes}
+-- What an input is refused with that is too long.
+use Rattle.std.proofs.Common.{◌≡◌, ℕ, ◌+◌, ◌≤◌, List, ◌++◌, length, Option, Some, None, sym, ap, ◌∙◌, arith, inl, inr, refl, subst, length-append}
+use Rattle.std.specs.Prelude.{count_by, ◌==◌, Result, Ok, Err, IfErr, IsErrAnd}
+use Rattle.std.proofs.lemmas.List.{take-append-le, append-nil}
 use Rattle.sa_base.specs.Cause.{bad_at}
 use Rattle.sa_base.specs.declared.refusal.Cause.TheVariants.{TooMany}
 use Rattle.sa_base.specs.declared.refusal.Bad.{Bad}
+use Rattle.sa_base.specs.declared.refusal.Unread.{Unread}
+use Rattle.sa_base.specs.declared.refusal.Unread.TheVariants as unread
+use Rattle.sa_workload.specs.Answer.{IfBad}
+use Rattle.sa_cli.specs.declared.outcome.Status.{Status}
+use Rattle.sa_cli.specs.Outcome.{status_of_unread}
 use Rattle.sa_cli.specs.declared.input.TheConstants.{INPUT_LIMIT}
-use Rattle.sa_cli.specs.Refusals.{Badness, IsRefused, too_long}
+use Rattle.sa_cli.specs.Refusals.{Badness, IsInputRefused, IsRefused, NothingRead, too_long}
+use Rattle.sa_cli.specs.Input.{ReadsInput}
 
--- what was read of an input that is too long shows the line
-pub long-refused : (is_bad : Badness) (before after : Option (List ℕ)) (bytes : List ℕ) (bad : Bad) → Consumes before after bytes
-    → INPUT_LIMIT < length bytes → bad ≡ too_long bytes → IsRefused is_bad before bad
+-- the line is told by what stands before the limit
+pub long-front : (limit : ℕ) (bytes more : List ℕ) → limit ≤ length bytes → too_long limit (bytes ++ more) ≡ too_long limit bytes
 unfolding too_long
-long-refused is_bad None after bytes bad taken long is = tt
-long-refused is_bad (Some xs) None bytes bad taken long is = absurd taken
-long-refused is_bad (Some xs) (Some ys) bytes bad taken long is =
-    let front : take INPUT_LIMIT xs ≡ take INPUT_LIMIT bytes =
-    ap (take INPUT_LIMIT) taken ∙ take-append-le INPUT_LIMIT bytes ys (omega (arith, long)) in
+long-front limit bytes more long =
+    ap (λ (v : List ℕ). bad_at (count_by (λ b. b == 10) v + 1) TooMany) (take-append-le limit bytes more long)
+
+-- an input that was read, and is refused as it was read, is refused
+pub read-refused : (is_bad : Badness) (before after : Option (List ℕ)) (bytes : List ℕ) (bad : Bad) → ReadsInput INPUT_LIMIT before after bytes
+    → IsInputRefused is_bad bytes bad → IsRefused is_bad before bad
+read-refused is_bad None after bytes bad reads refused = tt
+read-refused is_bad (Some xs) None bytes bad reads refused = absurd reads.taken
+read-refused is_bad (Some xs) (Some ys) bytes bad reads (inl long) =
+    let more = length-append bytes ys in
+    let len = ap length reads.taken in
     inl (
-      omega (arith, long, ap length taken, length-append bytes ys),
-      is ∙ sym (ap (λ (v : List ℕ). bad_at (count_by (λ b. b == 10) v + 1) TooMany) front),
+      omega arith,
+      long.1 ∙ sym (ap (too_long INPUT_LIMIT) reads.taken ∙ long-front INPUT_LIMIT bytes ys (omega (arith, long.0))),
     )
+read-refused is_bad (Some xs) (Some ys) bytes bad reads (inr wrong) =
+    let same : bytes ≡ xs = sym (reads.taken ∙ ap (λ v. bytes ++ v) (reads.end refl wrong.0) ∙ append-nil bytes) in
+    let P : List ℕ → Type 0 = λ v. IsInputRefused is_bad v bad in subst P same (inr wrong)
+
+pub unread-refused : {A : Type 0} (is_bad : Badness) (before after : Option (List ℕ)) (bytes : List ℕ) (old new : ℕ) (why : Unread) (result : Result A Status)
+    → ReadsInput INPUT_LIMIT before after bytes → IfBad why (IsInputRefused is_bad bytes)
+    → IsErrAnd result (λ (status : Status). status ≡ status_of_unread why) → IfErr result (NothingRead is_bad before old new)
+unread-refused is_bad before after bytes old new why (Ok x) reads refused is = absurd is
+unread-refused is_bad before after bytes old new (unread.Bad bad) (Err status) reads refused is =
+    subst (λ (s : Status). NothingRead is_bad before old new s) (sym is) (read-refused is_bad before after bytes bad reads refused)
+unread-refused is_bad before after bytes old new unread.OutOfMemory (Err status) reads refused is =
+    subst (λ (s : Status). NothingRead is_bad before old new s) (sym is) tt

@@ -1,5 +1,5 @@
 -- What the parts of a command say together.
-use Rattle.std.proofs.Common.{◌≡◌, ◌⊎◌, ℕ, List, [], Option, Some, None, refl, sym, subst, ◌∙◌, inl, inr}
+use Rattle.std.proofs.Common.{◌≡◌, ℕ, List, [], Option, Some, None, refl, sym, subst, ◌∙◌, inl, inr}
 use Rattle.std.specs.Prelude.{◌↔◌}
 use Rattle.sa_base.specs.Recorded.{Recorded}
 use Rattle.sa_base.specs.declared.record.Item.{Item}
@@ -13,16 +13,16 @@ use Rattle.sa_run.specs.Run.{RunsTo}
 use Rattle.sa_run.proofs.SoFar.{so-far}
 use Rattle.sa_words.specs.declared.command.ScheduleWord.{ScheduleWord}
 use Rattle.sa_words.specs.declared.command.Command.{Command}
-use Rattle.sa_words.specs.declared.command.Command.TheVariants.{Run, Load, Migrate}
+use Rattle.sa_words.specs.declared.command.Command.TheVariants.{Run, Threads, Load, Migrate, Check}
 use Rattle.sa_cli.specs.declared.outcome.Status.{Status}
-use Rattle.sa_cli.specs.declared.outcome.Status.TheVariants.{AllDone, Usage, BadWorkload, Stuck, Budget, ReadFault, WriteFault, OutOfMemory, Migrated}
+use Rattle.sa_cli.specs.declared.outcome.Status.TheVariants.{AllDone, Usage, BadWorkload, Stuck, Budget, ReadFault, WriteFault, OutOfMemory, Migrated, Checked, Broken, BadTrace}
 use Rattle.sa_cli.specs.declared.outcome.Ran.{Ran}
 use Rattle.sa_cli.specs.declared.outcome.Ran.TheVariants.{Plain}
 use Rattle.sa_cli.specs.Outcome.{status_of_end, history}
 use Rattle.sa_cli.specs.Input.{GaveText, GaveSliced}
 use Rattle.sa_cli.specs.Refusals.{NothingRead}
-use Rattle.sa_cli.specs.Answers.{World, Plan, Ended, RunAnswers, TookAll, TookSome, Writes, WritesOrStops}
-use Rattle.sa_cli.specs.Commands.{run_plan, AnswersRun, MigrateAnswers, Migrates, Answers, AnswersTo}
+use Rattle.sa_cli.specs.Answers.{World, Plan, Ended, RunAnswers, TookAll, Writes, WritesOrStops}
+use Rattle.sa_cli.specs.Commands.{run_plan, AnswersRun, MigrateAnswers, Answers, AnswersTo}
 
 -- where nothing was read, nothing ran
 pub nothing-run : (schedule : ScheduleWord) (budget : ℕ) (old new : World) (status : Status)
@@ -36,6 +36,9 @@ nothing-run schedule budget old new Stuck cause = absurd cause
 nothing-run schedule budget old new Budget cause = absurd cause
 nothing-run schedule budget old new WriteFault cause = absurd cause
 nothing-run schedule budget old new Migrated cause = absurd cause
+nothing-run schedule budget old new Checked cause = absurd cause
+nothing-run schedule budget old new (Broken event rule) cause = absurd cause
+nothing-run schedule budget old new (BadTrace bad) cause = absurd cause
 
 -- what a run answers, `run` answers
 pub run-answers : (schedule : ScheduleWord) (budget : ℕ) (old new : World) (items : List Item) (status : Status)
@@ -50,6 +53,9 @@ run-answers schedule budget old new items Usage answers = answers
 run-answers schedule budget old new items Migrated answers = answers
 run-answers schedule budget old new items ReadFault answers = absurd answers
 run-answers schedule budget old new items (BadWorkload bad) answers = absurd answers
+run-answers schedule budget old new items Checked answers = absurd answers
+run-answers schedule budget old new items (Broken event rule) answers = absurd answers
+run-answers schedule budget old new items (BadTrace bad) answers = absurd answers
 
 -- a run that ended was written, or cut, or memory ran out
 module _ (mine : WorkloadView → Type 0) (plan : Plan) (old new : World) where
@@ -93,6 +99,9 @@ nothing-migrated slice old new Stuck cause = absurd cause
 nothing-migrated slice old new Budget cause = absurd cause
 nothing-migrated slice old new WriteFault cause = absurd cause
 nothing-migrated slice old new Migrated cause = absurd cause
+nothing-migrated slice old new Checked cause = absurd cause
+nothing-migrated slice old new (Broken event rule) cause = absurd cause
+nothing-migrated slice old new (BadTrace bad) cause = absurd cause
 
 pub migrated-answers : (slice : ℕ) (old new : World) (text : List ℕ) (status : Status) → GaveSliced slice old.left new.left text
     → Writes old.taken new.taken old.writes new.writes text Migrated status → MigrateAnswers slice old new status
@@ -102,20 +111,22 @@ migrated-answers slice old new text status gave (inr cut) =
     subst (λ (v : Status). MigrateAnswers slice old new v) (sym cut.0) (cut.1, record { text = text; gave = gave; went = cut.2 })
 
 -- what a command answers is what the words are answered
-pub answers-to : (o : Option Command) (command : Command) (old new : World) (items : List Item) (status : Status) → o ≡ Some command
-    → Answers command old new items status → AnswersTo o old new items status
-answers-to o command old new items status is answers =
-    subst (λ (v : Option Command). AnswersTo v old new items status) (sym is) answers
+pub answers-to : (o : Option Command) (command : Command) (old new : World) (ran : Ran) (status : Status) → o ≡ Some command
+    → Answers command old new ran status → AnswersTo o old new ran status
+answers-to o command old new ran status is answers =
+    subst (λ (v : Option Command). AnswersTo v old new ran status) (sym is) answers
 
 -- no command is answered as words that are none
-not-usage : (command : Command) (old new : World) (items : List Item) → Answers command old new items Usage → ⊥
-not-usage (Run schedule budget) old new items answers = answers
-not-usage (Load number budget) old new items answers = answers
-not-usage (Migrate slice) old new items answers = answers.1
+not-usage : (command : Command) (old new : World) (ran : Ran) → Answers command old new ran Usage → ⊥
+not-usage (Run schedule budget) old new ran answers = answers
+not-usage (Threads budget burst) old new ran answers = answers
+not-usage (Load number budget) old new ran answers = answers
+not-usage (Migrate slice) old new ran answers = answers.1
+not-usage Check old new ran answers = answers.1
 
-pub is-no-usage : (o : Option Command) (command : Command) (old new : World) (items : List Item) (status : Status) → o ≡ Some command
-    → Answers command old new items status → (status ≡ Usage) ↔ (o ≡ None)
-is-no-usage o command old new items status is answers = (
-  λ usage. absurd (not-usage command old new items (subst (λ (v : Status). Answers command old new items v) usage answers)),
+pub is-no-usage : (o : Option Command) (command : Command) (old new : World) (ran : Ran) (status : Status) → o ≡ Some command
+    → Answers command old new ran status → (status ≡ Usage) ↔ (o ≡ None)
+is-no-usage o command old new ran status is answers = (
+  λ usage. absurd (not-usage command old new ran (subst (λ (v : Status). Answers command old new ran v) usage answers)),
   λ none. let e : Some command ≡ None = sym is ∙ none in cc,
 )

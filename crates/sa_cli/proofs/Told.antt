@@ -7,20 +7,19 @@ use Rattle.std.proofs.KnownBytes.{Appends-trans, Consumes-trans}
 use Rattle.std.specs.Prelude.{IfSome, ◌↔◌, Result, Ok, Err, OnErr}
 use Rattle.std.specs.Io.KnownBytes.{Appends, Consumes}
 use Rattle.sa_io.specs.Faults.{AppendsPrefix}
-use Rattle.sa_cli.specs.declared.input.TheConstants.{INPUT_LIMIT}
 use Rattle.sa_cli.specs.Input.{ReadsInput, LosesPrefix}
 
 -- a read of nothing ends the input
-pub end-of-input : (before at after : Option (List ℕ)) (bytes piece : List ℕ) (n : ℕ) → n ≡ 0 → length bytes ≤ INPUT_LIMIT + 1
+pub end-of-input : (limit : ℕ) (before at after : Option (List ℕ)) (bytes piece : List ℕ) (n : ℕ) → n ≡ 0 → length bytes ≤ limit + 1
     → Consumes before at bytes → Consumes at after (take n piece) → IfSome at (λ xs. (n ≡ 0) ↔ (xs ≡ []))
-    → ReadsInput before after bytes
-end-of-input None at after bytes piece n none within taken nothing end =
-    record { taken = tt; end = λ told. absurd (false≢true told); limit = within }
-end-of-input (Some xs) None after bytes piece n none within taken nothing end = absurd taken
-end-of-input (Some xs) (Some ys) None bytes piece n none within taken nothing end = absurd nothing
-end-of-input (Some xs) (Some ys) (Some zs) bytes piece n none within taken nothing end =
+    → ReadsInput limit before after bytes
+end-of-input limit None at after bytes piece n none within taken nothing end =
+    record { taken = tt; end = λ told. absurd (false≢true told); limited = within }
+end-of-input limit (Some xs) None after bytes piece n none within taken nothing end = absurd taken
+end-of-input limit (Some xs) (Some ys) None bytes piece n none within taken nothing end = absurd nothing
+end-of-input limit (Some xs) (Some ys) (Some zs) bytes piece n none within taken nothing end =
     let same : ys ≡ zs = nothing ∙ ap (λ k. take k piece ++ zs) none in
-    record { taken = taken ∙ ap (λ v. bytes ++ v) same; end = λ told short. sym same ∙ end.0 none; limit = within }
+    record { taken = taken ∙ ap (λ v. bytes ++ v) same; end = λ told short. sym same ∙ end.0 none; limited = within }
 
 -- what was lost before a read that gave more
 pub lost-more : (before at after : Option (List ℕ)) (bytes more : List ℕ) → Consumes before at bytes → Consumes at after more → LosesPrefix before after

@@ -9,13 +9,24 @@ use Rattle.sa_workload.specs.Text.{IsText}
 use Rattle.sa_workload.specs.Bad.{BadAt, BadAt1}
 use Rattle.sa_words.specs.declared.command.ScheduleWord.{ScheduleWord}
 use Rattle.sa_words.specs.declared.command.Command.{Command}
-use Rattle.sa_words.specs.declared.command.Command.TheVariants.{Run, Load, Migrate}
+use Rattle.sa_words.specs.declared.command.Command.TheVariants.{Run, Threads, Load, Migrate, Check}
+use Rattle.sa_cli.specs.declared.outcome.Ran.{Ran}
+use Rattle.sa_cli.specs.declared.outcome.Ran.TheVariants.{Nothing}
 use Rattle.sa_cli.specs.declared.outcome.Status.{Status}
-use Rattle.sa_cli.specs.declared.outcome.Status.TheVariants.{BadWorkload, ReadFault, WriteFault, OutOfMemory, Migrated}
+use Rattle.sa_cli.specs.declared.outcome.Status.TheVariants.{BadWorkload, ReadFault, WriteFault, OutOfMemory, Migrated, Checked, Broken, BadTrace}
+use Rattle.sa_cli.specs.Outcome.{history}
 use Rattle.sa_cli.specs.Input.{GaveText, GaveSliced}
 use Rattle.sa_cli.specs.Refusals.{IsRefused}
+use Rattle.sa_check.specs.declared.verdict.Verdict.{Verdict}
+use Rattle.sa_check.specs.declared.verdict.Verdict.TheVariants.{Legal}
+use Rattle.sa_check.specs.declared.verdict.Verdict.TheVariants as check
+use Rattle.sa_check.specs.Line.{line_of}
+use Rattle.sa_cli.specs.declared.found.Found.TheVariants.{Judged}
+use Rattle.sa_cli.specs.declared.found.Found.TheVariants as found
+use Rattle.sa_cli.specs.Texts.{GaveFound}
 use Rattle.sa_cli.specs.Schedules.{order_by}
 use Rattle.sa_cli.specs.Answers.{World, Plan, RunAnswers, TookAll, TookSome}
+use Rattle.sa_cli.specs.Shared.{AnswersThreads}
 
 -- `run`: the workload is that of which the source gave the text, and the whole trace text is written
 abbrev pub run_plan : ScheduleWord → ℕ → Plan
@@ -48,12 +59,30 @@ MigrateAnswers slice old new WriteFault = HasRisen old.writes new.writes × Migr
 MigrateAnswers slice old new OutOfMemory = ⊤
 MigrateAnswers slice old new other = ⊥
 
-abbrev pub Answers : Command → World → World → List Item → Status → Type 0
-Answers (Run schedule budget) old new items status = AnswersRun schedule budget old new items status
-Answers (Load number budget) old new items status = AnswersLoad number budget old new items status
-Answers (Migrate slice) old new items status = (items ≡ []) × MigrateAnswers slice old new status
+-- `check`: the source gave two texts, and the line of the verdict is written; or one of them is refused
+pub record Judges (old new : World) (verdict : Verdict) (goes : List ℕ → Type 0) : Type 0 where
+  pub gave : GaveFound old.left new.left (Judged verdict)
+  pub went : goes (line_of verdict)
+
+abbrev pub CheckAnswers : World → World → Status → Type 0
+CheckAnswers old new ReadFault = HasRisen old.reads new.reads
+CheckAnswers old new (BadWorkload bad) = GaveFound old.left new.left (found.BadWorkload bad)
+CheckAnswers old new (BadTrace bad) = GaveFound old.left new.left (found.BadTrace bad)
+CheckAnswers old new Checked = Judges old new Legal (TookAll old new)
+CheckAnswers old new (Broken event rule) = Judges old new (check.Broken event rule) (TookAll old new)
+CheckAnswers old new WriteFault = HasRisen old.writes new.writes × ((v : Verdict) × Judges old new v (TookSome old new))
+CheckAnswers old new OutOfMemory = ⊤
+CheckAnswers old new other = ⊥
+
+-- .. by what ran and the status
+abbrev pub Answers : Command → World → World → Ran → Status → Type 0
+Answers (Run schedule budget) old new ran status = AnswersRun schedule budget old new (history ran) status
+Answers (Threads budget burst) old new ran status = AnswersThreads budget old new ran status
+Answers (Load number budget) old new ran status = AnswersLoad number budget old new (history ran) status
+Answers (Migrate slice) old new ran status = (ran ≡ Nothing) × MigrateAnswers slice old new status
+Answers Check old new ran status = (ran ≡ Nothing) × CheckAnswers old new status
 
 -- the same, where the words are a command
-abbrev pub AnswersTo : Option Command → World → World → List Item → Status → Type 0
-AnswersTo None old new items status = ⊤
-AnswersTo (Some command) old new items status = Answers command old new items status
+abbrev pub AnswersTo : Option Command → World → World → Ran → Status → Type 0
+AnswersTo None old new ran status = ⊤
+AnswersTo (Some command) old new ran status = Answers command old new ran status

@@ -6,13 +6,15 @@ use Rattle.sa_io.specs.Faults.{HasRisen}
 use Rattle.sa_workload.specs.Text.{IsText, IsText1}
 use Rattle.sa_workload.specs.Bad.{BadAt, BadAt1}
 use Rattle.sa_words.specs.declared.command.Command.{Command}
-use Rattle.sa_words.specs.declared.command.Command.TheVariants.{Run, Load, Migrate}
+use Rattle.sa_words.specs.declared.command.Command.TheVariants.{Run, Threads, Load, Migrate, Check}
 use Rattle.sa_cli.specs.declared.outcome.Status.{Status}
 use Rattle.sa_cli.specs.declared.outcome.Status.TheVariants.{BadWorkload, OutOfMemory, Migrated}
 use Rattle.sa_cli.specs.declared.input.TheConstants.{INPUT_LIMIT}
 use Rattle.sa_cli.specs.Input.{Texts}
 use Rattle.sa_cli.specs.Refusals.{Badness, IsInputRefused}
-use Rattle.sa_cli.specs.Outcome.{HasEnded}
+use Rattle.sa_cli.specs.declared.found.Found.{Found}
+use Rattle.sa_cli.specs.Texts.{IsFound}
+use Rattle.sa_cli.specs.Outcome.{HasEnded, status_of_found}
 use Rattle.sa_cli.specs.Answers.{World}
 
 abbrev pub NoReadFailed : World → World → Type 0
@@ -33,10 +35,18 @@ Refuses is_bad old new status =
     (input : List ℕ) (bad : Bad) → old.left ≡ Some input → IsInputRefused is_bad input bad
     → NoReadFailed old new → (status ≡ BadWorkload bad) ⊎ (status ≡ OutOfMemory)
 
+-- two texts are answered with what they are found to be, unless memory runs out
+abbrev pub Finds : World → World → Status → Type 0
+Finds old new status =
+    (input : List ℕ) (found : Found) → old.left ≡ Some input → IsFound input found
+    → NoReadFailed old new → NoWriteFailed old new → (status ≡ status_of_found found) ⊎ (status ≡ OutOfMemory)
+
 abbrev pub IsComplete : Command → World → World → Status → Type 0
 IsComplete (Run schedule budget) old new status = Takes IsText old new status (HasEnded status) × Refuses BadAt old new status
+IsComplete (Threads budget burst) old new status = Takes IsText old new status (HasEnded status) × Refuses BadAt old new status
 IsComplete (Load number budget) old new status = NoWriteFailed old new → HasEnded status ⊎ (status ≡ OutOfMemory)
 IsComplete (Migrate slice) old new status = Takes IsText1 old new status (status ≡ Migrated) × Refuses BadAt1 old new status
+IsComplete Check old new status = Finds old new status
 
 abbrev pub IsCompleteTo : Option Command → World → World → Status → Type 0
 IsCompleteTo None old new status = ⊤

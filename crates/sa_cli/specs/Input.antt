@@ -7,10 +7,10 @@ use Rattle.sa_cli.specs.declared.input.TheConstants.{INPUT_LIMIT}
 
 -- The bytes were taken from the source: all that it had, or one more than the limit. A source that does not
 -- tell what it has claims nothing.
-pub record ReadsInput (before after : Option (List ℕ)) (bytes : List ℕ) : Type 0 where
+pub record ReadsInput (limit : ℕ) (before after : Option (List ℕ)) (bytes : List ℕ) : Type 0 where
   pub taken : Consumes before after bytes
-  pub end : IsSome before → length bytes ≤ INPUT_LIMIT → IsAtEnd after
-  pub limit : length bytes ≤ INPUT_LIMIT + 1
+  pub end : IsSome before → length bytes ≤ limit → IsAtEnd after
+  pub limited : length bytes ≤ limit + 1
 
 -- The source lost some bytes at its front, or none.
 abbrev pub LosesPrefix : Option (List ℕ) → Option (List ℕ) → Type 0

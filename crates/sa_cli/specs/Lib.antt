@@ -1,7 +1,9 @@
 pub mod Input
 pub mod Outcome
 pub mod Refusals
+pub mod Texts
 pub mod Schedules
 pub mod Answers
 pub mod Commands
 pub mod Complete
+pub mod Shared

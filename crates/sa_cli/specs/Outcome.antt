@@ -6,11 +6,17 @@ use Rattle.sa_base.specs.declared.record.Item.{Item}
 use Rattle.sa_base.specs.declared.record.End.{End}
 use Rattle.sa_base.specs.declared.record.End.TheVariants as end
 use Rattle.sa_cli.specs.declared.outcome.Status.{Status}
-use Rattle.sa_cli.specs.declared.outcome.Status.TheVariants.{AllDone, Usage, BadWorkload, Stuck, Budget, ReadFault, WriteFault, OutOfMemory, Migrated}
+use Rattle.sa_cli.specs.declared.outcome.Status.TheVariants.{AllDone, Usage, BadWorkload, Stuck, Budget, ReadFault, WriteFault, OutOfMemory, Migrated, Checked, Broken, BadTrace}
 use Rattle.sa_cli.specs.declared.input.ReadError.{ReadError}
 use Rattle.sa_cli.specs.declared.input.ReadError.TheVariants as read
+use Rattle.sa_check.specs.declared.verdict.Verdict.{Verdict}
+use Rattle.sa_check.specs.declared.verdict.Verdict.TheVariants.{Legal}
+use Rattle.sa_check.specs.declared.verdict.Verdict.TheVariants as check
+use Rattle.sa_cli.specs.declared.found.Found.{Found}
+use Rattle.sa_cli.specs.declared.found.Found.TheVariants.{Judged}
+use Rattle.sa_cli.specs.declared.found.Found.TheVariants as found
 use Rattle.sa_cli.specs.declared.outcome.Ran.{Ran}
-use Rattle.sa_cli.specs.declared.outcome.Ran.TheVariants.{Nothing, Plain}
+use Rattle.sa_cli.specs.declared.outcome.Ran.TheVariants.{Nothing, Plain, Shared}
 
 -- the exit status of the program
 abbrev pub code_of : Status → ℕ
@@ -23,6 +29,9 @@ code_of ReadFault = 5
 code_of WriteFault = 6
 code_of OutOfMemory = 7
 code_of Migrated = 0
+code_of Checked = 0
+code_of (Broken event rule) = 8
+code_of (BadTrace bad) = 9
 
 -- the status of an input that was not read
 abbrev pub status_of : ReadError → Status
@@ -40,10 +49,21 @@ status_of_end end.AllDone = AllDone
 status_of_end end.Stuck = Stuck
 status_of_end end.Budget = Budget
 
+-- the status of a verdict that was written, and of what an input of two texts is found to be
+abbrev pub status_of_verdict : Verdict → Status
+status_of_verdict Legal = Checked
+status_of_verdict (check.Broken event rule) = Broken event rule
+
+abbrev pub status_of_found : Found → Status
+status_of_found (Judged verdict) = status_of_verdict verdict
+status_of_found (found.BadWorkload bad) = BadWorkload bad
+status_of_found (found.BadTrace bad) = BadTrace bad
+
 -- the history of the machine that ran, empty where none did
 abbrev pub history : Ran → List Item
 history Nothing = []
 history (Plain trace) = trace.items
+history (Shared closed) = closed.items
 
 -- the statuses of a run that ended and was written
 abbrev pub HasEnded : Status → Type 0
@@ -56,6 +76,7 @@ HasEnded other = ⊥
 abbrev pub WritesNothing : Status → Type 0
 WritesNothing Usage = ⊤
 WritesNothing (BadWorkload bad) = ⊤
+WritesNothing (BadTrace bad) = ⊤
 WritesNothing ReadFault = ⊤
 WritesNothing OutOfMemory = ⊤
 WritesNothing other = ⊥

@@ -12,14 +12,14 @@ use Rattle.sa_cli.specs.declared.input.TheConstants.{INPUT_LIMIT}
 abbrev pub Badness : Type 1
 Badness = List ℕ → ℕ → ℕ → Type 0
 
--- what an input is refused with that is longer than the limit: it is too much in the line of the first byte past it
-unfoldable pub too_long : List ℕ → Bad
-too_long input = bad_at (count_by (λ b. b == 10) (take INPUT_LIMIT input) + 1) TooMany
+-- what an input is refused with that is longer than a limit: it is too much in the line of the first byte past it
+unfoldable pub too_long : ℕ → List ℕ → Bad
+too_long limit input = bad_at (count_by (λ b. b == 10) (take limit input) + 1) TooMany
 
 -- the refusal of an input: it is too long, or else it is bad so
 abbrev pub IsInputRefused : Badness → List ℕ → Bad → Type 0
 IsInputRefused is_bad input bad =
-    ((INPUT_LIMIT < length input) × (bad ≡ too_long input))
+    ((INPUT_LIMIT < length input) × (bad ≡ too_long INPUT_LIMIT input))
     ⊎ ((length input ≤ INPUT_LIMIT) × is_bad input bad.line bad.why)
 
 -- the same, where the source tells its input

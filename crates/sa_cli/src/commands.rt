@@ -5,11 +5,12 @@ ghost use Rattle.sa_cli.specs.Input.{LosesPrefix};
 ghost use Rattle.sa_cli.specs.Outcome.{history, WritesNothing};
 ghost use Rattle.sa_cli.specs.Schedules.{order_by};
 ghost use Rattle.sa_cli.specs.Answers.{World, world};
-ghost use Rattle.sa_cli.specs.Commands.{AnswersRun, AnswersLoad, MigrateAnswers};
+ghost use Rattle.sa_cli.specs.Commands.{AnswersRun, AnswersLoad, MigrateAnswers, CheckAnswers};
 
+use crate::found::{Found, read_found};
 use crate::outcome::{Outcome, Status};
 use crate::reading::{migrated_text, read_workload};
-use crate::writing::{write_last_line, write_trace, written};
+use crate::writing::{write_last_line, write_trace, write_verdict, written};
 use sa_base::MAX_EVENTS;
 use sa_instr::MAX_SLICE;
 use sa_io::{Sink, Source};
@@ -98,6 +99,26 @@ pub(crate) fn migrate<S: Source, K: Sink>(
     match migrated_text(alloc, slice, source) {
         Ok(text) => written(sink, &text, Status::Migrated),
         Err(status) => status,
+    }
+}
+
+/// `check`: the trace of the source, which stands behind its workload; writes the verdict.
+pub(crate) fn check_texts<S: Source, K: Sink>(alloc: Global, source: &mut S, sink: &mut K) -> Status
+    ensures unwritten { WritesNothing result → sink.new ≡ sink.old }
+    ensures lost { LosesPrefix (S.left source.old) (S.left source.new) }
+    ensures reads_counted { S.faults source.old ≤ S.faults source.new }
+    ensures writes_counted { K.faults sink.old ≤ K.faults sink.new }
+    ensures answers { let before : World
+        = world (S.left source.old) (K.taken sink.old) (S.faults source.old) (K.faults sink.old) in
+        let after : World
+        = world (S.left source.new) (K.taken sink.new) (S.faults source.new) (K.faults sink.new) in
+        CheckAnswers before after result }
+{
+    match read_found(alloc, source) {
+        Ok(Found::Judged(verdict)) => write_verdict(alloc, verdict, sink),
+        Ok(Found::BadWorkload(bad)) => Status::BadWorkload(bad),
+        Ok(Found::BadTrace(bad)) => Status::BadTrace(bad),
+        Err(error) => Status::from(error),
     }
 }
 

@@ -7,8 +7,11 @@ ghost use Rattle.sa_cli.specs.declared.input.ReadError.TheVariants.{Fault, OutOf
 use sa_io::{Failed, Source};
 use std::alloc::{AllocError, Global};
 
-/// The longest input that is read whole, in bytes.
+/// The longest workload text that is read, in bytes.
 pub const INPUT_LIMIT: usize = 1_048_576;
+
+/// The longest input of a workload text and a trace text, in bytes.
+pub const TEXTS_LIMIT: usize = 134_217_728;
 
 /// How many bytes are read at once at most, and how many are written; the last piece is the rest.
 pub(crate) const PIECE: usize = 4_096;
@@ -38,9 +41,14 @@ impl From<AllocError> for ReadError {
 
 /// Reads the source to its end, or until one byte more than the limit was got. Whatever it answers, the
 /// source has lost the bytes that were got, and no others.
-pub fn read_input<S: Source>(alloc: Global, source: &mut S) -> Result<Vec<u8>, ReadError>
+pub fn read_input<S: Source>(
+    alloc: Global,
+    limit: usize,
+    source: &mut S,
+) -> Result<Vec<u8>, ReadError>
+    requires { limit ≤ TEXTS_LIMIT }
     ensures input { IfOk result
-        (λ bytes. ReadsInput (S.left source.old) (S.left source.new) bytes.items) }
+        (λ bytes. ReadsInput limit (S.left source.old) (S.left source.new) bytes.items) }
     ensures fault { IsErrOf result ReadError.Fault
         → HasRisen (S.faults source.old) (S.faults source.new) }
     ensures lost { LosesPrefix (S.left source.old) (S.left source.new) }
@@ -48,8 +56,8 @@ pub fn read_input<S: Source>(alloc: Global, source: &mut S) -> Result<Vec<u8>, R
 {
     let mut input = Vec::new(alloc);
     let mut piece = [0; PIECE];
-    while input.len() <= INPUT_LIMIT {
-        let room = PIECE.min(INPUT_LIMIT + 1 - input.len());
+    while input.len() <= limit {
+        let room = PIECE.min(limit + 1 - input.len());
         let count = source.read(&mut piece[..room])?;
         if count == 0 {
             return Ok(input);

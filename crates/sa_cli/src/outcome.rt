@@ -1,9 +1,12 @@
 ghost use Rattle.std.specs.Prelude.{◌≡◌};
-ghost use Rattle.sa_cli.specs.Outcome.{code_of, status_of, status_of_end, status_of_unread};
+ghost use Rattle.sa_cli.specs.Outcome.{code_of, status_of, status_of_end, status_of_unread, status_of_verdict};
 ghost use Rattle.sa_cli.specs.declared.outcome.Status.TheVariants.{OutOfMemory};
 
 use crate::input::ReadError;
 use sa_base::{Bad, End, Trace, Unread};
+use sa_check::Verdict;
+use sa_laws::Rule;
+use sa_seat::Closed;
 use std::alloc::AllocError;
 
 /// How the top call ended. `code` is the program's exit status.
@@ -27,6 +30,13 @@ pub enum Status {
     OutOfMemory,
     /// The workload was written anew, whole.
     Migrated,
+    /// The trace is right for its workload, and so it was written.
+    Checked,
+    /// The trace breaks this rule first, at the event of this number, and so it was written.
+    Broken(u64, Rule),
+    /// The input is too long for a workload and a trace, or the rest behind its workload is no trace text. The lines
+    /// count from the first of the trace text; of an input that is too long, from its own first.
+    BadTrace(Bad),
 }
 
 impl From<ReadError> for Status {
@@ -63,6 +73,17 @@ impl From<End> for Status {
     }
 }
 
+impl From<Verdict> for Status {
+    ghost from_gives = { λ verdict status. status ≡ status_of_verdict verdict };
+
+    fn from(verdict: Verdict) -> Self {
+        match verdict {
+            Verdict::Legal => Status::Checked,
+            Verdict::Broken { event, rule } => Status::Broken(event, rule),
+        }
+    }
+}
+
 impl From<AllocError> for Status {
     ghost from_gives = { λ _ status. status ≡ OutOfMemory };
 
@@ -72,12 +93,12 @@ impl From<AllocError> for Status {
 }
 
 impl Status {
-    /// The program's exit status: 0 where the run ended with every thread done.
+    /// The program's exit status: 0 where the command did what it is for.
     pub fn code(self) -> u8
         ensures { result ≡ code_of self }
     {
         match self {
-            Status::AllDone | Status::Migrated => 0,
+            Status::AllDone | Status::Migrated | Status::Checked => 0,
             Status::Usage => 1,
             Status::BadWorkload(_) => 2,
             Status::Stuck => 3,
@@ -85,20 +106,24 @@ impl Status {
             Status::ReadFault => 5,
             Status::WriteFault => 6,
             Status::OutOfMemory => 7,
+            Status::Broken(..) => 8,
+            Status::BadTrace(_) => 9,
         }
     }
 }
 
 /// The machine that ran, if one did.
-#[derive(Debug, Drop)]
+#[derive(Drop)]
 pub enum Ran {
     Nothing,
     /// A machine on this thread, with its whole trace.
     Plain(Trace),
+    /// A machine that host threads shared, with all that is left of it.
+    Shared(Closed),
 }
 
 /// What the top call answers.
-#[derive(Debug, Drop)]
+#[derive(Drop)]
 pub struct Outcome {
     pub status: Status,
     pub ran: Ran,
@@ -124,6 +149,17 @@ impl Outcome {
         Outcome {
             status,
             ran: Ran::Plain(trace),
+        }
+    }
+
+    /// A machine ran that host threads shared.
+    pub(crate) fn shared(status: Status, closed: Closed) -> Self
+        ensures status { result.status ≡ status }
+        ensures ran { result.ran ≡ Ran.Shared closed }
+    {
+        Outcome {
+            status,
+            ran: Ran::Shared(closed),
         }
     }
 }

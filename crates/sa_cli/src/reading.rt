@@ -2,12 +2,13 @@
 ghost use Rattle.std.specs.Prelude.{◌≡◌, ◌≤◌, length as len, IfOk, IfErr};
 ghost use Rattle.sa_workload.specs.Text.{IsText, IsText1, text_of};
 ghost use Rattle.sa_workload.specs.Bad.{BadAt, BadAt1};
+ghost use Rattle.sa_workload.specs.Answer.{IfBad};
 ghost use Rattle.sa_cli.specs.Input.{LosesPrefix, ReadsInput, GaveText, GaveSliced};
-ghost use Rattle.sa_cli.specs.Refusals.{too_long, NothingRead};
+ghost use Rattle.sa_cli.specs.Refusals.{too_long, IsInputRefused, NothingRead};
 
 use crate::input::{INPUT_LIMIT, read_input};
 use crate::outcome::Status;
-use sa_base::{Bad, Cause};
+use sa_base::{Bad, Cause, Unread};
 use sa_instr::MAX_SLICE;
 use sa_io::Source;
 use sa_spaces::Workload;
@@ -22,12 +23,20 @@ pub(crate) fn read_workload<S: Source>(alloc: Global, source: &mut S) -> Result<
     ensures lost { LosesPrefix (S.left source.old) (S.left source.new) }
     ensures counted { S.faults source.old ≤ S.faults source.new }
 {
-    let input = read_input(alloc, source)?;
-    if input.len() > INPUT_LIMIT {
-        return Err(Status::BadWorkload(refusal_of_long(&input)));
-    }
-    let workload = read(alloc, &input)?;
+    let input = read_input(alloc, INPUT_LIMIT, source)?;
+    let workload = workload_of(alloc, &input)?;
     Ok(workload)
+}
+
+/// The workload of a text.
+pub(crate) fn workload_of(alloc: Global, text: &[u8]) -> Result<Workload, Unread>
+    ensures ok { IfOk result (λ w. (len text.now ≤ INPUT_LIMIT) × IsText text.now w) }
+    ensures err { IfErr result (λ unread. IfBad unread (IsInputRefused BadAt text.now)) }
+{
+    if text.len() > INPUT_LIMIT {
+        return Err(Unread::Bad(refusal_of_long(INPUT_LIMIT, text)));
+    }
+    read(alloc, text)
 }
 
 /// The text of the source's workload, which is a text of version 1, with this slice, at most 1,000,000.
@@ -44,9 +53,9 @@ pub(crate) fn migrated_text<S: Source>(
     ensures lost { LosesPrefix (S.left source.old) (S.left source.new) }
     ensures counted { S.faults source.old ≤ S.faults source.new }
 {
-    let input = read_input(alloc, source)?;
+    let input = read_input(alloc, INPUT_LIMIT, source)?;
     if input.len() > INPUT_LIMIT {
-        return Err(Status::BadWorkload(refusal_of_long(&input)));
+        return Err(Status::BadWorkload(refusal_of_long(INPUT_LIMIT, &input)));
     }
     let workload = read_one(alloc, &input)?;
     let sliced = workload.with_slice(slice).unwrap();
@@ -54,15 +63,12 @@ pub(crate) fn migrated_text<S: Source>(
     Ok(text)
 }
 
-// What an input is refused with that is longer than the limit.
+/// What an input is refused with that is longer than a limit.
 #[tactic(auto, unfolding(crate::specs::Refusals::too_long))]
-fn refusal_of_long(input: &[u8]) -> Bad
-    requires { INPUT_LIMIT ≤ len input.now }
-    ensures { result ≡ too_long input.now }
+pub(crate) fn refusal_of_long(limit: usize, input: &[u8]) -> Bad
+    requires { limit ≤ len input.now }
+    ensures { result ≡ too_long limit input.now }
 {
-    let before = input[..INPUT_LIMIT]
-        .iter()
-        .filter(|byte| **byte == b'\n')
-        .count();
+    let before = input[..limit].iter().filter(|byte| **byte == b'\n').count();
     Bad::new(before as u64 + 1, Cause::TooMany)
 }

@@ -1,12 +1,14 @@
 // What is written of a run.
 ghost use Rattle.std.specs.Prelude.{◌≡◌, ◌≤◌};
 ghost use Rattle.sa_trace.specs.TraceText.{trace_text, last_line_of};
-ghost use Rattle.sa_cli.specs.Outcome.{status_of_end, WritesNothing};
+ghost use Rattle.sa_check.specs.Line.{line_of};
+ghost use Rattle.sa_cli.specs.Outcome.{status_of_end, status_of_verdict, WritesNothing};
 ghost use Rattle.sa_cli.specs.Answers.{Writes, WritesOrStops};
 ghost use Rattle.sa_cli.specs.declared.outcome.Ran.TheVariants.{Plain};
 
 use crate::outcome::{Outcome, Status};
 use crate::output::write_text;
+use sa_check::{Verdict, verdict_line};
 use sa_io::Sink;
 use sa_run::Ended;
 use sa_trace::{last_line, print};
@@ -44,6 +46,20 @@ pub(crate) fn write_last_line<K: Sink>(alloc: Global, ended: Ended, sink: &mut K
         Err(_) => Status::OutOfMemory,
     };
     Outcome::plain(status, ended.trace)
+}
+
+/// Writes the line of a verdict.
+pub(crate) fn write_verdict<K: Sink>(alloc: Global, verdict: Verdict, sink: &mut K) -> Status
+    ensures status { WritesOrStops (K.taken sink.old) (K.taken sink.new)
+        (K.faults sink.old) (K.faults sink.new)
+        (line_of verdict) (status_of_verdict verdict) result }
+    ensures unwritten { WritesNothing result → sink.new ≡ sink.old }
+    ensures counted { K.faults sink.old ≤ K.faults sink.new }
+{
+    match verdict_line(alloc, verdict) {
+        Ok(line) => written(sink, &line, Status::from(verdict)),
+        Err(_) => Status::OutOfMemory,
+    }
 }
 
 /// Writes the text. The answer is this status where all was written.

@@ -18,8 +18,13 @@ pub enum ScheduleWord {
 pub enum Command {
     /// Runs the workload of standard input, for at most so many events, 1 to 1,000,000.
     Run { schedule: ScheduleWord, budget: u64 },
+    /// Runs the workload of standard input with a host thread for each processor, for at most so many events, 1 to
+    /// 1,000,000, in bursts of at most so many instructions, 1 to 64.
+    Threads { budget: u64, burst: u16 },
     /// Runs the workload that is made of the number, for at most so many events, 1 to 1,000,000.
     Load { number: u64, budget: u64 },
     /// Writes the workload of standard input with this slice, 1 to 1,000,000.
     Migrate { slice: u32 },
+    /// Judges the trace text of standard input beside the workload text that stands before it.
+    Check,
 }

@@ -5,6 +5,7 @@ mod command;
 pub mod laws;
 mod options;
 mod read;
+mod threads;
 mod value;
 mod words;
 

@@ -1,15 +1,16 @@
 ghost use Rattle.std.specs.Prelude.{◌≡◌, map, length, string_bytes};
-ghost use Rattle.sa_words.specs.Commands.{with_schedule, with_budget, with_option, settings_of, set_by};
+ghost use Rattle.sa_words.specs.Commands.{with_schedule, with_budget, with_burst, with_option, settings_of, set_by};
 
 use crate::command::ScheduleWord;
 use crate::value::{read_schedule, read_within};
-use sa_base::MAX_EVENTS;
+use sa_base::{MAX_BURST, MAX_EVENTS};
 
 // Which options a command takes.
 #[derive(Clone, Copy)]
 pub(crate) struct Options {
     pub(crate) schedule: bool,
     pub(crate) budget: bool,
+    pub(crate) burst: bool,
 }
 
 // What the options of a command set.
@@ -17,6 +18,7 @@ pub(crate) struct Options {
 pub(crate) struct Settings {
     pub(crate) schedule: Option<ScheduleWord>,
     pub(crate) budget: Option<u64>,
+    pub(crate) burst: Option<u16>,
 }
 
 // What these words set of the options that are taken, or none where they are no such options.
@@ -26,6 +28,7 @@ pub(crate) fn read_options(taken: Options, words: &[String]) -> Option<Settings>
     let nothing = Settings {
         schedule: None,
         budget: None,
+        burst: None,
     };
     read_settings(taken, nothing, words)
 }
@@ -54,6 +57,9 @@ fn with_option(taken: Options, settings: Settings, name: &str, value: &[u8]) -> 
     if name == "--budget" {
         return with_budget(taken, settings, value);
     }
+    if name == "--burst" {
+        return with_burst(taken, settings, value);
+    }
     None
 }
 
@@ -67,7 +73,7 @@ fn with_schedule(taken: Options, settings: Settings, value: &[u8]) -> Option<Set
     let schedule = Some(read_schedule(value)?);
     Some(Settings {
         schedule,
-        budget: settings.budget,
+        ..settings
     })
 }
 
@@ -79,8 +85,16 @@ fn with_budget(taken: Options, settings: Settings, value: &[u8]) -> Option<Setti
         return None;
     }
     let budget = Some(read_within(1, MAX_EVENTS, value)?);
-    Some(Settings {
-        schedule: settings.schedule,
-        budget,
-    })
+    Some(Settings { budget, ..settings })
+}
+
+// The option `--burst`.
+fn with_burst(taken: Options, settings: Settings, value: &[u8]) -> Option<Settings>
+    ensures { result ≡ with_burst taken settings value.now }
+{
+    if !taken.burst || settings.burst.is_some() {
+        return None;
+    }
+    let burst = Some(read_within(1, u64::from(MAX_BURST), value)? as u16);
+    Some(Settings { burst, ..settings })
 }

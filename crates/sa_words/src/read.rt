@@ -1,8 +1,9 @@
 ghost use Rattle.std.specs.Prelude.{◌≡◌, map, string_bytes};
-ghost use Rattle.sa_words.specs.Commands.{command_of, named, run_of, load_of, migrate_of};
+ghost use Rattle.sa_words.specs.Commands.{command_of, named, run_of, load_of, migrate_of, check_of};
 
 use crate::command::{Command, ScheduleWord};
 use crate::options::{Options, read_options};
+use crate::threads::read_threads;
 use crate::value::read_within;
 use crate::words::Words;
 use sa_base::{DEFAULT_BUDGET, MAX_EVENTS};
@@ -31,11 +32,17 @@ fn read_named(name: &str, words: &[String]) -> Option<Command>
     if name == "run" {
         return read_run(words);
     }
+    if name == "threads" {
+        return read_threads(words);
+    }
     if name == "load" {
         return read_load(words);
     }
     if name == "migrate" {
         return read_migrate(words);
+    }
+    if name == "check" {
+        return read_check(words);
     }
     None
 }
@@ -46,6 +53,7 @@ fn read_run(words: &[String]) -> Option<Command>
     let taken = Options {
         schedule: true,
         budget: true,
+        burst: false,
     };
     let settings = read_options(taken, words)?;
     Some(Command::Run {
@@ -60,6 +68,7 @@ fn read_load(words: &[String]) -> Option<Command>
     let taken = Options {
         schedule: false,
         budget: true,
+        burst: false,
     };
     match words {
         [] => None,
@@ -84,6 +93,15 @@ fn read_migrate(words: &[String]) -> Option<Command>
                 slice: slice as u32,
             })
         }
+        _ => None,
+    }
+}
+
+fn read_check(words: &[String]) -> Option<Command>
+    ensures { result ≡ check_of (map string_bytes words.now) }
+{
+    match words {
+        [] => Some(Command::Check),
         _ => None,
     }
 }

@@ -2,6 +2,6 @@
 #![tactic(auto)]
 
 #[cfg(test)]
-mod sources;
+mod runs;
 #[cfg(test)]
-mod top;
+mod sources;

@@ -23,6 +23,7 @@ fn reads(rt: &impl Abort, alloc: Global, line: &str, want: Option<Command>) -> R
 #[test]
 fn commands_are_read(rt: HostRuntime) -> Result<(), Fail> {
     let run = |schedule: ScheduleWord, budget: u64| Some(Command::Run { schedule, budget });
+    let threads = |budget: u64, burst: u16| Some(Command::Threads { budget, burst });
     let load = |number: u64, budget: u64| Some(Command::Load { number, budget });
     for (line, want) in [
         ("run", run(ScheduleWord::RoundRobin, 100_000)),
@@ -39,9 +40,12 @@ fn commands_are_read(rt: HostRuntime) -> Result<(), Fail> {
             "run --schedule hold:15:1000000",
             run(ScheduleWord::Hold(ProcNo(15), 1_000_000), 100_000),
         ),
+        ("threads", threads(100_000, 16)),
+        ("threads --burst 64 --budget 7", threads(7, 64)),
         ("load 18446744073709551615", load(u64::MAX, 100_000)),
         ("load 0 --budget 1", load(0, 1)),
         ("migrate 6", Some(Command::Migrate { slice: 6 })),
+        ("check", Some(Command::Check)),
     ] {
         reads(&rt, rt.alloc(), line, want)?;
     }
@@ -74,6 +78,12 @@ fn other_words_are_no_command(rt: HostRuntime) -> Result<(), Fail> {
         "run --schedule hold:0",
         "run --schedule rr --schedule rr",
         "run 5",
+        "run --burst 5",
+        "threads --schedule rr",
+        "threads --burst 0",
+        "threads --burst 65",
+        "threads --burst 5 --burst 5",
+        "threads 5",
         "load",
         "load 5 --schedule rr",
         "load 05",
@@ -82,6 +92,9 @@ fn other_words_are_no_command(rt: HostRuntime) -> Result<(), Fail> {
         "migrate 0",
         "migrate 1000001",
         "migrate 6 --budget 5",
+        "check 5",
+        "check --budget 5",
+        "checks",
     ] {
         reads(&rt, rt.alloc(), line, None)?;
     }

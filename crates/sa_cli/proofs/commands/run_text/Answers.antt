@@ -1,4 +1,4 @@
-use Rattle.std.proofs.Common.{◌≡◌, subst}
+use Rattle.std.proofs.Common.{subst}
 use Rattle.sa_sched.specs.Order.{Order}
 use Rattle.sa_workload.specs.Text.{IsText}
 use Rattle.sa_package.specs.Step.{fast_calls}

@@ -1,0 +1,72 @@
+-- An input of two texts: a workload text up to its first line that is `close`, and directly behind it a trace text.
+use Rattle.std.specs.Prelude.{◌≡◌, ◌⊎◌, ℕ, ◌<◌, ◌≤◌, ◌==◌, List, [], ◌∷◌, ◌++◌, length, drop, codes, if◌then◌else◌, Option, Ok, Err, IfSome}
+use Rattle.std.specs.Str.{bytes_eq}
+use Rattle.sa_base.specs.declared.refusal.Bad.{Bad}
+use Rattle.sa_spaces.specs.Workload.{WorkloadView}
+use Rattle.sa_laws.specs.Ends.{LastLine}
+use Rattle.sa_workload.specs.Text.{IsText}
+use Rattle.sa_workload.specs.Bad.{BadAt}
+use Rattle.sa_reader.specs.Reading.{Told, read_of}
+use Rattle.sa_check.specs.declared.verdict.Verdict.{Verdict}
+use Rattle.sa_check.specs.Verdict.{IsVerdict}
+use Rattle.sa_cli.specs.declared.found.Found.{Found}
+use Rattle.sa_cli.specs.declared.found.Found.TheVariants.{Judged, BadWorkload, BadTrace}
+use Rattle.sa_cli.specs.declared.input.TheConstants.{INPUT_LIMIT, TEXTS_LIMIT}
+use Rattle.sa_cli.specs.Input.{ReadsInput}
+use Rattle.sa_cli.specs.Refusals.{IsInputRefused, too_long}
+
+-- the bytes through the first line that is `close`, behind these of the line so far; all bytes where there is no such line
+abbrev pub through_close : List ℕ → List ℕ → List ℕ
+through_close line [] = []
+through_close line (b ∷ bs) =
+    b ∷ (if b == 10 then (if bytes_eq line (codes "close") then [] else through_close [] bs) else through_close (line ++ b ∷ []) bs)
+
+-- the two parts
+abbrev pub workload_part : List ℕ → List ℕ
+workload_part input = through_close [] input
+
+abbrev pub trace_part : List ℕ → List ℕ
+trace_part input = drop (length (workload_part input)) input
+
+-- the first part is the text of this workload, and the whole is not too long
+pub record HasWorkload (input : List ℕ) (w : WorkloadView) : Type 0 where
+  pub whole : length input ≤ TEXTS_LIMIT
+  pub short : length (workload_part input) ≤ INPUT_LIMIT
+  pub is : IsText (workload_part input) w
+
+-- the last line of a trace that was told
+abbrev pub last_told : Told → LastLine
+last_told told = record { end = told.end; events = told.events }
+
+-- a workload and a trace, of which the verdict is true
+pub record IsJudged (input : List ℕ) (verdict : Verdict) : Type 0 where
+  pub workload : WorkloadView
+  pub has : HasWorkload input workload
+  pub told : Told
+  pub read : read_of (trace_part input) ≡ Ok told
+  pub holds : IsVerdict workload told.items (last_told told) verdict
+
+-- the first part is refused
+pub record HasBadWorkload (input : List ℕ) (bad : Bad) : Type 0 where
+  pub whole : length input ≤ TEXTS_LIMIT
+  pub refused : IsInputRefused BadAt (workload_part input) bad
+
+-- the second part is refused, behind a workload text
+pub record HasBadTrace (input : List ℕ) (bad : Bad) : Type 0 where
+  pub workload : WorkloadView
+  pub has : HasWorkload input workload
+  pub read : read_of (trace_part input) ≡ Err bad
+
+-- what an input is found to be; one that is too long is refused first
+abbrev pub IsFound : List ℕ → Found → Type 0
+IsFound input (Judged verdict) = IsJudged input verdict
+IsFound input (BadWorkload bad) = HasBadWorkload input bad
+IsFound input (BadTrace bad) =
+    ((TEXTS_LIMIT < length input) × (bad ≡ too_long TEXTS_LIMIT input)) ⊎ HasBadTrace input bad
+
+-- the source gave an input that is found to be this; where it tells, this is what it had
+pub record GaveFound (before after : Option (List ℕ)) (found : Found) : Type 0 where
+  pub input : List ℕ
+  pub reads : ReadsInput TEXTS_LIMIT before after input
+  pub is : IsFound input found
+  pub told : IfSome before (λ whole. IsFound whole found)

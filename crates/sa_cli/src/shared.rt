@@ -1,0 +1,88 @@
+// The command `threads`.
+ghost use Rattle.std.specs.Prelude.{◌≡◌, ◌≤◌, sum};
+ghost use Rattle.sa_base.specs.declared.limits.TheConstants.{MAX_BURST, MAX_EVENTS};
+ghost use Rattle.sa_words.specs.Commands.{command_of};
+ghost use Rattle.sa_cli.specs.Input.{LosesPrefix};
+ghost use Rattle.sa_cli.specs.Outcome.{WritesNothing};
+ghost use Rattle.sa_cli.specs.Answers.{World, world};
+ghost use Rattle.sa_cli.specs.Shared.{limits_of, WritesClosed, AnswersThreads};
+ghost use Rattle.sa_cli.specs.declared.outcome.Ran.TheVariants.{Shared};
+
+use crate::outcome::{Outcome, Status};
+use crate::reading::read_workload;
+use crate::writing::written;
+use sa_gates::Gate;
+use sa_io::{Sink, Source};
+use sa_package::FastThreads;
+use sa_seat::Closed;
+use sa_trace::print;
+use sa_words::{Command, Words, read_words};
+use sa_workers::{Limits, run};
+use std::alloc::Global;
+use std::sync::Wait;
+use std::thread::Threads;
+
+/// What `threads` is asked for, where that is the command.
+pub(crate) fn limits_of(words: &Words) -> Option<Limits>
+    ensures { result ≡ limits_of (command_of words.now) }
+{
+    match read_words(words) {
+        Some(Command::Threads { budget, burst }) => Some(Limits { budget, burst }),
+        _ => None,
+    }
+}
+
+/// `threads`: the workload of the source, with a host thread for each processor and within the limits; writes the trace text.
+pub(crate) fn run_shared<S: Source, K: Sink, G: Gate, R: Threads + Wait + Sync>(
+    rt: &R,
+    alloc: Global,
+    limits: Limits,
+    source: &mut S,
+    sink: &mut K,
+    gate: &G,
+) -> Outcome
+    requires some { 1 ≤ limits.budget }
+    requires few { limits.budget ≤ MAX_EVENTS }
+    requires some_burst { 1 ≤ limits.burst }
+    requires few_burst { limits.burst ≤ MAX_BURST }
+    ensures unwritten { WritesNothing result.status → sink.new ≡ sink.old }
+    ensures lost { LosesPrefix (S.left source.old) (S.left source.new) }
+    ensures reads_counted { S.faults source.old ≤ S.faults source.new }
+    ensures writes_counted { K.faults sink.old ≤ K.faults sink.new }
+    ensures answers { let before : World
+        = world (S.left source.old) (K.taken sink.old) (S.faults source.old) (K.faults sink.old) in
+        let after : World
+        = world (S.left source.new) (K.taken sink.new) (S.faults source.new) (K.faults sink.new) in
+        AnswersThreads limits.budget before after result.ran result.status }
+{
+    let workload = match read_workload(alloc, source) {
+        Ok(workload) => workload,
+        Err(status) => return Outcome::nothing(status),
+    };
+    match run::<FastThreads, R, G>(rt, alloc, workload, limits, gate) {
+        Ok(closed) => write_closed(alloc, closed, sink),
+        Err(_) => Outcome::nothing(Status::OutOfMemory),
+    }
+}
+
+// Writes the text of a run that ended. One without an end ran out of memory.
+fn write_closed<K: Sink>(alloc: Global, closed: Closed, sink: &mut K) -> Outcome
+    requires { sum closed.turns ≤ MAX_EVENTS }
+    ensures ran { result.ran ≡ Shared closed }
+    ensures status { WritesClosed (K.taken sink.old) (K.taken sink.new)
+        (K.faults sink.old) (K.faults sink.new) closed result.status }
+    ensures unwritten { WritesNothing result.status → sink.new ≡ sink.old }
+    ensures counted { K.faults sink.old ≤ K.faults sink.new }
+{
+    let status = match closed.end() {
+        Some(end) => {
+            let events = closed.turns().iter().sum();
+            match print(alloc, closed.trace(), end, events) {
+                Ok(text) => written(sink, &text, Status::from(end)),
+                Err(_) => Status::OutOfMemory,
+            }
+        }
+        None => Status::OutOfMemory,
+    };
+    Outcome::shared(status, closed)
+}
