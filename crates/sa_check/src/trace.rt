@@ -19,7 +19,7 @@ use sa_spaces::Workload;
 use std::alloc::{AllocError, Global};
 
 /// What the trace text is beside the workload: `Legal` exactly where it is right, and `Broken` with exactly its first
-/// break. Its only error is want of memory.
+/// break. Fails where memory runs out, and where a semaphore's count would pass 2^32 - 1, or the I/Os begun 2^64 - 1.
 pub fn check(alloc: Global, workload: &Workload, text: &TraceText) -> Result<Verdict, AllocError>
     ensures legal { IfOk result (λ verdict. (verdict ≡ Legal)
         ↔ IsRight fast_threads workload.now text.now.trace.items (last_line text.now)) }
