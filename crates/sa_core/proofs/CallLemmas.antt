@@ -15,9 +15,9 @@ use Rattle.sa_abstract.specs.Calls.{Calls, Stepped, Gone}
 use Rattle.sa_abstract.specs.Keeps.{Standing, Keeps, IsOf, IsSeenOf, IsStep, IsTelling, IsGoing, GoesOn}
 use Rattle.sa_abstract.specs.declared.answer.Step.{Step}
 use Rattle.sa_abstract.specs.declared.answer.SeatState.{SeatState}
-use Rattle.sa_kernel.specs.State.{State, owner_of}
-use Rattle.sa_kernel.specs.Entries.{held_for, next_note, after_fetch, fetched}
-use Rattle.sa_kernel.specs.Sound.{AreClaimed}
+use Rattle.sa_kernel_model.specs.State.{State, owner_of}
+use Rattle.sa_kernel_model.specs.Entries.{held_for, next_note, after_fetch, fetched}
+use Rattle.sa_kernel_model.specs.Sound.{AreClaimed}
 use Rattle.sa_spaces.specs.Space.{SpaceView}
 use Rattle.sa_machine.specs.Machine.{Machine, user_of, context_on, seen_on, called, told, stepped, gone}
 use Rattle.sa_machine.specs.Turn.{told_one, told_all, gone_in}

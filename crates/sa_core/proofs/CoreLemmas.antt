@@ -13,7 +13,7 @@ use Rattle.sa_abstract.specs.Setting.{Setting}
 use Rattle.sa_abstract.specs.Walk.{Spot, AreLocal, after_one, program_at}
 use Rattle.sa_abstract.specs.declared.answer.SeatState.{SeatState}
 use Rattle.sa_abstract.specs.declared.answer.SeatState.TheVariants.{Local, Away}
-use Rattle.sa_kernel.specs.declared.entry.TheConstants.{ENTRY_ITEMS}
+use Rattle.sa_kernel_model.specs.declared.entry.TheConstants.{ENTRY_ITEMS}
 use Rattle.sa_machine.specs.Machine.{Machine}
 use Rattle.sa_machine.specs.Turn.{turned, committed}
 use Rattle.sa_machine.specs.End.{all_done, is_stuck, end_of, committable, local_on}

@@ -14,11 +14,11 @@ use Rattle.sa_abstract.specs.declared.answer.Step.{Step}
 use Rattle.sa_abstract.specs.declared.answer.Step.TheVariants.{Block, More, Idle, GiveBack, InterruptOwn}
 use Rattle.sa_devices.specs.Ios.{due_of, io_at, io_no}
 use Rattle.sa_devices.proofs.IosLemmas.{due_of-under_way}
-use Rattle.sa_kernel.specs.declared.entry.Entry.TheVariants.{Interrupt, Block as BlockEntry, Complete, More as MoreEntry, Idle as IdleEntry, GiveBack as GiveBackEntry, InterruptOwn as InterruptOwnEntry}
-use Rattle.sa_kernel.specs.State.{State, owner_of, line_of}
-use Rattle.sa_kernel.specs.Kept.{IsFit, Asks as KernelAsks, upcalls}
-use Rattle.sa_kernel.specs.Sound.{AreClaimed}
-use Rattle.sa_kernel.proofs.SeenLemmas.{low-bit}
+use Rattle.sa_kernel_model.specs.declared.entry.Entry.TheVariants.{Interrupt, Block as BlockEntry, Complete, More as MoreEntry, Idle as IdleEntry, GiveBack as GiveBackEntry, InterruptOwn as InterruptOwnEntry}
+use Rattle.sa_kernel_model.specs.State.{State, owner_of, line_of}
+use Rattle.sa_kernel_model.specs.Fits.{IsFit, Asks as KernelAsks, upcalls}
+use Rattle.sa_kernel_model.specs.Sound.{AreClaimed}
+use Rattle.sa_kernel_model.proofs.SeenLemmas.{low-bit}
 use Rattle.sa_machine.specs.Machine.{Machine, seen_on, scene_of, without_context, stopped_in, stepped, step_to, begun}
 use Rattle.sa_machine.specs.Turn.{kernel_entered, next_event}
 use Rattle.sa_machine.specs.Run.{CanGo}

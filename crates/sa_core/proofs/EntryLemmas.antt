@@ -6,14 +6,14 @@ use Rattle.sa_base.specs.declared.number.SpaceNo.{SpaceNo}
 use Rattle.sa_base.specs.declared.number.ActNo.{ActNo}
 use Rattle.sa_abstract.specs.Calls.{Calls}
 use Rattle.sa_abstract.specs.Keeps.{Standing}
-use Rattle.sa_kernel.specs.declared.entry.Entry.{Entry}
-use Rattle.sa_kernel.specs.declared.entry.Given.{Given}
-use Rattle.sa_kernel.specs.declared.entry.Given.TheVariants.{Nothing}
-use Rattle.sa_kernel.specs.State.{State, Scene, owner_of}
-use Rattle.sa_kernel.specs.Entries.{entered}
-use Rattle.sa_kernel.specs.Kept.{upcalls}
-use Rattle.sa_kernel.specs.Runs.{given_by}
-use Rattle.sa_kernel.specs.Sound.{AreClaimed}
+use Rattle.sa_kernel_model.specs.declared.entry.Entry.{Entry}
+use Rattle.sa_kernel_model.specs.declared.entry.Given.{Given}
+use Rattle.sa_kernel_model.specs.declared.entry.Given.TheVariants.{Nothing}
+use Rattle.sa_kernel_model.specs.State.{State, Scene, owner_of}
+use Rattle.sa_kernel_model.specs.Entries.{entered}
+use Rattle.sa_kernel_model.specs.Fits.{upcalls}
+use Rattle.sa_kernel_model.specs.Enters.{given_by}
+use Rattle.sa_kernel_model.specs.Sound.{AreClaimed}
 use Rattle.sa_machine.specs.Machine.{Machine, user_of, seen_on, scene_of, with_scene, with_pair, begun, answered}
 use Rattle.sa_machine.specs.Turn.{kernel_entered, told_all, welcomed_in, welcomed_if, entered_on, hinted, answered_in}
 use Rattle.sa_machine.specs.Standing.{Stands}

@@ -8,8 +8,8 @@ use Rattle.sa_spaces.specs.Space.{SpaceView}
 use Rattle.sa_abstract.specs.Calls.{Calls}
 use Rattle.sa_abstract.specs.Keeps.{Standing, IsBefore, IsAsked}
 use Rattle.sa_abstract.specs.declared.answer.Step.{Step}
-use Rattle.sa_kernel.specs.State.{owner_of, line_of}
-use Rattle.sa_kernel.specs.Sound.{AreClaimed}
+use Rattle.sa_kernel_model.specs.State.{owner_of, line_of}
+use Rattle.sa_kernel_model.specs.Sound.{AreClaimed}
 use Rattle.sa_machine.specs.Machine.{Machine, user_of, seen_on, begun}
 use Rattle.sa_machine.specs.Run.{setting}
 use Rattle.sa_machine.specs.Standing.{Stands, IsBetween}

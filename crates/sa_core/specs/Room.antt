@@ -3,7 +3,7 @@ use Rattle.std.specs.Prelude.{ℕ, ◌+◌, ◌*◌, ◌≤◌, max}
 use Rattle.sa_base.specs.declared.limits.TheConstants.{MAX_EVENTS}
 use Rattle.sa_abstract.specs.Keeps.{Standing}
 use Rattle.sa_kernel.specs.Kept.{kernel_of}
-use Rattle.sa_kernel.specs.Owed.{owed_items}
+use Rattle.sa_kernel_model.specs.Owed.{owed_items}
 use Rattle.sa_machine.specs.Standing.{IsBetween}
 use Rattle.sa_core.specs.View.{machine_of}
 use Rattle.sa_core.specs.declared.machine.Machine.{Machine as Parts}

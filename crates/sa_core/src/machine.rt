@@ -3,9 +3,9 @@ ghost use Rattle.std.specs.Prelude.{◌≡◌, ℕ, ◌+◌, ◌*◌, ◌≤◌,
 ghost use Rattle.sa_base.specs.declared.number.ActNo.{ActNo};
 ghost use Rattle.sa_base.specs.declared.record.Note.{Note};
 ghost use Rattle.sa_base.specs.declared.limits.TheConstants.{MAX_EVENTS};
-ghost use Rattle.sa_kernel.specs.State.{owner_of, line_of};
-ghost use Rattle.sa_kernel.specs.Kept.{IsFit, upcalls};
-ghost use Rattle.sa_kernel.specs.Sound.{AreClaimed};
+ghost use Rattle.sa_kernel_model.specs.State.{owner_of, line_of};
+ghost use Rattle.sa_kernel_model.specs.Fits.{IsFit, upcalls};
+ghost use Rattle.sa_kernel_model.specs.Sound.{AreClaimed};
 ghost use Rattle.sa_machine.specs.Machine.{begun, answered, stopped_in, stepped, without_context};
 ghost use Rattle.sa_machine.specs.Turn.{next_event, more_events, ticked, ends_slice, sliced, kernel_entered, told_one, told_all, welcomed_in, entered_on, hinted, blocked, interrupted, asked, turned_owned, turned_now, turned, gone_in, committed};
 ghost use Rattle.sa_machine.specs.End.{is_inside, is_any_inside, local_on, within_slice};

@@ -8,7 +8,7 @@ use Rattle.sa_base.specs.declared.record.Item.{Item}
 use Rattle.sa_base.specs.declared.record.Record.TheVariants.{GiveBack}
 use Rattle.sa_base.specs.Items.{items_at}
 use Rattle.sa_acts.specs.Table.{ActsView, taken_in, without, without_first, gave, gave_back}
-use Rattle.sa_kernel.specs.Entries.{without_acts}
+use Rattle.sa_kernel_model.specs.Entries.{without_acts}
 
 first-of : (xs : List ActNo) (a : ActNo) → slice_get xs 0 ≡ Some a → xs ≡ a ∷ drop 1 xs
 first-of [] a first = absurd cc

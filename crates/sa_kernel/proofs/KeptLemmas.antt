@@ -14,24 +14,25 @@ use Rattle.sa_assign.specs.Reaim.{proc_no}
 use Rattle.sa_devices.specs.DevicesView.{DevicesView}
 use Rattle.sa_devices.specs.Pages.{evicted}
 use Rattle.sa_kernel.specs.declared.machine.Machine.{Machine}
-use Rattle.sa_kernel.specs.declared.entry.Entry.{Entry}
-use Rattle.sa_kernel.specs.declared.entry.Given.{Given}
-use Rattle.sa_kernel.specs.declared.entry.Given.TheVariants.{Upcall}
-use Rattle.sa_kernel.specs.State.{State, Scene}
-use Rattle.sa_kernel.specs.Closing.{closed}
-use Rattle.sa_kernel.specs.Entries.{entered_as, after_fetch}
-use Rattle.sa_kernel.specs.Opening.{opening_state, first_wants, opened}
-use Rattle.sa_kernel.specs.Runs.{Enters, given_by}
-use Rattle.sa_kernel.specs.Sound.{IsSound, IsPrompt, AreClaimed, IsUpcalled}
+use Rattle.sa_kernel_model.specs.declared.entry.Entry.{Entry}
+use Rattle.sa_kernel_model.specs.declared.entry.Given.{Given}
+use Rattle.sa_kernel_model.specs.declared.entry.Given.TheVariants.{Upcall}
+use Rattle.sa_kernel_model.specs.State.{State, Scene}
+use Rattle.sa_kernel_model.specs.Closing.{closed}
+use Rattle.sa_kernel_model.specs.Entries.{entered_as, after_fetch}
+use Rattle.sa_kernel_model.specs.Opening.{opening_state, first_wants, opened}
+use Rattle.sa_kernel_model.specs.Enters.{Enters, given_by}
+use Rattle.sa_kernel_model.specs.Sound.{IsSound, IsPrompt, AreClaimed, IsUpcalled}
 use Rattle.sa_kernel.specs.View.{state_of, scene_of, used, Spends}
-use Rattle.sa_kernel.specs.Kept.{KernelView, kernel_of, processors, IsFit, IsKept, upcalls}
-use Rattle.sa_kernel.specs.Owed.{owed_items, pending_count}
+use Rattle.sa_kernel.specs.Kept.{KernelView, kernel_of, processors, IsKept}
+use Rattle.sa_kernel_model.specs.Fits.{IsFit, upcalls}
+use Rattle.sa_kernel_model.specs.Owed.{owed_items, pending_count}
 use Rattle.sa_base.specs.Recorded.{Adds}
-use Rattle.sa_kernel.proofs.FormedLemmas.{no_notes, no_acts}
-use Rattle.sa_kernel.proofs.HeldLemmas.{stays-closed, claimed-after_fetch, upcalled-entered_as, upcalled-closed}
-use Rattle.sa_kernel.proofs.OwedLemmas.{owes-entered_as, owed-closed, owed-after_fetch}
-use Rattle.sa_kernel.proofs.PromptLemmas.{prompt-closed, prompt-evicted, prompt-after_fetch}
-use Rattle.sa_kernel.proofs.SoundLemmas.{sound-evicted, sound-closed, sound-entered_as, sound-opening, sound-after_fetch}
+use Rattle.sa_kernel_model.proofs.FormedLemmas.{no_notes, no_acts}
+use Rattle.sa_kernel_model.proofs.HeldLemmas.{stays-closed, claimed-after_fetch, upcalled-entered_as, upcalled-closed}
+use Rattle.sa_kernel_model.proofs.OwedLemmas.{owes-entered_as, owed-closed, owed-after_fetch}
+use Rattle.sa_kernel_model.proofs.PromptLemmas.{prompt-closed, prompt-evicted, prompt-after_fetch}
+use Rattle.sa_kernel_model.proofs.SoundLemmas.{sound-evicted, sound-closed, sound-entered_as, sound-opening, sound-after_fetch}
 
 given-upcall : (up : Bool) (b a : ActNo) → given_by up b ≡ Upcall a → (up ≡ true) × (b ≡ a)
 given-upcall true b a is = (refl, cc)

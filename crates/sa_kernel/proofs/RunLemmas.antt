@@ -16,13 +16,14 @@ use Rattle.sa_acts.specs.Table.{Slots, acts_of, holding, runs_in, IsRunning}
 use Rattle.sa_assign.specs.AssignView.{AssignView}
 use Rattle.sa_assign.specs.Aims.{is_aim}
 use Rattle.sa_devices.specs.Laws.{has_page}
-use Rattle.sa_kernel.specs.declared.entry.Given.{Given}
-use Rattle.sa_kernel.specs.declared.entry.Given.TheVariants.{Nothing, Upcall}
-use Rattle.sa_kernel.specs.State.{State, Scene, owner_of, aim_of, life_of, can_upcall}
-use Rattle.sa_kernel.specs.Parts.{with_line, leave, moved, upcall, go_to, go_to_by}
-use Rattle.sa_kernel.specs.Entries.{stopped, go_to_aim, interrupted, told_or_left, block_begun, blocked, blocked_by}
-use Rattle.sa_kernel.specs.Runs.{Enters, given_by, upcalls_for, upcalls_in, untold_count}
-use Rattle.sa_kernel.specs.Sound.{RunsIn}
+use Rattle.sa_kernel_model.specs.declared.entry.Given.{Given}
+use Rattle.sa_kernel_model.specs.declared.entry.Given.TheVariants.{Nothing, Upcall}
+use Rattle.sa_kernel_model.specs.State.{State, Scene, owner_of, aim_of, life_of, can_upcall}
+use Rattle.sa_kernel_model.specs.Parts.{with_line, leave, moved, upcall, go_to, go_to_by}
+use Rattle.sa_kernel_model.specs.Entries.{stopped, go_to_aim, interrupted, told_or_left, block_begun, blocked, blocked_by}
+use Rattle.sa_kernel_model.specs.Enters.{Enters, given_by, upcalls_for, upcalls_in, untold_count}
+use Rattle.sa_kernel_model.specs.Sound.{RunsIn}
+use Rattle.sa_kernel_model.proofs.HeldLemmas.{pages-stopped}
 
 module _ {C : Type 0} where
   -- a number that is not in use
@@ -106,13 +107,6 @@ module _ {C : Type 0} where
   unused-stopped e p (Some s) None held x n none = none
   unused-stopped e p (Some s) (Some a) None x n none = none
   unused-stopped e p (Some s) (Some a) (Some h) x n none = unused-held x.state.acts a.0 n h none
-
-  pub pages-stopped : (e : ℕ) (p : ProcNo) (o : Option SpaceNo) (l : Option ActNo) (held : Option (Stopped C)) (x : Scene C)
-      → (stopped e p o l held x).state.pages ≡ x.state.pages
-  pages-stopped e p None l held x = refl
-  pages-stopped e p (Some s) None held x = refl
-  pages-stopped e p (Some s) (Some a) None x = refl
-  pages-stopped e p (Some s) (Some a) (Some h) x = refl
 
   upcalls-same : (k m : State C) (aim : Option SpaceNo) → k.pages ≡ m.pages → upcalls_for k aim ≡ upcalls_for m aim
   upcalls-same k m None same = refl

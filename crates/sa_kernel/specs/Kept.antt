@@ -1,21 +1,11 @@
 -- The kernel as its callers see it.
-use Rattle.std.specs.Prelude.{◌≡◌, ℕ, ◌+◌, ◌*◌, ◌≤◌, ◌<◌, Bool, false, length, Option, Some, None, IsSome, IfSome}
-use Rattle.sa_base.specs.declared.number.ProcNo.{ProcNo}
-use Rattle.sa_base.specs.declared.number.SpaceNo.{SpaceNo}
-use Rattle.sa_base.specs.declared.number.IoNo.{IoNo}
-use Rattle.sa_base.specs.declared.context.Stopped.{Stopped}
+use Rattle.std.specs.Prelude.{ℕ, ◌*◌, ◌≤◌, length}
 use Rattle.sa_base.specs.declared.limits.TheConstants.{MAX_EVENTS}
 use Rattle.sa_base.specs.Recorded.{Recorded}
-use Rattle.sa_devices.specs.Ios.{Io, io_at}
 use Rattle.sa_kernel.specs.declared.machine.Machine.{Machine}
-use Rattle.sa_kernel.specs.declared.entry.TheConstants.{ENTRY_ITEMS}
-use Rattle.sa_kernel.specs.declared.entry.Entry.{Entry}
-use Rattle.sa_kernel.specs.declared.entry.Entry.TheVariants.{Interrupt, Block, Complete, More, Idle, GiveBack, InterruptOwn}
-use Rattle.sa_kernel.specs.State.{State, Scene, owner_of, line_of, life_of, aim_of, demand_of, taken_of}
-use Rattle.sa_kernel.specs.Entries.{IsOwnPage}
-use Rattle.sa_kernel.specs.Runs.{upcalls_for, upcalls_in, untold_count, taken_count}
-use Rattle.sa_kernel.specs.Owed.{pending_count}
-use Rattle.sa_kernel.specs.Sound.{IsSound, IsPrompt}
+use Rattle.sa_kernel_model.specs.State.{State, Scene}
+use Rattle.sa_kernel_model.specs.Owed.{pending_count}
+use Rattle.sa_kernel_model.specs.Sound.{IsSound, IsPrompt}
 use Rattle.sa_kernel.specs.View.{state_of, used}
 
 -- the parts, for how many more entries there is room, and the event of the last entry
@@ -48,71 +38,3 @@ module _ {C : Type 0} where
   -- the number of processors
   abbrev pub processors : KernelView C → ℕ
   processors v = length v.parts.lives.items
-
-  -- a spare of the trace that suffices for an entry
-  abbrev pub need_of : State C → ℕ
-  need_of k = ENTRY_ITEMS + untold_count k + taken_count k
-
-  -- when an interrupt fits: the line is raised, and a context is handed over exactly where the processor is owned
-  pub record FitsInterrupt (k : State C) (p : ProcNo) (context : Option (Stopped C)) : Type 0 where
-    pub raised : IsSome (line_of k p)
-    pub held : IsSome context → IsSome (owner_of k p)
-    pub owned : IsSome (owner_of k p) → IsSome context
-
-  -- a context asks: its processor is owned by the space, and the line is low
-  pub record Asks (k : State C) (p : ProcNo) (s : SpaceNo) : Type 0 where
-    pub owner : owner_of k p ≡ Some s
-    pub low : line_of k p ≡ None
-
-  pub record FitsBlock (k : State C) (p : ProcNo) (absent : Option ℕ) : Type 0 where
-    pub space : SpaceNo
-    pub asks : Asks k p space
-    pub page : IfSome absent IsOwnPage
-
-  pub record FitsComplete (k : State C) (p : ProcNo) (event : ℕ) (io : IoNo) : Type 0 where
-    pub here : Io
-    pub under_way : io_at io.0 k.under_way ≡ Some here
-    pub low : line_of k p ≡ None
-
-  pub record FitsMore (k : State C) (p : ProcNo) (n : ℕ) : Type 0 where
-    pub space : SpaceNo
-    pub asks : Asks k p space
-    pub some : 1 ≤ n
-    pub few : demand_of k space.0 + n ≤ length k.lives
-
-  pub record FitsIdle (k : State C) (p : ProcNo) : Type 0 where
-    pub space : SpaceNo
-    pub asks : Asks k p space
-    pub some : 1 ≤ demand_of k space.0
-
-  pub record FitsGiveBack (k : State C) (p : ProcNo) : Type 0 where
-    pub space : SpaceNo
-    pub asks : Asks k p space
-    pub some : 1 ≤ length (taken_of k space.0)
-
-  pub record FitsOwn (k : State C) (p q : ProcNo) : Type 0 where
-    pub space : SpaceNo
-    pub asks : Asks k p space
-    pub other : p.0 ≡ q.0 → ⊥
-    pub within : q.0 < length k.lives
-    pub owned : Asks k q space
-
-  -- when an entry fits the processor at the event
-  abbrev pub IsFit : State C → ProcNo → ℕ → Entry C → Type 0
-  IsFit k p event (Interrupt held) = FitsInterrupt k p held
-  IsFit k p event (Block held len page) = FitsBlock k p page
-  IsFit k p event (Complete io) = FitsComplete k p event io
-  IsFit k p event (More n) = FitsMore k p n
-  IsFit k p event Idle = FitsIdle k p
-  IsFit k p event GiveBack = FitsGiveBack k p
-  IsFit k p event (InterruptOwn q) = FitsOwn k p q
-
-  -- whether an entry upcalls
-  abbrev pub upcalls : State C → ProcNo → Entry C → Bool
-  upcalls k p (Interrupt held) = upcalls_for k (aim_of k p)
-  upcalls k p (Block held len page) = upcalls_in k (owner_of k p) (life_of k p)
-  upcalls k p (Complete io) = false
-  upcalls k p (More n) = false
-  upcalls k p Idle = false
-  upcalls k p GiveBack = false
-  upcalls k p (InterruptOwn q) = false

@@ -1,12 +1,2 @@
-pub mod State
-pub mod Parts
-pub mod Closing
-pub mod Entries
-pub mod Sound
 pub mod View
-pub mod Runs
-pub mod Opening
-pub mod Owed
 pub mod Kept
-pub mod Seen
-pub mod Laws

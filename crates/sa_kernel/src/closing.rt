@@ -4,7 +4,7 @@ ghost use Rattle.std.specs.List.{list_any};
 ghost use Rattle.sa_acts.specs.Table.{held_of};
 ghost use Rattle.sa_assign.specs.Aims.{aimed, least_below};
 ghost use Rattle.sa_base.specs.Recorded.{Adds};
-ghost use Rattle.sa_kernel.specs.Closing.{was_idle};
+ghost use Rattle.sa_kernel_model.specs.Closing.{was_idle};
 
 use crate::machine::{Machine, is_owner};
 use arrayvec::ArrayVec;
@@ -16,9 +16,9 @@ pub(crate) const CLOSING_ITEMS: usize = 64;
 
 impl<C: Drop> Machine<C> {
     ghost use Rattle.sa_kernel.specs.View.{state_of, scene_of, used, Spends};
-    ghost use Rattle.sa_kernel.specs.State.{owner_of, aim_of, life_of, demand_of, can_upcall, untold_of, taken_of};
-    ghost use Rattle.sa_kernel.specs.Sound.{HasSizes};
-    ghost use Rattle.sa_kernel.specs.Closing.{calls_for, must_want, want_for, wants, claim_of, claims, first_space, aims, is_told_by, has_low_line, must_interrupt, interrupt, interrupt_one, interrupt_for, lines, closed};
+    ghost use Rattle.sa_kernel_model.specs.State.{owner_of, aim_of, life_of, demand_of, can_upcall, untold_of, taken_of};
+    ghost use Rattle.sa_kernel_model.specs.Sound.{HasSizes};
+    ghost use Rattle.sa_kernel_model.specs.Closing.{calls_for, must_want, want_for, wants, claim_of, claims, first_space, aims, is_told_by, has_low_line, must_interrupt, interrupt, interrupt_one, interrupt_for, lines, closed};
 
     // Whether the context that is held of an activation was idle.
     fn was_idle(&self, a: ActNo) -> bool

@@ -5,9 +5,8 @@ ghost use Rattle.sa_acts.specs.Table.{acts_of, held_of, taken_in, IsRunning};
 ghost use Rattle.sa_devices.specs.Ios.{io_at};
 ghost use Rattle.sa_devices.specs.Pages.{IsKind};
 ghost use Rattle.sa_base.specs.Recorded.{Adds};
-ghost use Rattle.sa_kernel.specs.Entries.{io_for, thread_of, without_acts, IsOwnPage};
+ghost use Rattle.sa_kernel_model.specs.Entries.{io_for, thread_of, without_acts, IsOwnPage};
 
-use crate::entry::Given;
 use crate::machine::Machine;
 use sa_acts::Acts;
 use sa_base::{
@@ -15,14 +14,15 @@ use sa_base::{
     Trace,
 };
 use sa_devices::IoKind;
+use sa_kernel_model::Given;
 
 impl<C: Drop> Machine<C> {
     ghost use Rattle.sa_kernel.specs.View.{state_of, scene_of, used, Spends};
-    ghost use Rattle.sa_kernel.specs.State.{owner_of, aim_of, life_of, demand_of, can_upcall, untold_of, taken_of};
-    ghost use Rattle.sa_kernel.specs.Sound.{IsFormed, HasSizes, AreSpaces, AreIos, AreAlive};
-    ghost use Rattle.sa_kernel.specs.Runs.{Enters, upcalls_for, upcalls_in, untold_count, taken_count};
-    ghost use Rattle.sa_kernel.specs.Parts.{go_to};
-    ghost use Rattle.sa_kernel.specs.Entries.{stopped, go_to_aim, interrupted, told_or_left, block_begun, blocked, kind_at, come_back, over_for, over, more, idled, announced, gave_back, interrupted_own};
+    ghost use Rattle.sa_kernel_model.specs.State.{owner_of, aim_of, life_of, demand_of, can_upcall, untold_of, taken_of};
+    ghost use Rattle.sa_kernel_model.specs.Sound.{IsFormed, HasSizes, AreSpaces, AreIos, AreAlive};
+    ghost use Rattle.sa_kernel_model.specs.Enters.{Enters, upcalls_for, upcalls_in, untold_count, taken_count};
+    ghost use Rattle.sa_kernel_model.specs.Parts.{go_to};
+    ghost use Rattle.sa_kernel_model.specs.Entries.{stopped, go_to_aim, interrupted, told_or_left, block_begun, blocked, kind_at, come_back, over_for, over, more, idled, announced, gave_back, interrupted_own};
 
     // The context that ran on a processor, if one did, is stopped by an interrupt.
     fn stop(&mut self, event: u64, p: ProcNo, held: Option<Stopped<C>>, trace: &mut Trace)

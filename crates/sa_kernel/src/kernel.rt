@@ -3,11 +3,12 @@ ghost use Rattle.std.specs.Option.{option_map};
 ghost use Rattle.sa_base.specs.declared.number.ActNo.{ActNo};
 ghost use Rattle.sa_devices.specs.Ios.{due_of, io_at, io_no};
 ghost use Rattle.sa_base.specs.Recorded.{Adds};
+ghost use Rattle.sa_laws.specs.History.{Test};
 
-use crate::entry::{ENTRY_ITEMS, Entry, Given};
 use crate::machine::Machine;
 use crate::start::OPENING;
 use sa_base::{IoNo, MAX_EVENTS, MAX_PROCESSORS, Note, ProcNo, Seen, SpaceNo, Stopped, Trace};
+use sa_kernel_model::{ENTRY_ITEMS, Entry, Given};
 use sa_spaces::Workload;
 use std::alloc::{AllocError, Global};
 use std::marker::Model;
@@ -33,15 +34,17 @@ impl<C: Drop> Model for Kernel<C> {
 }
 
 impl<C: Drop> Kernel<C> {
-    ghost use Rattle.sa_kernel.specs.Kept.{KernelView, kernel_of, scene, processors, need_of, IsFit, upcalls};
-    ghost use Rattle.sa_kernel.specs.State.{owner_of, line_of};
-    ghost use Rattle.sa_kernel.specs.Closing.{closed};
-    ghost use Rattle.sa_kernel.specs.Entries.{entered, next_note, after_fetch, evicted_at};
-    ghost use Rattle.sa_kernel.specs.Opening.{opened};
-    ghost use Rattle.sa_kernel.specs.Runs.{Enters};
-    ghost use Rattle.sa_kernel.specs.Sound.{IsSound, IsPrompt, AreClaimed, IsUpcalled};
-    ghost use Rattle.sa_kernel.specs.Owed.{owed_items, pending_count};
-    ghost use Rattle.sa_kernel.specs.Seen.{seen_of, is_quiet};
+    ghost use Rattle.sa_kernel.specs.Kept.{KernelView, kernel_of, scene, processors};
+    ghost use Rattle.sa_kernel_model.specs.Fits.{need_of, IsFit, upcalls};
+    ghost use Rattle.sa_kernel_model.specs.State.{owner_of, line_of};
+    ghost use Rattle.sa_kernel_model.specs.Closing.{closed};
+    ghost use Rattle.sa_kernel_model.specs.Entries.{entered, next_note, after_fetch, evicted_at};
+    ghost use Rattle.sa_kernel_model.specs.Opening.{opened};
+    ghost use Rattle.sa_kernel_model.specs.Enters.{Enters};
+    ghost use Rattle.sa_kernel_model.specs.Histories.{IsHistory, GoesOnLawfully, KeepsHistories};
+    ghost use Rattle.sa_kernel_model.specs.Sound.{IsSound, IsPrompt, AreClaimed, IsUpcalled};
+    ghost use Rattle.sa_kernel_model.specs.Owed.{owed_items, pending_count};
+    ghost use Rattle.sa_kernel_model.specs.Seen.{seen_of, is_quiet};
 
     /// The kernel at the opening of a workload, which is event 0; its items are added to the trace, which is
     /// empty. Fails only where memory runs out; the trace is then as it was, but for its room.
@@ -53,6 +56,9 @@ impl<C: Drop> Kernel<C> {
         ensures owed { IfOk result (λ k. owed_items (kernel_of k) ≡ 0) }
         ensures fetched { IfOk result (λ k. (kernel_of k).telling ≡ []) }
         ensures err { OnErr result (trace.new.items ≡ []) }
+
+        // The trace is the opening's, and a history of which the kernel's laws hold.
+        ensures lawful { IfOk result (λ k. (test : Test) → IsHistory test w.now (scene k trace.new)) }
     {
         w.ranges();
         trace.reserve(OPENING)?;
@@ -100,6 +106,9 @@ impl<C: Drop> Kernel<C> {
         ensures owed { trace.old.spare + owed_items (kernel_of self.new)
             ≤ trace.new.spare + owed_items (kernel_of self.old) + ENTRY_ITEMS }
         ensures upcalled { (a : ActNo) → result ≡ Given.Upcall a → IsUpcalled (kernel_of self.new) p a }
+
+        // Whatever the user level does: a history goes on by one event, at which the kernel's laws hold.
+        ensures lawful { GoesOnLawfully event p (Some entry) (scene self.old trace.old) (scene self.new trace.new) }
     {
         let given = self.parts.enter_as(event, p, entry, trace);
         self.parts.close(event, p, trace);
@@ -120,6 +129,9 @@ impl<C: Drop> Kernel<C> {
         ensures items { Adds (need_of (kernel_of self.old)) trace.old trace.new }
         ensures owed { trace.old.spare + owed_items (kernel_of self.new)
             ≤ trace.new.spare + owed_items (kernel_of self.old) + ENTRY_ITEMS }
+
+        // Likewise.
+        ensures lawful { GoesOnLawfully event p None (scene self.old trace.old) (scene self.new trace.new) }
     {
         self.parts.close(event, p, trace);
         self.last = event;
@@ -144,6 +156,7 @@ impl<C: Drop> Kernel<C> {
         ensures last { self.new.last ≡ self.old.last }
         ensures told { (s : ℕ) → AreClaimed (kernel_of self.old) s → AreClaimed (kernel_of self.new) s }
         ensures owed { owed_items (kernel_of self.new) ≤ owed_items (kernel_of self.old) }
+        ensures lawful { KeepsHistories (kernel_of self.old) (kernel_of self.new) }
     {
         self.parts.next_note()
     }

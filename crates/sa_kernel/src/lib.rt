@@ -3,12 +3,10 @@
 
 mod closing;
 mod entries;
-mod entry;
 mod kernel;
-pub mod laws;
 mod machine;
 mod seen;
 mod start;
 
-pub use entry::{ENTRY_ITEMS, Entry, Given};
 pub use kernel::Kernel;
+pub use sa_kernel_model::{ENTRY_ITEMS, Entry, Given};

@@ -3,12 +3,12 @@ ghost use Rattle.sa_acts.specs.Table.{IsRunning};
 ghost use Rattle.sa_assign.specs.Aims.{is_aim};
 ghost use Rattle.sa_base.specs.Recorded.{Adds};
 
-use crate::entry::Given;
 use sa_acts::Acts;
 use sa_assign::Assign;
 use sa_base::{ActNo, MAX_EVENTS, Note, ProcNo, Record, SpaceNo, Stopped, Trace};
 use sa_batch::Notices;
 use sa_devices::{Devices, IoKind};
+use sa_kernel_model::Given;
 
 /// The parts of the kernel.
 #[derive(Debug, Drop)]
@@ -26,11 +26,11 @@ pub(crate) struct Machine<C: Drop> {
 
 impl<C: Drop> Machine<C> {
     ghost use Rattle.sa_kernel.specs.View.{state_of, scene_of, used, Spends};
-    ghost use Rattle.sa_kernel.specs.State.{life_of, can_upcall, is_fetching, untold_of};
-    ghost use Rattle.sa_kernel.specs.Sound.{HasSizes};
+    ghost use Rattle.sa_kernel_model.specs.State.{life_of, can_upcall, is_fetching, untold_of};
+    ghost use Rattle.sa_kernel_model.specs.Sound.{HasSizes};
     ghost use Rattle.sa_batch.specs.Notices.{notes_told};
-    ghost use Rattle.sa_kernel.specs.Parts.{put_aside, run_in, upcall, leave, fetch_page, moved, go_to};
-    ghost use Rattle.sa_kernel.specs.Runs.{Enters};
+    ghost use Rattle.sa_kernel_model.specs.Parts.{put_aside, run_in, upcall, leave, fetch_page, moved, go_to};
+    ghost use Rattle.sa_kernel_model.specs.Enters.{Enters};
 
     // The context that runs on a processor is no longer there: it is held, and its space is to be told.
     pub(crate) fn put_aside(

@@ -7,9 +7,9 @@ use sa_base::{ProcNo, Seen, SpaceNo};
 
 impl<C: Drop> Machine<C> {
     ghost use Rattle.sa_kernel.specs.View.{state_of};
-    ghost use Rattle.sa_kernel.specs.State.{owner_of};
-    ghost use Rattle.sa_kernel.specs.Sound.{HasSizes, AreSpaces};
-    ghost use Rattle.sa_kernel.specs.Seen.{low_of, seen_of, has_line, has_call, is_quiet};
+    ghost use Rattle.sa_kernel_model.specs.State.{owner_of};
+    ghost use Rattle.sa_kernel_model.specs.Sound.{HasSizes, AreSpaces};
+    ghost use Rattle.sa_kernel_model.specs.Seen.{low_of, seen_of, has_line, has_call, is_quiet};
 
     // Bit q says that the space owns processor q, whose line is low.
     fn low(&self, s: SpaceNo) -> u16

@@ -5,16 +5,16 @@ ghost use Rattle.sa_base.specs.Items.{items_at};
 ghost use Rattle.sa_spaces.specs.Space.{SpaceView};
 ghost use Rattle.sa_assign.specs.Reaim.{proc_no};
 ghost use Rattle.sa_base.specs.Recorded.{Adds};
-ghost use Rattle.sa_kernel.specs.Opening.{first_wants};
+ghost use Rattle.sa_kernel_model.specs.Opening.{first_wants};
 
 use crate::closing::CLOSING_ITEMS;
-use crate::entry::{ENTRY_ITEMS, Entry, Given};
 use crate::machine::Machine;
 use sa_acts::Acts;
 use sa_assign::Assign;
 use sa_base::{ActNo, MAX_EVENTS, MAX_SPACES, Note, ProcNo, Record, SpaceNo, Stopped, Trace};
 use sa_batch::Notices;
 use sa_devices::Devices;
+use sa_kernel_model::{ENTRY_ITEMS, Entry, Given};
 use sa_spaces::{SpaceDef, Workload};
 use std::alloc::{AllocError, Global};
 
@@ -23,13 +23,13 @@ pub(crate) const OPENING: usize = MAX_SPACES + CLOSING_ITEMS;
 
 impl<C: Drop> Machine<C> {
     ghost use Rattle.sa_kernel.specs.View.{state_of, scene_of, used, Spends};
-    ghost use Rattle.sa_kernel.specs.Sound.{IsFormed, HasSizes};
-    ghost use Rattle.sa_kernel.specs.Runs.{Enters, untold_count, taken_count};
-    ghost use Rattle.sa_kernel.specs.Opening.{opening_state};
-    ghost use Rattle.sa_kernel.specs.Closing.{closed};
-    ghost use Rattle.sa_kernel.specs.Entries.{entered_as, held_for, handed_by, fetched, next_note, after_fetch};
-    ghost use Rattle.sa_kernel.specs.Owed.{pending_count};
-    ghost use Rattle.sa_kernel.specs.Kept.{need_of, IsFit, upcalls};
+    ghost use Rattle.sa_kernel_model.specs.Sound.{IsFormed, HasSizes};
+    ghost use Rattle.sa_kernel_model.specs.Enters.{Enters, untold_count, taken_count};
+    ghost use Rattle.sa_kernel_model.specs.Opening.{opening_state};
+    ghost use Rattle.sa_kernel_model.specs.Closing.{closed};
+    ghost use Rattle.sa_kernel_model.specs.Entries.{entered_as, held_for, handed_by, fetched, next_note, after_fetch};
+    ghost use Rattle.sa_kernel_model.specs.Owed.{pending_count};
+    ghost use Rattle.sa_kernel_model.specs.Fits.{need_of, IsFit, upcalls};
 
     // The parts at the opening of a workload.
     pub(crate) fn new(alloc: Global, w: &Workload) -> Result<Self, AllocError>

@@ -21,12 +21,12 @@ use Rattle.sa_abstract.specs.Keeps.{Standing, Keeps, IsOf, IsSeenOf, IsStep, IsG
 use Rattle.sa_acts.specs.declared.acts.Act.{Act}
 use Rattle.sa_assign.specs.AssignView.{AssignView}
 use Rattle.sa_acts.specs.Table.{runs_in, held_of, taken_from}
-use Rattle.sa_kernel.specs.State.{State, owner_of, life_of}
-use Rattle.sa_kernel.specs.Sound.{IsSound, AreClaimed, held_in, note_claim}
-use Rattle.sa_kernel.specs.Entries.{fetched, held_for, handed_by}
-use Rattle.sa_kernel.proofs.ClaimLemmas.{held-next, held-none, space-held}
-use Rattle.sa_kernel.proofs.SoundLemmas.{sound-after_fetch}
-use Rattle.sa_kernel.proofs.HeldLemmas.{claimed-after_fetch}
+use Rattle.sa_kernel_model.specs.State.{State, owner_of, life_of}
+use Rattle.sa_kernel_model.specs.Sound.{IsSound, AreClaimed, held_in, note_claim}
+use Rattle.sa_kernel_model.specs.Entries.{fetched, held_for, handed_by}
+use Rattle.sa_kernel_model.proofs.ClaimLemmas.{held-next, held-none, space-held}
+use Rattle.sa_kernel_model.proofs.SoundLemmas.{sound-after_fetch}
+use Rattle.sa_kernel_model.proofs.HeldLemmas.{claimed-after_fetch}
 use Rattle.sa_machine.specs.Machine.{Machine, with_pair, context_on, user_of, called, called_by, answered, seen_on}
 use Rattle.sa_machine.specs.Run.{setting}
 use Rattle.sa_machine.specs.Standing.{contexts_in, contexts_of, Stands}

@@ -20,7 +20,7 @@ use Rattle.sa_abstract.specs.declared.answer.SeatState.{SeatState}
 use Rattle.sa_abstract.specs.declared.answer.SeatState.TheVariants.{Local, Away}
 use Rattle.sa_abstract.specs.declared.answer.Step.{Step}
 use Rattle.sa_devices.specs.Ios.{Io, due_of, io_no, sooner_of}
-use Rattle.sa_kernel.specs.State.{owner_of, line_of}
+use Rattle.sa_kernel_model.specs.State.{owner_of, line_of}
 use Rattle.sa_machine.specs.Machine.{Machine, user_of, context_on, seen_on, with_pair, gone, gone_to, step_to, stepped}
 use Rattle.sa_machine.specs.Turn.{next_event, more_events, ends_slice, sliced, sliced_if, asked, turned_owned, turned_due, turned_raised, turned, gone_in, committed}
 use Rattle.sa_machine.specs.End.{local_on, local_in, local_by}

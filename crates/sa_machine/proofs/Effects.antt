@@ -12,13 +12,13 @@ use Rattle.sa_acts.specs.Table.{runs_in, holding}
 use Rattle.sa_assign.specs.Aims.{least_below, is_aim}
 use Rattle.sa_devices.specs.declared.kind.IoKind.{IoKind}
 use Rattle.sa_devices.specs.declared.kind.IoKind.TheVariants.{Plain, Page, Upcall}
-use Rattle.sa_kernel.specs.State.{State, Scene, owner_of, can_upcall}
-use Rattle.sa_kernel.specs.Parts.{fetch_page, leave, moved, upcall, go_to_by}
-use Rattle.sa_kernel.specs.Closing.{spaces, want_one, want_for, wants, must_want, aims, interrupt, interrupt_one, interrupt_for, must_interrupt, has_low_line, closed}
-use Rattle.sa_kernel.specs.Entries.{stopped, go_to_aim, over, over_for, more, idled, interrupted_own, told_or_left, block_begun}
-use Rattle.sa_kernel.specs.Runs.{upcalls_for}
-use Rattle.sa_kernel.proofs.PlacedLemmas.{for_spaces-keeps}
-use Rattle.sa_kernel.proofs.HeldLemmas.{stays-closed}
+use Rattle.sa_kernel_model.specs.State.{State, Scene, owner_of, can_upcall}
+use Rattle.sa_kernel_model.specs.Parts.{fetch_page, leave, moved, upcall, go_to_by}
+use Rattle.sa_kernel_model.specs.Closing.{spaces, want_one, want_for, wants, must_want, aims, interrupt, interrupt_one, interrupt_for, must_interrupt, has_low_line, closed}
+use Rattle.sa_kernel_model.specs.Entries.{stopped, go_to_aim, over, over_for, more, idled, interrupted_own, told_or_left, block_begun}
+use Rattle.sa_kernel_model.specs.Enters.{upcalls_for}
+use Rattle.sa_kernel_model.proofs.PlacedLemmas.{for_spaces-keeps}
+use Rattle.sa_kernel_model.proofs.HeldLemmas.{stays-closed}
 
 module _ {C : Type 0} where
   -- the same activations run, and as many spaces have a demand

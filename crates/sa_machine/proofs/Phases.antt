@@ -16,11 +16,11 @@ use Rattle.sa_abstract.specs.Calls.{Calls, Contexts}
 use Rattle.sa_abstract.specs.Keeps.{Standing, Keeps}
 use Rattle.sa_acts.specs.declared.acts.Act.{Act}
 use Rattle.sa_acts.specs.Table.{runs_in, holding}
-use Rattle.sa_kernel.specs.State.{State, owner_of, life_of}
-use Rattle.sa_kernel.specs.Sound.{IsSound, AreAlive}
-use Rattle.sa_kernel.proofs.LifeLemmas.{alive-aside}
-use Rattle.sa_kernel.proofs.FormedLemmas.{free-set}
-use Rattle.sa_kernel.proofs.HeldLemmas.{runs-here}
+use Rattle.sa_kernel_model.specs.State.{State, owner_of, life_of}
+use Rattle.sa_kernel_model.specs.Sound.{IsSound, AreAlive}
+use Rattle.sa_kernel_model.proofs.LifeLemmas.{alive-aside}
+use Rattle.sa_kernel_model.proofs.FormedLemmas.{free-set}
+use Rattle.sa_kernel_model.proofs.HeldLemmas.{runs-here}
 use Rattle.sa_machine.specs.Machine.{Machine, with_pair, without_context, context_on}
 use Rattle.sa_machine.specs.Run.{setting}
 use Rattle.sa_machine.specs.Standing.{context_in, contexts_in, contexts_of, running, AreValues, Stands}

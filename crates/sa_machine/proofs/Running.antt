@@ -10,9 +10,9 @@ use Rattle.sa_lemmas.specs.Function.{put}
 use Rattle.sa_lemmas.proofs.FunctionUpdates.{put-same, put-at, put-other}
 use Rattle.sa_acts.specs.declared.acts.Act.{Act}
 use Rattle.sa_acts.specs.Table.{runs_in, holding, taken_from}
-use Rattle.sa_kernel.specs.Sound.{AreAlive}
-use Rattle.sa_kernel.specs.Entries.{without_acts}
-use Rattle.sa_kernel.proofs.LifeLemmas.{cell-cases}
+use Rattle.sa_kernel_model.specs.Sound.{AreAlive}
+use Rattle.sa_kernel_model.specs.Entries.{without_acts}
+use Rattle.sa_kernel_model.proofs.LifeLemmas.{cell-cases}
 use Rattle.sa_machine.specs.Standing.{is_life, running, held_or_running, context_in, contexts_in}
 
 bool-cases : (b : Bool) → (b ≡ true) ⊎ (b ≡ false)

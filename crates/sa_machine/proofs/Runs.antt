@@ -18,10 +18,10 @@ use Rattle.sa_abstract.specs.declared.answer.SeatState.{SeatState}
 use Rattle.sa_abstract.specs.declared.answer.SeatState.TheVariants.{Local, Away}
 use Rattle.sa_acts.specs.declared.acts.Act.{Act}
 use Rattle.sa_assign.specs.Reaim.{proc_no}
-use Rattle.sa_kernel.specs.State.{Scene, owner_of}
-use Rattle.sa_kernel.specs.Opening.{opening_state, first_wants}
-use Rattle.sa_kernel.proofs.SoundLemmas.{sound-opening, sound-closed}
-use Rattle.sa_kernel.proofs.FormedLemmas.{all-same}
+use Rattle.sa_kernel_model.specs.State.{Scene, owner_of}
+use Rattle.sa_kernel_model.specs.Opening.{opening_state, first_wants}
+use Rattle.sa_kernel_model.proofs.SoundLemmas.{sound-opening, sound-closed}
+use Rattle.sa_kernel_model.proofs.FormedLemmas.{all-same}
 use Rattle.sa_machine.specs.Machine.{Machine, seen_on, gone, gone_to}
 use Rattle.sa_machine.specs.Turn.{turned, next_event, more_events, gone_in, committed}
 use Rattle.sa_machine.specs.End.{local_on, local_in, local_by}

@@ -24,18 +24,18 @@ use Rattle.sa_acts.specs.Table.{runs_in, space_of}
 use Rattle.sa_devices.specs.Ios.{due_of, io_at, io_no}
 use Rattle.sa_devices.specs.Laws.{has_page}
 use Rattle.sa_devices.proofs.IosLemmas.{due_of-under_way}
-use Rattle.sa_kernel.specs.declared.entry.Entry.{Entry}
-use Rattle.sa_kernel.specs.declared.entry.Entry.TheVariants.{Interrupt, Block as BlockEntry, Complete, More as MoreEntry, Idle as IdleEntry, GiveBack as GiveBackEntry, InterruptOwn as InterruptOwnEntry}
-use Rattle.sa_kernel.specs.State.{State, Scene, owner_of, aim_of, line_of, life_of, taken_of, can_upcall}
-use Rattle.sa_kernel.specs.Parts.{with_line}
-use Rattle.sa_kernel.specs.Closing.{closed}
-use Rattle.sa_kernel.specs.Entries.{entered, entered_as, evicted_at, stopped, gave_back, block_begun, blocked_by as kernel_blocked_by, told_or_left, without_acts, kind_at, IsOwnPage}
-use Rattle.sa_kernel.specs.Kept.{IsFit, Asks, upcalls}
-use Rattle.sa_kernel.specs.Runs.{upcalls_for, upcalls_in}
-use Rattle.sa_kernel.specs.Sound.{IsSound, IsUpcalled}
-use Rattle.sa_kernel.proofs.SoundLemmas.{sound-entered_as, sound-closed, sound-evicted}
-use Rattle.sa_kernel.proofs.HeldLemmas.{upcalled-entered_as, upcalled-closed}
-use Rattle.sa_kernel.proofs.SeenLemmas.{low-bit}
+use Rattle.sa_kernel_model.specs.declared.entry.Entry.{Entry}
+use Rattle.sa_kernel_model.specs.declared.entry.Entry.TheVariants.{Interrupt, Block as BlockEntry, Complete, More as MoreEntry, Idle as IdleEntry, GiveBack as GiveBackEntry, InterruptOwn as InterruptOwnEntry}
+use Rattle.sa_kernel_model.specs.State.{State, Scene, owner_of, aim_of, line_of, life_of, taken_of, can_upcall}
+use Rattle.sa_kernel_model.specs.Parts.{with_line}
+use Rattle.sa_kernel_model.specs.Closing.{closed}
+use Rattle.sa_kernel_model.specs.Entries.{entered, entered_as, evicted_at, stopped, gave_back, block_begun, blocked_by as kernel_blocked_by, told_or_left, without_acts, kind_at, IsOwnPage}
+use Rattle.sa_kernel_model.specs.Fits.{IsFit, Asks, upcalls}
+use Rattle.sa_kernel_model.specs.Enters.{upcalls_for, upcalls_in}
+use Rattle.sa_kernel_model.specs.Sound.{IsSound, IsUpcalled}
+use Rattle.sa_kernel_model.proofs.SoundLemmas.{sound-entered_as, sound-closed, sound-evicted}
+use Rattle.sa_kernel_model.proofs.HeldLemmas.{upcalled-entered_as, upcalled-closed}
+use Rattle.sa_kernel_model.proofs.SeenLemmas.{low-bit}
 use Rattle.sa_machine.specs.Machine.{Machine, user_of, context_on, seen_on, scene_of, with_pair, without_context, called_by, begun, answered, stopped_by, stopped_in, step_to, stepped}
 use Rattle.sa_machine.specs.Turn.{next_event, ticked, ends_slice, sliced_if, sliced, kernel_entered, told_all, welcomed_in, welcomed_if, entered_on, answered_in, hinted, blocked_by, blocked, interrupted, asked, turned_owned, turned_due, turned_raised, turned}
 use Rattle.sa_machine.specs.Run.{setting}

@@ -10,8 +10,8 @@ use Rattle.sa_assign.specs.Reaim.{proc_no}
 use Rattle.sa_abstract.specs.declared.answer.SeatState.{SeatState}
 use Rattle.sa_abstract.specs.declared.answer.SeatState.TheVariants.{Away}
 use Rattle.sa_abstract.specs.Calls.{Calls}
-use Rattle.sa_kernel.specs.State.{owner_of}
-use Rattle.sa_kernel.specs.Seen.{is_quiet}
+use Rattle.sa_kernel_model.specs.State.{owner_of}
+use Rattle.sa_kernel_model.specs.Seen.{is_quiet}
 use Rattle.sa_machine.specs.Machine.{Machine, user_of, context_on}
 
 module _ {U C : Type 0} (f : Calls U C) where

@@ -11,8 +11,8 @@ use Rattle.sa_spaces.specs.Workload.{WorkloadView}
 use Rattle.sa_abstract.specs.Calls.{Calls, Stepped, Gone}
 use Rattle.sa_abstract.specs.declared.answer.Step.{Step}
 use Rattle.sa_abstract.specs.declared.answer.Step.TheVariants.{Did}
-use Rattle.sa_kernel.specs.State.{State, Scene}
-use Rattle.sa_kernel.specs.Seen.{seen_of}
+use Rattle.sa_kernel_model.specs.State.{State, Scene}
+use Rattle.sa_kernel_model.specs.Seen.{seen_of}
 
 pub record Machine (U C : Type 0) : Type 0 where
   pub workload : WorkloadView

@@ -14,8 +14,8 @@ use Rattle.sa_abstract.specs.Calls.{Calls}
 use Rattle.sa_abstract.specs.Setting.{Setting}
 use Rattle.sa_assign.specs.Aims.{space_no}
 use Rattle.sa_abstract.specs.Keeps.{GoesOn}
-use Rattle.sa_kernel.specs.State.{owner_of, line_of}
-use Rattle.sa_kernel.specs.Opening.{opened}
+use Rattle.sa_kernel_model.specs.State.{owner_of, line_of}
+use Rattle.sa_kernel_model.specs.Opening.{opened}
 use Rattle.sa_machine.specs.Machine.{Machine}
 use Rattle.sa_machine.specs.Turn.{turned, committed}
 use Rattle.sa_machine.specs.End.{local_on, within_slice}

@@ -7,7 +7,7 @@ use Rattle.sa_spaces.specs.Workload.{WorkloadView, IsWorkload}
 use Rattle.sa_abstract.specs.Calls.{Contexts}
 use Rattle.sa_abstract.specs.Keeps.{Standing}
 use Rattle.sa_acts.specs.declared.acts.Act.{Act}
-use Rattle.sa_kernel.specs.Sound.{IsSound}
+use Rattle.sa_kernel_model.specs.Sound.{IsSound}
 use Rattle.sa_machine.specs.Machine.{Machine}
 use Rattle.sa_machine.specs.Run.{setting}
 

@@ -11,7 +11,7 @@ use Rattle.sa_base.specs.declared.context.Seen.{Seen}
 use Rattle.sa_abstract.specs.Calls.{Calls, Stepped, Gone}
 use Rattle.sa_abstract.specs.declared.answer.Step.TheVariants.{Did}
 use Rattle.sa_devices.specs.Ios.{due_of}
-use Rattle.sa_kernel.specs.State.{owner_of}
+use Rattle.sa_kernel_model.specs.State.{owner_of}
 use Rattle.sa_machine.specs.Machine.{Machine, user_of, context_on}
 
 module _ {U C : Type 0} where

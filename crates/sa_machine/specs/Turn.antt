@@ -12,12 +12,12 @@ use Rattle.sa_abstract.specs.Calls.{Calls}
 use Rattle.sa_abstract.specs.declared.answer.Step.{Step}
 use Rattle.sa_abstract.specs.declared.answer.Step.TheVariants.{Did, Block, More, Idle, GiveBack, InterruptOwn}
 use Rattle.sa_devices.specs.Ios.{due_of, io_no}
-use Rattle.sa_kernel.specs.declared.entry.Entry.{Entry}
-use Rattle.sa_kernel.specs.declared.entry.Entry.TheVariants.{Interrupt, Block as BlockEntry, Complete, More as MoreEntry, Idle as IdleEntry, GiveBack as GiveBackEntry, InterruptOwn as InterruptOwnEntry}
-use Rattle.sa_kernel.specs.State.{owner_of, line_of, says}
-use Rattle.sa_kernel.specs.Closing.{closed}
-use Rattle.sa_kernel.specs.Entries.{entered, fetched, held_for, evicted_at}
-use Rattle.sa_kernel.specs.Kept.{upcalls}
+use Rattle.sa_kernel_model.specs.declared.entry.Entry.{Entry}
+use Rattle.sa_kernel_model.specs.declared.entry.Entry.TheVariants.{Interrupt, Block as BlockEntry, Complete, More as MoreEntry, Idle as IdleEntry, GiveBack as GiveBackEntry, InterruptOwn as InterruptOwnEntry}
+use Rattle.sa_kernel_model.specs.State.{owner_of, line_of, says}
+use Rattle.sa_kernel_model.specs.Closing.{closed}
+use Rattle.sa_kernel_model.specs.Entries.{entered, fetched, held_for, evicted_at}
+use Rattle.sa_kernel_model.specs.Fits.{upcalls}
 use Rattle.sa_machine.specs.Machine.{Machine, scene_of, with_scene, without_context, begun, answered, told, stopped_in, stepped, gone}
 
 module _ {U C : Type 0} where

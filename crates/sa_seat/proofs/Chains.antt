@@ -16,9 +16,9 @@ use Rattle.sa_abstract.specs.Walk.{Spot, AreLocal, after_one, program_at}
 use Rattle.sa_abstract.specs.declared.answer.SeatState.{SeatState}
 use Rattle.sa_abstract.specs.declared.answer.SeatState.TheVariants.{Local, Away}
 use Rattle.sa_assign.specs.Reaim.{proc_no, line_at}
-use Rattle.sa_kernel.specs.State.{Scene, owner_of, line_of}
-use Rattle.sa_kernel.specs.Opening.{opening_state, first_wants}
-use Rattle.sa_kernel.proofs.FormedLemmas.{all-same}
+use Rattle.sa_kernel_model.specs.State.{Scene, owner_of, line_of}
+use Rattle.sa_kernel_model.specs.Opening.{opening_state, first_wants}
+use Rattle.sa_kernel_model.proofs.FormedLemmas.{all-same}
 use Rattle.sa_machine.specs.Machine.{Machine, scene_of}
 use Rattle.sa_machine.specs.Turn.{turned, committed}
 use Rattle.sa_machine.specs.End.{end_of, local_on, local_in, committable}

@@ -12,8 +12,8 @@ use Rattle.sa_spaces.specs.Workload.{WorkloadView, IsWorkload}
 use Rattle.sa_abstract.specs.Calls.{Calls}
 use Rattle.sa_abstract.specs.Keeps.{Standing, Keeps}
 use Rattle.sa_assign.specs.Reaim.{proc_no, line_at}
-use Rattle.sa_kernel.specs.State.{line_of}
-use Rattle.sa_kernel.proofs.FormedLemmas.{all-same}
+use Rattle.sa_kernel_model.specs.State.{line_of}
+use Rattle.sa_kernel_model.proofs.FormedLemmas.{all-same}
 use Rattle.sa_machine.specs.Machine.{Machine}
 use Rattle.sa_machine.specs.End.{end_of, local_on, committable}
 use Rattle.sa_abstract.specs.declared.answer.SeatState.{SeatState}

@@ -5,7 +5,7 @@ use Rattle.sa_base.specs.declared.limits.TheConstants.{MAX_EVENTS}
 use Rattle.sa_spaces.specs.Workload.{WorkloadView, IsWorkload}
 use Rattle.sa_abstract.specs.Calls.{Calls}
 use Rattle.sa_assign.specs.Reaim.{proc_no, line_at}
-use Rattle.sa_kernel.specs.State.{line_of}
+use Rattle.sa_kernel_model.specs.State.{line_of}
 use Rattle.sa_machine.specs.Machine.{Machine}
 use Rattle.sa_machine.specs.End.{end_of}
 use Rattle.sa_machine.specs.Run.{Move}

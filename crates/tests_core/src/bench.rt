@@ -1,6 +1,6 @@
 // A core whose calls are tried where their conditions hold: what each adds to the trace is compared.
 ghost use Rattle.std.specs.Prelude.{◌≡◌, ◌≤◌, ◌<◌, None, IsTrue};
-ghost use Rattle.sa_kernel.specs.State.{line_of};
+ghost use Rattle.sa_kernel_model.specs.State.{line_of};
 ghost use Rattle.sa_abstract.specs.Walk.{AreLocal};
 ghost use Rattle.sa_machine.specs.End.{end_of, local_on};
 ghost use Rattle.sa_machine.specs.Run.{AreNextLocal};

@@ -1,7 +1,8 @@
 // A kernel whose contexts are numbers, with its trace: an entry that does not fit is refused.
 ghost use Rattle.std.specs.Prelude.{◌≡◌, ◌<◌, [], IsTrue, IfSome};
-ghost use Rattle.sa_kernel.specs.Kept.{kernel_of, processors, IsFit, FitsComplete, FitsMore, FitsOwn};
-ghost use Rattle.sa_kernel.specs.Entries.{IsOwnPage};
+ghost use Rattle.sa_kernel.specs.Kept.{kernel_of, processors};
+ghost use Rattle.sa_kernel_model.specs.Fits.{IsFit, FitsComplete, FitsMore, FitsOwn};
+ghost use Rattle.sa_kernel_model.specs.Entries.{IsOwnPage};
 ghost use Rattle.tests_entries.specs.Asks.{AsksFor};
 
 use sa_base::{End, IoNo, MAX_EVENTS, Note, ProcNo, Stopped, ThreadNo, Trace};
@@ -104,7 +105,7 @@ fn can_complete(kernel: &Kernel<u64>, p: ProcNo, event: u64, io: IoNo) -> bool
 }
 
 // Whether the entry fits the processor at the event, as the getters show it.
-fn fits(kernel: &Kernel<u64>, p: ProcNo, event: u64, entry: &Entry<u64>) -> bool
+pub(crate) fn fits(kernel: &Kernel<u64>, p: ProcNo, event: u64, entry: &Entry<u64>) -> bool
     requires { p.0 < processors kernel.now }
     ensures { IsTrue result → IsFit (kernel_of kernel.now) p event entry.now }
 {

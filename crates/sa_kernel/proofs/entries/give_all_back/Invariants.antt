@@ -2,7 +2,7 @@ use Rattle.std.proofs.Common.{◌≡◌, ◌+◌, ◌≤◌, [], ◌++◌, lengt
 use Rattle.sa_base.specs.declared.record.Record.TheVariants.{GiveBack}
 use Rattle.sa_base.specs.Items.{items_at}
 use Rattle.sa_acts.specs.Table.{acts_of, taken_in}
-use Rattle.sa_kernel.specs.Entries.{without_acts}
+use Rattle.sa_kernel_model.specs.Entries.{without_acts}
 use Rattle.sa_kernel.proofs.entries.give_all_back.Given as goal
 
 -- what is left to be given back makes up the rest

@@ -1,7 +1,7 @@
 use Rattle.std.proofs.Common.{◌≡◌, ◌+◌, ◌-◌, ◌≤◌, ◌++◌, length}
 use Rattle.sa_base.specs.Items.{items_at}
 use Rattle.sa_assign.specs.Reaim.{proc_no}
-use Rattle.sa_kernel.specs.Opening.{first_wants}
+use Rattle.sa_kernel_model.specs.Opening.{first_wants}
 use Rattle.sa_kernel.proofs.start.say_wants.Given as goal
 
 -- what is left to be said makes up the rest

@@ -1,6 +1,6 @@
 use Rattle.std.proofs.Common.{◌≡◌, Some, sym, ◌∙◌}
 use Rattle.sa_core.specs.View.{machine_of}
-use Rattle.sa_kernel.specs.State.{owner_of}
+use Rattle.sa_kernel_model.specs.State.{owner_of}
 use Rattle.sa_core.proofs.CallLemmas.{read-ctx, set-again, gone-as, the-user, has-place, going-here}
 use Rattle.sa_core.proofs.machine.Machine.go.Goals as goal
 

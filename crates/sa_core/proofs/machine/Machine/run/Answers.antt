@@ -2,7 +2,7 @@ use Rattle.std.proofs.Common.{◌≡◌, Option, Some, None, sym, ap, subst, ◌
 use Rattle.sa_core.specs.View.{machine_of}
 use Rattle.sa_base.specs.declared.number.SpaceNo.{SpaceNo}
 use Rattle.sa_abstract.specs.declared.answer.Step.{Step}
-use Rattle.sa_kernel.specs.State.{owner_of}
+use Rattle.sa_kernel_model.specs.State.{owner_of}
 use Rattle.sa_machine.specs.Machine.{Machine}
 use Rattle.sa_machine.specs.Turn.{turned_owned}
 use Rattle.sa_core.specs.Needs.{Asks}

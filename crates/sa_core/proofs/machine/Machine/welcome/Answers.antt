@@ -1,5 +1,5 @@
 use Rattle.std.proofs.Common.{◌≡◌, Some, sym, ◌∙◌}
-use Rattle.sa_kernel.specs.State.{owner_of}
+use Rattle.sa_kernel_model.specs.State.{owner_of}
 use Rattle.sa_core.specs.View.{machine_of}
 use Rattle.sa_core.proofs.EntryLemmas.{begun-so, user-so, welcomed-as}
 use Rattle.sa_core.proofs.machine.Machine.welcome.Goals as goal

@@ -1,8 +1,9 @@
 use Rattle.std.proofs.Common.{◌+◌, ◌<◌, ◌≤◌, ap, subst, arith}
 use Rattle.sa_kernel.specs.Kept.{KernelView, kernel_of}
-use Rattle.sa_kernel.specs.Owed.{owed_items}
+use Rattle.sa_kernel_model.specs.Owed.{owed_items}
 use Rattle.sa_kernel.specs.View.{state_of}
 use Rattle.sa_kernel.proofs.KeptLemmas.{entered-mid, kept-entered, owed-entered, upcalled-new}
+use Rattle.sa_kernel.proofs.LawfulLemmas.{lawful-entered}
 use Rattle.sa_kernel.proofs.kernel.Kernel.enter.Goals as goal
 
 pub close-requires-clause-sizes : goal.close-requires-clause-sizes
@@ -40,3 +41,11 @@ returns-clause-upcalled g c =
     c.self.view_is c.requires.within c.requires.fit c.requires.fetched c.enter_as-given.ensures.exact c.self.invariant in
     upcalled-new k.parts c.enter_as-given.new.self c.close.new.self c.args.trace.now c.enter_as-given.new.trace c.close.new.trace c.args.event c.args.p c.enter_as-given.result entered
     c.close.ensures.exact
+
+pub returns-clause-lawful : goal.returns-clause-lawful
+returns-clause-lawful g c =
+    let k = c.self.inside in
+    let last = ap (λ (v : KernelView g.row.C.Denot). v.last) c.self.view_is in
+    let later : k.last < c.args.event = omega arith in
+    lawful-entered c.args.self.now k.parts c.enter_as-given.new.self c.close.new.self c.args.trace.now c.enter_as-given.new.trace c.close.new.trace c.args.event k.spare k.last c.args.p c.args.entry
+    c.enter_as-given.result c.self.view_is c.requires.within later c.enter_as-given.ensures.exact c.close.ensures.exact

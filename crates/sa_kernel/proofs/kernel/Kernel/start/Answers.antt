@@ -1,6 +1,10 @@
-use Rattle.std.proofs.Common.{◌∙◌}
+use Rattle.std.proofs.Common.{◌∙◌, sym, subst}
 use Rattle.sa_kernel.proofs.KeptLemmas.{kept-start, opened-is, owed-new, telling-new}
 use Rattle.sa_kernel.specs.View.{scene_of}
+use Rattle.sa_laws.specs.History.{Test}
+use Rattle.sa_kernel_model.specs.State.{Scene}
+use Rattle.sa_kernel_model.specs.Histories.{IsHistory}
+use Rattle.sa_kernel_model.proofs.HistoryLemmas.{history-opens}
 use Rattle.sa_kernel.proofs.kernel.Kernel.start.Goals as goal
 
 pub invariant_of-result : goal.invariant_of-result
@@ -17,3 +21,9 @@ returns-clause-owed g c = owed-new c.in_ok-parts.parts c.open.new.self c.open.ne
 
 pub returns-clause-fetched : goal.returns-clause-fetched
 returns-clause-fetched g c = telling-new c.in_ok-parts.parts c.open.new.self c.open.new.trace c.args.w.now _ c.in_ok-parts.ensures.state c.open.ensures.exact
+
+pub returns-clause-lawful : goal.returns-clause-lawful
+returns-clause-lawful g c =
+    let is = opened-is c.in_ok-parts.parts c.args.w.now c.reserve.new.self.items (scene_of c.open.new.self c.open.new.trace) c.in_ok-parts.ensures.state
+    (c.reserve.ensures.items ∙ c.requires) c.open.ensures.exact in
+    λ (test : Test). subst (λ (x : Scene g.row.C.Denot). IsHistory test c.args.w.now x) (sym is) (history-opens test c.args.w.now c.ranges-2.ensures)

@@ -1,8 +1,8 @@
 use Rattle.std.proofs.Common.{◌≡◌, ◌-◌, ◌+◌, [], ◌∷◌, ◌++◌, ap, ◌∙◌, arith, length}
 use Rattle.std.proofs.lemmas.List.{length_push}
 use Rattle.sa_kernel.specs.View.{state_of}
-use Rattle.sa_kernel.specs.Closing.{claims_from}
-use Rattle.sa_kernel.proofs.ClosingLemmas.{one-claimed}
+use Rattle.sa_kernel_model.specs.Closing.{claims_from}
+use Rattle.sa_kernel_model.proofs.ClosingLemmas.{one-claimed}
 use Rattle.sa_kernel.proofs.machine.Machine.claims.Goals as goal
 
 pub loop-s-preserved : goal.loop-s-preserved

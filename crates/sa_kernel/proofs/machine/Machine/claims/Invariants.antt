@@ -1,6 +1,6 @@
 use Rattle.std.proofs.Common.{◌≡◌, ◌-◌, ◌++◌, length}
 use Rattle.sa_kernel.specs.View.{state_of}
-use Rattle.sa_kernel.specs.Closing.{claims, claims_from}
+use Rattle.sa_kernel_model.specs.Closing.{claims, claims_from}
 use Rattle.sa_kernel.proofs.machine.Machine.claims.Given as goal
 
 -- what is left to be claimed makes up the rest

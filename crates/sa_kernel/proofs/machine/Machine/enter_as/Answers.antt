@@ -1,7 +1,7 @@
 use Rattle.std.proofs.Common.{sym, ap, ◌∙◌}
 use Rattle.sa_kernel.specs.View.{scene_of}
-use Rattle.sa_kernel.specs.Entries.{entered_as}
-use Rattle.sa_kernel.specs.Kept.{upcalls}
+use Rattle.sa_kernel_model.specs.Entries.{entered_as}
+use Rattle.sa_kernel_model.specs.Fits.{upcalls}
 use Rattle.sa_kernel.proofs.RunLemmas.{vacant, vacant-unused, enters-nothing}
 use Rattle.sa_kernel.proofs.machine.Machine.enter_as.Goals as goal
 

@@ -1,7 +1,7 @@
 use Rattle.std.proofs.Common.{◌≡◌, None}
 use Rattle.sa_assign.specs.Aims.{least_below}
 use Rattle.sa_kernel.specs.View.{state_of}
-use Rattle.sa_kernel.specs.Closing.{has_low_line}
+use Rattle.sa_kernel_model.specs.Closing.{has_low_line}
 use Rattle.sa_kernel.proofs.machine.Machine.first_low.Given as goal
 
 abbrev pub invariant-loop-q : goal.invariant-loop-q

@@ -2,8 +2,8 @@ use Rattle.std.proofs.Common.{◌≡◌, ◌<◌, true, is_some, sym, ap, ◌∙
 use Rattle.std.specs.List.{list_any}
 use Rattle.sa_assign.proofs.ChoiceLemmas.{least_below-found}
 use Rattle.sa_kernel.specs.View.{state_of}
-use Rattle.sa_kernel.specs.Closing.{spaces, calls_for}
-use Rattle.sa_kernel.specs.Seen.{is_called}
+use Rattle.sa_kernel_model.specs.Closing.{spaces, calls_for}
+use Rattle.sa_kernel_model.specs.Seen.{is_called}
 use Rattle.sa_kernel.proofs.machine.Machine.has_call.Goals as goal
 
 pub returns-then-some_calls : goal.returns-then-some_calls

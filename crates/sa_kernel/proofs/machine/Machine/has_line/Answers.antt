@@ -1,7 +1,7 @@
 use Rattle.std.proofs.Common.{◌≡◌, ◌<◌, true, length, is_some, sym, ap, ◌∙◌, arith}
 use Rattle.sa_assign.proofs.ChoiceLemmas.{least_below-found}
 use Rattle.sa_kernel.specs.View.{state_of}
-use Rattle.sa_kernel.specs.Seen.{is_raised}
+use Rattle.sa_kernel_model.specs.Seen.{is_raised}
 use Rattle.sa_kernel.proofs.machine.Machine.has_line.Goals as goal
 
 pub returns-then-is_some : goal.returns-then-is_some

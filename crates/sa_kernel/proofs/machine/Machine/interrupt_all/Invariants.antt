@@ -1,7 +1,7 @@
 use Rattle.std.proofs.Common.{◌≡◌, ◌+◌, ◌-◌, ◌≤◌, length}
-use Rattle.sa_kernel.specs.Sound.{HasSizes}
+use Rattle.sa_kernel_model.specs.Sound.{HasSizes}
 use Rattle.sa_kernel.specs.View.{state_of, scene_of, Spends}
-use Rattle.sa_kernel.specs.Closing.{for_spaces, interrupt_for}
+use Rattle.sa_kernel_model.specs.Closing.{for_spaces, interrupt_for}
 use Rattle.sa_kernel.proofs.machine.Machine.interrupt_all.Given as goal
 
 -- what is left to be done makes up the rest

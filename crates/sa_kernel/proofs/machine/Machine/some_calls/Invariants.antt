@@ -1,7 +1,7 @@
 use Rattle.std.proofs.Common.{◌≡◌, drop}
 use Rattle.std.specs.List.{list_any}
 use Rattle.sa_kernel.specs.View.{state_of}
-use Rattle.sa_kernel.specs.Closing.{calls_for}
+use Rattle.sa_kernel_model.specs.Closing.{calls_for}
 use Rattle.sa_kernel.proofs.machine.Machine.some_calls.Given as goal
 
 abbrev pub invariant-loop-note : goal.invariant-loop-note

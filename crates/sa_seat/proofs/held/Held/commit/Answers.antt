@@ -1,7 +1,7 @@
 use Rattle.std.proofs.Common.{◌≡◌, ◌<◌, ℕ, None, sym, ap, subst, ◌∙◌, arith}
 use Rattle.sa_base.specs.declared.number.ProcNo.{ProcNo}
 use Rattle.sa_spaces.specs.Workload.{WorkloadView}
-use Rattle.sa_kernel.specs.State.{line_of}
+use Rattle.sa_kernel_model.specs.State.{line_of}
 use Rattle.sa_machine.specs.Turn.{committed}
 use Rattle.sa_machine.specs.End.{end_of, local_on}
 use Rattle.sa_machine.specs.Run.{AreNextLocal}
