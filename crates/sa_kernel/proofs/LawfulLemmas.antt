@@ -40,9 +40,9 @@ module _ {C : Type 0} where
       subst (λ (w : KernelView C). GoesOnLawfully event p None (scene w t) (scene_of new tn)) view
       (slice-goes-on event p (scene_of m t) (scene_of new tn) within (omega arith) closes)
 
-  pub lawful-fetch : (v : KernelView C) (m new : Machine C) (room last : ℕ) → record { parts = m; spare = room; last = last } ≡ v
+  pub lawful-fetch : (v : KernelView C) (m new : Machine C) (room final : ℕ) → record { parts = m; spare = room; last = final } ≡ v
       → state_of new ≡ after_fetch (state_of m).telling (state_of m) → KeepsHistories (kernel_of v) (state_of new)
-  lawful-fetch v m new room last view is =
+  lawful-fetch v m new room final view is =
       subst (λ (w : KernelView C). KeepsHistories (kernel_of w) (state_of new)) view
-      (λ test w items history. subst (λ (k : State C). IsHistory test w (record { state = k; items = items })) (sym is)
-      (history-fetched test w (record { state = state_of m; items = items }) history))
+      (λ test w last items history. subst (λ (k : State C). IsHistory test w last (record { state = k; items = items })) (sym is)
+      (history-fetched test w last (record { state = state_of m; items = items }) history))

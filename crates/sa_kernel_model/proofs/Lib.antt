@@ -7,6 +7,7 @@ pub mod ClaimLemmas
 pub mod HeldLemmas
 pub mod OwedLemmas
 pub mod PromptLemmas
+pub mod RestLemmas
 pub mod FactLemmas
 pub mod SoundLemmas
 pub mod OverviewLemmas

@@ -275,19 +275,23 @@ module _ {C : Type 0} where
       let low = low-is x.state (space_no s) (proc_no q) (least_below-passes (length x.state.lives) (has_low_line x.state s) q (sym is)).passes in
       placed-raise x.state q (Some e) low.line (subst (λ v. IsSome v) (sym low.owner) refl) placed
 
-  placed-interrupt_one : (e : ℕ) (p : ProcNo) (b : Bool) (s : ℕ) (x : Scene C) → AllAt x → AllAt (interrupt_one e p b s x)
+  pub placed-interrupt_one : (e : ℕ) (p : ProcNo) (b : Bool) (s : ℕ) (x : Scene C) → AllAt x → AllAt (interrupt_one e p b s x)
   placed-interrupt_one e p false s x placed = placed
   placed-interrupt_one e p true s x placed = placed-interrupt e p s (least_below (length x.state.lives) (has_low_line x.state s)) x refl placed
 
-  pub placed-closed : (e : ℕ) (p : ProcNo) (x : Scene C) → HasSizes x.state → AllAt x → AllAt (closed e p x)
-  placed-closed e p x sizes placed =
+  -- behind the wants and the aims
+  pub placed-aimed : (e : ℕ) (p : ProcNo) (x : Scene C) → HasSizes x.state → AllAt x → AllAt (aims e p (wants e p x))
+  placed-aimed e p x sizes placed =
       let P : Scene C → Type 0 = λ y. AllAt y × (length y.state.assign.aims ≡ length y.state.assign.lines) in
       let w = wants e p x in
       let wanted : P w =
       for_spaces-keeps P (want_for e p) (λ s y h. placed-want_one e p (must_want y.state s) s y h) 0 (spaces x.state) x (placed, sizes.aims ∙ sym sizes.lines) in
-      let aimed : AllAt (aims e p w) =
-      placed-changes e w.state.assign w.state.lives (changes_in (spaces w.state) (shares w.state e) w.state.assign) wanted.1 wanted.0 in
-      for_spaces-keeps AllAt (interrupt_for e p) (λ s y h. placed-interrupt_one e p (must_interrupt y.state s) s y h) 0 (spaces (aims e p w).state) (aims e p w) aimed
+      placed-changes e w.state.assign w.state.lives (changes_in (spaces w.state) (shares w.state e) w.state.assign) wanted.1 wanted.0
+
+  pub placed-closed : (e : ℕ) (p : ProcNo) (x : Scene C) → HasSizes x.state → AllAt x → AllAt (closed e p x)
+  placed-closed e p x sizes placed =
+      let y = aims e p (wants e p x) in
+      for_spaces-keeps AllAt (interrupt_for e p) (λ s z h. placed-interrupt_one e p (must_interrupt z.state s) s z h) 0 (spaces y.state) y (placed-aimed e p x sizes placed)
 
   placed-handed : (o : Option (Stopped C)) (a : ActNo) (k : State C) → ArePlaced k.assign k.lives → ArePlaced (handed_by o a k).assign (handed_by o a k).lives
   placed-handed None a k placed = placed

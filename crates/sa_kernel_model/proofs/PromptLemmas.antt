@@ -51,7 +51,7 @@ module _ {C : Type 0} where
     pub lines : length k.assign.lines ≡ length k.lives
 
   -- no notice of the space waits without cause
-  abbrev PromptFor : ℕ → State C → Type 0
+  abbrev pub PromptFor : ℕ → State C → Type 0
   PromptFor s k = has_untold (untold_of k s) ≡ true → is_fetching k s ≡ false → (p : ProcNo) → owner_of k p ≡ Some (space_no s) → HasRaised k (space_no s)
 
   owned-within : (k : State C) (p : ProcNo) (s : SpaceNo) → IsEven k → owner_of k p ≡ Some s → p.0 < length k.lives
@@ -81,7 +81,7 @@ module _ {C : Type 0} where
   even-interrupt e p None x even = even
   even-interrupt e p (Some q) x even = record { owners = even.owners; lines = length-set x.state.assign.lines q (Some e) ∙ even.lines }
 
-  even-interrupt_one : (e : ℕ) (p : ProcNo) (b : Bool) (s : ℕ) (x : Scene C) → IsEven x.state → IsEven (interrupt_one e p b s x).state
+  pub even-interrupt_one : (e : ℕ) (p : ProcNo) (b : Bool) (s : ℕ) (x : Scene C) → IsEven x.state → IsEven (interrupt_one e p b s x).state
   even-interrupt_one e p false s x even = even
   even-interrupt_one e p true s x even = even-interrupt e p (least_below (length x.state.lives) (has_low_line x.state s)) x even
 
@@ -166,7 +166,7 @@ module _ {C : Type 0} where
         | inr apart ↦ served-from e p (s + 1) n y t next (omega arith) (omega arith)
       ]
 
-  abbrev Sizes : Scene C → Type 0
+  abbrev pub Sizes : Scene C → Type 0
   Sizes y = IsEven y.state × (length y.state.untold ≡ length y.state.demands)
 
   sizes-want_one : (e : ℕ) (p : ProcNo) (b : Bool) (s : ℕ) (x : Scene C) → Sizes x → Sizes (want_one e p b s x)
@@ -185,26 +185,35 @@ module _ {C : Type 0} where
       go None = h
       go (Some q) = h
 
-  pub prompt-closed : (e : ℕ) (p : ProcNo) (x : Scene C) → HasSizes x.state → IsPrompt (closed e p x).state
-  prompt-closed e p x sizes s waits idle r owner =
+  -- behind the wants and the aims each list has its length
+  pub sizes-aimed : (e : ℕ) (p : ProcNo) (x : Scene C) → HasSizes x.state → Sizes (aims e p (wants e p x))
+  sizes-aimed e p x sizes =
       let w = wants e p x in
       let wanted : Sizes w =
       for_spaces-keeps Sizes (want_for e p) (λ t y h. sizes-want_one e p (must_want y.state t) t y h) 0 (spaces x.state) x
       (record { owners = sizes.owners; lines = sizes.lines }, sizes.untold) in
-      let y = aims e p w in
       let cs = changes_in (spaces w.state) (shares w.state e) w.state.assign in
-      let even : IsEven y.state = record { owners = wanted.0.owners; lines = length-lines_after e w.state.assign.lines cs ∙ wanted.0.lines } in
-      let last = (closed e p x).state in
-      let len : length last.untold ≡ spaces y.state =
-      for_spaces-keeps (λ z. length z.state.untold ≡ spaces y.state) (interrupt_for e p) (λ t z h. untold-one (spaces y.state) e p (must_interrupt z.state t) t z h) 0 (spaces y.state) y wanted.1 in
-      elim (cases_lt s.0 (spaces y.state)) [
-        | inl below ↦ served-from e p 0 (spaces y.state) y s.0 even (omega arith) (omega arith) waits idle r owner
-        | inr past ↦ absurd (nothing (untold_of last s.0) (get_or_past last.untold s.0 [] (omega arith)) waits)
+      (record { owners = wanted.0.owners; lines = length-lines_after e w.state.assign.lines cs ∙ wanted.0.lines }, wanted.1)
+
+  -- what the spaces' parts of the closing bring about for each of them holds for all numbers, where nothing waits for the others
+  pub each-space : (e : ℕ) (p : ProcNo) (y : Scene C) (P : ℕ → State C → Type 0) → Sizes y
+      → ((s : ℕ) → s < spaces y.state → P s (for_spaces (interrupt_for e p) 0 (spaces y.state) y).state)
+      → ((s : ℕ) (k : State C) → has_untold (untold_of k s) ≡ false → P s k) → (s : ℕ) → P s (for_spaces (interrupt_for e p) 0 (spaces y.state) y).state
+  each-space e p y P sizes within nothing s =
+      let last = for_spaces (interrupt_for e p) 0 (spaces y.state) y in
+      let len : length last.state.untold ≡ spaces y.state =
+      for_spaces-keeps (λ z. length z.state.untold ≡ spaces y.state) (interrupt_for e p) (λ t z h. untold-one (spaces y.state) e p (must_interrupt z.state t) t z h) 0 (spaces y.state) y sizes.1 in
+      elim (cases_lt s (spaces y.state)) [
+        | inl below ↦ within s below
+        | inr past ↦ nothing s last.state (ap has_untold (get_or_past last.state.untold s [] (omega arith)))
       ]
-    where
-      nothing : (notes : List Note) → notes ≡ [] → has_untold notes ≡ true → ⊥
-      nothing [] e h = cc
-      nothing (n ∷ ns) e h = cc
+
+  pub prompt-closed : (e : ℕ) (p : ProcNo) (x : Scene C) → HasSizes x.state → IsPrompt (closed e p x).state
+  prompt-closed e p x sizes s waits idle r owner =
+      let y = aims e p (wants e p x) in
+      let aimed = sizes-aimed e p x sizes in
+      each-space e p y PromptFor aimed (λ t below. served-from e p 0 (spaces y.state) y t aimed.0 (omega arith) (omega arith))
+      (λ t k none some. absurd (cc)) s.0 waits idle r owner
 
   -- where aims, lines, notices and I/Os are the same
   prompt-same : (k m : State C) → m.assign ≡ k.assign → m.untold ≡ k.untold → m.under_way ≡ k.under_way → IsPrompt k → IsPrompt m

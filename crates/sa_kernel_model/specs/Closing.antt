@@ -1,5 +1,5 @@
 -- The closing of an event: spaces that must be told get a processor, the aims follow the shares, and lines are raised.
-use Rattle.std.specs.Prelude.{ℕ, zero, suc, ◌+◌, ◌/◌, ◌%◌, ◌==◌, min, Bool, true, false, ◌&&◌, not, if◌then◌else◌, List, [], ◌∷◌, ◌++◌, length, Option, Some, None, is_some, is_none, slice_index}
+use Rattle.std.specs.Prelude.{◌≡◌, ℕ, zero, suc, ◌+◌, ◌/◌, ◌%◌, ◌==◌, min, Bool, true, false, ◌&&◌, not, if◌then◌else◌, List, [], ◌∷◌, ◌++◌, length, Option, Some, None, is_some, is_none, slice_index}
 use Rattle.std.specs.List.{list_any}
 use Rattle.sa_base.specs.declared.number.ProcNo.{ProcNo}
 use Rattle.sa_base.specs.declared.context.Stopped.{Stopped}
@@ -107,3 +107,7 @@ module _ {C : Type 0} where
 
   abbrev pub closed : ℕ → ProcNo → Scene C → Scene C
   closed e p x = lines e p (aims e p (wants e p x))
+
+  -- no line is due: a space that has something to be told and would not be told it owns no processor with a low line
+  abbrev pub NoLineIsDue : State C → Type 0
+  NoLineIsDue k = (s : ℕ) → must_interrupt k s ≡ true → least_below (length k.lives) (has_low_line k s) ≡ None

@@ -1,5 +1,5 @@
 -- The kernel and its trace from call to call: the history that they show, at each event of which the kernel's laws hold.
-use Rattle.std.specs.Prelude.{◌≡◌, ℕ, List, [], ◌∷◌, ◌++◌, Option}
+use Rattle.std.specs.Prelude.{◌≡◌, ℕ, ◌<◌, ◌≤◌, List, [], ◌∷◌, ◌++◌, length, Option, None}
 use Rattle.sa_base.specs.declared.number.ProcNo.{ProcNo}
 use Rattle.sa_base.specs.declared.record.Record.{Record}
 use Rattle.sa_base.specs.declared.record.Item.{Item}
@@ -7,35 +7,44 @@ use Rattle.sa_base.specs.Items.{items_at}
 use Rattle.sa_spaces.specs.Workload.{WorkloadView, IsWorkload}
 use Rattle.sa_kernel_model.specs.declared.entry.Entry.{Entry}
 use Rattle.sa_kernel_model.specs.State.{State, Scene}
+use Rattle.sa_kernel_model.specs.Closing.{NoLineIsDue}
 use Rattle.sa_kernel_model.specs.Entries.{evicted_at}
 use Rattle.sa_laws.specs.Event.{Event, items_of}
 use Rattle.sa_laws.specs.Readings.{Readings, opening_readings}
 use Rattle.sa_laws.specs.History.{Test, begun, after_records, readings}
 use Rattle.sa_laws.specs.Opening.{opening_event}
+use Rattle.sa_laws.specs.Closing.{first_space}
 use Rattle.sa_kernel_model.specs.Turn.{FitsTurn, SaysRightly}
 use Rattle.sa_kernel_model.specs.Kept.{IsKept}
 use Rattle.sa_kernel_model.specs.Runs.{AllHoldFrom}
 use Rattle.sa_kernel_model.specs.Calls.{event_at}
+
+-- the last of some events
+abbrev pub last_of : Event → List Event → Event
+last_of e [] = e
+last_of e (x ∷ xs) = last_of x xs
 
 -- what was read before an event, when the user level has recorded what it does
 abbrev pub read_behind : WorkloadView → ℕ → ProcNo → Readings → List Record → Readings
 read_behind w e p r says = after_records w e p (begun w (event_at e p) r) says
 
 module _ {C : Type 0} where
-  -- The trace is that of whole events from the opening on, at each of which the kernel's laws hold; and the kernel is what
-  -- it knows of them.
-  pub record IsHistory (test : Test) (w : WorkloadView) (x : Scene C) : Type 0 where
+  -- The trace is that of whole events, from the opening to the last one, at each of which the kernel's laws hold; and the
+  -- kernel is what it knows of them.
+  pub record IsHistory (test : Test) (w : WorkloadView) (last : ℕ) (x : Scene C) : Type 0 where
     pub ok : IsWorkload w
     pub events : List Event
+    pub last_is : (last_of (opening_event w) events).number ≡ last
     pub items : x.items ≡ items_of (opening_event w ∷ events)
     pub lawful : AllHoldFrom test w (opening_readings w) (opening_event w ∷ events)
     pub kept : IsKept w x.state (readings test w (opening_event w ∷ events))
+    pub low : NoLineIsDue x.state
 
   -- Event e goes on, on processor p: behind a history its pages were evicted, and the user level has recorded what it
   -- does. Now the kernel may be entered so, or a slice ends.
-  pub record IsUnderWay (test : Test) (w : WorkloadView) (e : ℕ) (p : ProcNo) (entry : Option (Entry C)) (x : Scene C) : Type 0 where
+  pub record IsUnderWay (test : Test) (w : WorkloadView) (last e : ℕ) (p : ProcNo) (entry : Option (Entry C)) (x : Scene C) : Type 0 where
     pub before : Scene C
-    pub history : IsHistory test w before
+    pub history : IsHistory test w last before
     pub says : List Record
     pub state : x.state ≡ evicted_at e before.state
     pub items : x.items ≡ before.items ++ items_at e p says
@@ -46,10 +55,17 @@ module _ {C : Type 0} where
 
   -- what a call makes of an event that goes on is a history, one event longer
   abbrev pub GoesOnLawfully : ℕ → ProcNo → Option (Entry C) → Scene C → Scene C → Type 0
-  GoesOnLawfully e p entry old new = (test : Test) (w : WorkloadView) → IsUnderWay test w e p entry old → IsHistory test w new
+  GoesOnLawfully e p entry old new = (test : Test) (w : WorkloadView) (last : ℕ) → IsUnderWay test w last e p entry old → IsHistory test w e new
 
   -- a history that ends in the one state is a history of the other too
   abbrev pub KeepsHistories : State C → State C → Type 0
   KeepsHistories old new =
-      (test : Test) (w : WorkloadView) (items : List Item) → IsHistory test w (record { state = old; items = items })
-      → IsHistory test w (record { state = new; items = items })
+      (test : Test) (w : WorkloadView) (last : ℕ) (items : List Item) → IsHistory test w last (record { state = old; items = items })
+      → IsHistory test w last (record { state = new; items = items })
+
+module _ (C : Type 0) where
+  -- An event of the user level's records alone, at which no slice ends, makes a history one event longer without the kernel.
+  abbrev pub QuietEventsGoOn : Type 0
+  QuietEventsGoOn =
+      (test : Test) (w : WorkloadView) (last e : ℕ) (p : ProcNo) (x : Scene C) → IsUnderWay test w last e p None x → p.0 < length x.state.lives → 1 ≤ e
+      → first_space w e ≡ first_space w last → IsHistory test w e x

@@ -15,4 +15,4 @@ pub use laws::{
     turns_keep, turns_run_where_owned, turns_tell_in_time, turns_tell_once, upcalls_tell_all,
     wants_have_causes,
 };
-pub use runs::{a_short_run_can_be_made, calls_go_on, runs_are_lawful};
+pub use runs::{a_short_run_can_be_made, calls_go_on, quiet_events_go_on, runs_are_lawful};

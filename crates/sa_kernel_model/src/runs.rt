@@ -1,6 +1,7 @@
 //! The kernel keeps its laws along each of its runs. No function here does anything.
 ghost use Rattle.sa_kernel_model.specs.Calls.{EntriesGoOn, SlicesGoOn};
 ghost use Rattle.sa_kernel_model.specs.Examples.{ShortRunCanBeMade};
+ghost use Rattle.sa_kernel_model.specs.Histories.{QuietEventsGoOn};
 ghost use Rattle.sa_kernel_model.specs.Runs.{RunsAreLawful, RunsAreTheirEvents};
 
 /// For each list of turns that can be taken from the opening on, with fetches of notices between them, over any contexts
@@ -21,4 +22,10 @@ pub fn a_short_run_can_be_made()
 pub fn calls_go_on<C: Drop>()
     ensures entries { EntriesGoOn C }
     ensures slices { SlicesGoOn C }
+{}
+
+/// A history goes on by an event of the user level's records alone, at which no slice ends: the kernel's laws hold there too,
+/// though the kernel is not called.
+pub fn quiet_events_go_on<C: Drop>()
+    ensures { QuietEventsGoOn C }
 {}

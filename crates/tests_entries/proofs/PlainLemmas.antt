@@ -1,5 +1,5 @@
 -- Plain entries say what any history reads, so a history goes on by them.
-use Rattle.std.proofs.Common.{◌≡◌, ℕ, Bool, true, false, not, ◌&&◌, is_none, IsSome, Option, Some, None, List, [], ◌∷◌, ◌++◌, refl, sym, ap, subst}
+use Rattle.std.proofs.Common.{◌≡◌, ℕ, ◌/◌, ◌%◌, ◌==◌, if◌then◌else◌, inl, inr, ◌∙◌, length, Bool, true, false, not, ◌&&◌, is_none, IsSome, Option, Some, None, List, [], ◌∷◌, ◌++◌, refl, sym, ap, subst}
 use Rattle.std.specs.Prelude.{slice_get}
 use Rattle.std.specs.Option.{option_map}
 use Rattle.std.proofs.lemmas.List.{append-nil}
@@ -10,13 +10,16 @@ use Rattle.sa_base.specs.declared.record.Item.{Item}
 use Rattle.sa_spaces.specs.Workload.{WorkloadView}
 use Rattle.sa_kernel_model.specs.declared.entry.Entry.{Entry}
 use Rattle.sa_kernel_model.specs.declared.entry.Entry.TheVariants.{Interrupt, Block, Complete, More, Idle, GiveBack, InterruptOwn}
-use Rattle.sa_kernel_model.specs.State.{State, Scene}
+use Rattle.sa_base.specs.declared.record.Record.TheVariants.{Tick}
+use Rattle.sa_kernel_model.specs.State.{State, Scene, line_of}
 use Rattle.sa_kernel_model.specs.Entries.{next_note, evicted_at}
 use Rattle.sa_kernel_model.specs.Fits.{IsFit}
 use Rattle.sa_kernel_model.specs.Turn.{SaysRightly}
-use Rattle.sa_kernel_model.specs.Histories.{IsHistory, GoesOnLawfully, KeepsHistories}
+use Rattle.sa_kernel_model.specs.Histories.{IsHistory, IsUnderWay, GoesOnLawfully}
 use Rattle.sa_laws.specs.Readings.{Readings}
-use Rattle.tests_entries.specs.Plain.{IsPlain, StaysLawful}
+use Rattle.sa_laws.specs.History.{Test}
+use Rattle.sa_laws.specs.Closing.{first_space}
+use Rattle.tests_entries.specs.Plain.{IsPlain, IsSameSlice, GoesFrom}
 
 -- who carries a thread is not idle
 busy : (inside : Bool) (thread : Option ThreadNo) (idle : Bool) → IsSome thread → idle ≡ false → idle ≡ (not inside && is_none thread)
@@ -58,19 +61,39 @@ fits-evicted e n k p (InterruptOwn q) fit = record {
   owned = record { owner = fit.owned.owner; low = fit.owned.low };
 }
 
--- a history goes on by a fetch that hands out nothing, and a plain entry
-pub turn-lawful : (e : ℕ) (p : ProcNo) (entry : Entry ℕ) (k0 k1 k2 k3 : State ℕ) (items : List Item) (new : Scene ℕ) → KeepsHistories k0 k1 → k2 ≡ k1
-    → k3 ≡ evicted_at e k2 → k3.telling ≡ [] → IsFit k2 p e entry → IsPlain entry → GoesOnLawfully e p (Some entry) (record { state = k3; items = items }) new
-    → StaysLawful (record { state = k0; items = items }) new
-turn-lawful e p entry k0 k1 k2 k3 items new keeps same evicts fetched fit plain goes test w past =
-    let history = subst (λ (k : State ℕ). IsHistory test w (record { state = k; items = items })) (sym same) (keeps test w items past) in
-    goes test w (record {
-      before = record { state = k2; items = items };
-      history = history;
+-- a history goes on by a plain entry
+pub enter-lawful : (e : ℕ) (p : ProcNo) (entry : Entry ℕ) (old mid : State ℕ) (before items : List Item) (new : Scene ℕ) → items ≡ before → mid ≡ evicted_at e old
+    → mid.telling ≡ [] → IsFit old p e entry → IsPlain entry → GoesOnLawfully e p (Some entry) (record { state = mid; items = items }) new
+    → (slice last : ℕ) → GoesFrom slice last e (record { state = old; items = before }) new
+enter-lawful e p entry old mid before items new same evicts fetched fit plain goes slice last test w slices past =
+    goes test w last (record {
+      before = record { state = old; items = before };
+      history = past;
       says = [];
       state = evicts;
-      items = sym (append-nil items);
+      items = same ∙ sym (append-nil before);
       fetched = fetched;
-      fits = subst (λ (k : State ℕ). IsFit k p e entry) (sym evicts) (fits-evicted e e k2 p entry fit);
-      right = says-rightly w k3 p _ _ entry plain;
+      fits = subst (λ (k : State ℕ). IsFit k p e entry) (sym evicts) (fits-evicted e e old p entry fit);
+      right = says-rightly w mid p _ _ entry plain;
     })
+
+-- an event of a tick goes on
+pub ticks : (test : Test) (w : WorkloadView) (last e : ℕ) (p : ProcNo) (old mid : State ℕ) (before items : List Item)
+    → items ≡ before ++ record { event = e; proc = p; what = Tick } ∷ [] → mid ≡ evicted_at e old → mid.telling ≡ [] → line_of old p ≡ None
+    → IsHistory test w last (record { state = old; items = before }) → IsUnderWay test w last e p None (record { state = mid; items = items })
+ticks test w last e p old mid before items added evicts fetched low past = record {
+  before = record { state = old; items = before };
+  history = past;
+  says = Tick ∷ [];
+  state = evicts;
+  items = added;
+  fetched = fetched;
+  fits = ap (λ (k : State ℕ). line_of k p) evicts ∙ low;
+  right = ((λ (none : Tick ∷ [] ≡ []). cc), refl);
+}
+
+pub same-first : (w : WorkloadView) (slice last e : ℕ) → w.slice ≡ slice → IsSameSlice slice last e → first_space w e ≡ first_space w last
+same-first w slice last e is (inl none) = ap (λ n. if n == 0 then 0 else (e / n) % length w.spaces) (is ∙ none) ∙ sym (ap (λ n. if n == 0 then 0 else (last / n) % length w.spaces) (is ∙ none))
+same-first w slice last e is (inr same) =
+    ap (λ n. if n == 0 then 0 else (e / n) % length w.spaces) is ∙ ap (λ q. if slice == 0 then 0 else q % length w.spaces) same
+    ∙ sym (ap (λ n. if n == 0 then 0 else (last / n) % length w.spaces) is)

@@ -1,5 +1,5 @@
 -- Entries that say little of the user level: the contexts that they hand over are at work, and none blocks.
-use Rattle.std.specs.Prelude.{◌≡◌, ℕ, false, Some, None, IsSome, ⊤}
+use Rattle.std.specs.Prelude.{◌≡◌, ◌⊎◌, ℕ, ◌/◌, false, Some, None, IsSome, ⊤}
 use Rattle.sa_base.specs.declared.context.Stopped.{Stopped}
 use Rattle.sa_spaces.specs.Workload.{WorkloadView}
 use Rattle.sa_kernel_model.specs.declared.entry.Entry.{Entry}
@@ -23,6 +23,10 @@ IsPlain Idle = ⊤
 IsPlain GiveBack = ⊤
 IsPlain (InterruptOwn q) = ⊤
 
--- a history stays one
-abbrev pub StaysLawful : Scene ℕ → Scene ℕ → Type 0
-StaysLawful old new = (test : Test) (w : WorkloadView) → IsHistory test w old → IsHistory test w new
+-- A history whose last event is this one becomes one whose last event is that one, where slices are so long.
+abbrev pub GoesFrom : ℕ → ℕ → ℕ → Scene ℕ → Scene ℕ → Type 0
+GoesFrom slice last next old new = (test : Test) (w : WorkloadView) → w.slice ≡ slice → IsHistory test w last old → IsHistory test w next new
+
+-- no slice ends between these events
+abbrev pub IsSameSlice : ℕ → ℕ → ℕ → Type 0
+IsSameSlice slice last event = (slice ≡ 0) ⊎ (event / slice ≡ last / slice)

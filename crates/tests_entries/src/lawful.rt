@@ -1,14 +1,16 @@
 // A caller that relies on the kernel's contracts alone: its trace is a history, at each event of which the kernel's laws hold.
-ghost use Rattle.std.specs.Prelude.{◌≡◌, ◌<◌, ◌≤◌, [], IfOk, IfSome};
+ghost use Rattle.std.specs.Prelude.{◌≡◌, ℕ, ◌<◌, ◌≤◌, [], None, IsTrue, IfOk, IfSome, OnOk};
 ghost use Rattle.sa_kernel.specs.Kept.{kernel_of, processors, scene};
+ghost use Rattle.sa_kernel_model.specs.State.{line_of};
 ghost use Rattle.sa_kernel_model.specs.Fits.{IsFit};
 ghost use Rattle.sa_kernel_model.specs.Histories.{IsHistory};
 ghost use Rattle.sa_laws.specs.History.{Test};
-ghost use Rattle.tests_entries.specs.Plain.{IsAtWork, IsPlain, StaysLawful};
+ghost use Rattle.tests_entries.specs.Plain.{GoesFrom, IsAtWork, IsPlain, IsSameSlice};
 
 use crate::bench::{Bench, fits};
 use sa_base::{Item, MAX_EVENTS, ProcNo, Record, Stopped, ThreadNo, Trace};
 use sa_kernel::{Entry, Kernel};
+use sa_kernel_model::quiet_events_go_on;
 use sa_spaces::Workload;
 use sa_trace::kind_counts;
 use sa_workload::read;
@@ -68,39 +70,108 @@ fn choose(kernel: &Kernel<u64>, event: u64, p: ProcNo) -> Option<Entry<u64>>
     }
 }
 
-// One turn: a notice is fetched, or else the kernel is entered where something fits.
-fn turn(
+// An event of an entry.
+fn enter(
     kernel: &mut Kernel<u64>,
     trace: &mut Trace,
     event: u64,
     p: ProcNo,
+    entry: Entry<u64>,
 ) -> Result<(), AllocError>
+    requires within { p.0 < processors kernel.old }
     requires later { kernel.old.last < event }
     requires event { event ≤ MAX_EVENTS }
-    ensures lawful { StaysLawful (scene kernel.old trace.old) (scene kernel.new trace.new) }
-    ensures last { kernel.new.last ≤ event }
+    requires fit { IsFit (kernel_of kernel.old) p event entry }
+    requires plain { IsPlain entry }
+    requires fetched { (kernel_of kernel.old).telling ≡ [] }
+    ensures lawful { OnOk result ((slice last : ℕ) → GoesFrom slice last event (scene kernel.old trace.old) (scene kernel.new trace.new)) }
+    ensures last { OnOk result (kernel.new.last ≡ event) }
 {
-    if kernel.next_note().is_some() || p.0 >= kernel.processors() {
-        return Ok(());
-    }
     kernel.reserve(1)?;
     trace.reserve(kernel.need())?;
-    let Some(entry) = choose(kernel, event, p) else {
-        return Ok(());
-    };
     kernel.evict(event);
     kernel.enter(p, event, entry, trace);
     Ok(())
 }
 
+// Whether no slice ends between the events.
+fn is_same_slice(slice: u32, last: u64, event: u64) -> bool
+    ensures { IsTrue result → IsSameSlice slice last event }
+{
+    slice == 0 || event / u64::from(slice) == last / u64::from(slice)
+}
+
+// An event in which nothing happens but a tick; the kernel hears of it only where a slice ends.
+fn tick(
+    kernel: &mut Kernel<u64>,
+    trace: &mut Trace,
+    slice: u32,
+    last: u64,
+    event: u64,
+    p: ProcNo,
+) -> Result<(), AllocError>
+    requires within { p.0 < processors kernel.old }
+    requires later { kernel.old.last < event }
+    requires event { event ≤ MAX_EVENTS }
+    requires low { line_of (kernel_of kernel.old) p ≡ None }
+    requires fetched { (kernel_of kernel.old).telling ≡ [] }
+    ensures lawful { OnOk result (GoesFrom slice last event (scene kernel.old trace.old) (scene kernel.new trace.new)) }
+    ensures last { OnOk result (kernel.new.last ≤ event) }
+{
+    trace.reserve(kernel.need() + 1)?;
+    kernel.evict(event);
+    trace.add(Item {
+        event,
+        proc: p,
+        what: Record::Tick,
+    });
+    if is_same_slice(slice, last, event) {
+        quiet_events_go_on::<u64>();
+    } else {
+        kernel.slice_end(p, event, trace);
+    }
+    Ok(())
+}
+
+// One turn: a notice is fetched, or else the kernel is entered where something fits, or a tick comes where nobody owns the
+// processor. The last event is answered.
+fn turn(
+    kernel: &mut Kernel<u64>,
+    trace: &mut Trace,
+    slice: u32,
+    last: u64,
+    event: u64,
+    p: ProcNo,
+) -> Result<u64, AllocError>
+    requires later { kernel.old.last < event }
+    requires event { event ≤ MAX_EVENTS }
+    ensures lawful { IfOk result (λ now. GoesFrom slice last now (scene kernel.old trace.old) (scene kernel.new trace.new)) }
+    ensures last { OnOk result (kernel.new.last ≤ event) }
+{
+    if kernel.next_note().is_some() || p.0 >= kernel.processors() {
+        return Ok(last);
+    }
+    if let Some(entry) = choose(kernel, event, p) {
+        enter(kernel, trace, event, p, entry)?;
+        return Ok(event);
+    }
+    if kernel.line(p).is_some() || kernel.owner(p).is_some() {
+        return Ok(last);
+    }
+    tick(kernel, trace, slice, last, event, p)?;
+    Ok(event)
+}
+
 // A run from the opening.
 fn run(alloc: Global, w: &Workload) -> Result<Bench, AllocError>
-    ensures { IfOk result (λ b. (test : Test) → IsHistory test w.now (scene b.kernel b.trace)) }
+    ensures { IfOk result (λ b. (test : Test) → (last : ℕ) × IsHistory test w.now last (scene b.kernel b.trace)) }
 {
     let mut trace = Trace::new(alloc);
     let mut kernel = Kernel::start(alloc, w, &mut trace)?;
+    let mut last = 0;
     for event in 1..TURNS {
-        turn(&mut kernel, &mut trace, event, ProcNo((event % 5) as u16))?;
+        let p = ProcNo((event % 5) as u16);
+        last = turn(&mut kernel, &mut trace, w.slice(), last, event, p)?;
     }
     Ok(Bench { kernel, trace })
 }
