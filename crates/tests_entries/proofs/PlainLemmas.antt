@@ -15,9 +15,10 @@ use Rattle.sa_kernel_model.specs.State.{State, Scene, line_of}
 use Rattle.sa_kernel_model.specs.Entries.{next_note, evicted_at}
 use Rattle.sa_kernel_model.specs.Fits.{IsFit}
 use Rattle.sa_kernel_model.specs.Turn.{SaysRightly}
-use Rattle.sa_kernel_model.specs.Histories.{IsHistory, IsUnderWay, GoesOnLawfully}
+use Rattle.sa_kernel_model.specs.Histories.{IsHistory, IsUnderWay, GoesOnLawfully, read_behind}
 use Rattle.sa_laws.specs.Readings.{Readings}
-use Rattle.sa_laws.specs.History.{Test}
+use Rattle.sa_laws.specs.History.{Test, readings}
+use Rattle.sa_laws.specs.Opening.{opening_event}
 use Rattle.sa_laws.specs.Closing.{first_space}
 use Rattle.tests_entries.specs.Plain.{IsPlain, IsSameSlice, GoesFrom}
 
@@ -63,7 +64,7 @@ fits-evicted e n k p (InterruptOwn q) fit = record {
 
 -- a history goes on by a plain entry
 pub enter-lawful : (e : ℕ) (p : ProcNo) (entry : Entry ℕ) (old mid : State ℕ) (before items : List Item) (new : Scene ℕ) → items ≡ before → mid ≡ evicted_at e old
-    → mid.telling ≡ [] → IsFit old p e entry → IsPlain entry → GoesOnLawfully e p (Some entry) (record { state = mid; items = items }) new
+    → old.telling ≡ [] → IsFit old p e entry → IsPlain entry → GoesOnLawfully e p (Some entry) (record { state = mid; items = items }) new
     → (slice last : ℕ) → GoesFrom slice last e (record { state = old; items = before }) new
 enter-lawful e p entry old mid before items new same evicts fetched fit plain goes slice last test w slices past =
     goes test w last (record {
@@ -72,14 +73,14 @@ enter-lawful e p entry old mid before items new same evicts fetched fit plain go
       says = [];
       state = evicts;
       items = same ∙ sym (append-nil before);
-      fetched = fetched;
+      fetched = ap (λ (k : State ℕ). k.telling) evicts ∙ fetched;
       fits = subst (λ (k : State ℕ). IsFit k p e entry) (sym evicts) (fits-evicted e e old p entry fit);
-      right = says-rightly w mid p _ _ entry plain;
+      right = (let r = readings test w (opening_event w ∷ past.events) in says-rightly w mid p r (read_behind w e p r []) entry plain);
     })
 
 -- an event of a tick goes on
 pub ticks : (test : Test) (w : WorkloadView) (last e : ℕ) (p : ProcNo) (old mid : State ℕ) (before items : List Item)
-    → items ≡ before ++ record { event = e; proc = p; what = Tick } ∷ [] → mid ≡ evicted_at e old → mid.telling ≡ [] → line_of old p ≡ None
+    → items ≡ before ++ record { event = e; proc = p; what = Tick } ∷ [] → mid ≡ evicted_at e old → old.telling ≡ [] → line_of old p ≡ None
     → IsHistory test w last (record { state = old; items = before }) → IsUnderWay test w last e p None (record { state = mid; items = items })
 ticks test w last e p old mid before items added evicts fetched low past = record {
   before = record { state = old; items = before };
@@ -87,7 +88,7 @@ ticks test w last e p old mid before items added evicts fetched low past = recor
   says = Tick ∷ [];
   state = evicts;
   items = added;
-  fetched = fetched;
+  fetched = ap (λ (k : State ℕ). k.telling) evicts ∙ fetched;
   fits = ap (λ (k : State ℕ). line_of k p) evicts ∙ low;
   right = ((λ (none : Tick ∷ [] ≡ []). cc), refl);
 }

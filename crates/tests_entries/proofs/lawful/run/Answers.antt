@@ -1,0 +1,12 @@
+use Rattle.std.proofs.Common.{◌+◌, ◌<◌, sym, arith}
+use Rattle.sa_laws.specs.History.{Test}
+use Rattle.tests_entries.proofs.lawful.run.Goals as goal
+
+pub loop-event-preserved : goal.loop-event-preserved
+loop-event-preserved c = record {
+  later = (let last = c.in_ok-last.ensures.last in omega arith);
+  history = λ (test : Test). c.in_ok-last.ensures.lawful test c.args.w.now (sym c.slice.ensures.value) (c.loop-event.invariant.history test);
+}
+
+pub returns : goal.returns
+returns c = λ test. (c.loop-event.last, c.loop-event.invariant.history test)
