@@ -44,5 +44,5 @@ module _ {C : Type 0} where
       → state_of new ≡ after_fetch (state_of m).telling (state_of m) → KeepsHistories (kernel_of v) (state_of new)
   lawful-fetch v m new room final view is =
       subst (λ (w : KernelView C). KeepsHistories (kernel_of w) (state_of new)) view
-      (λ test w last items history. subst (λ (k : State C). IsHistory test w last (record { state = k; items = items })) (sym is)
-      (history-fetched test w last (record { state = state_of m; items = items }) history))
+      (λ test w events items history. subst (λ (k : State C). IsHistory test w events (record { state = k; items = items })) (sym is)
+      (history-fetched test w events (record { state = state_of m; items = items }) history))

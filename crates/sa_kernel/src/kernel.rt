@@ -58,7 +58,7 @@ impl<C: Drop> Kernel<C> {
         ensures err { OnErr result (trace.new.items ≡ []) }
 
         // The trace is the opening's, and a history of which the kernel's laws hold.
-        ensures lawful { IfOk result (λ k. (test : Test) → IsHistory test w.now 0 (scene k trace.new)) }
+        ensures lawful { IfOk result (λ k. (test : Test) → IsHistory test w.now [] (scene k trace.new)) }
     {
         w.ranges();
         trace.reserve(OPENING)?;

@@ -3,9 +3,8 @@ ghost use Rattle.std.specs.Prelude.{◌≡◌, ℕ, ◌<◌, ◌≤◌, [], None
 ghost use Rattle.sa_kernel.specs.Kept.{kernel_of, processors, scene};
 ghost use Rattle.sa_kernel_model.specs.State.{line_of};
 ghost use Rattle.sa_kernel_model.specs.Fits.{IsFit};
-ghost use Rattle.sa_kernel_model.specs.Histories.{IsHistory};
 ghost use Rattle.sa_laws.specs.History.{Test};
-ghost use Rattle.tests_entries.specs.Plain.{GoesFrom, IsAtWork, IsPlain, IsSameSlice};
+ghost use Rattle.tests_entries.specs.Plain.{GoesFrom, IsAtWork, IsLawful, IsPlain, IsSameSlice};
 
 use crate::bench::{Bench, fits};
 use sa_base::{Item, MAX_EVENTS, ProcNo, Record, Stopped, ThreadNo, Trace};
@@ -165,7 +164,7 @@ fn turn(
 
 // A run from the opening.
 fn run(alloc: Global, w: &Workload) -> Result<Bench, AllocError>
-    ensures { IfOk result (λ b. (test : Test) → (last : ℕ) × IsHistory test w.now last (scene b.kernel b.trace)) }
+    ensures { IfOk result (λ b. (test : Test) → (last : ℕ) × IsLawful test w.now last (scene b.kernel b.trace)) }
 {
     let mut trace = Trace::new(alloc);
     let mut kernel = Kernel::start(alloc, w, &mut trace)?;

@@ -1,4 +1,4 @@
-use Rattle.std.proofs.Common.{◌∙◌, sym, subst}
+use Rattle.std.proofs.Common.{◌∙◌, [], sym, subst}
 use Rattle.sa_kernel.proofs.KeptLemmas.{kept-start, opened-is, owed-new, telling-new}
 use Rattle.sa_kernel.specs.View.{scene_of}
 use Rattle.sa_laws.specs.History.{Test}
@@ -26,4 +26,4 @@ pub returns-clause-lawful : goal.returns-clause-lawful
 returns-clause-lawful g c =
     let is = opened-is c.in_ok-parts.parts c.args.w.now c.reserve.new.self.items (scene_of c.open.new.self c.open.new.trace) c.in_ok-parts.ensures.state
     (c.reserve.ensures.items ∙ c.requires) c.open.ensures.exact in
-    λ (test : Test). subst (λ (x : Scene g.row.C.Denot). IsHistory test c.args.w.now 0 x) (sym is) (history-opens test c.args.w.now c.ranges-2.ensures)
+    λ (test : Test). subst (λ (x : Scene g.row.C.Denot). IsHistory test c.args.w.now [] x) (sym is) (history-opens test c.args.w.now c.ranges-2.ensures)
