@@ -1,4 +1,4 @@
-use Rattle.std.proofs.Common.{◌+◌, ◌<◌, [], refl, sym, arith}
+use Rattle.std.proofs.Common.{[], refl, sym, arith}
 use Rattle.sa_laws.specs.History.{Test}
 use Rattle.tests_entries.proofs.lawful.run.Goals as goal
 
