@@ -21,7 +21,7 @@ use Rattle.sa_text.specs.LineText.{LineText}
 use Rattle.sa_text.specs.Pieces.{pieces_of}
 use Rattle.sa_workload.specs.Bad.{DeclaredNumbers, Field, operand_field, instr_words}
 use Rattle.sa_workload.specs.Fields.{and_then, unless, or_cause, numbered, with_rest, field_at, index_of, fields_at, line_numbers, at_end}
-use Rattle.sa_workload.specs.Position.{Machine, Draft, Position, AtSpace, AtInstr, AtEvict, AtTurn, IsReached}
+use Rattle.sa_workload.specs.Position.{Machine, Draft, Position, AtSpace, AtAbsent, AtProgram, AtInstr, AtEvict, AtTurn, IsReached}
 use Rattle.sa_workload.specs.Steps.{workload, space_of_draft, with_program, after_sem, after_program, after_instr}
 use Rattle.sa_workload.specs.Next.{draft_from, draft_numbers, space_fields, operand_from, operands_from, operation_of, made_by, is_end, step, step_instr, instr_in, close_at, next_by, next}
 use Rattle.sa_workload.specs.declared.cause.Refusal.{Refusal}
@@ -42,6 +42,13 @@ eq_word word l k r b e is t = ap (bytes_eq word) (sym e) ∙ sym is ∙ t
 pub not_false : (b : Bool) → not b ≡ false → b ≡ true
 not_false true h = refl
 not_false false h = absurd (cc h)
+
+pub other_word : (word k : List ℕ) (r : Bool) → r ≡ not (bytes_eq word k) → r ≡ true → bytes_eq word k ≡ false
+other_word word k r is t = by_test (bytes_eq word k) (sym is ∙ t)
+  where
+    by_test : (b : Bool) → not b ≡ true → b ≡ false
+    by_test true h = absurd (cc h)
+    by_test false h = refl
 
 pub ne_word : (word l k : List ℕ) (r : Bool) → l ≡ k → r ≡ not (bytes_eq word l) → r ≡ false → bytes_eq word k ≡ true
 ne_word word l k r e is t = ap (bytes_eq word) (sym e) ∙ not_false (bytes_eq word l) (sym is ∙ t)
@@ -98,6 +105,26 @@ evict_close versions m spaces es word words one other = by_test (bytes_eq word (
     by_test true t =
         subst (λ (w : List ℕ). next_by versions (AtEvict m spaces es) w words ≡ close_at (workload m spaces es []) w words) (sym ((bytes_eq-Decides word (codes "close")).0 t)) refl
     by_test false f = rw (one, other, f) refl
+
+-- a line that is no `evict` line is read as behind no turns
+pub evict_turn : (versions : ℕ) (m : Machine) (spaces : List SpaceView) (es : List Evict) (word : List ℕ) (words : List (List ℕ)) → bytes_eq word (codes "evict") ≡ false
+    → next_by versions (AtEvict m spaces es) word words ≡ next_by versions (AtTurn m spaces es []) word words
+evict_turn versions m spaces es word words other = by_test (bytes_eq word (codes "turn")) refl
+  where
+    by_test : (b : Bool) → bytes_eq word (codes "turn") ≡ b → next_by versions (AtEvict m spaces es) word words ≡ next_by versions (AtTurn m spaces es []) word words
+    by_test true t =
+        subst (λ (w : List ℕ). next_by versions (AtEvict m spaces es) w words ≡ next_by versions (AtTurn m spaces es []) w words) (sym ((bytes_eq-Decides word (codes "turn")).0 t)) refl
+    by_test false f = evict_close versions m spaces es word words other f ∙ sym (turn_close versions m spaces es [] word words f)
+
+-- and one that is no `absent` line as a program's
+pub absent_program : (versions : ℕ) (m : Machine) (spaces : List SpaceView) (d : Draft) (word : List ℕ) (words : List (List ℕ)) → bytes_eq word (codes "absent") ≡ false
+    → next_by versions (AtAbsent m spaces d) word words ≡ next_by versions (AtProgram m spaces d) word words
+absent_program versions m spaces d word words other = by_test (bytes_eq word (codes "program")) refl
+  where
+    by_test : (b : Bool) → bytes_eq word (codes "program") ≡ b → next_by versions (AtAbsent m spaces d) word words ≡ next_by versions (AtProgram m spaces d) word words
+    by_test true t =
+        subst (λ (w : List ℕ). next_by versions (AtAbsent m spaces d) w words ≡ next_by versions (AtProgram m spaces d) w words) (sym ((bytes_eq-Decides word (codes "program")).0 t)) refl
+    by_test false f = rw (other, f) refl
 
 -- an instruction, by its operation
 pub instr_none : (n : DeclaredNumbers) (word : List ℕ) (words : List (List ℕ)) → IsNoWord word → instr_in n word words ≡ Err 2

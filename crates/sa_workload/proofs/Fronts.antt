@@ -33,17 +33,6 @@ All-front P xs y h = λ k d l. subst P (get_or_append_left xs (y ∷ []) d k l) 
 pub All-last : {X : Type 0} (P : X → Type 0) (xs : List X) (y : X) → All P (xs ++ y ∷ []) → P y
 All-last P xs y h = subst P (get_or_push xs y y (length xs) refl) (h (length xs) y (omega (arith, length_push xs y)))
 
-pub increasing-front : (xs : List ℕ) (y : ℕ) → IsStrictlyIncreasing (xs ++ y ∷ []) → IsStrictlyIncreasing xs
-increasing-front xs y h = λ k l.
-    let l' : k < length xs = omega arith in
-    subst₂ (λ (a b : ℕ). a < b) (get_or_append_left xs (y ∷ []) 0 k l') (get_or_append_left xs (y ∷ []) 0 (k + 1) l) (h k (omega (arith, length_push xs y)))
-
-pub adjacent-front : {X : Type 0} (R : X → X → Type 0) (xs : List X) (y : X) → AllAdjacentBelow R (xs ++ y ∷ []) (length (xs ++ y ∷ []))
-    → AllAdjacentBelow R xs (length xs)
-adjacent-front {X} R xs y h = λ k d l.
-    let l' : k < length xs = omega arith in
-    subst₂ (λ (a b : X). R a b) (get_or_append_left xs (y ∷ []) d k l') (get_or_append_left xs (y ∷ []) d (k + 1) l) (h k d (omega (arith, length_push xs y)))
-
 -- a test of each element of a list
 pub all_true : {X : Type 0} (f : X → ℕ) (n : ℕ) (xs : List X) → All (λ (x : X). f x ≡ n) xs → list_all (λ (x : X). eqb (f x) n) xs ≡ true
 all_true f n [] h = refl

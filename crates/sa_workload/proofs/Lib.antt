@@ -20,3 +20,4 @@ pub mod OneBad
 pub mod Whole
 pub mod TableLaws
 pub mod Calls
+pub mod MachineLines

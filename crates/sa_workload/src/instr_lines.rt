@@ -114,11 +114,19 @@ fn read_operand(
     match kind {
         OperandKind::Register => words.register().map(Operand::Register),
         OperandKind::Value => words.within(0, u64::MAX).map(Operand::Value),
-        OperandKind::Place => words.target(len).map(Operand::Place),
-        OperandKind::Cell => words.declared(draft.cells).map(Operand::Cell),
-        OperandKind::Program => words.declared(draft.program_count).map(Operand::Program),
-        OperandKind::Mutex => words.declared(draft.mutexes).map(Operand::Mutex),
-        OperandKind::Semaphore => words.declared(draft.sem_count).map(Operand::Semaphore),
+        OperandKind::Place => words.below(len, Cause::BadTarget).map(Operand::Place),
+        OperandKind::Cell => words
+            .below(draft.cells, Cause::NoSuchName)
+            .map(Operand::Cell),
+        OperandKind::Program => words
+            .below(draft.program_count, Cause::NoSuchName)
+            .map(Operand::Program),
+        OperandKind::Mutex => words
+            .below(draft.mutexes, Cause::NoSuchName)
+            .map(Operand::Mutex),
+        OperandKind::Semaphore => words
+            .below(draft.sem_count, Cause::NoSuchName)
+            .map(Operand::Semaphore),
         OperandKind::Length => Ok(Operand::Length(words.within(1, MAX_IO_LENGTH as u64)? as u32)),
         OperandKind::Page => Ok(Operand::Page(
             words.within(FIRST_THREAD_PAGE as u64, LAST_PAGE as u64)? as u16,
