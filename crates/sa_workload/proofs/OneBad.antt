@@ -10,10 +10,10 @@ use Rattle.sa_text.specs.Pieces.{pieces_of}
 use Rattle.sa_workload.specs.Text.{workload_lines, text_of}
 use Rattle.sa_workload.specs.Bad.{Grammar, Begins, LineCause, words_of, IsBad}
 use Rattle.sa_workload.specs.Laws.{TextsDiffer}
-use Rattle.sa_workload.proofs.Completion.{begins_front}
-use Rattle.sa_workload.proofs.Standing.{lines-injective}
-use Rattle.sa_workload.proofs.OneCause.{causes-are_one}
-use Rattle.sa_workload.proofs.TextLemmas.{ended_line, line_texts-text_of, words_of-text_of}
+use Rattle.sa_workload.proofs.forward.Completion.{begins_front}
+use Rattle.sa_workload.proofs.forward.Standing.{lines-injective}
+use Rattle.sa_workload.proofs.causes.OneCause.{causes-are_one}
+use Rattle.sa_workload.proofs.whole.TextLemmas.{ended_line, line_texts-text_of, words_of-text_of}
 
 -- the lines up to one of them
 split_at : (ls : List LineText) (i n : ℕ) (line : LineText) → slice_get ls i ≡ Some line → i < n

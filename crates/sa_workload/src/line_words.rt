@@ -65,7 +65,7 @@ impl<'a> Words<'a> {
     }
 
     /// A number between these two.
-    #[tactic(auto, using(crate::proofs::FieldLemmas::number_field))]
+    #[tactic(auto, using(crate::proofs::fields::FieldLemmas::number_field))]
     pub(crate) fn within(&mut self, low: u64, high: u64) -> Result<u64, Cause>
         ensures read { with_rest result self.new ≡ field_at (within low high) self.old }
         ensures fits { IfOk result (λ n. n ≤ high) }
@@ -79,7 +79,7 @@ impl<'a> Words<'a> {
     }
 
     /// A number below this count, else this cause.
-    #[tactic(auto, using(crate::proofs::FieldLemmas::number_field))]
+    #[tactic(auto, using(crate::proofs::fields::FieldLemmas::number_field))]
     pub(crate) fn below(&mut self, count: u16, cause: Cause) -> Result<u16, Cause>
         ensures read { with_rest result self.new
             ≡ field_at (Number (λ n. nat_lt n count) (cause_number cause)) self.old }

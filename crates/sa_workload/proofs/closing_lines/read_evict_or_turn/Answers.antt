@@ -5,7 +5,7 @@ use Rattle.sa_workload.specs.Position.{AtTurn}
 use Rattle.sa_workload.specs.Steps.{workload}
 use Rattle.sa_workload.specs.Next.{next_by}
 use Rattle.sa_workload.specs.Stage.{machine_of, Gives}
-use Rattle.sa_workload.proofs.Calls.{eq_word, evict_turn}
+use Rattle.sa_workload.proofs.calls.Calls.{eq_word, evict_turn}
 use Rattle.sa_workload.proofs.closing_lines.read_evict_or_turn.Goals as goal
 
 pub read_turn_or_close-requires : goal.read_turn_or_close-requires

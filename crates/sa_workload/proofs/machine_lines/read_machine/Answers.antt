@@ -1,10 +1,10 @@
-use Rattle.std.proofs.Common.{refl, sym, ap, ◌∙◌, ◌∷◌, [], Result, List, ℕ}
+use Rattle.std.proofs.Common.{refl, sym, ap, ◌∙◌, [], Result, List, ℕ}
 use Rattle.std.proofs.lemmas.Result.{err_from_is_err_and}
 use Rattle.sa_workload.specs.Fields.{and_then}
 use Rattle.sa_workload.specs.Next.{step}
 use Rattle.sa_workload.specs.Stage.{machine_position}
-use Rattle.sa_workload.proofs.Calls.{other_word, ne_word}
-use Rattle.sa_workload.proofs.MachineLines.{no_line, number_line}
+use Rattle.sa_workload.proofs.calls.Calls.{other_word, ne_word}
+use Rattle.sa_workload.proofs.calls.MachineLines.{no_line, number_line}
 use Rattle.sa_workload.proofs.machine_lines.read_machine.Goals as goal
 
 pub returns-then-ne : goal.returns-then-ne

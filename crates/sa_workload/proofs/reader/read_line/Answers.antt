@@ -2,7 +2,7 @@ use Rattle.std.proofs.Common.{sym, ◌∙◌, subst}
 use Rattle.std.proofs.lemmas.Result.{err_from_is_err_and}
 use Rattle.sa_text.specs.Line.{text_of_line}
 use Rattle.sa_workload.specs.Stage.{position_of, Gives}
-use Rattle.sa_workload.proofs.Calls.{line_next}
+use Rattle.sa_workload.proofs.calls.Calls.{line_next}
 use Rattle.sa_workload.proofs.reader.read_line.Goals as goal
 
 pub returns-in_err-check_line : goal.returns-in_err-check_line

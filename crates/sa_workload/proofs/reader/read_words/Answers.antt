@@ -1,7 +1,7 @@
 use Rattle.std.proofs.Common.{subst, refl}
 use Rattle.sa_workload.specs.Position.{IsReached}
 use Rattle.sa_workload.specs.Stage.{machine_of, position_of}
-use Rattle.sa_workload.proofs.Reached.{reached-first_close, reached-close}
+use Rattle.sa_workload.proofs.forward.Reached.{reached-first_close, reached-close}
 use Rattle.sa_workload.proofs.reader.read_words.Goals as goal
 
 pub returns-in-Space : goal.returns-in-Space

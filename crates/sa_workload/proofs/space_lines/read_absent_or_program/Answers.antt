@@ -1,6 +1,6 @@
 use Rattle.std.proofs.Common.{sym, subst, codes, false}
 use Rattle.sa_workload.specs.Stage.{machine_of, draft_of, Gives}
-use Rattle.sa_workload.proofs.Calls.{eq_word, absent_program}
+use Rattle.sa_workload.proofs.calls.Calls.{eq_word, absent_program}
 use Rattle.sa_workload.proofs.space_lines.read_absent_or_program.Goals as goal
 
 pub returns : goal.returns

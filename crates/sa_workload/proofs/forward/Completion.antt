@@ -1,5 +1,5 @@
 -- The lines of each reached position begin a text: it goes on with what is missing, as short as can be.
-use Rattle.std.proofs.Common.{◌≡◌, ◌≢◌, ℕ, zero, suc, ◌+◌, ◌-◌, ◌<◌, ◌≤◌, ◌==◌, if◌then◌else◌, Bool, true, false, List, [], ◌∷◌, ◌++◌, length, inl, inr, refl, sym, ap, subst, ◌∙◌, arith, append_assoc, append-nil, eq-eqb, ne_eqb}
+use Rattle.std.proofs.Common.{◌≡◌, ◌≢◌, ℕ, zero, suc, ◌+◌, ◌-◌, ◌<◌, ◌≤◌, ◌==◌, if◌then◌else◌, Bool, true, false, List, [], ◌∷◌, ◌++◌, length, refl, sym, ap, subst, ◌∙◌, arith, append_assoc, append-nil, eq-eqb, ne_eqb}
 use Rattle.std.proofs.lemmas.Bool.{cond_both, cond-true, cond-false}
 use Rattle.std.specs.List.{list_all}
 use Rattle.std.proofs.lemmas.List.{length_push}
@@ -14,8 +14,8 @@ use Rattle.sa_workload.specs.Text.{version_of, workload_lines}
 use Rattle.sa_workload.specs.Bad.{Grammar, AnyVersion, Version1, Begins}
 use Rattle.sa_workload.specs.Position.{Machine, Draft, Position, AtVersion, AtProcessors, AtFetch, AtSlice, AtSpaces, AtSpace, AtSem, AtAbsent, AtProgram, AtInstr, AtEvict, AtTurn, Closed, shown, IsReached}
 use Rattle.sa_workload.specs.Steps.{workload, space_of_draft, with_sem, with_program, after_fetch, after_sem, after_spaces, after_program, after_instr, Steps, step_version, step_processors, step_fetch, step_slice, step_spaces, step_space, step_sem, step_first_program, step_program, step_instr, step_first_close, step_close}
-use Rattle.sa_workload.proofs.ShownStep.{shown-step}
-use Rattle.sa_workload.proofs.Reached.{IsSpaceLine, reached-version, reached-processors, reached-fetch, reached-slice, reached-spaces, reached-space, reached-sem, reached-first_program, reached-program, reached-instr, reached-first_close, reached-close}
+use Rattle.sa_workload.proofs.forward.ShownStep.{shown-step}
+use Rattle.sa_workload.proofs.forward.Reached.{IsSpaceLine, reached-version, reached-processors, reached-fetch, reached-slice, reached-spaces, reached-space, reached-sem, reached-first_program, reached-program, reached-instr, reached-first_close, reached-close}
 
 -- what each `after_` position is: with all read, and with more to come
 pub after_sem-full : (m : Machine) (spaces : List SpaceView) (d : Draft) → length d.sems ≡ d.sem_count → after_sem m spaces d ≡ AtAbsent m spaces d

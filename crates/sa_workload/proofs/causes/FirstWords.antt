@@ -7,15 +7,14 @@ use Rattle.std.proofs.lemmas.List.Sums.{sum_by-append, sum_by-cons, length-filte
 use Rattle.sa_base.specs.declared.number.ProcNo.{ProcNo}
 use Rattle.sa_instr.specs.declared.instr.Instr.{Instr}
 use Rattle.sa_instr.specs.declared.operation.Operation.{Operation}
-use Rattle.sa_instr.specs.declared.operation.Operation.TheVariants.{Compute, Set, Add, Sub, Jnz, Load, Store, Out, Fork, Join, Lock, Unlock, Wait, Signal, Io, Touch, End}
 use Rattle.sa_instr.specs.Operation.{form_of}
 use Rattle.sa_instr.specs.Parts.{parts_of}
 use Rattle.sa_spaces.specs.declared.workload.Evict.{Evict}
 use Rattle.sa_spaces.specs.Space.{SpaceView}
 use Rattle.sa_workload.specs.Text.{instr_line, program_lines, sem_line, absent_line, space_line, space_lines, evict_line, turn_line, slice_lines}
 use Rattle.sa_workload.specs.Bad.{first_word, last_line, last_with, instr_words, count_of_word}
-use Rattle.sa_workload.proofs.FieldLemmas.{contained}
-use Rattle.sa_workload.proofs.InstrLemmas.{operation-expected}
+use Rattle.sa_workload.proofs.fields.FieldLemmas.{contained}
+use Rattle.sa_workload.proofs.fields.InstrLemmas.{operation-expected}
 use Rattle.sa_workload.specs.Position.{Machine, version_line, processors_line, fetch_line, spaces_line, shown_machine}
 
 -- each line begins with one of the words

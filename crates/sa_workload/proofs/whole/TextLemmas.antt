@@ -1,5 +1,5 @@
 -- The texts of lines: each line's words are printed characters with no space, so the text's lines and pieces are these words again.
-use Rattle.std.proofs.Common.{◌≡◌, ◌≢◌, ℕ, ◌⊎◌, inl, inr, ◌^◌, ◌<◌, ◌≤◌, leb, Bool, true, false, cond, ◌&&◌, List, [], ◌∷◌, ◌++◌, length, get_or, map, All, Ok, codes, decimal, arith, rules, tests, refl, sym, ◌∙◌, ap, subst}
+use Rattle.std.proofs.Common.{◌≡◌, ◌≢◌, ℕ, ◌⊎◌, inl, inr, ◌^◌, ◌<◌, ◌≤◌, leb, Bool, true, cond, ◌&&◌, List, [], ◌∷◌, ◌++◌, length, map, All, Ok, codes, decimal, arith, rules, tests, refl, sym, ◌∙◌, ap, subst}
 use Rattle.std.specs.Option.{is_some}
 use Rattle.std.specs.List.{flat_map, join_with_byte, list_all}
 use Rattle.std.proofs.lemmas.List.Elements.{All-nil, All-cons, All-head, All-tail, All-append, All-map, All-weaker}
@@ -18,12 +18,12 @@ use Rattle.sa_workload.specs.Fields.{index_of}
 use Rattle.sa_workload.specs.Position.{Position, AtVersion, Closed}
 use Rattle.sa_workload.specs.Steps.{expected}
 use Rattle.sa_workload.specs.Next.{next, fields_of}
-use Rattle.sa_workload.proofs.FieldLemmas.{and_then-ok, contained, spelled, Passes, spelled_all, AllPass}
-use Rattle.sa_workload.proofs.Words.{passes}
-use Rattle.sa_workload.proofs.Sound.{took}
-use Rattle.sa_workload.proofs.Complete.{run, complete}
-use Rattle.sa_workload.proofs.Standing.{version_of-le}
-use Rattle.sa_workload.proofs.PrintedText.{join-spaced}
+use Rattle.sa_workload.proofs.fields.FieldLemmas.{and_then-ok, contained, spelled, Passes, spelled_all, AllPass}
+use Rattle.sa_workload.proofs.causes.FirstWords.{passes}
+use Rattle.sa_workload.proofs.forward.Sound.{took}
+use Rattle.sa_workload.proofs.forward.Complete.{run, complete}
+use Rattle.sa_workload.proofs.forward.Standing.{version_of-le}
+use Rattle.sa_workload.proofs.calls.PrintedText.{join-spaced}
 
 -- each byte is printed and no space
 abbrev pub IsVisible : List ℕ → Type 0

@@ -1,11 +1,11 @@
 -- Instructions by operation and operands: what is read from their lines, and back.
-use Rattle.std.proofs.Common.{◌≡◌, ℕ, zero, suc, ◌-◌, ◌^◌, ◌<◌, Bool, true, false, List, [], ◌∷◌, ◌++◌, length, get_or, map, Option, Some, None, IsSome, codes, decimal, refl, sym, ap, ap₂, ◌∙◌, subst, arith, lt-ltb}
+use Rattle.std.proofs.Common.{◌≡◌, ℕ, suc, ◌-◌, ◌^◌, ◌<◌, Bool, true, false, List, [], ◌∷◌, ◌++◌, length, get_or, map, Option, Some, None, IsSome, codes, decimal, refl, sym, ap, ap₂, ◌∙◌, subst, arith, lt-ltb}
 use Rattle.std.specs.Option.{is_some}
 use Rattle.std.proofs.lemmas.List.{get_or-map}
 use Rattle.sa_base.specs.declared.limits.TheConstants.{FIRST_THREAD_PAGE}
 use Rattle.sa_instr.specs.declared.limits.TheConstants.{LAST_PAGE, MAX_IO_LENGTH}
 use Rattle.sa_instr.specs.declared.instr.Reg.{Reg}
-use Rattle.sa_instr.specs.declared.instr.Reg.TheVariants.{R0, R1, R2, R3, R4, R5, R6, R7}
+use Rattle.sa_instr.specs.declared.instr.Reg.TheVariants.{R0}
 use Rattle.sa_instr.specs.declared.instr.Instr.{Instr}
 use Rattle.sa_instr.specs.declared.operand.Operand.{Operand}
 use Rattle.sa_instr.specs.declared.operand.Operand.TheVariants.{Register, Value, Place, Cell, Program, Mutex, Semaphore, Length, Page}
@@ -23,7 +23,7 @@ use Rattle.sa_workload.specs.Text.{operand_word, instr_line}
 use Rattle.sa_workload.specs.Bad.{DeclaredNumbers, Field, operand_field, fields_by, instr_words}
 use Rattle.sa_workload.specs.Fields.{index_of}
 use Rattle.sa_workload.specs.Next.{reg_from, operand_from, operands_from, operation_of, made_by}
-use Rattle.sa_workload.proofs.FieldLemmas.{contained, spelled, Passes, spelled_all, AllPass, passes-within, passes-declared, within-passes, declared-passes}
+use Rattle.sa_workload.proofs.fields.FieldLemmas.{contained, spelled, Passes, spelled_all, AllPass, passes-within, passes-declared, within-passes, declared-passes}
 
 reg_number-from : (n : ℕ) → n < 8 → reg_number (reg_from n) ≡ n
 reg_number-from (suc (suc (suc (suc (suc (suc (suc (suc n)))))))) h = absurd (omega arith)

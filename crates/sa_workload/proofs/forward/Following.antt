@@ -10,16 +10,16 @@ use Rattle.sa_spaces.specs.declared.workload.Evict.{Evict}
 use Rattle.sa_spaces.specs.Space.{SpaceView}
 use Rattle.sa_spaces.specs.Workload.{IsEviction}
 use Rattle.sa_workload.specs.Text.{sem_line, absent_line, evict_line, turn_line}
-use Rattle.sa_workload.specs.Bad.{Grammar, AnyVersion, Version1, Begins, MayFollow, IsRightWord, instr_words, first_word, last_line}
+use Rattle.sa_workload.specs.Bad.{Grammar, Begins, MayFollow, IsRightWord, instr_words, first_word, last_line}
 use Rattle.sa_workload.specs.Position.{Machine, Draft, Position, AtVersion, AtProcessors, AtFetch, AtSlice, AtSpaces, AtSpace, AtSem, AtAbsent, AtProgram, AtInstr, AtEvict, AtTurn, Closed, draft_line, shown_spaces, shown, IsReached}
 use Rattle.sa_workload.specs.Steps.{Steps, step_version, step_processors, step_fetch, step_slice, step_spaces, step_space, step_sem, step_absent, step_first_program, step_program, step_instr, step_evict, step_first_turn, step_first_close, step_close, expected}
-use Rattle.sa_workload.proofs.ShownStep.{shown-step}
-use Rattle.sa_workload.proofs.Reached.{reached-version, reached-processors, reached-fetch, reached-slice, reached-spaces, reached-space, reached-sem, reached-absent, reached-first_program, reached-program, reached-instr, reached-evict, reached-first_turn, reached-first_close, reached-close}
-use Rattle.sa_workload.proofs.Completion.{AcceptsUpTo, new_draft, new_patience, fits_space, completes}
-use Rattle.sa_workload.proofs.FieldLemmas.{contained}
-use Rattle.sa_workload.proofs.Fronts.{not_empty}
-use Rattle.sa_workload.proofs.Sound.{by_word}
-use Rattle.sa_workload.proofs.Words.{last_line-push}
+use Rattle.sa_workload.proofs.forward.ShownStep.{shown-step}
+use Rattle.sa_workload.proofs.forward.Reached.{reached-version, reached-processors, reached-fetch, reached-slice, reached-spaces, reached-space, reached-sem, reached-absent, reached-first_program, reached-program, reached-instr, reached-evict, reached-first_turn, reached-first_close, reached-close}
+use Rattle.sa_workload.proofs.forward.Completion.{AcceptsUpTo, new_draft, new_patience, fits_space, completes}
+use Rattle.sa_workload.proofs.fields.FieldLemmas.{contained}
+use Rattle.sa_workload.proofs.forward.Fronts.{not_empty}
+use Rattle.sa_workload.proofs.forward.Sound.{by_word}
+use Rattle.sa_workload.proofs.causes.FirstWords.{last_line-push}
 use Rattle.sa_workload.specs.Fields.{index_of}
 
 -- behind some lines of one word the last line begins with it

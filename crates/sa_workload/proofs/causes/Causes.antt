@@ -6,19 +6,19 @@ use Rattle.std.specs.Str.Parse.{digits_value}
 use Rattle.std.proofs.lemmas.Bool.{false≢true, eqb-true}
 use Rattle.std.proofs.lemmas.Slice.Eq.{bytes_eq-Decides}
 use Rattle.sa_instr.specs.declared.instr.Instr.{Instr}
-use Rattle.sa_instr.specs.declared.instr.Instr.TheVariants.{Compute, Set, Add, Sub, Jnz, Load, Store, Out, Fork, Join, Lock, Unlock, Wait, Signal, Io, Touch, End}
+use Rattle.sa_instr.specs.declared.instr.Instr.TheVariants.{End}
 use Rattle.sa_spaces.specs.Space.{SpaceView}
 use Rattle.sa_workload.specs.Text.{instr_line}
 use Rattle.sa_workload.specs.Bad.{first_word, Grammar, Begins, Field, IsOutOfOrder, IsInOrder, FieldCause, WordCause, list_lt}
 use Rattle.sa_workload.specs.Fields.{and_then, order_cause, line_numbers, index_of}
-use Rattle.sa_workload.specs.Position.{Machine, Draft, Position, AtVersion, AtProcessors, AtFetch, AtSlice, AtSpaces, AtSpace, AtSem, AtAbsent, AtProgram, AtInstr, AtEvict, AtTurn, Closed, shown}
+use Rattle.sa_workload.specs.Position.{Machine, Draft, Position, AtAbsent, AtInstr, AtEvict, AtTurn, Closed, shown}
 use Rattle.sa_workload.specs.Steps.{expected, after_instr}
 use Rattle.sa_workload.specs.Next.{numbers_at, is_full, last_numbers, fields_of, is_end, step, step_instr, next}
-use Rattle.sa_workload.proofs.FieldLemmas.{same_err, both_true, if_either, and_then-err, spelled_all, AllPass, all_right, all_long, line-ok, line-err}
-use Rattle.sa_workload.proofs.InstrLemmas.{instr-read}
-use Rattle.sa_workload.proofs.Orders.{order-some, order-none}
-use Rattle.sa_workload.proofs.LineAt.{numbers_of-spelled, OrderAt, free, behind, LineAt, line_at}
-use Rattle.sa_workload.proofs.Standing.{IsAt, Setting, begins-next, expects, expected_words}
+use Rattle.sa_workload.proofs.fields.FieldLemmas.{same_err, both_true, if_either, and_then-err, spelled_all, AllPass, all_right, all_long, line-ok, line-err}
+use Rattle.sa_workload.proofs.fields.InstrLemmas.{instr-read}
+use Rattle.sa_workload.proofs.forward.Orders.{order-some, order-none}
+use Rattle.sa_workload.proofs.causes.LineAt.{numbers_of-spelled, OrderAt, free, behind, LineAt, line_at}
+use Rattle.sa_workload.proofs.forward.Standing.{IsAt, Setting, begins-next, expects, expected_words}
 
 -- an order that is broken, and one that is kept
 out_of_order : (p : Position) (word : List ℕ) (fields : List Field) → OrderAt p word fields → (ns : List ℕ) (rest : List (List ℕ)) (why : ℕ) → AllPass fields ns

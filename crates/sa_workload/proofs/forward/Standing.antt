@@ -1,5 +1,5 @@
 -- Where a reader stands behind lines: what it keeps, and which words it expects.
-use Rattle.std.proofs.Common.{◌≡◌, ℕ, ◌<◌, ◌≤◌, Bool, true, false, List, [], ◌∷◌, ◌++◌, length, get_or, Contains, Option, Some, None, Result, Ok, codes, refl, sym, ap, ◌∙◌, subst, inl, inr, arith, append_assoc, eqb, if◌then◌else◌}
+use Rattle.std.proofs.Common.{◌≡◌, ℕ, ◌≤◌, Bool, true, false, List, [], ◌∷◌, ◌++◌, Contains, Result, Ok, codes, refl, sym, ap, ◌∙◌, subst, inl, inr, arith, append_assoc, eqb, if◌then◌else◌}
 use Rattle.std.specs.Option.{is_some}
 use Rattle.std.specs.List.{list_all}
 use Rattle.std.proofs.lemmas.Bool.{false≢true}
@@ -14,14 +14,14 @@ use Rattle.sa_workload.specs.Fields.{and_then, index_of}
 use Rattle.sa_workload.specs.Position.{Position, AtVersion, AtProcessors, AtFetch, AtSlice, AtSpaces, AtSpace, AtSem, AtAbsent, AtProgram, AtInstr, AtEvict, AtTurn, Closed, IsReached, shown}
 use Rattle.sa_workload.specs.Steps.{Steps, expected, step_version, step_processors, step_fetch, step_slice, step_spaces, step_space, step_sem, step_absent, step_first_program, step_program, step_instr, step_evict, step_first_turn, step_turn, step_first_close, step_close}
 use Rattle.sa_workload.specs.Next.{next}
-use Rattle.sa_workload.proofs.FieldLemmas.{same_ok, and_then-ok, known_word}
-use Rattle.sa_workload.proofs.InstrLemmas.{operation-expected}
-use Rattle.sa_workload.proofs.ShownStep.{shown-step}
-use Rattle.sa_workload.proofs.Completion.{AcceptsUpTo, any_version, version_1, completes}
-use Rattle.sa_workload.proofs.Following.{right_word}
-use Rattle.sa_workload.proofs.Words.{is_other, other, last_line-push}
-use Rattle.sa_workload.proofs.Sound.{by_word, took, GoesTo, sound}
-use Rattle.sa_workload.proofs.Complete.{run, run-append, run-then, complete}
+use Rattle.sa_workload.proofs.fields.FieldLemmas.{same_ok, and_then-ok, known_word}
+use Rattle.sa_workload.proofs.fields.InstrLemmas.{operation-expected}
+use Rattle.sa_workload.proofs.forward.ShownStep.{shown-step}
+use Rattle.sa_workload.proofs.forward.Completion.{AcceptsUpTo, any_version, version_1, completes}
+use Rattle.sa_workload.proofs.forward.Following.{right_word}
+use Rattle.sa_workload.proofs.causes.FirstWords.{is_other, other, last_line-push}
+use Rattle.sa_workload.proofs.forward.Sound.{by_word, took, GoesTo, sound}
+use Rattle.sa_workload.proofs.forward.Complete.{run, run-append, run-then, complete}
 
 none_of : (ks : List (List ℕ)) (word : List ℕ) → is_other word ks ≡ true → Contains ks word → ⊥
 none_of ks word h c = absurd (cc (other word word ks c h, (bytes_eq-Decides word word).1 refl))
