@@ -10,9 +10,10 @@ use Rattle.sa_text.specs.Pieces.{pieces_of}
 use Rattle.sa_workload.specs.Text.{workload_lines, text_of}
 use Rattle.sa_workload.specs.Bad.{Grammar, Begins, LineCause, words_of, IsBad}
 use Rattle.sa_workload.specs.Laws.{TextsDiffer}
-use Rattle.sa_workload.proofs.Standing.{lines-injective}
-use Rattle.sa_workload.proofs.OneCause.{causes-are_one}
-use Rattle.sa_workload.proofs.TextLemmas.{ended_line, line_texts-text_of, words_of-text_of}
+use Rattle.sa_workload.proofs.forward.Completion.{begins_front}
+use Rattle.sa_workload.proofs.forward.Standing.{lines-injective}
+use Rattle.sa_workload.proofs.causes.OneCause.{causes-are_one}
+use Rattle.sa_workload.proofs.whole.TextLemmas.{ended_line, line_texts-text_of, words_of-text_of}
 
 -- the lines up to one of them
 split_at : (ls : List LineText) (i n : ℕ) (line : LineText) → slice_get ls i ≡ Some line → i < n
@@ -29,10 +30,6 @@ words_split : (xs : List LineText) (line : LineText) (ys : List LineText)
     → words_of (xs ++ line ∷ ys) ≡ (words_of xs ++ pieces_of line.bytes ∷ []) ++ words_of ys
 words_split xs line ys =
     map-append (λ (l : LineText). pieces_of l.bytes) xs (line ∷ ys) ∙ sym (append_assoc (words_of xs) (pieces_of line.bytes ∷ []) (words_of ys))
-
--- lines that begin a text, begin it with fewer of them
-pub begins_front : (g : Grammar) (xs ys : List (List (List ℕ))) → Begins g (xs ++ ys) → Begins g xs
-begins_front g xs ys b = record { workload = b.workload; accepted = b.accepted; more = ys ++ b.more; text = b.text ∙ append_assoc xs ys b.more }
 
 -- what a bad line says of its place, where it is missing and where it stands
 abbrev AtEnd : Grammar → List LineText → ℕ → ℕ → Type 0

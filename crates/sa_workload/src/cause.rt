@@ -7,7 +7,7 @@ use sa_base::{Bad, Cause, Unread};
 use std::alloc::{AllocError, AllocFailed};
 
 /// Why the reader does not go on behind a line.
-#[derive(Clone, Copy, Debug, PartialEq, Eq)]
+#[derive(Clone, Copy)]
 pub(crate) enum Refusal {
     /// The line is wrong.
     Because(Cause),

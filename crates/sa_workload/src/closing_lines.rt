@@ -7,7 +7,7 @@ ghost use Rattle.sa_workload.specs.Bad.{within, declared, list_lt};
 ghost use Rattle.sa_workload.specs.Fields.{and_then, numbered, fields_at, line_numbers, order_cause};
 ghost use Rattle.sa_workload.specs.Position.{AtEvict, AtTurn, Closed};
 ghost use Rattle.sa_workload.specs.Next.{evict_numbers, last_of, close_at, next_by};
-ghost use Rattle.sa_workload.specs.Stage.{machine_of, position_of, IsSound, Gives, GivesAny};
+ghost use Rattle.sa_workload.specs.Stage.{machine_of, Gives, GivesAny};
 ghost use Rattle.sa_workload.specs.Steps.{workload};
 
 use crate::cause::Refusal;
@@ -18,7 +18,7 @@ use sa_instr::{LAST_PAGE, MAX_EVICTIONS, MAX_TURNS};
 use sa_spaces::{Evict, SpaceDef, Workload};
 use std::alloc::Global;
 
-/// `evict E S K`, the first `turn P`, or `close`.
+/// `evict E S K`; another line is read as behind no turns.
 pub(crate) fn read_evict_or_turn(
     alloc: Global,
     header: Header,
@@ -27,7 +27,7 @@ pub(crate) fn read_evict_or_turn(
     word: &[u8],
     words: Words,
 ) -> Result<Stage, Refusal>
-    requires { IsSound (AtEvict (machine_of header) spaces.items evictions.items) }
+    requires { IsWorkload (workload (machine_of header) spaces.items evictions.items []) }
     ensures { GivesAny (λ versions. next_by versions (AtEvict (machine_of header) spaces.items evictions.items) word.now words.entry) result }
 {
     if word == b"evict".as_slice() {
@@ -38,15 +38,10 @@ pub(crate) fn read_evict_or_turn(
         evictions.push(evict)?;
         return Ok(Stage::Evict(header, spaces, evictions));
     }
-    if word == b"turn".as_slice() {
-        let mut turns = Vec::new(alloc);
-        turns.push(read_turn(&header, words)?)?;
-        return Ok(Stage::Turn(header, spaces, evictions, turns));
-    }
-    close(header, spaces, evictions, Vec::new(alloc), word, words)
+    read_turn_or_close(header, spaces, evictions, Vec::new(alloc), word, words)
 }
 
-/// A further `turn P`, or `close`.
+/// `turn P`, or `close`.
 pub(crate) fn read_turn_or_close(
     header: Header,
     spaces: Vec<SpaceDef>,
@@ -55,7 +50,7 @@ pub(crate) fn read_turn_or_close(
     word: &[u8],
     words: Words,
 ) -> Result<Stage, Refusal>
-    requires { IsSound (AtTurn (machine_of header) spaces.items evictions.items turns.items) }
+    requires { IsWorkload (workload (machine_of header) spaces.items evictions.items turns.items) }
     ensures { GivesAny (λ versions. next_by versions (AtTurn (machine_of header) spaces.items evictions.items turns.items) word.now words.entry) result }
 {
     if word == b"turn".as_slice() {
@@ -74,7 +69,7 @@ fn read_evict(spaces: u16, evictions: &[Evict], mut words: Words) -> Result<Evic
         ≡ line_numbers (within 1 MAX_EVENTS ∷ declared spaces ∷ within 0 LAST_PAGE ∷ []) (option_map evict_numbers (last_of evictions.now)) words.entry }
 {
     let event = words.within(1, MAX_EVENTS)?;
-    let space = words.declared(spaces)?;
+    let space = words.below(spaces, Cause::NoSuchName)?;
     let page = words.within(0, LAST_PAGE as u64)?;
     let evict = Evict {
         event,

@@ -8,6 +8,7 @@ ghost use Rattle.sa_workload.specs.Bad.{operand_field};
 ghost use Rattle.sa_workload.specs.Fields.{and_then, or_cause, numbered, with_rest, field_at, fields_at};
 ghost use Rattle.sa_workload.specs.Position.{AtInstr};
 ghost use Rattle.sa_workload.specs.Next.{draft_numbers, operand_from, operands_from, instr_in, is_end, next_by};
+ghost use Rattle.sa_workload.specs.LastInstr.{ended};
 ghost use Rattle.sa_workload.specs.Stage.{machine_of, draft_of, position_of, IsSound, GivesAny};
 ghost use Rattle.sa_workload.specs.Steps.{after_program as behind_program, space_of_draft, with_program};
 
@@ -34,9 +35,9 @@ pub(crate) fn read_instr(
     ensures { GivesAny (λ versions. next_by versions (AtInstr (machine_of header) spaces.items (draft_of draft) len instrs.items) word.now words.entry) result }
 {
     let is_last = instrs.len() + 1 == usize::from(len);
-    let instr = instr_of(&draft, len, word, words)?;
+    let instr = next_instr(&draft, len, is_last, word, words)?;
+    instrs.push(instr)?;
     if !is_last {
-        instrs.push(instr)?;
         return Ok(Stage::Instr {
             header,
             spaces,
@@ -45,11 +46,27 @@ pub(crate) fn read_instr(
             instrs,
         });
     }
-    if !is_end(&instr) {
-        return Err(Refusal::Because(Cause::Missing));
-    }
-    instrs.push(instr)?;
     after_program(alloc, header, spaces, draft, instrs)
+}
+
+/// The instruction of a whole line; the last one is `end`.
+fn next_instr(
+    draft: &SpaceDraft,
+    len: u16,
+    is_last: bool,
+    word: &[u8],
+    words: Words,
+) -> Result<Instr, Cause>
+    ensures { numbered result ≡ and_then (instr_in (draft_numbers (draft_of draft.now) len) word.now words.entry) (ended is_last) }
+{
+    let instr = instr_of(draft, len, word, words)?;
+    if !is_last {
+        return Ok(instr);
+    }
+    if !is_end(&instr) {
+        return Err(Cause::Missing);
+    }
+    Ok(instr)
 }
 
 /// Whether the instruction is `end`.
@@ -114,11 +131,19 @@ fn read_operand(
     match kind {
         OperandKind::Register => words.register().map(Operand::Register),
         OperandKind::Value => words.within(0, u64::MAX).map(Operand::Value),
-        OperandKind::Place => words.target(len).map(Operand::Place),
-        OperandKind::Cell => words.declared(draft.cells).map(Operand::Cell),
-        OperandKind::Program => words.declared(draft.program_count).map(Operand::Program),
-        OperandKind::Mutex => words.declared(draft.mutexes).map(Operand::Mutex),
-        OperandKind::Semaphore => words.declared(draft.sem_count).map(Operand::Semaphore),
+        OperandKind::Place => words.below(len, Cause::BadTarget).map(Operand::Place),
+        OperandKind::Cell => words
+            .below(draft.cells, Cause::NoSuchName)
+            .map(Operand::Cell),
+        OperandKind::Program => words
+            .below(draft.program_count, Cause::NoSuchName)
+            .map(Operand::Program),
+        OperandKind::Mutex => words
+            .below(draft.mutexes, Cause::NoSuchName)
+            .map(Operand::Mutex),
+        OperandKind::Semaphore => words
+            .below(draft.sem_count, Cause::NoSuchName)
+            .map(Operand::Semaphore),
         OperandKind::Length => Ok(Operand::Length(words.within(1, MAX_IO_LENGTH as u64)? as u32)),
         OperandKind::Page => Ok(Operand::Page(
             words.within(FIRST_THREAD_PAGE as u64, LAST_PAGE as u64)? as u16,

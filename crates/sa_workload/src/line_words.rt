@@ -4,7 +4,7 @@ ghost use Rattle.std.specs.Option.{option_map};
 ghost use Rattle.sa_text.specs.Line.{IsWithin};
 ghost use Rattle.sa_text.specs.Pieces.{pieces_of};
 ghost use Rattle.sa_base.specs.Cause.{cause_number};
-ghost use Rattle.sa_workload.specs.Bad.{Register, Number, within, declared, registers};
+ghost use Rattle.sa_workload.specs.Bad.{Register, Number, within, registers};
 ghost use Rattle.sa_workload.specs.Fields.{and_then, numbered, with_rest, index_of, field_at, number_at, at_end, line_numbers};
 ghost use Rattle.sa_workload.specs.Next.{reg_from};
 
@@ -65,7 +65,7 @@ impl<'a> Words<'a> {
     }
 
     /// A number between these two.
-    #[tactic(auto, using(crate::proofs::FieldLemmas::number_field))]
+    #[tactic(auto, using(crate::proofs::fields::FieldLemmas::number_field))]
     pub(crate) fn within(&mut self, low: u64, high: u64) -> Result<u64, Cause>
         ensures read { with_rest result self.new ≡ field_at (within low high) self.old }
         ensures fits { IfOk result (λ n. n ≤ high) }
@@ -78,30 +78,17 @@ impl<'a> Words<'a> {
         }
     }
 
-    /// The number of one of so many things that are declared.
-    #[tactic(auto, using(crate::proofs::FieldLemmas::number_field))]
-    pub(crate) fn declared(&mut self, count: u16) -> Result<u16, Cause>
-        ensures read { with_rest result self.new ≡ field_at (declared count) self.old }
+    /// A number below this count, else this cause.
+    #[tactic(auto, using(crate::proofs::fields::FieldLemmas::number_field))]
+    pub(crate) fn below(&mut self, count: u16, cause: Cause) -> Result<u16, Cause>
+        ensures read { with_rest result self.new
+            ≡ field_at (Number (λ n. nat_lt n count) (cause_number cause)) self.old }
     {
         let number = self.number()?;
         if number < u64::from(count) {
             Ok(number as u16)
         } else {
-            Err(Cause::NoSuchName)
-        }
-    }
-
-    /// The place of one of so many instructions.
-    #[tactic(auto, using(crate::proofs::FieldLemmas::number_field))]
-    pub(crate) fn target(&mut self, len: u16) -> Result<u16, Cause>
-        ensures read { with_rest result self.new
-            ≡ field_at (Number (λ place. nat_lt place len) 7) self.old }
-    {
-        let number = self.number()?;
-        if number < u64::from(len) {
-            Ok(number as u16)
-        } else {
-            Err(Cause::BadTarget)
+            Err(cause)
         }
     }
 
@@ -126,29 +113,20 @@ impl<'a> Words<'a> {
     }
 }
 
-/// The register of this name.
+/// The register of this name: `r` and its number.
 fn register_of(word: &[u8]) -> Option<Reg>
     ensures { result ≡ option_map reg_from (index_of word.now registers) }
 {
-    if word == b"r0".as_slice() {
-        Some(Reg::R0)
-    } else if word == b"r1".as_slice() {
-        Some(Reg::R1)
-    } else if word == b"r2".as_slice() {
-        Some(Reg::R2)
-    } else if word == b"r3".as_slice() {
-        Some(Reg::R3)
-    } else if word == b"r4".as_slice() {
-        Some(Reg::R4)
-    } else if word == b"r5".as_slice() {
-        Some(Reg::R5)
-    } else if word == b"r6".as_slice() {
-        Some(Reg::R6)
-    } else if word == b"r7".as_slice() {
-        Some(Reg::R7)
-    } else {
-        None
+    if word.len() != 2 {
+        return None;
     }
+    if word[0] != b'r' {
+        return None;
+    }
+    if word[1] < b'0' {
+        return None;
+    }
+    Reg::new(word[1] - b'0')
 }
 
 /// A number between these two, which is the last word of the line.

@@ -1,20 +1,21 @@
 // The reader: one line after another.
-ghost use Rattle.std.specs.Prelude.{◌≡◌, ℕ, ◌≤◌, MatchResult, IfOk, IfErr};
+ghost use Rattle.std.specs.Prelude.{◌≡◌, ℕ, ◌≤◌, MatchResult, IfOk, IfErr, Err, true};
+ghost use Rattle.sa_base.specs.Cause.{cause_number};
 ghost use Rattle.sa_spaces.specs.Workload.{WorkloadView};
 ghost use Rattle.sa_text.specs.Line.{IsWithin, text_of_line};
 ghost use Rattle.sa_workload.specs.Answer.{IfBad};
 ghost use Rattle.sa_workload.specs.Bad.{BadAt, BadAt1};
 ghost use Rattle.sa_workload.specs.Text.{IsText, IsText1};
-ghost use Rattle.sa_workload.specs.Position.{IsReached};
+ghost use Rattle.sa_workload.specs.Position.{Position, IsReached};
 ghost use Rattle.sa_workload.specs.Next.{next_by};
 ghost use Rattle.sa_workload.specs.Reading.{is_printed, line_in, read_of, IsReading};
-ghost use Rattle.sa_workload.specs.Stage.{machine_position, position_of, Gives};
+ghost use Rattle.sa_workload.specs.Stage.{position_of, Gives};
 
 use crate::cause::Refusal;
 use crate::closing_lines::{read_evict_or_turn, read_turn_or_close};
 use crate::instr_lines::read_instr;
 use crate::line_words::Words;
-use crate::machine_lines::{read_fetch, read_processors, read_slice, read_spaces, read_version};
+use crate::machine_lines::read_machine;
 use crate::space_lines::{read_absent_or_program, read_program, read_sem, read_space};
 use crate::stage::{MachineStage, Stage};
 use sa_base::{Bad, Cause, Unread};
@@ -92,17 +93,28 @@ fn read_line(
     requires within { IsWithin bytes.now line }
     ensures { Gives (line_in versions (position_of stage) (text_of_line bytes.now line)) result }
 {
-    if !is_printed(&bytes[line.start..line.end]) {
-        return Err(Refusal::Because(Cause::NotAscii));
-    }
-    if !line.ended {
-        return Err(Refusal::Because(Cause::Missing));
-    }
+    check_line(bytes, &line)?;
     let mut words = Words::new(bytes, line);
     let Some(word) = words.next() else {
         return Err(Refusal::Because(Cause::BadWord));
     };
     read_words(alloc, versions, stage, word, words)
+}
+
+/// The line is printed, and has its line feed.
+fn check_line(bytes: &[u8], line: &Line) -> Result<(), Cause>
+    requires { IsWithin bytes.now line.now }
+    ensures { let text = text_of_line bytes.now line.now in
+        MatchResult result (λ _. (is_printed text.bytes ≡ true) × (text.ended ≡ true))
+        (λ cause. (versions : ℕ) (p : Position) → line_in versions p text ≡ Err (cause_number cause)) }
+{
+    if !is_printed(&bytes[line.start..line.end]) {
+        return Err(Cause::NotAscii);
+    }
+    if !line.ended {
+        return Err(Cause::Missing);
+    }
+    Ok(())
 }
 
 /// Whether each byte is a printed ASCII character.
@@ -148,36 +160,5 @@ fn read_words(
             read_turn_or_close(header, spaces, evictions, turns, word, words)
         }
         Stage::Closed(_) => Err(Refusal::Because(Cause::BadWord)),
-    }
-}
-
-/// The stage behind a line before those of the spaces.
-fn read_machine(
-    alloc: Global,
-    versions: u16,
-    stage: MachineStage,
-    word: &[u8],
-    words: Words,
-) -> Result<Stage, Refusal>
-    ensures { Gives (next_by versions (machine_position stage) word.now words.entry) result }
-{
-    match stage {
-        MachineStage::Version => read_version(versions, word, words),
-        MachineStage::Processors { version } => read_processors(version, word, words),
-        MachineStage::Fetch {
-            version,
-            processors,
-        } => read_fetch(version, processors, word, words),
-        MachineStage::Slice {
-            version,
-            processors,
-            fetch,
-        } => read_slice(version, processors, fetch, word, words),
-        MachineStage::Spaces {
-            version,
-            processors,
-            fetch,
-            slice,
-        } => read_spaces(alloc, version, processors, fetch, slice, word, words),
     }
 }

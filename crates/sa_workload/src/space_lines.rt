@@ -119,7 +119,7 @@ pub(crate) fn read_sem(
     Ok(after_sem(header, spaces, draft))
 }
 
-/// `absent K`, or the first `program L`.
+/// `absent K`; another line is read as the first of the programs.
 pub(crate) fn read_absent_or_program(
     alloc: Global,
     header: Header,
@@ -135,17 +135,7 @@ pub(crate) fn read_absent_or_program(
         draft.absent.push(page)?;
         return Ok(Stage::Absent(header, spaces, draft));
     }
-    if word != b"program".as_slice() {
-        return Err(Refusal::Because(Cause::BadWord));
-    }
-    let len = last_number(words, 1, MAX_INSTRUCTIONS as u64)?;
-    Ok(Stage::Instr {
-        header,
-        spaces,
-        draft,
-        len: len as u16,
-        instrs: Vec::new(alloc),
-    })
+    read_program(alloc, header, spaces, draft, word, words)
 }
 
 /// The page behind `absent`, where these came before it.
@@ -171,7 +161,7 @@ fn in_order(pages: &[u16], page: u16) -> Result<(), Cause>
     }
 }
 
-/// A further `program L`.
+/// `program L`.
 pub(crate) fn read_program(
     alloc: Global,
     header: Header,

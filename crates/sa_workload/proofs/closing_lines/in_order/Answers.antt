@@ -1,6 +1,6 @@
 use Rattle.std.proofs.Common.{sym, ◌∙◌}
 use Rattle.sa_workload.specs.Next.{last_of}
-use Rattle.sa_workload.proofs.Orders.{order_at, order_same}
+use Rattle.sa_workload.proofs.forward.Orders.{order_at, order_same}
 use Rattle.sa_workload.proofs.closing_lines.in_order.Goals as goal
 
 pub returns-then-eq : goal.returns-then-eq

@@ -1,6 +1,6 @@
 use Rattle.std.proofs.Common.{sym, subst, codes, false}
 use Rattle.sa_workload.specs.Stage.{machine_of, Gives}
-use Rattle.sa_workload.proofs.Calls.{eq_word, turn_close}
+use Rattle.sa_workload.proofs.calls.Calls.{eq_word, turn_close}
 use Rattle.sa_workload.proofs.closing_lines.read_turn_or_close.Goals as goal
 
 pub returns : goal.returns

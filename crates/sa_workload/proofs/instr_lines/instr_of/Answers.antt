@@ -3,7 +3,7 @@ use Rattle.std.proofs.lemmas.Result.{err_from_is_err_and}
 use Rattle.sa_base.specs.Cause.{cause_number}
 use Rattle.sa_workload.specs.Next.{draft_numbers}
 use Rattle.sa_workload.specs.Stage.{draft_of}
-use Rattle.sa_workload.proofs.Calls.{instr_none, instr_err, instr_long, instr_ok}
+use Rattle.sa_workload.proofs.calls.Calls.{instr_none, instr_err, instr_long, instr_ok}
 use Rattle.sa_workload.proofs.instr_lines.instr_of.Goals as goal
 
 pub returns-in_default : goal.returns-in_default

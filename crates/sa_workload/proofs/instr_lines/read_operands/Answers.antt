@@ -2,7 +2,7 @@ use Rattle.std.proofs.lemmas.Result.{err_from_is_err_and}
 use Rattle.sa_base.specs.Cause.{cause_number}
 use Rattle.sa_workload.specs.Next.{draft_numbers}
 use Rattle.sa_workload.specs.Stage.{draft_of}
-use Rattle.sa_workload.proofs.Calls.{read_none, first_err, read_one, read_two, second_err}
+use Rattle.sa_workload.proofs.calls.Calls.{read_none, first_err, read_one, read_two, second_err}
 use Rattle.sa_workload.proofs.instr_lines.read_operands.Goals as goal
 
 pub returns-then-kinds-eq0 : goal.returns-then-kinds-eq0

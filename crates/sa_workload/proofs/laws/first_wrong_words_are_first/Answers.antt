@@ -1,6 +1,6 @@
 use Rattle.sa_workload.specs.Bad.{AnyVersion, Version1}
-use Rattle.sa_workload.proofs.Standing.{any, alone}
-use Rattle.sa_workload.proofs.TableLaws.{first_wrong_words}
+use Rattle.sa_workload.proofs.forward.Standing.{any, alone}
+use Rattle.sa_workload.proofs.whole.TableLaws.{first_wrong_words}
 use Rattle.sa_workload.proofs.laws.first_wrong_words_are_first.Goals as goal
 
 pub returns-clause-any : goal.returns-clause-any

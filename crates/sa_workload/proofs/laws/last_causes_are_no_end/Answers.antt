@@ -1,6 +1,6 @@
 use Rattle.sa_workload.specs.Bad.{AnyVersion, Version1}
-use Rattle.sa_workload.proofs.Standing.{any, alone}
-use Rattle.sa_workload.proofs.TableLaws.{last_cause_is_no_end}
+use Rattle.sa_workload.proofs.forward.Standing.{any, alone}
+use Rattle.sa_workload.proofs.whole.TableLaws.{last_cause_is_no_end}
 use Rattle.sa_workload.proofs.laws.last_causes_are_no_end.Goals as goal
 
 pub returns-clause-any : goal.returns-clause-any

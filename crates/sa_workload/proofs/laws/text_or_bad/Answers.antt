@@ -1,4 +1,4 @@
-use Rattle.sa_workload.proofs.Whole.{answers, answers1, either}
+use Rattle.sa_workload.proofs.whole.Whole.{answers, answers1, either}
 use Rattle.sa_workload.proofs.laws.text_or_bad.Goals as goal
 
 pub returns-clause-any : goal.returns-clause-any

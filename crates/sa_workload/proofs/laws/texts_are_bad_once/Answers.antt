@@ -1,4 +1,4 @@
-use Rattle.sa_workload.proofs.Whole.{answers, answers1}
+use Rattle.sa_workload.proofs.whole.Whole.{answers, answers1}
 use Rattle.sa_workload.proofs.laws.texts_are_bad_once.Goals as goal
 
 pub returns-clause-text : goal.returns-clause-text

@@ -1,4 +1,4 @@
-use Rattle.sa_workload.proofs.TextLemmas.{line_texts-text_of, words_of-text_of, text_of-from_words, text_of-printed}
+use Rattle.sa_workload.proofs.whole.TextLemmas.{line_texts-text_of, words_of-text_of, text_of-from_words, text_of-printed}
 use Rattle.sa_workload.proofs.laws.texts_are_lines_of_words.Goals as goal
 
 pub returns-clause-lines : goal.returns-clause-lines

@@ -1,4 +1,4 @@
-use Rattle.sa_workload.proofs.Standing.{lines-injective}
+use Rattle.sa_workload.proofs.forward.Standing.{lines-injective}
 use Rattle.sa_workload.proofs.OneBad.{texts_differ}
 use Rattle.sa_workload.proofs.laws.texts_differ.Goals as goal
 

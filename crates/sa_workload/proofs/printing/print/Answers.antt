@@ -1,7 +1,7 @@
 use Rattle.std.proofs.Common.{◌++◌, ◌∙◌, ap}
 use Rattle.std.specs.List.{flat_map}
 use Rattle.sa_workload.specs.Text.{line_text, machine_lines, space_lines, version_of}
-use Rattle.sa_workload.proofs.PrintedText.{pushed_all}
+use Rattle.sa_workload.proofs.calls.PrintedText.{pushed_all}
 use Rattle.sa_workload.proofs.printing.print.Goals as goal
 
 pub returns : goal.returns

@@ -2,7 +2,7 @@ use Rattle.std.proofs.Common.{◌++◌, ◌∙◌, ap}
 use Rattle.std.specs.List.{flat_map}
 use Rattle.std.proofs.lemmas.Result.{on_ok_weaker}
 use Rattle.sa_workload.specs.Text.{line_text, evict_line, turn_line}
-use Rattle.sa_workload.proofs.PrintedText.{pushed_closing}
+use Rattle.sa_workload.proofs.calls.PrintedText.{pushed_closing}
 use Rattle.sa_workload.proofs.printing.push_closing.Goals as goal
 
 pub returns : goal.returns

@@ -1,7 +1,7 @@
 use Rattle.std.proofs.Common.{◌∙◌, ap}
 use Rattle.std.proofs.lemmas.Result.{on_ok_weaker}
 use Rattle.std.specs.Prelude.{length}
-use Rattle.sa_workload.proofs.PrintedText.{pushed_machine}
+use Rattle.sa_workload.proofs.calls.PrintedText.{pushed_machine}
 use Rattle.sa_workload.proofs.printing.push_machine.Goals as goal
 
 pub returns : goal.returns

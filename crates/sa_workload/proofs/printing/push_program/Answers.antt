@@ -1,5 +1,5 @@
 use Rattle.std.proofs.Common.{◌∙◌, arith}
-use Rattle.sa_workload.proofs.PrintedText.{pushed_program}
+use Rattle.sa_workload.proofs.calls.PrintedText.{pushed_program}
 use Rattle.sa_workload.proofs.printing.push_program.Goals as goal
 
 pub returns : goal.returns

@@ -2,7 +2,7 @@ use Rattle.std.proofs.Common.{◌++◌, ◌∙◌, ap}
 use Rattle.std.specs.List.{flat_map}
 use Rattle.std.proofs.lemmas.Result.{on_ok_weaker}
 use Rattle.sa_workload.specs.Text.{line_text, sem_line, absent_line, program_lines}
-use Rattle.sa_workload.proofs.PrintedText.{pushed_space}
+use Rattle.sa_workload.proofs.calls.PrintedText.{pushed_space}
 use Rattle.sa_workload.proofs.printing.push_space.Goals as goal
 
 pub returns : goal.returns

@@ -4,7 +4,7 @@ use Rattle.std.proofs.lemmas.Result.{on_ok_weaker}
 use Rattle.sa_instr.specs.Operation.{form_of}
 use Rattle.sa_instr.specs.Parts.{parts_of}
 use Rattle.sa_workload.specs.Text.{operand_word}
-use Rattle.sa_workload.proofs.PrintedText.{pushed_line, ok_items}
+use Rattle.sa_workload.proofs.calls.PrintedText.{pushed_line, ok_items}
 use Rattle.sa_workload.proofs.push.push_instr.Goals as goal
 
 pub returns : goal.returns

@@ -1,6 +1,6 @@
 use Rattle.std.proofs.Common.{decimal}
 use Rattle.std.proofs.lemmas.Result.{on_ok_weaker}
-use Rattle.sa_workload.proofs.PrintedText.{pushed_line, ok_items}
+use Rattle.sa_workload.proofs.calls.PrintedText.{pushed_line, ok_items}
 use Rattle.sa_workload.proofs.push.push_line.Goals as goal
 
 pub returns : goal.returns

@@ -1,4 +1,4 @@
-use Rattle.sa_workload.proofs.Whole.{answers, call_answers}
+use Rattle.sa_workload.proofs.whole.Whole.{answers, call_answers}
 use Rattle.sa_workload.proofs.reader.read.Goals as goal
 
 pub returns : goal.returns

@@ -1,4 +1,4 @@
-use Rattle.sa_workload.proofs.Whole.{answers1, call_answers}
+use Rattle.sa_workload.proofs.whole.Whole.{answers1, call_answers}
 use Rattle.sa_workload.proofs.reader.read_one.Goals as goal
 
 pub returns : goal.returns

@@ -1,6 +1,7 @@
 use Rattle.std.proofs.Common.{subst, refl}
 use Rattle.sa_workload.specs.Position.{IsReached}
-use Rattle.sa_workload.specs.Stage.{position_of}
+use Rattle.sa_workload.specs.Stage.{machine_of, position_of}
+use Rattle.sa_workload.proofs.forward.Reached.{reached-first_close, reached-close}
 use Rattle.sa_workload.proofs.reader.read_words.Goals as goal
 
 pub returns-in-Space : goal.returns-in-Space
@@ -31,10 +32,14 @@ pub read_instr-requires : goal.read_instr-requires
 read_instr-requires c = (c.args.versions, c.requires.few, subst (λ s. IsReached c.args.versions (position_of s)) c.in-Instr.is c.requires.reached)
 
 pub read_evict_or_turn-requires : goal.read_evict_or_turn-requires
-read_evict_or_turn-requires c = (c.args.versions, c.requires.few, subst (λ s. IsReached c.args.versions (position_of s)) c.in-Evict.is c.requires.reached)
+read_evict_or_turn-requires c =
+    (reached-first_close c.args.versions (machine_of c.in-Evict.header) c.in-Evict.spaces.items c.in-Evict.evictions.items
+    (subst (λ s. IsReached c.args.versions (position_of s)) c.in-Evict.is c.requires.reached)).0
 
 pub read_turn_or_close-requires : goal.read_turn_or_close-requires
-read_turn_or_close-requires c = (c.args.versions, c.requires.few, subst (λ s. IsReached c.args.versions (position_of s)) c.in-Turn.is c.requires.reached)
+read_turn_or_close-requires c =
+    (reached-close c.args.versions (machine_of c.in-Turn.header) c.in-Turn.spaces.items c.in-Turn.evictions.items c.in-Turn.turns.items
+    (subst (λ s. IsReached c.args.versions (position_of s)) c.in-Turn.is c.requires.reached)).0
 
 pub returns : goal.returns
 returns c = rw c.in-Closed.is refl

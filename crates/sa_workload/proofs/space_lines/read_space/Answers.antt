@@ -4,7 +4,7 @@ use Rattle.sa_base.specs.Cause.{cause_number}
 use Rattle.sa_workload.specs.Fields.{fields_at}
 use Rattle.sa_workload.specs.Next.{space_fields}
 use Rattle.sa_workload.specs.Stage.{machine_of, draft_of, space_numbers}
-use Rattle.sa_workload.proofs.Calls.{ne_word, space_err, space_end, space_ok}
+use Rattle.sa_workload.proofs.calls.Calls.{ne_word, space_err, space_end, space_ok}
 use Rattle.sa_workload.proofs.space_lines.read_space.Goals as goal
 
 pub returns-in_err-draft : goal.returns-in_err-draft

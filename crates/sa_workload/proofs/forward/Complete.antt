@@ -25,11 +25,11 @@ use Rattle.sa_workload.specs.Fields.{and_then, order_cause, line_numbers, index_
 use Rattle.sa_workload.specs.Position.{Machine, Draft, Position, AtVersion, AtProcessors, AtFetch, AtSlice, AtSpaces, AtSpace, AtSem, AtAbsent, AtProgram, AtInstr, AtEvict, AtTurn, Closed}
 use Rattle.sa_workload.specs.Steps.{expected, after_fetch, after_sem, after_spaces, after_program, after_instr, with_program}
 use Rattle.sa_workload.specs.Next.{numbers_at, fields_of, is_full, last_numbers, last_of, evict_numbers, is_end, is_last_impatient, step, step_instr, next}
-use Rattle.sa_workload.proofs.FieldLemmas.{line-spelled, spelled_all, AllPass, passes-within, passes-declared, both_true}
-use Rattle.sa_workload.proofs.InstrLemmas.{AreSmall, IsAllowed, instr-back, numbers_of_instr, operation-expected}
-use Rattle.sa_workload.proofs.Fronts.{all_true, true_all}
-use Rattle.sa_workload.proofs.Completion.{version-low, after_sem-full, after_sem-more, after_spaces-full, after_spaces-more, after_program-full, after_program-more, after_instr-full, after_instr-more}
-use Rattle.sa_workload.proofs.Orders.{none-order, before_evict, less_head}
+use Rattle.sa_workload.proofs.fields.FieldLemmas.{line-spelled, spelled_all, AllPass, passes-within, passes-declared, both_true}
+use Rattle.sa_workload.proofs.fields.InstrLemmas.{AreSmall, IsAllowed, instr-back, numbers_of_instr, operation-expected}
+use Rattle.sa_workload.proofs.forward.Fronts.{all_true, true_all}
+use Rattle.sa_workload.proofs.forward.Completion.{version-low, after_sem-full, after_sem-more, after_spaces-full, after_spaces-more, after_program-full, after_program-more, after_instr-full, after_instr-more}
+use Rattle.sa_workload.proofs.forward.Orders.{none-order, before_evict, less_head}
 
 lt_leb : (n limit : ℕ) → n < limit → leb limit n ≡ false
 lt_leb n limit h = false_from_ne_true (leb limit n) (λ t. let l : limit ≤ n = leb-true limit n t in absurd (omega arith))

@@ -1,9 +1,10 @@
 -- The lines of each reached position begin a text: it goes on with what is missing, as short as can be.
-use Rattle.std.proofs.Common.{◌≡◌, ◌≢◌, ℕ, zero, suc, ◌+◌, ◌-◌, ◌<◌, ◌≤◌, ◌==◌, if◌then◌else◌, List, [], ◌∷◌, ◌++◌, length, inl, inr, refl, sym, ap, subst, ◌∙◌, arith, append_assoc, append-nil, eq-eqb, ne_eqb}
-use Rattle.std.proofs.lemmas.Bool.{cond_both, cond-true, cond-false, cases_eq}
+use Rattle.std.proofs.Common.{◌≡◌, ◌≢◌, ℕ, zero, suc, ◌+◌, ◌-◌, ◌<◌, ◌≤◌, ◌==◌, if◌then◌else◌, Bool, true, false, List, [], ◌∷◌, ◌++◌, length, refl, sym, ap, subst, ◌∙◌, arith, append_assoc, append-nil, eq-eqb, ne_eqb}
+use Rattle.std.proofs.lemmas.Bool.{cond_both, cond-true, cond-false}
 use Rattle.std.specs.List.{list_all}
 use Rattle.std.proofs.lemmas.List.{length_push}
 use Rattle.sa_base.specs.declared.number.ProcNo.{ProcNo}
+use Rattle.sa_instr.specs.declared.limits.TheConstants.{MAX_PATIENCE}
 use Rattle.sa_instr.specs.declared.instr.Instr.{Instr}
 use Rattle.sa_instr.specs.declared.instr.Instr.TheVariants.{Compute, End}
 use Rattle.sa_spaces.specs.declared.workload.Evict.{Evict}
@@ -13,8 +14,8 @@ use Rattle.sa_workload.specs.Text.{version_of, workload_lines}
 use Rattle.sa_workload.specs.Bad.{Grammar, AnyVersion, Version1, Begins}
 use Rattle.sa_workload.specs.Position.{Machine, Draft, Position, AtVersion, AtProcessors, AtFetch, AtSlice, AtSpaces, AtSpace, AtSem, AtAbsent, AtProgram, AtInstr, AtEvict, AtTurn, Closed, shown, IsReached}
 use Rattle.sa_workload.specs.Steps.{workload, space_of_draft, with_sem, with_program, after_fetch, after_sem, after_spaces, after_program, after_instr, Steps, step_version, step_processors, step_fetch, step_slice, step_spaces, step_space, step_sem, step_first_program, step_program, step_instr, step_first_close, step_close}
-use Rattle.sa_workload.proofs.ShownStep.{shown-step}
-use Rattle.sa_workload.proofs.Reached.{IsSpaceLine, reached-version, reached-processors, reached-fetch, reached-slice, reached-spaces, reached-space, reached-sem, reached-first_program, reached-program, reached-instr, reached-first_close, reached-close}
+use Rattle.sa_workload.proofs.forward.ShownStep.{shown-step}
+use Rattle.sa_workload.proofs.forward.Reached.{IsSpaceLine, reached-version, reached-processors, reached-fetch, reached-slice, reached-spaces, reached-space, reached-sem, reached-first_program, reached-program, reached-instr, reached-first_close, reached-close}
 
 -- what each `after_` position is: with all read, and with more to come
 pub after_sem-full : (m : Machine) (spaces : List SpaceView) (d : Draft) → length d.sems ≡ d.sem_count → after_sem m spaces d ≡ AtAbsent m spaces d
@@ -59,42 +60,31 @@ new_draft k = record {
   programs = [];
 }
 
-pub own_patience : (m : Machine) (spaces : List SpaceView) → m.version ≡ 3 → IsSpaceLine m spaces (new_draft 2)
+-- its patience: in version 3 one of its own
+abbrev pub new_patience : Machine → ℕ
+new_patience m = if m.version == 3 then 2 else 1
+
+pub fits_space : (m : Machine) (spaces : List SpaceView) → IsSpaceLine m spaces (new_draft (new_patience m))
 unfolding new_draft
-own_patience m spaces v = record {
+fits_space m spaces = record {
   fresh = (refl, refl, refl);
   priority = omega arith;
   mutexes = omega arith;
   sem_count = omega arith;
   cells = omega arith;
   program_count = (omega arith, omega arith);
-  patience = (omega arith, omega arith);
-  patient = λ ne. absurd (ne v);
-  own = λ _ _ _. omega arith;
+  patience = range (m.version == 3);
+  patient = λ other. ap (λ (b : Bool). if b then 2 else 1) (ne_eqb m.version 3 other);
+  own = λ three _ _ one. let two : new_patience m ≡ 2 = ap (λ (b : Bool). if b then 2 else 1) (eq-eqb m.version 3 three) in absurd (omega arith);
 }
+  where
+    range : (b : Bool) → (1 ≤ (if b then 2 else 1)) × ((if b then 2 else 1) ≤ MAX_PATIENCE)
+    range true = (omega arith, omega arith)
+    range false = (omega arith, omega arith)
 
-pub usual_patience : (m : Machine) (spaces : List SpaceView) → m.version ≢ 3 → IsSpaceLine m spaces (new_draft 1)
-unfolding new_draft
-usual_patience m spaces ne = record {
-  fresh = (refl, refl, refl);
-  priority = omega arith;
-  mutexes = omega arith;
-  sem_count = omega arith;
-  cells = omega arith;
-  program_count = (omega arith, omega arith);
-  patience = (omega arith, omega arith);
-  patient = λ _. refl;
-  own = λ v _ _. absurd (ne v);
-}
-
--- lines that begin a text do so without the last one
-begins-front : (g : Grammar) (lines : List (List (List ℕ))) (line : List (List ℕ)) → Begins g (lines ++ line ∷ []) → Begins g lines
-begins-front g lines line b = record {
-  workload = b.workload;
-  accepted = b.accepted;
-  more = line ∷ b.more;
-  text = b.text ∙ append_assoc lines (line ∷ []) b.more;
-}
+-- lines that begin a text, begin it with fewer of them
+pub begins_front : (g : Grammar) (xs ys : List (List (List ℕ))) → Begins g (xs ++ ys) → Begins g xs
+begins_front g xs ys b = record { workload = b.workload; accepted = b.accepted; more = ys ++ b.more; text = b.text ∙ append_assoc xs ys b.more }
 
 -- where such a position is reached, its lines begin a text
 abbrev Completes : ℕ → Grammar → Position → Type 0
@@ -106,7 +96,7 @@ AcceptsUpTo versions g = (w : WorkloadView) → IsWorkload w → version_of w �
 
 module _ (versions : ℕ) (g : Grammar) (accepts : AcceptsUpTo versions g) (one : 1 ≤ versions) (three : versions ≤ 3) where
   by_step : (p q : Position) (line : List (List ℕ)) → Steps p line q → IsReached versions q → Completes versions g q → Completes versions g p
-  by_step p q line s reached rest = λ r. begins-front g (shown p) line (subst (Begins g) (shown-step versions p line q s r) (rest reached))
+  by_step p q line s reached rest = λ r. begins_front g (shown p) (line ∷ []) (subst (Begins g) (shown-step versions p line q s r) (rest reached))
 
   closed : (w : WorkloadView) → Completes versions g (Closed w)
   closed w = λ r. record { workload = w; accepted = accepts w r.0 r.1; more = []; text = sym (append-nil (workload_lines w)) }
@@ -175,11 +165,7 @@ module _ (versions : ℕ) (g : Grammar) (accepts : AcceptsUpTo versions g) (one 
 
   at_space : (m : Machine) (spaces : List SpaceView) → ((s : SpaceView) → Completes versions g (after_spaces m (spaces ++ s ∷ [])))
       → Completes versions g (AtSpace m spaces)
-  at_space m spaces rest =
-      elim (cases_eq m.version 3) [
-        | inl v ↦ new_space m spaces 2 (own_patience m spaces v) rest
-        | inr ne ↦ new_space m spaces 1 (usual_patience m spaces ne) rest
-      ]
+  at_space m spaces rest = new_space m spaces (new_patience m) (fits_space m spaces) rest
 
   -- n spaces are missing
   spaces_missing : (n : ℕ) (m : Machine) (spaces : List SpaceView) → length spaces + n ≡ m.count → Completes versions g (after_spaces m spaces)
@@ -250,9 +236,3 @@ any_version = λ w h _. h
 
 pub version_1 : AcceptsUpTo 1 Version1
 version_1 = λ w h v. (h, omega (arith, version-low w))
-
-pub completes_any : (p : Position) → IsReached 3 p → Begins AnyVersion (shown p)
-completes_any p r = completes 3 AnyVersion any_version (omega arith) (omega arith) p r
-
-pub completes_1 : (p : Position) → IsReached 1 p → Begins Version1 (shown p)
-completes_1 p r = completes 1 Version1 version_1 (omega arith) (omega arith) p r

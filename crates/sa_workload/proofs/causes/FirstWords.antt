@@ -7,13 +7,14 @@ use Rattle.std.proofs.lemmas.List.Sums.{sum_by-append, sum_by-cons, length-filte
 use Rattle.sa_base.specs.declared.number.ProcNo.{ProcNo}
 use Rattle.sa_instr.specs.declared.instr.Instr.{Instr}
 use Rattle.sa_instr.specs.declared.operation.Operation.{Operation}
-use Rattle.sa_instr.specs.declared.operation.Operation.TheVariants.{Compute, Set, Add, Sub, Jnz, Load, Store, Out, Fork, Join, Lock, Unlock, Wait, Signal, Io, Touch, End}
 use Rattle.sa_instr.specs.Operation.{form_of}
 use Rattle.sa_instr.specs.Parts.{parts_of}
 use Rattle.sa_spaces.specs.declared.workload.Evict.{Evict}
 use Rattle.sa_spaces.specs.Space.{SpaceView}
 use Rattle.sa_workload.specs.Text.{instr_line, program_lines, sem_line, absent_line, space_line, space_lines, evict_line, turn_line, slice_lines}
 use Rattle.sa_workload.specs.Bad.{first_word, last_line, last_with, instr_words, count_of_word}
+use Rattle.sa_workload.proofs.fields.FieldLemmas.{contained}
+use Rattle.sa_workload.proofs.fields.InstrLemmas.{operation-expected}
 use Rattle.sa_workload.specs.Position.{Machine, version_line, processors_line, fetch_line, spaces_line, shown_machine}
 
 -- each line begins with one of the words
@@ -77,23 +78,7 @@ All-mapped P f (x ∷ xs) h = All-cons P (f x) (map f xs) (h x) (All-mapped P f 
 
 -- the first word of an instruction
 pub operation_word : (o : Operation) → Contains instr_words (form_of o).word
-operation_word Compute = (0, omega arith, refl)
-operation_word Set = (1, omega arith, refl)
-operation_word Add = (2, omega arith, refl)
-operation_word Sub = (3, omega arith, refl)
-operation_word Jnz = (4, omega arith, refl)
-operation_word Load = (5, omega arith, refl)
-operation_word Store = (6, omega arith, refl)
-operation_word Out = (7, omega arith, refl)
-operation_word Fork = (8, omega arith, refl)
-operation_word Join = (9, omega arith, refl)
-operation_word Lock = (10, omega arith, refl)
-operation_word Unlock = (11, omega arith, refl)
-operation_word Wait = (12, omega arith, refl)
-operation_word Signal = (13, omega arith, refl)
-operation_word Io = (14, omega arith, refl)
-operation_word Touch = (15, omega arith, refl)
-operation_word End = (16, omega arith, refl)
+operation_word o = contained instr_words (form_of o).word (operation-expected o)
 
 pub instr_word : (i : Instr) → Contains instr_words (first_word (instr_line i))
 instr_word i = operation_word (parts_of i).operation

@@ -13,7 +13,7 @@ use Rattle.sa_spaces.specs.Space.{SpaceView}
 use Rattle.sa_workload.specs.Text.{instr_line, program_lines, sem_line, absent_line, space_line, space_lines, evict_line, turn_line, slice_lines}
 use Rattle.sa_workload.specs.Bad.{numbers_in, number_in, first_word, last_line, last_with, count_of_word, instr_words}
 use Rattle.sa_workload.specs.Position.{Machine, Draft, AtSlice, AtSpace, AtAbsent, AtInstr, AtEvict, AtTurn, version_line, processors_line, fetch_line, spaces_line, shown_machine, shown_spaces, draft_line, shown_draft, shown}
-use Rattle.sa_workload.proofs.Words.{Lacks, machine_words, space_words, inner_words, is_other, lacks, instrs_begin, program_begins, inner_begins, spaces_begin, evictions_begin, turns_begin, slice_begins, machine_begins, count_lacking, count-append, count-cons, last_line-push, last_with-is}
+use Rattle.sa_workload.proofs.causes.FirstWords.{Lacks, machine_words, space_words, inner_words, is_other, lacks, instrs_begin, program_begins, inner_begins, spaces_begin, evictions_begin, turns_begin, slice_begins, machine_begins, count_lacking, count-append, count-cons, last_line-push, last_with-is}
 
 -- the readings one by one
 abbrev pub version_in : List (List (List ℕ)) → ℕ

@@ -1,6 +1,6 @@
 -- What the words of a line are read as, and back: a field has one spelling.
 use Rattle.std.proofs.Common.{◌≡◌, ◌≢◌, ℕ, zero, suc, ◌+◌, ◌^◌, ◌<◌, ◌≤◌, ◌&&◌, ◌⊎◌, Bool, true, false, cond, List, [], ◌∷◌, ◌++◌, length, get_or, Contains, Option, Some, None, Result, Ok, Err, codes, decimal, refl, sym, ap, ◌∙◌, subst, inl, inr, arith, nat_le, nat_lt}
-use Rattle.std.specs.Option.{option_map}
+use Rattle.std.specs.Option.{is_some, option_map}
 use Rattle.std.specs.Str.{bytes_eq}
 use Rattle.std.specs.Str.Parse.{digits_value}
 use Rattle.std.proofs.lemmas.Bool.{false≢true, ltb-true, leb-true, le-leb, lt-ltb}
@@ -82,6 +82,21 @@ index_of-none word (k ∷ ks) h c =
     at zero l e other rest = false≢true (sym other ∙ (bytes_eq-Decides word k).1 (sym e))
     at (suc i) l e other rest = rest (i, omega arith, e)
 
+-- a word among these, and one that is none of them
+pub known_word : (ks : List (List ℕ)) (word : List ℕ) → Contains ks word → is_some (index_of word ks) ≡ true
+known_word ks word c = at (index_of word ks) (index_of-none word ks)
+  where
+    at : (o : Option ℕ) → (o ≡ None → ¬ Contains ks word) → is_some o ≡ true
+    at None f = absurd (f refl c)
+    at (Some n) f = refl
+
+pub contained : (ks : List (List ℕ)) (word : List ℕ) → is_some (index_of word ks) ≡ true → Contains ks word
+contained ks word h = at (index_of word ks) (index_of-some word ks) h
+  where
+    at : (o : Option ℕ) → ((n : ℕ) → o ≡ Some n → (n < length ks) × (get_or ks n word ≡ word)) → is_some o ≡ true → Contains ks word
+    at None f h = absurd (cc h)
+    at (Some n) f h = let r = f n refl in (n, r.0, r.1)
+
 -- how a field's number is spelled, and which numbers it has
 abbrev pub spelled : Field → ℕ → List ℕ
 spelled Register n = codes "r" ++ decimal n
@@ -114,26 +129,12 @@ declared-passes count n p = ltb-true n count p.1
 
 -- the word of a register
 pub register-spelled : (n : ℕ) (d : List ℕ) → n < 8 → get_or registers n d ≡ codes "r" ++ decimal n
-register-spelled zero d h = ap (λ ds. 114 ∷ ds) (sym (decimal_digit 0 (omega arith)))
-register-spelled (suc zero) d h = ap (λ ds. 114 ∷ ds) (sym (decimal_digit 1 (omega arith)))
-register-spelled (suc (suc zero)) d h = ap (λ ds. 114 ∷ ds) (sym (decimal_digit 2 (omega arith)))
-register-spelled (suc (suc (suc zero))) d h = ap (λ ds. 114 ∷ ds) (sym (decimal_digit 3 (omega arith)))
-register-spelled (suc (suc (suc (suc zero)))) d h = ap (λ ds. 114 ∷ ds) (sym (decimal_digit 4 (omega arith)))
-register-spelled (suc (suc (suc (suc (suc zero))))) d h = ap (λ ds. 114 ∷ ds) (sym (decimal_digit 5 (omega arith)))
-register-spelled (suc (suc (suc (suc (suc (suc zero)))))) d h = ap (λ ds. 114 ∷ ds) (sym (decimal_digit 6 (omega arith)))
-register-spelled (suc (suc (suc (suc (suc (suc (suc zero))))))) d h = ap (λ ds. 114 ∷ ds) (sym (decimal_digit 7 (omega arith)))
 register-spelled (suc (suc (suc (suc (suc (suc (suc (suc n)))))))) d h = absurd (omega arith)
+register-spelled n d h = ap (λ ds. 114 ∷ ds) (sym (decimal_digit n (omega arith)))
 
 register-read : (n : ℕ) → n < 8 → index_of (get_or registers n []) registers ≡ Some n
-register-read zero h = refl
-register-read (suc zero) h = refl
-register-read (suc (suc zero)) h = refl
-register-read (suc (suc (suc zero))) h = refl
-register-read (suc (suc (suc (suc zero)))) h = refl
-register-read (suc (suc (suc (suc (suc zero))))) h = refl
-register-read (suc (suc (suc (suc (suc (suc zero)))))) h = refl
-register-read (suc (suc (suc (suc (suc (suc (suc zero))))))) h = refl
 register-read (suc (suc (suc (suc (suc (suc (suc (suc n)))))))) h = absurd (omega arith)
+register-read _ h = refl
 
 -- a number is read from its decimal text alone
 if_some : (b : Bool) (x n : ℕ) → cond b (Some x) None ≡ Some n → (b ≡ true) × (x ≡ n)

@@ -1,11 +1,11 @@
 -- Instructions by operation and operands: what is read from their lines, and back.
-use Rattle.std.proofs.Common.{◌≡◌, ℕ, zero, suc, ◌-◌, ◌^◌, ◌<◌, Bool, true, false, List, [], ◌∷◌, ◌++◌, length, get_or, map, Option, Some, None, IsSome, codes, decimal, refl, sym, ap, ap₂, ◌∙◌, subst, arith, lt-ltb}
+use Rattle.std.proofs.Common.{◌≡◌, ℕ, suc, ◌-◌, ◌^◌, ◌<◌, Bool, true, false, List, [], ◌∷◌, ◌++◌, length, get_or, map, Option, Some, None, IsSome, codes, decimal, refl, sym, ap, ap₂, ◌∙◌, subst, arith, lt-ltb}
 use Rattle.std.specs.Option.{is_some}
 use Rattle.std.proofs.lemmas.List.{get_or-map}
 use Rattle.sa_base.specs.declared.limits.TheConstants.{FIRST_THREAD_PAGE}
 use Rattle.sa_instr.specs.declared.limits.TheConstants.{LAST_PAGE, MAX_IO_LENGTH}
 use Rattle.sa_instr.specs.declared.instr.Reg.{Reg}
-use Rattle.sa_instr.specs.declared.instr.Reg.TheVariants.{R0, R1, R2, R3, R4, R5, R6, R7}
+use Rattle.sa_instr.specs.declared.instr.Reg.TheVariants.{R0}
 use Rattle.sa_instr.specs.declared.instr.Instr.{Instr}
 use Rattle.sa_instr.specs.declared.operand.Operand.{Operand}
 use Rattle.sa_instr.specs.declared.operand.Operand.TheVariants.{Register, Value, Place, Cell, Program, Mutex, Semaphore, Length, Page}
@@ -23,96 +23,32 @@ use Rattle.sa_workload.specs.Text.{operand_word, instr_line}
 use Rattle.sa_workload.specs.Bad.{DeclaredNumbers, Field, operand_field, fields_by, instr_words}
 use Rattle.sa_workload.specs.Fields.{index_of}
 use Rattle.sa_workload.specs.Next.{reg_from, operand_from, operands_from, operation_of, made_by}
-use Rattle.sa_workload.proofs.FieldLemmas.{index_of-some, spelled, Passes, spelled_all, AllPass, passes-within, passes-declared, within-passes, declared-passes}
+use Rattle.sa_workload.proofs.fields.FieldLemmas.{contained, spelled, Passes, spelled_all, AllPass, passes-within, passes-declared, within-passes, declared-passes}
 
 reg_number-from : (n : ℕ) → n < 8 → reg_number (reg_from n) ≡ n
-reg_number-from zero h = refl
-reg_number-from (suc zero) h = refl
-reg_number-from (suc (suc zero)) h = refl
-reg_number-from (suc (suc (suc zero))) h = refl
-reg_number-from (suc (suc (suc (suc zero)))) h = refl
-reg_number-from (suc (suc (suc (suc (suc zero))))) h = refl
-reg_number-from (suc (suc (suc (suc (suc (suc zero)))))) h = refl
-reg_number-from (suc (suc (suc (suc (suc (suc (suc zero))))))) h = refl
 reg_number-from (suc (suc (suc (suc (suc (suc (suc (suc n)))))))) h = absurd (omega arith)
+reg_number-from _ h = refl
 
 reg_from-number : (r : Reg) → reg_from (reg_number r) ≡ r
 reg_from-number R0 = refl
-reg_from-number R1 = refl
-reg_from-number R2 = refl
-reg_from-number R3 = refl
-reg_from-number R4 = refl
-reg_from-number R5 = refl
-reg_from-number R6 = refl
-reg_from-number R7 = refl
+reg_from-number _ = refl
 
 pub reg_number-below : (r : Reg) → reg_number r < 8
 reg_number-below R0 = omega arith
-reg_number-below R1 = omega arith
-reg_number-below R2 = omega arith
-reg_number-below R3 = omega arith
-reg_number-below R4 = omega arith
-reg_number-below R5 = omega arith
-reg_number-below R6 = omega arith
-reg_number-below R7 = omega arith
+reg_number-below _ = omega arith
 
 -- what is found by the word of an operation
 pub operation-found : (o : Operation) → operation_of (form_of o).word ≡ Some o
-operation-found Operations.Compute = refl
-operation-found Operations.Set = refl
-operation-found Operations.Add = refl
-operation-found Operations.Sub = refl
-operation-found Operations.Jnz = refl
-operation-found Operations.Load = refl
-operation-found Operations.Store = refl
-operation-found Operations.Out = refl
-operation-found Operations.Fork = refl
-operation-found Operations.Join = refl
-operation-found Operations.Lock = refl
-operation-found Operations.Unlock = refl
-operation-found Operations.Wait = refl
-operation-found Operations.Signal = refl
-operation-found Operations.Io = refl
-operation-found Operations.Touch = refl
 operation-found Operations.End = refl
+operation-found _ = refl
 
 pub operation-expected : (o : Operation) → is_some (index_of (form_of o).word instr_words) ≡ true
-operation-expected Operations.Compute = refl
-operation-expected Operations.Set = refl
-operation-expected Operations.Add = refl
-operation-expected Operations.Sub = refl
-operation-expected Operations.Jnz = refl
-operation-expected Operations.Load = refl
-operation-expected Operations.Store = refl
-operation-expected Operations.Out = refl
-operation-expected Operations.Fork = refl
-operation-expected Operations.Join = refl
-operation-expected Operations.Lock = refl
-operation-expected Operations.Unlock = refl
-operation-expected Operations.Wait = refl
-operation-expected Operations.Signal = refl
-operation-expected Operations.Io = refl
-operation-expected Operations.Touch = refl
 operation-expected Operations.End = refl
+operation-expected _ = refl
 
 pub operation-fields : (versions : ℕ) (n : DeclaredNumbers) (o : Operation) → fields_by versions n (form_of o).word ≡ map (operand_field n) (form_of o).operands
-operation-fields versions n Operations.Compute = refl
-operation-fields versions n Operations.Set = refl
-operation-fields versions n Operations.Add = refl
-operation-fields versions n Operations.Sub = refl
-operation-fields versions n Operations.Jnz = refl
-operation-fields versions n Operations.Load = refl
-operation-fields versions n Operations.Store = refl
-operation-fields versions n Operations.Out = refl
-operation-fields versions n Operations.Fork = refl
-operation-fields versions n Operations.Join = refl
-operation-fields versions n Operations.Lock = refl
-operation-fields versions n Operations.Unlock = refl
-operation-fields versions n Operations.Wait = refl
-operation-fields versions n Operations.Signal = refl
-operation-fields versions n Operations.Io = refl
-operation-fields versions n Operations.Touch = refl
 operation-fields versions n Operations.End = refl
+operation-fields versions n _ = refl
 
 -- a word that an instruction may begin with is an operation's
 word_at : (k : ℕ) (word : List ℕ) → k < length instr_words → get_or instr_words k word ≡ word → (o : Operation) × (word ≡ (form_of o).word)
@@ -120,12 +56,7 @@ word_at k word below e =
     (get_or OPERATIONS k Operations.End, sym e ∙ get_or-map (λ (o : Operation). (form_of o).word) OPERATIONS k Operations.End word below)
 
 pub expected-operation : (word : List ℕ) → is_some (index_of word instr_words) ≡ true → (o : Operation) × (word ≡ (form_of o).word)
-expected-operation word h = at (index_of word instr_words) (index_of-some word instr_words) h
-  where
-    at : (o : Option ℕ) → ((k : ℕ) → o ≡ Some k → (k < length instr_words) × (get_or instr_words k word ≡ word)) → is_some o ≡ true
-        → (o : Operation) × (word ≡ (form_of o).word)
-    at None f h = absurd (cc h)
-    at (Some k) f h = let r = f k refl in word_at k word r.0 r.1
+expected-operation word h = let c = contained instr_words word h in word_at c.0 word c.1 c.2
 
 pub no_operation : (word : List ℕ) → IsNoWord word → is_some (index_of word instr_words) ≡ false
 no_operation word none = at (is_some (index_of word instr_words)) (expected-operation word)

@@ -17,8 +17,8 @@ use Rattle.sa_spaces.specs.Space.{SpaceView, IsSpace}
 use Rattle.sa_spaces.specs.Workload.{IsWorkload, IsEviction, IsBefore}
 use Rattle.sa_workload.specs.Position.{Machine, Draft, Position, AtProcessors, AtFetch, AtSlice, AtSpaces, AtSpace, AtSem, AtAbsent, AtProgram, AtInstr, AtEvict, AtTurn, Closed, CanSlice, IsMachine, AreSpaces, IsDraft, IsBegun, AreEvictions, AreTurns, IsReached}
 use Rattle.sa_workload.specs.Steps.{workload, space_of_draft, IsFresh, with_sem, with_absent, with_program, after_fetch, after_sem, after_spaces, after_program, after_instr}
-use Rattle.sa_workload.proofs.Fronts.{All-front, All-last}
-use Rattle.sa_workload.proofs.ShownStep.{version_of-workload}
+use Rattle.sa_workload.proofs.forward.Fronts.{All-front, All-last}
+use Rattle.sa_workload.proofs.forward.ShownStep.{version_of-workload}
 
 -- a draft with other lists behind its first line
 redrafted : (m : Machine) (spaces : List SpaceView) (d : Draft) (sems absent : List ℕ) (programs : List (List Instr)) → IsDraft m spaces d

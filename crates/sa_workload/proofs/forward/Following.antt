@@ -1,7 +1,8 @@
 -- Each word that a reached position expects may begin the next line.
-use Rattle.std.proofs.Common.{◌≡◌, ℕ, zero, suc, ◌+◌, ◌-◌, ◌<◌, ◌≤◌, ◌⊎◌, List, [], ◌∷◌, ◌++◌, length, map, Contains, codes, get_or, inl, inr, refl, sym, ap, subst, ◌∙◌, arith, append_assoc, append-nil}
-use Rattle.std.proofs.lemmas.Bool.{cases_lt, cases_eq}
-use Rattle.std.proofs.lemmas.List.{length_push, get_or_push, map_push}
+use Rattle.std.proofs.Common.{◌≡◌, ℕ, ◌<◌, ◌≤◌, true, List, [], ◌∷◌, ◌++◌, length, map, Contains, codes, inl, inr, refl, sym, ap, subst, ◌∙◌, arith, append_assoc, append-nil}
+use Rattle.std.specs.Option.{is_some}
+use Rattle.std.proofs.lemmas.Bool.{cases_lt}
+use Rattle.std.proofs.lemmas.List.{map_push}
 use Rattle.sa_base.specs.declared.number.ProcNo.{ProcNo}
 use Rattle.sa_instr.specs.declared.instr.Instr.{Instr}
 use Rattle.sa_instr.specs.declared.instr.Instr.TheVariants.{End}
@@ -9,54 +10,27 @@ use Rattle.sa_spaces.specs.declared.workload.Evict.{Evict}
 use Rattle.sa_spaces.specs.Space.{SpaceView}
 use Rattle.sa_spaces.specs.Workload.{IsEviction}
 use Rattle.sa_workload.specs.Text.{sem_line, absent_line, evict_line, turn_line}
-use Rattle.sa_workload.specs.Bad.{Grammar, AnyVersion, Version1, Begins, MayFollow, IsRightWord, instr_words, first_word, last_line}
+use Rattle.sa_workload.specs.Bad.{Grammar, Begins, MayFollow, IsRightWord, instr_words, first_word, last_line}
 use Rattle.sa_workload.specs.Position.{Machine, Draft, Position, AtVersion, AtProcessors, AtFetch, AtSlice, AtSpaces, AtSpace, AtSem, AtAbsent, AtProgram, AtInstr, AtEvict, AtTurn, Closed, draft_line, shown_spaces, shown, IsReached}
 use Rattle.sa_workload.specs.Steps.{Steps, step_version, step_processors, step_fetch, step_slice, step_spaces, step_space, step_sem, step_absent, step_first_program, step_program, step_instr, step_evict, step_first_turn, step_first_close, step_close, expected}
-use Rattle.sa_workload.proofs.ShownStep.{shown-step}
-use Rattle.sa_workload.proofs.Reached.{reached-version, reached-processors, reached-fetch, reached-slice, reached-spaces, reached-space, reached-sem, reached-absent, reached-first_program, reached-program, reached-instr, reached-evict, reached-first_turn, reached-first_close, reached-close}
-use Rattle.sa_workload.proofs.Completion.{AcceptsUpTo, any_version, version_1, new_draft, own_patience, usual_patience, completes}
-
--- the first element, or one of the others
-contains-cons : {X : Type 0} (x : X) (xs : List X) (y : X) → Contains (x ∷ xs) y → (x ≡ y) ⊎ Contains xs y
-contains-cons {X} x xs y h = at h.0 h.1 h.2
-  where
-    at : (k : ℕ) → k < length (x ∷ xs) → get_or (x ∷ xs) k y ≡ y → (x ≡ y) ⊎ Contains xs y
-    at zero b e = inl e
-    at (suc k) b e = inr (k, omega arith, e)
-
-contains-nothing : {X : Type 0} (y : X) → Contains [] y → ⊥
-contains-nothing y h = absurd (omega (arith, h.1))
-
--- what holds of each element of a list of one, two or three holds of what it contains
-of_one : {X : Type 0} (P : X → Type 0) (x y : X) → Contains (x ∷ []) y → P x → P y
-of_one P x y h p = elim (contains-cons x [] y h) [ inl e ↦ subst P e p | inr k ↦ absurd (contains-nothing y k) ]
-
-of_two : {X : Type 0} (P : X → Type 0) (x z y : X) → Contains (x ∷ z ∷ []) y → P x → P z → P y
-of_two P x z y h p q = elim (contains-cons x (z ∷ []) y h) [ inl e ↦ subst P e p | inr k ↦ of_one P z y k q ]
-
-of_three : {X : Type 0} (P : X → Type 0) (x z w y : X) → Contains (x ∷ z ∷ w ∷ []) y → P x → P z → P w → P y
-of_three P x z w y h p q r = elim (contains-cons x (z ∷ w ∷ []) y h) [ inl e ↦ subst P e p | inr k ↦ of_two P z w y k q r ]
-
--- a list with some element ends in one
-last_of : {X : Type 0} (xs : List X) → 0 < length xs → (ys : List X) × (x : X) × (xs ≡ ys ++ x ∷ [])
-last_of [] h = absurd (omega arith)
-last_of (x ∷ []) h = ([], x, refl)
-last_of (x ∷ (y ∷ xs)) h = let r = last_of (y ∷ xs) (omega arith) in (x ∷ r.0, r.1, ap (λ (l : List _). x ∷ l) r.2)
-
-last_line-push : (lines : List (List (List ℕ))) (line : List (List ℕ)) → last_line (lines ++ line ∷ []) ≡ line
-last_line-push lines line =
-    let l : length (lines ++ line ∷ []) ≡ length lines + 1 = length_push lines line in
-    get_or_push lines line [] (length (lines ++ line ∷ []) - 1) (omega arith)
+use Rattle.sa_workload.proofs.forward.ShownStep.{shown-step}
+use Rattle.sa_workload.proofs.forward.Reached.{reached-version, reached-processors, reached-fetch, reached-slice, reached-spaces, reached-space, reached-sem, reached-absent, reached-first_program, reached-program, reached-instr, reached-evict, reached-first_turn, reached-first_close, reached-close}
+use Rattle.sa_workload.proofs.forward.Completion.{AcceptsUpTo, new_draft, new_patience, fits_space, completes}
+use Rattle.sa_workload.proofs.fields.FieldLemmas.{contained}
+use Rattle.sa_workload.proofs.forward.Fronts.{not_empty}
+use Rattle.sa_workload.proofs.forward.Sound.{by_word}
+use Rattle.sa_workload.proofs.causes.FirstWords.{last_line-push}
+use Rattle.sa_workload.specs.Fields.{index_of}
 
 -- behind some lines of one word the last line begins with it
 last-repeated : {X : Type 0} (lines : List (List (List ℕ))) (f : X → List (List ℕ)) (xs : List X) (word : List ℕ) → 0 < length xs
     → ((x : X) → first_word (f x) ≡ word) → first_word (last_line (lines ++ map f xs)) ≡ word
 last-repeated {X} lines f xs word some first =
-    let r = last_of xs some in
-    let e : lines ++ map f xs ≡ (lines ++ map f r.0) ++ f r.1 ∷ [] =
-    ap (λ (l : List X). lines ++ map f l) r.2 ∙ simp (map_push, append_assoc) in
+    let r = not_empty xs (omega arith) in
+    let e : lines ++ map f xs ≡ (lines ++ map f r.front) ++ f r.last ∷ [] =
+    ap (λ (l : List X). lines ++ map f l) r.whole ∙ simp (map_push, append_assoc) in
     ap (λ (ls : List (List (List ℕ))). first_word (last_line ls)) e
-    ∙ (ap first_word (last_line-push (lines ++ map f r.0) (f r.1)) ∙ first r.1)
+    ∙ (ap first_word (last_line-push (lines ++ map f r.front) (f r.last)) ∙ first r.last)
 
 absent_again : (m : Machine) (spaces : List SpaceView) (d : Draft) → d.programs ≡ [] → 0 < length d.absent
     → first_word (last_line (shown (AtAbsent m spaces d))) ≡ codes "absent"
@@ -106,12 +80,8 @@ module _ (versions : ℕ) (g : Grammar) (accepts : AcceptsUpTo versions g) (one 
   space_follows : (m : Machine) (spaces : List SpaceView) → IsReached versions (AtSpace m spaces)
       → MayFollow g (shown (AtSpace m spaces)) (codes "space")
   space_follows m spaces r =
-      elim (cases_eq m.version 3) [
-        | inl v ↦ follows _ _ _ _ (step_space m spaces (new_draft 2) (own_patience m spaces v).fresh) r
-            (reached-space versions m spaces (new_draft 2) r (own_patience m spaces v))
-        | inr ne ↦ follows _ _ _ _ (step_space m spaces (new_draft 1) (usual_patience m spaces ne).fresh) r
-            (reached-space versions m spaces (new_draft 1) r (usual_patience m spaces ne))
-      ]
+      follows _ _ _ _ (step_space m spaces (new_draft (new_patience m)) (fits_space m spaces).fresh) r
+      (reached-space versions m spaces (new_draft (new_patience m)) r (fits_space m spaces))
 
   absent_right : (m : Machine) (spaces : List SpaceView) (d : Draft) → IsReached versions (AtAbsent m spaces d)
       → IsRightWord g (shown (AtAbsent m spaces d)) (codes "absent")
@@ -152,47 +122,45 @@ module _ (versions : ℕ) (g : Grammar) (accepts : AcceptsUpTo versions g) (one 
       (reached-first_turn versions m spaces evictions processor_0 r (processor_0-right m.processors r.0.processors.0))
 
   -- each word that a reached position expects is right there
-  pub right_word : (p : Position) (word : List ℕ) → IsReached versions p → Contains (expected p) word → IsRightWord g (shown p) word
+  pub right_word : (p : Position) (word : List ℕ) → IsReached versions p → is_some (index_of word (expected p)) ≡ true → IsRightWord g (shown p) word
   right_word AtVersion word r h =
-      of_one (IsRightWord g (shown AtVersion)) (codes "workload") word h
-      (inl (follows _ _ _ _ (step_version 1) r (reached-version versions 1 (omega arith) one)))
+      by_word (expected AtVersion) word (IsRightWord g (shown AtVersion))
+      (inl (follows _ _ _ _ (step_version 1) r (reached-version versions 1 (omega arith) one)), tt) h
   right_word (AtProcessors v) word r h =
-      of_one (IsRightWord g (shown (AtProcessors v))) (codes "processors") word h
-      (inl (follows _ _ _ _ (step_processors v 1) r (reached-processors versions v 1 r (omega arith) (omega arith))))
+      by_word (expected (AtProcessors v)) word (IsRightWord g (shown (AtProcessors v)))
+      (inl (follows _ _ _ _ (step_processors v 1) r (reached-processors versions v 1 r (omega arith) (omega arith))), tt) h
   right_word (AtFetch v n) word r h =
-      of_one (IsRightWord g (shown (AtFetch v n))) (codes "fetch") word h
-      (inl (follows _ _ _ _ (step_fetch v n 1) r (reached-fetch versions v n 1 r (omega arith) (omega arith))))
+      by_word (expected (AtFetch v n)) word (IsRightWord g (shown (AtFetch v n)))
+      (inl (follows _ _ _ _ (step_fetch v n 1) r (reached-fetch versions v n 1 r (omega arith) (omega arith))), tt) h
   right_word (AtSlice v n f) word r h =
-      of_one (IsRightWord g (shown (AtSlice v n f))) (codes "slice") word h
-      (inl (follows _ _ _ _ (step_slice v n f 1) r (reached-slice versions v n f 1 three r (λ _. omega arith) (omega arith))))
+      by_word (expected (AtSlice v n f)) word (IsRightWord g (shown (AtSlice v n f)))
+      (inl (follows _ _ _ _ (step_slice v n f 1) r (reached-slice versions v n f 1 three r (λ _. omega arith) (omega arith))), tt) h
   right_word (AtSpaces v n f s) word r h =
-      of_one (IsRightWord g (shown (AtSpaces v n f s))) (codes "spaces") word h
-      (inl (follows _ _ _ _ (step_spaces v n f s 1) r (reached-spaces versions v n f s 1 r (omega arith) (omega arith))))
+      by_word (expected (AtSpaces v n f s)) word (IsRightWord g (shown (AtSpaces v n f s)))
+      (inl (follows _ _ _ _ (step_spaces v n f s 1) r (reached-spaces versions v n f s 1 r (omega arith) (omega arith))), tt) h
   right_word (AtSpace m spaces) word r h =
-      of_one (IsRightWord g (shown (AtSpace m spaces))) (codes "space") word h (inl (space_follows m spaces r))
+      by_word (expected (AtSpace m spaces)) word (IsRightWord g (shown (AtSpace m spaces))) (inl (space_follows m spaces r), tt) h
   right_word (AtSem m spaces d) word r h =
-      of_one (IsRightWord g (shown (AtSem m spaces d))) (codes "sem") word h
-      (inl (follows _ _ _ _ (step_sem m spaces d 0) r (reached-sem versions m spaces d 0 r (omega arith))))
+      by_word (expected (AtSem m spaces d)) word (IsRightWord g (shown (AtSem m spaces d)))
+      (inl (follows _ _ _ _ (step_sem m spaces d 0) r (reached-sem versions m spaces d 0 r (omega arith))), tt) h
   right_word (AtAbsent m spaces d) word r h =
-      of_two (IsRightWord g (shown (AtAbsent m spaces d))) (codes "absent") (codes "program") word h
-      (absent_right m spaces d r) (inl (program_follows m spaces d r))
+      by_word (expected (AtAbsent m spaces d)) word (IsRightWord g (shown (AtAbsent m spaces d)))
+      (absent_right m spaces d r, (inl (program_follows m spaces d r), tt)) h
   right_word (AtProgram m spaces d) word r h =
-      of_one (IsRightWord g (shown (AtProgram m spaces d))) (codes "program") word h
-      (inl (follows _ _ _ _ (step_program m spaces d 1) r (reached-program versions m spaces d 1 r (omega arith) (omega arith))))
-  right_word (AtInstr m spaces d len instrs) word r h = inr (inl (h, instr_follows m spaces d len instrs r))
+      by_word (expected (AtProgram m spaces d)) word (IsRightWord g (shown (AtProgram m spaces d)))
+      (inl (follows _ _ _ _ (step_program m spaces d 1) r (reached-program versions m spaces d 1 r (omega arith) (omega arith))), tt) h
+  right_word (AtInstr m spaces d len instrs) word r h = inr (inl (contained instr_words word h, instr_follows m spaces d len instrs r))
   right_word (AtEvict m spaces evictions) word r h =
-      of_three (IsRightWord g (shown (AtEvict m spaces evictions))) (codes "evict") (codes "turn") (codes "close") word h
-      (evict_right m spaces evictions r)
-      (inl (turn_follows m spaces evictions r))
-      (inl (follows _ _ _ _ (step_first_close m spaces evictions) r (reached-first_close versions m spaces evictions r)))
+      by_word (expected (AtEvict m spaces evictions)) word (IsRightWord g (shown (AtEvict m spaces evictions))) (
+        evict_right m spaces evictions r,
+        (
+          inl (turn_follows m spaces evictions r),
+          (inl (follows _ _ _ _ (step_first_close m spaces evictions) r (reached-first_close versions m spaces evictions r)), tt),
+        ),
+      ) h
   right_word (AtTurn m spaces evictions turns) word r h =
-      of_two (IsRightWord g (shown (AtTurn m spaces evictions turns))) (codes "turn") (codes "close") word h
-      (inr (inr ((2, omega arith, refl), turn_again m spaces evictions turns r.5)))
-      (inl (follows _ _ _ _ (step_close m spaces evictions turns) r (reached-close versions m spaces evictions turns r)))
-  right_word (Closed w) word r h = absurd (contains-nothing word h)
-
-pub right_word_any : (p : Position) (word : List ℕ) → IsReached 3 p → Contains (expected p) word → IsRightWord AnyVersion (shown p) word
-right_word_any p word r h = right_word 3 AnyVersion any_version (omega arith) (omega arith) p word r h
-
-pub right_word_1 : (p : Position) (word : List ℕ) → IsReached 1 p → Contains (expected p) word → IsRightWord Version1 (shown p) word
-right_word_1 p word r h = right_word 1 Version1 version_1 (omega arith) (omega arith) p word r h
+      by_word (expected (AtTurn m spaces evictions turns)) word (IsRightWord g (shown (AtTurn m spaces evictions turns))) (
+        inr (inr ((2, omega arith, refl), turn_again m spaces evictions turns r.5)),
+        (inl (follows _ _ _ _ (step_close m spaces evictions turns) r (reached-close versions m spaces evictions turns r)), tt),
+      ) h
+  right_word (Closed w) word r h = absurd (cc h)

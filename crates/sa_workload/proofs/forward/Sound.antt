@@ -8,7 +8,7 @@ use Rattle.std.proofs.lemmas.Option.{slice_get-get_or}
 use Rattle.sa_base.specs.declared.limits.TheConstants.{MAX_EVENTS, MAX_PROCESSORS, MAX_SPACES}
 use Rattle.sa_instr.specs.declared.limits.TheConstants.{LAST_PAGE, MAX_CELLS, MAX_EVICTIONS, MAX_FETCH, MAX_INSTRUCTIONS, MAX_MUTEXES, MAX_PATIENCE, MAX_PRIORITY, MAX_PROGRAMS, MAX_SEMAPHORES, MAX_SLICE, MAX_START, MAX_TURNS}
 use Rattle.sa_instr.specs.declared.instr.Instr.{Instr}
-use Rattle.sa_instr.specs.declared.instr.Instr.TheVariants.{Compute, Set, Add, Sub, Jnz, Load, Store, Out, Fork, Join, Lock, Unlock, Wait, Signal, Io, Touch, End}
+use Rattle.sa_instr.specs.declared.instr.Instr.TheVariants.{End}
 use Rattle.sa_spaces.specs.declared.workload.Evict.{Evict}
 use Rattle.sa_spaces.specs.Space.{SpaceView}
 use Rattle.sa_workload.specs.Text.{instr_line}
@@ -17,20 +17,16 @@ use Rattle.sa_workload.specs.Fields.{and_then, or_cause, order_cause, line_numbe
 use Rattle.sa_workload.specs.Position.{Machine, Draft, Position, AtVersion, AtProcessors, AtFetch, AtSlice, AtSpaces, AtSpace, AtSem, AtAbsent, AtProgram, AtInstr, AtEvict, AtTurn, Closed, IsReached}
 use Rattle.sa_workload.specs.Steps.{Steps, expected, step_version, step_processors, step_fetch, step_slice, step_spaces, step_space, step_sem, step_absent, step_first_program, step_program, step_instr as step_by_instr, step_evict, step_first_turn, step_turn, step_first_close, step_close, workload, after_fetch, after_sem, after_instr, with_sem, with_absent}
 use Rattle.sa_workload.specs.Next.{numbers_at, fields_of, is_full, last_numbers, last_of, evict_numbers, draft_from, evict_from, turn_from, is_end, operation_of, made_by, step, step_instr, next_by, is_last_impatient, draft_numbers, instr_in}
-use Rattle.sa_workload.proofs.FieldLemmas.{same_ok, if_either, and_then-ok, index_of-some, line-ok, one_number, spelled, Passes, spelled_all, AllPass, within-passes, declared-passes}
-use Rattle.sa_workload.proofs.InstrLemmas.{IsAllowed, instr-read, expected-operation, operation-fields}
-use Rattle.sa_workload.proofs.Fronts.{all_true}
-use Rattle.sa_workload.proofs.Orders.{order-none, evict_before}
-use Rattle.sa_workload.proofs.OneCause.{before_heads}
-use Rattle.sa_workload.proofs.Reached.{IsSpaceLine, reached-version, reached-processors, reached-fetch, reached-slice, reached-spaces, reached-space, reached-sem, reached-absent, reached-first_program, reached-program, reached-instr, reached-evict, reached-first_turn, reached-turn, reached-first_close, reached-close}
+use Rattle.sa_workload.proofs.fields.FieldLemmas.{same_ok, if_either, and_then-ok, contained, line-ok, one_number, spelled, Passes, spelled_all, AllPass, within-passes, declared-passes}
+use Rattle.sa_workload.proofs.fields.InstrLemmas.{IsAllowed, instr-read, expected-operation, operation-fields}
+use Rattle.sa_workload.proofs.forward.Fronts.{all_true}
+use Rattle.sa_workload.proofs.forward.Orders.{order-none, evict_before}
+use Rattle.sa_workload.proofs.causes.OneCause.{before_heads}
+use Rattle.sa_workload.proofs.forward.Reached.{IsSpaceLine, reached-version, reached-processors, reached-fetch, reached-slice, reached-spaces, reached-space, reached-sem, reached-absent, reached-first_program, reached-program, reached-instr, reached-evict, reached-first_turn, reached-turn, reached-first_close, reached-close}
 
 -- what holds of each of some words holds of the one that is found among them
 pub by_word : (ks : List (List ℕ)) (word : List ℕ) (G : List ℕ → Type 0) → AllByRecursion G ks → is_some (index_of word ks) ≡ true → G word
-by_word ks word G all h = at (index_of word ks) (index_of-some word ks) h
-  where
-    at : (o : Option ℕ) → ((n : ℕ) → o ≡ Some n → (n < length ks) × (get_or ks n word ≡ word)) → is_some o ≡ true → G word
-    at None f h = absurd (cc h)
-    at (Some n) f h = All-contains G ks word (All-from_recursion G ks all) (let r = f n refl in (n, r.0, r.1))
+by_word ks word G all h = All-contains G ks word (All-from_recursion G ks all) (contained ks word h)
 
 -- what a line that leads on has
 pub record Took (versions : ℕ) (p : Position) (word : List ℕ) (words : List (List ℕ)) (q : Position) : Type 0 where
@@ -140,25 +136,10 @@ space_goes versions m spaces words q (a ∷ b ∷ c ∷ d ∷ g ∷ rest) r h e 
 
 -- an instruction
 pub end_of : (i : Instr) → is_end i ≡ true → i ≡ End
-end_of Compute h = absurd (cc h)
-end_of (Set r n) h = absurd (cc h)
-end_of (Add r n) h = absurd (cc h)
-end_of (Sub r n) h = absurd (cc h)
-end_of (Jnz r n) h = absurd (cc h)
-end_of (Load r n) h = absurd (cc h)
-end_of (Store r n) h = absurd (cc h)
-end_of (Out r) h = absurd (cc h)
-end_of (Fork r n) h = absurd (cc h)
-end_of (Join r) h = absurd (cc h)
-end_of (Lock n) h = absurd (cc h)
-end_of (Unlock n) h = absurd (cc h)
-end_of (Wait n) h = absurd (cc h)
-end_of (Signal n) h = absurd (cc h)
-end_of (Io n) h = absurd (cc h)
-end_of (Touch n) h = absurd (cc h)
 end_of End h = refl
+end_of _ h = absurd (cc h)
 
-not_both : (a b : Bool) → (a && not b) ≡ false → a ≡ true → b ≡ true
+pub not_both : (a b : Bool) → (a && not b) ≡ false → a ≡ true → b ≡ true
 not_both true true h e = refl
 not_both true false h e = absurd (cc h)
 not_both false b h e = absurd (cc e)

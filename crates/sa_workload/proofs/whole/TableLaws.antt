@@ -10,20 +10,20 @@ use Rattle.sa_workload.specs.Text.{instr_line}
 use Rattle.sa_workload.specs.Bad.{Grammar, Begins, MayFollow, IsRightWord, IsTooMany, Field, Register, Number, IsRightFor, IsFirstWrong, AreRight, IsInOrder, list_lt, numbers_of, instr_words, last_line, fields_behind}
 use Rattle.sa_workload.specs.Laws.{IsFirstWrongPlace, IsFree, FirstWrongWords, IsLastPlace, LastCauseIsNoEnd}
 use Rattle.sa_workload.specs.Fields.{and_then, index_of, order_cause}
-use Rattle.sa_workload.specs.Position.{Position, AtVersion, AtProcessors, AtFetch, AtSlice, AtSpaces, AtSpace, AtSem, AtAbsent, AtProgram, AtInstr, AtEvict, AtTurn, Closed, shown, shown_spaces, shown_draft}
+use Rattle.sa_workload.specs.Position.{Position, AtVersion, AtAbsent, AtInstr, AtEvict, AtTurn, Closed, shown, shown_spaces, shown_draft}
 use Rattle.sa_workload.specs.Steps.{expected, workload, after_instr}
 use Rattle.sa_workload.specs.Next.{numbers_at, is_full, last_numbers, fields_of, is_end, step, step_instr, evict_from, turn_from, next}
-use Rattle.sa_workload.proofs.FieldLemmas.{register-spelled, same_ok, if_either, and_then-ok, spelled, Passes, spelled_all, AllPass, right-read}
-use Rattle.sa_workload.proofs.InstrLemmas.{instr-read}
-use Rattle.sa_workload.proofs.Causes.{word_end, IsStuck, step-err}
-use Rattle.sa_workload.proofs.OneBad.{begins_front}
-use Rattle.sa_workload.proofs.Orders.{none-order}
-use Rattle.sa_workload.proofs.OneCause.{right_not_wrong}
-use Rattle.sa_workload.proofs.Sound.{Took, took}
-use Rattle.sa_workload.proofs.Complete.{complete, take-line, run, run-append}
-use Rattle.sa_workload.proofs.LineAt.{OrderAt, free, behind, LineAt, line_at, numbers_of-spelled}
-use Rattle.sa_workload.proofs.Standing.{IsAt, Setting, at_first, at_next, begins, begins-next, expected_words, contained}
-use Rattle.sa_workload.proofs.Words.{instrs_begin}
+use Rattle.sa_workload.proofs.fields.FieldLemmas.{register-spelled, same_ok, if_either, and_then-ok, contained, spelled, Passes, spelled_all, AllPass, right-read}
+use Rattle.sa_workload.proofs.fields.InstrLemmas.{instr-read}
+use Rattle.sa_workload.proofs.causes.Causes.{word_end, IsStuck, step-err}
+use Rattle.sa_workload.proofs.forward.Completion.{begins_front}
+use Rattle.sa_workload.proofs.forward.Orders.{none-order}
+use Rattle.sa_workload.proofs.causes.OneCause.{right_not_wrong}
+use Rattle.sa_workload.proofs.forward.Sound.{Took, took}
+use Rattle.sa_workload.proofs.forward.Complete.{complete, take-line, run, run-append}
+use Rattle.sa_workload.proofs.causes.LineAt.{OrderAt, free, behind, LineAt, line_at, numbers_of-spelled}
+use Rattle.sa_workload.proofs.forward.Standing.{IsAt, Setting, at_first, at_next, begins, begins-next, expected_words}
+use Rattle.sa_workload.proofs.causes.FirstWords.{instrs_begin}
 
 -- a reader that went through lines stands behind them
 run-at : (versions : ℕ) → versions ≤ 3 → (ls : List (List (List ℕ))) (p q : Position) → IsAt versions p → run versions p ls ≡ Ok q → IsAt versions q × (shown q ≡ shown p ++ ls)
@@ -141,15 +141,7 @@ cond_ok false x y = (y, refl)
 
 step_alike : (versions : ℕ) (p : Position) (word ms ns : List ℕ) (q : Position) → is_some (index_of word (expected p)) ≡ true
     → AllPass (fields_of versions p word) ms → AllPass (fields_of versions p word) ns → step p word ms ≡ Ok q → (r : Position) × (step p word ns ≡ Ok r)
-step_alike versions AtVersion word ms ns q known a b h = (_, refl)
-step_alike versions (AtProcessors v) word ms ns q known a b h = (_, refl)
-step_alike versions (AtFetch v n) word ms ns q known a b h = (_, refl)
-step_alike versions (AtSlice v n f) word ms ns q known a b h = (_, refl)
-step_alike versions (AtSpaces v n f s) word ms ns q known a b h = (_, refl)
-step_alike versions (AtSpace m spaces) word ms ns q known a b h = (_, refl)
-step_alike versions (AtSem m spaces d) word ms ns q known a b h = (_, refl)
 step_alike versions (AtAbsent m spaces d) word ms ns q known a b h = cond_ok (bytes_eq word (codes "absent")) _ _
-step_alike versions (AtProgram m spaces d) word ms ns q known a b h = (_, refl)
 step_alike versions (AtInstr m spaces d len instrs) word ms ns q known a b h =
     let p : Position = AtInstr m spaces d len instrs in
     let i = instr-read versions (numbers_at p) word ms known a in
@@ -175,6 +167,7 @@ step_alike versions (AtEvict m spaces es) word ms ns q known a b h = pick (bytes
     pick false = cond_ok (bytes_eq word (codes "turn")) _ _
 step_alike versions (AtTurn m spaces es ts) word ms ns q known a b h = cond_ok (bytes_eq word (codes "turn")) _ _
 step_alike versions (Closed w) word ms ns q known a b h = absurd (cc known)
+step_alike versions _ word ms ns q known a b h = (_, refl)
 
 -- some text goes on with a line that leads on
 goes_on_with : (versions : ℕ) (g : Grammar) → Setting versions g → (p q : Position) (line : List (List ℕ)) → IsAt versions p → next versions p line ≡ Ok q

@@ -24,12 +24,12 @@ use Rattle.sa_workload.specs.Fields.{index_of}
 use Rattle.sa_workload.specs.Position.{Machine, Draft, Position, AtVersion, AtProcessors, AtFetch, AtSlice, AtSpaces, AtSpace, AtSem, AtAbsent, AtProgram, AtInstr, AtEvict, AtTurn, Closed, IsReached, shown, shown_spaces, shown_machine, draft_line}
 use Rattle.sa_workload.specs.Steps.{expected}
 use Rattle.sa_workload.specs.Next.{is_last_impatient, numbers_at, is_full, last_of, evict_numbers, last_numbers, fields_of}
-use Rattle.sa_workload.proofs.FieldLemmas.{spelled_all, AllPass}
-use Rattle.sa_workload.proofs.InstrLemmas.{operation-fields, expected-operation}
-use Rattle.sa_workload.proofs.Fronts.{Pushed, split_last, All-last}
-use Rattle.sa_workload.proofs.Readings.{reads, needs_patience_in, version-at_slice, version-at_space, needs-at_space, mutexes-at_instr, sems-at_instr, cells-at_instr, programs-at_instr, length-at_instr, spaces-at_evict, processors-at_evict, processors-at_turn, count_evict-at_evict, count_turn-at_evict, count_turn-at_turn, last_line-at_absent, last_line-at_evict}
-use Rattle.sa_workload.proofs.Sound.{by_word}
-use Rattle.sa_workload.proofs.Words.{Lacks, All-mapped, is_other, other, lacks, space_words, machine_words, machine_begins, spaces_begin, last_line-push}
+use Rattle.sa_workload.proofs.fields.FieldLemmas.{spelled_all, AllPass}
+use Rattle.sa_workload.proofs.fields.InstrLemmas.{operation-fields, expected-operation}
+use Rattle.sa_workload.proofs.forward.Fronts.{Pushed, split_last, All-last}
+use Rattle.sa_workload.proofs.causes.Readings.{reads, needs_patience_in, version-at_slice, version-at_space, needs-at_space, mutexes-at_instr, sems-at_instr, cells-at_instr, programs-at_instr, length-at_instr, spaces-at_evict, processors-at_evict, processors-at_turn, count_evict-at_evict, count_turn-at_evict, count_turn-at_turn, last_line-at_absent, last_line-at_evict}
+use Rattle.sa_workload.proofs.forward.Sound.{by_word}
+use Rattle.sa_workload.proofs.causes.FirstWords.{Lacks, All-mapped, is_other, other, lacks, space_words, machine_words, machine_begins, spaces_begin, last_line-push}
 
 -- the words whose lines keep an order, and those of whose lines there is a greatest number
 abbrev pub ordered_words : List (List ℕ)

@@ -1,5 +1,5 @@
 -- What the functions of lines that read in several steps come to.
-use Rattle.std.proofs.Common.{◌≡◌, ◌≢◌, ℕ, ◌+◌, ◌&&◌, not, eq-eqb, ne_eqb, ap₂, ◌≤◌, Bool, true, false, cond, List, [], ◌∷◌, ◌++◌, length, map, get_or, MatchResult, Option, Some, None, Result, Ok, Err, codes, refl, sym, ap, ◌∙◌, subst, arith}
+use Rattle.std.proofs.Common.{◌≡◌, ◌≢◌, ℕ, ◌+◌, ◌==◌, inl, inr, ◌&&◌, not, eq-eqb, ne_eqb, ap₂, ◌≤◌, Bool, true, false, cond, List, [], ◌∷◌, ◌++◌, length, map, get_or, MatchResult, Option, Some, None, Result, Ok, Err, codes, refl, sym, ap, ◌∙◌, subst, arith}
 use Rattle.std.specs.Option.{is_some}
 use Rattle.std.specs.Str.{bytes_eq}
 use Rattle.std.proofs.lemmas.Bool.{cond-true, cond-false}
@@ -21,19 +21,20 @@ use Rattle.sa_text.specs.LineText.{LineText}
 use Rattle.sa_text.specs.Pieces.{pieces_of}
 use Rattle.sa_workload.specs.Bad.{DeclaredNumbers, Field, operand_field, instr_words}
 use Rattle.sa_workload.specs.Fields.{and_then, unless, or_cause, numbered, with_rest, field_at, index_of, fields_at, line_numbers, at_end}
-use Rattle.sa_workload.specs.Position.{Machine, Draft, Position, AtSpace, AtInstr, AtEvict, AtTurn, IsReached}
+use Rattle.sa_workload.specs.Position.{Machine, Draft, Position, AtSpace, AtAbsent, AtProgram, AtInstr, AtEvict, AtTurn, IsReached}
 use Rattle.sa_workload.specs.Steps.{workload, space_of_draft, with_program, after_sem, after_program, after_instr}
 use Rattle.sa_workload.specs.Next.{draft_from, draft_numbers, space_fields, operand_from, operands_from, operation_of, made_by, is_end, step, step_instr, instr_in, close_at, next_by, next}
+use Rattle.sa_workload.specs.LastInstr.{ended}
 use Rattle.sa_workload.specs.declared.cause.Refusal.{Refusal}
 use Rattle.sa_workload.specs.declared.cause.Refusal.TheVariants.{Because, OutOfMemory}
 use Rattle.sa_workload.specs.declared.stage.Stage.{Stage}
 use Rattle.sa_workload.specs.Stage.{position_of, Gives}
 use Rattle.sa_workload.specs.Reading.{is_printed, line_in, read_from, goes_on}
-use Rattle.sa_workload.proofs.FieldLemmas.{same_ok, same_err}
-use Rattle.sa_workload.proofs.InstrLemmas.{IsAllowed, no_operation, operation-expected, operation-fields, operation-found}
-use Rattle.sa_workload.proofs.Completion.{after_instr-full, after_instr-more}
-use Rattle.sa_workload.proofs.Sound.{end_of, instr_next, allowed_in}
-use Rattle.sa_workload.proofs.Reached.{begun_more, whole_program, with_program-drafted, whole_space}
+use Rattle.sa_workload.proofs.fields.FieldLemmas.{same_ok, same_err, and_then-ok, if_either}
+use Rattle.sa_workload.proofs.fields.InstrLemmas.{IsAllowed, no_operation, operation-expected, operation-fields, operation-found}
+use Rattle.sa_workload.proofs.forward.Completion.{after_instr-full, after_instr-more}
+use Rattle.sa_workload.proofs.forward.Sound.{end_of, not_both, instr_next, allowed_in}
+use Rattle.sa_workload.proofs.forward.Reached.{begun_more, whole_program, with_program-drafted, whole_space}
 
 -- what a test of a word says
 pub eq_word : (word l k : List ℕ) (r b : Bool) → l ≡ k → r ≡ bytes_eq word l → r ≡ b → bytes_eq word k ≡ b
@@ -42,6 +43,13 @@ eq_word word l k r b e is t = ap (bytes_eq word) (sym e) ∙ sym is ∙ t
 pub not_false : (b : Bool) → not b ≡ false → b ≡ true
 not_false true h = refl
 not_false false h = absurd (cc h)
+
+pub other_word : (word k : List ℕ) (r : Bool) → r ≡ not (bytes_eq word k) → r ≡ true → bytes_eq word k ≡ false
+other_word word k r is t = by_test (bytes_eq word k) (sym is ∙ t)
+  where
+    by_test : (b : Bool) → not b ≡ true → b ≡ false
+    by_test true h = absurd (cc h)
+    by_test false h = refl
 
 pub ne_word : (word l k : List ℕ) (r : Bool) → l ≡ k → r ≡ not (bytes_eq word l) → r ≡ false → bytes_eq word k ≡ true
 ne_word word l k r e is t = ap (bytes_eq word) (sym e) ∙ not_false (bytes_eq word l) (sym is ∙ t)
@@ -98,6 +106,26 @@ evict_close versions m spaces es word words one other = by_test (bytes_eq word (
     by_test true t =
         subst (λ (w : List ℕ). next_by versions (AtEvict m spaces es) w words ≡ close_at (workload m spaces es []) w words) (sym ((bytes_eq-Decides word (codes "close")).0 t)) refl
     by_test false f = rw (one, other, f) refl
+
+-- a line that is no `evict` line is read as behind no turns
+pub evict_turn : (versions : ℕ) (m : Machine) (spaces : List SpaceView) (es : List Evict) (word : List ℕ) (words : List (List ℕ)) → bytes_eq word (codes "evict") ≡ false
+    → next_by versions (AtEvict m spaces es) word words ≡ next_by versions (AtTurn m spaces es []) word words
+evict_turn versions m spaces es word words other = by_test (bytes_eq word (codes "turn")) refl
+  where
+    by_test : (b : Bool) → bytes_eq word (codes "turn") ≡ b → next_by versions (AtEvict m spaces es) word words ≡ next_by versions (AtTurn m spaces es []) word words
+    by_test true t =
+        subst (λ (w : List ℕ). next_by versions (AtEvict m spaces es) w words ≡ next_by versions (AtTurn m spaces es []) w words) (sym ((bytes_eq-Decides word (codes "turn")).0 t)) refl
+    by_test false f = evict_close versions m spaces es word words other f ∙ sym (turn_close versions m spaces es [] word words f)
+
+-- and one that is no `absent` line as a program's
+pub absent_program : (versions : ℕ) (m : Machine) (spaces : List SpaceView) (d : Draft) (word : List ℕ) (words : List (List ℕ)) → bytes_eq word (codes "absent") ≡ false
+    → next_by versions (AtAbsent m spaces d) word words ≡ next_by versions (AtProgram m spaces d) word words
+absent_program versions m spaces d word words other = by_test (bytes_eq word (codes "program")) refl
+  where
+    by_test : (b : Bool) → bytes_eq word (codes "program") ≡ b → next_by versions (AtAbsent m spaces d) word words ≡ next_by versions (AtProgram m spaces d) word words
+    by_test true t =
+        subst (λ (w : List ℕ). next_by versions (AtAbsent m spaces d) w words ≡ next_by versions (AtProgram m spaces d) w words) (sym ((bytes_eq-Decides word (codes "program")).0 t)) refl
+    by_test false f = rw (other, f) refl
 
 -- an instruction, by its operation
 pub instr_none : (n : DeclaredNumbers) (word : List ℕ) (words : List (List ℕ)) → IsNoWord word → instr_in n word words ≡ Err 2
@@ -274,31 +302,44 @@ module _ (n : DeclaredNumbers) (o : Operation) (kinds : List OperandKind) (same 
 
 -- the line of an instruction, by its instruction
 module _ (versions : ℕ) (m : Machine) (spaces : List SpaceView) (d : Draft) (len : ℕ) (instrs : List Instr) (word : List ℕ) (words : List (List ℕ)) where
-  pub instr_refused : (why : ℕ) → instr_in (draft_numbers d len) word words ≡ Err why → next_by versions (AtInstr m spaces d len instrs) word words ≡ Err why
-  instr_refused why h =
-      instr_next versions m spaces d len instrs word words ∙ ap (λ (r : Result Instr ℕ). and_then r (λ i. step_instr m spaces d len instrs (Some i))) h
+  -- what is read of it, and where it leads
+  pub instr_read : (last : Bool) (r : Result Instr ℕ) → last ≡ (length instrs + 1 == len) → r ≡ and_then (instr_in (draft_numbers d len) word words) (ended last)
+      → next_by versions (AtInstr m spaces d len instrs) word words ≡ and_then r (λ i. Ok (after_instr m spaces d len (instrs ++ i ∷ [])))
+  instr_read last r e h =
+      instr_next versions m spaces d len instrs word words ∙ by_read (instr_in (draft_numbers d len) word words)
+      ∙ ap (λ (x : Result Instr ℕ). and_then x (λ i. Ok (after_instr m spaces d len (instrs ++ i ∷ []))))
+      (ap (λ (c : Bool). and_then (instr_in (draft_numbers d len) word words) (ended c)) (sym e) ∙ sym h)
+    where
+      by_test : (c : Bool) (i : Instr) → cond c (Err 9) (Ok (after_instr m spaces d len (instrs ++ i ∷ [])))
+          ≡ and_then {A = Instr} (cond c (Err 9) (Ok i)) (λ i. Ok (after_instr m spaces d len (instrs ++ i ∷ [])))
+      by_test true i = refl
+      by_test false i = refl
 
-  by_instr : (i : Instr) → instr_in (draft_numbers d len) word words ≡ Ok i
-      → next_by versions (AtInstr m spaces d len instrs) word words ≡ step_instr m spaces d len instrs (Some i)
-  by_instr i h =
-      instr_next versions m spaces d len instrs word words ∙ ap (λ (r : Result Instr ℕ). and_then r (λ i. step_instr m spaces d len instrs (Some i))) h
+      by_read : (x : Result Instr ℕ) → and_then x (λ i. step_instr m spaces d len instrs (Some i))
+          ≡ and_then (and_then x (ended (length instrs + 1 == len))) (λ i. Ok (after_instr m spaces d len (instrs ++ i ∷ [])))
+      by_read (Ok i) = by_test ((length instrs + 1 == len) && not (is_end i)) i
+      by_read (Err why) = refl
 
-  pub instr_more : (i : Instr) → instr_in (draft_numbers d len) word words ≡ Ok i → length instrs + 1 ≢ len
-      → next_by versions (AtInstr m spaces d len instrs) word words ≡ Ok (AtInstr m spaces d len (instrs ++ i ∷ []))
-  instr_more i h more =
-      by_instr i h ∙ ap (λ (b : Bool). cond (b && not (is_end i)) (Err 9) (Ok (after_instr m spaces d len (instrs ++ i ∷ [])))) (ne_eqb (length instrs + 1) len more)
-      ∙ ap Ok (after_instr-more m spaces d len (instrs ++ i ∷ []) (omega (arith, length_push instrs i)))
+  pub instr_more : (last : Bool) (i : Instr) → last ≡ (length instrs + 1 == len) → Ok i ≡ and_then (instr_in (draft_numbers d len) word words) (ended last)
+      → length instrs + 1 ≢ len → next_by versions (AtInstr m spaces d len instrs) word words ≡ Ok (AtInstr m spaces d len (instrs ++ i ∷ []))
+  instr_more last i e h more =
+      instr_read last (Ok i) e h ∙ ap Ok (after_instr-more m spaces d len (instrs ++ i ∷ []) (omega (arith, length_push instrs i)))
 
-  pub instr_unended : (i : Instr) → instr_in (draft_numbers d len) word words ≡ Ok i → length instrs + 1 ≡ len → is_end i ≡ false
-      → next_by versions (AtInstr m spaces d len instrs) word words ≡ Err 9
-  instr_unended i h last other =
-      by_instr i h ∙ ap₂ (λ (b c : Bool). cond (b && not c) (Err 9) (Ok (after_instr m spaces d len (instrs ++ i ∷ [])))) (eq-eqb (length instrs + 1) len last) other
+  pub instr_last : (last : Bool) (i : Instr) → last ≡ (length instrs + 1 == len) → Ok i ≡ and_then (instr_in (draft_numbers d len) word words) (ended last)
+      → length instrs + 1 ≡ len → next_by versions (AtInstr m spaces d len instrs) word words ≡ Ok (after_program m spaces (with_program d (instrs ++ i ∷ [])))
+  instr_last last i e h all =
+      instr_read last (Ok i) e h ∙ ap Ok (after_instr-full m spaces d len (instrs ++ i ∷ []) (length_push instrs i ∙ all))
 
-  pub instr_last : (i : Instr) → instr_in (draft_numbers d len) word words ≡ Ok i → length instrs + 1 ≡ len → is_end i ≡ true
-      → next_by versions (AtInstr m spaces d len instrs) word words ≡ Ok (after_program m spaces (with_program d (instrs ++ i ∷ [])))
-  instr_last i h last end =
-      by_instr i h ∙ ap₂ (λ (b c : Bool). cond (b && not c) (Err 9) (Ok (after_instr m spaces d len (instrs ++ i ∷ [])))) (eq-eqb (length instrs + 1) len last) end
-      ∙ ap Ok (after_instr-full m spaces d len (instrs ++ i ∷ []) (length_push instrs i ∙ last))
+  pub instr_made : (last : Bool) (i : Instr) → Ok i ≡ and_then (instr_in (draft_numbers d len) word words) (ended last)
+      → (instr_in (draft_numbers d len) word words ≡ Ok i) × (last ≡ true → is_end i ≡ true)
+  instr_made last i h =
+      let k = and_then-ok (instr_in (draft_numbers d len) word words) (ended last) i (sym h) in
+      elim (if_either (last && not (is_end k.0)) (Err 9) (Ok k.0) (Ok i) k.2) [
+        | inl bad ↦ absurd (cc (bad.1))
+        | inr fine ↦
+            let same : k.0 ≡ i = same_ok k.0 i fine.1 in
+            (k.1 ∙ ap Ok same, λ t. subst (λ (j : Instr). is_end j ≡ true) same (not_both last (is_end k.0) fine.0 t))
+      ]
 
   pub program_whole : (i : Instr) → IsReached versions (AtInstr m spaces d len instrs) → instr_in (draft_numbers d len) word words ≡ Ok i → length instrs + 1 ≡ len → is_end i ≡ true
       → IsProgram (instrs ++ i ∷ [])

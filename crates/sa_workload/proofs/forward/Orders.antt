@@ -9,8 +9,8 @@ use Rattle.sa_spaces.specs.Workload.{IsBefore}
 use Rattle.sa_workload.specs.Bad.{list_lt}
 use Rattle.sa_workload.specs.Fields.{order_cause}
 use Rattle.sa_workload.specs.Next.{evict_numbers}
-use Rattle.sa_workload.proofs.FieldLemmas.{if_either}
-use Rattle.sa_workload.proofs.OneCause.{before_heads, list_lt-irrefl, list_lt-asym}
+use Rattle.sa_workload.proofs.fields.FieldLemmas.{if_either}
+use Rattle.sa_workload.proofs.causes.OneCause.{before_heads, list_lt-irrefl, list_lt-asym}
 
 pub less_head : (x y : ℕ) (xs ys : List ℕ) → x < y → list_lt (x ∷ xs) (y ∷ ys) ≡ true
 less_head x y xs ys h = ap (λ (b : Bool). b || (eqb x y && list_lt xs ys)) (lt-ltb x y h)

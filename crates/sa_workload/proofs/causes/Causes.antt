@@ -6,19 +6,19 @@ use Rattle.std.specs.Str.Parse.{digits_value}
 use Rattle.std.proofs.lemmas.Bool.{false≢true, eqb-true}
 use Rattle.std.proofs.lemmas.Slice.Eq.{bytes_eq-Decides}
 use Rattle.sa_instr.specs.declared.instr.Instr.{Instr}
-use Rattle.sa_instr.specs.declared.instr.Instr.TheVariants.{Compute, Set, Add, Sub, Jnz, Load, Store, Out, Fork, Join, Lock, Unlock, Wait, Signal, Io, Touch, End}
+use Rattle.sa_instr.specs.declared.instr.Instr.TheVariants.{End}
 use Rattle.sa_spaces.specs.Space.{SpaceView}
 use Rattle.sa_workload.specs.Text.{instr_line}
 use Rattle.sa_workload.specs.Bad.{first_word, Grammar, Begins, Field, IsOutOfOrder, IsInOrder, FieldCause, WordCause, list_lt}
 use Rattle.sa_workload.specs.Fields.{and_then, order_cause, line_numbers, index_of}
-use Rattle.sa_workload.specs.Position.{Machine, Draft, Position, AtVersion, AtProcessors, AtFetch, AtSlice, AtSpaces, AtSpace, AtSem, AtAbsent, AtProgram, AtInstr, AtEvict, AtTurn, Closed, shown}
+use Rattle.sa_workload.specs.Position.{Machine, Draft, Position, AtAbsent, AtInstr, AtEvict, AtTurn, Closed, shown}
 use Rattle.sa_workload.specs.Steps.{expected, after_instr}
 use Rattle.sa_workload.specs.Next.{numbers_at, is_full, last_numbers, fields_of, is_end, step, step_instr, next}
-use Rattle.sa_workload.proofs.FieldLemmas.{same_err, both_true, if_either, and_then-err, spelled_all, AllPass, all_right, all_long, line-ok, line-err}
-use Rattle.sa_workload.proofs.InstrLemmas.{instr-read}
-use Rattle.sa_workload.proofs.Orders.{order-some, order-none}
-use Rattle.sa_workload.proofs.LineAt.{numbers_of-spelled, OrderAt, free, behind, LineAt, line_at}
-use Rattle.sa_workload.proofs.Standing.{IsAt, Setting, begins-next, expects, expected_words}
+use Rattle.sa_workload.proofs.fields.FieldLemmas.{same_err, both_true, if_either, and_then-err, spelled_all, AllPass, all_right, all_long, line-ok, line-err}
+use Rattle.sa_workload.proofs.fields.InstrLemmas.{instr-read}
+use Rattle.sa_workload.proofs.forward.Orders.{order-some, order-none}
+use Rattle.sa_workload.proofs.causes.LineAt.{numbers_of-spelled, OrderAt, free, behind, LineAt, line_at}
+use Rattle.sa_workload.proofs.forward.Standing.{IsAt, Setting, begins-next, expects, expected_words}
 
 -- an order that is broken, and one that is kept
 out_of_order : (p : Position) (word : List ℕ) (fields : List Field) → OrderAt p word fields → (ns : List ℕ) (rest : List (List ℕ)) (why : ℕ) → AllPass fields ns
@@ -48,23 +48,8 @@ if_ok false q r why h = absurd (cc h)
 
 -- an instruction is `end` as its word is
 end_by_word : (i : Instr) → is_end i ≡ bytes_eq (first_word (instr_line i)) (codes "end")
-end_by_word Compute = refl
-end_by_word (Set r n) = refl
-end_by_word (Add r n) = refl
-end_by_word (Sub r n) = refl
-end_by_word (Jnz r n) = refl
-end_by_word (Load r n) = refl
-end_by_word (Store r n) = refl
-end_by_word (Out r) = refl
-end_by_word (Fork r n) = refl
-end_by_word (Join r) = refl
-end_by_word (Lock n) = refl
-end_by_word (Unlock n) = refl
-end_by_word (Wait n) = refl
-end_by_word (Signal n) = refl
-end_by_word (Io n) = refl
-end_by_word (Touch n) = refl
 end_by_word End = refl
+end_by_word _ = refl
 
 pub word_end : (i : Instr) (word : List ℕ) (others : List (List ℕ)) → instr_line i ≡ word ∷ others → is_end i ≡ bytes_eq word (codes "end")
 word_end i word others e = end_by_word i ∙ ap (λ (l : List (List ℕ)). bytes_eq (first_word l) (codes "end")) e
@@ -82,15 +67,7 @@ pub record IsStuck (p : Position) (word : List ℕ) (why : ℕ) : Type 0 where
 
 pub step-err : (versions : ℕ) (p : Position) (word ns : List ℕ) (why : ℕ) → is_some (index_of word (expected p)) ≡ true → AllPass (fields_of versions p word) ns
     → step p word ns ≡ Err why → IsStuck p word why
-step-err versions AtVersion word ns why known pass h = absurd (cc h)
-step-err versions (AtProcessors v) word ns why known pass h = absurd (cc h)
-step-err versions (AtFetch v n) word ns why known pass h = absurd (cc h)
-step-err versions (AtSlice v n f) word ns why known pass h = absurd (cc h)
-step-err versions (AtSpaces v n f s) word ns why known pass h = absurd (cc h)
-step-err versions (AtSpace m spaces) word ns why known pass h = absurd (cc h)
-step-err versions (AtSem m spaces d) word ns why known pass h = absurd (cc h)
 step-err versions (AtAbsent m spaces d) word ns why known pass h = absurd (if_ok (bytes_eq word (codes "absent")) _ _ why h)
-step-err versions (AtProgram m spaces d) word ns why known pass h = absurd (cc h)
 step-err versions (AtInstr m spaces d len instrs) word ns why known pass h =
     let i = instr-read versions (numbers_at (AtInstr m spaces d len instrs)) word ns known pass in
     elim (if_either ((length instrs + 1 == len) && not (is_end i.instr)) (Err 9) (Ok (after_instr m spaces d len (instrs ++ i.instr ∷ []))) (Err why)
@@ -115,6 +92,7 @@ step-err versions (AtEvict m spaces es) word ns why known pass h =
     elim (if_either (bytes_eq word (codes "evict")) _ _ (Err why) h) [ inl a ↦ absurd (cc (a.1)) | inr b ↦ absurd (if_ok (bytes_eq word (codes "turn")) _ _ why b.1) ]
 step-err versions (AtTurn m spaces es ts) word ns why known pass h = absurd (if_ok (bytes_eq word (codes "turn")) _ _ why h)
 step-err versions (Closed w) word ns why known pass h = absurd (cc known)
+step-err versions _ word ns why known pass h = absurd (cc h)
 
 -- the cause behind a first word that is expected
 field_cause : (versions : ℕ) (p : Position) (word : List ℕ) (words : List (List ℕ)) (why : ℕ) → is_some (index_of word (expected p)) ≡ true

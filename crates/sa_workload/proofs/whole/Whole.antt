@@ -20,11 +20,11 @@ use Rattle.sa_workload.specs.Bad.{Grammar, AnyVersion, Version1, Begins, IsPrint
 use Rattle.sa_workload.specs.Position.{Position, AtVersion, AtProcessors, AtFetch, AtSlice, AtSpaces, AtSpace, AtSem, AtAbsent, AtProgram, AtInstr, AtEvict, AtTurn, Closed, IsReached, shown}
 use Rattle.sa_workload.specs.Next.{next}
 use Rattle.sa_workload.specs.Reading.{is_printed, line_in, finished, goes_on, read_from, read_of, IsReading}
-use Rattle.sa_workload.proofs.FieldLemmas.{same_err, if_either, both_true}
-use Rattle.sa_workload.proofs.Standing.{IsAt, Setting, any, alone, at_first, at_next, begins, whole_lines}
-use Rattle.sa_workload.proofs.Sound.{took, sound}
-use Rattle.sa_workload.proofs.Causes.{word_cause, refused}
-use Rattle.sa_workload.proofs.TextLemmas.{IsWords, workload-words, join-printed, text_of-from_words}
+use Rattle.sa_workload.proofs.fields.FieldLemmas.{same_err, if_either, both_true}
+use Rattle.sa_workload.proofs.forward.Standing.{IsAt, Setting, any, alone, at_first, at_next, begins, whole_lines}
+use Rattle.sa_workload.proofs.forward.Sound.{took, sound}
+use Rattle.sa_workload.proofs.causes.Causes.{word_cause, refused}
+use Rattle.sa_workload.proofs.whole.TextLemmas.{IsWords, workload-words, join-printed, text_of-from_words}
 use Rattle.sa_workload.proofs.OneBad.{one-bad, text-not_bad, texts_differ}
 
 -- printed bytes

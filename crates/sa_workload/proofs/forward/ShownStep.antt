@@ -10,7 +10,7 @@ use Rattle.sa_spaces.specs.Space.{SpaceView}
 use Rattle.sa_workload.specs.Text.{instr_line, program_lines, sem_line, absent_line, space_lines, evict_line, turn_line, slice_lines, version_of, workload_lines}
 use Rattle.sa_workload.specs.Position.{Machine, Draft, Position, AtSlice, AtSpaces, AtSpace, AtSem, AtAbsent, AtProgram, AtInstr, AtEvict, IsReached, AreSpaces, CanSlice, version_line, processors_line, fetch_line, spaces_line, shown_machine, shown_spaces, draft_line, shown_draft, shown}
 use Rattle.sa_workload.specs.Steps.{Steps, step_version, step_processors, step_fetch, step_slice, step_spaces, step_space, step_sem, step_absent, step_first_program, step_program, step_instr, step_evict, step_first_turn, step_turn, step_first_close, step_close, slice_line, program_line, close_line, workload, space_of_draft, IsFresh, with_sem, with_absent, with_program, after_sem, after_spaces, after_program, after_instr}
-use Rattle.sa_workload.proofs.Fronts.{all_true, true_all}
+use Rattle.sa_workload.proofs.forward.Fronts.{all_true, true_all}
 
 abbrev pub Lines : Type 0
 Lines = List (List (List ℕ))

@@ -1,5 +1,5 @@
 -- Where a reader stands behind lines: what it keeps, and which words it expects.
-use Rattle.std.proofs.Common.{◌≡◌, ℕ, ◌<◌, ◌≤◌, Bool, true, false, List, [], ◌∷◌, ◌++◌, length, get_or, Contains, Option, Some, None, Result, Ok, codes, refl, sym, ap, ◌∙◌, subst, inl, inr, arith, append_assoc, eqb, if◌then◌else◌}
+use Rattle.std.proofs.Common.{◌≡◌, ℕ, ◌≤◌, Bool, true, false, List, [], ◌∷◌, ◌++◌, Contains, Result, Ok, codes, refl, sym, ap, ◌∙◌, subst, inl, inr, arith, append_assoc, eqb, if◌then◌else◌}
 use Rattle.std.specs.Option.{is_some}
 use Rattle.std.specs.List.{list_all}
 use Rattle.std.proofs.lemmas.Bool.{false≢true}
@@ -14,29 +14,14 @@ use Rattle.sa_workload.specs.Fields.{and_then, index_of}
 use Rattle.sa_workload.specs.Position.{Position, AtVersion, AtProcessors, AtFetch, AtSlice, AtSpaces, AtSpace, AtSem, AtAbsent, AtProgram, AtInstr, AtEvict, AtTurn, Closed, IsReached, shown}
 use Rattle.sa_workload.specs.Steps.{Steps, expected, step_version, step_processors, step_fetch, step_slice, step_spaces, step_space, step_sem, step_absent, step_first_program, step_program, step_instr, step_evict, step_first_turn, step_turn, step_first_close, step_close}
 use Rattle.sa_workload.specs.Next.{next}
-use Rattle.sa_workload.proofs.FieldLemmas.{same_ok, and_then-ok, index_of-none, index_of-some}
-use Rattle.sa_workload.proofs.InstrLemmas.{operation-expected}
-use Rattle.sa_workload.proofs.ShownStep.{shown-step}
-use Rattle.sa_workload.proofs.Completion.{AcceptsUpTo, any_version, version_1, completes}
-use Rattle.sa_workload.proofs.Following.{right_word}
-use Rattle.sa_workload.proofs.Words.{is_other, other, last_line-push}
-use Rattle.sa_workload.proofs.Sound.{by_word, took, GoesTo, sound}
-use Rattle.sa_workload.proofs.Complete.{run, run-append, run-then, complete}
-
--- a word among these, and one that is none of them
-pub known_word : (ks : List (List ℕ)) (word : List ℕ) → Contains ks word → is_some (index_of word ks) ≡ true
-known_word ks word c = at (index_of word ks) (index_of-none word ks)
-  where
-    at : (o : Option ℕ) → (o ≡ None → ¬ Contains ks word) → is_some o ≡ true
-    at None f = absurd (f refl c)
-    at (Some n) f = refl
-
-pub contained : (ks : List (List ℕ)) (word : List ℕ) → is_some (index_of word ks) ≡ true → Contains ks word
-contained ks word h = at (index_of word ks) (index_of-some word ks) h
-  where
-    at : (o : Option ℕ) → ((n : ℕ) → o ≡ Some n → (n < length ks) × (get_or ks n word ≡ word)) → is_some o ≡ true → Contains ks word
-    at None f h = absurd (cc h)
-    at (Some n) f h = let r = f n refl in (n, r.0, r.1)
+use Rattle.sa_workload.proofs.fields.FieldLemmas.{same_ok, and_then-ok, known_word}
+use Rattle.sa_workload.proofs.fields.InstrLemmas.{operation-expected}
+use Rattle.sa_workload.proofs.forward.ShownStep.{shown-step}
+use Rattle.sa_workload.proofs.forward.Completion.{AcceptsUpTo, any_version, version_1, completes}
+use Rattle.sa_workload.proofs.forward.Following.{right_word}
+use Rattle.sa_workload.proofs.causes.FirstWords.{is_other, other, last_line-push}
+use Rattle.sa_workload.proofs.forward.Sound.{by_word, took, GoesTo, sound}
+use Rattle.sa_workload.proofs.forward.Complete.{run, run-append, run-then, complete}
 
 none_of : (ks : List (List ℕ)) (word : List ℕ) → is_other word ks ≡ true → Contains ks word → ⊥
 none_of ks word h c = absurd (cc (other word word ks c h, (bytes_eq-Decides word word).1 refl))
@@ -165,7 +150,7 @@ instrs_together (Closed w) word first known h = absurd (cc known)
 
 -- the words that may begin a line are those that are expected
 pub expects : (versions : ℕ) (g : Grammar) → Setting versions g → (p : Position) (word : List ℕ) → IsAt versions p → is_some (index_of word (expected p)) ≡ true → IsRightWord g (shown p) word
-expects versions g s p word a known = right_word versions g s.covers s.one s.few p word a.reached (contained (expected p) word known)
+expects versions g s p word a known = right_word versions g s.covers s.one s.few p word a.reached known
 
 follows : (versions : ℕ) (g : Grammar) → Setting versions g → (p : Position) (word : List ℕ) → IsAt versions p → MayFollow g (shown p) word → is_some (index_of word (expected p)) ≡ true
 follows versions g s p word a f =

@@ -1,7 +1,6 @@
 -- Lists with one element more at the end: what holds of the whole holds of its front and of its last element.
-use Rattle.std.proofs.Common.{◌≡◌, ℕ, ◌+◌, ◌<◌, ◌≤◌, ◌⊎◌, Bool, true, false, ◌&&◌, List, [], ◌∷◌, ◌++◌, length, All, arith, refl, ap, ◌∙◌, subst, subst₂, inl, inr, eqb, eq-eqb, ne_eqb, ◌≢◌}
-use Rattle.std.specs.List.{AllAdjacentBelow, list_all}
-use Rattle.std.specs.List.Sorted.{IsStrictlyIncreasing}
+use Rattle.std.proofs.Common.{◌≡◌, ℕ, ◌+◌, ◌≤◌, ◌⊎◌, Bool, true, false, ◌&&◌, List, [], ◌∷◌, ◌++◌, length, All, arith, refl, ap, ◌∙◌, subst, inl, inr, eqb, eq-eqb, ne_eqb, ◌≢◌}
+use Rattle.std.specs.List.{list_all}
 use Rattle.std.proofs.lemmas.List.{get_or_push, get_or_append_left, length_push}
 use Rattle.std.proofs.lemmas.List.Elements.{All-nil, All-cons, All-head, All-tail}
 use Rattle.std.proofs.lemmas.Bool.{cases_eq}
@@ -32,17 +31,6 @@ All-front P xs y h = λ k d l. subst P (get_or_append_left xs (y ∷ []) d k l) 
 
 pub All-last : {X : Type 0} (P : X → Type 0) (xs : List X) (y : X) → All P (xs ++ y ∷ []) → P y
 All-last P xs y h = subst P (get_or_push xs y y (length xs) refl) (h (length xs) y (omega (arith, length_push xs y)))
-
-pub increasing-front : (xs : List ℕ) (y : ℕ) → IsStrictlyIncreasing (xs ++ y ∷ []) → IsStrictlyIncreasing xs
-increasing-front xs y h = λ k l.
-    let l' : k < length xs = omega arith in
-    subst₂ (λ (a b : ℕ). a < b) (get_or_append_left xs (y ∷ []) 0 k l') (get_or_append_left xs (y ∷ []) 0 (k + 1) l) (h k (omega (arith, length_push xs y)))
-
-pub adjacent-front : {X : Type 0} (R : X → X → Type 0) (xs : List X) (y : X) → AllAdjacentBelow R (xs ++ y ∷ []) (length (xs ++ y ∷ []))
-    → AllAdjacentBelow R xs (length xs)
-adjacent-front {X} R xs y h = λ k d l.
-    let l' : k < length xs = omega arith in
-    subst₂ (λ (a b : X). R a b) (get_or_append_left xs (y ∷ []) d k l') (get_or_append_left xs (y ∷ []) d (k + 1) l) (h k d (omega (arith, length_push xs y)))
 
 -- a test of each element of a list
 pub all_true : {X : Type 0} (f : X → ℕ) (n : ℕ) (xs : List X) → All (λ (x : X). f x ≡ n) xs → list_all (λ (x : X). eqb (f x) n) xs ≡ true

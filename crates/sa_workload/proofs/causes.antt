@@ -1,0 +1,5 @@
+pub mod FirstWords
+pub mod Readings
+pub mod LineAt
+pub mod Causes
+pub mod OneCause
