@@ -3,10 +3,9 @@ use Rattle.std.proofs.Common.{◌≡◌, ℕ, ◌≤◌, List, length, Option, S
 use Rattle.std.specs.Prelude.{IfSome}
 use Rattle.sa_base.specs.declared.refusal.Bad.{Bad}
 use Rattle.sa_spaces.specs.Workload.{WorkloadView}
-use Rattle.sa_text.specs.LineText.{line_texts}
 use Rattle.sa_workload.specs.Text.{IsText, IsText1}
-use Rattle.sa_workload.specs.Bad.{AnyVersion, Version1, BadAt, BadAt1}
-use Rattle.sa_workload.proofs.OneBad.{one-bad, text-not_bad}
+use Rattle.sa_workload.specs.Bad.{BadAt, BadAt1}
+use Rattle.sa_workload.proofs.whole.Whole.{answers, answers1}
 use Rattle.sa_cli.specs.declared.input.TheConstants.{INPUT_LIMIT}
 use Rattle.sa_cli.specs.Input.{Texts, GaveText}
 use Rattle.sa_cli.specs.Refusals.{Badness, IsInputRefused, IsRefused}
@@ -17,17 +16,10 @@ pub record AreParted (is_text : Texts) (is_bad : Badness) : Type 0 where
   pub apart : (input : List ℕ) (w : WorkloadView) (k why : ℕ) → is_text input w → is_bad input k why → ⊥
 
 pub all-parted : AreParted IsText BadAt
-all-parted = record {
-  once = λ input k j why cause a b. one-bad AnyVersion 3 (line_texts input) k j why cause a b;
-  apart = λ input w k why is bad. text-not_bad AnyVersion 3 input w k why is.workload is.workload is.text bad;
-}
+all-parted = record { once = λ input. (answers input).once; apart = λ input. (answers input).not_bad }
 
 pub first-parted : AreParted IsText1 BadAt1
-first-parted = record {
-  once = λ input k j why cause a b. one-bad Version1 1 (line_texts input) k j why cause a b;
-  apart = λ input w k why is bad.
-      text-not_bad Version1 1 input w k why (is.text.workload, is.version) is.text.workload is.text.text bad;
-}
+first-parted = record { once = λ input. (answers1 input).once; apart = λ input. (answers1 input).not_bad }
 
 same_bad : (a b : Bad) → a.line ≡ b.line → a.why ≡ b.why → a ≡ b
 same_bad a b line why = λ i. record { line = line i; why = why i }

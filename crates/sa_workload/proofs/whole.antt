@@ -1,3 +1,4 @@
 pub mod TextLemmas
+pub mod OneBad
 pub mod Whole
 pub mod TableLaws

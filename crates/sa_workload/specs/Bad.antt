@@ -16,28 +16,22 @@ use Rattle.sa_text.specs.LineText.{LineText, line_texts}
 use Rattle.sa_text.specs.Pieces.{pieces_of}
 use Rattle.sa_workload.specs.Text.{workload_lines, version_of}
 
--- a grammar: which workloads its texts are of
-abbrev pub Grammar : Type 1
-Grammar = WorkloadView → Type 0
-
--- every workload, and those of version 1 alone
-abbrev pub AnyVersion : Grammar
-AnyVersion w = IsWorkload w
-
-abbrev pub Version1 : Grammar
-Version1 w = IsWorkload w × (version_of w ≡ 1)
+-- a workload whose text is of one of so many versions
+pub record IsUpTo (versions : ℕ) (w : WorkloadView) : Type 0 where
+  pub workload : IsWorkload w
+  pub version : version_of w ≤ versions
 
 -- some text begins with these lines
-pub record Begins (g : Grammar) (lines : List (List (List ℕ))) : Type 0 where
+pub record Begins (versions : ℕ) (lines : List (List (List ℕ))) : Type 0 where
   pub workload : WorkloadView
-  pub accepted : g workload
+  pub accepted : IsUpTo versions workload
   pub more : List (List (List ℕ))
   pub text : workload_lines workload ≡ lines ++ more
 
 -- some text goes on behind these lines with a line that begins with this word
-pub record MayFollow (g : Grammar) (lines : List (List (List ℕ))) (word : List ℕ) : Type 0 where
+pub record MayFollow (versions : ℕ) (lines : List (List (List ℕ))) (word : List ℕ) : Type 0 where
   pub others : List (List ℕ)
-  pub begins : Begins g (lines ++ (word ∷ others) ∷ [])
+  pub begins : Begins versions (lines ++ (word ∷ others) ∷ [])
 
 -- the words of the registers
 abbrev pub registers : List (List ℕ)
@@ -66,10 +60,10 @@ repeated_words = codes "absent" ∷ codes "evict" ∷ codes "turn" ∷ []
 
 -- The word may begin a line here: some text goes on with it; or it is an instruction's and some text goes on with an
 -- instruction; or it is one of the repeated words and stands behind a line of the same word.
-abbrev pub IsRightWord : Grammar → List (List (List ℕ)) → List ℕ → Type 0
-IsRightWord g lines word =
-    MayFollow g lines word
-    ⊎ ((Contains instr_words word × ((other : List ℕ) × Contains instr_words other × MayFollow g lines other))
+abbrev pub IsRightWord : ℕ → List (List (List ℕ)) → List ℕ → Type 0
+IsRightWord versions lines word =
+    MayFollow versions lines word
+    ⊎ ((Contains instr_words word × ((other : List ℕ) × Contains instr_words other × MayFollow versions lines other))
     ⊎ (Contains repeated_words word × (first_word (last_line lines) ≡ word)))
 
 -- how many lines begin with the word
@@ -226,11 +220,11 @@ FieldCause lines fields word words why =
 
 -- The first cause that applies to the words of a line: a word that may not begin it, why 2; one line too many, why 8; the
 -- first wrong word, or its order; a word too many, why 2; and where all words are right, the last instruction is not `end`, why 9.
-abbrev pub WordCause : Grammar → ℕ → List (List (List ℕ)) → List (List ℕ) → ℕ → Type 0
-WordCause g versions lines [] why = ⊥
-WordCause g versions lines (word ∷ words) why =
-    ((¬ IsRightWord g lines word) × (why ≡ 2))
-    ⊎ (IsRightWord g lines word
+abbrev pub WordCause : ℕ → List (List (List ℕ)) → List (List ℕ) → ℕ → Type 0
+WordCause versions lines [] why = ⊥
+WordCause versions lines (word ∷ words) why =
+    ((¬ IsRightWord versions lines word) × (why ≡ 2))
+    ⊎ (IsRightWord versions lines word
     × ((IsTooMany lines word × (why ≡ 8))
     ⊎ ((¬ IsTooMany lines word) × FieldCause lines (fields_behind versions lines word) word words why)))
 
@@ -239,11 +233,11 @@ abbrev pub IsPrinted : List ℕ → Type 0
 IsPrinted bytes = All (λ b. (32 ≤ b) × (b ≤ 126)) bytes
 
 -- the first cause that applies to a line: another byte, why 1; no line feed, why 9; or its words
-abbrev pub LineCause : Grammar → ℕ → List (List (List ℕ)) → LineText → ℕ → Type 0
-LineCause g versions lines line why =
+abbrev pub LineCause : ℕ → List (List (List ℕ)) → LineText → ℕ → Type 0
+LineCause versions lines line why =
     ((¬ IsPrinted line.bytes) × (why ≡ 1))
     ⊎ (IsPrinted line.bytes
-    × (((line.ended ≡ false) × (why ≡ 9)) ⊎ ((line.ended ≡ true) × WordCause g versions lines (pieces_of line.bytes) why)))
+    × (((line.ended ≡ false) × (why ≡ 9)) ⊎ ((line.ended ≡ true) × WordCause versions lines (pieces_of line.bytes) why)))
 
 -- the lines of some bytes, in words
 abbrev pub words_of : List LineText → List (List (List ℕ))
@@ -251,18 +245,18 @@ words_of ls = map (λ (l : LineText). pieces_of l.bytes) ls
 
 -- Of these lines, the first k - 1 begin a text, and no text goes on with the k-th; or the k-th is missing, and the lines are no
 -- whole text. And this is the first cause that applies to the k-th.
-pub record IsBad (g : Grammar) (versions : ℕ) (ls : List LineText) (k why : ℕ) : Type 0 where
+pub record IsBad (versions : ℕ) (ls : List LineText) (k why : ℕ) : Type 0 where
   pub number : 1 ≤ k
   pub ended : All (λ (l : LineText). l.ended ≡ true) (take (k - 1) ls)
-  pub begins : Begins g (words_of (take (k - 1) ls))
+  pub begins : Begins versions (words_of (take (k - 1) ls))
   pub wrong : MatchOption (slice_get ls (k - 1))
-      ((k ≡ length ls + 1) × ((w : WorkloadView) → g w → workload_lines w ≢ words_of ls) × (why ≡ 9))
-      (λ line. (line.ended ≡ true → ¬ Begins g (words_of (take (k - 1) ls) ++ pieces_of line.bytes ∷ []))
-      × LineCause g versions (words_of (take (k - 1) ls)) line why)
+      ((k ≡ length ls + 1) × ((w : WorkloadView) → IsUpTo versions w → workload_lines w ≢ words_of ls) × (why ≡ 9))
+      (λ line. (line.ended ≡ true → ¬ Begins versions (words_of (take (k - 1) ls) ++ pieces_of line.bytes ∷ []))
+      × LineCause versions (words_of (take (k - 1) ls)) line why)
 
 -- The bytes are bad at line k, counted from 1, with this cause; by all versions, and by version 1 alone.
 abbrev pub BadAt : List ℕ → ℕ → ℕ → Type 0
-BadAt bytes k why = IsBad AnyVersion 3 (line_texts bytes) k why
+BadAt bytes k why = IsBad 3 (line_texts bytes) k why
 
 abbrev pub BadAt1 : List ℕ → ℕ → ℕ → Type 0
-BadAt1 bytes k why = IsBad Version1 1 (line_texts bytes) k why
+BadAt1 bytes k why = IsBad 1 (line_texts bytes) k why

@@ -2,7 +2,7 @@
 use Rattle.std.specs.Prelude.{◌≡◌, ◌≢◌, ◌⊎◌, ℕ, ◌+◌, ◌<◌, ◌≤◌, List, [], ◌∷◌, ◌++◌, length, take, All, Contains, codes, decimal}
 use Rattle.sa_spaces.specs.Workload.{WorkloadView}
 use Rattle.sa_workload.specs.Text.{IsText}
-use Rattle.sa_workload.specs.Bad.{Grammar, Begins, MayFollow, IsRightWord, IsTooMany, IsFirstWrong, AreRight, IsInOrder, BadAt, instr_words, first_word, last_line, fields_behind}
+use Rattle.sa_workload.specs.Bad.{Begins, MayFollow, IsRightWord, IsTooMany, IsFirstWrong, AreRight, IsInOrder, BadAt, instr_words, first_word, last_line, fields_behind}
 
 -- two workloads never share a text
 abbrev pub TextsDiffer : Type 0
@@ -21,27 +21,27 @@ abbrev pub TextOrBad : Type 0
 TextOrBad = (bytes : List ℕ) → ((w : WorkloadView) × IsText bytes w) ⊎ ((k why : ℕ) × BadAt bytes k why)
 
 -- some text goes on behind these lines with a line that begins with these words
-pub record GoesOnWith (g : Grammar) (lines : List (List (List ℕ))) (words : List (List ℕ)) : Type 0 where
+pub record GoesOnWith (versions : ℕ) (lines : List (List (List ℕ))) (words : List (List ℕ)) : Type 0 where
   pub others : List (List ℕ)
-  pub begins : Begins g (lines ++ (words ++ others) ∷ [])
+  pub begins : Begins versions (lines ++ (words ++ others) ∷ [])
 
 -- of the words behind a first word, so many are right: some text goes on with these, and none with the next one too; where none
 -- is next, it is missing
-pub record IsFirstWrongPlace (g : Grammar) (lines : List (List (List ℕ))) (word : List ℕ) (words : List (List ℕ)) (place : ℕ) : Type 0 where
+pub record IsFirstWrongPlace (versions : ℕ) (lines : List (List (List ℕ))) (word : List ℕ) (words : List (List ℕ)) (place : ℕ) : Type 0 where
   pub within : place ≤ length words
-  pub before : GoesOnWith g lines (word ∷ take place words)
-  pub next : place < length words → ¬ GoesOnWith g lines (word ∷ take (place + 1) words)
-  pub missing : place ≡ length words → ¬ Begins g (lines ++ (word ∷ words) ∷ [])
+  pub before : GoesOnWith versions lines (word ∷ take place words)
+  pub next : place < length words → ¬ GoesOnWith versions lines (word ∷ take (place + 1) words)
+  pub missing : place ≡ length words → ¬ Begins versions (lines ++ (word ∷ words) ∷ [])
 
 -- the word begins a line that does not have to be behind another of its kind
 abbrev pub IsFree : List (List (List ℕ)) → List ℕ → Type 0
 IsFree lines word = ¬ (Contains (codes "absent" ∷ codes "evict" ∷ []) word × (first_word (last_line lines) ≡ word))
 
 -- the first wrong word, by the table of lines, is the first with which no text goes on
-abbrev pub FirstWrongWords : ℕ → Grammar → Type 0
-FirstWrongWords versions g =
-    (lines : List (List (List ℕ))) (word : List ℕ) (words : List (List ℕ)) (why : ℕ) → MayFollow g lines word → IsFree lines word
-    → IsFirstWrong (fields_behind versions lines word) words why → (place : ℕ) × IsFirstWrongPlace g lines word words place
+abbrev pub FirstWrongWords : ℕ → Type 0
+FirstWrongWords versions =
+    (lines : List (List (List ℕ))) (word : List ℕ) (words : List (List ℕ)) (why : ℕ) → MayFollow versions lines word → IsFree lines word
+    → IsFirstWrong (fields_behind versions lines word) words why → (place : ℕ) × IsFirstWrongPlace versions lines word words place
 
 -- the lines end in a program of which the last instruction is missing
 pub record IsLastPlace (lines : List (List (List ℕ))) : Type 0 where
@@ -53,9 +53,9 @@ pub record IsLastPlace (lines : List (List (List ℕ))) : Type 0 where
   pub last : length instrs + 1 ≡ len
 
 -- a line whose words are all right and with which no text goes on is an instruction other than `end` in the last place
-abbrev pub LastCauseIsNoEnd : ℕ → Grammar → Type 0
-LastCauseIsNoEnd versions g =
-    (lines : List (List (List ℕ))) (word : List ℕ) (words : List (List ℕ)) → Begins g lines → IsRightWord g lines word → ¬ IsTooMany lines word
+abbrev pub LastCauseIsNoEnd : ℕ → Type 0
+LastCauseIsNoEnd versions =
+    (lines : List (List (List ℕ))) (word : List ℕ) (words : List (List ℕ)) → Begins versions lines → IsRightWord versions lines word → ¬ IsTooMany lines word
     → AreRight (fields_behind versions lines word) words → IsInOrder lines (length (fields_behind versions lines word)) (word ∷ words)
-    → length words ≡ length (fields_behind versions lines word) → ¬ Begins g (lines ++ (word ∷ words) ∷ [])
+    → length words ≡ length (fields_behind versions lines word) → ¬ Begins versions (lines ++ (word ∷ words) ∷ [])
     → IsLastPlace lines × Contains instr_words word × (word ≢ codes "end")

@@ -1,10 +1,10 @@
 -- What holds of the texts of workloads, line by line and byte by byte.
-use Rattle.std.specs.Prelude.{◌≡◌, ◌⊎◌, ℕ, ◌≤◌, true, List, map, All}
+use Rattle.std.specs.Prelude.{◌≡◌, ◌⊎◌, ◌↔◌, ℕ, ◌≤◌, true, List, map, All}
 use Rattle.std.specs.List.{join_with_byte}
 use Rattle.sa_spaces.specs.Workload.{WorkloadView, IsWorkload}
 use Rattle.sa_text.specs.LineText.{LineText, line_texts}
-use Rattle.sa_workload.specs.Text.{workload_lines, text_of, IsText1}
-use Rattle.sa_workload.specs.Bad.{words_of, BadAt1}
+use Rattle.sa_workload.specs.Text.{workload_lines, text_of, version_of, IsText1}
+use Rattle.sa_workload.specs.Bad.{IsUpTo, words_of, BadAt1}
 
 -- the lines of a text are those of its workload, each with its words behind single spaces and with its line feed
 abbrev pub LinesAreTheWorkload : Type 0
@@ -40,3 +40,10 @@ LinesDiffer = (v w : WorkloadView) → IsWorkload v → IsWorkload w → workloa
 -- by version 1 alone as by all versions: bytes are the text of some workload, or bad
 abbrev pub Text1OrBad : Type 0
 Text1OrBad = (bytes : List ℕ) → ((w : WorkloadView) × IsText1 bytes w) ⊎ ((k why : ℕ) × BadAt1 bytes k why)
+
+-- the texts of three versions are those of all workloads, and of one version those of workloads that are written in the first
+abbrev pub AllAreOfThree : Type 0
+AllAreOfThree = (w : WorkloadView) → IsUpTo 3 w ↔ IsWorkload w
+
+abbrev pub FirstsAreOfOne : Type 0
+FirstsAreOfOne = (w : WorkloadView) → IsUpTo 1 w ↔ (IsWorkload w × (version_of w ≡ 1))

@@ -1,5 +1,5 @@
 // What holds of workload texts, whatever the bytes: each contract is a law, and the bodies do nothing.
-ghost use Rattle.sa_workload.specs.Bad.{AnyVersion, Version1};
+ghost use Rattle.sa_workload.specs.TextLaws.{AllAreOfThree, FirstsAreOfOne};
 ghost use Rattle.sa_workload.specs.Laws.{BadOnce, FirstWrongWords, LastCauseIsNoEnd, TextOrBad, TextsAreNotBad, TextsDiffer};
 ghost use Rattle.sa_workload.specs.TextLaws.{LinesAreTheWorkload, LinesDiffer, WordsAreTheWorkload, WordsMakeTheText, TextsArePrinted, Texts1AreNotBad, Bad1Once, Text1OrBad};
 
@@ -36,13 +36,19 @@ pub fn text_or_bad()
 /// before it, and none with that word too; the same by version 1 alone. Lines whose numbers have to be
 /// greater than those of the line before are excepted.
 pub fn first_wrong_words_are_first()
-    ensures any { FirstWrongWords 3 AnyVersion }
-    ensures version1 { FirstWrongWords 1 Version1 }
+    ensures any { FirstWrongWords 3 }
+    ensures version1 { FirstWrongWords 1 }
 {}
 
 /// Where all words of a line are right and yet no text goes on with it, it is an instruction other than
 /// `end` in the last place of its program; the same by version 1 alone.
 pub fn last_causes_are_no_end()
-    ensures any { LastCauseIsNoEnd 3 AnyVersion }
-    ensures version1 { LastCauseIsNoEnd 1 Version1 }
+    ensures any { LastCauseIsNoEnd 3 }
+    ensures version1 { LastCauseIsNoEnd 1 }
+{}
+
+/// Of three versions are all workloads, and of one version those that are written in the first.
+pub fn versions_are_counted()
+    ensures any { AllAreOfThree }
+    ensures version1 { FirstsAreOfOne }
 {}

@@ -9,7 +9,7 @@ use Rattle.sa_instr.specs.declared.instr.Instr.{Instr}
 use Rattle.sa_instr.specs.declared.instr.Instr.TheVariants.{End}
 use Rattle.sa_spaces.specs.Space.{SpaceView}
 use Rattle.sa_workload.specs.Text.{instr_line}
-use Rattle.sa_workload.specs.Bad.{first_word, Grammar, Begins, Field, IsOutOfOrder, IsInOrder, FieldCause, WordCause, list_lt}
+use Rattle.sa_workload.specs.Bad.{first_word, Begins, Field, IsOutOfOrder, IsInOrder, FieldCause, WordCause, list_lt}
 use Rattle.sa_workload.specs.Fields.{and_then, order_cause, line_numbers, index_of}
 use Rattle.sa_workload.specs.Position.{Machine, Draft, Position, AtAbsent, AtInstr, AtEvict, AtTurn, Closed, shown}
 use Rattle.sa_workload.specs.Steps.{expected, after_instr}
@@ -130,15 +130,15 @@ field_cause versions p word words why known order h =
     fields = fields_of versions p word
 
 -- the words of a line that is refused have this cause
-pub word_cause : (versions : ℕ) (g : Grammar) → Setting versions g → (p : Position) (word : List ℕ) (words : List (List ℕ)) (why : ℕ) → IsAt versions p
-    → next versions p (word ∷ words) ≡ Err why → WordCause g versions (shown p) (word ∷ words) why
-word_cause versions g s p word words why a h =
+pub word_cause : (versions : ℕ) → Setting versions → (p : Position) (word : List ℕ) (words : List (List ℕ)) (why : ℕ) → IsAt versions p
+    → next versions p (word ∷ words) ≡ Err why → WordCause versions (shown p) (word ∷ words) why
+word_cause versions s p word words why a h =
     elim (if_either (is_some (index_of word (expected p))) _ (Err 2) (Err why) h) [
-      | inr none ↦ inl ((λ r. false≢true (sym none.0 ∙ expected_words versions g s p word a r)), sym (same_err {A = Position} 2 why none.1))
+      | inr none ↦ inl ((λ r. false≢true (sym none.0 ∙ expected_words versions s p word a r)), sym (same_err {A = Position} 2 why none.1))
       | inl known ↦
           let at : LineAt versions p word = line_at versions s.few p word a.reached known.0 in
           inr (
-            expects versions g s p word a known.0,
+            expects versions s p word a known.0,
             elim (if_either (is_full p word) (Err 8) _ (Err why) known.1) [
               | inl full ↦ inl (at.many full.0, sym (same_err {A = Position} 8 why full.1))
               | inr room ↦ inr (at.few room.0, subst (λ (fs : List Field). FieldCause (shown p) fs word words why) (sym at.fields) (field_cause versions p word words why known.0 at.order room.1))
@@ -147,6 +147,6 @@ word_cause versions g s p word words why a h =
     ]
 
 -- and no text goes on with it
-pub refused : (versions : ℕ) (g : Grammar) → Setting versions g → (p : Position) (line : List (List ℕ)) (why : ℕ) → IsAt versions p → next versions p line ≡ Err why
-    → ¬ Begins g (shown p ++ line ∷ [])
-refused versions g s p line why a h b = let n = begins-next versions g s p line a b in absurd (cc (sym n.1 ∙ h))
+pub refused : (versions : ℕ) → Setting versions → (p : Position) (line : List (List ℕ)) (why : ℕ) → IsAt versions p → next versions p line ≡ Err why
+    → ¬ Begins versions (shown p ++ line ∷ [])
+refused versions s p line why a h b = let n = begins-next versions s p line a b in absurd (cc (sym n.1 ∙ h))

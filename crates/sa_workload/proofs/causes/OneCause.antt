@@ -1,7 +1,7 @@
 -- Of a line with a cause, the cause is one.
 use Rattle.std.proofs.Common.{◌≡◌, ℕ, ◌<◌, ◌⊎◌, Bool, true, false, ◌&&◌, ◌||◌, List, [], ◌∷◌, length, IsTrue, ltb, eqb, arith, refl, sym, ap, ◌∙◌, subst, inl, inr, ltb-true, eqb-true}
 use Rattle.std.proofs.lemmas.Fmt.{decimal_injective}
-use Rattle.sa_workload.specs.Bad.{Grammar, IsTooMany, Field, Register, Number, IsWrongFor, IsRightFor, IsFirstWrong, AreRight, IsOutOfOrder, IsInOrder, FieldCause, WordCause, fields_behind, list_lt, numbers_of, last_line}
+use Rattle.sa_workload.specs.Bad.{IsTooMany, Field, Register, Number, IsWrongFor, IsRightFor, IsFirstWrong, AreRight, IsOutOfOrder, IsInOrder, FieldCause, WordCause, fields_behind, list_lt, numbers_of, last_line}
 
 or_cases : (a b : Bool) → (a || b) ≡ true → (a ≡ true) ⊎ (b ≡ true)
 or_cases true b h = inl refl
@@ -121,13 +121,13 @@ field_cause_one lines fields word words why cause (inr a) (inr b) = pick a.1 b.1
     pick (inr x) (inr y) = last x.1 y.1
 
 -- the words of a line have one cause
-pub causes-are_one : (g : Grammar) (versions : ℕ) (lines : List (List (List ℕ))) (line : List (List ℕ)) (why cause : ℕ)
-    → WordCause g versions lines line why → WordCause g versions lines line cause → why ≡ cause
-causes-are_one g versions lines [] why cause a b = absurd a
-causes-are_one g versions lines (word ∷ words) why cause (inl a) (inl b) = a.1 ∙ sym b.1
-causes-are_one g versions lines (word ∷ words) why cause (inl a) (inr b) = absurd (a.0 b.0)
-causes-are_one g versions lines (word ∷ words) why cause (inr a) (inl b) = absurd (b.0 a.0)
-causes-are_one g versions lines (word ∷ words) why cause (inr a) (inr b) = pick a.1 b.1
+pub causes-are_one : (versions : ℕ) (lines : List (List (List ℕ))) (line : List (List ℕ)) (why cause : ℕ)
+    → WordCause versions lines line why → WordCause versions lines line cause → why ≡ cause
+causes-are_one versions lines [] why cause a b = absurd a
+causes-are_one versions lines (word ∷ words) why cause (inl a) (inl b) = a.1 ∙ sym b.1
+causes-are_one versions lines (word ∷ words) why cause (inl a) (inr b) = absurd (a.0 b.0)
+causes-are_one versions lines (word ∷ words) why cause (inr a) (inl b) = absurd (b.0 a.0)
+causes-are_one versions lines (word ∷ words) why cause (inr a) (inr b) = pick a.1 b.1
   where
     Behind : ℕ → Type 0
     Behind n =

@@ -343,18 +343,18 @@ version_cases w = by_test (list_all (λ (s : SpaceView). eqb s.patience 1) w.spa
           | inr some ↦ inr (inl (v ∙ ap (λ (b : Bool). if b then 1 else 2) (ne_eqb w.slice 0 some), omega arith, all))
         ]
 
-abbrev machine_of : WorkloadView → Machine
-machine_of w = record { version = version_of w; processors = w.processors; fetch = w.fetch; slice = w.slice; count = length w.spaces }
+abbrev machine_in : WorkloadView → Machine
+machine_in w = record { version = version_of w; processors = w.processors; fetch = w.fetch; slice = w.slice; count = length w.spaces }
 
 -- the position behind some turns
 abbrev turns_at : WorkloadView → List ProcNo → Position
-turns_at w [] = AtEvict (machine_of w) w.spaces w.evictions
-turns_at w (t ∷ ts) = AtTurn (machine_of w) w.spaces w.evictions (t ∷ ts)
+turns_at w [] = AtEvict (machine_in w) w.spaces w.evictions
+turns_at w (t ∷ ts) = AtTurn (machine_in w) w.spaces w.evictions (t ∷ ts)
 
 module _ (versions : ℕ) (w : WorkloadView) (h : IsWorkload w) where
   -- the lines behind the fetch line, of the slice and the number of spaces
   behind_fetch : run versions (after_fetch (version_of w) w.processors w.fetch) (slice_lines (version_of w) w.slice ++ (codes "spaces" ∷ decimal (length w.spaces) ∷ []) ∷ [])
-      ≡ Ok (AtSpace (machine_of w) [])
+      ≡ Ok (AtSpace (machine_in w) [])
   behind_fetch = elim (version_cases w) [
     | inl one ↦
         ap (λ (b : Bool). run versions (if b then AtSpaces v w.processors w.fetch 0 else AtSlice v w.processors w.fetch) ((if b then [] else slice) ++ spaces ∷ [])) (eq-eqb v 1 one.0)
@@ -377,10 +377,10 @@ module _ (versions : ℕ) (w : WorkloadView) (h : IsWorkload w) where
       low : version_of w ≡ 2 → 1 ≤ w.slice → version_of w ≢ 3 → 1 ≤ w.slice
       low e l n = l
 
-      spaces_line : run versions (AtSpaces (version_of w) w.processors w.fetch w.slice) ((codes "spaces" ∷ decimal (length w.spaces) ∷ []) ∷ []) ≡ Ok (AtSpace (machine_of w) [])
+      spaces_line : run versions (AtSpaces (version_of w) w.processors w.fetch w.slice) ((codes "spaces" ∷ decimal (length w.spaces) ∷ []) ∷ []) ≡ Ok (AtSpace (machine_in w) [])
       spaces_line =
-          run-one versions (AtSpaces (version_of w) w.processors w.fetch w.slice) (AtSpace (machine_of w) []) (AtSpace (machine_of w) []) (codes "spaces" ∷ decimal (length w.spaces) ∷ []) []
-          (take-line versions (AtSpaces (version_of w) w.processors w.fetch w.slice) (codes "spaces") (length w.spaces ∷ []) (AtSpace (machine_of w) []) refl refl
+          run-one versions (AtSpaces (version_of w) w.processors w.fetch w.slice) (AtSpace (machine_in w) []) (AtSpace (machine_in w) []) (codes "spaces" ∷ decimal (length w.spaces) ∷ []) []
+          (take-line versions (AtSpaces (version_of w) w.processors w.fetch w.slice) (codes "spaces") (length w.spaces ∷ []) (AtSpace (machine_in w) []) refl refl
           (passes-within 1 MAX_SPACES (length w.spaces) h.some_space h.few_spaces (omega arith), tt) refl refl) refl
 
       least : (b : Bool) → (b ≡ false → 1 ≤ w.slice) → (if b then 0 else 1) ≤ w.slice
@@ -389,36 +389,36 @@ module _ (versions : ℕ) (w : WorkloadView) (h : IsWorkload w) where
 
       by_slice : 2 ≤ version_of w → (version_of w ≢ 3 → 1 ≤ w.slice)
           → run versions (after_fetch (version_of w) w.processors w.fetch) (slice_lines (version_of w) w.slice ++ (codes "spaces" ∷ decimal (length w.spaces) ∷ []) ∷ [])
-          ≡ Ok (AtSpace (machine_of w) [])
+          ≡ Ok (AtSpace (machine_in w) [])
       by_slice later low =
           ap (λ (b : Bool). run versions (if b then AtSpaces (version_of w) w.processors w.fetch 0 else AtSlice (version_of w) w.processors w.fetch)
           ((if b then [] else (codes "slice" ∷ decimal w.slice ∷ []) ∷ []) ++ (codes "spaces" ∷ decimal (length w.spaces) ∷ []) ∷ [])) (ne_eqb (version_of w) 1 (omega arith))
-          ∙ run-one versions (AtSlice (version_of w) w.processors w.fetch) (AtSpaces (version_of w) w.processors w.fetch w.slice) (AtSpace (machine_of w) [])
+          ∙ run-one versions (AtSlice (version_of w) w.processors w.fetch) (AtSpaces (version_of w) w.processors w.fetch w.slice) (AtSpace (machine_in w) [])
           (codes "slice" ∷ decimal w.slice ∷ []) ((codes "spaces" ∷ decimal (length w.spaces) ∷ []) ∷ [])
           (take-line versions (AtSlice (version_of w) w.processors w.fetch) (codes "slice") (w.slice ∷ []) (AtSpaces (version_of w) w.processors w.fetch w.slice) refl refl
           (passes-within (if version_of w == 3 then 0 else 1) MAX_SLICE w.slice (least (version_of w == 3) (λ e. low (eqb-false (version_of w) 3 e))) h.slice (omega arith), tt) refl refl)
           spaces_line
 
-  machine_run : version_of w ≤ versions → versions ≤ 3 → run versions AtVersion (machine_lines w) ≡ Ok (AtSpace (machine_of w) [])
+  machine_run : version_of w ≤ versions → versions ≤ 3 → run versions AtVersion (machine_lines w) ≡ Ok (AtSpace (machine_in w) [])
   machine_run few three =
       let rest : List (List (List ℕ)) = slice_lines (version_of w) w.slice ++ (codes "spaces" ∷ decimal (length w.spaces) ∷ []) ∷ [] in
       let fetch : List (List ℕ) = codes "fetch" ∷ decimal w.fetch ∷ [] in
       let processors : List (List ℕ) = codes "processors" ∷ decimal w.processors ∷ [] in
-      run-one versions AtVersion (AtProcessors (version_of w)) (AtSpace (machine_of w) []) (codes "workload" ∷ decimal (version_of w) ∷ []) (processors ∷ fetch ∷ rest)
+      run-one versions AtVersion (AtProcessors (version_of w)) (AtSpace (machine_in w) []) (codes "workload" ∷ decimal (version_of w) ∷ []) (processors ∷ fetch ∷ rest)
       (take-line versions AtVersion (codes "workload") (version_of w ∷ []) (AtProcessors (version_of w)) refl refl
       (passes-within 1 versions (version_of w) (version-low w) few (omega arith), tt) refl refl)
-      (run-one versions (AtProcessors (version_of w)) (AtFetch (version_of w) w.processors) (AtSpace (machine_of w) []) processors (fetch ∷ rest)
+      (run-one versions (AtProcessors (version_of w)) (AtFetch (version_of w) w.processors) (AtSpace (machine_in w) []) processors (fetch ∷ rest)
       (take-line versions (AtProcessors (version_of w)) (codes "processors") (w.processors ∷ []) (AtFetch (version_of w) w.processors) refl refl
       (passes-within 1 MAX_PROCESSORS w.processors h.some_processor h.few_processors (omega arith), tt) refl refl)
-      (run-one versions (AtFetch (version_of w) w.processors) (after_fetch (version_of w) w.processors w.fetch) (AtSpace (machine_of w) []) fetch rest
+      (run-one versions (AtFetch (version_of w) w.processors) (after_fetch (version_of w) w.processors w.fetch) (AtSpace (machine_in w) []) fetch rest
       (take-line versions (AtFetch (version_of w) w.processors) (codes "fetch") (w.fetch ∷ []) (after_fetch (version_of w) w.processors w.fetch) refl refl
       (passes-within 1 MAX_FETCH w.fetch h.some_fetch h.short_fetch (omega arith), tt) refl refl) behind_fetch))
 
-  spaces_run : run versions (AtSpace (machine_of w) []) (flat_map (space_lines (version_of w)) w.spaces) ≡ Ok (AtEvict (machine_of w) w.spaces [])
+  spaces_run : run versions (AtSpace (machine_in w) []) (flat_map (space_lines (version_of w)) w.spaces) ≡ Ok (AtEvict (machine_in w) w.spaces [])
   spaces_run =
-      ap (λ (q : Position). run versions q (flat_map (space_lines (version_of w)) w.spaces)) (sym (after_spaces-more (machine_of w) [] (omega (arith, h.some_space))))
-      ∙ run-parts versions (λ (ss : List SpaceView). after_spaces (machine_of w) ss) (space_lines (version_of w)) w.spaces each [] w.spaces refl
-      ∙ ap Ok (after_spaces-full (machine_of w) w.spaces refl)
+      ap (λ (q : Position). run versions q (flat_map (space_lines (version_of w)) w.spaces)) (sym (after_spaces-more (machine_in w) [] (omega (arith, h.some_space))))
+      ∙ run-parts versions (λ (ss : List SpaceView). after_spaces (machine_in w) ss) (space_lines (version_of w)) w.spaces each [] w.spaces refl
+      ∙ ap Ok (after_spaces-full (machine_in w) w.spaces refl)
     where
       front : (P : SpaceView → Type 0) (done : List SpaceView) (s : SpaceView) (rest : List SpaceView) → w.spaces ≡ done ++ s ∷ rest → All P w.spaces → All P done
       front P done s rest e all = λ k d l. subst P (ap (λ (xs : List SpaceView). get_or xs k d) e ∙ get_or_append_left done (s ∷ rest) d k l)
@@ -434,7 +434,7 @@ module _ (versions : ℕ) (w : WorkloadView) (h : IsWorkload w) where
       ]
 
       own : (done : List SpaceView) (s : SpaceView) (rest : List SpaceView) → w.spaces ≡ done ++ s ∷ rest → version_of w ≡ 3
-          → is_last_impatient (machine_of w) done ≡ true → s.patience ≢ 1
+          → is_last_impatient (machine_in w) done ≡ true → s.patience ≢ 1
       own done s rest e v need one =
           let b = both_true (leb (length w.spaces) (length done + 1)) (list_all (λ (t : SpaceView). eqb t.patience 1) done) need in
           let few : length w.spaces ≤ length done + 1 = leb-true (length w.spaces) (length done + 1) b.0 in
@@ -452,27 +452,27 @@ module _ (versions : ℕ) (w : WorkloadView) (h : IsWorkload w) where
           nothing (x ∷ xs) l = absurd (omega arith)
 
       each : (done : List SpaceView) (s : SpaceView) (rest : List SpaceView) → w.spaces ≡ done ++ s ∷ rest
-          → run versions (after_spaces (machine_of w) done) (space_lines (version_of w) s) ≡ Ok (after_spaces (machine_of w) (done ++ s ∷ []))
+          → run versions (after_spaces (machine_in w) done) (space_lines (version_of w) s) ≡ Ok (after_spaces (machine_in w) (done ++ s ∷ []))
       each done s rest e =
           let n : length w.spaces ≡ length done + 1 + length rest = long w.spaces done s rest e in
-          ap (λ (q : Position). run versions q (space_lines (version_of w) s)) (after_spaces-more (machine_of w) done (omega arith))
-          ∙ space_run versions (machine_of w) done s (middle IsSpace w.spaces done s rest e h.spaces) (usual done s rest e, own done s rest e)
+          ap (λ (q : Position). run versions q (space_lines (version_of w) s)) (after_spaces-more (machine_in w) done (omega arith))
+          ∙ space_run versions (machine_in w) done s (middle IsSpace w.spaces done s rest e h.spaces) (usual done s rest e, own done s rest e)
 
-  evictions_run : run versions (AtEvict (machine_of w) w.spaces []) (map evict_line w.evictions) ≡ Ok (AtEvict (machine_of w) w.spaces w.evictions)
-  evictions_run = run-lines versions (λ (es : List Evict). AtEvict (machine_of w) w.spaces es) evict_line w.evictions each [] w.evictions refl
+  evictions_run : run versions (AtEvict (machine_in w) w.spaces []) (map evict_line w.evictions) ≡ Ok (AtEvict (machine_in w) w.spaces w.evictions)
+  evictions_run = run-lines versions (λ (es : List Evict). AtEvict (machine_in w) w.spaces es) evict_line w.evictions each [] w.evictions refl
     where
       each : (done : List Evict) (e : Evict) (rest : List Evict) → w.evictions ≡ done ++ e ∷ rest
-          → next versions (AtEvict (machine_of w) w.spaces done) (evict_line e) ≡ Ok (AtEvict (machine_of w) w.spaces (done ++ e ∷ []))
+          → next versions (AtEvict (machine_in w) w.spaces done) (evict_line e) ≡ Ok (AtEvict (machine_in w) w.spaces (done ++ e ∷ []))
       each done e rest s =
           let is : IsEviction (length w.spaces) e = middle (IsEviction (length w.spaces)) w.evictions done e rest s h.evictions in
           let room : leb MAX_EVICTIONS (length done) ≡ false = lt_leb (length done) MAX_EVICTIONS (omega (arith, long w.evictions done e rest s, h.few_evictions)) in
-          take-line versions (AtEvict (machine_of w) w.spaces done) (codes "evict") (evict_numbers e) (AtEvict (machine_of w) w.spaces (done ++ e ∷ [])) refl room (
+          take-line versions (AtEvict (machine_in w) w.spaces done) (codes "evict") (evict_numbers e) (AtEvict (machine_in w) w.spaces (done ++ e ∷ [])) refl room (
             passes-within 1 MAX_EVENTS e.event is.first is.last (omega arith),
             (passes-declared (length w.spaces) e.space.0 is.space (omega (arith, h.few_spaces)), (passes-within 0 LAST_PAGE e.page (omega arith) is.page (omega arith), tt)),
           )
           (behind_last IsBefore evict_numbers w.evictions done e e rest s before_evict (λ k l. h.evictions_rise k e l)) refl
 
-  turns_run : run versions (AtEvict (machine_of w) w.spaces w.evictions) (map turn_line w.turns) ≡ Ok (turns_at w w.turns)
+  turns_run : run versions (AtEvict (machine_in w) w.spaces w.evictions) (map turn_line w.turns) ≡ Ok (turns_at w w.turns)
   turns_run = run-lines versions (turns_at w) turn_line w.turns each [] w.turns refl
     where
       pass : (done : List ProcNo) (t : ProcNo) (rest : List ProcNo) → w.turns ≡ done ++ t ∷ rest → AllPass (within 0 (w.processors - 1) ∷ []) (t.0 ∷ [])
@@ -498,8 +498,8 @@ module _ (versions : ℕ) (w : WorkloadView) (h : IsWorkload w) where
   pub complete : versions ≤ 3 → version_of w ≤ versions → run versions AtVersion (workload_lines w) ≡ Ok (Closed w)
   unfolding workload_lines
   complete three few =
-      run-then versions AtVersion (AtSpace (machine_of w) []) (Closed w) (machine_lines w) (flat_map (space_lines (version_of w)) w.spaces ++ closing_lines w) (machine_run few three)
-      (run-then versions (AtSpace (machine_of w) []) (AtEvict (machine_of w) w.spaces []) (Closed w) (flat_map (space_lines (version_of w)) w.spaces) (closing_lines w) spaces_run
-      (run-then versions (AtEvict (machine_of w) w.spaces []) (AtEvict (machine_of w) w.spaces w.evictions) (Closed w) (map evict_line w.evictions) (map turn_line w.turns ++ (codes "close" ∷ []) ∷ [])
+      run-then versions AtVersion (AtSpace (machine_in w) []) (Closed w) (machine_lines w) (flat_map (space_lines (version_of w)) w.spaces ++ closing_lines w) (machine_run few three)
+      (run-then versions (AtSpace (machine_in w) []) (AtEvict (machine_in w) w.spaces []) (Closed w) (flat_map (space_lines (version_of w)) w.spaces) (closing_lines w) spaces_run
+      (run-then versions (AtEvict (machine_in w) w.spaces []) (AtEvict (machine_in w) w.spaces w.evictions) (Closed w) (map evict_line w.evictions) (map turn_line w.turns ++ (codes "close" ∷ []) ∷ [])
       evictions_run
-      (run-then versions (AtEvict (machine_of w) w.spaces w.evictions) (turns_at w w.turns) (Closed w) (map turn_line w.turns) ((codes "close" ∷ []) ∷ []) turns_run (close_run w.turns refl))))
+      (run-then versions (AtEvict (machine_in w) w.spaces w.evictions) (turns_at w w.turns) (Closed w) (map turn_line w.turns) ((codes "close" ∷ []) ∷ []) turns_run (close_run w.turns refl))))

@@ -10,12 +10,12 @@ use Rattle.sa_spaces.specs.declared.workload.Evict.{Evict}
 use Rattle.sa_spaces.specs.Space.{SpaceView}
 use Rattle.sa_spaces.specs.Workload.{IsEviction}
 use Rattle.sa_workload.specs.Text.{sem_line, absent_line, evict_line, turn_line}
-use Rattle.sa_workload.specs.Bad.{Grammar, Begins, MayFollow, IsRightWord, instr_words, first_word, last_line}
+use Rattle.sa_workload.specs.Bad.{Begins, MayFollow, IsRightWord, instr_words, first_word, last_line}
 use Rattle.sa_workload.specs.Position.{Machine, Draft, Position, AtVersion, AtProcessors, AtFetch, AtSlice, AtSpaces, AtSpace, AtSem, AtAbsent, AtProgram, AtInstr, AtEvict, AtTurn, Closed, draft_line, shown_spaces, shown, IsReached}
 use Rattle.sa_workload.specs.Steps.{Steps, step_version, step_processors, step_fetch, step_slice, step_spaces, step_space, step_sem, step_absent, step_first_program, step_program, step_instr, step_evict, step_first_turn, step_first_close, step_close, expected}
 use Rattle.sa_workload.proofs.forward.ShownStep.{shown-step}
 use Rattle.sa_workload.proofs.forward.Reached.{reached-version, reached-processors, reached-fetch, reached-slice, reached-spaces, reached-space, reached-sem, reached-absent, reached-first_program, reached-program, reached-instr, reached-evict, reached-first_turn, reached-first_close, reached-close}
-use Rattle.sa_workload.proofs.forward.Completion.{AcceptsUpTo, new_draft, new_patience, fits_space, completes}
+use Rattle.sa_workload.proofs.forward.Completion.{new_draft, new_patience, fits_space, completes}
 use Rattle.sa_workload.proofs.fields.FieldLemmas.{contained}
 use Rattle.sa_workload.proofs.forward.Fronts.{not_empty}
 use Rattle.sa_workload.proofs.forward.Sound.{by_word}
@@ -68,23 +68,23 @@ processor_0-right : (n : ℕ) → 1 ≤ n → processor_0.0 < n
 unfolding processor_0
 processor_0-right n h = omega arith
 
-module _ (versions : ℕ) (g : Grammar) (accepts : AcceptsUpTo versions g) (one : 1 ≤ versions) (three : versions ≤ 3) where
+module _ (versions : ℕ) (one : 1 ≤ versions) (three : versions ≤ 3) where
   -- the word of a step to a reached position may begin the next line
   pub follows : (p q : Position) (word : List ℕ) (others : List (List ℕ)) → Steps p (word ∷ others) q → IsReached versions p
-      → IsReached versions q → MayFollow g (shown p) word
+      → IsReached versions q → MayFollow versions (shown p) word
   follows p q word others s r reached = record {
     others = others;
-    begins = subst (Begins g) (shown-step versions p (word ∷ others) q s r) (completes versions g accepts one three q reached);
+    begins = subst (Begins versions) (shown-step versions p (word ∷ others) q s r) (completes versions one three q reached);
   }
 
   space_follows : (m : Machine) (spaces : List SpaceView) → IsReached versions (AtSpace m spaces)
-      → MayFollow g (shown (AtSpace m spaces)) (codes "space")
+      → MayFollow versions (shown (AtSpace m spaces)) (codes "space")
   space_follows m spaces r =
       follows _ _ _ _ (step_space m spaces (new_draft (new_patience m)) (fits_space m spaces).fresh) r
       (reached-space versions m spaces (new_draft (new_patience m)) r (fits_space m spaces))
 
   absent_right : (m : Machine) (spaces : List SpaceView) (d : Draft) → IsReached versions (AtAbsent m spaces d)
-      → IsRightWord g (shown (AtAbsent m spaces d)) (codes "absent")
+      → IsRightWord versions (shown (AtAbsent m spaces d)) (codes "absent")
   absent_right m spaces d r =
       elim (cases_lt 0 (length d.absent)) [
         | inl some ↦ inr (inr ((0, omega arith, refl), absent_again m spaces d r.4 some))
@@ -93,12 +93,12 @@ module _ (versions : ℕ) (g : Grammar) (accepts : AcceptsUpTo versions g) (one 
       ]
 
   program_follows : (m : Machine) (spaces : List SpaceView) (d : Draft) → IsReached versions (AtAbsent m spaces d)
-      → MayFollow g (shown (AtAbsent m spaces d)) (codes "program")
+      → MayFollow versions (shown (AtAbsent m spaces d)) (codes "program")
   program_follows m spaces d r =
       follows _ _ _ _ (step_first_program m spaces d 1) r (reached-first_program versions m spaces d 1 r (omega arith) (omega arith))
 
   instr_follows : (m : Machine) (spaces : List SpaceView) (d : Draft) (len : ℕ) (instrs : List Instr) → IsReached versions (AtInstr m spaces d len instrs)
-      → (other : List ℕ) × Contains instr_words other × MayFollow g (shown (AtInstr m spaces d len instrs)) other
+      → (other : List ℕ) × Contains instr_words other × MayFollow versions (shown (AtInstr m spaces d len instrs)) other
   instr_follows m spaces d len instrs r = (
     codes "end",
     (16, omega arith, refl),
@@ -106,7 +106,7 @@ module _ (versions : ℕ) (g : Grammar) (accepts : AcceptsUpTo versions g) (one 
   )
 
   evict_right : (m : Machine) (spaces : List SpaceView) (evictions : List Evict) → IsReached versions (AtEvict m spaces evictions)
-      → IsRightWord g (shown (AtEvict m spaces evictions)) (codes "evict")
+      → IsRightWord versions (shown (AtEvict m spaces evictions)) (codes "evict")
   evict_right m spaces evictions r =
       elim (cases_lt 0 (length evictions)) [
         | inl some ↦ inr (inr ((1, omega arith, refl), evict_again m spaces evictions some))
@@ -116,42 +116,42 @@ module _ (versions : ℕ) (g : Grammar) (accepts : AcceptsUpTo versions g) (one 
       ]
 
   turn_follows : (m : Machine) (spaces : List SpaceView) (evictions : List Evict) → IsReached versions (AtEvict m spaces evictions)
-      → MayFollow g (shown (AtEvict m spaces evictions)) (codes "turn")
+      → MayFollow versions (shown (AtEvict m spaces evictions)) (codes "turn")
   turn_follows m spaces evictions r =
       follows _ _ _ _ (step_first_turn m spaces evictions processor_0) r
       (reached-first_turn versions m spaces evictions processor_0 r (processor_0-right m.processors r.0.processors.0))
 
   -- each word that a reached position expects is right there
-  pub right_word : (p : Position) (word : List ℕ) → IsReached versions p → is_some (index_of word (expected p)) ≡ true → IsRightWord g (shown p) word
+  pub right_word : (p : Position) (word : List ℕ) → IsReached versions p → is_some (index_of word (expected p)) ≡ true → IsRightWord versions (shown p) word
   right_word AtVersion word r h =
-      by_word (expected AtVersion) word (IsRightWord g (shown AtVersion))
+      by_word (expected AtVersion) word (IsRightWord versions (shown AtVersion))
       (inl (follows _ _ _ _ (step_version 1) r (reached-version versions 1 (omega arith) one)), tt) h
   right_word (AtProcessors v) word r h =
-      by_word (expected (AtProcessors v)) word (IsRightWord g (shown (AtProcessors v)))
+      by_word (expected (AtProcessors v)) word (IsRightWord versions (shown (AtProcessors v)))
       (inl (follows _ _ _ _ (step_processors v 1) r (reached-processors versions v 1 r (omega arith) (omega arith))), tt) h
   right_word (AtFetch v n) word r h =
-      by_word (expected (AtFetch v n)) word (IsRightWord g (shown (AtFetch v n)))
+      by_word (expected (AtFetch v n)) word (IsRightWord versions (shown (AtFetch v n)))
       (inl (follows _ _ _ _ (step_fetch v n 1) r (reached-fetch versions v n 1 r (omega arith) (omega arith))), tt) h
   right_word (AtSlice v n f) word r h =
-      by_word (expected (AtSlice v n f)) word (IsRightWord g (shown (AtSlice v n f)))
+      by_word (expected (AtSlice v n f)) word (IsRightWord versions (shown (AtSlice v n f)))
       (inl (follows _ _ _ _ (step_slice v n f 1) r (reached-slice versions v n f 1 three r (λ _. omega arith) (omega arith))), tt) h
   right_word (AtSpaces v n f s) word r h =
-      by_word (expected (AtSpaces v n f s)) word (IsRightWord g (shown (AtSpaces v n f s)))
+      by_word (expected (AtSpaces v n f s)) word (IsRightWord versions (shown (AtSpaces v n f s)))
       (inl (follows _ _ _ _ (step_spaces v n f s 1) r (reached-spaces versions v n f s 1 r (omega arith) (omega arith))), tt) h
   right_word (AtSpace m spaces) word r h =
-      by_word (expected (AtSpace m spaces)) word (IsRightWord g (shown (AtSpace m spaces))) (inl (space_follows m spaces r), tt) h
+      by_word (expected (AtSpace m spaces)) word (IsRightWord versions (shown (AtSpace m spaces))) (inl (space_follows m spaces r), tt) h
   right_word (AtSem m spaces d) word r h =
-      by_word (expected (AtSem m spaces d)) word (IsRightWord g (shown (AtSem m spaces d)))
+      by_word (expected (AtSem m spaces d)) word (IsRightWord versions (shown (AtSem m spaces d)))
       (inl (follows _ _ _ _ (step_sem m spaces d 0) r (reached-sem versions m spaces d 0 r (omega arith))), tt) h
   right_word (AtAbsent m spaces d) word r h =
-      by_word (expected (AtAbsent m spaces d)) word (IsRightWord g (shown (AtAbsent m spaces d)))
+      by_word (expected (AtAbsent m spaces d)) word (IsRightWord versions (shown (AtAbsent m spaces d)))
       (absent_right m spaces d r, (inl (program_follows m spaces d r), tt)) h
   right_word (AtProgram m spaces d) word r h =
-      by_word (expected (AtProgram m spaces d)) word (IsRightWord g (shown (AtProgram m spaces d)))
+      by_word (expected (AtProgram m spaces d)) word (IsRightWord versions (shown (AtProgram m spaces d)))
       (inl (follows _ _ _ _ (step_program m spaces d 1) r (reached-program versions m spaces d 1 r (omega arith) (omega arith))), tt) h
   right_word (AtInstr m spaces d len instrs) word r h = inr (inl (contained instr_words word h, instr_follows m spaces d len instrs r))
   right_word (AtEvict m spaces evictions) word r h =
-      by_word (expected (AtEvict m spaces evictions)) word (IsRightWord g (shown (AtEvict m spaces evictions))) (
+      by_word (expected (AtEvict m spaces evictions)) word (IsRightWord versions (shown (AtEvict m spaces evictions))) (
         evict_right m spaces evictions r,
         (
           inl (turn_follows m spaces evictions r),
@@ -159,7 +159,7 @@ module _ (versions : ℕ) (g : Grammar) (accepts : AcceptsUpTo versions g) (one 
         ),
       ) h
   right_word (AtTurn m spaces evictions turns) word r h =
-      by_word (expected (AtTurn m spaces evictions turns)) word (IsRightWord g (shown (AtTurn m spaces evictions turns))) (
+      by_word (expected (AtTurn m spaces evictions turns)) word (IsRightWord versions (shown (AtTurn m spaces evictions turns))) (
         inr (inr ((2, omega arith, refl), turn_again m spaces evictions turns r.5)),
         (inl (follows _ _ _ _ (step_close m spaces evictions turns) r (reached-close versions m spaces evictions turns r)), tt),
       ) h

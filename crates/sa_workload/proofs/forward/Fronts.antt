@@ -1,5 +1,5 @@
 -- Lists with one element more at the end: what holds of the whole holds of its front and of its last element.
-use Rattle.std.proofs.Common.{◌≡◌, ℕ, ◌+◌, ◌≤◌, ◌⊎◌, Bool, true, false, ◌&&◌, List, [], ◌∷◌, ◌++◌, length, All, arith, refl, ap, ◌∙◌, subst, inl, inr, eqb, eq-eqb, ne_eqb, ◌≢◌}
+use Rattle.std.proofs.Common.{◌≡◌, ℕ, ◌≤◌, ◌⊎◌, Bool, true, false, ◌&&◌, List, [], ◌∷◌, ◌++◌, length, All, arith, refl, ap, ◌∙◌, subst, inl, inr, eqb, eq-eqb, ne_eqb, ◌≢◌}
 use Rattle.std.specs.List.{list_all}
 use Rattle.std.proofs.lemmas.List.{get_or_push, get_or_append_left, length_push}
 use Rattle.std.proofs.lemmas.List.Elements.{All-nil, All-cons, All-head, All-tail}

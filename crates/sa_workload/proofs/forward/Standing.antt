@@ -9,7 +9,7 @@ use Rattle.sa_instr.specs.Parts.{parts_of}
 use Rattle.sa_spaces.specs.Space.{SpaceView}
 use Rattle.sa_spaces.specs.Workload.{WorkloadView, IsWorkload}
 use Rattle.sa_workload.specs.Text.{version_of, workload_lines}
-use Rattle.sa_workload.specs.Bad.{Grammar, AnyVersion, Version1, Begins, MayFollow, IsRightWord, instr_words, repeated_words, first_word, last_line}
+use Rattle.sa_workload.specs.Bad.{IsUpTo, Begins, MayFollow, IsRightWord, instr_words, repeated_words, first_word, last_line}
 use Rattle.sa_workload.specs.Fields.{and_then, index_of}
 use Rattle.sa_workload.specs.Position.{Position, AtVersion, AtProcessors, AtFetch, AtSlice, AtSpaces, AtSpace, AtSem, AtAbsent, AtProgram, AtInstr, AtEvict, AtTurn, Closed, IsReached, shown}
 use Rattle.sa_workload.specs.Steps.{Steps, expected, step_version, step_processors, step_fetch, step_slice, step_spaces, step_space, step_sem, step_absent, step_first_program, step_program, step_instr, step_evict, step_first_turn, step_turn, step_first_close, step_close}
@@ -17,7 +17,7 @@ use Rattle.sa_workload.specs.Next.{next}
 use Rattle.sa_workload.proofs.fields.FieldLemmas.{same_ok, and_then-ok, known_word}
 use Rattle.sa_workload.proofs.fields.InstrLemmas.{operation-expected}
 use Rattle.sa_workload.proofs.forward.ShownStep.{shown-step}
-use Rattle.sa_workload.proofs.forward.Completion.{AcceptsUpTo, any_version, version_1, completes}
+use Rattle.sa_workload.proofs.forward.Completion.{version-low, completes}
 use Rattle.sa_workload.proofs.forward.Following.{right_word}
 use Rattle.sa_workload.proofs.causes.FirstWords.{is_other, other, last_line-push}
 use Rattle.sa_workload.proofs.forward.Sound.{by_word, took, GoesTo, sound}
@@ -66,23 +66,21 @@ pub at_next : (versions : ℕ) → versions ≤ 3 → (p q : Position) (line : L
     → IsAt versions q × (shown q ≡ shown p ++ line ∷ [])
 at_next versions three p q [] a h = absurd (cc h)
 at_next versions three p q (word ∷ words) a h =
-    let g : GoesTo versions p (word ∷ words) q = sound versions three p word words q a.reached (took versions p word words q h) in
-    let s : shown q ≡ shown p ++ (word ∷ words) ∷ [] = shown-step versions p (word ∷ words) q g.step a.reached in (
+    let goes : GoesTo versions p (word ∷ words) q = sound versions three p word words q a.reached (took versions p word words q h) in
+    let s : shown q ≡ shown p ++ (word ∷ words) ∷ [] = shown-step versions p (word ∷ words) q goes.step a.reached in (
       record {
         run_is = ap (run versions AtVersion) s
             ∙ run-then versions AtVersion p q (shown p) ((word ∷ words) ∷ []) a.run_is (ap (λ (r : Result Position ℕ). and_then r (λ x. run versions x [])) h);
-        reached = g.reached;
-        again = subst (λ (l : List (List ℕ)). Repeats q (first_word l)) (sym (ap last_line s ∙ last_line-push (shown p) (word ∷ words))) (repeats p (word ∷ words) q g.step);
+        reached = goes.reached;
+        again = subst (λ (l : List (List ℕ)). Repeats q (first_word l)) (sym (ap last_line s ∙ last_line-push (shown p) (word ∷ words))) (repeats p (word ∷ words) q goes.step);
       },
       s,
     )
 
--- a grammar whose workloads are those of so many versions
-pub record Setting (versions : ℕ) (g : Grammar) : Type 0 where
+-- there are so many versions
+pub record Setting (versions : ℕ) : Type 0 where
   pub one : 1 ≤ versions
   pub few : versions ≤ 3
-  pub accepts : (w : WorkloadView) → g w → IsWorkload w × (version_of w ≤ versions)
-  pub covers : AcceptsUpTo versions g
 
 at_most_3 : (all none : Bool) → (if all then (if none then 1 else 2) else 3) ≤ 3
 at_most_3 true true = omega arith
@@ -92,32 +90,41 @@ at_most_3 false none = omega arith
 pub version_of-le : (w : WorkloadView) → version_of w ≤ 3
 version_of-le w = at_most_3 (list_all (λ (s : SpaceView). eqb s.patience 1) w.spaces) (eqb w.slice 0)
 
-pub any : Setting 3 AnyVersion
-any = record { one = omega arith; few = omega arith; accepts = λ w h. (h, version_of-le w); covers = any_version }
+pub any : Setting 3
+any = record { one = omega arith; few = omega arith }
 
-pub alone : Setting 1 Version1
-alone = record { one = omega arith; few = omega arith; accepts = λ w h. (h.0, omega (arith, h.1)); covers = version_1 }
+pub alone : Setting 1
+alone = record { one = omega arith; few = omega arith }
+
+-- the workloads of all versions are all workloads, and those of one version are those of version 1
+pub of_any : (w : WorkloadView) → IsWorkload w → IsUpTo 3 w
+of_any w ok = record { workload = ok; version = version_of-le w }
+
+pub of_first : (w : WorkloadView) → IsWorkload w → version_of w ≡ 1 → IsUpTo 1 w
+of_first w ok one = record { workload = ok; version = omega (arith, one) }
+
+pub is_first : (w : WorkloadView) → version_of w ≤ 1 → version_of w ≡ 1
+is_first w low = omega (arith, version-low w)
 
 -- a line with which some text goes on leads on
-pub begins-next : (versions : ℕ) (g : Grammar) → Setting versions g → (p : Position) (line : List (List ℕ)) → IsAt versions p → Begins g (shown p ++ line ∷ [])
+pub begins-next : (versions : ℕ) → Setting versions → (p : Position) (line : List (List ℕ)) → IsAt versions p → Begins versions (shown p ++ line ∷ [])
     → (q : Position) × (next versions p line ≡ Ok q)
-begins-next versions g s p line a b =
-    let k = s.accepts b.workload b.accepted in
+begins-next versions s p line a b =
+    let k = b.accepted in
     let whole : run versions AtVersion (shown p ++ (line ∷ b.more)) ≡ Ok (Closed b.workload) =
-    ap (run versions AtVersion) (sym (b.text ∙ append_assoc (shown p) (line ∷ []) b.more)) ∙ complete versions b.workload k.0 s.few k.1 in
+    ap (run versions AtVersion) (sym (b.text ∙ append_assoc (shown p) (line ∷ []) b.more)) ∙ complete versions b.workload k.workload s.few k.version in
     let behind : run versions p (line ∷ b.more) ≡ Ok (Closed b.workload) =
     ap (λ (r : Result Position ℕ). and_then r (λ q. run versions q (line ∷ b.more))) (sym a.run_is) ∙ sym (run-append versions AtVersion (shown p) (line ∷ b.more)) ∙ whole in
     let q = and_then-ok (next versions p line) (λ q. run versions q b.more) (Closed b.workload) behind in
     (q.0, q.1)
 
-pub begins : (versions : ℕ) (g : Grammar) → Setting versions g → (p : Position) → IsAt versions p → Begins g (shown p)
-begins versions g s p a = completes versions g s.covers s.one s.few p a.reached
+pub begins : (versions : ℕ) → Setting versions → (p : Position) → IsAt versions p → Begins versions (shown p)
+begins versions s p a = completes versions s.one s.few p a.reached
 
 -- the lines of a workload are read to their end alone
-pub whole_lines : (versions : ℕ) (g : Grammar) → Setting versions g → (p : Position) (w : WorkloadView) → IsAt versions p → g w → workload_lines w ≡ shown p → p ≡ Closed w
-whole_lines versions g s p w a h e =
-    let k = s.accepts w h in
-    same_ok p (Closed w) (sym a.run_is ∙ ap (run versions AtVersion) (sym e) ∙ complete versions w k.0 s.few k.1)
+pub whole_lines : (versions : ℕ) → Setting versions → (p : Position) (w : WorkloadView) → IsAt versions p → IsUpTo versions w → workload_lines w ≡ shown p → p ≡ Closed w
+whole_lines versions s p w a h e =
+    same_ok p (Closed w) (sym a.run_is ∙ ap (run versions AtVersion) (sym e) ∙ complete versions w h.workload s.few h.version)
 
 pub lines-injective : (v w : WorkloadView) → IsWorkload v → IsWorkload w → workload_lines v ≡ workload_lines w → v ≡ w
 lines-injective v w a b e = same (same_ok (Closed v) (Closed w)
@@ -149,16 +156,16 @@ instrs_together (AtTurn m ss es ts) word first known h = by_word (expected (AtTu
 instrs_together (Closed w) word first known h = absurd (cc known)
 
 -- the words that may begin a line are those that are expected
-pub expects : (versions : ℕ) (g : Grammar) → Setting versions g → (p : Position) (word : List ℕ) → IsAt versions p → is_some (index_of word (expected p)) ≡ true → IsRightWord g (shown p) word
-expects versions g s p word a known = right_word versions g s.covers s.one s.few p word a.reached known
+pub expects : (versions : ℕ) → Setting versions → (p : Position) (word : List ℕ) → IsAt versions p → is_some (index_of word (expected p)) ≡ true → IsRightWord versions (shown p) word
+expects versions s p word a known = right_word versions s.one s.few p word a.reached known
 
-follows : (versions : ℕ) (g : Grammar) → Setting versions g → (p : Position) (word : List ℕ) → IsAt versions p → MayFollow g (shown p) word → is_some (index_of word (expected p)) ≡ true
-follows versions g s p word a f =
-    let n = begins-next versions g s p (word ∷ f.others) a f.begins in (took versions p word f.others n.0 n.1).known
+follows : (versions : ℕ) → Setting versions → (p : Position) (word : List ℕ) → IsAt versions p → MayFollow versions (shown p) word → is_some (index_of word (expected p)) ≡ true
+follows versions s p word a f =
+    let n = begins-next versions s p (word ∷ f.others) a f.begins in (took versions p word f.others n.0 n.1).known
 
-pub expected_words : (versions : ℕ) (g : Grammar) → Setting versions g → (p : Position) (word : List ℕ) → IsAt versions p → IsRightWord g (shown p) word → is_some (index_of word (expected p)) ≡ true
-expected_words versions g s p word a (inl f) = follows versions g s p word a f
-expected_words versions g s p word a (inr (inl i)) =
-    instrs_together p word i.1.0 (follows versions g s p i.1.0 a i.1.2) (known_word instr_words word i.0) (known_word instr_words i.1.0 i.1.1)
-expected_words versions g s p word a (inr (inr r)) =
+pub expected_words : (versions : ℕ) → Setting versions → (p : Position) (word : List ℕ) → IsAt versions p → IsRightWord versions (shown p) word → is_some (index_of word (expected p)) ≡ true
+expected_words versions s p word a (inl f) = follows versions s p word a f
+expected_words versions s p word a (inr (inl i)) =
+    instrs_together p word i.1.0 (follows versions s p i.1.0 a i.1.2) (known_word instr_words word i.0) (known_word instr_words i.1.0 i.1.1)
+expected_words versions s p word a (inr (inr r)) =
     subst (λ (w : List ℕ). is_some (index_of w (expected p)) ≡ true) r.1 (a.again (subst (Contains repeated_words) (sym r.1) r.0))

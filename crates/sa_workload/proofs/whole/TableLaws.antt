@@ -7,7 +7,7 @@ use Rattle.std.specs.Str.Parse.{digits_value}
 use Rattle.std.proofs.lemmas.Bool.{false_from_ne_true}
 use Rattle.std.proofs.lemmas.List.{length-map}
 use Rattle.sa_workload.specs.Text.{instr_line}
-use Rattle.sa_workload.specs.Bad.{Grammar, Begins, MayFollow, IsRightWord, IsTooMany, Field, Register, Number, IsRightFor, IsFirstWrong, AreRight, IsInOrder, list_lt, numbers_of, instr_words, last_line, fields_behind}
+use Rattle.sa_workload.specs.Bad.{Begins, MayFollow, IsRightWord, IsTooMany, Field, Register, Number, IsRightFor, IsFirstWrong, AreRight, IsInOrder, list_lt, numbers_of, instr_words, last_line, fields_behind}
 use Rattle.sa_workload.specs.Laws.{IsFirstWrongPlace, IsFree, FirstWrongWords, IsLastPlace, LastCauseIsNoEnd}
 use Rattle.sa_workload.specs.Fields.{and_then, index_of, order_cause}
 use Rattle.sa_workload.specs.Position.{Position, AtVersion, AtAbsent, AtInstr, AtEvict, AtTurn, Closed, shown, shown_spaces, shown_draft}
@@ -37,11 +37,11 @@ run-at versions three (l ∷ ls) p q a h =
     (c.0, c.1 ∙ ap (λ (x : List (List (List ℕ))). x ++ ls) b.1 ∙ append_assoc (shown p) (l ∷ []) ls)
 
 -- behind lines that begin a text a reader stands
-stands : (versions : ℕ) (g : Grammar) → Setting versions g → (lines : List (List (List ℕ))) → Begins g lines → (p : Position) × IsAt versions p × (shown p ≡ lines)
-stands versions g s lines b =
-    let k = s.accepts b.workload b.accepted in
+stands : (versions : ℕ) → Setting versions → (lines : List (List (List ℕ))) → Begins versions lines → (p : Position) × IsAt versions p × (shown p ≡ lines)
+stands versions s lines b =
+    let k = b.accepted in
     let whole : and_then (run versions AtVersion lines) (λ q. run versions q b.more) ≡ Ok (Closed b.workload) =
-    sym (run-append versions AtVersion lines b.more) ∙ ap (run versions AtVersion) (sym b.text) ∙ complete versions b.workload k.0 s.few k.1 in
+    sym (run-append versions AtVersion lines b.more) ∙ ap (run versions AtVersion) (sym b.text) ∙ complete versions b.workload k.workload s.few k.version in
     let p = and_then-ok (run versions AtVersion lines) (λ q. run versions q b.more) (Closed b.workload) whole in
     let r = run-at versions s.few lines AtVersion p.0 (at_first versions) p.1 in
     (p.0, r.0, r.1)
@@ -170,16 +170,16 @@ step_alike versions (Closed w) word ms ns q known a b h = absurd (cc known)
 step_alike versions _ word ms ns q known a b h = (_, refl)
 
 -- some text goes on with a line that leads on
-goes_on_with : (versions : ℕ) (g : Grammar) → Setting versions g → (p q : Position) (line : List (List ℕ)) → IsAt versions p → next versions p line ≡ Ok q
-    → Begins g (shown p ++ line ∷ [])
-goes_on_with versions g s p q line a h =
-    let n = at_next versions s.few p q line a h in subst (Begins g) n.1 (begins versions g s q n.0)
+goes_on_with : (versions : ℕ) → Setting versions → (p q : Position) (line : List (List ℕ)) → IsAt versions p → next versions p line ≡ Ok q
+    → Begins versions (shown p ++ line ∷ [])
+goes_on_with versions s p q line a h =
+    let n = at_next versions s.few p q line a h in subst (Begins versions) n.1 (begins versions s q n.0)
 
-wrong_at : (versions : ℕ) (g : Grammar) → Setting versions g → (p : Position) → IsAt versions p → (word : List ℕ) (words : List (List ℕ)) (why : ℕ)
-    → MayFollow g (shown p) word → IsFree (shown p) word → IsFirstWrong (fields_behind versions (shown p) word) words why
-    → (place : ℕ) × IsFirstWrongPlace g (shown p) word words place
-wrong_at versions g s p a word words why follow free_of wrong =
-    let n = begins-next versions g s p (word ∷ follow.others) a follow.begins in
+wrong_at : (versions : ℕ) → Setting versions → (p : Position) → IsAt versions p → (word : List ℕ) (words : List (List ℕ)) (why : ℕ)
+    → MayFollow versions (shown p) word → IsFree (shown p) word → IsFirstWrong (fields_behind versions (shown p) word) words why
+    → (place : ℕ) × IsFirstWrongPlace versions (shown p) word words place
+wrong_at versions s p a word words why follow free_of wrong =
+    let n = begins-next versions s p (word ∷ follow.others) a follow.begins in
     let t : Took versions p word follow.others n.0 = took versions p word follow.others n.0 n.1 in
     let at : LineAt versions p word = line_at versions s.few p word a.reached t.known in
     let mix : Mixed (fields_of versions p word) words =
@@ -192,14 +192,14 @@ wrong_at versions g s p a word words why follow free_of wrong =
         within = mix.within;
         before = record {
           others = mix.others;
-          begins = subst (λ (ws : List (List ℕ)). Begins g (shown p ++ (word ∷ ws) ∷ [])) mix.spelled_are (goes_on_with versions g s p to.0 _ a leads);
+          begins = subst (λ (ws : List (List ℕ)). Begins versions (shown p ++ (word ∷ ws) ∷ [])) mix.spelled_are (goes_on_with versions s p to.0 _ a leads);
         };
         next = λ l goes.
-            let m = begins-next versions g s p (word ∷ (take (mix.place + 1) words ++ goes.others)) a goes.begins in
+            let m = begins-next versions s p (word ∷ (take (mix.place + 1) words ++ goes.others)) a goes.begins in
             let u = took versions p word (take (mix.place + 1) words ++ goes.others) m.0 m.1 in
             mix.wrong u.numbers goes.others u.passes l (sym u.line ∙ ap (λ (k : ℕ). take k words ++ goes.others) (next_place mix.place));
         missing = λ z b.
-            let m = begins-next versions g s p (word ∷ words) a b in
+            let m = begins-next versions s p (word ∷ words) a b in
             let u = took versions p word words m.0 m.1 in
             mix.short z u.numbers u.passes (sym u.line);
       },
@@ -212,32 +212,32 @@ wrong_at versions g s p a word words why follow free_of wrong =
     no_order (free none f) ns = ap (λ (o : Option (List ℕ)). order_cause o ns) none
     no_order (behind old is own first numbers long are) ns = absurd (free_of (own, first))
 
-pub first_wrong_words : (versions : ℕ) (g : Grammar) → Setting versions g → FirstWrongWords versions g
-first_wrong_words versions g s lines word words why follow free_of wrong =
-    let st = stands versions g s lines (begins_front g lines ((word ∷ follow.others) ∷ []) follow.begins) in
-    let here : MayFollow g (shown st.0) word = subst (λ (ls : List (List (List ℕ))). MayFollow g ls word) (sym st.2) follow in
+pub first_wrong_words : (versions : ℕ) → Setting versions → FirstWrongWords versions
+first_wrong_words versions s lines word words why follow free_of wrong =
+    let st = stands versions s lines (begins_front versions lines ((word ∷ follow.others) ∷ []) follow.begins) in
+    let here : MayFollow versions (shown st.0) word = subst (λ (ls : List (List (List ℕ))). MayFollow versions ls word) (sym st.2) follow in
     let free_here : IsFree (shown st.0) word = subst (λ (ls : List (List (List ℕ))). IsFree ls word) (sym st.2) free_of in
     let wrong_here : IsFirstWrong (fields_behind versions (shown st.0) word) words why =
     subst (λ (ls : List (List (List ℕ))). IsFirstWrong (fields_behind versions ls word) words why) (sym st.2) wrong in
-    subst (λ (ls : List (List (List ℕ))). (place : ℕ) × IsFirstWrongPlace g ls word words place) st.2 (wrong_at versions g s st.0 st.1 word words why here free_here wrong_here)
+    subst (λ (ls : List (List (List ℕ))). (place : ℕ) × IsFirstWrongPlace versions ls word words place) st.2 (wrong_at versions s st.0 st.1 word words why here free_here wrong_here)
 
 -- where all words are right and no text goes on
 abbrev IsStuckLine : List (List (List ℕ)) → List ℕ → Type 0
 IsStuckLine lines word = IsLastPlace lines × Contains instr_words word × (word ≢ codes "end")
 
-stuck_at : (versions : ℕ) (g : Grammar) → Setting versions g → (p : Position) → IsAt versions p → (word : List ℕ) (words : List (List ℕ))
-    → IsRightWord g (shown p) word → ¬ IsTooMany (shown p) word → AreRight (fields_behind versions (shown p) word) words
+stuck_at : (versions : ℕ) → Setting versions → (p : Position) → IsAt versions p → (word : List ℕ) (words : List (List ℕ))
+    → IsRightWord versions (shown p) word → ¬ IsTooMany (shown p) word → AreRight (fields_behind versions (shown p) word) words
     → IsInOrder (shown p) (length (fields_behind versions (shown p) word)) (word ∷ words) → length words ≡ length (fields_behind versions (shown p) word)
-    → ¬ Begins g (shown p ++ (word ∷ words) ∷ []) → IsStuckLine (shown p) word
-stuck_at versions g s p a word words right few are order long none =
-    let known : is_some (index_of word (expected p)) ≡ true = expected_words versions g s p word a right in
+    → ¬ Begins versions (shown p ++ (word ∷ words) ∷ []) → IsStuckLine (shown p) word
+stuck_at versions s p a word words right few are order long none =
+    let known : is_some (index_of word (expected p)) ≡ true = expected_words versions s p word a right in
     let at : LineAt versions p word = line_at versions s.few p word a.reached known in
     let ns = right_numbers fields words (subst (λ (fs : List Field). AreRight fs words) at.fields are) (long ∙ ap length at.fields) in
     let in_order : order_cause (last_numbers p word) ns.0 ≡ None =
     ordered at.order ns.0 ns.1 (subst (λ (ws : List (List ℕ)). IsInOrder (shown p) (length fields) (word ∷ ws)) ns.2
     (subst (λ (fs : List Field). IsInOrder (shown p) (length fs) (word ∷ words)) at.fields order)) in
-    by_step (step p word ns.0) (λ q e. none (subst (λ (ws : List (List ℕ)). Begins g (shown p ++ (word ∷ ws) ∷ [])) (sym ns.2)
-    (goes_on_with versions g s p q (word ∷ spelled_all fields ns.0) a
+    by_step (step p word ns.0) (λ q e. none (subst (λ (ws : List (List ℕ)). Begins versions (shown p ++ (word ∷ ws) ∷ [])) (sym ns.2)
+    (goes_on_with versions s p q (word ∷ spelled_all fields ns.0) a
     (take-line versions p word ns.0 q known (false_from_ne_true (is_full p word) (λ t. few (at.many t))) ns.1 in_order e))))
     (λ why e. stuck known (step-err versions p word ns.0 why known ns.1 e))
   where
@@ -270,9 +270,9 @@ stuck_at versions g s p a word words right few are order long none =
     by_step (Ok q) leads stays = absurd (leads q refl)
     by_step (Err why) leads stays = stays why refl
 
-pub last_cause_is_no_end : (versions : ℕ) (g : Grammar) → Setting versions g → LastCauseIsNoEnd versions g
-last_cause_is_no_end versions g s lines word words b right few are order long none =
-    let st = stands versions g s lines b in
-    subst (λ (ls : List (List (List ℕ))). IsRightWord g ls word → ¬ IsTooMany ls word → AreRight (fields_behind versions ls word) words
-    → IsInOrder ls (length (fields_behind versions ls word)) (word ∷ words) → length words ≡ length (fields_behind versions ls word) → ¬ Begins g (ls ++ (word ∷ words) ∷ []) → IsStuckLine ls word)
-    st.2 (stuck_at versions g s st.0 st.1 word words) right few are order long none
+pub last_cause_is_no_end : (versions : ℕ) → Setting versions → LastCauseIsNoEnd versions
+last_cause_is_no_end versions s lines word words b right few are order long none =
+    let st = stands versions s lines b in
+    subst (λ (ls : List (List (List ℕ))). IsRightWord versions ls word → ¬ IsTooMany ls word → AreRight (fields_behind versions ls word) words
+    → IsInOrder ls (length (fields_behind versions ls word)) (word ∷ words) → length words ≡ length (fields_behind versions ls word) → ¬ Begins versions (ls ++ (word ∷ words) ∷ []) → IsStuckLine ls word)
+    st.2 (stuck_at versions s st.0 st.1 word words) right few are order long none

@@ -16,16 +16,16 @@ use Rattle.sa_text.specs.Pieces.{pieces_of}
 use Rattle.sa_text.proofs.PieceLemmas.{pieces_of-are_pieces}
 use Rattle.sa_workload.specs.Text.{workload_lines, IsText, IsText1}
 use Rattle.sa_workload.specs.Answer.{IfBad}
-use Rattle.sa_workload.specs.Bad.{Grammar, AnyVersion, Version1, Begins, IsPrinted, LineCause, WordCause, IsBad, BadAt, BadAt1, words_of}
+use Rattle.sa_workload.specs.Bad.{IsUpTo, Begins, IsPrinted, LineCause, WordCause, IsBad, BadAt, BadAt1, words_of}
 use Rattle.sa_workload.specs.Position.{Position, AtVersion, AtProcessors, AtFetch, AtSlice, AtSpaces, AtSpace, AtSem, AtAbsent, AtProgram, AtInstr, AtEvict, AtTurn, Closed, IsReached, shown}
 use Rattle.sa_workload.specs.Next.{next}
 use Rattle.sa_workload.specs.Reading.{is_printed, line_in, finished, goes_on, read_from, read_of, IsReading}
 use Rattle.sa_workload.proofs.fields.FieldLemmas.{same_err, if_either, both_true}
-use Rattle.sa_workload.proofs.forward.Standing.{IsAt, Setting, any, alone, at_first, at_next, begins, whole_lines}
+use Rattle.sa_workload.proofs.forward.Standing.{IsAt, Setting, any, alone, of_any, of_first, is_first, at_first, at_next, begins, whole_lines}
 use Rattle.sa_workload.proofs.forward.Sound.{took, sound}
 use Rattle.sa_workload.proofs.causes.Causes.{word_cause, refused}
 use Rattle.sa_workload.proofs.whole.TextLemmas.{IsWords, workload-words, join-printed, text_of-from_words}
-use Rattle.sa_workload.proofs.OneBad.{one-bad, text-not_bad, texts_differ}
+use Rattle.sa_workload.proofs.whole.OneBad.{one-bad, text-not_bad, texts_differ}
 
 -- printed bytes
 printed : (bytes : List ℕ) → is_printed bytes ≡ true → IsPrinted bytes
@@ -45,34 +45,34 @@ All-behind P [] ys h = h
 All-behind P (x ∷ xs) ys h = All-behind P xs ys (All-tail P x (xs ++ ys) h)
 
 -- a line with which a text goes on is printed
-printed_where_begins : (versions : ℕ) (g : Grammar) → Setting versions g → (lines : List (List (List ℕ))) (bytes : List ℕ)
-    → Begins g (lines ++ pieces_of bytes ∷ []) → IsPrinted bytes
-printed_where_begins versions g s lines bytes b =
-    let all : All IsWords (workload_lines b.workload) = workload-words b.workload (s.accepts b.workload b.accepted).0 in
+printed_where_begins : (versions : ℕ) → Setting versions → (lines : List (List (List ℕ))) (bytes : List ℕ)
+    → Begins versions (lines ++ pieces_of bytes ∷ []) → IsPrinted bytes
+printed_where_begins versions s lines bytes b =
+    let all : All IsWords (workload_lines b.workload) = workload-words b.workload b.accepted.workload in
     let text : workload_lines b.workload ≡ lines ++ pieces_of bytes ∷ b.more = b.text ∙ append_assoc lines (pieces_of bytes ∷ []) b.more in
     let here : All IsWords (pieces_of bytes ∷ b.more) = All-behind IsWords lines (pieces_of bytes ∷ b.more) (subst (All IsWords) text all) in
     subst (λ (bs : List ℕ). IsPrinted bs) (join_with_byte-slice_split 32 bytes)
     (join-printed (pieces_of bytes) (All-head IsWords (pieces_of bytes) b.more here).1)
 
 -- what is wrong with the line behind some lines
-abbrev IsBadLine : ℕ → Grammar → List (List (List ℕ)) → LineText → ℕ → Type 0
-IsBadLine versions g lines l why = (l.ended ≡ true → ¬ Begins g (lines ++ pieces_of l.bytes ∷ [])) × LineCause g versions lines l why
+abbrev IsBadLine : ℕ → List (List (List ℕ)) → LineText → ℕ → Type 0
+IsBadLine versions lines l why = (l.ended ≡ true → ¬ Begins versions (lines ++ pieces_of l.bytes ∷ [])) × LineCause versions lines l why
 
-words_cause : (versions : ℕ) (g : Grammar) → Setting versions g → (p : Position) (line : List (List ℕ)) (why : ℕ) → IsAt versions p → 0 < length line
-    → next versions p line ≡ Err why → WordCause g versions (shown p) line why
-words_cause versions g s p [] why a some h = absurd (omega arith)
-words_cause versions g s p (word ∷ words) why a some h = word_cause versions g s p word words why a h
+words_cause : (versions : ℕ) → Setting versions → (p : Position) (line : List (List ℕ)) (why : ℕ) → IsAt versions p → 0 < length line
+    → next versions p line ≡ Err why → WordCause versions (shown p) line why
+words_cause versions s p [] why a some h = absurd (omega arith)
+words_cause versions s p (word ∷ words) why a some h = word_cause versions s p word words why a h
 
-bad_line : (versions : ℕ) (g : Grammar) → Setting versions g → (p : Position) (l : LineText) (why : ℕ) → IsAt versions p → line_in versions p l ≡ Err why
-    → IsBadLine versions g (shown p) l why
-bad_line versions g s p l why a h =
+bad_line : (versions : ℕ) → Setting versions → (p : Position) (l : LineText) (why : ℕ) → IsAt versions p → line_in versions p l ≡ Err why
+    → IsBadLine versions (shown p) l why
+bad_line versions s p l why a h =
     elim (if_either (is_printed l.bytes) _ (Err 1) (Err why) h) [
-      | inr odd ↦ ((λ e b. not_printed l.bytes odd.0 (printed_where_begins versions g s (shown p) l.bytes b)), inl (not_printed l.bytes odd.0, sym (same_err {A = Position} 1 why odd.1)))
+      | inr odd ↦ ((λ e b. not_printed l.bytes odd.0 (printed_where_begins versions s (shown p) l.bytes b)), inl (not_printed l.bytes odd.0, sym (same_err {A = Position} 1 why odd.1)))
       | inl fine ↦ elim (if_either l.ended (next versions p (pieces_of l.bytes)) (Err 9) (Err why) fine.1) [
         | inr unended ↦ ((λ e. absurd (false≢true (sym unended.0 ∙ e))), inr (printed l.bytes fine.0, inl (unended.0, sym (same_err {A = Position} 9 why unended.1))))
         | inl ended ↦ (
-          (λ _. refused versions g s p (pieces_of l.bytes) why a ended.1),
-          inr (printed l.bytes fine.0, inr (ended.0, words_cause versions g s p (pieces_of l.bytes) why a (pieces_of-are_pieces l.bytes).some ended.1)),
+          (λ _. refused versions s p (pieces_of l.bytes) why a ended.1),
+          inr (printed l.bytes fine.0, inr (ended.0, words_cause versions s p (pieces_of l.bytes) why a (pieces_of-are_pieces l.bytes).some ended.1)),
         )
       ]
     ]
@@ -101,54 +101,54 @@ slice_get_at [] l rest = refl
 slice_get_at (x ∷ front) l rest = slice_get_at front l rest
 
 -- the place of a bad line, where it stands or is missing
-abbrev IsWrong : ℕ → Grammar → List LineText → List LineText → ℕ → ℕ → Option LineText → Type 0
-IsWrong versions g ls front k why o =
-    MatchOption o ((k ≡ length ls + 1) × ((w : WorkloadView) → g w → workload_lines w ≢ words_of ls) × (why ≡ 9)) (λ line. IsBadLine versions g (words_of front) line why)
+abbrev IsWrong : ℕ → List LineText → List LineText → ℕ → ℕ → Option LineText → Type 0
+IsWrong versions ls front k why o =
+    MatchOption o ((k ≡ length ls + 1) × ((w : WorkloadView) → IsUpTo versions w → workload_lines w ≢ words_of ls) × (why ≡ 9)) (λ line. IsBadLine versions (words_of front) line why)
 
-bad_behind : (versions : ℕ) (g : Grammar) → Setting versions g → (p : Position) (front rest : List LineText) (why : ℕ) → IsBehind versions p front
-    → IsWrong versions g (front ++ rest) front (length front + 1) why (slice_get (front ++ rest) (length front)) → IsBad g versions (front ++ rest) (length front + 1) why
-bad_behind versions g s p front rest why h wrong =
+bad_behind : (versions : ℕ) → Setting versions → (p : Position) (front rest : List LineText) (why : ℕ) → IsBehind versions p front
+    → IsWrong versions (front ++ rest) front (length front + 1) why (slice_get (front ++ rest) (length front)) → IsBad versions (front ++ rest) (length front + 1) why
+bad_behind versions s p front rest why h wrong =
     let place : length front + 1 - 1 ≡ length front = omega arith in
     let taken : take (length front + 1 - 1) (front ++ rest) ≡ front = ap (λ (n : ℕ). take n (front ++ rest)) place ∙ take-append_seam front rest in
     record {
       number = omega arith;
       ended = subst (All Ended) (sym taken) h.ended;
-      begins = subst (λ (ls : List LineText). Begins g (words_of ls)) (sym taken) (subst (Begins g) h.lines (begins versions g s p h.at));
-      wrong = subst (λ (ls : List LineText). IsWrong versions g (front ++ rest) ls (length front + 1) why (slice_get (front ++ rest) (length front + 1 - 1))) (sym taken)
-          (subst (λ (n : ℕ). IsWrong versions g (front ++ rest) front (length front + 1) why (slice_get (front ++ rest) n)) (sym place) wrong);
+      begins = subst (λ (ls : List LineText). Begins versions (words_of ls)) (sym taken) (subst (Begins versions) h.lines (begins versions s p h.at));
+      wrong = subst (λ (ls : List LineText). IsWrong versions (front ++ rest) ls (length front + 1) why (slice_get (front ++ rest) (length front + 1 - 1))) (sym taken)
+          (subst (λ (n : ℕ). IsWrong versions (front ++ rest) front (length front + 1) why (slice_get (front ++ rest) n)) (sym place) wrong);
     }
 
 -- what some lines are read as
-abbrev IsOutcome : ℕ → Grammar → List LineText → Result WorkloadView Bad → Type 0
-IsOutcome versions g ls (Ok w) = (workload_lines w ≡ words_of ls) × All Ended ls × IsReached versions (Closed w)
-IsOutcome versions g ls (Err bad) = IsBad g versions ls bad.line bad.why
+abbrev IsOutcome : ℕ → List LineText → Result WorkloadView Bad → Type 0
+IsOutcome versions ls (Ok w) = (workload_lines w ≡ words_of ls) × All Ended ls × IsReached versions (Closed w)
+IsOutcome versions ls (Err bad) = IsBad versions ls bad.line bad.why
 
-missing : (versions : ℕ) (g : Grammar) → Setting versions g → (p : Position) (front : List LineText) → IsBehind versions p front → ((w : WorkloadView) → p ≢ Closed w)
-    → IsBad g versions (front ++ []) (length front + 1) 9
-missing versions g s p front h still =
-    bad_behind versions g s p front [] 9 h
-    (subst (IsWrong versions g (front ++ []) front (length front + 1) 9) (sym (slice_get_past (front ++ []) (length front) (omega (arith, ap length (append-nil front))))) (
+missing : (versions : ℕ) → Setting versions → (p : Position) (front : List LineText) → IsBehind versions p front → ((w : WorkloadView) → p ≢ Closed w)
+    → IsBad versions (front ++ []) (length front + 1) 9
+missing versions s p front h still =
+    bad_behind versions s p front [] 9 h
+    (subst (IsWrong versions (front ++ []) front (length front + 1) 9) (sym (slice_get_past (front ++ []) (length front) (omega (arith, ap length (append-nil front))))) (
       omega (arith, ap length (append-nil front)),
-      (λ w a e. still w (whole_lines versions g s p w h.at a (e ∙ ap words_of (append-nil front) ∙ sym h.lines))),
+      (λ w a e. still w (whole_lines versions s p w h.at a (e ∙ ap words_of (append-nil front) ∙ sym h.lines))),
       refl,
     ))
 
-ends : (versions : ℕ) (g : Grammar) → Setting versions g → (p : Position) (front : List LineText) → IsBehind versions p front
-    → IsOutcome versions g (front ++ []) (finished (length front + 1) p)
-ends versions g s (Closed w) front h =
+ends : (versions : ℕ) → Setting versions → (p : Position) (front : List LineText) → IsBehind versions p front
+    → IsOutcome versions (front ++ []) (finished (length front + 1) p)
+ends versions s (Closed w) front h =
     (h.lines ∙ ap words_of (sym (append-nil front)), subst (All Ended) (sym (append-nil front)) h.ended, h.at.reached)
-ends versions g s AtVersion front h = missing versions g s AtVersion front h (λ w e. absurd (cc e))
-ends versions g s (AtProcessors v) front h = missing versions g s (AtProcessors v) front h (λ w e. absurd (cc e))
-ends versions g s (AtFetch v n) front h = missing versions g s (AtFetch v n) front h (λ w e. absurd (cc e))
-ends versions g s (AtSlice v n f) front h = missing versions g s (AtSlice v n f) front h (λ w e. absurd (cc e))
-ends versions g s (AtSpaces v n f l) front h = missing versions g s (AtSpaces v n f l) front h (λ w e. absurd (cc e))
-ends versions g s (AtSpace m spaces) front h = missing versions g s (AtSpace m spaces) front h (λ w e. absurd (cc e))
-ends versions g s (AtSem m spaces d) front h = missing versions g s (AtSem m spaces d) front h (λ w e. absurd (cc e))
-ends versions g s (AtAbsent m spaces d) front h = missing versions g s (AtAbsent m spaces d) front h (λ w e. absurd (cc e))
-ends versions g s (AtProgram m spaces d) front h = missing versions g s (AtProgram m spaces d) front h (λ w e. absurd (cc e))
-ends versions g s (AtInstr m spaces d len is) front h = missing versions g s (AtInstr m spaces d len is) front h (λ w e. absurd (cc e))
-ends versions g s (AtEvict m spaces es) front h = missing versions g s (AtEvict m spaces es) front h (λ w e. absurd (cc e))
-ends versions g s (AtTurn m spaces es ts) front h = missing versions g s (AtTurn m spaces es ts) front h (λ w e. absurd (cc e))
+ends versions s AtVersion front h = missing versions s AtVersion front h (λ w e. absurd (cc e))
+ends versions s (AtProcessors v) front h = missing versions s (AtProcessors v) front h (λ w e. absurd (cc e))
+ends versions s (AtFetch v n) front h = missing versions s (AtFetch v n) front h (λ w e. absurd (cc e))
+ends versions s (AtSlice v n f) front h = missing versions s (AtSlice v n f) front h (λ w e. absurd (cc e))
+ends versions s (AtSpaces v n f l) front h = missing versions s (AtSpaces v n f l) front h (λ w e. absurd (cc e))
+ends versions s (AtSpace m spaces) front h = missing versions s (AtSpace m spaces) front h (λ w e. absurd (cc e))
+ends versions s (AtSem m spaces d) front h = missing versions s (AtSem m spaces d) front h (λ w e. absurd (cc e))
+ends versions s (AtAbsent m spaces d) front h = missing versions s (AtAbsent m spaces d) front h (λ w e. absurd (cc e))
+ends versions s (AtProgram m spaces d) front h = missing versions s (AtProgram m spaces d) front h (λ w e. absurd (cc e))
+ends versions s (AtInstr m spaces d len is) front h = missing versions s (AtInstr m spaces d len is) front h (λ w e. absurd (cc e))
+ends versions s (AtEvict m spaces es) front h = missing versions s (AtEvict m spaces es) front h (λ w e. absurd (cc e))
+ends versions s (AtTurn m spaces es ts) front h = missing versions s (AtTurn m spaces es ts) front h (λ w e. absurd (cc e))
 
 one_more : (versions : ℕ) → versions ≤ 3 → (p q : Position) (front : List LineText) (l : LineText) → IsBehind versions p front → line_in versions p l ≡ Ok q → IsBehind versions q (front ++ l ∷ [])
 one_more versions three p q front l h e =
@@ -160,28 +160,28 @@ one_more versions three p q front l h e =
       lines = a.1 ∙ ap (λ (ls : List (List (List ℕ))). ls ++ pieces_of l.bytes ∷ []) h.lines ∙ sym (map-append (λ (x : LineText). pieces_of x.bytes) front (l ∷ []));
     }
 
-outcome : (versions : ℕ) (g : Grammar) → Setting versions g → (rest front : List LineText) (p : Position) → IsBehind versions p front
-    → IsOutcome versions g (front ++ rest) (read_from versions (length front + 1) p rest)
-outcome versions g s [] front p h = ends versions g s p front h
-outcome versions g s (l ∷ rest) front p h = by_line (line_in versions p l) refl (λ q k. outcome versions g s rest (front ++ l ∷ []) q k)
+outcome : (versions : ℕ) → Setting versions → (rest front : List LineText) (p : Position) → IsBehind versions p front
+    → IsOutcome versions (front ++ rest) (read_from versions (length front + 1) p rest)
+outcome versions s [] front p h = ends versions s p front h
+outcome versions s (l ∷ rest) front p h = by_line (line_in versions p l) refl (λ q k. outcome versions s rest (front ++ l ∷ []) q k)
   where
     by_line : (r : Result Position ℕ) → line_in versions p l ≡ r
-        → ((q : Position) → IsBehind versions q (front ++ l ∷ []) → IsOutcome versions g ((front ++ l ∷ []) ++ rest) (read_from versions (length (front ++ l ∷ []) + 1) q rest))
-        → IsOutcome versions g (front ++ l ∷ rest) (goes_on (length front + 1) r (λ q. read_from versions (length front + 1 + 1) q rest))
+        → ((q : Position) → IsBehind versions q (front ++ l ∷ []) → IsOutcome versions ((front ++ l ∷ []) ++ rest) (read_from versions (length (front ++ l ∷ []) + 1) q rest))
+        → IsOutcome versions (front ++ l ∷ rest) (goes_on (length front + 1) r (λ q. read_from versions (length front + 1 + 1) q rest))
     by_line (Ok q) e later =
         let n : length (front ++ l ∷ []) + 1 ≡ length front + 1 + 1 = omega (arith, length-append front (l ∷ [])) in
-        subst (λ (ls : List LineText). IsOutcome versions g ls (read_from versions (length front + 1 + 1) q rest)) (append_assoc front (l ∷ []) rest)
-        (subst (λ (k : ℕ). IsOutcome versions g ((front ++ l ∷ []) ++ rest) (read_from versions k q rest)) n (later q (one_more versions s.few p q front l h e)))
+        subst (λ (ls : List LineText). IsOutcome versions ls (read_from versions (length front + 1 + 1) q rest)) (append_assoc front (l ∷ []) rest)
+        (subst (λ (k : ℕ). IsOutcome versions ((front ++ l ∷ []) ++ rest) (read_from versions k q rest)) n (later q (one_more versions s.few p q front l h e)))
     by_line (Err why) e later =
-        bad_behind versions g s p front (l ∷ rest) why h
-        (subst (IsWrong versions g (front ++ l ∷ rest) front (length front + 1) why) (sym (slice_get_at front l rest))
-        (subst (λ (ls : List (List (List ℕ))). IsBadLine versions g ls l why) h.lines (bad_line versions g s p l why h.at e)))
+        bad_behind versions s p front (l ∷ rest) why h
+        (subst (IsWrong versions (front ++ l ∷ rest) front (length front + 1) why) (sym (slice_get_at front l rest))
+        (subst (λ (ls : List (List (List ℕ))). IsBadLine versions ls l why) h.lines (bad_line versions s p l why h.at e)))
 
 -- a text is read as what it is
-pub text_outcome : (versions : ℕ) (g : Grammar) → Setting versions g → (bytes : List ℕ) → IsOutcome versions g (line_texts bytes) (read_of versions bytes)
+pub text_outcome : (versions : ℕ) → Setting versions → (bytes : List ℕ) → IsOutcome versions (line_texts bytes) (read_of versions bytes)
 unfolding read_of
-text_outcome versions g s bytes =
-    outcome versions g s (line_texts bytes) [] AtVersion (record { at = at_first versions; ended = All-nil Ended; lines = refl })
+text_outcome versions s bytes =
+    outcome versions s (line_texts bytes) [] AtVersion (record { at = at_first versions; ended = All-nil Ended; lines = refl })
 
 -- by the texts of a grammar: each is its workload's, and in what is bad there is one line with one cause
 pub record Answers (versions : ℕ) (bytes : List ℕ) (T : WorkloadView → Type 0) (B : ℕ → ℕ → Type 0) : Type 0 where
@@ -190,29 +190,29 @@ pub record Answers (versions : ℕ) (bytes : List ℕ) (T : WorkloadView → Typ
   pub not_bad : (w : WorkloadView) (k why : ℕ) → T w → ¬ B k why
   pub once : (k j why cause : ℕ) → B k why → B j cause → (k ≡ j) × (why ≡ cause)
 
-answer : (versions : ℕ) (g : Grammar) (bytes : List ℕ) (T : WorkloadView → Type 0) (B : ℕ → ℕ → Type 0) (r : Result WorkloadView Bad) → IsOutcome versions g (line_texts bytes) r
+answer : (versions : ℕ) (bytes : List ℕ) (T : WorkloadView → Type 0) (B : ℕ → ℕ → Type 0) (r : Result WorkloadView Bad) → IsOutcome versions (line_texts bytes) r
     → ((w : WorkloadView) → workload_lines w ≡ words_of (line_texts bytes) → All Ended (line_texts bytes) → IsReached versions (Closed w) → T w)
-    → ((k why : ℕ) → IsBad g versions (line_texts bytes) k why → B k why) → MatchResult r T (λ bad. B bad.line bad.why)
-answer versions g bytes T B (Ok w) h text bad = text w h.0 h.1 h.2
-answer versions g bytes T B (Err b) h text bad = bad b.line b.why h
+    → ((k why : ℕ) → IsBad versions (line_texts bytes) k why → B k why) → MatchResult r T (λ bad. B bad.line bad.why)
+answer versions bytes T B (Ok w) h text bad = text w h.0 h.1 h.2
+answer versions bytes T B (Err b) h text bad = bad b.line b.why h
 
 pub answers : (bytes : List ℕ) → Answers 3 bytes (IsText bytes) (BadAt bytes)
 answers bytes = record {
-  found = answer 3 AnyVersion bytes (IsText bytes) (BadAt bytes) (read_of 3 bytes) (text_outcome 3 AnyVersion any bytes)
+  found = answer 3 bytes (IsText bytes) (BadAt bytes) (read_of 3 bytes) (text_outcome 3 any bytes)
       (λ w lines ended r. record { workload = r.0; text = text_of-from_words bytes w ended (sym lines) }) (λ k why b. b);
   same = λ v w a b. texts_differ bytes v w a b;
-  not_bad = λ w k why a bad. text-not_bad AnyVersion 3 bytes w k why a.workload a.workload a.text bad;
-  once = λ k j why cause a b. one-bad AnyVersion 3 (line_texts bytes) k j why cause a b;
+  not_bad = λ w k why a bad. text-not_bad 3 bytes w k why (of_any w a.workload) a.workload a.text bad;
+  once = λ k j why cause a b. one-bad 3 (line_texts bytes) k j why cause a b;
 }
 
 pub answers1 : (bytes : List ℕ) → Answers 1 bytes (IsText1 bytes) (BadAt1 bytes)
 answers1 bytes = record {
-  found = answer 1 Version1 bytes (IsText1 bytes) (BadAt1 bytes) (read_of 1 bytes) (text_outcome 1 Version1 alone bytes)
-      (λ w lines ended r. record { text = record { workload = r.0; text = text_of-from_words bytes w ended (sym lines) }; version = (alone.covers w r.0 r.1).1 })
+  found = answer 1 bytes (IsText1 bytes) (BadAt1 bytes) (read_of 1 bytes) (text_outcome 1 alone bytes)
+      (λ w lines ended r. record { text = record { workload = r.0; text = text_of-from_words bytes w ended (sym lines) }; version = is_first w r.1 })
       (λ k why b. b);
   same = λ v w a b. texts_differ bytes v w a.text b.text;
-  not_bad = λ w k why a bad. text-not_bad Version1 1 bytes w k why (a.text.workload, a.version) a.text.workload a.text.text bad;
-  once = λ k j why cause a b. one-bad Version1 1 (line_texts bytes) k j why cause a b;
+  not_bad = λ w k why a bad. text-not_bad 1 bytes w k why (of_first w a.text.workload a.version) a.text.workload a.text.text bad;
+  once = λ k j why cause a b. one-bad 1 (line_texts bytes) k j why cause a b;
 }
 
 pub either : {versions : ℕ} {bytes : List ℕ} {T : WorkloadView → Type 0} {B : ℕ → ℕ → Type 0} → Answers versions bytes T B → ((w : WorkloadView) × T w) ⊎ ((k why : ℕ) × B k why)

@@ -1,4 +1,4 @@
-use Rattle.std.proofs.Common.{◌≡◌, ◌≢◌, ◌+◌, ◌==◌, ◌∙◌, Bool, Ok, Err, length, sym, arith, eq-eqb}
+use Rattle.std.proofs.Common.{◌≡◌, ◌≢◌, ◌+◌, ◌==◌, ◌∙◌, Err, length, arith, eq-eqb}
 use Rattle.std.proofs.lemmas.Result.{err_from_is_err_and}
 use Rattle.sa_base.specs.Cause.{cause_number}
 use Rattle.sa_workload.specs.Stage.{machine_of, draft_of}

@@ -1,5 +1,5 @@
 use Rattle.sa_workload.proofs.forward.Standing.{lines-injective}
-use Rattle.sa_workload.proofs.OneBad.{texts_differ}
+use Rattle.sa_workload.proofs.whole.OneBad.{texts_differ}
 use Rattle.sa_workload.proofs.laws.texts_differ.Goals as goal
 
 pub returns-clause-lines : goal.returns-clause-lines

@@ -1,4 +1,4 @@
-use Rattle.std.proofs.Common.{refl, sym, ap, ◌∙◌, [], Result, List, ℕ}
+use Rattle.std.proofs.Common.{refl, sym, ap, ◌∙◌, Result, List, ℕ}
 use Rattle.std.proofs.lemmas.Result.{err_from_is_err_and}
 use Rattle.sa_workload.specs.Fields.{and_then}
 use Rattle.sa_workload.specs.Next.{step}

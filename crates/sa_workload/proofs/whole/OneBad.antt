@@ -8,7 +8,7 @@ use Rattle.sa_spaces.specs.Workload.{WorkloadView, IsWorkload}
 use Rattle.sa_text.specs.LineText.{LineText, line_texts}
 use Rattle.sa_text.specs.Pieces.{pieces_of}
 use Rattle.sa_workload.specs.Text.{workload_lines, text_of}
-use Rattle.sa_workload.specs.Bad.{Grammar, Begins, LineCause, words_of, IsBad}
+use Rattle.sa_workload.specs.Bad.{IsUpTo, Begins, LineCause, words_of, IsBad}
 use Rattle.sa_workload.specs.Laws.{TextsDiffer}
 use Rattle.sa_workload.proofs.forward.Completion.{begins_front}
 use Rattle.sa_workload.proofs.forward.Standing.{lines-injective}
@@ -32,22 +32,22 @@ words_split xs line ys =
     map-append (λ (l : LineText). pieces_of l.bytes) xs (line ∷ ys) ∙ sym (append_assoc (words_of xs) (pieces_of line.bytes ∷ []) (words_of ys))
 
 -- what a bad line says of its place, where it is missing and where it stands
-abbrev AtEnd : Grammar → List LineText → ℕ → ℕ → Type 0
-AtEnd g ls k why = (k ≡ length ls + 1) × ((w : WorkloadView) → g w → workload_lines w ≢ words_of ls) × (why ≡ 9)
+abbrev AtEnd : ℕ → List LineText → ℕ → ℕ → Type 0
+AtEnd versions ls k why = (k ≡ length ls + 1) × ((w : WorkloadView) → IsUpTo versions w → workload_lines w ≢ words_of ls) × (why ≡ 9)
 
-abbrev AtLine : Grammar → ℕ → List LineText → ℕ → ℕ → LineText → Type 0
-AtLine g versions ls k why line =
-    (line.ended ≡ true → ¬ Begins g (words_of (take (k - 1) ls) ++ pieces_of line.bytes ∷ []))
-    × LineCause g versions (words_of (take (k - 1) ls)) line why
+abbrev AtLine : ℕ → List LineText → ℕ → ℕ → LineText → Type 0
+AtLine versions ls k why line =
+    (line.ended ≡ true → ¬ Begins versions (words_of (take (k - 1) ls) ++ pieces_of line.bytes ∷ []))
+    × LineCause versions (words_of (take (k - 1) ls)) line why
 
 -- no line is bad behind a bad one
-bad_before : (g : Grammar) (versions : ℕ) (ls : List LineText) (k j why cause : ℕ) → IsBad g versions ls k why → IsBad g versions ls j cause → k < j → ⊥
-bad_before g versions ls k j why cause a b below = pick (slice_get ls (k - 1)) refl a.wrong
+bad_before : (versions : ℕ) (ls : List LineText) (k j why cause : ℕ) → IsBad versions ls k why → IsBad versions ls j cause → k < j → ⊥
+bad_before versions ls k j why cause a b below = pick (slice_get ls (k - 1)) refl a.wrong
   where
-    pick : (o : Option LineText) → slice_get ls (k - 1) ≡ o → MatchOption o (AtEnd g ls k why) (AtLine g versions ls k why) → ⊥
+    pick : (o : Option LineText) → slice_get ls (k - 1) ≡ o → MatchOption o (AtEnd versions ls k why) (AtLine versions ls k why) → ⊥
     pick None e x =
         let past : slice_get ls (j - 1) ≡ None = slice_get_past ls (j - 1) (omega (arith, x.0)) in
-        let at_end : AtEnd g ls j cause = subst (λ (o : Option LineText). MatchOption o (AtEnd g ls j cause) (AtLine g versions ls j cause)) past b.wrong in
+        let at_end : AtEnd versions ls j cause = subst (λ (o : Option LineText). MatchOption o (AtEnd versions ls j cause) (AtLine versions ls j cause)) past b.wrong in
         absurd (omega (arith, x.0, at_end.0))
     pick (Some line) e x =
         let first : 1 ≤ k = a.number in
@@ -61,45 +61,45 @@ bad_before g versions ls k j why cause a b below = pick (slice_get ls (k - 1)) r
         let words : words_of (take (j - 1) ls) ≡ (words_of (take (k - 1) ls) ++ pieces_of line.bytes ∷ []) ++ words_of (drop (k - 1 + 1) (take (j - 1) ls)) =
         ap words_of split ∙ words_split (take (k - 1) ls) line (drop (k - 1 + 1) (take (j - 1) ls)) in
         x.0 ended
-        (begins_front g (words_of (take (k - 1) ls) ++ pieces_of line.bytes ∷ []) (words_of (drop (k - 1 + 1) (take (j - 1) ls)))
-        (subst (λ (ws : List (List (List ℕ))). Begins g ws) words b.begins))
+        (begins_front versions (words_of (take (k - 1) ls) ++ pieces_of line.bytes ∷ []) (words_of (drop (k - 1 + 1) (take (j - 1) ls)))
+        (subst (λ (ws : List (List (List ℕ))). Begins versions ws) words b.begins))
 
-line_cause_one : (g : Grammar) (versions : ℕ) (lines : List (List (List ℕ))) (line : LineText) (why cause : ℕ)
-    → LineCause g versions lines line why → LineCause g versions lines line cause → why ≡ cause
-line_cause_one g versions lines line why cause (inl a) (inl b) = a.1 ∙ sym b.1
-line_cause_one g versions lines line why cause (inl a) (inr b) = absurd (a.0 b.0)
-line_cause_one g versions lines line why cause (inr a) (inl b) = absurd (b.0 a.0)
-line_cause_one g versions lines line why cause (inr (p, inl a)) (inr (q, inl b)) = a.1 ∙ sym b.1
-line_cause_one g versions lines line why cause (inr (p, inl a)) (inr (q, inr b)) = absurd (cc (sym a.0 ∙ b.0))
-line_cause_one g versions lines line why cause (inr (p, inr a)) (inr (q, inl b)) = absurd (cc (sym a.0 ∙ b.0))
-line_cause_one g versions lines line why cause (inr (p, inr a)) (inr (q, inr b)) =
-    causes-are_one g versions lines (pieces_of line.bytes) why cause a.1 b.1
+line_cause_one : (versions : ℕ) (lines : List (List (List ℕ))) (line : LineText) (why cause : ℕ)
+    → LineCause versions lines line why → LineCause versions lines line cause → why ≡ cause
+line_cause_one versions lines line why cause (inl a) (inl b) = a.1 ∙ sym b.1
+line_cause_one versions lines line why cause (inl a) (inr b) = absurd (a.0 b.0)
+line_cause_one versions lines line why cause (inr a) (inl b) = absurd (b.0 a.0)
+line_cause_one versions lines line why cause (inr (p, inl a)) (inr (q, inl b)) = a.1 ∙ sym b.1
+line_cause_one versions lines line why cause (inr (p, inl a)) (inr (q, inr b)) = absurd (cc (sym a.0 ∙ b.0))
+line_cause_one versions lines line why cause (inr (p, inr a)) (inr (q, inl b)) = absurd (cc (sym a.0 ∙ b.0))
+line_cause_one versions lines line why cause (inr (p, inr a)) (inr (q, inr b)) =
+    causes-are_one versions lines (pieces_of line.bytes) why cause a.1 b.1
 
-bad_same : (g : Grammar) (versions : ℕ) (ls : List LineText) (k why cause : ℕ) → IsBad g versions ls k why → IsBad g versions ls k cause → why ≡ cause
-bad_same g versions ls k why cause a b = pick (slice_get ls (k - 1)) a.wrong b.wrong
+bad_same : (versions : ℕ) (ls : List LineText) (k why cause : ℕ) → IsBad versions ls k why → IsBad versions ls k cause → why ≡ cause
+bad_same versions ls k why cause a b = pick (slice_get ls (k - 1)) a.wrong b.wrong
   where
-    pick : (o : Option LineText) → MatchOption o (AtEnd g ls k why) (AtLine g versions ls k why) → MatchOption o (AtEnd g ls k cause) (AtLine g versions ls k cause) → why ≡ cause
+    pick : (o : Option LineText) → MatchOption o (AtEnd versions ls k why) (AtLine versions ls k why) → MatchOption o (AtEnd versions ls k cause) (AtLine versions ls k cause) → why ≡ cause
     pick None x y = x.2 ∙ sym y.2
-    pick (Some line) x y = line_cause_one g versions (words_of (take (k - 1) ls)) line why cause x.1 y.1
+    pick (Some line) x y = line_cause_one versions (words_of (take (k - 1) ls)) line why cause x.1 y.1
 
 -- some lines are bad in one line at most, with one cause
-pub one-bad : (g : Grammar) (versions : ℕ) (ls : List LineText) (k j why cause : ℕ) → IsBad g versions ls k why → IsBad g versions ls j cause
+pub one-bad : (versions : ℕ) (ls : List LineText) (k j why cause : ℕ) → IsBad versions ls k why → IsBad versions ls j cause
     → (k ≡ j) × (why ≡ cause)
-one-bad g versions ls k j why cause a b = pick (cases_lt k j) (cases_lt j k)
+one-bad versions ls k j why cause a b = pick (cases_lt k j) (cases_lt j k)
   where
     pick : (k < j) ⊎ (j ≤ k) → (j < k) ⊎ (k ≤ j) → (k ≡ j) × (why ≡ cause)
-    pick (inl l) _ = absurd (bad_before g versions ls k j why cause a b l)
-    pick (inr m) (inl l) = absurd (bad_before g versions ls j k cause why b a l)
+    pick (inl l) _ = absurd (bad_before versions ls k j why cause a b l)
+    pick (inr m) (inl l) = absurd (bad_before versions ls j k cause why b a l)
     pick (inr m) (inr n) =
         let e : k ≡ j = omega arith in
-        (e, bad_same g versions ls k why cause a (subst (λ (i : ℕ). IsBad g versions ls i cause) (sym e) b))
+        (e, bad_same versions ls k why cause a (subst (λ (i : ℕ). IsBad versions ls i cause) (sym e) b))
 
 -- lines that are those of a workload are not bad
-pub lines-not_bad : (g : Grammar) (versions : ℕ) (ls : List LineText) (w : WorkloadView) (k why : ℕ) → g w → workload_lines w ≡ words_of ls
-    → All (λ (l : LineText). l.ended ≡ true) ls → ¬ IsBad g versions ls k why
-lines-not_bad g versions ls w k why accepted e ended a = pick (slice_get ls (k - 1)) refl a.wrong
+pub lines-not_bad : (versions : ℕ) (ls : List LineText) (w : WorkloadView) (k why : ℕ) → IsUpTo versions w → workload_lines w ≡ words_of ls
+    → All (λ (l : LineText). l.ended ≡ true) ls → ¬ IsBad versions ls k why
+lines-not_bad versions ls w k why accepted e ended a = pick (slice_get ls (k - 1)) refl a.wrong
   where
-    pick : (o : Option LineText) → slice_get ls (k - 1) ≡ o → MatchOption o (AtEnd g ls k why) (AtLine g versions ls k why) → ⊥
+    pick : (o : Option LineText) → slice_get ls (k - 1) ≡ o → MatchOption o (AtEnd versions ls k why) (AtLine versions ls k why) → ⊥
     pick None f x = x.1 w accepted e
     pick (Some line) f x =
         let inside : k - 1 < length ls = slice_get_within ls (k - 1) line f in
@@ -119,11 +119,11 @@ ended_lines : (lines : List (List (List ℕ))) → All (λ (l : LineText). l.end
 ended_lines lines = All-map (λ (l : LineText). l.ended ≡ true) ended_line lines (λ k d h. refl)
 
 -- a text is not bad, by any grammar that accepts its workload
-pub text-not_bad : (g : Grammar) (versions : ℕ) (bytes : List ℕ) (w : WorkloadView) (k why : ℕ) → g w → IsWorkload w → bytes ≡ text_of w
-    → ¬ IsBad g versions (line_texts bytes) k why
-text-not_bad g versions bytes w k why accepted is e =
+pub text-not_bad : (versions : ℕ) (bytes : List ℕ) (w : WorkloadView) (k why : ℕ) → IsUpTo versions w → IsWorkload w → bytes ≡ text_of w
+    → ¬ IsBad versions (line_texts bytes) k why
+text-not_bad versions bytes w k why accepted is e =
     let lines : line_texts bytes ≡ map ended_line (workload_lines w) = ap line_texts e ∙ line_texts-text_of w is in
-    lines-not_bad g versions (line_texts bytes) w k why accepted (sym (ap (λ (bs : List ℕ). words_of (line_texts bs)) e ∙ words_of-text_of w is))
+    lines-not_bad versions (line_texts bytes) w k why accepted (sym (ap (λ (bs : List ℕ). words_of (line_texts bs)) e ∙ words_of-text_of w is))
     (subst (All (λ (l : LineText). l.ended ≡ true)) (sym lines) (ended_lines (workload_lines w)))
 
 -- two workloads never share a text: their lines would be the same
