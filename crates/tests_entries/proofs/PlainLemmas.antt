@@ -1,18 +1,15 @@
 -- Plain entries say what any history reads, so a history goes on by them.
 use Rattle.std.proofs.Common.{◌≡◌, ℕ, ◌<◌, ◌≤◌, ◌/◌, ◌%◌, ◌==◌, if◌then◌else◌, inl, inr, ◌∙◌, length, Bool, true, false, not, ◌&&◌, is_none, IsSome, Option, Some, None, List, [], ◌∷◌, ◌++◌, refl, sym, ap, subst}
-use Rattle.std.specs.Prelude.{slice_get}
-use Rattle.std.specs.Option.{option_map}
 use Rattle.std.proofs.lemmas.List.{append-nil}
 use Rattle.sa_base.specs.declared.number.ProcNo.{ProcNo}
 use Rattle.sa_base.specs.declared.number.ThreadNo.{ThreadNo}
-use Rattle.sa_base.specs.declared.record.Note.{Note}
 use Rattle.sa_base.specs.declared.record.Item.{Item}
 use Rattle.sa_spaces.specs.Workload.{WorkloadView}
 use Rattle.sa_kernel_model.specs.declared.entry.Entry.{Entry}
 use Rattle.sa_kernel_model.specs.declared.entry.Entry.TheVariants.{Interrupt, Block, Complete, More, Idle, GiveBack, InterruptOwn}
 use Rattle.sa_base.specs.declared.record.Record.TheVariants.{Tick}
 use Rattle.sa_kernel_model.specs.State.{State, Scene, line_of}
-use Rattle.sa_kernel_model.specs.Entries.{next_note, evicted_at}
+use Rattle.sa_kernel_model.specs.Entries.{evicted_at}
 use Rattle.sa_kernel_model.specs.Fits.{IsFit}
 use Rattle.sa_kernel_model.specs.Turn.{SaysRightly}
 use Rattle.sa_kernel_model.specs.Histories.{IsHistory, IsUnderWay, IsLonger, GoesOnLawfully, QuietEventsGoOn, last_of, read_from, read_within}
@@ -39,16 +36,8 @@ says-rightly w k p r m Idle plain = refl
 says-rightly w k p r m GiveBack plain = refl
 says-rightly w k p r m (InterruptOwn q) plain = refl
 
--- where no notice is handed out, all were fetched
-told-none : (k : State ℕ) (notes : List Note) → k.telling ≡ notes → next_note k ≡ None → notes ≡ []
-told-none k [] is none = refl
-told-none k (note ∷ notes) is none = absurd (let some = ap (λ (ns : List Note). option_map (λ (n : Note). n) (slice_get ns 0)) is in cc)
-
-pub all-fetched : (k : State ℕ) → next_note k ≡ None → k.telling ≡ []
-all-fetched k none = told-none k k.telling refl none
-
 -- an entry fits behind the evictions of its event as before them
-pub fits-evicted : (e n : ℕ) (k : State ℕ) (p : ProcNo) (entry : Entry ℕ) → IsFit k p e entry → IsFit (evicted_at n k) p e entry
+fits-evicted : (e n : ℕ) (k : State ℕ) (p : ProcNo) (entry : Entry ℕ) → IsFit k p e entry → IsFit (evicted_at n k) p e entry
 fits-evicted e n k p (Interrupt held) fit = record { raised = fit.raised; held = fit.held; owned = fit.owned }
 fits-evicted e n k p (Block held len page) fit = record { space = fit.space; asks = record { owner = fit.asks.owner; low = fit.asks.low }; page = fit.page }
 fits-evicted e n k p (Complete io) fit = record { here = fit.here; under_way = fit.under_way; low = fit.low }
