@@ -1,3 +1,3 @@
 pub mod Calls
-pub mod MachineLines
+pub mod Rooms
 pub mod PrintedText

@@ -1,5 +1,5 @@
 -- Where a reader stands behind some lines: what they say so far. Private functions of the reader cite this; no public clause does.
-use Rattle.std.specs.Prelude.{◌≡◌, ◌≢◌, ◌⊎◌, ℕ, ◌+◌, ◌<◌, ◌≤◌, ◌==◌, ⊤, if◌then◌else◌, List, [], ◌∷◌, ◌++◌, length, map, All, codes, decimal}
+use Rattle.std.specs.Prelude.{◌≡◌, ◌≢◌, ◌⊎◌, ℕ, ◌+◌, ◌<◌, ◌≤◌, ◌==◌, ⊤, if◌then◌else◌, List, [], ◌∷◌, ◌++◌, length, map, All, Option, Some, None, codes, decimal}
 use Rattle.std.specs.List.{flat_map, AllAdjacentBelow}
 use Rattle.std.specs.List.Sorted.{IsStrictlyIncreasing}
 use Rattle.sa_base.specs.declared.limits.TheConstants.{MAX_PROCESSORS, MAX_SPACES}
@@ -48,6 +48,11 @@ pub data Position : Type 0 where
   AtEvict : Machine → List SpaceView → List Evict → Position
   AtTurn : Machine → List SpaceView → List Evict → List ProcNo → Position
   Closed : WorkloadView → Position
+
+-- the workload, if no line is to come
+abbrev pub closed : Position → Option WorkloadView
+closed (Closed w) = Some w
+closed _ = None
 
 -- the lines that a reader has read
 abbrev pub version_line : ℕ → List (List ℕ)

@@ -1,5 +1,5 @@
 -- What a text is read as: its lines in order, each from the position behind those before it.
-use Rattle.std.specs.Prelude.{◌≡◌, ℕ, ◌+◌, ◌&&◌, nat_le, if◌then◌else◌, Bool, List, [], ◌∷◌, Result, Ok, Err, ⊤}
+use Rattle.std.specs.Prelude.{◌≡◌, ℕ, ◌+◌, ◌&&◌, nat_le, if◌then◌else◌, Bool, List, [], ◌∷◌, Option, Some, None, Result, Ok, Err, ⊤}
 use Rattle.std.specs.List.{list_all}
 use Rattle.sa_base.specs.declared.refusal.Bad.{Bad}
 use Rattle.sa_base.specs.declared.refusal.Unread.{Unread}
@@ -7,7 +7,7 @@ use Rattle.sa_base.specs.declared.refusal.Unread.TheVariants.{Bad as refused, Ou
 use Rattle.sa_spaces.specs.Workload.{WorkloadView}
 use Rattle.sa_text.specs.LineText.{LineText, line_texts}
 use Rattle.sa_text.specs.Pieces.{pieces_of}
-use Rattle.sa_workload.specs.Position.{Position, AtVersion, Closed}
+use Rattle.sa_workload.specs.Position.{Position, AtVersion, closed}
 use Rattle.sa_workload.specs.Next.{next}
 
 abbrev pub is_printed : List ℕ → Bool
@@ -17,10 +17,13 @@ is_printed bytes = list_all (λ b. nat_le 32 b && nat_le b 126) bytes
 abbrev pub line_in : ℕ → Position → LineText → Result Position ℕ
 line_in versions p line = if is_printed line.bytes then (if line.ended then next versions p (pieces_of line.bytes) else Err 9) else Err 1
 
--- the workload of the last position; else a line is missing
+-- the workload, if no line is to come; else the line of this number is missing
+abbrev pub or_missing : ℕ → Option WorkloadView → Result WorkloadView Bad
+or_missing number (Some w) = Ok w
+or_missing number None = Err (record { line = number; why = 9 })
+
 abbrev pub finished : ℕ → Position → Result WorkloadView Bad
-finished number (Closed w) = Ok w
-finished number _ = Err (record { line = number; why = 9 })
+finished number p = or_missing number (closed p)
 
 -- what comes of a line: it is bad, or the others are read behind it
 abbrev pub goes_on : ℕ → Result Position ℕ → (Position → Result WorkloadView Bad) → Result WorkloadView Bad

@@ -1,17 +1,29 @@
--- What a reader's stage says, as a position. Private functions of the reader cite this; no public clause does.
-use Rattle.std.specs.Prelude.{◌≡◌, ℕ, ◌≤◌, ◌==◌, if◌then◌else◌, List, [], ◌∷◌, Result, Ok, Err, ⊤}
+-- What a reader stands for: its position, its fields and its answers. Private functions of the reader cite this; no public clause does.
+use Rattle.std.specs.Prelude.{◌≡◌, ℕ, List, [], ◌∷◌, length, codes, nat_lt, Option, None, Some, Result, Ok, Err, ⊤}
 use Rattle.sa_base.specs.Cause.{cause_number}
 use Rattle.sa_base.specs.declared.refusal.Unread.{Unread}
 use Rattle.sa_base.specs.declared.refusal.Unread.TheVariants.{Bad as refused, OutOfMemory as memory}
+use Rattle.sa_spaces.specs.Workload.{WorkloadView}
 use Rattle.sa_workload.specs.declared.cause.Refusal.{Refusal}
 use Rattle.sa_workload.specs.declared.cause.Refusal.TheVariants.{Because, OutOfMemory}
+use Rattle.sa_workload.specs.declared.field.Field.{Field as TableField}
+use Rattle.sa_workload.specs.declared.field.Field.TheVariants as Table
 use Rattle.sa_workload.specs.declared.stage.Header.{Header}
 use Rattle.sa_workload.specs.declared.stage.SpaceDraft.{SpaceDraft}
-use Rattle.sa_workload.specs.declared.stage.MachineStage.{MachineStage}
-use Rattle.sa_workload.specs.declared.stage.MachineStage.TheVariants.{Version, Processors, Fetch, Slice, Spaces}
+use Rattle.sa_workload.specs.declared.stage.MachineLine.{MachineLine}
+use Rattle.sa_workload.specs.declared.stage.MachineLine.TheVariants.{Version, Processors, Fetch, Slice, Spaces}
 use Rattle.sa_workload.specs.declared.stage.Stage.{Stage}
 use Rattle.sa_workload.specs.declared.stage.Stage.TheVariants.{Machine as BeforeSpaces, Space, Sem, Absent, Program, Instr, Evict, Turn, Closed as Done}
-use Rattle.sa_workload.specs.Position.{Machine, Draft, Position, AtVersion, AtProcessors, AtFetch, AtSlice, AtSpaces, AtSpace, AtSem, AtAbsent, AtProgram, AtInstr, AtEvict, AtTurn, Closed, IsReached}
+use Rattle.sa_workload.specs.declared.stage.Reader.{Reader}
+use Rattle.sa_workload.specs.Bad.{Field, Register, Number, within}
+use Rattle.sa_workload.specs.Fields.{line_numbers}
+use Rattle.sa_workload.specs.Position.{Machine, Draft, Position, AtVersion, AtProcessors, AtFetch, AtSlice, AtSpaces, AtSpace, AtSem, AtAbsent, AtProgram, AtInstr, AtEvict, AtTurn, Closed}
+use Rattle.sa_workload.specs.Steps.{workload}
+
+abbrev pub field_of : TableField → Field
+field_of Table.Register = Register
+field_of (Table.Within low high) = within low high
+field_of (Table.Below count cause) = Number (λ n. nat_lt n count) (cause_number cause)
 
 abbrev pub machine_of : Header → Machine
 machine_of h = record { version = h.version; processors = h.processors; fetch = h.fetch; slice = h.slice; count = h.count }
@@ -29,42 +41,55 @@ draft_of d = record {
   programs = d.programs.items;
 }
 
--- the numbers of a space line
-abbrev pub space_numbers : ℕ → Draft → List ℕ
-space_numbers version d =
-    d.priority ∷ d.mutexes ∷ d.sem_count ∷ d.cells ∷ d.program_count ∷ (if version == 3 then d.patience ∷ [] else [])
+-- a line before those of the spaces: its word, and the position before it
+abbrev pub machine_word : MachineLine → List ℕ
+machine_word Version = codes "workload"
+machine_word Processors = codes "processors"
+machine_word Fetch = codes "fetch"
+machine_word Slice = codes "slice"
+machine_word Spaces = codes "spaces"
 
-abbrev pub machine_position : MachineStage → Position
-machine_position Version = AtVersion
-machine_position (Processors version) = AtProcessors version
-machine_position (Fetch version processors) = AtFetch version processors
-machine_position (Slice version processors fetch) = AtSlice version processors fetch
-machine_position (Spaces version processors fetch slice) = AtSpaces version processors fetch slice
+abbrev pub machine_position : MachineLine → Header → Position
+machine_position Version h = AtVersion
+machine_position Processors h = AtProcessors h.version
+machine_position Fetch h = AtFetch h.version h.processors
+machine_position Slice h = AtSlice h.version h.processors h.fetch
+machine_position Spaces h = AtSpaces h.version h.processors h.fetch h.slice
 
-abbrev pub position_of : Stage → Position
-position_of (BeforeSpaces stage) = machine_position stage
-position_of (Space h spaces) = AtSpace (machine_of h) spaces.items
-position_of (Sem h spaces d) = AtSem (machine_of h) spaces.items (draft_of d)
-position_of (Absent h spaces d) = AtAbsent (machine_of h) spaces.items (draft_of d)
-position_of (Program h spaces d) = AtProgram (machine_of h) spaces.items (draft_of d)
-position_of (Instr h spaces d len instrs) = AtInstr (machine_of h) spaces.items (draft_of d) len instrs.items
-position_of (Evict h spaces evictions) = AtEvict (machine_of h) spaces.items evictions.items
-position_of (Turn h spaces evictions turns) = AtTurn (machine_of h) spaces.items evictions.items turns.items
-position_of (Done w) = Closed w
+abbrev pub workload_of : Reader → WorkloadView
+workload_of r = workload (machine_of r.header) r.spaces.items r.evictions.items r.turns.items
 
--- what a reader of some version keeps
-abbrev pub IsSound : Position → Type 0
-IsSound p = (versions : ℕ) × (versions ≤ 3) × IsReached versions p
+abbrev pub at_stage : Reader → Stage → Position
+at_stage r (BeforeSpaces line) = machine_position line r.header
+at_stage r Space = AtSpace (machine_of r.header) r.spaces.items
+at_stage r Sem = AtSem (machine_of r.header) r.spaces.items (draft_of r.draft)
+at_stage r Absent = AtAbsent (machine_of r.header) r.spaces.items (draft_of r.draft)
+at_stage r Program = AtProgram (machine_of r.header) r.spaces.items (draft_of r.draft)
+at_stage r Instr = AtInstr (machine_of r.header) r.spaces.items (draft_of r.draft) r.len r.instrs.items
+at_stage r Evict = AtEvict (machine_of r.header) r.spaces.items r.evictions.items
+at_stage r Turn = AtTurn (machine_of r.header) r.spaces.items r.evictions.items r.turns.items
+at_stage r Done = Closed (workload_of r)
 
--- the answer is this outcome, or memory ran out
-abbrev pub Gives : Result Position ℕ → Result Stage Refusal → Type 0
-Gives outcome (Ok stage) = outcome ≡ Ok (position_of stage)
-Gives outcome (Err (Because cause)) = outcome ≡ Err (cause_number cause)
-Gives outcome (Err OutOfMemory) = ⊤
+-- the position at which a reader stands
+abbrev pub position_of : Reader → Position
+position_of r = at_stage r r.stage
 
--- the same of a line behind which the version does not count
-abbrev pub GivesAny : (ℕ → Result Position ℕ) → Result Stage Refusal → Type 0
-GivesAny outcome r = (versions : ℕ) → Gives (outcome versions) r
+-- as many numbers as the last line has
+abbrev pub IsAsLong : List ℕ → Option (List ℕ) → Type 0
+IsAsLong ns None = ⊤
+IsAsLong ns (Some last) = length ns ≡ length last
+
+-- the numbers are read from the words of some line with these fields
+pub record AreNumbersOf (fields : List Field) (ns : List ℕ) : Type 0 where
+  pub last : Option (List ℕ)
+  pub words : List (List ℕ)
+  pub read : line_numbers fields last words ≡ Ok ns
+
+-- the reader stands at this outcome, or the line is refused with it, or memory ran out
+abbrev pub Gives : {A : Type 0} → Result Position ℕ → Position → Result A Refusal → Type 0
+Gives outcome at (Ok _) = outcome ≡ Ok at
+Gives outcome at (Err (Because cause)) = outcome ≡ Err (cause_number cause)
+Gives outcome at (Err OutOfMemory) = ⊤
 
 -- the refusal of the line of this number
 abbrev pub unread_at : ℕ → Refusal → Unread

@@ -2,16 +2,16 @@
 #![tactic(auto)]
 
 mod cause;
-mod closing_lines;
-mod instr_lines;
+mod field;
+mod instr;
 pub mod laws;
-mod line_words;
-mod machine_lines;
 mod printing;
 mod push;
 mod reader;
-mod space_lines;
 mod stage;
+mod step;
+mod table;
+mod words;
 
 pub use printing::print;
 pub use reader::{read, read_one};

@@ -4,7 +4,7 @@ ghost use Rattle.std.specs.List.{flat_map, list_all};
 ghost use Rattle.sa_workload.specs.Text.{text_of, line_text, version_of, machine_lines, slice_lines, closing_lines, space_lines, space_line, sem_line, absent_line, program_lines, instr_line, evict_line, turn_line};
 
 use crate::push::{push_instr, push_line};
-use crate::space_lines::are_impatient;
+use crate::table::are_impatient;
 use sa_base::ProcNo;
 use sa_instr::Program;
 use sa_spaces::{Evict, SpaceDef, Workload};

@@ -1,5 +1,6 @@
 // The reader: one line after another.
-ghost use Rattle.std.specs.Prelude.{◌≡◌, ℕ, ◌≤◌, MatchResult, IfOk, IfErr, Err, true};
+ghost use Rattle.std.specs.Prelude.{◌≡◌, ℕ, ◌≤◌, MatchResult, IfOk, IfErr, Ok, Err, true};
+ghost use Rattle.std.specs.Option.{is_some};
 ghost use Rattle.sa_base.specs.Cause.{cause_number};
 ghost use Rattle.sa_spaces.specs.Workload.{WorkloadView};
 ghost use Rattle.sa_text.specs.Line.{IsWithin, text_of_line};
@@ -7,17 +8,16 @@ ghost use Rattle.sa_workload.specs.Answer.{IfBad};
 ghost use Rattle.sa_workload.specs.Bad.{BadAt, BadAt1};
 ghost use Rattle.sa_workload.specs.Text.{IsText, IsText1};
 ghost use Rattle.sa_workload.specs.Position.{Position, IsReached};
-ghost use Rattle.sa_workload.specs.Next.{next_by};
+ghost use Rattle.sa_workload.specs.Fields.{and_then, index_of, line_numbers, numbered};
+ghost use Rattle.sa_workload.specs.Next.{fields_of, last_numbers, next_by};
+ghost use Rattle.sa_workload.specs.Steps.{expected};
 ghost use Rattle.sa_workload.specs.Reading.{is_printed, line_in, read_of, IsReading};
 ghost use Rattle.sa_workload.specs.Stage.{position_of, Gives};
 
 use crate::cause::Refusal;
-use crate::closing_lines::{read_evict_or_turn, read_turn_or_close};
-use crate::instr_lines::read_instr;
-use crate::line_words::Words;
-use crate::machine_lines::read_machine;
-use crate::space_lines::{read_absent_or_program, read_program, read_sem, read_space};
-use crate::stage::{MachineStage, Stage};
+use crate::field::Numbers;
+use crate::stage::Reader;
+use crate::words::Words;
 use sa_base::{Bad, Cause, Unread};
 use sa_spaces::Workload;
 use sa_text::{Line, Lines};
@@ -67,38 +67,75 @@ fn read_versions(alloc: Global, versions: u16, bytes: &[u8]) -> Result<Workload,
     ensures { IsReading (read_of versions bytes.now) result }
 {
     let mut lines = Lines::new(bytes);
-    let mut stage = Stage::Machine(MachineStage::Version);
+    let mut reader = Reader::new(alloc);
     while let Some(line) = lines.next() {
-        match read_line(alloc, versions, stage, bytes, line) {
-            Ok(next) => stage = next,
-            Err(refusal) => return Err(refusal.at(line.number)),
+        let number = line.number;
+        if let Err(refusal) = reader.read_line(alloc, versions, bytes, line) {
+            return Err(refusal.at(number));
         }
     }
-    match stage {
-        Stage::Closed(workload) => Ok(workload),
-        _ => Err(Unread::Bad(Bad::new(lines.number(), Cause::Missing))),
+    match reader.finish() {
+        Some(workload) => Ok(workload),
+        None => Err(Unread::Bad(Bad::new(lines.number(), Cause::Missing))),
     }
 }
 
-/// The stage behind this line.
-fn read_line(
-    alloc: Global,
-    versions: u16,
-    stage: Stage,
-    bytes: &[u8],
-    line: Line,
-) -> Result<Stage, Refusal>
-    requires few { versions ≤ 3 }
-    requires reached { IsReached versions (position_of stage) }
-    requires within { IsWithin bytes.now line }
-    ensures { Gives (line_in versions (position_of stage) (text_of_line bytes.now line)) result }
-{
-    check_line(bytes, &line)?;
-    let mut words = Words::new(bytes, line);
-    let Some(word) = words.next() else {
-        return Err(Refusal::Because(Cause::BadWord));
-    };
-    read_words(alloc, versions, stage, word, words)
+impl Reader {
+    /// Goes on behind this line.
+    fn read_line(
+        &mut self,
+        alloc: Global,
+        versions: u16,
+        bytes: &[u8],
+        line: Line,
+    ) -> Result<(), Refusal>
+        requires few { versions ≤ 3 }
+        requires reached { IsReached versions (position_of self.old) }
+        requires within { IsWithin bytes.now line }
+        ensures { Gives (line_in versions (position_of self.old) (text_of_line bytes.now line)) (position_of self.new) result }
+    {
+        check_line(bytes, &line)?;
+        let mut words = Words::new(bytes, line);
+        let Some(word) = words.next() else {
+            return Err(Refusal::Because(Cause::BadWord));
+        };
+        self.read_words(alloc, versions, word, &mut words)
+    }
+
+    /// Goes on behind a line of this first word and these behind it.
+    fn read_words(
+        &mut self,
+        alloc: Global,
+        versions: u16,
+        word: &[u8],
+        words: &mut Words,
+    ) -> Result<(), Refusal>
+        requires few { versions ≤ 3 }
+        requires reached { IsReached versions (position_of self.old) }
+        ensures { Gives (next_by versions (position_of self.old) word.now words.old) (position_of self.new) result }
+    {
+        if !self.expects(word) {
+            return Err(Refusal::Because(Cause::BadWord));
+        }
+        if self.is_full(word) {
+            return Err(Refusal::Because(Cause::TooMany));
+        }
+        let numbers = self.read_numbers(versions, word, words)?;
+        self.step(alloc, versions, word, numbers.as_slice())
+    }
+
+    /// The numbers behind this first word, which end the line.
+    fn read_numbers(&self, versions: u16, word: &[u8], words: &mut Words) -> Result<Numbers, Cause>
+        requires { is_some (index_of word.now (expected (position_of self.now))) ≡ true }
+        ensures { and_then (numbered result) (λ numbers. Ok numbers.items)
+            ≡ line_numbers (fields_of versions (position_of self.now) word.now) (last_numbers (position_of self.now) word.now) words.old }
+    {
+        let fields = self.fields(versions, word);
+        let numbers = words.numbers(fields.as_slice())?;
+        self.in_order(word, numbers.as_slice())?;
+        words.end()?;
+        Ok(numbers)
+    }
 }
 
 /// The line is printed, and has its line feed.
@@ -122,43 +159,4 @@ fn is_printed(bytes: &[u8]) -> bool
     ensures { result ≡ is_printed bytes.now }
 {
     bytes.iter().all(|byte| 32 <= *byte && *byte <= 126)
-}
-
-/// The stage behind a line of this first word and these behind it.
-fn read_words(
-    alloc: Global,
-    versions: u16,
-    stage: Stage,
-    word: &[u8],
-    words: Words,
-) -> Result<Stage, Refusal>
-    requires few { versions ≤ 3 }
-    requires reached { IsReached versions (position_of stage) }
-    ensures { Gives (next_by versions (position_of stage) word.now words.entry) result }
-{
-    match stage {
-        Stage::Machine(stage) => read_machine(alloc, versions, stage, word, words),
-        Stage::Space(header, spaces) => read_space(alloc, header, spaces, word, words),
-        Stage::Sem(header, spaces, draft) => read_sem(header, spaces, draft, word, words),
-        Stage::Absent(header, spaces, draft) => {
-            read_absent_or_program(alloc, header, spaces, draft, word, words)
-        }
-        Stage::Program(header, spaces, draft) => {
-            read_program(alloc, header, spaces, draft, word, words)
-        }
-        Stage::Instr {
-            header,
-            spaces,
-            draft,
-            len,
-            instrs,
-        } => read_instr(alloc, header, spaces, draft, len, instrs, word, words),
-        Stage::Evict(header, spaces, evictions) => {
-            read_evict_or_turn(alloc, header, spaces, evictions, word, words)
-        }
-        Stage::Turn(header, spaces, evictions, turns) => {
-            read_turn_or_close(header, spaces, evictions, turns, word, words)
-        }
-        Stage::Closed(_) => Err(Refusal::Because(Cause::BadWord)),
-    }
 }

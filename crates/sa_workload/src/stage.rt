@@ -1,7 +1,8 @@
 // What the lines so far say, and which line comes next.
-ghost use Rattle.std.specs.Prelude.{◌≡◌};
-ghost use Rattle.sa_workload.specs.Stage.{machine_of, draft_of, position_of};
-ghost use Rattle.sa_workload.specs.Steps.{after_fetch as behind_fetch, after_sem as behind_sem, after_spaces as behind_spaces};
+ghost use Rattle.std.specs.Prelude.{◌≡◌, IfSome};
+ghost use Rattle.sa_spaces.specs.Workload.{IsWorkload};
+ghost use Rattle.sa_workload.specs.Position.{AtVersion, closed};
+ghost use Rattle.sa_workload.specs.Stage.{position_of, workload_of};
 
 use sa_base::ProcNo;
 use sa_instr::{Instr, Program};
@@ -39,95 +40,111 @@ pub(crate) struct SpaceDraft {
     pub programs: Vec<Program>,
 }
 
-/// The line before those of the spaces that comes next, with what the lines before it say.
+/// A line before those of the spaces.
 #[derive(Clone, Copy)]
-pub(crate) enum MachineStage {
+pub(crate) enum MachineLine {
     Version,
-    Processors {
-        version: u16,
-    },
-    Fetch {
-        version: u16,
-        processors: u16,
-    },
-    Slice {
-        version: u16,
-        processors: u16,
-        fetch: u32,
-    },
-    Spaces {
-        version: u16,
-        processors: u16,
-        fetch: u32,
-        slice: u32,
-    },
+    Processors,
+    Fetch,
+    Slice,
+    Spaces,
 }
 
-/// The line that comes next, with what the lines before it say.
-#[derive(Drop)]
+/// The line that comes next.
+#[derive(Clone, Copy)]
 pub(crate) enum Stage {
-    Machine(MachineStage),
-    Space(Header, Vec<SpaceDef>),
-    Sem(Header, Vec<SpaceDef>, SpaceDraft),
+    Machine(MachineLine),
+    Space,
+    Sem,
     /// An absent page, or the first program.
-    Absent(Header, Vec<SpaceDef>, SpaceDraft),
-    Program(Header, Vec<SpaceDef>, SpaceDraft),
-    /// An instruction.
-    Instr {
-        header: Header,
-        spaces: Vec<SpaceDef>,
-        draft: SpaceDraft,
-        /// How many instructions the program has.
-        len: u16,
-        /// Those that were read.
-        instrs: Vec<Instr>,
-    },
+    Absent,
+    Program,
+    Instr,
     /// An eviction, the first turn or the end.
-    Evict(Header, Vec<SpaceDef>, Vec<Evict>),
+    Evict,
     /// A further turn or the end.
-    Turn(Header, Vec<SpaceDef>, Vec<Evict>, Vec<ProcNo>),
-    Closed(Workload),
+    Turn,
+    /// None.
+    Closed,
 }
 
-/// Behind a fetch line: version 1 has no slice.
-pub(crate) fn after_fetch(version: u16, processors: u16, fetch: u32) -> Stage
-    ensures { position_of result ≡ behind_fetch version processors fetch }
-{
-    let next = if version == 1 {
-        MachineStage::Spaces {
-            version,
-            processors,
-            fetch,
-            slice: 0,
-        }
-    } else {
-        MachineStage::Slice {
-            version,
-            processors,
-            fetch,
-        }
-    };
-    Stage::Machine(next)
+/// A reader behind some lines. What is not said yet counts for nothing.
+#[derive(Drop)]
+pub(crate) struct Reader {
+    pub stage: Stage,
+    pub header: Header,
+    /// The spaces that are whole.
+    pub spaces: Vec<SpaceDef>,
+    /// The space that is read.
+    pub draft: SpaceDraft,
+    /// How many instructions the program that is read has.
+    pub len: u16,
+    /// Its instructions so far.
+    pub instrs: Vec<Instr>,
+    pub evictions: Vec<Evict>,
+    pub turns: Vec<ProcNo>,
 }
 
-/// Behind the first line of a space, or a semaphore.
-pub(crate) fn after_sem(header: Header, spaces: Vec<SpaceDef>, draft: SpaceDraft) -> Stage
-    ensures { position_of result ≡ behind_sem (machine_of header) spaces.items (draft_of draft) }
-{
-    if draft.sems.len() == usize::from(draft.sem_count) {
-        Stage::Absent(header, spaces, draft)
-    } else {
-        Stage::Sem(header, spaces, draft)
+impl SpaceDraft {
+    /// A draft that says nothing.
+    pub(crate) fn new(alloc: Global) -> SpaceDraft {
+        SpaceDraft {
+            priority: 0,
+            mutexes: 0,
+            sem_count: 0,
+            cells: 0,
+            program_count: 0,
+            patience: 1,
+            sems: Vec::new(alloc),
+            absent: Vec::new(alloc),
+            programs: Vec::new(alloc),
+        }
     }
 }
 
-/// Behind a whole space.
-pub(crate) fn after_spaces(alloc: Global, header: Header, spaces: Vec<SpaceDef>) -> Stage
-    ensures { position_of result ≡ behind_spaces (machine_of header) spaces.items }
-{
-    if spaces.len() == usize::from(header.count) {
-        Stage::Evict(header, spaces, Vec::new(alloc))
-    } else {
-        Stage::Space(header, spaces)
+impl Reader {
+    /// A reader before the first line.
+    pub(crate) fn new(alloc: Global) -> Reader
+        ensures { position_of result ≡ AtVersion }
+    {
+        Reader {
+            stage: Stage::Machine(MachineLine::Version),
+            header: Header {
+                version: 1,
+                processors: 1,
+                fetch: 1,
+                slice: 0,
+                count: 1,
+            },
+            spaces: Vec::new(alloc),
+            draft: SpaceDraft::new(alloc),
+            len: 0,
+            instrs: Vec::new(alloc),
+            evictions: Vec::new(alloc),
+            turns: Vec::new(alloc),
+        }
+    }
+
+    /// The workload that was read, if no line is to come.
+    pub(crate) fn finish(self) -> Option<Workload>
+        requires { IfSome (closed (position_of self)) IsWorkload }
+        ensures { result ≡ closed (position_of self) }
+    {
+        match self.stage {
+            Stage::Closed => Some(self.workload()),
+            _ => None,
+        }
+    }
+
+    /// The workload of what was read.
+    fn workload(self) -> Workload
+        requires { IsWorkload (workload_of self) }
+        ensures { result ≡ workload_of self }
+    {
+        let header = self.header;
+        Workload::new(header.processors, header.fetch, self.spaces, self.evictions, self.turns)
+            .unwrap()
+            .with_slice(header.slice)
+            .unwrap()
     }
 }

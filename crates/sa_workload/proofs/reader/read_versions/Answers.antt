@@ -9,7 +9,7 @@ use Rattle.sa_workload.proofs.reader.read_versions.Goals as goal
 
 pub loop-line-init : goal.loop-line-init
 unfolding read_of
-loop-line-init c = (
+loop-line-init c = rw c.new-reader.ensures (
   c.new-lines.ensures.text,
   tt,
   ap (read_from c.args.versions 1 AtVersion) (sym c.new-lines.ensures.bytes)
@@ -19,9 +19,9 @@ loop-line-init c = (
 pub loop-line-preserved : goal.loop-line-preserved
 loop-line-preserved c = (
   c.in-Some.ensures.text ∙ c.loop-line.invariant.0,
-  reached_behind c.args.versions c.requires (position_of c.loop-line.stage) (position_of c.in-Ok.next) (text_of_line c.args.bytes.now c.in-Some.line) c.loop-line.invariant.1 c.in-Ok.ensures,
+  reached_behind c.args.versions c.requires (position_of c.loop-line.reader) (position_of c.read_line.new.self) (text_of_line c.args.bytes.now c.in-Some.line) c.loop-line.invariant.1 c.in_default-read_line.ensures,
   c.loop-line.invariant.2
-      ∙ read_on c.args.versions c.loop-line.lines.number c.next.new.self.number (position_of c.loop-line.stage) (position_of c.in-Ok.next)
+      ∙ read_on c.args.versions c.loop-line.lines.number c.next.new.self.number (position_of c.loop-line.reader) (position_of c.read_line.new.self)
       (map (text_of_line c.args.bytes.now) c.loop-line.lines.left) (map (text_of_line c.args.bytes.now) c.next.new.self.left) (text_of_line c.args.bytes.now c.in-Some.line)
-      (ap (map (text_of_line c.args.bytes.now)) c.in-Some.ensures.first) c.in-Some.ensures.number.1 c.in-Ok.ensures,
+      (ap (map (text_of_line c.args.bytes.now)) c.in-Some.ensures.first) c.in-Some.ensures.number.1 c.in_default-read_line.ensures,
 )
