@@ -1,5 +1,3 @@
-pub mod FirstWords
-pub mod Readings
 pub mod LineAt
 pub mod Causes
 pub mod OneCause

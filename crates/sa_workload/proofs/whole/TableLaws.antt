@@ -1,29 +1,31 @@
 -- The table of lines is tied to the texts: a first wrong word is the first with which no text goes on, and where all words are
 -- right, only `end` is missing.
-use Rattle.std.proofs.Common.{◌≡◌, ◌≢◌, ℕ, suc, ◌+◌, ◌<◌, ◌≤◌, ◌==◌, ◌&&◌, not, Bool, true, false, List, [], ◌∷◌, ◌++◌, length, map, take, Contains, Option, None, Result, Ok, Err, codes, decimal, if◌then◌else◌, refl, sym, ap, ap₂, ◌∙◌, subst, inl, inr, arith, append_assoc, append-nil}
+use Rattle.std.proofs.Common.{◌≡◌, ◌≢◌, ℕ, suc, ◌+◌, ◌<◌, ◌≤◌, ◌==◌, ◌&&◌, not, Bool, true, false, List, [], ◌∷◌, ◌++◌, length, get_or, map, take, Contains, Option, None, Some, Result, Ok, Err, codes, decimal, if◌then◌else◌, refl, sym, ap, ap₂, ◌∙◌, subst, inl, inr, arith, append_assoc, append-nil}
 use Rattle.std.specs.Option.{is_some}
 use Rattle.std.specs.Str.{bytes_eq}
 use Rattle.std.specs.Str.Parse.{digits_value}
 use Rattle.std.proofs.lemmas.Bool.{false_from_ne_true}
 use Rattle.std.proofs.lemmas.List.{length-map}
+use Rattle.std.proofs.lemmas.List.Elements.{All-map}
+use Rattle.sa_instr.specs.Parts.{parts_of}
 use Rattle.sa_workload.specs.Text.{instr_line}
-use Rattle.sa_workload.specs.Bad.{Begins, MayFollow, IsRightWord, IsTooMany, Field, Register, Number, IsRightFor, IsFirstWrong, AreRight, IsInOrder, list_lt, numbers_of, instr_words, last_line, fields_behind}
+use Rattle.sa_workload.specs.Bad.{first_word, Begins, MayFollow, IsRightWord, IsTooMany, Field, Register, Number, IsRightFor, IsFirstWrong, AreRight, IsInOrder, list_lt, numbers_of, instr_words, last_line, fields_behind}
 use Rattle.sa_workload.specs.Laws.{IsFirstWrongPlace, IsFree, FirstWrongWords, IsLastPlace, LastCauseIsNoEnd}
 use Rattle.sa_workload.specs.Fields.{and_then, index_of, order_cause}
 use Rattle.sa_workload.specs.Position.{Position, AtVersion, AtAbsent, AtInstr, AtEvict, AtTurn, Closed, shown, shown_spaces, shown_draft}
 use Rattle.sa_workload.specs.Steps.{expected, workload, after_instr}
 use Rattle.sa_workload.specs.Next.{numbers_at, is_full, last_numbers, fields_of, is_end, step, step_instr, evict_from, turn_from, next}
-use Rattle.sa_workload.proofs.fields.FieldLemmas.{register-spelled, same_ok, if_either, and_then-ok, contained, spelled, Passes, spelled_all, AllPass, right-read}
-use Rattle.sa_workload.proofs.fields.InstrLemmas.{instr-read}
+use Rattle.sa_workload.proofs.fields.FieldLemmas.{known_word, register-spelled, same_ok, if_either, and_then-ok, contained, spelled, Passes, spelled_all, AllPass, right-read}
+use Rattle.sa_workload.proofs.fields.InstrLemmas.{instr-read, operation-expected}
 use Rattle.sa_workload.proofs.causes.Causes.{word_end, IsStuck, step-err}
 use Rattle.sa_workload.proofs.forward.Completion.{begins_front}
 use Rattle.sa_workload.proofs.forward.Orders.{none-order}
 use Rattle.sa_workload.proofs.causes.OneCause.{right_not_wrong}
 use Rattle.sa_workload.proofs.forward.Sound.{Took, took}
 use Rattle.sa_workload.proofs.forward.Complete.{complete, take-line, run, run-append}
-use Rattle.sa_workload.proofs.causes.LineAt.{OrderAt, free, behind, LineAt, line_at, numbers_of-spelled}
+use Rattle.sa_workload.proofs.causes.LineAt.{many-Decides, LineAt, line_at, numbers_of-spelled, ordered-numbers}
+use Rattle.sa_workload.proofs.forward.Says.{ordered_words, is_ordered, ordered-Decides, numbers_before}
 use Rattle.sa_workload.proofs.forward.Standing.{IsAt, Setting, at_first, at_next, begins, begins-next, expected_words}
-use Rattle.sa_workload.proofs.causes.FirstWords.{instrs_begin}
 
 -- a reader that went through lines stands behind them
 run-at : (versions : ℕ) → versions ≤ 3 → (ls : List (List (List ℕ))) (p q : Position) → IsAt versions p → run versions p ls ≡ Ok q → IsAt versions q × (shown q ≡ shown p ++ ls)
@@ -181,12 +183,12 @@ wrong_at : (versions : ℕ) → Setting versions → (p : Position) → IsAt ver
 wrong_at versions s p a word words why follow free_of wrong =
     let n = begins-next versions s p (word ∷ follow.others) a follow.begins in
     let t : Took versions p word follow.others n.0 = took versions p word follow.others n.0 n.1 in
-    let at : LineAt versions p word = line_at versions s.few p word a.reached t.known in
+    let at : LineAt versions p word = line_at versions s.few p word a t.known in
     let mix : Mixed (fields_of versions p word) words =
     mixed (fields_of versions p word) words why t.numbers t.passes (subst (λ (fs : List Field). IsFirstWrong fs words why) at.fields wrong) in
     let to = step_alike versions p word t.numbers mix.numbers n.0 t.known t.passes mix.passes t.to in
     let leads : next versions p (word ∷ spelled_all (fields_of versions p word) mix.numbers) ≡ Ok to.0 =
-    take-line versions p word mix.numbers to.0 t.known t.room mix.passes (no_order at.order mix.numbers) to.1 in (
+    take-line versions p word mix.numbers to.0 t.known t.room mix.passes (no_order at mix.numbers) to.1 in (
       mix.place,
       record {
         within = mix.within;
@@ -208,9 +210,10 @@ wrong_at versions s p a word words why follow free_of wrong =
     next_place : (k : ℕ) → k + 1 ≡ suc k
     next_place k = omega arith
 
-    no_order : OrderAt p word (fields_of versions p word) → (ns : List ℕ) → order_cause (last_numbers p word) ns ≡ None
-    no_order (free none f) ns = ap (λ (o : Option (List ℕ)). order_cause o ns) none
-    no_order (behind old is own first numbers long are) ns = absurd (free_of (own, first))
+    no_order : LineAt versions p word → (ns : List ℕ) → order_cause (last_numbers p word) ns ≡ None
+    no_order at ns = ap (λ (o : Option (List ℕ)). order_cause o ns)
+        (sym at.order ∙ ap (λ (b : Bool). if b then Some (numbers_of (length (fields_of versions p word)) (last_line (shown p))) else None)
+        (false_from_ne_true (is_ordered (last_line (shown p)) word) (λ t. free_of ((ordered-Decides (last_line (shown p)) word).0 t))))
 
 pub first_wrong_words : (versions : ℕ) → Setting versions → FirstWrongWords versions
 first_wrong_words versions s lines word words why follow free_of wrong =
@@ -231,26 +234,32 @@ stuck_at : (versions : ℕ) → Setting versions → (p : Position) → IsAt ver
     → ¬ Begins versions (shown p ++ (word ∷ words) ∷ []) → IsStuckLine (shown p) word
 stuck_at versions s p a word words right few are order long none =
     let known : is_some (index_of word (expected p)) ≡ true = expected_words versions s p word a right in
-    let at : LineAt versions p word = line_at versions s.few p word a.reached known in
+    let at : LineAt versions p word = line_at versions s.few p word a known in
     let ns = right_numbers fields words (subst (λ (fs : List Field). AreRight fs words) at.fields are) (long ∙ ap length at.fields) in
     let in_order : order_cause (last_numbers p word) ns.0 ≡ None =
-    ordered at.order ns.0 ns.1 (subst (λ (ws : List (List ℕ)). IsInOrder (shown p) (length fields) (word ∷ ws)) ns.2
+    ordered at ns.0 ns.1 (subst (λ (ws : List (List ℕ)). IsInOrder (shown p) (length fields) (word ∷ ws)) ns.2
     (subst (λ (fs : List Field). IsInOrder (shown p) (length fs) (word ∷ words)) at.fields order)) in
     by_step (step p word ns.0) (λ q e. none (subst (λ (ws : List (List ℕ)). Begins versions (shown p ++ (word ∷ ws) ∷ [])) (sym ns.2)
     (goes_on_with versions s p q (word ∷ spelled_all fields ns.0) a
-    (take-line versions p word ns.0 q known (false_from_ne_true (is_full p word) (λ t. few (at.many t))) ns.1 in_order e))))
+    (take-line versions p word ns.0 q known (false_from_ne_true (is_full p word) (λ t. few ((many-Decides (shown p) word).0 (at.full ∙ t)))) ns.1 in_order e))))
     (λ why e. stuck known (step-err versions p word ns.0 why known ns.1 e))
   where
     fields : List Field
     fields = fields_of versions p word
 
-    ordered : OrderAt p word fields → (ns : List ℕ) → AllPass fields ns → IsInOrder (shown p) (length fields) (word ∷ spelled_all fields ns) → order_cause (last_numbers p word) ns ≡ None
-    ordered (free none f) ns pass o = ap (λ (x : Option (List ℕ)). order_cause x ns) none
-    ordered (behind old is own first numbers len all) ns pass o =
-        let new : numbers_of (length fields) (word ∷ spelled_all fields ns) ≡ ns =
-        ap (λ (ws : List (List ℕ)). map (digits_value 10) (take (length fields) ws)) (sym (append-nil (spelled_all fields ns))) ∙ numbers_of-spelled fields ns [] all pass in
-        let above : list_lt (numbers_of (length fields) (last_line (shown p))) (numbers_of (length fields) (word ∷ spelled_all fields ns)) ≡ true = o own first in
-        ap (λ (x : Option (List ℕ)). order_cause x ns) is ∙ none-order old ns (ap₂ list_lt (sym numbers) (sym new) ∙ above)
+    ordered : LineAt versions p word → (ns : List ℕ) → AllPass fields ns → IsInOrder (shown p) (length fields) (word ∷ spelled_all fields ns) → order_cause (last_numbers p word) ns ≡ None
+    ordered at ns pass o =
+        let old : List ℕ = numbers_of (length fields) (last_line (shown p)) in
+        ap (λ (x : Option (List ℕ)). order_cause x ns) (sym at.order)
+        ∙ elim (if_either (is_ordered (last_line (shown p)) word) (Some old) None (numbers_before (last_line (shown p)) word (length fields)) refl) [
+          | inr free ↦ ap (λ (x : Option (List ℕ)). order_cause x ns) (sym free.1)
+          | inl behind ↦
+              let is = (ordered-Decides (last_line (shown p)) word).0 behind.0 in
+              let new : numbers_of (length fields) (word ∷ spelled_all fields ns) ≡ ns =
+              ap (λ (ws : List (List ℕ)). map (digits_value 10) (take (length fields) ws)) (sym (append-nil (spelled_all fields ns)))
+              ∙ numbers_of-spelled fields ns [] (ordered-numbers versions (numbers_at p) word (known_word ordered_words word is.0)) pass in
+              ap (λ (x : Option (List ℕ)). order_cause x ns) (sym behind.1) ∙ none-order old ns (ap (list_lt old) (sym new) ∙ o is.0 is.1)
+        ]
 
     stuck : is_some (index_of word (expected p)) ≡ true → {why : ℕ} → IsStuck p word why → IsStuckLine (shown p) word
     stuck known k = (
@@ -259,7 +268,8 @@ stuck_at versions s p a word words right few are order long none =
         len = k.len;
         instrs = map instr_line k.instrs;
         whole = sym (append_assoc (shown_spaces k.machine k.spaces) (shown_draft k.machine.version k.draft) ((codes "program" ∷ decimal k.len ∷ []) ∷ map instr_line k.instrs));
-        each = instrs_begin k.instrs;
+        each = All-map (λ (l : List (List ℕ)). Contains instr_words (first_word l)) instr_line k.instrs
+            (λ j i h. contained instr_words (first_word (instr_line (get_or k.instrs j i))) (operation-expected (parts_of (get_or k.instrs j i)).operation));
         last = ap (λ (n : ℕ). n + 1) (length-map k.instrs instr_line) ∙ k.last;
       },
       contained instr_words word (ap (λ (q : Position). is_some (index_of word (expected q))) (sym k.is) ∙ known),
