@@ -2,3 +2,4 @@ pub mod TextLemmas
 pub mod OneBad
 pub mod Whole
 pub mod TableLaws
+pub mod Same

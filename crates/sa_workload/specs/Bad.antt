@@ -1,9 +1,11 @@
 -- Where a text is wrong, and why: the first line that no text has in its place, and the first cause that applies to it.
 -- All of it speaks of the lines of the text, and of the workloads whose texts begin with the lines before.
-use Rattle.std.specs.Prelude.{◌≡◌, ◌≢◌, ◌⊎◌, ℕ, ◌+◌, ◌-◌, ◌^◌, ◌<◌, ◌≤◌, ◌==◌, ◌&&◌, ◌||◌, not, nat_lt, nat_le, if◌then◌else◌, Bool, true, false, List, [], ◌∷◌, ◌++◌, length, map, take, filter, count_by, slice_get, slice_index_or, MatchOption, unwrap_or, ⊤, IsTrue, All, Contains, drop, codes, decimal}
+use Rattle.std.specs.Prelude.{◌≡◌, ◌≢◌, ◌⊎◌, ℕ, ◌+◌, ◌-◌, ◌^◌, ◌<◌, ◌≤◌, ◌==◌, ◌&&◌, ◌||◌, not, nat_lt, nat_le, if◌then◌else◌, Bool, true, false, List, [], ◌∷◌, ◌++◌, length, map, take, filter, count_by, slice_get, slice_index_or, MatchOption, unwrap_or, ⊤, IsTrue, IfSome, Option, Some, None, Result, Ok, Err, All, Contains, drop, codes, decimal}
 use Rattle.std.specs.Map.{lookup}
 use Rattle.std.specs.Str.Parse.{digits_value}
 use Rattle.std.specs.List.{list_all}
+use Rattle.std.specs.Option.{is_some}
+use Rattle.std.specs.Result.{is_ok}
 use Rattle.std.specs.Str.{bytes_eq}
 use Rattle.sa_base.specs.declared.limits.TheConstants.{FIRST_THREAD_PAGE, MAX_EVENTS, MAX_PROCESSORS, MAX_SPACES}
 use Rattle.sa_instr.specs.declared.limits.TheConstants.{LAST_PAGE, MAX_CELLS, MAX_EVICTIONS, MAX_FETCH, MAX_INSTRUCTIONS, MAX_IO_LENGTH, MAX_MUTEXES, MAX_PATIENCE, MAX_PRIORITY, MAX_PROGRAMS, MAX_SEMAPHORES, MAX_SLICE, MAX_START, MAX_TURNS}
@@ -15,6 +17,8 @@ use Rattle.sa_spaces.specs.Workload.{WorkloadView, IsWorkload}
 use Rattle.sa_text.specs.LineText.{LineText, line_texts}
 use Rattle.sa_text.specs.Pieces.{pieces_of}
 use Rattle.sa_workload.specs.Text.{workload_lines, version_of}
+use Rattle.sa_workload.specs.Fields.{index_of, fields_at, line_numbers}
+pub use Rattle.sa_workload.specs.Fields.{Field, Register, Number, registers, list_lt}
 
 -- a workload whose text is of one of so many versions
 pub record IsUpTo (versions : ℕ) (w : WorkloadView) : Type 0 where
@@ -32,15 +36,6 @@ pub record Begins (versions : ℕ) (lines : List (List (List ℕ))) : Type 0 whe
 pub record MayFollow (versions : ℕ) (lines : List (List (List ℕ))) (word : List ℕ) : Type 0 where
   pub others : List (List ℕ)
   pub begins : Begins versions (lines ++ (word ∷ others) ∷ [])
-
--- the words of the registers
-abbrev pub registers : List (List ℕ)
-registers = codes "r0" ∷ codes "r1" ∷ codes "r2" ∷ codes "r3" ∷ codes "r4" ∷ codes "r5" ∷ codes "r6" ∷ codes "r7" ∷ []
-
--- one list of numbers before another of the same length, compared from the left
-abbrev pub list_lt : List ℕ → List ℕ → Bool
-list_lt (x ∷ xs) (y ∷ ys) = nat_lt x y || ((x == y) && list_lt xs ys)
-list_lt xs ys = false
 
 -- the words that instructions begin with
 abbrev pub instr_words : List (List ℕ)
@@ -74,11 +69,6 @@ count_of_word lines word = count_by (λ line. bytes_eq (first_word line) word) l
 abbrev pub IsTooMany : List (List (List ℕ)) → List ℕ → Type 0
 IsTooMany lines word =
     ((word ≡ codes "evict") × (MAX_EVICTIONS ≤ count_of_word lines word)) ⊎ ((word ≡ codes "turn") × (MAX_TURNS ≤ count_of_word lines word))
-
--- What stands behind the first word: a register, or a number below 2 ^ 64 that passes a test, else it is refused with a cause.
-pub data Field : Type 0 where
-  Register : Field
-  Number : (ℕ → Bool) → ℕ → Field
 
 -- a number between these two, else why 4
 abbrev pub within : ℕ → ℕ → Field
@@ -209,6 +199,37 @@ IsInOrder lines count line =
     Contains (codes "absent" ∷ codes "evict" ∷ []) (first_word line) → first_word (last_line lines) ≡ first_word line
     → IsTrue (list_lt (numbers_of count (last_line lines)) (numbers_of count line))
 
+-- the words whose lines keep an order
+abbrev pub ordered_words : List (List ℕ)
+ordered_words = codes "absent" ∷ codes "evict" ∷ []
+
+-- a line of the word has to be behind the last line
+abbrev pub is_ordered : List (List ℕ) → List ℕ → Bool
+is_ordered last word = is_some (index_of word ordered_words) && bytes_eq (first_word last) word
+
+-- the numbers of the last line, where a line of the word has to be behind it
+abbrev pub numbers_before : List (List ℕ) → List ℕ → ℕ → Option (List ℕ)
+numbers_before last word count = if is_ordered last word then Some (numbers_of count last) else None
+
+abbrev pub cause_in : Result (List ℕ) ℕ → ℕ
+cause_in (Ok ns) = 9
+cause_in (Err why) = why
+
+-- said by functions
+abbrev pub IsFirstWrongBy : List Field → List (List ℕ) → ℕ → Type 0
+IsFirstWrongBy fields words why = fields_at fields words ≡ Err why
+
+abbrev pub AreRightBy : List Field → List (List ℕ) → Type 0
+AreRightBy fields words = is_ok (fields_at fields words) ≡ true
+
+abbrev pub IsInOrderBy : List (List (List ℕ)) → ℕ → List (List ℕ) → Type 0
+IsInOrderBy lines count line =
+    IfSome (numbers_before (last_line lines) (first_word line) count) (λ old. IsTrue (list_lt old (numbers_of count line)))
+
+abbrev pub FieldCauseBy : List (List (List ℕ)) → List Field → List ℕ → List (List ℕ) → ℕ → Type 0
+FieldCauseBy lines fields word words why =
+    cause_in (line_numbers fields (numbers_before (last_line lines) word (length fields)) words) ≡ why
+
 -- the first cause that applies behind a right first word
 abbrev pub FieldCause : List (List (List ℕ)) → List Field → List ℕ → List (List ℕ) → ℕ → Type 0
 FieldCause lines fields word words why =
@@ -228,6 +249,14 @@ WordCause versions lines (word ∷ words) why =
     × ((IsTooMany lines word × (why ≡ 8))
     ⊎ ((¬ IsTooMany lines word) × FieldCause lines (fields_behind versions lines word) word words why)))
 
+abbrev pub WordCauseBy : ℕ → List (List (List ℕ)) → List (List ℕ) → ℕ → Type 0
+WordCauseBy versions lines [] why = ⊥
+WordCauseBy versions lines (word ∷ words) why =
+    ((¬ IsRightWord versions lines word) × (why ≡ 2))
+    ⊎ (IsRightWord versions lines word
+    × ((IsTooMany lines word × (why ≡ 8))
+    ⊎ ((¬ IsTooMany lines word) × FieldCauseBy lines (fields_behind versions lines word) word words why)))
+
 -- every byte is one of the printed ASCII characters
 abbrev pub IsPrinted : List ℕ → Type 0
 IsPrinted bytes = All (λ b. (32 ≤ b) × (b ≤ 126)) bytes
@@ -238,6 +267,12 @@ LineCause versions lines line why =
     ((¬ IsPrinted line.bytes) × (why ≡ 1))
     ⊎ (IsPrinted line.bytes
     × (((line.ended ≡ false) × (why ≡ 9)) ⊎ ((line.ended ≡ true) × WordCause versions lines (pieces_of line.bytes) why)))
+
+abbrev pub LineCauseBy : ℕ → List (List (List ℕ)) → LineText → ℕ → Type 0
+LineCauseBy versions lines line why =
+    ((¬ IsPrinted line.bytes) × (why ≡ 1))
+    ⊎ (IsPrinted line.bytes
+    × (((line.ended ≡ false) × (why ≡ 9)) ⊎ ((line.ended ≡ true) × WordCauseBy versions lines (pieces_of line.bytes) why)))
 
 -- the lines of some bytes, in words
 abbrev pub words_of : List LineText → List (List (List ℕ))
@@ -253,6 +288,15 @@ pub record IsBad (versions : ℕ) (ls : List LineText) (k why : ℕ) : Type 0 wh
       ((k ≡ length ls + 1) × ((w : WorkloadView) → IsUpTo versions w → workload_lines w ≢ words_of ls) × (why ≡ 9))
       (λ line. (line.ended ≡ true → ¬ Begins versions (words_of (take (k - 1) ls) ++ pieces_of line.bytes ∷ []))
       × LineCause versions (words_of (take (k - 1) ls)) line why)
+
+pub record IsBadBy (versions : ℕ) (ls : List LineText) (k why : ℕ) : Type 0 where
+  pub number : 1 ≤ k
+  pub ended : All (λ (l : LineText). l.ended ≡ true) (take (k - 1) ls)
+  pub begins : Begins versions (words_of (take (k - 1) ls))
+  pub wrong : MatchOption (slice_get ls (k - 1))
+      ((k ≡ length ls + 1) × ((w : WorkloadView) → IsUpTo versions w → workload_lines w ≢ words_of ls) × (why ≡ 9))
+      (λ line. (line.ended ≡ true → ¬ Begins versions (words_of (take (k - 1) ls) ++ pieces_of line.bytes ∷ []))
+      × LineCauseBy versions (words_of (take (k - 1) ls)) line why)
 
 -- The bytes are bad at line k, counted from 1, with this cause; by all versions, and by version 1 alone.
 abbrev pub BadAt : List ℕ → ℕ → ℕ → Type 0

@@ -1,11 +1,24 @@
--- What the words behind the first one of a line are read as, by its fields. Private functions of the reader cite this.
-use Rattle.std.specs.Prelude.{ℕ, ◌+◌, List, [], ◌∷◌, Option, Some, None, Result, Ok, Err, if◌then◌else◌}
+-- What the words behind the first one of a line are read as, by its fields.
+use Rattle.std.specs.Prelude.{ℕ, ◌+◌, ◌==◌, ◌&&◌, ◌||◌, nat_lt, Bool, false, codes, List, [], ◌∷◌, Option, Some, None, Result, Ok, Err, if◌then◌else◌}
 use Rattle.std.specs.Option.{option_map}
 use Rattle.std.specs.Str.{bytes_eq}
 use Rattle.sa_base.specs.declared.refusal.Cause.{Cause}
 use Rattle.sa_base.specs.Cause.{cause_number}
 use Rattle.sa_text.specs.Number.{number_of}
-use Rattle.sa_workload.specs.Bad.{Field, Register, Number, registers, list_lt}
+
+-- What stands behind the first word: a register, or a number below 2 ^ 64 that passes a test, else it is refused with a cause.
+pub data Field : Type 0 where
+  Register : Field
+  Number : (ℕ → Bool) → ℕ → Field
+
+-- the words of the registers
+abbrev pub registers : List (List ℕ)
+registers = codes "r0" ∷ codes "r1" ∷ codes "r2" ∷ codes "r3" ∷ codes "r4" ∷ codes "r5" ∷ codes "r6" ∷ codes "r7" ∷ []
+
+-- one list of numbers before another of the same length, compared from the left
+abbrev pub list_lt : List ℕ → List ℕ → Bool
+list_lt (x ∷ xs) (y ∷ ys) = nat_lt x y || ((x == y) && list_lt xs ys)
+list_lt xs ys = false
 
 -- what is made of a value; a cause stays
 abbrev pub and_then : {A B : Type 0} → Result A ℕ → (A → Result B ℕ) → Result B ℕ

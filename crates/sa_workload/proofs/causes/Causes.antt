@@ -1,5 +1,5 @@
 -- A line that is refused at a position is bad behind the lines that it shows, for the same cause.
-use Rattle.std.proofs.Common.{◌≡◌, ◌≢◌, refl, ℕ, ◌+◌, ◌==◌, ◌&&◌, not, Bool, true, false, List, [], ◌∷◌, ◌++◌, length, Option, Some, None, Ok, Err, codes, if◌then◌else◌, sym, ap, ◌∙◌, subst, inl, inr, arith, append-nil, length-append}
+use Rattle.std.proofs.Common.{◌≡◌, ◌≢◌, refl, ℕ, ◌+◌, ◌==◌, ◌&&◌, not, Bool, true, false, List, [], ◌∷◌, ◌++◌, length, Option, Some, None, Result, Ok, Err, codes, if◌then◌else◌, sym, ap, ◌∙◌, subst, inl, inr, arith, append-nil, length-append}
 use Rattle.std.specs.Option.{is_some}
 use Rattle.std.specs.Str.{bytes_eq}
 use Rattle.std.proofs.lemmas.Bool.{false≢true, eqb-true}
@@ -9,14 +9,14 @@ use Rattle.sa_instr.specs.declared.instr.Instr.{Instr}
 use Rattle.sa_instr.specs.declared.instr.Instr.TheVariants.{End}
 use Rattle.sa_spaces.specs.Space.{SpaceView}
 use Rattle.sa_workload.specs.Text.{instr_line}
-use Rattle.sa_workload.specs.Bad.{first_word, last_line, numbers_of, Begins, Field, IsOutOfOrder, IsInOrder, FieldCause, WordCause, list_lt}
+use Rattle.sa_workload.specs.Bad.{ordered_words, is_ordered, numbers_before, first_word, last_line, numbers_of, Begins, Field, IsOutOfOrder, IsInOrder, FieldCause, FieldCauseBy, cause_in, WordCause, list_lt}
 use Rattle.sa_workload.specs.Fields.{and_then, order_cause, line_numbers, index_of}
 use Rattle.sa_workload.specs.Position.{Machine, Draft, Position, AtAbsent, AtInstr, AtEvict, AtTurn, Closed, shown}
 use Rattle.sa_workload.specs.Steps.{expected, after_instr}
 use Rattle.sa_workload.specs.Next.{numbers_at, is_full, last_numbers, fields_of, is_end, step, step_instr, next}
 use Rattle.sa_workload.proofs.fields.FieldLemmas.{known_word, same_err, both_true, if_either, and_then-err, spelled_all, AllPass, all_right, all_long, line-ok, line-err}
 use Rattle.sa_workload.proofs.fields.InstrLemmas.{instr-read}
-use Rattle.sa_workload.proofs.forward.Says.{ordered_words, is_ordered, ordered-Decides, numbers_before}
+use Rattle.sa_workload.proofs.forward.Says.{ordered-Decides}
 use Rattle.sa_workload.proofs.forward.Orders.{order-some, order-none}
 use Rattle.sa_workload.proofs.causes.LineAt.{many-Decides, numbers_of-spelled, ordered-numbers, AreLong, LineAt, line_at}
 use Rattle.sa_workload.proofs.forward.Standing.{IsAt, Setting, begins-next, expects, expected_words}
@@ -109,39 +109,53 @@ step-err versions (Closed w) word ns why known pass h = absurd (cc known)
 step-err versions _ word ns why known pass h = absurd (cc h)
 
 -- the cause behind a first word that is expected
-field_cause : (versions : ℕ) (p : Position) (word : List ℕ) (words : List (List ℕ)) (why : ℕ) → is_some (index_of word (expected p)) ≡ true
+cause_by : (versions : ℕ) (p : Position) (word : List ℕ) (words : List (List ℕ)) (why : ℕ) → is_some (index_of word (expected p)) ≡ true
     → LineAt versions p word → and_then (line_numbers (fields_of versions p word) (last_numbers p word) words) (step p word) ≡ Err why
-    → FieldCause (shown p) (fields_of versions p word) word words why
-field_cause versions p word words why known at h =
-    elim (and_then-err (line_numbers fields (last_numbers p word) words) (step p word) why h) [
-      | inl wrong ↦ elim (line-err fields (last_numbers p word) words why wrong) [
-        | inl first ↦ inl first
-        | inr read ↦ subst (λ (ws : List (List ℕ)). FieldCause (shown p) fields word ws why) (sym read.2)
-            (inr (
-              all_right fields read.0 read.1 read.3,
-              elim read.4 [
-                | inl broken ↦ inl (out_of_order versions p word at read.0 read.1 why read.3 broken)
-                | inr kept ↦ inr (
-                  in_order versions p word at read.0 read.1 read.3 kept.0,
-                  inl (omega (arith, kept.1, (all_long fields read.0 read.3).1, length-append (spelled_all fields read.0) read.1), kept.2),
-                )
-              ],
-            ))
-      ]
+    → FieldCauseBy (shown p) (fields_of versions p word) word words why
+cause_by versions p word words why known at h =
+    ap (λ (o : Option (List ℕ)). cause_in (line_numbers fields o words)) at.order
+    ∙ elim (and_then-err (line_numbers fields (last_numbers p word) words) (step p word) why h) [
+      | inl wrong ↦ ap cause_in wrong
       | inr all ↦
           let line = line-ok fields (last_numbers p word) words all.0 all.1 in
-          subst (λ (ws : List (List ℕ)). FieldCause (shown p) fields word ws why) (sym (line.0 ∙ sym (append-nil (spelled_all fields all.0))))
-          (inr (
-            all_right fields all.0 [] line.1,
-            inr (
-              in_order versions p word at all.0 [] line.1 line.2,
-              inr (omega (arith, (all_long fields all.0 line.1).1, length-append (spelled_all fields all.0) []), (step-err versions p word all.0 why known line.1 all.2).nine),
-            ),
-          ))
+          ap cause_in all.1 ∙ sym (step-err versions p word all.0 why known line.1 all.2).nine
     ]
   where
     fields : List Field
     fields = fields_of versions p word
+
+pub old_by : (versions : ℕ) (p : Position) (word : List ℕ) (words : List (List ℕ)) (why : ℕ) → LineAt versions p word
+    → FieldCauseBy (shown p) (fields_of versions p word) word words why → FieldCause (shown p) (fields_of versions p word) word words why
+old_by versions p word words why at h = by (line_numbers fields (last_numbers p word) words) refl (ap (λ (o : Option (List ℕ)). cause_in (line_numbers fields o words)) (sym at.order) ∙ h)
+  where
+    fields : List Field
+    fields = fields_of versions p word
+
+    by : (r : Result (List ℕ) ℕ) → line_numbers fields (last_numbers p word) words ≡ r → cause_in r ≡ why → FieldCause (shown p) fields word words why
+    by (Err c) wrong same = elim (line-err fields (last_numbers p word) words why (wrong ∙ ap Err same)) [
+      | inl first ↦ inl first
+      | inr read ↦ subst (λ (ws : List (List ℕ)). FieldCause (shown p) fields word ws why) (sym read.2)
+          (inr (
+            all_right fields read.0 read.1 read.3,
+            elim read.4 [
+              | inl broken ↦ inl (out_of_order versions p word at read.0 read.1 why read.3 broken)
+              | inr kept ↦ inr (
+                in_order versions p word at read.0 read.1 read.3 kept.0,
+                inl (omega (arith, kept.1, (all_long fields read.0 read.3).1, length-append (spelled_all fields read.0) read.1), kept.2),
+              )
+            ],
+          ))
+    ]
+    by (Ok ns) all nine =
+        let line = line-ok fields (last_numbers p word) words ns all in
+        subst (λ (ws : List (List ℕ)). FieldCause (shown p) fields word ws why) (sym (line.0 ∙ sym (append-nil (spelled_all fields ns))))
+        (inr (
+          all_right fields ns [] line.1,
+          inr (
+            in_order versions p word at ns [] line.1 line.2,
+            inr (omega (arith, (all_long fields ns line.1).1, length-append (spelled_all fields ns) []), sym nine),
+          ),
+        ))
 
 -- the words of a line that is refused have this cause
 pub word_cause : (versions : ℕ) → Setting versions → (p : Position) (word : List ℕ) (words : List (List ℕ)) (why : ℕ) → IsAt versions p
@@ -155,7 +169,7 @@ word_cause versions s p word words why a h =
             expects versions s p word a known.0,
             elim (if_either (is_full p word) (Err 8) _ (Err why) known.1) [
               | inl full ↦ inl ((many-Decides (shown p) word).0 (at.full ∙ full.0), sym (same_err {A = Position} 8 why full.1))
-              | inr room ↦ inr (not_from_Decides _ (many-Decides (shown p) word) (at.full ∙ room.0), subst (λ (fs : List Field). FieldCause (shown p) fs word words why) (sym at.fields) (field_cause versions p word words why known.0 at room.1))
+              | inr room ↦ inr (not_from_Decides _ (many-Decides (shown p) word) (at.full ∙ room.0), subst (λ (fs : List Field). FieldCause (shown p) fs word words why) (sym at.fields) (old_by versions p word words why at (cause_by versions p word words why known.0 at room.1)))
             ],
           )
     ]

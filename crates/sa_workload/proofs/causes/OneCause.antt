@@ -56,7 +56,7 @@ right_none_wrong (f ∷ fs) [] why r w = absurd r
 right_none_wrong (f ∷ fs) (word ∷ words) why r (inl w) = right_not_wrong f word why r.0 w
 right_none_wrong (f ∷ fs) (word ∷ words) why r (inr w) = right_none_wrong fs words why r.1 w.1
 
-first_wrong_one : (fs : List Field) (words : List (List ℕ)) (why cause : ℕ) → IsFirstWrong fs words why → IsFirstWrong fs words cause → why ≡ cause
+pub first_wrong_one : (fs : List Field) (words : List (List ℕ)) (why cause : ℕ) → IsFirstWrong fs words why → IsFirstWrong fs words cause → why ≡ cause
 first_wrong_one [] words why cause a b = absurd a
 first_wrong_one (f ∷ fs) [] why cause a b = a ∙ sym b
 first_wrong_one (f ∷ fs) (word ∷ words) why cause (inl a) (inl b) = wrong_one f word why cause a b
@@ -94,7 +94,7 @@ in_order_not_out lines count line why i o = pick (i o.0 o.1) o.2
     pick i (inl x) = list_lt-irrefl old new (sym x.0) i
     pick i (inr x) = list_lt-asym old new i x.0
 
-field_cause_one : (lines : List (List (List ℕ))) (fields : List Field) (word : List ℕ) (words : List (List ℕ)) (why cause : ℕ)
+pub field_cause_one : (lines : List (List (List ℕ))) (fields : List Field) (word : List ℕ) (words : List (List ℕ)) (why cause : ℕ)
     → FieldCause lines fields word words why → FieldCause lines fields word words cause → why ≡ cause
 field_cause_one lines fields word words why cause (inl a) (inl b) = first_wrong_one fields words why cause a b
 field_cause_one lines fields word words why cause (inl a) (inr b) = absurd (right_none_wrong fields words why b.0 a)

@@ -8,7 +8,7 @@ use Rattle.sa_instr.specs.declared.instr.Instr.TheVariants.{End}
 use Rattle.sa_spaces.specs.declared.workload.Evict.{Evict}
 use Rattle.sa_spaces.specs.Space.{SpaceView}
 use Rattle.sa_spaces.specs.Workload.{IsEviction}
-use Rattle.sa_workload.specs.Bad.{Begins, MayFollow, IsRightWord, instr_words, first_word, last_line}
+use Rattle.sa_workload.specs.Bad.{is_ordered, numbers_before, Begins, MayFollow, IsRightWord, instr_words, first_word, last_line}
 use Rattle.sa_workload.specs.Position.{Machine, Draft, Position, AtVersion, AtProcessors, AtFetch, AtSlice, AtSpaces, AtSpace, AtSem, AtAbsent, AtProgram, AtInstr, AtEvict, AtTurn, Closed, shown, IsReached}
 use Rattle.sa_workload.specs.Steps.{Steps, step_version, step_processors, step_fetch, step_slice, step_spaces, step_space, step_sem, step_absent, step_first_program, step_program, step_instr, step_evict, step_first_turn, step_first_close, step_close, expected}
 use Rattle.sa_workload.proofs.forward.ShownStep.{shown-step}
@@ -17,7 +17,7 @@ use Rattle.sa_workload.proofs.forward.Completion.{new_draft, new_patience, fits_
 use Rattle.sa_workload.proofs.fields.FieldLemmas.{if_either, contained}
 use Rattle.sa_workload.proofs.forward.Fronts.{last_is}
 use Rattle.sa_workload.proofs.forward.Sound.{by_word}
-use Rattle.sa_workload.proofs.forward.Says.{heard, Says, is_ordered, ordered-Decides, numbers_before}
+use Rattle.sa_workload.proofs.forward.Says.{heard, Says, ordered-Decides}
 use Rattle.sa_workload.specs.Fields.{index_of}
 use Rattle.sa_workload.specs.Next.{last_of, evict_numbers}
 

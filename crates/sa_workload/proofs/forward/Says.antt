@@ -1,7 +1,7 @@
 -- What the lines that a reader has read say, by the definitions of what is bad: each step adds what its line says.
-use Rattle.std.proofs.Common.{◌≡◌, ℕ, ◌+◌, ◌-◌, ◌^◌, ◌<◌, ◌≤◌, ◌==◌, ◌&&◌, ◌||◌, not, Bool, true, false, if◌then◌else◌, List, [], ◌∷◌, ◌++◌, length, map, filter, Contains, Option, None, Some, codes, decimal, refl, sym, ap, ap₂, ◌∙◌, arith, append-nil}
+use Rattle.std.proofs.Common.{◌≡◌, ℕ, ◌+◌, ◌-◌, ◌^◌, ◌<◌, ◌≤◌, ◌==◌, ◌&&◌, ◌||◌, not, Bool, true, false, if◌then◌else◌, List, [], ◌∷◌, ◌++◌, length, map, filter, Contains, None, Some, codes, decimal, refl, sym, ap, ap₂, ◌∙◌, arith, append-nil}
 use Rattle.std.specs.Bool.{⊤, Decides}
-use Rattle.std.specs.Option.{is_some, option_map}
+use Rattle.std.specs.Option.{option_map}
 use Rattle.std.specs.List.{list_all}
 use Rattle.std.specs.Str.{bytes_eq}
 use Rattle.std.specs.Str.Parse.{digits_value}
@@ -21,8 +21,7 @@ use Rattle.sa_instr.specs.declared.limits.TheConstants.{LAST_PAGE}
 use Rattle.sa_spaces.specs.Space.{SpaceView}
 use Rattle.sa_spaces.specs.Workload.{IsEviction}
 use Rattle.sa_workload.specs.Text.{operand_word, instr_line, space_line, evict_line}
-use Rattle.sa_workload.specs.Bad.{first_word, last_line, last_with, count_of_word, number_in, numbers_of}
-use Rattle.sa_workload.specs.Fields.{index_of}
+use Rattle.sa_workload.specs.Bad.{ordered_words, is_ordered, numbers_before, first_word, last_line, last_with, count_of_word, number_in, numbers_of}
 use Rattle.sa_workload.specs.Position.{Machine, Draft, Position, AtVersion, AtProcessors, AtFetch, AtSlice, AtSpaces, AtSpace, AtSem, AtAbsent, AtProgram, AtInstr, AtEvict, AtTurn, Closed, IsReached, version_line, processors_line, fetch_line, spaces_line, draft_line}
 use Rattle.sa_workload.specs.Steps.{Steps, step_version, step_processors, step_fetch, step_slice, step_spaces, step_space, step_sem, step_absent, step_first_program, step_program, step_instr, step_evict, step_first_turn, step_turn, step_first_close, step_close, program_line, space_of_draft, with_sem, with_program, after_sem, after_instr, after_spaces}
 use Rattle.sa_workload.specs.Next.{last_of, evict_numbers}
@@ -37,20 +36,8 @@ reads n h = (decimal_is_IsNumeral n h).1
 abbrev is_patient_line : List (List ℕ) → Bool
 is_patient_line line = not (bytes_eq (first_word line) (codes "space")) || (number_in line 6 == 1)
 
--- the words whose lines keep an order
-abbrev pub ordered_words : List (List ℕ)
-ordered_words = codes "absent" ∷ codes "evict" ∷ []
-
--- a line of the word has to be behind the last line
-abbrev pub is_ordered : List (List ℕ) → List ℕ → Bool
-is_ordered last word = is_some (index_of word ordered_words) && bytes_eq (first_word last) word
-
 pub ordered-Decides : (last : List (List ℕ)) (word : List ℕ) → Decides (is_ordered last word) (Contains ordered_words word × (first_word last ≡ word))
 ordered-Decides last word = Decides-and _ _ (contained ordered_words word, known_word ordered_words word) (bytes_eq-Decides (first_word last) word)
-
--- the numbers of the last line, where a line of the word has to be behind it
-abbrev pub numbers_before : List (List ℕ) → List ℕ → ℕ → Option (List ℕ)
-numbers_before last word count = if is_ordered last word then Some (numbers_of count last) else None
 
 -- of some lines, the last one of each word and how many there are, whether each space has patience 1, and the last of all
 pub record Heard : Type 0 where

@@ -9,7 +9,7 @@ use Rattle.std.proofs.lemmas.List.{length-map}
 use Rattle.std.proofs.lemmas.List.Elements.{All-map}
 use Rattle.sa_instr.specs.Parts.{parts_of}
 use Rattle.sa_workload.specs.Text.{instr_line}
-use Rattle.sa_workload.specs.Bad.{first_word, Begins, MayFollow, IsRightWord, IsTooMany, Field, Register, Number, IsRightFor, IsFirstWrong, AreRight, IsInOrder, list_lt, numbers_of, instr_words, last_line, fields_behind}
+use Rattle.sa_workload.specs.Bad.{ordered_words, is_ordered, numbers_before, first_word, Begins, MayFollow, IsRightWord, IsTooMany, Field, Register, Number, IsRightFor, IsFirstWrong, AreRight, IsInOrder, list_lt, numbers_of, instr_words, last_line, fields_behind}
 use Rattle.sa_workload.specs.Laws.{IsFirstWrongPlace, IsFree, FirstWrongWords, IsLastPlace, LastCauseIsNoEnd}
 use Rattle.sa_workload.specs.Fields.{and_then, index_of, order_cause}
 use Rattle.sa_workload.specs.Position.{Position, AtVersion, AtAbsent, AtInstr, AtEvict, AtTurn, Closed, shown, shown_spaces, shown_draft}
@@ -24,7 +24,7 @@ use Rattle.sa_workload.proofs.causes.OneCause.{right_not_wrong}
 use Rattle.sa_workload.proofs.forward.Sound.{Took, took}
 use Rattle.sa_workload.proofs.forward.Complete.{complete, take-line, run, run-append}
 use Rattle.sa_workload.proofs.causes.LineAt.{many-Decides, LineAt, line_at, numbers_of-spelled, ordered-numbers}
-use Rattle.sa_workload.proofs.forward.Says.{ordered_words, is_ordered, ordered-Decides, numbers_before}
+use Rattle.sa_workload.proofs.forward.Says.{ordered-Decides}
 use Rattle.sa_workload.proofs.forward.Standing.{IsAt, Setting, at_first, at_next, begins, begins-next, expected_words}
 
 -- a reader that went through lines stands behind them
@@ -39,7 +39,7 @@ run-at versions three (l ∷ ls) p q a h =
     (c.0, c.1 ∙ ap (λ (x : List (List (List ℕ))). x ++ ls) b.1 ∙ append_assoc (shown p) (l ∷ []) ls)
 
 -- behind lines that begin a text a reader stands
-stands : (versions : ℕ) → Setting versions → (lines : List (List (List ℕ))) → Begins versions lines → (p : Position) × IsAt versions p × (shown p ≡ lines)
+pub stands : (versions : ℕ) → Setting versions → (lines : List (List (List ℕ))) → Begins versions lines → (p : Position) × IsAt versions p × (shown p ≡ lines)
 stands versions s lines b =
     let k = b.accepted in
     let whole : and_then (run versions AtVersion lines) (λ q. run versions q b.more) ≡ Ok (Closed b.workload) =
