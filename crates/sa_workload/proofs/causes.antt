@@ -1,3 +1,2 @@
 pub mod LineAt
 pub mod Causes
-pub mod OneCause

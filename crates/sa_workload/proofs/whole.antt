@@ -2,4 +2,3 @@ pub mod TextLemmas
 pub mod OneBad
 pub mod Whole
 pub mod TableLaws
-pub mod Same

@@ -1,11 +1,10 @@
 -- Where a text is wrong, and why: the first line that no text has in its place, and the first cause that applies to it.
 -- All of it speaks of the lines of the text, and of the workloads whose texts begin with the lines before.
-use Rattle.std.specs.Prelude.{◌≡◌, ◌≢◌, ◌⊎◌, ℕ, ◌+◌, ◌-◌, ◌^◌, ◌<◌, ◌≤◌, ◌==◌, ◌&&◌, ◌||◌, not, nat_lt, nat_le, if◌then◌else◌, Bool, true, false, List, [], ◌∷◌, ◌++◌, length, map, take, filter, count_by, slice_get, slice_index_or, MatchOption, unwrap_or, ⊤, IsTrue, IfSome, Option, Some, None, Result, Ok, Err, All, Contains, drop, codes, decimal}
+use Rattle.std.specs.Prelude.{◌≡◌, ◌≢◌, ◌⊎◌, ℕ, ◌+◌, ◌-◌, ◌^◌, ◌≤◌, ◌==◌, ◌&&◌, ◌||◌, not, nat_lt, nat_le, if◌then◌else◌, Bool, true, false, List, [], ◌∷◌, ◌++◌, length, map, take, filter, count_by, slice_get, slice_index_or, MatchOption, unwrap_or, Option, Some, None, Result, Ok, Err, All, Contains, drop, codes}
 use Rattle.std.specs.Map.{lookup}
 use Rattle.std.specs.Str.Parse.{digits_value}
 use Rattle.std.specs.List.{list_all}
 use Rattle.std.specs.Option.{is_some}
-use Rattle.std.specs.Result.{is_ok}
 use Rattle.std.specs.Str.{bytes_eq}
 use Rattle.sa_base.specs.declared.limits.TheConstants.{FIRST_THREAD_PAGE, MAX_EVENTS, MAX_PROCESSORS, MAX_SPACES}
 use Rattle.sa_instr.specs.declared.limits.TheConstants.{LAST_PAGE, MAX_CELLS, MAX_EVICTIONS, MAX_FETCH, MAX_INSTRUCTIONS, MAX_IO_LENGTH, MAX_MUTEXES, MAX_PATIENCE, MAX_PRIORITY, MAX_PROGRAMS, MAX_SEMAPHORES, MAX_SLICE, MAX_START, MAX_TURNS}
@@ -17,7 +16,7 @@ use Rattle.sa_spaces.specs.Workload.{WorkloadView, IsWorkload}
 use Rattle.sa_text.specs.LineText.{LineText, line_texts}
 use Rattle.sa_text.specs.Pieces.{pieces_of}
 use Rattle.sa_workload.specs.Text.{workload_lines, version_of}
-use Rattle.sa_workload.specs.Fields.{index_of, fields_at, line_numbers}
+use Rattle.sa_workload.specs.Fields.{index_of, line_numbers}
 pub use Rattle.sa_workload.specs.Fields.{Field, Register, Number, registers, list_lt}
 
 -- a workload whose text is of one of so many versions
@@ -155,49 +154,9 @@ fields_by versions n word = unwrap_or (lookup (bytes_eq word) (line_forms versio
 abbrev pub fields_behind : ℕ → List (List (List ℕ)) → List ℕ → List Field
 fields_behind versions lines word = fields_by versions (numbers_in lines) word
 
--- the word is the spelling of no number below 2 ^ 64, or of this one
-abbrev pub IsNoNumber : List ℕ → Type 0
-IsNoNumber word = (n : ℕ) → n < 2 ^ 64 → word ≢ decimal n
-
--- a word that is wrong for its field, with the cause: no register why 2, no number why 3, else the field's own
-abbrev pub IsWrongFor : Field → List ℕ → ℕ → Type 0
-IsWrongFor Register word why = (¬ Contains registers word) × (why ≡ 2)
-IsWrongFor (Number test cause) word why =
-    (IsNoNumber word × (why ≡ 3)) ⊎ ((n : ℕ) × (n < 2 ^ 64) × (word ≡ decimal n) × (test n ≡ false) × (why ≡ cause))
-
--- a word that is right for its field
-abbrev pub IsRightFor : Field → List ℕ → Type 0
-IsRightFor Register word = Contains registers word
-IsRightFor (Number test cause) word = (n : ℕ) × (n < 2 ^ 64) × (word ≡ decimal n) × (test n ≡ true)
-
--- the first wrong word behind the first one, or one that is missing: why 9
-abbrev pub IsFirstWrong : List Field → List (List ℕ) → ℕ → Type 0
-IsFirstWrong [] words why = ⊥
-IsFirstWrong (f ∷ fs) [] why = why ≡ 9
-IsFirstWrong (f ∷ fs) (word ∷ words) why = IsWrongFor f word why ⊎ (IsRightFor f word × IsFirstWrong fs words why)
-
--- every field has its word, right, and words may follow
-abbrev pub AreRight : List Field → List (List ℕ) → Type 0
-AreRight [] words = ⊤
-AreRight (f ∷ fs) [] = ⊥
-AreRight (f ∷ fs) (word ∷ words) = IsRightFor f word × AreRight fs words
-
 -- the numbers behind the first word of a line
 abbrev pub numbers_of : ℕ → List (List ℕ) → List ℕ
 numbers_of count line = map (digits_value 10) (take count (drop 1 line))
-
--- where an absent or evict line follows another of its kind, its numbers are equal to those before, why 5, or smaller, why 4
-abbrev pub IsOutOfOrder : List (List (List ℕ)) → ℕ → List (List ℕ) → ℕ → Type 0
-IsOutOfOrder lines count line why =
-    (Contains (codes "absent" ∷ codes "evict" ∷ []) (first_word line)) × (first_word (last_line lines) ≡ first_word line)
-    × (((numbers_of count line ≡ numbers_of count (last_line lines)) × (why ≡ 5))
-    ⊎ (IsTrue (list_lt (numbers_of count line) (numbers_of count (last_line lines))) × (why ≡ 4)))
-
--- such a line does not follow another of its kind, or its numbers are greater
-abbrev pub IsInOrder : List (List (List ℕ)) → ℕ → List (List ℕ) → Type 0
-IsInOrder lines count line =
-    Contains (codes "absent" ∷ codes "evict" ∷ []) (first_word line) → first_word (last_line lines) ≡ first_word line
-    → IsTrue (list_lt (numbers_of count (last_line lines)) (numbers_of count line))
 
 -- the words whose lines keep an order
 abbrev pub ordered_words : List (List ℕ)
@@ -211,33 +170,14 @@ is_ordered last word = is_some (index_of word ordered_words) && bytes_eq (first_
 abbrev pub numbers_before : List (List ℕ) → List ℕ → ℕ → Option (List ℕ)
 numbers_before last word count = if is_ordered last word then Some (numbers_of count last) else None
 
+-- the cause of words that were read so; 9 where all are right
 abbrev pub cause_in : Result (List ℕ) ℕ → ℕ
 cause_in (Ok ns) = 9
 cause_in (Err why) = why
 
--- said by functions
-abbrev pub IsFirstWrongBy : List Field → List (List ℕ) → ℕ → Type 0
-IsFirstWrongBy fields words why = fields_at fields words ≡ Err why
-
-abbrev pub AreRightBy : List Field → List (List ℕ) → Type 0
-AreRightBy fields words = is_ok (fields_at fields words) ≡ true
-
-abbrev pub IsInOrderBy : List (List (List ℕ)) → ℕ → List (List ℕ) → Type 0
-IsInOrderBy lines count line =
-    IfSome (numbers_before (last_line lines) (first_word line) count) (λ old. IsTrue (list_lt old (numbers_of count line)))
-
-abbrev pub FieldCauseBy : List (List (List ℕ)) → List Field → List ℕ → List (List ℕ) → ℕ → Type 0
-FieldCauseBy lines fields word words why =
-    cause_in (line_numbers fields (numbers_before (last_line lines) word (length fields)) words) ≡ why
-
 -- the first cause that applies behind a right first word
-abbrev pub FieldCause : List (List (List ℕ)) → List Field → List ℕ → List (List ℕ) → ℕ → Type 0
-FieldCause lines fields word words why =
-    IsFirstWrong fields words why
-    ⊎ (AreRight fields words
-    × (IsOutOfOrder lines (length fields) (word ∷ words) why
-    ⊎ (IsInOrder lines (length fields) (word ∷ words)
-    × (((length fields < length words) × (why ≡ 2)) ⊎ ((length words ≡ length fields) × (why ≡ 9))))))
+abbrev pub field_cause : List (List (List ℕ)) → List Field → List ℕ → List (List ℕ) → ℕ
+field_cause lines fields word words = cause_in (line_numbers fields (numbers_before (last_line lines) word (length fields)) words)
 
 -- The first cause that applies to the words of a line: a word that may not begin it, why 2; one line too many, why 8; the
 -- first wrong word, or its order; a word too many, why 2; and where all words are right, the last instruction is not `end`, why 9.
@@ -247,15 +187,7 @@ WordCause versions lines (word ∷ words) why =
     ((¬ IsRightWord versions lines word) × (why ≡ 2))
     ⊎ (IsRightWord versions lines word
     × ((IsTooMany lines word × (why ≡ 8))
-    ⊎ ((¬ IsTooMany lines word) × FieldCause lines (fields_behind versions lines word) word words why)))
-
-abbrev pub WordCauseBy : ℕ → List (List (List ℕ)) → List (List ℕ) → ℕ → Type 0
-WordCauseBy versions lines [] why = ⊥
-WordCauseBy versions lines (word ∷ words) why =
-    ((¬ IsRightWord versions lines word) × (why ≡ 2))
-    ⊎ (IsRightWord versions lines word
-    × ((IsTooMany lines word × (why ≡ 8))
-    ⊎ ((¬ IsTooMany lines word) × FieldCauseBy lines (fields_behind versions lines word) word words why)))
+    ⊎ ((¬ IsTooMany lines word) × (field_cause lines (fields_behind versions lines word) word words ≡ why))))
 
 -- every byte is one of the printed ASCII characters
 abbrev pub IsPrinted : List ℕ → Type 0
@@ -267,12 +199,6 @@ LineCause versions lines line why =
     ((¬ IsPrinted line.bytes) × (why ≡ 1))
     ⊎ (IsPrinted line.bytes
     × (((line.ended ≡ false) × (why ≡ 9)) ⊎ ((line.ended ≡ true) × WordCause versions lines (pieces_of line.bytes) why)))
-
-abbrev pub LineCauseBy : ℕ → List (List (List ℕ)) → LineText → ℕ → Type 0
-LineCauseBy versions lines line why =
-    ((¬ IsPrinted line.bytes) × (why ≡ 1))
-    ⊎ (IsPrinted line.bytes
-    × (((line.ended ≡ false) × (why ≡ 9)) ⊎ ((line.ended ≡ true) × WordCauseBy versions lines (pieces_of line.bytes) why)))
 
 -- the lines of some bytes, in words
 abbrev pub words_of : List LineText → List (List (List ℕ))
@@ -288,15 +214,6 @@ pub record IsBad (versions : ℕ) (ls : List LineText) (k why : ℕ) : Type 0 wh
       ((k ≡ length ls + 1) × ((w : WorkloadView) → IsUpTo versions w → workload_lines w ≢ words_of ls) × (why ≡ 9))
       (λ line. (line.ended ≡ true → ¬ Begins versions (words_of (take (k - 1) ls) ++ pieces_of line.bytes ∷ []))
       × LineCause versions (words_of (take (k - 1) ls)) line why)
-
-pub record IsBadBy (versions : ℕ) (ls : List LineText) (k why : ℕ) : Type 0 where
-  pub number : 1 ≤ k
-  pub ended : All (λ (l : LineText). l.ended ≡ true) (take (k - 1) ls)
-  pub begins : Begins versions (words_of (take (k - 1) ls))
-  pub wrong : MatchOption (slice_get ls (k - 1))
-      ((k ≡ length ls + 1) × ((w : WorkloadView) → IsUpTo versions w → workload_lines w ≢ words_of ls) × (why ≡ 9))
-      (λ line. (line.ended ≡ true → ¬ Begins versions (words_of (take (k - 1) ls) ++ pieces_of line.bytes ∷ []))
-      × LineCauseBy versions (words_of (take (k - 1) ls)) line why)
 
 -- The bytes are bad at line k, counted from 1, with this cause; by all versions, and by version 1 alone.
 abbrev pub BadAt : List ℕ → ℕ → ℕ → Type 0

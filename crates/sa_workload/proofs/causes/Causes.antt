@@ -1,5 +1,5 @@
 -- A line that is refused at a position is bad behind the lines that it shows, for the same cause.
-use Rattle.std.proofs.Common.{◌≡◌, ◌≢◌, refl, ℕ, ◌+◌, ◌==◌, ◌&&◌, not, Bool, true, false, List, [], ◌∷◌, ◌++◌, length, Option, Some, None, Result, Ok, Err, codes, if◌then◌else◌, sym, ap, ◌∙◌, subst, inl, inr, arith, append-nil, length-append}
+use Rattle.std.proofs.Common.{◌≡◌, ◌≢◌, refl, ℕ, ◌+◌, ◌==◌, ◌&&◌, not, Bool, true, false, List, [], ◌∷◌, ◌++◌, length, Option, Ok, Err, codes, if◌then◌else◌, sym, ap, ◌∙◌, inl, inr}
 use Rattle.std.specs.Option.{is_some}
 use Rattle.std.specs.Str.{bytes_eq}
 use Rattle.std.proofs.lemmas.Bool.{false≢true, eqb-true}
@@ -9,51 +9,15 @@ use Rattle.sa_instr.specs.declared.instr.Instr.{Instr}
 use Rattle.sa_instr.specs.declared.instr.Instr.TheVariants.{End}
 use Rattle.sa_spaces.specs.Space.{SpaceView}
 use Rattle.sa_workload.specs.Text.{instr_line}
-use Rattle.sa_workload.specs.Bad.{ordered_words, is_ordered, numbers_before, first_word, last_line, numbers_of, Begins, Field, IsOutOfOrder, IsInOrder, FieldCause, FieldCauseBy, cause_in, WordCause, list_lt}
-use Rattle.sa_workload.specs.Fields.{and_then, order_cause, line_numbers, index_of}
+use Rattle.sa_workload.specs.Bad.{first_word, Begins, Field, field_cause, cause_in, WordCause}
+use Rattle.sa_workload.specs.Fields.{and_then, line_numbers, index_of}
 use Rattle.sa_workload.specs.Position.{Machine, Draft, Position, AtAbsent, AtInstr, AtEvict, AtTurn, Closed, shown}
 use Rattle.sa_workload.specs.Steps.{expected, after_instr}
 use Rattle.sa_workload.specs.Next.{numbers_at, is_full, last_numbers, fields_of, is_end, step, step_instr, next}
-use Rattle.sa_workload.proofs.fields.FieldLemmas.{known_word, same_err, both_true, if_either, and_then-err, spelled_all, AllPass, all_right, all_long, line-ok, line-err}
+use Rattle.sa_workload.proofs.fields.FieldLemmas.{same_err, both_true, if_either, and_then-err, spelled_all, AllPass, line-ok}
 use Rattle.sa_workload.proofs.fields.InstrLemmas.{instr-read}
-use Rattle.sa_workload.proofs.forward.Says.{ordered-Decides}
-use Rattle.sa_workload.proofs.forward.Orders.{order-some, order-none}
-use Rattle.sa_workload.proofs.causes.LineAt.{many-Decides, numbers_of-spelled, ordered-numbers, AreLong, LineAt, line_at}
+use Rattle.sa_workload.proofs.causes.LineAt.{many-Decides, LineAt, line_at}
 use Rattle.sa_workload.proofs.forward.Standing.{IsAt, Setting, begins-next, expects, expected_words}
-
--- an order that is broken, and one that is kept
-out_of_order : (versions : ℕ) (p : Position) (word : List ℕ) → LineAt versions p word → (ns : List ℕ) (rest : List (List ℕ)) (why : ℕ) → AllPass (fields_of versions p word) ns
-    → order_cause (last_numbers p word) ns ≡ Some why
-    → IsOutOfOrder (shown p) (length (fields_of versions p word)) (word ∷ (spelled_all (fields_of versions p word) ns ++ rest)) why
-out_of_order versions p word at ns rest why pass h =
-    let fields : List Field = fields_of versions p word in
-    let last : List (List ℕ) = last_line (shown p) in
-    let cause : order_cause (numbers_before last word (length fields)) ns ≡ Some why = ap (λ (o : Option (List ℕ)). order_cause o ns) at.order ∙ h in
-    elim (if_either (is_ordered last word) (Some (numbers_of (length fields) last)) None (numbers_before last word (length fields)) refl) [
-      | inr free ↦ absurd (cc (ap (λ (o : Option (List ℕ)). order_cause o ns) free.1 ∙ cause))
-      | inl behind ↦
-          let is = (ordered-Decides last word).0 behind.0 in
-          let new = numbers_of-spelled fields ns rest (ordered-numbers versions (numbers_at p) word (known_word ordered_words word is.0)) pass in (
-            is.0,
-            is.1,
-            elim (order-some (numbers_of (length fields) last) ns why (ap (λ (o : Option (List ℕ)). order_cause o ns) behind.1 ∙ cause)) [
-              | inl same ↦ inl (new ∙ same.0, same.1)
-              | inr less ↦ inr (ap (λ (ms : List ℕ). list_lt ms (numbers_of (length fields) last)) new ∙ less.0, less.1)
-            ],
-          )
-    ]
-
-in_order : (versions : ℕ) (p : Position) (word : List ℕ) → LineAt versions p word → (ns : List ℕ) (rest : List (List ℕ)) → AllPass (fields_of versions p word) ns
-    → order_cause (last_numbers p word) ns ≡ None
-    → IsInOrder (shown p) (length (fields_of versions p word)) (word ∷ (spelled_all (fields_of versions p word) ns ++ rest))
-in_order versions p word at ns rest pass h = λ c e.
-    let fields : List Field = fields_of versions p word in
-    let old : List ℕ = numbers_of (length fields) (last_line (shown p)) in
-    let is : last_numbers p word ≡ Some old =
-    sym at.order ∙ ap (λ (b : Bool). if b then Some old else None) ((ordered-Decides (last_line (shown p)) word).1 (c, e)) in
-    ap (list_lt old) (numbers_of-spelled fields ns rest (ordered-numbers versions (numbers_at p) word (known_word ordered_words word c)) pass)
-    ∙ order-none old ns ((all_long fields ns pass).0 ∙ sym (subst (λ (o : Option (List ℕ)). AreLong o (length fields)) is at.long))
-    (ap (λ (o : Option (List ℕ)). order_cause o ns) (sym is) ∙ h)
 
 -- right words that lead nowhere are those of a last instruction that is not `end`
 if_ok : (b : Bool) (q r : Position) (why : ℕ) → (if b then Ok q else Ok r) ≡ Err why → ⊥
@@ -111,7 +75,7 @@ step-err versions _ word ns why known pass h = absurd (cc h)
 -- the cause behind a first word that is expected
 cause_by : (versions : ℕ) (p : Position) (word : List ℕ) (words : List (List ℕ)) (why : ℕ) → is_some (index_of word (expected p)) ≡ true
     → LineAt versions p word → and_then (line_numbers (fields_of versions p word) (last_numbers p word) words) (step p word) ≡ Err why
-    → FieldCauseBy (shown p) (fields_of versions p word) word words why
+    → field_cause (shown p) (fields_of versions p word) word words ≡ why
 cause_by versions p word words why known at h =
     ap (λ (o : Option (List ℕ)). cause_in (line_numbers fields o words)) at.order
     ∙ elim (and_then-err (line_numbers fields (last_numbers p word) words) (step p word) why h) [
@@ -123,39 +87,6 @@ cause_by versions p word words why known at h =
   where
     fields : List Field
     fields = fields_of versions p word
-
-pub old_by : (versions : ℕ) (p : Position) (word : List ℕ) (words : List (List ℕ)) (why : ℕ) → LineAt versions p word
-    → FieldCauseBy (shown p) (fields_of versions p word) word words why → FieldCause (shown p) (fields_of versions p word) word words why
-old_by versions p word words why at h = by (line_numbers fields (last_numbers p word) words) refl (ap (λ (o : Option (List ℕ)). cause_in (line_numbers fields o words)) (sym at.order) ∙ h)
-  where
-    fields : List Field
-    fields = fields_of versions p word
-
-    by : (r : Result (List ℕ) ℕ) → line_numbers fields (last_numbers p word) words ≡ r → cause_in r ≡ why → FieldCause (shown p) fields word words why
-    by (Err c) wrong same = elim (line-err fields (last_numbers p word) words why (wrong ∙ ap Err same)) [
-      | inl first ↦ inl first
-      | inr read ↦ subst (λ (ws : List (List ℕ)). FieldCause (shown p) fields word ws why) (sym read.2)
-          (inr (
-            all_right fields read.0 read.1 read.3,
-            elim read.4 [
-              | inl broken ↦ inl (out_of_order versions p word at read.0 read.1 why read.3 broken)
-              | inr kept ↦ inr (
-                in_order versions p word at read.0 read.1 read.3 kept.0,
-                inl (omega (arith, kept.1, (all_long fields read.0 read.3).1, length-append (spelled_all fields read.0) read.1), kept.2),
-              )
-            ],
-          ))
-    ]
-    by (Ok ns) all nine =
-        let line = line-ok fields (last_numbers p word) words ns all in
-        subst (λ (ws : List (List ℕ)). FieldCause (shown p) fields word ws why) (sym (line.0 ∙ sym (append-nil (spelled_all fields ns))))
-        (inr (
-          all_right fields ns [] line.1,
-          inr (
-            in_order versions p word at ns [] line.1 line.2,
-            inr (omega (arith, (all_long fields ns line.1).1, length-append (spelled_all fields ns) []), sym nine),
-          ),
-        ))
 
 -- the words of a line that is refused have this cause
 pub word_cause : (versions : ℕ) → Setting versions → (p : Position) (word : List ℕ) (words : List (List ℕ)) (why : ℕ) → IsAt versions p
@@ -169,7 +100,7 @@ word_cause versions s p word words why a h =
             expects versions s p word a known.0,
             elim (if_either (is_full p word) (Err 8) _ (Err why) known.1) [
               | inl full ↦ inl ((many-Decides (shown p) word).0 (at.full ∙ full.0), sym (same_err {A = Position} 8 why full.1))
-              | inr room ↦ inr (not_from_Decides _ (many-Decides (shown p) word) (at.full ∙ room.0), subst (λ (fs : List Field). FieldCause (shown p) fs word words why) (sym at.fields) (old_by versions p word words why at (cause_by versions p word words why known.0 at room.1)))
+              | inr room ↦ inr (not_from_Decides _ (many-Decides (shown p) word) (at.full ∙ room.0), ap (λ (fs : List Field). field_cause (shown p) fs word words) at.fields ∙ cause_by versions p word words why known.0 at room.1)
             ],
           )
     ]

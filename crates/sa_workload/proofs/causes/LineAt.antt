@@ -1,7 +1,7 @@
 -- What a line of a word is where a reader stands, and behind the lines before it: the same fields, limit and order.
-use Rattle.std.proofs.Common.{◌≡◌, ◌≢◌, ℕ, ◌-◌, ◌+◌, ◌^◌, ◌<◌, ◌≤◌, ◌==◌, ◌⊎◌, ◌&&◌, ◌||◌, Bool, true, false, if◌then◌else◌, List, [], ◌∷◌, ◌++◌, length, map, take, All, Option, Some, None, codes, decimal, refl, sym, ap, ap₂, ◌∙◌, subst, inl, inr, arith, leb-true, le-leb, nat_le, slice_index_or}
-use Rattle.std.specs.Bool.{⊤, Decides}
-use Rattle.std.specs.Option.{is_some, option_map}
+use Rattle.std.proofs.Common.{◌≡◌, ◌≢◌, ℕ, ◌-◌, ◌+◌, ◌^◌, ◌<◌, ◌≤◌, ◌==◌, ◌⊎◌, ◌&&◌, ◌||◌, Bool, true, false, if◌then◌else◌, List, [], ◌∷◌, length, map, All, None, codes, decimal, refl, sym, ap, ap₂, ◌∙◌, subst, inl, inr, arith, leb-true, le-leb, nat_le, slice_index_or}
+use Rattle.std.specs.Bool.{Decides}
+use Rattle.std.specs.Option.{is_some}
 use Rattle.std.specs.List.{list_all}
 use Rattle.std.specs.Str.{bytes_eq}
 use Rattle.std.specs.Str.Parse.{digits_value}
@@ -18,12 +18,11 @@ use Rattle.sa_instr.specs.declared.operation.Operation.{Operation}
 use Rattle.sa_instr.specs.declared.operation.Operation.TheVariants as Operations
 use Rattle.sa_instr.specs.Operation.{form_of}
 use Rattle.sa_spaces.specs.Space.{SpaceView, IsSpace}
-use Rattle.sa_workload.specs.Bad.{ordered_words, numbers_before, DeclaredNumbers, Field, Register, Number, within, declared, operand_field, fields_by, fields_behind, numbers_in, number_in, last_line, count_of_word, IsTooMany}
+use Rattle.sa_workload.specs.Bad.{numbers_before, DeclaredNumbers, Field, within, declared, operand_field, fields_behind, numbers_in, number_in, last_line, count_of_word, IsTooMany}
 use Rattle.sa_workload.specs.Fields.{index_of}
 use Rattle.sa_workload.specs.Position.{Position, AtSlice, AtSpace, AtAbsent, AtInstr, AtEvict, AtTurn, Closed, shown}
 use Rattle.sa_workload.specs.Steps.{expected}
-use Rattle.sa_workload.specs.Next.{nothing_declared, is_last_impatient, numbers_at, is_full, last_of, evict_numbers, last_numbers, fields_of}
-use Rattle.sa_workload.proofs.fields.FieldLemmas.{spelled_all, AllPass}
+use Rattle.sa_workload.specs.Next.{nothing_declared, is_last_impatient, numbers_at, is_full, last_numbers, fields_of}
 use Rattle.sa_workload.proofs.fields.InstrLemmas.{operation-fields, expected-operation}
 use Rattle.sa_workload.proofs.forward.Says.{reads, heard, is_patient}
 use Rattle.sa_workload.proofs.forward.Sound.{by_word}
@@ -40,38 +39,10 @@ many-Decides lines word = Decides-or _ _ (up_to (codes "evict") MAX_EVICTIONS) (
     up_to : (k : List ℕ) (limit : ℕ) → Decides (bytes_eq word k && nat_le limit (count_of_word lines word)) ((word ≡ k) × (limit ≤ count_of_word lines word))
     up_to k limit = Decides-and _ _ (bytes_eq-Decides word k) (leb-true limit (count_of_word lines word), le-leb limit (count_of_word lines word))
 
--- fields that are numbers, and what they spell
-abbrev pub AreNumbers : List Field → Type 0
-AreNumbers [] = ⊤
-AreNumbers (Register ∷ fs) = ⊥
-AreNumbers (Number test cause ∷ fs) = AreNumbers fs
-
-pub numbers_of-spelled : (fs : List Field) (ns : List ℕ) (rest : List (List ℕ)) → AreNumbers fs → AllPass fs ns
-    → map (digits_value 10) (take (length fs) (spelled_all fs ns ++ rest)) ≡ ns
-numbers_of-spelled [] [] rest a h = refl
-numbers_of-spelled [] (n ∷ ns) rest a h = absurd h
-numbers_of-spelled (Register ∷ fs) ns rest a h = absurd a
-numbers_of-spelled (Number test cause ∷ fs) [] rest a h = absurd h
-numbers_of-spelled (Number test cause ∷ fs) (n ∷ ns) rest a h =
-    ap₂ (λ (k : ℕ) (ks : List ℕ). k ∷ ks) (reads n h.0.0) (numbers_of-spelled fs ns rest a h.1)
-
-pub ordered-numbers : (versions : ℕ) (n : DeclaredNumbers) (word : List ℕ) → is_some (index_of word ordered_words) ≡ true → AreNumbers (fields_by versions n word)
-ordered-numbers versions n word h = by_word ordered_words word (λ (w : List ℕ). AreNumbers (fields_by versions n w)) (record {}, (record {}, tt)) h
-
--- so many numbers, if there are any
-abbrev pub AreLong : Option (List ℕ) → ℕ → Type 0
-AreLong None n = ⊤
-AreLong (Some ns) n = length ns ≡ n
-
-mapped-long : {X : Type 0} (f : X → List ℕ) (n : ℕ) (o : Option X) → ((x : X) → length (f x) ≡ n) → AreLong (option_map f o) n
-mapped-long f n None h = record {}
-mapped-long f n (Some x) h = h x
-
 pub record LineAt (versions : ℕ) (p : Position) (word : List ℕ) : Type 0 where
   pub fields : fields_behind versions (shown p) word ≡ fields_of versions p word
   pub full : is_many (shown p) word ≡ is_full p word
   pub order : numbers_before (last_line (shown p)) word (length (fields_of versions p word)) ≡ last_numbers p word
-  pub long : AreLong (last_numbers p word) (length (fields_of versions p word))
 
 -- a number of a line
 number_is : {line other : List (List ℕ)} (k n : ℕ) → line ≡ other → slice_index_or other k [] ≡ decimal n → n < 2 ^ 64 → number_in line k ≡ n
@@ -105,12 +76,11 @@ line_at versions three (AtSlice v n f) word a known = by_word (expected (AtSlice
     fields = ap (λ (u : ℕ). within (if u == 3 then 0 else 1) MAX_SLICE ∷ []) (number_is 1 v a.says.1 refl (omega (arith, a.reached.1)));
     full = refl;
     order = refl;
-    long = record {};
   },
   tt,
 ) known
 line_at versions three (AtSpace m spaces) word a known =
-    by_word (expected (AtSpace m spaces)) word (LineAt versions (AtSpace m spaces)) (record { fields = fields; full = refl; order = refl; long = record {} }, tt) known
+    by_word (expected (AtSpace m spaces)) word (LineAt versions (AtSpace m spaces)) (record { fields = fields; full = refl; order = refl }, tt) known
   where
     all : ℕ → Bool → List Field
     all u b = within 0 MAX_PRIORITY ∷ within 0 MAX_MUTEXES ∷ within 0 MAX_SEMAPHORES ∷ within 0 MAX_CELLS ∷ within 1 MAX_PROGRAMS
@@ -132,8 +102,8 @@ line_at versions three (AtSpace m spaces) word a known =
     fields : fields_behind versions (shown (AtSpace m spaces)) (codes "space") ≡ fields_of versions (AtSpace m spaces) (codes "space")
     fields = (λ i. all (version i) (nat_le (count i) (a.says.1.0 i + 1) && a.says.1.1 i)) ∙ same (cases_eq m.version 3)
 line_at versions three (AtAbsent m spaces d) word a known = by_word (expected (AtAbsent m spaces d)) word (LineAt versions (AtAbsent m spaces d)) (
-  record { fields = refl; full = refl; order = a.says.1; long = mapped-long (λ page. page ∷ []) 1 (last_of d.absent) (λ page. refl) },
-  (record { fields = refl; full = refl; order = refl; long = record {} }, tt),
+  record { fields = refl; full = refl; order = a.says.1 },
+  (record { fields = refl; full = refl; order = refl }, tt),
 ) known
 line_at versions three (AtInstr m spaces d len instrs) word a known =
     let o = expected-operation word known in subst (LineAt versions (AtInstr m spaces d len instrs)) (sym o.1) (of o.0)
@@ -154,23 +124,20 @@ line_at versions three (AtInstr m spaces d len instrs) word a known =
       fields = operation-fields versions (numbers_in (shown p)) o ∙ (λ i. map (λ k. same k i) (form_of o).operands) ∙ sym (operation-fields versions (numbers_at p) o);
       full = plain.0;
       order = plain.1;
-      long = record {};
-    }
+      }
 line_at versions three (AtEvict m spaces es) word a known = by_word (expected (AtEvict m spaces es)) word (LineAt versions (AtEvict m spaces es)) (
   record {
     fields = ap (λ (n : ℕ). within 1 MAX_EVENTS ∷ declared n ∷ within 0 LAST_PAGE ∷ []) (number_is 1 m.count a.says.0.2 refl (omega (arith, a.reached.0.count.1)));
     full = or-false _ ∙ ap (nat_le MAX_EVICTIONS) a.says.1;
     order = a.says.3;
-    long = mapped-long evict_numbers 3 (last_of es) (λ e. refl);
   },
   (
     record {
       fields = ap (λ (n : ℕ). within 0 (n - 1) ∷ []) (number_is 1 m.processors a.says.0.1 refl (omega (arith, a.reached.0.processors.1)));
       full = ap (nat_le MAX_TURNS) a.says.2;
       order = refl;
-      long = record {};
-    },
-    (record { fields = refl; full = refl; order = refl; long = record {} }, tt),
+      },
+    (record { fields = refl; full = refl; order = refl }, tt),
   ),
 ) known
 line_at versions three (AtTurn m spaces es ts) word a known = by_word (expected (AtTurn m spaces es ts)) word (LineAt versions (AtTurn m spaces es ts)) (
@@ -178,10 +145,9 @@ line_at versions three (AtTurn m spaces es ts) word a known = by_word (expected 
     fields = ap (λ (n : ℕ). within 0 (n - 1) ∷ []) (number_is 1 m.processors a.says.0.1 refl (omega (arith, a.reached.0.processors.1)));
     full = ap (nat_le MAX_TURNS) a.says.1;
     order = refl;
-    long = record {};
   },
-  (record { fields = refl; full = refl; order = refl; long = record {} }, tt),
+  (record { fields = refl; full = refl; order = refl }, tt),
 ) known
 line_at versions three (Closed w) word a known = absurd (cc known)
 line_at versions three p word a known =
-    by_word (expected p) word (LineAt versions p) (record { fields = refl; full = refl; order = refl; long = record {} }, tt) known
+    by_word (expected p) word (LineAt versions p) (record { fields = refl; full = refl; order = refl }, tt) known

@@ -19,8 +19,7 @@ use Rattle.sa_workload.specs.Next.{numbers_at, fields_of, is_full, last_numbers,
 use Rattle.sa_workload.proofs.fields.FieldLemmas.{same_ok, if_either, and_then-ok, contained, line-ok, one_number, spelled, Passes, spelled_all, AllPass, within-passes, declared-passes}
 use Rattle.sa_workload.proofs.fields.InstrLemmas.{IsAllowed, instr-read, expected-operation, operation-fields}
 use Rattle.sa_workload.proofs.forward.Fronts.{last_is, all_true}
-use Rattle.sa_workload.proofs.forward.Orders.{order-none, evict_before}
-use Rattle.sa_workload.proofs.causes.OneCause.{before_heads}
+use Rattle.sa_workload.proofs.forward.Orders.{before_heads, order-none, evict_before}
 use Rattle.sa_workload.proofs.forward.Reached.{IsSpaceLine, reached-version, reached-processors, reached-fetch, reached-slice, reached-spaces, reached-space, reached-sem, reached-absent, reached-first_program, reached-program, reached-instr, reached-evict, reached-first_turn, reached-turn, reached-first_close, reached-close}
 
 -- what holds of each of some words holds of the one that is found among them
