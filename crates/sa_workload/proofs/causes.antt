@@ -1,5 +1,2 @@
-pub mod FirstWords
-pub mod Readings
 pub mod LineAt
 pub mod Causes
-pub mod OneCause

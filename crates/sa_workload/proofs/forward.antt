@@ -6,4 +6,5 @@ pub mod Sound
 pub mod Complete
 pub mod Completion
 pub mod Following
+pub mod Says
 pub mod Standing

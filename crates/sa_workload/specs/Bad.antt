@@ -1,9 +1,10 @@
 -- Where a text is wrong, and why: the first line that no text has in its place, and the first cause that applies to it.
 -- All of it speaks of the lines of the text, and of the workloads whose texts begin with the lines before.
-use Rattle.std.specs.Prelude.{◌≡◌, ◌≢◌, ◌⊎◌, ℕ, ◌+◌, ◌-◌, ◌^◌, ◌<◌, ◌≤◌, ◌==◌, ◌&&◌, ◌||◌, not, nat_lt, nat_le, if◌then◌else◌, Bool, true, false, List, [], ◌∷◌, ◌++◌, length, map, take, filter, count_by, slice_get, slice_index_or, MatchOption, unwrap_or, ⊤, IsTrue, All, Contains, drop, codes, decimal}
+use Rattle.std.specs.Prelude.{◌≡◌, ◌≢◌, ◌⊎◌, ℕ, ◌+◌, ◌-◌, ◌^◌, ◌≤◌, ◌==◌, ◌&&◌, ◌||◌, not, nat_lt, nat_le, if◌then◌else◌, Bool, true, false, List, [], ◌∷◌, ◌++◌, length, map, take, filter, count_by, slice_get, slice_index_or, MatchOption, unwrap_or, Option, Some, None, Result, Ok, Err, All, Contains, drop, codes}
 use Rattle.std.specs.Map.{lookup}
 use Rattle.std.specs.Str.Parse.{digits_value}
 use Rattle.std.specs.List.{list_all}
+use Rattle.std.specs.Option.{is_some}
 use Rattle.std.specs.Str.{bytes_eq}
 use Rattle.sa_base.specs.declared.limits.TheConstants.{FIRST_THREAD_PAGE, MAX_EVENTS, MAX_PROCESSORS, MAX_SPACES}
 use Rattle.sa_instr.specs.declared.limits.TheConstants.{LAST_PAGE, MAX_CELLS, MAX_EVICTIONS, MAX_FETCH, MAX_INSTRUCTIONS, MAX_IO_LENGTH, MAX_MUTEXES, MAX_PATIENCE, MAX_PRIORITY, MAX_PROGRAMS, MAX_SEMAPHORES, MAX_SLICE, MAX_START, MAX_TURNS}
@@ -15,6 +16,8 @@ use Rattle.sa_spaces.specs.Workload.{WorkloadView, IsWorkload}
 use Rattle.sa_text.specs.LineText.{LineText, line_texts}
 use Rattle.sa_text.specs.Pieces.{pieces_of}
 use Rattle.sa_workload.specs.Text.{workload_lines, version_of}
+use Rattle.sa_workload.specs.Fields.{index_of, line_numbers}
+pub use Rattle.sa_workload.specs.Fields.{Field, Register, Number, registers, list_lt}
 
 -- a workload whose text is of one of so many versions
 pub record IsUpTo (versions : ℕ) (w : WorkloadView) : Type 0 where
@@ -32,15 +35,6 @@ pub record Begins (versions : ℕ) (lines : List (List (List ℕ))) : Type 0 whe
 pub record MayFollow (versions : ℕ) (lines : List (List (List ℕ))) (word : List ℕ) : Type 0 where
   pub others : List (List ℕ)
   pub begins : Begins versions (lines ++ (word ∷ others) ∷ [])
-
--- the words of the registers
-abbrev pub registers : List (List ℕ)
-registers = codes "r0" ∷ codes "r1" ∷ codes "r2" ∷ codes "r3" ∷ codes "r4" ∷ codes "r5" ∷ codes "r6" ∷ codes "r7" ∷ []
-
--- one list of numbers before another of the same length, compared from the left
-abbrev pub list_lt : List ℕ → List ℕ → Bool
-list_lt (x ∷ xs) (y ∷ ys) = nat_lt x y || ((x == y) && list_lt xs ys)
-list_lt xs ys = false
 
 -- the words that instructions begin with
 abbrev pub instr_words : List (List ℕ)
@@ -74,11 +68,6 @@ count_of_word lines word = count_by (λ line. bytes_eq (first_word line) word) l
 abbrev pub IsTooMany : List (List (List ℕ)) → List ℕ → Type 0
 IsTooMany lines word =
     ((word ≡ codes "evict") × (MAX_EVICTIONS ≤ count_of_word lines word)) ⊎ ((word ≡ codes "turn") × (MAX_TURNS ≤ count_of_word lines word))
-
--- What stands behind the first word: a register, or a number below 2 ^ 64 that passes a test, else it is refused with a cause.
-pub data Field : Type 0 where
-  Register : Field
-  Number : (ℕ → Bool) → ℕ → Field
 
 -- a number between these two, else why 4
 abbrev pub within : ℕ → ℕ → Field
@@ -165,58 +154,30 @@ fields_by versions n word = unwrap_or (lookup (bytes_eq word) (line_forms versio
 abbrev pub fields_behind : ℕ → List (List (List ℕ)) → List ℕ → List Field
 fields_behind versions lines word = fields_by versions (numbers_in lines) word
 
--- the word is the spelling of no number below 2 ^ 64, or of this one
-abbrev pub IsNoNumber : List ℕ → Type 0
-IsNoNumber word = (n : ℕ) → n < 2 ^ 64 → word ≢ decimal n
-
--- a word that is wrong for its field, with the cause: no register why 2, no number why 3, else the field's own
-abbrev pub IsWrongFor : Field → List ℕ → ℕ → Type 0
-IsWrongFor Register word why = (¬ Contains registers word) × (why ≡ 2)
-IsWrongFor (Number test cause) word why =
-    (IsNoNumber word × (why ≡ 3)) ⊎ ((n : ℕ) × (n < 2 ^ 64) × (word ≡ decimal n) × (test n ≡ false) × (why ≡ cause))
-
--- a word that is right for its field
-abbrev pub IsRightFor : Field → List ℕ → Type 0
-IsRightFor Register word = Contains registers word
-IsRightFor (Number test cause) word = (n : ℕ) × (n < 2 ^ 64) × (word ≡ decimal n) × (test n ≡ true)
-
--- the first wrong word behind the first one, or one that is missing: why 9
-abbrev pub IsFirstWrong : List Field → List (List ℕ) → ℕ → Type 0
-IsFirstWrong [] words why = ⊥
-IsFirstWrong (f ∷ fs) [] why = why ≡ 9
-IsFirstWrong (f ∷ fs) (word ∷ words) why = IsWrongFor f word why ⊎ (IsRightFor f word × IsFirstWrong fs words why)
-
--- every field has its word, right, and words may follow
-abbrev pub AreRight : List Field → List (List ℕ) → Type 0
-AreRight [] words = ⊤
-AreRight (f ∷ fs) [] = ⊥
-AreRight (f ∷ fs) (word ∷ words) = IsRightFor f word × AreRight fs words
-
 -- the numbers behind the first word of a line
 abbrev pub numbers_of : ℕ → List (List ℕ) → List ℕ
 numbers_of count line = map (digits_value 10) (take count (drop 1 line))
 
--- where an absent or evict line follows another of its kind, its numbers are equal to those before, why 5, or smaller, why 4
-abbrev pub IsOutOfOrder : List (List (List ℕ)) → ℕ → List (List ℕ) → ℕ → Type 0
-IsOutOfOrder lines count line why =
-    (Contains (codes "absent" ∷ codes "evict" ∷ []) (first_word line)) × (first_word (last_line lines) ≡ first_word line)
-    × (((numbers_of count line ≡ numbers_of count (last_line lines)) × (why ≡ 5))
-    ⊎ (IsTrue (list_lt (numbers_of count line) (numbers_of count (last_line lines))) × (why ≡ 4)))
+-- the words whose lines keep an order
+abbrev pub ordered_words : List (List ℕ)
+ordered_words = codes "absent" ∷ codes "evict" ∷ []
 
--- such a line does not follow another of its kind, or its numbers are greater
-abbrev pub IsInOrder : List (List (List ℕ)) → ℕ → List (List ℕ) → Type 0
-IsInOrder lines count line =
-    Contains (codes "absent" ∷ codes "evict" ∷ []) (first_word line) → first_word (last_line lines) ≡ first_word line
-    → IsTrue (list_lt (numbers_of count (last_line lines)) (numbers_of count line))
+-- a line of the word has to be behind the last line
+abbrev pub is_ordered : List (List ℕ) → List ℕ → Bool
+is_ordered last word = is_some (index_of word ordered_words) && bytes_eq (first_word last) word
+
+-- the numbers of the last line, where a line of the word has to be behind it
+abbrev pub numbers_before : List (List ℕ) → List ℕ → ℕ → Option (List ℕ)
+numbers_before last word count = if is_ordered last word then Some (numbers_of count last) else None
+
+-- the cause of words that were read so; 9 where all are right
+abbrev pub cause_in : Result (List ℕ) ℕ → ℕ
+cause_in (Ok ns) = 9
+cause_in (Err why) = why
 
 -- the first cause that applies behind a right first word
-abbrev pub FieldCause : List (List (List ℕ)) → List Field → List ℕ → List (List ℕ) → ℕ → Type 0
-FieldCause lines fields word words why =
-    IsFirstWrong fields words why
-    ⊎ (AreRight fields words
-    × (IsOutOfOrder lines (length fields) (word ∷ words) why
-    ⊎ (IsInOrder lines (length fields) (word ∷ words)
-    × (((length fields < length words) × (why ≡ 2)) ⊎ ((length words ≡ length fields) × (why ≡ 9))))))
+abbrev pub field_cause : List (List (List ℕ)) → List Field → List ℕ → List (List ℕ) → ℕ
+field_cause lines fields word words = cause_in (line_numbers fields (numbers_before (last_line lines) word (length fields)) words)
 
 -- The first cause that applies to the words of a line: a word that may not begin it, why 2; one line too many, why 8; the
 -- first wrong word, or its order; a word too many, why 2; and where all words are right, the last instruction is not `end`, why 9.
@@ -226,7 +187,7 @@ WordCause versions lines (word ∷ words) why =
     ((¬ IsRightWord versions lines word) × (why ≡ 2))
     ⊎ (IsRightWord versions lines word
     × ((IsTooMany lines word × (why ≡ 8))
-    ⊎ ((¬ IsTooMany lines word) × FieldCause lines (fields_behind versions lines word) word words why)))
+    ⊎ ((¬ IsTooMany lines word) × (field_cause lines (fields_behind versions lines word) word words ≡ why))))
 
 -- every byte is one of the printed ASCII characters
 abbrev pub IsPrinted : List ℕ → Type 0

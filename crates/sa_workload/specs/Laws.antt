@@ -1,8 +1,10 @@
 -- What holds of workload texts, whatever the bytes.
-use Rattle.std.specs.Prelude.{◌≡◌, ◌≢◌, ◌⊎◌, ℕ, ◌+◌, ◌<◌, ◌≤◌, List, [], ◌∷◌, ◌++◌, length, take, All, Contains, codes, decimal}
+use Rattle.std.specs.Prelude.{◌≡◌, ◌≢◌, ◌⊎◌, ℕ, ◌+◌, ◌<◌, ◌≤◌, List, [], ◌∷◌, ◌++◌, length, take, true, Err, IfSome, IsTrue, All, Contains, codes, decimal}
+use Rattle.std.specs.Result.{is_ok}
 use Rattle.sa_spaces.specs.Workload.{WorkloadView}
 use Rattle.sa_workload.specs.Text.{IsText}
-use Rattle.sa_workload.specs.Bad.{Begins, MayFollow, IsRightWord, IsTooMany, IsFirstWrong, AreRight, IsInOrder, BadAt, instr_words, first_word, last_line, fields_behind}
+use Rattle.sa_workload.specs.Fields.{Field, list_lt, fields_at}
+use Rattle.sa_workload.specs.Bad.{Begins, MayFollow, IsRightWord, IsTooMany, BadAt, instr_words, first_word, last_line, fields_behind, ordered_words, numbers_before, numbers_of}
 
 -- two workloads never share a text
 abbrev pub TextsDiffer : Type 0
@@ -20,6 +22,18 @@ BadOnce = (bytes : List ℕ) (k j why cause : ℕ) → BadAt bytes k why → Bad
 abbrev pub TextOrBad : Type 0
 TextOrBad = (bytes : List ℕ) → ((w : WorkloadView) × IsText bytes w) ⊎ ((k why : ℕ) × BadAt bytes k why)
 
+-- of the words behind the first one, the first wrong or missing one has this cause
+abbrev pub IsFirstWrong : List Field → List (List ℕ) → ℕ → Type 0
+IsFirstWrong fields words why = fields_at fields words ≡ Err why
+
+-- every field has its word, right, and words may follow
+abbrev pub AreRight : List Field → List (List ℕ) → Type 0
+AreRight fields words = is_ok (fields_at fields words) ≡ true
+
+-- where the line has to be behind the last line, its numbers are greater
+abbrev pub IsInOrder : List (List (List ℕ)) → ℕ → List (List ℕ) → Type 0
+IsInOrder lines count line = IfSome (numbers_before (last_line lines) (first_word line) count) (λ old. IsTrue (list_lt old (numbers_of count line)))
+
 -- some text goes on behind these lines with a line that begins with these words
 pub record GoesOnWith (versions : ℕ) (lines : List (List (List ℕ))) (words : List (List ℕ)) : Type 0 where
   pub others : List (List ℕ)
@@ -35,7 +49,7 @@ pub record IsFirstWrongPlace (versions : ℕ) (lines : List (List (List ℕ))) (
 
 -- the word begins a line that does not have to be behind another of its kind
 abbrev pub IsFree : List (List (List ℕ)) → List ℕ → Type 0
-IsFree lines word = ¬ (Contains (codes "absent" ∷ codes "evict" ∷ []) word × (first_word (last_line lines) ≡ word))
+IsFree lines word = ¬ (Contains ordered_words word × (first_word (last_line lines) ≡ word))
 
 -- the first wrong word, by the table of lines, is the first with which no text goes on
 abbrev pub FirstWrongWords : ℕ → Type 0

@@ -1,45 +1,23 @@
 -- A line that is refused at a position is bad behind the lines that it shows, for the same cause.
-use Rattle.std.proofs.Common.{◌≡◌, ◌≢◌, refl, ℕ, ◌+◌, ◌==◌, ◌&&◌, not, Bool, true, false, List, [], ◌∷◌, ◌++◌, length, map, take, Option, Some, None, Ok, Err, codes, if◌then◌else◌, sym, ap, ap₂, ◌∙◌, subst, inl, inr, arith, append-nil, length-append}
+use Rattle.std.proofs.Common.{◌≡◌, ◌≢◌, refl, ℕ, ◌+◌, ◌==◌, ◌&&◌, not, Bool, true, false, List, [], ◌∷◌, ◌++◌, length, Option, Ok, Err, codes, if◌then◌else◌, sym, ap, ◌∙◌, inl, inr}
 use Rattle.std.specs.Option.{is_some}
 use Rattle.std.specs.Str.{bytes_eq}
-use Rattle.std.specs.Str.Parse.{digits_value}
 use Rattle.std.proofs.lemmas.Bool.{false≢true, eqb-true}
+use Rattle.std.proofs.lemmas.Bool.Decides.{not_from_Decides}
 use Rattle.std.proofs.lemmas.Slice.Eq.{bytes_eq-Decides}
 use Rattle.sa_instr.specs.declared.instr.Instr.{Instr}
 use Rattle.sa_instr.specs.declared.instr.Instr.TheVariants.{End}
 use Rattle.sa_spaces.specs.Space.{SpaceView}
 use Rattle.sa_workload.specs.Text.{instr_line}
-use Rattle.sa_workload.specs.Bad.{first_word, Begins, Field, IsOutOfOrder, IsInOrder, FieldCause, WordCause, list_lt}
-use Rattle.sa_workload.specs.Fields.{and_then, order_cause, line_numbers, index_of}
+use Rattle.sa_workload.specs.Bad.{first_word, Begins, Field, field_cause, cause_in, WordCause}
+use Rattle.sa_workload.specs.Fields.{and_then, line_numbers, index_of}
 use Rattle.sa_workload.specs.Position.{Machine, Draft, Position, AtAbsent, AtInstr, AtEvict, AtTurn, Closed, shown}
 use Rattle.sa_workload.specs.Steps.{expected, after_instr}
 use Rattle.sa_workload.specs.Next.{numbers_at, is_full, last_numbers, fields_of, is_end, step, step_instr, next}
-use Rattle.sa_workload.proofs.fields.FieldLemmas.{same_err, both_true, if_either, and_then-err, spelled_all, AllPass, all_right, all_long, line-ok, line-err}
+use Rattle.sa_workload.proofs.fields.FieldLemmas.{same_err, both_true, if_either, and_then-err, spelled_all, AllPass, line-ok}
 use Rattle.sa_workload.proofs.fields.InstrLemmas.{instr-read}
-use Rattle.sa_workload.proofs.forward.Orders.{order-some, order-none}
-use Rattle.sa_workload.proofs.causes.LineAt.{numbers_of-spelled, OrderAt, free, behind, LineAt, line_at}
+use Rattle.sa_workload.proofs.causes.LineAt.{many-Decides, LineAt, line_at}
 use Rattle.sa_workload.proofs.forward.Standing.{IsAt, Setting, begins-next, expects, expected_words}
-
--- an order that is broken, and one that is kept
-out_of_order : (p : Position) (word : List ℕ) (fields : List Field) → OrderAt p word fields → (ns : List ℕ) (rest : List (List ℕ)) (why : ℕ) → AllPass fields ns
-    → order_cause (last_numbers p word) ns ≡ Some why → IsOutOfOrder (shown p) (length fields) (word ∷ (spelled_all fields ns ++ rest)) why
-out_of_order p word fields (free none f) ns rest why pass h = absurd (cc (sym (ap (λ (o : Option (List ℕ)). order_cause o ns) none) ∙ h))
-out_of_order p word fields (behind old is own first numbers long are) ns rest why pass h =
-    let new : map (digits_value 10) (take (length fields) (spelled_all fields ns ++ rest)) ≡ ns = numbers_of-spelled fields ns rest are pass in (
-      own,
-      first,
-      elim (order-some old ns why (ap (λ (o : Option (List ℕ)). order_cause o ns) (sym is) ∙ h)) [
-        | inl same ↦ inl (new ∙ same.0 ∙ sym numbers, same.1)
-        | inr less ↦ inr (ap₂ list_lt new numbers ∙ less.0, less.1)
-      ],
-    )
-
-in_order : (p : Position) (word : List ℕ) (fields : List Field) → OrderAt p word fields → (ns : List ℕ) (rest : List (List ℕ)) → AllPass fields ns
-    → order_cause (last_numbers p word) ns ≡ None → IsInOrder (shown p) (length fields) (word ∷ (spelled_all fields ns ++ rest))
-in_order p word fields (free none f) ns rest pass h = λ c e. absurd (f c e)
-in_order p word fields (behind old is own first numbers long are) ns rest pass h = λ c e.
-    ap₂ list_lt numbers (numbers_of-spelled fields ns rest are pass)
-    ∙ order-none old ns ((all_long fields ns pass).0 ∙ sym long) (ap (λ (o : Option (List ℕ)). order_cause o ns) (sym is) ∙ h)
 
 -- right words that lead nowhere are those of a last instruction that is not `end`
 if_ok : (b : Bool) (q r : Position) (why : ℕ) → (if b then Ok q else Ok r) ≡ Err why → ⊥
@@ -95,35 +73,16 @@ step-err versions (Closed w) word ns why known pass h = absurd (cc known)
 step-err versions _ word ns why known pass h = absurd (cc h)
 
 -- the cause behind a first word that is expected
-field_cause : (versions : ℕ) (p : Position) (word : List ℕ) (words : List (List ℕ)) (why : ℕ) → is_some (index_of word (expected p)) ≡ true
-    → OrderAt p word (fields_of versions p word) → and_then (line_numbers (fields_of versions p word) (last_numbers p word) words) (step p word) ≡ Err why
-    → FieldCause (shown p) (fields_of versions p word) word words why
-field_cause versions p word words why known order h =
-    elim (and_then-err (line_numbers fields (last_numbers p word) words) (step p word) why h) [
-      | inl wrong ↦ elim (line-err fields (last_numbers p word) words why wrong) [
-        | inl first ↦ inl first
-        | inr read ↦ subst (λ (ws : List (List ℕ)). FieldCause (shown p) fields word ws why) (sym read.2)
-            (inr (
-              all_right fields read.0 read.1 read.3,
-              elim read.4 [
-                | inl broken ↦ inl (out_of_order p word fields order read.0 read.1 why read.3 broken)
-                | inr kept ↦ inr (
-                  in_order p word fields order read.0 read.1 read.3 kept.0,
-                  inl (omega (arith, kept.1, (all_long fields read.0 read.3).1, length-append (spelled_all fields read.0) read.1), kept.2),
-                )
-              ],
-            ))
-      ]
+cause_by : (versions : ℕ) (p : Position) (word : List ℕ) (words : List (List ℕ)) (why : ℕ) → is_some (index_of word (expected p)) ≡ true
+    → LineAt versions p word → and_then (line_numbers (fields_of versions p word) (last_numbers p word) words) (step p word) ≡ Err why
+    → field_cause (shown p) (fields_of versions p word) word words ≡ why
+cause_by versions p word words why known at h =
+    ap (λ (o : Option (List ℕ)). cause_in (line_numbers fields o words)) at.order
+    ∙ elim (and_then-err (line_numbers fields (last_numbers p word) words) (step p word) why h) [
+      | inl wrong ↦ ap cause_in wrong
       | inr all ↦
           let line = line-ok fields (last_numbers p word) words all.0 all.1 in
-          subst (λ (ws : List (List ℕ)). FieldCause (shown p) fields word ws why) (sym (line.0 ∙ sym (append-nil (spelled_all fields all.0))))
-          (inr (
-            all_right fields all.0 [] line.1,
-            inr (
-              in_order p word fields order all.0 [] line.1 line.2,
-              inr (omega (arith, (all_long fields all.0 line.1).1, length-append (spelled_all fields all.0) []), (step-err versions p word all.0 why known line.1 all.2).nine),
-            ),
-          ))
+          ap cause_in all.1 ∙ sym (step-err versions p word all.0 why known line.1 all.2).nine
     ]
   where
     fields : List Field
@@ -136,12 +95,12 @@ word_cause versions s p word words why a h =
     elim (if_either (is_some (index_of word (expected p))) _ (Err 2) (Err why) h) [
       | inr none ↦ inl ((λ r. false≢true (sym none.0 ∙ expected_words versions s p word a r)), sym (same_err {A = Position} 2 why none.1))
       | inl known ↦
-          let at : LineAt versions p word = line_at versions s.few p word a.reached known.0 in
+          let at : LineAt versions p word = line_at versions s.few p word a known.0 in
           inr (
             expects versions s p word a known.0,
             elim (if_either (is_full p word) (Err 8) _ (Err why) known.1) [
-              | inl full ↦ inl (at.many full.0, sym (same_err {A = Position} 8 why full.1))
-              | inr room ↦ inr (at.few room.0, subst (λ (fs : List Field). FieldCause (shown p) fs word words why) (sym at.fields) (field_cause versions p word words why known.0 at.order room.1))
+              | inl full ↦ inl ((many-Decides (shown p) word).0 (at.full ∙ full.0), sym (same_err {A = Position} 8 why full.1))
+              | inr room ↦ inr (not_from_Decides _ (many-Decides (shown p) word) (at.full ∙ room.0), ap (λ (fs : List Field). field_cause (shown p) fs word words) at.fields ∙ cause_by versions p word words why known.0 at room.1)
             ],
           )
     ]

@@ -1,5 +1,5 @@
 -- What the words of a line are read as, and back: a field has one spelling.
-use Rattle.std.proofs.Common.{◌≡◌, ◌≢◌, ℕ, zero, suc, ◌+◌, ◌^◌, ◌<◌, ◌≤◌, ◌&&◌, ◌⊎◌, Bool, true, false, cond, List, [], ◌∷◌, ◌++◌, length, get_or, Contains, Option, Some, None, Result, Ok, Err, codes, decimal, refl, sym, ap, ◌∙◌, subst, inl, inr, arith, nat_le, nat_lt}
+use Rattle.std.proofs.Common.{◌≡◌, ℕ, zero, suc, ◌+◌, ◌^◌, ◌<◌, ◌≤◌, ◌&&◌, ◌⊎◌, Bool, true, false, cond, List, [], ◌∷◌, ◌++◌, length, get_or, Contains, Option, Some, None, Result, Ok, Err, codes, decimal, refl, sym, ap, ◌∙◌, subst, inl, inr, arith, nat_le, nat_lt}
 use Rattle.std.specs.Option.{is_some, option_map}
 use Rattle.std.specs.Str.{bytes_eq}
 use Rattle.std.specs.Str.Parse.{digits_value}
@@ -9,7 +9,7 @@ use Rattle.std.proofs.lemmas.List.{append-nil}
 use Rattle.std.proofs.lemmas.Slice.Eq.{bytes_eq-Decides}
 use Rattle.sa_text.specs.Number.{number_of}
 use Rattle.sa_text.proofs.NumberOf.{reads_number}
-use Rattle.sa_workload.specs.Bad.{Field, Register, Number, within, declared, registers, IsWrongFor, IsRightFor, IsFirstWrong, AreRight}
+use Rattle.sa_workload.specs.Bad.{Field, Register, Number, within, declared, registers}
 use Rattle.sa_workload.specs.Fields.{and_then, unless, or_cause, index_of, read_field, field_at, number_at, fields_at, at_end, order_cause, line_numbers}
 
 -- what an answer is made of
@@ -32,17 +32,9 @@ pub unless-ok : {A : Type 0} (o : Option ℕ) (r : Result A ℕ) (a : A) → unl
 unless-ok None r a h = (refl, h)
 unless-ok (Some cause) r a h = absurd cc
 
-pub unless-err : {A : Type 0} (o : Option ℕ) (r : Result A ℕ) (why : ℕ) → unless o r ≡ Err why → (o ≡ Some why) ⊎ ((o ≡ None) × (r ≡ Err why))
-unless-err None r why h = inr (refl, h)
-unless-err {A} (Some cause) r why h = inl (ap Some (same_err {A = A} cause why h))
-
 or_cause-ok : {A : Type 0} (o : Option A) (cause : ℕ) (a : A) → or_cause o cause ≡ Ok a → o ≡ Some a
 or_cause-ok None cause a h = absurd cc
 or_cause-ok (Some b) cause a h = ap Some (same_ok b a h)
-
-or_cause-err : {A : Type 0} (o : Option A) (cause why : ℕ) → or_cause o cause ≡ Err why → (o ≡ None) × (cause ≡ why)
-or_cause-err {A} None cause why h = (refl, same_err {A = A} cause why h)
-or_cause-err (Some b) cause why h = absurd cc
 
 pub if_either : {A : Type 0} (b : Bool) (x y z : A) → cond b x y ≡ z → ((b ≡ true) × (x ≡ z)) ⊎ ((b ≡ false) × (y ≡ z))
 if_either true x y z h = inl (refl, h)
@@ -149,9 +141,6 @@ number_of-some word n h =
     let small : v < 2 ^ 64 = ltb-true v (2 ^ 64) tests.0 in
     ((bytes_eq-Decides word (decimal v)).0 tests.1 ∙ ap decimal made.1, subst (λ m. m < 2 ^ 64) made.1 small)
 
-number_of-none : (word : List ℕ) (n : ℕ) → number_of word ≡ None → n < 2 ^ 64 → word ≢ decimal n
-number_of-none word n h small e = absurd (cc (sym (reads_number n small) ∙ ap number_of (sym e) ∙ h))
-
 -- a field is read from its spelling alone
 pub read-spelled : (f : Field) (n : ℕ) → Passes f n → read_field f (spelled f n) ≡ Ok n
 read-spelled Register n h = ap (λ w. or_cause (index_of w registers) 2) (sym (register-spelled n [] h)) ∙ ap (λ o. or_cause o 2) (register-read n h)
@@ -169,23 +158,6 @@ read-ok (Number test cause) word n h =
           (s.0 ∙ ap decimal same, (subst (λ (m : ℕ). m < 2 ^ 64) same s.1, ap test (sym same) ∙ right.0))
       | inr wrong ↦ absurd (cc (wrong.1))
     ]
-
-pub read-err : (f : Field) (word : List ℕ) (why : ℕ) → read_field f word ≡ Err why → IsWrongFor f word why
-read-err Register word why h = let o = or_cause-err (index_of word registers) 2 why h in (index_of-none word registers o.0, sym o.1)
-read-err (Number test cause) word why h =
-    elim (and_then-err (or_cause (number_of word) 3) (λ n. cond (test n) (Ok n) (Err cause)) why h) [
-      | inl none ↦ let o = or_cause-err (number_of word) 3 why none in inl ((λ n small. number_of-none word n o.0 small), sym o.1)
-      | inr got ↦
-          let s = number_of-some word got.0 (or_cause-ok (number_of word) 3 got.0 got.1) in
-          elim (if_either (test got.0) (Ok got.0) (Err cause) (Err why) got.2) [
-            | inl right ↦ absurd (cc (right.1))
-            | inr wrong ↦ inr (got.0, s.1, s.0, wrong.0, sym (same_err {A = ℕ} cause why wrong.1))
-          ]
-    ]
-
-pub right-read : (f : Field) (n : ℕ) → Passes f n → IsRightFor f (spelled f n)
-right-read Register n h = (n, h, register-spelled n (codes "r" ++ decimal n) h)
-right-read (Number test cause) n h = (n, h.0, refl, h.1)
 
 -- all fields of a line
 pub fields-spelled : (fs : List Field) (ns : List ℕ) (rest : List (List ℕ)) → AllPass fs ns → fields_at fs (spelled_all fs ns ++ rest) ≡ Ok (ns, rest)
@@ -217,31 +189,6 @@ fields-ok (f ∷ fs) (word ∷ words) ns rest h =
     subst (λ (ms : List ℕ). (word ∷ words ≡ spelled_all (f ∷ fs) ms ++ rest) × AllPass (f ∷ fs) ms) a
     (ap (λ w. w ∷ words) read.0 ∙ ap (λ ws. spelled f own.0 ∷ ws) (behind.0 ∙ ap (λ ws. spelled_all fs others.0.0 ++ ws) b), (read.1, behind.1))
 
-pub fields-err : (fs : List Field) (words : List (List ℕ)) (why : ℕ) → fields_at fs words ≡ Err why → IsFirstWrong fs words why
-fields-err [] words why h = absurd cc
-fields-err (f ∷ fs) [] why h = sym (same_err {A = List ℕ × List (List ℕ)} 9 why h)
-fields-err (f ∷ fs) (word ∷ words) why h =
-    elim (and_then-err (field_at f (word ∷ words)) (λ first. and_then (fields_at fs first.1) (λ others. Ok (first.0 ∷ others.0, others.1))) why h) [
-      | inl wrong ↦ elim (and_then-err (read_field f word) (λ n. Ok (n, words)) why wrong) [
-        | inl own ↦ inl (read-err f word why own)
-        | inr none ↦ absurd (cc (none.2))
-      ]
-      | inr first ↦
-          let own = and_then-ok (read_field f word) (λ n. Ok (n, words)) first.0 first.1 in
-          let same : words ≡ first.0.1 = ap (λ (r : ℕ × List (List ℕ)). r.1) (same_ok (own.0, words) first.0 own.2) in
-          let read = read-ok f word own.0 own.1 in
-          elim (and_then-err (fields_at fs first.0.1) (λ others. Ok (first.0.0 ∷ others.0, others.1)) why first.2) [
-            | inl behind ↦ inr (subst (IsRightFor f) (sym read.0) (right-read f own.0 read.1), fields-err fs words why (ap (fields_at fs) same ∙ behind))
-            | inr none ↦ absurd (cc (none.2))
-          ]
-    ]
-
-pub all_right : (fs : List Field) (ns : List ℕ) (rest : List (List ℕ)) → AllPass fs ns → AreRight fs (spelled_all fs ns ++ rest)
-all_right [] [] rest h = record {}
-all_right [] (n ∷ ns) rest h = absurd h
-all_right (f ∷ fs) [] rest h = absurd h
-all_right (f ∷ fs) (n ∷ ns) rest h = (right-read f n h.0, all_right fs ns rest h.1)
-
 pub all_long : (fs : List Field) (ns : List ℕ) → AllPass fs ns → (length ns ≡ length fs) × (length (spelled_all fs ns) ≡ length fs)
 all_long [] [] h = (refl, refl)
 all_long [] (n ∷ ns) h = absurd h
@@ -265,10 +212,6 @@ at_end-none : (words : List (List ℕ)) → at_end words ≡ None → words ≡ 
 at_end-none [] h = refl
 at_end-none (word ∷ words) h = absurd cc
 
-at_end-some : (words : List (List ℕ)) (why : ℕ) → at_end words ≡ Some why → (0 < length words) × (why ≡ 2)
-at_end-some [] why h = absurd cc
-at_end-some (word ∷ words) why h = (omega arith, cc)
-
 pub line-ok : (fs : List Field) (last : Option (List ℕ)) (words : List (List ℕ)) (ns : List ℕ) → line_numbers fs last words ≡ Ok ns
     → (words ≡ spelled_all fs ns) × AllPass fs ns × (order_cause last ns ≡ None)
 line-ok fs last words ns h =
@@ -279,25 +222,6 @@ line-ok fs last words ns h =
     let f = fields-ok fs words read.0.0 read.0.1 read.1 in
     subst (λ (ms : List ℕ). (words ≡ spelled_all fs ms) × AllPass fs ms × (order_cause last ms ≡ None)) same
     (f.0 ∙ ap (λ ws. spelled_all fs read.0.0 ++ ws) (at_end-none read.0.1 end.0) ∙ append-nil (spelled_all fs read.0.0), f.1, order.0)
-
--- a line that is refused for its words: the first wrong one, its order, or one too many
-pub line-err : (fs : List Field) (last : Option (List ℕ)) (words : List (List ℕ)) (why : ℕ) → line_numbers fs last words ≡ Err why
-    → IsFirstWrong fs words why
-    ⊎ ((ns : List ℕ) × (rest : List (List ℕ)) × (words ≡ spelled_all fs ns ++ rest) × AllPass fs ns
-    × ((order_cause last ns ≡ Some why) ⊎ ((order_cause last ns ≡ None) × (0 < length rest) × (why ≡ 2))))
-line-err fs last words why h =
-    elim (and_then-err (fields_at fs words) (λ read. unless (order_cause last read.0) (unless (at_end read.1) (Ok read.0))) why h) [
-      | inl wrong ↦ inl (fields-err fs words why wrong)
-      | inr read ↦
-          let f = fields-ok fs words read.0.0 read.0.1 read.1 in
-          elim (unless-err (order_cause last read.0.0) (unless (at_end read.0.1) (Ok read.0.0)) why read.2) [
-            | inl order ↦ inr (read.0.0, read.0.1, f.0, f.1, inl order)
-            | inr end ↦ elim (unless-err (at_end read.0.1) (Ok read.0.0) why end.1) [
-              | inl more ↦ let s = at_end-some read.0.1 why more in inr (read.0.0, read.0.1, f.0, f.1, inr (end.0, s.0, s.1))
-              | inr none ↦ absurd (cc (none.1))
-            ]
-          ]
-    ]
 
 -- a number, and the test of a field
 pub number_field : (test : ℕ → Bool) (cause : ℕ) (words : List (List ℕ))

@@ -27,7 +27,7 @@ use Rattle.sa_workload.specs.Steps.{expected, after_fetch, after_sem, after_spac
 use Rattle.sa_workload.specs.Next.{numbers_at, fields_of, is_full, last_numbers, last_of, evict_numbers, is_end, is_last_impatient, step, step_instr, next}
 use Rattle.sa_workload.proofs.fields.FieldLemmas.{line-spelled, spelled_all, AllPass, passes-within, passes-declared, both_true}
 use Rattle.sa_workload.proofs.fields.InstrLemmas.{AreSmall, IsAllowed, instr-back, numbers_of_instr, operation-expected}
-use Rattle.sa_workload.proofs.forward.Fronts.{all_true, true_all}
+use Rattle.sa_workload.proofs.forward.Fronts.{last_is, all_true, true_all}
 use Rattle.sa_workload.proofs.forward.Completion.{version-low, after_sem-full, after_sem-more, after_spaces-full, after_spaces-more, after_program-full, after_program-more, after_instr-full, after_instr-more}
 use Rattle.sa_workload.proofs.forward.Orders.{none-order, before_evict, less_head}
 
@@ -90,9 +90,6 @@ middle P all done x rest e h =
 long : {X : Type 0} (all done : List X) (x : X) (rest : List X) → all ≡ done ++ x ∷ rest → length all ≡ length done + 1 + length rest
 long all done x rest e = ap length e ∙ omega (arith, length-append done (x ∷ rest))
 
-last_some : {X : Type 0} (xs : List X) (d : X) → 0 < length xs → last_of xs ≡ Some (get_or xs (length xs - 1) d)
-last_some xs d h = slice_get-get_or xs (length xs - 1) d (omega arith)
-
 -- an element stands behind the last of those before it, where they are in order
 behind_last : {X : Type 0} (R : X → X → Type 0) (f : X → List ℕ) (all done : List X) (x d : X) (rest : List X) → all ≡ done ++ x ∷ rest
     → ((a b : X) → R a b → list_lt (f a) (f b) ≡ true)
@@ -110,7 +107,7 @@ behind_last {X} R f all done x d rest e less rise =
           ap (λ (k : ℕ). get_or all k d) place ∙ ap (λ (l : List X). get_or l (length done) d) e ∙ get_or-append_seam done x rest d in
           let r : R (get_or done (length done - 1) d) x =
           subst (λ (y : X). R y x) a (subst (λ (y : X). R (get_or all (length done - 1) d) y) b (rise (length done - 1) (omega arith))) in
-          ap (λ (l : Option X). order_cause (option_map f l) (f x)) (last_some done d some)
+          ap (λ (l : Option X). order_cause (option_map f l) (f x)) (last_is done d some)
           ∙ none-order (f (get_or done (length done - 1) d)) (f x) (less (get_or done (length done - 1) d) x r)
     ]
   where

@@ -1,57 +1,34 @@
 -- Each word that a reached position expects may begin the next line.
-use Rattle.std.proofs.Common.{◌≡◌, ℕ, ◌<◌, ◌≤◌, true, List, [], ◌∷◌, ◌++◌, length, map, Contains, codes, inl, inr, refl, sym, ap, subst, ◌∙◌, arith, append_assoc, append-nil}
-use Rattle.std.specs.Option.{is_some}
+use Rattle.std.proofs.Common.{◌≡◌, ℕ, ◌<◌, ◌≤◌, true, List, [], ◌∷◌, length, Contains, None, codes, inl, inr, refl, ap, subst, ◌∙◌, arith}
+use Rattle.std.specs.Option.{is_some, option_map}
 use Rattle.std.proofs.lemmas.Bool.{cases_lt}
-use Rattle.std.proofs.lemmas.List.{map_push}
 use Rattle.sa_base.specs.declared.number.ProcNo.{ProcNo}
 use Rattle.sa_instr.specs.declared.instr.Instr.{Instr}
 use Rattle.sa_instr.specs.declared.instr.Instr.TheVariants.{End}
 use Rattle.sa_spaces.specs.declared.workload.Evict.{Evict}
 use Rattle.sa_spaces.specs.Space.{SpaceView}
 use Rattle.sa_spaces.specs.Workload.{IsEviction}
-use Rattle.sa_workload.specs.Text.{sem_line, absent_line, evict_line, turn_line}
-use Rattle.sa_workload.specs.Bad.{Begins, MayFollow, IsRightWord, instr_words, first_word, last_line}
-use Rattle.sa_workload.specs.Position.{Machine, Draft, Position, AtVersion, AtProcessors, AtFetch, AtSlice, AtSpaces, AtSpace, AtSem, AtAbsent, AtProgram, AtInstr, AtEvict, AtTurn, Closed, draft_line, shown_spaces, shown, IsReached}
+use Rattle.sa_workload.specs.Bad.{is_ordered, numbers_before, Begins, MayFollow, IsRightWord, instr_words, first_word, last_line}
+use Rattle.sa_workload.specs.Position.{Machine, Draft, Position, AtVersion, AtProcessors, AtFetch, AtSlice, AtSpaces, AtSpace, AtSem, AtAbsent, AtProgram, AtInstr, AtEvict, AtTurn, Closed, shown, IsReached}
 use Rattle.sa_workload.specs.Steps.{Steps, step_version, step_processors, step_fetch, step_slice, step_spaces, step_space, step_sem, step_absent, step_first_program, step_program, step_instr, step_evict, step_first_turn, step_first_close, step_close, expected}
 use Rattle.sa_workload.proofs.forward.ShownStep.{shown-step}
 use Rattle.sa_workload.proofs.forward.Reached.{reached-version, reached-processors, reached-fetch, reached-slice, reached-spaces, reached-space, reached-sem, reached-absent, reached-first_program, reached-program, reached-instr, reached-evict, reached-first_turn, reached-first_close, reached-close}
 use Rattle.sa_workload.proofs.forward.Completion.{new_draft, new_patience, fits_space, completes}
-use Rattle.sa_workload.proofs.fields.FieldLemmas.{contained}
-use Rattle.sa_workload.proofs.forward.Fronts.{not_empty}
+use Rattle.sa_workload.proofs.fields.FieldLemmas.{if_either, contained}
+use Rattle.sa_workload.proofs.forward.Fronts.{last_is}
 use Rattle.sa_workload.proofs.forward.Sound.{by_word}
-use Rattle.sa_workload.proofs.causes.FirstWords.{last_line-push}
+use Rattle.sa_workload.proofs.forward.Says.{heard, Says, ordered-Decides}
 use Rattle.sa_workload.specs.Fields.{index_of}
+use Rattle.sa_workload.specs.Next.{last_of, evict_numbers}
 
--- behind some lines of one word the last line begins with it
-last-repeated : {X : Type 0} (lines : List (List (List ℕ))) (f : X → List (List ℕ)) (xs : List X) (word : List ℕ) → 0 < length xs
-    → ((x : X) → first_word (f x) ≡ word) → first_word (last_line (lines ++ map f xs)) ≡ word
-last-repeated {X} lines f xs word some first =
-    let r = not_empty xs (omega arith) in
-    let e : lines ++ map f xs ≡ (lines ++ map f r.front) ++ f r.last ∷ [] =
-    ap (λ (l : List X). lines ++ map f l) r.whole ∙ simp (map_push, append_assoc) in
-    ap (λ (ls : List (List (List ℕ))). first_word (last_line ls)) e
-    ∙ (ap first_word (last_line-push (lines ++ map f r.front) (f r.last)) ∙ first r.last)
-
-absent_again : (m : Machine) (spaces : List SpaceView) (d : Draft) → d.programs ≡ [] → 0 < length d.absent
-    → first_word (last_line (shown (AtAbsent m spaces d))) ≡ codes "absent"
-absent_again m spaces d p some =
-    let e : shown (AtAbsent m spaces d) ≡ (shown_spaces m spaces ++ (draft_line m.version d ∷ map sem_line d.sems)) ++ map absent_line d.absent =
-    simp (p, append-nil, append_assoc) in
-    ap (λ (ls : List (List (List ℕ))). first_word (last_line ls)) e
-    ∙ last-repeated (shown_spaces m spaces ++ (draft_line m.version d ∷ map sem_line d.sems)) absent_line d.absent (codes "absent") some
-    (λ k. refl)
-
-evict_again : (m : Machine) (spaces : List SpaceView) (evictions : List Evict) → 0 < length evictions
-    → first_word (last_line (shown (AtEvict m spaces evictions))) ≡ codes "evict"
-evict_again m spaces evictions some =
-    last-repeated (shown_spaces m spaces) evict_line evictions (codes "evict") some (λ e. refl)
-
-turn_again : (m : Machine) (spaces : List SpaceView) (evictions : List Evict) (turns : List ProcNo) → 0 < length turns
-    → first_word (last_line (shown (AtTurn m spaces evictions turns))) ≡ codes "turn"
-turn_again m spaces evictions turns some =
-    ap (λ (ls : List (List (List ℕ))). first_word (last_line ls))
-    (sym (append_assoc (shown_spaces m spaces) (map evict_line evictions) (map turn_line turns)))
-    ∙ last-repeated (shown_spaces m spaces ++ map evict_line evictions) turn_line turns (codes "turn") some (λ p. refl)
+-- behind a line of a word whose lines keep an order the word may be repeated
+again : {X : Type 0} (lines : List (List (List ℕ))) (word : List ℕ) (count : ℕ) (f : X → List ℕ) (xs : List X) (d : X) → 0 < length xs
+    → numbers_before (last_line lines) word count ≡ option_map f (last_of xs) → first_word (last_line lines) ≡ word
+again lines word count f xs d some h =
+    elim (if_either (is_ordered (last_line lines) word) _ None (numbers_before (last_line lines) word count) refl) [
+      | inl is ↦ ((ordered-Decides (last_line lines) word).0 is.0).1
+      | inr none ↦ absurd (cc (none.1 ∙ h ∙ ap (option_map f) (last_is xs d some)))
+    ]
 
 -- the first processor, and the first page of the first space evicted at the first event
 processor_0 : ProcNo
@@ -84,10 +61,10 @@ module _ (versions : ℕ) (one : 1 ≤ versions) (three : versions ≤ 3) where
       (reached-space versions m spaces (new_draft (new_patience m)) r (fits_space m spaces))
 
   absent_right : (m : Machine) (spaces : List SpaceView) (d : Draft) → IsReached versions (AtAbsent m spaces d)
-      → IsRightWord versions (shown (AtAbsent m spaces d)) (codes "absent")
-  absent_right m spaces d r =
+      → Says (heard (shown (AtAbsent m spaces d))) (AtAbsent m spaces d) → IsRightWord versions (shown (AtAbsent m spaces d)) (codes "absent")
+  absent_right m spaces d r s =
       elim (cases_lt 0 (length d.absent)) [
-        | inl some ↦ inr (inr ((0, omega arith, refl), absent_again m spaces d r.4 some))
+        | inl some ↦ inr (inr ((0, omega arith, refl), again (shown (AtAbsent m spaces d)) (codes "absent") 1 (λ page. page ∷ []) d.absent 0 some s.1))
         | inr none ↦ inl (follows _ _ _ _ (step_absent m spaces d 0) r
             (reached-absent versions m spaces d 0 r (omega arith) (λ some. absurd (omega arith))))
       ]
@@ -106,10 +83,10 @@ module _ (versions : ℕ) (one : 1 ≤ versions) (three : versions ≤ 3) where
   )
 
   evict_right : (m : Machine) (spaces : List SpaceView) (evictions : List Evict) → IsReached versions (AtEvict m spaces evictions)
-      → IsRightWord versions (shown (AtEvict m spaces evictions)) (codes "evict")
-  evict_right m spaces evictions r =
+      → Says (heard (shown (AtEvict m spaces evictions))) (AtEvict m spaces evictions) → IsRightWord versions (shown (AtEvict m spaces evictions)) (codes "evict")
+  evict_right m spaces evictions r s =
       elim (cases_lt 0 (length evictions)) [
-        | inl some ↦ inr (inr ((1, omega arith, refl), evict_again m spaces evictions some))
+        | inl some ↦ inr (inr ((1, omega arith, refl), again (shown (AtEvict m spaces evictions)) (codes "evict") 3 evict_numbers evictions eviction_0 some s.3))
         | inr none ↦ inl (follows _ _ _ _ (step_evict m spaces evictions eviction_0) r
             (reached-evict versions m spaces evictions eviction_0 r (eviction_0-right m.count r.0.count.0) (omega arith)
             (λ d some. absurd (omega arith))))
@@ -122,45 +99,45 @@ module _ (versions : ℕ) (one : 1 ≤ versions) (three : versions ≤ 3) where
       (reached-first_turn versions m spaces evictions processor_0 r (processor_0-right m.processors r.0.processors.0))
 
   -- each word that a reached position expects is right there
-  pub right_word : (p : Position) (word : List ℕ) → IsReached versions p → is_some (index_of word (expected p)) ≡ true → IsRightWord versions (shown p) word
-  right_word AtVersion word r h =
+  pub right_word : (p : Position) (word : List ℕ) → IsReached versions p → Says (heard (shown p)) p → is_some (index_of word (expected p)) ≡ true → IsRightWord versions (shown p) word
+  right_word AtVersion word r s h =
       by_word (expected AtVersion) word (IsRightWord versions (shown AtVersion))
       (inl (follows _ _ _ _ (step_version 1) r (reached-version versions 1 (omega arith) one)), tt) h
-  right_word (AtProcessors v) word r h =
+  right_word (AtProcessors v) word r s h =
       by_word (expected (AtProcessors v)) word (IsRightWord versions (shown (AtProcessors v)))
       (inl (follows _ _ _ _ (step_processors v 1) r (reached-processors versions v 1 r (omega arith) (omega arith))), tt) h
-  right_word (AtFetch v n) word r h =
+  right_word (AtFetch v n) word r s h =
       by_word (expected (AtFetch v n)) word (IsRightWord versions (shown (AtFetch v n)))
       (inl (follows _ _ _ _ (step_fetch v n 1) r (reached-fetch versions v n 1 r (omega arith) (omega arith))), tt) h
-  right_word (AtSlice v n f) word r h =
+  right_word (AtSlice v n f) word r s h =
       by_word (expected (AtSlice v n f)) word (IsRightWord versions (shown (AtSlice v n f)))
       (inl (follows _ _ _ _ (step_slice v n f 1) r (reached-slice versions v n f 1 three r (λ _. omega arith) (omega arith))), tt) h
-  right_word (AtSpaces v n f s) word r h =
-      by_word (expected (AtSpaces v n f s)) word (IsRightWord versions (shown (AtSpaces v n f s)))
-      (inl (follows _ _ _ _ (step_spaces v n f s 1) r (reached-spaces versions v n f s 1 r (omega arith) (omega arith))), tt) h
-  right_word (AtSpace m spaces) word r h =
+  right_word (AtSpaces v n f l) word r s h =
+      by_word (expected (AtSpaces v n f l)) word (IsRightWord versions (shown (AtSpaces v n f l)))
+      (inl (follows _ _ _ _ (step_spaces v n f l 1) r (reached-spaces versions v n f l 1 r (omega arith) (omega arith))), tt) h
+  right_word (AtSpace m spaces) word r s h =
       by_word (expected (AtSpace m spaces)) word (IsRightWord versions (shown (AtSpace m spaces))) (inl (space_follows m spaces r), tt) h
-  right_word (AtSem m spaces d) word r h =
+  right_word (AtSem m spaces d) word r s h =
       by_word (expected (AtSem m spaces d)) word (IsRightWord versions (shown (AtSem m spaces d)))
       (inl (follows _ _ _ _ (step_sem m spaces d 0) r (reached-sem versions m spaces d 0 r (omega arith))), tt) h
-  right_word (AtAbsent m spaces d) word r h =
+  right_word (AtAbsent m spaces d) word r s h =
       by_word (expected (AtAbsent m spaces d)) word (IsRightWord versions (shown (AtAbsent m spaces d)))
-      (absent_right m spaces d r, (inl (program_follows m spaces d r), tt)) h
-  right_word (AtProgram m spaces d) word r h =
+      (absent_right m spaces d r s, (inl (program_follows m spaces d r), tt)) h
+  right_word (AtProgram m spaces d) word r s h =
       by_word (expected (AtProgram m spaces d)) word (IsRightWord versions (shown (AtProgram m spaces d)))
       (inl (follows _ _ _ _ (step_program m spaces d 1) r (reached-program versions m spaces d 1 r (omega arith) (omega arith))), tt) h
-  right_word (AtInstr m spaces d len instrs) word r h = inr (inl (contained instr_words word h, instr_follows m spaces d len instrs r))
-  right_word (AtEvict m spaces evictions) word r h =
+  right_word (AtInstr m spaces d len instrs) word r s h = inr (inl (contained instr_words word h, instr_follows m spaces d len instrs r))
+  right_word (AtEvict m spaces evictions) word r s h =
       by_word (expected (AtEvict m spaces evictions)) word (IsRightWord versions (shown (AtEvict m spaces evictions))) (
-        evict_right m spaces evictions r,
+        evict_right m spaces evictions r s,
         (
           inl (turn_follows m spaces evictions r),
           (inl (follows _ _ _ _ (step_first_close m spaces evictions) r (reached-first_close versions m spaces evictions r)), tt),
         ),
       ) h
-  right_word (AtTurn m spaces evictions turns) word r h =
+  right_word (AtTurn m spaces evictions turns) word r s h =
       by_word (expected (AtTurn m spaces evictions turns)) word (IsRightWord versions (shown (AtTurn m spaces evictions turns))) (
-        inr (inr ((2, omega arith, refl), turn_again m spaces evictions turns r.5)),
+        inr (inr ((2, omega arith, refl), s.2)),
         (inl (follows _ _ _ _ (step_close m spaces evictions turns) r (reached-close versions m spaces evictions turns r)), tt),
       ) h
-  right_word (Closed w) word r h = absurd (cc h)
+  right_word (Closed w) word r s h = absurd (cc h)

@@ -1,30 +1,20 @@
 -- Lists with one element more at the end: what holds of the whole holds of its front and of its last element.
-use Rattle.std.proofs.Common.{◌≡◌, ℕ, ◌≤◌, ◌⊎◌, Bool, true, false, ◌&&◌, List, [], ◌∷◌, ◌++◌, length, All, arith, refl, ap, ◌∙◌, subst, inl, inr, eqb, eq-eqb, ne_eqb, ◌≢◌}
+use Rattle.std.proofs.Common.{◌≡◌, ℕ, ◌⊎◌, Bool, true, false, ◌&&◌, List, [], ◌∷◌, ◌++◌, length, get_or, ◌<◌, ◌-◌, Some, All, arith, refl, ap, ◌∙◌, subst, inl, inr, eqb, eq-eqb, ne_eqb, ◌≢◌}
 use Rattle.std.specs.List.{list_all}
 use Rattle.std.proofs.lemmas.List.{get_or_push, get_or_append_left, length_push}
 use Rattle.std.proofs.lemmas.List.Elements.{All-nil, All-cons, All-head, All-tail}
 use Rattle.std.proofs.lemmas.Bool.{cases_eq}
+use Rattle.std.proofs.lemmas.Option.{slice_get-get_or}
+use Rattle.sa_workload.specs.Next.{last_of}
 
--- the list has a last element
-pub record Pushed {X : Type 0} (xs : List X) : Type 0 where
-  pub front : List X
-  pub last : X
-  pub whole : xs ≡ front ++ last ∷ []
+-- the last of a list, where there is one
+pub last_is : {X : Type 0} (xs : List X) (d : X) → 0 < length xs → last_of xs ≡ Some (get_or xs (length xs - 1) d)
+last_is xs d h = slice_get-get_or xs (length xs - 1) d (omega arith)
 
-pub split_last : {X : Type 0} (xs : List X) → (xs ≡ []) ⊎ Pushed xs
-split_last [] = inl refl
-split_last {X} (x ∷ xs) = inr (onto x xs (split_last xs))
-  where
-    onto : (x : X) (xs : List X) → (xs ≡ []) ⊎ Pushed xs → Pushed (x ∷ xs)
-    onto x xs (inl e) = record { front = []; last = x; whole = ap (λ (ys : List X). x ∷ ys) e }
-    onto x xs (inr p) = record { front = x ∷ p.front; last = p.last; whole = ap (λ (ys : List X). x ∷ ys) p.whole }
-
-pub not_empty : {X : Type 0} (xs : List X) → 1 ≤ length xs → Pushed xs
-not_empty {X} xs h = pick (split_last xs)
-  where
-    pick : (xs ≡ []) ⊎ Pushed xs → Pushed xs
-    pick (inl e) = absurd (omega (arith, ap length e))
-    pick (inr p) = p
+pub last_of-push : {X : Type 0} (xs : List X) (x : X) → last_of (xs ++ x ∷ []) ≡ Some x
+last_of-push xs x =
+    last_is (xs ++ x ∷ []) x (omega (arith, length_push xs x))
+    ∙ ap Some (get_or_push xs x x (length (xs ++ x ∷ []) - 1) (omega (arith, length_push xs x)))
 
 pub All-front : {X : Type 0} (P : X → Type 0) (xs : List X) (y : X) → All P (xs ++ y ∷ []) → All P xs
 All-front P xs y h = λ k d l. subst P (get_or_append_left xs (y ∷ []) d k l) (h k d (omega (arith, length_push xs y)))

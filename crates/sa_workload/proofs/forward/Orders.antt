@@ -1,5 +1,5 @@
 -- The order of lines of one word.
-use Rattle.std.proofs.Common.{◌≡◌, ℕ, ◌<◌, ◌⊎◌, ◌&&◌, ◌||◌, Bool, true, false, cond, List, [], ◌∷◌, length, Option, Some, None, refl, sym, ap, ◌∙◌, inl, inr, arith, ltb, eqb, lt-ltb, eq-eqb}
+use Rattle.std.proofs.Common.{◌≡◌, ℕ, ◌<◌, ◌⊎◌, ◌&&◌, ◌||◌, Bool, true, false, cond, List, [], ◌∷◌, length, Option, Some, None, refl, sym, ap, ◌∙◌, inl, inr, arith, ltb, eqb, lt-ltb, eq-eqb, ltb-true, eqb-true, subst}
 use Rattle.std.specs.Str.{bytes_eq}
 use Rattle.std.specs.Option.{option_map}
 use Rattle.std.proofs.lemmas.Bool.{false≢true, cases_lt, cases_eq}
@@ -9,8 +9,35 @@ use Rattle.sa_spaces.specs.Workload.{IsBefore}
 use Rattle.sa_workload.specs.Bad.{list_lt}
 use Rattle.sa_workload.specs.Fields.{order_cause}
 use Rattle.sa_workload.specs.Next.{evict_numbers}
-use Rattle.sa_workload.proofs.fields.FieldLemmas.{if_either}
-use Rattle.sa_workload.proofs.causes.OneCause.{before_heads, list_lt-irrefl, list_lt-asym}
+use Rattle.sa_workload.proofs.fields.FieldLemmas.{if_either, both_true}
+
+or_cases : (a b : Bool) → (a || b) ≡ true → (a ≡ true) ⊎ (b ≡ true)
+or_cases true b h = inl refl
+or_cases false b h = inr h
+
+-- what one list before another says of their heads
+pub before_heads : (x y : ℕ) (xs ys : List ℕ) → list_lt (x ∷ xs) (y ∷ ys) ≡ true → (x < y) ⊎ ((x ≡ y) × (list_lt xs ys ≡ true))
+before_heads x y xs ys h = pick (or_cases (ltb x y) (eqb x y && list_lt xs ys) h)
+  where
+    pick : (ltb x y ≡ true) ⊎ ((eqb x y && list_lt xs ys) ≡ true) → (x < y) ⊎ ((x ≡ y) × (list_lt xs ys ≡ true))
+    pick (inl a) = inl (ltb-true x y a)
+    pick (inr b) = let c = both_true (eqb x y) (list_lt xs ys) b in inr (eqb-true x y c.0, c.1)
+
+pub list_lt-asym : (xs ys : List ℕ) → list_lt xs ys ≡ true → list_lt ys xs ≡ true → ⊥
+list_lt-asym [] [] h k = absurd (cc h)
+list_lt-asym [] (y ∷ ys) h k = absurd (cc h)
+list_lt-asym (x ∷ xs) [] h k = absurd (cc h)
+list_lt-asym (x ∷ xs) (y ∷ ys) h k = pick (before_heads x y xs ys h) (before_heads y x ys xs k) (list_lt-asym xs ys)
+  where
+    pick : (x < y) ⊎ ((x ≡ y) × (list_lt xs ys ≡ true)) → (y < x) ⊎ ((y ≡ x) × (list_lt ys xs ≡ true))
+        → (list_lt xs ys ≡ true → list_lt ys xs ≡ true → ⊥) → ⊥
+    pick (inl a) (inl b) rest = absurd (omega arith)
+    pick (inl a) (inr b) rest = absurd (omega (arith, b.0))
+    pick (inr a) (inl b) rest = absurd (omega (arith, a.0))
+    pick (inr a) (inr b) rest = rest a.1 b.1
+
+pub list_lt-irrefl : (xs ys : List ℕ) → xs ≡ ys → list_lt xs ys ≡ true → ⊥
+list_lt-irrefl xs ys e h = list_lt-asym xs ys h (subst (λ (zs : List ℕ). list_lt zs xs ≡ true) e (subst (λ (zs : List ℕ). list_lt xs zs ≡ true) (sym e) h))
 
 pub less_head : (x y : ℕ) (xs ys : List ℕ) → x < y → list_lt (x ∷ xs) (y ∷ ys) ≡ true
 less_head x y xs ys h = ap (λ (b : Bool). b || (eqb x y && list_lt xs ys)) (lt-ltb x y h)
@@ -40,17 +67,6 @@ cases_list_lt (x ∷ xs) (y ∷ ys) e =
             | inr later ↦ inr (inr (same_head y x ys xs (sym same) later))
           ]
         ]
-      ]
-    ]
-
-pub order-some : (last ns : List ℕ) (why : ℕ) → order_cause (Some last) ns ≡ Some why
-    → ((ns ≡ last) × (why ≡ 5)) ⊎ ((list_lt ns last ≡ true) × (why ≡ 4))
-order-some last ns why h =
-    elim (if_either (bytes_eq ns last) (Some 5) (cond (list_lt ns last) (Some 4) None) (Some why) h) [
-      | inl same ↦ let e : Some 5 ≡ Some why = same.1 in inl ((bytes_eq-Decides ns last).0 same.0, cc e)
-      | inr other ↦ elim (if_either (list_lt ns last) (Some 4) None (Some why) other.1) [
-        | inl less ↦ let e : Some 4 ≡ Some why = less.1 in inr (less.0, cc e)
-        | inr none ↦ absurd (cc (none.1))
       ]
     ]
 

@@ -4,7 +4,6 @@ use Rattle.std.specs.Option.{is_some, option_map}
 use Rattle.std.specs.List.{AllByRecursion}
 use Rattle.std.proofs.lemmas.Bool.{cases_eq, false≢true}
 use Rattle.std.proofs.lemmas.List.Elements.{All-contains, All-from_recursion}
-use Rattle.std.proofs.lemmas.Option.{slice_get-get_or}
 use Rattle.sa_base.specs.declared.limits.TheConstants.{MAX_EVENTS, MAX_PROCESSORS, MAX_SPACES}
 use Rattle.sa_instr.specs.declared.limits.TheConstants.{LAST_PAGE, MAX_CELLS, MAX_EVICTIONS, MAX_FETCH, MAX_INSTRUCTIONS, MAX_MUTEXES, MAX_PATIENCE, MAX_PRIORITY, MAX_PROGRAMS, MAX_SEMAPHORES, MAX_SLICE, MAX_START, MAX_TURNS}
 use Rattle.sa_instr.specs.declared.instr.Instr.{Instr}
@@ -19,9 +18,8 @@ use Rattle.sa_workload.specs.Steps.{Steps, expected, step_version, step_processo
 use Rattle.sa_workload.specs.Next.{numbers_at, fields_of, is_full, last_numbers, last_of, evict_numbers, draft_from, evict_from, turn_from, is_end, operation_of, made_by, step, step_instr, next_by, is_last_impatient, draft_numbers, instr_in}
 use Rattle.sa_workload.proofs.fields.FieldLemmas.{same_ok, if_either, and_then-ok, contained, line-ok, one_number, spelled, Passes, spelled_all, AllPass, within-passes, declared-passes}
 use Rattle.sa_workload.proofs.fields.InstrLemmas.{IsAllowed, instr-read, expected-operation, operation-fields}
-use Rattle.sa_workload.proofs.forward.Fronts.{all_true}
-use Rattle.sa_workload.proofs.forward.Orders.{order-none, evict_before}
-use Rattle.sa_workload.proofs.causes.OneCause.{before_heads}
+use Rattle.sa_workload.proofs.forward.Fronts.{last_is, all_true}
+use Rattle.sa_workload.proofs.forward.Orders.{before_heads, order-none, evict_before}
 use Rattle.sa_workload.proofs.forward.Reached.{IsSpaceLine, reached-version, reached-processors, reached-fetch, reached-slice, reached-spaces, reached-space, reached-sem, reached-absent, reached-first_program, reached-program, reached-instr, reached-evict, reached-first_turn, reached-turn, reached-first_close, reached-close}
 
 -- what holds of each of some words holds of the one that is found among them
@@ -161,10 +159,6 @@ instr_goes versions m spaces d len instrs word words q r t =
                 (λ last. end_of i.instr (not_both (length instrs + 1 == len) (is_end i.instr) fine.0 (eq-eqb (length instrs + 1) len last)));
           }))
     ]
-
--- the last of a list
-last_is : {A : Type 0} (xs : List A) (d : A) → 0 < length xs → last_of xs ≡ Some (get_or xs (length xs - 1) d)
-last_is xs d h = slice_get-get_or xs (length xs - 1) d (omega arith)
 
 -- an eviction
 evict_goes : (versions : ℕ) (m : Machine) (spaces : List SpaceView) (es : List Evict) (words : List (List ℕ)) (q : Position) (ns : List ℕ) → IsReached versions (AtEvict m spaces es)

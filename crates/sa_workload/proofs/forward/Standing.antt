@@ -1,9 +1,12 @@
 -- Where a reader stands behind lines: what it keeps, and which words it expects.
-use Rattle.std.proofs.Common.{◌≡◌, ℕ, ◌≤◌, Bool, true, false, List, [], ◌∷◌, ◌++◌, Contains, Result, Ok, codes, refl, sym, ap, ◌∙◌, subst, inl, inr, arith, append_assoc, eqb, if◌then◌else◌}
+use Rattle.std.proofs.Common.{◌≡◌, ◌⊎◌, ℕ, ◌≤◌, not, Bool, true, false, List, [], ◌∷◌, ◌++◌, Contains, Result, Ok, codes, refl, sym, ap, ◌∙◌, subst, inl, inr, arith, append_assoc, eqb, if◌then◌else◌}
 use Rattle.std.specs.Option.{is_some}
 use Rattle.std.specs.List.{list_all}
 use Rattle.std.proofs.lemmas.Bool.{false≢true}
-use Rattle.std.proofs.lemmas.Slice.Eq.{bytes_eq-Decides}
+use Rattle.std.proofs.lemmas.List.Elements.{All-contains}
+use Rattle.std.proofs.lemmas.List.Sums.{AllPass-from_list_all}
+use Rattle.sa_instr.specs.declared.operation.Operation.{Operation}
+use Rattle.sa_instr.specs.declared.operation.Operation.TheVariants as Operations
 use Rattle.sa_instr.specs.Operation.{form_of}
 use Rattle.sa_instr.specs.Parts.{parts_of}
 use Rattle.sa_spaces.specs.Space.{SpaceView}
@@ -11,56 +14,45 @@ use Rattle.sa_spaces.specs.Workload.{WorkloadView, IsWorkload}
 use Rattle.sa_workload.specs.Text.{version_of, workload_lines}
 use Rattle.sa_workload.specs.Bad.{IsUpTo, Begins, MayFollow, IsRightWord, instr_words, repeated_words, first_word, last_line}
 use Rattle.sa_workload.specs.Fields.{and_then, index_of}
-use Rattle.sa_workload.specs.Position.{Position, AtVersion, AtProcessors, AtFetch, AtSlice, AtSpaces, AtSpace, AtSem, AtAbsent, AtProgram, AtInstr, AtEvict, AtTurn, Closed, IsReached, shown}
-use Rattle.sa_workload.specs.Steps.{Steps, expected, step_version, step_processors, step_fetch, step_slice, step_spaces, step_space, step_sem, step_absent, step_first_program, step_program, step_instr, step_evict, step_first_turn, step_turn, step_first_close, step_close}
+use Rattle.sa_workload.specs.Position.{Position, AtVersion, AtInstr, Closed, IsReached, shown}
+use Rattle.sa_workload.specs.Steps.{Steps, expected, step_absent, step_instr, step_evict, step_first_turn, step_turn}
 use Rattle.sa_workload.specs.Next.{next}
-use Rattle.sa_workload.proofs.fields.FieldLemmas.{same_ok, and_then-ok, known_word}
-use Rattle.sa_workload.proofs.fields.InstrLemmas.{operation-expected}
+use Rattle.sa_workload.proofs.fields.FieldLemmas.{contained, same_ok, and_then-ok, known_word}
 use Rattle.sa_workload.proofs.forward.ShownStep.{shown-step}
 use Rattle.sa_workload.proofs.forward.Completion.{version-low, completes}
 use Rattle.sa_workload.proofs.forward.Following.{right_word}
-use Rattle.sa_workload.proofs.causes.FirstWords.{is_other, other, last_line-push}
-use Rattle.sa_workload.proofs.forward.Sound.{by_word, took, GoesTo, sound}
+use Rattle.sa_workload.proofs.forward.Says.{Heard, heard, heard-push, Says, says-next, last_line-push}
+use Rattle.sa_workload.proofs.forward.Sound.{took, GoesTo, sound}
 use Rattle.sa_workload.proofs.forward.Complete.{run, run-append, run-then, complete}
-
-none_of : (ks : List (List ℕ)) (word : List ℕ) → is_other word ks ≡ true → Contains ks word → ⊥
-none_of ks word h c = absurd (cc (other word word ks c h, (bytes_eq-Decides word word).1 refl))
 
 -- behind a line with one of the repeated words the word is expected again
 abbrev Repeats : Position → List ℕ → Type 0
 Repeats q word = Contains repeated_words word → is_some (index_of word (expected q)) ≡ true
 
-not_repeated : (q : Position) (word : List ℕ) → is_other word repeated_words ≡ true → Repeats q word
-not_repeated q word h c = absurd (none_of repeated_words word h c)
+not_repeated : (q : Position) (word : List ℕ) → is_some (index_of word repeated_words) ≡ false → Repeats q word
+not_repeated q word h c = absurd (false≢true (sym h ∙ known_word repeated_words word c))
+
+instr_repeats : (q : Position) (o : Operation) → Repeats q (form_of o).word
+instr_repeats q Operations.End = not_repeated q (codes "end") refl
+instr_repeats q o = not_repeated q (form_of o).word refl
 
 repeats : (p : Position) (line : List (List ℕ)) (q : Position) → Steps p line q → Repeats q (first_word line)
-repeats p line q (step_version v) = not_repeated q (codes "workload") refl
-repeats p line q (step_processors v n) = not_repeated q (codes "processors") refl
-repeats p line q (step_fetch v n f) = not_repeated q (codes "fetch") refl
-repeats p line q (step_slice v n f s) = not_repeated q (codes "slice") refl
-repeats p line q (step_spaces v n f s k) = not_repeated q (codes "spaces") refl
-repeats p line q (step_space m spaces d fresh) = not_repeated q (codes "space") refl
-repeats p line q (step_sem m spaces d n) = not_repeated q (codes "sem") refl
 repeats p line q (step_absent m spaces d k) = λ c. refl
-repeats p line q (step_first_program m spaces d len) = not_repeated q (codes "program") refl
-repeats p line q (step_program m spaces d len) = not_repeated q (codes "program") refl
-repeats p line q (step_instr m spaces d len instrs i) =
-    not_repeated q (first_word line) (by_word instr_words (form_of (parts_of i).operation).word (λ (w : List ℕ). is_other w repeated_words ≡ true)
-    (refl, (refl, (refl, (refl, (refl, (refl, (refl, (refl, (refl, (refl, (refl, (refl, (refl, (refl, (refl, (refl, (refl, tt))))))))))))))))) (operation-expected (parts_of i).operation))
+repeats p line q (step_instr m spaces d len instrs i) = instr_repeats q (parts_of i).operation
 repeats p line q (step_evict m spaces es e) = λ c. refl
 repeats p line q (step_first_turn m spaces es t) = λ c. refl
 repeats p line q (step_turn m spaces es ts t) = λ c. refl
-repeats p line q (step_first_close m spaces es) = not_repeated q (codes "close") refl
-repeats p line q (step_close m spaces es ts) = not_repeated q (codes "close") refl
+repeats p line q _ = not_repeated q (first_word line) refl
 
 -- a reader of so many versions stands here behind the lines that the position shows
 pub record IsAt (versions : ℕ) (p : Position) : Type 0 where
   pub run_is : run versions AtVersion (shown p) ≡ Ok p
   pub reached : IsReached versions p
+  pub says : Says (heard (shown p)) p
   pub again : Repeats p (first_word (last_line (shown p)))
 
 pub at_first : (versions : ℕ) → IsAt versions AtVersion
-at_first versions = record { run_is = refl; reached = tt; again = not_repeated AtVersion [] refl }
+at_first versions = record { run_is = refl; reached = tt; says = (refl, refl, refl, refl); again = not_repeated AtVersion [] refl }
 
 pub at_next : (versions : ℕ) → versions ≤ 3 → (p q : Position) (line : List (List ℕ)) → IsAt versions p → next versions p line ≡ Ok q
     → IsAt versions q × (shown q ≡ shown p ++ line ∷ [])
@@ -72,6 +64,8 @@ at_next versions three p q (word ∷ words) a h =
         run_is = ap (run versions AtVersion) s
             ∙ run-then versions AtVersion p q (shown p) ((word ∷ words) ∷ []) a.run_is (ap (λ (r : Result Position ℕ). and_then r (λ x. run versions x [])) h);
         reached = goes.reached;
+        says = subst (λ (h : Heard). Says h q) (sym (ap heard s ∙ heard-push (shown p) (word ∷ words)))
+            (says-next versions (heard (shown p)) p (word ∷ words) q goes.step a.reached goes.reached a.says);
         again = subst (λ (l : List (List ℕ)). Repeats q (first_word l)) (sym (ap last_line s ∙ last_line-push (shown p) (word ∷ words))) (repeats p (word ∷ words) q goes.step);
       },
       s,
@@ -134,30 +128,23 @@ lines-injective v w a b e = same (same_ok (Closed v) (Closed w)
     same e = cc e
 
 -- where an instruction is expected, all are
-abbrev Together : List ℕ → Position → List ℕ → Type 0
-Together word p first = is_some (index_of first instr_words) ≡ true → is_some (index_of word (expected p)) ≡ true
+instrs_or_none : (p : Position) → (expected p ≡ instr_words) ⊎ (list_all (λ word. not (is_some (index_of word instr_words))) (expected p) ≡ true)
+instrs_or_none (AtInstr m spaces d len instrs) = inl refl
+instrs_or_none _ = inr refl
 
-no_instr : (word : List ℕ) (p : Position) (first : List ℕ) → is_some (index_of first instr_words) ≡ false → Together word p first
-no_instr word p first e t = absurd (false≢true (sym e ∙ t))
-
-instrs_together : (p : Position) (word first : List ℕ) → is_some (index_of first (expected p)) ≡ true → is_some (index_of word instr_words) ≡ true → Together word p first
-instrs_together AtVersion word first known h = by_word (expected AtVersion) first (Together word AtVersion) (no_instr word AtVersion (codes "workload") refl, tt) known
-instrs_together (AtProcessors v) word first known h = by_word (expected (AtProcessors v)) first (Together word (AtProcessors v)) (no_instr word (AtProcessors v) (codes "processors") refl, tt) known
-instrs_together (AtFetch v n) word first known h = by_word (expected (AtFetch v n)) first (Together word (AtFetch v n)) (no_instr word (AtFetch v n) (codes "fetch") refl, tt) known
-instrs_together (AtSlice v n f) word first known h = by_word (expected (AtSlice v n f)) first (Together word (AtSlice v n f)) (no_instr word (AtSlice v n f) (codes "slice") refl, tt) known
-instrs_together (AtSpaces v n f s) word first known h = by_word (expected (AtSpaces v n f s)) first (Together word (AtSpaces v n f s)) (no_instr word (AtSpaces v n f s) (codes "spaces") refl, tt) known
-instrs_together (AtSpace m ss) word first known h = by_word (expected (AtSpace m ss)) first (Together word (AtSpace m ss)) (no_instr word (AtSpace m ss) (codes "space") refl, tt) known
-instrs_together (AtSem m ss d) word first known h = by_word (expected (AtSem m ss d)) first (Together word (AtSem m ss d)) (no_instr word (AtSem m ss d) (codes "sem") refl, tt) known
-instrs_together (AtAbsent m ss d) word first known h = by_word (expected (AtAbsent m ss d)) first (Together word (AtAbsent m ss d)) (no_instr word (AtAbsent m ss d) (codes "absent") refl, (no_instr word (AtAbsent m ss d) (codes "program") refl, tt)) known
-instrs_together (AtProgram m ss d) word first known h = by_word (expected (AtProgram m ss d)) first (Together word (AtProgram m ss d)) (no_instr word (AtProgram m ss d) (codes "program") refl, tt) known
-instrs_together (AtInstr m ss d len is) word first known h = λ _. h
-instrs_together (AtEvict m ss es) word first known h = by_word (expected (AtEvict m ss es)) first (Together word (AtEvict m ss es)) (no_instr word (AtEvict m ss es) (codes "evict") refl, (no_instr word (AtEvict m ss es) (codes "turn") refl, (no_instr word (AtEvict m ss es) (codes "close") refl, tt))) known
-instrs_together (AtTurn m ss es ts) word first known h = by_word (expected (AtTurn m ss es ts)) first (Together word (AtTurn m ss es ts)) (no_instr word (AtTurn m ss es ts) (codes "turn") refl, (no_instr word (AtTurn m ss es ts) (codes "close") refl, tt)) known
-instrs_together (Closed w) word first known h = absurd (cc known)
+instrs_together : (p : Position) (word first : List ℕ) → is_some (index_of first (expected p)) ≡ true → is_some (index_of word instr_words) ≡ true
+    → is_some (index_of first instr_words) ≡ true → is_some (index_of word (expected p)) ≡ true
+instrs_together p word first known h t =
+    elim (instrs_or_none p) [
+      | inl all ↦ subst (λ (ks : List (List ℕ)). is_some (index_of word ks) ≡ true) (sym all) h
+      | inr none ↦
+          let test : List ℕ → Bool = λ word. not (is_some (index_of word instr_words)) in
+          absurd (cc (sym (ap not t) ∙ All-contains (λ (k : List ℕ). test k ≡ true) (expected p) first (AllPass-from_list_all test (expected p) none) (contained (expected p) first known)))
+    ]
 
 -- the words that may begin a line are those that are expected
 pub expects : (versions : ℕ) → Setting versions → (p : Position) (word : List ℕ) → IsAt versions p → is_some (index_of word (expected p)) ≡ true → IsRightWord versions (shown p) word
-expects versions s p word a known = right_word versions s.one s.few p word a.reached known
+expects versions s p word a known = right_word versions s.one s.few p word a.reached a.says known
 
 follows : (versions : ℕ) → Setting versions → (p : Position) (word : List ℕ) → IsAt versions p → MayFollow versions (shown p) word → is_some (index_of word (expected p)) ≡ true
 follows versions s p word a f =

@@ -8,11 +8,10 @@ use Rattle.sa_spaces.specs.Workload.{WorkloadView, IsWorkload}
 use Rattle.sa_text.specs.LineText.{LineText, line_texts}
 use Rattle.sa_text.specs.Pieces.{pieces_of}
 use Rattle.sa_workload.specs.Text.{workload_lines, text_of}
-use Rattle.sa_workload.specs.Bad.{IsUpTo, Begins, LineCause, words_of, IsBad}
+use Rattle.sa_workload.specs.Bad.{IsUpTo, IsTooMany, field_cause, fields_behind, WordCause, Begins, LineCause, words_of, IsBad}
 use Rattle.sa_workload.specs.Laws.{TextsDiffer}
 use Rattle.sa_workload.proofs.forward.Completion.{begins_front}
 use Rattle.sa_workload.proofs.forward.Standing.{lines-injective}
-use Rattle.sa_workload.proofs.causes.OneCause.{causes-are_one}
 use Rattle.sa_workload.proofs.whole.TextLemmas.{ended_line, line_texts-text_of, words_of-text_of}
 
 -- the lines up to one of them
@@ -63,6 +62,25 @@ bad_before versions ls k j why cause a b below = pick (slice_get ls (k - 1)) ref
         x.0 ended
         (begins_front versions (words_of (take (k - 1) ls) ++ pieces_of line.bytes ∷ []) (words_of (drop (k - 1 + 1) (take (j - 1) ls)))
         (subst (λ (ws : List (List (List ℕ))). Begins versions ws) words b.begins))
+
+-- the words of a line have one cause
+causes-are_one : (versions : ℕ) (lines : List (List (List ℕ))) (line : List (List ℕ)) (why cause : ℕ)
+    → WordCause versions lines line why → WordCause versions lines line cause → why ≡ cause
+causes-are_one versions lines [] why cause a b = absurd a
+causes-are_one versions lines (word ∷ words) why cause (inl a) (inl b) = a.1 ∙ sym b.1
+causes-are_one versions lines (word ∷ words) why cause (inl a) (inr b) = absurd (a.0 b.0)
+causes-are_one versions lines (word ∷ words) why cause (inr a) (inl b) = absurd (b.0 a.0)
+causes-are_one versions lines (word ∷ words) why cause (inr a) (inr b) = pick a.1 b.1
+  where
+    Behind : ℕ → Type 0
+    Behind n =
+        (IsTooMany lines word × (n ≡ 8)) ⊎ ((¬ IsTooMany lines word) × (field_cause lines (fields_behind versions lines word) word words ≡ n))
+
+    pick : Behind why → Behind cause → why ≡ cause
+    pick (inl x) (inl y) = x.1 ∙ sym y.1
+    pick (inl x) (inr y) = absurd (y.0 x.0)
+    pick (inr x) (inl y) = absurd (x.0 y.0)
+    pick (inr x) (inr y) = sym x.1 ∙ y.1
 
 line_cause_one : (versions : ℕ) (lines : List (List (List ℕ))) (line : LineText) (why cause : ℕ)
     → LineCause versions lines line why → LineCause versions lines line cause → why ≡ cause

@@ -1,29 +1,32 @@
 -- The table of lines is tied to the texts: a first wrong word is the first with which no text goes on, and where all words are
 -- right, only `end` is missing.
-use Rattle.std.proofs.Common.{◌≡◌, ◌≢◌, ℕ, suc, ◌+◌, ◌<◌, ◌≤◌, ◌==◌, ◌&&◌, not, Bool, true, false, List, [], ◌∷◌, ◌++◌, length, map, take, Contains, Option, None, Result, Ok, Err, codes, decimal, if◌then◌else◌, refl, sym, ap, ap₂, ◌∙◌, subst, inl, inr, arith, append_assoc, append-nil}
+use Rattle.std.proofs.Common.{◌≡◌, ◌≢◌, ℕ, suc, ◌+◌, ◌<◌, ◌≤◌, ◌==◌, ◌&&◌, not, Bool, true, false, List, [], ◌∷◌, ◌++◌, length, get_or, map, take, Contains, Option, None, Some, Result, Ok, Err, codes, decimal, if◌then◌else◌, refl, sym, ap, ap₂, ◌∙◌, subst, inl, inr, arith, append_assoc, append-nil, length-append, IfSome, IsTrue}
+use Rattle.std.specs.Bool.{⊤}
+use Rattle.std.specs.Result.{is_ok}
 use Rattle.std.specs.Option.{is_some}
 use Rattle.std.specs.Str.{bytes_eq}
 use Rattle.std.specs.Str.Parse.{digits_value}
 use Rattle.std.proofs.lemmas.Bool.{false_from_ne_true}
 use Rattle.std.proofs.lemmas.List.{length-map}
+use Rattle.std.proofs.lemmas.List.Elements.{All-map}
+use Rattle.sa_instr.specs.Parts.{parts_of}
 use Rattle.sa_workload.specs.Text.{instr_line}
-use Rattle.sa_workload.specs.Bad.{Begins, MayFollow, IsRightWord, IsTooMany, Field, Register, Number, IsRightFor, IsFirstWrong, AreRight, IsInOrder, list_lt, numbers_of, instr_words, last_line, fields_behind}
-use Rattle.sa_workload.specs.Laws.{IsFirstWrongPlace, IsFree, FirstWrongWords, IsLastPlace, LastCauseIsNoEnd}
-use Rattle.sa_workload.specs.Fields.{and_then, index_of, order_cause}
+use Rattle.sa_workload.specs.Bad.{ordered_words, is_ordered, first_word, Begins, MayFollow, IsRightWord, IsTooMany, Field, Register, Number, list_lt, numbers_of, instr_words, last_line, fields_behind, fields_by, DeclaredNumbers}
+use Rattle.sa_workload.specs.Laws.{IsFirstWrong, AreRight, IsInOrder, IsFirstWrongPlace, IsFree, FirstWrongWords, IsLastPlace, LastCauseIsNoEnd}
+use Rattle.sa_workload.specs.Fields.{and_then, index_of, order_cause, read_field, fields_at}
 use Rattle.sa_workload.specs.Position.{Position, AtVersion, AtAbsent, AtInstr, AtEvict, AtTurn, Closed, shown, shown_spaces, shown_draft}
 use Rattle.sa_workload.specs.Steps.{expected, workload, after_instr}
 use Rattle.sa_workload.specs.Next.{numbers_at, is_full, last_numbers, fields_of, is_end, step, step_instr, evict_from, turn_from, next}
-use Rattle.sa_workload.proofs.fields.FieldLemmas.{register-spelled, same_ok, if_either, and_then-ok, contained, spelled, Passes, spelled_all, AllPass, right-read}
-use Rattle.sa_workload.proofs.fields.InstrLemmas.{instr-read}
+use Rattle.sa_workload.proofs.fields.FieldLemmas.{same_ok, if_either, both_true, and_then-ok, and_then-err, contained, spelled_all, AllPass, read-ok, fields-ok, fields-spelled, all_long}
+use Rattle.sa_workload.proofs.fields.InstrLemmas.{instr-read, operation-expected}
 use Rattle.sa_workload.proofs.causes.Causes.{word_end, IsStuck, step-err}
 use Rattle.sa_workload.proofs.forward.Completion.{begins_front}
 use Rattle.sa_workload.proofs.forward.Orders.{none-order}
-use Rattle.sa_workload.proofs.causes.OneCause.{right_not_wrong}
-use Rattle.sa_workload.proofs.forward.Sound.{Took, took}
+use Rattle.sa_workload.proofs.forward.Sound.{by_word, Took, took}
 use Rattle.sa_workload.proofs.forward.Complete.{complete, take-line, run, run-append}
-use Rattle.sa_workload.proofs.causes.LineAt.{OrderAt, free, behind, LineAt, line_at, numbers_of-spelled}
+use Rattle.sa_workload.proofs.causes.LineAt.{many-Decides, LineAt, line_at}
+use Rattle.sa_workload.proofs.forward.Says.{reads, ordered-Decides}
 use Rattle.sa_workload.proofs.forward.Standing.{IsAt, Setting, at_first, at_next, begins, begins-next, expected_words}
-use Rattle.sa_workload.proofs.causes.FirstWords.{instrs_begin}
 
 -- a reader that went through lines stands behind them
 run-at : (versions : ℕ) → versions ≤ 3 → (ls : List (List (List ℕ))) (p q : Position) → IsAt versions p → run versions p ls ≡ Ok q → IsAt versions q × (shown q ≡ shown p ++ ls)
@@ -37,7 +40,7 @@ run-at versions three (l ∷ ls) p q a h =
     (c.0, c.1 ∙ ap (λ (x : List (List (List ℕ))). x ++ ls) b.1 ∙ append_assoc (shown p) (l ∷ []) ls)
 
 -- behind lines that begin a text a reader stands
-stands : (versions : ℕ) → Setting versions → (lines : List (List (List ℕ))) → Begins versions lines → (p : Position) × IsAt versions p × (shown p ≡ lines)
+pub stands : (versions : ℕ) → Setting versions → (lines : List (List (List ℕ))) → Begins versions lines → (p : Position) × IsAt versions p × (shown p ≡ lines)
 stands versions s lines b =
     let k = b.accepted in
     let whole : and_then (run versions AtVersion lines) (λ q. run versions q b.more) ≡ Ok (Closed b.workload) =
@@ -46,93 +49,89 @@ stands versions s lines b =
     let r = run-at versions s.few lines AtVersion p.0 (at_first versions) p.1 in
     (p.0, r.0, r.1)
 
--- the numbers of right words, and the words of right numbers
-right_number : (f : Field) (word : List ℕ) → IsRightFor f word → (n : ℕ) × Passes f n × (word ≡ spelled f n)
-right_number Register word r = (r.0, r.1, sym r.2 ∙ register-spelled r.0 word r.1)
-right_number (Number test cause) word r = (r.0, (r.1, r.3), r.2)
+-- fields that are numbers, and what they spell
+abbrev AreNumbers : List Field → Type 0
+AreNumbers [] = ⊤
+AreNumbers (Register ∷ fs) = ⊥
+AreNumbers (Number test cause ∷ fs) = AreNumbers fs
 
+numbers_of-spelled : (fs : List Field) (ns : List ℕ) (rest : List (List ℕ)) → AreNumbers fs → AllPass fs ns
+    → map (digits_value 10) (take (length fs) (spelled_all fs ns ++ rest)) ≡ ns
+numbers_of-spelled [] [] rest a h = refl
+numbers_of-spelled [] (n ∷ ns) rest a h = absurd h
+numbers_of-spelled (Register ∷ fs) ns rest a h = absurd a
+numbers_of-spelled (Number test cause ∷ fs) [] rest a h = absurd h
+numbers_of-spelled (Number test cause ∷ fs) (n ∷ ns) rest a h =
+    ap₂ (λ (k : ℕ) (ks : List ℕ). k ∷ ks) (reads n h.0.0) (numbers_of-spelled fs ns rest a h.1)
+
+ordered-numbers : (versions : ℕ) (n : DeclaredNumbers) (word : List ℕ) → is_some (index_of word ordered_words) ≡ true → AreNumbers (fields_by versions n word)
+ordered-numbers versions n word h = by_word ordered_words word (λ (w : List ℕ). AreNumbers (fields_by versions n w)) (record {}, (record {}, tt)) h
+
+-- the numbers of right words
 right_numbers : (fs : List Field) (words : List (List ℕ)) → AreRight fs words → length words ≡ length fs → (ns : List ℕ) × AllPass fs ns × (words ≡ spelled_all fs ns)
-right_numbers [] [] r e = ([], tt, refl)
-right_numbers [] (w ∷ ws) r e = absurd (omega arith)
-right_numbers (f ∷ fs) [] r e = absurd r
-right_numbers (f ∷ fs) (w ∷ ws) r e =
-    let n = right_number f w r.0 in
-    let ns = right_numbers fs ws r.1 (omega arith) in
-    (n.0 ∷ ns.0, (n.1, ns.1), ap₂ (λ (x : List ℕ) (xs : List (List ℕ)). x ∷ xs) n.2 ns.2)
+right_numbers fs words r long = by (fields_at fs words) refl r
+  where
+    whole : (ws rest : List (List ℕ)) → length (ws ++ rest) ≡ length ws → ws ++ rest ≡ ws
+    whole ws [] e = append-nil ws
+    whole ws (w ∷ rest) e = absurd (omega (arith, length-append ws (w ∷ rest)))
+
+    by : (x : Result (List ℕ × List (List ℕ)) ℕ) → fields_at fs words ≡ x → is_ok x ≡ true → (ns : List ℕ) × AllPass fs ns × (words ≡ spelled_all fs ns)
+    by (Err cause) e r = absurd (cc r)
+    by (Ok read) e r =
+        let f = fields-ok fs words read.0 read.1 e in
+        (read.0, f.1, f.0 ∙ whole (spelled_all fs read.0) read.1 (ap length (sym f.0) ∙ long ∙ sym (all_long fs read.0 f.1).1))
 
 -- the words before the first wrong one, with numbers of another line behind them
-record Mixed (fs : List Field) (words : List (List ℕ)) : Type 0 where
+record Mixed (fs : List Field) (words : List (List ℕ)) (why : ℕ) : Type 0 where
   place : ℕ
   within : place ≤ length words
   numbers : List ℕ
   passes : AllPass fs numbers
   others : List (List ℕ)
   spelled_are : spelled_all fs numbers ≡ take place words ++ others
-  wrong : (ns : List ℕ) (more : List (List ℕ)) → AllPass fs ns → place < length words → spelled_all fs ns ≡ take (suc place) words ++ more → ⊥
-  short : place ≡ length words → (ns : List ℕ) → AllPass fs ns → spelled_all fs ns ≡ words → ⊥
+  wrong : place < length words → (more : List (List ℕ)) → fields_at fs (take (suc place) words ++ more) ≡ Err why
 
-same_cons : (x y : List ℕ) (xs ys : List (List ℕ)) → x ∷ xs ≡ y ∷ ys → (x ≡ y) × (xs ≡ ys)
-same_cons x y xs ys h = (cc h, cc h)
+-- how fields go on behind a word
+abbrev behind : List Field → List (List ℕ) → Result ℕ ℕ → Result (List ℕ × List (List ℕ)) ℕ
+behind fs words r = and_then {A = ℕ × List (List ℕ)} (and_then r (λ n. Ok (n, words))) (λ first. and_then (fields_at fs first.1) (λ others. Ok (first.0 ∷ others.0, others.1)))
 
-mixed : (fs : List Field) (words : List (List ℕ)) (why : ℕ) (ms : List ℕ) → AllPass fs ms → IsFirstWrong fs words why → Mixed fs words
-mixed [] words why ms pass w = absurd w
+later : (fs : List Field) (words : List (List ℕ)) (n why : ℕ) → behind fs words (Ok n) ≡ Err why → fields_at fs words ≡ Err why
+later fs words n why h = elim (and_then-err (fields_at fs words) (λ others. Ok (n ∷ others.0, others.1)) why h) [ inl wrong ↦ wrong | inr none ↦ absurd (cc none.2) ]
+
+mixed : (fs : List Field) (words : List (List ℕ)) (why : ℕ) (ms : List ℕ) → AllPass fs ms → fields_at fs words ≡ Err why → Mixed fs words why
+mixed [] words why ms pass w = absurd (cc w)
 mixed (f ∷ fs) words why [] pass w = absurd pass
-mixed (f ∷ fs) [] why (m ∷ ms) pass w = record {
-  place = 0;
-  within = omega arith;
-  numbers = m ∷ ms;
-  passes = pass;
-  others = spelled_all (f ∷ fs) (m ∷ ms);
-  spelled_are = refl;
-  wrong = λ ns more p l e. absurd (omega arith);
-  short = λ z ns p e. none ns p e;
-}
+mixed (f ∷ fs) [] why (m ∷ ms) pass w =
+    record { place = 0; within = omega arith; numbers = m ∷ ms; passes = pass; others = spelled_all (f ∷ fs) (m ∷ ms); spelled_are = refl; wrong = λ l. absurd (omega arith) }
+mixed (f ∷ fs) (word ∷ words) why (m ∷ ms) pass w = by (read_field f word) refl (λ v. mixed fs words why ms pass.1 v)
   where
-    none : (ns : List ℕ) → AllPass (f ∷ fs) ns → spelled_all (f ∷ fs) ns ≡ [] → ⊥
-    none [] p e = absurd p
-    none (n ∷ ns) p e = absurd (cc e)
-mixed (f ∷ fs) (word ∷ words) why (m ∷ ms) pass (inl own) = record {
-  place = 0;
-  within = omega arith;
-  numbers = m ∷ ms;
-  passes = pass;
-  others = spelled_all (f ∷ fs) (m ∷ ms);
-  spelled_are = refl;
-  wrong = λ ns more p l e. none ns more p e;
-  short = λ z ns p e. absurd (omega arith);
-}
-  where
-    none : (ns : List ℕ) (more : List (List ℕ)) → AllPass (f ∷ fs) ns → spelled_all (f ∷ fs) ns ≡ word ∷ more → ⊥
-    none [] more p e = absurd p
-    none (n ∷ ns) more p e =
-        let same = same_cons (spelled f n) word (spelled_all fs ns) more e in
-        right_not_wrong f word why (subst (IsRightFor f) same.0 (right-read f n p.0)) own
-mixed (f ∷ fs) (word ∷ words) why (m ∷ ms) pass (inr (right, later)) =
-    let n = right_number f word right in
-    let rest = mixed fs words why ms pass.1 later in
-    record {
-      place = suc rest.place;
-      within = omega (arith, rest.within);
-      numbers = n.0 ∷ rest.numbers;
-      passes = (n.1, rest.passes);
-      others = rest.others;
-      spelled_are = ap₂ (λ (x : List ℕ) (xs : List (List ℕ)). x ∷ xs) (sym n.2) rest.spelled_are;
-      wrong = λ ns more p l e. wrong rest ns more p l e;
-      short = λ z ns p e. short rest z ns p e;
+    by : (r : Result ℕ ℕ) → read_field f word ≡ r → (fields_at fs words ≡ Err why → Mixed fs words why) → Mixed (f ∷ fs) (word ∷ words) why
+    by (Err cause) e rest = record {
+      place = 0;
+      within = omega arith;
+      numbers = m ∷ ms;
+      passes = pass;
+      others = spelled_all (f ∷ fs) (m ∷ ms);
+      spelled_are = refl;
+      wrong = λ l more. ap (behind fs more) e ∙ ap (behind fs words) (sym e) ∙ w;
     }
-  where
-    wrong : (rest : Mixed fs words) (ns : List ℕ) (more : List (List ℕ)) → AllPass (f ∷ fs) ns → suc rest.place < length (word ∷ words)
-        → spelled_all (f ∷ fs) ns ≡ take (suc (suc rest.place)) (word ∷ words) ++ more → ⊥
-    wrong rest [] more p l e = absurd p
-    wrong rest (n ∷ ns) more p l e =
-        let same = same_cons (spelled f n) word (spelled_all fs ns) (take (suc rest.place) words ++ more) e in
-        rest.wrong ns more p.1 (omega arith) same.1
+    by (Ok n) e rest =
+        let read = read-ok f word n e in
+        let x : Mixed fs words why = rest (later fs words n why (ap (behind fs words) (sym e) ∙ w)) in
+        record {
+          place = suc x.place;
+          within = omega (arith, x.within);
+          numbers = n ∷ x.numbers;
+          passes = (read.1, x.passes);
+          others = x.others;
+          spelled_are = ap₂ (λ (y : List ℕ) (ys : List (List ℕ)). y ∷ ys) (sym read.0) x.spelled_are;
+          wrong = λ l more. ap (behind fs (take (suc x.place) words ++ more)) e
+              ∙ ap (λ (r : Result (List ℕ × List (List ℕ)) ℕ). and_then r (λ others. Ok (n ∷ others.0, others.1))) (x.wrong (omega arith) more);
+        }
 
-    short : (rest : Mixed fs words) → suc rest.place ≡ length (word ∷ words) → (ns : List ℕ) → AllPass (f ∷ fs) ns → spelled_all (f ∷ fs) ns ≡ word ∷ words → ⊥
-    short rest z [] p e = absurd p
-    short rest z (n ∷ ns) p e =
-        let same = same_cons (spelled f n) word (spelled_all fs ns) words e in
-        rest.short (omega arith) ns p.1 same.1
+-- words that are refused are no spelling of numbers that pass
+unspelled : (fs : List Field) (words : List (List ℕ)) (why : ℕ) (ns : List ℕ) → fields_at fs words ≡ Err why → AllPass fs ns → words ≡ spelled_all fs ns → ⊥
+unspelled fs words why ns wrong pass e = absurd (cc (sym wrong ∙ ap (fields_at fs) (e ∙ sym (append-nil (spelled_all fs ns))) ∙ fields-spelled fs ns [] pass))
 
 -- where numbers lead on, others that pass do
 cond_ok : (b : Bool) (x y : Position) → (q : Position) × (◌≡◌ {A = Result Position ℕ} (if b then Ok x else Ok y) (Ok q))
@@ -181,36 +180,38 @@ wrong_at : (versions : ℕ) → Setting versions → (p : Position) → IsAt ver
 wrong_at versions s p a word words why follow free_of wrong =
     let n = begins-next versions s p (word ∷ follow.others) a follow.begins in
     let t : Took versions p word follow.others n.0 = took versions p word follow.others n.0 n.1 in
-    let at : LineAt versions p word = line_at versions s.few p word a.reached t.known in
-    let mix : Mixed (fields_of versions p word) words =
-    mixed (fields_of versions p word) words why t.numbers t.passes (subst (λ (fs : List Field). IsFirstWrong fs words why) at.fields wrong) in
+    let at : LineAt versions p word = line_at versions s.few p word a t.known in
+    let here : fields_at (fields_of versions p word) words ≡ Err why = ap (λ (fs : List Field). fields_at fs words) (sym at.fields) ∙ wrong in
+    let mix : Mixed (fields_of versions p word) words why = mixed (fields_of versions p word) words why t.numbers t.passes here in
     let to = step_alike versions p word t.numbers mix.numbers n.0 t.known t.passes mix.passes t.to in
     let leads : next versions p (word ∷ spelled_all (fields_of versions p word) mix.numbers) ≡ Ok to.0 =
-    take-line versions p word mix.numbers to.0 t.known t.room mix.passes (no_order at.order mix.numbers) to.1 in (
+    take-line versions p word mix.numbers to.0 t.known t.room mix.passes (no_order at mix.numbers) to.1 in (
       mix.place,
       record {
         within = mix.within;
         before = record {
           others = mix.others;
-          begins = subst (λ (ws : List (List ℕ)). Begins versions (shown p ++ (word ∷ ws) ∷ [])) mix.spelled_are (goes_on_with versions s p to.0 _ a leads);
+          begins = subst (λ (ws : List (List ℕ)). Begins versions (shown p ++ (word ∷ ws) ∷ [])) {y = take mix.place words ++ mix.others} mix.spelled_are
+              (goes_on_with versions s p to.0 _ a leads);
         };
         next = λ l goes.
             let m = begins-next versions s p (word ∷ (take (mix.place + 1) words ++ goes.others)) a goes.begins in
             let u = took versions p word (take (mix.place + 1) words ++ goes.others) m.0 m.1 in
-            mix.wrong u.numbers goes.others u.passes l (sym u.line ∙ ap (λ (k : ℕ). take k words ++ goes.others) (next_place mix.place));
+            unspelled _ _ why u.numbers (mix.wrong l goes.others) u.passes (ap (λ (k : ℕ). take k words ++ goes.others) (sym (next_place mix.place)) ∙ u.line);
         missing = λ z b.
             let m = begins-next versions s p (word ∷ words) a b in
             let u = took versions p word words m.0 m.1 in
-            mix.short z u.numbers u.passes (sym u.line);
+            unspelled _ words why u.numbers here u.passes u.line;
       },
     )
   where
     next_place : (k : ℕ) → k + 1 ≡ suc k
     next_place k = omega arith
 
-    no_order : OrderAt p word (fields_of versions p word) → (ns : List ℕ) → order_cause (last_numbers p word) ns ≡ None
-    no_order (free none f) ns = ap (λ (o : Option (List ℕ)). order_cause o ns) none
-    no_order (behind old is own first numbers long are) ns = absurd (free_of (own, first))
+    no_order : LineAt versions p word → (ns : List ℕ) → order_cause (last_numbers p word) ns ≡ None
+    no_order at ns = ap (λ (o : Option (List ℕ)). order_cause o ns)
+        (sym at.order ∙ ap (λ (b : Bool). if b then Some (numbers_of (length (fields_of versions p word)) (last_line (shown p))) else None)
+        (false_from_ne_true (is_ordered (last_line (shown p)) word) (λ t. free_of ((ordered-Decides (last_line (shown p)) word).0 t))))
 
 pub first_wrong_words : (versions : ℕ) → Setting versions → FirstWrongWords versions
 first_wrong_words versions s lines word words why follow free_of wrong =
@@ -231,26 +232,31 @@ stuck_at : (versions : ℕ) → Setting versions → (p : Position) → IsAt ver
     → ¬ Begins versions (shown p ++ (word ∷ words) ∷ []) → IsStuckLine (shown p) word
 stuck_at versions s p a word words right few are order long none =
     let known : is_some (index_of word (expected p)) ≡ true = expected_words versions s p word a right in
-    let at : LineAt versions p word = line_at versions s.few p word a.reached known in
+    let at : LineAt versions p word = line_at versions s.few p word a known in
     let ns = right_numbers fields words (subst (λ (fs : List Field). AreRight fs words) at.fields are) (long ∙ ap length at.fields) in
+    let new : numbers_of (length fields) (word ∷ words) ≡ numbers_of (length fields) (word ∷ (spelled_all fields ns.0 ++ [])) =
+    ap (λ (ws : List (List ℕ)). numbers_of (length fields) (word ∷ ws)) (ns.2 ∙ sym (append-nil (spelled_all fields ns.0))) in
     let in_order : order_cause (last_numbers p word) ns.0 ≡ None =
-    ordered at.order ns.0 ns.1 (subst (λ (ws : List (List ℕ)). IsInOrder (shown p) (length fields) (word ∷ ws)) ns.2
-    (subst (λ (fs : List Field). IsInOrder (shown p) (length fs) (word ∷ words)) at.fields order)) in
+    ap (λ (x : Option (List ℕ)). order_cause x ns.0) (sym at.order)
+    ∙ ordered (is_ordered (last_line (shown p)) word) refl ns.0 ns.1 new (subst (λ (fs : List Field). IsInOrder (shown p) (length fs) (word ∷ words)) at.fields order) in
     by_step (step p word ns.0) (λ q e. none (subst (λ (ws : List (List ℕ)). Begins versions (shown p ++ (word ∷ ws) ∷ [])) (sym ns.2)
     (goes_on_with versions s p q (word ∷ spelled_all fields ns.0) a
-    (take-line versions p word ns.0 q known (false_from_ne_true (is_full p word) (λ t. few (at.many t))) ns.1 in_order e))))
+    (take-line versions p word ns.0 q known (false_from_ne_true (is_full p word) (λ t. few ((many-Decides (shown p) word).0 (at.full ∙ t)))) ns.1 in_order e))))
     (λ why e. stuck known (step-err versions p word ns.0 why known ns.1 e))
   where
     fields : List Field
     fields = fields_of versions p word
 
-    ordered : OrderAt p word fields → (ns : List ℕ) → AllPass fields ns → IsInOrder (shown p) (length fields) (word ∷ spelled_all fields ns) → order_cause (last_numbers p word) ns ≡ None
-    ordered (free none f) ns pass o = ap (λ (x : Option (List ℕ)). order_cause x ns) none
-    ordered (behind old is own first numbers len all) ns pass o =
-        let new : numbers_of (length fields) (word ∷ spelled_all fields ns) ≡ ns =
-        ap (λ (ws : List (List ℕ)). map (digits_value 10) (take (length fields) ws)) (sym (append-nil (spelled_all fields ns))) ∙ numbers_of-spelled fields ns [] all pass in
-        let above : list_lt (numbers_of (length fields) (last_line (shown p))) (numbers_of (length fields) (word ∷ spelled_all fields ns)) ≡ true = o own first in
-        ap (λ (x : Option (List ℕ)). order_cause x ns) is ∙ none-order old ns (ap₂ list_lt (sym numbers) (sym new) ∙ above)
+    old : List ℕ
+    old = numbers_of (length fields) (last_line (shown p))
+
+    ordered : (b : Bool) → is_ordered (last_line (shown p)) word ≡ b → (ns : List ℕ) → AllPass fields ns
+        → numbers_of (length fields) (word ∷ words) ≡ numbers_of (length fields) (word ∷ (spelled_all fields ns ++ []))
+        → IfSome (if b then Some old else None) (λ last. IsTrue (list_lt last (numbers_of (length fields) (word ∷ words)))) → order_cause (if b then Some old else None) ns ≡ None
+    ordered false t ns pass new o = refl
+    ordered true t ns pass new o =
+        let are : AreNumbers fields = ordered-numbers versions (numbers_at p) word (both_true (is_some (index_of word ordered_words)) _ t).0 in
+        none-order old ns (ap (list_lt old) (sym (new ∙ numbers_of-spelled fields ns [] are pass)) ∙ o)
 
     stuck : is_some (index_of word (expected p)) ≡ true → {why : ℕ} → IsStuck p word why → IsStuckLine (shown p) word
     stuck known k = (
@@ -259,7 +265,8 @@ stuck_at versions s p a word words right few are order long none =
         len = k.len;
         instrs = map instr_line k.instrs;
         whole = sym (append_assoc (shown_spaces k.machine k.spaces) (shown_draft k.machine.version k.draft) ((codes "program" ∷ decimal k.len ∷ []) ∷ map instr_line k.instrs));
-        each = instrs_begin k.instrs;
+        each = All-map (λ (l : List (List ℕ)). Contains instr_words (first_word l)) instr_line k.instrs
+            (λ j i h. contained instr_words (first_word (instr_line (get_or k.instrs j i))) (operation-expected (parts_of (get_or k.instrs j i)).operation));
         last = ap (λ (n : ℕ). n + 1) (length-map k.instrs instr_line) ∙ k.last;
       },
       contained instr_words word (ap (λ (q : Position). is_some (index_of word (expected q))) (sym k.is) ∙ known),

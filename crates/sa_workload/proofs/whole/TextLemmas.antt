@@ -2,7 +2,7 @@
 use Rattle.std.proofs.Common.{◌≡◌, ◌≢◌, ℕ, ◌⊎◌, inl, inr, ◌^◌, ◌<◌, ◌≤◌, leb, Bool, true, cond, ◌&&◌, List, [], ◌∷◌, ◌++◌, length, map, All, Ok, codes, decimal, arith, rules, tests, refl, sym, ◌∙◌, ap, subst}
 use Rattle.std.specs.Option.{is_some}
 use Rattle.std.specs.List.{flat_map, join_with_byte, list_all}
-use Rattle.std.proofs.lemmas.List.Elements.{All-nil, All-cons, All-head, All-tail, All-append, All-map, All-weaker}
+use Rattle.std.proofs.lemmas.List.Elements.{All-nil, All-cons, All-head, All-tail, All-append, All-contains, All-map, All-weaker}
 use Rattle.std.proofs.lemmas.List.Sums.{AllPass-from_list_all}
 use Rattle.std.proofs.lemmas.List.Folds.{flat_map-map}
 use Rattle.std.proofs.lemmas.List.Splits.{join_with_byte-slice_split}
@@ -19,7 +19,6 @@ use Rattle.sa_workload.specs.Position.{Position, AtVersion, Closed}
 use Rattle.sa_workload.specs.Steps.{expected}
 use Rattle.sa_workload.specs.Next.{next, fields_of}
 use Rattle.sa_workload.proofs.fields.FieldLemmas.{and_then-ok, contained, spelled, Passes, spelled_all, AllPass}
-use Rattle.sa_workload.proofs.causes.FirstWords.{passes}
 use Rattle.sa_workload.proofs.forward.Sound.{took}
 use Rattle.sa_workload.proofs.forward.Complete.{run, complete}
 use Rattle.sa_workload.proofs.forward.Standing.{version_of-le}
@@ -64,8 +63,9 @@ expected-visible _ = refl
 
 word-visible : (p : Position) (word : List ℕ) → is_some (index_of word (expected p)) ≡ true → IsVisible word
 word-visible p word known =
-    let c = contained (expected p) word known in
-    visible_by_test word (subst (λ (w : List ℕ). is_visible w ≡ true) c.2 (passes is_visible (expected p) c.0 word c.1 (expected-visible p)))
+    visible_by_test word
+    (All-contains (λ (w : List ℕ). is_visible w ≡ true) (expected p) word (AllPass-from_list_all is_visible (expected p) (expected-visible p))
+    (contained (expected p) word known))
 
 run-words : (versions : ℕ) (lines : List (List (List ℕ))) (p q : Position) → run versions p lines ≡ Ok q → All IsWords lines
 run-words versions [] p q h = All-nil IsWords
