@@ -24,7 +24,8 @@ use Rattle.sa_text.proofs.PieceLemmas.{pieces_of-are_pieces, pieces_only}
 use Rattle.sa_text.proofs.Spelling.{decimal-is_spelling, decimal-lacks}
 use Rattle.sa_text.proofs.Lacking.{lacks_by_test}
 use Rattle.sa_trace.specs.TraceText.{field, line_of, end_word, counts_text, counts_of, last_line_of}
-use Rattle.sa_reader.specs.Line.{is_printed, pieces_in}
+use Rattle.sa_text.specs.Pieces.{is_printed}
+use Rattle.sa_reader.specs.Line.{pieces_in}
 use Rattle.sa_reader.specs.Text.{FitsItem}
 use Rattle.sa_reader.proofs.Readings.{if_either, both_true, same_Ok, piece, greatest-small}
 use Rattle.sa_reader.proofs.Records.{word_pieces, record_pieces}

@@ -11,7 +11,7 @@ use Rattle.sa_base.specs.declared.refusal.Cause.TheVariants.{NotAscii, OutOfRang
 use Rattle.sa_fields.specs.Kind.{form_of}
 use Rattle.sa_fields.specs.Parts.{record_of}
 use Rattle.sa_text.specs.LineText.{LineText}
-use Rattle.sa_text.specs.Pieces.{pieces_of}
+use Rattle.sa_text.specs.Pieces.{pieces_of, is_printed}
 use Rattle.sa_trace.specs.TraceText.{counts_of}
 use Rattle.sa_reader.specs.declared.line.Said.{Said}
 use Rattle.sa_reader.specs.declared.line.Said.TheVariants.{Next, Last}
@@ -76,9 +76,6 @@ said_by items (piece ∷ rest) =
     else and_then (number_in (least_event (last_of items)) MAX64 piece) (λ event. item_at (last_of items) event rest)
 
 -- the pieces of a line, if it is printed ASCII alone and is ended
-abbrev pub is_printed : List ℕ → Bool
-is_printed bytes = list_all (λ b. nat_le 32 b && nat_le b 126) bytes
-
 abbrev pub pieces_in : LineText → Result (List (List ℕ)) Cause
 pieces_in line = if is_printed line.bytes then (if line.ended then Ok (pieces_of line.bytes) else Err Missing) else Err NotAscii
 

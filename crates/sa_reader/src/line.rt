@@ -2,13 +2,13 @@
 ghost use Rattle.std.specs.Prelude.{◌≡◌, MatchResult};
 ghost use Rattle.sa_text.specs.Line.{IsWithin, text_of_line};
 ghost use Rattle.sa_reader.specs.Pieces.{number_in};
-ghost use Rattle.sa_reader.specs.Line.{last_of, least_event, processor_in, record_in, item_at, counts_at, end_at, said_by, is_printed, pieces_in, line_in};
+ghost use Rattle.sa_reader.specs.Line.{last_of, least_event, processor_in, record_in, item_at, counts_at, end_at, said_by, pieces_in, line_in};
 
 use crate::pieces::{check_counts, read_end, read_fields, read_kind, read_within};
-use crate::words::Words;
+use crate::words::next;
 use sa_base::{Cause, End, Item, ProcNo, Record};
 use sa_fields::record_with;
-use sa_text::Line;
+use sa_text::{Line, Pieces, is_printed};
 use sa_trace::kind_counts;
 
 /// What a line says.
@@ -29,7 +29,7 @@ pub(crate) fn read_line(items: &[Item], text: &[u8], line: Line) -> Result<Said,
 }
 
 /// The pieces of a line of printed ASCII that is ended.
-pub(crate) fn read_pieces(text: &[u8], line: Line) -> Result<Words<'_>, Cause>
+pub(crate) fn read_pieces(text: &[u8], line: Line) -> Result<Pieces<'_>, Cause>
     requires { IsWithin text.now line }
     ensures { result ≡ pieces_in (text_of_line text.now line) }
 {
@@ -39,21 +39,14 @@ pub(crate) fn read_pieces(text: &[u8], line: Line) -> Result<Words<'_>, Cause>
     if !line.ended {
         return Err(Cause::Missing);
     }
-    Ok(Words::new(text, line))
-}
-
-// Whether each byte is a printed ASCII character.
-fn is_printed(bytes: &[u8]) -> bool
-    ensures { result ≡ is_printed bytes.now }
-{
-    bytes.iter().all(|byte| 32 <= *byte && *byte <= 126)
+    Ok(Pieces::new(text, line))
 }
 
 // What the pieces of a line say.
-fn read_words(items: &[Item], words: &mut Words) -> Result<Said, Cause>
+fn read_words(items: &[Item], words: &mut Pieces) -> Result<Said, Cause>
     ensures { result ≡ said_by items.now words.old }
 {
-    let piece = words.next()?;
+    let piece = next(words)?;
     if piece == b"end".as_slice() {
         return read_last(items, words);
     }
@@ -80,10 +73,10 @@ fn least_event(last: Option<Item>) -> u64
 }
 
 // What stands behind the event of a line: its processor, and the record.
-fn read_item(last: Option<Item>, event: u64, words: &mut Words) -> Result<Said, Cause>
+fn read_item(last: Option<Item>, event: u64, words: &mut Pieces) -> Result<Said, Cause>
     ensures { result ≡ item_at last event words.old }
 {
-    let piece = words.next()?;
+    let piece = next(words)?;
     let proc = read_processor(last, event, piece)?;
     let what = read_record(words)?;
     Ok(Said::Next(Item {
@@ -118,7 +111,7 @@ fn read_small(least: u16, greatest: u16, piece: &[u8]) -> Result<u16, Cause>
 }
 
 // The record of these pieces.
-fn read_record(words: &mut Words) -> Result<Record, Cause>
+fn read_record(words: &mut Pieces) -> Result<Record, Cause>
     ensures { result ≡ record_in words.old }
 {
     let kind = read_kind(words)?;
@@ -127,20 +120,20 @@ fn read_record(words: &mut Words) -> Result<Record, Cause>
 }
 
 // What stands behind the word `end`: how the run ended, the number of events, and the counts.
-fn read_last(items: &[Item], words: &mut Words) -> Result<Said, Cause>
+fn read_last(items: &[Item], words: &mut Pieces) -> Result<Said, Cause>
     ensures { result ≡ end_at items.now words.old }
 {
-    let word = words.next()?;
+    let word = next(words)?;
     let end = read_end(word)?;
     let least = least_event(last_item(items));
     read_counts(least, &kind_counts(items), end, words)
 }
 
 // The number of events, and the counts.
-fn read_counts(least: u64, counts: &[u64], end: End, words: &mut Words) -> Result<Said, Cause>
+fn read_counts(least: u64, counts: &[u64], end: End, words: &mut Pieces) -> Result<Said, Cause>
     ensures { result ≡ counts_at least counts.now end words.old }
 {
-    let piece = words.next()?;
+    let piece = next(words)?;
     let events = read_within(least, u64::MAX, piece)?;
     check_counts(counts, words)?;
     Ok(Said::Last(end, events))

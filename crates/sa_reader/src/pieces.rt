@@ -3,11 +3,11 @@ ghost use Rattle.std.specs.Prelude.{◌≡◌, ◌≤◌, ◌++◌, ◌↔◌, l
 ghost use Rattle.std.specs.Result.{result_err};
 ghost use Rattle.sa_reader.specs.Pieces.{number_in, field_in, fields_in, and_then, wrong_count, has_note, has_word, kind_at, note_at, end_of, with_rest};
 
-use crate::words::Words;
+use crate::words::{finish, next};
 use arrayvec::ArrayVec;
 use sa_base::{Cause, End};
 use sa_fields::{Field, KINDS, Kind, MAX_FIELDS};
-use sa_text::read_number;
+use sa_text::{Pieces, read_number};
 
 /// The fields of a record.
 pub(crate) type Fields = ArrayVec<Option<u64>, MAX_FIELDS>;
@@ -38,36 +38,36 @@ fn read_field(field: Field, piece: &[u8]) -> Result<Option<u64>, Cause>
 }
 
 /// What the pieces that are left say of these fields.
-pub(crate) fn read_fields(fields: &[Field], words: &mut Words) -> Result<Fields, Cause>
+pub(crate) fn read_fields(fields: &[Field], words: &mut Pieces) -> Result<Fields, Cause>
     requires { length fields.now ≤ MAX_FIELDS }
     ensures { and_then result (λ values. Ok values.items) ≡ fields_in fields.now words.old }
 {
     let mut values = Fields::new();
     for field in fields {
-        let piece = words.next()?;
+        let piece = next(words)?;
         let value = read_field(*field, piece)?;
         values.push(value);
     }
-    words.finish()?;
+    finish(words)?;
     Ok(values)
 }
 
 /// Whether the pieces that are left are these numbers.
-pub(crate) fn check_counts(counts: &[u64], words: &mut Words) -> Result<(), Cause>
+pub(crate) fn check_counts(counts: &[u64], words: &mut Pieces) -> Result<(), Cause>
     ensures { result_err result ≡ wrong_count counts.now words.old }
 {
     for count in counts {
-        let piece = words.next()?;
+        let piece = next(words)?;
         read_within(*count, *count, piece)?;
     }
-    words.finish()
+    finish(words)
 }
 
 /// The kind that the next piece names, or where that is `told`, the next two.
-pub(crate) fn read_kind(words: &mut Words) -> Result<Kind, Cause>
+pub(crate) fn read_kind(words: &mut Pieces) -> Result<Kind, Cause>
     ensures { with_rest result words.new ≡ kind_at words.old }
 {
-    let word = words.next()?;
+    let word = next(words)?;
     if word == b"told".as_slice() {
         return read_note(words);
     }
@@ -75,10 +75,10 @@ pub(crate) fn read_kind(words: &mut Words) -> Result<Kind, Cause>
 }
 
 // The kind of the notice that the next piece names.
-fn read_note(words: &mut Words) -> Result<Kind, Cause>
+fn read_note(words: &mut Pieces) -> Result<Kind, Cause>
     ensures { with_rest result words.new ≡ note_at words.old }
 {
-    let word = words.next()?;
+    let word = next(words)?;
     note_of(word).ok_or(Cause::BadWord)
 }
 

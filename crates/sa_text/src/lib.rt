@@ -9,4 +9,4 @@ mod scan;
 
 pub use line_reader::{Line, Lines};
 pub use number::{print_number, read_number};
-pub use pieces::token;
+pub use pieces::{Pieces, is_printed, token};

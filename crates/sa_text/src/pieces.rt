@@ -1,9 +1,11 @@
 // The pieces of a line, between its spaces.
 ghost use Rattle.std.specs.Prelude.{◌≡◌, ◌+◌, ◌<◌, ◌≤◌, ◌↔◌, [], ◌∷◌, length, slice_index, slice_range, IsNone, IfSome, MatchOption};
-ghost use Rattle.sa_text.specs.Pieces.{pieces_from, LacksSpace};
+ghost use Rattle.sa_text.specs.Line.{IsWithin};
+ghost use Rattle.sa_text.specs.Pieces.{pieces_of, pieces_from, is_printed, LacksSpace};
 
 use crate::line_reader::Line;
 use crate::scan::length_before;
+use std::marker::Model;
 
 /// The piece of `line` that begins at `from`, as the places of its first byte and behind its last: it
 /// goes up to the next space or the line's end, and may be empty.
@@ -28,4 +30,55 @@ pub fn token(text: &[u8], line: &Line, from: usize) -> Option<(usize, usize)>
         return None;
     }
     Some((from, from + length_before(&text[from..line.end], b' ')))
+}
+
+/// The pieces of a line that are still to be read. Contracts see the list of their bytes.
+#[derive(Debug, Drop)]
+pub struct Pieces<'a> {
+    text: &'a [u8],
+    line: Line,
+    // where the next piece begins
+    from: usize,
+}
+
+impl<'a> Model for Pieces<'a> {
+    ghost use Rattle.std.specs.Prelude.{◌≤◌, ℕ, List, length};
+    ghost use Rattle.sa_text.specs.Pieces.{pieces_from};
+
+    ghost Value = { List (List ℕ) };
+
+    ghost view = { λ p. pieces_from p.text.now p.from p.line.end };
+
+    ghost invariant = { λ p. (p.line.start ≤ p.from) × (p.line.end ≤ length p.text.now) };
+}
+
+impl<'a> Pieces<'a> {
+    /// All pieces of the line.
+    pub fn new(text: &'a [u8], line: Line) -> Self
+        requires { IsWithin text.now line }
+        ensures { result ≡ pieces_of (slice_range text.now line.start line.end) }
+    {
+        Pieces {
+            text,
+            line,
+            from: line.start,
+        }
+    }
+
+    /// The next piece; `None` exactly where none is left.
+    pub fn next(&mut self) -> Option<&'a [u8]>
+        ensures { MatchOption result ((self.old ≡ []) × (self.new ≡ []))
+            (λ piece. self.old ≡ piece.now ∷ self.new) }
+    {
+        let (start, end) = token(self.text, &self.line, self.from)?;
+        self.from = end + 1;
+        Some(&self.text[start..end])
+    }
+}
+
+/// Whether each byte is a printed ASCII character, 32 to 126.
+pub fn is_printed(bytes: &[u8]) -> bool
+    ensures { result ≡ is_printed bytes.now }
+{
+    bytes.iter().all(|byte| 32 <= *byte && *byte <= 126)
 }

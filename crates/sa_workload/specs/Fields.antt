@@ -61,11 +61,6 @@ abbrev pub field_at : Field → List (List ℕ) → Result (ℕ × List (List �
 field_at field [] = Err 9
 field_at field (word ∷ rest) = and_then (read_field field word) (λ n. Ok (n, rest))
 
--- the next word as a number of 64 bits
-abbrev pub number_at : List (List ℕ) → Result (ℕ × List (List ℕ)) ℕ
-number_at [] = Err 9
-number_at (word ∷ rest) = and_then (or_cause (number_of word) 3) (λ n. Ok (n, rest))
-
 -- a word for each field, and the words behind them; else the cause of the first that is wrong or missing
 abbrev pub fields_at : List Field → List (List ℕ) → Result (List ℕ × List (List ℕ)) ℕ
 fields_at [] words = Ok ([], words)

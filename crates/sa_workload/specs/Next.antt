@@ -19,9 +19,8 @@ use Rattle.sa_instr.specs.Operation.{form_of}
 use Rattle.sa_instr.specs.Parts.{instr_of}
 use Rattle.sa_spaces.specs.declared.workload.Evict.{Evict}
 use Rattle.sa_spaces.specs.Space.{SpaceView}
-use Rattle.sa_spaces.specs.Workload.{WorkloadView}
-use Rattle.sa_workload.specs.Bad.{DeclaredNumbers, Field, fields_by, instr_words}
-use Rattle.sa_workload.specs.Fields.{and_then, or_cause, index_of, line_numbers}
+use Rattle.sa_workload.specs.Bad.{DeclaredNumbers, Field, fields_by}
+use Rattle.sa_workload.specs.Fields.{and_then, index_of, line_numbers}
 use Rattle.sa_workload.specs.Position.{Machine, Draft, Position, AtVersion, AtProcessors, AtFetch, AtSlice, AtSpaces, AtSpace, AtSem, AtAbsent, AtProgram, AtInstr, AtEvict, AtTurn, Closed}
 use Rattle.sa_workload.specs.Steps.{expected, workload, with_sem, with_absent, after_fetch, after_sem, after_instr}
 
@@ -139,13 +138,6 @@ step_instr m spaces d len instrs None = Err 2
 step_instr m spaces d len instrs (Some i) =
     if (length instrs + 1 == len) && not (is_end i) then Err 9 else Ok (after_instr m spaces d len (instrs ++ i ∷ []))
 
--- the instruction of a word and the words behind it
-abbrev pub instr_in : DeclaredNumbers → List ℕ → List (List ℕ) → Result Instr ℕ
-instr_in n word words =
-    if is_some (index_of word instr_words)
-    then and_then (line_numbers (fields_by 0 n word) None words) (λ ns. or_cause (made_by ns (operation_of word)) 2)
-    else Err 2
-
 -- where a line of this word and these numbers leads
 abbrev pub step : Position → List ℕ → List ℕ → Result Position ℕ
 step AtVersion word ns = Ok (AtProcessors (slice_index ns 0))
@@ -173,11 +165,6 @@ step (Closed w) word ns = Err 2
 -- the fields behind a first word
 abbrev pub fields_of : ℕ → Position → List ℕ → List Field
 fields_of versions p word = fields_by versions (numbers_at p) word
-
--- the line `close`
-abbrev pub close_at : WorkloadView → List ℕ → List (List ℕ) → Result Position ℕ
-close_at w word words =
-    if bytes_eq word (codes "close") then and_then (line_numbers [] None words) (λ ns. Ok (Closed w)) else Err 2
 
 abbrev pub space_fields : Machine → List SpaceView → List Field
 space_fields m spaces = fields_by 0 (numbers_at (AtSpace m spaces)) (codes "space")

@@ -6,12 +6,9 @@ use Rattle.sa_base.specs.declared.refusal.Unread.{Unread}
 use Rattle.sa_base.specs.declared.refusal.Unread.TheVariants.{Bad as refused, OutOfMemory}
 use Rattle.sa_spaces.specs.Workload.{WorkloadView}
 use Rattle.sa_text.specs.LineText.{LineText, line_texts}
-use Rattle.sa_text.specs.Pieces.{pieces_of}
+use Rattle.sa_text.specs.Pieces.{pieces_of, is_printed}
 use Rattle.sa_workload.specs.Position.{Position, AtVersion, closed}
 use Rattle.sa_workload.specs.Next.{next}
-
-abbrev pub is_printed : List ℕ → Bool
-is_printed bytes = list_all (λ b. nat_le 32 b && nat_le b 126) bytes
 
 -- the position behind a line that is printed and ended
 abbrev pub line_in : ℕ → Position → LineText → Result Position ℕ

@@ -1,6 +1,6 @@
 -- How large the numbers of a line can be, as wide as the reader keeps them. Private functions of the reader cite this; no public
 -- clause does.
-use Rattle.std.specs.Prelude.{ℕ, ◌^◌, ◌<◌, ◌==◌, if◌then◌else◌, List, [], ◌∷◌, ◌++◌, map, Option, None, Some, ⊤, codes}
+use Rattle.std.specs.Prelude.{ℕ, ◌^◌, ◌<◌, ◌==◌, if◌then◌else◌, List, [], ◌∷◌, map, Option, None, Some, ⊤, codes}
 use Rattle.std.specs.Str.{bytes_eq}
 use Rattle.sa_instr.specs.declared.operand.OperandKind.{OperandKind}
 use Rattle.sa_instr.specs.declared.operand.OperandKind.TheVariants as Kinds

@@ -1,5 +1,5 @@
 -- What a reader stands for: its position, its fields and its answers. Private functions of the reader cite this; no public clause does.
-use Rattle.std.specs.Prelude.{◌≡◌, ℕ, List, [], ◌∷◌, length, codes, nat_lt, Option, None, Some, Result, Ok, Err, ⊤}
+use Rattle.std.specs.Prelude.{◌≡◌, ℕ, List, length, codes, nat_lt, Option, None, Some, Result, Ok, Err, ⊤}
 use Rattle.sa_base.specs.Cause.{cause_number}
 use Rattle.sa_base.specs.declared.refusal.Unread.{Unread}
 use Rattle.sa_base.specs.declared.refusal.Unread.TheVariants.{Bad as refused, OutOfMemory as memory}

@@ -5,13 +5,13 @@ mod cause;
 mod field;
 mod instr;
 pub mod laws;
+mod numbers;
 mod printing;
 mod push;
 mod reader;
 mod stage;
 mod step;
 mod table;
-mod words;
 
 pub use printing::print;
 pub use reader::{read, read_one};

@@ -11,16 +11,17 @@ ghost use Rattle.sa_workload.specs.Position.{Position, IsReached};
 ghost use Rattle.sa_workload.specs.Fields.{and_then, index_of, line_numbers, numbered};
 ghost use Rattle.sa_workload.specs.Next.{fields_of, last_numbers, next_by};
 ghost use Rattle.sa_workload.specs.Steps.{expected};
-ghost use Rattle.sa_workload.specs.Reading.{is_printed, line_in, read_of, IsReading};
+ghost use Rattle.sa_text.specs.Pieces.{is_printed};
+ghost use Rattle.sa_workload.specs.Reading.{line_in, read_of, IsReading};
 ghost use Rattle.sa_workload.specs.Stage.{position_of, Gives};
 
 use crate::cause::Refusal;
 use crate::field::Numbers;
+use crate::numbers::{read_end, read_numbers};
 use crate::stage::Reader;
-use crate::words::Words;
 use sa_base::{Bad, Cause, Unread};
 use sa_spaces::Workload;
-use sa_text::{Line, Lines};
+use sa_text::{Line, Lines, Pieces, is_printed};
 use std::alloc::Global;
 
 /// The greatest version of a workload text.
@@ -95,7 +96,7 @@ impl Reader {
         ensures { Gives (line_in versions (position_of self.old) (text_of_line bytes.now line)) (position_of self.new) result }
     {
         check_line(bytes, &line)?;
-        let mut words = Words::new(bytes, line);
+        let mut words = Pieces::new(bytes, line);
         let Some(word) = words.next() else {
             return Err(Refusal::Because(Cause::BadWord));
         };
@@ -108,7 +109,7 @@ impl Reader {
         alloc: Global,
         versions: u16,
         word: &[u8],
-        words: &mut Words,
+        words: &mut Pieces,
     ) -> Result<(), Refusal>
         requires few { versions ≤ 3 }
         requires reached { IsReached versions (position_of self.old) }
@@ -120,20 +121,20 @@ impl Reader {
         if self.is_full(word) {
             return Err(Refusal::Because(Cause::TooMany));
         }
-        let numbers = self.read_numbers(versions, word, words)?;
+        let numbers = self.numbers_behind(versions, word, words)?;
         self.step(alloc, versions, word, numbers.as_slice())
     }
 
     /// The numbers behind this first word, which end the line.
-    fn read_numbers(&self, versions: u16, word: &[u8], words: &mut Words) -> Result<Numbers, Cause>
+    fn numbers_behind(&self, versions: u16, word: &[u8], words: &mut Pieces) -> Result<Numbers, Cause>
         requires { is_some (index_of word.now (expected (position_of self.now))) ≡ true }
         ensures { and_then (numbered result) (λ numbers. Ok numbers.items)
             ≡ line_numbers (fields_of versions (position_of self.now) word.now) (last_numbers (position_of self.now) word.now) words.old }
     {
         let fields = self.fields(versions, word);
-        let numbers = words.numbers(fields.as_slice())?;
+        let numbers = read_numbers(fields.as_slice(), words)?;
         self.in_order(word, numbers.as_slice())?;
-        words.end()?;
+        read_end(words)?;
         Ok(numbers)
     }
 }
@@ -152,11 +153,4 @@ fn check_line(bytes: &[u8], line: &Line) -> Result<(), Cause>
         return Err(Cause::Missing);
     }
     Ok(())
-}
-
-/// Whether each byte is a printed ASCII character.
-fn is_printed(bytes: &[u8]) -> bool
-    ensures { result ≡ is_printed bytes.now }
-{
-    bytes.iter().all(|byte| 32 <= *byte && *byte <= 126)
 }

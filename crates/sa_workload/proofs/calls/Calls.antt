@@ -15,13 +15,12 @@ use Rattle.sa_instr.specs.Operation.{form_of, IsNoWord}
 use Rattle.sa_instr.specs.Program.{IsProgram}
 use Rattle.sa_spaces.specs.Space.{SpaceView, IsSpace}
 use Rattle.sa_text.specs.LineText.{LineText}
-use Rattle.sa_text.specs.Pieces.{pieces_of}
 use Rattle.sa_workload.specs.Bad.{Field, Register, list_lt, instr_words}
 use Rattle.sa_workload.specs.Fields.{and_then, field_at, fields_at, index_of, order_cause}
 use Rattle.sa_workload.specs.Position.{Machine, Draft, Position, AtInstr, IsReached}
-use Rattle.sa_workload.specs.Next.{draft_numbers, fields_of, is_end, made_by, operation_of, next, next_by}
+use Rattle.sa_workload.specs.Next.{draft_numbers, fields_of, is_end, made_by, operation_of}
 use Rattle.sa_workload.specs.Steps.{space_of_draft, with_program}
-use Rattle.sa_workload.specs.Reading.{is_printed, line_in, read_from, goes_on}
+use Rattle.sa_workload.specs.Reading.{line_in, read_from, goes_on}
 use Rattle.sa_workload.proofs.fields.InstrLemmas.{IsAllowed, instr-read, no_operation, operation-expected}
 use Rattle.sa_workload.proofs.calls.Rooms.{all_pass}
 use Rattle.sa_workload.proofs.forward.Sound.{end_of}
@@ -29,8 +28,7 @@ use Rattle.sa_workload.proofs.forward.Reached.{begun_more, whole_program, with_p
 use Rattle.sa_workload.specs.declared.field.Field.{Field as TableField}
 use Rattle.sa_workload.specs.declared.field.Field.TheVariants as Table
 use Rattle.sa_workload.specs.Stage.{field_of, IsAsLong, AreNumbersOf}
-use Rattle.sa_workload.proofs.causes.OneCause.{list_lt-irrefl}
-use Rattle.sa_workload.proofs.forward.Orders.{less_head, same_head, none-order}
+use Rattle.sa_workload.proofs.forward.Orders.{list_lt-irrefl, less_head, same_head, none-order}
 
 -- a word that is no operation's
 none_found : (word : List ℕ) → IsNoWord word → (os : List Operation) → find (λ o. bytes_eq word (form_of o).word) os ≡ None
@@ -121,13 +119,7 @@ field-next fields words i ns r h read =
     by_read (Ok first) = number_more ns first.0 (fields_at (drop (i + 1) all) first.1)
     by_read (Err cause) = refl
 
--- a line of a text, and the lines behind it
-pub line_next : (versions : ℕ) (p : Position) (l : LineText) (word : List ℕ) (words : List (List ℕ)) → is_printed l.bytes ≡ true → l.ended ≡ true → pieces_of l.bytes ≡ word ∷ words
-    → line_in versions p l ≡ next_by versions p word words
-line_next versions p l word words a b e =
-    ap (λ (x : Bool). cond x (cond l.ended (next versions p (pieces_of l.bytes)) (Err 9)) (Err 1)) a
-    ∙ ap (λ (x : Bool). cond x (next versions p (pieces_of l.bytes)) (Err 9)) b ∙ ap (next versions p) e
-
+-- the lines behind a line that leads on
 pub read_on : (versions number more : ℕ) (p q : Position) (lines rest : List LineText) (l : LineText) → lines ≡ l ∷ rest → more ≡ number + 1 → line_in versions p l ≡ Ok q
     → read_from versions number p lines ≡ read_from versions more q rest
 read_on versions number more p q lines rest l e n h =

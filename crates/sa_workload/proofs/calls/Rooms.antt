@@ -1,12 +1,11 @@
 -- The numbers of a line are as small as the reader keeps them.
-use Rattle.std.proofs.Common.{◌≡◌, ℕ, ◌-◌, ◌^◌, ◌<◌, ◌≤◌, ◌==◌, Bool, true, false, if◌then◌else◌, List, [], ◌∷◌, map, Some, codes, arith, sym, ap, ◌∙◌, subst}
+use Rattle.std.proofs.Common.{◌≡◌, ℕ, ◌-◌, ◌^◌, ◌<◌, ◌≤◌, ◌==◌, Bool, true, false, if◌then◌else◌, List, [], ◌∷◌, map, codes, arith, sym, ap, ◌∙◌, subst}
 use Rattle.std.specs.Option.{is_some}
 use Rattle.sa_base.specs.declared.limits.TheConstants.{FIRST_THREAD_PAGE, MAX_EVENTS, MAX_PROCESSORS, MAX_SPACES}
 use Rattle.sa_instr.specs.declared.limits.TheConstants.{LAST_PAGE, MAX_CELLS, MAX_FETCH, MAX_INSTRUCTIONS, MAX_IO_LENGTH, MAX_MUTEXES, MAX_PATIENCE, MAX_PRIORITY, MAX_PROGRAMS, MAX_SEMAPHORES, MAX_SLICE, MAX_START}
 use Rattle.sa_instr.specs.declared.operand.OperandKind.{OperandKind}
 use Rattle.sa_instr.specs.declared.operand.OperandKind.TheVariants as Kinds
 use Rattle.sa_instr.specs.Operation.{form_of}
-use Rattle.sa_workload.specs.declared.stage.Header.{Header}
 use Rattle.sa_workload.specs.declared.stage.MachineLine.{MachineLine}
 use Rattle.sa_workload.specs.declared.stage.MachineLine.TheVariants.{Version, Processors, Fetch, Slice, Spaces}
 use Rattle.sa_workload.specs.declared.stage.Reader.{Reader}

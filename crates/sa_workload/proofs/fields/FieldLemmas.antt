@@ -10,7 +10,7 @@ use Rattle.std.proofs.lemmas.Slice.Eq.{bytes_eq-Decides}
 use Rattle.sa_text.specs.Number.{number_of}
 use Rattle.sa_text.proofs.NumberOf.{reads_number}
 use Rattle.sa_workload.specs.Bad.{Field, Register, Number, within, declared, registers}
-use Rattle.sa_workload.specs.Fields.{and_then, unless, or_cause, index_of, read_field, field_at, number_at, fields_at, at_end, order_cause, line_numbers}
+use Rattle.sa_workload.specs.Fields.{and_then, unless, or_cause, index_of, read_field, field_at, fields_at, at_end, order_cause, line_numbers}
 
 -- what an answer is made of
 pub same_ok : {A : Type 0} (a b : A) → (λ (r : Result A ℕ). r) (Ok a) ≡ Ok b → a ≡ b
@@ -222,18 +222,3 @@ line-ok fs last words ns h =
     let f = fields-ok fs words read.0.0 read.0.1 read.1 in
     subst (λ (ms : List ℕ). (words ≡ spelled_all fs ms) × AllPass fs ms × (order_cause last ms ≡ None)) same
     (f.0 ∙ ap (λ ws. spelled_all fs read.0.0 ++ ws) (at_end-none read.0.1 end.0) ∙ append-nil (spelled_all fs read.0.0), f.1, order.0)
-
--- a number, and the test of a field
-pub number_field : (test : ℕ → Bool) (cause : ℕ) (words : List (List ℕ))
-    → field_at (Number test cause) words ≡ and_then (number_at words) (λ read. cond (test read.0) (Ok read) (Err cause))
-number_field test cause [] = refl
-number_field test cause (word ∷ rest) = by_number (number_of word)
-  where
-    by_number : (o : Option ℕ) → and_then {B = ℕ × List (List ℕ)} (and_then (or_cause o 3) (λ n. cond (test n) (Ok n) (Err cause))) (λ n. Ok (n, rest))
-        ≡ and_then {A = ℕ × List (List ℕ)} (and_then {B = ℕ × List (List ℕ)} (or_cause o 3) (λ n. Ok (n, rest))) (λ read. cond (test read.0) (Ok read) (Err cause))
-    by_number None = refl
-    by_number (Some n) = by_test (test n)
-      where
-        by_test : (b : Bool) → and_then {B = ℕ × List (List ℕ)} (cond b (Ok n) (Err cause)) (λ n. Ok (n, rest)) ≡ cond b (Ok (n, rest)) (Err cause)
-        by_test true = refl
-        by_test false = refl

@@ -1,7 +1,6 @@
 -- The order of lines of one word.
-use Rattle.std.proofs.Common.{◌≡◌, ℕ, ◌<◌, ◌⊎◌, ◌&&◌, ◌||◌, Bool, true, false, cond, List, [], ◌∷◌, length, Option, Some, None, refl, sym, ap, ◌∙◌, inl, inr, arith, ltb, eqb, lt-ltb, eq-eqb, ltb-true, eqb-true, subst}
+use Rattle.std.proofs.Common.{◌≡◌, ℕ, ◌<◌, ◌⊎◌, ◌&&◌, ◌||◌, Bool, true, false, cond, List, [], ◌∷◌, length, Some, None, refl, sym, ap, ◌∙◌, inl, inr, arith, ltb, eqb, lt-ltb, eq-eqb, ltb-true, eqb-true, subst}
 use Rattle.std.specs.Str.{bytes_eq}
-use Rattle.std.specs.Option.{option_map}
 use Rattle.std.proofs.lemmas.Bool.{false≢true, cases_lt, cases_eq}
 use Rattle.std.proofs.lemmas.Slice.Eq.{bytes_eq-Decides}
 use Rattle.sa_spaces.specs.declared.workload.Evict.{Evict}
@@ -118,18 +117,3 @@ before_evict a b (inr (same, rest)) =
       | inl less ↦ less_head a.space.0 b.space.0 (a.page ∷ []) (b.page ∷ []) less
       | inr alike ↦ same_head a.space.0 b.space.0 (a.page ∷ []) (b.page ∷ []) alike.0 (less_head a.page b.page [] [] alike.1)
     ])
-
--- an eviction behind another one
-pub order_at : (o : Option Evict) (last e : Evict) → o ≡ Some last → order_cause (option_map evict_numbers o) (evict_numbers e) ≡ order_cause (Some (evict_numbers last)) (evict_numbers e)
-order_at o last e h = ap (λ (x : Option Evict). order_cause (option_map evict_numbers x) (evict_numbers e)) h
-
-and_true : (a b c : Bool) → (a && (b && c)) ≡ true → (a && (b && (c && true))) ≡ true
-and_true true true true h = refl
-and_true true true false h = h
-and_true true false c h = h
-and_true false b c h = h
-
-pub order_same : (e last : Evict) → (eqb e.event last.event && (eqb e.space.0 last.space.0 && eqb e.page last.page)) ≡ true
-    → order_cause (Some (evict_numbers last)) (evict_numbers e) ≡ Some 5
-order_same e last h =
-    ap (λ (b : Bool). cond b (Some 5) (cond (list_lt (evict_numbers e) (evict_numbers last)) (Some 4) None)) (and_true (eqb e.event last.event) (eqb e.space.0 last.space.0) (eqb e.page last.page) h)

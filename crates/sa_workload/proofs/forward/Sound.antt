@@ -1,5 +1,5 @@
 -- A line that leads on from a reached position is a step to a reached position.
-use Rattle.std.proofs.Common.{◌≡◌, ℕ, ◌+◌, ◌-◌, ◌<◌, ◌≤◌, ◌==◌, leb, leb-false, Result, ◌&&◌, not, Bool, true, false, cond, List, [], ◌∷◌, ◌++◌, length, get_or, slice_index, Option, Some, None, Ok, Err, codes, decimal, refl, sym, ap, ap₂, ◌∙◌, subst, inl, inr, arith, le-leb, eq-eqb, ne_eqb, if◌then◌else◌}
+use Rattle.std.proofs.Common.{◌≡◌, ℕ, ◌+◌, ◌-◌, ◌<◌, ◌≤◌, ◌==◌, leb, leb-false, Result, ◌&&◌, not, Bool, true, false, List, [], ◌∷◌, ◌++◌, length, get_or, slice_index, Option, Some, None, Ok, Err, codes, decimal, refl, sym, ap, ap₂, ◌∙◌, subst, inl, inr, arith, le-leb, eq-eqb, ne_eqb, if◌then◌else◌}
 use Rattle.std.specs.Option.{is_some, option_map}
 use Rattle.std.specs.List.{AllByRecursion}
 use Rattle.std.proofs.lemmas.Bool.{cases_eq, false≢true}
@@ -11,13 +11,13 @@ use Rattle.sa_instr.specs.declared.instr.Instr.TheVariants.{End}
 use Rattle.sa_spaces.specs.declared.workload.Evict.{Evict}
 use Rattle.sa_spaces.specs.Space.{SpaceView}
 use Rattle.sa_workload.specs.Text.{instr_line}
-use Rattle.sa_workload.specs.Bad.{DeclaredNumbers, Field, within, declared, fields_by, instr_words, list_lt}
-use Rattle.sa_workload.specs.Fields.{and_then, or_cause, order_cause, line_numbers, index_of}
+use Rattle.sa_workload.specs.Bad.{Field, within, declared, list_lt}
+use Rattle.sa_workload.specs.Fields.{order_cause, line_numbers, index_of}
 use Rattle.sa_workload.specs.Position.{Machine, Draft, Position, AtVersion, AtProcessors, AtFetch, AtSlice, AtSpaces, AtSpace, AtSem, AtAbsent, AtProgram, AtInstr, AtEvict, AtTurn, Closed, IsReached}
 use Rattle.sa_workload.specs.Steps.{Steps, expected, step_version, step_processors, step_fetch, step_slice, step_spaces, step_space, step_sem, step_absent, step_first_program, step_program, step_instr as step_by_instr, step_evict, step_first_turn, step_turn, step_first_close, step_close, workload, after_fetch, after_sem, after_instr, with_sem, with_absent}
-use Rattle.sa_workload.specs.Next.{numbers_at, fields_of, is_full, last_numbers, last_of, evict_numbers, draft_from, evict_from, turn_from, is_end, operation_of, made_by, step, step_instr, next_by, is_last_impatient, draft_numbers, instr_in}
+use Rattle.sa_workload.specs.Next.{numbers_at, fields_of, is_full, last_numbers, last_of, evict_numbers, draft_from, evict_from, turn_from, is_end, step, step_instr, next_by, is_last_impatient}
 use Rattle.sa_workload.proofs.fields.FieldLemmas.{same_ok, if_either, and_then-ok, contained, line-ok, one_number, spelled, Passes, spelled_all, AllPass, within-passes, declared-passes}
-use Rattle.sa_workload.proofs.fields.InstrLemmas.{IsAllowed, instr-read, expected-operation, operation-fields}
+use Rattle.sa_workload.proofs.fields.InstrLemmas.{instr-read}
 use Rattle.sa_workload.proofs.forward.Fronts.{last_is, all_true}
 use Rattle.sa_workload.proofs.forward.Orders.{before_heads, order-none, evict_before}
 use Rattle.sa_workload.proofs.forward.Reached.{IsSpaceLine, reached-version, reached-processors, reached-fetch, reached-slice, reached-spaces, reached-space, reached-sem, reached-absent, reached-first_program, reached-program, reached-instr, reached-evict, reached-first_turn, reached-turn, reached-first_close, reached-close}
@@ -278,54 +278,3 @@ sound versions three (AtTurn m spaces es ts) word words q r t = by_word (expecte
         empty [] = refl
         empty (n ∷ ns) = refl
 sound versions three (Closed w) word words q r t = by_word [] word (Sound versions (Closed w) words q) tt t.known t
-
--- a line of an instruction, by its instruction
-pub instr_next : (versions : ℕ) (m : Machine) (spaces : List SpaceView) (d : Draft) (len : ℕ) (instrs : List Instr) (word : List ℕ) (words : List (List ℕ))
-    → next_by versions (AtInstr m spaces d len instrs) word words
-    ≡ and_then (instr_in (draft_numbers d len) word words) (λ i. step_instr m spaces d len instrs (Some i))
-instr_next versions m spaces d len instrs word words = by_known (is_some (index_of word instr_words)) refl
-  where
-    n : DeclaredNumbers
-    n = draft_numbers d len
-
-    read : ℕ → Result (List ℕ) ℕ
-    read v = line_numbers (fields_by v n word) None words
-
-    Outcome : Bool → Result Position ℕ
-    Outcome b = cond b (and_then (read versions) (λ ns. step_instr m spaces d len instrs (made_by ns (operation_of word)))) (Err 2)
-
-    Parts : Bool → Result Position ℕ
-    Parts b = and_then (cond b (and_then (read 0) (λ ns. or_cause (made_by ns (operation_of word)) 2)) (Err 2)) (λ i. step_instr m spaces d len instrs (Some i))
-
-    by_made : (o : Option Instr) → step_instr m spaces d len instrs o ≡ and_then (or_cause o 2) (λ i. step_instr m spaces d len instrs (Some i))
-    by_made None = refl
-    by_made (Some i) = refl
-
-    by_read : (r : Result (List ℕ) ℕ) → and_then r (λ ns. step_instr m spaces d len instrs (made_by ns (operation_of word)))
-        ≡ and_then (and_then r (λ ns. or_cause (made_by ns (operation_of word)) 2)) (λ i. step_instr m spaces d len instrs (Some i))
-    by_read (Ok ns) = by_made (made_by ns (operation_of word))
-    by_read (Err why) = refl
-
-    same : is_some (index_of word instr_words) ≡ true → read versions ≡ read 0
-    same known =
-        let o = expected-operation word known in
-        ap (λ (fs : List Field). line_numbers fs None words)
-        (ap (fields_by versions n) o.1 ∙ operation-fields versions n o.0 ∙ sym (operation-fields 0 n o.0) ∙ ap (fields_by 0 n) (sym o.1))
-
-    by_known : (b : Bool) → is_some (index_of word instr_words) ≡ b → Outcome (is_some (index_of word instr_words)) ≡ Parts (is_some (index_of word instr_words))
-    by_known true t =
-        ap Outcome t ∙ ap (λ (r : Result (List ℕ) ℕ). and_then r (λ ns. step_instr m spaces d len instrs (made_by ns (operation_of word)))) (same t)
-        ∙ by_read (read 0) ∙ ap Parts (sym t)
-    by_known false t = ap Outcome t ∙ ap Parts (sym t)
-
-pub allowed_in : (n : DeclaredNumbers) (word : List ℕ) (words : List (List ℕ)) (i : Instr) → instr_in n word words ≡ Ok i → IsAllowed n i
-allowed_in n word words i h =
-    elim (if_either (is_some (index_of word instr_words)) _ (Err 2) (Ok i) h) [
-      | inr none ↦ absurd (cc (none.1))
-      | inl known ↦
-          let read = and_then-ok (line_numbers (fields_by 0 n word) None words) (λ ns. or_cause (made_by ns (operation_of word)) 2) i known.1 in
-          let line = line-ok (fields_by 0 n word) None words read.0 read.1 in
-          let made = instr-read 0 n word read.0 known.0 line.1 in
-          let same : made.instr ≡ i = same_ok made.instr i (sym (ap (λ (o : Option Instr). or_cause o 2) made.is) ∙ read.2) in
-          subst (IsAllowed n) same made.allowed
-    ]

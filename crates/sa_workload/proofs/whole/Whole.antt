@@ -19,7 +19,8 @@ use Rattle.sa_workload.specs.Answer.{IfBad}
 use Rattle.sa_workload.specs.Bad.{IsUpTo, Begins, IsPrinted, LineCause, WordCause, IsBad, BadAt, BadAt1, words_of}
 use Rattle.sa_workload.specs.Position.{Position, AtVersion, AtProcessors, AtFetch, AtSlice, AtSpaces, AtSpace, AtSem, AtAbsent, AtProgram, AtInstr, AtEvict, AtTurn, Closed, IsReached, shown}
 use Rattle.sa_workload.specs.Next.{next}
-use Rattle.sa_workload.specs.Reading.{is_printed, line_in, finished, goes_on, read_from, read_of, IsReading}
+use Rattle.sa_text.specs.Pieces.{is_printed}
+use Rattle.sa_workload.specs.Reading.{line_in, finished, goes_on, read_from, read_of, IsReading}
 use Rattle.sa_workload.proofs.fields.FieldLemmas.{same_err, if_either, both_true}
 use Rattle.sa_workload.proofs.forward.Standing.{IsAt, Setting, any, alone, of_any, of_first, is_first, at_first, at_next, begins, whole_lines}
 use Rattle.sa_workload.proofs.forward.Sound.{took, sound}
