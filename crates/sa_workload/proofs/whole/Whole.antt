@@ -17,7 +17,7 @@ use Rattle.sa_text.proofs.PieceLemmas.{pieces_of-are_pieces}
 use Rattle.sa_workload.specs.Text.{workload_lines, IsText, IsText1}
 use Rattle.sa_workload.specs.Answer.{IfBad}
 use Rattle.sa_workload.specs.Bad.{IsUpTo, Begins, IsPrinted, LineCause, WordCause, IsBad, BadAt, BadAt1, words_of}
-use Rattle.sa_workload.specs.Position.{Position, AtVersion, AtProcessors, AtFetch, AtSlice, AtSpaces, AtSpace, AtSem, AtAbsent, AtProgram, AtInstr, AtEvict, AtTurn, Closed, IsReached, shown}
+use Rattle.sa_workload.specs.Position.{Position, AtVersion, Closed, IsReached, shown}
 use Rattle.sa_workload.specs.Next.{next}
 use Rattle.sa_workload.specs.Reading.{is_printed, line_in, finished, goes_on, read_from, read_of, IsReading}
 use Rattle.sa_workload.proofs.fields.FieldLemmas.{same_err, if_either, both_true}
@@ -137,18 +137,7 @@ ends : (versions : ℕ) → Setting versions → (p : Position) (front : List Li
     → IsOutcome versions (front ++ []) (finished (length front + 1) p)
 ends versions s (Closed w) front h =
     (h.lines ∙ ap words_of (sym (append-nil front)), subst (All Ended) (sym (append-nil front)) h.ended, h.at.reached)
-ends versions s AtVersion front h = missing versions s AtVersion front h (λ w e. absurd (cc e))
-ends versions s (AtProcessors v) front h = missing versions s (AtProcessors v) front h (λ w e. absurd (cc e))
-ends versions s (AtFetch v n) front h = missing versions s (AtFetch v n) front h (λ w e. absurd (cc e))
-ends versions s (AtSlice v n f) front h = missing versions s (AtSlice v n f) front h (λ w e. absurd (cc e))
-ends versions s (AtSpaces v n f l) front h = missing versions s (AtSpaces v n f l) front h (λ w e. absurd (cc e))
-ends versions s (AtSpace m spaces) front h = missing versions s (AtSpace m spaces) front h (λ w e. absurd (cc e))
-ends versions s (AtSem m spaces d) front h = missing versions s (AtSem m spaces d) front h (λ w e. absurd (cc e))
-ends versions s (AtAbsent m spaces d) front h = missing versions s (AtAbsent m spaces d) front h (λ w e. absurd (cc e))
-ends versions s (AtProgram m spaces d) front h = missing versions s (AtProgram m spaces d) front h (λ w e. absurd (cc e))
-ends versions s (AtInstr m spaces d len is) front h = missing versions s (AtInstr m spaces d len is) front h (λ w e. absurd (cc e))
-ends versions s (AtEvict m spaces es) front h = missing versions s (AtEvict m spaces es) front h (λ w e. absurd (cc e))
-ends versions s (AtTurn m spaces es ts) front h = missing versions s (AtTurn m spaces es ts) front h (λ w e. absurd (cc e))
+ends versions s p front h = missing versions s p front h (λ w e. absurd (cc e))
 
 one_more : (versions : ℕ) → versions ≤ 3 → (p q : Position) (front : List LineText) (l : LineText) → IsBehind versions p front → line_in versions p l ≡ Ok q → IsBehind versions q (front ++ l ∷ [])
 one_more versions three p q front l h e =
