@@ -86,7 +86,10 @@ word_cause versions s p word words why a h =
             expects versions s p word a known.0,
             elim (if_either (is_full p word) (Err 8) _ (Err why) known.1) [
               | inl full ↦ inl ((many-Decides (shown p) word).0 (at.full ∙ full.0), sym (same_err {A = Position} 8 why full.1))
-              | inr room ↦ inr (not_from_Decides _ (many-Decides (shown p) word) (at.full ∙ room.0), ap (λ (fs : List Field). field_cause (shown p) fs word words) at.fields ∙ cause_by versions p word words why known.0 at room.1)
+              | inr room ↦ inr (
+                not_from_Decides _ (many-Decides (shown p) word) (at.full ∙ room.0),
+                ap (λ (fs : List Field). field_cause (shown p) fs word words) at.fields ∙ cause_by versions p word words why known.0 at room.1,
+              )
             ],
           )
     ]

@@ -18,7 +18,7 @@ use Rattle.sa_workload.specs.Fields.{and_then, index_of, order_cause, read_field
 use Rattle.sa_workload.specs.Position.{Position, AtVersion, AtInstr, Closed, shown, shown_spaces, shown_draft}
 use Rattle.sa_workload.specs.Steps.{expected}
 use Rattle.sa_workload.specs.Next.{numbers_at, is_full, last_numbers, fields_of, next}
-use Rattle.sa_workload.proofs.fields.FieldLemmas.{same_ok, both_true, and_then-ok, and_then-err, contained, spelled_all, AllPass, read-ok, fields-ok, fields-spelled, all_long}
+use Rattle.sa_workload.proofs.fields.FieldLemmas.{same_ok, both_true, and_then-ok, and_then-err, contained, spelled_all, AllPass, read-ok, behind, fields-ok, fields-spelled, all_long}
 use Rattle.sa_workload.proofs.fields.InstrLemmas.{operation-expected}
 use Rattle.sa_workload.proofs.causes.Causes.{is_stuck, Leads, step-leads}
 use Rattle.sa_workload.proofs.forward.Completion.{begins_front}
@@ -79,7 +79,7 @@ right_numbers fs words r long = by (fields_at fs words) refl r
     by : (x : Result (List ℕ × List (List ℕ)) ℕ) → fields_at fs words ≡ x → is_ok x ≡ true → (ns : List ℕ) × AllPass fs ns × (words ≡ spelled_all fs ns)
     by (Err cause) e r = absurd (cc r)
     by (Ok read) e r =
-        let f = fields-ok fs words read.0 read.1 e in
+        let f = fields-ok fs words read e in
         (read.0, f.1, f.0 ∙ whole (spelled_all fs read.0) read.1 (ap length (sym f.0) ∙ long ∙ sym (all_long fs read.0 f.1).1))
 
 -- the words before the first wrong one, with numbers of another line behind them
@@ -92,10 +92,7 @@ record Mixed (fs : List Field) (words : List (List ℕ)) (why : ℕ) : Type 0 wh
   spelled_are : spelled_all fs numbers ≡ take place words ++ others
   wrong : place < length words → (more : List (List ℕ)) → fields_at fs (take (suc place) words ++ more) ≡ Err why
 
--- how fields go on behind a word
-abbrev behind : List Field → List (List ℕ) → Result ℕ ℕ → Result (List ℕ × List (List ℕ)) ℕ
-behind fs words r = and_then {A = ℕ × List (List ℕ)} (and_then r (λ n. Ok (n, words))) (λ first. and_then (fields_at fs first.1) (λ others. Ok (first.0 ∷ others.0, others.1)))
-
+-- where the first word is right, another one is wrong
 later : (fs : List Field) (words : List (List ℕ)) (n why : ℕ) → behind fs words (Ok n) ≡ Err why → fields_at fs words ≡ Err why
 later fs words n why h = elim (and_then-err (fields_at fs words) (λ others. Ok (n ∷ others.0, others.1)) why h) [ inl wrong ↦ wrong | inr none ↦ absurd (cc none.2) ]
 
