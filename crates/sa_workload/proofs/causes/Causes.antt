@@ -22,12 +22,12 @@ end_by_word : (i : Instr) → is_end i ≡ bytes_eq (first_word (instr_line i)) 
 end_by_word End = refl
 end_by_word _ = refl
 
--- the last instruction of a program is to come, and the word is none of `end`
+-- the last instruction of a program is to come, and the word is not `end`
 abbrev pub is_stuck : Position → List ℕ → Bool
 is_stuck (AtInstr m spaces d len instrs) word = (length instrs + 1 == len) && not (bytes_eq word (codes "end"))
 is_stuck _ word = false
 
--- right words lead on, unless the position is stuck
+-- what right words lead to: why 9 where the position is stuck, else another position
 abbrev pub Leads : Bool → Result Position ℕ → Type 0
 Leads true r = r ≡ Err 9
 Leads false r = (q : Position) × (r ≡ Ok q)

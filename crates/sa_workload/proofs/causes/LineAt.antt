@@ -39,6 +39,7 @@ many-Decides lines word = Decides-or _ _ (up_to (codes "evict") MAX_EVICTIONS) (
     up_to : (k : List ℕ) (limit : ℕ) → Decides (bytes_eq word k && nat_le limit (count_of_word lines word)) ((word ≡ k) × (limit ≤ count_of_word lines word))
     up_to k limit = Decides-and _ _ (bytes_eq-Decides word k) (leb-true limit (count_of_word lines word), le-leb limit (count_of_word lines word))
 
+-- a line of the word has the same fields, limit and order by the lines before it and by the position
 pub record LineAt (versions : ℕ) (p : Position) (word : List ℕ) : Type 0 where
   pub fields : fields_behind versions (shown p) word ≡ fields_of versions p word
   pub full : is_many (shown p) word ≡ is_full p word
