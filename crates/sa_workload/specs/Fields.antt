@@ -1,4 +1,4 @@
--- What the words behind the first one of a line are read as, by its fields.
+-- What the words behind the first one of a line are read as, by its fields: the number of each, or the first cause that applies.
 use Rattle.std.specs.Prelude.{ℕ, ◌+◌, ◌==◌, ◌&&◌, ◌||◌, nat_lt, Bool, false, codes, List, [], ◌∷◌, Option, Some, None, Result, Ok, Err, if◌then◌else◌}
 use Rattle.std.specs.Option.{option_map}
 use Rattle.std.specs.Str.{bytes_eq}

@@ -39,6 +39,7 @@ many-Decides lines word = Decides-or _ _ (up_to (codes "evict") MAX_EVICTIONS) (
     up_to : (k : List ℕ) (limit : ℕ) → Decides (bytes_eq word k && nat_le limit (count_of_word lines word)) ((word ≡ k) × (limit ≤ count_of_word lines word))
     up_to k limit = Decides-and _ _ (bytes_eq-Decides word k) (leb-true limit (count_of_word lines word), le-leb limit (count_of_word lines word))
 
+-- a line of the word has the same fields, limit and order by the lines before it and by the position
 pub record LineAt (versions : ℕ) (p : Position) (word : List ℕ) : Type 0 where
   pub fields : fields_behind versions (shown p) word ≡ fields_of versions p word
   pub full : is_many (shown p) word ≡ is_full p word
@@ -124,7 +125,7 @@ line_at versions three (AtInstr m spaces d len instrs) word a known =
       fields = operation-fields versions (numbers_in (shown p)) o ∙ (λ i. map (λ k. same k i) (form_of o).operands) ∙ sym (operation-fields versions (numbers_at p) o);
       full = plain.0;
       order = plain.1;
-      }
+    }
 line_at versions three (AtEvict m spaces es) word a known = by_word (expected (AtEvict m spaces es)) word (LineAt versions (AtEvict m spaces es)) (
   record {
     fields = ap (λ (n : ℕ). within 1 MAX_EVENTS ∷ declared n ∷ within 0 LAST_PAGE ∷ []) (number_is 1 m.count a.says.0.2 refl (omega (arith, a.reached.0.count.1)));
@@ -136,7 +137,7 @@ line_at versions three (AtEvict m spaces es) word a known = by_word (expected (A
       fields = ap (λ (n : ℕ). within 0 (n - 1) ∷ []) (number_is 1 m.processors a.says.0.1 refl (omega (arith, a.reached.0.processors.1)));
       full = ap (nat_le MAX_TURNS) a.says.2;
       order = refl;
-      },
+    },
     (record { fields = refl; full = refl; order = refl }, tt),
   ),
 ) known

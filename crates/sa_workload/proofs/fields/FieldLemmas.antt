@@ -1,5 +1,5 @@
 -- What the words of a line are read as, and back: a field has one spelling.
-use Rattle.std.proofs.Common.{◌≡◌, ℕ, zero, suc, ◌+◌, ◌^◌, ◌<◌, ◌≤◌, ◌&&◌, ◌⊎◌, Bool, true, false, cond, List, [], ◌∷◌, ◌++◌, length, get_or, Contains, Option, Some, None, Result, Ok, Err, codes, decimal, refl, sym, ap, ◌∙◌, subst, inl, inr, arith, nat_le, nat_lt}
+use Rattle.std.proofs.Common.{◌≡◌, ℕ, zero, suc, ◌+◌, ◌^◌, ◌<◌, ◌≤◌, ◌&&◌, ◌⊎◌, Bool, true, false, cond, List, [], ◌∷◌, ◌++◌, length, get_or, Contains, Option, Some, None, Result, Ok, Err, codes, decimal, refl, sym, ap, ap₂, ◌∙◌, subst, inl, inr, arith, nat_le, nat_lt}
 use Rattle.std.specs.Option.{is_some, option_map}
 use Rattle.std.specs.Str.{bytes_eq}
 use Rattle.std.specs.Str.Parse.{digits_value}
@@ -159,35 +159,36 @@ read-ok (Number test cause) word n h =
       | inr wrong ↦ absurd (cc (wrong.1))
     ]
 
--- all fields of a line
+-- all fields of a line; how they go on behind what the first word is read as
+abbrev pub behind : List Field → List (List ℕ) → Result ℕ ℕ → Result (List ℕ × List (List ℕ)) ℕ
+behind fs words r = and_then {A = ℕ × List (List ℕ)} (and_then r (λ n. Ok (n, words))) (λ first. and_then (fields_at fs first.1) (λ others. Ok (first.0 ∷ others.0, others.1)))
+
 pub fields-spelled : (fs : List Field) (ns : List ℕ) (rest : List (List ℕ)) → AllPass fs ns → fields_at fs (spelled_all fs ns ++ rest) ≡ Ok (ns, rest)
 fields-spelled [] [] rest h = refl
 fields-spelled [] (n ∷ ns) rest h = absurd h
 fields-spelled (f ∷ fs) [] rest h = absurd h
 fields-spelled (f ∷ fs) (n ∷ ns) rest h =
-    ap (λ (r : Result ℕ ℕ). and_then {A = ℕ × List (List ℕ)} (and_then r (λ n. Ok (n, spelled_all fs ns ++ rest))) (λ first. and_then (fields_at fs first.1) (λ others. Ok (first.0 ∷ others.0, others.1)))) (read-spelled f n h.0)
+    ap (behind fs (spelled_all fs ns ++ rest)) (read-spelled f n h.0)
     ∙ ap (λ (r : Result (List ℕ × List (List ℕ)) ℕ). and_then r (λ others. Ok (n ∷ others.0, others.1))) (fields-spelled fs ns rest h.1)
 
-pub fields-ok : (fs : List Field) (words : List (List ℕ)) (ns : List ℕ) (rest : List (List ℕ)) → fields_at fs words ≡ Ok (ns, rest)
-    → (words ≡ spelled_all fs ns ++ rest) × AllPass fs ns
-fields-ok [] words ns rest h =
-    let e = same_ok ([], words) (ns, rest) h in
-    let a : [] ≡ ns = ap (λ (r : List ℕ × List (List ℕ)). r.0) e in
-    let b : words ≡ rest = ap (λ (r : List ℕ × List (List ℕ)). r.1) e in
-    subst (λ (ms : List ℕ). (words ≡ spelled_all [] ms ++ rest) × AllPass [] ms) a (b, tt)
-fields-ok (f ∷ fs) [] ns rest h = absurd cc
-fields-ok (f ∷ fs) (word ∷ words) ns rest h =
-    let first = and_then-ok (field_at f (word ∷ words)) (λ first. and_then (fields_at fs first.1) (λ others. Ok (first.0 ∷ others.0, others.1))) (ns, rest) h in
-    let own = and_then-ok (read_field f word) (λ n. Ok (n, words)) first.0 first.1 in
-    let same : (own.0, words) ≡ first.0 = same_ok (own.0, words) first.0 own.2 in
-    let others = and_then-ok (fields_at fs first.0.1) (λ others. Ok (first.0.0 ∷ others.0, others.1)) (ns, rest) first.2 in
-    let all = same_ok (first.0.0 ∷ others.0.0, others.0.1) (ns, rest) others.2 in
-    let a : own.0 ∷ others.0.0 ≡ ns = ap (λ (r : ℕ × List (List ℕ)). r.0 ∷ others.0.0) same ∙ ap (λ (r : List ℕ × List (List ℕ)). r.0) all in
-    let b : others.0.1 ≡ rest = ap (λ (r : List ℕ × List (List ℕ)). r.1) all in
-    let read = read-ok f word own.0 own.1 in
-    let behind = fields-ok fs words others.0.0 others.0.1 (ap (λ (r : ℕ × List (List ℕ)). fields_at fs r.1) same ∙ others.1) in
-    subst (λ (ms : List ℕ). (word ∷ words ≡ spelled_all (f ∷ fs) ms ++ rest) × AllPass (f ∷ fs) ms) a
-    (ap (λ w. w ∷ words) read.0 ∙ ap (λ ws. spelled f own.0 ∷ ws) (behind.0 ∙ ap (λ ws. spelled_all fs others.0.0 ++ ws) b), (read.1, behind.1))
+abbrev IsSpelled : List Field → List (List ℕ) → List ℕ × List (List ℕ) → Type 0
+IsSpelled fs words read = (words ≡ spelled_all fs read.0 ++ read.1) × AllPass fs read.0
+
+pub fields-ok : (fs : List Field) (words : List (List ℕ)) (read : List ℕ × List (List ℕ)) → fields_at fs words ≡ Ok read
+    → (words ≡ spelled_all fs read.0 ++ read.1) × AllPass fs read.0
+fields-ok [] words read h = subst (IsSpelled [] words) (same_ok ([], words) read h) (refl, tt)
+fields-ok (f ∷ fs) [] read h = absurd cc
+fields-ok (f ∷ fs) (word ∷ words) read h = by (read_field f word) refl h (fields-ok fs words)
+  where
+    by : (r : Result ℕ ℕ) → read_field f word ≡ r → behind fs words r ≡ Ok read
+        → ((others : List ℕ × List (List ℕ)) → fields_at fs words ≡ Ok others → IsSpelled fs words others) → IsSpelled (f ∷ fs) (word ∷ words) read
+    by (Err cause) e h rest = absurd (cc h)
+    by (Ok n) e h rest =
+        let own = read-ok f word n e in
+        let others = and_then-ok (fields_at fs words) (λ others. Ok (n ∷ others.0, others.1)) read h in
+        let later = rest others.0 others.1 in
+        subst (IsSpelled (f ∷ fs) (word ∷ words)) (same_ok (n ∷ others.0.0, others.0.1) read others.2)
+        (ap₂ (λ (w : List ℕ) (ws : List (List ℕ)). w ∷ ws) own.0 later.0, (own.1, later.1))
 
 pub all_long : (fs : List Field) (ns : List ℕ) → AllPass fs ns → (length ns ≡ length fs) × (length (spelled_all fs ns) ≡ length fs)
 all_long [] [] h = (refl, refl)
@@ -219,6 +220,6 @@ line-ok fs last words ns h =
     let order = unless-ok (order_cause last read.0.0) (unless (at_end read.0.1) (Ok read.0.0)) ns read.2 in
     let end = unless-ok (at_end read.0.1) (Ok read.0.0) ns order.1 in
     let same : read.0.0 ≡ ns = same_ok read.0.0 ns end.1 in
-    let f = fields-ok fs words read.0.0 read.0.1 read.1 in
+    let f = fields-ok fs words read.0 read.1 in
     subst (λ (ms : List ℕ). (words ≡ spelled_all fs ms) × AllPass fs ms × (order_cause last ms ≡ None)) same
     (f.0 ∙ ap (λ ws. spelled_all fs read.0.0 ++ ws) (at_end-none read.0.1 end.0) ∙ append-nil (spelled_all fs read.0.0), f.1, order.0)

@@ -21,7 +21,7 @@ use Rattle.sa_workload.proofs.forward.Says.{heard, Says, ordered-Decides}
 use Rattle.sa_workload.specs.Fields.{index_of}
 use Rattle.sa_workload.specs.Next.{last_of, evict_numbers}
 
--- behind a line of a word whose lines keep an order the word may be repeated
+-- where a line of the word has to be behind one of these, the last line begins with the word
 again : {X : Type 0} (lines : List (List (List ℕ))) (word : List ℕ) (count : ℕ) (f : X → List ℕ) (xs : List X) (d : X) → 0 < length xs
     → numbers_before (last_line lines) word count ≡ option_map f (last_of xs) → first_word (last_line lines) ≡ word
 again lines word count f xs d some h =

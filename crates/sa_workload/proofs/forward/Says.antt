@@ -6,6 +6,7 @@ use Rattle.std.specs.List.{list_all}
 use Rattle.std.specs.Str.{bytes_eq}
 use Rattle.std.specs.Str.Parse.{digits_value}
 use Rattle.std.proofs.Math.Bool.{and_comm}
+use Rattle.std.proofs.lemmas.Bool.{cond_both}
 use Rattle.std.proofs.lemmas.Bool.Decides.{Decides-and}
 use Rattle.std.proofs.lemmas.Fmt.{decimal_is_IsNumeral}
 use Rattle.std.proofs.lemmas.List.{length_push, get_or_push}
@@ -23,7 +24,7 @@ use Rattle.sa_spaces.specs.Workload.{IsEviction}
 use Rattle.sa_workload.specs.Text.{operand_word, instr_line, space_line, evict_line}
 use Rattle.sa_workload.specs.Bad.{ordered_words, is_ordered, numbers_before, first_word, last_line, last_with, count_of_word, number_in, numbers_of}
 use Rattle.sa_workload.specs.Position.{Machine, Draft, Position, AtVersion, AtProcessors, AtFetch, AtSlice, AtSpaces, AtSpace, AtSem, AtAbsent, AtProgram, AtInstr, AtEvict, AtTurn, Closed, IsReached, version_line, processors_line, fetch_line, spaces_line, draft_line}
-use Rattle.sa_workload.specs.Steps.{Steps, step_version, step_processors, step_fetch, step_slice, step_spaces, step_space, step_sem, step_absent, step_first_program, step_program, step_instr, step_evict, step_first_turn, step_turn, step_first_close, step_close, program_line, space_of_draft, with_sem, with_program, after_sem, after_instr, after_spaces}
+use Rattle.sa_workload.specs.Steps.{Steps, step_version, step_processors, step_fetch, step_slice, step_spaces, step_space, step_sem, step_absent, step_first_program, step_program, step_instr, step_evict, step_first_turn, step_turn, step_first_close, step_close, program_line, space_of_draft, with_sem, with_program, after_sem, after_instr, after_spaces, after_program}
 use Rattle.sa_workload.specs.Next.{last_of, evict_numbers}
 use Rattle.sa_workload.proofs.fields.FieldLemmas.{contained, known_word}
 use Rattle.sa_workload.proofs.forward.Fronts.{last_of-push, All-last}
@@ -140,36 +141,25 @@ Says h (Closed w) = ⊤
 
 says-after_sem : (h : Heard) (m : Machine) (spaces : List SpaceView) (d : Draft) → InSpace h m spaces d → numbers_before h.last (codes "absent") 1 ≡ None
     → d.absent ≡ [] → Says h (after_sem m spaces d)
-says-after_sem h m spaces d s none e = by_test (length d.sems == d.sem_count)
-  where
-    by_test : (b : Bool) → Says h (if b then AtAbsent m spaces d else AtSem m spaces d)
-    by_test true = (s, none ∙ ap (λ (ks : List ℕ). option_map (λ page. page ∷ []) (last_of ks)) (sym e))
-    by_test false = s
+says-after_sem h m spaces d s none e =
+    cond_both (length d.sems == d.sem_count) (AtAbsent m spaces d) (AtSem m spaces d) (Says h)
+    (λ _. (s, none ∙ ap (λ (ks : List ℕ). option_map (λ page. page ∷ []) (last_of ks)) (sym e))) (λ _. s)
 
 says-after_instr : (h : Heard) (m : Machine) (spaces : List SpaceView) (d : Draft) (len : ℕ) (instrs : List Instr) → Says h (AtInstr m spaces d len instrs)
     → numbers_before h.last (codes "evict") 3 ≡ None → Says h (after_instr m spaces d len instrs)
-says-after_instr h m spaces d len instrs s none = by_instr (length instrs == len)
+says-after_instr h m spaces d len instrs s none =
+    cond_both (length instrs == len) (after_program m spaces done) (AtInstr m spaces d len instrs) (Says h)
+    (λ _. cond_both (length done.programs == done.program_count) (after_spaces m more) (AtProgram m spaces done) (Says h)
+    (λ _. cond_both (length more == m.count) (AtEvict m more []) (AtSpace m more) (Says h) (λ _. (s.0.0, s.0.1.2, s.0.1.3, none)) (λ _. (
+      s.0.0,
+      (s.0.1.0 ∙ sym (length_push spaces (space_of_draft done)), s.0.1.1 ∙ sym (list_all-push (is_patient m.version) spaces (space_of_draft done)), s.0.1.2, s.0.1.3),
+    ))) (λ _. s.0)) (λ _. s)
   where
     done : Draft
     done = with_program d instrs
 
     more : List SpaceView
     more = spaces ++ space_of_draft done ∷ []
-
-    by_space : (b : Bool) → Says h (if b then AtEvict m more [] else AtSpace m more)
-    by_space true = (s.0.0, s.0.1.2, s.0.1.3, none)
-    by_space false = (
-      s.0.0,
-      (s.0.1.0 ∙ sym (length_push spaces (space_of_draft done)), s.0.1.1 ∙ sym (list_all-push (is_patient m.version) spaces (space_of_draft done)), s.0.1.2, s.0.1.3),
-    )
-
-    by_program : (b : Bool) → Says h (if b then after_spaces m more else AtProgram m spaces done)
-    by_program true = by_space (length more == m.count)
-    by_program false = s.0
-
-    by_instr : (b : Bool) → Says h (if b then (if length done.programs == done.program_count then after_spaces m more else AtProgram m spaces done) else AtInstr m spaces d len instrs)
-    by_instr true = by_program (length done.programs == done.program_count)
-    by_instr false = s
 
 -- the line of an instruction changes nothing but the last line
 instr-says : (h : Heard) (m : Machine) (spaces : List SpaceView) (d : Draft) (len : ℕ) (instrs : List Instr) (o : Operation) (others : List (List ℕ))
@@ -183,11 +173,7 @@ pub says-next : (versions : ℕ) (h : Heard) (p : Position) (line : List (List �
     → IsReached versions p → IsReached versions q → Says h p → Says (hear h line) q
 says-next versions h p line q (step_version v) r k s = (s, refl)
 says-next versions h p line q (step_processors v n) r k s = (s.0, s.1, refl)
-says-next versions h p line q (step_fetch v n f) r k s = by_test (v == 1)
-  where
-    by_test : (b : Bool) → Says (hear h (fetch_line f)) (if b then AtSpaces v n f 0 else AtSlice v n f)
-    by_test true = s
-    by_test false = s
+says-next versions h p line q (step_fetch v n f) r k s = cond_both (v == 1) (AtSpaces v n f 0) (AtSlice v n f) (Says (hear h (fetch_line f))) (λ _. s) (λ _. s)
 says-next versions h p line q (step_slice v n f l) r k s = s
 says-next versions h p line q (step_spaces v n f l c) r k s = ((s.1, s.2, refl), s.0)
 says-next versions h p line q (step_space m spaces d fresh) r k s =

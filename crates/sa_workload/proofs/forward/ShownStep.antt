@@ -1,6 +1,7 @@
 -- A step shows one line more.
 use Rattle.std.proofs.Common.{◌≡◌, ◌≢◌, ℕ, ◌≤◌, Bool, true, false, List, [], ◌∷◌, ◌++◌, length, map, codes, decimal, arith, refl, sym, ap, ◌∙◌, inl, inr, eqb, append_assoc, append-nil, if◌then◌else◌, eq-eqb, ne_eqb, eqb-true}
 use Rattle.std.specs.List.{flat_map, list_all}
+use Rattle.std.proofs.lemmas.Bool.{cond_both}
 use Rattle.std.proofs.lemmas.List.{map_push}
 use Rattle.std.proofs.lemmas.List.Concat.{flat_map-append}
 use Rattle.sa_base.specs.declared.number.ProcNo.{ProcNo}
@@ -9,7 +10,7 @@ use Rattle.sa_spaces.specs.declared.workload.Evict.{Evict}
 use Rattle.sa_spaces.specs.Space.{SpaceView}
 use Rattle.sa_workload.specs.Text.{instr_line, program_lines, sem_line, absent_line, space_lines, evict_line, turn_line, slice_lines, version_of, workload_lines}
 use Rattle.sa_workload.specs.Position.{Machine, Draft, Position, AtSlice, AtSpaces, AtSpace, AtSem, AtAbsent, AtProgram, AtInstr, AtEvict, IsReached, AreSpaces, CanSlice, version_line, processors_line, fetch_line, spaces_line, shown_machine, shown_spaces, draft_line, shown_draft, shown}
-use Rattle.sa_workload.specs.Steps.{Steps, step_version, step_processors, step_fetch, step_slice, step_spaces, step_space, step_sem, step_absent, step_first_program, step_program, step_instr, step_evict, step_first_turn, step_turn, step_first_close, step_close, slice_line, program_line, close_line, workload, space_of_draft, IsFresh, with_sem, with_absent, with_program, after_sem, after_spaces, after_program, after_instr}
+use Rattle.sa_workload.specs.Steps.{Steps, step_version, step_processors, step_fetch, step_slice, step_spaces, step_space, step_sem, step_absent, step_first_program, step_program, step_instr, step_evict, step_first_turn, step_turn, step_first_close, step_close, slice_line, program_line, close_line, workload, space_of_draft, IsFresh, with_sem, with_absent, with_program, after_fetch, after_sem, after_spaces, after_program, after_instr}
 use Rattle.sa_workload.proofs.forward.Fronts.{all_true, true_all}
 
 abbrev pub Lines : Type 0
@@ -43,25 +44,20 @@ version_of-workload m spaces evictions turns can are e = by_slice can
 slice_shown : (v s : ℕ) → 2 ≤ v → slice_lines v s ≡ slice_line s ∷ []
 slice_shown v s h = ap (λ (b : Bool). if b then [] else slice_line s ∷ []) (ne_eqb v 1 (omega arith))
 
-fetch_shown : (v n f : ℕ) (b : Bool) → eqb v 1 ≡ b
-    → shown (if b then AtSpaces v n f 0 else AtSlice v n f) ≡ version_line v ∷ processors_line n ∷ fetch_line f ∷ []
-fetch_shown v n f true e =
-    ap (λ (b : Bool). version_line v ∷ processors_line n ∷ fetch_line f ∷ (if b then [] else slice_line 0 ∷ [])) e
-fetch_shown v n f false e = refl
+fetch_shown : (v n f : ℕ) → shown (after_fetch v n f) ≡ version_line v ∷ processors_line n ∷ fetch_line f ∷ []
+fetch_shown v n f =
+    cond_both (eqb v 1) (AtSpaces v n f 0) (AtSlice v n f) (λ (q : Position). shown q ≡ version_line v ∷ processors_line n ∷ fetch_line f ∷ [])
+    (λ e. ap (λ (b : Bool). version_line v ∷ processors_line n ∷ fetch_line f ∷ (if b then [] else slice_line 0 ∷ [])) e) (λ e. refl)
 
 pub after_sem-shown : (m : Machine) (spaces : List SpaceView) (d : Draft) → shown (after_sem m spaces d) ≡ shown_spaces m spaces ++ shown_draft m.version d
-after_sem-shown m spaces d = by_test (eqb (length d.sems) d.sem_count)
-  where
-    by_test : (b : Bool) → shown (if b then AtAbsent m spaces d else AtSem m spaces d) ≡ shown_spaces m spaces ++ shown_draft m.version d
-    by_test true = refl
-    by_test false = refl
+after_sem-shown m spaces d =
+    cond_both (eqb (length d.sems) d.sem_count) (AtAbsent m spaces d) (AtSem m spaces d)
+    (λ (q : Position). shown q ≡ shown_spaces m spaces ++ shown_draft m.version d) (λ e. refl) (λ e. refl)
 
 pub after_spaces-shown : (m : Machine) (spaces : List SpaceView) → shown (after_spaces m spaces) ≡ shown_spaces m spaces
-after_spaces-shown m spaces = by_test (eqb (length spaces) m.count)
-  where
-    by_test : (b : Bool) → shown (if b then AtEvict m spaces [] else AtSpace m spaces) ≡ shown_spaces m spaces
-    by_test true = append-nil (shown_spaces m spaces)
-    by_test false = refl
+after_spaces-shown m spaces =
+    cond_both (eqb (length spaces) m.count) (AtEvict m spaces []) (AtSpace m spaces) (λ (q : Position). shown q ≡ shown_spaces m spaces)
+    (λ e. append-nil (shown_spaces m spaces)) (λ e. refl)
 
 -- a whole draft is a space
 draft_whole : (version : ℕ) (d : Draft) → length d.sems ≡ d.sem_count → length d.programs ≡ d.program_count
@@ -80,14 +76,11 @@ spaces_push m spaces s =
 
 pub after_program-shown : (m : Machine) (spaces : List SpaceView) (d : Draft) → length d.sems ≡ d.sem_count
     → shown (after_program m spaces d) ≡ shown_spaces m spaces ++ shown_draft m.version d
-after_program-shown m spaces d e = by_test (eqb (length d.programs) d.program_count) refl
-  where
-    by_test : (b : Bool) → eqb (length d.programs) d.program_count ≡ b
-        → shown (if b then after_spaces m (spaces ++ space_of_draft d ∷ []) else AtProgram m spaces d) ≡ shown_spaces m spaces ++ shown_draft m.version d
-    by_test true t =
-        after_spaces-shown m (spaces ++ space_of_draft d ∷ []) ∙ spaces_push m spaces (space_of_draft d)
-        ∙ ap (λ (ls : Lines). shown_spaces m spaces ++ ls) (draft_whole m.version d e (eqb-true (length d.programs) d.program_count t))
-    by_test false t = refl
+after_program-shown m spaces d e =
+    cond_both (eqb (length d.programs) d.program_count) (after_spaces m (spaces ++ space_of_draft d ∷ [])) (AtProgram m spaces d)
+    (λ (q : Position). shown q ≡ shown_spaces m spaces ++ shown_draft m.version d)
+    (λ t. after_spaces-shown m (spaces ++ space_of_draft d ∷ []) ∙ spaces_push m spaces (space_of_draft d)
+    ∙ ap (λ (ls : Lines). shown_spaces m spaces ++ ls) (draft_whole m.version d e (eqb-true (length d.programs) d.program_count t))) (λ t. refl)
 
 programs_push : (version : ℕ) (d : Draft) (p : List Instr) → shown_draft version (with_program d p) ≡ shown_draft version d ++ program_lines p
 programs_push version d p =
@@ -98,17 +91,13 @@ programs_push version d p =
 
 pub after_instr-shown : (m : Machine) (spaces : List SpaceView) (d : Draft) (len : ℕ) (instrs : List Instr) → length d.sems ≡ d.sem_count
     → shown (after_instr m spaces d len instrs) ≡ shown_spaces m spaces ++ (shown_draft m.version d ++ (program_line len ∷ map instr_line instrs))
-after_instr-shown m spaces d len instrs e = by_test (eqb (length instrs) len) refl
-  where
-    by_test : (b : Bool) → eqb (length instrs) len ≡ b
-        → shown (if b then after_program m spaces (with_program d instrs) else AtInstr m spaces d len instrs)
-        ≡ shown_spaces m spaces ++ (shown_draft m.version d ++ (program_line len ∷ map instr_line instrs))
-    by_test true t =
-        after_program-shown m spaces (with_program d instrs) e
-        ∙ ap (λ (ls : Lines). shown_spaces m spaces ++ ls)
-        (programs_push m.version d instrs
-        ∙ ap (λ (n : ℕ). shown_draft m.version d ++ (program_line n ∷ map instr_line instrs)) (eqb-true (length instrs) len t))
-    by_test false t = refl
+after_instr-shown m spaces d len instrs e =
+    cond_both (eqb (length instrs) len) (after_program m spaces (with_program d instrs)) (AtInstr m spaces d len instrs)
+    (λ (q : Position). shown q ≡ shown_spaces m spaces ++ (shown_draft m.version d ++ (program_line len ∷ map instr_line instrs)))
+    (λ t. after_program-shown m spaces (with_program d instrs) e
+    ∙ ap (λ (ls : Lines). shown_spaces m spaces ++ ls)
+    (programs_push m.version d instrs
+    ∙ ap (λ (n : ℕ). shown_draft m.version d ++ (program_line n ∷ map instr_line instrs)) (eqb-true (length instrs) len t))) (λ t. refl)
 
 -- a draft with no program yet shows its semaphores and its pages
 draft_pages : (version : ℕ) (d : Draft) → d.programs ≡ [] → shown_draft version d ≡ draft_line version d ∷ (map sem_line d.sems ++ map absent_line d.absent)
@@ -141,7 +130,7 @@ closing m spaces evictions turns e f =
 pub shown-step : (versions : ℕ) (p : Position) (line : List (List ℕ)) (q : Position) → Steps p line q → IsReached versions p → shown q ≡ shown p ++ line ∷ []
 shown-step versions p line q (step_version v) h = refl
 shown-step versions p line q (step_processors v n) h = refl
-shown-step versions p line q (step_fetch v n f) h = fetch_shown v n f (eqb v 1) refl
+shown-step versions p line q (step_fetch v n f) h = fetch_shown v n f
 shown-step versions p line q (step_slice v n f s) h =
     ap (λ (ls : Lines). version_line v ∷ processors_line n ∷ fetch_line f ∷ ls) (slice_shown v s h.0)
 shown-step versions p line q (step_spaces v n f s c) h =

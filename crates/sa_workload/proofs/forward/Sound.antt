@@ -190,6 +190,10 @@ above_last pages k o some =
     (ap (λ (l : Option ℕ). order_cause (option_map (λ page. page ∷ []) l) (k ∷ [])) (sym (last_is pages 0 some)) ∙ o) in
     elim (before_heads (get_or pages (length pages - 1) 0) k [] [] less) [ inl l ↦ l | inr x ↦ absurd (cc (x.1)) ]
 
+no_fields : (ns : List ℕ) → spelled_all [] ns ≡ []
+no_fields [] = refl
+no_fields (n ∷ ns) = refl
+
 -- each line that leads on from a reached position
 pub sound : (versions : ℕ) → versions ≤ 3 → (p : Position) (word : List ℕ) (words : List (List ℕ)) (q : Position) → IsReached versions p
     → Took versions p word words q → GoesTo versions p (word ∷ words) q
@@ -252,29 +256,15 @@ sound versions three (AtEvict m spaces es) word words q r t = by_word (expected 
           step = step_first_turn m spaces es (turn_from (n ∷ []));
           reached = reached-first_turn versions m spaces es (turn_from (n ∷ [])) r (omega (arith, a.1, r.0.processors.0));
         }),
-    ((λ u. goes versions (AtEvict m spaces es) (codes "close") words [] q (Closed (workload m spaces es [])) (none u) u.to (step_first_close m spaces es) (reached-first_close versions m spaces es r)), tt),
+    ((λ u. goes versions (AtEvict m spaces es) (codes "close") words [] q (Closed (workload m spaces es [])) (u.line ∙ no_fields u.numbers) u.to (step_first_close m spaces es) (reached-first_close versions m spaces es r)), tt),
   ),
 ) t.known t
-  where
-    none : Took versions (AtEvict m spaces es) (codes "close") words q → words ≡ []
-    none u = u.line ∙ empty u.numbers
-      where
-        empty : (ns : List ℕ) → spelled_all [] ns ≡ []
-        empty [] = refl
-        empty (n ∷ ns) = refl
 sound versions three (AtTurn m spaces es ts) word words q r t = by_word (expected (AtTurn m spaces es ts)) word (Sound versions (AtTurn m spaces es ts) words q) (
   (λ u. one_line versions (AtTurn m spaces es ts) (codes "turn") words q (within 0 (m.processors - 1)) (λ n. AtTurn m spaces es (ts ++ turn_from (n ∷ []) ∷ [])) refl (λ n. refl)
       (λ n h o. let a = within-passes 0 (m.processors - 1) n h in record {
         step = step_turn m spaces es ts (turn_from (n ∷ []));
         reached = reached-turn versions m spaces es ts (turn_from (n ∷ [])) r (omega (arith, a.1, r.0.processors.0)) (not_full MAX_TURNS (length ts) u.room);
       }) u),
-  ((λ u. goes versions (AtTurn m spaces es ts) (codes "close") words [] q (Closed (workload m spaces es ts)) (none u) u.to (step_close m spaces es ts) (reached-close versions m spaces es ts r)), tt),
+  ((λ u. goes versions (AtTurn m spaces es ts) (codes "close") words [] q (Closed (workload m spaces es ts)) (u.line ∙ no_fields u.numbers) u.to (step_close m spaces es ts) (reached-close versions m spaces es ts r)), tt),
 ) t.known t
-  where
-    none : Took versions (AtTurn m spaces es ts) (codes "close") words q → words ≡ []
-    none u = u.line ∙ empty u.numbers
-      where
-        empty : (ns : List ℕ) → spelled_all [] ns ≡ []
-        empty [] = refl
-        empty (n ∷ ns) = refl
 sound versions three (Closed w) word words q r t = by_word [] word (Sound versions (Closed w) words q) tt t.known t

@@ -1,12 +1,13 @@
 -- The table of lines is tied to the texts: a first wrong word is the first with which no text goes on, and where all words are
 -- right, only `end` is missing.
-use Rattle.std.proofs.Common.{◌≡◌, ◌≢◌, ℕ, suc, ◌+◌, ◌<◌, ◌≤◌, ◌==◌, ◌&&◌, not, Bool, true, false, List, [], ◌∷◌, ◌++◌, length, get_or, map, take, Contains, Option, None, Some, Result, Ok, Err, codes, decimal, if◌then◌else◌, refl, sym, ap, ap₂, ◌∙◌, subst, inl, inr, arith, append_assoc, append-nil, length-append, IfSome, IsTrue}
+use Rattle.std.proofs.Common.{◌≡◌, ◌≢◌, ℕ, suc, ◌+◌, ◌<◌, ◌≤◌, ◌==◌, not, Bool, true, false, List, [], ◌∷◌, ◌++◌, length, get_or, map, take, Contains, Option, None, Some, Result, Ok, Err, codes, decimal, if◌then◌else◌, refl, sym, ap, ap₂, ◌∙◌, subst, inl, inr, arith, append_assoc, append-nil, length-append, IfSome, IsTrue}
 use Rattle.std.specs.Bool.{⊤}
 use Rattle.std.specs.Result.{is_ok}
 use Rattle.std.specs.Option.{is_some}
 use Rattle.std.specs.Str.{bytes_eq}
 use Rattle.std.specs.Str.Parse.{digits_value}
-use Rattle.std.proofs.lemmas.Bool.{false_from_ne_true}
+use Rattle.std.proofs.lemmas.Bool.{false_from_ne_true, false≢true, eqb-true}
+use Rattle.std.proofs.lemmas.Slice.Eq.{bytes_eq-Decides}
 use Rattle.std.proofs.lemmas.List.{length-map}
 use Rattle.std.proofs.lemmas.List.Elements.{All-map}
 use Rattle.sa_instr.specs.Parts.{parts_of}
@@ -14,12 +15,12 @@ use Rattle.sa_workload.specs.Text.{instr_line}
 use Rattle.sa_workload.specs.Bad.{ordered_words, is_ordered, first_word, Begins, MayFollow, IsRightWord, IsTooMany, Field, Register, Number, list_lt, numbers_of, instr_words, last_line, fields_behind, fields_by, DeclaredNumbers}
 use Rattle.sa_workload.specs.Laws.{IsFirstWrong, AreRight, IsInOrder, IsFirstWrongPlace, IsFree, FirstWrongWords, IsLastPlace, LastCauseIsNoEnd}
 use Rattle.sa_workload.specs.Fields.{and_then, index_of, order_cause, read_field, fields_at}
-use Rattle.sa_workload.specs.Position.{Position, AtVersion, AtAbsent, AtInstr, AtEvict, AtTurn, Closed, shown, shown_spaces, shown_draft}
-use Rattle.sa_workload.specs.Steps.{expected, workload, after_instr}
-use Rattle.sa_workload.specs.Next.{numbers_at, is_full, last_numbers, fields_of, is_end, step, step_instr, evict_from, turn_from, next}
-use Rattle.sa_workload.proofs.fields.FieldLemmas.{same_ok, if_either, both_true, and_then-ok, and_then-err, contained, spelled_all, AllPass, read-ok, fields-ok, fields-spelled, all_long}
-use Rattle.sa_workload.proofs.fields.InstrLemmas.{instr-read, operation-expected}
-use Rattle.sa_workload.proofs.causes.Causes.{word_end, IsStuck, step-err}
+use Rattle.sa_workload.specs.Position.{Position, AtVersion, AtInstr, Closed, shown, shown_spaces, shown_draft}
+use Rattle.sa_workload.specs.Steps.{expected}
+use Rattle.sa_workload.specs.Next.{numbers_at, is_full, last_numbers, fields_of, next}
+use Rattle.sa_workload.proofs.fields.FieldLemmas.{same_ok, both_true, and_then-ok, and_then-err, contained, spelled_all, AllPass, read-ok, behind, fields-ok, fields-spelled, all_long}
+use Rattle.sa_workload.proofs.fields.InstrLemmas.{operation-expected}
+use Rattle.sa_workload.proofs.causes.Causes.{is_stuck, Leads, step-leads}
 use Rattle.sa_workload.proofs.forward.Completion.{begins_front}
 use Rattle.sa_workload.proofs.forward.Orders.{none-order}
 use Rattle.sa_workload.proofs.forward.Sound.{by_word, Took, took}
@@ -78,7 +79,7 @@ right_numbers fs words r long = by (fields_at fs words) refl r
     by : (x : Result (List ℕ × List (List ℕ)) ℕ) → fields_at fs words ≡ x → is_ok x ≡ true → (ns : List ℕ) × AllPass fs ns × (words ≡ spelled_all fs ns)
     by (Err cause) e r = absurd (cc r)
     by (Ok read) e r =
-        let f = fields-ok fs words read.0 read.1 e in
+        let f = fields-ok fs words read e in
         (read.0, f.1, f.0 ∙ whole (spelled_all fs read.0) read.1 (ap length (sym f.0) ∙ long ∙ sym (all_long fs read.0 f.1).1))
 
 -- the words before the first wrong one, with numbers of another line behind them
@@ -91,10 +92,7 @@ record Mixed (fs : List Field) (words : List (List ℕ)) (why : ℕ) : Type 0 wh
   spelled_are : spelled_all fs numbers ≡ take place words ++ others
   wrong : place < length words → (more : List (List ℕ)) → fields_at fs (take (suc place) words ++ more) ≡ Err why
 
--- how fields go on behind a word
-abbrev behind : List Field → List (List ℕ) → Result ℕ ℕ → Result (List ℕ × List (List ℕ)) ℕ
-behind fs words r = and_then {A = ℕ × List (List ℕ)} (and_then r (λ n. Ok (n, words))) (λ first. and_then (fields_at fs first.1) (λ others. Ok (first.0 ∷ others.0, others.1)))
-
+-- where the first word is right, another one is wrong
 later : (fs : List Field) (words : List (List ℕ)) (n why : ℕ) → behind fs words (Ok n) ≡ Err why → fields_at fs words ≡ Err why
 later fs words n why h = elim (and_then-err (fields_at fs words) (λ others. Ok (n ∷ others.0, others.1)) why h) [ inl wrong ↦ wrong | inr none ↦ absurd (cc none.2) ]
 
@@ -134,39 +132,9 @@ unspelled : (fs : List Field) (words : List (List ℕ)) (why : ℕ) (ns : List �
 unspelled fs words why ns wrong pass e = absurd (cc (sym wrong ∙ ap (fields_at fs) (e ∙ sym (append-nil (spelled_all fs ns))) ∙ fields-spelled fs ns [] pass))
 
 -- where numbers lead on, others that pass do
-cond_ok : (b : Bool) (x y : Position) → (q : Position) × (◌≡◌ {A = Result Position ℕ} (if b then Ok x else Ok y) (Ok q))
-cond_ok true x y = (x, refl)
-cond_ok false x y = (y, refl)
-
-step_alike : (versions : ℕ) (p : Position) (word ms ns : List ℕ) (q : Position) → is_some (index_of word (expected p)) ≡ true
-    → AllPass (fields_of versions p word) ms → AllPass (fields_of versions p word) ns → step p word ms ≡ Ok q → (r : Position) × (step p word ns ≡ Ok r)
-step_alike versions (AtAbsent m spaces d) word ms ns q known a b h = cond_ok (bytes_eq word (codes "absent")) _ _
-step_alike versions (AtInstr m spaces d len instrs) word ms ns q known a b h =
-    let p : Position = AtInstr m spaces d len instrs in
-    let i = instr-read versions (numbers_at p) word ms known a in
-    let j = instr-read versions (numbers_at p) word ns known b in
-    let same : is_end i.instr ≡ is_end j.instr =
-    word_end i.instr word (spelled_all (fields_of versions p word) ms) i.line ∙ sym (word_end j.instr word (spelled_all (fields_of versions p word) ns) j.line) in
-    elim (if_either ((length instrs + 1 == len) && not (is_end i.instr)) (Err 9) (Ok (after_instr m spaces d len (instrs ++ i.instr ∷ []))) (Ok q)
-    (ap (step_instr m spaces d len instrs) (sym i.is) ∙ h)) [
-      | inl stuck ↦ absurd (cc (stuck.1))
-      | inr fine ↦ (
-        after_instr m spaces d len (instrs ++ j.instr ∷ []),
-        ap (step_instr m spaces d len instrs) j.is
-            ∙ ap (λ (c : Bool). if c then Err 9 else Ok (after_instr m spaces d len (instrs ++ j.instr ∷ [])))
-            (ap (λ (c : Bool). (length instrs + 1 == len) && not c) (sym same) ∙ fine.0),
-      )
-    ]
-step_alike versions (AtEvict m spaces es) word ms ns q known a b h = pick (bytes_eq word (codes "evict"))
-  where
-    pick : (c : Bool) → (r : Position)
-        × (◌≡◌ {A = Result Position ℕ} (if c then Ok (AtEvict m spaces (es ++ evict_from ns ∷ []))
-        else (if bytes_eq word (codes "turn") then Ok (AtTurn m spaces es (turn_from ns ∷ [])) else Ok (Closed (workload m spaces es [])))) (Ok r))
-    pick true = (AtEvict m spaces (es ++ evict_from ns ∷ []), refl)
-    pick false = cond_ok (bytes_eq word (codes "turn")) _ _
-step_alike versions (AtTurn m spaces es ts) word ms ns q known a b h = cond_ok (bytes_eq word (codes "turn")) _ _
-step_alike versions (Closed w) word ms ns q known a b h = absurd (cc known)
-step_alike versions _ word ms ns q known a b h = (_, refl)
+lead_alike : (b : Bool) (r t : Result Position ℕ) (q : Position) → Leads b r → r ≡ Ok q → Leads b t → Leads false t
+lead_alike true r t q l e k = absurd (cc (sym l ∙ e))
+lead_alike false r t q l e k = k
 
 -- some text goes on with a line that leads on
 goes_on_with : (versions : ℕ) → Setting versions → (p q : Position) (line : List (List ℕ)) → IsAt versions p → next versions p line ≡ Ok q
@@ -183,7 +151,7 @@ wrong_at versions s p a word words why follow free_of wrong =
     let at : LineAt versions p word = line_at versions s.few p word a t.known in
     let here : fields_at (fields_of versions p word) words ≡ Err why = ap (λ (fs : List Field). fields_at fs words) (sym at.fields) ∙ wrong in
     let mix : Mixed (fields_of versions p word) words why = mixed (fields_of versions p word) words why t.numbers t.passes here in
-    let to = step_alike versions p word t.numbers mix.numbers n.0 t.known t.passes mix.passes t.to in
+    let to = lead_alike (is_stuck p word) _ _ n.0 (step-leads versions p word t.numbers t.known t.passes) t.to (step-leads versions p word mix.numbers t.known mix.passes) in
     let leads : next versions p (word ∷ spelled_all (fields_of versions p word) mix.numbers) ≡ Ok to.0 =
     take-line versions p word mix.numbers to.0 t.known t.room mix.passes (no_order at mix.numbers) to.1 in (
       mix.place,
@@ -216,15 +184,29 @@ wrong_at versions s p a word words why follow free_of wrong =
 pub first_wrong_words : (versions : ℕ) → Setting versions → FirstWrongWords versions
 first_wrong_words versions s lines word words why follow free_of wrong =
     let st = stands versions s lines (begins_front versions lines ((word ∷ follow.others) ∷ []) follow.begins) in
-    let here : MayFollow versions (shown st.0) word = subst (λ (ls : List (List (List ℕ))). MayFollow versions ls word) (sym st.2) follow in
-    let free_here : IsFree (shown st.0) word = subst (λ (ls : List (List (List ℕ))). IsFree ls word) (sym st.2) free_of in
-    let wrong_here : IsFirstWrong (fields_behind versions (shown st.0) word) words why =
-    subst (λ (ls : List (List (List ℕ))). IsFirstWrong (fields_behind versions ls word) words why) (sym st.2) wrong in
-    subst (λ (ls : List (List (List ℕ))). (place : ℕ) × IsFirstWrongPlace versions ls word words place) st.2 (wrong_at versions s st.0 st.1 word words why here free_here wrong_here)
+    subst (λ (ls : List (List (List ℕ))). MayFollow versions ls word → IsFree ls word → IsFirstWrong (fields_behind versions ls word) words why
+    → (place : ℕ) × IsFirstWrongPlace versions ls word words place) st.2 (wrong_at versions s st.0 st.1 word words why) follow free_of wrong
 
 -- where all words are right and no text goes on
 abbrev IsStuckLine : List (List (List ℕ)) → List ℕ → Type 0
 IsStuckLine lines word = IsLastPlace lines × Contains instr_words word × (word ≢ codes "end")
+
+stuck_line : (p : Position) (word : List ℕ) → is_some (index_of word (expected p)) ≡ true → is_stuck p word ≡ true → IsStuckLine (shown p) word
+stuck_line (AtInstr m spaces d len instrs) word known h =
+    let b = both_true (length instrs + 1 == len) (not (bytes_eq word (codes "end"))) h in (
+      record {
+        front = shown_spaces m spaces ++ shown_draft m.version d;
+        len = len;
+        instrs = map instr_line instrs;
+        whole = sym (append_assoc (shown_spaces m spaces) (shown_draft m.version d) ((codes "program" ∷ decimal len ∷ []) ∷ map instr_line instrs));
+        each = All-map (λ (l : List (List ℕ)). Contains instr_words (first_word l)) instr_line instrs
+            (λ k i l. contained instr_words (first_word (instr_line (get_or instrs k i))) (operation-expected (parts_of (get_or instrs k i)).operation));
+        last = ap (λ (n : ℕ). n + 1) (length-map instrs instr_line) ∙ eqb-true (length instrs + 1) len b.0;
+      },
+      contained instr_words word known,
+      (λ e. false≢true (sym (ap not ((bytes_eq-Decides word (codes "end")).1 e)) ∙ b.1)),
+    )
+stuck_line _ word known h = absurd (cc h)
 
 stuck_at : (versions : ℕ) → Setting versions → (p : Position) → IsAt versions p → (word : List ℕ) (words : List (List ℕ))
     → IsRightWord versions (shown p) word → ¬ IsTooMany (shown p) word → AreRight (fields_behind versions (shown p) word) words
@@ -239,10 +221,10 @@ stuck_at versions s p a word words right few are order long none =
     let in_order : order_cause (last_numbers p word) ns.0 ≡ None =
     ap (λ (x : Option (List ℕ)). order_cause x ns.0) (sym at.order)
     ∙ ordered (is_ordered (last_line (shown p)) word) refl ns.0 ns.1 new (subst (λ (fs : List Field). IsInOrder (shown p) (length fs) (word ∷ words)) at.fields order) in
-    by_step (step p word ns.0) (λ q e. none (subst (λ (ws : List (List ℕ)). Begins versions (shown p ++ (word ∷ ws) ∷ [])) (sym ns.2)
+    by (is_stuck p word) (step-leads versions p word ns.0 known ns.1) (stuck_line p word known)
+    (λ q e. none (subst (λ (ws : List (List ℕ)). Begins versions (shown p ++ (word ∷ ws) ∷ [])) (sym ns.2)
     (goes_on_with versions s p q (word ∷ spelled_all fields ns.0) a
     (take-line versions p word ns.0 q known (false_from_ne_true (is_full p word) (λ t. few ((many-Decides (shown p) word).0 (at.full ∙ t)))) ns.1 in_order e))))
-    (λ why e. stuck known (step-err versions p word ns.0 why known ns.1 e))
   where
     fields : List Field
     fields = fields_of versions p word
@@ -258,24 +240,9 @@ stuck_at versions s p a word words right few are order long none =
         let are : AreNumbers fields = ordered-numbers versions (numbers_at p) word (both_true (is_some (index_of word ordered_words)) _ t).0 in
         none-order old ns (ap (list_lt old) (sym (new ∙ numbers_of-spelled fields ns [] are pass)) ∙ o)
 
-    stuck : is_some (index_of word (expected p)) ≡ true → {why : ℕ} → IsStuck p word why → IsStuckLine (shown p) word
-    stuck known k = (
-      subst (λ (q : Position). IsLastPlace (shown q)) (sym k.is) record {
-        front = shown_spaces k.machine k.spaces ++ shown_draft k.machine.version k.draft;
-        len = k.len;
-        instrs = map instr_line k.instrs;
-        whole = sym (append_assoc (shown_spaces k.machine k.spaces) (shown_draft k.machine.version k.draft) ((codes "program" ∷ decimal k.len ∷ []) ∷ map instr_line k.instrs));
-        each = All-map (λ (l : List (List ℕ)). Contains instr_words (first_word l)) instr_line k.instrs
-            (λ j i h. contained instr_words (first_word (instr_line (get_or k.instrs j i))) (operation-expected (parts_of (get_or k.instrs j i)).operation));
-        last = ap (λ (n : ℕ). n + 1) (length-map k.instrs instr_line) ∙ k.last;
-      },
-      contained instr_words word (ap (λ (q : Position). is_some (index_of word (expected q))) (sym k.is) ∙ known),
-      k.other,
-    )
-
-    by_step : (r : Result Position ℕ) → ((q : Position) → r ≡ Ok q → ⊥) → ((why : ℕ) → r ≡ Err why → IsStuckLine (shown p) word) → IsStuckLine (shown p) word
-    by_step (Ok q) leads stays = absurd (leads q refl)
-    by_step (Err why) leads stays = stays why refl
+    by : {r : Result Position ℕ} (b : Bool) → Leads b r → (b ≡ true → IsStuckLine (shown p) word) → ((q : Position) → r ≡ Ok q → ⊥) → IsStuckLine (shown p) word
+    by true l stuck leads = stuck refl
+    by false l stuck leads = absurd (leads l.0 l.1)
 
 pub last_cause_is_no_end : (versions : ℕ) → Setting versions → LastCauseIsNoEnd versions
 last_cause_is_no_end versions s lines word words b right few are order long none =

@@ -1,10 +1,11 @@
 -- A text is read as its workload, or as what is bad in it.
-use Rattle.std.proofs.Common.{◌≡◌, ◌≢◌, ℕ, ◌+◌, ◌-◌, ◌<◌, ◌≤◌, ◌&&◌, ◌⊎◌, Bool, true, false, List, [], ◌∷◌, ◌++◌, length, take, All, Option, Some, Result, Ok, Err, MatchOption, MatchResult, IfOk, IfErr, slice_get, leb, leb-true, le-leb, refl, sym, ap, ap₂, ◌∙◌, subst, inl, inr, arith, append_assoc, append-nil, length-append}
+use Rattle.std.proofs.Common.{◌≡◌, ◌≢◌, ℕ, ◌+◌, ◌-◌, ◌<◌, ◌≤◌, ◌&&◌, ◌⊎◌, true, List, [], ◌∷◌, ◌++◌, length, take, All, Option, Some, Result, Ok, Err, MatchOption, MatchResult, IfOk, IfErr, slice_get, leb, leb-true, le-leb, refl, sym, ap, ◌∙◌, subst, inl, inr, arith, append_assoc, append-nil, length-append}
 use Rattle.std.proofs.Math.Seq.{take-append_seam}
+use Rattle.std.specs.Bool.{Decides}
 use Rattle.std.proofs.lemmas.Bool.{false≢true}
+use Rattle.std.proofs.lemmas.Bool.Decides.{Decides-and, Decides-by_and, not_from_Decides}
 use Rattle.std.proofs.lemmas.List.{map-append}
-use Rattle.std.proofs.lemmas.List.Elements.{All-nil, All-push, All-head, All-tail, All-weaker}
-use Rattle.std.proofs.lemmas.List.Sums.{AllPass-from_list_all, list_all-from_AllPass}
+use Rattle.std.proofs.lemmas.List.Elements.{All-nil, All-push, All-head, All-tail}
 use Rattle.std.proofs.lemmas.List.Splits.{join_with_byte-slice_split}
 use Rattle.std.proofs.lemmas.Option.{slice_get_past}
 use Rattle.sa_base.specs.declared.refusal.Bad.{Bad}
@@ -17,11 +18,11 @@ use Rattle.sa_text.proofs.PieceLemmas.{pieces_of-are_pieces}
 use Rattle.sa_workload.specs.Text.{workload_lines, IsText, IsText1}
 use Rattle.sa_workload.specs.Answer.{IfBad}
 use Rattle.sa_workload.specs.Bad.{IsUpTo, Begins, IsPrinted, LineCause, WordCause, IsBad, BadAt, BadAt1, words_of}
-use Rattle.sa_workload.specs.Position.{Position, AtVersion, AtProcessors, AtFetch, AtSlice, AtSpaces, AtSpace, AtSem, AtAbsent, AtProgram, AtInstr, AtEvict, AtTurn, Closed, IsReached, shown}
+use Rattle.sa_workload.specs.Position.{Position, AtVersion, Closed, IsReached, shown}
 use Rattle.sa_workload.specs.Next.{next}
 use Rattle.sa_text.specs.Pieces.{is_printed}
 use Rattle.sa_workload.specs.Reading.{line_in, finished, goes_on, read_from, read_of, IsReading}
-use Rattle.sa_workload.proofs.fields.FieldLemmas.{same_err, if_either, both_true}
+use Rattle.sa_workload.proofs.fields.FieldLemmas.{same_err, if_either}
 use Rattle.sa_workload.proofs.forward.Standing.{IsAt, Setting, any, alone, of_any, of_first, is_first, at_first, at_next, begins, whole_lines}
 use Rattle.sa_workload.proofs.forward.Sound.{took, sound}
 use Rattle.sa_workload.proofs.causes.Causes.{word_cause, refused}
@@ -29,17 +30,10 @@ use Rattle.sa_workload.proofs.whole.TextLemmas.{IsWords, workload-words, join-pr
 use Rattle.sa_workload.proofs.whole.OneBad.{one-bad, text-not_bad, texts_differ}
 
 -- printed bytes
-printed : (bytes : List ℕ) → is_printed bytes ≡ true → IsPrinted bytes
-printed bytes t =
-    All-weaker (λ b. (leb 32 b && leb b 126) ≡ true) (λ b. (32 ≤ b) × (b ≤ 126))
-    (λ b e. let both = both_true (leb 32 b) (leb b 126) e in (leb-true 32 b both.0, leb-true b 126 both.1)) bytes
-    (AllPass-from_list_all (λ b. leb 32 b && leb b 126) bytes t)
-
-not_printed : (bytes : List ℕ) → is_printed bytes ≡ false → ¬ IsPrinted bytes
-not_printed bytes f h =
-    false≢true (sym f ∙ list_all-from_AllPass (λ b. leb 32 b && leb b 126) bytes
-    (All-weaker (λ b. (32 ≤ b) × (b ≤ 126)) (λ b. (leb 32 b && leb b 126) ≡ true)
-    (λ b k. ap₂ (λ (x y : Bool). x && y) (le-leb 32 b k.0) (le-leb b 126 k.1)) bytes h))
+printed-Decides : (bytes : List ℕ) → Decides (is_printed bytes) (IsPrinted bytes)
+printed-Decides =
+    Decides-by_and (λ b. leb 32 b && leb b 126) (λ b. (32 ≤ b) × (b ≤ 126)) is_printed
+    (λ b. Decides-and _ _ (leb-true 32 b, le-leb 32 b) (leb-true b 126, le-leb b 126)) refl (λ b bs. refl)
 
 All-behind : {X : Type 0} (P : X → Type 0) (xs ys : List X) → All P (xs ++ ys) → All P ys
 All-behind P [] ys h = h
@@ -68,12 +62,14 @@ bad_line : (versions : ℕ) → Setting versions → (p : Position) (l : LineTex
     → IsBadLine versions (shown p) l why
 bad_line versions s p l why a h =
     elim (if_either (is_printed l.bytes) _ (Err 1) (Err why) h) [
-      | inr odd ↦ ((λ e b. not_printed l.bytes odd.0 (printed_where_begins versions s (shown p) l.bytes b)), inl (not_printed l.bytes odd.0, sym (same_err {A = Position} 1 why odd.1)))
+      | inr odd ↦
+          let not : ¬ IsPrinted l.bytes = not_from_Decides _ (printed-Decides l.bytes) odd.0 in
+          ((λ e b. not (printed_where_begins versions s (shown p) l.bytes b)), inl (not, sym (same_err {A = Position} 1 why odd.1)))
       | inl fine ↦ elim (if_either l.ended (next versions p (pieces_of l.bytes)) (Err 9) (Err why) fine.1) [
-        | inr unended ↦ ((λ e. absurd (false≢true (sym unended.0 ∙ e))), inr (printed l.bytes fine.0, inl (unended.0, sym (same_err {A = Position} 9 why unended.1))))
+        | inr unended ↦ ((λ e. absurd (false≢true (sym unended.0 ∙ e))), inr ((printed-Decides l.bytes).0 fine.0, inl (unended.0, sym (same_err {A = Position} 9 why unended.1))))
         | inl ended ↦ (
           (λ _. refused versions s p (pieces_of l.bytes) why a ended.1),
-          inr (printed l.bytes fine.0, inr (ended.0, words_cause versions s p (pieces_of l.bytes) why a (pieces_of-are_pieces l.bytes).some ended.1)),
+          inr ((printed-Decides l.bytes).0 fine.0, inr (ended.0, words_cause versions s p (pieces_of l.bytes) why a (pieces_of-are_pieces l.bytes).some ended.1)),
         )
       ]
     ]
@@ -138,18 +134,7 @@ ends : (versions : ℕ) → Setting versions → (p : Position) (front : List Li
     → IsOutcome versions (front ++ []) (finished (length front + 1) p)
 ends versions s (Closed w) front h =
     (h.lines ∙ ap words_of (sym (append-nil front)), subst (All Ended) (sym (append-nil front)) h.ended, h.at.reached)
-ends versions s AtVersion front h = missing versions s AtVersion front h (λ w e. absurd (cc e))
-ends versions s (AtProcessors v) front h = missing versions s (AtProcessors v) front h (λ w e. absurd (cc e))
-ends versions s (AtFetch v n) front h = missing versions s (AtFetch v n) front h (λ w e. absurd (cc e))
-ends versions s (AtSlice v n f) front h = missing versions s (AtSlice v n f) front h (λ w e. absurd (cc e))
-ends versions s (AtSpaces v n f l) front h = missing versions s (AtSpaces v n f l) front h (λ w e. absurd (cc e))
-ends versions s (AtSpace m spaces) front h = missing versions s (AtSpace m spaces) front h (λ w e. absurd (cc e))
-ends versions s (AtSem m spaces d) front h = missing versions s (AtSem m spaces d) front h (λ w e. absurd (cc e))
-ends versions s (AtAbsent m spaces d) front h = missing versions s (AtAbsent m spaces d) front h (λ w e. absurd (cc e))
-ends versions s (AtProgram m spaces d) front h = missing versions s (AtProgram m spaces d) front h (λ w e. absurd (cc e))
-ends versions s (AtInstr m spaces d len is) front h = missing versions s (AtInstr m spaces d len is) front h (λ w e. absurd (cc e))
-ends versions s (AtEvict m spaces es) front h = missing versions s (AtEvict m spaces es) front h (λ w e. absurd (cc e))
-ends versions s (AtTurn m spaces es ts) front h = missing versions s (AtTurn m spaces es ts) front h (λ w e. absurd (cc e))
+ends versions s p front h = missing versions s p front h (λ w e. absurd (cc e))
 
 one_more : (versions : ℕ) → versions ≤ 3 → (p q : Position) (front : List LineText) (l : LineText) → IsBehind versions p front → line_in versions p l ≡ Ok q → IsBehind versions q (front ++ l ∷ [])
 one_more versions three p q front l h e =
