@@ -8,6 +8,10 @@ use Rattle.sa_instr.specs.declared.operation.Operation.{Operation}
 use Rattle.sa_instr.specs.Operation.{form_of}
 use Rattle.sa_workload.specs.declared.stage.MachineLine.{MachineLine}
 use Rattle.sa_workload.specs.declared.stage.MachineLine.TheVariants.{Version, Processors, Fetch, Slice, Spaces}
+use Rattle.sa_workload.specs.declared.stage.Reader.{Reader}
+use Rattle.sa_workload.specs.declared.stage.Stage.{Stage}
+use Rattle.sa_workload.specs.declared.stage.Stage.TheVariants.{Machine, Space, Sem, Absent, Program, Instr, Evict, Turn, Closed}
+use Rattle.sa_workload.specs.Next.{operation_of}
 
 -- as many numbers as limits, each below its own
 abbrev pub AreBelow : List ℕ → List ℕ → Type 0
@@ -47,3 +51,15 @@ room_for _ = 2 ^ 16
 abbrev pub AllHaveRoom : Option Operation → List ℕ → Type 0
 AllHaveRoom None ns = ⊤
 AllHaveRoom (Some operation) ns = AreBelow (map room_for (form_of operation).operands) ns
+
+-- the numbers behind the word in the next line
+abbrev pub RoomsAt : Reader → Stage → List ℕ → List ℕ → Type 0
+RoomsAt r (Machine line) word ns = AreBelow (room_of line ∷ []) ns
+RoomsAt r Space word ns = AreBelow (space_rooms r.header.version) ns
+RoomsAt r Sem word ns = AreBelow (2 ^ 32 ∷ []) ns
+RoomsAt r Absent word ns = AreBelow (2 ^ 16 ∷ []) ns
+RoomsAt r Program word ns = AreBelow (2 ^ 16 ∷ []) ns
+RoomsAt r Instr word ns = AllHaveRoom (operation_of word) ns
+RoomsAt r Evict word ns = AreBelow (evict_rooms word) ns
+RoomsAt r Turn word ns = AreBelow (turn_rooms word) ns
+RoomsAt r Closed word ns = ⊤

@@ -4,12 +4,12 @@ ghost use Rattle.std.specs.Option.{is_some};
 ghost use Rattle.sa_instr.specs.Program.{IsProgram};
 ghost use Rattle.sa_spaces.specs.Space.{IsSpace};
 ghost use Rattle.sa_workload.specs.Fields.{index_of};
-ghost use Rattle.sa_workload.specs.Position.{AtSem, AtAbsent, AtInstr, AtEvict, AtTurn, IsReached};
+ghost use Rattle.sa_workload.specs.Position.{AtAbsent, AtInstr, AtEvict, AtTurn, IsReached};
 ghost use Rattle.sa_workload.specs.Bad.{instr_words};
 ghost use Rattle.sa_workload.specs.Next.{draft_from, evict_from, fields_of, operation_of, step};
 ghost use Rattle.sa_workload.specs.Stage.{machine_of, draft_of, machine_position, position_of, AreNumbersOf, Gives};
-ghost use Rattle.sa_workload.specs.Rooms.{room_of, space_rooms, evict_rooms, turn_rooms, AreBelow, AllHaveRoom};
-ghost use Rattle.sa_workload.specs.Steps.{expected, after_program as behind_program, after_sem as behind_sem, after_spaces as behind_spaces, space_of_draft, with_program};
+ghost use Rattle.sa_workload.specs.Rooms.{room_of, space_rooms, evict_rooms, turn_rooms, AreBelow, AllHaveRoom, RoomsAt};
+ghost use Rattle.sa_workload.specs.Steps.{expected, after_program as behind_program, after_sem as behind_sem, after_spaces as behind_spaces, space_of_draft, with_program, with_sem};
 
 use crate::cause::Refusal;
 use crate::instr::{instr_in, is_end};
@@ -29,10 +29,10 @@ impl Reader {
         word: &[u8],
         numbers: &[u64],
     ) -> Result<(), Refusal>
-        requires few { versions ≤ 3 }
         requires reached { IsReached versions (position_of self.old) }
         requires known { is_some (index_of word.now (expected (position_of self.old))) ≡ true }
         requires read { AreNumbersOf (fields_of versions (position_of self.old) word.now) numbers.now }
+        requires room { RoomsAt self.old self.old.stage word.now numbers.now }
         ensures { Gives (step (position_of self.old) word.now numbers.now) (position_of self.new) result }
     {
         match self.stage {
@@ -124,7 +124,7 @@ impl Reader {
     /// Behind `sem`.
     fn step_sem(&mut self, numbers: &[u64]) -> Result<(), Refusal>
         requires { AreBelow (2 ^ 32 ∷ []) numbers.now }
-        ensures { (word : List ℕ) → Gives (step (AtSem (machine_of self.old.header) self.old.spaces.items (draft_of self.old.draft)) word numbers.now) (position_of self.new) result }
+        ensures { Gives (Ok (behind_sem (machine_of self.old.header) self.old.spaces.items (with_sem (draft_of self.old.draft) (slice_index numbers.now 0)))) (position_of self.new) result }
     {
         self.draft.sems.push(numbers[0] as u32)?;
         self.after_sem();

@@ -15,7 +15,7 @@ use Rattle.sa_workload.specs.Bad.{DeclaredNumbers, Field, within, declared, oper
 use Rattle.sa_workload.specs.Fields.{index_of}
 use Rattle.sa_workload.specs.Position.{IsReached}
 use Rattle.sa_workload.specs.Next.{draft_numbers, fields_of, is_last_impatient, operation_of}
-use Rattle.sa_workload.specs.Rooms.{AreBelow, room_of, space_rooms, turn_rooms, evict_rooms, room_for, AllHaveRoom}
+use Rattle.sa_workload.specs.Rooms.{AreBelow, room_of, space_rooms, turn_rooms, evict_rooms, room_for, AllHaveRoom, RoomsAt}
 use Rattle.sa_workload.specs.Stage.{machine_of, draft_of, machine_position, at_stage, AreNumbersOf}
 use Rattle.sa_workload.specs.Steps.{expected}
 use Rattle.sa_workload.proofs.fields.FieldLemmas.{Passes, AllPass, within-passes, declared-passes, line-ok}
@@ -77,18 +77,6 @@ instr_room versions n word ns h known pass =
     subst (λ x. AllHaveRoom x ns) (sym (ap operation_of o.1 ∙ operation-found o.0))
     (below (map (operand_field n) kinds) (map room_for kinds) ns (operand_rooms n h kinds)
     (subst (λ (fs : List Field). AllPass fs ns) (ap (fields_by versions n) o.1 ∙ operation-fields versions n o.0) pass))
-
--- what room a line's numbers need at each stage
-abbrev pub RoomsAt : Reader → Stage → List ℕ → List ℕ → Type 0
-RoomsAt r (Machine line) word ns = AreBelow (room_of line ∷ []) ns
-RoomsAt r Space word ns = AreBelow (space_rooms r.header.version) ns
-RoomsAt r Sem word ns = AreBelow (2 ^ 32 ∷ []) ns
-RoomsAt r Absent word ns = AreBelow (2 ^ 16 ∷ []) ns
-RoomsAt r Program word ns = AreBelow (2 ^ 16 ∷ []) ns
-RoomsAt r Instr word ns = AllHaveRoom (operation_of word) ns
-RoomsAt r Evict word ns = AreBelow (evict_rooms word) ns
-RoomsAt r Turn word ns = AreBelow (turn_rooms word) ns
-RoomsAt r Closed word ns = Unit {0}
 
 module _ (versions : ℕ) (three : versions ≤ 3) (r : Reader) (word ns : List ℕ) where
   -- the numbers of the word's line have it
