@@ -345,3 +345,12 @@ pub met-reaimed : (event spaces : ℕ) (shares : List ℕ) (old new : AssignView
 met-reaimed event spaces shares old new fits is s below =
     let met : share_at shares s ≤ aimed s (reaimed event spaces shares old).aims = (all-filled 0 spaces shares old.marks old.aims fits).met s (omega arith) (omega arith) in
     subst (λ (a : AssignView). share_at shares s ≤ aimed s a.aims) (sym is) met
+
+-- where each space has its share there is nothing to change
+pub none-missing : (s n : ℕ) (shares : List ℕ) (marks : List Bool) (aims : List (Option SpaceNo)) → ((t : ℕ) → share_at shares t ≤ aimed t aims)
+    → changes_from s n shares marks aims ≡ []
+none-missing s zero shares marks aims covered = refl
+none-missing s (suc n) shares marks aims covered =
+    let none : missing shares aims s ≡ 0 = (let enough = covered s in omega arith) in
+    ap (λ m. changes_for m shares marks s aims ++ changes_from (s + 1) n shares marks (aims_after aims (changes_for m shares marks s aims))) none
+    ∙ none-missing (s + 1) n shares marks aims covered

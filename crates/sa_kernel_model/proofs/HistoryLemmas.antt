@@ -1,5 +1,5 @@
 -- A history goes on by the kernel's calls.
-use Rattle.std.proofs.Common.{◌≡◌, ℕ, map, zero, suc, ◌+◌, ◌<◌, ◌≤◌, false, arith, sym, ◌∙◌, ap, subst, refl, Some, None, List, [], ◌∷◌, ◌++◌, length, append_assoc}
+use Rattle.std.proofs.Common.{◌≡◌, ℕ, map, ◌+◌, ◌<◌, ◌≤◌, false, arith, sym, ◌∙◌, ap, subst, refl, Some, None, List, [], ◌∷◌, ◌++◌, length, append_assoc}
 use Rattle.std.specs.Prelude.{Option, Bool}
 use Rattle.std.proofs.lemmas.List.{append-nil, append_cancel_left}
 use Rattle.sa_base.specs.declared.number.ProcNo.{ProcNo}
@@ -22,7 +22,8 @@ use Rattle.sa_laws.specs.Closing.{first_space, claims_of, shares_at, aims_due, m
 use Rattle.sa_base.specs.declared.number.SpaceNo.{SpaceNo}
 use Rattle.sa_share.specs.Share.{share_at}
 use Rattle.sa_share.specs.Rounds.{shares_of}
-use Rattle.sa_assign.specs.Aims.{space_no, aimed, missing, changes, changes_from, changes_for, aims_after}
+use Rattle.sa_assign.proofs.AimLemmas.{none-missing}
+use Rattle.sa_assign.specs.Aims.{space_no, aimed, changes}
 use Rattle.sa_assign.specs.Reaim.{proc_no, changes_in}
 use Rattle.sa_kernel_model.specs.Sound.{IsSound}
 use Rattle.sa_kernel_model.specs.Turn.{FitsTurn, SaysRightly}
@@ -141,14 +142,6 @@ module _ {C : Type 0} where
     kept = fetches-keep C w x.state (read_from test w events) h.kept;
     low = rests-fetched x.state.telling x.state h.low;
   }
-
--- where each space has its share there is nothing to change
-none-missing : (s n : ℕ) (shares : List ℕ) (marks : List Bool) (aims : List (Option SpaceNo)) → ((t : ℕ) → share_at shares t ≤ aimed t aims) → changes_from s n shares marks aims ≡ []
-none-missing s zero shares marks aims covered = refl
-none-missing s (suc n) shares marks aims covered =
-    let none : missing shares aims s ≡ 0 = (let enough = covered s in omega arith) in
-    ap (λ m. changes_for m shares marks s aims ++ changes_from (s + 1) n shares marks (aims_after aims (changes_for m shares marks s aims))) none
-    ∙ none-missing (s + 1) n shares marks aims covered
 
 -- the laws hold at the last event
 record HoldsLast (test : Test) (w : WorkloadView) (r : Readings) (e : Event) (es : List Event) : Type 0 where

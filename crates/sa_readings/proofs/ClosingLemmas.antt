@@ -2,12 +2,11 @@
 use Rattle.std.proofs.Common.{◌≡◌, ℕ, zero, suc, ◌+◌, ◌≤◌, refl, sym, ◌∙◌, ap, subst, arith, Some, List, [], ◌∷◌, ◌++◌, take, map, false}
 use Rattle.std.specs.Prelude.{slice_get, filter, Bool, if◌then◌else◌, Option}
 use Rattle.std.proofs.lemmas.Option.{none-some, same_Some}
-use Rattle.sa_base.specs.declared.number.SpaceNo.{SpaceNo}
 use Rattle.sa_base.specs.declared.record.Item.{Item}
 use Rattle.sa_spaces.specs.Workload.{WorkloadView}
-use Rattle.sa_share.specs.Share.{share_at}
 use Rattle.sa_share.specs.Rounds.{shares_of}
-use Rattle.sa_assign.specs.Aims.{aimed, missing, changes, changes_from, changes_for, aims_after}
+use Rattle.sa_assign.proofs.AimLemmas.{none-missing}
+use Rattle.sa_assign.specs.Aims.{changes}
 use Rattle.sa_laws.specs.Event.{Event, events_of}
 use Rattle.sa_laws.specs.Readings.{Readings}
 use Rattle.sa_laws.specs.History.{is_inside, after_event, after_events}
@@ -19,14 +18,6 @@ use Rattle.sa_readings.specs.Closings.{NothingIsDue, ClosingsAddNothing}
 none-left : {A : Type 0} (test : A → Bool) (xs : List A) → ((x : A) → test x ≡ false) → filter test xs ≡ []
 none-left test [] none = refl
 none-left test (x ∷ xs) none = ap (λ b. if b then x ∷ filter test xs else filter test xs) (none x) ∙ none-left test xs none
-
--- where each space has its share there is nothing to change
-none-missing : (s k : ℕ) (shares : List ℕ) (marks : List Bool) (aims : List (Option SpaceNo)) → ((t : ℕ) → share_at shares t ≤ aimed t aims) → changes_from s k shares marks aims ≡ []
-none-missing s zero shares marks aims covered = refl
-none-missing s (suc k) shares marks aims covered =
-    let none : missing shares aims s ≡ 0 = (let enough = covered s in omega arith) in
-    ap (λ n. changes_for n shares marks s aims ++ changes_from (s + 1) k shares marks (aims_after aims (changes_for n shares marks s aims))) none
-    ∙ none-missing (s + 1) k shares marks aims covered
 
 pub nothing-due : (w : WorkloadView) (r : Readings) (e : Event) → IsLawful fast_threads w r e → NothingIsDue w e.number (after_event is_inside w r e)
 nothing-due w r e law =

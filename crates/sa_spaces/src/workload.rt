@@ -33,8 +33,8 @@ impl Evict {
             && self.page <= LAST_PAGE
     }
 
-    /// Whether it comes before the other, by the event, then by the space, then by the page.
-    pub fn is_before(&self, other: &Evict) -> bool
+    // Whether it comes before the other, by the event, then by the space, then by the page.
+    fn is_before(&self, other: &Evict) -> bool
         ensures { IsTrue result ↔ IsBefore self.now other.now }
     {
         if self.event != other.event {
