@@ -126,7 +126,12 @@ impl Reader {
     }
 
     /// The numbers behind this first word, which end the line.
-    fn numbers_behind(&self, versions: u16, word: &[u8], words: &mut Pieces) -> Result<Numbers, Cause>
+    fn numbers_behind(
+        &self,
+        versions: u16,
+        word: &[u8],
+        words: &mut Pieces,
+    ) -> Result<Numbers, Cause>
         requires { is_some (index_of word.now (expected (position_of self.now))) ≡ true }
         ensures { and_then (numbered result) (λ numbers. Ok numbers.items)
             ≡ line_numbers (fields_of versions (position_of self.now) word.now) (last_numbers (position_of self.now) word.now) words.old }

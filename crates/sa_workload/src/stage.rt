@@ -142,9 +142,15 @@ impl Reader {
         ensures { result ≡ workload_of self }
     {
         let header = self.header;
-        Workload::new(header.processors, header.fetch, self.spaces, self.evictions, self.turns)
-            .unwrap()
-            .with_slice(header.slice)
-            .unwrap()
+        Workload::new(
+            header.processors,
+            header.fetch,
+            self.spaces,
+            self.evictions,
+            self.turns,
+        )
+        .unwrap()
+        .with_slice(header.slice)
+        .unwrap()
     }
 }

@@ -4,10 +4,10 @@ ghost use Rattle.std.specs.Option.{is_some};
 ghost use Rattle.sa_instr.specs.Program.{IsProgram};
 ghost use Rattle.sa_spaces.specs.Space.{IsSpace};
 ghost use Rattle.sa_workload.specs.Fields.{index_of};
-ghost use Rattle.sa_workload.specs.Position.{AtAbsent, AtInstr, AtEvict, AtTurn, IsReached};
+ghost use Rattle.sa_workload.specs.Position.{AtInstr, IsReached};
 ghost use Rattle.sa_workload.specs.Bad.{instr_words};
 ghost use Rattle.sa_workload.specs.Next.{draft_from, evict_from, fields_of, operation_of, step};
-ghost use Rattle.sa_workload.specs.Stage.{machine_of, draft_of, machine_position, position_of, AreNumbersOf, Gives};
+ghost use Rattle.sa_workload.specs.Stage.{machine_of, draft_of, at_stage, position_of, AreNumbersOf, Gives};
 ghost use Rattle.sa_workload.specs.Rooms.{room_of, space_rooms, evict_rooms, turn_rooms, AreBelow, AllHaveRoom, RoomsAt};
 ghost use Rattle.sa_workload.specs.Steps.{expected, after_program as behind_program, after_sem as behind_sem, after_spaces as behind_spaces, space_of_draft, with_program, with_sem};
 
@@ -60,7 +60,7 @@ impl Reader {
     /// Behind a line before those of the spaces. Version 1 has no slice.
     fn step_machine(&mut self, alloc: Global, line: MachineLine, numbers: &[u64])
         requires { AreBelow (room_of line ∷ []) numbers.now }
-        ensures { (word : List ℕ) → step (machine_position line self.old.header) word numbers.now ≡ Ok (position_of self.new) }
+        ensures { (word : List ℕ) → step (at_stage self.old (Stage.Machine line)) word numbers.now ≡ Ok (position_of self.new) }
     {
         let number = numbers[0];
         match line {
@@ -96,7 +96,8 @@ impl Reader {
     /// Behind the first line of a space.
     fn step_space(&mut self, alloc: Global, numbers: &[u64])
         requires { AreBelow (space_rooms self.old.header.version) numbers.now }
-        ensures { position_of self.new ≡ behind_sem (machine_of self.old.header) self.old.spaces.items (draft_from (machine_of self.old.header) numbers.now) }
+        ensures { position_of self.new ≡ behind_sem (machine_of self.old.header) self.old.spaces.items
+            (draft_from (machine_of self.old.header) numbers.now) }
     {
         let has_patience = self.header.version == 3;
         self.draft = SpaceDraft {
@@ -115,7 +116,8 @@ impl Reader {
 
     /// Behind the first line of a space, or a semaphore.
     fn after_sem(&mut self)
-        ensures { position_of self.new ≡ behind_sem (machine_of self.old.header) self.old.spaces.items (draft_of self.old.draft) }
+        ensures { position_of self.new
+            ≡ behind_sem (machine_of self.old.header) self.old.spaces.items (draft_of self.old.draft) }
     {
         let is_whole = self.draft.sems.len() == usize::from(self.draft.sem_count);
         self.stage = if is_whole { Stage::Absent } else { Stage::Sem };
@@ -124,7 +126,8 @@ impl Reader {
     /// Behind `sem`.
     fn step_sem(&mut self, numbers: &[u64]) -> Result<(), Refusal>
         requires { AreBelow (2 ^ 32 ∷ []) numbers.now }
-        ensures { Gives (Ok (behind_sem (machine_of self.old.header) self.old.spaces.items (with_sem (draft_of self.old.draft) (slice_index numbers.now 0)))) (position_of self.new) result }
+        ensures { Gives (Ok (behind_sem (machine_of self.old.header) self.old.spaces.items
+            (with_sem (draft_of self.old.draft) (slice_index numbers.now 0)))) (position_of self.new) result }
     {
         self.draft.sems.push(numbers[0] as u32)?;
         self.after_sem();
@@ -135,7 +138,7 @@ impl Reader {
     fn step_absent(&mut self, alloc: Global, word: &[u8], numbers: &[u64]) -> Result<(), Refusal>
         requires stage { self.old.stage ≡ Stage.Absent }
         requires room { AreBelow (2 ^ 16 ∷ []) numbers.now }
-        ensures { Gives (step (AtAbsent (machine_of self.old.header) self.old.spaces.items (draft_of self.old.draft)) word.now numbers.now) (position_of self.new) result }
+        ensures { Gives (step (at_stage self.old Stage.Absent) word.now numbers.now) (position_of self.new) result }
     {
         if word == b"absent".as_slice() {
             self.draft.absent.push(numbers[0] as u16)?;
@@ -148,7 +151,8 @@ impl Reader {
     /// Behind the first line of a program.
     fn step_program(&mut self, alloc: Global, numbers: &[u64])
         requires { AreBelow (2 ^ 16 ∷ []) numbers.now }
-        ensures { position_of self.new ≡ AtInstr (machine_of self.old.header) self.old.spaces.items (draft_of self.old.draft) (slice_index numbers.now 0) [] }
+        ensures { position_of self.new ≡ AtInstr (machine_of self.old.header) self.old.spaces.items
+            (draft_of self.old.draft) (slice_index numbers.now 0) [] }
     {
         self.len = numbers[0] as u16;
         self.instrs = Vec::new(alloc);
@@ -188,7 +192,8 @@ impl Reader {
         requires space { length self.old.draft.programs.items + 1 ≡ self.old.draft.program_count
             → IsSpace (space_of_draft (with_program (draft_of self.old.draft) self.old.instrs.items)) }
         ensures { MatchResult result
-            (λ _. position_of self.new ≡ behind_program (machine_of self.old.header) self.old.spaces.items (with_program (draft_of self.old.draft) self.old.instrs.items))
+            (λ _. position_of self.new ≡ behind_program (machine_of self.old.header) self.old.spaces.items
+            (with_program (draft_of self.old.draft) self.old.instrs.items))
             (λ refusal. refusal ≡ Refusal.OutOfMemory) }
     {
         let instrs = mem::replace(&mut self.instrs, Vec::new(alloc));
@@ -209,14 +214,18 @@ impl Reader {
     {
         let are_whole = self.spaces.len() == usize::from(self.header.count);
         self.evictions = Vec::new(alloc);
-        self.stage = if are_whole { Stage::Evict } else { Stage::Space };
+        self.stage = if are_whole {
+            Stage::Evict
+        } else {
+            Stage::Space
+        };
     }
 
     /// Behind `evict`; another line is behind no turns.
     fn step_evict(&mut self, alloc: Global, word: &[u8], numbers: &[u64]) -> Result<(), Refusal>
         requires stage { self.old.stage ≡ Stage.Evict }
         requires room { AreBelow (evict_rooms word.now) numbers.now }
-        ensures { Gives (step (AtEvict (machine_of self.old.header) self.old.spaces.items self.old.evictions.items) word.now numbers.now) (position_of self.new) result }
+        ensures { Gives (step (at_stage self.old Stage.Evict) word.now numbers.now) (position_of self.new) result }
     {
         if word == b"evict".as_slice() {
             self.evictions.push(evict_of(numbers))?;
@@ -229,7 +238,7 @@ impl Reader {
     /// Behind `turn`, or `close`.
     fn step_turn(&mut self, word: &[u8], numbers: &[u64]) -> Result<(), Refusal>
         requires { AreBelow (turn_rooms word.now) numbers.now }
-        ensures { Gives (step (AtTurn (machine_of self.old.header) self.old.spaces.items self.old.evictions.items self.old.turns.items) word.now numbers.now) (position_of self.new) result }
+        ensures { Gives (step (at_stage self.old Stage.Turn) word.now numbers.now) (position_of self.new) result }
     {
         if word == b"turn".as_slice() {
             self.turns.push(ProcNo(numbers[0] as u16))?;

@@ -158,10 +158,7 @@ impl Reader {
             ≡ (if bytes_eq word.now (codes "turn") then within 0 (self.now.header.processors - 1) ∷ [] else []) }
     {
         if word == b"turn".as_slice() {
-            list(&[Field::Within(
-                0,
-                u64::from(self.header.processors.saturating_sub(1)),
-            )])
+            list(&[Field::Within(0, u64::from(self.header.processors.saturating_sub(1)))])
         } else {
             Fields::new()
         }

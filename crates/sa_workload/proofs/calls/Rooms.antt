@@ -15,7 +15,7 @@ use Rattle.sa_workload.specs.Bad.{DeclaredNumbers, Field, within, declared, oper
 use Rattle.sa_workload.specs.Fields.{index_of}
 use Rattle.sa_workload.specs.Position.{IsReached}
 use Rattle.sa_workload.specs.Next.{draft_numbers, fields_of, is_last_impatient, operation_of}
-use Rattle.sa_workload.specs.Rooms.{AreBelow, room_of, space_rooms, turn_rooms, evict_rooms, room_for, AllHaveRoom, RoomsAt}
+use Rattle.sa_workload.specs.Rooms.{AreBelow, space_rooms, room_for, AllHaveRoom, RoomsAt}
 use Rattle.sa_workload.specs.Stage.{machine_of, draft_of, machine_position, at_stage, AreNumbersOf}
 use Rattle.sa_workload.specs.Steps.{expected}
 use Rattle.sa_workload.proofs.fields.FieldLemmas.{Passes, AllPass, within-passes, declared-passes, line-ok}
@@ -103,11 +103,22 @@ module _ (versions : ℕ) (three : versions ≤ 3) (r : Reader) (word ns : List 
   fit : (s : Stage) → IsReached versions (at_stage r s) → is_some (index_of word (expected (at_stage r s))) ≡ true → Fit s word
   fit (Machine line) at known = machine line known
   fit Space at known =
-      by_word (expected (at_stage r Space)) word (Fit Space) (below (fields_of versions (at_stage r Space) (codes "space")) (space_rooms r.header.version) ns (
-        range 0 MAX_PRIORITY (2 ^ 8) (omega arith),
-        (range 0 MAX_MUTEXES (2 ^ 16) (omega arith), (range 0 MAX_SEMAPHORES (2 ^ 16) (omega arith), (range 0 MAX_CELLS (2 ^ 16) (omega arith),
-        (range 1 MAX_PROGRAMS (2 ^ 16) (omega arith), patience (r.header.version == 3) (if is_last_impatient (machine_of r.header) r.spaces.items then 2 else 1))))),
-      ), tt) known
+      by_word (expected (at_stage r Space)) word (Fit Space) (
+        below (fields_of versions (at_stage r Space) (codes "space")) (space_rooms r.header.version) ns (
+          range 0 MAX_PRIORITY (2 ^ 8) (omega arith),
+          (
+            range 0 MAX_MUTEXES (2 ^ 16) (omega arith),
+            (
+              range 0 MAX_SEMAPHORES (2 ^ 16) (omega arith),
+              (
+                range 0 MAX_CELLS (2 ^ 16) (omega arith),
+                (range 1 MAX_PROGRAMS (2 ^ 16) (omega arith), patience (r.header.version == 3) (if is_last_impatient (machine_of r.header) r.spaces.items then 2 else 1)),
+              ),
+            ),
+          ),
+        ),
+        tt,
+      ) known
   fit Sem at known = by_word (expected (at_stage r Sem)) word (Fit Sem) (one_range 0 MAX_START (2 ^ 32) ns (omega arith), tt) known
   fit Absent at known =
       by_word (expected (at_stage r Absent)) word (Fit Absent) (one_range 0 LAST_PAGE (2 ^ 16) ns (omega arith), (one_range 1 MAX_INSTRUCTIONS (2 ^ 16) ns (omega arith), tt)) known

@@ -136,7 +136,7 @@ lines-not_bad versions ls w k why accepted e ended a = pick (slice_get ls (k - 1
 ended_lines : (lines : List (List (List ℕ))) → All (λ (l : LineText). l.ended ≡ true) (map ended_line lines)
 ended_lines lines = All-map (λ (l : LineText). l.ended ≡ true) ended_line lines (λ k d h. refl)
 
--- a text is not bad, by any grammar that accepts its workload
+-- a text is not bad, by any versions that its workload is of
 pub text-not_bad : (versions : ℕ) (bytes : List ℕ) (w : WorkloadView) (k why : ℕ) → IsUpTo versions w → IsWorkload w → bytes ≡ text_of w
     → ¬ IsBad versions (line_texts bytes) k why
 text-not_bad versions bytes w k why accepted is e =

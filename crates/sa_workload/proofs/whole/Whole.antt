@@ -169,7 +169,7 @@ unfolding read_of
 text_outcome versions s bytes =
     outcome versions s (line_texts bytes) [] AtVersion (record { at = at_first versions; ended = All-nil Ended; lines = refl })
 
--- by the texts of a grammar: each is its workload's, and in what is bad there is one line with one cause
+-- by the texts of some versions: each is its workload's, and in what is bad there is one line with one cause
 pub record Answers (versions : ℕ) (bytes : List ℕ) (T : WorkloadView → Type 0) (B : ℕ → ℕ → Type 0) : Type 0 where
   pub found : MatchResult (read_of versions bytes) T (λ bad. B bad.line bad.why)
   pub same : (v w : WorkloadView) → T v → T w → v ≡ w
