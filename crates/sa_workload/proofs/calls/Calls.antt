@@ -1,6 +1,6 @@
 -- What the functions of the reader that go on in several steps come to.
-use Rattle.std.proofs.Common.{◌≡◌, ℕ, ◌+◌, ◌<◌, ◌≤◌, Bool, true, false, cond, find, List, [], ◌∷◌, ◌++◌, length, get_or, map, drop, Option, Some, None, IfSome, IfNone, Result, Ok, Err, Ordering, Less, Equal, Greater, inl, inr, refl, sym, ap, ap₂, ◌∙◌, subst, arith, eqb, ltb, lt-ltb, eq-eqb, append_assoc}
-use Rattle.std.specs.Option.{is_some}
+use Rattle.std.proofs.Common.{◌≡◌, ◌≢◌, ℕ, ◌+◌, ◌<◌, ◌≤◌, slice_index, Bool, true, false, cond, find, List, [], ◌∷◌, ◌++◌, length, get_or, map, drop, codes, Option, Some, None, IfSome, IfNone, Result, Ok, Err, Ordering, Less, Equal, Greater, inl, inr, refl, sym, ap, ap₂, ◌∙◌, subst, arith, eqb, ltb, lt-ltb, eq-eqb, append_assoc}
+use Rattle.std.specs.Option.{is_some, option_map}
 use Rattle.std.specs.Ordering.{nat_cmp, ordering_then}
 use Rattle.std.specs.Cmp.Lexicographic.{slice_cmp}
 use Rattle.std.specs.Str.{bytes_eq}
@@ -8,6 +8,7 @@ use Rattle.std.proofs.lemmas.Bool.{cases_lt, cases_eq, false_from_ne_true, ltb-t
 use Rattle.std.proofs.lemmas.List.{drop_more, get_or-map, length-map, length_push}
 use Rattle.std.proofs.lemmas.Option.{same_Some}
 use Rattle.std.proofs.lemmas.Slice.Eq.{bytes_eq-Decides}
+use Rattle.sa_instr.specs.declared.operand.OperandKind.{OperandKind}
 use Rattle.sa_instr.specs.declared.operation.Operation.{Operation}
 use Rattle.sa_instr.specs.declared.operation.TheConstants.{OPERATIONS}
 use Rattle.sa_instr.specs.declared.instr.Instr.{Instr}
@@ -16,11 +17,14 @@ use Rattle.sa_instr.specs.Program.{IsProgram}
 use Rattle.sa_spaces.specs.Space.{SpaceView, IsSpace}
 use Rattle.sa_text.specs.LineText.{LineText}
 use Rattle.sa_workload.specs.Bad.{Field, Register, list_lt, instr_words}
-use Rattle.sa_workload.specs.Fields.{and_then, field_at, fields_at, index_of, order_cause}
-use Rattle.sa_workload.specs.Position.{Machine, Draft, Position, AtInstr, IsReached}
-use Rattle.sa_workload.specs.Next.{draft_numbers, fields_of, is_end, made_by, operation_of}
+use Rattle.sa_workload.specs.Fields.{and_then, unless, field_at, fields_at, at_end, index_of, line_numbers, order_cause}
+use Rattle.sa_workload.specs.Position.{Machine, Draft, Position, AtVersion, AtAbsent, AtInstr, AtEvict, IsReached}
+use Rattle.sa_workload.specs.Next.{draft_numbers, evict_numbers, fields_of, is_end, last_numbers, last_of, made_by, operand_from, operands_from, operation_of}
 use Rattle.sa_workload.specs.Steps.{space_of_draft, with_program}
+use Rattle.sa_workload.specs.Rooms.{AreBelow, room_for}
 use Rattle.sa_workload.specs.Reading.{line_in, read_from, goes_on}
+use Rattle.sa_spaces.specs.declared.workload.Evict.{Evict}
+use Rattle.sa_workload.proofs.fields.FieldLemmas.{AllPass, all_long}
 use Rattle.sa_workload.proofs.fields.InstrLemmas.{IsAllowed, instr-read, no_operation, operation-expected}
 use Rattle.sa_workload.proofs.calls.Rooms.{all_pass}
 use Rattle.sa_workload.proofs.forward.Sound.{end_of}
@@ -48,6 +52,27 @@ pub of_word : (o : Option Operation) (word : List ℕ) → IfSome o (λ operatio
     → is_some o ≡ is_some (index_of word instr_words)
 of_word (Some o) word found none = sym (ap (λ (w : List ℕ). is_some (index_of w instr_words)) (sym found) ∙ operation-expected o)
 of_word None word found none = sym (no_operation word none)
+
+-- the operands of an operation that has none, one or two
+pub operands-none : (kinds : List OperandKind) (ns : List ℕ) → length kinds ≡ 0 → operands_from kinds ns ≡ []
+operands-none [] ns none = refl
+operands-none (k ∷ kinds) ns none = absurd (omega arith)
+
+pub operands-one : (kinds : List OperandKind) (d : OperandKind) (ns : List ℕ) → length kinds ≡ 1 → AreBelow (map room_for kinds) ns
+    → operands_from kinds ns ≡ operand_from (get_or kinds 0 d) (slice_index ns 0) ∷ []
+operands-one (k ∷ []) d (n ∷ ns) one h = refl
+operands-one (k ∷ []) d [] one h = absurd h
+operands-one [] d ns one h = absurd (omega arith)
+operands-one (k ∷ j ∷ kinds) d ns one h = absurd (omega arith)
+
+pub operands-two : (kinds : List OperandKind) (d e : OperandKind) (ns : List ℕ) → length kinds ≢ 0 → length kinds ≢ 1 → length kinds ≤ 2 → AreBelow (map room_for kinds) ns
+    → operands_from kinds ns ≡ operand_from (get_or kinds 0 d) (slice_index ns 0) ∷ operand_from (get_or kinds 1 e) (slice_index ns 1) ∷ []
+operands-two [] d e ns some more few h = absurd (some refl)
+operands-two (k ∷ []) d e ns some more few h = absurd (more refl)
+operands-two (k ∷ j ∷ []) d e [] some more few h = absurd h
+operands-two (k ∷ j ∷ []) d e (n ∷ []) some more few h = absurd h.1
+operands-two (k ∷ j ∷ []) d e (n ∷ m ∷ ns) some more few h = refl
+operands-two (k ∷ j ∷ i ∷ kinds) d e ns some more few h = absurd (omega arith)
 
 -- lists of one length, compared from the left
 abbrev pub Compared : List ℕ → List ℕ → Ordering → Type 0
@@ -95,6 +120,27 @@ order-greater last ns l is long e =
     ap (λ (o : Option (List ℕ)). order_cause o ns) (sym is)
     ∙ none-order last ns (subst (Compared ns last) e (compared ns last (subst (IsAsLong ns) (sym is) long)))
 
+-- where a line of the word has to be behind the last one, it has as many numbers
+pub as_long : (versions : ℕ) (p : Position) (word ns : List ℕ) → AllPass (fields_of versions p word) ns → IsAsLong ns (last_numbers p word)
+as_long versions (AtAbsent m spaces d) word ns pass = by_word (bytes_eq word (codes "absent")) refl (last_of d.absent)
+  where
+    by_word : (b : Bool) → bytes_eq word (codes "absent") ≡ b → (o : Option ℕ) → IsAsLong ns (cond b (option_map (λ page. page ∷ []) o) None)
+    by_word false t o = tt
+    by_word true t None = tt
+    by_word true t (Some page) =
+        (all_long (fields_of versions (AtAbsent m spaces d) (codes "absent")) ns
+        (subst (λ (w : List ℕ). AllPass (fields_of versions (AtAbsent m spaces d) w) ns) ((bytes_eq-Decides word (codes "absent")).0 t) pass)).0
+as_long versions (AtEvict m spaces es) word ns pass = by_word (bytes_eq word (codes "evict")) refl (last_of es)
+  where
+    by_word : (b : Bool) → bytes_eq word (codes "evict") ≡ b → (o : Option Evict) → IsAsLong ns (cond b (option_map evict_numbers o) None)
+    by_word false t o = tt
+    by_word true t None = tt
+    by_word true t (Some e) =
+        (all_long (fields_of versions (AtEvict m spaces es) (codes "evict")) ns
+        (subst (λ (w : List ℕ). AllPass (fields_of versions (AtEvict m spaces es) w) ns) ((bytes_eq-Decides word (codes "evict")).0 t) pass)).0
+as_long versions AtVersion word ns pass = tt
+as_long versions _ word ns pass = tt
+
 -- the fields that are left, behind the numbers so far
 abbrev pub Left : List ℕ → Result (List ℕ × List (List ℕ)) ℕ → Result (List ℕ × List (List ℕ)) ℕ
 Left ns r = and_then r (λ later. Ok (ns ++ later.0, later.1))
@@ -118,6 +164,12 @@ field-next fields words i ns r h read =
         ≡ and_then x (λ first. Left (ns ++ first.0 ∷ []) (fields_at (drop (i + 1) all) first.1))
     by_read (Ok first) = number_more ns first.0 (fields_at (drop (i + 1) all) first.1)
     by_read (Err cause) = refl
+
+-- what the words behind a first word come to, by what the fields do
+pub line_by : (fields : List Field) (last : Option (List ℕ)) (words : List (List ℕ)) (r : Result (List ℕ × List (List ℕ)) ℕ) → r ≡ fields_at fields words
+    → line_numbers fields last words ≡ and_then r (λ read. unless (order_cause last read.0) (unless (at_end read.1) (Ok read.0)))
+line_by fields last words r e =
+    ap (λ (x : Result (List ℕ × List (List ℕ)) ℕ). and_then x (λ read. unless (order_cause last read.0) (unless (at_end read.1) (Ok read.0)))) (sym e)
 
 -- the lines behind a line that leads on
 pub read_on : (versions number more : ℕ) (p q : Position) (lines rest : List LineText) (l : LineText) → lines ≡ l ∷ rest → more ≡ number + 1 → line_in versions p l ≡ Ok q
