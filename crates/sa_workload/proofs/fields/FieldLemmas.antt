@@ -10,7 +10,7 @@ use Rattle.std.proofs.lemmas.Slice.Eq.{bytes_eq-Decides}
 use Rattle.sa_text.specs.Number.{number_of}
 use Rattle.sa_text.proofs.NumberOf.{reads_number}
 use Rattle.sa_workload.specs.Bad.{Field, Register, Number, within, declared, registers}
-use Rattle.sa_workload.specs.Fields.{and_then, unless, or_cause, index_of, read_field, field_at, fields_at, at_end, order_cause, line_numbers}
+use Rattle.sa_workload.specs.Fields.{and_then, unless, or_cause, index_of, read_field, fields_at, at_end, order_cause, line_numbers}
 
 -- what an answer is made of
 pub same_ok : {A : Type 0} (a b : A) → (λ (r : Result A ℕ). r) (Ok a) ≡ Ok b → a ≡ b

@@ -3,7 +3,7 @@ use Rattle.std.proofs.Common.{◌≡◌, ◌≢◌, ℕ, ◌+◌, ◌-◌, ◌<�
 use Rattle.std.specs.Option.{is_some, option_map}
 use Rattle.std.specs.List.{flat_map, list_all}
 use Rattle.std.proofs.Math.Seq.{get_or-append_seam}
-use Rattle.std.proofs.lemmas.Bool.{cases_eq, cases_lt, false≢true, eqb-false, false_from_ne_true}
+use Rattle.std.proofs.lemmas.Bool.{cases_eq, cases_lt, cond_both, cond-true, cond-false, false≢true, eqb-false, false_from_ne_true}
 use Rattle.std.proofs.lemmas.List.{get_or_append_left}
 use Rattle.std.proofs.lemmas.List.Elements.{All-push}
 use Rattle.std.proofs.lemmas.Option.{slice_get-get_or, same_Some}
@@ -23,13 +23,47 @@ use Rattle.sa_workload.specs.Text.{instr_line, program_lines, sem_line, absent_l
 use Rattle.sa_workload.specs.Bad.{Field, within, list_lt}
 use Rattle.sa_workload.specs.Fields.{and_then, order_cause, line_numbers, index_of}
 use Rattle.sa_workload.specs.Position.{Machine, Draft, Position, AtVersion, AtProcessors, AtFetch, AtSlice, AtSpaces, AtSpace, AtSem, AtAbsent, AtProgram, AtInstr, AtEvict, AtTurn, Closed}
-use Rattle.sa_workload.specs.Steps.{expected, after_fetch, after_sem, after_spaces, after_program, after_instr, with_program}
+use Rattle.sa_workload.specs.Steps.{expected, space_of_draft, after_fetch, after_sem, after_spaces, after_program, after_instr, with_program}
 use Rattle.sa_workload.specs.Next.{numbers_at, fields_of, is_full, last_numbers, last_of, evict_numbers, is_end, is_last_impatient, step, step_instr, next}
 use Rattle.sa_workload.proofs.fields.FieldLemmas.{line-spelled, spelled_all, AllPass, passes-within, passes-declared, both_true}
 use Rattle.sa_workload.proofs.fields.InstrLemmas.{AreSmall, IsAllowed, instr-back, numbers_of_instr, operation-expected}
 use Rattle.sa_workload.proofs.forward.Fronts.{last_is, all_true, true_all}
-use Rattle.sa_workload.proofs.forward.Completion.{version-low, after_sem-full, after_sem-more, after_spaces-full, after_spaces-more, after_program-full, after_program-more, after_instr-full, after_instr-more}
 use Rattle.sa_workload.proofs.forward.Orders.{none-order, before_evict, less_head}
+
+-- what each `after_` position is: with all read, and with more to come
+after_sem-full : (m : Machine) (spaces : List SpaceView) (d : Draft) → length d.sems ≡ d.sem_count → after_sem m spaces d ≡ AtAbsent m spaces d
+after_sem-full m spaces d e = cond-true _ _ _ (eq-eqb _ _ e)
+
+after_sem-more : (m : Machine) (spaces : List SpaceView) (d : Draft) → length d.sems ≢ d.sem_count → after_sem m spaces d ≡ AtSem m spaces d
+after_sem-more m spaces d ne = cond-false _ _ _ (ne_eqb _ _ ne)
+
+after_spaces-full : (m : Machine) (spaces : List SpaceView) → length spaces ≡ m.count → after_spaces m spaces ≡ AtEvict m spaces []
+after_spaces-full m spaces e = cond-true _ _ _ (eq-eqb _ _ e)
+
+after_spaces-more : (m : Machine) (spaces : List SpaceView) → length spaces ≢ m.count → after_spaces m spaces ≡ AtSpace m spaces
+after_spaces-more m spaces ne = cond-false _ _ _ (ne_eqb _ _ ne)
+
+after_program-full : (m : Machine) (spaces : List SpaceView) (d : Draft) → length d.programs ≡ d.program_count
+    → after_program m spaces d ≡ after_spaces m (spaces ++ space_of_draft d ∷ [])
+after_program-full m spaces d e = cond-true _ _ _ (eq-eqb _ _ e)
+
+after_program-more : (m : Machine) (spaces : List SpaceView) (d : Draft) → length d.programs ≢ d.program_count
+    → after_program m spaces d ≡ AtProgram m spaces d
+after_program-more m spaces d ne = cond-false _ _ _ (ne_eqb _ _ ne)
+
+after_instr-full : (m : Machine) (spaces : List SpaceView) (d : Draft) (len : ℕ) (instrs : List Instr) → length instrs ≡ len
+    → after_instr m spaces d len instrs ≡ after_program m spaces (with_program d instrs)
+after_instr-full m spaces d len instrs e = cond-true _ _ _ (eq-eqb _ _ e)
+
+after_instr-more : (m : Machine) (spaces : List SpaceView) (d : Draft) (len : ℕ) (instrs : List Instr) → length instrs ≢ len
+    → after_instr m spaces d len instrs ≡ AtInstr m spaces d len instrs
+after_instr-more m spaces d len instrs ne = cond-false _ _ _ (ne_eqb _ _ ne)
+
+-- a workload is written in version 1 or a later one
+pub version-low : (w : WorkloadView) → 1 ≤ version_of w
+version-low w =
+    cond_both (list_all (λ (s : SpaceView). s.patience == 1) w.spaces) (if w.slice == 0 then 1 else 2) 3 (λ (v : ℕ). 1 ≤ v)
+    (λ _. cond_both (w.slice == 0) 1 2 (λ (v : ℕ). 1 ≤ v) (λ _. omega arith) (λ _. omega arith)) (λ _. omega arith)
 
 lt_leb : (n limit : ℕ) → n < limit → leb limit n ≡ false
 lt_leb n limit h = false_from_ne_true (leb limit n) (λ t. let l : limit ≤ n = leb-true limit n t in absurd (omega arith))

@@ -19,11 +19,10 @@ use Rattle.sa_workload.specs.Steps.{Steps, expected, step_absent, step_instr, st
 use Rattle.sa_workload.specs.Next.{next}
 use Rattle.sa_workload.proofs.fields.FieldLemmas.{contained, same_ok, and_then-ok, known_word}
 use Rattle.sa_workload.proofs.forward.ShownStep.{shown-step}
-use Rattle.sa_workload.proofs.forward.Completion.{version-low, completes}
-use Rattle.sa_workload.proofs.forward.Following.{right_word}
+use Rattle.sa_workload.proofs.forward.Completion.{completes}
 use Rattle.sa_workload.proofs.forward.Says.{Heard, heard, heard-push, Says, says-next, last_line-push}
 use Rattle.sa_workload.proofs.forward.Sound.{took, GoesTo, sound}
-use Rattle.sa_workload.proofs.forward.Complete.{run, run-append, run-then, complete}
+use Rattle.sa_workload.proofs.forward.Complete.{version-low, run, run-append, run-then, complete}
 
 -- behind a line with one of the repeated words the word is expected again
 abbrev Repeats : Position → List ℕ → Type 0
@@ -142,10 +141,7 @@ instrs_together p word first known h t =
           absurd (cc (sym (ap not t) ∙ All-contains (λ (k : List ℕ). test k ≡ true) (expected p) first (AllPass-from_list_all test (expected p) none) (contained (expected p) first known)))
     ]
 
--- the words that may begin a line are those that are expected
-pub expects : (versions : ℕ) → Setting versions → (p : Position) (word : List ℕ) → IsAt versions p → is_some (index_of word (expected p)) ≡ true → IsRightWord versions (shown p) word
-expects versions s p word a known = right_word versions s.one s.few p word a.reached a.says known
-
+-- the words that may begin a line are expected
 follows : (versions : ℕ) → Setting versions → (p : Position) (word : List ℕ) → IsAt versions p → MayFollow versions (shown p) word → is_some (index_of word (expected p)) ≡ true
 follows versions s p word a f =
     let n = begins-next versions s p (word ∷ f.others) a f.begins in (took versions p word f.others n.0 n.1).known
