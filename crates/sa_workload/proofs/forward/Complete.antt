@@ -3,7 +3,7 @@ use Rattle.std.proofs.Common.{◌≡◌, ◌≢◌, ℕ, ◌+◌, ◌-◌, ◌<�
 use Rattle.std.specs.Option.{is_some, option_map}
 use Rattle.std.specs.List.{flat_map, list_all}
 use Rattle.std.proofs.Math.Seq.{get_or-append_seam}
-use Rattle.std.proofs.lemmas.Bool.{cond_both, cond-true, cond-false, false≢true, eqb-false, false_from_ne_true}
+use Rattle.std.proofs.lemmas.Bool.{cond-true, cond-false, false≢true, eqb-false, false_from_ne_true}
 use Rattle.std.proofs.lemmas.List.{get_or_append_left}
 use Rattle.std.proofs.lemmas.List.Elements.{All-push}
 use Rattle.std.proofs.lemmas.Option.{same_Some}
@@ -30,11 +30,21 @@ use Rattle.sa_workload.proofs.fields.InstrLemmas.{AreSmall, IsAllowed, instr-bac
 use Rattle.sa_workload.proofs.forward.Fronts.{last_is, slice_get_at, all_true, true_all}
 use Rattle.sa_workload.proofs.forward.Orders.{none-order, before_evict, less_head}
 
--- a workload is written in version 1 or a later one
-pub version-low : (w : WorkloadView) → 1 ≤ version_of w
-version-low w =
-    cond_both (list_all (λ (s : SpaceView). s.patience == 1) w.spaces) (if w.slice == 0 then 1 else 2) 3 (λ (v : ℕ). 1 ≤ v)
-    (λ _. cond_both (w.slice == 0) 1 2 (λ (v : ℕ). 1 ≤ v) (λ _. omega arith) (λ _. omega arith)) (λ _. omega arith)
+-- what a version says of the patience of all spaces, and of the slice
+pub record IsVersion (v : ℕ) (all none : Bool) : Type 0 where
+  pub range : (1 ≤ v) × (v ≤ 3)
+  pub usual : v ≢ 3 → all ≡ true
+  pub own : v ≡ 3 → all ≡ false
+  pub first : v ≡ 1 → none ≡ true
+  pub second : v ≢ 1 → v ≢ 3 → none ≡ false
+
+by_tests : (all none : Bool) → IsVersion (if all then (if none then 1 else 2) else 3) all none
+by_tests true true = record { range = (omega arith, omega arith); usual = λ _. refl; own = λ e. absurd (omega arith); first = λ _. refl; second = λ n. absurd (n refl) }
+by_tests true false = record { range = (omega arith, omega arith); usual = λ _. refl; own = λ e. absurd (omega arith); first = λ e. absurd (omega arith); second = λ _ _. refl }
+by_tests false none = record { range = (omega arith, omega arith); usual = λ n. absurd (n refl); own = λ _. refl; first = λ e. absurd (omega arith); second = λ _ n. absurd (n refl) }
+
+pub version_is : (w : WorkloadView) → IsVersion (version_of w) (list_all (λ (s : SpaceView). eqb s.patience 1) w.spaces) (eqb w.slice 0)
+version_is w = by_tests (list_all (λ (s : SpaceView). eqb s.patience 1) w.spaces) (eqb w.slice 0)
 
 lt_leb : (n limit : ℕ) → n < limit → leb limit n ≡ false
 lt_leb n limit h = false_from_ne_true (leb limit n) (λ t. let l : limit ≤ n = leb-true limit n t in absurd (omega arith))
@@ -288,18 +298,6 @@ space_run versions m spaces s h fits =
         taken (codes "absent") (k ∷ []) refl refl (passes-within 0 LAST_PAGE k (omega arith) (here at (λ (x : ℕ). x ≤ LAST_PAGE) h.pages) (omega arith), tt)
         (behind_last (λ (a b : ℕ). a < b) (λ (x : ℕ). x ∷ []) s.absent done k 0 at (λ a b l. less_head a b [] [] l) h.absent_rise) refl
 
--- what a version says of the patience of all spaces, and of the slice
-record IsVersion (v : ℕ) (all none : Bool) : Type 0 where
-  usual : v ≢ 3 → all ≡ true
-  own : v ≡ 3 → all ≡ false
-  first : v ≡ 1 → none ≡ true
-  second : v ≢ 1 → v ≢ 3 → none ≡ false
-
-version_is : (all none : Bool) → IsVersion (if all then (if none then 1 else 2) else 3) all none
-version_is true true = record { usual = λ _. refl; own = λ e. absurd (omega arith); first = λ _. refl; second = λ n. absurd (n refl) }
-version_is true false = record { usual = λ _. refl; own = λ e. absurd (omega arith); first = λ e. absurd (omega arith); second = λ _ _. refl }
-version_is false none = record { usual = λ n. absurd (n refl); own = λ _. refl; first = λ e. absurd (omega arith); second = λ _ n. absurd (n refl) }
-
 abbrev machine_in : WorkloadView → Machine
 machine_in w = record { version = version_of w; processors = w.processors; fetch = w.fetch; slice = w.slice; count = length w.spaces }
 
@@ -309,9 +307,6 @@ turns_at w [] = AtEvict (machine_in w) w.spaces w.evictions
 turns_at w (t ∷ ts) = AtTurn (machine_in w) w.spaces w.evictions (t ∷ ts)
 
 module _ (versions : ℕ) (w : WorkloadView) (h : IsWorkload w) where
-  is_version : IsVersion (version_of w) (list_all (λ (s : SpaceView). eqb s.patience 1) w.spaces) (eqb w.slice 0)
-  is_version = version_is (list_all (λ (s : SpaceView). eqb s.patience 1) w.spaces) (eqb w.slice 0)
-
   -- the line of the number of spaces, and those behind the fetch line
   spaces_line : Runs versions (AtSpaces (version_of w) w.processors w.fetch w.slice) ((codes "spaces" ∷ decimal (length w.spaces) ∷ []) ∷ []) (AtSpace (machine_in w) [])
   spaces_line = taken (codes "spaces") (length w.spaces ∷ []) refl refl (passes-within 1 MAX_SPACES (length w.spaces) h.some_space h.few_spaces (omega arith), tt) refl refl
@@ -321,18 +316,18 @@ module _ (versions : ℕ) (w : WorkloadView) (h : IsWorkload w) where
       ((if first then [] else (codes "slice" ∷ decimal w.slice ∷ []) ∷ []) ++ (codes "spaces" ∷ decimal (length w.spaces) ∷ []) ∷ []) (AtSpace (machine_in w) [])
   behind_fetch true t =
       subst (λ (s : ℕ). Runs versions (AtSpaces (version_of w) w.processors w.fetch s) ((codes "spaces" ∷ decimal (length w.spaces) ∷ []) ∷ []) (AtSpace (machine_in w) []))
-      (eqb-true w.slice 0 (is_version.first (eqb-true (version_of w) 1 t))) spaces_line
+      (eqb-true w.slice 0 ((version_is w).first (eqb-true (version_of w) 1 t))) spaces_line
   behind_fetch false t =
       one (taken (codes "slice") (w.slice ∷ []) refl refl (passes-within (if version_of w == 3 then 0 else 1) MAX_SLICE w.slice (least (version_of w == 3) refl) h.slice (omega arith), tt) refl refl) spaces_line
     where
       least : (b : Bool) → (version_of w == 3) ≡ b → (if b then 0 else 1) ≤ w.slice
       least true e = omega arith
       least false e =
-          let some : w.slice ≢ 0 = eqb-false w.slice 0 (is_version.second (eqb-false (version_of w) 1 t) (eqb-false (version_of w) 3 e)) in omega arith
+          let some : w.slice ≢ 0 = eqb-false w.slice 0 ((version_is w).second (eqb-false (version_of w) 1 t) (eqb-false (version_of w) 3 e)) in omega arith
 
   machine_run : version_of w ≤ versions → versions ≤ 3 → Runs versions AtVersion (machine_lines w) (AtSpace (machine_in w) [])
   machine_run few three =
-      one (taken (codes "workload") (version_of w ∷ []) refl refl (passes-within 1 versions (version_of w) (version-low w) few (omega arith), tt) refl refl)
+      one (taken (codes "workload") (version_of w ∷ []) refl refl (passes-within 1 versions (version_of w) (version_is w).range.0 few (omega arith), tt) refl refl)
       (one (taken (codes "processors") (w.processors ∷ []) refl refl (passes-within 1 MAX_PROCESSORS w.processors h.some_processor h.few_processors (omega arith), tt) refl refl)
       (one (taken (codes "fetch") (w.fetch ∷ []) refl refl (passes-within 1 MAX_FETCH w.fetch h.some_fetch h.short_fetch (omega arith), tt) refl refl)
       (behind_fetch (version_of w == 1) refl)))
@@ -351,7 +346,7 @@ module _ (versions : ℕ) (w : WorkloadView) (h : IsWorkload w) where
           let all : All (λ (t : SpaceView). t.patience ≡ 1) (done ++ s ∷ []) = All-push (λ (t : SpaceView). t.patience ≡ 1) done s (true_all (λ (t : SpaceView). t.patience) 1 done b.1) one in
           let whole : list_all (λ (t : SpaceView). eqb t.patience 1) w.spaces ≡ true =
           ap (λ (xs : List SpaceView). list_all (λ (t : SpaceView). eqb t.patience 1) xs) (at.is ∙ ap (λ (xs : List SpaceView). done ++ s ∷ xs) last) ∙ all_true (λ (t : SpaceView). t.patience) 1 (done ++ s ∷ []) all in
-          false≢true (sym (is_version.own v) ∙ whole)
+          false≢true (sym ((version_is w).own v) ∙ whole)
         where
           nothing : (xs : List SpaceView) → length xs ≤ 0 → xs ≡ []
           nothing [] l = refl
@@ -361,7 +356,7 @@ module _ (versions : ℕ) (w : WorkloadView) (h : IsWorkload w) where
           → Runs versions (after_spaces (machine_in w) done) (space_lines (version_of w) s) (after_spaces (machine_in w) (done ++ s ∷ []))
       each done s at =
           at_more _ (before at) (space_run versions (machine_in w) done s (here at IsSpace h.spaces)
-          ((λ n. here at (λ (t : SpaceView). t.patience ≡ 1) (true_all (λ (t : SpaceView). t.patience) 1 w.spaces (is_version.usual n))), own done s at))
+          ((λ n. here at (λ (t : SpaceView). t.patience ≡ 1) (true_all (λ (t : SpaceView). t.patience) 1 w.spaces ((version_is w).usual n))), own done s at))
 
   evictions_run : Runs versions (AtEvict (machine_in w) w.spaces []) (map evict_line w.evictions) (AtEvict (machine_in w) w.spaces w.evictions)
   evictions_run = over (λ (es : List Evict). AtEvict (machine_in w) w.spaces es) (λ (e : Evict). evict_line e ∷ []) (map evict_line) refl (λ e es. refl) w.evictions each

@@ -1,5 +1,5 @@
 -- What each line has to keep to, so that it leads from a reached position to a reached position.
-use Rattle.std.proofs.Common.{◌≡◌, ◌≢◌, ℕ, ◌+◌, ◌-◌, ◌<◌, ◌≤◌, ◌==◌, List, [], ◌∷◌, ◌++◌, length, All, get_or, slice_index, Some, inl, inr, sym, ap, subst, subst₂, ◌∙◌, arith, eqb-true}
+use Rattle.std.proofs.Common.{◌≡◌, ◌≢◌, ℕ, ◌+◌, ◌-◌, ◌<◌, ◌≤◌, ◌==◌, List, [], ◌∷◌, ◌++◌, length, All, get_or, Some, inl, inr, sym, ap, subst, subst₂, ◌∙◌, arith, eqb-true}
 use Rattle.std.proofs.lemmas.Bool.{cond_both, cases_lt, eqb-false}
 use Rattle.std.proofs.lemmas.List.{length_push, get_or_append_left, get_or_push}
 use Rattle.std.proofs.lemmas.List.Elements.{All-nil, All-push}
@@ -15,12 +15,12 @@ use Rattle.sa_instr.specs.Program.{IsProgram}
 use Rattle.sa_spaces.specs.Space.{SpaceView, IsSpace}
 use Rattle.sa_spaces.specs.Workload.{IsEviction, IsBefore}
 use Rattle.sa_workload.specs.Position.{Machine, Draft, Position, AtSpace, AtSem, AtAbsent, AtProgram, AtInstr, AtEvict, Closed, CanSlice, IsMachine, AreSpaces, IsDraft, IsBegun, AreEvictions, AreTurns, IsReached}
-use Rattle.sa_workload.specs.Steps.{workload, space_of_draft, with_sem, with_absent, with_program, after_sem, after_spaces, after_program, after_instr}
+use Rattle.sa_workload.specs.Steps.{workload, space_of_draft, with_program, after_sem, after_spaces, after_program, after_instr}
 use Rattle.sa_workload.proofs.forward.Fronts.{All-front, All-last}
 use Rattle.sa_workload.proofs.forward.ShownStep.{version_of-workload}
 
 -- a draft with other lists behind its first line
-redrafted : (m : Machine) (spaces : List SpaceView) (d : Draft) (sems absent : List ℕ) (programs : List (List Instr)) → IsDraft m spaces d
+pub redrafted : (m : Machine) (spaces : List SpaceView) (d : Draft) (sems absent : List ℕ) (programs : List (List Instr)) → IsDraft m spaces d
     → length sems ≤ d.sem_count → All (λ start. start ≤ MAX_START) sems → All (λ page. page ≤ LAST_PAGE) absent → IsStrictlyIncreasing absent
     → length programs ≤ d.program_count → All IsProgram programs → All (All (NamesDeclared d.mutexes d.sem_count d.cells d.program_count)) programs
     → IsDraft m spaces (record d { sems = sems; absent = absent; programs = programs })
@@ -66,16 +66,8 @@ reached-after_sem versions m spaces d k a h absent programs =
     (λ e. (k, a, h, eqb-true _ _ e, programs))
     (λ e. let ne : length d.sems ≢ d.sem_count = eqb-false _ _ e in (k, a, h, omega arith, absent, programs))
 
-pub reached-sem : (versions : ℕ) (m : Machine) (spaces : List SpaceView) (d : Draft) (n : ℕ) → IsReached versions (AtSem m spaces d)
-    → n ≤ MAX_START → IsReached versions (after_sem m spaces (with_sem d n))
-reached-sem versions m spaces d n r h =
-    reached-after_sem versions m spaces (with_sem d n) r.0 r.1
-    (redrafted m spaces d (d.sems ++ n ∷ []) d.absent d.programs r.2 (omega (arith, length_push d.sems n))
-    (All-push (λ start. start ≤ MAX_START) d.sems n r.2.starts h) r.2.pages r.2.absent_rise r.2.programs r.2.each r.2.names)
-    r.4 r.5
-
 -- a list that rises goes on rising with an element that is above its last one
-rise-push : {X : Type 0} (R : X → X → Type 0) (xs : List X) (x d : X)
+pub rise-push : {X : Type 0} (R : X → X → Type 0) (xs : List X) (x d : X)
     → ((k : ℕ) → k + 1 < length xs → R (get_or xs k d) (get_or xs (k + 1) d))
     → (0 < length xs → R (get_or xs (length xs - 1) d) x)
     → (k : ℕ) → k + 1 < length (xs ++ x ∷ []) → R (get_or (xs ++ x ∷ []) k d) (get_or (xs ++ x ∷ []) (k + 1) d)
@@ -89,18 +81,6 @@ rise-push {X} R xs x d rise last k h =
           rw (get_or_append_left xs (x ∷ []) d k (omega arith), get_or_push xs x d (k + 1) e)
           (subst (λ (n : ℕ). R (get_or xs n d) x) e' (last (omega arith)))
     ]
-
-pub reached-absent : (versions : ℕ) (m : Machine) (spaces : List SpaceView) (d : Draft) (k : ℕ) → IsReached versions (AtAbsent m spaces d)
-    → k ≤ LAST_PAGE → (0 < length d.absent → slice_index d.absent (length d.absent - 1) < k)
-    → IsReached versions (AtAbsent m spaces (with_absent d k))
-reached-absent versions m spaces d k r h last = (
-  r.0,
-  r.1,
-  redrafted m spaces d d.sems (d.absent ++ k ∷ []) d.programs r.2 r.2.sems r.2.starts (All-push (λ page. page ≤ LAST_PAGE) d.absent k r.2.pages h)
-      (rise-push (λ (a b : ℕ). a < b) d.absent k 0 r.2.absent_rise last) r.2.programs r.2.each r.2.names,
-  r.3,
-  r.4,
-)
 
 pub nothing_begun : (d : Draft) (len : ℕ) → (1 ≤ len) × (len ≤ MAX_INSTRUCTIONS) → IsBegun d len []
 nothing_begun d len short = record {

@@ -4,7 +4,7 @@ use Rattle.std.specs.Option.{is_some, option_map}
 use Rattle.std.specs.List.{AllByRecursion}
 use Rattle.std.proofs.lemmas.Bool.{cond_both, false≢true, eqb-false}
 use Rattle.std.proofs.lemmas.List.{length_push}
-use Rattle.std.proofs.lemmas.List.Elements.{All-nil, All-contains, All-from_recursion}
+use Rattle.std.proofs.lemmas.List.Elements.{All-nil, All-push, All-contains, All-from_recursion}
 use Rattle.sa_base.specs.declared.limits.TheConstants.{MAX_EVENTS, MAX_PROCESSORS, MAX_SPACES}
 use Rattle.sa_instr.specs.declared.limits.TheConstants.{LAST_PAGE, MAX_CELLS, MAX_EVICTIONS, MAX_FETCH, MAX_INSTRUCTIONS, MAX_MUTEXES, MAX_PATIENCE, MAX_PRIORITY, MAX_PROGRAMS, MAX_SEMAPHORES, MAX_SLICE, MAX_START, MAX_TURNS}
 use Rattle.sa_instr.specs.declared.instr.Instr.{Instr}
@@ -15,13 +15,13 @@ use Rattle.sa_workload.specs.Text.{instr_line}
 use Rattle.sa_workload.specs.Bad.{Field, within, declared, list_lt, instr_words}
 use Rattle.sa_workload.specs.Fields.{order_cause, line_numbers, index_of}
 use Rattle.sa_workload.specs.Position.{Machine, Draft, Position, AtVersion, AtProcessors, AtFetch, AtSlice, AtSpaces, AtSpace, AtSem, AtAbsent, AtProgram, AtInstr, AtEvict, AtTurn, Closed, IsReached}
-use Rattle.sa_workload.specs.Steps.{Steps, expected, step_version, step_processors, step_fetch, step_slice, step_spaces, step_space, step_sem, step_absent, step_first_program, step_program, step_instr as step_by_instr, step_evict, step_first_turn, step_turn, step_first_close, step_close, after_sem, after_instr}
+use Rattle.sa_workload.specs.Steps.{Steps, with_sem, expected, step_version, step_processors, step_fetch, step_slice, step_spaces, step_space, step_sem, step_absent, step_first_program, step_program, step_instr as step_by_instr, step_evict, step_first_turn, step_turn, step_first_close, step_close, after_sem, after_instr}
 use Rattle.sa_workload.specs.Next.{numbers_at, fields_of, is_full, last_numbers, last_of, evict_numbers, draft_from, evict_from, turn_from, is_end, step, step_instr, next_by, is_last_impatient}
 use Rattle.sa_workload.proofs.fields.FieldLemmas.{if_either, and_then-ok, contained, line-ok, Passes, spelled_all, AllPass, within-passes, declared-passes}
 use Rattle.sa_workload.proofs.fields.InstrLemmas.{instr-read}
 use Rattle.sa_workload.proofs.forward.Fronts.{last_is, all_true}
 use Rattle.sa_workload.proofs.forward.Orders.{before_heads, order-none, evict_before}
-use Rattle.sa_workload.proofs.forward.Reached.{can_slice, no_spaces, reached-after_sem, reached-sem, reached-absent, nothing_begun, reached-instr, reached-evict, more_turns, reached-closed}
+use Rattle.sa_workload.proofs.forward.Reached.{can_slice, no_spaces, reached-after_sem, redrafted, rise-push, nothing_begun, reached-instr, reached-evict, more_turns, reached-closed}
 
 -- what holds of each of some words holds of the one that is found among them
 pub by_word : (ks : List (List ℕ)) (word : List ℕ) (G : List ℕ → Type 0) → AllByRecursion G ks → is_some (index_of word ks) ≡ true → G word
@@ -207,10 +207,27 @@ lands versions three (AtSpaces v k f s) word r = among versions (AtSpaces v k f 
   tt,
 )
 lands versions three (AtSpace m spaces) word r = among versions (AtSpace m spaces) word (space_goes versions m spaces r, tt)
-lands versions three (AtSem m spaces d) word r =
-    among versions (AtSem m spaces d) word (between _ 0 MAX_START (λ n a room order. record { step = step_sem m spaces d n; reached = reached-sem versions m spaces d n r a.1 }), tt)
+lands versions three (AtSem m spaces d) word r = among versions (AtSem m spaces d) word (
+  between _ 0 MAX_START (λ n a room order. record {
+    step = step_sem m spaces d n;
+    reached = reached-after_sem versions m spaces (with_sem d n) r.0 r.1
+        (redrafted m spaces d (d.sems ++ n ∷ []) d.absent d.programs r.2 (omega (arith, length_push d.sems n, r.3))
+        (All-push (λ start. start ≤ MAX_START) d.sems n r.2.starts a.1) r.2.pages r.2.absent_rise r.2.programs r.2.each r.2.names) r.4 r.5;
+  }),
+  tt,
+)
 lands versions three (AtAbsent m spaces d) word r = among versions (AtAbsent m spaces d) word (
-  between _ 0 LAST_PAGE (λ n a room order. record { step = step_absent m spaces d n; reached = reached-absent versions m spaces d n r a.1 (above_last d.absent n order) }),
+  between _ 0 LAST_PAGE (λ n a room order. record {
+    step = step_absent m spaces d n;
+    reached = (
+      r.0,
+      r.1,
+      redrafted m spaces d d.sems (d.absent ++ n ∷ []) d.programs r.2 r.2.sems r.2.starts (All-push (λ page. page ≤ LAST_PAGE) d.absent n r.2.pages a.1)
+          (rise-push (λ (a b : ℕ). a < b) d.absent n 0 r.2.absent_rise (above_last d.absent n order)) r.2.programs r.2.each r.2.names,
+      r.3,
+      r.4,
+    );
+  }),
   (
     between _ 1 MAX_INSTRUCTIONS (λ n a room order. record {
       step = step_first_program m spaces d n;

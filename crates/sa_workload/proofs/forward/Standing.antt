@@ -1,5 +1,5 @@
 -- Where a reader stands behind lines: what it keeps, and which words it expects.
-use Rattle.std.proofs.Common.{◌≡◌, ◌⊎◌, ℕ, ◌≤◌, not, Bool, true, false, List, [], ◌∷◌, ◌++◌, Contains, Result, Ok, codes, refl, sym, ap, ◌∙◌, subst, inl, inr, arith, append_assoc, eqb, if◌then◌else◌}
+use Rattle.std.proofs.Common.{◌≡◌, ◌⊎◌, ℕ, ◌≤◌, not, Bool, true, false, List, [], ◌∷◌, ◌++◌, Contains, Result, Ok, codes, refl, sym, ap, ◌∙◌, subst, inl, inr, arith, append_assoc}
 use Rattle.std.specs.Option.{is_some}
 use Rattle.std.specs.List.{list_all}
 use Rattle.std.proofs.lemmas.Bool.{false≢true}
@@ -9,7 +9,6 @@ use Rattle.sa_instr.specs.declared.operation.Operation.{Operation}
 use Rattle.sa_instr.specs.declared.operation.Operation.TheVariants as Operations
 use Rattle.sa_instr.specs.Operation.{form_of}
 use Rattle.sa_instr.specs.Parts.{parts_of}
-use Rattle.sa_spaces.specs.Space.{SpaceView}
 use Rattle.sa_spaces.specs.Workload.{WorkloadView, IsWorkload}
 use Rattle.sa_workload.specs.Text.{version_of, workload_lines}
 use Rattle.sa_workload.specs.Bad.{IsUpTo, Begins, MayFollow, IsRightWord, instr_words, repeated_words, first_word, last_line}
@@ -22,7 +21,7 @@ use Rattle.sa_workload.proofs.forward.ShownStep.{shown-step}
 use Rattle.sa_workload.proofs.forward.Completion.{completes}
 use Rattle.sa_workload.proofs.forward.Says.{Heard, heard, heard-push, Says, says-next, last_line-push}
 use Rattle.sa_workload.proofs.forward.Sound.{took, GoesTo, sound}
-use Rattle.sa_workload.proofs.forward.Complete.{version-low, run, run-append, run-then, complete}
+use Rattle.sa_workload.proofs.forward.Complete.{version_is, run, run-append, run-then, complete}
 
 -- behind a line with one of the repeated words the word is expected again
 abbrev Repeats : Position → List ℕ → Type 0
@@ -75,13 +74,8 @@ pub record Setting (versions : ℕ) : Type 0 where
   pub one : 1 ≤ versions
   pub few : versions ≤ 3
 
-at_most_3 : (all none : Bool) → (if all then (if none then 1 else 2) else 3) ≤ 3
-at_most_3 true true = omega arith
-at_most_3 true false = omega arith
-at_most_3 false none = omega arith
-
 pub version_of-le : (w : WorkloadView) → version_of w ≤ 3
-version_of-le w = at_most_3 (list_all (λ (s : SpaceView). eqb s.patience 1) w.spaces) (eqb w.slice 0)
+version_of-le w = (version_is w).range.1
 
 pub any : Setting 3
 any = record { one = omega arith; few = omega arith }
@@ -97,7 +91,7 @@ pub of_first : (w : WorkloadView) → IsWorkload w → version_of w ≡ 1 → Is
 of_first w ok one = record { workload = ok; version = omega (arith, one) }
 
 pub is_first : (w : WorkloadView) → version_of w ≤ 1 → version_of w ≡ 1
-is_first w low = omega (arith, version-low w)
+is_first w low = omega (arith, (version_is w).range.0)
 
 -- a line with which some text goes on leads on
 pub begins-next : (versions : ℕ) → Setting versions → (p : Position) (line : List (List ℕ)) → IsAt versions p → Begins versions (shown p ++ line ∷ [])
