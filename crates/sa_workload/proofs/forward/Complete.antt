@@ -3,7 +3,7 @@ use Rattle.std.proofs.Common.{◌≡◌, ◌≢◌, ℕ, ◌+◌, ◌-◌, ◌<�
 use Rattle.std.specs.Option.{is_some, option_map}
 use Rattle.std.specs.List.{flat_map, list_all}
 use Rattle.std.proofs.Math.Seq.{get_or-append_seam}
-use Rattle.std.proofs.lemmas.Bool.{cond-true, cond-false, false≢true, eqb-false, false_from_ne_true}
+use Rattle.std.proofs.lemmas.Bool.{lt-leb, cond-true, cond-false, false≢true, eqb-false}
 use Rattle.std.proofs.lemmas.List.{get_or_append_left}
 use Rattle.std.proofs.lemmas.List.Elements.{All-push}
 use Rattle.std.proofs.lemmas.Option.{same_Some}
@@ -45,9 +45,6 @@ by_tests false none = record { range = (omega arith, omega arith); usual = λ n.
 
 pub version_is : (w : WorkloadView) → IsVersion (version_of w) (list_all (λ (s : SpaceView). eqb s.patience 1) w.spaces) (eqb w.slice 0)
 version_is w = by_tests (list_all (λ (s : SpaceView). eqb s.patience 1) w.spaces) (eqb w.slice 0)
-
-lt_leb : (n limit : ℕ) → n < limit → leb limit n ≡ false
-lt_leb n limit h = false_from_ne_true (leb limit n) (λ t. let l : limit ≤ n = leb-true limit n t in absurd (omega arith))
 
 -- what a line of right numbers leads to
 pub take-line : (versions : ℕ) (p : Position) (word : List ℕ) (ns : List ℕ) (q : Position) → is_some (index_of word (expected p)) ≡ true → is_full p word ≡ false
@@ -365,7 +362,7 @@ module _ (versions : ℕ) (w : WorkloadView) (h : IsWorkload w) where
           → Runs versions (AtEvict (machine_in w) w.spaces done) (evict_line e ∷ []) (AtEvict (machine_in w) w.spaces (done ++ e ∷ []))
       each done e at =
           let is : IsEviction (length w.spaces) e = here at (IsEviction (length w.spaces)) h.evictions in
-          taken (codes "evict") (evict_numbers e) refl (lt_leb (length done) MAX_EVICTIONS (omega (arith, before at, h.few_evictions))) (
+          taken (codes "evict") (evict_numbers e) refl (lt-leb MAX_EVICTIONS (length done) (omega (arith, before at, h.few_evictions))) (
             passes-within 1 MAX_EVENTS e.event is.first is.last (omega arith),
             (passes-declared (length w.spaces) e.space.0 is.space (omega (arith, h.few_spaces)), (passes-within 0 LAST_PAGE e.page (omega arith) is.page (omega arith), tt)),
           )
@@ -382,7 +379,7 @@ module _ (versions : ℕ) (w : WorkloadView) (h : IsWorkload w) where
       each : (done : List ProcNo) (t : ProcNo) → Among w.turns done t → Runs versions (turns_at w done) (turn_line t ∷ []) (turns_at w (done ++ t ∷ []))
       each [] t at = taken (codes "turn") (t.0 ∷ []) refl refl (pass [] t at) refl refl
       each (u ∷ us) t at =
-          taken (codes "turn") (t.0 ∷ []) refl (lt_leb (length (u ∷ us)) MAX_TURNS (omega (arith, before at, h.few_turns))) (pass (u ∷ us) t at) refl refl
+          taken (codes "turn") (t.0 ∷ []) refl (lt-leb MAX_TURNS (length (u ∷ us)) (omega (arith, before at, h.few_turns))) (pass (u ∷ us) t at) refl refl
 
   close_run : (ts : List ProcNo) → w.turns ≡ ts → Runs versions (turns_at w ts) ((codes "close" ∷ []) ∷ []) (Closed w)
   close_run [] e = taken (codes "close") [] refl refl tt refl (ap (λ (ts : List ProcNo). Ok (Closed (record w { turns = ts }))) (sym e))

@@ -5,7 +5,7 @@ use Rattle.std.proofs.lemmas.List.{length_push, get_or_append_left, get_or_push}
 use Rattle.std.proofs.lemmas.List.Elements.{All-nil, All-push}
 use Rattle.std.specs.List.Sorted.{IsStrictlyIncreasing}
 use Rattle.std.proofs.lemmas.Option.{slice_get-get_or}
-use Rattle.sa_instr.specs.declared.limits.TheConstants.{LAST_PAGE, MAX_EVICTIONS, MAX_INSTRUCTIONS, MAX_SLICE, MAX_START, MAX_TURNS}
+use Rattle.sa_instr.specs.declared.limits.TheConstants.{LAST_PAGE, MAX_INSTRUCTIONS, MAX_SLICE, MAX_START, MAX_TURNS}
 use Rattle.sa_base.specs.declared.number.ProcNo.{ProcNo}
 use Rattle.sa_instr.specs.declared.instr.Instr.{Instr}
 use Rattle.sa_instr.specs.declared.instr.Instr.TheVariants.{End}
@@ -13,7 +13,7 @@ use Rattle.sa_spaces.specs.declared.workload.Evict.{Evict}
 use Rattle.sa_instr.specs.Instr.{IsInRange, JumpsBelow, NamesDeclared}
 use Rattle.sa_instr.specs.Program.{IsProgram}
 use Rattle.sa_spaces.specs.Space.{SpaceView, IsSpace}
-use Rattle.sa_spaces.specs.Workload.{IsEviction, IsBefore}
+use Rattle.sa_spaces.specs.Workload.{IsEviction}
 use Rattle.sa_workload.specs.Position.{Machine, Draft, Position, AtSpace, AtSem, AtAbsent, AtProgram, AtInstr, AtEvict, Closed, CanSlice, IsMachine, AreSpaces, IsDraft, IsBegun, AreEvictions, AreTurns, IsReached}
 use Rattle.sa_workload.specs.Steps.{workload, space_of_draft, with_program, after_sem, after_spaces, after_program, after_instr}
 use Rattle.sa_workload.proofs.forward.Fronts.{All-front, All-last}
@@ -201,21 +201,6 @@ reached-instr versions m spaces d len instrs i r range jump name last =
         let room : length instrs < len = r.5.room in
         let all = begun_more d len instrs i r.5 range jump name in
         (r.0, r.1, r.2, r.3, r.4, record { short = r.5.short; room = omega (arith, l); ranges = all.0; jumps = all.1; names = all.2 })
-
-pub reached-evict : (versions : ℕ) (m : Machine) (spaces : List SpaceView) (evictions : List Evict) (e : Evict)
-    → IsReached versions (AtEvict m spaces evictions) → IsEviction m.count e → length evictions < MAX_EVICTIONS
-    → ((d : Evict) → 0 < length evictions → IsBefore (get_or evictions (length evictions - 1) d) e)
-    → IsReached versions (AtEvict m spaces (evictions ++ e ∷ []))
-reached-evict versions m spaces evictions e r h few last = (
-  r.0,
-  r.1,
-  r.2,
-  record {
-    few = omega (arith, length_push evictions e);
-    each = All-push (IsEviction m.count) evictions e r.3.each h;
-    rise = λ k d b. rise-push IsBefore evictions e d (λ j. r.3.rise j d) (last d) k b;
-  },
-)
 
 pub more_turns : (m : Machine) (turns : List ProcNo) (p : ProcNo) → AreTurns m turns → p.0 < m.processors → length turns < MAX_TURNS → AreTurns m (turns ++ p ∷ [])
 more_turns m turns p t h few =

@@ -11,6 +11,7 @@ use Rattle.sa_instr.specs.declared.instr.Instr.{Instr}
 use Rattle.sa_instr.specs.declared.instr.Instr.TheVariants.{End}
 use Rattle.sa_spaces.specs.declared.workload.Evict.{Evict}
 use Rattle.sa_spaces.specs.Space.{SpaceView}
+use Rattle.sa_spaces.specs.Workload.{IsEviction, IsBefore}
 use Rattle.sa_workload.specs.Text.{instr_line}
 use Rattle.sa_workload.specs.Bad.{Field, within, declared, list_lt, instr_words}
 use Rattle.sa_workload.specs.Fields.{order_cause, line_numbers, index_of}
@@ -21,7 +22,7 @@ use Rattle.sa_workload.proofs.fields.FieldLemmas.{if_either, and_then-ok, contai
 use Rattle.sa_workload.proofs.fields.InstrLemmas.{instr-read}
 use Rattle.sa_workload.proofs.forward.Fronts.{last_is, all_true}
 use Rattle.sa_workload.proofs.forward.Orders.{before_heads, order-none, evict_before}
-use Rattle.sa_workload.proofs.forward.Reached.{can_slice, no_spaces, reached-after_sem, redrafted, rise-push, nothing_begun, reached-instr, reached-evict, more_turns, reached-closed}
+use Rattle.sa_workload.proofs.forward.Reached.{can_slice, no_spaces, reached-after_sem, redrafted, rise-push, nothing_begun, reached-instr, more_turns, reached-closed}
 
 -- what holds of each of some words holds of the one that is found among them
 pub by_word : (ks : List (List ℕ)) (word : List ℕ) (G : List ℕ → Type 0) → AllByRecursion G ks → is_some (index_of word ks) ≡ true → G word
@@ -168,11 +169,18 @@ evict_goes versions m spaces es r =
     let this : Evict = evict_from (a ∷ b ∷ c ∷ []) in
     record {
       step = step_evict m spaces es this;
-      reached = reached-evict versions m spaces es this r (record { first = event.0; last = event.1; space = declared-passes m.count b hb; page = page.1 })
-          (not_full MAX_EVICTIONS (length es) room)
-          (λ d some. evict_before (get_or es (length es - 1) d) this
-          (order-none (evict_numbers (get_or es (length es - 1) d)) (a ∷ b ∷ c ∷ []) refl
-          (ap (λ (l : Option Evict). order_cause (option_map evict_numbers l) (a ∷ b ∷ c ∷ [])) (sym (last_is es d some)) ∙ order)));
+      reached = (
+        r.0,
+        r.1,
+        r.2,
+        record {
+          few = omega (arith, length_push es this, not_full MAX_EVICTIONS (length es) room);
+          each = All-push (IsEviction m.count) es this r.3.each (record { first = event.0; last = event.1; space = declared-passes m.count b hb; page = page.1 });
+          rise = λ k d. rise-push IsBefore es this d (λ j. r.3.rise j d) (λ some. evict_before (get_or es (length es - 1) d) this
+              (order-none (evict_numbers (get_or es (length es - 1) d)) (a ∷ b ∷ c ∷ []) refl
+              (ap (λ (l : Option Evict). order_cause (option_map evict_numbers l) (a ∷ b ∷ c ∷ [])) (sym (last_is es d some)) ∙ order))) k;
+        },
+      );
     })))
 
 among : (versions : ℕ) (p : Position) (word : List ℕ) → AllByRecursion (Sound versions p) (expected p) → is_some (index_of word (expected p)) ≡ true → Sound versions p word
