@@ -20,7 +20,7 @@ use Rattle.sa_spaces.specs.declared.workload.Evict.{Evict}
 use Rattle.sa_spaces.specs.Space.{SpaceView, IsSpace}
 use Rattle.sa_spaces.specs.Workload.{WorkloadView, IsWorkload, IsEviction, IsBefore}
 use Rattle.sa_workload.specs.Text.{instr_line, program_lines, sem_line, absent_line, space_line, space_lines, evict_line, turn_line, version_of, machine_lines, closing_lines, workload_lines}
-use Rattle.sa_workload.specs.Bad.{within, list_lt}
+use Rattle.sa_workload.specs.Bad.{Field, within, list_lt}
 use Rattle.sa_workload.specs.Fields.{and_then, order_cause, line_numbers, index_of}
 use Rattle.sa_workload.specs.Position.{Machine, Draft, Position, AtVersion, AtSlice, AtSpaces, AtSpace, AtAbsent, AtInstr, AtEvict, AtTurn, Closed}
 use Rattle.sa_workload.specs.Steps.{expected, after_sem, after_spaces, after_program, after_instr, with_program}
@@ -226,7 +226,8 @@ programs_run versions m spaces s h =
         → Runs versions (AtAbsent m spaces (pages_draft s)) (flat_map program_lines s.programs) (after_spaces m (spaces ++ s ∷ []))
     whole [] e r = absurd (omega (arith, ap length e, h.some_program))
     whole (p ∷ ps) e r =
-        full (length s.programs) _ (subst (λ (qs : List (List Instr)). Runs versions (AtAbsent m spaces (pages_draft s)) (flat_map program_lines s.programs) (after_program m spaces (record (pages_draft s) { programs = qs }))) (sym e) r)
+        full (length s.programs) _ (subst (λ (qs : List (List Instr)). Runs versions (AtAbsent m spaces (pages_draft s)) (flat_map program_lines s.programs)
+        (after_program m spaces (record (pages_draft s) { programs = qs }))) (sym e) r)
 
     first : (done : List (List Instr)) (p : List Instr) → Among s.programs done p → (1 ≤ length p) × (length p ≤ MAX_INSTRUCTIONS)
         → Runs versions (programs_at m spaces s done) ((codes "program" ∷ decimal (length p) ∷ []) ∷ []) (AtInstr m spaces (record (pages_draft s) { programs = done }) (length p) [])
@@ -263,6 +264,16 @@ patience true true k range one other =
 patience true false k range one other = ((passes-within 1 MAX_PATIENCE k range.0 range.1 (omega arith), tt), refl, refl)
 patience false need k range one other = (tt, refl, sym (one refl))
 
+-- the numbers of that line
+pub space_pass : (fs : List Field) (a b c d e : ℕ) (ns : List ℕ) → a ≤ MAX_PRIORITY → b ≤ MAX_MUTEXES → c ≤ MAX_SEMAPHORES → d ≤ MAX_CELLS → 1 ≤ e → e ≤ MAX_PROGRAMS → AllPass fs ns
+    → AllPass (within 0 MAX_PRIORITY ∷ within 0 MAX_MUTEXES ∷ within 0 MAX_SEMAPHORES ∷ within 0 MAX_CELLS ∷ within 1 MAX_PROGRAMS ∷ fs) (a ∷ b ∷ c ∷ d ∷ e ∷ ns)
+space_pass fs a b c d e ns ha hb hc hd low high rest =
+    let pass_a = passes-within 0 MAX_PRIORITY a (omega arith) ha (omega arith) in
+    let pass_b = passes-within 0 MAX_MUTEXES b (omega arith) hb (omega arith) in
+    let pass_c = passes-within 0 MAX_SEMAPHORES c (omega arith) hc (omega arith) in
+    let pass_d = passes-within 0 MAX_CELLS d (omega arith) hd (omega arith) in
+    (pass_a, (pass_b, (pass_c, (pass_d, (passes-within 1 MAX_PROGRAMS e low high (omega arith), rest)))))
+
 space_first : (versions : ℕ) (m : Machine) (spaces : List SpaceView) (s : SpaceView) → IsSpace s → FitsPatience m spaces s
     → Runs versions (AtSpace m spaces) (space_line m.version s ∷ []) (after_sem m spaces (first_draft s))
 space_first versions m spaces s h fits =
@@ -270,11 +281,9 @@ space_first versions m spaces s h fits =
     let last = patience own (is_last_impatient m spaces) s.patience (h.patient, h.patience) (λ e. fits.0 (eqb-false m.version 3 e)) (λ e. fits.1 (eqb-true m.version 3 e)) in
     subst (λ (ws : List (List ℕ)). Runs versions (AtSpace m spaces)
     ((codes "space" ∷ decimal s.priority ∷ decimal s.mutexes ∷ decimal (length s.sems) ∷ decimal s.cells ∷ decimal (length s.programs) ∷ ws) ∷ []) (after_sem m spaces (first_draft s))) last.1
-    (taken (codes "space") (s.priority ∷ s.mutexes ∷ length s.sems ∷ s.cells ∷ length s.programs ∷ (if own then s.patience ∷ [] else [])) refl refl (
-      passes-within 0 MAX_PRIORITY s.priority (omega arith) h.priority (omega arith),
-      (passes-within 0 MAX_MUTEXES s.mutexes (omega arith) h.mutexes (omega arith), (passes-within 0 MAX_SEMAPHORES (length s.sems) (omega arith) h.sems (omega arith),
-      (passes-within 0 MAX_CELLS s.cells (omega arith) h.cells (omega arith), (passes-within 1 MAX_PROGRAMS (length s.programs) h.some_program h.few_programs (omega arith), last.0)))),
-    ) refl (ap (λ (k : ℕ). Ok (after_sem m spaces (record (first_draft s) { patience = k }))) last.2))
+    (taken (codes "space") (s.priority ∷ s.mutexes ∷ length s.sems ∷ s.cells ∷ length s.programs ∷ (if own then s.patience ∷ [] else [])) refl refl
+    (space_pass _ s.priority s.mutexes (length s.sems) s.cells (length s.programs) _ h.priority h.mutexes h.sems h.cells h.some_program h.few_programs last.0)
+    refl (ap (λ (k : ℕ). Ok (after_sem m spaces (record (first_draft s) { patience = k }))) last.2))
 
 space_run : (versions : ℕ) (m : Machine) (spaces : List SpaceView) (s : SpaceView) → IsSpace s → FitsPatience m spaces s
     → Runs versions (AtSpace m spaces) (space_lines m.version s) (after_spaces m (spaces ++ s ∷ []))

@@ -4,7 +4,7 @@ use Rattle.std.specs.Option.{is_some}
 use Rattle.std.proofs.lemmas.Bool.{cond_both}
 use Rattle.std.proofs.lemmas.List.{length_push}
 use Rattle.sa_base.specs.declared.limits.TheConstants.{MAX_PROCESSORS, MAX_SPACES}
-use Rattle.sa_instr.specs.declared.limits.TheConstants.{MAX_CELLS, MAX_FETCH, MAX_INSTRUCTIONS, MAX_MUTEXES, MAX_PATIENCE, MAX_PRIORITY, MAX_PROGRAMS, MAX_SEMAPHORES, MAX_SLICE, MAX_START}
+use Rattle.sa_instr.specs.declared.limits.TheConstants.{MAX_FETCH, MAX_INSTRUCTIONS, MAX_PATIENCE, MAX_SLICE, MAX_START}
 use Rattle.sa_instr.specs.declared.instr.Instr.{Instr}
 use Rattle.sa_instr.specs.declared.instr.Instr.TheVariants.{Compute, End}
 use Rattle.sa_spaces.specs.Space.{SpaceView}
@@ -17,7 +17,7 @@ use Rattle.sa_workload.specs.Next.{fields_of, is_full, last_numbers, draft_from,
 use Rattle.sa_workload.proofs.fields.FieldLemmas.{AllPass, passes-within}
 use Rattle.sa_workload.proofs.forward.ShownStep.{shown-step}
 use Rattle.sa_workload.proofs.forward.Sound.{GoesTo, took, sound}
-use Rattle.sa_workload.proofs.forward.Complete.{take-line}
+use Rattle.sa_workload.proofs.forward.Complete.{take-line, space_pass}
 
 -- lines that begin a text, begin it with fewer of them
 pub begins_front : (versions : ℕ) (xs ys : List (List (List ℕ))) → Begins versions (xs ++ ys) → Begins versions xs
@@ -117,12 +117,9 @@ module _ (versions : ℕ) (one : 1 ≤ versions) (three : versions ≤ 3) where
       by_line versions (AtSpaces v n f s) (codes "spaces") (1 ∷ []) (AtSpace _ []) refl refl (passes-within 1 MAX_SPACES 1 (omega arith) (omega arith) (omega arith), tt) refl refl (omega arith)
   nearer (AtSpace m spaces) l r =
       let ns : List ℕ = 0 ∷ 0 ∷ 0 ∷ 0 ∷ 1 ∷ (if m.version == 3 then 2 ∷ [] else []) in
-      by_line versions (AtSpace m spaces) (codes "space") ns (after_sem m spaces (draft_from m ns)) refl refl (
-        passes-within 0 MAX_PRIORITY 0 (omega arith) (omega arith) (omega arith),
-        (passes-within 0 MAX_MUTEXES 0 (omega arith) (omega arith) (omega arith), (passes-within 0 MAX_SEMAPHORES 0 (omega arith) (omega arith) (omega arith),
-        (passes-within 0 MAX_CELLS 0 (omega arith) (omega arith) (omega arith), (passes-within 1 MAX_PROGRAMS 1 (omega arith) (omega arith) (omega arith),
-        patience (m.version == 3) (is_last_impatient m spaces))))),
-      ) refl refl (omega (arith, left-after_sem m spaces (draft_from m ns), r.2))
+      by_line versions (AtSpace m spaces) (codes "space") ns (after_sem m spaces (draft_from m ns)) refl refl
+      (space_pass _ 0 0 0 0 1 _ (omega arith) (omega arith) (omega arith) (omega arith) (omega arith) (omega arith) (patience (m.version == 3) (is_last_impatient m spaces)))
+      refl refl (omega (arith, left-after_sem m spaces (draft_from m ns), r.2))
   nearer (AtSem m spaces d) l r =
       by_line versions (AtSem m spaces d) (codes "sem") (0 ∷ []) (after_sem m spaces (with_sem d 0)) refl refl (passes-within 0 MAX_START 0 (omega arith) (omega arith) (omega arith), tt) refl refl
       (omega (arith, left-after_sem m spaces (with_sem d 0), length_push d.sems 0, r.3))

@@ -97,7 +97,8 @@ space_goes versions m spaces r (a ∷ b ∷ c ∷ d ∷ []) h = absurd h.1.1.1.1
 space_goes versions m spaces r (a ∷ b ∷ c ∷ d ∷ g ∷ rest) h = λ room order.
     let patience = patience_of (m.version == 3) (if is_last_impatient m spaces then 2 else 1) rest (low_some (is_last_impatient m spaces)) h.1.1.1.1.1 in
     let draft : Draft = draft_from m (a ∷ b ∷ c ∷ d ∷ g ∷ rest) in
-    subst (λ (ws : List (List ℕ)). GoesTo versions (AtSpace m spaces) (codes "space" ∷ decimal a ∷ decimal b ∷ decimal c ∷ decimal d ∷ decimal g ∷ ws) (after_sem m spaces draft)) (sym patience.0) (record {
+    subst (λ (ws : List (List ℕ)). GoesTo versions (AtSpace m spaces)
+    (codes "space" ∷ decimal a ∷ decimal b ∷ decimal c ∷ decimal d ∷ decimal g ∷ ws) (after_sem m spaces draft)) (sym patience.0) (record {
       step = step_space m spaces draft (refl, refl, refl);
       reached = reached-after_sem versions m spaces draft r.0 r.1 (record {
         room = r.2;
@@ -141,7 +142,8 @@ instr_goes : (versions : ℕ) (m : Machine) (spaces : List SpaceView) (d : Draft
     → IsReached versions (AtInstr m spaces d len instrs) → is_some (index_of word instr_words) ≡ true → Sound versions (AtInstr m spaces d len instrs) word
 instr_goes versions m spaces d len instrs word r known ns pass room order =
     let i = instr-read versions (numbers_at (AtInstr m spaces d len instrs)) word ns known pass in
-    subst (λ (o : Option Instr). Lands versions (AtInstr m spaces d len instrs) (word ∷ spelled_all (fields_of versions (AtInstr m spaces d len instrs) word) ns) (step_instr m spaces d len instrs o)) (sym i.is)
+    subst (λ (o : Option Instr). Lands versions (AtInstr m spaces d len instrs)
+    (word ∷ spelled_all (fields_of versions (AtInstr m spaces d len instrs) word) ns) (step_instr m spaces d len instrs o)) (sym i.is)
     (subst (λ (l : List (List ℕ)). Lands versions (AtInstr m spaces d len instrs) l (step_instr m spaces d len instrs (Some i.instr))) i.line
     (cond_both ((length instrs + 1 == len) && not (is_end i.instr)) (Err 9) (Ok (after_instr m spaces d len (instrs ++ i.instr ∷ [])))
     (Lands versions (AtInstr m spaces d len instrs) (instr_line i.instr)) (λ _. tt) (λ fine. record {
