@@ -6,6 +6,7 @@ use Rattle.std.proofs.Math.Seq.{get_or-append_seam}
 use Rattle.std.proofs.lemmas.Bool.{lt-leb, cond-true, cond-false, false≢true, eqb-false}
 use Rattle.std.proofs.lemmas.List.{get_or_append_left}
 use Rattle.std.proofs.lemmas.List.Elements.{All-push}
+use Rattle.std.proofs.lemmas.List.{nil_from_length}
 use Rattle.std.proofs.lemmas.Option.{same_Some}
 use Rattle.sa_base.specs.declared.limits.TheConstants.{MAX_EVENTS, MAX_PROCESSORS, MAX_SPACES}
 use Rattle.sa_instr.specs.declared.limits.TheConstants.{LAST_PAGE, MAX_CELLS, MAX_EVICTIONS, MAX_FETCH, MAX_INSTRUCTIONS, MAX_MUTEXES, MAX_PATIENCE, MAX_PRIORITY, MAX_PROGRAMS, MAX_SEMAPHORES, MAX_SLICE, MAX_START, MAX_TURNS}
@@ -348,15 +349,11 @@ module _ (versions : ℕ) (w : WorkloadView) (h : IsWorkload w) where
       own done s at v need one =
           let b = both_true (leb (length w.spaces) (length done + 1)) (list_all (λ (t : SpaceView). eqb t.patience 1) done) need in
           let few : length w.spaces ≤ length done + 1 = leb-true (length w.spaces) (length done + 1) b.0 in
-          let last : at.rest ≡ [] = nothing at.rest (omega (arith, ap length at.is, length-append done (s ∷ at.rest))) in
+          let last : at.rest ≡ [] = nil_from_length at.rest (omega (arith, ap length at.is, length-append done (s ∷ at.rest))) in
           let all : All (λ (t : SpaceView). t.patience ≡ 1) (done ++ s ∷ []) = All-push (λ (t : SpaceView). t.patience ≡ 1) done s (true_all (λ (t : SpaceView). t.patience) 1 done b.1) one in
           let whole : list_all (λ (t : SpaceView). eqb t.patience 1) w.spaces ≡ true =
           ap (λ (xs : List SpaceView). list_all (λ (t : SpaceView). eqb t.patience 1) xs) (at.is ∙ ap (λ (xs : List SpaceView). done ++ s ∷ xs) last) ∙ all_true (λ (t : SpaceView). t.patience) 1 (done ++ s ∷ []) all in
           false≢true (sym ((version_is w).own v) ∙ whole)
-        where
-          nothing : (xs : List SpaceView) → length xs ≤ 0 → xs ≡ []
-          nothing [] l = refl
-          nothing (x ∷ xs) l = absurd (omega arith)
 
       each : (done : List SpaceView) (s : SpaceView) → Among w.spaces done s
           → Runs versions (after_spaces (machine_in w) done) (space_lines (version_of w) s) (after_spaces (machine_in w) (done ++ s ∷ []))
