@@ -88,6 +88,7 @@ chain {versions} {p} {q} {r} {xs} {ys} a b = record { is = run-then versions p q
 one : {versions : ℕ} {p q r : Position} {x : List (List ℕ)} {ys : List (List (List ℕ))} → Runs versions p (x ∷ []) q → Runs versions q ys r → Runs versions p (x ∷ ys) r
 one a b = chain a b
 
+-- a line of right numbers
 taken : {versions : ℕ} {p q : Position} (word ns : List ℕ) → is_some (index_of word (expected p)) ≡ true → is_full p word ≡ false
     → AllPass (fields_of versions p word) ns → order_cause (last_numbers p word) ns ≡ None → step p word ns ≡ Ok q
     → Runs versions p ((word ∷ spelled_all (fields_of versions p word) ns) ∷ []) q
@@ -109,6 +110,7 @@ record Among {X : Type 0} (all done : List X) (x : X) : Type 0 where
   rest : List X
   is : all ≡ done ++ x ∷ rest
 
+-- what holds of all elements holds of it, and it stands before the end
 here : {X : Type 0} {all done : List X} {x : X} → Among all done x → (P : X → Type 0) → All P all → P x
 here {X} {all} {done} {x} m P h =
     subst P (get_or-append_seam done x m.rest x) (subst (All P) m.is h (length done) x (omega (arith, length-append done (x ∷ m.rest))))

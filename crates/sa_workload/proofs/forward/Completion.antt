@@ -102,6 +102,7 @@ slice true = omega arith
 slice false = omega arith
 
 module _ (versions : ℕ) (one : 1 ≤ versions) (three : versions ≤ 3) where
+  -- each reached position but the last has such a line
   pub nearer : (p : Position) → 0 < left p → IsReached versions p → Nearer versions p
   nearer AtVersion l r =
       by_line versions AtVersion (codes "workload") (1 ∷ []) (AtProcessors 1) refl refl (passes-within 1 versions 1 (omega arith) one (omega arith), tt) refl refl (omega arith)

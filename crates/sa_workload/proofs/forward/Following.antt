@@ -51,6 +51,7 @@ module _ (versions : ℕ) (s : Setting versions) where
       let n : Nearer versions p = nearer versions s.one s.few p (some_left p word known) a.reached in
       (n.word, (took versions p n.word n.others n.to n.leads).known, leads_on p n.to n.word n.others a n.leads)
 
+  -- a line of the word stands before, or the first one follows
   absent_right : (m : Machine) (spaces : List SpaceView) (d : Draft) (pages : List ℕ) → d.absent ≡ pages → IsAt versions (AtAbsent m spaces d)
       → IsRightWord versions (shown (AtAbsent m spaces d)) (codes "absent")
   absent_right m spaces d (k ∷ ks) e a =
