@@ -5,6 +5,6 @@ pub mod Reached
 pub mod Sound
 pub mod Complete
 pub mod Completion
-pub mod Following
 pub mod Says
 pub mod Standing
+pub mod Following

@@ -15,7 +15,8 @@ use Rattle.sa_workload.specs.Next.{numbers_at, is_full, last_numbers, fields_of,
 use Rattle.sa_workload.proofs.fields.FieldLemmas.{same_err, if_either, and_then-err, AllPass, line-ok}
 use Rattle.sa_workload.proofs.fields.InstrLemmas.{instr-read}
 use Rattle.sa_workload.proofs.causes.LineAt.{many-Decides, LineAt, line_at}
-use Rattle.sa_workload.proofs.forward.Standing.{IsAt, Setting, begins-next, expects, expected_words}
+use Rattle.sa_workload.proofs.forward.Following.{expects}
+use Rattle.sa_workload.proofs.forward.Standing.{IsAt, Setting, begins-next, expected_words}
 
 -- an instruction is `end` as its word is
 end_by_word : (i : Instr) → is_end i ≡ bytes_eq (first_word (instr_line i)) (codes "end")

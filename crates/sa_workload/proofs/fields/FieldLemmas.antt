@@ -196,12 +196,6 @@ all_long [] (n ∷ ns) h = absurd h
 all_long (f ∷ fs) [] h = absurd h
 all_long (f ∷ fs) (n ∷ ns) h = let r = all_long fs ns h.1 in (ap suc r.0, ap suc r.1)
 
--- the numbers of one field
-pub one_number : (f : Field) (ns : List ℕ) → AllPass (f ∷ []) ns → (n : ℕ) × (ns ≡ n ∷ []) × Passes f n
-one_number f [] h = absurd h
-one_number f (n ∷ []) h = (n, refl, h.0)
-one_number f (n ∷ m ∷ ns) h = absurd h.1
-
 -- the numbers of a whole line
 pub line-spelled : (fs : List Field) (last : Option (List ℕ)) (ns : List ℕ) → AllPass fs ns → order_cause last ns ≡ None → line_numbers fs last (spelled_all fs ns) ≡ Ok ns
 line-spelled fs last ns h o =

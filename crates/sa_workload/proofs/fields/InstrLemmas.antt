@@ -1,6 +1,7 @@
 -- Instructions by operation and operands: what is read from their lines, and back.
-use Rattle.std.proofs.Common.{◌≡◌, ℕ, suc, ◌-◌, ◌^◌, ◌<◌, Bool, true, false, List, [], ◌∷◌, ◌++◌, length, get_or, map, Option, Some, None, IsSome, codes, decimal, refl, sym, ap, ap₂, ◌∙◌, subst, arith, lt-ltb}
+use Rattle.std.proofs.Common.{◌≡◌, ℕ, suc, ◌-◌, ◌^◌, ◌<◌, true, false, List, [], ◌∷◌, ◌++◌, length, get_or, map, Option, Some, None, IsSome, codes, decimal, refl, sym, ap, ap₂, ◌∙◌, subst, arith, lt-ltb}
 use Rattle.std.specs.Option.{is_some}
+use Rattle.std.proofs.lemmas.Bool.{false_from_ne_true}
 use Rattle.std.proofs.lemmas.List.{get_or-map}
 use Rattle.sa_base.specs.declared.limits.TheConstants.{FIRST_THREAD_PAGE}
 use Rattle.sa_instr.specs.declared.limits.TheConstants.{LAST_PAGE, MAX_IO_LENGTH}
@@ -59,11 +60,8 @@ pub expected-operation : (word : List ℕ) → is_some (index_of word instr_word
 expected-operation word h = let c = contained instr_words word h in word_at c.0 word c.1 c.2
 
 pub no_operation : (word : List ℕ) → IsNoWord word → is_some (index_of word instr_words) ≡ false
-no_operation word none = at (is_some (index_of word instr_words)) (expected-operation word)
-  where
-    at : (b : Bool) → (b ≡ true → (o : Operation) × (word ≡ (form_of o).word)) → b ≡ false
-    at true f = let r = f refl in absurd (none r.0 (sym r.1))
-    at false f = refl
+no_operation word none =
+    false_from_ne_true (is_some (index_of word instr_words)) (λ t. let o = expected-operation word t in none o.0 (sym o.1))
 
 -- the number of an operand
 abbrev pub number_of : Operand → ℕ

@@ -1,228 +1,150 @@
 -- The lines of each reached position begin a text: it goes on with what is missing, as short as can be.
-use Rattle.std.proofs.Common.{◌≡◌, ◌≢◌, ℕ, zero, suc, ◌+◌, ◌-◌, ◌<◌, ◌≤◌, ◌==◌, if◌then◌else◌, Bool, true, false, List, [], ◌∷◌, ◌++◌, length, refl, sym, ap, subst, ◌∙◌, arith, append_assoc, append-nil, eq-eqb, ne_eqb}
-use Rattle.std.proofs.lemmas.Bool.{cond_both, cond-true, cond-false}
-use Rattle.std.specs.List.{list_all}
+use Rattle.std.proofs.Common.{◌≡◌, ℕ, zero, suc, ◌+◌, ◌*◌, ◌-◌, ◌<◌, ◌≤◌, ◌==◌, if◌then◌else◌, Bool, true, false, List, [], ◌∷◌, ◌++◌, length, None, Ok, codes, refl, sym, ap, subst, ◌∙◌, arith, append_assoc, append-nil}
+use Rattle.std.specs.Option.{is_some}
+use Rattle.std.proofs.lemmas.Bool.{cond_both}
 use Rattle.std.proofs.lemmas.List.{length_push}
-use Rattle.sa_base.specs.declared.number.ProcNo.{ProcNo}
-use Rattle.sa_instr.specs.declared.limits.TheConstants.{MAX_PATIENCE}
+use Rattle.sa_base.specs.declared.limits.TheConstants.{MAX_PROCESSORS, MAX_SPACES}
+use Rattle.sa_instr.specs.declared.limits.TheConstants.{MAX_FETCH, MAX_INSTRUCTIONS, MAX_PATIENCE, MAX_SLICE, MAX_START}
 use Rattle.sa_instr.specs.declared.instr.Instr.{Instr}
 use Rattle.sa_instr.specs.declared.instr.Instr.TheVariants.{Compute, End}
-use Rattle.sa_spaces.specs.declared.workload.Evict.{Evict}
 use Rattle.sa_spaces.specs.Space.{SpaceView}
-use Rattle.sa_spaces.specs.Workload.{WorkloadView}
-use Rattle.sa_workload.specs.Text.{version_of, workload_lines}
-use Rattle.sa_workload.specs.Bad.{Begins}
+use Rattle.sa_workload.specs.Text.{workload_lines}
+use Rattle.sa_workload.specs.Bad.{Begins, within}
+use Rattle.sa_workload.specs.Fields.{index_of, order_cause}
 use Rattle.sa_workload.specs.Position.{Machine, Draft, Position, AtVersion, AtProcessors, AtFetch, AtSlice, AtSpaces, AtSpace, AtSem, AtAbsent, AtProgram, AtInstr, AtEvict, AtTurn, Closed, shown, IsReached}
-use Rattle.sa_workload.specs.Steps.{workload, space_of_draft, with_sem, with_program, after_fetch, after_sem, after_spaces, after_program, after_instr, Steps, step_version, step_processors, step_fetch, step_slice, step_spaces, step_space, step_sem, step_first_program, step_program, step_instr, step_first_close, step_close}
+use Rattle.sa_workload.specs.Steps.{expected, workload, space_of_draft, with_sem, with_program, after_fetch, after_sem, after_spaces, after_program, after_instr}
+use Rattle.sa_workload.specs.Next.{fields_of, is_full, last_numbers, draft_from, is_last_impatient, step, next}
+use Rattle.sa_workload.proofs.fields.FieldLemmas.{AllPass, passes-within}
 use Rattle.sa_workload.proofs.forward.ShownStep.{shown-step}
-use Rattle.sa_workload.proofs.forward.Reached.{IsSpaceLine, reached-version, reached-processors, reached-fetch, reached-slice, reached-spaces, reached-space, reached-sem, reached-first_program, reached-program, reached-instr, reached-first_close, reached-close}
-
--- what each `after_` position is: with all read, and with more to come
-pub after_sem-full : (m : Machine) (spaces : List SpaceView) (d : Draft) → length d.sems ≡ d.sem_count → after_sem m spaces d ≡ AtAbsent m spaces d
-after_sem-full m spaces d e = cond-true _ _ _ (eq-eqb _ _ e)
-
-pub after_sem-more : (m : Machine) (spaces : List SpaceView) (d : Draft) → length d.sems ≢ d.sem_count → after_sem m spaces d ≡ AtSem m spaces d
-after_sem-more m spaces d ne = cond-false _ _ _ (ne_eqb _ _ ne)
-
-pub after_spaces-full : (m : Machine) (spaces : List SpaceView) → length spaces ≡ m.count → after_spaces m spaces ≡ AtEvict m spaces []
-after_spaces-full m spaces e = cond-true _ _ _ (eq-eqb _ _ e)
-
-pub after_spaces-more : (m : Machine) (spaces : List SpaceView) → length spaces ≢ m.count → after_spaces m spaces ≡ AtSpace m spaces
-after_spaces-more m spaces ne = cond-false _ _ _ (ne_eqb _ _ ne)
-
-pub after_program-full : (m : Machine) (spaces : List SpaceView) (d : Draft) → length d.programs ≡ d.program_count
-    → after_program m spaces d ≡ after_spaces m (spaces ++ space_of_draft d ∷ [])
-after_program-full m spaces d e = cond-true _ _ _ (eq-eqb _ _ e)
-
-pub after_program-more : (m : Machine) (spaces : List SpaceView) (d : Draft) → length d.programs ≢ d.program_count
-    → after_program m spaces d ≡ AtProgram m spaces d
-after_program-more m spaces d ne = cond-false _ _ _ (ne_eqb _ _ ne)
-
-pub after_instr-full : (m : Machine) (spaces : List SpaceView) (d : Draft) (len : ℕ) (instrs : List Instr) → length instrs ≡ len
-    → after_instr m spaces d len instrs ≡ after_program m spaces (with_program d instrs)
-after_instr-full m spaces d len instrs e = cond-true _ _ _ (eq-eqb _ _ e)
-
-pub after_instr-more : (m : Machine) (spaces : List SpaceView) (d : Draft) (len : ℕ) (instrs : List Instr) → length instrs ≢ len
-    → after_instr m spaces d len instrs ≡ AtInstr m spaces d len instrs
-after_instr-more m spaces d len instrs ne = cond-false _ _ _ (ne_eqb _ _ ne)
-
--- a new space with one program, and with this patience
-pub new_draft : ℕ → Draft
-new_draft k = record {
-  priority = 0;
-  mutexes = 0;
-  sem_count = 0;
-  cells = 0;
-  program_count = 1;
-  patience = k;
-  sems = [];
-  absent = [];
-  programs = [];
-}
-
--- its patience: in version 3 one of its own
-abbrev pub new_patience : Machine → ℕ
-new_patience m = if m.version == 3 then 2 else 1
-
-pub fits_space : (m : Machine) (spaces : List SpaceView) → IsSpaceLine m spaces (new_draft (new_patience m))
-unfolding new_draft
-fits_space m spaces = record {
-  fresh = (refl, refl, refl);
-  priority = omega arith;
-  mutexes = omega arith;
-  sem_count = omega arith;
-  cells = omega arith;
-  program_count = (omega arith, omega arith);
-  patience = range (m.version == 3);
-  patient = λ other. ap (λ (b : Bool). if b then 2 else 1) (ne_eqb m.version 3 other);
-  own = λ three _ _ one. let two : new_patience m ≡ 2 = ap (λ (b : Bool). if b then 2 else 1) (eq-eqb m.version 3 three) in absurd (omega arith);
-}
-  where
-    range : (b : Bool) → (1 ≤ (if b then 2 else 1)) × ((if b then 2 else 1) ≤ MAX_PATIENCE)
-    range true = (omega arith, omega arith)
-    range false = (omega arith, omega arith)
+use Rattle.sa_workload.proofs.forward.Sound.{GoesTo, took, sound}
+use Rattle.sa_workload.proofs.forward.Complete.{take-line, space_pass}
 
 -- lines that begin a text, begin it with fewer of them
 pub begins_front : (versions : ℕ) (xs ys : List (List (List ℕ))) → Begins versions (xs ++ ys) → Begins versions xs
 begins_front versions xs ys b = record { workload = b.workload; accepted = b.accepted; more = ys ++ b.more; text = b.text ∙ append_assoc xs ys b.more }
 
--- where such a position is reached, its lines begin a text
-abbrev Completes : ℕ → Position → Type 0
-Completes versions p = IsReached versions p → Begins versions (shown p)
+-- how many lines are missing at most, where each is as good as any
+abbrev left_spaces : Machine → ℕ → ℕ
+left_spaces m spaces = 3 * (m.count - spaces) + 1
+
+abbrev left_programs : Machine → List SpaceView → Draft → ℕ → ℕ
+left_programs m spaces d programs = 2 * (d.program_count - programs) + left_spaces m (length spaces + 1)
+
+abbrev pub left : Position → ℕ
+left AtVersion = 9
+left (AtProcessors v) = 8
+left (AtFetch v n) = 7
+left (AtSlice v n f) = 6
+left (AtSpaces v n f s) = 5
+left (AtSpace m spaces) = left_spaces m (length spaces)
+left (AtSem m spaces d) = d.sem_count - length d.sems + left_programs m spaces d (length d.programs)
+left (AtAbsent m spaces d) = left_programs m spaces d (length d.programs)
+left (AtProgram m spaces d) = left_programs m spaces d (length d.programs)
+left (AtInstr m spaces d len instrs) = len - length instrs + left_programs m spaces d (length d.programs + 1)
+left (Closed w) = 0
+left _ = 1
+
+left-after_sem : (m : Machine) (spaces : List SpaceView) (d : Draft)
+    → left (after_sem m spaces d) ≤ d.sem_count - length d.sems + left_programs m spaces d (length d.programs)
+left-after_sem m spaces d =
+    cond_both (length d.sems == d.sem_count) (AtAbsent m spaces d) (AtSem m spaces d)
+    (λ (q : Position). left q ≤ d.sem_count - length d.sems + left_programs m spaces d (length d.programs)) (λ _. omega arith) (λ _. omega arith)
+
+left-after_instr : (m : Machine) (spaces : List SpaceView) (d : Draft) (len : ℕ) (instrs : List Instr)
+    → left (after_instr m spaces d len instrs) ≤ len - length instrs + left_programs m spaces d (length d.programs + 1)
+left-after_instr m spaces d len instrs =
+    cond_both (length instrs == len) (after_program m spaces done) (AtInstr m spaces d len instrs) Few
+    (λ _. cond_both (length done.programs == done.program_count) (after_spaces m more) (AtProgram m spaces done) Few
+    (λ _. cond_both (length more == m.count) (AtEvict m more []) (AtSpace m more) Few (λ _. omega arith) (λ _. omega (arith, length_push spaces (space_of_draft done))))
+    (λ _. omega (arith, length_push d.programs instrs))) (λ _. omega arith)
+  where
+    done : Draft
+    done = with_program d instrs
+
+    more : List SpaceView
+    more = spaces ++ space_of_draft done ∷ []
+
+    Few : Position → Type 0
+    Few q = left q ≤ len - length instrs + left_programs m spaces d (length d.programs + 1)
+
+-- a line that leads on, nearer to the end
+pub record Nearer (versions : ℕ) (p : Position) : Type 0 where
+  pub word : List ℕ
+  pub others : List (List ℕ)
+  pub to : Position
+  pub leads : next versions p (word ∷ others) ≡ Ok to
+  pub less : left to < left p
+
+-- a line of right numbers leads nearer to the end
+by_line : (versions : ℕ) (p : Position) (word ns : List ℕ) (q : Position) → is_some (index_of word (expected p)) ≡ true → is_full p word ≡ false
+    → AllPass (fields_of versions p word) ns → order_cause (last_numbers p word) ns ≡ None → step p word ns ≡ Ok q → left q < left p → Nearer versions p
+by_line versions p word ns q known room passes order to less =
+    record { word = word; others = _; to = q; leads = take-line versions p word ns q known room passes order to; less = less }
+
+-- one more instruction: `end` is the last one
+more_instr : (versions : ℕ) (m : Machine) (spaces : List SpaceView) (d : Draft) (len : ℕ) (instrs : List Instr) → length instrs < len → (b : Bool)
+    → (length instrs + 1 == len) ≡ b → Nearer versions (AtInstr m spaces d len instrs)
+more_instr versions m spaces d len instrs room true last =
+    by_line versions (AtInstr m spaces d len instrs) (codes "end") [] (after_instr m spaces d len (instrs ++ End ∷ [])) refl refl tt refl (rw last)
+    (omega (arith, left-after_instr m spaces d len (instrs ++ End ∷ []), length_push instrs End))
+more_instr versions m spaces d len instrs room false more =
+    by_line versions (AtInstr m spaces d len instrs) (codes "compute") [] (after_instr m spaces d len (instrs ++ Compute ∷ [])) refl refl tt refl (rw more)
+    (omega (arith, left-after_instr m spaces d len (instrs ++ Compute ∷ []), length_push instrs Compute))
+
+-- the patience of a new space: in version 3 one of its own
+patience : (own need : Bool) → AllPass (if own then within (if need then 2 else 1) MAX_PATIENCE ∷ [] else []) (if own then 2 ∷ [] else [])
+patience true true = (passes-within 2 MAX_PATIENCE 2 (omega arith) (omega arith) (omega arith), tt)
+patience true false = (passes-within 1 MAX_PATIENCE 2 (omega arith) (omega arith) (omega arith), tt)
+patience false need = tt
+
+slice : (b : Bool) → (if b then 0 else 1) ≤ 1
+slice true = omega arith
+slice false = omega arith
 
 module _ (versions : ℕ) (one : 1 ≤ versions) (three : versions ≤ 3) where
-  by_step : (p q : Position) (line : List (List ℕ)) → Steps p line q → IsReached versions q → Completes versions q → Completes versions p
-  by_step p q line s reached rest = λ r. begins_front versions (shown p) (line ∷ []) (subst (Begins versions) (shown-step versions p line q s r) (rest reached))
+  -- each reached position but the last has such a line
+  pub nearer : (p : Position) → 0 < left p → IsReached versions p → Nearer versions p
+  nearer AtVersion l r =
+      by_line versions AtVersion (codes "workload") (1 ∷ []) (AtProcessors 1) refl refl (passes-within 1 versions 1 (omega arith) one (omega arith), tt) refl refl (omega arith)
+  nearer (AtProcessors v) l r =
+      by_line versions (AtProcessors v) (codes "processors") (1 ∷ []) (AtFetch v 1) refl refl (passes-within 1 MAX_PROCESSORS 1 (omega arith) (omega arith) (omega arith), tt) refl refl (omega arith)
+  nearer (AtFetch v n) l r =
+      by_line versions (AtFetch v n) (codes "fetch") (1 ∷ []) (after_fetch v n 1) refl refl (passes-within 1 MAX_FETCH 1 (omega arith) (omega arith) (omega arith), tt) refl refl
+      (cond_both (v == 1) (AtSpaces v n 1 0) (AtSlice v n 1) (λ (q : Position). left q < 7) (λ _. omega arith) (λ _. omega arith))
+  nearer (AtSlice v n f) l r =
+      by_line versions (AtSlice v n f) (codes "slice") (1 ∷ []) (AtSpaces v n f 1) refl refl
+      (passes-within (if v == 3 then 0 else 1) MAX_SLICE 1 (slice (v == 3)) (omega arith) (omega arith), tt) refl refl (omega arith)
+  nearer (AtSpaces v n f s) l r =
+      by_line versions (AtSpaces v n f s) (codes "spaces") (1 ∷ []) (AtSpace _ []) refl refl (passes-within 1 MAX_SPACES 1 (omega arith) (omega arith) (omega arith), tt) refl refl (omega arith)
+  nearer (AtSpace m spaces) l r =
+      let ns : List ℕ = 0 ∷ 0 ∷ 0 ∷ 0 ∷ 1 ∷ (if m.version == 3 then 2 ∷ [] else []) in
+      by_line versions (AtSpace m spaces) (codes "space") ns (after_sem m spaces (draft_from m ns)) refl refl
+      (space_pass _ 0 0 0 0 1 _ (omega arith) (omega arith) (omega arith) (omega arith) (omega arith) (omega arith) (patience (m.version == 3) (is_last_impatient m spaces)))
+      refl refl (omega (arith, left-after_sem m spaces (draft_from m ns), r.2))
+  nearer (AtSem m spaces d) l r =
+      by_line versions (AtSem m spaces d) (codes "sem") (0 ∷ []) (after_sem m spaces (with_sem d 0)) refl refl (passes-within 0 MAX_START 0 (omega arith) (omega arith) (omega arith), tt) refl refl
+      (omega (arith, left-after_sem m spaces (with_sem d 0), length_push d.sems 0, r.3))
+  nearer (AtAbsent m spaces d) l r =
+      by_line versions (AtAbsent m spaces d) (codes "program") (1 ∷ []) (AtInstr m spaces d 1 []) refl refl (passes-within 1 MAX_INSTRUCTIONS 1 (omega arith) (omega arith) (omega arith), tt) refl refl
+      (omega (arith, ap length r.4, r.2.program_count.0))
+  nearer (AtProgram m spaces d) l r =
+      by_line versions (AtProgram m spaces d) (codes "program") (1 ∷ []) (AtInstr m spaces d 1 []) refl refl (passes-within 1 MAX_INSTRUCTIONS 1 (omega arith) (omega arith) (omega arith), tt) refl refl
+      (omega (arith, r.5))
+  nearer (AtInstr m spaces d len instrs) l r = more_instr versions m spaces d len instrs r.5.room (length instrs + 1 == len) refl
+  nearer (AtEvict m spaces es) l r = by_line versions (AtEvict m spaces es) (codes "close") [] (Closed (workload m spaces es [])) refl refl tt refl refl (omega arith)
+  nearer (AtTurn m spaces es ts) l r = by_line versions (AtTurn m spaces es ts) (codes "close") [] (Closed (workload m spaces es ts)) refl refl tt refl refl (omega arith)
+  nearer (Closed w) l r = absurd (omega arith)
 
-  closed : (w : WorkloadView) → Completes versions (Closed w)
-  closed w = λ r. record { workload = w; accepted = record { workload = r.0; version = r.1 }; more = []; text = sym (append-nil (workload_lines w)) }
-
-  at_turn : (m : Machine) (spaces : List SpaceView) (evictions : List Evict) (turns : List ProcNo)
-      → Completes versions (AtTurn m spaces evictions turns)
-  at_turn m spaces evictions turns = λ r.
-      by_step _ _ _ (step_close m spaces evictions turns) (reached-close versions m spaces evictions turns r)
-      (closed (workload m spaces evictions turns)) r
-
-  at_evict : (m : Machine) (spaces : List SpaceView) (evictions : List Evict) → Completes versions (AtEvict m spaces evictions)
-  at_evict m spaces evictions = λ r.
-      by_step _ _ _ (step_first_close m spaces evictions) (reached-first_close versions m spaces evictions r)
-      (closed (workload m spaces evictions [])) r
-
-  -- n + 1 instructions are missing
-  at_instr : (n : ℕ) (m : Machine) (spaces : List SpaceView) (d : Draft) (len : ℕ) (instrs : List Instr) → length instrs + suc n ≡ len
-      → ((p : List Instr) → Completes versions (after_program m spaces (with_program d p)))
-      → Completes versions (AtInstr m spaces d len instrs)
-  at_instr zero m spaces d len instrs e rest = λ r.
-      let l : length (instrs ++ End ∷ []) ≡ length instrs + 1 = length_push instrs End in
-      by_step _ _ _ (step_instr m spaces d len instrs End) (reached-instr versions m spaces d len instrs End r tt tt tt (λ _. refl))
-      (subst (Completes versions) (sym (after_instr-full m spaces d len (instrs ++ End ∷ []) (omega arith))) (rest (instrs ++ End ∷ []))) r
-  at_instr (suc n) m spaces d len instrs e rest = λ r.
-      let l : length (instrs ++ Compute ∷ []) ≡ length instrs + 1 = length_push instrs Compute in
-      by_step _ _ _ (step_instr m spaces d len instrs Compute)
-      (reached-instr versions m spaces d len instrs Compute r tt tt tt (λ h. absurd (omega arith)))
-      (subst (Completes versions) (sym (after_instr-more m spaces d len (instrs ++ Compute ∷ []) (omega arith)))
-      (at_instr n m spaces d len (instrs ++ Compute ∷ []) (omega arith) rest)) r
-
-  -- n programs are missing
-  programs_missing : (n : ℕ) (m : Machine) (spaces : List SpaceView) (d : Draft) → length d.programs + n ≡ d.program_count
-      → ((s : SpaceView) → Completes versions (after_spaces m (spaces ++ s ∷ []))) → Completes versions (after_program m spaces d)
-  programs_missing zero m spaces d e rest =
-      subst (Completes versions) (sym (after_program-full m spaces d (omega arith))) (rest (space_of_draft d))
-  programs_missing (suc n) m spaces d e rest =
-      subst (Completes versions) (sym (after_program-more m spaces d (omega arith))) (λ r.
-      by_step _ _ _ (step_program m spaces d 1) (reached-program versions m spaces d 1 r (omega arith) (omega arith))
-      (at_instr 0 m spaces d 1 [] refl
-      (λ p. programs_missing n m spaces (with_program d p) (omega (arith, length_push d.programs p)) rest)) r)
-
-  at_absent : (m : Machine) (spaces : List SpaceView) (d : Draft)
-      → ((s : SpaceView) → Completes versions (after_spaces m (spaces ++ s ∷ []))) → Completes versions (AtAbsent m spaces d)
-  at_absent m spaces d rest = λ r.
-      by_step _ _ _ (step_first_program m spaces d 1) (reached-first_program versions m spaces d 1 r (omega arith) (omega arith))
-      (at_instr 0 m spaces d 1 [] refl
-      (λ p. programs_missing (d.program_count - 1) m spaces (with_program d p)
-      (omega (arith, length_push d.programs p, ap length r.4, r.2.program_count.0)) rest)) r
-
-  -- n semaphores are missing
-  sems_missing : (n : ℕ) (m : Machine) (spaces : List SpaceView) (d : Draft) → length d.sems + n ≡ d.sem_count
-      → ((s : SpaceView) → Completes versions (after_spaces m (spaces ++ s ∷ []))) → Completes versions (after_sem m spaces d)
-  sems_missing zero m spaces d e rest =
-      subst (Completes versions) (sym (after_sem-full m spaces d (omega arith))) (at_absent m spaces d rest)
-  sems_missing (suc n) m spaces d e rest =
-      subst (Completes versions) (sym (after_sem-more m spaces d (omega arith))) (λ r.
-      by_step _ _ _ (step_sem m spaces d 0) (reached-sem versions m spaces d 0 r (omega arith))
-      (sems_missing n m spaces (with_sem d 0) (omega (arith, length_push d.sems 0)) rest) r)
-
-  new_space : (m : Machine) (spaces : List SpaceView) (k : ℕ) → IsSpaceLine m spaces (new_draft k)
-      → ((s : SpaceView) → Completes versions (after_spaces m (spaces ++ s ∷ []))) → Completes versions (AtSpace m spaces)
-  unfolding new_draft
-  new_space m spaces k h rest = λ r.
-      by_step _ _ _ (step_space m spaces (new_draft k) h.fresh) (reached-space versions m spaces (new_draft k) r h)
-      (sems_missing 0 m spaces (new_draft k) refl rest) r
-
-  at_space : (m : Machine) (spaces : List SpaceView) → ((s : SpaceView) → Completes versions (after_spaces m (spaces ++ s ∷ [])))
-      → Completes versions (AtSpace m spaces)
-  at_space m spaces rest = new_space m spaces (new_patience m) (fits_space m spaces) rest
-
-  -- n spaces are missing
-  spaces_missing : (n : ℕ) (m : Machine) (spaces : List SpaceView) → length spaces + n ≡ m.count → Completes versions (after_spaces m spaces)
-  spaces_missing zero m spaces e =
-      subst (Completes versions) (sym (after_spaces-full m spaces (omega arith))) (at_evict m spaces [])
-  spaces_missing (suc n) m spaces e =
-      subst (Completes versions) (sym (after_spaces-more m spaces (omega arith)))
-      (at_space m spaces (λ s. spaces_missing n m (spaces ++ s ∷ []) (omega (arith, length_push spaces s))))
-
-  spaces_after : (m : Machine) (spaces : List SpaceView) → length spaces < m.count
-      → (s : SpaceView) → Completes versions (after_spaces m (spaces ++ s ∷ []))
-  spaces_after m spaces room s =
-      spaces_missing (m.count - (length spaces + 1)) m (spaces ++ s ∷ []) (omega (arith, length_push spaces s))
-
-  at_spaces : (v n f s : ℕ) → Completes versions (AtSpaces v n f s)
-  at_spaces v n f s = λ r.
-      by_step _ _ _ (step_spaces v n f s 1) (reached-spaces versions v n f s 1 r (omega arith) (omega arith))
-      (at_space (record { version = v; processors = n; fetch = f; slice = s; count = 1 }) []
-      (spaces_after (record { version = v; processors = n; fetch = f; slice = s; count = 1 }) [] (omega arith))) r
-
-  at_slice : (v n f : ℕ) → Completes versions (AtSlice v n f)
-  at_slice v n f = λ r.
-      by_step _ _ _ (step_slice v n f 1) (reached-slice versions v n f 1 three r (λ _. omega arith) (omega arith)) (at_spaces v n f 1) r
-
-  fetched : (v n f : ℕ) → Completes versions (after_fetch v n f)
-  fetched v n f =
-      cond_both (v == 1) (AtSpaces v n f 0) (AtSlice v n f) (Completes versions) (λ e. at_spaces v n f 0) (λ e. at_slice v n f)
-
-  at_fetch : (v n : ℕ) → Completes versions (AtFetch v n)
-  at_fetch v n = λ r. by_step _ _ _ (step_fetch v n 1) (reached-fetch versions v n 1 r (omega arith) (omega arith)) (fetched v n 1) r
-
-  at_processors : (v : ℕ) → Completes versions (AtProcessors v)
-  at_processors v = λ r.
-      by_step _ _ _ (step_processors v 1) (reached-processors versions v 1 r (omega arith) (omega arith)) (at_fetch v 1) r
+  -- by how many lines are missing
+  by_left : (n : ℕ) (p : Position) → left p ≤ n → IsReached versions p → Begins versions (shown p)
+  by_left n (Closed w) l r = record { workload = w; accepted = record { workload = r.0; version = r.1 }; more = []; text = sym (append-nil (workload_lines w)) }
+  by_left zero p l r = absurd (omega arith)
+  by_left (suc n) p l r =
+      let x : Nearer versions p = nearer p (omega arith) r in
+      let goes : GoesTo versions p (x.word ∷ x.others) x.to = sound versions three p x.word x.others x.to r (took versions p x.word x.others x.to x.leads) in
+      begins_front versions (shown p) ((x.word ∷ x.others) ∷ [])
+      (subst (Begins versions) (shown-step versions p (x.word ∷ x.others) x.to goes.step r) (by_left n x.to (omega (arith, x.less)) goes.reached))
 
   -- the lines of each reached position begin a text
   pub completes : (p : Position) → IsReached versions p → Begins versions (shown p)
-  completes AtVersion r = by_step _ _ _ (step_version 1) (reached-version versions 1 (omega arith) one) (at_processors 1) r
-  completes (AtProcessors v) r = at_processors v r
-  completes (AtFetch v n) r = at_fetch v n r
-  completes (AtSlice v n f) r = at_slice v n f r
-  completes (AtSpaces v n f s) r = at_spaces v n f s r
-  completes (AtSpace m spaces) r = at_space m spaces (spaces_after m spaces r.2) r
-  completes (AtSem m spaces d) r =
-      subst (Completes versions) (after_sem-more m spaces d (omega arith))
-      (sems_missing (d.sem_count - length d.sems) m spaces d (omega arith) (spaces_after m spaces r.2.room)) r
-  completes (AtAbsent m spaces d) r = at_absent m spaces d (spaces_after m spaces r.2.room) r
-  completes (AtProgram m spaces d) r =
-      subst (Completes versions) (after_program-more m spaces d (omega arith))
-      (programs_missing (d.program_count - length d.programs) m spaces d (omega arith) (spaces_after m spaces r.2.room)) r
-  completes (AtInstr m spaces d len instrs) r =
-      let room : length instrs < len = r.5.room in
-      at_instr (len - length instrs - 1) m spaces d len instrs (omega arith)
-      (λ p. programs_missing (d.program_count - length d.programs - 1) m spaces (with_program d p) (omega (arith, length_push d.programs p))
-      (spaces_after m spaces r.2.room)) r
-  completes (AtEvict m spaces evictions) r = at_evict m spaces evictions r
-  completes (AtTurn m spaces evictions turns) r = at_turn m spaces evictions turns r
-  completes (Closed w) r = closed w r
-
--- a workload is written in version 1 or a later one
-pub version-low : (w : WorkloadView) → 1 ≤ version_of w
-version-low w =
-    cond_both (list_all (λ (s : SpaceView). s.patience == 1) w.spaces) (if w.slice == 0 then 1 else 2) 3 (λ (v : ℕ). 1 ≤ v)
-    (λ _. cond_both (w.slice == 0) 1 2 (λ (v : ℕ). 1 ≤ v) (λ _. omega arith) (λ _. omega arith)) (λ _. omega arith)
+  completes p r = by_left (left p) p (omega arith) r

@@ -1,5 +1,5 @@
 -- Lists with one element more at the end: what holds of the whole holds of its front and of its last element.
-use Rattle.std.proofs.Common.{◌≡◌, ℕ, ◌⊎◌, Bool, true, false, ◌&&◌, List, [], ◌∷◌, ◌++◌, length, get_or, ◌<◌, ◌-◌, Some, All, arith, refl, ap, ◌∙◌, subst, inl, inr, eqb, eq-eqb, ne_eqb, ◌≢◌}
+use Rattle.std.proofs.Common.{◌≡◌, ℕ, ◌⊎◌, Bool, true, false, ◌&&◌, List, [], ◌∷◌, ◌++◌, length, get_or, slice_get, ◌<◌, ◌-◌, Some, All, arith, refl, ap, ◌∙◌, subst, inl, inr, eqb, eq-eqb, ne_eqb, ◌≢◌}
 use Rattle.std.specs.List.{list_all}
 use Rattle.std.proofs.lemmas.List.{get_or_push, get_or_append_left, length_push}
 use Rattle.std.proofs.lemmas.List.Elements.{All-nil, All-cons, All-head, All-tail}
@@ -15,6 +15,10 @@ pub last_of-push : {X : Type 0} (xs : List X) (x : X) → last_of (xs ++ x ∷ [
 last_of-push xs x =
     last_is (xs ++ x ∷ []) x (omega (arith, length_push xs x))
     ∙ ap Some (get_or_push xs x x (length (xs ++ x ∷ []) - 1) (omega (arith, length_push xs x)))
+
+pub slice_get_at : {X : Type 0} (front : List X) (x : X) (rest : List X) → slice_get (front ++ x ∷ rest) (length front) ≡ Some x
+slice_get_at [] x rest = refl
+slice_get_at (y ∷ front) x rest = slice_get_at front x rest
 
 pub All-front : {X : Type 0} (P : X → Type 0) (xs : List X) (y : X) → All P (xs ++ y ∷ []) → All P xs
 All-front P xs y h = λ k d l. subst P (get_or_append_left xs (y ∷ []) d k l) (h k d (omega (arith, length_push xs y)))

@@ -1,14 +1,14 @@
 -- The order of lines of one word.
-use Rattle.std.proofs.Common.{◌≡◌, ℕ, ◌<◌, ◌⊎◌, ◌&&◌, ◌||◌, Bool, true, false, cond, List, [], ◌∷◌, length, Some, None, refl, sym, ap, ◌∙◌, inl, inr, arith, ltb, eqb, lt-ltb, eq-eqb, ltb-true, eqb-true, subst}
+use Rattle.std.proofs.Common.{◌≡◌, ℕ, ◌<◌, ◌⊎◌, ◌&&◌, ◌||◌, Bool, true, false, cond, List, [], ◌∷◌, length, Option, Some, None, refl, sym, ap, ap₂, ◌∙◌, inl, inr, arith, ltb, eqb, lt-ltb, eq-eqb, ltb-true, eqb-true, subst}
 use Rattle.std.specs.Str.{bytes_eq}
-use Rattle.std.proofs.lemmas.Bool.{false≢true, cases_lt, cases_eq}
+use Rattle.std.proofs.lemmas.Bool.{false≢true, false_from_ne_true, cases_lt, cases_eq}
 use Rattle.std.proofs.lemmas.Slice.Eq.{bytes_eq-Decides}
 use Rattle.sa_spaces.specs.declared.workload.Evict.{Evict}
 use Rattle.sa_spaces.specs.Workload.{IsBefore}
 use Rattle.sa_workload.specs.Bad.{list_lt}
 use Rattle.sa_workload.specs.Fields.{order_cause}
 use Rattle.sa_workload.specs.Next.{evict_numbers}
-use Rattle.sa_workload.proofs.fields.FieldLemmas.{if_either, both_true}
+use Rattle.sa_workload.proofs.fields.FieldLemmas.{both_true}
 
 or_cases : (a b : Bool) → (a || b) ≡ true → (a ≡ true) ⊎ (b ≡ true)
 or_cases true b h = inl refl
@@ -69,31 +69,24 @@ cases_list_lt (x ∷ xs) (y ∷ ys) e =
       ]
     ]
 
+none_is : (same less : Bool) → cond {A = Option ℕ} same (Some 5) (cond less (Some 4) None) ≡ None → (same ≡ false) × (less ≡ false)
+none_is true less h = absurd (cc h)
+none_is false true h = absurd (cc h)
+none_is false false h = (refl, refl)
+
 pub order-none : (last ns : List ℕ) → length ns ≡ length last → order_cause (Some last) ns ≡ None → list_lt last ns ≡ true
 order-none last ns long h =
-    elim (if_either (bytes_eq ns last) (Some 5) (cond (list_lt ns last) (Some 4) None) None h) [
-      | inl same ↦ absurd (cc (same.1))
-      | inr other ↦ elim (if_either (list_lt ns last) (Some 4) None None other.1) [
-        | inl less ↦ absurd (cc (less.1))
-        | inr none ↦ elim (cases_list_lt ns last long) [
-          | inl before ↦ absurd (false≢true (sym none.0 ∙ before))
-          | inr behind ↦ elim behind [
-            | inl equal ↦ absurd (false≢true (sym other.0 ∙ (bytes_eq-Decides ns last).1 equal))
-            | inr later ↦ later
-          ]
-        ]
-      ]
+    let n = none_is (bytes_eq ns last) (list_lt ns last) h in
+    elim (cases_list_lt ns last long) [
+      | inl before ↦ absurd (false≢true (sym n.1 ∙ before))
+      | inr behind ↦ elim behind [ inl equal ↦ absurd (false≢true (sym n.0 ∙ (bytes_eq-Decides ns last).1 equal)) | inr later ↦ later ]
     ]
 
 pub none-order : (last ns : List ℕ) → list_lt last ns ≡ true → order_cause (Some last) ns ≡ None
 none-order last ns h =
-    elim (if_either (bytes_eq ns last) (Some 5) (cond (list_lt ns last) (Some 4) None) (order_cause (Some last) ns) refl) [
-      | inl same ↦ absurd (list_lt-irrefl last ns (sym ((bytes_eq-Decides ns last).0 same.0)) h)
-      | inr other ↦ elim (if_either (list_lt ns last) (Some 4) None (order_cause (Some last) ns) other.1) [
-        | inl less ↦ absurd (list_lt-asym last ns h less.0)
-        | inr none ↦ sym none.1
-      ]
-    ]
+    ap₂ (λ (same less : Bool). cond {A = Option ℕ} same (Some 5) (cond less (Some 4) None))
+    (false_from_ne_true (bytes_eq ns last) (λ t. list_lt-irrefl last ns (sym ((bytes_eq-Decides ns last).0 t)) h))
+    (false_from_ne_true (list_lt ns last) (list_lt-asym last ns h))
 
 -- evictions by their numbers
 pub evict_before : (a b : Evict) → list_lt (evict_numbers a) (evict_numbers b) ≡ true → IsBefore a b

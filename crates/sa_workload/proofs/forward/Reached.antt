@@ -1,12 +1,11 @@
 -- What each line has to keep to, so that it leads from a reached position to a reached position.
-use Rattle.std.proofs.Common.{◌≡◌, ◌≢◌, ℕ, ◌+◌, ◌-◌, ◌<◌, ◌≤◌, ◌==◌, List, [], ◌∷◌, ◌++◌, length, All, get_or, slice_index, Some, inl, inr, refl, sym, ap, subst, subst₂, ◌∙◌, arith, eqb-true}
+use Rattle.std.proofs.Common.{◌≡◌, ◌≢◌, ℕ, ◌+◌, ◌-◌, ◌<◌, ◌≤◌, ◌==◌, List, [], ◌∷◌, ◌++◌, length, All, get_or, Some, inl, inr, sym, ap, subst, subst₂, ◌∙◌, arith, eqb-true}
 use Rattle.std.proofs.lemmas.Bool.{cond_both, cases_lt, eqb-false}
 use Rattle.std.proofs.lemmas.List.{length_push, get_or_append_left, get_or_push}
-use Rattle.std.proofs.lemmas.List.Elements.{All-nil, All-push, All-same}
+use Rattle.std.proofs.lemmas.List.Elements.{All-nil, All-push}
 use Rattle.std.specs.List.Sorted.{IsStrictlyIncreasing}
 use Rattle.std.proofs.lemmas.Option.{slice_get-get_or}
-use Rattle.sa_base.specs.declared.limits.TheConstants.{MAX_PROCESSORS, MAX_SPACES}
-use Rattle.sa_instr.specs.declared.limits.TheConstants.{LAST_PAGE, MAX_CELLS, MAX_EVICTIONS, MAX_FETCH, MAX_INSTRUCTIONS, MAX_MUTEXES, MAX_PATIENCE, MAX_PRIORITY, MAX_PROGRAMS, MAX_SEMAPHORES, MAX_SLICE, MAX_START, MAX_TURNS}
+use Rattle.sa_instr.specs.declared.limits.TheConstants.{LAST_PAGE, MAX_INSTRUCTIONS, MAX_SLICE, MAX_START, MAX_TURNS}
 use Rattle.sa_base.specs.declared.number.ProcNo.{ProcNo}
 use Rattle.sa_instr.specs.declared.instr.Instr.{Instr}
 use Rattle.sa_instr.specs.declared.instr.Instr.TheVariants.{End}
@@ -14,14 +13,14 @@ use Rattle.sa_spaces.specs.declared.workload.Evict.{Evict}
 use Rattle.sa_instr.specs.Instr.{IsInRange, JumpsBelow, NamesDeclared}
 use Rattle.sa_instr.specs.Program.{IsProgram}
 use Rattle.sa_spaces.specs.Space.{SpaceView, IsSpace}
-use Rattle.sa_spaces.specs.Workload.{IsWorkload, IsEviction, IsBefore}
-use Rattle.sa_workload.specs.Position.{Machine, Draft, Position, AtProcessors, AtFetch, AtSlice, AtSpaces, AtSpace, AtSem, AtAbsent, AtProgram, AtInstr, AtEvict, AtTurn, Closed, CanSlice, IsMachine, AreSpaces, IsDraft, IsBegun, AreEvictions, AreTurns, IsReached}
-use Rattle.sa_workload.specs.Steps.{workload, space_of_draft, IsFresh, with_sem, with_absent, with_program, after_fetch, after_sem, after_spaces, after_program, after_instr}
+use Rattle.sa_spaces.specs.Workload.{IsEviction}
+use Rattle.sa_workload.specs.Position.{Machine, Draft, Position, AtSpace, AtSem, AtAbsent, AtProgram, AtInstr, AtEvict, Closed, CanSlice, IsMachine, AreSpaces, IsDraft, IsBegun, AreEvictions, AreTurns, IsReached}
+use Rattle.sa_workload.specs.Steps.{workload, space_of_draft, with_program, after_sem, after_spaces, after_program, after_instr}
 use Rattle.sa_workload.proofs.forward.Fronts.{All-front, All-last}
 use Rattle.sa_workload.proofs.forward.ShownStep.{version_of-workload}
 
 -- a draft with other lists behind its first line
-redrafted : (m : Machine) (spaces : List SpaceView) (d : Draft) (sems absent : List ℕ) (programs : List (List Instr)) → IsDraft m spaces d
+pub redrafted : (m : Machine) (spaces : List SpaceView) (d : Draft) (sems absent : List ℕ) (programs : List (List Instr)) → IsDraft m spaces d
     → length sems ≤ d.sem_count → All (λ start. start ≤ MAX_START) sems → All (λ page. page ≤ LAST_PAGE) absent → IsStrictlyIncreasing absent
     → length programs ≤ d.program_count → All IsProgram programs → All (All (NamesDeclared d.mutexes d.sem_count d.cells d.program_count)) programs
     → IsDraft m spaces (record d { sems = sems; absent = absent; programs = programs })
@@ -44,32 +43,15 @@ redrafted m spaces d sems absent programs is a b c e f g h = record {
   names = h;
 }
 
-pub reached-version : (versions v : ℕ) → 1 ≤ v → v ≤ versions → IsReached versions (AtProcessors v)
-reached-version versions v low high = (low, high)
-
-pub reached-processors : (versions v n : ℕ) → IsReached versions (AtProcessors v) → 1 ≤ n → n ≤ MAX_PROCESSORS → IsReached versions (AtFetch v n)
-reached-processors versions v n r low high = (r.0, r.1, low, high)
-
-pub reached-fetch : (versions v n f : ℕ) → IsReached versions (AtFetch v n) → 1 ≤ f → f ≤ MAX_FETCH → IsReached versions (after_fetch v n f)
-reached-fetch versions v n f r low high =
-    cond_both (v == 1) (AtSpaces v n f 0) (AtSlice v n f) (λ (q : Position). IsReached versions q)
-    (λ e. (r.1, r.2, r.3, low, high, inl (eqb-true v 1 e, refl)))
-    (λ e. let ne : v ≢ 1 = eqb-false v 1 e in (omega arith, r.1, r.2, r.3, low, high))
-
-can_slice : (v s : ℕ) → 2 ≤ v → v ≤ 3 → (v ≢ 3 → 1 ≤ s) → s ≤ MAX_SLICE → CanSlice v s
+-- only version 3 has slice 0
+pub can_slice : (v s : ℕ) → 2 ≤ v → v ≤ 3 → (v ≢ 3 → 1 ≤ s) → s ≤ MAX_SLICE → CanSlice v s
 can_slice v s two three low high =
     elim (cases_lt v 3) [
       | inl h ↦ inr (inl (omega arith, low (omega arith), high))
       | inr h ↦ inr (inr (omega arith, high))
     ]
 
--- only version 3 has slice 0
-pub reached-slice : (versions v n f s : ℕ) → versions ≤ 3 → IsReached versions (AtSlice v n f) → (v ≢ 3 → 1 ≤ s) → s ≤ MAX_SLICE
-    → IsReached versions (AtSpaces v n f s)
-reached-slice versions v n f s three r low high =
-    (r.1, r.2, r.3, r.4, r.5, can_slice v s r.0 (omega arith) low high)
-
-no_spaces : (m : Machine) → 1 ≤ m.count → AreSpaces m []
+pub no_spaces : (m : Machine) → 1 ≤ m.count → AreSpaces m []
 no_spaces m h = record {
   few = omega arith;
   each = All-nil IsSpace;
@@ -77,69 +59,15 @@ no_spaces m h = record {
   own = λ _ full. absurd (omega arith);
 }
 
-pub reached-spaces : (versions v n f s c : ℕ) → IsReached versions (AtSpaces v n f s) → 1 ≤ c → c ≤ MAX_SPACES
-    → IsReached versions (AtSpace (record { version = v; processors = n; fetch = f; slice = s; count = c }) [])
-reached-spaces versions v n f s c r low high = (
-  record { version = r.0; processors = (r.1, r.2); fetch = (r.3, r.4); slice = r.5; count = (low, high) },
-  no_spaces (record { version = v; processors = n; fetch = f; slice = s; count = c }) low,
-  low,
-)
-
-reached-after_sem : (versions : ℕ) (m : Machine) (spaces : List SpaceView) (d : Draft) → IsMachine versions m → AreSpaces m spaces
+pub reached-after_sem : (versions : ℕ) (m : Machine) (spaces : List SpaceView) (d : Draft) → IsMachine versions m → AreSpaces m spaces
     → IsDraft m spaces d → d.absent ≡ [] → d.programs ≡ [] → IsReached versions (after_sem m spaces d)
 reached-after_sem versions m spaces d k a h absent programs =
     cond_both (length d.sems == d.sem_count) (AtAbsent m spaces d) (AtSem m spaces d) (λ (q : Position). IsReached versions q)
     (λ e. (k, a, h, eqb-true _ _ e, programs))
     (λ e. let ne : length d.sems ≢ d.sem_count = eqb-false _ _ e in (k, a, h, omega arith, absent, programs))
 
--- what the first line of a space has to keep to: before version 3 its patience is 1, and in version 3 the last one's is another
--- where that of all before is 1
-pub record IsSpaceLine (m : Machine) (spaces : List SpaceView) (d : Draft) : Type 0 where
-  pub fresh : IsFresh d
-  pub priority : d.priority ≤ MAX_PRIORITY
-  pub mutexes : d.mutexes ≤ MAX_MUTEXES
-  pub sem_count : d.sem_count ≤ MAX_SEMAPHORES
-  pub cells : d.cells ≤ MAX_CELLS
-  pub program_count : (1 ≤ d.program_count) × (d.program_count ≤ MAX_PROGRAMS)
-  pub patience : (1 ≤ d.patience) × (d.patience ≤ MAX_PATIENCE)
-  pub patient : m.version ≢ 3 → d.patience ≡ 1
-  pub own : m.version ≡ 3 → length spaces + 1 ≡ m.count → All (λ (s : SpaceView). s.patience ≡ 1) spaces → d.patience ≢ 1
-
-fresh_draft : (m : Machine) (spaces : List SpaceView) (d : Draft) → length spaces < m.count → IsSpaceLine m spaces d → IsDraft m spaces d
-fresh_draft m spaces d room h = record {
-  room = room;
-  priority = h.priority;
-  mutexes = h.mutexes;
-  sem_count = h.sem_count;
-  cells = h.cells;
-  program_count = h.program_count;
-  patience = h.patience;
-  patient = h.patient;
-  own = h.own;
-  sems = omega (arith, ap length h.fresh.0);
-  starts = All-same (λ start. start ≤ MAX_START) d.sems [] h.fresh.0 (All-nil _);
-  pages = All-same (λ page. page ≤ LAST_PAGE) d.absent [] h.fresh.1 (All-nil _);
-  absent_rise = λ k b. absurd (omega (arith, ap length h.fresh.1));
-  programs = omega (arith, ap length h.fresh.2);
-  each = All-same IsProgram d.programs [] h.fresh.2 (All-nil _);
-  names = All-same (All (NamesDeclared d.mutexes d.sem_count d.cells d.program_count)) d.programs [] h.fresh.2 (All-nil _);
-}
-
-pub reached-space : (versions : ℕ) (m : Machine) (spaces : List SpaceView) (d : Draft) → IsReached versions (AtSpace m spaces)
-    → IsSpaceLine m spaces d → IsReached versions (after_sem m spaces d)
-reached-space versions m spaces d r h =
-    reached-after_sem versions m spaces d r.0 r.1 (fresh_draft m spaces d r.2 h) h.fresh.1 h.fresh.2
-
-pub reached-sem : (versions : ℕ) (m : Machine) (spaces : List SpaceView) (d : Draft) (n : ℕ) → IsReached versions (AtSem m spaces d)
-    → n ≤ MAX_START → IsReached versions (after_sem m spaces (with_sem d n))
-reached-sem versions m spaces d n r h =
-    reached-after_sem versions m spaces (with_sem d n) r.0 r.1
-    (redrafted m spaces d (d.sems ++ n ∷ []) d.absent d.programs r.2 (omega (arith, length_push d.sems n))
-    (All-push (λ start. start ≤ MAX_START) d.sems n r.2.starts h) r.2.pages r.2.absent_rise r.2.programs r.2.each r.2.names)
-    r.4 r.5
-
 -- a list that rises goes on rising with an element that is above its last one
-rise-push : {X : Type 0} (R : X → X → Type 0) (xs : List X) (x d : X)
+pub rise-push : {X : Type 0} (R : X → X → Type 0) (xs : List X) (x d : X)
     → ((k : ℕ) → k + 1 < length xs → R (get_or xs k d) (get_or xs (k + 1) d))
     → (0 < length xs → R (get_or xs (length xs - 1) d) x)
     → (k : ℕ) → k + 1 < length (xs ++ x ∷ []) → R (get_or (xs ++ x ∷ []) k d) (get_or (xs ++ x ∷ []) (k + 1) d)
@@ -154,36 +82,14 @@ rise-push {X} R xs x d rise last k h =
           (subst (λ (n : ℕ). R (get_or xs n d) x) e' (last (omega arith)))
     ]
 
-pub reached-absent : (versions : ℕ) (m : Machine) (spaces : List SpaceView) (d : Draft) (k : ℕ) → IsReached versions (AtAbsent m spaces d)
-    → k ≤ LAST_PAGE → (0 < length d.absent → slice_index d.absent (length d.absent - 1) < k)
-    → IsReached versions (AtAbsent m spaces (with_absent d k))
-reached-absent versions m spaces d k r h last = (
-  r.0,
-  r.1,
-  redrafted m spaces d d.sems (d.absent ++ k ∷ []) d.programs r.2 r.2.sems r.2.starts (All-push (λ page. page ≤ LAST_PAGE) d.absent k r.2.pages h)
-      (rise-push (λ (a b : ℕ). a < b) d.absent k 0 r.2.absent_rise last) r.2.programs r.2.each r.2.names,
-  r.3,
-  r.4,
-)
-
-nothing_begun : (d : Draft) (len : ℕ) → 1 ≤ len → len ≤ MAX_INSTRUCTIONS → IsBegun d len []
-nothing_begun d len low high = record {
-  short = (low, high);
+pub nothing_begun : (d : Draft) (len : ℕ) → (1 ≤ len) × (len ≤ MAX_INSTRUCTIONS) → IsBegun d len []
+nothing_begun d len short = record {
+  short = short;
   room = omega arith;
   ranges = All-nil IsInRange;
   jumps = All-nil (JumpsBelow len);
   names = All-nil (NamesDeclared d.mutexes d.sem_count d.cells d.program_count);
 }
-
-pub reached-first_program : (versions : ℕ) (m : Machine) (spaces : List SpaceView) (d : Draft) (len : ℕ)
-    → IsReached versions (AtAbsent m spaces d) → 1 ≤ len → len ≤ MAX_INSTRUCTIONS → IsReached versions (AtInstr m spaces d len [])
-reached-first_program versions m spaces d len r low high =
-    (r.0, r.1, r.2, r.3, omega (arith, ap length r.4, r.2.program_count.0), nothing_begun d len low high)
-
-pub reached-program : (versions : ℕ) (m : Machine) (spaces : List SpaceView) (d : Draft) (len : ℕ)
-    → IsReached versions (AtProgram m spaces d) → 1 ≤ len → len ≤ MAX_INSTRUCTIONS → IsReached versions (AtInstr m spaces d len [])
-reached-program versions m spaces d len r low high =
-    (r.0, r.1, r.2, r.3, r.5, nothing_begun d len low high)
 
 reached-after_spaces : (versions : ℕ) (m : Machine) (spaces : List SpaceView) → IsMachine versions m → AreSpaces m spaces
     → IsReached versions (after_spaces m spaces)
@@ -296,39 +202,9 @@ reached-instr versions m spaces d len instrs i r range jump name last =
         let all = begun_more d len instrs i r.5 range jump name in
         (r.0, r.1, r.2, r.3, r.4, record { short = r.5.short; room = omega (arith, l); ranges = all.0; jumps = all.1; names = all.2 })
 
-pub reached-evict : (versions : ℕ) (m : Machine) (spaces : List SpaceView) (evictions : List Evict) (e : Evict)
-    → IsReached versions (AtEvict m spaces evictions) → IsEviction m.count e → length evictions < MAX_EVICTIONS
-    → ((d : Evict) → 0 < length evictions → IsBefore (get_or evictions (length evictions - 1) d) e)
-    → IsReached versions (AtEvict m spaces (evictions ++ e ∷ []))
-reached-evict versions m spaces evictions e r h few last = (
-  r.0,
-  r.1,
-  r.2,
-  record {
-    few = omega (arith, length_push evictions e);
-    each = All-push (IsEviction m.count) evictions e r.3.each h;
-    rise = λ k d b. rise-push IsBefore evictions e d (λ j. r.3.rise j d) (last d) k b;
-  },
-)
-
-one_turn : (m : Machine) (p : ProcNo) → p.0 < m.processors → AreTurns m (p ∷ [])
-one_turn m p h = record { few = omega arith; each = All-push (λ (q : ProcNo). q.0 < m.processors) [] p (All-nil _) h }
-
-pub reached-first_turn : (versions : ℕ) (m : Machine) (spaces : List SpaceView) (evictions : List Evict) (p : ProcNo)
-    → IsReached versions (AtEvict m spaces evictions) → p.0 < m.processors → IsReached versions (AtTurn m spaces evictions (p ∷ []))
-reached-first_turn versions m spaces evictions p r h = (r.0, r.1, r.2, r.3, one_turn m p h, omega arith)
-
-pub reached-turn : (versions : ℕ) (m : Machine) (spaces : List SpaceView) (evictions : List Evict) (turns : List ProcNo) (p : ProcNo)
-    → IsReached versions (AtTurn m spaces evictions turns) → p.0 < m.processors → length turns < MAX_TURNS
-    → IsReached versions (AtTurn m spaces evictions (turns ++ p ∷ []))
-reached-turn versions m spaces evictions turns p r h few = (
-  r.0,
-  r.1,
-  r.2,
-  r.3,
-  record { few = omega (arith, length_push turns p); each = All-push (λ (q : ProcNo). q.0 < m.processors) turns p r.4.each h },
-  omega (arith, length_push turns p),
-)
+pub more_turns : (m : Machine) (turns : List ProcNo) (p : ProcNo) → AreTurns m turns → p.0 < m.processors → length turns < MAX_TURNS → AreTurns m (turns ++ p ∷ [])
+more_turns m turns p t h few =
+    record { few = omega (arith, length_push turns p); each = All-push (λ (q : ProcNo). q.0 < m.processors) turns p t.each h }
 
 can_slice-below : (v s : ℕ) → CanSlice v s → s ≤ MAX_SLICE
 can_slice-below v s (inl h) = omega arith
@@ -336,34 +212,23 @@ can_slice-below v s (inr (inl h)) = omega arith
 can_slice-below v s (inr (inr h)) = omega arith
 
 -- what was read is a workload
-whole_workload : (versions : ℕ) (m : Machine) (spaces : List SpaceView) (evictions : List Evict) (turns : List ProcNo) → IsMachine versions m
-    → AreSpaces m spaces → length spaces ≡ m.count → AreEvictions m evictions → AreTurns m turns → IsWorkload (workload m spaces evictions turns)
-whole_workload versions m spaces evictions turns k a c e t = record {
-  some_processor = k.processors.0;
-  few_processors = k.processors.1;
-  some_fetch = k.fetch.0;
-  short_fetch = k.fetch.1;
-  some_space = omega (arith, k.count.0);
-  few_spaces = omega (arith, k.count.1);
-  spaces = a.each;
-  few_evictions = e.few;
-  evictions = rw c e.each;
-  evictions_rise = e.rise;
-  few_turns = t.few;
-  turns = t.each;
-  slice = can_slice-below m.version m.slice k.slice;
-}
-
-pub reached-first_close : (versions : ℕ) (m : Machine) (spaces : List SpaceView) (evictions : List Evict)
-    → IsReached versions (AtEvict m spaces evictions) → IsReached versions (Closed (workload m spaces evictions []))
-reached-first_close versions m spaces evictions r = (
-  whole_workload versions m spaces evictions [] r.0 r.1 r.2 r.3 (record { few = omega arith; each = All-nil _ }),
-  omega (arith, version_of-workload m spaces evictions [] r.0.slice r.1 r.2, r.0.version),
-)
-
-pub reached-close : (versions : ℕ) (m : Machine) (spaces : List SpaceView) (evictions : List Evict) (turns : List ProcNo)
-    → IsReached versions (AtTurn m spaces evictions turns) → IsReached versions (Closed (workload m spaces evictions turns))
-reached-close versions m spaces evictions turns r = (
-  whole_workload versions m spaces evictions turns r.0 r.1 r.2 r.3 r.4,
-  omega (arith, version_of-workload m spaces evictions turns r.0.slice r.1 r.2, r.0.version),
+pub reached-closed : (versions : ℕ) (m : Machine) (spaces : List SpaceView) (evictions : List Evict) (turns : List ProcNo) → IsMachine versions m
+    → AreSpaces m spaces → length spaces ≡ m.count → AreEvictions m evictions → AreTurns m turns → IsReached versions (Closed (workload m spaces evictions turns))
+reached-closed versions m spaces evictions turns k a c e t = (
+  record {
+    some_processor = k.processors.0;
+    few_processors = k.processors.1;
+    some_fetch = k.fetch.0;
+    short_fetch = k.fetch.1;
+    some_space = omega (arith, k.count.0);
+    few_spaces = omega (arith, k.count.1);
+    spaces = a.each;
+    few_evictions = e.few;
+    evictions = rw c e.each;
+    evictions_rise = e.rise;
+    few_turns = t.few;
+    turns = t.each;
+    slice = can_slice-below m.version m.slice k.slice;
+  },
+  omega (arith, version_of-workload m spaces evictions turns k.slice a c, k.version),
 )

@@ -1,7 +1,7 @@
 -- A step shows one line more.
 use Rattle.std.proofs.Common.{◌≡◌, ◌≢◌, ℕ, ◌≤◌, Bool, true, false, List, [], ◌∷◌, ◌++◌, length, map, codes, decimal, arith, refl, sym, ap, ◌∙◌, inl, inr, eqb, append_assoc, append-nil, if◌then◌else◌, eq-eqb, ne_eqb, eqb-true}
 use Rattle.std.specs.List.{flat_map, list_all}
-use Rattle.std.proofs.lemmas.Bool.{cond_both}
+use Rattle.std.proofs.lemmas.Bool.{cond_both, false_from_ne_true}
 use Rattle.std.proofs.lemmas.List.{map_push}
 use Rattle.std.proofs.lemmas.List.Concat.{flat_map-append}
 use Rattle.sa_base.specs.declared.number.ProcNo.{ProcNo}
@@ -27,9 +27,8 @@ version_of-workload m spaces evictions turns can are e = by_slice can
     patient : m.version ≢ 3 → all ≡ true
     patient n = all_true (λ (s : SpaceView). s.patience) 1 spaces (are.patient n)
 
-    own : m.version ≡ 3 → (b : Bool) → all ≡ b → b ≡ false
-    own v true t = absurd (are.own v e (true_all (λ (s : SpaceView). s.patience) 1 spaces t))
-    own v false t = refl
+    own : m.version ≡ 3 → all ≡ false
+    own v = false_from_ne_true all (λ t. are.own v e (true_all (λ (s : SpaceView). s.patience) 1 spaces t))
 
     by_slice : CanSlice m.version m.slice → version_of (workload m spaces evictions turns) ≡ m.version
     by_slice (inl one) =
@@ -39,7 +38,7 @@ version_of-workload m spaces evictions turns can are e = by_slice can
         ap (λ (b : Bool). if b then (if eqb m.slice 0 then 1 else 2) else 3) (patient (omega (arith, two.0)))
         ∙ ap (λ (b : Bool). if b then 1 else 2) (ne_eqb m.slice 0 (omega (arith, two.1))) ∙ sym two.0
     by_slice (inr (inr three)) =
-        ap (λ (b : Bool). if b then (if eqb m.slice 0 then 1 else 2) else 3) (own three.0 all refl) ∙ sym three.0
+        ap (λ (b : Bool). if b then (if eqb m.slice 0 then 1 else 2) else 3) (own three.0) ∙ sym three.0
 
 slice_shown : (v s : ℕ) → 2 ≤ v → slice_lines v s ≡ slice_line s ∷ []
 slice_shown v s h = ap (λ (b : Bool). if b then [] else slice_line s ∷ []) (ne_eqb v 1 (omega arith))
@@ -62,11 +61,9 @@ after_spaces-shown m spaces =
 -- a whole draft is a space
 draft_whole : (version : ℕ) (d : Draft) → length d.sems ≡ d.sem_count → length d.programs ≡ d.program_count
     → space_lines version (space_of_draft d) ≡ shown_draft version d
-draft_whole version d e f =
-    ap (λ (n : ℕ). (codes "space" ∷ decimal d.priority ∷ decimal d.mutexes ∷ decimal n ∷ decimal d.cells ∷ decimal (length d.programs)
-    ∷ (if eqb version 3 then decimal d.patience ∷ [] else [])) ∷ (map sem_line d.sems ++ (map absent_line d.absent ++ flat_map program_lines d.programs))) e
-    ∙ ap (λ (n : ℕ). (codes "space" ∷ decimal d.priority ∷ decimal d.mutexes ∷ decimal d.sem_count ∷ decimal d.cells ∷ decimal n
-    ∷ (if eqb version 3 then decimal d.patience ∷ [] else [])) ∷ (map sem_line d.sems ++ (map absent_line d.absent ++ flat_map program_lines d.programs))) f
+draft_whole version d e f = λ i.
+    (codes "space" ∷ decimal d.priority ∷ decimal d.mutexes ∷ decimal (e i) ∷ decimal d.cells ∷ decimal (f i)
+    ∷ (if eqb version 3 then decimal d.patience ∷ [] else [])) ∷ (map sem_line d.sems ++ (map absent_line d.absent ++ flat_map program_lines d.programs))
 
 spaces_push : (m : Machine) (spaces : List SpaceView) (s : SpaceView) → shown_spaces m (spaces ++ s ∷ []) ≡ shown_spaces m spaces ++ space_lines m.version s
 spaces_push m spaces s =
@@ -118,10 +115,8 @@ closing : (m : Machine) (spaces : List SpaceView) (evictions : List Evict) (turn
     → workload_lines (workload m spaces evictions turns) ≡ (shown_spaces m spaces ++ (map evict_line evictions ++ map turn_line turns)) ++ close_line ∷ []
 unfolding workload_lines
 closing m spaces evictions turns e f =
-    ap (λ (v : ℕ). (version_line v ∷ processors_line m.processors ∷ fetch_line m.fetch ∷ (slice_lines v m.slice ++ spaces_line (length spaces) ∷ []))
-    ++ (flat_map (space_lines v) spaces ++ (map evict_line evictions ++ (map turn_line turns ++ close_line ∷ [])))) e
-    ∙ ap (λ (n : ℕ). (version_line m.version ∷ processors_line m.processors ∷ fetch_line m.fetch ∷ (slice_lines m.version m.slice ++ spaces_line n ∷ []))
-    ++ (flat_map (space_lines m.version) spaces ++ (map evict_line evictions ++ (map turn_line turns ++ close_line ∷ [])))) f
+    (λ i. (version_line (e i) ∷ processors_line m.processors ∷ fetch_line m.fetch ∷ (slice_lines (e i) m.slice ++ spaces_line (f i) ∷ []))
+    ++ (flat_map (space_lines (e i)) spaces ++ (map evict_line evictions ++ (map turn_line turns ++ close_line ∷ []))))
     ∙ sym (append_assoc (shown_machine m) (flat_map (space_lines m.version) spaces) (map evict_line evictions ++ (map turn_line turns ++ close_line ∷ [])))
     ∙ ap (λ (ls : Lines). shown_spaces m spaces ++ ls) (sym (append_assoc (map evict_line evictions) (map turn_line turns) (close_line ∷ [])))
     ∙ sym (append_assoc (shown_spaces m spaces) (map evict_line evictions ++ map turn_line turns) (close_line ∷ []))

@@ -1,5 +1,5 @@
 -- Where a reader stands behind lines: what it keeps, and which words it expects.
-use Rattle.std.proofs.Common.{◌≡◌, ◌⊎◌, ℕ, ◌≤◌, not, Bool, true, false, List, [], ◌∷◌, ◌++◌, Contains, Result, Ok, codes, refl, sym, ap, ◌∙◌, subst, inl, inr, arith, append_assoc, eqb, if◌then◌else◌}
+use Rattle.std.proofs.Common.{◌≡◌, ◌⊎◌, ℕ, ◌≤◌, not, Bool, true, false, List, [], ◌∷◌, ◌++◌, Contains, Result, Ok, codes, refl, sym, ap, ◌∙◌, subst, inl, inr, arith, append_assoc}
 use Rattle.std.specs.Option.{is_some}
 use Rattle.std.specs.List.{list_all}
 use Rattle.std.proofs.lemmas.Bool.{false≢true}
@@ -9,7 +9,6 @@ use Rattle.sa_instr.specs.declared.operation.Operation.{Operation}
 use Rattle.sa_instr.specs.declared.operation.Operation.TheVariants as Operations
 use Rattle.sa_instr.specs.Operation.{form_of}
 use Rattle.sa_instr.specs.Parts.{parts_of}
-use Rattle.sa_spaces.specs.Space.{SpaceView}
 use Rattle.sa_spaces.specs.Workload.{WorkloadView, IsWorkload}
 use Rattle.sa_workload.specs.Text.{version_of, workload_lines}
 use Rattle.sa_workload.specs.Bad.{IsUpTo, Begins, MayFollow, IsRightWord, instr_words, repeated_words, first_word, last_line}
@@ -19,11 +18,10 @@ use Rattle.sa_workload.specs.Steps.{Steps, expected, step_absent, step_instr, st
 use Rattle.sa_workload.specs.Next.{next}
 use Rattle.sa_workload.proofs.fields.FieldLemmas.{contained, same_ok, and_then-ok, known_word}
 use Rattle.sa_workload.proofs.forward.ShownStep.{shown-step}
-use Rattle.sa_workload.proofs.forward.Completion.{version-low, completes}
-use Rattle.sa_workload.proofs.forward.Following.{right_word}
+use Rattle.sa_workload.proofs.forward.Completion.{completes}
 use Rattle.sa_workload.proofs.forward.Says.{Heard, heard, heard-push, Says, says-next, last_line-push}
 use Rattle.sa_workload.proofs.forward.Sound.{took, GoesTo, sound}
-use Rattle.sa_workload.proofs.forward.Complete.{run, run-append, run-then, complete}
+use Rattle.sa_workload.proofs.forward.Complete.{version_is, run, run-append, run-then, complete}
 
 -- behind a line with one of the repeated words the word is expected again
 abbrev Repeats : Position → List ℕ → Type 0
@@ -76,13 +74,8 @@ pub record Setting (versions : ℕ) : Type 0 where
   pub one : 1 ≤ versions
   pub few : versions ≤ 3
 
-at_most_3 : (all none : Bool) → (if all then (if none then 1 else 2) else 3) ≤ 3
-at_most_3 true true = omega arith
-at_most_3 true false = omega arith
-at_most_3 false none = omega arith
-
 pub version_of-le : (w : WorkloadView) → version_of w ≤ 3
-version_of-le w = at_most_3 (list_all (λ (s : SpaceView). eqb s.patience 1) w.spaces) (eqb w.slice 0)
+version_of-le w = (version_is w).range.1
 
 pub any : Setting 3
 any = record { one = omega arith; few = omega arith }
@@ -98,7 +91,7 @@ pub of_first : (w : WorkloadView) → IsWorkload w → version_of w ≡ 1 → Is
 of_first w ok one = record { workload = ok; version = omega (arith, one) }
 
 pub is_first : (w : WorkloadView) → version_of w ≤ 1 → version_of w ≡ 1
-is_first w low = omega (arith, version-low w)
+is_first w low = omega (arith, (version_is w).range.0)
 
 -- a line with which some text goes on leads on
 pub begins-next : (versions : ℕ) → Setting versions → (p : Position) (line : List (List ℕ)) → IsAt versions p → Begins versions (shown p ++ line ∷ [])
@@ -142,10 +135,7 @@ instrs_together p word first known h t =
           absurd (cc (sym (ap not t) ∙ All-contains (λ (k : List ℕ). test k ≡ true) (expected p) first (AllPass-from_list_all test (expected p) none) (contained (expected p) first known)))
     ]
 
--- the words that may begin a line are those that are expected
-pub expects : (versions : ℕ) → Setting versions → (p : Position) (word : List ℕ) → IsAt versions p → is_some (index_of word (expected p)) ≡ true → IsRightWord versions (shown p) word
-expects versions s p word a known = right_word versions s.one s.few p word a.reached a.says known
-
+-- the words that may begin a line are expected
 follows : (versions : ℕ) → Setting versions → (p : Position) (word : List ℕ) → IsAt versions p → MayFollow versions (shown p) word → is_some (index_of word (expected p)) ≡ true
 follows versions s p word a f =
     let n = begins-next versions s p (word ∷ f.others) a f.begins in (took versions p word f.others n.0 n.1).known

@@ -1,5 +1,5 @@
 -- A text is read as its workload, or as what is bad in it.
-use Rattle.std.proofs.Common.{◌≡◌, ◌≢◌, ℕ, ◌+◌, ◌-◌, ◌<◌, ◌≤◌, ◌&&◌, ◌⊎◌, true, List, [], ◌∷◌, ◌++◌, length, take, All, Option, Some, Result, Ok, Err, MatchOption, MatchResult, IfOk, IfErr, slice_get, leb, leb-true, le-leb, refl, sym, ap, ◌∙◌, subst, inl, inr, arith, append_assoc, append-nil, length-append}
+use Rattle.std.proofs.Common.{◌≡◌, ◌≢◌, ℕ, ◌+◌, ◌-◌, ◌<◌, ◌≤◌, ◌&&◌, ◌⊎◌, true, List, [], ◌∷◌, ◌++◌, length, take, All, Option, Result, Ok, Err, MatchOption, MatchResult, IfOk, IfErr, slice_get, leb, leb-true, le-leb, refl, sym, ap, ◌∙◌, subst, inl, inr, arith, append_assoc, append-nil, length-append}
 use Rattle.std.proofs.Math.Seq.{take-append_seam}
 use Rattle.std.specs.Bool.{Decides}
 use Rattle.std.proofs.lemmas.Bool.{false≢true}
@@ -24,6 +24,7 @@ use Rattle.sa_text.specs.Pieces.{is_printed}
 use Rattle.sa_workload.specs.Reading.{line_in, finished, goes_on, read_from, read_of, IsReading}
 use Rattle.sa_workload.proofs.fields.FieldLemmas.{same_err, if_either}
 use Rattle.sa_workload.proofs.forward.Standing.{IsAt, Setting, any, alone, of_any, of_first, is_first, at_first, at_next, begins, whole_lines}
+use Rattle.sa_workload.proofs.forward.Fronts.{slice_get_at}
 use Rattle.sa_workload.proofs.forward.Sound.{took, sound}
 use Rattle.sa_workload.proofs.causes.Causes.{word_cause, refused}
 use Rattle.sa_workload.proofs.whole.TextLemmas.{IsWords, workload-words, join-printed, text_of-from_words}
@@ -92,10 +93,6 @@ record IsBehind (versions : ℕ) (p : Position) (front : List LineText) : Type 0
   at : IsAt versions p
   ended : All Ended front
   lines : shown p ≡ words_of front
-
-slice_get_at : (front : List LineText) (l : LineText) (rest : List LineText) → slice_get (front ++ l ∷ rest) (length front) ≡ Some l
-slice_get_at [] l rest = refl
-slice_get_at (x ∷ front) l rest = slice_get_at front l rest
 
 -- the place of a bad line, where it stands or is missing
 abbrev IsWrong : ℕ → List LineText → List LineText → ℕ → ℕ → Option LineText → Type 0
