@@ -121,7 +121,7 @@ operands_from (kind ∷ kinds) (n ∷ ns) = operand_from kind n ∷ operands_fro
 operands_from _ _ = []
 
 -- the operation of a word, and the instruction of a word and numbers
-abbrev pub operation_of : List ℕ → Option Operation
+unfoldable pub operation_of : List ℕ → Option Operation
 operation_of word = find (λ operation. bytes_eq word (form_of operation).word) OPERATIONS
 
 abbrev pub made_by : List ℕ → Option Operation → Option Instr

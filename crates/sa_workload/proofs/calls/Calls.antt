@@ -19,13 +19,13 @@ use Rattle.sa_text.specs.LineText.{LineText}
 use Rattle.sa_workload.specs.Bad.{Field, Register, list_lt, instr_words}
 use Rattle.sa_workload.specs.Fields.{and_then, unless, field_at, fields_at, at_end, index_of, line_numbers, order_cause}
 use Rattle.sa_workload.specs.Position.{Machine, Draft, Position, AtVersion, AtAbsent, AtInstr, AtEvict, IsReached}
-use Rattle.sa_workload.specs.Next.{draft_numbers, evict_numbers, fields_of, is_end, last_numbers, last_of, made_by, operand_from, operands_from, operation_of}
-use Rattle.sa_workload.specs.Steps.{space_of_draft, with_program}
+use Rattle.sa_workload.specs.Next.{draft_numbers, evict_numbers, fields_of, is_end, is_full, last_numbers, last_of, made_by, next_by, operand_from, operands_from, operation_of, step}
+use Rattle.sa_workload.specs.Steps.{expected, space_of_draft, with_program}
 use Rattle.sa_workload.specs.Rooms.{AreBelow, room_for}
 use Rattle.sa_workload.specs.Reading.{line_in, read_from, goes_on}
 use Rattle.sa_spaces.specs.declared.workload.Evict.{Evict}
 use Rattle.sa_workload.proofs.fields.FieldLemmas.{AllPass, all_long}
-use Rattle.sa_workload.proofs.fields.InstrLemmas.{IsAllowed, instr-read, no_operation, operation-expected}
+use Rattle.sa_workload.proofs.fields.InstrLemmas.{IsAllowed, instr-read, no_operation, operation-expected, operation-found}
 use Rattle.sa_workload.proofs.calls.Rooms.{all_pass}
 use Rattle.sa_workload.proofs.forward.Sound.{end_of}
 use Rattle.sa_workload.proofs.forward.Reached.{begun_more, whole_program, with_program-drafted, whole_space}
@@ -45,7 +45,11 @@ none_found word none (o ∷ os) = by_test (bytes_eq word (form_of o).word) refl 
     by_test false t rest = rest
 
 pub operation-none : (word : List ℕ) → IsNoWord word → operation_of word ≡ None
+unfolding operation_of
 operation-none word none = none_found word none OPERATIONS
+
+pub operation-is : (o : Operation) (word : List ℕ) → (form_of o).word ≡ word → operation_of word ≡ Some o
+operation-is o word e = ap operation_of (sym e) ∙ operation-found o
 
 -- whether an operation has the word
 pub of_word : (o : Option Operation) (word : List ℕ) → IfSome o (λ operation. (form_of operation).word ≡ word) → IfNone o (IsNoWord word)
@@ -170,6 +174,23 @@ pub line_by : (fields : List Field) (last : Option (List ℕ)) (words : List (Li
     → line_numbers fields last words ≡ and_then r (λ read. unless (order_cause last read.0) (unless (at_end read.1) (Ok read.0)))
 line_by fields last words r e =
     ap (λ (x : Result (List ℕ × List (List ℕ)) ℕ). and_then x (λ read. unless (order_cause last read.0) (unless (at_end read.1) (Ok read.0)))) (sym e)
+
+-- what a line comes to, by what is known of its word
+module _ (versions : ℕ) (p : Position) (word : List ℕ) (words : List (List ℕ)) where
+  abbrev by_word : Bool → Bool → Result (List ℕ) ℕ → Result Position ℕ
+  by_word known full r = cond known (cond full (Err 8) (and_then r (step p word))) (Err 2)
+
+  abbrev pub read : Result (List ℕ) ℕ
+  read = line_numbers (fields_of versions p word) (last_numbers p word) words
+
+  pub not_known : false ≡ is_some (index_of word (expected p)) → next_by versions p word words ≡ Err 2
+  not_known e = ap (λ (b : Bool). by_word b (is_full p word) read) (sym e)
+
+  pub too_many : true ≡ is_some (index_of word (expected p)) → true ≡ is_full p word → next_by versions p word words ≡ Err 8
+  too_many e f = ap₂ (λ (b c : Bool). by_word b c read) (sym e) (sym f)
+
+  pub numbered_next : (r : Result (List ℕ) ℕ) → true ≡ is_some (index_of word (expected p)) → false ≡ is_full p word → r ≡ read → next_by versions p word words ≡ and_then r (step p word)
+  numbered_next r e f h = ap₂ (λ (b c : Bool). by_word b c read) (sym e) (sym f) ∙ ap (λ (x : Result (List ℕ) ℕ). and_then x (step p word)) (sym h)
 
 -- the lines behind a line that leads on
 pub read_on : (versions number more : ℕ) (p q : Position) (lines rest : List LineText) (l : LineText) → lines ≡ l ∷ rest → more ≡ number + 1 → line_in versions p l ≡ Ok q

@@ -40,6 +40,7 @@ reg_number-below _ = omega arith
 
 -- what is found by the word of an operation
 pub operation-found : (o : Operation) → operation_of (form_of o).word ≡ Some o
+unfolding operation_of
 operation-found Operations.End = refl
 operation-found _ = refl
 

@@ -13,7 +13,7 @@ use Rattle.sa_workload.specs.Bad.{Begins, within}
 use Rattle.sa_workload.specs.Fields.{index_of, order_cause}
 use Rattle.sa_workload.specs.Position.{Machine, Draft, Position, AtVersion, AtProcessors, AtFetch, AtSlice, AtSpaces, AtSpace, AtSem, AtAbsent, AtProgram, AtInstr, AtEvict, AtTurn, Closed, shown, IsReached}
 use Rattle.sa_workload.specs.Steps.{expected, workload, space_of_draft, with_sem, with_program, after_fetch, after_sem, after_spaces, after_program, after_instr}
-use Rattle.sa_workload.specs.Next.{fields_of, is_full, last_numbers, draft_from, is_last_impatient, step, next}
+use Rattle.sa_workload.specs.Next.{fields_of, is_full, last_numbers, draft_from, is_last_impatient, step, next, operation_of}
 use Rattle.sa_workload.proofs.fields.FieldLemmas.{AllPass, passes-within}
 use Rattle.sa_workload.proofs.forward.ShownStep.{shown-step}
 use Rattle.sa_workload.proofs.forward.Sound.{GoesTo, took, sound}
@@ -84,6 +84,7 @@ by_line versions p word ns q known room passes order to less =
 -- one more instruction: `end` is the last one
 more_instr : (versions : ℕ) (m : Machine) (spaces : List SpaceView) (d : Draft) (len : ℕ) (instrs : List Instr) → length instrs < len → (b : Bool)
     → (length instrs + 1 == len) ≡ b → Nearer versions (AtInstr m spaces d len instrs)
+unfolding operation_of
 more_instr versions m spaces d len instrs room true last =
     by_line versions (AtInstr m spaces d len instrs) (codes "end") [] (after_instr m spaces d len (instrs ++ End ∷ [])) refl refl tt refl (rw last)
     (omega (arith, left-after_instr m spaces d len (instrs ++ End ∷ []), length_push instrs End))
