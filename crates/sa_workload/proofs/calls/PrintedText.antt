@@ -1,8 +1,8 @@
 -- The text of a workload, part by part as it is printed.
-use Rattle.std.proofs.Common.{◌≡◌, ℕ, ◌≤◌, cond, Result, Ok, Err, OnOk, List, [], ◌∷◌, ◌++◌, length, take, map, codes, decimal, refl, sym, ◌∙◌, ap, append_assoc}
+use Rattle.std.proofs.Common.{◌≡◌, ℕ, ◌+◌, ◌<◌, ◌≤◌, cond, get_or, Result, Ok, Err, OnOk, List, [], ◌∷◌, ◌++◌, length, take, map, codes, decimal, refl, sym, ◌∙◌, ap, append_assoc}
 use Rattle.std.specs.List.{flat_map, join_with_byte}
 use Rattle.std.specs.Result.{is_ok}
-use Rattle.std.proofs.lemmas.List.{append-nil, take_all}
+use Rattle.std.proofs.lemmas.List.{append-nil, flat_map_more, take_all, take_more}
 use Rattle.std.proofs.lemmas.List.Concat.{flat_map-append}
 use Rattle.std.proofs.lemmas.List.Folds.{flat_map-map}
 use Rattle.sa_instr.specs.declared.instr.Instr.{Instr}
@@ -33,6 +33,12 @@ pushed_line f out word xs a b d p q r =
 pub ok_items : {T E : Type 0} (r : Result T E) (now added before : List ℕ) → now ≡ cond (is_ok r) added before → OnOk r (now ≡ added)
 ok_items (Ok x) now added before e = e
 ok_items (Err d) now added before e = tt
+
+-- a piece more of a list that is printed one by one
+pub pushed_more : {X : Type 0} (f : X → List ℕ) (xs : List X) (i : ℕ) (x : X) (before now after : List ℕ) → i < length xs
+    → now ≡ before ++ flat_map f (take i xs) → after ≡ now ++ f (get_or xs i x) → after ≡ before ++ flat_map f (take (i + 1) xs)
+pushed_more f xs i x before now after within so_far more =
+    more ∙ ap (λ ys. ys ++ f (get_or xs i x)) so_far ∙ flat_map_more f before (take i xs) (get_or xs i x) ∙ ap (λ ys. before ++ flat_map f ys) (sym (take_more xs i x within))
 
 -- two pieces that are printed one after another
 pub pushed_two : (out x y a b : List ℕ) → a ≡ out ++ x → b ≡ a ++ y → b ≡ out ++ (x ++ y)
