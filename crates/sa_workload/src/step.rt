@@ -14,6 +14,7 @@ ghost use Rattle.sa_workload.specs.Steps.{expected, after_program as behind_prog
 use crate::cause::Refusal;
 use crate::instr::{instr_in, is_end};
 use crate::stage::{MachineLine, Reader, SpaceDraft, Stage};
+use crate::table::is;
 use sa_base::{Cause, ProcNo, SpaceNo};
 use sa_instr::Program;
 use sa_spaces::{Evict, SpaceDef};
@@ -140,7 +141,7 @@ impl Reader {
         requires room { AreBelow (2 ^ 16 ∷ []) numbers.now }
         ensures { Gives (step (at_stage self.old Stage.Absent) word.now numbers.now) (position_of self.new) result }
     {
-        if word == b"absent".as_slice() {
+        if is(word, b"absent") {
             self.draft.absent.push(numbers[0] as u16)?;
             return Ok(());
         }
@@ -227,7 +228,7 @@ impl Reader {
         requires room { AreBelow (evict_rooms word.now) numbers.now }
         ensures { Gives (step (at_stage self.old Stage.Evict) word.now numbers.now) (position_of self.new) result }
     {
-        if word == b"evict".as_slice() {
+        if is(word, b"evict") {
             self.evictions.push(evict_of(numbers))?;
             return Ok(());
         }
@@ -240,7 +241,7 @@ impl Reader {
         requires { AreBelow (turn_rooms word.now) numbers.now }
         ensures { Gives (step (at_stage self.old Stage.Turn) word.now numbers.now) (position_of self.new) result }
     {
-        if word == b"turn".as_slice() {
+        if is(word, b"turn") {
             self.turns.push(ProcNo(numbers[0] as u16))?;
             self.stage = Stage::Turn;
         } else {

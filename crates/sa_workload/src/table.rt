@@ -44,12 +44,12 @@ impl Reader {
     {
         match self.stage {
             Stage::Machine(line) => word == line.word(),
-            Stage::Space => word == b"space".as_slice(),
-            Stage::Sem => word == b"sem".as_slice(),
+            Stage::Space => is(word, b"space"),
+            Stage::Sem => is(word, b"sem"),
             Stage::Absent => is_either(word, b"absent", b"program"),
-            Stage::Program => word == b"program".as_slice(),
+            Stage::Program => is(word, b"program"),
             Stage::Instr => Operation::of_word(word).is_some(),
-            Stage::Evict => is_either(word, b"evict", b"turn") || word == b"close".as_slice(),
+            Stage::Evict => is_either(word, b"evict", b"turn") || is(word, b"close"),
             Stage::Turn => is_either(word, b"turn", b"close"),
             Stage::Closed => false,
         }
@@ -60,8 +60,8 @@ impl Reader {
         ensures { result ≡ is_full (position_of self.now) word.now }
     {
         match self.stage {
-            Stage::Evict => word == b"evict".as_slice() && self.evictions.len() >= MAX_EVICTIONS,
-            Stage::Turn => word == b"turn".as_slice() && self.turns.len() >= MAX_TURNS,
+            Stage::Evict => is(word, b"evict") && self.evictions.len() >= MAX_EVICTIONS,
+            Stage::Turn => is(word, b"turn") && self.turns.len() >= MAX_TURNS,
             _ => false,
         }
     }
@@ -77,7 +77,7 @@ impl Reader {
             Stage::Space => self.space_fields(),
             Stage::Sem => list(&[Field::Within(0, MAX_START as u64)]),
             Stage::Absent => {
-                if word == b"absent".as_slice() {
+                if is(word, b"absent") {
                     list(&[Field::Within(0, LAST_PAGE as u64)])
                 } else {
                     list(&[Field::Within(1, MAX_INSTRUCTIONS as u64)])
@@ -86,7 +86,7 @@ impl Reader {
             Stage::Program => list(&[Field::Within(1, MAX_INSTRUCTIONS as u64)]),
             Stage::Instr => operand_fields(&self.draft, self.len, word),
             Stage::Evict => {
-                if word == b"evict".as_slice() {
+                if is(word, b"evict") {
                     self.evict_fields()
                 } else {
                     self.turn_fields(word)
@@ -157,7 +157,7 @@ impl Reader {
         ensures { map field_of result.items
             ≡ (if bytes_eq word.now (codes "turn") then within 0 (self.now.header.processors - 1) ∷ [] else []) }
     {
-        if word == b"turn".as_slice() {
+        if is(word, b"turn") {
             list(&[Field::Within(0, u64::from(self.header.processors.saturating_sub(1)))])
         } else {
             Fields::new()
@@ -185,11 +185,18 @@ impl Reader {
         ensures { option_map (λ numbers. numbers.items) result ≡ last_numbers (position_of self.now) word.now }
     {
         match self.stage {
-            Stage::Absent if word == b"absent".as_slice() => page_numbers(&self.draft.absent),
-            Stage::Evict if word == b"evict".as_slice() => evict_numbers(&self.evictions),
+            Stage::Absent if is(word, b"absent") => page_numbers(&self.draft.absent),
+            Stage::Evict if is(word, b"evict") => evict_numbers(&self.evictions),
             _ => None,
         }
     }
+}
+
+/// Whether the word is this one.
+pub(crate) fn is(word: &[u8], this: &[u8]) -> bool
+    ensures { result ≡ bytes_eq word.now this.now }
+{
+    word == this
 }
 
 /// Whether the word is one of the two.
