@@ -34,24 +34,14 @@ impl Field {
     pub(crate) fn read(self, word: &[u8]) -> Result<u64, Cause>
         ensures { numbered result ≡ read_field (field_of self) word.now }
     {
+        if let Field::Register = self {
+            return register_of(word).ok_or(Cause::BadWord);
+        }
+        let n = read_number(word).ok_or(Cause::BadNumber)?;
         match self {
-            Field::Register => register_of(word).ok_or(Cause::BadWord),
-            Field::Within(low, high) => {
-                let n = read_number(word).ok_or(Cause::BadNumber)?;
-                if low <= n && n <= high {
-                    Ok(n)
-                } else {
-                    Err(Cause::OutOfRange)
-                }
-            }
-            Field::Below(count, cause) => {
-                let n = read_number(word).ok_or(Cause::BadNumber)?;
-                if n < u64::from(count) {
-                    Ok(n)
-                } else {
-                    Err(cause)
-                }
-            }
+            Field::Within(low, high) if n < low || n > high => Err(Cause::OutOfRange),
+            Field::Below(count, cause) if n >= u64::from(count) => Err(cause),
+            _ => Ok(n),
         }
     }
 }
