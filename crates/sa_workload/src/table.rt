@@ -227,7 +227,12 @@ fn evict_numbers(evictions: &[Evict]) -> Option<Numbers>
 pub(crate) fn are_impatient(spaces: &[SpaceDef]) -> bool
     ensures { result ≡ list_all (λ (s : SpaceView). s.patience == 1) spaces.now }
 {
-    spaces.iter().all(|space| space.patience() == 1)
+    for space in spaces {
+        if space.patience() != 1 {
+            return false;
+        }
+    }
+    true
 }
 
 /// What stands behind the word of an instruction, in a program of this length of the space.
