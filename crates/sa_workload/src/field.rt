@@ -37,7 +37,9 @@ impl Field {
         if let Field::Register = self {
             return register_of(word).ok_or(Cause::BadWord);
         }
-        let n = read_number(word).ok_or(Cause::BadNumber)?;
+        let Some(n) = read_number(word) else {
+            return Err(Cause::BadNumber);
+        };
         match self {
             Field::Within(low, high) if n < low || n > high => Err(Cause::OutOfRange),
             Field::Below(count, cause) if n >= u64::from(count) => Err(cause),

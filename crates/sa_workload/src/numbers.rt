@@ -27,8 +27,10 @@ pub(crate) fn read_numbers(fields: &[Field], words: &mut Pieces) -> Result<Numbe
 fn read_number(field: Field, words: &mut Pieces) -> Result<u64, Cause>
     ensures { with_rest result words.new ≡ field_at (field_of field) words.old }
 {
-    let word = words.next().ok_or(Cause::Missing)?;
-    field.read(word)
+    match words.next() {
+        Some(word) => field.read(word),
+        None => Err(Cause::Missing),
+    }
 }
 
 /// No word is left.

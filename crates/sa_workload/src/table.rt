@@ -210,7 +210,9 @@ fn is_either(word: &[u8], one: &[u8], other: &[u8]) -> bool
 fn page_numbers(pages: &[u16]) -> Option<Numbers>
     ensures { option_map (λ numbers. numbers.items) result ≡ option_map (λ page. page ∷ []) (last_of pages.now) }
 {
-    let page = pages.last()?;
+    let Some(page) = pages.last() else {
+        return None;
+    };
     Some(list(&[u64::from(*page)]))
 }
 
@@ -218,7 +220,9 @@ fn page_numbers(pages: &[u16]) -> Option<Numbers>
 fn evict_numbers(evictions: &[Evict]) -> Option<Numbers>
     ensures { option_map (λ numbers. numbers.items) result ≡ option_map evict_numbers (last_of evictions.now) }
 {
-    let last = evictions.last()?;
+    let Some(last) = evictions.last() else {
+        return None;
+    };
     let numbers = [last.event, u64::from(last.space.0), u64::from(last.page)];
     Some(list(&numbers))
 }
