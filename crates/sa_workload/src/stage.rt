@@ -2,7 +2,7 @@
 ghost use Rattle.std.specs.Prelude.{◌≡◌, IfSome};
 ghost use Rattle.sa_spaces.specs.Workload.{IsWorkload};
 ghost use Rattle.sa_workload.specs.Position.{AtVersion, closed};
-ghost use Rattle.sa_workload.specs.Stage.{position_of, workload_of};
+ghost use Rattle.sa_workload.specs.Stage.{position_of};
 
 use sa_base::ProcNo;
 use sa_instr::{Instr, Program};
@@ -130,17 +130,9 @@ impl Reader {
         requires { IfSome (closed (position_of self)) IsWorkload }
         ensures { result ≡ closed (position_of self) }
     {
-        match self.stage {
-            Stage::Closed => Some(self.workload()),
-            _ => None,
-        }
-    }
-
-    /// The workload of what was read.
-    fn workload(self) -> Workload
-        requires { IsWorkload (workload_of self) }
-        ensures { result ≡ workload_of self }
-    {
+        let Stage::Closed = self.stage else {
+            return None;
+        };
         let header = self.header;
         Workload::new(
             header.processors,
@@ -151,6 +143,5 @@ impl Reader {
         )
         .unwrap()
         .with_slice(header.slice)
-        .unwrap()
     }
 }
