@@ -95,7 +95,12 @@ impl Reader {
         requires within { IsWithin bytes.now line }
         ensures { Gives (line_in versions (position_of self.old) (text_of_line bytes.now line)) (position_of self.new) result }
     {
-        check_line(bytes, &line)?;
+        if !is_printed(&bytes[line.start..line.end]) {
+            return Err(Refusal::Because(Cause::NotAscii));
+        }
+        if !line.ended {
+            return Err(Refusal::Because(Cause::Missing));
+        }
         let mut words = Pieces::new(bytes, line);
         let Some(word) = words.next() else {
             return Err(Refusal::Because(Cause::BadWord));
@@ -142,20 +147,4 @@ impl Reader {
         read_end(words)?;
         Ok(numbers)
     }
-}
-
-/// The line is printed, and has its line feed.
-fn check_line(bytes: &[u8], line: &Line) -> Result<(), Cause>
-    requires { IsWithin bytes.now line.now }
-    ensures { let text = text_of_line bytes.now line.now in
-        MatchResult result (λ _. (is_printed text.bytes ≡ true) × (text.ended ≡ true))
-        (λ cause. (versions : ℕ) (p : Position) → line_in versions p text ≡ Err (cause_number cause)) }
-{
-    if !is_printed(&bytes[line.start..line.end]) {
-        return Err(Cause::NotAscii);
-    }
-    if !line.ended {
-        return Err(Cause::Missing);
-    }
-    Ok(())
 }
