@@ -1,5 +1,5 @@
 // What stands behind the first word of a line.
-ghost use Rattle.std.specs.Prelude.{◌≡◌, ◌≤◌, length};
+ghost use Rattle.std.specs.Prelude.{◌≡◌, ◌≤◌, [], ◌∷◌, length};
 ghost use Rattle.sa_workload.specs.Bad.{registers};
 ghost use Rattle.sa_workload.specs.Fields.{index_of, numbered, read_field};
 ghost use Rattle.sa_workload.specs.Stage.{field_of};
@@ -71,5 +71,14 @@ pub(crate) fn list<T: Copy + Default>(items: &[T]) -> ArrayVec<T, MAX_FIELDS>
 {
     let mut list = ArrayVec::new();
     list.try_extend_from_slice(items).unwrap();
+    list
+}
+
+/// A list of one.
+pub(crate) fn one<T: Copy + Default>(item: T) -> ArrayVec<T, MAX_FIELDS>
+    ensures { result.items ≡ item ∷ [] }
+{
+    let mut list = ArrayVec::new();
+    list.push(item);
     list
 }

@@ -11,7 +11,7 @@ ghost use Rattle.sa_workload.specs.Steps.{expected};
 ghost use Rattle.sa_workload.specs.Next.{draft_numbers, evict_numbers, fields_of, is_full, is_last_impatient, last_numbers, last_of, space_fields};
 ghost use Rattle.sa_workload.specs.Stage.{field_of, machine_of, draft_of, machine_position, machine_word, position_of, IsAsLong};
 
-use crate::field::{Field, Fields, Numbers, list};
+use crate::field::{Field, Fields, Numbers, list, one};
 use crate::stage::{MachineLine, Reader, SpaceDraft, Stage};
 use sa_base::{Cause, FIRST_THREAD_PAGE, MAX_EVENTS, MAX_PROCESSORS, MAX_SPACES};
 use sa_instr::{
@@ -73,17 +73,17 @@ impl Reader {
             ≡ fields_of versions (position_of self.now) word.now }
     {
         match self.stage {
-            Stage::Machine(line) => list(&[self.machine_field(versions, line)]),
+            Stage::Machine(line) => one(self.machine_field(versions, line)),
             Stage::Space => self.space_fields(),
-            Stage::Sem => list(&[Field::Within(0, MAX_START as u64)]),
+            Stage::Sem => one(Field::Within(0, MAX_START as u64)),
             Stage::Absent => {
                 if is(word, b"absent") {
-                    list(&[Field::Within(0, LAST_PAGE as u64)])
+                    one(Field::Within(0, LAST_PAGE as u64))
                 } else {
-                    list(&[Field::Within(1, MAX_INSTRUCTIONS as u64)])
+                    one(Field::Within(1, MAX_INSTRUCTIONS as u64))
                 }
             }
-            Stage::Program => list(&[Field::Within(1, MAX_INSTRUCTIONS as u64)]),
+            Stage::Program => one(Field::Within(1, MAX_INSTRUCTIONS as u64)),
             Stage::Instr => operand_fields(&self.draft, self.len, word),
             Stage::Evict => {
                 if is(word, b"evict") {
@@ -158,7 +158,7 @@ impl Reader {
             ≡ (if bytes_eq word.now (codes "turn") then within 0 (self.now.header.processors - 1) ∷ [] else []) }
     {
         if is(word, b"turn") {
-            list(&[Field::Within(0, u64::from(self.header.processors.saturating_sub(1)))])
+            one(Field::Within(0, u64::from(self.header.processors.saturating_sub(1))))
         } else {
             Fields::new()
         }
@@ -213,7 +213,7 @@ fn page_numbers(pages: &[u16]) -> Option<Numbers>
     let Some(page) = pages.last() else {
         return None;
     };
-    Some(list(&[u64::from(*page)]))
+    Some(one(u64::from(*page)))
 }
 
 /// The numbers of the last of these evictions, where there is one.
