@@ -76,23 +76,11 @@ impl Reader {
             Stage::Machine(line) => one(self.machine_field(versions, line)),
             Stage::Space => self.space_fields(),
             Stage::Sem => one(Field::Within(0, MAX_START as u64)),
-            Stage::Absent => {
-                if is(word, b"absent") {
-                    one(Field::Within(0, LAST_PAGE as u64))
-                } else {
-                    one(Field::Within(1, MAX_INSTRUCTIONS as u64))
-                }
-            }
-            Stage::Program => one(Field::Within(1, MAX_INSTRUCTIONS as u64)),
+            Stage::Absent if is(word, b"absent") => one(Field::Within(0, LAST_PAGE as u64)),
+            Stage::Absent | Stage::Program => one(Field::Within(1, MAX_INSTRUCTIONS as u64)),
             Stage::Instr => operand_fields(&self.draft, self.len, word),
-            Stage::Evict => {
-                if is(word, b"evict") {
-                    self.evict_fields()
-                } else {
-                    self.turn_fields(word)
-                }
-            }
-            Stage::Turn => self.turn_fields(word),
+            Stage::Evict if is(word, b"evict") => self.evict_fields(),
+            Stage::Evict | Stage::Turn => self.turn_fields(word),
             Stage::Closed => Fields::new(),
         }
     }
