@@ -1,4 +1,4 @@
-use sa_text::{Line, Lines, print_number, read_number, token};
+use sa_text::{Line, Lines, Pieces, is_printed, print_number, read_number, token};
 use std::process::Abort;
 use std::test::Fail;
 
@@ -57,6 +57,25 @@ fn gives_pieces_up_to_the_line_end(rt: HostRuntime) {
     for (text, want) in rows {
         has_pieces(&rt, text, want);
     }
+}
+
+#[test]
+fn gives_pieces_one_after_another(rt: HostRuntime) {
+    let text = b"ab  c\nd".as_slice();
+    let mut lines = Lines::new(text);
+    let line = lines.next().expect(&rt, "a line");
+    let mut pieces = Pieces::new(text, line);
+    assert_eq!(&rt; pieces.next(), Some(b"ab".as_slice()));
+    assert_eq!(&rt; pieces.next(), Some(b"".as_slice()));
+    assert_eq!(&rt; pieces.next(), Some(b"c".as_slice()));
+    assert_eq!(&rt; pieces.next(), None);
+}
+
+#[test]
+fn tells_printed_bytes(rt: HostRuntime) {
+    assert!(&rt; is_printed(b" ab~"));
+    assert!(&rt; !is_printed(b"a\x1fb"));
+    assert!(&rt; !is_printed(b"a\x7f"));
 }
 
 #[test]
