@@ -42,6 +42,11 @@ pushed_more f xs i x y before now after within is so_far more =
     more ∙ ap (λ ys. ys ++ f y) so_far ∙ flat_map_more f before (take i xs) y
     ∙ ap (λ ys. before ++ flat_map f ys) (ap (λ z. take i xs ++ z ∷ []) is ∙ sym (take_more xs i x within))
 
+-- a list that is printed one by one to its end
+pub pushed_each : {X : Type 0} (f : X → List ℕ) (xs : List X) (i : ℕ) (before now : List ℕ) → length xs ≤ i
+    → now ≡ before ++ flat_map f (take i xs) → now ≡ before ++ flat_map f xs
+pushed_each f xs i before now passed so_far = so_far ∙ ap (λ ys. before ++ flat_map f ys) (take_all i xs passed)
+
 -- two pieces that are printed one after another
 pub pushed_two : (out x y a b : List ℕ) → a ≡ out ++ x → b ≡ a ++ y → b ≡ out ++ (x ++ y)
 pushed_two out x y a b p q = q ∙ (ap (λ xs. xs ++ y) p ∙ append_assoc out x y)
