@@ -8,6 +8,7 @@ use Rattle.std.proofs.lemmas.List.Folds.{flat_map-map}
 use Rattle.sa_instr.specs.declared.instr.Instr.{Instr}
 use Rattle.sa_spaces.specs.Space.{SpaceView}
 use Rattle.sa_spaces.specs.Workload.{WorkloadView}
+use Rattle.sa_spaces.specs.declared.workload.Evict.{Evict}
 use Rattle.sa_workload.specs.Text.{instr_line, program_lines, space_line, space_lines, sem_line, absent_line, evict_line, turn_line, version_of, slice_lines, machine_lines, closing_lines, workload_lines, line_text, text_of}
 
 -- words with a space between each two are the first, and each other behind a space
@@ -35,14 +36,27 @@ ok_items (Ok x) now added before e = e
 ok_items (Err d) now added before e = tt
 
 -- a piece more of a list that is printed one by one
-pub pushed_more : {X : Type 0} (f : X → List ℕ) (xs : List X) (i : ℕ) (x : X) (before now after : List ℕ) → i < length xs
-    → now ≡ before ++ flat_map f (take i xs) → after ≡ now ++ f (get_or xs i x) → after ≡ before ++ flat_map f (take (i + 1) xs)
-pushed_more f xs i x before now after within so_far more =
-    more ∙ ap (λ ys. ys ++ f (get_or xs i x)) so_far ∙ flat_map_more f before (take i xs) (get_or xs i x) ∙ ap (λ ys. before ++ flat_map f ys) (sym (take_more xs i x within))
+pub pushed_more : {X : Type 0} (f : X → List ℕ) (xs : List X) (i : ℕ) (x y : X) (before now after : List ℕ) → i < length xs → y ≡ get_or xs i x
+    → now ≡ before ++ flat_map f (take i xs) → after ≡ now ++ f y → after ≡ before ++ flat_map f (take (i + 1) xs)
+pushed_more f xs i x y before now after within is so_far more =
+    more ∙ ap (λ ys. ys ++ f y) so_far ∙ flat_map_more f before (take i xs) y
+    ∙ ap (λ ys. before ++ flat_map f ys) (ap (λ z. take i xs ++ z ∷ []) is ∙ sym (take_more xs i x within))
+
+-- a list that is printed one by one to its end
+pub pushed_each : {X : Type 0} (f : X → List ℕ) (xs : List X) (i : ℕ) (before now : List ℕ) → length xs ≤ i
+    → now ≡ before ++ flat_map f (take i xs) → now ≡ before ++ flat_map f xs
+pushed_each f xs i before now passed so_far = so_far ∙ ap (λ ys. before ++ flat_map f ys) (take_all i xs passed)
 
 -- two pieces that are printed one after another
 pub pushed_two : (out x y a b : List ℕ) → a ≡ out ++ x → b ≡ a ++ y → b ≡ out ++ (x ++ y)
 pushed_two out x y a b p q = q ∙ (ap (λ xs. xs ++ y) p ∙ append_assoc out x y)
+
+-- the line of an eviction whose numbers are these
+pub evict_text : (e : Evict) (space page : ℕ) → space ≡ e.space.0 → page ≡ e.page
+    → line_text (codes "evict" ∷ decimal e.event ∷ decimal space ∷ decimal page ∷ []) ≡ line_text (evict_line e)
+evict_text e space page s p =
+    ap (λ k. line_text (codes "evict" ∷ decimal e.event ∷ decimal k ∷ decimal page ∷ [])) s
+    ∙ ap (λ k. line_text (codes "evict" ∷ decimal e.event ∷ decimal e.space.0 ∷ decimal k ∷ [])) p
 
 -- the lines of a program
 pub pushed_program : (program : List Instr) (out a b : List ℕ) (len pc : ℕ) → len ≡ length program
