@@ -1,5 +1,4 @@
 use Rattle.std.proofs.Common.{◌∙◌, List, Ok, refl, sym, ap}
-use Rattle.std.specs.Str.{bytes_eq}
 use Rattle.sa_base.specs.declared.number.ProcNo.{ProcNo}
 use Rattle.sa_workload.specs.Position.{AtTurn}
 use Rattle.sa_workload.specs.Stage.{machine_of}
@@ -11,8 +10,8 @@ returns-in_err-push c = no_memory _ _ c.from_residual.result c.from_residual.ens
 
 pub returns-in_ok-push : goal.returns-in_ok-push
 returns-in_ok-push c =
-    by_true _ _ _ _ (c.if-eq.ensures ∙ ap (bytes_eq c.args.word.now) c.as_slice.ensures)
+    by_true _ _ _ _ c.if-is.ensures
     (ap (λ (turns : List ProcNo). Ok (AtTurn (machine_of c.args.self.now.header) c.args.self.now.spaces.items c.args.self.now.evictions.items turns)) (sym c.in_ok-push.ensures.items))
 
-pub returns-else-eq : goal.returns-else-eq
-returns-else-eq c = by_false _ _ _ _ (c.if-eq.ensures ∙ ap (bytes_eq c.args.word.now) c.as_slice.ensures) refl
+pub returns-else-is : goal.returns-else-is
+returns-else-is c = by_false _ _ _ _ c.if-is.ensures refl
