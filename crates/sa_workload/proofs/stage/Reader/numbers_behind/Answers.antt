@@ -1,4 +1,4 @@
-use Rattle.std.proofs.Common.{◌≡◌, ◌∙◌, ℕ, List, Option, Some, None, Result, Ok, Err, sym, ap, map}
+use Rattle.std.proofs.Common.{◌∙◌, Ok, Err, sym, ap, map}
 use Rattle.std.proofs.lemmas.Result.{err_from_is_err_and}
 use Rattle.sa_base.specs.Cause.{cause_number}
 use Rattle.sa_workload.specs.Fields.{unless, fields_at, at_end, order_cause}

@@ -1,4 +1,4 @@
-use Rattle.std.proofs.Common.{◌≡◌, List, ℕ, Ok, Err, sym, subst}
+use Rattle.std.proofs.Common.{List, ℕ, Ok, Err, sym, subst}
 use Rattle.std.proofs.lemmas.Result.{err_from_is_err_and}
 use Rattle.sa_base.specs.Cause.{cause_number}
 use Rattle.sa_workload.specs.Next.{last_numbers, step}

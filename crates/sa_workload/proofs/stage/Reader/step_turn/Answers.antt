@@ -1,4 +1,4 @@
-use Rattle.std.proofs.Common.{◌∙◌, List, Ok, refl, sym, ap}
+use Rattle.std.proofs.Common.{List, Ok, refl, sym, ap}
 use Rattle.sa_base.specs.declared.number.ProcNo.{ProcNo}
 use Rattle.sa_workload.specs.Position.{AtTurn}
 use Rattle.sa_workload.specs.Stage.{machine_of}
