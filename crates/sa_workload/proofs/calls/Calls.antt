@@ -1,17 +1,13 @@
 -- What the functions of the reader that go on in several steps come to.
-use Rattle.std.proofs.Common.{◌≡◌, ◌≢◌, ℕ, ◌+◌, ◌<◌, ◌≤◌, slice_index, Bool, true, false, ◌&&◌, not, cond, find, List, [], ◌∷◌, ◌++◌, length, get_or, map, drop, codes, Option, Some, None, IfSome, IfNone, Result, Ok, Err, Ordering, Less, Equal, Greater, inl, inr, refl, sym, ap, ap₂, ◌∙◌, subst, arith, eqb, ltb, lt-ltb, eq-eqb, append_assoc}
-use Rattle.std.specs.Option.{is_some, ok_or, option_map, IsSome, SomeIff}
+use Rattle.std.proofs.Common.{◌≡◌, ◌≢◌, ℕ, ◌+◌, ◌<◌, ◌≤◌, slice_index, Bool, true, false, cond, find, List, [], ◌∷◌, ◌++◌, length, get_or, map, drop, codes, Option, Some, None, IfSome, IfNone, Result, Ok, Err, Ordering, Less, Equal, Greater, inl, inr, refl, sym, ap, ap₂, ◌∙◌, subst, arith, eqb, ltb, lt-ltb, eq-eqb, append_assoc}
+use Rattle.std.specs.Option.{is_some, option_map}
 use Rattle.std.specs.Ordering.{nat_cmp, ordering_then}
 use Rattle.std.specs.Cmp.Lexicographic.{slice_cmp}
-use Rattle.std.specs.Result.{IsErrAnd, MatchResult}
 use Rattle.std.specs.Str.{bytes_eq}
 use Rattle.std.proofs.lemmas.Bool.{cases_lt, cases_eq, false_from_ne_true, ltb-true, ne_eqb}
 use Rattle.std.proofs.lemmas.List.{drop_more, get_or-map, length-map, length_push}
 use Rattle.std.proofs.lemmas.Option.{same_Some}
 use Rattle.std.proofs.lemmas.Slice.Eq.{bytes_eq-Decides}
-use Rattle.sa_base.specs.Cause.{cause_number}
-use Rattle.sa_base.specs.declared.refusal.Cause.{Cause}
-use Rattle.sa_base.specs.declared.refusal.Cause.TheVariants.{BadWord}
 use Rattle.sa_instr.specs.declared.operand.OperandKind.{OperandKind}
 use Rattle.sa_instr.specs.declared.operation.Operation.{Operation}
 use Rattle.sa_instr.specs.declared.operation.TheConstants.{OPERATIONS}
@@ -22,9 +18,9 @@ use Rattle.sa_spaces.specs.Space.{SpaceView, IsSpace}
 use Rattle.sa_text.specs.LineText.{LineText}
 use Rattle.sa_workload.specs.Bad.{Field, Register, list_lt, instr_words}
 use Rattle.sa_workload.specs.Fields.{and_then, unless, field_at, fields_at, at_end, index_of, line_numbers, order_cause}
-use Rattle.sa_workload.specs.Position.{Machine, Draft, Position, AtVersion, AtSlice, AtSpaces, AtAbsent, AtProgram, AtInstr, AtEvict, IsReached}
-use Rattle.sa_workload.specs.Next.{draft_from, draft_numbers, evict_numbers, fields_of, is_end, is_full, last_numbers, last_of, made_by, next_by, operand_from, operands_from, operation_of, step, step_instr}
-use Rattle.sa_workload.specs.Steps.{expected, after_fetch, after_program, after_spaces, space_of_draft, with_program}
+use Rattle.sa_workload.specs.Position.{Machine, Draft, Position, AtVersion, AtAbsent, AtInstr, AtEvict, IsReached}
+use Rattle.sa_workload.specs.Next.{draft_numbers, evict_numbers, fields_of, is_end, is_full, last_numbers, last_of, made_by, next_by, operand_from, operands_from, operation_of, step}
+use Rattle.sa_workload.specs.Steps.{expected, space_of_draft, with_program}
 use Rattle.sa_workload.specs.Rooms.{AreBelow, room_for}
 use Rattle.sa_workload.specs.Reading.{line_in, read_from, goes_on}
 use Rattle.sa_spaces.specs.declared.workload.Evict.{Evict}
@@ -35,9 +31,7 @@ use Rattle.sa_workload.proofs.forward.Sound.{end_of}
 use Rattle.sa_workload.proofs.forward.Reached.{begun_more, whole_program, with_program-drafted, whole_space}
 use Rattle.sa_workload.specs.declared.field.Field.{Field as TableField}
 use Rattle.sa_workload.specs.declared.field.Field.TheVariants as Table
-use Rattle.sa_workload.specs.declared.cause.Refusal.{Refusal}
-use Rattle.sa_workload.specs.declared.cause.Refusal.TheVariants.{Because, OutOfMemory}
-use Rattle.sa_workload.specs.Stage.{field_of, IsAsLong, AreNumbersOf, Gives}
+use Rattle.sa_workload.specs.Stage.{field_of, IsAsLong, AreNumbersOf}
 use Rattle.sa_workload.proofs.forward.Orders.{list_lt-irrefl, less_head, same_head, none-order}
 
 -- a word that is no operation's
@@ -220,106 +214,3 @@ module _ (versions : ℕ) (m : Machine) (spaces : List SpaceView) (d : Draft) (l
       whole_space m spaces (with_program d (instrs ++ i ∷ []))
       (with_program-drafted m spaces d (instrs ++ i ∷ []) r.2 r.4 (program_whole last end) (begun_more d len instrs i r.5 allowed.range allowed.jump allowed.name).2)
       r.3 (length_push d.programs (instrs ++ i ∷ []) ∙ all)
-
--- a choice whose test is known
-pub by_true : {A : Type 0} (b : Bool) (x y r : A) → true ≡ b → x ≡ r → cond b x y ≡ r
-by_true b x y r is e = ap (λ (t : Bool). cond t x y) (sym is) ∙ e
-
-pub by_false : {A : Type 0} (b : Bool) (x y r : A) → false ≡ b → y ≡ r → cond b x y ≡ r
-by_false b x y r is e = ap (λ (t : Bool). cond t x y) (sym is) ∙ e
-
--- a step that memory ran out at may be anything
-pub no_memory : {A : Type 0} (outcome : Result Position ℕ) (at : Position) (r : Result A Refusal) → IsErrAnd r (λ refusal. refusal ≡ OutOfMemory) → Gives outcome at r
-no_memory outcome at (Ok x) h = absurd h
-no_memory {A} outcome at (Err refusal) h = subst (λ (y : Refusal). Gives {A = A} outcome at (Err y)) (sym h) tt
-
--- a step that is refused with a cause
-pub gives_cause : {A : Type 0} (outcome : Result Position ℕ) (at : Position) (r : Result A Refusal) (cause : Cause)
-    → IsErrAnd r (λ refusal. refusal ≡ Because cause) → outcome ≡ Err (cause_number cause) → Gives outcome at r
-gives_cause outcome at (Ok x) cause h e = absurd h
-gives_cause {A} outcome at (Err refusal) cause h e = subst (λ (y : Refusal). Gives {A = A} outcome at (Err y)) (sym h) e
-
--- a step whose last call stands at this position, if memory suffices
-pub gives_program : {A : Type 0} (outcome : Result Position ℕ) (at end : Position) (r : Result A Refusal) → outcome ≡ Ok end
-    → MatchResult r (λ _. at ≡ end) (λ refusal. refusal ≡ OutOfMemory) → Gives outcome at r
-gives_program outcome at end (Ok x) e h = e ∙ ap Ok (sym h)
-gives_program {A} outcome at end (Err refusal) e h = no_memory {A = A} outcome at (Err refusal) h
-
--- behind a fetch line
-pub fetch_last : (version processors fetch : ℕ) → version ≡ 1 → after_fetch version processors fetch ≡ AtSpaces version processors fetch 0
-fetch_last version processors fetch first = ap (λ (b : Bool). cond b (AtSpaces version processors fetch 0) (AtSlice version processors fetch)) (eq-eqb version 1 first)
-
-pub fetch_slice : (version processors fetch : ℕ) → version ≢ 1 → after_fetch version processors fetch ≡ AtSlice version processors fetch
-fetch_slice version processors fetch later = ap (λ (b : Bool). cond b (AtSpaces version processors fetch 0) (AtSlice version processors fetch)) (ne_eqb version 1 later)
-
--- the first line of a space
-module _ (m : Machine) (ns : List ℕ) where
-  pub patience_read : m.version ≡ 3 → slice_index ns 5 ≡ (draft_from m ns).patience
-  patience_read third = sym (ap (λ (b : Bool). cond b (slice_index ns 5) 1) (eq-eqb m.version 3 third))
-
-  pub patience_none : m.version ≢ 3 → 1 ≡ (draft_from m ns).patience
-  patience_none other = sym (ap (λ (b : Bool). cond b (slice_index ns 5) 1) (ne_eqb m.version 3 other))
-
-  pub draft_read : (patience : ℕ) (sems absent : List ℕ) (programs : List (List Instr)) → patience ≡ (draft_from m ns).patience → sems ≡ [] → absent ≡ [] → programs ≡ []
-      → record (draft_from m ns) { patience = patience; sems = sems; absent = absent; programs = programs } ≡ draft_from m ns
-  draft_read patience sems absent programs p s a g =
-      ap₂ (λ (n : ℕ) (xs : List ℕ). record (draft_from m ns) { patience = n; sems = xs; absent = absent; programs = programs }) p s
-      ∙ ap₂ (λ (xs : List ℕ) (ps : List (List Instr)). record (draft_from m ns) { absent = xs; programs = ps }) a g
-
--- behind an instruction
-module _ (m : Machine) (spaces : List SpaceView) (d : Draft) (len : ℕ) (instrs : List Instr) (i : Instr) (o : Option Instr) (made : Some i ≡ o) where
-  abbrev by_tests : Bool → Bool → Bool → List Instr → Result Position ℕ
-  by_tests last whole end is = cond (last && not end) (Err 9) (Ok (cond whole (after_program m spaces (with_program d is)) (AtInstr m spaces d len is)))
-
-  is_step : step_instr m spaces d len instrs o ≡ by_tests (eqb (length instrs + 1) len) (eqb (length instrs + 1) len) (is_end i) (instrs ++ i ∷ [])
-  is_step =
-      ap (step_instr m spaces d len instrs) (sym made)
-      ∙ ap (λ (n : ℕ). by_tests (eqb (length instrs + 1) len) (eqb n len) (is_end i) (instrs ++ i ∷ [])) (length_push instrs i)
-
-  pub instr_more : length instrs + 1 ≢ len → (more : List Instr) → more ≡ instrs ++ i ∷ [] → step_instr m spaces d len instrs o ≡ Ok (AtInstr m spaces d len more)
-  instr_more other more pushed = is_step ∙ ap₂ (λ (b : Bool) (is : List Instr). by_tests b b (is_end i) is) (ne_eqb (length instrs + 1) len other) (sym pushed)
-
-  pub instr_none : length instrs + 1 ≡ len → false ≡ is_end i → step_instr m spaces d len instrs o ≡ Err 9
-  instr_none last end = is_step ∙ ap₂ (λ (b e : Bool). by_tests b b e (instrs ++ i ∷ [])) (eq-eqb (length instrs + 1) len last) (sym end)
-
-  pub instr_last : length instrs + 1 ≡ len → true ≡ is_end i → (more : List Instr) → more ≡ instrs ++ i ∷ []
-      → step_instr m spaces d len instrs o ≡ Ok (after_program m spaces (with_program d more))
-  instr_last last end more pushed =
-      is_step ∙ ap₂ (λ (b e : Bool). by_tests b b e (instrs ++ i ∷ [])) (eq-eqb (length instrs + 1) len last) (sym end)
-      ∙ ap (λ (is : List Instr). Ok (after_program m spaces (with_program d is))) (sym pushed)
-
--- the cause where a word has no instruction
-pub no_instr : (cause : Cause) (o : Option Instr) → Err cause ≡ ok_or o BadWord → o ≡ None → ◌≡◌ {A = Result Position ℕ} (Err 2) (Err (cause_number cause))
-no_instr cause o e none = cc
-
--- the program of instructions, which are one
-pub program_there : (o : Option (List Instr)) (p q : List Instr) → SomeIff o (IsProgram p) p → p ≡ q → IsProgram q → IsSome o
-program_there (Some made) p q iff same h = refl
-program_there None p q iff same h = absurd (iff (subst IsProgram (sym same) h))
-
-pub program_pushed : (o : Option (List Instr)) (p q made : List Instr) (programs more : List (List Instr)) → SomeIff o (IsProgram p) p → p ≡ q → o ≡ Some made
-    → more ≡ programs ++ made ∷ [] → more ≡ programs ++ q ∷ []
-program_pushed o p q made programs more iff same is pushed =
-    pushed ∙ ap (λ (x : List Instr). programs ++ x ∷ []) ((subst (λ (o : Option (List Instr)). SomeIff o (IsProgram p) p) is iff).1 ∙ same)
-
--- behind a program
-module _ (m : Machine) (spaces : List SpaceView) (d : Draft) (p : List Instr) (more : List (List Instr)) (pushed : more ≡ d.programs ++ p ∷ []) where
-  abbrev by_test : Bool → List (List Instr) → Position
-  by_test whole programs =
-      let d : Draft = record d { programs = programs } in
-      cond whole (after_spaces m (spaces ++ space_of_draft d ∷ [])) (AtProgram m spaces d)
-
-  is_after : (b : Bool) → eqb (length more) d.program_count ≡ b → by_test b more ≡ after_program m spaces (with_program d p)
-  is_after b e = ap (λ (t : Bool). by_test t more) (sym e) ∙ ap (λ (ps : List (List Instr)). by_test (eqb (length ps) d.program_count) ps) pushed
-
-  pub program_more : length more ≢ d.program_count → AtProgram m spaces (record d { programs = more }) ≡ after_program m spaces (with_program d p)
-  program_more other = is_after false (ne_eqb (length more) d.program_count other)
-
-  pub program_last : length more ≡ d.program_count → (after : List SpaceView) → after ≡ spaces ++ space_of_draft (record d { programs = more }) ∷ []
-      → after_spaces m after ≡ after_program m spaces (with_program d p)
-  program_last all after last = ap (after_spaces m) last ∙ is_after true (eq-eqb (length more) d.program_count all)
-
-  pub space_there : (length d.programs + 1 ≡ d.program_count → IsSpace (space_of_draft (with_program d p)))
-      → length more ≡ d.program_count → IsSpace (space_of_draft (record d { programs = more }))
-  space_there h all =
-      subst (λ (ps : List (List Instr)). IsSpace (space_of_draft (record d { programs = ps }))) (sym pushed) (h (sym (length_push d.programs p) ∙ ap length (sym pushed) ∙ all))
