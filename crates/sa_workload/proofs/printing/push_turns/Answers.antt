@@ -5,7 +5,7 @@ use Rattle.sa_workload.proofs.printing.push_turns.Goals as goal
 
 pub loop-proc-preserved : goal.loop-proc-preserved
 loop-proc-preserved c =
-    pushed_more (λ p. line_text (turn_line p)) c.args.turns.now c.loop-proc.proc-index (record {0 = 0}) _ _ _ _
+    pushed_more (λ p. line_text (turn_line p)) c.args.turns.now c.loop-proc.proc-index (record { 0 = 0 }) _ _ _ _
     c.loop-proc-test.true refl c.loop-proc.invariant
     (c.in_ok-push_line.ensures ∙ ap (λ number. c.loop-proc.out.items ++ line_text (codes "turn" ∷ decimal number ∷ [])) c.from.ensures)
 
