@@ -1,6 +1,8 @@
 -- Where a text is wrong, and why: the first line that no text has in its place, and the first cause that applies to it.
 -- All of it speaks of the lines of the text, and of the workloads whose texts begin with the lines before.
 use Rattle.std.specs.Prelude.{◌≡◌, ◌≢◌, ◌⊎◌, ℕ, ◌+◌, ◌-◌, ◌^◌, ◌≤◌, ◌==◌, ◌&&◌, ◌||◌, not, nat_lt, nat_le, if◌then◌else◌, Bool, true, false, List, [], ◌∷◌, ◌++◌, length, map, take, filter, count_by, slice_get, slice_index_or, MatchOption, unwrap_or, Option, Some, None, Result, Ok, Err, All, Contains, drop, codes}
+use Rattle.sa_base.specs.Cause.{cause_number}
+use Rattle.sa_base.specs.declared.refusal.Cause.TheVariants.{NotAscii, BadWord, OutOfRange, NoSuchName, BadTarget, TooMany, Missing}
 use Rattle.std.specs.Map.{lookup}
 use Rattle.std.specs.Str.Parse.{digits_value}
 use Rattle.std.specs.List.{list_all}
@@ -69,13 +71,13 @@ abbrev pub IsTooMany : List (List (List ℕ)) → List ℕ → Type 0
 IsTooMany lines word =
     ((word ≡ codes "evict") × (MAX_EVICTIONS ≤ count_of_word lines word)) ⊎ ((word ≡ codes "turn") × (MAX_TURNS ≤ count_of_word lines word))
 
--- a number between these two, else why 4
+-- a number between these two
 abbrev pub within : ℕ → ℕ → Field
-within low high = Number (λ n. nat_le low n && nat_le n high) 4
+within low high = Number (λ n. nat_le low n && nat_le n high) (cause_number OutOfRange)
 
--- a name below the number of those that are declared, else why 6
+-- a name below the number of those that are declared
 abbrev pub declared : ℕ → Field
-declared count = Number (λ n. nat_lt n count) 6
+declared count = Number (λ n. nat_lt n count) (cause_number NoSuchName)
 
 -- the number that a word of a line spells
 abbrev pub number_in : List (List ℕ) → ℕ → ℕ
@@ -123,7 +125,7 @@ patience_field n = if n.version == 3 then within (if n.needs_patience then 2 els
 abbrev pub operand_field : DeclaredNumbers → OperandKind → Field
 operand_field n Operands.Register = Register
 operand_field n Operands.Value = within 0 (2 ^ 64 - 1)
-operand_field n Operands.Place = Number (λ place. nat_lt place n.instructions) 7
+operand_field n Operands.Place = Number (λ place. nat_lt place n.instructions) (cause_number BadTarget)
 operand_field n Operands.Cell = declared n.cells
 operand_field n Operands.Program = declared n.programs
 operand_field n Operands.Mutex = declared n.mutexes
@@ -170,35 +172,35 @@ is_ordered last word = is_some (index_of word ordered_words) && bytes_eq (first_
 abbrev pub numbers_before : List (List ℕ) → List ℕ → ℕ → Option (List ℕ)
 numbers_before last word count = if is_ordered last word then Some (numbers_of count last) else None
 
--- the cause of words that were read so; 9 where all are right
+-- the cause of words that were read so; where all are right, something is missing
 abbrev pub cause_in : Result (List ℕ) ℕ → ℕ
-cause_in (Ok ns) = 9
+cause_in (Ok ns) = cause_number Missing
 cause_in (Err why) = why
 
 -- the first cause that applies behind a right first word
 abbrev pub field_cause : List (List (List ℕ)) → List Field → List ℕ → List (List ℕ) → ℕ
 field_cause lines fields word words = cause_in (line_numbers fields (numbers_before (last_line lines) word (length fields)) words)
 
--- The first cause that applies to the words of a line: a word that may not begin it, why 2; one line too many, why 8; the
--- first wrong word, or its order; a word too many, why 2; and where all words are right, the last instruction is not `end`, why 9.
+-- The first cause that applies to the words of a line: a word that may not begin it; one line too many; the
+-- first wrong word, or its order; a word too many; and where all words are right, the last instruction is not `end`.
 abbrev pub WordCause : ℕ → List (List (List ℕ)) → List (List ℕ) → ℕ → Type 0
 WordCause versions lines [] why = ⊥
 WordCause versions lines (word ∷ words) why =
-    ((¬ IsRightWord versions lines word) × (why ≡ 2))
+    ((¬ IsRightWord versions lines word) × (why ≡ cause_number BadWord))
     ⊎ (IsRightWord versions lines word
-    × ((IsTooMany lines word × (why ≡ 8))
+    × ((IsTooMany lines word × (why ≡ cause_number TooMany))
     ⊎ ((¬ IsTooMany lines word) × (field_cause lines (fields_behind versions lines word) word words ≡ why))))
 
 -- every byte is one of the printed ASCII characters
 abbrev pub IsPrinted : List ℕ → Type 0
 IsPrinted bytes = All (λ b. (32 ≤ b) × (b ≤ 126)) bytes
 
--- the first cause that applies to a line: another byte, why 1; no line feed, why 9; or its words
+-- the first cause that applies to a line: another byte; no line feed; or its words
 abbrev pub LineCause : ℕ → List (List (List ℕ)) → LineText → ℕ → Type 0
 LineCause versions lines line why =
-    ((¬ IsPrinted line.bytes) × (why ≡ 1))
+    ((¬ IsPrinted line.bytes) × (why ≡ cause_number NotAscii))
     ⊎ (IsPrinted line.bytes
-    × (((line.ended ≡ false) × (why ≡ 9)) ⊎ ((line.ended ≡ true) × WordCause versions lines (pieces_of line.bytes) why)))
+    × (((line.ended ≡ false) × (why ≡ cause_number Missing)) ⊎ ((line.ended ≡ true) × WordCause versions lines (pieces_of line.bytes) why)))
 
 -- the lines of some bytes, in words
 abbrev pub words_of : List LineText → List (List (List ℕ))
@@ -211,7 +213,7 @@ pub record IsBad (versions : ℕ) (ls : List LineText) (k why : ℕ) : Type 0 wh
   pub ended : All (λ (l : LineText). l.ended ≡ true) (take (k - 1) ls)
   pub begins : Begins versions (words_of (take (k - 1) ls))
   pub wrong : MatchOption (slice_get ls (k - 1))
-      ((k ≡ length ls + 1) × ((w : WorkloadView) → IsUpTo versions w → workload_lines w ≢ words_of ls) × (why ≡ 9))
+      ((k ≡ length ls + 1) × ((w : WorkloadView) → IsUpTo versions w → workload_lines w ≢ words_of ls) × (why ≡ cause_number Missing))
       (λ line. (line.ended ≡ true → ¬ Begins versions (words_of (take (k - 1) ls) ++ pieces_of line.bytes ∷ []))
       × LineCause versions (words_of (take (k - 1) ls)) line why)
 

@@ -1,5 +1,6 @@
 -- What the words behind the first one of a line are read as, by its fields: the number of each, or the first cause that applies.
 use Rattle.std.specs.Prelude.{ℕ, ◌+◌, ◌==◌, ◌&&◌, ◌||◌, nat_lt, Bool, false, codes, List, [], ◌∷◌, Option, Some, None, Result, Ok, Err, if◌then◌else◌}
+use Rattle.sa_base.specs.declared.refusal.Cause.TheVariants.{BadWord, BadNumber, OutOfRange, Twice, Missing}
 use Rattle.std.specs.Option.{option_map}
 use Rattle.std.specs.Str.{bytes_eq}
 use Rattle.sa_base.specs.declared.refusal.Cause.{Cause}
@@ -50,15 +51,15 @@ abbrev pub index_of : List ℕ → List (List ℕ) → Option ℕ
 index_of word [] = None
 index_of word (k ∷ ks) = if bytes_eq word k then Some 0 else option_map (λ n. n + 1) (index_of word ks)
 
--- A word, as a number of a field; that of a register is its number. No register is why 2, and no number below 2 ^ 64 in its
--- one spelling why 3.
+-- A word, as a number of a field; that of a register is its number. Else it is no register, or no number below 2 ^ 64 in its one
+-- spelling.
 abbrev pub read_field : Field → List ℕ → Result ℕ ℕ
-read_field Register word = or_cause (index_of word registers) 2
-read_field (Number test cause) word = and_then (or_cause (number_of word) 3) (λ n. if test n then Ok n else Err cause)
+read_field Register word = or_cause (index_of word registers) (cause_number BadWord)
+read_field (Number test cause) word = and_then (or_cause (number_of word) (cause_number BadNumber)) (λ n. if test n then Ok n else Err cause)
 
--- the next word, and the words behind it; one that is missing is why 9
+-- the next word, and the words behind it
 abbrev pub field_at : Field → List (List ℕ) → Result (ℕ × List (List ℕ)) ℕ
-field_at field [] = Err 9
+field_at field [] = Err (cause_number Missing)
 field_at field (word ∷ rest) = and_then (read_field field word) (λ n. Ok (n, rest))
 
 -- a word for each field, and the words behind them; else the cause of the first that is wrong or missing
@@ -67,15 +68,15 @@ fields_at [] words = Ok ([], words)
 fields_at (field ∷ fields) words =
     and_then (field_at field words) (λ first. and_then (fields_at fields first.1) (λ others. Ok (first.0 ∷ others.0, others.1)))
 
--- no word is left, else it is one too many, why 2
+-- no word is left, else the next is one too many
 abbrev pub at_end : List (List ℕ) → Option ℕ
 at_end [] = None
-at_end (word ∷ words) = Some 2
+at_end (word ∷ words) = Some (cause_number BadWord)
 
--- numbers have to be behind those of the last such line: equal to them, why 5, or smaller, why 4
+-- numbers have to be behind those of the last such line: neither equal to them nor smaller
 abbrev pub order_cause : Option (List ℕ) → List ℕ → Option ℕ
 order_cause None ns = None
-order_cause (Some last) ns = if bytes_eq ns last then Some 5 else (if list_lt ns last then Some 4 else None)
+order_cause (Some last) ns = if bytes_eq ns last then Some (cause_number Twice) else (if list_lt ns last then Some (cause_number OutOfRange) else None)
 
 -- the numbers of all words behind the first one, or the first cause that applies to them
 abbrev pub line_numbers : List Field → Option (List ℕ) → List (List ℕ) → Result (List ℕ) ℕ

@@ -1,5 +1,7 @@
 -- What a line leads to from a position, or why it is refused there: the reader's contracts are equations to this.
 use Rattle.std.specs.Prelude.{ℕ, ◌+◌, ◌-◌, Bool, true, false, ◌==◌, ◌&&◌, not, nat_le, if◌then◌else◌, List, [], ◌∷◌, ◌++◌, length, slice_get, slice_index, slice_index_or, find, Option, Some, None, Result, Ok, Err, codes}
+use Rattle.sa_base.specs.Cause.{cause_number}
+use Rattle.sa_base.specs.declared.refusal.Cause.TheVariants.{BadWord, TooMany, Missing}
 use Rattle.std.specs.Option.{option_map, is_some}
 use Rattle.std.specs.List.{list_all}
 use Rattle.std.specs.Str.{bytes_eq}
@@ -134,9 +136,9 @@ is_end _ = false
 
 -- behind an instruction; the last one has to be `end`
 abbrev pub step_instr : Machine → List SpaceView → Draft → ℕ → List Instr → Option Instr → Result Position ℕ
-step_instr m spaces d len instrs None = Err 2
+step_instr m spaces d len instrs None = Err (cause_number BadWord)
 step_instr m spaces d len instrs (Some i) =
-    if (length instrs + 1 == len) && not (is_end i) then Err 9 else Ok (after_instr m spaces d len (instrs ++ i ∷ []))
+    if (length instrs + 1 == len) && not (is_end i) then Err (cause_number Missing) else Ok (after_instr m spaces d len (instrs ++ i ∷ []))
 
 -- where a line of this word and these numbers leads
 abbrev pub step : Position → List ℕ → List ℕ → Result Position ℕ
@@ -160,7 +162,7 @@ step (AtEvict m spaces evictions) word ns =
 step (AtTurn m spaces evictions turns) word ns =
     if bytes_eq word (codes "turn") then Ok (AtTurn m spaces evictions (turns ++ turn_from ns ∷ []))
     else Ok (Closed (workload m spaces evictions turns))
-step (Closed w) word ns = Err 2
+step (Closed w) word ns = Err (cause_number BadWord)
 
 -- the fields behind a first word
 abbrev pub fields_of : ℕ → Position → List ℕ → List Field
@@ -172,9 +174,9 @@ space_fields m spaces = fields_by 0 (numbers_at (AtSpace m spaces)) (codes "spac
 -- the position behind a line, or the first cause that applies to it
 abbrev pub next_by : ℕ → Position → List ℕ → List (List ℕ) → Result Position ℕ
 next_by versions p word words =
-    if is_some (index_of word (expected p)) then (if is_full p word then Err 8
-    else and_then (line_numbers (fields_of versions p word) (last_numbers p word) words) (step p word)) else Err 2
+    if is_some (index_of word (expected p)) then (if is_full p word then Err (cause_number TooMany)
+    else and_then (line_numbers (fields_of versions p word) (last_numbers p word) words) (step p word)) else Err (cause_number BadWord)
 
 abbrev pub next : ℕ → Position → List (List ℕ) → Result Position ℕ
-next versions p [] = Err 2
+next versions p [] = Err (cause_number BadWord)
 next versions p (word ∷ words) = next_by versions p word words

@@ -1,5 +1,7 @@
 -- What a text is read as: its lines in order, each from the position behind those before it.
 use Rattle.std.specs.Prelude.{◌≡◌, ℕ, ◌+◌, if◌then◌else◌, List, [], ◌∷◌, Option, Some, None, Result, Ok, Err, ⊤}
+use Rattle.sa_base.specs.Cause.{cause_number, bad_at}
+use Rattle.sa_base.specs.declared.refusal.Cause.TheVariants.{NotAscii, Missing}
 use Rattle.sa_base.specs.declared.refusal.Bad.{Bad}
 use Rattle.sa_base.specs.declared.refusal.Unread.{Unread}
 use Rattle.sa_base.specs.declared.refusal.Unread.TheVariants.{Bad as refused, OutOfMemory}
@@ -11,12 +13,12 @@ use Rattle.sa_workload.specs.Next.{next}
 
 -- the position behind a line that is printed and ended
 abbrev pub line_in : ℕ → Position → LineText → Result Position ℕ
-line_in versions p line = if is_printed line.bytes then (if line.ended then next versions p (pieces_of line.bytes) else Err 9) else Err 1
+line_in versions p line = if is_printed line.bytes then (if line.ended then next versions p (pieces_of line.bytes) else Err (cause_number Missing)) else Err (cause_number NotAscii)
 
 -- the workload, if no line is to come; else the line of this number is missing
 abbrev pub or_missing : ℕ → Option WorkloadView → Result WorkloadView Bad
 or_missing number (Some w) = Ok w
-or_missing number None = Err (record { line = number; why = 9 })
+or_missing number None = Err (bad_at number Missing)
 
 abbrev pub finished : ℕ → Position → Result WorkloadView Bad
 finished number p = or_missing number (closed p)

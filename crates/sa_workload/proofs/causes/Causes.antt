@@ -28,7 +28,7 @@ abbrev pub is_stuck : Position → List ℕ → Bool
 is_stuck (AtInstr m spaces d len instrs) word = (length instrs + 1 == len) && not (bytes_eq word (codes "end"))
 is_stuck _ word = false
 
--- what right words lead to: why 9 where the position is stuck, else another position
+-- what right words lead to: something is missing where the position is stuck, else another position
 abbrev pub Leads : Bool → Result Position ℕ → Type 0
 Leads true r = r ≡ Err 9
 Leads false r = (q : Position) × (r ≡ Ok q)
