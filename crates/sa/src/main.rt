@@ -2,8 +2,8 @@
 #![tactic(auto)]
 
 use sa_cli::{Status, Words, top};
-use sa_gates::FreeGate;
 use sa_io::{StdSink, StdSource};
+use sa_workers::FreeGate;
 use std::env;
 use std::io::{self, ErrorKind};
 use std::process::ExitCode;

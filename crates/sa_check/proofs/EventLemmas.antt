@@ -7,7 +7,7 @@ use Rattle.std.proofs.lemmas.Bool.Decides.{nat_tests}
 use Rattle.sa_base.specs.declared.record.Item.{Item}
 use Rattle.sa_base.specs.declared.record.Record.{Record}
 use Rattle.sa_laws.specs.Event.{Event, events_of, before_events, event_of}
-use Rattle.sa_moment.specs.Seen.{event}
+use Rattle.sa_check_moment.specs.Seen.{event}
 use Rattle.sa_laws.specs.Ends.{LastLine}
 use Rattle.sa_check.specs.Items.{is_with, what_of}
 use Rattle.sa_check.specs.Sides.{line_before}

@@ -10,7 +10,7 @@ use Rattle.sa_laws.specs.Opening.{IsNumbered}
 use Rattle.sa_laws.specs.Step.{AreSteps}
 use Rattle.sa_laws.specs.Ends.{LastLine}
 use Rattle.sa_laws.specs.Rules.{Law, fast_threads, Holds}
-use Rattle.sa_moment.specs.Seen.{Seen, at_event}
+use Rattle.sa_check_moment.specs.Seen.{Seen, at_event}
 use Rattle.sa_check.specs.declared.begin.Beginning.{Beginning}
 use Rattle.sa_check.specs.declared.end.Ending.{Ending}
 use Rattle.sa_check.specs.declared.places.DueFound.{DueFound}

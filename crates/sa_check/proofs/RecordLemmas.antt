@@ -7,7 +7,7 @@ use Rattle.sa_base.specs.declared.record.Record.{Record}
 use Rattle.sa_laws.specs.Event.{Event}
 use Rattle.sa_laws.specs.Step.{AreSteps, Needs}
 use Rattle.sa_laws.specs.Upcalls.{RecordLaw, EachRecord}
-use Rattle.sa_moment.specs.Seen.{Seen, behind_record}
+use Rattle.sa_check_moment.specs.Seen.{Seen, behind_record}
 use Rattle.sa_check.specs.Records.{Each, behind_some}
 
 -- what was found of a law so far, and that it holds of the rest, is that it holds of all

@@ -15,8 +15,8 @@ use Rattle.sa_laws.specs.Readings.{Readings, opening_readings}
 use Rattle.sa_laws.specs.History.{is_inside, after_event, after_events}
 use Rattle.sa_laws.specs.Ends.{LastLine}
 use Rattle.sa_laws.specs.Rules.{fast_threads, HoldEach, Breaks, rules}
-use Rattle.sa_legal.specs.Legal.{before, line_at, HoldsBefore, BreaksAt, FirstBreakIn, FirstBreak}
-use Rattle.sa_moment.specs.Seen.{Seen}
+use Rattle.sa_laws.specs.Legal.{before, line_at, HoldsBefore, BreaksAt, FirstBreakIn, FirstBreak}
+use Rattle.sa_check_moment.specs.Seen.{Seen}
 use Rattle.sa_legal.proofs.AppendLemmas.{events-append}
 use Rattle.sa_check.specs.declared.verdict.Verdict.{Verdict}
 use Rattle.sa_check.specs.declared.verdict.Verdict.TheVariants.{Legal, Broken}

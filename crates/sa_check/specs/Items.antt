@@ -3,7 +3,7 @@ use Rattle.std.specs.Prelude.{◌==◌, ◌&&◌, Bool}
 use Rattle.sa_base.specs.declared.record.Record.{Record}
 use Rattle.sa_base.specs.declared.record.Item.{Item}
 use Rattle.sa_laws.specs.Event.{Event}
-use Rattle.sa_moment.specs.Seen.{event}
+use Rattle.sa_check_moment.specs.Seen.{event}
 use Rattle.sa_check.specs.declared.event.TraceEvent.{TraceEvent}
 
 -- an item is of one event with another

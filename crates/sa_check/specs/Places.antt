@@ -3,7 +3,7 @@ use Rattle.std.specs.Prelude.{◌≡◌, ◌≢◌, ◌↔◌, ℕ, Bool, IsTrue
 use Rattle.sa_laws.specs.Event.{Event}
 use Rattle.sa_laws.specs.Closing.{wants_due, aims_due, lines_due}
 use Rattle.sa_laws.specs.Shape.{others_of, wants_in, lines_in, aims_in, last_lines}
-use Rattle.sa_moment.specs.Seen.{Seen}
+use Rattle.sa_check_moment.specs.Seen.{Seen}
 use Rattle.sa_check.specs.declared.places.Places.{Places}
 use Rattle.sa_check.specs.declared.places.DueFound.{DueFound}
 

@@ -8,7 +8,7 @@ use Rattle.sa_laws.specs.History.{after_records}
 use Rattle.sa_laws.specs.Shape.{before_aims, before_wants, front_part}
 use Rattle.sa_laws.specs.Step.{AreSteps}
 use Rattle.sa_laws.specs.Upcalls.{RecordLaw, EachRecord, TellsOnce, NamesTheLife, TellsAllThen, GivesUpcallThen, RaisesLine}
-use Rattle.sa_moment.specs.Seen.{Seen, seen}
+use Rattle.sa_check_moment.specs.Seen.{Seen, seen}
 use Rattle.sa_check.specs.declared.places.DueFound.{DueFound}
 use Rattle.sa_check.specs.declared.records.RecordsFound.{RecordsFound}
 use Rattle.sa_check.specs.declared.records.ReadThrough.{ReadThrough}

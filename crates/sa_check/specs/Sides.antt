@@ -16,7 +16,7 @@ use Rattle.sa_laws.specs.Demand.{DemandIsAnnounced}
 use Rattle.sa_laws.specs.Turns.{IsStep, TurnsAreTaken}
 use Rattle.sa_laws.specs.Locks.{LocksAreKept, RunsNext}
 use Rattle.sa_laws.specs.Ends.{LastLine, EndIsTold}
-use Rattle.sa_moment.specs.Seen.{Seen}
+use Rattle.sa_check_moment.specs.Seen.{Seen}
 use Rattle.sa_check.specs.declared.begin.Beginning.{Beginning}
 use Rattle.sa_check.specs.declared.end.LastTold.{LastTold}
 use Rattle.sa_check.specs.declared.end.Ending.{Ending}

@@ -2,10 +2,10 @@
 use Rattle.std.specs.Prelude.{List}
 use Rattle.sa_base.specs.declared.record.Item.{Item}
 use Rattle.sa_spaces.specs.Workload.{WorkloadView}
-use Rattle.sa_reader.specs.declared.text.TraceText.{TraceText}
+use Rattle.sa_trace.specs.declared.reading.TraceText.{TraceText}
 use Rattle.sa_laws.specs.Ends.{LastLine}
 use Rattle.sa_laws.specs.Rules.{fast_threads}
-use Rattle.sa_legal.specs.Legal.{IsRight, FirstBreak}
+use Rattle.sa_laws.specs.Legal.{IsRight, FirstBreak}
 use Rattle.sa_check.specs.declared.verdict.Verdict.{Verdict}
 use Rattle.sa_check.specs.declared.verdict.Verdict.TheVariants.{Legal, Broken}
 

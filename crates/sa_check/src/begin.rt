@@ -5,16 +5,17 @@ ghost use Rattle.sa_spaces.specs.Workload.{WorkloadView};
 ghost use Rattle.sa_laws.specs.Upcalls.{FirstLineIsAsked};
 ghost use Rattle.sa_laws.specs.Rules.{NoLines};
 ghost use Rattle.sa_laws.specs.Readings.{Readings, running_of};
-ghost use Rattle.sa_moment.specs.Seen.{seen, at_event, lowers};
+ghost use Rattle.sa_check_moment.specs.Seen.{seen, at_event, lowers};
 ghost use Rattle.sa_check.specs.Items.{told_event};
 ghost use Rattle.sa_check.specs.Sides.{IsBeginning, LinesAreInPlace};
 
 use crate::event::TraceEvent;
 use sa_base::Record;
-use sa_moment::{Moment, Start};
-use sa_shape::{has_aims, last_lines};
-use sa_steps::{demand_is_said, locks_are_kept, order_is_kept, turns_are_taken};
-use sa_told::interrupts_next;
+use sa_check_moment::{Moment, Start};
+use sa_check_rules::{
+    demand_is_said, interrupts_next, locks_are_kept, order_is_kept, turns_are_taken,
+};
+use sa_check_shapes::{has_aims, last_lines};
 
 /// What was found before an event and as it begins, and what its end will need.
 #[derive(Clone, Copy, Debug)]

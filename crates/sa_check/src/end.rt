@@ -1,13 +1,13 @@
 // What is found after an event.
 ghost use Rattle.std.specs.Prelude.{◌↔◌, IsTrue};
 ghost use Rattle.sa_laws.specs.Ends.{EndIsTold};
-ghost use Rattle.sa_moment.specs.Seen.{seen};
+ghost use Rattle.sa_check_moment.specs.Seen.{seen};
 ghost use Rattle.sa_check.specs.Sides.{IsEnding, line_told};
 
 use sa_base::End;
-use sa_due::{covers_shares, is_prompt, wants_nothing};
-use sa_moment::Moment;
-use sa_told::{goes_on, is_told_end, runs_where_owned};
+use sa_check_closing::{covers_shares, is_prompt, wants_nothing};
+use sa_check_moment::Moment;
+use sa_check_rules::{goes_on, is_told_end, runs_where_owned};
 
 /// What the last line of a trace tells: how the run ended, and its number of events.
 #[derive(Clone, Copy, Debug)]

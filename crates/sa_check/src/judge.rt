@@ -1,6 +1,6 @@
 // The judge of one event.
 ghost use Rattle.std.specs.Prelude.{◌≡◌, IfOk};
-ghost use Rattle.sa_moment.specs.Seen.{seen};
+ghost use Rattle.sa_check_moment.specs.Seen.{seen};
 ghost use Rattle.sa_check.specs.Items.{told_event};
 ghost use Rattle.sa_check.specs.Sides.{line_told};
 ghost use Rattle.sa_check.specs.Judged.{Judges, findings_of};
@@ -11,9 +11,9 @@ use crate::event::TraceEvent;
 use crate::findings::Findings;
 use crate::places::DueFound;
 use crate::records::{RecordsFound, read_records};
-use sa_due::is_numbered;
+use sa_check_closing::is_numbered;
+use sa_check_moment::Moment;
 use sa_laws::Rule;
-use sa_moment::Moment;
 use std::alloc::{AllocError, Global};
 
 /// How an event was judged.

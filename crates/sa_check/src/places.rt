@@ -1,15 +1,15 @@
 // The places in an event at which wants, aims and lines are due.
 ghost use Rattle.std.specs.Prelude.{◌≡◌, ◌≤◌, length, IfOk};
 ghost use Rattle.sa_laws.specs.Shape.{before_wants, before_aims, front_part};
-ghost use Rattle.sa_moment.specs.Seen.{seen};
+ghost use Rattle.sa_check_moment.specs.Seen.{seen};
 ghost use Rattle.sa_check.specs.Items.{told_event};
 ghost use Rattle.sa_check.specs.Places.{DueMore};
 
 use crate::event::TraceEvent;
 use sa_base::Record;
-use sa_due::{are_aims_due, are_lines_due, are_wants_due};
-use sa_moment::Moment;
-use sa_shape::{before_aims, before_wants, front_part, last_lines, others_of};
+use sa_check_closing::{are_aims_due, are_lines_due, are_wants_due};
+use sa_check_moment::Moment;
+use sa_check_shapes::{before_aims, before_wants, front_part, last_lines, others_of};
 use std::alloc::{AllocError, Global};
 
 /// Behind how many records of an event wants, aims and lines are due.

@@ -1,14 +1,14 @@
 // What is found while the records of an event are read.
 ghost use Rattle.std.specs.Prelude.{◌≡◌, true, IfOk};
-ghost use Rattle.sa_moment.specs.Seen.{seen};
+ghost use Rattle.sa_check_moment.specs.Seen.{seen};
 ghost use Rattle.sa_check.specs.Items.{told_event};
 ghost use Rattle.sa_check.specs.Records.{FoundMore, ReadsRecords};
 
 use crate::event::TraceEvent;
 use crate::places::{DueFound, Places};
 use sa_base::{ProcNo, Record};
-use sa_moment::Moment;
-use sa_told::{gives_upcall, names_the_life, raises_line, tells_all, tells_once};
+use sa_check_moment::Moment;
+use sa_check_rules::{gives_upcall, names_the_life, raises_line, tells_all, tells_once};
 use std::alloc::{AllocError, Global};
 
 /// Of each law of records: it held of each so far.

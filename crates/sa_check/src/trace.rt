@@ -2,7 +2,7 @@ ghost use Rattle.std.specs.Prelude.{◌≡◌, ◌↔◌, ℕ, IfOk};
 ghost use Rattle.sa_laws.specs.declared.rule.Rule.{Rule};
 ghost use Rattle.sa_laws.specs.Event.{events_of};
 ghost use Rattle.sa_laws.specs.Rules.{fast_threads};
-ghost use Rattle.sa_legal.specs.Legal.{IsRight, FirstBreak};
+ghost use Rattle.sa_laws.specs.Legal.{IsRight, FirstBreak};
 ghost use Rattle.sa_check.specs.declared.verdict.Verdict.TheVariants.{Legal, Broken};
 ghost use Rattle.sa_check.specs.Sides.{told_line, line_told, line_before};
 ghost use Rattle.sa_check.specs.Verdict.{last_line, IsVerdict};
@@ -12,10 +12,10 @@ use crate::event::{TraceEvent, event_len, records_of};
 use crate::judge::{Judged, judge};
 use crate::verdict::Verdict;
 use sa_base::Item;
+use sa_check_moment::Moment;
 use sa_laws::Rule;
-use sa_moment::Moment;
-use sa_reader::TraceText;
 use sa_spaces::Workload;
+use sa_trace::TraceText;
 use std::alloc::{AllocError, Global};
 
 /// What the trace text is beside the workload: `Legal` exactly where it is right, and `Broken` with exactly its first

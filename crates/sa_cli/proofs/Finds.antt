@@ -8,11 +8,11 @@ use Rattle.sa_spaces.specs.Workload.{WorkloadView}
 use Rattle.sa_laws.specs.declared.rule.Rule.{Rule}
 use Rattle.sa_laws.specs.Ends.{LastLine}
 use Rattle.sa_laws.specs.Rules.{fast_threads}
-use Rattle.sa_legal.specs.Legal.{IsRight, FirstBreak}
+use Rattle.sa_laws.specs.Legal.{IsRight, FirstBreak}
 use Rattle.sa_workload.specs.Bad.{BadAt}
 use Rattle.sa_workload.specs.Text.{IsText}
 use Rattle.sa_workload.proofs.whole.OneBad.{texts_differ}
-use Rattle.sa_reader.specs.Reading.{Told, read_of}
+use Rattle.sa_trace.specs.Reading.{Told, read_of}
 use Rattle.sa_check.specs.declared.verdict.Verdict.{Verdict}
 use Rattle.sa_check.specs.declared.verdict.Verdict.TheVariants.{Legal, Broken}
 use Rattle.sa_check.specs.Verdict.{IsVerdict}

@@ -7,9 +7,9 @@ use Rattle.sa_gen.specs.Generated.{generated}
 use Rattle.sa_trace.specs.TraceText.{trace_text, last_line_of}
 use Rattle.sa_workload.specs.Text.{IsText}
 use Rattle.sa_workload.specs.Bad.{BadAt, BadAt1}
-use Rattle.sa_words.specs.declared.command.ScheduleWord.{ScheduleWord}
-use Rattle.sa_words.specs.declared.command.Command.{Command}
-use Rattle.sa_words.specs.declared.command.Command.TheVariants.{Run, Threads, Load, Migrate, Check}
+use Rattle.sa_command.specs.declared.command.ScheduleWord.{ScheduleWord}
+use Rattle.sa_command.specs.declared.command.Command.{Command}
+use Rattle.sa_command.specs.declared.command.Command.TheVariants.{Run, Threads, Load, Migrate, Check}
 use Rattle.sa_cli.specs.declared.outcome.Ran.{Ran}
 use Rattle.sa_cli.specs.declared.outcome.Ran.TheVariants.{Nothing}
 use Rattle.sa_cli.specs.declared.outcome.Status.{Status}

@@ -5,8 +5,8 @@ use Rattle.sa_spaces.specs.Workload.{WorkloadView}
 use Rattle.sa_io.specs.Faults.{HasRisen}
 use Rattle.sa_workload.specs.Text.{IsText, IsText1}
 use Rattle.sa_workload.specs.Bad.{BadAt, BadAt1}
-use Rattle.sa_words.specs.declared.command.Command.{Command}
-use Rattle.sa_words.specs.declared.command.Command.TheVariants.{Run, Threads, Load, Migrate, Check}
+use Rattle.sa_command.specs.declared.command.Command.{Command}
+use Rattle.sa_command.specs.declared.command.Command.TheVariants.{Run, Threads, Load, Migrate, Check}
 use Rattle.sa_cli.specs.declared.outcome.Status.{Status}
 use Rattle.sa_cli.specs.declared.outcome.Status.TheVariants.{BadWorkload, OutOfMemory, Migrated}
 use Rattle.sa_cli.specs.declared.input.TheConstants.{INPUT_LIMIT}

@@ -2,8 +2,8 @@
 use Rattle.std.specs.Prelude.{map}
 use Rattle.sa_spaces.specs.Workload.{WorkloadView}
 use Rattle.sa_sched.specs.Order.{Order, RoundRobin, Seed, Given, Hold}
-use Rattle.sa_words.specs.declared.command.ScheduleWord.{ScheduleWord}
-use Rattle.sa_words.specs.declared.command.ScheduleWord.TheVariants as word
+use Rattle.sa_command.specs.declared.command.ScheduleWord.{ScheduleWord}
+use Rattle.sa_command.specs.declared.command.ScheduleWord.TheVariants as word
 
 -- the turn lines are those of the workload
 abbrev pub order_by : ScheduleWord → WorkloadView → Order

@@ -8,12 +8,12 @@ use Rattle.sa_trace.specs.TraceText.{trace_text}
 use Rattle.sa_spaces.specs.Workload.{WorkloadView}
 use Rattle.sa_workload.specs.Text.{IsText}
 use Rattle.sa_workload.specs.Bad.{BadAt}
-use Rattle.sa_package.specs.Step.{fast_calls}
+use Rattle.sa_package_model.specs.Step.{fast_calls}
 use Rattle.sa_seat.specs.Closed.{ClosedView}
 use Rattle.sa_workers.specs.Run.{HasRun}
 use Rattle.sa_workers.specs.declared.runs.Limits.{Limits}
-use Rattle.sa_words.specs.declared.command.Command.{Command}
-use Rattle.sa_words.specs.declared.command.Command.TheVariants.{Threads}
+use Rattle.sa_command.specs.declared.command.Command.{Command}
+use Rattle.sa_command.specs.declared.command.Command.TheVariants.{Threads}
 use Rattle.sa_cli.specs.declared.outcome.Ran.{Ran}
 use Rattle.sa_cli.specs.declared.outcome.Ran.TheVariants.{Nothing, Shared}
 use Rattle.sa_cli.specs.declared.outcome.Status.{Status}

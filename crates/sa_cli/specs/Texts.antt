@@ -6,7 +6,7 @@ use Rattle.sa_spaces.specs.Workload.{WorkloadView}
 use Rattle.sa_laws.specs.Ends.{LastLine}
 use Rattle.sa_workload.specs.Text.{IsText}
 use Rattle.sa_workload.specs.Bad.{BadAt}
-use Rattle.sa_reader.specs.Reading.{Told, read_of}
+use Rattle.sa_trace.specs.Reading.{Told, read_of}
 use Rattle.sa_check.specs.declared.verdict.Verdict.{Verdict}
 use Rattle.sa_check.specs.Verdict.{IsVerdict}
 use Rattle.sa_cli.specs.declared.found.Found.{Found}

@@ -12,13 +12,13 @@ use crate::outcome::{Outcome, Status};
 use crate::reading::{migrated_text, read_workload};
 use crate::writing::{write_last_line, write_trace, write_verdict, written};
 use sa_base::MAX_EVENTS;
+use sa_command::ScheduleWord;
 use sa_instr::MAX_SLICE;
 use sa_io::{Sink, Source};
 use sa_package::FastThreads;
 use sa_run::run;
 use sa_sched::Kind;
 use sa_spaces::Workload;
-use sa_words::ScheduleWord;
 use std::alloc::{AllocError, Global};
 
 /// `run`: the workload of the source, by this order of turns and within the budget; writes the trace text.

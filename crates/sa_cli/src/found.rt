@@ -50,7 +50,7 @@ fn found_in(alloc: Global, input: &[u8]) -> Result<Found, AllocError>
         Err(Unread::Bad(bad)) => return Ok(Found::BadWorkload(bad)),
         Err(Unread::OutOfMemory) => return Err(AllocError),
     };
-    match sa_reader::read(alloc, second) {
+    match sa_trace::read(alloc, second) {
         Ok(text) => Ok(Found::Judged(check(alloc, &workload, &text)?)),
         Err(Unread::Bad(bad)) => Ok(Found::BadTrace(bad)),
         Err(Unread::OutOfMemory) => Err(AllocError),

@@ -13,4 +13,4 @@ mod writing;
 
 pub use calls::{run_one, top};
 pub use outcome::{Outcome, Ran, Status};
-pub use sa_words::Words;
+pub use sa_command::Words;

@@ -1,7 +1,7 @@
 // The command `threads`.
 ghost use Rattle.std.specs.Prelude.{◌≡◌, ◌≤◌, sum};
 ghost use Rattle.sa_base.specs.declared.limits.TheConstants.{MAX_BURST, MAX_EVENTS};
-ghost use Rattle.sa_words.specs.Commands.{command_of};
+ghost use Rattle.sa_command.specs.Commands.{command_of};
 ghost use Rattle.sa_cli.specs.Input.{LosesPrefix};
 ghost use Rattle.sa_cli.specs.Outcome.{WritesNothing};
 ghost use Rattle.sa_cli.specs.Answers.{World, world};
@@ -11,13 +11,12 @@ ghost use Rattle.sa_cli.specs.declared.outcome.Ran.TheVariants.{Shared};
 use crate::outcome::{Outcome, Status};
 use crate::reading::read_workload;
 use crate::writing::written;
-use sa_gates::Gate;
+use sa_command::{Command, Words, read_words};
 use sa_io::{Sink, Source};
 use sa_package::FastThreads;
 use sa_seat::Closed;
 use sa_trace::print;
-use sa_words::{Command, Words, read_words};
-use sa_workers::{Limits, run};
+use sa_workers::{Gate, Limits, run};
 use std::alloc::Global;
 use std::sync::Wait;
 use std::thread::Threads;

@@ -19,15 +19,15 @@ use Rattle.sa_kernel_model.specs.State.{State, owner_of}
 use Rattle.sa_kernel_model.specs.Entries.{held_for, next_note, after_fetch, fetched}
 use Rattle.sa_kernel_model.specs.Sound.{AreClaimed}
 use Rattle.sa_spaces.specs.Space.{SpaceView}
-use Rattle.sa_machine.specs.Machine.{Machine, user_of, context_on, seen_on, called, told, stepped, gone}
-use Rattle.sa_machine.specs.Turn.{told_one, told_all, gone_in}
-use Rattle.sa_machine.specs.End.{local_on}
-use Rattle.sa_machine.specs.Run.{setting, CanGo}
-use Rattle.sa_machine.specs.Standing.{Stands}
-use Rattle.sa_machine.proofs.Phases.{IsAt, at-owned}
-use Rattle.sa_machine.proofs.Calls.{is-of, is-seen_of, is-step, is-going, value-at, mine, handed-next, tells-next}
-use Rattle.sa_machine.proofs.Turns.{step-law}
-use Rattle.sa_machine.proofs.Runs.{local-is}
+use Rattle.sa_core_model.specs.Machine.{Machine, user_of, context_on, seen_on, called, told, stepped, gone}
+use Rattle.sa_core_model.specs.Turn.{told_one, told_all, gone_in}
+use Rattle.sa_core_model.specs.End.{local_on}
+use Rattle.sa_core_model.specs.Run.{setting, CanGo}
+use Rattle.sa_core_model.specs.Standing.{Stands}
+use Rattle.sa_core_model.proofs.Phases.{IsAt, at-owned}
+use Rattle.sa_core_model.proofs.Calls.{is-of, is-seen_of, is-step, is-going, value-at, mine, handed-next, tells-next}
+use Rattle.sa_core_model.proofs.Turns.{step-law}
+use Rattle.sa_core_model.proofs.Runs.{local-is}
 
 -- a context that was read in its place
 pub read-ctx : {C : Type 0} (cs : List (Option C)) (i j : ℕ) (x : Option C) (d : C) → i < length cs → j ≡ i → x ≡ get_or cs j x → x ≡ Some d → get_or cs i None ≡ Some d

@@ -14,13 +14,13 @@ use Rattle.sa_abstract.specs.Walk.{Spot, AreLocal, after_one, program_at}
 use Rattle.sa_abstract.specs.declared.answer.SeatState.{SeatState}
 use Rattle.sa_abstract.specs.declared.answer.SeatState.TheVariants.{Local, Away}
 use Rattle.sa_kernel_model.specs.declared.entry.TheConstants.{ENTRY_ITEMS}
-use Rattle.sa_machine.specs.Machine.{Machine}
-use Rattle.sa_machine.specs.Turn.{turned, committed}
-use Rattle.sa_machine.specs.End.{all_done, is_stuck, end_of, committable, local_on}
-use Rattle.sa_machine.specs.Run.{setting, opening, IsTurn, CanGo, AreNextLocal}
-use Rattle.sa_machine.specs.Standing.{IsBetween}
-use Rattle.sa_machine.proofs.Turns.{Rests, rests-turned, between-rests}
-use Rattle.sa_machine.proofs.Runs.{rests-committed, stands-opening, can-go}
+use Rattle.sa_core_model.specs.Machine.{Machine}
+use Rattle.sa_core_model.specs.Turn.{turned, committed}
+use Rattle.sa_core_model.specs.End.{all_done, is_stuck, end_of, committable, local_on}
+use Rattle.sa_core_model.specs.Run.{setting, opening, IsTurn, CanGo, AreNextLocal}
+use Rattle.sa_core_model.specs.Standing.{IsBetween}
+use Rattle.sa_core_model.proofs.Turns.{Rests, rests-turned, between-rests}
+use Rattle.sa_core_model.proofs.Runs.{rests-committed, stands-opening, can-go}
 use Rattle.sa_core.specs.declared.machine.Machine.{Machine as Parts}
 use Rattle.sa_core.specs.declared.machine.TheConstants.{EVENT_ITEMS}
 use Rattle.sa_core.specs.View.{CoreView, machine_of, machine}

@@ -6,7 +6,7 @@ use Rattle.std.specs.Prelude.{sum_by, zero, suc}
 use Rattle.sa_spaces.specs.Space.{SpaceView}
 use Rattle.sa_spaces.specs.Workload.{WorkloadView}
 use Rattle.sa_abstract.specs.Calls.{Calls}
-use Rattle.sa_machine.specs.Run.{setting, started_from}
+use Rattle.sa_core_model.specs.Run.{setting, started_from}
 use Rattle.sa_core.specs.Users.{one_unless, is_over, is_still, Counted}
 
 sum-few : {X : Type 0} (test : X → Bool) (xs : List X) → sum_by (λ x. one_unless (test x)) xs ≤ length xs

@@ -19,13 +19,13 @@ use Rattle.sa_kernel_model.specs.State.{State, owner_of, line_of}
 use Rattle.sa_kernel_model.specs.Fits.{IsFit, Asks as KernelAsks, upcalls}
 use Rattle.sa_kernel_model.specs.Sound.{AreClaimed}
 use Rattle.sa_kernel_model.proofs.SeenLemmas.{low-bit}
-use Rattle.sa_machine.specs.Machine.{Machine, seen_on, scene_of, without_context, stopped_in, stepped, step_to, begun}
-use Rattle.sa_machine.specs.Turn.{kernel_entered, next_event}
-use Rattle.sa_machine.specs.Run.{CanGo}
-use Rattle.sa_machine.specs.Standing.{Stands, IsBetween}
-use Rattle.sa_machine.proofs.Effects.{same-more, same-idled, same-own}
-use Rattle.sa_machine.proofs.Phases.{some-is, at-owned, stands-later}
-use Rattle.sa_machine.proofs.Turns.{Rests, begun-is, rests-next, Welcomed, CanEnter, can-interrupt, can-block, welcomed-upcall, rests-between, rests-entered, rests-given, stopped-is, stepped-is, rests-stepped, step-law, between-rests, own-page}
+use Rattle.sa_core_model.specs.Machine.{Machine, seen_on, scene_of, without_context, stopped_in, stepped, step_to, begun}
+use Rattle.sa_core_model.specs.Turn.{kernel_entered, next_event}
+use Rattle.sa_core_model.specs.Run.{CanGo}
+use Rattle.sa_core_model.specs.Standing.{Stands, IsBetween}
+use Rattle.sa_core_model.proofs.Effects.{same-more, same-idled, same-own}
+use Rattle.sa_core_model.proofs.Phases.{some-is, at-owned, stands-later}
+use Rattle.sa_core_model.proofs.Turns.{Rests, begun-is, rests-next, Welcomed, CanEnter, can-interrupt, can-block, welcomed-upcall, rests-between, rests-entered, rests-given, stopped-is, stepped-is, rests-stepped, step-law, between-rests, own-page}
 use Rattle.sa_core.specs.Needs.{Welcomes, IsNext, Asks}
 
 module _ {U C : Type 0} (f : Calls U C) (stands : Standing U C) (keep : Keeps f stands) where

@@ -14,9 +14,9 @@ use Rattle.sa_kernel_model.specs.Entries.{entered}
 use Rattle.sa_kernel_model.specs.Fits.{upcalls}
 use Rattle.sa_kernel_model.specs.Enters.{given_by}
 use Rattle.sa_kernel_model.specs.Sound.{AreClaimed}
-use Rattle.sa_machine.specs.Machine.{Machine, user_of, seen_on, scene_of, with_scene, with_pair, begun, answered}
-use Rattle.sa_machine.specs.Turn.{kernel_entered, told_all, welcomed_in, welcomed_if, entered_on, hinted, answered_in}
-use Rattle.sa_machine.specs.Standing.{Stands}
+use Rattle.sa_core_model.specs.Machine.{Machine, user_of, seen_on, scene_of, with_scene, with_pair, begun, answered}
+use Rattle.sa_core_model.specs.Turn.{kernel_entered, told_all, welcomed_in, welcomed_if, entered_on, hinted, answered_in}
+use Rattle.sa_core_model.specs.Standing.{Stands}
 use Rattle.sa_core.specs.Needs.{Welcomes}
 
 pub given-true : (b : Bool) (a : ActNo) (given : Given) → given ≡ given_by b a → given ≢ Nothing → b ≡ true

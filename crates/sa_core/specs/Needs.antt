@@ -10,9 +10,9 @@ use Rattle.sa_abstract.specs.Keeps.{Standing, IsBefore, IsAsked}
 use Rattle.sa_abstract.specs.declared.answer.Step.{Step}
 use Rattle.sa_kernel_model.specs.State.{owner_of, line_of}
 use Rattle.sa_kernel_model.specs.Sound.{AreClaimed}
-use Rattle.sa_machine.specs.Machine.{Machine, user_of, seen_on, begun}
-use Rattle.sa_machine.specs.Run.{setting}
-use Rattle.sa_machine.specs.Standing.{Stands, IsBetween}
+use Rattle.sa_core_model.specs.Machine.{Machine, user_of, seen_on, begun}
+use Rattle.sa_core_model.specs.Run.{setting}
+use Rattle.sa_core_model.specs.Standing.{Stands, IsBetween}
 use Rattle.sa_core.specs.declared.machine.Machine.{Machine as Parts}
 use Rattle.sa_core.specs.View.{machine_of}
 use Rattle.sa_core.specs.Room.{HasRoom}

@@ -4,7 +4,7 @@ use Rattle.sa_base.specs.declared.limits.TheConstants.{MAX_EVENTS}
 use Rattle.sa_abstract.specs.Keeps.{Standing}
 use Rattle.sa_kernel.specs.Kept.{kernel_of}
 use Rattle.sa_kernel_model.specs.Owed.{owed_items}
-use Rattle.sa_machine.specs.Standing.{IsBetween}
+use Rattle.sa_core_model.specs.Standing.{IsBetween}
 use Rattle.sa_core.specs.View.{machine_of}
 use Rattle.sa_core.specs.declared.machine.Machine.{Machine as Parts}
 use Rattle.sa_core.specs.declared.machine.TheConstants.{EVENT_ITEMS}

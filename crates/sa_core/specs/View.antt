@@ -1,7 +1,7 @@
 -- The machine as a value, and the core as its callers see it.
 use Rattle.std.specs.Prelude.{◌≡◌, ℕ}
 use Rattle.sa_kernel.specs.Kept.{kernel_of}
-use Rattle.sa_machine.specs.Machine.{Machine}
+use Rattle.sa_core_model.specs.Machine.{Machine}
 use Rattle.sa_core.specs.declared.machine.Machine.{Machine as Parts}
 
 abbrev pub machine_of : {U C : Type 0} → Parts U C → Machine U C

@@ -1,9 +1,9 @@
 ghost use Rattle.std.specs.Prelude.{◌≡◌, ℕ, ◌+◌, ◌≤◌, ◌<◌, None, OnOk, OnErr, IfOk};
 ghost use Rattle.sa_base.specs.declared.limits.TheConstants.{MAX_EVENTS};
 ghost use Rattle.sa_kernel_model.specs.State.{line_of};
-ghost use Rattle.sa_machine.specs.Turn.{committed};
-ghost use Rattle.sa_machine.specs.End.{end_of, committable, local_on};
-ghost use Rattle.sa_machine.specs.Run.{opening, IsTurn, AreNextLocal};
+ghost use Rattle.sa_core_model.specs.Turn.{committed};
+ghost use Rattle.sa_core_model.specs.End.{end_of, committable, local_on};
+ghost use Rattle.sa_core_model.specs.Run.{opening, IsTurn, AreNextLocal};
 ghost use Rattle.sa_core.specs.View.{machine, IsSame};
 
 use crate::machine::Machine;

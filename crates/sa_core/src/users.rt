@@ -4,7 +4,7 @@ ghost use Rattle.sa_base.specs.declared.limits.TheConstants.{MAX_SPACES};
 ghost use Rattle.sa_base.specs.Items.{items_at, items_from};
 ghost use Rattle.sa_spaces.specs.Space.{SpaceView};
 ghost use Rattle.sa_abstract.specs.Keeps.{IsBefore, IsOf, IsSeenOf, IsTelling, IsStep, IsGoing};
-ghost use Rattle.sa_machine.specs.Run.{setting, started_from};
+ghost use Rattle.sa_core_model.specs.Run.{setting, started_from};
 ghost use Rattle.sa_core.specs.Users.{one_unless, is_over, is_still, unfinished, active, stopped_of};
 
 use sa_abstract::{SeatState, Step, Tally, UserLevel};

@@ -16,3 +16,4 @@ pub mod Turns
 pub mod Locks
 pub mod Ends
 pub mod Rules
+pub mod Legal

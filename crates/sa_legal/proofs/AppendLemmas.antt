@@ -14,7 +14,7 @@ use Rattle.sa_laws.specs.History.{Test, after_records, after_event, after_events
 use Rattle.sa_laws.specs.Upcalls.{RecordLaw, EachRecord}
 use Rattle.sa_laws.specs.Step.{AreSteps}
 use Rattle.sa_laws.specs.Rules.{UserRules}
-use Rattle.sa_legal.specs.Legal.{IsLegal, IsLegalHistory}
+use Rattle.sa_laws.specs.Legal.{IsLegal, IsLegalHistory}
 use Rattle.sa_legal.specs.Fold.{AreLawful, AreNumbered}
 use Rattle.sa_legal.proofs.WalkLemmas.{item}
 use Rattle.sa_legal.proofs.FoldLemmas.{lawful-along, legal-along}

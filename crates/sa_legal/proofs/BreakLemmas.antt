@@ -11,7 +11,7 @@ use Rattle.sa_laws.specs.Event.{Event}
 use Rattle.sa_laws.specs.Readings.{Readings}
 use Rattle.sa_laws.specs.Ends.{GoesOn, are_done, are_at_rest}
 use Rattle.sa_laws.specs.Rules.{fast_threads, HoldEach, rules}
-use Rattle.sa_legal.specs.Legal.{FirstBreak}
+use Rattle.sa_laws.specs.Legal.{FirstBreak}
 use Rattle.sa_legal.specs.Fold.{AreRight}
 use Rattle.sa_legal.specs.Examples.{workload_with, smallest, blocking, stops_at, told_done, at, s0, p0, t0, act, other_opening, other_place, told_of_nothing, stopped_untold, two_lives, not_told_added, other_io, interrupt_put_off, raised_for_nothing, wanted_for_nothing, aimed_for_nothing, idle_with_lock, idle_beside_thread, freed_unused, not_done}
 use Rattle.sa_legal.proofs.ExampleLemmas.{prompt-calm, no-wants, one-share}

@@ -10,7 +10,7 @@ use Rattle.sa_laws.specs.Readings.{Readings, opening_readings}
 use Rattle.sa_laws.specs.Upcalls.{RecordLaw, EachRecord}
 use Rattle.sa_laws.specs.History.{after_event, begun}
 use Rattle.sa_laws.specs.Rules.{UserRules, IsLawful}
-use Rattle.sa_legal.specs.Legal.{IsLegal}
+use Rattle.sa_laws.specs.Legal.{IsLegal}
 use Rattle.sa_legal.specs.Fold.{AreLawful}
 use Rattle.sa_legal.proofs.FoldLemmas.{lawful-along}
 use Rattle.sa_legal.proofs.WalkLemmas.{Along, AllGood, IsKept, walk}

@@ -11,7 +11,7 @@ use Rattle.sa_laws.specs.Event.{Event, events_of}
 use Rattle.sa_laws.specs.Readings.{Readings}
 use Rattle.sa_laws.specs.Ends.{LastLine}
 use Rattle.sa_laws.specs.Rules.{UserRules, Holds, HoldEach, Breaks, rules, rules_before}
-use Rattle.sa_legal.specs.Legal.{before, BreaksAt, FirstBreak, FirstBreakIn, IsRight, HoldsBefore, line_at}
+use Rattle.sa_laws.specs.Legal.{before, BreaksAt, FirstBreak, FirstBreakIn, IsRight, HoldsBefore, line_at}
 
 abbrev rank : Rule → ℕ
 rank Numbering = 0

@@ -11,7 +11,7 @@ use Rattle.sa_laws.specs.Readings.{Readings, opening_readings}
 use Rattle.sa_laws.specs.History.{after_event, after_events}
 use Rattle.sa_laws.specs.Ends.{LastLine, EndIsTold}
 use Rattle.sa_laws.specs.Rules.{UserRules, IsLawful, HoldEach, Breaks, rules}
-use Rattle.sa_legal.specs.Legal.{IsLegalHistory, BreaksAt, line_at}
+use Rattle.sa_laws.specs.Legal.{IsLegalHistory, BreaksAt, line_at}
 use Rattle.sa_legal.specs.Fold.{AreLawful, AreRight}
 
 pub lawful-at : (u : UserRules) (w : WorkloadView) (r : Readings) (events : List Event) → AreLawful u w r events

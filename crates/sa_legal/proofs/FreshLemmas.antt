@@ -24,7 +24,7 @@ use Rattle.sa_laws.specs.Event.{Event}
 use Rattle.sa_laws.specs.History.{Test, is_step, is_up, with_step, ended, stepped, arisen}
 use Rattle.sa_laws.specs.Upcalls.{TellsAllThen}
 use Rattle.sa_laws.specs.Rules.{UserRules}
-use Rattle.sa_legal.specs.Legal.{IsLegal}
+use Rattle.sa_laws.specs.Legal.{IsLegal}
 use Rattle.sa_legal.specs.Headline.{Stands, IsGivenBack, NumbersAreFresh}
 use Rattle.sa_legal.proofs.WalkLemmas.{IsKept, item}
 use Rattle.sa_legal.proofs.EventLemmas.{good-at}

@@ -28,7 +28,7 @@ use Rattle.sa_laws.specs.History.{Test, is_step, is_up, with_step, ended, steppe
 use Rattle.sa_laws.specs.Locks.{HoldsLock, TakesFor, CanTake, CanRun, CanReady, CanFree, WithFirst}
 use Rattle.sa_laws.specs.Upcalls.{IsUntoldTo}
 use Rattle.sa_laws.specs.Rules.{fast_threads}
-use Rattle.sa_legal.specs.Legal.{IsLegal}
+use Rattle.sa_laws.specs.Legal.{IsLegal}
 use Rattle.sa_legal.specs.Headline.{Begins, Frees, HoldsListLock, NoHolderIsReady}
 use Rattle.sa_legal.proofs.WalkLemmas.{IsKept, item}
 use Rattle.sa_legal.proofs.EventLemmas.{good-at}

@@ -15,7 +15,7 @@ use Rattle.sa_laws.specs.Record.{begun_after}
 use Rattle.sa_laws.specs.History.{Test}
 use Rattle.sa_laws.specs.Upcalls.{GivesUpcallThen}
 use Rattle.sa_laws.specs.Rules.{UserRules}
-use Rattle.sa_legal.specs.Legal.{IsLegal}
+use Rattle.sa_laws.specs.Legal.{IsLegal}
 use Rattle.sa_legal.specs.Words.{begins_io, ios_begun}
 use Rattle.sa_legal.specs.Headline.{BlocksNameTheirIo}
 use Rattle.sa_legal.proofs.WalkLemmas.{IsKept, item}

@@ -18,7 +18,7 @@ use Rattle.sa_laws.specs.History.{readings, Test, begun, ended}
 use Rattle.sa_laws.specs.Upcalls.{RecordLaw, EachRecord}
 use Rattle.sa_legal.specs.Words.{RaisedAt, aim_said, want_said, move_said, fetch_said, Notes, StandsUntold}
 use Rattle.sa_laws.specs.Rules.{UserRules, IsLawful}
-use Rattle.sa_legal.specs.Legal.{IsLegal}
+use Rattle.sa_laws.specs.Legal.{IsLegal}
 use Rattle.sa_legal.specs.Read.{Reads}
 use Rattle.sa_legal.proofs.EventLemmas.{along, legal-lawful, items-events}
 use Rattle.sa_legal.proofs.WalkLemmas.{walk, IsKept, item}

@@ -9,7 +9,7 @@ use Rattle.sa_spaces.specs.Workload.{WorkloadView}
 use Rattle.sa_laws.specs.Readings.{opening_readings}
 use Rattle.sa_laws.specs.Upcalls.{TellsOnce}
 use Rattle.sa_laws.specs.Rules.{UserRules}
-use Rattle.sa_legal.specs.Legal.{IsLegal}
+use Rattle.sa_laws.specs.Legal.{IsLegal}
 use Rattle.sa_legal.specs.Words.{StandsUntold}
 use Rattle.sa_legal.specs.Headline.{TellsAtMostOnce}
 use Rattle.sa_legal.proofs.EventLemmas.{good-at, along, legal-lawful, items-events}

@@ -13,7 +13,7 @@ use Rattle.sa_laws.specs.Readings.{Readings, IsLocked}
 use Rattle.sa_laws.specs.Locks.{HoldsLock}
 use Rattle.sa_laws.specs.History.{begun}
 use Rattle.sa_laws.specs.Rules.{fast_threads, HoldEach, IsLawful, rules}
-use Rattle.sa_legal.specs.Legal.{FirstBreak}
+use Rattle.sa_laws.specs.Legal.{FirstBreak}
 use Rattle.sa_legal.specs.Fold.{AreRight}
 use Rattle.sa_legal.specs.Examples.{workload_with, forking_program, forking, forking_run, older_taken, stops_at, at, s0, p0, t0, t1, t2}
 use Rattle.sa_legal.proofs.ExampleLemmas.{prompt-calm, no-wants, one-share, OnlyZero, only-none, only-put, the-one, none-locked}

@@ -25,7 +25,7 @@ use Rattle.sa_laws.specs.History.{Test, begun, after_event, after_events, readin
 use Rattle.sa_laws.specs.Closing.{first_space, claims_of, shares_at}
 use Rattle.sa_laws.specs.Upcalls.{RecordLaw, EachRecord}
 use Rattle.sa_laws.specs.Rules.{IsLawful, fast_threads}
-use Rattle.sa_legal.specs.Legal.{IsLegal, before}
+use Rattle.sa_laws.specs.Legal.{IsLegal, before}
 use Rattle.sa_legal.specs.Lives.{Stand, stand_if, stand_in, stand_said, stand_of, LivesAreRead}
 use Rattle.sa_legal.specs.Lives as life
 use Rattle.sa_legal.specs.Consequences.{AtEachMoment, RunApart, AreLockedOnce, LockersStand, IsRunning, IsBlocked, IsUntold, SharesAreTheOnes}

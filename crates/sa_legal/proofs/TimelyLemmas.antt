@@ -20,7 +20,7 @@ use Rattle.sa_laws.specs.History.{after_event, begun}
 use Rattle.sa_laws.specs.Closing.{first_space, spaces_of, claim_of, claims_of, shares_at}
 use Rattle.sa_laws.specs.Upcalls.{EachRecord}
 use Rattle.sa_laws.specs.Rules.{UserRules, IsLawful}
-use Rattle.sa_legal.specs.Legal.{IsLegal}
+use Rattle.sa_laws.specs.Legal.{IsLegal}
 use Rattle.sa_legal.specs.Words.{last_aim}
 use Rattle.sa_legal.specs.Headline.{up_to, AtEachEnd, IsInTime, TellsInTime, CoversShares, SharesAreCovered, claim_in, aims_of, procs_of}
 use Rattle.sa_legal.specs.Read.{Reads}

@@ -13,7 +13,7 @@ use Rattle.sa_laws.specs.Readings.{Readings, IsLocked, running_of, untold_of}
 use Rattle.sa_laws.specs.Record.{is_io_of}
 use Rattle.sa_laws.specs.Closing.{first_space, claims_of, shares_at}
 use Rattle.sa_laws.specs.Rules.{fast_threads}
-use Rattle.sa_legal.specs.Legal.{before}
+use Rattle.sa_laws.specs.Legal.{before}
 
 -- something holds of what is read after the first n events of a trace, for each n
 abbrev pub AtEachMoment : (Readings → Type 0) → WorkloadView → List Item → Type 0

@@ -1,4 +1,3 @@
-pub mod Legal
 pub mod Words
 pub mod Read
 pub mod Headline

@@ -4,7 +4,7 @@ ghost use Rattle.sa_base.specs.declared.record.Item.{Item};
 ghost use Rattle.sa_spaces.specs.Workload.{WorkloadView, IsWorkload};
 ghost use Rattle.sa_laws.specs.Readings.{Readings};
 ghost use Rattle.sa_laws.specs.Rules.{fast_threads};
-ghost use Rattle.sa_legal.specs.Legal.{IsLegal};
+ghost use Rattle.sa_laws.specs.Legal.{IsLegal};
 ghost use Rattle.sa_legal.specs.Consequences.{AtEachMoment, RunApart, AreLockedOnce, LockersStand, SharesAreTheOnes};
 
 /// After each event of a legal run, no two running lives have one number.

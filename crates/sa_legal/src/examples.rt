@@ -1,7 +1,7 @@
 //! Short histories. No function here does anything: its clauses are proved.
 ghost use Rattle.sa_laws.specs.declared.rule.Rule.TheVariants.{Numbering, StepTaken, AtMostOnce, InTime, WhereOwned, AllTold, BlockUpcall, InterruptNext, LineCause, WantCause, SharesCovered, DemandSaid, TurnsAndSteps, ListLocks, ListOrder, EndTold};
 ghost use Rattle.sa_laws.specs.Rules.{fast_threads};
-ghost use Rattle.sa_legal.specs.Legal.{IsLegal, FirstBreak};
+ghost use Rattle.sa_laws.specs.Legal.{IsLegal, FirstBreak};
 ghost use Rattle.sa_legal.specs.Examples.{smallest, smallest_trace, blocking, stops_at, told_done, other_opening, other_place, told_of_nothing, stopped_untold, two_lives, not_told_added, other_io, interrupt_put_off, raised_for_nothing, wanted_for_nothing, aimed_for_nothing, idle_with_lock, idle_beside_thread, freed_unused, not_done, forking, older_taken};
 
 /// The run of the smallest workload is legal.

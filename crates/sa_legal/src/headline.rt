@@ -3,7 +3,7 @@ ghost use Rattle.std.specs.Prelude.{List};
 ghost use Rattle.sa_base.specs.declared.record.Item.{Item};
 ghost use Rattle.sa_spaces.specs.Workload.{WorkloadView, IsWorkload};
 ghost use Rattle.sa_laws.specs.Rules.{fast_threads};
-ghost use Rattle.sa_legal.specs.Legal.{IsLegal};
+ghost use Rattle.sa_laws.specs.Legal.{IsLegal};
 ghost use Rattle.sa_legal.specs.Headline.{TellsAtMostOnce, TellsInTime, NumbersAreFresh, SharesAreCovered, NoHolderIsReady};
 
 /// A legal run tells each stop, block and unblock at most once, behind it.

@@ -11,7 +11,7 @@ ghost use Rattle.sa_laws.specs.declared.rule.Rule.{Rule};
 ghost use Rattle.sa_laws.specs.Readings.{untold_of};
 ghost use Rattle.sa_laws.specs.Ends.{LastLine};
 ghost use Rattle.sa_laws.specs.Rules.{fast_threads};
-ghost use Rattle.sa_legal.specs.Legal.{IsLegal, IsLegalHistory, IsRight, FirstBreak};
+ghost use Rattle.sa_laws.specs.Legal.{IsLegal, IsLegalHistory, IsRight, FirstBreak};
 ghost use Rattle.sa_legal.specs.Words.{StandsUntold};
 ghost use Rattle.sa_legal.specs.Headline.{BlocksNameTheirIo};
 ghost use Rattle.sa_legal.specs.Read.{Reads};

@@ -13,7 +13,7 @@ use Rattle.sa_code.specs.declared.state.PackageState.{PackageState}
 use Rattle.sa_code.specs.declared.state.Frame.{Frame}
 use Rattle.sa_code.specs.Micro.{micro, chosen, list_in, CanDo}
 use Rattle.sa_code.proofs.Cases.{micro-outcome}
-use Rattle.sa_package.specs.Conditions.{IsThread}
+use Rattle.sa_package_model.specs.Conditions.{IsThread}
 
 -- what stands in a list is counted there
 stands_in : (xs : List ℕ) (k t : ℕ) → slice_get xs k ≡ Some t → 1 ≤ count_in t xs

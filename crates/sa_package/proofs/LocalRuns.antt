@@ -11,7 +11,7 @@ use Rattle.sa_instr.specs.Local.{instr_at, place_after, regs_after}
 use Rattle.sa_abstract.specs.Walk.{Spot, after_many, after_one, ins_records}
 use Rattle.sa_fast.specs.declared.threads.Block.{Block}
 use Rattle.sa_fast.specs.Threads.{gone_to}
-use Rattle.sa_package.specs.Step.{block_after, says_between, spot_of, at_spot}
+use Rattle.sa_package_model.specs.Step.{block_after, says_between, spot_of, at_spot}
 
 -- the spot behind one instruction
 spot_is : (program : List Instr) (b : Block) (pc : ℕ) (regs : List ℕ) → pc ≡ place_after (instr_at program b.pc) b.pc b.regs → regs ≡ regs_after (instr_at program b.pc) b.regs → spot_of (gone_to b pc regs) ≡ after_one program (spot_of b)

@@ -14,12 +14,12 @@ use Rattle.sa_copies.specs.Copies.{package_ops}
 use Rattle.sa_sync.specs.Sync.{opening}
 use Rattle.sa_fast.specs.declared.threads.Place.TheVariants.{Running, Waiting}
 use Rattle.sa_fast.specs.Threads.{at_start}
-use Rattle.sa_package.specs.declared.context.Context.{Context}
-use Rattle.sa_package.specs.declared.context.State.TheVariants.{Code}
-use Rattle.sa_package.specs.declared.package.FastThreads.{FastThreads}
-use Rattle.sa_package.specs.Rules.{Pair, pair}
-use Rattle.sa_package.specs.Context.{fresh}
-use Rattle.sa_package.specs.Step.{told, answered, stepped}
+use Rattle.sa_package_model.specs.declared.context.Context.{Context}
+use Rattle.sa_package_model.specs.declared.context.State.TheVariants.{Code}
+use Rattle.sa_package_model.specs.Package.{Package}
+use Rattle.sa_package_model.specs.Rules.{Pair, pair}
+use Rattle.sa_package_model.specs.Context.{fresh}
+use Rattle.sa_package_model.specs.Step.{told, answered, stepped}
 
 -- what a handler on processor 0 sees
 abbrev seen_at : ℕ → Seen
@@ -40,7 +40,7 @@ abbrev space : SpaceView
 space = record { priority = 0; mutexes = 0; sems = []; cells = 0; absent = []; programs = (End ∷ []) ∷ []; patience = 1 }
 
 -- threads 1 and 2 run, and are about to push threads 3 and 4 on lists 0 and 1, whose locks they hold
-abbrev two_holders : FastThreads
+abbrev two_holders : Package
 two_holders = record {
   def = space;
   processors = 2;
@@ -68,7 +68,7 @@ holder t l pushes = record {
 abbrev stopped : Context → ℕ → Stopped Context
 stopped c t = record { ctx = c; thread = Some (thread t); idle = false }
 
-abbrev of : FastThreads × Context → Pair
+abbrev of : Package × Context → Pair
 of p = pair p.0 p.1
 
 -- the handler that was told of both

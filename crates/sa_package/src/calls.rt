@@ -1,14 +1,14 @@
 // The other calls.
 ghost use Rattle.std.specs.Prelude.{◌≡◌};
-ghost use Rattle.sa_package.specs.Conditions.{IsThread};
-ghost use Rattle.sa_package.specs.Context.{carried_by};
-ghost use Rattle.sa_package.specs.Step.{answered, in_section, own_section, local_at, tally};
+ghost use Rattle.sa_package_model.specs.Conditions.{IsThread};
+ghost use Rattle.sa_package_model.specs.Context.{carried_by};
+ghost use Rattle.sa_package_model.specs.Step.{answered, in_section, own_section, local_at, tally};
 
-use crate::context::{Context, State};
 use crate::package::FastThreads;
 use sa_abstract::{SeatState, Tally};
 use sa_base::{ProcNo, Seen};
 use sa_code::{Frame, Op};
+use sa_package_model::{Context, State};
 
 impl FastThreads {
     /// The context goes on behind the last notice of its upcall, or behind an entry of the kernel that it asked for: it

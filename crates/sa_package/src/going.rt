@@ -5,14 +5,14 @@ ghost use Rattle.sa_spaces.specs.Space.{SpaceView};
 ghost use Rattle.sa_abstract.specs.Walk.{program_at};
 ghost use Rattle.sa_fast.specs.Threads.{block_at};
 ghost use Rattle.sa_fast.specs.Instruction.{IsAt};
-ghost use Rattle.sa_package.specs.Conditions.{CanGo};
-ghost use Rattle.sa_package.specs.Step.{went, block_after, says_between};
+ghost use Rattle.sa_package_model.specs.Conditions.{CanGo};
+ghost use Rattle.sa_package_model.specs.Step.{went, block_after, says_between};
 
-use crate::context::{Context, State};
 use crate::package::FastThreads;
 use sa_base::{Item, MAX_EVENTS, ProcNo, Record, Seen, SpaceNo, ThreadNo, Trace};
 use sa_fast::Block;
 use sa_instr::{Program, local};
+use sa_package_model::{Context, State};
 
 impl FastThreads {
     /// The context's thread runs `n` local instructions, one in each event from `seen.event` on. It cannot fail

@@ -2,17 +2,17 @@
 ghost use Rattle.std.specs.Prelude.{◌≡◌};
 ghost use Rattle.sa_abstract.specs.Keeps.{IsTelling};
 
-use crate::context::Context;
 use crate::package::FastThreads;
 use sa_abstract::{SeatState, Step, Tally, UserLevel};
 use sa_base::{Note, Seen, SpaceNo, Stopped, ThreadNo, Trace};
+use sa_package_model::Context;
 use sa_spaces::SpaceDef;
 use std::alloc::{AllocError, Global};
 
 impl UserLevel for FastThreads {
-    ghost use Rattle.sa_package.specs.Step.{fast_calls};
-    ghost use Rattle.sa_package.specs.Stands.{fast_stands};
-    ghost use Rattle.sa_package.specs.Keeping.{fast_keeps};
+    ghost use Rattle.sa_package_model.specs.Step.{fast_calls};
+    ghost use Rattle.sa_package_model.specs.Stands.{fast_stands};
+    ghost use Rattle.sa_package_model.proofs.Keeping.{fast_keeps};
 
     type Ctx = Context;
 

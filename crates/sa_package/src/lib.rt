@@ -3,17 +3,12 @@
 #![tactic(auto)]
 
 mod calls;
-mod context;
 mod going;
-pub mod laws;
 mod level;
 mod notice;
 mod opening;
 mod package;
-mod sections;
 mod settling;
 mod step;
 
-pub use context::{Context, State};
 pub use package::FastThreads;
-pub use sections::Sections;

@@ -2,18 +2,18 @@
 ghost use Rattle.std.specs.Prelude.{◌≡◌, ◌+◌, ◌≤◌, length, IfSome};
 ghost use Rattle.std.specs.Option.{ForSome};
 ghost use Rattle.sa_copies.specs.Copies.{package_ops, copy_at};
-ghost use Rattle.sa_package.specs.Conditions.{CanTakeOver, CanBeTold};
-ghost use Rattle.sa_package.specs.Step.{told, told_of};
-ghost use Rattle.sa_package.specs.Context.{at_copy, section_in, carried_by};
-ghost use Rattle.sa_package.specs.Rules.{pair, took_over, thread_alone};
+ghost use Rattle.sa_package_model.specs.Conditions.{CanTakeOver, CanBeTold};
+ghost use Rattle.sa_package_model.specs.Step.{told, told_of};
+ghost use Rattle.sa_package_model.specs.Context.{at_copy, section_in, carried_by};
+ghost use Rattle.sa_package_model.specs.Rules.{pair, took_over, thread_alone};
 
-use crate::context::{Context, State};
 use crate::package::FastThreads;
 use crate::settling::place;
 use sa_base::{Note, Stopped};
 use sa_code::{Code, Frame};
 use sa_copies::copy_place;
 use sa_fast::Place;
+use sa_package_model::{Context, State};
 
 impl FastThreads {
     /// The context is told a notice of its upcall. With `Preempted` and `Unblocked` comes the context that was stopped or

@@ -1,7 +1,7 @@
 // The opening of a space.
 ghost use Rattle.std.specs.Prelude.{◌≡◌, ◌≤◌, IfOk};
 ghost use Rattle.sa_abstract.specs.Setting.{Setting, IsSetting};
-ghost use Rattle.sa_package.specs.Step.{started, opened};
+ghost use Rattle.sa_package_model.specs.Step.{started, opened};
 
 use crate::package::FastThreads;
 use sa_base::{MAX_PROCESSORS, MAX_THREADS, ProcNo, SpaceNo, ThreadNo};

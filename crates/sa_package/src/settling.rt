@@ -1,14 +1,14 @@
 // What comes next for a context.
 ghost use Rattle.std.specs.Prelude.{◌≡◌, ◌<◌, Some, None};
 ghost use Rattle.sa_fast.specs.Work.{IsWork};
-ghost use Rattle.sa_package.specs.Conditions.{CanBeDue, IsThread};
-ghost use Rattle.sa_package.specs.Context.{settled_to, is_left};
-ghost use Rattle.sa_package.specs.Rules.{Pair, pair, load, owed, settled, placed, put_last};
+ghost use Rattle.sa_package_model.specs.Conditions.{CanBeDue, IsThread};
+ghost use Rattle.sa_package_model.specs.Context.{settled_to, is_left};
+ghost use Rattle.sa_package_model.specs.Rules.{Pair, pair, load, owed, settled, placed, put_last};
 
-use crate::context::{Context, State};
 use crate::package::FastThreads;
 use sa_base::{BULK_RETURN, Seen, ThreadNo};
 use sa_fast::{Place, Shared, more_owed};
+use sa_package_model::{Context, State};
 
 impl FastThreads {
     // How many threads are ready or run.

@@ -7,12 +7,11 @@ ghost use Rattle.sa_lists.specs.ReadyView.{sought};
 ghost use Rattle.sa_lists.specs.ReadyView as ready;
 ghost use Rattle.sa_fast.specs.Work.{IsWork};
 ghost use Rattle.sa_fast.specs.Instruction.{CanRun};
-ghost use Rattle.sa_package.specs.Conditions.{CanBeDue, CanCode, CanStep, CanWork, IsThread};
-ghost use Rattle.sa_package.specs.Context.{carried_by};
-ghost use Rattle.sa_package.specs.Rules.{Steps, moved_by, goes_on, coded, continued, pushing, used, is_idle, popping, looked, with_shared};
-ghost use Rattle.sa_package.specs.Step.{resettled, stepped, stepped_at, worked};
+ghost use Rattle.sa_package_model.specs.Conditions.{CanBeDue, CanCode, CanStep, CanWork, IsThread};
+ghost use Rattle.sa_package_model.specs.Context.{carried_by};
+ghost use Rattle.sa_package_model.specs.Rules.{Steps, moved_by, goes_on, coded, continued, pushing, used, is_idle, popping, looked, with_shared};
+ghost use Rattle.sa_package_model.specs.Step.{resettled, stepped, stepped_at, worked};
 
-use crate::context::{Context, State};
 use crate::package::FastThreads;
 use crate::settling::place;
 use sa_abstract::Step;
@@ -22,6 +21,7 @@ use sa_base::{
 use sa_code::{Frame, MicroDone, Op, micro};
 use sa_fast::{Place, Ran, Shared, idle_owed, run};
 use sa_instr::MAX_PATIENCE;
+use sa_package_model::{Context, State};
 
 // Where the routines of the package's code begin.
 const PUSH: u16 = 0;

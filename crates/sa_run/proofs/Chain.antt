@@ -7,9 +7,9 @@ use Rattle.sa_assign.specs.Reaim.{proc_no}
 use Rattle.sa_sched.specs.Order.{Order, processor_at}
 use Rattle.sa_sched.specs.Turns.{Turns, start, turned, turned_often, next_processor}
 use Rattle.sa_sched.specs.Laws.{TurnsAreInOrder}
-use Rattle.sa_machine.specs.Machine.{Machine}
-use Rattle.sa_machine.specs.Run.{IsTurn}
-use Rattle.sa_machine.specs.End.{end_of}
+use Rattle.sa_core_model.specs.Machine.{Machine}
+use Rattle.sa_core_model.specs.Run.{IsTurn}
+use Rattle.sa_core_model.specs.End.{end_of}
 use Rattle.sa_run.specs.Run.{TurnsTo}
 
 module _ {U C : Type 0} (f : Calls U C) where

@@ -6,9 +6,9 @@ use Rattle.sa_spaces.specs.Workload.{WorkloadView}
 use Rattle.sa_abstract.specs.Calls.{Calls}
 use Rattle.sa_assign.specs.Reaim.{proc_no}
 use Rattle.sa_sched.specs.Order.{Order, processor_at}
-use Rattle.sa_machine.specs.Machine.{Machine}
-use Rattle.sa_machine.specs.Run.{opening, IsTurn}
-use Rattle.sa_machine.specs.End.{end_of}
+use Rattle.sa_core_model.specs.Machine.{Machine}
+use Rattle.sa_core_model.specs.Run.{opening, IsTurn}
+use Rattle.sa_core_model.specs.End.{end_of}
 
 module _ {U C : Type 0} (f : Calls U C) where
   -- so many turns lead from the opening of the workload to the machine: the k-th is that of the order's k-th processor, and

@@ -19,16 +19,16 @@ use Rattle.sa_assign.specs.Reaim.{proc_no, line_at}
 use Rattle.sa_kernel_model.specs.State.{Scene, owner_of, line_of}
 use Rattle.sa_kernel_model.specs.Opening.{opening_state, first_wants}
 use Rattle.sa_kernel_model.proofs.FormedLemmas.{all-same}
-use Rattle.sa_machine.specs.Machine.{Machine, scene_of}
-use Rattle.sa_machine.specs.Turn.{turned, committed}
-use Rattle.sa_machine.specs.End.{end_of, local_on, local_in, committable}
-use Rattle.sa_machine.specs.Run.{setting, opening, IsTurn, CanTurn, CanCommit, AreNextLocal, programs_in, Move, IsMove}
-use Rattle.sa_machine.specs.Run.Move.{turn, commit}
-use Rattle.sa_machine.specs.Standing.{IsBetween, contexts_of}
-use Rattle.sa_machine.proofs.Phases.{at-owned}
-use Rattle.sa_machine.proofs.Calls.{value-at, mine}
-use Rattle.sa_machine.proofs.Turns.{rests-turned}
-use Rattle.sa_machine.proofs.Runs.{stands-opening, stands-move, local-is, rests-committed, can-go}
+use Rattle.sa_core_model.specs.Machine.{Machine, scene_of}
+use Rattle.sa_core_model.specs.Turn.{turned, committed}
+use Rattle.sa_core_model.specs.End.{end_of, local_on, local_in, committable}
+use Rattle.sa_core_model.specs.Run.{setting, opening, IsTurn, CanTurn, CanCommit, AreNextLocal, programs_in, Move, IsMove}
+use Rattle.sa_core_model.specs.Run.Move.{turn, commit}
+use Rattle.sa_core_model.specs.Standing.{IsBetween, contexts_of}
+use Rattle.sa_core_model.proofs.Phases.{at-owned}
+use Rattle.sa_core_model.proofs.Calls.{value-at, mine}
+use Rattle.sa_core_model.proofs.Turns.{rests-turned}
+use Rattle.sa_core_model.proofs.Runs.{stands-opening, stands-move, local-is, rests-committed, can-go}
 use Rattle.sa_seat.specs.Chain.{Leads, IsChain, turns_in, turns_of, HasLine, line_item}
 use Rattle.sa_seat.specs.Seat.{IsPlace, CanMove}
 use Rattle.sa_seat.proofs.Lines.{Tells, tells-closed}

@@ -10,7 +10,7 @@ use Rattle.atomic_table.specs.Seated.{TableId}
 use Rattle.sa_base.specs.declared.record.Item.{Item}
 use Rattle.sa_spaces.specs.Workload.{WorkloadView}
 use Rattle.sa_abstract.specs.Calls.{Calls}
-use Rattle.sa_machine.specs.End.{end_of}
+use Rattle.sa_core_model.specs.End.{end_of}
 use Rattle.sa_core.specs.View.{CoreView, machine}
 use Rattle.sa_lines.specs.declared.credit.Account.{Account}
 use Rattle.sa_lines.specs.declared.view.Lane.{Lane}

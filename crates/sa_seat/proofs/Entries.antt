@@ -1,8 +1,8 @@
 -- What an entry is to those who do not see the lock.
 use Rattle.std.proofs.Common.{◌≡◌, ℕ, zero, suc, ◌<◌, ◌≤◌, refl, sym, subst, arith}
 use Rattle.sa_abstract.specs.Calls.{Calls}
-use Rattle.sa_machine.specs.Machine.{Machine}
-use Rattle.sa_machine.specs.End.{local_on}
+use Rattle.sa_core_model.specs.Machine.{Machine}
+use Rattle.sa_core_model.specs.End.{local_on}
 use Rattle.sa_seat.specs.declared.answer.Entered.{Entered}
 use Rattle.sa_seat.specs.declared.answer.Entered.TheVariants.{Turned, DroppedLine, DroppedStart, Ended}
 use Rattle.sa_seat.specs.Seat.{SeatView}

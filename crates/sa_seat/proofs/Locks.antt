@@ -14,12 +14,12 @@ use Rattle.sa_abstract.specs.Keeps.{Standing, Keeps}
 use Rattle.sa_assign.specs.Reaim.{proc_no, line_at}
 use Rattle.sa_kernel_model.specs.State.{line_of}
 use Rattle.sa_kernel_model.proofs.FormedLemmas.{all-same}
-use Rattle.sa_machine.specs.Machine.{Machine}
-use Rattle.sa_machine.specs.End.{end_of, local_on, committable}
+use Rattle.sa_core_model.specs.Machine.{Machine}
+use Rattle.sa_core_model.specs.End.{end_of, local_on, committable}
 use Rattle.sa_abstract.specs.declared.answer.SeatState.{SeatState}
-use Rattle.sa_machine.specs.Run.{opening, IsTurn, AreNextLocal, Move, IsMove}
-use Rattle.sa_machine.specs.Turn.{committed}
-use Rattle.sa_machine.specs.Run.Move.{turn, commit}
+use Rattle.sa_core_model.specs.Run.{opening, IsTurn, AreNextLocal, Move, IsMove}
+use Rattle.sa_core_model.specs.Turn.{committed}
+use Rattle.sa_core_model.specs.Run.Move.{turn, commit}
 use Rattle.sa_core.specs.View.{CoreView, machine}
 use Rattle.sa_lines.specs.declared.credit.Account.{Account}
 use Rattle.sa_lines.specs.declared.credit.Credit.TheVariants.{Turns, End as EndCredit}

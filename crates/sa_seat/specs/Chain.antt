@@ -6,10 +6,10 @@ use Rattle.sa_base.specs.declared.record.Record.TheVariants.{Line}
 use Rattle.sa_spaces.specs.Workload.{WorkloadView}
 use Rattle.sa_abstract.specs.Calls.{Calls}
 use Rattle.sa_assign.specs.Reaim.{proc_no}
-use Rattle.sa_machine.specs.Machine.{Machine}
-use Rattle.sa_machine.specs.End.{end_of}
-use Rattle.sa_machine.specs.Run.{opening, Move, IsMove}
-use Rattle.sa_machine.specs.Run.Move.{turn, commit}
+use Rattle.sa_core_model.specs.Machine.{Machine}
+use Rattle.sa_core_model.specs.End.{end_of}
+use Rattle.sa_core_model.specs.Run.{opening, Move, IsMove}
+use Rattle.sa_core_model.specs.Run.Move.{turn, commit}
 
 module _ {U C : Type 0} (f : Calls U C) (budget : ℕ) where
   -- the moves lead from one machine to another, and none comes behind an end

@@ -3,10 +3,10 @@ use Rattle.std.specs.Prelude.{◌≡◌, ◌≢◌, ℕ, zero, suc, ◌<◌, ◌
 use Rattle.sa_abstract.specs.Calls.{Calls}
 use Rattle.sa_abstract.specs.declared.answer.SeatState.{SeatState}
 use Rattle.sa_kernel_model.specs.State.{line_of}
-use Rattle.sa_machine.specs.Machine.{Machine}
-use Rattle.sa_machine.specs.Turn.{committed}
-use Rattle.sa_machine.specs.End.{end_of, committable, local_on}
-use Rattle.sa_machine.specs.Run.{IsTurn}
+use Rattle.sa_core_model.specs.Machine.{Machine}
+use Rattle.sa_core_model.specs.Turn.{committed}
+use Rattle.sa_core_model.specs.End.{end_of, committable, local_on}
+use Rattle.sa_core_model.specs.Run.{IsTurn}
 use Rattle.sa_lines.specs.declared.credit.Credit.{Credit}
 use Rattle.sa_lines.specs.declared.credit.Credit.TheVariants.{Turns, End as EndCredit}
 use Rattle.sa_lines.specs.Seen.{with_credit}

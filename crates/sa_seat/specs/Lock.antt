@@ -6,9 +6,9 @@ use Rattle.sa_spaces.specs.Workload.{WorkloadView, IsWorkload}
 use Rattle.sa_abstract.specs.Calls.{Calls}
 use Rattle.sa_assign.specs.Reaim.{proc_no, line_at}
 use Rattle.sa_kernel_model.specs.State.{line_of}
-use Rattle.sa_machine.specs.Machine.{Machine}
-use Rattle.sa_machine.specs.End.{end_of}
-use Rattle.sa_machine.specs.Run.{Move}
+use Rattle.sa_core_model.specs.Machine.{Machine}
+use Rattle.sa_core_model.specs.End.{end_of}
+use Rattle.sa_core_model.specs.Run.{Move}
 use Rattle.sa_core.specs.View.{CoreView, machine}
 use Rattle.sa_lines.specs.declared.view.Lane.{Lane}
 use Rattle.sa_lines.specs.Words.{lane_at}

@@ -12,7 +12,7 @@ use Rattle.sa_abstract.specs.declared.answer.SeatState.{SeatState}
 use Rattle.sa_abstract.specs.declared.answer.SeatState.TheVariants.{Local, Away}
 use Rattle.sa_abstract.specs.Walk.{after_one, after_many, program_at}
 use Rattle.sa_abstract.specs.Keeps.{moved_to}
-use Rattle.sa_machine.specs.Run.{programs_in, AreNextLocal}
+use Rattle.sa_core_model.specs.Run.{programs_in, AreNextLocal}
 use Rattle.sa_lines.specs.Seen.{PollerSeen, fresh_poller, with_poll}
 use Rattle.sa_seat.specs.declared.answer.BurstEnd.{BurstEnd}
 use Rattle.sa_seat.specs.declared.answer.BurstEnd.TheVariants.{Shared, Limit, Line, Away as NoContext}

@@ -1,9 +1,9 @@
 // The core and its keeper, behind the lock.
 ghost use Rattle.std.specs.Prelude.{◌≡◌, ◌<◌, ◌≤◌, Some, None, OnOk, OnErr, IfOk};
-ghost use Rattle.sa_machine.specs.End.{end_of, local_on};
+ghost use Rattle.sa_core_model.specs.End.{end_of, local_on};
 ghost use Rattle.sa_base.specs.declared.limits.TheConstants.{MAX_EVENTS};
 ghost use Rattle.sa_spaces.specs.Workload.{IsWorkload};
-ghost use Rattle.sa_machine.specs.Run.{IsTurn, opening};
+ghost use Rattle.sa_core_model.specs.Run.{IsTurn, opening};
 ghost use Rattle.sa_kernel_model.specs.State.{line_of};
 ghost use Rattle.sa_core.specs.View.{machine};
 ghost use Rattle.sa_lines.specs.declared.credit.Credit.TheVariants.{Turns, End as EndCredit};

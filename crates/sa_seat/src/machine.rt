@@ -1,7 +1,7 @@
 // The machine that threads share.
 ghost use Rattle.std.specs.Prelude.{◌≡◌, ◌≤◌, OnErr, IfOk, length};
 ghost use Rattle.sa_base.specs.declared.limits.TheConstants.{MAX_EVENTS, MAX_PROCESSORS};
-ghost use Rattle.sa_machine.specs.Run.{opening};
+ghost use Rattle.sa_core_model.specs.Run.{opening};
 ghost use Rattle.sa_core.specs.View.{machine};
 ghost use Rattle.sa_lines.specs.Seen.{fresh_keeper, fresh_pollers};
 ghost use Rattle.sa_seat.specs.Seat.{AreFresh, AreSeats};

@@ -1,7 +1,7 @@
 // A processor's seat.
 ghost use Rattle.std.specs.Prelude.{◌≡◌, ◌<◌, ◌≤◌, length, slice_get, IfOk};
 ghost use Rattle.sa_base.specs.declared.limits.TheConstants.{MAX_BURST};
-ghost use Rattle.sa_machine.specs.Run.{programs_in};
+ghost use Rattle.sa_core_model.specs.Run.{programs_in};
 ghost use Rattle.sa_lines.specs.Credit.{MayCredit};
 ghost use Rattle.sa_lines.specs.Words.{lane_at};
 ghost use Rattle.sa_lines.specs.Seen.{fresh_pollers, credited_at};

@@ -1,1 +1,11 @@
 mod Counting
+pub mod Coding
+pub mod KindLemmas
+pub mod PartsLemmas
+pub mod Steps
+pub mod Readings
+pub mod Records
+pub mod Lines
+pub mod LineTexts
+pub mod Whole
+pub mod FirstBad

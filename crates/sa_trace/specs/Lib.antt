@@ -1,1 +1,11 @@
+pub mod Field
+pub mod Kind
+pub mod Parts
+pub mod PartsFields
+pub mod FieldLaws
 pub mod TraceText
+pub mod Pieces
+pub mod Line
+pub mod Reading
+pub mod Text
+pub mod TextLaws

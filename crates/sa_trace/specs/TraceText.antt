@@ -1,13 +1,13 @@
 -- The trace text: a line for each item, and a last line with the end and the number of records of each kind.
 use Rattle.std.specs.Prelude.{ℕ, ◌+◌, List, ◌++◌, ◌==◌, Option, Some, None, map, codes, decimal, count_by}
 use Rattle.std.specs.List.{flat_map, range_with_len}
-use Rattle.sa_fields.specs.declared.kind.TheConstants.{RECORD_KINDS}
+use Rattle.sa_trace.specs.declared.kind.TheConstants.{RECORD_KINDS}
 use Rattle.sa_base.specs.declared.record.Record.{Record}
 use Rattle.sa_base.specs.declared.record.Item.{Item}
 use Rattle.sa_base.specs.declared.record.End.{End}
 use Rattle.sa_base.specs.declared.record.End.TheVariants.{AllDone, Stuck, Budget}
-use Rattle.sa_fields.specs.Kind.{form_of}
-use Rattle.sa_fields.specs.Parts.{parts_of}
+use Rattle.sa_trace.specs.Kind.{form_of}
+use Rattle.sa_trace.specs.Parts.{parts_of}
 
 -- a field behind a space: its number in decimal, or a dash where it is absent
 abbrev pub field : Option ℕ → List ℕ

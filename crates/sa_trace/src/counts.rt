@@ -2,8 +2,9 @@
 ghost use Rattle.std.specs.Prelude.{◌≡◌, ◌+◌, ◌<◌};
 ghost use Rattle.sa_trace.specs.TraceText.{counts_of, kind_number};
 
+use crate::kind::RECORD_KINDS;
+use crate::parts::Parts;
 use sa_base::{Item, Record};
-use sa_fields::{Parts, RECORD_KINDS};
 
 /// The counts of the kinds, in the order of their numbers.
 pub fn kind_counts(items: &[Item]) -> [u64; RECORD_KINDS]

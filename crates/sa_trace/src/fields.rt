@@ -3,8 +3,8 @@ ghost use Rattle.std.specs.Prelude.{◌≡◌, ◌++◌, OnOk};
 ghost use Rattle.std.specs.List.{flat_map};
 ghost use Rattle.sa_trace.specs.TraceText.{field, record_text};
 
+use crate::parts::Parts;
 use sa_base::Record;
-use sa_fields::Parts;
 use sa_text::print_number;
 use std::alloc::AllocError;
 

@@ -1,9 +1,24 @@
-//! The trace text: what the program writes of a run.
+//! The trace text, both ways: what the program writes of a run, and that text read as items again. Between them stands a
+//! record as its kind and its fields, each a number or absent.
 #![tactic(auto)]
 
 mod counts;
+mod field;
 mod fields;
-mod text;
+mod from_parts;
+mod kind;
+pub mod laws;
+mod line;
+mod parts;
+mod pieces;
+mod printing;
+mod reading;
+mod words;
 
 pub use counts::kind_counts;
-pub use text::{last_line, print};
+pub use field::{Field, FieldRange};
+pub use from_parts::record_with;
+pub use kind::{Form, KINDS, Kind, MAX_FIELDS, RECORD_KINDS};
+pub use parts::Parts;
+pub use printing::{last_line, print};
+pub use reading::{TraceText, read};

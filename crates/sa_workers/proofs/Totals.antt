@@ -6,13 +6,13 @@ use Rattle.sa_base.specs.declared.record.End.TheVariants.{AllDone, Stuck, Budget
 use Rattle.sa_spaces.specs.Workload.{WorkloadView, IsWorkload}
 use Rattle.sa_abstract.specs.Calls.{Calls}
 use Rattle.sa_abstract.specs.Keeps.{Standing, Keeps}
-use Rattle.sa_machine.specs.Machine.{Machine}
-use Rattle.sa_machine.specs.End.{all_done, is_stuck}
-use Rattle.sa_machine.specs.Run.{opening, Move, IsMove}
-use Rattle.sa_machine.specs.Run.Move.{turn, commit}
-use Rattle.sa_machine.specs.Standing.{IsBetween}
-use Rattle.sa_machine.proofs.Phases.{at-owned}
-use Rattle.sa_machine.proofs.Runs.{stands-opening, stands-move, can-go}
+use Rattle.sa_core_model.specs.Machine.{Machine}
+use Rattle.sa_core_model.specs.End.{all_done, is_stuck}
+use Rattle.sa_core_model.specs.Run.{opening, Move, IsMove}
+use Rattle.sa_core_model.specs.Run.Move.{turn, commit}
+use Rattle.sa_core_model.specs.Standing.{IsBetween}
+use Rattle.sa_core_model.proofs.Phases.{at-owned}
+use Rattle.sa_core_model.proofs.Runs.{stands-opening, stands-move, can-go}
 use Rattle.sa_seat.specs.Chain.{Leads, turns_in, turns_of}
 use Rattle.sa_seat.specs.Seat.{SeatView, AreSeats}
 use Rattle.sa_seat.specs.Closed.{ClosedView, IsClosed}

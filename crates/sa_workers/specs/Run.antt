@@ -3,9 +3,9 @@ use Rattle.std.specs.Prelude.{◌≡◌, ℕ, ◌<◌, ◌≤◌, Some, List, su
 use Rattle.sa_base.specs.declared.record.End.TheVariants.{Budget}
 use Rattle.sa_spaces.specs.Workload.{WorkloadView}
 use Rattle.sa_abstract.specs.Calls.{Calls}
-use Rattle.sa_machine.specs.Machine.{Machine}
-use Rattle.sa_machine.specs.End.{end_of}
-use Rattle.sa_machine.specs.Run.{Move}
+use Rattle.sa_core_model.specs.Machine.{Machine}
+use Rattle.sa_core_model.specs.End.{end_of}
+use Rattle.sa_core_model.specs.Run.{Move}
 use Rattle.sa_seat.specs.Chain.{IsChain, turns_of}
 use Rattle.sa_seat.specs.Closed.{ClosedView}
 use Rattle.sa_workers.specs.Quota.{quota_of}

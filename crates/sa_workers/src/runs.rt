@@ -1,7 +1,7 @@
 // A run on host threads.
 ghost use Rattle.std.specs.Prelude.{◌≡◌, ℕ, ◌<◌, ◌≤◌, length, slice_index_or, IfOk};
 ghost use Rattle.sa_base.specs.declared.limits.TheConstants.{MAX_BURST, MAX_EVENTS};
-ghost use Rattle.sa_machine.specs.Run.{opening};
+ghost use Rattle.sa_core_model.specs.Run.{opening};
 ghost use Rattle.sa_core.specs.View.{machine};
 ghost use Rattle.sa_lines.specs.Seen.{fresh_keeper, fresh_pollers};
 ghost use Rattle.sa_seat.specs.Seat.{SeatView};
@@ -9,12 +9,12 @@ ghost use Rattle.sa_workers.specs.Quota.{quota_of};
 ghost use Rattle.sa_workers.specs.Worker.{HasWorked};
 ghost use Rattle.sa_workers.specs.Run.{HasRun};
 
+use crate::gate::Gate;
 use crate::quotas::quota;
 use crate::worker::work;
 use sa_abstract::UserLevel;
 use sa_base::MAX_PROCESSORS;
 use sa_core::Core;
-use sa_gates::Gate;
 use sa_lines::{Keeper, LineWords, Poller};
 use sa_seat::{Closed, Machine, Named, Seat};
 use sa_spaces::Workload;

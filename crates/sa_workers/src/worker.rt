@@ -3,8 +3,8 @@ ghost use Rattle.std.specs.Prelude.{◌≡◌, ◌<◌, ◌≤◌, OnOk};
 ghost use Rattle.sa_base.specs.declared.limits.TheConstants.{MAX_BURST};
 ghost use Rattle.sa_workers.specs.Worker.{HasWorked, IsThrough, HasRunAhead};
 
+use crate::gate::Gate;
 use sa_abstract::UserLevel;
-use sa_gates::Gate;
 use sa_seat::{Entered, Machine, Named, Seat};
 use std::alloc::AllocError;
 use std::sync::Wait;

@@ -2,8 +2,8 @@
 ghost use Rattle.std.specs.Prelude.{◌≡◌, ◌≤◌, ◌<◌, None, IsTrue};
 ghost use Rattle.sa_kernel_model.specs.State.{line_of};
 ghost use Rattle.sa_abstract.specs.Walk.{AreLocal};
-ghost use Rattle.sa_machine.specs.End.{end_of, local_on};
-ghost use Rattle.sa_machine.specs.Run.{AreNextLocal};
+ghost use Rattle.sa_core_model.specs.End.{end_of, local_on};
+ghost use Rattle.sa_core_model.specs.Run.{AreNextLocal};
 ghost use Rattle.sa_core.specs.View.{machine};
 
 use sa_abstract::{SeatState, UserLevel};

@@ -1,9 +1,7 @@
-//! Tests of what the kernel keeps.
+//! A caller of the kernel that relies on its contracts alone.
 #![tactic(auto)]
 
 #[cfg(test)]
-mod aims;
+mod bench;
 #[cfg(test)]
-mod devices;
-#[cfg(test)]
-mod notices;
+mod lawful;

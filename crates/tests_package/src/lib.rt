@@ -2,10 +2,6 @@
 #![tactic(auto)]
 
 #[cfg(test)]
-mod drive;
-#[cfg(test)]
 mod rows;
-#[cfg(test)]
-mod shadow;
 #[cfg(test)]
 mod space;

@@ -1,9 +1,5 @@
-//! Tests of the orders of turns and of generated workloads.
+//! Tests of the orders of turns.
 #![tactic(auto)]
 
-#[cfg(test)]
-mod generated;
-#[cfg(test)]
-mod orders;
 #[cfg(test)]
 mod seeded;

@@ -1,8 +1,8 @@
 // A machine whose seats are tried one after another on one host thread: what each call answers is compared.
 ghost use Rattle.std.specs.Prelude.{◌≡◌, ◌≤◌};
 ghost use Rattle.sa_base.specs.declared.limits.TheConstants.{MAX_EVENTS};
-ghost use Rattle.sa_package.specs.Step.{fast_calls};
-ghost use Rattle.sa_machine.specs.Run.{opening};
+ghost use Rattle.sa_package_model.specs.Step.{fast_calls};
+ghost use Rattle.sa_core_model.specs.Run.{opening};
 ghost use Rattle.sa_core.specs.View.{machine};
 ghost use Rattle.sa_lines.specs.Seen.{fresh_keeper, fresh_pollers};
 ghost use Rattle.tests_seat.specs.Kept.{IsKept, AreKept};

@@ -4,7 +4,7 @@ use Rattle.sa_laws.specs.Readings.{line_of}
 use Rattle.sa_laws.specs.Upcalls.{InterruptsNext}
 use Rattle.sa_laws.specs.Turns.{IsStep, TurnsAreTaken}
 use Rattle.sa_laws.specs.Locks.{LocksAreKept}
-use Rattle.sa_moment.specs.Seen.{seen}
+use Rattle.sa_check_moment.specs.Seen.{seen}
 use Rattle.sa_check.specs.Items.{told_event}
 use Rattle.sa_check.proofs.FoundLemmas.{at-beginning}
 use Rattle.sa_check.proofs.begin.begin.Goals as goal

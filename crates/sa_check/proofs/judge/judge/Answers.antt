@@ -1,5 +1,5 @@
 use Rattle.std.proofs.Common.{◌≡◌, subst, Option, Some, None}
-use Rattle.sa_moment.specs.Seen.{seen}
+use Rattle.sa_check_moment.specs.Seen.{seen}
 use Rattle.sa_check.specs.declared.records.ReadThrough.{ReadThrough}
 use Rattle.sa_check.specs.Items.{told_event}
 use Rattle.sa_check.specs.Records.{ReadsRecords, IsReadThrough}

@@ -6,8 +6,8 @@ use Rattle.sa_base.specs.declared.record.Record.TheVariants.{Ins}
 use Rattle.sa_laws.specs.Step.{AreSteps}
 use Rattle.sa_laws.specs.Shape.{before_aims, before_wants, front_part}
 use Rattle.sa_laws.specs.Upcalls.{TellsOnce, NamesTheLife, TellsAllThen, GivesUpcallThen, RaisesLine}
-use Rattle.sa_shape.proofs.PartLemmas.{take-front}
-use Rattle.sa_moment.specs.Seen.{seen}
+use Rattle.sa_check_shapes.proofs.PartLemmas.{take-front}
+use Rattle.sa_check_moment.specs.Seen.{seen}
 use Rattle.sa_check.specs.Items.{told_event}
 use Rattle.sa_check.specs.Places.{WantsAreDue, AimsAreDue, LinesAreDue}
 use Rattle.sa_check.specs.Records.{FoundMore, behind_some}

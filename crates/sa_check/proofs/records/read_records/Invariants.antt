@@ -2,7 +2,7 @@ use Rattle.std.proofs.Common.{◌≡◌, ◌↔◌, ◌<◌, drop, take}
 use Rattle.std.specs.Prelude.{IsTrue}
 use Rattle.sa_laws.specs.Shape.{before_aims, before_wants, front_part}
 use Rattle.sa_laws.specs.Upcalls.{TellsOnce, NamesTheLife, TellsAllThen, GivesUpcallThen, RaisesLine}
-use Rattle.sa_moment.specs.Seen.{seen}
+use Rattle.sa_check_moment.specs.Seen.{seen}
 use Rattle.sa_check.specs.Items.{told_event}
 use Rattle.sa_check.specs.Places.{WantsAreDue, AimsAreDue, LinesAreDue}
 use Rattle.sa_check.specs.Records.{behind_some}

@@ -2,7 +2,7 @@ use Rattle.std.proofs.Common.{◌≡◌, List, ◌∷◌, refl, ap, subst, sym, 
 use Rattle.sa_base.specs.declared.record.Item.{Item}
 use Rattle.sa_laws.specs.Event.{events_of}
 use Rattle.sa_laws.specs.Readings.{Readings, opening_readings}
-use Rattle.sa_moment.specs.Seen.{Seen, seen, event}
+use Rattle.sa_check_moment.specs.Seen.{Seen, seen, event}
 use Rattle.sa_check.specs.declared.judge.Judged.{Judged}
 use Rattle.sa_check.specs.declared.verdict.Verdict.TheVariants.{Legal, Broken}
 use Rattle.sa_check.specs.Judged.{Judges}

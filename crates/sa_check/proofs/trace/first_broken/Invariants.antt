@@ -1,7 +1,7 @@
 use Rattle.std.proofs.Common.{◌≡◌, ◌≢◌, [], length}
 use Rattle.sa_laws.specs.Event.{events_of}
 use Rattle.sa_laws.specs.Readings.{opening_readings}
-use Rattle.sa_moment.specs.Seen.{seen}
+use Rattle.sa_check_moment.specs.Seen.{seen}
 use Rattle.sa_check.specs.declared.verdict.Verdict.{Verdict}
 use Rattle.sa_check.specs.Verdict.{last_line}
 use Rattle.sa_check.proofs.WalkLemmas.{IsVerdictFrom}

@@ -1,6 +1,6 @@
 use Rattle.std.proofs.Common.{sym, ◌∙◌}
-use Rattle.sa_words.specs.declared.command.Command.TheVariants.{Threads}
-use Rattle.sa_words.specs.Commands.{command_of}
+use Rattle.sa_command.specs.declared.command.Command.TheVariants.{Threads}
+use Rattle.sa_command.specs.Commands.{command_of}
 use Rattle.sa_cli.specs.Answers.{world}
 use Rattle.sa_cli.proofs.Results.{answers-to}
 use Rattle.sa_cli.proofs.Completeness.{complete-to}

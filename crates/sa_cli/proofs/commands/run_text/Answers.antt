@@ -1,7 +1,7 @@
 use Rattle.std.proofs.Common.{subst}
 use Rattle.sa_sched.specs.Order.{Order}
 use Rattle.sa_workload.specs.Text.{IsText}
-use Rattle.sa_package.specs.Step.{fast_calls}
+use Rattle.sa_package_model.specs.Step.{fast_calls}
 use Rattle.sa_run.specs.Run.{RunsTo}
 use Rattle.sa_cli.specs.Schedules.{order_by}
 use Rattle.sa_cli.specs.Input.{GaveText}

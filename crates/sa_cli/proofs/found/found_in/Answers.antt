@@ -1,7 +1,7 @@
 use Rattle.std.proofs.Common.{ℕ, List, length, arith, ap, subst, sym, ◌∙◌, inr, ◌≤◌}
 use Rattle.sa_workload.specs.Bad.{BadAt}
 use Rattle.sa_workload.specs.Text.{IsText}
-use Rattle.sa_reader.specs.Reading.{told, read_of}
+use Rattle.sa_trace.specs.Reading.{told, read_of}
 use Rattle.sa_check.specs.Verdict.{last_line}
 use Rattle.sa_cli.specs.declared.input.TheConstants.{INPUT_LIMIT}
 use Rattle.sa_cli.specs.Refusals.{IsInputRefused}

@@ -1,7 +1,7 @@
 use Rattle.std.proofs.Common.{◌≡◌, ◌+◌, ◌-◌, ◌++◌, ap, ◌∙◌, arith}
 use Rattle.sa_base.specs.Items.{items_from}
 use Rattle.sa_fast.specs.Threads.{gone_to}
-use Rattle.sa_package.specs.Step.{says_between}
+use Rattle.sa_package_model.specs.Step.{says_between}
 use Rattle.sa_package.proofs.LocalRuns.{block-more, items-more}
 use Rattle.sa_package.proofs.going.run_on.Goals as goal
 

@@ -1,6 +1,6 @@
 use Rattle.std.proofs.Common.{◌≡◌, ◌+◌, ◌-◌, ◌<◌, ◌++◌, length}
 use Rattle.sa_base.specs.Items.{items_from}
-use Rattle.sa_package.specs.Step.{block_after, says_between}
+use Rattle.sa_package_model.specs.Step.{block_after, says_between}
 use Rattle.sa_package.proofs.going.run_on.Given as goal
 
 abbrev pub invariant-loop-done : goal.invariant-loop-done

@@ -1,7 +1,7 @@
 use Rattle.std.proofs.Common.{rules, arith, ◌≡◌, ℕ, ◌+◌, ◌<◌, ◌≤◌, None, sym, subst}
 use Rattle.sa_sched.specs.Kind.{order_of}
 use Rattle.sa_sched.specs.Turns.{start, turned_often}
-use Rattle.sa_machine.specs.End.{end_of}
+use Rattle.sa_core_model.specs.End.{end_of}
 use Rattle.sa_core.specs.View.{machine}
 use Rattle.sa_core.proofs.CoreLemmas.{goes-on}
 use Rattle.sa_run.specs.Run.{TurnsTo}

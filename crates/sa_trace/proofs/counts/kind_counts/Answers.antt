@@ -1,6 +1,6 @@
 use Rattle.std.proofs.Common.{◌≡◌, ◌+◌, arith, ap, ◌∙◌, length-set, take, take_all}
 use Rattle.std.proofs.lemmas.List.FromFn.{fill_by_all}
-use Rattle.sa_fields.specs.declared.kind.TheConstants.{RECORD_KINDS}
+use Rattle.sa_trace.specs.declared.kind.TheConstants.{RECORD_KINDS}
 use Rattle.sa_trace.specs.TraceText.{counts_of, count_of_kind}
 use Rattle.sa_trace.proofs.Counting.{count-more}
 use Rattle.sa_trace.proofs.counts.kind_counts.Goals as goal

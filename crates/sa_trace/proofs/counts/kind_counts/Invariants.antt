@@ -1,5 +1,5 @@
 use Rattle.std.proofs.Common.{◌≡◌, ℕ, ◌+◌, ◌<◌, length, get_or, take}
-use Rattle.sa_fields.specs.declared.kind.TheConstants.{RECORD_KINDS}
+use Rattle.sa_trace.specs.declared.kind.TheConstants.{RECORD_KINDS}
 use Rattle.sa_trace.specs.TraceText.{count_of_kind}
 use Rattle.sa_trace.proofs.counts.kind_counts.Given as goal
 

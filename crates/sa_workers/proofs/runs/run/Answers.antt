@@ -1,6 +1,6 @@
 use Rattle.std.proofs.Common.{sym, ap, ◌∙◌}
-use Rattle.sa_machine.specs.Machine.{Machine}
-use Rattle.sa_machine.specs.Run.{opening}
+use Rattle.sa_core_model.specs.Machine.{Machine}
+use Rattle.sa_core_model.specs.Run.{opening}
 use Rattle.sa_workers.proofs.runs.run.Goals as goal
 
 pub run_named-requires-clause-core : goal.run_named-requires-clause-core

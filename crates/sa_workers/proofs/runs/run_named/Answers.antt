@@ -1,6 +1,6 @@
 use Rattle.std.proofs.Common.{◌≡◌, ◌∙◌, ap, subst}
 use Rattle.sa_spaces.specs.Workload.{WorkloadView, IsWorkload}
-use Rattle.sa_machine.specs.Machine.{Machine}
+use Rattle.sa_core_model.specs.Machine.{Machine}
 use Rattle.sa_core.specs.View.{machine}
 use Rattle.sa_workers.proofs.Totals.{has-run}
 use Rattle.sa_workers.proofs.Seated.{worked-back}

@@ -1,7 +1,7 @@
 use Rattle.std.proofs.Common.{sym, ap, subst, ◌∙◌}
 use Rattle.sa_core.specs.View.{machine_of}
 use Rattle.sa_abstract.specs.declared.answer.Step.{Step}
-use Rattle.sa_machine.specs.Turn.{asked}
+use Rattle.sa_core_model.specs.Turn.{asked}
 use Rattle.sa_core.specs.Needs.{Asks}
 use Rattle.sa_core.proofs.EndLemmas.{vacant}
 use Rattle.sa_core.proofs.EnterLemmas.{more-stands, idle-stands, back-stands, own-fits, own-stands}

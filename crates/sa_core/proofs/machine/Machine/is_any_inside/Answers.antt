@@ -2,7 +2,7 @@ use Rattle.std.proofs.Common.{◌≡◌, ◌<◌, true, length, sym, ap, ◌∙�
 use Rattle.sa_core.specs.View.{machine_of}
 use Rattle.std.proofs.Common.{is_some}
 use Rattle.sa_assign.proofs.ChoiceLemmas.{least_below-found}
-use Rattle.sa_machine.specs.End.{is_inside}
+use Rattle.sa_core_model.specs.End.{is_inside}
 use Rattle.sa_core.proofs.machine.Machine.is_any_inside.Goals as goal
 
 pub returns-then-is_inside : goal.returns-then-is_inside

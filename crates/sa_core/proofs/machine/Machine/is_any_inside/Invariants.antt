@@ -1,6 +1,6 @@
 use Rattle.std.proofs.Common.{◌≡◌, None}
 use Rattle.sa_assign.specs.Aims.{least_below}
-use Rattle.sa_machine.specs.End.{is_inside}
+use Rattle.sa_core_model.specs.End.{is_inside}
 use Rattle.sa_core.specs.View.{machine_of}
 use Rattle.sa_core.proofs.machine.Machine.is_any_inside.Given as goal
 

@@ -1,6 +1,6 @@
 use Rattle.std.proofs.Common.{Some, sym, ap, ◌∙◌}
 use Rattle.sa_core.specs.View.{machine_of}
-use Rattle.sa_machine.specs.Machine.{called}
+use Rattle.sa_core_model.specs.Machine.{called}
 use Rattle.sa_core.proofs.CallLemmas.{read-ctx, set-again, called-as, the-user, has-place, seen-here}
 use Rattle.sa_core.proofs.machine.Machine.respond.Goals as goal
 

@@ -3,8 +3,8 @@ use Rattle.sa_core.specs.View.{machine_of}
 use Rattle.sa_base.specs.declared.number.SpaceNo.{SpaceNo}
 use Rattle.sa_abstract.specs.declared.answer.Step.{Step}
 use Rattle.sa_kernel_model.specs.State.{owner_of}
-use Rattle.sa_machine.specs.Machine.{Machine}
-use Rattle.sa_machine.specs.Turn.{turned_owned}
+use Rattle.sa_core_model.specs.Machine.{Machine}
+use Rattle.sa_core_model.specs.Turn.{turned_owned}
 use Rattle.sa_core.specs.Needs.{Asks}
 use Rattle.sa_core.proofs.EndLemmas.{vacant}
 use Rattle.sa_core.proofs.EnterLemmas.{asks-stepped}

@@ -1,5 +1,5 @@
 use Rattle.std.proofs.Common.{◌≡◌, ◌+◌, ◌-◌}
-use Rattle.sa_machine.specs.Turn.{more_events}
+use Rattle.sa_core_model.specs.Turn.{more_events}
 use Rattle.sa_core.specs.View.{machine_of}
 use Rattle.sa_core.specs.Room.{owed}
 use Rattle.sa_core.proofs.machine.Machine.skip.Given as goal

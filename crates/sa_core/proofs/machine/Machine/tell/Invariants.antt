@@ -1,8 +1,8 @@
 use Rattle.std.proofs.Common.{◌≡◌, ◌+◌, false, cond, Some, [], length}
 use Rattle.sa_kernel_model.specs.State.{owner_of}
 use Rattle.sa_kernel_model.specs.Sound.{AreClaimed}
-use Rattle.sa_machine.specs.Turn.{told_all}
-use Rattle.sa_machine.specs.Standing.{Stands}
+use Rattle.sa_core_model.specs.Turn.{told_all}
+use Rattle.sa_core_model.specs.Standing.{Stands}
 use Rattle.sa_core.specs.View.{machine_of}
 use Rattle.sa_core.specs.Room.{Spends}
 use Rattle.sa_core.proofs.machine.Machine.tell.Given as goal

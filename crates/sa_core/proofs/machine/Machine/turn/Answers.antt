@@ -1,7 +1,7 @@
 use Rattle.std.proofs.Common.{sym, ap, ◌∙◌, arith}
 use Rattle.sa_core.specs.View.{machine_of}
-use Rattle.sa_machine.specs.Machine.{Machine}
-use Rattle.sa_machine.specs.Turn.{turned_now}
+use Rattle.sa_core_model.specs.Machine.{Machine}
+use Rattle.sa_core_model.specs.Turn.{turned_now}
 use Rattle.sa_core.proofs.EnterLemmas.{next-of}
 use Rattle.sa_core.proofs.machine.Machine.turn.Goals as goal
 

@@ -1,7 +1,7 @@
 use Rattle.std.proofs.Common.{◌≡◌, None, is_some, sym, ap, ◌∙◌}
 use Rattle.sa_core.specs.View.{machine_of}
 use Rattle.sa_kernel_model.specs.State.{line_of}
-use Rattle.sa_machine.proofs.Phases.{none-is}
+use Rattle.sa_core_model.proofs.Phases.{none-is}
 use Rattle.sa_core.proofs.EnterLemmas.{due-fits}
 use Rattle.sa_core.proofs.machine.Machine.turn_now.Goals as goal
 

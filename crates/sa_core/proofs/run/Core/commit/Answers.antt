@@ -1,5 +1,5 @@
 use Rattle.std.proofs.Common.{◌-◌, ◌≤◌, ap, ◌∙◌, arith}
-use Rattle.sa_machine.specs.Machine.{Machine}
+use Rattle.sa_core_model.specs.Machine.{Machine}
 use Rattle.sa_core.specs.View.{CoreView, machine_of}
 use Rattle.sa_core.proofs.CoreLemmas.{ready, are-left, next-go, kept-commit}
 use Rattle.sa_core.proofs.run.Core.commit.Goals as goal

@@ -1,6 +1,6 @@
 use Rattle.std.proofs.Common.{◌+◌, ◌<◌, sym, ap, subst, ◌∙◌, arith}
-use Rattle.sa_machine.specs.Machine.{Machine}
-use Rattle.sa_machine.specs.Run.{IsTurn}
+use Rattle.sa_core_model.specs.Machine.{Machine}
+use Rattle.sa_core_model.specs.Run.{IsTurn}
 use Rattle.sa_core.specs.View.{CoreView, machine_of}
 use Rattle.sa_core.proofs.CoreLemmas.{ready, kept-turn}
 use Rattle.sa_core.proofs.run.Core.turn.Goals as goal

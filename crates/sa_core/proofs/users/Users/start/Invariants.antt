@@ -1,5 +1,5 @@
 use Rattle.std.proofs.Common.{◌≡◌, ◌++◌, drop, length}
-use Rattle.sa_machine.specs.Run.{started_from}
+use Rattle.sa_core_model.specs.Run.{started_from}
 use Rattle.sa_core.proofs.users.Users.start.Given as goal
 
 -- what is left to be started makes up the rest

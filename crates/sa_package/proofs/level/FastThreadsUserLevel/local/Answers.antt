@@ -1,4 +1,4 @@
-use Rattle.sa_package.specs.Able.{seat_can}
+use Rattle.sa_package_model.proofs.Able.{seat_can}
 use Rattle.sa_package.proofs.level.FastThreadsUserLevel.local.Goals as goal
 
 pub local-requires : goal.local-requires

@@ -1,4 +1,4 @@
-use Rattle.sa_package.specs.Able.{step_can}
+use Rattle.sa_package_model.proofs.Able.{step_can}
 use Rattle.sa_package.proofs.level.FastThreadsUserLevel.step.Goals as goal
 
 pub step-requires-clause-can : goal.step-requires-clause-can

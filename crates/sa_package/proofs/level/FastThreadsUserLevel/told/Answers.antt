@@ -1,4 +1,4 @@
-use Rattle.sa_package.specs.Able.{told_can}
+use Rattle.sa_package_model.proofs.Able.{told_can}
 use Rattle.sa_package.proofs.level.FastThreadsUserLevel.told.Goals as goal
 
 pub told-requires : goal.told-requires

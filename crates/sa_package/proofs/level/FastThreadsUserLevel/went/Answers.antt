@@ -1,4 +1,4 @@
-use Rattle.sa_package.specs.Able.{go_can}
+use Rattle.sa_package_model.proofs.Able.{go_can}
 use Rattle.sa_package.proofs.level.FastThreadsUserLevel.went.Goals as goal
 
 pub went-requires-clause-can : goal.went-requires-clause-can

@@ -1,7 +1,7 @@
 use Rattle.std.proofs.Common.{sym, subst}
 use Rattle.sa_code.specs.declared.state.Frame.{Frame}
 use Rattle.sa_fast.specs.Work.{IsUnlisted}
-use Rattle.sa_package.specs.Conditions.{IsThread}
+use Rattle.sa_package_model.specs.Conditions.{IsThread}
 use Rattle.sa_package.proofs.Carried.{carried-below, due_below}
 use Rattle.sa_package.proofs.package.FastThreads.do_code.Goals as goal
 

@@ -10,12 +10,12 @@ use Rattle.sa_copies.specs.Copies.{with_copies, package_ops}
 use Rattle.sa_fast.specs.declared.threads.Block.{Block}
 use Rattle.sa_fast.specs.declared.threads.Place.TheVariants.{Ready}
 use Rattle.sa_fast.specs.Threads.{unmade, at_start, with_block, gone_to}
-use Rattle.sa_package.specs.declared.package.FastThreads.{FastThreads}
-use Rattle.sa_package.specs.Step.{opened}
+use Rattle.sa_package_model.specs.Package.{Package}
+use Rattle.sa_package_model.specs.Step.{opened}
 use Rattle.sa_package.proofs.package.FastThreads.start.Goals as goal
 
 -- the package of its parts
-abbrev built : SpaceNo → ℕ → ℕ → SpaceView → ReadyView → List Op → Sync → List Block → List (List ℕ) → FastThreads
+abbrev built : SpaceNo → ℕ → ℕ → SpaceView → ReadyView → List Op → Sync → List Block → List (List ℕ) → Package
 built space processors fetch def lists code sync threads works = record {
   def = def;
   processors = processors;

@@ -1,7 +1,7 @@
 use Rattle.std.proofs.Common.{sym, subst}
-use Rattle.sa_package.specs.declared.context.Context.{Context}
-use Rattle.sa_package.specs.Conditions.{CanStep}
-use Rattle.sa_package.specs.Settled.{can-resettled}
+use Rattle.sa_package_model.specs.declared.context.Context.{Context}
+use Rattle.sa_package_model.specs.Conditions.{CanStep}
+use Rattle.sa_package_model.proofs.Settled.{can-resettled}
 use Rattle.sa_package.proofs.package.FastThreads.step.Goals as goal
 
 pub act-requires-clause-can : goal.act-requires-clause-can

@@ -2,10 +2,10 @@ use Rattle.std.proofs.Common.{◌≡◌, ◌<◌, ℕ, None, sym, ap, subst, ◌
 use Rattle.sa_base.specs.declared.number.ProcNo.{ProcNo}
 use Rattle.sa_spaces.specs.Workload.{WorkloadView}
 use Rattle.sa_kernel_model.specs.State.{line_of}
-use Rattle.sa_machine.specs.Turn.{committed}
-use Rattle.sa_machine.specs.End.{end_of, local_on}
-use Rattle.sa_machine.specs.Run.{AreNextLocal}
-use Rattle.sa_machine.specs.Run.Move.{commit}
+use Rattle.sa_core_model.specs.Turn.{committed}
+use Rattle.sa_core_model.specs.End.{end_of, local_on}
+use Rattle.sa_core_model.specs.Run.{AreNextLocal}
+use Rattle.sa_core_model.specs.Run.Move.{commit}
 use Rattle.sa_core.specs.View.{machine}
 use Rattle.sa_lines.specs.declared.credit.Credit.TheVariants.{Turns}
 use Rattle.sa_lines.specs.Credit.{MayCredit}

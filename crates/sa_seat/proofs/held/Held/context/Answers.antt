@@ -1,7 +1,7 @@
 use Rattle.std.proofs.Common.{sym, ap, subst, arith}
 use Rattle.sa_spaces.specs.Workload.{WorkloadView}
 use Rattle.sa_abstract.specs.declared.answer.SeatState.{SeatState}
-use Rattle.sa_machine.specs.End.{local_on}
+use Rattle.sa_core_model.specs.End.{local_on}
 use Rattle.sa_core.specs.View.{machine}
 use Rattle.sa_seat.specs.Seat.{IsPlace}
 use Rattle.sa_seat.proofs.Chains.{reached, place-of}

@@ -1,5 +1,5 @@
 use Rattle.std.proofs.Common.{◌≡◌, Some, sym, ap, subst, ◌∙◌}
-use Rattle.sa_machine.specs.End.{end_of}
+use Rattle.sa_core_model.specs.End.{end_of}
 use Rattle.sa_core.specs.View.{machine}
 use Rattle.sa_lines.specs.Seen.{KeeperSeen}
 use Rattle.sa_seat.specs.Lock.{HeldView, IsLocked}

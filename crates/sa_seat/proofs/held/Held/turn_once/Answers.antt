@@ -1,9 +1,9 @@
 use Rattle.std.proofs.Common.{◌≡◌, ◌<◌, None, sym, ap, subst, ◌∙◌, arith}
 use Rattle.sa_base.specs.declared.number.ProcNo.{ProcNo}
 use Rattle.sa_spaces.specs.Workload.{WorkloadView}
-use Rattle.sa_machine.specs.End.{end_of}
-use Rattle.sa_machine.specs.Run.{IsTurn}
-use Rattle.sa_machine.specs.Run.Move.{turn}
+use Rattle.sa_core_model.specs.End.{end_of}
+use Rattle.sa_core_model.specs.Run.{IsTurn}
+use Rattle.sa_core_model.specs.Run.Move.{turn}
 use Rattle.sa_core.specs.View.{machine}
 use Rattle.sa_lines.specs.Seen.{KeeperSeen}
 use Rattle.sa_seat.specs.Lock.{HeldView, IsLocked}

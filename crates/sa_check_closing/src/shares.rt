@@ -1,0 +1,94 @@
+// The shares of the spaces at a moment.
+ghost use Rattle.std.specs.Prelude.{◌≡◌, ◌≤◌, ◌<◌, ◌↔◌, ℕ, length, min, IsTrue};
+ghost use Rattle.sa_share.specs.Share.{share_at};
+ghost use Rattle.sa_assign.specs.Aims.{aimed};
+ghost use Rattle.sa_laws.specs.Closing.{claim_of, claims_of, first_space, shares_at};
+ghost use Rattle.sa_check_moment.specs.Seen.{seen};
+
+use crate::choice::aimed;
+use arrayvec::ArrayVec;
+use sa_base::{MAX_SPACES, SpaceNo};
+use sa_check_moment::Moment;
+use sa_share::{Claim, shares};
+use sa_spaces::Workload;
+
+/// How many processors each space gets at this event: place `s` has the share of space `s`, and 0 past the spaces.
+pub fn shares_at(moment: &Moment, event: u64) -> [u16; MAX_SPACES]
+    ensures { result ≡ shares_at (seen moment.now).workload event (seen moment.now).readings }
+{
+    let workload = moment.workload();
+    let claims = claims(moment);
+    shares(workload.processors(), first_space(workload, event), &claims)
+}
+
+/// Each space has at least its share of aims, at this event.
+pub fn covers_shares(moment: &Moment, event: u64) -> bool
+    ensures { IsTrue result ↔ ((s : ℕ)
+        → share_at (shares_at (seen moment.now).workload event (seen moment.now).readings) s
+        ≤ aimed s (seen moment.now).readings.aims) }
+{
+    has_shares(&shares_at(moment, event), moment.aims())
+}
+
+// Each space has at least its share of these aims.
+fn has_shares(shares: &[u16; MAX_SPACES], aims: &[Option<SpaceNo>]) -> bool
+    ensures { IsTrue result ↔ ((s : ℕ) → share_at shares.now s ≤ aimed s aims.now) }
+{
+    for s in 0..MAX_SPACES {
+        if usize::from(shares[s]) > aimed(aims, SpaceNo(s as u16)) {
+            return false;
+        }
+    }
+    true
+}
+
+// The space whose turn it is to be served first.
+fn first_space(workload: &Workload, event: u64) -> u16
+    ensures is { result ≡ first_space workload.now event }
+    ensures within { result < length workload.now.spaces }
+{
+    let spaces = workload.spaces().len();
+    let slice = workload.slice();
+    if slice == 0 {
+        return 0;
+    }
+    (event / u64::from(slice) % spaces as u64) as u16
+}
+
+// What each space claims.
+fn claims(moment: &Moment) -> ArrayVec<Claim, MAX_SPACES>
+    ensures { result.items ≡ claims_of (seen moment.now).workload (seen moment.now).readings }
+{
+    let mut claims = ArrayVec::new();
+    for s in 0..moment.workload().spaces().len() {
+        claims.push(claim(moment, SpaceNo(s as u16)));
+    }
+    claims
+}
+
+// What the space claims.
+fn claim(moment: &Moment, s: SpaceNo) -> Claim
+    requires { s.0 < length (seen moment.now).workload.spaces }
+    ensures { result ≡ claim_of (seen moment.now).workload (seen moment.now).readings s }
+{
+    let demand = moment.demand(s);
+    Claim {
+        priority: moment.workload().spaces()[usize::from(s.0)].priority(),
+        want: if moment.is_fetching(s) {
+            at_most(demand, aimed(moment.aims(), s))
+        } else {
+            demand
+        },
+    }
+}
+
+// The less of the two.
+fn at_most(demand: u16, aims: usize) -> u16
+    ensures { result ≡ min demand aims }
+{
+    if usize::from(demand) <= aims {
+        demand
+    } else {
+        aims as u16
+    }
+}

@@ -1,0 +1,74 @@
+-- The calls and the readings of a history.
+use Rattle.std.proofs.Common.{◌≡◌, ℕ, refl, sym, ◌∙◌, ap, Bool, Option, Some, None}
+use Rattle.std.specs.Option.{option_map}
+use Rattle.sa_base.specs.declared.number.ProcNo.{ProcNo}
+use Rattle.sa_base.specs.declared.number.ThreadNo.{ThreadNo}
+use Rattle.sa_base.specs.declared.number.ActNo.{ActNo}
+use Rattle.sa_base.specs.declared.record.Note.TheVariants.{Add, Preempted, Blocked, Unblocked}
+use Rattle.sa_base.specs.declared.record.Record.TheVariants.{Ins, Out, Run, Stop, Block, Unblock, Cont, Back, Ready, Take, Free, Up, Told, Move, Want, Aim, Line, Fetch, Fetched, GiveBack, Idle, Spin, Tick}
+use Rattle.sa_lemmas.specs.Function.{put}
+use Rattle.sa_laws.specs.Life.{Life, with_lock}
+use Rattle.sa_laws.specs.Readings.{Readings, running_of, life_if}
+use Rattle.sa_laws.specs.Record.{with_life, locks}
+use Rattle.sa_laws.specs.History.{stepped, arisen}
+use Rattle.sa_check_life.specs.Change.{stepped_by, arisen_by}
+use Rattle.sa_check_lives.specs.View.{read_of}
+use Rattle.sa_check_lives.specs.Recorded.{taken_lock, IsForPush, RecordsAreRead, StepsAreRead, UpsAreRead}
+
+mapped-as : (f g : Life → Life) (o : Option Life) → ((life : Life) → o ≡ Some life → f life ≡ g life) → option_map f o ≡ option_map g o
+mapped-as f g None same = refl
+mapped-as f g (Some life) same = ap (λ x. Some x) (same life refl)
+
+-- two functions that agree at the life of a number change the lives alike
+pub with_life-as : (f g : Life → Life) (a : Option ActNo) (lives : ℕ → Option Life)
+    → ((act : ActNo) (life : Life) → a ≡ Some act → lives act.0 ≡ Some life → f life ≡ g life)
+    → with_life f a lives ≡ with_life g a lives
+with_life-as f g None lives same = refl
+with_life-as f g (Some a) lives same = ap (put lives a.0) (mapped-as f g (lives a.0) (λ life is. same a life refl is))
+
+take-read : (p l : ProcNo) (t : Option ThreadNo) (r : Readings) (for_push : Bool) → IsForPush r p for_push
+    → with_life (locks r p l t) (running_of r p) r.lives ≡ with_life (with_lock (taken_lock p l t for_push)) (running_of r p) r.lives
+take-read p l t r for_push is = with_life-as (locks r p l t) (with_lock (taken_lock p l t for_push)) (running_of r p) r.lives
+    (λ a life at here. ap (λ b. with_lock (taken_lock p l t b) life) (sym (is.each life (ap (life_if r) at ∙ here))))
+
+pub records-read : RecordsAreRead
+records-read w e p r (Ins s t i) for_push is = refl
+records-read w e p r (Out s t value) for_push is = refl
+records-read w e p r (Run s t) for_push is = refl
+records-read w e p r (Stop s t a) for_push is = refl
+records-read w e p r (Block s t a io) for_push is = refl
+records-read w e p r (Unblock s t a) for_push is = refl
+records-read w e p r (Cont s t) for_push is = refl
+records-read w e p r (Back s t) for_push is = refl
+records-read w e p r (Ready s t) for_push is = refl
+records-read w e p r (Take s l t) for_push is = ap (λ lives. record (read_of r) { lives = lives }) (take-read p l t r for_push is)
+records-read w e p r (Free s l t) for_push is = refl
+records-read w e p r (Up s a) for_push is = refl
+records-read w e p r (Told (Add q)) for_push is = refl
+records-read w e p r (Told (Preempted a)) for_push is = refl
+records-read w e p r (Told (Blocked a)) for_push is = refl
+records-read w e p r (Told (Unblocked a)) for_push is = refl
+records-read w e p r (Move old new) for_push is = refl
+records-read w e p r (Want s n) for_push is = refl
+records-read w e p r (Aim q s) for_push is = refl
+records-read w e p r (Line q) for_push is = refl
+records-read w e p r (Fetch s) for_push is = refl
+records-read w e p r (Fetched s) for_push is = refl
+records-read w e p r (GiveBack a) for_push is = refl
+records-read w e p r Idle for_push is = refl
+records-read w e p r (Spin l) for_push is = refl
+records-read w e p r Tick for_push is = refl
+
+pub steps-read : StepsAreRead
+steps-read test w before e after first a lives x said =
+    with_life-as (stepped test w before e after first) (stepped_by x) a lives (λ act life at here.
+    let freed = said.freed in
+    let scan = said.scan life.scans in
+    let inside = said.inside act life at here in
+    cc)
+
+pub ups-read : UpsAreRead
+ups-read test w before e after a lives inside said =
+    with_life-as (arisen test w before e after) (arisen_by inside) a lives (λ act life at here.
+    let same = said act life at here in
+    cc)

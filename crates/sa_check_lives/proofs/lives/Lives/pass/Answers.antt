@@ -1,0 +1,18 @@
+use Rattle.std.proofs.Common.{◌≡◌, ◌∙◌, ap}
+use Rattle.sa_check_lives.specs.Rows.{without_last}
+use Rattle.sa_check_lives.specs.Table.{lives_in}
+use Rattle.sa_check_lives.specs.View.{Stored, lives_of}
+use Rattle.sa_check_lives.proofs.RowLemmas.{undone}
+use Rattle.sa_check_lives.proofs.ViewLemmas.{view-same}
+use Rattle.sa_check_lives.proofs.lives.Lives.pass.Goals as goal
+
+pub returns-in-Err-clause-err : goal.returns-in-Err-clause-err
+returns-in-Err-clause-err c =
+    let rows : c.undo.new.rows.items ≡ c.self.inside.taken.items =
+    c.undo.ensures ∙ ap (λ rows. without_last rows c.in-Some.s) c.in_ok-add.ensures.ok ∙ undone c.self.inside.taken.items c.in-Some.s c.args.a in
+    view-same (lives_of c.args.self.now) _
+    (c.in-Err.ensures.err ∙ ap (λ (v : Stored). lives_in v.table) c.self.view_is)
+    (ap (λ (v : Stored). v.running) c.self.view_is)
+    (rows ∙ ap (λ (v : Stored). v.taken) c.self.view_is)
+    (ap (λ (v : Stored). v.untold) c.self.view_is)
+    (ap (λ (v : Stored). v.upped) c.self.view_is)

@@ -1,0 +1,10 @@
+pub mod CountLemmas
+pub mod ShapeLemmas
+pub mod JoinerLemmas
+pub mod OpeningLemmas
+pub mod TotalLemmas
+pub mod IndexLemmas
+pub mod ChangeLemmas
+pub mod ReplayLemmas
+pub mod PageLemmas
+pub mod NeedLemmas

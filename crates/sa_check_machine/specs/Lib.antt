@@ -1,0 +1,10 @@
+pub mod Counts
+pub mod Running
+pub mod Sound
+pub mod Space
+pub mod Shape
+pub mod Spaces
+pub mod Replayed
+pub mod Needs
+pub mod Index
+pub mod Inside

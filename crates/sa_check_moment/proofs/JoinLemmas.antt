@@ -1,0 +1,98 @@
+-- The readings after a record, part by part.
+use Rattle.std.proofs.Common.{◌≡◌, ℕ, refl, sym, ◌∙◌, ap, Bool, List, Option, Some}
+use Rattle.sa_base.specs.declared.number.ProcNo.{ProcNo}
+use Rattle.sa_base.specs.declared.number.SpaceNo.{SpaceNo}
+use Rattle.sa_base.specs.declared.number.ThreadNo.{ThreadNo}
+use Rattle.sa_base.specs.declared.record.Note.TheVariants.{Add, Preempted, Blocked, Unblocked}
+use Rattle.sa_base.specs.declared.record.Record.{Record}
+use Rattle.sa_base.specs.declared.record.Record.TheVariants.{Ins, Out, Run, Stop, Block, Unblock, Cont, Back, Ready, Take, Free, Up, Told, Move, Want, Aim, Line, Fetch, Fetched, GiveBack, Idle, Spin, Tick}
+use Rattle.sa_spaces.specs.Workload.{WorkloadView}
+use Rattle.sa_laws.specs.State.{State}
+use Rattle.sa_laws.specs.Machine.{changed}
+use Rattle.sa_laws.specs.Readings.{Readings, Listed, life_on}
+use Rattle.sa_laws.specs.Record.{Blocking, after_record, moved_after, first_list}
+use Rattle.sa_check_lives.specs.View.{LivesView, lives_of, read_of}
+use Rattle.sa_check_lives.specs.Recorded.{recorded, IsForPush}
+use Rattle.sa_check_lives.proofs.ReadLemmas.{records-read}
+use Rattle.sa_check_machine.specs.Replayed.{roused_by}
+use Rattle.sa_check_ios.specs.PendingView.{PendingView, pending_of}
+use Rattle.sa_check_moment.specs.Board.{BoardView, board_of, noted}
+use Rattle.sa_check_moment.specs.Seen.{Seen, Kept, joined, seen, behind_record}
+use Rattle.sa_check_moment.specs.Reading.{begun_by, pending_after, ready_after}
+
+-- the parts but for the lives
+abbrev rest : WorkloadView → ℕ → ProcNo → Readings → Record → LivesView → Readings
+rest w e p r x lives =
+    joined r.number (changed w p r.state x) (noted e p r.last x (board_of r)) lives (pending_after (begun_by w r x) e x (pending_of r))
+    (ready_after (first_list (life_on r p) p) x r.ready) (Some x) (moved_after r.moved x)
+
+parts : (w : WorkloadView) (e : ℕ) (p : ProcNo) (r : Readings) (x : Record) (for_push : Bool) → IsForPush r p for_push
+    → after_record w e p r x ≡ rest w e p r x (recorded (roused_by w r.state x) for_push p x (read_of r))
+parts w e p r (Ins s t i) for_push is = refl
+parts w e p r (Out s t value) for_push is = refl
+parts w e p r (Run s t) for_push is = refl
+parts w e p r (Stop s t a) for_push is = refl
+parts w e p r (Block s t a io) for_push is = refl
+parts w e p r (Unblock s t a) for_push is = refl
+parts w e p r (Cont s t) for_push is = refl
+parts w e p r (Back s t) for_push is = refl
+parts w e p r (Ready s t) for_push is = refl
+parts w e p r (Take s l t) for_push is = ap (rest w e p r (Take s l t)) (records-read w e p r (Take s l t) for_push is)
+parts w e p r (Free s l t) for_push is = refl
+parts w e p r (Up s a) for_push is = refl
+parts w e p r (Told (Add q)) for_push is = refl
+parts w e p r (Told (Preempted a)) for_push is = refl
+parts w e p r (Told (Blocked a)) for_push is = refl
+parts w e p r (Told (Unblocked a)) for_push is = refl
+parts w e p r (Move old new) for_push is = refl
+parts w e p r (Want s n) for_push is = refl
+parts w e p r (Aim q s) for_push is = refl
+parts w e p r (Line q) for_push is = refl
+parts w e p r (Fetch s) for_push is = refl
+parts w e p r (Fetched s) for_push is = refl
+parts w e p r (GiveBack a) for_push is = refl
+parts w e p r Idle for_push is = refl
+parts w e p r (Spin l) for_push is = refl
+parts w e p r Tick for_push is = refl
+
+-- a moment of these parts
+abbrev whole : WorkloadView → ℕ → State → BoardView → LivesView → PendingView → List (List Listed) → Option Record → Option SpaceNo → Seen
+whole w number state board lives pending ready last moved =
+    record { workload = w; readings = joined number state board lives pending ready last moved }
+
+-- is seen as another, where it was put together from the same
+pub seen-as : (n : Kept) (w : WorkloadView) (number : ℕ) (state : State) (board : BoardView) (lives : LivesView) (pending : PendingView) (ready : List (List Listed)) (last : Option Record) (moved : Option SpaceNo)
+    → n.workload ≡ w → n.number ≡ number → n.state ≡ state → n.board ≡ board → lives_of n.lives ≡ lives → n.pending ≡ pending → n.ready ≡ ready → n.last ≡ last → n.moved ≡ moved
+    → seen n ≡ whole w number state board lives pending ready last moved
+unfolding seen
+seen-as n w number state board lives pending ready last moved a b c d f g h i j =
+    ap (λ x. whole x n.number n.state n.board (lives_of n.lives) n.pending n.ready n.last n.moved) a
+    ∙ ap (λ x. whole w x n.state n.board (lives_of n.lives) n.pending n.ready n.last n.moved) b
+    ∙ ap (λ x. whole w number x n.board (lives_of n.lives) n.pending n.ready n.last n.moved) c
+    ∙ ap (λ x. whole w number state x (lives_of n.lives) n.pending n.ready n.last n.moved) d
+    ∙ ap (λ x. whole w number state board x n.pending n.ready n.last n.moved) f
+    ∙ ap (λ x. whole w number state board lives x n.ready n.last n.moved) g
+    ∙ ap (λ x. whole w number state board lives pending x n.last n.moved) h
+    ∙ ap (λ x. whole w number state board lives pending ready x n.moved) i
+    ∙ ap (λ x. whole w number state board lives pending ready last x) j
+
+-- what a record's parts are read with: for a take, for a block or a fetch, for a ready
+pub record IsReadWith (m : Kept) (p : ProcNo) (x : Record) (for_push : Bool) (begun : Option Blocking) (list : ProcNo) : Type 0 where
+  pub push : IsForPush (seen m).readings p for_push
+  pub begins : begun ≡ begun_by (seen m).workload (seen m).readings x
+  pub listed : list ≡ first_list (life_on (seen m).readings p) p
+
+pub read-whole : (m n : Kept) (e : ℕ) (p : ProcNo) (x : Record) (for_push : Bool) (begun : Option Blocking) (list : ProcNo) (roused : List ThreadNo)
+    → IsReadWith m p x for_push begun list → n.workload ≡ m.workload → n.number ≡ m.number → n.state ≡ changed m.workload p m.state x
+    → roused ≡ roused_by m.workload m.state x → n.board ≡ noted e p m.last x m.board
+    → lives_of n.lives ≡ recorded roused for_push p x (lives_of m.lives) → n.pending ≡ pending_after begun e x m.pending
+    → n.ready ≡ ready_after list x m.ready → n.last ≡ Some x → n.moved ≡ moved_after m.moved x → seen n ≡ behind_record e p x (seen m)
+unfolding seen
+read-whole m n e p x for_push begun list roused is workload number state woken board lives pending ready last moved =
+    let r = (seen m).readings in
+    seen-as n m.workload r.number (changed m.workload p r.state x) (noted e p r.last x (board_of r)) (recorded (roused_by m.workload r.state x) for_push p x (read_of r))
+    (pending_after (begun_by m.workload r x) e x (pending_of r)) (ready_after (first_list (life_on r p) p) x r.ready) (Some x) (moved_after r.moved x)
+    workload number state board (lives ∙ ap (λ (threads : List ThreadNo). recorded threads for_push p x (lives_of m.lives)) woken)
+    (pending ∙ ap (λ (b : Option Blocking). pending_after b e x m.pending) is.begins)
+    (ready ∙ ap (λ (l : ProcNo). ready_after l x m.ready) is.listed) last moved
+    ∙ ap (λ (s : Readings). let whole : Seen = record { workload = m.workload; readings = s } in whole) (sym (parts m.workload e p r x for_push is.push))

@@ -1,0 +1,27 @@
+use Rattle.std.proofs.Common.{◌≡◌, ◌+◌, ◌∙◌, ap, refl, rules}
+use Rattle.sa_check_lives.specs.View.{lives_of}
+use Rattle.sa_check_moment.specs.Seen.{Kept, seen}
+use Rattle.sa_check_moment.specs.Ending.{step_by, up_by, stepped_if, arisen_if}
+use Rattle.sa_check_moment.proofs.EndingLemmas.{finish-whole}
+use Rattle.sa_check_moment.proofs.moment.Moment.finish.Goals as goal
+
+pub returns : goal.returns
+returns c before runs low =
+    let m = c.args.self in
+    let same = c.self.view_is in
+    let p = c.args.p in
+    let records = c.args.records.now in
+    let start = c.args.start in
+    let r = (seen m).readings in
+    let w = (seen m).workload in
+    let step : c.step_by-step.result ≡ step_by w start.lowers r start.running records = c.step_by-step.ensures in
+    let up : c.up_by-up.result ≡ up_by w r p records = c.up_by-up.ensures in
+    let stepped : lives_of c.end_step.new.lives ≡ stepped_if (step_by w start.lowers r start.running records) start.running (lives_of m.lives) =
+    c.in_ok-end_step.ensures ∙ ap (λ x. stepped_if x start.running (lives_of c.self.inside.lives)) step
+    ∙ ap (λ (k : Kept). stepped_if (step_by w start.lowers r start.running records) start.running (lives_of k.lives)) same in
+    let lives : lives_of c.end_up.new.lives ≡ arisen_if (up_by w r p records) p (stepped_if (step_by w start.lowers r start.running records) start.running (lives_of m.lives)) =
+    c.in_ok-end_up.ensures ∙ ap (λ x. arisen_if x p (lives_of c.end_step.new.lives)) up ∙ ap (λ v. arisen_if (up_by w r p records) p v) stepped in
+    let count : c.in_ok-self-inside.field-0 ≡ c.self.inside.number + 1 = search rules in
+    finish-whole m _ before c.args.number p records start.running start.lowers runs low
+    (ap (λ (k : Kept). k.workload) same) (count ∙ ap (λ (k : Kept). k.number + 1) same) (ap (λ (k : Kept). k.state) same) (ap (λ (k : Kept). k.board) same) lives
+    (ap (λ (k : Kept). k.pending) same) (ap (λ (k : Kept). k.ready) same) refl refl

@@ -1,0 +1,65 @@
+use Rattle.std.proofs.Common.{◌≡◌, ◌∙◌, refl, ap, subst, sym, Some}
+use Rattle.sa_laws.specs.Machine.{changed}
+use Rattle.sa_laws.specs.Record.{moved_after}
+use Rattle.sa_check_lives.specs.View.{lives_of}
+use Rattle.sa_check_lives.specs.Recorded.{recorded}
+use Rattle.sa_check_machine.specs.Replayed.{Replayed, after, roused_by}
+use Rattle.sa_check_machine.specs.Needs.{CanChange}
+use Rattle.sa_check_moment.specs.Board.{noted}
+use Rattle.sa_check_moment.specs.declared.moment.Moment.TheInside.{Inside}
+use Rattle.sa_check_moment.specs.KeptFields.{kept_of}
+use Rattle.sa_check_moment.specs.Listed.{IsListed}
+use Rattle.sa_check_moment.specs.Seen.{Seen, Kept, seen, behind_record}
+use Rattle.sa_check_moment.specs.Reading.{pending_after, ready_after}
+use Rattle.sa_check_moment.proofs.JoinLemmas.{read-whole, IsReadWith}
+use Rattle.sa_check_moment.proofs.ListedLemmas.{listed-behind}
+use Rattle.sa_check_moment.proofs.NeedLemmas.{can_change}
+use Rattle.sa_check_moment.proofs.moment.Moment.read.Goals as goal
+
+pub change-requires : goal.change-requires
+unfolding seen
+change-requires c =
+    let m = c.args.self in
+    let can : CanChange m.workload c.args.p m.state c.args.what.now = can_change m.workload c.args.p (seen m).readings c.args.what.now c.requires in
+    subst (λ (k : Kept). CanChange k.workload c.args.p k.state c.args.what.now) (sym c.self.view_is) can
+
+-- what is read is the moment behind the record
+whole : (c : goal.After-self-4-1) → let fields : Inside = record {
+  replay = c.change.new.self;
+  lives = c.read.new.self;
+  pending = c.read_pending.new.pending;
+  ready = c.read_ready.new.ready;
+  board = c.note.new.self;
+  number = c.self.inside.number;
+  last = Some c.args.what.now;
+  moved = c.moved_after-self-inside.result;
+} in
+    seen (kept_of fields) ≡ behind_record c.args.number c.args.p c.args.what.now (seen c.args.self)
+whole c =
+    let m = c.args.self in
+    let x = c.args.what.now in
+    let p = c.args.p in
+    let same = c.self.view_is in
+    let with : IsReadWith m p x c.is_for_push-for_push.result c.begun_by-begun.result c.first_list-list.result =
+    record { push = c.is_for_push-for_push.ensures; begins = c.begun_by-begun.ensures.begun; listed = c.first_list-list.ensures } in
+    let replay : c.change.new.self ≡ after p c.self.inside.replay x = c.in_ok-change.ensures.ok in
+    let workload : c.change.new.self.workload ≡ m.workload = ap (λ (v : Replayed). v.workload) replay ∙ ap (λ (k : Kept). k.workload) same in
+    let state : c.change.new.self.state ≡ changed m.workload p m.state x = ap (λ (v : Replayed). v.state) replay ∙ ap (λ (k : Kept). changed k.workload p k.state x) same in
+    let roused : c.roused.result.now ≡ roused_by m.workload m.state x = c.roused.ensures ∙ ap (λ (v : Replayed). v.roused) replay ∙ ap (λ (k : Kept). roused_by k.workload k.state x) same in
+    let board : c.note.new.self ≡ noted c.args.number p m.last x m.board = c.note.ensures ∙ ap (λ (k : Kept). noted c.args.number p k.last x k.board) same in
+    let lives : lives_of c.read.new.self ≡ recorded c.roused.result.now c.is_for_push-for_push.result p x (lives_of m.lives) =
+    c.in_ok-read.ensures.ok ∙ ap (λ (k : Kept). recorded c.roused.result.now c.is_for_push-for_push.result p x (lives_of k.lives)) same in
+    let pending : c.read_pending.new.pending ≡ pending_after c.begun_by-begun.result c.args.number x m.pending =
+    c.in_ok-read_pending.ensures ∙ ap (λ (k : Kept). pending_after c.begun_by-begun.result c.args.number x k.pending) same in
+    let ready : c.read_ready.new.ready ≡ ready_after c.first_list-list.result x m.ready =
+    c.in_ok-read_ready.ensures ∙ ap (λ (k : Kept). ready_after c.first_list-list.result x k.ready) same in
+    let moved : c.moved_after-self-inside.result ≡ moved_after m.moved x = c.moved_after-self-inside.ensures ∙ ap (λ (k : Kept). moved_after k.moved x) same in
+    read-whole m _ c.args.number p x c.is_for_push-for_push.result c.begun_by-begun.result c.first_list-list.result c.roused.result.now with workload (ap (λ (k : Kept). k.number) same) state roused board lives pending ready refl moved
+
+pub invariant_of-self : goal.invariant_of-self
+invariant_of-self c =
+    let old : IsListed (seen c.args.self) = subst (λ (k : Kept). IsListed (seen k)) c.self.view_is c.self.invariant in
+    subst (λ (m : Seen). IsListed m) (sym (whole c)) (listed-behind c.args.number c.args.p c.args.what.now (seen c.args.self) old)
+
+pub returns : goal.returns
+returns c = whole c

@@ -1,0 +1,16 @@
+-- A moment's fields as a contract sees them.
+use Rattle.sa_check_moment.specs.declared.moment.Moment.TheInside.{Inside}
+use Rattle.sa_check_moment.specs.Seen.{Kept}
+
+abbrev pub kept_of : Inside → Kept
+kept_of m = record {
+  workload = m.replay.workload;
+  number = m.number;
+  state = m.replay.state;
+  board = m.board;
+  lives = m.lives;
+  pending = m.pending;
+  ready = m.ready;
+  last = m.last;
+  moved = m.moved;
+}

@@ -1,0 +1,12 @@
+-- The lists of a moment have one entry for each processor, or for each space.
+use Rattle.std.specs.Prelude.{◌≡◌, length}
+use Rattle.sa_check_moment.specs.Seen.{Seen}
+
+pub record IsListed (m : Seen) : Type 0 where
+  pub owners : length m.readings.state.owners ≡ m.workload.processors
+  pub aims : length m.readings.aims ≡ m.workload.processors
+  pub lines : length m.readings.lines ≡ m.workload.processors
+  pub marks : length m.readings.marks ≡ m.workload.processors
+  pub running : length m.readings.running ≡ m.workload.processors
+  pub taken : length m.readings.taken ≡ length m.workload.spaces
+  pub untold : length m.readings.untold ≡ length m.workload.spaces

@@ -1,0 +1,495 @@
+// A moment of a history.
+#![tactic(auto, unfolding(crate::specs::Seen::seen))]
+
+ghost use Rattle.std.specs.Prelude.{◌≡◌, ◌≢◌, ◌↔◌, ◌≤◌, true, [], is_none, IfOk, IsTrue};
+ghost use Rattle.std.specs.List.{list_any, list_all};
+ghost use Rattle.std.specs.Option.{option_copied, option_map};
+ghost use Rattle.sa_spaces.specs.Workload.{WorkloadView};
+ghost use Rattle.sa_devices.specs.Ios.{Io, due_of};
+ghost use Rattle.sa_laws.specs.State.{Runner, instr_of, thread_at, runner_on, space_at};
+ghost use Rattle.sa_laws.specs.Readings.{owner_of, aim_of, line_of, running_of, life_of, life_on, space_of_life, demand_of, untold_of, taken_of, is_resident, is_fetching, load_of, usable, has_hand, counts, many_taken, must_hear, IsLocked, IsOpen, ready_of, has_ready, NoneIsOpen};
+ghost use Rattle.sa_laws.specs.Closing.{must_want};
+ghost use Rattle.sa_laws.specs.Turns.{AnotherHas};
+ghost use Rattle.sa_laws.specs.Locks.{HoldsLock, next_thread, list_round, IsFirstOpen};
+ghost use Rattle.sa_laws.specs.Ends.{are_at_rest, IsAllDone, IsStuck};
+ghost use Rattle.sa_check_lives.specs.Table.{SomeIsIn};
+ghost use Rattle.sa_check_moment.specs.Listed.{IsListed};
+ghost use Rattle.sa_check_moment.specs.Seen.{seen, opened};
+
+mod finish;
+mod read;
+
+use crate::board::Board;
+use sa_base::{ActNo, BULK_RETURN, Note, ProcNo, Record, SpaceNo, ThreadNo};
+use sa_check_ios::{ListedThread, Pending, ReadyLists};
+use sa_check_life::{KeptLife, ListLock};
+use sa_check_lives::Lives;
+use sa_check_machine::{Replay, RunningThread, ThreadState};
+use sa_devices::IoKind;
+use sa_instr::Instr;
+use sa_laws::Place;
+use sa_spaces::Workload;
+use std::alloc::{AllocError, Global};
+use std::marker::Model;
+
+/// What is read of a history at a moment.
+///
+/// A query takes constant or logarithmic time, but for one that looks at what a space was not told, at its ready threads,
+/// at a hand or at the locks of lives, which takes time in these; an event takes such time for each of its records.
+#[derive(Debug, Drop)]
+pub struct Moment {
+    replay: Replay,
+    lives: Lives,
+    pending: Pending,
+    ready: ReadyLists,
+    board: Board,
+    number: u64,
+    last: Option<Record>,
+    moved: Option<SpaceNo>,
+}
+
+impl Model for Moment {
+    ghost use Rattle.sa_check_moment.specs.Seen.{Kept, seen};
+    ghost use Rattle.sa_check_moment.specs.Listed.{IsListed};
+
+    ghost Value = { Kept };
+
+    ghost use Rattle.sa_check_moment.specs.KeptFields.{kept_of};
+
+    ghost view = { kept_of };
+
+    ghost invariant = { λ m. IsListed (seen (kept_of m)) };
+}
+
+impl Moment {
+    /// Before any record of a trace of this workload. Fails only where memory runs out.
+    pub fn start(alloc: Global, workload: &Workload) -> Result<Moment, AllocError>
+        ensures { IfOk result (λ m. seen m ≡ opened workload.now) }
+    {
+        let processors = usize::from(workload.processors());
+        let spaces = workload.spaces().len();
+        Ok(Moment {
+            replay: Replay::start(alloc, workload)?,
+            lives: Lives::new(alloc, workload.processors(), spaces as u16)?,
+            pending: Pending::new(alloc, workload)?,
+            ready: ReadyLists::new(alloc, spaces)?,
+            board: Board::new(alloc, processors, spaces)?,
+            number: 0,
+            last: None,
+            moved: None,
+        })
+    }
+
+    /// The workload.
+    pub fn workload(&self) -> &Workload
+        ensures { result.now ≡ (seen self.now).workload }
+    {
+        self.replay.workload()
+    }
+
+    /// The number of the next event: how many there were.
+    pub fn number(&self) -> u64
+        ensures { result ≡ (seen self.now).readings.number }
+    {
+        self.number
+    }
+
+    /// The space that owns the processor.
+    pub fn owner(&self, p: ProcNo) -> Option<SpaceNo>
+        ensures { result ≡ owner_of (seen self.now).readings p }
+    {
+        self.replay.owner(p)
+    }
+
+    /// What every moment keeps to. It does nothing.
+    pub fn ranges(&self)
+        ensures { IsListed (seen self.now) }
+    {
+        let _number = &self.number;
+    }
+
+    /// The space of the processor's last aim record.
+    pub fn aim(&self, p: ProcNo) -> Option<SpaceNo>
+        ensures { result ≡ aim_of (seen self.now).readings p }
+    {
+        self.board.aim(p)
+    }
+
+    /// The event that raised the processor's line, `None` where it is low.
+    pub fn line(&self, p: ProcNo) -> Option<u64>
+        ensures { result ≡ line_of (seen self.now).readings p }
+    {
+        self.board.line(p)
+    }
+
+    /// Of each processor: the space that owns it.
+    pub fn owners(&self) -> &[Option<SpaceNo>]
+        ensures { result.now ≡ (seen self.now).readings.state.owners }
+    {
+        self.replay.owners()
+    }
+
+    /// Of each processor: the space of its last aim record.
+    pub fn aims(&self) -> &[Option<SpaceNo>]
+        ensures { result.now ≡ (seen self.now).readings.aims }
+    {
+        self.board.aims()
+    }
+
+    /// Of each processor: the event that raised its line.
+    pub fn lines(&self) -> &[Option<u64>]
+        ensures { result.now ≡ (seen self.now).readings.lines }
+    {
+        self.board.lines()
+    }
+
+    /// Of each processor: its idle mark.
+    pub fn marks(&self) -> &[bool]
+        ensures { result.now ≡ (seen self.now).readings.marks }
+    {
+        self.board.marks()
+    }
+
+    /// The number of the life that runs on the processor.
+    pub fn running(&self, p: ProcNo) -> Option<ActNo>
+        ensures { result ≡ running_of (seen self.now).readings p }
+    {
+        self.lives.running(p)
+    }
+
+    /// Of each processor: its running life.
+    pub fn all_running(&self) -> &[Option<ActNo>]
+        ensures { result.now ≡ (seen self.now).readings.running }
+    {
+        self.lives.all_running()
+    }
+
+    /// The life of this number, if it is in use.
+    pub fn life(&self, a: ActNo) -> Option<&KeptLife>
+        ensures { option_copied result ≡ life_of (seen self.now).readings a }
+    {
+        self.lives.life(a)
+    }
+
+    /// The life that runs on the processor.
+    pub fn life_on(&self, p: ProcNo) -> Option<&KeptLife>
+        ensures { option_copied result ≡ life_on (seen self.now).readings p }
+    {
+        match self.running(p) {
+            None => None,
+            Some(a) => self.life(a),
+        }
+    }
+
+    /// The space of the life of this number, if one is given and it is in use.
+    pub fn space_of_life(&self, a: Option<ActNo>) -> Option<SpaceNo>
+        ensures { result ≡ space_of_life (seen self.now).readings a }
+    {
+        match a {
+            None => None,
+            Some(a) => self.life(a).map(KeptLife::space),
+        }
+    }
+
+    /// How many processors the space wants, by its last want record.
+    pub fn demand(&self, s: SpaceNo) -> u16
+        ensures { result ≡ demand_of (seen self.now).readings s }
+    {
+        self.board.demand(s)
+    }
+
+    /// What the space was not told yet, in order.
+    pub fn untold(&self, s: SpaceNo) -> &[Note]
+        ensures { result.now ≡ untold_of (seen self.now).readings s }
+    {
+        self.lives.untold(s)
+    }
+
+    /// The lives of the space that were taken and not given back, in the order of taking.
+    pub fn taken(&self, s: SpaceNo) -> &[ActNo]
+        ensures { result.now ≡ taken_of (seen self.now).readings s }
+    {
+        self.lives.taken(s)
+    }
+
+    /// How many I/Os and fetches were begun.
+    pub fn begun(&self) -> u64
+        ensures { result ≡ (seen self.now).readings.begun }
+    {
+        self.pending.begun()
+    }
+
+    /// The page of the space is resident.
+    pub fn is_resident(&self, s: SpaceNo, page: u16) -> bool
+        ensures { result ≡ is_resident (seen self.now).readings s page }
+    {
+        self.pending.is_resident(s, page)
+    }
+
+    /// The upcall page of the space is being fetched.
+    pub fn is_fetching(&self, s: SpaceNo) -> bool
+        ensures { result ≡ is_fetching (seen self.now).readings s }
+    {
+        self.pending.is_fetching(s)
+    }
+
+    /// What the I/O is for that is due at the event: the one with the least end up to the event, and of these the one
+    /// with the least number.
+    pub fn due(&self, event: u64) -> Option<IoKind>
+        ensures { result ≡ option_map (λ (io : Io). io.kind) (due_of event (seen self.now).readings.under_way) }
+    {
+        self.pending.due(event)
+    }
+
+    /// Some I/O is under way.
+    pub fn is_busy(&self) -> bool
+        ensures { IsTrue result ↔ ((seen self.now).readings.under_way ≢ []) }
+    {
+        self.pending.is_busy()
+    }
+
+    /// The thread; one that was not made counts as done.
+    pub fn thread(&self, s: SpaceNo, t: ThreadNo) -> ThreadState
+        ensures { result ≡ thread_at (seen self.now).readings.state s t }
+    {
+        self.replay.thread(s, t)
+    }
+
+    /// The thread that runs on the processor.
+    pub fn runner(&self, p: ProcNo) -> Option<RunningThread>
+        ensures { result ≡ runner_on (seen self.now).readings.state p }
+    {
+        self.replay.runner(p)
+    }
+
+    /// The instruction at a place of the thread's program, and `end` where there is none.
+    pub fn instr_of(&self, s: SpaceNo, t: ThreadNo, place: u16) -> Instr
+        ensures { result ≡ instr_of (seen self.now).workload (seen self.now).readings.state s t place }
+    {
+        self.replay.instr_of(s, t, place)
+    }
+
+    /// The thread that runs on the life's processor.
+    pub fn carried(&self, p: ProcNo) -> Option<ThreadNo>
+        ensures { result ≡ option_map (λ (runner : Runner). runner.thread) (runner_on (seen self.now).readings.state p) }
+    {
+        self.runner(p).map(|runner| runner.thread())
+    }
+
+    /// A thread of the life's hand is carried or due.
+    pub fn has_hand(&self, life: &KeptLife) -> bool
+        ensures { result ≡ has_hand (seen self.now).readings life.now }
+    {
+        let s = life.space();
+        life.hand().iter().any(|t| self.counts(s, *t))
+    }
+
+    /// The thread of a hand counts: it is carried or due.
+    pub fn counts(&self, s: SpaceNo, t: ThreadNo) -> bool
+        ensures { result ≡ counts (space_at (seen self.now).readings.state s) t }
+    {
+        self.thread(s, t).place() == Place::Carried || self.replay.is_due(s, t)
+    }
+
+    /// The ready and running threads of the space, and the threads of its untold stops.
+    pub fn load(&self, s: SpaceNo) -> u128
+        ensures { result ≡ load_of (seen self.now).readings s }
+    {
+        u128::from(self.replay.active_threads(s)) + self.lives.untold_threads(s) as u128
+    }
+
+    /// How many processors the load of the space can use.
+    pub fn usable(&self, s: SpaceNo) -> u16
+        ensures { result ≡ usable (seen self.now).workload (seen self.now).readings s }
+    {
+        let processors = self.workload().processors();
+        if self.load(s) < u128::from(processors) {
+            self.load(s) as u16
+        } else {
+            processors
+        }
+    }
+
+    /// 8 or more lives of the space were taken and not given back.
+    pub fn many_taken(&self, s: SpaceNo) -> bool
+        ensures { result ≡ many_taken (seen self.now).readings s }
+    {
+        self.taken(s).len() >= BULK_RETURN as usize
+    }
+
+    /// The space wants no processor and must be told something.
+    pub fn must_want(&self, s: SpaceNo) -> bool
+        ensures { result ≡ must_want (seen self.now).readings s }
+    {
+        self.demand(s) == 0 && self.one_must_be_heard(self.untold(s))
+    }
+
+    /// Some life of the space has the list among its locks.
+    pub fn is_locked(&self, s: SpaceNo, l: ProcNo) -> bool
+        ensures { IsTrue result ↔ IsLocked (seen self.now).readings s l }
+    {
+        self.lives.is_locked(s, l)
+    }
+
+    /// Some other life of the space than `a` has the list among its locks.
+    pub fn is_locked_by_other(&self, a: ActNo, s: SpaceNo, l: ProcNo) -> bool
+        ensures { IsTrue result ↔ AnotherHas (seen self.now).readings a s l }
+    {
+        self.lives.is_locked_by_other(a, s, l)
+    }
+
+    /// The thread holds the lock of a list.
+    pub fn holds_lock(&self, s: SpaceNo, t: ThreadNo) -> bool
+        ensures { IsTrue result ↔ HoldsLock (seen self.now).readings s t }
+    {
+        self.lives.holds_lock(s, t)
+    }
+
+    /// A ready thread of the space stands in the list.
+    pub fn has_ready(&self, s: SpaceNo, l: ProcNo) -> bool
+        ensures { result ≡ has_ready (seen self.now).readings s l }
+    {
+        self.ready.has_ready(s, l)
+    }
+
+    /// Each list of the space in which a ready thread stands is locked.
+    pub fn none_is_open(&self, s: SpaceNo) -> bool
+        ensures { IsTrue result ↔ NoneIsOpen (seen self.now).readings s }
+    {
+        for x in self.listed(s) {
+            if !self.is_locked(s, x.list) {
+                return false;
+            }
+        }
+        true
+    }
+
+    /// Of the space's lists from that of the processor on, round, `l` is the first that nobody locks and in which a
+    /// ready thread stands.
+    pub fn is_first_open(&self, s: SpaceNo, p: ProcNo, l: ProcNo) -> bool
+        ensures { IsTrue result ↔ IsFirstOpen (seen self.now).workload (seen self.now).readings s p l }
+    {
+        let processors = self.workload().processors();
+        for k in 0..processors {
+            let list = list_round(processors, p, k);
+            if self.is_open(s, list) {
+                return list == l;
+            }
+        }
+        false
+    }
+
+    /// The thread that is next in the list of the lock: the newest where the list was taken on its own processor, else
+    /// the oldest.
+    pub fn next_thread(&self, s: SpaceNo, lock: ListLock) -> Option<ThreadNo>
+        ensures { result ≡ next_thread (seen self.now).readings s lock }
+    {
+        let next = if lock.own {
+            self.ready.newest(s, lock.list)
+        } else {
+            self.ready.oldest(s, lock.list)
+        };
+        next.map(|x| x.thread)
+    }
+
+    /// The number of the life of the last up.
+    pub fn upped(&self) -> Option<ActNo>
+        ensures { result ≡ (seen self.now).readings.upped }
+    {
+        self.lives.upped()
+    }
+
+    /// The record of the same event that stands directly before.
+    pub fn last(&self) -> Option<Record>
+        ensures { result ≡ (seen self.now).readings.last }
+    {
+        self.last
+    }
+
+    /// The space to which the event's processor moved.
+    pub fn moved(&self) -> Option<SpaceNo>
+        ensures { result ≡ (seen self.now).readings.moved }
+    {
+        self.moved
+    }
+
+    /// Every thread that was made is done.
+    pub fn are_all_done(&self) -> bool
+        ensures { IsTrue result ↔ IsAllDone (seen self.now).readings }
+    {
+        self.replay.are_all_done()
+    }
+
+    /// Some thread is not done, and nothing can happen any more.
+    pub fn is_stuck(&self) -> bool
+        ensures { IsTrue result ↔ IsStuck (seen self.now).readings }
+    {
+        if self.are_all_done() || !self.are_all_at_rest() {
+            return false;
+        }
+        if self.is_busy() {
+            return false;
+        }
+        if !self.are_all_low() {
+            return false;
+        }
+        !self.some_is_in()
+    }
+
+    // The space must be told one of the notices even where it wants no processor.
+    fn one_must_be_heard(&self, notes: &[Note]) -> bool
+        ensures { result ≡ list_any (must_hear (seen self.now).readings) notes.now }
+    {
+        notes.iter().any(|note| self.must_hear(*note))
+    }
+
+    // The space must be told the notice even where it wants no processor.
+    fn must_hear(&self, note: Note) -> bool
+        ensures { result ≡ must_hear (seen self.now).readings note }
+    {
+        self.lives.must_be_told(note)
+    }
+
+    // The ready threads of the space, in the order of their ready records.
+    fn listed(&self, s: SpaceNo) -> &[ListedThread]
+        ensures { result.now ≡ ready_of (seen self.now).readings s }
+    {
+        self.ready.listed(s)
+    }
+
+    // No thread is ready, runs or is carried.
+    fn are_all_at_rest(&self) -> bool
+        ensures { IsTrue result ↔ (list_all are_at_rest (seen self.now).readings.state.spaces ≡ true) }
+    {
+        self.replay.are_all_at_rest()
+    }
+
+    // No line is raised.
+    fn are_all_low(&self) -> bool
+        ensures { result ≡ list_all is_none (seen self.now).readings.lines }
+    {
+        self.board.all_low()
+    }
+
+    // Some life is in.
+    fn some_is_in(&self) -> bool
+        ensures { IsTrue result ↔ SomeIsIn (seen self.now).readings.lives }
+    {
+        self.lives.some_is_in()
+    }
+
+    // Nobody locks the list, and a ready thread stands in it.
+    fn is_open(&self, s: SpaceNo, l: ProcNo) -> bool
+        ensures { IsTrue result ↔ IsOpen (seen self.now).readings s l }
+    {
+        self.has_ready(s, l) && !self.is_locked(s, l)
+    }
+}
+
+// The list so many places behind that of the processor, of as many as there are processors, round.
+fn list_round(processors: u16, p: ProcNo, k: u16) -> ProcNo
+    requires { 1 ≤ processors }
+    ensures { (w : WorkloadView) → w.processors ≡ processors → result ≡ list_round w p k }
+{
+    ProcNo(((u32::from(p.0) + u32::from(k)) % u32::from(processors)) as u16)
+}

@@ -1,0 +1,207 @@
+// A moment at the end of an event.
+#![tactic(auto, unfolding(crate::specs::Seen::seen))]
+
+ghost use Rattle.std.specs.Prelude.{◌≡◌, IfOk, OnOk};
+ghost use Rattle.std.specs.List.{list_any};
+ghost use Rattle.sa_laws.specs.Readings.{Readings, running_of, life_if};
+ghost use Rattle.sa_laws.specs.History.{is_step, is_up, is_free, goes_on};
+ghost use Rattle.sa_check_lives.specs.View.{lives_of};
+ghost use Rattle.sa_check_moment.specs.Seen.{seen, at_end, lowers};
+ghost use Rattle.sa_check_moment.specs.Ending.{is_in, is_in_if, settles_by, scan_by, step_with, step_by, up_by, stepped_if, arisen_if};
+
+use crate::moment::Moment;
+use crate::start::Start;
+use sa_base::{ActNo, ProcNo, Record};
+use sa_check_life::{KeptLife, Scan, Stepped};
+use sa_check_lives::Lives;
+use sa_laws::Place;
+use std::alloc::AllocError;
+
+impl Moment {
+    /// What the end of an event of the processor with these records will need of the moment before it.
+    pub fn before(&self, p: ProcNo, records: &[Record]) -> Start
+        ensures running { result.running ≡ running_of (seen self.now).readings p }
+        ensures lowers { result.lowers ≡ lowers (seen self.now).readings records.now }
+    {
+        Start {
+            running: self.running(p),
+            lowers: self.lowers(records),
+        }
+    }
+
+    /// The event of this number and processor with these records is over; `start` is what was seen before it. Fails
+    /// where memory runs out, and where a count would not fit 64 bits.
+    pub fn finish(
+        mut self,
+        number: u64,
+        p: ProcNo,
+        records: &[Record],
+        start: Start,
+    ) -> Result<Moment, AllocError>
+        ensures { (before : Readings) → start.running ≡ running_of before p → start.lowers ≡ lowers before records.now
+            → IfOk result (λ m. seen m ≡ at_end before number p records.now (seen self)) }
+    {
+        let _event = number;
+        let step = self.step_by(records, start);
+        let up = self.up_by(p, records);
+        end_step(&mut self.lives, start.running, step)?;
+        end_up(&mut self.lives, p, up)?;
+        self.number = self.number.checked_add(1).ok_or(AllocError)?;
+        self.last = None;
+        self.moved = None;
+        Ok(self)
+    }
+
+    // The first record is a want of less than its space announced before.
+    fn lowers(&self, records: &[Record]) -> bool
+        ensures { result ≡ lowers (seen self.now).readings records.now }
+    {
+        match records {
+            [Record::Want(s, n), ..] => *n < self.demand(*s),
+            _ => false,
+        }
+    }
+
+    // What becomes of the life that ran before the event, if the event is a step of it.
+    fn step_by(&self, records: &[Record], start: Start) -> Option<Stepped>
+        ensures { let m = seen self.now in
+            result ≡ step_by m.workload start.lowers m.readings start.running records.now }
+    {
+        match records {
+            [] => None,
+            [first, ..] => {
+                if is_step(first) {
+                    Some(self.step_with(first, start))
+                } else {
+                    None
+                }
+            }
+        }
+    }
+
+    fn step_with(&self, first: &Record, start: Start) -> Stepped
+        ensures { let m = seen self.now in
+            result ≡ step_with m.workload start.lowers m.readings start.running first.now }
+    {
+        Stepped {
+            freed: matches!(*first, Record::Free(..)),
+            scan: scan_by(start.lowers, first),
+            inside: self.is_in_if(self.settles_by(start.lowers, first), start.running),
+        }
+    }
+
+    // Whether the life of the event's up is in, if there is one.
+    fn up_by(&self, p: ProcNo, records: &[Record]) -> Option<bool>
+        ensures { result ≡ up_by (seen self.now).workload (seen self.now).readings p records.now }
+    {
+        if has_up(records) {
+            Some(self.is_in_if(true, self.running(p)))
+        } else {
+            None
+        }
+    }
+
+    // The step settles its life.
+    fn settles_by(&self, lowers: bool, first: &Record) -> bool
+        ensures { result ≡ settles_by lowers (seen self.now).readings first.now }
+    {
+        match *first {
+            Record::Ins(s, t, _) => !goes_on(self.thread(s, t).place()),
+            Record::Want(..) => !lowers,
+            Record::Idle | Record::Block(..) => false,
+            _ => true,
+        }
+    }
+
+    // The life of this number is in, if it is in use.
+    fn is_in_if(&self, settled: bool, a: Option<ActNo>) -> bool
+        ensures { result ≡ is_in_if (seen self.now).workload (seen self.now).readings settled
+            (life_if (seen self.now).readings a) }
+    {
+        match a {
+            None => false,
+            Some(a) => match self.life(a) {
+                None => false,
+                Some(life) => self.is_in(settled, life),
+            },
+        }
+    }
+
+    // The life is in, at the end of an own event that settled it or did not.
+    fn is_in(&self, settled: bool, life: &KeptLife) -> bool
+        ensures { result ≡ is_in (seen self.now).workload (seen self.now).readings settled life.now }
+    {
+        life.has_lock()
+            || life.cont()
+            || self.has_hand(life)
+            || (settled && self.demand(life.space()) < self.usable(life.space()))
+            || (settled && self.carried(life.proc()).is_none() && self.many_taken(life.space()))
+    }
+}
+
+// A thread there runs or is blocked.
+fn goes_on(place: Place) -> bool
+    ensures { result ≡ goes_on place }
+{
+    matches!(place, Place::Running(_) | Place::Blocked)
+}
+
+// The event that begins with the record is a step.
+fn is_step(first: &Record) -> bool
+    ensures { result ≡ is_step first.now }
+{
+    match *first {
+        Record::Ins(..)
+        | Record::Run(..)
+        | Record::Block(..)
+        | Record::Cont(..)
+        | Record::Back(..)
+        | Record::Ready(..)
+        | Record::Take(..)
+        | Record::Free(..)
+        | Record::Want(..)
+        | Record::Line(_)
+        | Record::GiveBack(_)
+        | Record::Idle
+        | Record::Spin(_) => true,
+        _ => false,
+    }
+}
+
+// An up is among the records.
+fn has_up(records: &[Record]) -> bool
+    ensures { result ≡ list_any is_up records.now }
+{
+    records.iter().any(|what| matches!(*what, Record::Up(..)))
+}
+
+// How the looks that found no thread are counted on.
+fn scan_by(lowers: bool, first: &Record) -> Scan
+    ensures { result ≡ scan_by lowers first.now }
+{
+    match *first {
+        Record::Idle => Scan::More,
+        Record::Want(..) if lowers => Scan::Same,
+        _ => Scan::Over,
+    }
+}
+
+// The life's step is over, if there was one.
+fn end_step(lives: &mut Lives, a: Option<ActNo>, step: Option<Stepped>) -> Result<(), AllocError>
+    ensures { OnOk result (lives_of lives.new ≡ stepped_if step a (lives_of lives.old)) }
+{
+    match step {
+        None => Ok(()),
+        Some(step) => lives.step(a, step),
+    }
+}
+
+// The event of the up of the life on the processor is over, if there was one.
+fn end_up(lives: &mut Lives, p: ProcNo, up: Option<bool>) -> Result<(), AllocError>
+    ensures { OnOk result (lives_of lives.new ≡ arisen_if up p (lives_of lives.old)) }
+{
+    match up {
+        None => Ok(()),
+        Some(inside) => lives.arise(p, inside),
+    }
+}

@@ -1,0 +1,287 @@
+// A moment as it reads a record.
+#![tactic(auto, unfolding(crate::specs::Seen::seen))]
+
+ghost use Rattle.std.specs.Prelude.{◌≡◌, ◌<◌, ◌↔◌, if◌then◌else◌, IfOk, IfSome, OnOk, IsTrue};
+ghost use Rattle.std.specs.Option.{option_map};
+ghost use Rattle.sa_base.specs.declared.limits.TheConstants.{PAGES};
+ghost use Rattle.sa_laws.specs.Readings.{life_of, life_on};
+ghost use Rattle.sa_laws.specs.Record.{blocking, length_behind, length_in, is_thread, page_touched, page_in, locks_one, first_list, moved_after};
+ghost use Rattle.sa_laws.specs.Step.{Needs};
+ghost use Rattle.sa_check_lives.specs.Recorded.{IsForPush};
+ghost use Rattle.sa_check_machine.specs.Needs.{NeedsWith, Sees, seen_of};
+ghost use Rattle.sa_check_ios.specs.Kept.{HasPage};
+ghost use Rattle.sa_check_moment.specs.Seen.{seen, at_event, behind_record};
+ghost use Rattle.sa_check_moment.specs.Reading.{begun_by, pending_after, ready_after};
+
+use crate::moment::Moment;
+use sa_base::{ActNo, PACKAGE_PAGE, ProcNo, Record, SpaceNo, ThreadNo};
+use sa_check_ios::{Pending, ReadyLists};
+use sa_check_machine::{Beyond, LifeSeen};
+use sa_devices::IoKind;
+use sa_instr::Instr;
+use std::alloc::AllocError;
+use std::marker::Model;
+
+// What a block or a fetch is for, and how many events it takes.
+#[derive(Clone, Copy, Debug)]
+struct Begun {
+    kind: IoKind,
+    length: u32,
+}
+
+impl Model for Begun {
+    ghost use Rattle.sa_laws.specs.Record.{Blocking};
+
+    ghost Value = { Blocking };
+
+    ghost view = { λ x. record { kind = x.kind; length = x.length } };
+
+    ghost inverse = { λ x. record { kind = x.kind; length = x.length } };
+}
+
+impl Moment {
+    /// The abstract machine can take the record of the processor.
+    pub fn allows(&self, p: ProcNo, what: &Record) -> bool
+        ensures { IsTrue result ↔ Needs (seen self.now).workload p (seen self.now).readings what.now }
+    {
+        let beyond = self.beyond(what);
+        self.allows_with(p, what, &beyond)
+    }
+
+    /// An event of this number and processor begins: its evictions are done, and its processor's line is low.
+    pub fn begin(&mut self, number: u64, p: ProcNo)
+        ensures { seen self.new ≡ at_event number p (seen self.old) }
+    {
+        self.pending.evict(number, self.replay.workload());
+        self.board.lower(p);
+        self.last = None;
+        self.moved = None;
+    }
+
+    /// Reads a record of an event of this number and processor, which the abstract machine can take. Fails where memory
+    /// runs out, where the record signals a semaphore whose count is 2^32 - 1, and where 2^64 - 1 I/Os were begun.
+    pub fn read(mut self, number: u64, p: ProcNo, what: &Record) -> Result<Moment, AllocError>
+        requires { Needs (seen self).workload p (seen self).readings what.now }
+        ensures { IfOk result (λ m. seen m ≡ behind_record number p what.now (seen self)) }
+    {
+        let for_push = self.is_for_push(p);
+        let begun = self.begun_by(what);
+        let list = self.first_list(p);
+        self.board.note(number, p, self.last, what);
+        read_pending(&mut self.pending, number, what, begun)?;
+        read_ready(&mut self.ready, what, list)?;
+        self.replay.change(p, what)?;
+        self.lives.read(p, *what, self.replay.roused(), for_push)?;
+        self.moved = moved_after(self.moved, what);
+        self.last = Some(*what);
+        Ok(self)
+    }
+
+    // Whether the needs of a record hold, beside what is beyond the abstract machine's state.
+    fn allows_with(&self, p: ProcNo, what: &Record, beyond: &Beyond) -> bool
+        ensures { let m = seen self.now in
+            IsTrue result ↔ NeedsWith m.workload p m.readings.state beyond.now what.now }
+    {
+        self.replay.allows(p, what, beyond)
+    }
+
+    // What the record's needs look at beyond the abstract machine's state.
+    fn beyond(&self, what: &Record) -> Beyond
+        ensures { Sees (seen self.now).readings what.now result }
+    {
+        let (pages, life) = match *what {
+            Record::Ins(s, _, _) => (self.pending.pages(s), None),
+            Record::Block(s, _, a, _) => (self.pending.pages(s), self.life_seen(a)),
+            Record::Unblock(_, _, a) => (0, self.life_seen(a)),
+            _ => (0, None),
+        };
+        Beyond {
+            last: self.last,
+            pages,
+            life,
+        }
+    }
+
+    // What the needs of a record look at of the life of this number, if it is in use.
+    fn life_seen(&self, a: ActNo) -> Option<LifeSeen>
+        ensures { result ≡ option_map seen_of (life_of (seen self.now).readings a) }
+    {
+        match self.life(a) {
+            None => None,
+            Some(life) => Some(LifeSeen {
+                space: life.space(),
+                thread: life.thread(),
+                locks_one: life.has_lock(),
+            }),
+        }
+    }
+
+    // A take of the life that runs on the processor would be for a push.
+    fn is_for_push(&self, p: ProcNo) -> bool
+        ensures { IsForPush (seen self.now).readings p result }
+    {
+        match self.life_on(p) {
+            None => false,
+            Some(life) => self.has_hand(life),
+        }
+    }
+
+    // The first of the lists that the life on the processor has locked, else the processor's own.
+    fn first_list(&self, p: ProcNo) -> ProcNo
+        ensures { result ≡ first_list (life_on (seen self.now).readings p) p }
+    {
+        match self.life_on(p) {
+            None => p,
+            Some(life) => match life.first_lock() {
+                None => p,
+                Some(lock) => lock.list,
+            },
+        }
+    }
+
+    // The I/O that the record begins.
+    fn begun_by(&self, what: &Record) -> Option<Begun>
+        ensures begun { result ≡ begun_by (seen self.now).workload (seen self.now).readings what.now }
+        ensures page { IfSome result (λ b. HasPage b.kind) }
+    {
+        match *what {
+            Record::Block(s, t, a, _) => Some(self.blocking(s, t, a)),
+            Record::Fetch(s) => Some(Begun {
+                kind: IoKind::Upcall(s),
+                length: self.workload().fetch(),
+            }),
+            _ => None,
+        }
+    }
+
+    // What the block of a life is for.
+    fn blocking(&self, s: SpaceNo, t: Option<ThreadNo>, a: ActNo) -> Begun
+        ensures begun { result ≡ blocking (seen self.now).workload (seen self.now).readings s t a }
+        ensures page { HasPage result.kind }
+    {
+        match self.length_behind(s, t) {
+            Some(length) => Begun {
+                kind: IoKind::Plain(s, a),
+                length,
+            },
+            None => Begun {
+                kind: IoKind::Page(s, a, self.page_for(s, t, a)),
+                length: self.workload().fetch(),
+            },
+        }
+    }
+
+    // The page for which a life blocks: where it has a lock the package's, else that which its thread touches.
+    fn page_for(&self, s: SpaceNo, t: Option<ThreadNo>, a: ActNo) -> u16
+        ensures page { result ≡ (if locks_one (life_of (seen self.now).readings a) then PACKAGE_PAGE
+            else page_touched (seen self.now).workload (seen self.now).readings s t) }
+        ensures few { result < PAGES }
+    {
+        match self.life(a) {
+            Some(life) if life.has_lock() => PACKAGE_PAGE,
+            _ => self.page_touched(s, t),
+        }
+    }
+
+    // The page that the thread touches, if there is one and it does; else 0.
+    fn page_touched(&self, s: SpaceNo, t: Option<ThreadNo>) -> u16
+        ensures page { result ≡ page_touched (seen self.now).workload (seen self.now).readings s t }
+        ensures few { result < PAGES }
+    {
+        self.workload().ranges();
+        match t {
+            None => 0,
+            Some(t) => page_in(self.replay.next_instr(s, t)),
+        }
+    }
+
+    // The length of the thread's `io` whose record stands directly before.
+    fn length_behind(&self, s: SpaceNo, t: Option<ThreadNo>) -> Option<u32>
+        ensures { result ≡ length_behind (seen self.now).workload (seen self.now).readings s t
+            (seen self.now).readings.last }
+    {
+        match self.last() {
+            Some(Record::Ins(of, u, place)) => {
+                if of.0 == s.0 && is_thread(u, t) {
+                    length_in(self.instr_of(of, u, place))
+                } else {
+                    None
+                }
+            }
+            _ => None,
+        }
+    }
+}
+
+// It is this thread.
+fn is_thread(t: ThreadNo, other: Option<ThreadNo>) -> bool
+    ensures { result ≡ is_thread t other }
+{
+    match other {
+        None => false,
+        Some(u) => t.0 == u.0,
+    }
+}
+
+fn length_in(instr: Instr) -> Option<u32>
+    ensures { result ≡ length_in instr }
+{
+    match instr {
+        Instr::Io(length) => Some(length),
+        _ => None,
+    }
+}
+
+fn page_in(instr: Instr) -> u16
+    ensures { result ≡ page_in instr }
+{
+    match instr {
+        Instr::Touch(page) => page,
+        _ => 0,
+    }
+}
+
+// The space to which the event's processor moved.
+fn moved_after(moved: Option<SpaceNo>, what: &Record) -> Option<SpaceNo>
+    ensures { result ≡ moved_after moved what.now }
+{
+    match *what {
+        Record::Move(_, new) => new,
+        _ => moved,
+    }
+}
+
+// Reads the I/Os and the pages of a record, and the I/O that it begins.
+fn read_pending(
+    pending: &mut Pending,
+    event: u64,
+    what: &Record,
+    begun: Option<Begun>,
+) -> Result<(), AllocError>
+    requires { IfSome begun (λ b. HasPage b.kind) }
+    ensures { OnOk result (pending.new ≡ pending_after begun event what.now pending.old) }
+{
+    if let Some(begun) = begun {
+        return pending.begin(begun.kind, event, begun.length);
+    }
+    match *what {
+        Record::Unblock(_, _, a) => pending.end_of_life(a),
+        Record::Fetched(s) => pending.end_of_fetch(s),
+        _ => {}
+    }
+    Ok(())
+}
+
+// Reads a record that makes a thread ready, in this list, or runs one.
+fn read_ready(ready: &mut ReadyLists, what: &Record, list: ProcNo) -> Result<(), AllocError>
+    ensures { OnOk result (ready.new ≡ ready_after list what.now ready.old) }
+{
+    match *what {
+        Record::Ready(s, t) => ready.ready(s, t, list),
+        Record::Run(s, t) => {
+            ready.run(s, t);
+            Ok(())
+        }
+        _ => Ok(()),
+    }
+}

@@ -1,0 +1,27 @@
+// A line has its cause: the law of each record, on the moment before it. `rest` stands behind it.
+ghost use Rattle.std.specs.Prelude.{◌↔◌, IsTrue};
+ghost use Rattle.sa_laws.specs.Upcalls.{IsHeard, RaisesLine};
+ghost use Rattle.sa_check_moment.specs.Seen.{seen};
+
+use sa_base::{ProcNo, Record};
+use sa_check_moment::Moment;
+use sa_check_shapes::begins_with_line;
+
+/// A line has its cause: none is raised that is raised already, and behind an aim of a processor whose line is low stands
+/// its line.
+pub fn raises_line(moment: &Moment, what: &Record, rest: &[Record]) -> bool
+    ensures { IsTrue result ↔ RaisesLine (seen moment.now).readings what.now rest.now }
+{
+    match *what {
+        Record::Aim(p, Some(_)) => is_heard(moment, p, rest),
+        Record::Line(p) => moment.line(p).is_none(),
+        _ => true,
+    }
+}
+
+// The processor's line is raised, or stands here.
+fn is_heard(moment: &Moment, p: ProcNo, rest: &[Record]) -> bool
+    ensures { IsTrue result ↔ IsHeard (seen moment.now).readings p rest.now }
+{
+    moment.line(p).is_some() || begins_with_line(p, rest)
+}

@@ -1,0 +1,33 @@
+// The order of ready lists.
+ghost use Rattle.std.specs.Prelude.{◌↔◌, IsTrue};
+ghost use Rattle.sa_laws.specs.Readings.{life_on};
+ghost use Rattle.sa_laws.specs.Locks.{TakesNext, RunsNext};
+ghost use Rattle.sa_check_moment.specs.Seen.{seen};
+
+use crate::parts::parted;
+use sa_base::{ProcNo, Record, SpaceNo, ThreadNo};
+use sa_check_moment::Moment;
+
+/// List order, at an event of this processor with these records, on the moment before it.
+pub fn order_is_kept(moment: &Moment, p: ProcNo, records: &[Record]) -> bool
+    ensures { IsTrue result ↔ RunsNext (seen moment.now).readings p records.now }
+{
+    match parted(records) {
+        Some((Record::Run(s, t), _)) => takes_next(moment, p, s, t),
+        _ => true,
+    }
+}
+
+// The thread is the next one of the list that the processor's life locks first.
+fn takes_next(moment: &Moment, p: ProcNo, s: SpaceNo, t: ThreadNo) -> bool
+    ensures { let r = (seen moment.now).readings in
+        IsTrue result ↔ TakesNext r (life_on r p) s t }
+{
+    let Some(life) = moment.life_on(p) else {
+        return false;
+    };
+    match life.first_lock() {
+        None => false,
+        Some(lock) => moment.next_thread(s, lock) == Some(t),
+    }
+}

@@ -1,0 +1,21 @@
+-- The ranges of a command's numbers.
+use Rattle.std.specs.Prelude.{◌≡◌, ℕ, ◌≤◌, ⊤, List, Some}
+use Rattle.sa_base.specs.declared.limits.TheConstants.{MAX_BURST, MAX_EVENTS}
+use Rattle.sa_command.specs.declared.command.Command.{Command}
+use Rattle.sa_command.specs.declared.command.Command.TheVariants.{Run, Threads, Load, Migrate, Check}
+use Rattle.sa_command.specs.Commands.{command_of}
+
+pub record IsFrom (low high n : ℕ) : Type 0 where
+  pub least : low ≤ n
+  pub most : n ≤ high
+
+-- a budget is 1 to the greatest number of events, and so is a slice; a burst is 1 to the greatest number of its instructions
+abbrev pub IsInRange : Command → Type 0
+IsInRange (Run schedule budget) = IsFrom 1 MAX_EVENTS budget
+IsInRange (Threads budget burst) = IsFrom 1 MAX_EVENTS budget × IsFrom 1 MAX_BURST burst
+IsInRange (Load number budget) = IsFrom 1 MAX_EVENTS budget
+IsInRange (Migrate slice) = IsFrom 1 MAX_EVENTS slice
+IsInRange Check = ⊤
+
+abbrev pub CommandsAreInRange : Type 0
+CommandsAreInRange = (words : List (List ℕ)) (command : Command) → command_of words ≡ Some command → IsInRange command

@@ -1,0 +1,107 @@
+ghost use Rattle.std.specs.Prelude.{◌≡◌, map, string_bytes};
+ghost use Rattle.sa_command.specs.Commands.{command_of, named, run_of, load_of, migrate_of, check_of};
+
+use crate::command::{Command, ScheduleWord};
+use crate::options::{Options, read_options};
+use crate::threads::read_threads;
+use crate::value::read_within;
+use crate::words::Words;
+use sa_base::{DEFAULT_BUDGET, MAX_EVENTS};
+use sa_text::read_number;
+
+/// The command that the words are: `None` exactly where they are none. It cannot fail for want of memory.
+pub fn read_words(words: &Words) -> Option<Command>
+    ensures { result ≡ command_of words.now }
+{
+    read_list(words.list())
+}
+
+fn read_list(words: &[String]) -> Option<Command>
+    ensures { result ≡ command_of (map string_bytes words.now) }
+{
+    match words {
+        [] => None,
+        [name, rest @ ..] => read_named(name, rest),
+    }
+}
+
+// The command of this name, and these words behind it.
+fn read_named(name: &str, words: &[String]) -> Option<Command>
+    ensures { result ≡ named name.now (map string_bytes words.now) }
+{
+    if name == "run" {
+        return read_run(words);
+    }
+    if name == "threads" {
+        return read_threads(words);
+    }
+    if name == "load" {
+        return read_load(words);
+    }
+    if name == "migrate" {
+        return read_migrate(words);
+    }
+    if name == "check" {
+        return read_check(words);
+    }
+    None
+}
+
+fn read_run(words: &[String]) -> Option<Command>
+    ensures { result ≡ run_of (map string_bytes words.now) }
+{
+    let taken = Options {
+        schedule: true,
+        budget: true,
+        burst: false,
+    };
+    let settings = read_options(taken, words)?;
+    Some(Command::Run {
+        schedule: settings.schedule.unwrap_or(ScheduleWord::RoundRobin),
+        budget: settings.budget.unwrap_or(DEFAULT_BUDGET),
+    })
+}
+
+fn read_load(words: &[String]) -> Option<Command>
+    ensures { result ≡ load_of (map string_bytes words.now) }
+{
+    let taken = Options {
+        schedule: false,
+        budget: true,
+        burst: false,
+    };
+    match words {
+        [] => None,
+        [number, rest @ ..] => {
+            let number = read_number(number.as_bytes())?;
+            let settings = read_options(taken, rest)?;
+            Some(Command::Load {
+                number,
+                budget: settings.budget.unwrap_or(DEFAULT_BUDGET),
+            })
+        }
+    }
+}
+
+fn read_migrate(words: &[String]) -> Option<Command>
+    ensures { result ≡ migrate_of (map string_bytes words.now) }
+{
+    match words {
+        [number] => {
+            let slice = read_within(1, MAX_EVENTS, number.as_bytes())?;
+            Some(Command::Migrate {
+                slice: slice as u32,
+            })
+        }
+        _ => None,
+    }
+}
+
+fn read_check(words: &[String]) -> Option<Command>
+    ensures { result ≡ check_of (map string_bytes words.now) }
+{
+    match words {
+        [] => Some(Command::Check),
+        _ => None,
+    }
+}

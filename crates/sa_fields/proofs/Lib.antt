@@ -1,3 +1,0 @@
-pub mod Coding
-pub mod KindLemmas
-pub mod PartsLemmas

@@ -1,5 +1,0 @@
-pub mod Field
-pub mod Kind
-pub mod Laws
-pub mod Parts
-pub mod PartsFields

@@ -1,7 +1,0 @@
-use Rattle.std.proofs.Common.{sym, ◌∙◌, ap}
-use Rattle.sa_lives.specs.Table.{lives_in}
-use Rattle.sa_lives.specs.View.{Stored}
-use Rattle.sa_lives.proofs.lives.Lives.holds_lock.Goals as goal
-
-pub returns : goal.returns
-returns c = λ r same. c.holds_lock.ensures r (same ∙ ap (λ (v : Stored). lives_in v.table) (sym c.self.view_is))

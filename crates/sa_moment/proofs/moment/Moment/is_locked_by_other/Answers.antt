@@ -1,8 +1,0 @@
-use Rattle.std.proofs.Common.{sym, ap}
-use Rattle.sa_lives.specs.Table.{lives_in}
-use Rattle.sa_moment.specs.Seen.{Kept, seen}
-use Rattle.sa_moment.proofs.moment.Moment.is_locked_by_other.Goals as goal
-
-pub returns : goal.returns
-unfolding seen
-returns c = c.is_locked_by_other.ensures (seen c.args.self.now).readings (ap (λ (m : Kept). lives_in m.lives.table) (sym c.self.view_is))

@@ -1,0 +1,82 @@
+// What an activation runs.
+ghost use Rattle.std.specs.Prelude.{◌≡◌};
+ghost use Rattle.sa_package_model.specs.Context.{fresh, carried_by, stands_idle, stands_between, stands_inside};
+
+use crate::sections::Sections;
+use sa_base::ThreadNo;
+use sa_code::Frame;
+
+/// Where a context stands, with the thread that it carries.
+#[derive(Clone, Copy, Debug, PartialEq, Eq)]
+pub enum State {
+    /// At a place of the package's code.
+    Code(Frame),
+    /// Between routines, with something left to do.
+    Work(Option<ThreadNo>),
+    /// Before the hint that its space can use more processors.
+    Hint(Option<ThreadNo>),
+    /// Before it gives activations back.
+    Return,
+    /// At an instruction of its thread.
+    User(ThreadNo),
+    /// Without a thread: it looked at the ready lists in vain so often, at most 1,000 times.
+    Look(u16),
+}
+
+impl State {
+    /// The thread that is carried.
+    pub fn thread(self) -> Option<ThreadNo>
+        ensures { result ≡ carried_by self }
+    {
+        match self {
+            State::Code(frame) => frame.thread,
+            State::Work(thread) | State::Hint(thread) => thread,
+            State::User(thread) => Some(thread),
+            State::Return | State::Look(_) => None,
+        }
+    }
+
+    /// Whether there is no thread and nothing else to do.
+    pub fn is_idle(self) -> bool
+        ensures { result ≡ stands_idle self }
+    {
+        matches!(self, State::Look(_))
+    }
+
+    /// Whether it is between routines, or at an instruction.
+    pub fn is_between(self) -> bool
+        ensures { result ≡ stands_between self }
+    {
+        !matches!(self, State::Code(_) | State::Look(_))
+    }
+
+    /// Whether it is inside the package.
+    pub fn is_inside(self) -> bool
+        ensures { result ≡ stands_inside self }
+    {
+        !matches!(self, State::User(_) | State::Look(_))
+    }
+}
+
+/// What an activation runs, in the package or at a thread's instruction.
+#[derive(Debug, Drop)]
+pub struct Context {
+    pub state: State,
+    /// The critical sections that it has to continue.
+    pub sections: Sections,
+    /// The first thread of its work list, by which the list is named; `None` where the list is empty.
+    pub work: Option<ThreadNo>,
+}
+
+impl Context {
+    /// The context of a fresh activation: it has nothing to do until it is told.
+    pub fn new() -> Context
+        ensures { result ≡ fresh }
+    {
+        Context {
+            state: State::Work(None),
+            sections: Sections::new(),
+            work: None,
+        }
+    }
+}

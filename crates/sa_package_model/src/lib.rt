@@ -1,0 +1,10 @@
+//! FastThreads as a value: its contexts, what each of its calls does as a function, how the package and the contexts of its
+//! space's activations stand beside one another, and the theorem that every call keeps it so.
+#![tactic(auto)]
+
+mod context;
+pub mod laws;
+mod sections;
+
+pub use context::{Context, State};
+pub use sections::Sections;

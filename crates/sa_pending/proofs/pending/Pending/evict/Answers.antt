@@ -1,5 +1,0 @@
-use Rattle.sa_devices.proofs.SoundLemmas.{events-in_order}
-use Rattle.sa_pending.proofs.pending.Pending.evict.Goals as goal
-
-pub evict_at-requires-clause-order : goal.evict_at-requires-clause-order
-evict_at-requires-clause-order c = events-in_order _ c.evictions.ensures.rise

@@ -1,7 +1,0 @@
-pub mod Steps
-pub mod Readings
-pub mod Records
-pub mod Lines
-pub mod LineTexts
-pub mod Whole
-pub mod FirstBad

@@ -1,5 +1,0 @@
-pub mod Pieces
-pub mod Line
-pub mod Reading
-pub mod Text
-pub mod Laws

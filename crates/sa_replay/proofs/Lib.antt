@@ -1,6 +1,0 @@
-pub mod TotalLemmas
-pub mod IndexLemmas
-pub mod ChangeLemmas
-pub mod ReplayLemmas
-pub mod PageLemmas
-pub mod NeedLemmas

@@ -1,6 +1,0 @@
-use Rattle.std.proofs.Common.{◌≡◌, ◌∙◌, ap, take}
-use Rattle.sa_shape.proofs.PartLemmas.{take-front}
-use Rattle.sa_shape.proofs.parts.front_part.Goals as goal
-
-pub returns : goal.returns
-returns c = ap (λ n. take n c.args.records.now) c.front_len.ensures.len ∙ take-front c.args.records.now

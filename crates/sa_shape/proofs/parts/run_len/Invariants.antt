@@ -1,7 +1,0 @@
-use Rattle.std.proofs.Common.{◌≡◌, ◌+◌, drop}
-use Rattle.std.specs.List.{prefix_len}
-use Rattle.sa_shape.specs.Runs.{test_of}
-use Rattle.sa_shape.proofs.parts.run_len.Given as goal
-
-abbrev pub invariant-loop-i : goal.invariant-loop-i
-invariant-loop-i l = prefix_len (test_of l.run) l.records ≡ prefix_len (test_of l.run) (drop l.i l.records) + l.i

@@ -1,6 +1,0 @@
-use Rattle.std.proofs.Common.{◌↔◌, drop}
-use Rattle.sa_laws.specs.Turns.{AreRaising}
-use Rattle.sa_shape.proofs.turns.are_raising.Given as goal
-
-abbrev pub invariant-loop-what : goal.invariant-loop-what
-invariant-loop-what l = AreRaising (drop l.what-index l.records) ↔ AreRaising l.records

@@ -1,4 +1,0 @@
-pub mod CountLemmas
-pub mod ShapeLemmas
-pub mod JoinerLemmas
-pub mod OpeningLemmas

@@ -1,5 +1,0 @@
-pub mod Counts
-pub mod Running
-pub mod Sound
-pub mod Space
-pub mod Shape

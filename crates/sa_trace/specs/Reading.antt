@@ -1,0 +1,57 @@
+-- What a text is read as: its lines in order, each behind the items of those before it.
+use Rattle.std.specs.Prelude.{◌≡◌, ℕ, ◌+◌, List, [], ◌∷◌, ◌++◌, Option, Some, None, Result, Ok, Err}
+use Rattle.sa_base.specs.declared.record.End.{End}
+use Rattle.sa_base.specs.declared.record.Item.{Item}
+use Rattle.sa_base.specs.declared.refusal.Bad.{Bad}
+use Rattle.sa_base.specs.declared.refusal.Cause.{Cause}
+use Rattle.sa_base.specs.declared.refusal.Cause.TheVariants.{BadWord, Missing}
+use Rattle.sa_base.specs.declared.refusal.Unread.{Unread}
+use Rattle.sa_base.specs.Cause.{bad_at}
+use Rattle.sa_text.specs.LineText.{LineText, line_texts}
+use Rattle.sa_trace.specs.declared.line.Said.{Said}
+use Rattle.sa_trace.specs.declared.line.Said.TheVariants.{Next, Last}
+use Rattle.sa_trace.specs.declared.reading.TraceText.{TraceText}
+use Rattle.sa_trace.specs.Pieces.{unless}
+use Rattle.sa_trace.specs.Line.{pieces_in, line_in}
+
+-- what a trace text tells: its items, how the run ended, and its number of events
+pub record Told : Type 0 where
+  pub items : List Item
+  pub end : End
+  pub events : ℕ
+
+abbrev pub told : List Item → End → ℕ → Told
+told items end events = record { items = items; end = end; events = events }
+
+-- why a line may not stand behind the last one
+abbrev pub too_many : Result (List (List ℕ)) Cause → Cause
+too_many (Ok pieces) = BadWord
+too_many (Err cause) = cause
+
+-- nothing follows the last line, else the first line that does is bad
+abbrev pub bad_behind : ℕ → List LineText → Option Bad
+bad_behind number [] = None
+bad_behind number (line ∷ rest) = Some (bad_at number (too_many (pieces_in line)))
+
+-- what comes of what a line says: it is bad, or the items go on with one more, or it is the last
+abbrev pub goes_on : {A : Type 0} → ℕ → Result Said Cause → (Item → Result A Bad) → (End → ℕ → Result A Bad) → Result A Bad
+goes_on number (Err cause) more last = Err (bad_at number cause)
+goes_on number (Ok (Next item)) more last = more item
+goes_on number (Ok (Last end events)) more last = last end events
+
+-- what these lines are read as, behind these items, where the first has this number
+abbrev pub read_from : ℕ → List Item → List LineText → Result Told Bad
+read_from number items [] = Err (bad_at number Missing)
+read_from number items (line ∷ rest) =
+    goes_on number (line_in items line) (λ item. read_from (number + 1) (items ++ item ∷ []) rest)
+    (λ end events. unless (bad_behind (number + 1) rest) (told items end events))
+
+-- what a text is read as: what it tells, or the first line that is bad, from 1, and why
+unfoldable pub read_of : List ℕ → Result Told Bad
+read_of text = read_from 1 [] (line_texts text)
+
+-- r is what the text was read as, or memory ran out
+abbrev pub IsReading : Result Told Bad → Result TraceText Unread → Type 0
+IsReading reading (Ok t) = reading ≡ Ok (told t.trace.items t.end t.events)
+IsReading reading (Err (Unread.Bad bad)) = reading ≡ Err bad
+IsReading reading (Err Unread.OutOfMemory) = Unit {0}

@@ -1,5 +1,0 @@
-//! Tests of the replay of traces over public calls.
-#![tactic(auto)]
-
-#[cfg(test)]
-mod rows;

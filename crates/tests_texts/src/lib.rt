@@ -1,0 +1,5 @@
+//! Tests of what the texts are read as.
+#![tactic(auto)]
+
+#[cfg(test)]
+mod values;

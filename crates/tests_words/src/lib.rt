@@ -1,5 +1,0 @@
-//! Tests of the command language.
-#![tactic(auto)]
-
-#[cfg(test)]
-mod commands;
