@@ -37,7 +37,7 @@ impl FastThreads {
         ensures { result ≡ own_section self.now state }
     {
         match state {
-            State::Code(frame) => match self.shared.state.code.at(frame.pc) {
+            State::Code(frame) => match self.package.shared.state.code.at(frame.pc) {
                 Some(Op::Push | Op::Pop | Op::Free) => Some(frame),
                 _ => None,
             },
@@ -52,9 +52,9 @@ impl FastThreads {
     {
         match ctx.state {
             State::User(thread) => {
-                let block = self.shared.threads.block(thread);
+                let block = self.package.shared.threads.block(thread);
                 SeatState::Local {
-                    space: self.shared.state.space,
+                    space: self.package.shared.state.space,
                     thread,
                     program: block.program,
                     pc: block.pc,
@@ -70,9 +70,9 @@ impl FastThreads {
         ensures { result ≡ tally self.now }
     {
         Tally {
-            made: self.shared.state.lists.made(),
-            done: self.shared.threads.done(),
-            active: self.shared.threads.active(),
+            made: self.package.shared.state.lists.made(),
+            done: self.package.shared.threads.done(),
+            active: self.package.shared.threads.active(),
         }
     }
 }

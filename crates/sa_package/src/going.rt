@@ -27,18 +27,18 @@ impl FastThreads {
         ensures spare { trace.new.spare + n ≡ trace.old.spare }
     {
         if let State::User(thread) = ctx.state {
-            let mut block = self.shared.threads.block(thread);
-            let program = &self.def.programs()[usize::from(block.program)];
+            let mut block = self.package.shared.threads.block(thread);
+            let program = &self.package.def.programs()[usize::from(block.program)];
             run_on(
                 program,
-                self.shared.state.space,
+                self.package.shared.state.space,
                 thread,
                 &mut block,
                 seen,
                 n,
                 trace,
             );
-            self.shared.threads.set(thread, block);
+            self.package.shared.threads.set(thread, block);
         }
     }
 }

@@ -46,13 +46,13 @@ impl FastThreads {
         ensures { pair self.new ctx.new ≡ took_over self.old ctx.old other.now }
     {
         let thread = other.state.thread();
-        place(&mut self.shared, thread, Place::Carried);
-        let own = section_of(&self.shared.state.code, other.state);
+        place(&mut self.package.shared, thread, Place::Carried);
+        let own = section_of(&self.package.shared.state.code, other.state);
         if let Some(frame) = own {
             ctx.sections.add(frame);
         }
         ctx.sections.append(&other.sections);
-        self.shared.works.append(&mut ctx.work, other.work);
+        self.package.shared.works.append(&mut ctx.work, other.work);
         let alone = if own.is_some() { None } else { thread };
         self.put_last(ctx, alone);
     }

@@ -10,6 +10,7 @@ use sa_copies::make_copies;
 use sa_fast::{Block, Place, Shared, Threads, WorkLists};
 use sa_instr::Regs;
 use sa_lists::ReadyLists;
+use sa_package_model::Package;
 use sa_spaces::SpaceDef;
 use sa_sync::SyncState;
 use std::alloc::{AllocError, Global};
@@ -51,14 +52,16 @@ impl FastThreads {
             code: make_copies(&routines()),
         };
         Ok(FastThreads {
-            def,
-            processors,
-            fetch,
-            shared: Shared {
-                state,
-                sync,
-                threads,
-                works: WorkLists::new(alloc)?,
+            package: Package {
+                def,
+                processors,
+                fetch,
+                shared: Shared {
+                    state,
+                    sync,
+                    threads,
+                    works: WorkLists::new(alloc)?,
+                },
             },
         })
     }

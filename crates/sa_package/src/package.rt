@@ -1,29 +1,17 @@
 // The package.
-ghost use Rattle.sa_package_model.specs.Package.{Package};
-
-use sa_fast::Shared;
-use sa_spaces::SpaceDef;
+use sa_package_model::Package;
 use std::marker::Model;
 
 /// The FastThreads package of one address space (SOSP 1991, section 4).
 #[derive(Debug, Drop)]
 pub struct FastThreads {
-    pub(crate) def: SpaceDef,
-    pub(crate) processors: u16,
-    /// How many events the fetch of a page takes.
-    pub(crate) fetch: u32,
-    pub(crate) shared: Shared,
+    pub(crate) package: Package,
 }
 
 impl Model for FastThreads {
-    ghost use Rattle.sa_package_model.specs.Package.{Package};
+    ghost use Rattle.sa_package_model.specs.declared.package.Package.{Package};
 
     ghost Value = { Package };
 
-    ghost view = { λ u. record {
-      def = u.def;
-      processors = u.processors;
-      fetch = u.fetch;
-      shared = u.shared;
-    } };
+    ghost view = { λ u. u.package };
 }

@@ -15,14 +15,14 @@ impl FastThreads {
     pub(crate) fn load(&self) -> u32
         ensures { result ≡ load self.now }
     {
-        u32::from(self.shared.threads.load())
+        u32::from(self.package.shared.threads.load())
     }
 
     // How many more processors the space can use than it announced.
     pub(crate) fn owed(&self, seen: &Seen) -> Option<u16>
         ensures { result ≡ owed self.now seen.now }
     {
-        more_owed(seen.demand, self.processors, self.load())
+        more_owed(seen.demand, self.package.processors, self.load())
     }
 
     // The context, which carries this thread, settles.
@@ -40,9 +40,9 @@ impl FastThreads {
         requires thread { CanBeDue self.old.shared thread }
         ensures { pair self.new ctx.new ≡ put_last self.old ctx.old thread }
     {
-        place(&mut self.shared, thread, Place::Carried);
+        place(&mut self.package.shared, thread, Place::Carried);
         if let Some(t) = thread {
-            self.shared.works.add(&mut ctx.work, t);
+            self.package.shared.works.add(&mut ctx.work, t);
         }
     }
 }

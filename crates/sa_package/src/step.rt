@@ -114,13 +114,13 @@ impl FastThreads {
         ensures { Steps (continued self.old ctx.old frame) seen.now trace.old self.new ctx.new result trace.new }
     {
         self.put_last(ctx, ctx.state.thread());
-        place(&mut self.shared, frame.thread, Place::Running);
+        place(&mut self.package.shared, frame.thread, Place::Running);
         ctx.sections.remove_first();
         ctx.state = State::Code(frame);
         trace.add(Item {
             event: seen.event,
             proc: seen.proc,
-            what: Record::Cont(self.shared.state.space, frame.thread),
+            what: Record::Cont(self.package.shared.state.space, frame.thread),
         });
         Step::Did
     }
@@ -150,8 +150,8 @@ impl FastThreads {
             pushed: Some(first),
             thread: ctx.state.thread(),
         };
-        if let MicroDone::Did = micro(&mut self.shared.state, &mut frame, seen, trace) {
-            self.shared.works.take_first(&mut ctx.work, first);
+        if let MicroDone::Did = micro(&mut self.package.shared.state, &mut frame, seen, trace) {
+            self.package.shared.works.take_first(&mut ctx.work, first);
             ctx.state = State::Code(frame);
         }
         Step::Did
@@ -170,9 +170,9 @@ impl FastThreads {
         ensures { Steps (used self.old seen.now ctx.old thread) seen.now trace.old self.new ctx.new result trace.new }
     {
         let ran = run(
-            &self.def,
-            self.fetch,
-            &mut self.shared,
+            &self.package.def,
+            self.package.fetch,
+            &mut self.package.shared,
             &mut ctx.work,
             thread,
             seen,
@@ -203,7 +203,7 @@ impl FastThreads {
         requires room { 1 ≤ trace.old.spare }
         ensures { Steps (looked self.old seen.now ctx.old looks) seen.now trace.old self.new ctx.new result trace.new }
     {
-        if let Some(list) = self.shared.state.lists.seek(seen.proc) {
+        if let Some(list) = self.package.shared.state.lists.seek(seen.proc) {
             return self.begin_pop(seen, ctx, list, trace);
         }
         if self.is_idle(seen, looks) {
@@ -222,7 +222,7 @@ impl FastThreads {
     fn is_idle(&self, seen: &Seen, looks: u16) -> bool
         ensures { result ≡ is_idle self.now seen.now looks }
     {
-        self.def.patience() <= looks && idle_owed(seen.demand, self.load())
+        self.package.def.patience() <= looks && idle_owed(seen.demand, self.load())
     }
 
     // The take of the pop on a list.
@@ -240,7 +240,7 @@ impl FastThreads {
             pushed: None,
             thread: None,
         };
-        if let MicroDone::Did = micro(&mut self.shared.state, &mut frame, seen, trace) {
+        if let MicroDone::Did = micro(&mut self.package.shared.state, &mut frame, seen, trace) {
             ctx.state = State::Code(frame);
         }
         Step::Did
@@ -255,20 +255,20 @@ impl FastThreads {
         requires room { 1 ≤ trace.old.spare }
         ensures { Steps (coded self.old seen.now ctx.old frame) seen.now trace.old self.new ctx.new result trace.new }
     {
-        self.shared.state.lists.are_apart();
-        let op = self.shared.state.code.at(frame.pc);
+        self.package.shared.state.lists.are_apart();
+        let op = self.package.shared.state.code.at(frame.pc);
         let mut next = frame;
-        match micro(&mut self.shared.state, &mut next, seen, trace) {
+        match micro(&mut self.package.shared.state, &mut next, seen, trace) {
             MicroDone::Did => {
-                move_thread(&mut self.shared, op, frame, next);
+                move_thread(&mut self.package.shared, op, frame, next);
                 self.go_on(seen, ctx, next);
                 Step::Did
             }
             MicroDone::Spun => Step::Did,
             MicroDone::Faulted => {
-                place(&mut self.shared, frame.thread, Place::Blocked);
+                place(&mut self.package.shared, frame.thread, Place::Blocked);
                 Step::Block {
-                    length: self.fetch,
+                    length: self.package.fetch,
                     page: Some(PACKAGE_PAGE),
                 }
             }
@@ -289,7 +289,7 @@ impl FastThreads {
         ensures { ctx.new ≡ goes_on self.now seen.now ctx.old next
             (slice_get self.now.shared.state.code next.pc) }
     {
-        match self.shared.state.code.at(next.pc) {
+        match self.package.shared.state.code.at(next.pc) {
             Some(Op::Leave) => self.settle(seen, ctx, next.thread),
             _ => ctx.state = State::Code(next),
         }

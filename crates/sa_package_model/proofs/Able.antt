@@ -14,7 +14,7 @@ use Rattle.sa_fast.specs.Rest.{one_if, one_of}
 use Rattle.sa_package_model.specs.declared.context.Context.{Context}
 use Rattle.sa_package_model.specs.declared.context.State.{State}
 use Rattle.sa_package_model.specs.declared.context.State.TheVariants.{Code, Work, Hint, Return, User, Look}
-use Rattle.sa_package_model.specs.Package.{Package}
+use Rattle.sa_package_model.specs.declared.package.Package.{Package}
 use Rattle.sa_package_model.specs.Context.{carried_by, section_in}
 use Rattle.sa_package_model.specs.Conditions.{IsThread, CanGo, CanGoAt, CanAct, CanStep, CanTakeOver, CanBeTold}
 use Rattle.sa_package_model.specs.Rules.{thread_alone}

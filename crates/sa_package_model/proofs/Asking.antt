@@ -34,7 +34,7 @@ use Rattle.sa_fast.specs.Instruction.{told_by, forked, touched, outcome_of, inst
 use Rattle.sa_package_model.specs.declared.context.Context.{Context}
 use Rattle.sa_package_model.specs.declared.context.State.{State}
 use Rattle.sa_package_model.specs.declared.context.State.TheVariants.{Code, Work, Hint, Return, User, Look}
-use Rattle.sa_package_model.specs.Package.{Package}
+use Rattle.sa_package_model.specs.declared.package.Package.{Package}
 use Rattle.sa_package_model.specs.Context.{carried_by, settled_to, is_left, has_bulk}
 use Rattle.sa_package_model.specs.Conditions.{CanAct, CanStep}
 use Rattle.sa_package_model.specs.Laws.{IsMadeFor}

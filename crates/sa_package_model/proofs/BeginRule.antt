@@ -36,7 +36,7 @@ use Rattle.sa_fast.proofs.RunSteps.{unmade_above}
 use Rattle.sa_package_model.specs.declared.context.Context.{Context}
 use Rattle.sa_package_model.specs.declared.context.State.{State}
 use Rattle.sa_package_model.specs.declared.context.State.TheVariants.{Code, Work, Hint, Return, User, Look}
-use Rattle.sa_package_model.specs.Package.{Package}
+use Rattle.sa_package_model.specs.declared.package.Package.{Package}
 use Rattle.sa_package_model.specs.Context.{fresh, carried_by, section_in, stands_between}
 use Rattle.sa_package_model.specs.Rules.{settled}
 use Rattle.sa_package_model.specs.Step.{opened, started, answered}

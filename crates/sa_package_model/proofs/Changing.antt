@@ -18,7 +18,7 @@ use Rattle.sa_fast.specs.Work.{work_of}
 use Rattle.sa_fast.specs.Rest.{one_of, threads_at_rest, empty_at, ArePartsFor, AgreesAt, not_carried}
 use Rattle.sa_fast.proofs.WorkSteps.{one_same}
 use Rattle.sa_package_model.specs.declared.context.Context.{Context}
-use Rattle.sa_package_model.specs.Package.{Package}
+use Rattle.sa_package_model.specs.declared.package.Package.{Package}
 use Rattle.sa_package_model.specs.Laws.{IsMadeFor}
 use Rattle.sa_package_model.specs.Context.{carried_by, section_in}
 use Rattle.sa_package_model.specs.Rules.{thread_alone}

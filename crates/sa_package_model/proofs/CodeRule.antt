@@ -29,7 +29,7 @@ use Rattle.sa_fast.proofs.WorkSteps.{count_one, one_same, one_other}
 use Rattle.sa_package_model.specs.declared.context.Context.{Context}
 use Rattle.sa_package_model.specs.declared.context.State.{State}
 use Rattle.sa_package_model.specs.declared.context.State.TheVariants.{Code}
-use Rattle.sa_package_model.specs.Package.{Package}
+use Rattle.sa_package_model.specs.declared.package.Package.{Package}
 use Rattle.sa_package_model.specs.Context.{carried_by, section_in, is_left, has_bulk, settled_to}
 use Rattle.sa_package_model.specs.Conditions.{IsThread, CanBeDue, CanCode}
 use Rattle.sa_package_model.specs.Rules.{thread_alone, at_state, owed, settled, placed, with_shared, with_package, put_last, coded_by, coded, goes_on}

@@ -25,7 +25,7 @@ use Rattle.sa_fast.proofs.RunSteps.{place_inside}
 use Rattle.sa_package_model.specs.declared.context.Context.{Context}
 use Rattle.sa_package_model.specs.declared.context.State.{State}
 use Rattle.sa_package_model.specs.declared.context.State.TheVariants.{Code, Work, Hint, Return, User, Look}
-use Rattle.sa_package_model.specs.Package.{Package}
+use Rattle.sa_package_model.specs.declared.package.Package.{Package}
 use Rattle.sa_package_model.specs.Context.{carried_by, stands_inside}
 use Rattle.sa_package_model.specs.Rules.{with_shared}
 use Rattle.sa_package_model.specs.Step.{spot_of, block_after, stands_at, local_at, gone_at, went, fast_calls}

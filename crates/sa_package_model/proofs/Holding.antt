@@ -20,7 +20,7 @@ use Rattle.sa_fast.specs.Instruction.{CanRun}
 use Rattle.sa_fast.specs.Rest.{one_if, one_of, one_if_empty, unmade_at, threads_at_rest, empty_at}
 use Rattle.sa_fast.proofs.WorkSteps.{count_one, one_same, one_other, not_empty}
 use Rattle.sa_package_model.specs.declared.context.Context.{Context}
-use Rattle.sa_package_model.specs.Package.{Package}
+use Rattle.sa_package_model.specs.declared.package.Package.{Package}
 use Rattle.sa_package_model.specs.Context.{carried_by, section_in}
 use Rattle.sa_package_model.specs.Rules.{thread_alone}
 use Rattle.sa_package_model.specs.Conditions.{IsThread, CanBeDue}

@@ -21,7 +21,7 @@ use Rattle.sa_fast.specs.Instruction.{IsAt}
 use Rattle.sa_fast.specs.Rest.{one_if, one_of, AreWorks, ArePartsFor}
 use Rattle.sa_fast.proofs.Moves.{WorkStep}
 use Rattle.sa_fast.proofs.WorkSteps.{count_one, one_same, one_other, still-step, added-step}
-use Rattle.sa_package_model.specs.Package.{Package}
+use Rattle.sa_package_model.specs.declared.package.Package.{Package}
 use Rattle.sa_package_model.specs.Laws.{IsMadeFor}
 use Rattle.sa_package_model.specs.Conditions.{CanBeDue}
 use Rattle.sa_package_model.specs.Rules.{blocks_placed, placed, due_last, with_shared}

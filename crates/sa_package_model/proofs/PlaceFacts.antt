@@ -15,7 +15,7 @@ use Rattle.sa_fast.specs.Threads.{unmade, block_at, moved_to, is_done}
 use Rattle.sa_fast.specs.Rest.{one_if, one_of, one_where, done_at, unmade_at, threads_at_rest, is_ready, is_unmade, is_carried, place_at, AgreesBy, AgreesAt, not_carried}
 use Rattle.sa_fast.proofs.WorkSteps.{one_same, one_other}
 use Rattle.sa_package_model.specs.declared.context.Context.{Context}
-use Rattle.sa_package_model.specs.Package.{Package}
+use Rattle.sa_package_model.specs.declared.package.Package.{Package}
 use Rattle.sa_package_model.specs.Context.{carried_by}
 use Rattle.sa_package_model.specs.Rules.{placed}
 use Rattle.sa_package_model.specs.Hands.{threads_of, carried_of}

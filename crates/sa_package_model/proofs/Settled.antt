@@ -5,7 +5,7 @@ use Rattle.sa_base.specs.declared.context.Seen.{Seen}
 use Rattle.sa_package_model.specs.declared.context.Context.{Context}
 use Rattle.sa_package_model.specs.declared.context.State.{State}
 use Rattle.sa_package_model.specs.declared.context.State.TheVariants.{Code, Work, Hint, Return, User, Look}
-use Rattle.sa_package_model.specs.Package.{Package}
+use Rattle.sa_package_model.specs.declared.package.Package.{Package}
 use Rattle.sa_package_model.specs.Context.{is_left, settled_to, has_bulk}
 use Rattle.sa_package_model.specs.Conditions.{CanWork, CanSettle, CanAct, CanStep}
 use Rattle.sa_package_model.specs.Rules.{at_state, owed, settled}

@@ -19,7 +19,7 @@ use Rattle.sa_code.specs.declared.state.Frame.{Frame}
 use Rattle.sa_package_model.specs.declared.context.Context.{Context}
 use Rattle.sa_package_model.specs.declared.context.State.{State}
 use Rattle.sa_package_model.specs.declared.context.State.TheVariants.{Code, Work, Hint, Return, User, Look}
-use Rattle.sa_package_model.specs.Package.{Package}
+use Rattle.sa_package_model.specs.declared.package.Package.{Package}
 use Rattle.sa_package_model.specs.Context.{carried_by, section_in, has_bulk}
 use Rattle.sa_package_model.specs.Rules.{at_state, owed, took_over, looked_by, is_idle}
 use Rattle.sa_package_model.specs.Step.{told_of, told, worked, hinted, if_owed, if_bulk, resettled, stepped_at, stepped}

@@ -15,7 +15,7 @@ use Rattle.sa_fast.specs.Rest.{one_of, threads_at_rest}
 use Rattle.sa_fast.proofs.Moves.{JoinStep}
 use Rattle.sa_fast.proofs.WorkSteps.{one_same, one_other, filled, not_empty, joined-step}
 use Rattle.sa_package_model.specs.declared.context.Context.{Context}
-use Rattle.sa_package_model.specs.Package.{Package}
+use Rattle.sa_package_model.specs.declared.package.Package.{Package}
 use Rattle.sa_package_model.specs.Context.{carried_by, section_in, before_all}
 use Rattle.sa_package_model.specs.Conditions.{CanBeDue, CanTakeOver}
 use Rattle.sa_package_model.specs.Rules.{thread_alone, placed, took_over}

@@ -19,7 +19,7 @@ use Rattle.sa_fast.proofs.PlaceSteps.{place-step}
 use Rattle.sa_package_model.specs.declared.context.Context.{Context}
 use Rattle.sa_package_model.specs.declared.context.State.{State}
 use Rattle.sa_package_model.specs.declared.context.State.TheVariants.{User}
-use Rattle.sa_package_model.specs.Package.{Package}
+use Rattle.sa_package_model.specs.declared.package.Package.{Package}
 use Rattle.sa_package_model.specs.Context.{carried_by, section_in, settled_to, is_left, has_bulk}
 use Rattle.sa_package_model.specs.Rules.{at_state, owed, with_shared, stays_user, used_by, used}
 use Rattle.std.specs.Prelude.{is_some}

@@ -26,7 +26,7 @@ use Rattle.sa_fast.proofs.WorkSteps.{without_first-step}
 use Rattle.sa_package_model.specs.declared.context.Context.{Context}
 use Rattle.sa_package_model.specs.declared.context.State.{State}
 use Rattle.sa_package_model.specs.declared.context.State.TheVariants.{Code}
-use Rattle.sa_package_model.specs.Package.{Package}
+use Rattle.sa_package_model.specs.declared.package.Package.{Package}
 use Rattle.sa_package_model.specs.Context.{carried_by, section_in, is_left, has_bulk, settled_to}
 use Rattle.sa_package_model.specs.Conditions.{IsThread, CanBeDue, CanWork}
 use Rattle.sa_package_model.specs.Rules.{thread_alone, at_state, owed, settled, placed, put_last, continued, push_of, pushing_by, pushing, pop_of, popping_by, popping}

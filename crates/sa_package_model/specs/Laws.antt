@@ -4,7 +4,7 @@ use Rattle.sa_base.specs.declared.context.Seen.{Seen}
 use Rattle.sa_abstract.specs.Setting.{Setting, IsSetting}
 use Rattle.sa_abstract.specs.Keeps.{IsAsked, IsOwn}
 use Rattle.sa_package_model.specs.declared.context.Context.{Context}
-use Rattle.sa_package_model.specs.Package.{Package}
+use Rattle.sa_package_model.specs.declared.package.Package.{Package}
 use Rattle.sa_package_model.specs.Conditions.{CanStep}
 use Rattle.sa_package_model.specs.Step.{stepped}
 

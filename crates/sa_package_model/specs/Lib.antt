@@ -1,4 +1,3 @@
-pub mod Package
 pub mod Context
 pub mod Rules
 pub mod Step

@@ -14,7 +14,7 @@ use Rattle.sa_fast.specs.Rest.{threads_at_rest, empty_at, ArePartsFor, AgreesAt,
 use Rattle.sa_package_model.specs.declared.context.Context.{Context}
 use Rattle.sa_package_model.specs.declared.context.State.{State}
 use Rattle.sa_package_model.specs.declared.context.State.TheVariants.{Code, Look}
-use Rattle.sa_package_model.specs.Package.{Package}
+use Rattle.sa_package_model.specs.declared.package.Package.{Package}
 use Rattle.sa_package_model.specs.Laws.{IsMadeFor}
 use Rattle.sa_package_model.specs.Hands.{AreInOnePlace, sections_of, free_locks, locks_of, threads_of, name_of, carried_of}
 

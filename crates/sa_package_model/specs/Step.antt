@@ -30,7 +30,7 @@ use Rattle.sa_fast.specs.Instruction.{with_thread}
 use Rattle.sa_package_model.specs.declared.context.Context.{Context}
 use Rattle.sa_package_model.specs.declared.context.State.{State}
 use Rattle.sa_package_model.specs.declared.context.State.TheVariants.{Code, Work, Hint, Return, User, Look}
-use Rattle.sa_package_model.specs.Package.{Package}
+use Rattle.sa_package_model.specs.declared.package.Package.{Package}
 use Rattle.sa_package_model.specs.Context.{fresh, carried_by, stands_idle, stands_between, stands_inside, before_all, has_bulk}
 use Rattle.sa_package_model.specs.Rules.{Pair, pair, with_shared, owed, settled, took_over, did, asks, coded, continued, pushing, used, looked}
 

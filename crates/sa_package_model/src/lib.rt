@@ -4,7 +4,9 @@
 
 mod context;
 pub mod laws;
+mod package;
 mod sections;
 
 pub use context::{Context, State};
+pub use package::Package;
 pub use sections::Sections;

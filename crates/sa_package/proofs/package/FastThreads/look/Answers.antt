@@ -1,6 +1,12 @@
+use Rattle.std.proofs.Common.{ap, ◌∙◌}
+use Rattle.std.specs.Option.{option_map}
+use Rattle.sa_lists.specs.ReadyView.{processor, sought}
+use Rattle.sa_package_model.specs.declared.package.Package.{Package}
 use Rattle.sa_package.proofs.Carried.{sought-inside}
 use Rattle.sa_package.proofs.package.FastThreads.look.Goals as goal
 
 pub begin_pop-requires-clause-list : goal.begin_pop-requires-clause-list
 begin_pop-requires-clause-list c =
-    sought-inside c.args.self.now.shared.state.lists c.args.seen.now.proc.0 c.in-Some.list c.requires.proc c.in-Some.ensures
+    let p = c.args.seen.now.proc.0 in
+    let found = ap (λ (u : Package). option_map processor (sought u.shared.state.lists p)) c.self.view_is in
+    sought-inside c.args.self.now.shared.state.lists p c.in-Some.list c.requires.proc (c.in-Some.ensures ∙ found)
