@@ -7,7 +7,7 @@ ghost use Rattle.sa_core_model.specs.Run.{AreNextLocal};
 ghost use Rattle.sa_core.specs.View.{machine};
 
 use sa_abstract::{SeatState, UserLevel};
-use sa_base::{End, Item, MAX_EVENTS, ProcNo, Record, SpaceNo, ThreadNo, Trace};
+use sa_base::{End, Item, MAX_EVENTS, ProcNo, Record, Trace};
 use sa_core::Core;
 use sa_instr::{Local, Program, Regs, local};
 use sa_spaces::Workload;
@@ -127,17 +127,11 @@ fn commit<U: UserLevel>(
     Ok(())
 }
 
-// A context stands so on the processor, whose line was raised by this event.
-fn stands<U: UserLevel>(
-    rt: &impl Abort,
-    core: &Core<U>,
-    p: ProcNo,
-    context: SeatState,
-    line: Option<u64>,
-) {
+// No context stands at an instruction on the processor, whose line is low.
+fn is_away<U: UserLevel>(rt: &impl Abort, core: &Core<U>, p: ProcNo) {
     assert!(rt; p.0 < core.workload().processors());
-    assert_eq!(rt; core.context(p), context);
-    assert_eq!(rt; core.line(p), line);
+    assert_eq!(rt; core.context(p), SeatState::Away);
+    assert_eq!(rt; core.line(p), None);
 }
 
 // What is done with a core, or seen of it.
@@ -149,9 +143,7 @@ pub(crate) enum Act {
     Commit(ProcNo, u16, u16),
     // How the run has ended, behind so many events.
     Ends(Option<End>, u64),
-    // The context of thread 0 of a space stands at its start, and the line was raised by this event.
-    Starts(ProcNo, SpaceNo, Option<u64>),
-    // No context stands at an instruction.
+    // No context stands at an instruction, and the line is low.
     IsAway(ProcNo),
 }
 
@@ -165,21 +157,9 @@ fn do_one<U: UserLevel>(rt: &impl Abort, core: &mut Core<U>, act: Act) -> Result
             assert_eq!(rt; core.end(), end);
             assert_eq!(rt; core.events(), events);
         }
-        Act::Starts(p, space, line) => stands(rt, core, p, at_start(space), line),
-        Act::IsAway(p) => stands(rt, core, p, SeatState::Away, None),
+        Act::IsAway(p) => is_away(rt, core, p),
     }
     Ok(())
-}
-
-// At the start of thread 0 of a space.
-fn at_start(space: SpaceNo) -> SeatState {
-    SeatState::Local {
-        space,
-        thread: ThreadNo(0),
-        program: 0,
-        pc: 0,
-        regs: Regs::zero(),
-    }
 }
 
 // All of it, one behind another.

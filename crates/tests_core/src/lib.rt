@@ -1,10 +1,8 @@
-//! Tests of the core over public calls, and a second user level that runs on it.
+//! A second user level, and a run of it on the core.
 #![tactic(auto)]
 
 #[cfg(test)]
 mod bench;
 pub mod one_thread;
-#[cfg(test)]
-mod rows;
 #[cfg(test)]
 mod second;

@@ -1,4 +1,4 @@
-//! Tests of sources and sinks.
+//! Tests of the sources and sinks over std.
 #![tactic(auto)]
 
 #[cfg(test)]

@@ -1,5 +1,5 @@
-// What the sources and sinks of this crate do, by tables.
-use sa_io::{MemSink, MemSource, Sink, Source, StdSink, StdSource};
+// What the adapters over std's readers and writers do.
+use sa_io::{Sink, Source, StdSink, StdSource};
 use std::alloc::{AllocError, Global};
 use std::collections::VecDeque;
 use std::io::{Cursor, Error, ErrorKind, Read, Write};
@@ -30,49 +30,6 @@ fn write_through<K: Sink>(rt: &impl Abort, sink: &mut K, answers: [bool; 3]) {
     assert_eq!(rt; sink.write(b"abc").is_ok(), answers[0]);
     assert_eq!(rt; sink.write(b"").is_ok(), answers[1]);
     assert_eq!(rt; sink.write(b"def").is_ok(), answers[2]);
-}
-
-#[test]
-fn a_source_in_memory_gives_in_steps(rt: HostRuntime) -> Result<(), Fail> {
-    let alloc = rt.alloc();
-    let rows: [(usize, &[u64], &[Option<usize>]); 3] = [
-        (
-            1,
-            &[],
-            &[Some(1), Some(1), Some(1), Some(1), Some(1), Some(0)],
-        ),
-        (
-            2,
-            &[2],
-            &[Some(2), None, Some(2), Some(1), Some(0), Some(0)],
-        ),
-        (9, &[1, 4, 4], &[None, Some(4), Some(1), None, Some(0)]),
-    ];
-    for (step, failing, answers) in rows {
-        let bytes = Vec::from_slice(alloc, b"abcde")?;
-        let mut source = MemSource::new(bytes, step, Vec::from_slice(alloc, failing)?);
-        let came = read_through(&rt, alloc, &mut source, answers)?;
-        assert_eq!(rt; came.as_slice(), b"abcde".as_slice(), "at step {step}");
-    }
-    Ok(())
-}
-
-#[test]
-fn a_sink_in_memory_holds_its_room(rt: HostRuntime) -> Result<(), Fail> {
-    let alloc = rt.alloc();
-    let rows: [(usize, &[u64], [bool; 3], &[u8]); 5] = [
-        (6, &[], [true, true, true], b"abcdef"),
-        (5, &[], [true, true, false], b"abc"),
-        (2, &[], [false, true, false], b""),
-        (9, &[3, 2], [true, false, false], b"abc"),
-        (3, &[1], [false, true, true], b"def"),
-    ];
-    for (room, failing, answers, wanted) in rows {
-        let mut sink = MemSink::new(alloc, room, Vec::from_slice(alloc, failing)?)?;
-        write_through(&rt, &mut sink, answers);
-        assert_eq!(rt; sink.taken(), wanted, "at room {room}");
-    }
-    Ok(())
 }
 
 #[test]

@@ -2,8 +2,6 @@
 #![tactic(auto)]
 
 #[cfg(test)]
-mod aims;
-#[cfg(test)]
 mod links;
 #[cfg(test)]
 mod refusals;

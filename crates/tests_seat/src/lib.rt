@@ -1,9 +1,5 @@
-//! Tests of the machine behind its lock: its seats call by call, and host threads that drive them.
+//! Host threads that drive a machine behind its lock.
 #![tactic(auto)]
 
-#[cfg(test)]
-mod bench;
-#[cfg(test)]
-mod rows;
 #[cfg(test)]
 mod threads;

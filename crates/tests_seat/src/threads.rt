@@ -1,6 +1,4 @@
 // Runs on host threads, over FastThreads.
-ghost use Rattle.std.specs.Prelude.{◌≡◌, ◌≤◌};
-
 use sa_base::{End, ProcNo};
 use sa_package::FastThreads;
 use sa_seat::Closed;

@@ -4,7 +4,7 @@ use sa_workload::{print, read};
 use std::test::Fail;
 
 const TEXT: &str =
-    "workload 3\nprocessors 2\nfetch 10\nslice 7\nspaces 2\nspace 1 1 1 1 1\nabsent 2\npatience 4\nprogram 3\nset r0 1\nlock 0\nend\nspace 0 0 0 0 1\nprogram 1\nend\nevict 5 0 3\nevict 5 1 2\nturn 1\nturn 0\nclose\n";
+    "workload 3\nprocessors 2\nfetch 10\nslice 7\nspaces 2\nspace 1 1 1 1 1 4\nsem 3\nabsent 2\nprogram 3\nset r0 1\nlock 0\nend\nspace 0 0 0 0 1 1\nprogram 1\nend\nevict 5 0 3\nevict 5 1 2\nturn 1\nturn 0\nclose\n";
 
 #[test]
 fn a_copy_has_the_same_text(rt: HostRuntime) -> Result<(), Fail> {

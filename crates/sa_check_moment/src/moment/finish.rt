@@ -4,7 +4,7 @@
 ghost use Rattle.std.specs.Prelude.{◌≡◌, IfOk, OnOk};
 ghost use Rattle.std.specs.List.{list_any};
 ghost use Rattle.sa_laws.specs.Readings.{Readings, running_of, life_if};
-ghost use Rattle.sa_laws.specs.History.{is_step, is_up, is_free, goes_on};
+ghost use Rattle.sa_laws.specs.History.{is_up, is_free, goes_on};
 ghost use Rattle.sa_check_lives.specs.View.{lives_of};
 ghost use Rattle.sa_check_moment.specs.Seen.{seen, at_end, lowers};
 ghost use Rattle.sa_check_moment.specs.Ending.{is_in, is_in_if, settles_by, scan_by, step_with, step_by, up_by, stepped_if, arisen_if};
@@ -14,6 +14,7 @@ use crate::start::Start;
 use sa_base::{ActNo, ProcNo, Record};
 use sa_check_life::{KeptLife, Scan, Stepped};
 use sa_check_lives::Lives;
+use sa_check_shapes::is_step;
 use sa_laws::Place;
 use std::alloc::AllocError;
 
@@ -70,7 +71,7 @@ impl Moment {
         match records {
             [] => None,
             [first, ..] => {
-                if is_step(first) {
+                if is_step(*first) {
                     Some(self.step_with(first, start))
                 } else {
                     None
@@ -144,28 +145,6 @@ fn goes_on(place: Place) -> bool
     ensures { result ≡ goes_on place }
 {
     matches!(place, Place::Running(_) | Place::Blocked)
-}
-
-// The event that begins with the record is a step.
-fn is_step(first: &Record) -> bool
-    ensures { result ≡ is_step first.now }
-{
-    match *first {
-        Record::Ins(..)
-        | Record::Run(..)
-        | Record::Block(..)
-        | Record::Cont(..)
-        | Record::Back(..)
-        | Record::Ready(..)
-        | Record::Take(..)
-        | Record::Free(..)
-        | Record::Want(..)
-        | Record::Line(_)
-        | Record::GiveBack(_)
-        | Record::Idle
-        | Record::Spin(_) => true,
-        _ => false,
-    }
 }
 
 // An up is among the records.

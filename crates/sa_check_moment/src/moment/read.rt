@@ -11,7 +11,7 @@ ghost use Rattle.sa_check_lives.specs.Recorded.{IsForPush};
 ghost use Rattle.sa_check_machine.specs.Needs.{NeedsWith, Sees, seen_of};
 ghost use Rattle.sa_check_ios.specs.Kept.{HasPage};
 ghost use Rattle.sa_check_moment.specs.Seen.{seen, at_event, behind_record};
-ghost use Rattle.sa_check_moment.specs.Reading.{begun_by, pending_after, ready_after};
+ghost use Rattle.sa_check_moment.specs.Reading.{begun_by, ended_by, pending_after, ready_after};
 
 use crate::moment::Moment;
 use sa_base::{ActNo, PACKAGE_PAGE, ProcNo, Record, SpaceNo, ThreadNo};
@@ -261,15 +261,24 @@ fn read_pending(
     requires { IfSome begun (λ b. HasPage b.kind) }
     ensures { OnOk result (pending.new ≡ pending_after begun event what.now pending.old) }
 {
-    if let Some(begun) = begun {
-        return pending.begin(begun.kind, event, begun.length);
+    match begun {
+        Some(begun) => pending.begin(begun.kind, event, begun.length),
+        None => {
+            end_one(pending, what);
+            Ok(())
+        }
     }
+}
+
+// Reads the I/O that is over with a record.
+fn end_one(pending: &mut Pending, what: &Record)
+    ensures { pending.new ≡ ended_by what.now pending.old }
+{
     match *what {
         Record::Unblock(_, _, a) => pending.end_of_life(a),
         Record::Fetched(s) => pending.end_of_fetch(s),
         _ => {}
     }
-    Ok(())
 }
 
 // Reads a record that makes a thread ready, in this list, or runs one.
