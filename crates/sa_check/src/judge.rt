@@ -1,5 +1,6 @@
 // The judge of one event.
 ghost use Rattle.std.specs.Prelude.{◌≡◌, IfOk};
+ghost use Rattle.sa_laws.specs.Opening.{IsNumbered};
 ghost use Rattle.sa_check_moment.specs.Seen.{seen};
 ghost use Rattle.sa_check.specs.Items.{told_event};
 ghost use Rattle.sa_check.specs.Sides.{line_told};
@@ -34,18 +35,30 @@ pub(crate) fn judge(
 ) -> Result<Judged, AllocError>
     ensures { IfOk result (Judges (seen moment) (told_event event.now) (line_told last)) }
 {
-    let mut now = moment;
-    let records = event.records;
-    if !is_numbered(alloc, &now, event.number, event.proc, records)? {
+    if !is_numbered(alloc, &moment, event.number, event.proc, event.records)? {
         return Ok(Judged::Broken(Rule::Numbering));
     }
+    judge_numbered(alloc, moment, event, last)
+}
+
+// Judges an event with the number and processor that it should have.
+fn judge_numbered(
+    alloc: Global,
+    moment: Moment,
+    event: &TraceEvent,
+    last: Option<LastTold>,
+) -> Result<Judged, AllocError>
+    requires { IsNumbered (seen moment).workload (seen moment).readings (told_event event.now) }
+    ensures { IfOk result (Judges (seen moment) (told_event event.now) (line_told last)) }
+{
+    let mut now = moment;
     let beginning = begin(&mut now, event);
     let Some(through) = read_records(alloc, now, event)? else {
         return Ok(Judged::Broken(Rule::StepTaken));
     };
     let after = through
         .moment
-        .finish(event.number, event.proc, records, beginning.start)?;
+        .finish(event.number, event.proc, event.records, beginning.start)?;
     let ending = look_after(&after, event.number, last);
     let findings = findings_of(event.number, beginning, through.laws, through.due, ending);
     match findings.first_broken() {

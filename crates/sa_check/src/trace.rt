@@ -1,10 +1,13 @@
-ghost use Rattle.std.specs.Prelude.{◌≡◌, ◌↔◌, ℕ, IfOk};
+ghost use Rattle.std.specs.Prelude.{◌≡◌, ◌↔◌, ℕ, map, IfOk};
 ghost use Rattle.sa_laws.specs.declared.rule.Rule.{Rule};
 ghost use Rattle.sa_laws.specs.Event.{events_of};
 ghost use Rattle.sa_laws.specs.Rules.{fast_threads};
 ghost use Rattle.sa_laws.specs.Legal.{IsRight, FirstBreak};
+ghost use Rattle.sa_check_moment.specs.Seen.{seen, event};
 ghost use Rattle.sa_check.specs.declared.verdict.Verdict.TheVariants.{Legal, Broken};
+ghost use Rattle.sa_check.specs.Items.{what_of};
 ghost use Rattle.sa_check.specs.Sides.{told_line, line_told, line_before};
+ghost use Rattle.sa_check.specs.Judged.{Judges};
 ghost use Rattle.sa_check.specs.Verdict.{last_line, IsVerdict};
 
 use crate::end::LastTold;
@@ -38,7 +41,6 @@ fn first_broken(alloc: Global, workload: &Workload, text: &TraceText) -> Result<
         end: text.end,
         events: text.events,
     };
-    let mut moment = Moment::start(alloc, workload)?;
     let mut items = text.trace.items();
     if items.is_empty() {
         return Ok(Verdict::Broken {
@@ -46,19 +48,14 @@ fn first_broken(alloc: Global, workload: &Workload, text: &TraceText) -> Result<
             rule: Rule::Numbering,
         });
     }
+    let mut moment = Moment::start(alloc, workload)?;
     while let Some(first) = items.first() {
         let (own, others) = items.split_at(event_len(first, items));
-        let records = records_of(alloc, own)?;
-        let event = TraceEvent {
-            number: first.event,
-            proc: first.proc,
-            records: records.as_slice(),
-        };
-        match judge(alloc, moment, &event, last_behind(line, others))? {
+        match judge_items(alloc, moment, first, own, last_behind(line, others))? {
             Judged::Right(after) => moment = after,
             Judged::Broken(rule) => {
                 return Ok(Verdict::Broken {
-                    event: event.number,
+                    event: first.event,
                     rule,
                 });
             }
@@ -66,6 +63,26 @@ fn first_broken(alloc: Global, workload: &Workload, text: &TraceText) -> Result<
         items = others;
     }
     Ok(Verdict::Legal)
+}
+
+// Judges the event of these items, of which this is the first, on the moment before it.
+fn judge_items(
+    alloc: Global,
+    moment: Moment,
+    first: &Item,
+    own: &[Item],
+    last: Option<LastTold>,
+) -> Result<Judged, AllocError>
+    ensures { IfOk result (Judges (seen moment)
+        (event first.now.event first.now.proc (map what_of own.now)) (line_told last)) }
+{
+    let records = records_of(alloc, own)?;
+    let event = TraceEvent {
+        number: first.event,
+        proc: first.proc,
+        records: records.as_slice(),
+    };
+    judge(alloc, moment, &event, last)
 }
 
 // The last line, where no item stands behind.

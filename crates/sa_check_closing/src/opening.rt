@@ -55,10 +55,22 @@ fn is_opening(
 fn opening_records(alloc: Global, workload: &Workload) -> Result<Vec<Record>, AllocError>
     ensures { IfOk result (λ records. records.items ≡ opening_records workload.now) }
 {
-    let mut records = first_wants(alloc, workload)?;
     let wanting = wanting(alloc, workload)?;
-    let due = aims_due(alloc, &wanting, 0)?;
-    let mut lines = Vec::from_slice(alloc, wanting.lines())?;
+    opening_after(alloc, workload, &wanting)
+}
+
+// The same, where this is the moment behind the wants.
+fn opening_after(
+    alloc: Global,
+    workload: &Workload,
+    moment: &Moment,
+) -> Result<Vec<Record>, AllocError>
+    requires { seen moment.now ≡ wanting workload.now }
+    ensures { IfOk result (λ records. records.items ≡ opening_records workload.now) }
+{
+    let mut records = first_wants(alloc, workload)?;
+    let due = aims_due(alloc, moment, 0)?;
+    let mut lines = Vec::from_slice(alloc, moment.lines())?;
     add_raised(&mut records, 0, &mut lines, due.as_slice())?;
     Ok(records)
 }

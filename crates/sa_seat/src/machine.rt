@@ -42,6 +42,20 @@ impl<U: UserLevel, K: Named> Model for Machine<U, K> {
     ghost invariant = { λ m. (m.words ≡ K.table) × (m.workload ≡ K.workload) };
 }
 
+// A copy of the workload, and a seat for each poller, in order.
+fn copy_and_seat<K: Named>(
+    alloc: Global,
+    workload: &Workload,
+    pollers: Vec<Poller>,
+) -> Result<(Workload, Vec<Seat<K>>), AllocError>
+    requires { pollers.items ≡ fresh_pollers K.table K.workload.processors }
+    ensures copy { IfOk result (λ made. made.0 ≡ workload.now) }
+    ensures seats { IfOk result (λ made. AreFresh K.table K.workload.processors made.1.items) }
+{
+    let copy = workload.copy(alloc)?;
+    Ok((copy, seat_all::<K>(alloc, pollers)?))
+}
+
 impl<U: UserLevel, K: Named> Machine<U, K> {
     /// The machine of a core at its opening, with words that were made for its processors, and a seat for each processor, in
     /// order. Fails only where memory runs out.
@@ -60,8 +74,7 @@ impl<U: UserLevel, K: Named> Machine<U, K> {
         requires pollers { pollers.items ≡ fresh_pollers K.table K.workload.processors }
         ensures { IfOk result (λ made. AreFresh K.table K.workload.processors made.1.items) }
     {
-        let workload = core.workload().copy(alloc)?;
-        let seats = seat_all::<K>(alloc, pollers)?;
+        let (workload, seats) = copy_and_seat::<K>(alloc, core.workload(), pollers)?;
         workload.ranges();
         let held = Held::new(core, keeper, &words);
         let machine = Machine {

@@ -1,7 +1,7 @@
 // A moment at the end of an event.
 #![tactic(auto, unfolding(crate::specs::Seen::seen))]
 
-ghost use Rattle.std.specs.Prelude.{◌≡◌, IfOk, OnOk};
+ghost use Rattle.std.specs.Prelude.{◌≡◌, ◌+◌, IfOk, OnOk};
 ghost use Rattle.std.specs.List.{list_any};
 ghost use Rattle.sa_laws.specs.Readings.{Readings, running_of, life_if};
 ghost use Rattle.sa_laws.specs.History.{is_up, is_free, goes_on};
@@ -45,9 +45,7 @@ impl Moment {
         let _event = number;
         let step = self.step_by(records, start);
         let up = self.up_by(p, records);
-        end_step(&mut self.lives, start.running, step)?;
-        end_up(&mut self.lives, p, up)?;
-        self.number = self.number.checked_add(1).ok_or(AllocError)?;
+        self.number = end_event(&mut self.lives, self.number, start.running, step, p, up)?;
         self.last = None;
         self.moved = None;
         Ok(self)
@@ -163,6 +161,24 @@ fn scan_by(lowers: bool, first: &Record) -> Scan
         Record::Want(..) if lowers => Scan::Same,
         _ => Scan::Over,
     }
+}
+
+// The event is over for the life that made a step and for the one of the up, if there were such; the number of the next.
+fn end_event(
+    lives: &mut Lives,
+    number: u64,
+    running: Option<ActNo>,
+    step: Option<Stepped>,
+    p: ProcNo,
+    up: Option<bool>,
+) -> Result<u64, AllocError>
+    ensures number { IfOk result (λ n. n ≡ number + 1) }
+    ensures lives { OnOk result (lives_of lives.new
+        ≡ arisen_if up p (stepped_if step running (lives_of lives.old))) }
+{
+    end_step(lives, running, step)?;
+    end_up(lives, p, up)?;
+    number.checked_add(1).ok_or(AllocError)
 }
 
 // The life's step is over, if there was one.

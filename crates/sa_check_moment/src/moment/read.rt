@@ -7,16 +7,19 @@ ghost use Rattle.sa_base.specs.declared.limits.TheConstants.{PAGES};
 ghost use Rattle.sa_laws.specs.Readings.{life_of, life_on};
 ghost use Rattle.sa_laws.specs.Record.{blocking, length_behind, length_in, is_thread, page_touched, page_in, locks_one, first_list, moved_after};
 ghost use Rattle.sa_laws.specs.Step.{Needs};
-ghost use Rattle.sa_check_lives.specs.Recorded.{IsForPush};
-ghost use Rattle.sa_check_machine.specs.Needs.{NeedsWith, Sees, seen_of};
+ghost use Rattle.sa_check_lives.specs.View.{lives_of};
+ghost use Rattle.sa_check_lives.specs.Recorded.{IsForPush, recorded};
+ghost use Rattle.sa_check_machine.specs.Replayed.{after};
+ghost use Rattle.sa_check_machine.specs.Needs.{CanChange, NeedsWith, Sees, seen_of};
 ghost use Rattle.sa_check_ios.specs.Kept.{HasPage};
 ghost use Rattle.sa_check_moment.specs.Seen.{seen, at_event, behind_record};
 ghost use Rattle.sa_check_moment.specs.Reading.{begun_by, ended_by, pending_after, ready_after};
 
 use crate::moment::Moment;
-use sa_base::{ActNo, PACKAGE_PAGE, ProcNo, Record, SpaceNo, ThreadNo};
+use sa_base::{ActNo, Item, PACKAGE_PAGE, ProcNo, Record, SpaceNo, ThreadNo};
 use sa_check_ios::{Pending, ReadyLists};
-use sa_check_machine::{Beyond, LifeSeen};
+use sa_check_lives::Lives;
+use sa_check_machine::{Beyond, LifeSeen, Replay};
 use sa_devices::IoKind;
 use sa_instr::Instr;
 use std::alloc::AllocError;
@@ -37,6 +40,17 @@ impl Model for Begun {
     ghost view = { λ x. record { kind = x.kind; length = x.length } };
 
     ghost inverse = { λ x. record { kind = x.kind; length = x.length } };
+}
+
+// What is read of the moment before a record, for the parts that the record changes.
+#[derive(Clone, Copy, Debug)]
+struct Before {
+    // A take of the life that runs on the processor would be for a push.
+    for_push: bool,
+    // The I/O that the record begins.
+    begun: Option<Begun>,
+    // The list in which a thread comes to stand that the record makes ready.
+    list: ProcNo,
 }
 
 impl Moment {
@@ -64,14 +78,24 @@ impl Moment {
         requires { Needs (seen self).workload p (seen self).readings what.now }
         ensures { IfOk result (λ m. seen m ≡ behind_record number p what.now (seen self)) }
     {
-        let for_push = self.is_for_push(p);
-        let begun = self.begun_by(what);
-        let list = self.first_list(p);
+        let before = Before {
+            for_push: self.is_for_push(p),
+            begun: self.begun_by(what),
+            list: self.first_list(p),
+        };
         self.board.note(number, p, self.last, what);
-        read_pending(&mut self.pending, number, what, begun)?;
-        read_ready(&mut self.ready, what, list)?;
-        self.replay.change(p, what)?;
-        self.lives.read(p, *what, self.replay.roused(), for_push)?;
+        read_parts(
+            &mut self.replay,
+            &mut self.lives,
+            &mut self.pending,
+            &mut self.ready,
+            Item {
+                event: number,
+                proc: p,
+                what: *what,
+            },
+            before,
+        )?;
         self.moved = moved_after(self.moved, what);
         self.last = Some(*what);
         Ok(self)
@@ -249,6 +273,30 @@ fn moved_after(moved: Option<SpaceNo>, what: &Record) -> Option<SpaceNo>
         Record::Move(_, new) => new,
         _ => moved,
     }
+}
+
+// Reads a record part by part: the state, the lives, the I/Os and pages, and the ready threads.
+fn read_parts(
+    replay: &mut Replay,
+    lives: &mut Lives,
+    pending: &mut Pending,
+    ready: &mut ReadyLists,
+    item: Item,
+    before: Before,
+) -> Result<(), AllocError>
+    requires can { CanChange replay.old.workload item.proc replay.old.state item.what }
+    requires page { IfSome before.begun (λ b. HasPage b.kind) }
+    ensures replay { OnOk result (replay.new ≡ after item.proc replay.old item.what) }
+    ensures lives { OnOk result (lives_of lives.new
+        ≡ recorded replay.new.roused before.for_push item.proc item.what (lives_of lives.old)) }
+    ensures pending { OnOk result (pending.new
+        ≡ pending_after before.begun item.event item.what pending.old) }
+    ensures ready { OnOk result (ready.new ≡ ready_after before.list item.what ready.old) }
+{
+    read_pending(pending, item.event, &item.what, before.begun)?;
+    read_ready(ready, &item.what, before.list)?;
+    replay.change(item.proc, &item.what)?;
+    lives.read(item.proc, item.what, replay.roused(), before.for_push)
 }
 
 // Reads the I/Os and the pages of a record, and the I/O that it begins.

@@ -1,10 +1,11 @@
-use Rattle.std.proofs.Common.{◌≡◌, List, ◌∷◌, refl, ap, subst, sym, ◌∙◌}
+use Rattle.std.proofs.Common.{◌≡◌, List, ◌∷◌, map, refl, ap, subst, sym, ◌∙◌}
 use Rattle.sa_base.specs.declared.record.Item.{Item}
 use Rattle.sa_laws.specs.Event.{events_of}
 use Rattle.sa_laws.specs.Readings.{Readings, opening_readings}
 use Rattle.sa_check_moment.specs.Seen.{Seen, seen, event}
 use Rattle.sa_check.specs.declared.judge.Judged.{Judged}
 use Rattle.sa_check.specs.declared.verdict.Verdict.TheVariants.{Legal, Broken}
+use Rattle.sa_check.specs.Items.{what_of}
 use Rattle.sa_check.specs.Judged.{Judges}
 use Rattle.sa_check.specs.Sides.{line_told}
 use Rattle.sa_check.specs.Verdict.{last_line}
@@ -34,11 +35,11 @@ loop-first-preserved c =
     let w = c.args.workload.now in
     let m = seen c.loop-first.moment in
     let next = seen c.in-Right.after in
-    let e = event c.in-Some.first.now.event c.in-Some.first.now.proc c.as_slice.result.now in
+    let e = event c.in-Some.first.now.event c.in-Some.first.now.proc (map what_of c.split_at.result.0.now) in
     let line = last_line c.args.text.now in
     let cut : events_of c.loop-first.items.now ≡ e ∷ events_of c.split_at.result.1.now =
-    event-cut c.loop-first.items.now c.in-Some.first.now c.event_len.result c.split_at.result.0.now c.split_at.result.1.now c.as_slice.result.now
-    c.in-Some.ensures.value c.event_len.ensures.len c.split_at.ensures.front c.split_at.ensures.back (c.as_slice.ensures.value ∙ c.in_ok-records.ensures) in
+    event-cut c.loop-first.items.now c.in-Some.first.now c.event_len.result c.split_at.result.0.now c.split_at.result.1.now (map what_of c.split_at.result.0.now)
+    c.in-Some.ensures.value c.event_len.ensures.len c.split_at.ensures.front c.split_at.ensures.back refl in
     let right = subst (λ (j : Judged). Judges m e (line_told c.last_behind.result) j) c.in-Right.is c.in_ok-after.ensures in
     record {
       workload = ap (λ (s : Seen). s.workload) right.next ∙ c.loop-first.invariant.workload;
@@ -60,12 +61,12 @@ pub returns-in-Broken : goal.returns-in-Broken
 returns-in-Broken c =
     let w = c.args.workload.now in
     let m = seen c.loop-first.moment in
-    let e = event c.in-Some.first.now.event c.in-Some.first.now.proc c.as_slice.result.now in
+    let e = event c.in-Some.first.now.event c.in-Some.first.now.proc (map what_of c.split_at.result.0.now) in
     let line = last_line c.args.text.now in
     let items = c.args.text.now.trace.items in
     let cut : events_of c.loop-first.items.now ≡ e ∷ events_of c.split_at.result.1.now =
-    event-cut c.loop-first.items.now c.in-Some.first.now c.event_len.result c.split_at.result.0.now c.split_at.result.1.now c.as_slice.result.now
-    c.in-Some.ensures.value c.event_len.ensures.len c.split_at.ensures.front c.split_at.ensures.back (c.as_slice.ensures.value ∙ c.in_ok-records.ensures) in
+    event-cut c.loop-first.items.now c.in-Some.first.now c.event_len.result c.split_at.result.0.now c.split_at.result.1.now (map what_of c.split_at.result.0.now)
+    c.in-Some.ensures.value c.event_len.ensures.len c.split_at.ensures.front c.split_at.ensures.back refl in
     let breaks = subst (λ (j : Judged). Judges m e (line_told c.last_behind.result) j) c.in-Broken.is c.in_ok-after.ensures in
     verdict-from w items line (Broken e.number c.in-Broken.rule) (some-events items c.loop-first.invariant.some)
     (c.loop-first.invariant.rest (Broken e.number c.in-Broken.rule)

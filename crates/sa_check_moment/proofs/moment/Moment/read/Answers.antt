@@ -16,19 +16,19 @@ use Rattle.sa_check_moment.proofs.ListedLemmas.{listed-behind}
 use Rattle.sa_check_moment.proofs.NeedLemmas.{can_change}
 use Rattle.sa_check_moment.proofs.moment.Moment.read.Goals as goal
 
-pub change-requires : goal.change-requires
+pub read_parts-requires-clause-can : goal.read_parts-requires-clause-can
 unfolding seen
-change-requires c =
+read_parts-requires-clause-can c =
     let m = c.args.self in
     let can : CanChange m.workload c.args.p m.state c.args.what.now = can_change m.workload c.args.p (seen m).readings c.args.what.now c.requires in
     subst (λ (k : Kept). CanChange k.workload c.args.p k.state c.args.what.now) (sym c.self.view_is) can
 
 -- what is read is the moment behind the record
 whole : (c : goal.After-self-4-1) → let fields : Inside = record {
-  replay = c.change.new.self;
-  lives = c.read.new.self;
-  pending = c.read_pending.new.pending;
-  ready = c.read_ready.new.ready;
+  replay = c.read_parts.new.replay;
+  lives = c.read_parts.new.lives;
+  pending = c.read_parts.new.pending;
+  ready = c.read_parts.new.ready;
   board = c.note.new.self;
   number = c.self.inside.number;
   last = Some c.args.what.now;
@@ -40,21 +40,21 @@ whole c =
     let x = c.args.what.now in
     let p = c.args.p in
     let same = c.self.view_is in
-    let with : IsReadWith m p x c.is_for_push-for_push.result c.begun_by-begun.result c.first_list-list.result =
-    record { push = c.is_for_push-for_push.ensures; begins = c.begun_by-begun.ensures.begun; listed = c.first_list-list.ensures } in
-    let replay : c.change.new.self ≡ after p c.self.inside.replay x = c.in_ok-change.ensures.ok in
-    let workload : c.change.new.self.workload ≡ m.workload = ap (λ (v : Replayed). v.workload) replay ∙ ap (λ (k : Kept). k.workload) same in
-    let state : c.change.new.self.state ≡ changed m.workload p m.state x = ap (λ (v : Replayed). v.state) replay ∙ ap (λ (k : Kept). changed k.workload p k.state x) same in
-    let roused : c.roused.result.now ≡ roused_by m.workload m.state x = c.roused.ensures ∙ ap (λ (v : Replayed). v.roused) replay ∙ ap (λ (k : Kept). roused_by k.workload k.state x) same in
+    let with : IsReadWith m p x c.is_for_push.result c.begun_by.result c.first_list.result =
+    record { push = c.is_for_push.ensures; begins = c.begun_by.ensures.begun; listed = c.first_list.ensures } in
+    let replay : c.read_parts.new.replay ≡ after p c.self.inside.replay x = c.in_ok-read_parts.ensures.replay in
+    let workload : c.read_parts.new.replay.workload ≡ m.workload = ap (λ (v : Replayed). v.workload) replay ∙ ap (λ (k : Kept). k.workload) same in
+    let state : c.read_parts.new.replay.state ≡ changed m.workload p m.state x = ap (λ (v : Replayed). v.state) replay ∙ ap (λ (k : Kept). changed k.workload p k.state x) same in
+    let roused : c.read_parts.new.replay.roused ≡ roused_by m.workload m.state x = ap (λ (v : Replayed). v.roused) replay ∙ ap (λ (k : Kept). roused_by k.workload k.state x) same in
     let board : c.note.new.self ≡ noted c.args.number p m.last x m.board = c.note.ensures ∙ ap (λ (k : Kept). noted c.args.number p k.last x k.board) same in
-    let lives : lives_of c.read.new.self ≡ recorded c.roused.result.now c.is_for_push-for_push.result p x (lives_of m.lives) =
-    c.in_ok-read.ensures.ok ∙ ap (λ (k : Kept). recorded c.roused.result.now c.is_for_push-for_push.result p x (lives_of k.lives)) same in
-    let pending : c.read_pending.new.pending ≡ pending_after c.begun_by-begun.result c.args.number x m.pending =
-    c.in_ok-read_pending.ensures ∙ ap (λ (k : Kept). pending_after c.begun_by-begun.result c.args.number x k.pending) same in
-    let ready : c.read_ready.new.ready ≡ ready_after c.first_list-list.result x m.ready =
-    c.in_ok-read_ready.ensures ∙ ap (λ (k : Kept). ready_after c.first_list-list.result x k.ready) same in
+    let lives : lives_of c.read_parts.new.lives ≡ recorded c.read_parts.new.replay.roused c.is_for_push.result p x (lives_of m.lives) =
+    c.in_ok-read_parts.ensures.lives ∙ ap (λ (k : Kept). recorded c.read_parts.new.replay.roused c.is_for_push.result p x (lives_of k.lives)) same in
+    let pending : c.read_parts.new.pending ≡ pending_after c.begun_by.result c.args.number x m.pending =
+    c.in_ok-read_parts.ensures.pending ∙ ap (λ (k : Kept). pending_after c.begun_by.result c.args.number x k.pending) same in
+    let ready : c.read_parts.new.ready ≡ ready_after c.first_list.result x m.ready =
+    c.in_ok-read_parts.ensures.ready ∙ ap (λ (k : Kept). ready_after c.first_list.result x k.ready) same in
     let moved : c.moved_after-self-inside.result ≡ moved_after m.moved x = c.moved_after-self-inside.ensures ∙ ap (λ (k : Kept). moved_after k.moved x) same in
-    read-whole m _ c.args.number p x c.is_for_push-for_push.result c.begun_by-begun.result c.first_list-list.result c.roused.result.now with workload (ap (λ (k : Kept). k.number) same) state roused board lives pending ready refl moved
+    read-whole m _ c.args.number p x c.is_for_push.result c.begun_by.result c.first_list.result c.read_parts.new.replay.roused with workload (ap (λ (k : Kept). k.number) same) state roused board lives pending ready refl moved
 
 pub invariant_of-self : goal.invariant_of-self
 invariant_of-self c =
