@@ -1,6 +1,5 @@
 -- What a line of a trace text says behind the items before it, or the first thing that is wrong with it.
-use Rattle.std.specs.Prelude.{ℕ, Bool, ◌-◌, ◌^◌, ◌==◌, ◌&&◌, List, [], ◌∷◌, length, slice_get, codes, Option, Some, None, Result, Ok, Err, nat_le, if◌then◌else◌}
-use Rattle.std.specs.List.{list_all}
+use Rattle.std.specs.Prelude.{ℕ, ◌-◌, ◌^◌, ◌==◌, List, [], ◌∷◌, length, slice_get, codes, Option, Some, None, Result, Ok, Err, if◌then◌else◌}
 use Rattle.std.specs.Str.{bytes_eq}
 use Rattle.sa_trace.specs.declared.kind.Kind.{Kind}
 use Rattle.sa_base.specs.declared.record.End.{End}

@@ -1,5 +1,5 @@
 -- What a piece of a line says where a number, a field or a word is expected, or what is wrong with it.
-use Rattle.std.specs.Prelude.{ℕ, Bool, ◌^◌, ◌&&◌, List, [], ◌∷◌, take, drop, find, decimal, codes, Option, Some, None, Result, Ok, Err, nat_lt, nat_le, if◌then◌else◌}
+use Rattle.std.specs.Prelude.{ℕ, Bool, ◌&&◌, List, [], ◌∷◌, take, drop, find, codes, Option, Some, None, Result, Ok, Err, nat_le, if◌then◌else◌}
 use Rattle.std.specs.Str.{bytes_eq}
 use Rattle.sa_text.specs.Number.{number_of}
 use Rattle.sa_trace.specs.declared.field.Field.{Field}
