@@ -38,15 +38,6 @@ read-ctx cs i j x d within here read is = any cs i within (x) ∙ sym (ap (λ n.
     any (c ∷ cs) zero below x = refl
     any (c ∷ cs) (suc i) below x = any cs i (omega (arith, below)) x
 
--- a place that was emptied and filled again
-pub set-again : {A : Type 0} (xs : List A) (i j k : ℕ) (x y : A) → j ≡ i → k ≡ i → slice_set (slice_set xs j x) k y ≡ slice_set xs i y
-set-again xs i j k x y a b = ap (λ n. slice_set (slice_set xs n x) k y) a ∙ ap (λ n. slice_set (slice_set xs i x) n y) b ∙ twice xs i
-  where
-    twice : (zs : List _) (n : ℕ) → slice_set (slice_set zs n x) n y ≡ slice_set zs n y
-    twice [] n = refl
-    twice (z ∷ zs) zero = refl
-    twice (z ∷ zs) (suc n) = ap (λ ws. z ∷ ws) (twice zs n)
-
 module _ {C : Type 0} where
   -- the next notice, and what comes with it
   pub record IsNote (k : State C) (note : Note) (held : Option (Stopped C)) : Type 0 where

@@ -17,7 +17,7 @@ ghost use Rattle.sa_core.specs.Needs.{ByFresh, Welcomes, IsNext, Asks};
 
 use crate::users::Users;
 use sa_abstract::{SeatState, Step, UserLevel};
-use sa_base::{Item, MAX_EVENTS, ProcNo, Record, SpaceNo, Stopped, Trace};
+use sa_base::{IoNo, Item, MAX_EVENTS, ProcNo, Record, SpaceNo, Stopped, Trace};
 use sa_kernel::{ENTRY_ITEMS, Entry, Given, Kernel};
 use sa_spaces::Workload;
 use std::alloc::{AllocError, Global};
@@ -123,11 +123,10 @@ impl<U: UserLevel> Machine<U> {
         let Some((note, held)) = self.kernel.next_note() else {
             return false;
         };
-        let Some(mut ctx) = self.contexts[usize::from(p.0)].take() else {
+        let Some(ctx) = &mut self.contexts[usize::from(p.0)] else {
             unreachable!()
         };
-        self.users.told(s, &mut ctx, note, held);
-        self.contexts[usize::from(p.0)] = Some(ctx);
+        self.users.told(s, ctx, note, held);
         true
     }
 
@@ -156,12 +155,11 @@ impl<U: UserLevel> Machine<U> {
         ensures kernel { self.new.kernel ≡ self.old.kernel }
         ensures trace { self.new.trace ≡ self.old.trace }
     {
-        let Some(mut ctx) = self.contexts[usize::from(p.0)].take() else {
+        let Some(ctx) = &mut self.contexts[usize::from(p.0)] else {
             unreachable!()
         };
         let seen = self.kernel.seen(p, self.events);
-        self.users.answered(s, &seen, &mut ctx);
-        self.contexts[usize::from(p.0)] = Some(ctx);
+        self.users.answered(s, &seen, ctx);
     }
 
     // The context of an upcall begins, is told what happened, and goes on.
@@ -202,7 +200,28 @@ impl<U: UserLevel> Machine<U> {
         }
     }
 
+    // The I/O that is due is over. Out of line, so that a turn does not pay for the entry.
+    #[inline(never)]
+    fn complete(&mut self, p: ProcNo, io: IoNo)
+        requires within { p.0 < length (machine_of self.old).kernel.lives }
+        requires later { self.old.kernel.last < self.old.events }
+        requires event { self.old.events ≤ MAX_EVENTS }
+        requires fit { IsFit (machine_of self.old).kernel p self.old.events (Entry.Complete io) }
+        requires fetched { (machine_of self.old).kernel.telling ≡ [] }
+        requires welcomes { (fresh : ActNo) → (machine_of self.old).kernel.acts fresh.0 ≡ None
+            → upcalls (machine_of self.old).kernel p (Entry.Complete io) ≡ true
+            → Welcomes U.calls U.stands p (kernel_entered p fresh (Entry.Complete io) (machine_of self.old)) }
+        requires entries { 1 ≤ self.old.kernel.spare }
+        requires room { ENTRY_ITEMS + owed self.old ≤ self.old.trace.spare }
+        ensures machine { ByFresh (machine_of self.old) (machine_of self.new)
+            (λ fresh. entered_on U.calls p fresh (Entry.Complete io) (machine_of self.old)) }
+        ensures spends { Spends self.old self.new ENTRY_ITEMS 1 }
+    {
+        self.enter(p, Entry::Complete(io));
+    }
+
     // An entry that the running context asked for, behind which it goes on.
+    #[inline(never)]
     fn hint(&mut self, p: ProcNo, entry: Entry<U::Ctx>)
         requires within { p.0 < self.old.workload.processors }
         requires now { Stands U.stands self.old.events (machine_of self.old) }
@@ -225,6 +244,7 @@ impl<U: UserLevel> Machine<U> {
     }
 
     // The running context blocks.
+    #[inline(never)]
     fn block(&mut self, p: ProcNo, length: u32, page: Option<u16>)
         requires asks { Asks U.stands p (Step.Block length page) (machine_of self.old) }
         requires later { self.old.kernel.last < self.old.events }
@@ -242,6 +262,7 @@ impl<U: UserLevel> Machine<U> {
     }
 
     // The line of the processor is raised: the context that runs there is stopped, wherever it is.
+    #[inline(never)]
     fn interrupt(&mut self, p: ProcNo)
         requires next { IsNext U.stands (machine_of self.old) }
         requires within { p.0 < self.old.workload.processors }
@@ -266,13 +287,11 @@ impl<U: UserLevel> Machine<U> {
         ensures kernel { self.new.kernel ≡ self.old.kernel }
         ensures room { self.old.trace.spare ≤ self.new.trace.spare + 4 }
     {
-        let Some(mut ctx) = self.contexts[usize::from(p.0)].take() else {
+        let Some(ctx) = &mut self.contexts[usize::from(p.0)] else {
             unreachable!()
         };
         let seen = self.kernel.seen(p, self.events);
-        let asked = self.users.step(s, &seen, &mut ctx, &mut self.trace);
-        self.contexts[usize::from(p.0)] = Some(ctx);
-        asked
+        self.users.step(s, &seen, ctx, &mut self.trace)
     }
 
     // The closing of an event with which a slice ends.
@@ -362,7 +381,7 @@ impl<U: UserLevel> Machine<U> {
             return self.interrupt(p);
         }
         match self.kernel.due(self.events) {
-            Some(io) => self.enter(p, Entry::Complete(io)),
+            Some(io) => self.complete(p, io),
             None => self.run(p),
         }
     }
@@ -414,12 +433,11 @@ impl<U: UserLevel> Machine<U> {
         let Some(s) = self.kernel.owner(p) else {
             unreachable!()
         };
-        let Some(mut ctx) = self.contexts[usize::from(p.0)].take() else {
+        let Some(ctx) = &mut self.contexts[usize::from(p.0)] else {
             unreachable!()
         };
         let seen = self.kernel.seen(p, self.events);
-        self.users.went(s, &seen, &mut ctx, n, &mut self.trace);
-        self.contexts[usize::from(p.0)] = Some(ctx);
+        self.users.went(s, &seen, ctx, n, &mut self.trace);
     }
 
     // So many events more begin.

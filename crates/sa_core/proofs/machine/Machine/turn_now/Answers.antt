@@ -5,8 +5,8 @@ use Rattle.sa_core_model.proofs.Phases.{none-is}
 use Rattle.sa_core.proofs.EnterLemmas.{due-fits}
 use Rattle.sa_core.proofs.machine.Machine.turn_now.Goals as goal
 
-pub enter-requires-clause-fit : goal.enter-requires-clause-fit
-enter-requires-clause-fit g c = λ κs k.
+pub complete-requires-clause-fit : goal.complete-requires-clause-fit
+complete-requires-clause-fit g c = λ κs k.
     let keep = (g.met.U.UserLevel g.world.𝓛 g.world.𝓜 g.world.𝓡 ((λ s x. x), (λ x. x), (λ x. x), λ x. x)).keeps in
     let f = g.U.UserLevel.calls in
     let stands = g.U.UserLevel.stands in
