@@ -1,4 +1,4 @@
-//! Tests of the sources and sinks over std.
+//! Tests of sources and sinks.
 #![tactic(auto)]
 
 #[cfg(test)]

@@ -1,5 +1,5 @@
-// What the adapters over std's readers and writers do.
-use sa_io::{Sink, Source, StdSink, StdSource};
+// What the adapters over std's readers and writers do, and that a sink in memory is made where there is memory.
+use sa_io::{MemSink, Sink, Source, StdSink, StdSource};
 use std::alloc::{AllocError, Global};
 use std::collections::VecDeque;
 use std::io::{Cursor, Error, ErrorKind, Read, Write};
@@ -30,6 +30,14 @@ fn write_through<K: Sink>(rt: &impl Abort, sink: &mut K, answers: [bool; 3]) {
     assert_eq!(rt; sink.write(b"abc").is_ok(), answers[0]);
     assert_eq!(rt; sink.write(b"").is_ok(), answers[1]);
     assert_eq!(rt; sink.write(b"def").is_ok(), answers[2]);
+}
+
+#[test]
+fn a_sink_in_memory_is_made(rt: HostRuntime) -> Result<(), Fail> {
+    let mut sink = MemSink::new(rt.alloc(), 6, Vec::new(rt.alloc()))?;
+    write_through(&rt, &mut sink, [true, true, true]);
+    assert_eq!(rt; sink.taken(), b"abcdef".as_slice());
+    Ok(())
 }
 
 #[test]
