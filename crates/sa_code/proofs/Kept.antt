@@ -6,6 +6,7 @@ use Rattle.sa_base.specs.declared.number.ProcNo.{ProcNo}
 use Rattle.sa_base.specs.declared.number.SpaceNo.{SpaceNo}
 use Rattle.sa_base.specs.declared.number.ThreadNo.{ThreadNo}
 use Rattle.sa_base.specs.declared.limits.TheConstants.{MAX_PROCESSORS, MAX_THREADS}
+use Rattle.sa_lists.specs.declared.ranks.Ranks.{Ranks}
 use Rattle.sa_lists.specs.ReadyView.{ReadyView, is_locked, with_list, IsUnlisted, IsReady}
 use Rattle.sa_lists.proofs.Changes.{ready-no_threads, ready-pushed, ready-without_newest, ready-without_oldest, ready-with_lock}
 use Rattle.sa_code.specs.declared.code.Op.{Op}
@@ -85,9 +86,10 @@ no_holder (suc n) zero = refl
 no_holder (suc n) (suc l) = no_holder n l
 
 -- new package states
-pub begun-package : (space : SpaceNo) (code : List Op) (processors threads : ℕ) → processors ≤ MAX_PROCESSORS → threads ≤ MAX_THREADS → IsPackage (begun space code processors threads)
-begun-package space code processors threads few most = record {
-  ready = ready-no_threads processors threads few most;
+pub begun-package : (space : SpaceNo) (code : List Op) (lists : ℕ) (ranks : Ranks) (threads : ℕ) → lists ≤ MAX_PROCESSORS → threads ≤ MAX_THREADS
+    → IsPackage (begun space code lists ranks threads)
+begun-package space code lists ranks threads few most = record {
+  ready = ready-no_threads lists ranks threads few most;
   holders = refl;
   free = λ l e. no_holder MAX_PROCESSORS l;
 }

@@ -1,9 +1,9 @@
 -- What a micro-operation changes: its own list, and no other.
-use Rattle.std.proofs.Common.{ℕ, ◌<◌, Bool, true, false, ◌∷◌, length, Option, Some, None, slice_get, refl}
+use Rattle.std.proofs.Common.{ℕ, ◌<◌, Bool, true, false, length, Option, Some, None, slice_get, refl}
 use Rattle.std.proofs.lemmas.List.{get_or-set_other, get_or-set_same, length-set}
 use Rattle.sa_base.specs.declared.number.ProcNo.{ProcNo}
 use Rattle.sa_base.specs.declared.number.ThreadNo.{ThreadNo}
-use Rattle.sa_lists.specs.ReadyView.{thread, list_of, is_locked}
+use Rattle.sa_lists.specs.ReadyView.{thread, list_of, is_locked, inserted}
 use Rattle.sa_lists.proofs.Changes.{list_of-with_list_same, list_of-with_list_other, is_locked-with_lock_same, is_locked-with_lock_other}
 use Rattle.sa_code.specs.declared.code.Op.{Op}
 use Rattle.sa_code.specs.declared.code.Op.TheVariants.{TakePush, Push, TakePop, Pop, Free, Leave, Yield}
@@ -44,8 +44,8 @@ pub pushed-changes_only : (s : PackageState) (f : Frame) (resident : Bool) (l : 
 pushed-changes_only s f false l t = changes_only-refl l.0 s
 pushed-changes_only s f true l None = changes_only-refl l.0 s
 pushed-changes_only s f true l (Some t) = record {
-  others = λ m ne. record { threads = list_of-with_list_other s.lists l.0 m (t.0 ∷ list_of s.lists l.0) ne; lock = refl; holder = refl };
-  lists = length-set s.lists.lists l.0 (t.0 ∷ list_of s.lists l.0);
+  others = λ m ne. record { threads = list_of-with_list_other s.lists l.0 m (inserted s.lists.ranks t.0 (list_of s.lists l.0)) ne; lock = refl; holder = refl };
+  lists = length-set s.lists.lists l.0 (inserted s.lists.ranks t.0 (list_of s.lists l.0));
   locks = refl;
   holders = refl;
   made = refl;
@@ -100,8 +100,8 @@ micro-changes_only s f pages = micro_at-changes_only s f (is_resident pages PACK
 pub taken-list : (s : PackageState) (f : Frame) (l : ProcNo) → l.0 < length s.lists.locked → l.0 < length s.holders → IsList (taken s f l false).state l.0 (list_of s.lists l.0) true f.thread
 taken-list s f l locks holders = record { threads = refl; lock = is_locked-with_lock_same s.lists l.0 true locks; holder = get_or-set_same s.holders l.0 f.thread None holders }
 
-pub pushed-list : (s : PackageState) (f : Frame) (l : ProcNo) (t : ThreadNo) → l.0 < length s.lists.lists → IsList (pushed s f true l (Some t)).state l.0 (t.0 ∷ list_of s.lists l.0) (is_locked s.lists l.0) (holder_of s l.0)
-pushed-list s f l t inside = record { threads = list_of-with_list_same s.lists l.0 (t.0 ∷ list_of s.lists l.0) inside; lock = refl; holder = refl }
+pub pushed-list : (s : PackageState) (f : Frame) (l : ProcNo) (t : ThreadNo) → l.0 < length s.lists.lists → IsList (pushed s f true l (Some t)).state l.0 (inserted s.lists.ranks t.0 (list_of s.lists l.0)) (is_locked s.lists l.0) (holder_of s l.0)
+pushed-list s f l t inside = record { threads = list_of-with_list_same s.lists l.0 (inserted s.lists.ranks t.0 (list_of s.lists l.0)) inside; lock = refl; holder = refl }
 
 pub popped-list : (s : PackageState) (f : Frame) (l : ProcNo) (t : ℕ) → l.0 < length s.lists.lists → l.0 < length s.holders → IsList (popped s f true l (Some t)).state l.0 (without_chosen s.lists f.own l.0) (is_locked s.lists l.0) (Some (thread t))
 popped-list s f l t inside holders = record { threads = list_of-with_list_same s.lists l.0 (without_chosen s.lists f.own l.0) inside; lock = refl; holder = get_or-set_same s.holders l.0 (Some (thread t)) None holders }

@@ -3,6 +3,7 @@ use Rattle.std.specs.Prelude.{◌≡◌, ◌≢◌, ℕ, ◌+◌, Bool, if◌the
 use Rattle.sa_base.specs.declared.number.SpaceNo.{SpaceNo}
 use Rattle.sa_base.specs.declared.number.ThreadNo.{ThreadNo}
 use Rattle.sa_base.specs.declared.limits.TheConstants.{MAX_PROCESSORS}
+use Rattle.sa_lists.specs.declared.ranks.Ranks.{Ranks}
 use Rattle.sa_lists.specs.ReadyView.{no_threads, list_of, is_locked, IsReady}
 use Rattle.sa_code.specs.declared.code.Op.{Op}
 use Rattle.sa_code.specs.declared.code.Op.TheVariants.{TakePush, Push, TakePop, Pop, Free, Leave, Yield}
@@ -41,8 +42,13 @@ pub record IsPackage (s : PackageState) : Type 0 where
   pub free : (l : ℕ) → is_locked s.lists l ≡ false → holder_of s l ≡ None
 
 -- no thread was made, no list is locked
-abbrev pub begun : SpaceNo → List Op → ℕ → ℕ → PackageState
-begun space code processors threads = record { space = space; lists = no_threads processors threads; holders = replicate MAX_PROCESSORS None; code = code }
+abbrev pub begun : SpaceNo → List Op → ℕ → Ranks → ℕ → PackageState
+begun space code lists ranks threads = record {
+  space = space;
+  lists = no_threads lists ranks threads;
+  holders = replicate MAX_PROCESSORS None;
+  code = code;
+}
 
 -- the frame keeps its list, and goes on to the next place or stays
 pub record GoesOn (old new : Frame) (on : Bool) : Type 0 where

@@ -3,7 +3,8 @@ ghost use Rattle.std.specs.Prelude.{◌≡◌, ◌≢◌, ◌<◌, ◌≤◌, �
 ghost use Rattle.sa_base.specs.declared.number.ProcNo.{ProcNo};
 ghost use Rattle.sa_base.specs.declared.number.SpaceNo.{SpaceNo};
 ghost use Rattle.sa_base.specs.declared.number.ThreadNo.{ThreadNo};
-ghost use Rattle.sa_lists.specs.ReadyView.{thread, list_of, is_locked};
+ghost use Rattle.sa_lists.specs.declared.ranks.Ranks.{Ranks};
+ghost use Rattle.sa_lists.specs.ReadyView.{thread, list_of, is_locked, inserted};
 ghost use Rattle.sa_code.specs.declared.code.Op.{Op};
 ghost use Rattle.sa_code.specs.declared.state.PackageState.{PackageState};
 ghost use Rattle.sa_code.specs.declared.state.Frame.{Frame};
@@ -41,7 +42,7 @@ pub fn its_list_changes_as_the_table_says()
         → IsList (taken s f l false).state l.0 (list_of s.lists l.0) true f.thread }
     ensures pushed { (s : PackageState) (f : Frame) (l : ProcNo) (t : ThreadNo) → IsPackage s
         → l.0 < length s.lists.lists
-        → IsList (pushed s f true l (Some t)).state l.0 (t.0 ∷ list_of s.lists l.0)
+        → IsList (pushed s f true l (Some t)).state l.0 (inserted s.lists.ranks t.0 (list_of s.lists l.0))
         (is_locked s.lists l.0) (holder_of s l.0) }
     ensures popped { (s : PackageState) (f : Frame) (l : ProcNo) (t : ℕ) → IsPackage s
         → l.0 < length s.lists.lists
@@ -54,9 +55,9 @@ pub fn its_list_changes_as_the_table_says()
 
 /// What holds of all package states holds of new ones, and each operation keeps it.
 pub fn operations_keep_what_holds()
-    ensures begin { (space : SpaceNo) (code : List Op) (processors threads : ℕ)
-        → processors ≤ MAX_PROCESSORS → threads ≤ MAX_THREADS
-        → IsPackage (begun space code processors threads) }
+    ensures begin { (space : SpaceNo) (code : List Op) (lists : ℕ) (ranks : Ranks) (threads : ℕ)
+        → lists ≤ MAX_PROCESSORS → threads ≤ MAX_THREADS
+        → IsPackage (begun space code lists ranks threads) }
     ensures step { (s : PackageState) (f : Frame) (pages : ℕ) → IsPackage s
         → CanDo s f (slice_get s.code f.pc) → IsPackage (micro s f pages).state }
 {}

@@ -74,7 +74,7 @@ forked x w t b reg program (Some n) =
     let parent = with_thread x t (value_in b reg n) in
     let made = with_thread parent (thread n) (at_start program Waiting) in
     let due = added (with_name x.works w) (thread n) in
-    outcome (record made { state = record x.state { lists = with_made x.state.lists (Some n) }; works = due.lists }) due.name Goes
+    outcome (record made { state = record x.state { lists = with_made x.state.lists program (Some n) }; works = due.lists }) due.name Goes
 
 -- join: the register says whether such a thread was made
 abbrev pub joins : Shared → Option ThreadNo → ThreadNo → Block → Reg → ℕ → Outcome

@@ -5,7 +5,7 @@ use Rattle.sa_base.specs.declared.limits.TheConstants.{MAX_THREADS}
 use Rattle.sa_instr.specs.declared.limits.TheConstants.{MAX_START}
 use Rattle.sa_spaces.specs.Space.{SpaceView}
 use Rattle.sa_links.specs.Lists.{list_at, count_in_all}
-use Rattle.sa_lists.specs.ReadyView.{ReadyView}
+use Rattle.sa_lists.specs.ReadyView.{ReadyView, AreListsFor}
 use Rattle.sa_sync.specs.Sync.{Sync, semaphore_at, waits_of, is_done}
 use Rattle.sa_code.specs.Changes.{IsPackage}
 use Rattle.sa_fast.specs.declared.shared.Shared.{Shared}
@@ -97,7 +97,7 @@ pub record AreWorks (works : List (List ℕ)) : Type 0 where
 -- the parts of what the contexts of a space share, each whatever the others are, up to an event
 pub record ArePartsFor (def : SpaceView) (processors event : ℕ) (x : Shared) : Type 0 where
   pub state : IsPackage x.state
-  pub lists : length x.state.lists.lists ≡ processors
+  pub lists : AreListsFor processors (length x.state.lists.lists)
   pub threads : x.state.lists.threads ≡ MAX_THREADS
   pub blocks : length x.threads ≡ MAX_THREADS
   pub sync : FitsSpace def x.sync

@@ -15,7 +15,7 @@ use crate::shared::Shared;
 use crate::threads::{Block, Place};
 use crate::work::WorkLists;
 use sa_base::{Item, MAX_THREADS, PAGES, Record, Seen, SpaceNo, ThreadNo, Trace};
-use sa_instr::{Instr, MAX_INSTRUCTIONS, Reg, Regs, local};
+use sa_instr::{Instr, MAX_INSTRUCTIONS, MAX_PROGRAMS, Reg, Regs, local};
 use sa_spaces::SpaceDef;
 use sa_sync::{SyncAnswer, SyncState};
 
@@ -68,6 +68,7 @@ fn instr_at(def: &SpaceDef, block: &Block) -> Instr
     ensures range { IsInRange result }
     ensures named { NamesDeclared def.now.mutexes (length def.now.sems) def.now.cells
         (length def.now.programs) result }
+    ensures few { length def.now.programs ≤ MAX_PROGRAMS }
 {
     def.ranges();
     def.programs()[usize::from(block.program)].at(block.pc)
@@ -143,6 +144,7 @@ fn does(
     requires range { IsInRange instr }
     requires named { NamesDeclared def.now.mutexes (length def.now.sems) def.now.cells
         (length def.now.programs) instr }
+    requires few { length def.now.programs ≤ MAX_PROGRAMS }
     ensures { record { shared = shared.new; work = work.new; answer = result }
         ≡ outcome_of fetch seen.now.pages shared.old work.old t block instr }
 {
@@ -277,11 +279,12 @@ fn fork(
     requires work { IsWork shared.old.works work.old }
     requires threads { shared.old.state.lists.threads ≡ MAX_THREADS }
     requires unmade { IsUnlisted shared.old.works shared.old.state.lists.made }
+    requires program { program < MAX_PROGRAMS }
     ensures { record { shared = shared.new; work = work.new; answer = result }
         ≡ forked shared.old work.old t block reg program (next_made shared.old.state.lists) }
 {
     shared.state.lists.are_apart();
-    let Some(made) = shared.state.lists.make() else {
+    let Some(made) = shared.state.lists.make(program) else {
         shared.threads.set(t, with_value(block, reg, NOT_MADE));
         return Ran::Goes;
     };

@@ -1,13 +1,14 @@
 -- What the changes of ready lists keep, and what they change, for proofs of callers.
-use Rattle.std.proofs.Common.{◌≡◌, ◌≢◌, ℕ, zero, suc, ◌+◌, ◌-◌, ◌<◌, ◌≤◌, Bool, false, cond, eqb, if◌then◌else◌, List, [], ◌∷◌, length, take, drop, replicate, Some, None, slice_get, refl, sym, ◌∙◌, subst, inl, inr, arith}
-use Rattle.std.proofs.lemmas.Bool.{cases_eq, cases_lt, lt-ltb, le-ltb}
+use Rattle.std.proofs.Common.{◌≡◌, ◌≢◌, ℕ, zero, suc, ◌+◌, ◌-◌, ◌<◌, ◌≤◌, nat_lt, Bool, true, false, cond, eqb, if◌then◌else◌, List, [], ◌∷◌, length, take, drop, replicate, Some, None, slice_get, slice_index, slice_set, refl, sym, ap, ◌∙◌, subst, inl, inr, arith}
+use Rattle.std.proofs.lemmas.Bool.{cases_eq, cases_lt, lt-ltb, le-ltb, eq-eqb, ne_eqb}
 use Rattle.std.proofs.lemmas.Option.{same_Some}
 use Rattle.std.proofs.lemmas.List.Sums.{sum_by-cons, sum_by-take-drop}
 use Rattle.std.proofs.lemmas.List.{get_or-set_other, get_or-set_same, length-replicate, length-set}
 use Rattle.sa_links.specs.Lists.{count_in, count_in_all, IsIn}
 use Rattle.sa_links.proofs.Counting.{count_set, count_same, count_other, count_at, count_two}
 use Rattle.sa_base.specs.declared.limits.TheConstants.{MAX_PROCESSORS, MAX_THREADS}
-use Rattle.sa_lists.specs.ReadyView.{ReadyView, no_threads, list_of, is_locked, IsUnlisted, with_list, with_lock, pushed, newest, without_newest, oldest, without_oldest, with_made, next_made, IsReady}
+use Rattle.sa_lists.specs.declared.ranks.Ranks.{Ranks}
+use Rattle.sa_lists.specs.ReadyView.{ReadyView, no_threads, list_of, is_locked, IsUnlisted, with_list, with_lock, pushed, newest, without_newest, oldest, without_oldest, with_made, next_made, inserted, with_rank, home, AreListsFor, IsReady}
 
 -- list l and the others, once list l is xs
 pub list_of-with_list_same : (r : ReadyView) (l : ℕ) (xs : List ℕ) → l < length r.lists → list_of (with_list r l xs) l ≡ xs
@@ -40,11 +41,56 @@ ready-fewer r l xs h inside fewer =
       once = λ t. let s = count-with_list r l t xs inside in let f = fewer t in let o = h.once t in omega arith;
     }
 
+-- a thread that is put into a list stands in it once more, and in front of it where all ranks are one
+one_more : (u n : ℕ) (xs : List ℕ) → count_in u (n ∷ xs) ≡ cond (eqb n u) 1 0 + count_in u xs
+one_more u n xs = sum_by-cons (λ z. cond (eqb z u) 1 0) n xs
+
+pub count-inserted : (ranks : List ℕ) (t u : ℕ) (xs : List ℕ) → count_in u (inserted ranks t xs) ≡ count_in u (t ∷ xs)
+count-inserted ranks t u [] = refl
+count-inserted ranks t u (x ∷ xs) =
+    elim (nat_lt (slice_index ranks t) (slice_index ranks x)) as (λ b. count_in u (cond b (x ∷ inserted ranks t xs) (t ∷ x ∷ xs)) ≡ count_in u (t ∷ x ∷ xs)) [
+      | true ↦
+          let rest = count-inserted ranks t u xs in
+          omega (arith, rest, one_more u x (inserted ranks t xs), one_more u t (x ∷ xs), one_more u x xs, one_more u t xs)
+      | false ↦ refl
+    ]
+
+pub length-inserted : (ranks : List ℕ) (t : ℕ) (xs : List ℕ) → length (inserted ranks t xs) ≡ length xs + 1
+length-inserted ranks t [] = refl
+length-inserted ranks t (x ∷ xs) =
+    elim (nat_lt (slice_index ranks t) (slice_index ranks x)) as (λ b. length (cond b (x ∷ inserted ranks t xs) (t ∷ x ∷ xs)) ≡ length (x ∷ xs) + 1) [
+      | true ↦ let rest = length-inserted ranks t xs in omega arith
+      | false ↦ omega arith
+    ]
+
+-- where there is one rank a thread comes in front, and no thread gets a rank of its own
+pub inserted_front : (t : ℕ) (xs : List ℕ) → inserted [] t xs ≡ t ∷ xs
+inserted_front t [] = refl
+inserted_front t (x ∷ xs) = refl
+
+pub no_rank : (r : ReadyView) (t rank : ℕ) → r.ranks ≡ [] → with_rank r t rank ≡ []
+no_rank r t rank none =
+    elim (eqb (count_in_all t r.lists) 0) as (λ b. cond b (slice_set r.ranks t rank) r.ranks ≡ []) [
+      | true ↦ ap (λ rs. slice_set rs t rank) none
+      | false ↦ none
+    ]
+
+-- the list that counts as a processor's own is one of them
+pub home-inside : (r : ReadyView) (processors p : ℕ) → AreListsFor processors (length r.lists) → p < processors → home r p < length r.lists
+home-inside r processors p are inside = elim are [
+  | inr one ↦ let zero : home r p ≡ 0 = ap (λ b. cond b 0 p) (eq-eqb (length r.lists) 1 one) in omega arith
+  | inl each ↦ elim (cases_eq (length r.lists) 1) [
+    | inl one ↦ let zero : home r p ≡ 0 = ap (λ b. cond b 0 p) (eq-eqb (length r.lists) 1 one) in omega arith
+    | inr more ↦ let own : home r p ≡ p = ap (λ b. cond b 0 p) (ne_eqb (length r.lists) 1 more) in omega arith
+  ]
+]
+
 -- so does a push
 pub ready-pushed : (r : ReadyView) (l t : ℕ) → IsReady r → l < length r.lists → t < r.threads → IsUnlisted r t → IsReady (pushed r l t)
 ready-pushed r l t h inside possible unlisted =
     let xs = list_of r l in
-    let same = length-set r.lists l (t ∷ xs) in
+    let new = inserted r.ranks t xs in
+    let same = length-set r.lists l new in
     record {
       locks = h.locks ∙ sym same;
       processors = omega (arith, h.processors, same);
@@ -52,13 +98,13 @@ ready-pushed r l t h inside possible unlisted =
       threads = h.threads;
       below = λ x listed. elim (cases_eq x t) [
         | inl e ↦ omega arith
-        | inr ne ↦ let s = count-with_list r l x (t ∷ xs) inside in let o = count_other x t xs (λ e. ne (sym e)) in h.below x (omega arith)
+        | inr ne ↦ let s = count-with_list r l x new inside in let c = count-inserted r.ranks t x xs in let o = count_other x t xs (λ e. ne (sym e)) in h.below x (omega arith)
       ];
       once = λ x. elim (cases_eq x t) [
         | inl e ↦
-            let s = count-with_list r l t (t ∷ xs) inside in let o = count_same t t xs refl in let a = count_at t r.lists l in
+            let s = count-with_list r l t new inside in let c = count-inserted r.ranks t t xs in let o = count_same t t xs refl in let a = count_at t r.lists l in
             subst (λ z. count_in_all z (pushed r l t).lists ≤ 1) (sym e) (omega (arith, unlisted))
-        | inr ne ↦ let s = count-with_list r l x (t ∷ xs) inside in let o = count_other x t xs (λ e. ne (sym e)) in let b = h.once x in omega arith
+        | inr ne ↦ let s = count-with_list r l x new inside in let c = count-inserted r.ranks t x xs in let o = count_other x t xs (λ e. ne (sym e)) in let b = h.once x in omega arith
       ];
     }
 
@@ -102,10 +148,10 @@ oldest-unlisted r l t h inside e =
     let c = count-take_before t (length (list_of r l) - 1) (list_of r l) e in let s = count-with_list r l t (take (length (list_of r l) - 1) (list_of r l)) inside in let o = h.once t in let a = count_at t r.lists l in omega arith
 
 -- the making of a thread keeps what holds too
-pub ready-with_made : (r : ReadyView) → IsReady r → IsReady (with_made r (next_made r))
-ready-with_made r h = elim (cases_lt r.made r.threads) [
-  | inl more ↦ subst (λ (b : Bool). IsReady (with_made r (if b then Some r.made else None))) (sym (lt-ltb r.made r.threads more)) (record { locks = h.locks; processors = h.processors; made = omega arith; threads = h.threads; below = h.below; once = h.once })
-  | inr full ↦ subst (λ (b : Bool). IsReady (with_made r (if b then Some r.made else None))) (sym (le-ltb r.made r.threads full)) h
+pub ready-with_made : (r : ReadyView) (rank : ℕ) → IsReady r → IsReady (with_made r rank (next_made r))
+ready-with_made r rank h = elim (cases_lt r.made r.threads) [
+  | inl more ↦ subst (λ (b : Bool). IsReady (with_made r rank (if b then Some r.made else None))) (sym (lt-ltb r.made r.threads more)) (record { locks = h.locks; processors = h.processors; made = omega arith; threads = h.threads; below = h.below; once = h.once })
+  | inr full ↦ subst (λ (b : Bool). IsReady (with_made r rank (if b then Some r.made else None))) (sym (le-ltb r.made r.threads full)) h
 ]
 
 -- new lists
@@ -115,17 +161,17 @@ count-replicate t (suc n) =
     let more : count_in_all t (replicate (suc n) []) ≡ 0 + count_in_all t (replicate n []) = sum_by-cons (count_in t) [] (replicate n []) in
     let rest = count-replicate t n in omega arith
 
-pub ready-no_threads : (processors threads : ℕ) → processors ≤ MAX_PROCESSORS → threads ≤ MAX_THREADS → IsReady (no_threads processors threads)
-ready-no_threads processors threads few most =
-    let locks : length (replicate processors false) ≡ processors = length-replicate processors false in
-    let lists : length (replicate processors (let none : List ℕ = [] in none)) ≡ processors = length-replicate processors [] in
+pub ready-no_threads : (count : ℕ) (ranks : Ranks) (threads : ℕ) → count ≤ MAX_PROCESSORS → threads ≤ MAX_THREADS → IsReady (no_threads count ranks threads)
+ready-no_threads count ranks threads few most =
+    let locks : length (replicate count false) ≡ count = length-replicate count false in
+    let lists : length (replicate count (let none : List ℕ = [] in none)) ≡ count = length-replicate count [] in
     record {
       locks = locks ∙ sym lists;
       processors = omega arith;
       made = omega arith;
       threads = most;
-      below = λ t listed. let c = count-replicate t processors in absurd (omega arith);
-      once = λ t. let c = count-replicate t processors in omega arith;
+      below = λ t listed. let c = count-replicate t count in absurd (omega arith);
+      once = λ t. let c = count-replicate t count in omega arith;
     }
 
 -- a thread stands in one list

@@ -1,1 +1,3 @@
 pub mod ReadyView
+pub mod RankSet
+pub mod Chains

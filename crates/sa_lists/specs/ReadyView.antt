@@ -1,23 +1,38 @@
--- The ready lists of a space, one for each processor, as callers see them.
-use Rattle.std.specs.Prelude.{◌≡◌, ℕ, ◌+◌, ◌-◌, ◌≤◌, ◌<◌, Bool, true, false, not, ◌&&◌, nat_lt, if◌then◌else◌, List, [], ◌∷◌, ◌++◌, length, take, drop, replicate, sum_by, find, Option, Some, None, slice_get, slice_index_or, slice_set}
+-- The ready lists of a space, as callers see them.
+use Rattle.std.specs.Prelude.{◌≡◌, ℕ, ◌+◌, ◌-◌, ◌≤◌, ◌<◌, Bool, true, false, not, ◌&&◌, nat_lt, if◌then◌else◌, List, [], ◌∷◌, ◌++◌, length, take, drop, replicate, sum_by, find, Option, Some, None, slice_get, slice_index, slice_index_or, slice_set, ◌==◌, ◌⊎◌}
 use Rattle.std.specs.List.{range_with_len}
 use Rattle.sa_base.specs.declared.number.ProcNo.{ProcNo}
 use Rattle.sa_base.specs.declared.number.ThreadNo.{ThreadNo}
 use Rattle.sa_links.specs.Lists.{Lists, list_at, count_in_all}
 use Rattle.sa_base.specs.declared.limits.TheConstants.{MAX_PROCESSORS, MAX_THREADS}
+use Rattle.sa_lists.specs.declared.ranks.Ranks.{Ranks}
+use Rattle.sa_lists.specs.declared.ranks.Ranks.TheVariants.{One, Many}
 
 pub record ReadyView : Type 0 where
-  -- the numbers of the threads in each processor's list, the newest first
+  -- the numbers of the threads in each list: those of the greatest rank first, and of one rank the newest first
   pub lists : List (List ℕ)
   -- for each of these lists, whether its lock is held
   pub locked : List Bool
   -- how many threads were made, and how many can be
   pub made : ℕ
   pub threads : ℕ
+  -- the rank of each thread; where there is one rank this is empty, and each thread has rank 0
+  pub ranks : List ℕ
+
+-- the ranks of threads of which none was made
+abbrev pub opening_ranks : Ranks → ℕ → List ℕ
+opening_ranks One threads = []
+opening_ranks Many threads = replicate threads 0
 
 -- empty lists whose locks are free, and no thread made
-abbrev pub no_threads : ℕ → ℕ → ReadyView
-no_threads processors threads = record { lists = replicate processors []; locked = replicate processors false; made = 0; threads = threads }
+abbrev pub no_threads : ℕ → Ranks → ℕ → ReadyView
+no_threads count ranks threads = record {
+  lists = replicate count [];
+  locked = replicate count false;
+  made = 0;
+  threads = threads;
+  ranks = opening_ranks ranks threads;
+}
 
 -- the thread and the processor of a number
 abbrev pub thread : ℕ → ThreadNo
@@ -52,11 +67,21 @@ with_list r l xs = record r { lists = slice_set r.lists l xs }
 abbrev pub with_lock : ReadyView → ℕ → Bool → ReadyView
 with_lock r l held = record r { locked = slice_set r.locked l held }
 
--- t is the newest of list l
-abbrev pub pushed : ReadyView → ℕ → ℕ → ReadyView
-pushed r l t = with_list r l (t ∷ list_of r l)
+-- the rank of thread t
+abbrev pub rank_of : List ℕ → ℕ → ℕ
+rank_of ranks t = slice_index ranks t
 
--- the newest and the oldest thread of list l, and what is left without it
+-- a list with thread t too, which stands in front of the first that does not outrank it
+abbrev pub inserted : List ℕ → ℕ → List ℕ → List ℕ
+inserted ranks t [] = t ∷ []
+inserted ranks t (x ∷ xs) =
+    if nat_lt (rank_of ranks t) (rank_of ranks x) then x ∷ inserted ranks t xs else t ∷ x ∷ xs
+
+-- thread t is in list l too: the newest of its rank
+abbrev pub pushed : ReadyView → ℕ → ℕ → ReadyView
+pushed r l t = with_list r l (inserted r.ranks t (list_of r l))
+
+-- the first and the last thread of list l, the newest and the oldest where there is one rank, and what is left without it
 abbrev pub newest : ReadyView → ℕ → Option ℕ
 newest r l = slice_get (list_of r l) 0
 
@@ -85,13 +110,25 @@ sought r p = find (is_open r) (numbers_round (length r.lists) p)
 abbrev pub steps_round : ℕ → ℕ → ℕ → ℕ
 steps_round n p q = if nat_lt q p then n - p + q else q - p
 
--- the next thread to make, where there is one, and r once it is made
+-- the list that counts as a processor's own: its own, or the only one
+abbrev pub home : ReadyView → ℕ → ℕ
+home r p = if length r.lists == 1 then 0 else p
+
+-- there are lists for so many processors: one for each, or one for all
+abbrev pub AreListsFor : ℕ → ℕ → Type 0
+AreListsFor processors count = (count ≡ processors) ⊎ (count ≡ 1)
+
+-- the next thread to make, where there is one, and r once it is made with that rank; a thread that stands in a list
+-- before it is made keeps the rank with which it was put there
 abbrev pub next_made : ReadyView → Option ℕ
 next_made r = if nat_lt r.made r.threads then Some r.made else None
 
-abbrev pub with_made : ReadyView → Option ℕ → ReadyView
-with_made r None = r
-with_made r (Some t) = record r { made = t + 1 }
+abbrev pub with_rank : ReadyView → ℕ → ℕ → List ℕ
+with_rank r t rank = if count_in_all t r.lists == 0 then slice_set r.ranks t rank else r.ranks
+
+abbrev pub with_made : ReadyView → ℕ → Option ℕ → ReadyView
+with_made r rank None = r
+with_made r rank (Some t) = record r { made = t + 1; ranks = with_rank r t rank }
 
 -- what holds of all ready lists, those that `no_threads` begins and the changes above lead to
 pub record IsReady (r : ReadyView) : Type 0 where
@@ -103,7 +140,7 @@ pub record IsReady (r : ReadyView) : Type 0 where
   pub below : (t : ℕ) → 1 ≤ count_in_all t r.lists → t < r.threads
   pub once : (t : ℕ) → count_in_all t r.lists ≤ 1
 
--- how a `ReadyLists` stores them
+-- how a `ReadyLists` stores them: lists of so many nodes, the locks, and how many threads are ready and made
 pub record IsStored (links : Lists) (locked : List Bool) (ready made threads : ℕ) : Type 0 where
   pub nodes : links.nodes ≡ threads
   pub counted : ready ≡ sum_by length links.lists

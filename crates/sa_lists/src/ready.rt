@@ -3,20 +3,22 @@ ghost use Rattle.std.specs.Prelude.{◌≡◌, ◌<◌, ◌≤◌, ◌-◌, ◌�
 ghost use Rattle.std.specs.Bool.{OnFalse};
 ghost use Rattle.std.specs.List.{range_with_len};
 ghost use Rattle.std.specs.Option.{option_map};
-ghost use Rattle.sa_lists.specs.ReadyView.{no_threads, thread, processor, list_of, ready_count, is_locked, IsLocked, IsUnlisted, with_lock, pushed, newest, without_newest, oldest, without_oldest, is_open, sought, next_made, with_made, IsReady};
+ghost use Rattle.sa_lists.specs.ReadyView.{no_threads, thread, processor, list_of, ready_count, is_locked, IsLocked, IsUnlisted, with_lock, pushed, newest, without_newest, oldest, without_oldest, is_open, sought, next_made, with_made, home, IsReady};
 
+use crate::ranked::RankedLists;
+use crate::ranks::{MAX_RANKS, Ranks};
 use sa_base::{MAX_PROCESSORS, MAX_THREADS, ProcNo, ThreadNo};
-use sa_links::Links;
 use std::alloc::{AllocError, Global};
 use std::marker::Model;
 
-/// The ready lists of a space, one for each processor, and the numbers of the threads that were made.
+/// The ready lists of a space, and the numbers of the threads that were made.
 ///
-/// A thread stands in at most one list. Each list has a lock, which whoever changes the list holds.
+/// A thread stands in at most one list. In a list the threads of the greatest rank come first, and of one rank the newest.
+/// Each list has a lock, which whoever changes the list holds. Every call takes constant time, for any number of ready
+/// threads, but for `seek`, which looks at each list.
 #[derive(Debug, Drop)]
 pub struct ReadyLists {
-    // the newest thread of each list is in front
-    links: Links,
+    lists: RankedLists,
     locked: Vec<bool>,
     // how many threads stand in the lists
     ready: u32,
@@ -30,25 +32,36 @@ impl Model for ReadyLists {
 
     ghost Value = { ReadyView };
 
-    ghost view = { λ r. record { lists = r.links.lists; locked = r.locked.items; made = r.made; threads = r.threads } };
+    ghost view = { λ r. record {
+      lists = r.lists.lists.lists;
+      locked = r.locked.items;
+      made = r.made;
+      threads = r.threads;
+      ranks = r.lists.ranks;
+    } };
 
-    ghost invariant = { λ r. IsStored r.links r.locked.items r.ready r.made r.threads };
+    ghost invariant = { λ r. IsStored r.lists.lists r.locked.items r.ready r.made r.threads };
 }
 
 impl ReadyLists {
-    /// Empty lists for 1 to 16 processors, all locks free, and control blocks for 1 to 512 threads. Fails only
-    /// where memory runs out.
-    pub fn new(alloc: Global, processors: u16, threads: u16) -> Result<ReadyLists, AllocError>
-        requires some { 1 ≤ processors }
-        requires processors { processors ≤ MAX_PROCESSORS }
+    /// So many empty lists, 1 to 16, all locks free, for threads of one rank or of many, and control blocks for 1 to 512
+    /// threads. Fails only where memory runs out.
+    pub fn new(
+        alloc: Global,
+        lists: u16,
+        ranks: Ranks,
+        threads: u16,
+    ) -> Result<ReadyLists, AllocError>
+        requires some { 1 ≤ lists }
+        requires lists { lists ≤ MAX_PROCESSORS }
         requires one { 1 ≤ threads }
         requires threads { threads ≤ MAX_THREADS }
-        ensures { IfOk result (λ r. r ≡ no_threads processors threads) }
+        ensures { IfOk result (λ r. r ≡ no_threads lists ranks threads) }
     {
-        let links = Links::new(alloc, u32::from(threads), u32::from(processors))?;
-        let locked = vec![in alloc; false; usize::from(processors)]?;
+        let locked = vec![in alloc; false; usize::from(lists)]?;
+        let lists = RankedLists::new(alloc, lists, ranks, threads)?;
         Ok(ReadyLists {
-            links,
+            lists,
             locked,
             ready: 0,
             made: 0,
@@ -56,7 +69,7 @@ impl ReadyLists {
         })
     }
 
-    /// Puts a thread that stands in no list into the locked list `p`, as its newest.
+    /// Puts a thread that stands in no list into the locked list `p`, as the newest of its rank.
     pub fn push(&mut self, p: ProcNo, t: ThreadNo)
         requires list { p.0 < length self.old.lists }
         requires thread { t.0 < self.old.threads }
@@ -64,31 +77,32 @@ impl ReadyLists {
         requires unlisted { IsUnlisted self.old t.0 }
         ensures { self.new ≡ pushed self.old p.0 t.0 }
     {
-        self.links.are_apart();
-        self.links.push_front(u32::from(p.0), u32::from(t.0));
+        self.lists.are_apart();
+        self.lists.push(p.0, t.0);
         self.ready += 1;
     }
 
-    /// Takes the newest thread out of the locked list `p`: `None` exactly where the list is empty.
+    /// Takes the first thread out of the locked list `p`, the newest of the greatest rank: `None` exactly where the list is
+    /// empty.
     pub fn pop_own(&mut self, p: ProcNo) -> Option<ThreadNo>
         requires list { p.0 < length self.old.lists }
         requires locked { IsLocked self.old p.0 }
         ensures newest { result ≡ option_map thread (newest self.old p.0) }
         ensures lists { self.new ≡ without_newest self.old p.0 }
     {
-        let thread = self.links.pop_front(u32::from(p.0))?;
+        let thread = self.lists.pop_first(p.0)?;
         self.ready -= 1;
         Some(ThreadNo(thread as u16))
     }
 
-    /// Takes the oldest thread out of the locked list `q`: `None` exactly where the list is empty.
+    /// Takes the last thread out of the locked list `q`, the oldest of the least rank: `None` exactly where the list is empty.
     pub fn take_from(&mut self, q: ProcNo) -> Option<ThreadNo>
         requires list { q.0 < length self.old.lists }
         requires locked { IsLocked self.old q.0 }
         ensures oldest { result ≡ option_map thread (oldest self.old q.0) }
         ensures lists { self.new ≡ without_oldest self.old q.0 }
     {
-        let thread = self.links.pop_back(u32::from(q.0))?;
+        let thread = self.lists.pop_last(q.0)?;
         self.ready -= 1;
         Some(ThreadNo(thread as u16))
     }
@@ -149,7 +163,7 @@ impl ReadyLists {
         requires { list < length self.now.lists }
         ensures { result ≡ is_open self.now list }
     {
-        !self.locked[usize::from(list)] && !self.links.is_empty(u32::from(list))
+        !self.locked[usize::from(list)] && !self.lists.is_empty(list)
     }
 
     /// How many threads stand in the lists. It takes constant time.
@@ -159,25 +173,36 @@ impl ReadyLists {
         self.ready
     }
 
-    /// Makes the next thread, whose number is the least that was not made: `None` exactly where as many
-    /// threads were made as there can be.
-    pub fn make(&mut self) -> Option<ThreadNo>
+    /// Makes the next thread, whose number is the least that was not made, with a rank, 0 to 255; where there is one rank
+    /// it has that one. `None` exactly where as many threads were made as there can be.
+    pub fn make(&mut self, rank: u16) -> Option<ThreadNo>
+        requires { rank < MAX_RANKS }
         ensures thread { result ≡ option_map thread (next_made self.old) }
-        ensures made { self.new ≡ with_made self.old (next_made self.old) }
+        ensures made { self.new ≡ with_made self.old rank (next_made self.old) }
     {
         if self.made == self.threads {
             return None;
         }
         let thread = ThreadNo(self.made);
+        if self.lists.is_free(thread.0) {
+            self.lists.set_rank(thread.0, rank);
+        }
         self.made += 1;
         Some(thread)
     }
 
-    /// How many lists there are, one for each processor: 1 to 16.
-    pub fn processors(&self) -> u16
+    /// How many lists there are: 1 to 16.
+    pub fn count(&self) -> u16
         ensures { result ≡ length self.now.lists }
     {
         self.locked.len() as u16
+    }
+
+    /// The list that counts as that of processor `p`: its own, or the only one.
+    pub fn home(&self, p: ProcNo) -> ProcNo
+        ensures { result ≡ processor (home self.now p.0) }
+    {
+        if self.count() == 1 { ProcNo(0) } else { p }
     }
 
     /// How many threads there can be: 1 to 512.
@@ -207,7 +232,7 @@ impl ReadyLists {
         requires { l.0 < length self.now.lists }
         ensures { IsTrue result ↔ (list_of self.now l.0 ≡ []) }
     {
-        self.links.is_empty(u32::from(l.0))
+        self.lists.is_empty(l.0)
     }
 
     /// Whether a thread stands in no list.
@@ -215,14 +240,14 @@ impl ReadyLists {
         requires { t.0 < self.now.threads }
         ensures { IsTrue result ↔ IsUnlisted self.now t.0 }
     {
-        self.links.is_free(u32::from(t.0))
+        self.lists.is_free(t.0)
     }
 
     /// Says what holds of all ready lists: above all, that a thread stands in at most one of them, and once.
     pub fn are_apart(&self)
         ensures { IsReady self.now }
     {
-        self.links.are_apart();
+        self.lists.are_apart();
         let _ = &self.locked;
     }
 }

@@ -1,0 +1,69 @@
+use Rattle.std.proofs.Common.{drop, slice_get, slice_set, sym, ap, ◌∙◌}
+use Rattle.sa_links.specs.Lists.{list_at, with_list}
+use Rattle.sa_lists.specs.Chains.{width_of, joined, chains_of}
+use Rattle.sa_lists.proofs.Storage.{inside, has-small, empty, first-is, popped-stored, popped-value, same-without, fewer-drop}
+use Rattle.sa_lists.proofs.ranked.RankedLists.pop_first.Goals as goal
+
+pub greatest-requires : goal.greatest-requires
+greatest-requires c =
+    let s = c.self.inside in
+    inside s.kind s.chains s.filled.items s.ranks.items c.self.invariant c.args.self.now c.self.view_is c.args.list c.requires
+
+pub returns-in_err-rank-clause-first : goal.returns-in_err-rank-clause-first
+returns-in_err-rank-clause-first c =
+    let s = c.self.inside in
+    let now = c.args.self.now in
+    let l = c.args.list in
+    let here = inside s.kind s.chains s.filled.items s.ranks.items c.self.invariant now c.self.view_is l c.requires in
+    let none = empty s.kind s.chains s.filled.items s.ranks.items c.self.invariant now c.self.view_is l here c.in_err-rank.ensures in
+    c.from_residual.ensures ∙ sym (ap (λ xs. slice_get xs 0) none)
+
+pub returns-in_err-rank-clause-lists : goal.returns-in_err-rank-clause-lists
+returns-in_err-rank-clause-lists c =
+    let s = c.self.inside in
+    let now = c.args.self.now in
+    let l = c.args.list in
+    let here = inside s.kind s.chains s.filled.items s.ranks.items c.self.invariant now c.self.view_is l c.requires in
+    let none = empty s.kind s.chains s.filled.items s.ranks.items c.self.invariant now c.self.view_is l here c.in_err-rank.ensures in
+    same-without now l (drop 1 (list_at now.lists.lists l)) (ap (λ xs. drop 1 xs) none ∙ sym none)
+
+pub invariant_of-self : goal.invariant_of-self
+invariant_of-self c =
+    let s = c.self.inside in
+    let now = c.args.self.now in
+    let l = c.args.list in
+    let here = inside s.kind s.chains s.filled.items s.ranks.items c.self.invariant now c.self.view_is l c.requires in
+    let found = c.in_ok-rank.ensures in
+    let chain = list_at s.chains.lists c.chain_of-chain.result in
+    popped-stored s.kind s.chains s.filled.items s.ranks.items c.self.invariant now c.self.view_is l here c.in_ok-rank.rank
+    (has-small s.kind s.chains s.filled.items s.ranks.items c.self.invariant now c.self.view_is l here c.in_ok-rank.rank found.1)
+    (drop 1 chain) c.pop_front-thread.new.self c.chain_of-chain.result c.chain_of-chain.ensures
+    (λ t. fewer-drop t (1) chain) c.pop_front-thread.ensures.lists
+    c.is_empty-has_more.result c.is_empty-has_more.ensures c.note.new.filled.items c.note.ensures
+
+pub returns-clause-first : goal.returns-clause-first
+returns-clause-first c =
+    let s = c.self.inside in
+    let now = c.args.self.now in
+    let l = c.args.list in
+    let here = inside s.kind s.chains s.filled.items s.ranks.items c.self.invariant now c.self.view_is l c.requires in
+    let is = first-is s.kind s.chains s.filled.items s.ranks.items c.self.invariant now c.self.view_is l here c.in_ok-rank.rank c.in_ok-rank.ensures in
+    c.pop_front-thread.ensures.first ∙ ap (λ n. let xs = list_at s.chains.lists n in slice_get xs 0) c.chain_of-chain.ensures ∙ sym is.0
+
+pub returns-clause-lists : goal.returns-clause-lists
+returns-clause-lists c =
+    let s = c.self.inside in
+    let now = c.args.self.now in
+    let l = c.args.list in
+    let here = inside s.kind s.chains s.filled.items s.ranks.items c.self.invariant now c.self.view_is l c.requires in
+    let found = c.in_ok-rank.ensures in
+    let chain = list_at s.chains.lists c.chain_of-chain.result in
+    let is = first-is s.kind s.chains s.filled.items s.ranks.items c.self.invariant now c.self.view_is l here c.in_ok-rank.rank found in
+    let same = ap (λ n. let xs = list_at s.chains.lists n in drop 1 xs) c.chain_of-chain.ensures in
+    popped-value s.kind s.chains s.filled.items s.ranks.items c.self.invariant now c.self.view_is l here c.in_ok-rank.rank
+    (has-small s.kind s.chains s.filled.items s.ranks.items c.self.invariant now c.self.view_is l here c.in_ok-rank.rank found.1)
+    (drop 1 chain) c.pop_front-thread.new.self c.chain_of-chain.result c.chain_of-chain.ensures
+    (λ t. fewer-drop t (1) chain) c.pop_front-thread.ensures.lists
+    c.is_empty-has_more.result c.is_empty-has_more.ensures c.note.new.filled.items c.note.ensures
+    ∙ ap (λ xs. record now { lists = with_list now.lists l xs })
+    (ap (λ xs. joined (slice_set (chains_of s.chains.lists (width_of s.kind) l) c.in_ok-rank.rank xs)) same ∙ sym is.1)
