@@ -48,7 +48,7 @@ two_holders = record {
   shared = record {
     state = record {
       space = record { 0 = 0 };
-      lists = record { lists = [] ∷ [] ∷ []; locked = true ∷ true ∷ []; made = 5; threads = 5 };
+      lists = record { lists = [] ∷ [] ∷ []; locked = true ∷ true ∷ []; made = 5; threads = 5; ranks = [] };
       holders = Some (thread 1) ∷ Some (thread 2) ∷ [];
       code = package_ops;
     };

@@ -1,7 +1,7 @@
 // The opening of a space.
 ghost use Rattle.std.specs.Prelude.{◌≡◌, ◌≤◌, IfOk};
 ghost use Rattle.sa_abstract.specs.Setting.{Setting, IsSetting};
-ghost use Rattle.sa_package_model.specs.Step.{started, opened};
+ghost use Rattle.sa_package_model.specs.Step.{started, started_with, opened};
 
 use crate::package::FastThreads;
 use sa_base::{MAX_PROCESSORS, MAX_THREADS, ProcNo, SpaceNo, ThreadNo};
@@ -9,16 +9,16 @@ use sa_code::{MAX_LISTS, PackageState, routines};
 use sa_copies::make_copies;
 use sa_fast::{Block, Place, Shared, Threads, WorkLists};
 use sa_instr::Regs;
-use sa_lists::ReadyLists;
+use sa_lists::{Ranks, ReadyLists};
 use sa_package_model::Package;
 use sa_spaces::SpaceDef;
 use sa_sync::SyncState;
 use std::alloc::{AllocError, Global};
 
 impl FastThreads {
-    /// The package of a space at its opening: thread 0 is ready in list 0, and all locks are free. The space has so many
-    /// processors at most, 1 to 16, and the fetch of a page takes `fetch` events, 1 to 1,000. Fails only where memory
-    /// runs out; no other call can fail so.
+    /// FastThreads of a space at its opening: there is a ready list for each processor, thread 0 is ready in list 0, and
+    /// all locks are free. The space has so many processors at most, 1 to 16, and the fetch of a page takes `fetch` events,
+    /// 1 to 1,000. Fails only where memory runs out; no other call can fail so.
     pub fn start(
         alloc: Global,
         space: SpaceNo,
@@ -34,6 +34,27 @@ impl FastThreads {
           fetch = fetch;
         } in IfOk result (λ user. user ≡ started setting) }
     {
+        FastThreads::start_with(alloc, Ranks::One, space, def, processors, fetch)
+    }
+
+    /// The same over lists of one rank, one for each processor, or over one list of many ranks, in which a thread has the
+    /// rank of its program's number.
+    pub fn start_with(
+        alloc: Global,
+        ranks: Ranks,
+        space: SpaceNo,
+        def: SpaceDef,
+        processors: u16,
+        fetch: u32,
+    ) -> Result<FastThreads, AllocError>
+        requires { IsSetting (record { space = space; def = def; processors = processors; fetch = fetch }) }
+        ensures { let setting : Setting = record {
+          space = space;
+          def = def;
+          processors = processors;
+          fetch = fetch;
+        } in IfOk result (λ user. user ≡ started_with ranks setting) }
+    {
         let sync = SyncState::new(alloc, &def)?;
         let mut threads = Threads::new(alloc)?;
         threads.set(
@@ -47,7 +68,7 @@ impl FastThreads {
         );
         let state = PackageState {
             space,
-            lists: open_lists(alloc, processors)?,
+            lists: open_lists(alloc, ranks, processors)?,
             holders: [None; MAX_LISTS],
             code: make_copies(&routines()),
         };
@@ -68,13 +89,17 @@ impl FastThreads {
 }
 
 // The ready lists of a space at its opening.
-fn open_lists(alloc: Global, processors: u16) -> Result<ReadyLists, AllocError>
+fn open_lists(alloc: Global, ranks: Ranks, processors: u16) -> Result<ReadyLists, AllocError>
     requires some { 1 ≤ processors }
     requires few { processors ≤ MAX_PROCESSORS }
-    ensures { IfOk result (λ lists. lists ≡ opened processors) }
+    ensures { IfOk result (λ lists. lists ≡ opened ranks processors) }
 {
-    let mut lists = ReadyLists::new(alloc, processors, MAX_THREADS)?;
-    let _ = lists.make();
+    let count = match ranks {
+        Ranks::One => processors,
+        Ranks::Many => 1,
+    };
+    let mut lists = ReadyLists::new(alloc, count, ranks, MAX_THREADS)?;
+    let _ = lists.make(0);
     let _ = lists.try_lock(ProcNo(0));
     lists.push(ProcNo(0), ThreadNo(0));
     lists.unlock(ProcNo(0));

@@ -9,7 +9,7 @@ ghost use Rattle.sa_fast.specs.Work.{IsWork};
 ghost use Rattle.sa_fast.specs.Instruction.{CanRun};
 ghost use Rattle.sa_package_model.specs.Conditions.{CanBeDue, CanCode, CanStep, CanWork, IsThread};
 ghost use Rattle.sa_package_model.specs.Context.{carried_by};
-ghost use Rattle.sa_package_model.specs.Rules.{Steps, moved_by, goes_on, coded, continued, pushing, used, is_idle, popping, looked, with_shared};
+ghost use Rattle.sa_package_model.specs.Rules.{own_list, Steps, moved_by, goes_on, coded, continued, pushing, used, is_idle, popping, looked, with_shared};
 ghost use Rattle.sa_package_model.specs.Step.{resettled, stepped, stepped_at, worked};
 
 use crate::package::FastThreads;
@@ -82,7 +82,7 @@ impl FastThreads {
     fn do_work(&mut self, seen: &Seen, ctx: &mut Context, trace: &mut Trace) -> Step
         requires code { self.old.shared.state.code ≡ package_ops }
         requires threads { self.old.shared.state.lists.threads ≡ MAX_THREADS }
-        requires proc { seen.now.proc.0 < length self.old.shared.state.lists.lists }
+        requires proc { (own_list self.old seen.now.proc).0 < length self.old.shared.state.lists.lists }
         requires work { IsWork self.old.shared.works ctx.old.work }
         requires can { CanWork self.old ctx.old (carried_by ctx.old.state) }
         requires room { 1 ≤ trace.old.spare }
@@ -125,6 +125,13 @@ impl FastThreads {
         Step::Did
     }
 
+    // The list that counts as a processor's own.
+    fn own_list(&self, p: ProcNo) -> ProcNo
+        ensures { result ≡ own_list self.now p }
+    {
+        self.package.shared.state.lists.home(p)
+    }
+
     // The take of the push of a thread on the list of the processor.
     fn begin_push(
         &mut self,
@@ -134,7 +141,7 @@ impl FastThreads {
         trace: &mut Trace,
     ) -> Step
         requires threads { self.old.shared.state.lists.threads ≡ MAX_THREADS }
-        requires proc { seen.now.proc.0 < length self.old.shared.state.lists.lists }
+        requires proc { (own_list self.old seen.now.proc).0 < length self.old.shared.state.lists.lists }
         requires first { ctx.old.work ≡ Some first }
         requires work { IsWork self.old.shared.works ctx.old.work }
         requires unlisted { ready.IsUnlisted self.old.shared.state.lists first.0 }
@@ -145,7 +152,7 @@ impl FastThreads {
     {
         let mut frame = Frame {
             pc: PUSH,
-            list: Some(seen.proc),
+            list: Some(self.own_list(seen.proc)),
             own: true,
             pushed: Some(first),
             thread: ctx.state.thread(),
@@ -197,13 +204,14 @@ impl FastThreads {
 
     // A look at the ready lists.
     fn look(&mut self, seen: &Seen, ctx: &mut Context, looks: u16, trace: &mut Trace) -> Step
-        requires proc { seen.now.proc.0 < length self.old.shared.state.lists.lists }
+        requires proc { (own_list self.old seen.now.proc).0 < length self.old.shared.state.lists.lists }
         requires code { self.old.shared.state.code ≡ package_ops }
         requires few { looks ≤ 1000 }
         requires room { 1 ≤ trace.old.spare }
         ensures { Steps (looked self.old seen.now ctx.old looks) seen.now trace.old self.new ctx.new result trace.new }
     {
-        if let Some(list) = self.package.shared.state.lists.seek(seen.proc) {
+        let own = self.own_list(seen.proc);
+        if let Some(list) = self.package.shared.state.lists.seek(own) {
             return self.begin_pop(seen, ctx, list, trace);
         }
         if self.is_idle(seen, looks) {
@@ -236,7 +244,7 @@ impl FastThreads {
         let mut frame = Frame {
             pc: POP,
             list: Some(list),
-            own: list.0 == seen.proc.0,
+            own: list.0 == self.own_list(seen.proc).0,
             pushed: None,
             thread: None,
         };

@@ -9,6 +9,7 @@ use Rattle.sa_base.specs.declared.record.Note.TheVariants.{Add, Preempted, Block
 use Rattle.sa_abstract.specs.Setting.{Setting}
 use Rattle.sa_abstract.specs.Calls.{Contexts}
 use Rattle.sa_abstract.specs.Keeps.{IsSeen, IsHandedOver, IsHanded, GoesOn}
+use Rattle.sa_lists.proofs.Changes.{home-inside}
 use Rattle.sa_fast.specs.Instruction.{CanRun}
 use Rattle.sa_fast.specs.Rest.{one_if, one_of}
 use Rattle.sa_package_model.specs.declared.context.Context.{Context}
@@ -50,7 +51,7 @@ module _ (s : Setting) (e : ℕ) (u : Package) (cs : Contexts Context) (h : IsSt
     step_can seen sees = record {
       code = h.code;
       threads = h.parts.threads;
-      proc = let lists = h.parts.lists in let processors = h.made.processors in omega arith;
+      proc = home-inside u.shared.state.lists u.processors seen.proc.0 h.parts.lists (let processors = h.made.processors in omega arith);
       work = own_work s e u cs h a c is;
       acts = acts c.state refl;
     }

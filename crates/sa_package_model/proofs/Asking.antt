@@ -38,7 +38,7 @@ use Rattle.sa_package_model.specs.declared.package.Package.{Package}
 use Rattle.sa_package_model.specs.Context.{carried_by, settled_to, is_left, has_bulk}
 use Rattle.sa_package_model.specs.Conditions.{CanAct, CanStep}
 use Rattle.sa_package_model.specs.Laws.{IsMadeFor}
-use Rattle.sa_package_model.specs.Rules.{owed, load, coded_by, pushing_by, used_by, popping_by, is_idle, looked_by, push_of, pop_of}
+use Rattle.sa_package_model.specs.Rules.{owed, load, coded_by, pushing_by, used_by, popping_by, is_idle, looked_by, own_list, push_of, pop_of}
 use Rattle.sa_package_model.specs.Step.{worked, hinted, if_owed, if_bulk, resettled, stepped_at, stepped}
 use Rattle.sa_package_model.proofs.Settled.{can-resettled}
 
@@ -130,7 +130,7 @@ module _ (s : Setting) (u : Package) (seen : Seen) (made : IsMadeFor s u) where
 
   worked_asks : (c : Context) (f : Option Frame) (first : Option ThreadNo) → IsAsked s seen (worked u seen c f first).answer
   worked_asks c (Some f) first = tt
-  worked_asks c None (Some first) = let m = micro u.shared.state (push_of seen.proc first (carried_by c.state)) seen.pages in pushing_asks c first m m.done
+  worked_asks c None (Some first) = let m = micro u.shared.state (push_of (own_list u seen.proc) first (carried_by c.state)) seen.pages in pushing_asks c first m m.done
   worked_asks c None None = tt
 
   hinted_asks : (c : Context) (more : Option ℕ) → owed u seen ≡ more → IsAsked s seen (hinted u c more).answer
@@ -143,7 +143,7 @@ module _ (s : Setting) (u : Package) (seen : Seen) (made : IsMadeFor s u) where
   used_asks v c t (Blocks length page) says h = h
 
   looked_asks : (c : Context) (looks : ℕ) (idle : Bool) (l : Option ℕ) → is_idle u seen looks ≡ idle → IsAsked s seen (looked_by u seen c looks idle l).answer
-  looked_asks c looks idle (Some l) e = let m = micro u.shared.state (pop_of seen.proc l) seen.pages in popping_asks c m m.done
+  looked_asks c looks idle (Some l) e = let m = micro u.shared.state (pop_of (own_list u seen.proc) l) seen.pages in popping_asks c m m.done
   looked_asks c looks true None e = idle_fits seen.demand (load u) u.def.patience looks e
   looked_asks c looks false None e = tt
 
@@ -183,7 +183,7 @@ module _ (s : Setting) (u : Package) (seen : Seen) (made : IsMadeFor s u) where
   asks_at c (User t) bulk act =
       let b = block_at u.shared.threads t.0 in
       used_asks _ _ t _ _ (blocks u.fetch seen.pages u.shared c.work t b (instr_of u.def b) some_fetch few_fetch (in_range u.def b (subst IsSpace (sym made.def) made.setting.def) act.at))
-  asks_at c (Look looks) bulk act = looked_asks c looks (is_idle u seen looks) (sought u.shared.state.lists seen.proc.0) refl
+  asks_at c (Look looks) bulk act = looked_asks c looks (is_idle u seen looks) (sought u.shared.state.lists (own_list u seen.proc).0) refl
 
   pub step-asks : (c : Context) → CanStep u seen c → IsAsked s seen (stepped u seen c).answer
   step-asks c can = let d = resettled u seen c c.state in asks_at d d.state (resettled_bulk c c.state refl) (can-resettled u seen c can).acts

@@ -8,8 +8,8 @@ use Rattle.sa_abstract.specs.Calls.{Contexts}
 use Rattle.sa_links.specs.Lists.{count_in, count_in_all}
 use Rattle.sa_links.proofs.Counting.{count_at}
 use Rattle.std.proofs.lemmas.Option.{same_Some}
-use Rattle.sa_lists.specs.ReadyView.{list_of, thread}
-use Rattle.sa_lists.proofs.Changes.{list_of-with_list_other, count-with_list}
+use Rattle.sa_lists.specs.ReadyView.{list_of, thread, inserted}
+use Rattle.sa_lists.proofs.Changes.{list_of-with_list_other, count-with_list, count-inserted}
 use Rattle.sa_code.specs.declared.code.Op.{Op}
 use Rattle.sa_code.specs.declared.code.Op.TheVariants.{TakePush, Push, TakePop, Pop, Free, Leave, Yield}
 use Rattle.sa_code.specs.declared.state.Frame.{Frame}
@@ -207,21 +207,24 @@ module _ (s : Setting) (e : ℕ) (u : Package) (cs : Contexts Context) (h : IsSt
                 (parts_state u.def u.processors e (list_in f).0 u.shared m.state h.parts sound (pushed-changes_only u.shared.state f true (list_in f) (Some t)));
             locks = λ y. omega (arith, section_locks new g copied.0 refl copied.1 y, locks_are k copy y);
             threads = λ y.
-                let all = count-with_list u.shared.state.lists (list_in f).0 y (t.0 ∷ list_of u.shared.state.lists (list_in f).0) (inside k copy) in
+                let all = count-with_list u.shared.state.lists (list_in f).0 y (inserted u.shared.state.lists.ranks t.0 (list_of u.shared.state.lists (list_in f).0)) (inside k copy) in
+                let more = count-inserted u.shared.state.lists.ranks t.0 y (list_of u.shared.state.lists (list_in f).0) in
                 let one = count_one y t.0 (list_of u.shared.state.lists (list_in f).0) in
                 let gone : one_of f.pushed y ≡ one_if t.0 y = ap (λ p. one_of p y) pushes in
                 omega (arith, section_threads new g copied.0 refl copied.1 u.shared.works y, threads_are k copy y);
             names = λ y. refl;
             works = λ y p q. refl;
-            lists = λ y none held. list_of-with_list_other u.shared.state.lists (list_in f).0 y (t.0 ∷ list_of u.shared.state.lists (list_in f).0) (apart_others k copy y none);
+            lists = λ y none held. list_of-with_list_other u.shared.state.lists (list_in f).0 y (inserted u.shared.state.lists.ranks t.0 (list_of u.shared.state.lists (list_in f).0)) (apart_others k copy y none);
             places = subst (λ p. (y : ℕ) → AgreesAt (placed (record u.shared { state = m.state }) p Ready) y) (sym pushes)
                 (agree_one (record u.shared { state = m.state }) t Ready (pushed_placeable.inside t pushes)
-                (let all = count-with_list u.shared.state.lists (list_in f).0 t.0 (t.0 ∷ list_of u.shared.state.lists (list_in f).0) (inside k copy) in
+                (let all = count-with_list u.shared.state.lists (list_in f).0 t.0 (inserted u.shared.state.lists.ranks t.0 (list_of u.shared.state.lists (list_in f).0)) (inside k copy) in
+                let more = count-inserted u.shared.state.lists.ranks t.0 t.0 (list_of u.shared.state.lists (list_in f).0) in
                 let one = count_one t.0 t.0 (list_of u.shared.state.lists (list_in f).0) in let same = one_same t.0 t.0 refl in
                 let none = own_rest s e u cs h a c is t.0 (own_pushed k copy t pushes) in
                 record { ready = omega arith; waiting = omega arith; ends = omega arith; new = omega arith })
                 (λ y ne.
-                let all = count-with_list u.shared.state.lists (list_in f).0 y (t.0 ∷ list_of u.shared.state.lists (list_in f).0) (inside k copy) in
+                let all = count-with_list u.shared.state.lists (list_in f).0 y (inserted u.shared.state.lists.ranks t.0 (list_of u.shared.state.lists (list_in f).0)) (inside k copy) in
+                let more = count-inserted u.shared.state.lists.ranks t.0 y (list_of u.shared.state.lists (list_in f).0) in
                 let one = count_one y t.0 (list_of u.shared.state.lists (list_in f).0) in let other = one_other t.0 y (λ q. ne (sym q)) in
                 let was = h.places y in
                 let ready = was.ready in
@@ -231,7 +234,7 @@ module _ (s : Setting) (e : ℕ) (u : Package) (cs : Contexts Context) (h : IsSt
             context = section_context new g copied.0 refl copied.1 m.state.lists
                 (subst (StandsAt g) (sym next) tt) (subst (Fits m.state.lists g) (sym next) (own.0, refl))
                 (sections_kept u.shared.state.lists m.state.lists c.sections
-                (λ y some. list_of-with_list_other u.shared.state.lists (list_in f).0 y (t.0 ∷ list_of u.shared.state.lists (list_in f).0) (apart_rest k copy y some)) (rest k copy));
+                (λ y some. list_of-with_list_other u.shared.state.lists (list_in f).0 y (inserted u.shared.state.lists.ranks t.0 (list_of u.shared.state.lists (list_in f).0)) (apart_rest k copy y some)) (rest k copy));
           } in
           subst (λ o. IsChange s e u (with_shared u x) (Some c) (goes_on (with_shared u x) seen c g o)) (sym now) done
 

@@ -7,7 +7,7 @@ use Rattle.sa_base.specs.declared.number.ThreadNo.{ThreadNo}
 use Rattle.sa_spaces.specs.Space.{SpaceView}
 use Rattle.sa_abstract.specs.Setting.{Setting}
 use Rattle.sa_links.specs.Lists.{count_in}
-use Rattle.sa_lists.specs.ReadyView.{ReadyView, list_of, is_locked, with_lock}
+use Rattle.sa_lists.specs.ReadyView.{AreListsFor, ReadyView, list_of, is_locked, with_lock}
 use Rattle.sa_lists.proofs.Changes.{is_locked-with_lock_same, is_locked-with_lock_other}
 use Rattle.sa_code.specs.declared.state.PackageState.{PackageState}
 use Rattle.sa_code.specs.Micro.{chosen, without_chosen}
@@ -80,7 +80,7 @@ parts_state def p e l x state h is only = record {
   works = h.works;
   counts = h.counts;
   blocks = h.blocks;
-  lists = only.lists ∙ h.lists;
+  lists = subst (AreListsFor p) (sym only.lists) h.lists;
   threads = only.most ∙ h.threads;
   at = λ n made. h.at n (subst (λ m. n < m) only.made made);
 }

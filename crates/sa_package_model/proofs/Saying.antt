@@ -29,7 +29,7 @@ use Rattle.sa_package_model.specs.declared.context.State.TheVariants.{Code, Work
 use Rattle.sa_package_model.specs.declared.package.Package.{Package}
 use Rattle.sa_package_model.specs.Context.{carried_by}
 use Rattle.sa_package_model.specs.Laws.{IsMadeFor}
-use Rattle.sa_package_model.specs.Rules.{owed, coded_by, pushing_by, used_by, popping_by, is_idle, looked_by, push_of, pop_of}
+use Rattle.sa_package_model.specs.Rules.{owed, coded_by, pushing_by, used_by, popping_by, is_idle, looked_by, own_list, push_of, pop_of}
 use Rattle.sa_package_model.specs.Step.{worked, hinted, resettled, stepped_at, stepped}
 
 module _ (s : Setting) (u : Package) (seen : Seen) (made : IsMadeFor s u) where
@@ -96,7 +96,7 @@ module _ (s : Setting) (u : Package) (seen : Seen) (made : IsMadeFor s u) where
   worked_own : (c : Context) (f : Option Frame) (first : Option ThreadNo) → Own (worked u seen c f first).says
   worked_own c (Some f) first = one _ made.space
   worked_own c None (Some first) =
-      let f = push_of seen.proc first (carried_by c.state) in let m = micro u.shared.state f seen.pages in pushing_own c first m m.done (micro_own f)
+      let f = push_of (own_list u seen.proc) first (carried_by c.state) in let m = micro u.shared.state f seen.pages in pushing_own c first m m.done (micro_own f)
   worked_own c None None = none
 
   hinted_own : (c : Context) (more : Option ℕ) → Own (hinted u c more).says
@@ -132,7 +132,7 @@ module _ (s : Setting) (u : Package) (seen : Seen) (made : IsMadeFor s u) where
   used_own v c t (Blocks length page) says h = h
 
   looked_own : (c : Context) (looks : ℕ) (idle : Bool) (l : Option ℕ) → Own (looked_by u seen c looks idle l).says
-  looked_own c looks idle (Some l) = let f = pop_of seen.proc l in let m = micro u.shared.state f seen.pages in popping_own c m m.done (micro_own f)
+  looked_own c looks idle (Some l) = let f = pop_of (own_list u seen.proc) l in let m = micro u.shared.state f seen.pages in popping_own c m m.done (micro_own f)
   looked_own c looks true None = none
   looked_own c looks false None = one _ tt
 
@@ -142,7 +142,7 @@ module _ (s : Setting) (u : Package) (seen : Seen) (made : IsMadeFor s u) where
   own_at c (Hint t) = hinted_own c (owed u seen)
   own_at c Return = none
   own_at c (User t) = let b = block_at u.shared.threads t.0 in used_own _ _ t _ _ (says_own t b (instr_of u.def b))
-  own_at c (Look looks) = looked_own c looks (is_idle u seen looks) (sought u.shared.state.lists seen.proc.0)
+  own_at c (Look looks) = looked_own c looks (is_idle u seen looks) (sought u.shared.state.lists (own_list u seen.proc).0)
 
   pub step-own : (c : Context) → Own (stepped u seen c).says
   step-own c = let d = resettled u seen c c.state in own_at d d.state

@@ -14,6 +14,7 @@ use Rattle.sa_abstract.specs.Keeps.{IsSeen, IsHandedOver, IsHanded, IsStepped, t
 use Rattle.sa_lemmas.specs.Function.{put}
 use Rattle.sa_lemmas.proofs.FunctionUpdates.{put-same, put-put, put-self}
 use Rattle.sa_lists.specs.ReadyView.{list_of, is_locked, sought}
+use Rattle.sa_lists.proofs.Changes.{home-inside}
 use Rattle.sa_lists.proofs.Rounds.{sought-first}
 use Rattle.sa_code.specs.declared.state.Frame.{Frame}
 use Rattle.sa_package_model.specs.declared.context.Context.{Context}
@@ -21,7 +22,7 @@ use Rattle.sa_package_model.specs.declared.context.State.{State}
 use Rattle.sa_package_model.specs.declared.context.State.TheVariants.{Code, Work, Hint, Return, User, Look}
 use Rattle.sa_package_model.specs.declared.package.Package.{Package}
 use Rattle.sa_package_model.specs.Context.{carried_by, section_in, has_bulk}
-use Rattle.sa_package_model.specs.Rules.{at_state, owed, took_over, looked_by, is_idle}
+use Rattle.sa_package_model.specs.Rules.{own_list, at_state, owed, took_over, looked_by, is_idle}
 use Rattle.sa_package_model.specs.Step.{told_of, told, worked, hinted, if_owed, if_bulk, resettled, stepped_at, stepped}
 use Rattle.sa_package_model.specs.Stands.{IsStanding}
 use Rattle.sa_package_model.proofs.Changing.{IsChange, still-change, change-stands, later-stands, join-stands}
@@ -70,8 +71,8 @@ module _ (s : Setting) (e : ℕ) (u : Package) (cs : Contexts Context) (h : IsSt
     abbrev Stands : Stepped Package Context → Type 0
     Stands r = IsStanding s seen.event r.user (put cs a (Some r.ctx))
 
-    proc_inside : seen.proc.0 < length u.shared.state.lists.lists
-    proc_inside = let lists = h.parts.lists in let processors = h.made.processors in omega arith
+    proc_inside : (own_list u seen.proc).0 < length u.shared.state.lists.lists
+    proc_inside = home-inside u.shared.state.lists u.processors seen.proc.0 h.parts.lists (let processors = h.made.processors in omega arith)
 
     unchanged : IsStanding s seen.event u (put cs a (Some c))
     unchanged = then_later seen.event u c (omega arith) stays
@@ -89,9 +90,9 @@ module _ (s : Setting) (e : ℕ) (u : Package) (cs : Contexts Context) (h : IsSt
     hint_stands t at (Some n) = unchanged
     hint_stands t at None = unchanged
 
-    look_stands : (looks : ℕ) → c.state ≡ Look looks → (idle : Bool) (l : Option ℕ) → sought u.shared.state.lists seen.proc.0 ≡ l → Stands (looked_by u seen c looks idle l)
+    look_stands : (looks : ℕ) → c.state ≡ Look looks → (idle : Bool) (l : Option ℕ) → sought u.shared.state.lists (own_list u seen.proc).0 ≡ l → Stands (looked_by u seen c looks idle l)
     look_stands looks at idle (Some l) found =
-        let first = sought-first u.shared.state.lists seen.proc.0 l proc_inside found in
+        let first = sought-first u.shared.state.lists (own_list u seen.proc).0 l proc_inside found in
         let some = open_filled (is_locked u.shared.state.lists l) (length (list_of u.shared.state.lists l)) first.here in
         then_later seen.event (looked_by u seen c looks idle (Some l)).user (looked_by u seen c looks idle (Some l)).ctx (omega arith)
         (popping-change s e u cs h a c is None (ap section_in at) (ap carried_by at) seen l first.inside some refl)
@@ -110,7 +111,7 @@ module _ (s : Setting) (e : ℕ) (u : Package) (cs : Contexts Context) (h : IsSt
     at_stands (User t) at =
         change-stands s e u cs h seen.event a (stepped_at u seen c (User t)).user (Some c) (stepped_at u seen c (User t)).ctx is
         (used-change s e u cs h a c is t at seen later)
-    at_stands (Look looks) at = look_stands looks at (is_idle u seen looks) (sought u.shared.state.lists seen.proc.0) refl
+    at_stands (Look looks) at = look_stands looks at (is_idle u seen looks) (sought u.shared.state.lists (own_list u seen.proc).0) refl
 
 -- A STEP
 module _ (s : Setting) (e : ℕ) (u : Package) (cs : Contexts Context) (a : ℕ) (c : Context) (seen : Seen) (h : IsStanding s e u cs) (is : cs a ≡ Some c) (sees : IsSeen s seen) (later : e < seen.event) where

@@ -29,7 +29,7 @@ use Rattle.sa_package_model.specs.declared.context.State.TheVariants.{Code}
 use Rattle.sa_package_model.specs.declared.package.Package.{Package}
 use Rattle.sa_package_model.specs.Context.{carried_by, section_in, is_left, has_bulk, settled_to}
 use Rattle.sa_package_model.specs.Conditions.{IsThread, CanBeDue, CanWork}
-use Rattle.sa_package_model.specs.Rules.{thread_alone, at_state, owed, settled, placed, put_last, continued, push_of, pushing_by, pushing, pop_of, popping_by, popping}
+use Rattle.sa_package_model.specs.Rules.{thread_alone, at_state, owed, settled, placed, put_last, continued, own_list, push_of, pushing_by, pushing, pop_of, popping_by, popping}
 use Rattle.sa_package_model.specs.Hands.{carried_of, locks_in, locks_of, threads_in, threads_of}
 use Rattle.sa_package_model.specs.Stands.{Fits, IsSection, AreSections, StandsAt, IsContext, IsStanding}
 use Rattle.sa_package_model.proofs.Changing.{IsChange, sections_kept, still-change}
@@ -184,15 +184,15 @@ module _ (s : Setting) (e : ℕ) (u : Package) (cs : Contexts Context) (h : IsSt
       },
     )
 
-  pub pushing-change : (seen : Seen) (first : ThreadNo) → seen.proc.0 < length u.shared.state.lists.lists → c.work ≡ Some first
+  pub pushing-change : (seen : Seen) (first : ThreadNo) → (own_list u seen.proc).0 < length u.shared.state.lists.lists → c.work ≡ Some first
       → IsChange s e u (pushing u seen c first).user (Some c) (pushing u seen c first).ctx
   pushing-change seen first inside work =
-      let f = push_of seen.proc first (carried_by c.state) in
+      let f = push_of (own_list u seen.proc) first (carried_by c.state) in
       let resident = is_resident seen.pages PACKAGE_PAGE in
       let op : slice_get u.shared.state.code 0 ≡ Some TakePush = ap (λ ops. slice_get ops 0) h.code in
-      let sound = micro-package u.shared.state f seen.pages h.parts.state (subst (CanDo u.shared.state f) (sym op) (push_can seen.proc inside first work)) in
-      subst (λ o. let m = micro_at u.shared.state f resident seen.proc o in IsPackage m.state → IsChange s e u (pushing_by u c first m m.done).user (Some c) (pushing_by u c first m m.done).ctx)
-      (sym op) (pushing_taken seen.proc inside first work (is_locked u.shared.state.lists seen.proc.0) refl) sound
+      let sound = micro-package u.shared.state f seen.pages h.parts.state (subst (CanDo u.shared.state f) (sym op) (push_can (own_list u seen.proc) inside first work)) in
+      subst (λ o. let m = micro_at u.shared.state f resident (own_list u seen.proc) o in IsPackage m.state → IsChange s e u (pushing_by u c first m m.done).user (Some c) (pushing_by u c first m m.done).ctx)
+      (sym op) (pushing_taken (own_list u seen.proc) inside first work (is_locked u.shared.state.lists (own_list u seen.proc).0) refl) sound
 
   -- another state in no section, which carries the same
   pub between-change : (state : State) → IsBetween state t → IsChange s e u u (Some c) (at_state c state)
@@ -258,10 +258,10 @@ module _ (s : Setting) (e : ℕ) (u : Package) (cs : Contexts Context) (h : IsSt
   pub popping-change : (seen : Seen) (l : ℕ) → l < length u.shared.state.lists.lists → 0 < length (list_of u.shared.state.lists l) → t ≡ None
       → IsChange s e u (popping u seen c l).user (Some c) (popping u seen c l).ctx
   popping-change seen l inside some nothing =
-      let f = pop_of seen.proc l in
+      let f = pop_of (own_list u seen.proc) l in
       let resident = is_resident seen.pages PACKAGE_PAGE in
       let op : slice_get u.shared.state.code 4 ≡ Some TakePop = ap (λ ops. slice_get ops 4) h.code in
       let has : HasList u.shared.state f = record { there = refl; inside = inside } in
       let sound = micro-package u.shared.state f seen.pages h.parts.state (subst (CanDo u.shared.state f) (sym op) has) in
       subst (λ o. let m = micro_at u.shared.state f resident (processor l) o in IsPackage m.state → IsChange s e u (popping_by u c m m.done).user (Some c) (popping_by u c m m.done).ctx)
-      (sym op) (popping_taken seen.proc l inside some nothing (is_locked u.shared.state.lists l) refl) sound
+      (sym op) (popping_taken (own_list u seen.proc) l inside some nothing (is_locked u.shared.state.lists l) refl) sound

@@ -20,6 +20,7 @@ use Rattle.sa_package_model.specs.declared.context.State.{State}
 use Rattle.sa_package_model.specs.declared.context.State.TheVariants.{Code, Work, Hint, Return, User, Look}
 use Rattle.sa_package_model.specs.declared.package.Package.{Package}
 use Rattle.sa_package_model.specs.Context.{carried_by, section_in, before_all}
+use Rattle.sa_package_model.specs.Rules.{own_list}
 
 -- a thread of the space, if there is one
 abbrev pub IsThread : Option ThreadNo → Type 0
@@ -59,7 +60,7 @@ CanAct u c (Look looks) = looks ≤ 1000
 pub record CanStep (u : Package) (seen : Seen) (c : Context) : Type 0 where
   pub code : u.shared.state.code ≡ package_ops
   pub threads : u.shared.state.lists.threads ≡ MAX_THREADS
-  pub proc : seen.proc.0 < length u.shared.state.lists.lists
+  pub proc : (own_list u seen.proc).0 < length u.shared.state.lists.lists
   pub work : IsWork u.shared.works c.work
   pub acts : CanAct u c c.state
 

@@ -12,7 +12,7 @@ use Rattle.sa_instr.specs.declared.limits.TheConstants.{MAX_PATIENCE}
 use Rattle.sa_abstract.specs.declared.answer.Step.{Step}
 use Rattle.sa_abstract.specs.declared.answer.Step.TheVariants.{Did, Block, Idle}
 use Rattle.sa_abstract.specs.Calls.{Stepped}
-use Rattle.sa_lists.specs.ReadyView.{processor, sought}
+use Rattle.sa_lists.specs.ReadyView.{processor, home, sought}
 use Rattle.sa_code.specs.declared.code.Op.{Op}
 use Rattle.sa_code.specs.declared.code.Op.TheVariants.{Push, Pop, Leave}
 use Rattle.sa_code.specs.declared.state.PackageState.{PackageState}
@@ -144,6 +144,10 @@ continuing p f =
 abbrev pub continued : Package → Context → Frame → Stepped Package Context
 continued u c f = continuing (put_last u c (carried_by c.state)) f
 
+-- the list that counts as the processor's own
+abbrev pub own_list : Package → ProcNo → ProcNo
+own_list u p = processor (home u.shared.state.lists p.0)
+
 -- work: the take of the push of thread first on the processor's list; it spins where that is locked
 abbrev pub push_of : ProcNo → ThreadNo → Option ThreadNo → Frame
 push_of p first t = record { pc = 0; list = Some p; own = true; pushed = Some first; thread = t }
@@ -156,7 +160,7 @@ pushing_by u c first m _ = did (pair (with_package u m.state) c) m.says
 
 abbrev pub pushing : Package → Seen → Context → ThreadNo → Stepped Package Context
 pushing u seen c first =
-    let m = micro u.shared.state (push_of seen.proc first (carried_by c.state)) seen.pages in pushing_by u c first m m.done
+    let m = micro u.shared.state (push_of (own_list u seen.proc) first (carried_by c.state)) seen.pages in pushing_by u c first m m.done
 
 -- user: one instruction
 abbrev pub stays_user : Package → Seen → Context → ThreadNo → Option ThreadNo → Context
@@ -183,7 +187,7 @@ popping_by u c m micros.Did = did (pair (with_package u m.state) (at_state c (Co
 popping_by u c m _ = did (pair (with_package u m.state) c) m.says
 
 abbrev pub popping : Package → Seen → Context → ℕ → Stepped Package Context
-popping u seen c l = let m = micro u.shared.state (pop_of seen.proc l) seen.pages in popping_by u c m m.done
+popping u seen c l = let m = micro u.shared.state (pop_of (own_list u seen.proc) l) seen.pages in popping_by u c m m.done
 
 abbrev pub is_idle : Package → Seen → ℕ → Bool
 is_idle u seen looks = nat_le u.def.patience looks && idle_owed seen.demand (load u)
@@ -194,7 +198,7 @@ looked_by u seen c looks true None = asks (pair u c) Idle
 looked_by u seen c looks false None = did (pair u (at_state c (Look (min (looks + 1) MAX_PATIENCE)))) (IdleRecord ∷ [])
 
 abbrev pub looked : Package → Seen → Context → ℕ → Stepped Package Context
-looked u seen c looks = looked_by u seen c looks (is_idle u seen looks) (sought u.shared.state.lists seen.proc.0)
+looked u seen c looks = looked_by u seen c looks (is_idle u seen looks) (sought u.shared.state.lists (own_list u seen.proc).0)
 
 -- value, context, answer and trace are what the step makes of them
 pub record Steps (s : Stepped Package Context) (seen : Seen) (old : Recorded) (u : Package) (c : Context) (answer : Step) (new : Recorded) : Type 0 where

@@ -17,6 +17,8 @@ use Rattle.sa_abstract.specs.declared.answer.Tally.{Tally}
 use Rattle.sa_abstract.specs.Setting.{Setting}
 use Rattle.sa_abstract.specs.Calls.{Calls, Stepped, Gone}
 use Rattle.sa_abstract.specs.Walk.{Spot, after_many, ins_records, program_at}
+use Rattle.sa_lists.specs.declared.ranks.Ranks.{Ranks}
+use Rattle.sa_lists.specs.declared.ranks.Ranks.TheVariants.{One, Many}
 use Rattle.sa_lists.specs.ReadyView.{ReadyView, no_threads, with_lock, with_made, pushed}
 use Rattle.sa_code.specs.declared.state.Frame.{Frame}
 use Rattle.sa_code.specs.Micro.{list_in}
@@ -34,23 +36,33 @@ use Rattle.sa_package_model.specs.declared.package.Package.{Package}
 use Rattle.sa_package_model.specs.Context.{fresh, carried_by, stands_idle, stands_between, stands_inside, before_all, has_bulk}
 use Rattle.sa_package_model.specs.Rules.{Pair, pair, with_shared, owed, settled, took_over, did, asks, coded, continued, pushing, used, looked}
 
--- the opening: thread 0 is ready in list 0, and all locks are free
-abbrev pub opened : ℕ → ReadyView
-opened processors =
-    with_lock (pushed (with_lock (with_made (no_threads processors MAX_THREADS) (Some 0)) 0 true) 0 0) 0 false
+-- the ready lists: one for each processor, or one for all where threads have ranks
+abbrev pub lists_for : Ranks → ℕ → ℕ
+lists_for One processors = processors
+lists_for Many processors = 1
 
-abbrev pub started : Setting → Package
-started s = record {
+-- the opening: thread 0, of program 0, is ready in list 0, and all locks are free
+abbrev pub opened : Ranks → ℕ → ReadyView
+opened ranks processors =
+    let unmade = no_threads (lists_for ranks processors) ranks MAX_THREADS in
+    with_lock (pushed (with_lock (with_made unmade 0 (Some 0)) 0 true) 0 0) 0 false
+
+abbrev pub started_with : Ranks → Setting → Package
+started_with ranks s = record {
   def = s.def;
   processors = s.processors;
   fetch = s.fetch;
   shared = record {
-    state = record (package_begun s.space package_ops s.processors MAX_THREADS) { lists = opened s.processors };
+    state = record (package_begun s.space package_ops (lists_for ranks s.processors) ranks MAX_THREADS) { lists = opened ranks s.processors };
     sync = opening s.def;
     threads = with_block (replicate MAX_THREADS unmade) 0 (at_start 0 Ready);
     works = replicate MAX_THREADS [];
   };
 }
+
+-- FastThreads has one rank
+abbrev pub started : Setting → Package
+started s = started_with One s
 
 -- a fresh activation
 abbrev pub begun : Package → Seen → Package × Context

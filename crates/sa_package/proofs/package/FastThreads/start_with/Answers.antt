@@ -3,6 +3,7 @@ use Rattle.sa_base.specs.declared.number.SpaceNo.{SpaceNo}
 use Rattle.sa_base.specs.declared.limits.TheConstants.{MAX_THREADS}
 use Rattle.sa_spaces.specs.Space.{SpaceView}
 use Rattle.sa_sync.specs.Sync.{Sync, opening}
+use Rattle.sa_lists.specs.declared.ranks.Ranks.TheVariants.{One}
 use Rattle.sa_lists.specs.ReadyView.{ReadyView}
 use Rattle.sa_code.specs.declared.code.Op.{Op}
 use Rattle.sa_code.specs.Changes.{begun}
@@ -12,7 +13,7 @@ use Rattle.sa_fast.specs.declared.threads.Place.TheVariants.{Ready}
 use Rattle.sa_fast.specs.Threads.{unmade, at_start, with_block, gone_to}
 use Rattle.sa_package_model.specs.declared.package.Package.{Package}
 use Rattle.sa_package_model.specs.Step.{opened}
-use Rattle.sa_package.proofs.package.FastThreads.start.Goals as goal
+use Rattle.sa_package.proofs.package.FastThreads.start_with.Goals as goal
 
 -- the package of its parts
 abbrev built : SpaceNo → ℕ → ℕ → SpaceView → ReadyView → List Op → Sync → List Block → List (List ℕ) → Package
@@ -21,7 +22,7 @@ built space processors fetch def lists code sync threads works = record {
   processors = processors;
   fetch = fetch;
   shared = record {
-    state = record (begun space code processors MAX_THREADS) { lists = lists };
+    state = record (begun space code 0 One MAX_THREADS) { lists = lists };
     sync = sync;
     threads = threads;
     works = works;
@@ -37,7 +38,7 @@ alike space processors fetch d e l m c b s r t u w v def lists code sync threads
 pub returns : goal.returns
 returns c =
     let a = c.args in
-    alike a.space a.processors a.fetch _ a.def _ (opened a.processors) _ package_ops _ (opening a.def) _ (with_block (replicate MAX_THREADS unmade) 0 (at_start 0 Ready)) _ (replicate MAX_THREADS [])
+    alike a.space a.processors a.fetch _ a.def _ (opened a.ranks a.processors) _ package_ops _ (opening a.def) _ (with_block (replicate MAX_THREADS unmade) 0 (at_start 0 Ready)) _ (replicate MAX_THREADS [])
     c.def.view_is c.in_ok-open_lists.ensures (c.make_copies.ensures ∙ ap with_copies c.routines.ensures) (c.sync.view_is ∙ c.in_ok-sync.ensures)
     (c.threads.view_is ∙ c.set.ensures ∙ ap (λ xs. with_block xs 0 (gone_to (at_start 0 Ready) 0 c.zero.result)) c.in_ok-threads.ensures ∙ ap (λ z. with_block (replicate MAX_THREADS unmade) 0 (gone_to (at_start 0 Ready) 0 z)) c.zero.ensures)
     c.in_ok-new.ensures
