@@ -169,15 +169,35 @@ module _ {C : Type 0} where
   pub held-for : (s : ℕ) (x : Option (Act C)) (h : IsKeptOf s x) → held_of x ≡ Some h.stopped
   held-for s x h = ap held_of h.is ∙ h.holds
 
-  handed-acts : (o : Option (Stopped C)) (h : Stopped C) (a : ActNo) (k : State C) → o ≡ Some h → (handed_by o a k).acts ≡ put k.acts a.0 (taken_from (k.acts a.0))
+  pub handed-acts : (o : Option (Stopped C)) (h : Stopped C) (a : ActNo) (k : State C) → o ≡ Some h → (handed_by o a k).acts ≡ put k.acts a.0 (taken_from (k.acts a.0))
   handed-acts None h a k e = absurd cc
   handed-acts (Some x) h a k e = refl
 
-  handed-lives : (o : Option (Stopped C)) (a : ActNo) (k : State C) → ((handed_by o a k).lives ≡ k.lives) × ((handed_by o a k).demands ≡ k.demands) × ((handed_by o a k).telling ≡ k.telling) × ((handed_by o a k).assign ≡ k.assign)
+  pub handed-lives : (o : Option (Stopped C)) (a : ActNo) (k : State C) → ((handed_by o a k).lives ≡ k.lives) × ((handed_by o a k).demands ≡ k.demands) × ((handed_by o a k).telling ≡ k.telling) × ((handed_by o a k).assign ≡ k.assign)
   handed-lives None a k = (refl, refl, refl, refl)
   handed-lives (Some x) a k = (refl, refl, refl, refl)
 
 module _ {U C : Type 0} (f : Calls U C) (stands : Standing U C) (keep : Keeps f stands) where
+  -- the contexts behind a notice that hands over the one of activation b: it is gone, and that of the running life is c
+  pub contexts-given : (e : ℕ) (m : Machine U C) (p : ProcNo) (s : SpaceNo) (b : ℕ) (c : C) → Stands stands e m → (here : IsAt f stands keep m p s) → IsKeptOf s.0 (m.kernel.acts b)
+      → ((i : ℕ) → put (put (contexts_of m s.0) here.act.0 (Some c)) b None i
+      ≡ contexts_in m.kernel.lives (put m.kernel.acts b (taken_from (m.kernel.acts b))) (slice_set m.contexts p.0 (Some c)) s.0 i)
+      × ((t : ℕ) → t ≢ s.0 → (i : ℕ) → contexts_of m t i
+      ≡ contexts_in m.kernel.lives (put m.kernel.acts b (taken_from (m.kernel.acts b))) (slice_set m.contexts p.0 (Some c)) t i)
+  contexts-given e m p s b c st here kept =
+      let j = m.kernel in
+      let cs : List (Option C) = slice_set m.contexts p.0 (Some c) in
+      let size : length m.contexts ≡ length j.lives = st.contexts ∙ sym st.lives in
+      let runs : RunsOn j.assign.owners j.lives j.acts p.0 here.act s = (st.sound.formed.lives, here.life, here.runs) in
+      let is_held : IsHeld j.assign.owners j.lives j.acts cs b kept.act kept.stopped = record { alive = st.sound.formed.lives; is = kept.is; holds = kept.holds } in
+      let given : ℕ → Option (Act C) = put j.acts b (taken_from (j.acts b)) in (
+        λ i. ap (λ (x : Contexts C). put x b None i) (fun_ext (contexts-put j.assign.owners j.lives j.acts m.contexts p.0 here.act s runs size here.within c))
+            ∙ subst (λ (n : ℕ). put (contexts_in j.lives j.acts cs n) b None i ≡ contexts_in j.lives given cs n i) kept.space
+            (contexts-hand j.assign.owners j.lives j.acts cs b kept.act kept.stopped is_held i),
+        λ t apart i. contexts-put_kept j.assign.owners j.lives j.acts m.contexts p.0 here.act s runs (Some c) t apart i
+            ∙ contexts-hand_kept j.assign.owners j.lives j.acts cs b kept.act kept.stopped is_held t (λ q. apart (q ∙ kept.space)) i,
+      )
+
   -- a context of another activation is handed over with a notice
   stands-handed : (e : ℕ) (m : Machine U C) (p : ProcNo) (s : SpaceNo) (k : State C) (b : ℕ) (v : U) (c : C) → Stands stands e m → (here : IsAt f stands keep m p s)
       → (kept : IsKeptOf s.0 (m.kernel.acts b)) → IsSound k → k.lives ≡ m.kernel.lives → k.acts ≡ put m.kernel.acts b (taken_from (m.kernel.acts b)) → k.demands ≡ m.kernel.demands
@@ -187,16 +207,9 @@ module _ {U C : Type 0} (f : Calls U C) (stands : Standing U C) (keep : Keeps f 
       let j = m.kernel in
       let cs : List (Option C) = slice_set m.contexts p.0 (Some c) in
       let size : length m.contexts ≡ length j.lives = st.contexts ∙ sym st.lives in
-      let runs : RunsOn j.assign.owners j.lives j.acts p.0 here.act s = (st.sound.formed.lives, here.life, here.runs) in
-      let is_held : IsHeld j.assign.owners j.lives j.acts cs b kept.act kept.stopped = record { alive = st.sound.formed.lives; is = kept.is; holds = kept.holds } in
       let given : ℕ → Option (Act C) = put j.acts b (taken_from (j.acts b)) in
-      let own : put (put (contexts_of m s.0) here.act.0 (Some c)) b None ≡ contexts_in j.lives given cs s.0 =
-      ap (λ (x : Contexts C). put x b None) (fun_ext (contexts-put j.assign.owners j.lives j.acts m.contexts p.0 here.act s runs size here.within c))
-      ∙ fun_ext (subst (λ (n : ℕ). (i : ℕ) → put (contexts_in j.lives j.acts cs n) b None i ≡ contexts_in j.lives given cs n i) kept.space
-      (contexts-hand j.assign.owners j.lives j.acts cs b kept.act kept.stopped is_held)) in
-      let others : (t : ℕ) → t ≢ s.0 → (i : ℕ) → contexts_of m t i ≡ contexts_in j.lives given cs t i =
-      λ t apart i. contexts-put_kept j.assign.owners j.lives j.acts m.contexts p.0 here.act s runs (Some c) t apart i
-      ∙ contexts-hand_kept j.assign.owners j.lives j.acts cs b kept.act kept.stopped is_held t (λ q. apart (q ∙ kept.space)) i in
+      let both = contexts-given e m p s b c st here kept in
+      let own : put (put (contexts_of m s.0) here.act.0 (Some c)) b None ≡ contexts_in j.lives given cs s.0 = fun_ext both.0 in
       record {
         workload = st.workload;
         sound = sound;
@@ -211,7 +224,7 @@ module _ {U C : Type 0} (f : Calls U C) (stands : Standing U C) (keep : Keeps f 
             (values-put stands m.workload e m.users s.0 v (contexts_of m) (contexts_in j.lives given cs)
             (λ def of. subst (λ (d : SpaceView). stands (setting m.workload s.0 d) e v (contexts_in j.lives given cs s.0)) (same_Some here.def def (sym here.is_def ∙ of))
             (subst (λ (x : Contexts C). stands (setting m.workload s.0 here.def) e v x) own new))
-            others st.values);
+            both.1 st.values);
       }
 
   over-next : (e : ℕ) (m : Machine U C) (p : ProcNo) (s : SpaceNo) (b : ActNo) → Stands stands e m → (here : IsAt f stands keep m p s)
@@ -245,7 +258,7 @@ module _ {U C : Type 0} (f : Calls U C) (stands : Standing U C) (keep : Keeps f 
     pub owner : owner_of m.kernel p ≡ Some s
     pub telling : m.kernel.telling ≡ notes
 
-  called-is : (call : U → C → U × C) (p : ProcNo) (s : SpaceNo) (m n : Machine U C) (u : U) (c : C) → user_of m s ≡ Some u → context_on m p ≡ Some c
+  pub called-is : (call : U → C → U × C) (p : ProcNo) (s : SpaceNo) (m n : Machine U C) (u : U) (c : C) → user_of m s ≡ Some u → context_on m p ≡ Some c
       → called_by call p s (user_of m s) (context_on m p) n ≡ with_pair p s (call u c).0 (call u c).1 n
   called-is call p s m n u c user ctx = rw (user, ctx) refl
 

@@ -46,7 +46,7 @@ none-before e g (io ∷ ios) below none =
     rw h.0 (none-before e g ios below h.1)
 
 -- no slice ends before the last of n events
-whole-slice : (n slice event : ℕ) (b : Bool) → (slice == 0) ≡ b → (if b then n else min n (slice - event % slice)) ≡ n → (k : ℕ) → 1 ≤ k → k < n
+pub whole-slice : (n slice event : ℕ) (b : Bool) → (slice == 0) ≡ b → (if b then n else min n (slice - event % slice)) ≡ n → (k : ℕ) → 1 ≤ k → k < n
     → (not b && ((event + k) % slice == 0)) ≡ false
 whole-slice n slice event true zero_is fits k some below = refl
 whole-slice n slice event false zero_is fits k some below =
@@ -81,7 +81,7 @@ set-again [] i a b = refl
 set-again (x ∷ xs) zero a b = refl
 set-again (x ∷ xs) (suc i) a b = ap (λ ys. x ∷ ys) (set-again xs i a b)
 
-get-set : {A : Type 0} (xs : List A) (i : ℕ) (a x : A) → slice_get xs i ≡ Some x → slice_get (slice_set xs i a) i ≡ Some a
+pub get-set : {A : Type 0} (xs : List A) (i : ℕ) (a x : A) → slice_get xs i ≡ Some x → slice_get (slice_set xs i a) i ≡ Some a
 get-set [] i a x at = absurd cc
 get-set (y ∷ xs) zero a x at = refl
 get-set (y ∷ xs) (suc i) a x at = get-set xs i a x at

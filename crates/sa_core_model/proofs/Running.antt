@@ -38,10 +38,10 @@ life-is n (Some b) e = ap (λ k. Some (record { 0 = k })) (eq-true b.0 n e)
 not-life : (n : ℕ) (o : Option ActNo) → (o ≡ Some (record { 0 = n }) → ⊥) → is_life n o ≡ false
 not-life n o apart = elim (bool-cases (is_life n o)) [ inl t ↦ absurd (apart (life-is n o t)) | inr f ↦ f ]
 
-contains-head : {A : Type 0} (a : A) (list : List A) → Contains (a ∷ list) a
+pub contains-head : {A : Type 0} (a : A) (list : List A) → Contains (a ∷ list) a
 contains-head a list = (0, omega arith, refl)
 
-contains-tail : {A : Type 0} (a : A) (list : List A) (b : A) → Contains list b → Contains (a ∷ list) b
+pub contains-tail : {A : Type 0} (a : A) (list : List A) (b : A) → Contains list b → Contains (a ∷ list) b
 contains-tail a list b has = (suc has.0, (let h = has.1 in omega arith), has.2)
 
 module _ {C : Type 0} where

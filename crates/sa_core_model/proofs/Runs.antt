@@ -99,7 +99,7 @@ module _ {U C : Type 0} (f : Calls U C) (stands : Standing U C) (keep : Keeps f 
   length-started w o [] = refl
   length-started w o (def ∷ defs) = ap suc (length-started w (o + 1) defs)
 
-  started-at : (w : WorkloadView) (o i : ℕ) (defs : List SpaceView) (u : U) (def : SpaceView) → slice_get (started_from f w o defs) i ≡ Some u → slice_get defs i ≡ Some def
+  pub started-at : (w : WorkloadView) (o i : ℕ) (defs : List SpaceView) (u : U) (def : SpaceView) → slice_get (started_from f w o defs) i ≡ Some u → slice_get defs i ≡ Some def
       → u ≡ f.started (setting w (o + i) def)
   started-at w o i [] u def at of = absurd cc
   started-at w o zero (d ∷ defs) u def at of =
@@ -112,7 +112,7 @@ module _ {U C : Type 0} (f : Calls U C) (stands : Standing U C) (keep : Keeps f 
   at-all : {A : Type 0} (P : A → Type 0) (xs : List A) (i : ℕ) (x : A) → slice_get xs i ≡ Some x → All P xs → P x
   at-all P xs i x at all = subst P (get_or_from_slice_get xs i x x at) (all i x (slice_get_within xs i x at))
 
-  is-setting : (w : WorkloadView) (s : ℕ) (def : SpaceView) → IsWorkload w → slice_get w.spaces s ≡ Some def → IsSetting (setting w s def)
+  pub is-setting : (w : WorkloadView) (s : ℕ) (def : SpaceView) → IsWorkload w → slice_get w.spaces s ≡ Some def → IsSetting (setting w s def)
   is-setting w s def ok of = record {
     def = at-all IsSpace w.spaces s def of ok.spaces;
     some_processor = ok.some_processor;

@@ -163,12 +163,11 @@ module _ {U C : Type 0} (f : Calls U C) (stands : Standing U C) (keep : Keeps f 
       }
 
   -- .. by which activations are given back
-  none-taken : (e : ℕ) (m : Machine U C) (s : SpaceNo) → Stands stands e m → (a : ActNo) → Contains (taken_of m.kernel s.0) a → (t : ℕ) → contexts_of m t a.0 ≡ None
-  none-taken e m s st a has t =
-      let k = m.kernel in
-      let taken = st.sound.formed.taken s.0 a has in
-      let idle = running-none k.lives m.contexts a.0 (rests k.assign.owners k.lives k.acts a.0 st.sound.formed.lives (λ u is. both taken.here u (sym taken.is ∙ is) taken.taken)) in
-      ap (λ (x : Option (Act C)). context_in t x (running k.lives m.contexts a.0)) taken.is
+  pub none-taken : (k : State C) (contexts : List (Option C)) (s : SpaceNo) → IsSound k → (a : ActNo) → Contains (taken_of k s.0) a → (t : ℕ) → contexts_in k.lives k.acts contexts t a.0 ≡ None
+  none-taken k contexts s sound a has t =
+      let taken = sound.formed.taken s.0 a has in
+      let idle = running-none k.lives contexts a.0 (rests k.assign.owners k.lives k.acts a.0 sound.formed.lives (λ u is. both taken.here u (sym taken.is ∙ is) taken.taken)) in
+      ap (λ (x : Option (Act C)). context_in t x (running k.lives contexts a.0)) taken.is
       ∙ ap (context_in t (Some taken.here)) idle
       ∙ nothing taken.here taken.none_held t
     where
@@ -195,7 +194,7 @@ module _ {U C : Type 0} (f : Calls U C) (stands : Standing U C) (keep : Keeps f 
         standing = stands-emptied f stands keep e m y.state y.items rest.standing (sound-after e m p n GiveBackEntry rest.standing rest.fetched within fit unused)
             (close.lives ∙ ap (λ (z : Scene C). z.state.lives) gave)
             (close.demands ∙ ap (λ (z : Scene C). length z.state.demands) gave)
-            (λ t b. contexts-back k.lives m.contexts (taken_of k s.0) k.acts (none-taken e m s rest.standing) t b
+            (λ t b. contexts-back k.lives m.contexts (taken_of k s.0) k.acts (none-taken k m.contexts s rest.standing.sound) t b
             ∙ ap (λ (fs : ℕ → Option (Act C)). contexts_in k.lives fs m.contexts t b) (sym acts));
         fetched = close.telling ∙ ap (λ (z : Scene C). z.state.telling) gave ∙ rest.fetched;
         workload = rest.workload;
@@ -499,21 +498,21 @@ module _ {U C : Type 0} (f : Calls U C) (stands : Standing U C) (keep : Keeps f 
       rests-entered w e g m p n (Complete io) rest within (record { here = here.0; under_way = here.1; low = low }) unused
       (same-over m.event p io (kind_at io.0 m.kernel.under_way) (scene_of m))
 
-  -- a turn, in an event that has begun
+  -- what rests in an event rests on its steps
+  pub rests-later : (w : WorkloadView) (e g : ℕ) (m : Machine U C) → e ≤ g → Rests w e g m → Rests w g g m
+  rests-later w e g m later rest = record {
+    standing = stands-later f stands keep e g m later rest.standing;
+    fetched = rest.fetched;
+    workload = rest.workload;
+    event = rest.event;
+  }
 
+  -- a turn, in an event that has begun
   rests-owned : (w : WorkloadView) (e g : ℕ) (m : Machine U C) (p : ProcNo) (n : ActNo) (o : Option SpaceNo) → Rests w e g m → e < m.event → m.event ≤ MAX_EVENTS
       → line_of m.kernel p ≡ None → m.kernel.acts n.0 ≡ None → owner_of m.kernel p ≡ o → Rests w g g (turned_owned f p n o m)
   rests-owned w e g m p n None rest later few low unused owner =
       let done = rests-sliced w e g (ticked p m) p (rests-ticked w e g m p rest) in
       rests-later w e g (sliced p (ticked p m)) (omega (arith, later, rest.event)) done
-    where
-      rests-later : (w : WorkloadView) (e g : ℕ) (m : Machine U C) → e ≤ g → Rests w e g m → Rests w g g m
-      rests-later w e g m later rest = record {
-        standing = stands-later f stands keep e g m later rest.standing;
-        fetched = rest.fetched;
-        workload = rest.workload;
-        event = rest.event;
-      }
   rests-owned w e g m p n (Some s) rest later few low unused owner =
       let here = at-owned f stands keep e m p s rest.standing owner in
       let r = f.stepped here.user (seen_on m p s) here.ctx in
@@ -525,14 +524,6 @@ module _ {U C : Type 0} (f : Calls U C) (stands : Standing U C) (keep : Keeps f 
       subst (λ (z : Machine U C × Step). Rests w g g (asked f p n z.1 z.0)) (sym (stepped-is m p s here))
       (rests-asked w g after p n s (seen_on m p s) r.answer done there refl low unused
       (subst (λ d. IsAsked (setting m.workload s.0 d) (seen_on m p s) r.answer) (sym same) law.asked))
-
-  rests-later : (w : WorkloadView) (e g : ℕ) (m : Machine U C) → e ≤ g → Rests w e g m → Rests w g g m
-  rests-later w e g m later rest = record {
-    standing = stands-later f stands keep e g m later rest.standing;
-    fetched = rest.fetched;
-    workload = rest.workload;
-    event = rest.event;
-  }
 
   rests-turned_due : (w : WorkloadView) (e g : ℕ) (m : Machine U C) (p : ProcNo) (n : ActNo) (o : Option IoNo) → Rests w e g m → e < m.event → m.event ≤ MAX_EVENTS
       → p.0 < length m.kernel.lives → line_of m.kernel p ≡ None → m.kernel.acts n.0 ≡ None → option_map io_no (due_of m.event m.kernel.under_way) ≡ o → Rests w g g (turned_due f p n o m)

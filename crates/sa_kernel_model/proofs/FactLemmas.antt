@@ -51,12 +51,12 @@ all-low : (l : Option ℕ) → is_some l ≡ false → l ≡ None
 all-low None h = refl
 all-low (Some e) h = absurd cc
 
-false-unless : (b : Bool) → (b ≡ true → ⊥) → b ≡ false
+pub false-unless : (b : Bool) → (b ≡ true → ⊥) → b ≡ false
 false-unless true h = absurd (h refl)
 false-unless false h = refl
 
 -- a test that some number passes
-not-found : (n : ℕ) (test : ℕ → Bool) → ((p : ℕ) → p < n → test p ≡ false) → is_some (least_below n test) ≡ false
+pub not-found : (n : ℕ) (test : ℕ → Bool) → ((p : ℕ) → p < n → test p ≡ false) → is_some (least_below n test) ≡ false
 not-found n test all = go (least_below n test) refl
   where
     go : (o : Option ℕ) → o ≡ least_below n test → is_some (least_below n test) ≡ false
@@ -78,7 +78,7 @@ none-passes test xs x none has =
     different : true ≡ false → ⊥
     different e = cc
 
-pass-none : {A : Type 0} (test : A → Bool) (xs : List A) → ((x : A) → Contains xs x → test x ≡ false) → list_any test xs ≡ false
+pub pass-none : {A : Type 0} (test : A → Bool) (xs : List A) → ((x : A) → Contains xs x → test x ≡ false) → list_any test xs ≡ false
 pass-none test [] all = refl
 pass-none test (x ∷ xs) all =
     either (test x) (list_any test xs) (all x (0, omega arith, refl)) (pass-none test xs (λ y has. all y (suc has.0, (let h = has.1 in omega arith), has.2)))

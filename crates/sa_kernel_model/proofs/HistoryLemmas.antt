@@ -45,18 +45,18 @@ use Rattle.sa_kernel_model.proofs.RunLemmas.{all-at-opening}
 use Rattle.sa_kernel_model.proofs.CallLemmas.{entries-go-on, slices-go-on}
 
 -- one event more
-items_of-push : (es : List Event) (e : Event) → items_of (es ++ e ∷ []) ≡ items_of es ++ items_at e.number e.proc e.records
+pub items_of-push : (es : List Event) (e : Event) → items_of (es ++ e ∷ []) ≡ items_of es ++ items_at e.number e.proc e.records
 items_of-push [] e = append-nil (items_at e.number e.proc e.records)
 items_of-push (x ∷ es) e =
     ap (λ (xs : List Item). items_at x.number x.proc x.records ++ xs) (items_of-push es e)
     ∙ sym (append_assoc (items_at x.number x.proc x.records) (items_of es) (items_at e.number e.proc e.records))
 
-after_events-push : (test : Test) (w : WorkloadView) (r : Readings) (es : List Event) (e : Event)
+pub after_events-push : (test : Test) (w : WorkloadView) (r : Readings) (es : List Event) (e : Event)
     → after_events test w r (es ++ e ∷ []) ≡ after_event test w (after_events test w r es) e
 after_events-push test w r [] e = refl
 after_events-push test w r (x ∷ es) e = after_events-push test w (after_event test w r x) es e
 
-hold-push : (test : Test) (w : WorkloadView) (r : Readings) (es : List Event) (e : Event)
+pub hold-push : (test : Test) (w : WorkloadView) (r : Readings) (es : List Event) (e : Event)
     → AllHoldFrom test w r es → AllHold test w (after_events test w r es) e → AllHoldFrom test w r (es ++ e ∷ [])
 hold-push test w r [] e past here = (here, tt)
 hold-push test w r (x ∷ es) e past here = (past.0, hold-push test w (after_event test w r x) es e past.1 here)

@@ -28,7 +28,7 @@ none-own : (cl : List Record) → AreClosing cl → take_while is_own cl ≡ []
 none-own [] closes = refl
 none-own (x ∷ cl) closes = while-none is_own x cl (not-own (is_of_closing x) (and-left (is_of_closing x) (list_all is_of_closing cl) closes))
 
-own-is : (own cl : List Record) → own ≢ [] → AreOwn (others_of own) → AreClosing cl → own_part (own ++ cl) ≡ own
+pub own-is : (own cl : List Record) → own ≢ [] → AreOwn (others_of own) → AreClosing cl → own_part (own ++ cl) ≡ own
 own-is [] cl some are closes = absurd (some refl)
 own-is (x ∷ xs) cl some are closes = ap (λ ys. x ∷ ys) (while-both is_own xs cl are ∙ ap (λ ys. xs ++ ys) (none-own cl closes) ∙ append-nil xs)
 

@@ -121,7 +121,7 @@ pub record IsUpWithTold (xs : List Record) : Type 0 where
   pub alone : IsPassage xs
   pub moved : (o : Option SpaceNo) (n : SpaceNo) → IsPassage (Move o (Some n) ∷ xs)
 
-told-alone : (ns : List Note) → AreTold (map Told ns)
+pub told-alone : (ns : List Note) → AreTold (map Told ns)
 told-alone [] = tt
 told-alone (n ∷ ns) = told-alone ns
 

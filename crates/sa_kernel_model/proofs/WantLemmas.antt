@@ -134,7 +134,7 @@ none-wanted w e p m n t demands untold = elim (cases_lt t n) [
 ]
 
 module _ {C : Type 0} where
-  heard : (k : State C) (m : Readings) (s : ℕ) → IdleAlike k m → (n : Note) → Contains (untold_of k s) n → must_hear m n ≡ calls_for k n
+  pub heard : (k : State C) (m : Readings) (s : ℕ) → IdleAlike k m → (n : Note) → Contains (untold_of k s) n → must_hear m n ≡ calls_for k n
   heard k m s idle (Add q) has = refl
   heard k m s idle (Preempted a) has = ap not (idle s a has)
   heard k m s idle (Blocked a) has = refl

@@ -188,7 +188,7 @@ module _ {C : Type 0} where
       }
 
   -- a turn does its own part, and then the closing
-  turn-is : (e : ℕ) (p : ProcNo) (fresh : ActNo) (en : Option (Entry C)) (x : Scene C) → turn_on e p fresh en x ≡ closed e p (before_closing e p fresh en x)
+  pub turn-is : (e : ℕ) (p : ProcNo) (fresh : ActNo) (en : Option (Entry C)) (x : Scene C) → turn_on e p fresh en x ≡ closed e p (before_closing e p fresh en x)
   turn-is e p fresh None x = refl
   turn-is e p fresh (Some entry) x = refl
 

@@ -1,0 +1,11 @@
+pub mod Telling
+pub mod Calling
+pub mod Passage
+pub mod Upcalled
+pub mod Halted
+pub mod Passes
+pub mod Interrupts
+pub mod Ticks
+pub mod Completes
+pub mod Leaving
+pub mod Raising

@@ -1,0 +1,5 @@
+pub mod Opening
+pub mod Homes
+pub mod Ending
+pub mod Runs
+pub mod RightTraces

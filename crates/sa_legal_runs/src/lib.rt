@@ -1,0 +1,2 @@
+//! Each run of the machine is a legal run by its user level's rules, and ends as the machine says.
+#![tactic(auto)]
