@@ -1,0 +1,17 @@
+pub mod Stages
+pub mod Hands
+pub mod ReadyOrders
+pub mod OneLife
+pub mod Places
+pub mod InCode
+pub mod ThreadsBeside
+pub mod Still
+pub mod Moved
+pub mod Notices
+pub mod InsideMarks
+pub mod EventEnds
+pub mod Runners
+pub mod SettledMarks
+pub mod Restated
+pub mod InPlace
+pub mod NoteLists

@@ -1,0 +1,4 @@
+pub mod Stage
+pub mod View
+pub mod Life
+pub mod Fits

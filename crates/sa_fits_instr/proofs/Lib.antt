@@ -1,0 +1,4 @@
+pub mod Effects
+pub mod Instructions
+pub mod Gains
+pub mod Ranks

@@ -1,0 +1,119 @@
+-- A step that asks the kernel for a hint or for the return of activations: the kernel's records, and the context goes on.
+use Rattle.std.proofs.Common.{◌≡◌, ℕ, true, false, List, [], ◌∷◌, ◌++◌, Option, Some, None, refl, sym, ap, ◌∙◌, subst, slice_index_or}
+use Rattle.std.specs.List.{list_any}
+use Rattle.sa_base.specs.declared.context.Seen.{Seen}
+use Rattle.sa_base.specs.declared.number.ActNo.{ActNo}
+use Rattle.sa_base.specs.declared.number.ProcNo.{ProcNo}
+use Rattle.sa_base.specs.declared.number.SpaceNo.{SpaceNo}
+use Rattle.sa_base.specs.declared.record.Record.{Record}
+use Rattle.sa_lemmas.proofs.FunctionUpdates.{put-same, put-put}
+use Rattle.sa_lemmas.specs.Function.{put}
+use Rattle.sa_spaces.specs.Workload.{WorkloadView}
+use Rattle.sa_abstract.specs.Calls.{Contexts}
+use Rattle.sa_abstract.specs.Setting.{Setting}
+use Rattle.sa_abstract.specs.declared.answer.Step.{Step}
+use Rattle.sa_package_model.proofs.BeginRule.{answers}
+use Rattle.sa_package_model.specs.Rules.{pair, asks}
+use Rattle.sa_package_model.specs.Stands.{IsStanding}
+use Rattle.sa_package_model.specs.Step.{fast_calls, answered}
+use Rattle.sa_package_model.specs.declared.context.Context.{Context}
+use Rattle.sa_package_model.specs.declared.package.Package.{Package}
+use Rattle.sa_laws.specs.Demand.{IsFree}
+use Rattle.sa_laws.specs.Event.{Event}
+use Rattle.sa_laws.specs.History.{is_inside, is_step, is_up, after_records, stepped as ends, after_event}
+use Rattle.sa_laws.specs.Life.{Life}
+use Rattle.sa_laws.specs.Locks.{KeepsLocks, StandsAlone, is_back, back_is_due, RunsNext}
+use Rattle.sa_laws.specs.Readings.{Readings, running_of, life_of}
+use Rattle.sa_laws.specs.Rules.{fast_threads}
+use Rattle.sa_laws.specs.State.{space_at}
+use Rattle.sa_laws.specs.Turns.{is_of_locks, StepBy}
+use Rattle.sa_user_laws.specs.Moments.{AlikeButDemands, Sees}
+use Rattle.sa_user_laws.specs.Scene.{begun_at}
+use Rattle.sa_user_laws.specs.Steps.{event_with, IsClosed, IsLegalAsk, RulesHold, records_asked}
+use Rattle.sa_fits.proofs.EventEnds.{same-holds, closing-ups, ended-fits}
+use Rattle.sa_fits.proofs.Stages.{stage-same, others-stay}
+use Rattle.sa_fits.specs.Fits.{FitsLists, Holds, fast_fits}
+use Rattle.sa_fits.specs.Life.{IsMarked}
+use Rattle.sa_fits.specs.Stage.{stage_of, is_running}
+use Rattle.sa_fits.specs.View.{view}
+use Rattle.sa_fits_steps.proofs.Scenes.{IsScene, runs-there}
+use Rattle.sa_fits_steps.proofs.Turns.{IsBehind, rules-of, any-ups}
+
+module _ (set : Setting) (e : ℕ) (u : Package) (cs : Contexts Context) (w : WorkloadView) (r : Readings) (p : ProcNo) (a : ActNo) (life : Life)
+    (c : Context) (seen : Seen)
+    (i : IsScene set e u cs w r p a life c seen) (answer : Step) (x : Record) (xs : List Record) where
+  pub record IsAsking : Type 0 where
+    pub records : records_asked r set.space answer ≡ x ∷ xs
+    pub first : is_step x ≡ true
+    pub no_up : list_any is_up (x ∷ xs) ≡ false
+    pub table : StepBy w (begun_at w seen.event p r) p a life x xs
+    pub keeps : KeepsLocks w (begun_at w seen.event p r) p life x
+    pub back : is_back x ≡ back_is_due life
+    pub alone : StandsAlone (list_any is_of_locks (x ∷ xs)) xs
+    pub free : IsFree w r life x
+    pub next : (behind : List Record) → RunsNext r p (x ∷ behind)
+    -- behind them its own life is what it was, and so are those of other contexts
+    pub running : (after_records w seen.event p (begun_at w seen.event p r) (x ∷ xs)).running ≡ r.running
+    pub ready : (after_records w seen.event p (begun_at w seen.event p r) (x ∷ xs)).ready ≡ r.ready
+    pub untold : (after_records w seen.event p (begun_at w seen.event p r) (x ∷ xs)).untold ≡ r.untold
+    pub elsewhere : (z : SpaceNo) → space_at (after_records w seen.event p (begun_at w seen.event p r) (x ∷ xs)).state z ≡ space_at r.state z
+    pub lives : (b : ActNo) (d : Context) → cs b.0 ≡ Some d
+        → life_of (after_records w seen.event p (begun_at w seen.event p r) (x ∷ xs)) b ≡ life_of r b
+    pub holds : (later : Seen)
+        → Holds set.space (after_records w seen.event p (begun_at w seen.event p r) (x ∷ xs)) u (put cs a.0 (Some (answered u later c).1))
+    pub marks : (ev : Event) (last : Readings) (later : Seen)
+        → IsBehind set e u (put cs a.0 (Some (answered u later c).1)) a (answered u later c).1 life later (after_records w seen.event p (begun_at w seen.event p r) (x ∷ xs)) last
+        → IsMarked (view (answered u later c).1) (ends is_inside w r ev last x life)
+
+  module _ (t : IsAsking) where
+    abbrev q : Readings
+    q = after_records w seen.event p (begun_at w seen.event p r) (x ∷ xs)
+
+    pub ask-legal : IsLegalAsk fast_calls fast_threads fast_fits w set r p seen.event a cs (asks (pair u c) answer)
+    ask-legal = record {
+      none = refl;
+      rules_hold = subst (λ own. (closing : List Record) → IsClosed own closing → RulesHold fast_threads w r (event_with seen.event p own closing) own) (sym t.records) (λ closing closed.
+          let follows =
+          rules-of w r (event_with seen.event p (x ∷ xs) closing) a life x xs (xs ++ closing) i.on.runs i.on.is refl closed.is_own t.first t.table t.keeps t.back t.alone t.free (t.next (xs ++ closing)) in
+          record { steps = follows.steps; demand = follows.demand; locks = follows.locks; order = follows.order });
+      after = subst (λ own. (closing : List Record) (later : Seen) → IsClosed own closing
+          → AlikeButDemands (after_records w seen.event p (begun_at w seen.event p r) own) (after_records w seen.event p (begun_at w seen.event p r) (own ++ closing))
+          → Sees set.space (after_records w seen.event p (begun_at w seen.event p r) (own ++ closing)) p seen.event later
+          → fast_fits w set (after_event is_inside w r (event_with seen.event p own closing)) u (put (put cs a.0 (Some c)) a.0 (Some (answered u later c).1))) (sym t.records)
+          (λ closing later closed same sees.
+          let ev = event_with seen.event p (x ∷ xs) closing in
+          let last = after_records w seen.event p (begun_at w seen.event p r) ((x ∷ xs) ++ closing) in
+          let new = (answered u later c).1 in
+          let ds = put cs a.0 (Some new) in
+          let holds = same-holds set.space q last u ds (record {
+            space = ap (λ z. space_at z set.space) same.state;
+            untold = ap (λ z. slice_index_or z set.space.0 []) same.untold;
+            running = same.running;
+            lives = same.lives;
+          }) (t.holds later) in
+          let stands : IsStanding set e u ds = answers set e u cs i.stands a.0 c i.on.mine later in
+          let mine : ds a.0 ≡ Some new = put-same cs a.0 (Some new) in
+          let there : life_of last a ≡ Some life = ap (λ (f : ℕ → Option Life). f a.0) same.lives ∙ t.lives a c i.on.mine ∙ i.on.is in
+          let runs : running_of last p ≡ Some a = ap (λ ps. slice_index_or ps p.0 None) (same.running ∙ t.running) ∙ i.on.runs in
+          subst (fast_fits w set (after_event is_inside w r ev) u) (sym (put-put cs a.0 (Some c) (Some new)))
+          (ended-fits set.space r u cs a w ev i.on.runs last
+          (others-stay set.space r last a cs
+          (λ y d ne at. ap (λ (f : ℕ → Option Life). f y.0) same.lives ∙ t.lives y d at)
+          (λ y l ne. stage-same set.space r last (ap (λ ls. slice_index_or ls set.space.0 []) (same.untold ∙ t.untold)) (same.running ∙ t.running) y l) i.others)
+          u new holds (subst (FitsLists u) (sym (ap (λ ls. slice_index_or ls set.space.0 []) (same.ready ∙ t.ready))) i.lists)
+          life there x (xs ++ closing) refl t.first (any-ups (x ∷ xs) closing t.no_up (closing-ups closing closed.closes))
+          (record {
+            idle = λ no. absurd (let yes : is_running (stage_of last set.space a life) ≡ true = ap is_running (holds.runs p a life runs there i.on.space).2 in cc);
+            marks = t.marks ev last later (record {
+              stands = stands;
+              holds = holds;
+              mine = mine;
+              there = there;
+              carries = runs-there set e u ds stands r last i.moment holds p a new life i.on.owner runs there i.on.space mine (λ z ne. ap (λ y. space_at y z) same.state ∙ t.elsewhere z);
+              demand = sees.demand;
+              taken = sees.taken;
+              stage = (holds.runs p a life runs there i.on.space).2;
+              state = same.state;
+            });
+          })));
+    }

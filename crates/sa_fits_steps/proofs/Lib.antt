@@ -1,0 +1,9 @@
+pub mod Hints
+pub mod Events
+pub mod Scenes
+pub mod Turns
+pub mod CodeSteps
+pub mod WorkSteps
+pub mod Asks
+pub mod LookSteps
+pub mod GivingSteps

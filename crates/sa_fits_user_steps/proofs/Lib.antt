@@ -1,0 +1,4 @@
+pub mod UserSteps
+pub mod BlockSteps
+pub mod FaultSteps
+pub mod IoSteps
