@@ -7,7 +7,8 @@ use Rattle.sa_abstract.specs.Calls.{Calls}
 use Rattle.sa_assign.specs.Reaim.{proc_no}
 use Rattle.sa_sched.specs.Order.{Order, processor_at}
 use Rattle.sa_core_model.specs.Machine.{Machine}
-use Rattle.sa_core_model.specs.Run.{opening, IsTurn}
+use Rattle.sa_core_model.specs.Run.{opening, IsMove}
+use Rattle.sa_core_model.specs.Run.Move.{turn}
 use Rattle.sa_core_model.specs.End.{end_of}
 
 module _ {U C : Type 0} (f : Calls U C) where
@@ -17,7 +18,7 @@ module _ {U C : Type 0} (f : Calls U C) where
   TurnsTo w order budget zero m = m ≡ opening f w
   TurnsTo w order budget (suc k) m =
       (before : Machine U C) × TurnsTo w order budget k before × (end_of f budget before ≡ None)
-      × IsTurn f before (proc_no (processor_at order w.processors (k + 1))) m
+      × IsMove f before (turn (proc_no (processor_at order w.processors (k + 1)))) m
 
   -- the run of the workload ends so, behind so many events, and these are its items
   pub record RunsTo (w : WorkloadView) (order : Order) (budget : ℕ) (items : List Item) (end : End) (events : ℕ) : Type 0 where

@@ -1,7 +1,9 @@
-use Rattle.std.proofs.Common.{rules, arith, ◌≡◌, ℕ, ◌+◌, ◌<◌, ◌≤◌, None, sym, subst}
+use Rattle.std.proofs.Common.{rules, arith, ◌≡◌, ℕ, ◌+◌, ◌<◌, ◌≤◌, None, sym, ap, subst}
 use Rattle.sa_sched.specs.Kind.{order_of}
 use Rattle.sa_sched.specs.Turns.{start, turned_often}
+use Rattle.sa_spaces.specs.Workload.{WorkloadView}
 use Rattle.sa_core_model.specs.End.{end_of}
+use Rattle.sa_core_model.specs.Run.{CanTurn}
 use Rattle.sa_core.specs.View.{machine}
 use Rattle.sa_core.proofs.CoreLemmas.{goes-on}
 use Rattle.sa_run.specs.Run.{TurnsTo}
@@ -22,11 +24,13 @@ loop-end-preserved g c =
     let below : (machine c.loop-end.core).event < c.loop-end.core.budget = goes-on g.U.UserLevel.calls c.loop-end.core.budget (machine c.loop-end.core) none within in
     let open_still : end_of g.U.UserLevel.calls c.args.budget (machine c.loop-end.core) ≡ None =
     subst (λ (b : ℕ). end_of g.U.UserLevel.calls b (machine c.loop-end.core) ≡ None) c.loop-end.invariant.budget none in
+    let can : CanTurn g.U.UserLevel.calls (machine c.loop-end.core) c.next.result =
+    record { within = omega (arith, c.next.ensures.among, c.loop-end.invariant.processors, ap (λ (w : WorkloadView). w.processors) c.loop-end.invariant.workload); event = omega (arith, below, c.loop-end.invariant.budget, c.requires.few) } in
     let some : 1 ≤ c.args.workload.processors = omega (arith, c.processors.ensures.some, c.processors.ensures.value) in
     record {
       turns = subst (λ (n : ℕ). TurnsTo g.U.UserLevel.calls c.args.workload (order_of c.args.kind) c.args.budget n (machine c.turn.new.self)) (sym c.in-Ok-turn.ensures.event)
           (one-more g.U.UserLevel.calls c.args.workload (order_of c.args.kind) c.args.budget (machine c.loop-end.core).event (machine c.loop-end.core) (machine c.turn.new.self)
-          c.loop-end.schedule c.next.result c.turns_are_in_order.ensures some c.loop-end.invariant.schedule c.next.ensures.processor c.loop-end.invariant.turns open_still c.in-Ok-turn.ensures.ok);
+          c.loop-end.schedule c.next.result c.turns_are_in_order.ensures some c.loop-end.invariant.schedule c.next.ensures.processor c.loop-end.invariant.turns open_still (can, c.in-Ok-turn.ensures.ok));
       schedule = subst (λ (n : ℕ). c.next.new.self ≡ turned_often (start (order_of c.args.kind) c.args.workload.processors) n) (sym c.in-Ok-turn.ensures.event)
           (schedule-more (order_of c.args.kind) c.args.workload.processors (machine c.loop-end.core).event c.loop-end.schedule c.next.new.self c.loop-end.invariant.schedule c.next.ensures.turned);
       processors = search rules;

@@ -1,0 +1,6 @@
+use Rattle.sa_legal_runs.proofs.Runs.{runs-are-legal}
+use Rattle.sa_fast_runs.proofs.Instance.{fast_level}
+use Rattle.sa_fast_runs.proofs.laws.each_run_is_legal.Goals as goal
+
+pub returns : goal.returns
+returns c = runs-are-legal fast_level

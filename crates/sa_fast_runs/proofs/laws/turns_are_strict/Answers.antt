@@ -1,0 +1,6 @@
+use Rattle.sa_legal_runs.proofs.Runs.{turns-are-strict}
+use Rattle.sa_fast_runs.proofs.Instance.{fast_level}
+use Rattle.sa_fast_runs.proofs.laws.turns_are_strict.Goals as goal
+
+pub returns : goal.returns
+returns c = turns-are-strict fast_level

@@ -1,0 +1,3 @@
+pub mod Runs
+pub mod Whole
+pub mod Threads

@@ -1,0 +1,50 @@
+//! What holds of each run of the machine with FastThreads, from the opening of a workload by turns and commits in any order.
+//! No function here does anything.
+ghost use Rattle.sa_fast_runs.specs.Whole.{RunsSoFarAreLegal, WholeRunsAreLegal};
+ghost use Rattle.sa_fast_runs.specs.Threads.{SharedRunsAreLegal};
+ghost use Rattle.sa_fast_runs.specs.Runs.{RunsAreLegal, RunsEndAsDefined, TurnsAreStrict, RunsAreRight, EventsFollowMoves, EventsAreNumbered, EventsAreCounted};
+
+/// Its trace is a legal run by FastThreads' rules: every stop, block and return is told at most once, in time and by an
+/// upcall in a fresh activation; every space is aimed at least its share of processors; every record is a step of the
+/// abstract machine; demand is announced, list locks and list order are kept, and no thread that holds a list lock is made
+/// ready (SOSP 1991, sections 3 and 4).
+pub fn each_run_is_legal()
+    ensures { RunsAreLegal }
+{}
+
+/// It has ended exactly where the definitions say so of its trace, in the way that they say.
+pub fn each_run_ends_as_defined()
+    ensures { RunsEndAsDefined }
+{}
+
+/// A run of turns alone is strict: no local instruction comes while an I/O is due.
+pub fn turns_are_strict()
+    ensures { TurnsAreStrict }
+{}
+
+/// The trace of a run that made no move behind an end, with the last line that says this end, breaks no rule: the checker
+/// says that it is legal.
+pub fn each_whole_run_is_right()
+    ensures { RunsAreRight }
+{}
+
+/// Event k, from 1 on, is of the processor of the k-th move, where a commit of n instructions counts as n moves; its number
+/// is k; and there is one event more, the opening, than the number of the last one says.
+pub fn events_follow_the_moves()
+    ensures processors { EventsFollowMoves }
+    ensures numbers { EventsAreNumbered }
+    ensures count { EventsAreCounted }
+{}
+
+/// Each run by a schedule, as far as it came, is a legal run and a strict one, and its events follow the schedule; where it
+/// ended, it ended as the definitions say, and with its last line it breaks no rule.
+pub fn runs_by_a_schedule_are_legal()
+    ensures so_far { RunsSoFarAreLegal }
+    ensures whole { WholeRunsAreLegal }
+{}
+
+/// The history that host threads leave is a legal run with the end that the definitions say, and has as many events as the
+/// processors' counts sum up to.
+pub fn shared_runs_are_legal()
+    ensures { SharedRunsAreLegal }
+{}
