@@ -14,7 +14,7 @@ use Rattle.sa_cli.specs.declared.outcome.Ran.{Ran}
 use Rattle.sa_cli.specs.declared.outcome.Ran.TheVariants.{Nothing}
 use Rattle.sa_cli.specs.declared.outcome.Status.{Status}
 use Rattle.sa_cli.specs.declared.outcome.Status.TheVariants.{BadWorkload, ReadFault, WriteFault, OutOfMemory, Migrated, Checked, Broken, BadTrace}
-use Rattle.sa_cli.specs.Outcome.{history}
+use Rattle.sa_cli.specs.Outcome.{history, RanHere, RanShared}
 use Rattle.sa_cli.specs.Input.{GaveText, GaveSliced}
 use Rattle.sa_cli.specs.Refusals.{IsRefused}
 use Rattle.sa_check.specs.declared.verdict.Verdict.{Verdict}
@@ -86,3 +86,15 @@ Answers Check old new ran status = (ran ≡ Nothing) × CheckAnswers old new sta
 abbrev pub AnswersTo : Option Command → World → World → Ran → Status → Type 0
 AnswersTo None old new ran status = ⊤
 AnswersTo (Some command) old new ran status = Answers command old new ran status
+
+-- which machine can have run: none where the words are no command, one that host threads shared under `threads`, and under
+-- each other command one on this thread
+abbrev pub CanHaveRun : Option Command → Ran → Type 0
+CanHaveRun None ran = ran ≡ Nothing
+CanHaveRun (Some (Threads budget burst)) ran = RanShared ran
+CanHaveRun (Some other) ran = RanHere ran
+
+-- the commands that read nothing of the source
+abbrev pub ReadsNothing : Option Command → Type 0
+ReadsNothing (Some (Load number budget)) = ⊤
+ReadsNothing other = ⊥

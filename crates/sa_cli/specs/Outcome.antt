@@ -65,6 +65,17 @@ history Nothing = []
 history (Plain trace) = trace.items
 history (Shared closed) = closed.items
 
+-- a machine ran on this thread, or none did; host threads shared the machine that ran, or none did
+abbrev pub RanHere : Ran → Type 0
+RanHere Nothing = ⊤
+RanHere (Plain trace) = ⊤
+RanHere (Shared closed) = ⊥
+
+abbrev pub RanShared : Ran → Type 0
+RanShared Nothing = ⊤
+RanShared (Plain trace) = ⊥
+RanShared (Shared closed) = ⊤
+
 -- the statuses of a run that ended and was written
 abbrev pub HasEnded : Status → Type 0
 HasEnded AllDone = ⊤

@@ -3,7 +3,7 @@ ghost use Rattle.sa_command.specs.Commands.{command_of};
 ghost use Rattle.sa_cli.specs.Input.{LosesPrefix};
 ghost use Rattle.sa_cli.specs.Outcome.{WritesNothing};
 ghost use Rattle.sa_cli.specs.Answers.{World, world};
-ghost use Rattle.sa_cli.specs.Commands.{AnswersTo};
+ghost use Rattle.sa_cli.specs.Commands.{AnswersTo, CanHaveRun, ReadsNothing};
 ghost use Rattle.sa_cli.specs.Complete.{IsCompleteTo};
 ghost use Rattle.sa_cli.specs.Shared.{limits_of};
 
@@ -31,6 +31,10 @@ pub fn run_one<S: Source, K: Sink>(
     ensures untouched { result.status ≡ Status.Usage
         → (source.new ≡ source.old) × (sink.new ≡ sink.old) }
     ensures unwritten { WritesNothing result.status → sink.new ≡ sink.old }
+
+    // Under `load` nothing is read, and what ran is what the command lets run.
+    ensures unread { ReadsNothing (command_of words.now) → source.new ≡ source.old }
+    ensures ran { CanHaveRun (command_of words.now) result.ran }
 
     // Whatever the answer, the source lost some bytes at its front or none, and no count fell.
     ensures lost { LosesPrefix (S.left source.old) (S.left source.new) }
@@ -77,6 +81,10 @@ pub fn top<S: Source, K: Sink, G: Gate, R: Threads + Wait + Sync>(
     ensures untouched { result.status ≡ Status.Usage
         → (source.new ≡ source.old) × (sink.new ≡ sink.old) }
     ensures unwritten { WritesNothing result.status → sink.new ≡ sink.old }
+
+    // Under `load` nothing is read, and what ran is what the command lets run.
+    ensures unread { ReadsNothing (command_of words.now) → source.new ≡ source.old }
+    ensures ran { CanHaveRun (command_of words.now) result.ran }
 
     // Whatever the answer, the source lost some bytes at its front or none, and no count fell.
     ensures lost { LosesPrefix (S.left source.old) (S.left source.new) }

@@ -2,7 +2,7 @@
 ghost use Rattle.std.specs.Prelude.{◌≡◌, ℕ, ◌≤◌, List, Option, IfOk};
 ghost use Rattle.sa_sched.specs.Kind.{order_of, AreAmong};
 ghost use Rattle.sa_cli.specs.Input.{LosesPrefix};
-ghost use Rattle.sa_cli.specs.Outcome.{history, WritesNothing};
+ghost use Rattle.sa_cli.specs.Outcome.{history, RanHere, WritesNothing};
 ghost use Rattle.sa_cli.specs.Schedules.{order_by};
 ghost use Rattle.sa_cli.specs.Answers.{World, world};
 ghost use Rattle.sa_cli.specs.Commands.{AnswersRun, AnswersLoad, MigrateAnswers, CheckAnswers};
@@ -31,6 +31,7 @@ pub(crate) fn run_text<S: Source, K: Sink>(
 ) -> Outcome
     requires some { 1 ≤ budget }
     requires few { budget ≤ MAX_EVENTS }
+    ensures here { RanHere result.ran }
     ensures unwritten { WritesNothing result.status → sink.new ≡ sink.old }
     ensures lost { LosesPrefix (S.left source.old) (S.left source.new) }
     ensures reads_counted { S.faults source.old ≤ S.faults source.new }
@@ -63,6 +64,7 @@ pub(crate) fn run_generated<K: Sink>(
 ) -> Outcome
     requires some { 1 ≤ budget }
     requires few { budget ≤ MAX_EVENTS }
+    ensures here { RanHere result.ran }
     ensures unwritten { WritesNothing result.status → sink.new ≡ sink.old }
     ensures writes_counted { K.faults sink.old ≤ K.faults sink.new }
     ensures answers { (left : Option (List ℕ)) (reads : ℕ) →

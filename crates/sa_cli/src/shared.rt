@@ -3,7 +3,7 @@ ghost use Rattle.std.specs.Prelude.{◌≡◌, ◌≤◌, sum};
 ghost use Rattle.sa_base.specs.declared.limits.TheConstants.{MAX_BURST, MAX_EVENTS};
 ghost use Rattle.sa_command.specs.Commands.{command_of};
 ghost use Rattle.sa_cli.specs.Input.{LosesPrefix};
-ghost use Rattle.sa_cli.specs.Outcome.{WritesNothing};
+ghost use Rattle.sa_cli.specs.Outcome.{RanShared, WritesNothing};
 ghost use Rattle.sa_cli.specs.Answers.{World, world};
 ghost use Rattle.sa_cli.specs.Shared.{limits_of, WritesClosed, AnswersThreads};
 ghost use Rattle.sa_cli.specs.declared.outcome.Ran.TheVariants.{Shared};
@@ -44,6 +44,7 @@ pub(crate) fn run_shared<S: Source, K: Sink, G: Gate, R: Threads + Wait + Sync>(
     requires few { limits.budget ≤ MAX_EVENTS }
     requires some_burst { 1 ≤ limits.burst }
     requires few_burst { limits.burst ≤ MAX_BURST }
+    ensures shared { RanShared result.ran }
     ensures unwritten { WritesNothing result.status → sink.new ≡ sink.old }
     ensures lost { LosesPrefix (S.left source.old) (S.left source.new) }
     ensures reads_counted { S.faults source.old ≤ S.faults source.new }
