@@ -1,0 +1,17 @@
+pub mod Ios
+pub mod Tables
+pub mod Follows
+pub mod Unblocked
+pub mod Placed
+pub mod Relieved
+pub mod Readied
+pub mod Roused
+pub mod Ran
+pub mod Taken
+pub mod Main
+pub mod Turns
+pub mod Safe
+pub mod Dispatch
+pub mod Ends
+pub mod Opened
+pub mod Runs
