@@ -1,6 +1,7 @@
 -- The first rule that was not found to hold is the first that does not hold.
-use Rattle.std.proofs.Common.{◌≡◌, ◌↔◌, refl, sym, ◌∙◌, List, [], ◌∷◌, ◌++◌, drop, Bool, true, false, Option, Some}
-use Rattle.std.specs.Prelude.{not, find, IsTrue, MatchOption, if◌then◌else◌}
+use Rattle.std.proofs.Common.{◌≡◌, ◌↔◌, refl, sym, ◌∙◌, List, [], ◌∷◌, ◌++◌, drop, Bool, true, false, Option, Some, None}
+use Rattle.std.specs.Prelude.{not, find, IsTrue, MatchOption, if◌then◌else◌, ◌&&◌}
+use Rattle.std.specs.List.{list_all}
 use Rattle.sa_spaces.specs.Workload.{WorkloadView}
 use Rattle.sa_laws.specs.declared.rule.Rule.{Rule}
 use Rattle.sa_laws.specs.declared.rule.Rule.TheVariants.{Numbering, StepTaken, AtMostOnce, InTime, WhereOwned, AllTold, BlockUpcall, InterruptNext, LineCause, WantCause, SharesCovered, DemandSaid, TurnsAndSteps, ListLocks, ListOrder, EndTold}
@@ -32,3 +33,12 @@ module _ (w : WorkloadView) (r : Readings) (e : Event) (last : Option LastLine) 
       step Numbering (drop 1 rules) (step StepTaken (drop 2 rules) (step AtMostOnce (drop 3 rules) (step InTime (drop 4 rules) (step WhereOwned (drop 5 rules)
       (step AllTold (drop 6 rules) (step BlockUpcall (drop 7 rules) (step InterruptNext (drop 8 rules) (step LineCause (drop 9 rules) (step WantCause (drop 10 rules)
       (step SharesCovered (drop 11 rules) (step DemandSaid (drop 12 rules) (step TurnsAndSteps (drop 13 rules) (step ListLocks (drop 14 rules) (step ListOrder (drop 15 rules) (step EndTold [] (λ all. all)))))))))))))))) tt
+
+-- where each rule holds, none that does not is found
+pub none-fails : (holds : Rule → Bool) (list : List Rule) → list_all holds list ≡ true → find (λ rule. not (holds rule)) list ≡ None
+none-fails holds [] all = refl
+none-fails holds (rule ∷ others) all = by (holds rule) (list_all holds others) all (none-fails holds others) where
+  by : (b c : Bool) → (b && c) ≡ true → (c ≡ true → find (λ r. not (holds r)) others ≡ None)
+      → (if not b then Some rule else find (λ r. not (holds r)) others) ≡ None
+  by true c is rest = rest is
+  by false c is rest = absurd cc

@@ -1,5 +1,5 @@
 -- One event is judged.
-use Rattle.std.proofs.Common.{◌≡◌, ◌↔◌, sym, ◌∙◌, ap, subst, Bool, false, Option}
+use Rattle.std.proofs.Common.{◌≡◌, ◌↔◌, sym, ◌∙◌, ap, subst, Bool, true, false, Option}
 use Rattle.std.specs.Prelude.{not, find, IsTrue, MatchOption}
 use Rattle.sa_spaces.specs.Workload.{WorkloadView}
 use Rattle.sa_laws.specs.declared.rule.Rule.{Rule}
@@ -17,9 +17,11 @@ use Rattle.sa_check.specs.declared.findings.Findings.{Findings}
 use Rattle.sa_check.specs.declared.records.ReadThrough.{ReadThrough}
 use Rattle.sa_check.specs.Findings.{found_of}
 use Rattle.sa_check.specs.Judged.{findings_of, after}
+use Rattle.sa_check.specs.Quiet.{is_quiet, IsQuietFrom, IsSettled, WasSettled}
 use Rattle.sa_check.specs.Records.{behind_some, IsReadThrough}
 use Rattle.sa_check.specs.Sides.{IsBeginning, IsEnding}
 use Rattle.sa_check.proofs.FindLemmas.{first-is}
+use Rattle.sa_check.proofs.QuietLemmas.{quiet-records, quiet-settled, quiet-wants-due, quiet-aims-due}
 use Rattle.sa_check.proofs.FoundLemmas.{beginning_of, each}
 
 pub numbering-breaks : (w : WorkloadView) (r : Readings) (e : Event) (last : Option LastLine) (found : Bool) → (IsTrue found ↔ IsNumbered w r e) → found ≡ false
@@ -62,3 +64,20 @@ judged-so m start next e last b through ending numbered begins starts read ends 
     subst (λ (o : Option Rule). FirstIs m.workload m.readings e last o)
     (sym (found ∙ ap (λ (g : Findings). find (λ rule. not (found_of g rule)) rules) is))
     (outcome m start next e last b through ending numbered begins starts read ends after_it)
+
+-- a quiet event, behind an event that left all as it must be
+pub quiet-from : (m start : Seen) (e : Event) → IsNumbered m.workload m.readings e → WasSettled m.workload m.readings → start ≡ at_event e.number e.proc m
+    → is_quiet m.workload m.readings e ≡ true → IsQuietFrom start e
+quiet-from m start e numbered settled begins quiet =
+    subst (λ (s : Seen). IsQuietFrom s e) (sym begins) (record {
+      quiet = quiet-records m.workload m.readings e quiet;
+      none = record {
+        wants = record { due = quiet-wants-due m.workload m.readings e numbered.number settled quiet };
+        aims = record { due = quiet-aims-due m.workload m.readings e numbered.number settled quiet };
+      };
+    })
+
+pub settled-behind : (m next : Seen) (e : Event) → IsNumbered m.workload m.readings e → WasSettled m.workload m.readings
+    → is_quiet m.workload m.readings e ≡ true → next ≡ after m e → IsSettled next.workload e.number next.readings
+settled-behind m next e numbered settled quiet ends =
+    subst (λ (s : Seen). IsSettled s.workload e.number s.readings) (sym ends) (quiet-settled m.workload m.readings e numbered.number settled quiet)

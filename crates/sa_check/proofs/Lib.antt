@@ -4,5 +4,7 @@ pub mod FindLemmas
 pub mod PlaceLemmas
 pub mod RecordLemmas
 pub mod FoundLemmas
+pub mod QuietLemmas
+pub mod QuietLines
 pub mod JudgeLemmas
 pub mod WalkLemmas

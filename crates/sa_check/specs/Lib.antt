@@ -3,6 +3,7 @@ pub mod Line
 pub mod Items
 pub mod Places
 pub mod Records
+pub mod Quiet
 pub mod Findings
 pub mod Sides
 pub mod Judged

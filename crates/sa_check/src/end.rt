@@ -1,7 +1,8 @@
 // What is found after an event.
-ghost use Rattle.std.specs.Prelude.{◌↔◌, IsTrue};
+ghost use Rattle.std.specs.Prelude.{◌≡◌, ◌↔◌, true, IsTrue};
 ghost use Rattle.sa_laws.specs.Ends.{EndIsTold};
 ghost use Rattle.sa_check_moment.specs.Seen.{seen};
+ghost use Rattle.sa_check.specs.Quiet.{IsSettled};
 ghost use Rattle.sa_check.specs.Sides.{IsEnding, line_told};
 
 use sa_base::End;
@@ -26,15 +27,22 @@ pub(crate) struct Ending {
     pub(crate) end: bool,
 }
 
-/// What is found on the moment after an event of this number; the last line, if it is the trace's last event.
-pub(crate) fn look_after(moment: &Moment, number: u64, last: Option<LastTold>) -> Ending
+/// What is found on the moment after an event of this number; the last line, if it is the trace's last event. After a
+/// quiet event owners, shares, wants and what is told in time are as they must be.
+pub(crate) fn look_after(
+    moment: &Moment,
+    number: u64,
+    last: Option<LastTold>,
+    quiet: bool,
+) -> Ending
+    requires { quiet ≡ true → IsSettled (seen moment.now).workload number (seen moment.now).readings }
     ensures { IsEnding (seen moment.now) number (line_told last) result }
 {
     Ending {
-        prompt: is_prompt(moment),
-        owned: runs_where_owned(moment),
-        wants: wants_nothing(moment),
-        shares: covers_shares(moment, number),
+        prompt: quiet || is_prompt(moment),
+        owned: quiet || runs_where_owned(moment),
+        wants: quiet || wants_nothing(moment),
+        shares: quiet || covers_shares(moment, number),
         end: end_is_told(moment, number, last),
     }
 }

@@ -1,10 +1,10 @@
 // The events of a trace's items.
-ghost use Rattle.std.specs.Prelude.{◌≡◌, ◌≤◌, length, map, IfOk};
+ghost use Rattle.std.specs.Prelude.{◌≡◌, ◌≤◌, length, map, OnOk};
 ghost use Rattle.std.specs.List.{prefix_len};
 ghost use Rattle.sa_check.specs.Items.{is_with, what_of};
 
 use sa_base::{Item, ProcNo, Record};
-use std::alloc::{AllocError, Global};
+use std::alloc::AllocError;
 
 /// An event of a trace: its number, its processor, and its records in order.
 #[derive(Clone, Copy, Debug)]
@@ -34,13 +34,13 @@ fn is_with(first: &Item, item: &Item) -> bool
     first.event == item.event && first.proc.0 == item.proc.0
 }
 
-/// The records of the items.
-pub(crate) fn records_of(alloc: Global, items: &[Item]) -> Result<Vec<Record>, AllocError>
-    ensures { IfOk result (λ records. records.items ≡ map what_of items.now) }
+/// Puts the records of the items in the place of these. Fails only where memory runs out.
+pub(crate) fn take_records(records: &mut Vec<Record>, items: &[Item]) -> Result<(), AllocError>
+    ensures { OnOk result (records.new.items ≡ map what_of items.now) }
 {
-    let mut records = Vec::new(alloc);
+    records.clear();
     for item in items {
         records.push(item.what)?;
     }
-    Ok(records)
+    Ok(())
 }

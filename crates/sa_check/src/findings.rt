@@ -1,5 +1,6 @@
 // Which rules hold at an event, and the first that does not.
 ghost use Rattle.std.specs.Prelude.{◌≡◌, not, find};
+ghost use Rattle.std.specs.List.{list_all};
 ghost use Rattle.sa_laws.specs.Rules.{rules};
 ghost use Rattle.sa_check.specs.Findings.{found_of};
 
@@ -72,6 +73,29 @@ impl Findings {
     pub(crate) fn first_broken(&self) -> Option<Rule>
         ensures { result ≡ find (λ rule. not (found_of self.now rule)) rules }
     {
+        if self.all_hold() {
+            return None;
+        }
         RULES.iter().copied().find(|rule| !self.has(*rule))
+    }
+
+    // Each rule holds.
+    fn all_hold(&self) -> bool
+        ensures { result ≡ list_all (found_of self.now) rules }
+    {
+        self.at_most_once
+            && self.in_time
+            && self.where_owned
+            && self.all_told
+            && self.block_upcall
+            && self.interrupt_next
+            && self.line_cause
+            && self.want_cause
+            && self.shares_covered
+            && self.demand_said
+            && self.turns_and_steps
+            && self.list_locks
+            && self.list_order
+            && self.end_told
     }
 }

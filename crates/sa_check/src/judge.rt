@@ -1,8 +1,10 @@
 // The judge of one event.
-ghost use Rattle.std.specs.Prelude.{◌≡◌, IfOk};
+ghost use Rattle.std.specs.Prelude.{◌≡◌, true, IfOk};
 ghost use Rattle.sa_laws.specs.Opening.{IsNumbered};
 ghost use Rattle.sa_check_moment.specs.Seen.{seen};
 ghost use Rattle.sa_check.specs.Items.{told_event};
+ghost use Rattle.sa_check.specs.Quiet.{IsQuietFrom, WasSettled};
+ghost use Rattle.sa_check.specs.Records.{ReadsRecords};
 ghost use Rattle.sa_check.specs.Sides.{line_told};
 ghost use Rattle.sa_check.specs.Judged.{Judges, findings_of};
 
@@ -11,7 +13,8 @@ use crate::end::{Ending, LastTold, look_after};
 use crate::event::TraceEvent;
 use crate::findings::Findings;
 use crate::places::DueFound;
-use crate::records::{RecordsFound, read_records};
+use crate::quiet::{is_quiet, read_quiet};
+use crate::records::{ReadThrough, RecordsFound, read_records};
 use sa_check_closing::is_numbered;
 use sa_check_moment::Moment;
 use sa_laws::Rule;
@@ -26,13 +29,15 @@ pub(crate) enum Judged {
     Broken(Rule),
 }
 
-/// Judges an event on the moment before it; the last line, if it is the trace's last event.
+/// Judges an event on the moment before it, which the event before has left as it must be; the last line, if it is the
+/// trace's last event.
 pub(crate) fn judge(
     alloc: Global,
     moment: Moment,
     event: &TraceEvent,
     last: Option<LastTold>,
 ) -> Result<Judged, AllocError>
+    requires { WasSettled (seen moment).workload (seen moment).readings }
     ensures { IfOk result (Judges (seen moment) (told_event event.now) (line_told last)) }
 {
     if !is_numbered(alloc, &moment, event.number, event.proc, event.records)? {
@@ -48,22 +53,42 @@ fn judge_numbered(
     event: &TraceEvent,
     last: Option<LastTold>,
 ) -> Result<Judged, AllocError>
-    requires { IsNumbered (seen moment).workload (seen moment).readings (told_event event.now) }
+    requires numbered { IsNumbered (seen moment).workload (seen moment).readings (told_event event.now) }
+    requires settled { WasSettled (seen moment).workload (seen moment).readings }
     ensures { IfOk result (Judges (seen moment) (told_event event.now) (line_told last)) }
 {
+    let quiet = is_quiet(&moment, event);
     let mut now = moment;
     let beginning = begin(&mut now, event);
-    let Some(through) = read_records(alloc, now, event)? else {
+    let Some(through) = read_event(alloc, now, event, quiet)? else {
         return Ok(Judged::Broken(Rule::StepTaken));
     };
     let after = through
         .moment
         .finish(event.number, event.proc, event.records, beginning.start)?;
-    let ending = look_after(&after, event.number, last);
+    let ending = look_after(&after, event.number, last, quiet);
     let findings = findings_of(event.number, beginning, through.laws, through.due, ending);
     match findings.first_broken() {
         None => Ok(Judged::Right(after)),
         Some(rule) => Ok(Judged::Broken(rule)),
+    }
+}
+
+// Reads the records of an event, quiet or not, on the moment as it begins. `None` exactly where one of them is no step of
+// the abstract machine.
+fn read_event(
+    alloc: Global,
+    moment: Moment,
+    event: &TraceEvent,
+    quiet: bool,
+) -> Result<Option<ReadThrough>, AllocError>
+    requires { quiet ≡ true → IsQuietFrom (seen moment) (told_event event.now) }
+    ensures { IfOk result (ReadsRecords (seen moment) (told_event event.now)) }
+{
+    if quiet {
+        read_quiet(alloc, moment, event)
+    } else {
+        read_records(alloc, moment, event)
     }
 }
 

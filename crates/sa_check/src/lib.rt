@@ -8,6 +8,7 @@ mod findings;
 mod judge;
 mod line;
 mod places;
+mod quiet;
 mod records;
 mod trace;
 mod verdict;

@@ -22,8 +22,8 @@ pub(crate) struct RecordsFound {
 }
 
 impl RecordsFound {
-    // Before any record.
-    fn new() -> Self
+    /// Before any record.
+    pub(crate) fn new() -> Self
         ensures told_once { result.told_once ≡ true }
         ensures named { result.named ≡ true }
         ensures told_all { result.told_all ≡ true }

@@ -8,13 +8,14 @@ ghost use Rattle.sa_check.specs.declared.verdict.Verdict.TheVariants.{Legal, Bro
 ghost use Rattle.sa_check.specs.Items.{what_of};
 ghost use Rattle.sa_check.specs.Sides.{told_line, line_told, line_before};
 ghost use Rattle.sa_check.specs.Judged.{Judges};
+ghost use Rattle.sa_check.specs.Quiet.{WasSettled};
 ghost use Rattle.sa_check.specs.Verdict.{last_line, IsVerdict};
 
 use crate::end::LastTold;
-use crate::event::{TraceEvent, event_len, records_of};
+use crate::event::{TraceEvent, event_len, take_records};
 use crate::judge::{Judged, judge};
 use crate::verdict::Verdict;
-use sa_base::Item;
+use sa_base::{Item, Record};
 use sa_check_moment::Moment;
 use sa_laws::Rule;
 use sa_spaces::Workload;
@@ -49,9 +50,17 @@ fn first_broken(alloc: Global, workload: &Workload, text: &TraceText) -> Result<
         });
     }
     let mut moment = Moment::start(alloc, workload)?;
+    let mut records = Vec::new(alloc);
     while let Some(first) = items.first() {
         let (own, others) = items.split_at(event_len(first, items));
-        match judge_items(alloc, moment, first, own, last_behind(line, others))? {
+        match judge_items(
+            alloc,
+            moment,
+            &mut records,
+            first,
+            own,
+            last_behind(line, others),
+        )? {
             Judged::Right(after) => moment = after,
             Judged::Broken(rule) => {
                 return Ok(Verdict::Broken {
@@ -65,18 +74,21 @@ fn first_broken(alloc: Global, workload: &Workload, text: &TraceText) -> Result<
     Ok(Verdict::Legal)
 }
 
-// Judges the event of these items, of which this is the first, on the moment before it.
+// Judges the event of these items, of which this is the first, on the moment before it, which the event before has left
+// as it must be; `records` is room for its records.
 fn judge_items(
     alloc: Global,
     moment: Moment,
+    records: &mut Vec<Record>,
     first: &Item,
     own: &[Item],
     last: Option<LastTold>,
 ) -> Result<Judged, AllocError>
+    requires { WasSettled (seen moment).workload (seen moment).readings }
     ensures { IfOk result (Judges (seen moment)
         (event first.now.event first.now.proc (map what_of own.now)) (line_told last)) }
 {
-    let records = records_of(alloc, own)?;
+    take_records(records, own)?;
     let event = TraceEvent {
         number: first.event,
         proc: first.proc,

@@ -16,5 +16,5 @@ pub use choice::aimed;
 pub use lines::{are_lines_due, lines_due};
 pub use opening::is_numbered;
 pub use prompt::{is_prompt, wants_nothing};
-pub use shares::{covers_shares, shares_at};
+pub use shares::{covers_shares, first_space, shares_at};
 pub use wants::{are_wants_due, wants_due};

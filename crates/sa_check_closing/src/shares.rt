@@ -35,15 +35,16 @@ fn has_shares(shares: &[u16; MAX_SPACES], aims: &[Option<SpaceNo>]) -> bool
     ensures { IsTrue result ↔ ((s : ℕ) → share_at shares.now s ≤ aimed s aims.now) }
 {
     for s in 0..MAX_SPACES {
-        if usize::from(shares[s]) > aimed(aims, SpaceNo(s as u16)) {
+        let share = usize::from(shares[s]);
+        if share > 0 && share > aimed(aims, SpaceNo(s as u16)) {
             return false;
         }
     }
     true
 }
 
-// The space whose turn it is to be served first.
-fn first_space(workload: &Workload, event: u64) -> u16
+/// The space whose turn it is to be served first at this event.
+pub fn first_space(workload: &Workload, event: u64) -> u16
     ensures is { result ≡ first_space workload.now event }
     ensures within { result < length workload.now.spaces }
 {

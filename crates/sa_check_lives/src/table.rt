@@ -90,9 +90,6 @@ impl Table {
         let Some(a) = a else {
             return Ok(());
         };
-        if !self.map.contains_key(&a.0) {
-            return Ok(());
-        }
         add_if(&mut self.holders, a.0, change.adds_lock())?;
         add_if(&mut self.insiders, a.0, change.enters())?;
         let has_lock = write(&mut self.map, a, change)?;
@@ -110,6 +107,9 @@ impl Table {
         let Some(a) = a else {
             return Ok(());
         };
+        if threads.is_empty() {
+            return Ok(());
+        }
         rouse(&mut self.map, a, threads)
     }
 

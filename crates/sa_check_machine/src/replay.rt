@@ -7,6 +7,7 @@ ghost use Rattle.sa_laws.specs.Ends.{are_done, are_at_rest};
 ghost use Rattle.sa_laws.specs.Step.{IsRunner, NobodyRuns};
 ghost use Rattle.sa_check_machine.specs.Running.{is_running, IsFull};
 ghost use Rattle.sa_check_machine.specs.Replayed.{opened, after, gone, program_of};
+ghost use Rattle.sa_check_machine.specs.Counts.{is_ready, count_in};
 ghost use Rattle.sa_check_machine.specs.Index.{runner_at};
 ghost use Rattle.sa_check_machine.specs.Needs.{CanGo, CanPut, CanChange, IsOverfull};
 
@@ -126,6 +127,13 @@ impl Replay {
         ensures { result ≡ active_threads (space_at self.now.state s) }
     {
         self.spaces.active(s)
+    }
+
+    /// How many threads of the space are ready; at most 512.
+    pub fn ready_threads(&self, s: SpaceNo) -> u16
+        ensures { result ≡ count_in is_ready (space_at self.now.state s).threads }
+    {
+        self.spaces.ready(s)
     }
 
     /// The instruction at a place of the thread's program, and `end` where there is none.

@@ -5,6 +5,7 @@ ghost use Rattle.sa_laws.specs.Effect.{effect, effect_of};
 ghost use Rattle.sa_laws.specs.Ends.{are_done, are_at_rest};
 ghost use Rattle.sa_check_machine.specs.Running.{instr_in, CanRun, IsFull, HasCount, can_move};
 ghost use Rattle.sa_check_machine.specs.Space.{HasRoom};
+ghost use Rattle.sa_check_machine.specs.Counts.{is_ready, count_in};
 ghost use Rattle.sa_check_machine.specs.Shape.{IsShaped};
 
 use crate::effect::{does, instr_at};
@@ -73,6 +74,13 @@ impl SpaceThreads {
         ensures { result ≡ active_threads self.now }
     {
         self.threads.active()
+    }
+
+    /// How many threads are ready; at most 512.
+    pub fn ready(&self) -> u16
+        ensures { result ≡ count_in is_ready self.now.threads }
+    {
+        self.threads.ready()
     }
 
     /// Whether each thread is done.

@@ -5,6 +5,7 @@ ghost use Rattle.sa_laws.specs.State.{opening_space, thread_in, put_thread, is_d
 ghost use Rattle.sa_laws.specs.Ends.{are_done, are_at_rest};
 ghost use Rattle.sa_check_machine.specs.Running.{instr_in, CanRun, IsFull, can_move};
 ghost use Rattle.sa_check_machine.specs.Space.{HasRoom};
+ghost use Rattle.sa_check_machine.specs.Counts.{is_ready, count_in};
 ghost use Rattle.sa_check_machine.specs.Spaces.{space_in, with_space_in, HasRun};
 
 use crate::space::SpaceThreads;
@@ -78,6 +79,16 @@ impl Spaces {
     {
         match self.spaces.get(usize::from(s.0)) {
             Some(space) => space.active(),
+            None => 0,
+        }
+    }
+
+    // How many threads of the space are ready; at most 512.
+    pub(crate) fn ready(&self, s: SpaceNo) -> u16
+        ensures { result ≡ count_in is_ready (space_in self.now s).threads }
+    {
+        match self.spaces.get(usize::from(s.0)) {
+            Some(space) => space.ready(),
             None => 0,
         }
     }

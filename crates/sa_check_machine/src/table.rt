@@ -4,7 +4,7 @@ ghost use Rattle.std.specs.List.{list_all};
 ghost use Rattle.sa_laws.specs.declared.place.Place.TheVariants as places;
 ghost use Rattle.sa_laws.specs.State.{at_start, is_active};
 ghost use Rattle.sa_laws.specs.Ends.{is_done, is_at_rest};
-ghost use Rattle.sa_check_machine.specs.Counts.{is_live, is_restless, count_in};
+ghost use Rattle.sa_check_machine.specs.Counts.{is_ready, is_live, is_restless, count_in};
 
 use crate::thread::ThreadState;
 use sa_base::{MAX_THREADS, ThreadNo};
@@ -18,8 +18,9 @@ use std::marker::Model;
 #[derive(Debug, Drop)]
 pub struct Threads {
     threads: Vec<ThreadState>,
-    // how many are ready or run, how many are not done, and how many are ready, run or are carried
+    // how many are ready or run, how many are ready, how many are not done, and how many are ready, run or are carried
     active: u16,
+    ready: u16,
     live: u16,
     restless: u16,
 }
@@ -34,7 +35,7 @@ impl Model for Threads {
 
     ghost view = { λ t. t.threads.items };
 
-    ghost invariant = { λ t. IsCounted t.threads.items t.active t.live t.restless
+    ghost invariant = { λ t. IsCounted t.threads.items t.active t.ready t.live t.restless
         × (MAX_THREADS ≤ vec_capacity t.threads) };
 }
 
@@ -46,6 +47,7 @@ impl Threads {
         Ok(Threads {
             threads: Vec::with_capacity(alloc, usize::from(MAX_THREADS))?,
             active: 0,
+            ready: 0,
             live: 0,
             restless: 0,
         })
@@ -77,6 +79,7 @@ impl Threads {
         let old = self.threads[usize::from(t.0)].place();
         let new = thread.place();
         self.active = moved(self.active, is_active(old), is_active(new));
+        self.ready = moved(self.ready, is_ready(old), is_ready(new));
         self.live = moved(self.live, is_live(old), is_live(new));
         self.restless = moved(self.restless, is_restless(old), is_restless(new));
         self.threads[usize::from(t.0)] = thread;
@@ -89,6 +92,7 @@ impl Threads {
     {
         let place = thread.place();
         self.active = moved(self.active, false, is_active(place));
+        self.ready = moved(self.ready, false, is_ready(place));
         self.live = moved(self.live, false, is_live(place));
         self.restless = moved(self.restless, false, is_restless(place));
         self.threads.push_reserved(thread);
@@ -99,6 +103,13 @@ impl Threads {
         ensures { result ≡ count_in is_active self.now }
     {
         self.active
+    }
+
+    /// How many threads are ready.
+    pub fn ready(&self) -> u16
+        ensures { result ≡ count_in is_ready self.now }
+    {
+        self.ready
     }
 
     /// Whether each thread is done.
@@ -123,6 +134,13 @@ fn is_active(place: Place) -> bool
     ensures { result ≡ is_active place }
 {
     matches!(place, Place::Ready | Place::Running(_))
+}
+
+// Whether a thread there is ready.
+fn is_ready(place: Place) -> bool
+    ensures { result ≡ is_ready place }
+{
+    matches!(place, Place::Ready)
 }
 
 // Whether a thread there is not done.

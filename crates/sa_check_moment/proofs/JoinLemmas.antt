@@ -15,10 +15,11 @@ use Rattle.sa_check_lives.specs.View.{LivesView, lives_of, read_of}
 use Rattle.sa_check_lives.specs.Recorded.{recorded, IsForPush}
 use Rattle.sa_check_lives.proofs.ReadLemmas.{records-read}
 use Rattle.sa_check_machine.specs.Replayed.{roused_by}
+use Rattle.sa_check_ios.specs.Ready.{with_ready}
 use Rattle.sa_check_ios.specs.PendingView.{PendingView, pending_of}
 use Rattle.sa_check_moment.specs.Board.{BoardView, board_of, noted}
 use Rattle.sa_check_moment.specs.Seen.{Seen, Kept, joined, seen, behind_record}
-use Rattle.sa_check_moment.specs.Reading.{begun_by, pending_after, ready_after}
+use Rattle.sa_check_moment.specs.Reading.{ReadsPush, ReadsList, begun_by, pending_after, ready_after}
 
 -- the parts but for the lives
 abbrev rest : WorkloadView → ℕ → ProcNo → Readings → Record → LivesView → Readings
@@ -26,7 +27,7 @@ rest w e p r x lives =
     joined r.number (changed w p r.state x) (noted e p r.last x (board_of r)) lives (pending_after (begun_by w r x) e x (pending_of r))
     (ready_after (first_list (life_on r p) p) x r.ready) (Some x) (moved_after r.moved x)
 
-parts : (w : WorkloadView) (e : ℕ) (p : ProcNo) (r : Readings) (x : Record) (for_push : Bool) → IsForPush r p for_push
+parts : (w : WorkloadView) (e : ℕ) (p : ProcNo) (r : Readings) (x : Record) (for_push : Bool) → ReadsPush r p x for_push
     → after_record w e p r x ≡ rest w e p r x (recorded (roused_by w r.state x) for_push p x (read_of r))
 parts w e p r (Ins s t i) for_push is = refl
 parts w e p r (Out s t value) for_push is = refl
@@ -76,11 +77,38 @@ seen-as n w number state board lives pending ready last moved a b c d f g h i j 
     ∙ ap (λ x. whole w number state board lives pending ready x n.moved) i
     ∙ ap (λ x. whole w number state board lives pending ready last x) j
 
+-- the list matters at a ready alone
+listed-as : (r : Readings) (p : ProcNo) (x : Record) (list : ProcNo) (ready : List (List Listed)) → ReadsList r p x list
+    → ready_after list x ready ≡ ready_after (first_list (life_on r p) p) x ready
+listed-as r p (Ins s t i) list ready is = refl
+listed-as r p (Out s t value) list ready is = refl
+listed-as r p (Run s t) list ready is = refl
+listed-as r p (Stop s t a) list ready is = refl
+listed-as r p (Block s t a io) list ready is = refl
+listed-as r p (Unblock s t a) list ready is = refl
+listed-as r p (Cont s t) list ready is = refl
+listed-as r p (Back s t) list ready is = refl
+listed-as r p (Ready s t) list ready is = ap (λ (to : ProcNo). with_ready ready s t to) is
+listed-as r p (Take s l t) list ready is = refl
+listed-as r p (Free s l t) list ready is = refl
+listed-as r p (Up s a) list ready is = refl
+listed-as r p (Told n) list ready is = refl
+listed-as r p (Move old new) list ready is = refl
+listed-as r p (Want s n) list ready is = refl
+listed-as r p (Aim q s) list ready is = refl
+listed-as r p (Line q) list ready is = refl
+listed-as r p (Fetch s) list ready is = refl
+listed-as r p (Fetched s) list ready is = refl
+listed-as r p (GiveBack a) list ready is = refl
+listed-as r p Idle list ready is = refl
+listed-as r p (Spin l) list ready is = refl
+listed-as r p Tick list ready is = refl
+
 -- what a record's parts are read with: for a take, for a block or a fetch, for a ready
 pub record IsReadWith (m : Kept) (p : ProcNo) (x : Record) (for_push : Bool) (begun : Option Blocking) (list : ProcNo) : Type 0 where
-  pub push : IsForPush (seen m).readings p for_push
+  pub push : ReadsPush (seen m).readings p x for_push
   pub begins : begun ≡ begun_by (seen m).workload (seen m).readings x
-  pub listed : list ≡ first_list (life_on (seen m).readings p) p
+  pub listed : ReadsList (seen m).readings p x list
 
 pub read-whole : (m n : Kept) (e : ℕ) (p : ProcNo) (x : Record) (for_push : Bool) (begun : Option Blocking) (list : ProcNo) (roused : List ThreadNo)
     → IsReadWith m p x for_push begun list → n.workload ≡ m.workload → n.number ≡ m.number → n.state ≡ changed m.workload p m.state x
@@ -94,5 +122,5 @@ read-whole m n e p x for_push begun list roused is workload number state woken b
     (pending_after (begun_by m.workload r x) e x (pending_of r)) (ready_after (first_list (life_on r p) p) x r.ready) (Some x) (moved_after r.moved x)
     workload number state board (lives ∙ ap (λ (threads : List ThreadNo). recorded threads for_push p x (lives_of m.lives)) woken)
     (pending ∙ ap (λ (b : Option Blocking). pending_after b e x m.pending) is.begins)
-    (ready ∙ ap (λ (l : ProcNo). ready_after l x m.ready) is.listed) last moved
+    (ready ∙ listed-as r p x list m.ready is.listed) last moved
     ∙ ap (λ (s : Readings). let whole : Seen = record { workload = m.workload; readings = s } in whole) (sym (parts m.workload e p r x for_push is.push))

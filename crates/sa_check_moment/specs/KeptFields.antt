@@ -1,9 +1,10 @@
 -- A moment's fields as a contract sees them.
 use Rattle.sa_check_moment.specs.declared.moment.Moment.TheInside.{Inside}
+use Rattle.sa_check_moment.specs.declared.moment.Parts.{Parts}
 use Rattle.sa_check_moment.specs.Seen.{Kept}
 
-abbrev pub kept_of : Inside → Kept
-kept_of m = record {
+abbrev pub kept_in : Parts → Kept
+kept_in m = record {
   workload = m.replay.workload;
   number = m.number;
   state = m.replay.state;
@@ -14,3 +15,6 @@ kept_of m = record {
   last = m.last;
   moved = m.moved;
 }
+
+abbrev pub kept_of : Inside → Kept
+kept_of m = kept_in m.parts.value

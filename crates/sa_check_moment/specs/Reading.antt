@@ -1,14 +1,24 @@
 -- What one record changes, part by part.
-use Rattle.std.specs.Prelude.{ℕ, List, Option, Some, None}
+use Rattle.std.specs.Prelude.{◌≡◌, ℕ, Bool, List, Option, Some, None}
 use Rattle.sa_base.specs.declared.number.ProcNo.{ProcNo}
 use Rattle.sa_base.specs.declared.record.Record.{Record}
-use Rattle.sa_base.specs.declared.record.Record.TheVariants.{Block, Unblock, Ready, Run, Fetch, Fetched}
+use Rattle.sa_base.specs.declared.record.Record.TheVariants.{Block, Unblock, Ready, Take, Run, Fetch, Fetched}
 use Rattle.sa_spaces.specs.Workload.{WorkloadView}
 use Rattle.sa_devices.specs.declared.kind.IoKind.TheVariants.{Upcall}
-use Rattle.sa_laws.specs.Readings.{Readings, Listed}
-use Rattle.sa_laws.specs.Record.{Blocking, blocking}
+use Rattle.sa_laws.specs.Readings.{Readings, Listed, life_on}
+use Rattle.sa_laws.specs.Record.{Blocking, blocking, first_list}
+use Rattle.sa_check_lives.specs.Recorded.{IsForPush}
 use Rattle.sa_check_ios.specs.PendingView.{PendingView, begun_for, without_life, without_fetch}
 use Rattle.sa_check_ios.specs.Ready.{with_ready, without_ready}
+
+-- at a take, whether it is for a push; at a ready, the list in which the thread comes to stand
+abbrev pub ReadsPush : Readings → ProcNo → Record → Bool → Type 0
+ReadsPush r p (Take s l t) for_push = IsForPush r p for_push
+ReadsPush r p _ for_push = Unit {0}
+
+abbrev pub ReadsList : Readings → ProcNo → Record → ProcNo → Type 0
+ReadsList r p (Ready s t) list = list ≡ first_list (life_on r p) p
+ReadsList r p _ list = Unit {0}
 
 -- the I/O that a record begins
 abbrev pub begun_by : WorkloadView → Readings → Record → Option Blocking

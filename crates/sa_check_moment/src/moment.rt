@@ -36,8 +36,16 @@ use std::marker::Model;
 ///
 /// A query takes constant or logarithmic time, but for one that looks at what a space was not told, at its ready threads,
 /// at a hand or at the locks of lives, which takes time in these; an event takes such time for each of its records.
+///
+/// It lies on the heap, so that it is moved for nothing.
 #[derive(Debug, Drop)]
 pub struct Moment {
+    parts: Box<Parts>,
+}
+
+// The parts of what is read.
+#[derive(Debug, Drop)]
+struct Parts {
     replay: Replay,
     lives: Lives,
     pending: Pending,
@@ -68,7 +76,7 @@ impl Moment {
     {
         let processors = usize::from(workload.processors());
         let spaces = workload.spaces().len();
-        Ok(Moment {
+        let parts = Parts {
             replay: Replay::start(alloc, workload)?,
             lives: Lives::new(alloc, workload.processors(), spaces as u16)?,
             pending: Pending::new(alloc, workload)?,
@@ -77,6 +85,9 @@ impl Moment {
             number: 0,
             last: None,
             moved: None,
+        };
+        Ok(Moment {
+            parts: Box::new(alloc, parts)?,
         })
     }
 
@@ -84,91 +95,91 @@ impl Moment {
     pub fn workload(&self) -> &Workload
         ensures { result.now ≡ (seen self.now).workload }
     {
-        self.replay.workload()
+        self.parts.replay.workload()
     }
 
     /// The number of the next event: how many there were.
     pub fn number(&self) -> u64
         ensures { result ≡ (seen self.now).readings.number }
     {
-        self.number
+        self.parts.number
     }
 
     /// The space that owns the processor.
     pub fn owner(&self, p: ProcNo) -> Option<SpaceNo>
         ensures { result ≡ owner_of (seen self.now).readings p }
     {
-        self.replay.owner(p)
+        self.parts.replay.owner(p)
     }
 
     /// What every moment keeps to. It does nothing.
     pub fn ranges(&self)
         ensures { IsListed (seen self.now) }
     {
-        let _number = &self.number;
+        let _number = &self.parts.number;
     }
 
     /// The space of the processor's last aim record.
     pub fn aim(&self, p: ProcNo) -> Option<SpaceNo>
         ensures { result ≡ aim_of (seen self.now).readings p }
     {
-        self.board.aim(p)
+        self.parts.board.aim(p)
     }
 
     /// The event that raised the processor's line, `None` where it is low.
     pub fn line(&self, p: ProcNo) -> Option<u64>
         ensures { result ≡ line_of (seen self.now).readings p }
     {
-        self.board.line(p)
+        self.parts.board.line(p)
     }
 
     /// Of each processor: the space that owns it.
     pub fn owners(&self) -> &[Option<SpaceNo>]
         ensures { result.now ≡ (seen self.now).readings.state.owners }
     {
-        self.replay.owners()
+        self.parts.replay.owners()
     }
 
     /// Of each processor: the space of its last aim record.
     pub fn aims(&self) -> &[Option<SpaceNo>]
         ensures { result.now ≡ (seen self.now).readings.aims }
     {
-        self.board.aims()
+        self.parts.board.aims()
     }
 
     /// Of each processor: the event that raised its line.
     pub fn lines(&self) -> &[Option<u64>]
         ensures { result.now ≡ (seen self.now).readings.lines }
     {
-        self.board.lines()
+        self.parts.board.lines()
     }
 
     /// Of each processor: its idle mark.
     pub fn marks(&self) -> &[bool]
         ensures { result.now ≡ (seen self.now).readings.marks }
     {
-        self.board.marks()
+        self.parts.board.marks()
     }
 
     /// The number of the life that runs on the processor.
     pub fn running(&self, p: ProcNo) -> Option<ActNo>
         ensures { result ≡ running_of (seen self.now).readings p }
     {
-        self.lives.running(p)
+        self.parts.lives.running(p)
     }
 
     /// Of each processor: its running life.
     pub fn all_running(&self) -> &[Option<ActNo>]
         ensures { result.now ≡ (seen self.now).readings.running }
     {
-        self.lives.all_running()
+        self.parts.lives.all_running()
     }
 
     /// The life of this number, if it is in use.
     pub fn life(&self, a: ActNo) -> Option<&KeptLife>
         ensures { option_copied result ≡ life_of (seen self.now).readings a }
     {
-        self.lives.life(a)
+        self.parts.lives.life(a)
     }
 
     /// The life that runs on the processor.
@@ -195,42 +206,42 @@ impl Moment {
     pub fn demand(&self, s: SpaceNo) -> u16
         ensures { result ≡ demand_of (seen self.now).readings s }
     {
-        self.board.demand(s)
+        self.parts.board.demand(s)
     }
 
     /// What the space was not told yet, in order.
     pub fn untold(&self, s: SpaceNo) -> &[Note]
         ensures { result.now ≡ untold_of (seen self.now).readings s }
     {
-        self.lives.untold(s)
+        self.parts.lives.untold(s)
     }
 
     /// The lives of the space that were taken and not given back, in the order of taking.
     pub fn taken(&self, s: SpaceNo) -> &[ActNo]
         ensures { result.now ≡ taken_of (seen self.now).readings s }
     {
-        self.lives.taken(s)
+        self.parts.lives.taken(s)
     }
 
     /// How many I/Os and fetches were begun.
     pub fn begun(&self) -> u64
         ensures { result ≡ (seen self.now).readings.begun }
     {
-        self.pending.begun()
+        self.parts.pending.begun()
     }
 
     /// The page of the space is resident.
     pub fn is_resident(&self, s: SpaceNo, page: u16) -> bool
         ensures { result ≡ is_resident (seen self.now).readings s page }
     {
-        self.pending.is_resident(s, page)
+        self.parts.pending.is_resident(s, page)
     }
 
     /// The upcall page of the space is being fetched.
     pub fn is_fetching(&self, s: SpaceNo) -> bool
         ensures { result ≡ is_fetching (seen self.now).readings s }
     {
-        self.pending.is_fetching(s)
+        self.parts.pending.is_fetching(s)
     }
 
     /// What the I/O is for that is due at the event: the one with the least end up to the event, and of these the one
@@ -238,35 +249,35 @@ impl Moment {
     pub fn due(&self, event: u64) -> Option<IoKind>
         ensures { result ≡ option_map (λ (io : Io). io.kind) (due_of event (seen self.now).readings.under_way) }
     {
-        self.pending.due(event)
+        self.parts.pending.due(event)
     }
 
     /// Some I/O is under way.
     pub fn is_busy(&self) -> bool
         ensures { IsTrue result ↔ ((seen self.now).readings.under_way ≢ []) }
     {
-        self.pending.is_busy()
+        self.parts.pending.is_busy()
     }
 
     /// The thread; one that was not made counts as done.
     pub fn thread(&self, s: SpaceNo, t: ThreadNo) -> ThreadState
         ensures { result ≡ thread_at (seen self.now).readings.state s t }
     {
-        self.replay.thread(s, t)
+        self.parts.replay.thread(s, t)
     }
 
     /// The thread that runs on the processor.
     pub fn runner(&self, p: ProcNo) -> Option<RunningThread>
         ensures { result ≡ runner_on (seen self.now).readings.state p }
     {
-        self.replay.runner(p)
+        self.parts.replay.runner(p)
     }
 
     /// The instruction at a place of the thread's program, and `end` where there is none.
     pub fn instr_of(&self, s: SpaceNo, t: ThreadNo, place: u16) -> Instr
         ensures { result ≡ instr_of (seen self.now).workload (seen self.now).readings.state s t place }
     {
-        self.replay.instr_of(s, t, place)
+        self.parts.replay.instr_of(s, t, place)
     }
 
     /// The thread that runs on the life's processor.
@@ -288,14 +299,14 @@ impl Moment {
     pub fn counts(&self, s: SpaceNo, t: ThreadNo) -> bool
         ensures { result ≡ counts (space_at (seen self.now).readings.state s) t }
     {
-        self.thread(s, t).place() == Place::Carried || self.replay.is_due(s, t)
+        self.thread(s, t).place() == Place::Carried || self.parts.replay.is_due(s, t)
     }
 
     /// The ready and running threads of the space, and the threads of its untold stops.
     pub fn load(&self, s: SpaceNo) -> u128
         ensures { result ≡ load_of (seen self.now).readings s }
     {
-        u128::from(self.replay.active_threads(s)) + self.lives.untold_threads(s) as u128
+        u128::from(self.parts.replay.active_threads(s)) + self.parts.lives.untold_threads(s) as u128
     }
 
     /// How many processors the load of the space can use.
@@ -328,28 +339,28 @@ impl Moment {
     pub fn is_locked(&self, s: SpaceNo, l: ProcNo) -> bool
         ensures { IsTrue result ↔ IsLocked (seen self.now).readings s l }
     {
-        self.lives.is_locked(s, l)
+        self.parts.lives.is_locked(s, l)
     }
 
     /// Some other life of the space than `a` has the list among its locks.
     pub fn is_locked_by_other(&self, a: ActNo, s: SpaceNo, l: ProcNo) -> bool
         ensures { IsTrue result ↔ AnotherHas (seen self.now).readings a s l }
     {
-        self.lives.is_locked_by_other(a, s, l)
+        self.parts.lives.is_locked_by_other(a, s, l)
     }
 
     /// The thread holds the lock of a list.
     pub fn holds_lock(&self, s: SpaceNo, t: ThreadNo) -> bool
         ensures { IsTrue result ↔ HoldsLock (seen self.now).readings s t }
     {
-        self.lives.holds_lock(s, t)
+        self.parts.lives.holds_lock(s, t)
     }
 
     /// A ready thread of the space stands in the list.
     pub fn has_ready(&self, s: SpaceNo, l: ProcNo) -> bool
         ensures { result ≡ has_ready (seen self.now).readings s l }
     {
-        self.ready.has_ready(s, l)
+        self.parts.ready.has_ready(s, l)
     }
 
     /// Each list of the space in which a ready thread stands is locked.
@@ -385,9 +396,9 @@ impl Moment {
         ensures { result ≡ next_thread (seen self.now).readings s lock }
     {
         let next = if lock.own {
-            self.ready.newest(s, lock.list)
+            self.parts.ready.newest(s, lock.list)
         } else {
-            self.ready.oldest(s, lock.list)
+            self.parts.ready.oldest(s, lock.list)
         };
         next.map(|x| x.thread)
     }
@@ -396,28 +407,28 @@ impl Moment {
     pub fn upped(&self) -> Option<ActNo>
         ensures { result ≡ (seen self.now).readings.upped }
     {
-        self.lives.upped()
+        self.parts.lives.upped()
     }
 
     /// The record of the same event that stands directly before.
     pub fn last(&self) -> Option<Record>
         ensures { result ≡ (seen self.now).readings.last }
     {
-        self.last
+        self.parts.last
     }
 
     /// The space to which the event's processor moved.
     pub fn moved(&self) -> Option<SpaceNo>
         ensures { result ≡ (seen self.now).readings.moved }
     {
-        self.moved
+        self.parts.moved
     }
 
     /// Every thread that was made is done.
     pub fn are_all_done(&self) -> bool
         ensures { IsTrue result ↔ IsAllDone (seen self.now).readings }
     {
-        self.replay.are_all_done()
+        self.parts.replay.are_all_done()
     }
 
     /// Some thread is not done, and nothing can happen any more.
@@ -447,35 +458,35 @@ impl Moment {
     fn must_hear(&self, note: Note) -> bool
         ensures { result ≡ must_hear (seen self.now).readings note }
     {
-        self.lives.must_be_told(note)
+        self.parts.lives.must_be_told(note)
     }
 
     // The ready threads of the space, in the order of their ready records.
     fn listed(&self, s: SpaceNo) -> &[ListedThread]
         ensures { result.now ≡ ready_of (seen self.now).readings s }
     {
-        self.ready.listed(s)
+        self.parts.ready.listed(s)
     }
 
     // No thread is ready, runs or is carried.
     fn are_all_at_rest(&self) -> bool
         ensures { IsTrue result ↔ (list_all are_at_rest (seen self.now).readings.state.spaces ≡ true) }
     {
-        self.replay.are_all_at_rest()
+        self.parts.replay.are_all_at_rest()
     }
 
     // No line is raised.
     fn are_all_low(&self) -> bool
         ensures { result ≡ list_all is_none (seen self.now).readings.lines }
     {
-        self.board.all_low()
+        self.parts.board.all_low()
     }
 
     // Some life is in.
     fn some_is_in(&self) -> bool
         ensures { IsTrue result ↔ SomeIsIn (seen self.now).readings.lives }
     {
-        self.lives.some_is_in()
+        self.parts.lives.some_is_in()
     }
 
     // Nobody locks the list, and a ready thread stands in it.

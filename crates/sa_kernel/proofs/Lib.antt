@@ -2,3 +2,4 @@ mod RunLemmas
 mod GivenBack
 mod KeptLemmas
 mod LawfulLemmas
+mod LowLemmas

@@ -6,6 +6,7 @@ ghost use Rattle.sa_base.specs.Recorded.{Adds};
 ghost use Rattle.sa_laws.specs.History.{Test};
 
 use crate::machine::Machine;
+use crate::seen::Lows;
 use crate::start::OPENING;
 use sa_base::{IoNo, MAX_EVENTS, MAX_PROCESSORS, Note, ProcNo, Seen, SpaceNo, Stopped, Trace};
 use sa_kernel_model::{ENTRY_ITEMS, Entry, Given};
@@ -19,18 +20,20 @@ use std::marker::Model;
 #[derive(Debug, Drop)]
 pub struct Kernel<C: Drop> {
     parts: Machine<C>,
+    // It changes at closings alone.
+    lows: Lows,
     spare: usize,
     last: u64,
 }
 
 impl<C: Drop> Model for Kernel<C> {
-    ghost use Rattle.sa_kernel.specs.Kept.{KernelView, IsKept};
+    ghost use Rattle.sa_kernel.specs.Kept.{KernelView, IsReady};
 
     ghost Value = { KernelView C };
 
     ghost view = { λ k. record { parts = k.parts; spare = k.spare; last = k.last } };
 
-    ghost invariant = { λ k. IsKept k.parts k.spare k.last };
+    ghost invariant = { λ k. IsReady k.parts k.lows k.spare k.last };
 }
 
 impl<C: Drop> Kernel<C> {
@@ -64,8 +67,10 @@ impl<C: Drop> Kernel<C> {
         trace.reserve(OPENING)?;
         let mut parts = Machine::new(alloc, w)?;
         parts.open(trace);
+        let lows = parts.lows();
         Ok(Kernel {
             parts,
+            lows,
             spare: 0,
             last: 0,
         })
@@ -112,6 +117,7 @@ impl<C: Drop> Kernel<C> {
     {
         let given = self.parts.enter_as(event, p, entry, trace);
         self.parts.close(event, p, trace);
+        self.lows = self.parts.lows();
         self.spare -= 1;
         self.last = event;
         given
@@ -134,6 +140,7 @@ impl<C: Drop> Kernel<C> {
         ensures lawful { GoesOnLawfully event p None (scene self.old trace.old) (scene self.new trace.new) }
     {
         self.parts.close(event, p, trace);
+        self.lows = self.parts.lows();
         self.last = event;
     }
 
@@ -228,7 +235,7 @@ impl<C: Drop> Kernel<C> {
         ensures { (s : SpaceNo) → owner_of (kernel_of self.now) p ≡ Some s
             → result ≡ seen_of (kernel_of self.now) p s event }
     {
-        self.parts.seen(p, event)
+        self.parts.seen(p, event, &self.lows)
     }
 
     /// Whether nothing can come any more of what was done: no I/O or fetch is under way, no line is raised, and no space

@@ -1,34 +1,51 @@
 // What a user level sees of the kernel, and whether nothing can happen any more.
-ghost use Rattle.std.specs.Prelude.{◌≡◌, ℕ, ◌<◌, length, is_some, Some, IsSome};
+ghost use Rattle.std.specs.Prelude.{◌≡◌, ℕ, ◌^◌, ◌<◌, bit_or, length, is_some, Some, IsSome};
 ghost use Rattle.sa_assign.specs.Aims.{least_below};
 
 use crate::machine::Machine;
-use sa_base::{ProcNo, Seen, SpaceNo};
+use sa_base::{MAX_SPACES, ProcNo, Seen, SpaceNo};
+
+// Of each space, what it sees of low lines: bit q says that it owns processor q, whose line is low.
+pub(crate) type Lows = [u16; MAX_SPACES];
 
 impl<C: Drop> Machine<C> {
     ghost use Rattle.sa_kernel.specs.View.{state_of};
+    ghost use Rattle.sa_kernel.specs.Kept.{AreLow, IsLowOwner};
     ghost use Rattle.sa_kernel_model.specs.State.{owner_of};
-    ghost use Rattle.sa_kernel_model.specs.Sound.{HasSizes, AreSpaces};
-    ghost use Rattle.sa_kernel_model.specs.Seen.{low_of, seen_of, has_line, has_call, is_quiet};
+    ghost use Rattle.sa_kernel_model.specs.Sound.{HasSizes, AreSpaces, IsFormed};
+    ghost use Rattle.sa_kernel_model.specs.Seen.{seen_of, has_line, has_call, is_quiet};
 
-    // Bit q says that the space owns processor q, whose line is low.
-    fn low(&self, s: SpaceNo) -> u16
-        requires { HasSizes (state_of self.now) }
-        ensures { result ≡ low_of (state_of self.now) s }
+    // What each space sees of low lines.
+    pub(crate) fn lows(&self) -> Lows
+        requires { IsFormed (state_of self.now) }
+        ensures { AreLow (state_of self.now) result }
     {
-        let mut low: u16 = 0;
+        let mut lows = [0; MAX_SPACES];
         for q in 0..self.assign.processors() {
-            if self.has_low_line(s, ProcNo(q)) {
-                low |= 1 << q;
+            if let Some(s) = self.low_owner(ProcNo(q)) {
+                lows[usize::from(s.0)] = with_bit(lows[usize::from(s.0)], q);
             }
         }
-        low
+        lows
     }
 
-    // What the space sees on one of its processors.
-    fn seen_by(&self, p: ProcNo, s: SpaceNo, event: u64) -> Seen
+    // The space that owns the processor, whose line is low.
+    fn low_owner(&self, p: ProcNo) -> Option<SpaceNo>
+        requires sizes { HasSizes (state_of self.now) }
+        requires within { p.0 < length self.now.lives.items }
+        ensures { IsLowOwner (state_of self.now) p result }
+    {
+        if self.assign.line(p).is_some() {
+            return None;
+        }
+        self.assign.owner(p)
+    }
+
+    // What the space sees on one of its processors, where this is what each space sees of low lines.
+    fn seen_by(&self, p: ProcNo, s: SpaceNo, event: u64, lows: &Lows) -> Seen
         requires sizes { HasSizes (state_of self.now) }
         requires space { s.0 < length self.now.demands.items }
+        requires lows { AreLow (state_of self.now) lows.now }
         ensures { result ≡ seen_of (state_of self.now) p s event }
     {
         Seen {
@@ -37,23 +54,24 @@ impl<C: Drop> Machine<C> {
             demand: self.demands[usize::from(s.0)],
             pages: self.devices.pages(s),
             taken: self.acts.taken(s),
-            low: self.low(s),
+            low: lows[usize::from(s.0)],
         }
     }
 
-    // What the space that owns the processor sees there.
-    pub(crate) fn seen(&self, p: ProcNo, event: u64) -> Seen
+    // What the space that owns the processor sees there, where this is what each space sees of low lines.
+    pub(crate) fn seen(&self, p: ProcNo, event: u64, lows: &Lows) -> Seen
         requires sizes { HasSizes (state_of self.now) }
         requires owners { AreSpaces (length self.now.demands.items) self.now.assign.owners }
         requires within { p.0 < length self.now.lives.items }
         requires owned { IsSome (owner_of (state_of self.now) p) }
+        requires lows { AreLow (state_of self.now) lows.now }
         ensures { (s : SpaceNo) → owner_of (state_of self.now) p ≡ Some s
             → result ≡ seen_of (state_of self.now) p s event }
     {
         let Some(s) = self.assign.owner(p) else {
             unreachable!()
         };
-        self.seen_by(p, s, event)
+        self.seen_by(p, s, event, lows)
     }
 
     // Whether the line of a processor is raised.
@@ -89,4 +107,12 @@ impl<C: Drop> Machine<C> {
     {
         !self.devices.busy() && !self.has_line() && !self.has_call()
     }
+}
+
+// The number with bit q.
+fn with_bit(low: u16, q: u16) -> u16
+    requires { q < 16 }
+    ensures { result ≡ bit_or low (2 ^ q) }
+{
+    low | 1 << q
 }

@@ -3,3 +3,4 @@ pub mod NumberOf
 pub mod LineLemmas
 pub mod PieceLemmas
 pub mod Lacking
+pub mod DigitLemmas

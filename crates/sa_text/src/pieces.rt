@@ -1,5 +1,5 @@
 // The pieces of a line, between its spaces.
-ghost use Rattle.std.specs.Prelude.{◌≡◌, ◌+◌, ◌<◌, ◌≤◌, ◌↔◌, [], ◌∷◌, length, slice_index, slice_range, IsNone, IfSome, MatchOption};
+ghost use Rattle.std.specs.Prelude.{◌≡◌, ◌+◌, ◌<◌, ◌≤◌, ◌↔◌, ◌&&◌, nat_le, [], ◌∷◌, length, slice_index, slice_range, IsNone, IfSome, MatchOption};
 ghost use Rattle.sa_text.specs.Line.{IsWithin};
 ghost use Rattle.sa_text.specs.Pieces.{pieces_of, pieces_from, is_printed, LacksSpace};
 
@@ -80,5 +80,16 @@ impl<'a> Pieces<'a> {
 pub fn is_printed(bytes: &[u8]) -> bool
     ensures { result ≡ is_printed bytes.now }
 {
-    bytes.iter().all(|byte| 32 <= *byte && *byte <= 126)
+    let mut printed = true;
+    for byte in bytes {
+        printed &= is_printed_byte(*byte);
+    }
+    printed
+}
+
+// The byte is a printable ASCII character.
+fn is_printed_byte(byte: u8) -> bool
+    ensures { result ≡ (nat_le 32 byte && nat_le byte 126) }
+{
+    32 <= byte && byte <= 126
 }

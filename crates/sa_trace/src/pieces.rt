@@ -83,8 +83,24 @@ fn read_note(words: &mut Pieces) -> Result<Kind, Cause>
     note_of(word).ok_or(Cause::BadWord)
 }
 
-// The kind of this word.
+// The kind of this word. The words of most lines come first.
 fn kind_of(word: &[u8]) -> Option<Kind>
+    ensures { result ≡ find (has_word word.now) KINDS }
+{
+    match word {
+        b"ins" => Some(Kind::Ins),
+        b"run" => Some(Kind::Run),
+        b"take" => Some(Kind::Take),
+        b"free" => Some(Kind::Free),
+        b"ready" => Some(Kind::Ready),
+        b"idle" => Some(Kind::Idle),
+        b"spin" => Some(Kind::Spin),
+        _ => any_kind_of(word),
+    }
+}
+
+// The kind of this word, whichever it is.
+fn any_kind_of(word: &[u8]) -> Option<Kind>
     ensures { result ≡ find (has_word word.now) KINDS }
 {
     KINDS.iter().copied().find(|kind| kind.form().word == word)

@@ -3,7 +3,7 @@ ghost use Rattle.std.specs.List.{flat_map};
 ghost use Rattle.sa_trace.specs.TraceText.{counts_text, line_of, last_line_of, trace_text, end_word};
 
 use crate::counts::kind_counts;
-use crate::fields::{push_field, push_record};
+use crate::fields::{push_number, push_record};
 use sa_base::{End, Item, Trace};
 use sa_text::print_number;
 use std::alloc::{AllocError, Global};
@@ -42,8 +42,7 @@ fn push_line(out: &mut Vec<u8>, item: &Item) -> Result<(), AllocError>
     ensures { OnOk result (out.new.items ≡ out.old.items ++ line_of item.now) }
 {
     print_number(item.event, out)?;
-    push_field(out, Some(u64::from(item.proc.0)))?;
-    out.extend_from_slice(b" ")?;
+    push_number(out, u64::from(item.proc.0))?;
     push_record(out, &item.what)?;
     out.extend_from_slice(b"\n")
 }
@@ -58,7 +57,7 @@ fn push_last_line(
 {
     out.extend_from_slice(b"end ")?;
     out.extend_from_slice(word(end))?;
-    push_field(out, Some(events))?;
+    push_number(out, events)?;
     push_counts(out, &kind_counts(items))?;
     out.extend_from_slice(b"\n")
 }
@@ -77,7 +76,7 @@ fn push_counts(out: &mut Vec<u8>, counts: &[u64]) -> Result<(), AllocError>
     ensures { OnOk result (out.new.items ≡ out.old.items ++ counts_text counts.now) }
 {
     for &count in counts {
-        push_field(out, Some(count))?;
+        push_number(out, count)?;
     }
     Ok(())
 }

@@ -9,7 +9,7 @@ ghost use Rattle.sa_check_lives.specs.View.{lives_of};
 ghost use Rattle.sa_check_moment.specs.Seen.{seen, at_end, lowers};
 ghost use Rattle.sa_check_moment.specs.Ending.{is_in, is_in_if, settles_by, scan_by, step_with, step_by, up_by, stepped_if, arisen_if};
 
-use crate::moment::Moment;
+use crate::moment::{Moment, Parts};
 use crate::start::Start;
 use sa_base::{ActNo, ProcNo, Record};
 use sa_check_life::{KeptLife, Scan, Stepped};
@@ -45,9 +45,10 @@ impl Moment {
         let _event = number;
         let step = self.step_by(records, start);
         let up = self.up_by(p, records);
-        self.number = end_event(&mut self.lives, self.number, start.running, step, p, up)?;
-        self.last = None;
-        self.moved = None;
+        let parts: &mut Parts = &mut self.parts;
+        parts.number = end_event(&mut parts.lives, parts.number, start.running, step, p, up)?;
+        parts.last = None;
+        parts.moved = None;
         Ok(self)
     }
 

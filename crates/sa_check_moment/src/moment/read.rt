@@ -13,9 +13,9 @@ ghost use Rattle.sa_check_machine.specs.Replayed.{after};
 ghost use Rattle.sa_check_machine.specs.Needs.{CanChange, NeedsWith, Sees, seen_of};
 ghost use Rattle.sa_check_ios.specs.Kept.{HasPage};
 ghost use Rattle.sa_check_moment.specs.Seen.{seen, at_event, behind_record};
-ghost use Rattle.sa_check_moment.specs.Reading.{begun_by, ended_by, pending_after, ready_after};
+ghost use Rattle.sa_check_moment.specs.Reading.{ReadsPush, ReadsList, begun_by, ended_by, pending_after, ready_after};
 
-use crate::moment::Moment;
+use crate::moment::{Moment, Parts};
 use sa_base::{ActNo, Item, PACKAGE_PAGE, ProcNo, Record, SpaceNo, ThreadNo};
 use sa_check_ios::{Pending, ReadyLists};
 use sa_check_lives::Lives;
@@ -45,7 +45,7 @@ impl Model for Begun {
 // What is read of the moment before a record, for the parts that the record changes.
 #[derive(Clone, Copy, Debug)]
 struct Before {
-    // A take of the life that runs on the processor would be for a push.
+    // A take of the life that runs on the processor is for a push, where the record is one.
     for_push: bool,
     // The I/O that the record begins.
     begun: Option<Begun>,
@@ -66,10 +66,11 @@ impl Moment {
     pub fn begin(&mut self, number: u64, p: ProcNo)
         ensures { seen self.new ≡ at_event number p (seen self.old) }
     {
-        self.pending.evict(number, self.replay.workload());
-        self.board.lower(p);
-        self.last = None;
-        self.moved = None;
+        let parts: &mut Parts = &mut self.parts;
+        parts.pending.evict(number, parts.replay.workload());
+        parts.board.lower(p);
+        parts.last = None;
+        parts.moved = None;
     }
 
     /// Reads a record of an event of this number and processor, which the abstract machine can take. Fails where memory
@@ -79,16 +80,17 @@ impl Moment {
         ensures { IfOk result (λ m. seen m ≡ behind_record number p what.now (seen self)) }
     {
         let before = Before {
-            for_push: self.is_for_push(p),
+            for_push: self.push_at(p, what),
             begun: self.begun_by(what),
-            list: self.first_list(p),
+            list: self.list_at(p, what),
         };
-        self.board.note(number, p, self.last, what);
+        let parts: &mut Parts = &mut self.parts;
+        parts.board.note(number, p, parts.last, what);
         read_parts(
-            &mut self.replay,
-            &mut self.lives,
-            &mut self.pending,
-            &mut self.ready,
+            &mut parts.replay,
+            &mut parts.lives,
+            &mut parts.pending,
+            &mut parts.ready,
             Item {
                 event: number,
                 proc: p,
@@ -96,8 +98,8 @@ impl Moment {
             },
             before,
         )?;
-        self.moved = moved_after(self.moved, what);
-        self.last = Some(*what);
+        parts.moved = moved_after(parts.moved, what);
+        parts.last = Some(*what);
         Ok(self)
     }
 
@@ -106,7 +108,7 @@ impl Moment {
         ensures { let m = seen self.now in
             IsTrue result ↔ NeedsWith m.workload p m.readings.state beyond.now what.now }
     {
-        self.replay.allows(p, what, beyond)
+        self.parts.replay.allows(p, what, beyond)
     }
 
     // What the record's needs look at beyond the abstract machine's state.
@@ -114,13 +116,13 @@ impl Moment {
         ensures { Sees (seen self.now).readings what.now result }
     {
         let (pages, life) = match *what {
-            Record::Ins(s, _, _) => (self.pending.pages(s), None),
-            Record::Block(s, _, a, _) => (self.pending.pages(s), self.life_seen(a)),
+            Record::Ins(s, _, _) => (self.parts.pending.pages(s), None),
+            Record::Block(s, _, a, _) => (self.parts.pending.pages(s), self.life_seen(a)),
             Record::Unblock(_, _, a) => (0, self.life_seen(a)),
             _ => (0, None),
         };
         Beyond {
-            last: self.last,
+            last: self.parts.last,
             pages,
             life,
         }
@@ -137,6 +139,26 @@ impl Moment {
                 thread: life.thread(),
                 locks_one: life.has_lock(),
             }),
+        }
+    }
+
+    // At a take: it is for a push.
+    fn push_at(&self, p: ProcNo, what: &Record) -> bool
+        ensures { ReadsPush (seen self.now).readings p what.now result }
+    {
+        match *what {
+            Record::Take(..) => self.is_for_push(p),
+            _ => false,
+        }
+    }
+
+    // At a ready: the list in which the thread comes to stand.
+    fn list_at(&self, p: ProcNo, what: &Record) -> ProcNo
+        ensures { ReadsList (seen self.now).readings p what.now result }
+    {
+        match *what {
+            Record::Ready(..) => self.first_list(p),
+            _ => p,
         }
     }
 
@@ -215,7 +237,7 @@ impl Moment {
         self.workload().ranges();
         match t {
             None => 0,
-            Some(t) => page_in(self.replay.next_instr(s, t)),
+            Some(t) => page_in(self.parts.replay.next_instr(s, t)),
         }
     }
 

@@ -7,8 +7,10 @@ use Rattle.sa_check.specs.declared.judge.Judged.{Judged}
 use Rattle.sa_check.specs.declared.verdict.Verdict.TheVariants.{Legal, Broken}
 use Rattle.sa_check.specs.Items.{what_of}
 use Rattle.sa_check.specs.Judged.{Judges}
+use Rattle.sa_check.specs.Quiet.{WasSettled}
 use Rattle.sa_check.specs.Sides.{line_told}
 use Rattle.sa_check.specs.Verdict.{last_line}
+use Rattle.sa_check.proofs.QuietLemmas.{settled-next, settled-first}
 use Rattle.sa_check.proofs.EventLemmas.{event-cut, shorter, no-head, some-events, counted-some, counted-none}
 use Rattle.sa_check.proofs.WalkLemmas.{IsVerdictFrom, goes-on, stops-at, empty-breaks, verdict-from}
 use Rattle.sa_check.proofs.trace.first_broken.Goals as goal
@@ -19,6 +21,7 @@ loop-first-init c =
     let line = last_line c.args.text.now in
     record {
       workload = ap (λ (m : Seen). m.workload) c.in_ok-moment.ensures;
+      settled = subst (λ (m : Seen). WasSettled m.workload m.readings) (sym c.in_ok-moment.ensures) (settled-first w);
       some = λ none. counted-some c.items-items.result.now (sym c.is_empty.ensures ∙ c.if-is_empty.false) (c.items-items.ensures ∙ none);
       rest = λ v is.
           let read : (seen c.in_ok-moment.moment).readings ≡ opening_readings w = ap (λ (m : Seen). m.readings) c.in_ok-moment.ensures in
@@ -43,6 +46,7 @@ loop-first-preserved c =
     let right = subst (λ (j : Judged). Judges m e (line_told c.last_behind.result) j) c.in-Right.is c.in_ok-after.ensures in
     record {
       workload = ap (λ (s : Seen). s.workload) right.next ∙ c.loop-first.invariant.workload;
+      settled = subst (λ (s : Seen). WasSettled s.workload s.readings) (sym right.next) (settled-next m.workload m.readings e (line_told c.last_behind.result) right.holds);
       some = c.loop-first.invariant.some;
       rest = λ v is. c.loop-first.invariant.rest v
           (goes-on w m next (events_of c.loop-first.items.now) (events_of c.split_at.result.1.now) e line (line_told c.last_behind.result) v cut c.loop-first.invariant.workload c.last_behind.ensures right is);

@@ -1,5 +1,6 @@
 use Rattle.std.proofs.Common.{◌≡◌, ◌+◌, ◌∙◌, ap, refl, rules}
 use Rattle.sa_check_lives.specs.View.{lives_of}
+use Rattle.sa_check_moment.specs.KeptFields.{kept_in}
 use Rattle.sa_check_moment.specs.Seen.{Kept, seen}
 use Rattle.sa_check_moment.specs.Ending.{step_by, up_by, stepped_if, arisen_if}
 use Rattle.sa_check_moment.proofs.EndingLemmas.{finish-whole}
@@ -8,7 +9,8 @@ use Rattle.sa_check_moment.proofs.moment.Moment.finish.Goals as goal
 pub returns : goal.returns
 returns c before runs low =
     let m = c.args.self in
-    let same = c.self.view_is in
+    let parts = c.deref_mut-parts.result.now in
+    let same = ap kept_in c.deref_mut-parts.ensures.value ∙ c.self.view_is in
     let p = c.args.p in
     let records = c.args.records.now in
     let start = c.args.start in
@@ -17,10 +19,10 @@ returns c before runs low =
     let step : c.step_by-step.result ≡ step_by w start.lowers r start.running records = c.step_by-step.ensures in
     let up : c.up_by-up.result ≡ up_by w r p records = c.up_by-up.ensures in
     let lives : lives_of c.end_event.new.lives ≡ arisen_if (up_by w r p records) p (stepped_if (step_by w start.lowers r start.running records) start.running (lives_of m.lives)) =
-    c.in_ok-self-inside.ensures.lives ∙ ap (λ x. arisen_if x p (stepped_if c.step_by-step.result start.running (lives_of c.self.inside.lives))) up
-    ∙ ap (λ x. arisen_if (up_by w r p records) p (stepped_if x start.running (lives_of c.self.inside.lives))) step
+    c.in_ok-parts.ensures.lives ∙ ap (λ x. arisen_if x p (stepped_if c.step_by-step.result start.running (lives_of parts.lives))) up
+    ∙ ap (λ x. arisen_if (up_by w r p records) p (stepped_if x start.running (lives_of parts.lives))) step
     ∙ ap (λ (k : Kept). arisen_if (up_by w r p records) p (stepped_if (step_by w start.lowers r start.running records) start.running (lives_of k.lives))) same in
-    let count : c.in_ok-self-inside.field-0 ≡ c.self.inside.number + 1 = search rules in
+    let count : c.in_ok-parts.field-0 ≡ parts.number + 1 = search rules in
     finish-whole m _ before c.args.number p records start.running start.lowers runs low
     (ap (λ (k : Kept). k.workload) same) (count ∙ ap (λ (k : Kept). k.number + 1) same) (ap (λ (k : Kept). k.state) same) (ap (λ (k : Kept). k.board) same) lives
     (ap (λ (k : Kept). k.pending) same) (ap (λ (k : Kept). k.ready) same) refl refl

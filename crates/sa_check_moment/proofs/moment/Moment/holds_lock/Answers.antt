@@ -1,8 +1,9 @@
-use Rattle.std.proofs.Common.{sym, ap}
+use Rattle.std.proofs.Common.{sym, ap, ◌∙◌}
+use Rattle.sa_check_moment.specs.declared.moment.Parts.{Parts}
 use Rattle.sa_check_lives.specs.Table.{lives_in}
 use Rattle.sa_check_moment.specs.Seen.{Kept, seen}
 use Rattle.sa_check_moment.proofs.moment.Moment.holds_lock.Goals as goal
 
 pub returns : goal.returns
 unfolding seen
-returns c = c.holds_lock.ensures (seen c.args.self.now).readings (ap (λ (m : Kept). lives_in m.lives.table) (sym c.self.view_is))
+returns c = c.holds_lock.ensures (seen c.args.self.now).readings (ap (λ (m : Kept). lives_in m.lives.table) (sym c.self.view_is) ∙ ap (λ (m : Parts). lives_in m.lives.table) (sym c.deref.ensures))

@@ -4,13 +4,17 @@ use Rattle.sa_kernel_model.specs.Owed.{owed_items}
 use Rattle.sa_kernel_model.specs.Sound.{AreClaimed}
 use Rattle.sa_kernel.specs.View.{state_of}
 use Rattle.sa_kernel.proofs.KeptLemmas.{kept-fetch, told-fetch, owed-fetch}
+use Rattle.sa_kernel.proofs.LowLemmas.{low-fetch}
 use Rattle.sa_kernel.proofs.LawfulLemmas.{lawful-fetch}
 use Rattle.sa_kernel.proofs.kernel.Kernel.next_note.Goals as goal
 
 pub invariant_of-self : goal.invariant_of-self
 invariant_of-self g c =
     let k = c.self.inside in
-    kept-fetch k.parts c.next_note.new.self k.spare k.last c.next_note.ensures.state c.next_note.ensures.room c.self.invariant
+    record {
+      kept = kept-fetch k.parts c.next_note.new.self k.spare k.last c.next_note.ensures.state c.next_note.ensures.room c.self.invariant.kept;
+      low = low-fetch k.parts c.next_note.new.self k.lows c.next_note.ensures.state c.self.invariant.low;
+    }
 
 pub returns-clause-told : goal.returns-clause-told
 returns-clause-told g c = λ s claimed.

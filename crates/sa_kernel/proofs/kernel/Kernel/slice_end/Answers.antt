@@ -6,13 +6,24 @@ use Rattle.sa_kernel.proofs.KeptLemmas.{kept-closed, owed-slice}
 use Rattle.sa_kernel.proofs.LawfulLemmas.{lawful-slice}
 use Rattle.sa_kernel.proofs.kernel.Kernel.slice_end.Goals as goal
 
+pub lows-self-inside-requires : goal.lows-self-inside-requires
+lows-self-inside-requires g c =
+    let k = c.self.inside in
+    let last = ap (λ (v : KernelView g.row.C.Denot). v.last) c.self.view_is in
+    let later : k.last < c.args.event = omega arith in
+    (kept-closed k.parts c.close.new.self c.args.trace.now c.close.new.trace c.args.event k.spare k.last c.args.p c.close.ensures.exact c.close.ensures.room
+    later c.requires.event c.self.invariant.kept).sound.formed
+
 pub invariant_of-self : goal.invariant_of-self
 invariant_of-self g c =
     let k = c.self.inside in
     let last = ap (λ (v : KernelView g.row.C.Denot). v.last) c.self.view_is in
     let later : k.last < c.args.event = omega arith in
-    kept-closed k.parts c.close.new.self c.args.trace.now c.close.new.trace c.args.event k.spare k.last c.args.p c.close.ensures.exact c.close.ensures.room
-    later c.requires.event c.self.invariant
+    record {
+      kept = kept-closed k.parts c.close.new.self c.args.trace.now c.close.new.trace c.args.event k.spare k.last c.args.p c.close.ensures.exact c.close.ensures.room
+          later c.requires.event c.self.invariant.kept;
+      low = c.lows-self-inside.ensures;
+    }
 
 pub returns-clause-owed : goal.returns-clause-owed
 returns-clause-owed g c =

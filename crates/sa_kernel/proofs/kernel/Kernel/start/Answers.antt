@@ -7,9 +7,15 @@ use Rattle.sa_kernel_model.specs.Histories.{IsHistory}
 use Rattle.sa_kernel_model.proofs.HistoryLemmas.{history-opens}
 use Rattle.sa_kernel.proofs.kernel.Kernel.start.Goals as goal
 
+pub lows-lows-requires : goal.lows-lows-requires
+lows-lows-requires g c =
+    (kept-start c.in_ok-parts.parts c.open.new.self c.open.new.trace c.args.w.now _ c.ranges-2.ensures c.in_ok-parts.ensures.state c.in_ok-parts.ensures.used c.open.ensures.exact c.open.ensures.room).sound.formed
+
 pub invariant_of-result : goal.invariant_of-result
-invariant_of-result g c =
-    kept-start c.in_ok-parts.parts c.open.new.self c.open.new.trace c.args.w.now _ c.ranges-2.ensures c.in_ok-parts.ensures.state c.in_ok-parts.ensures.used c.open.ensures.exact c.open.ensures.room
+invariant_of-result g c = record {
+  kept = kept-start c.in_ok-parts.parts c.open.new.self c.open.new.trace c.args.w.now _ c.ranges-2.ensures c.in_ok-parts.ensures.state c.in_ok-parts.ensures.used c.open.ensures.exact c.open.ensures.room;
+  low = c.lows-lows.ensures;
+}
 
 pub returns-clause-opened : goal.returns-clause-opened
 returns-clause-opened g c =

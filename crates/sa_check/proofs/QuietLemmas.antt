@@ -1,0 +1,442 @@
+-- A quiet event leaves owners, shares, wants and what is told in time as they were.
+use Rattle.std.proofs.Common.{◌≡◌, ℕ, zero, suc, ◌+◌, ◌-◌, ◌≤◌, refl, sym, ◌∙◌, ap, subst, inl, inr, arith, Bool, true, false, List, [], ◌∷◌, ◌++◌, map, length, take, Option, Some, None}
+use Rattle.std.specs.Prelude.{◌==◌, nat_lt, not, ◌&&◌, ◌||◌, slice_index, slice_index_or, if◌then◌else◌, is_none, filter, slice_set}
+use Rattle.std.specs.List.{list_all, list_any, prefix_len}
+use Rattle.std.specs.Option.{option_map}
+use Rattle.std.proofs.lemmas.Bool.{cases_eq}
+use Rattle.std.proofs.lemmas.Bool.Decides.{eqb_tells, nat_tests}
+use Rattle.std.proofs.lemmas.List.{set-get_or}
+use Rattle.sa_base.specs.declared.number.ProcNo.{ProcNo}
+use Rattle.sa_base.specs.declared.number.SpaceNo.{SpaceNo}
+use Rattle.sa_base.specs.declared.number.ThreadNo.{ThreadNo}
+use Rattle.sa_base.specs.declared.number.ActNo.{ActNo}
+use Rattle.sa_base.specs.declared.record.Note.{Note}
+use Rattle.sa_base.specs.declared.record.Note.TheVariants.{Add, Preempted, Blocked, Unblocked}
+use Rattle.sa_base.specs.declared.record.Record.{Record}
+use Rattle.sa_base.specs.declared.record.Record.TheVariants.{Ins, Out, Run, Stop, Block, Unblock, Cont, Back, Ready, Take, Free, Up, Told, Move, Want, Aim, Line, Fetch, Fetched, GiveBack, Idle, Spin, Tick}
+use Rattle.sa_lemmas.proofs.FunctionUpdates.{put-same, put-other}
+use Rattle.sa_share.specs.Share.{share_at}
+use Rattle.sa_share.specs.Rounds.{shares_of}
+use Rattle.sa_assign.specs.Aims.{aimed, missing, changes_for, changes_from, aims_after}
+use Rattle.sa_spaces.specs.Workload.{WorkloadView}
+use Rattle.sa_laws.specs.Event.{Event}
+use Rattle.sa_laws.specs.Life.{Life}
+use Rattle.sa_laws.specs.declared.rule.Rule.TheVariants.{Numbering, InTime, WhereOwned, WantCause, SharesCovered}
+use Rattle.sa_laws.specs.Readings.{Readings, opening_readings, running_of, life_of, line_of, demand_of, untold_of, space_of_life, must_hear, was_idle}
+use Rattle.sa_laws.specs.Ends.{LastLine}
+use Rattle.sa_laws.specs.Rules.{fast_threads, HoldEach, rules}
+use Rattle.sa_laws.specs.Record.{after_record, with_life}
+use Rattle.sa_laws.specs.History.{is_inside, begun, after_records, behind_all, is_step, is_up, with_step, with_up, stepped, arisen, after_event}
+use Rattle.sa_laws.specs.Shape.{is_no_aim, is_no_want, is_other_line, aims_in, wants_in, others_of, before_aims, before_wants, before_lines, front_part}
+use Rattle.sa_laws.specs.Closing.{claims_of, spaces_of, must_want, want_one, wants_due, first_space, shares_at, aims_due}
+use Rattle.sa_laws.specs.Upcalls.{RecordLaw, EachRecord, TellsOnce, NamesTheLife, TellsAllThen, GivesUpcallThen, RaisesLine, IsPrompt}
+use Rattle.sa_legal.proofs.FirstLemmas.{holds-each}
+use Rattle.sa_check.specs.Quiet.{is_quiet_record, keeps_first, is_quiet, IsSettled, WasSettled}
+
+-- what holds of each quiet kind holds of each quiet record
+quiet-cases : (P : Record → Type 0)
+    → ((s : SpaceNo) (t : ThreadNo) (i : ℕ) → P (Ins s t i))
+    → ((s : SpaceNo) (t : ThreadNo) (value : ℕ) → P (Out s t value))
+    → ((s : SpaceNo) (t : ThreadNo) → P (Run s t))
+    → ((s : SpaceNo) (t : Option ThreadNo) → P (Cont s t))
+    → ((s : SpaceNo) (t : Option ThreadNo) → P (Back s t))
+    → ((s : SpaceNo) (t : ThreadNo) → P (Ready s t))
+    → ((s : SpaceNo) (l : ProcNo) (t : Option ThreadNo) → P (Take s l t))
+    → ((s : SpaceNo) (l : ProcNo) (t : Option ThreadNo) → P (Free s l t))
+    → P Idle
+    → ((l : ProcNo) → P (Spin l))
+    → P Tick
+    → (x : Record) → is_quiet_record x ≡ true → P x
+quiet-cases P of_ins of_out of_run of_cont of_back of_ready of_take of_free of_idle of_spin of_tick (Ins s t i) h = of_ins s t i
+quiet-cases P of_ins of_out of_run of_cont of_back of_ready of_take of_free of_idle of_spin of_tick (Out s t value) h = of_out s t value
+quiet-cases P of_ins of_out of_run of_cont of_back of_ready of_take of_free of_idle of_spin of_tick (Run s t) h = of_run s t
+quiet-cases P of_ins of_out of_run of_cont of_back of_ready of_take of_free of_idle of_spin of_tick (Cont s t) h = of_cont s t
+quiet-cases P of_ins of_out of_run of_cont of_back of_ready of_take of_free of_idle of_spin of_tick (Back s t) h = of_back s t
+quiet-cases P of_ins of_out of_run of_cont of_back of_ready of_take of_free of_idle of_spin of_tick (Ready s t) h = of_ready s t
+quiet-cases P of_ins of_out of_run of_cont of_back of_ready of_take of_free of_idle of_spin of_tick (Take s l t) h = of_take s l t
+quiet-cases P of_ins of_out of_run of_cont of_back of_ready of_take of_free of_idle of_spin of_tick (Free s l t) h = of_free s l t
+quiet-cases P of_ins of_out of_run of_cont of_back of_ready of_take of_free of_idle of_spin of_tick Idle h = of_idle
+quiet-cases P of_ins of_out of_run of_cont of_back of_ready of_take of_free of_idle of_spin of_tick (Spin l) h = of_spin l
+quiet-cases P of_ins of_out of_run of_cont of_back of_ready of_take of_free of_idle of_spin of_tick Tick h = of_tick
+quiet-cases P of_ins of_out of_run of_cont of_back of_ready of_take of_free of_idle of_spin of_tick (Stop s t a) h = absurd cc
+quiet-cases P of_ins of_out of_run of_cont of_back of_ready of_take of_free of_idle of_spin of_tick (Block s t a io) h = absurd cc
+quiet-cases P of_ins of_out of_run of_cont of_back of_ready of_take of_free of_idle of_spin of_tick (Unblock s t a) h = absurd cc
+quiet-cases P of_ins of_out of_run of_cont of_back of_ready of_take of_free of_idle of_spin of_tick (Up s a) h = absurd cc
+quiet-cases P of_ins of_out of_run of_cont of_back of_ready of_take of_free of_idle of_spin of_tick (Told n) h = absurd cc
+quiet-cases P of_ins of_out of_run of_cont of_back of_ready of_take of_free of_idle of_spin of_tick (Move old new) h = absurd cc
+quiet-cases P of_ins of_out of_run of_cont of_back of_ready of_take of_free of_idle of_spin of_tick (Want s n) h = absurd cc
+quiet-cases P of_ins of_out of_run of_cont of_back of_ready of_take of_free of_idle of_spin of_tick (Aim q s) h = absurd cc
+quiet-cases P of_ins of_out of_run of_cont of_back of_ready of_take of_free of_idle of_spin of_tick (Line q) h = absurd cc
+quiet-cases P of_ins of_out of_run of_cont of_back of_ready of_take of_free of_idle of_spin of_tick (Fetch s) h = absurd cc
+quiet-cases P of_ins of_out of_run of_cont of_back of_ready of_take of_free of_idle of_spin of_tick (Fetched s) h = absurd cc
+quiet-cases P of_ins of_out of_run of_cont of_back of_ready of_take of_free of_idle of_spin of_tick (GiveBack a) h = absurd cc
+
+-- what these are of is the same
+pub record IsSame (r q : Readings) : Type 0 where
+  pub demands : q.demands ≡ r.demands
+  pub under_way : q.under_way ≡ r.under_way
+  pub aims : q.aims ≡ r.aims
+  pub owners : q.state.owners ≡ r.state.owners
+  pub running : q.running ≡ r.running
+  pub lines : q.lines ≡ r.lines
+  pub untold : q.untold ≡ r.untold
+  pub spaces : (a : ActNo) → option_map (λ (x : Life). x.space) (life_of q a) ≡ option_map (λ (x : Life). x.space) (life_of r a)
+  pub idles : (a : ActNo) → option_map (λ (x : Life). x.idle) (life_of q a) ≡ option_map (λ (x : Life). x.idle) (life_of r a)
+
+same-itself : (r : Readings) → IsSame r r
+same-itself r = record {
+  demands = refl;
+  under_way = refl;
+  aims = refl;
+  owners = refl;
+  running = refl;
+  lines = refl;
+  untold = refl;
+  spaces = λ a. refl;
+  idles = λ a. refl;
+}
+
+same-both : (r q s : Readings) → IsSame r q → IsSame q s → IsSame r s
+same-both r q s a b = record {
+  demands = b.demands ∙ a.demands;
+  under_way = b.under_way ∙ a.under_way;
+  aims = b.aims ∙ a.aims;
+  owners = b.owners ∙ a.owners;
+  running = b.running ∙ a.running;
+  lines = b.lines ∙ a.lines;
+  untold = b.untold ∙ a.untold;
+  spaces = λ act. b.spaces act ∙ a.spaces act;
+  idles = λ act. b.idles act ∙ a.idles act;
+}
+
+-- what a change keeps of a life
+option-kept : {A : Type 0} (f : Life → Life) (g : Life → A) → ((x : Life) → g (f x) ≡ g x) → (life : Option Life) → option_map g (option_map f life) ≡ option_map g life
+option-kept f g keeps None = refl
+option-kept f g keeps (Some x) = ap Some (keeps x)
+
+life-kept : {A : Type 0} (f : Life → Life) (g : Life → A) → ((x : Life) → g (f x) ≡ g x) → (at : Option ActNo) (lives : ℕ → Option Life) (a : ActNo)
+    → option_map g (with_life f at lives a.0) ≡ option_map g (lives a.0)
+life-kept f g keeps None lives a = refl
+life-kept f g keeps (Some b) lives a = elim (cases_eq a.0 b.0) [
+  | inl same ↦ ap (option_map g) (ap (with_life f (Some b) lives) same ∙ put-same lives b.0 (option_map f (lives b.0)))
+      ∙ option-kept f g keeps (lives b.0) ∙ ap (λ n. option_map g (lives n)) (sym same)
+  | inr other ↦ ap (option_map g) (put-other lives b.0 a.0 (option_map f (lives b.0)) other)
+]
+
+module _ (w : WorkloadView) (e : ℕ) (p : ProcNo) (r : Readings) where
+  plain : (x : Record) → let q = after_record w e p r x in
+      q.demands ≡ r.demands → q.under_way ≡ r.under_way → q.aims ≡ r.aims → q.state.owners ≡ r.state.owners → q.running ≡ r.running → q.lines ≡ r.lines → q.untold ≡ r.untold
+      → ((a : ActNo) → option_map (λ (x : Life). x.space) (life_of q a) ≡ option_map (λ (x : Life). x.space) (life_of r a))
+      → ((a : ActNo) → option_map (λ (x : Life). x.idle) (life_of q a) ≡ option_map (λ (x : Life). x.idle) (life_of r a)) → IsSame r q
+  plain x a b c d f g i j k = record { demands = a; under_way = b; aims = c; owners = d; running = f; lines = g; untold = i; spaces = j; idles = k }
+
+  same-record : (x : Record) → is_quiet_record x ≡ true → IsSame r (after_record w e p r x)
+  same-record (Ins s t i) h = plain (Ins s t i) refl refl refl refl refl refl refl (λ a. life-kept _ (λ (x : Life). x.space) (λ x. refl) (running_of r p) r.lives a) (λ a. life-kept _ (λ (x : Life). x.idle) (λ x. refl) (running_of r p) r.lives a)
+  same-record (Out s t value) h = plain (Out s t value) refl refl refl refl refl refl refl (λ a. refl) (λ a. refl)
+  same-record (Run s t) h = plain (Run s t) refl refl refl refl refl refl refl (λ a. life-kept _ (λ (x : Life). x.space) (λ x. refl) (running_of r p) r.lives a) (λ a. life-kept _ (λ (x : Life). x.idle) (λ x. refl) (running_of r p) r.lives a)
+  same-record (Cont s None) h = plain (Cont s None) refl refl refl refl refl refl refl (λ a. life-kept _ (λ (x : Life). x.space) (λ x. refl) (running_of r p) r.lives a) (λ a. life-kept _ (λ (x : Life). x.idle) (λ x. refl) (running_of r p) r.lives a)
+  same-record (Cont s (Some t)) h = plain (Cont s (Some t)) refl refl refl refl refl refl refl (λ a. life-kept _ (λ (x : Life). x.space) (λ x. refl) (running_of r p) r.lives a) (λ a. life-kept _ (λ (x : Life). x.idle) (λ x. refl) (running_of r p) r.lives a)
+  same-record (Back s None) h = plain (Back s None) refl refl refl refl refl refl refl (λ a. life-kept _ (λ (x : Life). x.space) (λ x. refl) (running_of r p) r.lives a) (λ a. life-kept _ (λ (x : Life). x.idle) (λ x. refl) (running_of r p) r.lives a)
+  same-record (Back s (Some t)) h = plain (Back s (Some t)) refl refl refl refl refl refl refl (λ a. life-kept _ (λ (x : Life). x.space) (λ x. refl) (running_of r p) r.lives a) (λ a. life-kept _ (λ (x : Life). x.idle) (λ x. refl) (running_of r p) r.lives a)
+  same-record (Ready s t) h = plain (Ready s t) refl refl refl refl refl refl refl (λ a. life-kept _ (λ (x : Life). x.space) (λ x. refl) (running_of r p) r.lives a) (λ a. life-kept _ (λ (x : Life). x.idle) (λ x. refl) (running_of r p) r.lives a)
+  same-record (Take s l t) h = plain (Take s l t) refl refl refl refl refl refl refl (λ a. life-kept _ (λ (x : Life). x.space) (λ x. refl) (running_of r p) r.lives a) (λ a. life-kept _ (λ (x : Life). x.idle) (λ x. refl) (running_of r p) r.lives a)
+  same-record (Free s l t) h = plain (Free s l t) refl refl refl refl refl refl refl (λ a. life-kept _ (λ (x : Life). x.space) (λ x. refl) (running_of r p) r.lives a) (λ a. life-kept _ (λ (x : Life). x.idle) (λ x. refl) (running_of r p) r.lives a)
+  same-record Idle h = plain Idle refl refl refl refl refl refl refl (λ a. refl) (λ a. refl)
+  same-record (Spin l) h = plain (Spin l) refl refl refl refl refl refl refl (λ a. refl) (λ a. refl)
+  same-record Tick h = plain Tick refl refl refl refl refl refl refl (λ a. refl) (λ a. refl)
+  same-record (Stop s t a) h = absurd cc
+  same-record (Block s t a io) h = absurd cc
+  same-record (Unblock s t a) h = absurd cc
+  same-record (Up s a) h = absurd cc
+  same-record (Told n) h = absurd cc
+  same-record (Move old new) h = absurd cc
+  same-record (Want s n) h = absurd cc
+  same-record (Aim q s) h = absurd cc
+  same-record (Line q) h = absurd cc
+  same-record (Fetch s) h = absurd cc
+  same-record (Fetched s) h = absurd cc
+  same-record (GiveBack a) h = absurd cc
+
+both : (a b : Bool) → (a && b) ≡ true → (a ≡ true) × (b ≡ true)
+both true b h = (refl, h)
+both false b h = absurd cc
+
+same-records : (w : WorkloadView) (e : ℕ) (p : ProcNo) (r : Readings) (xs : List Record) → list_all is_quiet_record xs ≡ true → IsSame r (after_records w e p r xs)
+same-records w e p r [] h = same-itself r
+same-records w e p r (x ∷ xs) h =
+    let each = both (is_quiet_record x) (list_all is_quiet_record xs) h in
+    same-both r (after_record w e p r x) (after_records w e p (after_record w e p r x) xs) (same-record w e p r x each.0)
+    (same-records w e p (after_record w e p r x) xs each.1)
+
+-- the beginning of an event on a processor with a low line, and its end
+same-begun : (w : WorkloadView) (e : Event) (r : Readings) → line_of r e.proc ≡ None → IsSame r (begun w e r)
+same-begun w e r low = record {
+  demands = refl;
+  under_way = refl;
+  aims = refl;
+  owners = refl;
+  running = refl;
+  untold = refl;
+  spaces = λ a. refl;
+  idles = λ a. refl;
+  lines = ap (slice_set r.lines e.proc.0) (sym low) ∙ set-get_or r.lines e.proc.0 None;
+}
+
+module _ {A : Type 0} (g : Life → A) (w : WorkloadView) (r : Readings) (e : Event) (q : Readings)
+    (steps : (first : Record) (x : Life) → g (stepped is_inside w r e q first x) ≡ g x) (rises : (x : Life) → g (arisen is_inside w r e q x) ≡ g x) where
+  step-kept : (records : List Record) (lives : ℕ → Option Life) (a : ActNo) → option_map g (with_step is_inside w r e q records lives a.0) ≡ option_map g (lives a.0)
+  step-kept [] lives a = refl
+  step-kept (first ∷ others) lives a = at (is_step first) where
+    at : (b : Bool) → option_map g ((if b then with_life (stepped is_inside w r e q first) (running_of r e.proc) lives else lives) a.0) ≡ option_map g (lives a.0)
+    at true = life-kept (stepped is_inside w r e q first) g (steps first) (running_of r e.proc) lives a
+    at false = refl
+
+  up-kept : (lives : ℕ → Option Life) (a : ActNo) → option_map g (with_up is_inside w r e q lives a.0) ≡ option_map g (lives a.0)
+  up-kept lives a = at (list_any is_up e.records) where
+    at : (b : Bool) → option_map g ((if b then with_life (arisen is_inside w r e q) (running_of q e.proc) lives else lives) a.0) ≡ option_map g (lives a.0)
+    at true = life-kept (arisen is_inside w r e q) g rises (running_of q e.proc) lives a
+    at false = refl
+
+  end-kept : (a : ActNo) → option_map g (with_up is_inside w r e q (with_step is_inside w r e q e.records q.lives) a.0) ≡ option_map g (q.lives a.0)
+  end-kept a = up-kept (with_step is_inside w r e q e.records q.lives) a ∙ step-kept e.records q.lives a
+
+same-event : (w : WorkloadView) (r : Readings) (e : Event) → line_of r e.proc ≡ None → list_all is_quiet_record e.records ≡ true → IsSame r (after_event is_inside w r e)
+same-event w r e low h =
+    let q = behind_all w e r in
+    let here = same-both r (begun w e r) q (same-begun w e r low) (same-records w e.number e.proc (begun w e r) e.records h) in
+    record {
+      demands = here.demands;
+      under_way = here.under_way;
+      aims = here.aims;
+      owners = here.owners;
+      running = here.running;
+      lines = here.lines;
+      untold = here.untold;
+      spaces = λ a. end-kept (λ (x : Life). x.space) w r e q (λ first x. refl) (λ x. refl) a ∙ here.spaces a;
+      idles = λ a. end-kept (λ (x : Life). x.idle) w r e q (λ first x. refl) (λ x. refl) a ∙ here.idles a;
+    }
+
+-- where this is the same, the shares are
+same-claims : (w : WorkloadView) (r q : Readings) → IsSame r q → claims_of w q ≡ claims_of w r
+same-claims w r q same =
+    ap (λ demands. claims_of w (record r { demands = demands; under_way = q.under_way; aims = q.aims })) same.demands
+    ∙ ap (λ ios. claims_of w (record r { under_way = ios; aims = q.aims })) same.under_way
+    ∙ ap (λ aims. claims_of w (record r { aims = aims })) same.aims
+
+same-shares : (w : WorkloadView) (n m : ℕ) (r q : Readings) → first_space w m ≡ first_space w n → IsSame r q → shares_at w m q ≡ shares_at w n r
+same-shares w n m r q first same =
+    ap (λ f. shares_of w.processors f (claims_of w q)) first ∙ ap (shares_of w.processors (first_space w n)) (same-claims w r q same)
+
+-- .. the owners are
+same-map : (f g : Option ActNo → Option SpaceNo) → ((a : Option ActNo) → g a ≡ f a) → (xs : List (Option ActNo)) → map f xs ≡ map g xs
+same-map f g same [] = refl
+same-map f g same (x ∷ xs) = ap (λ y. y ∷ map f xs) (sym (same x)) ∙ ap (λ ys. g x ∷ ys) (same-map f g same xs)
+
+same-space : (r q : Readings) → IsSame r q → (a : Option ActNo) → space_of_life q a ≡ space_of_life r a
+same-space r q same None = refl
+same-space r q same (Some a) = same.spaces a
+
+-- .. the wants are
+idle-so : (l k : Option Life) → option_map (λ (x : Life). x.idle) l ≡ option_map (λ (x : Life). x.idle) k → was_idle l ≡ was_idle k
+idle-so None None h = refl
+idle-so None (Some k) h = absurd cc
+idle-so (Some l) None h = absurd cc
+idle-so (Some l) (Some k) h = cc
+
+same-hear : (r q : Readings) → IsSame r q → (n : Note) → must_hear q n ≡ must_hear r n
+same-hear r q same (Preempted a) = ap not (idle-so (life_of q a) (life_of r a) (same.idles a))
+same-hear r q same (Unblocked a) = refl
+same-hear r q same (Add p) = refl
+same-hear r q same (Blocked a) = refl
+
+same-any : (f g : Note → Bool) → ((n : Note) → g n ≡ f n) → (ns : List Note) → list_any g ns ≡ list_any f ns
+same-any f g same [] = refl
+same-any f g same (n ∷ ns) = ap (λ b. b || list_any g ns) (same n) ∙ ap (λ b. f n || b) (same-any f g same ns)
+
+same-want : (r q : Readings) → IsSame r q → (s : SpaceNo) → must_want q s ≡ must_want r s
+same-want r q same s =
+    ap (λ (demands : List ℕ). slice_index demands s.0 == 0 && list_any (must_hear q) (untold_of q s)) same.demands
+    ∙ ap (λ b. demand_of r s == 0 && b)
+    (same-any (must_hear r) (must_hear q) (same-hear r q same) (untold_of q s)
+    ∙ ap (λ (untold : List (List Note)). list_any (must_hear r) (slice_index_or untold s.0 [])) same.untold)
+
+-- .. and what is told in time is
+same-prompt : (r q : Readings) → IsSame r q → IsPrompt r → IsPrompt q
+same-prompt r q same prompt =
+    let a : IsPrompt (record r { untold = q.untold }) =
+    subst (λ (untold : List (List Note)). IsPrompt (record r { untold = untold })) (sym same.untold) (record { each = prompt.each }) in
+    let b : IsPrompt (record r { untold = q.untold; under_way = q.under_way }) =
+    subst (λ ios. IsPrompt (record r { untold = q.untold; under_way = ios })) (sym same.under_way) (record { each = a.each }) in
+    let c : IsPrompt (record r { untold = q.untold; under_way = q.under_way; lines = q.lines }) =
+    subst (λ lines. IsPrompt (record r { untold = q.untold; under_way = q.under_way; lines = lines })) (sym same.lines) (record { each = b.each }) in
+    let d : IsPrompt (record r { untold = q.untold; under_way = q.under_way; lines = q.lines; state = record r.state { owners = q.state.owners } }) =
+    subst (λ owners. IsPrompt (record r { untold = q.untold; under_way = q.under_way; lines = q.lines; state = record r.state { owners = owners } })) (sym same.owners)
+    (record { each = c.each }) in
+    record { each = d.each }
+
+settled-same : (w : WorkloadView) (n m : ℕ) (r q : Readings) → first_space w m ≡ first_space w n → IsSame r q → IsSettled w n r → IsSettled w m q
+settled-same w n m r q first same settled = record {
+  owned = same.owners ∙ settled.owned ∙ same-map (space_of_life r) (space_of_life q) (same-space r q same) r.running ∙ ap (map (space_of_life q)) (sym same.running);
+  covered = λ s.
+      let before = settled.covered s in
+      let shares = ap (λ list. share_at list s) (same-shares w n m r q first same) in
+      let aims = ap (aimed s) same.aims in
+      omega (arith, before, shares, aims);
+  wants = λ s. same-want r q same s ∙ settled.wants s;
+  prompt = same-prompt r q same settled.prompt;
+}
+
+-- where each space has its share, no aim is due
+none-missing : (s n : ℕ) (shares : List ℕ) (marks : List Bool) (aims : List (Option SpaceNo)) → ((t : ℕ) → share_at shares t ≤ aimed t aims)
+    → changes_from s n shares marks aims ≡ []
+none-missing s zero shares marks aims covered = refl
+none-missing s (suc n) shares marks aims covered =
+    let enough = covered s in
+    let none : missing shares aims s ≡ 0 = omega (arith, enough) in
+    ap (λ k. let own = changes_for k shares marks s aims in own ++ changes_from (s + 1) n shares marks (aims_after aims own)) none
+    ∙ none-missing (s + 1) n shares marks aims covered
+
+-- nor is one among the records, and no want
+none-passes : {A : Type 0} (test : A → Bool) (xs : List A) → ((x : A) → test x ≡ false) → filter test xs ≡ []
+none-passes test [] none = refl
+none-passes test (x ∷ xs) none = ap (λ b. if b then x ∷ filter test xs else filter test xs) (none x) ∙ none-passes test xs none
+
+quiet-aims : (xs : List Record) → list_all is_quiet_record xs ≡ true → aims_in xs ≡ []
+quiet-aims [] h = refl
+quiet-aims (x ∷ xs) h =
+    let each = both (is_quiet_record x) (list_all is_quiet_record xs) h in
+    let none = quiet-aims xs each.1 in
+    quiet-cases (λ y. aims_in (y ∷ xs) ≡ []) (λ s t i. none) (λ s t value. none) (λ s t. none) (λ s t. none) (λ s t. none) (λ s t. none) (λ s l t. none) (λ s l t. none) none (λ l. none) none x each.0
+
+quiet-wants : (xs : List Record) → list_all is_quiet_record xs ≡ true → wants_in xs ≡ []
+quiet-wants [] h = refl
+quiet-wants (x ∷ xs) h =
+    let each = both (is_quiet_record x) (list_all is_quiet_record xs) h in
+    let none = quiet-wants xs each.1 in
+    quiet-cases (λ y. wants_in (y ∷ xs) ≡ []) (λ s t i. none) (λ s t value. none) (λ s t. none) (λ s t. none) (λ s t. none) (λ s t. none) (λ s l t. none) (λ s l t. none) none (λ l. none) none x each.0
+
+quiet-others : (xs : List Record) → list_all is_quiet_record xs ≡ true → list_all is_quiet_record (others_of xs) ≡ true
+quiet-others [] h = refl
+quiet-others (x ∷ xs) h = (both (is_quiet_record x) (list_all is_quiet_record xs) h).1
+
+quiet-front : (n : ℕ) (xs : List Record) → list_all is_quiet_record xs ≡ true → list_all is_quiet_record (take n xs) ≡ true
+quiet-front zero xs h = refl
+quiet-front (suc n) [] h = refl
+quiet-front (suc n) (x ∷ xs) h =
+    let each = both (is_quiet_record x) (list_all is_quiet_record xs) h in
+    ap (λ b. b && list_all is_quiet_record (take n xs)) each.0 ∙ quiet-front n xs each.1
+
+before-wants : (xs : List Record) → list_all is_quiet_record xs ≡ true → list_all is_quiet_record (before_wants xs) ≡ true
+before-wants [] h = refl
+before-wants (x ∷ xs) h = quiet-front (suc (prefix_len is_no_want xs)) (x ∷ xs) h
+
+-- a quiet event's parts
+low-none : (line : Option ℕ) → is_none line ≡ true → line ≡ None
+low-none None h = refl
+low-none (Some n) h = absurd cc
+
+keeps-first : (w : WorkloadView) (n : ℕ) → keeps_first w n ≡ true → (1 ≤ n) × (first_space w n ≡ first_space w (n - 1))
+keeps-first w n h =
+    let each = both (nat_lt 0 n) (first_space w (n - 1) == first_space w n) h in
+    (grind (arith, nat_tests, each.0), elim (eqb_tells (first_space w (n - 1)) (first_space w n)) [ inl same ↦ sym same.1 | inr other ↦ absurd cc ])
+
+pub quiet-records : (w : WorkloadView) (r : Readings) (e : Event) → is_quiet w r e ≡ true → list_all is_quiet_record e.records ≡ true
+quiet-records w r e quiet = (both (keeps_first w e.number) (list_all is_quiet_record e.records) (both (is_none (line_of r e.proc)) (keeps_first w e.number && list_all is_quiet_record e.records) quiet).1).1
+
+module _ (w : WorkloadView) (r : Readings) (e : Event) (numbered : e.number ≡ r.number) (was : WasSettled w r) (quiet : is_quiet w r e ≡ true) where
+  low : line_of r e.proc ≡ None
+  low = low-none (line_of r e.proc) (both (is_none (line_of r e.proc)) (keeps_first w e.number && list_all is_quiet_record e.records) quiet).0
+
+  first : (1 ≤ e.number) × (first_space w e.number ≡ first_space w (e.number - 1))
+  first =
+      keeps-first w e.number (both (keeps_first w e.number) (list_all is_quiet_record e.records)
+      (both (is_none (line_of r e.proc)) (keeps_first w e.number && list_all is_quiet_record e.records) quiet).1).0
+
+  before : IsSettled w (e.number - 1) r
+  before =
+      let some = first.0 in
+      was (e.number - 1) (omega (arith, numbered, some))
+
+  -- after a quiet event all is as it must be
+  pub quiet-settled : IsSettled w e.number (after_event is_inside w r e)
+  quiet-settled =
+      settled-same w (e.number - 1) e.number r (after_event is_inside w r e) first.1 (same-event w r e low (quiet-records w r e quiet)) before
+
+  -- .. and at each moment of it
+  during : (xs : List Record) → list_all is_quiet_record xs ≡ true → IsSettled w e.number (after_records w e.number e.proc (begun w e r) xs)
+  during xs h =
+      let q = after_records w e.number e.proc (begun w e r) xs in
+      settled-same w (e.number - 1) e.number r q first.1 (same-both r (begun w e r) q (same-begun w e r low) (same-records w e.number e.proc (begun w e r) xs h)) before
+
+  pub quiet-aims-due : aims_in e.records ≡ aims_due w e.number (after_records w e.number e.proc (begun w e r) (before_aims e.records))
+  quiet-aims-due =
+      let records = quiet-records w r e quiet in
+      let q = after_records w e.number e.proc (begun w e r) (before_aims e.records) in
+      let now = during (before_aims e.records) (quiet-front (prefix_len is_no_aim e.records) e.records records) in
+      quiet-aims e.records records ∙ sym (none-missing 0 (length w.spaces) (shares_at w e.number q) q.marks q.aims now.covered)
+
+  pub quiet-wants-due : wants_in (others_of e.records) ≡ wants_due w (after_records w e.number e.proc (begun w e r) (before_wants e.records))
+  quiet-wants-due =
+      let records = quiet-records w r e quiet in
+      let q = after_records w e.number e.proc (begun w e r) (before_wants e.records) in
+      let now = during (before_wants e.records) (before-wants e.records records) in
+      quiet-wants (others_of e.records) (quiet-others e.records records) ∙ sym (ap (map want_one) (none-passes (must_want q) (spaces_of w) now.wants))
+
+-- where each rule held at the last event, all is as it must be
+number-records : (w : WorkloadView) (e : ℕ) (p : ProcNo) (r : Readings) (xs : List Record) → (after_records w e p r xs).number ≡ r.number
+number-records w e p r [] = refl
+number-records w e p r (x ∷ xs) = number-records w e p (after_record w e p r x) xs
+
+pub settled-next : (w : WorkloadView) (r : Readings) (e : Event) (last : Option LastLine) → HoldEach fast_threads w rules r e last → WasSettled w (after_event is_inside w r e)
+settled-next w r e last held n is =
+    let numbered = (holds-each fast_threads w r e last Numbering held).number in
+    let counted = number-records w e.number e.proc (begun w e r) e.records in
+    let same : e.number ≡ n = omega (arith, numbered, counted, is) in
+    let settled : IsSettled w e.number (after_event is_inside w r e) = record {
+      owned = (holds-each fast_threads w r e last WhereOwned held).owned;
+      covered = (holds-each fast_threads w r e last SharesCovered held).covered;
+      wants = (holds-each fast_threads w r e last WantCause held).none;
+      prompt = (holds-each fast_threads w r e last InTime held).prompt;
+    } in
+    subst (λ k. IsSettled w k (after_event is_inside w r e)) same settled
+
+-- .. and before any event
+pub settled-first : (w : WorkloadView) → WasSettled w (opening_readings w)
+settled-first w n is = absurd (omega (arith, is))
+
+-- the laws of records say nothing of a quiet one
+pub once-holds : (r : Readings) (rest : List Record) (x : Record) → is_quiet_record x ≡ true → TellsOnce r x rest
+once-holds r rest = quiet-cases (λ x. TellsOnce r x rest) (λ s t i. tt) (λ s t value. tt) (λ s t. tt) (λ s t. tt) (λ s t. tt) (λ s t. tt) (λ s l t. tt) (λ s l t. tt) tt (λ l. tt) tt
+
+pub named-holds : (p : ProcNo) (r : Readings) (rest : List Record) (x : Record) → is_quiet_record x ≡ true → NamesTheLife p r x rest
+named-holds p r rest = quiet-cases (λ x. NamesTheLife p r x rest) (λ s t i. tt) (λ s t value. tt) (λ s t. tt) (λ s t. tt) (λ s t. tt) (λ s t. tt) (λ s l t. tt) (λ s l t. tt) tt (λ l. tt) tt
+
+pub all-holds : (p : ProcNo) (r : Readings) (rest : List Record) (x : Record) → is_quiet_record x ≡ true → TellsAllThen p r x rest
+all-holds p r rest = quiet-cases (λ x. TellsAllThen p r x rest) (λ s t i. tt) (λ s t value. tt) (λ s t. tt) (λ s t. tt) (λ s t. tt) (λ s t. tt) (λ s l t. tt) (λ s l t. tt) tt (λ l. tt) tt
+
+pub upcall-holds : (p : ProcNo) (r : Readings) (rest : List Record) (x : Record) → is_quiet_record x ≡ true → GivesUpcallThen p r x rest
+upcall-holds p r rest = quiet-cases (λ x. GivesUpcallThen p r x rest) (λ s t i. tt) (λ s t value. tt) (λ s t. tt) (λ s t. tt) (λ s t. tt) (λ s t. tt) (λ s l t. tt) (λ s l t. tt) tt (λ l. tt) tt
+
+pub heard-holds : (r : Readings) (rest : List Record) (x : Record) → is_quiet_record x ≡ true → RaisesLine r x rest
+heard-holds r rest = quiet-cases (λ x. RaisesLine r x rest) (λ s t i. tt) (λ s t value. tt) (λ s t. tt) (λ s t. tt) (λ s t. tt) (λ s t. tt) (λ s l t. tt) (λ s l t. tt) tt (λ l. tt) tt
+
+pub each-quiet : (L : RecordLaw) → ((r : Readings) (rest : List Record) (x : Record) → is_quiet_record x ≡ true → L r x rest)
+    → (w : WorkloadView) (e : ℕ) (p : ProcNo) (r : Readings) (xs : List Record) → list_all is_quiet_record xs ≡ true → EachRecord L w e p r xs
+each-quiet L holds w e p r [] h = tt
+each-quiet L holds w e p r (x ∷ xs) h =
+    let each = both (is_quiet_record x) (list_all is_quiet_record xs) h in
+    (holds r xs x each.0, each-quiet L holds w e p (after_record w e p r x) xs each.1)
+
+-- no line stands among quiet records
+no-line : (last : Option Record) (x : Record) → is_quiet_record x ≡ true → is_other_line last x ≡ false
+no-line last = quiet-cases (λ x. is_other_line last x ≡ false) (λ s t i. refl) (λ s t value. refl) (λ s t. refl) (λ s t. refl) (λ s t. refl) (λ s t. refl) (λ s l t. refl) (λ s l t. refl) refl (λ l. refl) refl
+
+lines-whole : (last : Option Record) (xs : List Record) → list_all is_quiet_record xs ≡ true → before_lines last xs ≡ xs
+lines-whole last [] h = refl
+lines-whole last (x ∷ xs) h =
+    let each = both (is_quiet_record x) (list_all is_quiet_record xs) h in
+    ap (λ b. if b then [] else x ∷ before_lines (Some x) xs) (no-line last x each.0) ∙ ap (λ ys. x ∷ ys) (lines-whole (Some x) xs each.1)
+
+pub front-whole : (xs : List Record) → list_all is_quiet_record xs ≡ true → front_part xs ≡ xs
+front-whole [] h = refl
+front-whole (x ∷ xs) h = ap (λ ys. x ∷ ys) (lines-whole (Some x) xs (both (is_quiet_record x) (list_all is_quiet_record xs) h).1)

@@ -1,0 +1,62 @@
+-- Events that change nothing of which owners, shares, wants and what is told in time are.
+use Rattle.std.specs.Prelude.{◌≡◌, ℕ, ◌+◌, ◌-◌, ◌==◌, ◌≤◌, nat_lt, Bool, true, false, ◌&&◌, is_none, map}
+use Rattle.std.specs.List.{list_all}
+use Rattle.sa_base.specs.declared.number.SpaceNo.{SpaceNo}
+use Rattle.sa_base.specs.declared.record.Record.{Record}
+use Rattle.sa_base.specs.declared.record.Record.TheVariants.{Ins, Out, Run, Cont, Back, Ready, Take, Free, Idle, Spin, Tick}
+use Rattle.sa_share.specs.Share.{share_at}
+use Rattle.sa_assign.specs.Aims.{aimed}
+use Rattle.sa_spaces.specs.Workload.{WorkloadView}
+use Rattle.sa_laws.specs.Event.{Event}
+use Rattle.sa_laws.specs.Readings.{Readings, space_of_life, line_of}
+use Rattle.sa_laws.specs.Closing.{first_space, shares_at, must_want}
+use Rattle.sa_laws.specs.Upcalls.{IsPrompt}
+use Rattle.sa_laws.specs.Shape.{before_aims, before_wants}
+use Rattle.sa_check_moment.specs.Seen.{Seen}
+use Rattle.sa_check.specs.Places.{WantsAreDue, AimsAreDue}
+use Rattle.sa_check.specs.Records.{behind_some}
+
+-- a record that changes no demand, no aim, no line, no I/O under way, no owner, nothing untold, and neither which lives
+-- run nor their spaces
+abbrev pub is_quiet_record : Record → Bool
+is_quiet_record (Ins s t i) = true
+is_quiet_record (Out s t value) = true
+is_quiet_record (Run s t) = true
+is_quiet_record (Cont s t) = true
+is_quiet_record (Back s t) = true
+is_quiet_record (Ready s t) = true
+is_quiet_record (Take s l t) = true
+is_quiet_record (Free s l t) = true
+is_quiet_record Idle = true
+is_quiet_record (Spin l) = true
+is_quiet_record Tick = true
+is_quiet_record _ = false
+
+-- the first space is that of the event before
+abbrev pub keeps_first : WorkloadView → ℕ → Bool
+keeps_first w n = nat_lt 0 n && first_space w (n - 1) == first_space w n
+
+-- an event of such records on a processor whose line is low
+abbrev pub is_quiet : WorkloadView → Readings → Event → Bool
+is_quiet w r e = is_none (line_of r e.proc) && (keeps_first w e.number && list_all is_quiet_record e.records)
+
+-- what is so after this event of a trace that is right so far: each processor is owned by the space of its running life,
+-- each space has at least its share of aims, none must want, and each is told in time
+pub record IsSettled (w : WorkloadView) (n : ℕ) (r : Readings) : Type 0 where
+  pub owned : r.state.owners ≡ map (space_of_life r) r.running
+  pub covered : (s : ℕ) → share_at (shares_at w n r) s ≤ aimed s r.aims
+  pub wants : (s : SpaceNo) → must_want r s ≡ false
+  pub prompt : IsPrompt r
+
+-- .. after the event before the next one, if there was one
+abbrev pub WasSettled : WorkloadView → Readings → Type 0
+WasSettled w r = (n : ℕ) → r.number ≡ n + 1 → IsSettled w n r
+
+-- at an event that begins with this moment, wants and aims are those that are due
+pub record NothingIsDue (m : Seen) (e : Event) : Type 0 where
+  pub wants : WantsAreDue (behind_some m e (before_wants e.records)) e
+  pub aims : AimsAreDue (behind_some m e (before_aims e.records)) e
+
+pub record IsQuietFrom (m : Seen) (e : Event) : Type 0 where
+  pub quiet : list_all is_quiet_record e.records ≡ true
+  pub none : NothingIsDue m e

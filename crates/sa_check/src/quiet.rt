@@ -1,0 +1,92 @@
+// Events that change nothing of which owners, shares, wants and what is told in time are.
+ghost use Rattle.std.specs.Prelude.{◌≡◌, true, IfOk};
+ghost use Rattle.std.specs.List.{list_all};
+ghost use Rattle.sa_check_moment.specs.Seen.{seen};
+ghost use Rattle.sa_check.specs.Items.{told_event};
+ghost use Rattle.sa_check.specs.Quiet.{is_quiet_record, keeps_first, is_quiet, NothingIsDue};
+ghost use Rattle.sa_check.specs.Records.{ReadsRecords};
+
+use crate::event::TraceEvent;
+use crate::places::DueFound;
+use crate::records::{ReadThrough, RecordsFound};
+use sa_base::Record;
+use sa_check_closing::{are_lines_due, first_space};
+use sa_check_moment::Moment;
+use sa_spaces::Workload;
+use std::alloc::{AllocError, Global};
+
+/// The event changes nothing of these, its processor's line is low, and the space that is served first is that of the
+/// event before.
+pub(crate) fn is_quiet(moment: &Moment, event: &TraceEvent) -> bool
+    ensures { let m = seen moment.now in result ≡ is_quiet m.workload m.readings (told_event event.now) }
+{
+    moment.line(event.proc).is_none()
+        && keeps_first(moment.workload(), event.number)
+        && are_quiet(event.records)
+}
+
+// The space that is served first is that of the event before, if there was one.
+fn keeps_first(workload: &Workload, number: u64) -> bool
+    ensures { result ≡ keeps_first workload.now number }
+{
+    number > 0 && first_space(workload, number - 1) == first_space(workload, number)
+}
+
+// Each of the records is quiet.
+fn are_quiet(records: &[Record]) -> bool
+    ensures { result ≡ list_all is_quiet_record records.now }
+{
+    records.iter().all(|what| is_quiet_record(what))
+}
+
+// The record changes no demand, no aim, no line, no I/O under way, no owner, nothing untold, and neither which lives run
+// nor their spaces.
+fn is_quiet_record(what: &Record) -> bool
+    ensures { result ≡ is_quiet_record what.now }
+{
+    matches!(
+        *what,
+        Record::Ins(..)
+            | Record::Out(..)
+            | Record::Run(..)
+            | Record::Cont(..)
+            | Record::Back(..)
+            | Record::Ready(..)
+            | Record::Take(..)
+            | Record::Free(..)
+            | Record::Idle
+            | Record::Spin(_)
+            | Record::Tick
+    )
+}
+
+/// Reads the records of a quiet event, on the moment as it begins, at which no want and no aim is due. `None` exactly
+/// where one of them is no step of the abstract machine.
+pub(crate) fn read_quiet(
+    alloc: Global,
+    moment: Moment,
+    event: &TraceEvent,
+) -> Result<Option<ReadThrough>, AllocError>
+    requires quiet { list_all is_quiet_record event.now.records.now ≡ true }
+    requires none { NothingIsDue (seen moment) (told_event event.now) }
+    ensures { IfOk result (ReadsRecords (seen moment) (told_event event.now)) }
+{
+    let records = event.records;
+    let mut now = moment;
+    for what in records {
+        if !now.allows(event.proc, what) {
+            return Ok(None);
+        }
+        now = now.read(event.number, event.proc, what)?;
+    }
+    let lines = are_lines_due(alloc, &now, &records[records.len()..])?;
+    Ok(Some(ReadThrough {
+        moment: now,
+        laws: RecordsFound::new(),
+        due: DueFound {
+            wants: true,
+            aims: true,
+            lines,
+        },
+    }))
+}
