@@ -1,7 +1,10 @@
 // Runs on host threads, over FastThreads.
-use sa_base::{End, ProcNo};
+ghost use Rattle.std.specs.Prelude.{◌≤◌};
+
+use sa_base::{End, MAX_EVENTS, ProcNo};
 use sa_package::FastThreads;
 use sa_seat::Closed;
+use sa_spaces::Workload;
 use sa_workers::{Gate, HoldGate, Limits, run};
 use sa_workload::read;
 use std::alloc::{AllocError, Global};
@@ -36,6 +39,21 @@ fn straight(alloc: Global, processors: u16, computes: u16) -> Result<String, All
     Ok(text)
 }
 
+// A run of a workload. It stands alone, since that FastThreads may cross threads is found where little else is known.
+fn run_workload<G: Gate, R: Threads + Wait + Sync>(
+    rt: &R,
+    alloc: Global,
+    workload: Workload,
+    budget: u64,
+    gate: &G,
+) -> Result<Closed, AllocError>
+    requires some { 1 ≤ budget }
+    requires few { budget ≤ MAX_EVENTS }
+{
+    let limits = Limits { budget, burst: 16 };
+    run::<FastThreads, R, G>(rt, alloc, workload, limits, gate)
+}
+
 // A run of the workload of the text.
 fn run_text<G: Gate, R: Threads + Wait + Abort + Sync>(
     rt: &R,
@@ -45,9 +63,8 @@ fn run_text<G: Gate, R: Threads + Wait + Abort + Sync>(
     gate: &G,
 ) -> Result<Closed, Fail> {
     let workload = read(alloc, text.as_bytes())?;
-    let limits = Limits { budget, burst: 16 };
-    assert!(rt; 1 <= limits.budget && limits.budget <= 1_000_000);
-    Ok(run::<FastThreads, R, G>(rt, alloc, workload, limits, gate)?)
+    assert!(rt; 1 <= budget && budget <= 1_000_000);
+    Ok(run_workload::<G, R>(rt, alloc, workload, budget, gate)?)
 }
 
 #[test]
