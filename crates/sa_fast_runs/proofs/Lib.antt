@@ -1,3 +1,2 @@
-pub mod Instance
 pub mod Leading
 pub mod Whole

@@ -26,7 +26,7 @@ use Rattle.sa_run.specs.Run.{TurnsTo, RunsTo, RunsSoFar}
 use Rattle.sa_fast_runs.specs.Runs.{FastMachine}
 use Rattle.sa_fast_runs.specs.Whole.{IsLegalRun, IsTurnByTurn, IsEnded}
 use Rattle.sa_fast_runs.specs.Threads.{IsLegalHistory}
-use Rattle.sa_fast_runs.proofs.Instance.{fast_level}
+use Rattle.sa_fast_laws.proofs.FastLaws.{fast_level}
 use Rattle.sa_fast_runs.proofs.Leading.{turns_of, are-turns, many-processors, processor-at, turns-lead, leads-run, leads-open}
 
 -- a chain's history is a legal run, and ends as the definitions say

@@ -1,5 +1,5 @@
 use Rattle.sa_legal_runs.proofs.Runs.{runs-end}
-use Rattle.sa_fast_runs.proofs.Instance.{fast_level}
+use Rattle.sa_fast_laws.proofs.FastLaws.{fast_level}
 use Rattle.sa_fast_runs.proofs.laws.each_run_ends_as_defined.Goals as goal
 
 pub returns : goal.returns

@@ -1,5 +1,5 @@
 use Rattle.sa_legal_runs.proofs.Runs.{runs-follow, runs-number, runs-count}
-use Rattle.sa_fast_runs.proofs.Instance.{fast_level}
+use Rattle.sa_fast_laws.proofs.FastLaws.{fast_level}
 use Rattle.sa_fast_runs.proofs.laws.events_follow_the_moves.Goals as goal
 
 pub returns : goal.returns
