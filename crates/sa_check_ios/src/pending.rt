@@ -5,6 +5,7 @@ ghost use Rattle.std.specs.Option.{option_map};
 ghost use Rattle.sa_devices.specs.Ios.{Io, due_of, fetches};
 ghost use Rattle.sa_devices.specs.Laws.{has_page};
 ghost use Rattle.sa_devices.specs.Pages.{opening_pages, evicted};
+ghost use Rattle.sa_laws.specs.Record.{is_io_of};
 ghost use Rattle.sa_check_ios.specs.Kept.{HasPage};
 ghost use Rattle.sa_check_ios.specs.PendingView.{opened, begun_with, without_life, without_fetch};
 
@@ -123,6 +124,13 @@ impl Pending {
         ensures { IsTrue result ↔ (self.now.under_way ≢ []) }
     {
         !self.ios.is_empty()
+    }
+
+    /// An I/O of the life is under way: it is blocked.
+    pub fn has_io(&self, a: ActNo) -> bool
+        ensures { result ≡ list_any (is_io_of a) self.now.under_way }
+    {
+        self.ios.has_life(a)
     }
 
     /// The upcall page of the space is being fetched.

@@ -104,6 +104,13 @@ impl UnderWay {
         }
     }
 
+    // Some one is that of the life.
+    pub(crate) fn has_life(&self, a: ActNo) -> bool
+        ensures { result ≡ list_any (is_io_of a) self.now }
+    {
+        self.ios.iter().any(|io| is_of_life(a, io.kind))
+    }
+
     // Some one fetches the upcall page of the space.
     pub(crate) fn has_fetch(&self, s: SpaceNo) -> bool
         ensures { result ≡ list_any (fetches s.0) self.now }

@@ -17,7 +17,7 @@ use Rattle.sa_laws.specs.State.{instr_of, next_instr, owner_at}
 use Rattle.sa_laws.specs.Life.{Life}
 use Rattle.sa_laws.specs.Readings.{Readings, is_resident, life_of}
 use Rattle.sa_laws.specs.Record.{length_behind, locks_one}
-use Rattle.sa_laws.specs.Step.{IsTouched, IsMissed, IsFaulting, IsBehindOut, CanIns, CanBlock, CanUnblock, Needs}
+use Rattle.sa_laws.specs.Step.{IsTouched, IsMissed, IsFaulting, IsBehindOut, CanIns, CanBlock, CanUnblock, has_io, Needs}
 use Rattle.sa_check_machine.specs.declared.beyond.Beyond.{Beyond}
 use Rattle.sa_check_machine.specs.declared.beyond.LifeSeen.{LifeSeen}
 use Rattle.sa_check_machine.specs.Needs.{IsTouchedIn, IsMissedIn, IsFaultingIn, CanInsWith, CanBlockWith, CanUnblockWith, NeedsWith, Sees, seen_of, length_before, locks_one_of}
@@ -152,17 +152,32 @@ module _ (w : WorkloadView) (p : ProcNo) (r : Readings) where
     )
 
   -- an unblock
-  module _ (s : SpaceNo) (t : Option ThreadNo) (a : ActNo) (seen : Option LifeSeen) (is : seen ≡ option_map seen_of (life_of r a)) where
+  module _ (s : SpaceNo) (t : Option ThreadNo) (a : ActNo) (beyond : Beyond)
+      (is : beyond.life ≡ option_map seen_of (life_of r a)) (io : beyond.has_io ≡ has_io r a) where
     seen_life : (o : Option Life) (x : LifeSeen) → option_map seen_of o ≡ Some x → (life : Life) × (o ≡ Some life) × (seen_of life ≡ x)
     seen_life None x e = cc
     seen_life (Some life) x e = (life, refl, same_Some _ _ e)
 
-    unblock_needs : CanUnblockWith r.state s t seen ↔ CanUnblock r s t a
+    unblock_needs : CanUnblockWith r.state s t beyond ↔ CanUnblock r s t a
     unblock_needs = (
       λ h.
           let found = seen_life (life_of r a) h.life (sym is ∙ h.is) in
-          record { life = found.0; is = found.1; space = ap (λ (x : LifeSeen). x.space) found.2 ∙ h.space; thread = ap (λ (x : LifeSeen). x.thread) found.2 ∙ h.thread; blocked = h.blocked },
-      λ h. record { life = seen_of h.life; is = is ∙ ap (λ (o : Option Life). option_map seen_of o) h.is; space = h.space; thread = h.thread; blocked = h.blocked },
+          record {
+            life = found.0;
+            is = found.1;
+            space = ap (λ (x : LifeSeen). x.space) found.2 ∙ h.space;
+            thread = ap (λ (x : LifeSeen). x.thread) found.2 ∙ h.thread;
+            io = sym io ∙ h.io;
+            blocked = h.blocked;
+          },
+      λ h. record {
+        life = seen_of h.life;
+        is = is ∙ ap (λ (o : Option Life). option_map seen_of o) h.is;
+        space = h.space;
+        thread = h.thread;
+        io = io ∙ h.io;
+        blocked = h.blocked;
+      },
     )
 
   -- an `out`
@@ -176,7 +191,7 @@ module _ (w : WorkloadView) (p : ProcNo) (r : Readings) where
   needs beyond (records.Run s t) sees = (λ h. h, λ h. h)
   needs beyond (records.Stop s t act) sees = (λ h. h, λ h. h)
   needs beyond (records.Block s t act io) sees = block_needs s t act beyond sees.0 sees.1 sees.2
-  needs beyond (records.Unblock s t act) sees = unblock_needs s t act beyond.life sees
+  needs beyond (records.Unblock s t act) sees = unblock_needs s t act beyond sees.0 sees.1
   needs beyond (records.Cont s t) sees = (λ h. h, λ h. h)
   needs beyond (records.Back s t) sees = (λ h. h, λ h. h)
   needs beyond (records.Ready s t) sees = (λ h. h, λ h. h)

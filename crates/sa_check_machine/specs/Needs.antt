@@ -16,7 +16,7 @@ use Rattle.sa_laws.specs.State.{State, thread_at, instr_of, next_instr, program_
 use Rattle.sa_laws.specs.Life.{Life, has_lock}
 use Rattle.sa_laws.specs.Readings.{Readings, life_of}
 use Rattle.sa_laws.specs.Record.{length_in, is_thread}
-use Rattle.sa_laws.specs.Step.{IsRunner, NobodyRuns, StandsIn, IsBehindOut, CanBeReady, Needs}
+use Rattle.sa_laws.specs.Step.{IsRunner, NobodyRuns, StandsIn, IsBehindOut, CanBeReady, has_io, Needs}
 use Rattle.sa_check_machine.specs.Running.{is_running, can_move, IsFull}
 use Rattle.sa_check_machine.specs.declared.beyond.Beyond.{Beyond}
 use Rattle.sa_check_machine.specs.declared.beyond.LifeSeen.{LifeSeen}
@@ -63,12 +63,13 @@ pub record CanBlockWith (w : WorkloadView) (p : ProcNo) (a : State) (s : SpaceNo
   pub runs : IsRunner a p s t
   pub cause : HasCauseIn w a s t beyond
 
--- an unblock names the thread of the life's block
-pub record CanUnblockWith (a : State) (s : SpaceNo) (t : Option ThreadNo) (seen : Option LifeSeen) : Type 0 where
+-- the life of an unblock is blocked, and the unblock names the thread of its block
+pub record CanUnblockWith (a : State) (s : SpaceNo) (t : Option ThreadNo) (beyond : Beyond) : Type 0 where
   pub life : LifeSeen
-  pub is : seen ≡ Some life
+  pub is : beyond.life ≡ Some life
   pub space : life.space ≡ s
   pub thread : life.thread ≡ t
+  pub io : beyond.has_io ≡ true
   pub blocked : StandsIn place.Blocked a s t
 
 -- the needs of a record of processor p, in a state and beside what is beyond it
@@ -77,7 +78,7 @@ NeedsWith w p a beyond (Ins s t i) = CanInsWith w p a s t i beyond.pages
 NeedsWith w p a beyond (Out s t value) = (owner_at a p ≡ Some s) × IsBehindOut w a s t value beyond.last
 NeedsWith w p a beyond (Stop s t act) = (owner_at a p ≡ Some s) × IsRunner a p s t
 NeedsWith w p a beyond (Block s t act io) = CanBlockWith w p a s t beyond
-NeedsWith w p a beyond (Unblock s t act) = CanUnblockWith a s t beyond.life
+NeedsWith w p a beyond (Unblock s t act) = CanUnblockWith a s t beyond
 NeedsWith w p a beyond (Cont s t) = (owner_at a p ≡ Some s) × NobodyRuns a p × StandsIn place.Carried a s t
 NeedsWith w p a beyond (Back s t) = (owner_at a p ≡ Some s) × IsRunner a p s t
 NeedsWith w p a beyond (Run s t) = (owner_at a p ≡ Some s) × NobodyRuns a p × ((thread_at a s t).place ≡ place.Ready)
@@ -94,7 +95,7 @@ Sees r (Ins s t i) beyond = beyond.pages ≡ slice_index r.pages s.0
 Sees r (Out s t value) beyond = beyond.last ≡ r.last
 Sees r (Block s t act io) beyond =
     (beyond.last ≡ r.last) × (beyond.pages ≡ slice_index r.pages s.0) × (beyond.life ≡ option_map seen_of (life_of r act))
-Sees r (Unblock s t act) beyond = beyond.life ≡ option_map seen_of (life_of r act)
+Sees r (Unblock s t act) beyond = (beyond.life ≡ option_map seen_of (life_of r act)) × (beyond.has_io ≡ has_io r act)
 Sees r _ beyond = Unit {0}
 
 -- then these are the needs of the record

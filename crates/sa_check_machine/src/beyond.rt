@@ -9,6 +9,8 @@ pub struct Beyond {
     pub pages: u16,
     /// The life that the record names, if its number is in use.
     pub life: Option<LifeSeen>,
+    /// An I/O of that life is under way.
+    pub has_io: bool,
 }
 
 /// What the needs of a record look at of a life.

@@ -23,7 +23,7 @@ impl Replay {
             Record::Out(s, t, value) => self.can_out(p, s, t, value, beyond.last),
             Record::Stop(s, t, _) => self.is_owned(p, s) && self.is_runner(p, s, t),
             Record::Block(s, t, _, _) => self.can_block(p, s, t, beyond),
-            Record::Unblock(s, t, _) => self.can_unblock(s, t, beyond.life),
+            Record::Unblock(s, t, _) => self.can_unblock(s, t, beyond),
             Record::Cont(s, t) => {
                 self.is_owned(p, s) && self.nobody_runs(p) && self.stands_in(Place::Carried, s, t)
             }
@@ -73,14 +73,14 @@ impl Replay {
         self.is_owned(p, s) && self.is_runner(p, s, t) && self.has_cause(s, t, beyond)
     }
 
-    /// Whether this thread, or none, is that of the life's block.
-    pub fn can_unblock(&self, s: SpaceNo, t: Option<ThreadNo>, seen: Option<LifeSeen>) -> bool
-        ensures { IsTrue result ↔ CanUnblockWith self.now.state s t seen }
+    /// Whether the life is blocked, and this thread, or none, is that of its block.
+    pub fn can_unblock(&self, s: SpaceNo, t: Option<ThreadNo>, beyond: &Beyond) -> bool
+        ensures { IsTrue result ↔ CanUnblockWith self.now.state s t beyond.now }
     {
-        let Some(life) = seen else {
+        let Some(life) = beyond.life else {
             return false;
         };
-        life.space == s && life.thread == t && self.stands_in(Place::Blocked, s, t)
+        life.space == s && life.thread == t && beyond.has_io && self.stands_in(Place::Blocked, s, t)
     }
 
     /// Whether the thread is carried, or is due.

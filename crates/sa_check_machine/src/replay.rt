@@ -115,6 +115,13 @@ impl Replay {
         self.spaces.thread(s, t)
     }
 
+    /// How many threads of the space were made, which have the numbers below; at most 512.
+    pub fn made(&self, s: SpaceNo) -> u16
+        ensures { result ≡ length (space_at self.now.state s).threads }
+    {
+        self.spaces.made(s)
+    }
+
     /// Whether the thread was forked or woken, and is still to be made ready.
     pub fn is_due(&self, s: SpaceNo, t: ThreadNo) -> bool
         ensures { result ≡ is_due (space_at self.now.state s) t }

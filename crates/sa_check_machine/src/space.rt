@@ -62,6 +62,13 @@ impl SpaceThreads {
         self.threads.get(t)
     }
 
+    /// How many threads were made; at most 512.
+    pub fn made(&self) -> u16
+        ensures { result ≡ length self.now.threads }
+    {
+        self.threads.len()
+    }
+
     /// Whether the thread was forked or woken, and is still to be made ready.
     pub fn is_due(&self, t: ThreadNo) -> bool
         ensures { result ≡ is_due self.now t }

@@ -63,6 +63,16 @@ impl Spaces {
         }
     }
 
+    // How many threads of the space were made; at most 512.
+    pub(crate) fn made(&self, s: SpaceNo) -> u16
+        ensures { result ≡ length (space_in self.now s).threads }
+    {
+        match self.spaces.get(usize::from(s.0)) {
+            Some(space) => space.made(),
+            None => 0,
+        }
+    }
+
     // Whether the thread is due.
     pub(crate) fn is_due(&self, s: SpaceNo, t: ThreadNo) -> bool
         ensures { result ≡ is_due (space_in self.now s) t }

@@ -16,30 +16,30 @@ use Rattle.sa_legal_runs.specs.Moves.{AreTurns, NotEnded, processors_of}
 use Rattle.sa_run.specs.Run.{TurnsTo}
 
 -- the turns of the order's first n processors
-abbrev pub turns_of : Order → ℕ → ℕ → List Move
-turns_of order processors zero = []
-turns_of order processors (suc n) = turns_of order processors n ++ turn (proc_no (processor_at order processors (n + 1))) ∷ []
+abbrev pub turns_by : Order → ℕ → ℕ → List Move
+turns_by order processors zero = []
+turns_by order processors (suc n) = turns_by order processors n ++ turn (proc_no (processor_at order processors (n + 1))) ∷ []
 
-turns-push : (moves : List Move) (p : ProcNo) → AreTurns moves → AreTurns (moves ++ turn p ∷ [])
+pub turns-push : (moves : List Move) (p : ProcNo) → AreTurns moves → AreTurns (moves ++ turn p ∷ [])
 turns-push [] p all = tt
 turns-push (turn q ∷ moves) p all = turns-push moves p all
 turns-push (commit q n ∷ moves) p all = absurd all
 
-pub are-turns : (order : Order) (processors n : ℕ) → AreTurns (turns_of order processors n)
+pub are-turns : (order : Order) (processors n : ℕ) → AreTurns (turns_by order processors n)
 are-turns order processors zero = tt
-are-turns order processors (suc n) = turns-push (turns_of order processors n) (proc_no (processor_at order processors (n + 1))) (are-turns order processors n)
+are-turns order processors (suc n) = turns-push (turns_by order processors n) (proc_no (processor_at order processors (n + 1))) (are-turns order processors n)
 
 processors-push : (moves : List Move) (p : ProcNo) → AreTurns moves → processors_of (moves ++ turn p ∷ []) ≡ processors_of moves ++ p ∷ []
 processors-push [] p all = refl
 processors-push (turn q ∷ moves) p all = ap (λ ps. q ∷ ps) (processors-push moves p all)
 processors-push (commit q n ∷ moves) p all = absurd all
 
-pub many-processors : (order : Order) (processors n : ℕ) → length (processors_of (turns_of order processors n)) ≡ n
+pub many-processors : (order : Order) (processors n : ℕ) → length (processors_of (turns_by order processors n)) ≡ n
 many-processors order processors zero = refl
 many-processors order processors (suc n) =
     let p = proc_no (processor_at order processors (n + 1)) in
-    let more = processors-push (turns_of order processors n) p (are-turns order processors n) in
-    let size = length-append (processors_of (turns_of order processors n)) (p ∷ []) in
+    let more = processors-push (turns_by order processors n) p (are-turns order processors n) in
+    let size = length-append (processors_of (turns_by order processors n)) (p ∷ []) in
     let rest = many-processors order processors n in
     ap length more ∙ omega (arith, size, rest)
 
@@ -55,17 +55,17 @@ get-last [] p (suc k) is = absurd (omega arith)
 get-last (q ∷ ps) p zero is = absurd (omega arith)
 get-last (q ∷ ps) p (suc k) is = get-last ps p k (omega arith)
 
-pub processor-at : (order : Order) (processors n k : ℕ) → k < n → slice_get (processors_of (turns_of order processors n)) k ≡ Some (proc_no (processor_at order processors (k + 1)))
+pub processor-at : (order : Order) (processors n k : ℕ) → k < n → slice_get (processors_of (turns_by order processors n)) k ≡ Some (proc_no (processor_at order processors (k + 1)))
 processor-at order processors zero k inside = absurd (omega arith)
 processor-at order processors (suc n) k inside =
     let p = proc_no (processor_at order processors (n + 1)) in
-    let more = processors-push (turns_of order processors n) p (are-turns order processors n) in
+    let more = processors-push (turns_by order processors n) p (are-turns order processors n) in
     let size = many-processors order processors n in
     ap (λ ps. slice_get ps k) more ∙ elim (cases_lt k n) [
-      | inl less ↦ get-push (processors_of (turns_of order processors n)) p k (omega arith) ∙ processor-at order processors n k less
+      | inl less ↦ get-push (processors_of (turns_by order processors n)) p k (omega arith) ∙ processor-at order processors n k less
       | inr past ↦
           let same : k ≡ n = omega arith in
-          get-last (processors_of (turns_of order processors n)) p k (omega arith) ∙ ap (λ j. Some (proc_no (processor_at order processors (j + 1)))) (sym same)
+          get-last (processors_of (turns_by order processors n)) p k (omega arith) ∙ ap (λ j. Some (proc_no (processor_at order processors (j + 1)))) (sym same)
     ]
 
 module _ {U C : Type 0} (f : Calls U C) (budget : ℕ) where
@@ -78,10 +78,10 @@ module _ {U C : Type 0} (f : Calls U C) (budget : ℕ) where
 
   -- a run by a schedule
   pub turns-lead : (w : WorkloadView) (order : Order) (n : ℕ) (m : Machine U C) → TurnsTo f w order budget n m
-      → IsChain f budget w (turns_of order w.processors n) m
+      → IsChain f budget w (turns_by order w.processors n) m
   turns-lead w order zero m run = run
   turns-lead w order (suc n) m run =
-      leads-push (opening f w) (turns_of order w.processors n) run.0 (turn (proc_no (processor_at order w.processors (n + 1)))) m
+      leads-push (opening f w) (turns_by order w.processors n) run.0 (turn (proc_no (processor_at order w.processors (n + 1)))) m
       (turns-lead w order n run.0 run.1) run.2 run.3
 
   -- a chain is a run, and none of its moves came behind an end

@@ -1,2 +1,6 @@
 pub mod Leading
+pub mod Counted
+pub mod Chains
 pub mod Whole
+pub mod Shared
+pub mod Calls

@@ -1,7 +1,8 @@
 //! What holds of each run of the machine with FastThreads, from the opening of a workload by turns and commits in any order.
 //! No function here does anything.
 ghost use Rattle.sa_fast_runs.specs.Whole.{RunsSoFarAreLegal, WholeRunsAreLegal};
-ghost use Rattle.sa_fast_runs.specs.Threads.{SharedRunsAreLegal};
+ghost use Rattle.sa_fast_runs.specs.Threads.{LocksAreLegal, ClosedAreLegal, SharedRunsAreLegal};
+ghost use Rattle.sa_fast_runs.specs.Calls.{StartReaches, TurnsReach, TurnsAloneReach, CommitsReach, ReachedAreLegal, ReachedAreStrict, ReachedEndAsDefined, CommitsAddInstructions};
 ghost use Rattle.sa_fast_runs.specs.Runs.{RunsAreLegal, RunsEndAsDefined, TurnsAreStrict, RunsAreRight, EventsFollowMoves, EventsAreNumbered, EventsAreCounted};
 
 /// Its trace is a legal run by FastThreads' rules: every stop, block and return is told at most once, in time and by an
@@ -36,6 +37,20 @@ pub fn events_follow_the_moves()
     ensures count { EventsAreCounted }
 {}
 
+/// Whoever drives a core by its calls has a legal history at each moment: `start` opens one, `turn` and `commit` keep it so, one
+/// that was made by turns alone is strict, and `end` is as the definitions say; and `commit` adds exactly the records of its
+/// instructions, one an event, and behind them a closing where a slice ends.
+pub fn core_calls_keep_legal()
+    ensures start { StartReaches }
+    ensures turn { TurnsReach }
+    ensures turn_alone { TurnsAloneReach }
+    ensures commit { CommitsReach }
+    ensures legal { ReachedAreLegal }
+    ensures strict { ReachedAreStrict }
+    ensures end { ReachedEndAsDefined }
+    ensures adds { CommitsAddInstructions }
+{}
+
 /// Each run by a schedule, as far as it came, is a legal run and a strict one, and its events follow the schedule; where it
 /// ended, it ended as the definitions say, and with its last line it breaks no rule.
 pub fn runs_by_a_schedule_are_legal()
@@ -43,8 +58,12 @@ pub fn runs_by_a_schedule_are_legal()
     ensures whole { WholeRunsAreLegal }
 {}
 
-/// The history that host threads leave is a legal run with the end that the definitions say, and has as many events as the
-/// processors' counts sum up to.
+/// Under host threads, whenever the machine's lock is free the history kept behind it is a legal run that had not ended before
+/// its last event, and the keeper's count of each processor is the number of its events; so it is of the closed machine, with
+/// its end; and where all host threads are done there are as many events as the counts sum up to, and where the budget ended
+/// the run each processor had just its quota.
 pub fn shared_runs_are_legal()
-    ensures { SharedRunsAreLegal }
+    ensures locked { LocksAreLegal }
+    ensures closed { ClosedAreLegal }
+    ensures done { SharedRunsAreLegal }
 {}

@@ -26,7 +26,7 @@ use Rattle.sa_acts.specs.declared.acts.Act.{Act}
 use Rattle.sa_assign.specs.Aims.{space_no}
 use Rattle.sa_devices.specs.Ios.{Io, due_of, io_no, io_at, is_number}
 use Rattle.sa_laws.specs.Turns.{IsOver}
-use Rattle.sa_laws.specs.Record.{after_record}
+use Rattle.sa_laws.specs.Record.{after_record, is_io_of, is_kind_of}
 use Rattle.sa_laws.specs.Readings.{untold_of, Readings}
 use Rattle.sa_laws.specs.History.{after_records}
 use Rattle.sa_laws.specs.Event.{Event}
@@ -61,7 +61,8 @@ use Rattle.sa_event_frames.proofs.Matching.{AreMatched, matched-records, IsHeldA
 use Rattle.sa_match.proofs.Begun.{begins-now, fit-begun}
 use Rattle.sa_kernel_events.proofs.Telling.{matched-of, matched-some}
 use Rattle.sa_match.proofs.Longer.{Parted, parted, history-turn}
-use Rattle.std.specs.List.{find}
+use Rattle.std.specs.List.{find, list_any}
+use Rattle.std.proofs.lemmas.List.Folds.{list_any_at}
 use Rattle.std.specs.Option.{option_map}
 use Rattle.sa_devices.specs.declared.kind.IoKind.{IoKind}
 use Rattle.sa_devices.specs.declared.kind.IoKind.TheVariants.{Plain, Page, Upcall}
@@ -92,6 +93,9 @@ self-claim s a =
     let two : (a.0 == a.0) ≡ true = grind (arith, nat_tests) in
     ap (λ (b : Bool). if_one (b && a.0 == a.0)) one ∙ ap if_one two
 
+same-number : (a : ActNo) → (a.0 == a.0) ≡ true
+same-number a = grind (arith, nat_tests)
+
 -- A notice that waits is counted.
 claimed-note : (a : ℕ) (n : Note) (ns : List Note) → Contains ns n → note_claim a n ≡ 1 → 1 ≤ sum_by (note_claim a) ns
 claimed-note a n ns has one =
@@ -104,7 +108,7 @@ module _ {U C : Type 0} (level : UserLevel U C) where
   pub unblock-goes : (w : WorkloadView) (events : List Event) (m : Machine U C) (p : ProcNo) (n : ActNo) (s : SpaceNo) (a : ActNo)
       (io : IoNo) (due_io : Io) → (c : IsComposed level w events m)
       → line_of m.kernel p ≡ None → due_of (m.event + 1) m.kernel.under_way ≡ Some due_io
-      → 1 ≤ sum_by (io_claim s.0 a.0) m.kernel.under_way → s.0 < length w.spaces
+      → 1 ≤ sum_by (io_claim s.0 a.0) m.kernel.under_way → list_any (is_io_of a) m.kernel.under_way ≡ true → s.0 < length w.spaces
       → let x : Machine U C = next_event m in
       let g = m.event + 1 in
       let r = read level w events in
@@ -118,7 +122,7 @@ module _ {U C : Type 0} (level : UserLevel U C) where
       → ((items : List Item) → SameRuns k (entered_as g p n entry (record { state = k; items = items })).state)
       → IsBetween level.stands after → after.workload ≡ w → after.event ≡ g
       → (ev : Event) × Goes level w events m p after ev
-  unblock-goes w events m p n s a io due_io c low due claim below over can adds same between workload event =
+  unblock-goes w events m p n s a io due_io c low due claim busy below over can adds same between workload event =
       let x : Machine U C = next_event m in
       let g = m.event + 1 in
       let r = read level w events in
@@ -192,6 +196,7 @@ module _ {U C : Type 0} (level : UserLevel U C) where
         is = found.1;
         space = of_life found.0 found.1;
         thread = sym same_thread;
+        io = ap (λ (q : Overview). list_any (is_io_of a) q.under_way) c.history.kept.reads ∙ busy;
         blocked = subst (λ (y : Option ThreadNo). StandsIn place.Blocked b0.state s y) (sym same_thread) law.0;
       } in (
         ev,
@@ -335,19 +340,23 @@ module _ {U C : Type 0} (level : UserLevel U C) where
           ap (io_claim s.0 a.0) (get_or_from_slice_get m.kernel.under_way place.0 due_io due_io place.1) ∙ one in
           omega (arith, part, at)
 
+      busy : (a : ActNo) → is_kind_of a due_io.kind ≡ true → list_any (is_io_of a) m.kernel.under_way ≡ true
+      busy a is = list_any_at (is_io_of a) m.kernel.under_way place.0 due_io (slice_get_within m.kernel.under_way place.0 due_io place.1)
+          (ap (is_io_of a) (get_or_from_slice_get m.kernel.under_way place.0 due_io due_io place.1) ∙ is)
+
       runs : (items : List Item) → SameRuns x.kernel (entered_as g p n (Complete io) (record { state = x.kernel; items = items })).state
       runs items = same-over g p io (kind_at io.0 x.kernel.under_way) (record { state = x.kernel; items = items })
 
       go : (kind : IoKind) → due_io.kind ≡ kind → (ev : Event) × Goes level w events m p after ev
       go (Plain s a) is = unblock-goes w events m p n s a io due_io c low due
-          (claims s a (ap (kind_claim s.0 a.0) is ∙ self-claim s a))
+          (claims s a (ap (kind_claim s.0 a.0) is ∙ self-claim s a)) (busy a (ap (is_kind_of a) is ∙ same-number a))
           (let z = subst (λ (q : IoKind). IsKind (length m.kernel.demands) q) is is_kind in omega (arith, z, spaces))
           (subst (λ (q : IoKind). IsOver q (Unblock s (thread_of (held_of (x.kernel.acts a.0))) a ∷ [])) (sym is) (refl, refl)) can
           (λ items. ap (λ (z : Scene C). z.items)
           (over_is items ∙ ap (λ (q : IoKind). over g p io (Some q)
           (record { state = x.kernel; items = items })) is)) runs between workload event
       go (Page s a i) is = unblock-goes w events m p n s a io due_io c low due
-          (claims s a (ap (kind_claim s.0 a.0) is ∙ self-claim s a))
+          (claims s a (ap (kind_claim s.0 a.0) is ∙ self-claim s a)) (busy a (ap (is_kind_of a) is ∙ same-number a))
           (let z = (subst (λ (q : IoKind). IsKind (length m.kernel.demands) q) is is_kind).0 in omega (arith, z, spaces))
           (subst (λ (q : IoKind). IsOver q (Unblock s (thread_of (held_of (x.kernel.acts a.0))) a ∷ [])) (sym is) (refl, refl)) can
           (λ items. ap (λ (z : Scene C). z.items)

@@ -1,5 +1,6 @@
 -- Which records the abstract machine can do: where a record's needs are not met, it has no step.
-use Rattle.std.specs.Prelude.{◌≡◌, ℕ, ◌<◌, ◌⊎◌, true, false, List, [], ◌∷◌, Option, Some, None, is_some}
+use Rattle.std.specs.Prelude.{◌≡◌, ℕ, ◌<◌, ◌⊎◌, Bool, true, false, List, [], ◌∷◌, Option, Some, None, is_some}
+use Rattle.std.specs.List.{list_any}
 use Rattle.sa_base.specs.declared.number.ProcNo.{ProcNo}
 use Rattle.sa_base.specs.declared.number.SpaceNo.{SpaceNo}
 use Rattle.sa_base.specs.declared.number.ThreadNo.{ThreadNo}
@@ -18,7 +19,7 @@ use Rattle.sa_laws.specs.State.{State, space_at, thread_at, instr_of, next_instr
 use Rattle.sa_laws.specs.Machine.{changed}
 use Rattle.sa_laws.specs.Life.{Life}
 use Rattle.sa_laws.specs.Readings.{Readings, is_resident, life_of}
-use Rattle.sa_laws.specs.Record.{after_record, length_behind, locks_one}
+use Rattle.sa_laws.specs.Record.{after_record, length_behind, locks_one, is_io_of}
 use Rattle.sa_laws.specs.History.{begun}
 
 -- the thread t? is the one that runs on p, or none is named and none runs there
@@ -79,12 +80,17 @@ pub record CanBlock (w : WorkloadView) (p : ProcNo) (r : Readings) (s : SpaceNo)
   pub runs : IsRunner r.state p s t
   pub cause : HasCause w r s t a
 
--- an unblock names the thread of the life's block
+-- an I/O of the life is under way
+abbrev pub has_io : Readings → ActNo → Bool
+has_io r a = list_any (is_io_of a) r.under_way
+
+-- the life of an unblock is blocked, and the unblock names the thread of its block
 pub record CanUnblock (r : Readings) (s : SpaceNo) (t : Option ThreadNo) (a : ActNo) : Type 0 where
   pub life : Life
   pub is : life_of r a ≡ Some life
   pub space : life.space ≡ s
   pub thread : life.thread ≡ t
+  pub io : has_io r a ≡ true
   pub blocked : StandsIn place.Blocked r.state s t
 
 -- a thread can be made ready: it is carried, or due

@@ -3,3 +3,4 @@ pub mod Homes
 pub mod Ending
 pub mod Runs
 pub mod RightTraces
+pub mod Instructions

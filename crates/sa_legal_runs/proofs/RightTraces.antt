@@ -1,5 +1,5 @@
 -- A run that was driven until its end: its trace is right, with the last line that tells this end.
-use Rattle.std.proofs.Common.{◌≡◌, ◌≢◌, ℕ, zero, suc, ◌+◌, arith, sym, ◌∙◌, ap, subst, Bool, true, false, Option, Some, None, List, [], ◌∷◌, ◌++◌, length, slice_get, take, inl, inr, append_assoc}
+use Rattle.std.proofs.Common.{◌≡◌, ◌≢◌, ℕ, zero, suc, ◌+◌, ◌<◌, arith, sym, ◌∙◌, ap, subst, Bool, true, false, Option, Some, None, List, [], ◌∷◌, ◌++◌, length, slice_get, take, inl, inr, append_assoc}
 use Rattle.std.specs.Prelude.{if◌then◌else◌, ◌==◌}
 use Rattle.std.proofs.lemmas.List.{append-nil}
 use Rattle.std.proofs.lemmas.Option.{same_Some, none-some}
@@ -8,13 +8,13 @@ use Rattle.std.proofs.lemmas.Bool.Decides.{nat_tests}
 use Rattle.sa_base.specs.declared.record.End.{End}
 use Rattle.sa_base.specs.declared.record.End.TheVariants.{AllDone, Stuck, Budget}
 use Rattle.sa_spaces.specs.Workload.{WorkloadView, IsWorkload}
-use Rattle.sa_laws.specs.Event.{Event}
+use Rattle.sa_laws.specs.Event.{Event, events_of}
 use Rattle.sa_laws.specs.Ends.{GoesOn, LastLine, IsToldEnd, EndIsTold, EndsWith}
 use Rattle.sa_laws.specs.History.{Test, after_event, after_events}
 use Rattle.sa_laws.specs.Opening.{opening_event}
 use Rattle.sa_laws.specs.Readings.{Readings, opening_readings}
 use Rattle.sa_laws.specs.Rules.{UserRules, IsLawful, HoldEach, rules as all_rules}
-use Rattle.sa_laws.specs.Legal.{IsRight, HoldsBefore}
+use Rattle.sa_laws.specs.Legal.{IsRight, HoldsBefore, before}
 use Rattle.sa_legal.specs.Fold.{AreLawful}
 use Rattle.sa_legal.proofs.MomentLemmas.{number-next}
 use Rattle.sa_kernel_model.proofs.WalkLemmas.{not-empty}
@@ -76,6 +76,14 @@ told-end budget n r AllDone h = h
 told-end budget n r Stuck h = h
 told-end budget n r Budget h = h.0
 
+-- Where the run goes on behind each event but the last, it does so behind the one at a place.
+go-on-at : (test : Test) (w : WorkloadView) (r : Readings) (es : List Event) (n : ℕ) → GoOn test w r es → suc n < length es
+    → GoesOn (after_events test w r (take (suc n) es))
+go-on-at test w r [] n on inside = absurd (omega (arith, inside))
+go-on-at test w r (e ∷ []) n on inside = absurd (omega (arith, inside))
+go-on-at test w r (e ∷ x ∷ es) zero on inside = on.0
+go-on-at test w r (e ∷ x ∷ es) (suc n) on inside = go-on-at test w (after_event test w r e) (x ∷ es) n on.1 (omega (arith, inside))
+
 module _ {U C : Type 0} (level : UserLevel U C) where
   driven : (w : WorkloadView) (events : List Event) (budget : ℕ) (m : Machine U C) (moves : List Move) (after : Machine U C)
       (run : IsRun level.calls m moves after) → IsReached level w events m
@@ -101,6 +109,19 @@ module _ {U C : Type 0} (level : UserLevel U C) where
         subst
             (λ (es : List Event). GoOn level.rules.inside w (opening_readings w) (opening_event w ∷ es)) again rest.2,
       )
+
+  -- THE RUN GOES ON behind each event but the last.
+  pub runs-go-on : (w : WorkloadView) (budget : ℕ) (moves : List Move) (after : Machine U C) → IsWorkload w
+      → (run : IsRun level.calls (opening level.calls w) moves after) → NotEnded level.calls budget (opening level.calls w) moves after run
+      → (n : ℕ) → n + 1 < length (events_of after.items) → GoesOn (before level.rules w (events_of after.items) (n + 1))
+  runs-go-on w budget moves after ok run none n inside =
+      let done = driven w [] budget (opening level.calls w) moves after run (reached-opening level w ok) tt none in
+      let is = events-are level w done.0 after done.1.composed in
+      let next : suc n ≡ n + 1 = omega arith in
+      subst (λ (es : List Event). GoesOn (before level.rules w es (n + 1))) (sym is)
+      (subst (λ (k : ℕ). GoesOn (before level.rules w (opening_event w ∷ done.0) k)) next
+      (go-on-at level.rules.inside w (opening_readings w) (opening_event w ∷ done.0) n done.2
+      (let below = subst (λ (es : List Event). n + 1 < length es) is inside in omega (arith, below))))
 
   -- THE TRACE IS RIGHT, with its last line.
   pub runs-are-right : (w : WorkloadView) (budget : ℕ) (moves : List Move) (after : Machine U C) (end : End) → IsWorkload w

@@ -184,6 +184,7 @@ module _ {U C : Type 0} (f : Calls U C) (w : WorkloadView) (table : TableId) (bu
     chain = locked.chain;
     shows = items;
     end = end-is;
+    few = locked.within;
     turns = λ p lt.
         let s = get_or seats p (fresh_seat table p) in
         let e : slice_get seats p ≡ Some s = slice_get-get_or seats p (fresh_seat table p) (let z = are.0 in omega (arith, lt, z)) in

@@ -33,6 +33,7 @@ module _ {U C : Type 0} (f : Calls U C) where
     pub chain : IsChain f budget w moves machine
     pub shows : closed.items ≡ machine.items
     pub end : closed.end ≡ end_of f budget machine
+    pub few : machine.event ≤ budget
     pub turns : (p : ℕ) → p < w.processors → slice_index_or closed.turns p 0 ≡ turns_of p moves
     pub none : (p : ℕ) → w.processors ≤ p → slice_index_or closed.turns p 0 ≡ 0
     pub over : (p : ℕ) (s : SeatView) → slice_get seats p ≡ Some s → IsOver closed p s

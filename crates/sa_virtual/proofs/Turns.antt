@@ -89,7 +89,7 @@ module _ (w : WorkloadView) (e : ℕ) (p : ProcNo) (v : Virtuals) (good : Good w
       let among = due_among e v.base.under_way io due h.ios in
       let once : in_ios v.base.under_way a.0 ≡ 1 = omega (arith, among.1, h.once a.0, one_or_none (is_virtual w (record { 0 = a.0 }))) in
       record {
-        steps = (over.needs w (parts_of v) a runners h once v.base refl refl (thread_of v a) refl, tt);
+        steps = (over.needs w (parts_of v) a runners h once v.base refl refl refl (thread_of v a) refl, tt);
         stands = record { runners = runners; holds = over.over_holds w (parts_of v) a runners h once (thread_of v a) refl };
         quiet = good.quiet;
         some = omega arith;

@@ -1,6 +1,7 @@
 -- An I/O is over.
 use Rattle.std.proofs.Common.{◌≡◌, ℕ, ◌<◌, List, [], ◌∷◌, ◌++◌, length, filter, Option, Some, None, refl, sym, ap, subst, ◌∙◌, arith}
 use Rattle.std.specs.Prelude.{All}
+use Rattle.std.specs.List.{list_any}
 use Rattle.std.proofs.lemmas.List.Elements.{All-filter}
 use Rattle.std.proofs.lemmas.List.Sums.{sum_by_push}
 use Rattle.sa_base.specs.declared.number.SpaceNo.{SpaceNo}
@@ -12,7 +13,7 @@ use Rattle.sa_laws.specs.declared.place.Place.TheVariants as places
 use Rattle.sa_laws.specs.State.{State, SpaceState, Runner, placed_if}
 use Rattle.sa_laws.specs.Life.{Life, with_hand}
 use Rattle.sa_laws.specs.Readings.{Readings}
-use Rattle.sa_laws.specs.Record.{with_life, one_thread, is_io_of_other}
+use Rattle.sa_laws.specs.Record.{with_life, one_thread, is_io_of, is_io_of_other}
 use Rattle.sa_laws.specs.Step.{StandsIn, CanUnblock}
 use Rattle.sa_check_machine.specs.Running.{is_running}
 use Rattle.sa_check_machine.specs.Spaces.{place_in}
@@ -21,7 +22,7 @@ use Rattle.sa_check_machine.proofs.ReplayLemmas.{put_kept}
 use Rattle.sa_virtual.specs.Virtual.{space_of, thread_of_life}
 use Rattle.sa_virtual.specs.Holding.{Parts, Holds, counts_of, threads_of, AllAgree, holds, in_ios, AreOnce, IsOwn}
 use Rattle.sa_virtual.proofs.Agree.{at_self, Moves, moved}
-use Rattle.sa_virtual.proofs.Sums.{at_none, holds_some, holds_none, queued, io_over_holds, io_over_once}
+use Rattle.sa_virtual.proofs.Sums.{at_none, holds_some, holds_none, queued, some_io, io_over_holds, io_over_once}
 use Rattle.sa_virtual.proofs.Kept.{sized_put, within_put, KeepsLife, lives_kept, threads_same, is_blocked, settled_moves}
 
 module _ (w : WorkloadView) (v : Parts) (a : ActNo) (runners : List (Option Runner)) (h : Holds w v runners) (there : in_ios v.ios a.0 ≡ 1) where
@@ -55,12 +56,14 @@ module _ (w : WorkloadView) (v : Parts) (a : ActNo) (runners : List (Option Runn
   stands_if None is = tt
   stands_if (Some t) is = stands t is
 
-  pub needs : (r : Readings) → r.state ≡ v.state → r.lives ≡ v.lives → (t : Option ThreadNo) → threads a.0 ≡ t → CanUnblock r s t a
-  needs r state lives t is = let have = h.lives a in record {
+  -- it is blocked, and the unblock names its thread
+  pub needs : (r : Readings) → r.state ≡ v.state → r.lives ≡ v.lives → r.under_way ≡ v.ios → (t : Option ThreadNo) → threads a.0 ≡ t → CanUnblock r s t a
+  needs r state lives ios t is = let have = h.lives a in record {
     life = have.0;
     is = ap (λ (f : ℕ → Option Life). f a.0) lives ∙ have.1;
     space = have.2;
     thread = sym (ap thread_of_life have.1) ∙ is;
+    io = ap (list_any (is_io_of a)) ios ∙ some_io v.ios a (omega (arith, there));
     blocked = subst (λ (x : State). StandsIn places.Blocked x s t) (sym state) (stands_if t is);
   }
 

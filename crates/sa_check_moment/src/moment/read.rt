@@ -115,16 +115,18 @@ impl Moment {
     fn beyond(&self, what: &Record) -> Beyond
         ensures { Sees (seen self.now).readings what.now result }
     {
-        let (pages, life) = match *what {
-            Record::Ins(s, _, _) => (self.parts.pending.pages(s), None),
-            Record::Block(s, _, a, _) => (self.parts.pending.pages(s), self.life_seen(a)),
-            Record::Unblock(_, _, a) => (0, self.life_seen(a)),
-            _ => (0, None),
+        let pending = &self.parts.pending;
+        let (pages, life, has_io) = match *what {
+            Record::Ins(s, _, _) => (pending.pages(s), None, false),
+            Record::Block(s, _, a, _) => (pending.pages(s), self.life_seen(a), false),
+            Record::Unblock(_, _, a) => (0, self.life_seen(a), pending.has_io(a)),
+            _ => (0, None, false),
         };
         Beyond {
             last: self.parts.last,
             pages,
             life,
+            has_io,
         }
     }
 
