@@ -1,11 +1,12 @@
 -- Each life that passes a test stays among the numbers beside the table.
-use Rattle.std.proofs.Common.{◌≡◌, ℕ, refl, sym, ◌∙◌, ap, subst, inl, inr, true, false, not, Bool, List, Option, Some, None, ◌⊎◌}
+use Rattle.std.proofs.Common.{◌≡◌, ℕ, refl, sym, ◌∙◌, ap, subst, inl, inr, true, false, not, Bool, List, Option, Some, None, ◌⊎◌, length, ◌==◌, append-nil, arith}
 use Rattle.std.specs.Prelude.{Contains, [], ◌∷◌, ◌++◌, map, drop, Result, Ok, Err, OnOk, OnErr}
 use Rattle.std.specs.Option.{option_map}
 use Rattle.std.proofs.lemmas.Bool.{cases_eq}
+use Rattle.std.proofs.lemmas.Bool.Decides.{nat_tests}
 use Rattle.std.proofs.lemmas.Option.{same_Some, none-some}
 use Rattle.sa_lemmas.specs.Function.{put}
-use Rattle.sa_lemmas.proofs.FunctionUpdates.{put-at, put-other, put-same}
+use Rattle.sa_lemmas.proofs.FunctionUpdates.{put-at, put-other, put-same, put-self}
 use Rattle.sa_base.specs.declared.number.ActNo.{ActNo}
 use Rattle.sa_base.specs.declared.number.ThreadNo.{ThreadNo}
 use Rattle.sa_laws.specs.Life.{Life, Lock, some_lock, has_lock, change_first, readied, ran, with_hand, inherits, inherited, bereft}
@@ -190,3 +191,19 @@ pub among-after : {T E : Type 0} (result : Result T E) (test : Life → Bool) (n
     → OnOk result (new ≡ changed) → OnErr result (new ≡ old) → AreAmong test old numbers → AreAmong test changed numbers → AreAmong test new numbers
 among-after (Ok x) test numbers old changed new ok err before after = subst (λ lives. AreAmong test lives numbers) (sym ok) after
 among-after (Err e) test numbers old changed new ok err before after = subst (λ lives. AreAmong test lives numbers) (sym err) before
+
+-- where there is no life, none is missing
+pub among-none : (test : Life → Bool) (lives : ℕ → Option Life) (numbers : List ℕ) → lives ≡ (λ a. None) → AreAmong test lives numbers
+among-none test lives numbers none = record {
+  each = λ a life is holds. absurd (none-some life (sym (ap (λ f. f a) none) ∙ is));
+}
+
+-- no thread joins a hand
+hand-kept : (here : Option Life) → option_map (with_hand []) here ≡ here
+hand-kept None = refl
+hand-kept (Some life) = ap (λ (hand : List ThreadNo). Some (record life { hand = hand })) (append-nil life.hand)
+
+pub roused-by-none : (lives : ℕ → Option Life) (a : ActNo) (threads : List ThreadNo) → (length threads == 0) ≡ true
+    → lives ≡ with_life (with_hand threads) (Some a) lives
+roused-by-none lives a [] none = sym (ap (put lives a.0) (hand-kept (lives a.0)) ∙ put-self lives a.0)
+roused-by-none lives a (t ∷ ts) none = absurd (grind (arith, nat_tests))

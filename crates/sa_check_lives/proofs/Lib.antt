@@ -4,4 +4,5 @@ pub mod MapLemmas
 pub mod Numbers
 pub mod ReadLemmas
 pub mod RowLemmas
+pub mod ShelfLemmas
 pub mod ViewLemmas

@@ -1,5 +1,5 @@
 -- The lives of a table, and the numbers that stand beside it.
-use Rattle.std.specs.Prelude.{◌≡◌, ◌≢◌, ℕ, ◌==◌, Bool, true, false, not, ◌&&◌, List, Contains, Option, Some, None}
+use Rattle.std.specs.Prelude.{◌≡◌, ◌≢◌, ℕ, ◌%◌, ◌==◌, Bool, true, false, not, ◌&&◌, List, Contains, [], Option, Some, None, slice_index_or}
 use Rattle.std.specs.List.{list_any}
 use Rattle.std.specs.Ordering.{nat_cmp}
 use Rattle.std.specs.BTreeMap.{is_at}
@@ -10,10 +10,19 @@ use Rattle.sa_base.specs.declared.number.ThreadNo.{ThreadNo}
 use Rattle.sa_base.specs.declared.number.ActNo.{ActNo}
 use Rattle.sa_laws.specs.Life.{Life, Lock}
 use Rattle.sa_laws.specs.Record.{is_thread}
+use Rattle.sa_check_lives.specs.declared.shelves.TheConstants.{SHELVES}
 
--- the lives of a table, which is seen as the list of its entries
-abbrev pub lives_in : List (ℕ × Life) → ℕ → Option Life
-lives_in entries a = lookup (is_at (nat_cmp a)) entries
+-- the lives of a shelf, by its entries
+abbrev pub lives_among : List (ℕ × Life) → ℕ → Option Life
+lives_among entries a = lookup (is_at (nat_cmp a)) entries
+
+-- the shelf of a number
+abbrev pub shelf_of : ℕ → ℕ
+shelf_of a = a % SHELVES
+
+-- the lives of a table, each on the shelf of its number
+abbrev pub lives_in : List (List (ℕ × Life)) → ℕ → Option Life
+lives_in shelves a = lives_among (slice_index_or shelves (shelf_of a) []) a
 
 -- each life that passes the test is among the numbers
 pub record AreAmong (test : Life → Bool) (lives : ℕ → Option Life) (numbers : List ℕ) : Type 0 where

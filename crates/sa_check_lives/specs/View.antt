@@ -28,7 +28,7 @@ pub record LivesView : Type 0 where
 
 -- .. a reading of the table in which they lie; and these are parts of the readings of a history
 pub record Stored : Type 0 where
-  pub table : List (ℕ × Life)
+  pub table : List (List (ℕ × Life))
   pub running : List (Option ActNo)
   pub taken : List (List ActNo)
   pub untold : List (List Note)

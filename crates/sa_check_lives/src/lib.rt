@@ -6,6 +6,7 @@
 pub mod laws;
 mod lists;
 mod lives;
+mod shelves;
 mod table;
 
 pub use lives::Lives;

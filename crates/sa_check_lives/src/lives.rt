@@ -54,7 +54,7 @@ impl Lives {
         running.resize(usize::from(processors), None)?;
         Ok(Lives {
             alloc,
-            table: Table::new(alloc),
+            table: Table::new(alloc)?,
             running,
             taken: no_rows(alloc, spaces)?,
             untold: no_rows(alloc, spaces)?,

@@ -11,17 +11,17 @@ ghost use Rattle.sa_laws.specs.Locks.{HoldsLock};
 ghost use Rattle.sa_check_life.specs.Change.{changed_by};
 ghost use Rattle.sa_check_lives.specs.Table.{lives_in, SomeIsIn, KeepsAll, KeepsOthers, KeepsUpped, KeepsUnless, IsThere, IsAddedTo, some_passes, has_list, has_thread, is_in, is_list, is_of_thread};
 
+use crate::shelves::Shelves;
 use sa_base::{ActNo, ProcNo, SpaceNo, ThreadNo};
 use sa_check_life::{Change, KeptLife, ListLock};
 use std::alloc::{AllocError, Global};
-use std::collections::BTreeMap;
 use std::marker::Model;
 
 // The lives by their numbers. Beside them stand the numbers of those that have a lock, and of those that are in: each
 // such life is among them, and few others.
 #[derive(Debug, Drop)]
 pub(crate) struct Table {
-    map: BTreeMap<u64, KeptLife>,
+    lives: Shelves,
     holders: Vec<u64>,
     insiders: Vec<u64>,
 }
@@ -30,33 +30,34 @@ impl Model for Table {
     ghost use Rattle.std.specs.Prelude.{ℕ, List};
     ghost use Rattle.sa_laws.specs.Life.{Life};
 
-    ghost Value = { List (ℕ × Life) };
+    ghost Value = { List (List (ℕ × Life)) };
 
     ghost use Rattle.sa_laws.specs.Life.{has_lock};
     ghost use Rattle.sa_check_lives.specs.Table.{lives_in, AreAmong, is_inside};
 
-    ghost view = { λ x. x.map.entries };
+    ghost view = { λ x. x.lives };
 
-    ghost invariant = { λ x. AreAmong has_lock (lives_in x.map.entries) x.holders.items
-        × AreAmong is_inside (lives_in x.map.entries) x.insiders.items };
+    ghost invariant = { λ x. AreAmong has_lock (lives_in x.lives) x.holders.items
+        × AreAmong is_inside (lives_in x.lives) x.insiders.items };
 }
 
 impl Table {
-    pub(crate) fn new(alloc: Global) -> Self
-        ensures { lives_in result ≡ (λ a. None) }
+    // Fails only where memory runs out.
+    pub(crate) fn new(alloc: Global) -> Result<Self, AllocError>
+        ensures { IfOk result (λ table. lives_in table ≡ (λ a. None)) }
     {
-        Table {
-            map: BTreeMap::new(alloc),
+        Ok(Table {
+            lives: Shelves::new(alloc)?,
             holders: Vec::new(alloc),
             insiders: Vec::new(alloc),
-        }
+        })
     }
 
     // The life of this number, if it is in use.
     pub(crate) fn life(&self, a: ActNo) -> Option<&KeptLife>
         ensures { option_copied result ≡ lives_in self.now a.0 }
     {
-        self.map.get(&a.0)
+        self.lives.get(a.0)
     }
 
     // The number is used for this life from now on. An error changes nothing.
@@ -66,7 +67,7 @@ impl Table {
         ensures ok { OnOk result (lives_in self.new ≡ put (lives_in self.old) a.0 (Some life)) }
         ensures err { OnErr result (lives_in self.new ≡ lives_in self.old) }
     {
-        self.map.insert(a.0, life)?;
+        self.lives.insert(a, life)?;
         remove(&mut self.holders, a.0);
         remove(&mut self.insiders, a.0);
         Ok(())
@@ -76,7 +77,7 @@ impl Table {
     pub(crate) fn end(&mut self, a: ActNo)
         ensures { lives_in self.new ≡ put (lives_in self.old) a.0 None }
     {
-        let _ = self.map.remove(&a.0);
+        self.lives.remove(a);
         remove(&mut self.holders, a.0);
         remove(&mut self.insiders, a.0);
     }
@@ -92,7 +93,7 @@ impl Table {
         };
         add_if(&mut self.holders, a.0, change.adds_lock())?;
         add_if(&mut self.insiders, a.0, change.enters())?;
-        let has_lock = write(&mut self.map, a, change)?;
+        let has_lock = self.lives.write(a, change)?;
         remove_if(&mut self.holders, a.0, change.bares(has_lock));
         remove_if(&mut self.insiders, a.0, change.leaves());
         Ok(())
@@ -110,7 +111,7 @@ impl Table {
         if threads.is_empty() {
             return Ok(());
         }
-        rouse(&mut self.map, a, threads)
+        self.lives.rouse(a, threads)
     }
 
     // The life `a` was told to the life of the last up, which gets its locks and its hand. An error changes nothing.
@@ -124,12 +125,12 @@ impl Table {
             (lives_in self.new ≡ handed upped a (lives_in self.old a.0) (lives_in self.old)) }
         ensures err { OnErr result (lives_in self.new ≡ lives_in self.old) }
     {
-        let Some(life) = self.map.get(&a.0) else {
+        let Some(life) = self.lives.get(a.0) else {
             return Ok(());
         };
         let has_lock = life.has_lock();
         add_to(&mut self.holders, upped, has_lock)?;
-        pass_on(&mut self.map, upped, a, alloc)?;
+        pass_on(&mut self.lives, upped, a, alloc)?;
         remove_but(&mut self.holders, upped, a);
         remove(&mut self.insiders, a.0);
         Ok(())
@@ -140,7 +141,7 @@ impl Table {
         ensures { (r : Readings) → r.lives ≡ lives_in self.now
             → (IsTrue result ↔ IsLocked r s l) }
     {
-        some_has_list(&self.map, self.holders.as_slice(), None, s, l)
+        some_has_list(&self.lives, self.holders.as_slice(), None, s, l)
     }
 
     // Some other life of the space than `a` has the list among its locks.
@@ -148,7 +149,7 @@ impl Table {
         ensures { (r : Readings) → r.lives ≡ lives_in self.now
             → (IsTrue result ↔ AnotherHas r a s l) }
     {
-        some_has_list(&self.map, self.holders.as_slice(), Some(a), s, l)
+        some_has_list(&self.lives, self.holders.as_slice(), Some(a), s, l)
     }
 
     // The thread of the space holds the lock of a list.
@@ -156,40 +157,34 @@ impl Table {
         ensures { (r : Readings) → r.lives ≡ lives_in self.now
             → (IsTrue result ↔ HoldsLock r s t) }
     {
-        some_has_thread(&self.map, self.holders.as_slice(), s, t)
+        some_has_thread(&self.lives, self.holders.as_slice(), s, t)
     }
 
     // Some life is in.
     pub(crate) fn some_is_in(&self) -> bool
         ensures { IsTrue result ↔ SomeIsIn (lives_in self.now) }
     {
-        some_is_in(&self.map, self.insiders.as_slice())
+        some_is_in(&self.lives, self.insiders.as_slice())
     }
 }
 
 // Some life of these numbers, but for one that is given, has the list of the space among its locks.
 fn some_has_list(
-    map: &BTreeMap<u64, KeptLife>,
+    lives: &Shelves,
     numbers: &[u64],
     but: Option<ActNo>,
     s: SpaceNo,
     l: ProcNo,
 ) -> bool
-    ensures { result ≡ some_passes (has_list but s l) (lives_in map.now.entries) numbers.now }
+    ensures { result ≡ some_passes (has_list but s l) (lives_in lives.now) numbers.now }
 {
-    numbers.iter().any(|a| has_list(map, *a, but, s, l))
+    numbers.iter().any(|a| has_list(lives, *a, but, s, l))
 }
 
-fn has_list(
-    map: &BTreeMap<u64, KeptLife>,
-    a: u64,
-    but: Option<ActNo>,
-    s: SpaceNo,
-    l: ProcNo,
-) -> bool
-    ensures { result ≡ has_list but s l a (lives_in map.now.entries a) }
+fn has_list(lives: &Shelves, a: u64, but: Option<ActNo>, s: SpaceNo, l: ProcNo) -> bool
+    ensures { result ≡ has_list but s l a (lives_in lives.now a) }
 {
-    match map.get(&a) {
+    match lives.get(a) {
         None => false,
         Some(life) => {
             but != Some(ActNo(a)) && life.space().0 == s.0 && locks_list(life.locks(), l)
@@ -205,16 +200,16 @@ fn locks_list(locks: &[ListLock], l: ProcNo) -> bool
 }
 
 // Some life of these numbers has a lock of the thread of the space.
-fn some_has_thread(map: &BTreeMap<u64, KeptLife>, numbers: &[u64], s: SpaceNo, t: ThreadNo) -> bool
-    ensures { result ≡ some_passes (has_thread s t) (lives_in map.now.entries) numbers.now }
+fn some_has_thread(lives: &Shelves, numbers: &[u64], s: SpaceNo, t: ThreadNo) -> bool
+    ensures { result ≡ some_passes (has_thread s t) (lives_in lives.now) numbers.now }
 {
-    numbers.iter().any(|a| has_thread(map, *a, s, t))
+    numbers.iter().any(|a| has_thread(lives, *a, s, t))
 }
 
-fn has_thread(map: &BTreeMap<u64, KeptLife>, a: u64, s: SpaceNo, t: ThreadNo) -> bool
-    ensures { result ≡ has_thread s t a (lives_in map.now.entries a) }
+fn has_thread(lives: &Shelves, a: u64, s: SpaceNo, t: ThreadNo) -> bool
+    ensures { result ≡ has_thread s t a (lives_in lives.now a) }
 {
-    match map.get(&a) {
+    match lives.get(a) {
         None => false,
         Some(life) => life.space().0 == s.0 && locks_thread(life.locks(), t),
     }
@@ -230,16 +225,16 @@ fn locks_thread(locks: &[ListLock], t: ThreadNo) -> bool
 }
 
 // Some life of these numbers is in.
-fn some_is_in(map: &BTreeMap<u64, KeptLife>, numbers: &[u64]) -> bool
-    ensures { result ≡ some_passes is_in (lives_in map.now.entries) numbers.now }
+fn some_is_in(lives: &Shelves, numbers: &[u64]) -> bool
+    ensures { result ≡ some_passes is_in (lives_in lives.now) numbers.now }
 {
-    numbers.iter().any(|a| is_in(map, *a))
+    numbers.iter().any(|a| is_in(lives, *a))
 }
 
-fn is_in(map: &BTreeMap<u64, KeptLife>, a: u64) -> bool
-    ensures { result ≡ is_in a (lives_in map.now.entries a) }
+fn is_in(lives: &Shelves, a: u64) -> bool
+    ensures { result ≡ is_in a (lives_in lives.now a) }
 {
-    map.get(&a).is_some_and(KeptLife::inside)
+    lives.get(a).is_some_and(KeptLife::inside)
 }
 
 // Adds a number, if it is not there. An error changes nothing.
@@ -302,105 +297,38 @@ fn remove_but(holders: &mut Vec<u64>, upped: Option<ActNo>, a: ActNo)
     }
 }
 
-// Changes the life of this number, if there is one, and says whether it has a lock then. An error changes nothing.
-fn write(map: &mut BTreeMap<u64, KeptLife>, a: ActNo, change: &Change) -> Result<bool, AllocError>
-    ensures ok { OnOk result
-        (lives_in map.new.entries ≡ with_life (changed_by change.now) (Some a) (lives_in map.old.entries)) }
-    ensures lock { IfOk result (λ has. has ≡ locks_one (lives_in map.new.entries a.0)) }
-    ensures err { OnErr result (lives_in map.new.entries ≡ lives_in map.old.entries) }
-{
-    let Some(life) = map.get_mut(&a.0) else {
-        return Ok(false);
-    };
-    life.change(change)?;
-    Ok(life.has_lock())
-}
-
-// The threads join the hand of the life of this number, if there is one. An error changes nothing.
-fn rouse(
-    map: &mut BTreeMap<u64, KeptLife>,
-    a: ActNo,
-    threads: &[ThreadNo],
-) -> Result<(), AllocError>
-    ensures ok { OnOk result (lives_in map.new.entries
-        ≡ with_life (with_hand threads.now) (Some a) (lives_in map.old.entries)) }
-    ensures err { OnErr result (lives_in map.new.entries ≡ lives_in map.old.entries) }
-{
-    let Some(life) = map.get_mut(&a.0) else {
-        return Ok(());
-    };
-    life.rouse(threads)
-}
-
-// The life of this number gets the locks and the hand of another, if there is one. An error changes nothing.
-fn inherit(map: &mut BTreeMap<u64, KeptLife>, a: ActNo, from: &KeptLife) -> Result<(), AllocError>
-    ensures ok { OnOk result (lives_in map.new.entries
-        ≡ with_life (inherits from.now) (Some a) (lives_in map.old.entries)) }
-    ensures err { OnErr result (lives_in map.new.entries ≡ lives_in map.old.entries) }
-{
-    let Some(life) = map.get_mut(&a.0) else {
-        return Ok(());
-    };
-    life.inherit(from)
-}
-
 // The life `a` loses its locks and its hand to the life of the last up. An error changes nothing.
 fn pass_on(
-    map: &mut BTreeMap<u64, KeptLife>,
+    lives: &mut Shelves,
     upped: Option<ActNo>,
     a: ActNo,
     alloc: Global,
 ) -> Result<(), AllocError>
-    ensures ok { OnOk result (lives_in map.new.entries
-        ≡ handed upped a (lives_in map.old.entries a.0) (lives_in map.old.entries)) }
-    ensures err { OnErr result (lives_in map.new.entries ≡ lives_in map.old.entries) }
+    ensures ok { OnOk result (lives_in lives.new
+        ≡ handed upped a (lives_in lives.old a.0) (lives_in lives.old)) }
+    ensures err { OnErr result (lives_in lives.new ≡ lives_in lives.old) }
 {
-    let Some(from) = bereave(map, a, alloc) else {
+    let Some(from) = lives.bereave(a, alloc) else {
         return Ok(());
     };
     match upped {
         None => Ok(()),
-        Some(to) => pass_to(map, to, a, from),
+        Some(to) => pass_to(lives, to, a, from),
     }
 }
 
 // The life of the number `to` gets what `a` had. With an error `a` is again what it was.
-fn pass_to(
-    map: &mut BTreeMap<u64, KeptLife>,
-    to: ActNo,
-    a: ActNo,
-    from: KeptLife,
-) -> Result<(), AllocError>
-    ensures ok { OnOk result (lives_in map.new.entries
-        ≡ with_life (inherits from) (Some to) (lives_in map.old.entries)) }
-    ensures err { OnErr result (lives_in map.new.entries
-        ≡ with_life (λ life. from) (Some a) (lives_in map.old.entries)) }
+fn pass_to(lives: &mut Shelves, to: ActNo, a: ActNo, from: KeptLife) -> Result<(), AllocError>
+    ensures ok { OnOk result (lives_in lives.new
+        ≡ with_life (inherits from) (Some to) (lives_in lives.old)) }
+    ensures err { OnErr result (lives_in lives.new
+        ≡ with_life (λ life. from) (Some a) (lives_in lives.old)) }
 {
-    match inherit(map, to, &from) {
+    match lives.inherit(to, &from) {
         Ok(()) => Ok(()),
         Err(error) => {
-            put_back(map, a, from);
+            lives.put_back(a, from);
             Err(error)
         }
-    }
-}
-
-// Takes the locks, the open cont and the hand from a life, and gives what it was.
-fn bereave(map: &mut BTreeMap<u64, KeptLife>, a: ActNo, alloc: Global) -> Option<KeptLife>
-    ensures was { result ≡ lives_in map.old.entries a.0 }
-    ensures now { lives_in map.new.entries ≡ with_life bereft (Some a) (lives_in map.old.entries) }
-    ensures none { IfNone result (lives_in map.new.entries ≡ lives_in map.old.entries) }
-{
-    let life = map.get_mut(&a.0)?;
-    Some(life.bereave(alloc))
-}
-
-// Puts a life in the place of another, if there is one.
-fn put_back(map: &mut BTreeMap<u64, KeptLife>, a: ActNo, life: KeptLife)
-    ensures { lives_in map.new.entries
-        ≡ with_life (λ other. life) (Some a) (lives_in map.old.entries) }
-{
-    if let Some(place) = map.get_mut(&a.0) {
-        *place = life;
     }
 }

@@ -2,3 +2,4 @@ pub mod Faults
 pub mod Supply
 pub mod Store
 pub mod Adapted
+pub mod Pieces

@@ -3,8 +3,10 @@
 
 mod adapters;
 mod memory;
+mod pieces;
 mod traits;
 
 pub use adapters::{StdSink, StdSource};
 pub use memory::{MemSink, MemSource};
+pub use pieces::{PIECE, Pieces};
 pub use traits::{Failed, Sink, Source};

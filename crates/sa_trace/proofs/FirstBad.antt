@@ -29,7 +29,7 @@ use Rattle.sa_trace.proofs.Whole.{item_line, text_lines, line_in-next, line_in-e
 same_bad : (a b : Bad) → (λ (r : Result Told Bad). r) (Err a) ≡ Err b → a ≡ b
 same_bad a b h = cc
 
-same_cons : {A : Type 0} (x y : A) (xs ys : List A) → x ∷ xs ≡ y ∷ ys → (x ≡ y) × (xs ≡ ys)
+pub same_cons : {A : Type 0} (x y : A) (xs ys : List A) → x ∷ xs ≡ y ∷ ys → (x ≡ y) × (xs ≡ ys)
 same_cons x y xs ys h = (cc, cc)
 
 goes_on-err : (number : ℕ) (r : Result Said Cause) (more : Item → Result Told Bad) (last : End → ℕ → Result Told Bad) (bad : Bad) → goes_on number r more last ≡ Err bad
@@ -242,14 +242,14 @@ take-take (suc m) zero xs h = absurd (omega arith)
 take-take (suc m) (suc n) [] h = refl
 take-take (suc m) (suc n) (x ∷ xs) h = ap (λ ys. x ∷ ys) (take-take m n xs (omega arith))
 
-compared : (j k : ℕ) → (j < k) ⊎ ((k < j) ⊎ (j ≡ k))
+pub compared : (j k : ℕ) → (j < k) ⊎ ((k < j) ⊎ (j ≡ k))
 compared j k = elim (eqb_tells j k) [
   | inl same ↦ inr (inr same.1)
   | inr other ↦ elim (leb_tells j k) [ inl low ↦ let apart : j ≢ k = other.1 in let at : j ≤ k = low.1 in inl (omega arith) | inr high ↦ inr (inl high.1) ]
 ]
 
 -- a text has one first bad line at most
-take_fewer : {A : Type 0} (m n : ℕ) (xs ys : List A) → m ≤ n → take n xs ≡ take n ys → take m xs ≡ take m ys
+pub take_fewer : {A : Type 0} (m n : ℕ) (xs ys : List A) → m ≤ n → take n xs ≡ take n ys → take m xs ≡ take m ys
 take_fewer m n xs ys few h = sym (take-take m n xs few) ∙ ap (take m) h ∙ take-take m n ys few
 
 not_before : (text : List ℕ) (j k : ℕ) → IsFirstBad text j → IsFirstBad text k → j < k → ⊥

@@ -9,3 +9,4 @@ pub mod Lines
 pub mod LineTexts
 pub mod Whole
 pub mod FirstBad
+mod LossLines

@@ -36,19 +36,19 @@ pub record AreFine (ps : List (List ℕ)) : Type 0 where
   pub printed : list_all is_printed ps ≡ true
   pub spaceless : All LacksSpace ps
 
-and_true : (a b : Bool) → a ≡ true → b ≡ true → (a && b) ≡ true
+pub and_true : (a b : Bool) → a ≡ true → b ≡ true → (a && b) ≡ true
 and_true a b p q = ap (λ x. x && b) p ∙ q
 
-fine-cons : (p : List ℕ) (ps : List (List ℕ)) → is_printed p ≡ true → LacksSpace p → AreFine ps → AreFine (p ∷ ps)
+pub fine-cons : (p : List ℕ) (ps : List (List ℕ)) → is_printed p ≡ true → LacksSpace p → AreFine ps → AreFine (p ∷ ps)
 fine-cons p ps printed spaceless h = record { printed = and_true (is_printed p) (list_all is_printed ps) printed h.printed; spaceless = All-cons LacksSpace p ps spaceless h.spaceless }
 
-fine-append : (ps qs : List (List ℕ)) → AreFine ps → AreFine qs → AreFine (ps ++ qs)
+pub fine-append : (ps qs : List (List ℕ)) → AreFine ps → AreFine qs → AreFine (ps ++ qs)
 fine-append ps qs a b = record {
   printed = list_all-append is_printed ps qs ∙ and_true (list_all is_printed ps) (list_all is_printed qs) a.printed b.printed;
   spaceless = All-append LacksSpace ps qs a.spaceless b.spaceless;
 }
 
-fine-nil : AreFine []
+pub fine-nil : AreFine []
 fine-nil = record { printed = refl; spaceless = All-nil LacksSpace }
 
 decimal-printed : (n : ℕ) → n < 2 ^ 64 → is_printed (decimal n) ≡ true
@@ -57,7 +57,7 @@ decimal-printed n small =
     (All-weaker (λ b. (48 ≤ b) × (b ≤ 57)) (λ b. (nat_le 32 b && nat_le b 126) ≡ true) (λ b d. and_true (nat_le 32 b) (nat_le b 126) (le-leb 32 b (omega (arith, d.0))) (le-leb b 126 (omega (arith, d.1))))
     (decimal n) (decimal-is_spelling n small).digits)
 
-fine-decimal : (n : ℕ) (ps : List (List ℕ)) → n < 2 ^ 64 → AreFine ps → AreFine (decimal n ∷ ps)
+pub fine-decimal : (n : ℕ) (ps : List (List ℕ)) → n < 2 ^ 64 → AreFine ps → AreFine (decimal n ∷ ps)
 fine-decimal n ps small h = fine-cons (decimal n) ps (decimal-printed n small) (decimal-lacks n 32 small (omega arith)) h
 
 fine-fields : (fields : List Field) (vs : List (Option ℕ)) → AllFit fields vs → AreFine (map piece vs)
@@ -192,7 +192,7 @@ pieces_in-ok line ps h =
     ]
 
 -- pieces one after another, with a space in front of each but the first
-spaced : (p : List ℕ) (ps : List (List ℕ)) → join_with_byte 32 (p ∷ ps) ≡ p ++ flat_map (λ w. 32 ∷ w) ps
+pub spaced : (p : List ℕ) (ps : List (List ℕ)) → join_with_byte 32 (p ∷ ps) ≡ p ++ flat_map (λ w. 32 ∷ w) ps
 spaced p [] = sym (append-nil p)
 spaced p (q ∷ qs) = ap (λ r. p ++ (32 ∷ r)) (spaced q qs)
 

@@ -25,7 +25,7 @@ abbrev pub word_pieces : Kind → List (List ℕ)
 word_pieces kind = pieces_of (form_of kind).word
 
 -- what is found passes the test
-find-passes : {X : Type 0} (test : X → Bool) (xs : List X) (x : X) → find test xs ≡ Some x → test x ≡ true
+pub find-passes : {X : Type 0} (test : X → Bool) (xs : List X) (x : X) → find test xs ≡ Some x → test x ≡ true
 find-passes test [] x h = absurd cc
 find-passes test (y ∷ ys) x h =
     elim (if_either (test y) (Some y) (find test ys) (Some x) h) [

@@ -9,3 +9,4 @@ pub mod Line
 pub mod Reading
 pub mod Text
 pub mod TextLaws
+pub mod Losses

@@ -1,48 +1,100 @@
-// A record's word and fields.
-ghost use Rattle.std.specs.Prelude.{◌≡◌, ◌++◌, Some, OnOk, codes};
+// A record's word and fields, printed where there is room for them.
+ghost use Rattle.std.specs.Prelude.{◌≡◌, ◌+◌, ◌*◌, ◌≤◌, ◌++◌, Some, codes, decimal, length};
 ghost use Rattle.std.specs.List.{flat_map};
+ghost use Rattle.arrayvec.specs.ArrayVec.{array_vec_len};
 ghost use Rattle.sa_trace.specs.TraceText.{field, record_text};
 
+use crate::kind::{MAX_FIELDS, MAX_WORD};
 use crate::parts::Parts;
+use arrayvec::ArrayVec;
+use itoa::Buffer;
 use sa_base::{Record, SpaceNo};
-use sa_text::print_number;
-use std::alloc::AllocError;
 
-/// Appends a field behind a space: its number, or a dash where it is absent.
-pub fn push_field(out: &mut Vec<u8>, value: Option<u64>) -> Result<(), AllocError>
-    ensures { OnOk result (out.new.items ≡ out.old.items ++ field value) }
+/// The digits of a number at most.
+pub(crate) const NUMBER: usize = 20;
+
+/// The bytes of a field at most: a space and a number.
+pub(crate) const FIELD: usize = NUMBER + 1;
+
+/// The bytes of text that are printed at once at most.
+pub const LINES: usize = 4_096;
+
+/// Some lines of a text, or the beginning of one. They take no memory.
+pub type Lines = ArrayVec<u8, LINES>;
+
+/// The bytes of a record behind a space at most.
+pub(crate) const RECORD: usize = 1 + MAX_WORD + MAX_FIELDS * FIELD;
+
+/// Appends these bytes.
+pub(crate) fn put(out: &mut Lines, bytes: &[u8])
+    requires { array_vec_len out.old + length bytes.now ≤ LINES }
+    ensures text { out.new.items ≡ out.old.items ++ bytes.now }
+    ensures len { array_vec_len out.new ≡ array_vec_len out.old + length bytes.now }
 {
-    match value {
-        None => out.extend_from_slice(b" -"),
-        Some(n) => push_number(out, n),
+    let Ok(()) = out.try_extend_from_slice(bytes) else {
+        unreachable!()
+    };
+}
+
+/// Appends a number in decimal.
+#[tactic(auto, using(std::proofs::lemmas::Fmt::decimal_digit, itoa::proofs::Decimal::decimal_two))]
+pub(crate) fn push_decimal(out: &mut Lines, n: u64)
+    requires { array_vec_len out.old + NUMBER ≤ LINES }
+    ensures text { out.new.items ≡ out.old.items ++ decimal n }
+    ensures len { array_vec_len out.new ≤ array_vec_len out.old + NUMBER }
+{
+    if n < 10 {
+        return put(out, &[b'0' + n as u8]);
     }
+    if n < 100 {
+        return put(out, &[b'0' + (n / 10) as u8, b'0' + (n % 10) as u8]);
+    }
+    let mut buffer = Buffer::new();
+    put(out, buffer.format(n).as_bytes());
 }
 
 /// Appends a number behind a space.
 #[tactic(auto, using(std::proofs::lemmas::Fmt::decimal_digit))]
-pub fn push_number(out: &mut Vec<u8>, n: u64) -> Result<(), AllocError>
-    ensures { OnOk result (out.new.items ≡ out.old.items ++ field (Some n)) }
+pub(crate) fn push_number(out: &mut Lines, n: u64)
+    requires { array_vec_len out.old + FIELD ≤ LINES }
+    ensures text { out.new.items ≡ out.old.items ++ field (Some n) }
+    ensures len { array_vec_len out.new ≤ array_vec_len out.old + FIELD }
 {
     if n < 10 {
-        return out.extend_from_slice(&[b' ', b'0' + n as u8]);
+        return put(out, &[b' ', b'0' + n as u8]);
     }
-    out.extend_from_slice(b" ")?;
-    print_number(n, out)
+    put(out, b" ");
+    push_decimal(out, n);
 }
 
-/// Appends some fields in order.
-fn push_fields(out: &mut Vec<u8>, values: &[Option<u64>]) -> Result<(), AllocError>
-    ensures { OnOk result (out.new.items ≡ out.old.items ++ flat_map field values.now) }
+// Appends a field behind a space: its number, or a dash where it is absent.
+fn push_field(out: &mut Lines, value: Option<u64>)
+    requires { array_vec_len out.old + FIELD ≤ LINES }
+    ensures text { out.new.items ≡ out.old.items ++ field value }
+    ensures len { array_vec_len out.new ≤ array_vec_len out.old + FIELD }
+{
+    match value {
+        None => put(out, b" -"),
+        Some(n) => push_number(out, n),
+    }
+}
+
+// Appends some fields in order.
+fn push_fields(out: &mut Lines, values: &[Option<u64>])
+    requires { array_vec_len out.old + length values.now * FIELD ≤ LINES }
+    ensures text { out.new.items ≡ out.old.items ++ flat_map field values.now }
+    ensures len { array_vec_len out.new ≤ array_vec_len out.old + length values.now * FIELD }
 {
     for &value in values {
-        push_field(out, value)?;
+        push_field(out, value);
     }
-    Ok(())
 }
 
 /// Appends a space, the word of the record's kind and the record's fields.
-pub fn push_record(out: &mut Vec<u8>, what: &Record) -> Result<(), AllocError>
-    ensures { OnOk result (out.new.items ≡ out.old.items ++ codes " " ++ record_text what.now) }
+pub(crate) fn push_record(out: &mut Lines, what: &Record)
+    requires { array_vec_len out.old + RECORD ≤ LINES }
+    ensures text { out.new.items ≡ out.old.items ++ codes " " ++ record_text what.now }
+    ensures len { array_vec_len out.new ≤ array_vec_len out.old + RECORD }
 {
     match *what {
         Record::Ins(s, t, place) => push_three(out, b" ins", s, t.0, place),
@@ -50,43 +102,51 @@ pub fn push_record(out: &mut Vec<u8>, what: &Record) -> Result<(), AllocError>
         Record::Ready(s, t) => push_two(out, b" ready", s, t.0),
         Record::Take(s, l, Some(t)) => push_three(out, b" take", s, l.0, t.0),
         Record::Free(s, l, Some(t)) => push_three(out, b" free", s, l.0, t.0),
-        Record::Idle => out.extend_from_slice(b" idle"),
+        Record::Idle => put(out, b" idle"),
         Record::Spin(l) => push_one(out, b" spin", l.0),
         _ => push_parts(out, what),
     }
 }
 
 // Appends a word and a number as a field.
-fn push_one(out: &mut Vec<u8>, word: &[u8], a: u16) -> Result<(), AllocError>
-    ensures { OnOk result (out.new.items ≡ out.old.items ++ word.now ++ field (Some a)) }
+fn push_one(out: &mut Lines, word: &[u8], a: u16)
+    requires { array_vec_len out.old + length word.now + FIELD ≤ LINES }
+    ensures text { out.new.items ≡ out.old.items ++ word.now ++ field (Some a) }
+    ensures len { array_vec_len out.new ≤ array_vec_len out.old + length word.now + FIELD }
 {
-    out.extend_from_slice(word)?;
-    push_number(out, u64::from(a))
+    put(out, word);
+    push_number(out, u64::from(a));
 }
 
 // Appends a word, a space's number and another number as fields.
-fn push_two(out: &mut Vec<u8>, word: &[u8], s: SpaceNo, a: u16) -> Result<(), AllocError>
-    ensures { OnOk result (out.new.items ≡ out.old.items ++ word.now ++ field (Some s.0) ++ field (Some a)) }
+fn push_two(out: &mut Lines, word: &[u8], s: SpaceNo, a: u16)
+    requires { array_vec_len out.old + length word.now + 2 * FIELD ≤ LINES }
+    ensures text { out.new.items ≡ out.old.items ++ word.now ++ field (Some s.0) ++ field (Some a) }
+    ensures len { array_vec_len out.new ≤ array_vec_len out.old + length word.now + 2 * FIELD }
 {
-    push_one(out, word, s.0)?;
-    push_number(out, u64::from(a))
+    push_one(out, word, s.0);
+    push_number(out, u64::from(a));
 }
 
 // Appends a word, a space's number and two other numbers as fields.
-fn push_three(out: &mut Vec<u8>, word: &[u8], s: SpaceNo, a: u16, b: u16) -> Result<(), AllocError>
-    ensures { OnOk result (out.new.items
-        ≡ out.old.items ++ word.now ++ field (Some s.0) ++ field (Some a) ++ field (Some b)) }
+fn push_three(out: &mut Lines, word: &[u8], s: SpaceNo, a: u16, b: u16)
+    requires { array_vec_len out.old + length word.now + 3 * FIELD ≤ LINES }
+    ensures text { out.new.items
+        ≡ out.old.items ++ word.now ++ field (Some s.0) ++ field (Some a) ++ field (Some b) }
+    ensures len { array_vec_len out.new ≤ array_vec_len out.old + length word.now + 3 * FIELD }
 {
-    push_two(out, word, s, a)?;
-    push_number(out, u64::from(b))
+    push_two(out, word, s, a);
+    push_number(out, u64::from(b));
 }
 
 // Appends a space, the word of any record's kind and the record's fields.
-fn push_parts(out: &mut Vec<u8>, what: &Record) -> Result<(), AllocError>
-    ensures { OnOk result (out.new.items ≡ out.old.items ++ codes " " ++ record_text what.now) }
+fn push_parts(out: &mut Lines, what: &Record)
+    requires { array_vec_len out.old + RECORD ≤ LINES }
+    ensures text { out.new.items ≡ out.old.items ++ codes " " ++ record_text what.now }
+    ensures len { array_vec_len out.new ≤ array_vec_len out.old + RECORD }
 {
     let parts = Parts::of(what);
-    out.extend_from_slice(b" ")?;
-    out.extend_from_slice(parts.kind().form().word)?;
-    push_fields(out, parts.fields())
+    put(out, b" ");
+    put(out, parts.kind().form().word);
+    push_fields(out, parts.fields());
 }

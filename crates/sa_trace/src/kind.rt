@@ -10,6 +10,9 @@ pub const RECORD_KINDS: usize = 23;
 /// The most fields of a record.
 pub const MAX_FIELDS: usize = 4;
 
+/// The most bytes of a kind's word.
+pub const MAX_WORD: usize = 14;
+
 /// The kind of a record, named as the record is, or as the notice. There are 23, of which the four
 /// notices are one, though each has its own word.
 #[derive(Clone, Copy, Debug, PartialEq, Eq)]
@@ -127,6 +130,7 @@ impl Kind {
         ensures first { 1 ≤ result.number }
         ensures last { result.number ≤ RECORD_KINDS }
         ensures few { length result.fields.now ≤ MAX_FIELDS }
+        ensures short { length result.word.now ≤ MAX_WORD }
     {
         match self {
             Kind::Ins => Form::new(1, b"ins", &[Field::Space, Field::Thread, Field::Place]),

@@ -2,14 +2,14 @@
 ghost use Rattle.std.specs.Prelude.{◌≡◌, MatchResult};
 ghost use Rattle.sa_text.specs.Line.{IsWithin, text_of_line};
 ghost use Rattle.sa_trace.specs.Pieces.{number_in};
-ghost use Rattle.sa_trace.specs.Line.{last_of, least_event, processor_in, record_in, item_at, counts_at, end_at, said_by, pieces_in, line_in};
+ghost use Rattle.sa_trace.specs.Line.{last_of, least_event, processor_in, record_in, item_at, counts_at, end_at, said_by, line_in};
 
 use crate::counts::kind_counts;
 use crate::from_parts::record_with;
-use crate::pieces::{check_counts, read_end, read_fields, read_kind, read_within};
-use crate::words::next;
+use crate::pieces::{check_counts, read_end, read_fields, read_kind};
+use crate::words::{next, read_pieces, read_within};
 use sa_base::{Cause, End, Item, ProcNo, Record};
-use sa_text::{Line, Pieces, is_printed};
+use sa_text::{Line, Pieces};
 
 /// What a line says.
 pub(crate) enum Said {
@@ -26,20 +26,6 @@ pub(crate) fn read_line(items: &[Item], text: &[u8], line: Line) -> Result<Said,
 {
     let mut words = read_pieces(text, line)?;
     read_words(items, &mut words)
-}
-
-/// The pieces of a line of printed ASCII that is ended.
-pub(crate) fn read_pieces(text: &[u8], line: Line) -> Result<Pieces<'_>, Cause>
-    requires { IsWithin text.now line }
-    ensures { result ≡ pieces_in (text_of_line text.now line) }
-{
-    if !is_printed(&text[line.start..line.end]) {
-        return Err(Cause::NotAscii);
-    }
-    if !line.ended {
-        return Err(Cause::Missing);
-    }
-    Ok(Pieces::new(text, line))
 }
 
 // What the pieces of a line say.

@@ -1,5 +1,5 @@
 // A record as its kind and its fields.
-ghost use Rattle.std.specs.Prelude.{◌≡◌, [], ◌∷◌, length};
+ghost use Rattle.std.specs.Prelude.{◌≡◌, ◌≤◌, [], ◌∷◌, length};
 ghost use Rattle.sa_trace.specs.Field.{Fits};
 ghost use Rattle.sa_trace.specs.Kind.{form_of};
 ghost use Rattle.sa_trace.specs.Parts.{parts, parts_of, FitTheKind, thread_number, space_number};
@@ -36,7 +36,8 @@ impl Parts {
 
     /// The fields of the record, in order.
     pub fn fields(&self) -> &[Option<u64>]
-        ensures { result.now ≡ self.now.fields }
+        ensures fields { result.now ≡ self.now.fields }
+        ensures few { length result.now ≤ MAX_FIELDS }
     {
         &self.values[..self.kind.form().fields.len()]
     }

@@ -1,30 +1,17 @@
 // What a piece says where a number, a field or a word is expected.
-ghost use Rattle.std.specs.Prelude.{◌≡◌, ◌≤◌, ◌++◌, ◌↔◌, length, find, codes, IsTrue, IfOk, MatchResult};
+ghost use Rattle.std.specs.Prelude.{◌≡◌, ◌≤◌, ◌++◌, ◌↔◌, length, find, codes, IsTrue, MatchResult};
 ghost use Rattle.std.specs.Result.{result_err};
-ghost use Rattle.sa_trace.specs.Pieces.{number_in, field_in, fields_in, and_then, wrong_count, has_note, has_word, kind_at, note_at, end_of, with_rest};
+ghost use Rattle.sa_trace.specs.Pieces.{field_in, fields_in, and_then, wrong_count, has_note, has_word, kind_at, note_at, end_of, with_rest};
 
 use crate::field::Field;
 use crate::kind::{KINDS, Kind, MAX_FIELDS};
-use crate::words::{finish, next};
+use crate::words::{finish, next, read_within};
 use arrayvec::ArrayVec;
 use sa_base::{Cause, End};
-use sa_text::{Pieces, read_number};
+use sa_text::Pieces;
 
 /// The fields of a record.
 pub(crate) type Fields = ArrayVec<Option<u64>, MAX_FIELDS>;
-
-/// The number that the piece spells, where it is from `least` to `greatest`.
-pub(crate) fn read_within(least: u64, greatest: u64, piece: &[u8]) -> Result<u64, Cause>
-    ensures number { result ≡ number_in least greatest piece.now }
-    ensures small { IfOk result (λ n. n ≤ greatest) }
-{
-    let n = read_number(piece).ok_or(Cause::BadNumber)?;
-    if least <= n && n <= greatest {
-        Ok(n)
-    } else {
-        Err(Cause::OutOfRange)
-    }
-}
 
 // What the piece says of such a field.
 fn read_field(field: Field, piece: &[u8]) -> Result<Option<u64>, Cause>

@@ -1,69 +1,62 @@
-ghost use Rattle.std.specs.Prelude.{◌≡◌, ◌++◌, IfOk, OnOk};
+// A trace text, some lines at once.
+ghost use Rattle.std.specs.Prelude.{◌≡◌, ◌≢◌, ◌+◌, ◌*◌, ◌≤◌, ◌++◌, [], length, take};
 ghost use Rattle.std.specs.List.{flat_map};
-ghost use Rattle.sa_trace.specs.TraceText.{counts_text, line_of, last_line_of, trace_text, end_word};
+ghost use Rattle.arrayvec.specs.ArrayVec.{array_vec_len};
+ghost use Rattle.sa_trace.specs.TraceText.{counts_text, line_of, last_line_of, end_word};
+ghost use Rattle.sa_trace.specs.declared.fields.TheConstants.{LINES};
 
 use crate::counts::kind_counts;
-use crate::fields::{push_number, push_record};
-use sa_base::{End, Item, Trace};
-use sa_text::print_number;
-use std::alloc::{AllocError, Global};
+use crate::fields::{FIELD, Lines, NUMBER, RECORD, push_decimal, push_number, push_record, put};
+use sa_base::{End, Item};
 
-/// The trace text of these items, this end and this number of events.
-/// Its only error is want of memory.
-pub fn print(alloc: Global, trace: &Trace, end: End, events: u64) -> Result<Vec<u8>, AllocError>
-    ensures { IfOk result (λ text. text.items ≡ trace_text trace.now.items end events) }
-{
-    let mut out = Vec::new(alloc);
-    push_lines(&mut out, trace.items())?;
-    push_last_line(&mut out, trace.items(), end, events)?;
-    Ok(out)
-}
+// The bytes of the line of an item at most.
+const LINE: usize = NUMBER + FIELD + RECORD + 1;
 
-/// The last line alone of the trace text of these items, this end and this number of events, with its
-/// line feed. Its only error is want of memory.
-pub fn last_line(alloc: Global, trace: &Trace, end: End, events: u64) -> Result<Vec<u8>, AllocError>
-    ensures { IfOk result (λ line. line.items ≡ last_line_of trace.now.items end events) }
+/// Prints the lines of the first of these items where no text is, as many as are sure to fit. Answers how many: of any items
+/// at least one.
+pub fn print_lines(items: &[Item], out: &mut Lines) -> usize
+    requires { out.old.items ≡ [] }
+    ensures text { out.new.items ≡ flat_map line_of (take result items.now) }
+    ensures within { result ≤ length items.now }
+    ensures some { items.now ≢ [] → 1 ≤ result }
 {
-    let mut out = Vec::new(alloc);
-    push_last_line(&mut out, trace.items(), end, events)?;
-    Ok(out)
-}
-
-fn push_lines(out: &mut Vec<u8>, items: &[Item]) -> Result<(), AllocError>
-    ensures { OnOk result (out.new.items ≡ out.old.items ++ flat_map line_of items.now) }
-{
-    for item in items {
-        push_line(out, item)?;
+    for (i, item) in items.iter().enumerate() {
+        if out.remaining_capacity() < LINE {
+            return i;
+        }
+        push_line(out, item);
     }
-    Ok(())
+    items.len()
 }
 
-fn push_line(out: &mut Vec<u8>, item: &Item) -> Result<(), AllocError>
-    ensures { OnOk result (out.new.items ≡ out.old.items ++ line_of item.now) }
+// Appends the line of an item.
+fn push_line(out: &mut Lines, item: &Item)
+    requires { array_vec_len out.old + LINE ≤ LINES }
+    ensures text { out.new.items ≡ out.old.items ++ line_of item.now }
+    ensures len { array_vec_len out.new ≤ array_vec_len out.old + LINE }
 {
-    print_number(item.event, out)?;
-    push_number(out, u64::from(item.proc.0))?;
-    push_record(out, &item.what)?;
-    out.extend_from_slice(b"\n")
+    push_decimal(out, item.event);
+    push_number(out, u64::from(item.proc.0));
+    push_record(out, &item.what);
+    put(out, b"\n");
 }
 
-fn push_last_line(
-    out: &mut Vec<u8>,
-    items: &[Item],
-    end: End,
-    events: u64,
-) -> Result<(), AllocError>
-    ensures { OnOk result (out.new.items ≡ out.old.items ++ last_line_of items.now end events) }
+/// Prints the last line of the trace text of these items, this end and this number of events where no text is.
+pub fn print_last_line(items: &[Item], end: End, events: u64, out: &mut Lines)
+    requires { out.old.items ≡ [] }
+    ensures { out.new.items ≡ last_line_of items.now end events }
 {
-    out.extend_from_slice(b"end ")?;
-    out.extend_from_slice(word(end))?;
-    push_number(out, events)?;
-    push_counts(out, &kind_counts(items))?;
-    out.extend_from_slice(b"\n")
+    put(out, b"end ");
+    put(out, end_word(end));
+    push_number(out, events);
+    push_counts(out, &kind_counts(items));
+    put(out, b"\n");
 }
 
-fn word(end: End) -> &'static [u8]
-    ensures { result.now ≡ end_word end }
+/// The word of an end: `alldone`, `stuck` or `budget`.
+pub fn end_word(end: End) -> &'static [u8]
+    ensures word { result.now ≡ end_word end }
+    ensures short { length result.now ≤ 7 }
 {
     match end {
         End::AllDone => b"alldone",
@@ -72,11 +65,12 @@ fn word(end: End) -> &'static [u8]
     }
 }
 
-fn push_counts(out: &mut Vec<u8>, counts: &[u64]) -> Result<(), AllocError>
-    ensures { OnOk result (out.new.items ≡ out.old.items ++ counts_text counts.now) }
+fn push_counts(out: &mut Lines, counts: &[u64])
+    requires { array_vec_len out.old + length counts.now * FIELD ≤ LINES }
+    ensures text { out.new.items ≡ out.old.items ++ counts_text counts.now }
+    ensures len { array_vec_len out.new ≤ array_vec_len out.old + length counts.now * FIELD }
 {
     for &count in counts {
-        push_number(out, count)?;
+        push_number(out, count);
     }
-    Ok(())
 }

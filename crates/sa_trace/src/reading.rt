@@ -3,7 +3,8 @@ ghost use Rattle.std.specs.Result.{result_err};
 ghost use Rattle.sa_text.specs.Line.{text_of_line};
 ghost use Rattle.sa_trace.specs.Reading.{read_of, bad_behind, IsReading};
 
-use crate::line::{Said, read_line, read_pieces};
+use crate::line::{Said, read_line};
+use crate::words::read_pieces;
 use sa_base::{Bad, Cause, End, Trace, Unread};
 use sa_text::Lines;
 use std::alloc::Global;

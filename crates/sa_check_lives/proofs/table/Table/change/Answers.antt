@@ -8,7 +8,7 @@ use Rattle.sa_check_lives.proofs.table.Table.change.Goals as goal
 
 pub invariant_of-self-in_err-has_lock : goal.invariant_of-self-in_err-has_lock
 invariant_of-self-in_err-has_lock c =
-    let old = lives_in c.self.inside.map.entries in (
+    let old = lives_in c.self.inside.lives in (
       subst (λ lives. AreAmong has_lock lives c.add_if.new.numbers.items) (sym c.in_err-has_lock.ensures.err)
           (among-more has_lock old c.self.inside.holders.items c.add_if.new.numbers.items c.self.invariant.0 c.add_if.ensures.others),
       subst (λ lives. AreAmong is_inside lives c.add_if-2.new.numbers.items) (sym c.in_err-has_lock.ensures.err)
@@ -17,12 +17,12 @@ invariant_of-self-in_err-has_lock c =
 
 pub invariant_of-self-2 : goal.invariant_of-self-2
 invariant_of-self-2 c =
-    let old = lives_in c.self.inside.map.entries in
+    let old = lives_in c.self.inside.lives in
     let change = c.args.change.now in
     let h1 = c.add_if.new.numbers.items in
     let i1 = c.add_if-2.new.numbers.items in
     let after = with_life (changed_by change) (Some c.in-Some.a) old in
-    let same : lives_in c.write.new.map.entries ≡ after = c.in_ok-has_lock.ensures.ok in
+    let same : lives_in c.write.new.self ≡ after = c.in_ok-has_lock.ensures.ok in
     let has : c.in_ok-has_lock.has_lock ≡ locks_one (after c.in-Some.a.0) = c.in_ok-has_lock.ensures.lock ∙ ap (λ lives. locks_one (lives c.in-Some.a.0)) same in
     let adds : IsThere (adds_lock change) c.in-Some.a.0 h1 = subst (λ b. IsThere b c.in-Some.a.0 h1) c.adds_lock.ensures c.in_ok-add_if.ensures.there in
     let comes : IsThere (enters change) c.in-Some.a.0 i1 = subst (λ b. IsThere b c.in-Some.a.0 i1) c.enters.ensures c.in_ok-add_if-2.ensures.there in
