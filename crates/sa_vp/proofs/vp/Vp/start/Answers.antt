@@ -1,0 +1,5 @@
+use Rattle.sa_vp.proofs.Kept.{kept-start}
+use Rattle.sa_vp.proofs.vp.Vp.start.Goals as goal
+
+pub invariant_of-result : goal.invariant_of-result
+invariant_of-result c = kept-start c.args.w c.in_ok-start.field-0 c.args.budget c.ranges-2.ensures c.in_ok-start.ensures c.requires.few c.requires.some

@@ -1,0 +1,30 @@
+use Rattle.std.proofs.Common.{◌≤◌, ap, ◌∙◌, arith}
+use Rattle.sa_vp.specs.View.{VpView}
+use Rattle.sa_vp.proofs.Kept.{inside-view, can, lose, kept-turn, number-turn}
+use Rattle.sa_vp.proofs.vp.Vp.turn.Goals as goal
+
+pub turn-requires-clause-can : goal.turn-requires-clause-can
+turn-requires-clause-can c =
+    let k = c.self.inside in
+    let is = inside-view k.parts k.budget k.spare c.make_room.new.self c.args.self.now c.self.view_is c.make_room.ensures.rest in
+    can k.parts k.budget k.spare c.self.invariant c.args.p c.args.self.now is c.requires.within c.requires.goes_on
+
+pub turn-requires-clause-lose : goal.turn-requires-clause-lose
+turn-requires-clause-lose c =
+    let k = c.self.inside in
+    let is = inside-view k.parts k.budget k.spare c.make_room.new.self c.args.self.now c.self.view_is c.make_room.ensures.rest in
+    lose k.parts k.budget k.spare c.self.invariant c.args.p c.args.self.now is c.requires.within c.requires.goes_on
+
+pub invariant_of-self : goal.invariant_of-self
+invariant_of-self c =
+    let k = c.self.inside in
+    let is = inside-view k.parts k.budget k.spare c.make_room.new.self c.args.self.now c.self.view_is c.make_room.ensures.rest in
+    let spare = ap (λ (v : VpView). v.spare) c.self.view_is in
+    let room = c.in_ok-make_room.ensures.ok in
+    kept-turn k.parts k.budget k.spare c.self.invariant c.args.p c.args.self.now is c.requires.within c.requires.goes_on c.turn.new.self c.turn.ensures.board c.turn.ensures.room (omega (arith, spare, room))
+
+pub returns-clause-number : goal.returns-clause-number
+returns-clause-number c =
+    let k = c.self.inside in
+    let is = inside-view k.parts k.budget k.spare c.make_room.new.self c.args.self.now c.self.view_is c.make_room.ensures.rest in
+    number-turn k.parts k.budget k.spare c.self.invariant c.args.p c.args.self.now is c.requires.within c.requires.goes_on c.turn.new.self c.turn.ensures.board c.turn.ensures.room

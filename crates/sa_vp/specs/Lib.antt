@@ -1,0 +1,4 @@
+pub mod Ready
+pub mod View
+pub mod Room
+pub mod Opening

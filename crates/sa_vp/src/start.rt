@@ -1,0 +1,155 @@
+// The opening of a run.
+ghost use Rattle.std.specs.Prelude.{◌≡◌, ◌≤◌, [], ◌∷◌, None, length, replicate, IfOk};
+ghost use Rattle.sa_base.specs.declared.limits.TheConstants.{MAX_PROCESSORS};
+ghost use Rattle.sa_vp_model.specs.Board.{empty, first_ready, opened, act_numbers};
+ghost use Rattle.sa_virtual.specs.Virtual.{opening_queue};
+ghost use Rattle.sa_vp.specs.View.{board_of};
+ghost use Rattle.sa_vp.specs.Opening.{IsOpeningTable, AreOpeningRows};
+
+use crate::board::Parts;
+use crate::queue::{fill, opening_numbers};
+use crate::ready::Ready;
+use sa_base::{ActNo, MAX_THREADS, ProcNo, ThreadNo, Trace};
+use sa_check_machine::Replay;
+use sa_devices::Devices;
+use sa_links::Links;
+use sa_spaces::Workload;
+use sa_vp_model::VIRTUALS;
+use std::alloc::{AllocError, Global};
+
+// The queue at the opening: place 0 of each space, then place 1, and so on. Fails only where memory runs out.
+fn opening_queue(alloc: Global, w: &Workload) -> Result<Links, AllocError>
+    ensures { IfOk result (λ queue. queue ≡ record { nodes = VIRTUALS; lists = act_numbers (opening_queue w.now) ∷ [] }) }
+{
+    w.ranges();
+    let numbers = opening_numbers(alloc, w.spaces().len() as u16, w.processors())?;
+    let mut queue = Links::new(alloc, VIRTUALS, 1)?;
+    fill(&mut queue, numbers.as_slice());
+    Ok(queue)
+}
+
+// The ready lists of so many spaces: thread 0 is ready at place 0. Fails only where memory runs out.
+fn opening_ready(alloc: Global, spaces: usize, lists: u16) -> Result<Vec<Ready>, AllocError>
+    requires some { 1 ≤ lists }
+    requires few { lists ≤ MAX_PROCESSORS }
+    ensures { IfOk result (λ ready. ready.items ≡ replicate spaces (first_ready lists)) }
+{
+    let mut rows = Vec::new(alloc);
+    for row in 0..spaces {
+        let mut ready = Ready::new(alloc, lists)?;
+        ready.push(ProcNo(0), ThreadNo(0));
+        rows.push(ready)?;
+    }
+    Ok(rows)
+}
+
+// The work lists of so many spaces. Fails only where memory runs out.
+fn opening_work(alloc: Global, spaces: usize, lists: u16) -> Result<Vec<Links>, AllocError>
+    ensures { IfOk result (λ work. work.items ≡ replicate spaces (empty lists)) }
+{
+    let mut rows = Vec::new(alloc);
+    for row in 0..spaces {
+        rows.push(Links::new(alloc, u32::from(MAX_THREADS), u32::from(lists))?)?;
+    }
+    Ok(rows)
+}
+
+// No virtual processor on any of so many processors. Fails only where memory runs out.
+fn nobody(alloc: Global, processors: u16) -> Result<Vec<Option<ActNo>>, AllocError>
+    ensures { IfOk result (λ placed. placed.items ≡ replicate processors None) }
+{
+    vec![in alloc; None; usize::from(processors)]
+}
+
+// No thread of any of so many virtual processors. Fails only where memory runs out.
+fn no_threads(alloc: Global, count: usize) -> Result<Vec<Option<ThreadNo>>, AllocError>
+    ensures { IfOk result (λ threads. threads.items ≡ replicate count None) }
+{
+    vec![in alloc; None; count]
+}
+
+// So many counts of 0. Fails only where memory runs out.
+fn zeros(alloc: Global, count: usize) -> Result<Vec<u32>, AllocError>
+    ensures { IfOk result (λ counts. counts.items ≡ replicate count 0) }
+{
+    vec![in alloc; 0; count]
+}
+
+// So many losses of 0. Fails only where memory runs out.
+fn no_losses(alloc: Global, spaces: usize) -> Result<Vec<u64>, AllocError>
+    ensures { IfOk result (λ lost. lost.items ≡ replicate spaces 0) }
+{
+    vec![in alloc; 0; spaces]
+}
+
+// What is kept of virtual processors at the opening, but for their lists.
+#[derive(Drop)]
+struct Tables {
+    placed: Vec<Option<ActNo>>,
+    threads: Vec<Option<ThreadNo>>,
+    steps: Vec<u32>,
+    blocked: Vec<u32>,
+    lost: Vec<u64>,
+}
+
+// The tables of so many spaces and processors. Fails only where memory runs out.
+fn opening_tables(alloc: Global, spaces: usize, processors: u16) -> Result<Tables, AllocError>
+    ensures { IfOk result (IsOpeningTable spaces processors) }
+{
+    Ok(Tables {
+        placed: nobody(alloc, processors)?,
+        threads: no_threads(alloc, VIRTUALS as usize)?,
+        steps: zeros(alloc, VIRTUALS as usize)?,
+        blocked: zeros(alloc, spaces)?,
+        lost: no_losses(alloc, spaces)?,
+    })
+}
+
+// The lists of the spaces at the opening.
+#[derive(Drop)]
+struct Rows {
+    queue: Links,
+    ready: Vec<Ready>,
+    work: Vec<Links>,
+}
+
+// The lists of a workload. Fails only where memory runs out.
+fn opening_rows(alloc: Global, w: &Workload) -> Result<Rows, AllocError>
+    ensures { IfOk result (AreOpeningRows w.now) }
+{
+    w.ranges();
+    let spaces = w.spaces().len();
+    Ok(Rows {
+        queue: opening_queue(alloc, w)?,
+        ready: opening_ready(alloc, spaces, w.processors())?,
+        work: opening_work(alloc, spaces, w.processors())?,
+    })
+}
+
+impl Parts {
+    /// The opening of a workload. Fails only where memory runs out.
+    pub(crate) fn start(alloc: Global, w: &Workload) -> Result<Parts, AllocError>
+        ensures { IfOk result (λ m. board_of m ≡ opened w.now) }
+    {
+        w.ranges();
+        let replay = Replay::start(alloc, w)?;
+        let devices = Devices::new(alloc, w)?;
+        let rows = opening_rows(alloc, w)?;
+        let tables = opening_tables(alloc, w.spaces().len(), w.processors())?;
+        Ok(Parts {
+            replay,
+            devices,
+            queue: rows.queue,
+            placed: tables.placed,
+            threads: tables.threads,
+            steps: tables.steps,
+            ready: rows.ready,
+            work: rows.work,
+            due: 0,
+            blocked: tables.blocked,
+            lost: tables.lost,
+            trace: Trace::new(alloc),
+            number: 1,
+        })
+    }
+}
