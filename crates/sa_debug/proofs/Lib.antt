@@ -1,0 +1,4 @@
+pub mod Playing
+pub mod Ordering
+pub mod Keeping
+pub mod Running

@@ -1,0 +1,4 @@
+pub mod Playable
+pub mod Reaching
+pub mod Keeping
+pub mod Legal

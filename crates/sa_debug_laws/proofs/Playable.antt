@@ -1,0 +1,80 @@
+-- The items of a lawful history are records that the abstract machine can do, one after another.
+use Rattle.std.proofs.Common.{◌≡◌, ℕ, ◌<◌, List, [], ◌∷◌, ◌++◌, refl, sym, ap, ◌∙◌, subst}
+use Rattle.sa_base.specs.declared.number.ProcNo.{ProcNo}
+use Rattle.sa_base.specs.declared.record.Record.{Record}
+use Rattle.sa_base.specs.declared.record.Record.TheVariants.{Ins, Out, Run, Stop, Block, Unblock, Cont, Back, Ready, Take, Free, Up, Told, Move, Want, Aim, Line, Fetch, Fetched, GiveBack, Idle, Spin, Tick}
+use Rattle.sa_base.specs.declared.record.Item.{Item}
+use Rattle.sa_base.specs.Items.{items_at}
+use Rattle.sa_spaces.specs.Workload.{WorkloadView}
+use Rattle.sa_laws.specs.Event.{Event, items_of}
+use Rattle.sa_laws.specs.State.{State, program_len}
+use Rattle.sa_laws.specs.Machine.{changed}
+use Rattle.sa_laws.specs.Step.{Needs, AreSteps}
+use Rattle.sa_laws.specs.Readings.{Readings}
+use Rattle.sa_laws.specs.Record.{after_record}
+use Rattle.sa_laws.specs.History.{Test, begun, after_records, after_event, after_events}
+use Rattle.sa_laws.specs.Rules.{UserRules}
+use Rattle.sa_legal.specs.Fold.{AreLawful}
+use Rattle.sa_check_machine.specs.Needs.{CanChange}
+use Rattle.sa_debug.specs.Reached.{CanPlay}
+use Rattle.sa_debug.specs.Views.{state_behind}
+
+-- a record whose needs are met can be done
+can-change : (w : WorkloadView) (p : ProcNo) (r : Readings) (x : Record) → Needs w p r x → CanChange w p r.state x
+can-change w p r (Ins s t i) needs = record { runs = needs.runs; within = subst (λ n. n < program_len w r.state s t) (sym needs.place) needs.within }
+can-change w p r (Out s t value) needs = tt
+can-change w p r (Run s t) needs = needs
+can-change w p r (Stop s t a) needs = needs.1
+can-change w p r (Block s t a io) needs = needs.runs
+can-change w p r (Unblock s t a) needs = needs.blocked
+can-change w p r (Cont s t) needs = needs
+can-change w p r (Back s t) needs = needs.1
+can-change w p r (Ready s t) needs = needs.1
+can-change w p r (Take s l t) needs = tt
+can-change w p r (Free s l t) needs = tt
+can-change w p r (Up s a) needs = tt
+can-change w p r (Told note) needs = tt
+can-change w p r (Move old new) needs = tt
+can-change w p r (Want s n) needs = tt
+can-change w p r (Aim q s) needs = tt
+can-change w p r (Line q) needs = tt
+can-change w p r (Fetch s) needs = tt
+can-change w p r (Fetched s) needs = tt
+can-change w p r (GiveBack a) needs = tt
+can-change w p r Idle needs = tt
+can-change w p r (Spin l) needs = tt
+can-change w p r Tick needs = tt
+
+-- the state behind the records of an event, and behind events, is the one that is read
+records-state : (w : WorkloadView) (e : ℕ) (p : ProcNo) (r : Readings) (xs : List Record)
+    → (after_records w e p r xs).state ≡ state_behind w r.state (items_at e p xs)
+records-state w e p r [] = refl
+records-state w e p r (x ∷ xs) = records-state w e p (after_record w e p r x) xs
+
+state-append : (w : WorkloadView) (a : State) (xs ys : List Item) → state_behind w a (xs ++ ys) ≡ state_behind w (state_behind w a xs) ys
+state-append w a [] ys = refl
+state-append w a (x ∷ xs) ys = state-append w (changed w x.proc a x.what) xs ys
+
+pub events-state : (test : Test) (w : WorkloadView) (r : Readings) (es : List Event) → (after_events test w r es).state ≡ state_behind w r.state (items_of es)
+events-state test w r [] = refl
+events-state test w r (e ∷ es) =
+    events-state test w (after_event test w r e) es
+    ∙ ap (λ a. state_behind w a (items_of es)) (records-state w e.number e.proc (begun w e r) e.records)
+    ∙ sym (state-append w r.state (items_at e.number e.proc e.records) (items_of es))
+
+-- the records of an event can be played, and so can those of lawful events
+records-play : (w : WorkloadView) (e : ℕ) (p : ProcNo) (r : Readings) (xs : List Record) → AreSteps w e p r xs → CanPlay w r.state (items_at e p xs)
+records-play w e p r [] steps = tt
+records-play w e p r (x ∷ xs) steps = (can-change w p r x steps.0, records-play w e p (after_record w e p r x) xs steps.1)
+
+play-append : (w : WorkloadView) (a : State) (xs ys : List Item) → CanPlay w a xs → CanPlay w (state_behind w a xs) ys → CanPlay w a (xs ++ ys)
+play-append w a [] ys one other = other
+play-append w a (x ∷ xs) ys one other = (one.0, play-append w (changed w x.proc a x.what) xs ys one.1 other)
+
+pub events-play : (u : UserRules) (w : WorkloadView) (r : Readings) (es : List Event) → AreLawful u w r es → CanPlay w r.state (items_of es)
+events-play u w r [] law = tt
+events-play u w r (e ∷ es) law =
+    play-append w r.state (items_at e.number e.proc e.records) (items_of es)
+    (records-play w e.number e.proc (begun w e r) e.records law.0.1.0.steps)
+    (subst (λ a. CanPlay w a (items_of es)) (records-state w e.number e.proc (begun w e r) e.records)
+    (events-play u w (after_event u.inside w r e) es law.1))

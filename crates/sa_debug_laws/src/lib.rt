@@ -1,0 +1,4 @@
+//! What holds of each debugging session of FastThreads.
+#![tactic(auto)]
+
+pub mod laws;

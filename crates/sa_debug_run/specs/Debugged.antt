@@ -1,0 +1,81 @@
+-- What comes of a session by a script.
+use Rattle.std.specs.Prelude.{◌≡◌, ◌⊎◌, ℕ, List, [], ◌++◌, take, slice_get, Option, Some, None, Ok, Err}
+use Rattle.std.specs.List.{flat_map}
+use Rattle.sa_base.specs.declared.record.End.{End}
+use Rattle.sa_base.specs.declared.record.End.TheVariants.{Budget}
+use Rattle.sa_base.specs.declared.record.Item.{Item}
+use Rattle.sa_spaces.specs.Workload.{WorkloadView}
+use Rattle.sa_core_model.specs.End.{end_of}
+use Rattle.sa_core_model.specs.Run.{opening}
+use Rattle.sa_package_model.specs.Step.{fast_calls}
+use Rattle.sa_fast_runs.specs.Runs.{FastMachine}
+use Rattle.sa_script.specs.declared.command.DebugCommand.{DebugCommand}
+use Rattle.sa_script.specs.declared.reply.Reply.{Reply}
+use Rattle.sa_script.specs.Reading.{script_of}
+use Rattle.sa_script.specs.Reply.{reply_text}
+use Rattle.sa_debug.specs.Session.{Session, fresh, Does, DoesSoFar, DoAll}
+use Rattle.sa_debug.specs.OverMachines.{over_machines}
+use Rattle.sa_debug_laws.specs.Sessions.{IsSession, IsLegalSession}
+use Rattle.sa_debug_run.specs.declared.run.Undebugged.{Undebugged}
+use Rattle.sa_debug_run.specs.declared.run.Undebugged.TheVariants.{BadScript, OutOfMemory}
+
+-- the texts of replies, one after another
+abbrev pub replies_text : List Reply → List ℕ
+replies_text replies = flat_map reply_text replies
+
+-- these commands lead from the one session to the other, and this is the text of the replies
+pub record AreDone (budget : ℕ) (commands : List DebugCommand) (s t : Session FastMachine) (text : List ℕ) : Type 0 where
+  pub replies : List Reply
+  pub done : DoAll (over_machines fast_calls budget) commands s t replies
+  pub says : text ≡ replies_text replies
+
+-- some of the commands were done, and the next one perhaps in part
+pub record CameSoFar (budget : ℕ) (commands : List DebugCommand) (s t : Session FastMachine) : Type 0 where
+  pub count : ℕ
+  pub between : Session FastMachine
+  pub replies : List Reply
+  pub done : DoAll (over_machines fast_calls budget) (take count commands) s between replies
+  pub last : (t ≡ between) ⊎ ((c : DebugCommand) × (slice_get commands count ≡ Some c) × DoesSoFar (over_machines fast_calls budget) c between t)
+
+-- the end that the last line of the trace tells
+abbrev pub told_end : Option End → End
+told_end None = Budget
+told_end (Some end) = end
+
+-- The commands were done from the machine's opening on: these are the texts of the replies, the items of the trace, the end
+-- that is told, and the number of events. The trace is a legal and strict run, and it has ended as the definitions say.
+pub record IsOver (w : WorkloadView) (budget : ℕ) (commands : List DebugCommand) (replies : List ℕ) (items : List Item) (end : End) (events : ℕ) : Type 0 where
+  pub session : Session FastMachine
+  pub done : AreDone budget commands (fresh (opening fast_calls w)) session replies
+  pub shows : items ≡ session.machine.items
+  pub ends : end ≡ told_end (end_of fast_calls budget session.machine)
+  pub counts : events ≡ session.machine.event
+  pub legal : IsLegalSession w budget session.machine
+
+-- the same, as far as it came
+pub record IsPartly (w : WorkloadView) (budget : ℕ) (commands : List DebugCommand) (items : List Item) : Type 0 where
+  pub session : Session FastMachine
+  pub came : CameSoFar budget commands (fresh (opening fast_calls w)) session
+  pub shows : items ≡ session.machine.items
+  pub legal : IsLegalSession w budget session.machine
+
+-- where memory ran out nothing ran, or some of the commands were done
+abbrev pub RanSoFar : WorkloadView → (budget : ℕ) → List DebugCommand → List Item → Type 0
+RanSoFar w budget commands items = (items ≡ []) ⊎ IsPartly w budget commands items
+
+-- the bytes are a script for this workload, and its commands were done
+pub record IsDebugged (w : WorkloadView) (budget : ℕ) (script replies : List ℕ) (items : List Item) (end : End) (events : ℕ) : Type 0 where
+  pub commands : List DebugCommand
+  pub read : script_of w script ≡ Ok commands
+  pub over : IsOver w budget commands replies items end events
+
+-- .. or some of them
+pub record IsDebuggedSoFar (w : WorkloadView) (budget : ℕ) (script : List ℕ) (items : List Item) : Type 0 where
+  pub commands : List DebugCommand
+  pub read : script_of w script ≡ Ok commands
+  pub so_far : IsPartly w budget commands items
+
+-- why a session is not over
+abbrev pub IsUndebugged : WorkloadView → (budget : ℕ) → List ℕ → Undebugged → Type 0
+IsUndebugged w budget script (BadScript bad) = script_of w script ≡ Err bad
+IsUndebugged w budget script (OutOfMemory trace) = (trace.items ≡ []) ⊎ IsDebuggedSoFar w budget script trace.items

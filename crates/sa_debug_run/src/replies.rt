@@ -1,0 +1,34 @@
+// The commands of a script, one after another.
+ghost use Rattle.std.specs.Prelude.{◌≡◌, All, IfOk, OnErr};
+ghost use Rattle.sa_core.specs.View.{machine};
+ghost use Rattle.sa_debug.specs.OverMachines.{session};
+ghost use Rattle.sa_script.specs.Text.{Fits};
+ghost use Rattle.sa_debug_run.specs.Debugged.{AreDone, CameSoFar};
+
+use sa_debug::Session;
+use sa_package::FastThreads;
+use sa_script::{DebugCommand, print_reply};
+use std::alloc::{AllocError, Global};
+
+/// Does the commands, whose numbers are in the ranges of the workload. Answers the texts of the replies, one after another.
+///
+/// An error is want of memory, behind some of the commands.
+pub(crate) fn do_all(
+    alloc: Global,
+    debugged: &mut Session<FastThreads>,
+    commands: &[DebugCommand],
+) -> Result<Vec<u8>, AllocError>
+    requires { All (Fits (machine debugged.old.core).workload) commands.now }
+    ensures ok { IfOk result (λ text. AreDone debugged.old.core.budget commands.now
+        (session debugged.old) (session debugged.new) text.items) }
+    ensures err { OnErr result (CameSoFar debugged.old.core.budget commands.now
+        (session debugged.old) (session debugged.new)) }
+    ensures budget { debugged.new.core.budget ≡ debugged.old.core.budget }
+{
+    let mut text = Vec::new(alloc);
+    for command in commands {
+        let reply = debugged.command(command)?;
+        print_reply(&reply, &mut text)?;
+    }
+    Ok(text)
+}

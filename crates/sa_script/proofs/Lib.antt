@@ -1,0 +1,5 @@
+pub mod Readers
+pub mod Commands
+pub mod Whole
+pub mod FirstBad
+pub mod Registers

@@ -1,0 +1,22 @@
+-- The eight registers one after another are all of them.
+use Rattle.std.proofs.Common.{◌≡◌, ℕ, List, [], ◌∷◌, length, Result, Ok, Err, OnOk, refl, arith}
+use Rattle.std.specs.List.{flat_map}
+use Rattle.sa_script.specs.declared.printing.TheConstants.{REGS}
+use Rattle.sa_script.specs.Reply.{number_text, register_text}
+
+pub all-registers : (regs : List ℕ) → length regs ≡ 8 → flat_map (register_text regs) REGS ≡ flat_map number_text regs
+all-registers (a ∷ b ∷ c ∷ d ∷ e ∷ f ∷ g ∷ h ∷ []) is = refl
+all-registers (a ∷ b ∷ c ∷ d ∷ e ∷ f ∷ g ∷ h ∷ i ∷ more) is = absurd (omega arith)
+all-registers (a ∷ b ∷ c ∷ d ∷ e ∷ f ∷ g ∷ []) is = absurd (omega arith)
+all-registers (a ∷ b ∷ c ∷ d ∷ e ∷ f ∷ []) is = absurd (omega arith)
+all-registers (a ∷ b ∷ c ∷ d ∷ e ∷ []) is = absurd (omega arith)
+all-registers (a ∷ b ∷ c ∷ d ∷ []) is = absurd (omega arith)
+all-registers (a ∷ b ∷ c ∷ []) is = absurd (omega arith)
+all-registers (a ∷ b ∷ []) is = absurd (omega arith)
+all-registers (a ∷ []) is = absurd (omega arith)
+all-registers [] is = absurd (omega arith)
+
+-- what follows on success
+pub on_ok : {A E P Q : Type 0} (r : Result A E) → (P → Q) → OnOk r P → OnOk r Q
+on_ok (Ok a) f h = f h
+on_ok (Err e) f h = tt
