@@ -1,0 +1,45 @@
+-- What the program answers: what came of the source and of the sink, by the status.
+use Rattle.std.specs.Prelude.{⊤, ℕ, List, Option, Some, None}
+use Rattle.std.specs.Io.KnownBytes.{Appends}
+use Rattle.sa_io.specs.Faults.{HasRisen, AppendsPrefix}
+use Rattle.sa_picture.specs.declared.request.Request.{Request}
+use Rattle.sa_picture.specs.declared.status.Status.{Status}
+use Rattle.sa_picture.specs.declared.status.Status.TheVariants.{Drawn, Usage, ReadFault, WriteFault, OutOfMemory}
+use Rattle.sa_picture.specs.Input.{ReadsInput}
+use Rattle.sa_picture.specs.Drawn.{IsDrawn, IsNotDrawn}
+
+-- what source and sink tell: what is left, what was taken, and how many reads and writes failed
+pub record World : Type 0 where
+  pub left : Option (List ℕ)
+  pub taken : Option (List ℕ)
+  pub reads : ℕ
+  pub writes : ℕ
+
+abbrev pub world : Option (List ℕ) → Option (List ℕ) → ℕ → ℕ → World
+world left taken reads writes = record { left = left; taken = taken; reads = reads; writes = writes }
+
+-- the source gave a trace text, and the text of its picture went to the sink in this way
+pub record Draws (r : Request) (old new : World) (goes : List ℕ → Type 0) : Type 0 where
+  pub input : List ℕ
+  pub reads : ReadsInput old.left new.left input
+  pub text : List ℕ
+  pub drawn : IsDrawn r input text
+  pub went : goes text
+
+-- the source gave an input of which nothing is drawn, for the cause that the status says
+pub record Refuses (r : Request) (old new : World) (status : Status) : Type 0 where
+  pub input : List ℕ
+  pub reads : ReadsInput old.left new.left input
+  pub cause : IsNotDrawn r input status
+
+abbrev pub Answers : Request → World → World → Status → Type 0
+Answers r old new Drawn = Draws r old new (Appends old.taken new.taken)
+Answers r old new WriteFault = HasRisen old.writes new.writes × Draws r old new (AppendsPrefix old.taken new.taken)
+Answers r old new ReadFault = HasRisen old.reads new.reads
+Answers r old new OutOfMemory = ⊤
+Answers r old new Usage = ⊥
+Answers r old new status = Refuses r old new status
+
+abbrev pub AnswersTo : Option Request → World → World → Status → Type 0
+AnswersTo None old new status = ⊤
+AnswersTo (Some r) old new status = Answers r old new status

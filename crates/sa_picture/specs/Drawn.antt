@@ -1,0 +1,78 @@
+-- What comes of an input: the picture of its trace, or why there is none.
+use Rattle.std.specs.Prelude.{◌≡◌, ⊤, ℕ, ◌-◌, ◌≤◌, List, [], ◌∷◌, length, slice_get, Option, Some, None, Ok, option_and_then, unwrap_or, min, if◌then◌else◌}
+use Rattle.sa_base.specs.declared.record.Item.{Item}
+use Rattle.sa_shapes.specs.declared.window.Window.{Window}
+use Rattle.sa_shapes.specs.Window.{window_to}
+use Rattle.sa_shapes.specs.Extent.{extent_of, can_be_drawn}
+use Rattle.sa_shapes.specs.Picture.{shapes_of, depth_of}
+use Rattle.sa_svg.specs.declared.layout.Layout.{Layout}
+use Rattle.sa_svg.specs.Layout.{unit_of}
+use Rattle.sa_svg.specs.Drawing.{file_text}
+use Rattle.sa_trace.specs.Reading.{Told, read_of}
+use Rattle.sa_picture.specs.declared.input.TheConstants.{INPUT_LIMIT}
+use Rattle.sa_picture.specs.declared.request.Request.{Request}
+use Rattle.sa_picture.specs.declared.status.Status.{Status}
+use Rattle.sa_picture.specs.declared.status.Status.TheVariants.{BadTrace, TooMuch, OutOfMemory}
+use Rattle.sa_picture.specs.Refusal.{IsRefused}
+
+-- the events that a trace has
+abbrev pub first_event : List Item → ℕ
+first_event [] = 0
+first_event (i ∷ items) = i.event
+
+abbrev pub event_of : Option Item → ℕ
+event_of None = 0
+event_of (Some i) = i.event
+
+abbrev pub last_event : List Item → ℕ
+last_event items = event_of (slice_get items (length items - 1))
+
+-- the events that are drawn: those that are named, up to the last one of the trace, or else all that it has
+abbrev pub window_of : Request → List Item → Option Window
+window_of r items = window_to (unwrap_or r.from (first_event items)) (min (unwrap_or r.to (last_event items)) (last_event items))
+
+-- .. where there is no more to draw than a picture may have
+abbrev pub drawable : List Item → Window → Option Window
+drawable items w = if can_be_drawn (extent_of w items) then Some w else None
+
+abbrev pub drawn_window : Request → List Item → Option Window
+drawn_window r items = option_and_then (drawable items) (window_of r items)
+
+-- the text of the picture of these items in this window
+abbrev pub layout_for : Window → List Item → ℕ → Layout
+layout_for w items width = record {
+  unit = unit_of width w.count;
+  count = w.count;
+  lanes = (extent_of w items).lanes;
+  spaces = (extent_of w items).spaces;
+  depth = depth_of (shapes_of w items);
+}
+
+unfoldable pub picture_text : Window → List Item → ℕ → List ℕ
+picture_text w items width = file_text (layout_for w items width) w items (shapes_of w items)
+
+-- the text of the picture of these items, in the window that the request has drawn
+pub record HasText (r : Request) (items : List Item) (text : List ℕ) : Type 0 where
+  pub window : Window
+  pub is : drawn_window r items ≡ Some window
+  pub text_is : text ≡ picture_text window items r.width
+
+-- these bytes are the text of the picture of the trace of which the input is the text
+pub record IsDrawn (r : Request) (input : List ℕ) (text : List ℕ) : Type 0 where
+  pub short : length input ≤ INPUT_LIMIT
+  pub told : Told
+  pub read : read_of input ≡ Ok told
+  pub drawn : HasText r told.items text
+
+-- there is too much to draw of the trace of which the input is the text
+pub record IsTooMuch (r : Request) (input : List ℕ) : Type 0 where
+  pub short : length input ≤ INPUT_LIMIT
+  pub told : Told
+  pub read : read_of input ≡ Ok told
+  pub none : drawn_window r told.items ≡ None
+
+abbrev pub IsNotDrawn : Request → List ℕ → Status → Type 0
+IsNotDrawn r input (BadTrace bad) = IsRefused input bad
+IsNotDrawn r input TooMuch = IsTooMuch r input
+IsNotDrawn r input OutOfMemory = ⊤
+IsNotDrawn r input other = ⊥

@@ -1,0 +1,6 @@
+pub mod Status
+pub mod Input
+pub mod Request
+pub mod Refusal
+pub mod Drawn
+pub mod Answers

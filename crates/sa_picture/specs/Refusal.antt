@@ -1,0 +1,16 @@
+-- What an input is refused with.
+use Rattle.std.specs.Prelude.{◌≡◌, ◌⊎◌, ℕ, ◌+◌, ◌<◌, ◌≤◌, ◌==◌, List, length, take, count_by, Err}
+use Rattle.sa_base.specs.Cause.{bad_at}
+use Rattle.sa_base.specs.declared.refusal.Cause.TheVariants.{TooMany}
+use Rattle.sa_base.specs.declared.refusal.Bad.{Bad}
+use Rattle.sa_trace.specs.Reading.{read_of}
+use Rattle.sa_picture.specs.declared.input.TheConstants.{INPUT_LIMIT}
+
+-- what an input is refused with that is longer than the limit: it is too much in the line of the first byte past it
+unfoldable pub too_long : List ℕ → Bad
+too_long input = bad_at (count_by (λ b. b == 10) (take INPUT_LIMIT input) + 1) TooMany
+
+-- the refusal of an input: it is too long, or else no trace text
+abbrev pub IsRefused : List ℕ → Bad → Type 0
+IsRefused input bad =
+    ((INPUT_LIMIT < length input) × (bad ≡ too_long input)) ⊎ ((length input ≤ INPUT_LIMIT) × (read_of input ≡ Err bad))

@@ -1,0 +1,53 @@
+// How the program ends.
+ghost use Rattle.std.specs.Prelude.{◌≡◌};
+ghost use Rattle.sa_picture.specs.Status.{code_of, status_of};
+
+use crate::input::ReadError;
+use sa_base::Bad;
+
+/// How the top call ended. `code` is the program's exit status.
+#[derive(Clone, Copy, Debug, PartialEq, Eq)]
+pub enum Status {
+    /// The picture was written, whole.
+    Drawn,
+    /// The words are no request.
+    Usage,
+    /// A read failed.
+    ReadFault,
+    /// A write failed.
+    WriteFault,
+    /// Memory ran out.
+    OutOfMemory,
+    /// The input is too long, or no trace text.
+    BadTrace(Bad),
+    /// There is more to draw than a picture may have.
+    TooMuch,
+}
+
+impl From<ReadError> for Status {
+    ghost from_gives = { λ error status. status ≡ status_of error };
+
+    fn from(error: ReadError) -> Self {
+        match error {
+            ReadError::Fault => Status::ReadFault,
+            ReadError::OutOfMemory => Status::OutOfMemory,
+        }
+    }
+}
+
+impl Status {
+    /// The program's exit status: 0 where the picture was written. A status that `sa` has too means the same there.
+    pub fn code(self) -> u8
+        ensures { result ≡ code_of self }
+    {
+        match self {
+            Status::Drawn => 0,
+            Status::Usage => 1,
+            Status::ReadFault => 5,
+            Status::WriteFault => 6,
+            Status::OutOfMemory => 7,
+            Status::BadTrace(_) => 9,
+            Status::TooMuch => 10,
+        }
+    }
+}

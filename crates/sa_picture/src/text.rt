@@ -1,0 +1,90 @@
+// From a trace text to the text of its picture.
+ghost use Rattle.std.specs.Prelude.{◌≡◌, ◌≤◌, length, None, MatchOption, IfOk, IfErr};
+ghost use Rattle.sa_picture.specs.Refusal.{too_long};
+ghost use Rattle.sa_picture.specs.Drawn.{first_event, last_event, window_of, drawn_window, HasText, IsDrawn, IsNotDrawn};
+
+use crate::input::INPUT_LIMIT;
+use crate::request::Request;
+use crate::status::Status;
+use sa_base::{Bad, Cause, Item, Unread};
+use sa_shapes::{Window, draw};
+use sa_svg::print;
+use sa_trace::read;
+use std::alloc::{AllocError, Global};
+
+/// The text of the picture of the trace of which this is the text.
+pub(crate) fn picture_of(alloc: Global, request: Request, input: &[u8]) -> Result<Vec<u8>, Status>
+    ensures ok { IfOk result (λ text. IsDrawn request input.now text.items) }
+    ensures err { IfErr result (IsNotDrawn request input.now) }
+{
+    if input.len() > INPUT_LIMIT {
+        return Err(Status::BadTrace(refusal_of_long(input)));
+    }
+    match read(alloc, input) {
+        Ok(text) => match drawing_of(alloc, request, text.trace.items()) {
+            Ok(Some(drawing)) => Ok(drawing),
+            Ok(None) => Err(Status::TooMuch),
+            Err(_) => Err(Status::OutOfMemory),
+        },
+        Err(Unread::Bad(bad)) => Err(Status::BadTrace(bad)),
+        Err(Unread::OutOfMemory) => Err(Status::OutOfMemory),
+    }
+}
+
+// The text of the picture of these items, where there is no more to draw than a picture may have.
+fn drawing_of(
+    alloc: Global,
+    request: Request,
+    items: &[Item],
+) -> Result<Option<Vec<u8>>, AllocError>
+    ensures { IfOk result (λ drawing. MatchOption drawing
+        (drawn_window request items.now ≡ None) (λ text. HasText request items.now text.items)) }
+{
+    let Some(window) = window_of(request, items) else {
+        return Ok(None);
+    };
+    match draw(alloc, window, items)? {
+        Some(picture) => Ok(Some(print(alloc, &picture, items, request.width)?)),
+        None => Ok(None),
+    }
+}
+
+// The events that are drawn: those that are named and the trace has, or all of them.
+fn window_of(request: Request, items: &[Item]) -> Option<Window>
+    ensures { result ≡ window_of request items.now }
+{
+    let from = request.from.unwrap_or(first_event(items));
+    let last = last_event(items);
+    Window::to(from, request.to.unwrap_or(last).min(last))
+}
+
+fn first_event(items: &[Item]) -> u64
+    ensures { result ≡ first_event items.now }
+{
+    match items.first() {
+        None => 0,
+        Some(item) => item.event,
+    }
+}
+
+fn last_event(items: &[Item]) -> u64
+    ensures { result ≡ last_event items.now }
+{
+    match items.last() {
+        None => 0,
+        Some(item) => item.event,
+    }
+}
+
+// What an input is refused with that is longer than the limit.
+#[tactic(auto, unfolding(crate::specs::Refusal::too_long))]
+fn refusal_of_long(input: &[u8]) -> Bad
+    requires { INPUT_LIMIT ≤ length input.now }
+    ensures { result ≡ too_long input.now }
+{
+    let before = input[..INPUT_LIMIT]
+        .iter()
+        .filter(|byte| **byte == b'\n')
+        .count();
+    Bad::new(before as u64 + 1, Cause::TooMany)
+}

@@ -1,0 +1,72 @@
+// The top call.
+ghost use Rattle.std.specs.Prelude.{◌≡◌, ◌≤◌, ◌↔◌, None, map, string_bytes};
+ghost use Rattle.sa_picture.specs.Request.{request_of};
+ghost use Rattle.sa_picture.specs.Input.{LosesPrefix};
+ghost use Rattle.sa_picture.specs.Status.{WritesNothing};
+ghost use Rattle.sa_picture.specs.Answers.{World, world, Answers, AnswersTo};
+
+use crate::input::read_input;
+use crate::output::write_text;
+use crate::request::{Request, read_request};
+use crate::status::Status;
+use crate::text::picture_of;
+use sa_io::{Sink, Source};
+use std::alloc::Global;
+
+/// Does what the words ask for: reads the source's trace text, and writes the picture of the trace to the sink.
+pub fn top<S: Source, K: Sink>(
+    alloc: Global,
+    words: &[String],
+    source: &mut S,
+    sink: &mut K,
+) -> Status
+    ensures usage { (result ≡ Status.Usage) ↔ (request_of (map string_bytes words.now) ≡ None) }
+    ensures untouched { result ≡ Status.Usage → (source.new ≡ source.old) × (sink.new ≡ sink.old) }
+    ensures unwritten { WritesNothing result → sink.new ≡ sink.old }
+    ensures lost { LosesPrefix (S.left source.old) (S.left source.new) }
+    ensures reads_counted { S.faults source.old ≤ S.faults source.new }
+    ensures writes_counted { K.faults sink.old ≤ K.faults sink.new }
+
+    // Each answer comes only for its cause, and says what was read and written.
+    ensures answers { let before : World
+        = world (S.left source.old) (K.taken sink.old) (S.faults source.old) (K.faults sink.old) in
+        let after : World
+        = world (S.left source.new) (K.taken sink.new) (S.faults source.new) (K.faults sink.new) in
+        AnswersTo (request_of (map string_bytes words.now)) before after result }
+{
+    match read_request(words) {
+        Some(request) => draw_trace(alloc, request, source, sink),
+        None => Status::Usage,
+    }
+}
+
+// Draws what is asked for.
+fn draw_trace<S: Source, K: Sink>(
+    alloc: Global,
+    request: Request,
+    source: &mut S,
+    sink: &mut K,
+) -> Status
+    ensures no_usage { result ≡ Status.Usage → ⊥ }
+    ensures unwritten { WritesNothing result → sink.new ≡ sink.old }
+    ensures lost { LosesPrefix (S.left source.old) (S.left source.new) }
+    ensures reads_counted { S.faults source.old ≤ S.faults source.new }
+    ensures writes_counted { K.faults sink.old ≤ K.faults sink.new }
+    ensures answers { let before : World
+        = world (S.left source.old) (K.taken sink.old) (S.faults source.old) (K.faults sink.old) in
+        let after : World
+        = world (S.left source.new) (K.taken sink.new) (S.faults source.new) (K.faults sink.new) in
+        Answers request before after result }
+{
+    let input = match read_input(alloc, source) {
+        Ok(input) => input,
+        Err(error) => return Status::from(error),
+    };
+    match picture_of(alloc, request, &input) {
+        Ok(text) => match write_text(sink, &text) {
+            Ok(()) => Status::Drawn,
+            Err(_) => Status::WriteFault,
+        },
+        Err(status) => status,
+    }
+}

@@ -1,0 +1,6 @@
+mod Elements
+mod Fills
+mod Shows
+mod Marked
+mod Lanes
+pub mod Ranges

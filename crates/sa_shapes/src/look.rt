@@ -1,0 +1,101 @@
+// What a processor does, as far as a looker is told.
+ghost use Rattle.std.specs.Prelude.{◌≡◌};
+ghost use Rattle.sa_shapes.specs.Look.{owner, working, in_space, owned_by, same_look, look_after};
+
+use sa_base::{ProcNo, Record, SpaceNo, ThreadNo};
+
+/// What a processor does from one of its turns to the next.
+#[derive(Clone, Copy, Debug, PartialEq, Eq)]
+pub enum Look {
+    /// No space owns it.
+    Unowned,
+    /// A thread of the space runs.
+    Thread(SpaceNo, ThreadNo),
+    /// The space's package is at work, outside of a list.
+    Package(SpaceNo),
+    /// The package is at this processor's ready list.
+    List(SpaceNo, ProcNo),
+    /// The package looked for a thread and found none.
+    Idle(SpaceNo),
+    /// A stopped section goes on in its copy.
+    Section(SpaceNo),
+}
+
+impl Look {
+    // The space that owns the processor.
+    fn owner(self) -> Option<SpaceNo>
+        ensures { result ≡ owner self }
+    {
+        match self {
+            Look::Unowned => None,
+            Look::Thread(s, _) => Some(s),
+            Look::Package(s) => Some(s),
+            Look::List(s, _) => Some(s),
+            Look::Idle(s) => Some(s),
+            Look::Section(s) => Some(s),
+        }
+    }
+
+    // What a step of the package at a list shows, which a copy's own step does not change.
+    fn working(self, next: Look) -> Look
+        ensures { result ≡ working self next }
+    {
+        match self {
+            Look::Section(s) => Look::Section(s),
+            _ => next,
+        }
+    }
+
+    // The same thing is shown.
+    pub(crate) fn is_same(self, other: Look) -> bool
+        ensures { result ≡ same_look self other }
+    {
+        match (self, other) {
+            (Look::Unowned, Look::Unowned) => true,
+            (Look::Thread(s, t), Look::Thread(u, v)) => s.0 == u.0 && t.0 == v.0,
+            (Look::Package(s), Look::Package(u)) => s.0 == u.0,
+            (Look::List(s, l), Look::List(u, m)) => s.0 == u.0 && l.0 == m.0,
+            (Look::Idle(s), Look::Idle(u)) => s.0 == u.0,
+            (Look::Section(s), Look::Section(u)) => s.0 == u.0,
+            _ => false,
+        }
+    }
+
+    // What the processor does after a record of its own.
+    pub(crate) fn after(self, what: &Record) -> Look
+        ensures { result ≡ look_after self what.now }
+    {
+        match *what {
+            Record::Ins(s, t, _) | Record::Out(s, t, _) => Look::Thread(s, t),
+            Record::Stop(s, _, _) | Record::Back(s, _) => Look::Package(s),
+            Record::Block(s, _, _, _) => Look::Package(s),
+            Record::Cont(s, _) => Look::Section(s),
+            Record::Take(s, l, _) | Record::Free(s, l, _) => self.working(Look::List(s, l)),
+            Record::Move(_, n) => owned_by(n),
+            Record::Want(..) => match self.owner() {
+                None => self,
+                Some(s) => Look::Package(s),
+            },
+            Record::Idle => match self.owner() {
+                None => self,
+                Some(s) => Look::Idle(s),
+            },
+            Record::Spin(l) => match self.owner() {
+                None => self,
+                Some(s) => self.working(Look::List(s, l)),
+            },
+            Record::Tick => Look::Unowned,
+            _ => self,
+        }
+    }
+}
+
+// What a processor does whose owner has changed to this one.
+fn owned_by(n: Option<SpaceNo>) -> Look
+    ensures { result ≡ owned_by n }
+{
+    match n {
+        None => Look::Unowned,
+        Some(s) => Look::Package(s),
+    }
+}

@@ -1,0 +1,6 @@
+use Rattle.sa_svg.specs.Head.{tick}
+use Rattle.sa_shapes.proofs.Ranges.{one_more}
+use Rattle.sa_svg.proofs.head.push_ticks.Goals as goal
+
+pub loop-at-preserved : goal.loop-at-preserved
+loop-at-preserved c = one_more (tick c.args.layout c.args.window) c.loop-at.at _ _ _ c.loop-at.invariant c.in_ok-push_tick.ensures

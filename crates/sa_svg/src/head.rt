@@ -1,0 +1,336 @@
+// What every picture has: its size, colours, legend, axis and names.
+ghost use Rattle.std.specs.Prelude.{◌≡◌, ◌≤◌, ◌++◌, OnOk, codes};
+ghost use Rattle.std.specs.List.{flat_map};
+ghost use Rattle.sa_svg.specs.Head.{opened, open_text, size_attrs, sheet, style_text, ground_text, sample_box, sample_text, legend_entry, legend_text, space_entry, spaces_legend, tick, ticks, lane_name, lane_names, space_name, space_names, head_text};
+
+use crate::layout::{Layout, SPACE_HEIGHT, TOP};
+use crate::markup::{
+    Rect, push_number, push_numbered, push_numbered_rect, push_numbered_words, push_rect,
+    push_words,
+};
+use sa_shapes::Window;
+use std::alloc::AllocError;
+
+/// A sample of the legend.
+#[derive(Clone, Copy, Debug)]
+pub enum Sample {
+    /// A thread that runs.
+    Thread,
+    /// The package at work.
+    Package,
+    /// A look in vain.
+    Idle,
+    /// A section in its copy.
+    Section,
+    /// A processor that no space owns.
+    Unowned,
+    /// A line that is raised, and a stop.
+    Interrupt,
+    /// A block, and a return.
+    Block,
+    /// A hint.
+    Hint,
+    /// An upcall, and what it tells.
+    Upcall,
+    /// The lock of a list.
+    Lock,
+    /// A fetch.
+    Fetch,
+    /// The demand of a space.
+    Demand,
+    /// The processors aimed at a space.
+    Aimed,
+}
+
+// The samples in order.
+pub(crate) const LEGEND: [Sample; 13] = [
+    Sample::Thread,
+    Sample::Package,
+    Sample::Idle,
+    Sample::Section,
+    Sample::Unowned,
+    Sample::Interrupt,
+    Sample::Block,
+    Sample::Hint,
+    Sample::Upcall,
+    Sample::Lock,
+    Sample::Fetch,
+    Sample::Demand,
+    Sample::Aimed,
+];
+
+// The style sheet: eight colours that are told apart by those who see few, twice; what a processor does by how full the colour is.
+pub(crate) const SHAPES_STYLE: &[u8] =
+    b"text{fill:#000;font:9px monospace}rect{shape-rendering:crispEdges}\
+    .w{font-size:8px;paint-order:stroke;stroke:#fff;stroke-width:2px}.m{font-size:7px}.b{fill:#fff}.g{fill:#ececec}\
+    .u{fill:#d8d8d8}.p{fill-opacity:.5}.i{fill-opacity:.2;stroke:#888;stroke-width:.5px}.c{stroke:#000;stroke-width:2px}\
+    .a{fill-opacity:.5}.d{fill:#000}";
+
+pub(crate) const COLOURS_STYLE: &[u8] =
+    b".s0,.s8{fill:#56b4e9}.s1,.s9{fill:#e69f00}.s2,.s10{fill:#009e73}.s3,.s11{fill:#f0e442}\
+    .s4,.s12{fill:#cc79a7}.s5,.s13{fill:#d55e00}.s6,.s14{fill:#0072b2}.s7,.s15{fill:#333}\
+    .s8,.s9,.s10,.s11,.s12,.s13,.s14,.s15{stroke:#000;stroke-dasharray:2 2}";
+
+pub(crate) const MARKS_STYLE: &[u8] =
+    b".mi{fill:#f7c9a9}.mb{fill:#d8d8d8}.mu{fill:#d5e8d4}.mh{fill:#fbf3b0}.ml{fill:#eef4fb}.mf{fill:#e9d4e3}\
+    .mi,.mb,.mu,.mh,.ml,.mf{stroke:#999;stroke-width:.5px}";
+
+/// Appends all that stands before the shapes.
+#[tactic(auto, unfolding(crate::specs::Head::head_text))]
+pub(crate) fn push_head(out: &mut Vec<u8>, layout: Layout, window: Window) -> Result<(), AllocError>
+    ensures { OnOk result (out.new.items ≡ out.old.items ++ head_text layout window) }
+{
+    push_opening(out, layout)?;
+    push_style(out)?;
+    push_ground(out, layout)?;
+    push_legend(out)?;
+    push_spaces_legend(out, layout.spaces)?;
+    push_ticks(out, layout, window)?;
+    push_space_names(out, layout.spaces)?;
+    push_lane_names(out, layout)
+}
+
+/// Appends the end of the file.
+pub(crate) fn push_end(out: &mut Vec<u8>) -> Result<(), AllocError>
+    ensures { OnOk result (out.new.items ≡ out.old.items ++ codes "</svg>\n") }
+{
+    out.extend_from_slice(b"</svg>\n")
+}
+
+// Appends the tag of the whole.
+fn push_opening(out: &mut Vec<u8>, layout: Layout) -> Result<(), AllocError>
+    ensures { OnOk result (out.new.items ≡ out.old.items ++ open_text layout) }
+{
+    let width = layout.width();
+    let height = layout.height();
+    push_tag(
+        out,
+        b"<svg xmlns=\"http://www.w3.org/2000/svg\"",
+        width,
+        height,
+    )
+}
+
+#[tactic(auto, unfolding(crate::specs::Head::opened))]
+fn push_tag(out: &mut Vec<u8>, tag: &[u8], width: u64, height: u64) -> Result<(), AllocError>
+    ensures { OnOk result (out.new.items ≡ out.old.items ++ opened tag.now width height) }
+{
+    out.extend_from_slice(tag)?;
+    push_size(out, width, height)?;
+    out.extend_from_slice(b"\">\n")
+}
+
+// Appends the attributes that say how large the picture is.
+#[tactic(auto, unfolding(crate::specs::Head::size_attrs))]
+fn push_size(out: &mut Vec<u8>, width: u64, height: u64) -> Result<(), AllocError>
+    ensures { OnOk result (out.new.items ≡ out.old.items ++ size_attrs width height) }
+{
+    push_number(out, b"width", width)?;
+    push_number(out, b"height", height)?;
+    push_numbered(out, b" viewBox=\"0 0 ", width)?;
+    push_numbered(out, b" ", height)
+}
+
+// Appends the style sheets.
+#[tactic(auto, unfolding(crate::specs::Head::style_text))]
+fn push_style(out: &mut Vec<u8>) -> Result<(), AllocError>
+    ensures { OnOk result (out.new.items ≡ out.old.items ++ style_text) }
+{
+    push_sheet(out, SHAPES_STYLE)?;
+    push_sheet(out, COLOURS_STYLE)?;
+    push_sheet(out, MARKS_STYLE)
+}
+
+#[tactic(auto, unfolding(crate::specs::Head::sheet))]
+fn push_sheet(out: &mut Vec<u8>, rules: &[u8]) -> Result<(), AllocError>
+    ensures { OnOk result (out.new.items ≡ out.old.items ++ sheet rules.now) }
+{
+    out.extend_from_slice(b"<style>")?;
+    out.extend_from_slice(rules)?;
+    out.extend_from_slice(b"</style>\n")
+}
+
+// Appends the white ground.
+#[tactic(auto, unfolding(crate::specs::Head::ground_text))]
+fn push_ground(out: &mut Vec<u8>, layout: Layout) -> Result<(), AllocError>
+    ensures { OnOk result (out.new.items ≡ out.old.items ++ ground_text layout) }
+{
+    let place = Rect {
+        x: 0,
+        y: 0,
+        width: layout.width(),
+        height: layout.height(),
+    };
+    push_rect(out, b"b", place)?;
+    out.extend_from_slice(b"\n")
+}
+
+#[tactic(auto, unfolding(crate::specs::Head::legend_text))]
+fn push_legend(out: &mut Vec<u8>) -> Result<(), AllocError>
+    ensures { OnOk result (out.new.items ≡ out.old.items ++ legend_text) }
+{
+    push_samples(out, &LEGEND)
+}
+
+fn push_samples(out: &mut Vec<u8>, samples: &[Sample]) -> Result<(), AllocError>
+    ensures { OnOk result (out.new.items ≡ out.old.items ++ flat_map sample_text samples.now) }
+{
+    for entry in samples {
+        push_sample(out, *entry)?;
+    }
+    Ok(())
+}
+
+// Appends a sample of the legend and what it means.
+fn push_sample(out: &mut Vec<u8>, entry: Sample) -> Result<(), AllocError>
+    ensures { OnOk result (out.new.items ≡ out.old.items ++ sample_text entry) }
+{
+    match entry {
+        Sample::Thread => push_entry(out, b"t s0", 6, 38, b"tN: thread N runs"),
+        Sample::Package => push_entry(out, b"p s0", 130, 38, b"p: the package, LN: at list N"),
+        Sample::Idle => push_entry(out, b"i s0", 320, 38, b"i: a look in vain"),
+        Sample::Section => push_entry(out, b"c s0", 446, 38, b"c: a section in its copy"),
+        Sample::Unowned => push_entry(out, b"u", 610, 38, b"owned by none"),
+        Sample::Interrupt => push_entry(
+            out,
+            b"mi",
+            6,
+            56,
+            b"line, stop: an interrupt is asked for, is there",
+        ),
+        Sample::Block => push_entry(out, b"mb", 290, 56, b"block, ret: an I/O begins, is over"),
+        Sample::Hint => push_entry(out, b"mh", 506, 56, b"hint: another demand"),
+        Sample::Upcall => push_entry(
+            out,
+            b"mu",
+            6,
+            74,
+            b"up N: an upcall in activation N; +P, preN, blkN, retN: it tells so",
+        ),
+        Sample::Lock => push_entry(out, b"ml", 394, 74, b"take, free, spin: at a list's lock"),
+        Sample::Fetch => push_entry(out, b"mf", 610, 74, b"ftch, page"),
+        Sample::Demand => push_entry(out, b"d", 6, 92, b"the demand of a space"),
+        Sample::Aimed => push_entry(out, b"a s0", 150, 92, b"the processors aimed at it"),
+    }
+}
+
+#[tactic(auto, unfolding(crate::specs::Head::legend_entry))]
+fn push_entry(
+    out: &mut Vec<u8>,
+    class: &[u8],
+    x: u64,
+    y: u64,
+    words: &[u8],
+) -> Result<(), AllocError>
+    requires x_fits { x ≤ 1_000 }
+    requires y_fits { y ≤ 1_000 }
+    ensures { OnOk result (out.new.items ≡ out.old.items ++ legend_entry class.now x y words.now) }
+{
+    push_rect(out, class, sample_box(x, y))?;
+    push_words(out, b"n", x + 14, y + 8, words)?;
+    out.extend_from_slice(b"\n")
+}
+
+// Where a sample of the legend stands.
+fn sample_box(x: u64, y: u64) -> Rect
+    ensures { result ≡ sample_box x y }
+{
+    Rect {
+        x,
+        y,
+        width: 10,
+        height: 10,
+    }
+}
+
+// Appends the legend's entries of the spaces from 0 on.
+fn push_spaces_legend(out: &mut Vec<u8>, spaces: u16) -> Result<(), AllocError>
+    ensures { OnOk result (out.new.items ≡ out.old.items ++ spaces_legend spaces) }
+{
+    for s in 0..spaces {
+        push_space_entry(out, s)?;
+    }
+    Ok(())
+}
+
+#[tactic(auto, unfolding(crate::specs::Head::legend_entry))]
+fn push_space_entry(out: &mut Vec<u8>, s: u16) -> Result<(), AllocError>
+    ensures { OnOk result (out.new.items ≡ out.old.items ++ space_entry s) }
+{
+    let x = u64::from(s % 8) * 84 + 6;
+    let y = u64::from(s / 8) * 14 + 6;
+    push_numbered_rect(out, b"t s", u64::from(s), sample_box(x, y))?;
+    push_numbered_words(out, b"n", x + 14, y + 8, b"space ", u64::from(s))?;
+    out.extend_from_slice(b"\n")
+}
+
+// Appends the numbers of events, each with a line down the picture.
+fn push_ticks(out: &mut Vec<u8>, layout: Layout, window: Window) -> Result<(), AllocError>
+    ensures { OnOk result (out.new.items ≡ out.old.items ++ ticks layout window) }
+{
+    for at in 0..layout.count {
+        push_tick(out, layout, window, at)?;
+    }
+    Ok(())
+}
+
+fn push_tick(out: &mut Vec<u8>, layout: Layout, window: Window, at: u16) -> Result<(), AllocError>
+    ensures { OnOk result (out.new.items ≡ out.old.items ++ tick layout window at) }
+{
+    if at % layout.tick_step() != 0 {
+        return Ok(());
+    }
+    let x = layout.x(at);
+    let place = Rect {
+        x,
+        y: TOP,
+        width: 1,
+        height: layout.height(),
+    };
+    let event = window.from.saturating_add(u64::from(at));
+    push_rect(out, b"g", place)?;
+    push_numbered_words(out, b"n", x, TOP - 4, b"", event)?;
+    out.extend_from_slice(b"\n")
+}
+
+// Appends the names of the spaces from 0 on.
+fn push_space_names(out: &mut Vec<u8>, spaces: u16) -> Result<(), AllocError>
+    ensures { OnOk result (out.new.items ≡ out.old.items ++ space_names spaces) }
+{
+    for s in 0..spaces {
+        push_space_name(out, s)?;
+    }
+    Ok(())
+}
+
+fn push_space_name(out: &mut Vec<u8>, s: u16) -> Result<(), AllocError>
+    ensures { OnOk result (out.new.items ≡ out.old.items ++ space_name s) }
+{
+    let y = u64::from(s) * u64::from(SPACE_HEIGHT) + TOP + 56;
+    push_numbered_words(out, b"n", 6, y, b"space ", u64::from(s))?;
+    out.extend_from_slice(b"\n")
+}
+
+// Appends the names of the lanes from 0 on.
+fn push_lane_names(out: &mut Vec<u8>, layout: Layout) -> Result<(), AllocError>
+    ensures { OnOk result (out.new.items ≡ out.old.items ++ lane_names layout) }
+{
+    for p in 0..layout.lanes {
+        push_lane_name(out, layout, p)?;
+    }
+    Ok(())
+}
+
+fn push_lane_name(out: &mut Vec<u8>, layout: Layout, p: u16) -> Result<(), AllocError>
+    ensures { OnOk result (out.new.items ≡ out.old.items ++ lane_name layout p) }
+{
+    push_numbered_words(
+        out,
+        b"n",
+        6,
+        layout.bar_y(p) + 14,
+        b"processor ",
+        u64::from(p),
+    )?;
+    out.extend_from_slice(b"\n")
+}
