@@ -39,10 +39,11 @@ fn report(rt: &impl Eprint, status: Status) -> io::Result<()> {
         Status::Usage => eprintln!(rt; "usage: sa COMMAND [OPTION VALUE]..."),
         Status::BadWorkload(bad) => eprintln!(rt; "bad workload: {bad}"),
         Status::BadTrace(bad) => eprintln!(rt; "bad trace: {bad}"),
+        Status::BadScript(bad) => eprintln!(rt; "bad script: {bad}"),
         Status::ReadFault => eprintln!(rt; "read fault"),
         Status::WriteFault => eprintln!(rt; "write fault"),
         Status::OutOfMemory => eprintln!(rt; "out of memory"),
         Status::AllDone | Status::Stuck | Status::Budget | Status::Migrated => Ok(()),
-        Status::Checked | Status::Broken(..) => Ok(()),
+        Status::Checked | Status::Broken(..) | Status::Quit => Ok(()),
     }
 }

@@ -5,10 +5,10 @@ use Rattle.sa_workload.specs.Text.{IsText, IsText1}
 use Rattle.sa_workload.specs.Bad.{BadAt, BadAt1}
 use Rattle.sa_command.specs.declared.command.ScheduleWord.{ScheduleWord}
 use Rattle.sa_command.specs.declared.command.Command.{Command}
-use Rattle.sa_command.specs.declared.command.Command.TheVariants.{Run, Threads, Load, Migrate, Check}
+use Rattle.sa_command.specs.declared.command.Command.TheVariants.{Run, Threads, Load, Migrate, Check, Vp, Debug}
 use Rattle.sa_cli.specs.declared.outcome.Ran.{Ran}
 use Rattle.sa_cli.specs.declared.outcome.Status.{Status}
-use Rattle.sa_cli.specs.declared.outcome.Status.TheVariants.{AllDone, Usage, BadWorkload, Stuck, Budget, ReadFault, WriteFault, OutOfMemory, Migrated, Checked, Broken, BadTrace}
+use Rattle.sa_cli.specs.declared.outcome.Status.TheVariants.{AllDone, Usage, BadWorkload, Stuck, Budget, ReadFault, WriteFault, OutOfMemory, Migrated, Checked, Broken, BadTrace, Quit, BadScript}
 use Rattle.sa_cli.specs.Outcome.{HasEnded, history, status_of_found}
 use Rattle.sa_cli.specs.Answers.{World}
 use Rattle.sa_cli.specs.Commands.{AnswersRun, AnswersLoad, MigrateAnswers, CheckAnswers, Answers}
@@ -18,7 +18,9 @@ use Rattle.sa_check.specs.declared.verdict.Verdict.TheVariants as check
 use Rattle.sa_cli.specs.declared.found.Found.TheVariants.{Judged}
 use Rattle.sa_cli.specs.declared.found.Found.TheVariants as two
 use Rattle.sa_cli.proofs.Finds.{told-found_once}
+use Rattle.sa_cli.proofs.Scripts.{debug-debugs}
 use Rattle.sa_cli.proofs.SharedResults.{shared-takes, shared-refuses}
+use Rattle.sa_cli.proofs.VirtualResults.{virtual-takes, virtual-refuses}
 use Rattle.sa_cli.proofs.Inputs.{all-parted, first-parted, told-not_refused, told-refused_once, gave-not_refused}
 
 run-takes : (schedule : ScheduleWord) (budget : ℕ) (old new : World) (items : List Item) (status : Status)
@@ -35,6 +37,8 @@ run-takes schedule budget old new items Usage answers = absurd answers
 run-takes schedule budget old new items Checked answers = absurd answers
 run-takes schedule budget old new items (Broken event rule) answers = absurd answers
 run-takes schedule budget old new items (BadTrace bad) answers = absurd answers
+run-takes schedule budget old new items Quit answers = absurd answers
+run-takes schedule budget old new items (BadScript bad) answers = absurd answers
 run-takes schedule budget old new items Migrated answers = absurd answers
 
 run-refuses : (schedule : ScheduleWord) (budget : ℕ) (old new : World) (items : List Item) (status : Status)
@@ -55,6 +59,8 @@ run-refuses schedule budget old new items Usage answers = absurd answers
 run-refuses schedule budget old new items Checked answers = absurd answers
 run-refuses schedule budget old new items (Broken event rule) answers = absurd answers
 run-refuses schedule budget old new items (BadTrace bad) answers = absurd answers
+run-refuses schedule budget old new items Quit answers = absurd answers
+run-refuses schedule budget old new items (BadScript bad) answers = absurd answers
 run-refuses schedule budget old new items Migrated answers = absurd answers
 
 load-ends : (number budget : ℕ) (old new : World) (items : List Item) (status : Status)
@@ -70,6 +76,8 @@ load-ends number budget old new items Usage answers writes = absurd answers
 load-ends number budget old new items Checked answers writes = absurd answers
 load-ends number budget old new items (Broken event rule) answers writes = absurd answers
 load-ends number budget old new items (BadTrace bad) answers writes = absurd answers
+load-ends number budget old new items Quit answers writes = absurd answers
+load-ends number budget old new items (BadScript bad) answers writes = absurd answers
 load-ends number budget old new items Migrated answers writes = absurd answers
 
 migrate-takes : (slice : ℕ) (old new : World) (status : Status)
@@ -87,6 +95,8 @@ migrate-takes slice old new Usage answers = absurd answers
 migrate-takes slice old new Checked answers = absurd answers
 migrate-takes slice old new (Broken event rule) answers = absurd answers
 migrate-takes slice old new (BadTrace bad) answers = absurd answers
+migrate-takes slice old new Quit answers = absurd answers
+migrate-takes slice old new (BadScript bad) answers = absurd answers
 
 migrate-refuses : (slice : ℕ) (old new : World) (status : Status)
     → MigrateAnswers slice old new status → Refuses BadAt1 old new status
@@ -105,6 +115,8 @@ migrate-refuses slice old new Usage answers = absurd answers
 migrate-refuses slice old new Checked answers = absurd answers
 migrate-refuses slice old new (Broken event rule) answers = absurd answers
 migrate-refuses slice old new (BadTrace bad) answers = absurd answers
+migrate-refuses slice old new Quit answers = absurd answers
+migrate-refuses slice old new (BadScript bad) answers = absurd answers
 
 check-finds : (old new : World) (status : Status) → CheckAnswers old new status → Finds old new status
 check-finds old new Checked answers = λ input found told is reads writes.
@@ -118,6 +130,8 @@ check-finds old new (BadTrace bad) answers = λ input found told is reads writes
 check-finds old new OutOfMemory answers = λ input found told is reads writes. inr refl
 check-finds old new ReadFault answers = λ input found told is reads writes. absurd (reads answers)
 check-finds old new WriteFault answers = λ input found told is reads writes. absurd (writes answers.0)
+check-finds old new Quit answers = absurd answers
+check-finds old new (BadScript bad) answers = absurd answers
 check-finds old new AllDone answers = absurd answers
 check-finds old new Stuck answers = absurd answers
 check-finds old new Budget answers = absurd answers
@@ -134,6 +148,9 @@ answers-complete (Load number budget) old new ran status answers = load-ends num
 answers-complete (Migrate slice) old new ran status answers =
     (migrate-takes slice old new status answers.1, migrate-refuses slice old new status answers.1)
 answers-complete Check old new ran status answers = check-finds old new status answers.1
+answers-complete (Vp schedule budget) old new ran status answers =
+    (virtual-takes schedule budget old new (history ran) status answers, virtual-refuses schedule budget old new (history ran) status answers)
+answers-complete (Debug budget) old new ran status answers = debug-debugs budget old new ran status answers
 
 pub complete-to : (o : Option Command) (command : Command) (old new : World) (ran : Ran) (status : Status) → o ≡ Some command
     → Answers command old new ran status → IsCompleteTo o old new status

@@ -1,8 +1,13 @@
 mod Told
+mod TracePieces
 mod Refusals
 mod Inputs
 mod Parts
 mod Finds
+mod Scripts
+mod Sessions
 mod Results
 mod SharedResults
+mod VirtualResults
+mod VpPieces
 mod Completeness

@@ -1,27 +1,27 @@
 -- What the parts of a command say together.
-use Rattle.std.proofs.Common.{◌≡◌, ℕ, List, [], Option, Some, None, refl, sym, subst, ◌∙◌, inl, inr}
+use Rattle.std.proofs.Common.{◌≡◌, ◌⊎◌, ℕ, List, [], Option, Some, None, refl, sym, subst, ◌∙◌, inl, inr}
 use Rattle.std.specs.Prelude.{◌↔◌}
 use Rattle.sa_base.specs.Recorded.{Recorded}
 use Rattle.sa_base.specs.declared.record.Item.{Item}
 use Rattle.sa_base.specs.declared.record.End.{End}
 use Rattle.sa_base.specs.declared.record.End.TheVariants as end
-use Rattle.sa_spaces.specs.Workload.{WorkloadView}
+use Rattle.sa_spaces.specs.Workload.{WorkloadView, IsWorkload}
 use Rattle.sa_workload.specs.Text.{IsText}
 use Rattle.sa_workload.specs.Bad.{BadAt, BadAt1}
 use Rattle.sa_package_model.specs.Step.{fast_calls}
-use Rattle.sa_run.specs.Run.{RunsTo}
-use Rattle.sa_run.proofs.SoFar.{so-far}
+use Rattle.sa_run.specs.Run.{RunsTo, RunsSoFar}
+use Rattle.sa_fast_runs.proofs.Whole.{so-far-legal, whole-legal}
 use Rattle.sa_command.specs.declared.command.ScheduleWord.{ScheduleWord}
 use Rattle.sa_command.specs.declared.command.Command.{Command}
-use Rattle.sa_command.specs.declared.command.Command.TheVariants.{Run, Threads, Load, Migrate, Check}
+use Rattle.sa_command.specs.declared.command.Command.TheVariants.{Run, Threads, Load, Migrate, Check, Vp, Debug}
 use Rattle.sa_cli.specs.declared.outcome.Status.{Status}
-use Rattle.sa_cli.specs.declared.outcome.Status.TheVariants.{AllDone, Usage, BadWorkload, Stuck, Budget, ReadFault, WriteFault, OutOfMemory, Migrated, Checked, Broken, BadTrace}
+use Rattle.sa_cli.specs.declared.outcome.Status.TheVariants.{AllDone, Usage, BadWorkload, Stuck, Budget, ReadFault, WriteFault, OutOfMemory, Migrated, Checked, Broken, BadTrace, Quit, BadScript}
 use Rattle.sa_cli.specs.declared.outcome.Ran.{Ran}
 use Rattle.sa_cli.specs.declared.outcome.Ran.TheVariants.{Plain}
 use Rattle.sa_cli.specs.Outcome.{status_of_end, history}
 use Rattle.sa_cli.specs.Input.{GaveText, GaveSliced}
 use Rattle.sa_cli.specs.Refusals.{NothingRead}
-use Rattle.sa_cli.specs.Answers.{World, Plan, Ended, RunAnswers, TookAll, Writes, WritesOrStops}
+use Rattle.sa_cli.specs.Answers.{World, Plan, Ended, Came, RunAnswers, TookAll, TookSome, Writes}
 use Rattle.sa_cli.specs.Commands.{run_plan, AnswersRun, MigrateAnswers, Answers, AnswersTo}
 
 -- where nothing was read, nothing ran
@@ -39,6 +39,8 @@ nothing-run schedule budget old new Migrated cause = absurd cause
 nothing-run schedule budget old new Checked cause = absurd cause
 nothing-run schedule budget old new (Broken event rule) cause = absurd cause
 nothing-run schedule budget old new (BadTrace bad) cause = absurd cause
+nothing-run schedule budget old new Quit cause = absurd cause
+nothing-run schedule budget old new (BadScript bad) cause = absurd cause
 
 -- what a run answers, `run` answers
 pub run-answers : (schedule : ScheduleWord) (budget : ℕ) (old new : World) (items : List Item) (status : Status)
@@ -56,8 +58,10 @@ run-answers schedule budget old new items (BadWorkload bad) answers = absurd ans
 run-answers schedule budget old new items Checked answers = absurd answers
 run-answers schedule budget old new items (Broken event rule) answers = absurd answers
 run-answers schedule budget old new items (BadTrace bad) answers = absurd answers
+run-answers schedule budget old new items Quit answers = absurd answers
+run-answers schedule budget old new items (BadScript bad) answers = absurd answers
 
--- a run that ended was written, or cut, or memory ran out
+-- a run that ended was written, or cut
 module _ (mine : WorkloadView → Type 0) (plan : Plan) (old new : World) where
   ended-written : (items : List Item) (e : End) → Ended mine plan (TookAll old new) items e
       → RunAnswers mine plan old new items (status_of_end e)
@@ -65,27 +69,48 @@ module _ (mine : WorkloadView → Type 0) (plan : Plan) (old new : World) where
   ended-written items end.Stuck ended = ended
   ended-written items end.Budget ended = ended
 
-  written-answers : (items : List Item) (w : WorkloadView) (e : End) (events : ℕ) (status : Status) → mine w
+  -- what ran is a legal run
+  ended-so : (items : List Item) (w : WorkloadView) (e : End) (events : ℕ) (goes : List ℕ → Type 0) → mine w → IsWorkload w
+      → RunsTo fast_calls w (plan.order w) plan.budget items e events → goes (plan.shown items e events) → Ended mine plan goes items e
+  ended-so items w e events goes is ok runs went =
+      let legal = whole-legal w (plan.order w) plan.budget items e events ok runs in
+      record { workload = w; is = is; events = events; run = runs; legal = legal.0; ends = legal.1; went = went }
+
+  came-so : (items : List Item) (w : WorkloadView) → mine w → IsWorkload w → RunsSoFar fast_calls w (plan.order w) plan.budget items
+      → Came mine plan items
+  came-so items w is ok runs =
+      record { workload = w; is = is; run = runs; legal = so-far-legal w (plan.order w) plan.budget items ok runs }
+
+  written-answers : (items : List Item) (w : WorkloadView) (e : End) (events : ℕ) (status : Status) → mine w → IsWorkload w
       → RunsTo fast_calls w (plan.order w) plan.budget items e events
-      → WritesOrStops old.taken new.taken old.writes new.writes (plan.shown items e events) (status_of_end e) status
+      → Writes old.taken new.taken old.writes new.writes (plan.shown items e events) (status_of_end e) status
       → RunAnswers mine plan old new items status
-  written-answers items w e events status is runs (inl none) =
-      subst (λ (v : Status). RunAnswers mine plan old new items v) (sym none)
-      (inr (record { workload = w; is = is; run = so-far fast_calls w (plan.order w) plan.budget items e events runs }))
-  written-answers items w e events status is runs (inr (inl whole)) =
+  written-answers items w e events status is ok runs (inl whole) =
       subst (λ (v : Status). RunAnswers mine plan old new items v) (sym whole.0)
-      (ended-written items e (record { workload = w; is = is; events = events; run = runs; went = whole.1 }))
-  written-answers items w e events status is runs (inr (inr cut)) =
+      (ended-written items e (ended-so items w e events (TookAll old new) is ok runs whole.1))
+  written-answers items w e events status is ok runs (inr cut) =
       subst (λ (v : Status). RunAnswers mine plan old new items v) (sym cut.0)
-      (cut.1, (e, record { workload = w; is = is; events = events; run = runs; went = cut.2 }))
+      (cut.1, (e, ended-so items w e events (TookSome old new) is ok runs cut.2))
 
   -- .. where the machine that ran has this trace
-  pub ended-answers : (ran : Ran) (trace : Recorded) (w : WorkloadView) (e : End) (events : ℕ) (status : Status) → ran ≡ Plain trace → mine w
+  pub ended-answers : (ran : Ran) (trace : Recorded) (w : WorkloadView) (e : End) (events : ℕ) (status : Status) → ran ≡ Plain trace → mine w → IsWorkload w
       → RunsTo fast_calls w (plan.order w) plan.budget trace.items e events
-      → WritesOrStops old.taken new.taken old.writes new.writes (plan.shown trace.items e events) (status_of_end e) status
+      → Writes old.taken new.taken old.writes new.writes (plan.shown trace.items e events) (status_of_end e) status
       → RunAnswers mine plan old new (history ran) status
-  ended-answers ran trace w e events status plain is runs writes =
-      subst (λ (r : Ran). RunAnswers mine plan old new (history r) status) (sym plain) (written-answers trace.items w e events status is runs writes)
+  ended-answers ran trace w e events status plain is ok runs writes =
+      subst (λ (r : Ran). RunAnswers mine plan old new (history r) status) (sym plain)
+      (written-answers trace.items w e events status is ok runs writes)
+
+  -- .. or where memory ran out on the way
+  pub stopped-answers : (ran : Ran) (trace : Recorded) (w : WorkloadView) (status : Status) → ran ≡ Plain trace → status ≡ OutOfMemory
+      → mine w → IsWorkload w → (trace.items ≡ []) ⊎ RunsSoFar fast_calls w (plan.order w) plan.budget trace.items
+      → RunAnswers mine plan old new (history ran) status
+  stopped-answers ran trace w status plain out is ok runs =
+      subst (λ (r : Ran). RunAnswers mine plan old new (history r) status) (sym plain)
+      (subst (λ (v : Status). RunAnswers mine plan old new trace.items v) (sym out) (elim runs [
+        | inl none ↦ inl none
+        | inr so_far ↦ inr (came-so trace.items w is ok so_far)
+      ]))
 
 -- the same of a workload that is written anew
 pub nothing-migrated : (slice : ℕ) (old new : World) (status : Status)
@@ -102,6 +127,8 @@ nothing-migrated slice old new Migrated cause = absurd cause
 nothing-migrated slice old new Checked cause = absurd cause
 nothing-migrated slice old new (Broken event rule) cause = absurd cause
 nothing-migrated slice old new (BadTrace bad) cause = absurd cause
+nothing-migrated slice old new Quit cause = absurd cause
+nothing-migrated slice old new (BadScript bad) cause = absurd cause
 
 pub migrated-answers : (slice : ℕ) (old new : World) (text : List ℕ) (status : Status) → GaveSliced slice old.left new.left text
     → Writes old.taken new.taken old.writes new.writes text Migrated status → MigrateAnswers slice old new status
@@ -123,6 +150,8 @@ not-usage (Threads budget burst) old new ran answers = answers
 not-usage (Load number budget) old new ran answers = answers
 not-usage (Migrate slice) old new ran answers = answers.1
 not-usage Check old new ran answers = answers.1
+not-usage (Vp schedule budget) old new ran answers = answers
+not-usage (Debug budget) old new ran answers = answers
 
 pub is-no-usage : (o : Option Command) (command : Command) (old new : World) (ran : Ran) (status : Status) → o ≡ Some command
     → Answers command old new ran status → (status ≡ Usage) ↔ (o ≡ None)

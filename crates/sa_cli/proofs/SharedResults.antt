@@ -3,24 +3,25 @@ use Rattle.std.proofs.Common.{◌≡◌, ℕ, List, Option, Some, None, refl, sy
 use Rattle.std.specs.Prelude.{sum, MatchOption}
 use Rattle.sa_base.specs.declared.record.End.{End}
 use Rattle.sa_base.specs.declared.record.End.TheVariants as end
-use Rattle.sa_spaces.specs.Workload.{WorkloadView}
+use Rattle.sa_spaces.specs.Workload.{WorkloadView, IsWorkload}
 use Rattle.sa_trace.specs.TraceText.{trace_text}
 use Rattle.sa_workload.specs.Text.{IsText}
 use Rattle.sa_workload.specs.Bad.{BadAt}
 use Rattle.sa_package_model.specs.Step.{fast_calls}
 use Rattle.sa_seat.specs.Closed.{ClosedView}
 use Rattle.sa_workers.specs.Run.{HasRun}
+use Rattle.sa_fast_runs.proofs.Shared.{shared-legal}
 use Rattle.sa_workers.specs.declared.runs.Limits.{Limits}
 use Rattle.sa_command.specs.declared.command.Command.{Command}
-use Rattle.sa_command.specs.declared.command.Command.TheVariants.{Run, Threads, Load, Migrate, Check}
+use Rattle.sa_command.specs.declared.command.Command.TheVariants.{Run, Threads, Load, Migrate, Check, Vp, Debug}
 use Rattle.sa_cli.specs.declared.outcome.Ran.{Ran}
 use Rattle.sa_cli.specs.declared.outcome.Ran.TheVariants.{Nothing, Shared}
 use Rattle.sa_cli.specs.declared.outcome.Status.{Status}
-use Rattle.sa_cli.specs.declared.outcome.Status.TheVariants.{AllDone, Usage, BadWorkload, Stuck, Budget, ReadFault, WriteFault, OutOfMemory, Migrated, Checked, Broken, BadTrace}
+use Rattle.sa_cli.specs.declared.outcome.Status.TheVariants.{AllDone, Usage, BadWorkload, Stuck, Budget, ReadFault, WriteFault, OutOfMemory, Migrated, Checked, Broken, BadTrace, Quit, BadScript}
 use Rattle.sa_cli.specs.Input.{GaveText}
 use Rattle.sa_cli.specs.Refusals.{NothingRead}
 use Rattle.sa_cli.specs.Outcome.{status_of_end, HasEnded}
-use Rattle.sa_cli.specs.Answers.{World, TookAll, WritesOrStops}
+use Rattle.sa_cli.specs.Answers.{World, TookAll, Writes}
 use Rattle.sa_cli.specs.Complete.{Takes, Refuses}
 use Rattle.sa_cli.specs.Shared.{limits_of, WritesClosed, SharedRun, SharedEnded, AnswersThreads}
 use Rattle.sa_cli.proofs.Inputs.{all-parted, told-not_refused, told-refused_once, gave-not_refused}
@@ -33,6 +34,8 @@ is-threads (Some (Threads budget burst)) limits e = cc
 is-threads (Some (Load number budget)) limits e = absurd cc
 is-threads (Some (Migrate slice)) limits e = absurd cc
 is-threads (Some Check) limits e = absurd cc
+is-threads (Some (Vp schedule budget)) limits e = absurd cc
+is-threads (Some (Debug budget)) limits e = absurd cc
 
 module _ (budget : ℕ) (old new : World) where
   -- where nothing was read, nothing ran
@@ -49,37 +52,38 @@ module _ (budget : ℕ) (old new : World) where
   nothing-shared Checked cause = absurd cause
   nothing-shared (Broken event rule) cause = absurd cause
   nothing-shared (BadTrace bad) cause = absurd cause
+  nothing-shared Quit cause = absurd cause
+  nothing-shared (BadScript bad) cause = absurd cause
 
-  -- a run that ended was written, or cut, or memory ran out
+  -- a run that ended was written, or cut
   ended-shared : (ran : Ran) (e : End) → SharedEnded budget old new (TookAll old new) ran e → AnswersThreads budget old new ran (status_of_end e)
   ended-shared ran end.AllDone ended = ended
   ended-shared ran end.Stuck ended = ended
   ended-shared ran end.Budget ended = ended
 
   written-shared : (ran : Ran) (shared : SharedRun budget old new ran) (e : End) (status : Status) → shared.closed.end ≡ Some e
-      → WritesOrStops old.taken new.taken old.writes new.writes (trace_text shared.closed.items e (sum shared.closed.turns)) (status_of_end e) status
+      → Writes old.taken new.taken old.writes new.writes (trace_text shared.closed.items e (sum shared.closed.turns)) (status_of_end e) status
       → AnswersThreads budget old new ran status
-  written-shared ran shared e status ends (inl none) = subst (λ (v : Status). AnswersThreads budget old new ran v) (sym none) (inr shared)
-  written-shared ran shared e status ends (inr (inl whole)) =
+  written-shared ran shared e status ends (inl whole) =
       subst (λ (v : Status). AnswersThreads budget old new ran v) (sym whole.0) (ended-shared ran e (record { shared = shared; ends = ends; went = whole.1 }))
-  written-shared ran shared e status ends (inr (inr cut)) =
+  written-shared ran shared e status ends (inr cut) =
       subst (λ (v : Status). AnswersThreads budget old new ran v) (sym cut.0) (cut.1, (e, record { shared = shared; ends = ends; went = cut.2 }))
 
-  pub shared-answers : (w : WorkloadView) (closed : ClosedView) (ran : Ran) (status : Status) → ran ≡ Shared closed → GaveText IsText old.left new.left w
+  pub shared-answers : (w : WorkloadView) (closed : ClosedView) (ran : Ran) (status : Status) → ran ≡ Shared closed → GaveText IsText old.left new.left w → IsWorkload w
       → HasRun fast_calls w budget closed → WritesClosed old.taken new.taken old.writes new.writes closed status → AnswersThreads budget old new ran status
-  shared-answers w closed ran status is gave run writes = go closed.end refl
+  shared-answers w closed ran status is gave ok run writes = go closed.end refl
     where
       shared : SharedRun budget old new ran
-      shared = record { closed = closed; is = is; workload = w; gave = gave; run = run }
+      shared = record { closed = closed; is = is; workload = w; gave = gave; run = run; legal = shared-legal w budget closed ok run }
 
       go : (o : Option End) → closed.end ≡ o → AnswersThreads budget old new ran status
       go None none =
           let stops : status ≡ OutOfMemory =
-          subst (λ (o : Option End). MatchOption o (status ≡ OutOfMemory) (λ e. WritesOrStops old.taken new.taken old.writes new.writes (trace_text closed.items e (sum closed.turns)) (status_of_end e) status)) none writes in
+          subst (λ (o : Option End). MatchOption o (status ≡ OutOfMemory) (λ e. Writes old.taken new.taken old.writes new.writes (trace_text closed.items e (sum closed.turns)) (status_of_end e) status)) none writes in
           subst (λ (v : Status). AnswersThreads budget old new ran v) (sym stops) (inr shared)
       go (Some e) some =
           written-shared ran shared e status some
-          (subst (λ (o : Option End). MatchOption o (status ≡ OutOfMemory) (λ e. WritesOrStops old.taken new.taken old.writes new.writes (trace_text closed.items e (sum closed.turns)) (status_of_end e) status)) some writes)
+          (subst (λ (o : Option End). MatchOption o (status ≡ OutOfMemory) (λ e. Writes old.taken new.taken old.writes new.writes (trace_text closed.items e (sum closed.turns)) (status_of_end e) status)) some writes)
 
   -- an accepted input is run, and any other is refused
   pub shared-takes : (ran : Ran) (status : Status) → AnswersThreads budget old new ran status → Takes IsText old new status (HasEnded status)
@@ -96,6 +100,8 @@ module _ (budget : ℕ) (old new : World) where
   shared-takes ran Checked answers = absurd answers
   shared-takes ran (Broken event rule) answers = absurd answers
   shared-takes ran (BadTrace bad) answers = absurd answers
+  shared-takes ran Quit answers = absurd answers
+  shared-takes ran (BadScript bad) answers = absurd answers
 
   not-refused : (ran : Ran) (e : End) (goes : List ℕ → Type 0) (status : Status) → SharedEnded budget old new goes ran e → Refuses BadAt old new status
   not-refused ran e goes status ended = λ input bad told refused reads.
@@ -115,3 +121,5 @@ module _ (budget : ℕ) (old new : World) where
   shared-refuses ran Checked answers = absurd answers
   shared-refuses ran (Broken event rule) answers = absurd answers
   shared-refuses ran (BadTrace bad) answers = absurd answers
+  shared-refuses ran Quit answers = absurd answers
+  shared-refuses ran (BadScript bad) answers = absurd answers

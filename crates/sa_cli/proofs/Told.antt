@@ -36,20 +36,28 @@ piece-taken before at after text written rest piece behind n whole front back ta
       Appends-trans before at after written piece taken more,
     )
 
--- a prefix of a piece behind what was written is a prefix of the text
+-- a prefix of what comes behind what was written is a prefix of the text
+pub prefix-behind : (before at after : Option (List ℕ)) (text written piece behind : List ℕ)
+    → text ≡ written ++ (piece ++ behind)
+    → Appends before at written → AppendsPrefix at after piece
+    → AppendsPrefix before after text
+prefix-behind before at after text written piece behind whole taken cut =
+    let k : ℕ = min cut.0 (length piece) in
+    let P : List ℕ → Type 0 = λ v. Appends before after v in
+    let end : take (length written + k) text ≡ written ++ take cut.0 piece =
+    ap (λ v. take (length written + k) v) whole
+    ∙ take-append-add written (piece ++ behind) k
+    ∙ ap (λ v. written ++ v) (take-append-le k piece behind (omega arith) ∙ take_min cut.0 piece) in
+    (length written + k, subst P (sym end) (Appends-trans before at after written (take cut.0 piece) taken cut.1))
+
+-- .. where the piece is cut from the rest of the text
 pub piece-cut : (before at after : Option (List ℕ)) (text written rest piece behind : List ℕ) (n : ℕ)
     → text ≡ written ++ rest → piece ≡ take n rest → behind ≡ drop n rest
     → Appends before at written → AppendsPrefix at after piece
     → AppendsPrefix before after text
 piece-cut before at after text written rest piece behind n whole front back taken cut =
     let joined : rest ≡ piece ++ behind = sym (take-append-drop n rest) ∙ ap (λ v. v ++ drop n rest) (sym front) ∙ ap (λ v. piece ++ v) (sym back) in
-    let k : ℕ = min cut.0 (length piece) in
-    let P : List ℕ → Type 0 = λ v. Appends before after v in
-    let end : take (length written + k) text ≡ written ++ take cut.0 piece =
-    ap (λ v. take (length written + k) v) (whole ∙ ap (λ v. written ++ v) joined)
-    ∙ take-append-add written (piece ++ behind) k
-    ∙ ap (λ v. written ++ v) (take-append-le k piece behind (omega arith) ∙ take_min cut.0 piece) in
-    (length written + k, subst P (sym end) (Appends-trans before at after written (take cut.0 piece) taken cut.1))
+    prefix-behind before at after text written piece behind (whole ∙ ap (λ v. written ++ v) joined) taken cut
 
 -- what holds anyway holds at an error
 pub on_err : {T E Q : Type 0} (result : Result T E) → Q → OnErr result Q

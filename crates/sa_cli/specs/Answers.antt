@@ -9,6 +9,7 @@ use Rattle.sa_spaces.specs.Workload.{WorkloadView}
 use Rattle.sa_sched.specs.Order.{Order}
 use Rattle.sa_package_model.specs.Step.{fast_calls}
 use Rattle.sa_run.specs.Run.{RunsTo, RunsSoFar}
+use Rattle.sa_fast_runs.specs.Whole.{IsTurnByTurn, IsEnded}
 use Rattle.sa_cli.specs.declared.outcome.Status.{Status}
 use Rattle.sa_cli.specs.declared.outcome.Status.TheVariants.{AllDone, Stuck, Budget, WriteFault, OutOfMemory}
 
@@ -32,19 +33,23 @@ pub record Plan : Type 0 where
   pub budget : ℕ
   pub shown : Shown
 
--- the run of one of these workloads ended so, and its text went to the sink in this way
+-- The run of one of these workloads ended so, and its text went to the sink in this way. It is a legal and strict run whose
+-- events follow the order, and it has ended as the definitions say; and it is exactly the machine's run.
 pub record Ended (ran : WorkloadView → Type 0) (plan : Plan) (goes : List ℕ → Type 0) (items : List Item) (end : End) : Type 0 where
   pub workload : WorkloadView
   pub is : ran workload
   pub events : ℕ
   pub run : RunsTo fast_calls workload (plan.order workload) plan.budget items end events
+  pub legal : IsTurnByTurn workload (plan.order workload) items events
+  pub ends : IsEnded workload plan.budget items end events
   pub went : goes (plan.shown items end events)
 
--- the run of one of these workloads came so far
+-- the run of one of these workloads came so far: it is as legal
 pub record Came (ran : WorkloadView → Type 0) (plan : Plan) (items : List Item) : Type 0 where
   pub workload : WorkloadView
   pub is : ran workload
   pub run : RunsSoFar fast_calls workload (plan.order workload) plan.budget items
+  pub legal : IsTurnByTurn workload (plan.order workload) items run.events
 
 -- the sink took the whole text, or a prefix of it
 abbrev pub TookAll : World → World → List ℕ → Type 0

@@ -9,7 +9,7 @@ use Rattle.sa_workload.specs.Text.{IsText}
 use Rattle.sa_workload.specs.Bad.{BadAt, BadAt1}
 use Rattle.sa_command.specs.declared.command.ScheduleWord.{ScheduleWord}
 use Rattle.sa_command.specs.declared.command.Command.{Command}
-use Rattle.sa_command.specs.declared.command.Command.TheVariants.{Run, Threads, Load, Migrate, Check}
+use Rattle.sa_command.specs.declared.command.Command.TheVariants.{Run, Threads, Load, Migrate, Check, Vp, Debug}
 use Rattle.sa_cli.specs.declared.outcome.Ran.{Ran}
 use Rattle.sa_cli.specs.declared.outcome.Ran.TheVariants.{Nothing}
 use Rattle.sa_cli.specs.declared.outcome.Status.{Status}
@@ -27,6 +27,8 @@ use Rattle.sa_cli.specs.Texts.{GaveFound}
 use Rattle.sa_cli.specs.Schedules.{order_by}
 use Rattle.sa_cli.specs.Answers.{World, Plan, RunAnswers, TookAll, TookSome}
 use Rattle.sa_cli.specs.Shared.{AnswersThreads}
+use Rattle.sa_cli.specs.Virtual.{AnswersVp}
+use Rattle.sa_cli.specs.Debugging.{AnswersDebug}
 
 -- `run`: the workload is that of which the source gave the text, and the whole trace text is written
 abbrev pub run_plan : ScheduleWord → ℕ → Plan
@@ -81,6 +83,8 @@ Answers (Threads budget burst) old new ran status = AnswersThreads budget old ne
 Answers (Load number budget) old new ran status = AnswersLoad number budget old new (history ran) status
 Answers (Migrate slice) old new ran status = (ran ≡ Nothing) × MigrateAnswers slice old new status
 Answers Check old new ran status = (ran ≡ Nothing) × CheckAnswers old new status
+Answers (Vp schedule budget) old new ran status = AnswersVp schedule budget old new (history ran) status
+Answers (Debug budget) old new ran status = AnswersDebug budget old new ran status
 
 -- the same, where the words are a command
 abbrev pub AnswersTo : Option Command → World → World → Ran → Status → Type 0

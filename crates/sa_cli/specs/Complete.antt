@@ -6,7 +6,7 @@ use Rattle.sa_io.specs.Faults.{HasRisen}
 use Rattle.sa_workload.specs.Text.{IsText, IsText1}
 use Rattle.sa_workload.specs.Bad.{BadAt, BadAt1}
 use Rattle.sa_command.specs.declared.command.Command.{Command}
-use Rattle.sa_command.specs.declared.command.Command.TheVariants.{Run, Threads, Load, Migrate, Check}
+use Rattle.sa_command.specs.declared.command.Command.TheVariants.{Run, Threads, Load, Migrate, Check, Vp, Debug}
 use Rattle.sa_cli.specs.declared.outcome.Status.{Status}
 use Rattle.sa_cli.specs.declared.outcome.Status.TheVariants.{BadWorkload, OutOfMemory, Migrated}
 use Rattle.sa_cli.specs.declared.input.TheConstants.{INPUT_LIMIT}
@@ -16,6 +16,7 @@ use Rattle.sa_cli.specs.declared.found.Found.{Found}
 use Rattle.sa_cli.specs.Texts.{IsFound}
 use Rattle.sa_cli.specs.Outcome.{HasEnded, status_of_found}
 use Rattle.sa_cli.specs.Answers.{World}
+use Rattle.sa_cli.specs.Debugging.{Scripted, IsScripted, status_of_scripted}
 
 abbrev pub NoReadFailed : World → World → Type 0
 NoReadFailed old new = ¬ HasRisen old.reads new.reads
@@ -41,12 +42,20 @@ Finds old new status =
     (input : List ℕ) (found : Found) → old.left ≡ Some input → IsFound input found
     → NoReadFailed old new → NoWriteFailed old new → (status ≡ status_of_found found) ⊎ (status ≡ OutOfMemory)
 
+-- a workload and a script are answered with what they are found to be, unless memory runs out
+abbrev pub Debugs : World → World → Status → Type 0
+Debugs old new status =
+    (input : List ℕ) (found : Scripted) → old.left ≡ Some input → IsScripted input found
+    → NoReadFailed old new → NoWriteFailed old new → (status ≡ status_of_scripted found) ⊎ (status ≡ OutOfMemory)
+
 abbrev pub IsComplete : Command → World → World → Status → Type 0
 IsComplete (Run schedule budget) old new status = Takes IsText old new status (HasEnded status) × Refuses BadAt old new status
 IsComplete (Threads budget burst) old new status = Takes IsText old new status (HasEnded status) × Refuses BadAt old new status
 IsComplete (Load number budget) old new status = NoWriteFailed old new → HasEnded status ⊎ (status ≡ OutOfMemory)
 IsComplete (Migrate slice) old new status = Takes IsText1 old new status (status ≡ Migrated) × Refuses BadAt1 old new status
 IsComplete Check old new status = Finds old new status
+IsComplete (Vp schedule budget) old new status = Takes IsText old new status (HasEnded status) × Refuses BadAt old new status
+IsComplete (Debug budget) old new status = Debugs old new status
 
 abbrev pub IsCompleteTo : Option Command → World → World → Status → Type 0
 IsCompleteTo None old new status = ⊤

@@ -4,6 +4,9 @@ pub mod Refusals
 pub mod Texts
 pub mod Schedules
 pub mod Answers
+pub mod Debugging
+pub mod Scripted
 pub mod Commands
 pub mod Complete
 pub mod Shared
+pub mod Virtual

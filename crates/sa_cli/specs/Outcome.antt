@@ -6,7 +6,7 @@ use Rattle.sa_base.specs.declared.record.Item.{Item}
 use Rattle.sa_base.specs.declared.record.End.{End}
 use Rattle.sa_base.specs.declared.record.End.TheVariants as end
 use Rattle.sa_cli.specs.declared.outcome.Status.{Status}
-use Rattle.sa_cli.specs.declared.outcome.Status.TheVariants.{AllDone, Usage, BadWorkload, Stuck, Budget, ReadFault, WriteFault, OutOfMemory, Migrated, Checked, Broken, BadTrace}
+use Rattle.sa_cli.specs.declared.outcome.Status.TheVariants.{AllDone, Usage, BadWorkload, Stuck, Budget, ReadFault, WriteFault, OutOfMemory, Migrated, Checked, Broken, BadTrace, Quit, BadScript}
 use Rattle.sa_cli.specs.declared.input.ReadError.{ReadError}
 use Rattle.sa_cli.specs.declared.input.ReadError.TheVariants as read
 use Rattle.sa_check.specs.declared.verdict.Verdict.{Verdict}
@@ -32,6 +32,8 @@ code_of Migrated = 0
 code_of Checked = 0
 code_of (Broken event rule) = 8
 code_of (BadTrace bad) = 9
+code_of Quit = 0
+code_of (BadScript bad) = 10
 
 -- the status of an input that was not read
 abbrev pub status_of : ReadError → Status
@@ -88,6 +90,7 @@ abbrev pub WritesNothing : Status → Type 0
 WritesNothing Usage = ⊤
 WritesNothing (BadWorkload bad) = ⊤
 WritesNothing (BadTrace bad) = ⊤
+WritesNothing (BadScript bad) = ⊤
 WritesNothing ReadFault = ⊤
 WritesNothing OutOfMemory = ⊤
 WritesNothing other = ⊥

@@ -12,6 +12,7 @@ use Rattle.sa_package_model.specs.Step.{fast_calls}
 use Rattle.sa_seat.specs.Closed.{ClosedView}
 use Rattle.sa_workers.specs.Run.{HasRun}
 use Rattle.sa_workers.specs.declared.runs.Limits.{Limits}
+use Rattle.sa_fast_runs.specs.Threads.{IsLegalHistory}
 use Rattle.sa_command.specs.declared.command.Command.{Command}
 use Rattle.sa_command.specs.declared.command.Command.TheVariants.{Threads}
 use Rattle.sa_cli.specs.declared.outcome.Ran.{Ran}
@@ -21,7 +22,7 @@ use Rattle.sa_cli.specs.declared.outcome.Status.TheVariants.{AllDone, BadWorkloa
 use Rattle.sa_cli.specs.Input.{GaveText}
 use Rattle.sa_cli.specs.Refusals.{IsRefused}
 use Rattle.sa_cli.specs.Outcome.{status_of_end}
-use Rattle.sa_cli.specs.Answers.{World, TookAll, TookSome, WritesOrStops}
+use Rattle.sa_cli.specs.Answers.{World, TookAll, TookSome, Writes}
 
 -- what `threads` is asked for, where that is the command
 abbrev pub limits_of : Option Command → Option Limits
@@ -32,15 +33,17 @@ limits_of _ = None
 abbrev pub WritesClosed : Option (List ℕ) → Option (List ℕ) → ℕ → ℕ → ClosedView → Status → Type 0
 WritesClosed before after faults_before faults_after closed status =
     MatchOption closed.end (status ≡ OutOfMemory)
-    (λ e. WritesOrStops before after faults_before faults_after (trace_text closed.items e (sum closed.turns)) (status_of_end e) status)
+    (λ e. Writes before after faults_before faults_after (trace_text closed.items e (sum closed.turns)) (status_of_end e) status)
 
--- the source's workload was run, and this is what is left of the machine
+-- The source's workload was run, and this is what is left of the machine: its history is a legal run, with its end and its
+-- counts.
 pub record SharedRun (budget : ℕ) (old new : World) (ran : Ran) : Type 0 where
   pub closed : ClosedView
   pub is : ran ≡ Shared closed
   pub workload : WorkloadView
   pub gave : GaveText IsText old.left new.left workload
   pub run : HasRun fast_calls workload budget closed
+  pub legal : IsLegalHistory workload budget closed
 
 -- .. it ended so, and its text went to the sink in this way
 pub record SharedEnded (budget : ℕ) (old new : World) (goes : List ℕ → Type 0) (ran : Ran) (end : End) : Type 0 where

@@ -8,8 +8,10 @@ ghost use Rattle.sa_cli.specs.Complete.{IsCompleteTo};
 ghost use Rattle.sa_cli.specs.Shared.{limits_of};
 
 use crate::commands::{check_texts, migrate, run_generated, run_text};
+use crate::debug::debug_texts;
 use crate::outcome::{Outcome, Status};
 use crate::shared::{limits_of, run_shared};
+use crate::vp::run_virtual;
 use sa_command::laws::commands_are_in_range;
 use sa_command::{Command, Words, read_words};
 use sa_io::{Sink, Source};
@@ -63,6 +65,10 @@ pub fn run_one<S: Source, K: Sink>(
         Some(Command::Load { number, budget }) => run_generated(alloc, number, budget, sink),
         Some(Command::Migrate { slice }) => Outcome::nothing(migrate(alloc, slice, source, sink)),
         Some(Command::Check) => Outcome::nothing(check_texts(alloc, source, sink)),
+        Some(Command::Vp { schedule, budget }) => {
+            run_virtual(alloc, schedule, budget, source, sink)
+        }
+        Some(Command::Debug { budget }) => debug_texts(alloc, budget, source, sink),
     }
 }
 

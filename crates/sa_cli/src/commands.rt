@@ -49,8 +49,9 @@ pub(crate) fn run_text<S: Source, K: Sink>(
     let Ok(kind) = kind_of(alloc, schedule, &workload) else {
         return Outcome::nothing(Status::OutOfMemory);
     };
+    workload.ranges();
     match run::<FastThreads>(alloc, workload, kind, budget) {
-        Ok(ended) => write_trace(alloc, ended, sink),
+        Ok(ended) => write_trace(ended, sink),
         Err(trace) => Outcome::plain(Status::OutOfMemory, trace),
     }
 }
@@ -74,8 +75,9 @@ pub(crate) fn run_generated<K: Sink>(
     let Ok(workload) = sa_gen::workload(alloc, number) else {
         return Outcome::nothing(Status::OutOfMemory);
     };
+    workload.ranges();
     match run::<FastThreads>(alloc, workload, Kind::RoundRobin, budget) {
-        Ok(ended) => write_last_line(alloc, ended, sink),
+        Ok(ended) => write_last_line(ended, sink),
         Err(trace) => Outcome::plain(Status::OutOfMemory, trace),
     }
 }
@@ -124,8 +126,12 @@ pub(crate) fn check_texts<S: Source, K: Sink>(alloc: Global, source: &mut S, sin
     }
 }
 
-// The order of turns of the word, for this workload.
-fn kind_of(alloc: Global, word: ScheduleWord, workload: &Workload) -> Result<Kind, AllocError>
+/// The order of turns of the word, for this workload.
+pub(crate) fn kind_of(
+    alloc: Global,
+    word: ScheduleWord,
+    workload: &Workload,
+) -> Result<Kind, AllocError>
     ensures order { IfOk result (λ kind. order_of kind ≡ order_by word workload.now) }
     ensures among { IfOk result (λ kind. AreAmong workload.now.processors (order_of kind)) }
 {

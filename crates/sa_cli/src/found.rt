@@ -58,7 +58,7 @@ fn found_in(alloc: Global, input: &[u8]) -> Result<Found, AllocError>
 }
 
 // How long the workload text is.
-fn workload_len(input: &[u8]) -> usize
+pub(crate) fn workload_len(input: &[u8]) -> usize
     ensures len { result ≡ length (workload_part input.now) }
     ensures within { result ≤ length input.now }
 {

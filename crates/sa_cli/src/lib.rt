@@ -3,12 +3,14 @@
 
 mod calls;
 mod commands;
+mod debug;
 mod found;
 mod input;
 mod outcome;
 mod output;
 mod reading;
 mod shared;
+mod vp;
 mod writing;
 
 pub use calls::{run_one, top};

@@ -37,6 +37,11 @@ pub enum Status {
     /// The input is too long for a workload and a trace, or the rest behind its workload is no trace text. The lines
     /// count from the first of the trace text; of an input that is too long, from its own first.
     BadTrace(Bad),
+    /// The session of a script is over, and all was written.
+    Quit,
+    /// The input is too long for a workload and a script, or the rest behind its workload is no script. The lines count from
+    /// the script's first; of an input that is too long, from its own first.
+    BadScript(Bad),
 }
 
 impl From<ReadError> for Status {
@@ -98,7 +103,7 @@ impl Status {
         ensures { result ≡ code_of self }
     {
         match self {
-            Status::AllDone | Status::Migrated | Status::Checked => 0,
+            Status::AllDone | Status::Migrated | Status::Checked | Status::Quit => 0,
             Status::Usage => 1,
             Status::BadWorkload(_) => 2,
             Status::Stuck => 3,
@@ -108,6 +113,7 @@ impl Status {
             Status::OutOfMemory => 7,
             Status::Broken(..) => 8,
             Status::BadTrace(_) => 9,
+            Status::BadScript(_) => 10,
         }
     }
 }

@@ -10,12 +10,11 @@ ghost use Rattle.sa_cli.specs.declared.outcome.Ran.TheVariants.{Shared};
 
 use crate::outcome::{Outcome, Status};
 use crate::reading::read_workload;
-use crate::writing::written;
+use crate::writing::run_written;
 use sa_command::{Command, Words, read_words};
 use sa_io::{Sink, Source};
 use sa_package::FastThreads;
 use sa_seat::Closed;
-use sa_trace::print;
 use sa_workers::{Gate, Limits, run};
 use std::alloc::Global;
 use std::sync::Wait;
@@ -59,14 +58,15 @@ pub(crate) fn run_shared<S: Source, K: Sink, G: Gate, R: Threads + Wait + Sync>(
         Ok(workload) => workload,
         Err(status) => return Outcome::nothing(status),
     };
+    workload.ranges();
     match run::<FastThreads, R, G>(rt, alloc, workload, limits, gate) {
-        Ok(closed) => write_closed(alloc, closed, sink),
+        Ok(closed) => write_closed(closed, sink),
         Err(_) => Outcome::nothing(Status::OutOfMemory),
     }
 }
 
-// Writes the text of a run that ended. One without an end ran out of memory.
-fn write_closed<K: Sink>(alloc: Global, closed: Closed, sink: &mut K) -> Outcome
+// Writes the text of a run that ended, which takes no memory. One without an end ran out of memory.
+fn write_closed<K: Sink>(closed: Closed, sink: &mut K) -> Outcome
     requires { sum closed.turns ≤ MAX_EVENTS }
     ensures ran { result.ran ≡ Shared closed }
     ensures status { WritesClosed (K.taken sink.old) (K.taken sink.new)
@@ -77,10 +77,7 @@ fn write_closed<K: Sink>(alloc: Global, closed: Closed, sink: &mut K) -> Outcome
     let status = match closed.end() {
         Some(end) => {
             let events = closed.turns().iter().sum();
-            match print(alloc, closed.trace(), end, events) {
-                Ok(text) => written(sink, &text, Status::from(end)),
-                Err(_) => Status::OutOfMemory,
-            }
+            run_written(sink, closed.trace(), end, events)
         }
         None => Status::OutOfMemory,
     };

@@ -8,12 +8,12 @@ use Rattle.std.specs.Str.{bytes_eq}
 use Rattle.sa_base.specs.declared.limits.TheConstants.{MAX_BURST, MAX_EVENTS, DEFAULT_BUDGET, DEFAULT_BURST}
 use Rattle.sa_command.specs.declared.command.ScheduleWord.TheVariants.{RoundRobin}
 use Rattle.sa_command.specs.declared.command.Command.{Command}
-use Rattle.sa_command.specs.declared.command.Command.TheVariants.{Run, Threads, Load, Migrate}
+use Rattle.sa_command.specs.declared.command.Command.TheVariants.{Run, Threads, Load, Migrate, Vp, Debug}
 use Rattle.sa_command.specs.declared.options.Options.{Options}
 use Rattle.sa_command.specs.declared.options.Settings.{Settings}
 use Rattle.sa_text.specs.Number.{number_of}
 use Rattle.sa_command.specs.Values.{within, number_within, schedule_of}
-use Rattle.sa_command.specs.Commands.{with_schedule, with_budget, with_burst, with_option, settings_of, nothing_set, set_by, run_of, threads_of, load_of, migrate_of, check_of, named, command_of}
+use Rattle.sa_command.specs.Commands.{with_schedule, with_budget, with_burst, with_option, settings_of, nothing_set, set_by, run_of, threads_of, load_of, migrate_of, check_of, vp_of, debug_of, named, command_of}
 use Rattle.sa_command.specs.Ranges.{IsFrom, IsInRange, CommandsAreInRange}
 
 -- what holds of the value, if there is one, holds behind a step that keeps it
@@ -121,9 +121,22 @@ check-range : (words : List (List ℕ)) → IfSome (check_of words) IsInRange
 check-range [] = tt
 check-range (word ∷ words) = tt
 
+vp-range : (words : List (List ℕ)) → IfSome (vp_of words) IsInRange
+vp-range words =
+    mapped AreFine IsInRange (λ s. Vp (unwrap_or s.schedule RoundRobin) (unwrap_or s.budget DEFAULT_BUDGET))
+    (set_by (record { schedule = true; budget = true; burst = false }) words) (set-range (record { schedule = true; budget = true; burst = false }) words)
+    (λ s h. budget-range s.budget h.budget)
+
+debug-range : (words : List (List ℕ)) → IfSome (debug_of words) IsInRange
+debug-range words =
+    mapped AreFine IsInRange (λ s. Debug (unwrap_or s.budget DEFAULT_BUDGET)) (set_by (record { schedule = false; budget = true; burst = false }) words)
+    (set-range (record { schedule = false; budget = true; burst = false }) words) (λ s h. budget-range s.budget h.budget)
+
 named-range : (name : List ℕ) (words : List (List ℕ)) → IfSome (named name words) IsInRange
 named-range name words =
-    let checks = if bytes_eq name (codes "check") then check_of words else None in
+    let debugs = if bytes_eq name (codes "debug") then debug_of words else None in
+    let virtual = if bytes_eq name (codes "vp") then vp_of words else debugs in
+    let checks = if bytes_eq name (codes "check") then check_of words else virtual in
     let migrates = if bytes_eq name (codes "migrate") then migrate_of words else checks in
     let loads = if bytes_eq name (codes "load") then load_of words else migrates in
     let threads = if bytes_eq name (codes "threads") then threads_of words else loads in
@@ -131,7 +144,9 @@ named-range name words =
     (chosen IsInRange (bytes_eq name (codes "threads")) (threads_of words) loads (threads-range words)
     (chosen IsInRange (bytes_eq name (codes "load")) (load_of words) migrates (load-range words)
     (chosen IsInRange (bytes_eq name (codes "migrate")) (migrate_of words) checks (migrate-range words)
-    (chosen IsInRange (bytes_eq name (codes "check")) (check_of words) None (check-range words) tt))))
+    (chosen IsInRange (bytes_eq name (codes "check")) (check_of words) virtual (check-range words)
+    (chosen IsInRange (bytes_eq name (codes "vp")) (vp_of words) debugs (vp-range words)
+    (chosen IsInRange (bytes_eq name (codes "debug")) (debug_of words) None (debug-range words) tt))))))
 
 command-range : (words : List (List ℕ)) → IfSome (command_of words) IsInRange
 command-range [] = tt

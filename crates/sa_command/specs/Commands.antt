@@ -6,7 +6,7 @@ use Rattle.std.specs.Str.{bytes_eq}
 use Rattle.sa_base.specs.declared.limits.TheConstants.{MAX_BURST, MAX_EVENTS, DEFAULT_BUDGET, DEFAULT_BURST}
 use Rattle.sa_command.specs.declared.command.ScheduleWord.TheVariants.{RoundRobin}
 use Rattle.sa_command.specs.declared.command.Command.{Command}
-use Rattle.sa_command.specs.declared.command.Command.TheVariants.{Run, Threads, Load, Migrate, Check}
+use Rattle.sa_command.specs.declared.command.Command.TheVariants.{Run, Threads, Load, Migrate, Check, Vp, Debug}
 use Rattle.sa_command.specs.declared.options.Options.{Options}
 use Rattle.sa_command.specs.declared.options.Settings.{Settings}
 use Rattle.sa_text.specs.Number.{number_of}
@@ -52,6 +52,8 @@ set_by taken words = settings_of taken nothing_set words
 --   load N      N any         --budget
 --   migrate N   1 to the greatest number of events
 --   check
+--   vp                        --schedule, --budget
+--   debug                     --budget
 abbrev pub run_of : List (List ℕ) → Option Command
 run_of words =
     option_map (λ s. Run (unwrap_or s.schedule RoundRobin) (unwrap_or s.budget DEFAULT_BUDGET)) (set_by (record { schedule = true; budget = true; burst = false }) words)
@@ -74,13 +76,23 @@ abbrev pub check_of : List (List ℕ) → Option Command
 check_of [] = Some Check
 check_of (word ∷ words) = None
 
+abbrev pub vp_of : List (List ℕ) → Option Command
+vp_of words =
+    option_map (λ s. Vp (unwrap_or s.schedule RoundRobin) (unwrap_or s.budget DEFAULT_BUDGET)) (set_by (record { schedule = true; budget = true; burst = false }) words)
+
+abbrev pub debug_of : List (List ℕ) → Option Command
+debug_of words =
+    option_map (λ s. Debug (unwrap_or s.budget DEFAULT_BUDGET)) (set_by (record { schedule = false; budget = true; burst = false }) words)
+
 abbrev pub named : List ℕ → List (List ℕ) → Option Command
 named name words =
     if bytes_eq name (codes "run") then run_of words
     else (if bytes_eq name (codes "threads") then threads_of words
     else (if bytes_eq name (codes "load") then load_of words
     else (if bytes_eq name (codes "migrate") then migrate_of words
-    else (if bytes_eq name (codes "check") then check_of words else None))))
+    else (if bytes_eq name (codes "check") then check_of words
+    else (if bytes_eq name (codes "vp") then vp_of words
+    else (if bytes_eq name (codes "debug") then debug_of words else None))))))
 
 -- the command of the words behind the program's name
 abbrev pub command_of : List (List ℕ) → Option Command

@@ -2,7 +2,7 @@
 use Rattle.std.specs.Prelude.{◌≡◌, ℕ, ◌≤◌, ⊤, List, Some}
 use Rattle.sa_base.specs.declared.limits.TheConstants.{MAX_BURST, MAX_EVENTS}
 use Rattle.sa_command.specs.declared.command.Command.{Command}
-use Rattle.sa_command.specs.declared.command.Command.TheVariants.{Run, Threads, Load, Migrate, Check}
+use Rattle.sa_command.specs.declared.command.Command.TheVariants.{Run, Threads, Load, Migrate, Check, Vp, Debug}
 use Rattle.sa_command.specs.Commands.{command_of}
 
 pub record IsFrom (low high n : ℕ) : Type 0 where
@@ -16,6 +16,8 @@ IsInRange (Threads budget burst) = IsFrom 1 MAX_EVENTS budget × IsFrom 1 MAX_BU
 IsInRange (Load number budget) = IsFrom 1 MAX_EVENTS budget
 IsInRange (Migrate slice) = IsFrom 1 MAX_EVENTS slice
 IsInRange Check = ⊤
+IsInRange (Vp schedule budget) = IsFrom 1 MAX_EVENTS budget
+IsInRange (Debug budget) = IsFrom 1 MAX_EVENTS budget
 
 abbrev pub CommandsAreInRange : Type 0
 CommandsAreInRange = (words : List (List ℕ)) (command : Command) → command_of words ≡ Some command → IsInRange command

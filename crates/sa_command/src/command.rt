@@ -25,6 +25,10 @@ pub enum Command {
     Load { number: u64, budget: u64 },
     /// Writes the workload of standard input with this slice, 1 to 1,000,000.
     Migrate { slice: u32 },
+    /// Runs the workload of standard input on virtual processors, for at most so many events, 1 to 1,000,000.
+    Vp { schedule: ScheduleWord, budget: u64 },
     /// Judges the trace text of standard input beside the workload text that stands before it.
     Check,
+    /// Debugs the workload of standard input by the script that stands behind it, for at most so many events, 1 to 1,000,000.
+    Debug { budget: u64 },
 }

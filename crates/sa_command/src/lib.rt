@@ -2,11 +2,13 @@
 #![tactic(auto)]
 
 mod command;
+mod debug;
 pub mod laws;
 mod options;
 mod read;
 mod threads;
 mod value;
+mod vp;
 mod words;
 
 pub use command::{Command, ScheduleWord};

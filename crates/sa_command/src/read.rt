@@ -2,9 +2,11 @@ ghost use Rattle.std.specs.Prelude.{◌≡◌, map, string_bytes};
 ghost use Rattle.sa_command.specs.Commands.{command_of, named, run_of, load_of, migrate_of, check_of};
 
 use crate::command::{Command, ScheduleWord};
+use crate::debug::read_debug;
 use crate::options::{Options, read_options};
 use crate::threads::read_threads;
 use crate::value::read_within;
+use crate::vp::read_vp;
 use crate::words::Words;
 use sa_base::{DEFAULT_BUDGET, MAX_EVENTS};
 use sa_text::read_number;
@@ -43,6 +45,12 @@ fn read_named(name: &str, words: &[String]) -> Option<Command>
     }
     if name == "check" {
         return read_check(words);
+    }
+    if name == "vp" {
+        return read_vp(words);
+    }
+    if name == "debug" {
+        return read_debug(words);
     }
     None
 }

@@ -1,5 +1,5 @@
 use Rattle.std.proofs.Common.{Some, refl, sym, ap, subst, ◌∙◌}
-use Rattle.sa_command.specs.declared.command.Command.TheVariants.{Run, Load, Migrate, Check}
+use Rattle.sa_command.specs.declared.command.Command.TheVariants.{Run, Load, Migrate, Check, Vp, Debug}
 use Rattle.sa_cli.specs.declared.outcome.Ran.TheVariants.{Nothing}
 use Rattle.sa_cli.specs.declared.outcome.Status.{Status}
 use Rattle.sa_cli.specs.Answers.{world}
@@ -66,3 +66,23 @@ returns-in-Some-Check-clause-complete g c =
           (world (g.S.Source.left c.check_texts.new.source) (g.K.Sink.taken c.check_texts.new.sink) (g.S.Source.faults c.check_texts.new.source) (g.K.Sink.faults c.check_texts.new.sink)) v)
           (sym c.nothing-in-Some-Check.ensures.status) c.check_texts.ensures.answers,
     )
+
+pub run_virtual-requires-clause-some : goal.run_virtual-requires-clause-some
+run_virtual-requires-clause-some g c = (c.commands_are_in_range.ensures c.args.words.now (Vp c.in-Some-Vp.schedule c.in-Some-Vp.budget) (sym c.read_words.ensures ∙ c.in-Some-Vp.is ∙ ap Some c.in-Some-Vp.field-0-is)).least
+
+pub run_virtual-requires-clause-few : goal.run_virtual-requires-clause-few
+run_virtual-requires-clause-few g c = (c.commands_are_in_range.ensures c.args.words.now (Vp c.in-Some-Vp.schedule c.in-Some-Vp.budget) (sym c.read_words.ensures ∙ c.in-Some-Vp.is ∙ ap Some c.in-Some-Vp.field-0-is)).most
+
+pub returns-in-Some-Vp-clause-complete : goal.returns-in-Some-Vp-clause-complete
+returns-in-Some-Vp-clause-complete g c =
+    complete-to _ (Vp c.in-Some-Vp.schedule c.in-Some-Vp.budget) _ _ c.run_virtual.result.ran _ (sym c.read_words.ensures ∙ c.in-Some-Vp.is ∙ ap Some c.in-Some-Vp.field-0-is) c.run_virtual.ensures.answers
+
+pub debug_texts-requires-clause-some : goal.debug_texts-requires-clause-some
+debug_texts-requires-clause-some g c = (c.commands_are_in_range.ensures c.args.words.now (Debug c.in-Some-Debug.budget) (sym c.read_words.ensures ∙ c.in-Some-Debug.is ∙ ap Some c.in-Some-Debug.field-0-is)).least
+
+pub debug_texts-requires-clause-few : goal.debug_texts-requires-clause-few
+debug_texts-requires-clause-few g c = (c.commands_are_in_range.ensures c.args.words.now (Debug c.in-Some-Debug.budget) (sym c.read_words.ensures ∙ c.in-Some-Debug.is ∙ ap Some c.in-Some-Debug.field-0-is)).most
+
+pub returns-in-Some-Debug-clause-complete : goal.returns-in-Some-Debug-clause-complete
+returns-in-Some-Debug-clause-complete g c =
+    complete-to _ (Debug c.in-Some-Debug.budget) _ _ c.debug_texts.result.ran _ (sym c.read_words.ensures ∙ c.in-Some-Debug.is ∙ ap Some c.in-Some-Debug.field-0-is) c.debug_texts.ensures.answers

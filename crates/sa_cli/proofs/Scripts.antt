@@ -1,0 +1,120 @@
+-- An input of a workload and a script is found to be one thing.
+use Rattle.std.proofs.Common.{◌≡◌, ℕ, ◌≤◌, ◌⊎◌, List, [], ◌++◌, length, Option, Some, None, Ok, Err, refl, sym, ap, ◌∙◌, subst, arith, inl, inr, length-append}
+use Rattle.std.proofs.lemmas.List.{append-nil}
+use Rattle.std.specs.Prelude.{IfSome, ◌↔◌}
+use Rattle.sa_base.specs.Recorded.{Recorded}
+use Rattle.sa_base.specs.declared.record.End.{End}
+use Rattle.sa_base.specs.declared.record.Item.{Item}
+use Rattle.sa_base.specs.declared.refusal.Bad.{Bad}
+use Rattle.sa_spaces.specs.Workload.{WorkloadView}
+use Rattle.sa_workload.specs.Bad.{BadAt}
+use Rattle.sa_workload.specs.Text.{IsText}
+use Rattle.sa_workload.proofs.whole.OneBad.{texts_differ}
+use Rattle.sa_trace.specs.TraceText.{trace_text}
+use Rattle.sa_script.specs.declared.command.DebugCommand.{DebugCommand}
+use Rattle.sa_script.specs.Reading.{script_of}
+use Rattle.sa_cli.specs.declared.debug.TheConstants.{SCRIPTS_LIMIT}
+use Rattle.sa_cli.specs.declared.outcome.Ran.{Ran}
+use Rattle.sa_cli.specs.declared.outcome.Status.{Status}
+use Rattle.sa_cli.specs.declared.outcome.Status.TheVariants as status
+use Rattle.sa_cli.specs.Answers.{World}
+use Rattle.sa_cli.specs.Complete.{Debugs}
+use Rattle.sa_cli.specs.Debugging.{BeginsWith, IsScriptOf, RefusesWorkload, RefusesScript, Scripted, IsScripted, status_of_scripted, GaveScripted, AnswersDebug}
+use Rattle.sa_cli.specs.Debugging.Scripted.{Accepted, BadWorkload, BadScript}
+use Rattle.sa_cli.specs.Input.{ReadsInput}
+use Rattle.sa_cli.specs.Refusals.{too_long}
+use Rattle.sa_cli.specs.Texts.{workload_part, trace_part}
+use Rattle.sa_cli.proofs.Inputs.{all-parted, refused-once, text-not_refused}
+use Rattle.sa_cli.proofs.Refusals.{long-front}
+
+one-workload : (input : List ℕ) (w v : WorkloadView) → BeginsWith input w → BeginsWith input v → w ≡ v
+one-workload input w v x y = texts_differ (workload_part input) w v x.is y.is
+
+not-both : (input : List ℕ) (w : WorkloadView) (bad : Bad) → BeginsWith input w → RefusesWorkload input bad → ⊥
+not-both input w bad has wrong = text-not_refused IsText BadAt all-parted (workload_part input) w bad has.is has.short wrong.refused
+
+one-script : (input : List ℕ) (w v : WorkloadView) (cs ds : List DebugCommand) → IsScriptOf input w cs → IsScriptOf input v ds → Accepted w cs ≡ Accepted v ds
+one-script input w v cs ds x y =
+    let same = one-workload input w v x.has y.has in
+    let e : Ok cs ≡ Ok ds = sym x.read ∙ ap (λ u. script_of u (trace_part input)) same ∙ y.read in
+    let commands : cs ≡ ds = cc in
+    ap (λ u. Accepted u cs) same ∙ ap (λ xs. Accepted v xs) commands
+
+not-script : (input : List ℕ) (w : WorkloadView) (cs : List DebugCommand) (bad : Bad) → IsScriptOf input w cs → RefusesScript input bad → ⊥
+not-script input w cs bad x y =
+    let e : Ok cs ≡ Err bad = sym x.read ∙ ap (λ u. script_of u (trace_part input)) (one-workload input w y.workload x.has y.has) ∙ y.read in cc
+
+one-refusal : (input : List ℕ) (a b : Bad) → RefusesScript input a → RefusesScript input b → a ≡ b
+one-refusal input a b x y =
+    let e : Err a ≡ Err b = sym x.read ∙ ap (λ u. script_of u (trace_part input)) (one-workload input x.workload y.workload x.has y.has) ∙ y.read in cc
+
+one-scripted : (input : List ℕ) (a b : Scripted) → IsScripted input a → IsScripted input b → a ≡ b
+one-scripted input (Accepted w cs) (Accepted v ds) x y = one-script input w v cs ds x y
+one-scripted input (Accepted w cs) (BadWorkload b) x y = absurd (not-both input w b x.has y)
+one-scripted input (Accepted w cs) (BadScript b) x (inl long) = let whole = x.has.whole in absurd (omega (arith, long.0))
+one-scripted input (Accepted w cs) (BadScript b) x (inr wrong) = absurd (not-script input w cs b x wrong)
+one-scripted input (BadWorkload a) (Accepted v ds) x y = absurd (not-both input v a y.has x)
+one-scripted input (BadWorkload a) (BadWorkload b) x y = ap BadWorkload (refused-once IsText BadAt all-parted (workload_part input) a b x.refused y.refused)
+one-scripted input (BadWorkload a) (BadScript b) x (inl long) = let whole = x.whole in absurd (omega (arith, long.0))
+one-scripted input (BadWorkload a) (BadScript b) x (inr wrong) = absurd (not-both input wrong.workload a wrong.has x)
+one-scripted input (BadScript a) (Accepted v ds) (inl long) y = let whole = y.has.whole in absurd (omega (arith, long.0))
+one-scripted input (BadScript a) (Accepted v ds) (inr wrong) y = absurd (not-script input v ds a y wrong)
+one-scripted input (BadScript a) (BadWorkload b) (inl long) y = let whole = y.whole in absurd (omega (arith, long.0))
+one-scripted input (BadScript a) (BadWorkload b) (inr wrong) y = absurd (not-both input wrong.workload b wrong.has y)
+one-scripted input (BadScript a) (BadScript b) (inl long) (inl more) = ap BadScript (long.1 ∙ sym more.1)
+one-scripted input (BadScript a) (BadScript b) (inl long) (inr wrong) = let whole = wrong.has.whole in absurd (omega (arith, long.0))
+one-scripted input (BadScript a) (BadScript b) (inr wrong) (inl long) = let whole = wrong.has.whole in absurd (omega (arith, long.0))
+one-scripted input (BadScript a) (BadScript b) (inr x) (inr y) = ap BadScript (one-refusal input a b x y)
+
+-- the same of what a source told
+told-once : (left : Option (List ℕ)) (input : List ℕ) (a b : Scripted) → left ≡ Some input
+    → IfSome left (λ whole. IsScripted whole a) → IsScripted input b → a ≡ b
+told-once left input a b told found is =
+    let P : Option (List ℕ) → Type 0 = λ o. IfSome o (λ whole. IsScripted whole a) in one-scripted input a b (subst P told found) is
+
+whole-of : (input : List ℕ) (a : Scripted) → IsScripted input a → (xs ys : List ℕ) → xs ≡ input ++ ys → ys ≡ [] → IsScripted xs a
+whole-of input a found xs ys is none =
+    let same : input ≡ xs = sym (is ∙ ap (λ v. input ++ v) none ∙ append-nil input) in
+    let P : List ℕ → Type 0 = λ v. IsScripted v a in subst P same found
+
+-- what is found of the input as it was read is what it is found to be
+read-scripted : (before after : Option (List ℕ)) (bytes : List ℕ) (a : Scripted) → ReadsInput SCRIPTS_LIMIT before after bytes → IsScripted bytes a
+    → IfSome before (λ whole. IsScripted whole a)
+read-scripted None after bytes a reads found = tt
+read-scripted (Some xs) None bytes a reads found = absurd reads.taken
+read-scripted (Some xs) (Some ys) bytes (Accepted w cs) reads found =
+    whole-of bytes (Accepted w cs) found xs ys reads.taken (reads.end refl found.has.whole)
+read-scripted (Some xs) (Some ys) bytes (BadWorkload bad) reads found =
+    whole-of bytes (BadWorkload bad) found xs ys reads.taken (reads.end refl found.whole)
+read-scripted (Some xs) (Some ys) bytes (BadScript bad) reads (inl long) =
+    let more = length-append bytes ys in
+    let len = ap length reads.taken in
+    inl (
+      omega (arith, long.0),
+      long.1 ∙ sym (ap (too_long SCRIPTS_LIMIT) reads.taken ∙ long-front SCRIPTS_LIMIT bytes ys (omega (arith, long.0))),
+    )
+read-scripted (Some xs) (Some ys) bytes (BadScript bad) reads (inr wrong) =
+    whole-of bytes (BadScript bad) (inr wrong) xs ys reads.taken (reads.end refl wrong.has.whole)
+
+pub gave-scripted : (before after : Option (List ℕ)) (bytes : List ℕ) (a : Scripted) → ReadsInput SCRIPTS_LIMIT before after bytes → IsScripted bytes a → GaveScripted before after a
+gave-scripted before after bytes a reads is = record { input = bytes; reads = reads; is = is; told = read-scripted before after bytes a reads is }
+
+-- `debug` is complete
+pub debug-debugs : (budget : ℕ) (old new : World) (ran : Ran) (s : Status) → AnswersDebug budget old new ran s → Debugs old new s
+debug-debugs budget old new ran status.Quit answers = λ input found told is reads writes.
+    inl (ap status_of_scripted (told-once old.left input (Accepted answers.workload answers.commands) found told answers.gave.told is))
+debug-debugs budget old new ran (status.BadWorkload bad) answers = λ input found told is reads writes.
+    inl (ap status_of_scripted (told-once old.left input (BadWorkload bad) found told answers.0.told is))
+debug-debugs budget old new ran (status.BadScript bad) answers = λ input found told is reads writes.
+    inl (ap status_of_scripted (told-once old.left input (BadScript bad) found told answers.0.told is))
+debug-debugs budget old new ran status.OutOfMemory answers = λ input found told is reads writes. inr refl
+debug-debugs budget old new ran status.ReadFault answers = λ input found told is reads writes. absurd (reads answers.0)
+debug-debugs budget old new ran status.WriteFault answers = λ input found told is reads writes. absurd (writes answers.0)
+debug-debugs budget old new ran status.AllDone answers = absurd answers
+debug-debugs budget old new ran status.Stuck answers = absurd answers
+debug-debugs budget old new ran status.Budget answers = absurd answers
+debug-debugs budget old new ran status.Usage answers = absurd answers
+debug-debugs budget old new ran status.Migrated answers = absurd answers
+debug-debugs budget old new ran status.Checked answers = absurd answers
+debug-debugs budget old new ran (status.Broken event rule) answers = absurd answers
+debug-debugs budget old new ran (status.BadTrace bad) answers = absurd answers

@@ -1,0 +1,92 @@
+-- What the parts of `debug` say together.
+use Rattle.std.proofs.Common.{◌≡◌, ◌⊎◌, ℕ, ◌≤◌, List, [], ◌++◌, length, Option, Some, None, Ok, Err, refl, sym, ap, ◌∙◌, subst, inl, inr, append-nil}
+use Rattle.std.specs.Prelude.{OnOk, OnErr, Result}
+use Rattle.std.specs.Io.KnownBytes.{Appends}
+use Rattle.sa_base.specs.Recorded.{Recorded}
+use Rattle.sa_base.specs.declared.record.End.{End}
+use Rattle.sa_base.specs.declared.record.Item.{Item}
+use Rattle.sa_base.specs.declared.refusal.Bad.{Bad}
+use Rattle.sa_io.specs.Faults.{HasRisen, AppendsPrefix}
+use Rattle.sa_io.specs.Pieces.{GoesOut}
+use Rattle.sa_io.proofs.PieceLemmas.{out-none, out-both, out-cut}
+use Rattle.sa_trace.specs.TraceText.{trace_text}
+use Rattle.sa_cli.specs.declared.debug.Stopped.{Stopped}
+use Rattle.sa_cli.specs.declared.debug.Stopped.TheVariants as stopped
+use Rattle.sa_cli.specs.declared.debug.TheConstants.{SCRIPTS_LIMIT}
+use Rattle.sa_cli.specs.declared.input.ReadError.{ReadError}
+use Rattle.sa_cli.specs.declared.input.ReadError.TheVariants as read
+use Rattle.sa_cli.specs.declared.outcome.Ran.{Ran}
+use Rattle.sa_cli.specs.declared.outcome.Ran.TheVariants.{Nothing, Plain}
+use Rattle.sa_cli.specs.declared.outcome.Status.{Status}
+use Rattle.sa_cli.specs.declared.outcome.Status.TheVariants as status
+use Rattle.sa_cli.specs.Answers.{World, TookAll, TookSome, Writes}
+use Rattle.sa_cli.specs.Debugging.{Debugged, DebuggedSoFar, AnswersDebug}
+use Rattle.sa_cli.specs.Debugging.Scripted.{Accepted, BadWorkload, BadScript}
+use Rattle.sa_cli.specs.Input.{ReadsInput}
+use Rattle.sa_cli.specs.Outcome.{history, status_of}
+use Rattle.sa_cli.specs.Scripted.{IsDone, IsHalfDone, IsStopped}
+use Rattle.sa_cli.proofs.Scripts.{gave-scripted}
+
+-- the first text is cut, and the second one behind it
+pub first-cut : (before after : Option (List ℕ)) (first second : List ℕ) → AppendsPrefix before after first → AppendsPrefix before after (first ++ second)
+first-cut before after first second cut = out-cut before before after [] [] [] first second (out-none before []) cut
+
+pub second-cut : (before at after : Option (List ℕ)) (first between second : List ℕ) → GoesOut before at [] first between → AppendsPrefix at after (between ++ second)
+    → AppendsPrefix before after (first ++ second)
+second-cut before at after first between second out cut =
+    subst (λ (v : List ℕ). AppendsPrefix before after (first ++ v)) (append-nil second) (out-cut before at after [] first between second [] out cut)
+
+module _ (budget : ℕ) (old new : World) where
+  -- a session that is over was written, or cut
+  pub over-answers : (bytes replies : List ℕ) (trace : Recorded) (end : End) (events : ℕ) (ran : Ran) (s : Status) → ReadsInput SCRIPTS_LIMIT old.left new.left bytes
+      → IsDone budget bytes replies trace.items end events → ran ≡ Plain trace
+      → Writes old.taken new.taken old.writes new.writes (replies ++ trace_text trace.items end events) status.Quit s → AnswersDebug budget old new ran s
+  over-answers bytes replies trace end events ran s reads done is wrote =
+      let debugged : (goes : List ℕ → Type 0) → goes (replies ++ trace_text trace.items end events) → Debugged budget old new goes (history ran) =
+      λ goes went. subst (λ (r : Ran). Debugged budget old new goes (history r)) (sym is) (record {
+        workload = done.workload;
+        commands = done.commands;
+        gave = gave-scripted old.left new.left bytes (Accepted done.workload done.commands) reads done.is;
+        replies = replies;
+        end = end;
+        events = events;
+        over = done.over;
+        went = went;
+      }) in
+      elim wrote [
+        | inl all ↦ subst (λ (x : Status). AnswersDebug budget old new ran x) (sym all.0) (debugged (TookAll old new) all.1)
+        | inr some ↦ subst (λ (x : Status). AnswersDebug budget old new ran x) (sym some.0) (some.1, debugged (TookSome old new) some.2)
+      ]
+
+  -- a refusal
+  pub workload-answers : (bytes : List ℕ) (bad : Bad) (ran : Ran) (s : Status) → ReadsInput SCRIPTS_LIMIT old.left new.left bytes
+      → IsStopped budget bytes (stopped.BadWorkload bad) → ran ≡ Nothing → s ≡ status.BadWorkload bad → AnswersDebug budget old new ran s
+  workload-answers bytes bad ran s reads wrong none is =
+      subst (λ (x : Status). AnswersDebug budget old new ran x) (sym is) (gave-scripted old.left new.left bytes (BadWorkload bad) reads wrong, none)
+
+  pub script-answers : (bytes : List ℕ) (bad : Bad) (ran : Ran) (s : Status) → ReadsInput SCRIPTS_LIMIT old.left new.left bytes
+      → IsStopped budget bytes (stopped.BadScript bad) → ran ≡ Nothing → s ≡ status.BadScript bad → AnswersDebug budget old new ran s
+  script-answers bytes bad ran s reads wrong none is =
+      subst (λ (x : Status). AnswersDebug budget old new ran x) (sym is) (gave-scripted old.left new.left bytes (BadScript bad) reads wrong, none)
+
+  -- memory ran out
+  pub half-answers : (bytes : List ℕ) (trace : Recorded) (ran : Ran) (s : Status) → ReadsInput SCRIPTS_LIMIT old.left new.left bytes
+      → IsStopped budget bytes (stopped.OutOfMemory trace) → ran ≡ Plain trace → s ≡ status.OutOfMemory → AnswersDebug budget old new ran s
+  half-answers bytes trace ran s reads part is what =
+      subst (λ (x : Status). AnswersDebug budget old new ran x) (sym what)
+      (subst (λ (r : Ran). (history r ≡ []) ⊎ DebuggedSoFar budget old new (history r)) (sym is) (elim part [
+        | inl none ↦ inl none
+        | inr half ↦ inr (record {
+          workload = half.workload;
+          commands = half.commands;
+          gave = gave-scripted old.left new.left bytes (Accepted half.workload half.commands) reads half.is;
+          came = half.came;
+        })
+      ]))
+
+  -- nothing was read
+  pub unread-answers : (error : ReadError) (ran : Ran) (s : Status) → (error ≡ read.Fault → HasRisen old.reads new.reads) → ran ≡ Nothing → s ≡ status_of error
+      → AnswersDebug budget old new ran s
+  unread-answers read.Fault ran s rose none is = subst (λ (x : Status). AnswersDebug budget old new ran x) (sym is) (rose refl, none)
+  unread-answers read.OutOfMemory ran s rose none is =
+      subst (λ (x : Status). AnswersDebug budget old new ran x) (sym is) (inl (ap history none))

@@ -1,0 +1,148 @@
+// The command `debug`.
+ghost use Rattle.std.specs.Prelude.{◌≡◌, ◌≤◌, ◌++◌, List, ℕ, IfOk, IfErr, OnOk, OnErr};
+ghost use Rattle.std.specs.Io.KnownBytes.{Appends};
+ghost use Rattle.sa_io.specs.Faults.{HasRisen, AppendsPrefix};
+ghost use Rattle.sa_trace.specs.TraceText.{trace_text};
+ghost use Rattle.sa_cli.specs.declared.outcome.Ran.TheVariants.{Plain};
+ghost use Rattle.sa_cli.specs.Answers.{World, world, Writes};
+ghost use Rattle.sa_cli.specs.Debugging.{AnswersDebug};
+ghost use Rattle.sa_cli.specs.Input.{LosesPrefix};
+ghost use Rattle.sa_cli.specs.Outcome.{RanHere, WritesNothing};
+ghost use Rattle.sa_cli.specs.Scripted.{IsDone, IsStopped};
+
+use crate::found::workload_len;
+use crate::input::read_input;
+use crate::outcome::{Outcome, Status};
+use crate::output::put_run;
+use crate::reading::{refusal_of_long, workload_of};
+use crate::writing::status_of;
+use sa_base::{Bad, End, Item, MAX_EVENTS, Trace, Unread};
+use sa_debug_run::{Debugged, Undebugged, debug};
+use sa_io::{Failed, Pieces, Sink, Source};
+use std::alloc::Global;
+
+/// The longest input of a workload text and a script, in bytes.
+pub const SCRIPTS_LIMIT: usize = 2_097_152;
+
+// Why no session is over.
+#[derive(Debug, Drop)]
+enum Stopped {
+    // The first part of the input is no workload text.
+    BadWorkload(Bad),
+    // The input is too long, or the rest is no script.
+    BadScript(Bad),
+    // Memory ran out, with the trace so far.
+    OutOfMemory(Trace),
+}
+
+/// `debug`: the session of the source's workload by the script that stands behind it, within the budget; writes the replies
+/// and the trace text, once the session is over.
+pub(crate) fn debug_texts<S: Source, K: Sink>(
+    alloc: Global,
+    budget: u64,
+    source: &mut S,
+    sink: &mut K,
+) -> Outcome
+    requires some { 1 ≤ budget }
+    requires few { budget ≤ MAX_EVENTS }
+    ensures here { RanHere result.ran }
+    ensures unwritten { WritesNothing result.status → sink.new ≡ sink.old }
+    ensures lost { LosesPrefix (S.left source.old) (S.left source.new) }
+    ensures reads_counted { S.faults source.old ≤ S.faults source.new }
+    ensures writes_counted { K.faults sink.old ≤ K.faults sink.new }
+    ensures answers { let before : World
+        = world (S.left source.old) (K.taken sink.old) (S.faults source.old) (K.faults sink.old) in
+        let after : World
+        = world (S.left source.new) (K.taken sink.new) (S.faults source.new) (K.faults sink.new) in
+        AnswersDebug budget before after result.ran result.status }
+{
+    let input = match read_input(alloc, SCRIPTS_LIMIT, source) {
+        Ok(input) => input,
+        Err(error) => return Outcome::nothing(Status::from(error)),
+    };
+    match debugged(alloc, &input, budget) {
+        Ok(debugged) => write_session(debugged, sink),
+        Err(Stopped::BadWorkload(bad)) => Outcome::nothing(Status::BadWorkload(bad)),
+        Err(Stopped::BadScript(bad)) => Outcome::nothing(Status::BadScript(bad)),
+        Err(Stopped::OutOfMemory(trace)) => Outcome::plain(Status::OutOfMemory, trace),
+    }
+}
+
+// The session of the input, once it is over.
+fn debugged(alloc: Global, input: &[u8], budget: u64) -> Result<Debugged, Stopped>
+    requires some { 1 ≤ budget }
+    requires few { budget ≤ MAX_EVENTS }
+    ensures ok { IfOk result (λ x. IsDone budget input.now x.replies.items x.trace.items x.end x.events) }
+    ensures err { IfErr result (IsStopped budget input.now) }
+{
+    if input.len() > SCRIPTS_LIMIT {
+        return Err(Stopped::BadScript(refusal_of_long(SCRIPTS_LIMIT, input)));
+    }
+    let (first, second) = input.split_at(workload_len(input));
+    match workload_of(alloc, first) {
+        Ok(workload) => match debug(alloc, workload, second, budget) {
+            Ok(debugged) => Ok(debugged),
+            Err(Undebugged::BadScript(bad)) => Err(Stopped::BadScript(bad)),
+            Err(Undebugged::OutOfMemory(trace)) => Err(Stopped::OutOfMemory(trace)),
+        },
+        Err(Unread::Bad(bad)) => Err(Stopped::BadWorkload(bad)),
+        Err(Unread::OutOfMemory) => Err(Stopped::OutOfMemory(Trace::new(alloc))),
+    }
+}
+
+// Writes the replies and the trace text of a session that is over. It takes no memory.
+fn write_session<K: Sink>(debugged: Debugged, sink: &mut K) -> Outcome
+    ensures ran { result.ran ≡ Plain debugged.trace }
+    ensures status { Writes (K.taken sink.old) (K.taken sink.new)
+        (K.faults sink.old) (K.faults sink.new)
+        (debugged.replies.items ++ trace_text debugged.trace.items debugged.end debugged.events)
+        Status.Quit result.status }
+    ensures unwritten { WritesNothing result.status → sink.new ≡ sink.old }
+    ensures counted { K.faults sink.old ≤ K.faults sink.new }
+{
+    let Debugged {
+        replies,
+        trace,
+        end,
+        events,
+    } = debugged;
+    let status = session_written(sink, &replies, trace.items(), end, events);
+    Outcome::plain(status, trace)
+}
+
+// Writes the replies, and behind them the trace text of these items, this end and this number of events.
+fn session_written<K: Sink>(
+    sink: &mut K,
+    replies: &[u8],
+    items: &[Item],
+    end: End,
+    events: u64,
+) -> Status
+    ensures status { Writes (K.taken sink.old) (K.taken sink.new) (K.faults sink.old) (K.faults sink.new)
+        (replies.now ++ trace_text items.now end events) Status.Quit result }
+    ensures unwritten { WritesNothing result → sink.new ≡ sink.old }
+    ensures counted { K.faults sink.old ≤ K.faults sink.new }
+{
+    status_of(put_session(sink, replies, items, end, events), Status::Quit)
+}
+
+// The same, as a write.
+fn put_session<K: Sink>(
+    sink: &mut K,
+    replies: &[u8],
+    items: &[Item],
+    end: End,
+    events: u64,
+) -> Result<(), Failed>
+    ensures ok { OnOk result (Appends (K.taken sink.old) (K.taken sink.new)
+        (replies.now ++ trace_text items.now end events)) }
+    ensures err { OnErr result (AppendsPrefix (K.taken sink.old) (K.taken sink.new)
+        (replies.now ++ trace_text items.now end events)) }
+    ensures fault { OnErr result (HasRisen (K.faults sink.old) (K.faults sink.new)) }
+    ensures counted { K.faults sink.old ≤ K.faults sink.new }
+{
+    let mut pieces = Pieces::new();
+    pieces.put(sink, replies)?;
+    put_run(&mut pieces, sink, items, end, events)?;
+    pieces.end(sink)
+}

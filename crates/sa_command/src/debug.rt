@@ -1,0 +1,21 @@
+// The command `debug`.
+ghost use Rattle.std.specs.Prelude.{◌≡◌, map, string_bytes};
+ghost use Rattle.sa_command.specs.Commands.{debug_of};
+
+use crate::command::Command;
+use crate::options::{Options, read_options};
+use sa_base::DEFAULT_BUDGET;
+
+pub(crate) fn read_debug(words: &[String]) -> Option<Command>
+    ensures { result ≡ debug_of (map string_bytes words.now) }
+{
+    let taken = Options {
+        schedule: false,
+        budget: true,
+        burst: false,
+    };
+    let settings = read_options(taken, words)?;
+    Some(Command::Debug {
+        budget: settings.budget.unwrap_or(DEFAULT_BUDGET),
+    })
+}

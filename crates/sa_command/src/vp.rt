@@ -1,0 +1,22 @@
+// The command `vp`.
+ghost use Rattle.std.specs.Prelude.{◌≡◌, map, string_bytes};
+ghost use Rattle.sa_command.specs.Commands.{vp_of};
+
+use crate::command::{Command, ScheduleWord};
+use crate::options::{Options, read_options};
+use sa_base::DEFAULT_BUDGET;
+
+pub(crate) fn read_vp(words: &[String]) -> Option<Command>
+    ensures { result ≡ vp_of (map string_bytes words.now) }
+{
+    let taken = Options {
+        schedule: true,
+        budget: true,
+        burst: false,
+    };
+    let settings = read_options(taken, words)?;
+    Some(Command::Vp {
+        schedule: settings.schedule.unwrap_or(ScheduleWord::RoundRobin),
+        budget: settings.budget.unwrap_or(DEFAULT_BUDGET),
+    })
+}
