@@ -2,6 +2,7 @@ ghost use Rattle.std.specs.Prelude.{◌≡◌, ℕ, ◌+◌, ◌*◌, ◌≤◌,
 ghost use Rattle.sa_share.specs.Share.{IsFirst, share_at};
 ghost use Rattle.sa_share.specs.Rounds.{shares_of};
 
+use crate::aims::{aimed, choice};
 use arrayvec::ArrayVec;
 use sa_base::{Item, ProcNo, Record, SpaceNo, Trace};
 use sa_share::{Claim, MAX_PROCESSORS, MAX_SPACES, shares};
@@ -9,6 +10,9 @@ use std::marker::Model;
 
 // How many processors there are at most, as a length.
 const PLACES: usize = MAX_PROCESSORS as usize;
+
+/// The most items that new aims say: an aim and its line of each processor.
+pub const AIM_ITEMS: usize = 2 * PLACES;
 
 /// Of each processor: the space that owns it, its aim, its interrupt line and its idle mark. The owner
 /// is the space whose activation runs there; the aim is the space that the policy gave it to; a raised
@@ -140,7 +144,7 @@ impl Assign {
     pub fn reaim(&mut self, claims: &[Claim], first: u16, item: Item, trace: &mut Trace)
         requires spaces { length claims.now ≤ MAX_SPACES }
         requires first { IsFirst first claims.now }
-        requires room { 32 ≤ trace.old.spare }
+        requires room { AIM_ITEMS ≤ trace.old.spare }
         ensures assign { self.new ≡ reaimed item.event (length claims.now)
             (shares_of (length self.old.owners) first claims.now) self.old }
         ensures items { trace.new.items ≡ trace.old.items ++ items_at item.event item.proc
@@ -148,7 +152,7 @@ impl Assign {
             (shares_of (length self.old.owners) first claims.now) self.old) }
         ensures met { let shares = shares_of (length self.old.owners) first claims.now in
             (s : ℕ) → s < length claims.now → share_at shares s ≤ aimed s self.new.aims }
-        ensures cost { trace.old.spare ≤ trace.new.spare + 32 }
+        ensures cost { trace.old.spare ≤ trace.new.spare + AIM_ITEMS }
         ensures spare { trace.new.spare + length trace.new.items
             ≡ trace.old.spare + length trace.old.items }
     {
@@ -186,7 +190,7 @@ impl Assign {
         ensures spare { trace.new.spare + length trace.new.items
             ≡ trace.old.spare + length trace.old.items }
     {
-        let Some(p) = self.choice(shares) else {
+        let Some(p) = choice(shares, &self.marks, &self.aims) else {
             return;
         };
         self.aims[usize::from(p)] = Some(s);
@@ -203,77 +207,11 @@ impl Assign {
         }
     }
 
-    // The processor for a space that misses one.
-    fn choice(&self, shares: &[u16; MAX_SPACES]) -> Option<u16>
-        ensures choice { result ≡ choice shares.now self.now.marks self.now.aims }
-        ensures within { IfSome result (λ p. p < length self.now.aims) }
-    {
-        if let Some(p) = self.first_without_aim() {
-            return Some(p);
-        }
-        if let Some(p) = self.first_idle(shares) {
-            return Some(p);
-        }
-        self.last_to_spare(shares)
-    }
-
-    // The lowest-numbered processor without an aim.
-    fn first_without_aim(&self) -> Option<u16>
-        ensures { result ≡ least_below (length self.now.aims) (has_no_aim self.now.aims) }
-    {
-        for p in 0..self.processors() {
-            if self.aims[usize::from(p)].is_none() {
-                return Some(p);
-            }
-        }
-        None
-    }
-
-    // The lowest-numbered processor that is marked idle and aimed at a space with more than its share.
-    fn first_idle(&self, shares: &[u16; MAX_SPACES]) -> Option<u16>
-        ensures { result ≡ least_below (length self.now.aims)
-            (is_idle_and_spared shares.now self.now.marks self.now.aims) }
-    {
-        for p in 0..self.processors() {
-            if self.marks[usize::from(p)] && self.can_be_spared(shares, p) {
-                return Some(p);
-            }
-        }
-        None
-    }
-
-    // The highest-numbered processor aimed at a space with more than its share.
-    fn last_to_spare(&self, shares: &[u16; MAX_SPACES]) -> Option<u16>
-        ensures { result ≡ greatest_below (length self.now.aims)
-            (can_be_spared shares.now self.now.aims) }
-    {
-        for p in (0..self.processors()).rev() {
-            if self.can_be_spared(shares, p) {
-                return Some(p);
-            }
-        }
-        None
-    }
-
-    // Whether the processor is aimed at a space with more than its share.
-    fn can_be_spared(&self, shares: &[u16; MAX_SPACES], p: u16) -> bool
-        requires { p < length self.now.aims }
-        ensures { result ≡ can_be_spared shares.now self.now.aims p }
-    {
-        match self.aims[usize::from(p)] {
-            None => false,
-            Some(s) => {
-                let share = shares.get(usize::from(s.0)).copied().unwrap_or(0);
-                usize::from(share) < self.aimed(s)
-            }
-        }
-    }
-
     /// How many processors are aimed at the space.
     pub fn aimed(&self, s: SpaceNo) -> usize
         ensures { result ≡ aimed s.0 self.now.aims }
     {
-        self.aims.iter().filter(|aim| **aim == Some(s)).count()
+        aimed(&self.aims, s)
     }
 
     /// The number of processors, 1 to 16.

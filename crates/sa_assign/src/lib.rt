@@ -1,7 +1,9 @@
 //! The assignment of processors to spaces.
 #![tactic(auto)]
 
+mod aims;
 mod assign;
 pub mod laws;
 
-pub use assign::Assign;
+pub use aims::{aimed, choice};
+pub use assign::{AIM_ITEMS, Assign};

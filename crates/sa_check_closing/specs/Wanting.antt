@@ -1,4 +1,4 @@
--- The moment of the opening behind its wants.
+-- The moment of the opening after its wants.
 use Rattle.sa_spaces.specs.Workload.{WorkloadView}
 use Rattle.sa_assign.specs.Reaim.{proc_no}
 use Rattle.sa_laws.specs.Readings.{opening_readings}

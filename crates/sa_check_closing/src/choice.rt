@@ -1,10 +1,11 @@
 // Which processors are aimed anew until each space has its share of aims.
-ghost use Rattle.std.specs.Prelude.{◌≡◌, ◌≤◌, ◌<◌, [], ◌∷◌, false, length, slice_index_or, IfSome, IfOk, OnOk};
-ghost use Rattle.sa_assign.specs.Aims.{Change, aimed, has_no_aim, can_be_spared, is_idle_and_spared, least_below, greatest_below, choice, missing, changes_for, changes};
+ghost use Rattle.std.specs.Prelude.{◌≡◌, ◌≤◌, ◌<◌, [], ◌∷◌, length, IfOk, OnOk};
+ghost use Rattle.sa_assign.specs.Aims.{Change, missing, changes_for, changes};
 ghost use Rattle.sa_check_shapes.specs.Due.{changes_of};
 ghost use Rattle.sa_check_closing.specs.Reaimed.{carried, reaimed};
 
 use arrayvec::ArrayVec;
+use sa_assign::{aimed, choice};
 use sa_base::{MAX_PROCESSORS, MAX_SPACES, ProcNo, SpaceNo};
 use sa_check_shapes::Aimed;
 use std::alloc::{AllocError, Global};
@@ -19,7 +20,7 @@ struct Reaimed {
     due: Vec<Aimed>,
 }
 
-// The aims that are missed by so many spaces with these shares, in the order of the spaces' numbers.
+// The aims that are missed by this many spaces with these shares, in the order of the spaces' numbers.
 pub(crate) fn changes(
     alloc: Global,
     spaces: u16,
@@ -78,88 +79,6 @@ fn aim(now: &mut Reaimed, p: u16, s: SpaceNo) -> Result<(), AllocError>
         space: s,
     })?;
     Ok(())
-}
-
-// The processor for a space that misses one.
-fn choice(shares: &[u16; MAX_SPACES], marks: &[bool], aims: &[Option<SpaceNo>]) -> Option<u16>
-    requires { length aims.now ≤ MAX_PROCESSORS }
-    ensures choice { result ≡ choice shares.now marks.now aims.now }
-    ensures within { IfSome result (λ p. p < length aims.now) }
-{
-    if let Some(p) = first_without_aim(aims) {
-        return Some(p);
-    }
-    if let Some(p) = first_idle(shares, marks, aims) {
-        return Some(p);
-    }
-    last_to_spare(shares, aims)
-}
-
-// The lowest-numbered processor without an aim.
-fn first_without_aim(aims: &[Option<SpaceNo>]) -> Option<u16>
-    requires { length aims.now ≤ MAX_PROCESSORS }
-    ensures { result ≡ least_below (length aims.now) (has_no_aim aims.now) }
-{
-    for p in 0..aims.len() {
-        if aims[p].is_none() {
-            return Some(p as u16);
-        }
-    }
-    None
-}
-
-// The lowest-numbered processor that is marked idle and aimed at a space with more than its share.
-fn first_idle(shares: &[u16; MAX_SPACES], marks: &[bool], aims: &[Option<SpaceNo>]) -> Option<u16>
-    requires { length aims.now ≤ MAX_PROCESSORS }
-    ensures { result ≡ least_below (length aims.now) (is_idle_and_spared shares.now marks.now aims.now) }
-{
-    for p in 0..aims.len() {
-        if is_idle(marks, p) && can_be_spared(shares, aims, p) {
-            return Some(p as u16);
-        }
-    }
-    None
-}
-
-// The highest-numbered processor aimed at a space with more than its share.
-fn last_to_spare(shares: &[u16; MAX_SPACES], aims: &[Option<SpaceNo>]) -> Option<u16>
-    requires { length aims.now ≤ MAX_PROCESSORS }
-    ensures { result ≡ greatest_below (length aims.now) (can_be_spared shares.now aims.now) }
-{
-    for p in (0..aims.len()).rev() {
-        if can_be_spared(shares, aims, p) {
-            return Some(p as u16);
-        }
-    }
-    None
-}
-
-// The processor is marked idle.
-fn is_idle(marks: &[bool], p: usize) -> bool
-    ensures { result ≡ slice_index_or marks.now p false }
-{
-    marks.get(p).copied().unwrap_or(false)
-}
-
-// The processor is aimed at a space with more than its share.
-fn can_be_spared(shares: &[u16; MAX_SPACES], aims: &[Option<SpaceNo>], p: usize) -> bool
-    requires { p < length aims.now }
-    ensures { result ≡ can_be_spared shares.now aims.now p }
-{
-    match aims[p] {
-        None => false,
-        Some(s) => {
-            let share = shares.get(usize::from(s.0)).copied().unwrap_or(0);
-            usize::from(share) < aimed(aims, s)
-        }
-    }
-}
-
-/// How many processors are aimed at the space.
-pub fn aimed(aims: &[Option<SpaceNo>], s: SpaceNo) -> usize
-    ensures { result ≡ aimed s.0 aims.now }
-{
-    aims.iter().filter(|aim| **aim == Some(s)).count()
 }
 
 // The same aims.

@@ -12,7 +12,6 @@ mod shares;
 mod wants;
 
 pub use aims::{aims_due, are_aims_due};
-pub use choice::aimed;
 pub use lines::{are_lines_due, lines_due};
 pub use opening::is_numbered;
 pub use prompt::{is_prompt, wants_nothing};

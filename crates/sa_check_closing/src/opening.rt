@@ -59,7 +59,7 @@ fn opening_records(alloc: Global, workload: &Workload) -> Result<Vec<Record>, Al
     opening_after(alloc, workload, &wanting)
 }
 
-// The same, where this is the moment behind the wants.
+// The same, where this is the moment after the wants.
 fn opening_after(
     alloc: Global,
     workload: &Workload,
@@ -86,7 +86,7 @@ fn first_wants(alloc: Global, workload: &Workload) -> Result<Vec<Record>, AllocE
     Ok(records)
 }
 
-// The moment behind these wants.
+// The moment after these wants.
 fn wanting(alloc: Global, workload: &Workload) -> Result<Moment, AllocError>
     ensures { IfOk result (λ m. seen m ≡ wanting workload.now) }
 {

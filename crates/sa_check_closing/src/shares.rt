@@ -5,8 +5,8 @@ ghost use Rattle.sa_assign.specs.Aims.{aimed};
 ghost use Rattle.sa_laws.specs.Closing.{claim_of, claims_of, first_space, shares_at};
 ghost use Rattle.sa_check_moment.specs.Seen.{seen};
 
-use crate::choice::aimed;
 use arrayvec::ArrayVec;
+use sa_assign::aimed;
 use sa_base::{MAX_SPACES, SpaceNo};
 use sa_check_moment::Moment;
 use sa_share::{Claim, shares};

@@ -13,7 +13,7 @@ use Rattle.sa_spaces.proofs.EvictionLemmas.{in_order}
 use Rattle.sa_devices.specs.declared.kind.IoKind.{IoKind}
 use Rattle.sa_devices.specs.declared.kind.IoKind.TheVariants.{Plain, Page, Upcall}
 use Rattle.sa_devices.specs.Ios.{Io, is_number, io_at, without, fetches, one_fetch}
-use Rattle.sa_devices.specs.Pages.{IsKind, gone, evicted, completed, with_page, without_page, upcall_page}
+use Rattle.sa_devices.specs.Pages.{IsKind, gone, evicted, completed, with_page, without_page, upcall_page, HasPage}
 use Rattle.sa_devices.specs.DevicesView.{IosView, begun_with, ended_with}
 use Rattle.sa_devices.specs.Sound.{IsSound}
 
@@ -214,6 +214,12 @@ pub IsSound-new : (ios : IosView) (fetching pages : List ℕ) (evictions : List 
 IsSound-new ios fetching pages evictions spaces none counted size in_range rise =
     subst (λ (v : IosView). IsSound v fetching pages evictions) (sym none)
     (subst (λ (xs : List ℕ). IsSound (record { begun = 0; under_way = []; spare = 0 }) xs pages evictions) (sym counted) (IsSound-opening 0 spaces pages evictions size in_range rise))
+
+-- the page of an I/O is one of a space's
+pub IsKind-page : (spaces : ℕ) (kind : IoKind) → IsKind spaces kind → HasPage kind
+IsKind-page spaces (Plain s a) is = tt
+IsKind-page spaces (Page s a k) is = omega (arith, is.2)
+IsKind-page spaces (Upcall s) is = tt
 
 -- an I/O that is over changes no number of spaces
 pub length-completed : (kind : IoKind) (pages : List ℕ) → length (completed kind pages) ≡ length pages

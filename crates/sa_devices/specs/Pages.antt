@@ -1,5 +1,6 @@
 -- The resident pages of each space: a number whose bit k says that page k is resident.
 use Rattle.std.specs.Prelude.{ℕ, ◌-◌, ◌^◌, ◌<◌, ◌≤◌, ◌==◌, if◌then◌else◌, List, [], ◌∷◌, bit_and, bit_or, slice_index, slice_set}
+use Rattle.sa_base.specs.declared.limits.TheConstants.{PAGES}
 use Rattle.sa_instr.specs.declared.limits.TheConstants.{LAST_PAGE}
 use Rattle.sa_spaces.specs.declared.workload.Evict.{Evict}
 use Rattle.sa_spaces.specs.Space.{SpaceView}
@@ -49,3 +50,8 @@ abbrev pub IsKind : ℕ → IoKind → Type 0
 IsKind spaces (Plain s a) = s.0 < spaces
 IsKind spaces (Page s a k) = (s.0 < spaces) × (1 ≤ k) × (k ≤ LAST_PAGE)
 IsKind spaces (Upcall s) = s.0 < spaces
+
+-- a page that an I/O is for is one of a space's
+abbrev pub HasPage : IoKind → Type 0
+HasPage (Page s a page) = page < PAGES
+HasPage _ = Unit {0}

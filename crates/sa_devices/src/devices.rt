@@ -1,17 +1,14 @@
-ghost use Rattle.std.specs.Prelude.{◌≡◌, ◌≢◌, ℕ, ◌+◌, ◌-◌, ◌≤◌, ◌<◌, ◌^◌, ◌↔◌, [], length, All, IsTrue, IsSome, IfSome, Some, IfOk, OnOk, OnErr, slice_index};
+ghost use Rattle.std.specs.Prelude.{◌≡◌, ◌≢◌, ℕ, ◌+◌, ◌≤◌, ◌<◌, ◌^◌, ◌↔◌, [], length, IsTrue, IsSome, IfSome, Some, IfOk, OnOk, OnErr, slice_index};
 ghost use Rattle.std.specs.List.{list_any};
 ghost use Rattle.std.specs.Option.{option_map};
-ghost use Rattle.std.specs.List.Sorted.{IsNonDecreasingBy};
-ghost use Rattle.sa_spaces.specs.declared.workload.Evict.{Evict};
-ghost use Rattle.sa_spaces.specs.Workload.{IsEviction};
 ghost use Rattle.sa_devices.specs.Ios.{one_fetch};
-ghost use Rattle.sa_devices.specs.Pages.{IsKind, come, gone, without_pages, completed, evicted};
+ghost use Rattle.sa_devices.specs.Pages.{IsKind, completed, evicted};
 
 use crate::kind::IoKind;
+use crate::pages::{all_but, complete, evict_at};
 use crate::under_way::UnderWay;
 use arrayvec::ArrayVec;
-use sa_base::{IoNo, MAX_EVENTS, MAX_SPACES, SpaceNo, UPCALL_PAGE};
-use sa_instr::LAST_PAGE;
+use sa_base::{IoNo, MAX_EVENTS, MAX_SPACES, SpaceNo};
 use sa_spaces::{Evict, Workload};
 use std::alloc::{AllocError, Global};
 use std::marker::Model;
@@ -113,7 +110,8 @@ impl Devices {
         } }
     {
         let kind = self.ios.complete(io);
-        finish(&mut self.fetching, &mut self.pages, kind);
+        discount_fetch(&mut self.fetching, kind);
+        complete(&mut self.pages, kind);
         kind
     }
 
@@ -163,73 +161,15 @@ fn count_fetch(fetching: &mut ArrayVec<usize, MAX_SPACES>, kind: IoKind)
     }
 }
 
-// An I/O is over: its page is resident, and one fetch less is under way, if it is one.
-fn finish(
-    fetching: &mut ArrayVec<usize, MAX_SPACES>,
-    pages: &mut ArrayVec<u16, MAX_SPACES>,
-    kind: IoKind,
-)
-    requires spaces { length fetching.old.items ≡ length pages.old.items }
-    requires kind { IsKind (length pages.old.items) kind }
+// One fetch less of the upcall page of a space is under way, if the I/O is one.
+fn discount_fetch(fetching: &mut ArrayVec<usize, MAX_SPACES>, kind: IoKind)
+    requires kind { IsKind (length fetching.old.items) kind }
     requires counted { (s : ℕ) → one_fetch s kind ≤ slice_index fetching.old.items s }
-    ensures pages { pages.new.items ≡ completed kind pages.old.items }
     ensures spaces { length fetching.new.items ≡ length fetching.old.items }
     ensures counts { (s : ℕ) → slice_index fetching.new.items s + one_fetch s kind
         ≡ slice_index fetching.old.items s }
 {
-    match kind {
-        IoKind::Plain(..) => {}
-        IoKind::Page(s, _, page) => come(pages, s, page),
-        IoKind::Upcall(s) => {
-            fetching[usize::from(s.0)] -= 1;
-            come(pages, s, UPCALL_PAGE);
-        }
+    if let IoKind::Upcall(s) = kind {
+        fetching[usize::from(s.0)] -= 1;
     }
-}
-
-// Makes the pages absent that are evicted at the event.
-fn evict_at(event: u64, evictions: &[Evict], pages: &mut ArrayVec<u16, MAX_SPACES>)
-    requires order { IsNonDecreasingBy (λ (e : Evict). e.event) evictions.now }
-    requires range { All (IsEviction (length pages.old.items)) evictions.now }
-    ensures pages { pages.new.items ≡ evicted event evictions.now pages.old.items }
-    ensures spaces { length pages.new.items ≡ length pages.old.items }
-{
-    let from = evictions.partition_point(|evict| evict.event < event);
-    let later = &evictions[from..];
-    for evict in later {
-        if evict.event != event {
-            return;
-        }
-        leave(pages, evict.space, evict.page);
-    }
-}
-
-// All pages but these.
-fn all_but(absent: &[u16]) -> u16
-    requires { All (λ page. page ≤ LAST_PAGE) absent.now }
-    ensures { result ≡ without_pages (2 ^ 16 - 1) absent.now }
-{
-    let mut pages = u16::MAX;
-    for page in absent {
-        pages &= !(1 << *page);
-    }
-    pages
-}
-
-// The page of the space is resident.
-fn come(pages: &mut ArrayVec<u16, MAX_SPACES>, s: SpaceNo, page: u16)
-    requires space { s.0 < length pages.old.items }
-    requires page { page ≤ LAST_PAGE }
-    ensures { pages.new.items ≡ come pages.old.items s.0 page }
-{
-    pages[usize::from(s.0)] |= 1 << page;
-}
-
-// The page of the space is absent.
-fn leave(pages: &mut ArrayVec<u16, MAX_SPACES>, s: SpaceNo, page: u16)
-    requires space { s.0 < length pages.old.items }
-    requires page { page ≤ LAST_PAGE }
-    ensures { pages.new.items ≡ gone pages.old.items s.0 page }
-{
-    pages[usize::from(s.0)] &= !(1 << page);
 }

@@ -4,7 +4,9 @@
 mod devices;
 mod kind;
 pub mod laws;
+mod pages;
 mod under_way;
 
 pub use devices::Devices;
 pub use kind::IoKind;
+pub use pages::{all_but, complete, evict_at, has_page};

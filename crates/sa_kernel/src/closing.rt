@@ -8,14 +8,16 @@ ghost use Rattle.sa_kernel_model.specs.Closing.{was_idle};
 
 use crate::machine::{Machine, is_owner};
 use arrayvec::ArrayVec;
+use sa_assign::AIM_ITEMS;
 use sa_base::{ActNo, Item, MAX_SPACES, Note, ProcNo, Record, SpaceNo, Trace};
 use sa_share::Claim;
 
-// The most items that a closing says: a want and a line of each space, and an aim and its line of each processor.
-pub(crate) const CLOSING_ITEMS: usize = 64;
+// The most items that a closing says: a want and a line of each space, and the new aims.
+pub(crate) const CLOSING_ITEMS: usize = 2 * MAX_SPACES + AIM_ITEMS;
 
 impl<C: Drop> Machine<C> {
-    ghost use Rattle.sa_kernel.specs.View.{state_of, scene_of, used, Spends};
+    ghost use Rattle.sa_kernel.specs.View.{state_of, scene_of, Spends};
+    ghost use Rattle.sa_kernel.specs.Needs.{HasProc, HasSpace};
     ghost use Rattle.sa_kernel_model.specs.State.{owner_of, aim_of, life_of, demand_of, can_upcall, untold_of, taken_of};
     ghost use Rattle.sa_kernel_model.specs.Sound.{HasSizes};
     ghost use Rattle.sa_kernel_model.specs.Closing.{calls_for, must_want, want_for, wants, claim_of, claims, first_space, aims, is_told_by, has_low_line, must_interrupt, interrupt, interrupt_one, interrupt_for, lines, closed};
@@ -56,8 +58,7 @@ impl<C: Drop> Machine<C> {
 
     // Whether the space wants no processor, and must be told something.
     fn must_want(&self, s: SpaceNo) -> bool
-        requires sizes { HasSizes (state_of self.now) }
-        requires space { s.0 < length self.now.demands.items }
+        requires { HasSpace (state_of self.now) s }
         ensures { result ≡ must_want (state_of self.now) s.0 }
     {
         self.demands[usize::from(s.0)] == 0 && self.some_calls(self.notices.untold(s))
@@ -65,8 +66,7 @@ impl<C: Drop> Machine<C> {
 
     // A space that must be told something wants one processor.
     fn want_one(&mut self, event: u64, p: ProcNo, s: SpaceNo, trace: &mut Trace)
-        requires sizes { HasSizes (state_of self.old) }
-        requires space { s.0 < length self.old.demands.items }
+        requires space { HasSpace (state_of self.old) s }
         requires trace { 1 ≤ trace.old.spare }
         ensures exact { scene_of self.new trace.new ≡ want_for event p s.0 (scene_of self.old trace.old) }
         ensures sizes { HasSizes (state_of self.new) }
@@ -82,8 +82,7 @@ impl<C: Drop> Machine<C> {
 
     // What the space claims.
     fn claim(&self, s: SpaceNo) -> Claim
-        requires sizes { HasSizes (state_of self.now) }
-        requires space { s.0 < length self.now.demands.items }
+        requires { HasSpace (state_of self.now) s }
         ensures { result ≡ claim_of (state_of self.now) s.0 }
     {
         let demand = self.demands[usize::from(s.0)];
@@ -146,11 +145,11 @@ impl<C: Drop> Machine<C> {
     // The aims follow the shares.
     fn aim(&mut self, event: u64, p: ProcNo, trace: &mut Trace)
         requires sizes { HasSizes (state_of self.old) }
-        requires trace { 32 ≤ trace.old.spare }
+        requires trace { AIM_ITEMS ≤ trace.old.spare }
         ensures exact { scene_of self.new trace.new ≡ aims event p (scene_of self.old trace.old) }
         ensures sizes { HasSizes (state_of self.new) }
         ensures room { Spends self.old self.new 0 0 0 }
-        ensures items { Adds 32 trace.old trace.new }
+        ensures items { Adds AIM_ITEMS trace.old trace.new }
     {
         let claims = self.claims();
         let first = self.first_space(event);
@@ -164,8 +163,7 @@ impl<C: Drop> Machine<C> {
 
     // Whether this processor of the space, with a raised line, is aimed at it.
     fn is_told_by(&self, s: SpaceNo, q: ProcNo) -> bool
-        requires sizes { HasSizes (state_of self.now) }
-        requires within { q.0 < length self.now.lives.items }
+        requires { HasProc (state_of self.now) q }
         ensures { result ≡ is_told_by (state_of self.now) s.0 q.0 }
     {
         is_owner(self.assign.owner(q), s)
@@ -175,8 +173,7 @@ impl<C: Drop> Machine<C> {
 
     // Whether the space owns this processor, whose line is low.
     pub(crate) fn has_low_line(&self, s: SpaceNo, q: ProcNo) -> bool
-        requires sizes { HasSizes (state_of self.now) }
-        requires within { q.0 < length self.now.lives.items }
+        requires { HasProc (state_of self.now) q }
         ensures { result ≡ has_low_line (state_of self.now) s.0 q.0 }
     {
         is_owner(self.assign.owner(q), s) && self.assign.line(q).is_none()
@@ -212,8 +209,7 @@ impl<C: Drop> Machine<C> {
 
     // Whether the space has something to be told and would not be told it.
     fn must_interrupt(&self, s: SpaceNo) -> bool
-        requires sizes { HasSizes (state_of self.now) }
-        requires space { s.0 < length self.now.demands.items }
+        requires { HasSpace (state_of self.now) s }
         ensures { result ≡ must_interrupt (state_of self.now) s.0 }
     {
         self.notices.has_untold(s) && !self.devices.fetching(s) && !self.is_told(s)
@@ -239,8 +235,7 @@ impl<C: Drop> Machine<C> {
 
     // A processor of a space is interrupted, if the space must be told something.
     fn interrupt_for(&mut self, event: u64, p: ProcNo, s: SpaceNo, trace: &mut Trace)
-        requires sizes { HasSizes (state_of self.old) }
-        requires space { s.0 < length self.old.demands.items }
+        requires space { HasSpace (state_of self.old) s }
         requires trace { 1 ≤ trace.old.spare }
         ensures exact { scene_of self.new trace.new ≡ interrupt_for event p s.0 (scene_of self.old trace.old) }
         ensures sizes { HasSizes (state_of self.new) }

@@ -10,14 +10,14 @@ ghost use Rattle.sa_kernel_model.specs.Entries.{io_for, thread_of, without_acts,
 use crate::machine::Machine;
 use sa_acts::Acts;
 use sa_base::{
-    ActNo, IoNo, MAX_EVENTS, MAX_PROCESSORS, Note, ProcNo, Record, SpaceNo, Stopped, ThreadNo,
-    Trace,
+    ActNo, IoNo, MAX_PROCESSORS, Note, ProcNo, Record, SpaceNo, Stopped, ThreadNo, Trace,
 };
 use sa_devices::IoKind;
 use sa_kernel_model::Given;
 
 impl<C: Drop> Machine<C> {
     ghost use Rattle.sa_kernel.specs.View.{state_of, scene_of, used, Spends};
+    ghost use Rattle.sa_kernel.specs.Needs.{HasProc, HasSpace, MayUpcall, MayBegin};
     ghost use Rattle.sa_kernel_model.specs.State.{owner_of, aim_of, life_of, demand_of, can_upcall, untold_of, taken_of};
     ghost use Rattle.sa_kernel_model.specs.Sound.{IsFormed, HasSizes, AreSpaces, AreIos, AreAlive};
     ghost use Rattle.sa_kernel_model.specs.Enters.{Enters, upcalls_for, upcalls_in, untold_count, taken_count};
@@ -26,10 +26,9 @@ impl<C: Drop> Machine<C> {
 
     // The context that ran on a processor, if one did, is stopped by an interrupt.
     fn stop(&mut self, event: u64, p: ProcNo, held: Option<Stopped<C>>, trace: &mut Trace)
-        requires sizes { HasSizes (state_of self.old) }
+        requires proc { HasProc (state_of self.old) p }
         requires owners { AreSpaces (length self.old.demands.items) self.old.assign.owners }
         requires lives { AreAlive self.old.assign.owners self.old.lives.items (state_of self.old).acts }
-        requires within { p.0 < length self.old.lives.items }
         requires room { 1 ≤ self.old.notices.spare }
         requires trace { 1 ≤ trace.old.spare }
         ensures exact { let k = state_of self.old in scene_of self.new trace.new
@@ -52,15 +51,10 @@ impl<C: Drop> Machine<C> {
 
     // A processor goes to its aim, if it has one.
     fn go_to_aim(&mut self, event: u64, p: ProcNo, aim: Option<SpaceNo>, trace: &mut Trace) -> Given
-        requires sizes { HasSizes (state_of self.old) }
-        requires within { p.0 < length self.old.lives.items }
+        requires proc { HasProc (state_of self.old) p }
         requires aim { IfSome aim (λ s. s.0 < length self.old.demands.items) }
-        requires fetched { self.old.notices.telling ≡ [] }
-        requires acts { 1 ≤ self.old.acts.spare }
-        requires ios { 1 ≤ self.old.devices.ios.spare }
-        requires event { event ≤ MAX_EVENTS }
-        requires few { used self.old + 1 < 2 ^ 32 }
-        requires begun { self.old.devices.ios.begun < 2 ^ 32 }
+        requires upcall { MayUpcall self.old }
+        requires ios { MayBegin self.old event 1 }
         requires trace { 3 + untold_count (state_of self.old) ≤ trace.old.spare }
         ensures exact { Enters (scene_of self.old trace.old) (scene_of self.new trace.new) result
             (upcalls_for (state_of self.old) aim) (λ a. go_to_aim event p a aim) }
@@ -83,13 +77,9 @@ impl<C: Drop> Machine<C> {
     ) -> Given
         requires sound { IsFormed (state_of self.old) }
         requires within { p.0 < length self.old.lives.items }
-        requires fetched { self.old.notices.telling ≡ [] }
         requires notes { 1 ≤ self.old.notices.spare }
-        requires acts { 1 ≤ self.old.acts.spare }
-        requires ios { 1 ≤ self.old.devices.ios.spare }
-        requires event { event ≤ MAX_EVENTS }
-        requires few { used self.old + 1 < 2 ^ 32 }
-        requires begun { self.old.devices.ios.begun < 2 ^ 32 }
+        requires upcall { MayUpcall self.old }
+        requires ios { MayBegin self.old event 1 }
         requires trace { 5 + untold_count (state_of self.old) ≤ trace.old.spare }
         ensures exact { let k = state_of self.old in
             Enters (scene_of self.old trace.old) (scene_of self.new trace.new) result
@@ -105,9 +95,8 @@ impl<C: Drop> Machine<C> {
 
     // The demand of a space is another, and the processor is marked idle or not.
     fn announce(&mut self, event: u64, p: ProcNo, s: SpaceNo, n: u16, idle: bool, trace: &mut Trace)
-        requires sizes { HasSizes (state_of self.old) }
-        requires within { p.0 < length self.old.lives.items }
-        requires space { s.0 < length self.old.demands.items }
+        requires proc { HasProc (state_of self.old) p }
+        requires space { HasSpace (state_of self.old) s }
         requires trace { 1 ≤ trace.old.spare }
         ensures exact { scene_of self.new trace.new
             ≡ announced event p s n idle (scene_of self.old trace.old) }
@@ -155,8 +144,7 @@ impl<C: Drop> Machine<C> {
 
     // The line of another processor is raised.
     pub(crate) fn interrupt_own(&mut self, event: u64, p: ProcNo, q: ProcNo, trace: &mut Trace)
-        requires sizes { HasSizes (state_of self.old) }
-        requires within { q.0 < length self.old.lives.items }
+        requires proc { HasProc (state_of self.old) q }
         requires low { slice_index_or self.old.assign.lines q.0 None ≡ None }
         requires trace { 1 ≤ trace.old.spare }
         ensures exact { scene_of self.new trace.new
@@ -180,15 +168,12 @@ impl<C: Drop> Machine<C> {
         page: Option<u16>,
         trace: &mut Trace,
     )
-        requires sizes { HasSizes (state_of self.old) }
+        requires proc { HasProc (state_of self.old) p }
         requires running { IsRunning ((state_of self.old).acts a.0) }
-        requires within { p.0 < length self.old.lives.items }
-        requires space { s.0 < length self.old.demands.items }
+        requires space { HasSpace (state_of self.old) s }
         requires page { IfSome page IsOwnPage }
         requires notes { 1 ≤ self.old.notices.spare }
-        requires ios { 1 ≤ self.old.devices.ios.spare }
-        requires event { event ≤ MAX_EVENTS }
-        requires begun { self.old.devices.ios.begun < 2 ^ 32 }
+        requires ios { MayBegin self.old event 1 }
         requires trace { 1 ≤ trace.old.spare }
         ensures exact { scene_of self.new trace.new
             ≡ block_begun event p s a held len page (scene_of self.old trace.old) }
@@ -202,15 +187,10 @@ impl<C: Drop> Machine<C> {
 
     // The space is told in a fresh activation, or the processor is left where its upcall page is absent.
     fn tell_or_leave(&mut self, event: u64, p: ProcNo, s: SpaceNo, trace: &mut Trace) -> Given
-        requires sizes { HasSizes (state_of self.old) }
-        requires within { p.0 < length self.old.lives.items }
-        requires space { s.0 < length self.old.demands.items }
-        requires fetched { self.old.notices.telling ≡ [] }
-        requires acts { 1 ≤ self.old.acts.spare }
-        requires ios { 1 ≤ self.old.devices.ios.spare }
-        requires event { event ≤ MAX_EVENTS }
-        requires few { used self.old + 1 < 2 ^ 32 }
-        requires begun { self.old.devices.ios.begun < 2 ^ 32 }
+        requires proc { HasProc (state_of self.old) p }
+        requires space { HasSpace (state_of self.old) s }
+        requires upcall { MayUpcall self.old }
+        requires ios { MayBegin self.old event 1 }
         requires trace { 3 + untold_count (state_of self.old) ≤ trace.old.spare }
         ensures exact { let k = state_of self.old in
             Enters (scene_of self.old trace.old) (scene_of self.new trace.new) result
@@ -238,13 +218,9 @@ impl<C: Drop> Machine<C> {
         requires sound { IsFormed (state_of self.old) }
         requires within { p.0 < length self.old.lives.items }
         requires page { IfSome page IsOwnPage }
-        requires fetched { self.old.notices.telling ≡ [] }
         requires notes { 1 ≤ self.old.notices.spare }
-        requires acts { 1 ≤ self.old.acts.spare }
-        requires ios { 2 ≤ self.old.devices.ios.spare }
-        requires event { event ≤ MAX_EVENTS }
-        requires few { used self.old + 1 < 2 ^ 32 }
-        requires begun { self.old.devices.ios.begun + 1 < 2 ^ 32 }
+        requires upcall { MayUpcall self.old }
+        requires ios { MayBegin self.old event 2 }
         requires trace { 5 + untold_count (state_of self.old) ≤ trace.old.spare }
         ensures exact { let k = state_of self.old in
             Enters (scene_of self.old trace.old) (scene_of self.new trace.new) result
@@ -274,8 +250,7 @@ impl<C: Drop> Machine<C> {
 
     // A context has come back, which its space is to be told.
     fn come_back(&mut self, event: u64, p: ProcNo, s: SpaceNo, a: ActNo, trace: &mut Trace)
-        requires sizes { HasSizes (state_of self.old) }
-        requires space { s.0 < length self.old.demands.items }
+        requires space { HasSpace (state_of self.old) s }
         requires notes { 1 ≤ self.old.notices.spare }
         requires trace { 1 ≤ trace.old.spare }
         ensures exact { scene_of self.new trace.new
@@ -324,8 +299,7 @@ impl<C: Drop> Machine<C> {
 
     // The taken activations of the space that owns the processor are given back.
     pub(crate) fn give_back(&mut self, event: u64, p: ProcNo, trace: &mut Trace)
-        requires sizes { HasSizes (state_of self.old) }
-        requires within { p.0 < length self.old.lives.items }
+        requires proc { HasProc (state_of self.old) p }
         requires trace { taken_count (state_of self.old) ≤ trace.old.spare }
         ensures exact { scene_of self.new trace.new
             ≡ gave_back event p (owner_of (state_of self.old) p) (scene_of self.old trace.old) }

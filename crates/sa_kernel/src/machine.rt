@@ -5,9 +5,9 @@ ghost use Rattle.sa_base.specs.Recorded.{Adds};
 
 use sa_acts::Acts;
 use sa_assign::Assign;
-use sa_base::{ActNo, MAX_EVENTS, Note, ProcNo, Record, SpaceNo, Stopped, Trace};
+use sa_base::{ActNo, Note, ProcNo, Record, SpaceNo, Stopped, Trace, UPCALL_PAGE};
 use sa_batch::Notices;
-use sa_devices::{Devices, IoKind};
+use sa_devices::{Devices, IoKind, has_page};
 use sa_kernel_model::Given;
 
 /// The parts of the kernel.
@@ -26,6 +26,7 @@ pub(crate) struct Machine<C: Drop> {
 
 impl<C: Drop> Machine<C> {
     ghost use Rattle.sa_kernel.specs.View.{state_of, scene_of, used, Spends};
+    ghost use Rattle.sa_kernel.specs.Needs.{HasProc, HasSpace, MayUpcall, MayBegin};
     ghost use Rattle.sa_kernel_model.specs.State.{life_of, can_upcall, is_fetching, untold_of};
     ghost use Rattle.sa_kernel_model.specs.Sound.{HasSizes};
     ghost use Rattle.sa_batch.specs.Notices.{notes_told};
@@ -55,12 +56,9 @@ impl<C: Drop> Machine<C> {
 
     // A fresh activation of a space runs on a processor; it tells what the space was not told.
     fn run_in(&mut self, p: ProcNo, s: SpaceNo, added: bool) -> ActNo
-        requires sizes { HasSizes (state_of self.old) }
-        requires within { p.0 < length self.old.lives.items }
-        requires space { s.0 < length self.old.demands.items }
-        requires fetched { self.old.notices.telling ≡ [] }
-        requires room { 1 ≤ self.old.acts.spare }
-        requires few { used self.old + 1 < 2 ^ 32 }
+        requires proc { HasProc (state_of self.old) p }
+        requires space { HasSpace (state_of self.old) s }
+        requires upcall { MayUpcall self.old }
         ensures unused { (state_of self.old).acts result.0 ≡ None }
         ensures exact { state_of self.new
             ≡ run_in p s result (notes_told added p (untold_of (state_of self.old) s.0)) (state_of self.old) }
@@ -82,12 +80,9 @@ impl<C: Drop> Machine<C> {
         added: bool,
         trace: &mut Trace,
     ) -> ActNo
-        requires sizes { HasSizes (state_of self.old) }
-        requires within { p.0 < length self.old.lives.items }
-        requires space { s.0 < length self.old.demands.items }
-        requires fetched { self.old.notices.telling ≡ [] }
-        requires room { 1 ≤ self.old.acts.spare }
-        requires few { used self.old + 1 < 2 ^ 32 }
+        requires proc { HasProc (state_of self.old) p }
+        requires space { HasSpace (state_of self.old) s }
+        requires upcall { MayUpcall self.old }
         requires trace { 2 + length (untold_of (state_of self.old) s.0) ≤ trace.old.spare }
         ensures unused { (state_of self.old).acts result.0 ≡ None }
         ensures exact { scene_of self.new trace.new
@@ -103,11 +98,8 @@ impl<C: Drop> Machine<C> {
 
     // The upcall page of a space is fetched, unless it is on its way.
     fn fetch_page(&mut self, event: u64, p: ProcNo, s: SpaceNo, trace: &mut Trace)
-        requires sizes { HasSizes (state_of self.old) }
-        requires space { s.0 < length self.old.demands.items }
-        requires room { 1 ≤ self.old.devices.ios.spare }
-        requires event { event ≤ MAX_EVENTS }
-        requires few { self.old.devices.ios.begun < 2 ^ 32 }
+        requires space { HasSpace (state_of self.old) s }
+        requires ios { MayBegin self.old event 1 }
         requires trace { 1 ≤ trace.old.spare }
         ensures exact { scene_of self.new trace.new
             ≡ fetch_page event p s (is_fetching (state_of self.old) s.0) (scene_of self.old trace.old) }
@@ -122,12 +114,9 @@ impl<C: Drop> Machine<C> {
 
     // A processor is left for want of the upcall page of a space, which is fetched.
     pub(crate) fn leave(&mut self, event: u64, p: ProcNo, s: SpaceNo, trace: &mut Trace)
-        requires sizes { HasSizes (state_of self.old) }
-        requires within { p.0 < length self.old.lives.items }
-        requires space { s.0 < length self.old.demands.items }
-        requires room { 1 ≤ self.old.devices.ios.spare }
-        requires event { event ≤ MAX_EVENTS }
-        requires few { self.old.devices.ios.begun < 2 ^ 32 }
+        requires proc { HasProc (state_of self.old) p }
+        requires space { HasSpace (state_of self.old) s }
+        requires ios { MayBegin self.old event 1 }
         requires trace { 3 ≤ trace.old.spare }
         ensures exact { scene_of self.new trace.new ≡ leave event p s (scene_of self.old trace.old) }
         ensures room { Spends self.old self.new 0 0 1 }
@@ -151,17 +140,15 @@ impl<C: Drop> Machine<C> {
 
     // Whether the upcall page of a space is resident.
     pub(crate) fn can_upcall(&self, s: SpaceNo) -> bool
-        requires sizes { HasSizes (state_of self.now) }
-        requires space { s.0 < length self.now.demands.items }
+        requires { HasSpace (state_of self.now) s }
         ensures { result ≡ can_upcall (state_of self.now) s }
     {
-        self.devices.pages(s) % 2 == 1
+        has_page(self.devices.pages(s), UPCALL_PAGE)
     }
 
     // A space owns a processor, unless it does already.
     fn move_to(&mut self, event: u64, p: ProcNo, s: SpaceNo, owned: bool, trace: &mut Trace)
-        requires sizes { HasSizes (state_of self.old) }
-        requires within { p.0 < length self.old.lives.items }
+        requires proc { HasProc (state_of self.old) p }
         requires trace { 1 ≤ trace.old.spare }
         ensures exact { scene_of self.new trace.new ≡ moved event p s owned (scene_of self.old trace.old) }
         ensures room { Spends self.old self.new 0 0 0 }
@@ -175,15 +162,10 @@ impl<C: Drop> Machine<C> {
 
     // A processor goes to a space: by an upcall where its page is resident, else it is left.
     pub(crate) fn go_to(&mut self, event: u64, p: ProcNo, s: SpaceNo, trace: &mut Trace) -> Given
-        requires sizes { HasSizes (state_of self.old) }
-        requires within { p.0 < length self.old.lives.items }
-        requires space { s.0 < length self.old.demands.items }
-        requires fetched { self.old.notices.telling ≡ [] }
-        requires acts { 1 ≤ self.old.acts.spare }
-        requires ios { 1 ≤ self.old.devices.ios.spare }
-        requires event { event ≤ MAX_EVENTS }
-        requires few { used self.old + 1 < 2 ^ 32 }
-        requires begun { self.old.devices.ios.begun < 2 ^ 32 }
+        requires proc { HasProc (state_of self.old) p }
+        requires space { HasSpace (state_of self.old) s }
+        requires upcall { MayUpcall self.old }
+        requires ios { MayBegin self.old event 1 }
         requires trace { 3 + length (untold_of (state_of self.old) s.0) ≤ trace.old.spare }
         ensures exact { Enters (scene_of self.old trace.old) (scene_of self.new trace.new) result
             (can_upcall (state_of self.old) s) (λ a. go_to event p s a) }

@@ -10,6 +10,7 @@ pub(crate) type Lows = [u16; MAX_SPACES];
 
 impl<C: Drop> Machine<C> {
     ghost use Rattle.sa_kernel.specs.View.{state_of};
+    ghost use Rattle.sa_kernel.specs.Needs.{HasProc, HasSpace};
     ghost use Rattle.sa_kernel.specs.Kept.{AreLow, IsLowOwner};
     ghost use Rattle.sa_kernel_model.specs.State.{owner_of};
     ghost use Rattle.sa_kernel_model.specs.Sound.{HasSizes, AreSpaces, IsFormed};
@@ -31,8 +32,7 @@ impl<C: Drop> Machine<C> {
 
     // The space that owns the processor, whose line is low.
     fn low_owner(&self, p: ProcNo) -> Option<SpaceNo>
-        requires sizes { HasSizes (state_of self.now) }
-        requires within { p.0 < length self.now.lives.items }
+        requires { HasProc (state_of self.now) p }
         ensures { IsLowOwner (state_of self.now) p result }
     {
         if self.assign.line(p).is_some() {
@@ -43,8 +43,7 @@ impl<C: Drop> Machine<C> {
 
     // What the space sees on one of its processors, where this is what each space sees of low lines.
     fn seen_by(&self, p: ProcNo, s: SpaceNo, event: u64, lows: &Lows) -> Seen
-        requires sizes { HasSizes (state_of self.now) }
-        requires space { s.0 < length self.now.demands.items }
+        requires space { HasSpace (state_of self.now) s }
         requires lows { AreLow (state_of self.now) lows.now }
         ensures { result ≡ seen_of (state_of self.now) p s event }
     {
@@ -60,9 +59,8 @@ impl<C: Drop> Machine<C> {
 
     // What the space that owns the processor sees there, where this is what each space sees of low lines.
     pub(crate) fn seen(&self, p: ProcNo, event: u64, lows: &Lows) -> Seen
-        requires sizes { HasSizes (state_of self.now) }
+        requires proc { HasProc (state_of self.now) p }
         requires owners { AreSpaces (length self.now.demands.items) self.now.assign.owners }
-        requires within { p.0 < length self.now.lives.items }
         requires owned { IsSome (owner_of (state_of self.now) p) }
         requires lows { AreLow (state_of self.now) lows.now }
         ensures { (s : SpaceNo) → owner_of (state_of self.now) p ≡ Some s

@@ -23,6 +23,7 @@ pub(crate) const OPENING: usize = MAX_SPACES + CLOSING_ITEMS;
 
 impl<C: Drop> Machine<C> {
     ghost use Rattle.sa_kernel.specs.View.{state_of, scene_of, used, Spends};
+    ghost use Rattle.sa_kernel.specs.Needs.{MayUpcall, MayBegin};
     ghost use Rattle.sa_kernel_model.specs.Sound.{IsFormed, HasSizes};
     ghost use Rattle.sa_kernel_model.specs.Enters.{Enters, untold_count, taken_count};
     ghost use Rattle.sa_kernel_model.specs.Opening.{opening_state};
@@ -149,13 +150,9 @@ impl<C: Drop> Machine<C> {
         requires sound { IsFormed (state_of self.old) }
         requires within { p.0 < length self.old.lives.items }
         requires fit { IsFit (state_of self.old) p event entry }
-        requires fetched { self.old.notices.telling ≡ [] }
         requires notes { 1 ≤ self.old.notices.spare }
-        requires acts { 1 ≤ self.old.acts.spare }
-        requires ios { 2 ≤ self.old.devices.ios.spare }
-        requires event { event ≤ MAX_EVENTS }
-        requires few { used self.old + 1 < 2 ^ 32 }
-        requires begun { self.old.devices.ios.begun + 1 < 2 ^ 32 }
+        requires upcall { MayUpcall self.old }
+        requires ios { MayBegin self.old event 2 }
         requires trace { 5 + untold_count (state_of self.old) + taken_count (state_of self.old) ≤ trace.old.spare }
         ensures exact { Enters (scene_of self.old trace.old) (scene_of self.new trace.new) result
             (upcalls (state_of self.old) p entry) (λ a. entered_as event p a entry) }

@@ -61,7 +61,7 @@ Holds u w ListLocks r e last = u.Locks w r e
 Holds u w ListOrder r e last = u.Order w r e
 Holds u w EndTold r e last = EndIsTold (after_event u.inside w r e) e.number last
 
--- the laws of a legal run in their order, and behind them the rule of the end
+-- the laws of a legal run in their order, and with the rule of the end
 abbrev pub laws : List Rule
 laws = Numbering ∷ StepTaken ∷ AtMostOnce ∷ InTime ∷ WhereOwned ∷ AllTold ∷ BlockUpcall ∷ InterruptNext ∷ LineCause ∷ WantCause ∷ SharesCovered ∷ DemandSaid ∷ TurnsAndSteps ∷ ListLocks ∷ ListOrder ∷ []
 
@@ -92,9 +92,23 @@ abbrev pub HoldEach : UserRules → WorkloadView → List Rule → Readings → 
 HoldEach u w [] r e last = Unit {0}
 HoldEach u w (rule ∷ others) r e last = Holds u w rule r e last × HoldEach u w others r e last
 
--- all laws hold at an event
-abbrev pub IsLawful : UserRules → WorkloadView → Readings → Event → Type 0
-IsLawful u w r e = HoldEach u w laws r e None
+-- All laws hold at an event: each by its rule's name.
+pub record IsLawful (u : UserRules) (w : WorkloadView) (r : Readings) (e : Event) : Type 0 where
+  pub numbering : IsNumbered w r e
+  pub step_taken : IsStepwise w r e
+  pub at_most_once : IsToldOnce w r e
+  pub in_time : IsToldInTime u.inside w r e
+  pub where_owned : RunsWhereOwned u.inside w r e
+  pub all_told : UpcallsTellAll w r e
+  pub block_upcall : BlocksGiveUpcalls w r e
+  pub interrupt_next : InterruptsNext w r e
+  pub line_cause : LinesHaveCause u.Lines w r e
+  pub want_cause : WantsHaveCause u.inside w r e
+  pub shares_covered : AimsCoverShares u.inside w r e
+  pub demand_said : u.Demand w r e
+  pub turns_and_steps : TurnsAreTaken u.Steps w r e
+  pub list_locks : u.Locks w r e
+  pub list_order : u.Order w r e
 
 -- a rule is the first that does not hold at an event
 pub record Breaks (u : UserRules) (w : WorkloadView) (r : Readings) (e : Event) (last : Option LastLine) (rule : Rule) : Type 0 where

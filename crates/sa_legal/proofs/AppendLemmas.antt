@@ -1,5 +1,5 @@
--- Records and events behind others.
-use Rattle.std.proofs.Common.{◌≡◌, ◌≢◌, ℕ, ◌+◌, ◌<◌, refl, sym, ◌∙◌, ap, subst, arith, List, [], ◌∷◌, ◌++◌, true, false}
+-- Records and events after others.
+use Rattle.std.proofs.Common.{◌≡◌, ◌≢◌, ℕ, ◌+◌, ◌<◌, refl, sym, ◌∙◌, ap, subst, arith, List, [], ◌∷◌, ◌++◌, true}
 use Rattle.std.specs.Prelude.{◌↔◌, ◌==◌, ◌&&◌, Bool, if◌then◌else◌}
 use Rattle.std.proofs.lemmas.Bool.Decides.{nat_tests}
 use Rattle.sa_base.specs.declared.number.ProcNo.{ProcNo}
@@ -17,7 +17,7 @@ use Rattle.sa_laws.specs.Rules.{UserRules}
 use Rattle.sa_laws.specs.Legal.{IsLegal, IsLegalHistory}
 use Rattle.sa_legal.specs.Fold.{AreLawful, AreNumbered}
 use Rattle.sa_legal.proofs.WalkLemmas.{item}
-use Rattle.sa_legal.proofs.FoldLemmas.{lawful-along, legal-along}
+use Rattle.sa_legal.proofs.FoldLemmas.{lawful-along, legal-along, not-equal}
 use Rattle.sa_legal.proofs.MomentLemmas.{number-next}
 
 pub records-append : (w : WorkloadView) (e : ℕ) (p : ProcNo) (r : Readings) (xs ys : List Record)
@@ -30,7 +30,7 @@ pub events-append : (test : Test) (w : WorkloadView) (r : Readings) (es fs : Lis
 events-append test w r [] fs = refl
 events-append test w r (e ∷ es) fs = events-append test w (after_event test w r e) es fs
 
--- a law of each record holds of the first ones and of those behind them
+-- a law of each record holds of the first ones and of those after them
 pub each-append : (L : RecordLaw) (w : WorkloadView) (e : ℕ) (p : ProcNo) (r : Readings) (xs ys : List Record)
     → ((x : Record) (rest : List Record) (s : Readings) → L s x rest → L s x (rest ++ ys))
     → EachRecord L w e p r xs → EachRecord L w e p (after_records w e p r xs) ys → EachRecord L w e p r (xs ++ ys)
@@ -48,10 +48,7 @@ pub lawful-append : (u : UserRules) (w : WorkloadView) (r : Readings) (es fs : L
 lawful-append u w r [] fs left right = right
 lawful-append u w r (e ∷ es) fs left right = (left.0, lawful-append u w (after_event u.inside w r e) es fs left.1 right)
 
-differ : (a b : ℕ) → a < b → (a == b) ≡ false
-differ a b below = grind (arith, nat_tests)
-
-alike : (a : ℕ) → (a == a) ≡ true
+pub alike : (a : ℕ) → (a == a) ≡ true
 alike a = grind (arith, nat_tests)
 
 -- an item before the history of a later event, and before that of its own
@@ -59,7 +56,7 @@ before-later : (x : Item) (m : ℕ) (es : List Event) → x.event < m → AreNum
 before-later x m [] below numbered = refl
 before-later x m (e ∷ es) below numbered =
     let number = numbered.0 in
-    ap (λ b. if (b && x.proc.0 == e.proc.0) then record e { records = x.what ∷ e.records } ∷ es else event_of x ∷ e ∷ es) (differ x.event e.number (omega arith))
+    ap (λ b. if (b && x.proc.0 == e.proc.0) then record e { records = x.what ∷ e.records } ∷ es else event_of x ∷ e ∷ es) (not-equal x.event e.number (omega arith))
 
 before-own : (n : ℕ) (p : ProcNo) (x : Record) (xs : List Record) (es : List Event)
     → before_events (item n p x) (record { number = n; proc = p; records = xs } ∷ es) ≡ record { number = n; proc = p; records = x ∷ xs } ∷ es
@@ -88,7 +85,7 @@ events-items m (e ∷ es) numbered = whole e.records refl (events-items (m + 1) 
 pub lawful-numbered : (u : UserRules) (w : WorkloadView) (r : Readings) (events : List Event) → AreLawful u w r events → AreNumbered r.number events
 lawful-numbered u w r [] law = tt
 lawful-numbered u w r (e ∷ es) law =
-    (law.0.0.number, law.0.0.some, subst (λ m. AreNumbered m es) (number-next u w r e) (lawful-numbered u w (after_event u.inside w r e) es law.1))
+    (law.0.numbering.number, law.0.numbering.some, subst (λ m. AreNumbered m es) (number-next u w r e) (lawful-numbered u w (after_event u.inside w r e) es law.1))
 
 -- a legal history is that of a legal trace
 pub legal-items : (u : UserRules) (w : WorkloadView) (events : List Event) → IsLegalHistory u w events → IsLegal u w (items_of events)

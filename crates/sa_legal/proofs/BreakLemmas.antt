@@ -16,7 +16,7 @@ use Rattle.sa_legal.specs.Fold.{AreRight}
 use Rattle.sa_legal.specs.Examples.{workload_with, smallest, blocking, stops_at, told_done, at, s0, p0, t0, act, other_opening, other_place, told_of_nothing, stopped_untold, two_lives, not_told_added, other_io, interrupt_put_off, raised_for_nothing, wanted_for_nothing, aimed_for_nothing, idle_with_lock, idle_beside_thread, freed_unused, not_done}
 use Rattle.sa_legal.proofs.ExampleLemmas.{prompt-calm, no-wants, one-share}
 use Rattle.sa_legal.proofs.SmallestLemmas.{e0, e1, e2, e3, e4, r0, r1, r2, r3, r4, r5, next, lawful0, lawful1, lawful2, lawful3, lawful4, unlocked2}
-use Rattle.sa_legal.proofs.FoldLemmas.{with-end, break-behind}
+use Rattle.sa_legal.proofs.FoldLemmas.{laws-hold, with-end, break-behind}
 
 -- while thread 0 is ready or runs, the run goes on
 pub goes-on : (r : Readings) → list_all are_done r.state.spaces ≡ false → list_all are_at_rest r.state.spaces ≡ false → GoesOn r
@@ -408,4 +408,4 @@ breaks-ListLocks = break-behind fast_threads smallest (e0 ∷ e1 ∷ e2 ∷ []) 
 
 pub breaks-EndTold : FirstBreak fast_threads smallest not_done told_done 4 EndTold
 breaks-EndTold = break-behind fast_threads smallest (e0 ∷ e1 ∷ e2 ∷ e3 ∷ []) e4 told_done EndTold (before4 one)
-    (record { earlier = lawful4 one; broken = λ h. let done = h.1 in cc })
+    (record { earlier = laws-hold fast_threads smallest (r4 one) e4 (Some told_done) (lawful4 one); broken = λ h. let done = h.1 in cc })

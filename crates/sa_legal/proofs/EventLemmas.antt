@@ -1,7 +1,6 @@
 -- A flat trace and its history.
-use Rattle.std.proofs.Common.{◌≡◌, ℕ, refl, sym, ◌∙◌, ap, subst, arith, Some, List, [], ◌∷◌, take, true, false}
+use Rattle.std.proofs.Common.{◌≡◌, ℕ, refl, sym, ◌∙◌, ap, subst, Some, List, [], ◌∷◌, take, true, false}
 use Rattle.std.specs.Prelude.{slice_get, ◌==◌, ◌&&◌, Bool, if◌then◌else◌}
-use Rattle.std.proofs.lemmas.Bool.Decides.{nat_tests}
 use Rattle.sa_base.specs.declared.number.ProcNo.{ProcNo}
 use Rattle.sa_base.specs.declared.record.Item.{Item}
 use Rattle.sa_spaces.specs.Workload.{WorkloadView}
@@ -14,14 +13,12 @@ use Rattle.sa_laws.specs.Legal.{IsLegal}
 use Rattle.sa_legal.specs.Fold.{AreLawful}
 use Rattle.sa_legal.proofs.FoldLemmas.{lawful-along}
 use Rattle.sa_legal.proofs.WalkLemmas.{Along, AllGood, IsKept, walk}
+use Rattle.sa_legal.proofs.StandingLemmas.{same-number}
 
-and-both : (a b : Bool) → (a && b) ≡ true → (a ≡ true) × (b ≡ true)
+pub and-both : (a b : Bool) → (a && b) ≡ true → (a ≡ true) × (b ≡ true)
 and-both true true is = (refl, refl)
 and-both true false is = absurd (cc)
 and-both false b is = absurd (cc)
-
-same-number : (a b : ℕ) → (a == b) ≡ true → a ≡ b
-same-number a b is = grind (arith, nat_tests)
 
 same-item : (x : Item) (e : Event) → is_of_event x e ≡ true → record { event = e.number; proc = e.proc; what = x.what } ≡ x
 same-item x e is =

@@ -6,11 +6,12 @@ use Rattle.std.proofs.lemmas.Option.{same_Some, none-some}
 use Rattle.sa_lemmas.proofs.ListUpdates.{slice_get-append_left, slice_get-append_seam}
 use Rattle.sa_spaces.specs.Workload.{WorkloadView}
 use Rattle.sa_laws.specs.declared.rule.Rule.{Rule}
+use Rattle.sa_laws.specs.declared.rule.Rule.TheVariants.{EndTold}
 use Rattle.sa_laws.specs.Event.{Event}
 use Rattle.sa_laws.specs.Readings.{Readings, opening_readings}
 use Rattle.sa_laws.specs.History.{after_event, after_events}
 use Rattle.sa_laws.specs.Ends.{LastLine, EndIsTold}
-use Rattle.sa_laws.specs.Rules.{UserRules, IsLawful, HoldEach, Breaks, rules}
+use Rattle.sa_laws.specs.Rules.{UserRules, IsLawful, Holds, HoldEach, Breaks, laws, rules}
 use Rattle.sa_laws.specs.Legal.{IsLegalHistory, BreaksAt, line_at}
 use Rattle.sa_legal.specs.Fold.{AreLawful, AreRight}
 
@@ -36,11 +37,45 @@ right-at u w r [] all n e at = absurd (none-some e at)
 right-at u w r (x ∷ xs) all zero e at = subst (λ y. HoldEach u w rules r y None) (same_Some x e at) all.0
 right-at u w r (x ∷ xs) all (suc n) e at = right-at u w (after_event u.inside w r x) xs all.1 n e at
 
+-- each of the laws holds at a lawful event, whatever its last line
+pub laws-hold : (u : UserRules) (w : WorkloadView) (r : Readings) (e : Event) (last : Option LastLine) → IsLawful u w r e
+    → HoldEach u w laws r e last
+laws-hold u w r e last l = (
+  l.numbering,
+  (
+    l.step_taken,
+    (
+      l.at_most_once,
+      (
+        l.in_time,
+        (
+          l.where_owned,
+          (
+            l.all_told,
+            (
+              l.block_upcall,
+              (
+                l.interrupt_next,
+                (l.line_cause, (l.want_cause, (l.shares_covered, (l.demand_said, (l.turns_and_steps, (l.list_locks, (l.list_order, tt))))))),
+              ),
+            ),
+          ),
+        ),
+      ),
+    ),
+  ),
+)
+
+-- a rule that holds beside others
+pub hold-more : (u : UserRules) (w : WorkloadView) (r : Readings) (e : Event) (last : Option LastLine) (list : List Rule) (rule : Rule)
+    → HoldEach u w list r e last → Holds u w rule r e last → HoldEach u w (list ++ rule ∷ []) r e last
+hold-more u w r e last [] rule all one = (one, tt)
+hold-more u w r e last (x ∷ xs) rule all one = (all.0, hold-more u w r e last xs rule all.1 one)
+
 -- the laws, and what the last line says of the end, are the rules
 pub with-end : (u : UserRules) (w : WorkloadView) (r : Readings) (e : Event) (last : Option LastLine) → IsLawful u w r e
     → EndIsTold (after_event u.inside w r e) e.number last → HoldEach u w rules r e last
-with-end u w r e last (d, (m, (a, (b, (c, (f, (g, (h, (i, (j, (k, (l, (n, (o, (p, q))))))))))))))) told =
-    (d, (m, (a, (b, (c, (f, (g, (h, (i, (j, (k, (l, (n, (o, (p, (told, tt))))))))))))))))
+with-end u w r e last law told = hold-more u w r e last laws EndTold (laws-hold u w r e last law) told
 
 take-front : (xs : List Event) (n : ℕ) (e : Event) → n < length xs → take n (xs ++ e ∷ []) ≡ take n xs
 take-front [] n e below = absurd (omega arith)
@@ -51,7 +86,7 @@ take-whole : (xs : List Event) (e : Event) → take (length xs) (xs ++ e ∷ [])
 take-whole [] e = refl
 take-whole (x ∷ xs) e = ap (λ ys. x ∷ ys) (take-whole xs e)
 
-not-equal : (a b : ℕ) → a < b → (a == b) ≡ false
+pub not-equal : (a b : ℕ) → a < b → (a == b) ≡ false
 not-equal a b below = grind (arith, nat_tests)
 
 no-line : (xs : List Event) (e : Event) (line : LastLine) (n : ℕ) → n < length xs → line_at (xs ++ e ∷ []) line n ≡ None
@@ -59,7 +94,7 @@ no-line xs e line n below =
     let len : length (xs ++ e ∷ []) ≡ length xs + 1 = length-append xs (e ∷ []) in
     ap (λ b. if b then Some line else None) (not-equal (n + 1) (length (xs ++ e ∷ [])) (omega arith))
 
--- where all rules hold along a history, the event behind it that breaks a rule is the first break
+-- where all rules hold along a history, the event after it that breaks a rule is the first break
 pub break-behind : (u : UserRules) (w : WorkloadView) (events : List Event) (e : Event) (line : LastLine) (rule : Rule)
     → AreRight u w (opening_readings w) events
     → Breaks u w (after_events u.inside w (opening_readings w) events) e (line_at (events ++ e ∷ []) line (length events)) rule

@@ -175,7 +175,7 @@ given-within items i j a within given =
 
 pub numbers-are-fresh : (u : UserRules) (w : WorkloadView) (items : List Item) → IsLegal u w items → NumbersAreFresh items
 numbers-are-fresh u w items legal i j s t a before first second =
-    let good = good-at u w items TellsAllThen AreInUse (λ e p. AreInUse) UpsAreFresh legal (fresh-kept u.inside w) (λ r e law. law.1.1.1.1.1.0.told)
+    let good = good-at u w items TellsAllThen AreInUse (λ e p. AreInUse) UpsAreFresh legal (fresh-kept u.inside w) (λ r e law. law.all_told.told)
     (λ k v b stands. absurd (none-some stands.item stands.at)) j second.item second.at in
     let within = slice_get_within items j second.item second.at in
     given-within items i j a (omega arith)

@@ -487,7 +487,7 @@ pub record AreHeldIn (p : ProcNo) (past : List Item) (r : Readings) : Type 0 whe
 abbrev pub ReadiesNoHolder : List Item → Item → Type 0
 ReadiesNoHolder past x = (s : SpaceNo) (t : ThreadNo) → x.what ≡ Ready s t → HoldsListLock past (length past) s t → ⊥
 
--- a thread that holds a lock behind one item more held one before it, or got it there
+-- a thread that holds a lock after one item more held one before it, or got it there
 held-cases : (past : List Item) (x : Item) (s : SpaceNo) (t : ThreadNo) → HoldsListLock (past ++ x ∷ []) (length (past ++ x ∷ [])) s t
     → Begins s t x.what ⊎ (HoldsListLock past (length past) s t × (Frees s t x.what → ⊥))
 held-cases past x s t o =

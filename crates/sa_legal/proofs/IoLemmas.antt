@@ -21,7 +21,7 @@ use Rattle.sa_legal.specs.Headline.{BlocksNameTheirIo}
 use Rattle.sa_legal.proofs.WalkLemmas.{IsKept, item}
 use Rattle.sa_legal.proofs.EventLemmas.{good-at}
 
-ios-more : (past : List Item) (x : Item) → ios_begun (past ++ x ∷ []) ≡ ios_begun past + (if begins_io x.what then 1 else 0)
+pub ios-more : (past : List Item) (x : Item) → ios_begun (past ++ x ∷ []) ≡ ios_begun past + (if begins_io x.what then 1 else 0)
 ios-more [] x = one (begins_io x.what) where
   one : (b : Bool) → (if b then 1 else 0) + 0 ≡ 0 + (if b then 1 else 0)
   one true = refl
@@ -29,7 +29,7 @@ ios-more [] x = one (begins_io x.what) where
 ios-more (y ∷ ys) x =
     let more = ios-more ys x in omega arith
 
-begun-more : (n : ℕ) (x : Record) → begun_after n x ≡ n + (if begins_io x then 1 else 0)
+pub begun-more : (n : ℕ) (x : Record) → begun_after n x ≡ n + (if begins_io x then 1 else 0)
 begun-more n (Block s t a io) = refl
 begun-more n (Fetch s) = refl
 begun-more n x = omega arith
@@ -55,5 +55,5 @@ ios-kept test w = record {
 
 pub blocks-name-their-io : (u : UserRules) (w : WorkloadView) (items : List Item) → IsLegal u w items → BlocksNameTheirIo items
 blocks-name-their-io u w items legal j s t a io stands =
-    good-at u w items GivesUpcallThen IosCounted (λ e p. IosCounted) NamesItsIo legal (ios-kept u.inside w) (λ r e law. law.1.1.1.1.1.1.0.blocks) refl j stands.item stands.at
+    good-at u w items GivesUpcallThen IosCounted (λ e p. IosCounted) NamesItsIo legal (ios-kept u.inside w) (λ r e law. law.block_upcall.blocks) refl j stands.item stands.at
     s t a io stands.what

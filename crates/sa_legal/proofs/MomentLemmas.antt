@@ -22,7 +22,7 @@ abbrev pub Numbered : ℕ → List Event → Type 0
 Numbered m [] = Unit {0}
 Numbered m (e ∷ es) = (e.number ≡ m) × Numbered (m + 1) es
 
-number-kept : (w : WorkloadView) (e : ℕ) (p : ProcNo) (r : Readings) (xs : List Record) → (after_records w e p r xs).number ≡ r.number
+pub number-kept : (w : WorkloadView) (e : ℕ) (p : ProcNo) (r : Readings) (xs : List Record) → (after_records w e p r xs).number ≡ r.number
 number-kept w e p r [] = refl
 number-kept w e p r (x ∷ xs) = number-kept w e p (after_record w e p r x) xs
 
@@ -32,13 +32,13 @@ number-next u w r e = ap (λ n. n + 1) (number-kept w e.number e.proc (begun w e
 pub numbered-lawful : (u : UserRules) (w : WorkloadView) (r : Readings) (events : List Event) → AreLawful u w r events → Numbered r.number events
 numbered-lawful u w r [] law = tt
 numbered-lawful u w r (e ∷ es) law =
-    (law.0.0.number, subst (λ m. Numbered m es) (number-next u w r e) (numbered-lawful u w (after_event u.inside w r e) es law.1))
+    (law.0.numbering.number, subst (λ m. Numbered m es) (number-next u w r e) (numbered-lawful u w (after_event u.inside w r e) es law.1))
 
-if-yes : {A : Type 0} (b : Bool) (x y : A) → b ≡ true → (if b then x else y) ≡ x
+pub if-yes : {A : Type 0} (b : Bool) (x y : A) → b ≡ true → (if b then x else y) ≡ x
 if-yes true x y is = refl
 if-yes false x y is = absurd (cc)
 
-if-no : {A : Type 0} (b : Bool) (x y : A) → b ≡ false → (if b then x else y) ≡ y
+pub if-no : {A : Type 0} (b : Bool) (x y : A) → b ≡ false → (if b then x else y) ≡ y
 if-no false x y is = refl
 if-no true x y is = absurd (cc)
 

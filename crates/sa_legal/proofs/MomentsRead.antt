@@ -40,7 +40,7 @@ on-machine w p e r (x ∷ xs) within = (within, on-machine w p e (after_record w
 abbrev pub LinesRead : List Item → List (Option ℕ) → Type 0
 LinesRead past lines = (p : ProcNo) (v : ℕ) → get_or lines p.0 None ≡ Some v → RaisedAt past p v
 
-same-proc : (p q : ProcNo) → p.0 ≡ q.0 → p ≡ q
+pub same-proc : (p q : ProcNo) → p.0 ≡ q.0 → p ≡ q
 same-proc p q e = ap (λ n. record { 0 = n }) e
 
 -- an item of an event of p leaves the lines of others raised, and that of p if the event raised it
@@ -67,7 +67,7 @@ own-step : (e : ℕ) (p : ProcNo) (lines : List (Option ℕ)) (x : Record) → (
 own-step e p lines (Line t) own v is = elim (set-cases lines t.0 p.0 v e is) [ inl new ↦ new.1 | inr old ↦ own v old ]
 own-step e p lines x own v is = own v is
 
--- what stands untold behind one more item stood untold before, and that item does not tell it, or it is the item's own
+-- what stands untold after one more item stood untold before, and that item does not tell it, or it is the item's own
 stands-cases : (past : List Item) (x : Item) (s : SpaceNo) (n : Note) → StandsUntold (past ++ x ∷ []) (length (past ++ x ∷ [])) s n
     → (StandsUntold past (length past) s n × (x.what ≢ Told n)) ⊎ Notes x.what s n
 stands-cases past x s n o =
@@ -189,7 +189,7 @@ reads-start w = record {
 pub legal-reads : (u : UserRules) (w : WorkloadView) (items : List Item) → IsLegal u w items → Reads w items (readings u.inside w (events_of items))
 legal-reads u w items legal =
     let gives : (r : Readings) (e : Event) → IsLawful u w r e → EachRecord (OnMachine w e.proc) w e.number e.proc (begun w e r) e.records =
-    λ r e lawful. on-machine w e.proc e.number (begun w e r) e.records lawful.0.proc in
+    λ r e lawful. on-machine w e.proc e.number (begun w e r) e.records lawful.numbering.proc in
     let law = along u w (OnMachine w) gives (opening_readings w) (events_of items) (legal-lawful u w items legal) in
     let read = (walk u.inside w (OnMachine w) (Reads w) (ReadsIn w) Any (reads-kept u.inside w) [] (opening_readings w) (events_of items) (reads-start w) law).0 in
     subst (λ (ys : List Item). Reads w ys (readings u.inside w (events_of items))) (items-events items) read

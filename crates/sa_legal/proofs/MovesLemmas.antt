@@ -78,13 +78,13 @@ event-shaped : (w : WorkloadView) (r : Readings) (e : Event) → IsLawful fast_t
 event-shaped w r e law = one e.number refl where
   one : (n : ℕ) → e.number ≡ n → IsShaped w e.proc (begun w e r) e.records
   one zero is =
-      let same = ap (λ (f : Event). f.records) (law.0.opening is) in
+      let same = ap (λ (f : Event). f.records) (law.numbering.opening is) in
       let calm : AreCalm e.records = subst AreCalm (sym same) (calm-opening w) in
       (calm-fit None e.records calm, calm-first w e.proc (begun w e r) e.records calm)
   one (suc n) is =
       let later : 1 ≤ e.number = omega arith in
-      let turns = law.1.1.1.1.1.1.1.1.1.1.1.1.0 in
-      let locks = law.1.1.1.1.1.1.1.1.1.1.1.1.1.0 in
+      let turns = law.turns_and_steps in
+      let locks = law.list_locks in
       whole-shaped w e.proc (begun w e r) e.records (turn-shaped w (begun w e r) e.proc e.number _ _ (turns.turn later) (locks.step later)) (turns.closing later)
 
 -- so each of them may change what it changes
@@ -140,7 +140,7 @@ pub moves-lives : (w : WorkloadView) (r : Readings) (e : Event) → IsLawful fas
 moves-lives w r e law =
     let shaped = event-shaped w r e law in
     moves-each w e.number e.proc (begun w e r) e.records None refl shaped.0 (first-if w e.proc (begun w e r) e.records shaped.1)
-    law.1.1.1.1.0.named law.1.1.1.1.1.0.told law.1.1.0.told law.1.0.steps
+    law.where_owned.named law.all_told.told law.at_most_once.told law.step_taken.steps
 
 -- where the number of such a record stood
 nowhere : (x : Standing) → space_in x ≡ None → x ≡ Nowhere

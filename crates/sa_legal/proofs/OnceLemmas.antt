@@ -57,7 +57,7 @@ covered-start w s n has = absurd (no-notes (length w.spaces) s.0 n has)
 
 pub tells-at-most-once : (u : UserRules) (w : WorkloadView) (items : List Item) → IsLegal u w items → TellsAtMostOnce items
 tells-at-most-once u w items legal j n stands other =
-    let good = good-at u w items (λ p. TellsOnce) IsCovered (λ e p. IsCovered) TellsUntold legal (tells-kept u.inside w) (λ r e law. law.1.1.0.told) (covered-start w) j stands.item stands.at in
+    let good = good-at u w items (λ p. TellsOnce) IsCovered (λ e p. IsCovered) TellsUntold legal (tells-kept u.inside w) (λ r e law. law.at_most_once.told) (covered-start w) j stands.item stands.at in
     let h = good n stands.what other in
     let within = slice_get_within items j stands.item stands.at in
     (h.0, stands-within items j h.0 n (omega arith) h.1)
@@ -65,6 +65,6 @@ tells-at-most-once u w items legal j n stands other =
 -- all that is read as untold off a legal trace stands untold
 pub covered-whole : (u : UserRules) (w : WorkloadView) (items : List Item) → IsLegal u w items → IsCovered items (readings u.inside w (events_of items))
 covered-whole u w items legal =
-    let law = along u w (λ p. TellsOnce) (λ r e lawful. lawful.1.1.0.told) (opening_readings w) (events_of items) (legal-lawful u w items legal) in
+    let law = along u w (λ p. TellsOnce) (λ r e lawful. lawful.at_most_once.told) (opening_readings w) (events_of items) (legal-lawful u w items legal) in
     let read = (walk u.inside w (λ p. TellsOnce) IsCovered (λ e p. IsCovered) TellsUntold (tells-kept u.inside w) [] (opening_readings w) (events_of items) (covered-start w) law).0 in
     subst (λ (ys : List Item). IsCovered ys (readings u.inside w (events_of items))) (items-events items) read

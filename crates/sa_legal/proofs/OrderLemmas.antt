@@ -110,52 +110,23 @@ holds-none r life lock t only is locks other s holds =
     other (ap (λ (x : Lock). x.thread) one ∙ holds.thread)
 
 lawful5 : IsLawful fast_threads forking q5 f5
-lawful5 = (
-  record { number = refl; proc = omega arith; some = λ no. cc; opening = λ no. absurd (omega arith) },
-  (
-    record { steps = (record { owned = refl; runs = refl; place = refl; within = omega arith; page = tt }, tt) },
-    (
-      record { told = (tt, tt) },
-      (
-        record { prompt = prompt-calm (next g q5 f5) refl },
-        (
-          record { named = (tt, tt); owned = refl },
-          (
-            record { told = (tt, tt) },
-            (
-              record { blocks = (tt, tt) },
-              (
-                record { interrupt = λ no. absurd (cc); calm = λ no. absurd no },
-                (
-                  record { heard = (tt, tt); first = tt; order = refl; due = refl },
-                  (
-                    record { due = λ _. refl; none = no-wants (next g q5 f5) refl },
-                    (
-                      record { covered = one-share; due = refl },
-                      (
-                        record { step = λ _. record { free = λ _. inl refl } },
-                        (
-                          record { turn = λ _. refl; closing = λ _. tt },
-                          (
-                            record { step = λ _. (record { keeps = tt; back = refl }, tt) },
-                            (
-                              record { run = tt },
-                              tt,
-                            ),
-                          ),
-                        ),
-                      ),
-                    ),
-                  ),
-                ),
-              ),
-            ),
-          ),
-        ),
-      ),
-    ),
-  ),
-)
+lawful5 = record {
+  numbering = record { number = refl; proc = omega arith; some = λ no. cc; opening = λ no. absurd (omega arith) };
+  step_taken = record { steps = (record { owned = refl; runs = refl; place = refl; within = omega arith; page = tt }, tt) };
+  at_most_once = record { told = (tt, tt) };
+  in_time = record { prompt = prompt-calm (next g q5 f5) refl };
+  where_owned = record { named = (tt, tt); owned = refl };
+  all_told = record { told = (tt, tt) };
+  block_upcall = record { blocks = (tt, tt) };
+  interrupt_next = record { interrupt = λ no. absurd (cc); calm = λ no. absurd no };
+  line_cause = record { heard = (tt, tt); first = tt; order = refl; due = refl };
+  want_cause = record { due = λ _. refl; none = no-wants (next g q5 f5) refl };
+  shares_covered = record { covered = one-share; due = refl };
+  demand_said = record { step = λ _. record { free = λ _. inl refl } };
+  turns_and_steps = record { turn = λ _. refl; closing = λ _. tt };
+  list_locks = record { step = λ _. (record { keeps = tt; back = refl }, tt) };
+  list_order = record { run = tt };
+}
 
 right5 : HoldEach fast_threads forking rules q5 f5 None
 right5 = with-end fast_threads forking q5 f5 None lawful5 (goes-on q6 refl refl)
@@ -164,52 +135,23 @@ unlocked6 : IsLocked (begun (workload_with g) f6 q6) s0 p0 → ⊥
 unlocked6 locked = none-locked (begun (workload_with g) f6 q6) _ (only-put _ _ (only-put _ _ (only-put _ _ (only-put _ _ (only-put _ _ (only-put _ _ (only-put _ _ (only-put _ _ (only-put _ _ (only-put _ _ only-none)))))))))) refl refl s0 p0 locked
 
 lawful6 : IsLawful fast_threads forking q6 f6
-lawful6 = (
-  record { number = refl; proc = omega arith; some = λ no. cc; opening = λ no. absurd (omega arith) },
-  (
-    record { steps = (tt, tt) },
-    (
-      record { told = (tt, tt) },
-      (
-        record { prompt = prompt-calm (next g q6 f6) refl },
-        (
-          record { named = (tt, tt); owned = refl },
-          (
-            record { told = (tt, tt) },
-            (
-              record { blocks = (tt, tt) },
-              (
-                record { interrupt = λ no. absurd (cc); calm = λ no. absurd no },
-                (
-                  record { heard = (tt, tt); first = tt; order = refl; due = refl },
-                  (
-                    record { due = λ _. refl; none = no-wants (next g q6 f6) refl },
-                    (
-                      record { covered = one-share; due = refl },
-                      (
-                        record { step = λ _. record { free = λ no. absurd (cc) } },
-                        (
-                          record { turn = λ _. refl; closing = λ _. tt },
-                          (
-                            record { step = λ _. (record { keeps = record { space = refl; unlocked = unlocked6; locks = refl; cont = refl; thread = refl; target = refl }; back = refl }, refl) },
-                            (
-                              record { run = tt },
-                              tt,
-                            ),
-                          ),
-                        ),
-                      ),
-                    ),
-                  ),
-                ),
-              ),
-            ),
-          ),
-        ),
-      ),
-    ),
-  ),
-)
+lawful6 = record {
+  numbering = record { number = refl; proc = omega arith; some = λ no. cc; opening = λ no. absurd (omega arith) };
+  step_taken = record { steps = (tt, tt) };
+  at_most_once = record { told = (tt, tt) };
+  in_time = record { prompt = prompt-calm (next g q6 f6) refl };
+  where_owned = record { named = (tt, tt); owned = refl };
+  all_told = record { told = (tt, tt) };
+  block_upcall = record { blocks = (tt, tt) };
+  interrupt_next = record { interrupt = λ no. absurd (cc); calm = λ no. absurd no };
+  line_cause = record { heard = (tt, tt); first = tt; order = refl; due = refl };
+  want_cause = record { due = λ _. refl; none = no-wants (next g q6 f6) refl };
+  shares_covered = record { covered = one-share; due = refl };
+  demand_said = record { step = λ _. record { free = λ no. absurd (cc) } };
+  turns_and_steps = record { turn = λ _. refl; closing = λ _. tt };
+  list_locks = record { step = λ _. (record { keeps = record { space = refl; unlocked = unlocked6; locks = refl; cont = refl; thread = refl; target = refl }; back = refl }, refl) };
+  list_order = record { run = tt };
+}
 
 right6 : HoldEach fast_threads forking rules q6 f6 None
 right6 = with-end fast_threads forking q6 f6 None lawful6 (goes-on q7 refl refl)
@@ -218,154 +160,67 @@ holds7 : HoldsLock (begun (workload_with g) f7 q7) s0 t1 → ⊥
 holds7 holds = holds-none (begun (workload_with g) f7 q7) _ _ t1 (only-put _ _ (only-put _ _ (only-put _ _ (only-put _ _ (only-put _ _ (only-put _ _ (only-put _ _ (only-put _ _ (only-put _ _ (only-put _ _ (only-put _ _ (only-put _ _ only-none)))))))))))) refl refl apart01 s0 holds
 
 lawful7 : IsLawful fast_threads forking q7 f7
-lawful7 = (
-  record { number = refl; proc = omega arith; some = λ no. cc; opening = λ no. absurd (omega arith) },
-  (
-    record { steps = ((refl, inr refl), tt) },
-    (
-      record { told = (tt, tt) },
-      (
-        record { prompt = prompt-calm (next g q7 f7) refl },
-        (
-          record { named = (tt, tt); owned = refl },
-          (
-            record { told = (tt, tt) },
-            (
-              record { blocks = (tt, tt) },
-              (
-                record { interrupt = λ no. absurd (cc); calm = λ no. absurd no },
-                (
-                  record { heard = (tt, tt); first = tt; order = refl; due = refl },
-                  (
-                    record { due = λ _. refl; none = no-wants (next g q7 f7) refl },
-                    (
-                      record { covered = one-share; due = refl },
-                      (
-                        record { step = λ _. record { free = λ no. absurd (cc) } },
-                        (
-                          record { turn = λ _. refl; closing = λ _. tt },
-                          (
-                            record { step = λ _. (record { keeps = record { push = refl; used = record { unused = refl; page = refl; cont = λ no. absurd (cc) }; space = refl; hand = (0, omega arith, refl); counts = refl; holds = holds7 }; back = refl }, refl) },
-                            (
-                              record { run = tt },
-                              tt,
-                            ),
-                          ),
-                        ),
-                      ),
-                    ),
-                  ),
-                ),
-              ),
-            ),
-          ),
-        ),
-      ),
-    ),
-  ),
-)
+lawful7 = record {
+  numbering = record { number = refl; proc = omega arith; some = λ no. cc; opening = λ no. absurd (omega arith) };
+  step_taken = record { steps = ((refl, inr refl), tt) };
+  at_most_once = record { told = (tt, tt) };
+  in_time = record { prompt = prompt-calm (next g q7 f7) refl };
+  where_owned = record { named = (tt, tt); owned = refl };
+  all_told = record { told = (tt, tt) };
+  block_upcall = record { blocks = (tt, tt) };
+  interrupt_next = record { interrupt = λ no. absurd (cc); calm = λ no. absurd no };
+  line_cause = record { heard = (tt, tt); first = tt; order = refl; due = refl };
+  want_cause = record { due = λ _. refl; none = no-wants (next g q7 f7) refl };
+  shares_covered = record { covered = one-share; due = refl };
+  demand_said = record { step = λ _. record { free = λ no. absurd (cc) } };
+  turns_and_steps = record { turn = λ _. refl; closing = λ _. tt };
+  list_locks = record { step = λ _. (record { keeps = record { push = refl; used = record { unused = refl; page = refl; cont = λ no. absurd (cc) }; space = refl; hand = (0, omega arith, refl); counts = refl; holds = holds7 }; back = refl }, refl) };
+  list_order = record { run = tt };
+}
 
 right7 : HoldEach fast_threads forking rules q7 f7 None
 right7 = with-end fast_threads forking q7 f7 None lawful7 (goes-on q8 refl refl)
 
 lawful8 : IsLawful fast_threads forking q8 f8
-lawful8 = (
-  record { number = refl; proc = omega arith; some = λ no. cc; opening = λ no. absurd (omega arith) },
-  (
-    record { steps = (tt, tt) },
-    (
-      record { told = (tt, tt) },
-      (
-        record { prompt = prompt-calm (next g q8 f8) refl },
-        (
-          record { named = (tt, tt); owned = refl },
-          (
-            record { told = (tt, tt) },
-            (
-              record { blocks = (tt, tt) },
-              (
-                record { interrupt = λ no. absurd (cc); calm = λ no. absurd no },
-                (
-                  record { heard = (tt, tt); first = tt; order = refl; due = refl },
-                  (
-                    record { due = λ _. refl; none = no-wants (next g q8 f8) refl },
-                    (
-                      record { covered = one-share; due = refl },
-                      (
-                        record { step = λ _. record { free = λ no. absurd (cc) } },
-                        (
-                          record { turn = λ _. refl; closing = λ _. tt },
-                          (
-                            record { step = λ _. (record { keeps = record { space = refl; list = refl; thread = refl; used = refl; cont = λ no. absurd (cc) }; back = refl }, refl) },
-                            (
-                              record { run = tt },
-                              tt,
-                            ),
-                          ),
-                        ),
-                      ),
-                    ),
-                  ),
-                ),
-              ),
-            ),
-          ),
-        ),
-      ),
-    ),
-  ),
-)
+lawful8 = record {
+  numbering = record { number = refl; proc = omega arith; some = λ no. cc; opening = λ no. absurd (omega arith) };
+  step_taken = record { steps = (tt, tt) };
+  at_most_once = record { told = (tt, tt) };
+  in_time = record { prompt = prompt-calm (next g q8 f8) refl };
+  where_owned = record { named = (tt, tt); owned = refl };
+  all_told = record { told = (tt, tt) };
+  block_upcall = record { blocks = (tt, tt) };
+  interrupt_next = record { interrupt = λ no. absurd (cc); calm = λ no. absurd no };
+  line_cause = record { heard = (tt, tt); first = tt; order = refl; due = refl };
+  want_cause = record { due = λ _. refl; none = no-wants (next g q8 f8) refl };
+  shares_covered = record { covered = one-share; due = refl };
+  demand_said = record { step = λ _. record { free = λ no. absurd (cc) } };
+  turns_and_steps = record { turn = λ _. refl; closing = λ _. tt };
+  list_locks = record { step = λ _. (record { keeps = record { space = refl; list = refl; thread = refl; used = refl; cont = λ no. absurd (cc) }; back = refl }, refl) };
+  list_order = record { run = tt };
+}
 
 right8 : HoldEach fast_threads forking rules q8 f8 None
 right8 = with-end fast_threads forking q8 f8 None lawful8 (goes-on q9 refl refl)
 
 lawful9 : IsLawful fast_threads forking q9 f9
-lawful9 = (
-  record { number = refl; proc = omega arith; some = λ no. cc; opening = λ no. absurd (omega arith) },
-  (
-    record { steps = (record { owned = refl; runs = refl; place = refl; within = omega arith; page = tt }, tt) },
-    (
-      record { told = (tt, tt) },
-      (
-        record { prompt = prompt-calm (next g q9 f9) refl },
-        (
-          record { named = (tt, tt); owned = refl },
-          (
-            record { told = (tt, tt) },
-            (
-              record { blocks = (tt, tt) },
-              (
-                record { interrupt = λ no. absurd (cc); calm = λ no. absurd no },
-                (
-                  record { heard = (tt, tt); first = tt; order = refl; due = refl },
-                  (
-                    record { due = λ _. refl; none = no-wants (next g q9 f9) refl },
-                    (
-                      record { covered = one-share; due = refl },
-                      (
-                        record { step = λ _. record { free = λ _. inl refl } },
-                        (
-                          record { turn = λ _. refl; closing = λ _. tt },
-                          (
-                            record { step = λ _. (record { keeps = tt; back = refl }, tt) },
-                            (
-                              record { run = tt },
-                              tt,
-                            ),
-                          ),
-                        ),
-                      ),
-                    ),
-                  ),
-                ),
-              ),
-            ),
-          ),
-        ),
-      ),
-    ),
-  ),
-)
+lawful9 = record {
+  numbering = record { number = refl; proc = omega arith; some = λ no. cc; opening = λ no. absurd (omega arith) };
+  step_taken = record { steps = (record { owned = refl; runs = refl; place = refl; within = omega arith; page = tt }, tt) };
+  at_most_once = record { told = (tt, tt) };
+  in_time = record { prompt = prompt-calm (next g q9 f9) refl };
+  where_owned = record { named = (tt, tt); owned = refl };
+  all_told = record { told = (tt, tt) };
+  block_upcall = record { blocks = (tt, tt) };
+  interrupt_next = record { interrupt = λ no. absurd (cc); calm = λ no. absurd no };
+  line_cause = record { heard = (tt, tt); first = tt; order = refl; due = refl };
+  want_cause = record { due = λ _. refl; none = no-wants (next g q9 f9) refl };
+  shares_covered = record { covered = one-share; due = refl };
+  demand_said = record { step = λ _. record { free = λ _. inl refl } };
+  turns_and_steps = record { turn = λ _. refl; closing = λ _. tt };
+  list_locks = record { step = λ _. (record { keeps = tt; back = refl }, tt) };
+  list_order = record { run = tt };
+}
 
 right9 : HoldEach fast_threads forking rules q9 f9 None
 right9 = with-end fast_threads forking q9 f9 None lawful9 (goes-on q10 refl refl)
@@ -374,52 +229,23 @@ unlocked10 : IsLocked (begun (workload_with g) f10 q10) s0 p0 → ⊥
 unlocked10 locked = none-locked (begun (workload_with g) f10 q10) _ (only-put _ _ (only-put _ _ (only-put _ _ (only-put _ _ (only-put _ _ (only-put _ _ (only-put _ _ (only-put _ _ (only-put _ _ (only-put _ _ (only-put _ _ (only-put _ _ (only-put _ _ (only-put _ _ (only-put _ _ (only-put _ _ (only-put _ _ (only-put _ _ only-none)))))))))))))))))) refl refl s0 p0 locked
 
 lawful10 : IsLawful fast_threads forking q10 f10
-lawful10 = (
-  record { number = refl; proc = omega arith; some = λ no. cc; opening = λ no. absurd (omega arith) },
-  (
-    record { steps = (tt, tt) },
-    (
-      record { told = (tt, tt) },
-      (
-        record { prompt = prompt-calm (next g q10 f10) refl },
-        (
-          record { named = (tt, tt); owned = refl },
-          (
-            record { told = (tt, tt) },
-            (
-              record { blocks = (tt, tt) },
-              (
-                record { interrupt = λ no. absurd (cc); calm = λ no. absurd no },
-                (
-                  record { heard = (tt, tt); first = tt; order = refl; due = refl },
-                  (
-                    record { due = λ _. refl; none = no-wants (next g q10 f10) refl },
-                    (
-                      record { covered = one-share; due = refl },
-                      (
-                        record { step = λ _. record { free = λ no. absurd (cc) } },
-                        (
-                          record { turn = λ _. refl; closing = λ _. tt },
-                          (
-                            record { step = λ _. (record { keeps = record { space = refl; unlocked = unlocked10; locks = refl; cont = refl; thread = refl; target = refl }; back = refl }, refl) },
-                            (
-                              record { run = tt },
-                              tt,
-                            ),
-                          ),
-                        ),
-                      ),
-                    ),
-                  ),
-                ),
-              ),
-            ),
-          ),
-        ),
-      ),
-    ),
-  ),
-)
+lawful10 = record {
+  numbering = record { number = refl; proc = omega arith; some = λ no. cc; opening = λ no. absurd (omega arith) };
+  step_taken = record { steps = (tt, tt) };
+  at_most_once = record { told = (tt, tt) };
+  in_time = record { prompt = prompt-calm (next g q10 f10) refl };
+  where_owned = record { named = (tt, tt); owned = refl };
+  all_told = record { told = (tt, tt) };
+  block_upcall = record { blocks = (tt, tt) };
+  interrupt_next = record { interrupt = λ no. absurd (cc); calm = λ no. absurd no };
+  line_cause = record { heard = (tt, tt); first = tt; order = refl; due = refl };
+  want_cause = record { due = λ _. refl; none = no-wants (next g q10 f10) refl };
+  shares_covered = record { covered = one-share; due = refl };
+  demand_said = record { step = λ _. record { free = λ no. absurd (cc) } };
+  turns_and_steps = record { turn = λ _. refl; closing = λ _. tt };
+  list_locks = record { step = λ _. (record { keeps = record { space = refl; unlocked = unlocked10; locks = refl; cont = refl; thread = refl; target = refl }; back = refl }, refl) };
+  list_order = record { run = tt };
+}
 
 right10 : HoldEach fast_threads forking rules q10 f10 None
 right10 = with-end fast_threads forking q10 f10 None lawful10 (goes-on q11 refl refl)
@@ -428,154 +254,67 @@ holds11 : HoldsLock (begun (workload_with g) f11 q11) s0 t2 → ⊥
 holds11 holds = holds-none (begun (workload_with g) f11 q11) _ _ t2 (only-put _ _ (only-put _ _ (only-put _ _ (only-put _ _ (only-put _ _ (only-put _ _ (only-put _ _ (only-put _ _ (only-put _ _ (only-put _ _ (only-put _ _ (only-put _ _ (only-put _ _ (only-put _ _ (only-put _ _ (only-put _ _ (only-put _ _ (only-put _ _ (only-put _ _ (only-put _ _ only-none)))))))))))))))))))) refl refl apart02 s0 holds
 
 lawful11 : IsLawful fast_threads forking q11 f11
-lawful11 = (
-  record { number = refl; proc = omega arith; some = λ no. cc; opening = λ no. absurd (omega arith) },
-  (
-    record { steps = ((refl, inr refl), tt) },
-    (
-      record { told = (tt, tt) },
-      (
-        record { prompt = prompt-calm (next g q11 f11) refl },
-        (
-          record { named = (tt, tt); owned = refl },
-          (
-            record { told = (tt, tt) },
-            (
-              record { blocks = (tt, tt) },
-              (
-                record { interrupt = λ no. absurd (cc); calm = λ no. absurd no },
-                (
-                  record { heard = (tt, tt); first = tt; order = refl; due = refl },
-                  (
-                    record { due = λ _. refl; none = no-wants (next g q11 f11) refl },
-                    (
-                      record { covered = one-share; due = refl },
-                      (
-                        record { step = λ _. record { free = λ no. absurd (cc) } },
-                        (
-                          record { turn = λ _. refl; closing = λ _. tt },
-                          (
-                            record { step = λ _. (record { keeps = record { push = refl; used = record { unused = refl; page = refl; cont = λ no. absurd (cc) }; space = refl; hand = (0, omega arith, refl); counts = refl; holds = holds11 }; back = refl }, refl) },
-                            (
-                              record { run = tt },
-                              tt,
-                            ),
-                          ),
-                        ),
-                      ),
-                    ),
-                  ),
-                ),
-              ),
-            ),
-          ),
-        ),
-      ),
-    ),
-  ),
-)
+lawful11 = record {
+  numbering = record { number = refl; proc = omega arith; some = λ no. cc; opening = λ no. absurd (omega arith) };
+  step_taken = record { steps = ((refl, inr refl), tt) };
+  at_most_once = record { told = (tt, tt) };
+  in_time = record { prompt = prompt-calm (next g q11 f11) refl };
+  where_owned = record { named = (tt, tt); owned = refl };
+  all_told = record { told = (tt, tt) };
+  block_upcall = record { blocks = (tt, tt) };
+  interrupt_next = record { interrupt = λ no. absurd (cc); calm = λ no. absurd no };
+  line_cause = record { heard = (tt, tt); first = tt; order = refl; due = refl };
+  want_cause = record { due = λ _. refl; none = no-wants (next g q11 f11) refl };
+  shares_covered = record { covered = one-share; due = refl };
+  demand_said = record { step = λ _. record { free = λ no. absurd (cc) } };
+  turns_and_steps = record { turn = λ _. refl; closing = λ _. tt };
+  list_locks = record { step = λ _. (record { keeps = record { push = refl; used = record { unused = refl; page = refl; cont = λ no. absurd (cc) }; space = refl; hand = (0, omega arith, refl); counts = refl; holds = holds11 }; back = refl }, refl) };
+  list_order = record { run = tt };
+}
 
 right11 : HoldEach fast_threads forking rules q11 f11 None
 right11 = with-end fast_threads forking q11 f11 None lawful11 (goes-on q12 refl refl)
 
 lawful12 : IsLawful fast_threads forking q12 f12
-lawful12 = (
-  record { number = refl; proc = omega arith; some = λ no. cc; opening = λ no. absurd (omega arith) },
-  (
-    record { steps = (tt, tt) },
-    (
-      record { told = (tt, tt) },
-      (
-        record { prompt = prompt-calm (next g q12 f12) refl },
-        (
-          record { named = (tt, tt); owned = refl },
-          (
-            record { told = (tt, tt) },
-            (
-              record { blocks = (tt, tt) },
-              (
-                record { interrupt = λ no. absurd (cc); calm = λ no. absurd no },
-                (
-                  record { heard = (tt, tt); first = tt; order = refl; due = refl },
-                  (
-                    record { due = λ _. refl; none = no-wants (next g q12 f12) refl },
-                    (
-                      record { covered = one-share; due = refl },
-                      (
-                        record { step = λ _. record { free = λ no. absurd (cc) } },
-                        (
-                          record { turn = λ _. refl; closing = λ _. tt },
-                          (
-                            record { step = λ _. (record { keeps = record { space = refl; list = refl; thread = refl; used = refl; cont = λ no. absurd (cc) }; back = refl }, refl) },
-                            (
-                              record { run = tt },
-                              tt,
-                            ),
-                          ),
-                        ),
-                      ),
-                    ),
-                  ),
-                ),
-              ),
-            ),
-          ),
-        ),
-      ),
-    ),
-  ),
-)
+lawful12 = record {
+  numbering = record { number = refl; proc = omega arith; some = λ no. cc; opening = λ no. absurd (omega arith) };
+  step_taken = record { steps = (tt, tt) };
+  at_most_once = record { told = (tt, tt) };
+  in_time = record { prompt = prompt-calm (next g q12 f12) refl };
+  where_owned = record { named = (tt, tt); owned = refl };
+  all_told = record { told = (tt, tt) };
+  block_upcall = record { blocks = (tt, tt) };
+  interrupt_next = record { interrupt = λ no. absurd (cc); calm = λ no. absurd no };
+  line_cause = record { heard = (tt, tt); first = tt; order = refl; due = refl };
+  want_cause = record { due = λ _. refl; none = no-wants (next g q12 f12) refl };
+  shares_covered = record { covered = one-share; due = refl };
+  demand_said = record { step = λ _. record { free = λ no. absurd (cc) } };
+  turns_and_steps = record { turn = λ _. refl; closing = λ _. tt };
+  list_locks = record { step = λ _. (record { keeps = record { space = refl; list = refl; thread = refl; used = refl; cont = λ no. absurd (cc) }; back = refl }, refl) };
+  list_order = record { run = tt };
+}
 
 right12 : HoldEach fast_threads forking rules q12 f12 None
 right12 = with-end fast_threads forking q12 f12 None lawful12 (goes-on q13 refl refl)
 
 lawful13 : IsLawful fast_threads forking q13 f13
-lawful13 = (
-  record { number = refl; proc = omega arith; some = λ no. cc; opening = λ no. absurd (omega arith) },
-  (
-    record { steps = (record { owned = refl; runs = refl; place = refl; within = omega arith; page = tt }, tt) },
-    (
-      record { told = (tt, tt) },
-      (
-        record { prompt = prompt-calm (next g q13 f13) refl },
-        (
-          record { named = (tt, tt); owned = refl },
-          (
-            record { told = (tt, tt) },
-            (
-              record { blocks = (tt, tt) },
-              (
-                record { interrupt = λ no. absurd (cc); calm = λ no. absurd no },
-                (
-                  record { heard = (tt, tt); first = tt; order = refl; due = refl },
-                  (
-                    record { due = λ _. refl; none = no-wants (next g q13 f13) refl },
-                    (
-                      record { covered = one-share; due = refl },
-                      (
-                        record { step = λ _. record { free = λ _. inl refl } },
-                        (
-                          record { turn = λ _. refl; closing = λ _. tt },
-                          (
-                            record { step = λ _. (record { keeps = tt; back = refl }, tt) },
-                            (
-                              record { run = tt },
-                              tt,
-                            ),
-                          ),
-                        ),
-                      ),
-                    ),
-                  ),
-                ),
-              ),
-            ),
-          ),
-        ),
-      ),
-    ),
-  ),
-)
+lawful13 = record {
+  numbering = record { number = refl; proc = omega arith; some = λ no. cc; opening = λ no. absurd (omega arith) };
+  step_taken = record { steps = (record { owned = refl; runs = refl; place = refl; within = omega arith; page = tt }, tt) };
+  at_most_once = record { told = (tt, tt) };
+  in_time = record { prompt = prompt-calm (next g q13 f13) refl };
+  where_owned = record { named = (tt, tt); owned = refl };
+  all_told = record { told = (tt, tt) };
+  block_upcall = record { blocks = (tt, tt) };
+  interrupt_next = record { interrupt = λ no. absurd (cc); calm = λ no. absurd no };
+  line_cause = record { heard = (tt, tt); first = tt; order = refl; due = refl };
+  want_cause = record { due = λ _. refl; none = no-wants (next g q13 f13) refl };
+  shares_covered = record { covered = one-share; due = refl };
+  demand_said = record { step = λ _. record { free = λ _. inl refl } };
+  turns_and_steps = record { turn = λ _. refl; closing = λ _. tt };
+  list_locks = record { step = λ _. (record { keeps = tt; back = refl }, tt) };
+  list_order = record { run = tt };
+}
 
 right13 : HoldEach fast_threads forking rules q13 f13 None
 right13 = with-end fast_threads forking q13 f13 None lawful13 (goes-on q14 refl refl)
@@ -584,52 +323,23 @@ unlocked14 : IsLocked (begun (workload_with g) f14 q14) s0 p0 → ⊥
 unlocked14 locked = none-locked (begun (workload_with g) f14 q14) _ (only-put _ _ (only-put _ _ (only-put _ _ (only-put _ _ (only-put _ _ (only-put _ _ (only-put _ _ (only-put _ _ (only-put _ _ (only-put _ _ (only-put _ _ (only-put _ _ (only-put _ _ (only-put _ _ (only-put _ _ (only-put _ _ (only-put _ _ (only-put _ _ (only-put _ _ (only-put _ _ (only-put _ _ (only-put _ _ (only-put _ _ (only-put _ _ (only-put _ _ (only-put _ _ only-none)))))))))))))))))))))))))) refl refl s0 p0 locked
 
 lawful14 : IsLawful fast_threads forking q14 f14
-lawful14 = (
-  record { number = refl; proc = omega arith; some = λ no. cc; opening = λ no. absurd (omega arith) },
-  (
-    record { steps = (tt, tt) },
-    (
-      record { told = (tt, tt) },
-      (
-        record { prompt = prompt-calm (next g q14 f14) refl },
-        (
-          record { named = (tt, tt); owned = refl },
-          (
-            record { told = (tt, tt) },
-            (
-              record { blocks = (tt, tt) },
-              (
-                record { interrupt = λ no. absurd (cc); calm = λ no. absurd no },
-                (
-                  record { heard = (tt, tt); first = tt; order = refl; due = refl },
-                  (
-                    record { due = λ _. refl; none = no-wants (next g q14 f14) refl },
-                    (
-                      record { covered = one-share; due = refl },
-                      (
-                        record { step = λ _. record { free = λ _. inl refl } },
-                        (
-                          record { turn = λ _. refl; closing = λ _. tt },
-                          (
-                            record { step = λ _. (record { keeps = record { space = refl; unlocked = unlocked14; locks = refl; cont = refl; thread = refl; target = (refl, record { steps = 0; within = omega arith; list = refl; opens = record { ready = refl; unlocked = unlocked14 }; first = λ k no. absurd (omega arith) }) }; back = refl }, refl) },
-                            (
-                              record { run = tt },
-                              tt,
-                            ),
-                          ),
-                        ),
-                      ),
-                    ),
-                  ),
-                ),
-              ),
-            ),
-          ),
-        ),
-      ),
-    ),
-  ),
-)
+lawful14 = record {
+  numbering = record { number = refl; proc = omega arith; some = λ no. cc; opening = λ no. absurd (omega arith) };
+  step_taken = record { steps = (tt, tt) };
+  at_most_once = record { told = (tt, tt) };
+  in_time = record { prompt = prompt-calm (next g q14 f14) refl };
+  where_owned = record { named = (tt, tt); owned = refl };
+  all_told = record { told = (tt, tt) };
+  block_upcall = record { blocks = (tt, tt) };
+  interrupt_next = record { interrupt = λ no. absurd (cc); calm = λ no. absurd no };
+  line_cause = record { heard = (tt, tt); first = tt; order = refl; due = refl };
+  want_cause = record { due = λ _. refl; none = no-wants (next g q14 f14) refl };
+  shares_covered = record { covered = one-share; due = refl };
+  demand_said = record { step = λ _. record { free = λ _. inl refl } };
+  turns_and_steps = record { turn = λ _. refl; closing = λ _. tt };
+  list_locks = record { step = λ _. (record { keeps = record { space = refl; unlocked = unlocked14; locks = refl; cont = refl; thread = refl; target = (refl, record { steps = 0; within = omega arith; list = refl; opens = record { ready = refl; unlocked = unlocked14 }; first = λ k no. absurd (omega arith) }) }; back = refl }, refl) };
+  list_order = record { run = tt };
+}
 
 right14 : HoldEach fast_threads forking rules q14 f14 None
 right14 = with-end fast_threads forking q14 f14 None lawful14 (goes-on q15 refl refl)

@@ -30,6 +30,8 @@ use Rattle.sa_laws.specs.Readings.{Readings, untold_of}
 use Rattle.sa_laws.specs.Record.{aims_after, demands_after, under_way_after, untold_after, with_note, is_other_note, same_note, blocking_for, length_behind, is_io_of, is_io_of_other, is_kind_of}
 use Rattle.sa_legal.specs.Words.{last_said, aim_in, want_in, move_in, fetch_in, RaisedAt, Notes}
 use Rattle.sa_legal.proofs.WalkLemmas.{item}
+use Rattle.sa_legal.proofs.StandingLemmas.{same-number}
+use Rattle.sa_legal.proofs.AppendLemmas.{alike}
 
 or-none : {A : Type 0} (x : Option A) → option_or None x ≡ option_or x None
 or-none None = refl
@@ -109,7 +111,7 @@ owners-changed w p a (Back s t) = placed-owners a s t _
 owners-changed w p a x = refl
 
 -- of the event's own processor, which the machine has
-differ : (a b : ℕ) → a ≢ b → (a == b) ≡ false
+pub differ : (a b : ℕ) → a ≢ b → (a == b) ≡ false
 differ a b apart = grind (arith, nat_tests)
 
 owner-past : (owners : List (Option SpaceNo)) (q p : ℕ) (new : Option SpaceNo) → p ≢ q
@@ -221,9 +223,6 @@ raised-more past x p e apart o = record {
   ];
 }
 
-alike : (a : ℕ) → (a == a) ≡ true
-alike a = grind (arith, nat_tests)
-
 pub raised-new : (past : List Item) (e : ℕ) (q p : ProcNo) → RaisedAt (past ++ item e q (Line p) ∷ []) p e
 raised-new past e q p = record {
   place = length past;
@@ -252,7 +251,7 @@ clear-cases (x ∷ xs) (suc i) zero v is = ((λ e. cc), is)
 clear-cases (x ∷ xs) (suc i) (suc j) v is = let h = clear-cases xs i j v is in ((λ e. h.0 (omega arith)), h.1)
 
 -- what stands untold is read as untold
-with-keeps : (xs : List (List Note)) (i j : ℕ) (y z : Note) → Contains (get_or xs j []) z → Contains (get_or (slice_set xs i (get_or xs i [] ++ y ∷ [])) j []) z
+pub with-keeps : (xs : List (List Note)) (i j : ℕ) (y z : Note) → Contains (get_or xs j []) z → Contains (get_or (slice_set xs i (get_or xs i [] ++ y ∷ [])) j []) z
 with-keeps [] i j y z has = has
 with-keeps (x ∷ xs) zero zero y z has = Contains-append_left x (y ∷ []) z has
 with-keeps (x ∷ xs) zero (suc j) y z has = has
@@ -285,15 +284,12 @@ without-keeps test [] j z passes has = has
 without-keeps test (x ∷ xs) zero z passes has = filter-keeps test x z passes has
 without-keeps test (x ∷ xs) (suc j) z passes has = without-keeps test xs j z passes has
 
-same-act : (a b : ℕ) → (a == b) ≡ true → a ≡ b
-same-act a b is = grind (arith, nat_tests)
-
 -- two notes that are alike are one
 same-is : (m n : Note) → same_note m n ≡ true → m ≡ n
-same-is (note.Add p) (note.Add q) is = ap (λ k. note.Add (record { 0 = k })) (same-act p.0 q.0 is)
-same-is (note.Preempted a) (note.Preempted b) is = ap (λ k. note.Preempted (record { 0 = k })) (same-act a.0 b.0 is)
-same-is (note.Blocked a) (note.Blocked b) is = ap (λ k. note.Blocked (record { 0 = k })) (same-act a.0 b.0 is)
-same-is (note.Unblocked a) (note.Unblocked b) is = ap (λ k. note.Unblocked (record { 0 = k })) (same-act a.0 b.0 is)
+same-is (note.Add p) (note.Add q) is = ap (λ k. note.Add (record { 0 = k })) (same-number p.0 q.0 is)
+same-is (note.Preempted a) (note.Preempted b) is = ap (λ k. note.Preempted (record { 0 = k })) (same-number a.0 b.0 is)
+same-is (note.Blocked a) (note.Blocked b) is = ap (λ k. note.Blocked (record { 0 = k })) (same-number a.0 b.0 is)
+same-is (note.Unblocked a) (note.Unblocked b) is = ap (λ k. note.Unblocked (record { 0 = k })) (same-number a.0 b.0 is)
 same-is m n is = absurd (cc)
 
 other-note : (n m : Note) → m ≢ n → is_other_note n m ≡ true

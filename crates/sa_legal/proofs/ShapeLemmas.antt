@@ -24,7 +24,7 @@ use Rattle.sa_laws.specs.Turns.{AreRaising, IsClosing, AreTold, IsFetchOrNothing
 use Rattle.sa_laws.specs.Locks.{KeepsLocks, KeepsLocksIf, KeepsLocksIn, StandsAlone}
 use Rattle.sa_laws.specs.Upcalls.{RecordLaw, IsUntoldTo, RunsOn, IsTaken}
 
--- told records stand behind an up or another told record
+-- told records stand after an up or another told record
 abbrev pub is_telling : Option Record → Bool
 is_telling (Some (Up s a)) = true
 is_telling (Some (Told n)) = true
@@ -48,7 +48,7 @@ MovesLives w p r (Take s l t) rest = OnLife w p r (Take s l t)
 MovesLives w p r (Free s l t) rest = OnLife w p r (Free s l t)
 MovesLives w p r _ rest = Unit {0}
 
--- which records stand first, and which behind another one
+-- which records stand first, and which after another one
 abbrev pub fits : Option Record → Record → Bool
 fits None (Told n) = false
 fits None x = true
@@ -108,7 +108,7 @@ closing-fit last (Line p ∷ xs) is = (fits-line last p, raising-fit (Some (Line
 closing-fit last (Aim p None ∷ xs) is = absurd is
 closing-fit last (x ∷ xs) is = absurd is
 
--- told records behind an up or a told record; a passage
+-- told records after an up or a told record; a passage
 told-fit : (y : Record) (xs : List Record) → is_telling (Some y) ≡ true → AreTold xs → AllFit (Some y) xs
 told-fit y [] telling is = tt
 told-fit y (Told n ∷ xs) telling is = (telling, told-fit (Told n) xs refl is)
@@ -143,7 +143,7 @@ or-second : (a b : Bool) → b ≡ true → (a || b) ≡ true
 or-second true b is = refl
 or-second false b is = is
 
-or-left : (a b : Bool) → a ≡ true → (a || b) ≡ true
+pub or-left : (a b : Bool) → a ≡ true → (a || b) ≡ true
 or-left true b is = refl
 or-left false b is = absurd (cc)
 
@@ -245,7 +245,7 @@ turn-shaped w r p e true xs is keeps = interrupt-shaped w p r xs is
 turn-shaped w r p e false xs is keeps = due-shaped w r p e (due_of e r.under_way) xs refl is keeps
 
 -- the own part and the closing are the event
-parts-take : (n : ℕ) (xs : List Record) → take n xs ++ drop (length (take n xs)) xs ≡ xs
+pub parts-take : (n : ℕ) (xs : List Record) → take n xs ++ drop (length (take n xs)) xs ≡ xs
 parts-take zero [] = refl
 parts-take (suc n) [] = refl
 parts-take zero (x ∷ xs) = refl

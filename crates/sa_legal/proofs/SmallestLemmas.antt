@@ -52,332 +52,158 @@ abbrev pub r5 : List Instr → Readings
 r5 g = next g (r4 g) e4
 
 pub lawful0 : (g : List Instr) → IsLawful fast_threads (workload_with g) (r0 g) e0
-lawful0 g = (
-  record { number = refl; proc = omega arith; some = λ no. cc; opening = λ _. refl },
-  (
-    record { steps = (tt, (tt, (tt, tt))) },
-    (
-      record { told = (tt, (tt, (tt, tt))) },
-      (
-        record { prompt = prompt-calm (r1 g) refl },
-        (
-          record { named = (tt, (tt, (tt, tt))); owned = refl },
-          (
-            record { told = (tt, (tt, (tt, tt))) },
-            (
-              record { blocks = (tt, (tt, (tt, tt))) },
-              (
-                record { interrupt = λ no. absurd (cc); calm = λ no. absurd no },
-                (
-                  record { heard = (tt, (record { line = λ _. refl }, (refl, tt))); first = tt; order = refl; due = refl },
-                  (
-                    record { due = λ no. absurd (omega arith); none = no-wants (r1 g) refl },
-                    (
-                      record { covered = one-share; due = refl },
-                      (
-                        record { step = λ no. absurd (omega arith) },
-                        (
-                          record { turn = λ no. absurd (omega arith); closing = λ no. absurd (omega arith) },
-                          (
-                            record { step = λ no. absurd (omega arith) },
-                            (
-                              record { run = tt },
-                              tt,
-                            ),
-                          ),
-                        ),
-                      ),
-                    ),
-                  ),
-                ),
-              ),
-            ),
-          ),
-        ),
-      ),
-    ),
-  ),
-)
+lawful0 g = record {
+  numbering = record { number = refl; proc = omega arith; some = λ no. cc; opening = λ _. refl };
+  step_taken = record { steps = (tt, (tt, (tt, tt))) };
+  at_most_once = record { told = (tt, (tt, (tt, tt))) };
+  in_time = record { prompt = prompt-calm (r1 g) refl };
+  where_owned = record { named = (tt, (tt, (tt, tt))); owned = refl };
+  all_told = record { told = (tt, (tt, (tt, tt))) };
+  block_upcall = record { blocks = (tt, (tt, (tt, tt))) };
+  interrupt_next = record { interrupt = λ no. absurd (cc); calm = λ no. absurd no };
+  line_cause = record { heard = (tt, (record { line = λ _. refl }, (refl, tt))); first = tt; order = refl; due = refl };
+  want_cause = record { due = λ no. absurd (omega arith); none = no-wants (r1 g) refl };
+  shares_covered = record { covered = one-share; due = refl };
+  demand_said = record { step = λ no. absurd (omega arith) };
+  turns_and_steps = record { turn = λ no. absurd (omega arith); closing = λ no. absurd (omega arith) };
+  list_locks = record { step = λ no. absurd (omega arith) };
+  list_order = record { run = tt };
+}
 
 pub lawful1 : (g : List Instr) → IsLawful fast_threads (workload_with g) (r1 g) e1
-lawful1 g = (
-  record { number = refl; proc = omega arith; some = λ no. cc; opening = λ no. absurd (omega arith) },
-  (
-    record { steps = ((refl, refl), (tt, (tt, tt))) },
-    (
-      record { told = (tt, (tt, (tt, tt))) },
-      (
-        record { prompt = prompt-calm (r2 g) refl },
-        (
-          record { named = (tt, (refl, (tt, tt))); owned = refl },
-          (
-            record { told = (tt, (record { fresh = refl; notes = refl; some = λ no. cc }, (tt, tt))) },
-            (
-              record { blocks = (tt, (tt, (tt, tt))) },
-              (
-                record { interrupt = λ _. (refl, refl, refl); calm = λ _. refl },
-                (
-                  record { heard = (tt, (tt, (tt, tt))); first = tt; order = refl; due = refl },
-                  (
-                    record { due = λ _. refl; none = no-wants (r2 g) refl },
-                    (
-                      record { covered = one-share; due = refl },
-                      (
-                        record { step = λ _. tt },
-                        (
-                          record { turn = λ _. tt; closing = λ _. tt },
-                          (
-                            record { step = λ _. (tt, tt) },
-                            (
-                              record { run = tt },
-                              tt,
-                            ),
-                          ),
-                        ),
-                      ),
-                    ),
-                  ),
-                ),
-              ),
-            ),
-          ),
-        ),
-      ),
-    ),
-  ),
-)
+lawful1 g = record {
+  numbering = record { number = refl; proc = omega arith; some = λ no. cc; opening = λ no. absurd (omega arith) };
+  step_taken = record { steps = ((refl, refl), (tt, (tt, tt))) };
+  at_most_once = record { told = (tt, (tt, (tt, tt))) };
+  in_time = record { prompt = prompt-calm (r2 g) refl };
+  where_owned = record { named = (tt, (refl, (tt, tt))); owned = refl };
+  all_told = record { told = (tt, (record { fresh = refl; notes = refl; some = λ no. cc }, (tt, tt))) };
+  block_upcall = record { blocks = (tt, (tt, (tt, tt))) };
+  interrupt_next = record { interrupt = λ _. (refl, refl, refl); calm = λ _. refl };
+  line_cause = record { heard = (tt, (tt, (tt, tt))); first = tt; order = refl; due = refl };
+  want_cause = record { due = λ _. refl; none = no-wants (r2 g) refl };
+  shares_covered = record { covered = one-share; due = refl };
+  demand_said = record { step = λ _. tt };
+  turns_and_steps = record { turn = λ _. tt; closing = λ _. tt };
+  list_locks = record { step = λ _. (tt, tt) };
+  list_order = record { run = tt };
+}
 
 pub unlocked2 : (g : List Instr) (e : Event) → IsLocked (begun (workload_with g) e (r2 g)) s0 p0 → ⊥
 unlocked2 g e locked = none-locked (begun (workload_with g) e (r2 g)) _ (only-put _ _ (only-put _ _ only-none)) refl refl s0 p0 locked
 
 pub lawful2 : (g : List Instr) → IsLawful fast_threads (workload_with g) (r2 g) e2
-lawful2 g = (
-  record { number = refl; proc = omega arith; some = λ no. cc; opening = λ no. absurd (omega arith) },
-  (
-    record { steps = (tt, tt) },
-    (
-      record { told = (tt, tt) },
-      (
-        record { prompt = prompt-calm (r3 g) refl },
-        (
-          record { named = (tt, tt); owned = refl },
-          (
-            record { told = (tt, tt) },
-            (
-              record { blocks = (tt, tt) },
-              (
-                record { interrupt = λ no. absurd (cc); calm = λ no. absurd no },
-                (
-                  record { heard = (tt, tt); first = tt; order = refl; due = refl },
-                  (
-                    record { due = λ _. refl; none = no-wants (r3 g) refl },
-                    (
-                      record { covered = one-share; due = refl },
-                      (
-                        record { step = λ _. record { free = λ _. inl refl } },
-                        (
-                          record { turn = λ _. refl; closing = λ _. tt },
-                          (
-                            record {
-                              step = λ _. (
-                                record {
-                                  keeps = record {
-                                    space = refl;
-                                    unlocked = unlocked2 g e2;
-                                    locks = refl;
-                                    cont = refl;
-                                    thread = refl;
-                                    target = (
-                                      refl,
-                                      record {
-                                        steps = 0;
-                                        within = omega arith;
-                                        list = refl;
-                                        opens = record { ready = refl; unlocked = unlocked2 g e2 };
-                                        first = λ k no. absurd (omega arith);
-                                      },
-                                    );
-                                  };
-                                  back = refl;
-                                },
-                                refl,
-                              );
-                            },
-                            (
-                              record { run = tt },
-                              tt,
-                            ),
-                          ),
-                        ),
-                      ),
-                    ),
-                  ),
-                ),
-              ),
-            ),
-          ),
-        ),
-      ),
-    ),
-  ),
-)
+lawful2 g = record {
+  numbering = record { number = refl; proc = omega arith; some = λ no. cc; opening = λ no. absurd (omega arith) };
+  step_taken = record { steps = (tt, tt) };
+  at_most_once = record { told = (tt, tt) };
+  in_time = record { prompt = prompt-calm (r3 g) refl };
+  where_owned = record { named = (tt, tt); owned = refl };
+  all_told = record { told = (tt, tt) };
+  block_upcall = record { blocks = (tt, tt) };
+  interrupt_next = record { interrupt = λ no. absurd (cc); calm = λ no. absurd no };
+  line_cause = record { heard = (tt, tt); first = tt; order = refl; due = refl };
+  want_cause = record { due = λ _. refl; none = no-wants (r3 g) refl };
+  shares_covered = record { covered = one-share; due = refl };
+  demand_said = record { step = λ _. record { free = λ _. inl refl } };
+  turns_and_steps = record { turn = λ _. refl; closing = λ _. tt };
+  list_locks = record {
+    step = λ _. (
+      record {
+        keeps = record {
+          space = refl;
+          unlocked = unlocked2 g e2;
+          locks = refl;
+          cont = refl;
+          thread = refl;
+          target = (
+            refl,
+            record {
+              steps = 0;
+              within = omega arith;
+              list = refl;
+              opens = record { ready = refl; unlocked = unlocked2 g e2 };
+              first = λ k no. absurd (omega arith);
+            },
+          );
+        };
+        back = refl;
+      },
+      refl,
+    );
+  };
+  list_order = record { run = tt };
+}
 
 pub lawful3 : (g : List Instr) → IsLawful fast_threads (workload_with g) (r3 g) e3
-lawful3 g = (
-  record { number = refl; proc = omega arith; some = λ no. cc; opening = λ no. absurd (omega arith) },
-  (
-    record { steps = ((refl, refl, refl), tt) },
-    (
-      record { told = (tt, tt) },
-      (
-        record { prompt = prompt-calm (r4 g) refl },
-        (
-          record { named = (tt, tt); owned = refl },
-          (
-            record { told = (tt, tt) },
-            (
-              record { blocks = (tt, tt) },
-              (
-                record { interrupt = λ no. absurd (cc); calm = λ no. absurd no },
-                (
-                  record { heard = (tt, tt); first = tt; order = refl; due = refl },
-                  (
-                    record { due = λ _. refl; none = no-wants (r4 g) refl },
-                    (
-                      record { covered = one-share; due = refl },
-                      (
-                        record { step = λ _. record { free = λ no. absurd (cc) } },
-                        (
-                          record { turn = λ _. refl; closing = λ _. tt },
-                          (
-                            record {
-                              step = λ _. (
-                                record {
-                                  keeps = record { pop = refl; used = record { unused = refl; page = refl; cont = λ no. absurd (cc) }; space = refl };
-                                  back = refl;
-                                },
-                                refl,
-                              );
-                            },
-                            (
-                              record { run = refl },
-                              tt,
-                            ),
-                          ),
-                        ),
-                      ),
-                    ),
-                  ),
-                ),
-              ),
-            ),
-          ),
-        ),
-      ),
-    ),
-  ),
-)
+lawful3 g = record {
+  numbering = record { number = refl; proc = omega arith; some = λ no. cc; opening = λ no. absurd (omega arith) };
+  step_taken = record { steps = ((refl, refl, refl), tt) };
+  at_most_once = record { told = (tt, tt) };
+  in_time = record { prompt = prompt-calm (r4 g) refl };
+  where_owned = record { named = (tt, tt); owned = refl };
+  all_told = record { told = (tt, tt) };
+  block_upcall = record { blocks = (tt, tt) };
+  interrupt_next = record { interrupt = λ no. absurd (cc); calm = λ no. absurd no };
+  line_cause = record { heard = (tt, tt); first = tt; order = refl; due = refl };
+  want_cause = record { due = λ _. refl; none = no-wants (r4 g) refl };
+  shares_covered = record { covered = one-share; due = refl };
+  demand_said = record { step = λ _. record { free = λ no. absurd (cc) } };
+  turns_and_steps = record { turn = λ _. refl; closing = λ _. tt };
+  list_locks = record {
+    step = λ _. (
+      record {
+        keeps = record { pop = refl; used = record { unused = refl; page = refl; cont = λ no. absurd (cc) }; space = refl };
+        back = refl;
+      },
+      refl,
+    );
+  };
+  list_order = record { run = refl };
+}
 
 pub lawful4 : (g : List Instr) → IsLawful fast_threads (workload_with g) (r4 g) e4
-lawful4 g = (
-  record { number = refl; proc = omega arith; some = λ no. cc; opening = λ no. absurd (omega arith) },
-  (
-    record { steps = (tt, tt) },
-    (
-      record { told = (tt, tt) },
-      (
-        record { prompt = prompt-calm (r5 g) refl },
-        (
-          record { named = (tt, tt); owned = refl },
-          (
-            record { told = (tt, tt) },
-            (
-              record { blocks = (tt, tt) },
-              (
-                record { interrupt = λ no. absurd (cc); calm = λ no. absurd no },
-                (
-                  record { heard = (tt, tt); first = tt; order = refl; due = refl },
-                  (
-                    record { due = λ _. refl; none = no-wants (r5 g) refl },
-                    (
-                      record { covered = one-share; due = refl },
-                      (
-                        record { step = λ _. record { free = λ no. absurd (cc) } },
-                        (
-                          record { turn = λ _. refl; closing = λ _. tt },
-                          (
-                            record {
-                              step = λ _. (
-                                record {
-                                  keeps = record { space = refl; list = refl; thread = refl; used = refl; cont = λ no. absurd (cc) };
-                                  back = refl;
-                                },
-                                refl,
-                              );
-                            },
-                            (
-                              record { run = tt },
-                              tt,
-                            ),
-                          ),
-                        ),
-                      ),
-                    ),
-                  ),
-                ),
-              ),
-            ),
-          ),
-        ),
-      ),
-    ),
-  ),
-)
+lawful4 g = record {
+  numbering = record { number = refl; proc = omega arith; some = λ no. cc; opening = λ no. absurd (omega arith) };
+  step_taken = record { steps = (tt, tt) };
+  at_most_once = record { told = (tt, tt) };
+  in_time = record { prompt = prompt-calm (r5 g) refl };
+  where_owned = record { named = (tt, tt); owned = refl };
+  all_told = record { told = (tt, tt) };
+  block_upcall = record { blocks = (tt, tt) };
+  interrupt_next = record { interrupt = λ no. absurd (cc); calm = λ no. absurd no };
+  line_cause = record { heard = (tt, tt); first = tt; order = refl; due = refl };
+  want_cause = record { due = λ _. refl; none = no-wants (r5 g) refl };
+  shares_covered = record { covered = one-share; due = refl };
+  demand_said = record { step = λ _. record { free = λ no. absurd (cc) } };
+  turns_and_steps = record { turn = λ _. refl; closing = λ _. tt };
+  list_locks = record {
+    step = λ _. (
+      record {
+        keeps = record { space = refl; list = refl; thread = refl; used = refl; cont = λ no. absurd (cc) };
+        back = refl;
+      },
+      refl,
+    );
+  };
+  list_order = record { run = tt };
+}
 
 pub lawful5 : IsLawful fast_threads smallest (r5 (End ∷ [])) e5
-lawful5 = (
-  record { number = refl; proc = omega arith; some = λ no. cc; opening = λ no. absurd (omega arith) },
-  (
-    record { steps = (record { owned = refl; runs = refl; place = refl; within = omega arith; page = tt }, tt) },
-    (
-      record { told = (tt, tt) },
-      (
-        record { prompt = prompt-calm (next (End ∷ []) (r5 (End ∷ [])) e5) refl },
-        (
-          record { named = (tt, tt); owned = refl },
-          (
-            record { told = (tt, tt) },
-            (
-              record { blocks = (tt, tt) },
-              (
-                record { interrupt = λ no. absurd (cc); calm = λ no. absurd no },
-                (
-                  record { heard = (tt, tt); first = tt; order = refl; due = refl },
-                  (
-                    record { due = λ _. refl; none = no-wants (next (End ∷ []) (r5 (End ∷ [])) e5) refl },
-                    (
-                      record { covered = one-share; due = refl },
-                      (
-                        record { step = λ _. record { free = λ _. inl refl } },
-                        (
-                          record { turn = λ _. refl; closing = λ _. tt },
-                          (
-                            record { step = λ _. (record { keeps = tt; back = refl }, tt) },
-                            (
-                              record { run = tt },
-                              tt,
-                            ),
-                          ),
-                        ),
-                      ),
-                    ),
-                  ),
-                ),
-              ),
-            ),
-          ),
-        ),
-      ),
-    ),
-  ),
-)
+lawful5 = record {
+  numbering = record { number = refl; proc = omega arith; some = λ no. cc; opening = λ no. absurd (omega arith) };
+  step_taken = record { steps = (record { owned = refl; runs = refl; place = refl; within = omega arith; page = tt }, tt) };
+  at_most_once = record { told = (tt, tt) };
+  in_time = record { prompt = prompt-calm (next (End ∷ []) (r5 (End ∷ [])) e5) refl };
+  where_owned = record { named = (tt, tt); owned = refl };
+  all_told = record { told = (tt, tt) };
+  block_upcall = record { blocks = (tt, tt) };
+  interrupt_next = record { interrupt = λ no. absurd (cc); calm = λ no. absurd no };
+  line_cause = record { heard = (tt, tt); first = tt; order = refl; due = refl };
+  want_cause = record { due = λ _. refl; none = no-wants (next (End ∷ []) (r5 (End ∷ [])) e5) refl };
+  shares_covered = record { covered = one-share; due = refl };
+  demand_said = record { step = λ _. record { free = λ _. inl refl } };
+  turns_and_steps = record { turn = λ _. refl; closing = λ _. tt };
+  list_locks = record { step = λ _. (record { keeps = tt; back = refl }, tt) };
+  list_order = record { run = tt };
+}

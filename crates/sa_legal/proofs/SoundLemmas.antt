@@ -1,5 +1,5 @@
 -- What follows from the laws of a legal run of FastThreads at each moment of it.
-use Rattle.std.proofs.Common.{◌≡◌, ◌≢◌, ℕ, zero, suc, ◌⊎◌, inl, inr, refl, sym, ◌∙◌, ap, subst, arith, Some, None, List, [], ◌∷◌, ◌++◌, length, take, true, false}
+use Rattle.std.proofs.Common.{◌≡◌, ◌≢◌, ℕ, zero, suc, ◌⊎◌, inl, inr, refl, sym, ◌∙◌, ap, subst, arith, Some, None, List, [], ◌∷◌, ◌++◌, length, take, true}
 use Rattle.std.specs.Prelude.{Contains, Option, ◌==◌, if◌then◌else◌, is_some, unwrap_or}
 use Rattle.std.proofs.lemmas.Bool.{cases_eq}
 use Rattle.std.proofs.lemmas.Bool.Decides.{nat_tests}
@@ -30,7 +30,7 @@ use Rattle.sa_legal.specs.Lives.{Stand, stand_if, stand_in, stand_said, stand_of
 use Rattle.sa_legal.specs.Lives as life
 use Rattle.sa_legal.specs.Consequences.{AtEachMoment, RunApart, AreLockedOnce, LockersStand, IsRunning, IsBlocked, IsUntold, SharesAreTheOnes}
 use Rattle.sa_legal.proofs.WalkLemmas.{IsKept, Along, walk, item}
-use Rattle.sa_legal.proofs.ReadLemmas.{said-more}
+use Rattle.sa_legal.proofs.ReadLemmas.{said-more, differ}
 use Rattle.sa_legal.proofs.EventLemmas.{along, legal-lawful, items-events}
 use Rattle.sa_legal.proofs.MomentsRead.{OnMachine, on-machine, Any}
 use Rattle.sa_legal.proofs.TimelyLemmas.{claims-length, first-below}
@@ -50,10 +50,7 @@ plain (Stopped s) = life.Stopped
 plain (Returned s) = life.Returned
 plain (Taken s) = life.Taken
 
-differ : (a b : ℕ) → a ≢ b → (a == b) ≡ false
-differ a b apart = grind (arith, nat_tests)
-
-alike : (a b : ℕ) → a ≡ b → (a == b) ≡ true
+pub alike : (a b : ℕ) → a ≡ b → (a == b) ≡ true
 alike a b same = grind (arith, nat_tests)
 
 plain-put : (st : ℕ → Standing) (a b : ActNo) (v : Standing) (x : Stand) → plain v ≡ x → plain (put st b.0 v a.0) ≡ unwrap_or (stand_if a b x) (plain (st a.0))
@@ -175,7 +172,7 @@ along-take test w L r (e ∷ es) (suc n) law = (law.0, along-take test w L (afte
 sound-along : (w : WorkloadView) (items : List Item) → IsLegal fast_threads w items → Along fast_threads.inside w (Moves w) (opening_readings w) (events_of items)
 sound-along w items legal =
     let gives : (r : Readings) (e : Event) → IsLawful fast_threads w r e → EachRecord (Moves w e.proc) w e.number e.proc (begun w e r) e.records =
-    λ r e law. both w e.number e.proc (begun w e r) e.records (moves-lives w r e law) (on-machine w e.proc e.number (begun w e r) e.records law.0.proc) in
+    λ r e law. both w e.number e.proc (begun w e r) e.records (moves-lives w r e law) (on-machine w e.proc e.number (begun w e r) e.records law.numbering.proc) in
     along fast_threads w (Moves w) gives (opening_readings w) (events_of items) (legal-lawful fast_threads w items legal)
 
 sound-walk : (w : WorkloadView) (events : List Event) → Along fast_threads.inside w (Moves w) (opening_readings w) events

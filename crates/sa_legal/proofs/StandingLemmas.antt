@@ -261,7 +261,7 @@ note-act m n e = cc
 pub note-back : (m n : ActNo) → note.Unblocked m ≡ note.Unblocked n → m.0 ≡ n.0
 note-back m n e = cc
 
-same-number-act : (a b : ActNo) → b.0 ≡ a.0 → a ≡ b
+pub same-number-act : (a b : ActNo) → b.0 ≡ a.0 → a ≡ b
 same-number-act a b e = ap (λ n. record { 0 = n }) (sym e)
 
 pub stopped-step : (p : ProcNo) (st : ℕ → Standing) (r : Readings) (x : Record) (s : SpaceNo) (b : ActNo) → Agrees st r → Stood p st x
@@ -394,7 +394,7 @@ space-with f (Some b) lives a same = elim (cases_eq a b.0) [
   | inr apart ↦ ap space_of (put-other lives b.0 a (option_map f (lives b.0)) apart)
 ]
 
-space-handed : (up : Option ActNo) (b : ActNo) (from : Option Life) (lives : ℕ → Option Life) (a : ℕ) → space_of (handed up b from lives a) ≡ space_of (lives a)
+pub space-handed : (up : Option ActNo) (b : ActNo) (from : Option Life) (lives : ℕ → Option Life) (a : ℕ) → space_of (handed up b from lives a) ≡ space_of (lives a)
 space-handed up b None lives a = refl
 space-handed up b (Some from) lives a =
     space-with (inherits from) up (with_life bereft (Some b) lives) a (λ l. refl) ∙ space-with bereft (Some b) lives a (λ l. refl)
@@ -406,7 +406,7 @@ same-space-put st a b v same = elim (cases_eq b a) [
   | inr apart ↦ ap space_in (sym (put-other st a b v apart))
 ]
 
-took-space : (x : Standing) → space_in (took x) ≡ space_in x
+pub took-space : (x : Standing) → space_in (took x) ≡ space_in x
 took-space Nowhere = refl
 took-space (Runs s p) = refl
 took-space (Blocked s) = refl

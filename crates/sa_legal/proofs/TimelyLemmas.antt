@@ -37,7 +37,7 @@ pub at-each-end : (u : UserRules) (w : WorkloadView) (items : List Item) (E : Li
 at-each-end u w items E legal close j x at =
     let law = legal-lawful u w items legal in
     let gives : (r : Readings) (e : Event) → IsLawful u w r e → EachRecord (OnMachine w e.proc) w e.number e.proc (begun w e r) e.records =
-    λ r e lawful. on-machine w e.proc e.number (begun w e r) e.records lawful.0.proc in
+    λ r e lawful. on-machine w e.proc e.number (begun w e r) e.records lawful.numbering.proc in
     let ends = walk-ends u w (OnMachine w) (Reads w) (ReadsIn w) Any E (reads-kept u.inside w) gives close [] (opening_readings w) (events_of items) (reads-start w) law in
     let all = ends-at E [] 0 (events_of items) (numbered-lawful u w (opening_readings w) (events_of items) law) ends in
     let all' : (k : ℕ) (y : Item) → slice_get items k ≡ Some y → E (up_to y.event items) y.event =
@@ -54,7 +54,7 @@ empty-has notes n has is = let h : Contains [] n = subst (λ (ns : List Note). C
 in-time : (u : UserRules) (w : WorkloadView) (past : List Item) (r : Readings) (e : Event) → IsLawful u w r e → Reads w past (after_event u.inside w r e)
     → IsInTime w past e.number
 in-time u w past r e law reads s n below stands =
-    elim (law.1.1.1.0.prompt.each s (empty-has _ n (reads.untold s n below stands))) [
+    elim (law.in_time.prompt.each s (empty-has _ n (reads.untold s n below stands))) [
       | inl owns_none ↦ inl (λ p is. owns_none p (reads.owners p ∙ is))
       | inr (inl fetching) ↦ inr (inl (sym (reads.fetching s) ∙ fetching))
       | inr (inr raised) ↦
@@ -130,7 +130,7 @@ covers u w ok past r e law reads shares s given =
     let own = shares_of-share w.processors (first_space w e.number) (claims_of w after) (omega arith) (omega arith) in
     let same : share_at shares s.0 ≡ share_at (shares_at w e.number after) s.0 =
     share_at-unique w.processors (first_space w e.number) (claims_of w after) shares (shares_at w e.number after) given' own s.0 in
-    let covered = law.1.1.1.1.1.1.1.1.1.1.0.covered s.0 in
+    let covered = law.shares_covered.covered s.0 in
     let aims = aimed-are w past after s reads in
     omega arith
 

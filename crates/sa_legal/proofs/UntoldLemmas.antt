@@ -84,7 +84,7 @@ untold-cases r (Told m) s n has =
     let left = without-cases (is_other_note m) r.untold s.0 n has in inl (left.0, other-note m n left.1)
 untold-cases r x s n has = inl (has, λ no. cc)
 
--- what stands untold does so behind one item more that does not tell it
+-- what stands untold does so after one item more that does not tell it
 pub stands-more : (past : List Item) (x : Item) (s : SpaceNo) (n : Note) → x.what ≢ Told n → StandsUntold past (length past) s n
     → StandsUntold (past ++ x ∷ []) (length (past ++ x ∷ [])) s n
 stands-more past x s n other o =
@@ -105,7 +105,7 @@ stands-more past x s n other o =
     within : (xs : List Item) (k : ℕ) (y : Item) → slice_get xs k ≡ Some y → k < length xs
     within xs k y at = slice_get_within xs k y at
 
--- a stop, block or unblock stands untold behind itself
+-- a stop, block or unblock stands untold after itself
 pub stands-new : (past : List Item) (x : Item) (s : SpaceNo) (n : Note) → Notes x.what s n
     → StandsUntold (past ++ x ∷ []) (length (past ++ x ∷ [])) s n
 stands-new past x s n notes =

@@ -27,7 +27,7 @@ pub record IsKept (test : Test) (w : WorkloadView) (L : ProcNo → RecordLaw) (I
       → Mid e p (past ++ item e p x ∷ []) (after_record w e p r x) × Good past (item e p x)
   pub ends : (past : List Item) (before : Readings) (e : Event) (r : Readings) → Mid e.number e.proc past r → Inv past (ended test w before e r)
 
--- something good is so at each of these items, behind others
+-- something good is so at each of these items, after others
 abbrev pub AllGood : (List Item → Item → Type 0) → List Item → List Item → Type 0
 AllGood Good past items = (j : ℕ) (x : Item) → slice_get items j ≡ Some x → Good (past ++ take j items) x
 

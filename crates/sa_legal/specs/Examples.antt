@@ -70,7 +70,7 @@ smallest_trace = items_of smallest_run
 abbrev pub smallest_end : LastLine
 smallest_end = record { end = AllDone; events = 5 }
 
--- the run's first events, and behind them another one
+-- the run's first events, and after them another one
 abbrev pub then : ℕ → List Record → List Event
 then n records = take n smallest_run ++ at n records ∷ []
 
@@ -120,7 +120,7 @@ interrupt_put_off = trace_then 1 (Tick ∷ [])
 abbrev pub raised_for_nothing : List Item
 raised_for_nothing = trace_then 2 (Take s0 p0 None ∷ Line p0 ∷ [])
 
--- A want has its cause: a want stands behind a take.
+-- A want has its cause: a want stands after a take.
 abbrev pub wanted_for_nothing : List Item
 wanted_for_nothing = trace_then 2 (Take s0 p0 None ∷ Want s0 1 ∷ [])
 

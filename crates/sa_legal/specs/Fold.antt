@@ -11,7 +11,7 @@ abbrev pub AreLawful : UserRules → WorkloadView → Readings → List Event �
 AreLawful u w r [] = Unit {0}
 AreLawful u w r (e ∷ es) = IsLawful u w r e × AreLawful u w (after_event u.inside w r e) es
 
--- .. and the run goes on behind each
+-- .. and the run goes on after each
 abbrev pub AreRight : UserRules → WorkloadView → Readings → List Event → Type 0
 AreRight u w r [] = Unit {0}
 AreRight u w r (e ∷ es) = HoldEach u w rules r e None × AreRight u w (after_event u.inside w r e) es

@@ -63,7 +63,7 @@ pub record RaisedAt (items : List Item) (p : ProcNo) (event : ℕ) : Type 0 wher
 abbrev pub IsRaised : List Item → ProcNo → Type 0
 IsRaised items p = (event : ℕ) × RaisedAt items p event
 
--- the upcall page of a space is being fetched where a fetch of it stands and no `fetched` behind that
+-- the upcall page of a space is being fetched where a fetch of it stands and no `fetched` after that
 abbrev pub fetch_in : SpaceNo → Record → Option Bool
 fetch_in s (Fetch t) = if t.0 == s.0 then Some true else None
 fetch_in s (Fetched t) = if t.0 == s.0 then Some false else None

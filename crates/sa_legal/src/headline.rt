@@ -6,7 +6,7 @@ ghost use Rattle.sa_laws.specs.Rules.{fast_threads};
 ghost use Rattle.sa_laws.specs.Legal.{IsLegal};
 ghost use Rattle.sa_legal.specs.Headline.{TellsAtMostOnce, TellsInTime, NumbersAreFresh, SharesAreCovered, NoHolderIsReady};
 
-/// A legal run tells each stop, block and unblock at most once, behind it.
+/// A legal run tells each stop, block and unblock at most once, after it.
 pub fn legal_runs_tell_at_most_once()
     ensures { (w : WorkloadView) (items : List Item) → IsLegal fast_threads w items
         → TellsAtMostOnce items }

@@ -103,7 +103,7 @@ pub record IsEventAt (w : WorkloadView) (past : List Item) (r : Readings) (e : E
 pub event-at : (w : WorkloadView) (past : List Item) (r : Readings) (e : Event) → IsReadAt w past r → OwnedByLives r → IsLawful fast_threads w r e → IsEventAt w past r e
 event-at w past r e at owned law =
     let mid = read-event w past r e at law in
-    let begins = read-begins w past r e law.0.number at in
+    let begins = read-begins w past r e law.numbering.number at in
     record {
       after = mid.read;
       own = own-event w past r e at.read at.until owned law;
@@ -179,7 +179,7 @@ said-next w es r e inv law within =
     let known = event-at w past r e inv.at inv.owned law in
     record {
       at = subst (λ ys. IsReadAt w ys (after_event is_inside w r e)) (sym (items-more es e)) (read-next w past r e inv.at law);
-      owned = law.1.1.1.1.0.owned;
+      owned = law.where_owned.owned;
       inside = said-same in_now _ _ _ (λ b. ap (λ (f : ℕ → Bool). f b) (sym (along-more (in_by w) (λ c. false) es e))) (in-next w past r e _ known within inv.inside);
       scans = said-same scanned _ _ _ (λ b. ap (λ (f : ℕ → ℕ). f b) (sym (along-more scans_at (λ c. 0) es e))) (scans-next w past r e _ known inv.scans);
       freed = said-same was_freed _ _ _ (λ b. ap (λ (f : ℕ → Bool). f b) (sym (along-more freed_at (λ c. false) es e))) (freed-next w past r e _ known inv.freed);

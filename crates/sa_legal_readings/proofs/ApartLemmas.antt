@@ -16,12 +16,12 @@ use Rattle.sa_base.specs.declared.record.Record.TheVariants.{Stop, Block, Unbloc
 use Rattle.sa_spaces.specs.Workload.{WorkloadView}
 use Rattle.sa_laws.specs.Readings.{Readings, untold_of, space_of_life, life_of}
 use Rattle.sa_laws.specs.Life.{Life, inherits, bereft}
-use Rattle.sa_laws.specs.Record.{after_record, with_life, handed}
+use Rattle.sa_laws.specs.Record.{after_record}
 use Rattle.sa_laws.specs.Shape.{told_run}
 use Rattle.sa_laws.specs.Upcalls.{TellsAllThen, IsUntoldTo, is_moved_to}
 use Rattle.sa_legal.specs.Words.{Notes}
 use Rattle.sa_legal.proofs.UntoldLemmas.{untold-cases}
-use Rattle.sa_legal.proofs.StandingLemmas.{Standing, Nowhere, Runs, Blocked, Stopped, Returned, Taken, space_in, took, kind, standing_after, Stood, Agrees, space-with, space_of}
+use Rattle.sa_legal.proofs.StandingLemmas.{Standing, Nowhere, Runs, Blocked, Stopped, Returned, Taken, space_in, took, kind, standing_after, Stood, Agrees, space-with, space_of, space-handed, took-space}
 use Rattle.sa_legal.proofs.ShapeLemmas.{is_telling, MovesLives}
 
 -- the life of an untold block is one of its space, and runs no more
@@ -32,7 +32,7 @@ BlocksStand st r = (s : SpaceNo) (b : ActNo) → Contains (untold_of r s) (note.
 abbrev pub TakenAreTold : (ℕ → Standing) → Readings → List Record → Type 0
 TakenAreTold st r xs = (s : SpaceNo) (b : ActNo) → Contains (untold_of r s) (note.Blocked b) → kind (st b.0) ≡ 5 → Contains (told_run xs) (note.Blocked b)
 
--- behind an up or a told record all that is untold to the space of the up is about to be told
+-- after an up or a told record all that is untold to the space of the up is about to be told
 abbrev pub AllAreTold : Readings → List Record → Type 0
 AllAreTold r xs = is_telling r.last ≡ true → (s : SpaceNo) (m : Note) → space_of_life r r.upped ≡ Some s → Contains (untold_of r s) m → Contains (told_run xs) m
 
@@ -48,14 +48,6 @@ none-in z has = let h = has in omega (arith, h.1)
 later-in : (n m : Note) (ns : List Note) → n ≢ m → Contains (n ∷ ns) m → Contains ns m
 later-in n m ns apart (zero, below, is) = absurd (apart is)
 later-in n m ns apart (suc k, below, is) = (k, omega arith, is)
-
-took-space : (x : Standing) → space_in (took x) ≡ space_in x
-took-space Nowhere = refl
-took-space (Runs s p) = refl
-took-space (Blocked s) = refl
-took-space (Stopped s) = refl
-took-space (Returned s) = refl
-took-space (Taken s) = refl
 
 took-kind : (x : Standing) → kind x ≢ 1 → kind (took x) ≢ 1
 took-kind Nowhere is = is
@@ -107,7 +99,7 @@ blocks-step w e p st r x xs apart was s b has = elim (untold-cases r x s (note.B
   comes (Unblock u t a) notes = absurd (let clash = notes.1 in cc)
   comes y notes = absurd notes
 
--- what is taken behind a record was taken before, or is told by it
+-- what is taken after a record was taken before, or is told by it
 five-cases : (st : ℕ → Standing) (a b : ℕ) (v : Standing) → kind v ≢ 5 → kind (put st a v b) ≡ 5 → kind (st b) ≡ 5
 five-cases st a b v other is = elim (cases_eq b a) [
   | inl at ↦ absurd (other (sym (ap kind (put-at st a b v at)) ∙ is))
@@ -172,12 +164,7 @@ taken-step w e p st r x xs apart was law s b has five = elim (untold-cases r x s
   comes (Unblock u t a) notes is = absurd (let clash = notes.1 in cc)
   comes y notes is = absurd notes
 
-pub space-handed : (up : Option ActNo) (b : ActNo) (from : Option Life) (lives : ℕ → Option Life) (a : ℕ) → space_of (handed up b from lives a) ≡ space_of (lives a)
-space-handed up b None lives a = refl
-space-handed up b (Some from) lives a =
-    space-with (inherits from) up (with_life bereft (Some b) lives) a (λ l. refl) ∙ space-with bereft (Some b) lives a (λ l. refl)
-
--- the space of the last up stays behind a told record
+-- the space of the last up stays after a told record
 pub upped-space : (w : WorkloadView) (e : ℕ) (p : ProcNo) (r : Readings) (n : Note) → space_of_life (after_record w e p r (Told n)) r.upped ≡ space_of_life r r.upped
 upped-space w e p r n = one r.upped n where
   one : (o : Option ActNo) (m : Note) → space_of_life (after_record w e p r (Told m)) o ≡ space_of_life r o

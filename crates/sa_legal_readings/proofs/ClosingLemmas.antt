@@ -1,5 +1,5 @@
 -- After each event of a legal run a closing would add no want and no aim.
-use Rattle.std.proofs.Common.{◌≡◌, ℕ, zero, suc, ◌+◌, ◌≤◌, refl, sym, ◌∙◌, ap, subst, arith, Some, List, [], ◌∷◌, ◌++◌, take, map, false}
+use Rattle.std.proofs.Common.{◌≡◌, ℕ, zero, suc, ◌+◌, refl, sym, ◌∙◌, ap, subst, arith, Some, List, [], ◌∷◌, ◌++◌, take, map, false}
 use Rattle.std.specs.Prelude.{slice_get, filter, Bool, if◌then◌else◌, Option}
 use Rattle.std.proofs.lemmas.Option.{none-some, same_Some}
 use Rattle.sa_base.specs.declared.record.Item.{Item}
@@ -23,10 +23,10 @@ pub nothing-due : (w : WorkloadView) (r : Readings) (e : Event) → IsLawful fas
 nothing-due w r e law =
     let after = after_event is_inside w r e in
     record {
-      wants = ap (map want_one) (none-left (must_want after) (spaces_of w) law.1.1.1.1.1.1.1.1.1.0.none);
+      wants = ap (map want_one) (none-left (must_want after) (spaces_of w) law.want_cause.none);
       aims = λ next same.
           ap (λ first. changes (Rattle.std.specs.Prelude.length w.spaces) (shares_of w.processors first (claims_of w after)) after.marks after.aims) same
-          ∙ none-missing 0 (Rattle.std.specs.Prelude.length w.spaces) (shares_at w e.number after) after.marks after.aims law.1.1.1.1.1.1.1.1.1.1.0.covered;
+          ∙ none-missing 0 (Rattle.std.specs.Prelude.length w.spaces) (shares_at w e.number after) after.marks after.aims law.shares_covered.covered;
     }
 
 -- what is read before the next event

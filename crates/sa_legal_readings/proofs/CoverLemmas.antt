@@ -25,18 +25,18 @@ use Rattle.sa_laws.specs.Turns.{IsClosing, AreRaising, IsTurn, IsStep, StepBy, C
 use Rattle.sa_laws.specs.Upcalls.{EachRecord, TellsAllThen}
 use Rattle.sa_laws.specs.Step.{Needs, AreSteps}
 use Rattle.sa_laws.specs.Rules.{IsLawful, fast_threads}
-use Rattle.sa_legal.proofs.StandingLemmas.{Standing, Runs, space_of, space_in, standing_after}
-use Rattle.sa_legal.proofs.ShapeLemmas.{MovesLives}
+use Rattle.sa_legal.proofs.StandingLemmas.{Standing, Runs, space_of, space_in, standing_after, same-number}
+use Rattle.sa_legal.proofs.ShapeLemmas.{MovesLives, parts-take}
 use Rattle.sa_legal.proofs.MovesLemmas.{moves-lives, agrees-begun}
-use Rattle.sa_legal_readings.proofs.ListLemmas.{same-number}
 use Rattle.sa_legal_readings.proofs.TrackLemmas.{IsSized}
-use Rattle.sa_legal_readings.proofs.RangeLemmas.{while-more, parts-take}
+use Rattle.sa_legal_readings.proofs.RangeLemmas.{while-more}
 use Rattle.sa_legal_readings.proofs.OwnLemmas.{OwnedByLives, owner-runs}
 use Rattle.sa_legal_readings.proofs.FrontLemmas.{and-left}
 use Rattle.sa_legal_readings.proofs.ApartLemmas.{IsApart, apart-step, none-in}
 use Rattle.sa_legal_readings.proofs.PassLemmas.{Kept, Passes, Goes, kept-all}
 use Rattle.sa_legal_readings.proofs.FormLemmas.{Turning, BlocksFirst, AllOut, is_quiet, Calm, StepOf, Form, turn-form, turning-cases, up-runs, quiet-runs, LowWants, closing-pass, pass-append, quiet-append, closing-quiet, out-pass, given-pass}
 use Rattle.sa_legal_readings.proofs.FineLemmas.{Covers, Fine, min-less, covers-more, usable-covers, arise-fine, step-space, settle-fine, keep-fine, IsStepOf, blocks-untold}
+use Rattle.sa_legal.proofs.ReadLemmas.{not-true}
 
 -- an event in its parts
 pub record InForm (w : WorkloadView) (r : Readings) (e : Event) : Type 0 where
@@ -119,7 +119,7 @@ low-wants w r e x others (Want u n ∷ cs) law from is rest closes =
     let mid = after_records w e.number e.proc (begun w e r) (x ∷ take_while is_own others) in
     let split = split-wants others u n cs rest in
     let due : wants_in others ≡ wants_due w mid =
-    ap (λ xs. wants_in (drop 1 xs)) (sym is) ∙ law.1.1.1.1.1.1.1.1.1.0.due from
+    ap (λ xs. wants_in (drop 1 xs)) (sym is) ∙ law.want_cause.due from
     ∙ ap (λ xs. wants_due w (behind w e r (before_wants xs))) is ∙ ap (λ ys. wants_due w (behind w e r (x ∷ ys))) split.part in
     let same : wants_due w mid ≡ wants_in (Want u n ∷ cs) = sym due ∙ split.wants ∙ ap wants_in rest in
     low-from mid (Want u n ∷ cs) (subst (AllLow mid) same (due-low mid (spaces_of w)))
@@ -132,10 +132,10 @@ low-wants w r e x others (y ∷ cs) law from is rest closes = absurd closes
 in-form : (w : WorkloadView) (r : Readings) (e : Event) → IsLawful fast_threads w r e → 1 ≤ e.number → InForm w r e
 in-form w r e law from = one e.records refl where
   one : (xs : List Record) → e.records ≡ xs → InForm w r e
-  one [] is = absurd (law.0.some is)
+  one [] is = absurd (law.numbering.some is)
   one (x ∷ xs) is =
-      let turns = law.1.1.1.1.1.1.1.1.1.1.1.1.0 in
-      let locks = law.1.1.1.1.1.1.1.1.1.1.1.1.1.0 in
+      let turns = law.turns_and_steps in
+      let locks = law.list_locks in
       let closes : IsClosing (closing_part (x ∷ xs)) = subst (λ ys. IsClosing (closing_part ys)) is (turns.closing from) in
       record {
         first = x;
@@ -199,18 +199,14 @@ abbrev Unsettled : Readings → SpaceNo → Record → Type 0
 Unsettled r s x =
     (((rest : List Record) (k : Readings) → Passes s k x rest) × ((life : Life) → is_bound r life x ≡ true)) ⊎ ((u : SpaceNo) × (n : ℕ) × (x ≡ Want u n) × (nat_lt n (demand_of r u) ≡ true))
 
-not-false : (b : Bool) → not b ≡ false → b ≡ true
-not-false true is = refl
-not-false false is = absurd (cc)
-
 unsettled : (r c : Readings) (s : SpaceNo) (x : Record) → is_step x ≡ true → is_quiet x ≡ true → settles r c x ≡ false → Unsettled r s x
 unsettled r c s (Ins u t i) step quiet is = inl ((λ rest k. tt), λ life. refl)
 unsettled r c s Idle step quiet is = inl ((λ rest k. tt), λ life. refl)
-unsettled r c s (Want u n) step quiet is = inr (u, n, refl, not-false (nat_lt n (demand_of r u)) is)
+unsettled r c s (Want u n) step quiet is = inr (u, n, refl, not-true (nat_lt n (demand_of r u)) is)
 unsettled r c s (Block u t a io) step quiet is = absurd (cc)
 unsettled r c s x step quiet is = absurd (cc)
 
--- behind the records of an event, and its lives at the end
+-- after the records of an event, and its lives at the end
 abbrev After : WorkloadView → Readings → Event → List Record → Readings
 After w r e xs = after_records w e.number e.proc (begun w e r) xs
 
@@ -392,19 +388,19 @@ event-fine w r e known law from s within fine = whole (in-form w r e law from) w
   goes-at : (xs : List Record) → e.records ≡ xs → GoesOn w r e xs
   goes-at xs is = record {
     moves = subst (EachRecord (MovesLives w e.proc) w e.number e.proc (begun w e r)) is (moves-lives w r e law);
-    tells = subst (EachRecord (TellsAllThen e.proc) w e.number e.proc (begun w e r)) is law.1.1.1.1.1.0.told;
-    steps = subst (AreSteps w e.number e.proc (begun w e r)) is law.1.0.steps;
+    tells = subst (EachRecord (TellsAllThen e.proc) w e.number e.proc (begun w e r)) is law.all_told.told;
+    steps = subst (AreSteps w e.number e.proc (begun w e r)) is law.step_taken.steps;
   }
 
   formed : (x : Record) (ys cs : List Record) → e.records ≡ x ∷ (ys ++ cs) → IsClosing cs → EachRecord (Passes s) w e.number e.proc (After w r e (x ∷ ys)) cs → Form w (begun w e r) e.proc x ys
       → FineAfter w r e (x ∷ (ys ++ cs)) s
-  formed x ys cs is closes closing (inl turns) = up-turn-fine w r e s x ys cs known law.0.proc within fine is (goes-at (x ∷ (ys ++ cs)) is) closes closing turns.0 turns.1
+  formed x ys cs is closes closing (inl turns) = up-turn-fine w r e s x ys cs known law.numbering.proc within fine is (goes-at (x ∷ (ys ++ cs)) is) closes closing turns.0 turns.1
   formed x ys cs is closes closing (inr (inl calm)) = calm-fine w r e s x ys cs known fine (goes-at (x ∷ (ys ++ cs)) is) closing calm
   formed x ys cs is closes closing (inr (inr step)) =
       let life : r.lives step.act.0 ≡ Some step.life = ap (life_if r) (sym step.runs) ∙ step.on in
       elim (cases_eq step.life.space.0 s.0) [
         | inl same ↦
-            same-fine w r e s x ys cs known within fine (subst (BeginsFreely w r e.proc) is (law.1.1.1.1.1.1.1.1.1.1.1.0.step from)) (goes-at (x ∷ (ys ++ cs)) is) closes closing step life
+            same-fine w r e s x ys cs known within fine (subst (BeginsFreely w r e.proc) is (law.demand_said.step from)) (goes-at (x ∷ (ys ++ cs)) is) closes closing step life
             (ap (λ n. record { 0 = n }) same)
         | inr apart ↦ other-fine w r e s x ys cs known fine (goes-at (x ∷ (ys ++ cs)) is) closing step (ap space_of life) apart
       ]

@@ -1,4 +1,4 @@
--- After each event of a legal run behind the opening no line is due.
+-- After each event of a legal run but the opening no line is due.
 use Rattle.std.proofs.Common.{◌≡◌, ◌≢◌, ℕ, zero, suc, ◌+◌, ◌<◌, ◌≤◌, ◌⊎◌, inl, inr, refl, sym, ◌∙◌, ap, subst, arith, Some, None, List, [], ◌∷◌, ◌++◌, length, map, drop, true, false, append-nil}
 use Rattle.std.specs.Prelude.{Option, Bool, ◌&&◌, not, is_some, is_none, if◌then◌else◌, get_or, slice_set, filter, filter_map, Contains, slice_get, take}
 use Rattle.std.proofs.lemmas.Bool.{cases_eq}
@@ -29,8 +29,9 @@ use Rattle.sa_legal.proofs.EventLemmas.{legal-lawful}
 use Rattle.sa_legal_readings.specs.Closings.{NoLineIsDue}
 use Rattle.sa_legal_readings.proofs.ClosingLemmas.{take-next, after-append}
 use Rattle.sa_legal_readings.proofs.TurnLemmas.{AllCalm, is_calm, Turned}
-use Rattle.sa_legal_readings.proofs.LowLemmas.{LowAimed, front-fine, append-records, each-behind}
+use Rattle.sa_legal_readings.proofs.LowLemmas.{LowAimed, front-fine, each-behind}
 use Rattle.sa_legal_readings.proofs.FrontLemmas.{LowAt, in-parts, own-final, procs-begun, procs-records, turned-leave, leave-append, closing-leave, begun-aimed, and-left, and-right, low-along, low-first}
+use Rattle.sa_legal.proofs.AppendLemmas.{records-append}
 
 -- a list of lines
 abbrev pub AllLine : List Record → Type 0
@@ -45,7 +46,7 @@ raising-lines (Aim q (Some s) ∷ xs) is none = absurd (cc)
 raising-lines (Aim q None ∷ xs) is none = absurd is
 raising-lines (x ∷ xs) is none = absurd is
 
--- behind the first other line of a closing stand lines
+-- after the first other line of a closing stand lines
 abbrev rest_of : Option Record → List Record → List Record
 rest_of last xs = drop (length (before_lines last xs)) xs
 
@@ -173,12 +174,12 @@ pub record BeforeLast (w : WorkloadView) (r : Readings) (e : Event) : Type 0 whe
 
 pub before-last : (w : WorkloadView) (r : Readings) (e : Event) → LowAt w r → IsLawful fast_threads w r e → BeforeLast w r e
 before-last w r e at law =
-    let from : 1 ≤ e.number = (let same = law.0.number in let some = at.number in omega arith) in
-    let parts = in-parts w r e law from (at.aimed e.proc law.0.proc) in
+    let from : 1 ≤ e.number = (let same = law.numbering.number in let some = at.number in omega arith) in
+    let parts = in-parts w r e law from (at.aimed e.proc law.numbering.proc) in
     let none = turned-noline e.proc (owner_of r e.proc) (aim_of r e.proc) parts.own parts.turned in
     let last = last_of None parts.own in
     let front : front_part e.records ≡ parts.own ++ before_lines last parts.closing =
-    front-is e.records (λ q ys is. (subst (Rattle.sa_laws.specs.Upcalls.FirstLineIsAsked Rattle.sa_laws.specs.Rules.NoLines w r e.proc) is law.1.1.1.1.1.1.1.1.0.first).asked)
+    front-is e.records (λ q ys is. (subst (Rattle.sa_laws.specs.Upcalls.FirstLineIsAsked Rattle.sa_laws.specs.Rules.NoLines w r e.proc) is law.line_cause.first).asked)
     ∙ ap (before_lines None) (sym parts.is) ∙ before-append None parts.own parts.closing none in
     let rest : last_lines e.records ≡ rest_of last parts.closing =
     ap (λ ys. drop (length ys) e.records) front ∙ ap (drop (length (parts.own ++ before_lines last parts.closing))) (sym parts.is) ∙ drop-append parts.own (before_lines last parts.closing) parts.closing in
@@ -189,8 +190,8 @@ before-last w r e at law =
     let own_after = after_records w e.number e.proc (begun w e r) parts.own in
     let own_procs = procs-records w e.number e.proc (begun w e r) parts.own begins in
     let own_lines = own_procs.lines in
-    let proc = law.0.proc in
-    let heard = subst (EachRecord RaisesLine w e.number e.proc (begun w e r)) (sym parts.is) law.1.1.1.1.1.1.1.1.0.heard in
+    let proc = law.numbering.proc in
+    let heard = subst (EachRecord RaisesLine w e.number e.proc (begun w e r)) (sym parts.is) law.line_cause.heard in
     let mid = after_records w e.number e.proc (begun w e r) (parts.own ++ before_lines last parts.closing) in
     record {
       mid = mid;
@@ -198,16 +199,16 @@ before-last w r e at law =
       mid_is = sym (ap (after_records w e.number e.proc (begun w e r)) front);
       lines_are = sym rest;
       after =
-          sym (append-records w e.number e.proc (begun w e r) (parts.own ++ before_lines last parts.closing) (rest_of last parts.closing))
+          sym (records-append w e.number e.proc (begun w e r) (parts.own ++ before_lines last parts.closing) (rest_of last parts.closing))
           ∙ ap (after_records w e.number e.proc (begun w e r)) (Rattle.std.proofs.Common.append_assoc parts.own (before_lines last parts.closing) (rest_of last parts.closing)
           ∙ ap (λ ys. parts.own ++ ys) (take-drop last parts.closing) ∙ parts.is);
-      all = closing-rest last parts.closing parts.closes (ap aims_in (sym rest) ∙ law.1.1.1.1.1.1.1.1.0.order);
+      all = closing-rest last parts.closing parts.closes (ap aims_in (sym rest) ∙ law.line_cause.order);
       long = (procs-records w e.number e.proc (begun w e r) (parts.own ++ before_lines last parts.closing) begins).lines;
       aimed = λ q within. elim (cases_eq q.0 e.proc.0) [
         | inl same ↦ (
             let is : q ≡ e.proc = ap (λ n. record { 0 = n }) same in
             subst (λ (k : ProcNo). LowAimed mid k) (sym is)
-            (subst (λ (k : Readings). LowAimed k e.proc) (sym (append-records w e.number e.proc (begun w e r) parts.own (before_lines last parts.closing)))
+            (subst (λ (k : Readings). LowAimed k e.proc) (sym (records-append w e.number e.proc (begun w e r) parts.own (before_lines last parts.closing)))
             (front-fine w e.number e.proc own_after e.proc last parts.closing (omega arith)
             (each-behind RaisesLine w e.number e.proc (begun w e r) parts.own parts.closing (λ r' x rest' more h. h) heard)
             (closing-leave e.proc e.proc parts.closing parts.closes)
@@ -335,7 +336,7 @@ pub no-line-due : (w : WorkloadView) (r : Readings) (e : Event) → LowAt w r �
 no-line-due w r e at law =
     let l = before-last w r e at law in
     let rest : LinesRaised l.mid (behind_all w e r) = subst (LinesRaised l.mid) l.after (raised-all w e.number e.proc l.mid l.lines l.all) in
-    let due : lines_in l.lines ≡ lines_due w l.mid = ap lines_in l.lines_are ∙ law.1.1.1.1.1.1.1.1.0.due ∙ ap (lines_due w) (sym l.mid_is) in
+    let due : lines_in l.lines ≡ lines_due w l.mid = ap lines_in l.lines_are ∙ law.line_cause.due ∙ ap (lines_due w) (sym l.mid_is) in
     none-made (line_due w (behind_all w e r)) (must_interrupt w (behind_all w e r)) (spaces_of w)
     (λ s among must. one s (least_below w.processors (can_be_raised (behind_all w e r) s)) refl
     (λ q is. no-interrupt w l.mid (behind_all w e r) e.number e.proc l.lines s q rest l.all l.after l.aimed l.long due among must is))
@@ -345,7 +346,7 @@ no-line-due w r e at law =
     one s None is never = refl
     one s (Some q) is never = absurd (never q is)
 
--- behind the opening
+-- after the opening
 pub later-lines : (w : WorkloadView) (items : List Item) → IsLegal fast_threads w items → NoLineIsDue w items
 later-lines w items legal n e at from =
     let r = before fast_threads w (events_of items) n in
@@ -357,5 +358,5 @@ later-lines w items legal n e at from =
     low-before : (v : WorkloadView) (events : List Event) (k : ℕ) (f : Event) → slice_get events k ≡ Some f → AreLawful fast_threads v (opening_readings v) events → 1 ≤ f.number
         → IsLawful fast_threads v (after_events is_inside v (opening_readings v) (take k events)) f → LowAt v (after_events is_inside v (opening_readings v) (take k events))
     low-before v [] k f there all first law = absurd (none-some f there)
-    low-before v (x ∷ xs) zero f there all first law = absurd (let number = law.0.number in omega arith)
+    low-before v (x ∷ xs) zero f there all first law = absurd (let number = law.numbering.number in omega arith)
     low-before v (x ∷ xs) (suc k) f there all first law = low-along v (after_event is_inside v (opening_readings v) x) xs (low-first v x all.0) all.1 k

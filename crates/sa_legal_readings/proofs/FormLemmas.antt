@@ -28,7 +28,7 @@ use Rattle.sa_laws.specs.Locks.{KeepsLocksIn}
 use Rattle.sa_laws.specs.Upcalls.{EachRecord}
 use Rattle.sa_legal.proofs.StandingLemmas.{Standing, Runs, kind, kind_before, stays, standing_after}
 use Rattle.sa_legal.proofs.MovesLemmas.{stood}
-use Rattle.sa_legal_readings.proofs.ApartLemmas.{IsApart, apart-step, upped-space}
+use Rattle.sa_legal_readings.proofs.ApartLemmas.{IsApart, apart-step}
 use Rattle.sa_legal_readings.proofs.PassLemmas.{Passes, Goes}
 use Rattle.sa_legal_readings.proofs.StepLemmas.{run-length}
 
@@ -42,7 +42,7 @@ Turning (Move old new ∷ xs) = Turning xs
 Turning (Aim q None ∷ xs) = IsFetchOrNothing xs
 Turning _ = ⊥
 
--- .. which is a step only where a block is its first record, or stands behind an instruction
+-- .. which is a step only where a block is its first record, or stands after an instruction
 abbrev pub BlocksFirst : Record → List Record → Type 0
 BlocksFirst (Block u t a io) ys = Unit {0}
 BlocksFirst (Ins u t i) (Block v k a io ∷ ys) = Unit {0}
@@ -219,7 +219,7 @@ turning-cases w e p s (Aim q None ∷ xs) is = inr (λ r. (tt, fetch-pass w e p 
 turning-cases w e p s (Aim q (Some v) ∷ xs) is = absurd is
 turning-cases w e p s (x ∷ xs) is = absurd is
 
--- behind the up its life runs
+-- after the up its life runs
 pub record RunsAt (p : ProcNo) (s : SpaceNo) (c : Readings) : Type 0 where
   pub act : ActNo
   pub runs : running_of c p ≡ Some act
@@ -241,8 +241,8 @@ closing-runs w e p s r (Aim q None ∷ xs) is at = absurd is
 closing-runs w e p s r (x ∷ xs) is at = absurd is
 
 told-life : (w : WorkloadView) (e : ℕ) (p : ProcNo) (r : Readings) (n : Rattle.sa_base.specs.declared.record.Note.Note) (a : ActNo) → space_of_life (after_record w e p r (Told n)) (Some a) ≡ space_of_life r (Some a)
-told-life w e p r (note.Preempted b) a = Rattle.sa_legal_readings.proofs.ApartLemmas.space-handed r.upped b (life_of r b) r.lives a.0
-told-life w e p r (note.Unblocked b) a = Rattle.sa_legal_readings.proofs.ApartLemmas.space-handed r.upped b (life_of r b) r.lives a.0
+told-life w e p r (note.Preempted b) a = Rattle.sa_legal.proofs.StandingLemmas.space-handed r.upped b (life_of r b) r.lives a.0
+told-life w e p r (note.Unblocked b) a = Rattle.sa_legal.proofs.StandingLemmas.space-handed r.upped b (life_of r b) r.lives a.0
 told-life w e p r (note.Add q) a = refl
 told-life w e p r (note.Blocked b) a = refl
 

@@ -1,6 +1,6 @@
 -- After each event of a legal run a processor whose line is low is aimed at by its owner.
 use Rattle.std.proofs.Common.{◌≡◌, ◌≢◌, ℕ, zero, suc, ◌+◌, ◌<◌, ◌≤◌, inl, inr, refl, sym, ◌∙◌, ap, subst, arith, Some, None, List, [], ◌∷◌, ◌++◌, length, map, take, true, false}
-use Rattle.std.specs.Prelude.{Option, Bool, ◌&&◌, is_some, get_or, replicate, slice_get}
+use Rattle.std.specs.Prelude.{Option, Bool, ◌&&◌, is_some, get_or, slice_get}
 use Rattle.std.specs.List.{list_all, prefix_len}
 use Rattle.std.proofs.lemmas.Bool.{cases_eq}
 use Rattle.std.proofs.lemmas.List.{get_or-set_same, get_or-set_other, length-set, length-replicate}
@@ -29,8 +29,10 @@ use Rattle.sa_legal.proofs.EventLemmas.{legal-lawful}
 use Rattle.sa_legal.proofs.ReadLemmas.{owners-changed, owners-length, aims-length}
 use Rattle.sa_legal_readings.specs.Closings.{LowLinesAreAimed}
 use Rattle.sa_legal_readings.proofs.TurnLemmas.{is_calm, AllCalm, Turned, turn-turned}
-use Rattle.sa_legal_readings.proofs.LowLemmas.{LowAimed, Fine, AllLeave, fine-step, lines-length, append-records, each-behind}
-use Rattle.sa_legal_readings.proofs.RangeLemmas.{parts-take}
+use Rattle.sa_legal_readings.proofs.LowLemmas.{LowAimed, Fine, AllLeave, fine-step, lines-length, each-behind}
+use Rattle.sa_legal.proofs.AppendLemmas.{records-append}
+use Rattle.sa_legal.proofs.ShapeLemmas.{parts-take}
+use Rattle.sa_legal_readings.proofs.TraceLemmas.{absent}
 
 pub and-left : (a b : Bool) → (a && b) ≡ true → a ≡ true
 and-left true b is = refl
@@ -58,7 +60,7 @@ calm-kept w e p r (x ∷ xs) calm =
     let more = calm-kept w e p (after_record w e p r x) xs (and-right (is_calm x) (list_all is_calm xs) calm) in
     record { owners = more.owners ∙ one.owners; aims = more.aims ∙ one.aims }
 
--- behind its own part an event's processor is aimed at by its owner
+-- after its own part an event's processor is aimed at by its owner
 pub own-final : (w : WorkloadView) (e : ℕ) (p : ProcNo) (r : Readings) (xs : List Record) → p.0 < length r.state.owners → p.0 < length r.aims → Turned p (owner_of r p) (aim_of r p) xs
     → aim_of (after_records w e p r xs) p ≡ owner_of (after_records w e p r xs) p
 own-final w e p r xs owners aims (inl same) =
@@ -69,7 +71,7 @@ own-final w e p r xs owners aims (inr (inl moves)) =
     let moved = after_record w e p mid (Move moves.old (Some moves.new)) in
     let last = calm-kept w e p moved moves.rest moves.calm_rest in
     let whole : after_records w e p r xs ≡ after_records w e p moved moves.rest =
-    ap (after_records w e p r) moves.is ∙ append-records w e p r moves.before (Move moves.old (Some moves.new) ∷ moves.rest) in
+    ap (after_records w e p r) moves.is ∙ records-append w e p r moves.before (Move moves.old (Some moves.new) ∷ moves.rest) in
     ap (λ (k : Readings). aim_of k p) whole
     ∙ ap (λ as'. get_or as' p.0 None) last.aims ∙ ap (λ as'. get_or as' p.0 None) first.aims ∙ moves.to_aim
     ∙ sym (ap (λ (k : Readings). owner_of k p) whole ∙ ap (λ os. get_or os p.0 None) last.owners
@@ -80,7 +82,7 @@ own-final w e p r xs owners aims (inr (inr leaves)) =
     let left = after_record w e p (after_record w e p mid (Move leaves.old None)) (Aim p None) in
     let last = calm-kept w e p left leaves.rest leaves.calm_rest in
     let whole : after_records w e p r xs ≡ after_records w e p left leaves.rest =
-    ap (after_records w e p r) leaves.is ∙ append-records w e p r leaves.before (Move leaves.old None ∷ Aim p None ∷ leaves.rest) in
+    ap (after_records w e p r) leaves.is ∙ records-append w e p r leaves.before (Move leaves.old None ∷ Aim p None ∷ leaves.rest) in
     ap (λ (k : Readings). aim_of k p) whole
     ∙ ap (λ as'. get_or as' p.0 None) last.aims ∙ get_or-set_same mid.aims p.0 None None (subst (λ as'. p.0 < length as') (sym first.aims) aims)
     ∙ sym (ap (λ (k : Readings). owner_of k p) whole ∙ ap (λ os. get_or os p.0 None) last.owners
@@ -178,19 +180,19 @@ in-parts w r e law from aimed = one e.records refl where
   low-is (Some v) is = absurd (cc)
 
   one : (xs : List Record) → e.records ≡ xs → InParts w r e
-  one [] is = absurd (law.0.some is)
+  one [] is = absurd (law.numbering.some is)
   one (x ∷ xs) is =
-      let turns = law.1.1.1.1.1.1.1.1.1.1.1.1.0 in
+      let turns = law.turns_and_steps in
       let whole : own_part (x ∷ xs) ++ closing_part (x ∷ xs) ≡ x ∷ xs = ap (λ ys. x ∷ ys) (parts-take (prefix_len is_own xs) xs) in
       record {
         own = own_part (x ∷ xs);
         closing = closing_part (x ∷ xs);
         is = whole ∙ sym is;
         turned = turn-turned w e.number e.proc (begun w e r) (owner_of r e.proc) (aim_of r e.proc) (is_some (line_of r e.proc)) x xs
-            (λ raised. subst (StopsAndGoes e.proc (begun w e r) (owner_of r e.proc) (aim_of r e.proc)) is (law.1.1.1.1.1.1.1.0.interrupt raised))
+            (λ raised. subst (StopsAndGoes e.proc (begun w e r) (owner_of r e.proc) (aim_of r e.proc)) is (law.interrupt_next.interrupt raised))
             (λ low_line. aimed (low-is (line_of r e.proc) low_line))
             (subst (λ ys. Rattle.sa_laws.specs.Turns.IsTurn Rattle.sa_laws.specs.Turns.IsStep (is_some (line_of r e.proc)) e.number w (begun w e r) e.proc (own_part ys)) is (turns.turn from))
-            (subst (EachRecord (GivesUpcallThen e.proc) w e.number e.proc (begun w e r)) is law.1.1.1.1.1.1.0.blocks);
+            (subst (EachRecord (GivesUpcallThen e.proc) w e.number e.proc (begun w e r)) is law.block_upcall.blocks);
         closes = subst (λ ys. IsClosing (closing_part ys)) is (turns.closing from);
       }
 
@@ -201,33 +203,33 @@ aimed-event : (w : WorkloadView) (r : Readings) (e : Event) (q : ProcNo) → Low
 aimed-event w r e q at law within = elim (cases_eq q.0 e.proc.0) [
   | inl same ↦ own (ap (λ n. record { 0 = n }) same)
   | inr apart ↦
-      all-fine w e.number e.proc (begun w e r) q None e.records (let len = (procs-begun w e r at.procs).lines in omega arith) law.1.1.1.1.1.1.1.1.0.heard
+      all-fine w e.number e.proc (begun w e r) q None e.records (let len = (procs-begun w e r at.procs).lines in omega arith) law.line_cause.heard
       (subst (AllLeave e.proc q) parts.is (leave-append e.proc q parts.own parts.closing (turned-leave e.proc q _ _ parts.own apart parts.turned) (closing-leave e.proc q parts.closing parts.closes)))
       (inl (begun-aimed w r e q apart (at.aimed q within)))
 ] where
   number : 1 ≤ e.number
-  number = let same = law.0.number in let some = at.number in omega arith
+  number = let same = law.numbering.number in let some = at.number in omega arith
 
   parts : InParts w r e
-  parts = in-parts w r e law (let same = law.0.number in let some = at.number in omega arith) (at.aimed e.proc law.0.proc)
+  parts = in-parts w r e law (let same = law.numbering.number in let some = at.number in omega arith) (at.aimed e.proc law.numbering.proc)
 
   own : q ≡ e.proc → LowAimed (behind_all w e r) q
   own same =
-      let ps = in-parts w r e law (let number_is = law.0.number in let some = at.number in omega arith) (at.aimed e.proc law.0.proc) in
+      let ps = in-parts w r e law (let number_is = law.numbering.number in let some = at.number in omega arith) (at.aimed e.proc law.numbering.proc) in
       let begins = procs-begun w e r at.procs in
       let owners = begins.owners in
       let aims = begins.aims in
-      let proc = law.0.proc in
+      let proc = law.numbering.proc in
       let mid = after_records w e.number e.proc (begun w e r) ps.own in
       let mid_procs = procs-records w e.number e.proc (begun w e r) ps.own begins in
       let lines = mid_procs.lines in
-      let heard = subst (EachRecord RaisesLine w e.number e.proc (begun w e r)) (sym ps.is) law.1.1.1.1.1.1.1.1.0.heard in
+      let heard = subst (EachRecord RaisesLine w e.number e.proc (begun w e r)) (sym ps.is) law.line_cause.heard in
       let final = own-final w e.number e.proc (begun w e r) ps.own (omega arith) (omega arith) ps.turned in
       let there : LowAimed (after_records w e.number e.proc mid ps.closing) e.proc =
       all-fine w e.number e.proc mid e.proc None ps.closing (omega arith) (each-behind RaisesLine w e.number e.proc (begun w e r) ps.own ps.closing (λ r' x rest more h. h) heard)
       (closing-leave e.proc e.proc ps.closing ps.closes) (inl (λ is. final)) in
       subst (λ (k : ProcNo). LowAimed (behind_all w e r) k) (sym same)
-      (subst (λ (k : Readings). LowAimed k e.proc) (sym (append-records w e.number e.proc (begun w e r) ps.own ps.closing) ∙ ap (after_records w e.number e.proc (begun w e r)) ps.is) there)
+      (subst (λ (k : Readings). LowAimed k e.proc) (sym (records-append w e.number e.proc (begun w e r) ps.own ps.closing) ∙ ap (after_records w e.number e.proc (begun w e r)) ps.is) there)
 
 low-next : (w : WorkloadView) (r : Readings) (e : Event) → LowAt w r → IsLawful fast_threads w r e → LowAt w (after_event is_inside w r e)
 low-next w r e at law = record {
@@ -236,23 +238,18 @@ low-next w r e at law = record {
   aimed = λ q within. aimed-event w r e q at law within;
 }
 
-absent : {A : Type 0} (n k : ℕ) (d : A) → get_or (replicate n d) k d ≡ d
-absent zero k d = refl
-absent (suc n) zero d = refl
-absent (suc n) (suc k) d = absent n k d
-
 -- the opening
 pub low-first : (w : WorkloadView) (e : Event) → IsLawful fast_threads w (opening_readings w) e → LowAt w (after_event is_inside w (opening_readings w) e)
 low-first w e law =
     let start = opening_readings w in
     let procs : HasProcs w start = record { owners = length-replicate w.processors None; aims = length-replicate w.processors None; lines = length-replicate w.processors None } in
     let wanting = after_records w 0 (proc_no 0) start (first_wants w) in
-    let records : e.records ≡ opening_records w = ap (λ (f : Event). f.records) (law.0.opening law.0.number) in
+    let records : e.records ≡ opening_records w = ap (λ (f : Event). f.records) (law.numbering.opening law.numbering.number) in
     record {
       procs = (let has = procs-records w e.number e.proc (begun w e start) e.records (procs-begun w e start procs) in record { owners = has.owners; aims = has.aims; lines = has.lines });
       number = (let next = Rattle.sa_legal.proofs.MomentLemmas.number-next fast_threads w start e in omega arith);
       aimed = λ q within.
-          all-fine w e.number e.proc (begun w e start) q None e.records (let len = (procs-begun w e start procs).lines in omega arith) law.1.1.1.1.1.1.1.1.0.heard
+          all-fine w e.number e.proc (begun w e start) q None e.records (let len = (procs-begun w e start procs).lines in omega arith) law.line_cause.heard
           (subst (AllLeave e.proc q) (sym records) (leave-append e.proc q (first_wants w) (records_of 0 wanting.lines (aims_due w 0 wanting)) (wants-leave e.proc q (spaces_of w))
           (aims-leave e.proc q 0 wanting.lines (aims_due w 0 wanting))))
           (inl (λ is. absent w.processors q.0 None ∙ sym (absent w.processors q.0 None)));

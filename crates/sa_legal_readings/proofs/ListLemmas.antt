@@ -2,25 +2,10 @@
 use Rattle.std.proofs.Common.{◌≡◌, ◌≢◌, ℕ, zero, suc, ◌<◌, inl, inr, refl, sym, ◌∙◌, ap, arith, Some, None, List, [], ◌∷◌, length, map, true, false}
 use Rattle.std.specs.Prelude.{Option, Bool, ◌==◌, if◌then◌else◌, get_or, slice_set, unwrap_or, filter}
 use Rattle.std.proofs.lemmas.Bool.{cases_eq, cases_lt}
-use Rattle.std.proofs.lemmas.Bool.Decides.{nat_tests}
 use Rattle.std.proofs.lemmas.List.{get_or-set_same, get_or-set_other}
-
-pub differ : (a b : ℕ) → a ≢ b → (a == b) ≡ false
-differ a b apart = grind (arith, nat_tests)
-
-pub alike : (a b : ℕ) → a ≡ b → (a == b) ≡ true
-alike a b same = grind (arith, nat_tests)
-
-pub same-number : (a b : ℕ) → (a == b) ≡ true → a ≡ b
-same-number a b is = grind (arith, nat_tests)
-
-pub if-yes : {A : Type 0} (b : Bool) (x y : A) → b ≡ true → (if b then x else y) ≡ x
-if-yes true x y is = refl
-if-yes false x y is = absurd (cc)
-
-pub if-no : {A : Type 0} (b : Bool) (x y : A) → b ≡ false → (if b then x else y) ≡ y
-if-no false x y is = refl
-if-no true x y is = absurd (cc)
+use Rattle.sa_legal.proofs.MomentLemmas.{if-no, if-yes}
+use Rattle.sa_legal.proofs.ReadLemmas.{differ}
+use Rattle.sa_legal.proofs.SoundLemmas.{alike}
 
 -- a function may be taken out of a choice
 pub if-out : {A B : Type 0} (f : A → B) (b : Bool) (x y : A) → f (if b then x else y) ≡ (if b then f x else f y)
@@ -42,7 +27,7 @@ set-said xs i j v d within = elim (cases_eq i j) [
       get_or-set_other xs i j v d (λ e. apart (sym e)) ∙ sym (ap (λ b. unwrap_or (if b then Some v else None) (get_or xs j d)) (differ i j apart))
 ]
 
--- .. also behind the list, where its items may be absent
+-- .. also after the list, where its items may be absent
 pub set-absent : {A : Type 0} (xs : List (Option A)) (p q : ℕ) (v : Option A) → p < length xs
     → get_or (slice_set xs p v) q None ≡ unwrap_or (if p == q then Some v else None) (get_or xs q None)
 set-absent xs p q v within = elim (cases_lt q (length xs)) [

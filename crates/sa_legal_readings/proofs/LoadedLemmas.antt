@@ -1,4 +1,4 @@
--- At each moment behind the opening of a legal run, the demand of a space covers its load, or a life of it is in, or something is untold to it.
+-- At each moment after the opening of a legal run, the demand of a space covers its load, or a life of it is in, or something is untold to it.
 use Rattle.std.proofs.Common.{◌≡◌, ℕ, zero, suc, ◌+◌, ◌<◌, ◌≤◌, ◌⊎◌, inl, inr, refl, sym, ◌∙◌, ap, subst, arith, Some, None, List, [], ◌∷◌, ◌++◌, length, map, take}
 use Rattle.std.specs.Prelude.{Option, Bool, min, get_or, slice_set, slice_get, sum_by}
 use Rattle.std.specs.List.{range_with_len}
@@ -29,11 +29,11 @@ use Rattle.sa_legal.proofs.StandingLemmas.{Standing, standing_after}
 use Rattle.sa_legal.proofs.MovesLemmas.{moves-lives, stood, agrees-start, agrees-ended, nowhere_first}
 use Rattle.sa_legal_readings.specs.Demands.{DemandCoversLoad, DemandsCoverLoads}
 use Rattle.sa_legal_readings.proofs.ReadingLemmas.{IsReadAfter, after-next, after-start}
-use Rattle.sa_legal_readings.proofs.LowLemmas.{append-records}
 use Rattle.sa_legal_readings.proofs.ApartLemmas.{IsApart, apart-step, none-in}
 use Rattle.sa_legal_readings.proofs.PassLemmas.{Goes}
 use Rattle.sa_legal_readings.proofs.FineLemmas.{Fine}
 use Rattle.sa_legal_readings.proofs.CoverLemmas.{IsCovered, begun-apart, event-fine}
+use Rattle.sa_legal.proofs.AppendLemmas.{records-append}
 
 -- no note is untold to two spaces, from event to event
 pub record StaysApart (r : Readings) : Type 0 where
@@ -50,7 +50,7 @@ apart-all w e p st r (x ∷ xs) apart goes =
 apart-next : (w : WorkloadView) (r : Readings) (e : Event) → StaysApart r → IsLawful fast_threads w r e → StaysApart (after_event is_inside w r e)
 apart-next w r e known law =
     let all = apart-all w e.number e.proc known.st (begun w e r) e.records (begun-apart w known.st r e e.records known.apart)
-    (record { moves = moves-lives w r e law; tells = law.1.1.1.1.1.0.told; steps = law.1.0.steps }) in
+    (record { moves = moves-lives w r e law; tells = law.all_told.told; steps = law.step_taken.steps }) in
     record {
       st = all.st;
       apart = record {
@@ -148,13 +148,13 @@ first-fine : (w : WorkloadView) (e : Event) → IsLawful fast_threads w (opening
     → Fine w (after_event is_inside w (opening_readings w) e) (after_event is_inside w (opening_readings w) e).lives s
 first-fine w e law s within =
     let wanting = after_records w 0 (proc_no 0) (opening_readings w) (first_wants w) in
-    let records : e.records ≡ opening_records w = ap (λ (f : Event). f.records) (law.0.opening law.0.number) in
+    let records : e.records ≡ opening_records w = ap (λ (f : Event). f.records) (law.numbering.opening law.numbering.number) in
     let long : length (begun w e (opening_readings w)).demands ≡ length w.spaces = Rattle.std.proofs.lemmas.List.length-replicate (length w.spaces) 0 in
     let wants = wants-demand w e.number e.proc 0 (length w.spaces) (begun w e (opening_readings w)) s (omega arith) (inl (omega arith, omega arith)) in
     let same = aims-same w e.number e.proc (after_records w e.number e.proc (begun w e (opening_readings w)) (first_wants w)) (records_of 0 wanting.lines (aims_due w 0 wanting)) (aims-of 0 wanting.lines (aims_due w 0 wanting)) in
     let whole : behind_all w e (opening_readings w) ≡ after_records w e.number e.proc (after_records w e.number e.proc (begun w e (opening_readings w)) (first_wants w)) (records_of 0 wanting.lines (aims_due w 0 wanting)) =
     ap (after_records w e.number e.proc (begun w e (opening_readings w))) records
-    ∙ append-records w e.number e.proc (begun w e (opening_readings w)) (first_wants w) (records_of 0 wanting.lines (aims_due w 0 wanting)) in
+    ∙ records-append w e.number e.proc (begun w e (opening_readings w)) (first_wants w) (records_of 0 wanting.lines (aims_due w 0 wanting)) in
     let demand : 1 ≤ demand_of (behind_all w e (opening_readings w)) s =
     subst (λ (ds : List ℕ). 1 ≤ get_or ds s.0 0) (sym (ap (λ (k : Readings). k.demands) whole ∙ same.demands)) wants in
     let state : (behind_all w e (opening_readings w)).state ≡ (opening_readings w).state =
@@ -163,7 +163,7 @@ first-fine w e law s within =
     subst (λ a. active_threads (space_at a s) ≤ 1) (sym state) (open-active w.spaces s.0) in
     inr (inr (min-one w.processors (active_threads (space_at (behind_all w e (opening_readings w)).state s)) (demand_of (behind_all w e (opening_readings w)) s) active demand))
 
--- at each moment behind the opening
+-- at each moment after the opening
 abbrev FineAll : WorkloadView → Readings → Type 0
 FineAll w r = (s : SpaceNo) → s.0 < length w.spaces → Fine w r r.lives s
 
@@ -174,7 +174,7 @@ fine-along w es r [] read apart later fine law (suc n) = fine
 fine-along w es r (e ∷ events) read apart later fine law zero = fine
 fine-along w es r (e ∷ events) read apart later fine law (suc n) =
     let known : IsCovered w r = record { st = apart.st; apart = apart.apart; owned = read.said.owned; sized = read.said.at.read.sized } in
-    let from : 1 ≤ e.number = (let same = law.0.0.number in omega arith) in
+    let from : 1 ≤ e.number = (let same = law.0.numbering.number in omega arith) in
     fine-along w (es ++ e ∷ []) (after_event is_inside w r e) events (after-next w es r e read law.0) (apart-next w r e apart law.0)
     (let next = Rattle.sa_legal.proofs.MomentLemmas.number-next fast_threads w r e in omega arith)
     (λ s within. event-fine w r e known law.0 from s within (fine s within)) law.1 n

@@ -15,7 +15,7 @@ use Rattle.sa_laws.specs.History.{after_records}
 use Rattle.sa_laws.specs.Shape.{is_other_line, before_lines}
 use Rattle.sa_laws.specs.Upcalls.{EachRecord, RaisesLine, BeginsWithLine}
 use Rattle.sa_legal.proofs.ReadLemmas.{owners-changed}
-use Rattle.sa_legal_readings.proofs.ListLemmas.{alike}
+use Rattle.sa_legal.proofs.SoundLemmas.{alike}
 
 abbrev pub LowAimed : Readings → ProcNo → Type 0
 LowAimed r q = line_of r q ≡ None → aim_of r q ≡ owner_of r q
@@ -110,11 +110,6 @@ front-fine w e p r q last (x ∷ xs) within heard leaves fine =
           → LowAimed (after_records w e p r (if b then [] else x ∷ before_lines (Some x) xs)) q
       one true other rest = stops fine other
       one false goes rest = rest
-
--- the own part of an event, and what stands behind it
-pub append-records : (w : WorkloadView) (e : ℕ) (p : ProcNo) (r : Readings) (xs ys : List Record) → after_records w e p r (xs ++ ys) ≡ after_records w e p (after_records w e p r xs) ys
-append-records w e p r [] ys = refl
-append-records w e p r (x ∷ xs) ys = append-records w e p (after_record w e p r x) xs ys
 
 pub each-behind : (L : Rattle.sa_laws.specs.Upcalls.RecordLaw) (w : WorkloadView) (e : ℕ) (p : ProcNo) (r : Readings) (xs ys : List Record) → ((r' : Readings) (x : Record) (rest more : List Record) → L r' x rest → L r' x rest)
     → EachRecord L w e p r (xs ++ ys) → EachRecord L w e p (after_records w e p r xs) ys

@@ -112,10 +112,10 @@ no-odd w r e a life x others law owned later runs is records odd = one (is_some 
       (subst (λ k. StopsAndGoes e.proc (begun w e r) k (aim_of r e.proc) e.records) owner goes))
 
   turns : IsTurn IsStep (is_some (line_of r e.proc)) e.number w (begun w e r) e.proc (own_part (x ∷ others))
-  turns = subst (λ xs. IsTurn IsStep (is_some (line_of r e.proc)) e.number w (begun w e r) e.proc (own_part xs)) records (law.1.1.1.1.1.1.1.1.1.1.1.1.0.turn later)
+  turns = subst (λ xs. IsTurn IsStep (is_some (line_of r e.proc)) e.number w (begun w e r) e.proc (own_part xs)) records (law.turns_and_steps.turn later)
 
   one : (b : Bool) → is_some (line_of r e.proc) ≡ b → ⊥
-  one true raised = stops (law.1.1.1.1.1.1.1.0.interrupt raised)
+  one true raised = stops (law.interrupt_next.interrupt raised)
   one false low =
       odd-turn w (begun w e r) e.proc e.number life.space x (take_while is_own others) odd owner
       (subst (λ b. IsTurn IsStep b e.number w (begun w e r) e.proc (own_part (x ∷ others))) low turns)
@@ -170,7 +170,7 @@ own-event w past r e read until owned law = by_records e.records refl where
       (step-or x others (λ odd. no-odd w r e a life.0 x others law owned later is life.1 records odd))
     where
       number : (n : ℕ) → e.number ≡ n → (b : ActNo) → running_of r e.proc ≡ Some b → 1 ≤ e.number
-      number zero at b some = absurd (none-some b (sym (first-none past r e.proc until (sym law.0.number ∙ at)) ∙ sym (read.running e.proc) ∙ some))
+      number zero at b some = absurd (none-some b (sym (first-none past r e.proc until (sym law.numbering.number ∙ at)) ∙ sym (read.running e.proc) ∙ some))
       number (suc n) at b some = omega arith
 
   by_records : (xs : List Record) → e.records ≡ xs → stepper r e xs ≡ (if begins_otherwise xs then None else runs_on past e.proc)

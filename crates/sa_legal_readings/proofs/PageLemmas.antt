@@ -20,7 +20,8 @@ use Rattle.sa_laws.specs.Readings.{Readings}
 use Rattle.sa_laws.specs.Record.{io_over, pages_after}
 use Rattle.sa_laws.specs.Record as laws
 use Rattle.sa_legal_readings.specs.Pages.{names_page, is_io_for, is_kind_for, comes_at}
-use Rattle.sa_legal_readings.proofs.ListLemmas.{differ, alike}
+use Rattle.sa_legal.proofs.ReadLemmas.{differ}
+use Rattle.sa_legal.proofs.SoundLemmas.{alike}
 
 -- page k of a space, in a list of pages
 abbrev pub has_at : List ℕ → ℕ → ℕ → Bool

@@ -4,7 +4,6 @@ use Rattle.std.specs.Prelude.{Option, Bool, if◌then◌else◌, Contains, get_o
 use Rattle.std.specs.Option.{option_map}
 use Rattle.std.proofs.lemmas.Bool.{cases_eq}
 use Rattle.std.proofs.lemmas.List.Sums.{sum_by-cons, sum_by-append}
-use Rattle.std.proofs.lemmas.List.Elements.{Contains-append_left}
 use Rattle.std.proofs.lemmas.Option.{none-some, same_Some}
 use Rattle.sa_lemmas.specs.Function.{put}
 use Rattle.sa_lemmas.proofs.FunctionUpdates.{put-at, put-other}
@@ -38,6 +37,7 @@ use Rattle.sa_legal.proofs.StandingLemmas.{Standing, Stood, space_of}
 use Rattle.sa_legal.proofs.ShapeLemmas.{is_telling, MovesLives}
 use Rattle.sa_legal.proofs.MovesLemmas.{stood}
 use Rattle.sa_legal_readings.proofs.ApartLemmas.{IsApart, apart-step, one-space, is_real, told-space, upped-space}
+use Rattle.sa_legal.proofs.ReadLemmas.{with-keeps}
 
 -- of a space: no more threads are ready or run, no less is wanted, its lives are as much in, and what is untold stays so
 pub record Kept (s : SpaceNo) (r c : Readings) : Type 0 where
@@ -259,24 +259,16 @@ lives-kept w p st r s (Told (note.Blocked a)) xs apart law passes quiet = still-
 lives-kept w p st r s (GiveBack a) xs apart law passes quiet = still-put s a.0 None r.lives (λ l is of. passes (ap space_of is ∙ ap Some of))
 lives-kept w p st r s x xs apart law passes quiet = still-self s r.lives
 
--- what is untold
-with-has : (xs : List (List Note)) (i j : ℕ) (y z : Note) → Contains (get_or xs j []) z → Contains (get_or (slice_set xs i (get_or xs i [] ++ y ∷ [])) j []) z
-with-has [] i j y z has = has
-with-has (x ∷ xs) zero zero y z has = Contains-append_left x (y ∷ []) z has
-with-has (x ∷ xs) zero (suc j) y z has = has
-with-has (x ∷ xs) (suc i) zero y z has = has
-with-has (x ∷ xs) (suc i) (suc j) y z has = with-has xs i j y z has
-
 without-has : (n z : Note) (xs : List (List Note)) (j : ℕ) → is_other_note n z ≡ true → Contains (get_or xs j []) z → Contains (get_or (without_note xs n) j []) z
 without-has n z [] j other has = has
 without-has n z (x ∷ xs) zero other has = Rattle.sa_legal_readings.proofs.RaisedLemmas.filter-keeps (is_other_note n) x z other has
 without-has n z (x ∷ xs) (suc j) other has = without-has n z xs j other has
 
 note-other : (n z : Note) → n ≢ z → is_other_note n z ≡ true
-note-other (note.Add p) (note.Add q) apart = ap not (Rattle.sa_legal_readings.proofs.ListLemmas.differ q.0 p.0 (λ e. apart (ap (λ k. note.Add (record { 0 = k })) (sym e))))
-note-other (note.Preempted a) (note.Preempted b) apart = ap not (Rattle.sa_legal_readings.proofs.ListLemmas.differ b.0 a.0 (λ e. apart (ap (λ k. note.Preempted (record { 0 = k })) (sym e))))
-note-other (note.Blocked a) (note.Blocked b) apart = ap not (Rattle.sa_legal_readings.proofs.ListLemmas.differ b.0 a.0 (λ e. apart (ap (λ k. note.Blocked (record { 0 = k })) (sym e))))
-note-other (note.Unblocked a) (note.Unblocked b) apart = ap not (Rattle.sa_legal_readings.proofs.ListLemmas.differ b.0 a.0 (λ e. apart (ap (λ k. note.Unblocked (record { 0 = k })) (sym e))))
+note-other (note.Add p) (note.Add q) apart = ap not (Rattle.sa_legal.proofs.ReadLemmas.differ q.0 p.0 (λ e. apart (ap (λ k. note.Add (record { 0 = k })) (sym e))))
+note-other (note.Preempted a) (note.Preempted b) apart = ap not (Rattle.sa_legal.proofs.ReadLemmas.differ b.0 a.0 (λ e. apart (ap (λ k. note.Preempted (record { 0 = k })) (sym e))))
+note-other (note.Blocked a) (note.Blocked b) apart = ap not (Rattle.sa_legal.proofs.ReadLemmas.differ b.0 a.0 (λ e. apart (ap (λ k. note.Blocked (record { 0 = k })) (sym e))))
+note-other (note.Unblocked a) (note.Unblocked b) apart = ap not (Rattle.sa_legal.proofs.ReadLemmas.differ b.0 a.0 (λ e. apart (ap (λ k. note.Unblocked (record { 0 = k })) (sym e))))
 note-other n z apart = refl
 
 -- what is told to one space is not untold to another
@@ -300,14 +292,14 @@ told-other w p st r s n z xs apart law quiet real has same = one (space_of_life 
 
 noted-step : (w : WorkloadView) (p : ProcNo) (st : ℕ → Standing) (r : Readings) (s : SpaceNo) (x : Record) (xs : List Record) (n : Note) → IsApart st r (x ∷ xs) → MovesLives w p r x xs
     → (is_telling r.last ≡ true → space_of_life r r.upped ≢ Some s) → is_real n ≡ true → Contains (untold_of r s) n → Contains (get_or (untold_after r x) s.0 []) n
-noted-step w p st r s (Stop u t a) xs n apart law quiet real has = with-has r.untold u.0 s.0 (note.Preempted a) n has
-noted-step w p st r s (Block u t a io) xs n apart law quiet real has = with-has r.untold u.0 s.0 (note.Blocked a) n has
-noted-step w p st r s (Unblock u t a) xs n apart law quiet real has = with-has r.untold u.0 s.0 (note.Unblocked a) n has
+noted-step w p st r s (Stop u t a) xs n apart law quiet real has = with-keeps r.untold u.0 s.0 (note.Preempted a) n has
+noted-step w p st r s (Block u t a io) xs n apart law quiet real has = with-keeps r.untold u.0 s.0 (note.Blocked a) n has
+noted-step w p st r s (Unblock u t a) xs n apart law quiet real has = with-keeps r.untold u.0 s.0 (note.Unblocked a) n has
 noted-step w p st r s (Told m) xs n apart law quiet real has =
     without-has m n r.untold s.0 (note-other m n (told-other w p st r s m n xs apart law (quiet law.1) real has)) has
 noted-step w p st r s x xs n apart law quiet real has = has
 
--- .. nor will told records behind it
+-- .. nor will told records after it
 quiet-step : (w : WorkloadView) (e : ℕ) (p : ProcNo) (r : Readings) (s : SpaceNo) (x : Record) (xs : List Record) → MovesLives w p r x xs → Passes s r x xs
     → (is_telling r.last ≡ true → space_of_life r r.upped ≢ Some s) → is_telling (Some x) ≡ true → space_of_life (after_record w e p r x) (after_record w e p r x).upped ≢ Some s
 quiet-step w e p r s (Up u a) xs law passes quiet telling is =

@@ -22,11 +22,12 @@ use Rattle.sa_legal.specs.Words.{RaisedAt, line_in}
 use Rattle.sa_legal.specs.Lives.{Stand, stand_if, stand_in, stand_said, stand_of}
 use Rattle.sa_legal.specs.Lives as life
 use Rattle.sa_legal.proofs.WalkLemmas.{item}
-use Rattle.sa_legal.proofs.ReadLemmas.{said-more, last-more}
+use Rattle.sa_legal.proofs.ReadLemmas.{said-more, last-more, differ}
 use Rattle.sa_legal_readings.specs.Moments.{Home, home_of, home_in, home_said}
 use Rattle.sa_legal_readings.specs.Holdings.{is_home, is_other, taken_by, taken_at, taken_in}
 use Rattle.sa_legal_readings.proofs.AlongLemmas.{along-more}
-use Rattle.sa_legal_readings.proofs.ListLemmas.{differ, alike, same-number}
+use Rattle.sa_legal.proofs.SoundLemmas.{alike}
+use Rattle.sa_legal.proofs.StandingLemmas.{same-number}
 
 -- all items are of events before this one
 abbrev pub Until : List Item → ℕ → Type 0

@@ -38,6 +38,7 @@ use Rattle.sa_legal_readings.specs.Moments.{Home, home_of, home_in}
 use Rattle.sa_legal_readings.proofs.RaisedLemmas.{home-more}
 use Rattle.sa_legal_readings.proofs.TrackLemmas.{IsSized, sized-step}
 use Rattle.sa_legal_readings.proofs.AfterLemmas.{HomesIn}
+use Rattle.sa_legal.proofs.ShapeLemmas.{parts-take}
 
 -- each move to a space is to one below this number
 abbrev pub EachMove : ℕ → List Record → Type 0
@@ -149,7 +150,7 @@ interrupt-moves n p r None aim (Move old new) xs goes below is =
     aim-move n p r None aim (Move old new ∷ xs) goes below old' new' xs (ap (λ z. z ∷ xs) here))
 interrupt-moves n p r owner aim x xs goes below is = absurd (is)
 
--- behind a block nothing moves to a space
+-- after a block nothing moves to a space
 block-moves : (n : ℕ) (there : Bool) (p : ProcNo) (r : Readings) (s : SpaceNo) (xs : List Record) → GoesOn there p r s xs → IsPassage (take_while is_own xs) → EachMove n (take_while is_own xs)
 block-moves n there p r s xs goes is = move-passage n (take_while is_own xs) is
     (λ old new ys same. let whole = head-of is_own xs (Move old (Some new)) ys same in absurd (one there goes old new whole.0 whole.1)) where
@@ -242,12 +243,6 @@ turn-moves n w e p r x xs is gives = due (due_of e r.under_way) is where
   due (Some io) (inl done) = over-moves n io.kind _ done
   due (Some io) (inr local) = in-moves n w e p r (running_of r p) (life_on r p) x xs local.1 gives
 
-pub parts-take : (n : ℕ) (xs : List Record) → take n xs ++ drop (length (take n xs)) xs ≡ xs
-parts-take zero [] = refl
-parts-take (suc n) [] = refl
-parts-take zero (x ∷ xs) = refl
-parts-take (suc n) (x ∷ xs) = ap (λ ys. x ∷ ys) (parts-take n xs)
-
 -- the moves of a lawful event
 pub event-moves : (w : WorkloadView) (r : Readings) (e : Event) → IsLawful fast_threads w r e → ((s : SpaceNo) → aim_of r e.proc ≡ Some s → s.0 < length w.spaces) → EachMove (length w.spaces) e.records
 event-moves w r e law below = one e.number refl where
@@ -257,9 +252,9 @@ event-moves w r e law below = one e.number refl where
   later : 1 ≤ e.number → (xs : List Record) → e.records ≡ xs → EachMove (length w.spaces) xs
   later from [] is = tt
   later from (x ∷ xs) is =
-      let turns = law.1.1.1.1.1.1.1.1.1.1.1.1.0 in
+      let turns = law.turns_and_steps in
       let whole : own_part (x ∷ xs) ++ closing_part (x ∷ xs) ≡ x ∷ xs = ap (λ ys. x ∷ ys) (parts-take (prefix_len is_own xs) xs) in
-      let gives = subst (EachRecord (GivesUpcallThen e.proc) w e.number e.proc (begun w e r)) is law.1.1.1.1.1.1.0.blocks in
+      let gives = subst (EachRecord (GivesUpcallThen e.proc) w e.number e.proc (begun w e r)) is law.block_upcall.blocks in
       let turn = subst (λ ys. IsTurn IsStep (is_some (line_of r e.proc)) e.number w (begun w e r) e.proc (own_part ys)) is (turns.turn from) in
       let closing = subst (λ ys. IsClosing (closing_part ys)) is (turns.closing from) in
       subst (EachMove (length w.spaces)) whole
@@ -269,13 +264,13 @@ event-moves w r e law below = one e.number refl where
           → EachRecord (GivesUpcallThen e.proc) w e.number e.proc (begun w e r) (x ∷ xs) → EachMove (length w.spaces) (own_part (x ∷ xs))
       own true raised turn' gives' =
           interrupt-moves (length w.spaces) e.proc (begun w e r) (owner_of r e.proc) (aim_of r e.proc) x xs
-          (subst (StopsAndGoes e.proc (begun w e r) (owner_of r e.proc) (aim_of r e.proc)) is (law.1.1.1.1.1.1.1.0.interrupt raised)) below turn'
+          (subst (StopsAndGoes e.proc (begun w e r) (owner_of r e.proc) (aim_of r e.proc)) is (law.interrupt_next.interrupt raised)) below turn'
       own false low turn' gives' = turn-moves (length w.spaces) w e.number e.proc (begun w e r) x xs turn' gives'
 
   one : (k : ℕ) → e.number ≡ k → EachMove (length w.spaces) e.records
   one zero at =
       let wanting = after_records w 0 (proc_no 0) (opening_readings w) (first_wants w) in
-      subst (EachMove (length w.spaces)) (sym (ap (λ (f : Event). f.records) (law.0.opening at)))
+      subst (EachMove (length w.spaces)) (sym (ap (λ (f : Event). f.records) (law.numbering.opening at)))
       (move-append (length w.spaces) (first_wants w) (records_of 0 wanting.lines (aims_due w 0 wanting)) (move-wants (length w.spaces) (spaces_of w))
       (move-aims (length w.spaces) 0 wanting.lines (aims_due w 0 wanting)))
   one (suc k) at = later (omega arith) e.records refl
@@ -316,7 +311,7 @@ each-aim n (x ∷ xs) all = each-aim n xs all
 pub event-aims : (w : WorkloadView) (r : Readings) (e : Event) → IsLawful fast_threads w r e → EachAim (length w.spaces) e.records
 event-aims w r e law =
     each-aim (length w.spaces) e.records
-    (subst (AllBelow (length w.spaces)) (sym law.1.1.1.1.1.1.1.1.1.1.0.due) (from-below (length w.spaces) 0 (length w.spaces) _ _ _ (omega arith)))
+    (subst (AllBelow (length w.spaces)) (sym law.shares_covered.due) (from-below (length w.spaces) 0 (length w.spaces) _ _ _ (omega arith)))
 
 -- each record names spaces of the workload
 abbrev pub Ranged : ℕ → Record → Type 0
@@ -339,7 +334,7 @@ up-range w p r s a rest sized moved tells = elim (cases_lt s.0 (length w.spaces)
 ] where
   to : (o : Option SpaceNo) → r.moved ≡ o → (b : Bool) → is_aim s.0 o ≡ b → length w.spaces ≤ s.0 → s.0 < length w.spaces
   to None is true at past = absurd (cc)
-  to (Some m) is true at past = let same = Rattle.sa_legal_readings.proofs.ListLemmas.same-number m.0 s.0 at in let below = moved m is in omega arith
+  to (Some m) is true at past = let same = Rattle.sa_legal.proofs.StandingLemmas.same-number m.0 s.0 at in let below = moved m is in omega arith
   to o is false at past =
       let untold_len = sized.untold in
       let none : untold_of r s ≡ [] = get_or_past r.untold s.0 [] (omega arith) in
@@ -412,7 +407,7 @@ pub range-event : (w : WorkloadView) (past : List Item) (r : Readings) (e : Even
     → IsInRange w (past ++ items_at e.number e.proc e.records) (Rattle.sa_laws.specs.History.behind_all w e r)
 range-event w past r e inv sized law =
     range-records w e.number e.proc past (begun w e r) e.records (record { homes = inv.homes; aims = inv.aims })
-    (ranged-each w e.number e.proc (begun w e r) e.records sized (λ s is. absurd (none-some s is)) (event-moves w r e law (λ s is. inv.aims e.proc s is)) (event-aims w r e law) law.1.1.1.1.1.0.told)
+    (ranged-each w e.number e.proc (begun w e r) e.records sized (λ s is. absurd (none-some s is)) (event-moves w r e law (λ s is. inv.aims e.proc s is)) (event-aims w r e law) law.all_told.told)
 
 absent : (n k : ℕ) (s : SpaceNo) → get_or (replicate n None) k None ≡ Some s → ⊥
 absent zero k s is = none-some s is

@@ -1,5 +1,5 @@
 -- What one record changes in what is read, reading by reading, as the words have it.
-use Rattle.std.proofs.Common.{◌≡◌, ℕ, ◌+◌, ◌<◌, refl, sym, ◌∙◌, ap, arith, Some, None, List, [], ◌∷◌, ◌++◌, length, map, true, false}
+use Rattle.std.proofs.Common.{◌≡◌, ℕ, ◌+◌, ◌<◌, refl, sym, ◌∙◌, ap, Some, None, List, [], ◌∷◌, ◌++◌, length, map, false}
 use Rattle.std.specs.Prelude.{Option, Bool, ◌==◌, nat_lt, is_none, if◌then◌else◌, get_or, slice_set, unwrap_or, filter}
 use Rattle.std.proofs.lemmas.List.{set-get_or, length-set, map-append}
 use Rattle.sa_base.specs.declared.number.SpaceNo.{SpaceNo}
@@ -20,8 +20,8 @@ use Rattle.sa_laws.specs.State.{State, placed_if, next_instr}
 use Rattle.sa_laws.specs.Machine.{changed}
 use Rattle.sa_laws.specs.Life.{some_lock}
 use Rattle.sa_laws.specs.Readings.{Readings, Listed, demand_of, untold_of, taken_of, ready_of, space_of_life, life_of, life_on}
-use Rattle.sa_laws.specs.Record.{running_after, marks_after, mark_after, untold_after, taken_after, with_act, without_act, begun_after, is_other_note, is_other_act, length_behind, blocking, blocking_for, locks_one, under_way_after, with_io, page_touched, page_in, is_io_of_other, fetches_other, first_list, is_other_thread, ready_after}
-use Rattle.sa_legal.specs.Words.{last_want, begins_io, ios_begun}
+use Rattle.sa_laws.specs.Record.{running_after, marks_after, mark_after, untold_after, taken_after, with_act, without_act, is_other_note, is_other_act, length_behind, blocking, blocking_for, locks_one, under_way_after, with_io, page_touched, page_in, is_io_of_other, fetches_other, first_list, is_other_thread, ready_after}
+use Rattle.sa_legal.specs.Words.{last_want, ios_begun}
 use Rattle.sa_legal_readings.specs.Moments.{Home, machine_of, directly_before, run_in, home_of, runs_on}
 use Rattle.sa_legal_readings.specs.Marks.{mark_in}
 use Rattle.sa_legal_readings.specs.Loads.{Untold, untold, untold_by, with_noted}
@@ -173,20 +173,6 @@ taken-length r (Told (note.Add q)) = refl
 taken-length r (Told (note.Blocked a)) = refl
 taken-length r (GiveBack a) = less-length r.taken (space_of_life r (Some a)) a
 taken-length r x = refl
-
--- the I/Os
-pub ios-more : (past : List Item) (x : Item) → ios_begun (past ++ x ∷ []) ≡ ios_begun past + (if begins_io x.what then 1 else 0)
-ios-more [] x = one (begins_io x.what) where
-  one : (b : Bool) → (if b then 1 else 0) + 0 ≡ 0 + (if b then 1 else 0)
-  one true = refl
-  one false = refl
-ios-more (y ∷ ys) x =
-    let more = ios-more ys x in omega arith
-
-pub begun-more : (n : ℕ) (x : Record) → begun_after n x ≡ n + (if begins_io x then 1 else 0)
-begun-more n (Block s t a io) = refl
-begun-more n (Fetch s) = refl
-begun-more n x = omega arith
 
 behind-same : (w : WorkloadView) (r : Readings) (s : SpaceNo) (t : Option ThreadNo) (last : Option Record) → length_behind w r s t last ≡ io_before w r.state s t last
 behind-same w r s t None = refl

@@ -30,13 +30,14 @@ use Rattle.sa_legal.proofs.MovesLemmas.{agrees-start, agrees-begun, agrees-ended
 use Rattle.sa_laws.specs.Life.{Life}
 use Rattle.sa_legal_readings.specs.Moments.{directly_before, record_of_event}
 use Rattle.sa_legal_readings.specs.Pages.{is_resident_in, evicted_if, is_evicted}
-use Rattle.sa_legal_readings.proofs.ListLemmas.{differ}
 use Rattle.sa_legal_readings.proofs.LifeLemmas.{Said, said-if}
 use Rattle.sa_legal_readings.proofs.FieldLemmas.{in_locks, in_hand, open_cont, held_thread, at_home}
 use Rattle.sa_legal_readings.proofs.PageLemmas.{has_at, IsSmall, evicted-more, evicted-length, opening-pages}
 use Rattle.sa_legal_readings.proofs.RaisedLemmas.{Until, RaisedAll, raised-begins, raised-ends, EndsWithEvent}
 use Rattle.sa_legal_readings.proofs.KnownLemmas.{known-event}
 use Rattle.sa_legal_readings.proofs.TrackLemmas.{Known, IsSized, IsRead, IsReadIn, read-step}
+use Rattle.sa_legal.proofs.MomentLemmas.{number-kept}
+use Rattle.sa_legal.proofs.ReadLemmas.{differ}
 
 -- what is read at the end of an event
 pub record IsReadAt (w : WorkloadView) (past : List Item) (r : Readings) : Type 0 where
@@ -189,25 +190,21 @@ ends-event e past some = one e.records some where
   one [] none = absurd (none refl)
   one (x ∷ xs) none = last-of e.number e.proc past x xs
 
-number-kept : (w : WorkloadView) (e : ℕ) (p : ProcNo) (r : Readings) (xs : List Record) → (after_records w e p r xs).number ≡ r.number
-number-kept w e p r [] = refl
-number-kept w e p r (x ∷ xs) = number-kept w e p (after_record w e p r x) xs
-
 -- a lawful event
 pub read-event : (w : WorkloadView) (past : List Item) (r : Readings) (e : Event) → IsReadAt w past r → IsLawful fast_threads w r e
     → IsReadIn w e.number e.proc (past ++ items_at e.number e.proc e.records) (behind_all w e r)
 read-event w past r e at law =
-    let begins = read-begins w past r e law.0.number at in
+    let begins = read-begins w past r e law.numbering.number at in
     read-records w e.number e.proc past (begun w e r) e.records begins (known-event w r e begins.read.sized law)
 
 pub read-next : (w : WorkloadView) (past : List Item) (r : Readings) (e : Event) → IsReadAt w past r → IsLawful fast_threads w r e
     → IsReadAt w (past ++ items_at e.number e.proc e.records) (after_event is_inside w r e)
 read-next w past r e at law =
-    read-ends w (past ++ items_at e.number e.proc e.records) r e (behind_all w e r) (number-kept w e.number e.proc (begun w e r) e.records ∙ sym law.0.number)
-    (ends-event e past law.0.some) (read-event w past r e at law)
+    read-ends w (past ++ items_at e.number e.proc e.records) r e (behind_all w e r) (number-kept w e.number e.proc (begun w e r) e.records ∙ sym law.numbering.number)
+    (ends-event e past law.numbering.some) (read-event w past r e at law)
 
 -- before any event
-absent : {A : Type 0} (n k : ℕ) (d : A) → get_or (replicate n d) k d ≡ d
+pub absent : {A : Type 0} (n k : ℕ) (d : A) → get_or (replicate n d) k d ≡ d
 absent zero k d = refl
 absent (suc n) zero d = refl
 absent (suc n) (suc k) d = absent n k d

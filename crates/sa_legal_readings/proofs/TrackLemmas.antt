@@ -25,7 +25,7 @@ use Rattle.sa_legal.proofs.WalkLemmas.{item}
 use Rattle.sa_legal.proofs.ReadLemmas.{said-more, last-more, demand-more, demands-length, untold-length}
 use Rattle.sa_legal.proofs.ShapeLemmas.{MovesLives}
 use Rattle.sa_legal.proofs.MovesLemmas.{stood}
-use Rattle.sa_legal.proofs.StandingLemmas.{Standing, Runs, Blocked, Stopped, Returned, Taken, Agrees, Stood, space_in, standing_after, agrees-step, kind}
+use Rattle.sa_legal.proofs.StandingLemmas.{Standing, Runs, Blocked, Stopped, Returned, Taken, Agrees, Stood, space_in, standing_after, agrees-step, kind, same-number}
 use Rattle.sa_legal.proofs.HolderLemmas.{has-life, on-life}
 use Rattle.sa_legal_readings.specs.Moments.{Home, machine_of, machine_by, directly_before, record_of_event, is_first, runs_on, run_said, last_up, up_said, home_of}
 use Rattle.sa_legal_readings.specs.Marks.{is_marked, mark_said}
@@ -35,12 +35,13 @@ use Rattle.sa_legal_readings.specs.Ios.{ios_of, ios_at}
 use Rattle.sa_legal_readings.specs.Pages.{is_resident_in, resident_at, evicted_if, comes_at}
 use Rattle.sa_legal_readings.specs.Along.{along, says_on}
 use Rattle.sa_legal_readings.proofs.AlongLemmas.{along-more, along-step}
-use Rattle.sa_legal_readings.proofs.ListLemmas.{alike, same-number}
 use Rattle.sa_legal_readings.proofs.LifeLemmas.{Said, said-same}
-use Rattle.sa_legal_readings.proofs.StepLemmas.{WantKnown, NamesHome, AtHome, BlocksWith, note_of, run-more, run-length, spaces-length, mark-more, marks-length, untold-more, taken-more, taken-length, ios-more, begun-more, under-more, ready-more, ready-length}
+use Rattle.sa_legal_readings.proofs.StepLemmas.{WantKnown, NamesHome, AtHome, BlocksWith, note_of, run-more, run-length, spaces-length, mark-more, marks-length, untold-more, taken-more, taken-length, under-more, ready-more, ready-length}
 use Rattle.sa_legal_readings.proofs.FieldLemmas.{Agrees as AgreesWith, NamesLife, in_locks, in_hand, open_cont, held_thread, at_home, homes_by, locks-step, hands-step, conts-step, stopped-step, homes-step, TakesLock}
 use Rattle.sa_legal_readings.proofs.PageLemmas.{has_at, pages-more, pages-length}
 use Rattle.sa_legal_readings.proofs.RaisedLemmas.{Until, until-more, RaisedIn, raised-step, TakenAll, taken-all-step, home-more}
+use Rattle.sa_legal.proofs.IoLemmas.{ios-more, begun-more}
+use Rattle.sa_legal.proofs.SoundLemmas.{alike}
 
 -- what is known of each record of a legal run
 pub record Known (w : WorkloadView) (p : ProcNo) (r : Readings) (x : Record) (rest : List Record) : Type 0 where
@@ -176,7 +177,7 @@ homes-said past e p x b = one x ∙ sym (home-more past e p x (record { 0 = b })
         ∙ sym (ap (λ c. option_or (if c then Some (record { space = s; proc = p }) else None) (home_of past (record { 0 = b }))) (alike a.0 b same))
     | inr apart ↦
         put-other (λ c. home_of past (record { 0 = c })) a.0 b _ (λ e'. apart (sym e'))
-        ∙ sym (ap (λ c. option_or (if c then Some (record { space = s; proc = p }) else None) (home_of past (record { 0 = b }))) (Rattle.sa_legal_readings.proofs.ListLemmas.differ a.0 b apart))
+        ∙ sym (ap (λ c. option_or (if c then Some (record { space = s; proc = p }) else None) (home_of past (record { 0 = b }))) (Rattle.sa_legal.proofs.ReadLemmas.differ a.0 b apart))
   ]
 
   one : (y : Record) → homes_by (λ c. home_of past (record { 0 = c })) p y b ≡ option_or (Rattle.sa_legal_readings.specs.Moments.home_in (record { 0 = b }) p y) (home_of past (record { 0 = b }))

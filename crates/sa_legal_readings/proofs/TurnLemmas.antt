@@ -1,4 +1,4 @@
--- What an event's own part does to the owner and the aim of its processor: behind it they are the same.
+-- What an event's own part does to the owner and the aim of its processor: after it they are the same.
 use Rattle.std.proofs.Common.{◌≡◌, ℕ, ◌⊎◌, inl, inr, refl, sym, ◌∙◌, ap, subst, Some, None, List, [], ◌∷◌, ◌++◌, map, drop, true, false}
 use Rattle.std.specs.Prelude.{Option, Bool, ◌&&◌, take_while}
 use Rattle.std.specs.List.{list_all}
@@ -23,8 +23,8 @@ use Rattle.sa_laws.specs.Record.{after_record}
 use Rattle.sa_laws.specs.Shape.{is_own, is_of_leave, BeginsWithUp}
 use Rattle.sa_laws.specs.Turns.{AreTold, IsFetchOrNothing, IsPassage, IsInterrupt, IsOver, IsOut, IsBlock, IsInsOf, StepBy, StepIn, IsStep, IsTickOrStep, IsTurnWhileDue, IsTurn, AreOfLocks}
 use Rattle.sa_laws.specs.Upcalls.{EachRecord, GivesUpcallThen, GoesOn, GoesTo, GoesToAim, StopsAndGoes}
-use Rattle.sa_legal_readings.proofs.ListLemmas.{same-number}
 use Rattle.sa_legal_readings.proofs.RangeLemmas.{head-of, while-more}
+use Rattle.sa_legal.proofs.StandingLemmas.{same-number}
 
 -- records that change no owner, aim or line
 abbrev pub is_calm : Record → Bool

@@ -27,7 +27,7 @@ LowLinesAreAimed w items =
     → (p : ProcNo) → p.0 < w.processors → line_of (before fast_threads w (events_of items) (n + 1)) p ≡ None
     → aim_of (before fast_threads w (events_of items) (n + 1)) p ≡ owner_of (before fast_threads w (events_of items) (n + 1)) p
 
--- after each event behind the opening no line is due
+-- after each event but the opening no line is due
 abbrev pub NoLineIsDue : WorkloadView → List Item → Type 0
 NoLineIsDue w items =
     (n : ℕ) (e : Event) → slice_get (events_of items) n ≡ Some e → 1 ≤ e.number

@@ -28,7 +28,7 @@ abbrev pub touched : WorkloadView → State → SpaceNo → Option ThreadNo → 
 touched w m s None = 0
 touched w m s (Some t) = page_in (next_instr w m s t)
 
--- What a block is for: directly behind an `io` it has the length of that, and no page; where its life has a lock it is for
+-- What a block is for: directly after an `io` it has the length of that, and no page; where its life has a lock it is for
 -- the package's page, else for the page that its thread touches, and has the length of a fetch.
 abbrev pub block_with : WorkloadView → List Item → SpaceNo → Option ThreadNo → ActNo → Option ℕ → Blocking
 block_with w past s t a (Some length) = record { kind = Plain s a; length = length }

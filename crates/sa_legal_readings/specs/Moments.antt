@@ -31,7 +31,7 @@ machine_by w past a x = changed w x.proc a x.what
 abbrev pub machine_of : WorkloadView → List Item → State
 machine_of w items = along (machine_by w) (opening_state w) items
 
--- the running life of a processor is that of the last up there, where no stop or block stands behind it there
+-- the running life of a processor is that of the last up there, where no stop or block stands after it there
 abbrev pub run_in : Record → Option (Option ActNo)
 run_in (Up s a) = Some (Some a)
 run_in (Stop s t a) = Some None

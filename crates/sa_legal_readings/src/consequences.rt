@@ -20,7 +20,7 @@ pub fn low_lines_are_aimed()
         → LowLinesAreAimed w items }
 {}
 
-/// After each event of a legal run behind the opening no line is due: a closing adds none where nothing changed since the last one.
+/// After each event of a legal run but the opening no line is due: a closing adds none where nothing changed since the last one.
 pub fn closings_add_no_line()
     ensures { (w : WorkloadView) (items : List Item) → IsLegal fast_threads w items
         → NoLineIsDue w items }

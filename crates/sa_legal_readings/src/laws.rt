@@ -25,7 +25,7 @@ pub fn lines_are_read()
         → AreRead (LinesAreRead w) w items }
 {}
 
-/// What is untold are the stops, blocks and unblocks that no record behind them tells, in order; the load is the number of ready and
+/// What is untold are the stops, blocks and unblocks that no record after them tells, in order; the load is the number of ready and
 /// running threads and of the threads of untold stops.
 pub fn loads_are_read()
     ensures { (w : WorkloadView) (items : List Item) → IsLegal fast_threads w items

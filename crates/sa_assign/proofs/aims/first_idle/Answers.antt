@@ -1,7 +1,7 @@
 use Rattle.std.proofs.Common.{length, sym, ◌∙◌, ap, arith, ◌&&◌, Bool}
 use Rattle.sa_assign.specs.Aims.{is_idle_and_spared, can_be_spared}
 use Rattle.sa_assign.proofs.ChoiceLemmas.{least_below-found}
-use Rattle.sa_check_closing.proofs.choice.first_idle.Goals as goal
+use Rattle.sa_assign.proofs.aims.first_idle.Goals as goal
 
 pub returns-then-can_be_spared : goal.returns-then-can_be_spared
 returns-then-can_be_spared c =

@@ -1,7 +1,7 @@
 use Rattle.std.proofs.Common.{length, Some}
 use Rattle.sa_assign.specs.Aims.{has_no_aim, can_be_spared, is_idle_and_spared}
 use Rattle.sa_assign.proofs.ChoiceLemmas.{least_below-within, greatest_below-within}
-use Rattle.sa_check_closing.proofs.choice.choice.Goals as goal
+use Rattle.sa_assign.proofs.aims.choice.Goals as goal
 
 pub returns-in-Some-clause-within : goal.returns-in-Some-clause-within
 returns-in-Some-clause-within c = least_below-within (length c.args.aims.now) (has_no_aim c.args.aims.now) (Some c.in-Some.p) c.in-Some.ensures

@@ -1,9 +1,0 @@
-use Rattle.std.proofs.Common.{length, sym, arith, rules}
-use Rattle.sa_assign.specs.Aims.{has_no_aim}
-use Rattle.sa_assign.proofs.ChoiceLemmas.{least_below-found}
-use Rattle.sa_assign.proofs.assign.Assign.first_without_aim.Goals as goal
-
-pub returns-then-is_none : goal.returns-then-is_none
-returns-then-is_none c =
-    let aims = c.args.self.now.aims in
-    sym (least_below-found (length aims) (has_no_aim aims) c.loop-p.p c.loop-p.invariant (search rules) (omega arith))
