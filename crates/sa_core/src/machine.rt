@@ -1,5 +1,5 @@
 // The machine in the middle of an event.
-ghost use Rattle.std.specs.Prelude.{◌≡◌, ℕ, ◌+◌, ◌*◌, ◌≤◌, ◌<◌, true, false, List, Some, None, IfOk, IfSome, OnOk, IsSome, [], ◌∷◌, length, replicate};
+ghost use Rattle.std.specs.Prelude.{◌≡◌, ◌≢◌, ℕ, ◌+◌, ◌*◌, ◌≤◌, ◌<◌, true, false, List, Some, None, IfOk, IfSome, OnOk, IsSome, [], ◌∷◌, length, replicate};
 ghost use Rattle.sa_base.specs.declared.number.ActNo.{ActNo};
 ghost use Rattle.sa_base.specs.declared.record.Note.{Note};
 ghost use Rattle.sa_base.specs.declared.limits.TheConstants.{MAX_EVENTS};
@@ -221,7 +221,6 @@ impl<U: UserLevel> Machine<U> {
     }
 
     // An entry that the running context asked for, behind which it goes on.
-    #[inline(never)]
     fn hint(&mut self, p: ProcNo, entry: Entry<U::Ctx>)
         requires within { p.0 < self.old.workload.processors }
         requires now { Stands U.stands self.old.events (machine_of self.old) }
@@ -308,6 +307,29 @@ impl<U: UserLevel> Machine<U> {
         }
     }
 
+    // What a step asked of the kernel. Out of line, so that a turn does not pay for the entry.
+    #[inline(never)]
+    fn ask(&mut self, p: ProcNo, step: Step)
+        requires some { step ≢ Step.Did }
+        requires asks { Asks U.stands p step (machine_of self.old) }
+        requires later { self.old.kernel.last < self.old.events }
+        requires event { self.old.events ≤ MAX_EVENTS }
+        requires entries { 1 ≤ self.old.kernel.spare }
+        requires room { ENTRY_ITEMS + owed self.old ≤ self.old.trace.spare }
+        ensures machine { ByFresh (machine_of self.old) (machine_of self.new)
+            (λ fresh. asked U.calls p fresh step (machine_of self.old)) }
+        ensures spends { Spends self.old self.new ENTRY_ITEMS 1 }
+    {
+        match step {
+            Step::Did => unreachable!(),
+            Step::Block { length, page } => self.block(p, length, page),
+            Step::More(n) => self.hint(p, Entry::More(n)),
+            Step::Idle => self.hint(p, Entry::Idle),
+            Step::GiveBack => self.hint(p, Entry::GiveBack),
+            Step::InterruptOwn(q) => self.hint(p, Entry::InterruptOwn(q)),
+        }
+    }
+
     // What a step asked for.
     fn answer(&mut self, p: ProcNo, step: Step)
         requires asks { Asks U.stands p step (machine_of self.old) }
@@ -321,11 +343,7 @@ impl<U: UserLevel> Machine<U> {
     {
         match step {
             Step::Did => self.end_slice(p),
-            Step::Block { length, page } => self.block(p, length, page),
-            Step::More(n) => self.hint(p, Entry::More(n)),
-            Step::Idle => self.hint(p, Entry::Idle),
-            Step::GiveBack => self.hint(p, Entry::GiveBack),
-            Step::InterruptOwn(q) => self.hint(p, Entry::InterruptOwn(q)),
+            entry => self.ask(p, entry),
         }
     }
 
