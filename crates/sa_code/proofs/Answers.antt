@@ -9,7 +9,7 @@ use Rattle.sa_code.specs.declared.code.Op.TheVariants.{TakePush, Push, TakePop, 
 use Rattle.sa_base.specs.declared.limits.TheConstants.{PACKAGE_PAGE}
 use Rattle.sa_code.specs.declared.state.PackageState.{PackageState}
 use Rattle.sa_code.specs.declared.state.Frame.{Frame}
-use Rattle.sa_code.specs.Micro.{micro, micro_at, taken, pushed, popped, chosen, list_in, is_resident, CanDo}
+use Rattle.sa_code.specs.Micro.{micro, micro_at, taken, pushed, popped, takes_first, chosen, list_in, is_resident, CanDo}
 use Rattle.sa_code.specs.Changes.{GoesOn, IsStill, answer_of, is_did}
 
 -- a list that is not empty has a thread to pop
@@ -36,8 +36,8 @@ micro_at-answer s f resident (Some TakePush) can = (taken-answer s f (is_locked 
 micro_at-answer s f resident (Some Push) can = pushed-answer s f (is_locked s.lists (list_in f).0) resident (list_in f) f.pushed can.1.thread can.1.pushes
 micro_at-answer s f resident (Some TakePop) can = (taken-answer s f (is_locked s.lists (list_in f).0) resident (list_in f)).1
 micro_at-answer s f resident (Some Pop) can =
-    let some = chosen-some s.lists f.own (list_in f).0 can.1.some in
-    popped-answer s f (is_locked s.lists (list_in f).0) resident (list_in f) (chosen s.lists f.own (list_in f).0) some.0 some.1
+    let some = chosen-some s.lists (takes_first s.lists f.own) (list_in f).0 can.1.some in
+    popped-answer s f (is_locked s.lists (list_in f).0) resident (list_in f) (chosen s.lists (takes_first s.lists f.own) (list_in f).0) some.0 some.1
 micro_at-answer s f resident (Some Free) can = refl
 micro_at-answer s f resident (Some Leave) can = refl
 micro_at-answer s f resident (Some Yield) can = refl
@@ -65,7 +65,7 @@ micro_at-goes_on : (s : PackageState) (f : Frame) (resident : Bool) (l : ProcNo)
 micro_at-goes_on s f resident l (Some TakePush) = taken-goes_on s f l (is_locked s.lists l.0)
 micro_at-goes_on s f resident l (Some Push) = pushed-goes_on s f resident l f.pushed
 micro_at-goes_on s f resident l (Some TakePop) = taken-goes_on s f l (is_locked s.lists l.0)
-micro_at-goes_on s f resident l (Some Pop) = popped-goes_on s f resident l (chosen s.lists f.own l.0)
+micro_at-goes_on s f resident l (Some Pop) = popped-goes_on s f resident l (chosen s.lists (takes_first s.lists f.own) l.0)
 micro_at-goes_on s f resident l (Some Free) = record { list = refl; own = refl; place = refl }
 micro_at-goes_on s f resident l (Some Leave) = record { list = refl; own = refl; place = refl }
 micro_at-goes_on s f resident l (Some Yield) = record { list = refl; own = refl; place = refl }
@@ -93,7 +93,7 @@ micro_at-still : (s : PackageState) (f : Frame) (resident : Bool) (l : ProcNo) (
 micro_at-still s f resident l (Some TakePush) e = taken-still s f l (is_locked s.lists l.0) e
 micro_at-still s f resident l (Some Push) e = pushed-still s f resident l f.pushed e
 micro_at-still s f resident l (Some TakePop) e = taken-still s f l (is_locked s.lists l.0) e
-micro_at-still s f resident l (Some Pop) e = popped-still s f resident l (chosen s.lists f.own l.0) e
+micro_at-still s f resident l (Some Pop) e = popped-still s f resident l (chosen s.lists (takes_first s.lists f.own) l.0) e
 micro_at-still s f resident l (Some Free) e = absurd cc
 micro_at-still s f resident l (Some Leave) e = record { state = refl; frame = refl }
 micro_at-still s f resident l (Some Yield) e = record { state = refl; frame = refl }

@@ -12,7 +12,7 @@ use Rattle.sa_code.specs.declared.code.Op.TheVariants.{TakePush, Push, TakePop, 
 use Rattle.sa_code.specs.declared.state.PackageState.{PackageState}
 use Rattle.sa_code.specs.declared.state.Frame.{Frame}
 use Rattle.sa_code.specs.declared.state.MicroDone.TheVariants.{Spun, Faulted, Left, Yielded}
-use Rattle.sa_code.specs.Micro.{Micro, micro, micro_at, stays, taken, pushed, popped, freed, chosen, list_in, is_resident, HasList, CanChange, CanPush, CanPop, CanDo}
+use Rattle.sa_code.specs.Micro.{Micro, micro, micro_at, stays, taken, pushed, popped, freed, takes_first, chosen, list_in, is_resident, HasList, CanChange, CanPush, CanPop, CanDo}
 use Rattle.sa_code.proofs.Answers.{chosen-some}
 
 -- what is to be shown of each outcome
@@ -22,7 +22,7 @@ pub record Outcomes (P : Micro → Type 0) (s : PackageState) (f : Frame) (op : 
   pub took_to_pop : op ≡ Some TakePop → HasList s f → is_locked s.lists (list_in f).0 ≡ false → P (taken s f (list_in f) false)
   pub faulted : CanChange s f → resident ≡ false → P (stays s f Faulted [])
   pub did_push : (t : ThreadNo) → op ≡ Some Push → CanChange s f → f.pushed ≡ Some t → CanPush s f → P (pushed s f true (list_in f) (Some t))
-  pub did_pop : (t : ℕ) → op ≡ Some Pop → CanChange s f → CanPop s f → chosen s.lists f.own (list_in f).0 ≡ Some t → P (popped s f true (list_in f) (Some t))
+  pub did_pop : (t : ℕ) → op ≡ Some Pop → CanChange s f → CanPop s f → chosen s.lists (takes_first s.lists f.own) (list_in f).0 ≡ Some t → P (popped s f true (list_in f) (Some t))
   pub did_free : op ≡ Some Free → CanChange s f → P (freed s f (list_in f))
   pub left : op ≡ Some Leave → P (stays s f Left [])
   pub yielded : op ≡ Some Yield → P (stays s f Yielded (Back s.space f.thread ∷ []))
@@ -46,8 +46,8 @@ micro_at-outcome P s f resident (Some TakePush) can o = taken-outcome P s f (lis
 micro_at-outcome P s f resident (Some Push) can o = pushed-outcome P s f resident (list_in f) f.pushed can.1.thread can.1.pushes (o.faulted can.0) (λ t e. o.did_push t refl can.0 e can.1)
 micro_at-outcome P s f resident (Some TakePop) can o = taken-outcome P s f (list_in f) (is_locked s.lists (list_in f).0) (o.spun can) (o.took_to_pop refl can)
 micro_at-outcome P s f resident (Some Pop) can o =
-    let some = chosen-some s.lists f.own (list_in f).0 can.1.some in
-    popped-outcome P s f resident (list_in f) (chosen s.lists f.own (list_in f).0) some.0 some.1 (o.faulted can.0) (λ t e. o.did_pop t refl can.0 can.1 e)
+    let some = chosen-some s.lists (takes_first s.lists f.own) (list_in f).0 can.1.some in
+    popped-outcome P s f resident (list_in f) (chosen s.lists (takes_first s.lists f.own) (list_in f).0) some.0 some.1 (o.faulted can.0) (λ t e. o.did_pop t refl can.0 can.1 e)
 micro_at-outcome P s f resident (Some Free) can o = o.did_free refl can
 micro_at-outcome P s f resident (Some Leave) can o = o.left refl
 micro_at-outcome P s f resident (Some Yield) can o = o.yielded refl

@@ -14,7 +14,7 @@ use Rattle.sa_code.specs.declared.code.Op.TheVariants.{TakePush, Push, TakePop, 
 use Rattle.sa_base.specs.declared.limits.TheConstants.{PACKAGE_PAGE}
 use Rattle.sa_code.specs.declared.state.PackageState.{PackageState}
 use Rattle.sa_code.specs.declared.state.Frame.{Frame}
-use Rattle.sa_code.specs.Micro.{micro, micro_at, taken, pushed, popped, freed, chosen, without_chosen, list_in, is_resident, CanDo}
+use Rattle.sa_code.specs.Micro.{micro, micro_at, taken, pushed, popped, freed, takes_first, chosen, without_chosen, list_in, is_resident, CanDo}
 use Rattle.sa_code.specs.Changes.{holder_of, IsList, ChangesOnly, IsPackage, begun}
 use Rattle.sa_code.proofs.Steps.{taken-changes_only, pushed-changes_only, popped-changes_only, freed-changes_only, taken-list, pushed-list, popped-list, freed-list}
 
@@ -59,7 +59,7 @@ popped-package : (s : PackageState) (f : Frame) (resident : Bool) (l : ProcNo) (
 popped-package s f false l t h inside locked = h
 popped-package s f true l None h inside locked = h
 popped-package s f true l (Some t) h inside locked =
-    package-changed s (popped s f true l (Some t)).state l.0 _ (is_locked s.lists l.0) _ h (popped-changes_only s f true l (Some t)) (without_chosen-ready s.lists f.own l.0 h.ready inside)
+    package-changed s (popped s f true l (Some t)).state l.0 _ (is_locked s.lists l.0) _ h (popped-changes_only s f true l (Some t)) (without_chosen-ready s.lists (takes_first s.lists f.own) l.0 h.ready inside)
     (popped-list s f l t inside (has_holder s l.0 h inside)) (λ e. absurd cc)
 
 freed-package : (s : PackageState) (f : Frame) (l : ProcNo) → IsPackage s → l.0 < length s.lists.lists → IsPackage (freed s f l).state
@@ -71,7 +71,7 @@ micro_at-package : (s : PackageState) (f : Frame) (resident : Bool) (op : Option
 micro_at-package s f resident (Some TakePush) h can = taken-package s f (list_in f) (is_locked s.lists (list_in f).0) h can.0.inside
 micro_at-package s f resident (Some Push) h can = pushed-package s f resident (list_in f) f.pushed can.1.thread h can.0.list.inside can.1.pushes can.1.below can.1.unlisted
 micro_at-package s f resident (Some TakePop) h can = taken-package s f (list_in f) (is_locked s.lists (list_in f).0) h can.inside
-micro_at-package s f resident (Some Pop) h can = popped-package s f resident (list_in f) (chosen s.lists f.own (list_in f).0) h can.0.list.inside can.0.locked
+micro_at-package s f resident (Some Pop) h can = popped-package s f resident (list_in f) (chosen s.lists (takes_first s.lists f.own) (list_in f).0) h can.0.list.inside can.0.locked
 micro_at-package s f resident (Some Free) h can = freed-package s f (list_in f) h can.list.inside
 micro_at-package s f resident (Some Leave) h can = h
 micro_at-package s f resident (Some Yield) h can = h

@@ -10,7 +10,7 @@ use Rattle.sa_code.specs.declared.code.Op.TheVariants.{TakePush, Push, TakePop, 
 use Rattle.sa_base.specs.declared.limits.TheConstants.{PACKAGE_PAGE}
 use Rattle.sa_code.specs.declared.state.PackageState.{PackageState}
 use Rattle.sa_code.specs.declared.state.Frame.{Frame}
-use Rattle.sa_code.specs.Micro.{micro, micro_at, taken, pushed, popped, freed, chosen, without_chosen, list_in, is_resident}
+use Rattle.sa_code.specs.Micro.{micro, micro_at, taken, pushed, popped, freed, takes_first, chosen, without_chosen, list_in, is_resident}
 use Rattle.sa_code.specs.Changes.{holder_of, IsList, ChangesOnly}
 
 -- nothing changes
@@ -58,7 +58,7 @@ pub popped-changes_only : (s : PackageState) (f : Frame) (resident : Bool) (l : 
 popped-changes_only s f false l t = changes_only-refl l.0 s
 popped-changes_only s f true l None = changes_only-refl l.0 s
 popped-changes_only s f true l (Some t) =
-    let left = without_chosen s.lists f.own l.0 in
+    let left = without_chosen s.lists (takes_first s.lists f.own) l.0 in
     record {
       others = λ m ne. record { threads = list_of-with_list_other s.lists l.0 m left ne; lock = refl; holder = get_or-set_other s.holders l.0 m (Some (thread t)) None ne };
       lists = length-set s.lists.lists l.0 left;
@@ -87,7 +87,7 @@ micro_at-changes_only : (s : PackageState) (f : Frame) (resident : Bool) (l : Pr
 micro_at-changes_only s f resident l (Some TakePush) = taken-changes_only s f l (is_locked s.lists l.0)
 micro_at-changes_only s f resident l (Some Push) = pushed-changes_only s f resident l f.pushed
 micro_at-changes_only s f resident l (Some TakePop) = taken-changes_only s f l (is_locked s.lists l.0)
-micro_at-changes_only s f resident l (Some Pop) = popped-changes_only s f resident l (chosen s.lists f.own l.0)
+micro_at-changes_only s f resident l (Some Pop) = popped-changes_only s f resident l (chosen s.lists (takes_first s.lists f.own) l.0)
 micro_at-changes_only s f resident l (Some Free) = freed-changes_only s f l
 micro_at-changes_only s f resident l (Some Leave) = changes_only-refl l.0 s
 micro_at-changes_only s f resident l (Some Yield) = changes_only-refl l.0 s
@@ -103,8 +103,8 @@ taken-list s f l locks holders = record { threads = refl; lock = is_locked-with_
 pub pushed-list : (s : PackageState) (f : Frame) (l : ProcNo) (t : ThreadNo) → l.0 < length s.lists.lists → IsList (pushed s f true l (Some t)).state l.0 (inserted s.lists.ranks t.0 (list_of s.lists l.0)) (is_locked s.lists l.0) (holder_of s l.0)
 pushed-list s f l t inside = record { threads = list_of-with_list_same s.lists l.0 (inserted s.lists.ranks t.0 (list_of s.lists l.0)) inside; lock = refl; holder = refl }
 
-pub popped-list : (s : PackageState) (f : Frame) (l : ProcNo) (t : ℕ) → l.0 < length s.lists.lists → l.0 < length s.holders → IsList (popped s f true l (Some t)).state l.0 (without_chosen s.lists f.own l.0) (is_locked s.lists l.0) (Some (thread t))
-popped-list s f l t inside holders = record { threads = list_of-with_list_same s.lists l.0 (without_chosen s.lists f.own l.0) inside; lock = refl; holder = get_or-set_same s.holders l.0 (Some (thread t)) None holders }
+pub popped-list : (s : PackageState) (f : Frame) (l : ProcNo) (t : ℕ) → l.0 < length s.lists.lists → l.0 < length s.holders → IsList (popped s f true l (Some t)).state l.0 (without_chosen s.lists (takes_first s.lists f.own) l.0) (is_locked s.lists l.0) (Some (thread t))
+popped-list s f l t inside holders = record { threads = list_of-with_list_same s.lists l.0 (without_chosen s.lists (takes_first s.lists f.own) l.0) inside; lock = refl; holder = get_or-set_same s.holders l.0 (Some (thread t)) None holders }
 
 pub freed-list : (s : PackageState) (f : Frame) (l : ProcNo) → l.0 < length s.lists.locked → l.0 < length s.holders → IsList (freed s f l).state l.0 (list_of s.lists l.0) false None
 freed-list s f l locks holders = record { threads = refl; lock = is_locked-with_lock_same s.lists l.0 false locks; holder = get_or-set_same s.holders l.0 None None holders }

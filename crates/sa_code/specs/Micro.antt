@@ -1,5 +1,5 @@
 -- What one micro-operation does: a row of the table of operations each.
-use Rattle.std.specs.Prelude.{◌≡◌, ℕ, ◌+◌, ◌-◌, ◌<◌, Bool, true, false, ◌==◌, List, [], ◌∷◌, ◌++◌, length, take, drop, Option, Some, None, IsSome, slice_get, slice_set, unwrap_or, ⊤}
+use Rattle.std.specs.Prelude.{◌≡◌, ℕ, ◌+◌, ◌-◌, ◌<◌, Bool, true, false, ◌||◌, ◌==◌, List, [], ◌∷◌, ◌++◌, length, take, drop, Option, Some, None, IsSome, slice_get, slice_set, unwrap_or, ⊤}
 use Rattle.std.specs.Int.{bit_at}
 use Rattle.sa_base.specs.Recorded.{Recorded}
 use Rattle.sa_base.specs.declared.number.ProcNo.{ProcNo}
@@ -9,7 +9,7 @@ use Rattle.sa_base.specs.declared.record.Record.{Record}
 use Rattle.sa_base.specs.declared.record.Record.TheVariants.{Run, Ready, Take, Free as FreeOf, Back, Spin}
 use Rattle.sa_base.specs.declared.context.Seen.{Seen}
 use Rattle.sa_lists.specs.ReadyView as ready
-use Rattle.sa_lists.specs.ReadyView.{ReadyView, processor, list_of, is_locked, with_list, with_lock, newest, oldest, IsLocked, IsUnlisted}
+use Rattle.sa_lists.specs.ReadyView.{ReadyView, processor, list_of, is_locked, with_list, with_lock, newest, oldest, has_ranks, IsLocked, IsUnlisted}
 use Rattle.sa_code.specs.declared.code.Op.{Op}
 use Rattle.sa_code.specs.declared.code.Op.TheVariants.{TakePush, Push, TakePop, Pop, Free, Leave, Yield}
 use Rattle.sa_code.specs.declared.state.PackageState.{PackageState}
@@ -51,12 +51,17 @@ pushed s f false l t = stays s f Faulted []
 pushed s f true l None = stays s f Faulted []
 pushed s f true l (Some t) = goes (with_lists s (ready.pushed s.lists l.0 t.0)) (record f { pushed = None }) (Ready s.space t)
 
--- the thread that a pop takes from list l, and the list without it: its own processor's newest, another's oldest
-abbrev pub chosen : ReadyView → Bool → ℕ → Option ℕ
+-- whether a pop takes the first thread of its list, and not the last: where the list is that of its processor, and where
+-- threads have ranks whoever's list it is
+abbrev pub takes_first : ReadyView → Bool → Bool
+takes_first r own = own || has_ranks r
+
+-- the thread that a pop takes from list l, its first or its last, and the list without it
+abbrev pub chosen : ReadyView → (first : Bool) → ℕ → Option ℕ
 chosen r true l = newest r l
 chosen r false l = oldest r l
 
-abbrev pub without_chosen : ReadyView → Bool → ℕ → List ℕ
+abbrev pub without_chosen : ReadyView → (first : Bool) → ℕ → List ℕ
 without_chosen r true l = drop 1 (list_of r l)
 without_chosen r false l = take (length (list_of r l) - 1) (list_of r l)
 
@@ -65,7 +70,7 @@ without_chosen r false l = take (length (list_of r l) - 1) (list_of r l)
 abbrev pub popped : PackageState → Frame → Bool → ProcNo → Option ℕ → Micro
 popped s f false l t = stays s f Faulted []
 popped s f true l None = stays s f Faulted []
-popped s f true l (Some t) = goes (with_holder (with_lists s (with_list s.lists l.0 (without_chosen s.lists f.own l.0))) l.0 (Some (ready.thread t))) (record f { thread = Some (ready.thread t) }) (Run s.space (ready.thread t))
+popped s f true l (Some t) = goes (with_holder (with_lists s (with_list s.lists l.0 (without_chosen s.lists (takes_first s.lists f.own) l.0))) l.0 (Some (ready.thread t))) (record f { thread = Some (ready.thread t) }) (Run s.space (ready.thread t))
 
 -- the free of list l
 abbrev pub freed : PackageState → Frame → ProcNo → Micro
@@ -76,7 +81,7 @@ abbrev pub micro_at : PackageState → Frame → Bool → ProcNo → Option Op �
 micro_at s f resident l (Some TakePush) = taken s f l (is_locked s.lists l.0)
 micro_at s f resident l (Some Push) = pushed s f resident l f.pushed
 micro_at s f resident l (Some TakePop) = taken s f l (is_locked s.lists l.0)
-micro_at s f resident l (Some Pop) = popped s f resident l (chosen s.lists f.own l.0)
+micro_at s f resident l (Some Pop) = popped s f resident l (chosen s.lists (takes_first s.lists f.own) l.0)
 micro_at s f resident l (Some Free) = freed s f l
 micro_at s f resident l (Some Leave) = stays s f Left []
 micro_at s f resident l (Some Yield) = stays s f Yielded (Back s.space f.thread ∷ [])

@@ -8,7 +8,7 @@ ghost use Rattle.sa_lists.specs.ReadyView.{thread, list_of, is_locked, inserted}
 ghost use Rattle.sa_code.specs.declared.code.Op.{Op};
 ghost use Rattle.sa_code.specs.declared.state.PackageState.{PackageState};
 ghost use Rattle.sa_code.specs.declared.state.Frame.{Frame};
-ghost use Rattle.sa_code.specs.Micro.{micro, taken, pushed, popped, freed, without_chosen, list_in, is_resident, HasList, CanChange, CanPop, CanDo};
+ghost use Rattle.sa_code.specs.Micro.{micro, taken, pushed, popped, freed, takes_first, without_chosen, list_in, is_resident, HasList, CanChange, CanPop, CanDo};
 ghost use Rattle.sa_code.specs.Changes.{holder_of, IsList, ChangesOnly, IsPackage, begun, GoesOn, IsStill, answer_of, is_did};
 
 use sa_base::{MAX_PROCESSORS, MAX_THREADS, PACKAGE_PAGE};
@@ -46,7 +46,7 @@ pub fn its_list_changes_as_the_table_says()
         (is_locked s.lists l.0) (holder_of s l.0) }
     ensures popped { (s : PackageState) (f : Frame) (l : ProcNo) (t : ℕ) → IsPackage s
         → l.0 < length s.lists.lists
-        → IsList (popped s f true l (Some t)).state l.0 (without_chosen s.lists f.own l.0)
+        → IsList (popped s f true l (Some t)).state l.0 (without_chosen s.lists (takes_first s.lists f.own) l.0)
         (is_locked s.lists l.0) (Some (thread t)) }
     ensures freed { (s : PackageState) (f : Frame) (l : ProcNo) → IsPackage s
         → l.0 < length s.lists.lists

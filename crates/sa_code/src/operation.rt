@@ -3,7 +3,7 @@ ghost use Rattle.std.specs.Prelude.{◌≡◌, ◌+◌, ◌<◌, ◌≤◌, ◌+
 ghost use Rattle.std.specs.Option.{option_map};
 ghost use Rattle.sa_base.specs.Items.{items_at};
 ghost use Rattle.sa_lists.specs.ReadyView.{thread, with_list, is_locked, IsLocked};
-ghost use Rattle.sa_code.specs.Micro.{micro, micro_at, taken, pushed, popped, freed, chosen, without_chosen, list_in, is_resident, Does, HasList, CanChange, CanPush, CanPop, CanDo};
+ghost use Rattle.sa_code.specs.Micro.{micro, micro_at, taken, pushed, popped, freed, takes_first, chosen, without_chosen, list_in, is_resident, Does, HasList, CanChange, CanPush, CanPop, CanDo};
 
 use crate::code::{CODE_PLACES, Op};
 use crate::state::{Frame, MicroDone, PackageState};
@@ -149,7 +149,8 @@ fn pop(state: &mut PackageState, frame: &mut Frame, seen: &Seen, trace: &mut Tra
     requires room { 1 ≤ trace.old.spare }
     ensures { let resident = is_resident seen.now.pages PACKAGE_PAGE in
         let list = list_in frame.old in
-        let thread = chosen state.old.lists frame.old.own list.0 in
+        let first = takes_first state.old.lists frame.old.own in
+        let thread = chosen state.old.lists first list.0 in
         Does (popped state.old frame.old resident list thread)
         seen.now trace.old state.new frame.new result trace.new }
 {
@@ -158,7 +159,8 @@ fn pop(state: &mut PackageState, frame: &mut Frame, seen: &Seen, trace: &mut Tra
     }
     let list = list_of(frame);
     state.lists.are_apart();
-    let Some(thread) = choose(&mut state.lists, frame.own, list) else {
+    let first = frame.own || state.lists.has_ranks();
+    let Some(thread) = choose(&mut state.lists, first, list) else {
         unreachable!()
     };
     state.holders[usize::from(list.0)] = Some(thread);
@@ -168,14 +170,14 @@ fn pop(state: &mut PackageState, frame: &mut Frame, seen: &Seen, trace: &mut Tra
     MicroDone::Did
 }
 
-// Takes a locked list's newest thread for its own processor, and the oldest for another.
-fn choose(lists: &mut ReadyLists, own: bool, list: ProcNo) -> Option<ThreadNo>
+// Takes the first thread of a locked list, or the last.
+fn choose(lists: &mut ReadyLists, first: bool, list: ProcNo) -> Option<ThreadNo>
     requires inside { list.0 < length lists.old.lists }
     requires locked { IsLocked lists.old list.0 }
-    ensures thread { result ≡ option_map thread (chosen lists.old own list.0) }
-    ensures lists { lists.new ≡ with_list lists.old list.0 (without_chosen lists.old own list.0) }
+    ensures thread { result ≡ option_map thread (chosen lists.old first list.0) }
+    ensures lists { lists.new ≡ with_list lists.old list.0 (without_chosen lists.old first list.0) }
 {
-    if own {
+    if first {
         lists.pop_own(list)
     } else {
         lists.take_from(list)

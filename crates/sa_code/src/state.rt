@@ -25,7 +25,7 @@ pub struct Frame {
     pub pc: u16,
     /// The list that the context works on.
     pub list: Option<ProcNo>,
-    /// The list is that of the processor on which the context took it.
+    /// The list is that of the processor on which the context took it; a list that stands alone is that of processor 0.
     pub own: bool,
     /// The thread that a push still has to put into the list.
     pub pushed: Option<ThreadNo>,

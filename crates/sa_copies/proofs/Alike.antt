@@ -10,7 +10,7 @@ use Rattle.sa_base.specs.declared.limits.TheConstants.{PACKAGE_PAGE}
 use Rattle.sa_code.specs.declared.state.PackageState.{PackageState}
 use Rattle.sa_code.specs.declared.state.Frame.{Frame}
 use Rattle.sa_lists.specs.ReadyView.{thread}
-use Rattle.sa_code.specs.Micro.{HasList, CanChange, CanPush, CanDo, Micro, micro, micro_at, pushed, popped, chosen, list_in, is_resident}
+use Rattle.sa_code.specs.Micro.{HasList, CanChange, CanPush, CanDo, Micro, micro, micro_at, pushed, popped, takes_first, chosen, list_in, is_resident}
 use Rattle.sa_code.proofs.Steps.{micro-changes_only}
 use Rattle.sa_copies.specs.Copies.{package_ops, is_in_section, copy_at}
 use Rattle.sa_copies.specs.Runs.{at, is_over, Run, over, behind, run_of, IsAlike}
@@ -45,7 +45,7 @@ micro_at-alike : (s : PackageState) (f : Frame) (c d : ℕ) (resident : Bool) (l
 micro_at-alike s f c d resident l TakePush e = absurd cc
 micro_at-alike s f c d resident l Push e = pushed-alike s f c d resident l f.pushed
 micro_at-alike s f c d resident l TakePop e = absurd cc
-micro_at-alike s f c d resident l Pop e = popped-alike s f c d resident l (chosen s.lists f.own l.0)
+micro_at-alike s f c d resident l Pop e = popped-alike s f c d resident l (chosen s.lists (takes_first s.lists f.own) l.0)
 micro_at-alike s f c d resident l Free e = record { done = refl; says = refl; state = refl; frame = f; on = true; here = refl; there = refl }
 micro_at-alike s f c d resident l Leave e = absurd cc
 micro_at-alike s f c d resident l Yield e = absurd cc

@@ -71,6 +71,10 @@ with_lock r l held = record r { locked = slice_set r.locked l held }
 abbrev pub rank_of : List ℕ → ℕ → ℕ
 rank_of ranks t = slice_index ranks t
 
+-- threads have ranks of their own
+abbrev pub has_ranks : ReadyView → Bool
+has_ranks r = nat_lt 0 (length r.ranks)
+
 -- a list with thread t too, which stands in front of the first that does not outrank it
 abbrev pub inserted : List ℕ → ℕ → List ℕ → List ℕ
 inserted ranks t [] = t ∷ []

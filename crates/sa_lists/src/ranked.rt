@@ -1,5 +1,5 @@
 // Lists of threads in the order of ranks: a chain for each rank of each list.
-ghost use Rattle.std.specs.Prelude.{◌≡◌, ℕ, false, ◌+◌, ◌*◌, ◌-◌, ◌<◌, ◌≤◌, ◌↔◌, [], length, take, drop, replicate, slice_get, slice_set, IfOk, IfSome, IsTrue};
+ghost use Rattle.std.specs.Prelude.{◌≡◌, ℕ, false, ◌+◌, ◌*◌, ◌-◌, ◌<◌, ◌≤◌, ◌↔◌, nat_lt, [], length, take, drop, replicate, slice_get, slice_set, IfOk, IfSome, IsTrue};
 ghost use Rattle.sa_links.specs.Lists.{IsApart, IsFree, list_at, with_list};
 ghost use Rattle.sa_lists.specs.ReadyView.{inserted, opening_ranks, rank_of};
 ghost use Rattle.sa_lists.specs.Chains.{Ranked, width_of, words_of, IsNoted};
@@ -75,6 +75,13 @@ impl RankedLists {
         give_rank(&mut self.ranks, t, rank);
     }
 
+    /// Whether threads have ranks of their own.
+    pub(crate) fn has_ranks(&self) -> bool
+        ensures { result ≡ nat_lt 0 (length self.now.ranks) }
+    {
+        0 < self.ranks.len()
+    }
+
     /// Puts a thread that stands in no list into `list`, as the newest of its rank.
     pub(crate) fn push(&mut self, list: u16, t: u16)
         requires list { list < length self.old.lists.lists }
@@ -125,6 +132,16 @@ impl RankedLists {
         let has_more = !self.chains.is_empty(chain);
         note(&mut self.filled, list, rank, has_more);
         thread
+    }
+
+    /// The first thread of `list`: `None` exactly where the list is empty.
+    pub(crate) fn first(&self, list: u16) -> Option<u32>
+        requires { list < length self.now.lists.lists }
+        ensures first { result ≡ slice_get (list_at self.now.lists.lists list) 0 }
+        ensures thread { IfSome result (λ t. t < self.now.lists.nodes) }
+    {
+        let rank = greatest(&self.filled, list)?;
+        self.chains.front(chain_of(self.kind, list, rank))
     }
 
     /// Whether `list` has no thread.

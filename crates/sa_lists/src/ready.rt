@@ -1,9 +1,9 @@
 // Ready lists under locks, as callers see them.
-ghost use Rattle.std.specs.Prelude.{◌≡◌, ◌<◌, ◌≤◌, ◌-◌, ◌↔◌, [], true, false, not, find, length, IsTrue, IfOk};
+ghost use Rattle.std.specs.Prelude.{◌≡◌, ◌<◌, ◌≤◌, ◌-◌, ◌↔◌, [], true, false, not, find, length, IsTrue, IfOk, IfSome};
 ghost use Rattle.std.specs.Bool.{OnFalse};
 ghost use Rattle.std.specs.List.{range_with_len};
 ghost use Rattle.std.specs.Option.{option_map};
-ghost use Rattle.sa_lists.specs.ReadyView.{no_threads, thread, processor, list_of, ready_count, is_locked, IsLocked, IsUnlisted, with_lock, pushed, newest, without_newest, oldest, without_oldest, is_open, sought, next_made, with_made, home, IsReady};
+ghost use Rattle.sa_lists.specs.ReadyView.{no_threads, thread, processor, list_of, ready_count, is_locked, IsLocked, IsUnlisted, with_lock, pushed, newest, without_newest, oldest, without_oldest, is_open, sought, next_made, with_made, home, has_ranks, IsReady};
 
 use crate::ranked::RankedLists;
 use crate::ranks::{MAX_RANKS, Ranks};
@@ -166,6 +166,17 @@ impl ReadyLists {
         !self.locked[usize::from(list)] && !self.lists.is_empty(list)
     }
 
+    /// The first thread of list `l`, the newest of the greatest rank: `None` exactly where the list is empty. It takes
+    /// constant time.
+    pub fn first(&self, l: ProcNo) -> Option<ThreadNo>
+        requires { l.0 < length self.now.lists }
+        ensures first { result ≡ option_map thread (newest self.now l.0) }
+        ensures thread { IfSome result (λ t. t.0 < self.now.threads) }
+    {
+        let thread = self.lists.first(l.0)?;
+        Some(ThreadNo(thread as u16))
+    }
+
     /// How many threads stand in the lists. It takes constant time.
     pub fn ready(&self) -> u32
         ensures { result ≡ ready_count self.now }
@@ -203,6 +214,13 @@ impl ReadyLists {
         ensures { result ≡ processor (home self.now p.0) }
     {
         if self.count() == 1 { ProcNo(0) } else { p }
+    }
+
+    /// Whether threads have ranks of their own.
+    pub fn has_ranks(&self) -> bool
+        ensures { result ≡ has_ranks self.now }
+    {
+        self.lists.has_ranks()
     }
 
     /// How many threads there can be: 1 to 512.

@@ -11,7 +11,7 @@ use Rattle.sa_lists.specs.ReadyView.{ReadyView, processor, list_of, sought, IsRe
 use Rattle.sa_lists.proofs.Rounds.{sought-first}
 use Rattle.sa_code.specs.declared.state.PackageState.{PackageState}
 use Rattle.sa_code.specs.declared.state.Frame.{Frame}
-use Rattle.sa_code.specs.Micro.{micro, chosen, list_in, CanDo}
+use Rattle.sa_code.specs.Micro.{micro, takes_first, chosen, list_in, CanDo}
 use Rattle.sa_code.proofs.Cases.{micro-outcome}
 use Rattle.sa_package_model.specs.Conditions.{IsThread}
 
@@ -35,7 +35,7 @@ carried-below s f pages ready all can thread = micro-outcome (λ m. IsThread m.f
   took_to_pop = λ op list free. thread;
   faulted = λ change absent. thread;
   did_push = λ t op change e push. thread;
-  did_pop = λ t op change pop e. let small = chosen_below s.lists f.own (list_in f).0 t ready e in omega arith;
+  did_pop = λ t op change pop e. let small = chosen_below s.lists (takes_first s.lists f.own) (list_in f).0 t ready e in omega arith;
   did_free = λ op change. thread;
   left = λ op. thread;
   yielded = λ op. thread;

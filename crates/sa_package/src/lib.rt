@@ -8,6 +8,7 @@ mod level;
 mod notice;
 mod opening;
 mod package;
+mod ranks;
 mod settling;
 mod step;
 

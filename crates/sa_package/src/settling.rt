@@ -25,8 +25,8 @@ impl FastThreads {
         more_owed(seen.demand, self.package.processors, self.load())
     }
 
-    // The context, which carries this thread, settles.
-    pub(crate) fn settle(&self, seen: &Seen, ctx: &mut Context, thread: Option<ThreadNo>)
+    /// The context, which carries this thread, settles: it is decided what comes next for it.
+    pub fn settle(&self, seen: &Seen, ctx: &mut Context, thread: Option<ThreadNo>)
         ensures { ctx.new ≡ settled self.now seen.now ctx.old thread }
     {
         let left = is_left(ctx);
@@ -34,8 +34,8 @@ impl FastThreads {
         ctx.state = settled_to(thread, left, owed, seen.taken >= BULK_RETURN);
     }
 
-    // The context's thread, if there is one, comes last in its work list.
-    pub(crate) fn put_last(&mut self, ctx: &mut Context, thread: Option<ThreadNo>)
+    /// The context's thread, if there is one, comes last in its work list.
+    pub fn put_last(&mut self, ctx: &mut Context, thread: Option<ThreadNo>)
         requires work { IsWork self.old.shared.works ctx.old.work }
         requires thread { CanBeDue self.old.shared thread }
         ensures { pair self.new ctx.new ≡ put_last self.old ctx.old thread }

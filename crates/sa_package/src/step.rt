@@ -39,8 +39,8 @@ impl FastThreads {
         self.act(seen, ctx, trace)
     }
 
-    // Where a hint is no longer owed, or the activations to give back are no longer so many, the context settles.
-    fn settle_again(&self, seen: &Seen, ctx: &mut Context)
+    /// Where a hint is no longer owed, or the activations to give back are no longer so many, the context settles.
+    pub fn settle_again(&self, seen: &Seen, ctx: &mut Context)
         ensures { ctx.new ≡ resettled self.now seen.now ctx.old ctx.old.state }
     {
         match ctx.state {
@@ -150,10 +150,11 @@ impl FastThreads {
         ensures { Steps (pushing self.old seen.now ctx.old first) seen.now trace.old
             self.new ctx.new result trace.new }
     {
+        let list = self.own_list(seen.proc);
         let mut frame = Frame {
             pc: PUSH,
-            list: Some(self.own_list(seen.proc)),
-            own: true,
+            list: Some(list),
+            own: list.0 == seen.proc.0,
             pushed: Some(first),
             thread: ctx.state.thread(),
         };
@@ -244,7 +245,7 @@ impl FastThreads {
         let mut frame = Frame {
             pc: POP,
             list: Some(list),
-            own: list.0 == self.own_list(seen.proc).0,
+            own: list.0 == seen.proc.0,
             pushed: None,
             thread: None,
         };

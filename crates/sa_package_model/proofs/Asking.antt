@@ -130,7 +130,7 @@ module _ (s : Setting) (u : Package) (seen : Seen) (made : IsMadeFor s u) where
 
   worked_asks : (c : Context) (f : Option Frame) (first : Option ThreadNo) → IsAsked s seen (worked u seen c f first).answer
   worked_asks c (Some f) first = tt
-  worked_asks c None (Some first) = let m = micro u.shared.state (push_of (own_list u seen.proc) first (carried_by c.state)) seen.pages in pushing_asks c first m m.done
+  worked_asks c None (Some first) = let m = micro u.shared.state (push_of seen.proc (own_list u seen.proc) first (carried_by c.state)) seen.pages in pushing_asks c first m m.done
   worked_asks c None None = tt
 
   hinted_asks : (c : Context) (more : Option ℕ) → owed u seen ≡ more → IsAsked s seen (hinted u c more).answer
@@ -143,7 +143,7 @@ module _ (s : Setting) (u : Package) (seen : Seen) (made : IsMadeFor s u) where
   used_asks v c t (Blocks length page) says h = h
 
   looked_asks : (c : Context) (looks : ℕ) (idle : Bool) (l : Option ℕ) → is_idle u seen looks ≡ idle → IsAsked s seen (looked_by u seen c looks idle l).answer
-  looked_asks c looks idle (Some l) e = let m = micro u.shared.state (pop_of (own_list u seen.proc) l) seen.pages in popping_asks c m m.done
+  looked_asks c looks idle (Some l) e = let m = micro u.shared.state (pop_of seen.proc l) seen.pages in popping_asks c m m.done
   looked_asks c looks true None e = idle_fits seen.demand (load u) u.def.patience looks e
   looked_asks c looks false None e = tt
 

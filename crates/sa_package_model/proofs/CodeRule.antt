@@ -14,7 +14,7 @@ use Rattle.sa_code.specs.declared.code.Op.{Op}
 use Rattle.sa_code.specs.declared.code.Op.TheVariants.{TakePush, Push, TakePop, Pop, Free, Leave, Yield}
 use Rattle.sa_code.specs.declared.state.Frame.{Frame}
 use Rattle.sa_code.specs.declared.state.MicroDone.TheVariants as micros
-use Rattle.sa_code.specs.Micro.{Micro, micro, stays, pushed, popped, freed, chosen, without_chosen, list_in, CanChange, CanPush, CanDo}
+use Rattle.sa_code.specs.Micro.{Micro, micro, stays, pushed, popped, freed, takes_first, chosen, without_chosen, list_in, CanChange, CanPush, CanDo}
 use Rattle.sa_code.specs.Changes.{IsPackage}
 use Rattle.sa_code.proofs.Steps.{pushed-changes_only, popped-changes_only, freed-changes_only}
 use Rattle.sa_code.proofs.Kept.{micro-package}
@@ -239,7 +239,7 @@ module _ (s : Setting) (e : ℕ) (u : Package) (cs : Contexts Context) (h : IsSt
           subst (λ o. IsChange s e u (with_shared u x) (Some c) (goes_on (with_shared u x) seen c g o)) (sym now) done
 
       -- the effect of a pop
-      pops_so : (t : ℕ) → slice_get package_ops f.pc ≡ Some Pop → chosen u.shared.state.lists f.own (list_in f).0 ≡ Some t → Keeps (Some Pop) (popped u.shared.state f true (list_in f) (Some t))
+      pops_so : (t : ℕ) → slice_get package_ops f.pc ≡ Some Pop → chosen u.shared.state.lists (takes_first u.shared.state.lists f.own) (list_in f).0 ≡ Some t → Keeps (Some Pop) (popped u.shared.state f true (list_in f) (Some t))
       pops_so t op takes sound =
           let m = popped u.shared.state f true (list_in f) (Some t) in
           let g : Frame = m.frame in
@@ -248,10 +248,10 @@ module _ (s : Setting) (e : ℕ) (u : Package) (cs : Contexts Context) (h : IsSt
           let copied = has_copy g.pc (ap is_section_op next) in
           let new = at_state c (Code g) in
           let x = placed (record u.shared { state = m.state }) g.thread Running in
-          let left = without_chosen u.shared.state.lists f.own (list_in f).0 in
+          let left = without_chosen u.shared.state.lists (takes_first u.shared.state.lists f.own) (list_in f).0 in
           let own : Fits u.shared.state.lists f (Some Pop) = subst (Fits u.shared.state.lists f) op (fits k copy) in
           let listed : 1 ≤ count_in_all t u.shared.state.lists.lists =
-          (let one = count_chosen u.shared.state.lists f.own (list_in f).0 t t takes in let same = one_same t t refl in let all = count_at t u.shared.state.lists.lists (list_in f).0 in omega arith) in
+          (let one = count_chosen u.shared.state.lists (takes_first u.shared.state.lists f.own) (list_in f).0 t t takes in let same = one_same t t refl in let all = count_at t u.shared.state.lists.lists (list_in f).0 in omega arith) in
           let popped_rest : 1 ≤ threads_at_rest u.shared t = omega arith in
           let popped_below : t < length u.shared.threads = (let below = h.parts.state.ready.below t listed in let all = h.parts.blocks in let most = h.parts.threads in omega arith) in
           let done : IsChange s e u (with_shared u x) (Some c) new = record {
@@ -262,7 +262,7 @@ module _ (s : Setting) (e : ℕ) (u : Package) (cs : Contexts Context) (h : IsSt
             locks = λ y. omega (arith, section_locks new g copied.0 refl copied.1 y, locks_are k copy y);
             threads = λ y.
                 let all = count-with_list u.shared.state.lists (list_in f).0 y left (inside k copy) in
-                let one = count_chosen u.shared.state.lists f.own (list_in f).0 t y takes in
+                let one = count_chosen u.shared.state.lists (takes_first u.shared.state.lists f.own) (list_in f).0 t y takes in
                 let carried : one_of f.thread y ≡ 0 = ap (λ p. one_of p y) own.2 in
                 omega (arith, section_threads new g copied.0 refl copied.1 u.shared.works y, threads_are k copy y);
             names = λ y. refl;
@@ -270,12 +270,12 @@ module _ (s : Setting) (e : ℕ) (u : Package) (cs : Contexts Context) (h : IsSt
             lists = λ y none held. list_of-with_list_other u.shared.state.lists (list_in f).0 y left (apart_others k copy y none);
             places = agree_one (record u.shared { state = m.state }) (thread t) Running popped_below
                 (let all = count-with_list u.shared.state.lists (list_in f).0 t left (inside k copy) in
-                let one = count_chosen u.shared.state.lists f.own (list_in f).0 t t takes in let same = one_same t t refl in
+                let one = count_chosen u.shared.state.lists (takes_first u.shared.state.lists f.own) (list_in f).0 t t takes in let same = one_same t t refl in
                 let once = rest_once s e u cs h t in let some = popped_rest in
                 record { ready = omega arith; waiting = omega arith; ends = omega arith; new = omega arith })
                 (λ y ne.
                 let all = count-with_list u.shared.state.lists (list_in f).0 y left (inside k copy) in
-                let one = count_chosen u.shared.state.lists f.own (list_in f).0 t y takes in let other = one_other t y (λ q. ne (sym q)) in
+                let one = count_chosen u.shared.state.lists (takes_first u.shared.state.lists f.own) (list_in f).0 t y takes in let other = one_other t y (λ q. ne (sym q)) in
                 let was = h.places y in
                 let ready = was.ready in
                 record { ready = omega arith; waiting = was.waiting; ends = was.ends; new = was.new });

@@ -17,7 +17,7 @@ use Rattle.sa_code.specs.declared.code.Op.TheVariants as ops
 use Rattle.sa_code.specs.declared.state.Frame.{Frame}
 use Rattle.sa_code.specs.declared.state.MicroDone.{MicroDone}
 use Rattle.sa_code.specs.declared.state.MicroDone.TheVariants as micros
-use Rattle.sa_code.specs.Micro.{Micro, micro, micro_at, taken, pushed, popped, chosen, list_in, is_resident}
+use Rattle.sa_code.specs.Micro.{Micro, micro, micro_at, taken, pushed, popped, takes_first, chosen, list_in, is_resident}
 use Rattle.sa_fast.specs.declared.threads.Block.{Block}
 use Rattle.sa_fast.specs.declared.instruction.Ran.{Ran}
 use Rattle.sa_fast.specs.declared.instruction.Ran.TheVariants.{Goes, Leaves, Blocks}
@@ -63,7 +63,7 @@ module _ (s : Setting) (u : Package) (seen : Seen) (made : IsMadeFor s u) where
   micro_at_own f there l (Some ops.TakePush) = taken_own f l (is_locked u.shared.state.lists l.0)
   micro_at_own f there l (Some ops.Push) = pushed_own f there l f.pushed
   micro_at_own f there l (Some ops.TakePop) = taken_own f l (is_locked u.shared.state.lists l.0)
-  micro_at_own f there l (Some ops.Pop) = popped_own f there l (chosen u.shared.state.lists f.own l.0)
+  micro_at_own f there l (Some ops.Pop) = popped_own f there l (chosen u.shared.state.lists (takes_first u.shared.state.lists f.own) l.0)
   micro_at_own f there l (Some ops.Free) = one _ made.space
   micro_at_own f there l (Some ops.Leave) = none
   micro_at_own f there l (Some ops.Yield) = one _ made.space
@@ -96,7 +96,7 @@ module _ (s : Setting) (u : Package) (seen : Seen) (made : IsMadeFor s u) where
   worked_own : (c : Context) (f : Option Frame) (first : Option ThreadNo) → Own (worked u seen c f first).says
   worked_own c (Some f) first = one _ made.space
   worked_own c None (Some first) =
-      let f = push_of (own_list u seen.proc) first (carried_by c.state) in let m = micro u.shared.state f seen.pages in pushing_own c first m m.done (micro_own f)
+      let f = push_of seen.proc (own_list u seen.proc) first (carried_by c.state) in let m = micro u.shared.state f seen.pages in pushing_own c first m m.done (micro_own f)
   worked_own c None None = none
 
   hinted_own : (c : Context) (more : Option ℕ) → Own (hinted u c more).says
@@ -132,7 +132,7 @@ module _ (s : Setting) (u : Package) (seen : Seen) (made : IsMadeFor s u) where
   used_own v c t (Blocks length page) says h = h
 
   looked_own : (c : Context) (looks : ℕ) (idle : Bool) (l : Option ℕ) → Own (looked_by u seen c looks idle l).says
-  looked_own c looks idle (Some l) = let f = pop_of (own_list u seen.proc) l in let m = micro u.shared.state f seen.pages in popping_own c m m.done (micro_own f)
+  looked_own c looks idle (Some l) = let f = pop_of seen.proc l in let m = micro u.shared.state f seen.pages in popping_own c m m.done (micro_own f)
   looked_own c looks true None = none
   looked_own c looks false None = one _ tt
 

@@ -140,16 +140,16 @@ module _ (s : Setting) (e : ℕ) (u : Package) (cs : Contexts Context) (h : IsSt
     unready_first : ready.IsUnlisted u.shared.state.lists first.0
     unready_first = own_unready s e u cs h a c is first.0 first_mine
 
-  -- the take of a push
-  module _ (p : ProcNo) (inside : p.0 < length u.shared.state.lists.lists) (first : ThreadNo) (work : c.work ≡ Some first) where
+  -- the take of a push, by processor `by` on list p
+  module _ (by p : ProcNo) (inside : p.0 < length u.shared.state.lists.lists) (first : ThreadNo) (work : c.work ≡ Some first) where
     within : p.0 < length u.shared.state.lists.locked
     within = let same = h.parts.state.ready.locks in omega arith
 
-    pushing_taken : (held : Bool) → is_locked u.shared.state.lists p.0 ≡ held → IsPackage (taken u.shared.state (push_of p first (carried_by c.state)) p held).state
-        → let m = taken u.shared.state (push_of p first (carried_by c.state)) p held in IsChange s e u (pushing_by u c first m m.done).user (Some c) (pushing_by u c first m m.done).ctx
+    pushing_taken : (held : Bool) → is_locked u.shared.state.lists p.0 ≡ held → IsPackage (taken u.shared.state (push_of by p first (carried_by c.state)) p held).state
+        → let m = taken u.shared.state (push_of by p first (carried_by c.state)) p held in IsChange s e u (pushing_by u c first m m.done).user (Some c) (pushing_by u c first m m.done).ctx
     pushing_taken true held sound = still-change s e u cs h a c is
     pushing_taken false free sound =
-        let f = push_of p first (carried_by c.state) in
+        let f = push_of by p first (carried_by c.state) in
         let m = taken u.shared.state f p false in
         let g : Frame = m.frame in
         let new = (pushing_by u c first m m.done).ctx in
@@ -173,7 +173,7 @@ module _ (s : Setting) (e : ℕ) (u : Package) (cs : Contexts Context) (h : IsSt
           context = section_context new g 8 refl refl m.state.lists tt (refl, refl) (sections_kept u.shared.state.lists m.state.lists c.sections (λ y some. refl) rest);
         }
 
-    push_can : CanDo u.shared.state (push_of p first (carried_by c.state)) (Some TakePush)
+    push_can : CanDo u.shared.state (push_of by p first (carried_by c.state)) (Some TakePush)
     push_can = (
       record { there = refl; inside = inside },
       record {
@@ -187,12 +187,12 @@ module _ (s : Setting) (e : ℕ) (u : Package) (cs : Contexts Context) (h : IsSt
   pub pushing-change : (seen : Seen) (first : ThreadNo) → (own_list u seen.proc).0 < length u.shared.state.lists.lists → c.work ≡ Some first
       → IsChange s e u (pushing u seen c first).user (Some c) (pushing u seen c first).ctx
   pushing-change seen first inside work =
-      let f = push_of (own_list u seen.proc) first (carried_by c.state) in
+      let f = push_of seen.proc (own_list u seen.proc) first (carried_by c.state) in
       let resident = is_resident seen.pages PACKAGE_PAGE in
       let op : slice_get u.shared.state.code 0 ≡ Some TakePush = ap (λ ops. slice_get ops 0) h.code in
-      let sound = micro-package u.shared.state f seen.pages h.parts.state (subst (CanDo u.shared.state f) (sym op) (push_can (own_list u seen.proc) inside first work)) in
+      let sound = micro-package u.shared.state f seen.pages h.parts.state (subst (CanDo u.shared.state f) (sym op) (push_can seen.proc (own_list u seen.proc) inside first work)) in
       subst (λ o. let m = micro_at u.shared.state f resident (own_list u seen.proc) o in IsPackage m.state → IsChange s e u (pushing_by u c first m m.done).user (Some c) (pushing_by u c first m m.done).ctx)
-      (sym op) (pushing_taken (own_list u seen.proc) inside first work (is_locked u.shared.state.lists (own_list u seen.proc).0) refl) sound
+      (sym op) (pushing_taken seen.proc (own_list u seen.proc) inside first work (is_locked u.shared.state.lists (own_list u seen.proc).0) refl) sound
 
   -- another state in no section, which carries the same
   pub between-change : (state : State) → IsBetween state t → IsChange s e u u (Some c) (at_state c state)
@@ -258,10 +258,10 @@ module _ (s : Setting) (e : ℕ) (u : Package) (cs : Contexts Context) (h : IsSt
   pub popping-change : (seen : Seen) (l : ℕ) → l < length u.shared.state.lists.lists → 0 < length (list_of u.shared.state.lists l) → t ≡ None
       → IsChange s e u (popping u seen c l).user (Some c) (popping u seen c l).ctx
   popping-change seen l inside some nothing =
-      let f = pop_of (own_list u seen.proc) l in
+      let f = pop_of seen.proc l in
       let resident = is_resident seen.pages PACKAGE_PAGE in
       let op : slice_get u.shared.state.code 4 ≡ Some TakePop = ap (λ ops. slice_get ops 4) h.code in
       let has : HasList u.shared.state f = record { there = refl; inside = inside } in
       let sound = micro-package u.shared.state f seen.pages h.parts.state (subst (CanDo u.shared.state f) (sym op) has) in
       subst (λ o. let m = micro_at u.shared.state f resident (processor l) o in IsPackage m.state → IsChange s e u (popping_by u c m m.done).user (Some c) (popping_by u c m m.done).ctx)
-      (sym op) (popping_taken (own_list u seen.proc) l inside some nothing (is_locked u.shared.state.lists l) refl) sound
+      (sym op) (popping_taken seen.proc l inside some nothing (is_locked u.shared.state.lists l) refl) sound

@@ -148,9 +148,9 @@ continued u c f = continuing (put_last u c (carried_by c.state)) f
 abbrev pub own_list : Package → ProcNo → ProcNo
 own_list u p = processor (home u.shared.state.lists p.0)
 
--- work: the take of the push of thread first on the processor's list; it spins where that is locked
-abbrev pub push_of : ProcNo → ThreadNo → Option ThreadNo → Frame
-push_of p first t = record { pc = 0; list = Some p; own = true; pushed = Some first; thread = t }
+-- work: the take of the push of thread first on list l, by processor p; it spins where that is locked
+abbrev pub push_of : (p l : ProcNo) → ThreadNo → Option ThreadNo → Frame
+push_of p l first t = record { pc = 0; list = Some l; own = l.0 == p.0; pushed = Some first; thread = t }
 
 abbrev pub pushing_by : Package → Context → ThreadNo → Micro → MicroDone → Stepped Package Context
 pushing_by u c first m micros.Did =
@@ -160,7 +160,7 @@ pushing_by u c first m _ = did (pair (with_package u m.state) c) m.says
 
 abbrev pub pushing : Package → Seen → Context → ThreadNo → Stepped Package Context
 pushing u seen c first =
-    let m = micro u.shared.state (push_of (own_list u seen.proc) first (carried_by c.state)) seen.pages in pushing_by u c first m m.done
+    let m = micro u.shared.state (push_of seen.proc (own_list u seen.proc) first (carried_by c.state)) seen.pages in pushing_by u c first m m.done
 
 -- user: one instruction
 abbrev pub stays_user : Package → Seen → Context → ThreadNo → Option ThreadNo → Context
@@ -187,7 +187,7 @@ popping_by u c m micros.Did = did (pair (with_package u m.state) (at_state c (Co
 popping_by u c m _ = did (pair (with_package u m.state) c) m.says
 
 abbrev pub popping : Package → Seen → Context → ℕ → Stepped Package Context
-popping u seen c l = let m = micro u.shared.state (pop_of (own_list u seen.proc) l) seen.pages in popping_by u c m m.done
+popping u seen c l = let m = micro u.shared.state (pop_of seen.proc l) seen.pages in popping_by u c m m.done
 
 abbrev pub is_idle : Package → Seen → ℕ → Bool
 is_idle u seen looks = nat_le u.def.patience looks && idle_owed seen.demand (load u)
