@@ -19,12 +19,13 @@ use Rattle.sa_user_laws.specs.Level.{UserLevel}
 use Rattle.sa_user_laws.specs.Scene.{Holds as HoldsNow, IsOn, RunsAlone}
 use Rattle.sa_fits.proofs.Runners.{alone-runs}
 use Rattle.sa_fits.specs.Fits.{fast_fits, fast_hears}
-use Rattle.sa_fast_laws.proofs.EndLaws.{fast-done, fast-rest, fast-must}
-use Rattle.sa_fast_laws.proofs.FrameLaws.{fast-same, hears-same, run-threads}
-use Rattle.sa_fast_laws.proofs.HandedNotices.{fast-tells, fast-answers}
+use Rattle.sa_fits.specs.View.{view}
+use Rattle.sa_fits_laws.proofs.Ends.{all-done, none-active, must-hear}
+use Rattle.sa_fits_laws.proofs.Running.{run-threads}
+use Rattle.sa_fast_laws.proofs.FrameLaws.{fast-same, hears-same, fast-based}
+use Rattle.sa_fast_laws.proofs.HandedNotices.{fast-tells_add, fast-tells_blocked, fast-tells, fast-answers}
 use Rattle.sa_fast_laws.proofs.LocalRuns.{fast-goes}
 use Rattle.sa_fast_laws.proofs.Openings.{fast-starts, fast-inside}
-use Rattle.sa_fast_laws.proofs.PlainNotices.{fast-tells_add, fast-tells_blocked}
 use Rattle.sa_fast_laws.proofs.StepLaws.{fast-kernels, fast-opening, fast-steps}
 use Rattle.sa_fast_laws.proofs.StopLaws.{fast-stops, fast-unblocks, fast-begins, fast-owes}
 
@@ -52,9 +53,9 @@ fast-laws = record {
   tells_blocked = fast-tells_blocked;
   tells = fast-tells;
   answers = fast-answers;
-  done = fast-done;
-  rest = fast-rest;
-  must = λ w s e r u cs note h k has must. fast-must w s e r u cs h k note has must;
+  done = λ w s e r u cs h k. all-done s e r u cs h.value k.holds;
+  rest = λ w s e r u cs h k none. none-active s e r u cs h.value k.holds none;
+  must = λ w s e r u cs note h k has must. must-hear s e r u cs h.value k.holds view (λ c. c) cs (fast-based cs) k.rest note has must;
   inside = fast-inside;
   owes = fast-owes;
 }

@@ -1,29 +1,23 @@
 -- The laws of notices and of an upcall's end.
-use Rattle.std.proofs.Common.{[], slice_index_or, ◌≡◌, ℕ, ◌+◌, Bool, true, false, ◌||◌, ◌&&◌, List, Option, Some, None, is_some, is_none, refl, sym, ap, ◌∙◌, subst, inl, inr, ◌≢◌, Contains, ◌⊎◌}
-use Rattle.std.specs.Prelude.{nat_lt, min}
-use Rattle.std.proofs.lemmas.Bool.{cases_eq}
-use Rattle.std.proofs.lemmas.Option.{same_Some, none-some}
+use Rattle.std.proofs.Common.{[], slice_index_or, ◌≡◌, ℕ, Bool, true, false, ◌||◌, List, Option, Some, None, is_some, sym, ap, ◌∙◌, subst, inl, inr, ◌≢◌, Contains, ◌⊎◌}
+use Rattle.std.proofs.lemmas.Option.{same_Some}
 use Rattle.std.specs.Option.{option_map}
 use Rattle.sa_base.specs.declared.context.Seen.{Seen}
 use Rattle.sa_base.specs.declared.context.Stopped.{Stopped}
 use Rattle.sa_base.specs.declared.number.ActNo.{ActNo}
 use Rattle.sa_base.specs.declared.number.ProcNo.{ProcNo}
-use Rattle.sa_base.specs.declared.number.SpaceNo.{SpaceNo}
 use Rattle.sa_base.specs.declared.number.ThreadNo.{ThreadNo}
 use Rattle.sa_base.specs.declared.record.Note.{Note}
-use Rattle.sa_base.specs.declared.record.Note.TheVariants.{Preempted, Unblocked}
+use Rattle.sa_base.specs.declared.record.Note.TheVariants.{Add, Preempted, Blocked, Unblocked}
 use Rattle.sa_base.specs.declared.record.Record.TheVariants as records
-use Rattle.sa_lemmas.proofs.FunctionUpdates.{put-same, put-other}
+use Rattle.sa_lemmas.proofs.FunctionUpdates.{put-self}
 use Rattle.sa_lemmas.specs.Function.{put}
-use Rattle.sa_instr.specs.declared.limits.TheConstants.{MAX_PATIENCE}
 use Rattle.sa_spaces.specs.Workload.{WorkloadView}
 use Rattle.sa_lists.specs.ReadyView.{thread}
 use Rattle.sa_code.specs.declared.state.Frame.{Frame}
 use Rattle.sa_abstract.specs.Calls.{Contexts}
 use Rattle.sa_abstract.specs.Keeps.{IsHanded, told_contexts, IsHandedOver}
 use Rattle.sa_abstract.specs.Setting.{Setting}
-use Rattle.sa_package_model.proofs.BeginRule.{answers}
-use Rattle.sa_package_model.proofs.Views.{settled_between}
 use Rattle.sa_package_model.specs.Context.{has_some, settled_to, has_bulk}
 use Rattle.sa_package_model.specs.Rules.{owed, took_over}
 use Rattle.sa_package_model.specs.Stands.{IsStanding, fast_stands}
@@ -33,25 +27,18 @@ use Rattle.sa_package_model.specs.declared.context.State.TheVariants.{Work}
 use Rattle.sa_package_model.specs.declared.package.Package.{Package}
 use Rattle.sa_laws.specs.Event.{Event}
 use Rattle.sa_laws.specs.History.{is_inside, arisen}
-use Rattle.sa_laws.specs.Life.{Life, some_lock, inherits}
-use Rattle.sa_laws.specs.Readings.{Readings, running_of, life_of, has_hand, demand_of, many_taken, carried_by as runs_by, untold_of, stopped_thread, load_of, owner_of}
+use Rattle.sa_laws.specs.Life.{Life}
+use Rattle.sa_laws.specs.Readings.{Readings, running_of, life_of, untold_of}
 use Rattle.sa_laws.specs.Record.{after_record, with_life}
-use Rattle.sa_laws.specs.State.{space_at, active_threads}
-use Rattle.sa_user_laws.specs.Moments.{AlikeButEnds, Sees, unended}
+use Rattle.sa_user_laws.specs.Moments.{AlikeButEnds, Sees}
 use Rattle.sa_user_laws.specs.Scene.{Holds as HoldsNow, HoldsIn}
-use Rattle.sa_fits.proofs.EventEnds.{set-marked}
-use Rattle.sa_fits.proofs.InsideMarks.{settled-copy, settled-left, settled-looks, settled-inside}
-use Rattle.sa_fits.proofs.NoteLists.{notes-same}
 use Rattle.sa_fits.proofs.Notices.{note_of}
-use Rattle.sa_fits.proofs.Restated.{restated}
-use Rattle.sa_fits.proofs.SettledMarks.{settled-yield, settled-lone}
 use Rattle.sa_fits.specs.Fits.{FitsLists, Fits, fast_fits, Hears, fast_hears}
-use Rattle.sa_fits.specs.Life.{IsAtRest}
-use Rattle.sa_fits.specs.Stage.{is_running, stage_of, is_gone, Runs}
 use Rattle.sa_fits.specs.View.{view}
-use Rattle.sa_fits_notices.proofs.Handovers.{stage_kept, told-ready, told-holds, live_a, live_x, stage_now}
-use Rattle.sa_fits_steps.proofs.CodeSteps.{and_none}
-use Rattle.sa_fits_steps.proofs.Scenes.{runs-there}
+use Rattle.sa_fits_notices.proofs.Handovers.{told-ready}
+use Rattle.sa_fits_laws.proofs.Answers.{settled_new, answer-inside, answer-fits}
+use Rattle.sa_fits_laws.proofs.Upcalls.{hand-hears, add-hears, blocked-hears}
+use Rattle.sa_fast_laws.proofs.FrameLaws.{hears-of, told-of, fits-of}
 
 -- A NOTICE OF A STOP OR AN UNBLOCK
 module _ (w : WorkloadView) (s : Setting) (e : ℕ) (r : Readings) (u : Package) (cs : Contexts Context) (p : ProcNo) (n : ActNo) (ss : List Frame)
@@ -69,27 +56,10 @@ module _ (w : WorkloadView) (s : Setting) (e : ℕ) (r : Readings) (u : Package)
       (put (put cs n.0 (Some (took_over u (record { state = Work None; sections = ss; work = wk }) d).ctx)) b.0 None)
   tells-by kind told =
       let its = k.holds.lives n c is in
-      let mine = its.0 in
-      let runs = k.runs mine its.1 in
-      let ds = put (put cs n.0 (Some new)) b.0 None in
-      let at_n : ds n.0 ≡ Some new = put-other (put cs n.0 (Some new)) b.0 n.0 None (λ x. differ (sym x)) ∙ put-same cs n.0 (Some new) in
-      let now_a = live_a s e u cs h s.space r k.holds n b ss wk d is theirs differ w number p mine life its.1 there upped runs.0 kind told in
-      record {
-        holds = told-holds s e u cs h s.space r k.holds n b ss wk d is theirs differ w number p mine life its.1 there upped runs.0 kind told;
-        lists = subst (FitsLists u) (sym (ap (λ ls. slice_index_or ls s.space.0 []) (told-ready s e u cs h s.space r k.holds n b ss wk d is theirs differ w number p mine life its.1 there upped runs.0 kind told))) k.lists;
-        others = λ x y l ne at here. elim (cases_eq x.0 b.0) [
-          | inl same ↦ absurd (none-some y (sym (put-same (put cs n.0 (Some new)) b.0 None) ∙ ap ds (sym same) ∙ at))
-          | inr nb ↦
-              subst (λ g. IsAtRest g (view y) l) (sym (stage_kept s e u cs h s.space r k.holds n b ss wk d is theirs differ w number p mine life its.1 there upped runs.0 kind told x l.proc nb))
-              (k.others x y l ne (sym (put-other cs n.0 x.0 (Some new) ne) ∙ sym (put-other (put cs n.0 (Some new)) b.0 x.0 None nb) ∙ at)
-              (sym (live_x s e u cs h s.space r k.holds n b ss wk d is theirs differ w number p mine life its.1 there upped runs.0 kind told x.0 ne nb) ∙ here))
-        ];
-        begins = λ y at. ap (λ (z : Context). z.state) (sym (same_Some new y (sym at_n ∙ at)));
-        runs = λ l here.
-            let one : inherits life mine ≡ l = same_Some (inherits life mine) l (sym now_a ∙ here) in
-            subst (λ (z : Life). (stage_of (after_record w number p r (records.Told (note_of kind b))) s.space n z ≡ Runs) × (z.freed ≡ false) × (z.scans ≡ 0)) one
-            (stage_now s e u cs h s.space r k.holds n b ss wk d is theirs differ w number p mine life its.1 there upped runs.0 kind told, runs.1, runs.2);
-      }
+      let runs = k.runs its.0 its.1 in
+      hears-of s.space _ _ _ n
+      (subst (FitsLists u) (sym (ap (λ ls. slice_index_or ls s.space.0 []) (told-ready s e u cs h s.space r k.holds n b ss wk d is theirs differ w number p its.0 life its.1 there upped runs.0 kind told))) k.lists)
+      (hand-hears view s e r u cs cs h n b (told-of s.space r u cs n k) ss wk d is theirs differ life there upped w p number kind told new)
 
 pub fast-tells : (w : WorkloadView) (s : Setting) (e : ℕ) (r : Readings) (u : Package) (cs : Contexts Context) (p : ProcNo) (n : ActNo) (c : Context)
     (number : ℕ) (note : Note) (b : ActNo) (life : Life) (held : Stopped Context)
@@ -116,11 +86,26 @@ fast-tells w s e r u cs p n c number note b life held h k is upped told kind the
           tells-by w s e r u cs p n c.sections c.work number b life held.ctx h.value k (is ∙ ap Some (ap (λ x. record { state = x; sections = c.sections; work = c.work }) (k.begins c is))) upped there
           (o.theirs ∙ ap (λ (z : Stopped Context). Some z.ctx) same) o.differ kd has
 
--- THE END OF AN UPCALL
-stopped_ended : (o : Option Life) → stopped_thread (unended o) ≡ stopped_thread o
-stopped_ended None = refl
-stopped_ended (Some life) = refl
+-- NOTICES that hand nothing over
+pub fast-tells_add : (w : WorkloadView) (s : Setting) (e : ℕ) (r : Readings) (u : Package) (cs : Contexts Context) (p : ProcNo) (n : ActNo)
+    (c : Context) (number : ℕ) (z : ProcNo)
+    → HoldsIn fast_stands w s e r u cs → fast_hears w s r n u cs → cs n.0 ≡ Some c → r.upped ≡ Some n
+    → fast_hears w s (after_record w number p r (records.Told (Add z))) n u (put cs n.0 (Some c))
+fast-tells_add w s e r u cs p n c number z h k is upped =
+    let q = after_record w number p r (records.Told (Add z)) in
+    subst (Hears s.space q n u) (sym (ap (put cs n.0) (sym is) ∙ put-self cs n.0))
+    (hears-of s.space q u cs n k.lists (add-hears view s.space r u cs cs w p n number z (told-of s.space r u cs n k)))
 
+pub fast-tells_blocked : (w : WorkloadView) (s : Setting) (e : ℕ) (r : Readings) (u : Package) (cs : Contexts Context) (p : ProcNo) (n : ActNo)
+    (c : Context) (number : ℕ) (z : ActNo)
+    → HoldsIn fast_stands w s e r u cs → fast_hears w s r n u cs → cs n.0 ≡ Some c → r.upped ≡ Some n → Contains (untold_of r s.space) (Blocked z)
+    → fast_hears w s (after_record w number p r (records.Told (Blocked z))) n u (put cs n.0 (Some c))
+fast-tells_blocked w s e r u cs p n c number z h k is upped has =
+    let q = after_record w number p r (records.Told (Blocked z)) in
+    subst (Hears s.space q n u) (sym (ap (put cs n.0) (sym is) ∙ put-self cs n.0))
+    (hears-of s.space q u cs n k.lists (blocked-hears view s.space r u cs cs w p n number z (told-of s.space r u cs n k)))
+
+-- THE END OF AN UPCALL
 pub fast-answers : (w : WorkloadView) (s : Setting) (e : ℕ) (before r last : Readings) (ev : Event) (u : Package) (cs : Contexts Context) (n : ActNo)
     (c : Context) (seen : Seen)
     → HoldsNow fast_stands w s e r u cs → fast_hears w s r n u cs → cs n.0 ≡ Some c → running_of r ev.proc ≡ Some n
@@ -135,45 +120,13 @@ fast-answers w s e before r last ev u cs n c seen h k is runs upped alike sees =
           → fast_fits w s (record r { lives = with_life (arisen is_inside w before ev last) (Some n) r.lives }) u
           (put cs n.0 (Some (record { state = settled_to None (has_some fs || is_some wk) (is_some (owed u seen)) (has_bulk seen); sections = fs; work = wk })))
       by fs wk at =
-          let left = has_some fs || is_some wk in
-          let state = settled_to None left (is_some (owed u seen)) (has_bulk seen) in
-          let new : Context = record { state = state; sections = fs; work = wk } in
-          let ds = put cs n.0 (Some new) in
-          let between = settled_between None left (is_some (owed u seen)) (has_bulk seen) in
-          let no_copy = settled-copy None left (is_some (owed u seen)) (has_bulk seen) in
+          let new = settled_new w s e before r last ev u cs n fs wk seen h.of h.value h.moment at runs alike sees in
           let its = k.holds.lives n (record { state = Work None; sections = fs; work = wk }) at in
-          let life = its.0 in
-          let started = k.runs life its.1 in
-          let holds = restated s.space r u cs k.holds n (Work None) state fs wk at refl refl between.section no_copy between.carries in
-          let stands_now : IsStanding s e u ds = answers s e u cs h.value n.0 (record { state = Work None; sections = fs; work = wk }) at seen in
-          let mine : ds n.0 ≡ Some new = put-same cs n.0 (Some new) in
-          let stays_so : is_gone (stage_of r s.space n life) ≡ false = ap is_gone started.0 in
-          let found = h.moment.lives ev.proc n runs in
-          let one : found.0 ≡ life = same_Some found.0 life (sym found.1 ∙ its.1) in
-          let owner : owner_of r ev.proc ≡ Some s.space = found.3 ∙ ap (λ (l : Life). Some l.space) one ∙ ap Some its.2.space in
-          let carries : runs_by r life ≡ None =
-          runs-there s e u ds stands_now r r h.moment holds ev.proc n new life owner runs its.1 its.2.space mine (λ z ne. refl) ∙ between.carries in
-          let processors : u.processors ≡ w.processors = h.value.made.processors ∙ h.of.processors in
-          let inside =
-          settled-inside s e u ds stands_now s.space r holds n None seen fs wk life its.1 stays_so w before ev mine sees.demand sees.taken processors carries in
-          let back_now : Readings = record last { lives = r.lives } in
-          let loads : (z : SpaceNo) → load_of last z ≡ load_of back_now z = λ z. (
-          let sums =
-          notes-same back_now last (untold_of last z) (λ b has. sym (stopped_ended (last.lives b.0)) ∙ ap stopped_thread (sym (alike.lives b.0)) ∙ stopped_ended (r.lives b.0)) in
-          ap (λ m. active_threads (space_at last.state z) + m) sums) in
-          let same_test : is_inside w before ev last true life ≡ is_inside w before ev r true life =
-          ap (λ m. some_lock life.locks || life.cont || has_hand last life || nat_lt (demand_of last life.space) (min w.processors m) || (is_none (runs_by last life) && many_taken last life.space)) (loads life.space)
-          ∙ ap (λ y. is_inside w before ev y true life) (sym alike.is) in
-          subst (λ ls. Fits s.space (record r { lives = ls }) u ds)
+          let inside = is_inside w before ev last true its.0 in
+          let lives = told-of s.space r u cs n k in
+          let is_in = answer-inside w s e before r last ev u cs n fs wk seen h.of h.value h.moment at runs alike sees view cs lives in
+          subst (λ ls. Fits s.space (record r { lives = ls }) u (put cs n.0 (Some new)))
           (sym (ap (λ o. put r.lives n.0 (option_map (arisen is_inside w before ev last) o)) its.1))
-          (set-marked s.space r u ds holds n new mine life its.1
-          (λ x d l ne there is_l. k.others x d l ne (sym (put-other cs n.0 x.0 (Some new) ne) ∙ there) is_l) k.lists life.freed (is_inside w before ev last true life) life.scans r.number r.last r.moved (record {
-            idle = λ no. absurd (let yes : is_running (stage_of r s.space n life) ≡ true = ap is_running started.0 in cc);
-            marks = record {
-              inside = same_test ∙ inside;
-              back = ap (λ b. life.cont && b) started.1 ∙ and_none life.cont ∙ sym (settled-yield None left (is_some (owed u seen)) (has_bulk seen));
-              scans = ap (λ m. min m MAX_PATIENCE) started.2 ∙ sym (settled-looks None left (is_some (owed u seen)) (has_bulk seen));
-              left = settled-left None left (is_some (owed u seen)) (has_bulk seen);
-              lone = settled-lone None fs wk (is_some (owed u seen)) (has_bulk seen) (λ some. refl);
-            };
-          }))
+          (fits-of s.space _ u (put cs n.0 (Some new)) k.lists
+          (answer-fits w s e before r last ev u cs n fs wk seen h.of h.value h.moment at runs alike sees view cs lives new inside
+          (ap (λ b. record (view new) { inside = b }) (sym is_in))))

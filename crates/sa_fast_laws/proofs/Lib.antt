@@ -3,9 +3,6 @@ pub mod FrameLaws
 pub mod StepLaws
 pub mod StopLaws
 pub mod HandedNotices
-pub mod PlainNotices
 pub mod Openings
-pub mod SameSpace
 pub mod LocalRuns
-pub mod EndLaws
 pub mod FastLaws

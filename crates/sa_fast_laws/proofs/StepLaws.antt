@@ -1,7 +1,7 @@
 -- The laws at the kernel's events and at the opening, and those of steps, stops and unblocks.
-use Rattle.std.proofs.Common.{◌≡◌, ℕ, false, ◌&&◌, List, [], ◌∷◌, map, is_none, refl, sym, ◌∙◌, subst, inl, inr, arith, zero, suc, ◌<◌, ◌++◌}
+use Rattle.std.proofs.Common.{◌≡◌, ℕ, None, false, ◌&&◌, List, ◌∷◌, map, is_none, refl, sym, ◌∙◌, subst, inl, arith, zero, suc, ◌<◌, ◌++◌}
 use Rattle.std.specs.Prelude.{length, ◌<◌, not, ◌≤◌}
-use Rattle.std.specs.List.{range_with_len}
+use Rattle.std.specs.List.{list_any, range_with_len}
 use Rattle.sa_base.specs.declared.context.Seen.{Seen}
 use Rattle.sa_base.specs.declared.limits.TheConstants.{MAX_EVENTS}
 use Rattle.sa_base.specs.declared.number.ActNo.{ActNo}
@@ -11,8 +11,6 @@ use Rattle.sa_base.specs.declared.record.Record.TheVariants as records
 use Rattle.sa_spaces.specs.Workload.{WorkloadView, IsWorkload}
 use Rattle.sa_assign.specs.Aims.{space_no}
 use Rattle.sa_assign.specs.Reaim.{proc_no}
-use Rattle.sa_devices.specs.declared.kind.IoKind.{IoKind}
-use Rattle.sa_devices.specs.declared.kind.IoKind.TheVariants.{Plain, Page, Upcall}
 use Rattle.sa_abstract.specs.Calls.{Contexts}
 use Rattle.sa_abstract.specs.Setting.{Setting}
 use Rattle.sa_package_model.specs.Context.{carried_by, stands_inside, stands_idle}
@@ -26,50 +24,19 @@ use Rattle.sa_laws.specs.Closing.{want_one}
 use Rattle.sa_laws.specs.Demand.{BeginsFreely, StepIsFreeIf}
 use Rattle.sa_laws.specs.History.{begun, is_step}
 use Rattle.sa_laws.specs.Life.{Life}
-use Rattle.sa_laws.specs.Locks.{KeepsLocksIn, RunsNext}
+use Rattle.sa_laws.specs.Locks.{KeepsLocksIf, KeepsLocksIn, RunsNext}
 use Rattle.sa_laws.specs.Opening.{opening_event}
-use Rattle.sa_laws.specs.Readings.{Readings, life_on, opening_readings}
+use Rattle.sa_laws.specs.Readings.{Readings, life_on, line_of, opening_readings}
 use Rattle.sa_laws.specs.Rules.{fast_threads}
-use Rattle.sa_laws.specs.Turns.{IsInterrupt, IsOver}
+use Rattle.sa_laws.specs.Turns.{is_of_locks}
 use Rattle.sa_user_laws.specs.Moments.{IsMoment, Sees}
 use Rattle.sa_user_laws.specs.Scene.{IsActing, begun_at}
 use Rattle.sa_user_laws.specs.Steps.{event_with, IsClosed, RulesPass, AreKernels}
 use Rattle.sa_fits.specs.Fits.{fast_fits}
+use Rattle.sa_fits_laws.proofs.KernelEvents.{kernels-are, alone-plain}
 use Rattle.sa_fits_steps.proofs.Events.{IsLegal}
-use Rattle.sa_fits_steps.proofs.Scenes.{IsScene}
-use Rattle.sa_fits_user_steps.proofs.FaultSteps.{code-faults, blocks-legal}
-use Rattle.sa_fits_user_steps.proofs.IoSteps.{io-legal}
+use Rattle.sa_fits_steps.proofs.Scenes.{IsFastScene}
 use Rattle.sa_fast_laws.proofs.Dispatch.{step-legal}
-use Rattle.sa_fast_laws.proofs.FrameLaws.{kernel_locks}
-
--- an event of the kernel begins with no step
-pub record IsKernels (own : List Record) : Type 0 where
-  pub first : Record
-  pub rest : List Record
-  pub is : own ≡ first ∷ rest
-  pub step : is_step first ≡ false
-
-interrupt_first : (own : List Record) → IsInterrupt own → IsKernels own
-interrupt_first [] h = absurd h
-interrupt_first (records.Stop s t a ∷ xs) h = record { first = records.Stop s t a; rest = xs; is = refl; step = refl }
-interrupt_first (records.Up s a ∷ xs) h = record { first = records.Up s a; rest = xs; is = refl; step = refl }
-interrupt_first (records.Move old new ∷ xs) h = record { first = records.Move old new; rest = xs; is = refl; step = refl }
-interrupt_first (x ∷ xs) h = absurd h
-
-over_first : (kind : IoKind) (own : List Record) → IsOver kind own → IsKernels own
-over_first (Plain s a) (records.Unblock of t b ∷ []) h = record { first = records.Unblock of t b; rest = []; is = refl; step = refl }
-over_first (Page s a page) (records.Unblock of t b ∷ []) h = record { first = records.Unblock of t b; rest = []; is = refl; step = refl }
-over_first (Upcall s) (records.Fetched of ∷ []) h = record { first = records.Fetched of; rest = []; is = refl; step = refl }
-over_first kind xs h = absurd h
-
-kernels_first : (own : List Record) → AreKernels own → IsKernels own
-kernels_first own h = elim h [
-  | inl stops ↦ interrupt_first own stops
-  | inr other ↦ elim other [
-    | inl over ↦ over_first over.0 own over.1
-    | inr tick ↦ record { first = records.Tick; rest = []; is = tick; step = refl }
-  ]
-]
 
 no_run : (r : Readings) (p : ProcNo) (x : Record) (xs : List Record) → is_step x ≡ false → RunsNext r p (x ∷ xs)
 no_run r p (records.Run s t) xs e = absurd cc
@@ -100,10 +67,13 @@ pub fast-kernels : (w : WorkloadView) (r : Readings) (e : ℕ) (p : ProcNo) (own
     → IsClosed own closing
     → RulesPass fast_threads w r (event_with e p own closing)
 fast-kernels w r e p own closing ok moment are closed =
-    let k = kernels_first own are in
+    let k = kernels-are own are in
     record {
       demand = record { step = λ later. subst (λ xs. BeginsFreely w r p (xs ++ closing)) (sym k.is) (subst (λ b. StepIsFreeIf b w r (life_on r p) k.first) (sym k.step) tt) };
-      locks = record { step = λ later. subst (KeepsLocksIn w (begun w (event_with e p own closing) r) p) (sym closed.is_own) (kernel_locks w (begun w (event_with e p own closing) r) p own are) };
+      locks = record {
+        step = λ later. subst (KeepsLocksIn w (begun w (event_with e p own closing) r) p) (sym closed.is_own) (subst (KeepsLocksIn w (begun w (event_with e p own closing) r) p) (sym k.is)
+            (subst (λ b. KeepsLocksIf b w (begun w (event_with e p own closing) r) p (life_on r p) k.first) (sym k.step) tt, alone-plain (list_any is_of_locks (k.first ∷ k.rest)) k.rest k.locks));
+      };
       order = record { run = subst (λ xs. RunsNext r p (xs ++ closing)) (sym k.is) (no_run r p k.first (k.rest ++ closing) k.step) };
     }
 
@@ -122,37 +92,36 @@ pub the-scene : (w : WorkloadView) (s : Setting) (e : ℕ) (r : Readings) (u : P
     (c : Context) (seen : Seen)
     → IsActing fast_calls fast_stands fast_fits w s e r u cs p a life c
     → Sees s.space (begun_at w seen.event p r) p seen.event seen → e < seen.event → seen.event ≤ MAX_EVENTS
-    → IsScene s e u cs w r p a life c seen
+    → IsFastScene s e u cs w r p a life c seen
 the-scene w s e r u cs p a life c seen i sees later within =
     let mark = (i.fit.rest a c life i.on.mine i.on.is).marks in
     record {
-      of = i.holds.of;
-      moment = i.holds.moment;
-      sizes = i.holds.sizes;
-      stands = i.holds.value;
-      holds = i.fit.holds;
+      scene = record {
+        of = i.holds.of;
+        moment = i.holds.moment;
+        sizes = i.holds.sizes;
+        stands = i.holds.value;
+        holds = i.fit.holds;
+        own = record { back = mark.back; scans = mark.scans; left = mark.left; lone = mark.lone };
+        on = i.on;
+        runner = i.runner;
+        sees = sees;
+        given = i.holds.taken;
+        later = later;
+        within = within;
+      };
       lists = i.fit.lists;
       others = λ x d l ne at is. i.fit.rest x d l at is;
-      own = record { back = mark.back; scans = mark.scans; left = mark.left; lone = mark.lone };
       free = λ outside. inl (mark.inside ∙ outside);
-      on = i.on;
-      runner = i.runner;
-      sees = sees;
-      given = i.holds.taken;
-      later = later;
-      within = within;
     }
 
 pub fast-steps : (w : WorkloadView) (s : Setting) (e : ℕ) (r : Readings) (u : Package) (cs : Contexts Context) (p : ProcNo) (a : ActNo) (life : Life)
     (c : Context) (seen : Seen)
     → IsActing fast_calls fast_stands fast_fits w s e r u cs p a life c
-    → Sees s.space (begun_at w seen.event p r) p seen.event seen → 1 ≤ seen.event → e < seen.event → seen.event ≤ MAX_EVENTS
+    → Sees s.space (begun_at w seen.event p r) p seen.event seen → line_of r p ≡ None → 1 ≤ seen.event → e < seen.event → seen.event ≤ MAX_EVENTS
     → IsLegal w s r p seen.event a cs (fast_calls.stepped u seen c)
-fast-steps w s e r u cs p a life c seen i sees some later within =
-    step-legal s e u w r p a life seen (record {
-      faults = λ ds f fs wk i absent is. code-faults s e u ds w r p a life seen f fs wk i absent is;
-      instrs = λ ds t i. blocks-legal s e u ds w r p a life seen t i (io-legal s e u ds w r p a life seen t i);
-    }) cs c.state c.sections c.work (the-scene w s e r u cs p a life c seen i sees later within)
+fast-steps w s e r u cs p a life c seen i sees low some later within =
+    step-legal s e u w r p a life seen cs c.state c.sections c.work (the-scene w s e r u cs p a life c seen i sees later within)
 
 -- A STOP: who is idle is read
 pub idle_is : (state : State) → stands_idle state ≡ (not (stands_inside state) && is_none (carried_by state))

@@ -17,7 +17,7 @@ use Rattle.sa_package_model.specs.declared.context.Context.{Context}
 use Rattle.sa_package_model.specs.declared.package.Package.{Package}
 use Rattle.sa_laws.specs.Demand.{DemandIsAnnounced}
 use Rattle.sa_laws.specs.Event.{Event}
-use Rattle.sa_laws.specs.History.{is_inside, is_step, is_up, stepped, arisen, with_step, ended, begun}
+use Rattle.sa_laws.specs.History.{Test, is_inside, is_step, is_up, stepped, arisen, with_step, ended, begun}
 use Rattle.sa_laws.specs.Life.{Life}
 use Rattle.sa_laws.specs.Locks.{LocksAreKept, OrderIsKept}
 use Rattle.sa_laws.specs.Readings.{Readings, running_of, life_of, untold_of, ready_of, stopped_thread}
@@ -87,10 +87,9 @@ pub record Follows (w : WorkloadView) (r : Readings) (ev : Event) (own : List Re
   pub locks : LocksAreKept w r ev
   pub order : OrderIsKept w r ev
 
--- THE MARKS of one life are set, at the end of an own event of it
+-- THE MARKS of one life are set, at the end of an own event of it: what holds stays
 module _ (s : SpaceNo) (last : Readings) (v : Package) (ds : Contexts Context) (h : Holds s last v ds) (a : ActNo) (new : Context)
-    (mine : ds a.0 ≡ Some new) (life : Life) (there : life_of last a ≡ Some life)
-    (others : OthersRest s last a ds) (lists : FitsLists v (ready_of last s)) (freed inside : Bool) (scans : ℕ)
+    (mine : ds a.0 ≡ Some new) (life : Life) (there : life_of last a ≡ Some life) (freed inside : Bool) (scans : ℕ)
     (number : ℕ) (before : Option Record) (moved : Option SpaceNo) where
   abbrev marked_life : Life
   marked_life = record life { freed = freed; scans = scans; inside = inside }
@@ -103,13 +102,13 @@ module _ (s : SpaceNo) (last : Readings) (v : Package) (ds : Contexts Context) (
     moved = moved;
   }
 
-  live_here : remarked.lives a.0 ≡ Some marked_life
+  pub live_here : remarked.lives a.0 ≡ Some marked_life
   live_here = put-same last.lives a.0 (Some marked_life)
 
-  live_there : (b : ℕ) → b ≢ a.0 → remarked.lives b ≡ last.lives b
+  pub live_there : (b : ℕ) → b ≢ a.0 → remarked.lives b ≡ last.lives b
   live_there b ne = put-other last.lives a.0 b (Some marked_life) ne
 
-  set-holds : Holds s remarked v ds
+  pub set-holds : Holds s remarked v ds
   set-holds = record {
     space = h.space;
     load =
@@ -138,46 +137,67 @@ module _ (s : SpaceNo) (last : Readings) (v : Package) (ds : Contexts Context) (
     ];
   }
 
-  pub set-marked : IsAtRest (stage_of last s a life) (view new) marked_life → Fits s remarked v ds
+-- and with these marks it rests as its context does
+module _ (s : SpaceNo) (last : Readings) (v : Package) (ds : Contexts Context) (h : Holds s last v ds) (a : ActNo) (new : Context)
+    (mine : ds a.0 ≡ Some new) (life : Life) (there : life_of last a ≡ Some life)
+    (others : OthersRest s last a ds) (lists : FitsLists v (ready_of last s)) (freed inside : Bool) (scans : ℕ)
+    (number : ℕ) (before : Option Record) (moved : Option SpaceNo) where
+  abbrev after_marks : Life
+  after_marks = record life { freed = freed; scans = scans; inside = inside }
+
+  pub set-marked : IsAtRest (stage_of last s a life) (view new) (record life { freed = freed; scans = scans; inside = inside })
+      → Fits s (record last { number = number; lives = put last.lives a.0 (Some (record life { freed = freed; scans = scans; inside = inside })); last = before; moved = moved }) v ds
   set-marked own = record {
-    holds = set-holds;
+    holds = set-holds s last v ds h a new mine life there freed inside scans number before moved;
     lists = lists;
     rest = λ x c l at its. elim (cases_eq x.0 a.0) [
       | inl e ↦
           let is_new : c ≡ new = same_Some c new (sym at ∙ ap ds e ∙ mine) in
-          let one : l ≡ marked_life = same_Some l marked_life (sym its ∙ ap remarked.lives e ∙ live_here) in
+          let one : l ≡ after_marks = same_Some l after_marks (sym its ∙ ap (put last.lives a.0 (Some after_marks)) e ∙ live_here s last v ds h a new mine life there freed inside scans number before moved) in
           let act : x ≡ a = ap (λ n. record { 0 = n }) e in
           subst (λ z. IsAtRest (stage_of last s x l) (view z) l) (sym is_new)
           (subst (λ z. IsAtRest (stage_of last s x z) (view new) z) (sym one)
-          (subst (λ z. IsAtRest (stage_of last s z life) (view new) marked_life) (sym act) own))
-      | inr ne ↦ others x c l ne at (sym (live_there x.0 ne) ∙ its)
+          (subst (λ z. IsAtRest (stage_of last s z life) (view new) after_marks) (sym act) own))
+      | inr ne ↦ others x c l ne at (sym (live_there s last v ds h a new mine life there freed inside scans number before moved x.0 ne) ∙ its)
     ];
   }
 
--- THE END of an own event of life a
+-- THE END of an own event of life a, by whichever test of who is in
+module _ (a : ActNo) (w : WorkloadView) (r : Readings) (ev : Event) (runs : running_of r ev.proc ≡ Some a) (last : Readings)
+    (life : Life) (there : life_of last a ≡ Some life)
+    (first : Record) (rest : List Record) (records : ev.records ≡ first ∷ rest) (step : is_step first ≡ true)
+    (no_up : list_any is_up ev.records ≡ false) (test : Test) where
+  pub ended-lives : (ended test w r ev last).lives ≡ put last.lives a.0 (Some (stepped test w r ev last first life))
+  ended-lives =
+      ap (λ b. if b then with_life (arisen test w r ev last) (running_of last ev.proc) (with_step test w r ev last ev.records last.lives) else with_step test w r ev last ev.records last.lives) no_up
+      ∙ ap (λ xs. with_step test w r ev last xs last.lives) records
+      ∙ ap (λ b. if b then with_life (stepped test w r ev last first) (running_of r ev.proc) last.lives else last.lives) step
+      ∙ ap (λ o. with_life (stepped test w r ev last first) o last.lives) runs
+      ∙ ap (λ o. put last.lives a.0 (option_map (stepped test w r ev last first) o)) there
+
+  -- what held behind the event's records holds behind the event
+  pub ended-holds : (s : SpaceNo) (v : Package) (ds : Contexts Context) (new : Context) → Holds s last v ds → ds a.0 ≡ Some new
+      → Holds s (ended test w r ev last) v ds
+  ended-holds s v ds new h mine =
+      let after = stepped test w r ev last first life in
+      subst (λ ls. Holds s (record last { number = last.number + 1; lives = ls; last = None; moved = None }) v ds) (sym ended-lives)
+      (set-holds s last v ds h a new mine life there after.freed after.inside after.scans (last.number + 1) None None)
+
+-- and by FastThreads' test
 module _ (s : SpaceNo) (r : Readings) (u : Package) (cs : Contexts Context) (a : ActNo) (w : WorkloadView) (ev : Event)
     (runs : running_of r ev.proc ≡ Some a)
     (last : Readings) (others : OthersRest s last a cs) (v : Package) (new : Context) (h : Holds s last v (put cs a.0 (Some new)))
     (lists : FitsLists v (ready_of last s)) (life : Life) (there : life_of last a ≡ Some life)
     (first : Record) (rest : List Record) (records : ev.records ≡ first ∷ rest) (step : is_step first ≡ true)
     (no_up : list_any is_up ev.records ≡ false) where
-  abbrev q : Readings
-  q = ended is_inside w r ev last
-
   abbrev after : Life
   after = stepped is_inside w r ev last first life
 
-  lives_now : q.lives ≡ put last.lives a.0 (Some after)
-  lives_now =
-      ap (λ b. if b then with_life (arisen is_inside w r ev last) (running_of last ev.proc) (with_step is_inside w r ev last ev.records last.lives) else with_step is_inside w r ev last ev.records last.lives) no_up
-      ∙ ap (λ xs. with_step is_inside w r ev last xs last.lives) records
-      ∙ ap (λ b. if b then with_life (stepped is_inside w r ev last first) (running_of r ev.proc) last.lives else last.lives) step
-      ∙ ap (λ o. with_life (stepped is_inside w r ev last first) o last.lives) runs
-      ∙ ap (λ o. put last.lives a.0 (option_map (stepped is_inside w r ev last first) o)) there
-
-  pub ended-fits : IsAtRest (stage_of last s a life) (view new) after → Fits s q v (put cs a.0 (Some new))
+  pub ended-fits : IsAtRest (stage_of last s a life) (view new) (stepped is_inside w r ev last first life)
+      → Fits s (ended is_inside w r ev last) v (put cs a.0 (Some new))
   ended-fits own =
-      subst (λ ls. Fits s (record last { number = last.number + 1; lives = ls; last = None; moved = None }) v (put cs a.0 (Some new))) (sym lives_now)
+      subst (λ ls. Fits s (record last { number = last.number + 1; lives = ls; last = None; moved = None }) v (put cs a.0 (Some new)))
+      (sym (ended-lives a w r ev runs last life there first rest records step no_up is_inside))
       (set-marked s last v (put cs a.0 (Some new)) h a new (put-same cs a.0 (Some new)) life there
       (λ x c l ne at is. others x c l ne (sym (put-other cs a.0 x.0 (Some new) ne) ∙ at) is) lists
       after.freed after.inside after.scans (last.number + 1) None None own)

@@ -48,35 +48,35 @@ back n p k in_p in_k = elim (cases_lt (p + k) n) [
 ]
 
 module _ (set : Setting) (e : ℕ) (u : Package) (cs : Contexts Context) (h : IsStanding set e u cs) (s : SpaceNo) (r : Readings) (k : Holds s r u cs)
-    (alike : AreReadyAlike s r u) (w : WorkloadView) (many : length u.shared.state.lists.lists ≡ w.processors) (p : ProcNo)
-    (inside : p.0 < w.processors) where
-  in_lists : p.0 < length u.shared.state.lists.lists
-  in_lists = omega arith
-
-  -- the list that is sought is the first open one
-  pub sought-is_first : (l : ℕ) → sought u.shared.state.lists p.0 ≡ Some l → IsFirstOpen w r s p (processor l)
-  sought-is_first l found =
-      let first = sought-first u.shared.state.lists p.0 l in_lists found in
-      let n = length u.shared.state.lists.lists in
-      let round = there n p.0 l in_lists first.inside in
-      record {
-        steps = steps_round n p.0 l;
-        within = let less = round.0 in omega arith;
-        list = ap (λ m. record { 0 = m }) (sym round.1 ∙ ap (λ m. (p.0 + steps_round n p.0 l) % m) many);
-        opens = opens set e u cs h s r k alike (processor l) first.here;
-        first = λ j less opened.
-            let here = back n p.0 j in_lists (let all = round.0 in omega arith) in
-            let same : (p.0 + j) % n ≡ (p.0 + j) % w.processors = ap (λ m. (p.0 + j) % m) many in
-            opens-not set e u cs h s r k alike (list_round w p j)
-            (subst (λ m. is_open u.shared.state.lists m ≡ false) same (first.before ((p.0 + j) % n) here.0 (let steps = here.1 in omega arith))) opened;
-      }
-
-  -- and where none is found, none is open
-  pub sought-none_opens : sought u.shared.state.lists p.0 ≡ None → NoneIsOpen r s
-  sought-none_opens found = none-opens set e u cs h s r k alike (λ l. elim (cases_lt l (length u.shared.state.lists.lists)) [
-    | inl below ↦ sought-none u.shared.state.lists p.0 l in_lists found below
+    (alike : AreReadyAlike s r u) where
+  -- where no list is found, from whichever on, none is open
+  pub sought-none_opens : (q : ℕ) → q < length u.shared.state.lists.lists → sought u.shared.state.lists q ≡ None → NoneIsOpen r s
+  sought-none_opens q in_lists found = none-opens set e u cs h s r k alike (λ l. elim (cases_lt l (length u.shared.state.lists.lists)) [
+    | inl below ↦ sought-none u.shared.state.lists q l in_lists found below
     | inr past ↦ nothing (is_locked u.shared.state.lists l) (list_of u.shared.state.lists l) (get_or_past u.shared.state.lists.lists l [] past)
   ]) where
     nothing : (b : Bool) (xs : List ℕ) → xs ≡ [] → (not b && nat_lt 0 (length xs)) ≡ false
     nothing true xs e = refl
     nothing false xs e = ap (λ (ys : List ℕ). nat_lt 0 (length ys)) e
+
+  -- where each processor has a list, the list that is sought from its own on is the first open one
+  module _ (w : WorkloadView) (many : length u.shared.state.lists.lists ≡ w.processors) (p : ProcNo) (inside : p.0 < w.processors) where
+    in_lists : p.0 < length u.shared.state.lists.lists
+    in_lists = omega arith
+
+    pub sought-is_first : (l : ℕ) → sought u.shared.state.lists p.0 ≡ Some l → IsFirstOpen w r s p (processor l)
+    sought-is_first l found =
+        let first = sought-first u.shared.state.lists p.0 l in_lists found in
+        let n = length u.shared.state.lists.lists in
+        let round = there n p.0 l in_lists first.inside in
+        record {
+          steps = steps_round n p.0 l;
+          within = let less = round.0 in omega arith;
+          list = ap (λ m. record { 0 = m }) (sym round.1 ∙ ap (λ m. (p.0 + steps_round n p.0 l) % m) many);
+          opens = opens set e u cs h s r k alike (processor l) first.here;
+          first = λ j less opened.
+              let here = back n p.0 j in_lists (let all = round.0 in omega arith) in
+              let same : (p.0 + j) % n ≡ (p.0 + j) % w.processors = ap (λ m. (p.0 + j) % m) many in
+              opens-not set e u cs h s r k alike (list_round w p j)
+              (subst (λ m. is_open u.shared.state.lists m ≡ false) same (first.before ((p.0 + j) % n) here.0 (let steps = here.1 in omega arith))) opened;
+        }

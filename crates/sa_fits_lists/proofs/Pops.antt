@@ -1,6 +1,6 @@
 -- The effect of a pop: the newest or the oldest thread of a list runs.
 use Rattle.std.proofs.Common.{length-set, ◌≡◌, ◌≢◌, ℕ, zero, suc, ◌+◌, ◌-◌, ◌≤◌, ◌<◌, Bool, true, false, ◌||◌, List, [], ◌∷◌, map, length, reverse, filter, Option, Some, None, option_map, nat_le, slice_get, refl, sym, ap, ◌∙◌, subst, inl, inr, arith}
-use Rattle.std.specs.Prelude.{if◌then◌else◌}
+use Rattle.std.specs.Prelude.{if◌then◌else◌, nat_lt}
 use Rattle.std.proofs.lemmas.Bool.{cases_eq}
 use Rattle.std.proofs.lemmas.List.{get_or-set_same, length-map}
 use Rattle.std.proofs.lemmas.Option.{same_Some, none-some}
@@ -15,8 +15,8 @@ use Rattle.sa_spaces.specs.Workload.{WorkloadView}
 use Rattle.sa_links.proofs.Counting.{count_at, count_two, without_lacked}
 use Rattle.sa_links.specs.Lists.{count_in, count_in_all, without}
 use Rattle.sa_lists.proofs.Changes.{list_of-with_list_same, list_of-with_list_other}
-use Rattle.sa_lists.specs.ReadyView.{list_of, thread}
-use Rattle.sa_code.specs.Micro.{popped, list_in, chosen, without_chosen}
+use Rattle.sa_lists.specs.ReadyView.{ReadyView, list_of, thread}
+use Rattle.sa_code.specs.Micro.{popped, list_in, takes_first, chosen, without_chosen}
 use Rattle.sa_code.specs.declared.code.Op.TheVariants.{Pop}
 use Rattle.sa_code.specs.declared.state.Frame.{Frame}
 use Rattle.sa_copies.specs.Copies.{package_ops, copy_at}
@@ -108,6 +108,11 @@ next_chosen true listed xs t same e =
     (ap (λ n. slice_get (map number_in listed) (n - 1)) (sym (length-map listed number_in)) ∙ newest_last xs (map number_in listed) t same e)
 next_chosen false listed xs t same e = slice_get-number listed 0 t (oldest_first xs (map number_in listed) t same e)
 
+-- where there is one rank a pop takes the first thread of its processor's own list alone
+takes_own : (r : ReadyView) (own : Bool) → r.ranks ≡ [] → takes_first r own ≡ own
+takes_own r true none = refl
+takes_own r false none = ap (λ (ranks : List ℕ). nat_lt 0 (length ranks)) none
+
 chosen_if : (u : Package) (own : Bool) (l t : ℕ) → chosen u.shared.state.lists own l ≡ Some t
     → (if own then slice_get (list_of u.shared.state.lists l) 0 else slice_get (list_of u.shared.state.lists l) (length (list_of u.shared.state.lists l) - 1)) ≡ Some t
 chosen_if u true l t e = e
@@ -125,7 +130,7 @@ module _ (set : Setting) (e : ℕ) (u : Package) (cs : Contexts Context) (h : Is
     (of : life.space ≡ s)
     (known : s.0 < length r.state.spaces) (named : s.0 < length r.ready)
     (kk : ℕ) (copy : copy_at f.pc ≡ Some kk) (op : slice_get package_ops f.pc ≡ Some Pop) (nothing : f.thread ≡ None) (pushes : f.pushed ≡ None)
-    (t : ℕ) (takes : chosen u.shared.state.lists f.own (list_in f).0 ≡ Some t) where
+    (t : ℕ) (takes : chosen u.shared.state.lists (takes_first u.shared.state.lists f.own) (list_in f).0 ≡ Some t) where
   abbrev c : Context
   c = record { state = Code f; sections = fs; work = wk }
 
@@ -176,7 +181,7 @@ module _ (set : Setting) (e : ℕ) (u : Package) (cs : Contexts Context) (h : Is
 
   listed : 1 ≤ count_in_all t u.shared.state.lists.lists
   listed =
-      let one = count_chosen u.shared.state.lists f.own (list_in f).0 t t takes in let same = one_same t t refl in
+      let one = count_chosen u.shared.state.lists (takes_first u.shared.state.lists f.own) (list_in f).0 t t takes in let same = one_same t t refl in
       let all = count_at t u.shared.state.lists.lists (list_in f).0 in omega arith
 
   lists_once : count_in_all t u.shared.state.lists.lists ≡ 1
@@ -241,27 +246,29 @@ module _ (set : Setting) (e : ℕ) (u : Package) (cs : Contexts Context) (h : Is
   once_in : (m : ℕ) → count_in t (list_of u.shared.state.lists m) ≤ 1
   once_in m = let all = count_at t u.shared.state.lists.lists m in let one = lists_once in omega arith
 
+  -- in the history it stands in no list any more
+  pub run-listed : ready_of q s ≡ filter (is_other_thread (thread t)) (ready_of r s)
+  run-listed = get_or-set_same r.ready s.0 (filter (is_other_thread (thread t)) (ready_of r s)) [] named
+
   numbers_now : FitsLists u (ready_of r s) → (m : ProcNo) → numbers_in (ready_of q s) m ≡ reverse (list_of made.state.lists m.0)
   numbers_now lists m =
-      let is_now : ready_of q s ≡ filter (is_other_thread (thread t)) (ready_of r s) =
-      get_or-set_same r.ready s.0 (filter (is_other_thread (thread t)) (ready_of r s)) [] named in
-      ap (λ ls. numbers_in ls m) is_now ∙ numbers-without (thread t) (ready_of r s) m ∙ ap (without t) (lists.numbers m) ∙ elim (cases_eq (list_in f).0 m.0) [
+      ap (λ ls. numbers_in ls m) run-listed ∙ numbers-without (thread t) (ready_of r s) m ∙ ap (without t) (lists.numbers m) ∙ elim (cases_eq (list_in f).0 m.0) [
         | inl same ↦
             ap (λ n. without t (reverse (list_of u.shared.state.lists n))) (sym same)
-            ∙ without_is u f.own (list_in f).0 t (once_in (list_in f).0) takes
-            ∙ ap reverse (sym (ap (list_of made.state.lists) (sym same) ∙ list_of-with_list_same u.shared.state.lists (list_in f).0 (without_chosen u.shared.state.lists f.own (list_in f).0) room))
+            ∙ without_is u (takes_first u.shared.state.lists f.own) (list_in f).0 t (once_in (list_in f).0) takes
+            ∙ ap reverse (sym (ap (list_of made.state.lists) (sym same) ∙ list_of-with_list_same u.shared.state.lists (list_in f).0 (without_chosen u.shared.state.lists (takes_first u.shared.state.lists f.own) (list_in f).0) room))
         | inr ne ↦
             without_lacked t (reverse (list_of u.shared.state.lists m.0)) (let all = count-reverse t (list_of u.shared.state.lists m.0) in let none = elsewhere m.0 (λ z. ne (sym z)) in omega arith)
-            ∙ ap reverse (sym (list_of-with_list_other u.shared.state.lists (list_in f).0 m.0 (without_chosen u.shared.state.lists f.own (list_in f).0) (λ z. ne (sym z))))
+            ∙ ap reverse (sym (list_of-with_list_other u.shared.state.lists (list_in f).0 m.0 (without_chosen u.shared.state.lists (takes_first u.shared.state.lists f.own) (list_in f).0) (λ z. ne (sym z))))
       ] where
         elsewhere : (m : ℕ) → m ≢ (list_in f).0 → count_in t (list_of u.shared.state.lists m) ≡ 0
         elsewhere m ne =
-            let one = count_chosen u.shared.state.lists f.own (list_in f).0 t t takes in let same = one_same t t refl in
+            let one = count_chosen u.shared.state.lists (takes_first u.shared.state.lists f.own) (list_in f).0 t t takes in let same = one_same t t refl in
             let two = count_two t u.shared.state.lists.lists (list_in f).0 m (λ z. ne (sym z)) room in let all = lists_once in omega arith
 
   pub run-lists : FitsLists u (ready_of r s) → FitsLists v (ready_of q s)
   run-lists lists =
-      record { many = length-set u.shared.state.lists.lists (list_in f).0 (without_chosen u.shared.state.lists f.own (list_in f).0) ∙ lists.many; ranks = lists.ranks; numbers = numbers_now lists }
+      record { many = length-set u.shared.state.lists.lists (list_in f).0 (without_chosen u.shared.state.lists (takes_first u.shared.state.lists f.own) (list_in f).0) ∙ lists.many; ranks = lists.ranks; numbers = numbers_now lists }
 
   lives_now : q.lives ≡ put r.lives a.0 (Some after)
   lives_now = life-changed (with_first (ran (thread t))) r p a life runs there
@@ -328,4 +335,5 @@ module _ (set : Setting) (e : ℕ) (u : Package) (cs : Contexts Context) (h : Is
   run-next lists =
       subst (λ o. TakesNext r o s (thread t)) (sym (ap (life_if r) runs ∙ there))
       (subst (λ o. WithFirst o (λ x. next_thread r s x ≡ Some (thread t))) (sym first)
-      (next_chosen f.own (listed_in r s (list_in f)) (list_of u.shared.state.lists (list_in f).0) t (lists.numbers (list_in f)) (chosen_if u f.own (list_in f).0 t takes)))
+      (next_chosen f.own (listed_in r s (list_in f)) (list_of u.shared.state.lists (list_in f).0) t (lists.numbers (list_in f)) (chosen_if u f.own (list_in f).0 t
+      (ap (λ b. chosen u.shared.state.lists b (list_in f).0) (sym (takes_own u.shared.state.lists f.own lists.ranks)) ∙ takes))))

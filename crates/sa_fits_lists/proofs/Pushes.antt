@@ -196,13 +196,17 @@ module _ (set : Setting) (e : ℕ) (u : Package) (cs : Contexts Context) (h : Is
   room =
       own_inside set e u cs h a.0 c is (list_in f).0 (let all = section_locks c f kk refl copy (list_in f).0 in let one = one_same (list_in f).0 (list_in f).0 refl in omega arith)
 
+  -- it is the newest of its list in the history
+  pub ready-listed : ready_of q s ≡ ready_of r s ++ record { thread = t; list = list_in f } ∷ []
+  ready-listed =
+      get_or-set_same r.ready s.0 (ready_of r s ++ record { thread = t; list = first_list (life_on r p) p } ∷ []) [] named
+      ∙ ap (λ x. ready_of r s ++ record { thread = t; list = x } ∷ []) (ap (λ o. first_list (life_if r o) p) runs ∙ ap (λ o. first_list o p) there ∙ list_locked locks_are)
+
+  -- where there is one rank it is so in the package
   numbers_now : FitsLists u (ready_of r s) → (m : ProcNo) → numbers_in (ready_of q s) m ≡ reverse (list_of made.state.lists m.0)
   numbers_now lists m =
-      let now : ready_of q s ≡ ready_of r s ++ record { thread = t; list = list_in f } ∷ [] =
-      get_or-set_same r.ready s.0 (ready_of r s ++ record { thread = t; list = first_list (life_on r p) p } ∷ []) [] named
-      ∙ ap (λ x. ready_of r s ++ record { thread = t; list = x } ∷ []) (ap (λ o. first_list (life_if r o) p) runs ∙ ap (λ o. first_list o p) there ∙ list_locked locks_are) in
       let x : Listed = record { thread = t; list = list_in f } in
-      ap (λ ls. numbers_in ls m) now ∙ numbers-append (ready_of r s) (x ∷ []) m ∙ elim (cases_eq (list_in f).0 m.0) [
+      ap (λ ls. numbers_in ls m) ready-listed ∙ numbers-append (ready_of r s) (x ∷ []) m ∙ elim (cases_eq (list_in f).0 m.0) [
         | inl same ↦
             ap (λ ns. numbers_in (ready_of r s) m ++ ns) (numbers-here x m same)
             ∙ ap (λ ns. ns ++ t.0 ∷ []) (lists.numbers m) ∙ sym (reverse-cons t.0 (list_of u.shared.state.lists m.0))

@@ -1,7 +1,6 @@
 -- The takes.
 use Rattle.std.proofs.Common.{◌≡◌, ℕ, ◌≤◌, ◌<◌, Bool, true, false, ◌||◌, List, [], ◌∷◌, ◌++◌, length, Option, Some, None, refl, sym, ap, ◌∙◌, subst, arith}
 use Rattle.std.specs.Prelude.{◌==◌}
-use Rattle.std.proofs.lemmas.Bool.{eq-eqb}
 use Rattle.std.specs.List.{list_any}
 use Rattle.sa_base.specs.declared.number.ActNo.{ActNo}
 use Rattle.sa_base.specs.declared.number.ProcNo.{ProcNo}
@@ -56,9 +55,7 @@ hand_none x works c gone hand h none bare = counts_none x hand (λ t some. absur
 module _ (set : Setting) (e : ℕ) (u : Package) (cs : Contexts Context) (h : IsStanding set e u cs) (s : SpaceNo) (r : Readings) (k : Holds s r u cs)
     (a : ActNo) (w : WorkloadView) (number : ℕ) (p : ProcNo) (life : Life) (runs : running_of r p ≡ Some a) (there : life_of r a ≡ Some life) where
   -- FOR A POP
-  module _ (looks : ℕ) (is : cs a.0 ≡ Some (record { state = Look looks; sections = []; work = None })) (l : ℕ)
-      (found : sought u.shared.state.lists p.0 ≡ Some l)
-      (many : length u.shared.state.lists.lists ≡ w.processors) (inside : p.0 < w.processors) where
+  module _ (looks : ℕ) (is : cs a.0 ≡ Some (record { state = Look looks; sections = []; work = None })) (l : ℕ) where
     abbrev looking : Context
     looking = record { state = Look looks; sections = []; work = None }
 
@@ -81,8 +78,10 @@ module _ (set : Setting) (e : ℕ) (u : Package) (cs : Contexts Context) (h : Is
     no_hand = subst (λ o. list_any (counts (space_at r.state o)) life.hand ≡ false) (sym lk.space)
         (hand_none (space_at r.state s) u.shared.works looking (is_gone (stage_of r s a life)) life.hand lk.hand (λ n. refl) (λ n. refl))
 
-    pub pop_keeps : AreReadyAlike s r u → runs_by r life ≡ None → KeepsLocks w r p life (Take s (processor l) None)
-    pop_keeps alike carries = let first = sought-is_first set e u cs h s r k alike w many p inside l found in record {
+    -- the list is the first open one from the processor's on
+    pub pop_keeps : sought u.shared.state.lists p.0 ≡ Some l → length u.shared.state.lists.lists ≡ w.processors → p.0 < w.processors
+        → AreReadyAlike s r u → runs_by r life ≡ None → KeepsLocks w r p life (Take s (processor l) None)
+    pop_keeps found many inside alike carries = let first = sought-is_first set e u cs h s r k alike w many p inside l found in record {
       space = sym lk.space;
       unlocked = first.opens.unlocked;
       locks = lk.locks;
@@ -118,22 +117,22 @@ module _ (set : Setting) (e : ℕ) (u : Package) (cs : Contexts Context) (h : Is
 
   -- FOR A PUSH
   module _ (t : Option ThreadNo) (one : ThreadNo) (is : cs a.0 ≡ Some (record { state = Work t; sections = []; work = Some one }))
-      (free : is_locked u.shared.state.lists p.0 ≡ false) where
+      (l : ProcNo) (free : is_locked u.shared.state.lists l.0 ≡ false) where
     abbrev working : Context
     working = record { state = Work t; sections = []; work = Some one }
 
     abbrev pushing : Frame
-    pushing = record { pc = 1; list = Some p; own = true; pushed = Some one; thread = t }
+    pushing = record { pc = 1; list = Some l; own = l.0 == p.0; pushed = Some one; thread = t }
 
     abbrev pushes : Context
     pushes = record { state = Code pushing; sections = []; work = (without_first u.shared.works one).name }
 
     abbrev takes : Package
     takes =
-        with_shared u (with_works (record u.shared { state = (taken u.shared.state (push_of p one t) p false).state }) (without_first u.shared.works one))
+        with_shared u (with_works (record u.shared { state = (taken u.shared.state (push_of p l one t) l false).state }) (without_first u.shared.works one))
 
     abbrev after : Readings
-    after = after_record w number p r (Take s p t)
+    after = after_record w number p r (Take s l t)
 
     lw : HasLife s u.shared (space_at r.state s) (stage_of r s a life) (view working) life
     lw = life-here s r u cs k a working life is there
@@ -151,14 +150,15 @@ module _ (set : Setting) (e : ℕ) (u : Package) (cs : Contexts Context) (h : Is
     beside_same : (n : ℕ) → beside takes.shared.works (view pushes) n ≡ beside u.shared.works (view working) n
     beside_same n = let same = step.threads n in omega arith
 
-    pub push_keeps : runs_by r life ≡ t → KeepsLocks w r p life (Take s p t)
-    push_keeps carries = record {
+    -- the list is the processor's own
+    pub push_keeps : l ≡ p → runs_by r life ≡ t → KeepsLocks w r p life (Take s l t)
+    push_keeps own carries = record {
       space = sym lw.space;
-      unlocked = λ locked. absurd (let yes = locked-kept set e u cs h s r k p locked in cc);
+      unlocked = λ locked. absurd (let yes = locked-kept set e u cs h s r k l locked in cc);
       locks = lw.locks;
       cont = lw.cont;
       thread = sym carries;
-      target = subst (λ b. TakesFor b w r p life p) (sym some_hand) refl;
+      target = subst (λ b. TakesFor b w r p life l) (sym some_hand) own;
     }
 
     pub push_held : IsHeld s r after u takes a working pushes
@@ -168,8 +168,8 @@ module _ (set : Setting) (e : ℕ) (u : Package) (cs : Contexts Context) (h : Is
       running = refl;
       was = life;
       old = there;
-      life = locks r p p t life;
-      lives = life-changed (locks r p p t) r p a life runs there;
+      life = locks r p l t life;
+      lives = life-changed (locks r p l t) r p a life runs there;
       stays = (refl, refl, refl);
       threads = refl;
       sync = refl;
@@ -177,9 +177,8 @@ module _ (set : Setting) (e : ℕ) (u : Package) (cs : Contexts Context) (h : Is
       works = λ m none some. step.others m none some;
       carries = refl;
       sections = λ n some. some;
-      locks = ap (λ ls. ls ++ lock_for r p p t life ∷ []) lw.locks
-          ∙ ap (λ b. record { list = p; thread = t; for_push = b; used = false; own = p.0 == p.0; inherited = false } ∷ []) some_hand
-          ∙ ap (λ b. record { list = p; thread = t; for_push = true; used = false; own = b; inherited = false } ∷ []) (eq-eqb p.0 p.0 refl);
+      locks = ap (λ ls. ls ++ lock_for r p l t life ∷ []) lw.locks
+          ∙ ap (λ b. record { list = l; thread = t; for_push = b; used = false; own = l.0 == p.0; inherited = false } ∷ []) some_hand;
       cont = lw.cont;
       hand = record {
         all = λ n some. lw.hand.all n (let same = beside_same n in omega arith);

@@ -1,106 +1,49 @@
--- A step in the code of the package: ready, run, free and back, each a whole event.
-use Rattle.std.proofs.Common.{◌≡◌, ℕ, ◌+◌, Bool, true, false, ◌||◌, ◌&&◌, List, [], ◌∷◌, map, Option, Some, None, is_some, is_none, slice_get, nat_le, refl, sym, ap, ◌∙◌, subst, inl, inr, arith}
-use Rattle.std.specs.Prelude.{nat_lt, min, length, ◌<◌}
+-- FastThreads' steps in its code are legal: ready, run, free and back.
+use Rattle.std.proofs.Common.{◌≡◌, ℕ, true, false, List, [], ◌∷◌, Option, Some, slice_get, refl, sym, ap, ◌∙◌, inl, inr}
+use Rattle.std.specs.Prelude.{length, ◌<◌}
 use Rattle.sa_base.specs.declared.context.Seen.{Seen}
 use Rattle.sa_base.specs.declared.limits.TheConstants.{PACKAGE_PAGE}
 use Rattle.sa_base.specs.declared.number.ActNo.{ActNo}
 use Rattle.sa_base.specs.declared.number.ProcNo.{ProcNo}
-use Rattle.sa_base.specs.declared.number.SpaceNo.{SpaceNo}
 use Rattle.sa_base.specs.declared.number.ThreadNo.{ThreadNo}
-use Rattle.sa_base.specs.declared.record.Record.{Record}
 use Rattle.sa_base.specs.declared.record.Record.TheVariants as records
-use Rattle.sa_lemmas.specs.Function.{put}
-use Rattle.sa_instr.specs.declared.limits.TheConstants.{MAX_PATIENCE}
 use Rattle.sa_spaces.specs.Workload.{WorkloadView}
-use Rattle.sa_lists.specs.ReadyView.{thread}
-use Rattle.sa_code.proofs.Cases.{micro-outcome}
-use Rattle.sa_code.specs.Micro.{Micro, micro, micro_at, stays, pushed, popped, freed, chosen, list_in, is_resident as is_page_resident}
+use Rattle.sa_code.specs.Micro.{micro, stays, pushed, popped, freed, takes_first, chosen, list_in, is_resident as is_page_resident}
 use Rattle.sa_code.specs.declared.code.Op.{Op}
 use Rattle.sa_code.specs.declared.code.Op.TheVariants as ops
 use Rattle.sa_code.specs.declared.state.Frame.{Frame}
 use Rattle.sa_code.specs.declared.state.MicroDone.TheVariants as micros
-use Rattle.sa_code.specs.declared.state.PackageState.{PackageState}
-use Rattle.sa_copies.proofs.Places.{next-push, next-pop, next-free}
+use Rattle.sa_copies.proofs.Places.{next-free}
 use Rattle.sa_copies.specs.Copies.{package_ops, copy_at}
 use Rattle.sa_copies.specs.Runs.{is_section_op}
-use Rattle.sa_fast.specs.declared.threads.Place.TheVariants as kept
 use Rattle.sa_abstract.specs.Calls.{Contexts}
 use Rattle.sa_abstract.specs.Setting.{Setting}
-use Rattle.sa_package_model.proofs.Able.{step_can}
-use Rattle.sa_package_model.proofs.Views.{settled_between, yields_between, section_fits, has_copy}
-use Rattle.sa_package_model.specs.Context.{at_copy, has_some, settled_to, has_bulk}
-use Rattle.sa_package_model.specs.Rules.{placed, pair, did, coded_by, with_shared, with_package, goes_on, owed, settled, put_last}
-use Rattle.sa_package_model.specs.Stands.{Fits as FitsOp, StandsAt}
+use Rattle.sa_package_model.proofs.Views.{has_copy}
 use Rattle.sa_package_model.specs.Step.{stepped}
 use Rattle.sa_package_model.specs.declared.context.Context.{Context}
 use Rattle.sa_package_model.specs.declared.context.State.TheVariants.{Code}
 use Rattle.sa_package_model.specs.declared.package.Package.{Package}
-use Rattle.sa_laws.specs.Event.{Event}
-use Rattle.sa_laws.specs.History.{is_inside, is_free, stepped as ends}
-use Rattle.sa_laws.specs.Life.{Life, some_lock}
-use Rattle.sa_laws.specs.Locks.{back_is_due}
-use Rattle.sa_laws.specs.Readings.{Readings, has_hand, demand_of, usable, many_taken, is_resident, carried_by as runs_by}
-use Rattle.sa_laws.specs.State.{runner_on, runner_of}
+use Rattle.sa_laws.specs.Life.{Life}
+use Rattle.sa_laws.specs.Readings.{Readings, is_resident}
 use Rattle.sa_user_laws.specs.Scene.{begun_at}
 use Rattle.sa_fits.proofs.EventEnds.{begun-holds}
-use Rattle.sa_fits.proofs.InCode.{push_at, pop_at, free_at}
-use Rattle.sa_fits.proofs.InsideMarks.{settled-copy}
-use Rattle.sa_fits.proofs.SettledMarks.{settled-marked}
-use Rattle.sa_fits.proofs.ThreadsBeside.{life-here}
 use Rattle.sa_fits.specs.Fits.{Holds}
-use Rattle.sa_fits.specs.Life.{lock_of, locks_from, IsMarked}
-use Rattle.sa_fits.specs.Stage.{is_gone}
-use Rattle.sa_fits.specs.View.{view, is_yield_op, is_lone}
-use Rattle.sa_fits_lists.proofs.Backs.{back-held}
-use Rattle.sa_fits_lists.proofs.Frees.{free-held, free-keeps}
-use Rattle.sa_fits_lists.proofs.Pops.{run-held, run-lists, run-needs, run-keeps, run-next}
-use Rattle.sa_fits_lists.proofs.Pushes.{ready-held, ready-lists, ready-needs, ready-keeps}
-use Rattle.sa_fits_steps.proofs.Events.{IsLegal, inside-locked}
 use Rattle.sa_fits_steps.proofs.Scenes.{IsScene, IsOwnMarked}
 use Rattle.sa_fits_steps.proofs.Scenes as scene
-use Rattle.sa_fits_steps.proofs.Turns.{IsBehind, turn-legal}
-
-pub and_none : (b : Bool) → (b && false) ≡ false
-and_none true = refl
-and_none false = refl
-
--- a life in a copy is in
-pub inside-copy : (w : WorkloadView) (before : Readings) (ev : Event) (last : Readings) (settled : Bool) (life : Life) → life.cont ≡ true
-    → is_inside w before ev last settled life ≡ true
-inside-copy w before ev last settled life cont =
-    ap (λ b. some_lock life.locks || b || has_hand last life || (settled && nat_lt (demand_of last life.space) (usable w last life.space))
-    || (settled && is_none (runs_by last life) && many_taken last life.space)) cont ∙ by (some_lock life.locks) where
-      by : (b : Bool) → (b || true || has_hand last life || (settled && nat_lt (demand_of last life.space) (usable w last life.space))
-          || (settled && is_none (runs_by last life) && many_taken last life.space)) ≡ true
-      by true = refl
-      by false = refl
-
--- in its section a context stays alone, and it has nothing to continue where it is in no copy
-lone_next : (f g : Frame) (fs : List Frame) → nat_le 8 g.pc ≡ nat_le 8 f.pc → is_lone (Code f) fs ≡ true → is_lone (Code g) fs ≡ true
-lone_next f g [] same lone = refl
-lone_next f g (x ∷ fs) same lone = same ∙ lone
-
-lone_bare : (f : Frame) (fs : List Frame) → nat_le 8 f.pc ≡ false → is_lone (Code f) fs ≡ true → has_some fs ≡ false
-lone_bare f [] none lone = refl
-lone_bare f (x ∷ fs) none lone = absurd (let no = sym lone ∙ none in cc)
-
-pushed_resident : (s : PackageState) (f : Frame) (l : ProcNo) (t : Option ThreadNo) (b : Bool) → (pushed s f b l t).done ≡ micros.Did → b ≡ true
-pushed_resident s f l t true e = refl
-pushed_resident s f l t false e = absurd cc
-
-popped_resident : (s : PackageState) (f : Frame) (l : ProcNo) (t : Option ℕ) (b : Bool) → (popped s f b l t).done ≡ micros.Did → b ≡ true
-popped_resident s f l t true e = refl
-popped_resident s f l t false e = absurd cc
+use Rattle.sa_fits_steps.proofs.Turns.{turn-legal}
+use Rattle.sa_fits_steps.proofs.Events.{IsLegal}
+use Rattle.sa_fits_steps.proofs.Scenes.{IsFastScene}
+use Rattle.sa_fits_steps.proofs.CodeMoves.{ready-move, run-move, free-copy-move, free-move, back-move, code-cases, push-resident, pop-resident, pop-fits}
+use Rattle.sa_fits_lists.proofs.Frees.{free-keeps}
+use Rattle.sa_fits_lists.proofs.Pops.{run-lists, run-keeps, run-next}
+use Rattle.sa_fits_lists.proofs.Pushes.{ready-lists, ready-keeps}
 
 module _ (set : Setting) (e : ℕ) (u : Package) (cs : Contexts Context) (w : WorkloadView) (r : Readings) (p : ProcNo) (a : ActNo) (life : Life)
     (seen : Seen)
     (f : Frame) (fs : List Frame) (wk : Option ThreadNo)
-    (i : IsScene set e u cs w r p a life (record { state = Code f; sections = fs; work = wk }) seen) where
+    (z : IsFastScene set e u cs w r p a life (record { state = Code f; sections = fs; work = wk }) seen) where
   abbrev c : Context
   c = record { state = Code f; sections = fs; work = wk }
-
-  abbrev s : SpaceNo
-  s = set.space
 
   abbrev r0 : Readings
   r0 = begun_at w seen.event p r
@@ -111,11 +54,11 @@ module _ (set : Setting) (e : ℕ) (u : Package) (cs : Contexts Context) (w : Wo
   abbrev Legal : Type 0
   Legal = IsLegal w set r p seen.event a cs (stepped u seen (record { state = Code f; sections = fs; work = wk }))
 
+  i : IsScene set e u cs w r p a life (record { state = Code f; sections = fs; work = wk }) seen
+  i = z.scene
+
   k0 : Holds set.space (begun_at w seen.event p r) u cs
   k0 = begun-holds set.space r u cs w (record { number = seen.event; proc = p; records = [] }) i.holds
-
-  mark : IsOwnMarked c life
-  mark = i.own
 
   known : set.space.0 < length r.state.spaces
   known = scene.known set e u cs w r p a life c seen i
@@ -123,299 +66,77 @@ module _ (set : Setting) (e : ℕ) (u : Package) (cs : Contexts Context) (w : Wo
   named : set.space.0 < length r.ready
   named = scene.named set e u cs w r p a life c seen i
 
-  space : u.shared.state.space ≡ set.space
-  space = scene.space set e u cs w r p a life c seen i
-
-  runner : runner_on r.state p ≡ runner_of set.space f.thread
-  runner = scene.runner set e u cs w r p a life c seen i
-
-  processors : u.processors ≡ w.processors
-  processors = scene.processors set e u cs w r p a life c seen i
-
-  op_is : slice_get u.shared.state.code f.pc ≡ slice_get package_ops f.pc
-  op_is = ap (λ ops. slice_get ops f.pc) i.stands.code
-
-  stands : StandsAt f (slice_get package_ops f.pc)
-  stands = (i.stands.contexts a.0 c i.on.mine).state
-
   section_of : (op : Op) → is_section_op (Some op) ≡ true → slice_get package_ops f.pc ≡ Some op → (k : ℕ) × (copy_at f.pc ≡ Some k)
   section_of op section is = has_copy f.pc (ap is_section_op is ∙ section)
-
-  fits : (k : ℕ) → copy_at f.pc ≡ Some k → FitsOp u.shared.state.lists f (slice_get package_ops f.pc)
-  fits k copy = section_fits c f k refl copy u.shared.state.lists (i.stands.contexts a.0 c i.on.mine)
-
-  not_yield : (op : Op) → slice_get package_ops f.pc ≡ Some op → is_yield_op (Some op) ≡ false → false ≡ back_is_due life
-  not_yield op is none = sym (mark.back ∙ ap is_yield_op is ∙ none)
 
   page : is_page_resident seen.pages PACKAGE_PAGE ≡ true → is_resident (begun_at w seen.event p r) set.space PACKAGE_PAGE ≡ true
   page there = ap (λ m. is_page_resident m PACKAGE_PAGE) (sym i.sees.pages) ∙ there
 
-  -- the marks of a context in a section
-  in-section : (x : Record) (g : Frame) (now : Life) (v : Package) (q : Readings) (ev : Event) (last : Readings) (k : ℕ) → copy_at g.pc ≡ Some k
-      → is_free x ≡ false → nat_le 8 g.pc ≡ nat_le 8 f.pc
-      → slice_get package_ops g.pc ≡ Some ops.Free → (ends is_inside w r ev last x now).scans ≡ 0
-      → IsBehind set seen.event v (put cs a.0 (Some (record { state = Code g; sections = fs; work = wk }))) a (record { state = Code g; sections = fs; work = wk }) now seen q last
-      → IsMarked (view (record { state = Code g; sections = fs; work = wk })) (ends is_inside w r ev last x now)
-  in-section x g now v q ev last k copy no_free same op scans b =
-      let new : Context = record { state = Code g; sections = fs; work = wk } in
-      let l = life-here set.space last v (put cs a.0 (Some new)) b.holds a new now b.mine b.there in
-      record {
-        inside = inside-locked w r ev last _ now (lock_of (nat_le 8 g.pc) (record g { pc = k })) (map (lock_of true) fs) (l.locks ∙ ap (λ o. locks_from (nat_le 8 g.pc) (at_copy g o) fs) copy);
-        back = ap (λ b. now.cont && b) no_free ∙ and_none now.cont ∙ sym (ap is_yield_op op);
-        scans = ap (λ m. min m MAX_PATIENCE) scans;
-        left = refl;
-        lone = lone_next f g fs same mark.lone;
-      }
-
-  -- and at its copy's end
-  at-end : (l : ProcNo) (t : Option ThreadNo) (g : Frame) (now : Life) (v : Package) (q : Readings) (ev : Event) (last : Readings)
-      → nat_le 8 g.pc ≡ true → nat_le 8 g.pc ≡ nat_le 8 f.pc
-      → slice_get package_ops g.pc ≡ Some ops.Yield
-      → IsBehind set seen.event v (put cs a.0 (Some (record { state = Code g; sections = fs; work = wk }))) a (record { state = Code g; sections = fs; work = wk }) now seen q last
-      → IsMarked (view (record { state = Code g; sections = fs; work = wk })) (ends is_inside w r ev last (records.Free set.space l t) now)
-  at-end l t g now v q ev last inside same op b =
-      let new : Context = record { state = Code g; sections = fs; work = wk } in
-      let has = life-here set.space last v (put cs a.0 (Some new)) b.holds a new now b.mine b.there in
-      record {
-        inside = inside-copy w r ev last true now (has.cont ∙ inside);
-        back = ap (λ b. b && true) (has.cont ∙ inside) ∙ sym (ap is_yield_op op);
-        scans = refl;
-        left = refl;
-        lone = lone_next f g fs same mark.lone;
-      }
-
-  -- A PUSH
   ready-legal : (t : ThreadNo) → slice_get package_ops f.pc ≡ Some ops.Push → f.pushed ≡ Some t
       → micro u.shared.state f seen.pages ≡ pushed u.shared.state f true (list_in f) (Some t) → Legal
   ready-legal t op pushes is =
       let copy = section_of ops.Push refl op in
-      let g : Frame = record f { pc = f.pc + 1; pushed = None } in
-      let m = pushed u.shared.state f true (list_in f) (Some t) in
-      let x : Record = records.Ready set.space t in
-      let next : slice_get u.shared.state.code (f.pc + 1) ≡ Some ops.Free = ap (λ ops. slice_get ops (f.pc + 1)) i.stands.code ∙ next-push f.pc op in
-      let resident : is_page_resident seen.pages PACKAGE_PAGE ≡ true =
-      pushed_resident u.shared.state f (list_in f) f.pushed (is_page_resident seen.pages PACKAGE_PAGE)
-      (ap (λ o. (micro_at u.shared.state f (is_page_resident seen.pages PACKAGE_PAGE) (list_in f) o).done) (sym (op_is ∙ op)) ∙ ap (λ (y : Micro). y.done) is) in
-      let v : Package = with_shared u (placed (record u.shared { state = m.state }) (Some t) kept.Ready) in
-      let new : Context = record { state = Code g; sections = fs; work = wk } in
-      let owner = i.on.owner in
-      turn-legal set e u cs w r p a life c seen i x [] v new (record {
-        step =
-            ap (λ (y : Micro). coded_by u seen c f (slice_get u.shared.state.code f.pc) y y.done) is
-            ∙ ap (λ o. coded_by u seen c f o m micros.Did) (op_is ∙ op)
-            ∙ ap (λ o. let z = with_shared u (placed (record u.shared { state = m.state }) o kept.Ready) in did (pair z (goes_on z seen c g (slice_get u.shared.state.code (f.pc + 1)))) (records.Ready u.shared.state.space t ∷ [])) pushes
-            ∙ ap (λ o. did (pair v (goes_on v seen c g o)) (records.Ready u.shared.state.space t ∷ [])) next
-            ∙ ap (λ o. did (pair v new) (records.Ready o t ∷ [])) space;
-        first = refl;
-        no_up = refl;
-        needs = (ready-needs set e u cs i.stands set.space r0 k0 a f fs wk i.on.mine w n p life i.on.runs i.on.is known named copy.0 copy.1 op t pushes owner, tt);
+      let resident = push-resident set e u cs w r p a life seen f fs wk i t op is in
+      turn-legal set e u cs w r p a life c seen z (ready-move set e u cs w r p a life seen f fs wk i t op pushes is) (record {
         table = refl;
         keeps = ready-keeps set e u cs i.stands set.space r0 k0 a f fs wk i.on.mine w n p life i.on.runs i.on.is known named copy.0 copy.1 op t pushes (page resident);
-        back = not_yield ops.Push op refl;
         alone = refl;
         free = record { free = λ bound. absurd cc };
         next = λ behind. tt;
-        held = ready-held set e u cs i.stands set.space r0 k0 a f fs wk i.on.mine w n p life i.on.runs i.on.is known named copy.0 copy.1 op t pushes;
-        lists = ready-lists set e u cs i.stands set.space r0 k0 a f fs wk i.on.mine w n p life i.on.runs i.on.is known named copy.0 copy.1 op t pushes i.lists;
-        demands = refl;
-        taken = refl;
-        marks = λ ev last b.
-            let copied = has_copy (f.pc + 1) (ap is_section_op (next-push f.pc op)) in
-            in-section x g _ v _ ev last copied.0 copied.1 refl (push_at (λ i j. nat_le 8 (i + 1) ≡ nat_le 8 i) refl refl f.pc copy.0 copy.1 op) (next-push f.pc op) refl b;
+        lists = ready-lists set e u cs i.stands set.space r0 k0 a f fs wk i.on.mine w n p life i.on.runs i.on.is known named copy.0 copy.1 op t pushes z.lists;
       })
 
-  -- A POP
-  run-legal : (t : ℕ) → slice_get package_ops f.pc ≡ Some ops.Pop → chosen u.shared.state.lists f.own (list_in f).0 ≡ Some t
+  run-legal : (t : ℕ) → slice_get package_ops f.pc ≡ Some ops.Pop → chosen u.shared.state.lists (takes_first u.shared.state.lists f.own) (list_in f).0 ≡ Some t
       → micro u.shared.state f seen.pages ≡ popped u.shared.state f true (list_in f) (Some t) → Legal
   run-legal t op takes is =
       let copy = section_of ops.Pop refl op in
-      let own : FitsOp u.shared.state.lists f (Some ops.Pop) = subst (FitsOp u.shared.state.lists f) op (fits copy.0 copy.1) in
-      let g : Frame = record f { pc = f.pc + 1; thread = Some (thread t) } in
-      let m = popped u.shared.state f true (list_in f) (Some t) in
-      let x : Record = records.Run set.space (thread t) in
-      let next : slice_get u.shared.state.code (f.pc + 1) ≡ Some ops.Free = ap (λ ops. slice_get ops (f.pc + 1)) i.stands.code ∙ next-pop f.pc op in
-      let resident : is_page_resident seen.pages PACKAGE_PAGE ≡ true =
-      popped_resident u.shared.state f (list_in f) (chosen u.shared.state.lists f.own (list_in f).0) (is_page_resident seen.pages PACKAGE_PAGE)
-      (ap (λ o. (micro_at u.shared.state f (is_page_resident seen.pages PACKAGE_PAGE) (list_in f) o).done) (sym (op_is ∙ op)) ∙ ap (λ (y : Micro). y.done) is) in
-      let v : Package = with_shared u (placed (record u.shared { state = m.state }) (Some (thread t)) kept.Running) in
-      let new : Context = record { state = Code g; sections = fs; work = wk } in
-      let nobody : runner_on r.state p ≡ None = runner ∙ ap (runner_of set.space) own.2 in
-      turn-legal set e u cs w r p a life c seen i x [] v new (record {
-        step =
-            ap (λ (y : Micro). coded_by u seen c f (slice_get u.shared.state.code f.pc) y y.done) is
-            ∙ ap (λ o. coded_by u seen c f o m micros.Did) (op_is ∙ op)
-            ∙ ap (λ o. did (pair v (goes_on v seen c g o)) (records.Run u.shared.state.space (thread t) ∷ [])) next
-            ∙ ap (λ o. did (pair v new) (records.Run o (thread t) ∷ [])) space;
-        first = refl;
-        no_up = refl;
-        needs = (run-needs set e u cs i.stands set.space r0 k0 a f fs wk i.on.mine w n p life i.on.runs i.on.is i.on.space known named copy.0 copy.1 op own.2 own.1 t takes i.on.owner nobody, tt);
+      let own = pop-fits set e u cs w r p a life seen f fs wk i op in
+      let resident = pop-resident set e u cs w r p a life seen f fs wk i t op is in
+      turn-legal set e u cs w r p a life c seen z (run-move set e u cs w r p a life seen f fs wk i t op takes is) (record {
         table = refl;
         keeps = run-keeps set e u cs i.stands set.space r0 k0 a f fs wk i.on.mine w n p life i.on.runs i.on.is i.on.space known named copy.0 copy.1 op own.2 own.1 t takes (page resident);
-        back = not_yield ops.Pop op refl;
         alone = refl;
         free = record { free = λ bound. absurd cc };
-        next = λ behind. run-next set e u cs i.stands set.space r0 k0 a f fs wk i.on.mine w n p life i.on.runs i.on.is i.on.space known named copy.0 copy.1 op own.2 own.1 t takes i.lists;
-        held = run-held set e u cs i.stands set.space r0 k0 a f fs wk i.on.mine w n p life i.on.runs i.on.is i.on.space known named copy.0 copy.1 op own.2 own.1 t takes;
-        lists = run-lists set e u cs i.stands set.space r0 k0 a f fs wk i.on.mine w n p life i.on.runs i.on.is i.on.space known named copy.0 copy.1 op own.2 own.1 t takes i.lists;
-        demands = refl;
-        taken = refl;
-        marks = λ ev last b.
-            let copied = has_copy (f.pc + 1) (ap is_section_op (next-pop f.pc op)) in
-            in-section x g _ v _ ev last copied.0 copied.1 refl (pop_at (λ i j. nat_le 8 (i + 1) ≡ nat_le 8 i) refl refl f.pc copy.0 copy.1 op) (next-pop f.pc op) refl b;
+        next = λ behind. run-next set e u cs i.stands set.space r0 k0 a f fs wk i.on.mine w n p life i.on.runs i.on.is i.on.space known named copy.0 copy.1 op own.2 own.1 t takes z.lists;
+        lists = run-lists set e u cs i.stands set.space r0 k0 a f fs wk i.on.mine w n p life i.on.runs i.on.is i.on.space known named copy.0 copy.1 op own.2 own.1 t takes z.lists;
       })
-
-  -- A FREE, behind which the context is at its copy's end, or settles
-  free_step : slice_get package_ops f.pc ≡ Some ops.Free → micro u.shared.state f seen.pages ≡ freed u.shared.state f (list_in f) → (o : Option Op)
-      → slice_get package_ops (f.pc + 1) ≡ o
-      → let v = with_package u (freed u.shared.state f (list_in f)).state in
-      stepped u seen c ≡ did (pair v (goes_on v seen c (record f { pc = f.pc + 1 }) o)) (records.Free set.space (list_in f) f.thread ∷ [])
-  free_step op is o at =
-      let v = with_package u (freed u.shared.state f (list_in f)).state in
-      let g : Frame = record f { pc = f.pc + 1 } in
-      let m = freed u.shared.state f (list_in f) in
-      ap (λ (y : Micro). coded_by u seen c f (slice_get u.shared.state.code f.pc) y y.done) is
-      ∙ ap (λ o. coded_by u seen c f o m micros.Did) (op_is ∙ op)
-      ∙ ap (λ o. did (pair v (goes_on v seen c g o)) (records.Free u.shared.state.space (list_in f) f.thread ∷ [])) (ap (λ ops. slice_get ops (f.pc + 1)) i.stands.code ∙ at)
-      ∙ ap (λ q. did (pair v (goes_on v seen c g o)) (records.Free q (list_in f) f.thread ∷ [])) space
 
   free-legal : slice_get package_ops f.pc ≡ Some ops.Free → micro u.shared.state f seen.pages ≡ freed u.shared.state f (list_in f) → Legal
   free-legal op is =
       let copy = section_of ops.Free refl op in
-      let own : FitsOp u.shared.state.lists f (Some ops.Free) = subst (FitsOp u.shared.state.lists f) op (fits copy.0 copy.1) in
-      let g : Frame = record f { pc = f.pc + 1 } in
-      let x : Record = records.Free set.space (list_in f) f.thread in
-      let v : Package = with_package u (freed u.shared.state f (list_in f)).state in
+      let keeps = free-keeps set e u cs i.stands set.space r0 k0 a f fs wk i.on.mine w n p life i.on.runs i.on.is copy.0 copy.1 op in
       elim (next-free f.pc op) [
-        | inr yields ↦
-            let new : Context = record { state = Code g; sections = fs; work = wk } in
-            let between = yields_between g yields own.1 in
-            let copies : nat_le 8 (f.pc + 1) ≡ nat_le 8 f.pc =
-            free_at (λ i j. slice_get package_ops (i + 1) ≡ Some ops.Yield → nat_le 8 (i + 1) ≡ nat_le 8 i) (λ e. absurd cc) (λ e. absurd cc) (λ e. refl) (λ e. refl) f.pc copy.0 copy.1 op yields in
-            let inside : nat_le 8 (f.pc + 1) ≡ true =
-            free_at (λ i j. slice_get package_ops (i + 1) ≡ Some ops.Yield → nat_le 8 (i + 1) ≡ true) (λ e. absurd cc) (λ e. absurd cc) (λ e. refl) (λ e. refl) f.pc copy.0 copy.1 op yields in
-            turn-legal set e u cs w r p a life c seen i x [] v new (record {
-              step = free_step op is (Some ops.Yield) yields;
-              first = refl;
-              no_up = refl;
-              needs = (tt, tt);
-              table = refl;
-              keeps = free-keeps set e u cs i.stands set.space r0 k0 a f fs wk i.on.mine w n p life i.on.runs i.on.is copy.0 copy.1 op own.1 (Code g) between.section between.carries copies;
-              back = not_yield ops.Free op refl;
-              alone = refl;
-              free = record { free = λ bound. absurd cc };
-              next = λ behind. tt;
-              held = free-held set e u cs i.stands set.space r0 k0 a f fs wk i.on.mine w n p life i.on.runs i.on.is copy.0 copy.1 op own.1 (Code g) between.section between.carries copies;
-              lists = record { many = i.lists.many; ranks = i.lists.ranks; numbers = i.lists.numbers };
-              demands = refl;
-              taken = refl;
-              marks = λ ev last b. at-end (list_in f) f.thread g _ v _ ev last inside copies yields b;
-            })
-        | inl leaves ↦
-            let t = f.thread in
-            let left = has_some fs || is_some wk in
-            let state = settled_to t left (is_some (owed v seen)) (has_bulk seen) in
-            let new : Context = record { state = state; sections = fs; work = wk } in
-            let between = settled_between t left (is_some (owed v seen)) (has_bulk seen) in
-            let outside : nat_le 8 f.pc ≡ false =
-            free_at (λ i j. slice_get package_ops (i + 1) ≡ Some ops.Leave → nat_le 8 i ≡ false) (λ e. refl) (λ e. refl) (λ e. absurd cc) (λ e. absurd cc) f.pc copy.0 copy.1 op leaves in
-            let copies = settled-copy t left (is_some (owed v seen)) (has_bulk seen) ∙ sym outside in
-            turn-legal set e u cs w r p a life c seen i x [] v new (record {
-              step = free_step op is (Some ops.Leave) leaves;
-              first = refl;
-              no_up = refl;
-              needs = (tt, tt);
-              table = refl;
-              keeps = free-keeps set e u cs i.stands set.space r0 k0 a f fs wk i.on.mine w n p life i.on.runs i.on.is copy.0 copy.1 op own.1 state between.section between.carries copies;
-              back = not_yield ops.Free op refl;
-              alone = refl;
-              free = record { free = λ bound. absurd cc };
-              next = λ behind. tt;
-              held = free-held set e u cs i.stands set.space r0 k0 a f fs wk i.on.mine w n p life i.on.runs i.on.is copy.0 copy.1 op own.1 state between.section between.carries copies;
-              lists = record { many = i.lists.many; ranks = i.lists.ranks; numbers = i.lists.numbers };
-              demands = refl;
-              taken = refl;
-              marks = λ ev last b. settled-marked set seen.event v (put cs a.0 (Some new)) b.stands set.space last b.holds a t seen fs wk _ b.there (ap is_gone b.stage) w r ev x
-                  b.mine b.demand b.taken processors (b.carries ∙ between.carries) refl refl (λ some. absurd (let none = lone_bare f fs outside mark.lone in cc));
-            })
+        | inr yields ↦ turn-legal set e u cs w r p a life c seen z (free-copy-move set e u cs w r p a life seen f fs wk i op is yields) (record {
+          table = refl;
+          keeps = keeps;
+          alone = refl;
+          free = record { free = λ bound. absurd cc };
+          next = λ behind. tt;
+          lists = record { many = z.lists.many; ranks = z.lists.ranks; numbers = z.lists.numbers };
+        })
+        | inl leaves ↦ turn-legal set e u cs w r p a life c seen z (free-move set e u cs w r p a life seen f fs wk i op is leaves) (record {
+          table = refl;
+          keeps = keeps;
+          alone = refl;
+          free = record { free = λ bound. absurd cc };
+          next = λ behind. tt;
+          lists = record { many = z.lists.many; ranks = z.lists.ranks; numbers = z.lists.numbers };
+        })
       ]
 
-  -- A COPY GIVES CONTROL BACK
   back-legal : slice_get package_ops f.pc ≡ Some ops.Yield
       → micro u.shared.state f seen.pages ≡ stays u.shared.state f micros.Yielded (records.Back u.shared.state.space f.thread ∷ []) → Legal
-  back-legal op is =
-      let none : f.pushed ≡ None = subst (StandsAt f) op stands in
-      let at_end = yields_between f op none in
-      let x : Record = records.Back set.space f.thread in
-      let v : Package = (put_last u c f.thread).user in
-      let wn : Option ThreadNo = (put_last u c f.thread).ctx.work in
-      let left = has_some fs || is_some wn in
-      let state = settled_to None left (is_some (owed v seen)) (has_bulk seen) in
-      let new : Context = record { state = state; sections = fs; work = wn } in
-      let between = settled_between None left (is_some (owed v seen)) (has_bulk seen) in
-      let no_copy = settled-copy None left (is_some (owed v seen)) (has_bulk seen) in
-      turn-legal set e u cs w r p a life c seen i x [] v new (record {
-        step =
-            ap (λ (y : Micro). coded_by u seen c f (slice_get u.shared.state.code f.pc) y y.done) is
-            ∙ ap (λ q. did (pair v new) (records.Back q f.thread ∷ [])) space;
-        first = refl;
-        no_up = refl;
-        needs = ((i.on.owner, runner), tt);
-        table = refl;
-        keeps = sym i.on.space;
-        back = sym (mark.back ∙ ap is_yield_op op);
-        alone = refl;
-        free = record { free = λ bound. absurd cc };
-        next = λ behind. tt;
-        held = back-held set e u cs i.stands set.space r0 k0 a f fs wk i.on.mine w n p life i.on.runs i.on.is i.on.space known at_end.section state between.section between.carries no_copy f.thread refl;
-        lists = record { many = i.lists.many; ranks = i.lists.ranks; numbers = i.lists.numbers };
-        demands = refl;
-        taken = refl;
-        marks = λ ev last b. settled-marked set seen.event v (put cs a.0 (Some new)) b.stands set.space last b.holds a None seen fs wn _ b.there (ap is_gone b.stage) w r ev x
-            b.mine b.demand b.taken processors (b.carries ∙ between.carries) refl refl (λ some. refl);
-      })
-
-  -- ALL OF THEM, but a fault
-  not_at : (op : Op) → (StandsAt f (Some op) → ⊥) → slice_get u.shared.state.code f.pc ≡ Some op → ⊥
-  not_at op never is_op = never (subst (StandsAt f) (sym op_is ∙ is_op) stands)
-
-  locked_not : (o : Option Op) → StandsAt f o
-      → micro_at u.shared.state f (is_page_resident seen.pages PACKAGE_PAGE) (list_in f) o ≡ stays u.shared.state f micros.Spun
-      (records.Spin (list_in f) ∷ [])
-      → ⊥
-  locked_not None at is = at
-  locked_not (Some ops.TakePush) at is = at
-  locked_not (Some ops.Push) at is = pushed_not (is_page_resident seen.pages PACKAGE_PAGE) f.pushed is where
-    pushed_not : (b : Bool) (o : Option ThreadNo)
-        → pushed u.shared.state f b (list_in f) o ≡ stays u.shared.state f micros.Spun (records.Spin (list_in f) ∷ []) → ⊥
-    pushed_not false o is = let no_such = ap (λ (y : Micro). y.done) is in cc
-    pushed_not true None is = let no_such = ap (λ (y : Micro). y.done) is in cc
-    pushed_not true (Some t) is = let no_such = ap (λ (y : Micro). y.done) is in cc
-  locked_not (Some ops.TakePop) at is = at
-  locked_not (Some ops.Pop) at is = popped_not (is_page_resident seen.pages PACKAGE_PAGE) (chosen u.shared.state.lists f.own (list_in f).0) is where
-    popped_not : (b : Bool) (o : Option ℕ)
-        → popped u.shared.state f b (list_in f) o ≡ stays u.shared.state f micros.Spun (records.Spin (list_in f) ∷ []) → ⊥
-    popped_not false o is = let no_such = ap (λ (y : Micro). y.done) is in cc
-    popped_not true None is = let no_such = ap (λ (y : Micro). y.done) is in cc
-    popped_not true (Some t) is = let no_such = ap (λ (y : Micro). y.done) is in cc
-  locked_not (Some ops.Free) at is = let no_such = ap (λ (y : Micro). y.done) is in cc
-  locked_not (Some ops.Leave) at is = at
-  locked_not (Some ops.Yield) at is = let no_such = ap (λ (y : Micro). y.done) is in cc
+  back-legal op is = turn-legal set e u cs w r p a life c seen z (back-move set e u cs w r p a life seen f fs wk i op is) (record {
+    table = refl;
+    keeps = sym i.on.space;
+    alone = refl;
+    free = record { free = λ bound. absurd cc };
+    next = λ behind. tt;
+    lists = record { many = z.lists.many; ranks = z.lists.ranks; numbers = z.lists.numbers };
+  })
 
   pub code-legal :
       (is_page_resident seen.pages PACKAGE_PAGE ≡ false → micro u.shared.state f seen.pages ≡ stays u.shared.state f micros.Faulted [] → Legal)
       → Legal
-  code-legal faults = micro-outcome (λ m. micro u.shared.state f seen.pages ≡ m → Legal) u.shared.state f seen.pages
-      (step_can set e u cs i.stands a.0 c i.on.mine seen.event i.later i.within seen sees_proc).acts.does (record {
-        spun = λ list held is. absurd (locked_not (slice_get u.shared.state.code f.pc) (subst (StandsAt f) (sym op_is) stands) is);
-        took_to_push = λ op list push free is. absurd (not_at ops.TakePush (λ x. x) op);
-        took_to_pop = λ op list free is. absurd (not_at ops.TakePop (λ x. x) op);
-        faulted = λ change absent is. faults absent is;
-        did_push = λ t op change pushes push is. ready-legal t (sym op_is ∙ op) pushes is;
-        did_pop = λ t op change pop takes is. run-legal t (sym op_is ∙ op) takes is;
-        did_free = λ op change is. free-legal (sym op_is ∙ op) is;
-        left = λ op is. absurd (not_at ops.Leave (λ x. x) op);
-        yielded = λ op is. back-legal (sym op_is ∙ op) is;
-      }) refl where
-        sees_proc : seen.proc.0 < set.processors
-        sees_proc = let same = ap (λ (x : ProcNo). x.0) i.sees.proc in let less = scene.inside set e u cs w r p a life c seen i in
-            let procs_are = i.of.processors in omega arith
+  code-legal faults =
+      code-cases set e u cs w r p a life seen f fs wk i Legal (record { faults = faults; readies = ready-legal; runs = run-legal; frees = free-legal; gives_back = back-legal })

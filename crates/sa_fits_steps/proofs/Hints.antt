@@ -6,7 +6,6 @@ use Rattle.std.proofs.lemmas.Bool.Decides.{nat_tests}
 use Rattle.std.proofs.lemmas.Option.{same_Some}
 use Rattle.sa_base.specs.declared.context.Seen.{Seen}
 use Rattle.sa_base.specs.declared.number.ActNo.{ActNo}
-use Rattle.sa_base.specs.declared.number.ProcNo.{ProcNo}
 use Rattle.sa_base.specs.declared.number.SpaceNo.{SpaceNo}
 use Rattle.sa_instr.specs.declared.limits.TheConstants.{MAX_PATIENCE}
 use Rattle.sa_spaces.specs.Workload.{WorkloadView}
@@ -84,12 +83,11 @@ module _ (set : Setting) (e : ℕ) (u : Package) (cs : Contexts Context) (h : Is
         ]
 
   -- A LOOK that finds nothing
-  module _ (p : ProcNo) (looks : ℕ) (at : state ≡ Look looks) (none : sought u.shared.state.lists p.0 ≡ None)
-      (many : length u.shared.state.lists.lists ≡ w.processors) (inside : p.0 < w.processors)
+  module _ (q : ℕ) (looks : ℕ) (at : state ≡ Look looks) (none : sought u.shared.state.lists q ≡ None) (inside : q < length u.shared.state.lists.lists)
       (alike : AreReadyAlike s r u) (carries : runs_by r life ≡ None) (mark : IsOwnMarked c life) (def : space_def w s ≡ u.def)
       (patient : u.def.patience ≤ MAX_PATIENCE) where
     finds : FindsNone r life
-    finds = record { carries = carries; none = subst (NoneIsOpen r) (sym l.space) (sought-none_opens set e u cs h s r k alike w many p inside none) }
+    finds = record { carries = carries; none = subst (NoneIsOpen r) (sym l.space) (sought-none_opens set e u cs h s r k alike q inside none) }
 
     scans_are : min life.scans MAX_PATIENCE ≡ looks
     scans_are = mark.scans ∙ ap looks_of at

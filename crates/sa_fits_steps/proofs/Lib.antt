@@ -1,9 +1,14 @@
-pub mod Hints
 pub mod Events
 pub mod Scenes
+pub mod Moves
 pub mod Turns
+pub mod CodeMoves
 pub mod CodeSteps
+pub mod WorkMoves
 pub mod WorkSteps
 pub mod Asks
+pub mod Hints
+pub mod LookMoves
 pub mod LookSteps
+pub mod GivingMoves
 pub mod GivingSteps

@@ -12,11 +12,13 @@ use Rattle.sa_base.specs.declared.number.SpaceNo.{SpaceNo}
 use Rattle.sa_base.specs.declared.number.ThreadNo.{ThreadNo}
 use Rattle.sa_instr.specs.declared.limits.TheConstants.{MAX_PATIENCE}
 use Rattle.sa_spaces.specs.Workload.{WorkloadView}
+use Rattle.sa_lists.proofs.Changes.{home-inside}
 use Rattle.sa_abstract.specs.Calls.{Contexts}
 use Rattle.sa_abstract.specs.Keeps.{IsStepped}
 use Rattle.sa_abstract.specs.Setting.{Setting}
 use Rattle.sa_package_model.proofs.StepRule.{steps_well}
 use Rattle.sa_package_model.specs.Context.{carried_by, stands_inside, is_left}
+use Rattle.sa_package_model.specs.Rules.{own_list}
 use Rattle.sa_package_model.specs.Stands.{IsStanding}
 use Rattle.sa_package_model.specs.Step.{stepped}
 use Rattle.sa_package_model.specs.declared.context.Context.{Context}
@@ -29,6 +31,7 @@ use Rattle.sa_laws.specs.State.{Runner, space_at, space_def, no_space, runner_on
 use Rattle.sa_user_laws.proofs.Runners.{runner-behind}
 use Rattle.sa_user_laws.specs.Moments.{IsMoment, AreSized, Sees}
 use Rattle.sa_user_laws.specs.Scene.{IsOfSpace, IsOn, begun_at}
+use Rattle.sa_fits.proofs.ReadyOrders.{own-list-is}
 use Rattle.sa_fits.proofs.Runners.{alone-runs}
 use Rattle.sa_fits.specs.Fits.{Holds, FitsLists, OthersRest}
 use Rattle.sa_fits.specs.View.{at_yield, looks_of, left_at, is_lone}
@@ -40,17 +43,14 @@ pub record IsOwnMarked (c : Context) (life : Life) : Type 0 where
   pub left : is_left c ≡ left_at c.state (is_left c)
   pub lone : is_lone c.state c.sections ≡ true
 
+-- What is known before a step, whichever rules its user level keeps.
 pub record IsScene (set : Setting) (e : ℕ) (u : Package) (cs : Contexts Context) (w : WorkloadView) (r : Readings) (p : ProcNo) (a : ActNo) (life : Life) (c : Context) (seen : Seen) : Type 0 where
   pub of : IsOfSpace w set
   pub moment : IsMoment r
   pub sizes : AreSized w r
   pub stands : IsStanding set e u cs
   pub holds : Holds set.space r u cs
-  pub lists : FitsLists u (ready_of r set.space)
-  pub others : OthersRest set.space r a cs
   pub own : IsOwnMarked c life
-  -- where it is not inside the package it is out, or owes nothing
-  pub free : stands_inside c.state ≡ false → (life.inside ≡ false) ⊎ OwesNothing w r life
   pub on : IsOn set.space r p a life cs c
   pub runner : runner_on r.state p ≡ runner_of set.space (carried_by c.state)
   pub sees : Sees set.space (begun_at w seen.event p r) p seen.event seen
@@ -58,6 +58,14 @@ pub record IsScene (set : Setting) (e : ℕ) (u : Package) (cs : Contexts Contex
   pub given : (b : ActNo) → Contains (taken_of r set.space) b → cs b.0 ≡ None
   pub later : e < seen.event
   pub within : seen.event ≤ MAX_EVENTS
+
+-- What FastThreads knows beside it: its ready lists, and that other lives are as between events.
+pub record IsFastScene (set : Setting) (e : ℕ) (u : Package) (cs : Contexts Context) (w : WorkloadView) (r : Readings) (p : ProcNo) (a : ActNo) (life : Life) (c : Context) (seen : Seen) : Type 0 where
+  pub scene : IsScene set e u cs w r p a life c seen
+  pub lists : FitsLists u (ready_of r set.space)
+  pub others : OthersRest set.space r a cs
+  -- where it is not inside the package it is out, or owes nothing
+  pub free : stands_inside c.state ≡ false → (life.inside ≡ false) ⊎ OwesNothing w r life
 
 -- where something is read, there is an entry
 pub read_below : {A : Type 0} (xs : List A) (i : ℕ) (x : A) → slice_get xs i ≡ Some x → i < length xs
@@ -115,9 +123,6 @@ module _ (set : Setting) (e : ℕ) (u : Package) (cs : Contexts Context) (w : Wo
   pub processors : u.processors ≡ w.processors
   processors = i.stands.made.processors ∙ i.of.processors
 
-  pub many : length u.shared.state.lists.lists ≡ w.processors
-  many = i.lists.many ∙ processors
-
   pub def : space_def w set.space ≡ u.def
   def = read_or w.spaces set.space.0 set.def no_space i.of.def ∙ sym i.stands.made.def
 
@@ -133,3 +138,23 @@ module _ (set : Setting) (e : ℕ) (u : Package) (cs : Contexts Context) (w : Wo
 
   pub carries : runs_by r life ≡ carried_by c.state
   carries = runs-there set e u cs i.stands r r i.moment i.holds p a c life i.on.owner i.on.runs i.on.is i.on.space i.on.mine (λ z ne. refl)
+
+  -- the processor is one of the package's
+  pub own_proc : p.0 < u.processors
+  own_proc = let less = inside in let same = processors in omega arith
+
+  -- the list that counts as its own is one of the package's
+  pub list-inside : (own_list u seen.proc).0 < length u.shared.state.lists.lists
+  list-inside = home-inside u.shared.state.lists u.processors seen.proc.0 i.stands.parts.lists
+      (let same = ap (λ (x : ProcNo). x.0) i.sees.proc in let less = own_proc in omega arith)
+
+-- FastThreads has a list for each processor
+pub lists-many : (set : Setting) (e : ℕ) (u : Package) (cs : Contexts Context) (w : WorkloadView) (r : Readings) (p : ProcNo) (a : ActNo) (life : Life)
+    (c : Context) (seen : Seen) → IsFastScene set e u cs w r p a life c seen → length u.shared.state.lists.lists ≡ w.processors
+lists-many set e u cs w r p a life c seen i = i.lists.many ∙ processors set e u cs w r p a life c seen i.scene
+
+-- and each processor's own list is that of its number
+pub list-own : (set : Setting) (e : ℕ) (u : Package) (cs : Contexts Context) (w : WorkloadView) (r : Readings) (p : ProcNo) (a : ActNo) (life : Life)
+    (c : Context) (seen : Seen) → IsFastScene set e u cs w r p a life c seen → own_list u seen.proc ≡ p
+list-own set e u cs w r p a life c seen i =
+    ap (own_list u) i.scene.sees.proc ∙ own-list-is u (ready_of r set.space) i.lists p (own_proc set e u cs w r p a life c seen i.scene)

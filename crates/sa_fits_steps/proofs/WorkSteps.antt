@@ -1,62 +1,35 @@
--- A settled context with something left: it continues a section, takes its list for a push, or spins.
-use Rattle.std.proofs.Common.{◌≡◌, ℕ, Bool, true, false, ◌||◌, ◌&&◌, List, [], ◌∷◌, Option, Some, None, is_none, slice_get, nat_le, refl, sym, ap, ◌∙◌, arith}
-use Rattle.std.specs.Prelude.{nat_lt, length, not}
-use Rattle.std.proofs.lemmas.Option.{same_Some}
+-- FastThreads' steps with something left are legal: it continues a section, takes its list for a push, or spins.
+use Rattle.std.proofs.Common.{◌≡◌, ℕ, Bool, true, false, List, [], ◌∷◌, Option, Some, None, refl, ap}
+use Rattle.std.specs.Prelude.{not}
 use Rattle.sa_base.specs.declared.context.Seen.{Seen}
-use Rattle.sa_base.specs.declared.limits.TheConstants.{PACKAGE_PAGE}
 use Rattle.sa_base.specs.declared.number.ActNo.{ActNo}
 use Rattle.sa_base.specs.declared.number.ProcNo.{ProcNo}
-use Rattle.sa_base.specs.declared.number.SpaceNo.{SpaceNo}
 use Rattle.sa_base.specs.declared.number.ThreadNo.{ThreadNo}
-use Rattle.sa_base.specs.declared.record.Record.{Record}
-use Rattle.sa_base.specs.declared.record.Record.TheVariants as records
-use Rattle.sa_lemmas.proofs.FunctionUpdates.{put-self}
-use Rattle.sa_lemmas.specs.Function.{put}
 use Rattle.sa_spaces.specs.Workload.{WorkloadView}
 use Rattle.sa_lists.specs.ReadyView.{is_locked}
-use Rattle.sa_code.specs.Micro.{Micro, micro, micro_at, is_resident as is_page_resident, taken}
 use Rattle.sa_code.specs.declared.state.Frame.{Frame}
-use Rattle.sa_copies.proofs.Places.{at_copies}
-use Rattle.sa_copies.specs.Copies.{package_ops, copy_at}
-use Rattle.sa_fast.specs.Instruction.{with_works}
-use Rattle.sa_fast.specs.Work.{without_first}
-use Rattle.sa_fast.specs.declared.threads.Place.TheVariants as kept
 use Rattle.sa_abstract.specs.Calls.{Contexts}
 use Rattle.sa_abstract.specs.Setting.{Setting}
-use Rattle.sa_package_model.specs.Rules.{placed, pair, did, with_shared, push_of, pushing_by, own_list}
+use Rattle.sa_package_model.specs.Rules.{own_list}
 use Rattle.sa_package_model.specs.Step.{stepped}
 use Rattle.sa_package_model.specs.declared.context.Context.{Context}
-use Rattle.sa_package_model.specs.declared.context.State.TheVariants.{Code, Work}
+use Rattle.sa_package_model.specs.declared.context.State.TheVariants.{Work}
 use Rattle.sa_package_model.specs.declared.package.Package.{Package}
-use Rattle.sa_laws.specs.Event.{Event}
-use Rattle.sa_laws.specs.History.{is_inside, stepped as ends}
 use Rattle.sa_laws.specs.Life.{Life}
-use Rattle.sa_laws.specs.Readings.{Readings, has_hand, demand_of, usable, many_taken, carried_by as runs_by, ready_of}
-use Rattle.sa_laws.specs.State.{space_at}
+use Rattle.sa_laws.specs.Readings.{Readings, has_hand}
 use Rattle.sa_user_laws.specs.Scene.{begun_at}
 use Rattle.sa_fits.proofs.EventEnds.{begun-holds}
-use Rattle.sa_fits.proofs.InsideMarks.{has-left, hand_some}
-use Rattle.sa_fits.proofs.ReadyOrders.{own-list-is}
-use Rattle.sa_fits.proofs.Still.{still-held}
-use Rattle.sa_fits.proofs.ThreadsBeside.{life-here}
-use Rattle.sa_fits.specs.Fits.{Holds}
-use Rattle.sa_fits.specs.Life.{IsMarked, HasLife}
-use Rattle.sa_fits.specs.Stage.{stage_of, is_gone}
-use Rattle.sa_fits.specs.View.{view, is_yield_op, is_lone}
-use Rattle.sa_fits_lists.proofs.Continues.{cont-keeps, cont-needs, continues}
-use Rattle.sa_fits_lists.proofs.LockedLists.{locked-read}
-use Rattle.sa_fits_lists.proofs.Takes.{push_keeps, push_held}
-use Rattle.sa_fits_steps.proofs.CodeSteps.{and_none, inside-copy}
-use Rattle.sa_fits_steps.proofs.Events.{IsLegal, inside-locked}
 use Rattle.sa_fits_steps.proofs.Scenes.{IsScene}
 use Rattle.sa_fits_steps.proofs.Scenes as scene
-use Rattle.sa_fits_steps.proofs.Turns.{IsBehind, turn-legal}
+use Rattle.sa_fits_lists.proofs.Continues.{cont-keeps}
+use Rattle.sa_fits_lists.proofs.Takes.{push_keeps}
+use Rattle.sa_fits_steps.proofs.Events.{IsLegal}
+use Rattle.sa_fits_steps.proofs.Scenes.{IsFastScene, list-own}
+use Rattle.sa_fits_steps.proofs.Turns.{turn-legal}
+use Rattle.sa_fits_steps.proofs.WorkMoves.{cont-move, has-one, here, push-move, spin-move, spin-held}
 
 module _ (set : Setting) (e : ℕ) (u : Package) (cs : Contexts Context) (w : WorkloadView) (r : Readings) (p : ProcNo) (a : ActNo) (life : Life)
     (seen : Seen) where
-  abbrev s : SpaceNo
-  s = set.space
-
   abbrev r0 : Readings
   r0 = begun_at w seen.event p r
 
@@ -64,213 +37,63 @@ module _ (set : Setting) (e : ℕ) (u : Package) (cs : Contexts Context) (w : Wo
   n = seen.event
 
   -- A SECTION IS CONTINUED
-  module _ (f : Frame) (fs : List Frame) (wk : Option ThreadNo)
-      (i : IsScene set e u cs w r p a life (record { state = Work None; sections = f ∷ fs; work = wk }) seen) where
-    abbrev c : Context
-    c = record { state = Work None; sections = f ∷ fs; work = wk }
-
-    k0 : Holds set.space (begun_at w seen.event p r) u cs
-    k0 = begun-holds set.space r u cs w (record { number = seen.event; proc = p; records = [] }) i.holds
-
-    copy : copy_at f.pc ≡ Some f.pc
-    copy = (i.stands.contexts a.0 c i.on.mine).sections.0.copy
-
-    pub cont-legal : IsLegal w set r p seen.event a cs (stepped u seen (record { state = Work None; sections = f ∷ fs; work = wk }))
-    cont-legal =
-        let known = scene.known set e u cs w r p a life c seen i in
-        let space = scene.space set e u cs w r p a life c seen i in
-        let runner = scene.runner set e u cs w r p a life c seen i in
-        let x : Record = records.Cont set.space f.thread in
-        let v : Package = with_shared u (placed u.shared f.thread kept.Running) in
-        let new : Context = record { state = Code f; sections = fs; work = wk } in
-        turn-legal set e u cs w r p a life c seen i x [] v new (record {
-          step = ap (λ q. did (pair v new) (records.Cont q f.thread ∷ [])) space;
-          first = refl;
-          no_up = refl;
-          needs = (cont-needs set e u cs i.stands s r0 k0 a f fs wk i.on.mine w n p life i.on.runs i.on.is i.on.space known i.on.owner runner, tt);
-          table = refl;
-          keeps = cont-keeps set e u cs i.stands s r0 k0 a f fs wk i.on.mine w n p life i.on.runs i.on.is i.on.space known;
-          back = sym i.own.back;
-          alone = refl;
-          free = record { free = λ bound. absurd cc };
-          next = λ behind. tt;
-          held = (continues set e u cs i.stands s r0 k0 a f fs wk i.on.mine w n p life i.on.runs i.on.is i.on.space known f.thread refl).0;
-          lists = record { many = i.lists.many; ranks = i.lists.ranks; numbers = i.lists.numbers };
-          demands = refl;
-          taken = refl;
-          marks = λ ev last b. marks v _ _ ev last b;
-        }) where
-          marks : (v : Package) (now : Life) (q : Readings) (ev : Event) (last : Readings)
-              → IsBehind set seen.event v (put cs a.0 (Some (record { state = Code f; sections = fs; work = wk }))) a (record { state = Code f; sections = fs; work = wk }) now seen q last
-              → IsMarked (view (record { state = Code f; sections = fs; work = wk })) (ends is_inside w r ev last (records.Cont set.space f.thread) now)
-          marks v now q ev last b =
-              let new : Context = record { state = Code f; sections = fs; work = wk } in
-              let has = life-here set.space last v (put cs a.0 (Some new)) b.holds a new now b.mine b.there in
-              let copies : nat_le 8 f.pc ≡ true =
-              at_copies (λ i j. i ≡ j → nat_le 8 i ≡ true) (λ e. absurd (omega arith)) (λ e. absurd (omega arith)) (λ e. absurd (omega arith)) (λ e. absurd (omega arith)) (λ e. refl) (λ e. refl) (λ e. refl) (λ e. refl) f.pc f.pc copy refl in
-              let yields : is_yield_op (slice_get package_ops f.pc) ≡ false =
-              at_copies (λ i j. is_yield_op (slice_get package_ops i) ≡ false) refl refl refl refl refl refl refl refl f.pc f.pc copy in
-              record {
-                inside = inside-copy w r ev last true now (has.cont ∙ copies);
-                back = and_none now.cont ∙ sym yields;
-                scans = refl;
-                left = refl;
-                lone = lone_by fs copies;
-              } where
-                lone_by : (gs : List Frame) → nat_le 8 f.pc ≡ true → is_lone (Code f) gs ≡ true
-                lone_by [] is = refl
-                lone_by (g ∷ gs) is = is
+  pub cont-legal : (f : Frame) (fs : List Frame) (wk : Option ThreadNo)
+      → IsFastScene set e u cs w r p a life (record { state = Work None; sections = f ∷ fs; work = wk }) seen
+      → IsLegal w set r p seen.event a cs (stepped u seen (record { state = Work None; sections = f ∷ fs; work = wk }))
+  cont-legal f fs wk z =
+      let i = z.scene in
+      let c : Context = record { state = Work None; sections = f ∷ fs; work = wk } in
+      let k0 = begun-holds set.space r u cs w (record { number = seen.event; proc = p; records = [] }) i.holds in
+      turn-legal set e u cs w r p a life c seen z (cont-move set e u cs w r p a life seen f fs wk i) (record {
+        table = refl;
+        keeps = cont-keeps set e u cs i.stands set.space r0 k0 a f fs wk i.on.mine w n p life i.on.runs i.on.is i.on.space (scene.known set e u cs w r p a life c seen i);
+        alone = refl;
+        free = record { free = λ bound. absurd cc };
+        next = λ behind. tt;
+        lists = record { many = z.lists.many; ranks = z.lists.ranks; numbers = z.lists.numbers };
+      })
 
   -- THE NEXT THREAD IS MADE READY: its list is taken, or is locked
   module _ (t : Option ThreadNo) (one : ThreadNo)
-      (i : IsScene set e u cs w r p a life (record { state = Work t; sections = []; work = Some one }) seen) where
+      (z : IsFastScene set e u cs w r p a life (record { state = Work t; sections = []; work = Some one }) seen) where
     abbrev d : Context
     d = record { state = Work t; sections = []; work = Some one }
 
-    k1 : Holds set.space (begun_at w seen.event p r) u cs
-    k1 = begun-holds set.space r u cs w (record { number = seen.event; proc = p; records = [] }) i.holds
-
-    here : HasLife set.space u.shared (space_at r.state set.space) (stage_of (begun_at w seen.event p r) set.space a life) (view d) life
-    here = life-here set.space (begun_at w seen.event p r) u cs k1 a d life i.on.mine i.on.is
-
-    stays_there : is_gone (stage_of (begun_at w seen.event p r) set.space a life) ≡ false
-    stays_there = ap is_gone (k1.runs p a life i.on.runs i.on.is i.on.space).2
+    i : IsScene set e u cs w r p a life (record { state = Work t; sections = []; work = Some one }) seen
+    i = z.scene
 
     own : own_list u seen.proc ≡ p
-    own = ap (own_list u) i.sees.proc
-        ∙ own-list-is u (ready_of r set.space) i.lists p (let less = scene.inside set e u cs w r p a life d seen i in let procs = scene.processors set e u cs w r p a life d seen i in omega arith)
+    own = list-own set e u cs w r p a life d seen z
 
-    m_is : micro u.shared.state (push_of (own_list u seen.proc) one t) seen.pages ≡ taken u.shared.state (push_of p one t) p
-        (is_locked u.shared.state.lists p.0)
-    m_is = ap (λ q. micro u.shared.state (push_of q one t) seen.pages) own
-        ∙ ap (λ ops. micro_at u.shared.state (push_of p one t) (is_page_resident seen.pages PACKAGE_PAGE) p (slice_get ops 0)) i.stands.code
+    hand : has_hand r life ≡ true
+    hand = has-one set e u cs w r p a life seen t one i
 
-    step_by : (b : Bool) → is_locked u.shared.state.lists p.0 ≡ b → let m =
-        taken u.shared.state (push_of p one t) p b in stepped u seen d ≡ pushing_by u d one m m.done
-    step_by b is = ap (λ (m : Micro). pushing_by u d one m m.done) (m_is ∙ ap (taken u.shared.state (push_of p one t) p) is)
-
-    take-legal : is_locked u.shared.state.lists p.0 ≡ false → IsLegal w set r p seen.event a cs (stepped u seen d)
+    take-legal : is_locked u.shared.state.lists (own_list u seen.proc).0 ≡ false → IsLegal w set r p seen.event a cs (stepped u seen d)
     take-legal free =
-        let space = scene.space set e u cs w r p a life d seen i in
-        let x : Record = records.Take set.space p t in
-        let g : Frame = record { pc = 1; list = Some p; own = true; pushed = Some one; thread = t } in
-        let v : Package =
-        with_shared u (with_works (record u.shared { state = (taken u.shared.state (push_of p one t) p false).state }) (without_first u.shared.works one)) in
-        let wn = (without_first u.shared.works one).name in
-        let new : Context = record { state = Code g; sections = []; work = wn } in
-        let carries = scene.carries set e u cs w r p a life d seen i in
-        turn-legal set e u cs w r p a life d seen i x [] v new (record {
-          step = step_by false free ∙ ap (λ q. did (pair v new) (records.Take q p t ∷ [])) space;
-          first = refl;
-          no_up = refl;
-          needs = (tt, tt);
+        let k1 = begun-holds set.space r u cs w (record { number = seen.event; proc = p; records = [] }) i.holds in
+        turn-legal set e u cs w r p a life d seen z (push-move set e u cs w r p a life seen t one i free) (record {
           table = refl;
-          keeps = push_keeps set e u cs i.stands s r0 k1 a w n p life i.on.runs i.on.is t one i.on.mine free carries;
-          back = sym i.own.back;
+          keeps = push_keeps set e u cs i.stands set.space r0 k1 a w n p life i.on.runs i.on.is t one i.on.mine (own_list u seen.proc) free own (scene.carries set e u cs w r p a life d seen i);
           alone = refl;
-          free = record {
-            free = λ bound. absurd (let hand = hand_some set e u cs i.stands set.space r0 k1 a (Work t) [] (Some one) i.on.mine life i.on.is stays_there refl refl one refl in
-                let no_bound : not (has_hand r life) ≡ false = ap not hand in cc);
-          };
+          free = record { free = λ bound. absurd (let no_bound : not (has_hand r life) ≡ false = ap not hand in cc) };
           next = λ behind. tt;
-          held = push_held set e u cs i.stands s r0 k1 a w n p life i.on.runs i.on.is t one i.on.mine free;
-          lists = record { many = i.lists.many; ranks = i.lists.ranks; numbers = i.lists.numbers };
-          demands = refl;
-          taken = refl;
-          marks = λ ev last b. marks g wn refl v _ _ ev last b;
-        }) where
-          marks : (g : Frame) (wn : Option ThreadNo) → g ≡ record { pc = 1; list = Some p; own = true; pushed = Some one; thread = t } → (v : Package) (now : Life) (q : Readings) (ev : Event) (last : Readings)
-              → IsBehind set seen.event v (put cs a.0 (Some (record { state = Code (record { pc = 1; list = Some p; own = true; pushed = Some one; thread = t }); sections = []; work = wn }))) a
-              (record { state = Code (record { pc = 1; list = Some p; own = true; pushed = Some one; thread = t }); sections = []; work = wn }) now seen q last
-              → IsMarked (view (record { state = Code (record { pc = 1; list = Some p; own = true; pushed = Some one; thread = t }); sections = []; work = wn })) (ends is_inside w r ev last (records.Take set.space p t) now)
-          marks g wn same v now q ev last b =
-              let new : Context =
-              record { state = Code (record { pc = 1; list = Some p; own = true; pushed = Some one; thread = t }); sections = []; work = wn } in
-              let has = life-here set.space last v (put cs a.0 (Some new)) b.holds a new now b.mine b.there in
-              record {
-                inside = inside-locked w r ev last true now _ [] has.locks;
-                back = and_none now.cont;
-                scans = refl;
-                left = refl;
-                lone = refl;
-              }
+          lists = record { many = z.lists.many; ranks = z.lists.ranks; numbers = z.lists.numbers };
+        })
 
-    spin-legal : is_locked u.shared.state.lists p.0 ≡ true → IsLegal w set r p seen.event a cs (stepped u seen d)
+    spin-legal : is_locked u.shared.state.lists (own_list u seen.proc).0 ≡ true → IsLegal w set r p seen.event a cs (stepped u seen d)
     spin-legal locked =
-        let x : Record = records.Spin p in
-        let hand = hand_some set e u cs i.stands set.space r0 k1 a (Work t) [] (Some one) i.on.mine life i.on.is stays_there refl refl one refl in
-        let other = locked-read set e u cs i.stands set.space r0 k1 p locked in
-        turn-legal set e u cs w r p a life d seen i x [] u d (record {
-          step = step_by true locked;
-          first = refl;
-          no_up = refl;
-          needs = (tt, tt);
-          table = (
-            refl,
-            record {
-              locks = here.locks;
-              cont = here.cont;
-              hand = hand;
-              list = refl;
-              held = record {
-                other = other.act;
-                apart = λ same. absurd (
-                    let one_life : life ≡ other.life =
-                    same_Some life other.life (sym i.on.is ∙ ap (λ (y : ActNo). r.lives y.0) (sym same) ∙ other.is) in
-                    let empty : length other.life.locks ≡ 0 = ap (λ (y : Life). length y.locks) (sym one_life) ∙ ap length here.locks in
-                    let some = other.has.among.1 in omega arith);
-                life = other.life;
-                is = other.is;
-                has = record { space = other.has.space ∙ sym i.on.space; lock = other.has.lock; among = other.has.among; list = other.has.list };
-              };
-            },
-          );
+        let mine = here set e u cs w r p a life seen t one i in
+        turn-legal set e u cs w r p a life d seen z (spin-move set e u cs w r p a life seen t one i locked) (record {
+          table = (refl, record { locks = mine.locks; cont = mine.cont; hand = hand; list = own; held = spin-held set e u cs w r p a life seen t one i locked });
           keeps = tt;
-          back = sym i.own.back;
           alone = tt;
           free = record { free = λ bound. absurd cc };
           next = λ behind. tt;
-          held = still-held s r0 _ u u cs k1 a d d i.on.mine (record {
-            space = refl;
-            untold = refl;
-            running = refl;
-            was = life;
-            old = i.on.is;
-            life = life;
-            lives = sym (ap (put r.lives a.0) (sym i.on.is) ∙ put-self r.lives a.0);
-            stays = (refl, refl, refl);
-            threads = refl;
-            sync = refl;
-            made = refl;
-            works = λ m none some. refl;
-            carries = refl;
-            sections = λ n some. some;
-            locks = here.locks;
-            cont = here.cont;
-            hand = here.hand;
-          });
-          lists = record { many = i.lists.many; ranks = i.lists.ranks; numbers = i.lists.numbers };
-          demands = refl;
-          taken = refl;
-          marks = λ ev last b. marks _ _ ev last b;
-        }) where
-          marks : (now : Life) (q : Readings) (ev : Event) (last : Readings)
-              → IsBehind set seen.event u (put cs a.0 (Some (record { state = Work t; sections = []; work = Some one }))) a (record { state = Work t; sections = []; work = Some one }) now seen q last
-              → IsMarked (view (record { state = Work t; sections = []; work = Some one })) (ends is_inside w r ev last (records.Spin p) now)
-          marks now q ev last b =
-              let new : Context = record { state = Work t; sections = []; work = Some one } in
-              let left =
-              has-left set seen.event u (put cs a.0 (Some new)) b.stands set.space last b.holds a (Work t) [] (Some one) b.mine now b.there (ap is_gone b.stage) refl refl in
-              record {
-                inside = ap (λ z. z || nat_lt (demand_of last now.space) (usable w last now.space) || (is_none (runs_by last now) && many_taken last now.space)) left;
-                back = and_none now.cont;
-                scans = refl;
-                left = refl;
-                lone = refl;
-              }
+          lists = record { many = z.lists.many; ranks = z.lists.ranks; numbers = z.lists.numbers };
+        })
 
     pub push-legal : IsLegal w set r p seen.event a cs (stepped u seen d)
-    push-legal = by (is_locked u.shared.state.lists p.0) refl where
-      by : (b : Bool) → is_locked u.shared.state.lists p.0 ≡ b → IsLegal w set r p seen.event a cs (stepped u seen d)
+    push-legal = by (is_locked u.shared.state.lists (own_list u seen.proc).0) refl where
+      by : (b : Bool) → is_locked u.shared.state.lists (own_list u seen.proc).0 ≡ b → IsLegal w set r p seen.event a cs (stepped u seen d)
       by true locked = spin-legal locked
       by false free = take-legal free

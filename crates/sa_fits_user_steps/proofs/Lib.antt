@@ -1,4 +1,10 @@
+pub mod UserMoves
 pub mod UserSteps
+pub mod BlockMoves
 pub mod BlockSteps
+pub mod FaultMoves
 pub mod FaultSteps
+pub mod IoMoves
 pub mod IoSteps
+pub mod LocalMoves
+pub mod StepCases

@@ -52,8 +52,8 @@ use Rattle.sa_event_frames.proofs.IoNumbers.{rising-event}
 use Rattle.sa_event_frames.proofs.Frames.{closing-alike, alike-stays, same-for, put-again, StaysPut}
 use Rattle.sa_event_frames.proofs.Matching.{AreMatched, matched-ended}
 use Rattle.sa_match.proofs.Spaces.{of-space, fit-same}
-use Rattle.sa_match.proofs.Overviews.{number-kept}
 use Rattle.sa_match.proofs.Composed.{IsComposed}
+use Rattle.sa_legal.proofs.MomentLemmas.{number-kept}
 
 opening-closes : (w : WorkloadView) → AreClosing (opening_records w)
 opening-closes w =

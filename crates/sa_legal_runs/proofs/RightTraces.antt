@@ -9,13 +9,14 @@ use Rattle.sa_base.specs.declared.record.End.{End}
 use Rattle.sa_base.specs.declared.record.End.TheVariants.{AllDone, Stuck, Budget}
 use Rattle.sa_spaces.specs.Workload.{WorkloadView, IsWorkload}
 use Rattle.sa_laws.specs.Event.{Event, events_of}
-use Rattle.sa_laws.specs.Ends.{GoesOn, LastLine, IsToldEnd, EndIsTold, EndsWith}
+use Rattle.sa_laws.specs.Ends.{GoesOn, LastLine, IsToldEnd, EndsWith}
 use Rattle.sa_laws.specs.History.{Test, after_event, after_events}
 use Rattle.sa_laws.specs.Opening.{opening_event}
 use Rattle.sa_laws.specs.Readings.{Readings, opening_readings}
-use Rattle.sa_laws.specs.Rules.{UserRules, IsLawful, HoldEach, rules as all_rules}
+use Rattle.sa_laws.specs.Rules.{UserRules, HoldEach, rules as all_rules}
 use Rattle.sa_laws.specs.Legal.{IsRight, HoldsBefore, before}
 use Rattle.sa_legal.specs.Fold.{AreLawful}
+use Rattle.sa_legal.proofs.FoldLemmas.{with-end}
 use Rattle.sa_legal.proofs.MomentLemmas.{number-next}
 use Rattle.sa_kernel_model.proofs.WalkLemmas.{not-empty}
 use Rattle.sa_core_model.specs.Machine.{Machine}
@@ -34,12 +35,6 @@ go-on-append test w r [] more on goes rest = rest
 go-on-append test w r (e ∷ []) more on goes rest = go-on-cons test w r e more goes rest
 go-on-append test w r (e ∷ x ∷ es) more on goes rest = (on.0, go-on-append test w (after_event test w r e) (x ∷ es) more on.1 goes rest)
 
--- All rules hold at an event that is lawful and tells its end.
-right-one : (u : UserRules) (w : WorkloadView) (r : Readings) (e : Event) (last : Option LastLine) → IsLawful u w r e
-    → EndIsTold (after_event u.inside w r e) e.number last → HoldEach u w all_rules r e last
-right-one u w r e last l told =
-    (l.0, (l.1.0, (l.1.1.0, (l.1.1.1.0, (l.1.1.1.1.0, (l.1.1.1.1.1.0, (l.1.1.1.1.1.1.0, (l.1.1.1.1.1.1.1.0, (l.1.1.1.1.1.1.1.1.0, (l.1.1.1.1.1.1.1.1.1.0, (l.1.1.1.1.1.1.1.1.1.1.0, (l.1.1.1.1.1.1.1.1.1.1.1.0, (l.1.1.1.1.1.1.1.1.1.1.1.1.0, (l.1.1.1.1.1.1.1.1.1.1.1.1.1.0, (l.1.1.1.1.1.1.1.1.1.1.1.1.1.1.0, (told, tt))))))))))))))))
-
 abbrev last_at : ℕ → ℕ → LastLine → Option LastLine
 last_at n count line = if n + 1 == count then Some line else None
 
@@ -57,14 +52,14 @@ rights : (u : UserRules) (w : WorkloadView) (r : Readings) (es : List Event) (li
     → HoldEach u w all_rules (after_events u.inside w r (take n es)) e (last_at n (length es) line)
 rights u w r [] line law on end count n e is = absurd (none-some e is)
 rights u w r (x ∷ []) line law on end count zero e is =
-    let numbered = law.0.0.number in
+    let numbered = law.0.numbering.number in
     subst (λ (y : Event). HoldEach u w all_rules r y (last_at 0 1 line)) (same_Some x e is)
-    (right-one u w r x (Some line) law.0 (omega (arith, count, numbered), end))
+    (with-end u w r x (Some line) law.0 (omega (arith, count, numbered), end))
 rights u w r (x ∷ []) line law on end count (suc n) e is = absurd (none-some e is)
 rights u w r (x ∷ y ∷ es) line law on end count zero e is =
     let no : (0 + 1 == length (x ∷ y ∷ es)) ≡ false = grind (arith, nat_tests) in
     subst (λ (z : Event). HoldEach u w all_rules r z (last_at 0 (length (x ∷ y ∷ es)) line)) (same_Some x e is)
-    (subst (λ (b : Bool). HoldEach u w all_rules r x (if b then Some line else None)) (sym no) (right-one u w r x None law.0 on.0))
+    (subst (λ (b : Bool). HoldEach u w all_rules r x (if b then Some line else None)) (sym no) (with-end u w r x None law.0 on.0))
 rights u w r (x ∷ y ∷ es) line law on end count (suc n) e is =
     let next = number-next u w r x in
     subst (λ (o : Option LastLine). HoldEach u w all_rules

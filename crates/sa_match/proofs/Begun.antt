@@ -12,7 +12,7 @@ use Rattle.sa_laws.specs.declared.place.Place.TheVariants.{Running}
 use Rattle.sa_laws.specs.Life.{Life}
 use Rattle.sa_laws.specs.State.{State as Abstract, thread_at, runner_on}
 use Rattle.sa_laws.specs.Event.{Event}
-use Rattle.sa_laws.specs.Readings.{Readings, running_of, owner_of as owner_in}
+use Rattle.sa_laws.specs.Readings.{Readings, running_of, owner_of as owner_in, line_of as line_in}
 use Rattle.sa_legal_readings.proofs.TrackLemmas.{IsSized}
 use Rattle.sa_kernel_model.specs.State.{line_of, owner_of}
 use Rattle.sa_kernel_model.specs.Overview.{Overview}
@@ -77,6 +77,11 @@ module _ {U C : Type 0} (level : UserLevel U C) where
       let tidy = c.history.kept.tidy in
       record { added = tidy.added; blocked = tidy.blocked; fetched = tidy.fetched; taken = tidy.taken }
 
+  -- The line is low in what is read.
+  pub low-now : (w : WorkloadView) (events : List Event) (m : Machine U C) (p : ProcNo) → IsComposed level w events m
+      → line_of m.kernel p ≡ None → line_in (read level w events) p ≡ None
+  low-now w events m p c low = ap (λ (v : Overview). get_or v.assign.lines p.0 None) c.history.kept.reads ∙ low
+
   -- Where the line was low, or nobody owns the processor, each space fits then as before.
   pub fit-begun : (w : WorkloadView) (events : List Event) (m : Machine U C) (p : ProcNo) → IsComposed level w events m
       → (line_of m.kernel p ≡ None) ⊎ (owner_of m.kernel p ≡ None)
@@ -85,7 +90,7 @@ module _ {U C : Type 0} (level : UserLevel U C) where
       let r = read level w events in
       fit-same level w r (begun_at w (m.event + 1) p r) m.users (contexts_of m) c.history.ok
       (λ t. begun-same w (m.event + 1) p (space_no t) r (elim off [
-        | inl low ↦ inl (ap (λ (v : Overview). get_or v.assign.lines p.0 None) c.history.kept.reads ∙ low)
+        | inl low ↦ inl (low-now w events m p c low)
         | inr free ↦ inr (ap (λ (o : Option ActNo). runs_in (space_no t) r.lives o)
             (nobody (running_of r p) refl (ap (λ (v : Overview). get_or v.assign.owners p.0 None) c.history.kept.reads ∙ free)))
       ])) c.fit
@@ -152,4 +157,4 @@ module _ {U C : Type 0} (level : UserLevel U C) where
       let at = acts-at w events m p s c here in
       level.laws.steps w (setting w s.0 here.def) m.event (read level w events) here.user
       (contexts_of m s.0) p here.act at.life here.ctx (seen_on (next_event m) p s) at.acting
-      (sees-now w events m p s c low here.owner) (omega arith) (omega arith) few
+      (sees-now w events m p s c low here.owner) (low-now w events m p c low) (omega arith) (omega arith) few

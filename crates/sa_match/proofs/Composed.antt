@@ -36,7 +36,8 @@ use Rattle.sa_kernel_model.specs.Overview.{Overview}
 use Rattle.sa_spaces.specs.Space.{SpaceView}
 use Rattle.sa_base.specs.declared.number.ProcNo.{ProcNo}
 use Rattle.sa_base.specs.declared.number.ActNo.{ActNo}
-use Rattle.sa_match.proofs.Overviews.{moment-of, number-kept}
+use Rattle.sa_match.proofs.Overviews.{moment-of}
+use Rattle.sa_legal.proofs.MomentLemmas.{number-kept}
 
 -- An event is strict where no I/O is due, where the line was raised, and where it completes the I/O that is due.
 pub strict-none : (w : WorkloadView) (r : Readings) (ev : Event) → due_of ev.number r.under_way ≡ None → IsStrict r ev

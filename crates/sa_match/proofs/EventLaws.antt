@@ -16,7 +16,7 @@ use Rattle.sa_laws.specs.Opening.{IsNumbered}
 use Rattle.sa_laws.specs.Step.{AreSteps, IsStepwise}
 use Rattle.sa_laws.specs.Shape.{is_of_closing}
 use Rattle.sa_laws.specs.Turns.{TurnsAreTaken}
-use Rattle.sa_laws.specs.Upcalls.{LinesHaveCause, FirstLineIsAsked}
+use Rattle.sa_laws.specs.Upcalls.{FirstLineIsAsked}
 use Rattle.sa_laws.specs.Rules.{UserRules, IsLawful}
 use Rattle.sa_legal.proofs.AppendLemmas.{steps-append}
 use Rattle.sa_kernel_model.specs.Laws.{AllHold}
@@ -29,42 +29,23 @@ use Rattle.sa_event_frames.proofs.Frames.{StaysPut}
 pub event-lawful : (rules : UserRules) (w : WorkloadView) (r : Readings) (ev : Event) → AllHold rules.inside w r ev
     → IsNumbered w r ev → IsStepwise w r ev → FirstLineIsAsked rules.Lines w r ev.proc ev.records
     → TurnsAreTaken rules.Steps w r ev → RulesPass rules w r ev → IsLawful rules w r ev
-event-lawful rules w r ev h numbered steps first turns pass =
-    let line : LinesHaveCause rules.Lines w r ev =
-    record { heard = h.line_cause.heard; first = first; order = h.line_cause.order; due = h.line_cause.due } in (
-      numbered,
-      (
-        steps,
-        (
-          h.told_once,
-          (
-            h.in_time,
-            (
-              h.where_owned,
-              (
-                h.all_told,
-                (
-                  h.block_upcall,
-                  (
-                    h.interrupt_next,
-                    (
-                      line,
-                      (
-                        h.want_cause,
-                        (
-                          h.shares_covered,
-                          (pass.demand, (turns, (pass.locks, (pass.order, tt)))),
-                        ),
-                      ),
-                    ),
-                  ),
-                ),
-              ),
-            ),
-          ),
-        ),
-      ),
-    )
+event-lawful rules w r ev h numbered steps first turns pass = record {
+  numbering = numbered;
+  step_taken = steps;
+  at_most_once = h.told_once;
+  in_time = h.in_time;
+  where_owned = h.where_owned;
+  all_told = h.all_told;
+  block_upcall = h.block_upcall;
+  interrupt_next = h.interrupt_next;
+  line_cause = record { heard = h.line_cause.heard; first = first; order = h.line_cause.order; due = h.line_cause.due };
+  want_cause = h.want_cause;
+  shares_covered = h.shares_covered;
+  demand_said = pass.demand;
+  turns_and_steps = turns;
+  list_locks = pass.locks;
+  list_order = pass.order;
+}
 
 -- A closing's records need nothing of the abstract machine.
 closing-steps : (w : WorkloadView) (e : ℕ) (p : ProcNo) (r : Readings) (cl : List Record) → AreClosing cl → AreSteps w e p r cl

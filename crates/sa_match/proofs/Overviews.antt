@@ -5,7 +5,7 @@ use Rattle.std.specs.Prelude.{if◌then◌else◌, slice_index}
 use Rattle.std.proofs.lemmas.Bool.{cases_lt}
 use Rattle.std.proofs.lemmas.Bool.Decides.{nat_tests}
 use Rattle.std.proofs.lemmas.List.{set-get_or, get_or_past, get_or-take}
-use Rattle.std.proofs.lemmas.Option.{same_Some}
+use Rattle.std.proofs.lemmas.Option.{same_Some, none-some}
 use Rattle.sa_base.specs.declared.number.ProcNo.{ProcNo}
 use Rattle.sa_base.specs.declared.number.SpaceNo.{SpaceNo}
 use Rattle.sa_base.specs.declared.number.ThreadNo.{ThreadNo}
@@ -19,7 +19,7 @@ use Rattle.sa_devices.specs.Pages.{evicted}
 use Rattle.sa_laws.specs.declared.place.Place.TheVariants.{Running, Done}
 use Rattle.sa_laws.specs.Life.{Life}
 use Rattle.sa_laws.specs.State.{State as Abstract, SpaceState, space_at, thread_at, thread_in}
-use Rattle.sa_laws.specs.Readings.{Readings, running_of, life_of as life_at, owner_of as owner_in, taken_of as taken_at}
+use Rattle.sa_laws.specs.Readings.{Readings, running_of, life_of as life_at, owner_of as owner_in, taken_of as taken_at, space_of_life}
 use Rattle.sa_laws.specs.Record.{after_record}
 use Rattle.sa_laws.specs.History.{after_records}
 use Rattle.sa_kernel_model.specs.State.{State, Fixed, line_of, taken_of}
@@ -28,15 +28,11 @@ use Rattle.sa_kernel_model.specs.Overview.{taken_behind, spaces_in, Overview, ov
 use Rattle.sa_kernel_model.specs.Kept.{IsKept}
 use Rattle.sa_kernel_model.specs.Seen.{seen_of}
 use Rattle.sa_kernel_model.specs.Sound.{IsSound}
+use Rattle.sa_kernel_model.proofs.LawLemmas.{owner-is}
 use Rattle.sa_kernel_model.proofs.SeenLemmas.{low-bit}
 use Rattle.sa_kernel_model.proofs.WalkLemmas.{has-life}
-use Rattle.sa_user_laws.specs.Moments.{IsMoment, ThreadsRun, Sees, life_in, runs_in as runs_at}
+use Rattle.sa_user_laws.specs.Moments.{IsMoment, ThreadsRun, HasLifeOn, Sees, life_in, runs_in as runs_at}
 use Rattle.sa_user_laws.specs.Scene.{begun_at}
-
--- The number of the event stays through its records.
-pub number-kept : (w : WorkloadView) (e : ℕ) (p : ProcNo) (r : Readings) (xs : List Record) → (after_records w e p r xs).number ≡ r.number
-number-kept w e p r [] = refl
-number-kept w e p r (x ∷ xs) = number-kept w e p (after_record w e p r x) xs
 
 -- A life that runs in the space is there, and is one of the space.
 runs-some : (s : SpaceNo) (lives : ℕ → Option Life) (o : Option ActNo) → IsSome (runs_at s lives o)
@@ -104,6 +100,16 @@ module _ {C : Type 0} where
       ∙ ap (λ (ns : List Note). get_or (taken_behind (spaces_in k) ns (take (length k.fixed.priorities) k.taken)) s.0 []) empty
       ∙ get_or-take (length k.fixed.priorities) k.taken s.0 [] (let same = sound.formed.sizes.priorities in omega (arith, below, same))
 
+  -- On a processor that a space owns a life of it runs.
+  own-life : (k : State C) (r : Readings) (s : SpaceNo) (q : ProcNo) → IsSound k → overview r ≡ read_off k → owner_in r q ≡ Some s
+      → HasLifeOn s r q
+  own-life k r s q sound reads owner =
+      by (get_or k.lives q.0 None) (ap (λ (v : Overview). get_or v.running q.0 None) reads)
+      (sym (owner-is k r sound reads q.0) ∙ sym (ap (λ (v : Overview). get_or v.assign.owners q.0 None) reads) ∙ owner) where
+        by : (o : Option ActNo) → running_of r q ≡ o → space_of_life r o ≡ Some s → HasLifeOn s r q
+        by None none of = absurd (none-some s of)
+        by (Some a) some of = let found = has-life (r.lives a.0) s of in record { act = a; life = found.0; runs = some; is = found.1; space = found.2 }
+
   -- What a space sees of the kernel is what is read.
   pub sees-of : (k : State C) (r : Readings) (p : ProcNo) (s : SpaceNo) (e : ℕ) → IsSound k → overview r ≡ read_off k
       → k.telling ≡ [] → s.0 < length k.demands → Sees s r p e (seen_of k p s e)
@@ -124,6 +130,7 @@ module _ {C : Type 0} where
         line = sym (ap (λ (v : Overview). get_or v.assign.lines q.0 None) reads) ∙ both.1;
       }),
     );
+    lives = λ q owner. own-life k r s q sound reads owner;
   }
 
   -- Where the line is low, an event begins with what the kernel has.

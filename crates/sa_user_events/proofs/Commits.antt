@@ -62,7 +62,7 @@ use Rattle.sa_event_frames.proofs.Foreign.{AreLivesOf}
 use Rattle.sa_event_frames.proofs.Matching.{AreMatched, leaves_lives, matched-records, matched-ended}
 use Rattle.sa_match.proofs.Spaces.{AreFit, but-same, but-all, fit-put}
 use Rattle.sa_match.proofs.EventLaws.{closing-no_up}
-use Rattle.sa_match.proofs.Begun.{begins-now, acts-at, sees-now}
+use Rattle.sa_match.proofs.Begun.{begins-now, acts-at, sees-now, low-now}
 use Rattle.sa_match.proofs.Slices.{sliced-goes}
 use Rattle.sa_kernel_events.proofs.Telling.{matched-of}
 
@@ -325,7 +325,7 @@ module _ {U C : Type 0} (level : UserLevel U C) where
       let set = setting w s.0 here.def in
       let Goal : Readings → Type 0 = λ last. level.fits w set last done.user (put (contexts_of m s.0) here.act.0 (Some done.ctx)) in
       let good = level.laws.goes w set m.event r here.user (contexts_of m s.0) p here.act at.life here.ctx (seen_on x p s) (suc n)
-      at.acting (sees-now level w events m p s c can.low here.owner) (omega arith) (omega arith) (omega (arith, many))
+      at.acting (sees-now level w events m p s c can.low here.owner) (low-now level w events m p c can.low) (omega arith) (omega arith) (omega (arith, many))
       (subst (λ (v : WorkloadView). GoesOn (setting v s.0 here.def) (suc n) (level.calls.local here.user here.ctx)) c.workload goes) in
       let users : List U = slice_set m.users s.0 done.user in
       let contexts : List (Option C) = slice_set m.contexts p.0 (Some done.ctx) in

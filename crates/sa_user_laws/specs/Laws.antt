@@ -18,7 +18,7 @@ use Rattle.sa_laws.specs.declared.place.Place.TheVariants as place
 use Rattle.sa_laws.specs.Event.{Event}
 use Rattle.sa_laws.specs.Life.{Life}
 use Rattle.sa_laws.specs.State.{space_at}
-use Rattle.sa_laws.specs.Readings.{Readings, opening_readings, running_of, life_of, owner_of, untold_of, must_hear}
+use Rattle.sa_laws.specs.Readings.{Readings, opening_readings, running_of, life_of, owner_of, line_of, untold_of, must_hear}
 use Rattle.sa_laws.specs.Record.{after_record, with_life}
 use Rattle.sa_laws.specs.History.{arisen}
 use Rattle.sa_laws.specs.Step.{StandsIn}
@@ -50,14 +50,15 @@ pub record UserLaws {U C : Type 0} (calls : Calls U C) (stands : Standing U C) (
   -- THE CALLS. At the opening no life of the space is there.
   pub starts : (w : WorkloadView) (s : Setting) → IsOfSpace w s → IsSetting s
       → fits w s (opening_readings w) (calls.started s) (λ a. None)
-  -- A step of a running life, and a run of its local instructions; r is read before the event.
+  -- A step of a running life, and a run of its local instructions; r is read before the event. The line of its processor
+  -- is low then: a step is made by nobody whose processor is to be interrupted.
   pub steps : (w : WorkloadView) (s : Setting) (e : ℕ) (r : Readings) (u : U) (cs : Contexts C) (p : ProcNo) (a : ActNo) (life : Life) (c : C) (seen : Seen)
       → IsActing calls stands fits w s e r u cs p a life c
-      → Sees s.space (begun_at w seen.event p r) p seen.event seen → 1 ≤ seen.event → e < seen.event → seen.event ≤ MAX_EVENTS
+      → Sees s.space (begun_at w seen.event p r) p seen.event seen → line_of r p ≡ None → 1 ≤ seen.event → e < seen.event → seen.event ≤ MAX_EVENTS
       → IsLegalStep calls rules fits w s r p seen.event a cs (calls.stepped u seen c)
   pub goes : (w : WorkloadView) (s : Setting) (e : ℕ) (r : Readings) (u : U) (cs : Contexts C) (p : ProcNo) (a : ActNo) (life : Life) (c : C) (seen : Seen) (n : ℕ)
       → IsActing calls stands fits w s e r u cs p a life c
-      → Sees s.space (begun_at w seen.event p r) p seen.event seen → 1 ≤ n → e < seen.event → seen.event + n ≤ MAX_EVENTS + 1
+      → Sees s.space (begun_at w seen.event p r) p seen.event seen → line_of r p ≡ None → 1 ≤ n → e < seen.event → seen.event + n ≤ MAX_EVENTS + 1
       → GoesOn s n (calls.local u c)
       → AreLegalIns rules w seen.event p r (calls.went u seen c n).says
       (λ last. fits w s last (calls.went u seen c n).user (put cs a.0 (Some (calls.went u seen c n).ctx)))

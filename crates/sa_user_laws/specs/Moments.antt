@@ -83,7 +83,17 @@ pub record AlikeButEnds (m n : Readings) : Type 0 where
   pub lives : (a : ℕ) → unended (n.lives a) ≡ unended (m.lives a)
   pub is : n ≡ record m { lives = n.lives }
 
--- What a space sees on a processor in an event is what is read. It sees the lines of its own processors alone.
+-- A life of the space runs on the processor.
+pub record HasLifeOn (s : SpaceNo) (r : Readings) (p : ProcNo) : Type 0 where
+  pub act : ActNo
+  pub life : Life
+  pub runs : running_of r p ≡ Some act
+  pub is : life_of r act ≡ Some life
+  pub space : life.space ≡ s
+
+-- What a space sees on a processor in an event is what is read. It sees the lines of its own processors alone, and on
+-- each of these a life of its own runs: so a space that keeps which thread each of its running lives carries knows which
+-- of its threads runs on each of its processors.
 pub record Sees (s : SpaceNo) (r : Readings) (p : ProcNo) (e : ℕ) (seen : Seen) : Type 0 where
   pub proc : seen.proc ≡ p
   pub event : seen.event ≡ e
@@ -91,6 +101,7 @@ pub record Sees (s : SpaceNo) (r : Readings) (p : ProcNo) (e : ℕ) (seen : Seen
   pub pages : seen.pages ≡ slice_index r.pages s.0
   pub taken : seen.taken ≡ length (taken_of r s)
   pub low : (q : ProcNo) → (bit_at seen.low q.0 ≡ 1) ↔ ((owner_of r q ≡ Some s) × (line_of r q ≡ None))
+  pub lives : (q : ProcNo) → owner_of r q ≡ Some s → HasLifeOn s r q
 
 -- A thread of the space runs where a life of it does, and no other thread of it runs there; and a running life of the
 -- space has the processor on which it runs.

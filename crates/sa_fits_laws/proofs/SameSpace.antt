@@ -1,5 +1,5 @@
--- The frame law: what concerns other spaces, aims, lines, pages and I/Os does not matter.
-use Rattle.std.proofs.Common.{◌≡◌, ℕ, zero, suc, ◌≤◌, Bool, true, false, List, [], ◌∷◌, sum_by, count_by, Contains, Option, Some, None, IsSome, option_map, refl, sym, ap, ◌∙◌, subst, ◌⊎◌, inl, arith}
+-- What concerns other spaces, aims, lines, pages and I/Os does not matter to what holds, nor to lives at rest.
+use Rattle.std.proofs.Common.{◌≡◌, ℕ, zero, suc, ◌≤◌, slice_index_or, Bool, true, false, List, [], ◌∷◌, sum_by, count_by, Contains, Option, Some, None, IsSome, option_map, refl, sym, ap, ◌∙◌, subst, ◌⊎◌, inl, arith}
 use Rattle.std.specs.Prelude.{◌==◌, if◌then◌else◌}
 use Rattle.std.proofs.lemmas.Bool.{eq-eqb, eqb-true}
 use Rattle.std.proofs.lemmas.List.Sums.{sum_by-cons}
@@ -17,11 +17,14 @@ use Rattle.sa_laws.specs.Life.{Life}
 use Rattle.sa_laws.specs.Readings.{Readings, running_of, life_of, untold_of, stopped_thread, untold_thread}
 use Rattle.sa_laws.specs.Record.{same_note}
 use Rattle.sa_laws.specs.State.{space_at, active_threads}
-use Rattle.sa_user_laws.specs.Moments.{SameFor, life_in, runs_in}
-use Rattle.sa_fits.specs.Fits.{is_of, FitsSpace, FitsLists, Holds, Fits}
+use Rattle.sa_user_laws.specs.Moments.{SameFor, AlikeButDemands, life_in, runs_in}
+use Rattle.sa_fits.proofs.EventEnds.{same-holds}
+use Rattle.sa_fits.specs.Fits.{is_of, FitsSpace, Holds}
 use Rattle.sa_fits.specs.Life.{IsAtRest, HasLife}
-use Rattle.sa_fits.specs.Stage.{stage_by, stage_of, is_act}
-use Rattle.sa_fits.specs.View.{view}
+use Rattle.sa_fits.specs.Stage.{stage_by, stage_on, stage_of, is_act}
+use Rattle.sa_fits.specs.View.{View, view}
+use Rattle.sa_fits_laws.specs.Rests.{Rests, RestBut, IsBasedOn, LivesFit}
+use Rattle.sa_fits_laws.proofs.Rests.{others-rest}
 
 -- a life of the space
 life_is : (s : SpaceNo) (o : Option Life) (life : Life) → life_in s o ≡ Some life → (o ≡ Some life) × (life.space.0 ≡ s.0)
@@ -119,15 +122,46 @@ module _ (s : SpaceNo) (m n : Readings) (u : Package) (cs : Contexts Context) (i
           (old.0, old.1, stage_same a life old_life of ∙ old.2);
     }
 
-  -- THE LAW
-  pub fits-same : Fits s m u cs → Fits s n u cs
-  fits-same k = record {
-    holds = same-for k.holds;
-    lists = subst (FitsLists u) (sym i.ready) k.lists;
-    rest = λ a c life at its.
-        let mine = k.holds.lives a c at in
-        let there = life_to a mine.0 mine.1 mine.2.space in
-        let one : mine.0 ≡ life = same_Some mine.0 life (sym there ∙ its) in
-        let is : life_of m a ≡ Some life = mine.1 ∙ ap Some one in
-        subst (λ g. IsAtRest g (view c) life) (sym (stage_same a life is (ap (λ (l : Life). l.space) (sym one) ∙ mine.2.space))) (k.rest a c life at is);
-  }
+  -- A life with a context runs where it ran.
+  pub runs-back : Holds s m u cs → (y : ProcNo) (a : ActNo) (c : Context) → cs a.0 ≡ Some c → running_of n y ≡ Some a → running_of m y ≡ Some a
+  runs-back k y a c at runs =
+      let its = k.lives a c at in
+      run_is s m.lives (running_of m y) a
+      (sym (i.running y) ∙ run_has s n.lives (running_of n y) a its.0 runs (life_to a its.0 its.1 its.2.space) its.2.space)
+
+  -- So do lives at rest, which are lives of the space.
+  pub same-rests : {C : Type 0} (look : C → View) (ds : Contexts C)
+      → ((a : ActNo) (c : C) → ds a.0 ≡ Some c → (life : Life) × (life_of m a ≡ Some life) × (life.space ≡ s))
+      → Rests look s m ds → Rests look s n ds
+  same-rests look ds lives rests a c life at its =
+      let mine = lives a c at in
+      let one : mine.0 ≡ life = same_Some mine.0 life (sym (life_to a mine.0 mine.1 mine.2) ∙ its) in
+      let is : life_of m a ≡ Some life = mine.1 ∙ ap Some one in
+      subst (λ g. IsAtRest g (look c) life) (sym (stage_same a life is (ap (λ (l : Life). l.space) (sym one) ∙ mine.2))) (rests a c life at is)
+
+-- THE LAW
+pub same-fits : {C : Type 0} (look : C → View) (base : C → Context) (s : SpaceNo) (m n : Readings) (u : Package) (bs : Contexts Context) (cs : Contexts C)
+    → IsBasedOn look base bs cs → SameFor s m n → LivesFit look s m u bs cs → LivesFit look s n u bs cs
+same-fits look base s m n u bs cs on same k = record {
+  holds = same-for s m n u bs same k.holds;
+  rest = same-rests s m n u bs same look cs (λ a c at. let its = k.holds.lives a (base c) (on.down a.0 c at) in (its.0, its.1, its.2.space)) k.rest;
+}
+
+-- Nor does what a closing changes.
+module _ (s : SpaceNo) (m n : Readings) (i : AlikeButDemands m n) where
+  pub alike-stage : (x : ActNo) (y : ProcNo) → stage_on n s x y ≡ stage_on m s x y
+  alike-stage x y =
+      ap (λ (ps : List (Option ActNo)). stage_on (record n { running = ps }) s x y) i.running
+      ∙ ap (λ (ns : List (List Note)). stage_on (record n { untold = ns; running = m.running }) s x y) i.untold
+
+  pub alike-holds : (u : Package) (cs : Contexts Context) → Holds s m u cs → Holds s n u cs
+  alike-holds u cs k = same-holds s m n u cs (record {
+    space = ap (λ x. space_at x s) i.state;
+    untold = ap (λ (ns : List (List Note)). slice_index_or ns s.0 []) i.untold;
+    running = i.running;
+    lives = i.lives;
+  }) k
+
+  pub alike-rest : {C : Type 0} (look : C → View) (ds : Contexts C) (a : ActNo) → RestBut look s m a ds → RestBut look s n a ds
+  alike-rest look ds a rest = others-rest look s m n a ds ds (λ x ne. refl) (λ x ne. ap (λ (f : ℕ → Option Life). f x.0) i.lives)
+      (λ x y ne. alike-stage x y) rest

@@ -1,4 +1,4 @@
--- The laws of the end: what the package counts is what the history reads of its threads, and for whose sake it must hear.
+-- The end: what a package counts is what the history reads of its threads, and for whose sake its space must hear.
 use Rattle.std.proofs.Common.{◌≡◌, ℕ, zero, suc, ◌+◌, ◌≤◌, ◌<◌, Bool, true, false, List, [], ◌∷◌, length, cond, count_by, Option, Some, None, is_none, IsSome, Contains, slice_index_or, refl, sym, ap, ◌∙◌, subst, inl, inr, arith, ◌⊎◌, zero-add}
 use Rattle.std.specs.Prelude.{◌&&◌, ◌==◌, not}
 use Rattle.std.proofs.lemmas.Bool.{not-true, eq-eqb, ne_eqb}
@@ -10,7 +10,6 @@ use Rattle.sa_base.specs.declared.number.ProcNo.{ProcNo}
 use Rattle.sa_base.specs.declared.number.ThreadNo.{ThreadNo}
 use Rattle.sa_base.specs.declared.record.Note.{Note}
 use Rattle.sa_base.specs.declared.record.Note.TheVariants.{Add, Preempted, Blocked, Unblocked}
-use Rattle.sa_spaces.specs.Workload.{WorkloadView}
 use Rattle.sa_fast.specs.Rest.{is_unmade, is_carried, place_at}
 use Rattle.sa_fast.specs.Threads.{unmade, block_at, is_active, is_done as is_ended, done_of, active_of}
 use Rattle.sa_fast.specs.declared.threads.Place.{Place as KeptPlace}
@@ -18,8 +17,8 @@ use Rattle.sa_fast.specs.declared.threads.Place.TheVariants as kept
 use Rattle.sa_abstract.specs.Calls.{Contexts}
 use Rattle.sa_abstract.specs.Setting.{Setting}
 use Rattle.sa_package_model.proofs.Holding.{own_made}
-use Rattle.sa_package_model.specs.Context.{carried_by, stands_inside}
-use Rattle.sa_package_model.specs.Stands.{fast_stands}
+use Rattle.sa_package_model.specs.Context.{carried_by}
+use Rattle.sa_package_model.specs.Stands.{IsStanding}
 use Rattle.sa_package_model.specs.declared.context.Context.{Context}
 use Rattle.sa_package_model.specs.declared.package.Package.{Package}
 use Rattle.sa_laws.specs.Ends.{is_done, are_done, is_at_rest, are_at_rest}
@@ -29,16 +28,16 @@ use Rattle.sa_laws.specs.Record.{same_note}
 use Rattle.sa_laws.specs.State.{at_start, space_at, thread_in}
 use Rattle.sa_laws.specs.declared.place.Place.{Place}
 use Rattle.sa_laws.specs.declared.place.Place.TheVariants as place
-use Rattle.sa_user_laws.specs.Scene.{Holds as HoldsNow}
 use Rattle.sa_fits.proofs.NoteLists.{any-contained, any-note}
 use Rattle.sa_fits.proofs.Notices.{same-self, back-alone}
 use Rattle.sa_fits.proofs.OneLife.{carried_has}
 use Rattle.sa_fits.proofs.Runners.{IsCarrier, carrier-of, kept-made, made-kept}
 use Rattle.sa_fits.proofs.ThreadsBeside.{life-here}
-use Rattle.sa_fits.specs.Fits.{SitsIn, FitsThread, fast_fits}
+use Rattle.sa_fits.specs.Fits.{SitsIn, FitsThread, Holds}
 use Rattle.sa_fits.specs.Life.{HasLife}
 use Rattle.sa_fits.specs.Stage.{Stage, Runs, InBlock, Stopped, Returned, stage_by, is_act, stage_of, is_gone, is_running, place_of, kept_of, was_idle}
-use Rattle.sa_fits.specs.View.{view, is_idle}
+use Rattle.sa_fits.specs.View.{View, view, is_idle}
+use Rattle.sa_fits_laws.specs.Rests.{IsBasedOn, Rests}
 
 -- TWO LISTS of which the second is no longer: what is asked of an entry of the first is what is asked of that of the
 -- second, or fails past it.
@@ -170,43 +169,42 @@ returned-only false true runs is = refl
 returned-only false false true is = absurd cc
 returned-only false false false is = absurd cc
 
-module _ (w : WorkloadView) (s : Setting) (e : ℕ) (r : Readings) (u : Package) (cs : Contexts Context) (h : HoldsNow fast_stands w s e r u cs)
-    (k : fast_fits w s r u cs) where
+module _ (s : Setting) (e : ℕ) (r : Readings) (u : Package) (cs : Contexts Context) (h : IsStanding s e u cs) (k : Holds s.space r u cs) where
   blocks-below : length (space_at r.state s.space).threads ≤ length u.shared.threads
-  blocks-below = let made = k.holds.space.made in let all = h.value.parts.blocks in let most = h.value.parts.threads in
-      let below = h.value.parts.state.ready.made in omega arith
+  blocks-below = let made = k.space.made in let all = h.parts.blocks in let most = h.parts.threads in
+      let below = h.parts.state.ready.made in omega arith
 
   past-unmade : (n : ℕ) → length (space_at r.state s.space).threads ≤ n → is_unmade (place_at u.shared n) ≡ true
-  past-unmade n above = kept-made s e u cs h.value n (let made = k.holds.space.made in omega arith)
+  past-unmade n above = kept-made s e u cs h n (let made = k.space.made in omega arith)
 
   module _ (n : ℕ) (below : n < length (space_at r.state s.space).threads) where
     t : ThreadNo
     t = record { 0 = n }
 
     made : n < u.shared.state.lists.made
-    made = let all = k.holds.space.made in omega arith
+    made = let all = k.space.made in omega arith
 
     here : FitsThread (block_at u.shared.threads n) (thread_in (space_at r.state s.space) (record { 0 = n }))
-    here = k.holds.space.threads (record { 0 = n }) made
+    here = k.space.threads (record { 0 = n }) made
 
     is_made : is_unmade (place_at u.shared n) ≡ false
-    is_made = made-kept s e u cs h.value n made
+    is_made = made-kept s e u cs h n made
 
     carrier : is_carried (place_at u.shared n) ≡ true → IsCarrier s.space r u cs (record { 0 = n })
-    carrier is = carrier-of s e u cs h.value s.space r k.holds (record { 0 = n }) is
+    carrier is = carrier-of s e u cs h s.space r k (record { 0 = n }) is
 
   -- ALL ARE DONE
-  pub fast-done : (done_of u.shared.threads == u.shared.state.lists.made) ≡ are_done (space_at r.state s.space)
-  fast-done =
-      ap (λ m. done_of u.shared.threads == m) (sym k.holds.space.made)
+  pub all-done : (done_of u.shared.threads == u.shared.state.lists.made) ≡ are_done (space_at r.state s.space)
+  all-done =
+      ap (λ m. done_of u.shared.threads == m) (sym k.space.made)
       ∙ all-counted (λ b. is_ended b.place) (λ x. is_done x.place) u.shared.threads (space_at r.state s.space).threads unmade (at_start 0 place.Done) blocks-below
       (λ n below. ended-alike (place_at u.shared n) _ (is_made n below) (here n below).place (λ is. let c = carrier n below is in (c.stage, c.life.proc, c.place)))
       (λ n above inside. ap is_ended (unmade-is (place_at u.shared n) (past-unmade n above)))
 
   -- NONE IS ACTIVE
-  pub fast-rest : ((b : ActNo) → Contains (untold_of r s.space) (Unblocked b) → ⊥)
+  pub none-active : ((b : ActNo) → Contains (untold_of r s.space) (Unblocked b) → ⊥)
       → (active_of u.shared.threads == 0) ≡ are_at_rest (space_at r.state s.space)
-  fast-rest none =
+  none-active none =
       none-counted (λ b. is_active b.place) (λ x. is_at_rest x.place) u.shared.threads (space_at r.state s.space).threads unmade (at_start 0 place.Done) blocks-below
       (λ n below. rests-alike (place_at u.shared n) _ (is_made n below) (here n below).place (λ is. let c = carrier n below is in
       (c.stage, c.life.proc, c.place, c.kept, not-returned (is_returned c.stage) c refl)))
@@ -230,45 +228,48 @@ module _ (w : WorkloadView) (s : Setting) (e : ℕ) (r : Readings) (u : Package)
   busy-inside true o busy none = refl
   busy-inside false o busy none = absurd (let yes = sym (ap is_none none) ∙ busy in cc)
 
-  stirs : (a : ActNo) (c : Context) (life : Life) → cs a.0 ≡ Some c → life_of r a ≡ Some life → is_gone (stage_of r s.space a life) ≡ true
-      → is_idle (view c) ≡ false → Stirs
-  stirs a c life mine is gone busy = by (carried_by c.state) refl where
-    l : HasLife s.space u.shared (space_at r.state s.space) (stage_of r s.space a life) (view c) life
-    l = life-here s.space r u cs k.holds a c life mine is
+  module _ {C : Type 0} (look : C → View) (base : C → Context) (ds : Contexts C) (on : IsBasedOn look base cs ds) (rests : Rests look s.space r ds) where
+    stirs : (a : ActNo) (c : C) (life : Life) → ds a.0 ≡ Some c → life_of r a ≡ Some life → is_gone (stage_of r s.space a life) ≡ true
+        → is_idle (look c) ≡ false → Stirs
+    stirs a c life mine is gone busy = by (carried_by (base c).state) refl where
+      l : HasLife s.space u.shared (space_at r.state s.space) (stage_of r s.space a life) (view (base c)) life
+      l = life-here s.space r u cs k a (base c) life (on.down a.0 c mine) is
 
-    by : (o : Option ThreadNo) → carried_by c.state ≡ o → Stirs
-    by None none = inr (a, life, is, (k.rest a c life mine is).marks.inside ∙ busy-inside (stands_inside c.state) (carried_by c.state) busy none)
-    by (Some t) at = inl (not-all (λ x. is_at_rest x.place) (space_at r.state s.space).threads t.0 (at_start 0 place.Done)
-        (let made = own_made s e u cs h.value a.0 c mine t.0 (carried_has u.shared.works c t at) in let all = k.holds.space.made in omega arith)
-        (ap is_at_rest (l.place t at ∙ gone-place (stage_of r s.space a life) life.proc gone)))
+      by : (o : Option ThreadNo) → carried_by (base c).state ≡ o → Stirs
+      by None none = inr (a, life, is, (rests a c life mine is).marks.inside ∙ busy-inside (look c).inside (look c).carried busy (on.carries c ∙ none))
+      by (Some t) at = inl (not-all (λ x. is_at_rest x.place) (space_at r.state s.space).threads t.0 (at_start 0 place.Done)
+          (let made = own_made s e u cs h a.0 (base c) (on.down a.0 c mine) t.0 (carried_has u.shared.works (base c) t at) in let all = k.space.made in omega arith)
+          (ap is_at_rest (l.place t at ∙ gone-place (stage_of r s.space a life) life.proc gone)))
 
-  pub fast-must : (note : Note) → Contains (untold_of r s.space) note → must_hear r note ≡ true → Stirs
-  fast-must (Add y) has must = absurd cc
-  fast-must (Blocked a) has must = absurd cc
-  fast-must (Preempted a) has must = by (cs a.0) refl (k.holds.noted a (inl has)) where
-    by : (o : Option Context) → cs a.0 ≡ o → IsSome (cs a.0) → Stirs
-    by None none some = absurd (let no_such = subst IsSome none some in cc)
-    by (Some c) mine some =
-        let its = k.holds.lives a c mine in
-        let here = any-contained (same_note (Preempted a)) (Preempted a) (untold_of r s.space) has (same-self true a) in
-        let stage : stage_of r s.space a its.0 ≡ Stopped =
-        ap (λ x. stage_by x (list_any (same_note (Unblocked a)) (untold_of r s.space)) (is_act a (running_of r its.0.proc))) here in
-        let said = (k.rest a c its.0 mine its.1).idle (ap is_running stage) in
-        let idle : its.0.idle ≡ false = not-true its.0.idle (ap (λ o. not (reads_idle o)) (sym its.1) ∙ must) in
-        stirs a c its.0 mine its.1 (ap is_gone stage) (sym said ∙ ap (λ g. was_idle g its.0) stage ∙ idle)
+    pub must-hear : (note : Note) → Contains (untold_of r s.space) note → must_hear r note ≡ true → Stirs
+    must-hear (Add y) has must = absurd cc
+    must-hear (Blocked a) has must = absurd cc
+    must-hear (Preempted a) has must = by (cs a.0) refl (k.noted a (inl has)) where
+      by : (o : Option Context) → cs a.0 ≡ o → IsSome (cs a.0) → Stirs
+      by None none some = absurd (let no_such = subst IsSome none some in cc)
+      by (Some b) mine some =
+          let its = k.lives a b mine in
+          let c = on.up a.0 b mine in
+          let here = any-contained (same_note (Preempted a)) (Preempted a) (untold_of r s.space) has (same-self true a) in
+          let stage : stage_of r s.space a its.0 ≡ Stopped =
+          ap (λ x. stage_by x (list_any (same_note (Unblocked a)) (untold_of r s.space)) (is_act a (running_of r its.0.proc))) here in
+          let said = (rests a c.0 its.0 c.1 its.1).idle (ap is_running stage) in
+          let idle : its.0.idle ≡ false = not-true its.0.idle (ap (λ o. not (reads_idle o)) (sym its.1) ∙ must) in
+          stirs a c.0 its.0 c.1 its.1 (ap is_gone stage) (sym said ∙ ap (λ g. was_idle g its.0) stage ∙ idle)
 
-    not-true : (b : Bool) → not b ≡ true → b ≡ false
-    not-true true is = absurd cc
-    not-true false is = refl
-  fast-must (Unblocked a) has must = by (cs a.0) refl (k.holds.noted a (inr has)) where
-    by : (o : Option Context) → cs a.0 ≡ o → IsSome (cs a.0) → Stirs
-    by None none some = absurd (let no_such = subst IsSome none some in cc)
-    by (Some c) mine some =
-        let its = k.holds.lives a c mine in
-        let alone = back-alone false a (untold_of r s.space) has (k.holds.single a) refl in
-        let here = any-contained (same_note (Unblocked a)) (Unblocked a) (untold_of r s.space) has (same-self false a) in
-        let stage : stage_of r s.space a its.0 ≡ Returned =
-        ap (λ x. stage_by x (list_any (same_note (Unblocked a)) (untold_of r s.space)) (is_act a (running_of r its.0.proc))) alone
-        ∙ ap (λ x. stage_by false x (is_act a (running_of r its.0.proc))) here in
-        let said = (k.rest a c its.0 mine its.1).idle (ap is_running stage) in
-        stirs a c its.0 mine its.1 (ap is_gone stage) (sym said ∙ ap (λ g. was_idle g its.0) stage)
+      not-true : (b : Bool) → not b ≡ true → b ≡ false
+      not-true true is = absurd cc
+      not-true false is = refl
+    must-hear (Unblocked a) has must = by (cs a.0) refl (k.noted a (inr has)) where
+      by : (o : Option Context) → cs a.0 ≡ o → IsSome (cs a.0) → Stirs
+      by None none some = absurd (let no_such = subst IsSome none some in cc)
+      by (Some b) mine some =
+          let its = k.lives a b mine in
+          let c = on.up a.0 b mine in
+          let alone = back-alone false a (untold_of r s.space) has (k.single a) refl in
+          let here = any-contained (same_note (Unblocked a)) (Unblocked a) (untold_of r s.space) has (same-self false a) in
+          let stage : stage_of r s.space a its.0 ≡ Returned =
+          ap (λ x. stage_by x (list_any (same_note (Unblocked a)) (untold_of r s.space)) (is_act a (running_of r its.0.proc))) alone
+          ∙ ap (λ x. stage_by false x (is_act a (running_of r its.0.proc))) here in
+          let said = (rests a c.0 its.0 c.1 its.1).idle (ap is_running stage) in
+          stirs a c.0 its.0 c.1 its.1 (ap is_gone stage) (sym said ∙ ap (λ g. was_idle g its.0) stage)

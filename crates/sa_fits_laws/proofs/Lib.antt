@@ -1,0 +1,11 @@
+pub mod Rests
+pub mod SameSpace
+pub mod Running
+pub mod Ceases
+pub mod PlainNotices
+pub mod Upcalls
+pub mod LifeEnds
+pub mod Answers
+pub mod KernelEvents
+pub mod Ends
+pub mod Openings
