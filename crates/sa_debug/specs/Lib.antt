@@ -4,4 +4,5 @@ pub mod Session
 pub mod Reached
 pub mod Views
 pub mod OverMachines
+pub mod OverHistories
 pub mod Kept

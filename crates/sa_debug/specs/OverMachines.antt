@@ -1,8 +1,5 @@
 -- A session over a machine of any user level.
-use Rattle.std.specs.Prelude.{◌≡◌, ◌-◌, ℕ, is_none, List, Bool, length, Option, Some, None, slice_get, if◌then◌else◌}
-use Rattle.sa_base.specs.declared.number.ProcNo.{ProcNo}
-use Rattle.sa_base.specs.declared.record.Item.{Item}
-use Rattle.sa_assign.specs.Reaim.{proc_no}
+use Rattle.std.specs.Prelude.{◌≡◌, ℕ, is_none, List, Bool, Option, Some, None, if◌then◌else◌}
 use Rattle.sa_abstract.specs.declared.answer.SeatState.{SeatState}
 use Rattle.sa_abstract.specs.declared.answer.SeatState.TheVariants.{Local, Away}
 use Rattle.sa_abstract.specs.Calls.{Calls}
@@ -14,13 +11,9 @@ use Rattle.sa_core_model.specs.End.{end_of, local_on}
 use Rattle.sa_core.specs.View.{CoreView, machine}
 use Rattle.sa_laws.specs.State.{opening_state}
 use Rattle.sa_script.specs.declared.command.Point.{Point}
+use Rattle.sa_debug.specs.Order.{last_proc}
 use Rattle.sa_debug.specs.Session.{Watched, Session}
 use Rattle.sa_debug.specs.Views.{view_in, state_behind}
-
--- the processor of the last item
-abbrev pub last_proc : Option Item → ProcNo
-last_proc None = proc_no 0
-last_proc (Some item) = item.proc
 
 -- a context at an instruction of its thread
 abbrev pub point_of : SeatState → Option Point
@@ -34,7 +27,7 @@ module _ {U C : Type 0} (f : Calls U C) where
     IsTurn = λ m p after. IsMove f m (turn p) after;
     HasEnded = λ m end. end_of f budget m ≡ end;
     event = λ m. m.event;
-    last = λ m. last_proc (slice_get m.items (length m.items - 1));
+    last = λ m. last_proc m.items;
     stands = λ m p. if is_none (line_of m.kernel p) then point_of (local_on f m p) else None;
     view = λ m s t. view_in (state_behind m.workload (opening_state m.workload) m.items) s t;
   }

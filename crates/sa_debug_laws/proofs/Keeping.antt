@@ -1,5 +1,5 @@
 -- What turns keep, each command keeps.
-use Rattle.std.proofs.Common.{◌≡◌, ℕ, zero, suc, Bool, true, false, List, [], ◌∷◌, Option, Some, None, ◌⊎◌, inl, inr, refl, sym, ap, ◌∙◌, subst}
+use Rattle.std.proofs.Common.{◌≡◌, ℕ, zero, suc, Bool, true, false, List, [], ◌∷◌, Option, Some, None, inl, inr, refl, sym, ap, ◌∙◌, subst}
 use Rattle.std.specs.Prelude.{MatchOption}
 use Rattle.sa_base.specs.declared.number.ProcNo.{ProcNo}
 use Rattle.sa_script.specs.declared.command.Point.{Point}
@@ -7,7 +7,8 @@ use Rattle.sa_script.specs.declared.command.DebugCommand.{DebugCommand}
 use Rattle.sa_script.specs.declared.command.DebugCommand.TheVariants.{Break, Clear, Halt, Go, Step, Run, Show}
 use Rattle.sa_script.specs.declared.reply.Reply.{Reply}
 use Rattle.sa_script.specs.declared.reply.Reply.TheVariants.{AtBreak}
-use Rattle.sa_debug.specs.Session.{Watched, Session, Gives, with_point, broken, without_point, cleared, has_point, with_halt, next, point_at, SaysEnded, Turns, IsHeld, Stops, RunsTo, RunsSoFar, Does, DoesSoFar, DoAll}
+use Rattle.sa_debug.specs.Session.{Watched, Session, with_point, without_point, has_point, with_halt, next, point_at}
+use Rattle.sa_debug.specs.Session.{SaysEnded, Turns, IsHeld, RunsTo, RunsSoFar, Does, DoesSoFar, DoAll}
 
 module _ {M : Type 0} where
   pub point-machine : (s : Session M) (point : Point) (there full : Bool) → (with_point s point there full).0.machine ≡ s.machine
@@ -23,13 +24,14 @@ module _ {M : Type 0} (o : Watched M) (P : M → Type 0) (keeps : (m : M) (p : P
   same : (s t : Session M) → t.machine ≡ s.machine → P s.machine → P t.machine
   same s t is held = subst P (sym is) held
 
-  turned : (s t : Session M) (p : ProcNo) → Turns o s p t → P s.machine → P t.machine
+  pub turned : (s t : Session M) (p : ProcNo) → Turns o s p t → P s.machine → P t.machine
   turned s t p turns held = subst (λ (x : Session M). P x.machine) (sym turns.is) (keeps s.machine p turns.machine held turns.turn)
 
   ended : (s t : Session M) (reply : Reply) → SaysEnded o s t reply → P s.machine → P t.machine
   ended s t reply says held = subst (λ (x : Session M). P x.machine) (sym says.same) held
 
-  stopped-at : (s t : Session M) (p : ProcNo) (reply : Reply) (point : Option Point) → MatchOption point ⊥ (λ x. (reply ≡ AtBreak p x) × (t ≡ with_halt s p true)) → P s.machine → P t.machine
+  stopped-at : (s t : Session M) (p : ProcNo) (reply : Reply) (point : Option Point)
+      → MatchOption point ⊥ (λ x. (reply ≡ AtBreak p x) × (t ≡ with_halt s p true)) → P s.machine → P t.machine
   stopped-at s t p reply None at held = absurd at
   stopped-at s t p reply (Some point) at held = subst (λ (x : Session M). P x.machine) (sym at.1) held
 
@@ -37,7 +39,7 @@ module _ {M : Type 0} (o : Watched M) (P : M → Type 0) (keeps : (m : M) (p : P
   stopped s t reply None at held = subst (λ (x : Session M). P x.machine) (sym at.1) held
   stopped s t reply (Some p) at held = stopped-at s t p reply (point_at o s p) at held
 
-  ran : (n : ℕ) (s t : Session M) (reply : Reply) → RunsTo o n s t reply → P s.machine → P t.machine
+  pub ran : (n : ℕ) (s t : Session M) (reply : Reply) → RunsTo o n s t reply → P s.machine → P t.machine
   ran zero s t reply runs held = elim runs [
     | inl says ↦ ended s t reply says held
     | inr over ↦ subst (λ (x : Session M). P x.machine) (sym over.same) held

@@ -1,5 +1,5 @@
 -- Each session is legal.
-use Rattle.std.proofs.Common.{◌≡◌, ℕ, List}
+use Rattle.std.proofs.Common.{ℕ, List}
 use Rattle.sa_base.specs.declared.number.ProcNo.{ProcNo}
 use Rattle.sa_spaces.specs.Workload.{WorkloadView, IsWorkload}
 use Rattle.sa_core_model.specs.Run.{opening, IsMove}
@@ -15,14 +15,16 @@ use Rattle.sa_debug.specs.OverMachines.{over_machines}
 use Rattle.sa_debug_laws.specs.Sessions.{IsSession, IsLegalSession}
 use Rattle.sa_debug_laws.proofs.Keeping.{does-all, does-so_far}
 
-reached-keeps : (w : WorkloadView) (m : FastMachine) (p : ProcNo) (after : FastMachine) → IsReachedByTurns w m → IsMove fast_calls m (turn p) after → IsReachedByTurns w after
+pub reached-keeps : (w : WorkloadView) (m : FastMachine) (p : ProcNo) (after : FastMachine)
+    → IsReachedByTurns w m → IsMove fast_calls m (turn p) after → IsReachedByTurns w after
 reached-keeps w m p after is made = turn-alone-reaches w m p after is made.0 made.1
 
-pub reached : (w : WorkloadView) (budget : ℕ) (cs : List DebugCommand) (s : Session FastMachine) (replies : List Reply) → IsSession w budget cs s replies → IsReachedByTurns w s.machine
+pub reached : (w : WorkloadView) (budget : ℕ) (cs : List DebugCommand) (s : Session FastMachine) (replies : List Reply)
+    → IsSession w budget cs s replies → IsReachedByTurns w s.machine
 reached w budget cs s replies done =
     does-all (over_machines fast_calls budget) (IsReachedByTurns w) (reached-keeps w) cs (fresh (opening fast_calls w)) s replies done (start-reaches w)
 
-by-moves : (w : WorkloadView) (m : FastMachine) → IsReachedByTurns w m → IsReached w m
+pub by-moves : (w : WorkloadView) (m : FastMachine) → IsReachedByTurns w m → IsReached w m
 by-moves w m is = record { moves = is.moves; run = is.run }
 
 legal : (w : WorkloadView) (budget : ℕ) (m : FastMachine) → IsWorkload w → IsReachedByTurns w m → IsLegalSession w budget m
@@ -32,12 +34,12 @@ legal w budget m ok is = record {
   end = reached-ends w m budget ok (by-moves w m is);
 }
 
-pub session-legal : (w : WorkloadView) (budget : ℕ) (cs : List DebugCommand) (s : Session FastMachine) (replies : List Reply) → IsWorkload w → IsSession w budget cs s replies
-    → IsLegalSession w budget s.machine
+pub session-legal : (w : WorkloadView) (budget : ℕ) (cs : List DebugCommand) (s : Session FastMachine) (replies : List Reply)
+    → IsWorkload w → IsSession w budget cs s replies → IsLegalSession w budget s.machine
 session-legal w budget cs s replies ok done = legal w budget s.machine ok (reached w budget cs s replies done)
 
-pub so-far-legal : (w : WorkloadView) (budget : ℕ) (cs : List DebugCommand) (s t : Session FastMachine) (replies : List Reply) (c : DebugCommand) → IsWorkload w
-    → IsSession w budget cs s replies → DoesSoFar (over_machines fast_calls budget) c s t → IsLegalSession w budget t.machine
+pub so-far-legal : (w : WorkloadView) (budget : ℕ) (cs : List DebugCommand) (s t : Session FastMachine) (replies : List Reply) (c : DebugCommand)
+    → IsWorkload w → IsSession w budget cs s replies → DoesSoFar (over_machines fast_calls budget) c s t → IsLegalSession w budget t.machine
 so-far-legal w budget cs s t replies c ok done comes =
     legal w budget t.machine ok
     (does-so_far (over_machines fast_calls budget) (IsReachedByTurns w) (reached-keeps w) c s t comes (reached w budget cs s replies done))

@@ -2,3 +2,8 @@ pub mod Playable
 pub mod Reaching
 pub mod Keeping
 pub mod Legal
+pub mod Showing
+pub mod Standing
+pub mod Only
+pub mod OneWay
+pub mod Told

@@ -23,7 +23,7 @@ IsSession w budget commands s replies = DoAll (over_machines fast_calls budget) 
 
 -- the trace of a machine is a legal run and a strict one, and has ended as the definitions say
 pub record IsLegalSession (w : WorkloadView) (budget : ℕ) (m : FastMachine) : Type 0 where
-  pub run : IsLegalRun w m.items
+  pub run : IsLegalRun fast_threads w m.items
   pub strict : IsStrictRun fast_threads w m.items
   pub end : EndOf fast_threads w budget m.items (end_of fast_calls budget m)
 

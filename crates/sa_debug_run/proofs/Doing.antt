@@ -1,7 +1,6 @@
 -- Command by command.
-use Rattle.std.proofs.Common.{◌≡◌, ℕ, zero, suc, ◌+◌, ◌<◌, ◌≤◌, List, [], ◌∷◌, ◌++◌, length, get_or, take, Option, Some, None, refl, sym, ap, ◌∙◌, subst, inl, inr, arith, append_assoc}
-use Rattle.std.specs.Prelude.{slice_get, unwrap_or}
-use Rattle.std.specs.List.{flat_map}
+use Rattle.std.proofs.Common.{◌≡◌, ℕ, zero, suc, ◌+◌, ◌<◌, ◌≤◌, List, [], ◌∷◌, ◌++◌, length, get_or, take, Option, Some, None, refl, sym, ap, ◌∙◌, subst, inl, inr, arith}
+use Rattle.std.specs.Prelude.{unwrap_or}
 use Rattle.std.proofs.lemmas.Grind.{flat_map-append}
 use Rattle.std.proofs.lemmas.List.{append-nil}
 use Rattle.std.proofs.lemmas.Option.{slice_get-get_or}
@@ -9,6 +8,7 @@ use Rattle.sa_base.specs.declared.record.End.{End}
 use Rattle.sa_base.specs.declared.record.End.TheVariants.{Budget}
 use Rattle.sa_base.specs.declared.record.Item.{Item}
 use Rattle.sa_spaces.specs.Workload.{WorkloadView, IsWorkload}
+use Rattle.sa_laws.specs.Rules.{fast_threads}
 use Rattle.sa_core_model.specs.End.{end_of}
 use Rattle.sa_core_model.specs.Run.{opening}
 use Rattle.sa_package_model.specs.Step.{fast_calls}
@@ -17,9 +17,11 @@ use Rattle.sa_script.specs.declared.command.DebugCommand.{DebugCommand}
 use Rattle.sa_script.specs.declared.reply.Reply.{Reply}
 use Rattle.sa_script.specs.Reply.{reply_text}
 use Rattle.sa_debug.specs.Session.{Watched, Session, fresh, Does, DoesSoFar, DoAll}
+use Rattle.sa_debug.specs.OverHistories.{over_histories, opening_items}
 use Rattle.sa_debug.specs.OverMachines.{over_machines}
 use Rattle.sa_debug_laws.specs.Sessions.{SessionsAreLegal, SessionsSoFarAreLegal, IsLegalSession}
-use Rattle.sa_debug_run.specs.Debugged.{replies_text, AreDone, CameSoFar, told_end, IsOver, IsPartly, RanSoFar}
+use Rattle.sa_debug_laws.specs.Told.{SessionsAreTold, SessionsSoFarAreTold, by_history}
+use Rattle.sa_debug_run.specs.Debugged.{replies_text, AreDone, CameSoFar, told_end, IsOver, RanSoFar}
 
 do-push : {M : Type 0} (o : Watched M) (cs : List DebugCommand) (s between t : Session M) (replies : List Reply) (c : DebugCommand) (reply : Reply)
     → DoAll o cs s between replies → Does o c between t reply → DoAll o (cs ++ c ∷ []) s t (replies ++ reply ∷ [])
@@ -79,7 +81,7 @@ done-all budget commands i s t text past are = subst (λ cs. AreDone budget cs s
 -- memory ran out at a command, and behind one
 pub came-at : (budget now : ℕ) (commands : List DebugCommand) (i : ℕ) (d : DebugCommand) (s between t : Session FastMachine) (text : List ℕ)
     → now ≡ budget → i < length commands → AreDone budget (take i commands) s between text → DoesSoFar (over_machines fast_calls now) (get_or commands i d) between t
-    → CameSoFar budget commands s t
+    → CameSoFar (over_machines fast_calls budget) commands s t
 came-at budget now commands i d s between t text same within are came = record {
   count = i;
   between = between;
@@ -89,7 +91,7 @@ came-at budget now commands i d s between t text same within are came = record {
 }
 
 pub came-behind : (budget : ℕ) (commands : List DebugCommand) (i : ℕ) (s t : Session FastMachine) (text : List ℕ) → AreDone budget (take i commands) s t text
-    → CameSoFar budget commands s t
+    → CameSoFar (over_machines fast_calls budget) commands s t
 came-behind budget commands i s t text are = record { count = i; between = t; replies = are.replies; done = are.done; last = inl refl }
 
 told-is : (o : Option End) → unwrap_or o Budget ≡ told_end o
@@ -101,10 +103,12 @@ begun : (w : WorkloadView) (m : FastMachine) (s : Session FastMachine) → m ≡
 begun w m s opens starts = starts ∙ ap (λ x. (λ (y : Session FastMachine). y) (fresh x)) opens
 
 -- a session that is over, and one that came so far
-pub over-so : (w : WorkloadView) (budget b c : ℕ) (commands : List DebugCommand) (m : FastMachine) (s t : Session FastMachine) (text : List ℕ) (items : List Item) (end : End) (o : Option End) (events : ℕ)
-    → SessionsAreLegal → IsWorkload w → m ≡ opening fast_calls w → s ≡ fresh m → b ≡ budget → AreDone b commands s t text → items ≡ t.machine.items
+pub over-so : (w : WorkloadView) (budget b c : ℕ) (commands : List DebugCommand) (m : FastMachine) (s t : Session FastMachine) (text : List ℕ)
+    (items : List Item) (end : End) (o : Option End) (events : ℕ)
+    → SessionsAreLegal → SessionsAreTold → IsWorkload w → m ≡ opening fast_calls w → s ≡ fresh m → b ≡ budget
+    → AreDone b commands s t text → items ≡ t.machine.items
     → c ≡ b → o ≡ end_of fast_calls c t.machine → end ≡ unwrap_or o Budget → events ≡ t.machine.event → IsOver w budget commands text items end events
-over-so w budget b c commands m s t text items end o events legal ok opens starts same are shows kept ended told counts =
+over-so w budget b c commands m s t text items end o events legal tells ok opens starts same are shows kept ended told counts =
     let first = begun w m s opens starts in
     let done : AreDone budget commands (fresh (opening fast_calls w)) t text =
     subst (λ n. AreDone n commands (fresh (opening fast_calls w)) t text) same (subst (λ x. AreDone b commands x t text) first are) in
@@ -115,20 +119,45 @@ over-so w budget b c commands m s t text items end o events legal ok opens start
       ends = told ∙ told-is o ∙ ap told_end (ended ∙ ap (λ n. end_of fast_calls n t.machine) (kept ∙ same));
       counts = counts;
       legal = legal w budget commands t done.replies ok done.done;
+      told = tells w budget commands t done.replies ok done.done;
     }
 
 came-legal : (w : WorkloadView) (budget : ℕ) (commands : List DebugCommand) (t : Session FastMachine) → SessionsAreLegal → SessionsSoFarAreLegal → IsWorkload w
-    → CameSoFar budget commands (fresh (opening fast_calls w)) t → IsLegalSession w budget t.machine
+    → CameSoFar (over_machines fast_calls budget) commands (fresh (opening fast_calls w)) t → IsLegalSession w budget t.machine
 came-legal w budget commands t whole so_far ok came = elim came.last [
   | inl same ↦ subst (λ (x : Session FastMachine). IsLegalSession w budget x.machine) (sym same) (whole w budget (take came.count commands) came.between came.replies ok came.done)
   | inr part ↦ so_far w budget (take came.count commands) came.between t came.replies part.0 ok came.done part.2
 ]
 
+-- what came so far is told of its history too
+came-told : (w : WorkloadView) (budget : ℕ) (commands : List DebugCommand) (t : Session FastMachine)
+    → SessionsAreTold → SessionsSoFarAreTold → IsWorkload w
+    → CameSoFar (over_machines fast_calls budget) commands (fresh (opening fast_calls w)) t
+    → CameSoFar (over_histories fast_threads w budget) commands (fresh (opening_items w)) (by_history t)
+came-told w budget commands t whole so_far ok came = record {
+  count = came.count;
+  between = by_history came.between;
+  replies = came.replies;
+  done = (whole w budget (take came.count commands) came.between came.replies ok came.done).done;
+  last = elim came.last [
+    | inl same ↦ inl (ap (λ (x : Session FastMachine). by_history x) same)
+    | inr part ↦ inr (part.0, part.1, so_far w budget (take came.count commands) came.between t came.replies part.0 ok came.done part.2)
+  ];
+}
+
 pub partly-so : (w : WorkloadView) (budget b : ℕ) (commands : List DebugCommand) (m : FastMachine) (s t : Session FastMachine) (items : List Item)
-    → SessionsAreLegal → SessionsSoFarAreLegal → IsWorkload w → m ≡ opening fast_calls w → s ≡ fresh m → b ≡ budget → CameSoFar b commands s t → items ≡ t.machine.items
+    → SessionsAreLegal → SessionsSoFarAreLegal → SessionsAreTold → SessionsSoFarAreTold → IsWorkload w → m ≡ opening fast_calls w
+    → s ≡ fresh m → b ≡ budget → CameSoFar (over_machines fast_calls b) commands s t → items ≡ t.machine.items
     → RanSoFar w budget commands items
-partly-so w budget b commands m s t items whole so_far ok opens starts same came shows =
+partly-so w budget b commands m s t items whole so_far told told_so_far ok opens starts same came shows =
     let first = begun w m s opens starts in
-    let done : CameSoFar budget commands (fresh (opening fast_calls w)) t =
-    subst (λ n. CameSoFar n commands (fresh (opening fast_calls w)) t) same (subst (λ x. CameSoFar b commands x t) first came) in
-    inr (record { session = t; came = done; shows = shows; legal = came-legal w budget commands t whole so_far ok done })
+    let done : CameSoFar (over_machines fast_calls budget) commands (fresh (opening fast_calls w)) t =
+    subst (λ n. CameSoFar (over_machines fast_calls n) commands (fresh (opening fast_calls w)) t) same
+    (subst (λ x. CameSoFar (over_machines fast_calls b) commands x t) first came) in
+    inr (record {
+      session = t;
+      came = done;
+      shows = shows;
+      legal = came-legal w budget commands t whole so_far ok done;
+      told = came-told w budget commands t told told_so_far ok done;
+    })

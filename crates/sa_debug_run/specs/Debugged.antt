@@ -1,10 +1,11 @@
 -- What comes of a session by a script.
-use Rattle.std.specs.Prelude.{◌≡◌, ◌⊎◌, ℕ, List, [], ◌++◌, take, slice_get, Option, Some, None, Ok, Err}
+use Rattle.std.specs.Prelude.{◌≡◌, ◌⊎◌, ℕ, List, [], take, slice_get, Option, Some, None, Ok, Err}
 use Rattle.std.specs.List.{flat_map}
 use Rattle.sa_base.specs.declared.record.End.{End}
 use Rattle.sa_base.specs.declared.record.End.TheVariants.{Budget}
 use Rattle.sa_base.specs.declared.record.Item.{Item}
 use Rattle.sa_spaces.specs.Workload.{WorkloadView}
+use Rattle.sa_laws.specs.Rules.{fast_threads}
 use Rattle.sa_core_model.specs.End.{end_of}
 use Rattle.sa_core_model.specs.Run.{opening}
 use Rattle.sa_package_model.specs.Step.{fast_calls}
@@ -13,9 +14,11 @@ use Rattle.sa_script.specs.declared.command.DebugCommand.{DebugCommand}
 use Rattle.sa_script.specs.declared.reply.Reply.{Reply}
 use Rattle.sa_script.specs.Reading.{script_of}
 use Rattle.sa_script.specs.Reply.{reply_text}
-use Rattle.sa_debug.specs.Session.{Session, fresh, Does, DoesSoFar, DoAll}
+use Rattle.sa_debug.specs.Session.{Watched, Session, fresh, DoesSoFar, DoAll}
+use Rattle.sa_debug.specs.OverHistories.{over_histories, opening_items}
 use Rattle.sa_debug.specs.OverMachines.{over_machines}
-use Rattle.sa_debug_laws.specs.Sessions.{IsSession, IsLegalSession}
+use Rattle.sa_debug_laws.specs.Sessions.{IsLegalSession}
+use Rattle.sa_debug_laws.specs.Told.{IsTold, by_history}
 use Rattle.sa_debug_run.specs.declared.run.Undebugged.{Undebugged}
 use Rattle.sa_debug_run.specs.declared.run.Undebugged.TheVariants.{BadScript, OutOfMemory}
 
@@ -30,12 +33,12 @@ pub record AreDone (budget : ℕ) (commands : List DebugCommand) (s t : Session 
   pub says : text ≡ replies_text replies
 
 -- some of the commands were done, and the next one perhaps in part
-pub record CameSoFar (budget : ℕ) (commands : List DebugCommand) (s t : Session FastMachine) : Type 0 where
+pub record CameSoFar {M : Type 0} (o : Watched M) (commands : List DebugCommand) (s t : Session M) : Type 0 where
   pub count : ℕ
-  pub between : Session FastMachine
+  pub between : Session M
   pub replies : List Reply
-  pub done : DoAll (over_machines fast_calls budget) (take count commands) s between replies
-  pub last : (t ≡ between) ⊎ ((c : DebugCommand) × (slice_get commands count ≡ Some c) × DoesSoFar (over_machines fast_calls budget) c between t)
+  pub done : DoAll o (take count commands) s between replies
+  pub last : (t ≡ between) ⊎ ((c : DebugCommand) × (slice_get commands count ≡ Some c) × DoesSoFar o c between t)
 
 -- the end that the last line of the trace tells
 abbrev pub told_end : Option End → End
@@ -43,7 +46,8 @@ told_end None = Budget
 told_end (Some end) = end
 
 -- The commands were done from the machine's opening on: these are the texts of the replies, the items of the trace, the end
--- that is told, and the number of events. The trace is a legal and strict run, and it has ended as the definitions say.
+-- that is told, and the number of events. The trace is a legal and strict run, and it has ended as the definitions say. And a
+-- reader of the trace is told the same session: over histories the commands lead to this trace, with the same replies.
 pub record IsOver (w : WorkloadView) (budget : ℕ) (commands : List DebugCommand) (replies : List ℕ) (items : List Item) (end : End) (events : ℕ) : Type 0 where
   pub session : Session FastMachine
   pub done : AreDone budget commands (fresh (opening fast_calls w)) session replies
@@ -51,13 +55,15 @@ pub record IsOver (w : WorkloadView) (budget : ℕ) (commands : List DebugComman
   pub ends : end ≡ told_end (end_of fast_calls budget session.machine)
   pub counts : events ≡ session.machine.event
   pub legal : IsLegalSession w budget session.machine
+  pub told : IsTold w budget commands (by_history session) done.replies
 
 -- the same, as far as it came
 pub record IsPartly (w : WorkloadView) (budget : ℕ) (commands : List DebugCommand) (items : List Item) : Type 0 where
   pub session : Session FastMachine
-  pub came : CameSoFar budget commands (fresh (opening fast_calls w)) session
+  pub came : CameSoFar (over_machines fast_calls budget) commands (fresh (opening fast_calls w)) session
   pub shows : items ≡ session.machine.items
   pub legal : IsLegalSession w budget session.machine
+  pub told : CameSoFar (over_histories fast_threads w budget) commands (fresh (opening_items w)) (by_history session)
 
 -- where memory ran out nothing ran, or some of the commands were done
 abbrev pub RanSoFar : WorkloadView → (budget : ℕ) → List DebugCommand → List Item → Type 0

@@ -1,7 +1,8 @@
 // The commands of a script, one after another.
 ghost use Rattle.std.specs.Prelude.{◌≡◌, All, IfOk, OnErr};
 ghost use Rattle.sa_core.specs.View.{machine};
-ghost use Rattle.sa_debug.specs.OverMachines.{session};
+ghost use Rattle.sa_debug.specs.OverMachines.{over_machines, session};
+ghost use Rattle.sa_package_model.specs.Step.{fast_calls};
 ghost use Rattle.sa_script.specs.Text.{Fits};
 ghost use Rattle.sa_debug_run.specs.Debugged.{AreDone, CameSoFar};
 
@@ -21,7 +22,7 @@ pub(crate) fn do_all(
     requires { All (Fits (machine debugged.old.core).workload) commands.now }
     ensures ok { IfOk result (λ text. AreDone debugged.old.core.budget commands.now
         (session debugged.old) (session debugged.new) text.items) }
-    ensures err { OnErr result (CameSoFar debugged.old.core.budget commands.now
+    ensures err { OnErr result (CameSoFar (over_machines fast_calls debugged.old.core.budget) commands.now
         (session debugged.old) (session debugged.new)) }
     ensures budget { debugged.new.core.budget ≡ debugged.old.core.budget }
 {

@@ -7,7 +7,7 @@ use sa_base::{Bad, End, MAX_EVENTS, Trace, Unread};
 use sa_check_machine::Replay;
 use sa_core::Core;
 use sa_debug::Session;
-use sa_debug_laws::laws::{fast_threads_can_be_debugged, sessions_are_legal};
+use sa_debug_laws::laws::{fast_threads_can_be_debugged, sessions_are_legal, sessions_are_told};
 use sa_package::FastThreads;
 use sa_script::laws::scripts_are_read;
 use sa_script::{DebugCommand, read_script};
@@ -77,6 +77,7 @@ fn do_script(
 {
     fast_threads_can_be_debugged();
     sessions_are_legal();
+    sessions_are_told();
     workload.ranges();
     let Ok(replay) = Replay::start(alloc, &workload) else {
         return Err(Trace::new(alloc));

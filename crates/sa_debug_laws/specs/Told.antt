@@ -1,0 +1,40 @@
+-- What a reader is told of a debugging session of FastThreads: a session over histories.
+use Rattle.std.specs.Prelude.{◌≡◌, ℕ, List}
+use Rattle.sa_base.specs.declared.record.Item.{Item}
+use Rattle.sa_spaces.specs.Workload.{WorkloadView, IsWorkload}
+use Rattle.sa_laws.specs.Rules.{fast_threads}
+use Rattle.sa_package_model.specs.Step.{fast_calls}
+use Rattle.sa_fast_runs.specs.Runs.{FastMachine}
+use Rattle.sa_script.specs.declared.command.DebugCommand.{DebugCommand}
+use Rattle.sa_script.specs.declared.reply.Reply.{Reply}
+use Rattle.sa_debug.specs.OverHistories.{over_histories, opening_items}
+use Rattle.sa_debug.specs.OverMachines.{over_machines}
+use Rattle.sa_debug.specs.Session.{Session, fresh, DoAll, DoesSoFar}
+use Rattle.sa_debug_laws.specs.Sessions.{IsSession}
+
+-- over histories these commands lead from the opening of a workload to a session, with these replies
+abbrev pub Leads : WorkloadView → (budget : ℕ) → List DebugCommand → Session (List Item) → List Reply → Type 0
+Leads w budget commands s replies = DoAll (over_histories fast_threads w budget) commands (fresh (opening_items w)) s replies
+
+-- .. and to no other one with this history, and with no other replies
+pub record IsTold (w : WorkloadView) (budget : ℕ) (commands : List DebugCommand) (s : Session (List Item)) (replies : List Reply) : Type 0 where
+  pub done : Leads w budget commands s replies
+  pub only : (t : Session (List Item)) (others : List Reply) → Leads w budget commands t others → t.machine ≡ s.machine
+      → (t ≡ s) × (others ≡ replies)
+
+-- a session of a machine, by its history
+abbrev pub by_history : Session FastMachine → Session (List Item)
+by_history s = record { machine = s.machine.items; halted = s.halted; points = s.points }
+
+-- A SESSION OF A MACHINE IS ONE OF ITS HISTORY, with the same replies.
+abbrev pub SessionsAreTold : Type 0
+SessionsAreTold =
+    (w : WorkloadView) (budget : ℕ) (commands : List DebugCommand) (s : Session FastMachine) (replies : List Reply)
+    → IsWorkload w → IsSession w budget commands s replies → IsTold w budget commands (by_history s) replies
+
+-- .. and where memory ran out at the next command
+abbrev pub SessionsSoFarAreTold : Type 0
+SessionsSoFarAreTold =
+    (w : WorkloadView) (budget : ℕ) (commands : List DebugCommand) (s t : Session FastMachine) (replies : List Reply) (command : DebugCommand)
+    → IsWorkload w → IsSession w budget commands s replies → DoesSoFar (over_machines fast_calls budget) command s t
+    → DoesSoFar (over_histories fast_threads w budget) command (by_history s) (by_history t)
