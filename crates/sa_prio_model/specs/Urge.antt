@@ -1,0 +1,35 @@
+-- The mark of a context, which is to serve a pair.
+use Rattle.std.specs.Prelude.{Bool, true, false, not, ◌&&◌}
+use Rattle.sa_base.specs.declared.context.Seen.{Seen}
+use Rattle.sa_package_model.specs.declared.context.Context.{Context}
+use Rattle.sa_package_model.specs.declared.context.State.{State}
+use Rattle.sa_package_model.specs.declared.context.State.TheVariants.{User, Look}
+use Rattle.sa_package_model.specs.Context.{carried_by, stands_inside}
+use Rattle.sa_package_model.specs.Rules.{settled}
+use Rattle.sa_prio_model.specs.declared.context.PrioContext.{PrioContext}
+use Rattle.sa_prio_model.specs.Prio.{Prio, has_pair}
+
+abbrev pub unmarked : Context → PrioContext
+unmarked c = record { base = c; urge = false }
+
+-- a context has the mark where it came to an instruction or a look, and a pair exists
+abbrev pub marked : Prio → Seen → Bool → Context → PrioContext
+marked v seen came c = record { base = c; urge = came && has_pair v seen }
+
+-- at an instruction of its thread, or looking for one
+abbrev pub is_out : State → Bool
+is_out state = not (stands_inside state)
+
+-- settling is FastThreads'
+abbrev pub settles : Prio → Seen → Context → PrioContext
+settles v seen c = let d = settled v.base seen c (carried_by c.state) in marked v seen (is_out d.state) d
+
+-- a context came to an instruction or a look from elsewhere: neither from its instruction to the next one, nor from a look
+-- to a further one
+abbrev pub goes_on : State → State → Bool
+goes_on (User t) (User n) = true
+goes_on (Look m) (Look n) = true
+goes_on before after = false
+
+abbrev pub came_out : State → State → Bool
+came_out before after = is_out after && not (goes_on before after)
