@@ -3,15 +3,14 @@ use Rattle.std.proofs.Common.{◌≡◌, ◌⊎◌, ℕ, List, Option, Some, ref
 use Rattle.sa_base.specs.declared.record.Item.{Item}
 use Rattle.sa_workload.specs.Text.{IsText, IsText1}
 use Rattle.sa_workload.specs.Bad.{BadAt, BadAt1}
-use Rattle.sa_command.specs.declared.command.ScheduleWord.{ScheduleWord}
 use Rattle.sa_command.specs.declared.command.Command.{Command}
 use Rattle.sa_command.specs.declared.command.Command.TheVariants.{Run, Threads, Load, Migrate, Check, Vp, Debug}
 use Rattle.sa_cli.specs.declared.outcome.Ran.{Ran}
 use Rattle.sa_cli.specs.declared.outcome.Status.{Status}
 use Rattle.sa_cli.specs.declared.outcome.Status.TheVariants.{AllDone, Usage, BadWorkload, Stuck, Budget, ReadFault, WriteFault, OutOfMemory, Migrated, Checked, Broken, BadTrace, Quit, BadScript}
 use Rattle.sa_cli.specs.Outcome.{HasEnded, history, status_of_found}
-use Rattle.sa_cli.specs.Answers.{World}
-use Rattle.sa_cli.specs.Commands.{AnswersRun, AnswersLoad, MigrateAnswers, CheckAnswers, Answers}
+use Rattle.sa_cli.specs.Answers.{World, Plan}
+use Rattle.sa_cli.specs.Commands.{run_plan, AnswersRun, AnswersLoad, MigrateAnswers, CheckAnswers, Answers}
 use Rattle.sa_cli.specs.Complete.{NoWriteFailed, Takes, Refuses, Finds, IsComplete, IsCompleteTo}
 use Rattle.sa_check.specs.declared.verdict.Verdict.TheVariants.{Legal}
 use Rattle.sa_check.specs.declared.verdict.Verdict.TheVariants as check
@@ -23,45 +22,45 @@ use Rattle.sa_cli.proofs.SharedResults.{shared-takes, shared-refuses}
 use Rattle.sa_cli.proofs.VirtualResults.{virtual-takes, virtual-refuses}
 use Rattle.sa_cli.proofs.Inputs.{all-parted, first-parted, told-not_refused, told-refused_once, gave-not_refused}
 
-run-takes : (schedule : ScheduleWord) (budget : ℕ) (old new : World) (items : List Item) (status : Status)
-    → AnswersRun schedule budget old new items status → Takes IsText old new status (HasEnded status)
-run-takes schedule budget old new items AllDone answers = λ input w told is short reads writes. inl tt
-run-takes schedule budget old new items Stuck answers = λ input w told is short reads writes. inl tt
-run-takes schedule budget old new items Budget answers = λ input w told is short reads writes. inl tt
-run-takes schedule budget old new items OutOfMemory answers = λ input w told is short reads writes. inr refl
-run-takes schedule budget old new items (BadWorkload bad) answers = λ input w told is short reads writes.
+run-takes : (plan : Plan) (old new : World) (items : List Item) (status : Status)
+    → AnswersRun plan old new items status → Takes IsText old new status (HasEnded status)
+run-takes plan old new items AllDone answers = λ input w told is short reads writes. inl tt
+run-takes plan old new items Stuck answers = λ input w told is short reads writes. inl tt
+run-takes plan old new items Budget answers = λ input w told is short reads writes. inl tt
+run-takes plan old new items OutOfMemory answers = λ input w told is short reads writes. inr refl
+run-takes plan old new items (BadWorkload bad) answers = λ input w told is short reads writes.
     absurd (told-not_refused IsText BadAt all-parted old.left input w bad told is short answers.0)
-run-takes schedule budget old new items ReadFault answers = λ input w told is short reads writes. absurd (reads answers.0)
-run-takes schedule budget old new items WriteFault answers = λ input w told is short reads writes. absurd (writes answers.0)
-run-takes schedule budget old new items Usage answers = absurd answers
-run-takes schedule budget old new items Checked answers = absurd answers
-run-takes schedule budget old new items (Broken event rule) answers = absurd answers
-run-takes schedule budget old new items (BadTrace bad) answers = absurd answers
-run-takes schedule budget old new items Quit answers = absurd answers
-run-takes schedule budget old new items (BadScript bad) answers = absurd answers
-run-takes schedule budget old new items Migrated answers = absurd answers
+run-takes plan old new items ReadFault answers = λ input w told is short reads writes. absurd (reads answers.0)
+run-takes plan old new items WriteFault answers = λ input w told is short reads writes. absurd (writes answers.0)
+run-takes plan old new items Usage answers = absurd answers
+run-takes plan old new items Checked answers = absurd answers
+run-takes plan old new items (Broken event rule) answers = absurd answers
+run-takes plan old new items (BadTrace bad) answers = absurd answers
+run-takes plan old new items Quit answers = absurd answers
+run-takes plan old new items (BadScript bad) answers = absurd answers
+run-takes plan old new items Migrated answers = absurd answers
 
-run-refuses : (schedule : ScheduleWord) (budget : ℕ) (old new : World) (items : List Item) (status : Status)
-    → AnswersRun schedule budget old new items status → Refuses BadAt old new status
-run-refuses schedule budget old new items AllDone answers = λ input bad told refused reads.
+run-refuses : (plan : Plan) (old new : World) (items : List Item) (status : Status)
+    → AnswersRun plan old new items status → Refuses BadAt old new status
+run-refuses plan old new items AllDone answers = λ input bad told refused reads.
     absurd (gave-not_refused IsText BadAt all-parted old.left new.left answers.workload input bad told answers.is refused)
-run-refuses schedule budget old new items Stuck answers = λ input bad told refused reads.
+run-refuses plan old new items Stuck answers = λ input bad told refused reads.
     absurd (gave-not_refused IsText BadAt all-parted old.left new.left answers.workload input bad told answers.is refused)
-run-refuses schedule budget old new items Budget answers = λ input bad told refused reads.
+run-refuses plan old new items Budget answers = λ input bad told refused reads.
     absurd (gave-not_refused IsText BadAt all-parted old.left new.left answers.workload input bad told answers.is refused)
-run-refuses schedule budget old new items OutOfMemory answers = λ input bad told refused reads. inr refl
-run-refuses schedule budget old new items (BadWorkload other) answers = λ input bad told refused reads.
+run-refuses plan old new items OutOfMemory answers = λ input bad told refused reads. inr refl
+run-refuses plan old new items (BadWorkload other) answers = λ input bad told refused reads.
     inl (ap BadWorkload (told-refused_once IsText BadAt all-parted old.left input other bad told answers.0 refused))
-run-refuses schedule budget old new items ReadFault answers = λ input bad told refused reads. absurd (reads answers.0)
-run-refuses schedule budget old new items WriteFault answers = λ input bad told refused reads.
+run-refuses plan old new items ReadFault answers = λ input bad told refused reads. absurd (reads answers.0)
+run-refuses plan old new items WriteFault answers = λ input bad told refused reads.
     absurd (gave-not_refused IsText BadAt all-parted old.left new.left answers.1.1.workload input bad told answers.1.1.is refused)
-run-refuses schedule budget old new items Usage answers = absurd answers
-run-refuses schedule budget old new items Checked answers = absurd answers
-run-refuses schedule budget old new items (Broken event rule) answers = absurd answers
-run-refuses schedule budget old new items (BadTrace bad) answers = absurd answers
-run-refuses schedule budget old new items Quit answers = absurd answers
-run-refuses schedule budget old new items (BadScript bad) answers = absurd answers
-run-refuses schedule budget old new items Migrated answers = absurd answers
+run-refuses plan old new items Usage answers = absurd answers
+run-refuses plan old new items Checked answers = absurd answers
+run-refuses plan old new items (Broken event rule) answers = absurd answers
+run-refuses plan old new items (BadTrace bad) answers = absurd answers
+run-refuses plan old new items Quit answers = absurd answers
+run-refuses plan old new items (BadScript bad) answers = absurd answers
+run-refuses plan old new items Migrated answers = absurd answers
 
 load-ends : (number budget : ℕ) (old new : World) (items : List Item) (status : Status)
     → AnswersLoad number budget old new items status → NoWriteFailed old new → HasEnded status ⊎ (status ≡ OutOfMemory)
@@ -140,8 +139,9 @@ check-finds old new Migrated answers = absurd answers
 
 answers-complete : (command : Command) (old new : World) (ran : Ran) (status : Status)
     → Answers command old new ran status → IsComplete command old new status
-answers-complete (Run schedule budget) old new ran status answers =
-    (run-takes schedule budget old new (history ran) status answers, run-refuses schedule budget old new (history ran) status answers)
+answers-complete (Run schedule budget user_level) old new ran status answers =
+    let plan = run_plan schedule budget user_level in
+    (run-takes plan old new (history ran) status answers, run-refuses plan old new (history ran) status answers)
 answers-complete (Threads budget burst) old new ran status answers =
     (shared-takes budget old new ran status answers, shared-refuses budget old new ran status answers)
 answers-complete (Load number budget) old new ran status answers = load-ends number budget old new (history ran) status answers

@@ -6,6 +6,7 @@ mod Parts
 mod Finds
 mod Scripts
 mod Sessions
+mod Packages
 mod Results
 mod SharedResults
 mod VirtualResults

@@ -8,10 +8,7 @@ use Rattle.sa_base.specs.declared.record.End.TheVariants as end
 use Rattle.sa_spaces.specs.Workload.{WorkloadView, IsWorkload}
 use Rattle.sa_workload.specs.Text.{IsText}
 use Rattle.sa_workload.specs.Bad.{BadAt, BadAt1}
-use Rattle.sa_package_model.specs.Step.{fast_calls}
 use Rattle.sa_run.specs.Run.{RunsTo, RunsSoFar}
-use Rattle.sa_fast_runs.proofs.Whole.{so-far-legal, whole-legal}
-use Rattle.sa_command.specs.declared.command.ScheduleWord.{ScheduleWord}
 use Rattle.sa_command.specs.declared.command.Command.{Command}
 use Rattle.sa_command.specs.declared.command.Command.TheVariants.{Run, Threads, Load, Migrate, Check, Vp, Debug}
 use Rattle.sa_cli.specs.declared.outcome.Status.{Status}
@@ -22,67 +19,68 @@ use Rattle.sa_cli.specs.Outcome.{status_of_end, history}
 use Rattle.sa_cli.specs.Input.{GaveText, GaveSliced}
 use Rattle.sa_cli.specs.Refusals.{NothingRead}
 use Rattle.sa_cli.specs.Answers.{World, Plan, Ended, Came, RunAnswers, TookAll, TookSome, Writes}
-use Rattle.sa_cli.specs.Commands.{run_plan, AnswersRun, MigrateAnswers, Answers, AnswersTo}
+use Rattle.sa_cli.specs.Commands.{AnswersRun, MigrateAnswers, Answers, AnswersTo}
+use Rattle.sa_cli.proofs.Packages.{AreKept}
 
 -- where nothing was read, nothing ran
-pub nothing-run : (schedule : ScheduleWord) (budget : ℕ) (old new : World) (status : Status)
-    → NothingRead BadAt old.left old.reads new.reads status → AnswersRun schedule budget old new [] status
-nothing-run schedule budget old new (BadWorkload bad) cause = (cause, refl)
-nothing-run schedule budget old new ReadFault cause = (cause, refl)
-nothing-run schedule budget old new OutOfMemory cause = inl refl
-nothing-run schedule budget old new AllDone cause = absurd cause
-nothing-run schedule budget old new Usage cause = absurd cause
-nothing-run schedule budget old new Stuck cause = absurd cause
-nothing-run schedule budget old new Budget cause = absurd cause
-nothing-run schedule budget old new WriteFault cause = absurd cause
-nothing-run schedule budget old new Migrated cause = absurd cause
-nothing-run schedule budget old new Checked cause = absurd cause
-nothing-run schedule budget old new (Broken event rule) cause = absurd cause
-nothing-run schedule budget old new (BadTrace bad) cause = absurd cause
-nothing-run schedule budget old new Quit cause = absurd cause
-nothing-run schedule budget old new (BadScript bad) cause = absurd cause
+pub nothing-run : (plan : Plan) (old new : World) (status : Status)
+    → NothingRead BadAt old.left old.reads new.reads status → AnswersRun plan old new [] status
+nothing-run plan old new (BadWorkload bad) cause = (cause, refl)
+nothing-run plan old new ReadFault cause = (cause, refl)
+nothing-run plan old new OutOfMemory cause = inl refl
+nothing-run plan old new AllDone cause = absurd cause
+nothing-run plan old new Usage cause = absurd cause
+nothing-run plan old new Stuck cause = absurd cause
+nothing-run plan old new Budget cause = absurd cause
+nothing-run plan old new WriteFault cause = absurd cause
+nothing-run plan old new Migrated cause = absurd cause
+nothing-run plan old new Checked cause = absurd cause
+nothing-run plan old new (Broken event rule) cause = absurd cause
+nothing-run plan old new (BadTrace bad) cause = absurd cause
+nothing-run plan old new Quit cause = absurd cause
+nothing-run plan old new (BadScript bad) cause = absurd cause
 
 -- what a run answers, `run` answers
-pub run-answers : (schedule : ScheduleWord) (budget : ℕ) (old new : World) (items : List Item) (status : Status)
-    → RunAnswers (GaveText IsText old.left new.left) (run_plan schedule budget) old new items status
-    → AnswersRun schedule budget old new items status
-run-answers schedule budget old new items AllDone answers = answers
-run-answers schedule budget old new items Stuck answers = answers
-run-answers schedule budget old new items Budget answers = answers
-run-answers schedule budget old new items WriteFault answers = answers
-run-answers schedule budget old new items OutOfMemory answers = answers
-run-answers schedule budget old new items Usage answers = answers
-run-answers schedule budget old new items Migrated answers = answers
-run-answers schedule budget old new items ReadFault answers = absurd answers
-run-answers schedule budget old new items (BadWorkload bad) answers = absurd answers
-run-answers schedule budget old new items Checked answers = absurd answers
-run-answers schedule budget old new items (Broken event rule) answers = absurd answers
-run-answers schedule budget old new items (BadTrace bad) answers = absurd answers
-run-answers schedule budget old new items Quit answers = absurd answers
-run-answers schedule budget old new items (BadScript bad) answers = absurd answers
+pub run-answers : (plan : Plan) (old new : World) (items : List Item) (status : Status)
+    → RunAnswers (GaveText IsText old.left new.left) plan old new items status
+    → AnswersRun plan old new items status
+run-answers plan old new items AllDone answers = answers
+run-answers plan old new items Stuck answers = answers
+run-answers plan old new items Budget answers = answers
+run-answers plan old new items WriteFault answers = answers
+run-answers plan old new items OutOfMemory answers = answers
+run-answers plan old new items Usage answers = answers
+run-answers plan old new items Migrated answers = answers
+run-answers plan old new items ReadFault answers = absurd answers
+run-answers plan old new items (BadWorkload bad) answers = absurd answers
+run-answers plan old new items Checked answers = absurd answers
+run-answers plan old new items (Broken event rule) answers = absurd answers
+run-answers plan old new items (BadTrace bad) answers = absurd answers
+run-answers plan old new items Quit answers = absurd answers
+run-answers plan old new items (BadScript bad) answers = absurd answers
 
 -- a run that ended was written, or cut
-module _ (mine : WorkloadView → Type 0) (plan : Plan) (old new : World) where
+module _ (mine : WorkloadView → Type 0) (plan : Plan) (kept : AreKept plan.runs) (old new : World) where
   ended-written : (items : List Item) (e : End) → Ended mine plan (TookAll old new) items e
       → RunAnswers mine plan old new items (status_of_end e)
   ended-written items end.AllDone ended = ended
   ended-written items end.Stuck ended = ended
   ended-written items end.Budget ended = ended
 
-  -- what ran is a legal run
+  -- what is promised of each run
   ended-so : (items : List Item) (w : WorkloadView) (e : End) (events : ℕ) (goes : List ℕ → Type 0) → mine w → IsWorkload w
-      → RunsTo fast_calls w (plan.order w) plan.budget items e events → goes (plan.shown items e events) → Ended mine plan goes items e
+      → RunsTo plan.runs.calls w (plan.order w) plan.budget items e events → goes (plan.shown items e events) → Ended mine plan goes items e
   ended-so items w e events goes is ok runs went =
-      let legal = whole-legal w (plan.order w) plan.budget items e events ok runs in
-      record { workload = w; is = is; events = events; run = runs; legal = legal.0; ends = legal.1; went = went }
+      let both = kept.ended w (plan.order w) plan.budget items e events ok runs in
+      record { workload = w; is = is; events = events; run = runs; keeps = both.0; ends = both.1; went = went }
 
-  came-so : (items : List Item) (w : WorkloadView) → mine w → IsWorkload w → RunsSoFar fast_calls w (plan.order w) plan.budget items
+  came-so : (items : List Item) (w : WorkloadView) → mine w → IsWorkload w → RunsSoFar plan.runs.calls w (plan.order w) plan.budget items
       → Came mine plan items
   came-so items w is ok runs =
-      record { workload = w; is = is; run = runs; legal = so-far-legal w (plan.order w) plan.budget items ok runs }
+      record { workload = w; is = is; run = runs; keeps = kept.came w (plan.order w) plan.budget items ok runs }
 
   written-answers : (items : List Item) (w : WorkloadView) (e : End) (events : ℕ) (status : Status) → mine w → IsWorkload w
-      → RunsTo fast_calls w (plan.order w) plan.budget items e events
+      → RunsTo plan.runs.calls w (plan.order w) plan.budget items e events
       → Writes old.taken new.taken old.writes new.writes (plan.shown items e events) (status_of_end e) status
       → RunAnswers mine plan old new items status
   written-answers items w e events status is ok runs (inl whole) =
@@ -94,7 +92,7 @@ module _ (mine : WorkloadView → Type 0) (plan : Plan) (old new : World) where
 
   -- .. where the machine that ran has this trace
   pub ended-answers : (ran : Ran) (trace : Recorded) (w : WorkloadView) (e : End) (events : ℕ) (status : Status) → ran ≡ Plain trace → mine w → IsWorkload w
-      → RunsTo fast_calls w (plan.order w) plan.budget trace.items e events
+      → RunsTo plan.runs.calls w (plan.order w) plan.budget trace.items e events
       → Writes old.taken new.taken old.writes new.writes (plan.shown trace.items e events) (status_of_end e) status
       → RunAnswers mine plan old new (history ran) status
   ended-answers ran trace w e events status plain is ok runs writes =
@@ -103,7 +101,7 @@ module _ (mine : WorkloadView → Type 0) (plan : Plan) (old new : World) where
 
   -- .. or where memory ran out on the way
   pub stopped-answers : (ran : Ran) (trace : Recorded) (w : WorkloadView) (status : Status) → ran ≡ Plain trace → status ≡ OutOfMemory
-      → mine w → IsWorkload w → (trace.items ≡ []) ⊎ RunsSoFar fast_calls w (plan.order w) plan.budget trace.items
+      → mine w → IsWorkload w → (trace.items ≡ []) ⊎ RunsSoFar plan.runs.calls w (plan.order w) plan.budget trace.items
       → RunAnswers mine plan old new (history ran) status
   stopped-answers ran trace w status plain out is ok runs =
       subst (λ (r : Ran). RunAnswers mine plan old new (history r) status) (sym plain)
@@ -145,7 +143,7 @@ answers-to o command old new ran status is answers =
 
 -- no command is answered as words that are none
 not-usage : (command : Command) (old new : World) (ran : Ran) → Answers command old new ran Usage → ⊥
-not-usage (Run schedule budget) old new ran answers = answers
+not-usage (Run schedule budget user_level) old new ran answers = answers
 not-usage (Threads budget burst) old new ran answers = answers
 not-usage (Load number budget) old new ran answers = answers
 not-usage (Migrate slice) old new ran answers = answers.1

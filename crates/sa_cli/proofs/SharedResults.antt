@@ -29,7 +29,7 @@ use Rattle.sa_cli.proofs.Inputs.{all-parted, told-not_refused, told-refused_once
 -- the limits are those of the command
 pub is-threads : (o : Option Command) (limits : Limits) → limits_of o ≡ Some limits → o ≡ Some (Threads limits.budget limits.burst)
 is-threads None limits e = absurd cc
-is-threads (Some (Run schedule budget)) limits e = absurd cc
+is-threads (Some (Run schedule budget user_level)) limits e = absurd cc
 is-threads (Some (Threads budget burst)) limits e = cc
 is-threads (Some (Load number budget)) limits e = absurd cc
 is-threads (Some (Migrate slice)) limits e = absurd cc

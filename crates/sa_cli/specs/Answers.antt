@@ -7,11 +7,10 @@ use Rattle.sa_base.specs.declared.record.End.TheVariants as end
 use Rattle.sa_io.specs.Faults.{HasRisen, AppendsPrefix}
 use Rattle.sa_spaces.specs.Workload.{WorkloadView}
 use Rattle.sa_sched.specs.Order.{Order}
-use Rattle.sa_package_model.specs.Step.{fast_calls}
 use Rattle.sa_run.specs.Run.{RunsTo, RunsSoFar}
-use Rattle.sa_fast_runs.specs.Whole.{IsTurnByTurn, IsEnded}
 use Rattle.sa_cli.specs.declared.outcome.Status.{Status}
 use Rattle.sa_cli.specs.declared.outcome.Status.TheVariants.{AllDone, Stuck, Budget, WriteFault, OutOfMemory}
+use Rattle.sa_cli.specs.Packages.{PackageRuns}
 
 -- what source and sink tell: what is left, what was taken, and how many reads and writes failed
 pub record World : Type 0 where
@@ -27,29 +26,30 @@ world left taken reads writes = record { left = left; taken = taken; reads = rea
 abbrev pub Shown : Type 0
 Shown = List Item → End → ℕ → List ℕ
 
--- a run of FastThreads in each space: whose turn the workload's events are, within how many events, and what is written of it
-pub record Plan : Type 0 where
+-- a run: the user level of each space, whose turn the workload's events are, within how many events, and what is written of it
+pub record Plan : Type 1 where
+  pub runs : PackageRuns
   pub order : WorkloadView → Order
   pub budget : ℕ
   pub shown : Shown
 
--- The run of one of these workloads ended so, and its text went to the sink in this way. It is a legal and strict run whose
--- events follow the order, and it has ended as the definitions say; and it is exactly the machine's run.
+-- The run of one of these workloads ended so, and its text went to the sink in this way. It is exactly the machine's run,
+-- turn by turn in the order and up to its first end, and what is promised of the user level's runs holds of it.
 pub record Ended (ran : WorkloadView → Type 0) (plan : Plan) (goes : List ℕ → Type 0) (items : List Item) (end : End) : Type 0 where
   pub workload : WorkloadView
   pub is : ran workload
   pub events : ℕ
-  pub run : RunsTo fast_calls workload (plan.order workload) plan.budget items end events
-  pub legal : IsTurnByTurn workload (plan.order workload) items events
-  pub ends : IsEnded workload plan.budget items end events
+  pub run : RunsTo plan.runs.calls workload (plan.order workload) plan.budget items end events
+  pub keeps : plan.runs.Keeps workload (plan.order workload) items events
+  pub ends : plan.runs.Ends workload plan.budget items end events
   pub went : goes (plan.shown items end events)
 
--- the run of one of these workloads came so far: it is as legal
+-- the run of one of these workloads came so far
 pub record Came (ran : WorkloadView → Type 0) (plan : Plan) (items : List Item) : Type 0 where
   pub workload : WorkloadView
   pub is : ran workload
-  pub run : RunsSoFar fast_calls workload (plan.order workload) plan.budget items
-  pub legal : IsTurnByTurn workload (plan.order workload) items run.events
+  pub run : RunsSoFar plan.runs.calls workload (plan.order workload) plan.budget items
+  pub keeps : plan.runs.Keeps workload (plan.order workload) items run.events
 
 -- the sink took the whole text, or a prefix of it
 abbrev pub TookAll : World → World → List ℕ → Type 0

@@ -8,6 +8,7 @@ use Rattle.sa_trace.specs.TraceText.{trace_text, last_line_of}
 use Rattle.sa_workload.specs.Text.{IsText}
 use Rattle.sa_workload.specs.Bad.{BadAt, BadAt1}
 use Rattle.sa_command.specs.declared.command.ScheduleWord.{ScheduleWord}
+use Rattle.sa_command.specs.declared.command.PackageWord.{PackageWord}
 use Rattle.sa_command.specs.declared.command.Command.{Command}
 use Rattle.sa_command.specs.declared.command.Command.TheVariants.{Run, Threads, Load, Migrate, Check, Vp, Debug}
 use Rattle.sa_cli.specs.declared.outcome.Ran.{Ran}
@@ -25,24 +26,25 @@ use Rattle.sa_cli.specs.declared.found.Found.TheVariants.{Judged}
 use Rattle.sa_cli.specs.declared.found.Found.TheVariants as found
 use Rattle.sa_cli.specs.Texts.{GaveFound}
 use Rattle.sa_cli.specs.Schedules.{order_by}
+use Rattle.sa_cli.specs.Packages.{fast_runs, runs_of}
 use Rattle.sa_cli.specs.Answers.{World, Plan, RunAnswers, TookAll, TookSome}
 use Rattle.sa_cli.specs.Shared.{AnswersThreads}
 use Rattle.sa_cli.specs.Virtual.{AnswersVp}
 use Rattle.sa_cli.specs.Debugging.{AnswersDebug}
 
--- `run`: the workload is that of which the source gave the text, and the whole trace text is written
-abbrev pub run_plan : ScheduleWord → ℕ → Plan
-run_plan schedule budget = record { order = order_by schedule; budget = budget; shown = trace_text }
+-- `run`: the workload is that of which the source gave the text, the user level that of the word, and the whole trace text
+-- is written
+abbrev pub run_plan : ScheduleWord → ℕ → PackageWord → Plan
+run_plan schedule budget user_level = record { runs = runs_of user_level; order = order_by schedule; budget = budget; shown = trace_text }
 
-abbrev pub AnswersRun : ScheduleWord → ℕ → World → World → List Item → Status → Type 0
-AnswersRun schedule budget old new items ReadFault = HasRisen old.reads new.reads × (items ≡ [])
-AnswersRun schedule budget old new items (BadWorkload bad) = IsRefused BadAt old.left bad × (items ≡ [])
-AnswersRun schedule budget old new items status =
-    RunAnswers (GaveText IsText old.left new.left) (run_plan schedule budget) old new items status
+abbrev pub AnswersRun : Plan → World → World → List Item → Status → Type 0
+AnswersRun plan old new items ReadFault = HasRisen old.reads new.reads × (items ≡ [])
+AnswersRun plan old new items (BadWorkload bad) = IsRefused BadAt old.left bad × (items ≡ [])
+AnswersRun plan old new items status = RunAnswers (GaveText IsText old.left new.left) plan old new items status
 
--- `load`: the workload is that of the number, and the last line alone is written; nothing is read
+-- `load`: the workload is that of the number, the user level FastThreads, and the last line alone is written; nothing is read
 abbrev pub load_plan : ℕ → Plan
-load_plan budget = record { order = λ w. RoundRobin; budget = budget; shown = last_line_of }
+load_plan budget = record { runs = fast_runs; order = λ w. RoundRobin; budget = budget; shown = last_line_of }
 
 abbrev pub AnswersLoad : ℕ → ℕ → World → World → List Item → Status → Type 0
 AnswersLoad number budget old new items status = RunAnswers (λ w. w ≡ generated number) (load_plan budget) old new items status
@@ -78,7 +80,7 @@ CheckAnswers old new other = ⊥
 
 -- .. by what ran and the status
 abbrev pub Answers : Command → World → World → Ran → Status → Type 0
-Answers (Run schedule budget) old new ran status = AnswersRun schedule budget old new (history ran) status
+Answers (Run schedule budget user_level) old new ran status = AnswersRun (run_plan schedule budget user_level) old new (history ran) status
 Answers (Threads budget burst) old new ran status = AnswersThreads budget old new ran status
 Answers (Load number budget) old new ran status = AnswersLoad number budget old new (history ran) status
 Answers (Migrate slice) old new ran status = (ran ≡ Nothing) × MigrateAnswers slice old new status

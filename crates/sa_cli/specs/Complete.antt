@@ -49,7 +49,7 @@ Debugs old new status =
     → NoReadFailed old new → NoWriteFailed old new → (status ≡ status_of_scripted found) ⊎ (status ≡ OutOfMemory)
 
 abbrev pub IsComplete : Command → World → World → Status → Type 0
-IsComplete (Run schedule budget) old new status = Takes IsText old new status (HasEnded status) × Refuses BadAt old new status
+IsComplete (Run schedule budget user_level) old new status = Takes IsText old new status (HasEnded status) × Refuses BadAt old new status
 IsComplete (Threads budget burst) old new status = Takes IsText old new status (HasEnded status) × Refuses BadAt old new status
 IsComplete (Load number budget) old new status = NoWriteFailed old new → HasEnded status ⊎ (status ≡ OutOfMemory)
 IsComplete (Migrate slice) old new status = Takes IsText1 old new status (status ≡ Migrated) × Refuses BadAt1 old new status

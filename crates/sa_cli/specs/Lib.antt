@@ -3,6 +3,7 @@ pub mod Outcome
 pub mod Refusals
 pub mod Texts
 pub mod Schedules
+pub mod Packages
 pub mod Answers
 pub mod Debugging
 pub mod Scripted

@@ -60,7 +60,13 @@ pub fn run_one<S: Source, K: Sink>(
     commands_are_in_range();
     match read_words(words) {
         None => Outcome::nothing(Status::Usage),
-        Some(Command::Run { schedule, budget }) => run_text(alloc, schedule, budget, source, sink),
+        Some(
+            Command::Run {
+                schedule,
+                budget,
+                user_level,
+            },
+        ) => run_text(alloc, schedule, budget, user_level, source, sink),
         Some(Command::Threads { .. }) => unreachable!(),
         Some(Command::Load { number, budget }) => run_generated(alloc, number, budget, sink),
         Some(Command::Migrate { slice }) => Outcome::nothing(migrate(alloc, slice, source, sink)),

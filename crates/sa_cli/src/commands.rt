@@ -1,31 +1,35 @@
 // The commands.
-ghost use Rattle.std.specs.Prelude.{◌≡◌, ℕ, ◌≤◌, List, Option, IfOk};
+ghost use Rattle.std.specs.Prelude.{◌≡◌, ◌⊎◌, ℕ, ◌≤◌, List, [], Option, IfOk, IfErr};
 ghost use Rattle.sa_sched.specs.Kind.{order_of, AreAmong};
 ghost use Rattle.sa_cli.specs.Input.{LosesPrefix};
 ghost use Rattle.sa_cli.specs.Outcome.{history, RanHere, WritesNothing};
+ghost use Rattle.sa_run.specs.Run.{RunsTo, RunsSoFar};
 ghost use Rattle.sa_cli.specs.Schedules.{order_by};
+ghost use Rattle.sa_cli.specs.Packages.{runs_of};
 ghost use Rattle.sa_cli.specs.Answers.{World, world};
-ghost use Rattle.sa_cli.specs.Commands.{AnswersRun, AnswersLoad, MigrateAnswers, CheckAnswers};
+ghost use Rattle.sa_cli.specs.Commands.{run_plan, AnswersRun, AnswersLoad, MigrateAnswers, CheckAnswers};
 
 use crate::found::{Found, read_found};
 use crate::outcome::{Outcome, Status};
 use crate::reading::{migrated_text, read_workload};
 use crate::writing::{write_last_line, write_trace, write_verdict, written};
-use sa_base::MAX_EVENTS;
-use sa_command::ScheduleWord;
+use sa_base::{MAX_EVENTS, Trace};
+use sa_command::{PackageWord, ScheduleWord};
 use sa_instr::MAX_SLICE;
 use sa_io::{Sink, Source};
 use sa_package::FastThreads;
-use sa_run::run;
+use sa_prio::PrioThreads;
+use sa_run::{Ended, run};
 use sa_sched::Kind;
 use sa_spaces::Workload;
 use std::alloc::{AllocError, Global};
 
-/// `run`: the workload of the source, by this order of turns and within the budget; writes the trace text.
+/// `run`: the workload of the source with this user level, by this order of turns and within the budget; writes the trace text.
 pub(crate) fn run_text<S: Source, K: Sink>(
     alloc: Global,
     schedule: ScheduleWord,
     budget: u64,
+    user_level: PackageWord,
     source: &mut S,
     sink: &mut K,
 ) -> Outcome
@@ -40,7 +44,7 @@ pub(crate) fn run_text<S: Source, K: Sink>(
         = world (S.left source.old) (K.taken sink.old) (S.faults source.old) (K.faults sink.old) in
         let after : World
         = world (S.left source.new) (K.taken sink.new) (S.faults source.new) (K.faults sink.new) in
-        AnswersRun schedule budget before after (history result.ran) result.status }
+        AnswersRun (run_plan schedule budget user_level) before after (history result.ran) result.status }
 {
     let workload = match read_workload(alloc, source) {
         Ok(workload) => workload,
@@ -50,9 +54,31 @@ pub(crate) fn run_text<S: Source, K: Sink>(
         return Outcome::nothing(Status::OutOfMemory);
     };
     workload.ranges();
-    match run::<FastThreads>(alloc, workload, kind, budget) {
+    match run_with(alloc, user_level, workload, kind, budget) {
         Ok(ended) => write_trace(ended, sink),
         Err(trace) => Outcome::plain(Status::OutOfMemory, trace),
+    }
+}
+
+// Runs the workload with the user level of the word.
+fn run_with(
+    alloc: Global,
+    user_level: PackageWord,
+    workload: Workload,
+    kind: Kind,
+    budget: u64,
+) -> Result<Ended, Trace>
+    requires some { 1 ≤ budget }
+    requires few { budget ≤ MAX_EVENTS }
+    requires among { AreAmong workload.processors (order_of kind) }
+    ensures ok { IfOk result (λ ended. RunsTo (runs_of user_level).calls workload (order_of kind) budget
+        ended.trace.items ended.end ended.events) }
+    ensures err { IfErr result (λ trace. (trace.items ≡ [])
+        ⊎ RunsSoFar (runs_of user_level).calls workload (order_of kind) budget trace.items) }
+{
+    match user_level {
+        PackageWord::Fast => run::<FastThreads>(alloc, workload, kind, budget),
+        PackageWord::Prio => run::<PrioThreads>(alloc, workload, kind, budget),
     }
 }
 

@@ -7,13 +7,14 @@ use Rattle.std.specs.Option.{option_map}
 use Rattle.std.specs.Str.{bytes_eq}
 use Rattle.sa_base.specs.declared.limits.TheConstants.{MAX_BURST, MAX_EVENTS, DEFAULT_BUDGET, DEFAULT_BURST}
 use Rattle.sa_command.specs.declared.command.ScheduleWord.TheVariants.{RoundRobin}
+use Rattle.sa_command.specs.declared.command.PackageWord.TheVariants.{Fast}
 use Rattle.sa_command.specs.declared.command.Command.{Command}
 use Rattle.sa_command.specs.declared.command.Command.TheVariants.{Run, Threads, Load, Migrate, Vp, Debug}
 use Rattle.sa_command.specs.declared.options.Options.{Options}
 use Rattle.sa_command.specs.declared.options.Settings.{Settings}
 use Rattle.sa_text.specs.Number.{number_of}
-use Rattle.sa_command.specs.Values.{within, number_within, schedule_of}
-use Rattle.sa_command.specs.Commands.{with_schedule, with_budget, with_burst, with_option, settings_of, nothing_set, set_by, run_of, threads_of, load_of, migrate_of, check_of, vp_of, debug_of, named, command_of}
+use Rattle.sa_command.specs.Values.{within, number_within, schedule_of, package_of}
+use Rattle.sa_command.specs.Commands.{with_schedule, with_budget, with_burst, with_package, with_option, settings_of, nothing_set, set_by, run_options, threads_options, turn_options, budget_option, run_of, threads_of, load_of, migrate_of, check_of, vp_of, debug_of, named, command_of}
 use Rattle.sa_command.specs.Ranges.{IsFrom, IsInRange, CommandsAreInRange}
 
 -- what holds of the value, if there is one, holds behind a step that keeps it
@@ -67,10 +68,14 @@ with_option-range taken s name value h =
     (number-within 1 MAX_EVENTS value) (λ n k. record { budget = k; burst = h.burst }) in
     let schedule = option-range (λ x. ⊤) (λ x. record s { schedule = Some x }) (taken.schedule && is_none s.schedule) (schedule_of value)
     (any (schedule_of value)) (λ x k. record { budget = h.budget; burst = h.burst }) in
-    let behind = if bytes_eq name (codes "--burst") then with_burst taken s value else None in
+    let user_level = option-range (λ x. ⊤) (λ x. record s { user_level = Some x }) (taken.user_level && is_none s.user_level) (package_of value)
+    (any (package_of value)) (λ x k. record { budget = h.budget; burst = h.burst }) in
+    let last = if bytes_eq name (codes "--package") then with_package taken s value else None in
+    let behind = if bytes_eq name (codes "--burst") then with_burst taken s value else last in
     chosen AreFine (bytes_eq name (codes "--schedule")) (with_schedule taken s value) (if bytes_eq name (codes "--budget") then with_budget taken s value else behind) schedule
     (chosen AreFine (bytes_eq name (codes "--budget")) (with_budget taken s value) behind budget
-    (chosen AreFine (bytes_eq name (codes "--burst")) (with_burst taken s value) None burst tt))
+    (chosen AreFine (bytes_eq name (codes "--burst")) (with_burst taken s value) last burst
+    (chosen AreFine (bytes_eq name (codes "--package")) (with_package taken s value) None user_level tt)))
 
 settings-range : (taken : Options) (s : Settings) (words : List (List ℕ)) → AreFine s → IfSome (settings_of taken s words) AreFine
 settings-range taken s [] h = h
@@ -93,23 +98,23 @@ burst-range (Some n) h = h
 
 run-range : (words : List (List ℕ)) → IfSome (run_of words) IsInRange
 run-range words =
-    mapped AreFine IsInRange (λ s. Run (unwrap_or s.schedule RoundRobin) (unwrap_or s.budget DEFAULT_BUDGET))
-    (set_by (record { schedule = true; budget = true; burst = false }) words) (set-range (record { schedule = true; budget = true; burst = false }) words)
+    mapped AreFine IsInRange (λ s. Run (unwrap_or s.schedule RoundRobin) (unwrap_or s.budget DEFAULT_BUDGET) (unwrap_or s.user_level Fast))
+    (set_by run_options words) (set-range run_options words)
     (λ s h. budget-range s.budget h.budget)
 
 threads-range : (words : List (List ℕ)) → IfSome (threads_of words) IsInRange
 threads-range words =
     mapped AreFine IsInRange (λ s. Threads (unwrap_or s.budget DEFAULT_BUDGET) (unwrap_or s.burst DEFAULT_BURST))
-    (set_by (record { schedule = false; budget = true; burst = true }) words) (set-range (record { schedule = false; budget = true; burst = true }) words)
+    (set_by threads_options words) (set-range threads_options words)
     (λ s h. (budget-range s.budget h.budget, burst-range s.burst h.burst))
 
 load-range : (words : List (List ℕ)) → IfSome (load_of words) IsInRange
 load-range [] = tt
 load-range (number ∷ words) =
-    bind (λ n. ⊤) IsInRange (λ n. option_map (λ s. Load n (unwrap_or s.budget DEFAULT_BUDGET)) (set_by (record { schedule = false; budget = true; burst = false }) words))
+    bind (λ n. ⊤) IsInRange (λ n. option_map (λ s. Load n (unwrap_or s.budget DEFAULT_BUDGET)) (set_by budget_option words))
     (number_of number) (any (number_of number))
-    (λ n k. mapped AreFine IsInRange (λ s. Load n (unwrap_or s.budget DEFAULT_BUDGET)) (set_by (record { schedule = false; budget = true; burst = false }) words)
-    (set-range (record { schedule = false; budget = true; burst = false }) words) (λ s h. budget-range s.budget h.budget))
+    (λ n k. mapped AreFine IsInRange (λ s. Load n (unwrap_or s.budget DEFAULT_BUDGET)) (set_by budget_option words)
+    (set-range budget_option words) (λ s h. budget-range s.budget h.budget))
 
 migrate-range : (words : List (List ℕ)) → IfSome (migrate_of words) IsInRange
 migrate-range [] = tt
@@ -124,13 +129,13 @@ check-range (word ∷ words) = tt
 vp-range : (words : List (List ℕ)) → IfSome (vp_of words) IsInRange
 vp-range words =
     mapped AreFine IsInRange (λ s. Vp (unwrap_or s.schedule RoundRobin) (unwrap_or s.budget DEFAULT_BUDGET))
-    (set_by (record { schedule = true; budget = true; burst = false }) words) (set-range (record { schedule = true; budget = true; burst = false }) words)
+    (set_by turn_options words) (set-range turn_options words)
     (λ s h. budget-range s.budget h.budget)
 
 debug-range : (words : List (List ℕ)) → IfSome (debug_of words) IsInRange
 debug-range words =
-    mapped AreFine IsInRange (λ s. Debug (unwrap_or s.budget DEFAULT_BUDGET)) (set_by (record { schedule = false; budget = true; burst = false }) words)
-    (set-range (record { schedule = false; budget = true; burst = false }) words) (λ s h. budget-range s.budget h.budget)
+    mapped AreFine IsInRange (λ s. Debug (unwrap_or s.budget DEFAULT_BUDGET)) (set_by budget_option words)
+    (set-range budget_option words) (λ s h. budget-range s.budget h.budget)
 
 named-range : (name : List ℕ) (words : List (List ℕ)) → IfSome (named name words) IsInRange
 named-range name words =

@@ -5,17 +5,19 @@ use Rattle.std.specs.Option.{option_map}
 use Rattle.std.specs.Str.{bytes_eq}
 use Rattle.sa_base.specs.declared.limits.TheConstants.{MAX_BURST, MAX_EVENTS, DEFAULT_BUDGET, DEFAULT_BURST}
 use Rattle.sa_command.specs.declared.command.ScheduleWord.TheVariants.{RoundRobin}
+use Rattle.sa_command.specs.declared.command.PackageWord.TheVariants.{Fast}
 use Rattle.sa_command.specs.declared.command.Command.{Command}
 use Rattle.sa_command.specs.declared.command.Command.TheVariants.{Run, Threads, Load, Migrate, Check, Vp, Debug}
 use Rattle.sa_command.specs.declared.options.Options.{Options}
 use Rattle.sa_command.specs.declared.options.Settings.{Settings}
 use Rattle.sa_text.specs.Number.{number_of}
-use Rattle.sa_command.specs.Values.{number_within, schedule_of}
+use Rattle.sa_command.specs.Values.{number_within, schedule_of, package_of}
 
 -- the options: a name, and what its value may be
 --   --schedule   an order of turns; `rr` where it is left out
 --   --budget     1 to the greatest number of events; the default budget where it is left out
 --   --burst      1 to the greatest number of instructions of a burst; the default burst where it is left out
+--   --package    a user level; `fast` where it is left out
 abbrev pub with_schedule : Options → Settings → List ℕ → Option Settings
 with_schedule taken s value =
     if taken.schedule && is_none s.schedule then option_map (λ x. record s { schedule = Some x }) (schedule_of value) else None
@@ -28,11 +30,16 @@ abbrev pub with_burst : Options → Settings → List ℕ → Option Settings
 with_burst taken s value =
     if taken.burst && is_none s.burst then option_map (λ n. record s { burst = Some n }) (number_within 1 MAX_BURST value) else None
 
+abbrev pub with_package : Options → Settings → List ℕ → Option Settings
+with_package taken s value =
+    if taken.user_level && is_none s.user_level then option_map (λ x. record s { user_level = Some x }) (package_of value) else None
+
 abbrev pub with_option : Options → Settings → List ℕ → List ℕ → Option Settings
 with_option taken s name value =
     if bytes_eq name (codes "--schedule") then with_schedule taken s value
     else (if bytes_eq name (codes "--budget") then with_budget taken s value
-    else (if bytes_eq name (codes "--burst") then with_burst taken s value else None))
+    else (if bytes_eq name (codes "--burst") then with_burst taken s value
+    else (if bytes_eq name (codes "--package") then with_package taken s value else None)))
 
 -- the settings after these words, which come in pairs
 abbrev pub settings_of : Options → Settings → List (List ℕ) → Option Settings
@@ -41,31 +48,43 @@ settings_of taken s (word ∷ []) = None
 settings_of taken s (name ∷ value ∷ words) = option_and_then (λ t. settings_of taken t words) (with_option taken s name value)
 
 abbrev pub nothing_set : Settings
-nothing_set = record { schedule = None; budget = None; burst = None }
+nothing_set = record { schedule = None; budget = None; burst = None; user_level = None }
 
 abbrev pub set_by : Options → List (List ℕ) → Option Settings
 set_by taken words = settings_of taken nothing_set words
 
 -- the commands: a name, an argument, and the options that it takes
---   run                       --schedule, --budget
+--   run                       --schedule, --budget, --package
 --   threads                   --budget, --burst
 --   load N      N any         --budget
 --   migrate N   1 to the greatest number of events
 --   check
 --   vp                        --schedule, --budget
 --   debug                     --budget
+abbrev pub run_options : Options
+run_options = record { schedule = true; budget = true; burst = false; user_level = true }
+
+abbrev pub threads_options : Options
+threads_options = record { schedule = false; budget = true; burst = true; user_level = false }
+
+abbrev pub turn_options : Options
+turn_options = record { schedule = true; budget = true; burst = false; user_level = false }
+
+abbrev pub budget_option : Options
+budget_option = record { schedule = false; budget = true; burst = false; user_level = false }
+
 abbrev pub run_of : List (List ℕ) → Option Command
 run_of words =
-    option_map (λ s. Run (unwrap_or s.schedule RoundRobin) (unwrap_or s.budget DEFAULT_BUDGET)) (set_by (record { schedule = true; budget = true; burst = false }) words)
+    option_map (λ s. Run (unwrap_or s.schedule RoundRobin) (unwrap_or s.budget DEFAULT_BUDGET) (unwrap_or s.user_level Fast)) (set_by run_options words)
 
 abbrev pub threads_of : List (List ℕ) → Option Command
 threads_of words =
-    option_map (λ s. Threads (unwrap_or s.budget DEFAULT_BUDGET) (unwrap_or s.burst DEFAULT_BURST)) (set_by (record { schedule = false; budget = true; burst = true }) words)
+    option_map (λ s. Threads (unwrap_or s.budget DEFAULT_BUDGET) (unwrap_or s.burst DEFAULT_BURST)) (set_by threads_options words)
 
 abbrev pub load_of : List (List ℕ) → Option Command
 load_of [] = None
 load_of (number ∷ words) =
-    option_and_then (λ n. option_map (λ s. Load n (unwrap_or s.budget DEFAULT_BUDGET)) (set_by (record { schedule = false; budget = true; burst = false }) words)) (number_of number)
+    option_and_then (λ n. option_map (λ s. Load n (unwrap_or s.budget DEFAULT_BUDGET)) (set_by budget_option words)) (number_of number)
 
 abbrev pub migrate_of : List (List ℕ) → Option Command
 migrate_of [] = None
@@ -78,11 +97,11 @@ check_of (word ∷ words) = None
 
 abbrev pub vp_of : List (List ℕ) → Option Command
 vp_of words =
-    option_map (λ s. Vp (unwrap_or s.schedule RoundRobin) (unwrap_or s.budget DEFAULT_BUDGET)) (set_by (record { schedule = true; budget = true; burst = false }) words)
+    option_map (λ s. Vp (unwrap_or s.schedule RoundRobin) (unwrap_or s.budget DEFAULT_BUDGET)) (set_by turn_options words)
 
 abbrev pub debug_of : List (List ℕ) → Option Command
 debug_of words =
-    option_map (λ s. Debug (unwrap_or s.budget DEFAULT_BUDGET)) (set_by (record { schedule = false; budget = true; burst = false }) words)
+    option_map (λ s. Debug (unwrap_or s.budget DEFAULT_BUDGET)) (set_by budget_option words)
 
 abbrev pub named : List ℕ → List (List ℕ) → Option Command
 named name words =

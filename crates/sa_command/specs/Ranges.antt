@@ -11,7 +11,7 @@ pub record IsFrom (low high n : ℕ) : Type 0 where
 
 -- a budget is 1 to the greatest number of events, and so is a slice; a burst is 1 to the greatest number of its instructions
 abbrev pub IsInRange : Command → Type 0
-IsInRange (Run schedule budget) = IsFrom 1 MAX_EVENTS budget
+IsInRange (Run schedule budget user_level) = IsFrom 1 MAX_EVENTS budget
 IsInRange (Threads budget burst) = IsFrom 1 MAX_EVENTS budget × IsFrom 1 MAX_BURST burst
 IsInRange (Load number budget) = IsFrom 1 MAX_EVENTS budget
 IsInRange (Migrate slice) = IsFrom 1 MAX_EVENTS slice

@@ -13,22 +13,48 @@ pub enum ScheduleWord {
     Hold(ProcNo, u64),
 }
 
+/// The user level that a run has in each space.
+#[derive(Clone, Copy, Debug, PartialEq, Eq)]
+pub enum PackageWord {
+    /// `fast`: FastThreads.
+    Fast,
+    /// `prio`: FastThreads with thread priorities.
+    Prio,
+}
+
 /// What the program is asked to do.
 #[derive(Clone, Copy, Debug, PartialEq, Eq)]
 pub enum Command {
-    /// Runs the workload of standard input, for at most so many events, 1 to 1,000,000.
-    Run { schedule: ScheduleWord, budget: u64 },
+    /// Runs the workload of standard input with this user level, for at most so many events, 1 to 1,000,000.
+    Run {
+        schedule: ScheduleWord,
+        budget: u64,
+        user_level: PackageWord,
+    },
     /// Runs the workload of standard input with a host thread for each processor, for at most so many events, 1 to
     /// 1,000,000, in bursts of at most so many instructions, 1 to 64.
-    Threads { budget: u64, burst: u16 },
+    Threads {
+        budget: u64,
+        burst: u16,
+    },
     /// Runs the workload that is made of the number, for at most so many events, 1 to 1,000,000.
-    Load { number: u64, budget: u64 },
+    Load {
+        number: u64,
+        budget: u64,
+    },
     /// Writes the workload of standard input with this slice, 1 to 1,000,000.
-    Migrate { slice: u32 },
+    Migrate {
+        slice: u32,
+    },
     /// Runs the workload of standard input on virtual processors, for at most so many events, 1 to 1,000,000.
-    Vp { schedule: ScheduleWord, budget: u64 },
+    Vp {
+        schedule: ScheduleWord,
+        budget: u64,
+    },
     /// Judges the trace text of standard input beside the workload text that stands before it.
     Check,
     /// Debugs the workload of standard input by the script that stands behind it, for at most so many events, 1 to 1,000,000.
-    Debug { budget: u64 },
+    Debug {
+        budget: u64,
+    },
 }

@@ -13,6 +13,7 @@ pub(crate) fn read_debug(words: &[String]) -> Option<Command>
         schedule: false,
         budget: true,
         burst: false,
+        user_level: false,
     };
     let settings = read_options(taken, words)?;
     Some(Command::Debug {

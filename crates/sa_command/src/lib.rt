@@ -11,6 +11,6 @@ mod value;
 mod vp;
 mod words;
 
-pub use command::{Command, ScheduleWord};
+pub use command::{Command, PackageWord, ScheduleWord};
 pub use read::read_words;
 pub use words::Words;

@@ -1,8 +1,8 @@
 ghost use Rattle.std.specs.Prelude.{◌≡◌, map, length, string_bytes};
-ghost use Rattle.sa_command.specs.Commands.{with_schedule, with_budget, with_burst, with_option, settings_of, set_by};
+ghost use Rattle.sa_command.specs.Commands.{with_schedule, with_budget, with_burst, with_package, with_option, settings_of, set_by};
 
-use crate::command::ScheduleWord;
-use crate::value::{read_schedule, read_within};
+use crate::command::{PackageWord, ScheduleWord};
+use crate::value::{read_package, read_schedule, read_within};
 use sa_base::{MAX_BURST, MAX_EVENTS};
 
 // Which options a command takes.
@@ -11,6 +11,7 @@ pub(crate) struct Options {
     pub(crate) schedule: bool,
     pub(crate) budget: bool,
     pub(crate) burst: bool,
+    pub(crate) user_level: bool,
 }
 
 // What the options of a command set.
@@ -19,6 +20,7 @@ pub(crate) struct Settings {
     pub(crate) schedule: Option<ScheduleWord>,
     pub(crate) budget: Option<u64>,
     pub(crate) burst: Option<u16>,
+    pub(crate) user_level: Option<PackageWord>,
 }
 
 // What these words set of the options that are taken, or none where they are no such options.
@@ -29,6 +31,7 @@ pub(crate) fn read_options(taken: Options, words: &[String]) -> Option<Settings>
         schedule: None,
         budget: None,
         burst: None,
+        user_level: None,
     };
     read_settings(taken, nothing, words)
 }
@@ -59,6 +62,9 @@ fn with_option(taken: Options, settings: Settings, name: &str, value: &[u8]) -> 
     }
     if name == "--burst" {
         return with_burst(taken, settings, value);
+    }
+    if name == "--package" {
+        return with_package(taken, settings, value);
     }
     None
 }
@@ -97,4 +103,18 @@ fn with_burst(taken: Options, settings: Settings, value: &[u8]) -> Option<Settin
     }
     let burst = Some(read_within(1, u64::from(MAX_BURST), value)? as u16);
     Some(Settings { burst, ..settings })
+}
+
+// The option `--package`.
+fn with_package(taken: Options, settings: Settings, value: &[u8]) -> Option<Settings>
+    ensures { result ≡ with_package taken settings value.now }
+{
+    if !taken.user_level || settings.user_level.is_some() {
+        return None;
+    }
+    let user_level = Some(read_package(value)?);
+    Some(Settings {
+        user_level,
+        ..settings
+    })
 }

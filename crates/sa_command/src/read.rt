@@ -1,7 +1,7 @@
 ghost use Rattle.std.specs.Prelude.{◌≡◌, map, string_bytes};
 ghost use Rattle.sa_command.specs.Commands.{command_of, named, run_of, load_of, migrate_of, check_of};
 
-use crate::command::{Command, ScheduleWord};
+use crate::command::{Command, PackageWord, ScheduleWord};
 use crate::debug::read_debug;
 use crate::options::{Options, read_options};
 use crate::threads::read_threads;
@@ -62,11 +62,13 @@ fn read_run(words: &[String]) -> Option<Command>
         schedule: true,
         budget: true,
         burst: false,
+        user_level: true,
     };
     let settings = read_options(taken, words)?;
     Some(Command::Run {
         schedule: settings.schedule.unwrap_or(ScheduleWord::RoundRobin),
         budget: settings.budget.unwrap_or(DEFAULT_BUDGET),
+        user_level: settings.user_level.unwrap_or(PackageWord::Fast),
     })
 }
 
@@ -77,6 +79,7 @@ fn read_load(words: &[String]) -> Option<Command>
         schedule: false,
         budget: true,
         burst: false,
+        user_level: false,
     };
     match words {
         [] => None,

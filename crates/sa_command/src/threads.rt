@@ -13,6 +13,7 @@ pub(crate) fn read_threads(words: &[String]) -> Option<Command>
         schedule: false,
         budget: true,
         burst: true,
+        user_level: false,
     };
     let settings = read_options(taken, words)?;
     Some(Command::Threads {

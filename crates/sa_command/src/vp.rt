@@ -13,6 +13,7 @@ pub(crate) fn read_vp(words: &[String]) -> Option<Command>
         schedule: true,
         budget: true,
         burst: false,
+        user_level: false,
     };
     let settings = read_options(taken, words)?;
     Some(Command::Vp {

@@ -48,7 +48,7 @@ pub commit-reaches : (w : WorkloadView) (m : FastMachine) (p : ProcNo) (n : ℕ)
     → IsReached w m → CanCommit fast_calls m p n → IsReached w (committed fast_calls p n m)
 commit-reaches w m p n is can = reached-move w m (commit p n) (committed fast_calls p n m) is (can, refl)
 
-pub reached-legal : (w : WorkloadView) (m : FastMachine) → IsWorkload w → IsReached w m → IsLegalRun w m.items
+pub reached-legal : (w : WorkloadView) (m : FastMachine) → IsWorkload w → IsReached w m → IsLegalRun fast_threads w m.items
 reached-legal w m ok is =
     record { legal = runs-are-legal fast_level w is.moves m ok is.run; numbers = runs-number fast_level w is.moves m ok is.run }
 

@@ -18,6 +18,7 @@ use Rattle.sa_seat.specs.Lock.{IsLocked}
 use Rattle.sa_seat.specs.Seat.{SeatView}
 use Rattle.sa_seat.specs.Closed.{ClosedView, IsClosed}
 use Rattle.sa_workers.specs.Run.{HasRun, turns_at}
+use Rattle.sa_fast_laws.proofs.FastLaws.{fast_level}
 use Rattle.sa_fast_runs.specs.Runs.{FastMachine}
 use Rattle.sa_fast_runs.specs.Whole.{IsLegalRun}
 use Rattle.sa_fast_runs.specs.Threads.{HasNoEarlierEnd, events_on, IsLegalLock, IsLegalClosed, IsLegalHistory}
@@ -29,9 +30,9 @@ pub lock-legal : (w : WorkloadView) (budget : ℕ) (table : TableId) (core : Cor
 lock-legal w budget table core lines keeper locked =
     let m = machine core in
     record {
-      run = chain-legal w locked.workload budget locked.moves m locked.chain;
+      run = chain-legal fast_level w locked.workload budget locked.moves m locked.chain;
       ongoing = chain-open w locked.workload budget locked.moves m locked.chain locked.within;
-      ends = chain-ends w locked.workload budget locked.moves m locked.chain;
+      ends = chain-ends fast_level w locked.workload budget locked.moves m locked.chain;
       counts = λ p inside.
           (locked.kept.each p inside).count ∙ sym (chain-counts-on w locked.workload budget locked.moves m locked.chain p);
     }
@@ -42,10 +43,10 @@ module _ (w : WorkloadView) (ok : IsWorkload w) (budget : ℕ) (moves : List Mov
   left-legal : m.event ≤ budget → closed.end ≡ end_of fast_calls budget m
       → ((p : ℕ) → p < w.processors → turns_at closed p ≡ turns_of p moves) → IsLegalClosed w budget closed
   left-legal few end turns = record {
-    run = subst (IsLegalRun w) (sym shows) (chain-legal w ok budget moves m chain);
+    run = subst (IsLegalRun fast_threads w) (sym shows) (chain-legal fast_level w ok budget moves m chain);
     ongoing = subst (HasNoEarlierEnd w budget) (sym shows) (chain-open w ok budget moves m chain few);
     ends = subst (λ (xs : List Item). EndOf fast_threads w budget xs closed.end) (sym shows)
-        (subst (EndOf fast_threads w budget m.items) (sym end) (chain-ends w ok budget moves m chain));
+        (subst (EndOf fast_threads w budget m.items) (sym end) (chain-ends fast_level w ok budget moves m chain));
     counts = λ p inside.
         turns p inside ∙ sym (chain-counts-on w ok budget moves m chain p) ∙ ap (events_on p) (sym shows);
   }
@@ -61,9 +62,9 @@ shared-legal w budget closed ok run =
     let legal = left-legal w ok budget run.moves m run.chain closed run.shows run.few run.end run.turns in
     record {
       legal = legal;
-      count = ap (λ (xs : List Item). length (events_of xs)) run.shows ∙ chain-counts w ok budget run.moves m run.chain ∙ ap (λ n. n + 1) (sym run.events);
+      count = ap (λ (xs : List Item). length (events_of xs)) run.shows ∙ chain-counts fast_level w ok budget run.moves m run.chain ∙ ap (λ n. n + 1) (sym run.events);
       quotas = λ spent p inside. sym (legal.counts p inside) ∙ run.spent spent p inside;
       right = λ end is. subst (λ (xs : List Item). IsRight fast_threads w xs (record { end = end; events = sum closed.turns })) (sym run.shows)
           (subst (λ (n : ℕ). IsRight fast_threads w m.items (record { end = end; events = n })) (sym run.events)
-          (chain-right w ok budget run.moves m run.chain end (sym run.end ∙ is)));
+          (chain-right fast_level w ok budget run.moves m run.chain end (sym run.end ∙ is)));
     }

@@ -45,7 +45,7 @@ CommitsReach =
 
 -- .. and what they reach is legal, strict where it was reached by turns alone, and ends as the definitions say
 abbrev pub ReachedAreLegal : Type 0
-ReachedAreLegal = (w : WorkloadView) (m : FastMachine) → IsWorkload w → IsReached w m → IsLegalRun w m.items
+ReachedAreLegal = (w : WorkloadView) (m : FastMachine) → IsWorkload w → IsReached w m → IsLegalRun fast_threads w m.items
 
 abbrev pub ReachedAreStrict : Type 0
 ReachedAreStrict =

@@ -37,7 +37,7 @@ pub record HasNoEarlierEnd (w : WorkloadView) (budget : ℕ) (items : List Item)
 -- WHILE THE MACHINE RUNS: whenever its lock is free, the core has a legal run, which had not ended before its last event, and
 -- the keeper's count of a processor is the number of its events.
 pub record IsLegalLock (w : WorkloadView) (budget : ℕ) (core : CoreView Package Context) (keeper : KeeperSeen) : Type 0 where
-  pub run : IsLegalRun w (machine core).items
+  pub run : IsLegalRun fast_threads w (machine core).items
   pub ongoing : HasNoEarlierEnd w budget (machine core).items
   pub ends : EndOf fast_threads w budget (machine core).items (end_of fast_calls budget (machine core))
   pub counts : (p : ℕ) → p < w.processors → (lane_at keeper.lanes p).account.count ≡ events_on p (machine core).items
@@ -50,7 +50,7 @@ LocksAreLegal =
 -- WHEN IT IS CLOSED: its history is a legal run, which had not ended before its last event; it ended as the definitions say; and
 -- the count of a processor is the number of its events.
 pub record IsLegalClosed (w : WorkloadView) (budget : ℕ) (closed : ClosedView) : Type 0 where
-  pub run : IsLegalRun w closed.items
+  pub run : IsLegalRun fast_threads w closed.items
   pub ongoing : HasNoEarlierEnd w budget closed.items
   pub ends : EndOf fast_threads w budget closed.items closed.end
   pub counts : (p : ℕ) → p < w.processors → turns_at closed p ≡ events_on p closed.items

@@ -7,37 +7,37 @@ use Rattle.sa_assign.specs.Reaim.{proc_no}
 use Rattle.sa_laws.specs.Ends.{LastLine}
 use Rattle.sa_laws.specs.Event.{Event, events_of}
 use Rattle.sa_laws.specs.Legal.{IsLegal, IsStrictRun, EndOf, IsRight}
-use Rattle.sa_laws.specs.Rules.{fast_threads}
+use Rattle.sa_laws.specs.Rules.{UserRules}
+use Rattle.sa_abstract.specs.Calls.{Calls}
 use Rattle.sa_sched.specs.Order.{Order, processor_at}
-use Rattle.sa_package_model.specs.Step.{fast_calls}
 use Rattle.sa_run.specs.Run.{RunsTo, RunsSoFar}
 
--- The trace is a legal run of the workload by FastThreads' rules.
-pub record IsLegalRun (w : WorkloadView) (items : List Item) : Type 0 where
-  pub legal : IsLegal fast_threads w items
+-- The trace is a legal run of the workload by the rules of its user level.
+pub record IsLegalRun (u : UserRules) (w : WorkloadView) (items : List Item) : Type 0 where
+  pub legal : IsLegal u w items
   -- each event has its place as its number
   pub numbers : (k : ℕ) (e : Event) → slice_get (events_of items) k ≡ Some e → e.number ≡ k
 
 -- It is a strict one, of so many events behind the opening, and event k is of the order's k-th processor.
-pub record IsTurnByTurn (w : WorkloadView) (order : Order) (items : List Item) (events : ℕ) : Type 0 where
-  pub run : IsLegalRun w items
-  pub strict : IsStrictRun fast_threads w items
+pub record IsTurnByTurn (u : UserRules) (w : WorkloadView) (order : Order) (items : List Item) (events : ℕ) : Type 0 where
+  pub run : IsLegalRun u w items
+  pub strict : IsStrictRun u w items
   pub count : length (events_of items) ≡ events + 1
   pub follows : (k : ℕ) (e : Event) → slice_get (events_of items) (k + 1) ≡ Some e → e.proc ≡ proc_no (processor_at order w.processors (k + 1))
 
 -- It has ended so within a budget, and with a last line that says so it breaks no rule.
-pub record IsEnded (w : WorkloadView) (budget : ℕ) (items : List Item) (end : End) (events : ℕ) : Type 0 where
-  pub ends : EndOf fast_threads w budget items (Some end)
-  pub right : IsRight fast_threads w items (record { end = end; events = events })
+pub record IsEnded (u : UserRules) (w : WorkloadView) (budget : ℕ) (items : List Item) (end : End) (events : ℕ) : Type 0 where
+  pub ends : EndOf u w budget items (Some end)
+  pub right : IsRight u w items (record { end = end; events = events })
 
--- So it is with each run by a schedule, as far as it came; and where it ended, with its end.
-abbrev pub RunsSoFarAreLegal : Type 0
-RunsSoFarAreLegal =
+-- So it is with each run of a user level's calls by a schedule, as far as it came; and where it ended, with its end.
+abbrev pub RunsSoFarAreLegal : {U C : Type 0} → Calls U C → UserRules → Type 0
+RunsSoFarAreLegal f u =
     (w : WorkloadView) (order : Order) (budget : ℕ) (items : List Item) → IsWorkload w
-    → (run : RunsSoFar fast_calls w order budget items) → IsTurnByTurn w order items run.events
+    → (run : RunsSoFar f w order budget items) → IsTurnByTurn u w order items run.events
 
-abbrev pub WholeRunsAreLegal : Type 0
-WholeRunsAreLegal =
+abbrev pub WholeRunsAreLegal : {U C : Type 0} → Calls U C → UserRules → Type 0
+WholeRunsAreLegal f u =
     (w : WorkloadView) (order : Order) (budget : ℕ) (items : List Item) (end : End) (events : ℕ) → IsWorkload w
-    → RunsTo fast_calls w order budget items end events
-    → IsTurnByTurn w order items events × IsEnded w budget items end events
+    → RunsTo f w order budget items end events
+    → IsTurnByTurn u w order items events × IsEnded u w budget items end events

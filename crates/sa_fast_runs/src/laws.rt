@@ -1,5 +1,7 @@
 //! What holds of each run of the machine with FastThreads, from the opening of a workload by turns and commits in any order.
 //! No function here does anything.
+ghost use Rattle.sa_laws.specs.Rules.{fast_threads};
+ghost use Rattle.sa_package_model.specs.Step.{fast_calls};
 ghost use Rattle.sa_fast_runs.specs.Whole.{RunsSoFarAreLegal, WholeRunsAreLegal};
 ghost use Rattle.sa_fast_runs.specs.Threads.{LocksAreLegal, ClosedAreLegal, SharedRunsAreLegal};
 ghost use Rattle.sa_fast_runs.specs.Calls.{StartReaches, TurnsReach, TurnsAloneReach, CommitsReach, ReachedAreLegal, ReachedAreStrict, ReachedEndAsDefined, CommitsAddInstructions};
@@ -54,8 +56,8 @@ pub fn core_calls_keep_legal()
 /// Each run by a schedule, as far as it came, is a legal run and a strict one, and its events follow the schedule; where it
 /// ended, it ended as the definitions say, and with its last line it breaks no rule.
 pub fn runs_by_a_schedule_are_legal()
-    ensures so_far { RunsSoFarAreLegal }
-    ensures whole { WholeRunsAreLegal }
+    ensures so_far { RunsSoFarAreLegal fast_calls fast_threads }
+    ensures whole { WholeRunsAreLegal fast_calls fast_threads }
 {}
 
 /// Under host threads, whenever the machine's lock is free the history kept behind it is a legal run that had not ended before

@@ -9,10 +9,10 @@ use Rattle.sa_cli.proofs.Completeness.{complete-to}
 use Rattle.sa_cli.proofs.calls.run_one.Goals as goal
 
 pub run_text-requires-clause-some : goal.run_text-requires-clause-some
-run_text-requires-clause-some g c = (c.commands_are_in_range.ensures c.args.words.now (Run c.in-Some-Run.schedule c.in-Some-Run.budget) (sym c.read_words.ensures ∙ c.in-Some-Run.is ∙ ap Some c.in-Some-Run.field-0-is)).least
+run_text-requires-clause-some g c = (c.commands_are_in_range.ensures c.args.words.now (Run c.in-Some-Run.schedule c.in-Some-Run.budget c.in-Some-Run.user_level) (sym c.read_words.ensures ∙ c.in-Some-Run.is ∙ ap Some c.in-Some-Run.field-0-is)).least
 
 pub run_text-requires-clause-few : goal.run_text-requires-clause-few
-run_text-requires-clause-few g c = (c.commands_are_in_range.ensures c.args.words.now (Run c.in-Some-Run.schedule c.in-Some-Run.budget) (sym c.read_words.ensures ∙ c.in-Some-Run.is ∙ ap Some c.in-Some-Run.field-0-is)).most
+run_text-requires-clause-few g c = (c.commands_are_in_range.ensures c.args.words.now (Run c.in-Some-Run.schedule c.in-Some-Run.budget c.in-Some-Run.user_level) (sym c.read_words.ensures ∙ c.in-Some-Run.is ∙ ap Some c.in-Some-Run.field-0-is)).most
 
 pub run_generated-requires-clause-some : goal.run_generated-requires-clause-some
 run_generated-requires-clause-some g c = (c.commands_are_in_range.ensures c.args.words.now (Load c.in-Some-Load.number c.in-Some-Load.budget) (sym c.read_words.ensures ∙ c.in-Some-Load.is ∙ ap Some c.in-Some-Load.field-0-is)).least
@@ -22,7 +22,7 @@ run_generated-requires-clause-few g c = (c.commands_are_in_range.ensures c.args.
 
 pub returns-in-Some-Run-clause-complete : goal.returns-in-Some-Run-clause-complete
 returns-in-Some-Run-clause-complete g c =
-    complete-to _ (Run c.in-Some-Run.schedule c.in-Some-Run.budget) _ _ c.run_text.result.ran _ (sym c.read_words.ensures ∙ c.in-Some-Run.is ∙ ap Some c.in-Some-Run.field-0-is) c.run_text.ensures.answers
+    complete-to _ (Run c.in-Some-Run.schedule c.in-Some-Run.budget c.in-Some-Run.user_level) _ _ c.run_text.result.ran _ (sym c.read_words.ensures ∙ c.in-Some-Run.is ∙ ap Some c.in-Some-Run.field-0-is) c.run_text.ensures.answers
 
 pub returns-in-Some-Load-clause-usage : goal.returns-in-Some-Load-clause-usage
 returns-in-Some-Load-clause-usage g c =
