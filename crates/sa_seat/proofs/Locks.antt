@@ -1,5 +1,5 @@
 -- A move under the lock, and what the keeper is told of it.
-use Rattle.std.proofs.Common.{◌≡◌, ◌≢◌, ℕ, zero, suc, ◌+◌, ◌<◌, ◌≤◌, ◌++◌, ◌==◌, if◌then◌else◌, inl, inr, Option, Some, None, IfSome, List, [], ◌∷◌, length, replicate, refl, sym, ap, subst, ◌∙◌, arith}
+use Rattle.std.proofs.Common.{◌≡◌, ◌≢◌, ℕ, zero, suc, ◌+◌, ◌<◌, ◌≤◌, ◌++◌, ◌==◌, if◌then◌else◌, inl, inr, Option, Some, None, IfSome, List, [], ◌∷◌, replicate, refl, sym, ap, subst, ◌∙◌, arith}
 use Rattle.std.specs.Prelude.{Contains}
 use Rattle.std.proofs.lemmas.Bool.{cases_eq}
 use Rattle.std.proofs.lemmas.Bool.Decides.{nat_tests}
@@ -7,7 +7,7 @@ use Rattle.std.proofs.lemmas.List.{length-replicate}
 use Rattle.atomic_table.specs.Seated.{TableId}
 use Rattle.sa_base.specs.declared.number.ProcNo.{ProcNo}
 use Rattle.sa_base.specs.declared.record.End.{End}
-use Rattle.sa_base.specs.declared.limits.TheConstants.{MAX_EVENTS, MAX_PROCESSORS}
+use Rattle.sa_base.specs.declared.limits.TheConstants.{MAX_EVENTS}
 use Rattle.sa_spaces.specs.Workload.{WorkloadView, IsWorkload}
 use Rattle.sa_abstract.specs.Calls.{Calls}
 use Rattle.sa_abstract.specs.Keeps.{Standing, Keeps}
@@ -30,7 +30,7 @@ use Rattle.sa_lines.specs.Seen.{KeeperSeen, line_value, credited_lane, credited_
 use Rattle.sa_lines.proofs.Steps.{lane_here, lane_else, length_changed}
 use Rattle.sa_seat.specs.Chain.{IsChain, turns_in, turns_of, line_item}
 use Rattle.sa_seat.specs.Lock.{IsLane, AreLanes, IsLocked}
-use Rattle.sa_seat.specs.Follow.{AreStored, AreEvents, HasFollowed}
+use Rattle.sa_seat.specs.Follow.{AreEvents, MayFollow, HasFollowed}
 use Rattle.sa_core.proofs.CoreLemmas.{goes-on}
 use Rattle.sa_seat.specs.Seat.{CanMove}
 use Rattle.sa_seat.proofs.Chains.{move-next, commits, turns-more, leads-more, size, AreSaid, Moves, moves-by, Reached, reached}
@@ -48,13 +48,6 @@ if-some P None h = tt
 if-some P (Some x) h = h x refl
 
 module _ {U C : Type 0} (f : Calls U C) (stands : Standing U C) (keep : Keeps f stands) where
-  -- what the words need before they follow the lines of a machine
-  pub record MayFollow (w : WorkloadView) (m : Machine U C) (lines : List (Option ℕ)) (keeper : KeeperSeen) : Type 0 where
-    pub lanes : length keeper.lanes ≡ m.workload.processors
-    pub few : m.workload.processors ≤ MAX_PROCESSORS
-    pub stored : AreStored lines keeper.lanes
-    pub events : AreEvents m.kernel
-
   are-events : (m : Machine U C) (budget : ℕ) → AreSaid m → m.event ≤ budget → budget ≤ MAX_EVENTS → AreEvents m.kernel
   are-events m budget said within few p =
       if-some (λ (e : ℕ). e ≤ MAX_EVENTS) (line_of m.kernel (proc_no p)) (λ k at. (let h = (said p k at).0 in omega (arith, h, within, few)))
@@ -70,10 +63,10 @@ module _ {U C : Type 0} (f : Calls U C) (stands : Standing U C) (keep : Keeps f 
   fresh-at (suc n) (suc p) = fresh-at n p
 
   pub follows-opening : (w : WorkloadView) (table : TableId) (budget places : ℕ) (m : Machine U C) → IsWorkload w → m ≡ opening f w → budget ≤ MAX_EVENTS
-      → MayFollow w m (replicate places None) (fresh_keeper table w.processors)
+      → MayFollow m (replicate places None) (fresh_keeper table w.processors)
   follows-opening w table budget places m ok is few =
       let r : Reached f stands keep w [] (opening f w) = reached f stands keep w budget (opening f w) [] ok refl in
-      subst (λ (z : Machine U C). MayFollow w z (replicate places None) (fresh_keeper table w.processors)) (sym is) record {
+      subst (λ (z : Machine U C). MayFollow z (replicate places None) (fresh_keeper table w.processors)) (sym is) record {
         lanes = length-replicate w.processors fresh_lane;
         few = ok.few_processors;
         stored = λ p lt. ap (λ (l : Lane). l.line) (fresh-at w.processors p) ∙ sym (ap line_value (all-same places p None));
@@ -134,7 +127,7 @@ module _ {U C : Type 0} (f : Calls U C) (stands : Standing U C) (keep : Keeps f 
     procs : (machine new).workload.processors ≡ w.processors
     procs = ap (λ (v : WorkloadView). v.processors) behind.workload
 
-    pub may-follow : MayFollow w (machine new) lines keeper
+    pub may-follow : MayFollow (machine new) lines keeper
     may-follow = record {
       lanes = locked.kept.size ∙ sym procs;
       few = (let z = locked.workload.few_processors in omega (arith, z, procs));

@@ -1,8 +1,9 @@
 -- How the keeper's lines follow those of a machine.
 use Rattle.std.specs.Prelude.{◌≡◌, ℕ, ◌<◌, ◌≤◌, ◌⊎◌, Option, Some, None, IfSome, List, Contains, length}
-use Rattle.sa_base.specs.declared.limits.TheConstants.{MAX_EVENTS}
+use Rattle.sa_base.specs.declared.limits.TheConstants.{MAX_EVENTS, MAX_PROCESSORS}
 use Rattle.sa_assign.specs.Reaim.{proc_no, line_at}
 use Rattle.sa_kernel_model.specs.State.{State, line_of}
+use Rattle.sa_core_model.specs.Machine.{Machine}
 use Rattle.sa_lines.specs.declared.view.Lane.{Lane}
 use Rattle.sa_lines.specs.Words.{lane_at}
 use Rattle.sa_lines.specs.Seen.{KeeperSeen, line_value, raised_at, lowered_at}
@@ -23,6 +24,13 @@ AreStored lines lanes = (p : ℕ) → p < length lanes → (lane_at lanes p).lin
 -- the line of each processor was raised at an event that a run can have
 abbrev pub AreEvents : {C : Type 0} → State C → Type 0
 AreEvents k = (p : ℕ) → IfSome (line_of k (proc_no p)) (λ e. e ≤ MAX_EVENTS)
+
+-- what the words need before they follow the lines of a machine, where these were stored last
+pub record MayFollow {U C : Type 0} (m : Machine U C) (lines : List (Option ℕ)) (keeper : KeeperSeen) : Type 0 where
+  pub lanes : length keeper.lanes ≡ m.workload.processors
+  pub few : m.workload.processors ≤ MAX_PROCESSORS
+  pub stored : AreStored lines keeper.lanes
+  pub events : AreEvents m.kernel
 
 -- what the keeper knows of a processor behind that: the line, with the event that raised it, and what it knew before
 pub record IsFollowed (line : Option ℕ) (old new : Lane) : Type 0 where

@@ -1,8 +1,8 @@
 // The line words follow the core's lines.
 ghost use Rattle.std.specs.Prelude.{◌≡◌, ◌<◌, ◌≤◌, length, IfSome};
-ghost use Rattle.sa_base.specs.declared.limits.TheConstants.{MAX_EVENTS, MAX_PROCESSORS};
+ghost use Rattle.sa_base.specs.declared.limits.TheConstants.{MAX_EVENTS};
 ghost use Rattle.sa_core.specs.View.{machine};
-ghost use Rattle.sa_seat.specs.Follow.{IsStored, AreStored, AreEvents, HasFollowed};
+ghost use Rattle.sa_seat.specs.Follow.{IsStored, MayFollow, HasFollowed};
 
 use sa_abstract::UserLevel;
 use sa_base::{MAX_PROCESSORS, ProcNo};
@@ -38,10 +38,7 @@ pub(crate) fn follow<U: UserLevel>(
     lines: &mut Lines,
 )
     requires own { keeper.old.table ≡ words.now }
-    requires lanes { length keeper.old.lanes ≡ (machine core.now).workload.processors }
-    requires few { (machine core.now).workload.processors ≤ MAX_PROCESSORS }
-    requires stored { AreStored lines.old keeper.old.lanes }
-    requires events { AreEvents (machine core.now).kernel }
+    requires follow { MayFollow (machine core.now) lines.old keeper.old }
     ensures { HasFollowed (machine core.now).kernel (machine core.now).workload.processors keeper.old keeper.new lines.new }
 {
     for p in 0..core.workload().processors() {

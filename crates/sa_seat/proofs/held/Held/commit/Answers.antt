@@ -42,8 +42,8 @@ commit-requires-clause-next g c κs within =
     let next = can-next f g.U.UserLevel.stands keep w table b n h.core h.lines h.keeper p c.args.seat.now.start c.self.invariant some c.pending.ensures.local start in
     subst (λ (q : ProcNo). AreNextLocal (machine h.core).workload n (local_on f (machine h.core) q)) (sym c.proc.ensures.proc) next
 
-pub follow-requires-clause-lanes : goal.follow-requires-clause-lanes
-follow-requires-clause-lanes g c κs within =
+pub follow-requires-clause-follow : goal.follow-requires-clause-follow
+follow-requires-clause-follow g c κs within =
     let keep = (g.met.U.UserLevel g.world.𝓛 g.world.𝓜 g.world.𝓡 ((λ s x. x), (λ x. x), (λ x. x), λ x. x)).keeps in
     let f = g.U.UserLevel.calls in
     let w = g.K.Named.workload in
@@ -62,51 +62,7 @@ follow-requires-clause-lanes g c κs within =
     let is : machine c.commit.new.self ≡ committed f p k (machine h.core) = subst (λ (q : ProcNo). machine c.commit.new.self ≡ committed f q k (machine h.core)) c.proc.ensures.proc c.in_ok-made.ensures.machine in
     let all = commit-done f g.U.UserLevel.stands keep w table b n k h.core c.commit.new.self h.lines h.keeper p c.self.invariant none c.in_ok-made.ensures.made c.in_ok-made.ensures.some low next is in
     let done = all.0 in
-    (may-follow f g.U.UserLevel.stands keep w table b h.core c.commit.new.self h.lines h.keeper c.self.invariant none (commit p k) done.made done.within).lanes
-
-pub follow-requires-clause-few : goal.follow-requires-clause-few
-follow-requires-clause-few g c κs within =
-    let keep = (g.met.U.UserLevel g.world.𝓛 g.world.𝓜 g.world.𝓡 ((λ s x. x), (λ x. x), (λ x. x), λ x. x)).keeps in
-    let f = g.U.UserLevel.calls in
-    let w = g.K.Named.workload in
-    let table = g.K.Named.table in
-    let b = g.K.Named.budget in
-    let h = c.self.inside in
-    let p = c.args.seat.now.poller.proc in
-    let n = c.pending.result in
-    let none : end_of f b (machine h.core) ≡ None = ap (λ (v : HeldView g.row.U.Denot g.row.U-Ctx.Denot). end_of f b (machine v.core)) c.self.view_is ∙ c.requires.goes_on in
-    let low : line_of (machine h.core).kernel p ≡ None = ap (λ (v : HeldView g.row.U.Denot g.row.U-Ctx.Denot). line_of (machine v.core).kernel p) c.self.view_is ∙ c.requires.low in
-    let start : local_on f (machine h.core) p ≡ c.args.seat.now.start = ap (λ (v : HeldView g.row.U.Denot g.row.U-Ctx.Denot). local_on f (machine v.core) p) c.self.view_is ∙ c.requires.start in
-    let some : 0 < n = (let a = c.pending.ensures.pending in let d = c.requires.pending in omega (arith, a, d)) in
-    let next = can-next f g.U.UserLevel.stands keep w table b n h.core h.lines h.keeper p c.args.seat.now.start c.self.invariant some c.pending.ensures.local start in
-    let k = c.in_ok-made.made in
-    let lt : p.0 < w.processors = subst (λ (q : ProcNo). q.0 < w.processors) c.proc.ensures.proc c.proc.ensures.within in
-    let is : machine c.commit.new.self ≡ committed f p k (machine h.core) = subst (λ (q : ProcNo). machine c.commit.new.self ≡ committed f q k (machine h.core)) c.proc.ensures.proc c.in_ok-made.ensures.machine in
-    let all = commit-done f g.U.UserLevel.stands keep w table b n k h.core c.commit.new.self h.lines h.keeper p c.self.invariant none c.in_ok-made.ensures.made c.in_ok-made.ensures.some low next is in
-    let done = all.0 in
-    (may-follow f g.U.UserLevel.stands keep w table b h.core c.commit.new.self h.lines h.keeper c.self.invariant none (commit p k) done.made done.within).few
-
-pub follow-requires-clause-events : goal.follow-requires-clause-events
-follow-requires-clause-events g c κs within =
-    let keep = (g.met.U.UserLevel g.world.𝓛 g.world.𝓜 g.world.𝓡 ((λ s x. x), (λ x. x), (λ x. x), λ x. x)).keeps in
-    let f = g.U.UserLevel.calls in
-    let w = g.K.Named.workload in
-    let table = g.K.Named.table in
-    let b = g.K.Named.budget in
-    let h = c.self.inside in
-    let p = c.args.seat.now.poller.proc in
-    let n = c.pending.result in
-    let none : end_of f b (machine h.core) ≡ None = ap (λ (v : HeldView g.row.U.Denot g.row.U-Ctx.Denot). end_of f b (machine v.core)) c.self.view_is ∙ c.requires.goes_on in
-    let low : line_of (machine h.core).kernel p ≡ None = ap (λ (v : HeldView g.row.U.Denot g.row.U-Ctx.Denot). line_of (machine v.core).kernel p) c.self.view_is ∙ c.requires.low in
-    let start : local_on f (machine h.core) p ≡ c.args.seat.now.start = ap (λ (v : HeldView g.row.U.Denot g.row.U-Ctx.Denot). local_on f (machine v.core) p) c.self.view_is ∙ c.requires.start in
-    let some : 0 < n = (let a = c.pending.ensures.pending in let d = c.requires.pending in omega (arith, a, d)) in
-    let next = can-next f g.U.UserLevel.stands keep w table b n h.core h.lines h.keeper p c.args.seat.now.start c.self.invariant some c.pending.ensures.local start in
-    let k = c.in_ok-made.made in
-    let lt : p.0 < w.processors = subst (λ (q : ProcNo). q.0 < w.processors) c.proc.ensures.proc c.proc.ensures.within in
-    let is : machine c.commit.new.self ≡ committed f p k (machine h.core) = subst (λ (q : ProcNo). machine c.commit.new.self ≡ committed f q k (machine h.core)) c.proc.ensures.proc c.in_ok-made.ensures.machine in
-    let all = commit-done f g.U.UserLevel.stands keep w table b n k h.core c.commit.new.self h.lines h.keeper p c.self.invariant none c.in_ok-made.ensures.made c.in_ok-made.ensures.some low next is in
-    let done = all.0 in
-    (may-follow f g.U.UserLevel.stands keep w table b h.core c.commit.new.self h.lines h.keeper c.self.invariant none (commit p k) done.made done.within).events
+    may-follow f g.U.UserLevel.stands keep w table b h.core c.commit.new.self h.lines h.keeper c.self.invariant none (commit p k) done.made done.within
 
 pub credit-requires-clause-what : goal.credit-requires-clause-what
 credit-requires-clause-what g c = λ inside.

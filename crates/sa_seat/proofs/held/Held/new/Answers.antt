@@ -1,22 +1,16 @@
 use Rattle.std.proofs.Common.{None, replicate, sym, subst}
 use Rattle.sa_core.specs.View.{machine}
 use Rattle.sa_lines.specs.Seen.{KeeperSeen}
-use Rattle.sa_seat.specs.Follow.{HasFollowed}
-use Rattle.sa_seat.proofs.Locks.{MayFollow, follows-opening, locked-opening}
+use Rattle.sa_seat.specs.Follow.{MayFollow, HasFollowed}
+use Rattle.sa_seat.proofs.Locks.{follows-opening, locked-opening}
 use Rattle.sa_seat.proofs.held.Held.new.Goals as goal
 
-pub follow-requires-clause-stored : goal.follow-requires-clause-stored
-follow-requires-clause-stored g c κs within =
+pub follow-requires-clause-follow : goal.follow-requires-clause-follow
+follow-requires-clause-follow g c κs within =
     let keep = (g.met.U.UserLevel g.world.𝓛 g.world.𝓜 g.world.𝓡 ((λ s x. x), (λ x. x), (λ x. x), λ x. x)).keeps in
     let f = g.U.UserLevel.calls in
-    (subst (λ (k : KeeperSeen). MayFollow f g.U.UserLevel.stands keep g.K.Named.workload (machine c.args.core) (replicate 16 None) k) (sym c.requires.keeper)
-    (follows-opening f g.U.UserLevel.stands keep g.K.Named.workload g.K.Named.table g.K.Named.budget 16 (machine c.args.core) c.requires.workload c.requires.core c.requires.few)).stored
-
-pub follow-requires-clause-events : goal.follow-requires-clause-events
-follow-requires-clause-events g c κs within =
-    let keep = (g.met.U.UserLevel g.world.𝓛 g.world.𝓜 g.world.𝓡 ((λ s x. x), (λ x. x), (λ x. x), λ x. x)).keeps in
-    let f = g.U.UserLevel.calls in
-    (follows-opening f g.U.UserLevel.stands keep g.K.Named.workload g.K.Named.table g.K.Named.budget 16 (machine c.args.core) c.requires.workload c.requires.core c.requires.few).events
+    subst (λ (k : KeeperSeen). MayFollow (machine c.args.core) (replicate 16 None) k) (sym c.requires.keeper)
+    (follows-opening f g.U.UserLevel.stands keep g.K.Named.workload g.K.Named.table g.K.Named.budget 16 (machine c.args.core) c.requires.workload c.requires.core c.requires.few)
 
 pub invariant_of-result : goal.invariant_of-result
 invariant_of-result g c =

@@ -20,8 +20,8 @@ turn-requires-clause-within g c κs within =
     let lt = c.proc.ensures.within in
     omega (arith, e, lt)
 
-pub follow-requires-clause-lanes : goal.follow-requires-clause-lanes
-follow-requires-clause-lanes g c κs within =
+pub follow-requires-clause-follow : goal.follow-requires-clause-follow
+follow-requires-clause-follow g c κs within =
     let keep = (g.met.U.UserLevel g.world.𝓛 g.world.𝓜 g.world.𝓡 ((λ s x. x), (λ x. x), (λ x. x), λ x. x)).keeps in
     let f = g.U.UserLevel.calls in
     let w = g.K.Named.workload in
@@ -33,37 +33,7 @@ follow-requires-clause-lanes g c κs within =
     let lt : p.0 < w.processors = subst (λ (q : ProcNo). q.0 < w.processors) c.proc.ensures.proc c.proc.ensures.within in
     let is : IsTurn f (machine h.core) p (machine c.turn.new.self) = subst (λ (q : ProcNo). IsTurn f (machine h.core) q (machine c.turn.new.self)) c.proc.ensures.proc c.in_ok-turn.ensures.ok in
     let done = turn-done f g.U.UserLevel.stands keep w table b h.core c.turn.new.self h.lines h.keeper p c.self.invariant none lt is c.in_ok-turn.ensures.event in
-    (may-follow f g.U.UserLevel.stands keep w table b h.core c.turn.new.self h.lines h.keeper c.self.invariant none (turn p) done.made done.within).lanes
-
-pub follow-requires-clause-few : goal.follow-requires-clause-few
-follow-requires-clause-few g c κs within =
-    let keep = (g.met.U.UserLevel g.world.𝓛 g.world.𝓜 g.world.𝓡 ((λ s x. x), (λ x. x), (λ x. x), λ x. x)).keeps in
-    let f = g.U.UserLevel.calls in
-    let w = g.K.Named.workload in
-    let table = g.K.Named.table in
-    let b = g.K.Named.budget in
-    let h = c.self.inside in
-    let p = c.args.seat.now.poller.proc in
-    let none : end_of f b (machine h.core) ≡ None = ap (λ (v : HeldView g.row.U.Denot g.row.U-Ctx.Denot). end_of f b (machine v.core)) c.self.view_is ∙ c.requires.goes_on in
-    let lt : p.0 < w.processors = subst (λ (q : ProcNo). q.0 < w.processors) c.proc.ensures.proc c.proc.ensures.within in
-    let is : IsTurn f (machine h.core) p (machine c.turn.new.self) = subst (λ (q : ProcNo). IsTurn f (machine h.core) q (machine c.turn.new.self)) c.proc.ensures.proc c.in_ok-turn.ensures.ok in
-    let done = turn-done f g.U.UserLevel.stands keep w table b h.core c.turn.new.self h.lines h.keeper p c.self.invariant none lt is c.in_ok-turn.ensures.event in
-    (may-follow f g.U.UserLevel.stands keep w table b h.core c.turn.new.self h.lines h.keeper c.self.invariant none (turn p) done.made done.within).few
-
-pub follow-requires-clause-events : goal.follow-requires-clause-events
-follow-requires-clause-events g c κs within =
-    let keep = (g.met.U.UserLevel g.world.𝓛 g.world.𝓜 g.world.𝓡 ((λ s x. x), (λ x. x), (λ x. x), λ x. x)).keeps in
-    let f = g.U.UserLevel.calls in
-    let w = g.K.Named.workload in
-    let table = g.K.Named.table in
-    let b = g.K.Named.budget in
-    let h = c.self.inside in
-    let p = c.args.seat.now.poller.proc in
-    let none : end_of f b (machine h.core) ≡ None = ap (λ (v : HeldView g.row.U.Denot g.row.U-Ctx.Denot). end_of f b (machine v.core)) c.self.view_is ∙ c.requires.goes_on in
-    let lt : p.0 < w.processors = subst (λ (q : ProcNo). q.0 < w.processors) c.proc.ensures.proc c.proc.ensures.within in
-    let is : IsTurn f (machine h.core) p (machine c.turn.new.self) = subst (λ (q : ProcNo). IsTurn f (machine h.core) q (machine c.turn.new.self)) c.proc.ensures.proc c.in_ok-turn.ensures.ok in
-    let done = turn-done f g.U.UserLevel.stands keep w table b h.core c.turn.new.self h.lines h.keeper p c.self.invariant none lt is c.in_ok-turn.ensures.event in
-    (may-follow f g.U.UserLevel.stands keep w table b h.core c.turn.new.self h.lines h.keeper c.self.invariant none (turn p) done.made done.within).events
+    may-follow f g.U.UserLevel.stands keep w table b h.core c.turn.new.self h.lines h.keeper c.self.invariant none (turn p) done.made done.within
 
 pub credit-requires-clause-what : goal.credit-requires-clause-what
 credit-requires-clause-what g c = λ inside.
