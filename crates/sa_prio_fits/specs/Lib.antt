@@ -1,0 +1,3 @@
+pub mod ByRank
+pub mod Ready
+pub mod Fits
