@@ -72,12 +72,12 @@ module _ (mine : WorkloadView → Type 0) (plan : Plan) (kept : AreKept plan.run
       → RunsTo plan.runs.calls w (plan.order w) plan.budget items e events → goes (plan.shown items e events) → Ended mine plan goes items e
   ended-so items w e events goes is ok runs went =
       let both = kept.ended w (plan.order w) plan.budget items e events ok runs in
-      record { workload = w; is = is; events = events; run = runs; keeps = both.0; ends = both.1; went = went }
+      record { workload = w; is = is; events = events; run = runs; legal = both.0; ends = both.1; went = went }
 
   came-so : (items : List Item) (w : WorkloadView) → mine w → IsWorkload w → RunsSoFar plan.runs.calls w (plan.order w) plan.budget items
       → Came mine plan items
   came-so items w is ok runs =
-      record { workload = w; is = is; run = runs; keeps = kept.came w (plan.order w) plan.budget items ok runs }
+      record { workload = w; is = is; run = runs; legal = kept.came w (plan.order w) plan.budget items ok runs }
 
   written-answers : (items : List Item) (w : WorkloadView) (e : End) (events : ℕ) (status : Status) → mine w → IsWorkload w
       → RunsTo plan.runs.calls w (plan.order w) plan.budget items e events

@@ -8,6 +8,7 @@ use Rattle.sa_io.specs.Faults.{HasRisen, AppendsPrefix}
 use Rattle.sa_spaces.specs.Workload.{WorkloadView}
 use Rattle.sa_sched.specs.Order.{Order}
 use Rattle.sa_run.specs.Run.{RunsTo, RunsSoFar}
+use Rattle.sa_fast_runs.specs.Whole.{IsTurnByTurn, IsEnded}
 use Rattle.sa_cli.specs.declared.outcome.Status.{Status}
 use Rattle.sa_cli.specs.declared.outcome.Status.TheVariants.{AllDone, Stuck, Budget, WriteFault, OutOfMemory}
 use Rattle.sa_cli.specs.Packages.{PackageRuns}
@@ -34,14 +35,14 @@ pub record Plan : Type 1 where
   pub shown : Shown
 
 -- The run of one of these workloads ended so, and its text went to the sink in this way. It is exactly the machine's run,
--- turn by turn in the order and up to its first end, and what is promised of the user level's runs holds of it.
+-- turn by turn in the order and up to its first end; it is legal by the user level's rules, strict, and has ended as defined.
 pub record Ended (ran : WorkloadView → Type 0) (plan : Plan) (goes : List ℕ → Type 0) (items : List Item) (end : End) : Type 0 where
   pub workload : WorkloadView
   pub is : ran workload
   pub events : ℕ
   pub run : RunsTo plan.runs.calls workload (plan.order workload) plan.budget items end events
-  pub keeps : plan.runs.Keeps workload (plan.order workload) items events
-  pub ends : plan.runs.Ends workload plan.budget items end events
+  pub legal : IsTurnByTurn plan.runs.rules workload (plan.order workload) items events
+  pub ends : IsEnded plan.runs.rules workload plan.budget items end events
   pub went : goes (plan.shown items end events)
 
 -- the run of one of these workloads came so far
@@ -49,7 +50,7 @@ pub record Came (ran : WorkloadView → Type 0) (plan : Plan) (items : List Item
   pub workload : WorkloadView
   pub is : ran workload
   pub run : RunsSoFar plan.runs.calls workload (plan.order workload) plan.budget items
-  pub keeps : plan.runs.Keeps workload (plan.order workload) items run.events
+  pub legal : IsTurnByTurn plan.runs.rules workload (plan.order workload) items run.events
 
 -- the sink took the whole text, or a prefix of it
 abbrev pub TookAll : World → World → List ℕ → Type 0
