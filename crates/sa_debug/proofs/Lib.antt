@@ -1,4 +1,5 @@
 pub mod Playing
 pub mod Ordering
 pub mod Keeping
+pub mod Marking
 pub mod Running

@@ -1,5 +1,5 @@
 // The breakpoints of a session.
-ghost use Rattle.std.specs.Prelude.{◌≡◌, ◌≤◌, ◌<◌, [], ◌∷◌, ◌++◌, filter, length, IsTrue, ◌↔◌, OnOk, OnErr};
+ghost use Rattle.std.specs.Prelude.{◌≡◌, ◌≤◌, ◌<◌, [], ◌∷◌, ◌++◌, ◌%◌, filter, length, IsTrue, ◌↔◌, OnOk, OnErr};
 ghost use Rattle.std.specs.List.{list_any};
 ghost use Rattle.sa_debug.specs.Points.{same_point, is_other};
 
@@ -10,19 +10,29 @@ use std::marker::Model;
 /// The most breakpoints of a session.
 pub const MAX_POINTS: usize = 64;
 
-/// The breakpoints, in the order in which they were set.
+// The slots of a table.
+const SLOTS: usize = 64;
+
+/// The breakpoints, in the order in which they were set. The slot of each one's thread is set in `threads`, and that of its
+/// place in `places`; the slots of one that was taken away may stay set.
 #[derive(Debug, Drop)]
 pub(crate) struct Points {
     points: Vec<Point>,
+    threads: [bool; SLOTS],
+    places: [bool; SLOTS],
 }
 
 impl Model for Points {
     ghost use Rattle.std.specs.Prelude.{List};
     ghost use Rattle.sa_script.specs.declared.command.Point.{Point};
+    ghost use Rattle.std.specs.List.{All};
+    ghost use Rattle.sa_debug.specs.Points.{IsMarked};
 
     ghost Value = { List Point };
 
     ghost view = { λ s. s.points.items };
+
+    ghost invariant = { λ s. All (IsMarked s.threads s.places) s.points.items };
 }
 
 impl Points {
@@ -32,6 +42,8 @@ impl Points {
     {
         Points {
             points: Vec::new(alloc),
+            threads: [false; SLOTS],
+            places: [false; SLOTS],
         }
     }
 
@@ -39,6 +51,12 @@ impl Points {
     pub(crate) fn has(&self, point: Point) -> bool
         ensures { result ≡ list_any (same_point point) self.now }
     {
+        if !self.threads[thread_slot(point)] {
+            return false;
+        }
+        if !self.places[place_slot(point)] {
+            return false;
+        }
         self.points.iter().any(|other| is_same(point, *other))
     }
 
@@ -55,6 +73,8 @@ impl Points {
         ensures err { OnErr result (self.new ≡ self.old) }
     {
         self.points.push(point)?;
+        self.threads[thread_slot(point)] = true;
+        self.places[place_slot(point)] = true;
         Ok(())
     }
 
@@ -64,6 +84,19 @@ impl Points {
     {
         self.points.retain(|other| !is_same(point, *other));
     }
+}
+
+// The slot of the point's thread, and that of its place.
+fn thread_slot(point: Point) -> usize
+    ensures { result ≡ point.thread.0 % 64 }
+{
+    usize::from(point.thread.0) % SLOTS
+}
+
+fn place_slot(point: Point) -> usize
+    ensures { result ≡ point.place % 64 }
+{
+    usize::from(point.place) % SLOTS
 }
 
 // Whether the two are one place of one thread.
