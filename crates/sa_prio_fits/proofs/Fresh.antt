@@ -1,5 +1,5 @@
 -- A context with the mark has just come to its instruction or look.
-use Rattle.std.proofs.Common.{◌≡◌, ◌⊎◌, ℕ, zero, suc, Bool, true, false, not, ◌&&◌, ◌||◌, refl, sym, ap, ◌∙◌, inl, inr}
+use Rattle.std.proofs.Common.{◌≡◌, ◌⊎◌, ℕ, zero, suc, Bool, true, false, not, ◌&&◌, ◌||◌, refl, ap, ◌∙◌, inl, inr}
 use Rattle.std.specs.Prelude.{if◌then◌else◌}
 use Rattle.sa_base.specs.declared.record.Record.{Record}
 use Rattle.sa_base.specs.declared.record.Record.TheVariants as records
@@ -7,7 +7,7 @@ use Rattle.sa_package_model.specs.Context.{stands_inside}
 use Rattle.sa_package_model.specs.declared.context.State.{State}
 use Rattle.sa_package_model.specs.declared.context.State.TheVariants.{Code, Work, Hint, Return, User, Look}
 use Rattle.sa_laws.specs.History.{settles, scans_after}
-use Rattle.sa_laws.specs.Readings.{Readings, demand_of}
+use Rattle.sa_laws.specs.Readings.{Readings}
 use Rattle.sa_fits.specs.View.{looks_of}
 use Rattle.sa_prio_model.specs.Urge.{came_out, goes_on}
 use Rattle.sa_prio_fits.specs.Fits.{is_fresh}

@@ -1,5 +1,5 @@
 -- The first of the ready list is taken out of it, and is the thread that is next in the history.
-use Rattle.std.proofs.Common.{◌≡◌, ℕ, zero, suc, ◌<◌, ◌≤◌, Bool, true, false, not, ◌||◌, if◌then◌else◌, List, [], ◌∷◌, length, map, filter, drop, option_map, Option, Some, None, Contains, slice_get, refl, sym, ap, ◌∙◌, subst, arith}
+use Rattle.std.proofs.Common.{◌≡◌, ℕ, zero, suc, ◌<◌, ◌≤◌, Bool, true, false, if◌then◌else◌, List, [], ◌∷◌, length, map, filter, drop, option_map, Option, Some, None, Contains, slice_get, sym, ap, ◌∙◌, subst, arith}
 use Rattle.std.proofs.lemmas.List.{length-set}
 use Rattle.std.proofs.lemmas.Option.{same_Some, none-some}
 use Rattle.sa_base.specs.declared.number.SpaceNo.{SpaceNo}
@@ -23,7 +23,7 @@ use Rattle.sa_ranks.specs.Pairs.{rank_in}
 use Rattle.sa_prio_fits.proofs.Listed.{order-pop, greatest-alike}
 use Rattle.sa_prio_fits.proofs.Orders.{count-by_rank, first-by_rank}
 use Rattle.sa_prio_fits.proofs.Ready.{listed-made, rank-is}
-use Rattle.sa_prio_fits.specs.ByRank.{by_rank, greatest}
+use Rattle.sa_prio_fits.specs.ByRank.{by_rank}
 use Rattle.sa_prio_fits.specs.Ready.{FitsRanked}
 
 -- what is left was there

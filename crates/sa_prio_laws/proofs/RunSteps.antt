@@ -1,5 +1,5 @@
 -- A pop: of the ranked list the first thread runs, which is the one of the greatest rank. And with it every step in the code.
-use Rattle.std.proofs.Common.{◌≡◌, ℕ, ◌<◌, ◌≤◌, Bool, true, false, List, [], ◌∷◌, drop, length, Option, Some, slice_get, refl, sym, ap, ◌∙◌, subst, arith}
+use Rattle.std.proofs.Common.{◌≡◌, ℕ, ◌<◌, ◌≤◌, Bool, true, false, List, [], length, Option, Some, slice_get, refl, sym, ap, ◌∙◌, subst, arith}
 use Rattle.std.proofs.lemmas.Bool.{lt-ltb}
 use Rattle.sa_base.specs.declared.context.Seen.{Seen}
 use Rattle.sa_base.specs.declared.limits.TheConstants.{PACKAGE_PAGE}
@@ -9,7 +9,7 @@ use Rattle.sa_base.specs.declared.number.ThreadNo.{ThreadNo}
 use Rattle.sa_base.specs.declared.record.Record.{Record}
 use Rattle.sa_base.specs.declared.record.Record.TheVariants as records
 use Rattle.sa_links.proofs.Counting.{count_at}
-use Rattle.sa_links.specs.Lists.{count_in, count_in_all}
+use Rattle.sa_links.specs.Lists.{count_in}
 use Rattle.sa_spaces.specs.Workload.{WorkloadView}
 use Rattle.sa_lists.specs.ReadyView.{ReadyView, list_of, with_list, newest, thread}
 use Rattle.sa_code.specs.Micro.{micro, popped, stays, takes_first, chosen, without_chosen, list_in, is_resident as is_page_resident}

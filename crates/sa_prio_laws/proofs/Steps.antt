@@ -1,5 +1,5 @@
 -- A step of the package with thread priorities is legal, whatever state its context is in.
-use Rattle.std.proofs.Common.{◌≡◌, ℕ, ◌≤◌, ◌<◌, Bool, true, false, ◌||◌, List, [], ◌∷◌, Option, Some, None, is_some, refl, sym, ap, ◌∙◌, subst, inl, inr}
+use Rattle.std.proofs.Common.{◌≡◌, ℕ, ◌≤◌, ◌<◌, Bool, true, false, ◌||◌, List, [], ◌∷◌, Option, Some, None, is_some, refl, sym, ap, ◌∙◌, subst, inl}
 use Rattle.sa_base.specs.declared.context.Seen.{Seen}
 use Rattle.sa_base.specs.declared.limits.TheConstants.{MAX_EVENTS}
 use Rattle.sa_base.specs.declared.number.ActNo.{ActNo}
@@ -9,10 +9,9 @@ use Rattle.sa_spaces.specs.Workload.{WorkloadView}
 use Rattle.sa_code.specs.declared.state.Frame.{Frame}
 use Rattle.sa_abstract.specs.Calls.{Contexts}
 use Rattle.sa_abstract.specs.Setting.{Setting}
-use Rattle.sa_package_model.specs.Context.{carried_by, has_bulk, settled_to, stands_inside}
+use Rattle.sa_package_model.specs.Context.{has_bulk, settled_to, stands_inside}
 use Rattle.sa_package_model.specs.Rules.{owed}
 use Rattle.sa_package_model.specs.Step as fast
-use Rattle.sa_package_model.specs.declared.context.Context.{Context}
 use Rattle.sa_package_model.specs.declared.context.State.{State}
 use Rattle.sa_package_model.specs.declared.context.State.TheVariants.{Code, Work, Hint, Return, User, Look}
 use Rattle.sa_laws.specs.Life.{Life}
@@ -36,7 +35,6 @@ use Rattle.sa_prio_laws.proofs.LookSteps.{look-legal}
 use Rattle.sa_prio_laws.proofs.RunSteps.{code-legal}
 use Rattle.sa_prio_laws.proofs.Scenes.{IsPrioScene, the-scene}
 use Rattle.sa_prio_laws.proofs.Settles.{GoesLegally, hint-again, return-again, urge-legal}
-use Rattle.sa_prio_laws.proofs.Unbound.{IsUnbound}
 use Rattle.sa_prio_laws.proofs.UserSteps.{instr-legal}
 use Rattle.sa_prio_laws.proofs.Works.{cont-legal, push-legal}
 
