@@ -1,0 +1,176 @@
+-- The records of an event of the package with thread priorities: what each may do to lives, and their parts.
+use Rattle.std.proofs.Common.{◌≡◌, ℕ, zero, suc, ◌≤◌, inl, inr, refl, sym, ◌∙◌, ap, subst, arith, Some, None, List, [], ◌∷◌, ◌++◌, map, true, false}
+use Rattle.std.specs.Prelude.{Option, Bool, is_some, take_while}
+use Rattle.std.specs.List.{prefix_len}
+use Rattle.sa_base.specs.declared.number.SpaceNo.{SpaceNo}
+use Rattle.sa_base.specs.declared.number.ProcNo.{ProcNo}
+use Rattle.sa_base.specs.declared.record.Record.{Record}
+use Rattle.sa_base.specs.declared.record.Record.TheVariants.{Ins, Stop, Block, Unblock, Up, Told, Move, Want, Aim, Line, Fetch, GiveBack}
+use Rattle.sa_spaces.specs.Workload.{WorkloadView}
+use Rattle.sa_assign.specs.Aims.{Change}
+use Rattle.sa_assign.specs.Reaim.{records_of, line_at, lines_with, line_records, proc_no}
+use Rattle.sa_laws.specs.Event.{Event}
+use Rattle.sa_laws.specs.Readings.{Readings, opening_readings, line_of}
+use Rattle.sa_laws.specs.Record.{after_record}
+use Rattle.sa_laws.specs.History.{begun, after_records, is_step}
+use Rattle.sa_laws.specs.Shape.{own_part, closing_part, is_own}
+use Rattle.sa_laws.specs.Step.{Needs, AreSteps}
+use Rattle.sa_laws.specs.Upcalls.{EachRecord, NamesTheLife, TellsAllThen, TellsOnce}
+use Rattle.sa_laws.specs.Closing.{spaces_of, want_one, aims_due}
+use Rattle.sa_laws.specs.Opening.{first_wants, opening_records}
+use Rattle.sa_laws.specs.Turns.{IsClosing, AreTold, IsTurn}
+use Rattle.sa_laws.specs.Rules.{IsLawful}
+use Rattle.sa_legal.proofs.StandingLemmas.{space_of}
+use Rattle.sa_legal.proofs.ShapeLemmas.{is_telling, parts-take}
+use Rattle.sa_legal_readings.proofs.FormLemmas.{Turning, AllQuiet, quiet-append, closing-quiet}
+use Rattle.sa_ranks.specs.Rules.{prio_threads}
+use Rattle.sa_ranks.specs.Steps.{IsRankedStep}
+use Rattle.sa_ranks.specs.Locks.{KeepsTheLockIn}
+use Rattle.sa_ranks_legal.proofs.Moving.{Moves, Goes}
+
+-- the opening has wants, aims and lines alone
+abbrev pub is_calm : Record → Bool
+is_calm (Want s n) = true
+is_calm (Aim p s) = true
+is_calm (Line p) = true
+is_calm _ = false
+
+abbrev pub AreCalm : List Record → Type 0
+AreCalm [] = Unit {0}
+AreCalm (x ∷ xs) = (is_calm x ≡ true) × AreCalm xs
+
+calm-append : (xs ys : List Record) → AreCalm xs → AreCalm ys → AreCalm (xs ++ ys)
+calm-append [] ys left right = right
+calm-append (x ∷ xs) ys left right = (left.0, calm-append xs ys left.1 right)
+
+calm-wants : (spaces : List SpaceNo) → AreCalm (map want_one spaces)
+calm-wants [] = tt
+calm-wants (s ∷ ss) = (refl, calm-wants ss)
+
+calm-line : (p : ℕ) (line : Option ℕ) → AreCalm (line_records p line)
+calm-line p None = (refl, tt)
+calm-line p (Some e) = tt
+
+calm-aims : (e : ℕ) (lines : List (Option ℕ)) (cs : List Change) → AreCalm (records_of e lines cs)
+calm-aims e lines [] = tt
+calm-aims e lines (c ∷ cs) = (refl, calm-append (line_records c.proc (line_at lines c.proc)) (records_of e (lines_with e lines c) cs) (calm-line c.proc (line_at lines c.proc)) (calm-aims e (lines_with e lines c) cs))
+
+pub calm-opening : (w : WorkloadView) → AreCalm (opening_records w)
+calm-opening w =
+    let wanting = after_records w 0 (proc_no 0) (opening_readings w) (first_wants w) in
+    calm-append (first_wants w) (records_of 0 wanting.lines (aims_due w 0 wanting)) (calm-wants (spaces_of w)) (calm-aims 0 wanting.lines (aims_due w 0 wanting))
+
+-- told records stand behind an up or another told record
+abbrev pub AfterUps : Option Record → List Record → Type 0
+AfterUps last [] = Unit {0}
+AfterUps last (Told n ∷ xs) = (is_telling last ≡ true) × AfterUps (Some (Told n)) xs
+AfterUps last (x ∷ xs) = AfterUps (Some x) xs
+
+pub quiet-told : (last : Option Record) (xs : List Record) → AllQuiet xs → AfterUps last xs
+quiet-told last [] quiet = tt
+quiet-told last (Told n ∷ xs) quiet = absurd (let clash = quiet.0 in cc)
+quiet-told last (x ∷ xs) quiet = quiet-told (Some x) xs quiet.1
+
+pub calm-told : (last : Option Record) (xs : List Record) → AreCalm xs → AfterUps last xs
+calm-told last [] calm = tt
+calm-told last (Told n ∷ xs) calm = absurd (let clash = calm.0 in cc)
+calm-told last (x ∷ xs) calm = calm-told (Some x) xs calm.1
+
+tells-told : (last : Option Record) (xs cs : List Record) → is_telling last ≡ true → AreTold xs → AllQuiet cs → AfterUps last (xs ++ cs)
+tells-told last [] cs telling is quiet = quiet-told last cs quiet
+tells-told last (Told n ∷ xs) cs telling is quiet = (telling, tells-told (Some (Told n)) xs cs refl is quiet)
+tells-told last (x ∷ xs) cs telling is quiet = absurd is
+
+pub turning-told : (last : Option Record) (xs cs : List Record) → Turning xs → AllQuiet cs → AfterUps last (xs ++ cs)
+turning-told last [] cs is quiet = absurd is
+turning-told last (Up u a ∷ xs) cs is quiet = tells-told (Some (Up u a)) xs cs refl is quiet
+turning-told last (Stop u t a ∷ xs) cs is quiet = turning-told (Some (Stop u t a)) xs cs is quiet
+turning-told last (Ins u t i ∷ xs) cs is quiet = turning-told (Some (Ins u t i)) xs cs is quiet
+turning-told last (Block u t a io ∷ xs) cs is quiet = turning-told (Some (Block u t a io)) xs cs is quiet
+turning-told last (Move old new ∷ xs) cs is quiet = turning-told (Some (Move old new)) xs cs is quiet
+turning-told last (Aim q None ∷ []) cs is quiet = quiet-told (Some (Aim q None)) cs quiet
+turning-told last (Aim q None ∷ Fetch u ∷ []) cs is quiet = quiet-told (Some (Fetch u)) cs quiet
+turning-told last (Aim q None ∷ xs) cs is quiet = absurd is
+turning-told last (Aim q (Some v) ∷ xs) cs is quiet = absurd is
+turning-told last (x ∷ xs) cs is quiet = absurd is
+
+moves-one : (w : WorkloadView) (p : ProcNo) (r : Readings) (x : Record) (rest : List Record) (last : Option Record) → r.last ≡ last → AfterUps last (x ∷ rest)
+    → NamesTheLife p r x rest → TellsAllThen p r x rest → TellsOnce r x rest → Needs w p r x → Moves w p r x rest
+moves-one w p r (Stop s t a) rest last is fit named tells once needs = named
+moves-one w p r (Block s t a io) rest last is fit named tells once needs = named
+moves-one w p r (Unblock s t a) rest last is fit named tells once needs = (needs.io, ap space_of needs.is ∙ ap Some needs.space)
+moves-one w p r (Up s a) rest last is fit named tells once needs = (named, tells.fresh)
+moves-one w p r (Told n) rest last is fit named tells once needs = (once, ap is_telling is ∙ fit.0)
+moves-one w p r (GiveBack a) rest last is fit named tells once needs = tells
+moves-one w p r x rest last is fit named tells once needs = tt
+
+later-told : (last : Option Record) (x : Record) (xs : List Record) → AfterUps last (x ∷ xs) → AfterUps (Some x) xs
+later-told last (Told n) xs fit = fit.1
+later-told last x xs fit = fit
+
+moves-each : (w : WorkloadView) (e : ℕ) (p : ProcNo) (r : Readings) (xs : List Record) (last : Option Record) → r.last ≡ last → AfterUps last xs
+    → EachRecord (NamesTheLife p) w e p r xs → EachRecord (TellsAllThen p) w e p r xs → EachRecord TellsOnce w e p r xs → AreSteps w e p r xs
+    → EachRecord (Moves w p) w e p r xs
+moves-each w e p r [] last is fit named tells once steps = tt
+moves-each w e p r (x ∷ xs) last is fit named tells once steps = (
+  moves-one w p r x xs last is fit named.0 tells.0 once.0 steps.0,
+  moves-each w e p (after_record w e p r x) xs (Some x) refl (later-told last x xs fit) named.1 tells.1 once.1 steps.1,
+)
+
+pub event-goes : (w : WorkloadView) (r : Readings) (e : Event) → IsLawful prio_threads w r e → AfterUps None e.records → Goes w e.number e.proc (begun w e r) e.records
+event-goes w r e law fit = record {
+  moves = moves-each w e.number e.proc (begun w e r) e.records None refl fit law.where_owned.named law.all_told.told law.at_most_once.told law.step_taken.steps;
+  tells = law.all_told.told;
+  steps = law.step_taken.steps;
+}
+
+-- an event in its parts
+pub record InForm (w : WorkloadView) (r : Readings) (e : Event) : Type 0 where
+  pub first : Record
+  pub own : List Record
+  pub closing : List Record
+  pub is : e.records ≡ first ∷ (own ++ closing)
+  pub part : own_part e.records ≡ first ∷ own
+  pub form : Rattle.sa_ranks_legal.proofs.Forms.Formed w (begun w e r) e.proc first own
+  pub low : is_some (line_of r e.proc) ≡ true → Turning (first ∷ own) × (is_step first ≡ false)
+  pub closes : IsClosing closing
+
+interrupts : (w : WorkloadView) (r : Readings) (p : ProcNo) (e : ℕ) (b : Bool) (x : Record) (ys : List Record) → IsTurn IsRankedStep b e w r p (x ∷ ys) → b ≡ true → Turning (x ∷ ys) × (is_step x ≡ false)
+interrupts w r p e false x ys is raised = absurd (cc)
+interrupts w r p e true (Stop u t a) ys is raised = ((Rattle.sa_ranks_legal.proofs.Forms.interrupt-form (Stop u t a) ys is).0, refl)
+interrupts w r p e true (Up u a) ys is raised = ((Rattle.sa_ranks_legal.proofs.Forms.interrupt-form (Up u a) ys is).0, refl)
+interrupts w r p e true (Move old new) ys is raised = ((Rattle.sa_ranks_legal.proofs.Forms.interrupt-form (Move old new) ys is).0, refl)
+interrupts w r p e true x ys is raised = absurd (is)
+
+pub in-form : (w : WorkloadView) (r : Readings) (e : Event) → IsLawful prio_threads w r e → 1 ≤ e.number → InForm w r e
+in-form w r e law from = one e.records refl where
+  one : (xs : List Record) → e.records ≡ xs → InForm w r e
+  one [] is = absurd (law.numbering.some is)
+  one (x ∷ xs) is =
+      let turns = law.turns_and_steps in
+      let locks = law.list_locks in
+      let turn = subst (λ ys. IsTurn IsRankedStep (is_some (line_of r e.proc)) e.number w (begun w e r) e.proc (own_part ys)) is (turns.turn from) in
+      record {
+        first = x;
+        own = take_while is_own xs;
+        closing = closing_part (x ∷ xs);
+        is = is ∙ ap (λ ys. x ∷ ys) (sym (parts-take (prefix_len is_own xs) xs));
+        part = ap own_part is;
+        form = Rattle.sa_ranks_legal.proofs.Forms.turn-form w (begun w e r) e.proc e.number (is_some (line_of r e.proc)) x (take_while is_own xs) turn
+            (subst (λ ys. KeepsTheLockIn w (begun w e r) e.proc (own_part ys)) is (locks.step from));
+        low = λ raised. interrupts w (begun w e r) e.proc e.number (is_some (line_of r e.proc)) x (take_while is_own xs) turn raised;
+        closes = subst (λ ys. IsClosing (closing_part ys)) is (turns.closing from);
+      }
+
+form-told : (w : WorkloadView) (r : Readings) (p : ProcNo) (x : Record) (ys cs : List Record) → Rattle.sa_ranks_legal.proofs.Forms.Formed w r p x ys → IsClosing cs → AfterUps None (x ∷ (ys ++ cs))
+form-told w r p x ys cs (inl turns) closes = turning-told None (x ∷ ys) cs turns.0 (closing-quiet cs closes)
+form-told w r p x ys cs (inr (inl calm)) closes =
+    quiet-told None (x ∷ (ys ++ cs)) (calm.quiet, subst (λ zs. AllQuiet (zs ++ cs)) (sym calm.alone) (closing-quiet cs closes))
+form-told w r p x ys cs (inr (inr step)) closes = quiet-told None (x ∷ (ys ++ cs)) (quiet-append (x ∷ ys) cs step.quiet (closing-quiet cs closes))
+
+pub event-told : (w : WorkloadView) (r : Readings) (e : Event) → IsLawful prio_threads w r e → AfterUps None e.records
+event-told w r e law = one e.number refl where
+  one : (n : ℕ) → e.number ≡ n → AfterUps None e.records
+  one zero is = subst (AfterUps None) (sym (ap (λ (f : Event). f.records) (law.numbering.opening is))) (calm-told None (opening_records w) (calm-opening w))
+  one (suc n) is = let parts = in-form w r e law (omega arith) in
+      subst (AfterUps None) (sym parts.is) (form-told w (begun w e r) e.proc parts.first parts.own parts.closing parts.form parts.closes)
