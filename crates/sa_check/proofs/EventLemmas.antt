@@ -1,11 +1,11 @@
 -- The first event of some items, and the items behind it.
-use Rattle.std.proofs.Common.{◌≡◌, ◌≢◌, ℕ, suc, ◌+◌, ◌<◌, ◌≤◌, length, length-drop, Some, None, refl, subst, sym, ◌∙◌, ap, List, [], ◌∷◌, map, take, drop, Bool, true, false, arith}
-use Rattle.std.specs.Prelude.{◌==◌, ◌&&◌, if◌then◌else◌, slice_get}
-use Rattle.std.proofs.lemmas.Option.{same_Some, none-some}
+use Rattle.std.proofs.Common.{◌≡◌, ◌≢◌, ℕ, suc, ◌+◌, None, refl, sym, ◌∙◌, ap, List, [], ◌∷◌, ◌++◌, map, take, drop, Bool, true, false, arith}
+use Rattle.std.specs.Prelude.{◌==◌, ◌&&◌, if◌then◌else◌}
 use Rattle.std.specs.List.{prefix_len}
 use Rattle.std.proofs.lemmas.Bool.Decides.{nat_tests}
 use Rattle.sa_base.specs.declared.record.Item.{Item}
 use Rattle.sa_base.specs.declared.record.Record.{Record}
+use Rattle.sa_base.specs.Items.{items_at}
 use Rattle.sa_laws.specs.Event.{Event, events_of, before_events, event_of}
 use Rattle.sa_check_moment.specs.Seen.{event}
 use Rattle.sa_laws.specs.Ends.{LastLine}
@@ -54,68 +54,39 @@ first-event x (y ∷ ys) =
         ∙ ap (λ k. event x.event x.proc (x.what ∷ map what_of (take k (y ∷ ys))) ∷ events_of (drop k (y ∷ ys))) one
     by false same rest = ap (λ es. event_of x ∷ es) (sym rest)
 
--- where the items begin with this one, its event is that of the first n items
-pub event-of-first : (items : List Item) (x : Item) (xs : List Item) (n : ℕ) → items ≡ x ∷ xs → n ≡ prefix_len (is_with x) items
-    → events_of items ≡ event x.event x.proc (map what_of (take n items)) ∷ events_of (drop n items)
-event-of-first items x xs n is len =
-    let itself : is_with x x ≡ true = ap (λ b. b && x.proc.0 == x.proc.0) (same-itself x.event) ∙ same-itself x.proc.0 in
-    let k = prefix_len (is_with x) xs in
-    let count : n ≡ 1 + k = len ∙ ap (prefix_len (is_with x)) is ∙ ap (λ b. if b then 1 + k else 0) itself in
-    let more : n ≡ suc k = omega (arith, count) in
-    let P : List Item → ℕ → Type 0 = λ ys m. events_of ys ≡ event x.event x.proc (map what_of (take m ys)) ∷ events_of (drop m ys) in
-    subst (λ m. P items m) (sym more) (subst (λ (ys : List Item). P ys (suc k)) (sym is) (first-event x xs))
-
--- an item is of one event with itself, so the event has some item
-pub some-len : (items : List Item) (x : Item) (xs : List Item) (n : ℕ) → items ≡ x ∷ xs → n ≡ prefix_len (is_with x) items → 0 < n
-some-len items x xs n is len =
-    let itself : is_with x x ≡ true = ap (λ b. b && x.proc.0 == x.proc.0) (same-itself x.event) ∙ same-itself x.proc.0 in
-    let k = prefix_len (is_with x) xs in
-    let count : n ≡ 1 + k = len ∙ ap (prefix_len (is_with x)) is ∙ ap (λ b. if b then 1 + k else 0) itself in
-    omega (arith, count)
-
--- the first of some items, and that there is none
-pub head-is : (items : List Item) (x : Item) → Some x ≡ slice_get items 0 → items ≡ x ∷ drop 1 items
-head-is [] x first = absurd (none-some x (sym first))
-head-is (y ∷ ys) x first = ap (λ z. z ∷ ys) (same_Some y x (sym first))
-
-pub no-head : (items : List Item) → None ≡ slice_get items 0 → items ≡ []
-no-head [] none = refl
-no-head (y ∷ ys) none = absurd (none-some y none)
-
--- the event that was cut off at the front
-pub event-cut : (items : List Item) (x : Item) (n : ℕ) (own others : List Item) (records : List Record) → Some x ≡ slice_get items 0
-    → n ≡ prefix_len (is_with x) items → own ≡ take n items → others ≡ drop n items → records ≡ map what_of own
-    → events_of items ≡ event x.event x.proc records ∷ events_of others
-event-cut items x n own others records first len front back are =
-    event-of-first items x (drop 1 items) n (head-is items x first) len
-    ∙ ap (λ (list : List Item). event x.event x.proc (map what_of list) ∷ events_of (drop n items)) (sym front)
-    ∙ ap (λ (list : List Record). event x.event x.proc list ∷ events_of (drop n items)) (sym are)
-    ∙ ap (λ (list : List Item). event x.event x.proc records ∷ events_of list) (sym back)
-
-pub shorter : (items : List Item) (x : Item) (n : ℕ) (others : List Item) → Some x ≡ slice_get items 0 → n ≡ prefix_len (is_with x) items → n ≤ length items
-    → others ≡ drop n items → length others < length items
-shorter items x n others first len within back =
-    let some = some-len items x (drop 1 items) n (head-is items x first) len in
-    let left = ap length back in
-    omega (arith, length-drop n items)
-
 -- some items have some event
 pub some-event : (items : List Item) (x : Item) (xs : List Item) → items ≡ x ∷ xs → events_of items ≢ []
 some-event items x xs is none = let no = sym (first-event x xs) ∙ sym (ap events_of is) ∙ none in cc
 
-pub some-events : (items : List Item) → items ≢ [] → events_of items ≢ []
-some-events [] some none = some refl
-some-events (x ∷ xs) some none = some-event (x ∷ xs) x xs refl none
-
--- by the count of the items: there is one, or none
-pub counted-some : (items : List Item) → (length items == 0) ≡ false → items ≢ []
-counted-some [] count none = cc
-counted-some (x ∷ xs) count none = cc
-
-pub counted-none : (items : List Item) → (length items == 0) ≡ true → items ≡ []
-counted-none [] count = refl
-counted-none (x ∷ xs) count = absurd (grind (arith, nat_tests))
-
 pub no-line : (events : List Event) (line : LastLine) → events ≢ [] → None ≡ line_before events line
 no-line [] line some = absurd (some refl)
 no-line (e ∷ es) line some = refl
+
+-- the next item is of another event, if there is one
+abbrev pub IsApart : Item → List Item → Type 0
+IsApart first [] = Unit {0}
+IsApart first (x ∷ xs) = is_with first x ≡ false
+
+before-other : (first : Item) (what : Record) (rest : List Item) → IsApart first rest
+    → before_events (record first { what = what }) (events_of rest) ≡ event first.event first.proc (what ∷ []) ∷ events_of rest
+before-other first what [] apart = refl
+before-other first what (z ∷ zs) apart =
+    let is = first-event z zs in
+    let own = event z.event z.proc (z.what ∷ map what_of (take (prefix_len (is_with z) zs) zs)) in
+    let others = events_of (drop (prefix_len (is_with z) zs) zs) in
+    let one = event first.event first.proc (what ∷ []) in
+    ap (before_events (record first { what = what })) is
+    ∙ ap (λ b. if b then event z.event z.proc (what ∷ own.records) ∷ others else one ∷ own ∷ others) apart
+    ∙ ap (λ es. one ∷ es) (sym is)
+
+-- the items of one event in front of those of others
+pub front-event : (first : Item) (records : List Record) (rest : List Item) → records ≢ [] → IsApart first rest
+    → events_of (items_at first.event first.proc records ++ rest) ≡ event first.event first.proc records ∷ events_of rest
+front-event first [] rest some apart = absurd (some refl)
+front-event first (x ∷ []) rest some apart = before-other first x rest apart
+front-event first (x ∷ y ∷ ys) rest some apart =
+    let own = event first.event first.proc (y ∷ ys) in
+    let one = event first.event first.proc (x ∷ []) in
+    let itself : is_with first first ≡ true = ap (λ b. b && first.proc.0 == first.proc.0) (same-itself first.event) ∙ same-itself first.proc.0 in
+    ap (before_events (record first { what = x })) (front-event first (y ∷ ys) rest (λ none. cc) apart)
+    ∙ ap (λ b. if b then event first.event first.proc (x ∷ y ∷ ys) ∷ events_of rest else one ∷ own ∷ events_of rest) itself

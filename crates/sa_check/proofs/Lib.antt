@@ -8,3 +8,4 @@ pub mod QuietLemmas
 pub mod QuietLines
 pub mod JudgeLemmas
 pub mod WalkLemmas
+pub mod ReadLemmas

@@ -1,5 +1,5 @@
 -- A verdict that is true of a trace is the only one.
-use Rattle.std.proofs.Common.{List, ◌≡◌, ◌↔◌, ℕ, refl, ◌∙◌, ap, subst, Result, Ok, Err, IfOk}
+use Rattle.std.proofs.Common.{List, ◌≡◌, ◌↔◌, ℕ, refl, ◌∙◌, ap, subst}
 use Rattle.sa_spaces.specs.Workload.{WorkloadView}
 use Rattle.sa_base.specs.declared.record.Item.{Item}
 use Rattle.sa_laws.specs.Ends.{LastLine}
@@ -19,14 +19,12 @@ one-verdict w items line (Broken m a) (Broken n b) x y =
     let both = breaks-once fast_threads w items line m n a b x y in
     ap (λ k. Broken k a) both.0 ∙ ap (λ one. Broken n one) both.1
 
-pub legal-exact : {E : Type 0} (w : WorkloadView) (items : List Item) (line : LastLine) (result : Result Verdict E) → IfOk result (IsVerdict w items line)
-    → IfOk result (λ v. (v ≡ Legal) ↔ IsRight fast_threads w items line)
-legal-exact w items line (Ok v) is =
+pub legal-exact : (w : WorkloadView) (items : List Item) (line : LastLine) (v : Verdict) → IsVerdict w items line v
+    → (v ≡ Legal) ↔ IsRight fast_threads w items line
+legal-exact w items line v is =
     (λ same. subst (IsVerdict w items line) same is, λ right. one-verdict w items line v Legal is right)
-legal-exact w items line (Err e) is = tt
 
-pub broken-exact : {E : Type 0} (w : WorkloadView) (items : List Item) (line : LastLine) (result : Result Verdict E) → IfOk result (IsVerdict w items line)
-    → IfOk result (λ v. (n : ℕ) (rule : Rule) → (v ≡ Broken n rule) ↔ FirstBreak fast_threads w items line n rule)
-broken-exact w items line (Ok v) is = λ n rule.
+pub broken-exact : (w : WorkloadView) (items : List Item) (line : LastLine) (v : Verdict) → IsVerdict w items line v
+    → (n : ℕ) (rule : Rule) → (v ≡ Broken n rule) ↔ FirstBreak fast_threads w items line n rule
+broken-exact w items line v is n rule =
     (λ same. subst (IsVerdict w items line) same is, λ broken. one-verdict w items line v (Broken n rule) is broken)
-broken-exact w items line (Err e) is = tt

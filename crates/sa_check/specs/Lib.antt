@@ -7,3 +7,4 @@ pub mod Quiet
 pub mod Findings
 pub mod Sides
 pub mod Judged
+pub mod Gathered

@@ -1,10 +1,11 @@
-// The events of a trace's items.
-ghost use Rattle.std.specs.Prelude.{◌≡◌, ◌≤◌, length, map, OnOk};
-ghost use Rattle.std.specs.List.{prefix_len};
-ghost use Rattle.sa_check.specs.Items.{is_with, what_of};
+// The events of a trace, gathered from what its lines say.
+ghost use Rattle.std.specs.Prelude.{◌≡◌, ◌<◌, length, OnOk};
+ghost use Rattle.sa_trace.specs.Reader.{left};
+ghost use Rattle.sa_check.specs.Items.{is_with};
+ghost use Rattle.sa_check.specs.Gathered.{Gathers};
 
-use sa_base::{Item, ProcNo, Record};
-use std::alloc::AllocError;
+use sa_base::{Item, ProcNo, Record, Unread};
+use sa_trace::{Reader, Said};
 
 /// An event of a trace: its number, its processor, and its records in order.
 #[derive(Clone, Copy, Debug)]
@@ -14,17 +15,27 @@ pub(crate) struct TraceEvent<'a> {
     pub(crate) records: &'a [Record],
 }
 
-/// With how many items the list begins that are of one event with this one.
-pub(crate) fn event_len(first: &Item, items: &[Item]) -> usize
-    ensures len { result ≡ prefix_len (is_with first.now) items.now }
-    ensures within { result ≤ length items.now }
+/// Reads on to the first line that tells no record of the event that begins with this item, which it returns; the records
+/// of the event come in the place of these. `Bad` exactly where a line on the way is bad.
+pub(crate) fn gather(
+    reader: &mut Reader,
+    first: &Item,
+    records: &mut Vec<Record>,
+) -> Result<Said, Unread>
+    ensures gathers { Gathers first.now (left reader.old) (left reader.new) records.new.items result }
+    ensures fewer { OnOk result (length reader.new.lines < length reader.old.lines) }
 {
-    for (i, item) in items.iter().enumerate() {
-        if !is_with(first, item) {
-            return i;
+    records.clear();
+    records.push(first.what)?;
+    let mut said = reader.next().map_err(Unread::Bad)?;
+    while let Said::Next(item) = said {
+        if !is_with(first, &item) {
+            return Ok(said);
         }
+        records.push(item.what)?;
+        said = reader.next().map_err(Unread::Bad)?;
     }
-    items.len()
+    Ok(said)
 }
 
 // The items are of one event.
@@ -32,15 +43,4 @@ fn is_with(first: &Item, item: &Item) -> bool
     ensures { result ≡ is_with first.now item.now }
 {
     first.event == item.event && first.proc.0 == item.proc.0
-}
-
-/// Puts the records of the items in the place of these. Fails only where memory runs out.
-pub(crate) fn take_records(records: &mut Vec<Record>, items: &[Item]) -> Result<(), AllocError>
-    ensures { OnOk result (records.new.items ≡ map what_of items.now) }
-{
-    records.clear();
-    for item in items {
-        records.push(item.what)?;
-    }
-    Ok(())
 }

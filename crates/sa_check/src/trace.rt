@@ -1,105 +1,111 @@
-ghost use Rattle.std.specs.Prelude.{◌≡◌, ◌↔◌, ℕ, map, IfOk};
-ghost use Rattle.sa_laws.specs.declared.rule.Rule.{Rule};
-ghost use Rattle.sa_laws.specs.Event.{events_of};
-ghost use Rattle.sa_laws.specs.Rules.{fast_threads};
-ghost use Rattle.sa_laws.specs.Legal.{IsRight, FirstBreak};
+ghost use Rattle.std.specs.Prelude.{◌≡◌, [], ◌∷◌, IfOk};
+ghost use Rattle.sa_trace.specs.Reading.{read_of};
+ghost use Rattle.sa_trace.specs.Reader.{left, in_front, with_said};
 ghost use Rattle.sa_check_moment.specs.Seen.{seen, event};
-ghost use Rattle.sa_check.specs.declared.verdict.Verdict.TheVariants.{Legal, Broken};
-ghost use Rattle.sa_check.specs.Items.{what_of};
-ghost use Rattle.sa_check.specs.Sides.{told_line, line_told, line_before};
+ghost use Rattle.sa_check.specs.Sides.{line_told};
+ghost use Rattle.sa_check.specs.Gathered.{line_said};
 ghost use Rattle.sa_check.specs.Judged.{Judges};
 ghost use Rattle.sa_check.specs.Quiet.{WasSettled};
-ghost use Rattle.sa_check.specs.Verdict.{last_line, IsVerdict};
+ghost use Rattle.sa_check.specs.Verdict.{IsChecked, unless_bad};
 
 use crate::end::LastTold;
-use crate::event::{TraceEvent, event_len, take_records};
+use crate::event::{TraceEvent, gather};
 use crate::judge::{Judged, judge};
 use crate::verdict::Verdict;
-use sa_base::{Item, Record};
+use sa_base::{Item, Record, Unread};
 use sa_check_moment::Moment;
 use sa_laws::Rule;
 use sa_spaces::Workload;
-use sa_trace::TraceText;
+use sa_trace::{Reader, Said};
 use std::alloc::{AllocError, Global};
 
 /// What the trace text is beside the workload: `Legal` exactly where it is right, and `Broken` with exactly its first
-/// break. Fails where memory runs out, and where a semaphore's count would pass 2^32 - 1, or the I/Os begun 2^64 - 1.
-pub fn check(alloc: Global, workload: &Workload, text: &TraceText) -> Result<Verdict, AllocError>
-    ensures legal { IfOk result (λ verdict. (verdict ≡ Legal)
-        ↔ IsRight fast_threads workload.now text.now.trace.items (last_line text.now)) }
-    ensures broken { IfOk result (λ verdict. (event : ℕ) (rule : Rule)
-        → (verdict ≡ Broken event rule)
-        ↔ FirstBreak fast_threads workload.now text.now.trace.items (last_line text.now) event rule) }
+/// break. `Bad` exactly where these bytes are the text of no trace: a bad line comes before every break.
+///
+/// `OutOfMemory` where memory runs out, and where a semaphore's count would pass 2^32 - 1, or the I/Os begun 2^64 - 1.
+/// Each event is judged as its lines are read, so memory does not grow with the number of items.
+pub fn check(alloc: Global, workload: &Workload, text: &[u8]) -> Result<Verdict, Unread>
+    ensures { IsChecked workload.now (read_of text.now) result }
 {
-    first_broken(alloc, workload, text)
-}
-
-// The verdict.
-fn first_broken(alloc: Global, workload: &Workload, text: &TraceText) -> Result<Verdict, AllocError>
-    ensures { IfOk result (IsVerdict workload.now text.now.trace.items (last_line text.now)) }
-{
-    let line = LastTold {
-        end: text.end,
-        events: text.events,
-    };
-    let mut items = text.trace.items();
-    if items.is_empty() {
-        return Ok(Verdict::Broken {
+    let mut reader = Reader::new(text);
+    match reader.next().map_err(Unread::Bad)? {
+        Said::Next(first) => judge_events(alloc, workload, &mut reader, first),
+        Said::Last(..) => Ok(Verdict::Broken {
             event: 0,
             rule: Rule::Numbering,
-        });
+        }),
     }
+}
+
+// The verdict on the events of which this is the first item. After the first break, and where judging fails, the text is
+// read on and no more is judged, since a bad line comes before these.
+fn judge_events(
+    alloc: Global,
+    workload: &Workload,
+    reader: &mut Reader,
+    first: Item,
+) -> Result<Verdict, Unread>
+    ensures { IsChecked workload.now (in_front (first ∷ []) (left reader.old)) result }
+{
     let mut moment = Moment::start(alloc, workload)?;
     let mut records = Vec::new(alloc);
-    while let Some(first) = items.first() {
-        let (own, others) = items.split_at(event_len(first, items));
-        match judge_items(
-            alloc,
-            moment,
-            &mut records,
-            first,
-            own,
-            last_behind(line, others),
-        )? {
-            Judged::Right(after) => moment = after,
-            Judged::Broken(rule) => {
-                return Ok(Verdict::Broken {
-                    event: first.event,
-                    rule,
-                });
+    let mut said = Said::Next(first);
+    while let Said::Next(item) = said {
+        said = gather(reader, &item, &mut records)?;
+        match judge_records(alloc, moment, &item, &records, last_told(&said)) {
+            Ok(Judged::Right(after)) => moment = after,
+            Ok(Judged::Broken(rule)) => {
+                let event = item.event;
+                return unless_bad(reader, said, Ok(Verdict::Broken { event, rule }));
             }
+            Err(AllocError) => return unless_bad(reader, said, Err(Unread::OutOfMemory)),
         }
-        items = others;
     }
     Ok(Verdict::Legal)
 }
 
-// Judges the event of these items, of which this is the first, on the moment before it, which the event before has left
-// as it must be; `records` is room for its records.
-fn judge_items(
+// Judges the event with these records, of which this is the first item, on the moment before it, which the event before
+// has left as it must be; the last line, if it is the trace's last event.
+fn judge_records(
     alloc: Global,
     moment: Moment,
-    records: &mut Vec<Record>,
     first: &Item,
-    own: &[Item],
+    records: &[Record],
     last: Option<LastTold>,
 ) -> Result<Judged, AllocError>
     requires { WasSettled (seen moment).workload (seen moment).readings }
     ensures { IfOk result (Judges (seen moment)
-        (event first.now.event first.now.proc (map what_of own.now)) (line_told last)) }
+        (event first.now.event first.now.proc records.now) (line_told last)) }
 {
-    take_records(records, own)?;
     let event = TraceEvent {
         number: first.event,
         proc: first.proc,
-        records: records.as_slice(),
+        records,
     };
     judge(alloc, moment, &event, last)
 }
 
-// The last line, where no item stands behind.
-fn last_behind(line: LastTold, others: &[Item]) -> Option<LastTold>
-    ensures { line_told result ≡ line_before (events_of others.now) (told_line line) }
+// What the last line tells, if this is said by it.
+fn last_told(said: &Said) -> Option<LastTold>
+    ensures { line_told result ≡ line_said said.now }
 {
-    if others.is_empty() { Some(line) } else { None }
+    match *said {
+        Said::Next(_) => None,
+        Said::Last(end, events) => Some(LastTold { end, events }),
+    }
+}
+
+// What was found, unless one of the lines from the one that says this on is bad, which comes before what was found.
+fn unless_bad(
+    reader: &mut Reader,
+    said: Said,
+    found: Result<Verdict, Unread>,
+) -> Result<Verdict, Unread>
+    ensures { result ≡ unless_bad (with_said said (left reader.old)) found }
+{
+    let mut now = said;
+    while let Said::Next(_) = now {
+        now = reader.next().map_err(Unread::Bad)?;
+    }
+    found
 }

@@ -50,8 +50,8 @@ fn found_in(alloc: Global, input: &[u8]) -> Result<Found, AllocError>
         Err(Unread::Bad(bad)) => return Ok(Found::BadWorkload(bad)),
         Err(Unread::OutOfMemory) => return Err(AllocError),
     };
-    match sa_trace::read(alloc, second) {
-        Ok(text) => Ok(Found::Judged(check(alloc, &workload, &text)?)),
+    match check(alloc, &workload, second) {
+        Ok(verdict) => Ok(Found::Judged(verdict)),
         Err(Unread::Bad(bad)) => Ok(Found::BadTrace(bad)),
         Err(Unread::OutOfMemory) => Err(AllocError),
     }

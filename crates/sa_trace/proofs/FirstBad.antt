@@ -19,7 +19,7 @@ use Rattle.sa_trace.specs.TraceText.{kind_number, count_of_kind, counts_of, trac
 use Rattle.sa_trace.specs.declared.line.Said.{Said}
 use Rattle.sa_trace.specs.declared.line.Said.TheVariants.{Next, Last}
 use Rattle.sa_trace.specs.Pieces.{unless}
-use Rattle.sa_trace.specs.Line.{last_of, least_event, line_in}
+use Rattle.sa_trace.specs.Line.{last_of, so_far, least_event, line_in}
 use Rattle.sa_trace.specs.Reading.{Told, told, bad_behind, goes_on, read_from, read_of}
 use Rattle.sa_trace.specs.Text.{FitsItem, InOrder}
 use Rattle.sa_trace.specs.TextLaws.{IsFirstBad}
@@ -54,7 +54,7 @@ same_behind number (other ∷ others) [] h = absurd cc
 same_behind number (other ∷ others) (line ∷ lines) h = ap (λ l. bad_behind number (l ∷ [])) (same_cons other line [] [] h).0
 
 -- the counts of few items are small
-all-of : {A : Type 0} (P : A → Type 0) (xs : List A) → ((x : A) → P x) → All P xs
+pub all-of : {A : Type 0} (P : A → Type 0) (xs : List A) → ((x : A) → P x) → All P xs
 all-of P [] h = All-nil P
 all-of P (x ∷ xs) h = All-cons P x xs (h x) (all-of P xs h)
 
@@ -104,28 +104,28 @@ no_line-alike : (number : ℕ) (before : List Item) (bad : Bad) → read_from nu
 no_line-alike number before bad h [] e = h
 no_line-alike number before bad h (other ∷ others) e = absurd cc
 
-cause-alike : (number : ℕ) (before : List Item) (line : LineText) (lines : List LineText) (cause : Cause) (bad : Bad) → line_in before line ≡ Err cause → bad_at number cause ≡ bad
+cause-alike : (number : ℕ) (before : List Item) (line : LineText) (lines : List LineText) (cause : Cause) (bad : Bad) → line_in (so_far before) line ≡ Err cause → bad_at number cause ≡ bad
     → (others : List LineText) → take 1 others ≡ take 1 (line ∷ lines) → read_from number before others ≡ Err bad
 cause-alike number before line lines cause bad wrong is [] e = absurd cc
 cause-alike number before line lines cause bad wrong is (other ∷ others) e =
     let same = same_cons other line [] [] e in
-    ap (step number before others) (ap (line_in before) same.0 ∙ wrong) ∙ ap (λ b. Err b) is
+    ap (step number before others) (ap (line_in (so_far before)) same.0 ∙ wrong) ∙ ap (λ b. Err b) is
 
-next-alike : (number : ℕ) (before : List Item) (line : LineText) (lines : List LineText) (item : Item) (bad : Bad) (k : ℕ) → line_in before line ≡ Ok (Next item)
+next-alike : (number : ℕ) (before : List Item) (line : LineText) (lines : List LineText) (item : Item) (bad : Bad) (k : ℕ) → line_in (so_far before) line ≡ Ok (Next item)
     → ((others : List LineText) → take (suc k) others ≡ take (suc k) lines → read_from (number + 1) (before ++ item ∷ []) others ≡ Err bad)
     → (others : List LineText) → take (suc (suc k)) others ≡ take (suc (suc k)) (line ∷ lines) → read_from number before others ≡ Err bad
 next-alike number before line lines item bad k next later [] e = absurd cc
 next-alike number before line lines item bad k next later (other ∷ others) e =
     let same = same_cons other line (take (suc k) others) (take (suc k) lines) e in
-    ap (step number before others) (ap (line_in before) same.0 ∙ next) ∙ later others same.1
+    ap (step number before others) (ap (line_in (so_far before)) same.0 ∙ next) ∙ later others same.1
 
-last-alike : (number : ℕ) (before : List Item) (line : LineText) (lines : List LineText) (end : End) (events : ℕ) (bad : Bad) → line_in before line ≡ Ok (Last end events)
+last-alike : (number : ℕ) (before : List Item) (line : LineText) (lines : List LineText) (end : End) (events : ℕ) (bad : Bad) → line_in (so_far before) line ≡ Ok (Last end events)
     → bad_behind (number + 1) lines ≡ Some bad
     → (others : List LineText) → take 2 others ≡ take 2 (line ∷ lines) → read_from number before others ≡ Err bad
 last-alike number before line lines end events bad last behind [] e = absurd cc
 last-alike number before line lines end events bad last behind (other ∷ others) e =
     let same = same_cons other line (take 1 others) (take 1 lines) e in
-    ap (step number before others) (ap (line_in before) same.0 ∙ last) ∙ ap (λ o. unless o (told before end events)) (same_behind (number + 1) others lines same.1 ∙ behind)
+    ap (step number before others) (ap (line_in (so_far before)) same.0 ∙ last) ∙ ap (λ o. unless o (told before end events)) (same_behind (number + 1) others lines same.1 ∙ behind)
 
 pub stops : (number : ℕ) (before : List Item) (lines : List LineText) (bad : Bad) → FitsLast (last_of before) → length before + length lines < 2 ^ 64
     → read_from number before lines ≡ Err bad → (k : ℕ) × Stops number before lines bad k
@@ -144,7 +144,7 @@ stops number before [] bad fits few h = (
   },
 )
 stops number before (line ∷ lines) bad fits few h =
-    elim (goes_on-err number (line_in before line) (λ item. read_from (number + 1) (before ++ item ∷ []) lines) (λ end events. unless (bad_behind (number + 1) lines) (told before end events)) bad h) [
+    elim (goes_on-err number (line_in (so_far before) line) (λ item. read_from (number + 1) (before ++ item ∷ []) lines) (λ end events. unless (bad_behind (number + 1) lines) (told before end events)) bad h) [
       | inl wrong ↦ (
         0,
         record {

@@ -9,4 +9,5 @@ pub mod Lines
 pub mod LineTexts
 pub mod Whole
 pub mod FirstBad
+pub mod ReadOn
 mod LossLines

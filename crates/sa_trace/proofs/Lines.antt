@@ -19,7 +19,7 @@ use Rattle.sa_trace.specs.TraceText.{counts_of, end_word}
 use Rattle.sa_trace.specs.declared.line.Said.{Said}
 use Rattle.sa_trace.specs.declared.line.Said.TheVariants.{Next, Last}
 use Rattle.sa_trace.specs.Pieces.{and_then, unless, number_in, wrong_count, end_of}
-use Rattle.sa_trace.specs.Line.{MAX16, MAX64, last_of, least_event, processor_in, record_in, item_by, item_at, counts_at, end_at, said_by}
+use Rattle.sa_trace.specs.Line.{MAX16, MAX64, last_of, so_far, least_event, processor_in, record_in, item_by, item_at, counts_at, end_at, said_by}
 use Rattle.sa_trace.specs.Text.{FitsItem, MayFollow}
 use Rattle.sa_trace.proofs.Readings.{and_then-ok, if_either, not_true, same_Ok, number_in-ok, number_in-decimal, wrong_count-none, wrong_count-decimals}
 use Rattle.sa_trace.proofs.Records.{record_pieces, record_in-ok, record_in-pieces}
@@ -112,10 +112,10 @@ least_follows None event proc what low same = tt
 least_follows (Some last) event proc what low same = (low, λ e. ap (λ (n : ℕ). (λ (p : ProcNo). p) (record { 0 = n })) (same e))
 
 -- the pieces of an item are read as the item
-pub said_by-item : (items : List Item) (item : Item) → FitsItem item → MayFollow (last_of items) item → said_by items (item_pieces item) ≡ Ok (Next item)
+pub said_by-item : (items : List Item) (item : Item) → FitsItem item → MayFollow (last_of items) item → said_by (so_far items) (item_pieces item) ≡ Ok (Next item)
 said_by-item items item fits follows =
     let low = follows_least (last_of items) item follows in
-    ap (λ b. cond b (end_at items (decimal item.proc.0 ∷ record_pieces item.what))
+    ap (λ b. cond b (end_at (so_far items) (decimal item.proc.0 ∷ record_pieces item.what))
     (and_then (number_in (least_event (last_of items)) MAX64 (decimal item.event)) (λ event. item_at (last_of items) event (decimal item.proc.0 ∷ record_pieces item.what))))
     (no_end item.event fits.event)
     ∙ ap (λ r. and_then r (λ event. item_at (last_of items) event (decimal item.proc.0 ∷ record_pieces item.what)))
@@ -175,7 +175,7 @@ counts_at-ok least counts end w (p ∷ rest) said word h =
       few = (wrong_count-none counts rest none.0).1;
     }
 
-pub end_at-ok : (items : List Item) (ps : List (List ℕ)) (said : Said) → end_at items ps ≡ Ok said → IsLastAt (least_event (last_of items)) (counts_of items) ps said
+pub end_at-ok : (items : List Item) (ps : List (List ℕ)) (said : Said) → end_at (so_far items) ps ≡ Ok said → IsLastAt (least_event (last_of items)) (counts_of items) ps said
 end_at-ok items [] said h = absurd cc
 end_at-ok items (w ∷ rest) said h =
     let end = and_then-ok (end_of w) (λ end. counts_at (least_event (last_of items)) (counts_of items) end rest) said h in
@@ -183,7 +183,7 @@ end_at-ok items (w ∷ rest) said h =
 
 -- the pieces of the last line are read as the end
 pub said_by-last : (items : List Item) (end : End) (events : ℕ) → least_event (last_of items) ≤ events → events < 2 ^ 64 → All (λ n. n < 2 ^ 64) (counts_of items)
-    → said_by items (last_pieces (counts_of items) end events) ≡ Ok (Last end events)
+    → said_by (so_far items) (last_pieces (counts_of items) end events) ≡ Ok (Last end events)
 said_by-last items end events enough small few =
     ap (λ r. and_then r (λ e. counts_at (least_event (last_of items)) (counts_of items) e (decimal events ∷ map decimal (counts_of items)))) (end_of-word end)
     ∙ ap (λ r. and_then r (λ n. unless (wrong_count (counts_of items) (map decimal (counts_of items))) (Last end n))) (number_in-decimal (least_event (last_of items)) MAX64 events small enough (omega arith))
@@ -202,11 +202,11 @@ same_Last : (a b : End) (m n : ℕ) → Last a m ≡ Last b n → (a ≡ b) × (
 same_Last a b m n h = (cc, cc)
 
 -- pieces that are read as an item are the item's
-pub said_by-next : (items : List Item) (ps : List (List ℕ)) (item : Item) → FitsProc (last_of items) → All LacksSpace ps → said_by items ps ≡ Ok (Next item)
+pub said_by-next : (items : List Item) (ps : List (List ℕ)) (item : Item) → FitsProc (last_of items) → All LacksSpace ps → said_by (so_far items) ps ≡ Ok (Next item)
     → (ps ≡ item_pieces item) × FitsItem item × MayFollow (last_of items) item
 said_by-next items [] item fits lacks h = absurd cc
 said_by-next items (p ∷ rest) item fits lacks h =
-    elim (if_either (bytes_eq p (codes "end")) (end_at items rest) (and_then (number_in (least_event (last_of items)) MAX64 p) (λ event. item_at (last_of items) event rest)) (Ok (Next item)) h) [
+    elim (if_either (bytes_eq p (codes "end")) (end_at (so_far items) rest) (and_then (number_in (least_event (last_of items)) MAX64 p) (λ event. item_at (last_of items) event rest)) (Ok (Next item)) h) [
       | inl ended ↦ absurd (next_no_last (end_at-ok items rest (Next item) ended.1))
       | inr other ↦
           let event = and_then-ok (number_in (least_event (last_of items)) MAX64 p) (λ event. item_at (last_of items) event rest) (Next item) other.1 in
@@ -221,11 +221,11 @@ said_by-next items (p ∷ rest) item fits lacks h =
     ]
 
 -- and pieces that are read as the end are those of the last line
-pub said_by-end : (items : List Item) (ps : List (List ℕ)) (end : End) (events : ℕ) → FitsProc (last_of items) → All LacksSpace ps → said_by items ps ≡ Ok (Last end events)
+pub said_by-end : (items : List Item) (ps : List (List ℕ)) (end : End) (events : ℕ) → FitsProc (last_of items) → All LacksSpace ps → said_by (so_far items) ps ≡ Ok (Last end events)
     → (ps ≡ last_pieces (counts_of items) end events) × (least_event (last_of items) ≤ events) × (events < 2 ^ 64) × All (λ n. n < 2 ^ 64) (counts_of items)
 said_by-end items [] end events fits lacks h = absurd cc
 said_by-end items (p ∷ rest) end events fits lacks h =
-    elim (if_either (bytes_eq p (codes "end")) (end_at items rest) (and_then (number_in (least_event (last_of items)) MAX64 p) (λ event. item_at (last_of items) event rest)) (Ok (Last end events)) h) [
+    elim (if_either (bytes_eq p (codes "end")) (end_at (so_far items) rest) (and_then (number_in (least_event (last_of items)) MAX64 p) (λ event. item_at (last_of items) event rest)) (Ok (Last end events)) h) [
       | inl ended ↦
           let is = end_at-ok items rest (Last end events) ended.1 in
           let same = same_Last is.end end is.events events (sym is.is) in (

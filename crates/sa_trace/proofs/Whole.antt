@@ -16,7 +16,7 @@ use Rattle.sa_trace.specs.TraceText.{line_of, counts_of, last_line_of, trace_tex
 use Rattle.sa_trace.specs.declared.line.Said.{Said}
 use Rattle.sa_trace.specs.declared.line.Said.TheVariants.{Next, Last}
 use Rattle.sa_trace.specs.Pieces.{and_then, unless}
-use Rattle.sa_trace.specs.Line.{last_of, least_event, said_by, pieces_in, line_in}
+use Rattle.sa_trace.specs.Line.{last_of, so_far, least_event, said_by, pieces_in, line_in}
 use Rattle.sa_trace.specs.Reading.{Told, told, bad_behind, goes_on, read_from, read_of}
 use Rattle.sa_trace.specs.Text.{FitsItem, MayFollow, InOrder, IsTextOf}
 use Rattle.sa_trace.proofs.Readings.{and_then-ok}
@@ -35,28 +35,28 @@ abbrev pub text_lines : List Item → List Item → End → ℕ → List LineTex
 text_lines more whole end events = map item_line more ++ last_line whole end events ∷ []
 
 -- each line is read back
-pub line_in-item : (items : List Item) (item : Item) → FitsItem item → MayFollow (last_of items) item → line_in items (item_line item) ≡ Ok (Next item)
+pub line_in-item : (items : List Item) (item : Item) → FitsItem item → MayFollow (last_of items) item → line_in (so_far items) (item_line item) ≡ Ok (Next item)
 line_in-item items item fits follows =
-    ap (λ r. and_then r (said_by items)) (pieces_in-line _ _ (fine-item item fits)) ∙ said_by-item items item fits follows
+    ap (λ r. and_then r (said_by (so_far items))) (pieces_in-line _ _ (fine-item item fits)) ∙ said_by-item items item fits follows
 
 pub line_in-last : (items : List Item) (end : End) (events : ℕ) → least_event (last_of items) ≤ events → events < 2 ^ 64 → All (λ n. n < 2 ^ 64) (counts_of items)
-    → line_in items (last_line items end events) ≡ Ok (Last end events)
+    → line_in (so_far items) (last_line items end events) ≡ Ok (Last end events)
 line_in-last items end events enough small few =
-    ap (λ r. and_then r (said_by items)) (pieces_in-line _ _ (fine-last (counts_of items) end events few small)) ∙ said_by-last items end events enough small few
+    ap (λ r. and_then r (said_by (so_far items))) (pieces_in-line _ _ (fine-last (counts_of items) end events few small)) ∙ said_by-last items end events enough small few
 
 -- and is the line of what it is read as
-pub line_in-next : (items : List Item) (line : LineText) (item : Item) → FitsProc (last_of items) → line_in items line ≡ Ok (Next item)
+pub line_in-next : (items : List Item) (line : LineText) (item : Item) → FitsProc (last_of items) → line_in (so_far items) line ≡ Ok (Next item)
     → (line ≡ item_line item) × FitsItem item × MayFollow (last_of items) item
 line_in-next items line item fits h =
-    let ps = and_then-ok (pieces_in line) (said_by items) (Next item) h in
+    let ps = and_then-ok (pieces_in line) (said_by (so_far items)) (Next item) h in
     let is = pieces_in-ok line ps.0 ps.1 in
     let read = said_by-next items ps.0 item fits is.1 ps.2 in
     (is.0 ∙ ap line_by read.0, read.1, read.2)
 
-pub line_in-end : (items : List Item) (line : LineText) (end : End) (events : ℕ) → FitsProc (last_of items) → line_in items line ≡ Ok (Last end events)
+pub line_in-end : (items : List Item) (line : LineText) (end : End) (events : ℕ) → FitsProc (last_of items) → line_in (so_far items) line ≡ Ok (Last end events)
     → (line ≡ last_line items end events) × (least_event (last_of items) ≤ events) × (events < 2 ^ 64) × All (λ n. n < 2 ^ 64) (counts_of items)
 line_in-end items line end events fits h =
-    let ps = and_then-ok (pieces_in line) (said_by items) (Last end events) h in
+    let ps = and_then-ok (pieces_in line) (said_by (so_far items)) (Last end events) h in
     let is = pieces_in-ok line ps.0 ps.1 in
     let read = said_by-end items ps.0 end events fits is.1 ps.2 in
     (is.0 ∙ ap line_by read.0, read.1, read.2, read.3)
@@ -123,7 +123,7 @@ none_behind number (line ∷ lines) h = absurd cc
 pub lines-only : (number : ℕ) (before : List Item) (lines : List LineText) (t : Told) → FitsProc (last_of before) → read_from number before lines ≡ Ok t → AreLinesOf before lines t
 lines-only number before [] t fits h = absurd cc
 lines-only number before (line ∷ lines) t fits h =
-    elim (goes_on-ok number (line_in before line) (λ item. read_from (number + 1) (before ++ item ∷ []) lines) (λ end events. unless (bad_behind (number + 1) lines) (told before end events)) t h) [
+    elim (goes_on-ok number (line_in (so_far before) line) (λ item. read_from (number + 1) (before ++ item ∷ []) lines) (λ end events. unless (bad_behind (number + 1) lines) (told before end events)) t h) [
       | inl next ↦
           let is = line_in-next before line next.0 fits next.1 in
           let rest = lines-only (number + 1) (before ++ next.0 ∷ []) lines t (subst FitsProc (sym (last_of-append before next.0)) is.1.proc) next.2 in

@@ -10,3 +10,4 @@ pub mod Reading
 pub mod Text
 pub mod TextLaws
 pub mod Losses
+pub mod Reader

@@ -12,6 +12,7 @@ use Rattle.sa_trace.specs.Parts.{record_of}
 use Rattle.sa_text.specs.LineText.{LineText}
 use Rattle.sa_text.specs.Pieces.{pieces_of, is_printed}
 use Rattle.sa_trace.specs.TraceText.{counts_of}
+use Rattle.sa_trace.specs.declared.so_far.SoFar.{SoFar}
 use Rattle.sa_trace.specs.declared.line.Said.{Said}
 use Rattle.sa_trace.specs.declared.line.Said.TheVariants.{Next, Last}
 use Rattle.sa_trace.specs.Pieces.{and_then, unless, or_cause, number_in, fields_in, wrong_count, kind_at, end_of}
@@ -26,6 +27,10 @@ MAX64 = 2 ^ 64 - 1
 -- the last of the items so far
 abbrev pub last_of : List Item → Option Item
 last_of items = slice_get items (length items - 1)
+
+-- what a line may depend on of the items before it: the last of them, and how many there are of each kind
+abbrev pub so_far : List Item → SoFar
+so_far items = record { last = last_of items; counts = counts_of items }
 
 -- the least event that may follow
 abbrev pub least_event : Option Item → ℕ
@@ -63,21 +68,21 @@ counts_at least counts end (piece ∷ rest) =
     and_then (number_in least MAX64 piece) (λ events. unless (wrong_count counts rest) (Last end events))
 
 -- behind the word `end`: how the run ended, the number of events, and the counts
-abbrev pub end_at : List Item → List (List ℕ) → Result Said Cause
-end_at items [] = Err Missing
-end_at items (word ∷ rest) = and_then (end_of word) (λ end. counts_at (least_event (last_of items)) (counts_of items) end rest)
+abbrev pub end_at : SoFar → List (List ℕ) → Result Said Cause
+end_at so [] = Err Missing
+end_at so (word ∷ rest) = and_then (end_of word) (λ end. counts_at (least_event so.last) so.counts end rest)
 
 -- a line: `end` and what is behind it, or an event, its processor, and the record
-abbrev pub said_by : List Item → List (List ℕ) → Result Said Cause
-said_by items [] = Err Missing
-said_by items (piece ∷ rest) =
-    if bytes_eq piece (codes "end") then end_at items rest
-    else and_then (number_in (least_event (last_of items)) MAX64 piece) (λ event. item_at (last_of items) event rest)
+abbrev pub said_by : SoFar → List (List ℕ) → Result Said Cause
+said_by so [] = Err Missing
+said_by so (piece ∷ rest) =
+    if bytes_eq piece (codes "end") then end_at so rest
+    else and_then (number_in (least_event so.last) MAX64 piece) (λ event. item_at so.last event rest)
 
 -- the pieces of a line, if it is printed ASCII alone and is ended
 abbrev pub pieces_in : LineText → Result (List (List ℕ)) Cause
 pieces_in line = if is_printed line.bytes then (if line.ended then Ok (pieces_of line.bytes) else Err Missing) else Err NotAscii
 
--- what a line says behind these items
-abbrev pub line_in : List Item → LineText → Result Said Cause
-line_in items line = and_then (pieces_in line) (said_by items)
+-- what a line says behind what is so far
+abbrev pub line_in : SoFar → LineText → Result Said Cause
+line_in so line = and_then (pieces_in line) (said_by so)

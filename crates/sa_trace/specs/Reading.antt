@@ -12,7 +12,7 @@ use Rattle.sa_trace.specs.declared.line.Said.{Said}
 use Rattle.sa_trace.specs.declared.line.Said.TheVariants.{Next, Last}
 use Rattle.sa_trace.specs.declared.reading.TraceText.{TraceText}
 use Rattle.sa_trace.specs.Pieces.{unless}
-use Rattle.sa_trace.specs.Line.{pieces_in, line_in}
+use Rattle.sa_trace.specs.Line.{so_far, pieces_in, line_in}
 
 -- what a trace text tells: its items, how the run ended, and its number of events
 pub record Told : Type 0 where
@@ -43,7 +43,7 @@ goes_on number (Ok (Last end events)) more last = last end events
 abbrev pub read_from : ℕ → List Item → List LineText → Result Told Bad
 read_from number items [] = Err (bad_at number Missing)
 read_from number items (line ∷ rest) =
-    goes_on number (line_in items line) (λ item. read_from (number + 1) (items ++ item ∷ []) rest)
+    goes_on number (line_in (so_far items) line) (λ item. read_from (number + 1) (items ++ item ∷ []) rest)
     (λ end events. unless (bad_behind (number + 1) rest) (told items end events))
 
 -- what a text is read as: what it tells, or the first line that is bad, from 1, and why

@@ -16,8 +16,8 @@ pub fn kind_counts(items: &[Item]) -> [u64; RECORD_KINDS]
     counts
 }
 
-// The place of the record's kind among the counts.
-fn place(what: &Record) -> usize
+/// The place of the record's kind among the counts.
+pub(crate) fn place(what: &Record) -> usize
     ensures place { result + 1 ≡ kind_number what.now }
     ensures within { result < RECORD_KINDS }
 {

@@ -2,50 +2,43 @@
 ghost use Rattle.std.specs.Prelude.{◌≡◌, MatchResult};
 ghost use Rattle.sa_text.specs.Line.{IsWithin, text_of_line};
 ghost use Rattle.sa_trace.specs.Pieces.{number_in};
-ghost use Rattle.sa_trace.specs.Line.{last_of, least_event, processor_in, record_in, item_at, counts_at, end_at, said_by, line_in};
+ghost use Rattle.sa_trace.specs.Line.{least_event, processor_in, record_in, item_at, counts_at, end_at, said_by, line_in};
 
-use crate::counts::kind_counts;
 use crate::from_parts::record_with;
 use crate::pieces::{check_counts, read_end, read_fields, read_kind};
+use crate::so_far::SoFar;
 use crate::words::{next, read_pieces, read_within};
 use sa_base::{Cause, End, Item, ProcNo, Record};
 use sa_text::{Line, Pieces};
 
 /// What a line says.
-pub(crate) enum Said {
+#[derive(Clone, Copy, Debug)]
+pub enum Said {
     /// The next item.
     Next(Item),
     /// The run ended so, after so many events: this is the last line.
     Last(End, u64),
 }
 
-/// What the line says behind these items, or the first thing that is wrong with it.
-pub(crate) fn read_line(items: &[Item], text: &[u8], line: Line) -> Result<Said, Cause>
+/// What the line says behind what is so far, or the first thing that is wrong with it.
+pub(crate) fn read_line(so_far: &SoFar, text: &[u8], line: Line) -> Result<Said, Cause>
     requires { IsWithin text.now line }
-    ensures { result ≡ line_in items.now (text_of_line text.now line) }
+    ensures { result ≡ line_in so_far.now (text_of_line text.now line) }
 {
     let mut words = read_pieces(text, line)?;
-    read_words(items, &mut words)
+    read_words(so_far, &mut words)
 }
 
 // What the pieces of a line say.
-fn read_words(items: &[Item], words: &mut Pieces) -> Result<Said, Cause>
-    ensures { result ≡ said_by items.now words.old }
+fn read_words(so_far: &SoFar, words: &mut Pieces) -> Result<Said, Cause>
+    ensures { result ≡ said_by so_far.now words.old }
 {
     let piece = next(words)?;
     if piece == b"end".as_slice() {
-        return read_last(items, words);
+        return read_last(so_far, words);
     }
-    let last = last_item(items);
-    let event = read_within(least_event(last), u64::MAX, piece)?;
-    read_item(last, event, words)
-}
-
-// The last of the items.
-fn last_item(items: &[Item]) -> Option<Item>
-    ensures { result ≡ last_of items.now }
-{
-    items.last().copied()
+    let event = read_within(least_event(so_far.last), u64::MAX, piece)?;
+    read_item(so_far.last, event, words)
 }
 
 // The least event that may follow this item.
@@ -106,13 +99,12 @@ fn read_record(words: &mut Pieces) -> Result<Record, Cause>
 }
 
 // What stands behind the word `end`: how the run ended, the number of events, and the counts.
-fn read_last(items: &[Item], words: &mut Pieces) -> Result<Said, Cause>
-    ensures { result ≡ end_at items.now words.old }
+fn read_last(so_far: &SoFar, words: &mut Pieces) -> Result<Said, Cause>
+    ensures { result ≡ end_at so_far.now words.old }
 {
     let word = next(words)?;
     let end = read_end(word)?;
-    let least = least_event(last_item(items));
-    read_counts(least, &kind_counts(items), end, words)
+    read_counts(least_event(so_far.last), &so_far.counts, end, words)
 }
 
 // The number of events, and the counts.

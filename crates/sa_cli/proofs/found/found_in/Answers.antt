@@ -1,7 +1,7 @@
 use Rattle.std.proofs.Common.{ℕ, List, length, arith, ap, subst, sym, ◌∙◌, inr, ◌≤◌}
 use Rattle.sa_workload.specs.Bad.{BadAt}
 use Rattle.sa_workload.specs.Text.{IsText}
-use Rattle.sa_trace.specs.Reading.{told, read_of}
+use Rattle.sa_trace.specs.Reading.{read_of}
 use Rattle.sa_check.specs.Verdict.{last_line}
 use Rattle.sa_cli.specs.declared.input.TheConstants.{INPUT_LIMIT}
 use Rattle.sa_cli.specs.Refusals.{IsInputRefused}
@@ -16,11 +16,11 @@ returns-in-Err-Bad c =
     let P : List ℕ → Type 0 = λ v. IsInputRefused BadAt v c.in-Err-Bad.bad in
     rw c.in-Err-Bad.field-0-is (record { whole = omega arith; refused = subst P first refused })
 
-pub returns-in-Ok-read : goal.returns-in-Ok-read
-returns-in-Ok-read c =
+pub returns-in-Ok-check : goal.returns-in-Ok-check
+returns-in-Ok-check c =
     let first = first-part c.args.input.now c.split_at.result.0.now c.workload_len.result c.split_at.ensures.front c.workload_len.ensures.len in
     let second = second-part c.args.input.now c.split_at.result.1.now c.workload_len.result c.split_at.ensures.back c.workload_len.ensures.len in
-    let text = c.in-Ok-read.text in
+    let exact = c.in-Ok-check.ensures in
     record {
       workload = c.in-Ok.workload;
       has = record {
@@ -28,17 +28,17 @@ returns-in-Ok-read c =
         short = subst (λ (v : List ℕ). length v ≤ INPUT_LIMIT) first c.in-Ok.ensures.ok.0;
         is = subst (λ (v : List ℕ). IsText v c.in-Ok.workload) first c.in-Ok.ensures.ok.1;
       };
-      told = told text.trace.items text.end text.events;
-      read = ap read_of (sym second) ∙ c.in-Ok-read.ensures;
-      holds = holds-verdict c.in-Ok.workload text.trace.items (last_line text) c.in_ok-check-in-Ok-read.field-0 c.in_ok-check-in-Ok-read.ensures.legal c.in_ok-check-in-Ok-read.ensures.broken;
+      told = exact.trace;
+      read = ap read_of (sym second) ∙ exact.read;
+      holds = holds-verdict c.in-Ok.workload exact.trace.items (last_line exact.trace) c.in-Ok-check.verdict exact.legal exact.broken;
     }
 
-pub returns-in-Err-Bad-read : goal.returns-in-Err-Bad-read
-returns-in-Err-Bad-read c =
+pub returns-in-Err-Bad-check : goal.returns-in-Err-Bad-check
+returns-in-Err-Bad-check c =
     let first = first-part c.args.input.now c.split_at.result.0.now c.workload_len.result c.split_at.ensures.front c.workload_len.ensures.len in
     let second = second-part c.args.input.now c.split_at.result.1.now c.workload_len.result c.split_at.ensures.back c.workload_len.ensures.len in
-    let refused = rw c.in-Err-Bad-read.field-0-is at c.in-Err-Bad-read.ensures in
-    rw c.in-Err-Bad-read.field-0-is (inr (record {
+    let refused = rw c.in-Err-Bad-check.field-0-is at c.in-Err-Bad-check.ensures in
+    inr (record {
       workload = c.in-Ok.workload;
       has = record {
         whole = omega arith;
@@ -46,4 +46,4 @@ returns-in-Err-Bad-read c =
         is = subst (λ (v : List ℕ). IsText v c.in-Ok.workload) first c.in-Ok.ensures.ok.1;
       };
       read = ap read_of (sym second) ∙ refused;
-    }))
+    })

@@ -1,13 +1,11 @@
-use Rattle.std.proofs.Common.{◌≡◌, length, map}
-use Rattle.sa_text.specs.Line.{text_of_line}
-use Rattle.sa_trace.specs.Reading.{read_of, read_from}
+use Rattle.std.proofs.Common.{◌≡◌, length}
+use Rattle.sa_trace.specs.Reading.{read_of}
+use Rattle.sa_trace.specs.Reader.{in_front, left}
 use Rattle.sa_trace.proofs.reading.read.Given as goal
 
--- behind the items so far, the lines that are left are read as the whole text is
-abbrev pub invariant-loop-line : goal.invariant-loop-line
-invariant-loop-line l =
-    (l.lines.text ≡ l.bytes)
-    × (read_of l.bytes ≡ read_from l.lines.number l.trace.items (map (text_of_line l.bytes) l.lines.left))
+-- the items so far, and behind them what is left to tell, are what the whole text tells
+abbrev pub invariant-loop-trace : goal.invariant-loop-trace
+invariant-loop-trace l = read_of l.bytes ≡ in_front l.trace.items (left l.reader)
 
-abbrev pub decreases-loop-line : goal.decreases-loop-line
-decreases-loop-line l = length l.lines.left
+abbrev pub decreases-loop-trace : goal.decreases-loop-trace
+decreases-loop-trace l = length l.reader.lines
