@@ -8,11 +8,11 @@ use Rattle.sa_laws.specs.Event.{Event}
 use Rattle.sa_laws.specs.Readings.{opening_readings}
 use Rattle.sa_laws.specs.State.{opening_state}
 use Rattle.sa_laws.specs.Opening.{opening_event}
+use Rattle.sa_laws.proofs.Records.{items-push}
 use Rattle.sa_core_model.specs.Machine.{Machine}
 use Rattle.sa_core_model.specs.Run.{IsMove}
 use Rattle.sa_core_model.specs.Run.Move.{turn}
 use Rattle.sa_core_model.specs.Turn.{turned}
-use Rattle.sa_kernel_model.proofs.HistoryLemmas.{items_of-push}
 use Rattle.sa_user_laws.specs.Level.{UserLevel}
 use Rattle.sa_match.proofs.Composed.{IsComposed, composed-goes}
 use Rattle.sa_user_events.proofs.Turns.{composed-turn}
@@ -47,7 +47,7 @@ module _ {U C : Type 0} (level : UserLevel U C) where
       → IsComposed level w events m → IsComposed level w (events ++ ev ∷ []) after
       → after.items ≡ m.items ++ items_at ev.number ev.proc ev.records
   adds-items w events ev m after c d =
-      d.history.items ∙ items_of-push (opening_event w ∷ events) ev
+      d.history.items ∙ items-push (opening_event w ∷ events) ev
       ∙ ap (λ (xs : List Item). xs ++ items_at ev.number ev.proc ev.records) (sym c.history.items)
 
   pub can-be-debugged : (w : WorkloadView) (budget : ℕ) → IsWorkload w → IsPlayable level.calls w budget

@@ -10,17 +10,16 @@ use Rattle.sa_base.specs.declared.number.SpaceNo.{SpaceNo}
 use Rattle.sa_base.specs.declared.number.ActNo.{ActNo}
 use Rattle.sa_base.specs.declared.record.Note.{Note}
 use Rattle.sa_base.specs.declared.record.Note.TheVariants.{Add, Preempted, Blocked, Unblocked}
-use Rattle.sa_base.specs.declared.number.ThreadNo.{ThreadNo}
 use Rattle.sa_base.specs.declared.record.Record.{Record}
 use Rattle.sa_base.specs.declared.record.Record.TheVariants.{Ins, Run, Stop, Block, Unblock, Cont, Back, Ready, Take, Free, Up, Told, GiveBack}
 use Rattle.sa_lemmas.specs.Function.{put}
 use Rattle.sa_lemmas.proofs.FunctionUpdates.{put-at, put-other, put-same}
 use Rattle.sa_spaces.specs.Workload.{WorkloadView}
-use Rattle.sa_laws.specs.declared.place.Place.{Place}
 use Rattle.sa_laws.specs.Life.{Life, new_life, inherits, bereft, held_with, with_hand}
-use Rattle.sa_laws.specs.State.{State, SpaceState, space_at, with_space, placed_if}
+use Rattle.sa_laws.specs.State.{space_at}
 use Rattle.sa_laws.specs.Readings.{Readings, Listed, running_of, life_of, untold_of, ready_of, space_of_life}
 use Rattle.sa_laws.specs.Record.{after_record, with_life, without_note, with_act, without_act, handed, one_thread, stopped_with}
+use Rattle.sa_laws.proofs.Spaces.{space-elsewhere, placed-elsewhere}
 use Rattle.sa_user_laws.specs.Moments.{SameFor, life_in, runs_in}
 use Rattle.sa_event_frames.proofs.Frames.{is_plain, plain-stays, same-for}
 
@@ -135,15 +134,6 @@ IsOfSpace s p r (Told (Unblocked a)) =
 IsOfSpace s p r (GiveBack a) = IsLifeOf s r.lives a
 IsOfSpace s p r x = is_plain x ≡ true
 
--- A space that is set leaves the others.
-space-other : (a : State) (s t : SpaceNo) (x : SpaceState) → t.0 ≢ s.0 → space_at (with_space a s x) t ≡ space_at a t
-space-other a s t x apart = get_or-set_other a.spaces s.0 t.0 x _ apart
-
-placed-other : (a : State) (s t : SpaceNo) (o : Option ThreadNo) (place : Place) → t.0 ≢ s.0
-    → space_at (placed_if a s o place) t ≡ space_at a t
-placed-other a s t None place apart = refl
-placed-other a s t (Some u) place apart = space-other a s t _ apart
-
 -- A step of a life of the space changes its threads and that life, and nothing of another space.
 foreign-step : (w : WorkloadView) (s t : SpaceNo) (p : ProcNo) (f : Life → Life) (r n : Readings) → KeepsSpace f
     → AreLivesOf s r.lives (running_of r p) → t.0 ≢ s.0
@@ -237,25 +227,25 @@ away s t of is apart e = apart (e ∙ ap (λ (x : SpaceNo). x.0) is)
 pub foreign : (w : WorkloadView) (e : ℕ) (p : ProcNo) (s t : SpaceNo) (r : Readings) (x : Record) → IsOfSpace s p r x → t.0 ≢ s.0
     → SameFor t r (after_record w e p r x)
 foreign w e p s t r (Ins of u i) is apart =
-    foreign-step w s t p _ r _ (λ life. refl) is.1 apart (space-other r.state of t _ (away s t of is.0 apart)) refl refl refl refl refl refl
+    foreign-step w s t p _ r _ (λ life. refl) is.1 apart (space-elsewhere r.state of t _ (away s t of is.0 apart)) refl refl refl refl refl refl
 foreign w e p s t r (Run of u) is apart =
-    foreign-step w s t p _ r _ (λ life. refl) is.1 apart (space-other r.state of t _ (away s t of is.0 apart)) refl refl refl refl
+    foreign-step w s t p _ r _ (λ life. refl) is.1 apart (space-elsewhere r.state of t _ (away s t of is.0 apart)) refl refl refl refl
     (foreign-ready s t r.ready of _ is.0 apart) refl
 foreign w e p s t r (Cont of u) is apart =
     foreign-step w s t p _ r _ (λ life. refl) is.1 apart
-    (placed-other r.state of t u _ (away s t of is.0 apart)) refl refl refl refl refl refl
+    (placed-elsewhere r.state of t u _ (away s t of is.0 apart)) refl refl refl refl refl refl
 foreign w e p s t r (Back of u) is apart =
     foreign-step w s t p _ r _ (λ life. refl) is.1 apart
-    (placed-other r.state of t u _ (away s t of is.0 apart)) refl refl refl refl refl refl
+    (placed-elsewhere r.state of t u _ (away s t of is.0 apart)) refl refl refl refl refl refl
 foreign w e p s t r (Ready of u) is apart =
-    foreign-step w s t p _ r _ (λ life. refl) is.1 apart (space-other r.state of t _ (away s t of is.0 apart)) refl refl refl refl
+    foreign-step w s t p _ r _ (λ life. refl) is.1 apart (space-elsewhere r.state of t _ (away s t of is.0 apart)) refl refl refl refl
     (foreign-ready s t r.ready of _ is.0 apart) refl
 foreign w e p s t r (Take of l u) is apart = foreign-step w s t p _ r _ (λ life. refl) is.1 apart refl refl refl refl refl refl refl
 foreign w e p s t r (Free of l u) is apart = foreign-step w s t p _ r _ (λ life. refl) is.1 apart refl refl refl refl refl refl refl
 foreign w e p s t r (Stop of u a) is apart =
     let all = lives-foreign s t (stopped_with u) (Some a) r.lives (λ life. refl) (one-of s r.lives a is.1) apart in
     record {
-      space = placed-other r.state of t u _ (away s t of is.0 apart);
+      space = placed-elsewhere r.state of t u _ (away s t of is.0 apart);
       lives = all;
       running = λ q. runs-set s t r.lives (with_life (stopped_with u) (Some a) r.lives) r.running p q None all is.2 (none-of s _) apart;
       taken = refl;
@@ -266,7 +256,7 @@ foreign w e p s t r (Stop of u a) is apart =
 foreign w e p s t r (Block of u a io) is apart =
     let all = lives-foreign s t (held_with u) (Some a) r.lives (λ life. refl) (one-of s r.lives a is.1) apart in
     record {
-      space = placed-other r.state of t u _ (away s t of is.0 apart);
+      space = placed-elsewhere r.state of t u _ (away s t of is.0 apart);
       lives = all;
       running = λ q. runs-set s t r.lives (with_life (held_with u) (Some a) r.lives) r.running p q None all is.2 (none-of s _) apart;
       taken = refl;
@@ -277,7 +267,7 @@ foreign w e p s t r (Block of u a io) is apart =
 foreign w e p s t r (Unblock of u a) is apart =
     let all = lives-foreign s t (with_hand (one_thread u)) (Some a) r.lives (λ life. refl) (one-of s r.lives a is.1) apart in
     record {
-      space = placed-other r.state of t u _ (away s t of is.0 apart);
+      space = placed-elsewhere r.state of t u _ (away s t of is.0 apart);
       lives = all;
       running = λ q. runs-alike t r.lives (with_life (with_hand (one_thread u)) (Some a) r.lives) (running_of r q) all;
       taken = refl;

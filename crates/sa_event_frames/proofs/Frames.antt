@@ -1,7 +1,7 @@
 -- When two moments are the same for a space: records that leave every space, a closing's records, an event's beginning.
 use Rattle.std.proofs.Common.{◌≡◌, ◌⊎◌, ℕ, zero, suc, Bool, true, false, Option, Some, None, IsSome, List, [], ◌∷◌, get_or, slice_set, refl, sym, ap, subst, ◌∙◌, inl, inr}
 use Rattle.std.specs.List.{list_all}
-use Rattle.std.proofs.lemmas.Bool.{cases_eq}
+use Rattle.std.proofs.lemmas.Bool.{cases_eq, and_parts}
 use Rattle.std.proofs.lemmas.List.{get_or-set_other}
 use Rattle.sa_base.specs.declared.number.ProcNo.{ProcNo}
 use Rattle.sa_base.specs.declared.number.SpaceNo.{SpaceNo}
@@ -15,7 +15,6 @@ use Rattle.sa_laws.specs.Readings.{Readings, Listed, line_of, running_of}
 use Rattle.sa_laws.specs.Record.{after_record}
 use Rattle.sa_laws.specs.History.{after_records}
 use Rattle.sa_laws.specs.Shape.{is_of_closing}
-use Rattle.sa_kernel_model.proofs.OverviewLemmas.{and-left, and-right}
 use Rattle.sa_user_laws.specs.Moments.{life_in, runs_in, StaysRaised, SameFor, AlikeButDemands}
 use Rattle.sa_user_laws.specs.Scene.{begun_at}
 
@@ -92,8 +91,8 @@ plains-stay w e p r [] is =
     record { spaces = refl; lives = refl; running = refl; taken = refl; untold = refl; ready = refl; lines = λ q raised. raised }
 plains-stay w e p r (x ∷ xs) is =
     put-again r (after_record w e p r x) (after_records w e p r (x ∷ xs))
-    (plain-stays w e p r x (and-left (is_plain x) (list_all is_plain xs) is))
-    (plains-stay w e p (after_record w e p r x) xs (and-right (is_plain x) (list_all is_plain xs) is))
+    (plain-stays w e p r x (and_parts (is_plain x) (list_all is_plain xs) is).0)
+    (plains-stay w e p (after_record w e p r x) xs (and_parts (is_plain x) (list_all is_plain xs) is).1)
 
 -- So each space is the same.
 pub same-for : (m n : Readings) → StaysPut m n → (s : SpaceNo) → SameFor s m n
@@ -146,8 +145,8 @@ pub closing-alike : (w : WorkloadView) (e : ℕ) (p : ProcNo) (r : Readings) (xs
 closing-alike w e p r [] is =
     record { state = refl; lives = refl; running = refl; taken = refl; untold = refl; ready = refl; lines = λ q raised. raised }
 closing-alike w e p r (x ∷ xs) is =
-    let one = closing-one w e p r x (and-left (is_of_closing x) (list_all is_of_closing xs) is) in
-    let rest = closing-alike w e p (after_record w e p r x) xs (and-right (is_of_closing x) (list_all is_of_closing xs) is) in
+    let one = closing-one w e p r x (and_parts (is_of_closing x) (list_all is_of_closing xs) is).0 in
+    let rest = closing-alike w e p (after_record w e p r x) xs (and_parts (is_of_closing x) (list_all is_of_closing xs) is).1 in
     record {
       state = rest.state ∙ one.state;
       lives = rest.lives ∙ one.lives;
@@ -165,8 +164,25 @@ closing-alike w e p r (x ∷ xs) is =
     closing-one w e p r (Aim q s) is =
         record { state = refl; lives = refl; running = refl; taken = refl; untold = refl; ready = refl; lines = λ i raised. raised }
     closing-one w e p r (Line q) is =
-        record { state = refl; lives = refl; running = refl; taken = refl; untold = refl; ready = refl; lines = λ i raised. raised-set r.lines i.0 q.0 e raised }
+        record {
+          state = refl;
+          lives = refl;
+          running = refl;
+          taken = refl;
+          untold = refl;
+          ready = refl;
+          lines = λ i raised. raised-set r.lines i.0 q.0 e raised;
+        }
     closing-one w e p r x is = absurd (cc)
 
 pub alike-stays : (m n : Readings) → AlikeButDemands m n → StaysPut m n
-alike-stays m n a = record { spaces = ap (λ (x : State). x.spaces) a.state; lives = a.lives; running = a.running; taken = a.taken; untold = a.untold; ready = a.ready; lines = a.lines }
+alike-stays m n a =
+    record {
+      spaces = ap (λ (x : State). x.spaces) a.state;
+      lives = a.lives;
+      running = a.running;
+      taken = a.taken;
+      untold = a.untold;
+      ready = a.ready;
+      lines = a.lines;
+    }

@@ -2,7 +2,7 @@
 use Rattle.std.proofs.Common.{◌≡◌, ◌≢◌, ℕ, zero, suc, Bool, true, false, not, ◌&&◌, ◌||◌, if◌then◌else◌, Option, Some, None, is_none, List, [], ◌∷◌, ◌++◌, get_or, slice_set, refl, sym, ap, subst, ◌∙◌, inl, inr}
 use Rattle.std.specs.List.{list_any}
 use Rattle.std.specs.Option.{option_map}
-use Rattle.std.proofs.lemmas.Bool.{cases_eq}
+use Rattle.std.proofs.lemmas.Bool.{cases_eq, and_parts}
 use Rattle.std.proofs.lemmas.Option.{same_Some, none-some}
 use Rattle.std.proofs.lemmas.List.Folds.{list_any-append}
 use Rattle.sa_lemmas.specs.Function.{put}
@@ -21,7 +21,6 @@ use Rattle.sa_laws.specs.Readings.{Readings, running_of, life_of}
 use Rattle.sa_laws.specs.Record.{after_record, with_life, handed, stopped_with}
 use Rattle.sa_laws.specs.History.{Test, begun, after_records, after_event, behind_all, with_step, stepped, arisen, is_step, is_up}
 use Rattle.sa_laws.specs.Upcalls.{RunsWhereOwned, EachRecord, NamesTheLife}
-use Rattle.sa_kernel_model.proofs.OverviewLemmas.{and-left}
 use Rattle.sa_kernel_model.proofs.WalkLemmas.{AreClosing}
 use Rattle.sa_laws.specs.Shape.{is_of_closing}
 use Rattle.std.specs.List.{list_all}
@@ -86,7 +85,7 @@ calm-handed upped b (Some from) lives a =
     (calm-with bereft (Some b) lives (λ life. ((λ idle. idle), λ out. refl)) a)
     (calm-with (inherits from) upped mid (λ life. ((λ idle. idle), λ out. out)) a)
 
--- A STOP makes a life idle, and stands first in its event; no other record does.
+-- A STOP makes a life idle, and is first in its event; no other record does.
 abbrev pub is_stop : Record → Bool
 is_stop (Stop s t a) = true
 is_stop _ = false
@@ -107,7 +106,7 @@ closing-no_stop [] closes = refl
 closing-no_stop (Want s n ∷ cl) closes = closing-no_stop cl closes
 closing-no_stop (Aim q (Some s) ∷ cl) closes = closing-no_stop cl closes
 closing-no_stop (Line q ∷ cl) closes = closing-no_stop cl closes
-closing-no_stop (x ∷ cl) closes = absurd (let z = and-left (is_of_closing x) (list_all is_of_closing cl) closes in cc)
+closing-no_stop (x ∷ cl) closes = absurd (let z = (and_parts (is_of_closing x) (list_all is_of_closing cl) closes).0 in cc)
 
 pub stops-first_both : (own cl : List Record) → StopsFirst own → AreClosing cl → StopsFirst (own ++ cl)
 stops-first_both [] cl first closes = no-stops cl (closing-no_stop cl closes)
@@ -253,7 +252,7 @@ steps-stop_none (x ∷ xs) first = λ steps. first
 
 module _ (test : Test) (w : WorkloadView) (r : Readings) (ev : Event) (h : IdleAreOut r)
     (last_out : IdleAreOut (behind_all w ev r)) (steps : StepsStopNone ev.records) where
-  -- A life that ran before a step is not idle behind it.
+  -- A life that ran before a step is not idle after it.
   step-none : (x : Record) (xs : List Record) → ev.records ≡ x ∷ xs → is_step x ≡ true → (b : ActNo) (l : Life)
       → running_of r ev.proc ≡ Some b → (behind_all w ev r).lives b.0 ≡ Some l → l.idle ≡ true → ⊥
   step-none x xs records steps_at b l runs at quiet =

@@ -2,7 +2,7 @@
 use Rattle.std.proofs.Common.{◌≡◌, ℕ, inl, inr, Bool, true, false, if◌then◌else◌, Option, Some, None, List, [], ◌∷◌, refl, sym, ap, subst, ◌∙◌}
 use Rattle.std.specs.List.{list_all, list_any}
 use Rattle.std.specs.Option.{option_map}
-use Rattle.std.proofs.lemmas.Bool.{cases_eq}
+use Rattle.std.proofs.lemmas.Bool.{cases_eq, and_parts}
 use Rattle.sa_base.specs.declared.number.ProcNo.{ProcNo}
 use Rattle.sa_base.specs.declared.number.ActNo.{ActNo}
 use Rattle.sa_base.specs.declared.context.Stopped.{Stopped}
@@ -19,7 +19,6 @@ use Rattle.sa_laws.specs.Life.{Life, inherits, bereft, with_hand}
 use Rattle.sa_laws.specs.Readings.{Readings, running_of}
 use Rattle.sa_laws.specs.Record.{after_record, with_life, handed, one_thread}
 use Rattle.sa_laws.specs.History.{Test, after_records, ended, with_step, stepped, arisen, is_step, is_up}
-use Rattle.sa_kernel_model.proofs.OverviewLemmas.{and-left, and-right}
 use Rattle.sa_user_laws.specs.Moments.{unended}
 
 -- A change of a life keeps its space and the thread of its stop or block.
@@ -138,8 +137,8 @@ module _ {C : Type 0} where
       → AreMatched acts (after_records w e p r xs).lives
   matched-records w e p r [] acts is h = h
   matched-records w e p r (x ∷ xs) acts is h =
-      matched-records w e p (after_record w e p r x) xs acts (and-right (leaves_lives x) (list_all leaves_lives xs) is)
-      (matched-record w e p r x acts (and-left (leaves_lives x) (list_all leaves_lives xs) is) h)
+      matched-records w e p (after_record w e p r x) xs acts (and_parts (leaves_lives x) (list_all leaves_lives xs) is).1
+      (matched-record w e p r x acts (and_parts (leaves_lives x) (list_all leaves_lives xs) is).0 h)
 
   matched-if : (b : Bool) (acts : ℕ → Option (Act C)) (new lives : ℕ → Option Life) → AreMatched acts new → AreMatched acts lives
       → AreMatched acts (if b then new else lives)

@@ -38,7 +38,8 @@ module _ (set : Setting) (e : ℕ) (u : Package) (w : WorkloadView) (r : Reading
     push = λ ds t one i y. push-legal set e u ds w r p a life seen t one y;
     more = λ ds t n i owes y. subst (IsLegal w set r p seen.event a ds) (sym (more-is u seen t n owes)) (more-legal set e u ds w r p a life seen t n y owes);
     give = λ ds i bulk y. subst (IsLegal w set r p seen.event a ds) (sym (give-is u seen bulk)) (give-legal set e u ds w r p a life seen y bulk);
-    instr = λ ds t i y. instr-legal set e u ds w r p a life seen t y (blocks-legal set e u ds w r p a life seen t y (io-legal set e u ds w r p a life seen t y));
+    instr =
+        λ ds t i y. instr-legal set e u ds w r p a life seen t y (blocks-legal set e u ds w r p a life seen t y (io-legal set e u ds w r p a life seen t y));
     look = λ ds looks i y. look-legal set e u ds w r p a life seen looks y;
     again = λ ds old t i z legal y. subst (IsLegal w set r p seen.event a ds) (sym z.step)
         (legal-put set e u ds w r p a life seen (calm old) (settles_to u seen t) (stepped u seen (settles_to u seen t))

@@ -43,7 +43,8 @@ use Rattle.sa_fast_laws.proofs.FrameLaws.{hears-of, told-of, fits-of}
 -- A NOTICE OF A STOP OR AN UNBLOCK
 module _ (w : WorkloadView) (s : Setting) (e : ℕ) (r : Readings) (u : Package) (cs : Contexts Context) (p : ProcNo) (n : ActNo) (ss : List Frame)
     (wk : Option ThreadNo) (number : ℕ) (b : ActNo) (life : Life) (d : Context)
-    (h : IsStanding s e u cs) (k : Hears s.space r n u cs) (is : cs n.0 ≡ Some (record { state = Work None; sections = ss; work = wk })) (upped : r.upped ≡ Some n) (there : life_of r b ≡ Some life)
+    (h : IsStanding s e u cs) (k : Hears s.space r n u cs) (is : cs n.0 ≡ Some (record { state = Work None; sections = ss; work = wk }))
+    (upped : r.upped ≡ Some n) (there : life_of r b ≡ Some life)
     (theirs : cs b.0 ≡ Some d) (differ : b.0 ≢ n.0) where
   abbrev c : Context
   c = record { state = Work None; sections = ss; work = wk }
@@ -52,13 +53,16 @@ module _ (w : WorkloadView) (s : Setting) (e : ℕ) (r : Readings) (u : Package)
   new = (took_over u c d).ctx
 
   pub tells-by : (kind : Bool) → Contains (untold_of r s.space) (note_of kind b)
-      → Hears s.space (after_record w number p r (records.Told (note_of kind b))) n (took_over u (record { state = Work None; sections = ss; work = wk }) d).user
+      → Hears s.space (after_record w number p r (records.Told (note_of kind b))) n
+      (took_over u (record { state = Work None; sections = ss; work = wk }) d).user
       (put (put cs n.0 (Some (took_over u (record { state = Work None; sections = ss; work = wk }) d).ctx)) b.0 None)
   tells-by kind told =
       let its = k.holds.lives n c is in
       let runs = k.runs its.0 its.1 in
       hears-of s.space _ _ _ n
-      (subst (FitsLists u) (sym (ap (λ ls. slice_index_or ls s.space.0 []) (told-ready s e u cs h s.space r k.holds n b ss wk d is theirs differ w number p its.0 life its.1 there upped runs.0 kind told))) k.lists)
+      (subst (FitsLists u) (sym
+      (ap (λ ls. slice_index_or ls s.space.0 [])
+      (told-ready s e u cs h s.space r k.holds n b ss wk d is theirs differ w number p its.0 life its.1 there upped runs.0 kind told))) k.lists)
       (hand-hears view s e r u cs cs h n b (told-of s.space r u cs n k) ss wk d is theirs differ life there upped w p number kind told new)
 
 pub fast-tells : (w : WorkloadView) (s : Setting) (e : ℕ) (r : Readings) (u : Package) (cs : Contexts Context) (p : ProcNo) (n : ActNo) (c : Context)
@@ -66,24 +70,35 @@ pub fast-tells : (w : WorkloadView) (s : Setting) (e : ℕ) (r : Readings) (u : 
     → HoldsIn fast_stands w s e r u cs → fast_hears w s r n u cs → cs n.0 ≡ Some c → r.upped ≡ Some n → Contains (untold_of r s.space) note
     → (note ≡ Preempted b) ⊎ (note ≡ Unblocked b)
     → life_of r b ≡ Some life → life.space ≡ s.space → held.thread ≡ life.thread → IsHanded cs n.0 note (Some held)
-    → fast_hears w s (after_record w number p r (records.Told note)) n (fast_calls.told u c note (Some held)).0 (told_contexts cs n.0 (fast_calls.told u c note (Some held)).1 note)
+    → fast_hears w s (after_record w number p r (records.Told note)) n (fast_calls.told u c note (Some held)).0
+    (told_contexts cs n.0 (fast_calls.told u c note (Some held)).1 note)
 fast-tells w s e r u cs p n c number note b life held h k is upped told kind there of thread handed =
     let c_is : c ≡ record { state = Work None; sections = c.sections; work = c.work } =
     ap (λ x. record { state = x; sections = c.sections; work = c.work }) (k.begins c is) in
-    subst (λ y. fast_hears w s (after_record w number p r (records.Told note)) n (fast_calls.told u y note (Some held)).0 (told_contexts cs n.0 (fast_calls.told u y note (Some held)).1 note)) (sym c_is) (elim kind [
-      | inl stop ↦ subst (λ m. fast_hears w s (after_record w number p r (records.Told m)) n (fast_calls.told u (record { state = Work None; sections = c.sections; work = c.work }) m (Some held)).0
+    subst
+    (λ y. fast_hears w s (after_record w number p r (records.Told note)) n (fast_calls.told u y note (Some held)).0
+    (told_contexts cs n.0 (fast_calls.told u y note (Some held)).1 note)) (sym c_is) (elim kind [
+      | inl stop ↦
+          subst
+          (λ m. fast_hears w s (after_record w number p r (records.Told m)) n
+          (fast_calls.told u (record { state = Work None; sections = c.sections; work = c.work }) m (Some held)).0
           (told_contexts cs n.0 (fast_calls.told u (record { state = Work None; sections = c.sections; work = c.work }) m (Some held)).1 m)) (sym stop)
           (over true (subst (λ m. IsHanded cs n.0 m (Some held)) stop handed) (subst (λ m. Contains (untold_of r s.space) m) stop told))
-      | inr back ↦ subst (λ m. fast_hears w s (after_record w number p r (records.Told m)) n (fast_calls.told u (record { state = Work None; sections = c.sections; work = c.work }) m (Some held)).0
+      | inr back ↦
+          subst
+          (λ m. fast_hears w s (after_record w number p r (records.Told m)) n
+          (fast_calls.told u (record { state = Work None; sections = c.sections; work = c.work }) m (Some held)).0
           (told_contexts cs n.0 (fast_calls.told u (record { state = Work None; sections = c.sections; work = c.work }) m (Some held)).1 m)) (sym back)
           (over false (subst (λ m. IsHanded cs n.0 m (Some held)) back handed) (subst (λ m. Contains (untold_of r s.space) m) back told))
     ]) where
       over : (kd : Bool) → IsHandedOver cs n.0 b.0 (Some held) → Contains (untold_of r s.space) (note_of kd b)
-          → Hears s.space (after_record w number p r (records.Told (note_of kd b))) n (took_over u (record { state = Work None; sections = c.sections; work = c.work }) held.ctx).user
+          → Hears s.space (after_record w number p r (records.Told (note_of kd b))) n
+          (took_over u (record { state = Work None; sections = c.sections; work = c.work }) held.ctx).user
           (put (put cs n.0 (Some (took_over u (record { state = Work None; sections = c.sections; work = c.work }) held.ctx).ctx)) b.0 None)
       over kd o has =
           let same : o.stopped ≡ held = sym (same_Some held o.stopped o.is) in
-          tells-by w s e r u cs p n c.sections c.work number b life held.ctx h.value k (is ∙ ap Some (ap (λ x. record { state = x; sections = c.sections; work = c.work }) (k.begins c is))) upped there
+          tells-by w s e r u cs p n c.sections c.work number b life held.ctx h.value k
+          (is ∙ ap Some (ap (λ x. record { state = x; sections = c.sections; work = c.work }) (k.begins c is))) upped there
           (o.theirs ∙ ap (λ (z : Stopped Context). Some z.ctx) same) o.differ kd has
 
 -- NOTICES that hand nothing over
@@ -110,11 +125,14 @@ pub fast-answers : (w : WorkloadView) (s : Setting) (e : ℕ) (before r last : R
     (c : Context) (seen : Seen)
     → HoldsNow fast_stands w s e r u cs → fast_hears w s r n u cs → cs n.0 ≡ Some c → running_of r ev.proc ≡ Some n
     → Contains ev.records (records.Up s.space n) → AlikeButEnds last r → Sees s.space r ev.proc ev.number seen
-    → fast_fits w s (record r { lives = with_life (arisen is_inside w before ev last) (Some n) r.lives }) (fast_calls.answered u seen c).0 (put cs n.0 (Some (fast_calls.answered u seen c).1))
+    → fast_fits w s (record r { lives = with_life (arisen is_inside w before ev last) (Some n) r.lives }) (fast_calls.answered u seen c).0
+    (put cs n.0 (Some (fast_calls.answered u seen c).1))
 fast-answers w s e before r last ev u cs n c seen h k is runs upped alike sees =
     let c_is : c ≡ record { state = Work None; sections = c.sections; work = c.work } =
     ap (λ x. record { state = x; sections = c.sections; work = c.work }) (k.begins c is) in
-    subst (λ y. fast_fits w s (record r { lives = with_life (arisen is_inside w before ev last) (Some n) r.lives }) (fast_calls.answered u seen y).0 (put cs n.0 (Some (fast_calls.answered u seen y).1))) (sym c_is)
+    subst
+    (λ y. fast_fits w s (record r { lives = with_life (arisen is_inside w before ev last) (Some n) r.lives }) (fast_calls.answered u seen y).0
+    (put cs n.0 (Some (fast_calls.answered u seen y).1))) (sym c_is)
     (by c.sections c.work (is ∙ ap Some c_is)) where
       by : (fs : List Frame) (wk : Option ThreadNo) → cs n.0 ≡ Some (record { state = Work None; sections = fs; work = wk })
           → fast_fits w s (record r { lives = with_life (arisen is_inside w before ev last) (Some n) r.lives }) u

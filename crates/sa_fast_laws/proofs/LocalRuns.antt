@@ -1,4 +1,4 @@
--- A run of FastThreads' local instructions: each is a legal event of its own, and behind the last one all fits.
+-- A run of FastThreads' local instructions: each is a legal event of its own, and after the last one all fits.
 use Rattle.std.proofs.Common.{◌≡◌, ℕ, zero, suc, ◌+◌, ◌≤◌, ◌<◌, List, [], ◌∷◌, Option, Some, None, refl, sym, ap, ◌∙◌, subst, inl, arith}
 use Rattle.std.proofs.lemmas.List.{set-set, get_or-set_same}
 use Rattle.sa_base.specs.declared.context.Seen.{Seen}
@@ -82,12 +82,17 @@ module _ (set : Setting) (e : ℕ) (u : Package) (cs : Contexts Context) (w : Wo
 
   fits1 : Fits set.space r1 v cs
   fits1 = subst (Fits set.space r1 v) put-c (legal.answer.after [] (record { closes = tt; is_own = refl })
-      (record { kernel = record { state = refl; lives = refl; running = refl; taken = refl; untold = refl; ready = refl; lines = λ y some. some }; demands = refl }))
+      (record {
+        kernel = record { state = refl; lives = refl; running = refl; taken = refl; untold = refl; ready = refl; lines = λ y some. some };
+        demands = refl;
+      }))
 
   pub scene1 : seen.event + 1 ≤ MAX_EVENTS
-      → IsFastScene set seen.event v cs w r1 p a (its1 set e u cs w r p a life seen t i local is_inside) c0 (seen1 set e u cs w r p a life seen t i local is_inside)
+      → IsFastScene set seen.event v cs w r1 p a (its1 set e u cs w r p a life seen t i local is_inside) c0
+      (seen1 set e u cs w r p a life seen t i local is_inside)
   scene1 within =
-      let mark = (fits1.rest a c0 (its1 set e u cs w r p a life seen t i local is_inside) i.on.mine (its1-is set e u cs w r p a life seen t i local is_inside)).marks in
+      let mark = (fits1.rest a c0 (its1 set e u cs w r p a life seen t i local is_inside) i.on.mine
+      (its1-is set e u cs w r p a life seen t i local is_inside)).marks in
       record {
         scene = local-scene set e u cs w r p a life seen t i local is_inside within;
         lists = fits1.lists;
@@ -109,8 +114,10 @@ module _ (set : Setting) (cs : Contexts Context) (w : WorkloadView) (p : ProcNo)
       → IsFastScene set e u cs w r p a life c1 seen → seen.event + m ≤ MAX_EVENTS
       → AreLocal (program_at u.def.programs (block_at u.shared.threads t.0).program) (suc m) (spot_of (block_at u.shared.threads t.0))
       → IsRun (suc m) u r seen.event (block_at u.shared.threads t.0)
-  runs zero e u r life seen i within local =
-      (legal-ins set e u cs w r p a life seen t i local.0, λ closing closed alike. (legal set e u cs w r p a life seen t i local.0).answer.after closing closed alike)
+  runs zero e u r life seen i within local = (
+    legal-ins set e u cs w r p a life seen t i local.0,
+    λ closing closed alike. (legal set e u cs w r p a life seen t i local.0).answer.after closing closed alike,
+  )
   runs (suc m) e u r life seen i within local =
       let b = block_at u.shared.threads t.0 in
       let program = program_at u.def.programs b.program in
@@ -118,7 +125,8 @@ module _ (set : Setting) (cs : Contexts Context) (w : WorkloadView) (p : ProcNo)
       let b1 = gone_to b (place_after (instr_of u.def b) b.pc b.regs) (regs_after (instr_of u.def b) b.regs) in
       let r1 = after_event is_inside w r (event_with seen.event p (records.Ins set.space t b.pc ∷ []) []) in
       let there : block_at v.shared.threads t.0 ≡ b1 = get_or-set_same u.shared.threads t.0 b1 unmade (t_below set e u cs w r p a life seen t i.scene) in
-      let rest = runs m seen.event v r1 (its1 set e u cs w r p a life seen t i.scene local.0 is_inside) (seen1 set e u cs w r p a life seen t i.scene local.0 is_inside)
+      let rest = runs m seen.event v r1 (its1 set e u cs w r p a life seen t i.scene local.0 is_inside)
+      (seen1 set e u cs w r p a life seen t i.scene local.0 is_inside)
       (scene1 set e u cs w r p a life seen t i local.0 (omega arith)) (omega arith)
       (subst (λ y. AreLocal (program_at u.def.programs y.program) (suc m) (spot_of y)) (sym there) local.1) in (
         legal-ins set e u cs w r p a life seen t i local.0,
@@ -136,10 +144,12 @@ pub fast-goes : (w : WorkloadView) (s : Setting) (e : ℕ) (r : Readings) (u : P
     → AreLegalIns fast_threads w seen.event p r (fast_calls.went u seen c n).says
     (λ last. fast_fits w s last (fast_calls.went u seen c n).user (put cs a.0 (Some (fast_calls.went u seen c n).ctx)))
 fast-goes w s e r u cs p a life c seen n acting sees low some later within local = by c.state c.sections c.work acting local where
-  by : (state : State) (fs : List Frame) (wk : Option ThreadNo) → IsActing fast_calls fast_stands fast_fits w s e r u cs p a life (record { state = state; sections = fs; work = wk })
+  by : (state : State) (fs : List Frame) (wk : Option ThreadNo)
+      → IsActing fast_calls fast_stands fast_fits w s e r u cs p a life (record { state = state; sections = fs; work = wk })
       → GoesOn s n (local_at u state)
       → AreLegalIns fast_threads w seen.event p r (gone_at u (record { state = state; sections = fs; work = wk }) n state).says
-      (λ last. Fits s.space last (gone_at u (record { state = state; sections = fs; work = wk }) n state).user (put cs a.0 (Some (gone_at u (record { state = state; sections = fs; work = wk }) n state).ctx)))
+      (λ last. Fits s.space last (gone_at u (record { state = state; sections = fs; work = wk }) n state).user
+      (put cs a.0 (Some (gone_at u (record { state = state; sections = fs; work = wk }) n state).ctx)))
   by (Code f) fs wk i local = absurd local
   by (Work t) fs wk i local = absurd local
   by (Hint t) fs wk i local = absurd local
@@ -148,13 +158,22 @@ fast-goes w s e r u cs p a life c seen n acting sees low some later within local
   by (User t) (f ∷ fs) wk i local = absurd (let left = (i.fit.rest a _ life i.on.mine i.on.is).marks.left in cc)
   by (User t) [] (Some m) i local = absurd (let left = (i.fit.rest a _ life i.on.mine i.on.is).marks.left in cc)
   by (User t) [] None i local =
-      many n some within (subst (λ d. AreLocal (program_at d.programs (block_at u.shared.threads t.0).program) n (spot_of (block_at u.shared.threads t.0))) (sym i.holds.value.made.def) local) where
+      many n some within
+      (subst (λ d. AreLocal (program_at d.programs (block_at u.shared.threads t.0).program) n (spot_of (block_at u.shared.threads t.0)))
+      (sym i.holds.value.made.def) local) where
         many : (k : ℕ) → 1 ≤ k → seen.event + k ≤ MAX_EVENTS + 1
             → AreLocal (program_at u.def.programs (block_at u.shared.threads t.0).program) k (spot_of (block_at u.shared.threads t.0))
-            → AreLegalIns fast_threads w seen.event p r (gone_by u (record { state = User t; sections = []; work = None }) k t (block_at u.shared.threads t.0)).says
-            (λ last. Fits s.space last (gone_by u (record { state = User t; sections = []; work = None }) k t (block_at u.shared.threads t.0)).user (put cs a.0 (Some (record { state = User t; sections = []; work = None }))))
+            → AreLegalIns fast_threads w seen.event p r
+            (gone_by u (record { state = User t; sections = []; work = None }) k t (block_at u.shared.threads t.0)).says
+            (λ last. Fits s.space last (gone_by u (record { state = User t; sections = []; work = None }) k t (block_at u.shared.threads t.0)).user
+            (put cs a.0 (Some (record { state = User t; sections = []; work = None }))))
         many zero none within local = absurd (omega arith)
         many (suc m) some within local =
-            subst (λ o. AreLegalIns fast_threads w seen.event p r (ins_records o t (program_at u.def.programs (block_at u.shared.threads t.0).program) (suc m) (spot_of (block_at u.shared.threads t.0)))
-            (λ last. Fits s.space last (gone_by u (record { state = User t; sections = []; work = None }) (suc m) t (block_at u.shared.threads t.0)).user (put cs a.0 (Some (record { state = User t; sections = []; work = None })))))
-            (sym i.holds.value.made.space) (runs s cs w p a t m e u r life seen (the-scene w s e r u cs p a life (record { state = User t; sections = []; work = None }) seen i sees later (omega arith)) (omega arith) local)
+            subst
+            (λ o. AreLegalIns fast_threads w seen.event p r
+            (ins_records o t (program_at u.def.programs (block_at u.shared.threads t.0).program) (suc m) (spot_of (block_at u.shared.threads t.0)))
+            (λ last. Fits s.space last (gone_by u (record { state = User t; sections = []; work = None }) (suc m) t (block_at u.shared.threads t.0)).user
+            (put cs a.0 (Some (record { state = User t; sections = []; work = None })))))
+            (sym i.holds.value.made.space)
+            (runs s cs w p a t m e u r life seen
+            (the-scene w s e r u cs p a life (record { state = User t; sections = []; work = None }) seen i sees later (omega arith)) (omega arith) local)

@@ -54,7 +54,8 @@ fast-starts w s of set = record {
   ] where
     list_here : list_of (started s).shared.state.lists 0 ≡ 0 ∷ []
     list_here =
-        get_or-set_same (replicate s.processors []) 0 (first_list s) [] (let all = many_same {A = List ℕ} s.processors [] in let some = set.some_processor in omega arith)
+        get_or-set_same (replicate s.processors []) 0 (first_list s) []
+        (let all = many_same {A = List ℕ} s.processors [] in let some = set.some_processor in omega arith)
         ∙ ap (λ rs. inserted rs 0 (slice_index_or (replicate s.processors []) 0 [])) no_ranks
         ∙ inserted_front 0 (slice_index_or (replicate s.processors []) 0 [])
         ∙ ap (λ xs. 0 ∷ xs) (same_read s.processors 0 [])

@@ -29,11 +29,12 @@ use Rattle.sa_laws.specs.Opening.{opening_event}
 use Rattle.sa_laws.specs.Readings.{Readings, life_on, line_of, opening_readings}
 use Rattle.sa_laws.specs.Rules.{fast_threads}
 use Rattle.sa_laws.specs.Turns.{is_of_locks}
+use Rattle.sa_laws.proofs.Records.{alone-plain}
 use Rattle.sa_user_laws.specs.Moments.{IsMoment, Sees}
 use Rattle.sa_user_laws.specs.Scene.{IsActing, begun_at}
 use Rattle.sa_user_laws.specs.Steps.{event_with, IsClosed, RulesPass, AreKernels}
 use Rattle.sa_fits.specs.Fits.{fast_fits}
-use Rattle.sa_fits_laws.proofs.KernelEvents.{kernels-are, alone-plain}
+use Rattle.sa_fits_laws.proofs.KernelEvents.{kernels-are}
 use Rattle.sa_fits_steps.proofs.Events.{IsLegal}
 use Rattle.sa_fits_steps.proofs.Scenes.{IsFastScene}
 use Rattle.sa_fast_laws.proofs.Dispatch.{step-legal}
@@ -69,10 +70,18 @@ pub fast-kernels : (w : WorkloadView) (r : Readings) (e : ℕ) (p : ProcNo) (own
 fast-kernels w r e p own closing ok moment are closed =
     let k = kernels-are own are in
     record {
-      demand = record { step = λ later. subst (λ xs. BeginsFreely w r p (xs ++ closing)) (sym k.is) (subst (λ b. StepIsFreeIf b w r (life_on r p) k.first) (sym k.step) tt) };
+      demand =
+          record {
+            step = λ later. subst (λ xs. BeginsFreely w r p (xs ++ closing)) (sym k.is)
+                (subst (λ b. StepIsFreeIf b w r (life_on r p) k.first) (sym k.step) tt);
+          };
       locks = record {
-        step = λ later. subst (KeepsLocksIn w (begun w (event_with e p own closing) r) p) (sym closed.is_own) (subst (KeepsLocksIn w (begun w (event_with e p own closing) r) p) (sym k.is)
-            (subst (λ b. KeepsLocksIf b w (begun w (event_with e p own closing) r) p (life_on r p) k.first) (sym k.step) tt, alone-plain (list_any is_of_locks (k.first ∷ k.rest)) k.rest k.locks));
+        step =
+            λ later. subst (KeepsLocksIn w (begun w (event_with e p own closing) r) p) (sym closed.is_own)
+            (subst (KeepsLocksIn w (begun w (event_with e p own closing) r) p) (sym k.is) (
+              subst (λ b. KeepsLocksIf b w (begun w (event_with e p own closing) r) p (life_on r p) k.first) (sym k.step) tt,
+              alone-plain (list_any is_of_locks (k.first ∷ k.rest)) k.rest k.locks,
+            ));
       };
       order = record { run = subst (λ xs. RunsNext r p (xs ++ closing)) (sym k.is) (no_run r p k.first (k.rest ++ closing) k.step) };
     }

@@ -1,4 +1,4 @@
--- The end of an own event: from what a life has behind its records to what fits between events.
+-- The end of an own event: from what a life has after its records to what fits between events.
 use Rattle.std.proofs.Common.{Bool, ◌≡◌, ◌≢◌, ℕ, ◌≤◌, true, false, List, [], ◌∷◌, Contains, count_by, ◌⊎◌, Option, Some, None, option_map, slice_index_or, refl, sym, ap, ◌∙◌, subst, inl, inr, arith}
 use Rattle.std.specs.Prelude.{◌+◌, if◌then◌else◌}
 use Rattle.std.proofs.lemmas.Bool.{cases_eq}
@@ -50,7 +50,8 @@ same-holds s r q u cs i k =
       lives = λ x c at. let its = k.lives x c at in (
         its.0,
         ap (λ (f : ℕ → Option Life). f x.0) i.lives ∙ its.1,
-        subst (λ y. HasLife s u.shared y (stage_of q s x its.0) (view c) its.0) (sym i.space) (subst (λ g. HasLife s u.shared (space_at r.state s) g (view c) its.0) (sym (stages x its.0)) its.2),
+        subst (λ y. HasLife s u.shared y (stage_of q s x its.0) (view c) its.0) (sym i.space)
+            (subst (λ g. HasLife s u.shared (space_at r.state s) g (view c) its.0) (sym (stages x its.0)) its.2),
       );
       others = λ x life at mine none. k.others x life (sym (ap (λ (f : ℕ → Option Life). f x.0) i.lives) ∙ at) mine none;
       noted = λ x there. k.noted x (subst (λ ns. Contains ns (Preempted x) ⊎ Contains ns (Unblocked x)) i.untold there);
@@ -61,7 +62,7 @@ same-holds s r q u cs i k =
           (old.0, old.1, stages x life ∙ old.2);
     }
 
--- the moment behind an event's beginning
+-- the moment after an event's beginning
 pub begun-holds : (s : SpaceNo) (r : Readings) (u : Package) (cs : Contexts Context) (w : WorkloadView) (ev : Event) → Holds s r u cs
     → Holds s (begun w ev r) u cs
 begun-holds s r u cs w ev k = same-holds s r (begun w ev r) u cs (record { space = refl; untold = refl; running = refl; lives = refl }) k
@@ -80,7 +81,7 @@ closing-ups (Aim p (Some s) ∷ xs) h = raising-ups xs h
 closing-ups (Line p ∷ xs) h = raising-ups xs h
 closing-ups (x ∷ xs) h = absurd h
 
--- THE RULES of an event of one operation on lists, with a closing behind it
+-- THE RULES of an event of one operation on lists, with a closing after it
 pub record Follows (w : WorkloadView) (r : Readings) (ev : Event) (own : List Record) : Type 0 where
   pub steps : IsStep w (begun w ev r) ev.proc own
   pub demand : DemandIsAnnounced w r ev
@@ -118,8 +119,21 @@ module _ (s : SpaceNo) (last : Readings) (v : Package) (ds : Contexts Context) (
       | inl e ↦
           let its = h.lives x c at in
           let one : its.0 ≡ life = same_Some its.0 life (sym its.1 ∙ ap last.lives e ∙ there) in
-          let l = subst (λ z. HasLife s v.shared (space_at last.state s) (stage_of last s x z) (view c) z) one its.2 in
-          (marked_life, ap remarked.lives e ∙ live_here, record { space = l.space; locks = l.locks; cont = l.cont; hand = l.hand; place = l.place; kept = l.kept; stopped = l.stopped; named = l.named })
+          let l = subst (λ z. HasLife s v.shared (space_at last.state s) (stage_of last s x z) (view c) z) one its.2 in (
+            marked_life,
+            ap remarked.lives e
+                ∙ live_here,
+            record {
+              space = l.space;
+              locks = l.locks;
+              cont = l.cont;
+              hand = l.hand;
+              place = l.place;
+              kept = l.kept;
+              stopped = l.stopped;
+              named = l.named;
+            },
+          )
       | inr ne ↦ let its = h.lives x c at in (its.0, live_there x.0 ne ∙ its.1, its.2)
     ];
     others = λ x l at of none. elim (cases_eq x.0 a.0) [
@@ -146,14 +160,21 @@ module _ (s : SpaceNo) (last : Readings) (v : Package) (ds : Contexts Context) (
   after_marks = record life { freed = freed; scans = scans; inside = inside }
 
   pub set-marked : IsAtRest (stage_of last s a life) (view new) (record life { freed = freed; scans = scans; inside = inside })
-      → Fits s (record last { number = number; lives = put last.lives a.0 (Some (record life { freed = freed; scans = scans; inside = inside })); last = before; moved = moved }) v ds
+      → Fits s (record last {
+        number = number;
+        lives = put last.lives a.0 (Some (record life { freed = freed; scans = scans; inside = inside }));
+        last = before;
+        moved = moved;
+      }) v ds
   set-marked own = record {
     holds = set-holds s last v ds h a new mine life there freed inside scans number before moved;
     lists = lists;
     rest = λ x c l at its. elim (cases_eq x.0 a.0) [
       | inl e ↦
           let is_new : c ≡ new = same_Some c new (sym at ∙ ap ds e ∙ mine) in
-          let one : l ≡ after_marks = same_Some l after_marks (sym its ∙ ap (put last.lives a.0 (Some after_marks)) e ∙ live_here s last v ds h a new mine life there freed inside scans number before moved) in
+          let one : l ≡ after_marks =
+          same_Some l after_marks
+          (sym its ∙ ap (put last.lives a.0 (Some after_marks)) e ∙ live_here s last v ds h a new mine life there freed inside scans number before moved) in
           let act : x ≡ a = ap (λ n. record { 0 = n }) e in
           subst (λ z. IsAtRest (stage_of last s x l) (view z) l) (sym is_new)
           (subst (λ z. IsAtRest (stage_of last s x z) (view new) z) (sym one)
@@ -169,13 +190,15 @@ module _ (a : ActNo) (w : WorkloadView) (r : Readings) (ev : Event) (runs : runn
     (no_up : list_any is_up ev.records ≡ false) (test : Test) where
   pub ended-lives : (ended test w r ev last).lives ≡ put last.lives a.0 (Some (stepped test w r ev last first life))
   ended-lives =
-      ap (λ b. if b then with_life (arisen test w r ev last) (running_of last ev.proc) (with_step test w r ev last ev.records last.lives) else with_step test w r ev last ev.records last.lives) no_up
+      ap
+      (λ b. if b then with_life (arisen test w r ev last) (running_of last ev.proc)
+      (with_step test w r ev last ev.records last.lives) else with_step test w r ev last ev.records last.lives) no_up
       ∙ ap (λ xs. with_step test w r ev last xs last.lives) records
       ∙ ap (λ b. if b then with_life (stepped test w r ev last first) (running_of r ev.proc) last.lives else last.lives) step
       ∙ ap (λ o. with_life (stepped test w r ev last first) o last.lives) runs
       ∙ ap (λ o. put last.lives a.0 (option_map (stepped test w r ev last first) o)) there
 
-  -- what held behind the event's records holds behind the event
+  -- what held after the event's records holds after the event
   pub ended-holds : (s : SpaceNo) (v : Package) (ds : Contexts Context) (new : Context) → Holds s last v ds → ds a.0 ≡ Some new
       → Holds s (ended test w r ev last) v ds
   ended-holds s v ds new h mine =

@@ -25,7 +25,8 @@ use Rattle.sa_fits.specs.View.{view}
 
 -- WHAT A CONTEXT HAS is the thread that it carries, and those beside it
 split_at : (works : List (List ℕ)) (f : Frame) (fs : List Frame) (k : Option ℕ) (n t : ℕ)
-    → threads_in (before_all (at_copy f k) fs) t + one_of (thread_alone (at_copy f k) f.thread) t + n ≡ pushed_in (at_copy f k) t + threads_in fs t + n + one_of f.thread t
+    → threads_in (before_all (at_copy f k) fs) t + one_of (thread_alone (at_copy f k) f.thread) t + n ≡ pushed_in
+    (at_copy f k) t + threads_in fs t + n + one_of f.thread t
 split_at works f fs None n t = omega arith
 split_at works f fs (Some k) n t = omega arith
 

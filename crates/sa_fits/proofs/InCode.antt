@@ -61,7 +61,7 @@ among_locks copy (Some f) fs x t among has = by among.0 among.1 among.2 where
   by zero inside is = let one = thread_of_lock x f copy t is has in omega arith
   by (suc k) inside is = let rest = among_map fs x t (k, omega arith, is) has in omega arith
 
--- .. which are its own, beside those that it pushes and those of its work list
+-- The threads that a life holds under a lock are its own, besides those that it pushes and those of its work list.
 locked_by : (works : List (List ℕ)) (o : Option Frame) (fs : List Frame) (alone n t : ℕ)
     → threads_locked o fs t + pushed_in o t + n ≤ threads_in (before_all o fs) t + alone + n
 locked_by works None fs alone n t = omega arith

@@ -1,4 +1,4 @@
--- A step of one life by which only what its thread has changes, not where it stands.
+-- A step of one life by which only what its thread has changes, not where it is.
 use Rattle.std.proofs.Common.{◌≡◌, ℕ, Option, None, slice_index_or, sym, ap, ◌∙◌, subst, arith}
 use Rattle.std.specs.Prelude.{◌⊎◌, count_by, ◌≤◌, Contains}
 use Rattle.sa_base.specs.declared.number.ActNo.{ActNo}
@@ -50,7 +50,8 @@ module _ (s : SpaceNo) (r q : Readings) (u v : Package) (cs : Contexts Context) 
       its.0,
       in_lives x ∙ its.1,
       subst (λ g. HasLife s v.shared (space_at q.state s) g (view d) its.0) (sym (in_stage x its.0))
-          (other-life s u.shared v.shared (space_at r.state s) (space_at q.state s) (stage_of r s x its.0) d its.0 (λ n. ap (λ ws. beside ws (view d) n) i.works) (λ n has. i.places n) (λ n has. i.kept n.0) its.2),
+          (other-life s u.shared v.shared (space_at r.state s) (space_at q.state s) (stage_of r s x its.0) d its.0
+          (λ n. ap (λ ws. beside ws (view d) n) i.works) (λ n has. i.places n) (λ n has. i.kept n.0) its.2),
     );
     others = λ x l at of none. k.others x l (sym (in_lives x) ∙ at) of none;
     noted = λ x there. k.noted x (subst (λ ns. Contains ns (Preempted x) ⊎ Contains ns (Unblocked x)) i.untold there);

@@ -165,7 +165,8 @@ module _ (set : Setting) (e : ℕ) (u : Package) (cs : Contexts Context) (h : Is
   abbrev state : State
   state = settled_to t left (is_some (owed u seen)) (has_bulk seen)
 
-  pub settled-inside : cs a.0 ≡ Some (record { state = state; sections = fs; work = wk }) → seen.demand ≡ demand_of r s → seen.taken ≡ length (taken_of r s) → u.processors ≡ w.processors
+  pub settled-inside : cs a.0 ≡ Some (record { state = state; sections = fs; work = wk }) → seen.demand ≡ demand_of r s → seen.taken ≡ length (taken_of r s)
+      → u.processors ≡ w.processors
       → runs_by r life ≡ t → is_inside w before ev r true life ≡ stands_inside state
   settled-inside is demand taken processors carries =
       let between = settled_between t left (is_some (owed u seen)) (has_bulk seen) in

@@ -47,7 +47,7 @@ pub record IsMoved (s : SpaceNo) (r q : Readings) (u v : Package) (a : ActNo) (c
   pub before : is_loaded (place_at u.shared t.0) ≡ is_active (thread_at r.state s t).place
   pub after : is_loaded kp ≡ is_active lp
 
--- what is so of the places behind it
+-- what is so of the places after it
 pub record PlacesAre (s : SpaceNo) (r q : Readings) (u v : Package) (t : ThreadNo) (kp : KeptPlace) (lp : Place) : Type 0 where
   pub here : (thread_in (space_at q.state s) t).place ≡ lp
   pub there : (n : ThreadNo) → n.0 ≢ t.0 → (thread_in (space_at q.state s) n).place ≡ (thread_in (space_at r.state s) n).place
@@ -80,7 +80,9 @@ module _ (set : Setting) (e : ℕ) (u : Package) (cs : Contexts Context) (h : Is
 
   not_here : (n : ThreadNo) → threads_of u.shared.works (Some c) n.0 ≡ 0 → n.0 ≢ t.0
   not_here n none same =
-      absurd (let some = i.hand in let at_t : threads_of u.shared.works (Some c) t.0 ≡ 0 = subst (λ m. threads_of u.shared.works (Some c) m ≡ 0) same none in omega arith)
+      absurd
+      (let some = i.hand in let at_t : threads_of u.shared.works (Some c) t.0 ≡ 0 = subst (λ m. threads_of u.shared.works (Some c) m ≡ 0) same none in
+      omega arith)
 
   pub moved-held : HasLife s v.shared (space_at q.state s) (stage_of r s a i.life) (view new) i.life → IsHeld s r q u v a c new
   moved-held mine =
@@ -89,7 +91,9 @@ module _ (set : Setting) (e : ℕ) (u : Package) (cs : Contexts Context) (h : Is
       record {
         space = subst (FitsSpace v.shared) (sym state_is) (record {
           made = fits.made ∙ sym i.made;
-          threads = λ n less. subst (λ bs. FitsThread (block_at bs n.0) (thread_in (put_thread lp (space_at r.state s) t) n)) (sym i.threads) (fits.threads n (let same = i.made in omega arith));
+          threads =
+              λ n less. subst (λ bs. FitsThread (block_at bs n.0) (thread_in (put_thread lp (space_at r.state s) t) n)) (sym i.threads)
+              (fits.threads n (let same = i.made in omega arith));
           sync = fits.sync ∙ sym i.sync;
         });
         load =

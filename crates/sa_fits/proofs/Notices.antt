@@ -196,7 +196,8 @@ module _ (kind : Bool) (b : ActNo) (ns : List Note) (there : Contains ns (note_o
         let none : count_by (is_of b) (filter (is_other_note (Unblocked b)) ns) ≡ 0 =
         ap (λ z. count_by (is_of b) (filter (is_other_note (note_of z b)) ns)) (sym back) ∙ told-none in
         let some =
-        any-count (same_note (Preempted b)) (filter (is_other_note (Unblocked b)) ns) (any-filter (same_note (Preempted b)) (is_other_note (Unblocked b)) ns (stop-passes b) ∙ e) in
+        any-count (same_note (Preempted b)) (filter (is_other_note (Unblocked b)) ns)
+        (any-filter (same_note (Preempted b)) (is_other_note (Unblocked b)) ns (stop-passes b) ∙ e) in
         let less =
         count-wider (same_note (Preempted b)) (is_of b) (filter (is_other_note (Unblocked b)) ns) (λ m is. ap (λ z. z || same_note (Unblocked b) m) is) in
         omega arith)

@@ -142,7 +142,8 @@ module _ (set : Setting) (e : ℕ) (u : Package) (cs : Contexts Context) (h : Is
               i.life,
               ap q.lives here ∙ lives_here,
               subst (λ x. HasLife s v.shared (space_at q.state s) (stage_of q s b i.life) (view x) i.life) (sym one)
-                  (subst (λ g. HasLife s v.shared (space_at q.state s) g (view new) i.life) (sym (stages b i.life ∙ ap (λ x. stage_of r s x i.life) act)) i.mine),
+                  (subst (λ g. HasLife s v.shared (space_at q.state s) g (view new) i.life)
+                  (sym (stages b i.life ∙ ap (λ x. stage_of r s x i.life) act)) i.mine),
             )
         | inr ne ↦
             let there : cs b.0 ≡ Some d = sym (put-other cs a.0 b.0 (Some new) ne) ∙ at in

@@ -30,9 +30,6 @@ use Rattle.sa_fits.specs.Fits.{SitsIn, FitsThread, FitsSpace}
 pub space-here : (a : State) (s : SpaceNo) (x : SpaceState) → s.0 < length a.spaces → space_at (with_space a s x) s ≡ x
 space-here a s x inside = get_or-set_same a.spaces s.0 x _ inside
 
-pub space-there : (a : State) (s o : SpaceNo) (x : SpaceState) → o.0 ≢ s.0 → space_at (with_space a s x) o ≡ space_at a o
-space-there a s o x ne = get_or-set_other a.spaces s.0 o.0 x _ ne
-
 pub spaces-many : (a : State) (s : SpaceNo) (x : SpaceState) → length (with_space a s x).spaces ≡ length a.spaces
 spaces-many a s x = length-set a.spaces s.0 x
 
@@ -47,7 +44,7 @@ pub active-with : (y : SpaceState) (t : ThreadNo) (z : Thread) → t.0 < length 
     → active_threads (with_thread y t z) + one_where (is_active (thread_in y t).place) ≡ active_threads y + one_where (is_active z.place)
 active-with y t z inside = sum_by-set (λ (thread : Thread). cond (is_active thread.place) 1 0) y.threads t.0 z (at_start 0 Done) inside
 
--- .. and of the package
+-- The control block of a thread that the package has placed is moved to that place.
 pub block-here : (x : Shared) (t : ThreadNo) (p : KeptPlace) → t.0 < length x.threads
     → block_at (placed x (Some t) p).threads t.0 ≡ moved_to (block_at x.threads t.0) p
 block-here x t p inside = get_or-set_same x.threads t.0 (moved_to (block_at x.threads t.0) p) unmade inside

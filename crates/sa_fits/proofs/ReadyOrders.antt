@@ -77,7 +77,8 @@ without_newest (x ∷ xs) t once e =
     let same : x ≡ t = same_Some x t e in
     let all = count-reverse t xs in let one = count_same t x xs same in
     ap (without t) (reverse-cons x xs ∙ ap (λ y. reverse xs ++ y ∷ []) same)
-    ∙ without_between t (reverse xs) [] (let sum = count-append t (reverse xs) (t ∷ []) in let last = count_same t t [] refl in let none : count_in t [] ≡ 0 = refl in omega arith)
+    ∙ without_between t (reverse xs) []
+    (let sum = count-append t (reverse xs) (t ∷ []) in let last = count_same t t [] refl in let none : count_in t [] ≡ 0 = refl in omega arith)
     ∙ append-nil (reverse xs)
 
 some_length : (xs : List ℕ) (t : ℕ) → slice_get xs (length xs - 1) ≡ Some t → length xs ≡ suc (length xs - 1)
@@ -122,7 +123,7 @@ any_length p (x ∷ xs) = by (p x) (any_length p xs) where
   by true e = sym (lt-ltb 0 (suc (length (filter p xs))) (omega arith))
   by false e = e
 
--- in the history some ready thread stands in a list exactly where one does in the package
+-- in the history some ready thread is in a list exactly where one is in the package
 pub ready-alike : (u : Package) (listed : List Listed) → FitsLists u listed → (l : ProcNo)
     → list_any (is_in l) listed ≡ nat_lt 0 (length (list_of u.shared.state.lists l.0))
 ready-alike u listed k l =

@@ -1,4 +1,4 @@
--- A context settles (behind its upcall, behind an entry, or before its step): it has what it had.
+-- A context settles (after its upcall, after an entry, or before its step): it has what it had.
 use Rattle.std.proofs.Common.{◌≡◌, ℕ, false, ◌||◌, List, Option, Some, None, IsSome, refl, sym, ap, ◌∙◌, subst, inl, inr, arith}
 use Rattle.std.proofs.lemmas.Bool.{cases_eq}
 use Rattle.std.proofs.lemmas.Option.{same_Some, none-some}
@@ -50,7 +50,8 @@ module _ (s : SpaceNo) (r : Readings) (u : Package) (cs : Contexts Context) (k :
       own = λ gone n some. l.hand.own gone n (let one = carried_same n in omega arith);
       only = λ n some.
           let was = l.hand.only n some in let one = beside_same n in
-          let all : count_if (is_gone (stage_of r s a life) || in_copy state) (carried (view new) n) ≡ count_if (is_gone (stage_of r s a life) || in_copy old) (carried (view c) n) =
+          let all : count_if (is_gone (stage_of r s a life) || in_copy state) (carried (view new) n) ≡ count_if (is_gone (stage_of r s a life) || in_copy old)
+          (carried (view c) n) =
           ap (λ b. count_if (is_gone (stage_of r s a life) || b) (carried (view new) n)) (no_copy ∙ sym was_none)
           ∙ ap (count_if (is_gone (stage_of r s a life) || in_copy old)) (carried_same n) in
           omega arith;

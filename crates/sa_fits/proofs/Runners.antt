@@ -117,7 +117,8 @@ module _ (set : Setting) (e : ℕ) (u : Package) (cs : Contexts Context) (h : Is
           absurd (let zero_is : carried_of (cs b) t.0 ≡ 0 = ap (λ x. carried_of x t.0) there ∙ ap (λ o. one_of o t.0) none in omega arith)
       by_thread (Some n) carries = elim (cases_eq n.0 t.0) [
         | inr ne ↦
-            absurd (let zero_is : carried_of (cs b) t.0 ≡ 0 = ap (λ x. carried_of x t.0) there ∙ ap (λ o. one_of o t.0) carries ∙ one_other n.0 t.0 ne in omega arith)
+            absurd
+            (let zero_is : carried_of (cs b) t.0 ≡ 0 = ap (λ x. carried_of x t.0) there ∙ ap (λ o. one_of o t.0) carries ∙ one_other n.0 t.0 ne in omega arith)
         | inl same ↦
             let is_t : carried_by c.state ≡ Some t = carries ∙ ap (λ j. Some (record { 0 = j })) same in
             let its = k.lives (record { 0 = b }) c there in
@@ -147,7 +148,8 @@ module _ (set : Setting) (e : ℕ) (u : Package) (cs : Contexts Context) (h : Is
         let c = carrier-of t (sits_carried (place_at u.shared t.0) p (made-kept set e u cs h t.0 made) sits) in
         let both = runs_in c.stage c.life.proc p (sym c.place ∙ at) in
         let acts =
-        acts_there (list_any (same_note (Preempted c.act)) (untold_of r s)) (list_any (same_note (Unblocked c.act)) (untold_of r s)) (is_act c.act (running_of r c.life.proc)) (sym c.stage_is ∙ both.0) in
+        acts_there (list_any (same_note (Preempted c.act)) (untold_of r s)) (list_any (same_note (Unblocked c.act)) (untold_of r s))
+        (is_act c.act (running_of r c.life.proc)) (sym c.stage_is ∙ both.0) in
         record {
           act = c.act;
           ctx = c.ctx;

@@ -1,4 +1,4 @@
--- Behind an event that settles, all marks of the life are those of its context: one lemma for every such event.
+-- After an event that settles, all marks of the life are those of its context: one lemma for every such event.
 use Rattle.std.proofs.Common.{◌≡◌, ℕ, min, Bool, true, false, ◌||◌, List, [], ◌∷◌, length, Option, Some, None, is_some, refl, sym, ap, ◌∙◌}
 use Rattle.std.specs.Prelude.{◌&&◌}
 use Rattle.sa_base.specs.declared.context.Seen.{Seen}

@@ -1,4 +1,4 @@
--- Where activations stand, at two moments at which the same notices wait and the same lives run.
+-- Where activations are, at two moments at which the same notices wait and the same lives run.
 use Rattle.std.proofs.Common.{◌≡◌, ◌≢◌, Some, None, slice_index_or, sym, ap, ◌∙◌, subst}
 use Rattle.std.specs.List.{list_any}
 use Rattle.sa_base.specs.declared.number.ActNo.{ActNo}

@@ -53,7 +53,9 @@ module _ (s : SpaceNo) (r q : Readings) (u v : Package) (cs : Contexts Context) 
       record {
         space = subst (FitsSpace v.shared) (sym i.space) (record {
           made = k.space.made ∙ sym i.made;
-          threads = λ t below. subst (λ bs. FitsThread (block_at bs t.0) (thread_in (space_at r.state s) t)) (sym i.threads) (k.space.threads t (let same = i.made in omega arith));
+          threads =
+              λ t below. subst (λ bs. FitsThread (block_at bs t.0) (thread_in (space_at r.state s) t)) (sym i.threads)
+              (k.space.threads t (let same = i.made in omega arith));
           sync = k.space.sync ∙ sym i.sync;
         });
         load =

@@ -79,7 +79,8 @@ module _ (set : Setting) (e : ℕ) (u : Package) (cs : Contexts Context) (h : Is
     beside_kept =
         let none = rests in let agrees = h.places t.0 in
         let one = own_beside set e u cs h a.0 c is t.0 mine in
-        left_places (place_at u.shared t.0) (no_one _ (let is = agrees.ready in omega arith)) (not_held _ one) (no_one _ (let is = agrees.ends in omega arith)) (no_one _ (let is = agrees.new in omega arith))
+        left_places (place_at u.shared t.0) (no_one _ (let is = agrees.ready in omega arith)) (not_held _ one) (no_one _ (let is = agrees.ends in omega arith))
+        (no_one _ (let is = agrees.new in omega arith))
 
     pub beside_unloaded : is_loaded (place_at u.shared t.0) ≡ false
     beside_unloaded = elim beside_kept [ inl at ↦ ap is_loaded at | inr at ↦ ap is_loaded at ]

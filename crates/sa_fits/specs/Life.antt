@@ -20,7 +20,7 @@ use Rattle.sa_laws.specs.State.{SpaceState, thread_in}
 use Rattle.sa_fits.specs.Stage.{Stage, is_gone, is_running, place_of, kept_of, was_idle}
 use Rattle.sa_fits.specs.View.{View, has_left, is_idle}
 
--- LOCKS. A section of a push is 0, of a pop 1; its lock was used where it stands before its free.
+-- LOCKS. A section of a push is 0, of a pop 1; its lock was used where it is before its free.
 abbrev pub is_first : Option ℕ → Bool
 is_first (Some n) = nat_le n 0
 is_first None = false
@@ -39,7 +39,7 @@ lock_of inherited f = record {
   inherited = inherited;
 }
 
--- The section in which the context stands has the first lock, which was inherited where it is continued in its copy; the
+-- The section of the context has the first lock, which was inherited where it is continued in its copy; the
 -- locks of the sections to continue were.
 abbrev pub locks_from : Bool → Option Frame → List Frame → List Lock
 locks_from copies None fs = map (lock_of true) fs
@@ -69,7 +69,7 @@ abbrev pub stopped_in : List Frame → ℕ → ℕ
 stopped_in [] t = 0
 stopped_in (f ∷ fs) t = one_of f.thread t + stopped_in fs t
 
--- how often a thread stands in a hand
+-- how often a thread is in a hand
 abbrev pub number_of : ThreadNo → ℕ
 number_of t = t.0
 
@@ -89,7 +89,7 @@ pub record HasLife (s : SpaceNo) (u : Shared) (x : SpaceState) (stage : Stage) (
   pub locks : life.locks ≡ locks_had v
   pub cont : life.cont ≡ v.copies
   pub hand : HasHand u.works v (is_gone stage) life.hand
-  -- where its thread stands in the history, and in the package
+  -- where its thread is in the history, and in the package
   pub place : (t : ThreadNo) → v.carried ≡ Some t → (thread_in x t).place ≡ place_of stage life.proc
   pub kept : (t : ThreadNo) → v.carried ≡ Some t → place_at u t.0 ≡ kept_of stage
   -- the threads of its sections to continue are carried until these are continued

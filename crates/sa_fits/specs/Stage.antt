@@ -1,4 +1,4 @@
--- Where the activation of a context stands with the kernel, as long as its context was not handed over.
+-- What the activation of a context is to the kernel, as long as its context was not handed over.
 use Rattle.std.specs.Prelude.{◌==◌, Bool, true, false, Option, Some, None}
 use Rattle.std.specs.List.{list_any}
 use Rattle.sa_base.specs.declared.number.ActNo.{ActNo}
@@ -49,14 +49,14 @@ abbrev pub is_running : Stage → Bool
 is_running Runs = true
 is_running _ = false
 
--- Where the thread stands that its context carries: as the history says ..
+-- Where the thread is that its context carries, as the history says.
 abbrev pub place_of : Stage → ProcNo → Place
 place_of Runs p = place.Running p
 place_of InBlock p = place.Blocked
 place_of Stopped p = place.Carried
 place_of Returned p = place.Carried
 
--- .. and as the package keeps it, which hears of stops and returns by notices alone.
+-- Where it is as the package keeps it, which hears of stops and returns by notices alone.
 abbrev pub kept_of : Stage → KeptPlace
 kept_of Runs = kept.Running
 kept_of InBlock = kept.Blocked

@@ -11,13 +11,13 @@ use Rattle.sa_package_model.specs.declared.context.State.{State}
 use Rattle.sa_package_model.specs.declared.context.State.TheVariants.{Code, Work, Hint, Return, User, Look}
 
 pub record View : Type 0 where
-  -- the thread that it carries; the section in which it stands, or in whose copy
+  -- the thread that it carries; the section in which it is, or in whose copy
   pub carried : Option ThreadNo
   pub section : Option Frame
   -- the sections that it has to continue, and the name of its work list
   pub sections : List Frame
   pub work : Option ThreadNo
-  -- it continues a section in its copy, and stands at the copy's end
+  -- it continues a section in its copy, and is at the copy's end
   pub copies : Bool
   pub yields : Bool
   -- it is inside the package; how often it has looked for a thread in vain
@@ -35,7 +35,7 @@ has_left v = has_some v.sections || is_some v.work
 abbrev pub is_idle : View → Bool
 is_idle v = not v.inside && is_none v.carried
 
--- FastThreads' contexts. From place 8 of the code on stand the copies, and each ends with a yield.
+-- FastThreads' contexts. The copies are from place 8 of the code on, and each ends with a yield.
 abbrev pub in_copy : State → Bool
 in_copy (Code f) = nat_le 8 f.pc
 in_copy _ = false

@@ -58,10 +58,13 @@ module _ (x : Shared) (ys : List Thread) (w : Option ThreadNo) (t : ThreadNo) (b
   below = let all = h.made in omega arith
 
   -- the thread goes on, with other ways of waiting
-  set-threads : (c : Block) (a : Thread) → FitsThread c a → (n : ThreadNo) → n.0 < x.state.lists.made → FitsThread (block_at (with_block x.threads t.0 c) n.0) (thread_in (record { threads = slice_set ys t.0 a; sync = x.sync }) n)
+  set-threads : (c : Block) (a : Thread) → FitsThread c a → (n : ThreadNo) → n.0 < x.state.lists.made
+      → FitsThread (block_at (with_block x.threads t.0 c) n.0) (thread_in (record { threads = slice_set ys t.0 a; sync = x.sync }) n)
   set-threads c a fits n less = elim (cases_eq n.0 t.0) [
     | inl e ↦
-        subst (λ k. FitsThread (block_at (with_block x.threads t.0 c) k) (thread_in (record { threads = slice_set ys t.0 a; sync = x.sync }) (record { 0 = k }))) (sym e)
+        subst
+        (λ k. FitsThread (block_at (with_block x.threads t.0 c) k) (thread_in (record { threads = slice_set ys t.0 a; sync = x.sync }) (record { 0 = k })))
+        (sym e)
         (subst (λ d. FitsThread d (thread_in (record { threads = slice_set ys t.0 a; sync = x.sync }) t)) (sym (get_or-set_same x.threads t.0 c unmade inside))
         (subst (FitsThread c) (sym (get_or-set_same ys t.0 a (at_start 0 place.Done) below)) fits))
     | inr ne ↦
@@ -69,7 +72,8 @@ module _ (x : Shared) (ys : List Thread) (w : Option ThreadNo) (t : ThreadNo) (b
         (subst (FitsThread (block_at x.threads n.0)) (sym (get_or-set_other ys t.0 n.0 a (at_start 0 place.Done) ne)) (h.threads n less))
   ]
 
-  set-fits : (sync : Sync) (c : Block) (a : Thread) → FitsThread c a → FitsSpace (record x { threads = with_block x.threads t.0 c; sync = sync }) (record { threads = slice_set ys t.0 a; sync = sync })
+  set-fits : (sync : Sync) (c : Block) (a : Thread) → FitsThread c a
+      → FitsSpace (record x { threads = with_block x.threads t.0 c; sync = sync }) (record { threads = slice_set ys t.0 a; sync = sync })
   set-fits sync c a fits = record { made = length-set ys t.0 a ∙ h.made; threads = set-threads c a fits; sync = refl }
 
   same : FitsThread b z
@@ -81,7 +85,8 @@ module _ (x : Shared) (ys : List Thread) (w : Option ThreadNo) (t : ThreadNo) (b
   value-fits : (reg : Reg) (v : ℕ) → FitsThread (value_in b reg v) (next_with z reg v)
   value-fits reg v = record { program = refl; pc = refl; regs = refl; place = sits }
 
-  goes : (c : Block) (a : Thread) → FitsThread c a → FitsSpace (record x { threads = with_block x.threads t.0 c }) (record { threads = slice_set ys t.0 a; sync = x.sync })
+  goes : (c : Block) (a : Thread) → FitsThread c a
+      → FitsSpace (record x { threads = with_block x.threads t.0 c }) (record { threads = slice_set ys t.0 a; sync = x.sync })
   goes c a fits = set-fits x.sync c a fits
 
   -- a call on which the thread goes on, waits, or wakes another
@@ -89,7 +94,9 @@ module _ (x : Shared) (ys : List Thread) (w : Option ThreadNo) (t : ThreadNo) (b
       → FitsEffect x w (told_by (record x { sync = sync }) w t c r) (answered (record { threads = ys; sync = sync }) t a r)
   told sync c a answer.Goes fits = record { space = set-fits sync c a fits; works = refl }
   told sync c a answer.Waits fits = record {
-    space = set-fits sync (moved_to c fast.Waiting) (record a { place = place.Waiting }) (record { program = fits.program; pc = fits.pc; regs = fits.regs; place = refl });
+    space =
+        set-fits sync (moved_to c fast.Waiting) (record a { place = place.Waiting })
+        (record { program = fits.program; pc = fits.pc; regs = fits.regs; place = refl });
     works = refl;
   }
   told sync c a (answer.Wakes u) fits = record {
@@ -102,7 +109,10 @@ module _ (x : Shared) (ys : List Thread) (w : Option ThreadNo) (t : ThreadNo) (b
 
   -- a fork
   more : (program : ℕ) (c : Block) (a : Thread) → FitsThread c a → length ys < MAX_THREADS → length x.threads ≡ MAX_THREADS
-      → FitsSpace (record x { threads = with_block (with_block x.threads t.0 c) (length ys) (block_at_start program fast.Waiting); state = record x.state { lists = record x.state.lists { made = length ys + 1 } } })
+      → FitsSpace (record x {
+        threads = with_block (with_block x.threads t.0 c) (length ys) (block_at_start program fast.Waiting);
+        state = record x.state { lists = record x.state.lists { made = length ys + 1 } };
+      })
       (record { threads = slice_set ys t.0 a ++ at_start program place.Waiting ∷ []; sync = x.sync })
   more program c a fits room all =
       let zs = slice_set ys t.0 a in
@@ -115,13 +125,17 @@ module _ (x : Shared) (ys : List Thread) (w : Option ThreadNo) (t : ThreadNo) (b
         made = length-append zs (last ∷ []) ∙ (let one : length (last ∷ []) ≡ 1 = refl in omega arith);
         threads = λ n less. elim (cases_eq n.0 (length ys)) [
           | inl e ↦
-              subst (λ d. FitsThread d (thread_in (record { threads = zs ++ last ∷ []; sync = x.sync }) n)) (sym (ap (λ k. block_at (with_block bs (length ys) block) k) e ∙ get_or-set_same bs (length ys) block unmade (omega arith)))
-              (subst (FitsThread block) (sym (ap (λ k. get_or (zs ++ last ∷ []) k (at_start 0 place.Done)) (e ∙ sym size) ∙ get_or-append_seam zs last [] (at_start 0 place.Done)))
+              subst (λ d. FitsThread d (thread_in (record { threads = zs ++ last ∷ []; sync = x.sync }) n))
+              (sym (ap (λ k. block_at (with_block bs (length ys) block) k) e ∙ get_or-set_same bs (length ys) block unmade (omega arith)))
+              (subst (FitsThread block)
+              (sym (ap (λ k. get_or (zs ++ last ∷ []) k (at_start 0 place.Done)) (e ∙ sym size) ∙ get_or-append_seam zs last [] (at_start 0 place.Done)))
               (record { program = refl; pc = refl; regs = refl; place = refl }))
           | inr ne ↦
               let old : n.0 < length ys = omega arith in
-              subst (λ d. FitsThread d (thread_in (record { threads = zs ++ last ∷ []; sync = x.sync }) n)) (sym (get_or-set_other bs (length ys) n.0 block unmade ne))
-              (subst (FitsThread (block_at bs n.0)) (sym (get_or_append_left zs (last ∷ []) (at_start 0 place.Done) n.0 (omega arith))) (set-threads c a fits n (let made_is = h.made in omega arith)))
+              subst (λ d. FitsThread d (thread_in (record { threads = zs ++ last ∷ []; sync = x.sync }) n))
+              (sym (get_or-set_other bs (length ys) n.0 block unmade ne))
+              (subst (FitsThread (block_at bs n.0)) (sym (get_or_append_left zs (last ∷ []) (at_start 0 place.Done) n.0 (omega arith)))
+              (set-threads c a fits n (let made_is = h.made in omega arith)))
         ];
         sync = refl;
       }
@@ -133,9 +147,14 @@ module _ (x : Shared) (ys : List Thread) (w : Option ThreadNo) (t : ThreadNo) (b
       let next_is : next_made x.state.lists ≡ cond (nat_lt n MAX_THREADS) (Some n) None =
       ap (λ m. cond (nat_lt m x.state.lists.threads) (Some m) None) (sym h.made) ∙ ap (λ m. cond (nat_lt n m) (Some n) None) most in
       subst (λ o. FitsEffect x w (forked x w t b reg program o) (fork_effect y t z reg program)) (sym next_is)
-      (elim (nat_lt n MAX_THREADS) as (λ q. q ≡ nat_lt n MAX_THREADS → FitsEffect x w (forked x w t b reg program (cond q (Some n) None)) (cond q (effect (record (with_laws y t (next_with z reg n)) { threads = slice_set ys t.0 (next_with z reg n) ++ at_start program place.Waiting ∷ [] }) (record { 0 = n } ∷ [])) (effect (with_laws y t (next_with z reg (2 ^ 64 - 1))) []))) [
+      (elim (nat_lt n MAX_THREADS) as (λ q. q ≡ nat_lt n MAX_THREADS
+      → FitsEffect x w (forked x w t b reg program (cond q (Some n) None))
+      (cond q (effect (record (with_laws y t (next_with z reg n)) { threads = slice_set ys t.0 (next_with z reg n) ++ at_start program place.Waiting ∷ [] })
+      (record { 0 = n } ∷ [])) (effect (with_laws y t (next_with z reg (2 ^ 64 - 1))) []))) [
         | true ↦ λ test. record {
-          space = let now = more program (value_in b reg n) (next_with z reg n) (value-fits reg n) (ltb-true n MAX_THREADS (sym test)) all in record { made = now.made; threads = now.threads; sync = now.sync };
+          space =
+              let now = more program (value_in b reg n) (next_with z reg n) (value-fits reg n) (ltb-true n MAX_THREADS (sym test)) all in
+              record { made = now.made; threads = now.threads; sync = now.sync };
           works = refl;
         }
         | false ↦ λ test. record { space = goes _ _ (value-fits reg (2 ^ 64 - 1)); works = refl }
@@ -174,16 +193,18 @@ module _ (x : Shared) (ys : List Thread) (w : Option ThreadNo) (t : ThreadNo) (b
   effect-fits fetch pages (Io length) most all can =
       record { space = goes (moved_to (next_of b) fast.Blocked) (next z) (record { program = refl; pc = refl; regs = refl; place = tt }); works = refl }
   effect-fits fetch pages (Touch page) most all can =
-      subst (λ there. FitsEffect x w (touched x w t b fetch page there) (effect_of y t z (Touch page))) (sym can) (record { space = goes _ _ next-fits; works = refl })
+      subst (λ there. FitsEffect x w (touched x w t b fetch page there) (effect_of y t z (Touch page))) (sym can)
+      (record { space = goes _ _ next-fits; works = refl })
   effect-fits fetch pages End most all can = record {
     space =
         let all_now =
-        set-fits (with_joiners (finished x.sync t.0) t.0 []) (moved_to b fast.Done) (record z { place = place.Done }) (record { program = refl; pc = refl; regs = refl; place = refl }) in
+        set-fits (with_joiners (finished x.sync t.0) t.0 []) (moved_to b fast.Done) (record z { place = place.Done })
+        (record { program = refl; pc = refl; regs = refl; place = refl }) in
         record { made = all_now.made; threads = all_now.threads; sync = all_now.sync };
     works = ap (added_all (with_name x.works w)) (numbers_back (joiners_at x.sync t.0));
   }
 
-  -- WHAT CHANGES is the thread alone, but for a new one behind all that were made
+  -- WHAT CHANGES is the thread alone, but for a new one after all that were made
   abbrev pub AnswerIs : Ran → KeptPlace → Place → Type 0
   AnswerIs Goes bp ap = (bp ≡ b.place) × (ap ≡ zp)
   AnswerIs Leaves bp ap = (is_loaded bp ≡ false) × (is_active ap ≡ false) × (goes_on ap ≡ false)
@@ -200,7 +221,8 @@ module _ (x : Shared) (ys : List Thread) (w : Option ThreadNo) (t : ThreadNo) (b
 
   one-changes : (sync : Sync) (works : List (List ℕ)) (wk : Option ThreadNo) (r : Ran) (roused : List ThreadNo) (c : Block) (a : Thread)
       → AnswerIs r c.place a.place
-      → Changes (record { shared = record x { threads = with_block x.threads t.0 c; sync = sync; works = works }; work = wk; answer = r }) (effect (record { threads = slice_set ys t.0 a; sync = sync }) roused)
+      → Changes (record { shared = record x { threads = with_block x.threads t.0 c; sync = sync; works = works }; work = wk; answer = r })
+      (effect (record { threads = slice_set ys t.0 a; sync = sync }) roused)
   one-changes sync works wk r roused c a is = record {
     block = c;
     changed = a;
@@ -211,7 +233,8 @@ module _ (x : Shared) (ys : List Thread) (w : Option ThreadNo) (t : ThreadNo) (b
     answers = is;
   }
 
-  told-changes : (sync : Sync) (c : Block) (a : Thread) (r : SyncAnswer) → c.place ≡ b.place → a.place ≡ zp → Changes (told_by (record x { sync = sync }) w t c r) (answered (record { threads = ys; sync = sync }) t a r)
+  told-changes : (sync : Sync) (c : Block) (a : Thread) (r : SyncAnswer) → c.place ≡ b.place → a.place ≡ zp
+      → Changes (told_by (record x { sync = sync }) w t c r) (answered (record { threads = ys; sync = sync }) t a r)
   told-changes sync c a answer.Goes cb az = one-changes sync x.works w Goes [] c a (cb, az)
   told-changes sync c a answer.Waits cb az =
       one-changes sync x.works w Leaves [] (moved_to c fast.Waiting) (record a { place = place.Waiting }) (refl, refl, refl)
@@ -229,7 +252,10 @@ module _ (x : Shared) (ys : List Thread) (w : Option ThreadNo) (t : ThreadNo) (b
       let next_is : next_made x.state.lists ≡ cond (nat_lt n MAX_THREADS) (Some n) None =
       ap (λ m. cond (nat_lt m x.state.lists.threads) (Some m) None) (sym h.made) ∙ ap (λ m. cond (nat_lt n m) (Some n) None) most in
       subst (λ o. Changes (forked x w t b reg program o) (fork_effect y t z reg program)) (sym next_is)
-      (elim (nat_lt n MAX_THREADS) as (λ q. q ≡ nat_lt n MAX_THREADS → Changes (forked x w t b reg program (cond q (Some n) None)) (cond q (effect (record (with_laws y t (next_with z reg n)) { threads = slice_set ys t.0 (next_with z reg n) ++ at_start program place.Waiting ∷ [] }) (record { 0 = n } ∷ [])) (effect (with_laws y t (next_with z reg (2 ^ 64 - 1))) []))) [
+      (elim (nat_lt n MAX_THREADS) as (λ q. q ≡ nat_lt n MAX_THREADS
+      → Changes (forked x w t b reg program (cond q (Some n) None))
+      (cond q (effect (record (with_laws y t (next_with z reg n)) { threads = slice_set ys t.0 (next_with z reg n) ++ at_start program place.Waiting ∷ [] })
+      (record { 0 = n } ∷ [])) (effect (with_laws y t (next_with z reg (2 ^ 64 - 1))) []))) [
         | true ↦ λ test.
             let bs = with_block x.threads t.0 (value_in b reg n) in
             let zs = slice_set ys t.0 (next_with z reg n) in
@@ -240,7 +266,8 @@ module _ (x : Shared) (ys : List Thread) (w : Option ThreadNo) (t : ThreadNo) (b
               block = value_in b reg n;
               changed = next_with z reg n;
               blocks = λ m less. get_or-set_other bs n m (block_at_start program fast.Waiting) unmade (λ same. absurd (omega arith));
-              threads = λ m less. get_or_append_left zs (last ∷ []) (at_start 0 place.Done) m.0 (let size = length-set ys t.0 (next_with z reg n) in omega arith);
+              threads =
+                  λ m less. get_or_append_left zs (last ∷ []) (at_start 0 place.Done) m.0 (let size = length-set ys t.0 (next_with z reg n) in omega arith);
               loads =
                   let set_one =
                   loaded-with bs n (block_at_start program fast.Waiting) (let size = length-set x.threads t.0 (value_in b reg n) in omega arith) in
@@ -278,6 +305,7 @@ module _ (x : Shared) (ys : List Thread) (w : Option ThreadNo) (t : ThreadNo) (b
   effect-changes fetch pages (Io length) most all un can =
       one-changes x.sync x.works w (Blocks length None) [] (moved_to (next_of b) fast.Blocked) (next z) (refl, refl)
   effect-changes fetch pages (Touch page) most all un can =
-      subst (λ there. Changes (touched x w t b fetch page there) (effect_of y t z (Touch page))) (sym can) (one-changes x.sync x.works w Goes [] _ _ (refl, refl))
+      subst (λ there. Changes (touched x w t b fetch page there) (effect_of y t z (Touch page))) (sym can)
+      (one-changes x.sync x.works w Goes [] _ _ (refl, refl))
   effect-changes fetch pages End most all un can =
       one-changes _ _ _ Leaves _ (moved_to b fast.Done) (record z { place = place.Done }) (refl, refl, refl)

@@ -189,7 +189,7 @@ module _ (set : Setting) (e : ℕ) (u : Package) (cs : Contexts Context) (h : Is
     lives_now : q.lives ≡ put r.lives a.0 (Some (with_hand (next_effect w r.state s t).roused life))
     lives_now = life-changed (with_hand (next_effect w r.state s t).roused) r p a life runs there
 
-    -- behind it the context is in no section, and carries the thread exactly where it goes on
+    -- after it the context is in no section, and carries the thread exactly where it goes on
     module _ (state : State) (out : section_in state ≡ None) (no_copy : in_copy state ≡ false)
         (ends : ((o.answer ≡ Goes) × (carried_by state ≡ Some t)) ⊎ ((o.answer ≡ Leaves) × (carried_by state ≡ None))) where
       abbrev new : Context
@@ -223,7 +223,9 @@ module _ (set : Setting) (e : ℕ) (u : Package) (cs : Contexts Context) (h : Is
               | inl none ↦ omega arith
               | inr more ↦ absurd (
                   let had = l.hand.only n more in
-                  let own : count_if (is_gone (stage_of r s a life) || false) (carried (view c) n) ≡ 0 = ap (λ g. count_if (is_gone g || false) (carried (view c) n)) stage in omega arith)
+                  let own : count_if (is_gone (stage_of r s a life) || false) (carried (view c) n) ≡ 0 =
+                  ap (λ g. count_if (is_gone g || false) (carried (view c) n)) stage in
+                  omega arith)
             ];
       }
 
@@ -295,7 +297,7 @@ module _ (set : Setting) (e : ℕ) (u : Package) (cs : Contexts Context) (h : Is
         subst (λ x. AnswerIs u.shared ys None t b zp fits_now sits made inside x changes.block.place changes.changed.place) leaves changes.answers in
         ap goes_on place_here ∙ is_so.2
 
-  -- ALL OF IT: what the package's instruction does is known from how all stand
+  -- ALL OF IT: what the package's instruction does is known from what all of them are
   pub record IsIns (state : State) : Type 0 where
     pub held : IsHeld s r q u v a c (record { state = state; sections = []; work = o.work })
     pub lists : o.shared.state.lists.lists ≡ u.shared.state.lists.lists

@@ -2,6 +2,7 @@
 use Rattle.std.proofs.Common.{◌≡◌, ℕ, ◌+◌, Bool, true, false, ◌||◌, ◌&&◌, List, Option, Some, None, is_some, is_none, option_map, refl, sym, ap, ◌∙◌, subst}
 use Rattle.std.specs.Prelude.{nat_lt, min}
 use Rattle.std.proofs.lemmas.Option.{same_Some}
+use Rattle.std.proofs.lemmas.Bool.{and_right}
 use Rattle.sa_base.specs.declared.context.Seen.{Seen}
 use Rattle.sa_base.specs.declared.number.ActNo.{ActNo}
 use Rattle.sa_base.specs.declared.number.ProcNo.{ProcNo}
@@ -51,10 +52,6 @@ life-carries s r p life o proc is = ap (λ y. option_map (λ (x : Runner). x.thr
       by None = refl
       by (Some t) = refl
 
-and-none : (b : Bool) → (b && false) ≡ false
-and-none true = refl
-and-none false = refl
-
 stopped-ended : (o : Option Life) → stopped_thread (unended o) ≡ stopped_thread o
 stopped-ended None = refl
 stopped-ended (Some life) = refl
@@ -63,14 +60,17 @@ stopped-ended (Some life) = refl
 module _ (w : WorkloadView) (before r last : Readings) (ev : Event) (alike : AlikeButEnds last r) where
   pub inside-alike : (life : Life) → is_inside w before ev last true life ≡ is_inside w before ev r true life
   inside-alike life =
-      ap (λ m. some_lock life.locks || life.cont || has_hand last life || nat_lt (demand_of last life.space) (min w.processors m) || (is_none (runs_by last life) && many_taken last life.space)) loads
+      ap
+      (λ m. some_lock life.locks || life.cont || has_hand last life || nat_lt (demand_of last life.space) (min w.processors m) ||
+      (is_none (runs_by last life) && many_taken last life.space)) loads
       ∙ ap (λ y. is_inside w before ev y true life) (sym alike.is) where
         back : Readings
         back = record last { lives = r.lives }
 
         loads : load_of last life.space ≡ load_of back life.space
         loads =
-            let sums = notes-same back last (untold_of last life.space) (λ b has. sym (stopped-ended (last.lives b.0)) ∙ ap stopped_thread (sym (alike.lives b.0)) ∙ stopped-ended (r.lives b.0)) in
+            let sums = notes-same back last (untold_of last life.space)
+            (λ b has. sym (stopped-ended (last.lives b.0)) ∙ ap stopped_thread (sym (alike.lives b.0)) ∙ stopped-ended (r.lives b.0)) in
             ap (λ m. active_threads (space_at last.state life.space) + m) sums
 
 -- THE END. The context has worked off nothing yet, and its sections to continue and its work list stay.
@@ -125,21 +125,26 @@ module _ (w : WorkloadView) (s : Setting) (e : ℕ) (before r last : Readings) (
         life-carries s.space r ev.proc answered_life (carried_by state) proc (runner-behind s.space r r ev.proc (carried_by state) moment owner (λ z ne. refl)
         (alone-runs s e u ds stands s.space r answer-holds ev.proc n settled_new answered_life mine there of runs)) ∙ between.carries in
         inside-alike w before r last ev alike answered_life
-        ∙ settled-inside s e u ds stands s.space r answer-holds n None seen fs wk answered_life there (ap is_gone started.0) w before ev mine sees.demand sees.taken
+        ∙ settled-inside s e u ds stands s.space r answer-holds n None seen fs wk answered_life there
+        (ap is_gone started.0) w before ev mine sees.demand sees.taken
         (h.made.processors ∙ of_space.processors) carries
 
     -- So all lives fit, with a context that shows what the settled one does, but perhaps that it is in.
     pub answer-fits : (new : C) (inside : Bool) → look new ≡ record (view settled_new) { inside = inside }
-        → LivesFit look s.space (record r { lives = put r.lives n.0 (Some (record answered_life { inside = inside })) }) u (put bs n.0 (Some settled_new)) (put cs n.0 (Some new))
+        → LivesFit look s.space (record r { lives = put r.lives n.0 (Some (record answered_life { inside = inside })) }) u (put bs n.0 (Some settled_new))
+        (put cs n.0 (Some new))
     answer-fits new inside shows =
-        end-fits s.space r u ds answer-holds n settled_new (put-same bs n.0 (Some settled_new)) answered_life there answered_life.freed inside answered_life.scans r.number r.last r.moved
+        end-fits s.space r u ds answer-holds n settled_new
+        (put-same bs n.0 (Some settled_new)) answered_life there answered_life.freed inside answered_life.scans r.number r.last r.moved
         look (put cs n.0 (Some new)) new (put-same cs n.0 (Some new))
         (λ x d l ne at here. k.others x d l ne (sym (put-other cs n.0 x.0 (Some new) ne) ∙ at) here)
         (subst (λ z. IsAtRest (stage_of r s.space n answered_life) z (record answered_life { inside = inside })) (sym shows) (record {
           idle = λ no. absurd (let yes : is_running (stage_of r s.space n answered_life) ≡ true = ap is_running started.0 in cc);
           marks = record {
             inside = refl;
-            back = ap (λ b. answered_life.cont && b) started.1 ∙ and-none answered_life.cont ∙ sym (settled-yield None left (is_some (owed u seen)) (has_bulk seen));
+            back =
+                ap (λ b. answered_life.cont && b) started.1 ∙ and_right answered_life.cont false refl
+                ∙ sym (settled-yield None left (is_some (owed u seen)) (has_bulk seen));
             scans = ap (λ m. min m MAX_PATIENCE) started.2 ∙ sym (settled-looks None left (is_some (owed u seen)) (has_bulk seen));
             left = settled-left None left (is_some (owed u seen)) (has_bulk seen);
             lone = settled-lone None fs wk (is_some (owed u seen)) (has_bulk seen) (λ some. refl);

@@ -123,7 +123,9 @@ module _ {C : Type 0} (look : C → View) (base : C → Context) (bs : Contexts 
           rest = rests-with look s.space r q a cs c now mine (ap (λ (f : ℕ → Option Life). f a.0) lives_are ∙ put-same r.lives a.0 (Some now))
               (record {
                 marks = kept-marks (look c) life now refl refl refl refl own.marks;
-                idle = λ no. ap (λ g. was_idle g now) (back.stage_a s e u bs h s.space r k.holds a (base c) is w number p life nowhere there of known heard stopped returned)
+                idle =
+                    λ no. ap (λ g. was_idle g now)
+                    (back.stage_a s e u bs h s.space r k.holds a (base c) is w number p life nowhere there of known heard stopped returned)
                     ∙ sym (ap (λ g. was_idle g life) stage) ∙ own.idle (ap is_running stage);
               })
               (others-rest look s.space r q a cs cs (λ x ne. refl)
@@ -132,10 +134,11 @@ module _ {C : Type 0} (look : C → View) (base : C → Context) (bs : Contexts 
               (λ x d l ne at its. k.rest x d l at its));
         })
 
-    -- Its thread stands blocked before.
+    -- Its thread was blocked before.
     pub return-stands : StandsIn place.Blocked r.state s.space life.thread
     return-stands = subst (λ t. StandsIn place.Blocked r.state s.space t) (sym name)
-        (there_in (carried_by (base c).state) (back.stands s e u bs h s.space r k.holds a (base c) is w number p life nowhere there of known heard stopped returned))
+        (there_in (carried_by (base c).state)
+        (back.stands s e u bs h s.space r k.holds a (base c) is w number p life nowhere there of known heard stopped returned))
       where
         there_in : (o : Option ThreadNo) → ((n : ThreadNo) → o ≡ Some n → (thread_in (space_at r.state s.space) n).place ≡ place.Blocked)
             → StandsIn place.Blocked r.state s.space o

@@ -58,14 +58,15 @@ none-counted p q (x ∷ xs) [] d e less same past =
     ap (λ n. n == 0) (passed p x xs (past 0 (omega arith) (omega arith)))
     ∙ none-counted p q xs [] d e (omega arith) (λ k below. absurd (omega arith)) (λ k above below. past (suc k) (omega arith) (omega arith))
 none-counted p q (x ∷ xs) (y ∷ ys) d e less same past =
-    by (q y) refl (none-counted p q xs ys d e (omega arith) (λ k below. same (suc k) (omega arith)) (λ k above below. past (suc k) (omega arith) (omega arith))) where
+    by (q y) refl
+    (none-counted p q xs ys d e (omega arith) (λ k below. same (suc k) (omega arith)) (λ k above below. past (suc k) (omega arith) (omega arith))) where
       by : (b : Bool) → q y ≡ b → (count_by p xs == 0) ≡ list_all q ys → (count_by p (x ∷ xs) == 0) ≡ (q y && list_all q ys)
       by true is rest = ap (λ n. n == 0) (passed p x xs (same 0 (omega arith) ∙ ap not is)) ∙ rest ∙ sym (ap (λ c. c && list_all q ys) is)
       by false is rest =
           ap (λ n. n == 0) (counted p x xs (same 0 (omega arith) ∙ ap not is)) ∙ ne_eqb (1 + count_by p xs) 0 (omega arith)
           ∙ sym (ap (λ c. c && list_all q ys) is)
 
--- .. and as many of the first have it as there are in the second where each of the second has it.
+-- Where none has it from a place on, at most as many have it as are before that place.
 few-counted : {A : Type 0} (p : A → Bool) (xs : List A) (d : A) (n : ℕ) → ((k : ℕ) → n ≤ k → k < length xs → p (slice_index_or xs k d) ≡ false)
     → count_by p xs ≤ n
 few-counted p [] d n past = omega arith
@@ -85,7 +86,8 @@ all-counted : {A B : Type 0} (p : A → Bool) (q : B → Bool) (xs : List A) (ys
 all-counted p q xs [] d e less same past = let few = few-counted p xs d 0 past in eq-eqb (count_by p xs) 0 (omega arith)
 all-counted p q [] (y ∷ ys) d e less same past = absurd (omega arith)
 all-counted p q (x ∷ xs) (y ∷ ys) d e less same past =
-    by (q y) refl (all-counted p q xs ys d e (omega arith) (λ k below. same (suc k) (omega arith)) (λ k above below. past (suc k) (omega arith) (omega arith))) where
+    by (q y) refl
+    (all-counted p q xs ys d e (omega arith) (λ k below. same (suc k) (omega arith)) (λ k above below. past (suc k) (omega arith) (omega arith))) where
       shifted : (n m : ℕ) → (1 + n == suc m) ≡ (n == m)
       shifted n m = grind (arith, nat_tests)
 
@@ -107,7 +109,7 @@ not-all q (y ∷ ys) (suc k) e below is = ap (λ b. q y && b) (not-all q ys k e 
   fails true = refl
   fails false = refl
 
--- THREADS, as the package keeps them and as the history says where they stand. Of one that a context carries its stage tells.
+-- THREADS, as the package keeps them and as the history says where they are. Of one that a context carries its stage tells.
 abbrev pub is_returned : Stage → Bool
 is_returned Returned = true
 is_returned _ = false
@@ -197,15 +199,18 @@ module _ (s : Setting) (e : ℕ) (r : Readings) (u : Package) (cs : Contexts Con
   pub all-done : (done_of u.shared.threads == u.shared.state.lists.made) ≡ are_done (space_at r.state s.space)
   all-done =
       ap (λ m. done_of u.shared.threads == m) (sym k.space.made)
-      ∙ all-counted (λ b. is_ended b.place) (λ x. is_done x.place) u.shared.threads (space_at r.state s.space).threads unmade (at_start 0 place.Done) blocks-below
-      (λ n below. ended-alike (place_at u.shared n) _ (is_made n below) (here n below).place (λ is. let c = carrier n below is in (c.stage, c.life.proc, c.place)))
+      ∙ all-counted (λ b. is_ended b.place) (λ x. is_done x.place) u.shared.threads (space_at r.state s.space).threads unmade
+      (at_start 0 place.Done) blocks-below
+      (λ n below. ended-alike (place_at u.shared n) _ (is_made n below) (here n below).place
+      (λ is. let c = carrier n below is in (c.stage, c.life.proc, c.place)))
       (λ n above inside. ap is_ended (unmade-is (place_at u.shared n) (past-unmade n above)))
 
   -- NONE IS ACTIVE
   pub none-active : ((b : ActNo) → Contains (untold_of r s.space) (Unblocked b) → ⊥)
       → (active_of u.shared.threads == 0) ≡ are_at_rest (space_at r.state s.space)
   none-active none =
-      none-counted (λ b. is_active b.place) (λ x. is_at_rest x.place) u.shared.threads (space_at r.state s.space).threads unmade (at_start 0 place.Done) blocks-below
+      none-counted (λ b. is_active b.place) (λ x. is_at_rest x.place) u.shared.threads (space_at r.state s.space).threads unmade
+      (at_start 0 place.Done) blocks-below
       (λ n below. rests-alike (place_at u.shared n) _ (is_made n below) (here n below).place (λ is. let c = carrier n below is in
       (c.stage, c.life.proc, c.place, c.kept, not-returned (is_returned c.stage) c refl)))
       (λ n above inside. ap is_active (unmade-is (place_at u.shared n) (past-unmade n above))) where
@@ -238,7 +243,8 @@ module _ (s : Setting) (e : ℕ) (r : Readings) (u : Package) (cs : Contexts Con
       by : (o : Option ThreadNo) → carried_by (base c).state ≡ o → Stirs
       by None none = inr (a, life, is, (rests a c life mine is).marks.inside ∙ busy-inside (look c).inside (look c).carried busy (on.carries c ∙ none))
       by (Some t) at = inl (not-all (λ x. is_at_rest x.place) (space_at r.state s.space).threads t.0 (at_start 0 place.Done)
-          (let made = own_made s e u cs h a.0 (base c) (on.down a.0 c mine) t.0 (carried_has u.shared.works (base c) t at) in let all = k.space.made in omega arith)
+          (let made = own_made s e u cs h a.0 (base c) (on.down a.0 c mine) t.0 (carried_has u.shared.works (base c) t at) in let all = k.space.made in
+          omega arith)
           (ap is_at_rest (l.place t at ∙ gone-place (stage_of r s.space a life) life.proc gone)))
 
     pub must-hear : (note : Note) → Contains (untold_of r s.space) note → must_hear r note ≡ true → Stirs

@@ -28,7 +28,7 @@ module _ (s : SpaceNo) (last : Readings) (u : Package) (bs : Contexts Context) (
   abbrev marked_life : Life
   marked_life = record life { freed = freed; scans = scans; inside = inside }
 
-  -- the moment behind the end
+  -- the moment after the end
   abbrev pub remarked : Readings
   remarked = record last {
     number = number;
@@ -60,5 +60,6 @@ module _ (a : ActNo) (w : WorkloadView) (r : Readings) (ev : Event) (runs : runn
       → IsAtRest (stage_of last s a life) (look c) (stepped test w r ev last first life) → LivesFit look s (ended test w r ev last) u bs cs
   ended-fits look s u bs cs b c holds is mine others own =
       let after = stepped test w r ev last first life in
-      subst (λ ls. LivesFit look s (record last { number = last.number + 1; lives = ls; last = None; moved = None }) u bs cs) (sym (ended-lives a w r ev runs last life there first rest records step no_up test))
+      subst (λ ls. LivesFit look s (record last { number = last.number + 1; lives = ls; last = None; moved = None }) u bs cs)
+      (sym (ended-lives a w r ev runs last life there first rest records step no_up test))
       (end-fits s last u bs holds a b is life there after.freed after.inside after.scans (last.number + 1) None None look cs c mine others own)

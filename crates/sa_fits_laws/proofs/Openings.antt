@@ -75,8 +75,11 @@ module _ (ranks : Ranks) (w : WorkloadView) (s : Setting) (of : IsOfSpace w s) w
   opening-holds = record {
     space = subst (FitsSpace (started_with ranks s).shared) (sym space_is) (record {
       made = refl;
-      threads = λ t less. subst (λ (z : ThreadNo). FitsThread (block_at (started_with ranks s).shared.threads z.0) (thread_in (opening_space s.def) z)) (sym (first-is t less))
-          (subst (λ b. FitsThread b (thread_in (opening_space s.def) (record { 0 = 0 }))) (sym first-block) (record { program = refl; pc = refl; regs = refl; place = refl }));
+      threads =
+          λ t less. subst (λ (z : ThreadNo). FitsThread (block_at (started_with ranks s).shared.threads z.0) (thread_in (opening_space s.def) z))
+          (sym (first-is t less))
+          (subst (λ b. FitsThread b (thread_in (opening_space s.def) (record { 0 = 0 }))) (sym first-block)
+          (record { program = refl; pc = refl; regs = refl; place = refl }));
       sync = refl;
     });
     load =

@@ -33,7 +33,8 @@ filter-sum f keep (x ∷ xs) none = by (filter-sum f keep xs none) (keep x) refl
       → sum_by f (if keep x then x ∷ filter keep xs else filter keep xs) ≡ sum_by f (x ∷ xs)
   by rest true e =
       ap (λ b. sum_by f (if b then x ∷ filter keep xs else filter keep xs)) e
-      ∙ (let one = sum_by-cons f x (filter keep xs) in let all = sum_by-cons f x xs in let sum : sum_by f (x ∷ filter keep xs) ≡ sum_by f (x ∷ xs) = omega arith in sum)
+      ∙ (let one = sum_by-cons f x (filter keep xs) in let all = sum_by-cons f x xs in
+      let sum : sum_by f (x ∷ filter keep xs) ≡ sum_by f (x ∷ xs) = omega arith in sum)
   by rest false e =
       ap (λ b. sum_by f (if b then x ∷ filter keep xs else filter keep xs)) e
       ∙ (let zero_is = none x e in let all = sum_by-cons f x xs in let sum : sum_by f (filter keep xs) ≡ sum_by f (x ∷ xs) = omega arith in sum)
@@ -53,9 +54,13 @@ module _ (s : SpaceNo) (r q : Readings) (m : Note) (u : Package) (cs : Contexts 
   pub less-stage : (x : ActNo) (y : ProcNo) → stage_on q s x y ≡ stage_on r s x y
   less-stage x y =
       ap (λ ns. stage_by (list_any (same_note (Preempted x)) ns) (list_any (same_note (Unblocked x)) ns) (is_act x (running_of q y))) i.untold
-      ∙ ap (λ b. stage_by b (list_any (same_note (Unblocked x)) (filter (is_other_note m) (untold_of r s))) (is_act x (running_of q y))) (any-filter (same_note (Preempted x)) (is_other_note m) (untold_of r s) (i.stops x))
-      ∙ ap (λ b. stage_by (list_any (same_note (Preempted x)) (untold_of r s)) b (is_act x (running_of q y))) (any-filter (same_note (Unblocked x)) (is_other_note m) (untold_of r s) (i.backs x))
-      ∙ ap (λ ps. stage_by (list_any (same_note (Preempted x)) (untold_of r s)) (list_any (same_note (Unblocked x)) (untold_of r s)) (is_act x (slice_index_or ps y.0 None))) i.running
+      ∙ ap (λ b. stage_by b (list_any (same_note (Unblocked x)) (filter (is_other_note m) (untold_of r s))) (is_act x (running_of q y)))
+      (any-filter (same_note (Preempted x)) (is_other_note m) (untold_of r s) (i.stops x))
+      ∙ ap (λ b. stage_by (list_any (same_note (Preempted x)) (untold_of r s)) b (is_act x (running_of q y)))
+      (any-filter (same_note (Unblocked x)) (is_other_note m) (untold_of r s) (i.backs x))
+      ∙ ap
+      (λ ps. stage_by (list_any (same_note (Preempted x)) (untold_of r s)) (list_any (same_note (Unblocked x)) (untold_of r s))
+      (is_act x (slice_index_or ps y.0 None))) i.running
 
   pub less-lives : (x : ActNo) → life_of q x ≡ life_of r x
   less-lives x = ap (λ (f : ℕ → Option Life). f x.0) i.lives
@@ -73,14 +78,17 @@ module _ (s : SpaceNo) (r q : Readings) (m : Note) (u : Package) (cs : Contexts 
     lives = λ x d at. let its = k.lives x d at in (
       its.0,
       less-lives x ∙ its.1,
-      subst (λ z. HasLife s u.shared (space_at z s) (stage_of q s x its.0) (view d) its.0) (sym i.state) (subst (λ g. HasLife s u.shared (space_at r.state s) g (view d) its.0) (sym (less-stage x its.0.proc)) its.2),
+      subst (λ z. HasLife s u.shared (space_at z s) (stage_of q s x its.0) (view d) its.0) (sym i.state)
+          (subst (λ g. HasLife s u.shared (space_at r.state s) g (view d) its.0) (sym (less-stage x its.0.proc)) its.2),
     );
     others = λ x l at of none. k.others x l (sym (less-lives x) ∙ at) of none;
     noted = λ x there. k.noted x (elim there [
       | inl stop ↦ inl (contained-fails (tells m) (Preempted x) (untold_of r s) (subst (λ ns. Contains ns (Preempted x)) i.untold stop)).0
       | inr back ↦ inr (contained-fails (tells m) (Unblocked x) (untold_of r s) (subst (λ ns. Contains ns (Unblocked x)) i.untold back)).0
     ]);
-    single = λ x. subst (λ ns. count_by (is_of x) ns ≤ 1) (sym i.untold) (let less = count-without (tells m) (is_of x) (untold_of r s) in let was = k.single x in omega arith);
+    single =
+        λ x. subst (λ ns. count_by (is_of x) ns ≤ 1) (sym i.untold)
+        (let less = count-without (tells m) (is_of x) (untold_of r s) in let was = k.single x in omega arith);
     runs = λ y x l at its of.
         let old =
         k.runs y x l (sym (ap (λ ps. slice_index_or ps y.0 None) i.running) ∙ at) (sym (less-lives x) ∙ its) of in (old.0, old.1, less-stage x l.proc ∙ old.2);

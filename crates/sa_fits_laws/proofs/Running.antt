@@ -24,7 +24,8 @@ some_runs s lives o a life at is of =
 pub run-threads : (s : Setting) (e : ℕ) (r : Readings) (u : Package) (cs : Contexts Context) → IsStanding s e u cs → Holds s.space r u cs
     → ThreadsRun s.space r
 run-threads s e r u cs h k = record {
-  owned = λ p t at. let run = runs-carried s e u cs h s.space r k t p at in some_runs s.space r.lives (running_of r p) run.act run.life run.runs run.is run.space;
+  owned =
+      λ p t at. let run = runs-carried s e u cs h s.space r k t p at in some_runs s.space r.lives (running_of r p) run.act run.life run.runs run.is run.space;
   alone = λ p t n one two. runs-alone s e u cs h s.space r k t n p one two;
   proc = λ p a life at is of. (k.runs p a life at is of).1;
 }

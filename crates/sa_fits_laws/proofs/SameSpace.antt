@@ -29,10 +29,11 @@ use Rattle.sa_fits_laws.proofs.Rests.{others-rest}
 -- a life of the space
 life_is : (s : SpaceNo) (o : Option Life) (life : Life) → life_in s o ≡ Some life → (o ≡ Some life) × (life.space.0 ≡ s.0)
 life_is s None life e = absurd cc
-life_is s (Some l) life e = elim (l.space.0 == s.0) as (λ b. (l.space.0 == s.0) ≡ b → (if b then Some l else None) ≡ Some life → (Some l ≡ Some life) × (life.space.0 ≡ s.0)) [
-  | true ↦ λ test is. let same = same_Some l life is in (is, sym (ap (λ (x : Life). x.space.0) same) ∙ eqb-true l.space.0 s.0 test)
-  | false ↦ λ test is. absurd cc
-] refl e
+life_is s (Some l) life e = elim (l.space.0 == s.0) as (λ b. (l.space.0 == s.0) ≡ b → (if b then Some l else None) ≡ Some life
+    → (Some l ≡ Some life) × (life.space.0 ≡ s.0)) [
+      | true ↦ λ test is. let same = same_Some l life is in (is, sym (ap (λ (x : Life). x.space.0) same) ∙ eqb-true l.space.0 s.0 test)
+      | false ↦ λ test is. absurd cc
+    ] refl e
 
 life_has : (s : SpaceNo) (o : Option Life) (life : Life) → o ≡ Some life → life.space ≡ s → life_in s o ≡ Some life
 life_has s o life e of = ap (life_in s) e ∙ ap (λ b. if b then Some life else None) (eq-eqb life.space.0 s.0 (ap (λ (x : SpaceNo). x.0) of))
@@ -70,7 +71,8 @@ module _ (s : SpaceNo) (m n : Readings) (u : Package) (cs : Contexts Context) (i
     by false now false was = now ∙ sym was
     by true now false was = absurd (
         let runs =
-        run_is s m.lives (running_of m y) a (sym (i.running y) ∙ run_has s n.lives (running_of n y) a life (that (running_of n y) now) (life_to a life at of) of) in
+        run_is s m.lives (running_of m y) a
+        (sym (i.running y) ∙ run_has s n.lives (running_of n y) a life (that (running_of n y) now) (life_to a life at of) of) in
         let yes = acts (running_of m y) runs in cc)
     by false now true was = absurd (
         let runs = run_is s n.lives (running_of n y) a (i.running y ∙ run_has s m.lives (running_of m y) a life (that (running_of m y) was) at of) in
@@ -79,7 +81,8 @@ module _ (s : SpaceNo) (m n : Readings) (u : Package) (cs : Contexts Context) (i
   stage_same : (a : ActNo) (life : Life) → life_of m a ≡ Some life → life.space ≡ s → stage_of n s a life ≡ stage_of m s a life
   stage_same a life at of =
       ap (λ ns. stage_by (list_any (same_note (Preempted a)) ns) (list_any (same_note (Unblocked a)) ns) (is_act a (running_of n life.proc))) i.untold
-      ∙ ap (stage_by (list_any (same_note (Preempted a)) (untold_of m s)) (list_any (same_note (Unblocked a)) (untold_of m s))) (act_same a life life.proc at of)
+      ∙ ap (stage_by (list_any (same_note (Preempted a)) (untold_of m s)) (list_any (same_note (Unblocked a)) (untold_of m s)))
+      (act_same a life life.proc at of)
 
   module _ (k : Holds s m u cs) where
     notes : (ns : List Note) → ((x : Note) → Contains ns x → Contains (untold_of m s) x) → sum_by (untold_thread n) ns ≡ sum_by (untold_thread m) ns

@@ -54,7 +54,7 @@ module _ {C : Type 0} (look : C → View) (s : SpaceNo) (r : Readings) (u : Pack
             (up-stage s r u bs k.holds w number p n free unused none nowhere procs, refl, refl);
       }
 
-  -- A CLOSING behind its notices
+  -- A CLOSING after its notices
   pub alike-hears : (cs : Contexts C) (q : Readings) (n : ActNo) → AlikeButDemands r q → LivesHear look s r n u bs cs → LivesHear look s q n u bs cs
   alike-hears cs q n same k = record {
     holds = alike-holds s r q same u bs k.holds;

@@ -100,7 +100,8 @@ module _ (set : Setting) (e : ℕ) (u : Package) (cs : Contexts Context) (h : Is
 
   pub back-held : (o : Option ThreadNo) → f.thread ≡ o → IsHeld s r (after_record w number p r (Back s o)) u v a c new
   back-held None none =
-      subst (λ o. IsHeld s r (after_record w number p r (Back s o)) u v a c new) none (still-held s r (after_record w number p r (Back s f.thread)) u v cs k a c new is (record {
+      subst (λ o. IsHeld s r (after_record w number p r (Back s o)) u v a c new) none
+      (still-held s r (after_record w number p r (Back s f.thread)) u v cs k a c new is (record {
         space = ap (λ o. space_at (placed_if r.state s o place.Carried) s) none;
         untold = refl;
         running = refl;

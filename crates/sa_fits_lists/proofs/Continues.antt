@@ -62,7 +62,8 @@ module _ (set : Setting) (e : ℕ) (u : Package) (cs : Contexts Context) (h : Is
 
   in_copies : nat_le 8 f.pc ≡ true
   in_copies =
-      at_copies (λ i j. i ≡ j → nat_le 8 i ≡ true) (λ e. absurd (omega arith)) (λ e. absurd (omega arith)) (λ e. absurd (omega arith)) (λ e. absurd (omega arith)) (λ e. refl) (λ e. refl) (λ e. refl) (λ e. refl) f.pc f.pc copy refl
+      at_copies (λ i j. i ≡ j → nat_le 8 i ≡ true) (λ e. absurd (omega arith)) (λ e. absurd (omega arith)) (λ e. absurd (omega arith))
+      (λ e. absurd (omega arith)) (λ e. refl) (λ e. refl) (λ e. refl) (λ e. refl) f.pc f.pc copy refl
 
   now : life.proc ≡ p
   now = (k.runs p a life runs there of).1
@@ -148,7 +149,8 @@ module _ (set : Setting) (e : ℕ) (u : Package) (cs : Contexts Context) (h : Is
       let kept = l.stopped t (omega arith) in
       let carried_there : (thread_at r.state s t).place ≡ place.Carried =
       subst (λ x. SitsIn x (thread_in (space_at r.state s) t).place) kept (k.space.threads t (beside_made set e u cs h s r k a c is t has)).place in
-      let i : IsMoved s r (after_record w number p r (Cont s (Some t))) u (with_shared u (placed u.shared (Some t) fast.Running)) a c new t fast.Running (place.Running p) = record {
+      let i : IsMoved s r (after_record w number p r (Cont s (Some t))) u (with_shared u (placed u.shared (Some t) fast.Running)) a c new t fast.Running
+      (place.Running p) = record {
         state = refl;
         untold = refl;
         running = refl;

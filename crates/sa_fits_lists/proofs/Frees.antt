@@ -59,7 +59,7 @@ module _ (set : Setting) (e : ℕ) (u : Package) (cs : Contexts Context) (h : Is
     cont = λ inherits. l.cont ∙ inherits;
   })
 
-  -- behind it the context is between routines, or at its copy's end
+  -- after it the context is between routines, or at its copy's end
   module _ (pushes : f.pushed ≡ None)
       (state : State) (out : section_in state ≡ None) (carries : carried_by state ≡ f.thread) (copies : in_copy state ≡ nat_le 8 f.pc) where
     abbrev new : Context
@@ -100,7 +100,8 @@ module _ (set : Setting) (e : ℕ) (u : Package) (cs : Contexts Context) (h : Is
         only = λ n some.
             let has = l.hand.only n some in let same = beside_same n in
             let carried_same : carried (view new) n ≡ carried (view c) n = ap (λ o. one_of o n) carries in
-            let all : count_if (is_gone (stage_of r s a life) || in_copy state) (carried (view new) n) ≡ count_if (is_gone (stage_of r s a life) || nat_le 8 f.pc) (carried (view c) n) =
+            let all : count_if (is_gone (stage_of r s a life) || in_copy state) (carried (view new) n) ≡ count_if
+            (is_gone (stage_of r s a life) || nat_le 8 f.pc) (carried (view c) n) =
             ap (λ b. count_if (is_gone (stage_of r s a life) || b) (carried (view new) n)) copies
             ∙ ap (count_if (is_gone (stage_of r s a life) || nat_le 8 f.pc)) carried_same in
             omega arith;

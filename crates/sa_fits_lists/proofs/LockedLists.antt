@@ -66,7 +66,7 @@ has_from copy (Some f) fs l some = elim (cases_eq (list_in f).0 l) [
 abbrev zero_if : Bool → ℕ
 zero_if b = if b then 0 else 1
 
--- in the history some ready thread stands in a list exactly where one does in the package
+-- in the history some ready thread is in a list exactly where one is in the package
 abbrev pub AreReadyAlike : SpaceNo → Readings → Package → Type 0
 AreReadyAlike s r u = (l : ProcNo) → has_ready r s l ≡ nat_lt 0 (length (list_of u.shared.state.lists l.0))
 
@@ -113,7 +113,9 @@ module _ (set : Setting) (e : ℕ) (u : Package) (cs : Contexts Context) (h : Is
     pub opens : (l : ProcNo) → is_open u.shared.state.lists l.0 ≡ true → IsOpen r s l
     opens l is = record {
       ready = ready-there l ∙ both_second (is_locked u.shared.state.lists l.0) (nat_lt 0 (length (list_of u.shared.state.lists l.0))) is;
-      unlocked = λ locked. absurd (let yes = locked-kept l locked in let no = both_first (is_locked u.shared.state.lists l.0) (nat_lt 0 (length (list_of u.shared.state.lists l.0))) is in cc);
+      unlocked =
+          λ locked. absurd (let yes = locked-kept l locked in
+          let no = both_first (is_locked u.shared.state.lists l.0) (nat_lt 0 (length (list_of u.shared.state.lists l.0))) is in cc);
     } where
       both_first : (x y : Bool) → (not x && y) ≡ true → x ≡ false
       both_first true y e = absurd cc

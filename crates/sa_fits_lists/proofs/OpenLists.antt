@@ -30,8 +30,11 @@ round_past n p k past in_p in_k =
 there : (n p q : ℕ) → p < n → q < n → (steps_round n p q < n) × ((p + steps_round n p q) % n ≡ q)
 there n p q in_p in_q = elim (cases_lt q p) [
   | inl less ↦
-      let steps : steps_round n p q ≡ n - p + q = ap (λ b. cond b (n - p + q) (q - p)) (lt-ltb q p less) in
-      (omega arith, ap (λ k. (p + k) % n) steps ∙ round_past n p (n - p + q) (omega arith) in_p (omega arith) ∙ (let end : p + (n - p + q) - n ≡ q = omega arith in end))
+      let steps : steps_round n p q ≡ n - p + q = ap (λ b. cond b (n - p + q) (q - p)) (lt-ltb q p less) in (
+        omega arith,
+        ap (λ k. (p + k) % n) steps ∙ round_past n p (n - p + q) (omega arith) in_p (omega arith)
+            ∙ (let end : p + (n - p + q) - n ≡ q = omega arith in end),
+      )
   | inr more ↦
       let steps : steps_round n p q ≡ q - p = ap (λ b. cond b (n - p + q) (q - p)) (le-ltb q p more) in
       (omega arith, ap (λ k. (p + k) % n) steps ∙ round_below n p (q - p) (omega arith) ∙ (let end : p + (q - p) ≡ q = omega arith in end))
@@ -40,11 +43,17 @@ there n p q in_p in_q = elim (cases_lt q p) [
 back : (n p k : ℕ) → p < n → k < n → ((p + k) % n < n) × (steps_round n p ((p + k) % n) ≡ k)
 back n p k in_p in_k = elim (cases_lt (p + k) n) [
   | inl less ↦
-      let is = round_below n p k less in
-      (omega arith, ap (steps_round n p) is ∙ ap (λ b. cond b (n - p + (p + k)) (p + k - p)) (le-ltb (p + k) p (omega arith)) ∙ (let end : p + k - p ≡ k = omega arith in end))
+      let is = round_below n p k less in (
+        omega arith,
+        ap (steps_round n p) is ∙ ap (λ b. cond b (n - p + (p + k)) (p + k - p)) (le-ltb (p + k) p (omega arith))
+            ∙ (let end : p + k - p ≡ k = omega arith in end),
+      )
   | inr past ↦
-      let is = round_past n p k past in_p in_k in
-      (omega arith, ap (steps_round n p) is ∙ ap (λ b. cond b (n - p + (p + k - n)) (p + k - n - p)) (lt-ltb (p + k - n) p (omega arith)) ∙ (let end : n - p + (p + k - n) ≡ k = omega arith in end))
+      let is = round_past n p k past in_p in_k in (
+        omega arith,
+        ap (steps_round n p) is ∙ ap (λ b. cond b (n - p + (p + k - n)) (p + k - n - p)) (lt-ltb (p + k - n) p (omega arith))
+            ∙ (let end : n - p + (p + k - n) ≡ k = omega arith in end),
+      )
 ]
 
 module _ (set : Setting) (e : ℕ) (u : Package) (cs : Contexts Context) (h : IsStanding set e u cs) (s : SpaceNo) (r : Readings) (k : Holds s r u cs)

@@ -85,7 +85,8 @@ module _ (set : Setting) (e : ℕ) (u : Package) (cs : Contexts Context) (h : Is
 
   pub listed_kept : place_at u.shared t ≡ kept.Ready
   listed_kept =
-      ready_is (place_at u.shared t) (one_is (is_ready (place_at u.shared t)) (let agrees = h.places t in let one = once_there in let is = agrees.ready in omega arith))
+      ready_is (place_at u.shared t)
+      (one_is (is_ready (place_at u.shared t)) (let agrees = h.places t in let one = once_there in let is = agrees.ready in omega arith))
 
   pub listed_place : (thread_at r.state s (thread t)).place ≡ place.Ready
   listed_place = subst (λ p. SitsIn p (thread_at r.state s (thread t)).place) listed_kept (k.space.threads (thread t) listed_made).place
@@ -114,7 +115,8 @@ takes_own r true none = refl
 takes_own r false none = ap (λ (ranks : List ℕ). nat_lt 0 (length ranks)) none
 
 chosen_if : (u : Package) (own : Bool) (l t : ℕ) → chosen u.shared.state.lists own l ≡ Some t
-    → (if own then slice_get (list_of u.shared.state.lists l) 0 else slice_get (list_of u.shared.state.lists l) (length (list_of u.shared.state.lists l) - 1)) ≡ Some t
+    → (if own then slice_get (list_of u.shared.state.lists l) 0 else slice_get (list_of u.shared.state.lists l)
+    (length (list_of u.shared.state.lists l) - 1)) ≡ Some t
 chosen_if u true l t e = e
 chosen_if u false l t e = e
 
@@ -231,7 +233,8 @@ module _ (set : Setting) (e : ℕ) (u : Package) (cs : Contexts Context) (h : Is
     stopped = λ n some. kept_there n (λ same. absurd (
         let hand = stopped_has u.shared.works c n.0 some in
         let none = subst (λ x. threads_of u.shared.works x t ≡ 0) is (listed_alone set e u cs h s r k t listed a.0) in
-        let at_t : 1 ≤ threads_of u.shared.works (Some c) t = subst (λ m. 1 ≤ threads_of u.shared.works (Some c) m) same hand in omega arith)) ∙ l.stopped n some;
+        let at_t : 1 ≤ threads_of u.shared.works (Some c) t = subst (λ m. 1 ≤ threads_of u.shared.works (Some c) m) same hand in
+        omega arith)) ∙ l.stopped n some;
     named = λ not_running. absurd (let yes : is_running (stage_of r s a life) ≡ true = ap is_running stage in cc);
   } where
     none_if : (b : Bool) → count_if b 0 ≡ 0
@@ -241,25 +244,33 @@ module _ (set : Setting) (e : ℕ) (u : Package) (cs : Contexts Context) (h : Is
   -- the lists
   room : (list_in f).0 < length u.shared.state.lists.lists
   room =
-      own_inside set e u cs h a.0 c is (list_in f).0 (let all = section_locks c f kk refl copy (list_in f).0 in let one = one_same (list_in f).0 (list_in f).0 refl in omega arith)
+      own_inside set e u cs h a.0 c is (list_in f).0
+      (let all = section_locks c f kk refl copy (list_in f).0 in let one = one_same (list_in f).0 (list_in f).0 refl in omega arith)
 
   once_in : (m : ℕ) → count_in t (list_of u.shared.state.lists m) ≤ 1
   once_in m = let all = count_at t u.shared.state.lists.lists m in let one = lists_once in omega arith
 
-  -- in the history it stands in no list any more
+  -- in the history it is in no list any more
   pub run-listed : ready_of q s ≡ filter (is_other_thread (thread t)) (ready_of r s)
   run-listed = get_or-set_same r.ready s.0 (filter (is_other_thread (thread t)) (ready_of r s)) [] named
 
   numbers_now : FitsLists u (ready_of r s) → (m : ProcNo) → numbers_in (ready_of q s) m ≡ reverse (list_of made.state.lists m.0)
   numbers_now lists m =
-      ap (λ ls. numbers_in ls m) run-listed ∙ numbers-without (thread t) (ready_of r s) m ∙ ap (without t) (lists.numbers m) ∙ elim (cases_eq (list_in f).0 m.0) [
+      ap (λ ls. numbers_in ls m) run-listed ∙ numbers-without (thread t) (ready_of r s) m ∙ ap (without t) (lists.numbers m)
+      ∙ elim (cases_eq (list_in f).0 m.0) [
         | inl same ↦
             ap (λ n. without t (reverse (list_of u.shared.state.lists n))) (sym same)
             ∙ without_is u (takes_first u.shared.state.lists f.own) (list_in f).0 t (once_in (list_in f).0) takes
-            ∙ ap reverse (sym (ap (list_of made.state.lists) (sym same) ∙ list_of-with_list_same u.shared.state.lists (list_in f).0 (without_chosen u.shared.state.lists (takes_first u.shared.state.lists f.own) (list_in f).0) room))
+            ∙ ap reverse
+            (sym (ap (list_of made.state.lists) (sym same)
+            ∙ list_of-with_list_same u.shared.state.lists (list_in f).0
+            (without_chosen u.shared.state.lists (takes_first u.shared.state.lists f.own) (list_in f).0) room))
         | inr ne ↦
-            without_lacked t (reverse (list_of u.shared.state.lists m.0)) (let all = count-reverse t (list_of u.shared.state.lists m.0) in let none = elsewhere m.0 (λ z. ne (sym z)) in omega arith)
-            ∙ ap reverse (sym (list_of-with_list_other u.shared.state.lists (list_in f).0 m.0 (without_chosen u.shared.state.lists (takes_first u.shared.state.lists f.own) (list_in f).0) (λ z. ne (sym z))))
+            without_lacked t (reverse (list_of u.shared.state.lists m.0))
+            (let all = count-reverse t (list_of u.shared.state.lists m.0) in let none = elsewhere m.0 (λ z. ne (sym z)) in omega arith)
+            ∙ ap reverse
+            (sym (list_of-with_list_other u.shared.state.lists (list_in f).0 m.0
+            (without_chosen u.shared.state.lists (takes_first u.shared.state.lists f.own) (list_in f).0) (λ z. ne (sym z))))
       ] where
         elsewhere : (m : ℕ) → m ≢ (list_in f).0 → count_in t (list_of u.shared.state.lists m) ≡ 0
         elsewhere m ne =
@@ -268,7 +279,12 @@ module _ (set : Setting) (e : ℕ) (u : Package) (cs : Contexts Context) (h : Is
 
   pub run-lists : FitsLists u (ready_of r s) → FitsLists v (ready_of q s)
   run-lists lists =
-      record { many = length-set u.shared.state.lists.lists (list_in f).0 (without_chosen u.shared.state.lists (takes_first u.shared.state.lists f.own) (list_in f).0) ∙ lists.many; ranks = lists.ranks; numbers = numbers_now lists }
+      record {
+        many = length-set u.shared.state.lists.lists (list_in f).0
+            (without_chosen u.shared.state.lists (takes_first u.shared.state.lists f.own) (list_in f).0) ∙ lists.many;
+        ranks = lists.ranks;
+        numbers = numbers_now lists;
+      }
 
   lives_now : q.lives ≡ put r.lives a.0 (Some after)
   lives_now = life-changed (with_first (ran (thread t))) r p a life runs there
@@ -295,7 +311,8 @@ module _ (set : Setting) (e : ℕ) (u : Package) (cs : Contexts Context) (h : Is
   pub run-held : IsHeld s r q u v a c new
   run-held = record {
     space = subst (FitsSpace made) (sym state_is)
-        (fits-placed (record u.shared { state = (popped u.shared.state f true (list_in f) (Some t)).state }) (space_at r.state s) (thread t) kept.Running (place.Running p)
+        (fits-placed (record u.shared { state = (popped u.shared.state f true (list_in f) (Some t)).state }) (space_at r.state s) (thread t) kept.Running
+        (place.Running p)
         (listed_made set e u cs h s r k t listed) below tt (record { made = k.space.made; threads = k.space.threads; sync = k.space.sync }));
     load = load_now;
     was = life;
@@ -335,5 +352,6 @@ module _ (set : Setting) (e : ℕ) (u : Package) (cs : Contexts Context) (h : Is
   run-next lists =
       subst (λ o. TakesNext r o s (thread t)) (sym (ap (life_if r) runs ∙ there))
       (subst (λ o. WithFirst o (λ x. next_thread r s x ≡ Some (thread t))) (sym first)
-      (next_chosen f.own (listed_in r s (list_in f)) (list_of u.shared.state.lists (list_in f).0) t (lists.numbers (list_in f)) (chosen_if u f.own (list_in f).0 t
+      (next_chosen f.own (listed_in r s (list_in f)) (list_of u.shared.state.lists (list_in f).0) t (lists.numbers (list_in f))
+      (chosen_if u f.own (list_in f).0 t
       (ap (λ b. chosen u.shared.state.lists b (list_in f).0) (sym (takes_own u.shared.state.lists f.own lists.ranks)) ∙ takes))))

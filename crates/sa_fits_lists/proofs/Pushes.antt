@@ -115,14 +115,19 @@ module _ (set : Setting) (e : ℕ) (u : Package) (cs : Contexts Context) (h : Is
   locks_used : change_first readied life.locks ≡ locks_had (view new)
   locks_used =
       ap (change_first readied) locks_are
-      ∙ push_at (λ i j. change_first readied (locks_from (nat_le 8 i) (Some (record f { pc = j })) fs) ≡ locks_from (nat_le 8 (i + 1)) (at_copy (record f { pc = i + 1; pushed = None }) (copy_at (i + 1))) fs)
+      ∙ push_at
+      (λ i j. change_first readied (locks_from (nat_le 8 i) (Some (record f { pc = j })) fs) ≡ locks_from (nat_le 8 (i + 1))
+      (at_copy (record f { pc = i + 1; pushed = None }) (copy_at (i + 1))) fs)
       refl refl f.pc kk copy op
 
   hand : HasHand made.works (view new) (is_gone (stage_of r s a life)) (made_ready t life).hand
   hand = record {
     all = λ n some. elim (cases_eq n t.0) [
       | inl same ↦
-          absurd (let less = beside_less t.0 in let one = one_same t.0 t.0 refl in let at_t : 1 ≤ beside u.shared.works (view new) t.0 = subst (λ m. 1 ≤ beside u.shared.works (view new) m) same some in let most = once in omega arith)
+          absurd
+          (let less = beside_less t.0 in let one = one_same t.0 t.0 refl in
+          let at_t : 1 ≤ beside u.shared.works (view new) t.0 = subst (λ m. 1 ≤ beside u.shared.works (view new) m) same some in let most = once in
+          omega arith)
       | inr ne ↦
           let was = l.hand.all n (let less = beside_less n in omega arith) in
           let stays = held-others t life.hand n ne in omega arith
@@ -139,7 +144,8 @@ module _ (set : Setting) (e : ℕ) (u : Package) (cs : Contexts Context) (h : Is
           let was = l.hand.only n (let stays = held-others t life.hand n ne in omega arith) in
           let other = one_other t.0 n (λ x. ne (sym x)) in
           let less = beside_less n in
-          let carries : count_if (is_gone (stage_of r s a life) || nat_le 8 (f.pc + 1)) (carried (view c) n) ≡ count_if (is_gone (stage_of r s a life) || nat_le 8 f.pc) (carried (view c) n) =
+          let carries : count_if (is_gone (stage_of r s a life) || nat_le 8 (f.pc + 1)) (carried (view c) n) ≡ count_if
+          (is_gone (stage_of r s a life) || nat_le 8 f.pc) (carried (view c) n) =
           ap (λ b. count_if (is_gone (stage_of r s a life) || b) (carried (view c) n)) copies_same in
           omega arith
     ];
@@ -194,13 +200,15 @@ module _ (set : Setting) (e : ℕ) (u : Package) (cs : Contexts Context) (h : Is
 
   room : (list_in f).0 < length u.shared.state.lists.lists
   room =
-      own_inside set e u cs h a.0 c is (list_in f).0 (let all = section_locks c f kk refl copy (list_in f).0 in let one = one_same (list_in f).0 (list_in f).0 refl in omega arith)
+      own_inside set e u cs h a.0 c is (list_in f).0
+      (let all = section_locks c f kk refl copy (list_in f).0 in let one = one_same (list_in f).0 (list_in f).0 refl in omega arith)
 
   -- it is the newest of its list in the history
   pub ready-listed : ready_of q s ≡ ready_of r s ++ record { thread = t; list = list_in f } ∷ []
   ready-listed =
       get_or-set_same r.ready s.0 (ready_of r s ++ record { thread = t; list = first_list (life_on r p) p } ∷ []) [] named
-      ∙ ap (λ x. ready_of r s ++ record { thread = t; list = x } ∷ []) (ap (λ o. first_list (life_if r o) p) runs ∙ ap (λ o. first_list o p) there ∙ list_locked locks_are)
+      ∙ ap (λ x. ready_of r s ++ record { thread = t; list = x } ∷ [])
+      (ap (λ o. first_list (life_if r o) p) runs ∙ ap (λ o. first_list o p) there ∙ list_locked locks_are)
 
   -- where there is one rank it is so in the package
   numbers_now : FitsLists u (ready_of r s) → (m : ProcNo) → numbers_in (ready_of q s) m ≡ reverse (list_of made.state.lists m.0)
@@ -211,13 +219,16 @@ module _ (set : Setting) (e : ℕ) (u : Package) (cs : Contexts Context) (h : Is
             ap (λ ns. numbers_in (ready_of r s) m ++ ns) (numbers-here x m same)
             ∙ ap (λ ns. ns ++ t.0 ∷ []) (lists.numbers m) ∙ sym (reverse-cons t.0 (list_of u.shared.state.lists m.0))
             ∙ ap reverse (sym (ap (λ n. list_of (ready.pushed u.shared.state.lists (list_in f).0 t.0) n) (sym same)
-            ∙ list_of-with_list_same u.shared.state.lists (list_in f).0 (inserted u.shared.state.lists.ranks t.0 (list_of u.shared.state.lists (list_in f).0)) room
+            ∙ list_of-with_list_same u.shared.state.lists (list_in f).0
+            (inserted u.shared.state.lists.ranks t.0 (list_of u.shared.state.lists (list_in f).0)) room
             ∙ ap (λ rs. inserted rs t.0 (list_of u.shared.state.lists (list_in f).0)) lists.ranks
             ∙ inserted_front t.0 (list_of u.shared.state.lists (list_in f).0)
             ∙ ap (λ n. t.0 ∷ list_of u.shared.state.lists n) same))
         | inr ne ↦
             ap (λ ns. numbers_in (ready_of r s) m ++ ns) (numbers-there x m ne) ∙ append-nil (numbers_in (ready_of r s) m) ∙ lists.numbers m
-            ∙ ap reverse (sym (list_of-with_list_other u.shared.state.lists (list_in f).0 m.0 (inserted u.shared.state.lists.ranks t.0 (list_of u.shared.state.lists (list_in f).0)) (λ z. ne (sym z))))
+            ∙ ap reverse
+            (sym (list_of-with_list_other u.shared.state.lists (list_in f).0 m.0
+            (inserted u.shared.state.lists.ranks t.0 (list_of u.shared.state.lists (list_in f).0)) (λ z. ne (sym z))))
       ]
 
   pub ready-lists : FitsLists u (ready_of r s) → FitsLists v (ready_of q s)
@@ -256,8 +267,14 @@ module _ (set : Setting) (e : ℕ) (u : Package) (cs : Contexts Context) (h : Is
     untold = refl;
     running = refl;
     mine = mine_now;
-    places = λ n rest none. place_there n (λ same. absurd (let all = split u.shared.works c t.0 in let some = has in let at_t : threads_of u.shared.works (Some c) t.0 ≡ 0 = subst (λ m. threads_of u.shared.works (Some c) m ≡ 0) same none in omega arith));
-    kept = λ n rest none. kept_there n (λ same. absurd (let all = split u.shared.works c t.0 in let some = has in let at_t : threads_of u.shared.works (Some c) t.0 ≡ 0 = subst (λ m. threads_of u.shared.works (Some c) m ≡ 0) same none in omega arith));
+    places =
+        λ n rest none. place_there n
+        (λ same. absurd (let all = split u.shared.works c t.0 in let some = has in
+        let at_t : threads_of u.shared.works (Some c) t.0 ≡ 0 = subst (λ m. threads_of u.shared.works (Some c) m ≡ 0) same none in omega arith));
+    kept =
+        λ n rest none. kept_there n
+        (λ same. absurd (let all = split u.shared.works c t.0 in let some = has in
+        let at_t : threads_of u.shared.works (Some c) t.0 ≡ 0 = subst (λ m. threads_of u.shared.works (Some c) m ≡ 0) same none in omega arith));
     works = λ n none some. refl;
   }
 

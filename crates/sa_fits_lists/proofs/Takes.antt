@@ -47,7 +47,9 @@ pub hand_none : (x : SpaceState) (works : List (List ℕ)) (c : Context) (gone :
     → ((n : ℕ) → beside works (view c) n ≡ 0) → ((n : ℕ) → carried (view c) n ≡ 0) → list_any (counts x) hand ≡ false
 hand_none x works c gone hand h none bare = counts_none x hand (λ t some. absurd (
     let has = h.only t.0 some in let no = none t.0 in
-    let zero_is : count_if (gone || in_copy c.state) (carried (view c) t.0) ≡ 0 = ap (count_if (gone || in_copy c.state)) (bare t.0) ∙ none_if (gone || in_copy c.state) in omega arith)) where
+    let zero_is : count_if (gone || in_copy c.state) (carried (view c) t.0) ≡ 0 =
+    ap (count_if (gone || in_copy c.state)) (bare t.0) ∙ none_if (gone || in_copy c.state) in
+    omega arith)) where
       none_if : (b : Bool) → count_if b 0 ≡ 0
       none_if true = refl
       none_if false = refl

@@ -1,4 +1,4 @@
--- A running life blocks, behind what its step did: the package puts its thread to the place Blocked.
+-- A running life blocks, after what its step did: the package puts its thread to the place Blocked.
 use Rattle.std.proofs.Common.{◌≡◌, ◌≢◌, ℕ, ◌+◌, ◌≤◌, ◌<◌, false, ◌||◌, [], ◌∷◌, ◌++◌, length, sum_by, Contains, Option, Some, None, option_map, refl, sym, ap, ◌∙◌, subst, arith}
 use Rattle.std.specs.Prelude.{if◌then◌else◌}
 use Rattle.std.proofs.lemmas.Bool.{eq-eqb}
@@ -120,8 +120,12 @@ module _ (set : Setting) (e : ℕ) (u : Package) (cs : Contexts Context) (h : Is
             ∙ ap (λ (x : Thread). x.place) (thread-there y m n moved (λ same. absurd (let one = one_same m.0 n.0 (sym same) in omega arith)));
         kept_here = λ n e. ap (λ (j : ThreadNo). place_at (placed u.shared (Some m) fast.Blocked) j.0) (sym (same_Some m n e))
             ∙ ap (λ (x : BlockOf). x.place) (block-here u.shared m fast.Blocked below);
-        kept_there = λ n none. ap (λ (x : BlockOf). x.place) (block-there u.shared m fast.Blocked n.0 (λ same. absurd (let one = one_same m.0 n.0 (sym same) in omega arith)));
-        space = subst (FitsSpace (placed u.shared (Some m) fast.Blocked)) (sym state_is) (fits-placed u.shared y m fast.Blocked place.Blocked made below tt k.space);
+        kept_there =
+            λ n none. ap (λ (x : BlockOf). x.place)
+            (block-there u.shared m fast.Blocked n.0 (λ same. absurd (let one = one_same m.0 n.0 (sym same) in omega arith)));
+        space =
+            subst (FitsSpace (placed u.shared (Some m) fast.Blocked)) (sym state_is)
+            (fits-placed u.shared y m fast.Blocked place.Blocked made below tt k.space);
         load =
             let active = active-with y m moved inside in
             let loads = loaded-placed u.shared m fast.Blocked below in
@@ -142,7 +146,8 @@ module _ (set : Setting) (e : ℕ) (u : Package) (cs : Contexts Context) (h : Is
       ap (λ ms. stage_by (list_any (same_note (Preempted a)) ms) (list_any (same_note (Unblocked a)) ms) (is_act a (running_of q life.proc))) untold_is
       ∙ ap (λ b. stage_by b (list_any (same_note (Unblocked a)) (untold_of r s ++ Blocked a ∷ [])) (is_act a (running_of q life.proc)))
       (any-append (same_note (Preempted a)) (untold_of r s) (Blocked a) ∙ ap (λ b. b || false) untold_none.0)
-      ∙ ap (λ b. stage_by false b (is_act a (running_of q life.proc))) (any-append (same_note (Unblocked a)) (untold_of r s) (Blocked a) ∙ ap (λ b. b || false) untold_none.1)
+      ∙ ap (λ b. stage_by false b (is_act a (running_of q life.proc)))
+      (any-append (same_note (Unblocked a)) (untold_of r s) (Blocked a) ∙ ap (λ b. b || false) untold_none.1)
       ∙ ap (λ y. stage_by false false (is_act a (running_of q y))) proc ∙ ap (λ o. stage_by false false (is_act a o)) running_p
 
   pub block-stays : is_gone (stage_of q s a after) ≡ false
@@ -158,7 +163,8 @@ module _ (set : Setting) (e : ℕ) (u : Package) (cs : Contexts Context) (h : Is
       own = λ gone n some. absurd (let no_gone : is_gone (stage_of q s a after) ≡ false = ap is_gone stage_a in cc);
       only = λ n some.
           let was = l.hand.only n some in
-          let same : count_if (is_gone (stage_of q s a after) || in_copy c.state) (carried (view c) n) ≡ count_if (is_gone (stage_of r s a life) || in_copy c.state) (carried (view c) n) =
+          let same : count_if (is_gone (stage_of q s a after) || in_copy c.state) (carried (view c) n) ≡ count_if
+          (is_gone (stage_of r s a life) || in_copy c.state) (carried (view c) n) =
           ap (λ g. count_if (is_gone g || in_copy c.state) (carried (view c) n)) stage_a
           ∙ sym (ap (λ g. count_if (is_gone g || in_copy c.state) (carried (view c) n)) stage) in omega arith;
     };

@@ -71,7 +71,9 @@ record IsOver (x y : List Block) (t : Option ThreadNo) : Type 0 where
 
 over-once : (x : Shared) (t : ThreadNo) → t.0 < length x.threads → IsOver x.threads (placed x (Some t) fast.Carried).threads (Some t)
 over-once x t inside = record {
-  here = λ n at. subst (λ m. block_at (placed x (Some t) fast.Carried).threads m.0 ≡ moved_to (block_at x.threads m.0) fast.Carried) (same_Some t n at) (block-here x t fast.Carried inside);
+  here =
+      λ n at. subst (λ m. block_at (placed x (Some t) fast.Carried).threads m.0 ≡ moved_to (block_at x.threads m.0) fast.Carried) (same_Some t n at)
+      (block-here x t fast.Carried inside);
   there = λ n other. block-there x t fast.Carried n (other t refl);
   load = let all = loaded-placed x t fast.Carried inside in omega arith;
 }
@@ -97,7 +99,8 @@ over x None (Some t) inside =
     }
 
 module _ (set : Setting) (e : ℕ) (u : Package) (cs : Contexts Context) (h : IsStanding set e u cs) (s : SpaceNo) (r : Readings) (k : Holds s r u cs)
-    (a b : ActNo) (ss : List Frame) (wk : Option ThreadNo) (d : Context) (is : cs a.0 ≡ Some (record { state = Work None; sections = ss; work = wk })) (theirs : cs b.0 ≡ Some d) (differ : b.0 ≢ a.0)
+    (a b : ActNo) (ss : List Frame) (wk : Option ThreadNo) (d : Context) (is : cs a.0 ≡ Some (record { state = Work None; sections = ss; work = wk }))
+    (theirs : cs b.0 ≡ Some d) (differ : b.0 ≢ a.0)
     (w : WorkloadView) (number : ℕ) (p : ProcNo) (mine from : Life) (here : life_of r a ≡ Some mine) (there : life_of r b ≡ Some from)
     (upped : r.upped ≡ Some a)
     (stage_a : stage_of r s a mine ≡ Runs) (kind : Bool) (told : Contains (untold_of r s) (note_of kind b)) where
@@ -151,14 +154,16 @@ module _ (set : Setting) (e : ℕ) (u : Package) (cs : Contexts Context) (h : Is
       × (one_where (is_loaded (kept_of (stage_of r s b from))) ≡ (if kd then 1 else 0))
   gone true same =
       let here : list_any (same_note (Preempted b)) (untold_of r s) ≡ true =
-      any-contained (same_note (Preempted b)) (Preempted b) (untold_of r s) (subst (λ z. Contains (untold_of r s) (note_of z b)) (sym same) told) (same-self true b) in
+      any-contained (same_note (Preempted b)) (Preempted b) (untold_of r s) (subst (λ z. Contains (untold_of r s) (note_of z b)) (sym same) told)
+      (same-self true b) in
       let is_stopped : stage_of r s b from ≡ Stopped =
       ap (λ x. stage_by x (list_any (same_note (Unblocked b)) (untold_of r s)) (is_act b (running_of r from.proc))) here in
       ((ap is_gone is_stopped, ap is_running is_stopped), ap (λ g. place_of g from.proc) is_stopped, ap (λ g. one_where (is_loaded (kept_of g))) is_stopped)
   gone false same =
       let none = back-alone kind b (untold_of r s) told (k.single b) (sym same) in
       let here : list_any (same_note (Unblocked b)) (untold_of r s) ≡ true =
-      any-contained (same_note (Unblocked b)) (Unblocked b) (untold_of r s) (subst (λ z. Contains (untold_of r s) (note_of z b)) (sym same) told) (same-self false b) in
+      any-contained (same_note (Unblocked b)) (Unblocked b) (untold_of r s) (subst (λ z. Contains (untold_of r s) (note_of z b)) (sym same) told)
+      (same-self false b) in
       let is_back : stage_of r s b from ≡ Returned =
       ap (λ x. stage_by x (list_any (same_note (Unblocked b)) (untold_of r s)) (is_act b (running_of r from.proc))) none
       ∙ ap (λ x. stage_by false x (is_act b (running_of r from.proc))) here in
@@ -172,7 +177,9 @@ module _ (set : Setting) (e : ℕ) (u : Package) (cs : Contexts Context) (h : Is
 
   kept_there : (n : ThreadNo) → carried (view d) n.0 ≡ 0 → place_at v.shared n.0 ≡ place_at u.shared n.0
   kept_there n none =
-      ap (λ (x : Block). x.place) (moved.there n.0 (λ m at same. absurd (let one = carried_one d m at in let at_m : carried (view d) m.0 ≡ 0 = subst (λ x. carried (view d) x ≡ 0) same none in omega arith)))
+      ap (λ (x : Block). x.place)
+      (moved.there n.0 (λ m at same. absurd
+      (let one = carried_one d m at in let at_m : carried (view d) m.0 ≡ 0 = subst (λ x. carried (view d) x ≡ 0) same none in omega arith)))
 
   kept_here : (n : ThreadNo) → 1 ≤ carried (view d) n.0 → place_at v.shared n.0 ≡ fast.Carried
   kept_here n some = by (carried_by d.state) refl where
@@ -189,7 +196,10 @@ module _ (set : Setting) (e : ℕ) (u : Package) (cs : Contexts Context) (h : Is
     made = k.space.made;
     threads = λ n less. elim (cases_lt (carried (view d) n.0) 1) [
       | inl none ↦
-          subst (λ x. FitsThread x (thread_in (space_at r.state s) n)) (sym (moved.there n.0 (λ m at same. absurd (let one = carried_one d m at in let at_m : carried (view d) m.0 < 1 = subst (λ x. carried (view d) x < 1) same none in omega arith)))) (k.space.threads n less)
+          subst (λ x. FitsThread x (thread_in (space_at r.state s) n))
+          (sym (moved.there n.0
+          (λ m at same. absurd (let one = carried_one d m at in let at_m : carried (view d) m.0 < 1 = subst (λ x. carried (view d) x < 1) same none in
+          omega arith)))) (k.space.threads n less)
       | inr some ↦ by n less some (carried_by d.state) refl
     ];
     sync = k.space.sync;
@@ -201,7 +211,8 @@ module _ (set : Setting) (e : ℕ) (u : Package) (cs : Contexts Context) (h : Is
       | inl same ↦
           let is_m : m ≡ n = ap (λ j. record { 0 = j }) same in
           subst (λ x. FitsThread x (thread_in (space_at r.state s) n)) (sym (moved.here n (at ∙ ap Some is_m)))
-          (let was = k.space.threads n less in record { program = was.program; pc = was.pc; regs = was.regs; place = lb.place n (at ∙ ap Some is_m) ∙ (gone kind refl).1 })
+          (let was = k.space.threads n less in
+          record { program = was.program; pc = was.pc; regs = was.regs; place = lb.place n (at ∙ ap Some is_m) ∙ (gone kind refl).1 })
       | inr ne ↦ absurd (let none : carried (view d) n.0 ≡ 0 = ap (λ o. one_of o n.0) at ∙ one_other m.0 n.0 ne in omega arith)
     ]
 
@@ -210,7 +221,8 @@ module _ (set : Setting) (e : ℕ) (u : Package) (cs : Contexts Context) (h : Is
   lives_are =
       is_told.lives ∙ ap (λ o. handed o b (life_of r b) r.lives) upped ∙ ap (λ o. handed (Some a) b o r.lives) there
       ∙ ap (λ o. let ls = put r.lives b.0 (option_map bereft o) in put ls a.0 (option_map (inherits from) (ls a.0))) there
-      ∙ ap (λ o. put (put r.lives b.0 (Some (bereft from))) a.0 (option_map (inherits from) o)) (put-other r.lives b.0 a.0 (Some (bereft from)) (λ x. differ (sym x)) ∙ here)
+      ∙ ap (λ o. put (put r.lives b.0 (Some (bereft from))) a.0 (option_map (inherits from) o))
+      (put-other r.lives b.0 a.0 (Some (bereft from)) (λ x. differ (sym x)) ∙ here)
 
   pub live_a : q.lives a.0 ≡ Some (inherits from mine)
   live_a = ap (λ (f : ℕ → Option Life). f a.0) lives_are ∙ put-same (put r.lives b.0 (Some (bereft from))) a.0 (Some (inherits from mine))
@@ -256,7 +268,8 @@ module _ (set : Setting) (e : ℕ) (u : Package) (cs : Contexts Context) (h : Is
   load_now =
       let ns = untold_of r s in
       let drop =
-      sum-without (tells (note_of kind b)) (untold_thread r) (untold_thread r (note_of kind b)) ns (told_value kind refl) (told-once kind b ns told (k.single b)) in
+      sum-without (tells (note_of kind b)) (untold_thread r) (untold_thread r (note_of kind b)) ns (told_value kind refl)
+      (told-once kind b ns told (k.single b)) in
       let left : sum_by (untold_thread q) (untold_of q s) ≡ sum_by (untold_thread r) (filter (is_other_note (note_of kind b)) ns) =
       ap (sum_by (untold_thread q)) is_told.untold ∙ sum_same r q same_threads (filter (is_other_note (note_of kind b)) ns) in
       let active : active_threads (space_at q.state s) ≡ active_threads (space_at r.state s) =
@@ -327,9 +340,12 @@ module _ (set : Setting) (e : ℕ) (u : Package) (cs : Contexts Context) (h : Is
   stage_kept x y ne =
       let ns = untold_of r s in let other = is_other_note (note_of kind b) in
       ap (λ ms. stage_by (list_any (same_note (Preempted x)) ms) (list_any (same_note (Unblocked x)) ms) (is_act x (running_of q y))) is_told.untold
-      ∙ ap (λ z. stage_by z (list_any (same_note (Unblocked x)) (filter other ns)) (is_act x (running_of q y))) (any-filter (same_note (Preempted x)) other ns (other-passes kind b true x ne))
-      ∙ ap (λ z. stage_by (list_any (same_note (Preempted x)) ns) z (is_act x (running_of q y))) (any-filter (same_note (Unblocked x)) other ns (other-passes kind b false x ne))
-      ∙ ap (λ ps. stage_by (list_any (same_note (Preempted x)) ns) (list_any (same_note (Unblocked x)) ns) (is_act x (slice_index_or ps y.0 None))) is_told.running
+      ∙ ap (λ z. stage_by z (list_any (same_note (Unblocked x)) (filter other ns)) (is_act x (running_of q y)))
+      (any-filter (same_note (Preempted x)) other ns (other-passes kind b true x ne))
+      ∙ ap (λ z. stage_by (list_any (same_note (Preempted x)) ns) z (is_act x (running_of q y)))
+      (any-filter (same_note (Unblocked x)) other ns (other-passes kind b false x ne))
+      ∙ ap
+      (λ ps. stage_by (list_any (same_note (Preempted x)) ns) (list_any (same_note (Unblocked x)) ns) (is_act x (slice_index_or ps y.0 None))) is_told.running
 
   a_not_b : a.0 ≢ b.0
   a_not_b x = differ (sym x)
@@ -377,7 +393,8 @@ module _ (set : Setting) (e : ℕ) (u : Package) (cs : Contexts Context) (h : Is
   beside_other x y at na nb n =
       let same = other_hand set e u cs h v.shared.works x (Some y) at
       (λ l some. let has : 1 ≤ name_of (cs x) l = subst (λ z. 1 ≤ name_of z l) (sym at) some in
-      join.works l (ap (λ z. name_of z l) (sym is) ∙ name_none set e u cs h a.0 x l na has) (ap (λ z. name_of z l) (sym theirs) ∙ name_none set e u cs h b.0 x l nb has) (name_full set e u cs h x l has)) n in
+      join.works l (ap (λ z. name_of z l) (sym is) ∙ name_none set e u cs h a.0 x l na has)
+      (ap (λ z. name_of z l) (sym theirs) ∙ name_none set e u cs h b.0 x l nb has) (name_full set e u cs h x l has)) n in
       let one = split u.shared.works y n in let two = split v.shared.works y n in omega arith
 
   pub told-holds : Holds s q v ds
@@ -420,7 +437,9 @@ module _ (set : Setting) (e : ℕ) (u : Package) (cs : Contexts Context) (h : Is
       | inl stop ↦ noted_by x true stop
       | inr back ↦ noted_by x false back
     ];
-    single = λ x. subst (λ ms. count_by (is_of x) ms ≤ 1) (sym is_told.untold) (let less = count-without (tells (note_of kind b)) (is_of x) (untold_of r s) in let was = k.single x in omega arith);
+    single =
+        λ x. subst (λ ms. count_by (is_of x) ms ≤ 1) (sym is_told.untold)
+        (let less = count-without (tells (note_of kind b)) (is_of x) (untold_of r s) in let was = k.single x in omega arith);
     runs = λ y x life at its mine_it.
         let at_r : running_of r y ≡ Some x = sym (ap (λ ps. slice_index_or ps y.0 None) is_told.running) ∙ at in
         elim (cases_eq x.0 a.0) [
@@ -450,7 +469,8 @@ module _ (set : Setting) (e : ℕ) (u : Package) (cs : Contexts Context) (h : Is
         let nb : x.0 ≢ b.0 = λ e. (
         let act : x ≡ b = ap (λ j. record { 0 = j }) e in
         let some =
-        count-contained (is_of b) (note_of kd x) (filter (is_other_note (note_of kind b)) (untold_of r s)) left (ap (λ z. is_of b (note_of kd z)) act ∙ of-self kd b) in
+        count-contained (is_of b) (note_of kd x) (filter (is_other_note (note_of kind b)) (untold_of r s)) left
+        (ap (λ z. is_of b (note_of kd z)) act ∙ of-self kd b) in
         let none = told-none kind b (untold_of r s) told (k.single b) in omega arith) in
         still_some x.0 nb (k.noted x (by kd old.0)) where
           by : (z : Bool) → Contains (untold_of r s) (note_of z x) → Contains (untold_of r s) (Preempted x) ⊎ Contains (untold_of r s) (Unblocked x)

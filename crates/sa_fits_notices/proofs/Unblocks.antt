@@ -106,7 +106,8 @@ module _ (set : Setting) (e : ℕ) (u : Package) (cs : Contexts Context) (h : Is
       let ran : (thread_in y m).place ≡ place.Blocked = stands m at in
       let moved : Thread = record (thread_in y m) { place = place.Carried } in
       let all_same : (n : ThreadNo) → n.0 ≢ m.0 → thread_in (put_thread place.Carried y m) n ≡ thread_in y n = λ n ne. thread-there y m n moved ne in (
-        (λ n e. ap (λ x. (thread_in x n).place) state_is ∙ ap (λ j. (thread_in (put_thread place.Carried y m) j).place) (sym (same_Some m n e)) ∙ ap (λ (x : Thread). x.place) (thread-here y m moved inside)),
+        (λ n e. ap (λ x. (thread_in x n).place) state_is ∙ ap (λ j. (thread_in (put_thread place.Carried y m) j).place) (sym (same_Some m n e))
+            ∙ ap (λ (x : Thread). x.place) (thread-here y m moved inside)),
         (λ n none. ap (λ x. thread_in x n) state_is ∙ all_same n (λ same. absurd (let one = one_same m.0 n.0 (sym same) in omega arith))),
         subst (FitsSpace u.shared) (sym state_is) (record {
           made = length-set y.threads m.0 moved ∙ k.space.made;
@@ -115,7 +116,8 @@ module _ (set : Setting) (e : ℕ) (u : Package) (cs : Contexts Context) (h : Is
                 let act : n ≡ m = ap (λ j. record { 0 = j }) e in
                 subst (λ j. FitsThread (block_at u.shared.threads j.0) (thread_in (put_thread place.Carried y m) j)) (sym act)
                 (subst (FitsThread (block_at u.shared.threads m.0)) (sym (thread-here y m moved inside))
-                (let was = k.space.threads m made in record { program = was.program; pc = was.pc; regs = was.regs; place = subst (λ x. SitsIn x place.Carried) (sym kept) tt }))
+                (let was = k.space.threads m made in
+                record { program = was.program; pc = was.pc; regs = was.regs; place = subst (λ x. SitsIn x place.Carried) (sym kept) tt }))
             | inr ne ↦ subst (FitsThread (block_at u.shared.threads n.0)) (sym (all_same n ne)) (k.space.threads n less)
           ];
           sync = k.space.sync;
@@ -137,7 +139,9 @@ module _ (set : Setting) (e : ℕ) (u : Package) (cs : Contexts Context) (h : Is
       ∙ ap (λ b. stage_by b (list_any (same_note (Unblocked a)) (untold_of r s ++ Unblocked a ∷ [])) (is_act a (running_of q life.proc)))
       (any-append (same_note (Preempted a)) (untold_of r s) (Unblocked a) ∙ ap (λ b. b || false) no_notice)
       ∙ ap (λ b. stage_by false b (is_act a (running_of q life.proc)))
-      (any-append (same_note (Unblocked a)) (untold_of r s) (Unblocked a) ∙ ap (λ b. list_any (same_note (Unblocked a)) (untold_of r s) || b) (eq-eqb a.0 a.0 refl) ∙ or_some (list_any (same_note (Unblocked a)) (untold_of r s)))
+      (any-append (same_note (Unblocked a)) (untold_of r s) (Unblocked a)
+      ∙ ap (λ b. list_any (same_note (Unblocked a)) (untold_of r s) || b) (eq-eqb a.0 a.0 refl)
+      ∙ or_some (list_any (same_note (Unblocked a)) (untold_of r s)))
     where
       or_some : (b : Bool) → (b || true) ≡ true
       or_some true = refl

@@ -94,7 +94,7 @@ module _ (set : Setting) (e : ℕ) (u : Package) (cs : Contexts Context) (h : Is
   live_here : q.lives a.0 ≡ Some life
   live_here = ap (λ (f : ℕ → Option Life). f a.0) i.lives ∙ put-same r.lives a.0 (Some life)
 
-  -- other lives stand where they stood
+  -- other lives are where they were
   pub untold-stage : (x : ActNo) (y : ProcNo) → x.0 ≢ a.0 → stage_on q s x y ≡ stage_on r s x y
   untold-stage x y ne =
       let ns = untold_of r s in

@@ -64,13 +64,14 @@ module _ (s : SpaceNo) (r : Readings) (u : Package) (cs : Contexts Context) (k :
       ∙ ap (λ o. stage_by false false (is_act a o)) running_p ∙ ap (stage_by false false) (eq-eqb a.0 a.0 refl)
 
   pub stage_x : (x : ActNo) (y : ProcNo) → x.0 ≢ a.0 → stage_on q s x y ≡ stage_on r s x y
-  stage_x x y ne = ap (stage_by (list_any (same_note (Preempted x)) (untold_of r s)) (list_any (same_note (Unblocked x)) (untold_of r s))) (elim (cases_eq y.0 p.0) [
-    | inl e ↦
-        let one : y ≡ p = ap (λ j. record { 0 = j }) e in
-        ap (λ j. is_act x (running_of q j)) one ∙ ap (is_act x) running_p ∙ ne_eqb a.0 x.0 (λ z. ne (sym z))
-        ∙ sym (ap (λ j. is_act x (running_of r j)) one ∙ ap (is_act x) free)
-    | inr other ↦ ap (is_act x) (running_x y other)
-  ])
+  stage_x x y ne = ap (stage_by (list_any (same_note (Preempted x)) (untold_of r s)) (list_any (same_note (Unblocked x)) (untold_of r s)))
+      (elim (cases_eq y.0 p.0) [
+        | inl e ↦
+            let one : y ≡ p = ap (λ j. record { 0 = j }) e in
+            ap (λ j. is_act x (running_of q j)) one ∙ ap (is_act x) running_p ∙ ne_eqb a.0 x.0 (λ z. ne (sym z))
+            ∙ sym (ap (λ j. is_act x (running_of r j)) one ∙ ap (is_act x) free)
+        | inr other ↦ ap (is_act x) (running_x y other)
+      ])
 
   some_still : (x : ℕ) → IsSome (cs x) → IsSome (ds x)
   some_still x some = elim (cases_eq x a.0) [
@@ -137,7 +138,8 @@ module _ (s : SpaceNo) (r : Readings) (u : Package) (cs : Contexts Context) (k :
           ]
       | inr ne ↦ elim (cases_eq y.0 p.0) [
         | inl here ↦
-            absurd (let one : y ≡ p = ap (λ j. record { 0 = j }) here in ne (ap (λ (z : ActNo). z.0) (same_Some x a (sym at ∙ ap (running_of q) one ∙ running_p))))
+            absurd
+            (let one : y ≡ p = ap (λ j. record { 0 = j }) here in ne (ap (λ (z : ActNo). z.0) (same_Some x a (sym at ∙ ap (running_of q) one ∙ running_p))))
         | inr other ↦ let old =
             k.runs y x life (sym (running_x y other) ∙ at) (sym (live_x x.0 ne) ∙ its) mine in (some_still x.0 old.0, old.1, stage_x x life.proc ne ∙ old.2)
       ]

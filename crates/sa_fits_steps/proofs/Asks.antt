@@ -41,13 +41,14 @@ use Rattle.sa_fits_steps.proofs.Scenes.{IsScene, IsFastScene, runs-there}
 use Rattle.sa_fits_steps.proofs.Turns.{rules-of, any-ups}
 
 -- THE MOVE of a context that asks the kernel for a hint, or for the return of activations: the kernel writes x and then xs, and
--- the context goes on by what it sees behind them.
-pub record IsAsking (set : Setting) (e : ℕ) (u : Package) (cs : Contexts Context) (w : WorkloadView) (r : Readings) (p : ProcNo) (a : ActNo) (life : Life) (c : Context) (seen : Seen) (answer : Step) (x : Record) (xs : List Record) : Type 0 where
+-- the context goes on by what it sees after them.
+pub record IsAsking (set : Setting) (e : ℕ) (u : Package) (cs : Contexts Context) (w : WorkloadView) (r : Readings) (p : ProcNo) (a : ActNo) (life : Life)
+    (c : Context) (seen : Seen) (answer : Step) (x : Record) (xs : List Record) : Type 0 where
   pub records : records_asked r set.space answer ≡ x ∷ xs
   pub first : is_step x ≡ true
   pub no_up : list_any is_up (x ∷ xs) ≡ false
   pub back : is_back x ≡ back_is_due life
-  -- behind them its own life is what it was, and so are those of other contexts
+  -- after them its own life is what it was, and so are those of other contexts
   pub running : (after_records w seen.event p (begun_at w seen.event p r) (x ∷ xs)).running ≡ r.running
   pub ready : (after_records w seen.event p (begun_at w seen.event p r) (x ∷ xs)).ready ≡ r.ready
   pub untold : (after_records w seen.event p (begun_at w seen.event p r) (x ∷ xs)).untold ≡ r.untold
@@ -57,10 +58,11 @@ pub record IsAsking (set : Setting) (e : ℕ) (u : Package) (cs : Contexts Conte
   pub holds : (later : Seen)
       → Holds set.space (after_records w seen.event p (begun_at w seen.event p r) (x ∷ xs)) u (put cs a.0 (Some (answered u later c).1))
   pub marks : (ev : Event) (last : Readings) (later : Seen)
-      → IsBehind set e u (put cs a.0 (Some (answered u later c).1)) a (answered u later c).1 life later (after_records w seen.event p (begun_at w seen.event p r) (x ∷ xs)) last
+      → IsBehind set e u (put cs a.0 (Some (answered u later c).1)) a (answered u later c).1 life later
+      (after_records w seen.event p (begun_at w seen.event p r) (x ∷ xs)) last
       → IsMarked (view (answered u later c).1) (ends is_inside w r ev last x life)
 
--- what is known behind them and the closing
+-- what is known after them and the closing
 module _ (set : Setting) (e : ℕ) (u : Package) (cs : Contexts Context) (w : WorkloadView) (r : Readings) (p : ProcNo) (a : ActNo) (life : Life)
     (c : Context) (seen : Seen)
     (i : IsScene set e u cs w r p a life c seen) {answer : Step} {x : Record} {xs : List Record}
@@ -95,7 +97,9 @@ module _ (set : Setting) (e : ℕ) (u : Package) (cs : Contexts Context) (w : Wo
         holds = ask-holds;
         mine = mine;
         there = there;
-        carries = runs-there set e u ds stands r last i.moment ask-holds p a new life i.on.owner runs there i.on.space mine (λ z ne. ap (λ y. space_at y z) same.state ∙ m.elsewhere z);
+        carries =
+            runs-there set e u ds stands r last i.moment ask-holds p a new life i.on.owner runs there i.on.space mine
+            (λ z ne. ap (λ y. space_at y z) same.state ∙ m.elsewhere z);
         demand = sees.demand;
         taken = sees.taken;
         stage = (ask-holds.runs p a life runs there i.on.space).2;
@@ -120,14 +124,19 @@ module _ (set : Setting) (e : ℕ) (u : Package) (cs : Contexts Context) (w : Wo
     pub ask-legal : IsLegalAsk fast_calls fast_threads fast_fits w set r p seen.event a cs (asks (pair u c) answer)
     ask-legal = record {
       none = refl;
-      rules_hold = subst (λ own. (closing : List Record) → IsClosed own closing → RulesHold fast_threads w r (event_with seen.event p own closing) own) (sym m.records) (λ closing closed.
+      rules_hold =
+          subst (λ own. (closing : List Record) → IsClosed own closing → RulesHold fast_threads w r (event_with seen.event p own closing) own) (sym m.records)
+          (λ closing closed.
           let follows =
-          rules-of w r (event_with seen.event p (x ∷ xs) closing) a life x xs (xs ++ closing) i.scene.on.runs i.scene.on.is refl closed.is_own m.first t.table t.keeps m.back t.alone t.free (t.next (xs ++ closing)) in
+          rules-of w r (event_with seen.event p (x ∷ xs) closing) a life x xs
+          (xs ++ closing) i.scene.on.runs i.scene.on.is refl closed.is_own m.first t.table t.keeps m.back t.alone t.free (t.next (xs ++ closing)) in
           record { steps = follows.steps; demand = follows.demand; locks = follows.locks; order = follows.order });
       after = subst (λ own. (closing : List Record) (later : Seen) → IsClosed own closing
-          → AlikeButDemands (after_records w seen.event p (begun_at w seen.event p r) own) (after_records w seen.event p (begun_at w seen.event p r) (own ++ closing))
+          → AlikeButDemands (after_records w seen.event p (begun_at w seen.event p r) own)
+          (after_records w seen.event p (begun_at w seen.event p r) (own ++ closing))
           → Sees set.space (after_records w seen.event p (begun_at w seen.event p r) (own ++ closing)) p seen.event later
-          → fast_fits w set (after_event is_inside w r (event_with seen.event p own closing)) u (put (put cs a.0 (Some c)) a.0 (Some (answered u later c).1))) (sym m.records)
+          → fast_fits w set (after_event is_inside w r (event_with seen.event p own closing)) u (put (put cs a.0 (Some c)) a.0 (Some (answered u later c).1)))
+          (sym m.records)
           (λ closing later closed same sees.
           let ev = event_with seen.event p (x ∷ xs) closing in
           let last = after_records w seen.event p (begun_at w seen.event p r) ((x ∷ xs) ++ closing) in
@@ -137,7 +146,8 @@ module _ (set : Setting) (e : ℕ) (u : Package) (cs : Contexts Context) (w : Wo
           (ended-fits set.space r u cs a w ev i.scene.on.runs last
           (others-stay set.space r last a cs
           (λ y d ne at. ap (λ (f : ℕ → Option Life). f y.0) same.lives ∙ m.lives y d at)
-          (λ y l ne. stage-same set.space r last (ap (λ ls. slice_index_or ls set.space.0 []) (same.untold ∙ m.untold)) (same.running ∙ m.running) y l) i.others)
+          (λ y l ne. stage-same set.space r last (ap (λ ls. slice_index_or ls set.space.0 []) (same.untold ∙ m.untold))
+          (same.running ∙ m.running) y l) i.others)
           u new b.holds (subst (FitsLists u) (sym (ap (λ ls. slice_index_or ls set.space.0 []) (same.ready ∙ m.ready))) i.lists)
           life b.there x (xs ++ closing) refl m.first (any-ups (x ∷ xs) closing m.no_up (closing-ups closing closed.closes))
           (record {

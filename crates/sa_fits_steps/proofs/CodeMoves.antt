@@ -1,6 +1,7 @@
 -- The moves of a context in the code of the package: ready, run, free and back, each a whole event.
 use Rattle.std.proofs.Common.{◌≡◌, ℕ, ◌+◌, Bool, true, false, ◌||◌, ◌&&◌, List, [], ◌∷◌, map, Option, Some, None, is_some, is_none, slice_get, nat_le, refl, sym, ap, ◌∙◌, subst, arith}
 use Rattle.std.specs.Prelude.{nat_lt, min, length, ◌<◌}
+use Rattle.std.proofs.lemmas.Bool.{and_right}
 use Rattle.sa_base.specs.declared.context.Seen.{Seen}
 use Rattle.sa_base.specs.declared.limits.TheConstants.{PACKAGE_PAGE}
 use Rattle.sa_base.specs.declared.number.ActNo.{ActNo}
@@ -59,10 +60,6 @@ use Rattle.sa_fits_steps.proofs.Events.{inside-locked}
 use Rattle.sa_fits_steps.proofs.Moves.{IsBehind, IsMove}
 use Rattle.sa_fits_steps.proofs.Scenes.{IsScene, IsOwnMarked}
 use Rattle.sa_fits_steps.proofs.Scenes as scene
-
-pub and_none : (b : Bool) → (b && false) ≡ false
-and_none true = refl
-and_none false = refl
 
 -- a life in a copy is in
 pub inside-copy : (w : WorkloadView) (before : Readings) (ev : Event) (last : Readings) (settled : Bool) (life : Life) → life.cont ≡ true
@@ -154,14 +151,17 @@ module _ (set : Setting) (e : ℕ) (u : Package) (cs : Contexts Context) (w : Wo
   in-section : (x : Record) (g : Frame) (now : Life) (v : Package) (q : Readings) (ev : Event) (last : Readings) (k : ℕ) → copy_at g.pc ≡ Some k
       → is_free x ≡ false → nat_le 8 g.pc ≡ nat_le 8 f.pc
       → slice_get package_ops g.pc ≡ Some ops.Free → (ends is_inside w r ev last x now).scans ≡ 0
-      → IsBehind set seen.event v (put cs a.0 (Some (record { state = Code g; sections = fs; work = wk }))) a (record { state = Code g; sections = fs; work = wk }) now seen q last
+      → IsBehind set seen.event v (put cs a.0 (Some (record { state = Code g; sections = fs; work = wk }))) a
+      (record { state = Code g; sections = fs; work = wk }) now seen q last
       → IsMarked (view (record { state = Code g; sections = fs; work = wk })) (ends is_inside w r ev last x now)
   in-section x g now v q ev last k copy no_free same op scans b =
       let new : Context = record { state = Code g; sections = fs; work = wk } in
       let l = life-here set.space last v (put cs a.0 (Some new)) b.holds a new now b.mine b.there in
       record {
-        inside = inside-locked w r ev last _ now (lock_of (nat_le 8 g.pc) (record g { pc = k })) (map (lock_of true) fs) (l.locks ∙ ap (λ o. locks_from (nat_le 8 g.pc) (at_copy g o) fs) copy);
-        back = ap (λ b. now.cont && b) no_free ∙ and_none now.cont ∙ sym (ap is_yield_op op);
+        inside =
+            inside-locked w r ev last _ now (lock_of (nat_le 8 g.pc) (record g { pc = k })) (map (lock_of true) fs)
+            (l.locks ∙ ap (λ o. locks_from (nat_le 8 g.pc) (at_copy g o) fs) copy);
+        back = ap (λ b. now.cont && b) no_free ∙ and_right now.cont false refl ∙ sym (ap is_yield_op op);
         scans = ap (λ m. min m MAX_PATIENCE) scans;
         left = refl;
         lone = lone_next f g fs same mark.lone;
@@ -171,7 +171,8 @@ module _ (set : Setting) (e : ℕ) (u : Package) (cs : Contexts Context) (w : Wo
   at-end : (l : ProcNo) (t : Option ThreadNo) (g : Frame) (now : Life) (v : Package) (q : Readings) (ev : Event) (last : Readings)
       → nat_le 8 g.pc ≡ true → nat_le 8 g.pc ≡ nat_le 8 f.pc
       → slice_get package_ops g.pc ≡ Some ops.Yield
-      → IsBehind set seen.event v (put cs a.0 (Some (record { state = Code g; sections = fs; work = wk }))) a (record { state = Code g; sections = fs; work = wk }) now seen q last
+      → IsBehind set seen.event v (put cs a.0 (Some (record { state = Code g; sections = fs; work = wk }))) a
+      (record { state = Code g; sections = fs; work = wk }) now seen q last
       → IsMarked (view (record { state = Code g; sections = fs; work = wk })) (ends is_inside w r ev last (records.Free set.space l t) now)
   at-end l t g now v q ev last inside same op b =
       let new : Context = record { state = Code g; sections = fs; work = wk } in
@@ -211,19 +212,25 @@ module _ (set : Setting) (e : ℕ) (u : Package) (cs : Contexts Context) (w : Wo
         step =
             ap (λ (y : Micro). coded_by u seen c f (slice_get u.shared.state.code f.pc) y y.done) is
             ∙ ap (λ o. coded_by u seen c f o m micros.Did) (op_is ∙ op)
-            ∙ ap (λ o. let z = with_shared u (placed (record u.shared { state = m.state }) o kept.Ready) in did (pair z (goes_on z seen c g (slice_get u.shared.state.code (f.pc + 1)))) (records.Ready u.shared.state.space t ∷ [])) pushes
+            ∙ ap
+            (λ o. let z = with_shared u (placed (record u.shared { state = m.state }) o kept.Ready) in
+            did (pair z (goes_on z seen c g (slice_get u.shared.state.code (f.pc + 1)))) (records.Ready u.shared.state.space t ∷ [])) pushes
             ∙ ap (λ o. did (pair v (goes_on v seen c g o)) (records.Ready u.shared.state.space t ∷ [])) next
             ∙ ap (λ o. did (pair v new) (records.Ready o t ∷ [])) space;
         first = refl;
         no_up = refl;
-        needs = (ready-needs set e u cs i.stands set.space r0 k0 a f fs wk i.on.mine w n p life i.on.runs i.on.is known named copy.0 copy.1 op t pushes i.on.owner, tt);
+        needs = (
+          ready-needs set e u cs i.stands set.space r0 k0 a f fs wk i.on.mine w n p life i.on.runs i.on.is known named copy.0 copy.1 op t pushes i.on.owner,
+          tt,
+        );
         back = not_yield ops.Push op refl;
         held = ready-held set e u cs i.stands set.space r0 k0 a f fs wk i.on.mine w n p life i.on.runs i.on.is known named copy.0 copy.1 op t pushes;
         demands = refl;
         taken = refl;
         marks = λ ev last b.
             let copied = has_copy (f.pc + 1) (ap is_section_op (next-push f.pc op)) in
-            in-section x g _ v _ ev last copied.0 copied.1 refl (push_at (λ i j. nat_le 8 (i + 1) ≡ nat_le 8 i) refl refl f.pc copy.0 copy.1 op) (next-push f.pc op) refl b;
+            in-section x g _ v _ ev last copied.0 copied.1 refl (push_at (λ i j. nat_le 8 (i + 1) ≡ nat_le 8 i) refl refl f.pc copy.0 copy.1 op)
+            (next-push f.pc op) refl b;
       }
 
   -- A POP
@@ -236,15 +243,18 @@ module _ (set : Setting) (e : ℕ) (u : Package) (cs : Contexts Context) (w : Wo
   pub pop-resident : (t : ℕ) → slice_get package_ops f.pc ≡ Some ops.Pop
       → micro u.shared.state f seen.pages ≡ popped u.shared.state f true (list_in f) (Some t) → is_page_resident seen.pages PACKAGE_PAGE ≡ true
   pop-resident t op is =
-      popped_resident u.shared.state f (list_in f) (chosen u.shared.state.lists (takes_first u.shared.state.lists f.own) (list_in f).0) (is_page_resident seen.pages PACKAGE_PAGE)
+      popped_resident u.shared.state f (list_in f) (chosen u.shared.state.lists (takes_first u.shared.state.lists f.own) (list_in f).0)
+      (is_page_resident seen.pages PACKAGE_PAGE)
       (ap (λ o. (micro_at u.shared.state f (is_page_resident seen.pages PACKAGE_PAGE) (list_in f) o).done) (sym (op_is ∙ op)) ∙ ap (λ (y : Micro). y.done) is)
 
   -- before a pop the context carries no thread, and pushes none
   pub pop-fits : slice_get package_ops f.pc ≡ Some ops.Pop → FitsOp u.shared.state.lists f (Some ops.Pop)
   pop-fits op = let copy = section_of ops.Pop refl op in subst (FitsOp u.shared.state.lists f) op (fits copy.0 copy.1)
 
-  pub run-move : (t : ℕ) → slice_get package_ops f.pc ≡ Some ops.Pop → chosen u.shared.state.lists (takes_first u.shared.state.lists f.own) (list_in f).0 ≡ Some t
-      → micro u.shared.state f seen.pages ≡ popped u.shared.state f true (list_in f) (Some t) → Move (records.Run set.space (thread t)) (with_run t) (behind_run t)
+  pub run-move : (t : ℕ) → slice_get package_ops f.pc ≡ Some ops.Pop
+      → chosen u.shared.state.lists (takes_first u.shared.state.lists f.own) (list_in f).0 ≡ Some t
+      → micro u.shared.state f seen.pages ≡ popped u.shared.state f true (list_in f) (Some t)
+      → Move (records.Run set.space (thread t)) (with_run t) (behind_run t)
   run-move t op takes is =
       let copy = section_of ops.Pop refl op in
       let own = pop-fits op in
@@ -263,17 +273,24 @@ module _ (set : Setting) (e : ℕ) (u : Package) (cs : Contexts Context) (w : Wo
             ∙ ap (λ o. did (pair v new) (records.Run o (thread t) ∷ [])) space;
         first = refl;
         no_up = refl;
-        needs = (run-needs set e u cs i.stands set.space r0 k0 a f fs wk i.on.mine w n p life i.on.runs i.on.is i.on.space known named copy.0 copy.1 op own.2 own.1 t takes i.on.owner nobody, tt);
+        needs = (
+          run-needs set e u cs i.stands set.space r0 k0 a f fs wk i.on.mine w n p life
+              i.on.runs i.on.is i.on.space known named copy.0 copy.1 op own.2 own.1 t takes i.on.owner nobody,
+          tt,
+        );
         back = not_yield ops.Pop op refl;
-        held = run-held set e u cs i.stands set.space r0 k0 a f fs wk i.on.mine w n p life i.on.runs i.on.is i.on.space known named copy.0 copy.1 op own.2 own.1 t takes;
+        held =
+            run-held set e u cs i.stands set.space r0 k0 a f fs wk i.on.mine w n p life
+            i.on.runs i.on.is i.on.space known named copy.0 copy.1 op own.2 own.1 t takes;
         demands = refl;
         taken = refl;
         marks = λ ev last b.
             let copied = has_copy (f.pc + 1) (ap is_section_op (next-pop f.pc op)) in
-            in-section x g _ v _ ev last copied.0 copied.1 refl (pop_at (λ i j. nat_le 8 (i + 1) ≡ nat_le 8 i) refl refl f.pc copy.0 copy.1 op) (next-pop f.pc op) refl b;
+            in-section x g _ v _ ev last copied.0 copied.1 refl (pop_at (λ i j. nat_le 8 (i + 1) ≡ nat_le 8 i) refl refl f.pc copy.0 copy.1 op)
+            (next-pop f.pc op) refl b;
       }
 
-  -- A FREE, behind which the context is at its copy's end, or settles
+  -- A FREE, after which the context is at its copy's end, or settles
   abbrev pub with_free : Package
   with_free = with_package u (freed u.shared.state f (list_in f)).state
 
@@ -297,7 +314,8 @@ module _ (set : Setting) (e : ℕ) (u : Package) (cs : Contexts Context) (w : Wo
       let m = freed u.shared.state f (list_in f) in
       ap (λ (y : Micro). coded_by u seen c f (slice_get u.shared.state.code f.pc) y y.done) is
       ∙ ap (λ o. coded_by u seen c f o m micros.Did) (op_is ∙ op)
-      ∙ ap (λ o. did (pair v (goes_on v seen c g o)) (records.Free u.shared.state.space (list_in f) f.thread ∷ [])) (ap (λ ops. slice_get ops (f.pc + 1)) i.stands.code ∙ at)
+      ∙ ap (λ o. did (pair v (goes_on v seen c g o)) (records.Free u.shared.state.space (list_in f) f.thread ∷ []))
+      (ap (λ ops. slice_get ops (f.pc + 1)) i.stands.code ∙ at)
       ∙ ap (λ q. did (pair v (goes_on v seen c g o)) (records.Free q (list_in f) f.thread ∷ [])) space
 
   -- within a copy
@@ -309,22 +327,26 @@ module _ (set : Setting) (e : ℕ) (u : Package) (cs : Contexts Context) (w : Wo
       let g : Frame = record f { pc = f.pc + 1 } in
       let between = yields_between g yields own.1 in
       let copies : nat_le 8 (f.pc + 1) ≡ nat_le 8 f.pc =
-      free_at (λ i j. slice_get package_ops (i + 1) ≡ Some ops.Yield → nat_le 8 (i + 1) ≡ nat_le 8 i) (λ e. absurd cc) (λ e. absurd cc) (λ e. refl) (λ e. refl) f.pc copy.0 copy.1 op yields in
+      free_at (λ i j. slice_get package_ops (i + 1) ≡ Some ops.Yield → nat_le 8 (i + 1) ≡ nat_le 8 i) (λ e. absurd cc) (λ e. absurd cc) (λ e. refl)
+      (λ e. refl) f.pc copy.0 copy.1 op yields in
       let inside : nat_le 8 (f.pc + 1) ≡ true =
-      free_at (λ i j. slice_get package_ops (i + 1) ≡ Some ops.Yield → nat_le 8 (i + 1) ≡ true) (λ e. absurd cc) (λ e. absurd cc) (λ e. refl) (λ e. refl) f.pc copy.0 copy.1 op yields in
+      free_at (λ i j. slice_get package_ops (i + 1) ≡ Some ops.Yield → nat_le 8 (i + 1) ≡ true) (λ e. absurd cc) (λ e. absurd cc) (λ e. refl)
+      (λ e. refl) f.pc copy.0 copy.1 op yields in
       record {
         step = free_step op is (Some ops.Yield) yields;
         first = refl;
         no_up = refl;
         needs = (tt, tt);
         back = not_yield ops.Free op refl;
-        held = free-held set e u cs i.stands set.space r0 k0 a f fs wk i.on.mine w n p life i.on.runs i.on.is copy.0 copy.1 op own.1 (Code g) between.section between.carries copies;
+        held =
+            free-held set e u cs i.stands set.space r0 k0 a f fs wk i.on.mine w n p life i.on.runs i.on.is copy.0 copy.1 op own.1
+            (Code g) between.section between.carries copies;
         demands = refl;
         taken = refl;
         marks = λ ev last b. at-end (list_in f) f.thread g _ with_free _ ev last inside copies yields b;
       }
 
-  -- and behind a routine
+  -- A free at the end of a routine.
   pub free-move : (op : slice_get package_ops f.pc ≡ Some ops.Free) → micro u.shared.state f seen.pages ≡ freed u.shared.state f (list_in f)
       → slice_get package_ops (f.pc + 1) ≡ Some ops.Leave → Move (records.Free set.space (list_in f) f.thread) with_free behind_free
   free-move op is leaves =
@@ -338,7 +360,8 @@ module _ (set : Setting) (e : ℕ) (u : Package) (cs : Contexts Context) (w : Wo
       let new : Context = behind_free in
       let between = settled_between t left (is_some (owed v seen)) (has_bulk seen) in
       let outside : nat_le 8 f.pc ≡ false =
-      free_at (λ i j. slice_get package_ops (i + 1) ≡ Some ops.Leave → nat_le 8 i ≡ false) (λ e. refl) (λ e. refl) (λ e. absurd cc) (λ e. absurd cc) f.pc copy.0 copy.1 op leaves in
+      free_at (λ i j. slice_get package_ops (i + 1) ≡ Some ops.Leave → nat_le 8 i ≡ false) (λ e. refl) (λ e. refl) (λ e. absurd cc)
+      (λ e. absurd cc) f.pc copy.0 copy.1 op leaves in
       let copies = settled-copy t left (is_some (owed v seen)) (has_bulk seen) ∙ sym outside in
       record {
         step = free_step op is (Some ops.Leave) leaves;
@@ -346,10 +369,14 @@ module _ (set : Setting) (e : ℕ) (u : Package) (cs : Contexts Context) (w : Wo
         no_up = refl;
         needs = (tt, tt);
         back = not_yield ops.Free op refl;
-        held = free-held set e u cs i.stands set.space r0 k0 a f fs wk i.on.mine w n p life i.on.runs i.on.is copy.0 copy.1 op own.1 state between.section between.carries copies;
+        held =
+            free-held set e u cs i.stands set.space r0 k0 a f fs wk i.on.mine w n p life
+            i.on.runs i.on.is copy.0 copy.1 op own.1 state between.section between.carries copies;
         demands = refl;
         taken = refl;
-        marks = λ ev last b. settled-marked set seen.event v (put cs a.0 (Some new)) b.stands set.space last b.holds a t seen fs wk _ b.there (ap is_gone b.stage) w r ev x
+        marks =
+            λ ev last b. settled-marked set seen.event v (put cs a.0 (Some new)) b.stands set.space last b.holds a t seen fs wk _ b.there
+            (ap is_gone b.stage) w r ev x
             b.mine b.demand b.taken processors (b.carries ∙ between.carries) refl refl (λ some. absurd (let none = lone_bare f fs outside mark.lone in cc));
       }
 
@@ -382,10 +409,14 @@ module _ (set : Setting) (e : ℕ) (u : Package) (cs : Contexts Context) (w : Wo
         no_up = refl;
         needs = ((i.on.owner, runner), tt);
         back = sym (mark.back ∙ ap is_yield_op op);
-        held = back-held set e u cs i.stands set.space r0 k0 a f fs wk i.on.mine w n p life i.on.runs i.on.is i.on.space known at_end.section state between.section between.carries no_copy f.thread refl;
+        held =
+            back-held set e u cs i.stands set.space r0 k0 a f fs wk i.on.mine w n p life
+            i.on.runs i.on.is i.on.space known at_end.section state between.section between.carries no_copy f.thread refl;
         demands = refl;
         taken = refl;
-        marks = λ ev last b. settled-marked set seen.event v (put cs a.0 (Some new)) b.stands set.space last b.holds a None seen fs wn _ b.there (ap is_gone b.stage) w r ev x
+        marks =
+            λ ev last b. settled-marked set seen.event v (put cs a.0 (Some new)) b.stands set.space last b.holds a None seen fs wn _ b.there
+            (ap is_gone b.stage) w r ev x
             b.mine b.demand b.taken processors (b.carries ∙ between.carries) refl refl (λ some. refl);
       }
 
@@ -416,12 +447,13 @@ module _ (set : Setting) (e : ℕ) (u : Package) (cs : Contexts Context) (w : Wo
     pushed_not true None is = let no_such = ap (λ (y : Micro). y.done) is in cc
     pushed_not true (Some t) is = let no_such = ap (λ (y : Micro). y.done) is in cc
   locked_not (Some ops.TakePop) at is = at
-  locked_not (Some ops.Pop) at is = popped_not (is_page_resident seen.pages PACKAGE_PAGE) (chosen u.shared.state.lists (takes_first u.shared.state.lists f.own) (list_in f).0) is where
-    popped_not : (b : Bool) (o : Option ℕ)
-        → popped u.shared.state f b (list_in f) o ≡ stays u.shared.state f micros.Spun (records.Spin (list_in f) ∷ []) → ⊥
-    popped_not false o is = let no_such = ap (λ (y : Micro). y.done) is in cc
-    popped_not true None is = let no_such = ap (λ (y : Micro). y.done) is in cc
-    popped_not true (Some t) is = let no_such = ap (λ (y : Micro). y.done) is in cc
+  locked_not (Some ops.Pop) at is =
+      popped_not (is_page_resident seen.pages PACKAGE_PAGE) (chosen u.shared.state.lists (takes_first u.shared.state.lists f.own) (list_in f).0) is where
+        popped_not : (b : Bool) (o : Option ℕ)
+            → popped u.shared.state f b (list_in f) o ≡ stays u.shared.state f micros.Spun (records.Spin (list_in f) ∷ []) → ⊥
+        popped_not false o is = let no_such = ap (λ (y : Micro). y.done) is in cc
+        popped_not true None is = let no_such = ap (λ (y : Micro). y.done) is in cc
+        popped_not true (Some t) is = let no_such = ap (λ (y : Micro). y.done) is in cc
   locked_not (Some ops.Free) at is = let no_such = ap (λ (y : Micro). y.done) is in cc
   locked_not (Some ops.Leave) at is = at
   locked_not (Some ops.Yield) at is = let no_such = ap (λ (y : Micro). y.done) is in cc

@@ -28,7 +28,7 @@ use Rattle.sa_laws.specs.Readings.{Readings, is_resident}
 use Rattle.sa_user_laws.specs.Scene.{begun_at}
 use Rattle.sa_fits.proofs.EventEnds.{begun-holds}
 use Rattle.sa_fits.specs.Fits.{Holds}
-use Rattle.sa_fits_steps.proofs.Scenes.{IsScene, IsOwnMarked}
+use Rattle.sa_fits_steps.proofs.Scenes.{IsScene}
 use Rattle.sa_fits_steps.proofs.Scenes as scene
 use Rattle.sa_fits_steps.proofs.Turns.{turn-legal}
 use Rattle.sa_fits_steps.proofs.Events.{IsLegal}
@@ -79,7 +79,9 @@ module _ (set : Setting) (e : ℕ) (u : Package) (cs : Contexts Context) (w : Wo
       let resident = push-resident set e u cs w r p a life seen f fs wk i t op is in
       turn-legal set e u cs w r p a life c seen z (ready-move set e u cs w r p a life seen f fs wk i t op pushes is) (record {
         table = refl;
-        keeps = ready-keeps set e u cs i.stands set.space r0 k0 a f fs wk i.on.mine w n p life i.on.runs i.on.is known named copy.0 copy.1 op t pushes (page resident);
+        keeps =
+            ready-keeps set e u cs i.stands set.space r0 k0 a f fs wk i.on.mine w n p life i.on.runs i.on.is known named copy.0 copy.1 op t pushes
+            (page resident);
         alone = refl;
         free = record { free = λ bound. absurd cc };
         next = λ behind. tt;
@@ -94,11 +96,17 @@ module _ (set : Setting) (e : ℕ) (u : Package) (cs : Contexts Context) (w : Wo
       let resident = pop-resident set e u cs w r p a life seen f fs wk i t op is in
       turn-legal set e u cs w r p a life c seen z (run-move set e u cs w r p a life seen f fs wk i t op takes is) (record {
         table = refl;
-        keeps = run-keeps set e u cs i.stands set.space r0 k0 a f fs wk i.on.mine w n p life i.on.runs i.on.is i.on.space known named copy.0 copy.1 op own.2 own.1 t takes (page resident);
+        keeps =
+            run-keeps set e u cs i.stands set.space r0 k0 a f fs wk i.on.mine w n p life
+            i.on.runs i.on.is i.on.space known named copy.0 copy.1 op own.2 own.1 t takes (page resident);
         alone = refl;
         free = record { free = λ bound. absurd cc };
-        next = λ behind. run-next set e u cs i.stands set.space r0 k0 a f fs wk i.on.mine w n p life i.on.runs i.on.is i.on.space known named copy.0 copy.1 op own.2 own.1 t takes z.lists;
-        lists = run-lists set e u cs i.stands set.space r0 k0 a f fs wk i.on.mine w n p life i.on.runs i.on.is i.on.space known named copy.0 copy.1 op own.2 own.1 t takes z.lists;
+        next =
+            λ behind. run-next set e u cs i.stands set.space r0 k0 a f fs wk i.on.mine w n p life
+            i.on.runs i.on.is i.on.space known named copy.0 copy.1 op own.2 own.1 t takes z.lists;
+        lists =
+            run-lists set e u cs i.stands set.space r0 k0 a f fs wk i.on.mine w n p life
+            i.on.runs i.on.is i.on.space known named copy.0 copy.1 op own.2 own.1 t takes z.lists;
       })
 
   free-legal : slice_get package_ops f.pc ≡ Some ops.Free → micro u.shared.state f seen.pages ≡ freed u.shared.state f (list_in f) → Legal
@@ -139,4 +147,5 @@ module _ (set : Setting) (e : ℕ) (u : Package) (cs : Contexts Context) (w : Wo
       (is_page_resident seen.pages PACKAGE_PAGE ≡ false → micro u.shared.state f seen.pages ≡ stays u.shared.state f micros.Faulted [] → Legal)
       → Legal
   code-legal faults =
-      code-cases set e u cs w r p a life seen f fs wk i Legal (record { faults = faults; readies = ready-legal; runs = run-legal; frees = free-legal; gives_back = back-legal })
+      code-cases set e u cs w r p a life seen f fs wk i Legal
+      (record { faults = faults; readies = ready-legal; runs = run-legal; frees = free-legal; gives_back = back-legal })

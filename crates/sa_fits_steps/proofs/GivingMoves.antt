@@ -1,8 +1,7 @@
 -- Activations are given back; and a context whose hint or return is no longer owed goes on as it settles again.
 use Rattle.std.proofs.Common.{◌≡◌, ℕ, true, false, List, [], ◌∷◌, map, Option, Some, None, is_some, nat_le, refl, sym, ap, ◌∙◌, subst, inl, inr, arith, zero, suc, ◌≢◌, Contains, IsSome}
 use Rattle.std.specs.Prelude.{length, ◌≤◌}
-use Rattle.std.proofs.lemmas.Bool.{cases_eq}
-use Rattle.std.proofs.lemmas.Bool.Decides.{nat_tests}
+use Rattle.std.proofs.lemmas.Bool.{cases_eq, leb-true}
 use Rattle.std.proofs.lemmas.Option.{none-some}
 use Rattle.std.specs.List.{list_any}
 use Rattle.sa_base.specs.declared.context.Seen.{Seen}
@@ -113,9 +112,6 @@ pub gives-plain : (bs : List ActNo) → (list_any is_up (map records.GiveBack bs
 gives-plain [] = (refl, refl)
 gives-plain (b ∷ bs) = gives-plain bs
 
-le_of : (n m : ℕ) → nat_le n m ≡ true → n ≤ m
-le_of n m e = grind (arith, nat_tests)
-
 module _ (set : Setting) (e : ℕ) (u : Package) (cs : Contexts Context) (w : WorkloadView) (r : Readings) (p : ProcNo) (a : ActNo) (life : Life)
     (seen : Seen) where
   abbrev r0 : Readings
@@ -134,11 +130,12 @@ module _ (set : Setting) (e : ℕ) (u : Package) (cs : Contexts Context) (w : Wo
 
     pub many-taken : has_bulk seen ≡ true → BULK_RETURN ≤ length (taken_of r life.space)
     many-taken bulk =
-        le_of BULK_RETURN (length (taken_of r life.space))
+        leb-true BULK_RETURN (length (taken_of r life.space))
         (ap (λ o. nat_le BULK_RETURN (length (taken_of r o))) i.on.space ∙ ap (nat_le BULK_RETURN) (sym i.sees.taken) ∙ bulk)
 
     pub give-move : (b : ActNo) (bs : List ActNo) → taken_of r set.space ≡ b ∷ bs
-        → IsAsking set e u cs w r p a life (record { state = Return; sections = []; work = None }) seen asked.GiveBack (records.GiveBack b) (map records.GiveBack bs)
+        → IsAsking set e u cs w r p a life (record { state = Return; sections = []; work = None }) seen asked.GiveBack (records.GiveBack b)
+        (map records.GiveBack bs)
     give-move b bs at = record {
       records = ap (map records.GiveBack) at;
       first = refl;
@@ -152,10 +149,12 @@ module _ (set : Setting) (e : ℕ) (u : Package) (cs : Contexts Context) (w : Wo
       holds = λ later.
           let between = settled_between None false (is_some (owed u later)) (has_bulk later) in
           restated set.space (after_records w n p r0 (map records.GiveBack (b ∷ bs))) u cs (gives-hold set.space r0 u cs w n p (b ∷ bs) given k0) a Return
-          (settled_to None false (is_some (owed u later)) (has_bulk later)) [] None i.on.mine refl refl between.section (settled-copy None false (is_some (owed u later)) (has_bulk later)) between.carries;
+          (settled_to None false (is_some (owed u later)) (has_bulk later)) [] None i.on.mine refl refl between.section
+          (settled-copy None false (is_some (owed u later)) (has_bulk later)) between.carries;
       marks = λ ev last later z.
           let between = settled_between None false (is_some (owed u later)) (has_bulk later) in
-          settled-marked set e u (put cs a.0 (Some (answered u later c).1)) z.stands set.space last z.holds a None later [] None life z.there (ap is_gone z.stage) w r ev (records.GiveBack b)
+          settled-marked set e u (put cs a.0 (Some (answered u later c).1)) z.stands set.space last z.holds a None later [] None life z.there
+          (ap is_gone z.stage) w r ev (records.GiveBack b)
           z.mine z.demand z.taken (scene.processors set e u cs w r p a life c seen i) (z.carries ∙ between.carries) refl refl (λ some. absurd cc);
     } where
       given : (x : ActNo) → Contains (b ∷ bs) x → cs x.0 ≡ None
@@ -166,7 +165,8 @@ module _ (set : Setting) (e : ℕ) (u : Package) (cs : Contexts Context) (w : Wo
       (out : section_in old ≡ None) (no_copy : in_copy old ≡ false) (carries : carried_by old ≡ t) (yields : at_yield old ≡ false)
       (looks : looks_of old ≡ 0)
       -- as it settles
-      (settles : (answered u seen (record { state = old; sections = []; work = None })).1 ≡ settled u seen (record { state = old; sections = []; work = None }) t) where
+      (settles : (answered u seen (record { state = old; sections = []; work = None })).1 ≡ settled u seen
+      (record { state = old; sections = []; work = None }) t) where
     abbrev was : Context
     was = record { state = old; sections = []; work = None }
 
@@ -176,7 +176,8 @@ module _ (set : Setting) (e : ℕ) (u : Package) (cs : Contexts Context) (w : Wo
     abbrev new : Context
     new = record { state = settled_to t false (is_some (owed u seen)) (has_bulk seen); sections = []; work = None }
 
-    pub settled-scene : IsScene set e u (put cs a.0 (Some (record { state = settled_to t false (is_some (owed u seen)) (has_bulk seen); sections = []; work = None }))) w r p a life
+    pub settled-scene : IsScene set e u
+        (put cs a.0 (Some (record { state = settled_to t false (is_some (owed u seen)) (has_bulk seen); sections = []; work = None }))) w r p a life
         (record { state = settled_to t false (is_some (owed u seen)) (has_bulk seen); sections = []; work = None }) seen
     settled-scene =
         let between = settled_between t false (is_some (owed u seen)) (has_bulk seen) in
@@ -185,7 +186,9 @@ module _ (set : Setting) (e : ℕ) (u : Package) (cs : Contexts Context) (w : Wo
           moment = i.moment;
           sizes = i.sizes;
           stands = subst (λ x. IsStanding set e u (put cs a.0 (Some x))) settles (answers set e u cs i.stands a.0 was i.on.mine seen);
-          holds = restated set.space r u cs i.holds a old state [] None i.on.mine out no_copy between.section (settled-copy t false (is_some (owed u seen)) (has_bulk seen)) (between.carries ∙ sym carries);
+          holds =
+              restated set.space r u cs i.holds a old state [] None i.on.mine out no_copy between.section
+              (settled-copy t false (is_some (owed u seen)) (has_bulk seen)) (between.carries ∙ sym carries);
           runner = i.runner ∙ ap (runner_of set.space) (carries ∙ sym between.carries);
           own = record {
             back = i.own.back ∙ yields ∙ sym (settled-yield t false (is_some (owed u seen)) (has_bulk seen));

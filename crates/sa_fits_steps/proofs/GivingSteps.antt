@@ -9,7 +9,6 @@ use Rattle.sa_base.specs.declared.number.ActNo.{ActNo}
 use Rattle.sa_base.specs.declared.number.ProcNo.{ProcNo}
 use Rattle.sa_base.specs.declared.number.SpaceNo.{SpaceNo}
 use Rattle.sa_base.specs.declared.number.ThreadNo.{ThreadNo}
-use Rattle.sa_base.specs.declared.record.Record.{Record}
 use Rattle.sa_base.specs.declared.record.Record.TheVariants as records
 use Rattle.sa_lemmas.proofs.FunctionUpdates.{put-other, put-put}
 use Rattle.sa_lemmas.specs.Function.{put}
@@ -28,10 +27,10 @@ use Rattle.sa_package_model.specs.declared.package.Package.{Package}
 use Rattle.sa_laws.specs.Demand.{OwesNothing}
 use Rattle.sa_laws.specs.History.{is_inside, after_event}
 use Rattle.sa_laws.specs.Life.{Life}
-use Rattle.sa_laws.specs.Locks.{StandsAlone}
 use Rattle.sa_laws.specs.Readings.{Readings, demand_of, usable, many_taken, taken_of}
 use Rattle.sa_laws.specs.Rules.{fast_threads}
 use Rattle.sa_laws.specs.Turns.{is_of_locks}
+use Rattle.sa_laws.proofs.Records.{alone-plain}
 use Rattle.sa_user_laws.specs.Scene.{begun_at}
 use Rattle.sa_user_laws.specs.Steps.{event_with, records_asked, IsLegalAnswer, IsLegalAsk}
 use Rattle.sa_fits.proofs.EventEnds.{begun-holds}
@@ -47,16 +46,12 @@ use Rattle.sa_fits_steps.proofs.Scenes as scene
 use Rattle.sa_fits_steps.proofs.GivingMoves.{gives-plain, many-taken, give-move}
 use Rattle.sa_fits_steps.proofs.GivingMoves as moves
 
-outside_calm : (t : Option ThreadNo) (o : Option ℕ) (bulk : Bool) → stands_inside (settled_to t false (is_some o) bulk) ≡ false
+pub outside_calm : (t : Option ThreadNo) (o : Option ℕ) (bulk : Bool) → stands_inside (settled_to t false (is_some o) bulk) ≡ false
     → (o ≡ None) × (is_none t ≡ true → bulk ≡ false)
 outside_calm t (Some n) bulk e = absurd cc
 outside_calm None None true e = absurd cc
 outside_calm None None false e = (refl, λ none. refl)
 outside_calm (Some t) None bulk e = (refl, λ none. absurd cc)
-
-stands_alone : (b : Bool) (xs : List Record) → b ≡ false → StandsAlone b xs
-stands_alone true xs e = absurd cc
-stands_alone false xs e = tt
 
 module _ (set : Setting) (e : ℕ) (u : Package) (cs : Contexts Context) (w : WorkloadView) (r : Readings) (p : ProcNo) (a : ActNo) (life : Life)
     (seen : Seen) where
@@ -85,8 +80,11 @@ module _ (set : Setting) (e : ℕ) (u : Package) (cs : Contexts Context) (w : Wo
       many : BULK_RETURN ≤ length (taken_of r life.space)
       many = many-taken set e u cs w r p a life seen j bulk
 
-      by : (bs : List ActNo) → taken_of r set.space ≡ bs → IsLegal w set r p seen.event a cs (asks (pair u (record { state = Return; sections = []; work = None })) asked.GiveBack)
-      by [] at = absurd (let zero_is : length (taken_of r life.space) ≡ 0 = ap (λ o. length (taken_of r o)) j.on.space ∙ ap length at in let more = many in omega arith)
+      by : (bs : List ActNo) → taken_of r set.space ≡ bs
+          → IsLegal w set r p seen.event a cs (asks (pair u (record { state = Return; sections = []; work = None })) asked.GiveBack)
+      by [] at =
+          absurd
+          (let zero_is : length (taken_of r life.space) ≡ 0 = ap (λ o. length (taken_of r o)) j.on.space ∙ ap length at in let more = many in omega arith)
       by (b ∷ bs) at = record {
         steps = tt;
         answer = ask-legal set e u cs w r p a life c seen y (give-move set e u cs w r p a life seen j b bs at) (record {
@@ -97,7 +95,7 @@ module _ (set : Setting) (e : ℕ) (u : Package) (cs : Contexts Context) (w : Wo
             all = ap (map records.GiveBack) (sym at ∙ ap (taken_of r) (sym j.on.space));
           };
           keeps = tt;
-          alone = stands_alone (list_any is_of_locks (map records.GiveBack bs)) (map records.GiveBack bs) (gives-plain bs).1;
+          alone = alone-plain (list_any is_of_locks (map records.GiveBack bs)) (map records.GiveBack bs) (gives-plain bs).1;
           free = record { free = λ bound. absurd cc };
           next = λ behind. tt;
         });
@@ -115,13 +113,20 @@ module _ (set : Setting) (e : ℕ) (u : Package) (cs : Contexts Context) (w : Wo
     asks_too h = record {
       none = h.none;
       rules_hold = h.rules_hold;
-      after = λ closing later closed same_too sees. subst (λ ds. fast_fits w set (after_event is_inside w r (event_with seen.event p (records_asked r set.space st.answer) closing)) st.user (put ds a.0 (Some (answered st.user later st.ctx).1))) (same st.ctx) (h.after closing later closed same_too sees);
+      after =
+          λ closing later closed same_too sees. subst
+          (λ ds. fast_fits w set (after_event is_inside w r (event_with seen.event p (records_asked r set.space st.answer) closing)) st.user
+          (put ds a.0 (Some (answered st.user later st.ctx).1))) (same st.ctx) (h.after closing later closed same_too sees);
     }
 
     by : (answer : Step) → IsLegalAnswer fast_calls fast_threads fast_fits w set r p seen.event a (put cs a.0 (Some d)) st answer
         → IsLegalAnswer fast_calls fast_threads fast_fits w set r p seen.event a cs st answer
     by asked.Did h =
-        record { some = h.some; rules_hold = h.rules_hold; after = λ closing closed alike. subst (fast_fits w set _ st.user) (same st.ctx) (h.after closing closed alike) }
+        record {
+          some = h.some;
+          rules_hold = h.rules_hold;
+          after = λ closing closed alike. subst (fast_fits w set _ st.user) (same st.ctx) (h.after closing closed alike);
+        }
     by (asked.Block len page) h = record {
       begins = h.begins;
       for = h.for;
@@ -139,7 +144,8 @@ module _ (set : Setting) (e : ℕ) (u : Package) (cs : Contexts Context) (w : Wo
       (out : section_in old ≡ None) (no_copy : in_copy old ≡ false) (carries : carried_by old ≡ t) (yields : at_yield old ≡ false)
       (looks : looks_of old ≡ 0)
       -- as it settles
-      (settles : (answered u seen (record { state = old; sections = []; work = None })).1 ≡ settled u seen (record { state = old; sections = []; work = None }) t) where
+      (settles : (answered u seen (record { state = old; sections = []; work = None })).1 ≡ settled u seen
+      (record { state = old; sections = []; work = None }) t) where
     abbrev was : Context
     was = record { state = old; sections = []; work = None }
 
@@ -181,7 +187,8 @@ module _ (set : Setting) (e : ℕ) (u : Package) (cs : Contexts Context) (w : Wo
           by None less = ap not (less refl)
           by (Some x) less = refl
 
-    pub settled-scene : IsFastScene set e u (put cs a.0 (Some (record { state = settled_to t false (is_some (owed u seen)) (has_bulk seen); sections = []; work = None }))) w r p a life
+    pub settled-scene : IsFastScene set e u
+        (put cs a.0 (Some (record { state = settled_to t false (is_some (owed u seen)) (has_bulk seen); sections = []; work = None }))) w r p a life
         (record { state = settled_to t false (is_some (owed u seen)) (has_bulk seen); sections = []; work = None }) seen
     settled-scene = record {
       scene = moves.settled-scene set e u cs w r p a life seen old t i out no_copy carries yields looks settles;

@@ -79,7 +79,9 @@ module _ (set : Setting) (e : ℕ) (u : Package) (cs : Contexts Context) (h : Is
               ap (λ b. if b then None else Some (usable_by p m - d)) (not_le (usable_by p m) d less) in
               let same = same_Some (usable_by p m - d) n (sym is_it ∙ owes) in (less, omega arith)
           | inr more ↦
-              absurd (let is_it : (if nat_le (usable_by p m) d then None else Some (usable_by p m - d)) ≡ None = ap (λ b. if b then None else Some (usable_by p m - d)) (is_le (usable_by p m) d more) in let no_such = sym is_it ∙ owes in cc)
+              absurd
+              (let is_it : (if nat_le (usable_by p m) d then None else Some (usable_by p m - d)) ≡ None = ap (λ b. if b then None else Some (usable_by p m - d))
+              (is_le (usable_by p m) d more) in let no_such = sym is_it ∙ owes in cc)
         ]
 
   -- A LOOK that finds nothing
@@ -102,7 +104,10 @@ module _ (set : Setting) (e : ℕ) (u : Package) (cs : Contexts Context) (h : Is
         | inl less ↦ inl (let same = patience_is in omega arith)
         | inr more ↦ inr (elim (cases_lt (load u) seen.demand) [
           | inl above ↦ absurd (
-              let yes : is_idle u seen looks ≡ true = both (nat_le u.def.patience looks) (nat_lt (load u) seen.demand) (is_le u.def.patience looks (let same = scans_are in omega arith)) (lt-ltb (load u) seen.demand above) in cc)
+              let yes : is_idle u seen looks ≡ true =
+              both (nat_le u.def.patience looks) (nat_lt (load u) seen.demand) (is_le u.def.patience looks (let same = scans_are in omega arith))
+              (lt-ltb (load u) seen.demand above) in
+              cc)
           | inr few ↦ let at_s = ap (demand_of r) l.space in let load_s = ap (load_of r) l.space in let same = k.load in omega arith
         ])
       ];

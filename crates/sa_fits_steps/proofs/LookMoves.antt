@@ -4,6 +4,7 @@ use Rattle.std.proofs.Common.{◌≡◌, ℕ, ◌+◌, Bool, true, false, ◌&&�
 use Rattle.std.specs.Prelude.{nat_lt, min, not, ◌-◌, ◌≤◌, ◌==◌, if◌then◌else◌}
 use Rattle.std.proofs.lemmas.Bool.Decides.{nat_tests}
 use Rattle.std.proofs.lemmas.Option.{same_Some}
+use Rattle.std.proofs.lemmas.Bool.{and_right}
 use Rattle.sa_base.specs.declared.context.Seen.{Seen}
 use Rattle.sa_base.specs.declared.limits.TheConstants.{PACKAGE_PAGE}
 use Rattle.sa_base.specs.declared.number.ActNo.{ActNo}
@@ -46,7 +47,6 @@ use Rattle.sa_fits.specs.Stage.{is_gone}
 use Rattle.sa_fits.specs.View.{view}
 use Rattle.sa_fits_lists.proofs.Takes.{pop_held}
 use Rattle.sa_fits_steps.proofs.Asks.{IsAsking}
-use Rattle.sa_fits_steps.proofs.CodeMoves.{and_none}
 use Rattle.sa_fits_steps.proofs.Events.{inside-locked}
 use Rattle.sa_fits_steps.proofs.Hints.{scans_more}
 use Rattle.sa_fits_steps.proofs.Scenes.{IsScene}
@@ -102,11 +102,13 @@ module _ (set : Setting) (e : ℕ) (u : Package) (cs : Contexts Context) (w : Wo
       with_pop = with_package u (taken u.shared.state (pop_of p l) (processor l) false).state
 
       abbrev pub behind_pop : Context
-      behind_pop = record { state = Code (record { pc = 5; list = Some (processor l); own = l == p.0; pushed = None; thread = None }); sections = []; work = None }
+      behind_pop =
+          record { state = Code (record { pc = 5; list = Some (processor l); own = l == p.0; pushed = None; thread = None }); sections = []; work = None }
 
       free : is_locked u.shared.state.lists l ≡ false
       free =
-          first_of (is_locked u.shared.state.lists l) _ (sought-first u.shared.state.lists (own_list u seen.proc).0 l (scene.list-inside set e u cs w r p a life c seen i) found_it).here where
+          first_of (is_locked u.shared.state.lists l) _
+          (sought-first u.shared.state.lists (own_list u seen.proc).0 l (scene.list-inside set e u cs w r p a life c seen i) found_it).here where
             first_of : (x y : Bool) → (not x && y) ≡ true → x ≡ false
             first_of true y e = absurd cc
             first_of false y e = refl
@@ -116,9 +118,10 @@ module _ (set : Setting) (e : ℕ) (u : Package) (cs : Contexts Context) (w : Wo
           → IsMarked (view behind_pop) (ends is_inside w r ev last (records.Take set.space (processor l) None) now)
       pop-marks v now q ev last b =
           let has = life-here set.space last v (put cs a.0 (Some behind_pop)) b.holds a behind_pop now b.mine b.there in
-          record { inside = inside-locked w r ev last true now _ [] has.locks; back = and_none now.cont; scans = refl; left = refl; lone = refl }
+          record { inside = inside-locked w r ev last true now _ [] has.locks; back = and_right now.cont false refl; scans = refl; left = refl; lone = refl }
 
-      pub pop-move : IsMove set u cs w r p a life (record { state = Look looks; sections = []; work = None }) seen (records.Take set.space (processor l) None) [] with_pop behind_pop
+      pub pop-move : IsMove set u cs w r p a life (record { state = Look looks; sections = []; work = None }) seen
+          (records.Take set.space (processor l) None) [] with_pop behind_pop
       pop-move =
           let space = scene.space set e u cs w r p a life c seen i in
           let f = pop_of p l in
@@ -126,7 +129,9 @@ module _ (set : Setting) (e : ℕ) (u : Package) (cs : Contexts Context) (w : Wo
             step =
                 look-is
                 ∙ ap (looked_on u seen c looks p (is_idle u seen looks)) found_it
-                ∙ ap (λ ops. let m = micro_at u.shared.state f (is_page_resident seen.pages PACKAGE_PAGE) (processor l) (slice_get ops 4) in popping_by u c m m.done) i.stands.code
+                ∙ ap
+                (λ ops. let m = micro_at u.shared.state f (is_page_resident seen.pages PACKAGE_PAGE) (processor l) (slice_get ops 4) in
+                popping_by u c m m.done) i.stands.code
                 ∙ ap (λ b. let m = taken u.shared.state f (processor l) b in popping_by u c m m.done) free
                 ∙ ap (λ o. did (pair with_pop behind_pop) (records.Take o (processor l) None ∷ [])) space;
             first = refl;
@@ -148,14 +153,23 @@ module _ (set : Setting) (e : ℕ) (u : Package) (cs : Contexts Context) (w : Wo
         → IsMarked (view behind_idle) (ends is_inside w r ev last records.Idle now)
     idle-marks now same q ev last b =
         let left =
-        unsettled-inside set seen.event u (put cs a.0 (Some behind_idle)) b.stands set.space last b.holds a (Look (min (looks + 1) MAX_PATIENCE)) [] None b.mine now b.there (ap is_gone b.stage) refl refl w r ev in
-        record { inside = left; back = and_none now.cont; scans = scans_more now.scans looks (ap (λ (l : Life). min l.scans MAX_PATIENCE) same ∙ i.own.scans); left = refl; lone = refl }
+        unsettled-inside set seen.event u (put cs a.0 (Some behind_idle)) b.stands set.space last b.holds a
+        (Look (min (looks + 1) MAX_PATIENCE)) [] None b.mine now b.there (ap is_gone b.stage) refl refl w r ev in
+        record {
+          inside = left;
+          back = and_right now.cont false refl;
+          scans = scans_more now.scans looks (ap (λ (l : Life). min l.scans MAX_PATIENCE) same ∙ i.own.scans);
+          left = refl;
+          lone = refl;
+        }
 
     pub idle-move : sought u.shared.state.lists (own_list u seen.proc).0 ≡ None → is_idle u seen looks ≡ false
         → IsMove set u cs w r p a life (record { state = Look looks; sections = []; work = None }) seen records.Idle [] u behind_idle
     idle-move none calm =
         let here = life-here set.space (begun_at w seen.event p r) u cs k0 a c life i.on.mine i.on.is in
-        let held : IsHeld set.space (begun_at w seen.event p r) (after_records w seen.event p (begun_at w seen.event p r) (records.Idle ∷ [])) u u a c behind_idle = still-held s r0 _ u u cs k0 a c behind_idle i.on.mine (record {
+        let held : IsHeld set.space (begun_at w seen.event p r)
+        (after_records w seen.event p (begun_at w seen.event p r)
+        (records.Idle ∷ [])) u u a c behind_idle = still-held s r0 _ u u cs k0 a c behind_idle i.on.mine (record {
           space = refl;
           untold = refl;
           running = refl;
@@ -199,7 +213,8 @@ module _ (set : Setting) (e : ℕ) (u : Package) (cs : Contexts Context) (w : Wo
         ∙ ap (λ b. looked_on u seen c looks p b None) idle
 
     pub lower-move : nat_lt (demand_of r set.space - 1) (demand_of r set.space) ≡ true
-        → IsAsking set e u cs w r p a life (record { state = Look looks; sections = []; work = None }) seen asked.Idle (records.Want set.space (demand_of r set.space - 1)) []
+        → IsAsking set e u cs w r p a life (record { state = Look looks; sections = []; work = None }) seen asked.Idle
+        (records.Want set.space (demand_of r set.space - 1)) []
     lower-move less = record {
       records = refl;
       first = refl;
@@ -214,10 +229,11 @@ module _ (set : Setting) (e : ℕ) (u : Package) (cs : Contexts Context) (w : Wo
           (same-holds set.space r _ u cs (record { space = refl; untold = refl; running = refl; lives = refl }) i.holds);
       marks = λ ev last later b.
           let left =
-          unsettled-inside set e u (put cs a.0 (Some c)) b.stands set.space last b.holds a (Look looks) [] None b.mine life b.there (ap is_gone b.stage) refl refl w r ev in
+          unsettled-inside set e u (put cs a.0 (Some c)) b.stands set.space last b.holds a (Look looks) [] None b.mine life b.there
+          (ap is_gone b.stage) refl refl w r ev in
           record {
             inside = ap (λ z. is_inside w r ev last (not z) life) less ∙ left;
-            back = and_none life.cont;
+            back = and_right life.cont false refl;
             scans = ap (λ z. min (if z then life.scans else 0) MAX_PATIENCE) less ∙ i.own.scans;
             left = refl;
             lone = refl;
@@ -229,7 +245,8 @@ module _ (set : Setting) (e : ℕ) (u : Package) (cs : Contexts Context) (w : Wo
     abbrev d : Context
     d = record { state = Hint t; sections = []; work = None }
 
-    pub more-move : IsAsking set e u cs w r p a life (record { state = Hint t; sections = []; work = None }) seen (asked.More more) (records.Want set.space (demand_of r set.space + more)) []
+    pub more-move : IsAsking set e u cs w r p a life (record { state = Hint t; sections = []; work = None }) seen (asked.More more)
+        (records.Want set.space (demand_of r set.space + more)) []
     more-move =
         let processors = scene.processors set e u cs w r p a life d seen i in
         let not_lower : nat_lt (demand_of r set.space + more) (demand_of r set.space) ≡ false = not_less (demand_of r set.space) more in
@@ -245,10 +262,14 @@ module _ (set : Setting) (e : ℕ) (u : Package) (cs : Contexts Context) (w : Wo
           lives = λ b d at. refl;
           holds = λ later.
               let between = settled_between t false (is_some (owed u later)) (has_bulk later) in
-              restated set.space _ u cs (same-holds set.space r _ u cs (record { space = refl; untold = refl; running = refl; lives = refl }) i.holds) a (Hint t)
-              (settled_to t false (is_some (owed u later)) (has_bulk later)) [] None i.on.mine refl refl between.section (settled-copy t false (is_some (owed u later)) (has_bulk later)) between.carries;
+              restated set.space _ u cs (same-holds set.space r _ u cs (record { space = refl; untold = refl; running = refl; lives = refl }) i.holds) a
+              (Hint t)
+              (settled_to t false (is_some (owed u later)) (has_bulk later)) [] None i.on.mine refl refl between.section
+              (settled-copy t false (is_some (owed u later)) (has_bulk later)) between.carries;
           marks = λ ev last later b.
               let between = settled_between t false (is_some (owed u later)) (has_bulk later) in
-              settled-marked set e u (put cs a.0 (Some (answered u later d).1)) b.stands set.space last b.holds a t later [] None life b.there (ap is_gone b.stage) w r ev (records.Want set.space (demand_of r set.space + more))
-              b.mine b.demand b.taken processors (b.carries ∙ between.carries) (ap not not_lower) (ap (λ z. if z then life.scans else 0) not_lower) (λ some. absurd cc);
+              settled-marked set e u (put cs a.0 (Some (answered u later d).1)) b.stands set.space last b.holds a t later [] None life b.there
+              (ap is_gone b.stage) w r ev (records.Want set.space (demand_of r set.space + more))
+              b.mine b.demand b.taken processors (b.carries ∙ between.carries) (ap not not_lower) (ap (λ z. if z then life.scans else 0) not_lower)
+              (λ some. absurd cc);
         }

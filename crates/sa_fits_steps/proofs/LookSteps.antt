@@ -75,7 +75,9 @@ module _ (set : Setting) (e : ℕ) (u : Package) (cs : Contexts Context) (w : Wo
         let from_own : sought u.shared.state.lists p.0 ≡ Some l = ap (λ (q : ProcNo). sought u.shared.state.lists q.0) (sym own) ∙ found in
         turn-legal set e u cs w r p a life c seen y (pop-move set e u cs w r p a life seen looks i l found) (record {
           table = refl;
-          keeps = pop_keeps set e u cs i.stands s r0 k0 a w n p life i.on.runs i.on.is looks i.on.mine l from_own (lists-many set e u cs w r p a life c seen y) (scene.inside set e u cs w r p a life c seen i)
+          keeps =
+              pop_keeps set e u cs i.stands s r0 k0 a w n p life i.on.runs i.on.is looks i.on.mine l from_own (lists-many set e u cs w r p a life c seen y)
+              (scene.inside set e u cs w r p a life c seen i)
               (ready-alike u (ready_of r set.space) y.lists) carries;
           alone = refl;
           free = record { free = λ bound. y.free refl };
@@ -84,12 +86,14 @@ module _ (set : Setting) (e : ℕ) (u : Package) (cs : Contexts Context) (w : Wo
         })
 
     -- AN IDLE RECORD
-    idle-legal : sought u.shared.state.lists (own_list u seen.proc).0 ≡ None → is_idle u seen looks ≡ false → IsLegal w set r p seen.event a cs (stepped u seen c)
+    idle-legal : sought u.shared.state.lists (own_list u seen.proc).0 ≡ None → is_idle u seen looks ≡ false
+        → IsLegal w set r p seen.event a cs (stepped u seen c)
     idle-legal none calm =
         turn-legal set e u cs w r p a life c seen y (idle-move set e u cs w r p a life seen looks i none calm) (record {
           table = (
             refl,
-            can-idle set e u cs i.stands s r0 k0 a (Look looks) i.on.mine life i.on.is stays_there refl refl w seen i.sees.demand (own_list u seen.proc).0 looks refl none inside (ready-alike u (ready_of r set.space) y.lists) carries i.own
+            can-idle set e u cs i.stands s r0 k0 a (Look looks) i.on.mine life i.on.is stays_there refl refl w seen i.sees.demand
+                (own_list u seen.proc).0 looks refl none inside (ready-alike u (ready_of r set.space) y.lists) carries i.own
                 (scene.def set e u cs w r p a life c seen i) patient calm,
           );
           keeps = tt;
@@ -100,13 +104,16 @@ module _ (set : Setting) (e : ℕ) (u : Package) (cs : Contexts Context) (w : Wo
         })
 
     -- THE HINT that the processor is idle
-    lower-legal : sought u.shared.state.lists (own_list u seen.proc).0 ≡ None → is_idle u seen looks ≡ true → IsLegal w set r p seen.event a cs (stepped u seen c)
+    lower-legal : sought u.shared.state.lists (own_list u seen.proc).0 ≡ None → is_idle u seen looks ≡ true
+        → IsLegal w set r p seen.event a cs (stepped u seen c)
     lower-legal none idle =
         let lower =
-        can-lower set e u cs i.stands s r0 k0 a (Look looks) i.on.mine life i.on.is stays_there refl refl w seen i.sees.demand (own_list u seen.proc).0 looks refl none inside (ready-alike u (ready_of r set.space) y.lists) carries i.own
+        can-lower set e u cs i.stands s r0 k0 a (Look looks) i.on.mine life i.on.is stays_there refl refl w seen i.sees.demand
+        (own_list u seen.proc).0 looks refl none inside (ready-alike u (ready_of r set.space) y.lists) carries i.own
         (scene.def set e u cs w r p a life c seen i) patient idle in
         let less : nat_lt (demand_of r set.space - 1) (demand_of r set.space) ≡ true =
-        one_less (demand_of r set.space) (let some : demand_of r set.space - 1 + 1 ≡ demand_of r life.space = lower.number in let same = ap (demand_of r) i.on.space in omega arith) in
+        one_less (demand_of r set.space)
+        (let some : demand_of r set.space - 1 + 1 ≡ demand_of r life.space = lower.number in let same = ap (demand_of r) i.on.space in omega arith) in
         subst (IsLegal w set r p seen.event a cs) (sym (lower-is set e u cs w r p a life seen looks i none idle)) (record {
           steps = tt;
           answer = ask-legal set e u cs w r p a life c seen y (lower-move set e u cs w r p a life seen looks i less) (record {

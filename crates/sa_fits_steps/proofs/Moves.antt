@@ -1,4 +1,4 @@
--- A move: what a step that asks for nothing does to the machine and to what is read, and what holds behind it. It cites no
+-- A move: what a step that asks for nothing does to the machine and to what is read, and what holds after it. It cites no
 -- rule of a user level, so it serves each package whose steps are these.
 use Rattle.std.proofs.Common.{◌≡◌, ℕ, List, [], ◌∷◌, length, Option, Some, None, false, true, sym, ap, ◌∙◌, subst, slice_index_or, slice_index}
 use Rattle.std.proofs.lemmas.Option.{same_Some}
@@ -38,8 +38,9 @@ use Rattle.sa_fits.specs.View.{view}
 use Rattle.sa_fits_steps.proofs.Events.{alike-held}
 use Rattle.sa_fits_steps.proofs.Scenes.{IsScene, runs-there, steps}
 
--- what is known behind the records and the closing
-pub record IsBehind (set : Setting) (n : ℕ) (v : Package) (ds : Contexts Context) (a : ActNo) (new : Context) (now : Life) (seen : Seen) (q last : Readings) : Type 0 where
+-- what is known after the records and the closing
+pub record IsBehind (set : Setting) (n : ℕ) (v : Package) (ds : Contexts Context) (a : ActNo) (new : Context) (now : Life) (seen : Seen)
+    (q last : Readings) : Type 0 where
   pub stands : IsStanding set n v ds
   pub holds : Holds set.space last v ds
   pub mine : ds a.0 ≡ Some new
@@ -52,7 +53,8 @@ pub record IsBehind (set : Setting) (n : ℕ) (v : Package) (ds : Contexts Conte
 
 -- THE MOVE of the context c of life a on processor p, before whose event r was read: it says x and then xs, and leads to the
 -- package v and the context new.
-pub record IsMove (set : Setting) (u : Package) (cs : Contexts Context) (w : WorkloadView) (r : Readings) (p : ProcNo) (a : ActNo) (life : Life) (c : Context) (seen : Seen) (x : Record) (xs : List Record) (v : Package) (new : Context) : Type 0 where
+pub record IsMove (set : Setting) (u : Package) (cs : Contexts Context) (w : WorkloadView) (r : Readings) (p : ProcNo) (a : ActNo) (life : Life) (c : Context)
+    (seen : Seen) (x : Record) (xs : List Record) (v : Package) (new : Context) : Type 0 where
   pub step : stepped u seen c ≡ did (pair v new) (x ∷ xs)
   pub first : is_step x ≡ true
   pub no_up : list_any is_up (x ∷ xs) ≡ false

@@ -1,9 +1,9 @@
--- What is known before a step of a running life: sizes, who runs on its processor, and who runs there behind it.
+-- What is known before a step of a running life: sizes, who runs on its processor, and who runs there after it.
 use Rattle.std.proofs.Common.{◌≡◌, ◌≢◌, ℕ, zero, suc, ◌≤◌, ◌<◌, List, [], ◌∷◌, length, Option, Some, None, slice_get, slice_index_or, option_map, refl, sym, ap, ◌∙◌, inl, inr, arith}
 use Rattle.std.specs.Prelude.{min, false, true, ◌⊎◌, Contains}
 use Rattle.std.proofs.lemmas.Bool.{cases_lt}
 use Rattle.std.proofs.lemmas.List.{get_or_past}
-use Rattle.std.proofs.lemmas.Option.{same_Some, none-some}
+use Rattle.std.proofs.lemmas.Option.{same_Some, none-some, slice_get_within}
 use Rattle.sa_base.specs.declared.context.Seen.{Seen}
 use Rattle.sa_base.specs.declared.limits.TheConstants.{MAX_EVENTS}
 use Rattle.sa_base.specs.declared.number.ActNo.{ActNo}
@@ -44,7 +44,8 @@ pub record IsOwnMarked (c : Context) (life : Life) : Type 0 where
   pub lone : is_lone c.state c.sections ≡ true
 
 -- What is known before a step, whichever rules its user level keeps.
-pub record IsScene (set : Setting) (e : ℕ) (u : Package) (cs : Contexts Context) (w : WorkloadView) (r : Readings) (p : ProcNo) (a : ActNo) (life : Life) (c : Context) (seen : Seen) : Type 0 where
+pub record IsScene (set : Setting) (e : ℕ) (u : Package) (cs : Contexts Context) (w : WorkloadView) (r : Readings) (p : ProcNo) (a : ActNo) (life : Life)
+    (c : Context) (seen : Seen) : Type 0 where
   pub of : IsOfSpace w set
   pub moment : IsMoment r
   pub sizes : AreSized w r
@@ -60,18 +61,13 @@ pub record IsScene (set : Setting) (e : ℕ) (u : Package) (cs : Contexts Contex
   pub within : seen.event ≤ MAX_EVENTS
 
 -- What FastThreads knows beside it: its ready lists, and that other lives are as between events.
-pub record IsFastScene (set : Setting) (e : ℕ) (u : Package) (cs : Contexts Context) (w : WorkloadView) (r : Readings) (p : ProcNo) (a : ActNo) (life : Life) (c : Context) (seen : Seen) : Type 0 where
+pub record IsFastScene (set : Setting) (e : ℕ) (u : Package) (cs : Contexts Context) (w : WorkloadView) (r : Readings) (p : ProcNo) (a : ActNo) (life : Life)
+    (c : Context) (seen : Seen) : Type 0 where
   pub scene : IsScene set e u cs w r p a life c seen
   pub lists : FitsLists u (ready_of r set.space)
   pub others : OthersRest set.space r a cs
   -- where it is not inside the package it is out, or owes nothing
   pub free : stands_inside c.state ≡ false → (life.inside ≡ false) ⊎ OwesNothing w r life
-
--- where something is read, there is an entry
-pub read_below : {A : Type 0} (xs : List A) (i : ℕ) (x : A) → slice_get xs i ≡ Some x → i < length xs
-read_below [] i x e = absurd (none-some x e)
-read_below (y ∷ xs) zero x e = omega arith
-read_below (y ∷ xs) (suc i) x e = let less = read_below xs i x e in omega arith
 
 read_or : {A : Type 0} (xs : List A) (i : ℕ) (x d : A) → slice_get xs i ≡ Some x → slice_index_or xs i d ≡ x
 read_or [] i x d e = absurd (none-some x e)
@@ -84,7 +80,7 @@ some_below xs i x e = elim (cases_lt i (length xs)) [
   | inr past ↦ absurd (none-some x (sym (get_or_past xs i None past) ∙ e))
 ]
 
--- WHO RUNS on a processor that the space owns, at a moment at which other spaces stand as before
+-- WHO RUNS on a processor that the space owns, at a moment at which other spaces are as before
 pub runs-there : (set : Setting) (e : ℕ) (v : Package) (ds : Contexts Context) → IsStanding set e v ds → (r last : Readings) → IsMoment r
     → Holds set.space last v ds
     → (p : ProcNo) (a : ActNo) (c : Context) (life : Life) → owner_of r p ≡ Some set.space → running_of last p ≡ Some a → life_of last a ≡ Some life
@@ -103,7 +99,7 @@ module _ (set : Setting) (e : ℕ) (u : Package) (cs : Contexts Context) (w : Wo
     (c : Context) (seen : Seen)
     (i : IsScene set e u cs w r p a life c seen) where
   pub below : set.space.0 < length w.spaces
-  below = read_below w.spaces set.space.0 set.def i.of.def
+  below = slice_get_within w.spaces set.space.0 set.def i.of.def
 
   pub known : set.space.0 < length r.state.spaces
   known = let less = below in let same = i.sizes.spaces in omega arith
@@ -131,7 +127,8 @@ module _ (set : Setting) (e : ℕ) (u : Package) (cs : Contexts Context) (w : Wo
 
   pub steps : IsStepped IsStanding set seen cs a.0 (stepped u seen c)
   steps =
-      steps_well set e u cs a.0 c seen i.stands i.on.mine (let same = ap (λ (x : ProcNo). x.0) i.sees.proc in let less = inside in let procs_are = i.of.processors in omega arith) i.later i.within
+      steps_well set e u cs a.0 c seen i.stands i.on.mine
+      (let same = ap (λ (x : ProcNo). x.0) i.sees.proc in let less = inside in let procs_are = i.of.processors in omega arith) i.later i.within
 
   pub runner : runner_on r.state p ≡ runner_of set.space (carried_by c.state)
   runner = i.runner

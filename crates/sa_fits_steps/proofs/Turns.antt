@@ -30,7 +30,7 @@ use Rattle.sa_fits_steps.proofs.Events.{IsLegal}
 use Rattle.sa_fits_steps.proofs.Moves.{IsMove, move-behind}
 use Rattle.sa_fits_steps.proofs.Scenes.{IsFastScene}
 
--- THE RULES of an event of a life, with a closing behind it
+-- THE RULES of an event of a life, with a closing after it
 pub rules-of : (w : WorkloadView) (r : Readings) (ev : Event) (a : ActNo) (life : Life) (x : Record) (xs behind : List Record)
     → running_of r ev.proc ≡ Some a → life_of r a ≡ Some life
     → ev.records ≡ x ∷ behind → own_part (x ∷ behind) ≡ x ∷ xs → is_step x ≡ true
@@ -48,11 +48,12 @@ rules-of w r ev a life x xs behind runs there records own step by_table keeps ba
             (subst (λ b. StepIsFreeIf b w r (life_on r ev.proc) x) (sym step) (subst (λ o. StepIsFree w r o x) (sym on) free));
       };
       locks = record {
-        step = λ later. subst (λ ys. KeepsLocksIn w (begun w ev r) ev.proc (own_part ys)) (sym records) (subst (KeepsLocksIn w (begun w ev r) ev.proc) (sym own) (
-          subst (λ b. KeepsLocksIf b w (begun w ev r) ev.proc (life_on r ev.proc) x) (sym step)
-              (subst (λ o. KeepsLocksIf true w (begun w ev r) ev.proc o x) (sym on) (record { keeps = keeps; back = back })),
-          alone,
-        ));
+        step = λ later. subst (λ ys. KeepsLocksIn w (begun w ev r) ev.proc (own_part ys)) (sym records)
+            (subst (KeepsLocksIn w (begun w ev r) ev.proc) (sym own) (
+              subst (λ b. KeepsLocksIf b w (begun w ev r) ev.proc (life_on r ev.proc) x) (sym step)
+                  (subst (λ o. KeepsLocksIf true w (begun w ev r) ev.proc o x) (sym on) (record { keeps = keeps; back = back })),
+              alone,
+            ));
       };
       order = record { run = subst (RunsNext r ev.proc) (sym records) next };
     }
@@ -67,7 +68,7 @@ any-ups (x ∷ xs) ys one two = by (λ none. any-ups xs ys none two) (is_up x) r
 module _ (set : Setting) (e : ℕ) (u : Package) (cs : Contexts Context) (w : WorkloadView) (r : Readings) (p : ProcNo) (a : ActNo) (life : Life)
     (c : Context) (seen : Seen)
     (i : IsFastScene set e u cs w r p a life c seen) where
-  -- what the rules ask of a move that says x and then xs and leads to v, and its ready lists behind it
+  -- what the rules ask of a move that says x and then xs and leads to v, and its ready lists after it
   pub record IsAllowed (x : Record) (xs : List Record) (v : Package) : Type 0 where
     pub table : StepBy w (begun_at w seen.event p r) p a life x xs
     pub keeps : KeepsLocks w (begun_at w seen.event p r) p life x
@@ -88,7 +89,8 @@ module _ (set : Setting) (e : ℕ) (u : Package) (cs : Contexts Context) (w : Wo
         some = λ none. cc;
         rules_hold = λ closing closed.
             let follows =
-            rules-of w r (event_with seen.event p (x ∷ xs) closing) a life x xs (xs ++ closing) i.scene.on.runs i.scene.on.is refl closed.is_own m.first t.table t.keeps m.back t.alone t.free (t.next (xs ++ closing)) in
+            rules-of w r (event_with seen.event p (x ∷ xs) closing) a life x xs
+            (xs ++ closing) i.scene.on.runs i.scene.on.is refl closed.is_own m.first t.table t.keeps m.back t.alone t.free (t.next (xs ++ closing)) in
             record { steps = follows.steps; demand = follows.demand; locks = follows.locks; order = follows.order };
         after = λ closing closed same.
             let ev = event_with seen.event p (x ∷ xs) closing in
@@ -97,9 +99,13 @@ module _ (set : Setting) (e : ℕ) (u : Package) (cs : Contexts Context) (w : Wo
             let lists = subst (FitsLists v) (sym (ap (λ ls. slice_index_or ls set.space.0 []) same.kernel.ready)) t.lists in
             let others = others-stay set.space r last a cs
             (λ y d ne at. ap (λ (f : ℕ → Option Life). f y.0) (same.kernel.lives ∙ m.held.lives) ∙ put-other r.lives a.0 y.0 (Some m.held.life) ne)
-            (λ y l ne. stage-same set.space r last (ap (λ ls. slice_index_or ls set.space.0 []) same.kernel.untold ∙ m.held.untold) (same.kernel.running ∙ m.held.running) y l) i.others in
+            (λ y l ne. stage-same set.space r last (ap (λ ls. slice_index_or ls set.space.0 []) same.kernel.untold ∙ m.held.untold)
+            (same.kernel.running ∙ m.held.running) y l) i.others in
             ended-fits set.space r u cs a w ev i.scene.on.runs last others v new b.holds lists m.held.life b.there x (xs ++ closing) refl m.first
             (any-ups (x ∷ xs) closing m.no_up (closing-ups closing closed.closes))
-            (record { marks = m.marks ev last b; idle = λ no. absurd (let yes : is_running (stage_of last set.space a m.held.life) ≡ true = ap is_running b.stage in cc) });
+            (record {
+              marks = m.marks ev last b;
+              idle = λ no. absurd (let yes : is_running (stage_of last set.space a m.held.life) ≡ true = ap is_running b.stage in cc);
+            });
       };
     })

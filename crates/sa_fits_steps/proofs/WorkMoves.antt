@@ -2,6 +2,7 @@
 use Rattle.std.proofs.Common.{◌≡◌, ℕ, Bool, true, false, ◌||◌, ◌&&◌, List, [], ◌∷◌, Option, Some, None, is_none, slice_get, nat_le, refl, sym, ap, ◌∙◌, arith}
 use Rattle.std.specs.Prelude.{nat_lt, length, ◌==◌}
 use Rattle.std.proofs.lemmas.Option.{same_Some}
+use Rattle.std.proofs.lemmas.Bool.{and_right}
 use Rattle.sa_base.specs.declared.context.Seen.{Seen}
 use Rattle.sa_base.specs.declared.limits.TheConstants.{PACKAGE_PAGE}
 use Rattle.sa_base.specs.declared.number.ActNo.{ActNo}
@@ -45,7 +46,7 @@ use Rattle.sa_fits.specs.View.{view, is_yield_op, is_lone}
 use Rattle.sa_fits_lists.proofs.Continues.{cont-needs, continues}
 use Rattle.sa_fits_lists.proofs.LockedLists.{locked-read}
 use Rattle.sa_fits_lists.proofs.Takes.{push_held}
-use Rattle.sa_fits_steps.proofs.CodeMoves.{and_none, inside-copy}
+use Rattle.sa_fits_steps.proofs.CodeMoves.{inside-copy}
 use Rattle.sa_fits_steps.proofs.Events.{inside-locked}
 use Rattle.sa_fits_steps.proofs.Scenes.{IsScene}
 use Rattle.sa_fits_steps.proofs.Scenes as scene
@@ -86,12 +87,13 @@ module _ (set : Setting) (e : ℕ) (u : Package) (cs : Contexts Context) (w : Wo
     cont-marks v now q ev last b =
         let has = life-here set.space last v (put cs a.0 (Some behind_cont)) b.holds a behind_cont now b.mine b.there in
         let copies : nat_le 8 f.pc ≡ true =
-        at_copies (λ i j. i ≡ j → nat_le 8 i ≡ true) (λ e. absurd (omega arith)) (λ e. absurd (omega arith)) (λ e. absurd (omega arith)) (λ e. absurd (omega arith)) (λ e. refl) (λ e. refl) (λ e. refl) (λ e. refl) f.pc f.pc copy refl in
+        at_copies (λ i j. i ≡ j → nat_le 8 i ≡ true) (λ e. absurd (omega arith)) (λ e. absurd (omega arith)) (λ e. absurd (omega arith))
+        (λ e. absurd (omega arith)) (λ e. refl) (λ e. refl) (λ e. refl) (λ e. refl) f.pc f.pc copy refl in
         let yields : is_yield_op (slice_get package_ops f.pc) ≡ false =
         at_copies (λ i j. is_yield_op (slice_get package_ops i) ≡ false) refl refl refl refl refl refl refl refl f.pc f.pc copy in
         record {
           inside = inside-copy w r ev last true now (has.cont ∙ copies);
-          back = and_none now.cont ∙ sym yields;
+          back = and_right now.cont false refl ∙ sym yields;
           scans = refl;
           left = refl;
           lone = lone_by fs copies;
@@ -100,7 +102,8 @@ module _ (set : Setting) (e : ℕ) (u : Package) (cs : Contexts Context) (w : Wo
           lone_by [] is = refl
           lone_by (g ∷ gs) is = is
 
-    pub cont-move : IsMove set u cs w r p a life (record { state = Work None; sections = f ∷ fs; work = wk }) seen (records.Cont set.space f.thread) [] with_cont behind_cont
+    pub cont-move : IsMove set u cs w r p a life (record { state = Work None; sections = f ∷ fs; work = wk }) seen
+        (records.Cont set.space f.thread) [] with_cont behind_cont
     cont-move =
         let known = scene.known set e u cs w r p a life c seen i in
         let space = scene.space set e u cs w r p a life c seen i in
@@ -128,10 +131,17 @@ module _ (set : Setting) (e : ℕ) (u : Package) (cs : Contexts Context) (w : Wo
 
     abbrev pub with_push : Package
     with_push =
-        with_shared u (with_works (record u.shared { state = (taken u.shared.state (push_of p (own_list u seen.proc) one t) (own_list u seen.proc) false).state }) (without_first u.shared.works one))
+        with_shared u
+        (with_works (record u.shared { state = (taken u.shared.state (push_of p (own_list u seen.proc) one t) (own_list u seen.proc) false).state })
+        (without_first u.shared.works one))
 
     abbrev pub behind_push : Context
-    behind_push = record { state = Code (record { pc = 1; list = Some (own_list u seen.proc); own = (own_list u seen.proc).0 == p.0; pushed = Some one; thread = t }); sections = []; work = (without_first u.shared.works one).name }
+    behind_push =
+        record {
+          state = Code (record { pc = 1; list = Some (own_list u seen.proc); own = (own_list u seen.proc).0 == p.0; pushed = Some one; thread = t });
+          sections = [];
+          work = (without_first u.shared.works one).name;
+        }
 
     pub k1 : Holds set.space (begun_at w seen.event p r) u cs
     k1 = begun-holds set.space r u cs w (record { number = seen.event; proc = p; records = [] }) i.holds
@@ -146,14 +156,18 @@ module _ (set : Setting) (e : ℕ) (u : Package) (cs : Contexts Context) (w : Wo
     pub has-one : has_hand r life ≡ true
     has-one = hand_some set e u cs i.stands set.space r0 k1 a (Work t) [] (Some one) i.on.mine life i.on.is stays_there refl refl one refl
 
-    m_is : micro u.shared.state (push_of seen.proc (own_list u seen.proc) one t) seen.pages ≡ taken u.shared.state (push_of p (own_list u seen.proc) one t) (own_list u seen.proc)
+    m_is : micro u.shared.state (push_of seen.proc (own_list u seen.proc) one t) seen.pages ≡ taken u.shared.state (push_of p (own_list u seen.proc) one t)
+        (own_list u seen.proc)
         (is_locked u.shared.state.lists (own_list u seen.proc).0)
     m_is = ap (λ q. micro u.shared.state (push_of q (own_list u seen.proc) one t) seen.pages) i.sees.proc
-        ∙ ap (λ ops. micro_at u.shared.state (push_of p (own_list u seen.proc) one t) (is_page_resident seen.pages PACKAGE_PAGE) (own_list u seen.proc) (slice_get ops 0)) i.stands.code
+        ∙ ap
+        (λ ops. micro_at u.shared.state (push_of p (own_list u seen.proc) one t) (is_page_resident seen.pages PACKAGE_PAGE) (own_list u seen.proc)
+        (slice_get ops 0)) i.stands.code
 
     step_by : (b : Bool) → is_locked u.shared.state.lists (own_list u seen.proc).0 ≡ b → let m =
         taken u.shared.state (push_of p (own_list u seen.proc) one t) (own_list u seen.proc) b in stepped u seen d ≡ pushing_by u d one m m.done
-    step_by b is = ap (λ (m : Micro). pushing_by u d one m m.done) (m_is ∙ ap (taken u.shared.state (push_of p (own_list u seen.proc) one t) (own_list u seen.proc)) is)
+    step_by b is =
+        ap (λ (m : Micro). pushing_by u d one m m.done) (m_is ∙ ap (taken u.shared.state (push_of p (own_list u seen.proc) one t) (own_list u seen.proc)) is)
 
     push-marks : (v : Package) (now : Life) (q : Readings) (ev : Event) (last : Readings)
         → IsBehind set seen.event v (put cs a.0 (Some behind_push)) a behind_push now seen q last
@@ -162,14 +176,15 @@ module _ (set : Setting) (e : ℕ) (u : Package) (cs : Contexts Context) (w : Wo
         let has = life-here set.space last v (put cs a.0 (Some behind_push)) b.holds a behind_push now b.mine b.there in
         record {
           inside = inside-locked w r ev last true now _ [] has.locks;
-          back = and_none now.cont;
+          back = and_right now.cont false refl;
           scans = refl;
           left = refl;
           lone = refl;
         }
 
     pub push-move : is_locked u.shared.state.lists (own_list u seen.proc).0 ≡ false
-        → IsMove set u cs w r p a life (record { state = Work t; sections = []; work = Some one }) seen (records.Take set.space (own_list u seen.proc) t) [] with_push behind_push
+        → IsMove set u cs w r p a life (record { state = Work t; sections = []; work = Some one }) seen
+        (records.Take set.space (own_list u seen.proc) t) [] with_push behind_push
     push-move free =
         let space = scene.space set e u cs w r p a life d seen i in
         record {
@@ -185,21 +200,24 @@ module _ (set : Setting) (e : ℕ) (u : Package) (cs : Contexts Context) (w : Wo
         }
 
     spin-marks : (now : Life) (q : Readings) (ev : Event) (last : Readings)
-        → IsBehind set seen.event u (put cs a.0 (Some (record { state = Work t; sections = []; work = Some one }))) a (record { state = Work t; sections = []; work = Some one }) now seen q last
+        → IsBehind set seen.event u (put cs a.0 (Some (record { state = Work t; sections = []; work = Some one }))) a
+        (record { state = Work t; sections = []; work = Some one }) now seen q last
         → IsMarked (view (record { state = Work t; sections = []; work = Some one })) (ends is_inside w r ev last (records.Spin (own_list u seen.proc)) now)
     spin-marks now q ev last b =
         let left =
-        has-left set seen.event u (put cs a.0 (Some d)) b.stands set.space last b.holds a (Work t) [] (Some one) b.mine now b.there (ap is_gone b.stage) refl refl in
+        has-left set seen.event u (put cs a.0 (Some d)) b.stands set.space last b.holds a (Work t) [] (Some one) b.mine now b.there
+        (ap is_gone b.stage) refl refl in
         record {
           inside = ap (λ z. z || nat_lt (demand_of last now.space) (usable w last now.space) || (is_none (runs_by last now) && many_taken last now.space)) left;
-          back = and_none now.cont;
+          back = and_right now.cont false refl;
           scans = refl;
           left = refl;
           lone = refl;
         }
 
     pub spin-move : is_locked u.shared.state.lists (own_list u seen.proc).0 ≡ true
-        → IsMove set u cs w r p a life (record { state = Work t; sections = []; work = Some one }) seen (records.Spin (own_list u seen.proc)) [] u (record { state = Work t; sections = []; work = Some one })
+        → IsMove set u cs w r p a life (record { state = Work t; sections = []; work = Some one }) seen (records.Spin (own_list u seen.proc)) [] u
+        (record { state = Work t; sections = []; work = Some one })
     spin-move locked = record {
       step = step_by true locked;
       first = refl;

@@ -46,7 +46,9 @@ module _ (set : Setting) (e : ℕ) (u : Package) (cs : Contexts Context) (w : Wo
       let k0 = begun-holds set.space r u cs w (record { number = seen.event; proc = p; records = [] }) i.holds in
       turn-legal set e u cs w r p a life c seen z (cont-move set e u cs w r p a life seen f fs wk i) (record {
         table = refl;
-        keeps = cont-keeps set e u cs i.stands set.space r0 k0 a f fs wk i.on.mine w n p life i.on.runs i.on.is i.on.space (scene.known set e u cs w r p a life c seen i);
+        keeps =
+            cont-keeps set e u cs i.stands set.space r0 k0 a f fs wk i.on.mine w n p life i.on.runs i.on.is i.on.space
+            (scene.known set e u cs w r p a life c seen i);
         alone = refl;
         free = record { free = λ bound. absurd cc };
         next = λ behind. tt;
@@ -73,7 +75,9 @@ module _ (set : Setting) (e : ℕ) (u : Package) (cs : Contexts Context) (w : Wo
         let k1 = begun-holds set.space r u cs w (record { number = seen.event; proc = p; records = [] }) i.holds in
         turn-legal set e u cs w r p a life d seen z (push-move set e u cs w r p a life seen t one i free) (record {
           table = refl;
-          keeps = push_keeps set e u cs i.stands set.space r0 k1 a w n p life i.on.runs i.on.is t one i.on.mine (own_list u seen.proc) free own (scene.carries set e u cs w r p a life d seen i);
+          keeps =
+              push_keeps set e u cs i.stands set.space r0 k1 a w n p life i.on.runs i.on.is t one i.on.mine (own_list u seen.proc) free own
+              (scene.carries set e u cs w r p a life d seen i);
           alone = refl;
           free = record { free = λ bound. absurd (let no_bound : not (has_hand r life) ≡ false = ap not hand in cc) };
           next = λ behind. tt;
@@ -84,7 +88,8 @@ module _ (set : Setting) (e : ℕ) (u : Package) (cs : Contexts Context) (w : Wo
     spin-legal locked =
         let mine = here set e u cs w r p a life seen t one i in
         turn-legal set e u cs w r p a life d seen z (spin-move set e u cs w r p a life seen t one i locked) (record {
-          table = (refl, record { locks = mine.locks; cont = mine.cont; hand = hand; list = own; held = spin-held set e u cs w r p a life seen t one i locked });
+          table =
+              (refl, record { locks = mine.locks; cont = mine.cont; hand = hand; list = own; held = spin-held set e u cs w r p a life seen t one i locked });
           keeps = tt;
           alone = tt;
           free = record { free = λ bound. absurd cc };

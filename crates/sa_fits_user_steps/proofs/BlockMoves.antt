@@ -1,9 +1,10 @@
--- The moves that end with a block: what is known behind one, and those that say nothing before it, a fault in the code and the
+-- The moves that end with a block: what is known after one, and those that say nothing before it, a fault in the code and the
 -- touch of an absent page.
 use Rattle.std.proofs.Common.{◌≡◌, ℕ, Bool, true, false, ◌||◌, [], Option, Some, slice_index_or, refl, sym, ap, ◌∙◌, subst}
 use Rattle.std.specs.Prelude.{length, ◌<◌, if◌then◌else◌, ◌≢◌}
 use Rattle.std.specs.List.{list_any}
 use Rattle.std.specs.Option.{option_map}
+use Rattle.std.proofs.lemmas.Bool.{and_right}
 use Rattle.sa_base.specs.declared.context.Seen.{Seen}
 use Rattle.sa_base.specs.declared.limits.TheConstants.{PACKAGE_PAGE}
 use Rattle.sa_base.specs.declared.number.ActNo.{ActNo}
@@ -41,12 +42,12 @@ use Rattle.sa_fits.specs.Stage.{stage_of, is_gone, InBlock}
 use Rattle.sa_fits.specs.View.{is_idle, view, at_yield, looks_of}
 use Rattle.sa_fits_notices.proofs.Blocks.{block-holds, block-stays}
 use Rattle.sa_fits_notices.proofs.Blocks as blocks
-use Rattle.sa_fits_steps.proofs.CodeMoves.{and_none}
 use Rattle.sa_fits_steps.proofs.Scenes.{IsScene}
 use Rattle.sa_fits_steps.proofs.Scenes as scene
 
--- WHAT IS KNOWN BEHIND A BLOCK of life a, whose context c stays as it is, at this moment; its event began with x.
-pub record IsBlocked (set : Setting) (cs : Contexts Context) (w : WorkloadView) (r : Readings) (a : ActNo) (life : Life) (c : Context) (v : Package) (here : Readings) (x : Record) : Type 0 where
+-- WHAT IS KNOWN AFTER A BLOCK of life a, whose context c stays as it is, at this moment; its event began with x.
+pub record IsBlocked (set : Setting) (cs : Contexts Context) (w : WorkloadView) (r : Readings) (a : ActNo) (life : Life) (c : Context) (v : Package)
+    (here : Readings) (x : Record) : Type 0 where
   pub holds : Holds set.space here v cs
   pub lives : here.lives ≡ put r.lives a.0 (Some (held_with (carried_by c.state) life))
   pub stage : stage_of here set.space a (held_with (carried_by c.state) life) ≡ InBlock
@@ -60,7 +61,8 @@ pub inside-at : (w : WorkloadView) (r : Readings) (ev : Event) (here last : Read
     → is_inside w r ev last false life ≡ (some_lock life.locks || life.cont || has_hand here life)
 inside-at w r ev here last life spaces =
     or_false (some_lock life.locks || life.cont || has_hand last life)
-    ∙ ap (λ y. some_lock life.locks || life.cont || y) (ap (λ ys. list_any (counts (slice_index_or ys life.space.0 (record { threads = []; sync = sync_opening no_space }))) life.hand) spaces) where
+    ∙ ap (λ y. some_lock life.locks || life.cont || y)
+    (ap (λ ys. list_any (counts (slice_index_or ys life.space.0 (record { threads = []; sync = sync_opening no_space }))) life.hand) spaces) where
       or_false : (b : Bool) → (b || false || false) ≡ b
       or_false true = refl
       or_false false = refl
@@ -108,7 +110,9 @@ module _ (set : Setting) (e : ℕ) (u : Package) (cs : Contexts Context) (w : Wo
 
     stands_now : IsStanding set seen.event v cs
     stands_now =
-        subst (IsStanding set seen.event v) put_c (subst (λ (y : Stepped Package Context). IsStanding set seen.event y.user (put cs a.0 (Some y.ctx))) z.step (scene.steps set e u cs w r p a life c seen i).value)
+        subst (IsStanding set seen.event v) put_c
+        (subst (λ (y : Stepped Package Context). IsStanding set seen.event y.user (put cs a.0 (Some y.ctx))) z.step
+        (scene.steps set e u cs w r p a life c seen i).value)
 
     -- what is blocked, and that its record is a step of the abstract machine
     pub fault-for : blocking w (begun_at w seen.event p r) set.space (carried_by c.state) a ≡ record { kind = Page set.space a page; length = u.fetch }
@@ -119,7 +123,8 @@ module _ (set : Setting) (e : ℕ) (u : Package) (cs : Contexts Context) (w : Wo
     fault-needs io = record { owned = i.on.owner; runs = scene.runner set e u cs w r p a life c seen i; cause = z.cause }
 
     pub fault-blocked : (io : IoNo)
-        → IsBlocked set cs w r a life c v (after_record w n p r0 (records.Block set.space (carried_by c.state) a io)) (records.Block set.space (carried_by c.state) a io)
+        → IsBlocked set cs w r a life c v (after_record w n p r0 (records.Block set.space (carried_by c.state) a io))
+        (records.Block set.space (carried_by c.state) a io)
     fault-blocked io =
         let x = records.Block set.space (carried_by c.state) a io in
         let here = after_record w n p r0 x in
@@ -134,11 +139,13 @@ module _ (set : Setting) (e : ℕ) (u : Package) (cs : Contexts Context) (w : Wo
           holds = holds;
           lives = lives_are;
           stage = blocks.stage_a set e u cs i.stands set.space r0 k0 a c i.on.mine w n p life i.on.runs i.on.is i.on.space known heard procs io;
-          others = λ y l ne. blocks.stage_x set e u cs i.stands set.space r0 k0 a c i.on.mine w n p life i.on.runs i.on.is i.on.space known heard procs io y l.proc ne;
+          others =
+              λ y l ne. blocks.stage_x set e u cs i.stands set.space r0 k0 a c i.on.mine w n p life
+              i.on.runs i.on.is i.on.space known heard procs io y l.proc ne;
           busy = z.busy;
           marks = λ ev last spaces. record {
             inside = inside-at w r ev here last now spaces ∙ z.inside here holds there stays_so stands_now;
-            back = and_none life.cont ∙ sym z.yields;
+            back = and_right life.cont false refl ∙ sym z.yields;
             scans = sym z.looks;
             left = i.own.left;
             lone = i.own.lone;

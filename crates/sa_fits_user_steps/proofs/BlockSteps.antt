@@ -1,5 +1,5 @@
--- FastThreads' steps that end with a block: all fits behind one, and a fault is legal.
-use Rattle.std.proofs.Common.{◌≡◌, ℕ, Bool, true, false, List, [], ◌∷◌, Option, Some, None, refl, sym, ap, ◌∙◌, subst}
+-- FastThreads' steps that end with a block: all fits after one, and a fault is legal.
+use Rattle.std.proofs.Common.{◌≡◌, ℕ, true, List, [], ◌∷◌, Option, Some, refl, sym, ap, ◌∙◌, subst}
 use Rattle.std.specs.Prelude.{if◌then◌else◌, ◌++◌}
 use Rattle.std.specs.List.{list_any}
 use Rattle.std.specs.Option.{option_map}
@@ -24,10 +24,10 @@ use Rattle.sa_laws.specs.Demand.{IsFree}
 use Rattle.sa_laws.specs.Event.{Event}
 use Rattle.sa_laws.specs.History.{is_inside, is_step, with_step, stepped as ends}
 use Rattle.sa_laws.specs.Life.{Life, first_lock, held_with}
-use Rattle.sa_laws.specs.Locks.{StandsAlone}
 use Rattle.sa_laws.specs.Readings.{Readings, life_of, running_of, ready_of}
 use Rattle.sa_laws.specs.Record.{after_record, with_life}
-use Rattle.sa_laws.specs.Turns.{is_of_locks, CanFault, IsPassage, AreTold, IsFetchOrNothing}
+use Rattle.sa_laws.specs.Turns.{is_of_locks, CanFault}
+use Rattle.sa_laws.proofs.Records.{passage-plain, alone-plain}
 use Rattle.sa_user_laws.specs.Scene.{begun_at}
 use Rattle.sa_user_laws.specs.Steps.{event_with}
 use Rattle.sa_fits.proofs.EventEnds.{set-marked}
@@ -39,35 +39,15 @@ use Rattle.sa_fits_steps.proofs.Scenes.{IsScene, IsFastScene}
 use Rattle.sa_fits_steps.proofs.Turns.{rules-of}
 use Rattle.sa_fits_user_steps.proofs.BlockMoves.{IsBlocked, IsFault, fault-for, fault-needs, fault-blocked}
 
--- a passage has no operation on lists
-told_plain : (xs : List Record) → AreTold xs → list_any is_of_locks xs ≡ false
-told_plain [] h = refl
-told_plain (records.Told n ∷ xs) h = told_plain xs h
-told_plain (x ∷ xs) h = absurd h
-
-fetch_plain : (xs : List Record) → IsFetchOrNothing xs → list_any is_of_locks xs ≡ false
-fetch_plain [] h = refl
-fetch_plain (records.Fetch s ∷ []) h = refl
-fetch_plain (x ∷ xs) h = absurd h
-
-pub passage-plain : (xs : List Record) → IsPassage xs → list_any is_of_locks xs ≡ false
-passage-plain (records.Up s a ∷ xs) h = told_plain xs h
-passage-plain (records.Move old (Some new) ∷ records.Up s a ∷ xs) h = told_plain xs h
-passage-plain (records.Move old None ∷ records.Aim p None ∷ xs) h = fetch_plain xs h
-passage-plain xs h = absurd h
-
-pub alone-plain : (b : Bool) (xs : List Record) → b ≡ false → StandsAlone b xs
-alone-plain true xs e = absurd cc
-alone-plain false xs e = tt
-
 module _ (set : Setting) (e : ℕ) (u : Package) (cs : Contexts Context) (w : WorkloadView) (r : Readings) (p : ProcNo) (a : ActNo) (life : Life)
     (c : Context) (seen : Seen)
     (y : IsFastScene set e u cs w r p a life c seen) where
   abbrev i : IsScene set e u cs w r p a life c seen
   i = y.scene
 
-  -- BEHIND A BLOCK all fits, whatever the kernel writes behind it
-  pub blocked-fits : (v : Package) (here : Readings) (x : Record) (xs : List Record) (ev : Event) (last : Readings) → ev.proc ≡ p → ev.records ≡ x ∷ xs → is_step x ≡ true
+  -- AFTER A BLOCK all fits, whatever the kernel writes after it
+  pub blocked-fits : (v : Package) (here : Readings) (x : Record) (xs : List Record) (ev : Event) (last : Readings) → ev.proc ≡ p → ev.records ≡ x ∷ xs
+      → is_step x ≡ true
       → IsBlocked set cs w r a life c v here x → FitsLists v (ready_of here set.space) → last.state.spaces ≡ here.state.spaces
       → Fits set.space (record here { lives = with_step is_inside w r ev last ev.records here.lives }) v (put cs a.0 (Some c))
   blocked-fits v here x xs ev last proc records step b lists spaces =
@@ -105,11 +85,13 @@ module _ (set : Setting) (e : ℕ) (u : Package) (cs : Contexts Context) (w : Wo
             let x = records.Block set.space (carried_by c.state) a io in
             let follows =
             rules-of w r (event_with seen.event p (x ∷ passage) closing) a life x passage (passage ++ closing) i.on.runs i.on.is refl closed.is_own refl
-            (passes, t.fault) tt (sym (i.own.back ∙ z.yields)) (alone-plain (list_any is_of_locks passage) passage (passage-plain passage passes)) (t.free io) tt in
+            (passes, t.fault) tt (sym (i.own.back ∙ z.yields)) (alone-plain (list_any is_of_locks passage) passage (passage-plain passage passes))
+            (t.free io) tt in
             record { steps = follows.steps; demand = follows.demand; locks = follows.locks; order = follows.order };
         after = λ io behind last spaces.
             let x = records.Block set.space (carried_by c.state) a io in
-            blocked-fits (placed_in u (carried_by c.state) kept.Blocked) (after_record w seen.event p (begun_at w seen.event p r) x) x behind (event_with seen.event p (x ∷ []) behind) last refl refl refl
+            blocked-fits (placed_in u (carried_by c.state) kept.Blocked) (after_record w seen.event p (begun_at w seen.event p r) x) x behind
+            (event_with seen.event p (x ∷ []) behind) last refl refl refl
             (fault-blocked set e u cs w r p a life c seen i z io) (record { many = y.lists.many; ranks = y.lists.ranks; numbers = y.lists.numbers }) spaces;
       };
     })

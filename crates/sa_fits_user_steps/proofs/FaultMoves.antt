@@ -83,14 +83,25 @@ module _ (set : Setting) (e : ℕ) (u : Package) (cs : Contexts Context) (w : Wo
       pub yields : is_yield_op (slice_get package_ops f.pc) ≡ false
 
     stands : IsBeforeEffect
-    stands = elim (faulted (slice_get package_ops f.pc) (i.stands.contexts a.0 c i.on.mine).state (ap (λ o. micro_at u.shared.state f (is_page_resident seen.pages PACKAGE_PAGE) (list_in f) o) (sym op_is) ∙ is)) [
-      | inl push ↦
-          let k = has_copy f.pc (ap is_section_op push) in
-          record { place = k.0; copy = k.1; unused = push_at (λ i j. (lock_of (nat_le 8 f.pc) (record f { pc = j })).used ≡ false) refl refl f.pc k.0 k.1 push; yields = ap is_yield_op push }
-      | inr pop ↦
-          let k = has_copy f.pc (ap is_section_op pop) in
-          record { place = k.0; copy = k.1; unused = pop_at (λ i j. (lock_of (nat_le 8 f.pc) (record f { pc = j })).used ≡ false) refl refl f.pc k.0 k.1 pop; yields = ap is_yield_op pop }
-    ]
+    stands = elim (faulted (slice_get package_ops f.pc) (i.stands.contexts a.0 c i.on.mine).state
+        (ap (λ o. micro_at u.shared.state f (is_page_resident seen.pages PACKAGE_PAGE) (list_in f) o) (sym op_is) ∙ is)) [
+          | inl push ↦
+              let k = has_copy f.pc (ap is_section_op push) in
+              record {
+                place = k.0;
+                copy = k.1;
+                unused = push_at (λ i j. (lock_of (nat_le 8 f.pc) (record f { pc = j })).used ≡ false) refl refl f.pc k.0 k.1 push;
+                yields = ap is_yield_op push;
+              }
+          | inr pop ↦
+              let k = has_copy f.pc (ap is_section_op pop) in
+              record {
+                place = k.0;
+                copy = k.1;
+                unused = pop_at (λ i j. (lock_of (nat_le 8 f.pc) (record f { pc = j })).used ≡ false) refl refl f.pc k.0 k.1 pop;
+                yields = ap is_yield_op pop;
+              }
+        ]
 
     here : HasLife set.space u.shared (space_at r.state set.space) (stage_of r set.space a life) (view c) life
     here = life-here set.space r u cs i.holds a c life i.on.mine i.on.is
@@ -117,8 +128,11 @@ module _ (set : Setting) (e : ℕ) (u : Package) (cs : Contexts Context) (w : Wo
 
     -- its first lock is unused, so it may fault there, whatever it owes
     pub code-may_fault : CanFault (begun_at w seen.event p r) life (first_lock life)
-    code-may_fault = subst (CanFault (begun_at w seen.event p r) life) (sym (ap (λ ls. slice_get ls 0) locks_are))
-        (ap (λ o. is_resident (begun_at w seen.event p r) o PACKAGE_PAGE) i.on.space ∙ missing, record { used = stands.unused; cont = λ inherits. here.cont ∙ inherits })
+    code-may_fault = subst (CanFault (begun_at w seen.event p r) life) (sym (ap (λ ls. slice_get ls 0) locks_are)) (
+      ap (λ o. is_resident (begun_at w seen.event p r) o PACKAGE_PAGE) i.on.space
+          ∙ missing,
+      record { used = stands.unused; cont = λ inherits. here.cont ∙ inherits },
+    )
 
     pub code-locked : some_lock life.locks ≡ true
     code-locked = ap some_lock locks_are
@@ -142,14 +156,22 @@ module _ (set : Setting) (e : ℕ) (u : Package) (cs : Contexts Context) (w : Wo
         let none : locks_one (life_of r a) ≡ false = ap locks_one i.on.is ∙ ap some_lock own.locks in
         record {
           step =
-              ap (λ k. let o = outcome_of u.fetch seen.pages u.shared None t b k in used_by (with_shared u o.shared) seen (record { state = User t; sections = []; work = o.work }) t o.answer (says_of u.shared.state.space t b seen.pages k)) is
-              ∙ ap (λ y. let o = touched u.shared None t b u.fetch page y in used_by (with_shared u o.shared) seen (record { state = User t; sections = []; work = o.work }) t o.answer (if y then records.Ins u.shared.state.space t b.pc ∷ [] else [])) absent;
+              ap
+              (λ k. let o = outcome_of u.fetch seen.pages u.shared None t b k in
+              used_by (with_shared u o.shared) seen (record { state = User t; sections = []; work = o.work }) t o.answer
+              (says_of u.shared.state.space t b seen.pages k)) is
+              ∙ ap
+              (λ y. let o = touched u.shared None t b u.fetch page y in
+              used_by (with_shared u o.shared) seen (record { state = User t; sections = []; work = o.work }) t o.answer
+              (if y then records.Ins u.shared.state.space t b.pc ∷ [] else [])) absent;
           for = ap (λ y. if y then PACKAGE_PAGE else page_touched w r set.space (Some t)) none ∙ ap page_in next;
           cause = inr (inl (subst (IsMissed (begun_at w seen.event p r) set.space) (sym next) (ap (λ m. is_page_resident m page) (sym i.sees.pages) ∙ absent)));
           yields = refl;
           looks = refl;
           busy = refl;
-          inside = λ now holds there stays_so stands. has-left set seen.event _ cs stands set.space now holds a (User t) [] None i.on.mine (held_with (Some t) life) there stays_so refl refl;
+          inside =
+              λ now holds there stays_so stands. has-left set seen.event _ cs stands set.space now holds a (User t) [] None i.on.mine
+              (held_with (Some t) life) there stays_so refl refl;
         }
 
     -- it has no lock

@@ -35,9 +35,14 @@ module _ (set : Setting) (e : ℕ) (u : Package) (cs : Contexts Context) (w : Wo
       → is_page_resident seen.pages PACKAGE_PAGE ≡ false → micro u.shared.state f seen.pages ≡ stays u.shared.state f micros.Faulted []
       → IsLegal w set r p seen.event a cs (stepped u seen (record { state = Code f; sections = fs; work = wk }))
   code-faults f fs wk y absent is =
-      fault-legal set e u cs w r p a life (record { state = Code f; sections = fs; work = wk }) seen y (code-fault set e u cs w r p a life seen f fs wk y.scene absent is) (record {
+      fault-legal set e u cs w r p a life (record { state = Code f; sections = fs; work = wk }) seen y
+      (code-fault set e u cs w r p a life seen f fs wk y.scene absent is) (record {
         fault = code-may_fault set e u cs w r p a life seen f fs wk y.scene absent is;
-        free = λ io. record { free = λ bound. absurd (let not_bound : not (some_lock life.locks) ≡ false = ap not (code-locked set e u cs w r p a life seen f fs wk y.scene absent is) in cc) };
+        free =
+            λ io. record {
+              free = λ bound. absurd
+                  (let not_bound : not (some_lock life.locks) ≡ false = ap not (code-locked set e u cs w r p a life seen f fs wk y.scene absent is) in cc);
+            };
       })
 
   -- AT A TOUCH
@@ -45,7 +50,8 @@ module _ (set : Setting) (e : ℕ) (u : Package) (cs : Contexts Context) (w : Wo
     touch-faults : (page : ℕ) → instr_of u.def (block_at u.shared.threads t.0) ≡ Touch page → is_page_resident seen.pages page ≡ false
         → IsLegal w set r p seen.event a cs (stepped u seen (record { state = User t; sections = []; work = None }))
     touch-faults page is absent =
-        fault-legal set e u cs w r p a life (record { state = User t; sections = []; work = None }) seen y (touch-fault set e u cs w r p a life seen t y.scene page is absent)
+        fault-legal set e u cs w r p a life (record { state = User t; sections = []; work = None }) seen y
+        (touch-fault set e u cs w r p a life seen t y.scene page is absent)
         (record { fault = touch-may_fault set e u cs w r p a life seen t y.scene; free = λ io. record { free = λ bound. y.free refl } })
 
     -- ALL THAT BLOCKS, but the instruction for an I/O

@@ -1,7 +1,7 @@
 -- The move of an instruction for an I/O: the instruction and its block in one event.
 use Rattle.std.proofs.Common.{◌≡◌, ℕ, ◌+◌, false, ◌&&◌, [], ◌∷◌, Option, Some, None, is_some, slice_index_or, refl, sym, ap, ◌∙◌, subst, inl, inr, arith}
 use Rattle.std.specs.Prelude.{length, ◌<◌, not, if◌then◌else◌, ◌≢◌, ◌==◌, ◌&&◌, ◌+◌}
-use Rattle.std.proofs.lemmas.Bool.{cases_eq, eq-eqb}
+use Rattle.std.proofs.lemmas.Bool.{cases_eq, eq-eqb, and_right}
 use Rattle.std.proofs.lemmas.List.{get_or-set_same, length-set, append-nil, get_or-set_other}
 use Rattle.std.proofs.lemmas.Option.{same_Some}
 use Rattle.std.specs.Option.{option_map}
@@ -54,7 +54,6 @@ use Rattle.sa_fits.specs.Fits.{Holds, FitsThread}
 use Rattle.sa_fits.specs.Stage.{stage_of, is_gone}
 use Rattle.sa_fits_notices.proofs.Blocks.{block-holds, block-stays}
 use Rattle.sa_fits_notices.proofs.Blocks as blocks
-use Rattle.sa_fits_steps.proofs.CodeMoves.{and_none}
 use Rattle.sa_fits_steps.proofs.Scenes.{IsScene}
 use Rattle.sa_fits_steps.proofs.Scenes as scene
 use Rattle.sa_fits_user_steps.proofs.BlockMoves.{IsBlocked, inside-at}
@@ -62,7 +61,8 @@ use Rattle.sa_fits_user_steps.proofs.UserMoves.{instr_is, thread_fits, runs_ther
 
 module _ (set : Setting) (e : ℕ) (u : Package) (cs : Contexts Context) (w : WorkloadView) (r : Readings) (p : ProcNo) (a : ActNo) (life : Life)
     (seen : Seen)
-    (t : ThreadNo) (i : IsScene set e u cs w r p a life (record { state = User t; sections = []; work = None }) seen) (m : ℕ) (is : instr_of u.def (block_at u.shared.threads t.0) ≡ Io m) (io : IoNo) where
+    (t : ThreadNo) (i : IsScene set e u cs w r p a life (record { state = User t; sections = []; work = None }) seen) (m : ℕ)
+    (is : instr_of u.def (block_at u.shared.threads t.0) ≡ Io m) (io : IoNo) where
   abbrev c : Context
   c = record { state = User t; sections = []; work = None }
 
@@ -166,10 +166,13 @@ module _ (set : Setting) (e : ℕ) (u : Package) (cs : Contexts Context) (w : Wo
             let one : j ≡ t = ap (λ x. record { 0 = x }) same in
             let old = thread_fits set e u cs w r p a life seen t i in
             subst (λ x. FitsThread (block_at v.shared.threads x.0) (thread_in (space_at here.state set.space) x)) (sym one)
-            (subst (λ x. FitsThread x (thread_in (space_at here.state set.space) t)) (sym (get_or-set_same u.shared.threads t.0 (moved_to (next_of b) kept.Blocked) unmade inside))
-            (subst (FitsThread (moved_to (next_of b) kept.Blocked)) (sym own_is) (record { program = old.program; pc = ap (λ k. k + 1) old.pc; regs = old.regs; place = tt })))
+            (subst (λ x. FitsThread x (thread_in (space_at here.state set.space) t))
+            (sym (get_or-set_same u.shared.threads t.0 (moved_to (next_of b) kept.Blocked) unmade inside))
+            (subst (FitsThread (moved_to (next_of b) kept.Blocked)) (sym own_is)
+            (record { program = old.program; pc = ap (λ k. k + 1) old.pc; regs = old.regs; place = tt })))
         | inr ne ↦
-            subst (λ x. FitsThread x (thread_in (space_at here.state set.space) j)) (sym (get_or-set_other u.shared.threads t.0 j.0 (moved_to (next_of b) kept.Blocked) unmade ne))
+            subst (λ x. FitsThread x (thread_in (space_at here.state set.space) j))
+            (sym (get_or-set_other u.shared.threads t.0 j.0 (moved_to (next_of b) kept.Blocked) unmade ne))
             (subst (FitsThread (block_at u.shared.threads j.0)) (sym (other_is j ne)) (i.holds.space.threads j less))
       ];
       sync = ap (λ (x : SpaceState). x.sync) space_2 ∙ i.holds.space.sync;
@@ -178,7 +181,9 @@ module _ (set : Setting) (e : ℕ) (u : Package) (cs : Contexts Context) (w : Wo
       | inl e ↦
           let one : j ≡ t = ap (λ x. record { 0 = x }) e in
           ap (λ x. (thread_in (space_at here.state set.space) x).place) one ∙ ap (λ (x : Thread). x.place) own_is
-          ∙ sym (ap (λ x. (thread_in (space_at qb.state set.space) x).place) one ∙ ap (λ x. (thread_in x t).place) space_b ∙ ap (λ (x : Thread). x.place) (thread-here y t (record z { place = place.Blocked }) below))
+          ∙ sym
+          (ap (λ x. (thread_in (space_at qb.state set.space) x).place) one ∙ ap (λ x. (thread_in x t).place) space_b
+          ∙ ap (λ (x : Thread). x.place) (thread-here y t (record z { place = place.Blocked }) below))
       | inr ne ↦
           ap (λ (x : Thread). x.place) (other_is j ne)
           ∙ sym (ap (λ x. (thread_in x j).place) space_b ∙ ap (λ (x : Thread). x.place) (thread-there y t j (record z { place = place.Blocked }) ne))
@@ -208,15 +213,17 @@ module _ (set : Setting) (e : ℕ) (u : Package) (cs : Contexts Context) (w : Wo
     lives = ap (with_life (held_with (Some t)) (Some a)) lives_1;
   }
 
-  -- behind the block all fits
+  -- after the block all fits
   pub io-holds : Holds set.space here v cs
   io-holds = in-place set.space qb here vb v cs io-in_place
-      (block-holds set e u cs i.stands set.space r0 k0 a c i.on.mine w n p life i.on.runs i.on.is i.on.space known (scene.heard set e u cs w r p a life c seen i) (scene.procs set e u cs w r p a life c seen i) io)
+      (block-holds set e u cs i.stands set.space r0 k0 a c i.on.mine w n p life i.on.runs i.on.is i.on.space known
+      (scene.heard set e u cs w r p a life c seen i) (scene.procs set e u cs w r p a life c seen i) io)
 
--- THE STEP: the instruction, and behind it a block for its I/O
+-- THE STEP: the instruction, and after it a block for its I/O
 module _ (set : Setting) (e : ℕ) (u : Package) (cs : Contexts Context) (w : WorkloadView) (r : Readings) (p : ProcNo) (a : ActNo) (life : Life)
     (seen : Seen)
-    (t : ThreadNo) (i : IsScene set e u cs w r p a life (record { state = User t; sections = []; work = None }) seen) (m : ℕ) (is : instr_of u.def (block_at u.shared.threads t.0) ≡ Io m) where
+    (t : ThreadNo) (i : IsScene set e u cs w r p a life (record { state = User t; sections = []; work = None }) seen) (m : ℕ)
+    (is : instr_of u.def (block_at u.shared.threads t.0) ≡ Io m) where
   abbrev d : Context
   d = record { state = User t; sections = []; work = None }
 
@@ -273,22 +280,41 @@ module _ (set : Setting) (e : ℕ) (u : Package) (cs : Contexts Context) (w : Wo
 
   pub io-length : length_behind w q set.space (Some t) q.last ≡ Some m
   io-length =
-      ap (λ b. if b && t.0 == t.0 then length_in (law_instr w q.state set.space t (block_at u.shared.threads t.0).pc) else None) (eq-eqb set.space.0 set.space.0 refl)
+      ap (λ b. if b && t.0 == t.0 then length_in (law_instr w q.state set.space t (block_at u.shared.threads t.0).pc) else None)
+      (eq-eqb set.space.0 set.space.0 refl)
       ∙ ap (λ b. if b then length_in (law_instr w q.state set.space t (block_at u.shared.threads t.0).pc) else None) (eq-eqb t.0 t.0 refl)
-      ∙ ap length_in (ap (λ k. instr_at (slice_index_or (space_def w set.space).programs k []) (block_at u.shared.threads t.0).pc) (ap (λ (y : Thread). y.program) own_thread)
+      ∙ ap length_in
+      (ap (λ k. instr_at (slice_index_or (space_def w set.space).programs k []) (block_at u.shared.threads t.0).pc) (ap (λ (y : Thread). y.program) own_thread)
       ∙ instr_is set e u cs w r p a life seen t i ∙ is)
 
-  pub step_is : stepped u seen (record { state = User t; sections = []; work = None }) ≡ record { user = with_io; ctx = record { state = User t; sections = []; work = None }; says = records.Ins set.space t (block_at u.shared.threads t.0).pc ∷ []; answer = asked.Block m None }
+  pub step_is : stepped u seen
+      (record { state = User t; sections = []; work = None }) ≡ record {
+        user = with_io;
+        ctx = record { state = User t; sections = []; work = None };
+        says = records.Ins set.space t (block_at u.shared.threads t.0).pc ∷ [];
+        answer = asked.Block m None;
+      }
   step_is =
-      ap (λ k. let o = outcome_of u.fetch seen.pages u.shared None t (block_at u.shared.threads t.0) k in used_by (with_shared u o.shared) seen (record { state = User t; sections = []; work = o.work }) t o.answer (says_of u.shared.state.space t (block_at u.shared.threads t.0) seen.pages k)) is
-      ∙ ap (λ y. record { user = with_io; ctx = record { state = User t; sections = []; work = None }; says = records.Ins y t (block_at u.shared.threads t.0).pc ∷ []; answer = asked.Block m None }) (scene.space set e u cs w r p a life d seen i)
+      ap
+      (λ k. let o = outcome_of u.fetch seen.pages u.shared None t (block_at u.shared.threads t.0) k in
+      used_by (with_shared u o.shared) seen (record { state = User t; sections = []; work = o.work }) t o.answer
+      (says_of u.shared.state.space t (block_at u.shared.threads t.0) seen.pages k)) is
+      ∙ ap
+      (λ y. record {
+        user = with_io;
+        ctx = record { state = User t; sections = []; work = None };
+        says = records.Ins y t (block_at u.shared.threads t.0).pc ∷ [];
+        answer = asked.Block m None;
+      }) (scene.space set e u cs w r p a life d seen i)
 
   put_d : put cs a.0 (Some d) ≡ cs
   put_d = ap (put cs a.0) (sym i.on.mine) ∙ put-self cs a.0
 
   stands_now : IsStanding set seen.event with_io cs
   stands_now =
-      subst (IsStanding set seen.event with_io) put_d (subst (λ (y : Stepped Package Context). IsStanding set seen.event y.user (put cs a.0 (Some y.ctx))) step_is (scene.steps set e u cs w r p a life d seen i).value)
+      subst (IsStanding set seen.event with_io) put_d
+      (subst (λ (y : Stepped Package Context). IsStanding set seen.event y.user (put cs a.0 (Some y.ctx))) step_is
+      (scene.steps set e u cs w r p a life d seen i).value)
 
   pub io-steps : AreSteps w seen.event p (begun_at w seen.event p r) (records.Ins set.space t (block_at u.shared.threads t.0).pc ∷ [])
   io-steps = (
@@ -299,18 +325,22 @@ module _ (set : Setting) (e : ℕ) (u : Package) (cs : Contexts Context) (w : Wo
       within = let at = (i.stands.parts.at t.0 (t_made set e u cs w r p a life seen t i)).place in
           let long : program_len w r.state set.space t ≡ _ =
           ap (λ k. length (slice_index_or (space_def w set.space).programs k [])) (thread_fits set e u cs w r p a life seen t i).program
-          ∙ ap (λ (y : SpaceView). length (slice_index_or y.programs (block_at u.shared.threads t.0).program [])) (scene.def set e u cs w r p a life d seen i) in
+          ∙ ap (λ (y : SpaceView). length (slice_index_or y.programs (block_at u.shared.threads t.0).program []))
+          (scene.def set e u cs w r p a life d seen i) in
           omega arith;
       page = subst (IsTouched (begun_at w seen.event p r) set.space) (sym (instr_is set e u cs w r p a life seen t i ∙ is)) tt;
     },
     tt,
   )
 
-  pub io-needs : (io : IoNo) → Needs w p (after_record w seen.event p (begun_at w seen.event p r) (records.Ins set.space t (block_at u.shared.threads t.0).pc)) (records.Block set.space (Some t) a io)
+  pub io-needs : (io : IoNo)
+      → Needs w p (after_record w seen.event p (begun_at w seen.event p r) (records.Ins set.space t (block_at u.shared.threads t.0).pc))
+      (records.Block set.space (Some t) a io)
   io-needs io = record { owned = i.on.owner; runs = io-runner; cause = inl (ap is_some io-length) }
 
   pub io-blocked : (io : IoNo)
-      → IsBlocked set cs w r a life (record { state = User t; sections = []; work = None }) with_io (after_record w seen.event p q (records.Block set.space (Some t) a io)) (records.Ins set.space t (block_at u.shared.threads t.0).pc)
+      → IsBlocked set cs w r a life (record { state = User t; sections = []; work = None }) with_io
+      (after_record w seen.event p q (records.Block set.space (Some t) a io)) (records.Ins set.space t (block_at u.shared.threads t.0).pc)
   io-blocked io =
       let now : Life = held_with (Some t) life in
       let end = after_record w seen.event p q (records.Block set.space (Some t) a io) in
@@ -320,15 +350,21 @@ module _ (set : Setting) (e : ℕ) (u : Package) (cs : Contexts Context) (w : Wo
       ∙ ap (λ o. put r.lives a.0 (option_map (held_with (Some t)) o)) i.on.is in
       let there : life_of end a ≡ Some now = ap (λ (f : ℕ → Option Life). f a.0) lives_are ∙ put-same r.lives a.0 (Some now) in
       let stays_so : is_gone (stage_of end set.space a now) ≡ false =
-      block-stays set e u cs i.stands set.space (begun_at w seen.event p r) (k0 set e u cs w r p a life seen t i m is io) a d i.on.mine w seen.event p life i.on.runs i.on.is i.on.space
+      block-stays set e u cs i.stands set.space (begun_at w seen.event p r)
+      (k0 set e u cs w r p a life seen t i m is io) a d i.on.mine w seen.event p life i.on.runs i.on.is i.on.space
       (scene.known set e u cs w r p a life d seen i) (scene.heard set e u cs w r p a life d seen i) (scene.procs set e u cs w r p a life d seen i) io in
       record {
         holds = holds;
         lives = lives_are;
-        stage = blocks.stage_a set e u cs i.stands set.space (begun_at w seen.event p r) (k0 set e u cs w r p a life seen t i m is io) a d i.on.mine w seen.event p life i.on.runs i.on.is i.on.space
+        stage =
+            blocks.stage_a set e u cs i.stands set.space (begun_at w seen.event p r)
+            (k0 set e u cs w r p a life seen t i m is io) a d i.on.mine w seen.event p life i.on.runs i.on.is i.on.space
             (scene.known set e u cs w r p a life d seen i) (scene.heard set e u cs w r p a life d seen i) (scene.procs set e u cs w r p a life d seen i) io;
-        others = λ y l ne. blocks.stage_x set e u cs i.stands set.space (begun_at w seen.event p r) (k0 set e u cs w r p a life seen t i m is io) a d i.on.mine w seen.event p life i.on.runs i.on.is i.on.space
-            (scene.known set e u cs w r p a life d seen i) (scene.heard set e u cs w r p a life d seen i) (scene.procs set e u cs w r p a life d seen i) io y l.proc ne;
+        others =
+            λ y l ne. blocks.stage_x set e u cs i.stands set.space (begun_at w seen.event p r)
+            (k0 set e u cs w r p a life seen t i m is io) a d i.on.mine w seen.event p life i.on.runs i.on.is i.on.space
+            (scene.known set e u cs w r p a life d seen i) (scene.heard set e u cs w r p a life d seen i)
+            (scene.procs set e u cs w r p a life d seen i) io y l.proc ne;
         busy = refl;
         marks = λ ev last spaces.
             let placed_so : (thread_at last.state set.space t).place ≡ place.Blocked =
@@ -338,7 +374,7 @@ module _ (set : Setting) (e : ℕ) (u : Package) (cs : Contexts Context) (w : Wo
               inside = ap (λ y. is_inside w r ev last (not (stays_on y)) now) placed_so
                   ∙ inside-at w r ev end last now spaces
                   ∙ has-left set seen.event with_io cs stands_now set.space end holds a (User t) [] None i.on.mine now there stays_so refl refl;
-              back = and_none life.cont;
+              back = and_right life.cont false refl;
               scans = refl;
               left = refl;
               lone = refl;

@@ -24,19 +24,20 @@ use Rattle.sa_laws.specs.Life.{Life}
 use Rattle.sa_laws.specs.Readings.{Readings}
 use Rattle.sa_laws.specs.Record.{after_record, blocking_for}
 use Rattle.sa_laws.specs.Turns.{IsInsOf, is_of_locks}
+use Rattle.sa_laws.proofs.Records.{passage-plain, alone-plain}
 use Rattle.sa_user_laws.specs.Scene.{begun_at}
 use Rattle.sa_user_laws.specs.Steps.{event_with}
 use Rattle.sa_fits_steps.proofs.Events.{IsLegal}
 use Rattle.sa_fits_steps.proofs.Scenes.{IsScene, IsFastScene}
 use Rattle.sa_fits_steps.proofs.Turns.{rules-of}
-use Rattle.sa_fits_user_steps.proofs.BlockSteps.{passage-plain, alone-plain}
 use Rattle.sa_fits_user_steps.proofs.UserMoves.{instr_is}
 use Rattle.sa_fits_user_steps.proofs.BlockSteps.{blocked-fits}
 use Rattle.sa_fits_user_steps.proofs.IoMoves.{io-length, io-steps, io-needs, io-blocked, step_is}
 
 module _ (set : Setting) (e : ℕ) (u : Package) (cs : Contexts Context) (w : WorkloadView) (r : Readings) (p : ProcNo) (a : ActNo) (life : Life)
     (seen : Seen)
-    (t : ThreadNo) (y : IsFastScene set e u cs w r p a life (record { state = User t; sections = []; work = None }) seen) (m : ℕ) (is : instr_of u.def (block_at u.shared.threads t.0) ≡ Io m) where
+    (t : ThreadNo) (y : IsFastScene set e u cs w r p a life (record { state = User t; sections = []; work = None }) seen) (m : ℕ)
+    (is : instr_of u.def (block_at u.shared.threads t.0) ≡ Io m) where
   abbrev d : Context
   d = record { state = User t; sections = []; work = None }
 
@@ -67,7 +68,8 @@ module _ (set : Setting) (e : ℕ) (u : Package) (cs : Contexts Context) (w : Wo
           record { steps = follows.steps; demand = follows.demand; locks = follows.locks; order = follows.order };
       after = λ io behind last spaces.
           let block = records.Block set.space (Some t) a io in
-          blocked-fits set e u cs w r p a life d seen y v (after_record w seen.event p q block) x (block ∷ behind) (event_with seen.event p (x ∷ block ∷ []) behind) last refl refl refl
+          blocked-fits set e u cs w r p a life d seen y v (after_record w seen.event p q block) x (block ∷ behind)
+          (event_with seen.event p (x ∷ block ∷ []) behind) last refl refl refl
           (io-blocked set e u cs w r p a life seen t i m is io) (record { many = y.lists.many; ranks = y.lists.ranks; numbers = y.lists.numbers }) spaces;
     };
   })

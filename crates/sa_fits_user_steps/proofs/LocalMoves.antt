@@ -1,4 +1,4 @@
--- A local instruction of a life as a whole event: what its user level says and does, and what is known behind that event, by
+-- A local instruction of a life as a whole event: what its user level says and does, and what is known after that event, by
 -- whichever test of who is in.
 use Rattle.std.proofs.Common.{◌≡◌, ◌≢◌, ℕ, ◌+◌, ◌≤◌, ◌<◌, [], ◌∷◌, length, Option, Some, None, slice_index_or, slice_index, option_map, refl, sym, ap, ◌∙◌, subst, inl, inr, arith, length-set}
 use Rattle.std.specs.Prelude.{◌↔◌, ◌⊎◌}
@@ -84,13 +84,18 @@ module _ (u : Package) (seen : Seen) (t : ThreadNo) where
   abbrev c : Context
   c = record { state = User t; sections = []; work = None }
 
-  -- the package behind an instruction
+  -- the package after an instruction
   abbrev pub behind : Instr → Package
   behind k =
-      with_shared u (with_thread u.shared t (gone_to (block_at u.shared.threads t.0) (place_after k (block_at u.shared.threads t.0).pc (block_at u.shared.threads t.0).regs) (regs_after k (block_at u.shared.threads t.0).regs)))
+      with_shared u
+      (with_thread u.shared t
+      (gone_to (block_at u.shared.threads t.0) (place_after k (block_at u.shared.threads t.0).pc (block_at u.shared.threads t.0).regs)
+      (regs_after k (block_at u.shared.threads t.0).regs)))
 
   pub record IsLocalStep (k : Instr) : Type 0 where
-    pub step : (let o = outcome_of u.fetch seen.pages u.shared None t b k in used_by (with_shared u o.shared) seen (record { state = User t; sections = []; work = o.work }) t o.answer (says_of u.shared.state.space t b seen.pages k))
+    pub step : (let o = outcome_of u.fetch seen.pages u.shared None t b k in
+        used_by (with_shared u o.shared) seen (record { state = User t; sections = []; work = o.work }) t o.answer
+        (says_of u.shared.state.space t b seen.pages k))
         ≡ did (pair (behind k) c) (records.Ins u.shared.state.space t b.pc ∷ [])
     pub goes : (outcome_of u.fetch seen.pages u.shared None t b k).answer ≡ rans.Goes
 
@@ -118,8 +123,9 @@ with-life-there : (f : Life → Life) (o : Option ActNo) (a : ActNo) (lives : �
     → with_life f o lives y ≡ lives y
 with-life-there f o a lives y at apart = ap (λ n. with_life f n lives y) at ∙ put-other lives a.0 y (option_map f (lives a.0)) apart
 
--- what is known behind the records of the event, where this is the step
-pub record IsLocalBehind (set : Setting) (cs : Contexts Context) (w : WorkloadView) (r : Readings) (p : ProcNo) (a : ActNo) (n : ℕ) (x : Record) (st : Stepped Package Context) : Type 0 where
+-- what is known after the records of the event, where this is the step
+pub record IsLocalBehind (set : Setting) (cs : Contexts Context) (w : WorkloadView) (r : Readings) (p : ProcNo) (a : ActNo) (n : ℕ) (x : Record)
+    (st : Stepped Package Context) : Type 0 where
   pub holds : Holds set.space (after_records w n p (begun_at w n p r) st.says) st.user (put cs a.0 (Some st.ctx))
   pub its : Life
   pub there : life_of (after_records w n p (begun_at w n p r) st.says) a ≡ Some its
@@ -172,7 +178,8 @@ module _ (set : Setting) (e : ℕ) (u : Package) (cs : Contexts Context) (w : Wo
 
   pub local-stands : IsStanding set seen.event v cs
   local-stands = subst (IsStanding set seen.event v) put-c
-      (subst (λ (y : Stepped Package Context). IsStanding set seen.event y.user (put cs a.0 (Some y.ctx))) local-is (scene.steps set e u cs w r p a life c0 seen i).value)
+      (subst (λ (y : Stepped Package Context). IsStanding set seen.event y.user (put cs a.0 (Some y.ctx))) local-is
+      (scene.steps set e u cs w r p a life c0 seen i).value)
 
   instr : law_instr w r.state set.space t (block_at u.shared.threads t.0).pc ≡ j
   instr = instr_is set e u cs w r p a life seen t i
@@ -195,7 +202,7 @@ module _ (set : Setting) (e : ℕ) (u : Package) (cs : Contexts Context) (w : Wo
   inside : t.0 < length (space_at r.state set.space).threads
   inside = let made = t_made set e u cs w r p a life seen t i in let all = i.holds.space.made in omega arith
 
-  -- no thread stands elsewhere
+  -- no thread is elsewhere
   place-same : (o : SpaceNo) (n : ThreadNo) → (thread_at q.state o n).place ≡ (thread_at r.state o n).place
   place-same o n = elim (cases_eq o.0 set.space.0) [
     | inr apart ↦ ap (λ y. (thread_in y n).place) (own-elsewhere w p r.state set.space o x refl apart)
@@ -213,7 +220,7 @@ module _ (set : Setting) (e : ℕ) (u : Package) (cs : Contexts Context) (w : Wo
         ∙ sym (ap (λ y. (thread_at r.state set.space y).place) one)
     here n (inr apart) = ap (λ (y : Thread). y.place) (thread-there (space_at r.state set.space) t n now apart)
 
-  -- BEHIND THE EVENT, where no slice ends with it
+  -- AFTER THE EVENT, where no slice ends with it
   module _ (test : Test) where
     abbrev r1 : Readings
     r1 = after_event test w r (event_with seen.event p (records.Ins set.space t (block_at u.shared.threads t.0).pc ∷ []) [])
@@ -232,7 +239,8 @@ module _ (set : Setting) (e : ℕ) (u : Package) (cs : Contexts Context) (w : Wo
 
     pub holds1 : Holds set.space r1 v cs
     holds1 = subst (Holds set.space r1 v) put-c
-        (ended-holds a w r ev i.on.runs q local-behind.its local-behind.there x [] refl refl refl test set.space v (put cs a.0 (Some c0)) c0 local-behind.holds (put-same cs a.0 (Some c0)))
+        (ended-holds a w r ev i.on.runs q local-behind.its local-behind.there x [] refl refl refl test set.space v (put cs a.0 (Some c0)) c0 local-behind.holds
+        (put-same cs a.0 (Some c0)))
 
     of1 : its1.space ≡ set.space
     of1 =
@@ -267,7 +275,11 @@ module _ (set : Setting) (e : ℕ) (u : Package) (cs : Contexts Context) (w : Wo
     -- the marks of its life, but whether it is in
     own1 : IsOwnMarked c0 its1
     own1 =
-        let marks = local-behind.marks ev q (record { kernel = record { state = refl; lives = refl; running = refl; taken = refl; untold = refl; ready = refl; lines = λ y some. some }; demands = refl }) in
+        let marks = local-behind.marks ev q
+        (record {
+          kernel = record { state = refl; lives = refl; running = refl; taken = refl; untold = refl; ready = refl; lines = λ y some. some };
+          demands = refl;
+        }) in
         record { back = marks.back; scans = marks.scans; left = marks.left; lone = marks.lone }
 
     -- what is seen in the next event
@@ -281,7 +293,9 @@ module _ (set : Setting) (e : ℕ) (u : Package) (cs : Contexts Context) (w : Wo
       demand = i.sees.demand;
       pages = refl;
       taken = i.sees.taken;
-      low = λ y. subst (λ ls. (bit_at seen.low y.0 ≡ 1) ↔ ((owner_of r y ≡ Some set.space) × (slice_index_or ls y.0 None ≡ None))) (sym (set-set r.lines p.0 None None)) (i.sees.low y);
+      low =
+          λ y. subst (λ ls. (bit_at seen.low y.0 ≡ 1) ↔ ((owner_of r y ≡ Some set.space) × (slice_index_or ls y.0 None ≡ None)))
+          (sym (set-set r.lines p.0 None None)) (i.sees.low y);
       lives = λ y owner. by (i.sees.lives y owner);
     } where
       by : {y : ProcNo} → HasLifeOn set.space (begun_at w seen.event p r) y → HasLifeOn set.space (begun_at w (seen.event + 1) p r1) y

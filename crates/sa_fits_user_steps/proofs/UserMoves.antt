@@ -4,6 +4,7 @@ use Rattle.std.specs.Prelude.{length, ◌<◌, not, if◌then◌else◌, ◌⊎�
 use Rattle.std.proofs.lemmas.List.{get_or-set_same}
 use Rattle.std.proofs.lemmas.Option.{same_Some}
 use Rattle.std.specs.List.{list_any}
+use Rattle.std.proofs.lemmas.Bool.{and_right}
 use Rattle.sa_base.specs.declared.context.Seen.{Seen}
 use Rattle.sa_base.specs.declared.number.ActNo.{ActNo}
 use Rattle.sa_base.specs.declared.number.ProcNo.{ProcNo}
@@ -57,7 +58,6 @@ use Rattle.sa_fits.specs.Stage.{is_gone, place_of}
 use Rattle.sa_fits.specs.View.{view, in_copy, at_yield, looks_of, left_at}
 use Rattle.sa_fits_instr.proofs.Effects.{IsThere}
 use Rattle.sa_fits_instr.proofs.Instructions.{IsIns, ins-is, fits_now, sits, made, inside}
-use Rattle.sa_fits_steps.proofs.CodeMoves.{and_none}
 use Rattle.sa_fits_steps.proofs.Scenes.{IsScene}
 use Rattle.sa_fits_steps.proofs.Scenes as scene
 use Rattle.sa_fits_steps.proofs.Moves.{IsBehind, IsMove}
@@ -117,7 +117,7 @@ module _ (fetch pages : ℕ) (x : Shared) (w : Option ThreadNo) (s : SpaceNo) (t
   plain (Touch page) calm = touched_plain page (is_page_resident pages page) refl calm
   plain End calm = record { there = none_touched End refl; says = refl; table = refl }
 
--- an `out` behind it changes nothing of the life
+-- an `out` after it changes nothing of the life
 pub outs-held : (s : SpaceNo) (r q : Readings) (u v : Package) (a : ActNo) (c new : Context) (w : WorkloadView) (n : ℕ) (p : ProcNo) (t : ThreadNo)
     (o : Option ℕ)
     → IsHeld s r q u v a c new → IsHeld s r (after_records w n p q (outs s t o)) u v a c new
@@ -139,7 +139,8 @@ outs-held s r q u v a c new w n p t (Some m) i = record {
 }
 
 outs_same : (w : WorkloadView) (n : ℕ) (p : ProcNo) (q : Readings) (s : SpaceNo) (t : ThreadNo) (o : Option ℕ)
-    → ((after_records w n p q (outs s t o)).state ≡ q.state) × ((after_records w n p q (outs s t o)).demands ≡ q.demands) × ((after_records w n p q (outs s t o)).taken ≡ q.taken)
+    → ((after_records w n p q (outs s t o)).state ≡ q.state) × ((after_records w n p q (outs s t o)).demands ≡ q.demands) × ((after_records w n p q
+    (outs s t o)).taken ≡ q.taken)
 outs_same w n p q s t None = (refl, refl, refl)
 outs_same w n p q s t (Some v) = (refl, refl, refl)
 
@@ -166,7 +167,8 @@ pub record IsGoing (v : Package) (seen : Seen) (t : ThreadNo) (wk : Option Threa
   pub inside : is_left (record { state = goes_state t wk; sections = []; work = wk }) ≡ stands_inside (goes_state t wk)
   pub yields : at_yield (goes_state t wk) ≡ false
   pub looks : looks_of (goes_state t wk) ≡ 0
-  pub left : is_left (record { state = goes_state t wk; sections = []; work = wk }) ≡ left_at (goes_state t wk) (is_left (record { state = goes_state t wk; sections = []; work = wk }))
+  pub left : is_left (record { state = goes_state t wk; sections = []; work = wk }) ≡ left_at (goes_state t wk)
+      (is_left (record { state = goes_state t wk; sections = []; work = wk }))
 
 pub going : (v : Package) (seen : Seen) (t : ThreadNo) (wk : Option ThreadNo) → IsGoing v seen t wk
 going v seen t None = record { stays = refl; out = refl; no_copy = refl; carries = refl; inside = refl; yields = refl; looks = refl; left = refl }
@@ -201,7 +203,9 @@ module _ (set : Setting) (e : ℕ) (u : Package) (cs : Contexts Context) (w : Wo
   with_ins = with_shared u o.shared
 
   abbrev Move : Package → Context → Type 0
-  Move = IsMove set u cs w r p a life (record { state = User t; sections = []; work = None }) seen (records.Ins set.space t (block_at u.shared.threads t.0).pc) (outs set.space t (out_of (block_at u.shared.threads t.0) (instr_of u.def (block_at u.shared.threads t.0))))
+  Move =
+      IsMove set u cs w r p a life (record { state = User t; sections = []; work = None }) seen (records.Ins set.space t (block_at u.shared.threads t.0).pc)
+      (outs set.space t (out_of (block_at u.shared.threads t.0) (instr_of u.def (block_at u.shared.threads t.0))))
 
   pub k0 : Holds set.space (begun_at w seen.event p r) u cs
   k0 = begun-holds set.space r u cs w (record { number = seen.event; proc = p; records = [] }) i.holds
@@ -290,10 +294,11 @@ module _ (set : Setting) (e : ℕ) (u : Package) (cs : Contexts Context) (w : Wo
       by (Touch page) is = ap (λ m. is_page_resident m page) (sym i.sees.pages) ∙ is_plain.there page is
       by End is = tt
 
-    -- THE STEP, whatever the context is behind it
+    -- THE STEP, whatever the context is after it
     module _ (state : State) (out : section_in state ≡ None) (no_copy : in_copy state ≡ false)
         (ends_so : ((o.answer ≡ rans.Goes) × (carried_by state ≡ Some t)) ⊎ ((o.answer ≡ rans.Leaves) × (carried_by state ≡ None)))
-        (step : stepped u seen (record { state = User t; sections = []; work = None }) ≡ did (pair with_ins (record { state = state; sections = []; work = o.work })) (run_says u.def seen.pages u.shared t)) where
+        (step : stepped u seen (record { state = User t; sections = []; work = None }) ≡ did
+        (pair with_ins (record { state = state; sections = []; work = o.work })) (run_says u.def seen.pages u.shared t)) where
       abbrev new : Context
       new = record { state = state; sections = []; work = o.work }
 
@@ -321,12 +326,22 @@ module _ (set : Setting) (e : ℕ) (u : Package) (cs : Contexts Context) (w : Wo
           let fits = ins.held.space.threads t made_too in
           let block : block_at o.shared.threads t.0 ≡ next_of b =
           ap (λ k. block_at (outcome_of u.fetch seen.pages u.shared None t b k).shared.threads t.0) is
-          ∙ get_or-set_same u.shared.threads t.0 (next_of b) unmade (inside set e u cs i.stands s r0 k0 a t i.on.mine w n p life i.on.runs i.on.is i.on.space known def seen.pages) in
+          ∙ get_or-set_same u.shared.threads t.0 (next_of b) unmade
+          (inside set e u cs i.stands s r0 k0 a t i.on.mine w n p life i.on.runs i.on.is i.on.space known def seen.pages) in
           let instr : law_instr w q.state set.space t b.pc ≡ Out reg =
           ap (λ m. instr_at (slice_index_or (space_def w set.space).programs m []) b.pc) (fits.program ∙ ap (λ (z : Block). z.program) block)
           ∙ ap (λ (d : SpaceView). instr_at (slice_index_or d.programs b.program []) b.pc) def ∙ is in
-          let regs : (thread_at q.state set.space t).regs ≡ b.regs = fits.regs ∙ ap (λ (z : Block). z.regs) block in
-          ((i.on.owner, (refl, refl, subst (λ k. IsValueOf (thread_at q.state set.space t).regs k (reg_value b.regs reg)) (sym instr) (ap (λ z. reg_value z reg) (sym regs)))), tt)
+          let regs : (thread_at q.state set.space t).regs ≡ b.regs = fits.regs ∙ ap (λ (z : Block). z.regs) block in (
+            (
+              i.on.owner,
+              (
+                refl,
+                refl,
+                subst (λ k. IsValueOf (thread_at q.state set.space t).regs k (reg_value b.regs reg)) (sym instr) (ap (λ z. reg_value z reg) (sym regs)),
+              ),
+            ),
+            tt,
+          )
       out_needs (Fork reg program) is = tt
       out_needs (Join reg) is = tt
       out_needs (Lock m) is = tt
@@ -367,7 +382,8 @@ module _ (set : Setting) (e : ℕ) (u : Package) (cs : Contexts Context) (w : Wo
           }
 
       -- its ready lists are what they were, in the package and in the history
-      pub ins-lists : (with_ins.shared.state.lists.lists ≡ u.shared.state.lists.lists) × ((after_records w n p r0 (x ∷ outs set.space t (out_of b j))).ready ≡ r.ready)
+      pub ins-lists : (with_ins.shared.state.lists.lists ≡ u.shared.state.lists.lists) × ((after_records w n p r0
+          (x ∷ outs set.space t (out_of b j))).ready ≡ r.ready)
       ins-lists = (ins.lists, outs_ready w n p q set.space t (out_of b j))
 
     -- the row of the table: the instruction with what it outputs
@@ -382,7 +398,8 @@ module _ (set : Setting) (e : ℕ) (u : Package) (cs : Contexts Context) (w : Wo
       abbrev pub behind_goes : Context
       behind_goes = record { state = goes_state t o.work; sections = []; work = o.work }
 
-      goes-step : stepped u seen (record { state = User t; sections = []; work = None }) ≡ did (pair with_ins behind_goes) (run_says u.def seen.pages u.shared t)
+      goes-step : stepped u seen (record { state = User t; sections = []; work = None }) ≡ did (pair with_ins behind_goes)
+          (run_says u.def seen.pages u.shared t)
       goes-step =
           ap (λ z. used_by with_ins seen (record { state = User t; sections = []; work = o.work }) t z (run_says u.def seen.pages u.shared t)) goes
           ∙ ap (λ z. did (pair with_ins z) (run_says u.def seen.pages u.shared t)) g.stays
@@ -392,15 +409,17 @@ module _ (set : Setting) (e : ℕ) (u : Package) (cs : Contexts Context) (w : Wo
           let ran = (ins (goes_state t o.work) g.out g.no_copy (inl (goes, g.carries)) goes-step).goes goes in
           record {
             inside = ap (λ y. is_inside w r ev last (not (stays_on y)) now) (ap (λ y. (thread_at y set.space t).place) state ∙ ran)
-                ∙ unsettled-inside set seen.event with_ins (put cs a.0 (Some behind_goes)) z.stands set.space last z.holds a (goes_state t o.work) [] o.work z.mine now z.there (ap is_gone z.stage) g.out g.no_copy w r ev
+                ∙ unsettled-inside set seen.event with_ins (put cs a.0 (Some behind_goes)) z.stands set.space last z.holds a
+                (goes_state t o.work) [] o.work z.mine now z.there (ap is_gone z.stage) g.out g.no_copy w r ev
                 ∙ g.inside;
-            back = and_none now.cont ∙ sym g.yields;
+            back = and_right now.cont false refl ∙ sym g.yields;
             scans = sym g.looks;
             left = g.left;
             lone = refl;
           })
 
-      pub goes-lists : (with_ins.shared.state.lists.lists ≡ u.shared.state.lists.lists) × ((after_records w n p r0 (records.Ins set.space t b.pc ∷ outs set.space t (out_of b j))).ready ≡ r.ready)
+      pub goes-lists : (with_ins.shared.state.lists.lists ≡ u.shared.state.lists.lists) × ((after_records w n p r0
+          (records.Ins set.space t b.pc ∷ outs set.space t (out_of b j))).ready ≡ r.ready)
       goes-lists = ins-lists (goes_state t o.work) g.out g.no_copy (inl (goes, g.carries)) goes-step
 
     -- IT WAITS, or is done
@@ -411,7 +430,8 @@ module _ (set : Setting) (e : ℕ) (u : Package) (cs : Contexts Context) (w : Wo
       abbrev pub behind_leaves : Context
       behind_leaves = settled with_ins seen (record { state = User t; sections = []; work = o.work }) None
 
-      leaves-step : stepped u seen (record { state = User t; sections = []; work = None }) ≡ did (pair with_ins behind_leaves) (run_says u.def seen.pages u.shared t)
+      leaves-step : stepped u seen (record { state = User t; sections = []; work = None }) ≡ did (pair with_ins behind_leaves)
+          (run_says u.def seen.pages u.shared t)
       leaves-step = ap (λ z. used_by with_ins seen (record { state = User t; sections = []; work = o.work }) t z (run_says u.def seen.pages u.shared t)) leaves
 
       pub leaves-move : Move with_ins behind_leaves
@@ -421,14 +441,17 @@ module _ (set : Setting) (e : ℕ) (u : Package) (cs : Contexts Context) (w : Wo
           let no_copy = settled-copy None left (is_some (owed with_ins seen)) (has_bulk seen) in
           user-move state between.section no_copy (inr (leaves, between.carries)) leaves-step (λ ev last now same z.
           let gone = (ins state between.section no_copy (inr (leaves, between.carries)) leaves-step).leaves leaves in
-          settled-marked set seen.event with_ins (put cs a.0 (Some behind_leaves)) z.stands set.space last z.holds a None seen [] o.work now z.there (ap is_gone z.stage) w r ev (records.Ins set.space t b.pc)
+          settled-marked set seen.event with_ins (put cs a.0 (Some behind_leaves)) z.stands set.space last z.holds a None seen [] o.work now z.there
+          (ap is_gone z.stage) w r ev (records.Ins set.space t b.pc)
           z.mine z.demand z.taken (scene.processors set e u cs w r p a life c seen i) (z.carries ∙ between.carries)
           (ap not (ap (λ y. stays_on (thread_at y set.space t).place) same ∙ gone)) refl (λ some. refl))
 
-      pub leaves-lists : (with_ins.shared.state.lists.lists ≡ u.shared.state.lists.lists) × ((after_records w n p r0 (records.Ins set.space t b.pc ∷ outs set.space t (out_of b j))).ready ≡ r.ready)
+      pub leaves-lists : (with_ins.shared.state.lists.lists ≡ u.shared.state.lists.lists) × ((after_records w n p r0
+          (records.Ins set.space t b.pc ∷ outs set.space t (out_of b j))).ready ≡ r.ready)
       leaves-lists =
           let between = settled_between None left (is_some (owed with_ins seen)) (has_bulk seen) in
-          ins-lists (settled_to None left (is_some (owed with_ins seen)) (has_bulk seen)) between.section (settled-copy None left (is_some (owed with_ins seen)) (has_bulk seen)) (inr (leaves, between.carries)) leaves-step
+          ins-lists (settled_to None left (is_some (owed with_ins seen)) (has_bulk seen)) between.section
+          (settled-copy None left (is_some (owed with_ins seen)) (has_bulk seen)) (inr (leaves, between.carries)) leaves-step
 
   -- ALL OF THEM: what is shown of each kind is shown of the step
   pub record InsCases (Goal : Type 0) : Type 0 where

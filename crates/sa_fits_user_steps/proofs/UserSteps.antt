@@ -93,4 +93,5 @@ module _ (set : Setting) (e : ℕ) (u : Package) (cs : Contexts Context) (w : Wo
   -- ALL OF THEM, but one that blocks
   pub instr-legal : ((length : ℕ) (page : Option ℕ) → (run u.def u.fetch seen.pages u.shared None t).answer ≡ rans.Blocks length page → Legal) → Legal
   instr-legal blocks =
-      ins-cases set e u cs w r p a life seen t i Legal (record { goes = λ calm is. goes-legal calm is; leaves = λ calm is. leaves-legal calm is; blocks = blocks })
+      ins-cases set e u cs w r p a life seen t i Legal
+      (record { goes = λ calm is. goes-legal calm is; leaves = λ calm is. leaves-legal calm is; blocks = blocks })

@@ -135,7 +135,7 @@ module _ {U C : Type 0} (level : UserLevel U C) where
       })
       tells
 
-  -- Behind the closing the context goes on, and its event ends.
+  -- After the closing the context goes on, and its event ends.
   abbrev pub risen : WorkloadView → Readings → Event → Readings → ActNo → Readings → Readings
   risen w before ev last n r = record r { lives = with_life (arisen level.rules.inside w before ev last) (Some n) r.lives }
 
@@ -179,7 +179,15 @@ module _ {U C : Type 0} (level : UserLevel U C) where
       λ a is. subst (λ (b : ActNo). IsLifeOf s close.lives b) (same_Some n a is) of_life in
       let ended_at : (t : SpaceNo) → t.0 ≢ s.0 → SameFor t close final = λ t apart.
       let all = lives-foreign s t (arisen level.rules.inside w before ev last) (Some n) close.lives (λ l. refl) mine_of apart in
-      record { space = refl; lives = all; running = λ q. runs-alike t close.lives final.lives (running_of close q) all; taken = refl; untold = refl; ready = refl; lines = λ q runs raised. raised } in
+      record {
+        space = refl;
+        lives = all;
+        running = λ q. runs-alike t close.lives final.lives (running_of close q) all;
+        taken = refl;
+        untold = refl;
+        ready = refl;
+        lines = λ q runs raised. raised;
+      } in
       subst (λ (z : Machine U C). AreFit level.fits w final z.users (contexts_of z))
       (sym (called-is level.calls level.stands level.keep
       (λ u c. level.calls.answered u seen c) p s m m here.user here.ctx here.is_user here.is_ctx))

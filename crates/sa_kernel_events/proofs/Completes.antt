@@ -4,7 +4,7 @@ use Rattle.sa_match.proofs.Lists.{read-at}
 use Rattle.std.proofs.lemmas.List.Sums.{get_or-le-sum_by}
 use Rattle.std.specs.Prelude.{◌==◌, sum_by, if◌then◌else◌}
 use Rattle.std.proofs.lemmas.List.{append-nil}
-use Rattle.std.proofs.Common.{is_some, get_or, ◌≡◌, ◌≢◌, ℕ, zero, suc, ◌+◌, ◌<◌, ◌≤◌, arith, sym, ◌∙◌, ap, subst, refl, true, false, Option, Some, None, List, [], ◌∷◌, ◌++◌, length, slice_get, inl, inr, Contains, Bool, IsSome, slice_set, All, not, ◌&&◌, ◌||◌, map, drop, append_assoc, ◌⊎◌}
+use Rattle.std.proofs.Common.{get_or, ◌≡◌, ℕ, suc, ◌+◌, ◌<◌, ◌≤◌, arith, sym, ◌∙◌, ap, subst, refl, true, false, Option, Some, None, List, [], ◌∷◌, ◌++◌, length, slice_get, inl, inr, Contains, Bool, All, ◌&&◌}
 use Rattle.std.proofs.lemmas.Bool.{cases_eq}
 use Rattle.std.proofs.lemmas.Option.{same_Some, get_or_from_slice_get, none-some, slice_get_within}
 use Rattle.std.proofs.lemmas.Bool.Decides.{nat_tests}
@@ -31,7 +31,6 @@ use Rattle.sa_laws.specs.Readings.{untold_of, Readings}
 use Rattle.sa_laws.specs.History.{after_records}
 use Rattle.sa_laws.specs.Event.{Event}
 use Rattle.sa_laws.specs.Step.{StandsIn, Needs}
-use Rattle.sa_laws.specs.declared.place.Place.TheVariants.{Running, Done}
 use Rattle.sa_kernel_model.specs.Entries.{entered, entered_as, thread_of, kind_at, over}
 use Rattle.sa_kernel_model.specs.Sound.{note_claim, io_claim, AreIos, kind_claim}
 use Rattle.sa_kernel_model.specs.State.{Scene, line_of}
@@ -313,7 +312,15 @@ module _ {U C : Type 0} (level : UserLevel U C) where
       t = record { number = g; proc = p; says = []; fresh = n; entry = Some (Complete io) }
 
       can : CanTurn w m.kernel r t
-      can = record { within = within; later = omega arith; unused = unused; fetched = c.between.fetched; fits = record { here = due_io; under_way = there; low = low }; says = refl }
+      can =
+          record {
+            within = within;
+            later = omega arith;
+            unused = unused;
+            fetched = c.between.fetched;
+            fits = record { here = due_io; under_way = there; low = low };
+            says = refl;
+          }
 
       sound_ios : AreIos (length m.kernel.demands) m.kernel.under_way
       sound_ios = c.between.standing.sound.formed.ios

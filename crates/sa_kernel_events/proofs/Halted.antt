@@ -51,7 +51,7 @@ use Rattle.sa_match.proofs.Spaces.{AreFit, of-space, fit-contexts}
 use Rattle.sa_match.proofs.Begun.{begins-now, acts-at, tidy-now, fit-begun, nobody-runs}
 
 module _ {U C : Type 0} (level : UserLevel U C) where
-  -- The machine before is x, the kernel behind the stop or block is k, and what is read behind its record is r.
+  -- The machine before is x, the kernel after the stop or block is k, and what is read after its record is r.
   pub record IsHalted (w : WorkloadView) (e : ℕ) (p : ProcNo) (n : ActNo) (x : Machine U C) (k : State C) (r : Readings) : Type 0 where
     pub ok : IsWorkload w
     pub workload : x.workload ≡ w

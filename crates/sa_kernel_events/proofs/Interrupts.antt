@@ -1,7 +1,8 @@
 -- An interrupt that upcalls the aim.
 use Rattle.std.proofs.lemmas.List.{map-append, append-nil}
 use Rattle.std.proofs.Common.{◌≡◌, ◌≢◌, ℕ, ◌+◌, ◌<◌, sym, ◌∙◌, ap, subst, refl, Bool, true, false, not, Option, Some, None, is_some, List, [], ◌∷◌, ◌++◌, map, length, append_assoc, inl, Contains}
-use Rattle.std.specs.List.{list_all, list_any}
+use Rattle.std.specs.List.{list_any}
+use Rattle.std.proofs.lemmas.List.Elements.{Contains-append_right}
 use Rattle.sa_base.specs.declared.number.ProcNo.{ProcNo}
 use Rattle.sa_base.specs.declared.number.SpaceNo.{SpaceNo}
 use Rattle.sa_base.specs.declared.number.ActNo.{ActNo}
@@ -19,10 +20,10 @@ use Rattle.sa_laws.specs.Readings.{Readings, owner_of as owner_in, line_of as li
 use Rattle.sa_laws.specs.Record.{after_record}
 use Rattle.sa_laws.specs.History.{after_records, behind_all, with_step}
 use Rattle.sa_laws.specs.Rules.{UserRules}
-use Rattle.sa_laws.specs.Shape.{others_of, is_own}
 use Rattle.sa_laws.specs.Step.{AreSteps}
 use Rattle.sa_laws.specs.Turns.{IsTurn}
 use Rattle.sa_laws.specs.Upcalls.{FirstLineIsAsked}
+use Rattle.sa_laws.proofs.Records.{records-append}
 use Rattle.sa_legal.proofs.AppendLemmas.{steps-append}
 use Rattle.sa_kernel_model.specs.declared.entry.Entry.{Entry}
 use Rattle.sa_kernel_model.specs.declared.entry.Entry.TheVariants.{Interrupt}
@@ -33,7 +34,8 @@ use Rattle.sa_kernel_model.specs.Entries.{entered, entered_as}
 use Rattle.sa_kernel_model.specs.Fits.{upcalls}
 use Rattle.sa_kernel_model.specs.Histories.{IsHistory}
 use Rattle.sa_kernel_model.specs.Turn.{Turn, CanTurn, event_of}
-use Rattle.sa_kernel_model.proofs.WalkLemmas.{AreOwn, records-both, own-told}
+use Rattle.sa_kernel_model.proofs.WalkLemmas.{AreOwn, own-told}
+use Rattle.sa_kernel_model.proofs.EntryLemmas.{append-some, own-others}
 use Rattle.sa_core_model.specs.Machine.{Machine, without_context, scene_of}
 use Rattle.sa_core_model.specs.Turn.{next_event, entered_on, kernel_entered, welcomed_in, welcomed_if}
 use Rattle.sa_core_model.specs.Standing.{IsBetween}
@@ -44,7 +46,6 @@ use Rattle.sa_user_laws.specs.Scene.{begun_at}
 use Rattle.sa_user_laws.specs.Level.{UserLevel}
 use Rattle.sa_core_model.proofs.Running.{contains-head}
 use Rattle.sa_match.proofs.Shown.{lawful-by}
-use Rattle.sa_match.proofs.Lists.{contains-behind}
 use Rattle.sa_event_frames.proofs.Idle.{is_stop, StopsFirst, no-stops, stops-first_both}
 use Rattle.sa_match.proofs.Composed.{strict-raised, IsComposed, Goes, read, moment, traced-of}
 use Rattle.sa_match.proofs.EventLaws.{no-step}
@@ -93,10 +94,6 @@ pub stops-own : (own : List Record) (rest : List Record) → Stops own → AreOw
 stops-own _ rest none are = are
 stops-own _ rest (one s t a) are = are
 
-own-tail : (xs : List Record) → AreOwn xs → AreOwn (others_of xs)
-own-tail [] are = refl
-own-tail (x ∷ xs) are = Rattle.sa_kernel_model.proofs.OverviewLemmas.and-right (is_own x) (list_all is_own xs) are
-
 stops-step : (own : List Record) (s : SpaceNo) (n : ActNo) (owned : Bool) (old : Option SpaceNo) (notes cl : List Record)
     → Stops own → begins_step (own ++ ((move_records owned old s ++ (Up s n ∷ notes)) ++ cl)) ≡ false
 stops-step _ s n true old notes cl none = refl
@@ -114,10 +111,6 @@ rest-some : (s : SpaceNo) (n : ActNo) (owned : Bool) (old : Option SpaceNo) (not
     → move_records owned old s ++ up_records s n notes ≢ []
 rest-some s n true old notes is = cc
 rest-some s n false old notes is = cc
-
-some-all : (xs ys : List Record) → ys ≢ [] → xs ++ ys ≢ []
-some-all [] ys some is = some is
-some-all (x ∷ xs) ys some is = cc
 
 module _ {U C : Type 0} (level : UserLevel U C) where
   -- AN INTERRUPT THAT UPCALLS.
@@ -156,10 +149,10 @@ module _ {U C : Type 0} (level : UserLevel U C) where
       let items : (entered_as g p n entry (record { state = x.kernel; items = none })).items ≡ items_at g p all =
       ap (λ (z : Scene C). z.items) (entering none) ∙ upped-items g p s n owned y0
       ∙ sym (map-append (λ (z : Record). let i : Item = record { event = g; proc = p; what = z } in i) first rest) in
-      let some : all ≢ [] = some-all first rest (rest-some s n owned (owner_of y p) notes) in
+      let some : all ≢ [] = append-some first rest (rest-some s n owned (owner_of y p) notes) in
       let part : Parted t m.kernel all =
       parted w m.kernel r t all c.history.ok c.history.kept can some
-      (own-tail all (stops-own first rest stops (up-own s n owned (owner_of y p) notes))) items in
+      (own-others all (stops-own first rest stops (up-own s n owned (owner_of y p) notes))) items in
       let cl = part.closing in
       let ev : Event = event_with g p all cl in
       let yx : Scene C = record { state = y; items = x.items ++ items_at g p first } in
@@ -180,7 +173,7 @@ module _ {U C : Type 0} (level : UserLevel U C) where
       ∙ ap (λ (xs : List Record). first ++ xs) (append_assoc (move_records owned (owner_of y p) s) (up_records s n notes) cl) in
       let same : last ≡ close =
       ap (λ (xs : List Record). after_records w g p b xs) records
-      ∙ records-both w g p b first (move_records owned (owner_of y p) s ++ (up_records s n notes ++ cl)) in
+      ∙ records-append w g p b first (move_records owned (owner_of y p) s ++ (up_records s n notes ++ cl)) in
       let no_step : begins_step ev.records ≡ false =
       subst (λ (xs : List Record). begins_step xs ≡ false) (sym (append_assoc first rest cl))
       (stops-step first s n owned (owner_of y p) (map Told notes) cl stops) in
@@ -188,12 +181,13 @@ module _ {U C : Type 0} (level : UserLevel U C) where
       let stepped : close.lives ≡ with_step level.rules.inside w r ev last ev.records last.lives =
       ap (λ (v : Readings). v.lives) (sym same) ∙ sym (no-step level.rules.inside w r ev last ev.records last.lives no_step) in
       let has : Contains ev.records (Up s n) = subst (λ (xs : List Record). Contains xs (Up s n)) (sym records)
-      (contains-behind first (move_records owned (owner_of y p) s ++ (up_records s n notes ++ cl)) (Up s n)
-      (contains-behind (move_records owned (owner_of y p) s) (up_records s n notes ++ cl) (Up s n)
+      (Contains-append_right first (move_records owned (owner_of y p) s ++ (up_records s n notes ++ cl)) (Up s n)
+      (Contains-append_right (move_records owned (owner_of y p) s) (up_records s n notes ++ cl) (Up s n)
       (contains-head (Up s n) (map Told notes ++ cl)))) in
       let new_k = subst (λ (v : Scene C). Welcomed level.calls level.stands level.keep w m.event g p
       (record (without_context p x) { kernel = v.state; items = v.items })) here new in
-      let done = passes-up level w events m.event g p s n owned x yx front cl ev halted own inside place owners new_k history refl refl has part.closes ends stepped in
+      let done = passes-up level w events m.event g p s n
+      owned x yx front cl ev halted own inside place owners new_k history refl refl has part.closes ends stepped in
       let is : entered_on level.calls p n entry (without_context p x) ≡ welcomed_in level.calls p (owner_of k.state p)
       (record (without_context p x) { kernel = k.state; items = k.items }) =
       ap (λ (v : Bool). welcomed_if level.calls p v (kernel_entered p n entry (without_context p x))) up

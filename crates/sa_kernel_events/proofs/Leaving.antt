@@ -23,11 +23,12 @@ use Rattle.sa_laws.specs.History.{after_records, is_up}
 use Rattle.sa_laws.specs.Event.{Event}
 use Rattle.sa_laws.specs.Step.{AreSteps}
 use Rattle.sa_laws.specs.Upcalls.{fetch_records, leave_records}
+use Rattle.sa_laws.proofs.Records.{records-append}
 use Rattle.sa_legal.proofs.AppendLemmas.{steps-append}
 use Rattle.sa_kernel_model.specs.Entries.{entered, entered_as}
 use Rattle.sa_kernel_model.specs.State.{State, Scene, owner_of, is_fetching}
-use Rattle.sa_kernel_model.proofs.EntryLemmas.{own-others}
-use Rattle.sa_kernel_model.proofs.WalkLemmas.{records-both, AreOwn, not-empty}
+use Rattle.sa_kernel_model.proofs.EntryLemmas.{own-others, append-some}
+use Rattle.sa_kernel_model.proofs.WalkLemmas.{AreOwn, not-empty}
 use Rattle.sa_kernel_model.specs.Parts.{leave, fetch_page}
 use Rattle.sa_kernel_model.specs.declared.entry.Entry.{Entry}
 use Rattle.sa_kernel_model.specs.declared.entry.Entry.TheVariants.{Interrupt}
@@ -110,10 +111,6 @@ stops-interrupt _ p o s true none = tt
 stops-interrupt _ p o s false none = tt
 stops-interrupt _ p o s b (one t u a) = leave-passage p o s b
 
-stops-some : (own rest : List Record) → rest ≢ [] → own ++ rest ≢ []
-stops-some [] rest some is = some is
-stops-some (x ∷ xs) rest some is = cc
-
 module _ {U C : Type 0} (level : UserLevel U C) where
   -- AN INTERRUPT THAT LEAVES, since the upcall page is absent.
   pub interrupt-leave : (w : WorkloadView) (events : List Event) (m : Machine U C) (p : ProcNo) (n : ActNo) (s : SpaceNo)
@@ -148,7 +145,7 @@ module _ {U C : Type 0} (level : UserLevel U C) where
       let items : (entered_as g p n entry (record { state = x.kernel; items = none })).items ≡ items_at g p all =
       ap (λ (z : Scene C). z.items) (entering none) ∙ leave-items g p s (record { state = y; items = none ++ items_at g p own })
       ∙ sym (map-append (λ (z : Record). let i : Item = record { event = g; proc = p; what = z } in i) own rest) in
-      let some : all ≢ [] = stops-some own rest (not-empty (Move o None) (Aim p None ∷ fetch_records s still)) in
+      let some : all ≢ [] = append-some own rest (not-empty (Move o None) (Aim p None ∷ fetch_records s still)) in
       let are : AreOwn all = stops-own own rest stops (leave-own p o s still) in
       let part : Parted t m.kernel all = parted w m.kernel r t all c.history.ok c.history.kept can some (own-others all are) items in
       let cl = part.closing in
@@ -164,7 +161,7 @@ module _ {U C : Type 0} (level : UserLevel U C) where
       (entered g p n entry (record { state = x.kernel; items = xs }))) (append-nil m.items) past)) in
       let front = after_records w g p b own in
       let first = after_records w g p b all in
-      let both : first ≡ after_records w g p front rest = records-both w g p b own rest in
+      let both : first ≡ after_records w g p front rest = records-append w g p b own rest in
       let put : StaysPut front first =
       subst (λ (v : Readings). StaysPut front v) (sym both) (plains-stay w g p front rest (leave-plain p o s still)) in
       let done : Machine U C = record (without_context p x) { kernel = k.state; items = k.items } in

@@ -1,4 +1,4 @@
--- A processor passes to a space by an upcall: from the moment behind the stop or the block to the end of the event.
+-- A processor passes to a space by an upcall: from the moment after the stop or the block to the end of the event.
 use Rattle.std.proofs.Common.{Contains, IsSome, get_or, ◌≡◌, ℕ, ◌<◌, sym, ◌∙◌, ap, subst, refl, Bool, true, false, Option, Some, None, List, [], ◌∷◌, ◌++◌, length, map, slice_get}
 use Rattle.std.specs.List.{list_any}
 use Rattle.std.proofs.lemmas.List.{set-get_or}
@@ -56,7 +56,7 @@ overview-ends m n ends =
     λ a. sym (space-unended (n.lives a)) ∙ ap space_of (ends.lives a) ∙ space-unended (m.lives a) in
     ap overview ends.is ∙ (λ i. record (overview m) { spaces = λ a. spaces a i })
 
--- An up that stands in an event is found by a search.
+-- An up of an event is found by a search.
 pub has-up : (s : SpaceNo) (n : ActNo) (xs : List Record) → Contains xs (Up s n) → list_any is_up xs ≡ true
 has-up s n xs has = list_any_at is_up xs has.0 (Up s n) has.1 (ap is_up has.2)
 
@@ -106,7 +106,7 @@ module _ {U C : Type 0} (level : UserLevel U C) where
       (ap (copies (Add p)) (set-get_or us s.0 []) ∙ none) h) first
 
   -- This leads from there to the end of the event. Where a life has blocked in it, the end of that life's own event
-  -- stands in `close` already.
+  -- is in `close` already.
   pub passage-ends : (w : WorkloadView) (events : List Event) (e g : ℕ) (p : ProcNo) (s : SpaceNo) (n : ActNo)
       (us : List (List Note)) (m : Machine U C) (told close : Readings) (ev : Event)
       → (h : Hearing level w e g p s n us [] [] m told) → IsHistory level.rules.inside w (events ++ ev ∷ []) (scene level m)

@@ -20,12 +20,13 @@ use Rattle.sa_laws.specs.Event.{Event}
 use Rattle.sa_laws.specs.Life.{Life}
 use Rattle.sa_laws.specs.Readings.{Readings, owner_of as owner_in}
 use Rattle.sa_laws.specs.History.{after_records, behind_all, with_step}
+use Rattle.sa_laws.proofs.Records.{records-append}
 use Rattle.sa_kernel_model.specs.State.{Scene, owner_of, untold_of}
 use Rattle.sa_kernel_model.specs.Parts.{moved, upcall}
 use Rattle.sa_kernel_model.specs.Closing.{closed}
 use Rattle.sa_kernel_model.specs.Histories.{IsHistory, read_from}
 use Rattle.sa_kernel_model.proofs.HeldLemmas.{stays-closed}
-use Rattle.sa_kernel_model.proofs.WalkLemmas.{AreClosing, records-both}
+use Rattle.sa_kernel_model.proofs.WalkLemmas.{AreClosing}
 use Rattle.sa_core_model.specs.Machine.{Machine, without_context, begun, answered}
 use Rattle.sa_core_model.specs.Turn.{told_all, welcomed_in}
 use Rattle.sa_core_model.specs.Standing.{contexts_in}
@@ -50,7 +51,7 @@ move_records true owner s = []
 move_records false owner s = Move owner (Some s) ∷ []
 
 module _ {C : Type 0} where
-  -- What an upcall leaves, behind a move or without one.
+  -- What an upcall leaves, after a move or without one.
   pub record IsUpped (p : ProcNo) (s : SpaceNo) (n : ActNo) (owned : Bool) (y z : Scene C) : Type 0 where
     pub lives : z.state.lives ≡ slice_set y.state.lives p.0 (Some n)
     pub acts : z.state.acts ≡ put y.state.acts n.0 (Some (runs_in s))
@@ -134,7 +135,7 @@ module _ {U C : Type 0} (level : UserLevel U C) where
       let inside : s.0 < length m.users = slice_get_within m.users s.0 new.user at in
       let d = read-at w.spaces s.0 (omega (arith, inside, h.paused.users, ap (λ (v : WorkloadView). length v.spaces) h.workload)) in
       let both : close_at ≡ after_records w g p mid (up_records s n notes ++ cl) =
-      records-both w g p front mv (up_records s n notes ++ cl) in
+      records-append w g p front mv (up_records s n notes ++ cl) in
       let can : CanBegin level w e g p s n y.state.lives y.state.acts y.state.untold (without_context p x) k.state mid = record {
         ok = h.ok;
         paused = h.paused;

@@ -75,7 +75,7 @@ module _ {U C : Type 0} (level : UserLevel U C) (w : WorkloadView) (events : Lis
   raised-in : is_some (line_in (read level w events) p) ≡ true
   raised-in = ap (λ (l : Option ℕ). is_some l) (line-reads level w events m p c.history ∙ line)
 
-  -- the kernel's entry with the context that is set aside, the turn, and the machine behind it
+  -- the kernel's entry with the context that is set aside, the turn, and the machine after it
   abbrev entry : Option (Stopped C) → Entry C
   entry held = Interrupt held
 
@@ -115,7 +115,7 @@ module _ {U C : Type 0} (level : UserLevel U C) (w : WorkloadView) (events : Lis
       (begins-now level w events m p c).rest inside can-enter.fit unused can-enter.pauses
       (subst (λ (h : Option (Stopped C)). upcalls k p (Interrupt h) ≡ true) (sym is) (upcalls-is held true resident)))
 
-  -- Behind the stop, if there is one, the processor is halted; then it passes to the aim.
+  -- After the stop, if there is one, the processor is halted; then it passes to the aim.
   record Halts (held : Option (Stopped C)) (first : List Record) (y : State C) : Type 0 where
     is : stopped_in level.calls x p (owner_of k p) ≡ held
     stops : Stops first

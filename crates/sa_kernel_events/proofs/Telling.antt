@@ -98,7 +98,7 @@ module _ {U C : Type 0} (level : UserLevel U C) where
       let same : here.act ≡ a = same_Some here.act a (sym here.life ∙ h.life ∙ sym h.upped ∙ is) in
       subst (λ (x : ActNo). IsLifeOf s r.lives x) same (matched-of s m.kernel.acts r.lives here.act (runs_in s) h.matched here.runs refl)
 
-  -- One call is made behind its record.
+  -- One call is made after its record.
   heard : (w : WorkloadView) (e g : ℕ) (p : ProcNo) (s : SpaceNo) (n : ActNo) (m : Machine U C) (r next : Readings) (k : State C)
       (here : IsAt level.calls level.stands level.keep m p s) (v : U) (c : C) (cs : Contexts C)
       → IsWorkload w → m.workload ≡ w → ((t : SpaceNo) → t.0 ≢ s.0 → SameFor t r next)

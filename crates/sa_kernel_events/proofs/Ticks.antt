@@ -19,8 +19,9 @@ use Rattle.sa_laws.specs.Rules.{UserRules}
 use Rattle.sa_laws.specs.History.{after_records, after_event, is_up}
 use Rattle.sa_laws.specs.Event.{Event}
 use Rattle.sa_laws.specs.Step.{AreSteps}
+use Rattle.sa_laws.proofs.Records.{records-append}
 use Rattle.sa_kernel_model.specs.State.{owner_of, line_of}
-use Rattle.sa_kernel_model.proofs.WalkLemmas.{records-both, AreClosing, not-empty}
+use Rattle.sa_kernel_model.proofs.WalkLemmas.{AreClosing, not-empty}
 use Rattle.sa_kernel_model.specs.Histories.{IsHistory}
 use Rattle.sa_core_model.specs.Machine.{Machine}
 use Rattle.sa_core_model.specs.Standing.{contexts_of, contexts_in, IsBetween}
@@ -82,7 +83,7 @@ module _ {U C : Type 0} (level : UserLevel U C) where
       let last = after_records w g p b (own ++ cl) in
       let final = after_event level.rules.inside w r ev in
       let alike : AlikeButDemands first last =
-      subst (λ (v : Readings). AlikeButDemands first v) (sym (records-both w g p b own cl)) (closing-alike w g p first cl closes) in
+      subst (λ (v : Readings). AlikeButDemands first v) (sym (records-append w g p b own cl)) (closing-alike w g p first cl closes) in
       let put : StaysPut first final = put-again first last final (alike-stays first last alike)
       (ended-stays level.rules.inside w r ev last (no-step_both own cl some step) (no-up_both own cl up closes)) in
       record {

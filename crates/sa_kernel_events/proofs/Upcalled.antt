@@ -19,12 +19,13 @@ use Rattle.sa_laws.specs.Event.{Event}
 use Rattle.sa_laws.specs.Life.{Life}
 use Rattle.sa_laws.specs.Readings.{Readings, running_of}
 use Rattle.sa_laws.specs.History.{after_records, behind_all, after_event, with_step}
+use Rattle.sa_laws.proofs.Records.{records-append}
 use Rattle.sa_kernel_model.specs.State.{State, Scene}
 use Rattle.sa_kernel_model.specs.Histories.{IsHistory, read_from}
 use Rattle.sa_kernel_model.specs.Overview.{Overview, overview, read_off}
 use Rattle.sa_kernel_model.proofs.NoteLemmas.{copies}
 use Rattle.sa_kernel_model.proofs.OverviewLemmas.{overview-ended}
-use Rattle.sa_kernel_model.proofs.WalkLemmas.{AreClosing, records-both}
+use Rattle.sa_kernel_model.proofs.WalkLemmas.{AreClosing}
 use Rattle.sa_core_model.specs.Machine.{Machine, begun, answered, user_of, context_on, seen_on}
 use Rattle.sa_core_model.proofs.Turns.{begun-is}
 use Rattle.sa_core_model.specs.Turn.{told_all}
@@ -46,7 +47,7 @@ use Rattle.sa_match.proofs.Composed.{scene}
 use Rattle.sa_kernel_events.proofs.Passage.{called-scene, history-told, passage-up, passage-ends, overview-ends}
 
 module _ {U C : Type 0} (level : UserLevel U C) where
-  -- Who runs where, behind the closing.
+  -- Who runs where, after the closing.
   moment-hearing : (w : WorkloadView) (e g : ℕ) (p : ProcNo) (s : SpaceNo) (n : ActNo) (us : List (List Note)) (m : Machine U C)
       (told close : Readings)
       → IsWorkload w → Hearing level w e g p s n us [] [] m told → AlikeButDemands told close → overview close ≡ read_off m.kernel
@@ -103,7 +104,7 @@ module _ {U C : Type 0} (level : UserLevel U C) where
       let last = behind_all w ev r in
       let told = after_records w g p front (UpRecord s n ∷ map Told notes) in
       let close = after_records w g p front ((UpRecord s n ∷ map Told notes) ++ cl) in
-      let both : close ≡ after_records w g p told cl = records-both w g p front (UpRecord s n ∷ map Told notes) cl in
+      let both : close ≡ after_records w g p told cl = records-append w g p front (UpRecord s n ∷ map Told notes) cl in
       let h = passage-up level w e g p s n lives acts us m k items front g u def added notes can at of is none tells in
       let alike : AlikeButDemands told close =
       subst (λ (c : Readings). AlikeButDemands told c) (sym both) (closing-alike w g p told cl closes) in

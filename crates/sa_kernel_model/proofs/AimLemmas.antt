@@ -22,10 +22,10 @@ use Rattle.sa_laws.specs.State.{space_def, no_space}
 use Rattle.sa_laws.specs.Readings.{Readings}
 use Rattle.sa_laws.specs.History.{after_records}
 use Rattle.sa_laws.specs.Closing.{claim_of, claims_of, first_space, shares_at, aims_due}
+use Rattle.sa_laws.proofs.Records.{records-append}
 use Rattle.sa_kernel_model.specs.Overview.{Overview, overview, read_off}
 use Rattle.sa_kernel_model.specs.Kept.{IsOf}
 use Rattle.sa_kernel_model.proofs.UpLemmas.{AreLawful}
-use Rattle.sa_kernel_model.proofs.WalkLemmas.{AreClosing, records-both}
 use Rattle.sa_kernel_model.proofs.WantLemmas.{spaces_from}
 
 -- changes of aims, as they are recorded
@@ -48,7 +48,7 @@ aims-reads w e p m (c ∷ cs) =
     let next = after_records w e p m one in
     let is = aim-record w e p m c (line_at m.lines c.proc) refl in
     let lines : next.lines ≡ lines_with e m.lines c = ap (λ (v : Overview). v.assign.lines) is in
-    ap overview (records-both w e p m one (records_of e (lines_with e m.lines c) cs))
+    ap overview (records-append w e p m one (records_of e (lines_with e m.lines c) cs))
     ∙ ap (λ ls. overview (after_records w e p next (records_of e ls cs))) (sym lines)
     ∙ aims-reads w e p next cs ∙ ap (changed_by e cs) is
 
@@ -71,18 +71,11 @@ aims-lawful w e p m (c ∷ cs) rest law =
     let lines : next.lines ≡ lines_with e m.lines c = ap (λ (v : Overview). v.assign.lines) (aim-record w e p m c (line_at m.lines c.proc) refl) in
     let others = records_of e (lines_with e m.lines c) cs in
     let same : records_of e next.lines cs ≡ others = ap (λ ls. records_of e ls cs) lines in
-    let after : after_records w e p m (records_of e m.lines (c ∷ cs)) ≡ after_records w e p next (records_of e next.lines cs) = records-both w e p m one others ∙ ap (after_records w e p next) (sym same) in
+    let after : after_records w e p m (records_of e m.lines (c ∷ cs)) ≡ after_records w e p next (records_of e next.lines cs) = records-append w e p m one others ∙ ap (after_records w e p next) (sym same) in
     let rest_law = aims-lawful w e p next cs rest (subst (λ (d : Readings). AreLawful w e p d rest) after law) in
     let all : line_records c.proc (line_at m.lines c.proc) ++ (others ++ rest) ≡ (line_records c.proc (line_at m.lines c.proc) ++ others) ++ rest = sym (append_assoc (line_records c.proc (line_at m.lines c.proc)) others rest) in
     subst (λ xs. AreLawful w e p m (Aim (proc_no c.proc) (Some (space_no c.space)) ∷ xs)) all
     (aim-lawful w e p m c (line_at m.lines c.proc) (others ++ rest) refl (subst (λ xs. AreLawful w e p next (xs ++ rest)) same rest_law))
-
-pub aims-close : (e : ℕ) (lines : List (Option ℕ)) (cs : List Change) → AreClosing (records_of e lines cs)
-aims-close e lines [] = refl
-aims-close e lines (c ∷ cs) = one (line_at lines c.proc) (aims-close e (lines_with e lines c) cs) where
-  one : (l : Option ℕ) → AreClosing (records_of e (lines_with e lines c) cs) → AreClosing (line_records c.proc l ++ records_of e (lines_with e lines c) cs)
-  one None rest = rest
-  one (Some earlier) rest = rest
 
 -- what the spaces claim, and their shares
 module _ {C : Type 0} where

@@ -5,6 +5,7 @@ use Rattle.std.specs.List.{list_all, list_any}
 use Rattle.std.proofs.Math.Path.{fun_ext}
 use Rattle.std.proofs.lemmas.List.{append-nil}
 use Rattle.std.proofs.lemmas.List.Folds.{list_all-append}
+use Rattle.std.proofs.lemmas.Bool.{and_parts}
 use Rattle.sa_base.specs.declared.number.SpaceNo.{SpaceNo}
 use Rattle.sa_base.specs.declared.number.ProcNo.{ProcNo}
 use Rattle.sa_base.specs.declared.record.Note.{Note}
@@ -24,11 +25,11 @@ use Rattle.sa_kernel_model.specs.Overview.{Overview}
 use Rattle.sa_kernel_model.specs.Turn.{Turn, event_of}
 use Rattle.sa_laws.specs.History.{is_inside}
 use Rattle.sa_laws.specs.Rules.{NoLines}
+use Rattle.sa_laws.proofs.Records.{records-append}
 use Rattle.sa_kernel_model.specs.Laws.{LinesAreTheKernels, HoldsAtTurns, AnyLines, LineCause}
-use Rattle.sa_kernel_model.proofs.OverviewLemmas.{and-left, and-right}
 use Rattle.sa_kernel_model.proofs.IdleLemmas.{idles, idles-ended}
 use Rattle.sa_kernel_model.proofs.UpLemmas.{AreLawful}
-use Rattle.sa_kernel_model.proofs.WalkLemmas.{AreOwn, records-both}
+use Rattle.sa_kernel_model.proofs.WalkLemmas.{AreOwn}
 use Rattle.sa_kernel_model.proofs.WantLemmas.{none-wanted}
 use Rattle.sa_kernel_model.proofs.AimLemmas.{aims-reads}
 use Rattle.sa_kernel_model.proofs.LineLemmas.{AreLines}
@@ -74,7 +75,7 @@ pub front-of : (own wl ll : List Record) (e : ℕ) (lines : List (Option ℕ)) (
     → front_part (own ++ (wl ++ (records_of e lines cs ++ ll))) ≡ own ++ (wl ++ records_of e lines cs)
 front-of [] wl ll e lines cs some are none want_none want_line low are_lines = absurd (some refl)
 front-of (x ∷ xs) wl ll e lines cs some are none want_none want_line low are_lines =
-    front-is x xs wl ll e lines cs (and-left (is_no_aim x) (list_all is_no_aim xs) none) (and-right (is_no_aim x) (list_all is_no_aim xs) none) (own-lines xs are) want_none want_line low are_lines
+    front-is x xs wl ll e lines cs (and_parts (is_no_aim x) (list_all is_no_aim xs) none).0 (and_parts (is_no_aim x) (list_all is_no_aim xs) none).1 (own-lines xs are) want_none want_line low are_lines
 
 module _ {C : Type 0} where
   -- behind the closing no space wants none that must be told something
@@ -175,7 +176,7 @@ line-cause C test w k r t ok kept can =
     let parts = lines-parts w k r t whole in
     let ll = lines_due w cl.aimed in
     let moment : after_records w e p c (own ++ (wl ++ al)) ≡ cl.aimed =
-    records-both w e p c own (wl ++ al) ∙ records-both w e p m wl al ∙ ap (λ (d : Readings). after_records w e p d al) (sym cl.wanted_is) ∙ sym cl.aimed_is in
+    records-append w e p c own (wl ++ al) ∙ records-append w e p m wl al ∙ ap (λ (d : Readings). after_records w e p d al) (sym cl.wanted_is) ∙ sym cl.aimed_is in
     record {
       heard = each-of w k r t RaisesLine kept can (λ d x rest law. law.raises);
       first = subst (λ xs. FirstLineIsAsked AnyLines w r p xs) (sym whole.records) (whole.own.asked r (closing_of w k r t whole) (ap (λ (v : Overview). v.assign.owners) kept.reads));
@@ -183,7 +184,7 @@ line-cause C test w k r t ok kept can =
       due = ap lines_in parts.1 ∙ filter-all is_line ll cl.lines ∙ sym (ap (λ xs. lines_due w (after_records w e p c xs)) parts.0 ∙ ap (lines_due w) moment);
     }
 
--- .. where no entry asks for a line
+-- No entry asks for a line where its records have none.
 none-asked : (w : WorkloadView) (c : Readings) (p : ProcNo) (xs rest : List Record) → xs ≢ [] → list_all (λ x. not (is_line x)) xs ≡ true → FirstLineIsAsked NoLines w c p (xs ++ rest)
 none-asked w c p [] rest some none = absurd (some refl)
 none-asked w c p (Line q ∷ xs) rest some none = absurd (cc)

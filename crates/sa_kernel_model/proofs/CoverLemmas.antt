@@ -3,7 +3,7 @@ use Rattle.std.proofs.Common.{◌≡◌, ℕ, zero, suc, ◌<◌, ◌≤◌, ◌
 use Rattle.std.specs.Prelude.{Option, Bool, ◌==◌, ◌/◌, ◌%◌, min, max, count_by, if◌then◌else◌, slice_set, slice_index, filter}
 use Rattle.std.specs.List.{list_all, list_any}
 use Rattle.std.proofs.lemmas.Bool.{cases_lt}
-use Rattle.std.proofs.lemmas.List.{get_or_past, get_or-map, length-map, append-nil}
+use Rattle.std.proofs.lemmas.List.{get_or_past, get_or-map, append-nil}
 use Rattle.std.proofs.lemmas.List.FromFn.{length-map-range_with_len, get_or-map-range_with_len}
 use Rattle.std.proofs.lemmas.List.Sums.{sum_by-cons}
 use Rattle.sa_base.specs.declared.number.SpaceNo.{SpaceNo}
@@ -29,10 +29,11 @@ use Rattle.sa_laws.specs.History.{Test, behind, behind_all, after_records, after
 use Rattle.sa_laws.specs.Shape.{is_no_aim, aims_in, before_aims}
 use Rattle.sa_laws.specs.Closing.{want_one, must_want, spaces_of, claim_of, claims_of, first_space, shares_at, wants_due, aims_due, lines_due}
 use Rattle.sa_laws.specs.Upcalls.{AimsCoverShares}
+use Rattle.sa_laws.proofs.Records.{records-append}
+use Rattle.sa_laws.proofs.Lengths.{claims-length}
 use Rattle.sa_kernel_model.specs.Overview.{Overview}
 use Rattle.sa_kernel_model.specs.Turn.{Turn, event_of}
 use Rattle.sa_kernel_model.specs.Laws.{HoldsAtTurns}
-use Rattle.sa_kernel_model.proofs.WalkLemmas.{records-both}
 use Rattle.sa_kernel_model.proofs.AimLemmas.{aims-reads}
 use Rattle.sa_kernel_model.proofs.LineLemmas.{AreLines}
 use Rattle.sa_kernel_model.proofs.ShapeLemmas.{while-both, while-all, while-none, lines-aims, wants-aims, aims-of}
@@ -59,9 +60,6 @@ aimed-more s aims (c ∷ cs) =
     omega arith
 
 -- the claim of a space
-claims-length : (w : WorkloadView) (c : Readings) → length (claims_of w c) ≡ length w.spaces
-claims-length w c = length-map (spaces_of w) (claim_of w c) ∙ length-map-range_with_len space_no 0 (length w.spaces)
-
 claim-is : (w : WorkloadView) (c : Readings) (s : ℕ) → s < length w.spaces → claim_at (claims_of w c) s ≡ claim_of w c (space_no s)
 claim-is w c s below =
     let len = length-map-range_with_len space_no 0 (length w.spaces) in
@@ -243,7 +241,7 @@ module _ {C : Type 0} where
         let front : before_aims (event_of t k).records ≡ own ++ wl =
         ap before_aims (said (d ∷ ds) is) ∙ while-both is_no_aim own (wl ++ (aim ∷ others)) whole.own.no_aim
         ∙ ap (λ xs. own ++ xs) (while-both is_no_aim wl (aim ∷ others) no_want ∙ ap (λ xs. wl ++ xs) (while-none is_no_aim aim others refl) ∙ append-nil wl) in
-        inner ∙ sym (ap (λ xs. aims_due w e (after_records w e p c xs)) front ∙ ap (aims_due w e) (records-both w e p c own wl ∙ sym cl.wanted_is))
+        inner ∙ sym (ap (λ xs. aims_due w e (after_records w e p c xs)) front ∙ ap (aims_due w e) (records-append w e p c own wl ∙ sym cl.wanted_is))
 
   aims-covered : (test : Test) (w : WorkloadView) (k : State C) (r : Readings) (t : Turn C) → IsWorkload w → (whole : Whole w k r t) → (s : ℕ)
       → share_at (shares_at w t.number (after_event test w r (event_of t k))) s ≤ aimed s (after_event test w r (event_of t k)).aims

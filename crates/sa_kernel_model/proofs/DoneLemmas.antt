@@ -88,7 +88,7 @@ is-over test n (io ∷ ios) here is passes few =
             ap (λ c. if c then Some io else find test ios) at ∙ over.found,
           )
 
--- .. that of an activation, by its claims, and the fetch of a space
+-- An I/O that is under way counts in the sum over all of them: one of an activation, by its claims, and the fetch of a space.
 member-le : (f : Io → ℕ) (n : ℕ) (ios : List Io) (here : Io) → io_at n ios ≡ Some here → f here ≤ sum_by f ios
 member-le f n [] here is = absurd (none-some here is)
 member-le f n (io ∷ ios) here is = one (is_number n io) is (λ at. member-le f n ios here at) where

@@ -15,16 +15,17 @@ use Rattle.sa_laws.specs.Record.{after_record}
 use Rattle.sa_laws.specs.History.{after_records}
 use Rattle.sa_laws.specs.Shape.{others_of, is_own, is_no_aim, is_line}
 use Rattle.sa_laws.specs.Upcalls.{BeginsAsInterrupt, StopsAndGoes, FirstLineIsAsked}
+use Rattle.sa_laws.proofs.Records.{records-append}
 use Rattle.sa_kernel_model.specs.Overview.{overview, read_off}
 use Rattle.sa_kernel_model.specs.declared.entry.Entry.{Entry}
 use Rattle.std.specs.Prelude.{Option}
+use Rattle.std.proofs.lemmas.Bool.{and_parts}
 use Rattle.sa_kernel_model.specs.Turn.{asks_line, ShapeOf, is_users, AreUsers}
 use Rattle.sa_kernel_model.specs.Kept.{IsTidy, IdleAlike}
 use Rattle.sa_kernel_model.specs.Laws.{AnyLines}
-use Rattle.sa_kernel_model.proofs.OverviewLemmas.{and-left, and-right}
 use Rattle.sa_kernel_model.proofs.ShapeLemmas.{own-lines}
 use Rattle.sa_kernel_model.proofs.UpLemmas.{AreLawful}
-use Rattle.sa_kernel_model.proofs.WalkLemmas.{Walk, AreOwn, AreClosing, own-both, records-both}
+use Rattle.sa_kernel_model.proofs.WalkLemmas.{Walk, AreOwn, AreClosing, own-both}
 
 -- the records of a user level
 users-own : (x : Record) → is_users x ≡ true → is_own x ≡ true
@@ -44,7 +45,7 @@ users-own x is = absurd (cc)
 pub users-are_own : (xs : List Record) → AreUsers xs → AreOwn xs
 users-are_own [] is = refl
 users-are_own (x ∷ xs) is =
-    ap (λ b. b && list_all is_own xs) (users-own x (and-left (is_users x) (list_all is_users xs) is)) ∙ users-are_own xs (and-right (is_users x) (list_all is_users xs) is)
+    ap (λ b. b && list_all is_own xs) (users-own x (and_parts (is_users x) (list_all is_users xs) is).0) ∙ users-are_own xs (and_parts (is_users x) (list_all is_users xs) is).1
 
 users-moved : (w : WorkloadView) (e : ℕ) (p : ProcNo) (r : Readings) (x : Record) → is_users x ≡ true → (after_record w e p r x).moved ≡ r.moved
 users-moved w e p r (Move o n) is = absurd (cc)
@@ -53,7 +54,7 @@ users-moved w e p r x is = refl
 pub users-are_moved : (w : WorkloadView) (e : ℕ) (p : ProcNo) (r : Readings) (xs : List Record) → AreUsers xs → (after_records w e p r xs).moved ≡ r.moved
 users-are_moved w e p r [] is = refl
 users-are_moved w e p r (x ∷ xs) is =
-    users-are_moved w e p (after_record w e p r x) xs (and-right (is_users x) (list_all is_users xs) is) ∙ users-moved w e p r x (and-left (is_users x) (list_all is_users xs) is)
+    users-are_moved w e p (after_record w e p r x) xs (and_parts (is_users x) (list_all is_users xs) is).1 ∙ users-moved w e p r x (and_parts (is_users x) (list_all is_users xs) is).0
 
 user-lawful : (w : WorkloadView) (e : ℕ) (p : ProcNo) (r : Readings) (x : Record) (rest : List Record) → is_users x ≡ true → AreLawful w e p (after_record w e p r x) rest → AreLawful w e p r (x ∷ rest)
 user-lawful w e p r (Ins s t i) rest is law = (record { once = tt; named = tt; all = tt; gives = tt; raises = tt }, law)
@@ -72,8 +73,8 @@ user-lawful w e p r x rest is law = absurd (cc)
 pub users-lawful : (w : WorkloadView) (e : ℕ) (p : ProcNo) (r : Readings) (xs rest : List Record) → AreUsers xs → AreLawful w e p (after_records w e p r xs) rest → AreLawful w e p r (xs ++ rest)
 users-lawful w e p r [] rest is law = law
 users-lawful w e p r (x ∷ xs) rest is law =
-    user-lawful w e p r x (xs ++ rest) (and-left (is_users x) (list_all is_users xs) is)
-    (users-lawful w e p (after_record w e p r x) xs rest (and-right (is_users x) (list_all is_users xs) is) law)
+    user-lawful w e p r x (xs ++ rest) (and_parts (is_users x) (list_all is_users xs) is).0
+    (users-lawful w e p (after_record w e p r x) xs rest (and_parts (is_users x) (list_all is_users xs) is).1 law)
 
 pub users-calm : (xs ys : List Record) → AreUsers xs → (BeginsAsInterrupt ys → ⊥) → BeginsAsInterrupt (xs ++ ys) → ⊥
 users-calm [] ys is calm begins = calm begins
@@ -90,7 +91,7 @@ own-asked w c p (x ∷ xs) rest some own = tt
 
 pub own-others : (xs : List Record) → AreOwn xs → AreOwn (others_of xs)
 own-others [] own = refl
-own-others (x ∷ xs) own = and-right (is_own x) (list_all is_own xs) own
+own-others (x ∷ xs) own = (and_parts (is_own x) (list_all is_own xs) own).1
 
 own-one : (x : Record) → is_own x ≡ true → is_no_aim x ≡ true
 own-one (Aim q (Some s)) own = absurd (cc)
@@ -100,9 +101,9 @@ own-one x own = refl
 pub own-no_aim : (xs : List Record) → AreOwn xs → list_all is_no_aim xs ≡ true
 own-no_aim [] own = refl
 own-no_aim (x ∷ xs) own =
-    ap (λ b. b && list_all is_no_aim xs) (own-one x (and-left (is_own x) (list_all is_own xs) own)) ∙ own-no_aim xs (and-right (is_own x) (list_all is_own xs) own)
+    ap (λ b. b && list_all is_no_aim xs) (own-one x (and_parts (is_own x) (list_all is_own xs) own).0) ∙ own-no_aim xs (and_parts (is_own x) (list_all is_own xs) own).1
 
-append-some : (xs ys : List Record) → ys ≢ [] → xs ++ ys ≢ []
+pub append-some : (xs ys : List Record) → ys ≢ [] → xs ++ ys ≢ []
 append-some [] ys some is = some is
 append-some (x ∷ xs) ys some is = cc
 
@@ -134,13 +135,13 @@ module _ {C : Type 0} where
       record {
         records = says ++ walk.records;
         adds = walk.adds ∙ ap (λ v. v ++ items_at e p walk.records) items ∙ sym (map-append (λ (z : Record). let i : Item = record { event = e; proc = p; what = z } in i) says walk.records);
-        reads = ap overview (records-both w e p r says walk.records) ∙ walk.reads;
+        reads = ap overview (records-append w e p r says walk.records) ∙ walk.reads;
         lawful = λ rest closes law.
             subst (λ xs. AreLawful w e p r xs) (sym (append_assoc says walk.records rest))
             (users-lawful w e p r says (walk.records ++ rest) users
-            (walk.lawful rest closes (subst (λ (c : Readings). AreLawful w e p c rest) (records-both w e p r says walk.records) law)));
+            (walk.lawful rest closes (subst (λ (c : Readings). AreLawful w e p c rest) (records-append w e p r says walk.records) law)));
         fixed = walk.fixed ∙ fixed;
-        idle = subst (λ (c : Readings). IdleAlike y.state c) (sym (records-both w e p r says walk.records)) (walk.idle idle);
+        idle = subst (λ (c : Readings). IdleAlike y.state c) (sym (records-append w e p r says walk.records)) (walk.idle idle);
         tidy = walk.tidy tidy;
         some = some;
         own = own-others (says ++ walk.records) own;

@@ -1,7 +1,7 @@
 -- The laws of the kernel as a value.
 use Rattle.std.proofs.Common.{◌≡◌, ◌≢◌, ℕ, suc, ◌<◌, ◌≤◌, ◌^◌, Bool, true, false, ◌&&◌, ◌||◌, eqb, not, Option, Some, None, IsSome, is_some, option_map, List, [], ◌∷◌, length, map, sum_by, slice_get, Contains, refl, sym, ap, ◌∙◌, inl, inr, arith}
 use Rattle.std.specs.List.{list_any}
-use Rattle.std.proofs.lemmas.Bool.{cases_lt, cond-true, eqb-true, eq-eqb}
+use Rattle.std.proofs.lemmas.Bool.{cases_lt, cond-true, eqb-true, eq-eqb, and_parts, false_from_ne_true, not-true}
 use Rattle.std.proofs.lemmas.List.{get_or_past}
 use Rattle.std.proofs.lemmas.List.Folds.{list_any_at}
 use Rattle.std.proofs.lemmas.List.Sums.{sum_by-cons, get_or-le-sum_by}
@@ -29,31 +29,9 @@ use Rattle.sa_kernel_model.proofs.SeenLemmas.{bits_where-lt, low-bit, bit_of}
 use Rattle.sa_kernel_model.proofs.ClaimLemmas.{held-none, space-held}
 use Rattle.sa_kernel_model.proofs.HeldLemmas.{runs-here, claimed-after_fetch}
 
--- tests
-first-part : (a b : Bool) → (a && b) ≡ true → a ≡ true
-first-part true b h = refl
-first-part false b h = absurd cc
-
-second-part : (a b : Bool) → (a && b) ≡ true → b ≡ true
-second-part true true h = refl
-second-part true false h = absurd cc
-second-part false b h = absurd cc
-
-not-true : (a : Bool) → not a ≡ true → a ≡ false
-not-true true h = absurd cc
-not-true false h = refl
-
 none-found : (o : Option ℕ) → is_some o ≡ false → o ≡ None
 none-found None h = refl
 none-found (Some p) h = absurd cc
-
-all-low : (l : Option ℕ) → is_some l ≡ false → l ≡ None
-all-low None h = refl
-all-low (Some e) h = absurd cc
-
-pub false-unless : (b : Bool) → (b ≡ true → ⊥) → b ≡ false
-false-unless true h = absurd (h refl)
-false-unless false h = refl
 
 -- a test that some number passes
 pub not-found : (n : ℕ) (test : ℕ → Bool) → ((p : ℕ) → p < n → test p ≡ false) → is_some (least_below n test) ≡ false
@@ -73,7 +51,7 @@ no-items A (x ∷ xs) h = absurd (let e : suc (length xs) ≡ 0 = eqb-true (suc 
 -- what none of a list passes
 none-passes : {A : Type 0} (test : A → Bool) (xs : List A) (x : A) → list_any test xs ≡ false → Contains xs x → test x ≡ false
 none-passes test xs x none has =
-    false-unless (test x) (λ passes. different (sym (list_any_at test xs has.0 x has.1 (ap test has.2 ∙ passes)) ∙ none))
+    false_from_ne_true (test x) (λ passes. different (sym (list_any_at test xs has.0 x has.1 (ap test has.2 ∙ passes)) ∙ none))
   where
     different : true ≡ false → ⊥
     different e = cc
@@ -99,14 +77,14 @@ module _ {C : Type 0} where
   -- who is quiet
   quiet-is : (k : State C) → HasSizes k → is_quiet k ≡ true → IsQuiet k
   quiet-is k sizes quiet =
-      let calm = first-part (eqb (length k.under_way) 0 && not (has_line k)) (not (has_call k)) quiet in
-      let idle = first-part (eqb (length k.under_way) 0) (not (has_line k)) calm in
-      let lines : least_below (length k.lives) (is_raised k) ≡ None = none-found (least_below (length k.lives) (is_raised k)) (not-true (has_line k) (second-part (eqb (length k.under_way) 0) (not (has_line k)) calm)) in
-      let calls : least_below (spaces k) (is_called k) ≡ None = none-found (least_below (spaces k) (is_called k)) (not-true (has_call k) (second-part (eqb (length k.under_way) 0 && not (has_line k)) (not (has_call k)) quiet)) in
+      let calm = (and_parts (eqb (length k.under_way) 0 && not (has_line k)) (not (has_call k)) quiet).0 in
+      let idle = (and_parts (eqb (length k.under_way) 0) (not (has_line k)) calm).0 in
+      let lines : least_below (length k.lives) (is_raised k) ≡ None = none-found (least_below (length k.lives) (is_raised k)) (not-true (has_line k) (and_parts (eqb (length k.under_way) 0) (not (has_line k)) calm).1) in
+      let calls : least_below (spaces k) (is_called k) ≡ None = none-found (least_below (spaces k) (is_called k)) (not-true (has_call k) (and_parts (eqb (length k.under_way) 0 && not (has_line k)) (not (has_call k)) quiet).1) in
       record {
         under_way = no-items Io k.under_way idle;
         low = λ p. elim (cases_lt p.0 (length k.lives)) [
-          | inl below ↦ all-low (line_of k p) (least_below-none (length k.lives) (is_raised k) lines p.0 below)
+          | inl below ↦ none-found (line_of k p) (least_below-none (length k.lives) (is_raised k) lines p.0 below)
           | inr past ↦ get_or_past k.assign.lines p.0 None (let e = sizes.lines in omega arith)
         ];
         told = λ s note has. elim (cases_lt s.0 (spaces k)) [

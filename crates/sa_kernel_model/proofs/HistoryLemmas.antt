@@ -1,5 +1,5 @@
 -- A history goes on by the kernel's calls.
-use Rattle.std.proofs.Common.{◌≡◌, ℕ, map, ◌+◌, ◌<◌, ◌≤◌, false, arith, sym, ◌∙◌, ap, subst, refl, Some, None, List, [], ◌∷◌, ◌++◌, length, append_assoc}
+use Rattle.std.proofs.Common.{◌≡◌, ℕ, map, ◌+◌, ◌<◌, ◌≤◌, false, sym, ◌∙◌, ap, subst, refl, Some, None, List, [], ◌∷◌, ◌++◌, length}
 use Rattle.std.specs.Prelude.{Option, Bool}
 use Rattle.std.proofs.lemmas.List.{append-nil, append_cancel_left}
 use Rattle.sa_base.specs.declared.number.ProcNo.{ProcNo}
@@ -19,7 +19,7 @@ use Rattle.sa_laws.specs.Readings.{Readings, opening_readings}
 use Rattle.sa_laws.specs.History.{Test, after_event, after_events}
 use Rattle.sa_laws.specs.Opening.{opening_event}
 use Rattle.sa_laws.specs.Closing.{first_space, claims_of, shares_at, aims_due, must_want as must_want_in}
-use Rattle.sa_base.specs.declared.number.SpaceNo.{SpaceNo}
+use Rattle.sa_laws.proofs.Records.{items-push}
 use Rattle.sa_share.specs.Share.{share_at}
 use Rattle.sa_share.specs.Rounds.{shares_of}
 use Rattle.sa_assign.proofs.AimLemmas.{none-missing}
@@ -45,12 +45,6 @@ use Rattle.sa_kernel_model.proofs.RunLemmas.{all-at-opening}
 use Rattle.sa_kernel_model.proofs.CallLemmas.{entries-go-on, slices-go-on}
 
 -- one event more
-pub items_of-push : (es : List Event) (e : Event) → items_of (es ++ e ∷ []) ≡ items_of es ++ items_at e.number e.proc e.records
-items_of-push [] e = append-nil (items_at e.number e.proc e.records)
-items_of-push (x ∷ es) e =
-    ap (λ (xs : List Item). items_at x.number x.proc x.records ++ xs) (items_of-push es e)
-    ∙ sym (append_assoc (items_at x.number x.proc x.records) (items_of es) (items_at e.number e.proc e.records))
-
 pub after_events-push : (test : Test) (w : WorkloadView) (r : Readings) (es : List Event) (e : Event)
     → after_events test w r (es ++ e ∷ []) ≡ after_event test w (after_events test w r es) e
 after_events-push test w r [] e = refl
@@ -76,7 +70,7 @@ module _ {C : Type 0} where
         history = record {
           ok = h.ok;
           items = go.items ∙ ap (λ (xs : List Item). xs ++ items_at e p event.records) h.items
-              ∙ ap (λ (xs : List Item). items_of past ++ xs) items ∙ sym (items_of-push past event);
+              ∙ ap (λ (xs : List Item). items_of past ++ xs) items ∙ sym (items-push past event);
           lawful = hold-push test w (opening_readings w) past event h.lawful go.lawful;
           kept = subst (λ (r : Readings). IsKept w new.state r) (sym (after_events-push test w (opening_readings w) past event)) go.kept;
           low = low;
@@ -193,6 +187,6 @@ quiet-goes-on C test w events e p says x u within later same =
     let event = next.event in
     let items : items_at event.number event.proc event.records ≡ items_at e p event.records =
     ap (λ (n : ℕ). items_at n event.proc event.records) next.number ∙ ap (λ (q : ProcNo). items_at e q event.records) next.proc in
-    let here = next.history.items ∙ items_of-push past event ∙ ap (λ (xs : List Item). items_of past ++ xs) items in
+    let here = next.history.items ∙ items-push past event ∙ ap (λ (xs : List Item). items_of past ++ xs) items in
     let said = u.items ∙ ap (λ (xs : List Item). xs ++ items_at e p says) u.history.items in
     subst (λ (ev : Event). IsHistory test w (events ++ ev ∷ []) x) (same-event event e p says (items_of past) x.items next.number next.proc here said) next.history

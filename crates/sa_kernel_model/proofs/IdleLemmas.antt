@@ -3,7 +3,7 @@ use Rattle.std.proofs.Common.{◌≡◌, ◌≢◌, ℕ, zero, suc, ◌≤◌, i
 use Rattle.std.specs.Prelude.{Option, Bool, ◌⊎◌, if◌then◌else◌, get_or, slice_set, Contains, option_map}
 use Rattle.std.specs.List.{list_all}
 use Rattle.std.proofs.Math.Path.{fun_ext}
-use Rattle.std.proofs.lemmas.Bool.{cases_eq, eq-eqb}
+use Rattle.std.proofs.lemmas.Bool.{cases_eq, eq-eqb, and_parts}
 use Rattle.std.proofs.lemmas.List.Elements.{Contains-push_cases, Contains-append_right}
 use Rattle.sa_base.specs.declared.number.ProcNo.{ProcNo}
 use Rattle.sa_base.specs.declared.number.ActNo.{ActNo}
@@ -20,7 +20,6 @@ use Rattle.sa_laws.specs.Readings.{Readings, running_of, life_of, was_idle}
 use Rattle.sa_laws.specs.Record.{after_record, same_note, with_life, handed, back_with, made_ready, locks}
 use Rattle.sa_laws.specs.History.{Test, after_records, with_step, stepped, arisen, is_step, ended}
 use Rattle.sa_kernel_model.specs.Turn.{is_users, AreUsers}
-use Rattle.sa_kernel_model.proofs.OverviewLemmas.{and-left, and-right}
 use Rattle.sa_kernel_model.proofs.NoteLemmas.{once_if, copies_in, copies}
 
 -- which lives were idle
@@ -70,7 +69,7 @@ user-idles w e p r x is = absurd (cc)
 pub users-idles : (w : WorkloadView) (e : ℕ) (p : ProcNo) (r : Readings) (xs : List Record) → AreUsers xs → idles (after_records w e p r xs).lives ≡ idles r.lives
 users-idles w e p r [] is = refl
 users-idles w e p r (x ∷ xs) is =
-    users-idles w e p (after_record w e p r x) xs (and-right (is_users x) (list_all is_users xs) is) ∙ user-idles w e p r x (and-left (is_users x) (list_all is_users xs) is)
+    users-idles w e p (after_record w e p r x) xs (and_parts (is_users x) (list_all is_users xs) is).1 ∙ user-idles w e p r x (and_parts (is_users x) (list_all is_users xs) is).0
 
 pub given-idles : (w : WorkloadView) (e : ℕ) (p : ProcNo) (r : Readings) (ids : List ActNo) (b : ℕ) → ((a : ActNo) → Contains ids a → b ≢ a.0) → idles (after_records w e p r (map GiveBack ids)).lives b ≡ idles r.lives b
 given-idles w e p r [] b apart = refl

@@ -4,7 +4,7 @@ use Rattle.std.specs.Prelude.{Option, Bool, ◌&&◌, not, cond, is_some, is_non
 use Rattle.std.specs.List.{list_all, list_any, cons_option}
 use Rattle.std.specs.Option.{option_map}
 use Rattle.std.proofs.Math.Path.{fun_ext}
-use Rattle.std.proofs.lemmas.Bool.{cases_eq, eqb-true, ne_eqb}
+use Rattle.std.proofs.lemmas.Bool.{cases_eq, eqb-true, ne_eqb, and_parts}
 use Rattle.std.proofs.lemmas.List.{get_or-set_other, append-nil}
 use Rattle.sa_base.specs.declared.number.SpaceNo.{SpaceNo}
 use Rattle.sa_base.specs.declared.number.ProcNo.{ProcNo}
@@ -26,10 +26,10 @@ use Rattle.sa_laws.specs.Record.{after_record}
 use Rattle.sa_laws.specs.History.{after_records}
 use Rattle.sa_laws.specs.Shape.{is_line}
 use Rattle.sa_laws.specs.Closing.{has_untold, will_tell, can_be_raised, must_interrupt, line_due}
+use Rattle.sa_laws.proofs.Records.{records-append}
 use Rattle.sa_kernel_model.specs.Overview.{Overview, overview, read_off}
-use Rattle.sa_kernel_model.proofs.OverviewLemmas.{and-left, and-right}
 use Rattle.sa_kernel_model.proofs.UpLemmas.{AreLawful}
-use Rattle.sa_kernel_model.proofs.WalkLemmas.{items-both, records-both}
+use Rattle.sa_kernel_model.proofs.WalkLemmas.{items-both}
 use Rattle.sa_kernel_model.proofs.WantLemmas.{spaces_from}
 
 -- the lines that are due of n spaces from s on
@@ -101,8 +101,8 @@ pub record IsRaisedFor (m : Readings) (s q : ℕ) : Type 0 where
 raised-for : (w : WorkloadView) (m : Readings) (s q : ℕ) → least_below w.processors (can_be_raised m (space_no s)) ≡ Some q → IsRaisedFor m s q
 raised-for w m s q is =
     let passes = (least_below-passes w.processors (can_be_raised m (space_no s)) q is).passes in record {
-      owner = is-owner s (owner_at m (proc_no q)) (and-left (is_aim s (owner_at m (proc_no q))) (is_none (line_at m (proc_no q))) passes);
-      low = is-low (line_at m (proc_no q)) (and-right (is_aim s (owner_at m (proc_no q))) (is_none (line_at m (proc_no q))) passes);
+      owner = is-owner s (owner_at m (proc_no q)) (and_parts (is_aim s (owner_at m (proc_no q))) (is_none (line_at m (proc_no q))) passes).0;
+      low = is-low (line_at m (proc_no q)) (and_parts (is_aim s (owner_at m (proc_no q))) (is_none (line_at m (proc_no q))) passes).1;
     }
 
 must-other : (w : WorkloadView) (e : ℕ) (p : ProcNo) (m : Readings) (b : Bool) (o : Option ℕ) (s t : ℕ) → t ≢ s → least_below w.processors (can_be_raised m (space_no s)) ≡ o
@@ -200,7 +200,7 @@ module _ {C : Type 0} where
       ∙ ap (λ c. filter_map (line_due w m) (cond c (space_no s ∷ filter (must_interrupt w m) (spaces_from (s + 1) n)) (filter (must_interrupt w m) (spaces_from (s + 1) n)))) (sym must) in
       let z = for_spaces (interrupt_for e p) (s + 1) n y in
       let xs = lines_from w next (s + 1) n in
-      let is : after_records w e p next xs ≡ after_records w e p m (one ++ xs) = sym (records-both w e p m one xs) in
+      let is : after_records w e p next xs ≡ after_records w e p m (one ++ xs) = sym (records-append w e p m one xs) in
       let whole : Lined w e p m x z (one ++ xs) = record {
         adds = items-both e p x.items y.items z.items one xs head.0 rest.adds;
         reads = ap overview (sym is) ∙ rest.reads;

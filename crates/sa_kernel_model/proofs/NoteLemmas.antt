@@ -1,7 +1,6 @@
 -- What is untold, and what a run of told records leaves of it.
 use Rattle.std.proofs.Common.{◌≡◌, ℕ, zero, suc, ◌<◌, ◌≤◌, ◌+◌, refl, ◌∙◌, ap, arith, List, [], ◌∷◌, length, map, true, false}
 use Rattle.std.specs.Prelude.{Bool, not, if◌then◌else◌, slice_set, filter}
-use Rattle.std.proofs.lemmas.Bool.{eq-eqb}
 use Rattle.sa_base.specs.declared.number.ProcNo.{ProcNo}
 use Rattle.sa_base.specs.declared.record.Note.{Note}
 use Rattle.sa_base.specs.declared.record.Note.TheVariants.{Add, Preempted, Blocked, Unblocked}
@@ -10,6 +9,7 @@ use Rattle.sa_spaces.specs.Workload.{WorkloadView}
 use Rattle.sa_laws.specs.Readings.{Readings}
 use Rattle.sa_laws.specs.Record.{after_record, same_note, is_other_note, without_note}
 use Rattle.sa_laws.specs.History.{after_records}
+use Rattle.sa_laws.proofs.Notes.{same_note-itself}
 use Rattle.sa_kernel_model.specs.Overview.{Overview, overview, taken_by, taken_behind}
 use Rattle.sa_kernel_model.proofs.OverviewLemmas.{told-spaces}
 
@@ -27,12 +27,6 @@ copies n (u ∷ us) = copies_in n u + copies n us
 
 abbrev pub AreOnce : List (List Note) → Type 0
 AreOnce untold = (n : Note) → copies n untold ≤ 1
-
-same-self : (n : Note) → same_note n n ≡ true
-same-self (Add p) = eq-eqb p.0 p.0 refl
-same-self (Preempted a) = eq-eqb a.0 a.0 refl
-same-self (Blocked a) = eq-eqb a.0 a.0 refl
-same-self (Unblocked a) = eq-eqb a.0 a.0 refl
 
 -- what does not stand there is not taken out
 none-filtered : (n : Note) (ms : List Note) → copies_in n ms ≡ 0 → filter (is_other_note n) ms ≡ ms
@@ -53,17 +47,17 @@ none-without n (u ∷ us) none =
 -- the first of a space's notices is told
 some-there : (n : Note) (us : List (List Note)) (s : ℕ) (ns : List Note) → s < length us → 1 ≤ copies n (slice_set us s (n ∷ ns))
 some-there n [] s ns within = absurd (omega arith)
-some-there n (u ∷ us) zero ns within = let one = ap once_if (same-self n) in omega arith
+some-there n (u ∷ us) zero ns within = let one = ap once_if (same_note-itself n) in omega arith
 some-there n (u ∷ us) (suc s) ns within = let rest = some-there n us s ns (omega arith) in omega arith
 
 first-told : (n : Note) (ns : List Note) → copies_in n ns ≡ 0 → filter (is_other_note n) (n ∷ ns) ≡ ns
-first-told n ns none = ap (λ b. if not b then n ∷ filter (is_other_note n) ns else filter (is_other_note n) ns) (same-self n) ∙ none-filtered n ns none
+first-told n ns none = ap (λ b. if not b then n ∷ filter (is_other_note n) ns else filter (is_other_note n) ns) (same_note-itself n) ∙ none-filtered n ns none
 
 tell-one : (n : Note) (us : List (List Note)) (s : ℕ) (ns : List Note) → s < length us → copies n (slice_set us s (n ∷ ns)) ≤ 1
     → without_note (slice_set us s (n ∷ ns)) n ≡ slice_set us s ns
 tell-one n [] s ns within once = refl
 tell-one n (u ∷ us) zero ns within once =
-    let one = ap once_if (same-self n) in
+    let one = ap once_if (same_note-itself n) in
     let here : filter (is_other_note n) (n ∷ ns) ≡ ns = first-told n ns (omega arith) in
     let rest : without_note us n ≡ us = none-without n us (omega arith) in
     λ i. here i ∷ rest i

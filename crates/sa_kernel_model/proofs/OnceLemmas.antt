@@ -16,16 +16,9 @@ use Rattle.sa_kernel_model.specs.Sound.{AreClaimed, note_claim, held_in}
 use Rattle.sa_kernel_model.proofs.SeenLemmas.{bit_of}
 use Rattle.sa_kernel_model.proofs.ClaimLemmas.{held-none, held-space}
 use Rattle.sa_laws.specs.Record.{same_note, with_note}
+use Rattle.sa_laws.proofs.Notes.{same_note-same}
 use Rattle.sa_kernel_model.specs.Kept.{IsTidy, block_claim, back_claim, add_claim}
 use Rattle.sa_kernel_model.proofs.NoteLemmas.{once_if, copies_in, copies, AreOnce}
-
--- the same notices are one
-same-one : (m n : Note) → same_note m n ≡ true → m ≡ n
-same-one (Add p) (Add q) is = ap (λ i. Add (record { 0 = i })) (eqb-true p.0 q.0 is)
-same-one (Preempted a) (Preempted b) is = ap (λ i. Preempted (record { 0 = i })) (eqb-true a.0 b.0 is)
-same-one (Blocked a) (Blocked b) is = ap (λ i. Blocked (record { 0 = i })) (eqb-true a.0 b.0 is)
-same-one (Unblocked a) (Unblocked b) is = ap (λ i. Unblocked (record { 0 = i })) (eqb-true a.0 b.0 is)
-same-one m n is = absurd (cc)
 
 -- a notice more
 copies-push : (m n : Note) (ns : List Note) → copies_in m (ns ++ n ∷ []) ≡ copies_in m ns + once_if (same_note n m)
@@ -40,7 +33,7 @@ copies-noted m n (u ∷ us) (suc s) = let rest = copies-noted m n us s in omega 
 pub once-noted : (us : List (List Note)) (s : SpaceNo) (n : Note) → copies n us ≡ 0 → AreOnce us → AreOnce (with_note us s n)
 once-noted us s n none once m = one (same_note n m) refl (copies-noted m n us s.0) where
   one : (b : Bool) → same_note n m ≡ b → copies m (with_note us s n) ≤ copies m us + once_if b → copies m (with_note us s n) ≤ 1
-  one true same less = let here = ap (λ x. copies x us) (same-one n m same) in omega arith
+  one true same less = let here = ap (λ x. copies x us) (same_note-same n m same) in omega arith
   one false apart less = let few = once m in omega arith
 
 -- how often a notice stands there, by what its space says
@@ -48,7 +41,7 @@ all-none : (n : Note) (us : List (List Note)) → ((s : ℕ) → copies_in n (ge
 all-none n [] none = refl
 all-none n (u ∷ us) none = let here = none 0 in let rest = all-none n us (λ s. none (suc s)) in omega arith
 
--- .. in one list alone, and there once
+-- A notice is in one list alone, and there once.
 some-or-none : (n : ℕ) → (n ≡ 0) ⊎ (1 ≤ n)
 some-or-none zero = inl refl
 some-or-none (suc n) = inr (omega arith)

@@ -2,7 +2,7 @@
 use Rattle.std.proofs.Common.{◌≡◌, ◌≢◌, ℕ, zero, suc, ◌≤◌, ◌+◌, refl, sym, ◌∙◌, ap, subst, arith, Some, None, List, [], ◌∷◌, ◌++◌, append_assoc, length, map, take, replicate, sum_by, false}
 use Rattle.std.specs.Prelude.{Option, Bool, ◌&&◌, not, cond, is_none, IsSome, nat_lt, get_or, slice_set, filter_map, Contains, All}
 use Rattle.std.proofs.lemmas.Bool.{ne_eqb}
-use Rattle.std.proofs.lemmas.List.{set-get_or, append-nil, length-map, length-replicate, map-append}
+use Rattle.std.proofs.lemmas.List.{set-get_or, append-nil, length-map, length-replicate, map-append, length_push}
 use Rattle.std.proofs.lemmas.List.Elements.{All-head, All-tail}
 use Rattle.sa_base.specs.declared.number.SpaceNo.{SpaceNo}
 use Rattle.sa_base.specs.declared.number.ProcNo.{ProcNo}
@@ -30,16 +30,17 @@ use Rattle.sa_laws.specs.Record.{after_record, mark_after}
 use Rattle.sa_laws.specs.History.{Test, begun, behind_all, after_records, after_event}
 use Rattle.sa_laws.specs.Opening.{first_wants, opening_records, opening_event}
 use Rattle.sa_laws.specs.Closing.{must_want, want_one, spaces_of, wants_due, aims_due, lines_due, must_interrupt, line_due, has_untold, will_tell}
+use Rattle.sa_laws.proofs.Records.{records-append}
+use Rattle.sa_laws.proofs.Closings.{closing-aims}
 use Rattle.sa_kernel_model.specs.Overview.{Overview, overview, read_off}
 use Rattle.sa_kernel_model.specs.Kept.{IsOf, IsTidy, IdleAlike, AreDistinct, add_claim, block_claim}
 use Rattle.sa_kernel_model.specs.Laws.{OpeningIs, OpeningKeeps}
 use Rattle.sa_kernel_model.proofs.OverviewLemmas.{overview-ended}
 use Rattle.sa_kernel_model.proofs.IdleLemmas.{idles, idles-ended}
-use Rattle.sa_kernel_model.proofs.WalkLemmas.{records-both, not-empty}
+use Rattle.sa_kernel_model.proofs.WalkLemmas.{not-empty}
 use Rattle.sa_kernel_model.proofs.WantLemmas.{spaces_from, nothing-heard}
 use Rattle.sa_kernel_model.proofs.CauseLemmas.{filter-nothing}
 use Rattle.sa_kernel_model.proofs.WholeLemmas.{Closing, closing-walk, closing-leaves, last-some}
-use Rattle.sa_kernel_model.proofs.AimLemmas.{aims-close}
 use Rattle.sa_kernel_model.proofs.KeepLemmas.{tidy-closed, idle-closed}
 
 -- event 0, and its processor
@@ -59,10 +60,6 @@ at-next : (xs zs : List ℕ) (old : ℕ) → get_or (xs ++ old ∷ zs) (length x
 at-next [] zs old = refl
 at-next (x ∷ xs) zs old = at-next xs zs old
 
-push-length : (xs : List ℕ) (x : ℕ) → length (xs ++ x ∷ []) ≡ length xs + 1
-push-length [] x = omega arith
-push-length (y ∷ xs) x = let rest = push-length xs x in omega arith
-
 unmarked-first : (last : Option Record) (old : ℕ) (mark : Bool) → old ≡ 0 → mark ≡ false → mark_after last old 1 mark ≡ false
 unmarked-first None old mark none is = ap (nat_lt 1) none
 unmarked-first (Some x) old mark none is = is
@@ -79,7 +76,7 @@ first-reads w e p c marks xs (suc n) none demands =
     unmarked-first c.last (demand_of c (space_no s)) (get_or c.marks p.0 false) old was ∙ sym was in
     let same : next.marks ≡ c.marks = ap (slice_set c.marks p.0) mark ∙ set-get_or c.marks p.0 false in
     let more : next.demands ≡ (xs ++ 1 ∷ []) ++ replicate n 0 = ap (λ ds. slice_set ds s 1) demands ∙ set-next xs (replicate n 0) 0 1 in
-    let len : s + 1 ≡ length (xs ++ 1 ∷ []) = sym (push-length xs 1) in
+    let len : s + 1 ≡ length (xs ++ 1 ∷ []) = sym (length_push xs 1) in
     let F : List Bool → List ℕ → Overview = λ ms ds. record (overview c) { assign = record (overview c).assign { marks = ms }; demands = ds } in
     ap (λ i. overview (after_records w e p next (map want_one (spaces_from i n)))) len
     ∙ first-reads w e p next marks (xs ++ 1 ∷ []) n (same ∙ none) more
@@ -193,10 +190,10 @@ module _ (C : Type 0) where
       let al = records_of 0 cl.wanted.lines (aims_due w 0 cl.wanted) in
       let am = records_of 0 m.lines (aims_due w 0 m) in
       let same : al ≡ am = ap (λ (c : Readings). records_of 0 c.lines (aims_due w 0 c)) wanted in
-      let all : after_records w 0 zeroth (opening_readings w) (opening_records w) ≡ after_records w 0 zeroth m am = records-both w 0 zeroth (opening_readings w) (first_wants w) am in
+      let all : after_records w 0 zeroth (opening_readings w) (opening_records w) ≡ after_records w 0 zeroth m am = records-append w 0 zeroth (opening_readings w) (first_wants w) am in
       let aimed : cl.aimed ≡ after_records w 0 zeroth (opening_readings w) (opening_records w) =
       cl.aimed_is ∙ ap (λ (c : Readings). after_records w 0 zeroth c (records_of 0 c.lines (aims_due w 0 c))) wanted ∙ sym all in
-      let left : (after_records w 0 zeroth m am).untold ≡ m.untold = (closing-leaves w 0 zeroth m am (aims-close 0 m.lines (aims_due w 0 m))).untold in
+      let left : (after_records w 0 zeroth m am).untold ≡ m.untold = (closing-leaves w 0 zeroth m am (closing-aims 0 m.lines (aims_due w 0 m))).untold in
       let late : (after_records w 0 zeroth (opening_readings w) (opening_records w)).untold ≡ replicate n [] = ap (λ (c : Readings). c.untold) all ∙ left ∙ untold in
       let ld : lines_due w cl.aimed ≡ [] = no-lines_due w cl.aimed n (ap (λ (c : Readings). c.untold) aimed ∙ late) in
       let lined : cl.lined ≡ after_records w 0 zeroth (opening_readings w) (opening_records w) = cl.lined_is ∙ ap (after_records w 0 zeroth cl.aimed) ld ∙ aimed in

@@ -1,9 +1,9 @@
 -- What a record changes of what the kernel knows.
 use Rattle.std.proofs.Common.{◌≡◌, ℕ, ◌<◌, ◌+◌, inl, inr, refl, sym, ◌∙◌, ap, Some, None, List, [], ◌∷◌, ◌++◌, length, true, false}
-use Rattle.std.specs.Prelude.{Option, Bool, ◌&&◌, ◌==◌, if◌then◌else◌, get_or, slice_set, option_map, filter, find}
+use Rattle.std.specs.Prelude.{Option, Bool, ◌==◌, if◌then◌else◌, get_or, slice_set, option_map, filter, find}
 use Rattle.std.specs.List.{list_all}
 use Rattle.std.proofs.Math.Path.{fun_ext}
-use Rattle.std.proofs.lemmas.Bool.{cases_eq}
+use Rattle.std.proofs.lemmas.Bool.{cases_eq, and_parts}
 use Rattle.std.proofs.lemmas.List.{get_or-set_same, get_or-set_other}
 use Rattle.sa_base.specs.declared.number.SpaceNo.{SpaceNo}
 use Rattle.sa_base.specs.declared.number.ProcNo.{ProcNo}
@@ -17,25 +17,16 @@ use Rattle.sa_base.specs.declared.record.Record.TheVariants.{Ins, Out, Run, Stop
 use Rattle.sa_spaces.specs.Workload.{WorkloadView}
 use Rattle.sa_lemmas.specs.Function.{put}
 use Rattle.sa_lemmas.proofs.FunctionUpdates.{put-at, put-other}
-use Rattle.sa_laws.specs.declared.place.Place.{Place}
 use Rattle.sa_laws.specs.declared.place.Place.TheVariants as place
 use Rattle.sa_laws.specs.Event.{Event}
-use Rattle.sa_laws.specs.State.{State, placed_if}
 use Rattle.sa_laws.specs.Machine.{next_effect}
 use Rattle.sa_laws.specs.Life.{Life, new_life, with_hand, with_first, ran, with_cont, held_with, without_lock, bereft, inherits}
 use Rattle.sa_laws.specs.Readings.{Readings, running_of, life_of}
 use Rattle.sa_laws.specs.Record.{after_record, with_life, handed, stopped_with, one_thread, back_with, made_ready, locks, blocking, is_io_of, is_io_of_other, with_page}
 use Rattle.sa_laws.specs.History.{Test, after_records, with_step, stepped, arisen, is_step, ended}
+use Rattle.sa_laws.proofs.Spaces.{placed-owners}
 use Rattle.sa_kernel_model.specs.Overview.{Overview, overview, space_of}
 use Rattle.sa_kernel_model.specs.Turn.{is_users}
-
-pub and-left : (a b : Bool) → (a && b) ≡ true → a ≡ true
-and-left true b is = refl
-and-left false b is = absurd (cc)
-
-pub and-right : (a b : Bool) → (a && b) ≡ true → b ≡ true
-and-right true b is = is
-and-right false b is = absurd (cc)
 
 -- functions with another value at one place
 pub put-through : {A B : Type 0} (f : A → B) (g : ℕ → A) (i : ℕ) (x : A) → (λ j. f (put g i x j)) ≡ put (λ j. f (g j)) i (f x)
@@ -73,10 +64,6 @@ spaces-handed upped a None lives = refl
 spaces-handed upped a (Some from) lives =
     spaces-with (inherits from) upped (with_life bereft (Some a) lives) (λ l. refl) ∙ spaces-with bereft (Some a) lives (λ l. refl)
 
-owners-placed : (m : State) (s : SpaceNo) (t : Option ThreadNo) (at : Place) → (placed_if m s t at).owners ≡ m.owners
-owners-placed m s None at = refl
-owners-placed m s (Some t) at = refl
-
 -- the overview with other owners and spaces
 abbrev pub seen_with : List (Option SpaceNo) → (ℕ → Option SpaceNo) → Overview → Overview
 seen_with owners spaces v = record v { assign = record v.assign { owners = owners }; spaces = spaces }
@@ -91,9 +78,9 @@ users-record w e p r (Ins s t i) is =
 users-record w e p r (Out s t v) is = refl
 users-record w e p r (Run s t) is = seen-same _ r.state.owners _ _ (overview r) refl (spaces-with (with_first (ran t)) (running_of r p) r.lives (λ l. refl))
 users-record w e p r (Cont s t) is =
-    seen-same _ r.state.owners _ _ (overview r) (owners-placed r.state s t (place.Running p)) (spaces-with (with_cont true) (running_of r p) r.lives (λ l. refl))
+    seen-same _ r.state.owners _ _ (overview r) (placed-owners r.state s t (place.Running p)) (spaces-with (with_cont true) (running_of r p) r.lives (λ l. refl))
 users-record w e p r (Back s t) is =
-    seen-same _ r.state.owners _ _ (overview r) (owners-placed r.state s t place.Carried) (spaces-with (back_with t) (running_of r p) r.lives (λ l. refl))
+    seen-same _ r.state.owners _ _ (overview r) (placed-owners r.state s t place.Carried) (spaces-with (back_with t) (running_of r p) r.lives (λ l. refl))
 users-record w e p r (Ready s t) is = seen-same _ r.state.owners _ _ (overview r) refl (spaces-with (made_ready t) (running_of r p) r.lives (λ l. refl))
 users-record w e p r (Take s l t) is = seen-same _ r.state.owners _ _ (overview r) refl (spaces-with (locks r p l t) (running_of r p) r.lives (λ l. refl))
 users-record w e p r (Free s l t) is = seen-same _ r.state.owners _ _ (overview r) refl (spaces-with without_lock (running_of r p) r.lives (λ l. refl))
@@ -105,8 +92,8 @@ users-record w e p r x is = absurd (cc)
 pub users-records : (w : WorkloadView) (e : ℕ) (p : ProcNo) (r : Readings) (xs : List Record) → list_all is_users xs ≡ true → overview (after_records w e p r xs) ≡ overview r
 users-records w e p r [] is = refl
 users-records w e p r (x ∷ xs) is =
-    users-records w e p (after_record w e p r x) xs (and-right (is_users x) (list_all is_users xs) is)
-    ∙ users-record w e p r x (and-left (is_users x) (list_all is_users xs) is)
+    users-records w e p (after_record w e p r x) xs (and_parts (is_users x) (list_all is_users xs) is).1
+    ∙ users-record w e p r x (and_parts (is_users x) (list_all is_users xs) is).0
 
 -- the end of an event changes nothing either
 spaces-stepped : (test : Test) (w : WorkloadView) (before : Readings) (e : Event) (after : Readings) (xs : List Record) (lives : ℕ → Option Life)
@@ -141,7 +128,7 @@ pub stop-record : (w : WorkloadView) (e : ℕ) (p : ProcNo) (r : Readings) (s : 
     → overview (after_record w e p r (Stop s t a))
     ≡ (record (overview r) { running = slice_set r.running p.0 None; untold = slice_set r.untold s.0 (get_or r.untold s.0 [] ++ note.Preempted a ∷ []) })
 stop-record w e p r s t a =
-    seen-same _ r.state.owners _ _ (overview (after_record w e p r (Stop s t a))) (owners-placed r.state s t place.Carried)
+    seen-same _ r.state.owners _ _ (overview (after_record w e p r (Stop s t a))) (placed-owners r.state s t place.Carried)
     (spaces-with (stopped_with t) (Some a) r.lives (λ l. refl))
 
 pub block-record : (w : WorkloadView) (e : ℕ) (p : ProcNo) (r : Readings) (s : SpaceNo) (t : Option ThreadNo) (a : ActNo) (io : IoNo)
@@ -153,7 +140,7 @@ pub block-record : (w : WorkloadView) (e : ℕ) (p : ProcNo) (r : Readings) (s :
       under_way = r.under_way ++ record { number = r.begun; ends = e + (blocking w r s t a).length; kind = (blocking w r s t a).kind } ∷ [];
     })
 block-record w e p r s t a io =
-    seen-same _ r.state.owners _ _ (overview (after_record w e p r (Block s t a io))) (owners-placed r.state s t place.Blocked)
+    seen-same _ r.state.owners _ _ (overview (after_record w e p r (Block s t a io))) (placed-owners r.state s t place.Blocked)
     (spaces-with (held_with t) (Some a) r.lives (λ l. refl))
 
 pub back-record : (w : WorkloadView) (e : ℕ) (p : ProcNo) (r : Readings) (s : SpaceNo) (t : Option ThreadNo) (a : ActNo)
@@ -164,7 +151,7 @@ pub back-record : (w : WorkloadView) (e : ℕ) (p : ProcNo) (r : Readings) (s : 
       pages = with_page r.pages (find (is_io_of a) r.under_way);
     })
 back-record w e p r s t a =
-    seen-same _ r.state.owners _ _ (overview (after_record w e p r (Unblock s t a))) (owners-placed r.state s t place.Carried)
+    seen-same _ r.state.owners _ _ (overview (after_record w e p r (Unblock s t a))) (placed-owners r.state s t place.Carried)
     (spaces-with (with_hand (one_thread t)) (Some a) r.lives (λ l. refl))
 
 pub told-spaces : (w : WorkloadView) (e : ℕ) (p : ProcNo) (r : Readings) (n : Note) → (overview (after_record w e p r (Told n))).spaces ≡ (overview r).spaces

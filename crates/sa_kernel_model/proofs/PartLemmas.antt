@@ -1,8 +1,9 @@
 -- An event has its entry's records, and behind them the closing.
-use Rattle.std.proofs.Common.{◌≡◌, ◌≢◌, ℕ, refl, sym, ◌∙◌, ap, subst, Some, None, List, [], ◌∷◌, ◌++◌, length, map, drop, true, false}
-use Rattle.std.specs.Prelude.{Option, Bool, not, filter, take_while}
+use Rattle.std.proofs.Common.{◌≡◌, ◌≢◌, ℕ, refl, sym, ◌∙◌, ap, subst, Some, None, List, [], ◌∷◌, ◌++◌, length, map, drop}
+use Rattle.std.specs.Prelude.{Option, filter, take_while}
 use Rattle.std.specs.List.{list_all}
 use Rattle.std.proofs.lemmas.List.{append-nil}
+use Rattle.std.proofs.lemmas.Bool.{and_parts, not_from_true}
 use Rattle.sa_base.specs.declared.number.SpaceNo.{SpaceNo}
 use Rattle.sa_base.specs.declared.record.Record.{Record}
 use Rattle.sa_base.specs.declared.record.Record.TheVariants.{Want, Line}
@@ -15,18 +16,14 @@ use Rattle.sa_laws.specs.Closing.{must_want, want_one, spaces_of, aims_due, line
 use Rattle.sa_laws.specs.Turns.{AreRaising, IsClosing}
 use Rattle.sa_kernel_model.specs.Turn.{ShapeOf, event_of}
 use Rattle.sa_kernel_model.specs.Laws.{TurnsHaveParts}
-use Rattle.sa_kernel_model.proofs.OverviewLemmas.{and-left}
 use Rattle.sa_kernel_model.proofs.WalkLemmas.{AreOwn, AreClosing}
 use Rattle.sa_kernel_model.proofs.LineLemmas.{AreLines}
 use Rattle.sa_kernel_model.proofs.ShapeLemmas.{while-both, while-none, drop-front}
 use Rattle.sa_kernel_model.proofs.WholeLemmas.{closing_of, reading_at, whole-turn}
 
-not-own : (b : Bool) → b ≡ true → not b ≡ false
-not-own b is = ap not is
-
 none-own : (cl : List Record) → AreClosing cl → take_while is_own cl ≡ []
 none-own [] closes = refl
-none-own (x ∷ cl) closes = while-none is_own x cl (not-own (is_of_closing x) (and-left (is_of_closing x) (list_all is_of_closing cl) closes))
+none-own (x ∷ cl) closes = while-none is_own x cl (not_from_true (is_of_closing x) (and_parts (is_of_closing x) (list_all is_of_closing cl) closes).0)
 
 pub own-is : (own cl : List Record) → own ≢ [] → AreOwn (others_of own) → AreClosing cl → own_part (own ++ cl) ≡ own
 own-is [] cl some are closes = absurd (some refl)

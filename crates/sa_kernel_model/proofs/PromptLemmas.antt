@@ -1,6 +1,6 @@
 -- After the closing of an event no notice waits without cause.
 use Rattle.std.proofs.Common.{◌≡◌, ℕ, zero, suc, ◌+◌, ◌<◌, ◌≤◌, Bool, true, false, ◌&&◌, not, Option, Some, None, IsSome, is_some, is_none, List, [], ◌∷◌, length, get_or, slice_set, refl, sym, ap, subst, ◌∙◌, inl, inr, arith}
-use Rattle.std.proofs.lemmas.Bool.{cases_eq, cases_lt, eqb-true}
+use Rattle.std.proofs.lemmas.Bool.{cases_eq, cases_lt, eqb-true, and_parts}
 use Rattle.std.proofs.lemmas.List.{get_or_past, get_or-set_other, get_or-set_same, length-set}
 use Rattle.sa_base.specs.declared.number.ProcNo.{ProcNo}
 use Rattle.sa_base.specs.declared.number.SpaceNo.{SpaceNo}
@@ -23,15 +23,6 @@ use Rattle.sa_kernel_model.specs.Sound.{HasSizes, HasRaised, IsPrompt}
 use Rattle.sa_kernel_model.proofs.ClosingLemmas.{length-lines_after}
 use Rattle.sa_kernel_model.proofs.SeenLemmas.{is-low}
 use Rattle.sa_kernel_model.proofs.PlacedLemmas.{for_spaces-keeps}
-
-both-left : (b c : Bool) → (b && c) ≡ true → b ≡ true
-both-left true c h = refl
-both-left false c h = absurd cc
-
-both-right : (b c : Bool) → (b && c) ≡ true → c ≡ true
-both-right true true h = refl
-both-right true false h = absurd cc
-both-right false c h = absurd cc
 
 is-owner : (s : ℕ) (o : Option SpaceNo) → is_aim s o ≡ true → o ≡ Some (space_no s)
 is-owner s None h = absurd cc
@@ -115,7 +106,7 @@ module _ {C : Type 0} where
       let within : q < length k.assign.lines = (let b = found.within in let l = even.lines in omega arith) in
       record {
         proc = proc_no q;
-        owner = is-owner s (owner_of k (proc_no q)) (both-left _ (is_none (line_of k (proc_no q))) found.passes);
+        owner = is-owner s (owner_of k (proc_no q)) (and_parts _ (is_none (line_of k (proc_no q))) found.passes).0;
         raised = ap is_some (get_or-set_same k.assign.lines q (Some e) None within);
       }
 

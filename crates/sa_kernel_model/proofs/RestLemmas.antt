@@ -1,7 +1,7 @@
 -- Behind a closing no line is due, and where nothing is due a closing adds nothing.
 use Rattle.std.proofs.Common.{◌≡◌, ℕ, zero, suc, ◌+◌, ◌<◌, ◌≤◌, Bool, true, false, not, ◌&&◌, is_some, is_none, Option, Some, None, List, [], ◌∷◌, ◌++◌, length, get_or, refl, sym, ap, subst, ◌∙◌, inl, inr, arith}
 use Rattle.std.specs.Prelude.{slice_set}
-use Rattle.std.proofs.lemmas.Bool.{cases_eq}
+use Rattle.std.proofs.lemmas.Bool.{cases_eq, and_parts, and_from}
 use Rattle.std.proofs.lemmas.List.{get_or-set_same, append-nil}
 use Rattle.sa_base.specs.declared.number.ProcNo.{ProcNo}
 use Rattle.sa_base.specs.declared.number.SpaceNo.{SpaceNo}
@@ -45,19 +45,6 @@ true-false e = cc
 both-last : (b c d : Bool) → (c ≡ true → d ≡ true) → (b && c) ≡ true → (b && d) ≡ true
 both-last true c d last h = last h
 both-last false c d last h = absurd cc
-
-both : (b c : Bool) → b ≡ true → c ≡ true → (b && c) ≡ true
-both true true p q = refl
-both true false p q = absurd cc
-both false c p q = absurd cc
-
-first-of : (b c : Bool) → (b && c) ≡ true → b ≡ true
-first-of true c h = refl
-first-of false c h = absurd cc
-
-last-of : (b c : Bool) → (b && c) ≡ true → c ≡ true
-last-of true c h = h
-last-of false c h = absurd cc
 
 -- none passes the one test, where each that does passes the other
 none-below : (n : ℕ) (f g : ℕ → Bool) → ((r : ℕ) → r < n → g r ≡ true → f r ≡ true) → least_below n f ≡ None → least_below n g ≡ None
@@ -116,13 +103,13 @@ module _ {C : Type 0} where
       let next = (interrupt e p (Some q) x).state in
       let n = length k.lives in
       let found = least_below-passes n (has_low_line k s) q (sym is) in
-      let owner = first-of (is_aim s (owner_of k (proc_no q))) (is_none (line_of k (proc_no q))) found.passes in
-      let low = is-none (line_of k (proc_no q)) (last-of (is_aim s (owner_of k (proc_no q))) (is_none (line_of k (proc_no q))) found.passes) in
+      let owner = (and_parts (is_aim s (owner_of k (proc_no q))) (is_none (line_of k (proc_no q))) found.passes).0 in
+      let low = is-none (line_of k (proc_no q)) (and_parts (is_aim s (owner_of k (proc_no q))) (is_none (line_of k (proc_no q))) found.passes).1 in
       let aim = is-owner s (owner_of k (proc_no q)) (aim_of k (proc_no q)) ((base.0 q).settled low) owner in
       let within : q < length k.assign.lines = (let b = found.within in let l = base.1.lines in omega arith) in
       let raised : is_some (line_of next (proc_no q)) ≡ true = ap is_some (get_or-set_same k.assign.lines q (Some e) None within) in
-      let told : is_told_by next s q ≡ true = both (is_aim s (owner_of k (proc_no q)) && is_aim s (aim_of k (proc_no q))) (is_some (line_of next (proc_no q))) (both _ _ owner aim) raised in
-      let none = is-none (least_below n (is_told_by next s)) (last-of (has_untold (untold_of k s) && not (is_fetching k s)) (is_none (least_below n (is_told_by next s))) must) in
+      let told : is_told_by next s q ≡ true = and_from (is_aim s (owner_of k (proc_no q)) && is_aim s (aim_of k (proc_no q))) (is_some (line_of next (proc_no q))) (and_from _ _ owner aim) raised in
+      let none = is-none (least_below n (is_told_by next s)) (and_parts (has_untold (untold_of k s) && not (is_fetching k s)) (is_none (least_below n (is_told_by next s))) must).1 in
       absurd (true-false (sym told ∙ least_below-none n (is_told_by next s) none q found.within))
 
   served-one : (e : ℕ) (p : ProcNo) (b : Bool) (s : ℕ) (x : Scene C) → b ≡ must_interrupt x.state s → Base x → Rests s (interrupt_one e p b s x).state
@@ -143,8 +130,7 @@ module _ {C : Type 0} where
 
   nothing-waits : (s : ℕ) (k : State C) → has_untold (untold_of k s) ≡ false → Rests s k
   nothing-waits s k none must =
-      absurd (true-false (sym (first-of (has_untold (untold_of k s)) (not (is_fetching k s))
-      (first-of (has_untold (untold_of k s) && not (is_fetching k s)) (is_none (least_below (length k.lives) (is_told_by k s))) must)) ∙ none))
+      absurd (true-false (sym (and_parts (has_untold (untold_of k s)) (not (is_fetching k s)) (and_parts (has_untold (untold_of k s) && not (is_fetching k s)) (is_none (least_below (length k.lives) (is_told_by k s))) must).0).0 ∙ none))
 
   pub rests-closed : (e : ℕ) (p : ProcNo) (x : Scene C) → IsSound x.state → NoLineIsDue (closed e p x).state
   rests-closed e p x sound =

@@ -2,7 +2,7 @@
 use Rattle.std.proofs.Common.{◌≡◌, ℕ, ◌<◌, inl, inr, refl, sym, ◌∙◌, ap, arith, Some, None, List, [], ◌∷◌, ◌++◌, length, map, drop, true, false}
 use Rattle.std.specs.Prelude.{Option, Bool, ◌&&◌, not, cond, if◌then◌else◌, filter, take_while}
 use Rattle.std.specs.List.{list_all}
-use Rattle.std.proofs.lemmas.Bool.{cases_lt, eq-eqb, ne_eqb}
+use Rattle.std.proofs.lemmas.Bool.{cases_lt, eq-eqb, ne_eqb, and_parts, not-true}
 use Rattle.std.proofs.lemmas.List.{append-nil, get_or_past, get_or-set_same}
 use Rattle.std.proofs.lemmas.List.Sums.{take_while-cons}
 use Rattle.std.proofs.lemmas.Option.{none-some}
@@ -13,7 +13,6 @@ use Rattle.sa_assign.specs.Aims.{Change, space_no}
 use Rattle.sa_assign.specs.Reaim.{proc_no, line_at, raised, lines_with, lines_after, line_records, records_of}
 use Rattle.sa_laws.specs.Shape.{is_want, is_line, is_own, is_no_aim, is_no_want, is_other_line, follows_aim, aims_in, before_lines, front_part}
 use Rattle.sa_laws.specs.Closing.{want_one}
-use Rattle.sa_kernel_model.proofs.OverviewLemmas.{and-left, and-right}
 use Rattle.sa_kernel_model.proofs.WalkLemmas.{AreOwn}
 use Rattle.sa_kernel_model.proofs.LineLemmas.{AreLines}
 
@@ -21,13 +20,13 @@ use Rattle.sa_kernel_model.proofs.LineLemmas.{AreLines}
 pub all-weaker : (f g : Record → Bool) → ((x : Record) → f x ≡ true → g x ≡ true) → (xs : List Record) → list_all f xs ≡ true → list_all g xs ≡ true
 all-weaker f g weaker [] all = refl
 all-weaker f g weaker (x ∷ xs) all =
-    ap (λ b. b && list_all g xs) (weaker x (and-left (f x) (list_all f xs) all)) ∙ all-weaker f g weaker xs (and-right (f x) (list_all f xs) all)
+    ap (λ b. b && list_all g xs) (weaker x (and_parts (f x) (list_all f xs) all).0) ∙ all-weaker f g weaker xs (and_parts (f x) (list_all f xs) all).1
 
 pub while-both : (f : Record → Bool) (xs ys : List Record) → list_all f xs ≡ true → take_while f (xs ++ ys) ≡ xs ++ take_while f ys
 while-both f [] ys all = refl
 while-both f (x ∷ xs) ys all =
-    take_while-cons f x (xs ++ ys) ∙ ap (λ b. cond b (x ∷ take_while f (xs ++ ys)) []) (and-left (f x) (list_all f xs) all)
-    ∙ ap (λ zs. x ∷ zs) (while-both f xs ys (and-right (f x) (list_all f xs) all))
+    take_while-cons f x (xs ++ ys) ∙ ap (λ b. cond b (x ∷ take_while f (xs ++ ys)) []) (and_parts (f x) (list_all f xs) all).0
+    ∙ ap (λ zs. x ∷ zs) (while-both f xs ys (and_parts (f x) (list_all f xs) all).1)
 
 pub while-all : (f : Record → Bool) (xs : List Record) → list_all f xs ≡ true → take_while f xs ≡ xs
 while-all f xs all = ap (take_while f) (sym (append-nil xs)) ∙ while-both f xs [] all ∙ append-nil xs
@@ -45,17 +44,13 @@ filter-both f (x ∷ xs) ys = one (f x) (filter-both f xs ys) where
 pub filter-all : (f : Record → Bool) (xs : List Record) → list_all f xs ≡ true → filter f xs ≡ xs
 filter-all f [] all = refl
 filter-all f (x ∷ xs) all =
-    ap (λ b. cond b (x ∷ filter f xs) (filter f xs)) (and-left (f x) (list_all f xs) all) ∙ ap (λ zs. x ∷ zs) (filter-all f xs (and-right (f x) (list_all f xs) all))
-
-no-false : (b : Bool) → not b ≡ true → b ≡ false
-no-false true is = absurd (cc)
-no-false false is = refl
+    ap (λ b. cond b (x ∷ filter f xs) (filter f xs)) (and_parts (f x) (list_all f xs) all).0 ∙ ap (λ zs. x ∷ zs) (filter-all f xs (and_parts (f x) (list_all f xs) all).1)
 
 pub filter-none : (f : Record → Bool) (xs : List Record) → list_all (λ x. not (f x)) xs ≡ true → filter f xs ≡ []
 filter-none f [] all = refl
 filter-none f (x ∷ xs) all =
-    ap (λ b. cond b (x ∷ filter f xs) (filter f xs)) (no-false (f x) (and-left (not (f x)) (list_all (λ y. not (f y)) xs) all))
-    ∙ filter-none f xs (and-right (not (f x)) (list_all (λ y. not (f y)) xs) all)
+    ap (λ b. cond b (x ∷ filter f xs) (filter f xs)) (not-true (f x) (and_parts (not (f x)) (list_all (λ y. not (f y)) xs) all).0)
+    ∙ filter-none f xs (and_parts (not (f x)) (list_all (λ y. not (f y)) xs) all).1
 
 pub drop-front : (xs ys : List Record) → drop (length xs) (xs ++ ys) ≡ ys
 drop-front [] ys = refl
@@ -161,8 +156,8 @@ no-other l x none = refl
 no-lines : (l : Option Record) (xs : List Record) → list_all (λ x. not (is_line x)) xs ≡ true → before_lines l xs ≡ xs
 no-lines l [] none = refl
 no-lines l (x ∷ xs) none =
-    ap (λ b. if b then [] else x ∷ before_lines (Some x) xs) (no-other l x (and-left (not (is_line x)) (list_all (λ y. not (is_line y)) xs) none))
-    ∙ ap (λ zs. x ∷ zs) (no-lines (Some x) xs (and-right (not (is_line x)) (list_all (λ y. not (is_line y)) xs) none))
+    ap (λ b. if b then [] else x ∷ before_lines (Some x) xs) (no-other l x (and_parts (not (is_line x)) (list_all (λ y. not (is_line y)) xs) none).0)
+    ∙ ap (λ zs. x ∷ zs) (no-lines (Some x) xs (and_parts (not (is_line x)) (list_all (λ y. not (is_line y)) xs) none).1)
 
 -- lines of aims follow them
 follows : (e : ℕ) (lines : List (Option ℕ)) (cs : List Change) (l : Option Record) → before_lines l (records_of e lines cs) ≡ records_of e lines cs
@@ -205,7 +200,7 @@ IsNoAim (Some x) = is_no_aim x ≡ true
 
 last-no-aim : (l : Option Record) (xs : List Record) → IsNoAim l → list_all is_no_aim xs ≡ true → IsNoAim (last_of l xs)
 last-no-aim l [] none all = none
-last-no-aim l (x ∷ xs) none all = last-no-aim (Some x) xs (and-left (is_no_aim x) (list_all is_no_aim xs) all) (and-right (is_no_aim x) (list_all is_no_aim xs) all)
+last-no-aim l (x ∷ xs) none all = last-no-aim (Some x) xs (and_parts (is_no_aim x) (list_all is_no_aim xs) all).0 (and_parts (is_no_aim x) (list_all is_no_aim xs) all).1
 
 no-aim-high : (lines : List (Option ℕ)) (l : Option Record) → IsNoAim l → IsHigh lines l
 no-aim-high lines None none q low = refl

@@ -19,10 +19,10 @@ use Rattle.sa_laws.specs.Shape.{is_no_aim, lines_in, aims_in, before_aims, front
 use Rattle.sa_laws.specs.Opening.{first_wants, opening_records, opening_event}
 use Rattle.sa_laws.specs.Closing.{want_one, spaces_of, aims_due, lines_due}
 use Rattle.sa_laws.specs.Upcalls.{RecordLaw, EachRecord, TellsOnce, NamesTheLife, TellsAllThen, GivesUpcallThen, RaisesLine, BeginsAsInterrupt, FirstLineIsAsked, IsToldInTime, RunsWhereOwned, WantsHaveCause, AimsCoverShares}
+use Rattle.sa_laws.proofs.Records.{records-append}
 use Rattle.sa_kernel_model.specs.Overview.{Overview}
 use Rattle.sa_kernel_model.specs.Laws.{HoldsAtOpening, AnyLines, ToldOnce, AllTold, BlockUpcall, InterruptNext, LineCause}
 use Rattle.sa_kernel_model.proofs.UpLemmas.{Lawful, AreLawful, each-weaker}
-use Rattle.sa_kernel_model.proofs.WalkLemmas.{records-both}
 use Rattle.sa_kernel_model.proofs.WantLemmas.{spaces_from, wants-lawful, nothing-heard}
 use Rattle.sa_kernel_model.proofs.AimLemmas.{aims-lawful, aims-reads}
 use Rattle.sa_kernel_model.proofs.ShapeLemmas.{while-both, while-none, drop-front, wants-aims, wants-lines, aims-of, front-is}
@@ -147,7 +147,7 @@ cover-shares test w ok =
     let al = records_of 0 m.lines cs in
     let fw = first_wants w in
     let after = after_event test w (opening_readings w) (opening_event w) in
-    let end : behind_all w (opening_event w) (opening_readings w) ≡ after_records w 0 zeroth m al = end-is w ok ∙ records-both w 0 zeroth (opening_readings w) fw al in
+    let end : behind_all w (opening_event w) (opening_readings w) ≡ after_records w 0 zeroth m al = end-is w ok ∙ records-append w 0 zeroth (opening_readings w) fw al in
     let aims = aims-reads w 0 zeroth m cs in
     let none : Option SpaceNo = None in
     let len : length m.aims ≡ w.processors = ap (λ (xs : List (Option SpaceNo)). length xs) (wants-keep-aims w 0 zeroth (opening_readings w) (spaces_of w)) ∙ length-replicate w.processors none in

@@ -97,7 +97,7 @@ module _ {C : Type 0} where
     pub fresh_new : copies (Preempted fresh) k.untold ≡ 0
     pub moved : r.moved ≡ None
 
-  -- .. and the one that is put aside is told of for the first time
+  -- The activation that is put aside is told of for the first time.
   pub record IsAside (k : State C) (p : ProcNo) (o : SpaceNo) (b fresh : ActNo) (n : Note) : Type 0 where
     pub runs : Running k p o b
     pub inside : o.0 < length k.untold

@@ -44,7 +44,7 @@ tidy-emptied us ios s tidy = record {
   fetched = tidy.fetched;
 }
 
--- .. and of activations that are given back
+-- Lists of activations that are given back stay distinct.
 pub distinct-emptied : (ts : List (List ActNo)) (s : ℕ) → ((t : ℕ) → AreDistinct (get_or ts t [])) → (t : ℕ) → AreDistinct (get_or (slice_set ts s []) t [])
 distinct-emptied [] s distinct t = tt
 distinct-emptied (u ∷ ts) zero distinct zero = tt
@@ -180,7 +180,7 @@ tidy-fetched us ios n here at none tidy = record {
 }
 
 module _ {C : Type 0} where
-  -- .. of a state
+  -- The same of a state.
   pub tidy-in : (k : State C) → IsTidy k → AreTidy k.untold k.under_way
   tidy-in k tidy = record { added = tidy.added; blocked = tidy.blocked; fetched = tidy.fetched }
 

@@ -3,7 +3,7 @@ use Rattle.std.proofs.Common.{◌≡◌, ◌≢◌, ℕ, ◌<◌, ◌+◌, refl,
 use Rattle.std.specs.Prelude.{Option, Bool, ◌&&◌, cond, if◌then◌else◌, get_or, slice_set}
 use Rattle.std.specs.List.{list_all, list_any}
 use Rattle.std.proofs.lemmas.List.{set-get_or, map-append, append-nil}
-use Rattle.std.proofs.lemmas.Bool.{eq-eqb}
+use Rattle.std.proofs.lemmas.Bool.{eq-eqb, and_parts}
 use Rattle.std.proofs.lemmas.Option.{none-some, same_Some}
 use Rattle.std.proofs.lemmas.List.Folds.{list_all-append}
 use Rattle.std.proofs.lemmas.List.Sums.{take_while-cons}
@@ -37,7 +37,7 @@ use Rattle.sa_laws.specs.Shape.{told_run, leave_run, is_own, is_of_closing, is_o
 use Rattle.sa_laws.specs.Turns.{AreTold, IsFetchOrNothing, IsPassage}
 use Rattle.sa_laws.specs.Upcalls.{leave_records, fetch_records, GoesTo, RunsOn, notes_due}
 use Rattle.sa_kernel_model.specs.Overview.{Overview, overview, read_off, space_of, act_space, spaces_in, taken_behind}
-use Rattle.sa_kernel_model.proofs.OverviewLemmas.{and-left, and-right, put-through, up-record}
+use Rattle.sa_kernel_model.proofs.OverviewLemmas.{put-through, up-record}
 use Rattle.sa_kernel_model.proofs.NoteLemmas.{copies, AreOnce, none-without, told-run}
 use Rattle.sa_kernel_model.specs.Kept.{IdleAlike, IsTidy}
 use Rattle.sa_kernel_model.proofs.OnceLemmas.{AreApart}
@@ -65,10 +65,6 @@ items-both e p x y z xs ys one two =
     two ∙ ap (λ v. v ++ items_at e p ys) one ∙ append_assoc x (items_at e p xs) (items_at e p ys)
     ∙ ap (λ v. x ++ v) (sym (map-append (λ (r : Record). let i : Item = record { event = e; proc = p; what = r } in i) xs ys))
 
-pub records-both : (w : WorkloadView) (e : ℕ) (p : ProcNo) (r : Readings) (xs ys : List Record) → after_records w e p r (xs ++ ys) ≡ after_records w e p (after_records w e p r xs) ys
-records-both w e p r [] ys = refl
-records-both w e p r (x ∷ xs) ys = records-both w e p (after_record w e p r x) xs ys
-
 -- the closing's records behind a run of others
 pub closing-told : (xs : List Record) → AreClosing xs → told_run xs ≡ []
 closing-told [] is = refl
@@ -88,13 +84,13 @@ both-not x is = absurd (cc)
 closing-leave : (xs : List Record) → AreClosing xs → leave_run xs ≡ []
 closing-leave [] is = refl
 closing-leave (x ∷ xs) is =
-    take_while-cons is_of_leave x xs ∙ ap (λ b. cond b (x ∷ leave_run xs) []) (both-not x (and-left (is_of_closing x) (list_all is_of_closing xs) is))
+    take_while-cons is_of_leave x xs ∙ ap (λ b. cond b (x ∷ leave_run xs) []) (both-not x (and_parts (is_of_closing x) (list_all is_of_closing xs) is).0)
 
 pub leave-behind : (xs ys : List Record) → list_all is_of_leave xs ≡ true → AreClosing ys → leave_run (xs ++ ys) ≡ xs
 leave-behind [] ys is closes = closing-leave ys closes
 leave-behind (x ∷ xs) ys is closes =
-    take_while-cons is_of_leave x (xs ++ ys) ∙ ap (λ b. cond b (x ∷ leave_run (xs ++ ys)) []) (and-left (is_of_leave x) (list_all is_of_leave xs) is)
-    ∙ ap (λ zs. x ∷ zs) (leave-behind xs ys (and-right (is_of_leave x) (list_all is_of_leave xs) is) closes)
+    take_while-cons is_of_leave x (xs ++ ys) ∙ ap (λ b. cond b (x ∷ leave_run (xs ++ ys)) []) (and_parts (is_of_leave x) (list_all is_of_leave xs) is).0
+    ∙ ap (λ zs. x ∷ zs) (leave-behind xs ys (and_parts (is_of_leave x) (list_all is_of_leave xs) is).1 closes)
 
 -- the records of a fetch
 fetch-laws : (w : WorkloadView) (e : ℕ) (p : ProcNo) (r : Readings) (s : SpaceNo) (b : Bool) (rest : List Record) → AreLawful w e p (after_records w e p r (fetch_records s b)) rest

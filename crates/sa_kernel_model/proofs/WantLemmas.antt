@@ -2,7 +2,7 @@
 use Rattle.std.proofs.Common.{◌≡◌, ◌≢◌, ℕ, zero, suc, ◌<◌, ◌≤◌, ◌+◌, inl, inr, refl, sym, ◌∙◌, ap, subst, arith, Some, None, List, [], ◌∷◌, ◌++◌, length, map, true, false}
 use Rattle.std.specs.Prelude.{Option, Bool, ◌==◌, ◌&&◌, ◌||◌, not, cond, IsSome, get_or, slice_set, slice_index, filter, Contains}
 use Rattle.std.specs.List.{list_any, range_with_len}
-use Rattle.std.proofs.lemmas.Bool.{cases_eq, cases_lt}
+use Rattle.std.proofs.lemmas.Bool.{cases_eq, cases_lt, and_right}
 use Rattle.std.proofs.lemmas.List.{get_or_past, get_or-set_same, get_or-set_other, set-get_or, append-nil, length-set}
 use Rattle.std.proofs.lemmas.List.Elements.{Contains-append_right}
 use Rattle.sa_base.specs.declared.number.SpaceNo.{SpaceNo}
@@ -20,10 +20,11 @@ use Rattle.sa_laws.specs.Readings.{Readings, demand_of as demand_at, untold_of a
 use Rattle.sa_laws.specs.Record.{after_record, mark_after}
 use Rattle.sa_laws.specs.History.{after_records}
 use Rattle.sa_laws.specs.Closing.{must_want, want_one}
+use Rattle.sa_laws.proofs.Records.{records-append}
 use Rattle.sa_kernel_model.specs.Overview.{Overview, overview, read_off}
 use Rattle.sa_kernel_model.specs.Kept.{IdleAlike}
 use Rattle.sa_kernel_model.proofs.UpLemmas.{AreLawful}
-use Rattle.sa_kernel_model.proofs.WalkLemmas.{AreClosing, items-both, records-both}
+use Rattle.sa_kernel_model.proofs.WalkLemmas.{items-both}
 
 -- spaces in the order of their numbers
 abbrev pub spaces_from : ℕ → ℕ → List SpaceNo
@@ -50,10 +51,6 @@ one_want true s = Want (space_no s) 1 ∷ []
 front : (b : Bool) (s : ℕ) (ss : List SpaceNo) → map want_one (cond b (space_no s ∷ ss) ss) ≡ one_want b s ++ map want_one ss
 front true s ss = refl
 front false s ss = refl
-
-pub wants-close : (ss : List SpaceNo) → AreClosing (map want_one ss)
-wants-close [] = refl
-wants-close (s ∷ ss) = wants-close ss
 
 pub wants-lawful : (w : WorkloadView) (e : ℕ) (p : ProcNo) (m : Readings) (ss : List SpaceNo) (rest : List Record) → AreLawful w e p (after_records w e p m (map want_one ss)) rest
     → AreLawful w e p m (map want_one ss ++ rest)
@@ -118,12 +115,8 @@ untold-wants : (w : WorkloadView) (e : ℕ) (p : ProcNo) (m : Readings) (ss : Li
 untold-wants w e p m [] = refl
 untold-wants w e p m (s ∷ ss) = untold-wants w e p (after_record w e p m (want_one s)) ss
 
-and-false : (b : Bool) → (b && false) ≡ false
-and-false true = refl
-and-false false = refl
-
 pub nothing-heard : (c : Readings) (s : SpaceNo) → untold_at c s ≡ [] → must_want c s ≡ false
-nothing-heard c s none = ap (λ ns. demand_at c s == 0 && list_any (must_hear c) ns) none ∙ and-false (demand_at c s == 0)
+nothing-heard c s none = ap (λ ns. demand_at c s == 0 && list_any (must_hear c) ns) none ∙ and_right (demand_at c s == 0) false refl
 
 pub none-wanted : (w : WorkloadView) (e : ℕ) (p : ProcNo) (m : Readings) (n t : ℕ) → length m.demands ≡ n → length m.untold ≡ n → must_want (behind_wants w e p m (must_want m) 0 n) (space_no t) ≡ false
 none-wanted w e p m n t demands untold = elim (cases_lt t n) [
@@ -176,7 +169,7 @@ module _ {C : Type 0} where
       → Wanted w e p m x z (xs ++ ys)
   wanted-both w e p m x y z xs ys one two =
       let next = after_records w e p m xs in
-      let is : after_records w e p next ys ≡ after_records w e p m (xs ++ ys) = sym (records-both w e p m xs ys) in
+      let is : after_records w e p next ys ≡ after_records w e p m (xs ++ ys) = sym (records-append w e p m xs ys) in
       record {
         adds = items-both e p x.items y.items z.items xs ys one.adds two.adds;
         reads = ap overview (sym is) ∙ two.reads;

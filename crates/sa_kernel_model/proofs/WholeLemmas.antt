@@ -1,14 +1,14 @@
 -- A whole turn: the own part of its event, and behind it the closing.
 use Rattle.std.proofs.Common.{◌≡◌, ◌≢◌, ℕ, ◌<◌, refl, sym, ◌∙◌, ap, subst, Some, None, List, [], ◌∷◌, ◌++◌, length, map, true}
-use Rattle.std.specs.Prelude.{Option, ◌&&◌, IsSome, slice_set, filter}
+use Rattle.std.specs.Prelude.{Option, IsSome, slice_set, filter}
 use Rattle.std.specs.List.{list_all}
-use Rattle.std.proofs.lemmas.List.{length-set, append-nil}
-use Rattle.std.proofs.lemmas.List.Folds.{list_all-append}
+use Rattle.std.proofs.lemmas.List.{append-nil}
+use Rattle.std.proofs.lemmas.Bool.{and_parts}
 use Rattle.sa_base.specs.declared.number.SpaceNo.{SpaceNo}
 use Rattle.sa_base.specs.declared.number.ProcNo.{ProcNo}
 use Rattle.sa_base.specs.declared.number.ActNo.{ActNo}
 use Rattle.sa_base.specs.declared.record.Record.{Record}
-use Rattle.sa_base.specs.declared.record.Record.TheVariants.{Up, Stop, Block, Want, Aim, Line}
+use Rattle.sa_base.specs.declared.record.Record.TheVariants.{Want, Aim, Line}
 use Rattle.sa_base.specs.declared.record.Item.{Item}
 use Rattle.sa_base.specs.Items.{items_at}
 use Rattle.sa_spaces.specs.declared.workload.Evict.{Evict}
@@ -22,41 +22,33 @@ use Rattle.sa_kernel_model.specs.Closing.{spaces, wants, aims, closed}
 use Rattle.sa_kernel_model.specs.Sound.{IsSound}
 use Rattle.sa_kernel_model.proofs.SoundLemmas.{sound-evicted, sound-entered_as}
 use Rattle.sa_laws.specs.Readings.{Readings}
-use Rattle.sa_laws.specs.Record.{after_record, running_after, demands_after}
+use Rattle.sa_laws.specs.Record.{after_record, demands_after}
 use Rattle.sa_laws.specs.History.{begun, after_records}
 use Rattle.sa_laws.specs.Shape.{is_of_closing, is_no_want}
 use Rattle.sa_laws.specs.Closing.{must_want, want_one, spaces_of, wants_due, aims_due, lines_due}
+use Rattle.sa_laws.proofs.Records.{records-append}
+use Rattle.sa_laws.proofs.Lengths.{running-length, demands-length}
+use Rattle.sa_laws.proofs.Closings.{closing-aims, closing-append, closing-wants}
 use Rattle.sa_kernel_model.specs.Overview.{Overview, overview, read_off}
 use Rattle.sa_kernel_model.specs.Turn.{Turn, CanTurn, FitsTurn, IsUnused, what_of, before_entry, turn_on, turned, event_of}
 use Rattle.sa_kernel_model.specs.Kept.{IsOf, IdleAlike, IsKept}
-use Rattle.sa_kernel_model.proofs.OverviewLemmas.{and-left, and-right}
 use Rattle.sa_kernel_model.proofs.UpLemmas.{AreLawful}
-use Rattle.sa_kernel_model.proofs.WalkLemmas.{AreClosing, items-both, records-both}
+use Rattle.sa_kernel_model.proofs.WalkLemmas.{AreClosing, items-both}
 use Rattle.sa_kernel_model.proofs.EntryLemmas.{Turned}
 use Rattle.sa_kernel_model.proofs.TurnedLemmas.{Stands, before_closing, turned-all}
-use Rattle.sa_kernel_model.proofs.WantLemmas.{Wanted, spaces_from, wants-from, wants-close, wants-lawful}
-use Rattle.sa_kernel_model.proofs.AimLemmas.{aims-walk, aims-lawful, aims-close}
+use Rattle.sa_kernel_model.proofs.WantLemmas.{Wanted, spaces_from, wants-from, wants-lawful}
+use Rattle.sa_kernel_model.proofs.AimLemmas.{aims-walk, aims-lawful}
 use Rattle.sa_kernel_model.proofs.LineLemmas.{Lined, AreLines, lines_from, lines-walk}
 use Rattle.sa_kernel_model.proofs.ShapeLemmas.{aims-wants, lines-wants}
 
 -- lists keep their lengths
-running-step : (p : ProcNo) (running : List (Option ActNo)) (x : Record) → length (running_after p running x) ≡ length running
-running-step p running (Up s a) = length-set running p.0 (Some a)
-running-step p running (Stop s t a) = length-set running p.0 None
-running-step p running (Block s t a io) = length-set running p.0 None
-running-step p running x = refl
+running-kept : (w : WorkloadView) (e : ℕ) (p : ProcNo) (r : Readings) (xs : List Record) → length (after_records w e p r xs).running ≡ length r.running
+running-kept w e p r [] = refl
+running-kept w e p r (x ∷ xs) = running-kept w e p (after_record w e p r x) xs ∙ running-length p r.running x
 
-demands-step : (demands : List ℕ) (x : Record) → length (demands_after demands x) ≡ length demands
-demands-step demands (Want s n) = length-set demands s.0 n
-demands-step demands x = refl
-
-running-length : (w : WorkloadView) (e : ℕ) (p : ProcNo) (r : Readings) (xs : List Record) → length (after_records w e p r xs).running ≡ length r.running
-running-length w e p r [] = refl
-running-length w e p r (x ∷ xs) = running-length w e p (after_record w e p r x) xs ∙ running-step p r.running x
-
-demands-length : (w : WorkloadView) (e : ℕ) (p : ProcNo) (r : Readings) (xs : List Record) → length (after_records w e p r xs).demands ≡ length r.demands
-demands-length w e p r [] = refl
-demands-length w e p r (x ∷ xs) = demands-length w e p (after_record w e p r x) xs ∙ demands-step r.demands x
+demands-kept : (w : WorkloadView) (e : ℕ) (p : ProcNo) (r : Readings) (xs : List Record) → length (after_records w e p r xs).demands ≡ length r.demands
+demands-kept w e p r [] = refl
+demands-kept w e p r (x ∷ xs) = demands-kept w e p (after_record w e p r x) xs ∙ demands-length r.demands x
 
 -- behind some record there is a last one
 last-kept : (w : WorkloadView) (e : ℕ) (p : ProcNo) (r : Readings) (xs : List Record) → IsSome r.last → IsSome (after_records w e p r xs).last
@@ -82,12 +74,9 @@ closing-one w e p r x is = absurd (cc)
 pub closing-leaves : (w : WorkloadView) (e : ℕ) (p : ProcNo) (r : Readings) (xs : List Record) → AreClosing xs → Untouched r (after_records w e p r xs)
 closing-leaves w e p r [] is = record { lives = refl; owners = refl; untold = refl }
 closing-leaves w e p r (x ∷ xs) is =
-    let one = closing-one w e p r x (and-left (is_of_closing x) (list_all is_of_closing xs) is) in
-    let rest = closing-leaves w e p (after_record w e p r x) xs (and-right (is_of_closing x) (list_all is_of_closing xs) is) in
+    let one = closing-one w e p r x (and_parts (is_of_closing x) (list_all is_of_closing xs) is).0 in
+    let rest = closing-leaves w e p (after_record w e p r x) xs (and_parts (is_of_closing x) (list_all is_of_closing xs) is).1 in
     record { lives = rest.lives ∙ one.lives; owners = rest.owners ∙ one.owners; untold = rest.untold ∙ one.untold }
-
-pub closing-both : (xs ys : List Record) → AreClosing xs → AreClosing ys → AreClosing (xs ++ ys)
-closing-both xs ys a b = list_all-append is_of_closing xs ys ∙ ap (λ c. c && list_all is_of_closing ys) a ∙ b
 
 lines-close : (xs : List Record) → AreLines xs → AreClosing xs
 lines-close [] is = refl
@@ -102,7 +91,7 @@ demands-one demands x none = refl
 pub demands-same : (w : WorkloadView) (e : ℕ) (p : ProcNo) (r : Readings) (xs : List Record) → list_all is_no_want xs ≡ true → (after_records w e p r xs).demands ≡ r.demands
 demands-same w e p r [] none = refl
 demands-same w e p r (x ∷ xs) none =
-    demands-same w e p (after_record w e p r x) xs (and-right (is_no_want x) (list_all is_no_want xs) none) ∙ demands-one r.demands x (and-left (is_no_want x) (list_all is_no_want xs) none)
+    demands-same w e p (after_record w e p r x) xs (and_parts (is_no_want x) (list_all is_no_want xs) none).1 ∙ demands-one r.demands x (and_parts (is_no_want x) (list_all is_no_want xs) none).0
 
 -- the records of items
 pub records-said : (e : ℕ) (p : ProcNo) (xs : List Record) → map what_of (items_at e p xs) ≡ xs
@@ -142,12 +131,12 @@ module _ {C : Type 0} where
       let all : map want_one (filter (must_want m) (spaces_from 0 (spaces y.state))) ≡ wl = ap (λ n. map want_one (filter (must_want m) (spaces_from 0 n))) of.spaces in
       let one : Wanted w e p m y y1 wl = subst (λ (xs : List Record). Wanted w e p m y y1 xs) all (wants-from w e p m y 0 (spaces y.state) reads idle last) in
       let m1 = after_records w e p m wl in
-      let wants_close : AreClosing wl = wants-close (filter (must_want m) (spaces_of w)) in
+      let wants_close : AreClosing wl = closing-wants (filter (must_want m) (spaces_of w)) in
       let left1 = closing-leaves w e p m wl wants_close in
       let lives1 : length y1.state.lives ≡ w.processors =
-      ap (λ (v : Overview). length v.running) (sym one.reads) ∙ running-length w e p m wl ∙ ap (λ (v : Overview). length v.running) reads ∙ of.processors in
+      ap (λ (v : Overview). length v.running) (sym one.reads) ∙ running-kept w e p m wl ∙ ap (λ (v : Overview). length v.running) reads ∙ of.processors in
       let spaces1 : length y1.state.demands ≡ length w.spaces =
-      ap (λ (v : Overview). length v.demands) (sym one.reads) ∙ demands-length w e p m wl ∙ ap (λ (v : Overview). length v.demands) reads ∙ of.spaces in
+      ap (λ (v : Overview). length v.demands) (sym one.reads) ∙ demands-kept w e p m wl ∙ ap (λ (v : Overview). length v.demands) reads ∙ of.spaces in
       let owners1 : length y1.state.assign.owners ≡ w.processors =
       ap (λ (v : Overview). length v.assign.owners) (sym one.reads) ∙ ap (λ (os : List (Option SpaceNo)). length os) left1.owners ∙ ap (λ (v : Overview). length v.assign.owners) reads ∙ owners in
       let of1 : IsOf w y1.state = record { fixed = one.fixed ∙ of.fixed; processors = lives1; spaces = spaces1 } in
@@ -155,7 +144,7 @@ module _ {C : Type 0} where
       let al = records_of e m1.lines (aims_due w e m1) in
       let y2 = aims e p y1 in
       let m2 = after_records w e p m1 al in
-      let aims_close : AreClosing al = aims-close e m1.lines (aims_due w e m1) in
+      let aims_close : AreClosing al = closing-aims e m1.lines (aims_due w e m1) in
       let ll = lines_due w m2 in
       let all_lines : lines_from w m2 0 (spaces y2.state) ≡ ll = ap (λ n. lines_from w m2 0 n) spaces1 in
       let y3 = closed e p y in
@@ -176,10 +165,10 @@ module _ {C : Type 0} where
         lawful = wants-lawful w e p m (filter (must_want m) (spaces_of w)) (al ++ ll) (aims-lawful w e p m1 (aims_due w e m1) ll lawful_lines);
         lawful_lines = lawful_lines;
         lines = three.lines;
-        closes = closing-both wl (al ++ ll) wants_close (closing-both al ll aims_close (lines-close ll three.lines));
+        closes = closing-append wl (al ++ ll) wants_close (closing-append al ll aims_close (lines-close ll three.lines));
         of = of1;
         spaces =
-            ap (λ (v : Overview). length v.demands) (sym three.reads) ∙ demands-length w e p m2 ll ∙ ap (λ (v : Overview). length v.demands) two.reads ∙ spaces1;
+            ap (λ (v : Overview). length v.demands) (sym three.reads) ∙ demands-kept w e p m2 ll ∙ ap (λ (v : Overview). length v.demands) two.reads ∙ spaces1;
         late = (let a = closing-leaves w e p m1 al aims_close in let b = closing-leaves w e p m2 ll (lines-close ll three.lines) in
             record { lives = b.lives ∙ a.lives; owners = b.owners ∙ a.owners; untold = b.untold ∙ a.untold });
         late_demands = demands-same w e p m2 ll (lines-wants ll three.lines) ∙ demands-same w e p m1 al (aims-wants e m1.lines (aims_due w e m1));
@@ -254,9 +243,9 @@ module _ {C : Type 0} where
       let of : IsOf w y.state = record {
         fixed = own.fixed ∙ kept.of.fixed;
         processors =
-            ap (λ (v : Overview). length v.running) (sym own.reads) ∙ running-length w e p c own.records ∙ ap (λ (v : Overview). length v.running) stands.reads ∙ kept.of.processors;
+            ap (λ (v : Overview). length v.running) (sym own.reads) ∙ running-kept w e p c own.records ∙ ap (λ (v : Overview). length v.running) stands.reads ∙ kept.of.processors;
         spaces =
-            ap (λ (v : Overview). length v.demands) (sym own.reads) ∙ demands-length w e p c own.records ∙ ap (λ (v : Overview). length v.demands) stands.reads ∙ kept.of.spaces;
+            ap (λ (v : Overview). length v.demands) (sym own.reads) ∙ demands-kept w e p c own.records ∙ ap (λ (v : Overview). length v.demands) stands.reads ∙ kept.of.spaces;
       } in
       let owners : length y.state.assign.owners ≡ w.processors = sound.formed.sizes.owners ∙ of.processors in
       let last : IsSome m.last = last-some w e p c own.records own.some in
@@ -270,9 +259,9 @@ module _ {C : Type 0} where
       let records : (event_of t k).records ≡ own.records ++ (wl ++ (al ++ ll)) =
       ap (λ (x : Scene C). map what_of x.items) all ∙ ap (map what_of) items ∙ records-said e p (own.records ++ (wl ++ (al ++ ll))) in
       let end : after_records w e p m (wl ++ (al ++ ll)) ≡ cl.lined =
-      records-both w e p m wl (al ++ ll) ∙ ap (λ (d : Readings). after_records w e p d (al ++ ll)) (sym cl.wanted_is)
-      ∙ records-both w e p cl.wanted al ll ∙ ap (λ (d : Readings). after_records w e p d ll) (sym cl.aimed_is) ∙ sym cl.lined_is in
-      let middle : after_records w e p c (own.records ++ (wl ++ (al ++ ll))) ≡ cl.lined = records-both w e p c own.records (wl ++ (al ++ ll)) ∙ end in
+      records-append w e p m wl (al ++ ll) ∙ ap (λ (d : Readings). after_records w e p d (al ++ ll)) (sym cl.wanted_is)
+      ∙ records-append w e p cl.wanted al ll ∙ ap (λ (d : Readings). after_records w e p d ll) (sym cl.aimed_is) ∙ sym cl.lined_is in
+      let middle : after_records w e p c (own.records ++ (wl ++ (al ++ ll))) ≡ cl.lined = records-append w e p c own.records (wl ++ (al ++ ll)) ∙ end in
       record {
         before = y;
         own = own;

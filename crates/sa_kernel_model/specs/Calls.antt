@@ -48,14 +48,14 @@ module _ {C : Type 0} where
     pub kept : IsKept w new.state (after_event test w r event)
 
 module _ (C : Type 0) where
-  -- so it is behind an entry, by what its contract says ..
+  -- After an entry the history goes on by what its contract says.
   abbrev pub EntriesGoOn : Type 0
   EntriesGoOn =
       (test : Test) (w : WorkloadView) (k : State C) (r : Readings) (e : ℕ) (p : ProcNo) (says : List Record) (past : List Item) (en : Entry C) (result : Given) (upcalls : Bool) (new : Scene C)
       → CanCall w k r e p says (Some en) → Enters (scene_before k e p says past) new result upcalls (λ (a : ActNo). entered e p a en)
       → GoesOn test w r e p past new
 
-  -- .. and behind the end of a slice
+  -- After the end of a slice the history goes on by the kernel alone.
   abbrev pub SlicesGoOn : Type 0
   SlicesGoOn =
       (test : Test) (w : WorkloadView) (k : State C) (r : Readings) (e : ℕ) (p : ProcNo) (says : List Record) (past : List Item) (new : Scene C)

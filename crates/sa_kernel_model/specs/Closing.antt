@@ -90,7 +90,7 @@ module _ {C : Type 0} where
   must_interrupt k s =
       has_untold (untold_of k s) && not (is_fetching k s) && is_none (least_below (length k.lives) (is_told_by k s))
 
-  -- .. has its lowest-numbered processor with a low line interrupted
+  -- A space has its lowest-numbered processor with a low line interrupted, if there is one.
   abbrev pub interrupt : ℕ → ProcNo → Option ℕ → Scene C → Scene C
   interrupt e p None x = x
   interrupt e p (Some q) x = says e p (Line (proc_no q)) (record x { state = with_line (proc_no q) (Some e) x.state })

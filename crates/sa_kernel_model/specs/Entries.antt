@@ -149,7 +149,7 @@ module _ {C : Type 0} where
     taken = slice_set k.taken (space_of (k.acts a.0)).0 (taken_of k (space_of (k.acts a.0)).0 ++ a ∷ []);
   }
 
-  -- .. if one is held of the activation
+  -- A stopped context is handed over if one is held of the activation.
   abbrev pub handed_by : Option (Stopped C) → ActNo → State C → State C
   handed_by None a k = k
   handed_by (Some held) a k = handed_over a k

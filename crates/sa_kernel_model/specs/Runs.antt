@@ -56,7 +56,7 @@ module _ (C : Type 0) where
       (test : Test) (w : WorkloadView) (moves : List (Option (Turn C))) → IsWorkload w → CanMove test w (opened {C = C} w).state (read_opening test w) moves
       → AllHoldFrom test w (opening_readings w) (opening_event w ∷ events moves (opened {C = C} w).state)
 
-  -- .. and these are the events of its trace
+  -- The events of a run are the events of its trace.
   abbrev pub RunsAreTheirEvents : Type 0
   RunsAreTheirEvents =
       (test : Test) (w : WorkloadView) (moves : List (Option (Turn C))) → IsWorkload w → CanMove test w (opened {C = C} w).state (read_opening test w) moves

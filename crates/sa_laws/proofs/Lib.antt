@@ -1,0 +1,5 @@
+pub mod Closings
+pub mod Lengths
+pub mod Notes
+pub mod Records
+pub mod Spaces

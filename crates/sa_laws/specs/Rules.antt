@@ -1,5 +1,5 @@
 -- The rules of legal runs in their order, each as what must hold at an event, given what was read before it.
-use Rattle.std.specs.Prelude.{List, [], ◌∷◌, take, Option, None}
+use Rattle.std.specs.Prelude.{ℕ, List, [], ◌∷◌, take, Option}
 use Rattle.sa_spaces.specs.Workload.{WorkloadView}
 use Rattle.sa_laws.specs.declared.rule.Rule.{Rule}
 use Rattle.sa_laws.specs.declared.rule.Rule.TheVariants.{Numbering, StepTaken, AtMostOnce, InTime, WhereOwned, AllTold, BlockUpcall, InterruptNext, LineCause, WantCause, SharesCovered, DemandSaid, TurnsAndSteps, ListLocks, ListOrder, EndTold}
@@ -61,31 +61,37 @@ Holds u w ListLocks r e last = u.Locks w r e
 Holds u w ListOrder r e last = u.Order w r e
 Holds u w EndTold r e last = EndIsTold (after_event u.inside w r e) e.number last
 
--- the laws of a legal run in their order, and with the rule of the end
-abbrev pub laws : List Rule
-laws = Numbering ∷ StepTaken ∷ AtMostOnce ∷ InTime ∷ WhereOwned ∷ AllTold ∷ BlockUpcall ∷ InterruptNext ∷ LineCause ∷ WantCause ∷ SharesCovered ∷ DemandSaid ∷ TurnsAndSteps ∷ ListLocks ∷ ListOrder ∷ []
-
+-- all rules in their order
 abbrev pub rules : List Rule
-rules = Numbering ∷ StepTaken ∷ AtMostOnce ∷ InTime ∷ WhereOwned ∷ AllTold ∷ BlockUpcall ∷ InterruptNext ∷ LineCause ∷ WantCause ∷ SharesCovered ∷ DemandSaid ∷ TurnsAndSteps ∷ ListLocks ∷ ListOrder ∷ EndTold ∷ []
+rules = Numbering ∷ StepTaken ∷ AtMostOnce ∷ InTime ∷ WhereOwned ∷ AllTold ∷ BlockUpcall ∷ InterruptNext ∷ LineCause ∷ WantCause ∷ SharesCovered
+    ∷ DemandSaid ∷ TurnsAndSteps ∷ ListLocks ∷ ListOrder ∷ EndTold ∷ []
+
+-- the place of a rule among them
+abbrev pub rule_place : Rule → ℕ
+rule_place Numbering = 0
+rule_place StepTaken = 1
+rule_place AtMostOnce = 2
+rule_place InTime = 3
+rule_place WhereOwned = 4
+rule_place AllTold = 5
+rule_place BlockUpcall = 6
+rule_place InterruptNext = 7
+rule_place LineCause = 8
+rule_place WantCause = 9
+rule_place SharesCovered = 10
+rule_place DemandSaid = 11
+rule_place TurnsAndSteps = 12
+rule_place ListLocks = 13
+rule_place ListOrder = 14
+rule_place EndTold = 15
 
 -- the rules before one
 abbrev pub rules_before : Rule → List Rule
-rules_before Numbering = take 0 rules
-rules_before StepTaken = take 1 rules
-rules_before AtMostOnce = take 2 rules
-rules_before InTime = take 3 rules
-rules_before WhereOwned = take 4 rules
-rules_before AllTold = take 5 rules
-rules_before BlockUpcall = take 6 rules
-rules_before InterruptNext = take 7 rules
-rules_before LineCause = take 8 rules
-rules_before WantCause = take 9 rules
-rules_before SharesCovered = take 10 rules
-rules_before DemandSaid = take 11 rules
-rules_before TurnsAndSteps = take 12 rules
-rules_before ListLocks = take 13 rules
-rules_before ListOrder = take 14 rules
-rules_before EndTold = take 15 rules
+rules_before rule = take (rule_place rule) rules
+
+-- the laws of a legal run: all rules but the last, which is of the trace's end
+abbrev pub laws : List Rule
+laws = rules_before EndTold
 
 -- each of these rules holds at an event
 abbrev pub HoldEach : UserRules → WorkloadView → List Rule → Readings → Event → Option LastLine → Type 0

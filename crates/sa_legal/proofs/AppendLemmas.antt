@@ -19,11 +19,7 @@ use Rattle.sa_legal.specs.Fold.{AreLawful, AreNumbered}
 use Rattle.sa_legal.proofs.WalkLemmas.{item}
 use Rattle.sa_legal.proofs.FoldLemmas.{lawful-along, legal-along, not-equal}
 use Rattle.sa_legal.proofs.MomentLemmas.{number-next}
-
-pub records-append : (w : WorkloadView) (e : ℕ) (p : ProcNo) (r : Readings) (xs ys : List Record)
-    → after_records w e p r (xs ++ ys) ≡ after_records w e p (after_records w e p r xs) ys
-records-append w e p r [] ys = refl
-records-append w e p r (x ∷ xs) ys = records-append w e p (after_record w e p r x) xs ys
+pub use Rattle.sa_laws.proofs.Records.{records-append}
 
 pub events-append : (test : Test) (w : WorkloadView) (r : Readings) (es fs : List Event)
     → after_events test w r (es ++ fs) ≡ after_events test w (after_events test w r es) fs

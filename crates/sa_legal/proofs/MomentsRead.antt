@@ -19,10 +19,11 @@ use Rattle.sa_laws.specs.Upcalls.{RecordLaw, EachRecord}
 use Rattle.sa_legal.specs.Words.{RaisedAt, aim_said, want_said, move_said, fetch_said, Notes, StandsUntold}
 use Rattle.sa_laws.specs.Rules.{UserRules, IsLawful}
 use Rattle.sa_laws.specs.Legal.{IsLegal}
+use Rattle.sa_laws.proofs.Lengths.{demands-length}
 use Rattle.sa_legal.specs.Read.{Reads}
 use Rattle.sa_legal.proofs.EventLemmas.{along, legal-lawful, items-events}
 use Rattle.sa_legal.proofs.WalkLemmas.{walk, IsKept, item}
-use Rattle.sa_legal.proofs.ReadLemmas.{said-more, aim-more, aims-length, demand-more, demands-length, owners-changed, owner-more, owners-length, fetch-more, raised-more, raised-new, set-cases, clear-cases, untold-stays, untold-comes, untold-length}
+use Rattle.sa_legal.proofs.ReadLemmas.{said-more, aim-more, aims-length, demand-more, owners-changed, owner-more, owners-length, fetch-more, raised-more, raised-new, set-cases, clear-cases, untold-stays, untold-comes, untold-length}
 
 -- within an event of p, a raised line of p was raised by that event
 pub record ReadsIn (w : WorkloadView) (e : ℕ) (p : ProcNo) (past : List Item) (r : Readings) : Type 0 where

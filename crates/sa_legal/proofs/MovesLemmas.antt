@@ -52,23 +52,23 @@ calm-first w p r (Aim q s ∷ xs) calm = tt
 calm-first w p r (Line q ∷ xs) calm = tt
 calm-first w p r (x ∷ xs) calm = absurd (let clash = calm.0 in cc)
 
-calm-append : (xs ys : List Record) → AreCalm xs → AreCalm ys → AreCalm (xs ++ ys)
+pub calm-append : (xs ys : List Record) → AreCalm xs → AreCalm ys → AreCalm (xs ++ ys)
 calm-append [] ys left right = right
 calm-append (x ∷ xs) ys left right = (left.0, calm-append xs ys left.1 right)
 
-calm-wants : (spaces : List SpaceNo) → AreCalm (map want_one spaces)
+pub calm-wants : (spaces : List SpaceNo) → AreCalm (map want_one spaces)
 calm-wants [] = tt
 calm-wants (s ∷ ss) = (refl, calm-wants ss)
 
-calm-line : (p : ℕ) (line : Option ℕ) → AreCalm (line_records p line)
+pub calm-line : (p : ℕ) (line : Option ℕ) → AreCalm (line_records p line)
 calm-line p None = (refl, tt)
 calm-line p (Some e) = tt
 
-calm-aims : (e : ℕ) (lines : List (Option ℕ)) (cs : List Change) → AreCalm (records_of e lines cs)
+pub calm-aims : (e : ℕ) (lines : List (Option ℕ)) (cs : List Change) → AreCalm (records_of e lines cs)
 calm-aims e lines [] = tt
 calm-aims e lines (c ∷ cs) = (refl, calm-append (line_records c.proc (line_at lines c.proc)) (records_of e (lines_with e lines c) cs) (calm-line c.proc (line_at lines c.proc)) (calm-aims e (lines_with e lines c) cs))
 
-calm-opening : (w : WorkloadView) → AreCalm (opening_records w)
+pub calm-opening : (w : WorkloadView) → AreCalm (opening_records w)
 calm-opening w =
     let wanting = after_records w 0 (proc_no 0) (opening_readings w) (first_wants w) in
     calm-append (first_wants w) (records_of 0 wanting.lines (aims_due w 0 wanting)) (calm-wants (spaces_of w)) (calm-aims 0 wanting.lines (aims_due w 0 wanting))

@@ -3,7 +3,7 @@ use Rattle.std.proofs.Common.{◌≡◌, ◌≢◌, ℕ, zero, suc, ◌<◌, ◌
 use Rattle.std.specs.Prelude.{slice_set, get_or, unwrap_or, Option, Bool, ◌==◌, not, ◌||◌, if◌then◌else◌, Contains, filter}
 use Rattle.std.specs.List.{list_any}
 use Rattle.std.specs.Option.{option_or}
-use Rattle.std.proofs.lemmas.Bool.{cases_eq, cases_lt}
+use Rattle.std.proofs.lemmas.Bool.{cases_eq, cases_lt, not-false, not-true}
 use Rattle.std.proofs.lemmas.Bool.Decides.{nat_tests}
 use Rattle.std.proofs.lemmas.List.{get_or-set_same, get_or-set_other, length-set, length-map}
 use Rattle.std.proofs.lemmas.List.Folds.{list_any-append}
@@ -23,14 +23,14 @@ use Rattle.sa_spaces.specs.Workload.{WorkloadView}
 use Rattle.sa_devices.specs.declared.kind.IoKind.{IoKind}
 use Rattle.sa_devices.specs.declared.kind.IoKind.TheVariants.{Plain, Page, Upcall}
 use Rattle.sa_devices.specs.Ios.{Io, is_fetch_of, fetches}
-use Rattle.sa_laws.specs.declared.place.Place.{Place}
-use Rattle.sa_laws.specs.State.{State, placed_if}
+use Rattle.sa_laws.specs.State.{State}
 use Rattle.sa_laws.specs.Machine.{changed}
 use Rattle.sa_laws.specs.Readings.{Readings, untold_of}
 use Rattle.sa_laws.specs.Record.{aims_after, demands_after, under_way_after, untold_after, with_note, is_other_note, same_note, blocking_for, length_behind, is_io_of, is_io_of_other, is_kind_of}
+use Rattle.sa_laws.proofs.Spaces.{placed-owners}
+use Rattle.sa_laws.proofs.Notes.{same_note-same}
 use Rattle.sa_legal.specs.Words.{last_said, aim_in, want_in, move_in, fetch_in, RaisedAt, Notes}
 use Rattle.sa_legal.proofs.WalkLemmas.{item}
-use Rattle.sa_legal.proofs.StandingLemmas.{same-number}
 use Rattle.sa_legal.proofs.AppendLemmas.{alike}
 
 or-none : {A : Type 0} (x : Option A) → option_or None x ≡ option_or x None
@@ -57,7 +57,7 @@ said-more says past x d old new was now =
     now ∙ ap (unwrap_or (says x)) was ∙ sym (or-value (says x) (last_said says past) d) ∙ ap (λ o. unwrap_or o d) (sym (last-more says past x))
 
 -- a list with a value at one place, as the words have it
-set-said : {A : Type 0} (xs : List A) (i j : ℕ) (v d : A) → j < length xs → get_or (slice_set xs i v) j d ≡ unwrap_or (if i == j then Some v else None) (get_or xs j d)
+pub set-said : {A : Type 0} (xs : List A) (i j : ℕ) (v d : A) → j < length xs → get_or (slice_set xs i v) j d ≡ unwrap_or (if i == j then Some v else None) (get_or xs j d)
 set-said xs i j v d within = elim (cases_eq i j) [
   | inl same ↦ at i same within
   | inr apart ↦ get_or-set_other xs i j v d (λ e. apart (sym e)) ∙ sym (ap (λ b. unwrap_or (if b then Some v else None) (get_or xs j d)) (not-same i j apart))
@@ -89,15 +89,7 @@ pub demand-more : (demands : List ℕ) (x : Record) (s : SpaceNo) → s.0 < leng
 demand-more demands (Want t n) s within = set-said demands t.0 s.0 n 0 within
 demand-more demands x s within = refl
 
-pub demands-length : (demands : List ℕ) (x : Record) → length (demands_after demands x) ≡ length demands
-demands-length demands (Want t n) = length-set demands t.0 n
-demands-length demands x = refl
-
 -- the owner of a processor
-placed-owners : (a : State) (s : SpaceNo) (t : Option ThreadNo) (place : Place) → (placed_if a s t place).owners ≡ a.owners
-placed-owners a s None place = refl
-placed-owners a s (Some t) place = refl
-
 abbrev pub owners_after : ProcNo → List (Option SpaceNo) → Record → List (Option SpaceNo)
 owners_after p owners (Move old new) = slice_set owners p.0 new
 owners_after p owners _ = owners
@@ -166,14 +158,6 @@ filter-none f g gone (io ∷ ios) = one (filter-none f g gone ios) (g io) refl w
   one rest true is = ap (λ c. c || list_any f (filter g ios)) (gone io is) ∙ rest
   one rest false is = rest
 
-pub not-true : (b : Bool) → not b ≡ false → b ≡ true
-not-true true is = refl
-not-true false is = absurd (cc)
-
-not-false : (b : Bool) → not b ≡ true → b ≡ false
-not-false true is = absurd (cc)
-not-false false is = refl
-
 pub io-is-no-fetch : (s : ℕ) (a : ActNo) (kind : IoKind) → is_kind_of a kind ≡ true → is_fetch_of s kind ≡ false
 io-is-no-fetch s a (Plain of b) is = refl
 io-is-no-fetch s a (Page of b k) is = refl
@@ -189,10 +173,10 @@ fetched-said : (s t : ℕ) (ios : List Io) → list_any (fetches s) (filter (λ 
 fetched-said s t ios = elim (cases_eq t s) [
   | inl same ↦
       ap (λ n. list_any (fetches s) (filter (λ io. not (fetches n io)) ios)) same
-      ∙ filter-none (fetches s) (λ io. not (fetches s io)) (λ io is. not-false (fetches s io) is) ios
+      ∙ filter-none (fetches s) (λ io. not (fetches s io)) (λ io is. not-true (fetches s io) is) ios
       ∙ sym (ap (λ b. unwrap_or (if b then Some false else None) (list_any (fetches s) ios)) (alike t s same))
   | inr apart ↦
-      filter-any (fetches s) (λ io. not (fetches t io)) (λ io is. fetch-apart s t io.kind apart (not-true (fetches t io) is)) ios
+      filter-any (fetches s) (λ io. not (fetches t io)) (λ io is. fetch-apart s t io.kind apart (not-false (fetches t io) is)) ios
       ∙ sym (ap (λ b. unwrap_or (if b then Some false else None) (list_any (fetches s) ios)) (differ t s apart))
 ] where
   alike : (a b : ℕ) → a ≡ b → (a == b) ≡ true
@@ -206,7 +190,7 @@ fetch-more w e r (Block of t a io) s =
     ∙ or-false (list_any (fetches s.0) r.under_way)
 fetch-more w e r (Fetch t) s = list_any-append (fetches s.0) r.under_way _ ∙ or-said (t.0 == s.0) (list_any (fetches s.0) r.under_way)
 fetch-more w e r (Unblock of t a) s =
-    filter-any (fetches s.0) (is_io_of_other a) (λ io is. io-is-no-fetch s.0 a io.kind (not-true (is_io_of a io) is)) r.under_way
+    filter-any (fetches s.0) (is_io_of_other a) (λ io is. io-is-no-fetch s.0 a io.kind (not-false (is_io_of a io) is)) r.under_way
 fetch-more w e r (Fetched t) s = fetched-said s.0 t.0 r.under_way
 fetch-more w e r x s = refl
 
@@ -284,18 +268,10 @@ without-keeps test [] j z passes has = has
 without-keeps test (x ∷ xs) zero z passes has = filter-keeps test x z passes has
 without-keeps test (x ∷ xs) (suc j) z passes has = without-keeps test xs j z passes has
 
--- two notes that are alike are one
-same-is : (m n : Note) → same_note m n ≡ true → m ≡ n
-same-is (note.Add p) (note.Add q) is = ap (λ k. note.Add (record { 0 = k })) (same-number p.0 q.0 is)
-same-is (note.Preempted a) (note.Preempted b) is = ap (λ k. note.Preempted (record { 0 = k })) (same-number a.0 b.0 is)
-same-is (note.Blocked a) (note.Blocked b) is = ap (λ k. note.Blocked (record { 0 = k })) (same-number a.0 b.0 is)
-same-is (note.Unblocked a) (note.Unblocked b) is = ap (λ k. note.Unblocked (record { 0 = k })) (same-number a.0 b.0 is)
-same-is m n is = absurd (cc)
-
 other-note : (n m : Note) → m ≢ n → is_other_note n m ≡ true
 other-note n m apart = one (same_note m n) refl where
   one : (b : Bool) → same_note m n ≡ b → not b ≡ true
-  one true is = absurd (apart (same-is m n is))
+  one true is = absurd (apart (same_note-same m n is))
   one false is = refl
 
 pub untold-stays : (r : Readings) (x : Record) (s : SpaceNo) (n : Note) → x ≢ Told n → Contains (untold_of r s) n → Contains (get_or (untold_after r x) s.0 []) n

@@ -5,6 +5,7 @@ use Rattle.std.specs.Prelude.{Option, Bool, ◌||◌, ◌==◌, if◌then◌else
 use Rattle.std.specs.List.{list_any, prefix_len}
 use Rattle.std.proofs.lemmas.Bool.Decides.{nat_tests}
 use Rattle.std.proofs.lemmas.Option.{none-some, same_Some}
+use Rattle.std.proofs.lemmas.Bool.{or_right, or_left}
 use Rattle.sa_base.specs.declared.number.SpaceNo.{SpaceNo}
 use Rattle.sa_base.specs.declared.number.ProcNo.{ProcNo}
 use Rattle.sa_base.specs.declared.number.ActNo.{ActNo}
@@ -139,22 +140,14 @@ interrupt-shaped w p r (Move old new ∷ xs) is = passage-first w p r (Move old 
 interrupt-shaped w p r xs is = absurd (is)
 
 -- the completion of the I/O that is due
-or-second : (a b : Bool) → b ≡ true → (a || b) ≡ true
-or-second true b is = refl
-or-second false b is = is
-
-pub or-left : (a b : Bool) → a ≡ true → (a || b) ≡ true
-or-left true b is = refl
-or-left false b is = absurd (cc)
-
 due-one : (f : Io → Bool) (x io : Io) (xs : List Io) (b : Bool) (d : Option Io) → (d ≡ Some io → list_any f xs ≡ true)
     → (if b then Some (sooner_of x d) else d) ≡ Some io → f io ≡ true → (f x || list_any f xs) ≡ true
-due-one f x io xs false d rest due is = or-second (f x) (list_any f xs) (rest due)
-due-one f x io xs true None rest due is = or-left (f x) (list_any f xs) (ap f (same_Some x io due) ∙ is)
+due-one f x io xs false d rest due is = or_right (f x) (list_any f xs) (rest due)
+due-one f x io xs true None rest due is = or_left (f x) (list_any f xs) (ap f (same_Some x io due) ∙ is)
 due-one f x io xs true (Some y) rest due is = two (is_sooner y x) due where
   two : (c : Bool) → Some (if c then y else x) ≡ Some io → (f x || list_any f xs) ≡ true
-  two true first = or-second (f x) (list_any f xs) (rest first)
-  two false first = or-left (f x) (list_any f xs) (ap f (same_Some x io first) ∙ is)
+  two true first = or_right (f x) (list_any f xs) (rest first)
+  two false first = or_left (f x) (list_any f xs) (ap f (same_Some x io first) ∙ is)
 
 due-any : (f : Io → Bool) (e : ℕ) (ios : List Io) (io : Io) → due_of e ios ≡ Some io → f io ≡ true → list_any f ios ≡ true
 due-any f e [] io due is = absurd (none-some io due)

@@ -2,9 +2,9 @@
 use Rattle.std.proofs.Common.{◌≡◌, ◌≢◌, ℕ, ◌<◌, ◌⊎◌, inl, inr, refl, sym, ◌∙◌, ap, arith, Some, None, List, [], length, true, false}
 use Rattle.std.specs.Prelude.{Option, Bool, ◌==◌, ◌||◌, get_or, slice_set, Contains}
 use Rattle.std.specs.List.{list_any}
-use Rattle.std.proofs.lemmas.Bool.{cases_eq}
+use Rattle.std.proofs.lemmas.Bool.{cases_eq, not-false, eqb-true, or_left}
 use Rattle.std.proofs.lemmas.Bool.Decides.{nat_tests}
-use Rattle.std.proofs.lemmas.List.{get_or-set_same, get_or-set_other, length-set}
+use Rattle.std.proofs.lemmas.List.{get_or-set_same, get_or-set_other}
 use Rattle.std.proofs.lemmas.List.Folds.{list_any-append}
 use Rattle.std.proofs.lemmas.Option.{none-some, same_Some}
 use Rattle.sa_lemmas.specs.Function.{put}
@@ -22,9 +22,10 @@ use Rattle.sa_devices.specs.declared.kind.IoKind.TheVariants.{Plain, Page, Upcal
 use Rattle.sa_devices.specs.Ios.{is_fetch_of, fetches}
 use Rattle.sa_laws.specs.Readings.{Readings, running_of, untold_of}
 use Rattle.sa_laws.specs.Record.{after_record, running_after, under_way_after, untold_after, is_kind_of, is_io_of, is_io_of_other, fetches_other, blocking_for, length_behind}
-use Rattle.sa_legal.proofs.ReadLemmas.{filter-any, not-true, untold-stays, untold-comes, untold-length}
-use Rattle.sa_legal.proofs.StandingLemmas.{Standing, Nowhere, Runs, Blocked, Stopped, Returned, space_in, proc_in, took, Stood, standing_after, same-proc, same-number, same-number-act}
-use Rattle.sa_legal.proofs.ShapeLemmas.{MovesLives, or-left}
+use Rattle.sa_laws.proofs.Lengths.{running-length}
+use Rattle.sa_legal.proofs.ReadLemmas.{filter-any, untold-stays, untold-comes, untold-length}
+use Rattle.sa_legal.proofs.StandingLemmas.{Standing, Nowhere, Runs, Blocked, Stopped, Returned, space_in, proc_in, took, Stood, standing_after, same-proc, same-number-act}
+use Rattle.sa_legal.proofs.ShapeLemmas.{MovesLives}
 
 pub record Shows (w : WorkloadView) (st : ℕ → Standing) (r : Readings) : Type 0 where
   pub running_len : length r.running ≡ w.processors
@@ -85,12 +86,6 @@ running-shown w p st r (Told (note.Blocked a)) rest s q b shows was law within i
 running-shown w p st r (GiveBack a) rest s q b shows was law within is = shows.running s q b (moved-on p q st s a b Nowhere refl is)
 running-shown w p st r x rest s q b shows was law within is = shows.running s q b is
 
-running-length : (p : ProcNo) (running : List (Option ActNo)) (x : Record) → length (running_after p running x) ≡ length running
-running-length p running (Up s a) = length-set running p.0 (Some a)
-running-length p running (Stop s t a) = length-set running p.0 None
-running-length p running (Block s t a io) = length-set running p.0 None
-running-length p running x = refl
-
 -- the blocked lives
 abbrev is_blocked : Standing → Bool
 is_blocked (Blocked s) = true
@@ -115,10 +110,10 @@ own-block w r s t a b (Some n) same = alike a.0 b.0 same
 own-block w r s t a b None same = alike a.0 b.0 same
 
 other-kind : (a b : ActNo) (k : IoKind) → b.0 ≢ a.0 → is_kind_of a k ≡ true → is_kind_of b k ≡ false
-other-kind a b (Plain s c) apart is = let same = same-number c.0 a.0 is in differ c.0 b.0 (λ e. apart (sym e ∙ same)) where
+other-kind a b (Plain s c) apart is = let same = eqb-true c.0 a.0 is in differ c.0 b.0 (λ e. apart (sym e ∙ same)) where
   differ : (m n : ℕ) → m ≢ n → (m == n) ≡ false
   differ m n other = grind (arith, nat_tests)
-other-kind a b (Page s c k) apart is = let same = same-number c.0 a.0 is in differ c.0 b.0 (λ e. apart (sym e ∙ same)) where
+other-kind a b (Page s c k) apart is = let same = eqb-true c.0 a.0 is in differ c.0 b.0 (λ e. apart (sym e ∙ same)) where
   differ : (m n : ℕ) → m ≢ n → (m == n) ≡ false
   differ m n other = grind (arith, nat_tests)
 other-kind a b (Upcall s) apart is = refl
@@ -132,14 +127,14 @@ blocked-shown : (w : WorkloadView) (e : ℕ) (p : ProcNo) (st : ℕ → Standing
     → standing_after p st x b.0 ≡ Blocked s → list_any (is_io_of b) (under_way_after w e r x) ≡ true
 blocked-shown w e p st r (Block of t a io) s b shows was is = elim (put-cases st a.0 b.0 (Blocked of) (Blocked s) is) [
   | inl new ↦ list_any-append (is_io_of b) r.under_way _ ∙ or-right (list_any (is_io_of b) r.under_way) _ (own-block w r of t a b (length_behind w r of t r.last) new.0)
-  | inr old ↦ list_any-append (is_io_of b) r.under_way _ ∙ or-left _ _ (shows.blocked s b old.1)
+  | inr old ↦ list_any-append (is_io_of b) r.under_way _ ∙ or_left _ _ (shows.blocked s b old.1)
 ]
-blocked-shown w e p st r (Fetch of) s b shows was is = list_any-append (is_io_of b) r.under_way _ ∙ or-left _ _ (shows.blocked s b is)
+blocked-shown w e p st r (Fetch of) s b shows was is = list_any-append (is_io_of b) r.under_way _ ∙ or_left _ _ (shows.blocked s b is)
 blocked-shown w e p st r (Fetched of) s b shows was is =
-    filter-any (is_io_of b) (fetches_other of) (λ io gone. fetch-no-io of.0 b io.kind (not-true (fetches of.0 io) gone)) r.under_way ∙ shows.blocked s b is
+    filter-any (is_io_of b) (fetches_other of) (λ io gone. fetch-no-io of.0 b io.kind (not-false (fetches of.0 io) gone)) r.under_way ∙ shows.blocked s b is
 blocked-shown w e p st r (Unblock of t a) s b shows was is =
     let old = blocked-on st s a b (Returned of) refl is in
-    filter-any (is_io_of b) (is_io_of_other a) (λ io gone. other-kind a b io.kind old.0 (not-true (is_io_of a io) gone)) r.under_way ∙ shows.blocked s b old.1
+    filter-any (is_io_of b) (is_io_of_other a) (λ io gone. other-kind a b io.kind old.0 (not-false (is_io_of a io) gone)) r.under_way ∙ shows.blocked s b old.1
 blocked-shown w e p st r (Stop of t a) s b shows was is = shows.blocked s b (blocked-on st s a b (Stopped of) refl is).1
 blocked-shown w e p st r (Up of a) s b shows was is = shows.blocked s b (blocked-on st s a b (Runs of p) refl is).1
 blocked-shown w e p st r (Told (note.Preempted a)) s b shows was is = shows.blocked s b (blocked-on st s a b (took (st a.0)) (ap (λ y. is_blocked (took y)) was.1) is).1

@@ -26,6 +26,7 @@ use Rattle.sa_laws.specs.Closing.{first_space, claims_of, shares_at}
 use Rattle.sa_laws.specs.Upcalls.{RecordLaw, EachRecord}
 use Rattle.sa_laws.specs.Rules.{IsLawful, fast_threads}
 use Rattle.sa_laws.specs.Legal.{IsLegal, before}
+use Rattle.sa_laws.proofs.Lengths.{claims-length}
 use Rattle.sa_legal.specs.Lives.{Stand, stand_if, stand_in, stand_said, stand_of, LivesAreRead}
 use Rattle.sa_legal.specs.Lives as life
 use Rattle.sa_legal.specs.Consequences.{AtEachMoment, RunApart, AreLockedOnce, LockersStand, IsRunning, IsBlocked, IsUntold, SharesAreTheOnes}
@@ -33,7 +34,7 @@ use Rattle.sa_legal.proofs.WalkLemmas.{IsKept, Along, walk, item}
 use Rattle.sa_legal.proofs.ReadLemmas.{said-more, differ}
 use Rattle.sa_legal.proofs.EventLemmas.{along, legal-lawful, items-events}
 use Rattle.sa_legal.proofs.MomentsRead.{OnMachine, on-machine, Any}
-use Rattle.sa_legal.proofs.TimelyLemmas.{claims-length, first-below}
+use Rattle.sa_legal.proofs.TimelyLemmas.{first-below}
 use Rattle.sa_legal.proofs.StandingLemmas.{Standing, Nowhere, Runs, Blocked, Stopped, Returned, Taken, Agrees, space_of, space_in, took, Stood, standing_after, agrees-step, same-proc}
 use Rattle.sa_legal.proofs.ShapeLemmas.{MovesLives}
 use Rattle.sa_legal.proofs.MovesLemmas.{moves-lives, stood, agrees-start, agrees-begun, agrees-ended, nowhere_first}

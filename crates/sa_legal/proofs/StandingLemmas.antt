@@ -1,10 +1,10 @@
 -- In a legal run each activation number stands in one place: it is in nobody's use, or its life runs, is blocked, was
 -- stopped or has come back untold, or is taken.
 use Rattle.std.proofs.Common.{◌≡◌, ◌≢◌, ℕ, zero, suc, ◌⊎◌, inl, inr, refl, sym, ◌∙◌, ap, subst, arith, Some, None, List, [], ◌∷◌, ◌++◌, true, false}
-use Rattle.std.specs.Prelude.{Option, Bool, not, ◌||◌, ◌==◌, if◌then◌else◌, get_or, slice_set, Contains, All, filter}
+use Rattle.std.specs.Prelude.{Option, Bool, not, ◌||◌, if◌then◌else◌, get_or, slice_set, Contains, All, filter}
 use Rattle.std.specs.List.{list_any}
 use Rattle.std.specs.Option.{option_map}
-use Rattle.std.proofs.lemmas.Bool.{cases_eq}
+use Rattle.std.proofs.lemmas.Bool.{cases_eq, or_cases, eqb-true}
 use Rattle.std.proofs.lemmas.Bool.Decides.{nat_tests}
 use Rattle.std.proofs.lemmas.List.Folds.{list_any-append}
 use Rattle.std.proofs.lemmas.List.Elements.{Contains-push_cases, All-contains, All-filter, All-contains_itself, All-cons, All-nil}
@@ -185,26 +185,19 @@ running-step p q st r x b agrees was is =
     let there = agrees.running q b is in (there.0, stays p st x b.0 (Runs there.0 q) was there.1 (λ e. cc))
 
 -- the blocked lives
-or-cases : (a b : Bool) → (a || b) ≡ true → (a ≡ true) ⊎ (b ≡ true)
-or-cases true b is = inl refl
-or-cases false b is = inr is
-
 or-first : (b : Bool) → (b || false) ≡ true → b ≡ true
 or-first true is = refl
 or-first false is = is
 
-pub same-number : (a b : ℕ) → (a == b) ≡ true → a ≡ b
-same-number a b is = grind (arith, nat_tests)
-
 kind-number : (a b : ActNo) (k : IoKind) → is_kind_of b k ≡ true → is_kind_of a k ≡ true → b.0 ≡ a.0
-kind-number a b (Plain s c) own other = sym (same-number c.0 b.0 own) ∙ same-number c.0 a.0 other
-kind-number a b (Page s c k) own other = sym (same-number c.0 b.0 own) ∙ same-number c.0 a.0 other
+kind-number a b (Plain s c) own other = sym (eqb-true c.0 b.0 own) ∙ eqb-true c.0 a.0 other
+kind-number a b (Page s c k) own other = sym (eqb-true c.0 b.0 own) ∙ eqb-true c.0 a.0 other
 kind-number a b (Upcall s) own other = absurd (cc)
 
 blocking-number : (w : WorkloadView) (r : Readings) (s : SpaceNo) (t : Option ThreadNo) (a b : ActNo) (o : Option ℕ)
     → is_kind_of b (blocking_for w r s t a o).kind ≡ true → b.0 ≡ a.0
-blocking-number w r s t a b (Some n) is = sym (same-number a.0 b.0 is)
-blocking-number w r s t a b None is = sym (same-number a.0 b.0 is)
+blocking-number w r s t a b (Some n) is = sym (eqb-true a.0 b.0 is)
+blocking-number w r s t a b None is = sym (eqb-true a.0 b.0 is)
 
 filter-one : (f : Io → Bool) (io : Io) (ios kept : List Io) (b c : Bool) → f io ≡ c → (list_any f kept ≡ true → list_any f ios ≡ true)
     → list_any f (if b then io ∷ kept else kept) ≡ true → (f io || list_any f ios) ≡ true
@@ -234,14 +227,14 @@ any-gone a b (io ∷ ios) is same =
 pub blocked-step : (w : WorkloadView) (e : ℕ) (p : ProcNo) (st : ℕ → Standing) (r : Readings) (x : Record) (b : ActNo) → Agrees st r → Stood p st x
     → list_any (is_io_of b) (under_way_after w e r x) ≡ true → (s : SpaceNo) × (standing_after p st x b.0 ≡ Blocked s)
 blocked-step w e p st r (Block s t a io) b agrees was is =
-    elim (or-cases (list_any (is_io_of b) r.under_way) _ (sym (list_any-append (is_io_of b) r.under_way _) ∙ is)) [
+    elim (or_cases (list_any (is_io_of b) r.under_way) _ (sym (list_any-append (is_io_of b) r.under_way _) ∙ is)) [
       | inl old ↦ let there = agrees.blocked b old in (there.0, keeps st a.0 b.0 (Blocked s) (Runs s p) (Blocked there.0) was there.1 (λ e'. cc))
       | inr new ↦
           let same = blocking-number w r s t a b (length_behind w r s t r.last) (or-first _ new) in
           (s, put-at st a.0 b.0 (Blocked s) same)
     ]
 blocked-step w e p st r (Fetch s) b agrees was is =
-    elim (or-cases (list_any (is_io_of b) r.under_way) _ (sym (list_any-append (is_io_of b) r.under_way _) ∙ is)) [
+    elim (or_cases (list_any (is_io_of b) r.under_way) _ (sym (list_any-append (is_io_of b) r.under_way _) ∙ is)) [
       | inl old ↦ agrees.blocked b old
       | inr new ↦ absurd (cc)
     ]

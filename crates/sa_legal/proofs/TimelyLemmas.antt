@@ -2,8 +2,6 @@
 use Rattle.std.proofs.Common.{◌≡◌, ◌≢◌, ℕ, zero, suc, ◌+◌, ◌<◌, ◌≤◌, inl, inr, refl, sym, ◌∙◌, ap, subst, arith, Some, None, List, [], ◌∷◌, length, map, min, true, false}
 use Rattle.std.specs.Prelude.{slice_get, get_or, is_some, Option, Contains, if◌then◌else◌, ◌/◌, ◌%◌, ◌==◌, Bool}
 use Rattle.std.specs.List.{range_with_len}
-use Rattle.std.proofs.lemmas.List.{length-map}
-use Rattle.std.proofs.lemmas.List.FromFn.{length-map-range_with_len}
 use Rattle.sa_base.specs.declared.number.SpaceNo.{SpaceNo}
 use Rattle.sa_base.specs.declared.record.Note.{Note}
 use Rattle.sa_base.specs.declared.record.Item.{Item}
@@ -21,6 +19,7 @@ use Rattle.sa_laws.specs.Closing.{first_space, spaces_of, claim_of, claims_of, s
 use Rattle.sa_laws.specs.Upcalls.{EachRecord}
 use Rattle.sa_laws.specs.Rules.{UserRules, IsLawful}
 use Rattle.sa_laws.specs.Legal.{IsLegal}
+use Rattle.sa_laws.proofs.Lengths.{claims-length}
 use Rattle.sa_legal.specs.Words.{last_aim}
 use Rattle.sa_legal.specs.Headline.{up_to, AtEachEnd, IsInTime, TellsInTime, CoversShares, SharesAreCovered, claim_in, aims_of, procs_of}
 use Rattle.sa_legal.specs.Read.{Reads}
@@ -107,9 +106,6 @@ claims-are w past r reads =
     map-map (claim_in w past) space_no (range_with_len 0 (length w.spaces))
     ∙ agree (λ k. claim_in w past (space_no k)) (λ k. claim_of w r (space_no k)) 0 (length w.spaces) (λ k above below. claim-is w past r (space_no k) (omega arith) reads)
     ∙ sym (map-map (claim_of w r) space_no (range_with_len 0 (length w.spaces)))
-
-pub claims-length : (w : WorkloadView) (r : Readings) → length (claims_of w r) ≡ length w.spaces
-claims-length w r = length-map (spaces_of w) (claim_of w r) ∙ length-map-range_with_len space_no 0 (length w.spaces)
 
 pub first-below : (w : WorkloadView) (e : ℕ) → 1 ≤ length w.spaces → first_space w e < length w.spaces
 first-below w e some = one (w.slice == 0) where

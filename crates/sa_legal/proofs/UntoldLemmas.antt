@@ -3,7 +3,6 @@ use Rattle.std.proofs.Common.{◌≡◌, ◌≢◌, ℕ, zero, suc, ◌+◌, ◌
 use Rattle.std.specs.Prelude.{slice_get, slice_index_or, slice_set, Contains, All, Option, None, filter, not, Bool, if◌then◌else◌}
 use Rattle.std.proofs.lemmas.List.Elements.{Contains-push_cases, All-contains, All-filter, All-contains_itself, All-cons, All-nil}
 use Rattle.std.proofs.lemmas.Option.{slice_get_within}
-use Rattle.std.proofs.lemmas.Bool.Decides.{nat_tests}
 use Rattle.sa_lemmas.proofs.ListUpdates.{slice_get-append_left, slice_get-append_seam, slice_get-push_cases}
 use Rattle.sa_base.specs.declared.number.SpaceNo.{SpaceNo}
 use Rattle.sa_base.specs.declared.number.ProcNo.{ProcNo}
@@ -14,17 +13,12 @@ use Rattle.sa_base.specs.declared.record.Record.TheVariants.{Stop, Block, Unbloc
 use Rattle.sa_base.specs.declared.record.Item.{Item}
 use Rattle.sa_spaces.specs.Workload.{WorkloadView}
 use Rattle.sa_laws.specs.Readings.{Readings, untold_of, space_of_life}
-use Rattle.sa_laws.specs.Record.{same_note, is_other_note, untold_after, after_record}
+use Rattle.sa_laws.specs.Record.{is_other_note, untold_after, after_record}
 use Rattle.sa_laws.specs.Upcalls.{IsUntoldTo, TellsOnce}
 use Rattle.sa_laws.specs.History.{Test}
+use Rattle.sa_laws.proofs.Notes.{same_note-itself}
 use Rattle.sa_legal.specs.Words.{Notes, StandsUntold}
 use Rattle.sa_legal.proofs.WalkLemmas.{IsKept, item}
-
-pub same-itself : (n : Note) → same_note n n ≡ true
-same-itself (note.Add p) = grind (arith, nat_tests)
-same-itself (note.Preempted a) = grind (arith, nat_tests)
-same-itself (note.Blocked a) = grind (arith, nat_tests)
-same-itself (note.Unblocked a) = grind (arith, nat_tests)
 
 -- lists of lists, one of which got one item more
 with-cases : (xs : List (List Note)) (i j : ℕ) (y z : Note) → Contains (slice_index_or (slice_set xs i (slice_index_or xs i [] ++ y ∷ [])) j []) z
@@ -59,7 +53,7 @@ without-cases test (x ∷ xs) (suc j) z has = without-cases test xs j z has
 other-note : (n z : Note) → is_other_note n z ≡ true → Told n ≢ Told z
 other-note n z other same =
     let e : n ≡ z = cc in
-    let no : is_other_note n z ≡ false = ap (λ m. is_other_note m z) e ∙ ap not (same-itself z) in
+    let no : is_other_note n z ≡ false = ap (λ m. is_other_note m z) e ∙ ap not (same_note-itself z) in
     let both = sym other ∙ no in cc
 
 pub same-space : (s t : SpaceNo) → t.0 ≡ s.0 → s ≡ t

@@ -1,5 +1,5 @@
 -- At the end of each event of a legal run, what is read of own events is what the words say.
-use Rattle.std.proofs.Common.{◌≡◌, ℕ, ◌<◌, refl, sym, ◌∙◌, ap, subst, Some, None, List, [], ◌∷◌, ◌++◌, length, true, false, append_assoc, append-nil}
+use Rattle.std.proofs.Common.{◌≡◌, ℕ, ◌<◌, refl, sym, ◌∙◌, ap, subst, Some, None, List, [], ◌∷◌, ◌++◌, length, true, false}
 use Rattle.std.specs.Prelude.{Option, Bool, nat_lt, if◌then◌else◌}
 use Rattle.std.specs.List.{list_any}
 use Rattle.sa_base.specs.declared.number.SpaceNo.{SpaceNo}
@@ -7,7 +7,6 @@ use Rattle.sa_base.specs.declared.number.ActNo.{ActNo}
 use Rattle.sa_base.specs.declared.record.Record.{Record}
 use Rattle.sa_base.specs.declared.record.Record.TheVariants.{Free, Want, Idle}
 use Rattle.sa_base.specs.declared.record.Item.{Item}
-use Rattle.sa_base.specs.Items.{items_at}
 use Rattle.sa_spaces.specs.Workload.{WorkloadView}
 use Rattle.sa_laws.specs.Event.{Event, items_of}
 use Rattle.sa_laws.specs.Life.{Life}
@@ -15,6 +14,7 @@ use Rattle.sa_laws.specs.Readings.{Readings, running_of, demand_of}
 use Rattle.sa_laws.specs.Record.{with_life}
 use Rattle.sa_laws.specs.History.{begun, behind_all, ended, after_event, is_inside, is_step, is_up, is_free, settles, scans_after, stepped, arisen, with_step, with_up}
 use Rattle.sa_laws.specs.Rules.{IsLawful, fast_threads}
+use Rattle.sa_laws.proofs.Records.{items-push}
 use Rattle.sa_legal.specs.Words.{last_want}
 use Rattle.sa_legal_readings.specs.Along.{along}
 use Rattle.sa_legal_readings.specs.Moments.{Home, home_of}
@@ -43,47 +43,60 @@ pub record IsSaidAt (w : WorkloadView) (es : List Event) (r : Readings) : Type 0
   pub idle : Said idle_then r.lives (along (idle_by w) (λ b. false) es)
 
 -- the step of an event, if it is one
-step-said : {F : Type 0} (g : Life → F) (h : F → F) (w : WorkloadView) (r : Readings) (e : Event) (after : Readings) (n : Option ActNo) (lives : ℕ → Option Life) (has : ℕ → F) (xs : List Record)
+step-said : {F : Type 0} (g : Life → F) (h : F → F) (w : WorkloadView) (r : Readings) (e : Event) (after : Readings) (n : Option ActNo)
+    (lives : ℕ → Option Life) (has : ℕ → F) (xs : List Record)
     → stepper r e xs ≡ n → ((first : Record) (others : List Record) → xs ≡ first ∷ others → (l : Life) → g (stepped is_inside w r e after first l) ≡ h (g l))
     → Said g lives has → Said g (with_step is_inside w r e after xs lives) (change h n has)
 step-said g h w r e after n lives has [] is same said = subst (λ k. Said g lives (change h k has)) is said
 step-said g h w r e after n lives has (first ∷ others) is same said =
     subst (λ k. Said g (with_step is_inside w r e after (first ∷ others) lives) (change h k has)) is (one (is_step first)) where
-      one : (b : Bool) → Said g (if b then with_life (stepped is_inside w r e after first) (running_of r e.proc) lives else lives) (change h (if b then running_of r e.proc else None) has)
+      one : (b : Bool)
+          → Said g (if b then with_life (stepped is_inside w r e after first) (running_of r e.proc) lives else lives)
+          (change h (if b then running_of r e.proc else None) has)
       one true = said-with g (stepped is_inside w r e after first) h (running_of r e.proc) lives has (same first others refl) said
       one false = said
 
-step-set : (w : WorkloadView) (now past : List Item) (r : Readings) (e : Event) (after : Readings) (n : Option ActNo) (lives : ℕ → Option Life) (has : ℕ → Bool) (xs : List Record)
+step-set : (w : WorkloadView) (now past : List Item) (r : Readings) (e : Event) (after : Readings) (n : Option ActNo) (lives : ℕ → Option Life) (has : ℕ → Bool)
+    (xs : List Record)
     → stepper r e xs ≡ n
     → ((first : Record) (others : List Record) → xs ≡ first ∷ others → (a : ActNo) (life : Life) → lives a.0 ≡ Some life
     → (stepped is_inside w r e after first life).inside ≡ Rattle.sa_legal_readings.specs.Steps.is_in_at w now (settles_at w past now xs) a)
     → Said in_now lives has → Said in_now (with_step is_inside w r e after xs lives) (set_in w now (settles_at w past now xs) n has)
 step-set w now past r e after n lives has [] is gives said = subst (λ k. Said in_now lives (set_in w now false k has)) is said
 step-set w now past r e after n lives has (first ∷ others) is gives said =
-    subst (λ k. Said in_now (with_step is_inside w r e after (first ∷ others) lives) (set_in w now (settles_by w past now first) k has)) is (one (is_step first)) where
+    subst (λ k. Said in_now (with_step is_inside w r e after (first ∷ others) lives) (set_in w now (settles_by w past now first) k has)) is
+    (one (is_step first)) where
       one : (b : Bool) → Said in_now (if b then with_life (stepped is_inside w r e after first) (running_of r e.proc) lives else lives)
           (set_in w now (settles_by w past now first) (if b then running_of r e.proc else None) has)
-      one true = set-said w now (settles_by w past now first) (running_of r e.proc) (stepped is_inside w r e after first) lives has (λ a life same at. gives first others refl a life at) said
+      one true =
+          set-said w now (settles_by w past now first) (running_of r e.proc) (stepped is_inside w r e after first) lives has
+          (λ a life same at. gives first others refl a life at) said
       one false = said
 
--- .. leaves the fields that it does not change
-keep-step : {F : Type 0} (g : Life → F) (w : WorkloadView) (r : Readings) (e : Event) (after : Readings) (lives : ℕ → Option Life) (has : ℕ → F) (xs : List Record)
+-- A step leaves the fields that it does not change.
+keep-step : {F : Type 0} (g : Life → F) (w : WorkloadView) (r : Readings) (e : Event) (after : Readings) (lives : ℕ → Option Life) (has : ℕ → F)
+    (xs : List Record)
     → ((first : Record) (l : Life) → g (stepped is_inside w r e after first l) ≡ g l) → Said g lives has → Said g (with_step is_inside w r e after xs lives) has
 keep-step g w r e after lives has [] same said = said
-keep-step g w r e after lives has (first ∷ others) same said = said-if g (is_step first) (stepped is_inside w r e after first) (running_of r e.proc) lives has (same first) said
+keep-step g w r e after lives has (first ∷ others) same said =
+    said-if g (is_step first) (stepped is_inside w r e after first) (running_of r e.proc) lives has (same first) said
 
 -- the rising of an event's up
 rise-set : (w : WorkloadView) (now : List Item) (r : Readings) (e : Event) (after : Readings) (n : Option ActNo) (lives : ℕ → Option Life) (has : ℕ → Bool)
     → (if list_any is_up e.records then running_of after e.proc else None) ≡ n
-    → ((a : ActNo) (life : Life) → lives a.0 ≡ Some life → (arisen is_inside w r e after life).inside ≡ Rattle.sa_legal_readings.specs.Steps.is_in_at w now true a)
+    → ((a : ActNo) (life : Life) → lives a.0 ≡ Some life
+    → (arisen is_inside w r e after life).inside ≡ Rattle.sa_legal_readings.specs.Steps.is_in_at w now true a)
     → Said in_now lives has → Said in_now (with_up is_inside w r e after lives) (set_in w now true n has)
 rise-set w now r e after n lives has is gives said =
     subst (λ k. Said in_now (with_up is_inside w r e after lives) (set_in w now true k has)) is (one (list_any is_up e.records)) where
-      one : (b : Bool) → Said in_now (if b then with_life (arisen is_inside w r e after) (running_of after e.proc) lives else lives) (set_in w now true (if b then running_of after e.proc else None) has)
+      one : (b : Bool)
+          → Said in_now (if b then with_life (arisen is_inside w r e after) (running_of after e.proc) lives else lives)
+          (set_in w now true (if b then running_of after e.proc else None) has)
       one true = set-said w now true (running_of after e.proc) (arisen is_inside w r e after) lives has (λ a life same at. gives a life at) said
       one false = said
 
-scans-same : (past : List Item) (r : Readings) (first : Record) (others : List Record) → ((s : SpaceNo) (n : ℕ) → first ≡ Want s n → demand_of r s ≡ last_want past s)
+scans-same : (past : List Item) (r : Readings) (first : Record) (others : List Record)
+    → ((s : SpaceNo) (n : ℕ) → first ≡ Want s n → demand_of r s ≡ last_want past s)
     → (k : ℕ) → scans_after r first k ≡ scans_by past (first ∷ others) k
 scans-same past r Idle others wants k = refl
 scans-same past r (Want s n) others wants k = ap (λ d. if nat_lt n d then k else 0) (wants s n refl)
@@ -100,7 +113,8 @@ pub record IsEventAt (w : WorkloadView) (past : List Item) (r : Readings) (e : E
   pub up : (if list_any is_up e.records then running_of (behind_all w e r) e.proc else None) ≡ rising (with_event past e) e
   pub wants : (first : Record) (others : List Record) → e.records ≡ first ∷ others → (s : SpaceNo) (n : ℕ) → first ≡ Want s n → demand_of r s ≡ last_want past s
 
-pub event-at : (w : WorkloadView) (past : List Item) (r : Readings) (e : Event) → IsReadAt w past r → OwnedByLives r → IsLawful fast_threads w r e → IsEventAt w past r e
+pub event-at : (w : WorkloadView) (past : List Item) (r : Readings) (e : Event) → IsReadAt w past r → OwnedByLives r → IsLawful fast_threads w r e
+    → IsEventAt w past r e
 event-at w past r e at owned law =
     let mid = read-event w past r e at law in
     let begins = read-begins w past r e law.numbering.number at in
@@ -111,13 +125,11 @@ event-at w past r e at owned law =
       wants = λ first others is s n same. at.read.demands s (first-want w r e s n others begins.read.sized law (is ∙ ap (λ x. x ∷ others) same));
     }
 
-pub items-more : (es : List Event) (e : Event) → items_of (es ++ e ∷ []) ≡ items_of es ++ items_at e.number e.proc e.records
-items-more [] e = append-nil (items_at e.number e.proc e.records)
-items-more (x ∷ es) e = ap (λ ys. items_at x.number x.proc x.records ++ ys) (items-more es e) ∙ sym (append_assoc (items_at x.number x.proc x.records) (items_of es) (items_at e.number e.proc e.records))
-
 -- lives with these fields have what the words say
-has-at : (w : WorkloadView) (now : List Item) (lives : ℕ → Option Life) → Said in_locks lives (along (locks_at w) (λ b. []) now) → Said in_hand lives (along (hands_at w) (λ b. []) now)
-    → Said open_cont lives (along conts_at (λ b. false) now) → Said at_home lives (λ b. home_of now (record { 0 = b })) → (a : ActNo) (life : Life) → lives a.0 ≡ Some life → HasAt w now a life
+has-at : (w : WorkloadView) (now : List Item) (lives : ℕ → Option Life) → Said in_locks lives (along (locks_at w) (λ b. []) now)
+    → Said in_hand lives (along (hands_at w) (λ b. []) now)
+    → Said open_cont lives (along conts_at (λ b. false) now) → Said at_home lives (λ b. home_of now (record { 0 = b })) → (a : ActNo) (life : Life)
+    → lives a.0 ≡ Some life → HasAt w now a life
 has-at w now lives locks hands conts homes a life is = record {
   locks = locks a.0 life is;
   hand = hands a.0 life is;
@@ -125,7 +137,8 @@ has-at w now lives locks hands conts homes a life is = record {
   home = homes a.0 life is;
 }
 
-in-next : (w : WorkloadView) (past : List Item) (r : Readings) (e : Event) (has : ℕ → Bool) → IsEventAt w past r e → HomesIn w (with_event past e) → Said in_now r.lives has
+in-next : (w : WorkloadView) (past : List Item) (r : Readings) (e : Event) (has : ℕ → Bool) → IsEventAt w past r e → HomesIn w (with_event past e)
+    → Said in_now r.lives has
     → Said in_now (ended is_inside w r e (behind_all w e r)).lives (Rattle.sa_legal_readings.specs.Steps.in_with w past (with_event past e) e has)
 in-next w past r e has known within said =
     let now = with_event past e in
@@ -134,33 +147,40 @@ in-next w past r e has known within said =
     let stepped_lives = with_step is_inside w r e after e.records after.lives in
     let first_has = has-at w now after.lives read.locks read.hands read.conts read.homes in
     let then_has = has-at w now stepped_lives (keep-step in_locks w r e after after.lives _ e.records (λ x l. refl) read.locks)
-    (keep-step in_hand w r e after after.lives _ e.records (λ x l. refl) read.hands) (keep-step open_cont w r e after after.lives _ e.records (λ x l. refl) read.conts)
+    (keep-step in_hand w r e after after.lives _ e.records (λ x l. refl) read.hands)
+    (keep-step open_cont w r e after after.lives _ e.records (λ x l. refl) read.conts)
     (keep-step at_home w r e after after.lives _ e.records (λ x l. refl) read.homes) in
     let renewed_said = untouched-records in_now false (Some false) w e.number e.proc (begun w e r) e.records has in-untouched said in
     let stepped_said = step-set w now past r e after (stepping past e) after.lives (renewed false (Some false) e.records has) e.records known.own
     (λ first others is a life at.
     let here = first_has a life at in
     test-same w now r after e (settles r after first) a life read (within a (record { space = life.space; proc = life.proc }) (sym here.home)) here
-    ∙ ap (λ b. Rattle.sa_legal_readings.specs.Steps.is_in_at w now b a) (settles-same w past now r after first read.state (known.wants first others is) ∙ ap (settles_at w past now) (sym is)))
+    ∙ ap (λ b. Rattle.sa_legal_readings.specs.Steps.is_in_at w now b a)
+    (settles-same w past now r after first read.state (known.wants first others is) ∙ ap (settles_at w past now) (sym is)))
     renewed_said in
-    rise-set w now r e after (rising now e) stepped_lives (set_in w now (settles_at w past now e.records) (stepping past e) (renewed false (Some false) e.records has)) known.up
-    (λ a life at. let here = then_has a life at in test-same w now r after e true a life read (within a (record { space = life.space; proc = life.proc }) (sym here.home)) here)
+    rise-set w now r e after (rising now e) stepped_lives
+    (set_in w now (settles_at w past now e.records) (stepping past e) (renewed false (Some false) e.records has)) known.up
+    (λ a life at. let here = then_has a life at in
+    test-same w now r after e true a life read (within a (record { space = life.space; proc = life.proc }) (sym here.home)) here)
     stepped_said
 
 scans-next : (w : WorkloadView) (past : List Item) (r : Readings) (e : Event) (has : ℕ → ℕ) → IsEventAt w past r e → Said scanned r.lives has
     → Said scanned (ended is_inside w r e (behind_all w e r)).lives (change (scans_by past e.records) (stepping past e) (renewed 0 None e.records has))
 scans-next w past r e has known said =
     let after = behind_all w e r in
-    said-if scanned (list_any is_up e.records) (arisen is_inside w r e after) (running_of after e.proc) (with_step is_inside w r e after e.records after.lives) _ (λ l. refl)
+    said-if scanned (list_any is_up e.records) (arisen is_inside w r e after) (running_of after e.proc)
+    (with_step is_inside w r e after e.records after.lives) _ (λ l. refl)
     (step-said scanned (scans_by past e.records) w r e after (stepping past e) after.lives (renewed 0 None e.records has) e.records known.own
     (λ first others is l. scans-same past r first others (known.wants first others is) l.scans ∙ ap (λ xs. scans_by past xs l.scans) (sym is))
     (untouched-records scanned 0 None w e.number e.proc (begun w e r) e.records has scanned-untouched said))
 
 freed-next : (w : WorkloadView) (past : List Item) (r : Readings) (e : Event) (has : ℕ → Bool) → IsEventAt w past r e → Said was_freed r.lives has
-    → Said was_freed (ended is_inside w r e (behind_all w e r)).lives (change (λ old. is_free_event e.records) (stepping past e) (renewed false None e.records has))
+    → Said was_freed (ended is_inside w r e (behind_all w e r)).lives
+    (change (λ old. is_free_event e.records) (stepping past e) (renewed false None e.records has))
 freed-next w past r e has known said =
     let after = behind_all w e r in
-    said-if was_freed (list_any is_up e.records) (arisen is_inside w r e after) (running_of after e.proc) (with_step is_inside w r e after e.records after.lives) _ (λ l. refl)
+    said-if was_freed (list_any is_up e.records) (arisen is_inside w r e after) (running_of after e.proc)
+    (with_step is_inside w r e after e.records after.lives) _ (λ l. refl)
     (step-said was_freed (λ old. is_free_event e.records) w r e after (stepping past e) after.lives (renewed false None e.records has) e.records known.own
     (λ first others is l. free-same first others ∙ ap is_free_event (sym is))
     (untouched-records was_freed false None w e.number e.proc (begun w e r) e.records has freed-untouched said))
@@ -169,19 +189,26 @@ idle-next : (w : WorkloadView) (r : Readings) (e : Event) (ins has : ℕ → Boo
     → Said idle_then (ended is_inside w r e (behind_all w e r)).lives (idle_behind ins e.records has)
 idle-next w r e ins has within said =
     let after = behind_all w e r in
-    said-if idle_then (list_any is_up e.records) (arisen is_inside w r e after) (running_of after e.proc) (with_step is_inside w r e after e.records after.lives) _ (λ l. refl)
+    said-if idle_then (list_any is_up e.records) (arisen is_inside w r e after) (running_of after e.proc)
+    (with_step is_inside w r e after e.records after.lives) _ (λ l. refl)
     (keep-step idle_then w r e after after.lives _ e.records (λ x l. refl) (idle-records w e.number e.proc (begun w e r) e.records ins has within said))
 
-pub said-next : (w : WorkloadView) (es : List Event) (r : Readings) (e : Event) → IsSaidAt w es r → IsLawful fast_threads w r e → HomesIn w (with_event (items_of es) e)
+pub said-next : (w : WorkloadView) (es : List Event) (r : Readings) (e : Event) → IsSaidAt w es r → IsLawful fast_threads w r e
+    → HomesIn w (with_event (items_of es) e)
     → IsSaidAt w (es ++ e ∷ []) (after_event is_inside w r e)
 said-next w es r e inv law within =
     let past = items_of es in
     let known = event-at w past r e inv.at inv.owned law in
     record {
-      at = subst (λ ys. IsReadAt w ys (after_event is_inside w r e)) (sym (items-more es e)) (read-next w past r e inv.at law);
+      at = subst (λ ys. IsReadAt w ys (after_event is_inside w r e)) (sym (items-push es e)) (read-next w past r e inv.at law);
       owned = law.where_owned.owned;
-      inside = said-same in_now _ _ _ (λ b. ap (λ (f : ℕ → Bool). f b) (sym (along-more (in_by w) (λ c. false) es e))) (in-next w past r e _ known within inv.inside);
+      inside =
+          said-same in_now _ _ _ (λ b. ap (λ (f : ℕ → Bool). f b) (sym (along-more (in_by w) (λ c. false) es e)))
+          (in-next w past r e _ known within inv.inside);
       scans = said-same scanned _ _ _ (λ b. ap (λ (f : ℕ → ℕ). f b) (sym (along-more scans_at (λ c. 0) es e))) (scans-next w past r e _ known inv.scans);
-      freed = said-same was_freed _ _ _ (λ b. ap (λ (f : ℕ → Bool). f b) (sym (along-more freed_at (λ c. false) es e))) (freed-next w past r e _ known inv.freed);
-      idle = said-same idle_then _ _ _ (λ b. ap (λ (f : ℕ → Bool). f b) (sym (along-more (idle_by w) (λ c. false) es e))) (idle-next w r e _ _ inv.inside inv.idle);
+      freed =
+          said-same was_freed _ _ _ (λ b. ap (λ (f : ℕ → Bool). f b) (sym (along-more freed_at (λ c. false) es e))) (freed-next w past r e _ known inv.freed);
+      idle =
+          said-same idle_then _ _ _ (λ b. ap (λ (f : ℕ → Bool). f b) (sym (along-more (idle_by w) (λ c. false) es e)))
+          (idle-next w r e _ _ inv.inside inv.idle);
     }

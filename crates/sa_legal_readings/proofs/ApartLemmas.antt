@@ -15,20 +15,20 @@ use Rattle.sa_base.specs.declared.record.Record.{Record}
 use Rattle.sa_base.specs.declared.record.Record.TheVariants.{Stop, Block, Unblock, Up, Told, GiveBack}
 use Rattle.sa_spaces.specs.Workload.{WorkloadView}
 use Rattle.sa_laws.specs.Readings.{Readings, untold_of, space_of_life, life_of}
-use Rattle.sa_laws.specs.Life.{Life, inherits, bereft}
+use Rattle.sa_laws.specs.Life.{Life}
 use Rattle.sa_laws.specs.Record.{after_record}
 use Rattle.sa_laws.specs.Shape.{told_run}
 use Rattle.sa_laws.specs.Upcalls.{TellsAllThen, IsUntoldTo, is_moved_to}
 use Rattle.sa_legal.specs.Words.{Notes}
 use Rattle.sa_legal.proofs.UntoldLemmas.{untold-cases}
-use Rattle.sa_legal.proofs.StandingLemmas.{Standing, Nowhere, Runs, Blocked, Stopped, Returned, Taken, space_in, took, kind, standing_after, Stood, Agrees, space-with, space_of, space-handed, took-space}
+use Rattle.sa_legal.proofs.StandingLemmas.{Standing, Nowhere, Runs, Blocked, Stopped, Returned, Taken, space_in, took, kind, standing_after, Stood, Agrees, space_of, space-handed, took-space}
 use Rattle.sa_legal.proofs.ShapeLemmas.{is_telling, MovesLives}
 
 -- the life of an untold block is one of its space, and runs no more
 abbrev pub BlocksStand : (ℕ → Standing) → Readings → Type 0
 BlocksStand st r = (s : SpaceNo) (b : ActNo) → Contains (untold_of r s) (note.Blocked b) → (space_in (st b.0) ≡ Some s) × (kind (st b.0) ≢ 1)
 
--- .. nor is it taken, but while its block is about to be told
+-- A life whose block is untold is not taken, except while its block is about to be told.
 abbrev pub TakenAreTold : (ℕ → Standing) → Readings → List Record → Type 0
 TakenAreTold st r xs = (s : SpaceNo) (b : ActNo) → Contains (untold_of r s) (note.Blocked b) → kind (st b.0) ≡ 5 → Contains (told_run xs) (note.Blocked b)
 
@@ -58,7 +58,8 @@ took-kind (Returned s) is = λ e. cc
 took-kind (Taken s) is = is
 
 -- a number that goes elsewhere
-put-stands : (st : ℕ → Standing) (s : SpaceNo) (a b : ℕ) (v : Standing) → (b ≡ a → (space_in v ≡ Some s) × (kind v ≢ 1)) → (space_in (st b) ≡ Some s) × (kind (st b) ≢ 1)
+put-stands : (st : ℕ → Standing) (s : SpaceNo) (a b : ℕ) (v : Standing) → (b ≡ a → (space_in v ≡ Some s) × (kind v ≢ 1))
+    → (space_in (st b) ≡ Some s) × (kind (st b) ≢ 1)
     → (space_in (put st a v b) ≡ Some s) × (kind (put st a v b) ≢ 1)
 put-stands st s a b v new old = elim (cases_eq b a) [
   | inl at ↦ let is = put-at st a b v at in (ap space_in is ∙ (new at).0, λ e. (new at).1 (sym (ap kind is) ∙ e))
@@ -80,7 +81,8 @@ blocks-step w e p st r x xs apart was s b has = elim (untold-cases r x s (note.B
   stays (Block u t a io) was' taken is = put-stands st s a.0 b.0 (Blocked u) (λ at. absurd (is.1 (ap (λ n. kind (st n)) at ∙ ap kind was'))) is
   stays (Unblock u t a) was' taken is =
       put-stands st s a.0 b.0 (Returned u) (λ at. (sym (ap space_in was') ∙ ap (λ n. space_in (st n)) (sym at) ∙ is.0, λ e'. cc)) is
-  stays (Up u a) was' taken is = put-stands st s a.0 b.0 (Runs u p) (λ at. absurd (none-some s (sym (ap space_in was') ∙ ap (λ n. space_in (st n)) (sym at) ∙ is.0))) is
+  stays (Up u a) was' taken is =
+      put-stands st s a.0 b.0 (Runs u p) (λ at. absurd (none-some s (sym (ap space_in was') ∙ ap (λ n. space_in (st n)) (sym at) ∙ is.0))) is
   stays (Told (note.Preempted a)) was' taken is =
       put-stands st s a.0 b.0 (took (st a.0))
       (λ at. (took-space (st a.0) ∙ ap (λ n. space_in (st n)) (sym at) ∙ is.0, took-kind (st a.0) (λ e'. is.1 (ap (λ n. kind (st n)) at ∙ e')))) is
@@ -89,7 +91,8 @@ blocks-step w e p st r x xs apart was s b has = elim (untold-cases r x s (note.B
       (λ at. (took-space (st a.0) ∙ ap (λ n. space_in (st n)) (sym at) ∙ is.0, took-kind (st a.0) (λ e'. is.1 (ap (λ n. kind (st n)) at ∙ e')))) is
   stays (Told (note.Add q)) was' taken is = is
   stays (Told (note.Blocked a)) was' taken is = is
-  stays (GiveBack a) was' taken is = put-stands st s a.0 b.0 Nowhere (λ at. absurd (none-in (note.Blocked b) (taken (ap (λ n. kind (st n)) at ∙ ap kind was'.1)))) is
+  stays (GiveBack a) was' taken is =
+      put-stands st s a.0 b.0 Nowhere (λ at. absurd (none-in (note.Blocked b) (taken (ap (λ n. kind (st n)) at ∙ ap kind was'.1)))) is
   stays y was' taken is = is
 
   comes : (y : Record) → Notes y s (note.Blocked b) → (space_in (standing_after p st y b.0) ≡ Some s) × (kind (standing_after p st y b.0) ≢ 1)
@@ -106,16 +109,19 @@ five-cases st a b v other is = elim (cases_eq b a) [
   | inr apart ↦ sym (ap kind (put-other st a b v apart)) ∙ is
 ]
 
-space-told : (st : ℕ → Standing) (r : Readings) (a : ActNo) (o : Option SpaceNo) → Agrees st r → space_of_life r r.upped ≡ o → IsUntoldTo r o (note.Preempted a) → (u : SpaceNo) × (space_of_life r r.upped ≡ Some u) × (space_in (st a.0) ≡ Some u)
+space-told : (st : ℕ → Standing) (r : Readings) (a : ActNo) (o : Option SpaceNo) → Agrees st r → space_of_life r r.upped ≡ o → IsUntoldTo r o (note.Preempted a)
+    → (u : SpaceNo) × (space_of_life r r.upped ≡ Some u) × (space_in (st a.0) ≡ Some u)
 space-told st r a None agrees is untold = absurd untold
 space-told st r a (Some u) agrees is untold = (u, is, ap space_in (agrees.stopped u a untold))
 
-space-back : (st : ℕ → Standing) (r : Readings) (a : ActNo) (o : Option SpaceNo) → Agrees st r → space_of_life r r.upped ≡ o → IsUntoldTo r o (note.Unblocked a) → (u : SpaceNo) × (space_of_life r r.upped ≡ Some u) × (space_in (st a.0) ≡ Some u)
+space-back : (st : ℕ → Standing) (r : Readings) (a : ActNo) (o : Option SpaceNo) → Agrees st r → space_of_life r r.upped ≡ o → IsUntoldTo r o (note.Unblocked a)
+    → (u : SpaceNo) × (space_of_life r r.upped ≡ Some u) × (space_in (st a.0) ≡ Some u)
 space-back st r a None agrees is untold = absurd untold
 space-back st r a (Some u) agrees is untold = (u, is, ap space_in (agrees.returned u a untold))
 
 -- the life of what is told is one of the space of the up
-pub told-space : (st : ℕ → Standing) (r : Readings) (n : Note) (a : ActNo) → Agrees st r → (n ≡ note.Preempted a) ⊎ (n ≡ note.Unblocked a) → IsUntoldTo r (space_of_life r r.upped) n
+pub told-space : (st : ℕ → Standing) (r : Readings) (n : Note) (a : ActNo) → Agrees st r → (n ≡ note.Preempted a) ⊎ (n ≡ note.Unblocked a)
+    → IsUntoldTo r (space_of_life r r.upped) n
     → (u : SpaceNo) × (space_of_life r r.upped ≡ Some u) × (space_in (st a.0) ≡ Some u)
 told-space st r n a agrees (inl is) untold = space-told st r a (space_of_life r r.upped) agrees refl (subst (IsUntoldTo r (space_of_life r r.upped)) is untold)
 told-space st r n a agrees (inr is) untold = space-back st r a (space_of_life r r.upped) agrees refl (subst (IsUntoldTo r (space_of_life r r.upped)) is untold)
@@ -123,7 +129,8 @@ told-space st r n a agrees (inr is) untold = space-back st r a (space_of_life r 
 told-of : (n m : Note) → Told n ≢ Told m → n ≢ m
 told-of n m apart same = apart (ap Told same)
 
-taken-step : (w : WorkloadView) (e : ℕ) (p : ProcNo) (st : ℕ → Standing) (r : Readings) (x : Record) (xs : List Record) → IsApart st r (x ∷ xs) → Stood p st x → MovesLives w p r x xs
+taken-step : (w : WorkloadView) (e : ℕ) (p : ProcNo) (st : ℕ → Standing) (r : Readings) (x : Record) (xs : List Record) → IsApart st r (x ∷ xs) → Stood p st x
+    → MovesLives w p r x xs
     → TakenAreTold (standing_after p st x) (after_record w e p r x) xs
 taken-step w e p st r x xs apart was law s b has five = elim (untold-cases r x s (note.Blocked b) has) [
   | inl old ↦ stays x old.1 was law (λ k. apart.taken s b old.0 k)
@@ -140,7 +147,8 @@ taken-step w e p st r x xs apart was law s b has five = elim (untold-cases r x s
         let up = told-space st r n a apart.agrees of moves.0 in
         later-in n (note.Blocked b) (told_run xs) (told-of n (note.Blocked b) other)
         (told moves.1 (up.1 ∙ sym up.2 ∙ ap (λ k. space_in (st k)) (sym at) ∙ space))
-    | inr away ↦ later-in n (note.Blocked b) (told_run xs) (told-of n (note.Blocked b) other) (taken (sym (ap kind (put-other st a.0 b.0 (took (st a.0)) away)) ∙ is))
+    | inr away ↦
+        later-in n (note.Blocked b) (told_run xs) (told-of n (note.Blocked b) other) (taken (sym (ap kind (put-other st a.0 b.0 (took (st a.0)) away)) ∙ is))
   ]
 
   stays : (y : Record) → y ≢ Told (note.Blocked b) → Stood p st y → MovesLives w p r y xs → (kind (st b.0) ≡ 5 → Contains (told_run (y ∷ xs)) (note.Blocked b))
@@ -165,7 +173,8 @@ taken-step w e p st r x xs apart was law s b has five = elim (untold-cases r x s
   comes y notes is = absurd notes
 
 -- the space of the last up stays after a told record
-pub upped-space : (w : WorkloadView) (e : ℕ) (p : ProcNo) (r : Readings) (n : Note) → space_of_life (after_record w e p r (Told n)) r.upped ≡ space_of_life r r.upped
+pub upped-space : (w : WorkloadView) (e : ℕ) (p : ProcNo) (r : Readings) (n : Note)
+    → space_of_life (after_record w e p r (Told n)) r.upped ≡ space_of_life r r.upped
 upped-space w e p r n = one r.upped n where
   one : (o : Option ActNo) (m : Note) → space_of_life (after_record w e p r (Told m)) o ≡ space_of_life r o
   one None m = refl
@@ -181,7 +190,8 @@ due-has : (moved : Bool) (p : ProcNo) (ns : List Note) (m : Note) → Contains n
 due-has true p ns m has = Contains-append_right (note.Add p ∷ []) ns m has
 due-has false p ns m has = has
 
-told-step : (w : WorkloadView) (e : ℕ) (p : ProcNo) (r : Readings) (x : Record) (xs : List Record) → AllAreTold r (x ∷ xs) → MovesLives w p r x xs → TellsAllThen p r x xs
+told-step : (w : WorkloadView) (e : ℕ) (p : ProcNo) (r : Readings) (x : Record) (xs : List Record) → AllAreTold r (x ∷ xs) → MovesLives w p r x xs
+    → TellsAllThen p r x xs
     → AllAreTold (after_record w e p r x) xs
 told-step w e p r (Up u a) xs told law tells telling s m space has =
     let same : u ≡ s = same_Some u s (sym (new-space w e p r u a) ∙ space) in
@@ -192,7 +202,8 @@ told-step w e p r (Told n) xs told law tells telling s m space has = elim (untol
 ]
 told-step w e p r x xs told law tells telling s m space has = absurd (cc)
 
-pub apart-step : (w : WorkloadView) (e : ℕ) (p : ProcNo) (st : ℕ → Standing) (r : Readings) (x : Record) (xs : List Record) → IsApart st r (x ∷ xs) → Stood p st x → MovesLives w p r x xs
+pub apart-step : (w : WorkloadView) (e : ℕ) (p : ProcNo) (st : ℕ → Standing) (r : Readings) (x : Record) (xs : List Record) → IsApart st r (x ∷ xs)
+    → Stood p st x → MovesLives w p r x xs
     → TellsAllThen p r x xs → IsApart (standing_after p st x) (after_record w e p r x) xs
 apart-step w e p st r x xs apart was law tells = record {
   agrees = Rattle.sa_legal.proofs.StandingLemmas.agrees-step w e p st r x apart.agrees was;
@@ -206,8 +217,11 @@ abbrev pub is_real : Note → Bool
 is_real (note.Add p) = false
 is_real n = true
 
-pub one-space : (st : ℕ → Standing) (r : Readings) (xs : List Record) (n : Note) (s t : SpaceNo) → IsApart st r xs → is_real n ≡ true → Contains (untold_of r s) n → Contains (untold_of r t) n → s ≡ t
+pub one-space : (st : ℕ → Standing) (r : Readings) (xs : List Record) (n : Note) (s t : SpaceNo) → IsApart st r xs → is_real n ≡ true
+    → Contains (untold_of r s) n → Contains (untold_of r t) n → s ≡ t
 one-space st r xs (note.Add p) s t apart real one other = absurd (cc)
-one-space st r xs (note.Preempted a) s t apart real one other = same_Some s t (ap space_in (sym (apart.agrees.stopped s a one) ∙ apart.agrees.stopped t a other))
-one-space st r xs (note.Unblocked a) s t apart real one other = same_Some s t (ap space_in (sym (apart.agrees.returned s a one) ∙ apart.agrees.returned t a other))
+one-space st r xs (note.Preempted a) s t apart real one other =
+    same_Some s t (ap space_in (sym (apart.agrees.stopped s a one) ∙ apart.agrees.stopped t a other))
+one-space st r xs (note.Unblocked a) s t apart real one other =
+    same_Some s t (ap space_in (sym (apart.agrees.returned s a one) ∙ apart.agrees.returned t a other))
 one-space st r xs (note.Blocked a) s t apart real one other = same_Some s t (sym (apart.blocks s a one).0 ∙ (apart.blocks t a other).0)

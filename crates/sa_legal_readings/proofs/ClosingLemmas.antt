@@ -1,6 +1,6 @@
 -- After each event of a legal run a closing would add no want and no aim.
 use Rattle.std.proofs.Common.{◌≡◌, ℕ, zero, suc, ◌+◌, refl, sym, ◌∙◌, ap, subst, arith, Some, List, [], ◌∷◌, ◌++◌, take, map, false}
-use Rattle.std.specs.Prelude.{slice_get, filter, Bool, if◌then◌else◌, Option}
+use Rattle.std.specs.Prelude.{slice_get, filter, Bool, if◌then◌else◌}
 use Rattle.std.proofs.lemmas.Option.{none-some, same_Some}
 use Rattle.sa_base.specs.declared.record.Item.{Item}
 use Rattle.sa_spaces.specs.Workload.{WorkloadView}
@@ -36,7 +36,8 @@ take-next (x ∷ xs) zero e at = ap (λ y. y ∷ []) (same_Some x e at)
 take-next (x ∷ xs) (suc n) e at =
     ap (λ (k : ℕ). take k (x ∷ xs)) (let k : suc n + 1 ≡ suc (n + 1) = omega arith in k) ∙ ap (λ ys. x ∷ ys) (take-next xs n e at)
 
-pub after-append : (w : WorkloadView) (r : Readings) (es : List Event) (e : Event) → after_events is_inside w r (es ++ e ∷ []) ≡ after_event is_inside w (after_events is_inside w r es) e
+pub after-append : (w : WorkloadView) (r : Readings) (es : List Event) (e : Event)
+    → after_events is_inside w r (es ++ e ∷ []) ≡ after_event is_inside w (after_events is_inside w r es) e
 after-append w r [] e = refl
 after-append w r (x ∷ es) e = after-append w (after_event is_inside w r x) es e
 

@@ -2,7 +2,7 @@
 use Rattle.std.proofs.Common.{◌≡◌, ◌≢◌, ℕ, ◌+◌, ◌<◌, ◌≤◌, ◌⊎◌, inl, inr, refl, sym, ◌∙◌, ap, subst, arith, Some, None, List, [], ◌∷◌, ◌++◌, length, map, take, drop, true, false}
 use Rattle.std.specs.Prelude.{Option, Bool, ◌==◌, not, nat_lt, min, cond, if◌then◌else◌, is_some, get_or, slice_set, take_while, filter, Contains}
 use Rattle.std.specs.List.{list_any, prefix_len}
-use Rattle.std.proofs.lemmas.Bool.{cases_eq}
+use Rattle.std.proofs.lemmas.Bool.{cases_eq, and_parts, not-false, eqb-true}
 use Rattle.std.proofs.lemmas.List.{get_or-set_same}
 use Rattle.std.proofs.lemmas.Option.{none-some, same_Some}
 use Rattle.sa_base.specs.declared.number.SpaceNo.{SpaceNo}
@@ -25,18 +25,16 @@ use Rattle.sa_laws.specs.Turns.{IsClosing, AreRaising, IsTurn, IsStep, StepBy, C
 use Rattle.sa_laws.specs.Upcalls.{EachRecord, TellsAllThen}
 use Rattle.sa_laws.specs.Step.{Needs, AreSteps}
 use Rattle.sa_laws.specs.Rules.{IsLawful, fast_threads}
-use Rattle.sa_legal.proofs.StandingLemmas.{Standing, Runs, space_of, space_in, standing_after, same-number}
+use Rattle.sa_legal.proofs.StandingLemmas.{Standing, Runs, space_of, space_in, standing_after}
 use Rattle.sa_legal.proofs.ShapeLemmas.{MovesLives, parts-take}
 use Rattle.sa_legal.proofs.MovesLemmas.{moves-lives, agrees-begun}
 use Rattle.sa_legal_readings.proofs.TrackLemmas.{IsSized}
 use Rattle.sa_legal_readings.proofs.RangeLemmas.{while-more}
 use Rattle.sa_legal_readings.proofs.OwnLemmas.{OwnedByLives, owner-runs}
-use Rattle.sa_legal_readings.proofs.FrontLemmas.{and-left}
 use Rattle.sa_legal_readings.proofs.ApartLemmas.{IsApart, apart-step, none-in}
 use Rattle.sa_legal_readings.proofs.PassLemmas.{Kept, Passes, Goes, kept-all}
 use Rattle.sa_legal_readings.proofs.FormLemmas.{Turning, BlocksFirst, AllOut, is_quiet, Calm, StepOf, Form, turn-form, turning-cases, up-runs, quiet-runs, LowWants, closing-pass, pass-append, quiet-append, closing-quiet, out-pass, given-pass}
 use Rattle.sa_legal_readings.proofs.FineLemmas.{Covers, Fine, min-less, covers-more, usable-covers, arise-fine, step-space, settle-fine, keep-fine, IsStepOf, blocks-untold}
-use Rattle.sa_legal.proofs.ReadLemmas.{not-true}
 
 -- an event in its parts
 pub record InForm (w : WorkloadView) (r : Readings) (e : Event) : Type 0 where
@@ -60,8 +58,9 @@ AllLow r (x ∷ xs) = IsLow r x × AllLow r xs
 due-low : (r : Readings) (spaces : List SpaceNo) → AllLow r (map want_one (filter (must_want r) spaces))
 due-low r [] = tt
 due-low r (s ∷ spaces) = one (must_want r s) refl (due-low r spaces) where
-  one : (b : Bool) → must_want r s ≡ b → AllLow r (map want_one (filter (must_want r) spaces)) → AllLow r (map want_one (if b then s ∷ filter (must_want r) spaces else filter (must_want r) spaces))
-  one true is rest = let none = same-number (demand_of r s) 0 (and-left (demand_of r s == 0) _ is) in ((omega arith, refl), rest)
+  one : (b : Bool) → must_want r s ≡ b → AllLow r (map want_one (filter (must_want r) spaces))
+      → AllLow r (map want_one (if b then s ∷ filter (must_want r) spaces else filter (must_want r) spaces))
+  one true is rest = let none = eqb-true (demand_of r s) 0 ((and_parts (demand_of r s == 0) _ is).0) in ((omega arith, refl), rest)
   one false is rest = rest
 
 low-from : (r : Readings) (xs : List Record) → AllLow r (filter is_want xs) → LowWants r xs
@@ -84,7 +83,8 @@ pub record WantsBehind (others : List Record) : Type 0 where
   pub wants : wants_in others ≡ wants_in (drop (length (take_while is_own others)) others)
   pub part : take_while is_no_want others ≡ take_while is_own others
 
-split-wants : (others : List Record) (u : SpaceNo) (n : ℕ) (more : List Record) → drop (length (take_while is_own others)) others ≡ Want u n ∷ more → WantsBehind others
+split-wants : (others : List Record) (u : SpaceNo) (n : ℕ) (more : List Record) → drop (length (take_while is_own others)) others ≡ Want u n ∷ more
+    → WantsBehind others
 split-wants [] u n more is = absurd (cc)
 split-wants (x ∷ xs) u n more is = one x (is_own x) refl (λ rest. split-wants xs u n more rest) is where
   own : (y : Record) → is_own y ≡ true → is_want y ≡ false → is_no_want y ≡ true → (drop (length (take_while is_own xs)) xs ≡ Want u n ∷ more → WantsBehind xs)
@@ -102,7 +102,8 @@ split-wants (x ∷ xs) u n more is = one x (is_own x) refl (λ rest. split-wants
   wants-none (Want v m) own_is = absurd (cc)
   wants-none y own_is = refl
 
-  one : (y : Record) (b : Bool) → is_own y ≡ b → (drop (length (take_while is_own xs)) xs ≡ Want u n ∷ more → WantsBehind xs) → drop (length (take_while is_own (y ∷ xs))) (y ∷ xs) ≡ Want u n ∷ more → WantsBehind (y ∷ xs)
+  one : (y : Record) (b : Bool) → is_own y ≡ b → (drop (length (take_while is_own xs)) xs ≡ Want u n ∷ more → WantsBehind xs)
+      → drop (length (take_while is_own (y ∷ xs))) (y ∷ xs) ≡ Want u n ∷ more → WantsBehind (y ∷ xs)
   one y true at further same = own y at (wants-none y at) (ap not (wants-none y at)) further same
   one y false at further same =
       let none = while-none is_own y xs at in
@@ -113,8 +114,10 @@ split-wants (x ∷ xs) u n more is = one x (is_own x) refl (λ rest. split-wants
         part = while-none is_no_want y xs (ap is_no_want head) ∙ sym none;
       }
 
-low-wants : (w : WorkloadView) (r : Readings) (e : Event) (x : Record) (others cs : List Record) → IsLawful fast_threads w r e → 1 ≤ e.number → e.records ≡ x ∷ others
-    → drop (length (take_while is_own others)) others ≡ cs → IsClosing cs → LowWants (after_records w e.number e.proc (begun w e r) (x ∷ take_while is_own others)) cs
+low-wants : (w : WorkloadView) (r : Readings) (e : Event) (x : Record) (others cs : List Record) → IsLawful fast_threads w r e → 1 ≤ e.number
+    → e.records ≡ x ∷ others
+    → drop (length (take_while is_own others)) others ≡ cs → IsClosing cs
+    → LowWants (after_records w e.number e.proc (begun w e r) (x ∷ take_while is_own others)) cs
 low-wants w r e x others (Want u n ∷ cs) law from is rest closes =
     let mid = after_records w e.number e.proc (begun w e r) (x ∷ take_while is_own others) in
     let split = split-wants others u n cs rest in
@@ -124,8 +127,10 @@ low-wants w r e x others (Want u n ∷ cs) law from is rest closes =
     let same : wants_due w mid ≡ wants_in (Want u n ∷ cs) = sym due ∙ split.wants ∙ ap wants_in rest in
     low-from mid (Want u n ∷ cs) (subst (AllLow mid) same (due-low mid (spaces_of w)))
 low-wants w r e x others [] law from is rest closes = tt
-low-wants w r e x others (Aim q (Some t) ∷ cs) law from is rest closes = raising-low (after_records w e.number e.proc (begun w e r) (x ∷ take_while is_own others)) (Aim q (Some t) ∷ cs) closes
-low-wants w r e x others (Line q ∷ cs) law from is rest closes = raising-low (after_records w e.number e.proc (begun w e r) (x ∷ take_while is_own others)) (Line q ∷ cs) closes
+low-wants w r e x others (Aim q (Some t) ∷ cs) law from is rest closes =
+    raising-low (after_records w e.number e.proc (begun w e r) (x ∷ take_while is_own others)) (Aim q (Some t) ∷ cs) closes
+low-wants w r e x others (Line q ∷ cs) law from is rest closes =
+    raising-low (after_records w e.number e.proc (begun w e r) (x ∷ take_while is_own others)) (Line q ∷ cs) closes
 low-wants w r e x others (Aim q None ∷ cs) law from is rest closes = absurd closes
 low-wants w r e x others (y ∷ cs) law from is rest closes = absurd closes
 
@@ -164,7 +169,7 @@ begun-apart w st r e xs apart = record {
   told = λ telling. absurd (cc);
 }
 
-other-life : (r : Readings) (p : ProcNo) (a : ActNo) (s o : SpaceNo) → running_of r p ≡ Some a → space_of_life r (Some a) ≡ Some o → o.0 ≢ s.0
+pub other-life : (r : Readings) (p : ProcNo) (a : ActNo) (s o : SpaceNo) → running_of r p ≡ Some a → space_of_life r (Some a) ≡ Some o → o.0 ≢ s.0
     → (n : ℕ) (life : Life) (b : ActNo) → r.lives n ≡ Some life → life.space ≡ s → running_of r p ≡ Some b → n ≢ b.0
 other-life r p a s o runs of apart n life b is in_it other same =
     let one : b ≡ a = same_Some b a (sym other ∙ runs) in
@@ -172,7 +177,8 @@ other-life r p a s o runs of apart n life b is in_it other same =
     apart (ap (λ (k : SpaceNo). k.0) (same_Some o s (sym there ∙ ap space_of is ∙ ap Some in_it)))
 
 -- the first record of a turn that is no passage, of another space
-first-pass : (w : WorkloadView) (p : ProcNo) (r : Readings) (s : SpaceNo) (a : ActNo) (life : Life) (x : Record) (ys cs : List Record) → is_quiet x ≡ true → life.space.0 ≢ s.0 → owner_of r p ≡ Some life.space
+first-pass : (w : WorkloadView) (p : ProcNo) (r : Readings) (s : SpaceNo) (a : ActNo) (life : Life) (x : Record) (ys cs : List Record) → is_quiet x ≡ true
+    → life.space.0 ≢ s.0 → owner_of r p ≡ Some life.space
     → StepBy w r p a life x ys → Needs w p r x → ((b : ActNo) → x ≡ GiveBack b → space_of_life r (Some b) ≢ Some s) → Passes s r x cs
 first-pass w p r s a life (Run u t) ys cs quiet apart owner by needs given = λ same.
     apart (ap (λ (k : SpaceNo). k.0) (same_Some life.space s (sym owner ∙ needs.0 ∙ ap Some same)))
@@ -197,12 +203,13 @@ calm-pass s r x rest none quiet = tt
 -- a step that settles nothing, and is no block
 abbrev Unsettled : Readings → SpaceNo → Record → Type 0
 Unsettled r s x =
-    (((rest : List Record) (k : Readings) → Passes s k x rest) × ((life : Life) → is_bound r life x ≡ true)) ⊎ ((u : SpaceNo) × (n : ℕ) × (x ≡ Want u n) × (nat_lt n (demand_of r u) ≡ true))
+    (((rest : List Record) (k : Readings) → Passes s k x rest) × ((life : Life) → is_bound r life x ≡ true)) ⊎
+    ((u : SpaceNo) × (n : ℕ) × (x ≡ Want u n) × (nat_lt n (demand_of r u) ≡ true))
 
 unsettled : (r c : Readings) (s : SpaceNo) (x : Record) → is_step x ≡ true → is_quiet x ≡ true → settles r c x ≡ false → Unsettled r s x
 unsettled r c s (Ins u t i) step quiet is = inl ((λ rest k. tt), λ life. refl)
 unsettled r c s Idle step quiet is = inl ((λ rest k. tt), λ life. refl)
-unsettled r c s (Want u n) step quiet is = inr (u, n, refl, not-true (nat_lt n (demand_of r u)) is)
+unsettled r c s (Want u n) step quiet is = inr (u, n, refl, not-false (nat_lt n (demand_of r u)) is)
 unsettled r c s (Block u t a io) step quiet is = absurd (cc)
 unsettled r c s x step quiet is = absurd (cc)
 
@@ -225,7 +232,8 @@ PassesAll w r e xs s = EachRecord (Passes s) w e.number e.proc (begun w e r) xs
 kept-begun : (w : WorkloadView) (r : Readings) (e : Event) (c : Readings) (s : SpaceNo) → Kept s (begun w e r) c → Kept s r c
 kept-begun w r e c s kept = record { active = kept.active; demand = kept.demand; lives = kept.lives; noted = kept.noted }
 
-held-fine : (w : WorkloadView) (r : Readings) (e : Event) (s : SpaceNo) (xs : List Record) → IsCovered w r → Fine w r r.lives s → GoesOn w r e xs → PassesAll w r e xs s
+held-fine : (w : WorkloadView) (r : Readings) (e : Event) (s : SpaceNo) (xs : List Record) → IsCovered w r → Fine w r r.lives s → GoesOn w r e xs
+    → PassesAll w r e xs s
     → ((a : ℕ) (life : Life) (b : ActNo) → r.lives a ≡ Some life → life.space ≡ s → life.inside ≡ true → running_of r e.proc ≡ Some b → IsStepOf xs → a ≢ b.0)
     → FineAfter w r e xs s
 held-fine w r e s xs known fine goes passes spared =
@@ -233,12 +241,15 @@ held-fine w r e s xs known fine goes passes spared =
     keep-fine w r e (After w r e xs) s xs (kept-begun w r e (After w r e xs) s all.kept) fine spared
 
 -- a turn with a passage
-turning-fine : (w : WorkloadView) (r : Readings) (e : Event) (s : SpaceNo) (x : Record) (ys cs : List Record) → IsCovered w r → e.proc.0 < w.processors → s.0 < length w.spaces → Fine w r r.lives s
+turning-fine : (w : WorkloadView) (r : Readings) (e : Event) (s : SpaceNo) (x : Record) (ys cs : List Record) → IsCovered w r → e.proc.0 < w.processors
+    → s.0 < length w.spaces → Fine w r r.lives s
     → GoesOn w r e (x ∷ (ys ++ cs)) → IsClosing cs → PassesAll w r e (x ∷ (ys ++ cs)) s → BlocksFirst x ys → FineAfter w r e (x ∷ (ys ++ cs)) s
 turning-fine w r e s x ys cs known proc within fine goes closes passes blocks = one (is_step x) refl (running_of r e.proc) refl where
   one : (b : Bool) → is_step x ≡ b → (o : Option ActNo) → running_of r e.proc ≡ o → FineAfter w r e (x ∷ (ys ++ cs)) s
-  one false none o runs = held-fine w r e s (x ∷ (ys ++ cs)) known fine goes passes (λ a life b is of inside other step. absurd (let clash = sym none ∙ step in cc))
-  one true step None runs = held-fine w r e s (x ∷ (ys ++ cs)) known fine goes passes (λ a life b is of inside other at. absurd (none-some b (sym runs ∙ other)))
+  one false none o runs =
+      held-fine w r e s (x ∷ (ys ++ cs)) known fine goes passes (λ a life b is of inside other step. absurd (let clash = sym none ∙ step in cc))
+  one true step None runs =
+      held-fine w r e s (x ∷ (ys ++ cs)) known fine goes passes (λ a life b is of inside other at. absurd (none-some b (sym runs ∙ other)))
   one true step (Some a) runs =
       let there = known.apart.agrees.running e.proc a runs in
       let of : space_of_life r (Some a) ≡ Some there.0 = known.apart.agrees.lives a ∙ ap space_in there.1 in
@@ -253,22 +264,27 @@ turning-fine w r e s x ys cs known proc within fine goes closes passes blocks = 
             (λ n life b is at inside other step'. other-life r e.proc a s there.0 runs of apart n life b is at other)
       ]
 
-up-turn-fine : (w : WorkloadView) (r : Readings) (e : Event) (s : SpaceNo) (x : Record) (ys cs : List Record) → IsCovered w r → e.proc.0 < w.processors → s.0 < length w.spaces → Fine w r r.lives s
-    → e.records ≡ x ∷ (ys ++ cs) → GoesOn w r e (x ∷ (ys ++ cs)) → IsClosing cs → EachRecord (Passes s) w e.number e.proc (After w r e (x ∷ ys)) cs → Turning (x ∷ ys) → BlocksFirst x ys
+up-turn-fine : (w : WorkloadView) (r : Readings) (e : Event) (s : SpaceNo) (x : Record) (ys cs : List Record) → IsCovered w r → e.proc.0 < w.processors
+    → s.0 < length w.spaces → Fine w r r.lives s
+    → e.records ≡ x ∷ (ys ++ cs) → GoesOn w r e (x ∷ (ys ++ cs)) → IsClosing cs → EachRecord (Passes s) w e.number e.proc (After w r e (x ∷ ys)) cs
+    → Turning (x ∷ ys) → BlocksFirst x ys
     → FineAfter w r e (x ∷ (ys ++ cs)) s
 up-turn-fine w r e s x ys cs known proc within fine is goes closes closing turning blocks = elim (turning-cases w e.number e.proc s (x ∷ ys) turning) [
   | inl up ↦
       let running = known.sized.running in
       let runs = up-runs w e.number e.proc s (begun w e r) (x ∷ ys) cs (omega arith) turning up closes in
-      arise-fine w r e (After w r e (x ∷ (ys ++ cs))) s (with_step is_inside w r e (After w r e (x ∷ (ys ++ cs))) (x ∷ (ys ++ cs)) (After w r e (x ∷ (ys ++ cs))).lives) runs.0
-      (step-space w r e (After w r e (x ∷ (ys ++ cs))) (x ∷ (ys ++ cs)) (After w r e (x ∷ (ys ++ cs))).lives runs.0.act.0 ∙ runs.0.space) (ap (list_any is_up) is ∙ runs.1)
+      arise-fine w r e (After w r e (x ∷ (ys ++ cs))) s
+      (with_step is_inside w r e (After w r e (x ∷ (ys ++ cs))) (x ∷ (ys ++ cs)) (After w r e (x ∷ (ys ++ cs))).lives) runs.0
+      (step-space w r e (After w r e (x ∷ (ys ++ cs))) (x ∷ (ys ++ cs)) (After w r e (x ∷ (ys ++ cs))).lives runs.0.act.0 ∙ runs.0.space)
+      (ap (list_any is_up) is ∙ runs.1)
   | inr each ↦
       turning-fine w r e s x ys cs known proc within fine goes closes
       (pass-append w e.number e.proc s (begun w e r) (x ∷ ys) cs (each (begun w e r)) closing) blocks
 ]
 
 -- a completion or a tick
-calm-fine : (w : WorkloadView) (r : Readings) (e : Event) (s : SpaceNo) (x : Record) (ys cs : List Record) → IsCovered w r → Fine w r r.lives s → GoesOn w r e (x ∷ (ys ++ cs))
+calm-fine : (w : WorkloadView) (r : Readings) (e : Event) (s : SpaceNo) (x : Record) (ys cs : List Record) → IsCovered w r → Fine w r r.lives s
+    → GoesOn w r e (x ∷ (ys ++ cs))
     → EachRecord (Passes s) w e.number e.proc (After w r e (x ∷ ys)) cs → Calm x ys → FineAfter w r e (x ∷ (ys ++ cs)) s
 calm-fine w r e s x ys cs known fine goes closing calm =
     let own : EachRecord (Passes s) w e.number e.proc (begun w e r) (x ∷ ys) = (
@@ -279,8 +295,10 @@ calm-fine w r e s x ys cs known fine goes closing calm =
     (λ a life b is of inside other step. absurd (let clash = sym calm.none ∙ step in cc))
 
 -- a step of a life of another space
-other-fine : (w : WorkloadView) (r : Readings) (e : Event) (s : SpaceNo) (x : Record) (ys cs : List Record) → IsCovered w r → Fine w r r.lives s → GoesOn w r e (x ∷ (ys ++ cs))
-    → EachRecord (Passes s) w e.number e.proc (After w r e (x ∷ ys)) cs → (step : StepOf w (begun w e r) e.proc x ys) → space_of_life r (Some step.act) ≡ Some step.life.space → step.life.space.0 ≢ s.0
+other-fine : (w : WorkloadView) (r : Readings) (e : Event) (s : SpaceNo) (x : Record) (ys cs : List Record) → IsCovered w r → Fine w r r.lives s
+    → GoesOn w r e (x ∷ (ys ++ cs))
+    → EachRecord (Passes s) w e.number e.proc (After w r e (x ∷ ys)) cs → (step : StepOf w (begun w e r) e.proc x ys)
+    → space_of_life r (Some step.act) ≡ Some step.life.space → step.life.space.0 ≢ s.0
     → FineAfter w r e (x ∷ (ys ++ cs)) s
 other-fine w r e s x ys cs known fine goes closing step of apart =
     held-fine w r e s (x ∷ (ys ++ cs)) known fine goes (pass-append w e.number e.proc s (begun w e r) (x ∷ ys) cs (own step.rest) closing)
@@ -290,26 +308,35 @@ other-fine w r e s x ys cs known fine goes closing step of apart =
     owner = owner-runs r e.proc known.owned ∙ ap (space_of_life r) step.runs ∙ of
 
     taken : (b : ActNo) → Contains (taken_of r step.life.space) b → space_of_life r (Some b) ≢ Some s
-    taken b has at = apart (ap (λ (k : SpaceNo). k.0) (same_Some step.life.space s (sym (known.apart.agrees.lives b ∙ ap space_in (known.apart.agrees.taken step.life.space b has)) ∙ at)))
+    taken b has at =
+        apart
+        (ap (λ (k : SpaceNo). k.0)
+        (same_Some step.life.space s (sym (known.apart.agrees.lives b ∙ ap space_in (known.apart.agrees.taken step.life.space b has)) ∙ at)))
 
-    own : AllOut ys ⊎ ((x ∷ ys ≡ map GiveBack (taken_of r step.life.space)) × ((b c : Readings) → settles b c x ≡ true)) → EachRecord (Passes s) w e.number e.proc (begun w e r) (x ∷ ys)
+    own : AllOut ys ⊎ ((x ∷ ys ≡ map GiveBack (taken_of r step.life.space)) × ((b c : Readings) → settles b c x ≡ true))
+        → EachRecord (Passes s) w e.number e.proc (begun w e r) (x ∷ ys)
     own (inl out) = (
       first-pass w e.proc (begun w e r) s step.act step.life x ys ys step.quiet.0 apart owner step.by goes.steps.0 (λ b is. gives b is),
       out-pass w e.number e.proc s (after_record w e.number e.proc (begun w e r) x) ys out,
     ) where
       gives : (b : ActNo) → x ≡ GiveBack b → space_of_life r (Some b) ≢ Some s
       gives b is =
-          let by : StepBy w (begun w e r) e.proc step.act step.life (GiveBack b) ys = subst (λ y. StepBy w (begun w e r) e.proc step.act step.life y ys) is step.by in
+          let by : StepBy w (begun w e r) e.proc step.act step.life (GiveBack b) ys =
+          subst (λ y. StepBy w (begun w e r) e.proc step.act step.life y ys) is step.by in
           taken b (head-has b ys (taken_of r step.life.space) by.all)
         where
           head-has : (k : ActNo) (zs : List Record) (acts : List ActNo) → GiveBack k ∷ zs ≡ map GiveBack acts → Contains acts k
           head-has k zs [] same = absurd (cc)
           head-has k zs (a ∷ acts) same = (0, omega arith, (let one : a ≡ k = cc in one))
-    own (inr all) = subst (EachRecord (Passes s) w e.number e.proc (begun w e r)) (sym all.0) (given-pass w e.number e.proc s (begun w e r) (taken_of r step.life.space) taken)
+    own (inr all) =
+        subst (EachRecord (Passes s) w e.number e.proc (begun w e r)) (sym all.0)
+        (given-pass w e.number e.proc s (begun w e r) (taken_of r step.life.space) taken)
 
 -- a lowering hint stays above the load
-lower-covers : (w : WorkloadView) (r : Readings) (e : Event) (s u : SpaceNo) (n : ℕ) (cs : List Record) (life : Life) → IsCovered w r → s.0 < length w.spaces → u ≡ s → life.space ≡ s
-    → CanLower w (begun w e r) life n → GoesOn w r e (Want u n ∷ cs) → EachRecord (Passes s) w e.number e.proc (After w r e (Want u n ∷ [])) cs → Covers w (After w r e (Want u n ∷ cs)) s
+lower-covers : (w : WorkloadView) (r : Readings) (e : Event) (s u : SpaceNo) (n : ℕ) (cs : List Record) (life : Life) → IsCovered w r → s.0 < length w.spaces
+    → u ≡ s → life.space ≡ s
+    → CanLower w (begun w e r) life n → GoesOn w r e (Want u n ∷ cs) → EachRecord (Passes s) w e.number e.proc (After w r e (Want u n ∷ [])) cs
+    → Covers w (After w r e (Want u n ∷ cs)) s
 lower-covers w r e s u n cs life known within same of lower goes closing =
     let apart = begun-apart w known.st r e (Want u n ∷ cs) known.apart in
     let all = kept-all w e.number e.proc (standing_after e.proc known.st (Want u n)) (after_record w e.number e.proc (begun w e r) (Want u n)) s cs
@@ -321,12 +348,16 @@ lower-covers w r e s u n cs life known within same of lower goes closing =
     let above : load_of r s < demand_of r s = subst (λ (k : SpaceNo). load_of r k < demand_of r k) of lower.above in
     let number : n + 1 ≡ demand_of r s = lower.number ∙ ap (demand_of r) of in
     let enough : usable w r s ≤ n = omega arith in
-    let less : min w.processors (active_threads (space_at r.state s)) ≤ n = min-less w.processors (active_threads (space_at r.state s)) (load_of r s) n (omega arith) enough in
-    covers-more w (after_record w e.number e.proc (begun w e r) (Want u n)) (After w r e (Want u n ∷ cs)) s all.kept.active all.kept.demand (subst (λ k. min w.processors (active_threads (space_at r.state s)) ≤ k) (sym demand) less)
+    let less : min w.processors (active_threads (space_at r.state s)) ≤ n =
+    min-less w.processors (active_threads (space_at r.state s)) (load_of r s) n (omega arith) enough in
+    covers-more w (after_record w e.number e.proc (begun w e r) (Want u n)) (After w r e (Want u n ∷ cs)) s all.kept.active all.kept.demand
+    (subst (λ k. min w.processors (active_threads (space_at r.state s)) ≤ k) (sym demand) less)
 
 -- a step of a life of the space
-same-fine : (w : WorkloadView) (r : Readings) (e : Event) (s : SpaceNo) (x : Record) (ys cs : List Record) → IsCovered w r → s.0 < length w.spaces → Fine w r r.lives s
-    → BeginsFreely w r e.proc (x ∷ (ys ++ cs)) → GoesOn w r e (x ∷ (ys ++ cs)) → IsClosing cs → EachRecord (Passes s) w e.number e.proc (After w r e (x ∷ ys)) cs
+same-fine : (w : WorkloadView) (r : Readings) (e : Event) (s : SpaceNo) (x : Record) (ys cs : List Record) → IsCovered w r → s.0 < length w.spaces
+    → Fine w r r.lives s
+    → BeginsFreely w r e.proc (x ∷ (ys ++ cs)) → GoesOn w r e (x ∷ (ys ++ cs)) → IsClosing cs
+    → EachRecord (Passes s) w e.number e.proc (After w r e (x ∷ ys)) cs
     → (step : StepOf w (begun w e r) e.proc x ys) → r.lives step.act.0 ≡ Some step.life → step.life.space ≡ s → FineAfter w r e (x ∷ (ys ++ cs)) s
 same-fine w r e s x ys cs known within fine freely goes closes closing step is of = one (settles r (After w r e (x ∷ (ys ++ cs))) x) refl where
   there : space_of_life r (Some step.act) ≡ Some s
@@ -348,9 +379,11 @@ same-fine w r e s x ys cs known within fine freely goes closes closing step is o
     two (inl outs) = outs
     two (inr given) = absurd (let clash = sym (given.1 r (After w r e (x ∷ (ys ++ cs)))) ∙ none in cc)
 
-  bound : ((rest : List Record) (k : Readings) → Passes s k x rest) → ((life : Life) → is_bound r life x ≡ true) → AllOut ys → FineAfter w r e (x ∷ (ys ++ cs)) s
+  bound : ((rest : List Record) (k : Readings) → Passes s k x rest) → ((life : Life) → is_bound r life x ≡ true) → AllOut ys
+      → FineAfter w r e (x ∷ (ys ++ cs)) s
   bound pass binds outs =
-      let passes = pass-append w e.number e.proc s (begun w e r) (x ∷ ys) cs (pass ys (begun w e r), out-pass w e.number e.proc s (after_record w e.number e.proc (begun w e r) x) ys outs) closing in
+      let passes = pass-append w e.number e.proc s (begun w e r) (x ∷ ys) cs
+      (pass ys (begun w e r), out-pass w e.number e.proc s (after_record w e.number e.proc (begun w e r) x) ys outs) closing in
       let free : StepIsFree w r (Some step.life) x =
       subst (λ o. StepIsFree w r o x) step.on (subst (λ k. StepIsFreeIf k w r (life_on r e.proc) x) step.step freely) in
       three passes (free.free (binds step.life))
@@ -361,18 +394,23 @@ same-fine w r e s x ys cs known within fine freely goes closes closing step is o
           let life_is : life ≡ step.life = same_Some life step.life (sym at ∙ ap r.lives (same ∙ ap (λ (k : ActNo). k.0) act) ∙ is) in
           let clash : true ≡ false = sym inside ∙ ap (λ (k : Life). k.inside) life_is ∙ outside in cc)
       three passes (inr owes) =
-          let all = kept-all w e.number e.proc known.st (begun w e r) s (x ∷ (ys ++ cs)) (begun-apart w known.st r e (x ∷ (ys ++ cs)) known.apart) goes passes (λ telling. absurd (cc)) in
-          inr (inr (covers-more w r (After w r e (x ∷ (ys ++ cs))) s all.kept.active all.kept.demand (subst (Covers w r) of (usable-covers w r step.life.space owes.announced))))
+          let all = kept-all w e.number e.proc known.st (begun w e r) s (x ∷ (ys ++ cs)) (begun-apart w known.st r e (x ∷ (ys ++ cs)) known.apart) goes passes
+          (λ telling. absurd (cc)) in
+          inr
+          (inr (covers-more w r (After w r e (x ∷ (ys ++ cs))) s all.kept.active all.kept.demand
+          (subst (Covers w r) of (usable-covers w r step.life.space owes.announced))))
 
   lowers : (u : SpaceNo) (n : ℕ) → x ≡ Want u n → nat_lt n (demand_of r u) ≡ true → FineAfter w r e (x ∷ (ys ++ cs)) s
   lowers u n want low =
-      let by : StepBy w (begun w e r) e.proc step.act step.life (Want u n) ys = subst (λ y. StepBy w (begun w e r) e.proc step.act step.life y ys) want step.by in
+      let by : StepBy w (begun w e r) e.proc step.act step.life (Want u n) ys =
+      subst (λ y. StepBy w (begun w e r) e.proc step.act step.life y ys) want step.by in
       let can : CanLower w (begun w e r) step.life n = subst (λ k. CanHint k w (begun w e r) step.life n) low by.2 in
       inr (inr (subst (λ zs. Lowered x zs) (sym by.0) (subst (λ y. Lowered y []) (sym want)
       (λ goes' closing'. lower-covers w r e s u n cs step.life known within (by.1 ∙ of) of can goes' closing')) goes closing))
     where
       Lowered : Record → List Record → Type 0
-      Lowered y zs = GoesOn w r e (y ∷ (zs ++ cs)) → EachRecord (Passes s) w e.number e.proc (After w r e (y ∷ zs)) cs → Covers w (After w r e (y ∷ (zs ++ cs))) s
+      Lowered y zs =
+          GoesOn w r e (y ∷ (zs ++ cs)) → EachRecord (Passes s) w e.number e.proc (After w r e (y ∷ zs)) cs → Covers w (After w r e (y ∷ (zs ++ cs))) s
 
   one : (b : Bool) → settles r (After w r e (x ∷ (ys ++ cs))) x ≡ b → FineAfter w r e (x ∷ (ys ++ cs)) s
   one true at = settled at
@@ -382,7 +420,8 @@ same-fine w r e s x ys cs known within fine freely goes closes closing step is o
   ]
 
 -- each event
-pub event-fine : (w : WorkloadView) (r : Readings) (e : Event) → IsCovered w r → IsLawful fast_threads w r e → 1 ≤ e.number → (s : SpaceNo) → s.0 < length w.spaces → Fine w r r.lives s
+pub event-fine : (w : WorkloadView) (r : Readings) (e : Event) → IsCovered w r → IsLawful fast_threads w r e → 1 ≤ e.number → (s : SpaceNo)
+    → s.0 < length w.spaces → Fine w r r.lives s
     → Fine w (after_event is_inside w r e) (after_event is_inside w r e).lives s
 event-fine w r e known law from s within fine = whole (in-form w r e law from) where
   goes-at : (xs : List Record) → e.records ≡ xs → GoesOn w r e xs
@@ -392,15 +431,18 @@ event-fine w r e known law from s within fine = whole (in-form w r e law from) w
     steps = subst (AreSteps w e.number e.proc (begun w e r)) is law.step_taken.steps;
   }
 
-  formed : (x : Record) (ys cs : List Record) → e.records ≡ x ∷ (ys ++ cs) → IsClosing cs → EachRecord (Passes s) w e.number e.proc (After w r e (x ∷ ys)) cs → Form w (begun w e r) e.proc x ys
+  formed : (x : Record) (ys cs : List Record) → e.records ≡ x ∷ (ys ++ cs) → IsClosing cs → EachRecord (Passes s) w e.number e.proc (After w r e (x ∷ ys)) cs
+      → Form w (begun w e r) e.proc x ys
       → FineAfter w r e (x ∷ (ys ++ cs)) s
-  formed x ys cs is closes closing (inl turns) = up-turn-fine w r e s x ys cs known law.numbering.proc within fine is (goes-at (x ∷ (ys ++ cs)) is) closes closing turns.0 turns.1
+  formed x ys cs is closes closing (inl turns) =
+      up-turn-fine w r e s x ys cs known law.numbering.proc within fine is (goes-at (x ∷ (ys ++ cs)) is) closes closing turns.0 turns.1
   formed x ys cs is closes closing (inr (inl calm)) = calm-fine w r e s x ys cs known fine (goes-at (x ∷ (ys ++ cs)) is) closing calm
   formed x ys cs is closes closing (inr (inr step)) =
       let life : r.lives step.act.0 ≡ Some step.life = ap (life_if r) (sym step.runs) ∙ step.on in
       elim (cases_eq step.life.space.0 s.0) [
         | inl same ↦
-            same-fine w r e s x ys cs known within fine (subst (BeginsFreely w r e.proc) is (law.demand_said.step from)) (goes-at (x ∷ (ys ++ cs)) is) closes closing step life
+            same-fine w r e s x ys cs known within fine (subst (BeginsFreely w r e.proc) is (law.demand_said.step from))
+            (goes-at (x ∷ (ys ++ cs)) is) closes closing step life
             (ap (λ n. record { 0 = n }) same)
         | inr apart ↦ other-fine w r e s x ys cs known fine (goes-at (x ∷ (ys ++ cs)) is) closing step (ap space_of life) apart
       ]
@@ -409,4 +451,5 @@ event-fine w r e known law from s within fine = whole (in-form w r e law from) w
   whole parts =
       subst (λ xs. FineAfter w r e xs s) (sym parts.is)
       (formed parts.first parts.own parts.closing parts.is parts.closes
-      (closing-pass w e.number e.proc s (After w r e (parts.first ∷ parts.own)) (After w r e (parts.first ∷ parts.own)) parts.closing parts.closes parts.low (λ u less. less)) parts.form)
+      (closing-pass w e.number e.proc s (After w r e (parts.first ∷ parts.own)) (After w r e (parts.first ∷ parts.own)) parts.closing parts.closes parts.low
+      (λ u less. less)) parts.form)

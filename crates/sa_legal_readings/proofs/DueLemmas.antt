@@ -1,7 +1,7 @@
 -- After each event of a legal run but the opening no line is due.
-use Rattle.std.proofs.Common.{◌≡◌, ◌≢◌, ℕ, zero, suc, ◌+◌, ◌<◌, ◌≤◌, ◌⊎◌, inl, inr, refl, sym, ◌∙◌, ap, subst, arith, Some, None, List, [], ◌∷◌, ◌++◌, length, map, drop, true, false, append-nil}
+use Rattle.std.proofs.Common.{◌≡◌, ℕ, zero, suc, ◌+◌, ◌<◌, ◌≤◌, inl, inr, refl, sym, ◌∙◌, ap, subst, arith, Some, None, List, [], ◌∷◌, ◌++◌, length, drop, true, false}
 use Rattle.std.specs.Prelude.{Option, Bool, ◌&&◌, not, is_some, is_none, if◌then◌else◌, get_or, slice_set, filter, filter_map, Contains, slice_get, take}
-use Rattle.std.proofs.lemmas.Bool.{cases_eq}
+use Rattle.std.proofs.lemmas.Bool.{cases_eq, and_parts}
 use Rattle.std.proofs.lemmas.List.{get_or-set_same, get_or-set_other, length-set}
 use Rattle.std.proofs.lemmas.List.Elements.{Contains-append_right}
 use Rattle.std.proofs.lemmas.Option.{none-some, same_Some}
@@ -25,13 +25,13 @@ use Rattle.sa_laws.specs.Closing.{spaces_of, will_tell, can_be_raised, must_inte
 use Rattle.sa_laws.specs.Rules.{IsLawful, fast_threads}
 use Rattle.sa_legal.specs.Fold.{AreLawful}
 use Rattle.sa_laws.specs.Legal.{IsLegal, before}
+use Rattle.sa_laws.proofs.Records.{records-append}
 use Rattle.sa_legal.proofs.EventLemmas.{legal-lawful}
 use Rattle.sa_legal_readings.specs.Closings.{NoLineIsDue}
 use Rattle.sa_legal_readings.proofs.ClosingLemmas.{take-next, after-append}
 use Rattle.sa_legal_readings.proofs.TurnLemmas.{AllCalm, is_calm, Turned}
 use Rattle.sa_legal_readings.proofs.LowLemmas.{LowAimed, front-fine, each-behind}
-use Rattle.sa_legal_readings.proofs.FrontLemmas.{LowAt, in-parts, own-final, procs-begun, procs-records, turned-leave, leave-append, closing-leave, begun-aimed, and-left, and-right, low-along, low-first}
-use Rattle.sa_legal.proofs.AppendLemmas.{records-append}
+use Rattle.sa_legal_readings.proofs.FrontLemmas.{LowAt, in-parts, own-final, procs-begun, procs-records, turned-leave, leave-append, closing-leave, begun-aimed, low-along, low-first}
 
 -- a list of lines
 abbrev pub AllLine : List Record → Type 0
@@ -121,7 +121,7 @@ NoLine (x ∷ xs) = NoLine xs
 calm-noline : (xs : List Record) → AllCalm xs → NoLine xs
 calm-noline [] calm = tt
 calm-noline (Line q ∷ xs) calm = absurd (cc)
-calm-noline (x ∷ xs) calm = calm-noline xs (and-right (is_calm x) (Rattle.std.specs.List.list_all is_calm xs) calm)
+calm-noline (x ∷ xs) calm = calm-noline xs ((and_parts (is_calm x) (Rattle.std.specs.List.list_all is_calm xs) calm).1)
 
 noline-append : (xs ys : List Record) → NoLine xs → NoLine ys → NoLine (xs ++ ys)
 noline-append [] ys left right = right
@@ -131,9 +131,12 @@ noline-append (x ∷ xs) ys left right = noline-append xs ys left right
 turned-noline : (p : ProcNo) (owner aim : Option SpaceNo) (xs : List Record) → Turned p owner aim xs → NoLine xs
 turned-noline p owner aim xs (inl same) = calm-noline xs same.0
 turned-noline p owner aim xs (inr (inl moves)) =
-    subst NoLine (sym moves.is) (noline-append moves.before (Move moves.old (Some moves.new) ∷ moves.rest) (calm-noline moves.before moves.calm) (calm-noline moves.rest moves.calm_rest))
+    subst NoLine (sym moves.is)
+    (noline-append moves.before (Move moves.old (Some moves.new) ∷ moves.rest) (calm-noline moves.before moves.calm) (calm-noline moves.rest moves.calm_rest))
 turned-noline p owner aim xs (inr (inr leaves)) =
-    subst NoLine (sym leaves.is) (noline-append leaves.before (Move leaves.old None ∷ Aim p None ∷ leaves.rest) (calm-noline leaves.before leaves.calm) (calm-noline leaves.rest leaves.calm_rest))
+    subst NoLine (sym leaves.is)
+    (noline-append leaves.before (Move leaves.old None ∷ Aim p None ∷ leaves.rest) (calm-noline leaves.before leaves.calm)
+    (calm-noline leaves.rest leaves.calm_rest))
 
 abbrev last_of : Option Record → List Record → Option Record
 last_of last [] = last
@@ -179,10 +182,12 @@ before-last w r e at law =
     let none = turned-noline e.proc (owner_of r e.proc) (aim_of r e.proc) parts.own parts.turned in
     let last = last_of None parts.own in
     let front : front_part e.records ≡ parts.own ++ before_lines last parts.closing =
-    front-is e.records (λ q ys is. (subst (Rattle.sa_laws.specs.Upcalls.FirstLineIsAsked Rattle.sa_laws.specs.Rules.NoLines w r e.proc) is law.line_cause.first).asked)
+    front-is e.records
+    (λ q ys is. (subst (Rattle.sa_laws.specs.Upcalls.FirstLineIsAsked Rattle.sa_laws.specs.Rules.NoLines w r e.proc) is law.line_cause.first).asked)
     ∙ ap (before_lines None) (sym parts.is) ∙ before-append None parts.own parts.closing none in
     let rest : last_lines e.records ≡ rest_of last parts.closing =
-    ap (λ ys. drop (length ys) e.records) front ∙ ap (drop (length (parts.own ++ before_lines last parts.closing))) (sym parts.is) ∙ drop-append parts.own (before_lines last parts.closing) parts.closing in
+    ap (λ ys. drop (length ys) e.records) front ∙ ap (drop (length (parts.own ++ before_lines last parts.closing))) (sym parts.is)
+    ∙ drop-append parts.own (before_lines last parts.closing) parts.closing in
     let begins = procs-begun w e r at.procs in
     let owners = begins.owners in
     let aims = begins.aims in
@@ -200,7 +205,8 @@ before-last w r e at law =
       lines_are = sym rest;
       after =
           sym (records-append w e.number e.proc (begun w e r) (parts.own ++ before_lines last parts.closing) (rest_of last parts.closing))
-          ∙ ap (after_records w e.number e.proc (begun w e r)) (Rattle.std.proofs.Common.append_assoc parts.own (before_lines last parts.closing) (rest_of last parts.closing)
+          ∙ ap (after_records w e.number e.proc (begun w e r))
+          (Rattle.std.proofs.Common.append_assoc parts.own (before_lines last parts.closing) (rest_of last parts.closing)
           ∙ ap (λ ys. parts.own ++ ys) (take-drop last parts.closing) ∙ parts.is);
       all = closing-rest last parts.closing parts.closes (ap aims_in (sym rest) ∙ law.line_cause.order);
       long = (procs-records w e.number e.proc (begun w e r) (parts.own ++ before_lines last parts.closing) begins).lines;
@@ -217,7 +223,8 @@ before-last w r e at law =
         | inr apart ↦ (
             subst (λ ys. LowAimed (after_records w e.number e.proc (begun w e r) ys) q) (before-append None parts.own parts.closing none)
             (front-fine w e.number e.proc (begun w e r) q None (parts.own ++ parts.closing) (omega arith) heard
-            (leave-append e.proc q parts.own parts.closing (turned-leave e.proc q (owner_of r e.proc) (aim_of r e.proc) parts.own apart parts.turned) (closing-leave e.proc q parts.closing parts.closes))
+            (leave-append e.proc q parts.own parts.closing (turned-leave e.proc q (owner_of r e.proc) (aim_of r e.proc) parts.own apart parts.turned)
+            (closing-leave e.proc q parts.closing parts.closes))
             (inl (begun-aimed w r e q apart (at.aimed q within))))
             )
       ];
@@ -251,7 +258,8 @@ made-has h (z ∷ zs) x y (suc k, below, same) is = one (h z) (made-has h zs x y
   one None rest = rest
   one (Some v) rest = Contains-append_right (v ∷ []) (filter_map h zs) y rest
 
-none-made : {A B : Type 0} (h : A → Option B) (test : A → Bool) (xs : List A) → ((x : A) → Contains xs x → test x ≡ true → h x ≡ None) → filter_map h (filter test xs) ≡ []
+none-made : {A B : Type 0} (h : A → Option B) (test : A → Bool) (xs : List A) → ((x : A) → Contains xs x → test x ≡ true → h x ≡ None)
+    → filter_map h (filter test xs) ≡ []
 none-made h test [] none = refl
 none-made h test (x ∷ xs) none = one (test x) refl (none-made h test xs (λ y has is. none y (Contains-append_right (x ∷ []) xs y has) is)) where
   one : (b : Bool) → test x ≡ b → filter_map h (filter test xs) ≡ [] → filter_map h (if b then x ∷ filter test xs else filter test xs) ≡ []
@@ -274,8 +282,10 @@ some-is : {A : Type 0} (o : Option A) → (o ≡ None → ⊥) → is_some o ≡
 some-is None high = absurd (high refl)
 some-is (Some x) high = refl
 
-no-interrupt : (w : WorkloadView) (m a : Readings) (e : ℕ) (p : ProcNo) (lines : List Record) (s : SpaceNo) (q : ℕ) → LinesRaised m a → AllLine lines → after_records w e p m lines ≡ a
-    → ((k : ProcNo) → k.0 < w.processors → LowAimed m k) → length m.lines ≡ w.processors → lines_in lines ≡ lines_due w m → Contains (spaces_of w) s → must_interrupt w a s ≡ true
+no-interrupt : (w : WorkloadView) (m a : Readings) (e : ℕ) (p : ProcNo) (lines : List Record) (s : SpaceNo) (q : ℕ) → LinesRaised m a → AllLine lines
+    → after_records w e p m lines ≡ a
+    → ((k : ProcNo) → k.0 < w.processors → LowAimed m k) → length m.lines ≡ w.processors → lines_in lines ≡ lines_due w m → Contains (spaces_of w) s
+    → must_interrupt w a s ≡ true
     → least_below w.processors (can_be_raised a s) ≡ Some q → ⊥
 no-interrupt w m a e p lines s q raised all after aimed long due among must is = found (least_below w.processors (can_be_raised m s)) refl where
   owner-back : (k : ℕ) → is_aim s.0 (owner_of m (proc_no k)) ≡ is_aim s.0 (owner_of a (proc_no k))
@@ -284,30 +294,33 @@ no-interrupt w m a e p lines s q raised all after aimed long due among must is =
   aim-on : (k : ℕ) → is_aim s.0 (aim_of a (proc_no k)) ≡ is_aim s.0 (aim_of m (proc_no k))
   aim-on k = ap (λ os. is_aim s.0 (get_or os k None)) raised.aims
 
-  telling : (k : ℕ) → k < w.processors → is_aim s.0 (owner_of a (proc_no k)) ≡ true → is_aim s.0 (aim_of a (proc_no k)) ≡ true → (line_of a (proc_no k) ≡ None → ⊥)
+  telling : (k : ℕ) → k < w.processors → is_aim s.0 (owner_of a (proc_no k)) ≡ true → is_aim s.0 (aim_of a (proc_no k)) ≡ true
+      → (line_of a (proc_no k) ≡ None → ⊥)
       → must_interrupt w a s ≡ true → ⊥
   telling k within owner aim high must' =
       told-there w a s k within
-      (all-three (is_aim s.0 (owner_of a (proc_no k))) (is_aim s.0 (aim_of a (proc_no k))) (is_some (line_of a (proc_no k))) owner aim (some-is (line_of a (proc_no k)) high)) must'
+      (all-three (is_aim s.0 (owner_of a (proc_no k))) (is_aim s.0 (aim_of a (proc_no k))) (is_some (line_of a (proc_no k))) owner aim
+      (some-is (line_of a (proc_no k)) high)) must'
 
   found : (o : Option ℕ) → least_below w.processors (can_be_raised m s) ≡ o → ⊥
   found None none =
       let there = least_below-passes w.processors (can_be_raised a s) q is in
-      let owner = and-left (is_aim s.0 (owner_of a (proc_no q))) (is_none (line_of a (proc_no q))) there.passes in
-      let line = none-is (line_of a (proc_no q)) (and-right (is_aim s.0 (owner_of a (proc_no q))) (is_none (line_of a (proc_no q))) there.passes) in
+      let owner = (and_parts (is_aim s.0 (owner_of a (proc_no q))) (is_none (line_of a (proc_no q))) there.passes).0 in
+      let line = none-is (line_of a (proc_no q)) ((and_parts (is_aim s.0 (owner_of a (proc_no q))) (is_none (line_of a (proc_no q))) there.passes).1) in
       let here : can_be_raised m s q ≡ true =
       ap (λ b. b && is_none (line_of m (proc_no q))) (ap (λ os. is_aim s.0 (get_or os q None)) (sym raised.owners) ∙ owner) ∙ ap is_none (raised.low q line) in
       let clash = sym here ∙ least_below-none w.processors (can_be_raised m s) none q there.within in absurd (cc)
   found (Some k) some =
       let there = least_below-passes w.processors (can_be_raised m s) k some in
-      let owner = and-left (is_aim s.0 (owner_of m (proc_no k))) (is_none (line_of m (proc_no k))) there.passes in
-      let line = none-is (line_of m (proc_no k)) (and-right (is_aim s.0 (owner_of m (proc_no k))) (is_none (line_of m (proc_no k))) there.passes) in
+      let owner = (and_parts (is_aim s.0 (owner_of m (proc_no k))) (is_none (line_of m (proc_no k))) there.passes).0 in
+      let line = none-is (line_of m (proc_no k)) ((and_parts (is_aim s.0 (owner_of m (proc_no k))) (is_none (line_of m (proc_no k))) there.passes).1) in
       let owner_after : is_aim s.0 (owner_of a (proc_no k)) ≡ true = ap (λ os. is_aim s.0 (get_or os k None)) raised.owners ∙ owner in
       let aim_after : is_aim s.0 (aim_of a (proc_no k)) ≡ true =
       ap (λ os. is_aim s.0 (get_or os k None)) raised.aims ∙ ap (is_aim s.0) (aimed (proc_no k) there.within line) ∙ owner in
       let parts = three (has_untold (untold_of a s)) (not (is_fetching a s)) (is_none (least_below w.processors (will_tell a s))) must in
       let untold : has_untold (untold_of m s) ≡ true = ap (λ us. has_untold (get_or us s.0 [])) (sym raised.untold) ∙ parts.0 in
-      let fetching : not (is_fetching m s) ≡ true = ap (λ ios. not (Rattle.std.specs.List.list_any (Rattle.sa_devices.specs.Ios.fetches s.0) ios)) (sym raised.under_way) ∙ parts.1 in
+      let fetching : not (is_fetching m s) ≡ true =
+      ap (λ ios. not (Rattle.std.specs.List.list_any (Rattle.sa_devices.specs.Ios.fetches s.0) ios)) (sym raised.under_way) ∙ parts.1 in
       let listed : must_interrupt w m s ≡ true → Contains lines (Line (proc_no k)) =
       λ must_m. lines-have lines (Line (proc_no k))
       (subst (λ ys. Contains ys (Line (proc_no k))) (sym due)
@@ -322,13 +335,16 @@ no-interrupt w m a e p lines s q raised all after aimed long due among must is =
       (ap (λ os. is_aim s.0 (get_or os j None)) raised.owners ∙ ts.0) (ap (λ os. is_aim s.0 (get_or os j None)) raised.aims ∙ ts.1)
       (some-is (line_of a (proc_no j)) (λ low. let clash = sym ts.2 ∙ ap is_some (raised.low j low) in absurd (cc)))) must)
       (λ none.
-      let must_m = all-three (has_untold (untold_of m s)) (not (is_fetching m s)) (is_none (least_below w.processors (will_tell m s))) untold fetching (ap is_none none) in
+      let must_m = all-three (has_untold (untold_of m s)) (not (is_fetching m s)) (is_none (least_below w.processors (will_tell m s))) untold fetching
+      (ap is_none none) in
       told-there w a s k there.within
       (all-three (is_aim s.0 (owner_of a (proc_no k))) (is_aim s.0 (aim_of a (proc_no k))) (is_some (line_of a (proc_no k))) owner_after aim_after
       (some-is (line_of a (proc_no k)) (λ low.
-      named-raised w e p m lines (proc_no k) all (let within = there.within in omega arith) (listed must_m) (ap (λ (x : Readings). get_or x.lines k None) after ∙ low)))) must)
+      named-raised w e p m lines (proc_no k) all (let within = there.within in omega arith) (listed must_m)
+      (ap (λ (x : Readings). get_or x.lines k None) after ∙ low)))) must)
     where
-      told : (o : Option ℕ) → least_below w.processors (will_tell m s) ≡ o → ((j : ℕ) → j < w.processors → will_tell m s j ≡ true → ⊥) → (least_below w.processors (will_tell m s) ≡ None → ⊥) → ⊥
+      told : (o : Option ℕ) → least_below w.processors (will_tell m s) ≡ o → ((j : ℕ) → j < w.processors → will_tell m s j ≡ true → ⊥)
+          → (least_below w.processors (will_tell m s) ≡ None → ⊥) → ⊥
       told None none tells otherwise = otherwise none
       told (Some j) some' tells otherwise = let at = least_below-passes w.processors (will_tell m s) j some' in tells j at.within at.passes
 
@@ -341,7 +357,8 @@ no-line-due w r e at law =
     (λ s among must. one s (least_below w.processors (can_be_raised (behind_all w e r) s)) refl
     (λ q is. no-interrupt w l.mid (behind_all w e r) e.number e.proc l.lines s q rest l.all l.after l.aimed l.long due among must is))
   where
-    one : (s : SpaceNo) (o : Option ℕ) → least_below w.processors (can_be_raised (behind_all w e r) s) ≡ o → ((q : ℕ) → least_below w.processors (can_be_raised (behind_all w e r) s) ≡ Some q → ⊥)
+    one : (s : SpaceNo) (o : Option ℕ) → least_below w.processors (can_be_raised (behind_all w e r) s) ≡ o
+        → ((q : ℕ) → least_below w.processors (can_be_raised (behind_all w e r) s) ≡ Some q → ⊥)
         → Rattle.std.specs.Option.option_map (λ q. Line (proc_no q)) o ≡ None
     one s None is never = refl
     one s (Some q) is never = absurd (never q is)
@@ -351,12 +368,15 @@ pub later-lines : (w : WorkloadView) (items : List Item) → IsLegal fast_thread
 later-lines w items legal n e at from =
     let r = before fast_threads w (events_of items) n in
     let next : before fast_threads w (events_of items) (n + 1) ≡ after_event is_inside w r e =
-    ap (after_events is_inside w (opening_readings w)) (take-next (events_of items) n e at) ∙ after-append w (opening_readings w) (take n (events_of items)) e in
+    ap (after_events is_inside w (opening_readings w)) (take-next (events_of items) n e at)
+    ∙ after-append w (opening_readings w) (take n (events_of items)) e in
     ap (lines_due w) next
     ∙ no-line-due w r e (low-before w (events_of items) n e at (legal-lawful fast_threads w items legal) from (legal.each n e at)) (legal.each n e at)
   where
-    low-before : (v : WorkloadView) (events : List Event) (k : ℕ) (f : Event) → slice_get events k ≡ Some f → AreLawful fast_threads v (opening_readings v) events → 1 ≤ f.number
-        → IsLawful fast_threads v (after_events is_inside v (opening_readings v) (take k events)) f → LowAt v (after_events is_inside v (opening_readings v) (take k events))
+    low-before : (v : WorkloadView) (events : List Event) (k : ℕ) (f : Event) → slice_get events k ≡ Some f
+        → AreLawful fast_threads v (opening_readings v) events → 1 ≤ f.number
+        → IsLawful fast_threads v (after_events is_inside v (opening_readings v) (take k events)) f
+        → LowAt v (after_events is_inside v (opening_readings v) (take k events))
     low-before v [] k f there all first law = absurd (none-some f there)
     low-before v (x ∷ xs) zero f there all first law = absurd (let number = law.numbering.number in omega arith)
     low-before v (x ∷ xs) (suc k) f there all first law = low-along v (after_event is_inside v (opening_readings v) x) xs (low-first v x all.0) all.1 k

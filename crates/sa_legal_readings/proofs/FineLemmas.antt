@@ -6,7 +6,7 @@ use Rattle.std.specs.Option.{option_map}
 use Rattle.std.proofs.lemmas.Bool.{cases_eq}
 use Rattle.std.proofs.lemmas.Bool.Decides.{nat_tests}
 use Rattle.std.proofs.lemmas.List.{get_or-set_same}
-use Rattle.std.proofs.lemmas.List.Elements.{Contains-append_right}
+use Rattle.std.proofs.lemmas.List.Elements.{Contains-push}
 use Rattle.std.proofs.lemmas.Option.{same_Some}
 use Rattle.sa_lemmas.proofs.FunctionUpdates.{put-at, put-other}
 use Rattle.sa_base.specs.declared.number.SpaceNo.{SpaceNo}
@@ -49,9 +49,11 @@ Fine w r lives s = Within lives s ⊎ (Untold r s ⊎ Covers w r s)
 pub min-less : (p a b d : ℕ) → a ≤ b → min p b ≤ d → min p a ≤ d
 min-less p a b d le is = omega (arith, le, is)
 
-pub covers-more : (w : WorkloadView) (r c : Readings) (s : SpaceNo) → active_threads (space_at c.state s) ≤ active_threads (space_at r.state s) → demand_of r s ≤ demand_of c s → Covers w r s → Covers w c s
+pub covers-more : (w : WorkloadView) (r c : Readings) (s : SpaceNo) → active_threads (space_at c.state s) ≤ active_threads (space_at r.state s)
+    → demand_of r s ≤ demand_of c s → Covers w r s → Covers w c s
 covers-more w r c s active demand is =
-    let less = min-less w.processors (active_threads (space_at c.state s)) (active_threads (space_at r.state s)) (demand_of r s) active is in omega (arith, less, demand)
+    let less = min-less w.processors (active_threads (space_at c.state s)) (active_threads (space_at r.state s)) (demand_of r s) active is in
+    omega (arith, less, demand)
 
 pub usable-covers : (w : WorkloadView) (r : Readings) (s : SpaceNo) → usable w r s ≤ demand_of r s → Covers w r s
 usable-covers w r s is = min-less w.processors (active_threads (space_at r.state s)) (load_of r s) (demand_of r s) (omega arith) is
@@ -67,14 +69,17 @@ third false false false false x is = absurd (cc)
 not-below : (a b : ℕ) → nat_lt a b ≡ false → b ≤ a
 not-below a b is = grind (arith, nat_tests)
 
-pub test-fine : (w : WorkloadView) (before : Readings) (e : Event) (after : Readings) (life : Life) → (is_inside w before e after true life ≡ true) ⊎ Covers w after life.space
+pub test-fine : (w : WorkloadView) (before : Readings) (e : Event) (after : Readings) (life : Life)
+    → (is_inside w before e after true life ≡ true) ⊎ Covers w after life.space
 test-fine w before e after life = one (nat_lt (demand_of after life.space) (usable w after life.space)) refl where
-  one : (b : Bool) → nat_lt (demand_of after life.space) (usable w after life.space) ≡ b → (is_inside w before e after true life ≡ true) ⊎ Covers w after life.space
+  one : (b : Bool) → nat_lt (demand_of after life.space) (usable w after life.space) ≡ b
+      → (is_inside w before e after true life ≡ true) ⊎ Covers w after life.space
   one true is = inl (third (has_lock life) life.cont (has_hand after life) (nat_lt (demand_of after life.space) (usable w after life.space)) _ is)
   one false is = inr (usable-covers w after life.space (not-below (demand_of after life.space) (usable w after life.space) is))
 
 -- one life of the space at the end of the event
-pub up-fine : (w : WorkloadView) (r : Readings) (e : Event) (c : Readings) (s : SpaceNo) (lives : ℕ → Option Life) → Within lives s → Fine w c (with_up is_inside w r e c lives) s
+pub up-fine : (w : WorkloadView) (r : Readings) (e : Event) (c : Readings) (s : SpaceNo) (lives : ℕ → Option Life) → Within lives s
+    → Fine w c (with_up is_inside w r e c lives) s
 up-fine w r e c s lives (a, life, is, of, inside) = one (list_any is_up e.records) where
   two : (o : Option ActNo) → Fine w c (with_life (arisen is_inside w r e c) o lives) s
   two None = inl (a, life, is, of, inside)
@@ -96,7 +101,8 @@ up-fine w r e c s lives (a, life, is, of, inside) = one (list_any is_up e.record
   one false = inl (a, life, is, of, inside)
   one true = two (running_of c e.proc)
 
-pub step-space : (w : WorkloadView) (r : Readings) (e : Event) (c : Readings) (xs : List Record) (lives : ℕ → Option Life) (a : ℕ) → space_of (with_step is_inside w r e c xs lives a) ≡ space_of (lives a)
+pub step-space : (w : WorkloadView) (r : Readings) (e : Event) (c : Readings) (xs : List Record) (lives : ℕ → Option Life) (a : ℕ)
+    → space_of (with_step is_inside w r e c xs lives a) ≡ space_of (lives a)
 step-space w r e c [] lives a = refl
 step-space w r e c (x ∷ xs) lives a = one (is_step x) where
   one : (b : Bool) → space_of ((if b then with_life (stepped is_inside w r e c x) (running_of r e.proc) lives else lives) a) ≡ space_of (lives a)
@@ -104,7 +110,8 @@ step-space w r e c (x ∷ xs) lives a = one (is_step x) where
   one false = refl
 
 -- the life of an up
-pub arise-fine : (w : WorkloadView) (r : Readings) (e : Event) (c : Readings) (s : SpaceNo) (lives : ℕ → Option Life) (at : RunsAt e.proc s c) → space_of (lives at.act.0) ≡ Some s
+pub arise-fine : (w : WorkloadView) (r : Readings) (e : Event) (c : Readings) (s : SpaceNo) (lives : ℕ → Option Life) (at : RunsAt e.proc s c)
+    → space_of (lives at.act.0) ≡ Some s
     → list_any is_up e.records ≡ true → Fine w c (with_up is_inside w r e c lives) s
 arise-fine w r e c s lives at space up =
     let l = has-life lives at.act.0 s (lives at.act.0) refl space in
@@ -122,8 +129,10 @@ arise-fine w r e c s lives at space up =
     ]))
 
 -- the life of a step that settles it
-pub settle-fine : (w : WorkloadView) (r : Readings) (e : Event) (c : Readings) (s : SpaceNo) (x : Record) (xs : List Record) (lives : ℕ → Option Life) (a : ActNo) → running_of r e.proc ≡ Some a
-    → space_of (lives a.0) ≡ Some s → is_step x ≡ true → settles r c x ≡ true → Fine w c (with_up is_inside w r e c (with_step is_inside w r e c (x ∷ xs) lives)) s
+pub settle-fine : (w : WorkloadView) (r : Readings) (e : Event) (c : Readings) (s : SpaceNo) (x : Record) (xs : List Record) (lives : ℕ → Option Life)
+    (a : ActNo) → running_of r e.proc ≡ Some a
+    → space_of (lives a.0) ≡ Some s → is_step x ≡ true → settles r c x ≡ true
+    → Fine w c (with_up is_inside w r e c (with_step is_inside w r e c (x ∷ xs) lives)) s
 settle-fine w r e c s x xs lives a runs space step settled =
     let l = has-life lives a.0 s (lives a.0) refl space in
     elim (test-fine w r e c l.0) [
@@ -145,11 +154,13 @@ abbrev pub IsStepOf : List Record → Type 0
 IsStepOf [] = ⊥
 IsStepOf (x ∷ xs) = is_step x ≡ true
 
-step-still : (w : WorkloadView) (r : Readings) (e : Event) (c : Readings) (s : SpaceNo) (xs : List Record) (lives : ℕ → Option Life) (a : ℕ) (life : Life) → lives a ≡ Some life → life.space ≡ s
+step-still : (w : WorkloadView) (r : Readings) (e : Event) (c : Readings) (s : SpaceNo) (xs : List Record) (lives : ℕ → Option Life) (a : ℕ) (life : Life)
+    → lives a ≡ Some life → life.space ≡ s
     → life.inside ≡ true → ((b : ActNo) → running_of r e.proc ≡ Some b → IsStepOf xs → a ≢ b.0) → Within (with_step is_inside w r e c xs lives) s
 step-still w r e c s [] lives a life is of inside other = (a, life, is, of, inside)
 step-still w r e c s (x ∷ xs) lives a life is of inside other = one (is_step x) (λ b runs step. other b runs step) where
-  one : (k : Bool) → ((b : ActNo) → running_of r e.proc ≡ Some b → k ≡ true → a ≢ b.0) → Within (if k then with_life (stepped is_inside w r e c x) (running_of r e.proc) lives else lives) s
+  one : (k : Bool) → ((b : ActNo) → running_of r e.proc ≡ Some b → k ≡ true → a ≢ b.0)
+      → Within (if k then with_life (stepped is_inside w r e c x) (running_of r e.proc) lives else lives) s
   one false apart = (a, life, is, of, inside)
   one true apart = two (running_of r e.proc) (λ b runs. apart b runs refl) where
     two : (o : Option ActNo) → ((b : ActNo) → o ≡ Some b → a ≢ b.0) → Within (with_life (stepped is_inside w r e c x) o lives) s
@@ -167,10 +178,8 @@ keep-fine w r e c s xs kept (inr (inl untold)) spared = inr (inl (untold.0, unto
 keep-fine w r e c s xs kept (inr (inr covers)) spared = inr (inr (covers-more w r c s kept.active kept.demand covers))
 
 -- a block leaves something untold
-push-has : (ns : List Note) (n : Note) → Contains (ns ++ n ∷ []) n
-push-has ns n = Contains-append_right ns (n ∷ []) n (0, omega arith, refl)
-
-block-untold : (w : WorkloadView) (e : ℕ) (p : ProcNo) (st : ℕ → Standing) (r : Readings) (s u : SpaceNo) (t : Option ThreadNo) (a : ActNo) (io : IoNo) (xs : List Record) → u ≡ s
+block-untold : (w : WorkloadView) (e : ℕ) (p : ProcNo) (st : ℕ → Standing) (r : Readings) (s u : SpaceNo) (t : Option ThreadNo) (a : ActNo) (io : IoNo)
+    (xs : List Record) → u ≡ s
     → s.0 < length r.untold → IsApart st r (Block u t a io ∷ xs) → Goes w e p r (Block u t a io ∷ xs) → EachRecord (Passes s) w e p r (Block u t a io ∷ xs)
     → Untold (after_records w e p r (Block u t a io ∷ xs)) s
 block-untold w e p st r s u t a io xs same within apart goes passes =
@@ -181,16 +190,20 @@ block-untold w e p st r s u t a io xs same within apart goes passes =
     (record { moves = goes.moves.1; tells = goes.tells.1; steps = goes.steps.1 }) passes.1 (λ telling. absurd (cc)) in
     let has : Contains (untold_of after s) (note.Blocked a) =
     subst (λ (k : SpaceNo). Contains (get_or (slice_set r.untold k.0 (get_or r.untold k.0 [] ++ note.Blocked a ∷ [])) s.0 []) (note.Blocked a)) (sym same)
-    (subst (λ ns. Contains ns (note.Blocked a)) (sym (get_or-set_same r.untold s.0 (get_or r.untold s.0 [] ++ note.Blocked a ∷ []) [] within)) (push-has (get_or r.untold s.0 []) (note.Blocked a))) in
+    (subst (λ ns. Contains ns (note.Blocked a)) (sym (get_or-set_same r.untold s.0 (get_or r.untold s.0 [] ++ note.Blocked a ∷ []) [] within))
+    (Contains-push (get_or r.untold s.0 []) (note.Blocked a))) in
     (note.Blocked a, refl, more.kept.noted (note.Blocked a) refl has)
 
-one-act : (r : Readings) (s u : SpaceNo) (a b : ActNo) (p : ProcNo) → running_of r p ≡ Some a → running_of r p ≡ Some b → space_of_life r (Some a) ≡ Some s → space_of_life r (Some b) ≡ Some u → u ≡ s
+pub one-act : (r : Readings) (s u : SpaceNo) (a b : ActNo) (p : ProcNo) → running_of r p ≡ Some a → running_of r p ≡ Some b → space_of_life r (Some a) ≡ Some s
+    → space_of_life r (Some b) ≡ Some u → u ≡ s
 one-act r s u a b p one two first second =
     let same : a ≡ b = same_Some a b (sym one ∙ two) in
     same_Some u s (sym second ∙ ap (λ (k : ActNo). space_of_life r (Some k)) (sym same) ∙ first)
 
-pub blocks-untold : (w : WorkloadView) (e : ℕ) (p : ProcNo) (st : ℕ → Standing) (r : Readings) (s : SpaceNo) (a : ActNo) (x : Record) (ys cs : List Record) → BlocksFirst x ys → is_step x ≡ true
-    → running_of r p ≡ Some a → space_of_life r (Some a) ≡ Some s → s.0 < length r.untold → IsApart st r (x ∷ (ys ++ cs)) → Goes w e p r (x ∷ (ys ++ cs)) → EachRecord (Passes s) w e p r (x ∷ (ys ++ cs))
+pub blocks-untold : (w : WorkloadView) (e : ℕ) (p : ProcNo) (st : ℕ → Standing) (r : Readings) (s : SpaceNo) (a : ActNo) (x : Record) (ys cs : List Record)
+    → BlocksFirst x ys → is_step x ≡ true
+    → running_of r p ≡ Some a → space_of_life r (Some a) ≡ Some s → s.0 < length r.untold → IsApart st r (x ∷ (ys ++ cs)) → Goes w e p r (x ∷ (ys ++ cs))
+    → EachRecord (Passes s) w e p r (x ∷ (ys ++ cs))
     → Untold (after_records w e p r (x ∷ (ys ++ cs))) s
 blocks-untold w e p st r s a (Block u t b io) ys cs blocks step runs space within apart goes passes =
     let law = goes.moves.0 in block-untold w e p st r s u t b io (ys ++ cs) (one-act r s u a b p runs law.act space law.space) within apart goes passes
@@ -198,7 +211,8 @@ blocks-untold w e p st r s a (Ins v k i) (Block u t b io ∷ ys) cs blocks step 
     let was = stood w p st r (Ins v k i) (Block u t b io ∷ (ys ++ cs)) apart.agrees goes.moves.0 in
     let after = after_record w e p r (Ins v k i) in
     let law = goes.moves.1.0 in
-    let same : space_of_life after (Some b) ≡ space_of_life r (Some b) = space-with (with_hand (next_effect w r.state v k).roused) (running_of r p) r.lives b.0 (λ l. refl) in
+    let same : space_of_life after (Some b) ≡ space_of_life r (Some b) =
+    space-with (with_hand (next_effect w r.state v k).roused) (running_of r p) r.lives b.0 (λ l. refl) in
     block-untold w e p (standing_after p st (Ins v k i)) after s u t b io (ys ++ cs) (one-act r s u a b p runs law.act space (sym same ∙ law.space)) within
     (apart-step w e p st r (Ins v k i) (Block u t b io ∷ (ys ++ cs)) apart was goes.moves.0 goes.tells.0)
     (record { moves = goes.moves.1; tells = goes.tells.1; steps = goes.steps.1 }) passes.1

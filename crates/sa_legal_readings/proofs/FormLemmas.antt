@@ -42,7 +42,7 @@ Turning (Move old new ∷ xs) = Turning xs
 Turning (Aim q None ∷ xs) = IsFetchOrNothing xs
 Turning _ = ⊥
 
--- .. which is a step only where a block is its first record, or stands after an instruction
+-- A turn is a step only where a block is its first record, or comes after an instruction.
 abbrev pub BlocksFirst : Record → List Record → Type 0
 BlocksFirst (Block u t a io) ys = Unit {0}
 BlocksFirst (Ins u t i) (Block v k a io ∷ ys) = Unit {0}
@@ -84,7 +84,7 @@ pub record StepOf (w : WorkloadView) (r : Readings) (p : ProcNo) (x : Record) (y
 abbrev pub Form : WorkloadView → Readings → ProcNo → Record → List Record → Type 0
 Form w r p x ys = (Turning (x ∷ ys) × BlocksFirst x ys) ⊎ (Calm x ys ⊎ StepOf w r p x ys)
 
-passage-turning : (xs : List Record) → IsPassage xs → Turning xs
+pub passage-turning : (xs : List Record) → IsPassage xs → Turning xs
 passage-turning (Up u a ∷ xs) is = is
 passage-turning (Move old (Some new) ∷ Up u a ∷ xs) is = is
 passage-turning (Move old None ∷ Aim q None ∷ xs) is = is
@@ -95,24 +95,25 @@ passage-first (Up u a) ys is = refl
 passage-first (Move old new) ys is = refl
 passage-first x ys is = absurd (is)
 
-interrupt-form : (x : Record) (ys : List Record) → IsInterrupt (x ∷ ys) → Turning (x ∷ ys) × BlocksFirst x ys
+pub interrupt-form : (x : Record) (ys : List Record) → IsInterrupt (x ∷ ys) → Turning (x ∷ ys) × BlocksFirst x ys
 interrupt-form (Stop u t a) ys is = (passage-turning ys is, refl)
 interrupt-form (Up u a) ys is = (passage-turning (Up u a ∷ ys) is, refl)
 interrupt-form (Move old new) ys is = (passage-turning (Move old new ∷ ys) is, refl)
 interrupt-form x ys is = absurd (is)
 
-over-form : (kind : IoKind) (x : Record) (ys : List Record) → IsOver kind (x ∷ ys) → Calm x ys
+pub over-form : (kind : IoKind) (x : Record) (ys : List Record) → IsOver kind (x ∷ ys) → Calm x ys
 over-form (Plain s a) (Unblock of t b) [] is = record { none = refl; quiet = refl; alone = refl }
 over-form (Page s a k) (Unblock of t b) [] is = record { none = refl; quiet = refl; alone = refl }
 over-form (Upcall s) (Fetched of) [] is = record { none = refl; quiet = refl; alone = refl }
 over-form kind x ys is = absurd (is)
 
-given-quiet : (acts : List ActNo) → AllQuiet (map GiveBack acts)
+pub given-quiet : (acts : List ActNo) → AllQuiet (map GiveBack acts)
 given-quiet [] = tt
 given-quiet (a ∷ acts) = (refl, given-quiet acts)
 
 -- a step
-step-alone : (w : WorkloadView) (r : Readings) (p : ProcNo) (a : ActNo) (life : Life) (x : Record) (ys : List Record) → running_of r p ≡ Some a → life_on r p ≡ Some life → StepBy w r p a life x ys
+step-alone : (w : WorkloadView) (r : Readings) (p : ProcNo) (a : ActNo) (life : Life) (x : Record) (ys : List Record) → running_of r p ≡ Some a
+    → life_on r p ≡ Some life → StepBy w r p a life x ys
     → is_step x ≡ true → is_quiet x ≡ true → ys ≡ [] → StepOf w r p x ys
 step-alone w r p a life x ys runs on by step quiet alone = record {
   act = a;
@@ -125,7 +126,8 @@ step-alone w r p a life x ys runs on by step quiet alone = record {
   rest = inl (subst AllOut (sym alone) tt);
 }
 
-ins-form : (w : WorkloadView) (r : Readings) (p : ProcNo) (a : ActNo) (life : Life) (s : SpaceNo) (t : Rattle.sa_base.specs.declared.number.ThreadNo.ThreadNo) (k : ℕ) (i : Instr) (ys : List Record)
+ins-form : (w : WorkloadView) (r : Readings) (p : ProcNo) (a : ActNo) (life : Life) (s : SpaceNo) (t : Rattle.sa_base.specs.declared.number.ThreadNo.ThreadNo)
+    (k : ℕ) (i : Instr) (ys : List Record)
     → running_of r p ≡ Some a → life_on r p ≡ Some life → StepBy w r p a life (Ins s t k) ys → IsInsOf i ys → Form w r p (Ins s t k) ys
 ins-form w r p a life s t k (instr.Out reg) (Out u v n ∷ []) runs on by is =
     inr (inr (record { act = a; life = life; runs = runs; on = on; by = by; step = refl; quiet = (refl, (refl, tt)); rest = inl tt }))
@@ -134,7 +136,8 @@ ins-form w r p a life s t k (instr.Io n) (Block u v b io ∷ ys) runs on by is =
 ins-form w r p a life s t k (instr.Io n) ys runs on by is = absurd (is)
 ins-form w r p a life s t k i ys runs on by is = inr (inr (step-alone w r p a life (Ins s t k) ys runs on by refl refl is))
 
-by-form : (w : WorkloadView) (r : Readings) (p : ProcNo) (a : ActNo) (life : Life) (x : Record) (ys : List Record) → running_of r p ≡ Some a → life_on r p ≡ Some life → StepBy w r p a life x ys
+by-form : (w : WorkloadView) (r : Readings) (p : ProcNo) (a : ActNo) (life : Life) (x : Record) (ys : List Record) → running_of r p ≡ Some a
+    → life_on r p ≡ Some life → StepBy w r p a life x ys
     → KeepsLocksIn w r p (x ∷ ys) → Form w r p x ys
 by-form w r p a life (Ins s t i) ys runs on by keeps = ins-form w r p a life s t i _ ys runs on by by
 by-form w r p a life (Block s t b io) ys runs on by keeps = inl (passage-turning ys by.0, tt)
@@ -160,13 +163,15 @@ by-form w r p a life (Cont s t) ys runs on by keeps = inr (inr (step-alone w r p
 by-form w r p a life (Back s t) ys runs on by keeps = inr (inr (step-alone w r p a life (Back s t) ys runs on by refl refl keeps.1))
 by-form w r p a life x ys runs on by keeps = absurd (cc)
 
-in-form : (w : WorkloadView) (r : Readings) (p : ProcNo) (a : Option ActNo) (life : Option Life) (x : Record) (ys : List Record) → running_of r p ≡ a → life_on r p ≡ life → StepIn w r p a life (x ∷ ys)
+in-form : (w : WorkloadView) (r : Readings) (p : ProcNo) (a : Option ActNo) (life : Option Life) (x : Record) (ys : List Record) → running_of r p ≡ a
+    → life_on r p ≡ life → StepIn w r p a life (x ∷ ys)
     → KeepsLocksIn w r p (x ∷ ys) → Form w r p x ys
 in-form w r p (Some a) (Some life) x ys runs on is keeps = by-form w r p a life x ys runs on is keeps
 in-form w r p (Some a) None x ys runs on is keeps = absurd is
 in-form w r p None life x ys runs on is keeps = absurd is
 
-pub turn-form : (w : WorkloadView) (r : Readings) (p : ProcNo) (e : ℕ) (raised : Bool) (x : Record) (ys : List Record) → IsTurn IsStep raised e w r p (x ∷ ys) → KeepsLocksIn w r p (x ∷ ys)
+pub turn-form : (w : WorkloadView) (r : Readings) (p : ProcNo) (e : ℕ) (raised : Bool) (x : Record) (ys : List Record) → IsTurn IsStep raised e w r p (x ∷ ys)
+    → KeepsLocksIn w r p (x ∷ ys)
     → Form w r p x ys
 turn-form w r p e true x ys is keeps = inl (interrupt-form x ys is)
 turn-form w r p e false x ys is keeps = due (due_of e r.under_way) is where
@@ -200,12 +205,14 @@ fetch-pass w e p s r (Fetch u ∷ []) is = (tt, tt)
 fetch-pass w e p s r (Fetch u ∷ y ∷ xs) is = absurd is
 fetch-pass w e p s r (x ∷ xs) is = absurd is
 
-both : (w : WorkloadView) (e : ℕ) (p : ProcNo) (s : SpaceNo) (x : Record) (xs : List Record) → ((r : Readings) → Passes s r x xs) → UpOf s xs ⊎ ((r : Readings) → EachRecord (Passes s) w e p r xs)
+both : (w : WorkloadView) (e : ℕ) (p : ProcNo) (s : SpaceNo) (x : Record) (xs : List Record) → ((r : Readings) → Passes s r x xs)
+    → UpOf s xs ⊎ ((r : Readings) → EachRecord (Passes s) w e p r xs)
     → UpOf s xs ⊎ ((r : Readings) → EachRecord (Passes s) w e p r (x ∷ xs))
 both w e p s x xs one (inl up) = inl up
 both w e p s x xs one (inr each) = inr (λ r. (one r, each (after_record w e p r x)))
 
-pub turning-cases : (w : WorkloadView) (e : ℕ) (p : ProcNo) (s : SpaceNo) (xs : List Record) → Turning xs → UpOf s xs ⊎ ((r : Readings) → EachRecord (Passes s) w e p r xs)
+pub turning-cases : (w : WorkloadView) (e : ℕ) (p : ProcNo) (s : SpaceNo) (xs : List Record) → Turning xs
+    → UpOf s xs ⊎ ((r : Readings) → EachRecord (Passes s) w e p r xs)
 turning-cases w e p s [] is = absurd is
 turning-cases w e p s (Up u a ∷ xs) is = elim (cases_eq u.0 s.0) [
   | inl same ↦ inl (ap (λ n. record { 0 = n }) same)
@@ -225,34 +232,42 @@ pub record RunsAt (p : ProcNo) (s : SpaceNo) (c : Readings) : Type 0 where
   pub runs : running_of c p ≡ Some act
   pub space : space_of_life c (Some act) ≡ Some s
 
-raising-runs : (w : WorkloadView) (e : ℕ) (p : ProcNo) (s : SpaceNo) (r : Readings) (xs : List Record) → AreRaising xs → RunsAt p s r → RunsAt p s (after_records w e p r xs)
+raising-runs : (w : WorkloadView) (e : ℕ) (p : ProcNo) (s : SpaceNo) (r : Readings) (xs : List Record) → AreRaising xs → RunsAt p s r
+    → RunsAt p s (after_records w e p r xs)
 raising-runs w e p s r [] is at = at
-raising-runs w e p s r (Aim q (Some t) ∷ xs) is at = raising-runs w e p s (after_record w e p r (Aim q (Some t))) xs is (record { act = at.act; runs = at.runs; space = at.space })
-raising-runs w e p s r (Line q ∷ xs) is at = raising-runs w e p s (after_record w e p r (Line q)) xs is (record { act = at.act; runs = at.runs; space = at.space })
+raising-runs w e p s r (Aim q (Some t) ∷ xs) is at =
+    raising-runs w e p s (after_record w e p r (Aim q (Some t))) xs is (record { act = at.act; runs = at.runs; space = at.space })
+raising-runs w e p s r (Line q ∷ xs) is at =
+    raising-runs w e p s (after_record w e p r (Line q)) xs is (record { act = at.act; runs = at.runs; space = at.space })
 raising-runs w e p s r (Aim q None ∷ xs) is at = absurd is
 raising-runs w e p s r (x ∷ xs) is at = absurd is
 
-closing-runs : (w : WorkloadView) (e : ℕ) (p : ProcNo) (s : SpaceNo) (r : Readings) (xs : List Record) → IsClosing xs → RunsAt p s r → RunsAt p s (after_records w e p r xs)
-closing-runs w e p s r (Want u n ∷ xs) is at = closing-runs w e p s (after_record w e p r (Want u n)) xs is (record { act = at.act; runs = at.runs; space = at.space })
+closing-runs : (w : WorkloadView) (e : ℕ) (p : ProcNo) (s : SpaceNo) (r : Readings) (xs : List Record) → IsClosing xs → RunsAt p s r
+    → RunsAt p s (after_records w e p r xs)
+closing-runs w e p s r (Want u n ∷ xs) is at =
+    closing-runs w e p s (after_record w e p r (Want u n)) xs is (record { act = at.act; runs = at.runs; space = at.space })
 closing-runs w e p s r [] is at = at
 closing-runs w e p s r (Aim q (Some t) ∷ xs) is at = raising-runs w e p s r (Aim q (Some t) ∷ xs) is at
 closing-runs w e p s r (Line q ∷ xs) is at = raising-runs w e p s r (Line q ∷ xs) is at
 closing-runs w e p s r (Aim q None ∷ xs) is at = absurd is
 closing-runs w e p s r (x ∷ xs) is at = absurd is
 
-told-life : (w : WorkloadView) (e : ℕ) (p : ProcNo) (r : Readings) (n : Rattle.sa_base.specs.declared.record.Note.Note) (a : ActNo) → space_of_life (after_record w e p r (Told n)) (Some a) ≡ space_of_life r (Some a)
+told-life : (w : WorkloadView) (e : ℕ) (p : ProcNo) (r : Readings) (n : Rattle.sa_base.specs.declared.record.Note.Note) (a : ActNo)
+    → space_of_life (after_record w e p r (Told n)) (Some a) ≡ space_of_life r (Some a)
 told-life w e p r (note.Preempted b) a = Rattle.sa_legal.proofs.StandingLemmas.space-handed r.upped b (life_of r b) r.lives a.0
 told-life w e p r (note.Unblocked b) a = Rattle.sa_legal.proofs.StandingLemmas.space-handed r.upped b (life_of r b) r.lives a.0
 told-life w e p r (note.Add q) a = refl
 told-life w e p r (note.Blocked b) a = refl
 
-told-runs : (w : WorkloadView) (e : ℕ) (p : ProcNo) (s : SpaceNo) (r : Readings) (xs cs : List Record) → AreTold xs → IsClosing cs → RunsAt p s r → RunsAt p s (after_records w e p r (xs ++ cs))
+told-runs : (w : WorkloadView) (e : ℕ) (p : ProcNo) (s : SpaceNo) (r : Readings) (xs cs : List Record) → AreTold xs → IsClosing cs → RunsAt p s r
+    → RunsAt p s (after_records w e p r (xs ++ cs))
 told-runs w e p s r [] cs is closes at = closing-runs w e p s r cs closes at
 told-runs w e p s r (Told n ∷ xs) cs is closes at =
     told-runs w e p s (after_record w e p r (Told n)) xs cs is closes (record { act = at.act; runs = at.runs; space = told-life w e p r n at.act ∙ at.space })
 told-runs w e p s r (x ∷ xs) cs is closes at = absurd is
 
-pub up-runs : (w : WorkloadView) (e : ℕ) (p : ProcNo) (s : SpaceNo) (r : Readings) (xs cs : List Record) → p.0 < length r.running → Turning xs → UpOf s xs → IsClosing cs
+pub up-runs : (w : WorkloadView) (e : ℕ) (p : ProcNo) (s : SpaceNo) (r : Readings) (xs cs : List Record) → p.0 < length r.running → Turning xs → UpOf s xs
+    → IsClosing cs
     → RunsAt p s (after_records w e p r (xs ++ cs)) × (list_any is_up (xs ++ cs) ≡ true)
 up-runs w e p s r [] cs within is up closes = absurd is
 up-runs w e p s r (Up u a ∷ xs) cs within is up closes = (
@@ -276,7 +291,7 @@ up-runs w e p s r (Aim q (Some v) ∷ xs) cs within is up closes = absurd is
 up-runs w e p s r (x ∷ xs) cs within is up closes = absurd is
 
 -- quiet records leave a running life where it runs
-quiet-kind : (x : Record) → is_quiet x ≡ true → 1 ≢ kind_before x
+pub quiet-kind : (x : Record) → is_quiet x ≡ true → 1 ≢ kind_before x
 quiet-kind (Up u a) is = absurd (cc)
 quiet-kind (Stop u t a) is = absurd (cc)
 quiet-kind (Block u t a io) is = absurd (cc)
@@ -285,15 +300,17 @@ quiet-kind (Unblock u t a) is = λ e. cc
 quiet-kind (GiveBack a) is = λ e. cc
 quiet-kind x is = λ e. cc
 
-quiet-running : (p q : ProcNo) (r : Readings) (x : Record) → is_quiet x ≡ true → running_after p r.running x ≡ r.running
+pub quiet-running : (p q : ProcNo) (r : Readings) (x : Record) → is_quiet x ≡ true → running_after p r.running x ≡ r.running
 quiet-running p q r (Up u a) is = absurd (cc)
 quiet-running p q r (Stop u t a) is = absurd (cc)
 quiet-running p q r (Block u t a io) is = absurd (cc)
 quiet-running p q r x is = refl
 
-pub quiet-runs : (w : WorkloadView) (e : ℕ) (p : ProcNo) (st : ℕ → Standing) (r : Readings) (s : SpaceNo) (a : ActNo) (xs : List Record) → IsApart st r xs → Goes w e p r xs → AllQuiet xs
+pub quiet-runs : (w : WorkloadView) (e : ℕ) (p : ProcNo) (st : ℕ → Standing) (r : Readings) (s : SpaceNo) (a : ActNo) (xs : List Record) → IsApart st r xs
+    → Goes w e p r xs → AllQuiet xs
     → running_of r p ≡ Some a → st a.0 ≡ Runs s p → RunsAt p s (after_records w e p r xs) × (running_of (after_records w e p r xs) p ≡ Some a)
-quiet-runs w e p st r s a [] apart goes quiet runs at = (record { act = a; runs = runs; space = apart.agrees.lives a ∙ ap Rattle.sa_legal.proofs.StandingLemmas.space_in at }, runs)
+quiet-runs w e p st r s a [] apart goes quiet runs at =
+    (record { act = a; runs = runs; space = apart.agrees.lives a ∙ ap Rattle.sa_legal.proofs.StandingLemmas.space_in at }, runs)
 quiet-runs w e p st r s a (x ∷ xs) apart goes quiet runs at =
     let law = goes.moves.0 in
     let was = stood w p st r x xs apart.agrees law in
@@ -324,10 +341,12 @@ set-one (d ∷ ds) zero (suc j) low = low
 set-one (d ∷ ds) (suc i) zero low = low
 set-one (d ∷ ds) (suc i) (suc j) low = set-one ds i j low
 
-pub closing-pass : (w : WorkloadView) (e : ℕ) (p : ProcNo) (s : SpaceNo) (r c : Readings) (xs : List Record) → IsClosing xs → LowWants r xs → AtMostOne r c → EachRecord (Passes s) w e p c xs
+pub closing-pass : (w : WorkloadView) (e : ℕ) (p : ProcNo) (s : SpaceNo) (r c : Readings) (xs : List Record) → IsClosing xs → LowWants r xs → AtMostOne r c
+    → EachRecord (Passes s) w e p c xs
 closing-pass w e p s r c (Want u n ∷ xs) is low most =
     let same : u.0 ≡ s.0 → demand_of c s ≤ n =
-    λ at. let here = most u low.0 in let one = low.1 in let there : demand_of c s ≡ demand_of c u = ap (λ k. get_or c.demands k 0) (sym at) in omega (arith, here, one, there) in (
+    λ at. let here = most u low.0 in let one = low.1 in let there : demand_of c s ≡ demand_of c u = ap (λ k. get_or c.demands k 0) (sym at) in
+    omega (arith, here, one, there) in (
       same,
       closing-pass w e p s r (after_record w e p c (Want u n)) xs is low.2
           (λ v less. subst (λ k. get_or (slice_set c.demands u.0 k) v.0 0 ≤ 1) (sym low.1) (set-one c.demands u.0 v.0 (most v less))),
@@ -338,7 +357,8 @@ closing-pass w e p s r c (Line q ∷ xs) is low most = raising-pass w e p s c (L
 closing-pass w e p s r c (Aim q None ∷ xs) is low most = absurd is
 closing-pass w e p s r c (x ∷ xs) is low most = absurd is
 
-pub pass-append : (w : WorkloadView) (e : ℕ) (p : ProcNo) (s : SpaceNo) (r : Readings) (xs cs : List Record) → EachRecord (Passes s) w e p r xs → EachRecord (Passes s) w e p (after_records w e p r xs) cs
+pub pass-append : (w : WorkloadView) (e : ℕ) (p : ProcNo) (s : SpaceNo) (r : Readings) (xs cs : List Record) → EachRecord (Passes s) w e p r xs
+    → EachRecord (Passes s) w e p (after_records w e p r xs) cs
     → EachRecord (Passes s) w e p r (xs ++ cs)
 pass-append w e p s r [] cs one two = two
 pass-append w e p s r (x ∷ xs) cs one two = (widen x one.0, pass-append w e p s (after_record w e p r x) xs cs one.1 two) where
@@ -376,13 +396,16 @@ out-pass w e p s r (Out u t v ∷ xs) is = (tt, out-pass w e p s (after_record w
 out-pass w e p s r (x ∷ xs) is = absurd is
 
 -- lives of another space are given back
-pub given-pass : (w : WorkloadView) (e : ℕ) (p : ProcNo) (s : SpaceNo) (r : Readings) (acts : List ActNo) → ((a : ActNo) → Contains acts a → space_of_life r (Some a) ≢ Some s)
+pub given-pass : (w : WorkloadView) (e : ℕ) (p : ProcNo) (s : SpaceNo) (r : Readings) (acts : List ActNo)
+    → ((a : ActNo) → Contains acts a → space_of_life r (Some a) ≢ Some s)
     → EachRecord (Passes s) w e p r (map GiveBack acts)
 given-pass w e p s r [] other = tt
 given-pass w e p s r (a ∷ acts) other = (
   other a (0, omega arith, refl),
   given-pass w e p s (after_record w e p r (GiveBack a)) acts (λ b has is. elim (cases_eq b.0 a.0) [
     | inl same ↦ none-some s (sym (ap Rattle.sa_legal.proofs.StandingLemmas.space_of (put-at r.lives a.0 b.0 None same)) ∙ is)
-    | inr apart ↦ other b (Contains-append_right (a ∷ []) acts b has) (sym (ap Rattle.sa_legal.proofs.StandingLemmas.space_of (put-other r.lives a.0 b.0 None apart)) ∙ is)
+    | inr apart ↦
+        other b (Contains-append_right (a ∷ []) acts b has)
+        (sym (ap Rattle.sa_legal.proofs.StandingLemmas.space_of (put-other r.lives a.0 b.0 None apart)) ∙ is)
   ]),
 )

@@ -1,8 +1,8 @@
 -- After each event of a legal run a processor whose line is low is aimed at by its owner.
 use Rattle.std.proofs.Common.{◌≡◌, ◌≢◌, ℕ, zero, suc, ◌+◌, ◌<◌, ◌≤◌, inl, inr, refl, sym, ◌∙◌, ap, subst, arith, Some, None, List, [], ◌∷◌, ◌++◌, length, map, take, true, false}
-use Rattle.std.specs.Prelude.{Option, Bool, ◌&&◌, is_some, get_or, slice_get}
+use Rattle.std.specs.Prelude.{Option, is_some, get_or, slice_get}
 use Rattle.std.specs.List.{list_all, prefix_len}
-use Rattle.std.proofs.lemmas.Bool.{cases_eq}
+use Rattle.std.proofs.lemmas.Bool.{cases_eq, and_parts}
 use Rattle.std.proofs.lemmas.List.{get_or-set_same, get_or-set_other, length-set, length-replicate}
 use Rattle.std.proofs.lemmas.Option.{none-some}
 use Rattle.sa_base.specs.declared.number.SpaceNo.{SpaceNo}
@@ -25,22 +25,15 @@ use Rattle.sa_laws.specs.Opening.{first_wants, opening_records}
 use Rattle.sa_laws.specs.Rules.{IsLawful, fast_threads}
 use Rattle.sa_legal.specs.Fold.{AreLawful}
 use Rattle.sa_laws.specs.Legal.{IsLegal, before}
+use Rattle.sa_laws.proofs.Records.{records-append}
+use Rattle.sa_laws.proofs.Lengths.{lines-length}
 use Rattle.sa_legal.proofs.EventLemmas.{legal-lawful}
 use Rattle.sa_legal.proofs.ReadLemmas.{owners-changed, owners-length, aims-length}
 use Rattle.sa_legal_readings.specs.Closings.{LowLinesAreAimed}
 use Rattle.sa_legal_readings.proofs.TurnLemmas.{is_calm, AllCalm, Turned, turn-turned}
-use Rattle.sa_legal_readings.proofs.LowLemmas.{LowAimed, Fine, AllLeave, fine-step, lines-length, each-behind}
-use Rattle.sa_legal.proofs.AppendLemmas.{records-append}
+use Rattle.sa_legal_readings.proofs.LowLemmas.{LowAimed, Fine, AllLeave, fine-step, each-behind}
 use Rattle.sa_legal.proofs.ShapeLemmas.{parts-take}
 use Rattle.sa_legal_readings.proofs.TraceLemmas.{absent}
-
-pub and-left : (a b : Bool) → (a && b) ≡ true → a ≡ true
-and-left true b is = refl
-and-left false b is = absurd (cc)
-
-pub and-right : (a b : Bool) → (a && b) ≡ true → b ≡ true
-and-right true b is = is
-and-right false b is = absurd (cc)
 
 -- the owners, aims and lines
 pub record IsKept (r after : Readings) : Type 0 where
@@ -56,12 +49,13 @@ calm-one w e p r x calm = record { owners = owners-changed w p r.state x; aims =
 calm-kept : (w : WorkloadView) (e : ℕ) (p : ProcNo) (r : Readings) (xs : List Record) → AllCalm xs → IsKept r (after_records w e p r xs)
 calm-kept w e p r [] calm = record { owners = refl; aims = refl }
 calm-kept w e p r (x ∷ xs) calm =
-    let one = calm-one w e p r x (and-left (is_calm x) (list_all is_calm xs) calm) in
-    let more = calm-kept w e p (after_record w e p r x) xs (and-right (is_calm x) (list_all is_calm xs) calm) in
+    let one = calm-one w e p r x ((and_parts (is_calm x) (list_all is_calm xs) calm).0) in
+    let more = calm-kept w e p (after_record w e p r x) xs ((and_parts (is_calm x) (list_all is_calm xs) calm).1) in
     record { owners = more.owners ∙ one.owners; aims = more.aims ∙ one.aims }
 
 -- after its own part an event's processor is aimed at by its owner
-pub own-final : (w : WorkloadView) (e : ℕ) (p : ProcNo) (r : Readings) (xs : List Record) → p.0 < length r.state.owners → p.0 < length r.aims → Turned p (owner_of r p) (aim_of r p) xs
+pub own-final : (w : WorkloadView) (e : ℕ) (p : ProcNo) (r : Readings) (xs : List Record) → p.0 < length r.state.owners → p.0 < length r.aims
+    → Turned p (owner_of r p) (aim_of r p) xs
     → aim_of (after_records w e p r xs) p ≡ owner_of (after_records w e p r xs) p
 own-final w e p r xs owners aims (inl same) =
     let kept = calm-kept w e p r xs same.0 in ap (λ as'. get_or as' p.0 None) kept.aims ∙ same.1 ∙ sym (ap (λ os. get_or os p.0 None) kept.owners)
@@ -93,7 +87,7 @@ calm-leave : (p q : ProcNo) (xs : List Record) → AllCalm xs → AllLeave p q x
 calm-leave p q [] calm = tt
 calm-leave p q (Move old new ∷ xs) calm = absurd (cc)
 calm-leave p q (Aim t s ∷ xs) calm = absurd (cc)
-calm-leave p q (x ∷ xs) calm = (tt, calm-leave p q xs (and-right (is_calm x) (list_all is_calm xs) calm))
+calm-leave p q (x ∷ xs) calm = (tt, calm-leave p q xs ((and_parts (is_calm x) (list_all is_calm xs) calm).1))
 
 pub leave-append : (p q : ProcNo) (xs ys : List Record) → AllLeave p q xs → AllLeave p q ys → AllLeave p q (xs ++ ys)
 leave-append p q [] ys left right = right
@@ -102,10 +96,12 @@ leave-append p q (x ∷ xs) ys left right = (left.0, leave-append p q xs ys left
 pub turned-leave : (p q : ProcNo) (owner aim : Option SpaceNo) (xs : List Record) → q.0 ≢ p.0 → Turned p owner aim xs → AllLeave p q xs
 turned-leave p q owner aim xs apart (inl same) = calm-leave p q xs same.0
 turned-leave p q owner aim xs apart (inr (inl moves)) =
-    subst (AllLeave p q) (sym moves.is) (leave-append p q moves.before _ (calm-leave p q moves.before moves.calm) (apart, calm-leave p q moves.rest moves.calm_rest))
+    subst (AllLeave p q) (sym moves.is)
+    (leave-append p q moves.before _ (calm-leave p q moves.before moves.calm) (apart, calm-leave p q moves.rest moves.calm_rest))
 turned-leave p q owner aim xs apart (inr (inr leaves)) =
     subst (AllLeave p q) (sym leaves.is)
-    (leave-append p q leaves.before _ (calm-leave p q leaves.before leaves.calm) (apart, ((λ same. apart (sym same)), calm-leave p q leaves.rest leaves.calm_rest)))
+    (leave-append p q leaves.before _ (calm-leave p q leaves.before leaves.calm)
+    (apart, ((λ same. apart (sym same)), calm-leave p q leaves.rest leaves.calm_rest)))
 
 raising-leave : (p q : ProcNo) (xs : List Record) → AreRaising xs → AllLeave p q xs
 raising-leave p q [] is = tt
@@ -132,10 +128,15 @@ line-leave p q k (Some e) = tt
 
 aims-leave : (p q : ProcNo) (e : ℕ) (lines : List (Option ℕ)) (cs : List Change) → AllLeave p q (records_of e lines cs)
 aims-leave p q e lines [] = tt
-aims-leave p q e lines (c ∷ cs) = (tt, leave-append p q (line_records c.proc (line_at lines c.proc)) _ (line-leave p q c.proc (line_at lines c.proc)) (aims-leave p q e (lines_with e lines c) cs))
+aims-leave p q e lines (c ∷ cs) = (
+  tt,
+  leave-append p q (line_records c.proc (line_at lines c.proc)) _ (line-leave p q c.proc (line_at lines c.proc))
+      (aims-leave p q e (lines_with e lines c) cs),
+)
 
 -- to the end of an event
-all-fine : (w : WorkloadView) (e : ℕ) (p : ProcNo) (r : Readings) (q : ProcNo) (last : Option Record) (xs : List Record) → q.0 < length r.lines → EachRecord RaisesLine w e p r xs
+all-fine : (w : WorkloadView) (e : ℕ) (p : ProcNo) (r : Readings) (q : ProcNo) (last : Option Record) (xs : List Record) → q.0 < length r.lines
+    → EachRecord RaisesLine w e p r xs
     → AllLeave p q xs → Fine r q last xs → LowAimed (after_records w e p r xs) q
 all-fine w e p r q last [] within heard leaves (inl ok) = ok
 all-fine w e p r q last [] within heard leaves (inr awaits) = absurd awaits.next
@@ -191,7 +192,8 @@ in-parts w r e law from aimed = one e.records refl where
         turned = turn-turned w e.number e.proc (begun w e r) (owner_of r e.proc) (aim_of r e.proc) (is_some (line_of r e.proc)) x xs
             (λ raised. subst (StopsAndGoes e.proc (begun w e r) (owner_of r e.proc) (aim_of r e.proc)) is (law.interrupt_next.interrupt raised))
             (λ low_line. aimed (low-is (line_of r e.proc) low_line))
-            (subst (λ ys. Rattle.sa_laws.specs.Turns.IsTurn Rattle.sa_laws.specs.Turns.IsStep (is_some (line_of r e.proc)) e.number w (begun w e r) e.proc (own_part ys)) is (turns.turn from))
+            (subst (λ ys. Rattle.sa_laws.specs.Turns.IsTurn Rattle.sa_laws.specs.Turns.IsStep (is_some (line_of r e.proc)) e.number w (begun w e r) e.proc
+            (own_part ys)) is (turns.turn from))
             (subst (EachRecord (GivesUpcallThen e.proc) w e.number e.proc (begun w e r)) is law.block_upcall.blocks);
         closes = subst (λ ys. IsClosing (closing_part ys)) is (turns.closing from);
       }
@@ -199,12 +201,15 @@ in-parts w r e law from aimed = one e.records refl where
 pub begun-aimed : (w : WorkloadView) (r : Readings) (e : Event) (q : ProcNo) → q.0 ≢ e.proc.0 → LowAimed r q → LowAimed (begun w e r) q
 begun-aimed w r e q apart ok = λ is. ok (sym (get_or-set_other r.lines e.proc.0 q.0 None None apart) ∙ is)
 
-aimed-event : (w : WorkloadView) (r : Readings) (e : Event) (q : ProcNo) → LowAt w r → IsLawful fast_threads w r e → q.0 < w.processors → LowAimed (behind_all w e r) q
+aimed-event : (w : WorkloadView) (r : Readings) (e : Event) (q : ProcNo) → LowAt w r → IsLawful fast_threads w r e → q.0 < w.processors
+    → LowAimed (behind_all w e r) q
 aimed-event w r e q at law within = elim (cases_eq q.0 e.proc.0) [
   | inl same ↦ own (ap (λ n. record { 0 = n }) same)
   | inr apart ↦
       all-fine w e.number e.proc (begun w e r) q None e.records (let len = (procs-begun w e r at.procs).lines in omega arith) law.line_cause.heard
-      (subst (AllLeave e.proc q) parts.is (leave-append e.proc q parts.own parts.closing (turned-leave e.proc q _ _ parts.own apart parts.turned) (closing-leave e.proc q parts.closing parts.closes)))
+      (subst (AllLeave e.proc q) parts.is
+      (leave-append e.proc q parts.own parts.closing (turned-leave e.proc q _ _ parts.own apart parts.turned)
+      (closing-leave e.proc q parts.closing parts.closes)))
       (inl (begun-aimed w r e q apart (at.aimed q within)))
 ] where
   number : 1 ≤ e.number
@@ -226,14 +231,18 @@ aimed-event w r e q at law within = elim (cases_eq q.0 e.proc.0) [
       let heard = subst (EachRecord RaisesLine w e.number e.proc (begun w e r)) (sym ps.is) law.line_cause.heard in
       let final = own-final w e.number e.proc (begun w e r) ps.own (omega arith) (omega arith) ps.turned in
       let there : LowAimed (after_records w e.number e.proc mid ps.closing) e.proc =
-      all-fine w e.number e.proc mid e.proc None ps.closing (omega arith) (each-behind RaisesLine w e.number e.proc (begun w e r) ps.own ps.closing (λ r' x rest more h. h) heard)
+      all-fine w e.number e.proc mid e.proc None ps.closing (omega arith)
+      (each-behind RaisesLine w e.number e.proc (begun w e r) ps.own ps.closing (λ r' x rest more h. h) heard)
       (closing-leave e.proc e.proc ps.closing ps.closes) (inl (λ is. final)) in
       subst (λ (k : ProcNo). LowAimed (behind_all w e r) k) (sym same)
-      (subst (λ (k : Readings). LowAimed k e.proc) (sym (records-append w e.number e.proc (begun w e r) ps.own ps.closing) ∙ ap (after_records w e.number e.proc (begun w e r)) ps.is) there)
+      (subst (λ (k : Readings). LowAimed k e.proc)
+      (sym (records-append w e.number e.proc (begun w e r) ps.own ps.closing) ∙ ap (after_records w e.number e.proc (begun w e r)) ps.is) there)
 
 low-next : (w : WorkloadView) (r : Readings) (e : Event) → LowAt w r → IsLawful fast_threads w r e → LowAt w (after_event is_inside w r e)
 low-next w r e at law = record {
-  procs = (let has = procs-records w e.number e.proc (begun w e r) e.records (procs-begun w e r at.procs) in record { owners = has.owners; aims = has.aims; lines = has.lines });
+  procs =
+      (let has = procs-records w e.number e.proc (begun w e r) e.records (procs-begun w e r at.procs) in
+      record { owners = has.owners; aims = has.aims; lines = has.lines });
   number = (let next = Rattle.sa_legal.proofs.MomentLemmas.number-next fast_threads w r e in omega arith);
   aimed = λ q within. aimed-event w r e q at law within;
 }
@@ -242,26 +251,32 @@ low-next w r e at law = record {
 pub low-first : (w : WorkloadView) (e : Event) → IsLawful fast_threads w (opening_readings w) e → LowAt w (after_event is_inside w (opening_readings w) e)
 low-first w e law =
     let start = opening_readings w in
-    let procs : HasProcs w start = record { owners = length-replicate w.processors None; aims = length-replicate w.processors None; lines = length-replicate w.processors None } in
+    let procs : HasProcs w start =
+    record { owners = length-replicate w.processors None; aims = length-replicate w.processors None; lines = length-replicate w.processors None } in
     let wanting = after_records w 0 (proc_no 0) start (first_wants w) in
     let records : e.records ≡ opening_records w = ap (λ (f : Event). f.records) (law.numbering.opening law.numbering.number) in
     record {
-      procs = (let has = procs-records w e.number e.proc (begun w e start) e.records (procs-begun w e start procs) in record { owners = has.owners; aims = has.aims; lines = has.lines });
+      procs =
+          (let has = procs-records w e.number e.proc (begun w e start) e.records (procs-begun w e start procs) in
+          record { owners = has.owners; aims = has.aims; lines = has.lines });
       number = (let next = Rattle.sa_legal.proofs.MomentLemmas.number-next fast_threads w start e in omega arith);
       aimed = λ q within.
           all-fine w e.number e.proc (begun w e start) q None e.records (let len = (procs-begun w e start procs).lines in omega arith) law.line_cause.heard
-          (subst (AllLeave e.proc q) (sym records) (leave-append e.proc q (first_wants w) (records_of 0 wanting.lines (aims_due w 0 wanting)) (wants-leave e.proc q (spaces_of w))
+          (subst (AllLeave e.proc q) (sym records)
+          (leave-append e.proc q (first_wants w) (records_of 0 wanting.lines (aims_due w 0 wanting)) (wants-leave e.proc q (spaces_of w))
           (aims-leave e.proc q 0 wanting.lines (aims_due w 0 wanting))))
           (inl (λ is. absent w.processors q.0 None ∙ sym (absent w.processors q.0 None)));
     }
 
-pub low-along : (w : WorkloadView) (r : Readings) (events : List Event) → LowAt w r → AreLawful fast_threads w r events → (n : ℕ) → LowAt w (after_events is_inside w r (take n events))
+pub low-along : (w : WorkloadView) (r : Readings) (events : List Event) → LowAt w r → AreLawful fast_threads w r events → (n : ℕ)
+    → LowAt w (after_events is_inside w r (take n events))
 low-along w r [] at law zero = at
 low-along w r [] at law (suc n) = at
 low-along w r (e ∷ es) at law zero = at
 low-along w r (e ∷ es) at law (suc n) = low-along w (after_event is_inside w r e) es (low-next w r e at law.0) law.1 n
 
-pub low-after : (w : WorkloadView) (events : List Event) → AreLawful fast_threads w (opening_readings w) events → (n : ℕ) (e : Event) → slice_get events n ≡ Some e
+pub low-after : (w : WorkloadView) (events : List Event) → AreLawful fast_threads w (opening_readings w) events → (n : ℕ) (e : Event)
+    → slice_get events n ≡ Some e
     → LowAt w (after_events is_inside w (opening_readings w) (take (n + 1) events))
 low-after w [] law n e at = absurd (none-some e at)
 low-after w (x ∷ xs) law n e at =

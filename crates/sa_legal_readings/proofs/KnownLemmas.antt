@@ -17,7 +17,6 @@ use Rattle.sa_devices.specs.Ios.{Io, due_of}
 use Rattle.sa_assign.specs.Aims.{Change, space_no}
 use Rattle.sa_assign.specs.Reaim.{records_of, proc_no}
 use Rattle.sa_laws.specs.Event.{Event}
-use Rattle.sa_laws.specs.State.{space_at}
 use Rattle.sa_laws.specs.Life.{Life}
 use Rattle.sa_laws.specs.Readings.{Readings, opening_readings, demand_of, load_of, untold_of, untold_thread, owner_of, running_of, life_on, line_of}
 use Rattle.sa_laws.specs.Record.{after_record}
@@ -45,7 +44,8 @@ no-load w r s sized past =
     ∙ ap (λ ns. 0 + sum_by (untold_thread r) ns) (get_or_past r.untold s.0 [] (omega arith))
 
 -- so nobody hints for it
-hint-within : (w : WorkloadView) (r : Readings) (s : SpaceNo) (n : ℕ) (life : Life) (lower : Bool) → IsSized w r → s ≡ life.space → CanHint lower w r life n → s.0 < length w.spaces
+hint-within : (w : WorkloadView) (r : Readings) (s : SpaceNo) (n : ℕ) (life : Life) (lower : Bool) → IsSized w r → s ≡ life.space → CanHint lower w r life n
+    → s.0 < length w.spaces
 hint-within w r s n life lower sized same can = elim (cases_lt s.0 (length w.spaces)) [
   | inl below ↦ below
   | inr past ↦ absurd (none lower can past)
@@ -93,7 +93,8 @@ wants-first k (suc m) e lines cs s n others is =
     let same : s ≡ space_no k = cc in
     let number = ap (λ (t : SpaceNo). t.0) same in omega arith
 
-pub first-want : (w : WorkloadView) (r : Readings) (e : Event) (s : SpaceNo) (n : ℕ) (others : List Record) → IsSized w (begun w e r) → IsLawful fast_threads w r e
+pub first-want : (w : WorkloadView) (r : Readings) (e : Event) (s : SpaceNo) (n : ℕ) (others : List Record) → IsSized w (begun w e r)
+    → IsLawful fast_threads w r e
     → e.records ≡ Want s n ∷ others → s.0 < length w.spaces
 first-want w r e s n others sized law is = one e.number refl where
   one : (k : ℕ) → e.number ≡ k → s.0 < length w.spaces
@@ -129,4 +130,5 @@ known-each w e p r (x ∷ xs) within first moves raises = (
 pub known-event : (w : WorkloadView) (r : Readings) (e : Event) → IsSized w (begun w e r) → IsLawful fast_threads w r e
     → EachRecord (Known w e.proc) w e.number e.proc (begun w e r) e.records
 known-event w r e sized law =
-    known-each w e.number e.proc (begun w e r) e.records law.numbering.proc (λ none s n others is. first-want w r e s n others sized law is) (moves-lives w r e law) law.line_cause.heard
+    known-each w e.number e.proc (begun w e r) e.records law.numbering.proc (λ none s n others is. first-want w r e s n others sized law is)
+    (moves-lives w r e law) law.line_cause.heard

@@ -4,7 +4,7 @@ use Rattle.std.specs.Prelude.{Option, Bool, ◌==◌, if◌then◌else◌, get_o
 use Rattle.std.proofs.lemmas.Bool.{cases_eq, cases_lt}
 use Rattle.std.proofs.lemmas.List.{get_or-set_same, get_or-set_other}
 use Rattle.sa_legal.proofs.MomentLemmas.{if-no, if-yes}
-use Rattle.sa_legal.proofs.ReadLemmas.{differ}
+use Rattle.sa_legal.proofs.ReadLemmas.{differ, set-said}
 use Rattle.sa_legal.proofs.SoundLemmas.{alike}
 
 -- a function may be taken out of a choice
@@ -17,17 +17,7 @@ pub none-said : {A : Type 0} (b : Bool) (y : A) → unwrap_or (if b then None el
 none-said true y = refl
 none-said false y = refl
 
--- a list that was set at one place
-pub set-said : {A : Type 0} (xs : List A) (i j : ℕ) (v d : A) → j < length xs → get_or (slice_set xs i v) j d ≡ unwrap_or (if i == j then Some v else None) (get_or xs j d)
-set-said xs i j v d within = elim (cases_eq i j) [
-  | inl same ↦
-      ap (λ n. get_or (slice_set xs n v) j d) same ∙ get_or-set_same xs j v d within
-      ∙ sym (ap (λ b. unwrap_or (if b then Some v else None) (get_or xs j d)) (alike i j same))
-  | inr apart ↦
-      get_or-set_other xs i j v d (λ e. apart (sym e)) ∙ sym (ap (λ b. unwrap_or (if b then Some v else None) (get_or xs j d)) (differ i j apart))
-]
-
--- .. also after the list, where its items may be absent
+-- A list was set at one place; a place after the list is read as one whose item is absent.
 pub set-absent : {A : Type 0} (xs : List (Option A)) (p q : ℕ) (v : Option A) → p < length xs
     → get_or (slice_set xs p v) q None ≡ unwrap_or (if p == q then Some v else None) (get_or xs q None)
 set-absent xs p q v within = elim (cases_lt q (length xs)) [

@@ -1,6 +1,6 @@
 -- At each moment after the opening of a legal run, the demand of a space covers its load, or a life of it is in, or something is untold to it.
 use Rattle.std.proofs.Common.{◌≡◌, ℕ, zero, suc, ◌+◌, ◌<◌, ◌≤◌, ◌⊎◌, inl, inr, refl, sym, ◌∙◌, ap, subst, arith, Some, None, List, [], ◌∷◌, ◌++◌, length, map, take}
-use Rattle.std.specs.Prelude.{Option, Bool, min, get_or, slice_set, slice_get, sum_by}
+use Rattle.std.specs.Prelude.{Option, min, get_or, slice_set, slice_get, sum_by}
 use Rattle.std.specs.List.{range_with_len}
 use Rattle.std.proofs.lemmas.Bool.{cases_eq}
 use Rattle.std.proofs.lemmas.List.{get_or-set_same, length-set}
@@ -15,7 +15,7 @@ use Rattle.sa_spaces.specs.Workload.{WorkloadView}
 use Rattle.sa_assign.specs.Aims.{Change, space_no}
 use Rattle.sa_assign.specs.Reaim.{records_of, line_at, lines_with, line_records, proc_no}
 use Rattle.sa_laws.specs.Event.{Event, events_of}
-use Rattle.sa_laws.specs.State.{SpaceState, space_at, active_threads, opening_space}
+use Rattle.sa_laws.specs.State.{space_at, active_threads, opening_space}
 use Rattle.sa_laws.specs.Readings.{Readings, opening_readings, demand_of, untold_thread, load_of, usable}
 use Rattle.sa_laws.specs.Record.{after_record}
 use Rattle.sa_laws.specs.History.{is_inside, begun, behind_all, after_records, after_event, after_events}
@@ -24,6 +24,7 @@ use Rattle.sa_laws.specs.Opening.{first_wants, opening_records}
 use Rattle.sa_laws.specs.Rules.{IsLawful, fast_threads}
 use Rattle.sa_legal.specs.Fold.{AreLawful}
 use Rattle.sa_laws.specs.Legal.{IsLegal}
+use Rattle.sa_laws.proofs.Records.{records-append}
 use Rattle.sa_legal.proofs.EventLemmas.{legal-lawful}
 use Rattle.sa_legal.proofs.StandingLemmas.{Standing, standing_after}
 use Rattle.sa_legal.proofs.MovesLemmas.{moves-lives, stood, agrees-start, agrees-ended, nowhere_first}
@@ -33,14 +34,14 @@ use Rattle.sa_legal_readings.proofs.ApartLemmas.{IsApart, apart-step, none-in}
 use Rattle.sa_legal_readings.proofs.PassLemmas.{Goes}
 use Rattle.sa_legal_readings.proofs.FineLemmas.{Fine}
 use Rattle.sa_legal_readings.proofs.CoverLemmas.{IsCovered, begun-apart, event-fine}
-use Rattle.sa_legal.proofs.AppendLemmas.{records-append}
 
 -- no note is untold to two spaces, from event to event
 pub record StaysApart (r : Readings) : Type 0 where
   pub st : ℕ → Standing
   pub apart : IsApart st r []
 
-apart-all : (w : WorkloadView) (e : ℕ) (p : ProcNo) (st : ℕ → Standing) (r : Readings) (xs : List Record) → IsApart st r xs → Goes w e p r xs → StaysApart (after_records w e p r xs)
+apart-all : (w : WorkloadView) (e : ℕ) (p : ProcNo) (st : ℕ → Standing) (r : Readings) (xs : List Record) → IsApart st r xs → Goes w e p r xs
+    → StaysApart (after_records w e p r xs)
 apart-all w e p st r [] apart goes = record { st = st; apart = apart }
 apart-all w e p st r (x ∷ xs) apart goes =
     let was = stood w p st r x xs apart.agrees goes.moves.0 in
@@ -71,7 +72,8 @@ apart-start w = record {
     told = λ telling. absurd (cc);
   };
 } where
-  none-at : (n k : ℕ) {z : Rattle.sa_base.specs.declared.record.Note.Note} → Rattle.std.specs.Prelude.Contains (get_or (Rattle.std.specs.Prelude.replicate n []) k []) z → ⊥
+  none-at : (n k : ℕ) {z : Rattle.sa_base.specs.declared.record.Note.Note}
+      → Rattle.std.specs.Prelude.Contains (get_or (Rattle.std.specs.Prelude.replicate n []) k []) z → ⊥
   none-at zero k has = let h = has in omega (arith, h.1)
   none-at (suc n) zero has = let h = has in omega (arith, h.1)
   none-at (suc n) (suc k) has = none-at n k has
@@ -95,7 +97,9 @@ aims-line p (Some e) = tt
 
 aims-of : (e : ℕ) (lines : List (Option ℕ)) (cs : List Change) → AllAims (records_of e lines cs)
 aims-of e lines [] = tt
-aims-of e lines (c ∷ cs) = aims-append (line_records c.proc (line_at lines c.proc)) (records_of e (lines_with e lines c) cs) (aims-line c.proc (line_at lines c.proc)) (aims-of e (lines_with e lines c) cs)
+aims-of e lines (c ∷ cs) =
+    aims-append (line_records c.proc (line_at lines c.proc)) (records_of e (lines_with e lines c) cs) (aims-line c.proc (line_at lines c.proc))
+    (aims-of e (lines_with e lines c) cs)
 
 pub record SameWants (r c : Readings) : Type 0 where
   pub demands : c.demands ≡ r.demands
@@ -103,7 +107,8 @@ pub record SameWants (r c : Readings) : Type 0 where
 
 aims-same : (w : WorkloadView) (e : ℕ) (p : ProcNo) (r : Readings) (xs : List Record) → AllAims xs → SameWants r (after_records w e p r xs)
 aims-same w e p r [] all = record { demands = refl; state = refl }
-aims-same w e p r (Aim q s ∷ xs) all = let more = aims-same w e p (after_record w e p r (Aim q s)) xs all in record { demands = more.demands; state = more.state }
+aims-same w e p r (Aim q s ∷ xs) all =
+    let more = aims-same w e p (after_record w e p r (Aim q s)) xs all in record { demands = more.demands; state = more.state }
 aims-same w e p r (Line q ∷ xs) all = let more = aims-same w e p (after_record w e p r (Line q)) xs all in record { demands = more.demands; state = more.state }
 aims-same w e p r (x ∷ xs) all = absurd all
 
@@ -118,7 +123,8 @@ still-one (d ∷ ds) zero (suc j) some = some
 still-one (d ∷ ds) (suc i) zero some = some
 still-one (d ∷ ds) (suc i) (suc j) some = still-one ds i j some
 
-wants-demand : (w : WorkloadView) (e : ℕ) (p : ProcNo) (k m : ℕ) (r : Readings) (s : SpaceNo) → s.0 < length r.demands → ((k ≤ s.0) × (s.0 < k + m)) ⊎ (1 ≤ demand_of r s)
+wants-demand : (w : WorkloadView) (e : ℕ) (p : ProcNo) (k m : ℕ) (r : Readings) (s : SpaceNo) → s.0 < length r.demands
+    → ((k ≤ s.0) × (s.0 < k + m)) ⊎ (1 ≤ demand_of r s)
     → 1 ≤ demand_of (after_records w e p r (map want_one (map space_no (range_with_len k m)))) s
 wants-demand w e p k zero r s long (inl due) = absurd (let a = due.0 in let b = due.1 in omega arith)
 wants-demand w e p k zero r s long (inr some) = some
@@ -127,7 +133,8 @@ wants-demand w e p k (suc m) r s long state =
   where
     next : ((k ≤ s.0) × (s.0 < k + suc m)) ⊎ (1 ≤ demand_of r s) → ((k + 1 ≤ s.0) × (s.0 < k + 1 + m)) ⊎ (1 ≤ get_or (slice_set r.demands k 1) s.0 0)
     next (inl due) = elim (cases_eq s.0 k) [
-      | inl same ↦ inr (let there = ap (λ n. get_or (slice_set r.demands n 1) s.0 0) (sym same) ∙ get_or-set_same r.demands s.0 1 0 long in omega (arith, there))
+      | inl same ↦
+          inr (let there = ap (λ n. get_or (slice_set r.demands n 1) s.0 0) (sym same) ∙ get_or-set_same r.demands s.0 1 0 long in omega (arith, there))
       | inr apart ↦ inl ((let a = due.0 in omega (arith, apart, a)), (let b = due.1 in omega arith))
     ]
     next (inr some) = inr (still-one r.demands k s.0 some)
@@ -136,7 +143,8 @@ one-active : (def : SpaceView) → active_threads (opening_space def) ≡ 1
 one-active def = refl
 
 open-active : (defs : List SpaceView) (k : ℕ)
-    → active_threads (get_or (map opening_space defs) k (record { threads = []; sync = Rattle.sa_sync.specs.Sync.opening Rattle.sa_laws.specs.State.no_space })) ≤ 1
+    → active_threads (get_or (map opening_space defs) k
+    (record { threads = []; sync = Rattle.sa_sync.specs.Sync.opening Rattle.sa_laws.specs.State.no_space })) ≤ 1
 open-active [] k = omega arith
 open-active (def ∷ defs) zero = let one = one-active def in omega (arith, one)
 open-active (def ∷ defs) (suc k) = open-active defs k
@@ -151,8 +159,10 @@ first-fine w e law s within =
     let records : e.records ≡ opening_records w = ap (λ (f : Event). f.records) (law.numbering.opening law.numbering.number) in
     let long : length (begun w e (opening_readings w)).demands ≡ length w.spaces = Rattle.std.proofs.lemmas.List.length-replicate (length w.spaces) 0 in
     let wants = wants-demand w e.number e.proc 0 (length w.spaces) (begun w e (opening_readings w)) s (omega arith) (inl (omega arith, omega arith)) in
-    let same = aims-same w e.number e.proc (after_records w e.number e.proc (begun w e (opening_readings w)) (first_wants w)) (records_of 0 wanting.lines (aims_due w 0 wanting)) (aims-of 0 wanting.lines (aims_due w 0 wanting)) in
-    let whole : behind_all w e (opening_readings w) ≡ after_records w e.number e.proc (after_records w e.number e.proc (begun w e (opening_readings w)) (first_wants w)) (records_of 0 wanting.lines (aims_due w 0 wanting)) =
+    let same = aims-same w e.number e.proc (after_records w e.number e.proc (begun w e (opening_readings w)) (first_wants w))
+    (records_of 0 wanting.lines (aims_due w 0 wanting)) (aims-of 0 wanting.lines (aims_due w 0 wanting)) in
+    let whole : behind_all w e (opening_readings w) ≡ after_records w e.number e.proc
+    (after_records w e.number e.proc (begun w e (opening_readings w)) (first_wants w)) (records_of 0 wanting.lines (aims_due w 0 wanting)) =
     ap (after_records w e.number e.proc (begun w e (opening_readings w))) records
     ∙ records-append w e.number e.proc (begun w e (opening_readings w)) (first_wants w) (records_of 0 wanting.lines (aims_due w 0 wanting)) in
     let demand : 1 ≤ demand_of (behind_all w e (opening_readings w)) s =
@@ -161,13 +171,16 @@ first-fine w e law s within =
     ap (λ (k : Readings). k.state) whole ∙ same.state ∙ wants-state w e.number e.proc (begun w e (opening_readings w)) (spaces_of w) in
     let active : active_threads (space_at (behind_all w e (opening_readings w)).state s) ≤ 1 =
     subst (λ a. active_threads (space_at a s) ≤ 1) (sym state) (open-active w.spaces s.0) in
-    inr (inr (min-one w.processors (active_threads (space_at (behind_all w e (opening_readings w)).state s)) (demand_of (behind_all w e (opening_readings w)) s) active demand))
+    inr
+    (inr (min-one w.processors (active_threads (space_at (behind_all w e (opening_readings w)).state s))
+    (demand_of (behind_all w e (opening_readings w)) s) active demand))
 
 -- at each moment after the opening
 abbrev FineAll : WorkloadView → Readings → Type 0
 FineAll w r = (s : SpaceNo) → s.0 < length w.spaces → Fine w r r.lives s
 
-fine-along : (w : WorkloadView) (es : List Event) (r : Readings) (events : List Event) → IsReadAfter w es r → StaysApart r → 1 ≤ r.number → FineAll w r → AreLawful fast_threads w r events → (n : ℕ)
+fine-along : (w : WorkloadView) (es : List Event) (r : Readings) (events : List Event) → IsReadAfter w es r → StaysApart r → 1 ≤ r.number → FineAll w r
+    → AreLawful fast_threads w r events → (n : ℕ)
     → FineAll w (after_events is_inside w r (take n events))
 fine-along w es r [] read apart later fine law zero = fine
 fine-along w es r [] read apart later fine law (suc n) = fine
@@ -184,13 +197,16 @@ fine-at : (w : WorkloadView) (events : List Event) → AreLawful fast_threads w 
 fine-at w [] law n e at = absurd (none-some e at)
 fine-at w (x ∷ xs) law n e at =
     fine-along w ([] ++ x ∷ []) (after_event is_inside w (opening_readings w) x) xs (after-next w [] (opening_readings w) x (after-start w) law.0)
-    (apart-next w (opening_readings w) x (apart-start w) law.0) (let next = Rattle.sa_legal.proofs.MomentLemmas.number-next fast_threads w (opening_readings w) x in omega arith)
+    (apart-next w (opening_readings w) x (apart-start w) law.0)
+    (let next = Rattle.sa_legal.proofs.MomentLemmas.number-next fast_threads w (opening_readings w) x in omega arith)
     (first-fine w x law.0) law.1 n
 
 covers-load : (w : WorkloadView) (r : Readings) → FineAll w r → DemandCoversLoad w r
 covers-load w r fine s within none untold = one (fine s within) where
   load : load_of r s ≡ active_threads (space_at r.state s)
-  load = ap (λ ns. active_threads (space_at r.state s) + sum_by (untold_thread r) ns) untold ∙ (let zero_sum : active_threads (space_at r.state s) + 0 ≡ active_threads (space_at r.state s) = omega arith in zero_sum)
+  load =
+      ap (λ ns. active_threads (space_at r.state s) + sum_by (untold_thread r) ns) untold
+      ∙ (let zero_sum : active_threads (space_at r.state s) + 0 ≡ active_threads (space_at r.state s) = omega arith in zero_sum)
 
   one : Fine w r r.lives s → usable w r s ≤ demand_of r s
   one (inl (a, life, is, of, inside)) = absurd (let clash = sym inside ∙ none (record { 0 = a }) life is of in cc)
@@ -200,4 +216,5 @@ covers-load w r fine s within none untold = one (fine s within) where
 pub demands-cover-loads : (w : WorkloadView) (items : List Item) → IsLegal fast_threads w items → DemandsCoverLoads w items
 demands-cover-loads w items legal n e at =
     subst (λ k. DemandCoversLoad w (after_events is_inside w (opening_readings w) (take k (events_of items)))) (let k : suc n ≡ n + 1 = omega arith in k)
-    (covers-load w (after_events is_inside w (opening_readings w) (take (suc n) (events_of items))) (fine-at w (events_of items) (legal-lawful fast_threads w items legal) n e at))
+    (covers-load w (after_events is_inside w (opening_readings w) (take (suc n) (events_of items)))
+    (fine-at w (events_of items) (legal-lawful fast_threads w items legal) n e at))

@@ -2,7 +2,7 @@
 use Rattle.std.proofs.Common.{◌≡◌, ◌≢◌, ℕ, ◌<◌, ◌⊎◌, inl, inr, refl, sym, ◌∙◌, ap, subst, Some, None, List, [], ◌∷◌, ◌++◌, length, true, false}
 use Rattle.std.specs.Prelude.{Option, Bool, not, if◌then◌else◌, get_or, slice_set}
 use Rattle.std.proofs.lemmas.Bool.{cases_eq}
-use Rattle.std.proofs.lemmas.List.{get_or-set_same, get_or-set_other, length-set}
+use Rattle.std.proofs.lemmas.List.{get_or-set_same, get_or-set_other}
 use Rattle.std.proofs.lemmas.Option.{none-some}
 use Rattle.sa_base.specs.declared.number.SpaceNo.{SpaceNo}
 use Rattle.sa_base.specs.declared.number.ProcNo.{ProcNo}
@@ -10,10 +10,11 @@ use Rattle.sa_base.specs.declared.record.Record.{Record}
 use Rattle.sa_base.specs.declared.record.Record.TheVariants.{Move, Aim, Line}
 use Rattle.sa_spaces.specs.Workload.{WorkloadView}
 use Rattle.sa_laws.specs.Readings.{Readings, owner_of, aim_of, line_of}
-use Rattle.sa_laws.specs.Record.{after_record, lines_after}
+use Rattle.sa_laws.specs.Record.{after_record}
 use Rattle.sa_laws.specs.History.{after_records}
 use Rattle.sa_laws.specs.Shape.{is_other_line, before_lines}
 use Rattle.sa_laws.specs.Upcalls.{EachRecord, RaisesLine, BeginsWithLine}
+use Rattle.sa_laws.proofs.Lengths.{lines-length}
 use Rattle.sa_legal.proofs.ReadLemmas.{owners-changed}
 use Rattle.sa_legal.proofs.SoundLemmas.{alike}
 
@@ -42,7 +43,8 @@ AllLeave p q (x ∷ xs) = Leaves p q x × AllLeave p q xs
 raised-now : (lines : List (Option ℕ)) (q e : ℕ) → q < length lines → get_or (slice_set lines q (Some e)) q None ≡ None → ⊥
 raised-now lines q e within low = none-some e (sym low ∙ get_or-set_same lines q (Some e) None within)
 
-fine-line : (w : WorkloadView) (e : ℕ) (p : ProcNo) (r : Readings) (q t : ProcNo) (last : Option Record) (xs : List Record) → q.0 < length r.lines → Fine r q last (Line t ∷ xs)
+fine-line : (w : WorkloadView) (e : ℕ) (p : ProcNo) (r : Readings) (q t : ProcNo) (last : Option Record) (xs : List Record) → q.0 < length r.lines
+    → Fine r q last (Line t ∷ xs)
     → LowAimed (after_record w e p r (Line t)) q
 fine-line w e p r q t last xs within fine low = elim (cases_eq q.0 t.0) [
   | inl same ↦ absurd (raised-now r.lines q.0 e within (subst (λ n. get_or (slice_set r.lines n (Some e)) q.0 None ≡ None) (sym same) low))
@@ -52,7 +54,8 @@ fine-line w e p r q t last xs within fine low = elim (cases_eq q.0 t.0) [
   one (inl ok) is apart = ok is
   one (inr awaits) is apart = absurd (apart (ap (λ (k : ProcNo). k.0) (sym awaits.next)))
 
-fine-aim : (w : WorkloadView) (e : ℕ) (p : ProcNo) (r : Readings) (q t : ProcNo) (s : SpaceNo) (xs : List Record) → (line_of r t ≡ None → BeginsWithLine t xs) → LowAimed r q
+fine-aim : (w : WorkloadView) (e : ℕ) (p : ProcNo) (r : Readings) (q t : ProcNo) (s : SpaceNo) (xs : List Record) → (line_of r t ≡ None → BeginsWithLine t xs)
+    → LowAimed r q
     → Fine (after_record w e p r (Aim t (Some s))) q (Some (Aim t (Some s))) xs
 fine-aim w e p r q t s xs heard ok = elim (cases_eq q.0 t.0) [
   | inl same ↦ (let is : t ≡ q = ap (λ n. record { 0 = n }) (sym same) in one is (line_of r q) refl)
@@ -70,17 +73,15 @@ no-line : (q : ProcNo) (x : Record) (xs : List Record) → ((t : ProcNo) → x �
 no-line q (Line t) xs other next = other t refl
 no-line q x xs other next = next
 
-pub lines-length : (e : ℕ) (lines : List (Option ℕ)) (x : Record) → length (lines_after e lines x) ≡ length lines
-lines-length e lines (Line q) = length-set lines q.0 (Some e)
-lines-length e lines x = refl
-
 -- one record
-pub fine-step : (w : WorkloadView) (e : ℕ) (p : ProcNo) (r : Readings) (q : ProcNo) (last : Option Record) (x : Record) (xs : List Record) → q.0 < length r.lines → RaisesLine r x xs → Leaves p q x
+pub fine-step : (w : WorkloadView) (e : ℕ) (p : ProcNo) (r : Readings) (q : ProcNo) (last : Option Record) (x : Record) (xs : List Record)
+    → q.0 < length r.lines → RaisesLine r x xs → Leaves p q x
     → Fine r q last (x ∷ xs) → Fine (after_record w e p r x) q (Some x) xs
 fine-step w e p r q last (Line t) xs within heard leaves fine = inl (fine-line w e p r q t last xs within fine)
 fine-step w e p r q last (Aim t (Some s)) xs within heard leaves (inl ok) = fine-aim w e p r q t s xs heard.line ok
 fine-step w e p r q last (Aim t (Some s)) xs within heard leaves (inr awaits) = absurd awaits.next
-fine-step w e p r q last (Aim t None) xs within heard leaves (inl ok) = inl (λ low. get_or-set_other r.aims t.0 q.0 None None (λ same. leaves (sym same)) ∙ ok low)
+fine-step w e p r q last (Aim t None) xs within heard leaves (inl ok) =
+    inl (λ low. get_or-set_other r.aims t.0 q.0 None None (λ same. leaves (sym same)) ∙ ok low)
 fine-step w e p r q last (Aim t None) xs within heard leaves (inr awaits) = absurd awaits.next
 fine-step w e p r q last (Move old new) xs within heard leaves (inl ok) = inl (λ low. ok low ∙ sym (get_or-set_other r.state.owners p.0 q.0 new None leaves))
 fine-step w e p r q last (Move old new) xs within heard leaves (inr awaits) = absurd awaits.next
@@ -88,7 +89,8 @@ fine-step w e p r q last x xs within heard leaves (inl ok) = inl (λ low. ok low
 fine-step w e p r q last x xs within heard leaves (inr awaits) = absurd awaits.next
 
 -- up to the first other line
-pub front-fine : (w : WorkloadView) (e : ℕ) (p : ProcNo) (r : Readings) (q : ProcNo) (last : Option Record) (xs : List Record) → q.0 < length r.lines → EachRecord RaisesLine w e p r xs
+pub front-fine : (w : WorkloadView) (e : ℕ) (p : ProcNo) (r : Readings) (q : ProcNo) (last : Option Record) (xs : List Record) → q.0 < length r.lines
+    → EachRecord RaisesLine w e p r xs
     → AllLeave p q xs → Fine r q last xs → LowAimed (after_records w e p r (before_lines last xs)) q
 front-fine w e p r q last [] within heard leaves (inl ok) = ok
 front-fine w e p r q last [] within heard leaves (inr awaits) = absurd awaits.next
@@ -98,7 +100,8 @@ front-fine w e p r q last (x ∷ xs) within heard leaves fine =
     (fine-step w e p r q last x xs within heard.0 leaves.0 fine)) where
       clash : (y : Record) → AwaitsLine r q last (y ∷ xs) → is_other_line last y ≡ true → ⊥
       clash (Line t) awaits is =
-          let follows : is_other_line (Some (Aim q (Some awaits.space))) (Line t) ≡ false = ap not (alike q.0 t.0 (ap (λ (k : ProcNo). k.0) (sym awaits.next))) in
+          let follows : is_other_line (Some (Aim q (Some awaits.space))) (Line t) ≡ false =
+          ap not (alike q.0 t.0 (ap (λ (k : ProcNo). k.0) (sym awaits.next))) in
           let both = sym follows ∙ ap (λ (o : Option Record). is_other_line o (Line t)) (sym awaits.last_is) ∙ is in absurd (cc)
       clash y awaits is = absurd awaits.next
 
@@ -111,7 +114,8 @@ front-fine w e p r q last (x ∷ xs) within heard leaves fine =
       one true other rest = stops fine other
       one false goes rest = rest
 
-pub each-behind : (L : Rattle.sa_laws.specs.Upcalls.RecordLaw) (w : WorkloadView) (e : ℕ) (p : ProcNo) (r : Readings) (xs ys : List Record) → ((r' : Readings) (x : Record) (rest more : List Record) → L r' x rest → L r' x rest)
+pub each-behind : (L : Rattle.sa_laws.specs.Upcalls.RecordLaw) (w : WorkloadView) (e : ℕ) (p : ProcNo) (r : Readings) (xs ys : List Record)
+    → ((r' : Readings) (x : Record) (rest more : List Record) → L r' x rest → L r' x rest)
     → EachRecord L w e p r (xs ++ ys) → EachRecord L w e p (after_records w e p r xs) ys
 each-behind L w e p r [] ys same each = each
 each-behind L w e p r (x ∷ xs) ys same each = each-behind L w e p (after_record w e p r x) xs ys same each.1

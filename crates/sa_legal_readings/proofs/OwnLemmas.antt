@@ -38,7 +38,8 @@ is_odd Tick = true
 is_odd _ = false
 
 -- no turn of a processor with a running life begins with one
-odd-interrupt : (p : ProcNo) (r : Readings) (o : SpaceNo) (aim : Option SpaceNo) (x : Record) (others : List Record) → is_odd x ≡ true → StopsAndGoes p r (Some o) aim (x ∷ others) → ⊥
+odd-interrupt : (p : ProcNo) (r : Readings) (o : SpaceNo) (aim : Option SpaceNo) (x : Record) (others : List Record) → is_odd x ≡ true
+    → StopsAndGoes p r (Some o) aim (x ∷ others) → ⊥
 odd-interrupt p r o aim (Out s t v) others odd is = is
 odd-interrupt p r o aim (Up s a) others odd is = is
 odd-interrupt p r o aim (Told n) others odd is = is
@@ -60,7 +61,8 @@ odd-local : (w : WorkloadView) (r : Readings) (x : Record) (others : List Record
 odd-local w r (Ins s t i) others odd is = absurd (cc)
 odd-local w r x others odd is = is
 
-odd-step : (w : WorkloadView) (r : Readings) (p : ProcNo) (a : Option ActNo) (life : Option Life) (x : Record) (others : List Record) → is_odd x ≡ true → StepIn w r p a life (x ∷ others) → ⊥
+odd-step : (w : WorkloadView) (r : Readings) (p : ProcNo) (a : Option ActNo) (life : Option Life) (x : Record) (others : List Record) → is_odd x ≡ true
+    → StepIn w r p a life (x ∷ others) → ⊥
 odd-step w r p (Some a) (Some life) (Out s t v) others odd is = absurd (cc)
 odd-step w r p (Some a) (Some life) (Up s b) others odd is = absurd (cc)
 odd-step w r p (Some a) (Some life) (Told n) others odd is = absurd (cc)
@@ -100,7 +102,8 @@ has-space : (o : Option Life) (life : Life) → o ≡ Some life → option_map (
 has-space o life is = ap (option_map (λ (l : Life). l.space)) is
 
 -- so the first record of an event with a running life is none of them
-no-odd : (w : WorkloadView) (r : Readings) (e : Event) (a : ActNo) (life : Life) (x : Record) (others : List Record) → IsLawful fast_threads w r e → OwnedByLives r → 1 ≤ e.number
+no-odd : (w : WorkloadView) (r : Readings) (e : Event) (a : ActNo) (life : Life) (x : Record) (others : List Record) → IsLawful fast_threads w r e
+    → OwnedByLives r → 1 ≤ e.number
     → running_of r e.proc ≡ Some a → life_of r a ≡ Some life → e.records ≡ x ∷ others → is_odd x ≡ true → ⊥
 no-odd w r e a life x others law owned later runs is records odd = one (is_some (line_of r e.proc)) refl where
   owner : owner_of r e.proc ≡ Some life.space
@@ -153,7 +156,8 @@ first-none : (past : List Item) (r : Readings) (p : ProcNo) → Until past r.num
 first-none [] r p until zero_number = refl
 first-none (x ∷ xs) r p until zero_number = absurd (let early = until 0 x refl in omega arith)
 
-pub own-event : (w : WorkloadView) (past : List Item) (r : Readings) (e : Event) → IsRead w past r → Until past r.number → OwnedByLives r → IsLawful fast_threads w r e
+pub own-event : (w : WorkloadView) (past : List Item) (r : Readings) (e : Event) → IsRead w past r → Until past r.number → OwnedByLives r
+    → IsLawful fast_threads w r e
     → stepper r e e.records ≡ stepping past e
 own-event w past r e read until owned law = by_records e.records refl where
   runs : running_of r e.proc ≡ runs_on past e.proc
@@ -164,7 +168,8 @@ own-event w past r e read until owned law = by_records e.records refl where
   by_life x others records None none = same-none (is_step x) (begins_otherwise (x ∷ others)) (running_of r e.proc) none
   by_life x others records (Some a) is =
       let there = read.agrees.running e.proc a is in
-      let life = Rattle.sa_legal_readings.proofs.TrackLemmas.life-at w past r a there.0 (Rattle.sa_legal.proofs.StandingLemmas.Runs there.0 e.proc) read there.1 refl in
+      let life = Rattle.sa_legal_readings.proofs.TrackLemmas.life-at w past r a there.0
+      (Rattle.sa_legal.proofs.StandingLemmas.Runs there.0 e.proc) read there.1 refl in
       let later : 1 ≤ e.number = number e.number refl a is in
       if-not (is_step x) (begins_otherwise (x ∷ others)) (running_of r e.proc) None
       (step-or x others (λ odd. no-odd w r e a life.0 x others law owned later is life.1 records odd))

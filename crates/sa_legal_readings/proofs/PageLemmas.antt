@@ -2,7 +2,7 @@
 use Rattle.std.proofs.Common.{◌≡◌, ◌≢◌, ◌-◌, ◌^◌, eqb, ℕ, ◌<◌, inl, inr, refl, sym, ◌∙◌, ap, arith, Some, None, List, [], ◌∷◌, length, true, false}
 use Rattle.std.specs.Prelude.{Option, Bool, ◌==◌, ◌&&◌, ◌||◌, not, if◌then◌else◌, get_or, slice_set, All}
 use Rattle.std.specs.List.{list_any}
-use Rattle.std.proofs.lemmas.Bool.{cases_eq}
+use Rattle.std.proofs.lemmas.Bool.{cases_eq, and_from, and_left, and_right}
 use Rattle.std.proofs.lemmas.List.{get_or-set_same, get_or-set_other, length-set}
 use Rattle.std.proofs.lemmas.List.Elements.{All-head, All-tail}
 use Rattle.std.proofs.lemmas.Nat.Bits.{bit_at_ones}
@@ -27,18 +27,6 @@ use Rattle.sa_legal.proofs.SoundLemmas.{alike}
 abbrev pub has_at : List ℕ → ℕ → ℕ → Bool
 has_at pages s k = has_page (get_or pages s 0) k
 
-both : (a b : Bool) → a ≡ true → b ≡ true → (a && b) ≡ true
-both true b is also = also
-both false b is also = absurd (cc)
-
-not-left : (a b : Bool) → a ≡ false → (a && b) ≡ false
-not-left false b is = refl
-not-left true b is = absurd (cc)
-
-not-right : (a b : Bool) → b ≡ false → (a && b) ≡ false
-not-right false b is = refl
-not-right true b is = is
-
 -- a list of pages, one page of which is changed in one space
 pub change-page : (f : ℕ → ℕ → ℕ) (v : Bool) (pages : List ℕ) (t j s k : ℕ) → s < length pages
     → ((bits : ℕ) → j ≡ k → has_page (f bits j) k ≡ v) → ((bits : ℕ) → k ≢ j → has_page (f bits j) k ≡ has_page bits k)
@@ -50,16 +38,16 @@ change-page f v pages t j s k within same other = elim (cases_eq t s) [
       ∙ elim (cases_eq j k) [
         | inl page ↦ (
             same (get_or pages s 0) page
-            ∙ sym (ap (λ b. if b then v else has_at pages s k) (both (t == s) (j == k) (alike t s at) (alike j k page)))
+            ∙ sym (ap (λ b. if b then v else has_at pages s k) (and_from (t == s) (j == k) (alike t s at) (alike j k page)))
             )
         | inr apart ↦ (
             other (get_or pages s 0) (λ e. apart (sym e))
-            ∙ sym (ap (λ b. if b then v else has_at pages s k) (not-right (t == s) (j == k) (differ j k apart)))
+            ∙ sym (ap (λ b. if b then v else has_at pages s k) (and_right (t == s) (j == k) (differ j k apart)))
             )
       ]
   | inr apart ↦
       ap (λ bits. has_page bits k) (get_or-set_other pages t s (f (get_or pages t 0) j) 0 (λ e. apart (sym e)))
-      ∙ sym (ap (λ b. if b then v else has_at pages s k) (not-left (t == s) (j == k) (differ t s apart)))
+      ∙ sym (ap (λ b. if b then v else has_at pages s k) (and_left (t == s) (j == k) (differ t s apart)))
 ]
 
 pub come-more : (pages : List ℕ) (t j s k : ℕ) → s < length pages → k < 16 → has_at (come pages t j) s k ≡ (if t == s && j == k then true else has_at pages s k)
@@ -67,7 +55,8 @@ come-more pages t j s k within few = change-page with_page true pages t j s k wi
     (λ bits e. ap (λ n. has_page (with_page bits n) k) e ∙ has_page-with_same bits k few)
     (λ bits apart. has_page-with_other bits j k apart)
 
-pub gone-more : (pages : List ℕ) (t j s k : ℕ) → s < length pages → j < 16 → k < 16 → has_at (gone pages t j) s k ≡ (if t == s && j == k then false else has_at pages s k)
+pub gone-more : (pages : List ℕ) (t j s k : ℕ) → s < length pages → j < 16 → k < 16
+    → has_at (gone pages t j) s k ≡ (if t == s && j == k then false else has_at pages s k)
 gone-more pages t j s k within small few = change-page without_page false pages t j s k within
     (λ bits e. ap (λ n. has_page (without_page bits n) k) e ∙ has_page-without_same bits k few)
     (λ bits apart. has_page-without_other bits j k small few apart)
@@ -87,7 +76,8 @@ choose-and true b x y z = refl
 choose-and false b x y z = refl
 
 evict-one : (event : ℕ) (e : Evict) (pages : List ℕ) (s : SpaceNo) (k : ℕ) → e.page < 16 → s.0 < length pages → k < 16
-    → (b : Bool) → has_at (if b then gone pages e.space.0 e.page else pages) s.0 k ≡ (if b && (e.space.0 == s.0 && e.page == k) then false else has_at pages s.0 k)
+    → (b : Bool)
+    → has_at (if b then gone pages e.space.0 e.page else pages) s.0 k ≡ (if b && (e.space.0 == s.0 && e.page == k) then false else has_at pages s.0 k)
 evict-one event e pages s k small within few true = gone-more pages e.space.0 e.page s.0 k within small few
 evict-one event e pages s k small within few false = refl
 
@@ -102,12 +92,9 @@ evicted-more event (e ∷ es) pages s k small within few =
     let left = if e.event == event then gone pages e.space.0 e.page else pages in
     let same : length left ≡ length pages = if-length (e.event == event) pages e.space.0 e.page in
     evicted-more event es left s k (All-tail IsSmall e es small) (omega arith) few
-    ∙ ap (λ b. if list_any (names_page event s k) es then false else b) (evict-one event e pages s k (All-head IsSmall e es small) within few (e.event == event))
+    ∙ ap (λ b. if list_any (names_page event s k) es then false else b)
+    (evict-one event e pages s k (All-head IsSmall e es small) within few (e.event == event))
     ∙ choose (names_page event s k e) (list_any (names_page event s k) es) (has_at pages s.0 k)
-
-pub evicted-length : (event : ℕ) (es : List Evict) (pages : List ℕ) → length (evicted event es pages) ≡ length pages
-evicted-length event [] pages = refl
-evicted-length event (e ∷ es) pages = evicted-length event es _ ∙ if-length (e.event == event) pages e.space.0 e.page
 
 -- the completions
 over-more : (pages : List ℕ) (o : Option Io) (s : SpaceNo) (k : ℕ) → s.0 < length pages → k < 16
@@ -145,7 +132,8 @@ pages-length r x = over-length r.pages (io_over r x)
 all-pages : (k : ℕ) → k < 16 → has_page (2 ^ 16 - 1) k ≡ true
 all-pages k few = ap (λ (n : ℕ). eqb n 1) (bit_at_ones 16 k few)
 
-pub absent-more : (ks : List ℕ) (bits k : ℕ) → All (λ page. page < 16) ks → k < 16 → has_page (without_pages bits ks) k ≡ (if list_any (λ j. j == k) ks then false else has_page bits k)
+pub absent-more : (ks : List ℕ) (bits k : ℕ) → All (λ page. page < 16) ks → k < 16
+    → has_page (without_pages bits ks) k ≡ (if list_any (λ j. j == k) ks then false else has_page bits k)
 absent-more [] bits k small few = refl
 absent-more (j ∷ js) bits k small few =
     absent-more js (without_page bits j) k (All-tail (λ page. page < 16) j js small) few

@@ -1,6 +1,6 @@
 -- What the records of an event leave of a space that they do not concern.
 use Rattle.std.proofs.Common.{◌≡◌, ◌≢◌, ℕ, zero, suc, ◌≤◌, inl, inr, refl, sym, ◌∙◌, ap, subst, arith, Some, None, List, [], ◌∷◌, ◌++◌, length, true, false}
-use Rattle.std.specs.Prelude.{Option, Bool, if◌then◌else◌, Contains, get_or, slice_set, count_by, not, ◌==◌, filter, map, nat_lt}
+use Rattle.std.specs.Prelude.{Option, Bool, if◌then◌else◌, Contains, get_or, slice_set, count_by, not, nat_lt}
 use Rattle.std.specs.Option.{option_map}
 use Rattle.std.proofs.lemmas.Bool.{cases_eq}
 use Rattle.std.proofs.lemmas.List.Sums.{sum_by-cons, sum_by-append}
@@ -24,7 +24,7 @@ use Rattle.sa_sync.specs.declared.answer.SyncAnswer.TheVariants as answer
 use Rattle.sa_sync.specs.Calls.{Change}
 use Rattle.sa_laws.specs.declared.place.Place.{Place}
 use Rattle.sa_laws.specs.declared.place.Place.TheVariants as place
-use Rattle.sa_laws.specs.State.{State, SpaceState, Thread, space_at, with_space, with_thread, thread_in, thread_at, put_thread, placed_if, is_active, active_threads, next_instr, at_start}
+use Rattle.sa_laws.specs.State.{State, SpaceState, Thread, space_at, with_space, with_thread, thread_in, put_thread, placed_if, is_active, active_threads, next_instr, at_start}
 use Rattle.sa_laws.specs.Effect.{Effect, effect_of, answered, sync_effect}
 use Rattle.sa_laws.specs.Machine.{changed, next_effect}
 use Rattle.sa_laws.specs.Life.{Life, with_hand, with_first, with_cont, without_lock, ran, held_with, inherits, bereft, new_life}
@@ -33,7 +33,7 @@ use Rattle.sa_laws.specs.Record.{with_life, handed, lives_after, demands_after, 
 use Rattle.sa_laws.specs.History.{after_records}
 use Rattle.sa_laws.specs.Step.{Needs, AreSteps}
 use Rattle.sa_laws.specs.Upcalls.{RecordLaw, EachRecord, TellsAllThen}
-use Rattle.sa_legal.proofs.StandingLemmas.{Standing, Stood, space_of}
+use Rattle.sa_legal.proofs.StandingLemmas.{Standing, space_of}
 use Rattle.sa_legal.proofs.ShapeLemmas.{is_telling, MovesLives}
 use Rattle.sa_legal.proofs.MovesLemmas.{stood}
 use Rattle.sa_legal_readings.proofs.ApartLemmas.{IsApart, apart-step, one-space, is_real, told-space, upped-space}
@@ -43,7 +43,8 @@ use Rattle.sa_legal.proofs.ReadLemmas.{with-keeps}
 pub record Kept (s : SpaceNo) (r c : Readings) : Type 0 where
   pub active : active_threads (space_at c.state s) ≤ active_threads (space_at r.state s)
   pub demand : demand_of r s ≤ demand_of c s
-  pub lives : (a : ℕ) (life : Life) → r.lives a ≡ Some life → life.space ≡ s → (new : Life) × (c.lives a ≡ Some new) × (new.space ≡ s) × (new.inside ≡ life.inside)
+  pub lives : (a : ℕ) (life : Life) → r.lives a ≡ Some life → life.space ≡ s
+      → (new : Life) × (c.lives a ≡ Some new) × (new.space ≡ s) × (new.inside ≡ life.inside)
   pub noted : (n : Note) → is_real n ≡ true → Contains (untold_of r s) n → Contains (untold_of c s) n
 
 pub kept-self : (s : SpaceNo) (r : Readings) → Kept s r r
@@ -86,7 +87,8 @@ one-less true true is = omega arith
 one-less true false is = absurd (let h = is refl in cc)
 one-less false b is = omega arith
 
-count-set : (ts : List Thread) (i : ℕ) (thread : Thread) → (is_active thread.place ≡ true → is_active (get_or ts i (at_start 0 place.Done)).place ≡ true) → counted (slice_set ts i thread) ≤ counted ts
+count-set : (ts : List Thread) (i : ℕ) (thread : Thread) → (is_active thread.place ≡ true → is_active (get_or ts i (at_start 0 place.Done)).place ≡ true)
+    → counted (slice_set ts i thread) ≤ counted ts
 count-set [] i thread is = omega arith
 count-set (t ∷ ts) zero thread is =
     let new = sum_by-cons one_if thread ts in
@@ -118,20 +120,23 @@ spaces-set (y ∷ xs) zero (suc j) x less = omega arith
 spaces-set (y ∷ xs) (suc i) zero x less = omega arith
 spaces-set (y ∷ xs) (suc i) (suc j) x less = spaces-set xs i j x (λ e. less (ap suc e))
 
-at-space : (s u : SpaceNo) → u.0 ≡ s.0 → u ≡ s
+pub at-space : (s u : SpaceNo) → u.0 ≡ s.0 → u ≡ s
 at-space s u e = ap (λ n. record { 0 = n }) e
 
-active-space : (a : State) (s u : SpaceNo) (x : SpaceState) → (u ≡ s → active_threads x ≤ active_threads (space_at a s)) → active_threads (space_at (with_space a u x) s) ≤ active_threads (space_at a s)
+active-space : (a : State) (s u : SpaceNo) (x : SpaceState) → (u ≡ s → active_threads x ≤ active_threads (space_at a s))
+    → active_threads (space_at (with_space a u x) s) ≤ active_threads (space_at a s)
 active-space a s u x less = spaces-set a.spaces u.0 s.0 x (λ e. less (at-space s u e))
 
-active-placed : (a : State) (s u : SpaceNo) (t : Option ThreadNo) (where_ : Place) → is_active where_ ≡ false → active_threads (space_at (placed_if a u t where_) s) ≤ active_threads (space_at a s)
+active-placed : (a : State) (s u : SpaceNo) (t : Option ThreadNo) (where_ : Place) → is_active where_ ≡ false
+    → active_threads (space_at (placed_if a u t where_) s) ≤ active_threads (space_at a s)
 active-placed a s u None where_ idle = omega arith
 active-placed a s u (Some t) where_ idle = active-space a s u (put_thread where_ (space_at a u) t)
     (λ same. subst (λ (k : SpaceNo). active_threads (put_thread where_ (space_at a u) t) ≤ active_threads (space_at a k)) same
     (count-set (space_at a u).threads t.0 (record (thread_in (space_at a u) t) { place = where_ }) (λ active. absurd (let h = sym idle ∙ active in cc))))
 
 -- an instruction of a running thread
-ins-answered : (x : SpaceState) (t : ThreadNo) (thread : Thread) (change : Change) → is_active (thread_in x t).place ≡ true → active_threads (sync_effect x t thread change).space ≤ active_threads x
+ins-answered : (x : SpaceState) (t : ThreadNo) (thread : Thread) (change : Change) → is_active (thread_in x t).place ≡ true
+    → active_threads (sync_effect x t thread change).space ≤ active_threads x
 ins-answered x t thread change runs = one change.answer where
   one : (a : SyncAnswer) → active_threads (answered (Rattle.sa_laws.specs.Effect.with_sync x change.state) t thread a).space ≤ active_threads x
   one answer.Goes = count-set x.threads t.0 thread (λ active. runs)
@@ -145,14 +150,17 @@ ins-forked x t thread reg k runs = one (nat_lt (length x.threads) Rattle.sa_base
       then Rattle.sa_laws.specs.Effect.effect (record (with_thread x t (Rattle.sa_laws.specs.Effect.next_with thread reg (length x.threads))) {
         threads = slice_set x.threads t.0 (Rattle.sa_laws.specs.Effect.next_with thread reg (length x.threads)) ++ at_start k place.Waiting ∷ [];
       }) (record { 0 = length x.threads } ∷ [])
-      else Rattle.sa_laws.specs.Effect.effect (with_thread x t (Rattle.sa_laws.specs.Effect.next_with thread reg (Rattle.std.specs.Prelude.◌-◌ (Rattle.std.specs.Prelude.◌^◌ 2 64) 1))) []).space ≤ active_threads x
+      else Rattle.sa_laws.specs.Effect.effect
+      (with_thread x t (Rattle.sa_laws.specs.Effect.next_with thread reg
+      (Rattle.std.specs.Prelude.◌-◌ (Rattle.std.specs.Prelude.◌^◌ 2 64) 1))) []).space ≤ active_threads x
   one true =
       let push = count-push (slice_set x.threads t.0 (Rattle.sa_laws.specs.Effect.next_with thread reg (length x.threads))) (at_start k place.Waiting) refl in
       let set = count-set x.threads t.0 (Rattle.sa_laws.specs.Effect.next_with thread reg (length x.threads)) (λ active. runs) in
       omega (arith, push, set)
   one false = count-set x.threads t.0 _ (λ active. runs)
 
-active-ins : (x : SpaceState) (t : ThreadNo) (i : Instr) → is_active (thread_in x t).place ≡ true → active_threads (effect_of x t (thread_in x t) i).space ≤ active_threads x
+active-ins : (x : SpaceState) (t : ThreadNo) (i : Instr) → is_active (thread_in x t).place ≡ true
+    → active_threads (effect_of x t (thread_in x t) i).space ≤ active_threads x
 active-ins x t (instr.Load reg cell) runs = count-set x.threads t.0 _ (λ active. runs)
 active-ins x t (instr.Store reg cell) runs = count-set x.threads t.0 _ (λ active. runs)
 active-ins x t (instr.Out reg) runs = count-set x.threads t.0 _ (λ active. runs)
@@ -200,12 +208,13 @@ demand-step r s x xs passes = omega arith
 abbrev pub StillIn : SpaceNo → (ℕ → Option Life) → (ℕ → Option Life) → Type 0
 StillIn s old new = (a : ℕ) (life : Life) → old a ≡ Some life → life.space ≡ s → (l : Life) × (new a ≡ Some l) × (l.space ≡ s) × (l.inside ≡ life.inside)
 
-still-self : (s : SpaceNo) (lives : ℕ → Option Life) → StillIn s lives lives
+pub still-self : (s : SpaceNo) (lives : ℕ → Option Life) → StillIn s lives lives
 still-self s lives a life is of = (life, is, of, refl)
 
 -- one is changed, of another space, or not in what counts
 pub still-with : (s : SpaceNo) (f : Life → Life) (n : Option ActNo) (lives : ℕ → Option Life)
-    → ((b : ActNo) (l : Life) → n ≡ Some b → lives b.0 ≡ Some l → l.space ≡ s → ((f l).space ≡ s) × ((f l).inside ≡ l.inside)) → StillIn s lives (with_life f n lives)
+    → ((b : ActNo) (l : Life) → n ≡ Some b → lives b.0 ≡ Some l → l.space ≡ s → ((f l).space ≡ s) × ((f l).inside ≡ l.inside))
+    → StillIn s lives (with_life f n lives)
 still-with s f None lives same a life is of = (life, is, of, refl)
 still-with s f (Some b) lives same a life is of = elim (cases_eq a b.0) [
   | inl at ↦
@@ -215,29 +224,34 @@ still-with s f (Some b) lives same a life is of = elim (cases_eq a b.0) [
   | inr apart ↦ (life, put-other lives b.0 a (option_map f (lives b.0)) apart ∙ is, of, refl)
 ]
 
-still-same : (s : SpaceNo) (f : Life → Life) (n : Option ActNo) (lives : ℕ → Option Life) → ((l : Life) → (f l).space ≡ l.space) → ((l : Life) → (f l).inside ≡ l.inside)
+pub still-same : (s : SpaceNo) (f : Life → Life) (n : Option ActNo) (lives : ℕ → Option Life) → ((l : Life) → (f l).space ≡ l.space)
+    → ((l : Life) → (f l).inside ≡ l.inside)
     → StillIn s lives (with_life f n lives)
 still-same s f n lives space inside = still-with s f n lives (λ b l at is of. (space l ∙ of, inside l))
 
-still-more : (s : SpaceNo) (a b c : ℕ → Option Life) → StillIn s a b → StillIn s b c → StillIn s a c
+pub still-more : (s : SpaceNo) (a b c : ℕ → Option Life) → StillIn s a b → StillIn s b c → StillIn s a c
 still-more s a b c one two n life is of = let l = one n life is of in let k = two n l.0 l.1 l.2 in (k.0, k.1, k.2, k.3 ∙ l.3)
 
-still-handed : (s : SpaceNo) (up : Option ActNo) (b : ActNo) (from : Option Life) (lives : ℕ → Option Life) → ((l : Life) → lives b.0 ≡ Some l → l.space ≡ s → ⊥) → StillIn s lives (handed up b from lives)
+pub still-handed : (s : SpaceNo) (up : Option ActNo) (b : ActNo) (from : Option Life) (lives : ℕ → Option Life)
+    → ((l : Life) → lives b.0 ≡ Some l → l.space ≡ s → ⊥) → StillIn s lives (handed up b from lives)
 still-handed s up b None lives other = still-self s lives
 still-handed s up b (Some from) lives other =
     still-more s lives (with_life bereft (Some b) lives) (with_life (inherits from) up (with_life bereft (Some b) lives))
     (still-with s bereft (Some b) lives (λ c l at is of. absurd (other l (ap (λ (k : ActNo). lives k.0) (same_Some b c at) ∙ is) of)))
     (still-same s (inherits from) up (with_life bereft (Some b) lives) (λ l. refl) (λ l. refl))
 
-still-put : (s : SpaceNo) (a : ℕ) (o : Option Life) (lives : ℕ → Option Life) → ((l : Life) → lives a ≡ Some l → l.space ≡ s → ⊥) → StillIn s lives (put lives a o)
+pub still-put : (s : SpaceNo) (a : ℕ) (o : Option Life) (lives : ℕ → Option Life) → ((l : Life) → lives a ≡ Some l → l.space ≡ s → ⊥)
+    → StillIn s lives (put lives a o)
 still-put s a o lives other b life is of = elim (cases_eq b a) [
   | inl at ↦ absurd (other life (ap lives (sym at) ∙ is) of)
   | inr apart ↦ (life, put-other lives a b o apart ∙ is, of, refl)
 ]
 
-lives-kept : (w : WorkloadView) (p : ProcNo) (st : ℕ → Standing) (r : Readings) (s : SpaceNo) (x : Record) (xs : List Record) → IsApart st r (x ∷ xs) → MovesLives w p r x xs → Passes s r x xs
+lives-kept : (w : WorkloadView) (p : ProcNo) (st : ℕ → Standing) (r : Readings) (s : SpaceNo) (x : Record) (xs : List Record) → IsApart st r (x ∷ xs)
+    → MovesLives w p r x xs → Passes s r x xs
     → (is_telling r.last ≡ true → space_of_life r r.upped ≢ Some s) → StillIn s r.lives (lives_after w p r x)
-lives-kept w p st r s (Ins u t i) xs apart law passes quiet = still-same s (with_hand (next_effect w r.state u t).roused) (running_of r p) r.lives (λ l. refl) (λ l. refl)
+lives-kept w p st r s (Ins u t i) xs apart law passes quiet =
+    still-same s (with_hand (next_effect w r.state u t).roused) (running_of r p) r.lives (λ l. refl) (λ l. refl)
 lives-kept w p st r s (Run u t) xs apart law passes quiet = still-same s (with_first (ran t)) (running_of r p) r.lives (λ l. refl) (λ l. refl)
 lives-kept w p st r s (Stop u t a) xs apart law passes quiet = still-same s (stopped_with t) (Some a) r.lives (λ l. refl) (λ l. refl)
 lives-kept w p st r s (Block u t a io) xs apart law passes quiet = still-same s (held_with t) (Some a) r.lives (λ l. refl) (λ l. refl)
@@ -259,39 +273,48 @@ lives-kept w p st r s (Told (note.Blocked a)) xs apart law passes quiet = still-
 lives-kept w p st r s (GiveBack a) xs apart law passes quiet = still-put s a.0 None r.lives (λ l is of. passes (ap space_of is ∙ ap Some of))
 lives-kept w p st r s x xs apart law passes quiet = still-self s r.lives
 
-without-has : (n z : Note) (xs : List (List Note)) (j : ℕ) → is_other_note n z ≡ true → Contains (get_or xs j []) z → Contains (get_or (without_note xs n) j []) z
+pub without-has : (n z : Note) (xs : List (List Note)) (j : ℕ) → is_other_note n z ≡ true → Contains (get_or xs j []) z
+    → Contains (get_or (without_note xs n) j []) z
 without-has n z [] j other has = has
 without-has n z (x ∷ xs) zero other has = Rattle.sa_legal_readings.proofs.RaisedLemmas.filter-keeps (is_other_note n) x z other has
 without-has n z (x ∷ xs) (suc j) other has = without-has n z xs j other has
 
-note-other : (n z : Note) → n ≢ z → is_other_note n z ≡ true
-note-other (note.Add p) (note.Add q) apart = ap not (Rattle.sa_legal.proofs.ReadLemmas.differ q.0 p.0 (λ e. apart (ap (λ k. note.Add (record { 0 = k })) (sym e))))
-note-other (note.Preempted a) (note.Preempted b) apart = ap not (Rattle.sa_legal.proofs.ReadLemmas.differ b.0 a.0 (λ e. apart (ap (λ k. note.Preempted (record { 0 = k })) (sym e))))
-note-other (note.Blocked a) (note.Blocked b) apart = ap not (Rattle.sa_legal.proofs.ReadLemmas.differ b.0 a.0 (λ e. apart (ap (λ k. note.Blocked (record { 0 = k })) (sym e))))
-note-other (note.Unblocked a) (note.Unblocked b) apart = ap not (Rattle.sa_legal.proofs.ReadLemmas.differ b.0 a.0 (λ e. apart (ap (λ k. note.Unblocked (record { 0 = k })) (sym e))))
+pub note-other : (n z : Note) → n ≢ z → is_other_note n z ≡ true
+note-other (note.Add p) (note.Add q) apart =
+    ap not (Rattle.sa_legal.proofs.ReadLemmas.differ q.0 p.0 (λ e. apart (ap (λ k. note.Add (record { 0 = k })) (sym e))))
+note-other (note.Preempted a) (note.Preempted b) apart =
+    ap not (Rattle.sa_legal.proofs.ReadLemmas.differ b.0 a.0 (λ e. apart (ap (λ k. note.Preempted (record { 0 = k })) (sym e))))
+note-other (note.Blocked a) (note.Blocked b) apart =
+    ap not (Rattle.sa_legal.proofs.ReadLemmas.differ b.0 a.0 (λ e. apart (ap (λ k. note.Blocked (record { 0 = k })) (sym e))))
+note-other (note.Unblocked a) (note.Unblocked b) apart =
+    ap not (Rattle.sa_legal.proofs.ReadLemmas.differ b.0 a.0 (λ e. apart (ap (λ k. note.Unblocked (record { 0 = k })) (sym e))))
 note-other n z apart = refl
 
 -- what is told to one space is not untold to another
-told-other : (w : WorkloadView) (p : ProcNo) (st : ℕ → Standing) (r : Readings) (s : SpaceNo) (n z : Note) (xs : List Record) → IsApart st r (Told n ∷ xs) → MovesLives w p r (Told n) xs
+told-other : (w : WorkloadView) (p : ProcNo) (st : ℕ → Standing) (r : Readings) (s : SpaceNo) (n z : Note) (xs : List Record) → IsApart st r (Told n ∷ xs)
+    → MovesLives w p r (Told n) xs
     → space_of_life r r.upped ≢ Some s → is_real z ≡ true → Contains (untold_of r s) z → n ≢ z
-told-other w p st r s n z xs apart law quiet real has same = one (space_of_life r r.upped) refl (subst (Rattle.sa_laws.specs.Upcalls.IsUntoldTo r (space_of_life r r.upped)) same law.0) where
-  up : (u : SpaceNo) → space_of_life r r.upped ≡ Some u → Contains (untold_of r u) z → ⊥
-  up u is there = quiet (is ∙ ap Some (one-space st r (Told n ∷ xs) z u s apart real there has))
+told-other w p st r s n z xs apart law quiet real has same =
+    one (space_of_life r r.upped) refl (subst (Rattle.sa_laws.specs.Upcalls.IsUntoldTo r (space_of_life r r.upped)) same law.0) where
+      up : (u : SpaceNo) → space_of_life r r.upped ≡ Some u → Contains (untold_of r u) z → ⊥
+      up u is there = quiet (is ∙ ap Some (one-space st r (Told n ∷ xs) z u s apart real there has))
 
-  one : (o : Option SpaceNo) → space_of_life r r.upped ≡ o → Rattle.sa_laws.specs.Upcalls.IsUntoldTo r (space_of_life r r.upped) z → ⊥
-  one o is untold = two z o is real (subst (λ k. Rattle.sa_laws.specs.Upcalls.IsUntoldTo r k z) is untold) (λ u at there. up u at there) where
-    two : (m : Note) (k : Option SpaceNo) → space_of_life r r.upped ≡ k → is_real m ≡ true → Rattle.sa_laws.specs.Upcalls.IsUntoldTo r k m
-        → ((u : SpaceNo) → space_of_life r r.upped ≡ Some u → Contains (untold_of r u) m → ⊥) → ⊥
-    two (note.Add q) k at real' there up' = absurd (cc)
-    two (note.Preempted a) (Some u) at real' there up' = up' u at there
-    two (note.Blocked a) (Some u) at real' there up' = up' u at there
-    two (note.Unblocked a) (Some u) at real' there up' = up' u at there
-    two (note.Preempted a) None at real' there up' = there
-    two (note.Blocked a) None at real' there up' = there
-    two (note.Unblocked a) None at real' there up' = there
+      one : (o : Option SpaceNo) → space_of_life r r.upped ≡ o → Rattle.sa_laws.specs.Upcalls.IsUntoldTo r (space_of_life r r.upped) z → ⊥
+      one o is untold = two z o is real (subst (λ k. Rattle.sa_laws.specs.Upcalls.IsUntoldTo r k z) is untold) (λ u at there. up u at there) where
+        two : (m : Note) (k : Option SpaceNo) → space_of_life r r.upped ≡ k → is_real m ≡ true → Rattle.sa_laws.specs.Upcalls.IsUntoldTo r k m
+            → ((u : SpaceNo) → space_of_life r r.upped ≡ Some u → Contains (untold_of r u) m → ⊥) → ⊥
+        two (note.Add q) k at real' there up' = absurd (cc)
+        two (note.Preempted a) (Some u) at real' there up' = up' u at there
+        two (note.Blocked a) (Some u) at real' there up' = up' u at there
+        two (note.Unblocked a) (Some u) at real' there up' = up' u at there
+        two (note.Preempted a) None at real' there up' = there
+        two (note.Blocked a) None at real' there up' = there
+        two (note.Unblocked a) None at real' there up' = there
 
-noted-step : (w : WorkloadView) (p : ProcNo) (st : ℕ → Standing) (r : Readings) (s : SpaceNo) (x : Record) (xs : List Record) (n : Note) → IsApart st r (x ∷ xs) → MovesLives w p r x xs
-    → (is_telling r.last ≡ true → space_of_life r r.upped ≢ Some s) → is_real n ≡ true → Contains (untold_of r s) n → Contains (get_or (untold_after r x) s.0 []) n
+noted-step : (w : WorkloadView) (p : ProcNo) (st : ℕ → Standing) (r : Readings) (s : SpaceNo) (x : Record) (xs : List Record) (n : Note) → IsApart st r (x ∷ xs)
+    → MovesLives w p r x xs
+    → (is_telling r.last ≡ true → space_of_life r r.upped ≢ Some s) → is_real n ≡ true → Contains (untold_of r s) n
+    → Contains (get_or (untold_after r x) s.0 []) n
 noted-step w p st r s (Stop u t a) xs n apart law quiet real has = with-keeps r.untold u.0 s.0 (note.Preempted a) n has
 noted-step w p st r s (Block u t a io) xs n apart law quiet real has = with-keeps r.untold u.0 s.0 (note.Blocked a) n has
 noted-step w p st r s (Unblock u t a) xs n apart law quiet real has = with-keeps r.untold u.0 s.0 (note.Unblocked a) n has
@@ -299,9 +322,10 @@ noted-step w p st r s (Told m) xs n apart law quiet real has =
     without-has m n r.untold s.0 (note-other m n (told-other w p st r s m n xs apart law (quiet law.1) real has)) has
 noted-step w p st r s x xs n apart law quiet real has = has
 
--- .. nor will told records after it
+-- Nothing is told to the space by the records that follow.
 quiet-step : (w : WorkloadView) (e : ℕ) (p : ProcNo) (r : Readings) (s : SpaceNo) (x : Record) (xs : List Record) → MovesLives w p r x xs → Passes s r x xs
-    → (is_telling r.last ≡ true → space_of_life r r.upped ≢ Some s) → is_telling (Some x) ≡ true → space_of_life (after_record w e p r x) (after_record w e p r x).upped ≢ Some s
+    → (is_telling r.last ≡ true → space_of_life r r.upped ≢ Some s) → is_telling (Some x) ≡ true
+    → space_of_life (after_record w e p r x) (after_record w e p r x).upped ≢ Some s
 quiet-step w e p r s (Up u a) xs law passes quiet telling is =
     passes (same_Some u s (sym (ap space_of (put-at r.lives a.0 a.0 (Some (new_life u p)) refl)) ∙ is))
 quiet-step w e p r s (Told n) xs law passes quiet telling is = quiet law.1 (sym (upped-space w e p r n) ∙ is)
@@ -318,7 +342,8 @@ pub record Arrives (s : SpaceNo) (r c : Readings) : Type 0 where
   pub apart : IsApart st c []
   pub kept : Kept s r c
 
-pub kept-all : (w : WorkloadView) (e : ℕ) (p : ProcNo) (st : ℕ → Standing) (r : Readings) (s : SpaceNo) (xs : List Record) → IsApart st r xs → Goes w e p r xs → EachRecord (Passes s) w e p r xs
+pub kept-all : (w : WorkloadView) (e : ℕ) (p : ProcNo) (st : ℕ → Standing) (r : Readings) (s : SpaceNo) (xs : List Record) → IsApart st r xs → Goes w e p r xs
+    → EachRecord (Passes s) w e p r xs
     → (is_telling r.last ≡ true → space_of_life r r.upped ≢ Some s) → Arrives s r (after_records w e p r xs)
 kept-all w e p st r s [] apart goes passes quiet = record { st = st; apart = apart; kept = kept-self s r }
 kept-all w e p st r s (x ∷ xs) apart goes passes quiet =

@@ -2,7 +2,7 @@
 use Rattle.std.proofs.Common.{◌≡◌, ◌≢◌, ℕ, zero, suc, ◌+◌, ◌<◌, ◌⊎◌, inl, inr, refl, sym, ◌∙◌, ap, subst, arith, Some, None, List, [], ◌∷◌, ◌++◌, length, true, false}
 use Rattle.std.specs.Prelude.{Option, Bool, ◌==◌, if◌then◌else◌, slice_get, slice_set, get_or, unwrap_or, filter, not, Contains}
 use Rattle.std.specs.Option.{option_or}
-use Rattle.std.proofs.lemmas.Bool.{cases_eq}
+use Rattle.std.proofs.lemmas.Bool.{cases_eq, eqb-true}
 use Rattle.std.proofs.lemmas.List.{get_or-set_same, get_or-set_other}
 use Rattle.std.proofs.lemmas.List.Elements.{Contains-push, Contains-append_left, Contains-append_right, Contains-append_cases}
 use Rattle.std.proofs.lemmas.Option.{none-some, slice_get_within}
@@ -27,7 +27,6 @@ use Rattle.sa_legal_readings.specs.Moments.{Home, home_of, home_in, home_said}
 use Rattle.sa_legal_readings.specs.Holdings.{is_home, is_other, taken_by, taken_at, taken_in}
 use Rattle.sa_legal_readings.proofs.AlongLemmas.{along-more}
 use Rattle.sa_legal.proofs.SoundLemmas.{alike}
-use Rattle.sa_legal.proofs.StandingLemmas.{same-number}
 
 -- all items are of events before this one
 abbrev pub Until : List Item → ℕ → Type 0
@@ -65,9 +64,10 @@ abbrev pub RaisedIn : WorkloadView → ℕ → ProcNo → List Item → List (Op
 RaisedIn w e p past lines = (q : ProcNo) (v : ℕ) → q.0 < w.processors → RaisedAt past q v → (q ≡ p → v ≡ e) → get_or lines q.0 None ≡ Some v
 
 line-is : (q t : ProcNo) → line_in q (Line t) ≡ true → t.0 ≡ q.0
-line-is q t is = same-number t.0 q.0 is
+line-is q t is = eqb-true t.0 q.0 is
 
-pub raised-step : (w : WorkloadView) (e : ℕ) (p : ProcNo) (past : List Item) (r : Readings) (x : Record) (rest : List Record) → length r.lines ≡ w.processors → RaisesLine r x rest
+pub raised-step : (w : WorkloadView) (e : ℕ) (p : ProcNo) (past : List Item) (r : Readings) (x : Record) (rest : List Record) → length r.lines ≡ w.processors
+    → RaisesLine r x rest
     → RaisedIn w e p past r.lines → RaisedIn w e p (past ++ item e p x ∷ []) (lines_after e r.lines x)
 raised-step w e p past r x rest len law inv q v within raised own = elim (raised-cases past (item e p x) q v raised) [
   | inl new ↦ by_line x new.0 new.1
@@ -85,7 +85,7 @@ raised-step w e p past r x rest len law inv q v within raised own = elim (raised
   ]
   before y low was = was
 
--- .. at the beginning of an event, and at its end
+-- Each raised line is read, at the beginning of an event and at its end.
 abbrev pub RaisedAll : WorkloadView → List Item → List (Option ℕ) → Type 0
 RaisedAll w past lines = (q : ProcNo) (v : ℕ) → q.0 < w.processors → RaisedAt past q v → get_or lines q.0 None ≡ Some v
 
@@ -107,29 +107,34 @@ raised-begins w e p past lines until all q v within raised own = elim (cases_eq 
 abbrev pub EndsWithEvent : ℕ → ProcNo → List Item → Type 0
 EndsWithEvent e p past = (before : List Item) × (x : Record) × (past ≡ before ++ item e p x ∷ [])
 
-pub raised-ends : (w : WorkloadView) (e : ℕ) (p : ProcNo) (past : List Item) (lines : List (Option ℕ)) → EndsWithEvent e p past → Until past (e + 1) → RaisedIn w e p past lines
+pub raised-ends : (w : WorkloadView) (e : ℕ) (p : ProcNo) (past : List Item) (lines : List (Option ℕ)) → EndsWithEvent e p past → Until past (e + 1)
+    → RaisedIn w e p past lines
     → RaisedAll w past lines
-raised-ends w e p past lines ends until inv q v within raised = inv q v within raised (λ same. own same (subst (λ (ys : List Item). RaisedAt ys q v) ends.2 raised)) where
-  late : v < e + 1
-  late = let at = until raised.place raised.item raised.at in let is = raised.raised in omega arith
+raised-ends w e p past lines ends until inv q v within raised =
+    inv q v within raised (λ same. own same (subst (λ (ys : List Item). RaisedAt ys q v) ends.2 raised)) where
+      late : v < e + 1
+      late = let at = until raised.place raised.item raised.at in let is = raised.raised in omega arith
 
-  own : q ≡ p → RaisedAt (ends.0 ++ item e p ends.1 ∷ []) q v → v ≡ e
-  own same there = elim (raised-cases ends.0 (item e p ends.1) q v there) [
-    | inl new ↦ sym new.1
-    | inr old ↦ elim (cases_eq v e) [
-      | inl is ↦ is
-      | inr apart ↦ absurd (old.1 (let upper = late in omega arith) (sym same))
-    ]
-  ]
+      own : q ≡ p → RaisedAt (ends.0 ++ item e p ends.1 ∷ []) q v → v ≡ e
+      own same there = elim (raised-cases ends.0 (item e p ends.1) q v there) [
+        | inl new ↦ sym new.1
+        | inr old ↦ elim (cases_eq v e) [
+          | inl is ↦ is
+          | inr apart ↦ absurd (old.1 (let upper = late in omega arith) (sym same))
+        ]
+      ]
 
 -- a life that the words say is taken is among the taken ones of its space
 abbrev pub TakenAll : List Item → Type 0
 TakenAll past = (a : ActNo) (home : Home) → home_of past a ≡ Some home → stand_of past a ≡ life.Taken → Contains (taken_in past home.space) a
 
-stand-more : (past : List Item) (e : ℕ) (p : ProcNo) (x : Record) (a : ActNo) → stand_of (past ++ item e p x ∷ []) a ≡ unwrap_or (stand_in a p x) (stand_of past a)
-stand-more past e p x a = sym (said-more (stand_said a) past (item e p x) life.Unused (stand_of past a) (unwrap_or (stand_in a p x) (stand_of past a)) refl refl)
+stand-more : (past : List Item) (e : ℕ) (p : ProcNo) (x : Record) (a : ActNo)
+    → stand_of (past ++ item e p x ∷ []) a ≡ unwrap_or (stand_in a p x) (stand_of past a)
+stand-more past e p x a =
+    sym (said-more (stand_said a) past (item e p x) life.Unused (stand_of past a) (unwrap_or (stand_in a p x) (stand_of past a)) refl refl)
 
-pub home-more : (past : List Item) (e : ℕ) (p : ProcNo) (x : Record) (a : ActNo) → home_of (past ++ item e p x ∷ []) a ≡ option_or (home_in a p x) (home_of past a)
+pub home-more : (past : List Item) (e : ℕ) (p : ProcNo) (x : Record) (a : ActNo)
+    → home_of (past ++ item e p x ∷ []) a ≡ option_or (home_in a p x) (home_of past a)
 home-more past e p x a = last-more (home_said a) past (item e p x)
 
 taken-more : (past : List Item) (e : ℕ) (p : ProcNo) (x : Record) (s : SpaceNo) → taken_in (past ++ item e p x ∷ []) s ≡ taken_by s past (taken_in past s) x
@@ -167,13 +172,15 @@ either-has : {A : Type 0} (b : Bool) (xs ys : List A) (z : A) → Contains xs z 
 either-has true xs ys z left right = left
 either-has false xs ys z left right = right
 
-told-has : (past : List Item) (a b : ActNo) (home : Home) (ts : List ActNo) → home_of past a ≡ Some home → unwrap_or (stand_if a b life.Taken) (stand_of past a) ≡ life.Taken
+told-has : (past : List Item) (a b : ActNo) (home : Home) (ts : List ActNo) → home_of past a ≡ Some home
+    → unwrap_or (stand_if a b life.Taken) (stand_of past a) ≡ life.Taken
     → (stand_of past a ≡ life.Taken → Contains ts a) → Contains (if is_home home.space (home_of past b) then ts ++ b ∷ [] else ts) a
 told-has past a b home ts is stand old = one (b.0 == a.0) refl where
   one : (c : Bool) → (b.0 == a.0) ≡ c → Contains (if is_home home.space (home_of past b) then ts ++ b ∷ [] else ts) a
   one true same =
-      let act : b ≡ a = ap (λ n. record { 0 = n }) (same-number b.0 a.0 same) in
-      let here : is_home home.space (home_of past b) ≡ true = ap (λ (c : ActNo). is_home home.space (home_of past c)) act ∙ ap (is_home home.space) is ∙ alike home.space.0 home.space.0 refl in
+      let act : b ≡ a = ap (λ n. record { 0 = n }) (eqb-true b.0 a.0 same) in
+      let here : is_home home.space (home_of past b) ≡ true = ap (λ (c : ActNo). is_home home.space (home_of past c)) act ∙ ap (is_home home.space) is
+      ∙ alike home.space.0 home.space.0 refl in
       subst (λ k. Contains (if k then ts ++ b ∷ [] else ts) a) (sym here) (subst (λ (c : ActNo). Contains (ts ++ c ∷ []) a) (sym act) (Contains-push ts a))
   one false other =
       let was = old (was-said a b life.Taken life.Taken (stand_of past a) other stand) in
@@ -181,12 +188,16 @@ told-has past a b home ts is stand old = one (b.0 == a.0) refl where
 
 pub taken-all-step : (past : List Item) (e : ℕ) (p : ProcNo) (x : Record) → TakenAll past → TakenAll (past ++ item e p x ∷ [])
 taken-all-step past e p x all a home is stand =
-    subst (λ ts. Contains ts a) (sym (taken-more past e p x home.space)) (one x (sym (home-more past e p x a) ∙ is) (sym (stand-more past e p x a) ∙ stand)) where
+    subst (λ ts. Contains ts a) (sym (taken-more past e p x home.space))
+    (one x (sym (home-more past e p x a) ∙ is) (sym (stand-more past e p x a) ∙ stand)) where
       one : (y : Record) → option_or (home_in a p y) (home_of past a) ≡ Some home → unwrap_or (stand_in a p y) (stand_of past a) ≡ life.Taken
           → Contains (taken_by home.space past (taken_in past home.space) y) a
-      one (Stop s t b) at st = all a home at (was-said a b life.Stopped life.Taken (stand_of past a) (not-said a b life.Stopped life.Taken (stand_of past a) (λ e'. cc) st) st)
-      one (Block s t b io) at st = all a home at (was-said a b life.InBlock life.Taken (stand_of past a) (not-said a b life.InBlock life.Taken (stand_of past a) (λ e'. cc) st) st)
-      one (Unblock s t b) at st = all a home at (was-said a b life.Returned life.Taken (stand_of past a) (not-said a b life.Returned life.Taken (stand_of past a) (λ e'. cc) st) st)
+      one (Stop s t b) at st =
+          all a home at (was-said a b life.Stopped life.Taken (stand_of past a) (not-said a b life.Stopped life.Taken (stand_of past a) (λ e'. cc) st) st)
+      one (Block s t b io) at st =
+          all a home at (was-said a b life.InBlock life.Taken (stand_of past a) (not-said a b life.InBlock life.Taken (stand_of past a) (λ e'. cc) st) st)
+      one (Unblock s t b) at st =
+          all a home at (was-said a b life.Returned life.Taken (stand_of past a) (not-said a b life.Returned life.Taken (stand_of past a) (λ e'. cc) st) st)
       one (Up s b) at st =
           let other = not-said a b (life.Running p) life.Taken (stand_of past a) (λ e'. cc) st in
           all a home (subst (λ c. option_or (if c then Some (record { space = s; proc = p }) else None) (home_of past a) ≡ Some home) other at)
@@ -199,5 +210,6 @@ taken-all-step past e p x all a home is stand =
           let other = not-said a b life.Unused life.Taken (stand_of past a) (λ e'. cc) st in
           let was = all a home at (was-said a b life.Unused life.Taken (stand_of past a) other st) in
           either-has (is_home home.space (home_of past b)) (filter (is_other b) (taken_in past home.space)) (taken_in past home.space) a
-          (filter-keeps (is_other b) (taken_in past home.space) a (ap not (differ a.0 b.0 (λ e'. absurd (let clash = alike b.0 a.0 (sym e') in let no = sym clash ∙ other in cc)))) was) was
+          (filter-keeps (is_other b) (taken_in past home.space) a
+          (ap not (differ a.0 b.0 (λ e'. absurd (let clash = alike b.0 a.0 (sym e') in let no = sym clash ∙ other in cc)))) was) was
       one y at st = all a home at st

@@ -63,7 +63,8 @@ move-line n p (Some e) = tt
 
 move-aims : (n e : ℕ) (lines : List (Option ℕ)) (cs : List Change) → EachMove n (records_of e lines cs)
 move-aims n e lines [] = tt
-move-aims n e lines (c ∷ cs) = move-append n (line_records c.proc (line_at lines c.proc)) _ (move-line n c.proc (line_at lines c.proc)) (move-aims n e (lines_with e lines c) cs)
+move-aims n e lines (c ∷ cs) =
+    move-append n (line_records c.proc (line_at lines c.proc)) _ (move-line n c.proc (line_at lines c.proc)) (move-aims n e (lines_with e lines c) cs)
 
 move-raising : (n : ℕ) (xs : List Record) → AreRaising xs → EachMove n xs
 move-raising n [] is = tt
@@ -92,7 +93,8 @@ move-fetch n (Fetch s ∷ []) is = tt
 move-fetch n (Fetch s ∷ z ∷ xs) is = absurd is
 move-fetch n (x ∷ xs) is = absurd is
 
-move-passage : (n : ℕ) (xs : List Record) → IsPassage xs → ((old : Option SpaceNo) (new : SpaceNo) (ys : List Record) → xs ≡ Move old (Some new) ∷ ys → new.0 < n) → EachMove n xs
+move-passage : (n : ℕ) (xs : List Record) → IsPassage xs
+    → ((old : Option SpaceNo) (new : SpaceNo) (ys : List Record) → xs ≡ Move old (Some new) ∷ ys → new.0 < n) → EachMove n xs
 move-passage n (Up s a ∷ xs) is head = move-told n xs is
 move-passage n (Move old (Some new) ∷ Up s a ∷ xs) is head = (head old new (Up s a ∷ xs) refl, move-told n xs is)
 move-passage n (Move old None ∷ Aim q None ∷ xs) is head = move-fetch n xs is
@@ -108,7 +110,8 @@ pub head-of : (f : Record → Bool) (xs : List Record) (y : Record) (zs : List R
 head-of f xs y zs is = take-head (prefix_len f xs) xs y zs is
 
 -- where a processor goes on, the head moves to the aim
-goes-move : (n : ℕ) (here owned : Bool) (p : ProcNo) (r : Readings) (owner : Option SpaceNo) (b : SpaceNo) (xs : List Record) → GoesTo here owned p r owner b xs → b.0 < n
+goes-move : (n : ℕ) (here owned : Bool) (p : ProcNo) (r : Readings) (owner : Option SpaceNo) (b : SpaceNo) (xs : List Record) → GoesTo here owned p r owner b xs
+    → b.0 < n
     → (old : Option SpaceNo) (new : SpaceNo) (ys : List Record) → xs ≡ Move old (Some new) ∷ ys → new.0 < n
 goes-move n true true p r owner b xs goes below old new ys is = absurd (subst (BeginsWithUp b) is goes)
 goes-move n true false p r owner b xs goes below old new ys is =
@@ -118,21 +121,25 @@ goes-move n false owned p r owner b xs goes below old new ys is =
     let there = head-of is_of_leave xs (Move owner None) _ goes in
     let clash : Move old (Some new) ∷ ys ≡ Move owner None ∷ there.0 = sym is ∙ there.1 in absurd (cc)
 
-aim-move : (n : ℕ) (p : ProcNo) (r : Readings) (owner aim : Option SpaceNo) (xs : List Record) → GoesToAim p r owner aim xs → ((s : SpaceNo) → aim ≡ Some s → s.0 < n)
+aim-move : (n : ℕ) (p : ProcNo) (r : Readings) (owner aim : Option SpaceNo) (xs : List Record) → GoesToAim p r owner aim xs
+    → ((s : SpaceNo) → aim ≡ Some s → s.0 < n)
     → (old : Option SpaceNo) (new : SpaceNo) (ys : List Record) → xs ≡ Move old (Some new) ∷ ys → new.0 < n
 aim-move n p r owner None xs goes below old new ys is = absurd goes
 aim-move n p r owner (Some b) xs goes below old new ys is = goes-move n _ _ p r owner b xs goes (below b refl) old new ys is
 
-stop-moves : (n : ℕ) (p : ProcNo) (r : Readings) (owner aim : Option SpaceNo) (s : SpaceNo) (t : Option Rattle.sa_base.specs.declared.number.ThreadNo.ThreadNo) (a : ActNo) (xs : List Record)
+stop-moves : (n : ℕ) (p : ProcNo) (r : Readings) (owner aim : Option SpaceNo) (s : SpaceNo) (t : Option Rattle.sa_base.specs.declared.number.ThreadNo.ThreadNo)
+    (a : ActNo) (xs : List Record)
     → StopsAndGoes p r owner aim (Stop s t a ∷ xs) → ((b : SpaceNo) → aim ≡ Some b → b.0 < n)
     → (old : Option SpaceNo) (new : SpaceNo) (ys : List Record) → xs ≡ Move old (Some new) ∷ ys → new.0 < n
 stop-moves n p r (Some o) aim s t a xs goes below = aim-move n p r (Some o) aim xs goes.1 below
 stop-moves n p r None None s t a xs goes below = absurd goes
-stop-moves n p r None (Some b) s t a xs goes below = one (Rattle.sa_laws.specs.Readings.is_resident r b Rattle.sa_base.specs.declared.limits.TheConstants.UPCALL_PAGE) (is_aim b.0 None) goes where
-  one : (here owned : Bool) → GoesTo here owned p r None b (Stop s t a ∷ xs) → (old : Option SpaceNo) (new : SpaceNo) (ys : List Record) → xs ≡ Move old (Some new) ∷ ys → new.0 < n
-  one true true none = absurd none
-  one true false none = absurd none
-  one false owned none = absurd (let clash : [] ≡ Move None None ∷ _ = none in cc)
+stop-moves n p r None (Some b) s t a xs goes below =
+    one (Rattle.sa_laws.specs.Readings.is_resident r b Rattle.sa_base.specs.declared.limits.TheConstants.UPCALL_PAGE) (is_aim b.0 None) goes where
+      one : (here owned : Bool) → GoesTo here owned p r None b (Stop s t a ∷ xs) → (old : Option SpaceNo) (new : SpaceNo) (ys : List Record)
+          → xs ≡ Move old (Some new) ∷ ys → new.0 < n
+      one true true none = absurd none
+      one true false none = absurd none
+      one false owned none = absurd (let clash : [] ≡ Move None None ∷ _ = none in cc)
 
 -- an interrupt moves to the aim
 interrupt-moves : (n : ℕ) (p : ProcNo) (r : Readings) (owner aim : Option SpaceNo) (x : Record) (xs : List Record) → StopsAndGoes p r owner aim (x ∷ xs)
@@ -151,7 +158,8 @@ interrupt-moves n p r None aim (Move old new) xs goes below is =
 interrupt-moves n p r owner aim x xs goes below is = absurd (is)
 
 -- after a block nothing moves to a space
-block-moves : (n : ℕ) (there : Bool) (p : ProcNo) (r : Readings) (s : SpaceNo) (xs : List Record) → GoesOn there p r s xs → IsPassage (take_while is_own xs) → EachMove n (take_while is_own xs)
+block-moves : (n : ℕ) (there : Bool) (p : ProcNo) (r : Readings) (s : SpaceNo) (xs : List Record) → GoesOn there p r s xs → IsPassage (take_while is_own xs)
+    → EachMove n (take_while is_own xs)
 block-moves n there p r s xs goes is = move-passage n (take_while is_own xs) is
     (λ old new ys same. let whole = head-of is_own xs (Move old (Some new)) ys same in absurd (one there goes old new whole.0 whole.1)) where
       one : (b : Bool) → GoesOn b p r s xs → (old : Option SpaceNo) (new : SpaceNo) (ys : List Record) → xs ≡ Move old (Some new) ∷ ys → ⊥
@@ -190,7 +198,8 @@ given-moves n [] = tt
 given-moves n (a ∷ acts) = given-moves n acts
 
 -- an `io` with its block
-io-moves : (n : ℕ) (w : WorkloadView) (e : ℕ) (p : ProcNo) (r : Readings) (xs zs : List Record) → take_while is_own xs ≡ zs → IsBlock zs → EachRecord (GivesUpcallThen p) w e p r xs → EachMove n zs
+io-moves : (n : ℕ) (w : WorkloadView) (e : ℕ) (p : ProcNo) (r : Readings) (xs zs : List Record) → take_while is_own xs ≡ zs → IsBlock zs
+    → EachRecord (GivesUpcallThen p) w e p r xs → EachMove n zs
 io-moves n w e p r xs (Block s t a io ∷ rest) same is gives =
     let whole = head-of is_own xs (Block s t a io) rest same in
     let parts : rest ≡ take_while is_own whole.0 =
@@ -203,13 +212,15 @@ out-moves : (n : ℕ) (xs : List Record) → IsOut xs → EachMove n xs
 out-moves n (Out s t v ∷ []) is = tt
 out-moves n xs is = absurd (is)
 
-ins-moves : (n : ℕ) (w : WorkloadView) (e : ℕ) (p : ProcNo) (r : Readings) (i : Instr) (xs : List Record) → IsInsOf i (take_while is_own xs) → EachRecord (GivesUpcallThen p) w e p r xs
+ins-moves : (n : ℕ) (w : WorkloadView) (e : ℕ) (p : ProcNo) (r : Readings) (i : Instr) (xs : List Record) → IsInsOf i (take_while is_own xs)
+    → EachRecord (GivesUpcallThen p) w e p r xs
     → EachMove n (take_while is_own xs)
 ins-moves n w e p r (instr.Out reg) xs is gives = out-moves n (take_while is_own xs) is
 ins-moves n w e p r (instr.Io m) xs is gives = io-moves n w e p r xs (take_while is_own xs) refl is gives
 ins-moves n w e p r i xs is gives = subst (EachMove n) (sym is) tt
 
-step-moves : (n : ℕ) (w : WorkloadView) (e : ℕ) (p : ProcNo) (r : Readings) (a : ActNo) (life : Life) (x : Record) (xs : List Record) → StepBy w r p a life x (take_while is_own xs)
+step-moves : (n : ℕ) (w : WorkloadView) (e : ℕ) (p : ProcNo) (r : Readings) (a : ActNo) (life : Life) (x : Record) (xs : List Record)
+    → StepBy w r p a life x (take_while is_own xs)
     → EachRecord (GivesUpcallThen p) w e p r (x ∷ xs) → EachMove n (x ∷ take_while is_own xs)
 step-moves n w e p r a life (Ins s t i) xs is gives = ins-moves n w e p (after_record w e p r (Ins s t i)) _ xs is gives.1
 step-moves n w e p r a life (Block s t b io) xs is gives = block-moves n _ p r s xs gives.0.goes_on is.0
@@ -225,13 +236,15 @@ over-moves n (Page s a page) (Unblock of t b ∷ []) is = tt
 over-moves n (Upcall s) (Fetched of ∷ []) is = tt
 over-moves n kind xs is = absurd (is)
 
-in-moves : (n : ℕ) (w : WorkloadView) (e : ℕ) (p : ProcNo) (r : Readings) (a : Option ActNo) (life : Option Life) (x : Record) (xs : List Record) → StepIn w r p a life (x ∷ take_while is_own xs)
+in-moves : (n : ℕ) (w : WorkloadView) (e : ℕ) (p : ProcNo) (r : Readings) (a : Option ActNo) (life : Option Life) (x : Record) (xs : List Record)
+    → StepIn w r p a life (x ∷ take_while is_own xs)
     → EachRecord (GivesUpcallThen p) w e p r (x ∷ xs) → EachMove n (x ∷ take_while is_own xs)
 in-moves n w e p r (Some a) (Some life) x xs is gives = step-moves n w e p r a life x xs is gives
 in-moves n w e p r (Some a) None x xs is gives = absurd is
 in-moves n w e p r None life x xs is gives = absurd is
 
-turn-moves : (n : ℕ) (w : WorkloadView) (e : ℕ) (p : ProcNo) (r : Readings) (x : Record) (xs : List Record) → IsTurn IsStep false e w r p (x ∷ take_while is_own xs)
+turn-moves : (n : ℕ) (w : WorkloadView) (e : ℕ) (p : ProcNo) (r : Readings) (x : Record) (xs : List Record)
+    → IsTurn IsStep false e w r p (x ∷ take_while is_own xs)
     → EachRecord (GivesUpcallThen p) w e p r (x ∷ xs) → EachMove n (x ∷ take_while is_own xs)
 turn-moves n w e p r x xs is gives = due (due_of e r.under_way) is where
   owned : (o : Option SpaceNo) → IsTickOrStep IsStep o w r p (x ∷ take_while is_own xs) → EachMove n (x ∷ take_while is_own xs)
@@ -244,7 +257,8 @@ turn-moves n w e p r x xs is gives = due (due_of e r.under_way) is where
   due (Some io) (inr local) = in-moves n w e p r (running_of r p) (life_on r p) x xs local.1 gives
 
 -- the moves of a lawful event
-pub event-moves : (w : WorkloadView) (r : Readings) (e : Event) → IsLawful fast_threads w r e → ((s : SpaceNo) → aim_of r e.proc ≡ Some s → s.0 < length w.spaces) → EachMove (length w.spaces) e.records
+pub event-moves : (w : WorkloadView) (r : Readings) (e : Event) → IsLawful fast_threads w r e
+    → ((s : SpaceNo) → aim_of r e.proc ≡ Some s → s.0 < length w.spaces) → EachMove (length w.spaces) e.records
 event-moves w r e law below = one e.number refl where
   n : ℕ
   n = length w.spaces
@@ -258,7 +272,8 @@ event-moves w r e law below = one e.number refl where
       let turn = subst (λ ys. IsTurn IsStep (is_some (line_of r e.proc)) e.number w (begun w e r) e.proc (own_part ys)) is (turns.turn from) in
       let closing = subst (λ ys. IsClosing (closing_part ys)) is (turns.closing from) in
       subst (EachMove (length w.spaces)) whole
-      (move-append (length w.spaces) (own_part (x ∷ xs)) (closing_part (x ∷ xs)) (own (is_some (line_of r e.proc)) refl turn gives) (move-closing (length w.spaces) (closing_part (x ∷ xs)) closing))
+      (move-append (length w.spaces) (own_part (x ∷ xs)) (closing_part (x ∷ xs)) (own (is_some (line_of r e.proc)) refl turn gives)
+      (move-closing (length w.spaces) (closing_part (x ∷ xs)) closing))
     where
       own : (b : Bool) → is_some (line_of r e.proc) ≡ b → IsTurn IsStep b e.number w (begun w e r) e.proc (own_part (x ∷ xs))
           → EachRecord (GivesUpcallThen e.proc) w e.number e.proc (begun w e r) (x ∷ xs) → EachMove (length w.spaces) (own_part (x ∷ xs))
@@ -287,7 +302,8 @@ below-append n (c ∷ cs) ds left right = (left.0, below-append n cs ds left.1 r
 for-below : (n more s : ℕ) (shares : List ℕ) (marks : List Bool) (aims : List (Option SpaceNo)) → s < n → AllBelow n (changes_for more shares marks s aims)
 for-below n zero s shares marks aims below = tt
 for-below n (suc more) s shares marks aims below = one (choice shares marks aims) (λ left. for-below n more s shares marks left below) where
-  one : (o : Option ℕ) → ((left : List (Option SpaceNo)) → AllBelow n (changes_for more shares marks s left)) → AllBelow n (change_to s aims o (changes_for more shares marks s))
+  one : (o : Option ℕ) → ((left : List (Option SpaceNo)) → AllBelow n (changes_for more shares marks s left))
+      → AllBelow n (change_to s aims o (changes_for more shares marks s))
   one None rest = tt
   one (Some p) rest = (below, rest (aims_with aims (record { proc = p; space = s })))
 
@@ -327,35 +343,44 @@ abbrev MovedIn : WorkloadView → Readings → Type 0
 MovedIn w r = (s : SpaceNo) → r.moved ≡ Some s → s.0 < length w.spaces
 
 -- an up tells something that its space was not told, or its processor moved there
-up-range : (w : WorkloadView) (p : ProcNo) (r : Readings) (s : SpaceNo) (a : ActNo) (rest : List Record) → IsSized w r → MovedIn w r → TellsAll p r s a rest → s.0 < length w.spaces
+up-range : (w : WorkloadView) (p : ProcNo) (r : Readings) (s : SpaceNo) (a : ActNo) (rest : List Record) → IsSized w r → MovedIn w r → TellsAll p r s a rest
+    → s.0 < length w.spaces
 up-range w p r s a rest sized moved tells = elim (cases_lt s.0 (length w.spaces)) [
   | inl below ↦ below
   | inr past ↦ one r.moved refl past
 ] where
   to : (o : Option SpaceNo) → r.moved ≡ o → (b : Bool) → is_aim s.0 o ≡ b → length w.spaces ≤ s.0 → s.0 < length w.spaces
   to None is true at past = absurd (cc)
-  to (Some m) is true at past = let same = Rattle.sa_legal.proofs.StandingLemmas.same-number m.0 s.0 at in let below = moved m is in omega arith
+  to (Some m) is true at past = let same = Rattle.std.proofs.lemmas.Bool.eqb-true m.0 s.0 at in let below = moved m is in omega arith
   to o is false at past =
       let untold_len = sized.untold in
       let none : untold_of r s ≡ [] = get_or_past r.untold s.0 [] (omega arith) in
       let stays : is_moved_to r.moved s ≡ false = ap (is_aim s.0) is ∙ at in
-      absurd (tells.some (tells.notes ∙ ap (λ b. if b then Rattle.sa_base.specs.declared.record.Note.TheVariants.Add p ∷ untold_of r s else untold_of r s) stays ∙ none))
+      absurd
+      (tells.some (tells.notes ∙ ap (λ b. if b then Rattle.sa_base.specs.declared.record.Note.TheVariants.Add p ∷ untold_of r s else untold_of r s) stays
+      ∙ none))
 
   one : (o : Option SpaceNo) → r.moved ≡ o → length w.spaces ≤ s.0 → s.0 < length w.spaces
   one o is past = to o is (is_aim s.0 o) refl past
 
-ranged-each : (w : WorkloadView) (e : ℕ) (p : ProcNo) (r : Readings) (xs : List Record) → IsSized w r → MovedIn w r → EachMove (length w.spaces) xs → EachAim (length w.spaces) xs
+ranged-each : (w : WorkloadView) (e : ℕ) (p : ProcNo) (r : Readings) (xs : List Record) → IsSized w r → MovedIn w r → EachMove (length w.spaces) xs
+    → EachAim (length w.spaces) xs
     → EachRecord (TellsAllThen p) w e p r xs → AllRanged (length w.spaces) xs
 ranged-each w e p r [] sized moved moves aims tells = tt
-ranged-each w e p r (Up s a ∷ xs) sized moved moves aims tells =
-    (up-range w p r s a xs sized moved tells.0, ranged-each w e p (after_record w e p r (Up s a)) xs (sized-step w e p r (Up s a) sized) moved moves aims tells.1)
+ranged-each w e p r (Up s a ∷ xs) sized moved moves aims tells = (
+  up-range w p r s a xs sized moved tells.0,
+  ranged-each w e p (after_record w e p r (Up s a)) xs (sized-step w e p r (Up s a) sized) moved moves aims tells.1,
+)
 ranged-each w e p r (Move old (Some new) ∷ xs) sized moved moves aims tells = (
   tt,
   ranged-each w e p (after_record w e p r (Move old (Some new))) xs (sized-step w e p r (Move old (Some new)) sized)
       (λ s is. subst (λ (m : SpaceNo). m.0 < length w.spaces) (same_Some new s is) moves.0) moves.1 aims tells.1,
 )
-ranged-each w e p r (Move old None ∷ xs) sized moved moves aims tells =
-    (tt, ranged-each w e p (after_record w e p r (Move old None)) xs (sized-step w e p r (Move old None) sized) (λ s is. absurd (none-some s is)) moves aims tells.1)
+ranged-each w e p r (Move old None ∷ xs) sized moved moves aims tells = (
+  tt,
+  ranged-each w e p (after_record w e p r (Move old None)) xs (sized-step w e p r (Move old None) sized)
+      (λ s is. absurd (none-some s is)) moves aims tells.1,
+)
 ranged-each w e p r (Aim q (Some s) ∷ xs) sized moved moves aims tells =
     (aims.0, ranged-each w e p (after_record w e p r (Aim q (Some s))) xs (sized-step w e p r (Aim q (Some s)) sized) moved moves aims.1 tells.1)
 ranged-each w e p r (Aim q None ∷ xs) sized moved moves aims tells =
@@ -368,7 +393,8 @@ pub record IsInRange (w : WorkloadView) (past : List Item) (r : Readings) : Type
   pub homes : HomesIn w past
   pub aims : (p : ProcNo) (s : SpaceNo) → aim_of r p ≡ Some s → s.0 < length w.spaces
 
-set-aim : (xs : List (Option SpaceNo)) (i j : ℕ) (v : Option SpaceNo) (s : SpaceNo) → get_or (slice_set xs i v) j None ≡ Some s → (v ≡ Some s) ⊎ (get_or xs j None ≡ Some s)
+set-aim : (xs : List (Option SpaceNo)) (i j : ℕ) (v : Option SpaceNo) (s : SpaceNo) → get_or (slice_set xs i v) j None ≡ Some s
+    → (v ≡ Some s) ⊎ (get_or xs j None ≡ Some s)
 set-aim [] i j v s is = inr is
 set-aim (x ∷ xs) zero zero v s is = inl is
 set-aim (x ∷ xs) zero (suc j) v s is = inr is
@@ -381,14 +407,16 @@ range-step w e p past r x inv ranged = record {
   homes = λ a home is. home_one x ranged a home (sym (home-more past e p x a) ∙ is);
   aims = λ q s is. aim_one x ranged q s is;
 } where
-  home_one : (y : Record) → Ranged (length w.spaces) y → (a : ActNo) (home : Home) → option_or (home_in a p y) (home_of past a) ≡ Some home → home.space.0 < length w.spaces
+  home_one : (y : Record) → Ranged (length w.spaces) y → (a : ActNo) (home : Home) → option_or (home_in a p y) (home_of past a) ≡ Some home
+      → home.space.0 < length w.spaces
   home_one (Up s b) below a home is = up (b.0 == a.0) is where
     up : (c : Bool) → option_or (if c then Some (record { space = s; proc = p }) else None) (home_of past a) ≡ Some home → home.space.0 < length w.spaces
     up true same = subst (λ (h : Home). h.space.0 < length w.spaces) (same_Some (record { space = s; proc = p }) home same) below
     up false same = inv.homes a home same
   home_one y below a home is = inv.homes a home is
 
-  aim_one : (y : Record) → Ranged (length w.spaces) y → (q : ProcNo) (s : SpaceNo) → get_or (Rattle.sa_laws.specs.Record.aims_after r.aims y) q.0 None ≡ Some s → s.0 < length w.spaces
+  aim_one : (y : Record) → Ranged (length w.spaces) y → (q : ProcNo) (s : SpaceNo) → get_or (Rattle.sa_laws.specs.Record.aims_after r.aims y) q.0 None ≡ Some s
+      → s.0 < length w.spaces
   aim_one (Aim t (Some b)) below q s is = elim (set-aim r.aims t.0 q.0 (Some b) s is) [
     | inl new ↦ subst (λ (k : SpaceNo). k.0 < length w.spaces) (same_Some b s new) below
     | inr old ↦ inv.aims q s old
@@ -396,7 +424,8 @@ range-step w e p past r x inv ranged = record {
   aim_one (Aim t None) below q s is = elim (set-aim r.aims t.0 q.0 None s is) [ inl new ↦ absurd (none-some s new) | inr old ↦ inv.aims q s old ]
   aim_one y below q s is = inv.aims q s is
 
-range-records : (w : WorkloadView) (e : ℕ) (p : ProcNo) (past : List Item) (r : Readings) (xs : List Record) → IsInRange w past r → AllRanged (length w.spaces) xs
+range-records : (w : WorkloadView) (e : ℕ) (p : ProcNo) (past : List Item) (r : Readings) (xs : List Record) → IsInRange w past r
+    → AllRanged (length w.spaces) xs
     → IsInRange w (past ++ items_at e p xs) (after_records w e p r xs)
 range-records w e p past r [] inv all = subst (λ ys. IsInRange w ys r) (sym (append-nil past)) inv
 range-records w e p past r (x ∷ xs) inv all =
@@ -407,7 +436,8 @@ pub range-event : (w : WorkloadView) (past : List Item) (r : Readings) (e : Even
     → IsInRange w (past ++ items_at e.number e.proc e.records) (Rattle.sa_laws.specs.History.behind_all w e r)
 range-event w past r e inv sized law =
     range-records w e.number e.proc past (begun w e r) e.records (record { homes = inv.homes; aims = inv.aims })
-    (ranged-each w e.number e.proc (begun w e r) e.records sized (λ s is. absurd (none-some s is)) (event-moves w r e law (λ s is. inv.aims e.proc s is)) (event-aims w r e law) law.all_told.told)
+    (ranged-each w e.number e.proc (begun w e r) e.records sized (λ s is. absurd (none-some s is)) (event-moves w r e law (λ s is. inv.aims e.proc s is))
+    (event-aims w r e law) law.all_told.told)
 
 absent : (n k : ℕ) (s : SpaceNo) → get_or (replicate n None) k None ≡ Some s → ⊥
 absent zero k s is = none-some s is

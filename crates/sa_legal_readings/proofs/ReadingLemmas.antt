@@ -1,16 +1,17 @@
 -- Each reading at each moment of a legal run.
 use Rattle.std.proofs.Common.{◌≡◌, ℕ, zero, suc, refl, sym, ◌∙◌, ap, subst, None, List, [], ◌∷◌, ◌++◌, take, append_assoc, append-nil}
-use Rattle.std.specs.Prelude.{slice_get, Contains}
+use Rattle.std.specs.Prelude.{Contains}
 use Rattle.std.proofs.lemmas.Option.{none-some}
 use Rattle.sa_base.specs.declared.record.Record.{Record}
 use Rattle.sa_base.specs.declared.record.Item.{Item}
 use Rattle.sa_spaces.specs.Workload.{WorkloadView, IsWorkload}
 use Rattle.sa_laws.specs.Event.{Event, items_of, events_of}
-use Rattle.sa_laws.specs.Readings.{Readings, opening_readings, life_of}
+use Rattle.sa_laws.specs.Readings.{Readings, opening_readings}
 use Rattle.sa_laws.specs.History.{is_inside, after_event, after_events}
 use Rattle.sa_laws.specs.Rules.{IsLawful, fast_threads}
 use Rattle.sa_legal.specs.Fold.{AreLawful}
 use Rattle.sa_laws.specs.Legal.{IsLegal, before}
+use Rattle.sa_laws.proofs.Records.{items-push}
 use Rattle.sa_legal.proofs.EventLemmas.{legal-lawful}
 use Rattle.sa_legal_readings.specs.Steps.{with_event}
 use Rattle.sa_legal_readings.specs.Reads.{AreRead, AreReadAtEvents, MachineIsRead, MarksAreRead, LinesAreRead, LoadsAreRead, HoldingsAreRead, ReadyAreRead, TakenAreRead, IosAreRead, PagesAreRead, StepsAreRead, step_of, OwnEventIsRead, LivesHaveSpaces}
@@ -18,7 +19,7 @@ use Rattle.sa_legal_readings.proofs.LoadLemmas.{loads-same}
 use Rattle.sa_legal_readings.proofs.TraceLemmas.{read-begins, read-start}
 use Rattle.sa_legal_readings.proofs.OwnLemmas.{stepper}
 use Rattle.sa_legal_readings.proofs.InLemmas.{settles-same}
-use Rattle.sa_legal_readings.proofs.AfterLemmas.{IsSaidAt, event-at, said-next, items-more}
+use Rattle.sa_legal_readings.proofs.AfterLemmas.{IsSaidAt, event-at, said-next}
 use Rattle.sa_legal_readings.proofs.RangeLemmas.{IsInRange, range-event, range-start}
 
 -- what is read after events, and in range
@@ -26,13 +27,14 @@ pub record IsReadAfter (w : WorkloadView) (es : List Event) (r : Readings) : Typ
   pub said : IsSaidAt w es r
   pub range : IsInRange w (items_of es) r
 
-pub after-next : (w : WorkloadView) (es : List Event) (r : Readings) (e : Event) → IsReadAfter w es r → IsLawful fast_threads w r e → IsReadAfter w (es ++ e ∷ []) (after_event is_inside w r e)
+pub after-next : (w : WorkloadView) (es : List Event) (r : Readings) (e : Event) → IsReadAfter w es r → IsLawful fast_threads w r e
+    → IsReadAfter w (es ++ e ∷ []) (after_event is_inside w r e)
 after-next w es r e inv law =
     let begins = read-begins w (items_of es) r e law.numbering.number inv.said.at in
     let range = range-event w (items_of es) r e inv.range begins.read.sized law in
     record {
       said = said-next w es r e inv.said law range.homes;
-      range = subst (λ ys. IsInRange w ys (after_event is_inside w r e)) (sym (items-more es e)) (record { homes = range.homes; aims = range.aims });
+      range = subst (λ ys. IsInRange w ys (after_event is_inside w r e)) (sym (items-push es e)) (record { homes = range.homes; aims = range.aims });
     }
 
 after-each : (w : WorkloadView) (es : List Event) (r : Readings) (events : List Event) → IsReadAfter w es r → AreLawful fast_threads w r events → (n : ℕ)
@@ -56,7 +58,9 @@ after-start w = record {
   };
   range = range-start w;
 } where
-  owned-start : (n : ℕ) → Rattle.std.specs.Prelude.replicate n None ≡ Rattle.std.specs.Prelude.map (Rattle.sa_laws.specs.Readings.space_of_life (opening_readings w)) (Rattle.std.specs.Prelude.replicate n None)
+  owned-start : (n : ℕ)
+      → Rattle.std.specs.Prelude.replicate n None ≡ Rattle.std.specs.Prelude.map (Rattle.sa_laws.specs.Readings.space_of_life (opening_readings w))
+      (Rattle.std.specs.Prelude.replicate n None)
   owned-start zero = refl
   owned-start (suc n) = ap (λ os. None ∷ os) (owned-start n)
 
@@ -98,7 +102,9 @@ legal-ready w items legal n = (legal-after w items legal n).said.at.read.ready
 pub legal-taken : (w : WorkloadView) (items : List Item) → IsLegal fast_threads w items → AreRead (TakenAreRead w) w items
 legal-taken w items legal n = let after = legal-after w items legal n in record {
   order = after.said.at.read.taken;
-  said = λ a home is taken. subst (λ acts. Contains acts a) (sym (after.said.at.read.taken home.space (after.range.homes a home is))) (after.said.at.read.all_taken a home is taken);
+  said =
+      λ a home is taken. subst (λ acts. Contains acts a) (sym (after.said.at.read.taken home.space (after.range.homes a home is)))
+      (after.said.at.read.all_taken a home is taken);
 }
 
 pub legal-ios : (w : WorkloadView) (items : List Item) → IsLegal fast_threads w items → AreRead (IosAreRead w) w items
@@ -127,9 +133,12 @@ legal-own-events w items legal n e at =
     let known = event-at w past r e said.at said.owned (legal.each n e at) in
     record {
       own = stepper-is r e e.records ∙ known.own;
-      settles = λ first others is. settles-same w past (with_event past e) r (Rattle.sa_laws.specs.History.behind_all w e r) first known.after.state (known.wants first others is);
+      settles =
+          λ first others is. settles-same w past (with_event past e) r (Rattle.sa_laws.specs.History.behind_all w e r) first known.after.state
+          (known.wants first others is);
     }
 
 pub legal-life-spaces : (w : WorkloadView) (items : List Item) → IsLegal fast_threads w items → AreRead (LivesHaveSpaces w) w items
 legal-life-spaces w items legal n a life is =
-    let after = legal-after w items legal n in after.range.homes a (record { space = life.space; proc = life.proc }) (sym (after.said.at.read.homes a.0 life is))
+    let after = legal-after w items legal n in
+    after.range.homes a (record { space = life.space; proc = life.proc }) (sym (after.said.at.read.homes a.0 life is))

@@ -21,13 +21,15 @@ use Rattle.sa_laws.specs.Machine.{changed}
 use Rattle.sa_laws.specs.Life.{some_lock}
 use Rattle.sa_laws.specs.Readings.{Readings, Listed, demand_of, untold_of, taken_of, ready_of, space_of_life, life_of, life_on}
 use Rattle.sa_laws.specs.Record.{running_after, marks_after, mark_after, untold_after, taken_after, with_act, without_act, is_other_note, is_other_act, length_behind, blocking, blocking_for, locks_one, under_way_after, with_io, page_touched, page_in, is_io_of_other, fetches_other, first_list, is_other_thread, ready_after}
+use Rattle.sa_laws.proofs.Lengths.{with-length, without-length}
 use Rattle.sa_legal.specs.Words.{last_want, ios_begun}
+use Rattle.sa_legal.proofs.ReadLemmas.{set-said}
 use Rattle.sa_legal_readings.specs.Moments.{Home, machine_of, directly_before, run_in, home_of, runs_on}
 use Rattle.sa_legal_readings.specs.Marks.{mark_in}
 use Rattle.sa_legal_readings.specs.Loads.{Untold, untold, untold_by, with_noted}
 use Rattle.sa_legal_readings.specs.Holdings.{is_home, is_other, taken_by, locks_of, first_list_of, ready_by}
 use Rattle.sa_legal_readings.specs.Ios.{io_before, touched, block_with, block_for, io_from, ios_by}
-use Rattle.sa_legal_readings.proofs.ListLemmas.{set-said, if-out, none-said, set-absent, set-list, map-list, map-filter}
+use Rattle.sa_legal_readings.proofs.ListLemmas.{if-out, none-said, set-absent, set-list, map-list, map-filter}
 
 -- the running lives
 pub run-more : (running : List (Option ActNo)) (p q : ProcNo) (x : Record) → p.0 < length running
@@ -79,7 +81,9 @@ pub mark-more : (w : WorkloadView) (e : ℕ) (p q : ProcNo) (past : List Item) (
 mark-more w e p q past r (Up s a) within last demands known = set-said r.marks p.0 q.0 false false within
 mark-more w e p q past r (Want s n) within last demands known =
     want-mark r.marks p.0 q.0 r.last (demand_of r s) n (last_want past s) within (λ none. demands s (known none))
-    ∙ ap (λ (o : Option Record). unwrap_or (if p.0 == q.0 then (if is_none o then Some (nat_lt n (last_want past s)) else None) else None) (get_or r.marks q.0 false)) last
+    ∙ ap
+    (λ (o : Option Record). unwrap_or (if p.0 == q.0 then (if is_none o then Some (nat_lt n (last_want past s)) else None) else None)
+    (get_or r.marks q.0 false)) last
 mark-more w e p q past r x within last demands known = sym (none-said (p.0 == q.0) (get_or r.marks q.0 false))
 
 pub marks-length : (p : ProcNo) (r : Readings) (x : Record) → length (marks_after p r x) ≡ length r.marks
@@ -109,7 +113,8 @@ untold-more r (Told n) s us within is =
 untold-more r x s us within is = is
 
 -- the ready threads
-pub ready-more : (w : WorkloadView) (p : ProcNo) (past : List Item) (r : Readings) (x : Record) (s : SpaceNo) (all : List Listed) → s.0 < length r.ready → ready_of r s ≡ all
+pub ready-more : (w : WorkloadView) (p : ProcNo) (past : List Item) (r : Readings) (x : Record) (s : SpaceNo) (all : List Listed) → s.0 < length r.ready
+    → ready_of r s ≡ all
     → first_list (life_on r p) p ≡ first_list_of w past (runs_on past p) p → get_or (ready_after p r x) s.0 [] ≡ ready_by w s past all p x
 ready-more w p past r (Ready of t) s all within is first =
     set-list (λ ls. ls ++ record { thread = t; list = first_list (life_on r p) p } ∷ []) r.ready of.0 s.0 within
@@ -158,23 +163,16 @@ taken-more r past (GiveBack a) s ts at within is =
     ∙ ap (λ (o : Option Home). if is_home s o then filter (is_other a) ts else ts) (sym at.said)
 taken-more r past x s ts at within is = is
 
-act-length : (taken : List (List ActNo)) (o : Option SpaceNo) (a : ActNo) → length (with_act taken o a) ≡ length taken
-act-length taken None a = refl
-act-length taken (Some s) a = length-set taken s.0 _
-
-less-length : (taken : List (List ActNo)) (o : Option SpaceNo) (a : ActNo) → length (without_act taken o a) ≡ length taken
-less-length taken None a = refl
-less-length taken (Some s) a = length-set taken s.0 _
-
 pub taken-length : (r : Readings) (x : Record) → length (taken_after r x) ≡ length r.taken
-taken-length r (Told (note.Preempted a)) = act-length r.taken (space_of_life r (Some a)) a
-taken-length r (Told (note.Unblocked a)) = act-length r.taken (space_of_life r (Some a)) a
+taken-length r (Told (note.Preempted a)) = with-length r.taken (space_of_life r (Some a)) a
+taken-length r (Told (note.Unblocked a)) = with-length r.taken (space_of_life r (Some a)) a
 taken-length r (Told (note.Add q)) = refl
 taken-length r (Told (note.Blocked a)) = refl
-taken-length r (GiveBack a) = less-length r.taken (space_of_life r (Some a)) a
+taken-length r (GiveBack a) = without-length r.taken (space_of_life r (Some a)) a
 taken-length r x = refl
 
-behind-same : (w : WorkloadView) (r : Readings) (s : SpaceNo) (t : Option ThreadNo) (last : Option Record) → length_behind w r s t last ≡ io_before w r.state s t last
+behind-same : (w : WorkloadView) (r : Readings) (s : SpaceNo) (t : Option ThreadNo) (last : Option Record)
+    → length_behind w r s t last ≡ io_before w r.state s t last
 behind-same w r s t None = refl
 behind-same w r s t (Some (Ins of u i)) = refl
 behind-same w r s t (Some x) = refl
@@ -188,20 +186,24 @@ blocks-same : (w : WorkloadView) (r : Readings) (past : List Item) (s : SpaceNo)
 blocks-same w r past s t a (Some n) state locks = refl
 blocks-same w r past s t a None state locks =
     ap (λ page. record { kind = Page s a page; length = w.fetch })
-    (ap (λ b. if b then PACKAGE_PAGE else page_touched w r s t) locks ∙ ap (λ k. if some_lock (locks_of w past a) then PACKAGE_PAGE else k) (touched-same w r (machine_of w past) s t state))
+    (ap (λ b. if b then PACKAGE_PAGE else page_touched w r s t) locks
+    ∙ ap (λ k. if some_lock (locks_of w past a) then PACKAGE_PAGE else k) (touched-same w r (machine_of w past) s t state))
 
-pub block-same : (w : WorkloadView) (r : Readings) (past : List Item) (e : ℕ) (s : SpaceNo) (t : Option ThreadNo) (a : ActNo) → r.state ≡ machine_of w past → r.last ≡ directly_before e past
+pub block-same : (w : WorkloadView) (r : Readings) (past : List Item) (e : ℕ) (s : SpaceNo) (t : Option ThreadNo) (a : ActNo) → r.state ≡ machine_of w past
+    → r.last ≡ directly_before e past
     → locks_one (life_of r a) ≡ some_lock (locks_of w past a) → blocking w r s t a ≡ block_for w past e s t a
 block-same w r past e s t a state last locks =
     blocks-same w r past s t a (length_behind w r s t r.last) state locks
-    ∙ ap (block_with w past s t a) (behind-same w r s t r.last ∙ ap (λ (m : State). io_before w m s t r.last) state ∙ ap (io_before w (machine_of w past) s t) last)
+    ∙ ap (block_with w past s t a)
+    (behind-same w r s t r.last ∙ ap (λ (m : State). io_before w m s t r.last) state ∙ ap (io_before w (machine_of w past) s t) last)
 
 -- the life of a block has the locks that are said
 abbrev pub BlocksWith : WorkloadView → Readings → List Item → Record → Type 0
 BlocksWith w r past (Block s t a io) = locks_one (life_of r a) ≡ some_lock (locks_of w past a)
 BlocksWith w r past _ = Unit {0}
 
-pub under-more : (w : WorkloadView) (r : Readings) (past : List Item) (e : ℕ) (x : Record) (ios : List Io) → r.under_way ≡ ios → r.begun ≡ ios_begun past → r.state ≡ machine_of w past
+pub under-more : (w : WorkloadView) (r : Readings) (past : List Item) (e : ℕ) (x : Record) (ios : List Io) → r.under_way ≡ ios → r.begun ≡ ios_begun past
+    → r.state ≡ machine_of w past
     → r.last ≡ directly_before e past → BlocksWith w r past x → under_way_after w e r x ≡ ios_by w past ios e x
 under-more w r past e (Block s t a io) ios is begun state last locks =
     ap (λ b. with_io e b r) (block-same w r past e s t a state last locks)

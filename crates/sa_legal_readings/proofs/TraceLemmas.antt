@@ -1,6 +1,6 @@
 -- From event to event: at the end of each event of a legal run what is read is what the words say.
 use Rattle.std.proofs.Common.{◌≡◌, ◌≢◌, ℕ, zero, suc, ◌<◌, ◌≤◌, refl, sym, ◌∙◌, ap, subst, arith, Some, None, List, [], ◌∷◌, ◌++◌, length, false, append_assoc, append-nil}
-use Rattle.std.specs.Prelude.{Option, Bool, ◌==◌, if◌then◌else◌, get_or, slice_get, replicate, Contains, All}
+use Rattle.std.specs.Prelude.{Option, ◌==◌, if◌then◌else◌, get_or, slice_get, replicate, All}
 use Rattle.std.specs.List.{list_any}
 use Rattle.std.specs.Option.{option_or}
 use Rattle.std.proofs.lemmas.List.{length-replicate, length-map, get_or-map, get_or-replicate}
@@ -14,6 +14,7 @@ use Rattle.sa_base.specs.Items.{items_at}
 use Rattle.sa_spaces.specs.Workload.{WorkloadView, IsWorkload, IsEviction}
 use Rattle.sa_spaces.specs.Space.{IsSpace}
 use Rattle.sa_devices.specs.Pages.{opening_pages}
+use Rattle.sa_devices.proofs.SoundLemmas.{length-evicted}
 use Rattle.sa_laws.specs.Event.{Event, items_of, events_of}
 use Rattle.sa_laws.specs.State.{opening_space, no_space}
 use Rattle.sa_laws.specs.Readings.{Readings, opening_readings, first_listed}
@@ -32,10 +33,10 @@ use Rattle.sa_legal_readings.specs.Moments.{directly_before, record_of_event}
 use Rattle.sa_legal_readings.specs.Pages.{is_resident_in, evicted_if, is_evicted}
 use Rattle.sa_legal_readings.proofs.LifeLemmas.{Said, said-if}
 use Rattle.sa_legal_readings.proofs.FieldLemmas.{in_locks, in_hand, open_cont, held_thread, at_home}
-use Rattle.sa_legal_readings.proofs.PageLemmas.{has_at, IsSmall, evicted-more, evicted-length, opening-pages}
+use Rattle.sa_legal_readings.proofs.PageLemmas.{has_at, IsSmall, evicted-more, opening-pages}
 use Rattle.sa_legal_readings.proofs.RaisedLemmas.{Until, RaisedAll, raised-begins, raised-ends, EndsWithEvent}
 use Rattle.sa_legal_readings.proofs.KnownLemmas.{known-event}
-use Rattle.sa_legal_readings.proofs.TrackLemmas.{Known, IsSized, IsRead, IsReadIn, read-step}
+use Rattle.sa_legal_readings.proofs.TrackLemmas.{Known, IsRead, IsReadIn, read-step}
 use Rattle.sa_legal.proofs.MomentLemmas.{number-kept}
 use Rattle.sa_legal.proofs.ReadLemmas.{differ}
 
@@ -66,7 +67,8 @@ last-late past e until = one (last_said Some past) refl where
 small-evicts : (w : WorkloadView) → IsWorkload w → All IsSmall w.evictions
 small-evicts w ok = All-weaker (IsEviction (length w.spaces)) IsSmall (λ e is. let page = is.page in omega arith) w.evictions ok.evictions
 
-pub read-begins : (w : WorkloadView) (past : List Item) (r : Readings) (e : Event) → e.number ≡ r.number → IsReadAt w past r → IsReadIn w e.number e.proc past (begun w e r)
+pub read-begins : (w : WorkloadView) (past : List Item) (r : Readings) (e : Event) → e.number ≡ r.number → IsReadAt w past r
+    → IsReadIn w e.number e.proc past (begun w e r)
 read-begins w past r e number at =
     let read = at.read in
     let until : Until past e.number = subst (Until past) (sym number) at.until in
@@ -83,7 +85,7 @@ read-begins w past r e number at =
           untold = read.sized.untold;
           taken = read.sized.taken;
           ready = read.sized.ready;
-          pages = evicted-length e.number w.evictions r.pages ∙ read.sized.pages;
+          pages = length-evicted e.number w.evictions r.pages ∙ read.sized.pages;
         };
         state = read.state;
         running = read.running;
@@ -110,7 +112,9 @@ read-begins w past r e number at =
           let len = read.sized.pages in
           evicted-more e.number w.evictions r.pages s k (small-evicts w ok) (omega arith) few
           ∙ ap (λ b. if is_evicted w e.number s k then false else b) (at.pages s k ok below few)
-          ∙ sym (ap (λ (o : Option Record). evicted_if (Rattle.std.specs.Prelude.is_none o) w e.number s k (is_resident_in w past s k)) (last-late past e.number until));
+          ∙ sym
+          (ap (λ (o : Option Record). evicted_if (Rattle.std.specs.Prelude.is_none o) w e.number s k (is_resident_in w past s k))
+          (last-late past e.number until));
     }
 
 -- at the end of an event the fields of lives that records change are as before
@@ -118,10 +122,12 @@ said-ended : {F : Type 0} (g : Life → F) (w : WorkloadView) (before : Readings
     → ((first : Record) (l : Life) → g (stepped is_inside w before e r first l) ≡ g l) → ((l : Life) → g (arisen is_inside w before e r l) ≡ g l)
     → Said g r.lives has → Said g (ended is_inside w before e r).lives has
 said-ended g w before e r has by_step by_up said =
-    said-if g (list_any is_up e.records) (arisen is_inside w before e r) (Rattle.sa_laws.specs.Readings.running_of r e.proc) (with_step is_inside w before e r e.records r.lives) has by_up (step e.records) where
+    said-if g (list_any is_up e.records) (arisen is_inside w before e r) (Rattle.sa_laws.specs.Readings.running_of r e.proc)
+    (with_step is_inside w before e r e.records r.lives) has by_up (step e.records) where
       step : (xs : List Record) → Said g (with_step is_inside w before e r xs r.lives) has
       step [] = said
-      step (x ∷ xs) = said-if g (is_step x) (stepped is_inside w before e r x) (Rattle.sa_laws.specs.Readings.running_of before e.proc) r.lives has (by_step x) said
+      step (x ∷ xs) =
+          said-if g (is_step x) (stepped is_inside w before e r x) (Rattle.sa_laws.specs.Readings.running_of before e.proc) r.lives has (by_step x) said
 
 pub read-ends : (w : WorkloadView) (past : List Item) (before : Readings) (e : Event) (r : Readings) → r.number ≡ e.number → EndsWithEvent e.number e.proc past
     → IsReadIn w e.number e.proc past r → IsReadAt w past (ended is_inside w before e r)
@@ -164,14 +170,16 @@ read-ends w past before e r number ends inv =
       raised = raised-ends w e.number e.proc past r.lines ends inv.until inv.raised;
       pages = λ s k ok below few.
           inv.pages s k ok below few
-          ∙ ap (λ (o : Option Record). evicted_if (Rattle.std.specs.Prelude.is_none o) w e.number s k (is_resident_in w past s k)) (later e.number e.proc past ends);
+          ∙ ap (λ (o : Option Record). evicted_if (Rattle.std.specs.Prelude.is_none o) w e.number s k (is_resident_in w past s k))
+          (later e.number e.proc past ends);
     }
   where
     later : (n : ℕ) (p : ProcNo) (ys : List Item) → (there : EndsWithEvent n p ys) → directly_before n ys ≡ Some there.1
     later n p ys there = ap (directly_before n) there.2 ∙ Rattle.sa_legal_readings.proofs.TrackLemmas.last-is n p there.0 there.1
 
 -- the records of an event
-pub read-records : (w : WorkloadView) (e : ℕ) (p : ProcNo) (past : List Item) (r : Readings) (xs : List Record) → IsReadIn w e p past r → EachRecord (Known w p) w e p r xs
+pub read-records : (w : WorkloadView) (e : ℕ) (p : ProcNo) (past : List Item) (r : Readings) (xs : List Record) → IsReadIn w e p past r
+    → EachRecord (Known w p) w e p r xs
     → IsReadIn w e p (past ++ items_at e p xs) (after_records w e p r xs)
 read-records w e p past r [] inv known = subst (λ ys. IsReadIn w e p ys r) (sym (append-nil past)) inv
 read-records w e p past r (x ∷ xs) inv known =
@@ -200,7 +208,8 @@ read-event w past r e at law =
 pub read-next : (w : WorkloadView) (past : List Item) (r : Readings) (e : Event) → IsReadAt w past r → IsLawful fast_threads w r e
     → IsReadAt w (past ++ items_at e.number e.proc e.records) (after_event is_inside w r e)
 read-next w past r e at law =
-    read-ends w (past ++ items_at e.number e.proc e.records) r e (behind_all w e r) (number-kept w e.number e.proc (begun w e r) e.records ∙ sym law.numbering.number)
+    read-ends w (past ++ items_at e.number e.proc e.records) r e (behind_all w e r)
+    (number-kept w e.number e.proc (begun w e r) e.records ∙ sym law.numbering.number)
     (ends-event e past law.numbering.some) (read-event w past r e at law)
 
 -- before any event
@@ -209,9 +218,11 @@ absent zero k d = refl
 absent (suc n) zero d = refl
 absent (suc n) (suc k) d = absent n k d
 
-small-pages : (w : WorkloadView) (s : SpaceNo) → IsWorkload w → s.0 < length w.spaces → All (λ page. page < 16) (Rattle.sa_laws.specs.State.space_def w s).absent
+small-pages : (w : WorkloadView) (s : SpaceNo) → IsWorkload w → s.0 < length w.spaces
+    → All (λ page. page < 16) (Rattle.sa_laws.specs.State.space_def w s).absent
 small-pages w s ok below =
-    All-weaker (λ page. page ≤ Rattle.sa_instr.specs.declared.limits.TheConstants.LAST_PAGE) (λ page. page < 16) (λ page is. omega arith) (Rattle.sa_laws.specs.State.space_def w s).absent
+    All-weaker (λ page. page ≤ Rattle.sa_instr.specs.declared.limits.TheConstants.LAST_PAGE) (λ page. page < 16) (λ page is. omega arith)
+    (Rattle.sa_laws.specs.State.space_def w s).absent
     (All-get_or IsSpace w.spaces s.0 no_space below ok.spaces).pages
 
 pub read-start : (w : WorkloadView) → IsReadAt w [] (opening_readings w)
@@ -260,7 +271,8 @@ pub read-events : (w : WorkloadView) (past : List Item) (r : Readings) (events :
     → IsReadAt w (past ++ items_of events) (after_events is_inside w r events)
 read-events w past r [] at law = subst (λ ys. IsReadAt w ys r) (sym (append-nil past)) at
 read-events w past r (e ∷ es) at law =
-    subst (λ ys. IsReadAt w ys (after_events is_inside w (after_event is_inside w r e) es)) (append_assoc past (items_at e.number e.proc e.records) (items_of es))
+    subst (λ ys. IsReadAt w ys (after_events is_inside w (after_event is_inside w r e) es))
+    (append_assoc past (items_at e.number e.proc e.records) (items_of es))
     (read-events w (past ++ items_at e.number e.proc e.records) (after_event is_inside w r e) es (read-next w past r e at law.0) law.1)
 
 pub legal-read : (w : WorkloadView) (items : List Item) → IsLegal fast_threads w items → IsReadAt w items (readings is_inside w (events_of items))

@@ -1,6 +1,6 @@
 -- Along a legal run what is read is what the words say, item by item.
 use Rattle.std.proofs.Common.{◌≡◌, ℕ, zero, suc, ◌+◌, ◌<◌, ◌⊎◌, inl, inr, refl, sym, ◌∙◌, ap, subst, arith, Some, None, List, [], ◌∷◌, ◌++◌, length, map, true, false}
-use Rattle.std.specs.Prelude.{Option, Bool, ◌==◌, if◌then◌else◌, get_or, slice_get, unwrap_or, Contains, filter}
+use Rattle.std.specs.Prelude.{Option, Bool, ◌==◌, if◌then◌else◌, get_or, slice_get, Contains, filter}
 use Rattle.std.specs.List.{list_any}
 use Rattle.std.specs.Option.{option_map, option_or}
 use Rattle.std.proofs.lemmas.Bool.{cases_eq}
@@ -12,22 +12,23 @@ use Rattle.sa_base.specs.declared.number.ThreadNo.{ThreadNo}
 use Rattle.sa_base.specs.declared.number.ActNo.{ActNo}
 use Rattle.sa_base.specs.declared.record.Note.TheVariants as note
 use Rattle.sa_base.specs.declared.record.Record.{Record}
-use Rattle.sa_base.specs.declared.record.Record.TheVariants.{Stop, Block, Unblock, Up, Told, Want, GiveBack, Take}
+use Rattle.sa_base.specs.declared.record.Record.TheVariants.{Stop, Block, Unblock, Up, Told, GiveBack, Take}
 use Rattle.sa_base.specs.declared.record.Item.{Item}
 use Rattle.sa_spaces.specs.Workload.{WorkloadView, IsWorkload}
 use Rattle.sa_laws.specs.State.{State, space_at}
 use Rattle.sa_laws.specs.Life.{Life, some_lock}
 use Rattle.sa_laws.specs.Readings.{Readings, running_of, life_of, demand_of, untold_of, taken_of, counts, has_hand, life_if, life_on, ready_of}
-use Rattle.sa_laws.specs.Record.{after_record, lives_after, lines_after, locks_one, marks_after, first_list, list_of}
+use Rattle.sa_laws.specs.Record.{after_record, lives_after, locks_one, marks_after, first_list, list_of}
 use Rattle.sa_laws.specs.Upcalls.{RaisesLine}
+use Rattle.sa_laws.proofs.Lengths.{demands-length, lines-length}
 use Rattle.sa_legal.specs.Words.{last_want, want_said, begins_io, ios_begun}
 use Rattle.sa_legal.proofs.WalkLemmas.{item}
-use Rattle.sa_legal.proofs.ReadLemmas.{said-more, last-more, demand-more, demands-length, untold-length}
+use Rattle.sa_legal.proofs.ReadLemmas.{said-more, last-more, demand-more, untold-length}
 use Rattle.sa_legal.proofs.ShapeLemmas.{MovesLives}
 use Rattle.sa_legal.proofs.MovesLemmas.{stood}
-use Rattle.sa_legal.proofs.StandingLemmas.{Standing, Runs, Blocked, Stopped, Returned, Taken, Agrees, Stood, space_in, standing_after, agrees-step, kind, same-number}
+use Rattle.sa_legal.proofs.StandingLemmas.{Standing, Runs, Blocked, Stopped, Returned, Taken, Agrees, Stood, space_in, standing_after, agrees-step, kind}
 use Rattle.sa_legal.proofs.HolderLemmas.{has-life, on-life}
-use Rattle.sa_legal_readings.specs.Moments.{Home, machine_of, machine_by, directly_before, record_of_event, is_first, runs_on, run_said, last_up, up_said, home_of}
+use Rattle.sa_legal_readings.specs.Moments.{machine_of, machine_by, directly_before, record_of_event, is_first, runs_on, run_said, last_up, up_said, home_of}
 use Rattle.sa_legal_readings.specs.Marks.{is_marked, mark_said}
 use Rattle.sa_legal_readings.specs.Loads.{Untold, untold_in, untold_at, untold_by, is_not_told, with_noted}
 use Rattle.sa_legal_readings.specs.Holdings.{locks_of, locks_at, hands_at, conts_at, stopped_of, stopped_at, stopped_by, taken_in, taken_at, has_in_hand, first_list_of, ready_in, ready_at}
@@ -90,7 +91,7 @@ pub record IsRead (w : WorkloadView) (past : List Item) (r : Readings) : Type 0 
   pub begun : r.begun ≡ ios_begun past
   pub ios : r.under_way ≡ ios_of w past
 
--- .. within event e of processor p
+-- what is read within event e of processor p
 pub record IsReadIn (w : WorkloadView) (e : ℕ) (p : ProcNo) (past : List Item) (r : Readings) : Type 0 where
   pub read : IsRead w past r
   pub last : r.last ≡ directly_before e past
@@ -107,7 +108,8 @@ home-at w past r a life read is = record {
   said = sym (read.homes a.0 life is);
 }
 
-pub life-at : (w : WorkloadView) (past : List Item) (r : Readings) (a : ActNo) (s : SpaceNo) (x : Standing) → (read : IsRead w past r) → read.st a.0 ≡ x → space_in x ≡ Some s
+pub life-at : (w : WorkloadView) (past : List Item) (r : Readings) (a : ActNo) (s : SpaceNo) (x : Standing) → (read : IsRead w past r) → read.st a.0 ≡ x
+    → space_in x ≡ Some s
     → (life : Life) × (life_of r a ≡ Some life)
 life-at w past r a s x read is space =
     let there = has-life r.lives a.0 s (life_of r a) refl (read.agrees.lives a ∙ ap space_in is ∙ space) in (there.0, there.1)
@@ -136,7 +138,8 @@ blocks-with w past r (Block s t a io) read names = ap locks_one names.1 ∙ ap s
 blocks-with w past r x read names = tt
 
 -- a take gives the lock that the words say
-hand-same : (w : WorkloadView) (past : List Item) (p : ProcNo) (r : Readings) (s : SpaceNo) (a : ActNo) (life : Life) (n : Option ActNo) → IsRead w past r → n ≡ Some a → r.lives a.0 ≡ Some life
+hand-same : (w : WorkloadView) (past : List Item) (p : ProcNo) (r : Readings) (s : SpaceNo) (a : ActNo) (life : Life) (n : Option ActNo) → IsRead w past r
+    → n ≡ Some a → r.lives a.0 ≡ Some life
     → s ≡ life.space → has_hand r life ≡ has_in_hand w past s n
 hand-same w past p r s a life n read runs is space =
     ap (λ (m : State). list_any (counts (space_at m life.space)) life.hand) read.state
@@ -144,7 +147,8 @@ hand-same w past p r s a life n read runs is space =
     ∙ ap (list_any (counts (space_at (machine_of w past) s))) (read.hands a.0 life is)
     ∙ ap (has_in_hand w past s) (sym runs)
 
-takes-lock : (w : WorkloadView) (past : List Item) (p : ProcNo) (r : Readings) (x : Record) (rest : List Record) → IsRead w past r → MovesLives w p r x rest → TakesLock w past p r x
+takes-lock : (w : WorkloadView) (past : List Item) (p : ProcNo) (r : Readings) (x : Record) (rest : List Record) → IsRead w past r → MovesLives w p r x rest
+    → TakesLock w past p r x
 takes-lock w past p r (Take s l t) rest read law = λ a life runs is.
     let same : life ≡ law.0 = on-life r p a life law.0 runs is law.1 in
     let space : s ≡ life.space = law.2.space ∙ ap (λ (k : Life). k.space) (sym same) in
@@ -153,9 +157,11 @@ takes-lock w past p r (Take s l t) rest read law = λ a life runs is.
 takes-lock w past p r x rest read law = tt
 
 -- a thread made ready goes to the list that the words say
-first-same : (w : WorkloadView) (past : List Item) (p : ProcNo) (r : Readings) → IsRead w past r → first_list (life_on r p) p ≡ first_list_of w past (runs_on past p) p
+first-same : (w : WorkloadView) (past : List Item) (p : ProcNo) (r : Readings) → IsRead w past r
+    → first_list (life_on r p) p ≡ first_list_of w past (runs_on past p) p
 first-same w past p r read = one (running_of r p) refl ∙ ap (λ o. first_list_of w past o p) (read.running p) where
-  at_life : (a : ActNo) (o : Option Life) → life_of r a ≡ o → (life : Life) → life_of r a ≡ Some life → first_list o p ≡ list_of (slice_get (locks_of w past a) 0) p
+  at_life : (a : ActNo) (o : Option Life) → life_of r a ≡ o → (life : Life) → life_of r a ≡ Some life
+      → first_list o p ≡ list_of (slice_get (locks_of w past a) 0) p
   at_life a None none life is = absurd (none-some life (sym none ∙ is))
   at_life a (Some l) is life same = ap (λ ls. list_of (slice_get ls 0) p) (read.locks a.0 l is)
 
@@ -167,7 +173,8 @@ first-same w past p r read = one (running_of r p) refl ∙ ap (λ o. first_list_
       at_life a (life_of r a) refl life.0 life.1
 
 -- the homes after a record
-homes-said : (past : List Item) (e : ℕ) (p : ProcNo) (x : Record) (b : ℕ) → homes_by (λ c. home_of past (record { 0 = c })) p x b ≡ home_of (past ++ item e p x ∷ []) (record { 0 = b })
+homes-said : (past : List Item) (e : ℕ) (p : ProcNo) (x : Record) (b : ℕ)
+    → homes_by (λ c. home_of past (record { 0 = c })) p x b ≡ home_of (past ++ item e p x ∷ []) (record { 0 = b })
 homes-said past e p x b = one x ∙ sym (home-more past e p x (record { 0 = b })) where
   up : (s : SpaceNo) (a : ActNo) → homes_by (λ c. home_of past (record { 0 = c })) p (Up s a) b
       ≡ option_or (if a.0 == b then Some (record { space = s; proc = p }) else None) (home_of past (record { 0 = b }))
@@ -177,15 +184,20 @@ homes-said past e p x b = one x ∙ sym (home-more past e p x (record { 0 = b })
         ∙ sym (ap (λ c. option_or (if c then Some (record { space = s; proc = p }) else None) (home_of past (record { 0 = b }))) (alike a.0 b same))
     | inr apart ↦
         put-other (λ c. home_of past (record { 0 = c })) a.0 b _ (λ e'. apart (sym e'))
-        ∙ sym (ap (λ c. option_or (if c then Some (record { space = s; proc = p }) else None) (home_of past (record { 0 = b }))) (Rattle.sa_legal.proofs.ReadLemmas.differ a.0 b apart))
+        ∙ sym
+        (ap (λ c. option_or (if c then Some (record { space = s; proc = p }) else None) (home_of past (record { 0 = b })))
+        (Rattle.sa_legal.proofs.ReadLemmas.differ a.0 b apart))
   ]
 
-  one : (y : Record) → homes_by (λ c. home_of past (record { 0 = c })) p y b ≡ option_or (Rattle.sa_legal_readings.specs.Moments.home_in (record { 0 = b }) p y) (home_of past (record { 0 = b }))
+  one : (y : Record)
+      → homes_by (λ c. home_of past (record { 0 = c })) p y b ≡ option_or (Rattle.sa_legal_readings.specs.Moments.home_in (record { 0 = b }) p y)
+      (home_of past (record { 0 = b }))
   one (Up s a) = up s a
   one y = refl
 
 -- the threads of untold stops after a record
-stopped-keeps : (p : ProcNo) (st : ℕ → Standing) (x : Record) (a : ℕ) (s : SpaceNo) (has : ℕ → Option ThreadNo) → Stood p st x → st a ≡ Stopped s → stopped_by has x a ≡ has a
+stopped-keeps : (p : ProcNo) (st : ℕ → Standing) (x : Record) (a : ℕ) (s : SpaceNo) (has : ℕ → Option ThreadNo) → Stood p st x → st a ≡ Stopped s
+    → stopped_by has x a ≡ has a
 stopped-keeps p st (Stop of t b) a s has was is = put-other has b.0 a t (λ e. let clash = ap kind (sym is ∙ ap st e ∙ was) in cc)
 stopped-keeps p st (Block of t b io) a s has was is = put-other has b.0 a t (λ e. let clash = ap kind (sym is ∙ ap st e ∙ was) in cc)
 stopped-keeps p st (Up of b) a s has was is = put-other has b.0 a None (λ e. let clash = ap kind (sym is ∙ ap st e ∙ was) in cc)
@@ -203,23 +215,27 @@ filter-has test us u has =
     Rattle.std.proofs.lemmas.List.Elements.All-contains (Contains us) (filter test us) u
     (Rattle.std.proofs.lemmas.List.Elements.All-filter test (Contains us) us (Rattle.std.proofs.lemmas.List.Elements.All-contains_itself us)) has
 
-stops-one : (past : List Item) (s : SpaceNo) (x : Record) (u : Untold) (a : ActNo) (has : ℕ → Option ThreadNo) → Contains (untold_by s (untold_in past s) x) u → u.note ≡ note.Preempted a
+stops-one : (past : List Item) (s : SpaceNo) (x : Record) (u : Untold) (a : ActNo) (has : ℕ → Option ThreadNo) → Contains (untold_by s (untold_in past s) x) u
+    → u.note ≡ note.Preempted a
     → (Contains (untold_in past s) u → stopped_by has x a.0 ≡ u.thread) → stopped_by has x a.0 ≡ u.thread
-stops-one past s (Stop of t b) u a has there is old = elim (noted-cases s of u (Rattle.sa_legal_readings.specs.Loads.untold (note.Preempted b) t) (untold_in past s) there) [
-  | inl before ↦ old before
-  | inr new ↦ (
-      let act : a.0 ≡ b.0 = Rattle.sa_legal.proofs.StandingLemmas.note-act a b (sym is ∙ ap note_of (sym new)) in
-      put-at has b.0 a.0 t act ∙ ap (λ (v : Untold). v.thread) new
-      )
-]
-stops-one past s (Block of t b io) u a has there is old = elim (noted-cases s of u (Rattle.sa_legal_readings.specs.Loads.untold (note.Blocked b) t) (untold_in past s) there) [
-  | inl before ↦ old before
-  | inr new ↦ absurd (let clash = sym is ∙ ap note_of (sym new) in cc)
-]
-stops-one past s (Unblock of t b) u a has there is old = elim (noted-cases s of u (Rattle.sa_legal_readings.specs.Loads.untold (note.Unblocked b) t) (untold_in past s) there) [
-  | inl before ↦ old before
-  | inr new ↦ absurd (let clash = sym is ∙ ap note_of (sym new) in cc)
-]
+stops-one past s (Stop of t b) u a has there is old = elim (noted-cases s of u (Rattle.sa_legal_readings.specs.Loads.untold (note.Preempted b) t)
+    (untold_in past s) there) [
+      | inl before ↦ old before
+      | inr new ↦ (
+          let act : a.0 ≡ b.0 = Rattle.sa_legal.proofs.StandingLemmas.note-act a b (sym is ∙ ap note_of (sym new)) in
+          put-at has b.0 a.0 t act ∙ ap (λ (v : Untold). v.thread) new
+          )
+    ]
+stops-one past s (Block of t b io) u a has there is old = elim (noted-cases s of u (Rattle.sa_legal_readings.specs.Loads.untold (note.Blocked b) t)
+    (untold_in past s) there) [
+      | inl before ↦ old before
+      | inr new ↦ absurd (let clash = sym is ∙ ap note_of (sym new) in cc)
+    ]
+stops-one past s (Unblock of t b) u a has there is old = elim (noted-cases s of u (Rattle.sa_legal_readings.specs.Loads.untold (note.Unblocked b) t)
+    (untold_in past s) there) [
+      | inl before ↦ old before
+      | inr new ↦ absurd (let clash = sym is ∙ ap note_of (sym new) in cc)
+    ]
 stops-one past s (Told n) u a has there is old = old (filter-has (is_not_told n) (untold_in past s) u there)
 stops-one past s x u a has there is old = old there
 
@@ -235,12 +251,9 @@ stops-step w e p past r x read was s u a within has is =
     ∙ stops-one past s x u a (along stopped_at (λ b. None) past) (subst (λ us. Contains us u) (along-more (untold_at s) [] past (item e p x)) has) is
     (λ old.
     let noted : Contains (untold_of r s) (note.Preempted a) =
-    subst (λ ns. Contains ns (note.Preempted a)) (sym (read.untold s within)) (subst (λ n. Contains (map note_of (untold_in past s)) n) is (map-has u (untold_in past s) old)) in
+    subst (λ ns. Contains ns (note.Preempted a)) (sym (read.untold s within))
+    (subst (λ n. Contains (map note_of (untold_in past s)) n) is (map-has u (untold_in past s) old)) in
     stopped-keeps p read.st x a.0 s (along stopped_at (λ b. None) past) was (read.agrees.stopped s a noted) ∙ read.stops s u a within old is)
-
-lines-length : (e : ℕ) (lines : List (Option ℕ)) (x : Record) → length (lines_after e lines x) ≡ length lines
-lines-length e lines (Rattle.sa_base.specs.declared.record.Record.TheVariants.Line q) = Rattle.std.proofs.lemmas.List.length-set lines q.0 (Some e)
-lines-length e lines x = refl
 
 pub sized-step : (w : WorkloadView) (e : ℕ) (p : ProcNo) (r : Readings) (x : Record) → IsSized w r → IsSized w (after_record w e p r x)
 sized-step w e p r x sized = record {
@@ -266,7 +279,8 @@ up-after : (up : Option ActNo) (x : Record) → Rattle.sa_laws.specs.Record.uppe
 up-after up (Up s a) = refl
 up-after up x = refl
 
-read-after : (w : WorkloadView) (e : ℕ) (p : ProcNo) (past : List Item) (r : Readings) (x : Record) (rest : List Record) → IsReadIn w e p past r → Known w p r x rest
+read-after : (w : WorkloadView) (e : ℕ) (p : ProcNo) (past : List Item) (r : Readings) (x : Record) (rest : List Record) → IsReadIn w e p past r
+    → Known w p r x rest
     → IsRead w (past ++ item e p x ∷ []) (after_record w e p r x)
 read-after w e p past r x rest inv known =
     let read = inv.read in
@@ -287,15 +301,22 @@ read-after w e p past r x rest inv known =
       agrees = agrees-step w e p read.st r x read.agrees was;
       sized = sized-step w e p r x sized;
       state = along-step (machine_by w) _ past y r.state (after_record w e p r x).state read.state refl;
-      running = λ q. said-more (run_said q) past y None (running_of r q) (running_of (after_record w e p r x) q) (read.running q) (run-more r.running p q x (omega arith));
+      running =
+          λ q. said-more (run_said q) past y None (running_of r q) (running_of (after_record w e p r x) q) (read.running q)
+          (run-more r.running p q x (omega arith));
       upped = up-after r.upped x ∙ ap (option_or (Rattle.sa_legal_readings.specs.Moments.up_in x)) read.upped ∙ sym (last-more up_said past y);
       homes = said-same at_home (lives_after w p r x) _ _ (homes-said past e p x) (homes-step w p r x _ read.homes);
-      demands = λ s below. said-more (want_said s) past y 0 (demand_of r s) (demand_of (after_record w e p r x) s) (read.demands s below) (demand-more r.demands x s (omega arith));
+      demands =
+          λ s below. said-more (want_said s) past y 0 (demand_of r s) (demand_of (after_record w e p r x) s) (read.demands s below)
+          (demand-more r.demands x s (omega arith));
       marks = λ q below. along-step (says_on (mark_said q)) false past y (get_or r.marks q.0 false) (get_or (marks_after p r x) q.0 false) (read.marks q below)
           (mark-more w e p q past r x (omega arith) inv.last read.demands known.want);
-      untold = λ s below. untold-more r x s (untold_in past s) (omega arith) (read.untold s below) ∙ ap (map note_of) (sym (along-more (untold_at s) [] past y));
+      untold =
+          λ s below. untold-more r x s (untold_in past s) (omega arith) (read.untold s below) ∙ ap (map note_of) (sym (along-more (untold_at s) [] past y));
       stops = stops-step w e p past r x read was;
-      locks = said-same in_locks (lives_after w p r x) _ _ (λ b. ap (λ (f : ℕ → List Rattle.sa_laws.specs.Life.Lock). f b) (sym (along-more (locks_at w) (λ c. []) past y)))
+      locks =
+          said-same in_locks (lives_after w p r x) _ _
+          (λ b. ap (λ (f : ℕ → List Rattle.sa_laws.specs.Life.Lock). f b) (sym (along-more (locks_at w) (λ c. []) past y)))
           (locks-step w past p r x (along (locks_at w) (λ c. []) past) agrees (takes-lock w past p r x rest read known.moves) read.locks);
       hands = said-same in_hand (lives_after w p r x) _ _ (λ b. ap (λ (f : ℕ → List ThreadNo). f b) (sym (along-more (hands_at w) (λ c. []) past y)))
           (hands-step w past p r x (along (hands_at w) (λ c. []) past) agrees read.state read.hands);
@@ -303,14 +324,21 @@ read-after w e p past r x rest inv known =
           (conts-step w past p r x (along conts_at (λ c. false) past) agrees read.conts);
       stopped = said-same held_thread (lives_after w p r x) _ _ (λ b. ap (λ (f : ℕ → Option ThreadNo). f b) (sym (along-more stopped_at (λ c. None) past y)))
           (stopped-step w p r x (along stopped_at (λ c. None) past) read.stopped);
-      taken = λ s below. taken-more r past x s (taken_in past s) (names-home w past r x read names) (omega arith) (read.taken s below) ∙ sym (along-more (taken_at s) [] past y);
-      ready = λ s below. ready-more w p past r x s (ready_in w past s) (omega arith) (read.ready s below) (first-same w past p r read) ∙ sym (along-more (ready_at w s) _ past y);
+      taken =
+          λ s below. taken-more r past x s (taken_in past s) (names-home w past r x read names) (omega arith) (read.taken s below)
+          ∙ sym (along-more (taken_at s) [] past y);
+      ready =
+          λ s below. ready-more w p past r x s (ready_in w past s) (omega arith) (read.ready s below) (first-same w past p r read)
+          ∙ sym (along-more (ready_at w s) _ past y);
       all_taken = taken-all-step past e p x read.all_taken;
       begun = begun-more r.begun x ∙ ap (λ n. n + (if begins_io x then 1 else 0)) read.begun ∙ sym (ios-more past y);
-      ios = under-more w r past e x (ios_of w past) read.ios read.begun read.state inv.last (blocks-with w past r x read names) ∙ sym (along-more (ios_at w) [] past y);
+      ios =
+          under-more w r past e x (ios_of w past) read.ios read.begun read.state inv.last (blocks-with w past r x read names)
+          ∙ sym (along-more (ios_at w) [] past y);
     }
 
-pub read-step : (w : WorkloadView) (e : ℕ) (p : ProcNo) (past : List Item) (r : Readings) (x : Record) (rest : List Record) → IsReadIn w e p past r → Known w p r x rest
+pub read-step : (w : WorkloadView) (e : ℕ) (p : ProcNo) (past : List Item) (r : Readings) (x : Record) (rest : List Record) → IsReadIn w e p past r
+    → Known w p r x rest
     → IsReadIn w e p (past ++ item e p x ∷ []) (after_record w e p r x)
 read-step w e p past r x rest inv known = record {
   read = read-after w e p past r x rest inv known;
@@ -322,5 +350,7 @@ read-step w e p past r x rest inv known = record {
       pages-more r (ios_of w past) x s k inv.read.ios (omega arith) few
       ∙ ap (λ b. if comes_at (ios_of w past) s k x then true else b) (inv.pages s k ok below few)
       ∙ sym (along-more (resident_at w s k) _ past (item e p x))
-      ∙ sym (ap (λ (o : Option Record). evicted_if (Rattle.std.specs.Prelude.is_none o) w e s k (is_resident_in w (past ++ item e p x ∷ []) s k)) (last-is e p past x));
+      ∙ sym
+      (ap (λ (o : Option Record). evicted_if (Rattle.std.specs.Prelude.is_none o) w e s k (is_resident_in w (past ++ item e p x ∷ []) s k))
+      (last-is e p past x));
 }

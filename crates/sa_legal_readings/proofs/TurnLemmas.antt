@@ -3,6 +3,7 @@ use Rattle.std.proofs.Common.{◌≡◌, ℕ, ◌⊎◌, inl, inr, refl, sym, �
 use Rattle.std.specs.Prelude.{Option, Bool, ◌&&◌, take_while}
 use Rattle.std.specs.List.{list_all}
 use Rattle.std.proofs.lemmas.Option.{none-some}
+use Rattle.std.proofs.lemmas.Bool.{eqb-true}
 use Rattle.sa_base.specs.declared.number.SpaceNo.{SpaceNo}
 use Rattle.sa_base.specs.declared.number.ProcNo.{ProcNo}
 use Rattle.sa_base.specs.declared.number.ThreadNo.{ThreadNo}
@@ -24,7 +25,6 @@ use Rattle.sa_laws.specs.Shape.{is_own, is_of_leave, BeginsWithUp}
 use Rattle.sa_laws.specs.Turns.{AreTold, IsFetchOrNothing, IsPassage, IsInterrupt, IsOver, IsOut, IsBlock, IsInsOf, StepBy, StepIn, IsStep, IsTickOrStep, IsTurnWhileDue, IsTurn, AreOfLocks}
 use Rattle.sa_laws.specs.Upcalls.{EachRecord, GivesUpcallThen, GoesOn, GoesTo, GoesToAim, StopsAndGoes}
 use Rattle.sa_legal_readings.proofs.RangeLemmas.{head-of, while-more}
-use Rattle.sa_legal.proofs.StandingLemmas.{same-number}
 
 -- records that change no owner, aim or line
 abbrev pub is_calm : Record → Bool
@@ -99,7 +99,8 @@ pub record Heads (p : ProcNo) (owner aim : Option SpaceNo) (xs : List Record) : 
   pub move : (old : Option SpaceNo) (new : SpaceNo) (ys : List Record) → xs ≡ Move old (Some new) ∷ ys → aim ≡ Some new
   pub left : (old : Option SpaceNo) (q : ProcNo) (ys : List Record) → xs ≡ Move old None ∷ Aim q None ∷ ys → q ≡ p
 
-passage-turned : (p : ProcNo) (owner aim : Option SpaceNo) (xs zs : List Record) → take_while is_own xs ≡ zs → IsPassage zs → Heads p owner aim xs → Turned p owner aim zs
+passage-turned : (p : ProcNo) (owner aim : Option SpaceNo) (xs zs : List Record) → take_while is_own xs ≡ zs → IsPassage zs → Heads p owner aim xs
+    → Turned p owner aim zs
 passage-turned p owner aim xs (Up s a ∷ zs) same is heads =
     let whole = head-of is_own xs (Up s a) zs same in inl (calm-cons (Up s a) zs refl (calm-told zs is), heads.up s a whole.0 whole.1)
 passage-turned p owner aim xs (Move old (Some new) ∷ Up s a ∷ zs) same is heads =
@@ -131,14 +132,16 @@ passage-turned p owner aim xs (Move old None ∷ Aim q None ∷ zs) same is head
 passage-turned p owner aim xs zs same is heads = absurd (is)
 
 -- a leave is of the event's own processor
-leave-at : (p q : ProcNo) (owner old : Option SpaceNo) (s : SpaceNo) (fetching : Bool) (xs ys : List Record) → take_while is_of_leave xs ≡ Rattle.sa_laws.specs.Upcalls.leave_records p owner s fetching
+leave-at : (p q : ProcNo) (owner old : Option SpaceNo) (s : SpaceNo) (fetching : Bool) (xs ys : List Record)
+    → take_while is_of_leave xs ≡ Rattle.sa_laws.specs.Upcalls.leave_records p owner s fetching
     → xs ≡ Move old None ∷ Aim q None ∷ ys → q ≡ p
 leave-at p q owner old s fetching xs ys leaves is =
     let run : Move old None ∷ Aim q None ∷ take_while is_of_leave ys ≡ Rattle.sa_laws.specs.Upcalls.leave_records p owner s fetching =
     ap (λ zs. Move old None ∷ zs) (sym (while-more is_of_leave (Aim q None) ys refl)) ∙ sym (while-more is_of_leave (Move old None) (Aim q None ∷ ys) refl)
     ∙ ap (take_while is_of_leave) (sym is) ∙ leaves in cc
 
-leave-head : (p : ProcNo) (owner : Option SpaceNo) (s : SpaceNo) (fetching : Bool) (x : Record) (xs ys : List Record) → take_while is_of_leave xs ≡ Rattle.sa_laws.specs.Upcalls.leave_records p owner s fetching
+leave-head : (p : ProcNo) (owner : Option SpaceNo) (s : SpaceNo) (fetching : Bool) (x : Record) (xs ys : List Record)
+    → take_while is_of_leave xs ≡ Rattle.sa_laws.specs.Upcalls.leave_records p owner s fetching
     → xs ≡ x ∷ ys → x ≡ Move owner None
 leave-head p owner s fetching x xs ys leaves is =
     let there = head-of is_of_leave xs (Move owner None) _ leaves in
@@ -146,9 +149,10 @@ leave-head p owner s fetching x xs ys leaves is =
 
 owner-aim : (b : SpaceNo) (owner : Option SpaceNo) → is_aim b.0 owner ≡ true → owner ≡ Some b
 owner-aim b None is = absurd (cc)
-owner-aim b (Some s) is = ap (λ n. Some (record { 0 = n })) (same-number s.0 b.0 is)
+owner-aim b (Some s) is = ap (λ n. Some (record { 0 = n })) (eqb-true s.0 b.0 is)
 
-goes-heads : (here owned : Bool) (p : ProcNo) (r : Readings) (owner : Option SpaceNo) (b : SpaceNo) (xs : List Record) → is_aim b.0 owner ≡ owned → GoesTo here owned p r owner b xs
+goes-heads : (here owned : Bool) (p : ProcNo) (r : Readings) (owner : Option SpaceNo) (b : SpaceNo) (xs : List Record) → is_aim b.0 owner ≡ owned
+    → GoesTo here owned p r owner b xs
     → Heads p owner (Some b) xs
 goes-heads true true p r owner b xs at goes = record {
   up = λ s a ys is. sym (owner-aim b owner at);
@@ -176,7 +180,8 @@ aim-heads : (p : ProcNo) (r : Readings) (owner aim : Option SpaceNo) (xs : List 
 aim-heads p r owner None xs goes = absurd goes
 aim-heads p r owner (Some b) xs goes = goes-heads (is_resident r b UPCALL_PAGE) (is_aim b.0 owner) p r owner b xs refl goes
 
-block-heads : (here : Bool) (p : ProcNo) (r : Readings) (s : SpaceNo) (owner aim : Option SpaceNo) (xs : List Record) → aim ≡ owner → GoesOn here p r s xs → Heads p owner aim xs
+block-heads : (here : Bool) (p : ProcNo) (r : Readings) (s : SpaceNo) (owner aim : Option SpaceNo) (xs : List Record) → aim ≡ owner → GoesOn here p r s xs
+    → Heads p owner aim xs
 block-heads true p r s owner aim xs same goes = record {
   up = λ of a ys is. same;
   move = λ old new ys is. absurd (subst (BeginsWithUp s) is goes);
@@ -192,24 +197,29 @@ block-heads false p r s owner aim xs same goes = record {
   moved_to x = None
 
 -- an interrupt
-stop-goes : (here owned : Bool) (p : ProcNo) (r : Readings) (b s : SpaceNo) (t : Option ThreadNo) (a : ActNo) (xs : List Record) → GoesTo here owned p r None b (Stop s t a ∷ xs) → ⊥
+stop-goes : (here owned : Bool) (p : ProcNo) (r : Readings) (b s : SpaceNo) (t : Option ThreadNo) (a : ActNo) (xs : List Record)
+    → GoesTo here owned p r None b (Stop s t a ∷ xs) → ⊥
 stop-goes true true p r b s t a xs goes = goes
 stop-goes true false p r b s t a xs goes = goes
 stop-goes false owned p r b s t a xs goes = absurd (let clash = leave-head p None b _ (Stop s t a) (Stop s t a ∷ xs) xs goes refl in cc)
 
-stop-aims : (p : ProcNo) (r : Readings) (aim : Option SpaceNo) (s : SpaceNo) (t : Option ThreadNo) (a : ActNo) (xs : List Record) → GoesToAim p r None aim (Stop s t a ∷ xs) → ⊥
+stop-aims : (p : ProcNo) (r : Readings) (aim : Option SpaceNo) (s : SpaceNo) (t : Option ThreadNo) (a : ActNo) (xs : List Record)
+    → GoesToAim p r None aim (Stop s t a ∷ xs) → ⊥
 stop-aims p r None s t a xs goes = goes
 stop-aims p r (Some b) s t a xs goes = stop-goes (is_resident r b UPCALL_PAGE) (is_aim b.0 None) p r b s t a xs goes
 
-interrupt-turned : (p : ProcNo) (r : Readings) (owner aim : Option SpaceNo) (x : Record) (xs : List Record) → StopsAndGoes p r owner aim (x ∷ xs) → IsInterrupt (x ∷ take_while is_own xs)
+interrupt-turned : (p : ProcNo) (r : Readings) (owner aim : Option SpaceNo) (x : Record) (xs : List Record) → StopsAndGoes p r owner aim (x ∷ xs)
+    → IsInterrupt (x ∷ take_while is_own xs)
     → Turned p owner aim (x ∷ take_while is_own xs)
 interrupt-turned p r (Some o) aim (Stop s t a) xs goes is =
-    turned-cons p (Some o) aim (Stop s t a) (take_while is_own xs) refl (passage-turned p (Some o) aim xs (take_while is_own xs) refl is (aim-heads p r (Some o) aim xs goes.1))
+    turned-cons p (Some o) aim (Stop s t a) (take_while is_own xs) refl
+    (passage-turned p (Some o) aim xs (take_while is_own xs) refl is (aim-heads p r (Some o) aim xs goes.1))
 interrupt-turned p r None aim (Stop s t a) xs goes is = absurd (stop-aims p r aim s t a xs goes)
 interrupt-turned p r None aim (Up s a) xs goes is =
     passage-turned p None aim (Up s a ∷ xs) (Up s a ∷ take_while is_own xs) (while-more is_own (Up s a) xs refl) is (aim-heads p r None aim (Up s a ∷ xs) goes)
 interrupt-turned p r None aim (Move old new) xs goes is =
-    passage-turned p None aim (Move old new ∷ xs) (Move old new ∷ take_while is_own xs) (while-more is_own (Move old new) xs refl) is (aim-heads p r None aim (Move old new ∷ xs) goes)
+    passage-turned p None aim (Move old new ∷ xs) (Move old new ∷ take_while is_own xs) (while-more is_own (Move old new) xs refl) is
+    (aim-heads p r None aim (Move old new ∷ xs) goes)
 interrupt-turned p r (Some o) aim (Up s a) xs goes is = absurd goes
 interrupt-turned p r (Some o) aim (Move old new) xs goes is = absurd goes
 interrupt-turned p r owner aim x xs goes is = absurd (is)
@@ -239,35 +249,42 @@ calm-out : (xs : List Record) → IsOut xs → AllCalm xs
 calm-out (Out s t v ∷ []) is = refl
 calm-out xs is = absurd (is)
 
-io-turned : (w : WorkloadView) (e : ℕ) (p : ProcNo) (r : Readings) (owner aim : Option SpaceNo) (xs zs : List Record) → aim ≡ owner → take_while is_own xs ≡ zs → IsBlock zs
+io-turned : (w : WorkloadView) (e : ℕ) (p : ProcNo) (r : Readings) (owner aim : Option SpaceNo) (xs zs : List Record) → aim ≡ owner → take_while is_own xs ≡ zs
+    → IsBlock zs
     → EachRecord (GivesUpcallThen p) w e p r xs → Turned p owner aim zs
 io-turned w e p r owner aim xs (Block s t a io ∷ rest) low same is gives =
     let whole = head-of is_own xs (Block s t a io) rest same in
     let parts : take_while is_own whole.0 ≡ rest =
     ap (λ (zs : List Record). drop 1 zs) (sym (while-more is_own (Block s t a io) whole.0 refl) ∙ ap (take_while is_own) (sym whole.1) ∙ same) in
     let law : EachRecord (GivesUpcallThen p) w e p r (Block s t a io ∷ whole.0) = subst (EachRecord (GivesUpcallThen p) w e p r) whole.1 gives in
-    turned-cons p owner aim (Block s t a io) rest refl (passage-turned p owner aim whole.0 rest parts is (block-heads _ p r s owner aim whole.0 low law.0.goes_on))
+    turned-cons p owner aim (Block s t a io) rest refl
+    (passage-turned p owner aim whole.0 rest parts is (block-heads _ p r s owner aim whole.0 low law.0.goes_on))
 io-turned w e p r owner aim xs zs low same is gives = absurd (is)
 
-ins-turned : (w : WorkloadView) (e : ℕ) (p : ProcNo) (r : Readings) (owner aim : Option SpaceNo) (i : Instr) (xs : List Record) → aim ≡ owner → IsInsOf i (take_while is_own xs)
+ins-turned : (w : WorkloadView) (e : ℕ) (p : ProcNo) (r : Readings) (owner aim : Option SpaceNo) (i : Instr) (xs : List Record) → aim ≡ owner
+    → IsInsOf i (take_while is_own xs)
     → EachRecord (GivesUpcallThen p) w e p r xs → Turned p owner aim (take_while is_own xs)
 ins-turned w e p r owner aim (instr.Out reg) xs low is gives = calm-turned p owner aim _ low (calm-out (take_while is_own xs) is)
 ins-turned w e p r owner aim (instr.Io m) xs low is gives = io-turned w e p r owner aim xs (take_while is_own xs) low refl is gives
 ins-turned w e p r owner aim i xs low is gives = calm-turned p owner aim _ low (subst AllCalm (sym is) refl)
 
-step-turned : (w : WorkloadView) (e : ℕ) (p : ProcNo) (r : Readings) (owner aim : Option SpaceNo) (a : ActNo) (life : Life) (x : Record) (xs : List Record) → aim ≡ owner
+step-turned : (w : WorkloadView) (e : ℕ) (p : ProcNo) (r : Readings) (owner aim : Option SpaceNo) (a : ActNo) (life : Life) (x : Record) (xs : List Record)
+    → aim ≡ owner
     → StepBy w r p a life x (take_while is_own xs) → EachRecord (GivesUpcallThen p) w e p r (x ∷ xs) → Turned p owner aim (x ∷ take_while is_own xs)
 step-turned w e p r owner aim a life (Ins s t i) xs low is gives =
     turned-cons p owner aim (Ins s t i) _ refl (ins-turned w e p (after_record w e p r (Ins s t i)) owner aim _ xs low is gives.1)
 step-turned w e p r owner aim a life (Block s t b io) xs low is gives =
-    turned-cons p owner aim (Block s t b io) _ refl (passage-turned p owner aim xs (take_while is_own xs) refl is.0 (block-heads _ p r s owner aim xs low gives.0.goes_on))
+    turned-cons p owner aim (Block s t b io) _ refl
+    (passage-turned p owner aim xs (take_while is_own xs) refl is.0 (block-heads _ p r s owner aim xs low gives.0.goes_on))
 step-turned w e p r owner aim a life (Spin l) xs low is gives = calm-turned p owner aim _ low (calm-alone (Spin l) _ refl is.0)
 step-turned w e p r owner aim a life (Want s m) xs low is gives = calm-turned p owner aim _ low (calm-alone (Want s m) _ refl is.0)
 step-turned w e p r owner aim a life Idle xs low is gives = calm-turned p owner aim _ low (calm-alone Idle _ refl is.0)
-step-turned w e p r owner aim a life (GiveBack b) xs low is gives = calm-turned p owner aim _ low (subst AllCalm (sym is.all) (calm-given (taken_of r life.space)))
+step-turned w e p r owner aim a life (GiveBack b) xs low is gives =
+    calm-turned p owner aim _ low (subst AllCalm (sym is.all) (calm-given (taken_of r life.space)))
 step-turned w e p r owner aim a life x xs low is gives = calm-turned p owner aim _ low (calm-locks (x ∷ take_while is_own xs) is)
 
-in-turned : (w : WorkloadView) (e : ℕ) (p : ProcNo) (r : Readings) (owner aim : Option SpaceNo) (a : Option ActNo) (life : Option Life) (x : Record) (xs : List Record) → aim ≡ owner
+in-turned : (w : WorkloadView) (e : ℕ) (p : ProcNo) (r : Readings) (owner aim : Option SpaceNo) (a : Option ActNo) (life : Option Life) (x : Record)
+    (xs : List Record) → aim ≡ owner
     → StepIn w r p a life (x ∷ take_while is_own xs) → EachRecord (GivesUpcallThen p) w e p r (x ∷ xs) → Turned p owner aim (x ∷ take_while is_own xs)
 in-turned w e p r owner aim (Some a) (Some life) x xs low is gives = step-turned w e p r owner aim a life x xs low is gives
 in-turned w e p r owner aim (Some a) None x xs low is gives = absurd is

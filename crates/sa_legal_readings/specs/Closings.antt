@@ -14,7 +14,7 @@ pub record NothingIsDue (w : WorkloadView) (event : ℕ) (r : Readings) : Type 0
   pub wants : wants_due w r ≡ []
   pub aims : (next : ℕ) → first_space w next ≡ first_space w event → aims_due w next r ≡ []
 
--- .. after each event of a trace
+-- Closings add nothing after each event of a trace.
 abbrev pub ClosingsAddNothing : WorkloadView → List Item → Type 0
 ClosingsAddNothing w items =
     (n : ℕ) (e : Event) → slice_get (events_of items) n ≡ Some e

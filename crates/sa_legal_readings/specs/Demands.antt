@@ -20,7 +20,7 @@ abbrev pub DemandCoversLoad : WorkloadView → Readings → Type 0
 DemandCoversLoad w r =
     (s : SpaceNo) → s.0 < length w.spaces → NoneIsIn r s → untold_of r s ≡ [] → usable w r s ≤ demand_of r s
 
--- .. after each event of a trace
+-- Demands cover loads after each event of a trace.
 abbrev pub DemandsCoverLoads : WorkloadView → List Item → Type 0
 DemandsCoverLoads w items =
     (n : ℕ) (e : Event) → slice_get (events_of items) n ≡ Some e

@@ -28,7 +28,7 @@ use Rattle.sa_legal_readings.specs.Steps.{stepping, with_event, settles_by, is_i
 abbrev pub AreRead : (List Event → Readings → Type 0) → WorkloadView → List Item → Type 0
 AreRead C w items = (n : ℕ) → C (take n (events_of items)) (before fast_threads w (events_of items) n)
 
--- .. of what is read before each event, and of that event
+-- Something holds of what is read before each event, and of that event.
 abbrev pub AreReadAtEvents : (List Item → Readings → Event → Type 0) → WorkloadView → List Item → Type 0
 AreReadAtEvents C w items =
     (n : ℕ) (e : Event) → slice_get (events_of items) n ≡ Some e

@@ -1,12 +1,12 @@
 -- How a run ends: what the machine says is so in the history.
 use Rattle.sa_kernel_model.proofs.WantLemmas.{heard}
-use Rattle.sa_kernel_model.proofs.FactLemmas.{false-unless, not-found, quiet-says}
+use Rattle.sa_kernel_model.proofs.FactLemmas.{not-found, quiet-says}
 use Rattle.sa_match.proofs.Lists.{all-pass, read-at}
 use Rattle.sa_match.proofs.Shown.{runs-reads, owner-reads}
 use Rattle.sa_match.proofs.Composed.{holds-at, IsComposed, read, moment}
 use Rattle.std.proofs.lemmas.Option.{get_or_from_slice_get, slice_get_within, same_Some, none-some}
 use Rattle.std.proofs.lemmas.List.Sums.{sum_by-cons}
-use Rattle.std.proofs.lemmas.Bool.{cases_eq}
+use Rattle.std.proofs.lemmas.Bool.{cases_eq, and_parts, false_from_ne_true}
 use Rattle.std.proofs.lemmas.Bool.Decides.{nat_tests}
 use Rattle.std.specs.Prelude.{if◌then◌else◌, sum_by}
 use Rattle.std.specs.List.{list_all}
@@ -35,7 +35,6 @@ use Rattle.sa_kernel_model.specs.Closing.{calls_for, was_idle as idle_in}
 use Rattle.sa_kernel_model.specs.State.{State, owner_of, life_of, untold_of as untold_in}
 use Rattle.sa_kernel_model.specs.Sound.{IsSound, note_claim, io_claim, held_in}
 use Rattle.sa_kernel_model.specs.Overview.{Overview}
-use Rattle.sa_kernel_model.proofs.OverviewLemmas.{and-left, and-right}
 use Rattle.sa_kernel_model.specs.Seen.{is_quiet}
 use Rattle.sa_core_model.specs.End.{is_inside, owes_in, owes_by, end_of, is_done, is_inactive, all_done, is_stuck, is_any_inside}
 use Rattle.sa_core_model.specs.Standing.{running, is_life, context_in, held_or_running, contexts_of}
@@ -232,7 +231,7 @@ module _ {U C : Type 0} (level : UserLevel U C) where
     rest = sym (rest-is w events m c none) ∙ a;
     ios = ap (λ (v : Overview). v.under_way) c.history.kept.reads ∙ quiet.under_way;
     lines = λ p. ap (λ (v : Overview). get_or v.assign.lines p.0 None) c.history.kept.reads ∙ quiet.low p;
-    inside = λ i life is. false-unless life.inside (λ inside. not-in i life is inside);
+    inside = λ i life is. false_from_ne_true life.inside (λ inside. not-in i life is inside);
   }
     where
       r : Readings
@@ -245,17 +244,17 @@ module _ {U C : Type 0} (level : UserLevel U C) where
       sound = c.between.standing.sound
 
       ab : (list_all (is_inactive level.calls) m.users && is_quiet m.kernel) ≡ true
-      ab = and-left (list_all (is_inactive level.calls) m.users && is_quiet m.kernel) (not (is_any_inside level.calls m)) stuck
+      ab = (and_parts (list_all (is_inactive level.calls) m.users && is_quiet m.kernel) (not (is_any_inside level.calls m)) stuck).0
 
       a : list_all (is_inactive level.calls) m.users ≡ true
-      a = and-left (list_all (is_inactive level.calls) m.users) (is_quiet m.kernel) ab
+      a = (and_parts (list_all (is_inactive level.calls) m.users) (is_quiet m.kernel) ab).0
 
       quiet : IsQuiet m.kernel
-      quiet = (quiet-says C m.kernel sound.formed.sizes).0 (and-right (list_all (is_inactive level.calls) m.users) (is_quiet m.kernel) ab)
+      quiet = (quiet-says C m.kernel sound.formed.sizes).0 (and_parts (list_all (is_inactive level.calls) m.users) (is_quiet m.kernel) ab).1
 
       outside : least_below (length m.contexts) (is_inside level.calls m) ≡ None
       outside = not-some (least_below (length m.contexts) (is_inside level.calls m))
-          (and-right (list_all (is_inactive level.calls) m.users && is_quiet m.kernel) (not (is_any_inside level.calls m)) stuck)
+          (and_parts (list_all (is_inactive level.calls) m.users && is_quiet m.kernel) (not (is_any_inside level.calls m)) stuck).1
 
       none : (s : SpaceNo) (b : ActNo) → Contains (untold_in k s.0) (Unblocked b) → ⊥
       none s b has = let z : true ≡ false = quiet.told s (Unblocked b) has in cc
@@ -374,7 +373,7 @@ module _ {U C : Type 0} (level : UserLevel U C) where
       quiet = record {
         under_way = sym (ap (λ (v : Overview). v.under_way) c.history.kept.reads) ∙ stuck.ios;
         low = λ p. sym (ap (λ (v : Overview). get_or v.assign.lines p.0 None) c.history.kept.reads) ∙ stuck.lines p;
-        told = λ s note has. false-unless (calls_for k note) (λ calls. calm s note has (heard k r s.0 c.history.kept.idle note has ∙ calls));
+        told = λ s note has. false_from_ne_true (calls_for k note) (λ calls. calm s note has (heard k r s.0 c.history.kept.idle note has ∙ calls));
       }
 
       out : (p : ProcNo) (o : Option SpaceNo) → owner_of k p ≡ o → owes_in level.calls m p (owner_of k p) ≡ false
@@ -410,7 +409,8 @@ module _ {U C : Type 0} (level : UserLevel U C) where
       by-done : (b : Bool) → all_done level.calls m ≡ b
           → E (if all_done level.calls m then Some AllDone else if is_stuck level.calls m then Some Stuck else if m.event == budget then Some Budget else None)
       by-done true is = subst (λ (b : Bool). E
-          (if b then Some AllDone else if is_stuck level.calls m then Some Stuck else if m.event == budget then Some Budget else None)) (sym is) (sym (done-is w events m c) ∙ is)
+          (if b then Some AllDone else if is_stuck level.calls m then Some Stuck else if m.event == budget then Some Budget else None)) (sym is) (sym
+          (done-is w events m c) ∙ is)
       by-done false is = subst (λ (b : Bool). E
           (if b then Some AllDone else if is_stuck level.calls m then Some Stuck else if m.event == budget then Some Budget else None)) (sym is)
           (by-stuck (is_stuck level.calls m) refl (λ done. let z : true ≡ false = sym done ∙ sym (done-is w events m c) ∙ is in cc))

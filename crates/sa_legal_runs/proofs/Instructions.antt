@@ -1,6 +1,6 @@
 -- What local instructions that are committed at once add to the history.
-use Rattle.std.proofs.Common.{◌≡◌, ℕ, zero, suc, ◌+◌, ◌≤◌, ◌<◌, Bool, true, false, not, ◌&&◌, List, [], ◌∷◌, ◌++◌, length, Option, Some, None, slice_get, inl, inr, refl, sym, ap, ◌∙◌, subst, arith, append_assoc}
-use Rattle.std.specs.Prelude.{◌%◌, ◌==◌, is_none}
+use Rattle.std.proofs.Common.{◌≡◌, ℕ, zero, suc, ◌+◌, Bool, true, false, not, ◌&&◌, List, [], ◌∷◌, ◌++◌, length, Option, Some, None, slice_get, refl, sym, ap, ◌∙◌, subst, arith, append_assoc}
+use Rattle.std.specs.Prelude.{◌%◌, ◌==◌}
 use Rattle.std.proofs.lemmas.List.{append-nil}
 use Rattle.std.proofs.lemmas.Option.{same_Some}
 use Rattle.sa_base.specs.declared.number.ProcNo.{ProcNo}
@@ -17,20 +17,20 @@ use Rattle.sa_abstract.specs.Walk.{ins_records, program_at}
 use Rattle.sa_abstract.specs.declared.answer.SeatState.{SeatState}
 use Rattle.sa_abstract.specs.declared.answer.SeatState.TheVariants.{Local, Away}
 use Rattle.sa_kernel_model.specs.State.{Scene, owner_of}
-use Rattle.sa_kernel_model.specs.Closing.{for_spaces, must_want, want_one, want_for, wants, aims, lines, closed, spaces, shares, interrupt, interrupt_one, interrupt_for, must_interrupt, has_low_line}
+use Rattle.sa_kernel_model.specs.Closing.{for_spaces, must_want, want_one, want_for, wants, aims, closed, spaces, shares, interrupt, interrupt_one, interrupt_for, must_interrupt, has_low_line}
 use Rattle.sa_kernel_model.proofs.WalkLemmas.{items-both}
 use Rattle.sa_assign.specs.Aims.{least_below}
 use Rattle.sa_assign.specs.Reaim.{reaim_records}
 use Rattle.sa_core_model.specs.Machine.{Machine, scene_of, seen_on, gone_to}
-use Rattle.sa_core_model.specs.Turn.{next_event, more_events, gone_in, sliced, sliced_if, ends_slice, committed}
+use Rattle.sa_core_model.specs.Turn.{next_event, more_events, gone_in, sliced, sliced_if, ends_slice}
 use Rattle.sa_core_model.specs.End.{local_on}
 use Rattle.sa_core_model.specs.Run.{setting, CanCommit, programs_in}
 use Rattle.sa_core_model.specs.Standing.{contexts_of, IsBetween}
-use Rattle.sa_core_model.proofs.Phases.{IsAt, at-owned}
+use Rattle.sa_core_model.proofs.Phases.{at-owned}
 use Rattle.sa_core_model.proofs.Calls.{value-at, mine}
 use Rattle.sa_core_model.proofs.Turns.{rests-next, rests-between}
 use Rattle.sa_core_model.proofs.Runs.{gone-is, local-is, gone-law, can-go}
-use Rattle.sa_legal_runs.specs.Commits.{instructions_from, EndsNoSlice, AddsInstructions}
+use Rattle.sa_legal_runs.specs.Commits.{instructions_from, AddsInstructions}
 
 -- A CLOSING adds records of its event.
 module _ {C : Type 0} (e : ℕ) (p : ProcNo) where

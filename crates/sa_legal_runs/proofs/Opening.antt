@@ -1,6 +1,6 @@
--- The opening is lawful, and each space fits behind it.
+-- The opening is lawful, and each space fits after it.
 use Rattle.sa_kernel_model.specs.Opening as kernel
-use Rattle.std.proofs.Common.{replicate, get_or, IsSome, cond, zero, suc, false, Option, None, length-append, ◌≡◌, ◌≢◌, ℕ, ◌+◌, arith, sym, ◌∙◌, ap, subst, refl, Bool, true, ◌&&◌, List, [], ◌∷◌, ◌++◌, map, length}
+use Rattle.std.proofs.Common.{replicate, get_or, IsSome, cond, zero, suc, false, Option, None, length-append, ◌≡◌, ◌≢◌, ℕ, ◌+◌, arith, sym, ◌∙◌, ap, subst, refl, Bool, true, List, [], ◌∷◌, ◌++◌, map, length}
 use Rattle.std.proofs.lemmas.List.{length-map, length-replicate}
 use Rattle.std.proofs.lemmas.Option.{none-some}
 use Rattle.sa_devices.specs.Pages.{opening_pages}
@@ -11,10 +11,9 @@ use Rattle.sa_user_laws.specs.Moments.{StaysRaised}
 use Rattle.sa_event_frames.proofs.Sizes.{sized-event}
 use Rattle.sa_event_frames.proofs.Idle.{idle-event, no-stops, closing-no_stop}
 use Rattle.sa_match.proofs.EventLaws.{some-step, event-lawful, own-steps, ended-step, closing-no_up}
-use Rattle.std.specs.List.{range_with_len, list_all}
+use Rattle.std.specs.List.{range_with_len}
 use Rattle.std.proofs.lemmas.List.FromFn.{length-range_with_len}
 use Rattle.std.proofs.Math.Path.{fun_ext}
-use Rattle.std.proofs.lemmas.List.Folds.{list_all-append}
 use Rattle.sa_base.specs.declared.number.ProcNo.{ProcNo}
 use Rattle.sa_base.specs.declared.number.SpaceNo.{SpaceNo}
 use Rattle.sa_base.specs.declared.number.ActNo.{ActNo}
@@ -31,17 +30,14 @@ use Rattle.sa_laws.specs.Life.{Life}
 use Rattle.sa_laws.specs.State.{opening_space}
 use Rattle.sa_laws.specs.Record.{with_life}
 use Rattle.sa_laws.specs.History.{Test, after_records, after_event, begun, with_step, stepped, is_step}
-use Rattle.sa_laws.specs.Shape.{is_of_closing}
 use Rattle.sa_laws.specs.Opening.{opening_event, opening_records, first_wants}
 use Rattle.sa_laws.specs.Closing.{spaces_of, aims_due, want_one}
 use Rattle.sa_laws.specs.Upcalls.{FirstLineIsAsked}
 use Rattle.sa_laws.specs.Rules.{UserRules}
+use Rattle.sa_laws.proofs.Closings.{closing-opening}
 use Rattle.sa_kernel_model.specs.State.{Scene}
 use Rattle.sa_kernel_model.specs.Opening.{opening_state}
 use Rattle.sa_kernel_model.proofs.HistoryLemmas.{history-opens}
-use Rattle.sa_kernel_model.proofs.WantLemmas.{wants-close}
-use Rattle.sa_kernel_model.proofs.AimLemmas.{aims-close}
-use Rattle.sa_kernel_model.proofs.WalkLemmas.{AreClosing}
 use Rattle.sa_kernel_model.proofs.FormedLemmas.{all-same}
 use Rattle.sa_core_model.specs.Machine.{Machine}
 use Rattle.sa_core_model.specs.Run.{setting, opening}
@@ -54,14 +50,6 @@ use Rattle.sa_event_frames.proofs.Matching.{AreMatched, matched-ended}
 use Rattle.sa_match.proofs.Spaces.{of-space, fit-same}
 use Rattle.sa_match.proofs.Composed.{IsComposed}
 use Rattle.sa_legal.proofs.MomentLemmas.{number-kept}
-
-opening-closes : (w : WorkloadView) → AreClosing (opening_records w)
-opening-closes w =
-    let wanting = after_records w 0 (proc_no 0) (opening_readings w) (first_wants w) in
-    let aims = records_of 0 wanting.lines (aims_due w 0 wanting) in
-    list_all-append is_of_closing (first_wants w) aims
-    ∙ ap (λ (b : Bool). b && list_all is_of_closing aims) (wants-close (spaces_of w))
-    ∙ aims-close 0 wanting.lines (aims_due w 0 wanting)
 
 opening-some : (w : WorkloadView) → IsWorkload w → opening_records w ≢ []
 opening-some w ok empty =
@@ -119,7 +107,7 @@ module _ {U C : Type 0} (level : UserLevel U C) where
       let holds = history.lawful.0 in
       let last = after_records w 0 (proc_no 0) (begun w ev r) (opening_records w) in
       let final = after_event level.rules.inside w r ev in
-      let closes = opening-closes w in
+      let closes = closing-opening w in
       let alike = closing-alike w 0 (proc_no 0) (begun w ev r) (opening_records w) closes in
       let lives : final.lives ≡ last.lives =
       ended-step level.rules.inside w r ev last (closing-no_up (opening_records w) closes)
@@ -141,7 +129,10 @@ module _ {U C : Type 0} (level : UserLevel U C) where
         lawful = (
           event-lawful level.rules w r ev holds
               (record { number = refl; proc = ok.some_processor; some = opening-some w ok; opening = λ is. refl })
-              (record { steps = subst (λ (xs : List Record). AreSteps w 0 (proc_no 0) (begun w ev r) xs) refl (own-steps w 0 (proc_no 0) (begun w ev r) [] (opening_records w) tt closes) })
+              (record {
+                steps = subst (λ (xs : List Record). AreSteps w 0 (proc_no 0) (begun w ev r) xs) refl
+                    (own-steps w 0 (proc_no 0) (begun w ev r) [] (opening_records w) tt closes);
+              })
               (opening-first level.rules w r (proc_no 0) (spaces_of w) _ _)
               (record { turn = λ later. absurd (omega (arith, later)); closing = λ later. absurd (omega (arith, later)) })
               (level.laws.opening w ok),

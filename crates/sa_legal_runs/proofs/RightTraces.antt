@@ -71,7 +71,7 @@ told-end budget n r AllDone h = h
 told-end budget n r Stuck h = h
 told-end budget n r Budget h = h.0
 
--- Where the run goes on behind each event but the last, it does so behind the one at a place.
+-- Where the run goes on after each event but the last, it does so after the one at a place.
 go-on-at : (test : Test) (w : WorkloadView) (r : Readings) (es : List Event) (n : ℕ) → GoOn test w r es → suc n < length es
     → GoesOn (after_events test w r (take (suc n) es))
 go-on-at test w r [] n on inside = absurd (omega (arith, inside))
@@ -105,7 +105,7 @@ module _ {U C : Type 0} (level : UserLevel U C) where
             (λ (es : List Event). GoOn level.rules.inside w (opening_readings w) (opening_event w ∷ es)) again rest.2,
       )
 
-  -- THE RUN GOES ON behind each event but the last.
+  -- THE RUN GOES ON after each event but the last.
   pub runs-go-on : (w : WorkloadView) (budget : ℕ) (moves : List Move) (after : Machine U C) → IsWorkload w
       → (run : IsRun level.calls (opening level.calls w) moves after) → NotEnded level.calls budget (opening level.calls w) moves after run
       → (n : ℕ) → n + 1 < length (events_of after.items) → GoesOn (before level.rules w (events_of after.items) (n + 1))

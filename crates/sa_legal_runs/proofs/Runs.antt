@@ -2,7 +2,7 @@
 use Rattle.sa_base.specs.declared.number.ProcNo.{ProcNo}
 use Rattle.sa_legal.specs.Fold.{AreLawful}
 use Rattle.std.proofs.lemmas.List.{map-append}
-use Rattle.std.proofs.Common.{map, replicate, refl, ◌≡◌, ℕ, zero, suc, ◌+◌, ◌-◌, arith, ap, ◌∙◌, Option, Some, length, slice_get, take, sym, subst, List, [], ◌∷◌, ◌++◌, append_assoc}
+use Rattle.std.proofs.Common.{replicate, refl, ◌≡◌, ℕ, zero, suc, ◌+◌, ◌-◌, arith, ap, ◌∙◌, Option, Some, length, slice_get, take, sym, subst, List, [], ◌∷◌, ◌++◌, append_assoc}
 use Rattle.std.proofs.lemmas.Option.{same_Some, none-some}
 use Rattle.std.proofs.lemmas.List.{append-nil}
 use Rattle.sa_base.specs.Items.{items_at}
@@ -153,7 +153,9 @@ module _ {U C : Type 0} (level : UserLevel U C) where
   reached-opening w ok = record {
     composed = composed-opening level w ok;
     home = subst (λ (fs : ℕ → Option (Act C)). AreHomed (length w.spaces) fs)
-        (sym (same-closed 0 (proc_no 0) (let x : Scene C = record { state = opening_state w; items = items_at 0 (proc_no 0) (first_wants 0 (length w.spaces)) } in x)).acts) (λ a act is. absurd (none-some act is));
+        (sym (same-closed 0 (proc_no 0)
+        (let x : Scene C = record { state = opening_state w; items = items_at 0 (proc_no 0) (first_wants 0 (length w.spaces)) } in x)).acts)
+        (λ a act is. absurd (none-some act is));
   }
 
   -- The items of what was reached are those of its events.
@@ -220,7 +222,10 @@ module _ {U C : Type 0} (level : UserLevel U C) where
       let done = strict-run w [] (opening level.calls w) moves after (composed-opening level w ok)
       (record { strict = λ io later due low. absurd (omega (arith, later)) }, tt) turns run in
       let events = opening_event w ∷ done.0 in
-      record { each = subst (λ (es : List Event). (n : ℕ) (e : Event) → slice_get es n ≡ Some e → IsStrict (before level.rules w es n) e) (sym (events-are w done.0 after done.1)) (strict-at level.rules w (opening_readings w) events done.2) }
+      record {
+        each = subst (λ (es : List Event). (n : ℕ) (e : Event) → slice_get es n ≡ Some e → IsStrict (before level.rules w es n) e)
+            (sym (events-are w done.0 after done.1)) (strict-at level.rules w (opening_readings w) events done.2);
+      }
 
   -- EVENT k IS OF THE PROCESSOR OF THE k-TH MOVE, where a commit of n instructions counts as n moves; it has that number;
   -- and the number of events is the last one's.

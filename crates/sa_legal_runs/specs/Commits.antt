@@ -13,7 +13,7 @@ use Rattle.sa_core_model.specs.End.{local_on}
 use Rattle.sa_core_model.specs.Run.{programs_in}
 use Rattle.sa_core_model.specs.Turn.{committed}
 
--- the records of the next n instructions from where a context stands
+-- the records of the next n instructions from where a context is
 abbrev pub instructions_from : WorkloadView → ℕ → SeatState → List Record
 instructions_from w n (Local space thread program pc regs) =
     ins_records space thread (program_at (programs_in (slice_get w.spaces space.0)) program) n (record { pc = pc; regs = regs })
@@ -23,7 +23,7 @@ instructions_from w n Away = []
 abbrev pub EndsNoSlice : WorkloadView → ℕ → Type 0
 EndsNoSlice w event = (not (w.slice == 0) && (event % w.slice == 0)) ≡ false
 
--- one event for each instruction, with its record; and behind the last of them a closing, where a slice ends with it
+-- one event for each instruction, with its record; and after the last of them a closing, where a slice ends with it
 pub record AddsInstructions {U C : Type 0} (f : Calls U C) (m : Machine U C) (p : ProcNo) (n : ℕ) : Type 0 where
   pub closing : List Record
   pub items : (committed f p n m).items

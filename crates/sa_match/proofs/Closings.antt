@@ -10,12 +10,12 @@ use Rattle.sa_base.specs.declared.record.Item.{Item}
 use Rattle.sa_base.specs.Items.{items_at}
 use Rattle.sa_assign.specs.Reaim.{reaim_records, proc_no, changes_in}
 use Rattle.sa_laws.specs.Shape.{is_of_closing}
+use Rattle.sa_laws.proofs.Closings.{closing-aims}
 use Rattle.sa_kernel_model.specs.State.{Scene}
 use Rattle.sa_kernel_model.specs.Closing.{closed, wants, aims, want_one, want_for, must_want, interrupt, interrupt_one, interrupt_for, must_interrupt, spaces, shares}
 use Rattle.sa_kernel_model.specs.Turn.{what_of}
 use Rattle.sa_kernel_model.proofs.WholeLemmas.{records-said}
 use Rattle.sa_kernel_model.proofs.PlacedLemmas.{for_spaces-keeps}
-use Rattle.sa_kernel_model.proofs.AimLemmas.{aims-close}
 use Rattle.sa_kernel_model.proofs.WalkLemmas.{AreClosing, items-both}
 
 module _ {C : Type 0} where
@@ -58,10 +58,10 @@ module _ {C : Type 0} where
       let z : Scene C = aims e p y in
       let aimed : P z = closes-more e p x.items y z
       (reaim_records e (spaces y.state) (shares y.state e) y.state.assign) wanted refl
-      (aims-close e y.state.assign.lines (changes_in (spaces y.state) (shares y.state e) y.state.assign)) in
+      (closing-aims e y.state.assign.lines (changes_in (spaces y.state) (shares y.state e) y.state.assign)) in
       for_spaces-keeps P (interrupt_for e p) (λ s v h. closes-one e p x.items (must_interrupt v.state s) s v h) 0 (spaces z.state) z aimed
 
-  -- So an event's records are its own ones, and the closing's behind them.
+  -- So an event's records are its own ones, and the closing's after them.
   pub records-are : (e : ℕ) (p : ProcNo) (own : List Record) (y : Scene C) → (c : Closes e p (items_at e p own) y)
       → map what_of y.items ≡ own ++ c.closing
   records-are e p own y c =

@@ -59,7 +59,7 @@ module _ {U C : Type 0} (level : UserLevel U C) where
   abbrev pub scene : Machine U C → Scene C
   scene m = record { state = m.kernel; items = m.items }
 
-  -- what is read behind the opening and these events
+  -- what is read after the opening and these events
   abbrev pub read : WorkloadView → List Event → Readings
   read w events = read_from level.rules.inside w events
 
@@ -93,7 +93,20 @@ module _ {U C : Type 0} (level : UserLevel U C) where
     pub matched : AreMatched m.kernel.acts (read w events).lives
 
   pub traced-of : (w : WorkloadView) (events : List Event) (m : Machine U C) → IsComposed w events m → IsTraced w events m
-  traced-of w events m c = record { fetched = c.between.fetched; workload = c.workload; history = c.history; lawful = c.lawful; number = c.number; last = c.last; sized = c.sized; calm = c.calm; ios = c.ios; idle = c.idle; matched = c.matched }
+  traced-of w events m c =
+      record {
+        fetched = c.between.fetched;
+        workload = c.workload;
+        history = c.history;
+        lawful = c.lawful;
+        number = c.number;
+        last = c.last;
+        sized = c.sized;
+        calm = c.calm;
+        ios = c.ios;
+        idle = c.idle;
+        matched = c.matched;
+      }
 
   -- The machine goes on by one event of processor p.
   pub record Goes (w : WorkloadView) (events : List Event) (m : Machine U C) (p : ProcNo) (after : Machine U C) (ev : Event) : Type 0 where

@@ -2,6 +2,7 @@
 use Rattle.std.proofs.Common.{◌≡◌, ℕ, ◌∙◌, ap, refl, Bool, true, false, Option, Some, List, [], ◌∷◌, ◌++◌}
 use Rattle.std.specs.List.{list_all, list_any}
 use Rattle.std.specs.Prelude.{if◌then◌else◌}
+use Rattle.std.proofs.lemmas.Bool.{and_parts}
 use Rattle.sa_base.specs.declared.number.ProcNo.{ProcNo}
 use Rattle.sa_base.specs.declared.number.ActNo.{ActNo}
 use Rattle.sa_base.specs.declared.record.Record.{Record}
@@ -20,7 +21,6 @@ use Rattle.sa_laws.specs.Upcalls.{FirstLineIsAsked}
 use Rattle.sa_laws.specs.Rules.{UserRules, IsLawful}
 use Rattle.sa_legal.proofs.AppendLemmas.{steps-append}
 use Rattle.sa_kernel_model.specs.Laws.{AllHold}
-use Rattle.sa_kernel_model.proofs.OverviewLemmas.{and-left}
 use Rattle.sa_kernel_model.proofs.WalkLemmas.{AreClosing}
 use Rattle.sa_user_laws.specs.Steps.{begins_step, RulesPass}
 use Rattle.sa_event_frames.proofs.Frames.{StaysPut}
@@ -53,7 +53,7 @@ closing-steps w e p r [] closes = tt
 closing-steps w e p r (Want s n ∷ cl) closes = (tt, closing-steps w e p (after_record w e p r (Want s n)) cl closes)
 closing-steps w e p r (Aim q (Some s) ∷ cl) closes = (tt, closing-steps w e p (after_record w e p r (Aim q (Some s))) cl closes)
 closing-steps w e p r (Line q ∷ cl) closes = (tt, closing-steps w e p (after_record w e p r (Line q)) cl closes)
-closing-steps w e p r (x ∷ cl) closes = absurd (let z = and-left (is_of_closing x) (list_all is_of_closing cl) closes in cc)
+closing-steps w e p r (x ∷ cl) closes = absurd (let z = (and_parts (is_of_closing x) (list_all is_of_closing cl) closes).0 in cc)
 
 pub own-steps : (w : WorkloadView) (e : ℕ) (p : ProcNo) (r : Readings) (own cl : List Record) → AreSteps w e p r own
     → AreClosing cl → AreSteps w e p r (own ++ cl)
@@ -127,4 +127,4 @@ closing-no_up [] closes = refl
 closing-no_up (Want s n ∷ cl) closes = closing-no_up cl closes
 closing-no_up (Aim q (Some s) ∷ cl) closes = closing-no_up cl closes
 closing-no_up (Line q ∷ cl) closes = closing-no_up cl closes
-closing-no_up (x ∷ cl) closes = absurd (let z = and-left (is_of_closing x) (list_all is_of_closing cl) closes in cc)
+closing-no_up (x ∷ cl) closes = absurd (let z = (and_parts (is_of_closing x) (list_all is_of_closing cl) closes).0 in cc)

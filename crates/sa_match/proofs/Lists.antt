@@ -1,20 +1,15 @@
 -- Reading a list at a place within it, and what a list contains.
-use Rattle.std.proofs.Common.{◌≡◌, Bool, true, subst, ℕ, zero, suc, ◌<◌, Some, List, [], ◌∷◌, ◌++◌, Contains, length, slice_get, refl, arith}
+use Rattle.std.proofs.Common.{◌≡◌, Bool, true, subst, ℕ, zero, suc, ◌<◌, Some, List, [], ◌∷◌, length, slice_get, refl, arith}
 use Rattle.std.specs.List.{list_all}
 use Rattle.std.proofs.lemmas.Option.{same_Some, none-some}
-use Rattle.sa_kernel_model.proofs.OverviewLemmas.{and-left, and-right}
-use Rattle.sa_core_model.proofs.Running.{contains-tail}
+use Rattle.std.proofs.lemmas.Bool.{and_parts}
 
 pub read-at : {A : Type 0} (xs : List A) (i : ℕ) → i < length xs → (x : A) × (slice_get xs i ≡ Some x)
 read-at [] i below = absurd (omega (arith, below))
 read-at (x ∷ xs) zero below = (x, refl)
 read-at (x ∷ xs) (suc i) below = read-at xs i (omega (arith, below))
 
-pub contains-behind : {A : Type 0} (xs ys : List A) (x : A) → Contains ys x → Contains (xs ++ ys) x
-contains-behind [] ys x has = has
-contains-behind (y ∷ xs) ys x has = contains-tail y (xs ++ ys) x (contains-behind xs ys x has)
-
 pub all-pass : {A : Type 0} (g : A → Bool) (xs : List A) (i : ℕ) (x : A) → list_all g xs ≡ true → slice_get xs i ≡ Some x → g x ≡ true
 all-pass g [] i x all at = absurd (none-some x at)
-all-pass g (y ∷ ys) zero x all at = subst (λ z. g z ≡ true) (same_Some y x at) (and-left (g y) (list_all g ys) all)
-all-pass g (y ∷ ys) (suc i) x all at = all-pass g ys i x (and-right (g y) (list_all g ys) all) at
+all-pass g (y ∷ ys) zero x all at = subst (λ z. g z ≡ true) (same_Some y x at) (and_parts (g y) (list_all g ys) all).0
+all-pass g (y ∷ ys) (suc i) x all at = all-pass g ys i x (and_parts (g y) (list_all g ys) all).1 at

@@ -1,21 +1,20 @@
 -- A history is longer by the event of a turn, or by a quiet one.
 use Rattle.sa_kernel_model.proofs.WholeLemmas.{turn-is}
-use Rattle.sa_kernel_model.proofs.HistoryLemmas.{items_of-push, after_events-push, hold-push}
-use Rattle.std.proofs.Common.{◌≡◌, ◌≢◌, ℕ, ◌<◌, sym, ◌∙◌, ap, subst, refl, Option, Some, None, List, [], ◌∷◌, ◌++◌, length, map, drop, take_while, append_assoc}
-use Rattle.std.specs.List.{list_all}
-use Rattle.std.proofs.lemmas.List.{append-nil}
+use Rattle.sa_kernel_model.proofs.HistoryLemmas.{after_events-push, hold-push}
+use Rattle.std.proofs.Common.{◌≡◌, ◌≢◌, ℕ, ◌<◌, sym, ◌∙◌, ap, subst, Option, Some, None, List, [], ◌∷◌, ◌++◌, length, map, drop}
 use Rattle.sa_base.specs.declared.number.ProcNo.{ProcNo}
 use Rattle.sa_base.specs.declared.number.ActNo.{ActNo}
 use Rattle.sa_base.specs.declared.record.Item.{Item}
 use Rattle.sa_base.specs.declared.record.Record.{Record}
 use Rattle.sa_base.specs.Items.{items_at}
 use Rattle.sa_spaces.specs.Workload.{WorkloadView, IsWorkload}
-use Rattle.sa_laws.specs.Event.{Event, items_of}
+use Rattle.sa_laws.specs.Event.{Event}
 use Rattle.sa_laws.specs.Readings.{Readings, opening_readings}
 use Rattle.sa_laws.specs.History.{Test, after_event, after_events}
 use Rattle.sa_laws.specs.Opening.{opening_event}
-use Rattle.sa_laws.specs.Shape.{own_part, closing_part, others_of, is_own, is_of_closing}
+use Rattle.sa_laws.specs.Shape.{own_part, closing_part, others_of, is_own}
 use Rattle.sa_laws.specs.Turns.{IsClosing}
+use Rattle.sa_laws.proofs.Records.{items-push}
 use Rattle.sa_kernel_model.specs.declared.entry.Entry.{Entry}
 use Rattle.sa_kernel_model.specs.State.{State, Scene}
 use Rattle.sa_kernel_model.specs.Closing.{closed, NoLineIsDue}
@@ -31,8 +30,7 @@ use Rattle.sa_kernel_model.proofs.FrameLemmas.{adds-its-event}
 use Rattle.sa_kernel_model.proofs.PartLemmas.{turns-parts, own-is}
 use Rattle.sa_kernel_model.proofs.RestLemmas.{rests-closed}
 use Rattle.sa_kernel_model.proofs.SoundLemmas.{sound-evicted, sound-entered_as}
-use Rattle.sa_kernel_model.proofs.ShapeLemmas.{while-both, while-none, drop-front}
-use Rattle.sa_kernel_model.proofs.OverviewLemmas.{and-left}
+use Rattle.sa_kernel_model.proofs.ShapeLemmas.{drop-front}
 use Rattle.sa_kernel_model.proofs.TurnedLemmas.{before_closing}
 use Rattle.sa_kernel_model.proofs.WalkLemmas.{AreClosing, AreOwn}
 use Rattle.sa_user_laws.specs.Steps.{IsClosed, event_with}
@@ -76,7 +74,7 @@ module _ {C : Type 0} where
       let is = adds-its-event C w k r t items h.ok h.kept can in
       subst (λ (x : Scene C). IsHistory test w (events ++ ev ∷ []) x) (sym is) (record {
         ok = h.ok;
-        items = ap (λ (xs : List Item). xs ++ items_at t.number t.proc ev.records) h.items ∙ sym (items_of-push past ev);
+        items = ap (λ (xs : List Item). xs ++ items_at t.number t.proc ev.records) h.items ∙ sym (items-push past ev);
         lawful = hold-push test w (opening_readings w) past ev h.lawful (all-at-turn C test w k r t h.ok h.kept can);
         kept = subst (λ (c : Readings). IsKept w (turned t k).state c) (sym (after_events-push test w (opening_readings w) past ev))
             (turns-keep C test w k r t h.ok h.kept can);

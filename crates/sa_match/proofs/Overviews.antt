@@ -1,5 +1,5 @@
 -- What a history reads beside what the kernel has: who runs where, and what a space sees.
-use Rattle.std.proofs.Common.{get_or, ◌≡◌, ℕ, ◌<◌, ◌≤◌, ◌==◌, arith, sym, ◌∙◌, ap, subst, refl, Bool, true, false, Option, Some, None, IsSome, List, [], ◌∷◌, length, take, slice_set, inl, inr}
+use Rattle.std.proofs.Common.{get_or, ◌≡◌, ℕ, ◌<◌, ◌≤◌, ◌==◌, arith, sym, ◌∙◌, ap, subst, refl, Bool, true, false, Option, Some, None, IsSome, List, [], length, take, slice_set, inl, inr}
 use Rattle.std.specs.Option.{option_map}
 use Rattle.std.specs.Prelude.{if◌then◌else◌, slice_index}
 use Rattle.std.proofs.lemmas.Bool.{cases_lt}
@@ -10,7 +10,6 @@ use Rattle.sa_base.specs.declared.number.ProcNo.{ProcNo}
 use Rattle.sa_base.specs.declared.number.SpaceNo.{SpaceNo}
 use Rattle.sa_base.specs.declared.number.ThreadNo.{ThreadNo}
 use Rattle.sa_base.specs.declared.number.ActNo.{ActNo}
-use Rattle.sa_base.specs.declared.record.Record.{Record}
 use Rattle.sa_base.specs.declared.record.Note.{Note}
 use Rattle.sa_spaces.specs.Workload.{WorkloadView}
 use Rattle.sa_spaces.specs.declared.workload.Evict.{Evict}
@@ -20,8 +19,6 @@ use Rattle.sa_laws.specs.declared.place.Place.TheVariants.{Running, Done}
 use Rattle.sa_laws.specs.Life.{Life}
 use Rattle.sa_laws.specs.State.{State as Abstract, SpaceState, space_at, thread_at, thread_in}
 use Rattle.sa_laws.specs.Readings.{Readings, running_of, life_of as life_at, owner_of as owner_in, taken_of as taken_at, space_of_life}
-use Rattle.sa_laws.specs.Record.{after_record}
-use Rattle.sa_laws.specs.History.{after_records}
 use Rattle.sa_kernel_model.specs.State.{State, Fixed, line_of, taken_of}
 use Rattle.sa_kernel_model.specs.Entries.{evicted_at}
 use Rattle.sa_kernel_model.specs.Overview.{taken_behind, spaces_in, Overview, overview, read_off, act_space}

@@ -3,6 +3,7 @@ use Rattle.std.proofs.Common.{inl, get_or, ◌≡◌, ◌≢◌, ℕ, suc, arith
 use Rattle.std.specs.List.{list_all, list_any}
 use Rattle.std.proofs.lemmas.Option.{same_Some}
 use Rattle.std.specs.Prelude.{if◌then◌else◌}
+use Rattle.std.proofs.lemmas.Bool.{and_parts}
 use Rattle.sa_base.specs.declared.number.ProcNo.{ProcNo}
 use Rattle.sa_base.specs.declared.number.SpaceNo.{SpaceNo}
 use Rattle.sa_base.specs.declared.number.ActNo.{ActNo}
@@ -19,10 +20,11 @@ use Rattle.sa_laws.specs.History.{after_records, after_event, with_step, stepped
 use Rattle.sa_laws.specs.Shape.{is_of_closing}
 use Rattle.sa_laws.specs.Upcalls.{FirstLineIsAsked}
 use Rattle.sa_laws.specs.Rules.{UserRules}
-use Rattle.sa_kernel_model.proofs.OverviewLemmas.{users-record, and-left, and-right}
+use Rattle.sa_laws.proofs.Records.{records-append}
+use Rattle.sa_kernel_model.proofs.OverviewLemmas.{users-record}
 use Rattle.sa_kernel_model.specs.Turn.{AreUsers, is_users}
 use Rattle.sa_kernel_model.specs.Overview.{Overview, overview, space_of}
-use Rattle.sa_kernel_model.proofs.WalkLemmas.{has-life, AreClosing, records-both}
+use Rattle.sa_kernel_model.proofs.WalkLemmas.{has-life, AreClosing}
 use Rattle.sa_user_laws.specs.Moments.{AlikeButDemands, life_in, SameFor}
 use Rattle.sa_user_laws.specs.Steps.{event_with}
 use Rattle.sa_user_laws.specs.Scene.{IsOn, begun_at}
@@ -86,8 +88,8 @@ says-users s (x ∷ xs) own =
 pub users-leave : (xs : List Record) → AreUsers xs → list_all leaves_lives xs ≡ true
 users-leave [] are = refl
 users-leave (x ∷ xs) are =
-    ap (λ b. b && list_all leaves_lives xs) (one x (and-left (is_users x) (list_all is_users xs) are))
-    ∙ users-leave xs (and-right (is_users x) (list_all is_users xs) are) where
+    ap (λ b. b && list_all leaves_lives xs) (one x (and_parts (is_users x) (list_all is_users xs) are).0)
+    ∙ users-leave xs (and_parts (is_users x) (list_all is_users xs) are).1 where
       one : (x : Record) → is_users x ≡ true → leaves_lives x ≡ true
       one (Stop s t a) is = absurd (cc)
       one (Block s t a io) is = absurd (cc)
@@ -98,8 +100,8 @@ users-leave (x ∷ xs) are =
 pub closing-leave : (xs : List Record) → AreClosing xs → list_all leaves_lives xs ≡ true
 closing-leave [] are = refl
 closing-leave (x ∷ xs) are =
-    ap (λ b. b && list_all leaves_lives xs) (one x (and-left (is_of_closing x) (list_all is_of_closing xs) are))
-    ∙ closing-leave xs (and-right (is_of_closing x) (list_all is_of_closing xs) are) where
+    ap (λ b. b && list_all leaves_lives xs) (one x (and_parts (is_of_closing x) (list_all is_of_closing xs) are).0)
+    ∙ closing-leave xs (and_parts (is_of_closing x) (list_all is_of_closing xs) are).1 where
       one : (x : Record) → is_of_closing x ≡ true → leaves_lives x ≡ true
       one (Stop s t a) is = absurd (cc)
       one (Block s t a io) is = absurd (cc)
@@ -110,8 +112,8 @@ closing-leave (x ∷ xs) are =
 pub users-no_up : (xs : List Record) → AreUsers xs → list_any is_up xs ≡ false
 users-no_up [] are = refl
 users-no_up (x ∷ xs) are =
-    ap (λ b. b || list_any is_up xs) (one x (and-left (is_users x) (list_all is_users xs) are))
-    ∙ users-no_up xs (and-right (is_users x) (list_all is_users xs) are) where
+    ap (λ b. b || list_any is_up xs) (one x (and_parts (is_users x) (list_all is_users xs) are).0)
+    ∙ users-no_up xs (and_parts (is_users x) (list_all is_users xs) are).1 where
       one : (x : Record) → is_users x ≡ true → is_up x ≡ false
       one (Up s a) is = absurd (cc)
       one x is = refl
@@ -143,8 +145,8 @@ of-spaces s old new o same of a is life at =
 pub users-no_stop : (xs : List Record) → AreUsers xs → list_any is_stop xs ≡ false
 users-no_stop [] are = refl
 users-no_stop (x ∷ xs) are =
-    ap (λ b. b || list_any is_stop xs) (one x (and-left (is_users x) (list_all is_users xs) are))
-    ∙ users-no_stop xs (and-right (is_users x) (list_all is_users xs) are) where
+    ap (λ b. b || list_any is_stop xs) (one x (and_parts (is_users x) (list_all is_users xs) are).0)
+    ∙ users-no_stop xs (and_parts (is_users x) (list_all is_users xs) are).1 where
       one : (x : Record) → is_users x ≡ true → is_stop x ≡ false
       one (Stop s t a) is = absurd (cc)
       one x is = refl
@@ -169,7 +171,7 @@ step-event_foreign rules w r g p s t own cl low closes no_up mine apart same =
     let last = after_records w g p b (own ++ cl) in
     let final = after_event rules.inside w r ev in
     let close : AlikeButDemands first last =
-    subst (λ (z : Readings). AlikeButDemands first z) (sym (records-both w g p b own cl)) (closing-alike w g p first cl closes) in
+    subst (λ (z : Readings). AlikeButDemands first z) (sym (records-append w g p b own cl)) (closing-alike w g p first cl closes) in
     let ends : (i : ℕ) → life_in t (final.lives i) ≡ life_in t (last.lives i) = λ i.
     ap (λ (ls : ℕ → Option Life). life_in t (ls i)) (ended-step rules.inside w r ev last no_up)
     ∙ step-foreign rules w s t r ev last ev.records last.lives

@@ -21,10 +21,6 @@ fresh-is true zero more both is = refl
 fresh-is true (suc n) more both is = absurd cc
 fresh-is false looks more both is = absurd cc
 
-pub fresh-and : (fresh more : Bool) → (fresh && more) ≡ true → more ≡ true
-fresh-and true more both = both
-fresh-and false more both = absurd cc
-
 -- a record that settles its life ends its scans
 pub settles-scans : (r last : Readings) (x : Record) (n : ℕ) → settles r last x ≡ true → scans_after r x n ≡ 0
 settles-scans r last records.Idle n e = absurd cc
@@ -60,10 +56,6 @@ came-outside before after e = by (stands_inside after) (goes_on before after) e 
   by : (a b : Bool) → (not a && not b) ≡ true → a ≡ false
   by false b e = refl
   by true b e = absurd cc
-
-pub came-first : (came pair : Bool) → (came && pair) ≡ true → came ≡ true
-came-first true pair e = refl
-came-first false pair e = absurd cc
 
 -- inside the package a context does not look
 pub inside-looks : (state : State) → stands_inside state ≡ true → looks_of state ≡ 0

@@ -20,7 +20,7 @@ use Rattle.sa_prio_fits.proofs.Orders.{by_rank-append, by_rank-without, without-
 use Rattle.sa_prio_fits.specs.Ready.{FitsRanked}
 use Rattle.sa_prio_fits.specs.ByRank.{by_rank, greater, greatest}
 
--- A THREAD COMES behind the others
+-- A THREAD COMES after the others
 pub order-push : (ranks : List ℕ) (listed : List Listed) (x : Listed)
     → by_rank ranks (map number_in (listed ++ x ∷ [])) ≡ inserted ranks (number_in x) (by_rank ranks (map number_in listed))
 order-push ranks listed x =

@@ -19,7 +19,7 @@ without_same x y ys e = ap (λ b. if not b then y ∷ without x ys else without 
 without_other : (x y : ℕ) (ys : List ℕ) → y ≢ x → without x (y ∷ ys) ≡ y ∷ without x ys
 without_other x y ys ne = ap (λ b. if not b then y ∷ without x ys else without x ys) (ne_eqb y x ne)
 
--- A THREAD COMES behind the others
+-- A THREAD COMES after the others
 pub by_rank-append : (ranks xs ns : List ℕ) (t : ℕ) → by_rank_from ranks xs (ns ++ t ∷ []) ≡ inserted ranks t (by_rank_from ranks xs ns)
 by_rank-append ranks xs [] t = refl
 by_rank-append ranks xs (n ∷ ns) t = by_rank-append ranks (inserted ranks n xs) ns t
@@ -99,7 +99,8 @@ without-inserted ranks t n (x ∷ xs) ne h = elim (cases_lt (rank_of ranks n) (r
       ])))
 ]
 
-pub by_rank-without : (ranks xs ns : List ℕ) (t : ℕ) → IsOrdered ranks xs → without t (by_rank_from ranks xs ns) ≡ by_rank_from ranks (without t xs) (without t ns)
+pub by_rank-without : (ranks xs ns : List ℕ) (t : ℕ) → IsOrdered ranks xs
+    → without t (by_rank_from ranks xs ns) ≡ by_rank_from ranks (without t xs) (without t ns)
 by_rank-without ranks xs [] t h = refl
 by_rank-without ranks xs (n ∷ ns) t h = elim (cases_eq n t) [
   | inl same ↦ by_rank-without ranks (inserted ranks n xs) ns t (inserted-ordered ranks n xs h)
@@ -134,20 +135,22 @@ greater-joins ranks None n (Some g) = by (nat_lt (rank_of ranks g) (rank_of rank
   by true = refl
   by false = refl
 greater-joins ranks (Some x) n (Some g) = elim (cases_lt (rank_of ranks n) (rank_of ranks x)) [
-  | inl below ↦ ap (λ b. greater ranks (if b then Some x else Some n) (Some g)) (lt-ltb (rank_of ranks n) (rank_of ranks x) below) ∙ (elim (cases_lt (rank_of ranks g) (rank_of ranks n)) [
-    | inl less ↦ ap (λ b. if b then Some x else Some g) (lt-ltb (rank_of ranks g) (rank_of ranks x) (omega arith))
-        ∙ sym (ap (λ b. greater ranks (Some x) (if b then Some n else Some g)) (lt-ltb (rank_of ranks g) (rank_of ranks n) less)
-        ∙ ap (λ b. if b then Some x else Some n) (lt-ltb (rank_of ranks n) (rank_of ranks x) below))
-    | inr more ↦ sym (ap (λ b. greater ranks (Some x) (if b then Some n else Some g)) (le-ltb (rank_of ranks g) (rank_of ranks n) more))
-  ])
-  | inr above ↦ ap (λ b. greater ranks (if b then Some x else Some n) (Some g)) (le-ltb (rank_of ranks n) (rank_of ranks x) above) ∙ (elim (cases_lt (rank_of ranks g) (rank_of ranks n)) [
-    | inl less ↦ ap (λ b. if b then Some n else Some g) (lt-ltb (rank_of ranks g) (rank_of ranks n) less)
-        ∙ sym (ap (λ b. greater ranks (Some x) (if b then Some n else Some g)) (lt-ltb (rank_of ranks g) (rank_of ranks n) less)
-        ∙ ap (λ b. if b then Some x else Some n) (le-ltb (rank_of ranks n) (rank_of ranks x) above))
-    | inr more ↦ ap (λ b. if b then Some n else Some g) (le-ltb (rank_of ranks g) (rank_of ranks n) more)
-        ∙ sym (ap (λ b. greater ranks (Some x) (if b then Some n else Some g)) (le-ltb (rank_of ranks g) (rank_of ranks n) more)
-        ∙ ap (λ b. if b then Some x else Some g) (le-ltb (rank_of ranks g) (rank_of ranks x) (omega arith)))
-  ])
+  | inl below ↦ ap (λ b. greater ranks (if b then Some x else Some n) (Some g)) (lt-ltb (rank_of ranks n) (rank_of ranks x) below)
+      ∙ (elim (cases_lt (rank_of ranks g) (rank_of ranks n)) [
+        | inl less ↦ ap (λ b. if b then Some x else Some g) (lt-ltb (rank_of ranks g) (rank_of ranks x) (omega arith))
+            ∙ sym (ap (λ b. greater ranks (Some x) (if b then Some n else Some g)) (lt-ltb (rank_of ranks g) (rank_of ranks n) less)
+            ∙ ap (λ b. if b then Some x else Some n) (lt-ltb (rank_of ranks n) (rank_of ranks x) below))
+        | inr more ↦ sym (ap (λ b. greater ranks (Some x) (if b then Some n else Some g)) (le-ltb (rank_of ranks g) (rank_of ranks n) more))
+      ])
+  | inr above ↦ ap (λ b. greater ranks (if b then Some x else Some n) (Some g)) (le-ltb (rank_of ranks n) (rank_of ranks x) above)
+      ∙ (elim (cases_lt (rank_of ranks g) (rank_of ranks n)) [
+        | inl less ↦ ap (λ b. if b then Some n else Some g) (lt-ltb (rank_of ranks g) (rank_of ranks n) less)
+            ∙ sym (ap (λ b. greater ranks (Some x) (if b then Some n else Some g)) (lt-ltb (rank_of ranks g) (rank_of ranks n) less)
+            ∙ ap (λ b. if b then Some x else Some n) (le-ltb (rank_of ranks n) (rank_of ranks x) above))
+        | inr more ↦ ap (λ b. if b then Some n else Some g) (le-ltb (rank_of ranks g) (rank_of ranks n) more)
+            ∙ sym (ap (λ b. greater ranks (Some x) (if b then Some n else Some g)) (le-ltb (rank_of ranks g) (rank_of ranks n) more)
+            ∙ ap (λ b. if b then Some x else Some g) (le-ltb (rank_of ranks g) (rank_of ranks x) (omega arith)))
+      ])
 ]
 
 first-from : (ranks xs ns : List ℕ) → slice_get (by_rank_from ranks xs ns) 0 ≡ greater ranks (slice_get xs 0) (greatest ranks ns)
@@ -173,7 +176,8 @@ inserted-alike ranks now t (x ∷ xs) one all =
     ∙ ap (λ n. if nat_lt (rank_of ranks t) n then x ∷ inserted now t xs else t ∷ x ∷ xs) here
     ∙ ap (λ ys. if nat_lt (rank_of ranks t) (rank_of ranks x) then x ∷ ys else t ∷ x ∷ xs) rest
 
-pub by_rank-alike : (ranks now xs ns : List ℕ) → ((y : ℕ) → IsIn y xs → rank_of now y ≡ rank_of ranks y) → ((y : ℕ) → IsIn y ns → rank_of now y ≡ rank_of ranks y)
+pub by_rank-alike : (ranks now xs ns : List ℕ) → ((y : ℕ) → IsIn y xs → rank_of now y ≡ rank_of ranks y)
+    → ((y : ℕ) → IsIn y ns → rank_of now y ≡ rank_of ranks y)
     → by_rank_from now xs ns ≡ by_rank_from ranks xs ns
 by_rank-alike ranks now xs [] old new = refl
 by_rank-alike ranks now xs (n ∷ ns) old new =

@@ -47,7 +47,7 @@ pub record SeesLines (s : SpaceNo) (r : Readings) (seen : Seen) : Type 0 where
   pub low : (q : ProcNo) → (bit_at seen.low q.0 ≡ 1) ↔ ((owner_of r q ≡ Some s) × (line_of r q ≡ None))
   pub lives : (q : ProcNo) → owner_of r q ≡ Some s → HasLifeOn s r q
 
--- From one moment to a later one the same lives run, owners are the same, the threads of other spaces stand as before, and
+-- From one moment to a later one the same lives run, owners are the same, the threads of other spaces are as before, and
 -- the lives of these contexts stay in their space.
 pub record IsNear (s : SpaceNo) (bs : Contexts Context) (m r : Readings) : Type 0 where
   pub running : r.running ≡ m.running
@@ -62,7 +62,7 @@ is-near s bs r = record { running = refl; owners = refl; elsewhere = λ z ne. re
 pub sees-lines : (s : SpaceNo) (r : Readings) (p : ProcNo) (n : ℕ) (seen : Seen) → Sees s r p n seen → SeesLines s r seen
 sees-lines s r p n seen sees = record { low = sees.low; lives = sees.lives }
 
--- WHAT IS SEEN at moment r, behind moment m at which it is known who runs where
+-- WHAT IS SEEN at moment r, after moment m at which it is known who runs where
 module _ (set : Setting) (e : ℕ) (v : Prio) (cs : Contexts PrioContext) (h : IsStanding set e v.base (bases cs)) (m : Readings) (moment : IsMoment m)
     (r : Readings) (near : IsNear set.space (bases cs) m r) (seen : Seen) (sees : SeesLines set.space r seen)
     (k : Holds set.space r v.base (bases cs)) (listed : List Listed) (f : FitsRanked v.base listed) (on : KeepsOn r v cs) where
@@ -116,7 +116,8 @@ module _ (set : Setting) (e : ℕ) (v : Prio) (cs : Contexts PrioContext) (h : I
       ∙ ap (λ l. rank_if (is_none l && is_outranked x (rank_in x t)) (rank_in x t)) low
       ∙ ap (λ m. rank_if (is_outranked x m) m) program
       ∙ ap (λ b. rank_if b (rank_of u t)) (outranked-is set e u (bases cs) h s r k listed f (rank_of u t)) ∙ by (first_rank u) where
-        by : (o : Option ℕ) → rank_if (below_best set e u (bases cs) h s r k listed f (rank_of u t) o) (rank_of u t) ≡ option_and_then (λ best. rank_below u best (Some t)) o
+        by : (o : Option ℕ)
+            → rank_if (below_best set e u (bases cs) h s r k listed f (rank_of u t) o) (rank_of u t) ≡ option_and_then (λ best. rank_below u best (Some t)) o
         by None = refl
         by (Some best) = choose (nat_lt (rank_of u t) best) where
           choose : (b : Bool) → rank_if b (rank_of u t) ≡ (if b then Some (rank_of u t) else None)
@@ -140,7 +141,8 @@ module _ (set : Setting) (e : ℕ) (v : Prio) (cs : Contexts PrioContext) (h : I
 
     owner : runner.space ≡ s → owner_of r q ≡ Some s
     owner same =
-        let run = runs-carried set e u (bases cs) h set.space r k runner.thread q (subst (λ (z : SpaceNo). (thread_at r.state z runner.thread).place ≡ Running q)
+        let run = runs-carried set e u (bases cs) h set.space r k runner.thread q
+        (subst (λ (z : SpaceNo). (thread_at r.state z runner.thread).place ≡ Running q)
         (ap (λ i. record { 0 = i }) (let at = found.1 in let i : found.0 ≡ runner.space.0 = omega arith in i) ∙ same) found.2) in
         let was = moment.lives q run.act (sym (same-run q) ∙ run.runs) in
         let now = near.lives run.act run.ctx was.0 run.mine was.1 in

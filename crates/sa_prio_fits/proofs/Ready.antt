@@ -32,13 +32,13 @@ use Rattle.sa_prio_model.specs.Prio.{rank_of, first_rank}
 use Rattle.sa_prio_fits.proofs.Orders.{by_rank-ordered}
 use Rattle.sa_prio_fits.specs.Ready.{FitsRanked}
 
--- where there is one list, a thread stands in that or in none
+-- where there is one list, a thread is in that or in none
 one-list : (ls : List (List ℕ)) (t : ℕ) → length ls ≡ 1 → count_in_all t ls ≡ count_in t (slice_index_or ls 0 [])
 one-list [] t one = absurd (omega arith)
 one-list (xs ∷ []) t one = let sum = sum_by-cons (count_in t) xs [] in let none : sum_by (count_in t) [] ≡ 0 = refl in omega arith
 one-list (xs ∷ ys ∷ ls) t one = absurd (omega arith)
 
--- where a thread stands Ready in the history, the package keeps it so
+-- where a thread is Ready in the history, the package keeps it so
 stage-unready : (g : Stage) (y : ProcNo) → is_ready (place_of g y) ≡ false
 stage-unready Runs y = refl
 stage-unready InBlock y = refl
@@ -89,7 +89,7 @@ module _ (set : Setting) (e : ℕ) (u : Package) (bs : Contexts Context) (h : Is
   pub rank-is : (t : ThreadNo) → t.0 < u.shared.state.lists.made → (thread_in x t).program ≡ rank_of u t
   rank-is t made = (k.space.threads t made).program
 
-  -- a thread that is Ready stands in it
+  -- a thread that is Ready is in it
   pub ready-listed : (t : ThreadNo) → t.0 < length x.threads → is_ready (thread_in x t).place ≡ true → 1 ≤ count_in t.0 xs
   ready-listed t below is =
       let made : t.0 < u.shared.state.lists.made = (let all = k.space.made in omega arith) in
@@ -149,7 +149,8 @@ module _ (set : Setting) (e : ℕ) (u : Package) (bs : Contexts Context) (h : Is
     no true = refl
     no false = refl
 
-    fails : (t : ThreadNo) (b : Bool) → is_ready (thread_in x t).place ≡ b → (is_ready (thread_in x t).place ≡ true → nat_lt rank (thread_in x t).program ≡ false)
+    fails : (t : ThreadNo) (b : Bool) → is_ready (thread_in x t).place ≡ b
+        → (is_ready (thread_in x t).place ≡ true → nat_lt rank (thread_in x t).program ≡ false)
         → outranks rank (thread_in x t) ≡ false
     fails t false is none = ap (λ b. b && nat_lt rank (thread_in x t).program) is
     fails t true is none = ap (λ b. is_ready (thread_in x t).place && b) (none is) ∙ no (is_ready (thread_in x t).place)

@@ -8,7 +8,7 @@ use Rattle.sa_laws.specs.Readings.{Listed}
 use Rattle.sa_fits.specs.Fits.{number_in}
 use Rattle.sa_prio_fits.specs.ByRank.{by_rank}
 
--- All ready threads stand in list 0, by their ranks; each thread that can be has a rank, which is the number of its program
+-- All ready threads are in list 0, by their ranks; each thread that can be has a rank, which is the number of its program
 -- once it is made.
 pub record FitsRanked (u : Package) (listed : List Listed) : Type 0 where
   pub one : length u.shared.state.lists.lists ≡ 1

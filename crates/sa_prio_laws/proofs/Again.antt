@@ -38,6 +38,7 @@ use Rattle.sa_fits.specs.Stage.{is_gone}
 use Rattle.sa_fits.specs.View.{at_yield, in_copy, looks_of}
 use Rattle.sa_fits_laws.proofs.Answers.{life-carries}
 use Rattle.sa_fits_steps.proofs.Hints.{nothing}
+use Rattle.sa_fits_steps.proofs.GivingSteps.{outside_calm}
 use Rattle.sa_ranks.specs.Inside.{is_inside_or_urged}
 use Rattle.sa_ranks.specs.Pairs.{has_pair}
 use Rattle.sa_ranks.specs.Rules.{prio_threads}
@@ -57,13 +58,6 @@ use Rattle.sa_prio_laws.proofs.Unbound.{IsUnbound}
 abbrev pub at_rest : State → Bool → PrioContext
 at_rest state urge = record { base = record { state = state; sections = []; work = None }; urge = urge }
 
-outside_calm : (t : Option ThreadNo) (o : Option ℕ) (bulk : Bool) → stands_inside (settled_to t false (is_some o) bulk) ≡ false
-    → (o ≡ None) × (is_none t ≡ true → bulk ≡ false)
-outside_calm t (Some n) bulk e = absurd cc
-outside_calm None None true e = absurd cc
-outside_calm None None false e = (refl, λ none. refl)
-outside_calm (Some t) None bulk e = (refl, λ none. absurd cc)
-
 -- WHAT IS LEGAL of a step does not hang on what the context was
 module _ (w : WorkloadView) (set : Setting) (r : Readings) (p : ProcNo) (n : ℕ) (a : ActNo) (cs : Contexts PrioContext) where
   pub legal-put : (d : PrioContext) (st : Stepped Prio PrioContext) → IsLegalStep prio_calls prio_threads prio_fits w set r p n a (put cs a.0 (Some d)) st
@@ -77,13 +71,20 @@ module _ (w : WorkloadView) (set : Setting) (r : Readings) (p : ProcNo) (n : ℕ
     asks_too h = record {
       none = h.none;
       rules_hold = h.rules_hold;
-      after = λ closing later closed same_too sees. subst (λ ds. prio_fits w set (after_event is_inside_or_urged w r (event_with n p (records_asked r set.space st.answer) closing)) st.user (put ds a.0 (Some (answered st.user later st.ctx).1))) (same st.ctx) (h.after closing later closed same_too sees);
+      after =
+          λ closing later closed same_too sees. subst
+          (λ ds. prio_fits w set (after_event is_inside_or_urged w r (event_with n p (records_asked r set.space st.answer) closing)) st.user
+          (put ds a.0 (Some (answered st.user later st.ctx).1))) (same st.ctx) (h.after closing later closed same_too sees);
     }
 
     by : (answer : Step) → IsLegalAnswer prio_calls prio_threads prio_fits w set r p n a (put cs a.0 (Some d)) st answer
         → IsLegalAnswer prio_calls prio_threads prio_fits w set r p n a cs st answer
     by asked.Did h =
-        record { some = h.some; rules_hold = h.rules_hold; after = λ closing closed alike. subst (prio_fits w set _ st.user) (same st.ctx) (h.after closing closed alike) }
+        record {
+          some = h.some;
+          rules_hold = h.rules_hold;
+          after = λ closing closed alike. subst (prio_fits w set _ st.user) (same st.ctx) (h.after closing closed alike);
+        }
     by (asked.Block len page) h = record {
       begins = h.begins;
       for = h.for;
@@ -112,7 +113,8 @@ module _ (set : Setting) (e : ℕ) (v : Prio) (cs : Contexts PrioContext) (w : W
   -- no pair is seen where none is read
   pub pairs-before : prio_pair v seen ≡ has_pair w r set.space
   pairs-before = seen-pairs set e v cs w r p a life (at_rest old mark) seen i
-      ∙ ap (λ (f : ℕ → Bool). is_some (least_below w.processors f)) (fun_ext (λ q. ap is_some (outranked-same set e v cs w r p a life (at_rest old mark) seen i (proc_no q))))
+      ∙ ap (λ (f : ℕ → Bool). is_some (least_below w.processors f))
+      (fun_ext (λ q. ap is_some (outranked-same set e v cs w r p a life (at_rest old mark) seen i (proc_no q))))
 
   -- out of the package it owes nothing
   pub settled-owes : stands_inside (settled_to t false (is_some (owed v.base seen)) (has_bulk seen)) ≡ false → OwesNothing w r life
@@ -123,7 +125,8 @@ module _ (set : Setting) (e : ℕ) (v : Prio) (cs : Contexts PrioContext) (w : W
       (ap is_gone (i.holds.runs p a life i.on.runs i.on.is i.on.space).2) out no_copy w seen i.sees.demand in
       let processors = i.stands.base.made.processors ∙ i.of.processors in
       let runs : runs_by r life ≡ carried_by old = life-carries set.space r p life (carried_by old) i.on.proc i.runner in
-      let enough : nat_lt seen.demand (min v.base.processors (load v.base)) ≡ false = sym (owed_by seen.demand v.base.processors (load v.base)) ∙ ap is_some calm in
+      let enough : nat_lt seen.demand (min v.base.processors (load v.base)) ≡ false = sym (owed_by seen.demand v.base.processors (load v.base))
+      ∙ ap is_some calm in
       record {
         nothing = none;
         announced =
@@ -161,14 +164,17 @@ module _ (set : Setting) (e : ℕ) (v : Prio) (cs : Contexts PrioContext) (w : W
           sizes = i.sizes;
           stands = record {
             base = subst (IsStanding set e v.base) (sym bases-new)
-                (subst (λ o. IsStanding set e v.base (put (bases cs) a.0 (Some (record { state = settled_to o false (is_some (owed v.base seen)) (has_bulk seen); sections = []; work = None })))) carries
+                (subst (λ o. IsStanding set e v.base
+                (put (bases cs) a.0 (Some
+                (record { state = settled_to o false (is_some (owed v.base seen)) (has_bulk seen); sections = []; work = None })))) carries
                 (settled_stands set e v.base (bases cs) i.stands.base a.0 was mine out seen));
             marks = marks-put cs a.0 new i.stands.marks well;
             processors = i.stands.processors;
             threads = i.stands.threads;
           };
           holds = subst (Holds set.space r v.base) (sym bases-new)
-              (restated set.space r v.base (bases cs) i.holds a old state [] None mine out no_copy between.section (settled-copy t false (is_some (owed v.base seen)) (has_bulk seen)) (between.carries ∙ sym carries));
+              (restated set.space r v.base (bases cs) i.holds a old state [] None mine out no_copy between.section
+              (settled-copy t false (is_some (owed v.base seen)) (has_bulk seen)) (between.carries ∙ sym carries));
           ranked = i.ranked;
           kept = λ y b d at there. elim (cases_eq b.0 a.0) [
             | inl same ↦

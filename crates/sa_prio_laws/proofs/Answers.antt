@@ -1,7 +1,7 @@
 -- The law of an upcall's end: the context settles, and has the mark where a pair exists.
 use Rattle.std.proofs.Common.{◌≡◌, ℕ, zero, suc, ◌<◌, Bool, true, false, ◌||◌, ◌&&◌, not, List, [], ◌∷◌, length, Option, Some, None, option_map, is_some, Contains, slice_index_or, refl, sym, ap, ◌∙◌, subst, inl, inr, arith}
 use Rattle.std.specs.Prelude.{if◌then◌else◌}
-use Rattle.std.proofs.lemmas.Bool.{cases_eq}
+use Rattle.std.proofs.lemmas.Bool.{cases_eq, or_right}
 use Rattle.std.proofs.lemmas.Option.{same_Some}
 use Rattle.std.specs.List.{list_any}
 use Rattle.sa_base.specs.declared.context.Seen.{Seen}
@@ -44,20 +44,16 @@ use Rattle.sa_prio_fits.specs.Fits.{is_fresh, prio_view, PrioFits, prio_fits, pr
 use Rattle.sa_prio_laws.proofs.Frames.{base-is}
 
 -- an upcall's event has an entry of the kernel
-or-true : (b : Bool) → (b || true) ≡ true
-or-true true = refl
-or-true false = refl
-
 any-in : (p : Record → Bool) (xs : List Record) (x : Record) → Contains xs x → p x ≡ true → list_any p xs ≡ true
 any-in p [] x has so = absurd (let inside = has.1 in let none : length {A = Record} [] ≡ 0 = refl in omega arith)
 any-in p (y ∷ xs) x has so = by has.0 has.1 has.2 (λ more. any-in p xs x more so) where
   by : (k : ℕ) → k < length (y ∷ xs) → slice_index_or (y ∷ xs) k x ≡ x → (Contains xs x → list_any p xs ≡ true) → list_any p (y ∷ xs) ≡ true
   by zero below is rest = ap (λ b. b || list_any p xs) (ap p is ∙ so)
-  by (suc i) below is rest = ap (λ b. p y || b) (rest (i, omega arith, is)) ∙ or-true (p y)
+  by (suc i) below is rest = ap (λ b. p y || b) (rest (i, omega arith, is)) ∙ or_right (p y) true refl
 
 pub has-entry : (xs : List Record) (x : Record) → Contains xs x → is_of_entry x ≡ true → has_entry xs ≡ true
 has-entry [] x has so = absurd (let inside = has.1 in let none : length {A = Record} [] ≡ 0 = refl in omega arith)
-has-entry (y ∷ xs) x has so = ap (λ b. begins_entry y || b) (any-in is_of_entry (y ∷ xs) x has so) ∙ or-true (begins_entry y)
+has-entry (y ∷ xs) x has so = ap (λ b. begins_entry y || b) (any-in is_of_entry (y ∷ xs) x has so) ∙ or_right (begins_entry y) true refl
 
 pub out-or : (b x : Bool) → (b || (not b && x)) ≡ (b || (true && x))
 out-or true x = refl
@@ -75,7 +71,8 @@ pub prio-answers : (w : WorkloadView) (s : Setting) (e : ℕ) (before r last : R
     (put cs n.0 (Some (prio_calls.answered v seen c).1))
 prio-answers w s e before r last ev v cs n c seen h k is runs upped alike sees =
     let c_is : c ≡ plain c =
-    ap (λ x. record { base = record { state = x; sections = c.base.sections; work = c.base.work }; urge = c.urge }) (k.lives.begins c.base (base-is cs n.0 c is))
+    ap (λ x. record { base = record { state = x; sections = c.base.sections; work = c.base.work }; urge = c.urge })
+    (k.lives.begins c.base (base-is cs n.0 c is))
     ∙ ap (λ x. record { base = record { state = Work None; sections = c.base.sections; work = c.base.work }; urge = x }) (k.calm c is) in
     subst (λ y. prio_fits w s (record r { lives = with_life (arisen is_inside_or_urged w before ev last) (Some n) r.lives }) (prio_calls.answered v seen y).0
     (put cs n.0 (Some (prio_calls.answered v seen y).1))) (sym c_is) (by c.base.sections c.base.work (is ∙ ap Some c_is)) where
@@ -92,11 +89,14 @@ prio-answers w s e before r last ev v cs n c seen h k is runs upped alike sees =
           let new : PrioContext = record { base = base; urge = is_out base.state && prio_pair v seen } in
           let its = k.lives.holds.lives n old.base based in
           let inside = is_inside_or_urged w before ev last true its.0 in
-          let is_in = answer-inside w s e before r last ev v.base (bases cs) n fs wk seen h.of h.value.base h.moment based runs alike sees prio_view cs k.lives in
+          let is_in = answer-inside w s e before r last ev v.base
+          (bases cs) n fs wk seen h.of h.value.base h.moment based runs alike sees prio_view cs k.lives in
           let pairs : has_pair w (settling w before ev last) its.0.space ≡ prio_pair v seen =
-          ap (λ b. has_pair w (if b then last else behind w ev before (own_part ev.records)) its.0.space) (has-entry ev.records (records.Up s.space n) upped refl)
+          ap (λ b. has_pair w (if b then last else behind w ev before (own_part ev.records)) its.0.space)
+          (has-entry ev.records (records.Up s.space n) upped refl)
           ∙ ap (has_pair w last) its.2.space ∙ sym (ap (λ y. has_pair w y s.space) alike.is)
-          ∙ sym (pairs-alike s e v cs h.value.base r h.moment r (is-near s.space (bases cs) r) seen (sees-lines s.space r ev.proc ev.number seen sees) k.lives.holds
+          ∙ sym
+          (pairs-alike s e v cs h.value.base r h.moment r (is-near s.space (bases cs) r) seen (sees-lines s.space r ev.proc ev.number seen sees) k.lives.holds
           (ready_of r s.space) k.ranked k.on w
           h.sizes.running (h.value.processors ∙ h.of.processors)) in
           let shows : (stands_inside base.state || new.urge) ≡ inside =
@@ -106,7 +106,8 @@ prio-answers w s e before r last ev v cs n c seen h k is runs upped alike sees =
           new inside (
           ap (λ k. record (view base) { inside = stands_inside base.state || new.urge; lone = is_fresh new.urge k && is_lone base.state base.sections })
           (settled-looks None (has_some fs || is_some wk) (is_some (owed v.base seen)) (has_bulk seen))
-          ∙ ap (λ b. record (view base) { inside = stands_inside base.state || new.urge; lone = b && is_lone base.state base.sections }) (fresh-when new.urge 0 (λ is. refl))
+          ∙ ap (λ b. record (view base) { inside = stands_inside base.state || new.urge; lone = b && is_lone base.state base.sections })
+          (fresh-when new.urge 0 (λ is. refl))
           ∙ ap (λ b. record (view base) { inside = b }) shows) in
           let ds = put cs n.0 (Some new) in
           subst (λ ls. PrioFits s.space (record r { lives = ls }) v ds)
@@ -118,7 +119,8 @@ prio-answers w s e before r last ev v cs n c seen h k is runs upped alike sees =
             on = λ y x z there mine. elim (cases_eq x.0 n.0) [
               | inl same ↦
                   let one : new ≡ z = same_Some new z (sym (put-same cs n.0 (Some new)) ∙ sym (ap ds same) ∙ mine) in
-                  k.on y x old there (ap cs same ∙ at) ∙ sym (settled_between None (has_some fs || is_some wk) (is_some (owed v.base seen)) (has_bulk seen)).carries
+                  k.on y x old there (ap cs same ∙ at)
+                  ∙ sym (settled_between None (has_some fs || is_some wk) (is_some (owed v.base seen)) (has_bulk seen)).carries
                   ∙ ap (λ (p : PrioContext). carried_by p.base.state) one
               | inr ne ↦ k.on y x z there (sym (put-other cs n.0 x.0 (Some new) ne) ∙ mine)
             ];

@@ -63,7 +63,7 @@ module _ (set : Setting) (e : ℕ) (v : Prio) (cs : Contexts PrioContext) (w : W
   abbrev old : PrioContext
   old = record { base = record { state = state; sections = []; work = None }; urge = false }
 
-  -- the value behind the step
+  -- the value after the step
   abbrev pub now : Prio
   now = with_on v seen.proc (carried_by state)
 
@@ -106,7 +106,8 @@ module _ (set : Setting) (e : ℕ) (v : Prio) (cs : Contexts PrioContext) (w : W
       state = t.unmoved;
       lives = λ b d at. m.lives b d.base (base-is cs b.0 d at);
       carries = λ later. ap (λ (z : Context). carried_by z.state) (same later)
-          ∙ carried-if (stands_between state) _ c (carried_by state) (settled_between (carried_by state) false (is_some (owed v.base later)) (has_bulk later)).carries refl;
+          ∙ carried-if (stands_between state) _ c (carried_by state)
+          (settled_between (carried_by state) false (is_some (owed v.base later)) (has_bulk later)).carries refl;
       on = λ y ne. ap (λ (z : ProcNo). on_at (with_on v z (carried_by state)) y.0) i.sees.proc ∙ get_or-set_other v.on p.0 y.0 (carried_by state) None ne;
       on_here = ap (λ (z : ProcNo). on_at (with_on v z (carried_by state)) p.0) i.sees.proc ∙ get_or-set_same v.on p.0 (carried_by state) None inside;
       stands = λ later. subst (λ z. IsStanding set e v.base (put (bases cs) a.0 (Some z))) (sym (same later))

@@ -74,7 +74,7 @@ module _ (set : Setting) (e : ℕ) (v : Prio) (cs : Contexts PrioContext) (w : W
     pub no_up : list_any is_up (x ∷ xs) ≡ false
     pub entry : has_entry (x ∷ xs) ≡ true
     pub ruled : IsRuled w r (begun_at w seen.event p r) p a life x xs
-    -- behind them its own life is what it was, and so are those of other contexts
+    -- after them its own life is what it was, and so are those of other contexts
     pub running : (after_records w seen.event p (begun_at w seen.event p r) (x ∷ xs)).running ≡ r.running
     pub ready : (after_records w seen.event p (begun_at w seen.event p r) (x ∷ xs)).ready ≡ r.ready
     pub untold : (after_records w seen.event p (begun_at w seen.event p r) (x ∷ xs)).untold ≡ r.untold
@@ -94,7 +94,8 @@ module _ (set : Setting) (e : ℕ) (v : Prio) (cs : Contexts PrioContext) (w : W
         (after_records w seen.event p (begun_at w seen.event p r) (x ∷ xs)) last
         → IsMarked (view (going_on later).base) (ends is_inside w r ev last x life)
     pub urged : (last : Readings) (later : Seen)
-        → (stands_inside (going_on later).base.state || (settles r last x && prio_pair now later)) ≡ (stands_inside (going_on later).base.state || (going_on later).urge)
+        → (stands_inside (going_on later).base.state || (settles r last x && prio_pair now later)) ≡ (stands_inside (going_on later).base.state ||
+        (going_on later).urge)
 
   module _ (t : IsPrioAsking) where
     abbrev q : Readings
@@ -138,12 +139,15 @@ module _ (set : Setting) (e : ℕ) (v : Prio) (cs : Contexts PrioContext) (w : W
     pub ask-legal : IsLegalAsk prio_calls prio_threads prio_fits w set r p seen.event a cs (record { user = now; ctx = asking; says = []; answer = answer })
     ask-legal = record {
       none = refl;
-      rules_hold = subst (λ own. (closing : List Record) → IsClosed own closing → RulesHold prio_threads w r (event_with seen.event p own closing) own) (sym t.records)
+      rules_hold =
+          subst (λ own. (closing : List Record) → IsClosed own closing → RulesHold prio_threads w r (event_with seen.event p own closing) own) (sym t.records)
           (λ closing closed. rules-of w r (event_with seen.event p (x ∷ xs) closing) a life x xs (xs ++ closing) i.on.runs i.on.is refl closed.is_own t.ruled);
       after = subst (λ own. (closing : List Record) (later : Seen) → IsClosed own closing
-          → AlikeButDemands (after_records w seen.event p (begun_at w seen.event p r) own) (after_records w seen.event p (begun_at w seen.event p r) (own ++ closing))
+          → AlikeButDemands (after_records w seen.event p (begun_at w seen.event p r) own)
+          (after_records w seen.event p (begun_at w seen.event p r) (own ++ closing))
           → Sees set.space (after_records w seen.event p (begun_at w seen.event p r) (own ++ closing)) p seen.event later
-          → prio_fits w set (after_event is_inside_or_urged w r (event_with seen.event p own closing)) now (put (put cs a.0 (Some asking)) a.0 (Some (going_on later))))
+          → prio_fits w set (after_event is_inside_or_urged w r (event_with seen.event p own closing)) now
+          (put (put cs a.0 (Some asking)) a.0 (Some (going_on later))))
           (sym t.records) (λ closing later closed same sees.
           let ev = event_with seen.event p (x ∷ xs) closing in
           let last = after_records w seen.event p (begun_at w seen.event p r) ((x ∷ xs) ++ closing) in
@@ -173,7 +177,8 @@ module _ (set : Setting) (e : ℕ) (v : Prio) (cs : Contexts PrioContext) (w : W
             state = same.state;
             of = i.on.space;
           }) in
-          let ranked : FitsRanked v.base (ready_of last set.space) = subst (FitsRanked v.base) (sym (ap (λ ls. slice_index_or ls set.space.0 []) (same.ready ∙ t.ready))) i.ranked in
+          let ranked : FitsRanked v.base (ready_of last set.space) =
+          subst (FitsRanked v.base) (sym (ap (λ ls. slice_index_or ls set.space.0 []) (same.ready ∙ t.ready))) i.ranked in
           let kept = keeps last running later in
           let pairs : prio_pair now later ≡ has_pair w last set.space =
           pairs-alike set e now es
@@ -188,10 +193,12 @@ module _ (set : Setting) (e : ℕ) (v : Prio) (cs : Contexts PrioContext) (w : W
           (ready_of last set.space) (subst (λ u. FitsRanked u (ready_of last set.space)) (sym t.base) ranked) kept w
           (ap length running ∙ i.sizes.running) (t.many ∙ i.stands.processors ∙ i.of.processors) in
           let flag = settles r last x in
-          let entry : has_entry ev.records ≡ true = ap (λ z. begins_entry x || z) (list_any-append is_of_entry (x ∷ xs) closing) ∙ or-more (begins_entry x) (list_any is_of_entry (x ∷ xs)) (list_any is_of_entry closing) t.entry in
+          let entry : has_entry ev.records ≡ true = ap (λ z. begins_entry x || z) (list_any-append is_of_entry (x ∷ xs) closing)
+          ∙ or-more (begins_entry x) (list_any is_of_entry (x ∷ xs)) (list_any is_of_entry closing) t.entry in
           let inside : is_inside_or_urged w r ev last flag life ≡ (stands_inside new.base.state || new.urge) =
           ap (λ z. z || (flag && has_pair w (settling w r ev last) life.space)) mark.inside
-          ∙ ap (λ y. stands_inside new.base.state || (flag && has_pair w y life.space)) (ap (λ z. if z then last else behind w ev r (own_part ev.records)) entry)
+          ∙ ap (λ y. stands_inside new.base.state || (flag && has_pair w y life.space))
+          (ap (λ z. if z then last else behind w ev r (own_part ev.records)) entry)
           ∙ ap (λ z. stands_inside new.base.state || (flag && z)) (ap (has_pair w last) i.on.space ∙ sym pairs)
           ∙ t.urged last later in
           let fresh : is_fresh new.urge (looks_of new.base.state) ≡ true = fresh-when new.urge (looks_of new.base.state) (λ is.
@@ -203,11 +210,19 @@ module _ (set : Setting) (e : ℕ) (v : Prio) (cs : Contexts PrioContext) (w : W
             lives = subst (λ u. LivesFit prio_view set.space (after_event is_inside_or_urged w r ev) u (bases es) es) (sym t.base)
                 (subst (λ bs. LivesFit prio_view set.space (after_event is_inside_or_urged w r ev) v.base bs es) (sym bases-es)
                 (ended-fits a w r ev i.on.runs last life there x (xs ++ closing) refl t.ruled.step
-                (list_any-append is_up (x ∷ xs) closing ∙ ap (λ z. list_any is_up (x ∷ xs) || z) (closing-ups closing closed.closes) ∙ ap (λ z. z || false) t.no_up)
+                (list_any-append is_up (x ∷ xs) closing ∙ ap (λ z. list_any is_up (x ∷ xs) || z) (closing-ups closing closed.closes)
+                ∙ ap (λ z. z || false) t.no_up)
                 is_inside_or_urged prio_view set.space v.base ds es new.base new holds mine (put-same cs a.0 (Some new))
                 (others last new (same.running ∙ t.running) (same.untold ∙ t.untold) same.lives)
                 (record {
-                  marks = record { inside = inside; back = mark.back; scans = mark.scans; left = mark.left; lone = ap (λ z. z && is_lone new.base.state new.base.sections) fresh ∙ mark.lone };
+                  marks =
+                      record {
+                        inside = inside;
+                        back = mark.back;
+                        scans = mark.scans;
+                        left = mark.left;
+                        lone = ap (λ z. z && is_lone new.base.state new.base.sections) fresh ∙ mark.lone;
+                      };
                   idle = λ no. absurd (let yes : is_running (stage_of last set.space a life) ≡ true = ap is_running run.2 in cc);
                 })));
             ranked = subst (λ u. FitsRanked u (ready_of last set.space)) (sym t.base) ranked;

@@ -1,5 +1,5 @@
 -- Steps that end with a block are legal: a fault in the code, the touch of an absent page, and an instruction for an I/O.
--- Behind a block nobody is on the processor, and the context, which has no mark, stays as it is.
+-- After a block nobody is on the processor, and the context, which has no mark, stays as it is.
 use Rattle.std.proofs.Common.{◌≡◌, ◌≢◌, ℕ, Bool, true, false, not, ◌&&◌, ◌||◌, List, [], ◌∷◌, Option, Some, None, is_none, slice_set, slice_index_or, option_map, refl, sym, ap, ◌∙◌, subst, inl, inr}
 use Rattle.std.specs.Prelude.{if◌then◌else◌, ◌++◌}
 use Rattle.std.proofs.lemmas.Bool.{cases_eq}
@@ -42,6 +42,7 @@ use Rattle.sa_laws.specs.Readings.{Readings, life_of, running_of, ready_of}
 use Rattle.sa_laws.specs.Record.{after_record, with_life, blocking_for}
 use Rattle.sa_laws.specs.State.{no_space, thread_in}
 use Rattle.sa_laws.specs.Turns.{CanFault, IsInsOf, is_of_locks}
+use Rattle.sa_laws.proofs.Records.{passage-plain, alone-plain}
 use Rattle.sa_user_laws.specs.Scene.{begun_at}
 use Rattle.sa_user_laws.specs.Steps.{IsLegalStep, event_with}
 use Rattle.sa_fits.proofs.ThreadsBeside.{life-here}
@@ -52,7 +53,6 @@ use Rattle.sa_fits_laws.proofs.LifeEnds.{end-fits}
 use Rattle.sa_fits_laws.specs.Rests.{LivesFit, RestBut}
 use Rattle.sa_fits_steps.proofs.Scenes.{IsScene}
 use Rattle.sa_fits_user_steps.proofs.BlockMoves.{IsBlocked, IsFault, fault-for, fault-needs, fault-blocked}
-use Rattle.sa_fits_user_steps.proofs.BlockSteps.{passage-plain, alone-plain}
 use Rattle.sa_fits_user_steps.proofs.FaultMoves.{code-fault, code-may_fault, code-locked, touch-fault, touch-may_fault, blocked_so}
 use Rattle.sa_fits_user_steps.proofs.IoMoves.{io-length, io-steps, io-needs, io-blocked, step_is}
 use Rattle.sa_fits_user_steps.proofs.UserMoves.{instr_is}
@@ -113,8 +113,9 @@ module _ (set : Setting) (e : ℕ) (v : Prio) (cs : Contexts PrioContext) (w : W
     gone same = ap (λ ps. slice_index_or ps y.0 None) running ∙ ap (λ n. slice_index_or (slice_set r.running p.0 None) n None) same
         ∙ get_or-set_same r.running p.0 None None (some-below r.running p.0 a i.on.runs)
 
-  -- BEHIND A BLOCK all fits, whatever the kernel writes behind it
-  pub blocked-fits : (u : Package) (here : Readings) (x : Record) (xs : List Record) (ev : Event) (last : Readings) → ev.proc ≡ p → ev.records ≡ x ∷ xs → is_step x ≡ true
+  -- AFTER A BLOCK all fits, whatever the kernel writes after it
+  pub blocked-fits : (u : Package) (here : Readings) (x : Record) (xs : List Record) (ev : Event) (last : Readings) → ev.proc ≡ p → ev.records ≡ x ∷ xs
+      → is_step x ≡ true
       → settles r last x ≡ false → here.running ≡ slice_set r.running p.0 None
       → IsBlocked set (bases cs) w r a life c u here x → FitsRanked u (ready_of here set.space) → last.state.spaces ≡ here.state.spaces
       → PrioFits set.space (record here { lives = with_step is_inside_or_urged w r ev last ev.records here.lives }) (left u) (put cs a.0 (Some old))
@@ -126,7 +127,8 @@ module _ (set : Setting) (e : ℕ) (v : Prio) (cs : Contexts PrioContext) (w : W
       let pair = has_pair w (settling w r ev last) now.space in
       let others : RestBut prio_view set.space here a (put cs a.0 (Some old)) = (λ y d l ne at is.
       subst (λ g. IsAtRest g (prio_view d) l) (sym (b.others y l ne))
-      (i.others y d l ne (sym (put-other cs a.0 y.0 (Some old) ne) ∙ at) (sym (ap (λ (f : ℕ → Option Life). f y.0) b.lives ∙ put-other r.lives a.0 y.0 (Some now) ne) ∙ is))) in
+      (i.others y d l ne (sym (put-other cs a.0 y.0 (Some old) ne) ∙ at)
+      (sym (ap (λ (f : ℕ → Option Life). f y.0) b.lives ∙ put-other r.lives a.0 y.0 (Some now) ne) ∙ is))) in
       let fits = end-fits set.space here u (bases cs) b.holds a c mine now there after.freed after.inside after.scans here.number here.last here.moved
       prio_view (put cs a.0 (Some old)) old (put-same cs a.0 (Some old)) others
       (record {
@@ -147,7 +149,8 @@ module _ (set : Setting) (e : ℕ) (v : Prio) (cs : Contexts PrioContext) (w : W
       ∙ ap (λ o. put here.lives a.0 (option_map (ends is_inside_or_urged w r ev last x) o)) there in
       record {
         lives = subst (λ ls. LivesFit prio_view set.space (record here { lives = ls }) u (bases (put cs a.0 (Some old))) (put cs a.0 (Some old))) (sym lives)
-            (subst (λ bs. LivesFit prio_view set.space (record here { lives = put here.lives a.0 (Some after) }) u bs (put cs a.0 (Some old))) (sym bases-es) fits);
+            (subst (λ bs. LivesFit prio_view set.space (record here { lives = put here.lives a.0 (Some after) }) u bs (put cs a.0 (Some old)))
+            (sym bases-es) fits);
         ranked = ranked;
         on = λ y z d at its. keeps u here running y z d at its;
       } where
@@ -167,7 +170,8 @@ module _ (set : Setting) (e : ℕ) (v : Prio) (cs : Contexts PrioContext) (w : W
     fault-legal =
         let u = placed_in v.base (carried_by c.state) kept.Blocked in
         subst (IsLegalStep prio_calls prio_threads prio_fits w set r p seen.event a cs) (sym (ap (going v seen c.state) z.step))
-        (subst (λ b. IsLegalStep prio_calls prio_threads prio_fits w set r p seen.event a cs (record { user = left u; ctx = marked (left u) seen b c; says = []; answer = asked.Block v.base.fetch (Some page) }))
+        (subst (λ b. IsLegalStep prio_calls prio_threads prio_fits w set r p seen.event a cs
+        (record { user = left u; ctx = marked (left u) seen b c; says = []; answer = asked.Block v.base.fetch (Some page) }))
         (sym t.stays) (record {
           steps = tt;
           answer = record {
@@ -176,7 +180,8 @@ module _ (set : Setting) (e : ℕ) (v : Prio) (cs : Contexts PrioContext) (w : W
             needs = fault-needs set e v.base (bases cs) w r p a life c seen scene z;
             rules_hold = λ io passage closing passes closed.
                 let x = records.Block set.space (carried_by c.state) a io in
-                rules-of w r (event_with seen.event p (x ∷ passage) closing) a life x passage (passage ++ closing) i.on.runs i.on.is refl closed.is_own (record {
+                rules-of w r (event_with seen.event p (x ∷ passage) closing) a life x passage (passage ++ closing) i.on.runs i.on.is refl closed.is_own
+                (record {
                   step = refl;
                   table = (passes, t.fault);
                   keeps = keeps-with w r0 p life x tt (sym (i.own.back ∙ z.yields));
@@ -189,7 +194,8 @@ module _ (set : Setting) (e : ℕ) (v : Prio) (cs : Contexts PrioContext) (w : W
                 let x = records.Block set.space (carried_by c.state) a io in
                 blocked-fits u (after_record w seen.event p r0 x) x behind (event_with seen.event p (x ∷ []) behind) last refl refl refl refl refl
                 (fault-blocked set e v.base (bases cs) w r p a life c seen scene z io)
-                (ranked-same v.base u refl (λ n made. placed-programs v.base.shared.threads (carried_by c.state) kept.Blocked n.0) (ready_of r set.space) i.ranked) spaces;
+                (ranked-same v.base u refl (λ n made. placed-programs v.base.shared.threads (carried_by c.state) kept.Blocked n.0)
+                (ready_of r set.space) i.ranked) spaces;
           };
         }))
 
@@ -232,7 +238,7 @@ module _ (set : Setting) (e : ℕ) (v : Prio) (cs : Contexts PrioContext) (w : W
           stays = refl;
         })
 
-    -- AN I/O: the instruction, and behind it its block
+    -- AN I/O: the instruction, and after it its block
     module _ (m : ℕ) (is : instr_of v.base.def (block_at v.base.shared.threads t.0) ≡ Io m) where
       abbrev x : Record
       x = records.Ins set.space t (block_at v.base.shared.threads t.0).pc
@@ -246,7 +252,7 @@ module _ (set : Setting) (e : ℕ) (v : Prio) (cs : Contexts PrioContext) (w : W
       abbrev u : Package
       u = with_shared v.base (with_thread v.base.shared t (moved_to (next_of (block_at v.base.shared.threads t.0)) kept.Blocked))
 
-      -- its thread is blocked behind it, so it does not settle
+      -- its thread is blocked after it, so it does not settle
       io-stays : (io : IoNo) (last : Readings) → last.state.spaces ≡ (after_record w seen.event p q (records.Block set.space (Some t) a io)).state.spaces
           → settles r last x ≡ false
       io-stays io last spaces =
@@ -258,36 +264,42 @@ module _ (set : Setting) (e : ℕ) (v : Prio) (cs : Contexts PrioContext) (w : W
           ap (λ ys. not (stays_on (thread_in (slice_index_or ys set.space.0 (record { threads = []; sync = sync_opening no_space })) t).place)) spaces
           ∙ ap (λ y. not (stays_on y)) (its.place t refl ∙ ap (λ g. place_of g now.proc) b.stage)
 
-      pub io-legal : IsLegalStep prio_calls prio_threads prio_fits w set r p seen.event a cs (goes v seen (record { state = User t; sections = []; work = None }))
-      io-legal = subst (IsLegalStep prio_calls prio_threads prio_fits w set r p seen.event a cs) (sym (ap (going v seen (User t)) (step_is set e v.base (bases cs) w r p a life seen t user_scene m is))) (record {
-        steps = io-steps set e v.base (bases cs) w r p a life seen t user_scene m is;
-        answer = record {
-          begins = λ io. refl;
-          for = ap (blocking_for w q set.space (Some t) a) (io-length set e v.base (bases cs) w r p a life seen t user_scene m is);
-          needs = io-needs set e v.base (bases cs) w r p a life seen t user_scene m is;
-          rules_hold = λ io passage closing passes closed.
-              let xs = records.Block set.space (Some t) a io ∷ passage in
-              rules-of w r (event_with seen.event p (x ∷ xs) closing) a life x xs (xs ++ closing) i.on.runs i.on.is refl closed.is_own (record {
-                step = refl;
-                table = subst (λ k. IsInsOf k xs) (sym (instr_is set e v.base (bases cs) w r p a life seen t user_scene ∙ is)) passes;
-                keeps = keeps-with w start p life x tt (sym i.own.back);
-                alone = alone-plain (list_any is_of_locks passage) xs (passage-plain passage passes);
-                free = is-free w r life x out;
-                unurged = is-unurged w r life x out;
-                next = λ behind. tt;
-              });
-          after = λ io behind last spaces.
-              let block = records.Block set.space (Some t) a io in
-              blocked-fits set e v cs w r p a life d seen i u (after_record w seen.event p q block) x (block ∷ behind) (event_with seen.event p (x ∷ block ∷ []) behind) last refl refl refl
-              (io-stays io last spaces) refl (io-blocked set e v.base (bases cs) w r p a life seen t user_scene m is io)
-              (ranked-same v.base u refl (λ n made. with-program v.base.shared.threads t.0 (moved_to (next_of (block_at v.base.shared.threads t.0)) kept.Blocked) n.0 refl) (ready_of r set.space) i.ranked) spaces;
-        };
-      })
+      pub io-legal : IsLegalStep prio_calls prio_threads prio_fits w set r p seen.event a cs
+          (goes v seen (record { state = User t; sections = []; work = None }))
+      io-legal = subst (IsLegalStep prio_calls prio_threads prio_fits w set r p seen.event a cs)
+          (sym (ap (going v seen (User t)) (step_is set e v.base (bases cs) w r p a life seen t user_scene m is))) (record {
+            steps = io-steps set e v.base (bases cs) w r p a life seen t user_scene m is;
+            answer = record {
+              begins = λ io. refl;
+              for = ap (blocking_for w q set.space (Some t) a) (io-length set e v.base (bases cs) w r p a life seen t user_scene m is);
+              needs = io-needs set e v.base (bases cs) w r p a life seen t user_scene m is;
+              rules_hold = λ io passage closing passes closed.
+                  let xs = records.Block set.space (Some t) a io ∷ passage in
+                  rules-of w r (event_with seen.event p (x ∷ xs) closing) a life x xs (xs ++ closing) i.on.runs i.on.is refl closed.is_own (record {
+                    step = refl;
+                    table = subst (λ k. IsInsOf k xs) (sym (instr_is set e v.base (bases cs) w r p a life seen t user_scene ∙ is)) passes;
+                    keeps = keeps-with w start p life x tt (sym i.own.back);
+                    alone = alone-plain (list_any is_of_locks passage) xs (passage-plain passage passes);
+                    free = is-free w r life x out;
+                    unurged = is-unurged w r life x out;
+                    next = λ behind. tt;
+                  });
+              after = λ io behind last spaces.
+                  let block = records.Block set.space (Some t) a io in
+                  blocked-fits set e v cs w r p a life d seen i u (after_record w seen.event p q block) x (block ∷ behind)
+                  (event_with seen.event p (x ∷ block ∷ []) behind) last refl refl refl
+                  (io-stays io last spaces) refl (io-blocked set e v.base (bases cs) w r p a life seen t user_scene m is io)
+                  (ranked-same v.base u refl
+                  (λ n made. with-program v.base.shared.threads t.0 (moved_to (next_of (block_at v.base.shared.threads t.0)) kept.Blocked) n.0 refl)
+                  (ready_of r set.space) i.ranked) spaces;
+            };
+          })
 
     -- ALL THAT BLOCKS
     pub blocks-legal : (length : ℕ) (page : Option ℕ) → (run v.base.def v.base.fetch seen.pages v.base.shared None t).answer ≡ rans.Blocks length page
         → IsLegalStep prio_calls prio_threads prio_fits w set r p seen.event a cs (goes v seen (record { state = User t; sections = []; work = None }))
-    blocks-legal len page at = elim (blocked_so set e v.base (bases cs) w r p a life seen t user_scene (instr_of v.base.def (block_at v.base.shared.threads t.0)) len page at) [
-      | inl touch ↦ touch-faults touch.0 touch.1.0 touch.1.1
-      | inr io ↦ io-legal io.0 io.1
-    ]
+    blocks-legal len page at = elim (blocked_so set e v.base (bases cs) w r p a life seen t user_scene
+        (instr_of v.base.def (block_at v.base.shared.threads t.0)) len page at) [
+          | inl touch ↦ touch-faults touch.0 touch.1.0 touch.1.1
+          | inr io ↦ io-legal io.0 io.1
+        ]

@@ -111,7 +111,8 @@ prio-begins w s e r v cs p n seen number h k sees inside owner free unused none 
       on = λ y b d at mine. elim (cases_eq y.0 p.0) [
         | inl same ↦
             let act : n ≡ b = same_Some n b (sym (ap (λ i. slice_index_or q.running i None) same ∙ get_or-set_same r.running p.0 (Some n) None procs) ∙ at) in
-            let ctx : unmarked fresh ≡ d = same_Some (unmarked fresh) d (sym (put-at cs n.0 b.0 (Some (unmarked fresh)) (ap (λ (z : ActNo). z.0) (sym act))) ∙ mine) in
+            let ctx : unmarked fresh ≡ d =
+            same_Some (unmarked fresh) d (sym (put-at cs n.0 b.0 (Some (unmarked fresh)) (ap (λ (z : ActNo). z.0) (sym act))) ∙ mine) in
             ap (λ (z : ProcNo). on_at (with_on v z None) y.0) sees ∙ ap (λ i. slice_index_or (slice_set v.on p.0 None) i None) same
             ∙ get_or-set_same v.on p.0 None None here ∙ ap (λ (z : PrioContext). carried_by z.base.state) ctx
         | inr ne ↦

@@ -141,7 +141,14 @@ module _ (set : Setting) (e : ℕ) (v : Prio) (cs : Contexts PrioContext) (w : W
           unurged = record { unurged = λ bound. absurd cc };
           next = λ behind. tt;
         };
-        ranked = record { one = i.ranked.one; many = i.ranked.many; there = i.ranked.there; order = i.ranked.order; ranks = λ n made. i.ranked.ranks n made ∙ sym (placed-programs v.base.shared.threads f.thread kept.Carried n.0) };
+        ranked =
+            record {
+              one = i.ranked.one;
+              many = i.ranked.many;
+              there = i.ranked.there;
+              order = i.ranked.order;
+              ranks = λ n made. i.ranked.ranks n made ∙ sym (placed-programs v.base.shared.threads f.thread kept.Carried n.0);
+            };
         settled = λ last state out. from-code f _ out;
       }) where
         left : (b other : Bool) → (b && other) ≡ true → b ≡ true
@@ -172,7 +179,8 @@ module _ (set : Setting) (e : ℕ) (v : Prio) (cs : Contexts PrioContext) (w : W
         ruled = record {
           step = refl;
           table = refl;
-          keeps = keeps-with w r0 p life x (ready-keeps set e v.base (bases cs) i.stands.base set.space r0 k a f fs wk mine w seen.event p life i.on.runs i.on.is
+          keeps =
+              keeps-with w r0 p life x (ready-keeps set e v.base (bases cs) i.stands.base set.space r0 k a f fs wk mine w seen.event p life i.on.runs i.on.is
               known named copy.0 copy.1 op t pushes here) m.back;
           alone = refl;
           free = record { free = λ bound. absurd cc };
@@ -180,7 +188,8 @@ module _ (set : Setting) (e : ℕ) (v : Prio) (cs : Contexts PrioContext) (w : W
           next = λ behind. tt;
         };
         ranked = subst (FitsRanked now)
-            (sym (ready-listed set e v.base (bases cs) i.stands.base set.space r0 k a f fs wk mine w seen.event p life i.on.runs i.on.is known named copy.0 copy.1 op t pushes))
+            (sym (ready-listed set e v.base
+            (bases cs) i.stands.base set.space r0 k a f fs wk mine w seen.event p life i.on.runs i.on.is known named copy.0 copy.1 op t pushes))
             (ranked-pushed v.base now y (ready_of r0 set.space) first (let one = i.ranked.one in omega arith)
             (ap (λ l. lists.pushed v.base.shared.state.lists l t.0) first)
             (λ n. placed-programs v.base.shared.threads (Some t) kept.Ready n.0) i.ranked);

@@ -59,9 +59,11 @@ module _ (set : Setting) (e : ℕ) (v : Prio) (cs : Contexts PrioContext) (w : W
   mine : bases cs a.0 ≡ Some c
   mine = base-is cs a.0 old i.on.mine
 
-  -- the package and the context behind it
+  -- the package and the context after it
   abbrev wayed : Package
-  wayed = way_package set e v.base (bases cs) i.stands.base set.space r0 (holds0 set e v cs w r p a life old seen i) a t mine w seen.event p life i.on.runs i.on.is i.on.space
+  wayed =
+      way_package set e v.base (bases cs) i.stands.base set.space r0
+      (holds0 set e v cs w r p a life old seen i) a t mine w seen.event p life i.on.runs i.on.is i.on.space
       (known set e v cs w r p a life old seen i)
 
   abbrev new : Context
@@ -80,7 +82,9 @@ module _ (set : Setting) (e : ℕ) (v : Prio) (cs : Contexts PrioContext) (w : W
       let holds = holds0 set e v cs w r p a life old seen i in
       let there = known set e v cs w r p a life old seen i in
       record {
-        stands = later set e seen.event wayed (put (bases cs) a.0 (Some new)) (way_stands set e v.base (bases cs) i.stands.base a.0 c mine refl seen) (let less = i.later in omega arith);
+        stands =
+            later set e seen.event wayed (put (bases cs) a.0 (Some new)) (way_stands set e v.base (bases cs) i.stands.base a.0 c mine refl seen)
+            (let less = i.later in omega arith);
         own = one-own set.space (records.Back set.space (Some t)) refl;
         no_up = refl;
         no_entry = refl;
@@ -110,7 +114,9 @@ module _ (set : Setting) (e : ℕ) (v : Prio) (cs : Contexts PrioContext) (w : W
         taken = refl;
         lines = refl;
         owners = refl;
-        marks = λ ev last b. settled-marked set seen.event wayed (put (bases cs) a.0 (Some new)) b.stands set.space last b.holds a None seen [] (Some t) _ b.there (ap is_gone b.stage) w r ev
+        marks =
+            λ ev last b. settled-marked set seen.event wayed (put (bases cs) a.0 (Some new)) b.stands set.space last b.holds a None seen [] (Some t) _ b.there
+            (ap is_gone b.stage) w r ev
             (records.Back set.space (Some t)) b.mine b.demand b.taken (i.stands.base.made.processors ∙ i.of.processors) b.carries refl refl (λ some. absurd cc);
         settled = λ last state out. absurd cc;
       }

@@ -1,5 +1,5 @@
 -- The hint for more is legal under the rules of priorities, and so is the return of activations.
-use Rattle.std.proofs.Common.{◌≡◌, ℕ, ◌+◌, ◌≤◌, nat_lt, Bool, true, false, not, ◌||◌, ◌&&◌, List, [], ◌∷◌, length, map, Option, Some, None, is_some, refl, sym, ap, ◌∙◌, subst, arith}
+use Rattle.std.proofs.Common.{◌≡◌, ℕ, ◌+◌, ◌≤◌, nat_lt, true, false, not, ◌||◌, ◌&&◌, List, [], ◌∷◌, length, map, Option, Some, None, is_some, refl, sym, ap, ◌∙◌, subst, arith}
 use Rattle.std.specs.List.{list_any}
 use Rattle.sa_base.specs.declared.context.Seen.{Seen}
 use Rattle.sa_base.specs.declared.limits.TheConstants.{BULK_RETURN}
@@ -17,9 +17,9 @@ use Rattle.sa_package_model.specs.Rules.{pair, owed, asks}
 use Rattle.sa_package_model.specs.declared.context.Context.{Context}
 use Rattle.sa_package_model.specs.declared.context.State.TheVariants.{Hint, Return}
 use Rattle.sa_laws.specs.Life.{Life}
-use Rattle.sa_laws.specs.Locks.{StandsAlone}
 use Rattle.sa_laws.specs.Readings.{Readings, demand_of, taken_of}
 use Rattle.sa_laws.specs.Turns.{is_of_locks}
+use Rattle.sa_laws.proofs.Records.{alone-plain}
 use Rattle.sa_user_laws.specs.Scene.{begun_at}
 use Rattle.sa_user_laws.specs.Steps.{IsLegalStep}
 use Rattle.sa_fits.proofs.EventEnds.{begun-holds}
@@ -42,10 +42,6 @@ use Rattle.sa_prio_laws.proofs.AskMoves.{asked-legal}
 use Rattle.sa_prio_laws.proofs.CodeSteps.{keeps-with}
 use Rattle.sa_prio_laws.proofs.Moves.{base-scene}
 use Rattle.sa_prio_laws.proofs.Scenes.{IsPrioScene}
-
-stands_alone : (b : Bool) (xs : List Record) → b ≡ false → StandsAlone b xs
-stands_alone true xs e = absurd cc
-stands_alone false xs e = tt
 
 module _ (set : Setting) (e : ℕ) (v : Prio) (cs : Contexts PrioContext) (w : WorkloadView) (r : Readings) (p : ProcNo) (a : ActNo) (life : Life)
     (seen : Seen) where
@@ -73,7 +69,8 @@ module _ (set : Setting) (e : ℕ) (v : Prio) (cs : Contexts PrioContext) (w : W
     more-legal =
         let processors = scene.processors set e v.base (bases cs) w r p a life d seen base in
         let x : Record = records.Want set.space (demand_of r set.space + more) in
-        let raise = can-raise set e v.base (bases cs) i.stands.base set.space r0 k1 a (Hint t) base.on.mine life i.on.is stays refl refl w seen i.sees.demand more processors due in
+        let raise = can-raise set e v.base (bases cs) i.stands.base set.space r0 k1 a
+        (Hint t) base.on.mine life i.on.is stays refl refl w seen i.sees.demand more processors due in
         let not_lower : nat_lt (demand_of r set.space + more) (demand_of r set.space) ≡ false = not_less (demand_of r set.space) more in
         let m = more-move set e v.base (bases cs) w r p a life seen t more base in
         record {
@@ -120,7 +117,9 @@ module _ (set : Setting) (e : ℕ) (v : Prio) (cs : Contexts PrioContext) (w : W
     give-legal = by (taken_of r set.space) refl where
       by : (bs : List ActNo) → taken_of r set.space ≡ bs → IsLegalStep prio_calls prio_threads prio_fits w set r p seen.event a cs
           (going v seen Return (asks (pair v.base (record { state = Return; sections = []; work = None })) asked.GiveBack))
-      by [] at = absurd (let zero_is : length (taken_of r life.space) ≡ 0 = ap (λ o. length (taken_of r o)) i.on.space ∙ ap length at in let more = many in omega arith)
+      by [] at =
+          absurd
+          (let zero_is : length (taken_of r life.space) ≡ 0 = ap (λ o. length (taken_of r o)) i.on.space ∙ ap length at in let more = many in omega arith)
       by (b ∷ bs) at =
           let x : Record = records.GiveBack b in
           let m = give-move set e v.base (bases cs) w r p a life seen scene2 b bs at in
@@ -132,17 +131,21 @@ module _ (set : Setting) (e : ℕ) (v : Prio) (cs : Contexts PrioContext) (w : W
                 step = refl;
                 table = record {
                   carries = scene.carries set e v.base (bases cs) w r p a life c seen scene2;
-                  nothing = nothing set e v.base (bases cs) i.stands.base set.space r0 k2 a Return scene2.on.mine life i.on.is stays_here refl refl w seen i.sees.demand;
+                  nothing =
+                      nothing set e v.base
+                      (bases cs) i.stands.base set.space r0 k2 a Return scene2.on.mine life i.on.is stays_here refl refl w seen i.sees.demand;
                   many = many;
                   all = ap (map records.GiveBack) (sym at ∙ ap (taken_of r) (sym i.on.space));
                 };
                 keeps = keeps-with w r0 p life x tt m.back;
-                alone = stands_alone (list_any is_of_locks (map records.GiveBack bs)) (map records.GiveBack bs) (gives-plain bs).1;
+                alone = alone-plain (list_any is_of_locks (map records.GiveBack bs)) (map records.GiveBack bs) (gives-plain bs).1;
                 free = record { free = λ bound. absurd cc };
                 unurged = record { unurged = λ bound. absurd cc };
                 next = λ behind. tt;
               };
               unmoved = (gives-state w seen.event p (b ∷ bs) r0).0;
-              urged = λ last later. sym (out-or (stands_inside (settled_to None false (is_some (owed v.base later)) (has_bulk later))) (prio_pair (with_on v seen.proc None) later));
+              urged =
+                  λ last later. sym (out-or (stands_inside (settled_to None false (is_some (owed v.base later)) (has_bulk later)))
+                  (prio_pair (with_on v seen.proc None) later));
             });
           }

@@ -58,7 +58,7 @@ pub record HaveRanks (x : Shared) : Type 0 where
   pub many : length x.state.lists.ranks ≡ x.state.lists.threads
   pub ranks : (n : ThreadNo) → n.0 < x.state.lists.made → rank_of x.state.lists.ranks n.0 ≡ (block_at x.threads n.0).program
 
--- so they are behind, and who was made keeps its rank
+-- so they come after all that were made, and who was made keeps its rank
 pub record KeepRanks (x y : Shared) : Type 0 where
   pub have : HaveRanks y
   pub same : (n : ℕ) → n < x.state.lists.made → rank_of y.state.lists.ranks n ≡ rank_of x.state.lists.ranks n
@@ -136,7 +136,7 @@ module _ (fetch pages : ℕ) (x : Shared) (w : Option ThreadNo) (t : ThreadNo) (
   keeps-ranks (Touch page) = touches page (is_resident pages page)
   keeps-ranks End = placed _ _ refl refl refl
 
--- THE READY LIST behind an instruction that leaves the lists as they are
+-- THE READY LIST after an instruction that leaves the lists as they are
 pub ins-ranked : (set : Setting) (e : ℕ) (u : Package) (bs : Contexts Context) → IsStanding set e u bs → (s : SpaceNo) (r : Readings) → Holds s r u bs
     → (pages : ℕ) (t : ThreadNo) (listed : List Listed) → FitsRanked u listed
     → (run u.def u.fetch pages u.shared None t).shared.state.lists.lists ≡ u.shared.state.lists.lists

@@ -11,7 +11,7 @@ use Rattle.sa_abstract.specs.Calls.{Contexts}
 use Rattle.sa_abstract.specs.Setting.{Setting}
 use Rattle.sa_abstract.specs.declared.answer.Step.TheVariants.{InterruptOwn}
 use Rattle.sa_package_model.proofs.Views.{settled_between}
-use Rattle.sa_package_model.specs.Context.{carried_by, has_bulk, section_in, settled_to, stands_inside}
+use Rattle.sa_package_model.specs.Context.{carried_by, has_bulk, settled_to, stands_inside}
 use Rattle.sa_package_model.specs.Rules.{owed}
 use Rattle.sa_package_model.specs.declared.context.Context.{Context}
 use Rattle.sa_package_model.specs.declared.context.State.{State}
@@ -33,6 +33,7 @@ use Rattle.sa_ranks.specs.Pairs.{IsLowest, outranked_on}
 use Rattle.sa_ranks.specs.Rules.{prio_threads}
 use Rattle.sa_ranks.specs.Steps.{Interrupts, InterruptsBy}
 use Rattle.sa_prio_model.proofs.Way.{settled_stands}
+use Rattle.sa_prio_model.proofs.Calling.{out-no-section}
 use Rattle.sa_prio_model.specs.Prio.{Prio, outranked, lowest, has_pair as prio_pair}
 use Rattle.sa_prio_model.specs.Stands.{bases}
 use Rattle.sa_prio_model.specs.Step.{prio_calls, interrupts}
@@ -45,15 +46,6 @@ use Rattle.sa_prio_laws.proofs.Asks.{IsPrioAsking, ask-legal}
 use Rattle.sa_prio_laws.proofs.Frames.{base-is}
 use Rattle.sa_prio_laws.proofs.Rules.{IsRuled}
 use Rattle.sa_prio_laws.proofs.Scenes.{IsPrioScene, outranked-same, seen-pair, seen-lowest}
-
--- what is outside the package stands in no section and no copy, and at no copy's end
-pub out-section : (state : State) → is_out state ≡ true → section_in state ≡ None
-out-section (states.User t) e = refl
-out-section (states.Look looks) e = refl
-out-section (states.Code f) e = absurd cc
-out-section (states.Work t) e = absurd cc
-out-section (states.Hint t) e = absurd cc
-out-section states.Return e = absurd cc
 
 pub out-copy : (state : State) → is_out state ≡ true → in_copy state ≡ false
 out-copy (states.User t) e = refl
@@ -92,7 +84,7 @@ module _ (set : Setting) (e : ℕ) (v : Prio) (cs : Contexts PrioContext) (w : W
   -- ITS LIFE OWES NOTHING ELSE
   pub owes-nothing : HasNothing r life
   owes-nothing = nothing set e v.base (bases cs) i.stands.base set.space r i.holds a state mine life i.on.is
-      (ap is_gone (i.holds.runs p a life i.on.runs i.on.is i.on.space).2) (out-section state out) (out-copy state out) w seen i.sees.demand
+      (ap is_gone (i.holds.runs p a life i.on.runs i.on.is i.on.space).2) (out-no-section state out) (out-copy state out) w seen i.sees.demand
 
   module _ (calm : outranked v seen seen.proc ≡ None) (other : Outranked) (found : lowest v seen ≡ Some other) where
     low : IsLowest r0 set.space other.proc
@@ -104,7 +96,7 @@ module _ (set : Setting) (e : ℕ) (v : Prio) (cs : Contexts PrioContext) (w : W
     apart : other.proc ≢ p
     apart same = none-some low.rank (sym calm-here ∙ ap (outranked_on r0 set.space) (sym same) ∙ low.pair)
 
-    -- read behind the event's beginning, and before it
+    -- what is read after the event's beginning, and before it
     pub rule-behind : Interrupts r0 p life other.proc
     rule-behind = record {
       nothing = record { locks = owes-nothing.locks; cont = owes-nothing.cont; hand = owes-nothing.hand };
@@ -159,23 +151,34 @@ module _ (set : Setting) (e : ℕ) (v : Prio) (cs : Contexts PrioContext) (w : W
       carries = λ later. (settled_between (carried_by state) false (is_some (owed v.base later)) (has_bulk later)).carries;
       on = λ y ne. refl;
       on_here = i.kept p a old i.on.runs i.on.mine;
-      stands = λ later. settled_stands set e v.base (bases cs) i.stands.base a.0 c mine (out-section state out) later;
+      stands = λ later. settled_stands set e v.base (bases cs) i.stands.base a.0 c mine (out-no-section state out) later;
       holds = λ later. holds-later later;
       marks = λ ev last later b.
           let between = settled_between (carried_by state) false (is_some (owed v.base later)) (has_bulk later) in
-          settled-marked set e v.base (put (bases cs) a.0 (Some (record { state = settled_to (carried_by state) false (is_some (owed v.base later)) (has_bulk later); sections = []; work = None }))) b.stands set.space last b.holds a (carried_by state) later [] None life b.there (ap is_gone b.stage) w r ev
+          settled-marked set e v.base
+          (put (bases cs) a.0 (Some
+          (record {
+            state = settled_to (carried_by state) false (is_some (owed v.base later)) (has_bulk later);
+            sections = [];
+            work = None;
+          }))) b.stands set.space last b.holds a (carried_by state) later [] None life b.there (ap is_gone b.stage) w r ev
           (records.Line other.proc) b.mine b.demand b.taken processors (b.carries ∙ between.carries) refl refl (λ some. absurd cc);
-      urged = λ last later. sym (out-or (stands_inside (settled_to (carried_by state) false (is_some (owed v.base later)) (has_bulk later))) (prio_pair v later));
+      urged =
+          λ last later. sym (out-or (stands_inside (settled_to (carried_by state) false (is_some (owed v.base later)) (has_bulk later))) (prio_pair v later));
     } where
       holds-later : (later : Seen) → Holds set.space (after_record w seen.event p (begun_at w seen.event p r) (records.Line other.proc)) v.base
-          (put (bases cs) a.0 (Some (record { state = settled_to (carried_by state) false (is_some (owed v.base later)) (has_bulk later); sections = []; work = None })))
+          (put (bases cs) a.0 (Some
+          (record { state = settled_to (carried_by state) false (is_some (owed v.base later)) (has_bulk later); sections = []; work = None })))
       holds-later later =
           let between = settled_between (carried_by state) false (is_some (owed v.base later)) (has_bulk later) in
           same-holds set.space r (after_record w seen.event p (begun_at w seen.event p r) (records.Line other.proc)) v.base
-          (put (bases cs) a.0 (Some (record { state = settled_to (carried_by state) false (is_some (owed v.base later)) (has_bulk later); sections = []; work = None })))
+          (put (bases cs) a.0 (Some
+          (record { state = settled_to (carried_by state) false (is_some (owed v.base later)) (has_bulk later); sections = []; work = None })))
           (record { space = refl; untold = refl; running = refl; lives = refl })
-          (restated set.space r v.base (bases cs) i.holds a state (settled_to (carried_by state) false (is_some (owed v.base later)) (has_bulk later)) [] None mine
-          (out-section state out) (out-copy state out) between.section (settled-copy (carried_by state) false (is_some (owed v.base later)) (has_bulk later)) between.carries)
+          (restated set.space r v.base (bases cs) i.holds a state
+          (settled_to (carried_by state) false (is_some (owed v.base later)) (has_bulk later)) [] None mine
+          (out-no-section state out) (out-copy state out) between.section
+          (settled-copy (carried_by state) false (is_some (owed v.base later)) (has_bulk later)) between.carries)
 
     -- THE STEP
     pub interrupts-legal : IsLegalStep prio_calls prio_threads prio_fits w set r p seen.event a cs (interrupts v c other)

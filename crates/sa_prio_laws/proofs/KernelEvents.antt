@@ -12,9 +12,10 @@ use Rattle.sa_laws.specs.History.{begun, is_step}
 use Rattle.sa_laws.specs.Opening.{opening_event}
 use Rattle.sa_laws.specs.Readings.{Readings, life_on, opening_readings}
 use Rattle.sa_laws.specs.Turns.{is_of_locks}
+use Rattle.sa_laws.proofs.Records.{alone-plain}
 use Rattle.sa_user_laws.specs.Moments.{IsMoment}
 use Rattle.sa_user_laws.specs.Steps.{event_with, IsClosed, RulesPass, AreKernels}
-use Rattle.sa_fits_laws.proofs.KernelEvents.{kernels-are, alone-plain}
+use Rattle.sa_fits_laws.proofs.KernelEvents.{kernels-are}
 use Rattle.sa_ranks.specs.Locks.{BeginsUnurged, IsUnurgedIf, KeepsTheLockIf, KeepsTheLockIn, RunsGreatest}
 use Rattle.sa_ranks.specs.Rules.{prio_threads}
 
@@ -51,7 +52,11 @@ prio-kernels w r e p own closing ok moment are closed =
     let b = begun w (event_with e p own closing) r in
     record {
       demand = record {
-        announced = record { step = λ later. subst (λ xs. BeginsFreely w r p (xs ++ closing)) (sym k.is) (subst (λ b. StepIsFreeIf b w r (life_on r p) k.first) (sym k.step) tt) };
+        announced =
+            record {
+              step = λ later. subst (λ xs. BeginsFreely w r p (xs ++ closing)) (sym k.is)
+                  (subst (λ b. StepIsFreeIf b w r (life_on r p) k.first) (sym k.step) tt);
+            };
         step = λ later. subst (λ xs. BeginsUnurged w r p (xs ++ closing)) (sym k.is) (subst (λ b. IsUnurgedIf b w r (life_on r p) k.first) (sym k.step) tt);
       };
       locks = record {

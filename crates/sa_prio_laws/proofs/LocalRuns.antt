@@ -1,4 +1,4 @@
--- A run of local instructions: each is a legal event of its own, and behind the last one all fits. A context with a mark makes
+-- A run of local instructions: each is a legal event of its own, and after the last one all fits. A context with a mark makes
 -- none, and one without a mark stays without it.
 use Rattle.std.proofs.Common.{◌≡◌, ℕ, zero, suc, ◌+◌, ◌≤◌, ◌<◌, Bool, true, false, if◌then◌else◌, List, [], ◌∷◌, length, length-set, Option, Some, None, slice_set, slice_index_or, refl, sym, ap, ◌∙◌, subst, inl, inr, arith}
 use Rattle.std.proofs.lemmas.Bool.{cases_lt}
@@ -87,7 +87,8 @@ module _ (set : Setting) (e : ℕ) (v : Prio) (cs : Contexts PrioContext) (w : W
   legal =
       let goes = local-goes set e v.base (bases cs) w r p a life seen t scene local in
       subst (λ z. IsLegalStep prio_calls prio_threads prio_fits w set r p seen.event a cs (record { user = z; ctx = old; says = x ∷ []; answer = Did })) on-same
-      (subst (IsLegalStep prio_calls prio_threads prio_fits w set r p seen.event a cs) (ap (going v seen (User t)) (local-is set e v.base (bases cs) w r p a life seen t scene local))
+      (subst (IsLegalStep prio_calls prio_threads prio_fits w set r p seen.event a cs)
+      (ap (going v seen (User t)) (local-is set e v.base (bases cs) w r p a life seen t scene local))
       (goes-legal set e v cs w r p a life seen t i out (subst IsCalm (sym goes) tt) goes))
 
   pub legal-ins : IsLegalIns prio_threads w seen.event p r x
@@ -109,7 +110,10 @@ module _ (set : Setting) (e : ℕ) (v : Prio) (cs : Contexts PrioContext) (w : W
 
   fits1 : PrioFits set.space r1 now cs
   fits1 = subst (PrioFits set.space r1 now) put-c (legal.answer.after [] (record { closes = tt; is_own = refl })
-      (record { kernel = record { state = refl; lives = refl; running = refl; taken = refl; untold = refl; ready = refl; lines = λ y some. some }; demands = refl }))
+      (record {
+        kernel = record { state = refl; lives = refl; running = refl; taken = refl; untold = refl; ready = refl; lines = λ y some. some };
+        demands = refl;
+      }))
 
   low1 : (xs : List (Option ℕ)) (n : ℕ) → slice_index_or (slice_set xs n None) n None ≡ None
   low1 xs n = elim (cases_lt n (length xs)) [
@@ -118,7 +122,8 @@ module _ (set : Setting) (e : ℕ) (v : Prio) (cs : Contexts PrioContext) (w : W
   ]
 
   pub scene1 : seen.event + 1 ≤ MAX_EVENTS
-      → IsPrioScene set seen.event now cs w r1 p a (its1 set e v.base (bases cs) w r p a life seen t scene local is_inside_or_urged) old (seen1 set e v.base (bases cs) w r p a life seen t scene local is_inside_or_urged)
+      → IsPrioScene set seen.event now cs w r1 p a (its1 set e v.base (bases cs) w r p a life seen t scene local is_inside_or_urged) old
+      (seen1 set e v.base (bases cs) w r p a life seen t scene local is_inside_or_urged)
   scene1 within =
       let s = local-scene set e v.base (bases cs) w r p a life seen t scene local is_inside_or_urged within in
       record {
@@ -159,7 +164,8 @@ module _ (set : Setting) (cs : Contexts PrioContext) (w : WorkloadView) (p : Pro
   -- n instructions from block b on, in events from number e on
   abbrev IsRun : ℕ → Prio → Readings → ℕ → Block → Type 0
   IsRun n v r e b = AreLegalIns prio_threads w e p r (ins_records set.space t (program_at v.base.def.programs b.program) n (spot_of b))
-      (λ last. PrioFits set.space last (with_base v (with_shared v.base (with_thread v.base.shared t (block_after (program_at v.base.def.programs b.program) n b)))) (put cs a.0 (Some c1)))
+      (λ last. PrioFits set.space last
+      (with_base v (with_shared v.base (with_thread v.base.shared t (block_after (program_at v.base.def.programs b.program) n b)))) (put cs a.0 (Some c1)))
 
   runs : (m e : ℕ) (v : Prio) (r : Readings) (life : Life) (seen : Seen)
       → IsPrioScene set e v cs w r p a life c1 seen → IsUnbound w r life → seen.event + m ≤ MAX_EVENTS
@@ -176,8 +182,10 @@ module _ (set : Setting) (cs : Contexts PrioContext) (w : WorkloadView) (p : Pro
       let now = with_base v (behind v.base seen t (instr_of v.base.def b)) in
       let b1 = gone_to b (place_after (instr_of v.base.def b) b.pc b.regs) (regs_after (instr_of v.base.def b) b.regs) in
       let r1 = after_event is_inside_or_urged w r (event_with seen.event p (records.Ins set.space t b.pc ∷ []) []) in
-      let there : block_at now.base.shared.threads t.0 ≡ b1 = get_or-set_same v.base.shared.threads t.0 b1 unmade (t_below set e v.base (bases cs) w r p a life seen t scene) in
-      let rest = runs m seen.event now r1 (its1 set e v.base (bases cs) w r p a life seen t scene local.0 is_inside_or_urged) (seen1 set e v.base (bases cs) w r p a life seen t scene local.0 is_inside_or_urged)
+      let there : block_at now.base.shared.threads t.0 ≡ b1 =
+      get_or-set_same v.base.shared.threads t.0 b1 unmade (t_below set e v.base (bases cs) w r p a life seen t scene) in
+      let rest = runs m seen.event now r1 (its1 set e v.base (bases cs) w r p a life seen t scene local.0 is_inside_or_urged)
+      (seen1 set e v.base (bases cs) w r p a life seen t scene local.0 is_inside_or_urged)
       (scene1 set e v cs w r p a life seen t i out local.0 (omega arith)) (out1 set e v cs w r p a life seen t i out local.0) (omega arith)
       (subst (λ y. AreLocal (program_at v.base.def.programs y.program) (suc m) (spot_of y)) (sym there) local.1) in (
         legal-ins set e v cs w r p a life seen t i out local.0,
@@ -199,7 +207,8 @@ prio-goes w s e r v cs p a life c seen n acting sees low some later within local
       → IsActing prio_calls prio_stands prio_fits w s e r v cs p a life (record { base = record { state = state; sections = fs; work = wk }; urge = urge })
       → GoesOn s n (if urge then Away else local_at v.base state)
       → AreLegalIns prio_threads w seen.event p r (gone_at v.base (record { state = state; sections = fs; work = wk }) n state).says
-      (λ last. PrioFits s.space last (with_base v (gone_at v.base (record { state = state; sections = fs; work = wk }) n state).user) (put cs a.0 (Some (record { base = (gone_at v.base (record { state = state; sections = fs; work = wk }) n state).ctx; urge = urge }))))
+      (λ last. PrioFits s.space last (with_base v (gone_at v.base (record { state = state; sections = fs; work = wk }) n state).user)
+      (put cs a.0 (Some (record { base = (gone_at v.base (record { state = state; sections = fs; work = wk }) n state).ctx; urge = urge }))))
   by true state fs wk i local = absurd local
   by false (Code f) fs wk i local = absurd local
   by false (Work t) fs wk i local = absurd local
@@ -209,7 +218,9 @@ prio-goes w s e r v cs p a life c seen n acting sees low some later within local
   by false (User t) (f ∷ fs) wk i local = absurd (let left = (i.fit.lives.rest a _ life i.on.mine i.on.is).marks.left in cc)
   by false (User t) [] (Some m) i local = absurd (let left = (i.fit.lives.rest a _ life i.on.mine i.on.is).marks.left in cc)
   by false (User t) [] None i local =
-      many n some within (subst (λ d. AreLocal (program_at d.programs (block_at v.base.shared.threads t.0).program) n (spot_of (block_at v.base.shared.threads t.0))) (sym i.holds.value.base.made.def) local) where
+      many n some within
+      (subst (λ d. AreLocal (program_at d.programs (block_at v.base.shared.threads t.0).program) n (spot_of (block_at v.base.shared.threads t.0)))
+      (sym i.holds.value.base.made.def) local) where
         old : PrioContext
         old = record { base = record { state = User t; sections = []; work = None }; urge = false }
 
@@ -218,10 +229,19 @@ prio-goes w s e r v cs p a life c seen n acting sees low some later within local
 
         many : (k : ℕ) → 1 ≤ k → seen.event + k ≤ MAX_EVENTS + 1
             → AreLocal (program_at v.base.def.programs (block_at v.base.shared.threads t.0).program) k (spot_of (block_at v.base.shared.threads t.0))
-            → AreLegalIns prio_threads w seen.event p r (gone_by v.base (record { state = User t; sections = []; work = None }) k t (block_at v.base.shared.threads t.0)).says
-            (λ last. PrioFits s.space last (with_base v (gone_by v.base (record { state = User t; sections = []; work = None }) k t (block_at v.base.shared.threads t.0)).user) (put cs a.0 (Some (record { base = record { state = User t; sections = []; work = None }; urge = false }))))
+            → AreLegalIns prio_threads w seen.event p r
+            (gone_by v.base (record { state = User t; sections = []; work = None }) k t (block_at v.base.shared.threads t.0)).says
+            (λ last. PrioFits s.space last
+            (with_base v (gone_by v.base (record { state = User t; sections = []; work = None }) k t (block_at v.base.shared.threads t.0)).user)
+            (put cs a.0 (Some (record { base = record { state = User t; sections = []; work = None }; urge = false }))))
         many zero none within local = absurd (omega arith)
         many (suc m) some within local =
-            subst (λ o. AreLegalIns prio_threads w seen.event p r (ins_records o t (program_at v.base.def.programs (block_at v.base.shared.threads t.0).program) (suc m) (spot_of (block_at v.base.shared.threads t.0)))
-            (λ last. PrioFits s.space last (with_base v (gone_by v.base (record { state = User t; sections = []; work = None }) (suc m) t (block_at v.base.shared.threads t.0)).user) (put cs a.0 (Some (record { base = record { state = User t; sections = []; work = None }; urge = false })))))
-            (sym i.holds.value.base.made.space) (runs s cs w p a t m e v r life seen (the-scene w s e r v cs p a life old seen i sees low later (omega arith)) out (omega arith) local)
+            subst
+            (λ o. AreLegalIns prio_threads w seen.event p r
+            (ins_records o t (program_at v.base.def.programs (block_at v.base.shared.threads t.0).program) (suc m)
+            (spot_of (block_at v.base.shared.threads t.0)))
+            (λ last. PrioFits s.space last
+            (with_base v (gone_by v.base (record { state = User t; sections = []; work = None }) (suc m) t (block_at v.base.shared.threads t.0)).user)
+            (put cs a.0 (Some (record { base = record { state = User t; sections = []; work = None }; urge = false })))))
+            (sym i.holds.value.base.made.space)
+            (runs s cs w p a t m e v r life seen (the-scene w s e r v cs p a life old seen i sees low later (omega arith)) out (omega arith) local)

@@ -84,7 +84,8 @@ module _ (set : Setting) (e : ℕ) (v : Prio) (cs : Contexts PrioContext) (w : W
     pop-legal l found =
         let m = pop-move set e v.base (bases cs) w r p a life seen looks base l found in
         let first = sought-first v.base.shared.state.lists (own_list v.base seen.proc).0 l inside found in
-        let is_first : processor l ≡ the_list = ap processor (let one = i.ranked.one in let below = first.inside in let zero_is : l ≡ 0 = omega arith in zero_is) in
+        let is_first : processor l ≡ the_list =
+        ap processor (let one = i.ranked.one in let below = first.inside in let zero_is : l ≡ 0 = omega arith in zero_is) in
         let open_it = opens set e v.base (bases cs) i.stands.base set.space r0 k0 alike (processor l) first.here in
         let x : Record = records.Take set.space (processor l) None in
         move-legal set e v cs w r p a life c seen i x [] _ _ m (record {
@@ -152,7 +153,8 @@ module _ (set : Setting) (e : ℕ) (v : Prio) (cs : Contexts PrioContext) (w : W
         let row = can-lower set e v.base (bases cs) i.stands.base set.space r0 k0 a (Look looks) base.on.mine life i.on.is stays refl refl w seen i.sees.demand
         (own_list v.base seen.proc).0 looks refl none inside alike carries base.own (scene.def set e v.base (bases cs) w r p a life c seen base) patient idle in
         let less : nat_lt (demand_of r set.space - 1) (demand_of r set.space) ≡ true =
-        one_less (demand_of r set.space) (let some : demand_of r set.space - 1 + 1 ≡ demand_of r life.space = row.number in let same = ap (demand_of r) i.on.space in omega arith) in
+        one_less (demand_of r set.space)
+        (let some : demand_of r set.space - 1 + 1 ≡ demand_of r life.space = row.number in let same = ap (demand_of r) i.on.space in omega arith) in
         let m = lower-move set e v.base (bases cs) w r p a life seen looks base less in
         subst (λ st. IsLegalStep prio_calls prio_threads prio_fits w set r p seen.event a cs (going v seen (Look looks) st))
         (sym (lower-is set e v.base (bases cs) w r p a life seen looks base none idle)) (record {
@@ -182,7 +184,8 @@ module _ (set : Setting) (e : ℕ) (v : Prio) (cs : Contexts PrioContext) (w : W
           });
         })
 
-    pub look-legal : IsLegalStep prio_calls prio_threads prio_fits w set r p seen.event a cs (goes v seen (record { state = Look looks; sections = []; work = None }))
+    pub look-legal : IsLegalStep prio_calls prio_threads prio_fits w set r p seen.event a cs
+        (goes v seen (record { state = Look looks; sections = []; work = None }))
     look-legal = by (sought v.base.shared.state.lists (own_list v.base seen.proc).0) refl (is_idle v.base seen looks) refl where
       by : (o : Option ℕ) → sought v.base.shared.state.lists (own_list v.base seen.proc).0 ≡ o → (b : Bool) → is_idle v.base seen looks ≡ b
           → IsLegalStep prio_calls prio_threads prio_fits w set r p seen.event a cs (goes v seen (record { state = Look looks; sections = []; work = None }))

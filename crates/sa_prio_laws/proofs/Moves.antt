@@ -1,13 +1,12 @@
 -- A move of FastThreads under the rules of the package with priorities: what its rules ask beside the move, and that the
 -- step is legal then.
-use Rattle.std.proofs.Common.{◌≡◌, ℕ, false, ◌||◌, List, [], ◌∷◌, All, Option, Some, None, option_map, refl, sym, ap, ◌∙◌, subst}
+use Rattle.std.proofs.Common.{◌≡◌, ℕ, false, ◌||◌, List, [], ◌∷◌, All, option_map, refl, sym, ap, ◌∙◌, subst}
 use Rattle.std.proofs.lemmas.List.Elements.{All-head, All-tail}
 use Rattle.std.specs.List.{list_any}
 use Rattle.sa_base.specs.declared.context.Seen.{Seen}
 use Rattle.sa_base.specs.declared.number.ActNo.{ActNo}
 use Rattle.sa_base.specs.declared.number.ProcNo.{ProcNo}
 use Rattle.sa_base.specs.declared.number.SpaceNo.{SpaceNo}
-use Rattle.sa_base.specs.declared.number.ThreadNo.{ThreadNo}
 use Rattle.sa_base.specs.declared.record.Record.{Record}
 use Rattle.sa_base.specs.declared.record.Record.TheVariants as records
 use Rattle.sa_spaces.specs.Workload.{WorkloadView}
@@ -24,8 +23,8 @@ use Rattle.sa_laws.specs.Life.{Life}
 use Rattle.sa_laws.specs.Machine.{changed}
 use Rattle.sa_laws.specs.Readings.{Readings, ready_of}
 use Rattle.sa_laws.specs.Record.{after_record}
-use Rattle.sa_laws.specs.State.{State, placed_if}
-use Rattle.sa_laws.specs.declared.place.Place.{Place}
+use Rattle.sa_laws.specs.State.{State}
+use Rattle.sa_laws.proofs.Spaces.{placed-owners}
 use Rattle.sa_user_laws.specs.Scene.{begun_at}
 use Rattle.sa_user_laws.specs.Steps.{IsLegalStep}
 use Rattle.sa_fits_steps.proofs.Moves.{IsMove}
@@ -45,16 +44,12 @@ use Rattle.sa_prio_laws.proofs.Scenes.{IsPrioScene}
 use Rattle.sa_prio_laws.proofs.Turns.{IsPrioTurn, turn-legal}
 
 -- RECORDS OF A SPACE leave lines and owners, and are no entry of the kernel
-owners-if : (a : State) (s : SpaceNo) (t : Option ThreadNo) (x : Place) → (placed_if a s t x).owners ≡ a.owners
-owners-if a s None x = refl
-owners-if a s (Some t) x = refl
-
 own-owners : (w : WorkloadView) (p : ProcNo) (a : State) (s : SpaceNo) (x : Record) → IsOwn s x → (changed w p a x).owners ≡ a.owners
 own-owners w p a s (records.Ins of t i) own = refl
 own-owners w p a s (records.Out of t v) own = refl
 own-owners w p a s (records.Run of t) own = refl
-own-owners w p a s (records.Cont of t) own = owners-if a of t _
-own-owners w p a s (records.Back of t) own = owners-if a of t _
+own-owners w p a s (records.Cont of t) own = placed-owners a of t _
+own-owners w p a s (records.Back of t) own = placed-owners a of t _
 own-owners w p a s (records.Ready of t) own = refl
 own-owners w p a s (records.Take of l t) own = refl
 own-owners w p a s (records.Free of l t) own = refl
@@ -119,7 +114,15 @@ module _ (set : Setting) (e : ℕ) (v : Prio) (cs : Contexts PrioContext) (w : W
     stands = i.stands.base;
     holds = i.holds;
     own = i.own;
-    on = record { runs = i.on.runs; is = i.on.is; space = i.on.space; proc = i.on.proc; owner = i.on.owner; mine = base-is cs a.0 (record { base = c; urge = false }) i.on.mine };
+    on =
+        record {
+          runs = i.on.runs;
+          is = i.on.is;
+          space = i.on.space;
+          proc = i.on.proc;
+          owner = i.on.owner;
+          mine = base-is cs a.0 (record { base = c; urge = false }) i.on.mine;
+        };
     runner = i.runner;
     sees = i.sees;
     given = λ b has. ap (option_map (λ (z : PrioContext). z.base)) (i.given b has);
@@ -134,7 +137,8 @@ module _ (set : Setting) (e : ℕ) (v : Prio) (cs : Contexts PrioContext) (w : W
     pub settled : (last : Readings) → last.state ≡ (after_records w seen.event p (begun_at w seen.event p r) (x ∷ xs)).state
         → stands_inside new.state ≡ false → settles r last x ≡ came_out c.state new.state
 
-  module _ (x : Record) (xs : List Record) (u : Package) (new : Context) (m : IsMove set v.base (bases cs) w r p a life c seen x xs u new) (t : IsAllowed x xs u new) where
+  module _ (x : Record) (xs : List Record) (u : Package) (new : Context) (m : IsMove set v.base (bases cs) w r p a life c seen x xs u new)
+      (t : IsAllowed x xs u new) where
     well : IsStepped IsStanding set seen (bases cs) a.0 (did (pair u new) (x ∷ xs))
     well = subst (IsStepped IsStanding set seen (bases cs) a.0) m.step (steps set e v.base (bases cs) w r p a life c seen base-scene)
 

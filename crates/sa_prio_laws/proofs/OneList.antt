@@ -16,7 +16,7 @@ length-by_rank : (ranks xs ns : List ℕ) → length (by_rank_from ranks xs ns) 
 length-by_rank ranks xs [] = omega arith
 length-by_rank ranks xs (n ∷ newer) = let rest = length-by_rank ranks (inserted ranks n xs) newer in let one = length-inserted ranks n xs in omega arith
 
--- whoever stands there stands in list 0
+-- whoever is there is in list 0
 abbrev AreInOne : List Listed → Type 0
 AreInOne listed = (x : Listed) → Contains listed x → x.list.0 ≡ 0
 
@@ -39,7 +39,8 @@ pub ranked-alike : (u : Package) (listed : List Listed) → FitsRanked u listed 
 ranked-alike u listed f l = elim (cases_eq l.0 0) [
   | inl first ↦
       let many : length (list_of u.shared.state.lists 0) ≡ length listed =
-      ap length f.order ∙ (let all = length-by_rank u.shared.state.lists.ranks [] (map number_in listed) in let each = length-map listed number_in in omega arith) in
+      ap length f.order
+      ∙ (let all = length-by_rank u.shared.state.lists.ranks [] (map number_in listed) in let each = length-map listed number_in in omega arith) in
       some-in l first listed f.there ∙ ap (nat_lt 0) (sym many) ∙ ap (λ k. nat_lt 0 (length (list_of u.shared.state.lists k))) (sym first)
   | inr other ↦
       none-in l other listed f.there

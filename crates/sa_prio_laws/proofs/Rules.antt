@@ -18,7 +18,7 @@ use Rattle.sa_ranks.specs.Locks.{BeginsUnurged, IsUnurged, IsUnurgedIf, KeepsThe
 use Rattle.sa_ranks.specs.Rules.{prio_threads}
 use Rattle.sa_ranks.specs.Steps.{RankedStepBy, RankedStepIn}
 
--- What is so of the first record x of a step of a life, with others xs behind it: the row of the table; the law of the one
+-- What is so of the first record x of a step of a life, with others xs after it: the row of the table; the law of the one
 -- lock; that it is free and no pair waits for it; and the order by rank.
 pub record IsRuled (w : WorkloadView) (r now : Readings) (p : ProcNo) (a : ActNo) (life : Life) (x : Record) (xs : List Record) : Type 0 where
   pub step : is_step x ≡ true

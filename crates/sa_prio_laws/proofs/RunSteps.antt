@@ -94,7 +94,9 @@ module _ (set : Setting) (e : ℕ) (v : Prio) (cs : Contexts PrioContext) (w : W
         ruled = record {
           step = refl;
           table = refl;
-          keeps = keeps-with w r0 p life x (run-keeps set e v.base (bases cs) i.stands.base set.space r0 k a f fs wk mine w seen.event p life i.on.runs i.on.is i.on.space
+          keeps =
+              keeps-with w r0 p life x
+              (run-keeps set e v.base (bases cs) i.stands.base set.space r0 k a f fs wk mine w seen.event p life i.on.runs i.on.is i.on.space
               known named copy.0 copy.1 op own.2 own.1 t takes here) m.back;
           alone = refl;
           free = record { free = λ bound. absurd cc };

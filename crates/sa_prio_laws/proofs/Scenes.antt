@@ -1,6 +1,6 @@
 -- What is known before a step of a running life of the package with priorities.
 use Rattle.std.proofs.Common.{◌≡◌, ℕ, ◌<◌, ◌≤◌, ◌&&◌, ◌==◌, length, length-set, true, List, [], Option, Some, None, Contains, is_none, slice_set, slice_index_or, refl, sym, ap, ◌∙◌, inl, inr, arith}
-use Rattle.std.proofs.lemmas.Bool.{cases_eq, cases_lt}
+use Rattle.std.proofs.lemmas.Bool.{cases_eq, cases_lt, and_parts}
 use Rattle.std.proofs.lemmas.List.{get_or_past, get_or-set_same, get_or-set_other}
 use Rattle.std.proofs.lemmas.Option.{slice_get_within}
 use Rattle.sa_base.specs.declared.context.Seen.{Seen}
@@ -27,7 +27,7 @@ use Rattle.sa_prio_model.specs.Stands.{bases, IsPrioStanding, prio_stands}
 use Rattle.sa_prio_model.specs.Step.{prio_calls}
 use Rattle.sa_prio_model.specs.declared.context.PrioContext.{PrioContext}
 use Rattle.sa_prio_model.specs.declared.pair.Outranked.{Outranked}
-use Rattle.sa_prio_fits.proofs.Fresh.{fresh-is, fresh-and}
+use Rattle.sa_prio_fits.proofs.Fresh.{fresh-is}
 use Rattle.sa_prio_fits.proofs.Pairs.{outranked-alike, lowest-alike, pairs-alike, is-near, sees-lines}
 use Rattle.sa_prio_fits.specs.Fits.{is_fresh, prio_view, prio_fits, KeepsOn}
 use Rattle.sa_prio_fits.specs.Ready.{FitsRanked}
@@ -70,7 +70,13 @@ the-scene w s e r v cs p a life c seen i sees low later within =
       ranked = i.fit.ranked;
       kept = i.fit.on;
       others = λ x d l ne at is. i.fit.lives.rest x d l at is;
-      own = record { back = mark.back; scans = mark.scans; left = mark.left; lone = fresh-and (is_fresh c.urge (looks_of c.base.state)) (is_lone c.base.state c.base.sections) mark.lone };
+      own =
+          record {
+            back = mark.back;
+            scans = mark.scans;
+            left = mark.left;
+            lone = (and_parts (is_fresh c.urge (looks_of c.base.state)) (is_lone c.base.state c.base.sections) mark.lone).1;
+          };
       fresh = fresh-is c.urge (looks_of c.base.state) (is_lone c.base.state c.base.sections) mark.lone;
       on = i.on;
       runner = i.runner;
@@ -81,7 +87,7 @@ the-scene w s e r v cs p a life c seen i sees low later within =
       within = within;
     }
 
--- THE PAIRS before a step, as they are read behind its beginning, which lowers no line
+-- THE PAIRS before a step, as they are read after its beginning, which lowers no line
 module _ (set : Setting) (e : ℕ) (v : Prio) (cs : Contexts PrioContext) (w : WorkloadView) (r : Readings) (p : ProcNo) (a : ActNo) (life : Life)
     (c : PrioContext) (seen : Seen) (i : IsPrioScene set e v cs w r p a life c seen) where
   abbrev r0 : Readings
@@ -102,9 +108,12 @@ module _ (set : Setting) (e : ℕ) (v : Prio) (cs : Contexts PrioContext) (w : W
     | inr ne ↦ get_or-set_other r.lines p.0 q.0 None None ne
     | inl same ↦ set-low r.lines p.0 q.0 same i.low
   ] where
-    set-low : (xs : List (Option ℕ)) (n k : ℕ) → k ≡ n → slice_index_or xs n None ≡ None → slice_index_or (slice_set xs n None) k None ≡ slice_index_or xs k None
+    set-low : (xs : List (Option ℕ)) (n k : ℕ) → k ≡ n → slice_index_or xs n None ≡ None
+        → slice_index_or (slice_set xs n None) k None ≡ slice_index_or xs k None
     set-low xs n k same none = elim (cases_lt n (length xs)) [
-      | inl below ↦ ap (λ j. slice_index_or (slice_set xs n None) j None) same ∙ get_or-set_same xs n None None below ∙ sym none ∙ sym (ap (λ j. slice_index_or xs j None) same)
+      | inl below ↦
+          ap (λ j. slice_index_or (slice_set xs n None) j None) same ∙ get_or-set_same xs n None None below ∙ sym none
+          ∙ sym (ap (λ j. slice_index_or xs j None) same)
       | inr past ↦ get_or_past (slice_set xs n None) k None (let size = length-set xs n None in omega arith) ∙ sym (get_or_past xs k None (omega arith))
     ]
 

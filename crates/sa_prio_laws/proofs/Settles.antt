@@ -1,6 +1,7 @@
 -- A step of a context that settles first, where nothing is owed any more, or no pair is there any more: it is legal where one
 -- of the context as it settles is.
 use Rattle.std.proofs.Common.{◌≡◌, ℕ, Bool, true, false, not, ◌&&◌, [], Option, Some, None, is_some, refl, sym, ap, ◌∙◌, subst}
+use Rattle.std.proofs.lemmas.Bool.{and_parts}
 use Rattle.sa_base.specs.declared.context.Seen.{Seen}
 use Rattle.sa_base.specs.declared.number.ActNo.{ActNo}
 use Rattle.sa_base.specs.declared.number.ProcNo.{ProcNo}
@@ -23,20 +24,13 @@ use Rattle.sa_prio_model.specs.Prio.{Prio, has_pair as prio_pair}
 use Rattle.sa_prio_model.specs.Step.{prio_calls, goes, served, stepped}
 use Rattle.sa_prio_model.specs.Urge.{came_out, is_out, marked}
 use Rattle.sa_prio_model.specs.declared.context.PrioContext.{PrioContext}
+use Rattle.sa_prio_model.proofs.Calling.{out-no-section}
 use Rattle.sa_prio_fits.specs.Fits.{prio_fits}
 use Rattle.sa_prio_laws.proofs.Again.{at_rest, legal-put, settled-scene, settled-unbound}
-use Rattle.sa_prio_laws.proofs.Interrupts.{out-copy, out-section, out-yield}
+use Rattle.sa_prio_laws.proofs.Interrupts.{out-copy, out-yield}
 use Rattle.sa_prio_laws.proofs.Scenes.{IsPrioScene}
 use Rattle.sa_prio_laws.proofs.Unbound.{IsUnbound}
 use Rattle.sa_prio_laws.proofs.Urge.{urged-legal}
-
-and_first : (x y : Bool) → (x && y) ≡ true → x ≡ true
-and_first true y e = refl
-and_first false y e = absurd cc
-
-and_second : (x y : Bool) → (x && y) ≡ true → y ≡ true
-and_second true y e = e
-and_second false y e = absurd cc
 
 and_none : (x y : Bool) → (x && y) ≡ false → x ≡ true → y ≡ false
 and_none true y e is = e
@@ -85,13 +79,14 @@ module _ (set : Setting) (e : ℕ) (v : Prio) (w : WorkloadView) (r : Readings) 
         (record { state = settled_to t false (is_some (owed v.base seen)) (has_bulk seen); sections = []; work = None })))
     settles-legal = by (is_out state && prio_pair v seen) refl where
       by : (b : Bool) → (is_out (settled_to t false (is_some (owed v.base seen)) (has_bulk seen)) && prio_pair v seen) ≡ b
-          → IsLegalStep prio_calls prio_threads prio_fits w set r p seen.event a cs (served v seen (at_rest (settled_to t false (is_some (owed v.base seen)) (has_bulk seen)) b))
+          → IsLegalStep prio_calls prio_threads prio_fits w set r p seen.event a cs
+          (served v seen (at_rest (settled_to t false (is_some (owed v.base seen)) (has_bulk seen)) b))
       by true is =
-          let is_outside = and_first (is_out state) (prio_pair v seen) is in
+          let is_outside = (and_parts (is_out state) (prio_pair v seen) is).0 in
           legal-put w set r p seen.event a cs (at_rest state true) _
           (urged-legal set e v (put cs a.0 (Some (at_rest state true))) w r p a life seen state is_outside
           (settled-scene set e v cs w r p a life old mark t seen i out no_copy carries yields looks true (λ marked. is_outside))
-          (λ calm nobody. absurd (let some = and_second (is_out state) (prio_pair v seen) is in let none = ap is_some nobody in cc)))
+          (λ calm nobody. absurd (let some = (and_parts (is_out state) (prio_pair v seen) is).1 in let none = ap is_some nobody in cc)))
       by false is = calm-legal (λ outside. and_none (is_out state) (prio_pair v seen) is (out_of state false outside refl))
 
   -- A HINT that is no longer owed
@@ -103,10 +98,17 @@ module _ (set : Setting) (e : ℕ) (v : Prio) (w : WorkloadView) (r : Readings) 
   hint-again cs t none i legal =
       subst (λ o. let d = if_owed v.base seen (record { state = Hint t; sections = []; work = None }) t o in
       IsLegalStep prio_calls prio_threads prio_fits w set r p seen.event a cs (served v seen (marked v seen (came_out (Hint t) d.state) d)))
-      (sym none) (came (settled_to t false (is_some (owed v.base seen)) (has_bulk seen)) (settles-legal cs (Hint t) false t i refl refl refl refl refl legal)) where
-        came : (s : State) → IsLegalStep prio_calls prio_threads prio_fits w set r p seen.event a cs (served v seen (marked v seen (is_out s) (record { state = s; sections = []; work = None })))
-            → IsLegalStep prio_calls prio_threads prio_fits w set r p seen.event a cs (served v seen (marked v seen (came_out (Hint t) s) (record { state = s; sections = []; work = None })))
-        came s h = subst (λ b. IsLegalStep prio_calls prio_threads prio_fits w set r p seen.event a cs (served v seen (marked v seen b (record { state = s; sections = []; work = None }))))
+      (sym none)
+      (came (settled_to t false (is_some (owed v.base seen)) (has_bulk seen)) (settles-legal cs (Hint t) false t i refl refl refl refl refl legal)) where
+        came : (s : State)
+            → IsLegalStep prio_calls prio_threads prio_fits w set r p seen.event a cs
+            (served v seen (marked v seen (is_out s) (record { state = s; sections = []; work = None })))
+            → IsLegalStep prio_calls prio_threads prio_fits w set r p seen.event a cs
+            (served v seen (marked v seen (came_out (Hint t) s) (record { state = s; sections = []; work = None })))
+        came s h =
+            subst
+            (λ b. IsLegalStep prio_calls prio_threads prio_fits w set r p seen.event a cs
+            (served v seen (marked v seen b (record { state = s; sections = []; work = None }))))
             (and_true (is_out s)) h
 
   -- ACTIVATIONS that are no longer so many
@@ -118,10 +120,17 @@ module _ (set : Setting) (e : ℕ) (v : Prio) (w : WorkloadView) (r : Readings) 
   return-again cs few i legal =
       subst (λ z. let d = if_bulk v.base seen (record { state = Return; sections = []; work = None }) z in
       IsLegalStep prio_calls prio_threads prio_fits w set r p seen.event a cs (served v seen (marked v seen (came_out Return d.state) d)))
-      (sym few) (came (settled_to None false (is_some (owed v.base seen)) (has_bulk seen)) (settles-legal cs Return false None i refl refl refl refl refl legal)) where
-        came : (s : State) → IsLegalStep prio_calls prio_threads prio_fits w set r p seen.event a cs (served v seen (marked v seen (is_out s) (record { state = s; sections = []; work = None })))
-            → IsLegalStep prio_calls prio_threads prio_fits w set r p seen.event a cs (served v seen (marked v seen (came_out Return s) (record { state = s; sections = []; work = None })))
-        came s h = subst (λ b. IsLegalStep prio_calls prio_threads prio_fits w set r p seen.event a cs (served v seen (marked v seen b (record { state = s; sections = []; work = None }))))
+      (sym few)
+      (came (settled_to None false (is_some (owed v.base seen)) (has_bulk seen)) (settles-legal cs Return false None i refl refl refl refl refl legal)) where
+        came : (s : State)
+            → IsLegalStep prio_calls prio_threads prio_fits w set r p seen.event a cs
+            (served v seen (marked v seen (is_out s) (record { state = s; sections = []; work = None })))
+            → IsLegalStep prio_calls prio_threads prio_fits w set r p seen.event a cs
+            (served v seen (marked v seen (came_out Return s) (record { state = s; sections = []; work = None })))
+        came s h =
+            subst
+            (λ b. IsLegalStep prio_calls prio_threads prio_fits w set r p seen.event a cs
+            (served v seen (marked v seen b (record { state = s; sections = []; work = None }))))
             (and_true (is_out s)) h
 
   -- A CONTEXT WITH THE MARK serves a pair, or goes on where none is there any more
@@ -132,4 +141,4 @@ module _ (set : Setting) (e : ℕ) (v : Prio) (w : WorkloadView) (r : Readings) 
       (stepped v seen (record { base = record { state = old; sections = []; work = None }; urge = true }))
   urge-legal cs old out looks i legal =
       urged-legal set e v cs w r p a life seen old out i (λ calm nobody.
-      calm-legal cs old true (carried_by old) i (out-section old out) (out-copy old out) refl (out-yield old out) looks legal (λ outside. ap is_some nobody))
+      calm-legal cs old true (carried_by old) i (out-no-section old out) (out-copy old out) refl (out-yield old out) looks legal (λ outside. ap is_some nobody))

@@ -47,7 +47,8 @@ module _ (set : Setting) (e : ℕ) (v : Prio) (w : WorkloadView) (r : Readings) 
       → GoesLegally set e v w r p a life seen (settled_to t false (is_some o) b)
   settled-legal t (Some n) b owes bulk = λ cs i free. subst (IsLegalStep prio_calls prio_threads prio_fits w set r p seen.event a cs)
       (sym (ap (going v seen (Hint t)) (more-is v.base seen t n owes))) (more-legal set e v cs w r p a life seen t n i owes)
-  settled-legal (Some t) None b owes bulk = λ cs i free. instr-legal set e v cs w r p a life seen t i (free refl) (blocks-legal set e v cs w r p a life seen t i (free refl))
+  settled-legal (Some t) None b owes bulk =
+      λ cs i free. instr-legal set e v cs w r p a life seen t i (free refl) (blocks-legal set e v cs w r p a life seen t i (free refl))
   settled-legal None None true owes bulk = λ cs i free. subst (IsLegalStep prio_calls prio_threads prio_fits w set r p seen.event a cs)
       (sym (ap (going v seen Return) (give-is v.base seen bulk))) (give-legal set e v cs w r p a life seen i bulk)
   settled-legal None None false owes bulk = λ cs i free. look-legal set e v cs w r p a life seen 0 i (free refl)
@@ -93,7 +94,8 @@ module _ (set : Setting) (e : ℕ) (v : Prio) (w : WorkloadView) (r : Readings) 
     calm-case Return [] None i out = return-case (has_bulk seen) refl i
     calm-case Return (f ∷ fs) wk i out = absurd (let left = i.own.left in cc)
     calm-case Return [] (Some n) i out = absurd (let left = i.own.left in cc)
-    calm-case (User t) [] None i out = instr-legal set e v cs w r p a life seen t i (inl (out refl)) (blocks-legal set e v cs w r p a life seen t i (inl (out refl)))
+    calm-case (User t) [] None i out =
+        instr-legal set e v cs w r p a life seen t i (inl (out refl)) (blocks-legal set e v cs w r p a life seen t i (inl (out refl)))
     calm-case (User t) (f ∷ fs) wk i out = absurd (let left = i.own.left in cc)
     calm-case (User t) [] (Some n) i out = absurd (let left = i.own.left in cc)
     calm-case (Look looks) [] None i out = look-legal set e v cs w r p a life seen looks i (inl (out refl))
@@ -117,8 +119,10 @@ module _ (set : Setting) (e : ℕ) (v : Prio) (w : WorkloadView) (r : Readings) 
 
     pub step-legal : (urge : Bool) (state : State) (fs : List Frame) (wk : Option ThreadNo)
         → IsPrioScene set e v cs w r p a life (record { base = record { state = state; sections = fs; work = wk }; urge = urge }) seen
-        → (urge ≡ false → stands_inside state ≡ false → life.inside ≡ false) → Legal cs (record { base = record { state = state; sections = fs; work = wk }; urge = urge })
-    step-legal true state fs wk i out = marked-case state fs wk (i.stands.marks a.0 (record { base = record { state = state; sections = fs; work = wk }; urge = true }) i.on.mine refl) i
+        → (urge ≡ false → stands_inside state ≡ false → life.inside ≡ false)
+        → Legal cs (record { base = record { state = state; sections = fs; work = wk }; urge = urge })
+    step-legal true state fs wk i out =
+        marked-case state fs wk (i.stands.marks a.0 (record { base = record { state = state; sections = fs; work = wk }; urge = true }) i.on.mine refl) i
     step-legal false state fs wk i out = calm-case state fs wk i (out refl)
 
 -- THE LAW

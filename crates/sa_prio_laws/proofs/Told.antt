@@ -109,7 +109,9 @@ module _ (w : WorkloadView) (s : Setting) (e : ℕ) (r : Readings) (v : Prio) (c
                 | inl here ↦
                     let one : new ≡ z = same_Some new z (sym at_n ∙ sym (ap told_cs here) ∙ mine) in
                     let state : (Work None) ≡ z.base.state =
-                    sym (hears.begins mixed.ctx (put-other (put (bases cs) n.0 (Some mixed.ctx)) b.0 n.0 None (λ x. differ (sym x)) ∙ put-same (bases cs) n.0 (Some mixed.ctx)))
+                    sym
+                    (hears.begins mixed.ctx
+                    (put-other (put (bases cs) n.0 (Some mixed.ctx)) b.0 n.0 None (λ x. differ (sym x)) ∙ put-same (bases cs) n.0 (Some mixed.ctx)))
                     ∙ ap (λ (y : PrioContext). y.base.state) one in
                     k.on y x (record { base = c; urge = false }) runs (ap cs here ∙ is) ∙ ap carried_by state
                 | inr ne ↦ k.on y x z runs (sym (put-other cs n.0 x.0 (Some new) ne) ∙ sym (put-other (put cs n.0 (Some new)) b.0 x.0 None nb) ∙ mine)
@@ -127,12 +129,16 @@ pub prio-tells : (w : WorkloadView) (s : Setting) (e : ℕ) (r : Readings) (v : 
     → HoldsIn prio_stands w s e r v cs → prio_hears w s r n v cs → cs n.0 ≡ Some c → r.upped ≡ Some n → Contains (untold_of r s.space) note
     → (note ≡ Preempted b) ⊎ (note ≡ Unblocked b)
     → life_of r b ≡ Some life → life.space ≡ s.space → held.thread ≡ life.thread → IsHanded cs n.0 note (Some held)
-    → prio_hears w s (after_record w number p r (records.Told note)) n (prio_calls.told v c note (Some held)).0 (told_contexts cs n.0 (prio_calls.told v c note (Some held)).1 note)
+    → prio_hears w s (after_record w number p r (records.Told note)) n (prio_calls.told v c note (Some held)).0
+    (told_contexts cs n.0 (prio_calls.told v c note (Some held)).1 note)
 prio-tells w s e r v cs p n c number note b life held h k is upped told kind there of thread handed =
     let c_is : c ≡ record { base = record { state = Work None; sections = c.base.sections; work = c.base.work }; urge = false } =
-    ap (λ x. record { base = record { state = x; sections = c.base.sections; work = c.base.work }; urge = c.urge }) (k.lives.begins c.base (base-is cs n.0 c is))
+    ap (λ x. record { base = record { state = x; sections = c.base.sections; work = c.base.work }; urge = c.urge })
+    (k.lives.begins c.base (base-is cs n.0 c is))
     ∙ ap (λ x. record { base = record { state = Work None; sections = c.base.sections; work = c.base.work }; urge = x }) (k.calm c is) in
-    subst (λ y. prio_hears w s (after_record w number p r (records.Told note)) n (prio_calls.told v y note (Some held)).0 (told_contexts cs n.0 (prio_calls.told v y note (Some held)).1 note)) (sym c_is) (elim kind [
+    subst
+    (λ y. prio_hears w s (after_record w number p r (records.Told note)) n (prio_calls.told v y note (Some held)).0
+    (told_contexts cs n.0 (prio_calls.told v y note (Some held)).1 note)) (sym c_is) (elim kind [
       | inl stop ↦ subst (λ m. prio_hears w s (after_record w number p r (records.Told m)) n (prio_calls.told v (plain c) m (Some held)).0
           (told_contexts cs n.0 (prio_calls.told v (plain c) m (Some held)).1 m)) (sym stop)
           (over true (is ∙ ap Some c_is) (subst (λ m. IsHanded cs n.0 m (Some held)) stop handed) (subst (λ m. Contains (untold_of r s.space) m) stop told))
@@ -143,7 +149,11 @@ prio-tells w s e r v cs p n c number note b life held h k is upped told kind the
       over : (kd : Bool) → cs n.0 ≡ Some (plain c) → IsHandedOver cs n.0 b.0 (Some held) → Contains (untold_of r s.space) (note_of kd b)
           → PrioHears s.space (after_record w number p r (records.Told (note_of kd b))) n
           (with_base v (took_over v.base (record { state = Work None; sections = c.base.sections; work = c.base.work }) held.ctx.base).user)
-          (put (put cs n.0 (Some (record { base = (took_over v.base (record { state = Work None; sections = c.base.sections; work = c.base.work }) held.ctx.base).ctx; urge = false }))) b.0 None)
+          (put (put cs n.0 (Some
+          (record {
+            base = (took_over v.base (record { state = Work None; sections = c.base.sections; work = c.base.work }) held.ctx.base).ctx;
+            urge = false;
+          }))) b.0 None)
       over kd mine o has =
           let same : o.stopped ≡ held = sym (same_Some held o.stopped o.is) in
           tells-by w s e r v cs p n c.base.sections c.base.work number b life held.ctx h k mine upped there

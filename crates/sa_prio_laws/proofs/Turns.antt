@@ -1,7 +1,7 @@
 -- A step that asks for nothing: from what it does to FastThreads' part, and its rules, to the law of the composition.
 use Rattle.std.proofs.Common.{◌≡◌, ◌≢◌, ℕ, ◌<◌, Bool, true, false, ◌||◌, ◌&&◌, List, [], ◌∷◌, ◌++◌, All, length, Option, Some, None, slice_index, slice_index_or, length-set, refl, sym, ap, ◌∙◌, subst, inl, inr, arith}
 use Rattle.std.specs.Prelude.{if◌then◌else◌, min}
-use Rattle.std.proofs.lemmas.Bool.{cases_eq}
+use Rattle.std.proofs.lemmas.Bool.{cases_eq, and_parts}
 use Rattle.std.proofs.lemmas.List.{get_or-set_same, get_or-set_other}
 use Rattle.std.proofs.lemmas.List.Folds.{list_any-append}
 use Rattle.std.proofs.lemmas.Option.{same_Some}
@@ -58,7 +58,7 @@ use Rattle.sa_prio_model.specs.Stands.{bases}
 use Rattle.sa_prio_model.specs.Step.{prio_calls}
 use Rattle.sa_prio_model.specs.Urge.{marked, came_out}
 use Rattle.sa_prio_model.specs.declared.context.PrioContext.{PrioContext}
-use Rattle.sa_prio_fits.proofs.Fresh.{fresh-when, settles-scans, came-outside, came-first}
+use Rattle.sa_prio_fits.proofs.Fresh.{fresh-when, settles-scans, came-outside}
 use Rattle.sa_prio_fits.proofs.Pairs.{IsNear, SeesLines, pairs-alike}
 use Rattle.sa_prio_fits.specs.Fits.{is_fresh, prio_view, prio_fits, KeepsOn}
 use Rattle.sa_prio_fits.specs.Ready.{FitsRanked}
@@ -84,8 +84,9 @@ pub or-alike : (b x y : Bool) → (b ≡ false → x ≡ y) → (b || x) ≡ (b 
 or-alike true x y same = refl
 or-alike false x y same = same refl
 
--- what is known behind the records and the closing
-pub record IsBehind (set : Setting) (n : ℕ) (u : Package) (ds : Contexts Context) (a : ActNo) (new : Context) (now : Life) (seen : Seen) (q last : Readings) : Type 0 where
+-- what is known after the records and the closing
+pub record IsBehind (set : Setting) (n : ℕ) (u : Package) (ds : Contexts Context) (a : ActNo) (new : Context) (now : Life) (seen : Seen)
+    (q last : Readings) : Type 0 where
   pub stands : IsStanding set n u ds
   pub holds : Holds set.space last u ds
   pub mine : ds a.0 ≡ Some new
@@ -131,7 +132,7 @@ module _ (set : Setting) (e : ℕ) (v : Prio) (cs : Contexts PrioContext) (w : W
     abbrev ds : Contexts Context
     ds = put (bases cs) a.0 (Some new)
 
-    -- the value and the context behind it
+    -- the value and the context after it
     abbrev pub after_value : Prio
     after_value = with_on (with_base v u) seen.proc (carried_by new.state)
 
@@ -149,19 +150,21 @@ module _ (set : Setting) (e : ℕ) (v : Prio) (cs : Contexts PrioContext) (w : W
 
     turn-holds : Holds set.space q u ds
     turn-holds = held-holds set e v.base (bases cs) i.stands.base set.space r0
-        (begun-holds set.space r v.base (bases cs) w (record { number = seen.event; proc = p; records = [] }) i.holds) a c.base (base-is cs a.0 c i.on.mine) q u new t.held
+        (begun-holds set.space r v.base (bases cs) w (record { number = seen.event; proc = p; records = [] }) i.holds) a c.base
+        (base-is cs a.0 c i.on.mine) q u new t.held
 
     run-same : (y : ProcNo) → running_of q y ≡ running_of r y
     run-same y = ap (λ ps. slice_index_or ps y.0 None) t.held.running
 
-    -- on each processor stands the thread that its life's context carries
+    -- on each processor is the thread that its life's context carries
     keeps : KeepsOn q after_value es
     keeps y b d at mine = elim (cases_eq b.0 a.0) [
       | inl same ↦
           let act : b ≡ a = ap (λ n. record { 0 = n }) same in
           let here : y ≡ p = i.moment.apart y p a (sym (run-same y) ∙ at ∙ ap Some act) i.on.runs in
           let ctx : after_context ≡ d = same_Some after_context d (sym (put-same cs a.0 (Some after_context)) ∙ sym (ap es same) ∙ mine) in
-          ap (λ (z : ProcNo). on_at (with_on v z (carried_by new.state)) y.0) i.sees.proc ∙ ap (λ (z : ProcNo). on_at (with_on v p (carried_by new.state)) z.0) here
+          ap (λ (z : ProcNo). on_at (with_on v z (carried_by new.state)) y.0) i.sees.proc
+          ∙ ap (λ (z : ProcNo). on_at (with_on v p (carried_by new.state)) z.0) here
           ∙ get_or-set_same v.on p.0 (carried_by new.state) None inside ∙ ap (λ (z : PrioContext). carried_by z.base.state) ctx
       | inr ne ↦
           let there : y.0 ≢ p.0 = λ same. ne (ap (λ (z : ActNo). z.0)
@@ -211,7 +214,7 @@ module _ (set : Setting) (e : ℕ) (v : Prio) (cs : Contexts PrioContext) (w : W
       same-line : (y : ProcNo) → line_of q y ≡ line_of r0 y
       same-line y = ap (λ ls. slice_index_or ls y.0 None) t.lines
 
-    -- the pairs that it sees are those behind its records
+    -- the pairs that it sees are those after its records
     pairs : prio_pair after_value seen ≡ has_pair w q set.space
     pairs = pairs-alike set seen.event after_value es (subst (IsStanding set seen.event u) (sym bases-es) t.stands) r0 moment0 q near seen lines-seen
         (subst (Holds set.space q u) (sym bases-es) turn-holds) (ready_of q set.space) t.ranked keeps w
@@ -260,30 +263,41 @@ module _ (set : Setting) (e : ℕ) (v : Prio) (cs : Contexts PrioContext) (w : W
             let ended = after_event is_inside_or_urged w r ev in
             let flag = settles r last x in
             let entry : has_entry ev.records ≡ false =
-            ap (λ z. begins_entry x || z) (list_any-append is_of_entry (x ∷ xs) closing ∙ ap (λ z. list_any is_of_entry (x ∷ xs) || z) (closing-entry closing closed.closes))
+            ap (λ z. begins_entry x || z)
+            (list_any-append is_of_entry (x ∷ xs) closing ∙ ap (λ z. list_any is_of_entry (x ∷ xs) || z) (closing-entry closing closed.closes))
             ∙ or-none (begins_entry x) (list_any is_of_entry (x ∷ xs)) t.no_entry in
             let at_q : settling w r ev last ≡ q =
             ap (λ z. if z then last else behind w ev r (own_part ev.records)) entry ∙ ap (behind w ev r) closed.is_own in
             let inside : is_inside_or_urged w r ev last flag l ≡ (stands_inside new.state || (came_out c.base.state new.state && prio_pair after_value seen)) =
             ap (λ z. z || (flag && has_pair w (settling w r ev last) l.space)) mark.inside
-            ∙ or-alike (stands_inside new.state) (flag && has_pair w (settling w r ev last) l.space) (came_out c.base.state new.state && prio_pair after_value seen)
+            ∙ or-alike (stands_inside new.state) (flag && has_pair w (settling w r ev last) l.space)
+            (came_out c.base.state new.state && prio_pair after_value seen)
             (λ out. ap (λ z. z && has_pair w (settling w r ev last) l.space) (t.settled last b.state out)
             ∙ ap (λ z. came_out c.base.state new.state && z) (ap (λ y. has_pair w y l.space) at_q ∙ ap (has_pair w q) b.of ∙ sym pairs)) in
             let came = came_out c.base.state new.state in
             let looks : came ≡ true → looks_of new.state ≡ 0 =
-            (λ is. sym mark.scans ∙ ap (λ k. min k MAX_PATIENCE) (settles-scans r last x l.scans (t.settled last b.state (came-outside c.base.state new.state is) ∙ is))) in
+            (λ is. sym mark.scans
+            ∙ ap (λ k. min k MAX_PATIENCE) (settles-scans r last x l.scans (t.settled last b.state (came-outside c.base.state new.state is) ∙ is))) in
             let fresh : is_fresh (came && prio_pair after_value seen) (looks_of new.state) ≡ true =
-            fresh-when (came && prio_pair after_value seen) (looks_of new.state) (λ is. looks (came-first came (prio_pair after_value seen) is)) in
+            fresh-when (came && prio_pair after_value seen) (looks_of new.state) (λ is. looks (and_parts came (prio_pair after_value seen) is).0) in
             let others = others-rest prio_view set.space r last a cs es (λ y ne. put-other cs a.0 y.0 (Some after_context) ne)
             (λ y ne. ap (λ (f : ℕ → Option Life). f y.0) (same.kernel.lives ∙ t.held.lives) ∙ put-other r.lives a.0 y.0 (Some t.held.life) ne)
             (λ y z ne. alike-stage set.space q last same.kernel y z ∙ stage-kept y z) i.others in
             record {
               lives = subst (λ bs. LivesFit prio_view set.space ended u bs es) (sym bases-es)
                   (ended-fits a w r ev i.on.runs last l b.there x (xs ++ closing) refl t.ruled.step
-                  (list_any-append is_up (x ∷ xs) closing ∙ ap (λ z. list_any is_up (x ∷ xs) || z) (closing-ups closing closed.closes) ∙ ap (λ z. z || false) t.no_up)
+                  (list_any-append is_up (x ∷ xs) closing ∙ ap (λ z. list_any is_up (x ∷ xs) || z) (closing-ups closing closed.closes)
+                  ∙ ap (λ z. z || false) t.no_up)
                   is_inside_or_urged prio_view set.space u ds es new after_context b.holds b.mine (put-same cs a.0 (Some after_context)) others
                   (record {
-                    marks = record { inside = inside; back = mark.back; scans = mark.scans; left = mark.left; lone = ap (λ z. z && is_lone new.state new.sections) fresh ∙ mark.lone };
+                    marks =
+                        record {
+                          inside = inside;
+                          back = mark.back;
+                          scans = mark.scans;
+                          left = mark.left;
+                          lone = ap (λ z. z && is_lone new.state new.sections) fresh ∙ mark.lone;
+                        };
                     idle = λ no. absurd (let yes : is_running (stage_of last set.space a l) ≡ true = ap is_running b.stage in cc);
                   }));
               ranked = subst (FitsRanked u) (sym (ap (λ ls. slice_index_or ls set.space.0 []) same.kernel.ready)) t.ranked;

@@ -42,7 +42,8 @@ nobody-outranked v seen q none =
       by None = refl
       by (Some best) = low (bit_at seen.low q.0 == 1)
 
-module _ (set : Setting) (e : ℕ) (v : Prio) (cs : Contexts PrioContext) (w : WorkloadView) (r : Readings) (p : ProcNo) (a : ActNo) (life : Life) (seen : Seen) where
+module _ (set : Setting) (e : ℕ) (v : Prio) (cs : Contexts PrioContext) (w : WorkloadView) (r : Readings) (p : ProcNo) (a : ActNo) (life : Life)
+    (seen : Seen) where
   pub urged-legal : (state : State) → is_out state ≡ true
       → IsPrioScene set e v cs w r p a life (record { base = record { state = state; sections = []; work = None }; urge = true }) seen
       → (outranked v seen seen.proc ≡ None → lowest v seen ≡ None
@@ -51,11 +52,15 @@ module _ (set : Setting) (e : ℕ) (v : Prio) (cs : Contexts PrioContext) (w : W
       → IsLegalStep prio_calls prio_threads prio_fits w set r p seen.event a cs (urged v seen (record { state = state; sections = []; work = None }))
   urged-legal state out i calm = by (outranked v seen seen.proc) refl (lowest v seen) refl where
     on : on_at v seen.proc.0 ≡ carried_by state
-    on = ap (λ (z : ProcNo). on_at v z.0) i.sees.proc ∙ i.kept p a (record { base = record { state = state; sections = []; work = None }; urge = true }) i.on.runs i.on.mine
+    on =
+        ap (λ (z : ProcNo). on_at v z.0) i.sees.proc
+        ∙ i.kept p a (record { base = record { state = state; sections = []; work = None }; urge = true }) i.on.runs i.on.mine
 
-    way : (x : State) → is_out x ≡ true → IsPrioScene set e v cs w r p a life (record { base = record { state = x; sections = []; work = None }; urge = true }) seen
+    way : (x : State) → is_out x ≡ true
+        → IsPrioScene set e v cs w r p a life (record { base = record { state = x; sections = []; work = None }; urge = true }) seen
         → on_at v seen.proc.0 ≡ carried_by x → (rank : ℕ) → outranked v seen seen.proc ≡ Some rank → (other : Option Outranked)
-        → IsLegalStep prio_calls prio_threads prio_fits w set r p seen.event a cs (urged_by v seen (record { state = x; sections = []; work = None }) (Some rank) other)
+        → IsLegalStep prio_calls prio_threads prio_fits w set r p seen.event a cs
+        (urged_by v seen (record { state = x; sections = []; work = None }) (Some rank) other)
     way (User t) out i on rank is other = gives_way-legal set e v cs w r p a life t seen i rank is
     way (Look looks) out i on rank is other = absurd (none-some rank (sym (nobody-outranked v seen seen.proc on) ∙ is))
     way (Code f) out i on rank is other = absurd cc
@@ -66,13 +71,23 @@ module _ (set : Setting) (e : ℕ) (v : Prio) (cs : Contexts PrioContext) (w : W
     by : (own : Option ℕ) → outranked v seen seen.proc ≡ own → (other : Option Outranked) → lowest v seen ≡ other
         → IsLegalStep prio_calls prio_threads prio_fits w set r p seen.event a cs (urged v seen (record { state = state; sections = []; work = None }))
     by (Some rank) is other found =
-        subst (λ (o : Option ℕ). IsLegalStep prio_calls prio_threads prio_fits w set r p seen.event a cs (urged_by v seen (record { state = state; sections = []; work = None }) o (lowest v seen)))
+        subst
+        (λ (o : Option ℕ). IsLegalStep prio_calls prio_threads prio_fits w set r p seen.event a cs
+        (urged_by v seen (record { state = state; sections = []; work = None }) o (lowest v seen)))
         (sym is) (way state out i on rank is (lowest v seen))
     by None is (Some other) found =
-        subst (λ (o : Option ℕ). IsLegalStep prio_calls prio_threads prio_fits w set r p seen.event a cs (urged_by v seen (record { state = state; sections = []; work = None }) o (lowest v seen)))
-        (sym is) (subst (λ (o : Option Outranked). IsLegalStep prio_calls prio_threads prio_fits w set r p seen.event a cs (urged_by v seen (record { state = state; sections = []; work = None }) None o))
+        subst
+        (λ (o : Option ℕ). IsLegalStep prio_calls prio_threads prio_fits w set r p seen.event a cs
+        (urged_by v seen (record { state = state; sections = []; work = None }) o (lowest v seen)))
+        (sym is)
+        (subst (λ (o : Option Outranked). IsLegalStep prio_calls prio_threads prio_fits w set r p seen.event a cs
+        (urged_by v seen (record { state = state; sections = []; work = None }) None o))
         (sym found) (interrupts-legal set e v cs w r p a life state out seen i is other found))
     by None is None found =
-        subst (λ (o : Option ℕ). IsLegalStep prio_calls prio_threads prio_fits w set r p seen.event a cs (urged_by v seen (record { state = state; sections = []; work = None }) o (lowest v seen)))
-        (sym is) (subst (λ (o : Option Outranked). IsLegalStep prio_calls prio_threads prio_fits w set r p seen.event a cs (urged_by v seen (record { state = state; sections = []; work = None }) None o))
+        subst
+        (λ (o : Option ℕ). IsLegalStep prio_calls prio_threads prio_fits w set r p seen.event a cs
+        (urged_by v seen (record { state = state; sections = []; work = None }) o (lowest v seen)))
+        (sym is)
+        (subst (λ (o : Option Outranked). IsLegalStep prio_calls prio_threads prio_fits w set r p seen.event a cs
+        (urged_by v seen (record { state = state; sections = []; work = None }) None o))
         (sym found) (calm is found))

@@ -45,7 +45,8 @@ use Rattle.sa_prio_laws.proofs.Moves.{base-scene, move-legal}
 use Rattle.sa_prio_laws.proofs.Scenes.{IsPrioScene}
 use Rattle.sa_prio_laws.proofs.Unbound.{IsUnbound, is-free, is-unurged}
 
-outs-state : (w : WorkloadView) (n : ℕ) (p : ProcNo) (q : Readings) (s : SpaceNo) (t : ThreadNo) (o : Option ℕ) → (after_records w n p q (outs s t o)).state ≡ q.state
+outs-state : (w : WorkloadView) (n : ℕ) (p : ProcNo) (q : Readings) (s : SpaceNo) (t : ThreadNo) (o : Option ℕ)
+    → (after_records w n p q (outs s t o)).state ≡ q.state
 outs-state w n p q s t None = refl
 outs-state w n p q s t (Some m) = refl
 
@@ -55,7 +56,8 @@ goes-out t None out = refl
 goes-out t (Some first) out = absurd cc
 
 -- once its thread has left it comes to a look, where nothing else is left
-leaves-out : (t : ThreadNo) (left owes bulk : Bool) → stands_inside (settled_to None left owes bulk) ≡ false → true ≡ came_out (User t) (settled_to None left owes bulk)
+leaves-out : (t : ThreadNo) (left owes bulk : Bool) → stands_inside (settled_to None left owes bulk) ≡ false
+    → true ≡ came_out (User t) (settled_to None left owes bulk)
 leaves-out t true owes bulk out = absurd cc
 leaves-out t false true bulk out = absurd cc
 leaves-out t false false true out = absurd cc
@@ -122,7 +124,8 @@ module _ (set : Setting) (e : ℕ) (v : Prio) (cs : Contexts PrioContext) (w : W
           };
           ranked = ranked same.0 same.1;
           settled = λ last state outside.
-              ap (λ y. not (stays_on (thread_at y set.space t).place)) (state ∙ outs-state w seen.event p (after_record w seen.event p r0 x) set.space t (out_of b j))
+              ap (λ y. not (stays_on (thread_at y set.space t).place))
+              (state ∙ outs-state w seen.event p (after_record w seen.event p r0 x) set.space t (out_of b j))
               ∙ ap (λ z. not (stays_on z)) ran ∙ goes-out t o.work outside;
         })
 
@@ -134,7 +137,8 @@ module _ (set : Setting) (e : ℕ) (v : Prio) (cs : Contexts PrioContext) (w : W
         let between = settled_between None (is_some o.work) (is_some (owed u seen)) (has_bulk seen) in
         let gone = (ins set e v.base (bases cs) w r p a life seen t scene calm state between.section
         (settled-copy None (is_some o.work) (is_some (owed u seen)) (has_bulk seen)) (inr (leaves, between.carries))
-        (ap (λ z. used_by u seen (record { state = User t; sections = []; work = o.work }) t z (run_says v.base.def seen.pages v.base.shared t)) leaves)).leaves leaves in
+        (ap (λ z. used_by u seen (record { state = User t; sections = []; work = o.work }) t z
+        (run_says v.base.def seen.pages v.base.shared t)) leaves)).leaves leaves in
         move-legal set e v cs w r p a life c seen i x xs u _ m (record {
           ruled = record {
             step = refl;
@@ -147,12 +151,14 @@ module _ (set : Setting) (e : ℕ) (v : Prio) (cs : Contexts PrioContext) (w : W
           };
           ranked = ranked same.0 same.1;
           settled = λ last state outside.
-              ap (λ y. not (stays_on (thread_at y set.space t).place)) (state ∙ outs-state w seen.event p (after_record w seen.event p r0 x) set.space t (out_of b j))
+              ap (λ y. not (stays_on (thread_at y set.space t).place))
+              (state ∙ outs-state w seen.event p (after_record w seen.event p r0 x) set.space t (out_of b j))
               ∙ ap not gone ∙ leaves-out t (is_some o.work) (is_some (owed u seen)) (has_bulk seen) outside;
         })
 
   -- ALL OF THEM, but one that blocks
-  pub instr-legal : IsUnbound w r life → ((length : ℕ) (page : Option ℕ) → (run v.base.def v.base.fetch seen.pages v.base.shared None t).answer ≡ rans.Blocks length page
+  pub instr-legal : IsUnbound w r life
+      → ((length : ℕ) (page : Option ℕ) → (run v.base.def v.base.fetch seen.pages v.base.shared None t).answer ≡ rans.Blocks length page
       → IsLegalStep prio_calls prio_threads prio_fits w set r p seen.event a cs (goes v seen (record { state = User t; sections = []; work = None })))
       → IsLegalStep prio_calls prio_threads prio_fits w set r p seen.event a cs (goes v seen (record { state = User t; sections = []; work = None }))
   instr-legal out blocks = ins-cases set e v.base (bases cs) w r p a life seen t scene Legal

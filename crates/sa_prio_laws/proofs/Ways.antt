@@ -1,4 +1,4 @@
--- A running thread gives way: what holds behind that.
+-- A running thread gives way: what holds after that.
 use Rattle.std.proofs.Common.{◌≡◌, ℕ, ◌+◌, ◌≤◌, ◌<◌, Bool, true, false, ◌||◌, [], length, Some, None, refl, sym, ap, ◌∙◌, inl, inr, arith}
 use Rattle.std.proofs.lemmas.Bool.{cases_eq, cases_lt}
 use Rattle.sa_base.specs.declared.number.ActNo.{ActNo}
@@ -46,7 +46,7 @@ module _ (set : Setting) (e : ℕ) (u : Package) (cs : Contexts Context) (h : Is
   abbrev c : Context
   c = record { state = User t; sections = []; work = None }
 
-  -- behind it the thread is alone in its context's work list
+  -- after it the thread is alone in its context's work list
   abbrev pub gone_way : Context
   gone_way = record { state = Work None; sections = []; work = Some t }
 
@@ -127,7 +127,8 @@ module _ (set : Setting) (e : ℕ) (u : Package) (cs : Contexts Context) (h : Is
   way-programs n = elim (cases_eq n.0 t.0) [
     | inl same ↦
         ap (λ m. (block_at way_package.shared.threads m).program) same
-        ∙ ap (λ (b : Block). b.program) (block-here u.shared t fast.Carried (let less = own_below set e u cs h a.0 c is t.0 (let all = split u.shared.works c t.0 in
+        ∙ ap (λ (b : Block). b.program)
+        (block-here u.shared t fast.Carried (let less = own_below set e u cs h a.0 c is t.0 (let all = split u.shared.works c t.0 in
         let one : one_of (Some t) t.0 ≡ 1 = one_same t.0 t.0 refl in omega arith) in let blocks = h.parts.blocks in omega arith))
         ∙ sym (ap (λ m. (block_at u.shared.threads m).program) same)
     | inr ne ↦ ap (λ (b : Block). b.program) (block-there u.shared t fast.Carried n.0 ne)

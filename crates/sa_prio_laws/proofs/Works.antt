@@ -123,7 +123,8 @@ module _ (set : Setting) (e : ℕ) (v : Prio) (cs : Contexts PrioContext) (w : W
       })
 
   -- with a thread to make ready it takes the list or spins
-  pub push-legal : IsLegalStep prio_calls prio_threads prio_fits w set r p seen.event a cs (goes v seen (record { state = Work t; sections = []; work = Some one }))
+  pub push-legal : IsLegalStep prio_calls prio_threads prio_fits w set r p seen.event a cs
+      (goes v seen (record { state = Work t; sections = []; work = Some one }))
   push-legal = by (is_locked v.base.shared.state.lists (own_list v.base seen.proc).0) refl where
     by : (b : Bool) → is_locked v.base.shared.state.lists (own_list v.base seen.proc).0 ≡ b
         → IsLegalStep prio_calls prio_threads prio_fits w set r p seen.event a cs (goes v seen (record { state = Work t; sections = []; work = Some one }))
@@ -134,7 +135,8 @@ module _ (set : Setting) (e : ℕ) (v : Prio) (cs : Contexts PrioContext) (w : W
 module _ (set : Setting) (e : ℕ) (v : Prio) (cs : Contexts PrioContext) (w : WorkloadView) (r : Readings) (p : ProcNo) (a : ActNo) (life : Life)
     (seen : Seen) (f : Frame) (fs : List Frame) (wk : Option ThreadNo)
     (i : IsPrioScene set e v cs w r p a life (record { base = record { state = Work None; sections = f ∷ fs; work = wk }; urge = false }) seen) where
-  pub cont-legal : IsLegalStep prio_calls prio_threads prio_fits w set r p seen.event a cs (goes v seen (record { state = Work None; sections = f ∷ fs; work = wk }))
+  pub cont-legal : IsLegalStep prio_calls prio_threads prio_fits w set r p seen.event a cs
+      (goes v seen (record { state = Work None; sections = f ∷ fs; work = wk }))
   cont-legal =
       let c : Context = record { state = Work None; sections = f ∷ fs; work = wk } in
       let base = base-scene set e v cs w r p a life c seen i in
@@ -146,7 +148,9 @@ module _ (set : Setting) (e : ℕ) (v : Prio) (cs : Contexts PrioContext) (w : W
         ruled = record {
           step = refl;
           table = refl;
-          keeps = keeps-with w now p life x (cont-keeps set e v.base (bases cs) i.stands.base set.space now k a f fs wk (base-is cs a.0 _ i.on.mine) w seen.event p life
+          keeps =
+              keeps-with w now p life x
+              (cont-keeps set e v.base (bases cs) i.stands.base set.space now k a f fs wk (base-is cs a.0 _ i.on.mine) w seen.event p life
               i.on.runs i.on.is i.on.space (scene.known set e v.base (bases cs) w r p a life c seen base)) m.back;
           alone = refl;
           free = record { free = λ bound. absurd cc };

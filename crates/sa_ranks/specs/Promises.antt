@@ -1,5 +1,6 @@
 -- What priorities are for, as a definition: after an event, where nothing is under way in a space that will serve a pair,
--- no ready thread of it outranks a running one. That each run by these rules is so is not proved here.
+-- no ready thread of it outranks a running one. That it holds in each legal run is proved in sa_ranks_legal
+-- (`legal_runs_outrank_nobody`).
 use Rattle.std.specs.Prelude.{◌≡◌, ℕ, ◌≤◌, ◌<◌, ◌⊎◌, false, true, [], Some, None, List, length}
 use Rattle.std.specs.List.{list_any}
 use Rattle.sa_base.specs.declared.number.ProcNo.{ProcNo}

@@ -1,27 +1,24 @@
 -- The records of an event of the package with thread priorities: what each may do to lives, and their parts.
-use Rattle.std.proofs.Common.{◌≡◌, ℕ, zero, suc, ◌≤◌, inl, inr, refl, sym, ◌∙◌, ap, subst, arith, Some, None, List, [], ◌∷◌, ◌++◌, map, true, false}
+use Rattle.std.proofs.Common.{◌≡◌, ℕ, zero, suc, ◌≤◌, inl, inr, refl, sym, ◌∙◌, ap, subst, arith, Some, None, List, [], ◌∷◌, ◌++◌, true, false}
 use Rattle.std.specs.Prelude.{Option, Bool, is_some, take_while}
 use Rattle.std.specs.List.{prefix_len}
-use Rattle.sa_base.specs.declared.number.SpaceNo.{SpaceNo}
 use Rattle.sa_base.specs.declared.number.ProcNo.{ProcNo}
 use Rattle.sa_base.specs.declared.record.Record.{Record}
 use Rattle.sa_base.specs.declared.record.Record.TheVariants.{Ins, Stop, Block, Unblock, Up, Told, Move, Want, Aim, Line, Fetch, GiveBack}
 use Rattle.sa_spaces.specs.Workload.{WorkloadView}
-use Rattle.sa_assign.specs.Aims.{Change}
-use Rattle.sa_assign.specs.Reaim.{records_of, line_at, lines_with, line_records, proc_no}
 use Rattle.sa_laws.specs.Event.{Event}
-use Rattle.sa_laws.specs.Readings.{Readings, opening_readings, line_of}
+use Rattle.sa_laws.specs.Readings.{Readings, line_of}
 use Rattle.sa_laws.specs.Record.{after_record}
-use Rattle.sa_laws.specs.History.{begun, after_records, is_step}
+use Rattle.sa_laws.specs.History.{begun, is_step}
 use Rattle.sa_laws.specs.Shape.{own_part, closing_part, is_own}
 use Rattle.sa_laws.specs.Step.{Needs, AreSteps}
 use Rattle.sa_laws.specs.Upcalls.{EachRecord, NamesTheLife, TellsAllThen, TellsOnce}
-use Rattle.sa_laws.specs.Closing.{spaces_of, want_one, aims_due}
-use Rattle.sa_laws.specs.Opening.{first_wants, opening_records}
+use Rattle.sa_laws.specs.Opening.{opening_records}
 use Rattle.sa_laws.specs.Turns.{IsClosing, AreTold, IsTurn}
 use Rattle.sa_laws.specs.Rules.{IsLawful}
 use Rattle.sa_legal.proofs.StandingLemmas.{space_of}
 use Rattle.sa_legal.proofs.ShapeLemmas.{is_telling, parts-take}
+use Rattle.sa_legal.proofs.MovesLemmas.{calm-opening}
 use Rattle.sa_legal_readings.proofs.FormLemmas.{Turning, AllQuiet, quiet-append, closing-quiet}
 use Rattle.sa_ranks.specs.Rules.{prio_threads}
 use Rattle.sa_ranks.specs.Steps.{IsRankedStep}
@@ -39,28 +36,7 @@ abbrev pub AreCalm : List Record → Type 0
 AreCalm [] = Unit {0}
 AreCalm (x ∷ xs) = (is_calm x ≡ true) × AreCalm xs
 
-calm-append : (xs ys : List Record) → AreCalm xs → AreCalm ys → AreCalm (xs ++ ys)
-calm-append [] ys left right = right
-calm-append (x ∷ xs) ys left right = (left.0, calm-append xs ys left.1 right)
-
-calm-wants : (spaces : List SpaceNo) → AreCalm (map want_one spaces)
-calm-wants [] = tt
-calm-wants (s ∷ ss) = (refl, calm-wants ss)
-
-calm-line : (p : ℕ) (line : Option ℕ) → AreCalm (line_records p line)
-calm-line p None = (refl, tt)
-calm-line p (Some e) = tt
-
-calm-aims : (e : ℕ) (lines : List (Option ℕ)) (cs : List Change) → AreCalm (records_of e lines cs)
-calm-aims e lines [] = tt
-calm-aims e lines (c ∷ cs) = (refl, calm-append (line_records c.proc (line_at lines c.proc)) (records_of e (lines_with e lines c) cs) (calm-line c.proc (line_at lines c.proc)) (calm-aims e (lines_with e lines c) cs))
-
-pub calm-opening : (w : WorkloadView) → AreCalm (opening_records w)
-calm-opening w =
-    let wanting = after_records w 0 (proc_no 0) (opening_readings w) (first_wants w) in
-    calm-append (first_wants w) (records_of 0 wanting.lines (aims_due w 0 wanting)) (calm-wants (spaces_of w)) (calm-aims 0 wanting.lines (aims_due w 0 wanting))
-
--- told records stand behind an up or another told record
+-- told records come after an up or another told record
 abbrev pub AfterUps : Option Record → List Record → Type 0
 AfterUps last [] = Unit {0}
 AfterUps last (Told n ∷ xs) = (is_telling last ≡ true) × AfterUps (Some (Told n)) xs
@@ -117,7 +93,8 @@ moves-each w e p r (x ∷ xs) last is fit named tells once steps = (
   moves-each w e p (after_record w e p r x) xs (Some x) refl (later-told last x xs fit) named.1 tells.1 once.1 steps.1,
 )
 
-pub event-goes : (w : WorkloadView) (r : Readings) (e : Event) → IsLawful prio_threads w r e → AfterUps None e.records → Goes w e.number e.proc (begun w e r) e.records
+pub event-goes : (w : WorkloadView) (r : Readings) (e : Event) → IsLawful prio_threads w r e → AfterUps None e.records
+    → Goes w e.number e.proc (begun w e r) e.records
 event-goes w r e law fit = record {
   moves = moves-each w e.number e.proc (begun w e r) e.records None refl fit law.where_owned.named law.all_told.told law.at_most_once.told law.step_taken.steps;
   tells = law.all_told.told;
@@ -135,11 +112,12 @@ pub record InForm (w : WorkloadView) (r : Readings) (e : Event) : Type 0 where
   pub low : is_some (line_of r e.proc) ≡ true → Turning (first ∷ own) × (is_step first ≡ false)
   pub closes : IsClosing closing
 
-interrupts : (w : WorkloadView) (r : Readings) (p : ProcNo) (e : ℕ) (b : Bool) (x : Record) (ys : List Record) → IsTurn IsRankedStep b e w r p (x ∷ ys) → b ≡ true → Turning (x ∷ ys) × (is_step x ≡ false)
+interrupts : (w : WorkloadView) (r : Readings) (p : ProcNo) (e : ℕ) (b : Bool) (x : Record) (ys : List Record) → IsTurn IsRankedStep b e w r p (x ∷ ys)
+    → b ≡ true → Turning (x ∷ ys) × (is_step x ≡ false)
 interrupts w r p e false x ys is raised = absurd (cc)
-interrupts w r p e true (Stop u t a) ys is raised = ((Rattle.sa_ranks_legal.proofs.Forms.interrupt-form (Stop u t a) ys is).0, refl)
-interrupts w r p e true (Up u a) ys is raised = ((Rattle.sa_ranks_legal.proofs.Forms.interrupt-form (Up u a) ys is).0, refl)
-interrupts w r p e true (Move old new) ys is raised = ((Rattle.sa_ranks_legal.proofs.Forms.interrupt-form (Move old new) ys is).0, refl)
+interrupts w r p e true (Stop u t a) ys is raised = ((Rattle.sa_legal_readings.proofs.FormLemmas.interrupt-form (Stop u t a) ys is).0, refl)
+interrupts w r p e true (Up u a) ys is raised = ((Rattle.sa_legal_readings.proofs.FormLemmas.interrupt-form (Up u a) ys is).0, refl)
+interrupts w r p e true (Move old new) ys is raised = ((Rattle.sa_legal_readings.proofs.FormLemmas.interrupt-form (Move old new) ys is).0, refl)
 interrupts w r p e true x ys is raised = absurd (is)
 
 pub in-form : (w : WorkloadView) (r : Readings) (e : Event) → IsLawful prio_threads w r e → 1 ≤ e.number → InForm w r e
@@ -162,7 +140,8 @@ in-form w r e law from = one e.records refl where
         closes = subst (λ ys. IsClosing (closing_part ys)) is (turns.closing from);
       }
 
-form-told : (w : WorkloadView) (r : Readings) (p : ProcNo) (x : Record) (ys cs : List Record) → Rattle.sa_ranks_legal.proofs.Forms.Formed w r p x ys → IsClosing cs → AfterUps None (x ∷ (ys ++ cs))
+form-told : (w : WorkloadView) (r : Readings) (p : ProcNo) (x : Record) (ys cs : List Record) → Rattle.sa_ranks_legal.proofs.Forms.Formed w r p x ys
+    → IsClosing cs → AfterUps None (x ∷ (ys ++ cs))
 form-told w r p x ys cs (inl turns) closes = turning-told None (x ∷ ys) cs turns.0 (closing-quiet cs closes)
 form-told w r p x ys cs (inr (inl calm)) closes =
     quiet-told None (x ∷ (ys ++ cs)) (calm.quiet, subst (λ zs. AllQuiet (zs ++ cs)) (sym calm.alone) (closing-quiet cs closes))

@@ -15,9 +15,10 @@ use Rattle.sa_sync.specs.declared.answer.SyncAnswer.TheVariants as answer
 use Rattle.sa_sync.specs.Calls.{Change}
 use Rattle.sa_laws.specs.declared.place.Place.{Place}
 use Rattle.sa_laws.specs.declared.place.Place.TheVariants as place
-use Rattle.sa_laws.specs.State.{State, SpaceState, Thread, space_at, with_space, with_thread, thread_in, thread_at, put_thread, placed_if, is_active, next_instr, at_start}
+use Rattle.sa_laws.specs.State.{State, SpaceState, Thread, space_at, with_space, with_thread, thread_in, put_thread, placed_if, is_active, next_instr, at_start}
 use Rattle.sa_laws.specs.Effect.{effect, effect_of, answered, sync_effect, fork_effect, next_with, with_sync}
 use Rattle.sa_laws.specs.Machine.{changed, next_effect}
+use Rattle.sa_legal_readings.proofs.PassLemmas.{at-space}
 
 abbrev pub nobody : Thread
 nobody = at_start 0 place.Done
@@ -27,7 +28,7 @@ abbrev pub FadesIn : List Thread → List Thread → Type 0
 FadesIn xs ys = (j : ℕ) (X : Place) → is_active X ≡ true → (get_or ys j nobody).place ≡ X
     → ((get_or xs j nobody).place ≡ X) × ((get_or xs j nobody).program ≡ (get_or ys j nobody).program)
 
--- a thread that stays where it is, or comes to stand neither ready nor running
+-- a thread that stays where it is, or comes where it is neither ready nor running
 pub record Stays (old new : Thread) : Type 0 where
   pub program : old.program ≡ new.program
   pub place : (old.place ≡ new.place) ⊎ (is_active new.place ≡ false)
@@ -64,7 +65,8 @@ Kept x y = FadesIn x.threads y.threads
 same : (x : SpaceState) (t : ThreadNo) (new : Thread) → (thread_in x t).program ≡ new.program → (thread_in x t).place ≡ new.place → Kept x (with_thread x t new)
 same x t new program stands = fades-set x.threads t.0 new (record { program = program; place = inl stands })
 
-ins-answered : (x : SpaceState) (t : ThreadNo) (thread : Thread) (change : Change) → (thread_in x t).program ≡ thread.program → (thread_in x t).place ≡ thread.place → Kept x (sync_effect x t thread change).space
+ins-answered : (x : SpaceState) (t : ThreadNo) (thread : Thread) (change : Change) → (thread_in x t).program ≡ thread.program
+    → (thread_in x t).place ≡ thread.place → Kept x (sync_effect x t thread change).space
 ins-answered x t thread change program stands = one change.answer where
   one : (a : SyncAnswer) → Kept x (answered (with_sync x change.state) t thread a).space
   one answer.Goes = same x t thread program stands
@@ -77,7 +79,8 @@ ins-forked x t reg k = one (nat_lt (length x.threads) Rattle.sa_base.specs.decla
   made = next_with (thread_in x t) reg (length x.threads)
 
   one : (b : Bool) → Kept x (if b
-      then effect (record (with_thread x t made) { threads = slice_set x.threads t.0 made ++ at_start k place.Waiting ∷ [] }) (record { 0 = length x.threads } ∷ [])
+      then effect (record (with_thread x t made) { threads = slice_set x.threads t.0 made ++ at_start k place.Waiting ∷ [] })
+      (record { 0 = length x.threads } ∷ [])
       else effect (with_thread x t (next_with (thread_in x t) reg (Rattle.std.specs.Prelude.◌-◌ (Rattle.std.specs.Prelude.◌^◌ 2 64) 1))) []).space
   one true =
       fades-more x.threads (slice_set x.threads t.0 made) (slice_set x.threads t.0 made ++ at_start k place.Waiting ∷ []) (same x t made refl refl)
@@ -106,15 +109,13 @@ no_threads = record { threads = []; sync = Rattle.sa_sync.specs.Sync.opening Rat
 abbrev pub Fades : SpaceNo → State → State → Type 0
 Fades s a b = Kept (space_at a s) (space_at b s)
 
-spaces-set : (xs : List SpaceState) (i j : ℕ) (x : SpaceState) → (i ≡ j → Kept (get_or xs j no_threads) x) → Kept (get_or xs j no_threads) (get_or (slice_set xs i x) j no_threads)
+spaces-set : (xs : List SpaceState) (i j : ℕ) (x : SpaceState) → (i ≡ j → Kept (get_or xs j no_threads) x)
+    → Kept (get_or xs j no_threads) (get_or (slice_set xs i x) j no_threads)
 spaces-set [] i j x kept = fades-self []
 spaces-set (y ∷ xs) zero zero x kept = kept refl
 spaces-set (y ∷ xs) zero (suc j) x kept = fades-self (get_or xs j no_threads).threads
 spaces-set (y ∷ xs) (suc i) zero x kept = fades-self y.threads
 spaces-set (y ∷ xs) (suc i) (suc j) x kept = spaces-set xs i j x (λ e. kept (ap suc e))
-
-at-space : (s u : SpaceNo) → u.0 ≡ s.0 → u ≡ s
-at-space s u e = ap (λ n. record { 0 = n }) e
 
 space-fades : (a : State) (s u : SpaceNo) (x : SpaceState) → (u ≡ s → Kept (space_at a u) x) → Fades s a (with_space a u x)
 space-fades a s u x kept = spaces-set a.spaces u.0 s.0 x (λ e. let one = at-space s u e in subst (λ (k : SpaceNo). Kept (space_at a k) x) one (kept one))

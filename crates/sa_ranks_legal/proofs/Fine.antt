@@ -24,7 +24,7 @@ use Rattle.sa_ranks.specs.Pairs.{has_pair}
 use Rattle.sa_ranks_legal.proofs.Places.{IsPlaced, NoPair, no-pair}
 use Rattle.sa_ranks_legal.proofs.Moving.{Held}
 use Rattle.std.proofs.lemmas.List.{get_or-set_same, get_or-set_other}
-use Rattle.std.proofs.lemmas.List.Elements.{Contains-append_right}
+use Rattle.std.proofs.lemmas.List.Elements.{Contains-push}
 use Rattle.sa_lemmas.proofs.FunctionUpdates.{put-at, put-other}
 use Rattle.sa_laws.specs.declared.place.Place.TheVariants as place
 
@@ -37,7 +37,7 @@ Untold r s = (n : Note) × (is_real n ≡ true) × Contains (untold_of r s) n
 abbrev pub Fine : Readings → (ℕ → Standing) → (ℕ → Option Life) → SpaceNo → Type 0
 Fine r st lives s = Within st lives s ⊎ (Untold r s ⊎ NoPair r s)
 
--- where pairs are looked for in an event, those that stand at its end are found
+-- where pairs are looked for in an event, those that exist at its end are found
 pub record Settles (w : WorkloadView) (r : Readings) (e : Event) (c : Readings) (s : SpaceNo) : Type 0 where
   pub placed : IsPlaced w (settling w r e c).state
   pub late : NoPair (settling w r e c) s → NoPair c s
@@ -46,13 +46,15 @@ or-right : (a b : Bool) → b ≡ true → (a || (true && b)) ≡ true
 or-right true b is = refl
 or-right false b is = is
 
-urged : (w : WorkloadView) (r : Readings) (e : Event) (c : Readings) (s : SpaceNo) (life : Life) → Settles w r e c s → life.space ≡ s → (is_inside_or_urged w r e c true life ≡ true) ⊎ NoPair c s
+urged : (w : WorkloadView) (r : Readings) (e : Event) (c : Readings) (s : SpaceNo) (life : Life) → Settles w r e c s → life.space ≡ s
+    → (is_inside_or_urged w r e c true life ≡ true) ⊎ NoPair c s
 urged w r e c s life settles_it of = one (has_pair w (settling w r e c) life.space) refl where
   one : (b : Bool) → has_pair w (settling w r e c) life.space ≡ b → (is_inside_or_urged w r e c true life ≡ true) ⊎ NoPair c s
   one true is = inl (or-right (is_inside w r e c true life) (has_pair w (settling w r e c) life.space) is)
   one false is = inr (settles_it.late (no-pair w (settling w r e c) s settles_it.placed (subst (λ k. has_pair w (settling w r e c) k ≡ false) of is)))
 
-up-fine : (w : WorkloadView) (r : Readings) (e : Event) (c : Readings) (s : SpaceNo) (st : ℕ → Standing) (lives : ℕ → Option Life) → Settles w r e c s → Within st lives s
+up-fine : (w : WorkloadView) (r : Readings) (e : Event) (c : Readings) (s : SpaceNo) (st : ℕ → Standing) (lives : ℕ → Option Life) → Settles w r e c s
+    → Within st lives s
     → Fine c st (with_up is_inside_or_urged w r e c lives) s
 up-fine w r e c s st lives here (a, life, is, of, inside, free) = one (list_any is_up e.records) where
   two : (o : Option ActNo) → Fine c st (with_life (arisen is_inside_or_urged w r e c) o lives) s
@@ -62,7 +64,8 @@ up-fine w r e c s st lives here (a, life, is, of, inside, free) = one (list_any 
       | inl good ↦ inl (
         a,
         arisen is_inside_or_urged w r e c life,
-        put-at lives b.0 a (option_map (arisen is_inside_or_urged w r e c) (lives b.0)) at ∙ ap (option_map (arisen is_inside_or_urged w r e c)) (ap lives (sym at) ∙ is),
+        put-at lives b.0 a (option_map (arisen is_inside_or_urged w r e c) (lives b.0)) at
+            ∙ ap (option_map (arisen is_inside_or_urged w r e c)) (ap lives (sym at) ∙ is),
         of,
         good,
         free,
@@ -84,7 +87,8 @@ step-space w r e c (x ∷ xs) lives a = one (is_step x) where
   one true = space-with (stepped is_inside_or_urged w r e c x) (running_of r e.proc) lives a (λ l. refl)
   one false = refl
 
-pub arise-fine : (w : WorkloadView) (r : Readings) (e : Event) (c : Readings) (s : SpaceNo) (st : ℕ → Standing) (lives : ℕ → Option Life) (at : RunsAt e.proc s c) → Settles w r e c s
+pub arise-fine : (w : WorkloadView) (r : Readings) (e : Event) (c : Readings) (s : SpaceNo) (st : ℕ → Standing) (lives : ℕ → Option Life)
+    (at : RunsAt e.proc s c) → Settles w r e c s
     → space_of (lives at.act.0) ≡ Some s → kind (st at.act.0) ≢ 5 → list_any is_up e.records ≡ true → Fine c st (with_up is_inside_or_urged w r e c lives) s
 arise-fine w r e c s st lives at here space free up =
     let l = has-life lives at.act.0 s (lives at.act.0) refl space in
@@ -94,7 +98,8 @@ arise-fine w r e c s st lives at here space free up =
       | inl good ↦ inl (
         at.act.0,
         arisen is_inside_or_urged w r e c l.0,
-        put-at lives at.act.0 at.act.0 (option_map (arisen is_inside_or_urged w r e c) (lives at.act.0)) refl ∙ ap (option_map (arisen is_inside_or_urged w r e c)) l.1,
+        put-at lives at.act.0 at.act.0 (option_map (arisen is_inside_or_urged w r e c) (lives at.act.0)) refl
+            ∙ ap (option_map (arisen is_inside_or_urged w r e c)) l.1,
         l.2,
         good,
         free,
@@ -102,7 +107,8 @@ arise-fine w r e c s st lives at here space free up =
       | inr none ↦ inr (inr none)
     ]))
 
-pub settle-fine : (w : WorkloadView) (r : Readings) (e : Event) (c : Readings) (s : SpaceNo) (st : ℕ → Standing) (x : Record) (xs : List Record) (lives : ℕ → Option Life) (a : ActNo) → Settles w r e c s
+pub settle-fine : (w : WorkloadView) (r : Readings) (e : Event) (c : Readings) (s : SpaceNo) (st : ℕ → Standing) (x : Record) (xs : List Record)
+    (lives : ℕ → Option Life) (a : ActNo) → Settles w r e c s
     → running_of r e.proc ≡ Some a → space_of (lives a.0) ≡ Some s → kind (st a.0) ≢ 5 → is_step x ≡ true → settles r c x ≡ true
     → Fine c st (with_up is_inside_or_urged w r e c (with_step is_inside_or_urged w r e c (x ∷ xs) lives)) s
 settle-fine w r e c s st x xs lives a here runs space free step settled =
@@ -114,7 +120,8 @@ settle-fine w r e c s st x xs lives a here runs space free step settled =
           (subst (λ o. Within st (with_life (stepped is_inside_or_urged w r e c x) o lives) s) (sym runs) (
             a.0,
             stepped is_inside_or_urged w r e c x l.0,
-            put-at lives a.0 a.0 (option_map (stepped is_inside_or_urged w r e c x) (lives a.0)) refl ∙ ap (option_map (stepped is_inside_or_urged w r e c x)) l.1,
+            put-at lives a.0 a.0 (option_map (stepped is_inside_or_urged w r e c x) (lives a.0)) refl
+                ∙ ap (option_map (stepped is_inside_or_urged w r e c x)) l.1,
             l.2,
             ap (λ b. is_inside_or_urged w r e c b l.0) settled ∙ good,
             free,
@@ -126,11 +133,14 @@ abbrev pub IsStepOf : List Record → Type 0
 IsStepOf [] = ⊥
 IsStepOf (x ∷ xs) = is_step x ≡ true
 
-step-still : (w : WorkloadView) (r : Readings) (e : Event) (c : Readings) (s : SpaceNo) (st : ℕ → Standing) (xs : List Record) (lives : ℕ → Option Life) (a : ℕ) (life : Life) → lives a ≡ Some life → life.space ≡ s
-    → life.inside ≡ true → kind (st a) ≢ 5 → ((b : ActNo) → running_of r e.proc ≡ Some b → IsStepOf xs → a ≢ b.0) → Within st (with_step is_inside_or_urged w r e c xs lives) s
+step-still : (w : WorkloadView) (r : Readings) (e : Event) (c : Readings) (s : SpaceNo) (st : ℕ → Standing) (xs : List Record) (lives : ℕ → Option Life) (a : ℕ)
+    (life : Life) → lives a ≡ Some life → life.space ≡ s
+    → life.inside ≡ true → kind (st a) ≢ 5 → ((b : ActNo) → running_of r e.proc ≡ Some b → IsStepOf xs → a ≢ b.0)
+    → Within st (with_step is_inside_or_urged w r e c xs lives) s
 step-still w r e c s st [] lives a life is of inside free other = (a, life, is, of, inside, free)
 step-still w r e c s st (x ∷ xs) lives a life is of inside free other = one (is_step x) (λ b runs step. other b runs step) where
-  one : (k : Bool) → ((b : ActNo) → running_of r e.proc ≡ Some b → k ≡ true → a ≢ b.0) → Within st (if k then with_life (stepped is_inside_or_urged w r e c x) (running_of r e.proc) lives else lives) s
+  one : (k : Bool) → ((b : ActNo) → running_of r e.proc ≡ Some b → k ≡ true → a ≢ b.0)
+      → Within st (if k then with_life (stepped is_inside_or_urged w r e c x) (running_of r e.proc) lives else lives) s
   one false apart = (a, life, is, of, inside, free)
   one true apart = two (running_of r e.proc) (λ b runs. apart b runs refl) where
     two : (o : Option ActNo) → ((b : ActNo) → o ≡ Some b → a ≢ b.0) → Within st (with_life (stepped is_inside_or_urged w r e c x) o lives) s
@@ -144,7 +154,8 @@ Lowly r p s = (line_of r p ≡ None) ⊎ (owner_of r p ≢ Some s)
 begun-low : (w : WorkloadView) (r : Readings) (e : Event) (q : ProcNo) → q.0 ≢ e.proc.0 → line_of (begun w e r) q ≡ None → line_of r q ≡ None
 begun-low w r e q apart is = sym (get_or-set_other r.lines e.proc.0 q.0 None None apart) ∙ is
 
-pub held-none : (w : WorkloadView) (r : Readings) (e : Event) (c : Readings) (s : SpaceNo) (st now : ℕ → Standing) → IsPlaced w r.state → Held s st now (begun w e r) c → Lowly r e.proc s → NoPair r s → NoPair c s
+pub held-none : (w : WorkloadView) (r : Readings) (e : Event) (c : Readings) (s : SpaceNo) (st now : ℕ → Standing) → IsPlaced w r.state
+    → Held s st now (begun w e r) c → Lowly r e.proc s → NoPair r s → NoPair c s
 held-none w r e c s st now placed held lowly none t u p ready runs low =
     let was_ready = held.fades t.0 place.Ready refl ready in
     let did_run = held.fades u.0 (place.Running p) refl runs in
@@ -161,7 +172,8 @@ held-none w r e c s st now placed held lowly none t u p ready runs low =
     let two = did_run.1 in
     omega (arith, before, one, two)
 
-pub keep-fine : (w : WorkloadView) (r : Readings) (e : Event) (c : Readings) (s : SpaceNo) (st now : ℕ → Standing) (xs : List Record) → IsPlaced w r.state → Settles w r e c s → Held s st now (begun w e r) c → Lowly r e.proc s
+pub keep-fine : (w : WorkloadView) (r : Readings) (e : Event) (c : Readings) (s : SpaceNo) (st now : ℕ → Standing) (xs : List Record) → IsPlaced w r.state
+    → Settles w r e c s → Held s st now (begun w e r) c → Lowly r e.proc s
     → Fine r st r.lives s
     → ((a : ℕ) (life : Life) (b : ActNo) → r.lives a ≡ Some life → life.space ≡ s → life.inside ≡ true → running_of r e.proc ≡ Some b → IsStepOf xs → a ≢ b.0)
     → Fine c now (with_up is_inside_or_urged w r e c (with_step is_inside_or_urged w r e c xs c.lives)) s
@@ -173,10 +185,8 @@ keep-fine w r e c s st now xs placed here held lowly (inr (inl untold)) spared =
 keep-fine w r e c s st now xs placed here held lowly (inr (inr none)) spared = inr (inr (held-none w r e c s st now placed held lowly none))
 
 -- what a record notes stays untold
-push-has : (ns : List Note) (n : Note) → Contains (ns ++ n ∷ []) n
-push-has ns n = Contains-append_right ns (n ∷ []) n (0, omega arith, refl)
-
-pub note-has : (r : Readings) (s u : SpaceNo) (n : Note) → u ≡ s → s.0 < length r.untold → Contains (get_or (slice_set r.untold u.0 (get_or r.untold u.0 [] ++ n ∷ [])) s.0 []) n
+pub note-has : (r : Readings) (s u : SpaceNo) (n : Note) → u ≡ s → s.0 < length r.untold
+    → Contains (get_or (slice_set r.untold u.0 (get_or r.untold u.0 [] ++ n ∷ [])) s.0 []) n
 note-has r s u n same within =
     subst (λ (k : SpaceNo). Contains (get_or (slice_set r.untold k.0 (get_or r.untold k.0 [] ++ n ∷ [])) s.0 []) n) (sym same)
-    (subst (λ ns. Contains ns n) (sym (get_or-set_same r.untold s.0 (get_or r.untold s.0 [] ++ n ∷ []) [] within)) (push-has (get_or r.untold s.0 []) n))
+    (subst (λ ns. Contains ns n) (sym (get_or-set_same r.untold s.0 (get_or r.untold s.0 [] ++ n ∷ []) [] within)) (Contains-push (get_or r.untold s.0 []) n))

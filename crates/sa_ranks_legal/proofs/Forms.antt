@@ -1,25 +1,23 @@
--- The forms of a turn where ready threads stand by their ranks.
+-- The forms of a turn where ready threads are listed by their ranks.
 use Rattle.std.proofs.Common.{◌≡◌, ℕ, ◌⊎◌, inl, inr, refl, sym, subst, Some, None, List, [], ◌∷◌, map, true, false}
 use Rattle.std.specs.Prelude.{Option, Bool}
 use Rattle.sa_base.specs.declared.number.SpaceNo.{SpaceNo}
 use Rattle.sa_base.specs.declared.number.ProcNo.{ProcNo}
 use Rattle.sa_base.specs.declared.number.ActNo.{ActNo}
 use Rattle.sa_base.specs.declared.record.Record.{Record}
-use Rattle.sa_base.specs.declared.record.Record.TheVariants.{Ins, Out, Run, Stop, Block, Unblock, Cont, Back, Ready, Take, Free, Up, Move, Want, Aim, Line, Fetched, GiveBack, Idle, Spin, Tick}
+use Rattle.sa_base.specs.declared.record.Record.TheVariants.{Ins, Out, Run, Block, Cont, Back, Ready, Take, Free, Want, Line, GiveBack, Idle, Spin, Tick}
 use Rattle.sa_instr.specs.declared.instr.Instr.{Instr}
 use Rattle.sa_instr.specs.declared.instr.Instr.TheVariants as instr
 use Rattle.sa_spaces.specs.Workload.{WorkloadView}
-use Rattle.sa_devices.specs.declared.kind.IoKind.{IoKind}
-use Rattle.sa_devices.specs.declared.kind.IoKind.TheVariants.{Plain, Page, Upcall}
 use Rattle.sa_devices.specs.Ios.{Io, due_of}
 use Rattle.sa_laws.specs.Life.{Life}
 use Rattle.sa_laws.specs.Readings.{Readings, running_of, life_on, owner_of, taken_of}
-use Rattle.sa_laws.specs.History.{after_records, is_step, is_up}
-use Rattle.sa_laws.specs.Turns.{IsPassage, IsInterrupt, IsOver, IsInsOf, IsTickOrStep, IsTurnWhileDue, IsTurn}
+use Rattle.sa_laws.specs.History.{is_step}
+use Rattle.sa_laws.specs.Turns.{IsInsOf, IsTickOrStep, IsTurnWhileDue, IsTurn}
 use Rattle.sa_ranks.specs.Steps.{RankedStepBy, RankedStepIn, IsRankedStep}
 use Rattle.sa_ranks.specs.Locks.{KeepsTheLockIn}
 use Rattle.sa_legal.proofs.StandingLemmas.{kind}
-use Rattle.sa_legal_readings.proofs.FormLemmas.{Turning, BlocksFirst, is_quiet, AllQuiet, AllOut, Calm}
+use Rattle.sa_legal_readings.proofs.FormLemmas.{Turning, BlocksFirst, is_quiet, AllQuiet, AllOut, Calm, interrupt-form, over-form, passage-turning, given-quiet}
 
 pub record RankedStep (w : WorkloadView) (r : Readings) (p : ProcNo) (x : Record) (ys : List Record) : Type 0 where
   pub act : ActNo
@@ -34,35 +32,9 @@ pub record RankedStep (w : WorkloadView) (r : Readings) (p : ProcNo) (x : Record
 abbrev pub Formed : WorkloadView → Readings → ProcNo → Record → List Record → Type 0
 Formed w r p x ys = (Turning (x ∷ ys) × BlocksFirst x ys) ⊎ (Calm x ys ⊎ RankedStep w r p x ys)
 
-passage-turning : (xs : List Record) → IsPassage xs → Turning xs
-passage-turning (Up u a ∷ xs) is = is
-passage-turning (Move old (Some new) ∷ Up u a ∷ xs) is = is
-passage-turning (Move old None ∷ Aim q None ∷ xs) is = is
-passage-turning xs is = absurd (is)
-
-passage-first : (x : Record) (ys : List Record) → IsPassage (x ∷ ys) → BlocksFirst x ys
-passage-first (Up u a) ys is = refl
-passage-first (Move old new) ys is = refl
-passage-first x ys is = absurd (is)
-
-pub interrupt-form : (x : Record) (ys : List Record) → IsInterrupt (x ∷ ys) → Turning (x ∷ ys) × BlocksFirst x ys
-interrupt-form (Stop u t a) ys is = (passage-turning ys is, refl)
-interrupt-form (Up u a) ys is = (passage-turning (Up u a ∷ ys) is, refl)
-interrupt-form (Move old new) ys is = (passage-turning (Move old new ∷ ys) is, refl)
-interrupt-form x ys is = absurd (is)
-
-over-form : (kind : IoKind) (x : Record) (ys : List Record) → IsOver kind (x ∷ ys) → Calm x ys
-over-form (Plain s a) (Unblock of t b) [] is = record { none = refl; quiet = refl; alone = refl }
-over-form (Page s a k) (Unblock of t b) [] is = record { none = refl; quiet = refl; alone = refl }
-over-form (Upcall s) (Fetched of) [] is = record { none = refl; quiet = refl; alone = refl }
-over-form kind x ys is = absurd (is)
-
-given-quiet : (acts : List ActNo) → AllQuiet (map GiveBack acts)
-given-quiet [] = tt
-given-quiet (a ∷ acts) = (refl, given-quiet acts)
-
 -- a step
-step-alone : (w : WorkloadView) (r : Readings) (p : ProcNo) (a : ActNo) (life : Life) (x : Record) (ys : List Record) → running_of r p ≡ Some a → life_on r p ≡ Some life → RankedStepBy w r p a life x ys
+step-alone : (w : WorkloadView) (r : Readings) (p : ProcNo) (a : ActNo) (life : Life) (x : Record) (ys : List Record) → running_of r p ≡ Some a
+    → life_on r p ≡ Some life → RankedStepBy w r p a life x ys
     → is_step x ≡ true → is_quiet x ≡ true → ys ≡ [] → RankedStep w r p x ys
 step-alone w r p a life x ys runs on by step quiet alone = record {
   act = a;
@@ -75,7 +47,8 @@ step-alone w r p a life x ys runs on by step quiet alone = record {
   rest = inl (subst AllOut (sym alone) tt);
 }
 
-ins-form : (w : WorkloadView) (r : Readings) (p : ProcNo) (a : ActNo) (life : Life) (s : SpaceNo) (t : Rattle.sa_base.specs.declared.number.ThreadNo.ThreadNo) (k : ℕ) (i : Instr) (ys : List Record)
+ins-form : (w : WorkloadView) (r : Readings) (p : ProcNo) (a : ActNo) (life : Life) (s : SpaceNo) (t : Rattle.sa_base.specs.declared.number.ThreadNo.ThreadNo)
+    (k : ℕ) (i : Instr) (ys : List Record)
     → running_of r p ≡ Some a → life_on r p ≡ Some life → RankedStepBy w r p a life (Ins s t k) ys → IsInsOf i ys → Formed w r p (Ins s t k) ys
 ins-form w r p a life s t k (instr.Out reg) (Out u v n ∷ []) runs on by is =
     inr (inr (record { act = a; life = life; runs = runs; on = on; by = by; step = refl; quiet = (refl, (refl, tt)); rest = inl tt }))
@@ -84,7 +57,8 @@ ins-form w r p a life s t k (instr.Io n) (Block u v b io ∷ ys) runs on by is =
 ins-form w r p a life s t k (instr.Io n) ys runs on by is = absurd (is)
 ins-form w r p a life s t k i ys runs on by is = inr (inr (step-alone w r p a life (Ins s t k) ys runs on by refl refl is))
 
-by-form : (w : WorkloadView) (r : Readings) (p : ProcNo) (a : ActNo) (life : Life) (x : Record) (ys : List Record) → running_of r p ≡ Some a → life_on r p ≡ Some life → RankedStepBy w r p a life x ys
+by-form : (w : WorkloadView) (r : Readings) (p : ProcNo) (a : ActNo) (life : Life) (x : Record) (ys : List Record) → running_of r p ≡ Some a
+    → life_on r p ≡ Some life → RankedStepBy w r p a life x ys
     → KeepsTheLockIn w r p (x ∷ ys) → Formed w r p x ys
 by-form w r p a life (Ins s t i) ys runs on by keeps = ins-form w r p a life s t i _ ys runs on by by
 by-form w r p a life (Block s t b io) ys runs on by keeps = inl (passage-turning ys by.0, tt)
@@ -111,13 +85,15 @@ by-form w r p a life (Free s l t) ys runs on by keeps = inr (inr (step-alone w r
 by-form w r p a life (Cont s t) ys runs on by keeps = inr (inr (step-alone w r p a life (Cont s t) ys runs on by refl refl keeps.1))
 by-form w r p a life x ys runs on by keeps = absurd (cc)
 
-in-form : (w : WorkloadView) (r : Readings) (p : ProcNo) (a : Option ActNo) (life : Option Life) (x : Record) (ys : List Record) → running_of r p ≡ a → life_on r p ≡ life → RankedStepIn w r p a life (x ∷ ys)
+in-form : (w : WorkloadView) (r : Readings) (p : ProcNo) (a : Option ActNo) (life : Option Life) (x : Record) (ys : List Record) → running_of r p ≡ a
+    → life_on r p ≡ life → RankedStepIn w r p a life (x ∷ ys)
     → KeepsTheLockIn w r p (x ∷ ys) → Formed w r p x ys
 in-form w r p (Some a) (Some life) x ys runs on is keeps = by-form w r p a life x ys runs on is keeps
 in-form w r p (Some a) None x ys runs on is keeps = absurd is
 in-form w r p None life x ys runs on is keeps = absurd is
 
-pub turn-form : (w : WorkloadView) (r : Readings) (p : ProcNo) (e : ℕ) (raised : Bool) (x : Record) (ys : List Record) → IsTurn IsRankedStep raised e w r p (x ∷ ys) → KeepsTheLockIn w r p (x ∷ ys)
+pub turn-form : (w : WorkloadView) (r : Readings) (p : ProcNo) (e : ℕ) (raised : Bool) (x : Record) (ys : List Record)
+    → IsTurn IsRankedStep raised e w r p (x ∷ ys) → KeepsTheLockIn w r p (x ∷ ys)
     → Formed w r p x ys
 turn-form w r p e true x ys is keeps = inl (interrupt-form x ys is)
 turn-form w r p e false x ys is keeps = due (due_of e r.under_way) is where

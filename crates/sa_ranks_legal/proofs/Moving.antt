@@ -1,22 +1,21 @@
--- Where the numbers of lives stand, along the records of an event: as for FastThreads, but for takes.
+-- What the numbers of lives stand for, along the records of an event: as for FastThreads, but for takes.
 use Rattle.std.proofs.Common.{◌≡◌, ◌≢◌, ℕ, zero, suc, ◌<◌, inl, inr, refl, sym, ◌∙◌, ap, subst, Some, None, List, [], ◌∷◌, true}
-use Rattle.std.specs.Prelude.{Option, Contains, get_or, slice_set, not}
+use Rattle.std.specs.Prelude.{Option, Contains, get_or, slice_set}
 use Rattle.std.proofs.lemmas.Bool.{cases_eq}
 use Rattle.std.proofs.lemmas.Option.{none-some, same_Some}
 use Rattle.sa_lemmas.specs.Function.{put}
 use Rattle.sa_lemmas.proofs.FunctionUpdates.{put-at, put-other}
 use Rattle.sa_base.specs.declared.number.SpaceNo.{SpaceNo}
 use Rattle.sa_base.specs.declared.number.ProcNo.{ProcNo}
-use Rattle.sa_base.specs.declared.number.ActNo.{ActNo}
 use Rattle.sa_base.specs.declared.record.Note.{Note}
 use Rattle.sa_base.specs.declared.record.Note.TheVariants as note
 use Rattle.sa_base.specs.declared.record.Record.{Record}
 use Rattle.sa_base.specs.declared.record.Record.TheVariants.{Ins, Run, Stop, Block, Unblock, Cont, Back, Ready, Take, Free, Up, Told, GiveBack, Idle, Line}
 use Rattle.sa_spaces.specs.Workload.{WorkloadView}
 use Rattle.sa_laws.specs.Machine.{next_effect}
-use Rattle.sa_laws.specs.Life.{Life, inherits, bereft, with_hand, with_first, with_cont, without_lock, ran, held_with, new_life}
+use Rattle.sa_laws.specs.Life.{Life, with_hand, with_first, with_cont, without_lock, ran, held_with, new_life}
 use Rattle.sa_laws.specs.Readings.{Readings, running_of, life_of, line_of, untold_of, space_of_life}
-use Rattle.sa_laws.specs.Record.{with_life, handed, lives_after, lines_after, untold_after, after_record, without_note, is_other_note, stopped_with, back_with, made_ready, locks, one_thread}
+use Rattle.sa_laws.specs.Record.{lives_after, lines_after, untold_after, after_record, stopped_with, back_with, made_ready, locks, one_thread}
 use Rattle.sa_laws.specs.History.{after_records}
 use Rattle.sa_laws.specs.Step.{AreSteps}
 use Rattle.sa_laws.specs.Upcalls.{RecordLaw, EachRecord, TellsAllThen}
@@ -26,7 +25,7 @@ use Rattle.sa_legal.proofs.MovesLemmas.{stood}
 use Rattle.sa_legal.proofs.ShownLemmas.{Shows, shows-step}
 use Rattle.sa_legal.proofs.ReadLemmas.{with-keeps}
 use Rattle.sa_legal_readings.proofs.ApartLemmas.{IsApart, apart-step, one-space, is_real, told-space, upped-space}
-use Rattle.sa_legal_readings.proofs.PassLemmas.{StillIn, still-with}
+use Rattle.sa_legal_readings.proofs.PassLemmas.{StillIn, still-handed, note-other, still-put, without-has, still-same, still-self}
 use Rattle.sa_ranks_legal.proofs.Fading.{Fades, Spares, record-fades, fades-more, fades-self}
 use Rattle.sa_ranks_legal.proofs.Places.{IsPlaced, places-step}
 
@@ -37,14 +36,16 @@ Moves w p r (Ready s t) rest = Unit {0}
 Moves w p r (Free s l t) rest = Unit {0}
 Moves w p r x rest = MovesLives w p r x rest
 
-pub stands : (w : WorkloadView) (p : ProcNo) (st : ℕ → Standing) (r : Readings) (x : Record) (rest : List Record) → Agrees st r → Moves w p r x rest → Stood p st x
+pub stands : (w : WorkloadView) (p : ProcNo) (st : ℕ → Standing) (r : Readings) (x : Record) (rest : List Record) → Agrees st r → Moves w p r x rest
+    → Stood p st x
 stands w p st r (Take s l t) rest agrees law = tt
 stands w p st r (Run s t) rest agrees law = tt
 stands w p st r (Ready s t) rest agrees law = tt
 stands w p st r (Free s l t) rest agrees law = tt
 stands w p st r x rest agrees law = stood w p st r x rest agrees law
 
-stays-apart : (w : WorkloadView) (e : ℕ) (p : ProcNo) (st : ℕ → Standing) (r : Readings) (x : Record) (xs : List Record) → IsApart st r (x ∷ xs) → Stood p st x → Moves w p r x xs
+stays-apart : (w : WorkloadView) (e : ℕ) (p : ProcNo) (st : ℕ → Standing) (r : Readings) (x : Record) (xs : List Record) → IsApart st r (x ∷ xs) → Stood p st x
+    → Moves w p r x xs
     → TellsAllThen p r x xs → IsApart (standing_after p st x) (after_record w e p r x) xs
 stays-apart w e p st r (Take s l t) xs apart was law tells =
     let same = apart-step w e p st r Idle xs (record { agrees = apart.agrees; blocks = apart.blocks; taken = apart.taken; told = apart.told }) tt tt tt in
@@ -60,20 +61,49 @@ stays-apart w e p st r (Free s l t) xs apart was law tells =
     record { agrees = agrees-step w e p st r (Free s l t) apart.agrees tt; blocks = same.blocks; taken = same.taken; told = λ telling. absurd (cc) }
 stays-apart w e p st r x xs apart was law tells = apart-step w e p st r x xs apart was law tells
 
-shows-more : (w : WorkloadView) (e : ℕ) (p : ProcNo) (st : ℕ → Standing) (r : Readings) (x : Record) (rest : List Record) → Shows w st r → Stood p st x → Moves w p r x rest
+shows-more : (w : WorkloadView) (e : ℕ) (p : ProcNo) (st : ℕ → Standing) (r : Readings) (x : Record) (rest : List Record) → Shows w st r → Stood p st x
+    → Moves w p r x rest
     → p.0 < w.processors → Shows w (standing_after p st x) (after_record w e p r x)
 shows-more w e p st r (Take s l t) rest shows was law within =
     let same = shows-step w e p st r Idle rest shows tt tt within in
-    record { running_len = same.running_len; untold_len = same.untold_len; running = same.running; blocked = same.blocked; stopped = same.stopped; returned = same.returned }
+    record {
+      running_len = same.running_len;
+      untold_len = same.untold_len;
+      running = same.running;
+      blocked = same.blocked;
+      stopped = same.stopped;
+      returned = same.returned;
+    }
 shows-more w e p st r (Run s t) rest shows was law within =
     let same = shows-step w e p st r Idle rest shows tt tt within in
-    record { running_len = same.running_len; untold_len = same.untold_len; running = same.running; blocked = same.blocked; stopped = same.stopped; returned = same.returned }
+    record {
+      running_len = same.running_len;
+      untold_len = same.untold_len;
+      running = same.running;
+      blocked = same.blocked;
+      stopped = same.stopped;
+      returned = same.returned;
+    }
 shows-more w e p st r (Ready s t) rest shows was law within =
     let same = shows-step w e p st r Idle rest shows tt tt within in
-    record { running_len = same.running_len; untold_len = same.untold_len; running = same.running; blocked = same.blocked; stopped = same.stopped; returned = same.returned }
+    record {
+      running_len = same.running_len;
+      untold_len = same.untold_len;
+      running = same.running;
+      blocked = same.blocked;
+      stopped = same.stopped;
+      returned = same.returned;
+    }
 shows-more w e p st r (Free s l t) rest shows was law within =
     let same = shows-step w e p st r Idle rest shows tt tt within in
-    record { running_len = same.running_len; untold_len = same.untold_len; running = same.running; blocked = same.blocked; stopped = same.stopped; returned = same.returned }
+    record {
+      running_len = same.running_len;
+      untold_len = same.untold_len;
+      running = same.running;
+      blocked = same.blocked;
+      stopped = same.stopped;
+      returned = same.returned;
+    }
 shows-more w e p st r x rest shows was law within = shows-step w e p st r x rest shows was law within
 
 -- a record does not concern a space
@@ -85,32 +115,11 @@ Passing s r (Cont u t) rest = u ≢ s
 Passing s r (GiveBack a) rest = space_of_life r (Some a) ≢ Some s
 Passing s r _ rest = Unit {0}
 
-still-self : (s : SpaceNo) (lives : ℕ → Option Life) → StillIn s lives lives
-still-self s lives a life is of = (life, is, of, refl)
-
-still-same : (s : SpaceNo) (f : Life → Life) (n : Option ActNo) (lives : ℕ → Option Life) → ((l : Life) → (f l).space ≡ l.space) → ((l : Life) → (f l).inside ≡ l.inside)
-    → StillIn s lives (with_life f n lives)
-still-same s f n lives space inside = still-with s f n lives (λ b l at is of. (space l ∙ of, inside l))
-
-still-more : (s : SpaceNo) (a b c : ℕ → Option Life) → StillIn s a b → StillIn s b c → StillIn s a c
-still-more s a b c one two n life is of = let l = one n life is of in let k = two n l.0 l.1 l.2 in (k.0, k.1, k.2, k.3 ∙ l.3)
-
-still-handed : (s : SpaceNo) (up : Option ActNo) (b : ActNo) (from : Option Life) (lives : ℕ → Option Life) → ((l : Life) → lives b.0 ≡ Some l → l.space ≡ s → ⊥) → StillIn s lives (handed up b from lives)
-still-handed s up b None lives other = still-self s lives
-still-handed s up b (Some from) lives other =
-    still-more s lives (with_life bereft (Some b) lives) (with_life (inherits from) up (with_life bereft (Some b) lives))
-    (still-with s bereft (Some b) lives (λ c l at is of. absurd (other l (ap (λ (k : ActNo). lives k.0) (same_Some b c at) ∙ is) of)))
-    (still-same s (inherits from) up (with_life bereft (Some b) lives) (λ l. refl) (λ l. refl))
-
-still-put : (s : SpaceNo) (a : ℕ) (o : Option Life) (lives : ℕ → Option Life) → ((l : Life) → lives a ≡ Some l → l.space ≡ s → ⊥) → StillIn s lives (put lives a o)
-still-put s a o lives other b life is of = elim (cases_eq b a) [
-  | inl at ↦ absurd (other life (ap lives (sym at) ∙ is) of)
-  | inr apart ↦ (life, put-other lives a b o apart ∙ is, of, refl)
-]
-
-lives-kept : (w : WorkloadView) (p : ProcNo) (st : ℕ → Standing) (r : Readings) (s : SpaceNo) (x : Record) (xs : List Record) → IsApart st r (x ∷ xs) → Moves w p r x xs → Passing s r x xs
+lives-kept : (w : WorkloadView) (p : ProcNo) (st : ℕ → Standing) (r : Readings) (s : SpaceNo) (x : Record) (xs : List Record) → IsApart st r (x ∷ xs)
+    → Moves w p r x xs → Passing s r x xs
     → (is_telling r.last ≡ true → space_of_life r r.upped ≢ Some s) → StillIn s r.lives (lives_after w p r x)
-lives-kept w p st r s (Ins u t i) xs apart law passes quiet = still-same s (with_hand (next_effect w r.state u t).roused) (running_of r p) r.lives (λ l. refl) (λ l. refl)
+lives-kept w p st r s (Ins u t i) xs apart law passes quiet =
+    still-same s (with_hand (next_effect w r.state u t).roused) (running_of r p) r.lives (λ l. refl) (λ l. refl)
 lives-kept w p st r s (Run u t) xs apart law passes quiet = still-same s (with_first (ran t)) (running_of r p) r.lives (λ l. refl) (λ l. refl)
 lives-kept w p st r s (Stop u t a) xs apart law passes quiet = still-same s (stopped_with t) (Some a) r.lives (λ l. refl) (λ l. refl)
 lives-kept w p st r s (Block u t a io) xs apart law passes quiet = still-same s (held_with t) (Some a) r.lives (λ l. refl) (λ l. refl)
@@ -132,39 +141,31 @@ lives-kept w p st r s (Told (note.Blocked a)) xs apart law passes quiet = still-
 lives-kept w p st r s (GiveBack a) xs apart law passes quiet = still-put s a.0 None r.lives (λ l is of. passes (ap space_of is ∙ ap Some of))
 lives-kept w p st r s x xs apart law passes quiet = still-self s r.lives
 
-without-has : (n z : Note) (xs : List (List Note)) (j : ℕ) → is_other_note n z ≡ true → Contains (get_or xs j []) z → Contains (get_or (without_note xs n) j []) z
-without-has n z [] j other has = has
-without-has n z (x ∷ xs) zero other has = Rattle.sa_legal_readings.proofs.RaisedLemmas.filter-keeps (is_other_note n) x z other has
-without-has n z (x ∷ xs) (suc j) other has = without-has n z xs j other has
-
-note-other : (n z : Note) → n ≢ z → is_other_note n z ≡ true
-note-other (note.Add p) (note.Add q) apart = ap not (Rattle.sa_legal.proofs.ReadLemmas.differ q.0 p.0 (λ e. apart (ap (λ k. note.Add (record { 0 = k })) (sym e))))
-note-other (note.Preempted a) (note.Preempted b) apart = ap not (Rattle.sa_legal.proofs.ReadLemmas.differ b.0 a.0 (λ e. apart (ap (λ k. note.Preempted (record { 0 = k })) (sym e))))
-note-other (note.Blocked a) (note.Blocked b) apart = ap not (Rattle.sa_legal.proofs.ReadLemmas.differ b.0 a.0 (λ e. apart (ap (λ k. note.Blocked (record { 0 = k })) (sym e))))
-note-other (note.Unblocked a) (note.Unblocked b) apart = ap not (Rattle.sa_legal.proofs.ReadLemmas.differ b.0 a.0 (λ e. apart (ap (λ k. note.Unblocked (record { 0 = k })) (sym e))))
-note-other n z apart = refl
-
 -- what is told to one space is not untold to another
-told-other : (w : WorkloadView) (p : ProcNo) (st : ℕ → Standing) (r : Readings) (s : SpaceNo) (n z : Note) (xs : List Record) → IsApart st r (Told n ∷ xs) → Moves w p r (Told n) xs
+told-other : (w : WorkloadView) (p : ProcNo) (st : ℕ → Standing) (r : Readings) (s : SpaceNo) (n z : Note) (xs : List Record) → IsApart st r (Told n ∷ xs)
+    → Moves w p r (Told n) xs
     → space_of_life r r.upped ≢ Some s → is_real z ≡ true → Contains (untold_of r s) z → n ≢ z
-told-other w p st r s n z xs apart law quiet real has same = one (space_of_life r r.upped) refl (subst (Rattle.sa_laws.specs.Upcalls.IsUntoldTo r (space_of_life r r.upped)) same law.0) where
-  up : (u : SpaceNo) → space_of_life r r.upped ≡ Some u → Contains (untold_of r u) z → ⊥
-  up u is there = quiet (is ∙ ap Some (one-space st r (Told n ∷ xs) z u s apart real there has))
+told-other w p st r s n z xs apart law quiet real has same =
+    one (space_of_life r r.upped) refl (subst (Rattle.sa_laws.specs.Upcalls.IsUntoldTo r (space_of_life r r.upped)) same law.0) where
+      up : (u : SpaceNo) → space_of_life r r.upped ≡ Some u → Contains (untold_of r u) z → ⊥
+      up u is there = quiet (is ∙ ap Some (one-space st r (Told n ∷ xs) z u s apart real there has))
 
-  one : (o : Option SpaceNo) → space_of_life r r.upped ≡ o → Rattle.sa_laws.specs.Upcalls.IsUntoldTo r (space_of_life r r.upped) z → ⊥
-  one o is untold = two z o is real (subst (λ k. Rattle.sa_laws.specs.Upcalls.IsUntoldTo r k z) is untold) (λ u at there. up u at there) where
-    two : (m : Note) (k : Option SpaceNo) → space_of_life r r.upped ≡ k → is_real m ≡ true → Rattle.sa_laws.specs.Upcalls.IsUntoldTo r k m
-        → ((u : SpaceNo) → space_of_life r r.upped ≡ Some u → Contains (untold_of r u) m → ⊥) → ⊥
-    two (note.Add q) k at real' there up' = absurd (cc)
-    two (note.Preempted a) (Some u) at real' there up' = up' u at there
-    two (note.Blocked a) (Some u) at real' there up' = up' u at there
-    two (note.Unblocked a) (Some u) at real' there up' = up' u at there
-    two (note.Preempted a) None at real' there up' = there
-    two (note.Blocked a) None at real' there up' = there
-    two (note.Unblocked a) None at real' there up' = there
+      one : (o : Option SpaceNo) → space_of_life r r.upped ≡ o → Rattle.sa_laws.specs.Upcalls.IsUntoldTo r (space_of_life r r.upped) z → ⊥
+      one o is untold = two z o is real (subst (λ k. Rattle.sa_laws.specs.Upcalls.IsUntoldTo r k z) is untold) (λ u at there. up u at there) where
+        two : (m : Note) (k : Option SpaceNo) → space_of_life r r.upped ≡ k → is_real m ≡ true → Rattle.sa_laws.specs.Upcalls.IsUntoldTo r k m
+            → ((u : SpaceNo) → space_of_life r r.upped ≡ Some u → Contains (untold_of r u) m → ⊥) → ⊥
+        two (note.Add q) k at real' there up' = absurd (cc)
+        two (note.Preempted a) (Some u) at real' there up' = up' u at there
+        two (note.Blocked a) (Some u) at real' there up' = up' u at there
+        two (note.Unblocked a) (Some u) at real' there up' = up' u at there
+        two (note.Preempted a) None at real' there up' = there
+        two (note.Blocked a) None at real' there up' = there
+        two (note.Unblocked a) None at real' there up' = there
 
-noted-step : (w : WorkloadView) (p : ProcNo) (st : ℕ → Standing) (r : Readings) (s : SpaceNo) (x : Record) (xs : List Record) (n : Note) → IsApart st r (x ∷ xs) → Moves w p r x xs
-    → (is_telling r.last ≡ true → space_of_life r r.upped ≢ Some s) → is_real n ≡ true → Contains (untold_of r s) n → Contains (get_or (untold_after r x) s.0 []) n
+noted-step : (w : WorkloadView) (p : ProcNo) (st : ℕ → Standing) (r : Readings) (s : SpaceNo) (x : Record) (xs : List Record) (n : Note) → IsApart st r (x ∷ xs)
+    → Moves w p r x xs
+    → (is_telling r.last ≡ true → space_of_life r r.upped ≢ Some s) → is_real n ≡ true → Contains (untold_of r s) n
+    → Contains (get_or (untold_after r x) s.0 []) n
 noted-step w p st r s (Stop u t a) xs n apart law quiet real has = with-keeps r.untold u.0 s.0 (note.Preempted a) n has
 noted-step w p st r s (Block u t a io) xs n apart law quiet real has = with-keeps r.untold u.0 s.0 (note.Blocked a) n has
 noted-step w p st r s (Unblock u t a) xs n apart law quiet real has = with-keeps r.untold u.0 s.0 (note.Unblocked a) n has
@@ -172,9 +173,10 @@ noted-step w p st r s (Told m) xs n apart law quiet real has =
     without-has m n r.untold s.0 (note-other m n (told-other w p st r s m n xs apart law (quiet law.1) real has)) has
 noted-step w p st r s x xs n apart law quiet real has = has
 
--- .. nor will told records after it
+-- Nothing is told to the space by the records that follow.
 quiet-step : (w : WorkloadView) (e : ℕ) (p : ProcNo) (r : Readings) (s : SpaceNo) (x : Record) (xs : List Record) → Moves w p r x xs → Passing s r x xs
-    → (is_telling r.last ≡ true → space_of_life r r.upped ≢ Some s) → is_telling (Some x) ≡ true → space_of_life (after_record w e p r x) (after_record w e p r x).upped ≢ Some s
+    → (is_telling r.last ≡ true → space_of_life r r.upped ≢ Some s) → is_telling (Some x) ≡ true
+    → space_of_life (after_record w e p r x) (after_record w e p r x).upped ≢ Some s
 quiet-step w e p r s (Up u a) xs law passes quiet telling is =
     passes (same_Some u s (sym (ap space_of (put-at r.lives a.0 a.0 (Some (new_life u p)) refl)) ∙ is))
 quiet-step w e p r s (Told n) xs law passes quiet telling is = quiet law.1 (sym (upped-space w e p r n) ∙ is)
@@ -205,7 +207,8 @@ not-five st a b v new old five = elim (cases_eq b a) [
   | inr apart ↦ old (sym (ap kind (put-other st a b v apart)) ∙ five)
 ]
 
-untaken : (w : WorkloadView) (p : ProcNo) (st : ℕ → Standing) (r : Readings) (s : SpaceNo) (x : Record) (xs : List Record) (b : ℕ) → IsApart st r (x ∷ xs) → Moves w p r x xs
+untaken : (w : WorkloadView) (p : ProcNo) (st : ℕ → Standing) (r : Readings) (s : SpaceNo) (x : Record) (xs : List Record) (b : ℕ) → IsApart st r (x ∷ xs)
+    → Moves w p r x xs
     → (is_telling r.last ≡ true → space_of_life r r.upped ≢ Some s) → space_in (st b) ≡ Some s → kind (st b) ≢ 5 → kind (standing_after p st x b) ≢ 5
 untaken w p st r s (Stop u t a) xs b apart law quiet of free = not-five st a.0 b (Stopped u) (λ at e. cc) free
 untaken w p st r s (Block u t a io) xs b apart law quiet of free = not-five st a.0 b (Blocked u) (λ at e. cc) free
@@ -231,7 +234,13 @@ pub record Held (s : SpaceNo) (st now : ℕ → Standing) (r c : Readings) : Typ
   pub noted : (n : Note) → is_real n ≡ true → Contains (untold_of r s) n → Contains (untold_of c s) n
 
 pub held-self : (s : SpaceNo) (st : ℕ → Standing) (r : Readings) → Held s st st r r
-held-self s st r = record { fades = fades-self (Rattle.sa_laws.specs.State.space_at r.state s).threads; low = λ q is. is; lives = λ a life is of free. (life, is, of, refl, free); noted = λ n real has. has }
+held-self s st r =
+    record {
+      fades = fades-self (Rattle.sa_laws.specs.State.space_at r.state s).threads;
+      low = λ q is. is;
+      lives = λ a life is of free. (life, is, of, refl, free);
+      noted = λ n real has. has;
+    }
 
 pub held-more : (s : SpaceNo) (st mid now : ℕ → Standing) (r m c : Readings) → Held s st mid r m → Held s mid now m c → Held s st now r c
 held-more s st mid now r m c one two = record {
@@ -243,7 +252,7 @@ held-more s st mid now r m c one two = record {
   noted = λ n real has. two.noted n real (one.noted n real has);
 }
 
--- where the numbers stand behind records
+-- what the numbers stand for after records
 abbrev pub standings : ProcNo → (ℕ → Standing) → List Record → ℕ → Standing
 standings p st [] = st
 standings p st (x ∷ xs) = standings p (standing_after p st x) xs
@@ -258,7 +267,8 @@ pub record Known (w : WorkloadView) (st : ℕ → Standing) (r : Readings) (xs :
   pub shows : Shows w st r
   pub placed : IsPlaced w r.state
 
-pub known-step : (w : WorkloadView) (e : ℕ) (p : ProcNo) (st : ℕ → Standing) (r : Readings) (x : Record) (xs : List Record) → p.0 < w.processors → Known w st r (x ∷ xs) → Goes w e p r (x ∷ xs)
+pub known-step : (w : WorkloadView) (e : ℕ) (p : ProcNo) (st : ℕ → Standing) (r : Readings) (x : Record) (xs : List Record) → p.0 < w.processors
+    → Known w st r (x ∷ xs) → Goes w e p r (x ∷ xs)
     → Known w (standing_after p st x) (after_record w e p r x) xs
 known-step w e p st r x xs within known goes =
     let was = stands w p st r x xs known.apart.agrees goes.moves.0 in
@@ -268,15 +278,18 @@ known-step w e p st r x xs within known goes =
       placed = places-step w p r x within goes.steps.0 known.placed;
     }
 
-pub known-all : (w : WorkloadView) (e : ℕ) (p : ProcNo) (st : ℕ → Standing) (r : Readings) (xs : List Record) → p.0 < w.processors → Known w st r xs → Goes w e p r xs
+pub known-all : (w : WorkloadView) (e : ℕ) (p : ProcNo) (st : ℕ → Standing) (r : Readings) (xs : List Record) → p.0 < w.processors → Known w st r xs
+    → Goes w e p r xs
     → Known w (standings p st xs) (after_records w e p r xs) []
 known-all w e p st r [] within known goes = known
 known-all w e p st r (x ∷ xs) within known goes =
     known-all w e p (standing_after p st x) (after_record w e p r x) xs within (known-step w e p st r x xs within known goes)
     (record { moves = goes.moves.1; tells = goes.tells.1; steps = goes.steps.1 })
 
-pub held-all : (w : WorkloadView) (e : ℕ) (p : ProcNo) (st : ℕ → Standing) (r : Readings) (s : SpaceNo) (xs : List Record) → p.0 < w.processors → Known w st r xs → Goes w e p r xs
-    → EachRecord (Passing s) w e p r xs → (is_telling r.last ≡ true → space_of_life r r.upped ≢ Some s) → Held s st (standings p st xs) r (after_records w e p r xs)
+pub held-all : (w : WorkloadView) (e : ℕ) (p : ProcNo) (st : ℕ → Standing) (r : Readings) (s : SpaceNo) (xs : List Record) → p.0 < w.processors
+    → Known w st r xs → Goes w e p r xs
+    → EachRecord (Passing s) w e p r xs → (is_telling r.last ≡ true → space_of_life r r.upped ≢ Some s)
+    → Held s st (standings p st xs) r (after_records w e p r xs)
 held-all w e p st r s [] within known goes passes quiet = held-self s st r
 held-all w e p st r s (x ∷ xs) within known goes passes quiet =
     let law = goes.moves.0 in
@@ -287,7 +300,13 @@ held-all w e p st r s (x ∷ xs) within known goes passes quiet =
       fades = record-fades w p r.state s x (spares r s x xs passes.0);
       low = λ q is. low-step e r x q.0 is;
       lives = λ a life is of free.
-          let l = lives-kept w p st r s x xs known.apart law passes.0 quiet a life is of in
-          (l.0, l.1, l.2, l.3, untaken w p st r s x xs a known.apart law quiet (sym (known.apart.agrees.lives (record { 0 = a })) ∙ ap space_of is ∙ ap Some of) free);
+          let l = lives-kept w p st r s x xs known.apart law passes.0 quiet a life is of in (
+            l.0,
+            l.1,
+            l.2,
+            l.3,
+            untaken w p st r s x xs a known.apart law quiet
+                (sym (known.apart.agrees.lives (record { 0 = a })) ∙ ap space_of is ∙ ap Some of) free,
+          );
       noted = λ n real has. noted-step w p st r s x xs n known.apart law quiet real has;
     }) more

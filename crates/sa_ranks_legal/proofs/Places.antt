@@ -16,7 +16,7 @@ use Rattle.sa_assign.specs.Aims.{least_below}
 use Rattle.sa_assign.proofs.ChoiceLemmas.{least_below-none}
 use Rattle.sa_laws.specs.declared.place.Place.{Place}
 use Rattle.sa_laws.specs.declared.place.Place.TheVariants as place
-use Rattle.sa_laws.specs.State.{State, SpaceState, Thread, Runner, space_at, thread_in, thread_at, put_thread, placed, placed_if, is_active, owner_at, with_owner, runner_on, runner_of}
+use Rattle.sa_laws.specs.State.{State, SpaceState, Thread, space_at, thread_in, thread_at, put_thread, placed, placed_if, owner_at, with_owner, runner_on}
 use Rattle.sa_laws.specs.Machine.{changed}
 use Rattle.sa_laws.specs.Readings.{Readings, line_of}
 use Rattle.sa_laws.specs.Step.{Needs}
@@ -40,7 +40,8 @@ faded w a b owners fades is = record {
 abbrev no_threads : SpaceState
 no_threads = record { threads = []; sync = Rattle.sa_sync.specs.Sync.opening Rattle.sa_laws.specs.State.no_space }
 
-in-threads : (xs : List Thread) (i j : ℕ) (new : Thread) (X : Place) → (get_or (slice_set xs i new) j nobody).place ≡ X → ((j ≡ i) × (new.place ≡ X)) ⊎ ((get_or xs j nobody).place ≡ X)
+in-threads : (xs : List Thread) (i j : ℕ) (new : Thread) (X : Place) → (get_or (slice_set xs i new) j nobody).place ≡ X
+    → ((j ≡ i) × (new.place ≡ X)) ⊎ ((get_or xs j nobody).place ≡ X)
 in-threads [] i j new X is = inr is
 in-threads (x ∷ xs) zero zero new X is = inl (refl, is)
 in-threads (x ∷ xs) zero (suc j) new X is = inr is
@@ -68,7 +69,8 @@ put-cases a u t put z v X is = elim (in-spaces a.spaces u.0 (put_thread put (spa
 same-proc : (p q : ProcNo) → place.Running p ≡ place.Running q → p ≡ q
 same-proc p q e = cc
 
-runs-put : (w : WorkloadView) (a : State) (u : SpaceNo) (t : ThreadNo) (p : ProcNo) → IsPlaced w a → owner_at a p ≡ Some u → p.0 < w.processors → runner_on a p ≡ None → IsPlaced w (placed a u t (place.Running p))
+runs-put : (w : WorkloadView) (a : State) (u : SpaceNo) (t : ThreadNo) (p : ProcNo) → IsPlaced w a → owner_at a p ≡ Some u → p.0 < w.processors
+    → runner_on a p ≡ None → IsPlaced w (placed a u t (place.Running p))
 runs-put w a u t p is owner within none = record {
   owned = λ z v q runs. elim (put-cases a u t (place.Running p) z v (place.Running q) runs) [
     | inl new ↦ let at = same-proc p q new.2 in (
@@ -95,7 +97,8 @@ readies-put w a u t is = record {
   one = λ z v x q first second. is.one z v x q (old z v q first) (old z x q second);
 }
   where
-    old : (z : SpaceNo) (v : ThreadNo) (q : ProcNo) → (thread_at (placed a u t place.Ready) z v).place ≡ place.Running q → (thread_at a z v).place ≡ place.Running q
+    old : (z : SpaceNo) (v : ThreadNo) (q : ProcNo) → (thread_at (placed a u t place.Ready) z v).place ≡ place.Running q
+        → (thread_at a z v).place ≡ place.Running q
     old z v q runs = elim (put-cases a u t place.Ready z v (place.Running q) runs) [
       | inl new ↦ absurd (let clash = new.2 in cc)
       | inr at ↦ at
@@ -114,17 +117,23 @@ owner-put : (a : State) (s : SpaceNo) (t : Option ThreadNo) (put : Place) (q : P
 owner-put a s None put q = refl
 owner-put a s (Some t) put q = refl
 
-pub places-step : (w : WorkloadView) (p : ProcNo) (r : Readings) (x : Record) → p.0 < w.processors → Needs w p r x → IsPlaced w r.state → IsPlaced w (changed w p r.state x)
+pub places-step : (w : WorkloadView) (p : ProcNo) (r : Readings) (x : Record) → p.0 < w.processors → Needs w p r x → IsPlaced w r.state
+    → IsPlaced w (changed w p r.state x)
 places-step w p r (Run u t) within needs is = runs-put w r.state u t p is needs.0 within needs.1
 places-step w p r (Cont u None) within needs is = is
 places-step w p r (Cont u (Some t)) within needs is = runs-put w r.state u t p is needs.0 within needs.1
 places-step w p r (Ready u t) within needs is = readies-put w r.state u t is
 places-step w p r (Move old new) within needs is = moves w r.state p new is needs.1
-places-step w p r (Ins u t i) within needs is = faded w r.state (changed w p r.state (Ins u t i)) (λ q. refl) (λ z. record-fades w p r.state z (Ins u t i) tt) is
-places-step w p r (Stop u t b) within needs is = faded w r.state (changed w p r.state (Stop u t b)) (owner-put r.state u t place.Carried) (λ z. record-fades w p r.state z (Stop u t b) tt) is
-places-step w p r (Block u t b io) within needs is = faded w r.state (changed w p r.state (Block u t b io)) (owner-put r.state u t place.Blocked) (λ z. record-fades w p r.state z (Block u t b io) tt) is
-places-step w p r (Unblock u t b) within needs is = faded w r.state (changed w p r.state (Unblock u t b)) (owner-put r.state u t place.Carried) (λ z. record-fades w p r.state z (Unblock u t b) tt) is
-places-step w p r (Back u t) within needs is = faded w r.state (changed w p r.state (Back u t)) (owner-put r.state u t place.Carried) (λ z. record-fades w p r.state z (Back u t) tt) is
+places-step w p r (Ins u t i) within needs is =
+    faded w r.state (changed w p r.state (Ins u t i)) (λ q. refl) (λ z. record-fades w p r.state z (Ins u t i) tt) is
+places-step w p r (Stop u t b) within needs is =
+    faded w r.state (changed w p r.state (Stop u t b)) (owner-put r.state u t place.Carried) (λ z. record-fades w p r.state z (Stop u t b) tt) is
+places-step w p r (Block u t b io) within needs is =
+    faded w r.state (changed w p r.state (Block u t b io)) (owner-put r.state u t place.Blocked) (λ z. record-fades w p r.state z (Block u t b io) tt) is
+places-step w p r (Unblock u t b) within needs is =
+    faded w r.state (changed w p r.state (Unblock u t b)) (owner-put r.state u t place.Carried) (λ z. record-fades w p r.state z (Unblock u t b) tt) is
+places-step w p r (Back u t) within needs is =
+    faded w r.state (changed w p r.state (Back u t)) (owner-put r.state u t place.Carried) (λ z. record-fades w p r.state z (Back u t) tt) is
 places-step w p r x within needs is = is
 
 -- no pair: no ready thread outranks one that runs on a processor whose line is low

@@ -11,31 +11,29 @@ use Rattle.sa_base.specs.declared.record.Note.{Note}
 use Rattle.sa_base.specs.declared.record.Note.TheVariants as note
 use Rattle.sa_spaces.specs.Workload.{WorkloadView}
 use Rattle.sa_laws.specs.Event.{Event}
-use Rattle.sa_laws.specs.State.{State, space_at, thread_at}
-use Rattle.sa_laws.specs.Readings.{Readings, opening_readings, running_of, life_of, life_if, life_on, owner_of, line_of, untold_of, taken_of, demand_of, space_of_life}
+use Rattle.sa_laws.specs.State.{State, thread_at}
+use Rattle.sa_laws.specs.Readings.{Readings, opening_readings, life_if, owner_of, line_of, untold_of, space_of_life}
 use Rattle.sa_laws.specs.History.{begun, behind_all, after_event, after_events}
-use Rattle.sa_laws.specs.Upcalls.{EachRecord, NamesTheLife, TellsAllThen, TellsOnce}
 use Rattle.sa_laws.specs.Opening.{opening_records}
 use Rattle.sa_laws.specs.Rules.{IsLawful}
 use Rattle.sa_legal.proofs.StandingLemmas.{Standing, Runs, Blocked, Taken, Nowhere, Stopped, Returned, kind, space_in, space_of}
 use Rattle.sa_ranks.specs.Rules.{prio_threads}
 use Rattle.sa_ranks.specs.Inside.{is_inside_or_urged}
-use Rattle.sa_ranks_legal.proofs.Fading.{Fades, Spares, record-fades, fades-more, fades-self}
 use Rattle.sa_ranks_legal.proofs.Moving.{Goes, Known, standings, held-all, known-all}
 use Rattle.sa_spaces.specs.Space.{SpaceView}
 use Rattle.sa_laws.specs.Event.{events_of}
-use Rattle.sa_laws.specs.State.{SpaceState, opening_state, opening_space}
+use Rattle.sa_laws.specs.State.{opening_state, opening_space}
 use Rattle.sa_laws.specs.declared.place.Place.TheVariants as place
 use Rattle.sa_legal.specs.Fold.{AreLawful}
 use Rattle.sa_legal.proofs.EventLemmas.{legal-lawful}
-use Rattle.sa_legal.proofs.MovesLemmas.{nowhere_first, agrees-start, agrees-ended}
+use Rattle.sa_legal.proofs.MovesLemmas.{nowhere_first, agrees-start, agrees-ended, calm-opening}
 use Rattle.sa_legal_readings.proofs.ApartLemmas.{none-in}
 use Rattle.sa_legal_readings.proofs.OwnLemmas.{OwnedByLives}
 use Rattle.sa_ranks.specs.Locks.{BeginsUnurged}
-use Rattle.sa_ranks.specs.Promises.{IsCalm, OutranksNobody, NoneIsOutranked}
+use Rattle.sa_ranks.specs.Promises.{IsCalm, OutranksNobody}
 use Rattle.sa_ranks_legal.specs.Laws.{EveryLegalRunOutranksNobody}
 use Rattle.sa_ranks_legal.proofs.Forms.{Formed}
-use Rattle.sa_ranks_legal.proofs.Events.{AreCalm, calm-opening, InForm, in-form, event-goes, event-told}
+use Rattle.sa_ranks_legal.proofs.Events.{AreCalm, InForm, in-form, event-goes, event-told}
 use Rattle.sa_ranks_legal.proofs.Fine.{Fine, held-none}
 use Rattle.sa_ranks_legal.proofs.Serve.{After, FineAfter, At, begun-known, calm-passes, up-fine, turning-fine, calm-fine, other-fine, same-fine, interrupt-fine}
 
@@ -44,7 +42,8 @@ pub record Moment (w : WorkloadView) (st : ℕ → Standing) (r : Readings) : Ty
   pub known : Known w st r []
   pub owned : OwnedByLives r
 
-parts-at : (w : WorkloadView) (st : ℕ → Standing) (r : Readings) (e : Event) → Moment w st r → IsLawful prio_threads w r e → (parts : InForm w r e) → At w st r e parts.first parts.own parts.closing
+parts-at : (w : WorkloadView) (st : ℕ → Standing) (r : Readings) (e : Event) → Moment w st r → IsLawful prio_threads w r e → (parts : InForm w r e)
+    → At w st r e parts.first parts.own parts.closing
 parts-at w st r e moment law parts = record {
   known = moment.known;
   owned = moment.owned;
@@ -55,7 +54,8 @@ parts-at w st r e moment law parts = record {
   closes = parts.closes;
 }
 
-event-fine : (w : WorkloadView) (st : ℕ → Standing) (r : Readings) (e : Event) → Moment w st r → IsLawful prio_threads w r e → 1 ≤ e.number → (s : SpaceNo) → s.0 < length w.spaces → Fine r st r.lives s
+event-fine : (w : WorkloadView) (st : ℕ → Standing) (r : Readings) (e : Event) → Moment w st r → IsLawful prio_threads w r e → 1 ≤ e.number → (s : SpaceNo)
+    → s.0 < length w.spaces → Fine r st r.lives s
     → FineAfter w st r e e.records s
 event-fine w st r e moment law from s within fine = whole (in-form w r e law from) where
   whole : InForm w r e → FineAfter w st r e e.records s
@@ -72,7 +72,8 @@ event-fine w st r e moment law from s within fine = whole (in-form w r e law fro
         let life : r.lives step.act.0 ≡ Some step.life = ap (life_if r) (sym step.runs) ∙ step.on in
         elim (cases_eq step.life.space.0 s.0) [
           | inl same ↦
-              same-fine w st r e parts.first parts.own parts.closing at s fine low (subst (BeginsUnurged w r e.proc) parts.is (law.demand_said.step from)) step life
+              same-fine w st r e parts.first parts.own parts.closing at s fine low
+              (subst (BeginsUnurged w r e.proc) parts.is (law.demand_said.step from)) step life
               (ap (λ n. record { 0 = n }) same)
           | inr apart ↦ other-fine w st r e parts.first parts.own parts.closing at s fine low step (ap space_of life) apart
         ]
@@ -84,11 +85,16 @@ event-fine w st r e moment law from s within fine = whole (in-form w r e law fro
         let next = law.interrupt_next.interrupt (ap (λ (o : Option ℕ). is_some o) raised) in
         up-fine w st r e parts.first parts.own parts.closing at s within turn.0
         (λ own. interrupt-fine w st r e parts.first parts.own parts.closing at s within fine turn.1
-        (subst (Rattle.sa_laws.specs.Upcalls.StopsAndGoes e.proc (begun w e r) (owner_of r e.proc) (Rattle.sa_laws.specs.Readings.aim_of r e.proc)) parts.is next) own)
+        (subst (Rattle.sa_laws.specs.Upcalls.StopsAndGoes e.proc (begun w e r) (owner_of r e.proc)
+        (Rattle.sa_laws.specs.Readings.aim_of r e.proc)) parts.is next) own)
 
 -- before the opening no thread runs, and no line is raised
 rests-in : (defs : List SpaceView) (k j : ℕ) (p : ProcNo)
-    → (get_or (get_or (map opening_space defs) k (record { threads = []; sync = Rattle.sa_sync.specs.Sync.opening Rattle.sa_laws.specs.State.no_space })).threads j Rattle.sa_ranks_legal.proofs.Fading.nobody).place ≡ place.Running p → ⊥
+    → (get_or (get_or (map opening_space defs) k
+    (record {
+      threads = [];
+      sync = Rattle.sa_sync.specs.Sync.opening Rattle.sa_laws.specs.State.no_space;
+    })).threads j Rattle.sa_ranks_legal.proofs.Fading.nobody).place ≡ place.Running p → ⊥
 rests-in [] k j p is = absurd (cc)
 rests-in (def ∷ defs) zero zero p is = absurd (cc)
 rests-in (def ∷ defs) zero (suc j) p is = absurd (cc)
@@ -133,7 +139,8 @@ start w = record {
   nobody (suc n) = ap (λ os. None ∷ os) (nobody n)
 
 -- the opening
-first-fine : (w : WorkloadView) (e : Event) → IsLawful prio_threads w (opening_readings w) e → (s : SpaceNo) → FineAfter w nowhere_first (opening_readings w) e e.records s
+first-fine : (w : WorkloadView) (e : Event) → IsLawful prio_threads w (opening_readings w) e → (s : SpaceNo)
+    → FineAfter w nowhere_first (opening_readings w) e e.records s
 first-fine w e law s =
     let r = opening_readings w in
     let known = begun-known w nowhere_first r e e.records (start w).known in
@@ -141,12 +148,16 @@ first-fine w e law s =
     let records : e.records ≡ opening_records w = ap (λ (f : Event). f.records) (law.numbering.opening law.numbering.number) in
     let passes = calm-passes w e.number e.proc s (begun w e r) e.records (subst AreCalm (sym records) (calm-opening w)) in
     let held = held-all w e.number e.proc nowhere_first (begun w e r) s e.records law.numbering.proc known goes passes (λ telling. absurd (cc)) in
-    inr (inr (held-none w r e (After w r e e.records) s nowhere_first (standings e.proc nowhere_first e.records) (start w).known.placed held (inl (low-in w.processors e.proc.0))
+    inr
+    (inr (held-none w r e (After w r e e.records) s nowhere_first (standings e.proc nowhere_first e.records) (start w).known.placed held
+    (inl (low-in w.processors e.proc.0))
     (λ t u p ready runs low. absurd (rests w s u p runs))))
 
-next : (w : WorkloadView) (st : ℕ → Standing) (r : Readings) (e : Event) → Moment w st r → IsLawful prio_threads w r e → Moment w (standings e.proc st e.records) (after_event is_inside_or_urged w r e)
+next : (w : WorkloadView) (st : ℕ → Standing) (r : Readings) (e : Event) → Moment w st r → IsLawful prio_threads w r e
+    → Moment w (standings e.proc st e.records) (after_event is_inside_or_urged w r e)
 next w st r e moment law =
-    let all = known-all w e.number e.proc st (begun w e r) e.records law.numbering.proc (begun-known w st r e e.records moment.known) (event-goes w r e law (event-told w r e law)) in
+    let all = known-all w e.number e.proc st (begun w e r) e.records law.numbering.proc (begun-known w st r e e.records moment.known)
+    (event-goes w r e law (event-told w r e law)) in
     record {
       known = record {
         apart = record {
@@ -169,7 +180,8 @@ next w st r e moment law =
     }
 
 -- where nothing is on its way
-quiet : (w : WorkloadView) (st : ℕ → Standing) (r : Readings) (s : SpaceNo) → s.0 < length w.spaces → Known w st r [] → Fine r st r.lives s → IsCalm r s → OutranksNobody r s
+quiet : (w : WorkloadView) (st : ℕ → Standing) (r : Readings) (s : SpaceNo) → s.0 < length w.spaces → Known w st r [] → Fine r st r.lives s → IsCalm r s
+    → OutranksNobody r s
 quiet w st r s within known (inl (a, life, is, of, inside, free)) calm = absurd (stands (st a) refl) where
   act : ActNo
   act = record { 0 = a }
@@ -187,8 +199,12 @@ quiet w st r s within known (inl (a, life, is, of, inside, free)) calm = absurd 
   stands Nowhere at = none-some s (ap space_in (sym at) ∙ space)
   stands (Runs u p) at = out (inl (p, known.shows.running u p (record { 0 = a }) at))
   stands (Blocked u) at = out (inr (known.shows.blocked u (record { 0 = a }) at))
-  stands (Stopped u) at = let one = same_Some u s (ap space_in (sym at) ∙ space) in told (note.Preempted (record { 0 = a })) (known.shows.stopped s (record { 0 = a }) within (at ∙ ap Stopped one))
-  stands (Returned u) at = let one = same_Some u s (ap space_in (sym at) ∙ space) in told (note.Unblocked (record { 0 = a })) (known.shows.returned s (record { 0 = a }) within (at ∙ ap Returned one))
+  stands (Stopped u) at =
+      let one = same_Some u s (ap space_in (sym at) ∙ space) in
+      told (note.Preempted (record { 0 = a })) (known.shows.stopped s (record { 0 = a }) within (at ∙ ap Stopped one))
+  stands (Returned u) at =
+      let one = same_Some u s (ap space_in (sym at) ∙ space) in
+      told (note.Unblocked (record { 0 = a })) (known.shows.returned s (record { 0 = a }) within (at ∙ ap Returned one))
   stands (Taken u) at = free (ap kind at)
 quiet w st r s within known (inr (inl untold)) calm = absurd (none-in untold.0 (subst (λ ns. Contains ns untold.0) calm.told untold.2))
 quiet w st r s within known (inr (inr none)) calm = λ t u p ready runs. none t u p ready runs (calm.lines p (known.placed.owned s u p runs).0)
@@ -196,7 +212,8 @@ quiet w st r s within known (inr (inr none)) calm = λ t u p ready runs. none t 
 abbrev FineAll : WorkloadView → (ℕ → Standing) → Readings → Type 0
 FineAll w st r = (s : SpaceNo) → s.0 < length w.spaces → Fine r st r.lives s
 
-along : (w : WorkloadView) (st : ℕ → Standing) (r : Readings) (events : List Event) → Moment w st r → 1 ≤ r.number → FineAll w st r → AreLawful prio_threads w r events → (n : ℕ) (s : SpaceNo) → s.0 < length w.spaces
+along : (w : WorkloadView) (st : ℕ → Standing) (r : Readings) (events : List Event) → Moment w st r → 1 ≤ r.number → FineAll w st r
+    → AreLawful prio_threads w r events → (n : ℕ) (s : SpaceNo) → s.0 < length w.spaces
     → IsCalm (after_events is_inside_or_urged w r (take n events)) s → OutranksNobody (after_events is_inside_or_urged w r (take n events)) s
 along w st r events moment later fine law zero s within calm = quiet w st r s within moment.known (fine s within) calm
 along w st r [] moment later fine law (suc n) s within calm = quiet w st r s within moment.known (fine s within) calm
@@ -210,11 +227,13 @@ first-quiet : (w : WorkloadView) (s : SpaceNo) → OutranksNobody (opening_readi
 first-quiet w s = λ t u p ready runs. absurd (rests w s u p runs)
 
 from-start : (w : WorkloadView) (events : List Event) → AreLawful prio_threads w (opening_readings w) events → (n : ℕ) (s : SpaceNo) → s.0 < length w.spaces
-    → IsCalm (after_events is_inside_or_urged w (opening_readings w) (take n events)) s → OutranksNobody (after_events is_inside_or_urged w (opening_readings w) (take n events)) s
+    → IsCalm (after_events is_inside_or_urged w (opening_readings w) (take n events)) s
+    → OutranksNobody (after_events is_inside_or_urged w (opening_readings w) (take n events)) s
 from-start w events law zero s within calm = first-quiet w s
 from-start w [] law (suc n) s within calm = first-quiet w s
 from-start w (e ∷ events) law (suc n) s within calm =
-    along w (standings e.proc nowhere_first e.records) (after_event is_inside_or_urged w (opening_readings w) e) events (next w nowhere_first (opening_readings w) e (start w) law.0)
+    along w (standings e.proc nowhere_first e.records) (after_event is_inside_or_urged w (opening_readings w) e) events
+    (next w nowhere_first (opening_readings w) e (start w) law.0)
     (let number = Rattle.sa_legal.proofs.MomentLemmas.number-next prio_threads w (opening_readings w) e in omega arith)
     (λ k below. first-fine w e law.0 k) law.1 n s within calm
 

@@ -2,7 +2,7 @@
 use Rattle.std.proofs.Common.{◌≡◌, ◌≢◌, ℕ, ◌<◌, ◌≤◌, ◌⊎◌, inl, inr, refl, sym, ◌∙◌, ap, subst, arith, Some, None, List, [], ◌∷◌, ◌++◌, length, map, true, false}
 use Rattle.std.specs.Prelude.{Option, Bool, nat_lt, if◌then◌else◌, Contains}
 use Rattle.std.specs.List.{list_any}
-use Rattle.std.proofs.lemmas.Bool.{cases_eq}
+use Rattle.std.proofs.lemmas.Bool.{cases_eq, not-false}
 use Rattle.std.proofs.lemmas.Option.{none-some, same_Some}
 use Rattle.sa_base.specs.declared.number.SpaceNo.{SpaceNo}
 use Rattle.sa_base.specs.declared.number.ProcNo.{ProcNo}
@@ -11,38 +11,38 @@ use Rattle.sa_base.specs.declared.number.ActNo.{ActNo}
 use Rattle.sa_base.specs.declared.record.Note.{Note}
 use Rattle.sa_base.specs.declared.record.Note.TheVariants as note
 use Rattle.sa_base.specs.declared.record.Record.{Record}
-use Rattle.sa_base.specs.declared.record.Record.TheVariants.{Ins, Out, Run, Stop, Block, Unblock, Cont, Ready, Up, Told, Want, Aim, Line, GiveBack, Idle}
+use Rattle.sa_base.specs.declared.record.Record.TheVariants.{Ins, Out, Run, Stop, Block, Cont, Ready, Up, Want, Aim, Line, GiveBack, Idle}
 use Rattle.sa_spaces.specs.Workload.{WorkloadView}
 use Rattle.sa_laws.specs.Event.{Event}
 use Rattle.sa_laws.specs.Life.{Life}
 use Rattle.sa_laws.specs.State.{State, space_at, thread_at}
-use Rattle.sa_laws.specs.Readings.{Readings, opening_readings, running_of, life_of, life_if, life_on, owner_of, line_of, untold_of, taken_of, demand_of, space_of_life}
+use Rattle.sa_laws.specs.Readings.{Readings, running_of, life_on, owner_of, line_of, untold_of, taken_of, demand_of, space_of_life}
 use Rattle.sa_laws.specs.Record.{after_record}
 use Rattle.sa_laws.specs.History.{begun, behind, after_records, is_step, is_up, settles, with_step, with_up}
 use Rattle.sa_laws.specs.Shape.{own_part}
 use Rattle.sa_laws.specs.Step.{Needs, AreSteps}
 use Rattle.sa_laws.specs.Upcalls.{EachRecord}
 use Rattle.sa_laws.specs.Turns.{AreRaising, IsClosing}
-use Rattle.sa_legal.proofs.StandingLemmas.{Standing, Runs, kind, space_in, space_of, space-with, standing_after, stays, kind_before}
+use Rattle.sa_legal.proofs.StandingLemmas.{Standing, Runs, kind, space_in, space_of, space-with, standing_after, stays}
 use Rattle.sa_legal.proofs.ShapeLemmas.{is_telling}
 use Rattle.sa_legal_readings.proofs.ApartLemmas.{is_real}
-use Rattle.sa_legal_readings.proofs.FormLemmas.{Turning, BlocksFirst, is_quiet, AllQuiet, AllOut, Calm, RunsAt, quiet-append, closing-quiet}
+use Rattle.sa_legal_readings.proofs.FormLemmas.{Turning, BlocksFirst, is_quiet, AllQuiet, AllOut, Calm, quiet-append, closing-quiet, quiet-kind}
 use Rattle.sa_ranks.specs.Inside.{is_inside_or_urged, has_entry}
 use Rattle.sa_ranks.specs.Pairs.{has_pair}
-use Rattle.sa_ranks.specs.Steps.{IsRankedStep}
 use Rattle.sa_ranks_legal.proofs.Places.{IsPlaced, places-step, NoPair, no-pair}
 use Rattle.sa_ranks_legal.proofs.Moving.{Passing, Goes, Known, standings, held-all, known-all, known-step, stands, low-step}
-use Rattle.sa_laws.specs.Record.{running_after}
 use Rattle.sa_laws.specs.Machine.{next_effect}
 use Rattle.sa_laws.specs.Life.{with_hand}
 use Rattle.sa_laws.specs.Demand.{is_bound}
 use Rattle.sa_laws.specs.Upcalls.{StopsAndGoes}
 use Rattle.sa_laws.specs.declared.place.Place.TheVariants as place
-use Rattle.sa_legal.proofs.ReadLemmas.{not-true}
+use Rattle.sa_laws.proofs.Records.{records-append}
 use Rattle.sa_legal_readings.proofs.ApartLemmas.{none-in}
 use Rattle.sa_legal_readings.proofs.OwnLemmas.{OwnedByLives, owner-runs}
 use Rattle.sa_legal_readings.proofs.PassLemmas.{Passes}
 use Rattle.sa_legal_readings.proofs.FormLemmas.{turning-cases, up-runs}
+use Rattle.sa_legal_readings.proofs.CoverLemmas.{other-life}
+use Rattle.sa_legal_readings.proofs.FineLemmas.{one-act}
 use Rattle.sa_ranks.specs.Pairs.{rank_in}
 use Rattle.sa_ranks.specs.Locks.{BeginsUnurged, IsUnurged, IsUnurgedIf}
 use Rattle.sa_ranks_legal.proofs.Forms.{RankedStep}
@@ -104,7 +104,9 @@ calm-near w e p r (x ∷ xs) calm = absurd (let clash = calm.0 in cc)
 
 near-none : (r c : Readings) (s : SpaceNo) → Near r c → NoPair r s → NoPair c s
 near-none r c s near none =
-    subst (λ (a : State). (t u : ThreadNo) (p : ProcNo) → (thread_at a s t).place ≡ place.Ready → (thread_at a s u).place ≡ place.Running p → line_of c p ≡ None → rank_in (space_at a s) t ≤ rank_in (space_at a s) u)
+    subst
+    (λ (a : State). (t u : ThreadNo) (p : ProcNo) → (thread_at a s t).place ≡ place.Ready → (thread_at a s u).place ≡ place.Running p → line_of c p ≡ None
+    → rank_in (space_at a s) t ≤ rank_in (space_at a s) u)
     (sym near.0) (λ t u p ready runs low. none t u p ready runs (near.1 p low))
 
 raising-calm : (xs : List Record) → AreRaising xs → AreCalm xs
@@ -122,11 +124,8 @@ closing-calm (Line q ∷ xs) is = raising-calm (Line q ∷ xs) is
 closing-calm (Aim q None ∷ xs) is = absurd is
 closing-calm (x ∷ xs) is = absurd is
 
-after-append : (w : WorkloadView) (e : ℕ) (p : ProcNo) (r : Readings) (xs cs : List Record) → after_records w e p r (xs ++ cs) ≡ after_records w e p (after_records w e p r xs) cs
-after-append w e p r [] cs = refl
-after-append w e p r (x ∷ xs) cs = after-append w e p (after_record w e p r x) xs cs
-
-passing-append : (w : WorkloadView) (e : ℕ) (p : ProcNo) (s : SpaceNo) (r : Readings) (xs cs : List Record) → EachRecord (Passing s) w e p r xs → AreCalm cs → EachRecord (Passing s) w e p r (xs ++ cs)
+passing-append : (w : WorkloadView) (e : ℕ) (p : ProcNo) (s : SpaceNo) (r : Readings) (xs cs : List Record) → EachRecord (Passing s) w e p r xs → AreCalm cs
+    → EachRecord (Passing s) w e p r (xs ++ cs)
 passing-append w e p s r [] cs one calm = calm-passes w e p s r cs calm
 passing-append w e p s r (x ∷ xs) cs one calm = (widen x one.0, passing-append w e p s (after_record w e p r x) xs cs one.1 calm) where
   widen : (y : Record) → Passing s r y xs → Passing s r y (xs ++ cs)
@@ -137,7 +136,8 @@ passing-append w e p s r (x ∷ xs) cs one calm = (widen x one.0, passing-append
   widen (GiveBack a) is = is
   widen y is = is
 
-from-passes : (w : WorkloadView) (e : ℕ) (p : ProcNo) (s : SpaceNo) (r : Readings) (xs : List Record) → EachRecord (Passes s) w e p r xs → EachRecord (Passing s) w e p r xs
+from-passes : (w : WorkloadView) (e : ℕ) (p : ProcNo) (s : SpaceNo) (r : Readings) (xs : List Record) → EachRecord (Passes s) w e p r xs
+    → EachRecord (Passing s) w e p r xs
 from-passes w e p s r [] all = tt
 from-passes w e p s r (x ∷ xs) all = (narrow x all.0, from-passes w e p s (after_record w e p r x) xs all.1) where
   narrow : (y : Record) → Passes s r y xs → Passing s r y xs
@@ -149,31 +149,19 @@ from-passes w e p s r (x ∷ xs) all = (narrow x all.0, from-passes w e p s (aft
   narrow (Want u n) is = tt
   narrow y is = is
 
-places-prefix : (w : WorkloadView) (e : ℕ) (p : ProcNo) (r : Readings) (xs cs : List Record) → p.0 < w.processors → AreSteps w e p r (xs ++ cs) → IsPlaced w r.state → IsPlaced w (after_records w e p r xs).state
+places-prefix : (w : WorkloadView) (e : ℕ) (p : ProcNo) (r : Readings) (xs cs : List Record) → p.0 < w.processors → AreSteps w e p r (xs ++ cs)
+    → IsPlaced w r.state → IsPlaced w (after_records w e p r xs).state
 places-prefix w e p r [] cs within steps is = is
 places-prefix w e p r (x ∷ xs) cs within steps is = places-prefix w e p (after_record w e p r x) xs cs within steps.1 (places-step w p r x within steps.0 is)
 
-settles-if : (w : WorkloadView) (s : SpaceNo) (b : Bool) (c m : Readings) → IsPlaced w c.state → IsPlaced w m.state → (NoPair m s → NoPair c s) → IsPlaced w (if b then c else m).state × (NoPair (if b then c else m) s → NoPair c s)
+settles-if : (w : WorkloadView) (s : SpaceNo) (b : Bool) (c m : Readings) → IsPlaced w c.state → IsPlaced w m.state → (NoPair m s → NoPair c s)
+    → IsPlaced w (if b then c else m).state × (NoPair (if b then c else m) s → NoPair c s)
 settles-if w s true c m one two late = (one, λ none. none)
 settles-if w s false c m one two late = (two, late)
 
 -- quiet records leave a running life where it runs
-quiet-kind : (x : Record) → is_quiet x ≡ true → 1 ≢ kind_before x
-quiet-kind (Up u a) is = absurd (cc)
-quiet-kind (Stop u t a) is = absurd (cc)
-quiet-kind (Block u t a io) is = absurd (cc)
-quiet-kind (Told n) is = absurd (cc)
-quiet-kind (Unblock u t a) is = λ e. cc
-quiet-kind (GiveBack a) is = λ e. cc
-quiet-kind x is = λ e. cc
-
-quiet-running : (p q : ProcNo) (r : Readings) (x : Record) → is_quiet x ≡ true → running_after p r.running x ≡ r.running
-quiet-running p q r (Up u a) is = absurd (cc)
-quiet-running p q r (Stop u t a) is = absurd (cc)
-quiet-running p q r (Block u t a io) is = absurd (cc)
-quiet-running p q r x is = refl
-
-quiet-stays : (w : WorkloadView) (e : ℕ) (p : ProcNo) (st : ℕ → Standing) (r : Readings) (s : SpaceNo) (a : ActNo) (xs : List Record) → p.0 < w.processors → Known w st r xs → Goes w e p r xs → AllQuiet xs
+quiet-stays : (w : WorkloadView) (e : ℕ) (p : ProcNo) (st : ℕ → Standing) (r : Readings) (s : SpaceNo) (a : ActNo) (xs : List Record) → p.0 < w.processors
+    → Known w st r xs → Goes w e p r xs → AllQuiet xs
     → st a.0 ≡ Runs s p → standings p st xs a.0 ≡ Runs s p
 quiet-stays w e p st r s a [] within known goes quiet is = is
 quiet-stays w e p st r s a (x ∷ xs) within known goes quiet is =
@@ -189,7 +177,7 @@ unsettled : (r c : Readings) (s : SpaceNo) (x : Record) → is_step x ≡ true �
     → ((rest : List Record) (k : Readings) → Passing s k x rest) × ((life : Life) → is_bound r life x ≡ true)
 unsettled r c s (Ins u t i) step quiet is = ((λ rest k. tt), λ life. refl)
 unsettled r c s Idle step quiet is = ((λ rest k. tt), λ life. refl)
-unsettled r c s (Want u n) step quiet is = ((λ rest k. tt), λ life. not-true (nat_lt n (demand_of r u)) is)
+unsettled r c s (Want u n) step quiet is = ((λ rest k. tt), λ life. not-false (nat_lt n (demand_of r u)) is)
 unsettled r c s (Block u t a io) step quiet is = absurd (cc)
 unsettled r c s x step quiet is = absurd (cc)
 
@@ -199,11 +187,15 @@ out-passes w e p s r (Out u t v ∷ xs) is = (tt, out-passes w e p s (after_reco
 out-passes w e p s r (x ∷ xs) is = absurd is
 
 -- the first record of a step of another space
-first-passes : (w : WorkloadView) (p : ProcNo) (r : Readings) (s o : SpaceNo) (x : Record) (cs : List Record) → is_quiet x ≡ true → o.0 ≢ s.0 → owner_of r p ≡ Some o
+first-passes : (w : WorkloadView) (p : ProcNo) (r : Readings) (s o : SpaceNo) (x : Record) (cs : List Record) → is_quiet x ≡ true → o.0 ≢ s.0
+    → owner_of r p ≡ Some o
     → Needs w p r x → ((b : ActNo) → x ≡ GiveBack b → space_of_life r (Some b) ≢ Some s) → Passing s r x cs
-first-passes w p r s o (Run u t) cs quiet apart owner needs given = λ same. apart (ap (λ (k : SpaceNo). k.0) (same_Some o s (sym owner ∙ needs.0 ∙ ap Some same)))
-first-passes w p r s o (Ready u t) cs quiet apart owner needs given = λ same. apart (ap (λ (k : SpaceNo). k.0) (same_Some o s (sym owner ∙ needs.0 ∙ ap Some same)))
-first-passes w p r s o (Cont u t) cs quiet apart owner needs given = λ same. apart (ap (λ (k : SpaceNo). k.0) (same_Some o s (sym owner ∙ needs.0 ∙ ap Some same)))
+first-passes w p r s o (Run u t) cs quiet apart owner needs given =
+    λ same. apart (ap (λ (k : SpaceNo). k.0) (same_Some o s (sym owner ∙ needs.0 ∙ ap Some same)))
+first-passes w p r s o (Ready u t) cs quiet apart owner needs given =
+    λ same. apart (ap (λ (k : SpaceNo). k.0) (same_Some o s (sym owner ∙ needs.0 ∙ ap Some same)))
+first-passes w p r s o (Cont u t) cs quiet apart owner needs given =
+    λ same. apart (ap (λ (k : SpaceNo). k.0) (same_Some o s (sym owner ∙ needs.0 ∙ ap Some same)))
 first-passes w p r s o (GiveBack b) cs quiet apart owner needs given = given b refl
 first-passes w p r s o (Up u b) cs quiet apart owner needs given = absurd (cc)
 first-passes w p r s o x cs quiet apart owner needs given = tt
@@ -216,42 +208,38 @@ calm-first s r (GiveBack b) rest none quiet = absurd (cc)
 calm-first s r (Up u b) rest none quiet = absurd (cc)
 calm-first s r x rest none quiet = tt
 
-other-life : (r : Readings) (p : ProcNo) (a : ActNo) (s o : SpaceNo) → running_of r p ≡ Some a → space_of_life r (Some a) ≡ Some o → o.0 ≢ s.0
-    → (n : ℕ) (life : Life) (b : ActNo) → r.lives n ≡ Some life → life.space ≡ s → running_of r p ≡ Some b → n ≢ b.0
-other-life r p a s o runs of apart n life b is in_it other same =
-    let one : b ≡ a = same_Some b a (sym other ∙ runs) in
-    let there : space_of (r.lives n) ≡ Some o = ap (λ k. space_of (r.lives k)) (same ∙ ap (λ (k : ActNo). k.0) one) ∙ of in
-    apart (ap (λ (k : SpaceNo). k.0) (same_Some o s (sym there ∙ ap space_of is ∙ ap Some in_it)))
-
-given-passes : (w : WorkloadView) (e : ℕ) (p : ProcNo) (s : SpaceNo) (r : Readings) (acts : List ActNo) → ((a : ActNo) → Contains acts a → space_of_life r (Some a) ≢ Some s)
+given-passes : (w : WorkloadView) (e : ℕ) (p : ProcNo) (s : SpaceNo) (r : Readings) (acts : List ActNo)
+    → ((a : ActNo) → Contains acts a → space_of_life r (Some a) ≢ Some s)
     → EachRecord (Passing s) w e p r (map GiveBack acts)
 given-passes w e p s r acts other = from-passes w e p s r (map GiveBack acts) (Rattle.sa_legal_readings.proofs.FormLemmas.given-pass w e p s r acts other)
 
--- what a stop or a block notes is untold at the end of an event in which no up of its space stands
-noted-end : (w : WorkloadView) (e : ℕ) (p : ProcNo) (st : ℕ → Standing) (r : Readings) (s : SpaceNo) (x : Record) (xs : List Record) (n : Note) → p.0 < w.processors → is_real n ≡ true → is_telling (Some x) ≡ false
-    → Contains (untold_of (after_record w e p r x) s) n → Known w st r (x ∷ xs) → Goes w e p r (x ∷ xs) → EachRecord (Passing s) w e p r (x ∷ xs) → Untold (after_records w e p r (x ∷ xs)) s
+-- what a stop or a block notes is untold at the end of an event that has no up of its space
+noted-end : (w : WorkloadView) (e : ℕ) (p : ProcNo) (st : ℕ → Standing) (r : Readings) (s : SpaceNo) (x : Record) (xs : List Record) (n : Note)
+    → p.0 < w.processors → is_real n ≡ true → is_telling (Some x) ≡ false
+    → Contains (untold_of (after_record w e p r x) s) n → Known w st r (x ∷ xs) → Goes w e p r (x ∷ xs) → EachRecord (Passing s) w e p r (x ∷ xs)
+    → Untold (after_records w e p r (x ∷ xs)) s
 noted-end w e p st r s x xs n within real silent has known goes passes =
     let held = held-all w e p (standing_after p st x) (after_record w e p r x) s xs within (known-step w e p st r x xs within known goes)
     (record { moves = goes.moves.1; tells = goes.tells.1; steps = goes.steps.1 }) passes.1 (λ telling. absurd (let clash = sym silent ∙ telling in cc)) in
     (n, real, held.noted n real has)
 
-one-act : (r : Readings) (s u : SpaceNo) (a b : ActNo) (p : ProcNo) → running_of r p ≡ Some a → running_of r p ≡ Some b → space_of_life r (Some a) ≡ Some s → space_of_life r (Some b) ≡ Some u → u ≡ s
-one-act r s u a b p one two first second =
-    let same : a ≡ b = same_Some a b (sym one ∙ two) in
-    same_Some u s (sym second ∙ ap (λ (k : ActNo). space_of_life r (Some k)) (sym same) ∙ first)
-
-blocks-untold : (w : WorkloadView) (e : ℕ) (p : ProcNo) (st : ℕ → Standing) (r : Readings) (s : SpaceNo) (a : ActNo) (x : Record) (ys cs : List Record) → p.0 < w.processors → BlocksFirst x ys → is_step x ≡ true
-    → running_of r p ≡ Some a → space_of_life r (Some a) ≡ Some s → s.0 < length r.untold → Known w st r (x ∷ (ys ++ cs)) → Goes w e p r (x ∷ (ys ++ cs)) → EachRecord (Passing s) w e p r (x ∷ (ys ++ cs))
+blocks-untold : (w : WorkloadView) (e : ℕ) (p : ProcNo) (st : ℕ → Standing) (r : Readings) (s : SpaceNo) (a : ActNo) (x : Record) (ys cs : List Record)
+    → p.0 < w.processors → BlocksFirst x ys → is_step x ≡ true
+    → running_of r p ≡ Some a → space_of_life r (Some a) ≡ Some s → s.0 < length r.untold → Known w st r (x ∷ (ys ++ cs)) → Goes w e p r (x ∷ (ys ++ cs))
+    → EachRecord (Passing s) w e p r (x ∷ (ys ++ cs))
     → Untold (after_records w e p r (x ∷ (ys ++ cs))) s
 blocks-untold w e p st r s a (Block u t b io) ys cs proc blocks step runs space within known goes passes =
     let law = goes.moves.0 in
-    noted-end w e p st r s (Block u t b io) (ys ++ cs) (note.Blocked b) proc refl refl (note-has r s u (note.Blocked b) (one-act r s u a b p runs law.act space law.space) within) known goes passes
+    noted-end w e p st r s (Block u t b io) (ys ++ cs) (note.Blocked b) proc refl refl
+    (note-has r s u (note.Blocked b) (one-act r s u a b p runs law.act space law.space) within) known goes passes
 blocks-untold w e p st r s a (Ins v k i) (Block u t b io ∷ ys) cs proc blocks step runs space within known goes passes =
     let after = after_record w e p r (Ins v k i) in
     let law = goes.moves.1.0 in
-    let same : space_of_life after (Some b) ≡ space_of_life r (Some b) = space-with (with_hand (next_effect w r.state v k).roused) (running_of r p) r.lives b.0 (λ l. refl) in
+    let same : space_of_life after (Some b) ≡ space_of_life r (Some b) = space-with (with_hand (next_effect w r.state v k).roused) (running_of r p) r.lives b.0
+    (λ l. refl) in
     noted-end w e p (standing_after p st (Ins v k i)) after s (Block u t b io) (ys ++ cs) (note.Blocked b) proc refl refl
-    (note-has after s u (note.Blocked b) (one-act r s u a b p runs law.act space (sym same ∙ law.space)) within) (known-step w e p st r (Ins v k i) (Block u t b io ∷ (ys ++ cs)) proc known goes)
+    (note-has after s u (note.Blocked b) (one-act r s u a b p runs law.act space (sym same ∙ law.space)) within)
+    (known-step w e p st r (Ins v k i) (Block u t b io ∷ (ys ++ cs)) proc known goes)
     (record { moves = goes.moves.1; tells = goes.tells.1; steps = goes.steps.1 }) passes.1
 blocks-untold w e p st r s a x ys cs proc blocks step runs space within known goes passes = absurd (cc)
 
@@ -280,7 +268,8 @@ module _ (w : WorkloadView) (st : ℕ → Standing) (r : Readings) (e : Event) (
       let mid = After w r e (x ∷ ys) in
       let c = After w r e (x ∷ (ys ++ cs)) in
       let placed : IsPlaced w mid.state = places-prefix w e.number e.proc (begun w e r) (x ∷ ys) cs at.proc at.goes.steps at.known.placed in
-      let near : Near mid c = subst (Near mid) (sym (after-append w e.number e.proc (begun w e r) (x ∷ ys) cs)) (calm-near w e.number e.proc mid cs (closing-calm cs at.closes)) in
+      let near : Near mid c = subst (Near mid) (sym (records-append w e.number e.proc (begun w e r) (x ∷ ys) cs))
+      (calm-near w e.number e.proc mid cs (closing-calm cs at.closes)) in
       let both = settles-if w s (has_entry e.records) c (behind w e r (own_part e.records)) behind-it.placed
       (subst (λ zs. IsPlaced w (behind w e r zs).state) (sym at.part) placed)
       (subst (λ zs. NoPair (behind w e r zs) s → NoPair c s) (sym at.part) (near-none mid c s near)) in
@@ -290,27 +279,32 @@ module _ (w : WorkloadView) (st : ℕ → Standing) (r : Readings) (e : Event) (
   passes-on own = passing-append w e.number e.proc s (begun w e r) (x ∷ ys) cs own (closing-calm cs at.closes)
 
   held-fine : Fine r st r.lives s → Lowly r e.proc s → PassesAll w r e (x ∷ (ys ++ cs)) s
-      → ((a : ℕ) (life : Life) (b : ActNo) → r.lives a ≡ Some life → life.space ≡ s → life.inside ≡ true → running_of r e.proc ≡ Some b → is_step x ≡ true → a ≢ b.0)
+      → ((a : ℕ) (life : Life) (b : ActNo) → r.lives a ≡ Some life → life.space ≡ s → life.inside ≡ true → running_of r e.proc ≡ Some b → is_step x ≡ true
+      → a ≢ b.0)
       → FineAfter w st r e (x ∷ (ys ++ cs)) s
   held-fine fine lowly passes spared =
       let held = held-all w e.number e.proc st (begun w e r) s (x ∷ (ys ++ cs)) at.proc here at.goes passes (λ telling. absurd (cc)) in
-      keep-fine w r e (After w r e (x ∷ (ys ++ cs))) s st (standings e.proc st (x ∷ (ys ++ cs))) (x ∷ (ys ++ cs)) at.known.placed settling-it held lowly fine spared
+      keep-fine w r e (After w r e (x ∷ (ys ++ cs))) s st (standings e.proc st (x ∷ (ys ++ cs)))
+      (x ∷ (ys ++ cs)) at.known.placed settling-it held lowly fine spared
 
   -- a turn with a passage
-  pub up-fine : s.0 < length w.spaces → Turning (x ∷ ys) → (EachRecord (Passing s) w e.number e.proc (begun w e r) (x ∷ ys) → FineAfter w st r e (x ∷ (ys ++ cs)) s) → FineAfter w st r e (x ∷ (ys ++ cs)) s
+  pub up-fine : s.0 < length w.spaces → Turning (x ∷ ys)
+      → (EachRecord (Passing s) w e.number e.proc (begun w e r) (x ∷ ys) → FineAfter w st r e (x ∷ (ys ++ cs)) s) → FineAfter w st r e (x ∷ (ys ++ cs)) s
   up-fine within turning other = elim (turning-cases w e.number e.proc s (x ∷ ys) turning) [
     | inl up ↦
         let len = at.known.shows.running_len in
         let proc = at.proc in
         let runs = up-runs w e.number e.proc s (begun w e r) (x ∷ ys) cs (omega arith) turning up at.closes in
         let stood = behind-it.apart.agrees.running e.proc runs.0.act runs.0.runs in
-        arise-fine w r e (After w r e (x ∷ (ys ++ cs))) s (standings e.proc st (x ∷ (ys ++ cs))) (with_step is_inside_or_urged w r e (After w r e (x ∷ (ys ++ cs))) (x ∷ (ys ++ cs)) (After w r e (x ∷ (ys ++ cs))).lives) runs.0 settling-it
+        arise-fine w r e (After w r e (x ∷ (ys ++ cs))) s (standings e.proc st (x ∷ (ys ++ cs)))
+        (with_step is_inside_or_urged w r e (After w r e (x ∷ (ys ++ cs))) (x ∷ (ys ++ cs)) (After w r e (x ∷ (ys ++ cs))).lives) runs.0 settling-it
         (step-space w r e (After w r e (x ∷ (ys ++ cs))) (x ∷ (ys ++ cs)) (After w r e (x ∷ (ys ++ cs))).lives runs.0.act.0 ∙ runs.0.space)
         (runs-free (standings e.proc st (x ∷ (ys ++ cs))) runs.0.act.0 stood.0 e.proc stood.1) (ap (list_any is_up) at.is ∙ runs.1)
     | inr each ↦ other (from-passes w e.number e.proc s (begun w e r) (x ∷ ys) (each (begun w e r)))
   ]
 
-  pub turning-fine : s.0 < length w.spaces → Fine r st r.lives s → line_of r e.proc ≡ None → BlocksFirst x ys → EachRecord (Passing s) w e.number e.proc (begun w e r) (x ∷ ys) → FineAfter w st r e (x ∷ (ys ++ cs)) s
+  pub turning-fine : s.0 < length w.spaces → Fine r st r.lives s → line_of r e.proc ≡ None → BlocksFirst x ys
+      → EachRecord (Passing s) w e.number e.proc (begun w e r) (x ∷ ys) → FineAfter w st r e (x ∷ (ys ++ cs)) s
   turning-fine within fine low blocks own = one (is_step x) refl (running_of r e.proc) refl where
     one : (b : Bool) → is_step x ≡ b → (o : Option ActNo) → running_of r e.proc ≡ o → FineAfter w st r e (x ∷ (ys ++ cs)) s
     one false none o runs = held-fine fine (inl low) (passes-on own) (λ a life b is of inside other step. absurd (let clash = sym none ∙ step in cc))
@@ -324,26 +318,37 @@ module _ (w : WorkloadView) (st : ℕ → Standing) (r : Readings) (e : Event) (
               let untold = at.known.shows.untold_len in
               inr (inl (blocks-untold w e.number e.proc st (begun w e r) s a x ys cs at.proc blocks step runs is (omega arith) here at.goes (passes-on own)))
           | inr apart ↦
-              held-fine fine (inl low) (passes-on own) (λ n life b is in_it inside other step'. other-life r e.proc a s there.0 runs of apart n life b is in_it other)
+              held-fine fine (inl low) (passes-on own)
+              (λ n life b is in_it inside other step'. other-life r e.proc a s there.0 runs of apart n life b is in_it other)
         ]
 
   pub calm-fine : Fine r st r.lives s → line_of r e.proc ≡ None → Calm x ys → FineAfter w st r e (x ∷ (ys ++ cs)) s
   calm-fine fine low calm =
-      held-fine fine (inl low) (passes-on (calm-first s (begun w e r) x ys calm.none calm.quiet, subst (EachRecord (Passing s) w e.number e.proc (after_record w e.number e.proc (begun w e r) x)) (sym calm.alone) tt))
+      held-fine fine (inl low)
+      (passes-on (
+        calm-first s (begun w e r) x ys calm.none calm.quiet,
+        subst (EachRecord (Passing s) w e.number e.proc (after_record w e.number e.proc (begun w e r) x)) (sym calm.alone) tt,
+      ))
       (λ a life b is of inside other step. absurd (let clash = sym calm.none ∙ step in cc))
 
-  pub other-fine : Fine r st r.lives s → line_of r e.proc ≡ None → (step : RankedStep w (begun w e r) e.proc x ys) → space_of_life r (Some step.act) ≡ Some step.life.space → step.life.space.0 ≢ s.0
+  pub other-fine : Fine r st r.lives s → line_of r e.proc ≡ None → (step : RankedStep w (begun w e r) e.proc x ys)
+      → space_of_life r (Some step.act) ≡ Some step.life.space → step.life.space.0 ≢ s.0
       → FineAfter w st r e (x ∷ (ys ++ cs)) s
   other-fine fine low step of apart =
-      held-fine fine (inl low) (passes-on (own step.rest)) (λ n life b is in_it inside other step'. other-life r e.proc step.act s step.life.space step.runs of apart n life b is in_it other)
+      held-fine fine (inl low) (passes-on (own step.rest))
+      (λ n life b is in_it inside other step'. other-life r e.proc step.act s step.life.space step.runs of apart n life b is in_it other)
     where
       owner : owner_of r e.proc ≡ Some step.life.space
       owner = owner-runs r e.proc at.owned ∙ ap (space_of_life r) step.runs ∙ of
 
       taken : (b : ActNo) → Contains (taken_of r step.life.space) b → space_of_life r (Some b) ≢ Some s
-      taken b has is = apart (ap (λ (k : SpaceNo). k.0) (same_Some step.life.space s (sym (at.known.apart.agrees.lives b ∙ ap space_in (at.known.apart.agrees.taken step.life.space b has)) ∙ is)))
+      taken b has is =
+          apart
+          (ap (λ (k : SpaceNo). k.0)
+          (same_Some step.life.space s (sym (at.known.apart.agrees.lives b ∙ ap space_in (at.known.apart.agrees.taken step.life.space b has)) ∙ is)))
 
-      own : AllOut ys ⊎ ((x ∷ ys ≡ map GiveBack (taken_of r step.life.space)) × ((b c : Readings) → settles b c x ≡ true)) → EachRecord (Passing s) w e.number e.proc (begun w e r) (x ∷ ys)
+      own : AllOut ys ⊎ ((x ∷ ys ≡ map GiveBack (taken_of r step.life.space)) × ((b c : Readings) → settles b c x ≡ true))
+          → EachRecord (Passing s) w e.number e.proc (begun w e r) (x ∷ ys)
       own (inl out) = (
         first-passes w e.proc (begun w e r) s step.life.space x ys step.quiet.0 apart owner at.goes.steps.0 (λ b is. gives b is),
         out-passes w e.number e.proc s (after_record w e.number e.proc (begun w e r) x) ys out,
@@ -356,9 +361,12 @@ module _ (w : WorkloadView) (st : ℕ → Standing) (r : Readings) (e : Event) (
             head-has : (k : ActNo) (zs : List Record) (acts : List ActNo) → GiveBack k ∷ zs ≡ map GiveBack acts → Contains acts k
             head-has k zs [] same = absurd (cc)
             head-has k zs (a ∷ acts) same = (0, omega arith, (let one : a ≡ k = cc in one))
-      own (inr all) = subst (EachRecord (Passing s) w e.number e.proc (begun w e r)) (sym all.0) (given-passes w e.number e.proc s (begun w e r) (taken_of r step.life.space) taken)
+      own (inr all) =
+          subst (EachRecord (Passing s) w e.number e.proc (begun w e r)) (sym all.0)
+          (given-passes w e.number e.proc s (begun w e r) (taken_of r step.life.space) taken)
 
-  pub same-fine : Fine r st r.lives s → line_of r e.proc ≡ None → BeginsUnurged w r e.proc (x ∷ (ys ++ cs)) → (step : RankedStep w (begun w e r) e.proc x ys) → r.lives step.act.0 ≡ Some step.life → step.life.space ≡ s
+  pub same-fine : Fine r st r.lives s → line_of r e.proc ≡ None → BeginsUnurged w r e.proc (x ∷ (ys ++ cs)) → (step : RankedStep w (begun w e r) e.proc x ys)
+      → r.lives step.act.0 ≡ Some step.life → step.life.space ≡ s
       → FineAfter w st r e (x ∷ (ys ++ cs)) s
   same-fine fine low freely step is of = one (settles r (After w r e (x ∷ (ys ++ cs))) x) refl where
     there : space_of_life r (Some step.act) ≡ Some s
@@ -368,10 +376,13 @@ module _ (w : WorkloadView) (st : ℕ → Standing) (r : Readings) (e : Event) (
     settled settles_it =
         let stood = at.known.apart.agrees.running e.proc step.act step.runs in
         let space : stood.0 ≡ s = same_Some stood.0 s (sym (at.known.apart.agrees.lives step.act ∙ ap space_in stood.1) ∙ there) in
-        let stays_there = quiet-stays w e.number e.proc st (begun w e r) s step.act (x ∷ (ys ++ cs)) at.proc here at.goes (quiet-append (x ∷ ys) cs step.quiet (closing-quiet cs at.closes))
+        let stays_there = quiet-stays w e.number e.proc st (begun w e r) s step.act (x ∷ (ys ++ cs)) at.proc here at.goes
+        (quiet-append (x ∷ ys) cs step.quiet (closing-quiet cs at.closes))
         (stood.1 ∙ ap (λ k. Runs k e.proc) space) in
-        settle-fine w r e (After w r e (x ∷ (ys ++ cs))) s (standings e.proc st (x ∷ (ys ++ cs))) x (ys ++ cs) (After w r e (x ∷ (ys ++ cs))).lives step.act settling-it step.runs
-        (behind-it.apart.agrees.lives step.act ∙ ap space_in stays_there) (runs-free (standings e.proc st (x ∷ (ys ++ cs))) step.act.0 s e.proc stays_there) step.step settles_it
+        settle-fine w r e (After w r e (x ∷ (ys ++ cs))) s (standings e.proc st (x ∷ (ys ++ cs))) x (ys ++ cs)
+        (After w r e (x ∷ (ys ++ cs))).lives step.act settling-it step.runs
+        (behind-it.apart.agrees.lives step.act ∙ ap space_in stays_there)
+        (runs-free (standings e.proc st (x ∷ (ys ++ cs))) step.act.0 s e.proc stays_there) step.step settles_it
 
     out : settles r (After w r e (x ∷ (ys ++ cs))) x ≡ false → AllOut ys
     out none = two step.rest where
@@ -379,10 +390,13 @@ module _ (w : WorkloadView) (st : ℕ → Standing) (r : Readings) (e : Event) (
       two (inl outs) = outs
       two (inr given) = absurd (let clash = sym (given.1 r (After w r e (x ∷ (ys ++ cs)))) ∙ none in cc)
 
-    bound : ((rest : List Record) (k : Readings) → Passing s k x rest) → ((life : Life) → is_bound r life x ≡ true) → AllOut ys → FineAfter w st r e (x ∷ (ys ++ cs)) s
+    bound : ((rest : List Record) (k : Readings) → Passing s k x rest) → ((life : Life) → is_bound r life x ≡ true) → AllOut ys
+        → FineAfter w st r e (x ∷ (ys ++ cs)) s
     bound pass binds outs =
-        let own : EachRecord (Passing s) w e.number e.proc (begun w e r) (x ∷ ys) = (pass ys (begun w e r), out-passes w e.number e.proc s (after_record w e.number e.proc (begun w e r) x) ys outs) in
-        let free : IsUnurged w r step.life x = subst (λ o. IsUnurgedIf true w r o x) step.on (subst (λ k. IsUnurgedIf k w r (life_on r e.proc) x) step.step freely) in
+        let own : EachRecord (Passing s) w e.number e.proc (begun w e r)
+        (x ∷ ys) = (pass ys (begun w e r), out-passes w e.number e.proc s (after_record w e.number e.proc (begun w e r) x) ys outs) in
+        let free : IsUnurged w r step.life x = subst (λ o. IsUnurgedIf true w r o x) step.on
+        (subst (λ k. IsUnurgedIf k w r (life_on r e.proc) x) step.step freely) in
         three (passes-on own) (free.unurged (binds step.life))
       where
         three : PassesAll w r e (x ∷ (ys ++ cs)) s → (step.life.inside ≡ false) ⊎ (has_pair w r step.life.space ≡ false) → FineAfter w st r e (x ∷ (ys ++ cs)) s
@@ -400,21 +414,28 @@ module _ (w : WorkloadView) (st : ℕ → Standing) (r : Readings) (e : Event) (
     one false no_it = let free = unsettled r (After w r e (x ∷ (ys ++ cs))) s x step.step step.quiet.0 no_it in bound free.0 free.1 (out no_it)
 
   -- an interrupt
-  pub interrupt-fine : s.0 < length w.spaces → Fine r st r.lives s → is_step x ≡ false → StopsAndGoes e.proc (begun w e r) (owner_of r e.proc) (Rattle.sa_laws.specs.Readings.aim_of r e.proc) (x ∷ (ys ++ cs))
+  pub interrupt-fine : s.0 < length w.spaces → Fine r st r.lives s → is_step x ≡ false
+      → StopsAndGoes e.proc (begun w e r) (owner_of r e.proc) (Rattle.sa_laws.specs.Readings.aim_of r e.proc) (x ∷ (ys ++ cs))
       → EachRecord (Passing s) w e.number e.proc (begun w e r) (x ∷ ys) → FineAfter w st r e (x ∷ (ys ++ cs)) s
   interrupt-fine within fine none stops own = one (owner_of r e.proc) refl stops where
-    spared : (a : ℕ) (life : Life) (b : ActNo) → r.lives a ≡ Some life → life.space ≡ s → life.inside ≡ true → running_of r e.proc ≡ Some b → is_step x ≡ true → a ≢ b.0
+    spared : (a : ℕ) (life : Life) (b : ActNo) → r.lives a ≡ Some life → life.space ≡ s → life.inside ≡ true → running_of r e.proc ≡ Some b → is_step x ≡ true
+        → a ≢ b.0
     spared a life b is of inside other step = absurd (let clash = sym none ∙ step in cc)
 
-    stopped : (y : Record) → x ≡ y → (o : SpaceNo) → o ≡ s → StopsAndGoes e.proc (begun w e r) (Some o) (Rattle.sa_laws.specs.Readings.aim_of r e.proc) (y ∷ (ys ++ cs)) → FineAfter w st r e (x ∷ (ys ++ cs)) s
+    stopped : (y : Record) → x ≡ y → (o : SpaceNo) → o ≡ s
+        → StopsAndGoes e.proc (begun w e r) (Some o) (Rattle.sa_laws.specs.Readings.aim_of r e.proc) (y ∷ (ys ++ cs)) → FineAfter w st r e (x ∷ (ys ++ cs)) s
     stopped (Stop u t a) same o of is =
         let untold = at.known.shows.untold_len in
         let has : Contains (untold_of (after_record w e.number e.proc (begun w e r) x) s) (note.Preempted a) =
-        subst (λ y. Contains (untold_of (after_record w e.number e.proc (begun w e r) y) s) (note.Preempted a)) (sym same) (note-has (begun w e r) s u (note.Preempted a) (is.0 ∙ of) (omega arith)) in
-        inr (inl (noted-end w e.number e.proc st (begun w e r) s x (ys ++ cs) (note.Preempted a) at.proc refl (ap (λ y. is_telling (Some y)) same) has here at.goes (passes-on own)))
+        subst (λ y. Contains (untold_of (after_record w e.number e.proc (begun w e r) y) s) (note.Preempted a)) (sym same)
+        (note-has (begun w e r) s u (note.Preempted a) (is.0 ∙ of) (omega arith)) in
+        inr
+        (inl (noted-end w e.number e.proc st (begun w e r) s x (ys ++ cs) (note.Preempted a) at.proc refl (ap (λ y. is_telling (Some y)) same) has here at.goes
+        (passes-on own)))
     stopped y same o of is = absurd is
 
-    one : (o : Option SpaceNo) → owner_of r e.proc ≡ o → StopsAndGoes e.proc (begun w e r) o (Rattle.sa_laws.specs.Readings.aim_of r e.proc) (x ∷ (ys ++ cs)) → FineAfter w st r e (x ∷ (ys ++ cs)) s
+    one : (o : Option SpaceNo) → owner_of r e.proc ≡ o → StopsAndGoes e.proc (begun w e r) o (Rattle.sa_laws.specs.Readings.aim_of r e.proc) (x ∷ (ys ++ cs))
+        → FineAfter w st r e (x ∷ (ys ++ cs)) s
     one None owner is = held-fine fine (inr (λ owned. none-some s (sym owner ∙ owned))) (passes-on own) spared
     one (Some o) owner is = elim (cases_eq o.0 s.0) [
       | inl same ↦ stopped x refl o (ap (λ n. record { 0 = n }) same) is

@@ -1,4 +1,4 @@
--- A step that asks for an entry of the kernel, behind which its context goes on.
+-- A step that asks for an entry of the kernel, after which its context goes on.
 use Rattle.sa_match.proofs.OwnRecords.{step-event_foreign}
 use Rattle.sa_match.proofs.Shown.{line-reads, lawful-by, rules-pass, step-turns, strict-due}
 use Rattle.sa_event_frames.proofs.Idle.{is_stop, no-stops, stops-first_both}
@@ -32,9 +32,10 @@ use Rattle.sa_laws.specs.History.{after_records, after_event, is_up}
 use Rattle.sa_laws.specs.Event.{Event}
 use Rattle.sa_laws.specs.Shape.{others_of}
 use Rattle.sa_laws.specs.Step.{AreSteps}
+use Rattle.sa_laws.proofs.Records.{records-append}
 use Rattle.sa_kernel_model.specs.Entries.{entered_as}
 use Rattle.sa_kernel_model.specs.State.{State, Scene, owner_of, line_of}
-use Rattle.sa_kernel_model.proofs.WalkLemmas.{records-both, AreOwn}
+use Rattle.sa_kernel_model.proofs.WalkLemmas.{AreOwn}
 use Rattle.sa_kernel_model.specs.Overview.{overview, read_off}
 use Rattle.sa_kernel_model.proofs.OverviewLemmas.{overview-ended}
 use Rattle.sa_kernel_model.specs.declared.entry.Entry.{Entry}
@@ -134,7 +135,7 @@ module _ {U C : Type 0} (level : UserLevel U C) where
       let kept = last-kept level.rules.inside w events ev kk history in
       let first = after_records w g p b0 own in
       let last = after_records w g p b0 (own ++ cl) in
-      let behind : last ≡ after_records w g p first cl = records-both w g p b0 own cl in
+      let behind : last ≡ after_records w g p first cl = records-append w g p b0 own cl in
       let alike : AlikeButDemands first last =
       subst (λ (v : Readings). AlikeButDemands first v) (sym behind) (closing-alike w g p first cl part.closes) in
       let final = after_event level.rules.inside w r ev in

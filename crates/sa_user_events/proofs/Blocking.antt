@@ -8,6 +8,7 @@ use Rattle.std.proofs.lemmas.List.Folds.{list_any-append}
 use Rattle.std.specs.Prelude.{◌==◌}
 use Rattle.std.specs.Option.{option_map}
 use Rattle.std.proofs.lemmas.Bool.Decides.{nat_tests}
+use Rattle.std.proofs.lemmas.List.Elements.{Contains-append_right}
 use Rattle.sa_base.specs.declared.record.Item.{Item}
 use Rattle.sa_base.specs.declared.number.ProcNo.{ProcNo}
 use Rattle.sa_base.specs.declared.number.SpaceNo.{SpaceNo}
@@ -45,7 +46,7 @@ use Rattle.sa_kernel_model.specs.Sound.{IsSound}
 use Rattle.sa_kernel_model.specs.State.{untold_of, life_of, State, Scene, owner_of, line_of, can_upcall, is_fetching}
 use Rattle.sa_kernel_model.proofs.OnceLemmas.{none-of}
 use Rattle.sa_kernel_model.proofs.EntryLemmas.{users-are_own, own-others}
-use Rattle.sa_kernel_model.proofs.WalkLemmas.{AreClosing, own-both, own-told, records-both, told-alone, AreOwn}
+use Rattle.sa_kernel_model.proofs.WalkLemmas.{AreClosing, own-both, own-told, told-alone, AreOwn}
 use Rattle.sa_kernel_model.specs.Parts.{put_aside, with_io, upcall, leave}
 use Rattle.sa_kernel_model.proofs.NoteLemmas.{copies, copies_in, once_if}
 use Rattle.sa_kernel_model.specs.declared.entry.Entry.{Entry}
@@ -76,6 +77,7 @@ use Rattle.sa_kernel_events.proofs.Interrupts.{told-steps, told-no_stop}
 use Rattle.sa_acts.specs.declared.acts.Act.{Act}
 use Rattle.sa_assign.specs.Aims.{space_no}
 use Rattle.sa_laws.specs.Step.{AreSteps}
+use Rattle.sa_laws.proofs.Records.{records-append}
 use Rattle.sa_kernel_model.specs.Enters.{upcalls_in}
 use Rattle.sa_core_model.proofs.Effects.{same-closed, same-again, same-leave}
 use Rattle.sa_event_frames.proofs.Frames.{same-for, alike-stays, closing-alike, put-again, StaysPut, plains-stay}
@@ -86,7 +88,6 @@ use Rattle.sa_kernel_events.proofs.Leaving.{leave-items, leave-own, leave-plain,
 use Rattle.sa_event_frames.proofs.Idle.{is_stop, StopsFirst, no-stops, stops-first_both}
 use Rattle.sa_match.proofs.OwnRecords.{says-users, users-no_stop, users-no_up}
 use Rattle.sa_match.proofs.Shown.{lawful-by, rules-pass, step-turns, strict-due}
-use Rattle.sa_match.proofs.Lists.{contains-behind}
 use Rattle.sa_core_model.proofs.Running.{contains-head}
 
 -- An upcall and a closing leave the threads.
@@ -185,7 +186,7 @@ module _ {U C : Type 0} (level : UserLevel U C) (w : WorkloadView) (events : Lis
   abbrev b0 : Readings
   b0 = begun_at w g p r
 
-  -- the step, what is set aside, the block's record, and the moment behind it
+  -- the step, what is set aside, the block's record, and the moment after it
   abbrev st : Stepped U C
   st = level.calls.stepped here.user (seen_on x p s) here.ctx
 
@@ -216,7 +217,7 @@ module _ {U C : Type 0} (level : UserLevel U C) (w : WorkloadView) (events : Lis
   abbrev aside : State C
   aside = put_aside p s here.act (Blocked here.act) held (with_io (io_for s here.act page) (g + len) k)
 
-  -- the scene behind the block, if the event began with these items
+  -- the scene after the block, if the event began with these items
   abbrev behind_block : List Item → Scene C
   behind_block items = record { state = aside; items = items ++ items_at g p (block ∷ []) }
 
@@ -270,7 +271,7 @@ module _ {U C : Type 0} (level : UserLevel U C) (w : WorkloadView) (events : Lis
       ap (λ (o : Option SpaceNo). blocked_by g p n o (life_of k p) held len page v) here.owner
       ∙ ap (λ (l : Option ActNo). blocked_by g p n (Some s) l held len page v) here.life
 
-  -- The kernel behind the block's entry, by what follows the block there.
+  -- The kernel after the block's entry, by what follows the block there.
   kernel-is : (what : Scene C → Scene C) (b : Bool) → ((v : Scene C) → told_or_left g p s n b v ≡ what v) → can_upcall k s ≡ b
       → entered g p n entry (record { state = k; items = m.items ++ items_at g p says }) ≡ closed g p
       (what (behind_block (m.items ++ items_at g p says)))
@@ -279,7 +280,7 @@ module _ {U C : Type 0} (level : UserLevel U C) (w : WorkloadView) (events : Lis
       ∙ ap (λ (q : Bool). told_or_left g p s n q (behind_block (m.items ++ items_at g p says))) resident
       ∙ is (behind_block (m.items ++ items_at g p says)))
 
-  -- The event, with the passage behind its block.
+  -- The event, with the passage after its block.
   record Blocks (passage : List Record) (k_after : Scene C) : Type 0 where
     closing : List Record
     parts : IsClosed (says ++ block ∷ passage) closing
@@ -355,7 +356,7 @@ module _ {U C : Type 0} (level : UserLevel U C) (w : WorkloadView) (events : Lis
   lawful passage k_after e is steps =
       let all = says ++ block ∷ passage in
       let rules = answer.rules_hold io passage e.closing is e.parts in
-      let both : real ≡ after_record w g p (after_records w g p b0 says) block = records-both w g p b0 says (block ∷ []) in
+      let both : real ≡ after_record w g p (after_records w g p b0 says) block = records-append w g p b0 says (block ∷ []) in
       lawful-by level w events m k_after p all e.closing (traced-of level w events m c) e.history (record {
         within = here.within;
         some = some-behind says block passage;
@@ -411,7 +412,7 @@ module _ {U C : Type 0} (level : UserLevel U C) (w : WorkloadView) (events : Lis
       let leave : AllLeave w g p a real (ups ++ cl) = up-leaves w g p a s n real notes cl differ not e.closes in
       let behind : last ≡ after_records w g p real (ups ++ cl) =
       ap (λ (xs : List Record). after_records w g p b0 xs) (sym (records-are ups cl))
-      ∙ records-both w g p b0 (says ++ block ∷ []) (ups ++ cl) in
+      ∙ records-append w g p b0 (says ++ block ∷ []) (ups ++ cl) in
       let h = ends_by ups cl in
       let closing : after_records w g p (front ups cl) (ups ++ cl) ≡ early h a last =
       early-all w g p h a real (ups ++ cl) leave ∙ ap (λ (v : Readings). early h a v) (sym behind) in
@@ -423,7 +424,7 @@ module _ {U C : Type 0} (level : UserLevel U C) (w : WorkloadView) (events : Lis
       (ups ++ cl)).lives ≡ with_step level.rules.inside w r ev last ev.records last.lives =
       ap (λ (v : Readings). v.lives) closing ∙ sym (step-is ups cl last.lives) in
       let has : Contains ev.records (Up s n) = subst (λ (xs : List Record). Contains xs (Up s n)) (records-are ups cl)
-      (contains-behind (says ++ block ∷ []) (ups ++ cl) (Up s n) (contains-head (Up s n) (map Told notes ++ cl))) in
+      (Contains-append_right (says ++ block ∷ []) (ups ++ cl) (Up s n) (contains-head (Up s n) (map Told notes ++ cl))) in
       let new_k = subst (λ (v : Scene C). Welcomed level.calls level.stands level.keep w g g p
       (record y { kernel = v.state; items = v.items })) now new in
       let done = passes-up level w events g g p s n true z yx (front ups cl) cl ev aside_is (λ is. here.owner)
@@ -474,7 +475,7 @@ module _ {U C : Type 0} (level : UserLevel U C) (w : WorkloadView) (events : Lis
       let left = after_records w g p real leaves in
       let behind : last ≡ after_records w g p left cl =
       ap (λ (xs : List Record). after_records w g p b0 xs) (sym (records-are leaves cl))
-      ∙ records-both w g p b0 (says ++ block ∷ []) (leaves ++ cl) ∙ records-both w g p real leaves cl in
+      ∙ records-append w g p b0 (says ++ block ∷ []) (leaves ++ cl) ∙ records-append w g p real leaves cl in
       let stays : StaysPut real last = put-again real left last (plains-stay w g p real leaves (leave-plain p o s still))
       (subst (λ (v : Readings). StaysPut left v) (sym behind)
       (alike-stays left (after_records w g p left cl) (closing-alike w g p left cl e.closes))) in
@@ -490,7 +491,15 @@ module _ {U C : Type 0} (level : UserLevel U C) (w : WorkloadView) (events : Lis
       ended-step level.rules.inside w r ev last no_up ∙ step-is leaves cl last.lives
       ∙ ap (λ (ls : ℕ → Option Life). with_life (ends_by leaves cl) (Some a) ls) stays.lives in
       let put_final : StaysPut (front leaves cl) final =
-      record { spaces = stays.spaces; lives = lives; running = stays.running; taken = stays.taken; untold = stays.untold; ready = stays.ready; lines = stays.lines } in
+      record {
+        spaces = stays.spaces;
+        lives = lives;
+        running = stays.running;
+        taken = stays.taken;
+        untold = stays.untold;
+        ready = stays.ready;
+        lines = stays.lines;
+      } in
       let done : Machine U C = record y { kernel = kk.state; items = kk.items } in
       let is : entered_on level.calls p n entry y ≡ done =
       ap (λ (v : Bool). welcomed_if level.calls p v (kernel_entered p n entry y)) up
@@ -574,4 +583,5 @@ module _ {U C : Type 0} (level : UserLevel U C) where
       let event_is = ap (λ (q : Machine U C). q.event) (sym is) ∙ event in
       subst (λ (q : Machine U C). (ev : Event) × Goes level w events m p q ev) (sym is)
       (block-either level w events m c p n s len page low due few unused here asks can.fit
-      (λ is_up. welcomed-upcall level.calls level.stands level.keep w g g z p n entry can.state rest here.within can.fit unused can.pauses is_up) up between_is workload_is event_is)
+      (λ is_up. welcomed-upcall level.calls level.stands level.keep w g g z p n entry can.state rest here.within can.fit
+      unused can.pauses is_up) up between_is workload_is event_is)

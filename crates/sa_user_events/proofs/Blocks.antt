@@ -33,13 +33,13 @@ use Rattle.sa_laws.specs.Life.{Life, held_with}
 use Rattle.sa_laws.specs.Readings.{Readings, running_of, owner_of as owner_in}
 use Rattle.sa_laws.specs.Record.{after_record, with_life}
 use Rattle.sa_laws.specs.History.{after_records}
+use Rattle.sa_laws.proofs.Records.{records-append}
 use Rattle.sa_kernel_model.specs.Parts.{put_aside, with_io}
 use Rattle.sa_kernel_model.proofs.NoteLemmas.{copies}
 use Rattle.sa_kernel_model.proofs.OnceLemmas.{apart-noted, apart-claimed, none-of}
 use Rattle.sa_kernel_model.specs.Entries.{io_for}
 use Rattle.sa_kernel_model.specs.Overview.{Overview, overview}
 use Rattle.sa_kernel_model.proofs.OverviewLemmas.{users-records, spaces-with, spaces_at}
-use Rattle.sa_kernel_model.proofs.WalkLemmas.{records-both}
 use Rattle.sa_core_model.specs.Machine.{Machine, step_to, seen_on}
 use Rattle.sa_core_model.specs.Run.{setting}
 use Rattle.sa_core_model.specs.Standing.{contexts_of}
@@ -59,7 +59,7 @@ use Rattle.sa_event_frames.proofs.Frames.{same-trans}
 use Rattle.sa_kernel_events.proofs.Halted.{IsHalted}
 
 module _ {U C : Type 0} (level : UserLevel U C) where
-  -- the context that has made its step, where it stands
+  -- the context that has made its step, where it is
   abbrev pub stepped-at : (w : WorkloadView) (e g : ℕ) (p : ProcNo) (s : SpaceNo) (x : Machine U C)
       → Rests level.calls level.stands level.keep w e g x → (here : IsAt level.calls level.stands level.keep x p s)
       → (st : Stepped U C) → IsAt level.calls level.stands level.keep (step_to level.calls p s st x) p s
@@ -110,7 +110,7 @@ module _ {U C : Type 0} (level : UserLevel U C) where
       let block = Block s held.thread a io in
       let blocked = after_record w g p said block in
       let front = early h a (after_records w g p c (st.says ++ block ∷ [])) in
-      let both : after_records w g p c (st.says ++ block ∷ []) ≡ blocked = records-both w g p c st.says (block ∷ []) in
+      let both : after_records w g p c (st.says ++ block ∷ []) ≡ blocked = records-append w g p c st.says (block ∷ []) in
       let late : e < x.event = omega arith in
       let own = (step-law level.calls level.stands level.keep e x p s b.rest.standing here late few).own in
       let are = says-users s st.says own in
@@ -137,7 +137,15 @@ module _ {U C : Type 0} (level : UserLevel U C) where
       (λ z is. subst (λ (q : ActNo). IsLifeOf s said.lives q) (same_Some a z is) a_of) in
       let all = lives-foreign s t h (Some a) blocked.lives (λ life. (keeps life).0) lives_of apart in
       let three : SameFor t blocked (early h a blocked) =
-      record { space = refl; lives = all; running = λ q. runs-alike t blocked.lives (with_life h (Some a) blocked.lives) (running_of blocked q) all; taken = refl; untold = refl; ready = refl; lines = λ q runs raised. raised } in
+      record {
+        space = refl;
+        lives = all;
+        running = λ q. runs-alike t blocked.lives (with_life h (Some a) blocked.lives) (running_of blocked q) all;
+        taken = refl;
+        untold = refl;
+        ready = refl;
+        lines = λ q runs raised. raised;
+      } in
       subst (λ (z : Readings). SameFor t c (early h a z)) (sym both)
       (same-trans t c blocked (early h a blocked) (same-trans t c said blocked one two) three) in
       let runs = runs-at level.calls level.stands level.keep e x p s b.rest.standing here in

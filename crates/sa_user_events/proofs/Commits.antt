@@ -25,7 +25,7 @@ use Rattle.sa_spaces.specs.Workload.{WorkloadView}
 use Rattle.sa_abstract.specs.declared.answer.SeatState.{SeatState}
 use Rattle.sa_abstract.specs.declared.answer.SeatState.TheVariants.{Local, Away}
 use Rattle.sa_abstract.specs.Calls.{Contexts, Gone}
-use Rattle.sa_abstract.specs.Keeps.{Standing, Keeps, IsOwn, IsStepped, IsHanded, told_contexts, IsAsked, GoesOn, records_of}
+use Rattle.sa_abstract.specs.Keeps.{Keeps, IsOwn, GoesOn, records_of}
 use Rattle.sa_abstract.specs.Setting.{Setting}
 use Rattle.sa_abstract.specs.Walk.{ins_records, Spot}
 use Rattle.sa_acts.specs.declared.acts.Act.{Act}
@@ -37,10 +37,11 @@ use Rattle.sa_laws.specs.Event.{Event}
 use Rattle.sa_laws.specs.Readings.{Readings, running_of, line_of as line_in, owner_of as owner_in}
 use Rattle.sa_laws.specs.History.{after_records, after_event, is_up}
 use Rattle.sa_laws.specs.Step.{Needs}
+use Rattle.sa_laws.proofs.Records.{records-append}
 use Rattle.sa_kernel_model.proofs.OverviewLemmas.{users-records}
 use Rattle.sa_kernel_model.specs.State.{line_of, owner_of, life_of, says}
 use Rattle.sa_kernel_model.specs.Overview.{Overview}
-use Rattle.sa_kernel_model.proofs.WalkLemmas.{records-both, not-empty}
+use Rattle.sa_kernel_model.proofs.WalkLemmas.{not-empty}
 use Rattle.sa_core_model.specs.Machine.{Machine, seen_on}
 use Rattle.sa_core_model.specs.Turn.{next_event, sliced, sliced_if, ends_slice, more_events, gone_in, committed}
 use Rattle.sa_core_model.specs.Run.{setting, CanCommit}
@@ -89,7 +90,7 @@ parts-of [] n is = absurd (omega (arith, is))
 parts-of (x ∷ xs) n is = (x, xs, refl, omega (arith, is))
 
 module _ {U C : Type 0} (level : UserLevel U C) where
-  -- the machine behind an event with this record, and behind one event for each of these
+  -- the machine after an event with this record, and after one event for each of these
   abbrev pub with_record : ProcNo → Record → Machine U C → Machine U C
   with_record p x m = record (next_event m) { items = m.items ++ items_at (m.event + 1) p (x ∷ []) }
 
@@ -148,7 +149,7 @@ module _ {U C : Type 0} (level : UserLevel U C) where
       let hold_rules = good.rules_hold cl slice.parts in
       let first = after_records w g p b0 says in
       let last = after_records w g p b0 (says ++ cl) in
-      let behind : last ≡ after_records w g p first cl = records-both w g p b0 says cl in
+      let behind : last ≡ after_records w g p first cl = records-append w g p b0 says cl in
       let close : AlikeButDemands first last =
       subst (λ (z : Readings). AlikeButDemands first z) (sym behind) (closing-alike w g p first cl slice.closes) in
       let alike : Alike first last = record { kernel = close; demands = slice.demands } in
@@ -332,7 +333,19 @@ module _ {U C : Type 0} (level : UserLevel U C) where
       let start : Machine U C = record m { users = users; contexts = contexts } in
       let old = traced-of level w events m c in
       let traced : IsTraced level w events start =
-      record { fetched = old.fetched; workload = old.workload; history = old.history; lawful = old.lawful; number = old.number; last = old.last; sized = old.sized; calm = old.calm; ios = old.ios; idle = old.idle; matched = old.matched } in
+      record {
+        fetched = old.fetched;
+        workload = old.workload;
+        history = old.history;
+        lawful = old.lawful;
+        number = old.number;
+        last = old.last;
+        sized = old.sized;
+        calm = old.calm;
+        ios = old.ios;
+        idle = old.idle;
+        matched = old.matched;
+      } in
       let all = all-gone w events start p s here.act parts.0 parts.1 Goal traced
       (record { low = can.low; within = here.within; owner = here.owner; life = here.life; act = here.runs })
       (subst (λ (xs : List Record). AreLegalIns level.rules w g p r xs Goal) parts.2 good)

@@ -1,9 +1,9 @@
--- The end of a life's own event may as well come directly behind its block: the records of an upcall and a closing leave it.
+-- The end of a life's own event may as well come directly after its block: the records of an upcall and a closing leave it.
 use Rattle.std.proofs.Common.{◌≡◌, ◌≢◌, ℕ, sym, ◌∙◌, ap, subst, refl, true, Option, Some, None, List, [], ◌∷◌, ◌++◌, map, inl, inr}
 use Rattle.std.proofs.Math.Path.{fun_ext}
 use Rattle.std.specs.List.{list_all}
 use Rattle.std.specs.Option.{option_map}
-use Rattle.std.proofs.lemmas.Bool.{cases_eq}
+use Rattle.std.proofs.lemmas.Bool.{cases_eq, and_parts}
 use Rattle.std.proofs.lemmas.Option.{same_Some}
 use Rattle.sa_base.specs.declared.number.ProcNo.{ProcNo}
 use Rattle.sa_base.specs.declared.number.SpaceNo.{SpaceNo}
@@ -20,7 +20,6 @@ use Rattle.sa_laws.specs.Readings.{Readings}
 use Rattle.sa_laws.specs.Record.{after_record, with_life, handed, with_act}
 use Rattle.sa_laws.specs.History.{after_records}
 use Rattle.sa_laws.specs.Shape.{is_of_closing}
-use Rattle.sa_kernel_model.proofs.OverviewLemmas.{and-left}
 
 -- Changes of different lives can be swapped.
 swap-put : (f : Life → Life) (a : ActNo) (n : ℕ) (new : Option Life) (lives : ℕ → Option Life) → a.0 ≢ n → (i : ℕ)
@@ -104,7 +103,7 @@ abbrev pub AllLeave : WorkloadView → ℕ → ProcNo → ActNo → Readings →
 AllLeave w e p a r [] = Unit {0}
 AllLeave w e p a r (x ∷ xs) = Leaves a r x × AllLeave w e p a (after_record w e p r x) xs
 
--- So the end may come before such records or behind them.
+-- So the end may come before such records or after them.
 pub early-all : (w : WorkloadView) (e : ℕ) (p : ProcNo) (f : Life → Life) (a : ActNo) (r : Readings) (xs : List Record)
     → AllLeave w e p a r xs
     → after_records w e p (early f a r) xs ≡ early f a (after_records w e p r xs)
@@ -120,7 +119,7 @@ closing-leaves w e p a r [] closes = tt
 closing-leaves w e p a r (Want s n ∷ cl) closes = (refl, closing-leaves w e p a (after_record w e p r (Want s n)) cl closes)
 closing-leaves w e p a r (Aim q (Some s) ∷ cl) closes = (refl, closing-leaves w e p a (after_record w e p r (Aim q (Some s))) cl closes)
 closing-leaves w e p a r (Line q ∷ cl) closes = (refl, closing-leaves w e p a (after_record w e p r (Line q)) cl closes)
-closing-leaves w e p a r (x ∷ cl) closes = absurd (let z = and-left (is_of_closing x) (list_all is_of_closing cl) closes in cc)
+closing-leaves w e p a r (x ∷ cl) closes = absurd (let z = (and_parts (is_of_closing x) (list_all is_of_closing cl) closes).0 in cc)
 
 -- None of these notices hands the life over.
 abbrev pub NotOf : ActNo → List Note → Type 0

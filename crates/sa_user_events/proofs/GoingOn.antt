@@ -47,7 +47,7 @@ running-goes-on r p s t runs = record {
   stuck = λ is. not-all is_at_rest r p s t refl runs is.rest;
 }
 
--- The run goes on behind each of these events but the last.
+-- The run goes on after each of these events but the last.
 abbrev pub GoOn : Test → WorkloadView → Readings → List Event → Type 0
 GoOn test w r [] = Unit {0}
 GoOn test w r (e ∷ []) = Unit {0}

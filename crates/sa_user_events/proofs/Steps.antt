@@ -19,10 +19,10 @@ use Rattle.sa_devices.specs.Ios.{due_of}
 use Rattle.sa_laws.specs.Event.{Event}
 use Rattle.sa_laws.specs.Readings.{Readings, running_of}
 use Rattle.sa_laws.specs.History.{after_records, after_event, is_up}
+use Rattle.sa_laws.proofs.Records.{records-append}
 use Rattle.sa_kernel_model.proofs.OverviewLemmas.{users-records}
 use Rattle.sa_kernel_model.specs.State.{line_of}
 use Rattle.sa_kernel_model.specs.Overview.{Overview}
-use Rattle.sa_kernel_model.proofs.WalkLemmas.{records-both}
 use Rattle.sa_core_model.specs.Machine.{Machine, seen_on, step_to}
 use Rattle.sa_core_model.specs.Turn.{next_event, sliced}
 use Rattle.sa_core_model.specs.Run.{setting}
@@ -83,7 +83,7 @@ module _ {U C : Type 0} (level : UserLevel U C) where
       let first = after_records w g p b0 says in
       let last = after_records w g p b0 (says ++ cl) in
       let close : AlikeButDemands first last =
-      subst (λ (z : Readings). AlikeButDemands first z) (sym (records-both w g p b0 says cl))
+      subst (λ (z : Readings). AlikeButDemands first z) (sym (records-append w g p b0 says cl))
       (closing-alike w g p first cl slice.closes) in
       let alike : Alike first last = record { kernel = close; demands = slice.demands } in
       let final = after_event level.rules.inside w r ev in

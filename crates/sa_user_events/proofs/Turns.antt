@@ -342,14 +342,27 @@ module _ {U C : Type 0} (level : UserLevel U C) where
             later = omega arith;
             unused = unused;
             fetched = c.between.fetched;
-            fits = record { space = s; asks = asks; other = λ same. ask.0 (sym (ap (λ i. record { 0 = i }) same)); within = (let z = ask.1 in omega (arith, z, b.rest.standing.lives)); owned = record { owner = other.owner; low = other.line } };
+            fits =
+                record {
+                  space = s;
+                  asks = asks;
+                  other = λ same. ask.0 (sym (ap (λ i. record { 0 = i }) same));
+                  within = (let z = ask.1 in omega (arith, z, b.rest.standing.lives));
+                  owned = record { owner = other.owner; low = other.line };
+                };
             says = answered.none;
           })
           (subst (λ (xs : List Record). Entering level w r g p n s k (InterruptOwnEntry q) xs) (sym (ap (records_asked r s) is))
           (entering-one w events m p n s (InterruptOwnEntry q) (Line q) c here refl refl refl refl tt (λ items. refl)
           (λ items. same-own g p q (record { state = k; items = items })) (λ items. refl)))
           (subst (λ (a : Step). FirstLineIsAsked level.rules.Lines w r p (records_asked r s a)) (sym is)
-          (record { apart = ask.0; space = s; owned = at.on.owner; other = ap (λ (v : Overview). get_or v.assign.owners q.0 None) c.history.kept.reads ∙ other.owner; asked = both.1 })) between workload event
+          (record {
+            apart = ask.0;
+            space = s;
+            owned = at.on.owner;
+            other = ap (λ (v : Overview). get_or v.assign.owners q.0 None) c.history.kept.reads ∙ other.owner;
+            asked = both.1;
+          })) between workload event
 
   -- ONE TURN.
   pub composed-turn : (w : WorkloadView) (events : List Event) (m : Machine U C) (p : ProcNo) (n : ActNo)

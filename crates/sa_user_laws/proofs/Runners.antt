@@ -2,7 +2,6 @@
 -- behind records of the space. For all user levels.
 use Rattle.std.proofs.Common.{◌≡◌, ◌≢◌, ℕ, List, [], ◌∷◌, All, Option, Some, None, get_or, refl, sym, ap, subst, ◌∙◌, zero-add, inl, inr}
 use Rattle.std.proofs.lemmas.Bool.{cases_eq}
-use Rattle.std.proofs.lemmas.List.{get_or-set_other}
 use Rattle.std.proofs.lemmas.List.Elements.{All-head, All-tail}
 use Rattle.std.proofs.lemmas.Option.{same_Some}
 use Rattle.sa_base.specs.declared.number.ProcNo.{ProcNo}
@@ -15,15 +14,15 @@ use Rattle.sa_spaces.specs.Workload.{WorkloadView}
 use Rattle.sa_abstract.specs.Setting.{Setting}
 use Rattle.sa_abstract.specs.Calls.{Calls, Contexts}
 use Rattle.sa_abstract.specs.Keeps.{Standing, IsOwn}
-use Rattle.sa_laws.specs.declared.place.Place.{Place}
 use Rattle.sa_laws.specs.declared.place.Place.TheVariants.{Running}
-use Rattle.sa_laws.specs.State.{State, SpaceState, Runner, space_at, with_space, thread_at, thread_in, placed_if, runner_on, runner_of}
+use Rattle.sa_laws.specs.State.{State, Runner, space_at, thread_at, thread_in, runner_on, runner_of}
 use Rattle.sa_laws.specs.Machine.{changed}
 use Rattle.sa_laws.specs.Life.{Life}
 use Rattle.sa_laws.specs.Readings.{Readings, owner_of}
 use Rattle.sa_laws.specs.Record.{after_record}
 use Rattle.sa_laws.specs.History.{after_records}
 use Rattle.sa_laws.specs.Rules.{UserRules}
+use Rattle.sa_laws.proofs.Spaces.{space-elsewhere, placed-elsewhere}
 use Rattle.sa_user_laws.specs.Moments.{IsMoment}
 use Rattle.sa_user_laws.specs.Scene.{Fits, Hears, Holds, IsOn, RunsAlone, IsActing}
 use Rattle.sa_user_laws.specs.Laws.{UserLaws}
@@ -40,7 +39,8 @@ runner-is a p s o alone runs = by (runner_on a p) refl o refl where
   by None none (Some t) at = absurd (passed-from p 0 a.spaces none s.0 t.0 (runs t at))
   by (Some x) some t at =
       let found = found-from p 0 a.spaces x some in
-      let there : (thread_at a x.space x.thread).place ≡ Running p = subst (λ n. place_of (get_or a.spaces n no_threads).threads x.thread.0 ≡ Running p) (sym (found.1 ∙ zero-add found.0)) found.2 in
+      let there : (thread_at a x.space x.thread).place ≡ Running p =
+      subst (λ n. place_of (get_or a.spaces n no_threads).threads x.thread.0 ≡ Running p) (sym (found.1 ∙ zero-add found.0)) found.2 in
       let it = alone x.space x.thread there in
       some ∙ ap (λ z. Some (record { space = z; thread = x.thread })) it.0 ∙ sym (ap (runner_of s) it.1)
 
@@ -58,7 +58,8 @@ runner-behind s r last p o moment owner elsewhere here = runner-is last.state p 
     (λ t at. (here t).1 at)
 
 -- THE RUNNER of a running life
-module _ {U C : Type 0} (calls : Calls U C) (stands : Standing U C) (rules : UserRules) (fits : Fits U C) (hears : Hears U C) (laws : UserLaws calls stands rules fits hears) where
+module _ {U C : Type 0} (calls : Calls U C) (stands : Standing U C) (rules : UserRules) (fits : Fits U C) (hears : Hears U C)
+    (laws : UserLaws calls stands rules fits hears) where
   pub acting : (w : WorkloadView) (s : Setting) (e : ℕ) (r : Readings) (u : U) (cs : Contexts C) (p : ProcNo) (a : ActNo) (life : Life) (c : C)
       → Holds stands w s e r u cs → fits w s r u cs → IsOn s.space r p a life cs c
       → IsActing calls stands fits w s e r u cs p a life c
@@ -70,13 +71,6 @@ module _ {U C : Type 0} (calls : Calls U C) (stands : Standing U C) (rules : Use
   }
 
 -- RECORDS OF A SPACE leave the others
-pub space-elsewhere : (a : State) (s z : SpaceNo) (x : SpaceState) → z.0 ≢ s.0 → space_at (with_space a s x) z ≡ space_at a z
-space-elsewhere a s z x apart = get_or-set_other a.spaces s.0 z.0 x _ apart
-
-pub placed-elsewhere : (a : State) (s z : SpaceNo) (t : Option ThreadNo) (x : Place) → z.0 ≢ s.0 → space_at (placed_if a s t x) z ≡ space_at a z
-placed-elsewhere a s z None x apart = refl
-placed-elsewhere a s z (Some t) x apart = space-elsewhere a s z _ apart
-
 pub own-elsewhere : (w : WorkloadView) (p : ProcNo) (a : State) (s z : SpaceNo) (x : Record) → IsOwn s x → z.0 ≢ s.0
     → space_at (changed w p a x) z ≡ space_at a z
 own-elsewhere w p a s z x own apart = by x own where

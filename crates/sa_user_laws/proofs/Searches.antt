@@ -1,5 +1,5 @@
 -- What a search for the thread that runs on a processor finds, and what it passes.
-use Rattle.std.proofs.Common.{◌≡◌, ℕ, zero, suc, ◌+◌, zero-add, true, false, cond, List, [], ◌∷◌, get_or, Option, Some, None, refl, sym, ap, ◌∙◌, subst, arith}
+use Rattle.std.proofs.Common.{◌≡◌, ℕ, zero, suc, ◌+◌, zero-add, true, false, cond, List, [], ◌∷◌, get_or, Some, None, refl, sym, ap, ◌∙◌, subst, arith}
 use Rattle.std.proofs.lemmas.Bool.{eq-eqb, eqb-true}
 use Rattle.std.proofs.lemmas.Option.{same_Some}
 use Rattle.sa_base.specs.declared.number.ProcNo.{ProcNo}
@@ -28,12 +28,14 @@ runs-there p Done e = absurd cc
 runs-not : (p : ProcNo) (x : Place) → is_running_on p x ≡ false → x ≡ Running p → ⊥
 runs-not p x fails runs = let yes : is_running_on p x ≡ true = ap (is_running_on p) runs ∙ eq-eqb p.0 p.0 refl in absurd cc
 
-passed : (p : ProcNo) (thread : Thread) (threads : List Thread) → is_running_on p thread.place ≡ false → ((i : ℕ) → place_of threads i ≡ Running p → ⊥) → (i : ℕ) → place_of (thread ∷ threads) i ≡ Running p → ⊥
+passed : (p : ProcNo) (thread : Thread) (threads : List Thread) → is_running_on p thread.place ≡ false → ((i : ℕ) → place_of threads i ≡ Running p → ⊥)
+    → (i : ℕ) → place_of (thread ∷ threads) i ≡ Running p → ⊥
 passed p thread threads fails rest zero runs = runs-not p thread.place fails runs
 passed p thread threads fails rest (suc i) runs = rest i runs
 
 -- in one space
-found-in : (p : ProcNo) (k j : ℕ) (threads : List Thread) (x : Runner) → runner_in p k j threads ≡ Some x → (x.space.0 ≡ k) × ((i : ℕ) × (x.thread.0 ≡ j + i) × (place_of threads i ≡ Running p))
+found-in : (p : ProcNo) (k j : ℕ) (threads : List Thread) (x : Runner) → runner_in p k j threads ≡ Some x
+    → (x.space.0 ≡ k) × ((i : ℕ) × (x.thread.0 ≡ j + i) × (place_of threads i ≡ Running p))
 found-in p k j [] x is = cc
 found-in p k j (thread ∷ threads) x is =
     let here : Runner = there_is k j in
@@ -47,18 +49,22 @@ found-in p k j (thread ∷ threads) x is =
 passed-in : (p : ProcNo) (k j : ℕ) (threads : List Thread) → runner_in p k j threads ≡ None → (i : ℕ) → place_of threads i ≡ Running p → ⊥
 passed-in p k j [] is i runs = let both : Done ≡ Running p = runs in cc
 passed-in p k j (thread ∷ threads) is i runs =
-    elim (is_running_on p thread.place) as (λ b. b ≡ is_running_on p thread.place → cond b (Some (there_is k j)) (runner_in p k (j + 1) threads) ≡ None → (i : ℕ) → place_of (thread ∷ threads) i ≡ Running p → ⊥) [
+    elim (is_running_on p thread.place) as
+    (λ b. b ≡ is_running_on p thread.place → cond b (Some (there_is k j)) (runner_in p k (j + 1) threads) ≡ None → (i : ℕ)
+    → place_of (thread ∷ threads) i ≡ Running p → ⊥) [
       | true ↦ λ test none i runs. let both : Some (there_is k j) ≡ None = none in cc
       | false ↦ λ test none. passed p thread threads (sym test) (passed-in p k (j + 1) threads none)
     ] refl is i runs
 
-passed-all : (p : ProcNo) (space : SpaceState) (spaces : List SpaceState) → ((j : ℕ) → place_of space.threads j ≡ Running p → ⊥) → ((i j : ℕ) → place_of (get_or spaces i no_threads).threads j ≡ Running p → ⊥)
+passed-all : (p : ProcNo) (space : SpaceState) (spaces : List SpaceState) → ((j : ℕ) → place_of space.threads j ≡ Running p → ⊥)
+    → ((i j : ℕ) → place_of (get_or spaces i no_threads).threads j ≡ Running p → ⊥)
     → (i j : ℕ) → place_of (get_or (space ∷ spaces) i no_threads).threads j ≡ Running p → ⊥
 passed-all p space spaces here rest zero j runs = here j runs
 passed-all p space spaces here rest (suc i) j runs = rest i j runs
 
 -- in all spaces
-pub found-from : (p : ProcNo) (k : ℕ) (spaces : List SpaceState) (x : Runner) → runner_from p k spaces ≡ Some x → (i : ℕ) × (x.space.0 ≡ k + i) × (place_of (get_or spaces i no_threads).threads x.thread.0 ≡ Running p)
+pub found-from : (p : ProcNo) (k : ℕ) (spaces : List SpaceState) (x : Runner) → runner_from p k spaces ≡ Some x
+    → (i : ℕ) × (x.space.0 ≡ k + i) × (place_of (get_or spaces i no_threads).threads x.thread.0 ≡ Running p)
 found-from p k [] x is = cc
 found-from p k (space ∷ spaces) x is =
     elim (runner_in p k 0 space.threads) as (λ o. o ≡ runner_in p k 0 space.threads → first_runner o (runner_from p (k + 1) spaces) ≡ Some x
@@ -69,7 +75,8 @@ found-from p k (space ∷ spaces) x is =
           (0, omega (arith, here.0), subst (λ n. place_of space.threads n ≡ Running p) (sym (here.1.1 ∙ zero-add here.1.0)) here.1.2)
     ] refl is
 
-pub passed-from : (p : ProcNo) (k : ℕ) (spaces : List SpaceState) → runner_from p k spaces ≡ None → (i j : ℕ) → place_of (get_or spaces i no_threads).threads j ≡ Running p → ⊥
+pub passed-from : (p : ProcNo) (k : ℕ) (spaces : List SpaceState) → runner_from p k spaces ≡ None → (i j : ℕ)
+    → place_of (get_or spaces i no_threads).threads j ≡ Running p → ⊥
 passed-from p k [] is i j runs = let both : Done ≡ Running p = runs in cc
 passed-from p k (space ∷ spaces) is i j runs =
     elim (runner_in p k 0 space.threads) as (λ o. o ≡ runner_in p k 0 space.threads → first_runner o (runner_from p (k + 1) spaces) ≡ None → ⊥) [

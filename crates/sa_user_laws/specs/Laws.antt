@@ -56,7 +56,8 @@ pub record UserLaws {U C : Type 0} (calls : Calls U C) (stands : Standing U C) (
       → IsActing calls stands fits w s e r u cs p a life c
       → Sees s.space (begun_at w seen.event p r) p seen.event seen → line_of r p ≡ None → 1 ≤ seen.event → e < seen.event → seen.event ≤ MAX_EVENTS
       → IsLegalStep calls rules fits w s r p seen.event a cs (calls.stepped u seen c)
-  pub goes : (w : WorkloadView) (s : Setting) (e : ℕ) (r : Readings) (u : U) (cs : Contexts C) (p : ProcNo) (a : ActNo) (life : Life) (c : C) (seen : Seen) (n : ℕ)
+  pub goes : (w : WorkloadView) (s : Setting) (e : ℕ) (r : Readings) (u : U) (cs : Contexts C) (p : ProcNo) (a : ActNo) (life : Life) (c : C) (seen : Seen)
+      (n : ℕ)
       → IsActing calls stands fits w s e r u cs p a life c
       → Sees s.space (begun_at w seen.event p r) p seen.event seen → line_of r p ≡ None → 1 ≤ n → e < seen.event → seen.event + n ≤ MAX_EVENTS + 1
       → GoesOn s n (calls.local u c)
@@ -84,12 +85,14 @@ pub record UserLaws {U C : Type 0} (calls : Calls U C) (stands : Standing U C) (
   pub tells_add : (w : WorkloadView) (s : Setting) (e : ℕ) (r : Readings) (u : U) (cs : Contexts C) (p : ProcNo) (n : ActNo) (c : C) (number : ℕ) (q : ProcNo)
       → HoldsIn stands w s e r u cs → hears w s r n u cs → cs n.0 ≡ Some c → r.upped ≡ Some n
       → hears w s (after_record w number p r (Told (Add q))) n (calls.told u c (Add q) None).0 (put cs n.0 (Some (calls.told u c (Add q) None).1))
-  pub tells_blocked : (w : WorkloadView) (s : Setting) (e : ℕ) (r : Readings) (u : U) (cs : Contexts C) (p : ProcNo) (n : ActNo) (c : C) (number : ℕ) (b : ActNo)
+  pub tells_blocked : (w : WorkloadView) (s : Setting) (e : ℕ) (r : Readings) (u : U) (cs : Contexts C) (p : ProcNo) (n : ActNo) (c : C) (number : ℕ)
+      (b : ActNo)
       → HoldsIn stands w s e r u cs → hears w s r n u cs → cs n.0 ≡ Some c → r.upped ≡ Some n → Contains (untold_of r s.space) (Blocked b)
       → hears w s (after_record w number p r (Told (Blocked b))) n (calls.told u c (Blocked b) None).0
       (put cs n.0 (Some (calls.told u c (Blocked b) None).1))
   -- With the notice of a stop or an unblock the context of that life is handed over.
-  pub tells : (w : WorkloadView) (s : Setting) (e : ℕ) (r : Readings) (u : U) (cs : Contexts C) (p : ProcNo) (n : ActNo) (c : C) (number : ℕ) (note : Note) (b : ActNo) (life : Life) (held : Stopped C)
+  pub tells : (w : WorkloadView) (s : Setting) (e : ℕ) (r : Readings) (u : U) (cs : Contexts C) (p : ProcNo) (n : ActNo) (c : C) (number : ℕ) (note : Note)
+      (b : ActNo) (life : Life) (held : Stopped C)
       → HoldsIn stands w s e r u cs → hears w s r n u cs → cs n.0 ≡ Some c → r.upped ≡ Some n → Contains (untold_of r s.space) note
       → (note ≡ Preempted b) ⊎ (note ≡ Unblocked b)
       → life_of r b ≡ Some life → life.space ≡ s.space → held.thread ≡ life.thread → IsHanded cs n.0 note (Some held)

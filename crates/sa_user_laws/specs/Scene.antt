@@ -20,7 +20,8 @@ use Rattle.sa_user_laws.specs.Moments.{IsMoment, AreSized}
 abbrev pub Fits : Type 0 → Type 0 → Type 1
 Fits U C = WorkloadView → Setting → Readings → U → Contexts C → Type 0
 
--- .. and while the fresh activation of this number is told of its upcall, from its up to the end of its event.
+-- How a space fits its history while the fresh activation of this number is told of its upcall, from its up to the end
+-- of its event.
 abbrev pub Hears : Type 0 → Type 0 → Type 1
 Hears U C = WorkloadView → Setting → Readings → ActNo → U → Contexts C → Type 0
 

@@ -42,7 +42,7 @@ pub record RulesHold (rules : UserRules) (w : WorkloadView) (r : Readings) (ev :
   pub locks : rules.Locks w r ev
   pub order : rules.Order w r ev
 
--- .. and at one of the kernel's, where no step is asked for.
+-- The rules that a user level brings hold at an event of the kernel's, where no step is asked for.
 pub record RulesPass (rules : UserRules) (w : WorkloadView) (r : Readings) (ev : Event) : Type 0 where
   pub demand : rules.Demand w r ev
   pub locks : rules.Locks w r ev
@@ -115,7 +115,8 @@ module _ {U C : Type 0} (calls : Calls U C) (rules : UserRules) (fits : Fits U C
 
   -- One that asks for a block. The own event of its life ends with the block, whatever the kernel writes behind it; an
   -- upcall in the same event begins from that moment.
-  pub record IsLegalBlock (w : WorkloadView) (s : Setting) (r : Readings) (p : ProcNo) (e : ℕ) (a : ActNo) (cs : Contexts C) (st : Stepped U C) (len : ℕ) (page : Option ℕ) : Type 0 where
+  pub record IsLegalBlock (w : WorkloadView) (s : Setting) (r : Readings) (p : ProcNo) (e : ℕ) (a : ActNo) (cs : Contexts C) (st : Stepped U C) (len : ℕ)
+      (page : Option ℕ) : Type 0 where
     pub begins : (io : IoNo) → begins_step (st.says ++ BlockRecord s.space (calls.thread st.user st.ctx) a io ∷ []) ≡ true
     pub for : blocking w (after_records w e p (begun_at w e p r) st.says) s.space (calls.thread st.user st.ctx) a
         ≡ record { kind = io_of s.space a page; length = len }
