@@ -1,5 +1,5 @@
 -- Where nothing fails and the input is told, a command is done, or the input refused.
-use Rattle.std.proofs.Common.{◌≡◌, ◌⊎◌, ℕ, List, Option, Some, refl, sym, ap, subst, inl, inr}
+use Rattle.std.proofs.Common.{◌≡◌, ◌⊎◌, ℕ, List, refl, ap, inl, inr}
 use Rattle.sa_base.specs.declared.record.Item.{Item}
 use Rattle.sa_workload.specs.Text.{IsText, IsText1}
 use Rattle.sa_workload.specs.Bad.{BadAt, BadAt1}
@@ -11,7 +11,7 @@ use Rattle.sa_cli.specs.declared.outcome.Status.TheVariants.{AllDone, Usage, Bad
 use Rattle.sa_cli.specs.Outcome.{HasEnded, history, status_of_found}
 use Rattle.sa_cli.specs.Answers.{World, Plan}
 use Rattle.sa_cli.specs.Commands.{run_plan, AnswersRun, AnswersLoad, MigrateAnswers, CheckAnswers, Answers}
-use Rattle.sa_cli.specs.Complete.{NoWriteFailed, Takes, Refuses, Finds, IsComplete, IsCompleteTo}
+use Rattle.sa_cli.specs.Complete.{NoWriteFailed, Takes, Refuses, Finds, IsComplete}
 use Rattle.sa_check.specs.declared.verdict.Verdict.TheVariants.{Legal}
 use Rattle.sa_check.specs.declared.verdict.Verdict.TheVariants as check
 use Rattle.sa_cli.specs.declared.found.Found.TheVariants.{Judged}
@@ -137,7 +137,8 @@ check-finds old new Budget answers = absurd answers
 check-finds old new Usage answers = absurd answers
 check-finds old new Migrated answers = absurd answers
 
-answers-complete : (command : Command) (old new : World) (ran : Ran) (status : Status)
+-- what a command answers is complete
+pub answers-complete : (command : Command) (old new : World) (ran : Ran) (status : Status)
     → Answers command old new ran status → IsComplete command old new status
 answers-complete (Run schedule budget user_level) old new ran status answers =
     let plan = run_plan schedule budget user_level in
@@ -151,8 +152,3 @@ answers-complete Check old new ran status answers = check-finds old new status a
 answers-complete (Vp schedule budget) old new ran status answers =
     (virtual-takes schedule budget old new (history ran) status answers, virtual-refuses schedule budget old new (history ran) status answers)
 answers-complete (Debug budget) old new ran status answers = debug-debugs budget old new ran status answers
-
-pub complete-to : (o : Option Command) (command : Command) (old new : World) (ran : Ran) (status : Status) → o ≡ Some command
-    → Answers command old new ran status → IsCompleteTo o old new status
-complete-to o command old new ran status is answers =
-    subst (λ (v : Option Command). IsCompleteTo v old new status) (sym is) (answers-complete command old new ran status answers)

@@ -12,3 +12,4 @@ mod SharedResults
 mod VirtualResults
 mod VpPieces
 mod Completeness
+mod TopCalls

@@ -1,6 +1,5 @@
 -- What the parts of a command say together.
-use Rattle.std.proofs.Common.{◌≡◌, ◌⊎◌, ℕ, List, [], Option, Some, None, refl, sym, subst, ◌∙◌, inl, inr}
-use Rattle.std.specs.Prelude.{◌↔◌}
+use Rattle.std.proofs.Common.{◌≡◌, ◌⊎◌, ℕ, List, [], refl, sym, subst, inl, inr}
 use Rattle.sa_base.specs.Recorded.{Recorded}
 use Rattle.sa_base.specs.declared.record.Item.{Item}
 use Rattle.sa_base.specs.declared.record.End.{End}
@@ -19,7 +18,7 @@ use Rattle.sa_cli.specs.Outcome.{status_of_end, history}
 use Rattle.sa_cli.specs.Input.{GaveText, GaveSliced}
 use Rattle.sa_cli.specs.Refusals.{NothingRead}
 use Rattle.sa_cli.specs.Answers.{World, Plan, Ended, Came, RunAnswers, TookAll, TookSome, Writes}
-use Rattle.sa_cli.specs.Commands.{AnswersRun, MigrateAnswers, Answers, AnswersTo}
+use Rattle.sa_cli.specs.Commands.{AnswersRun, MigrateAnswers, Answers}
 use Rattle.sa_cli.proofs.Packages.{AreKept}
 
 -- where nothing was read, nothing ran
@@ -135,14 +134,8 @@ migrated-answers slice old new text status gave (inl whole) =
 migrated-answers slice old new text status gave (inr cut) =
     subst (λ (v : Status). MigrateAnswers slice old new v) (sym cut.0) (cut.1, record { text = text; gave = gave; went = cut.2 })
 
--- what a command answers is what the words are answered
-pub answers-to : (o : Option Command) (command : Command) (old new : World) (ran : Ran) (status : Status) → o ≡ Some command
-    → Answers command old new ran status → AnswersTo o old new ran status
-answers-to o command old new ran status is answers =
-    subst (λ (v : Option Command). AnswersTo v old new ran status) (sym is) answers
-
 -- no command is answered as words that are none
-not-usage : (command : Command) (old new : World) (ran : Ran) → Answers command old new ran Usage → ⊥
+pub not-usage : (command : Command) (old new : World) (ran : Ran) → Answers command old new ran Usage → ⊥
 not-usage (Run schedule budget user_level) old new ran answers = answers
 not-usage (Threads budget burst) old new ran answers = answers
 not-usage (Load number budget) old new ran answers = answers
@@ -150,10 +143,3 @@ not-usage (Migrate slice) old new ran answers = answers.1
 not-usage Check old new ran answers = answers.1
 not-usage (Vp schedule budget) old new ran answers = answers
 not-usage (Debug budget) old new ran answers = answers
-
-pub is-no-usage : (o : Option Command) (command : Command) (old new : World) (ran : Ran) (status : Status) → o ≡ Some command
-    → Answers command old new ran status → (status ≡ Usage) ↔ (o ≡ None)
-is-no-usage o command old new ran status is answers = (
-  λ usage. absurd (not-usage command old new ran (subst (λ (v : Status). Answers command old new ran v) usage answers)),
-  λ none. let e : Some command ≡ None = sym is ∙ none in cc,
-)

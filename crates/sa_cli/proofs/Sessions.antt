@@ -27,7 +27,7 @@ use Rattle.sa_cli.specs.Outcome.{history, status_of}
 use Rattle.sa_cli.specs.Scripted.{IsDone, IsHalfDone, IsStopped}
 use Rattle.sa_cli.proofs.Scripts.{gave-scripted}
 
--- the first text is cut, and the second one behind it
+-- the first text is cut, or the second one after it
 pub first-cut : (before after : Option (List ℕ)) (first second : List ℕ) → AppendsPrefix before after first → AppendsPrefix before after (first ++ second)
 first-cut before after first second cut = out-cut before before after [] [] [] first second (out-none before []) cut
 

@@ -36,7 +36,7 @@ piece-taken before at after text written rest piece behind n whole front back ta
       Appends-trans before at after written piece taken more,
     )
 
--- a prefix of what comes behind what was written is a prefix of the text
+-- a prefix of what comes after what was written is a prefix of the text
 pub prefix-behind : (before at after : Option (List ℕ)) (text written piece behind : List ℕ)
     → text ≡ written ++ (piece ++ behind)
     → Appends before at written → AppendsPrefix at after piece

@@ -12,7 +12,7 @@ use Rattle.sa_io.specs.Pieces.{GoesOut}
 use Rattle.sa_io.proofs.PieceLemmas.{out-both, out-cut, out-none, out-all, out-end_cut}
 use Rattle.sa_trace.specs.TraceText.{line_of, last_line_of, trace_text}
 
--- the lines of the first items, and those behind them
+-- the lines of the first items, and those after them
 lines-split : (items : List Item) (n : ℕ) (lines : List ℕ) → lines ≡ flat_map line_of (take n items)
     → flat_map line_of items ≡ lines ++ flat_map line_of (drop n items)
 lines-split items n lines is =
@@ -26,7 +26,7 @@ pub record AreOut (before after : Option (List ℕ)) (waited : List ℕ) (items 
   pub whole : flat_map line_of items ≡ lines ++ flat_map line_of rest
   pub out : GoesOut before after waited lines waits
 
--- some more lines go out behind those so far, or are cut
+-- some more lines go out after those so far, or are cut
 module _ (before at after : Option (List ℕ)) (waited : List ℕ) (items rest : List Item) (between more : List ℕ) (n : ℕ)
     (is : more ≡ flat_map line_of (take n rest)) (so_far : AreOut before at waited items rest between) where
   abbrev whole : flat_map line_of items ≡ so_far.lines ++ (more ++ flat_map line_of (drop n rest))
@@ -53,7 +53,7 @@ lines-all before after waited items (x ∷ rest) waits none so_far =
 lines-all before after waited items [] waits none so_far =
     subst (λ (v : List ℕ). GoesOut before after waited v waits) (sym (so_far.whole ∙ append-nil so_far.lines)) so_far.out
 
--- the last line goes out behind all others, or is cut, or others are
+-- the last line goes out after all others, or it is cut, or others are
 module _ (before at after : Option (List ℕ)) (waited between : List ℕ) (items : List Item) (end : End) (events : ℕ) where
   pub run-out : (line waits : List ℕ) → line ≡ last_line_of items end events → GoesOut before at waited (flat_map line_of items) between
       → GoesOut at after between line waits → GoesOut before after waited (trace_text items end events) waits

@@ -1,4 +1,4 @@
--- What `debug` answers: the input is a workload text up to its first line that is `close`, and directly behind it a script.
+-- What `debug` answers: the input is a workload text up to its first line that is `close`, and directly after it a script.
 use Rattle.std.specs.Prelude.{◌≡◌, ◌⊎◌, ℕ, ◌<◌, ◌≤◌, List, [], ◌++◌, length, Option, Ok, Err, IfSome}
 use Rattle.sa_base.specs.declared.record.End.{End}
 use Rattle.sa_base.specs.declared.record.Item.{Item}
@@ -39,7 +39,7 @@ pub record RefusesWorkload (input : List ℕ) (bad : Bad) : Type 0 where
   pub whole : length input ≤ SCRIPTS_LIMIT
   pub refused : IsInputRefused BadAt (workload_part input) bad
 
--- the second part is refused, behind a workload text
+-- the second part is refused, after a workload text
 pub record RefusesScript (input : List ℕ) (bad : Bad) : Type 0 where
   pub workload : WorkloadView
   pub has : BeginsWith input workload
@@ -71,7 +71,7 @@ pub record GaveScripted (before after : Option (List ℕ)) (found : Scripted) : 
   pub told : IfSome before (λ whole. IsScripted whole found)
 
 -- The commands were done with a machine of the workload, whose trace this is: it is a legal and strict run. The replies, each
--- with its line feed, and behind them the trace text went to the sink in this way.
+-- with its line feed, and after them the trace text went to the sink in this way.
 pub record Debugged (budget : ℕ) (old new : World) (goes : List ℕ → Type 0) (items : List Item) : Type 0 where
   pub workload : WorkloadView
   pub commands : List DebugCommand

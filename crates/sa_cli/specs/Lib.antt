@@ -11,3 +11,4 @@ pub mod Commands
 pub mod Complete
 pub mod Shared
 pub mod Virtual
+pub mod TopCall

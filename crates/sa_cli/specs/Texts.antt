@@ -1,4 +1,4 @@
--- An input of two texts: a workload text up to its first line that is `close`, and directly behind it a trace text.
+-- An input of two texts: a workload text up to its first line that is `close`, and directly after it a trace text.
 use Rattle.std.specs.Prelude.{◌≡◌, ◌⊎◌, ℕ, ◌<◌, ◌≤◌, ◌==◌, List, [], ◌∷◌, ◌++◌, length, drop, codes, if◌then◌else◌, Option, Ok, Err, IfSome}
 use Rattle.std.specs.Str.{bytes_eq}
 use Rattle.sa_base.specs.declared.refusal.Bad.{Bad}
@@ -15,7 +15,7 @@ use Rattle.sa_cli.specs.declared.input.TheConstants.{INPUT_LIMIT, TEXTS_LIMIT}
 use Rattle.sa_cli.specs.Input.{ReadsInput}
 use Rattle.sa_cli.specs.Refusals.{IsInputRefused, too_long}
 
--- the bytes through the first line that is `close`, behind these of the line so far; all bytes where there is no such line
+-- the bytes through the first line that is `close`, where these bytes of the line came before; all bytes where there is no such line
 abbrev pub through_close : List ℕ → List ℕ → List ℕ
 through_close line [] = []
 through_close line (b ∷ bs) =
@@ -51,7 +51,7 @@ pub record HasBadWorkload (input : List ℕ) (bad : Bad) : Type 0 where
   pub whole : length input ≤ TEXTS_LIMIT
   pub refused : IsInputRefused BadAt (workload_part input) bad
 
--- the second part is refused, behind a workload text
+-- the second part is refused, after a workload text
 pub record HasBadTrace (input : List ℕ) (bad : Bad) : Type 0 where
   pub workload : WorkloadView
   pub has : HasWorkload input workload

@@ -1,5 +1,5 @@
 -- What `vp` answers: the workload is that of which the source gave the text; its run on virtual processors is legal, and the
--- trace text is written with the losses of each space behind it.
+-- trace text is written with the losses of each space after it.
 use Rattle.std.specs.Prelude.{◌≡◌, ◌⊎◌, ℕ, List, [], ◌++◌}
 use Rattle.sa_base.specs.declared.record.Item.{Item}
 use Rattle.sa_base.specs.declared.record.End.{End}

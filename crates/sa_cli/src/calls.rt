@@ -1,11 +1,9 @@
-ghost use Rattle.std.specs.Prelude.{◌≡◌, ◌↔◌, ◌≤◌, None};
+ghost use Rattle.std.specs.Prelude.{◌≡◌, None};
+ghost use Rattle.std.specs.Option.{ForSome};
 ghost use Rattle.sa_command.specs.Commands.{command_of};
-ghost use Rattle.sa_cli.specs.Input.{LosesPrefix};
-ghost use Rattle.sa_cli.specs.Outcome.{WritesNothing};
-ghost use Rattle.sa_cli.specs.Answers.{World, world};
-ghost use Rattle.sa_cli.specs.Commands.{AnswersTo, CanHaveRun, ReadsNothing};
-ghost use Rattle.sa_cli.specs.Complete.{IsCompleteTo};
+ghost use Rattle.sa_command.specs.Ranges.{IsInRange};
 ghost use Rattle.sa_cli.specs.Shared.{limits_of};
+ghost use Rattle.sa_cli.specs.TopCall.{DoesTheCommand, streams, world_by};
 
 use crate::commands::{check_texts, migrate, run_generated, run_text};
 use crate::debug::debug_texts;
@@ -20,8 +18,7 @@ use std::alloc::Global;
 use std::sync::Wait;
 use std::thread::Threads;
 
-/// Does the command of the words, which is not `threads`: runs a workload from the source or a generated one and writes its
-/// trace to the sink, writes a workload of the source anew, or writes the verdict on a trace of the source. It always returns.
+/// Does the command of the words, which is not `threads`. It always returns.
 pub fn run_one<S: Source, K: Sink>(
     alloc: Global,
     words: &Words,
@@ -29,36 +26,48 @@ pub fn run_one<S: Source, K: Sink>(
     sink: &mut K,
 ) -> Outcome
     requires { limits_of (command_of words.now) ≡ None }
-    ensures usage { (result.status ≡ Status.Usage) ↔ (command_of words.now ≡ None) }
-    ensures untouched { result.status ≡ Status.Usage
-        → (source.new ≡ source.old) × (sink.new ≡ sink.old) }
-    ensures unwritten { WritesNothing result.status → sink.new ≡ sink.old }
-
-    // Under `load` nothing is read, and what ran is what the command lets run.
-    ensures unread { ReadsNothing (command_of words.now) → source.new ≡ source.old }
-    ensures ran { CanHaveRun (command_of words.now) result.ran }
-
-    // Whatever the answer, the source lost some bytes at its front or none, and no count fell.
-    ensures lost { LosesPrefix (S.left source.old) (S.left source.new) }
-    ensures reads_counted { S.faults source.old ≤ S.faults source.new }
-    ensures writes_counted { K.faults sink.old ≤ K.faults sink.new }
-
-    // Each answer comes only for its cause, and says what ran and what was written.
-    ensures answers { let before : World
-        = world (S.left source.old) (K.taken sink.old) (S.faults source.old) (K.faults sink.old) in
-        let after : World
-        = world (S.left source.new) (K.taken sink.new) (S.faults source.new) (K.faults sink.new) in
-        AnswersTo (command_of words.now) before after result.ran result.status }
-
-    // Where nothing fails and the input is told, the command is done, or the input refused.
-    ensures complete { let before : World
-        = world (S.left source.old) (K.taken sink.old) (S.faults source.old) (K.faults sink.old) in
-        let after : World
-        = world (S.left source.new) (K.taken sink.new) (S.faults source.new) (K.faults sink.new) in
-        IsCompleteTo (command_of words.now) before after result.status }
+    ensures { DoesTheCommand (world_by S.left K.taken S.faults K.faults) (command_of words.now)
+        (streams source.old sink.old) (streams source.new sink.new) result }
 {
     commands_are_in_range();
-    match read_words(words) {
+    run_command(alloc, read_words(words), source, sink)
+}
+
+/// Does the command of the words. Under `threads` a host thread for each processor runs the workload, and passes the gate
+/// before each of its entries; these threads wait for locks, so what is promised then holds if the call returns.
+pub fn top<S: Source, K: Sink, G: Gate, R: Threads + Wait + Sync>(
+    rt: &R,
+    alloc: Global,
+    words: &Words,
+    source: &mut S,
+    sink: &mut K,
+    gate: &G,
+) -> Outcome
+    ensures { DoesTheCommand (world_by S.left K.taken S.faults K.faults) (command_of words.now)
+        (streams source.old sink.old) (streams source.new sink.new) result }
+{
+    commands_are_in_range();
+    let command = read_words(words);
+    match limits_of(command) {
+        Some(limits) => run_shared(rt, alloc, limits, source, sink, gate),
+        None => run_command(alloc, command, source, sink),
+    }
+}
+
+// Does the command, which is not `threads`: it runs a workload of the source or a generated one and writes its trace to the
+// sink, writes a workload of the source anew, judges a trace of the source, or debugs a workload of the source by a script.
+fn run_command<S: Source, K: Sink>(
+    alloc: Global,
+    command: Option<Command>,
+    source: &mut S,
+    sink: &mut K,
+) -> Outcome
+    requires range { ForSome command IsInRange }
+    requires here { limits_of command ≡ None }
+    ensures { DoesTheCommand (world_by S.left K.taken S.faults K.faults) command
+        (streams source.old sink.old) (streams source.new sink.new) result }
+{
+    match command {
         None => Outcome::nothing(Status::Usage),
         Some(
             Command::Run {
@@ -75,51 +84,5 @@ pub fn run_one<S: Source, K: Sink>(
             run_virtual(alloc, schedule, budget, source, sink)
         }
         Some(Command::Debug { budget }) => debug_texts(alloc, budget, source, sink),
-    }
-}
-
-/// Does the command of the words: for `threads` it runs a workload from the source with a host thread for each processor, of
-/// which each passes the gate before each of its entries, and writes its trace to the sink; every other command is done by
-/// `run_one`. What it promises holds if it returns: under `threads` it waits for locks.
-pub fn top<S: Source, K: Sink, G: Gate, R: Threads + Wait + Sync>(
-    rt: &R,
-    alloc: Global,
-    words: &Words,
-    source: &mut S,
-    sink: &mut K,
-    gate: &G,
-) -> Outcome
-    ensures usage { (result.status ≡ Status.Usage) ↔ (command_of words.now ≡ None) }
-    ensures untouched { result.status ≡ Status.Usage
-        → (source.new ≡ source.old) × (sink.new ≡ sink.old) }
-    ensures unwritten { WritesNothing result.status → sink.new ≡ sink.old }
-
-    // Under `load` nothing is read, and what ran is what the command lets run.
-    ensures unread { ReadsNothing (command_of words.now) → source.new ≡ source.old }
-    ensures ran { CanHaveRun (command_of words.now) result.ran }
-
-    // Whatever the answer, the source lost some bytes at its front or none, and no count fell.
-    ensures lost { LosesPrefix (S.left source.old) (S.left source.new) }
-    ensures reads_counted { S.faults source.old ≤ S.faults source.new }
-    ensures writes_counted { K.faults sink.old ≤ K.faults sink.new }
-
-    // Each answer comes only for its cause, and says what ran and what was written.
-    ensures answers { let before : World
-        = world (S.left source.old) (K.taken sink.old) (S.faults source.old) (K.faults sink.old) in
-        let after : World
-        = world (S.left source.new) (K.taken sink.new) (S.faults source.new) (K.faults sink.new) in
-        AnswersTo (command_of words.now) before after result.ran result.status }
-
-    // Where nothing fails and the input is told, the command is done, or the input refused.
-    ensures complete { let before : World
-        = world (S.left source.old) (K.taken sink.old) (S.faults source.old) (K.faults sink.old) in
-        let after : World
-        = world (S.left source.new) (K.taken sink.new) (S.faults source.new) (K.faults sink.new) in
-        IsCompleteTo (command_of words.now) before after result.status }
-{
-    commands_are_in_range();
-    match limits_of(words) {
-        Some(limits) => run_shared(rt, alloc, limits, source, sink, gate),
-        None => run_one(alloc, words, source, sink),
     }
 }

@@ -1,4 +1,4 @@
-// The commands.
+// The commands `run`, `load`, `migrate` and `check`.
 ghost use Rattle.std.specs.Prelude.{◌≡◌, ◌⊎◌, ℕ, ◌≤◌, List, [], Option, IfOk, IfErr};
 ghost use Rattle.sa_sched.specs.Kind.{order_of, AreAmong};
 ghost use Rattle.sa_cli.specs.Input.{LosesPrefix};
@@ -24,7 +24,8 @@ use sa_sched::Kind;
 use sa_spaces::Workload;
 use std::alloc::{AllocError, Global};
 
-/// `run`: the workload of the source with this user level, by this order of turns and within the budget; writes the trace text.
+/// `run`: runs the workload of the source with this user level, by this order of turns and within the budget, and writes the
+/// trace text.
 pub(crate) fn run_text<S: Source, K: Sink>(
     alloc: Global,
     schedule: ScheduleWord,
@@ -82,7 +83,7 @@ fn run_with(
     }
 }
 
-/// `load`: the workload of the number by round robin, within the budget; writes the last line of the trace text alone.
+/// `load`: runs the workload of the number by round robin, within the budget, and writes the last line of the trace text alone.
 pub(crate) fn run_generated<K: Sink>(
     alloc: Global,
     number: u64,
@@ -108,7 +109,7 @@ pub(crate) fn run_generated<K: Sink>(
     }
 }
 
-/// `migrate`: the workload of the source, a text of version 1, written anew with this slice.
+/// `migrate`: reads the workload of the source, a text of version 1, and writes it anew with this slice.
 pub(crate) fn migrate<S: Source, K: Sink>(
     alloc: Global,
     slice: u32,
@@ -132,7 +133,7 @@ pub(crate) fn migrate<S: Source, K: Sink>(
     }
 }
 
-/// `check`: the trace of the source, which stands behind its workload; writes the verdict.
+/// `check`: judges the trace of the source, which stands after its workload, and writes the verdict.
 pub(crate) fn check_texts<S: Source, K: Sink>(alloc: Global, source: &mut S, sink: &mut K) -> Status
     ensures unwritten { WritesNothing result → sink.new ≡ sink.old }
     ensures lost { LosesPrefix (S.left source.old) (S.left source.new) }

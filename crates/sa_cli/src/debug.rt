@@ -35,8 +35,8 @@ enum Stopped {
     OutOfMemory(Trace),
 }
 
-/// `debug`: the session of the source's workload by the script that stands behind it, within the budget; writes the replies
-/// and the trace text, once the session is over.
+/// `debug`: makes the session of the source's workload by the script that stands after it, within the budget, and writes the
+/// replies and the trace text once the session is over.
 pub(crate) fn debug_texts<S: Source, K: Sink>(
     alloc: Global,
     budget: u64,
@@ -110,7 +110,7 @@ fn write_session<K: Sink>(debugged: Debugged, sink: &mut K) -> Outcome
     Outcome::plain(status, trace)
 }
 
-// Writes the replies, and behind them the trace text of these items, this end and this number of events.
+// Writes the replies, and after them the trace text of these items, this end and this number of events.
 fn session_written<K: Sink>(
     sink: &mut K,
     replies: &[u8],
@@ -126,7 +126,7 @@ fn session_written<K: Sink>(
     status_of(put_session(sink, replies, items, end, events), Status::Quit)
 }
 
-// The same, as a write.
+// Writes the same, and says whether a write failed.
 fn put_session<K: Sink>(
     sink: &mut K,
     replies: &[u8],

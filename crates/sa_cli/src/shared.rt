@@ -1,7 +1,6 @@
 // The command `threads`.
 ghost use Rattle.std.specs.Prelude.{◌≡◌, ◌≤◌, sum};
 ghost use Rattle.sa_base.specs.declared.limits.TheConstants.{MAX_BURST, MAX_EVENTS};
-ghost use Rattle.sa_command.specs.Commands.{command_of};
 ghost use Rattle.sa_cli.specs.Input.{LosesPrefix};
 ghost use Rattle.sa_cli.specs.Outcome.{RanShared, WritesNothing};
 ghost use Rattle.sa_cli.specs.Answers.{World, world};
@@ -11,7 +10,7 @@ ghost use Rattle.sa_cli.specs.declared.outcome.Ran.TheVariants.{Shared};
 use crate::outcome::{Outcome, Status};
 use crate::reading::read_workload;
 use crate::writing::run_written;
-use sa_command::{Command, Words, read_words};
+use sa_command::Command;
 use sa_io::{Sink, Source};
 use sa_package::FastThreads;
 use sa_seat::Closed;
@@ -21,16 +20,17 @@ use std::sync::Wait;
 use std::thread::Threads;
 
 /// What `threads` is asked for, where that is the command.
-pub(crate) fn limits_of(words: &Words) -> Option<Limits>
-    ensures { result ≡ limits_of (command_of words.now) }
+pub(crate) fn limits_of(command: Option<Command>) -> Option<Limits>
+    ensures { result ≡ limits_of command }
 {
-    match read_words(words) {
+    match command {
         Some(Command::Threads { budget, burst }) => Some(Limits { budget, burst }),
         _ => None,
     }
 }
 
-/// `threads`: the workload of the source, with a host thread for each processor and within the limits; writes the trace text.
+/// `threads`: runs the workload of the source with a host thread for each processor, within the limits, and writes the trace
+/// text.
 pub(crate) fn run_shared<S: Source, K: Sink, G: Gate, R: Threads + Wait + Sync>(
     rt: &R,
     alloc: Global,
@@ -65,7 +65,7 @@ pub(crate) fn run_shared<S: Source, K: Sink, G: Gate, R: Threads + Wait + Sync>(
     }
 }
 
-// Writes the text of a run that ended, which takes no memory. One without an end ran out of memory.
+// Writes the text of a run that ended, which takes no memory. A run without an end ran out of memory.
 fn write_closed<K: Sink>(closed: Closed, sink: &mut K) -> Outcome
     requires { sum closed.turns ≤ MAX_EVENTS }
     ensures ran { result.ran ≡ Shared closed }

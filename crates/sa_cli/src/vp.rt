@@ -21,8 +21,8 @@ use sa_trace::{Lines, print_losses};
 use sa_vp_run::{Ended, run};
 use std::alloc::Global;
 
-/// `vp`: the workload of the source on virtual processors, by this order of turns and within the budget; writes the trace
-/// text, and behind it what each space has lost.
+/// `vp`: runs the workload of the source on virtual processors, by this order of turns and within the budget, and writes the
+/// trace text and after it what each space has lost.
 pub(crate) fn run_virtual<S: Source, K: Sink>(
     alloc: Global,
     schedule: ScheduleWord,
@@ -72,7 +72,7 @@ fn write_ended<K: Sink>(ended: Ended, sink: &mut K) -> Outcome
     Outcome::plain(status, ended.trace)
 }
 
-// Writes the trace text of a run, and behind it the lines of its losses.
+// Writes the trace text of a run, and after it the lines of its losses.
 fn write_text<K: Sink>(sink: &mut K, ended: &Ended) -> Result<(), Failed>
     requires { length ended.now.lost.items ≤ MAX_SPACES }
     ensures ok { OnOk result (Appends (K.taken sink.old) (K.taken sink.new)

@@ -1,4 +1,4 @@
-use Rattle.std.proofs.Common.{◌≡◌, ◌⊎◌, ℕ, List, [], length, arith, ap, subst, sym, ◌∙◌, inl, inr, ◌≤◌}
+use Rattle.std.proofs.Common.{ℕ, List, length, arith, ap, subst, sym, ◌∙◌, inl, inr, ◌≤◌}
 use Rattle.sa_workload.specs.Bad.{BadAt}
 use Rattle.sa_workload.specs.Text.{IsText}
 use Rattle.sa_script.specs.Reading.{script_of}

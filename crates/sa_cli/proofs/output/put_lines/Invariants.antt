@@ -1,4 +1,4 @@
-use Rattle.std.proofs.Common.{◌≡◌, ◌≤◌, length}
+use Rattle.std.proofs.Common.{◌≤◌, length}
 use Rattle.sa_cli.proofs.TracePieces.{AreOut}
 use Rattle.sa_cli.proofs.output.put_lines.Given as goal
 

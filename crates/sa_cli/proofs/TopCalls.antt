@@ -1,0 +1,63 @@
+-- What both top calls promise, from what the parts of a command say.
+use Rattle.std.proofs.Common.{◌≡◌, ℕ, ◌≤◌, List, [], Option, Some, None, refl, subst, arith}
+use Rattle.sa_command.specs.declared.command.Command.{Command}
+use Rattle.sa_cli.specs.declared.outcome.Outcome.{Outcome}
+use Rattle.sa_cli.specs.declared.outcome.Ran.TheVariants.{Nothing}
+use Rattle.sa_cli.specs.declared.outcome.Status.{Status}
+use Rattle.sa_cli.specs.declared.outcome.Status.TheVariants.{Usage}
+use Rattle.sa_cli.specs.Input.{LosesPrefix}
+use Rattle.sa_cli.specs.Outcome.{WritesNothing}
+use Rattle.sa_cli.specs.Answers.{World}
+use Rattle.sa_cli.specs.Commands.{Answers, CanHaveRun, ReadsNothing}
+use Rattle.sa_cli.specs.TopCall.{Streams, DoesTheCommand}
+use Rattle.sa_cli.proofs.Results.{not-usage}
+use Rattle.sa_cli.proofs.Completeness.{answers-complete}
+
+-- a source that is not read loses nothing
+pub loses-nothing : (left : Option (List ℕ)) → LosesPrefix left left
+loses-nothing None = ([], tt)
+loses-nothing (Some bytes) = ([], refl)
+
+module _ {S K : Type 0} {world_of : Streams S K → World} {before after : Streams S K} {outcome : Outcome} where
+  -- what is done of a command is done of words that are the command
+  pub does-along : (o p : Option Command) → o ≡ p → DoesTheCommand world_of o before after outcome → DoesTheCommand world_of p before after outcome
+  does-along o p is does = subst (λ (v : Option Command). DoesTheCommand world_of v before after outcome) is does
+
+  -- a command that is answered is done
+  pub does : (command : Command) → CanHaveRun (Some command) outcome.ran → (WritesNothing outcome.status → after.sink ≡ before.sink)
+      → (ReadsNothing (Some command) → after.source ≡ before.source) → LosesPrefix (world_of before).left (world_of after).left
+      → (world_of before).reads ≤ (world_of after).reads → (world_of before).writes ≤ (world_of after).writes
+      → Answers command (world_of before) (world_of after) outcome.ran outcome.status → DoesTheCommand world_of (Some command) before after outcome
+  does command ran unwritten unread lost reads writes answers =
+      let old = world_of before in
+      let new = world_of after in
+      let not_usage : outcome.status ≡ Usage → ⊥ =
+      λ usage. not-usage command old new outcome.ran (subst (λ (v : Status). Answers command old new outcome.ran v) usage answers) in
+      record {
+        usage = (λ usage. absurd (not_usage usage), λ none. absurd cc);
+        untouched = λ usage. absurd (not_usage usage);
+        unwritten = unwritten;
+        unread = unread;
+        ran = ran;
+        lost = lost;
+        reads_counted = reads;
+        writes_counted = writes;
+        answers = answers;
+        complete = answers-complete command old new outcome.ran outcome.status answers;
+      }
+
+-- words that are no command are answered so, and nothing is touched
+pub does-nothing : {S K : Type 0} {world_of : Streams S K → World} {both : Streams S K} {outcome : Outcome}
+    → outcome.status ≡ Usage → outcome.ran ≡ Nothing → DoesTheCommand world_of None both both outcome
+does-nothing {world_of = world_of} {both = both} usage ran = record {
+  usage = (λ usage. refl, λ none. usage);
+  untouched = λ usage. (refl, refl);
+  unwritten = λ nothing. refl;
+  unread = λ load. absurd load;
+  ran = ran;
+  lost = loses-nothing (world_of both).left;
+  reads_counted = omega arith;
+  writes_counted = omega arith;
+  answers = tt;
+  complete = tt;
+}

@@ -1,0 +1,100 @@
+use Rattle.std.proofs.Common.{Some, sym, ap, subst, ◌∙◌, rules, arith}
+use Rattle.sa_command.specs.declared.command.Command.TheVariants.{Run, Load, Migrate, Check, Vp, Debug}
+use Rattle.sa_cli.specs.declared.outcome.Status.{Status}
+use Rattle.sa_cli.specs.Outcome.{RanHere, WritesNothing}
+use Rattle.sa_cli.specs.Answers.{world}
+use Rattle.sa_cli.specs.Commands.{MigrateAnswers, CheckAnswers}
+use Rattle.sa_cli.proofs.TopCalls.{loses-nothing, does-along, does, does-nothing}
+use Rattle.sa_cli.proofs.calls.run_command.Goals as goal
+
+pub returns-in-None : goal.returns-in-None
+returns-in-None g c = does-along _ _ (sym c.in-None.is) (does-nothing (search rules) (search rules))
+
+pub run_text-requires : goal.run_text-requires
+run_text-requires g c =
+    let run = c.in-Some-Run in
+    let range = c.requires.range (Run run.schedule run.budget run.user_level) (run.is ∙ ap Some (rw run.is at run.field-0-is)) in
+    record { some = range.least; few = range.most }
+
+pub returns-in-Some-Run : goal.returns-in-Some-Run
+returns-in-Some-Run g c =
+    let run = c.in-Some-Run in
+    let said = c.run_text.ensures in
+    does-along _ _ (sym (run.is ∙ ap Some (rw run.is at run.field-0-is)))
+    (does (Run run.schedule run.budget run.user_level) said.here said.unwritten (λ load. absurd load)
+    said.lost said.reads_counted said.writes_counted said.answers)
+
+pub run_generated-requires : goal.run_generated-requires
+run_generated-requires g c =
+    let load = c.in-Some-Load in
+    let range = c.requires.range (Load load.number load.budget) (load.is ∙ ap Some (rw load.is at load.field-0-is)) in
+    record { some = range.least; few = range.most }
+
+pub returns-in-Some-Load : goal.returns-in-Some-Load
+returns-in-Some-Load g c =
+    let load = c.in-Some-Load in
+    let said = c.run_generated.ensures in
+    let left = g.S.Source.left c.args.source.now in
+    let reads = g.S.Source.faults c.args.source.now in
+    does-along _ _ (sym (load.is ∙ ap Some (rw load.is at load.field-0-is)))
+    (does (Load load.number load.budget) said.here said.unwritten (λ load. search rules)
+    (loses-nothing left) (omega arith) said.writes_counted (said.answers left reads))
+
+pub migrate-requires : goal.migrate-requires
+migrate-requires g c =
+    let migrates = c.in-Some-Migrate in (c.requires.range (Migrate migrates.slice) (migrates.is ∙ ap Some (rw migrates.is at migrates.field-0-is))).most
+
+pub returns-in-Some-Migrate : goal.returns-in-Some-Migrate
+returns-in-Some-Migrate g c =
+    let migrates = c.in-Some-Migrate in
+    let said = c.migrate.ensures in
+    let outcome = c.nothing-in-Some-Migrate.ensures in
+    let before =
+    world (g.S.Source.left c.args.source.now) (g.K.Sink.taken c.args.sink.now) (g.S.Source.faults c.args.source.now) (g.K.Sink.faults c.args.sink.now) in
+    let after =
+    world (g.S.Source.left c.migrate.new.source) (g.K.Sink.taken c.migrate.new.sink)
+    (g.S.Source.faults c.migrate.new.source) (g.K.Sink.faults c.migrate.new.sink) in
+    does-along _ _ (sym (migrates.is ∙ ap Some (rw migrates.is at migrates.field-0-is)))
+    (does (Migrate migrates.slice) (subst RanHere (sym outcome.ran) tt) (λ nothing. said.unwritten (subst WritesNothing outcome.status nothing))
+    (λ load. absurd load) said.lost said.reads_counted said.writes_counted
+    (outcome.ran, subst (λ (v : Status). MigrateAnswers migrates.slice before after v) (sym outcome.status) said.answers))
+
+pub returns-in-Some-Check : goal.returns-in-Some-Check
+returns-in-Some-Check g c =
+    let said = c.check_texts.ensures in
+    let outcome = c.nothing-in-Some-Check.ensures in
+    let before =
+    world (g.S.Source.left c.args.source.now) (g.K.Sink.taken c.args.sink.now) (g.S.Source.faults c.args.source.now) (g.K.Sink.faults c.args.sink.now) in
+    let after =
+    world (g.S.Source.left c.check_texts.new.source) (g.K.Sink.taken c.check_texts.new.sink)
+    (g.S.Source.faults c.check_texts.new.source) (g.K.Sink.faults c.check_texts.new.sink) in
+    does-along _ _ (sym (c.in-Some-Check.is ∙ ap Some (rw c.in-Some-Check.is at c.in-Some-Check.field-0-is)))
+    (does Check (subst RanHere (sym outcome.ran) tt) (λ nothing. said.unwritten (subst WritesNothing outcome.status nothing)) (λ load. absurd load)
+    said.lost said.reads_counted said.writes_counted
+    (outcome.ran, subst (λ (v : Status). CheckAnswers before after v) (sym outcome.status) said.answers))
+
+pub run_virtual-requires : goal.run_virtual-requires
+run_virtual-requires g c =
+    let vp = c.in-Some-Vp in
+    let range = c.requires.range (Vp vp.schedule vp.budget) (vp.is ∙ ap Some (rw vp.is at vp.field-0-is)) in
+    record { some = range.least; few = range.most }
+
+pub returns-in-Some-Vp : goal.returns-in-Some-Vp
+returns-in-Some-Vp g c =
+    let vp = c.in-Some-Vp in
+    let said = c.run_virtual.ensures in
+    does-along _ _ (sym (vp.is ∙ ap Some (rw vp.is at vp.field-0-is)))
+    (does (Vp vp.schedule vp.budget) said.here said.unwritten (λ load. absurd load) said.lost said.reads_counted said.writes_counted said.answers)
+
+pub debug_texts-requires : goal.debug_texts-requires
+debug_texts-requires g c =
+    let debug = c.in-Some-Debug in
+    let range = c.requires.range (Debug debug.budget) (debug.is ∙ ap Some (rw debug.is at debug.field-0-is)) in
+    record { some = range.least; few = range.most }
+
+pub returns-in-Some-Debug : goal.returns-in-Some-Debug
+returns-in-Some-Debug g c =
+    let debug = c.in-Some-Debug in
+    let said = c.debug_texts.ensures in
+    does-along _ _ (sym (debug.is ∙ ap Some (rw debug.is at debug.field-0-is)))
+    (does (Debug debug.budget) said.here said.unwritten (λ load. absurd load) said.lost said.reads_counted said.writes_counted said.answers)
