@@ -110,7 +110,7 @@ impl SpaceThreads {
         ensures { self.new ≡ put_thread place self.old t }
     {
         let thread = self.threads.get(t);
-        self.threads.set(t, thread.moved(place));
+        self.threads.set(t, &thread.moved(place));
     }
 
     /// Runs the next instruction of a thread that runs, of the space that `def` declares, and puts the threads that it
@@ -142,7 +142,7 @@ impl SpaceThreads {
             &mut self.sync,
             roused,
             t,
-            thread,
+            &thread,
             instr,
         );
         Ok(())

@@ -72,17 +72,21 @@ impl Threads {
     }
 
     /// Puts a thread in place of the one of this number.
-    pub fn set(&mut self, t: ThreadNo, thread: ThreadState)
+    pub fn set(&mut self, t: ThreadNo, thread: &ThreadState)
         requires { t.0 < length self.old }
-        ensures { self.new ≡ slice_set self.old t.0 thread }
+        ensures { self.new ≡ slice_set self.old t.0 thread.now }
     {
         let old = self.threads[usize::from(t.0)].place();
         let new = thread.place();
+        if new == old {
+            self.threads[usize::from(t.0)] = *thread;
+            return;
+        }
         self.active = moved(self.active, is_active(old), is_active(new));
         self.ready = moved(self.ready, is_ready(old), is_ready(new));
         self.live = moved(self.live, is_live(old), is_live(new));
         self.restless = moved(self.restless, is_restless(old), is_restless(new));
-        self.threads[usize::from(t.0)] = thread;
+        self.threads[usize::from(t.0)] = *thread;
     }
 
     /// Adds a thread, which gets the next number.

@@ -69,39 +69,43 @@ impl ThreadState {
     }
 
     /// The same thread in another place.
-    pub fn moved(mut self, place: Place) -> ThreadState
-        ensures { result ≡ record self { place = place } }
+    pub fn moved(&self, place: Place) -> ThreadState
+        ensures { result ≡ record self.now { place = place } }
     {
-        self.place = place;
-        self
+        let mut thread = *self;
+        thread.place = place;
+        thread
     }
 
     // The thread behind its instruction.
-    pub(crate) fn next(mut self) -> ThreadState
-        requires { self.pc + 1 < 2 ^ 16 }
-        ensures { result ≡ next self }
+    pub(crate) fn next(&self) -> ThreadState
+        requires { self.now.pc + 1 < 2 ^ 16 }
+        ensures { result ≡ next self.now }
     {
-        self.pc += 1;
-        self
+        let mut thread = *self;
+        thread.pc += 1;
+        thread
     }
 
     // The same, with a value in a register.
-    pub(crate) fn next_with(mut self, reg: Reg, value: u64) -> ThreadState
-        requires { self.pc + 1 < 2 ^ 16 }
-        ensures { result ≡ next_with self reg value }
+    pub(crate) fn next_with(&self, reg: Reg, value: u64) -> ThreadState
+        requires { self.now.pc + 1 < 2 ^ 16 }
+        ensures { result ≡ next_with self.now reg value }
     {
-        self.regs.set(reg, value);
-        self.pc += 1;
-        self
+        let mut thread = *self;
+        thread.regs.set(reg, value);
+        thread.pc += 1;
+        thread
     }
 
     // The thread behind an instruction that stays within it.
-    pub(crate) fn went(mut self, program: &Program) -> ThreadState
-        requires { self.pc < length program.now }
-        ensures { let instr = instr_at program.now self.pc in
-            result ≡ record self { pc = place_after instr self.pc self.regs; regs = regs_after instr self.regs } }
+    pub(crate) fn went(&self, program: &Program) -> ThreadState
+        requires { self.now.pc < length program.now }
+        ensures { let instr = instr_at program.now self.now.pc in
+            result ≡ record self.now { pc = place_after instr self.now.pc self.now.regs; regs = regs_after instr self.now.regs } }
     {
-        local(program, &mut self.regs, &mut self.pc);
-        self
+        let mut thread = *self;
+        local(program, &mut thread.regs, &mut thread.pc);
+        thread
     }
 }

@@ -20,6 +20,8 @@ use Rattle.sa_vp_model.proofs.Opened.{opened_is_read}
 use Rattle.sa_vp.specs.declared.board.Parts.{Parts}
 use Rattle.sa_vp.specs.View.{VpView, board_of}
 use Rattle.sa_vp.specs.Room.{HasRoom, Spends, IsKept}
+use Rattle.sa_vp.specs.Waits.{BlocksByIos, CountsWork}
+use Rattle.sa_vp.proofs.Waits.{read_waits, read_work}
 
 -- a run that goes on has not made its last event
 pub goes-on : (budget : ℕ) (b : Board) → end_of budget b ≡ None → b.number ≤ budget + 1 → b.number ≤ budget
@@ -67,6 +69,12 @@ module _ (m : Parts) (budget spare : ℕ) (kept : IsKept m budget spare) (p : Pr
 
   turn_read : TurnIsRead m.replay.workload p (board_of m) (turned p (board_of m)) kept.read
   turn_read = turns_are_read m.replay.workload p (board_of m) kept.read inside event
+
+  pub waits : BlocksByIos (acts p (option_map io_no (due_of m.number m.devices.ios.under_way)) (begun (board_of m)))
+  waits = read_waits m.replay.workload (turned p (board_of m)) turn_read.read
+
+  pub work : CountsWork (board_of m)
+  work = read_work m.replay.workload (board_of m) kept.read
 
   module _ (new : Parts) (made : board_of new ≡ turned p (board_of m)) (spends : Spends m new) where
     read : IsRead m.replay.workload (board_of new)

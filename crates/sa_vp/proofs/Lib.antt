@@ -5,3 +5,4 @@ pub mod Opening
 pub mod Kept
 pub mod Reading
 pub mod OpenedBoard
+pub mod Waits

@@ -2,3 +2,4 @@ pub mod Ready
 pub mod View
 pub mod Room
 pub mod Opening
+pub mod Waits

@@ -4,8 +4,9 @@ ghost use Rattle.std.specs.Option.{option_map};
 ghost use Rattle.sa_base.specs.declared.limits.TheConstants.{MAX_EVENTS, MAX_THREADS};
 ghost use Rattle.sa_devices.specs.declared.kind.IoKind.TheVariants.{Plain, Page};
 ghost use Rattle.sa_devices.specs.Ios.{Io, io_at};
-ghost use Rattle.sa_instr.specs.declared.instr.Instr.TheVariants.{Io as IoOf};
+ghost use Rattle.sa_instr.specs.declared.instr.Instr.TheVariants.{Io as IoOf, Out as OutOf};
 ghost use Rattle.sa_check_machine.specs.Needs.{CanChange, IsOverfull};
+ghost use Rattle.sa_laws.specs.State.{thread_at};
 ghost use Rattle.sa_check_machine.specs.Replayed.{after};
 ghost use Rattle.sa_virtual.specs.Virtual.{space_of, list_of};
 ghost use Rattle.sa_virtual.specs.Turn.{of_io, round_from};
@@ -14,6 +15,7 @@ ghost use Rattle.sa_vp_model.specs.Turn.{act, thread, held_by, completes, places
 ghost use Rattle.sa_vp_model.specs.Needs.{IsTabled, IsVirtual, CanComeBack, CanPlaceOn, CanGiveWay, CanReady, CanBlockOn, CanGoOn, CanRunOn, CanLook, CanStep};
 ghost use Rattle.sa_vp.specs.View.{board_of};
 ghost use Rattle.sa_vp.specs.Room.{Spends};
+ghost use Rattle.sa_vp.specs.Waits.{CountsWork, ListsReady};
 
 use crate::numbers::{blocked_by, has_page, list_of, space_of};
 use crate::queue::put_behind;
@@ -21,7 +23,7 @@ use crate::ready::Ready;
 use sa_base::{ActNo, IoNo, MAX_THREADS, ProcNo, Record, SpaceNo, ThreadNo, Trace};
 use sa_check_machine::Replay;
 use sa_devices::{Devices, IoKind};
-use sa_instr::{Instr, Regs};
+use sa_instr::{Instr, Reg};
 use sa_links::Links;
 
 /// The items of an event at most.
@@ -106,7 +108,7 @@ impl Parts {
     }
 
     // The first thread of the virtual processor's work list.
-    fn first_due(&self, a: ActNo) -> Option<ThreadNo>
+    fn front_of_work(&self, a: ActNo) -> Option<ThreadNo>
         requires tabled { IsTabled (board_of self.now) }
         requires known { IsVirtual (board_of self.now) a }
         ensures first { result ≡ option_map thread (slice_get (list_in self.now.work.items (space_of a) (list_of a)) 0) }
@@ -118,18 +120,36 @@ impl Parts {
         Some(ThreadNo(first as u16))
     }
 
-    // The first ready list of the virtual processor's space, round from its own, that has a thread.
+    // The first thread of the virtual processor's work list; no list is looked at where no thread is in any.
+    fn first_due(&self, a: ActNo) -> Option<ThreadNo>
+        requires tabled { IsTabled (board_of self.now) }
+        requires known { IsVirtual (board_of self.now) a }
+        requires counted { CountsWork (board_of self.now) }
+        ensures first { result ≡ option_map thread (slice_get (list_in self.now.work.items (space_of a) (list_of a)) 0) }
+        ensures small { IfSome result (λ t. t.0 < MAX_THREADS) }
+    {
+        if self.due == 0 {
+            return None;
+        }
+        self.front_of_work(a)
+    }
+
+    // The first ready list of the virtual processor's space, round from its own, that has a thread: none where no thread of
+    // the space is ready.
     fn seek(&self, a: ActNo) -> Option<ProcNo>
         requires tabled { IsTabled (board_of self.now) }
         requires known { IsVirtual (board_of self.now) a }
+        requires ready { ListsReady (board_of self.now) (space_of a) }
         ensures found { result ≡ find (λ l. is_some_list (list_in self.now.ready.items (space_of a) l))
             (round_from self.now.replay.workload (list_of a)) }
         ensures inside { IfSome result (λ l. l.0 < self.now.replay.workload.processors) }
         ensures some { IfSome result (λ l. is_some_list (list_in self.now.ready.items (space_of a) l) ≡ true) }
     {
         let s = space_of(a);
-        let own = list_of(a);
-        self.ready[usize::from(s.0)].seek(own)
+        if self.replay.ready_threads(s) == 0 {
+            return None;
+        }
+        self.ready[usize::from(s.0)].seek(list_of(a))
     }
 
     // Takes a thread out of a ready list.
@@ -263,8 +283,11 @@ impl Parts {
         self.say(p, Record::Move(Some(s), None));
     }
 
-    // The thread runs its next instruction. The threads that it forks or wakes go to the virtual processor's work list.
-    fn go(&mut self, p: ProcNo, a: ActNo, t: ThreadNo)
+    // The thread runs its next instruction, which is at this place. The threads that it forks or wakes go to the virtual
+    // processor's work list.
+    #[inline(always)]
+    fn go(&mut self, p: ProcNo, a: ActNo, t: ThreadNo, pc: u16)
+        requires at { pc ≡ (thread_at self.old.replay.state (space_of a) t).pc }
         requires can { CanGoOn p a t (board_of self.old) }
         requires room { 1 ≤ self.old.trace.spare }
         ensures board { board_of self.new ≡ goes p a t (board_of self.old) }
@@ -272,29 +295,59 @@ impl Parts {
         ensures devices { self.new.devices ≡ self.old.devices }
     {
         let s = space_of(a);
-        let pc = self.replay.thread(s, t).pc();
         self.say(p, Record::Ins(s, t, pc));
         let roused = self.replay.roused();
         put_behind(&mut self.work[usize::from(s.0)], list_of(a), roused);
         self.due += roused.len() as u64;
     }
 
-    // What comes behind the record of an instruction: the value that it gives, or the block for its I/O.
-    fn end_with(&mut self, p: ProcNo, a: ActNo, t: ThreadNo, regs: Regs, instr: Instr)
-        requires inside { p.0 < self.old.replay.workload.processors }
-        requires small { IsVirtual (board_of self.old) a }
-        requires blocks { (n : ℕ) → instr ≡ IoOf n → CanBlockOn p a t (Plain (space_of a) a) (board_of self.old) }
-        requires io { 1 ≤ self.old.devices.ios.spare }
+    // The thread runs `out`, which gives a register's value.
+    fn go_out(&mut self, p: ProcNo, a: ActNo, t: ThreadNo, pc: u16, reg: Reg)
+        requires at { pc ≡ (thread_at self.old.replay.state (space_of a) t).pc }
+        requires can { CanGoOn p a t (board_of self.old) }
         requires room { 2 ≤ self.old.trace.spare }
-        ensures board { board_of self.new ≡ ends_with p a t regs instr (board_of self.old) }
+        ensures board { board_of self.new
+            ≡ ends_with p a t (thread_at self.old.replay.state (space_of a) t).regs (OutOf reg) (goes p a t (board_of self.old)) }
         ensures items { self.old.trace.spare ≤ self.new.trace.spare + 2 }
-        ensures ios { self.old.devices.ios.spare ≤ self.new.devices.ios.spare + 1 }
+        ensures devices { self.new.devices ≡ self.old.devices }
     {
         let s = space_of(a);
+        let value = self.replay.thread(s, t).regs().get(reg);
+        self.go(p, a, t, pc);
+        self.say(p, Record::Out(s, t, value));
+    }
+
+    // The thread runs `io`, and blocks for an I/O of so many events.
+    fn go_block(&mut self, p: ProcNo, a: ActNo, t: ThreadNo, pc: u16, len: u32)
+        requires inside { p.0 < self.old.replay.workload.processors }
+        requires at { pc ≡ (thread_at self.old.replay.state (space_of a) t).pc }
+        requires can { CanGoOn p a t (board_of self.old) }
+        requires blocks { CanBlockOn p a t (Plain (space_of a) a) (goes p a t (board_of self.old)) }
+        requires io { 1 ≤ self.old.devices.ios.spare }
+        requires room { EVENT_ITEMS ≤ self.old.trace.spare }
+        ensures board { board_of self.new ≡ blocks p a t (Plain (space_of a) a) len (goes p a t (board_of self.old)) }
+        ensures room { Spends self.old self.new }
+    {
+        self.go(p, a, t, pc);
+        self.block(p, a, t, IoKind::Plain(space_of(a), a), len);
+    }
+
+    // The thread runs its instruction, which is at this place and for which no page is missing.
+    fn go_on(&mut self, p: ProcNo, a: ActNo, t: ThreadNo, pc: u16, instr: Instr)
+        requires inside { p.0 < self.old.replay.workload.processors }
+        requires at { pc ≡ (thread_at self.old.replay.state (space_of a) t).pc }
+        requires can { CanGoOn p a t (board_of self.old) }
+        requires blocks { (n : ℕ) → instr ≡ IoOf n → CanBlockOn p a t (Plain (space_of a) a) (goes p a t (board_of self.old)) }
+        requires io { 1 ≤ self.old.devices.ios.spare }
+        requires room { EVENT_ITEMS ≤ self.old.trace.spare }
+        ensures board { board_of self.new
+            ≡ ends_with p a t (thread_at self.old.replay.state (space_of a) t).regs instr (goes p a t (board_of self.old)) }
+        ensures room { Spends self.old self.new }
+    {
         match instr {
-            Instr::Out(reg) => self.say(p, Record::Out(s, t, regs.get(reg))),
-            Instr::Io(len) => self.block(p, a, t, IoKind::Plain(s, a), len),
-            _ => {}
+            Instr::Out(reg) => self.go_out(p, a, t, pc, reg),
+            Instr::Io(len) => self.go_block(p, a, t, pc, len),
+            _ => self.go(p, a, t, pc),
         }
     }
 
@@ -312,6 +365,20 @@ impl Parts {
         Some(page)
     }
 
+    // The thread blocks for a page that is fetched.
+    fn fetch(&mut self, p: ProcNo, a: ActNo, t: ThreadNo, page: u16)
+        requires inside { p.0 < self.old.replay.workload.processors }
+        requires can { CanBlockOn p a t (Page (space_of a) a page) (board_of self.old) }
+        requires io { 1 ≤ self.old.devices.ios.spare }
+        requires room { EVENT_ITEMS ≤ self.old.trace.spare }
+        ensures board { board_of self.new
+            ≡ blocks p a t (Page (space_of a) a page) self.old.replay.workload.fetch (board_of self.old) }
+        ensures room { Spends self.old self.new }
+    {
+        let len = self.replay.workload().fetch();
+        self.block(p, a, t, IoKind::Page(space_of(a), a, page), len);
+    }
+
     // The thread runs an instruction, or blocks for a page.
     fn run(&mut self, p: ProcNo, a: ActNo, t: ThreadNo)
         requires inside { p.0 < self.old.replay.workload.processors }
@@ -322,15 +389,12 @@ impl Parts {
         ensures room { Spends self.old self.new }
     {
         let s = space_of(a);
-        let instr = self.replay.next_instr(s, t);
-        if let Some(page) = self.missed_page(s, instr) {
-            let fetch = self.replay.workload().fetch();
-            self.block(p, a, t, IoKind::Page(s, a, page), fetch);
-            return;
+        let pc = self.replay.thread(s, t).pc();
+        let instr = self.replay.instr_of(s, t, pc);
+        match self.missed_page(s, instr) {
+            Some(page) => self.fetch(p, a, t, page),
+            None => self.go_on(p, a, t, pc, instr),
         }
-        let regs = self.replay.thread(s, t).regs();
-        self.go(p, a, t);
-        self.end_with(p, a, t, regs, instr);
     }
 
     // The virtual processor takes a thread from the first list, round from its own, that has one.
@@ -358,6 +422,7 @@ impl Parts {
     pub(crate) fn step(&mut self, p: ProcNo, a: ActNo)
         requires inside { p.0 < self.old.replay.workload.processors }
         requires can { CanStep p a (board_of self.old) }
+        requires counted { CountsWork (board_of self.old) }
         requires io { 1 ≤ self.old.devices.ios.spare }
         requires room { EVENT_ITEMS ≤ self.old.trace.spare }
         ensures board { board_of self.new ≡ steps p a (board_of self.old) }

@@ -4,11 +4,12 @@ ghost use Rattle.std.specs.List.{range_with_len};
 ghost use Rattle.std.specs.Option.{option_map};
 ghost use Rattle.sa_base.specs.declared.limits.TheConstants.{MAX_EVENTS, MAX_SPACES};
 ghost use Rattle.sa_devices.specs.Ios.{due_of, io_no};
-ghost use Rattle.sa_vp_model.specs.Turn.{begun, acts, counted, loss, turned, has_had_its_turn};
+ghost use Rattle.sa_vp_model.specs.Turn.{begun, acts, counted, loses, loss, turned, has_had_its_turn};
 ghost use Rattle.sa_vp_model.specs.Needs.{CanAct, CanLose};
 ghost use Rattle.sa_vp_model.specs.End.{is_done, is_stuck};
 ghost use Rattle.sa_vp.specs.View.{board_of};
 ghost use Rattle.sa_vp.specs.Room.{Spends};
+ghost use Rattle.sa_vp.specs.Waits.{BlocksByIos, CountsWork};
 
 use crate::board::{EVENT_ITEMS, Parts};
 use sa_base::{ActNo, ProcNo, SpaceNo, Trace};
@@ -30,6 +31,7 @@ impl Parts {
     // What happens in an event whose evictions are done: the first that applies of four.
     fn act(&mut self, p: ProcNo)
         requires can { CanAct p (board_of self.old) }
+        requires counted { CountsWork (board_of self.old) }
         requires io { 1 ≤ self.old.devices.ios.spare }
         requires room { EVENT_ITEMS ≤ self.old.trace.spare }
         ensures board { board_of self.new ≡ acts p (option_map io_no (due_of self.old.number self.old.devices.ios.under_way)) (board_of self.old) }
@@ -50,23 +52,38 @@ impl Parts {
         }
     }
 
+    // Each space loses as many of its ready threads as it has blocked virtual processors: none where no I/O is under way.
+    fn lose(&mut self)
+        requires can { CanLose (board_of self.old) }
+        requires ios { BlocksByIos (board_of self.old) }
+        ensures rest { self.new ≡ record self.old { lost = self.new.lost } }
+        ensures lost { self.new.lost.items ≡ loses (board_of self.old) }
+    {
+        if self.devices.busy() {
+            add_losses(&mut self.lost, &self.blocked, &self.replay);
+        }
+    }
+
     // The end of an event: the losses are counted.
     fn count(&mut self)
         requires can { CanLose (board_of self.old) }
+        requires ios { BlocksByIos (board_of self.old) }
         requires number { self.old.number < 2 ^ 63 }
         ensures board { board_of self.new ≡ counted (board_of self.old) }
         ensures trace { self.new.trace ≡ self.old.trace }
         ensures devices { self.new.devices ≡ self.old.devices }
     {
-        add_losses(&mut self.lost, &self.blocked, &self.replay);
+        self.lose();
         self.number += 1;
     }
 
     /// One event of the processor.
     pub(crate) fn turn(&mut self, p: ProcNo)
         requires can { CanAct p (begun (board_of self.old)) }
+        requires counted { CountsWork (board_of self.old) }
         requires few { self.old.number ≤ MAX_EVENTS }
         requires lose { CanLose (acts p (option_map io_no (due_of self.old.number self.old.devices.ios.under_way)) (begun (board_of self.old))) }
+        requires ios { BlocksByIos (acts p (option_map io_no (due_of self.old.number self.old.devices.ios.under_way)) (begun (board_of self.old))) }
         requires io { 1 ≤ self.old.devices.ios.spare }
         requires room { EVENT_ITEMS ≤ self.old.trace.spare }
         ensures board { board_of self.new ≡ turned p (board_of self.old) }
@@ -127,6 +144,9 @@ fn loss(blocked: &Vec<u32>, replay: &Replay, s: usize) -> u64
     ensures loss { result ≡ loss replay.now.state blocked.now.items s }
     ensures small { result < 2 ^ 32 }
 {
+    if blocked[s] == 0 {
+        return 0;
+    }
     let ready = replay.ready_threads(SpaceNo(s as u16));
     u64::from(blocked[s]).min(u64::from(ready))
 }

@@ -1,6 +1,6 @@
 use Rattle.std.proofs.Common.{◌≤◌, ap, ◌∙◌, arith}
 use Rattle.sa_vp.specs.View.{VpView}
-use Rattle.sa_vp.proofs.Kept.{inside-view, can, lose, kept-turn, number-turn}
+use Rattle.sa_vp.proofs.Kept.{inside-view, can, lose, waits, work, kept-turn, number-turn}
 use Rattle.sa_vp.proofs.vp.Vp.turn.Goals as goal
 
 pub turn-requires-clause-can : goal.turn-requires-clause-can
@@ -14,6 +14,18 @@ turn-requires-clause-lose c =
     let k = c.self.inside in
     let is = inside-view k.parts k.budget k.spare c.make_room.new.self c.args.self.now c.self.view_is c.make_room.ensures.rest in
     lose k.parts k.budget k.spare c.self.invariant c.args.p c.args.self.now is c.requires.within c.requires.goes_on
+
+pub turn-requires-clause-ios : goal.turn-requires-clause-ios
+turn-requires-clause-ios c =
+    let k = c.self.inside in
+    let is = inside-view k.parts k.budget k.spare c.make_room.new.self c.args.self.now c.self.view_is c.make_room.ensures.rest in
+    waits k.parts k.budget k.spare c.self.invariant c.args.p c.args.self.now is c.requires.within c.requires.goes_on
+
+pub turn-requires-clause-counted : goal.turn-requires-clause-counted
+turn-requires-clause-counted c =
+    let k = c.self.inside in
+    let is = inside-view k.parts k.budget k.spare c.make_room.new.self c.args.self.now c.self.view_is c.make_room.ensures.rest in
+    work k.parts k.budget k.spare c.self.invariant c.args.p c.args.self.now is c.requires.within c.requires.goes_on
 
 pub invariant_of-self : goal.invariant_of-self
 invariant_of-self c =
