@@ -194,16 +194,10 @@ impl Assign {
             return;
         };
         self.aims[usize::from(p)] = Some(s);
-        trace.add(Item {
-            what: Record::Aim(ProcNo(p), Some(s)),
-            ..item
-        });
+        trace.say(item.event, item.proc, Record::Aim(ProcNo(p), Some(s)));
         if self.lines[usize::from(p)].is_none() {
             self.lines[usize::from(p)] = Some(item.event);
-            trace.add(Item {
-                what: Record::Line(ProcNo(p)),
-                ..item
-            });
+            trace.say(item.event, item.proc, Record::Line(ProcNo(p)));
         }
     }
 

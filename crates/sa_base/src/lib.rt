@@ -1,6 +1,7 @@
 //! The words that every part of the program shares: numbers, notices, records and the trace.
 #![tactic(auto)]
 
+mod bits;
 mod context;
 mod limits;
 mod number;
@@ -8,6 +9,7 @@ mod record;
 mod refusal;
 mod trace;
 
+pub use bits::{has_bit, has_page};
 pub use context::{Seen, Stopped};
 pub use limits::{
     BULK_RETURN, DEFAULT_BUDGET, DEFAULT_BURST, FIRST_THREAD_PAGE, MAX_BURST, MAX_EVENTS,

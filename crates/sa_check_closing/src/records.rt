@@ -1,10 +1,11 @@
 // Lists of records.
-ghost use Rattle.std.specs.Prelude.{◌≡◌, [], ◌∷◌, ◌++◌, ◌↔◌, true, IsTrue, MatchOption, OnOk};
+ghost use Rattle.std.specs.Prelude.{◌≡◌, [], ◌∷◌, ◌++◌, ◌↔◌, true, IsTrue, OnOk};
 ghost use Rattle.std.specs.List.{list_all};
 ghost use Rattle.std.specs.Option.{option_to_list};
 ghost use Rattle.sa_laws.specs.Shape.{is_of_closing};
 
 use sa_base::Record;
+use sa_check_shapes::parted;
 use std::alloc::AllocError;
 
 // Adds the record, if there is one.
@@ -15,14 +16,6 @@ pub(crate) fn add(records: &mut Vec<Record>, what: Option<Record>) -> Result<(),
         records.push(what)?;
     }
     Ok(())
-}
-
-// The first item and the others.
-fn parted<T: Copy>(items: &[T]) -> Option<(T, &[T])>
-    ensures { MatchOption result (items.now ≡ []) (λ p. items.now ≡ p.0 ∷ p.1.now) }
-{
-    let (first, others) = items.split_first()?;
-    Some((*first, others))
 }
 
 // The record is this other one, which is of a closing.

@@ -7,7 +7,8 @@ use Rattle.std.proofs.lemmas.List.Elements.{All-head, All-tail}
 use Rattle.std.proofs.lemmas.Bool.{cases_Bool, cond-true, cond-false}
 use Rattle.std.proofs.lemmas.Bool.Decides.{nat_tests}
 use Rattle.sa_devices.specs.Ios.{Io, is_sooner, sooner_of, due_of}
-use Rattle.sa_check_ios.specs.Kept.{HasPage, soonest_of, nearer}
+use Rattle.sa_devices.specs.Pages.{HasPage}
+use Rattle.sa_check_ios.specs.Kept.{soonest_of, nearer}
 
 sooner-trans : (a b c : Io) → is_sooner c b ≡ true → is_sooner b a ≡ true → is_sooner c a ≡ true
 sooner-trans a b c cb ba = grind (arith, nat_tests)

@@ -1,15 +1,7 @@
 -- How the I/Os under way are kept.
 use Rattle.std.specs.Prelude.{◌≡◌, ℕ, ◌<◌, Bool, false, List, [], ◌∷◌, length, Option, Some, None, slice_index_or}
 use Rattle.std.specs.List.{list_any}
-use Rattle.sa_base.specs.declared.limits.TheConstants.{PAGES}
-use Rattle.sa_devices.specs.declared.kind.IoKind.{IoKind}
-use Rattle.sa_devices.specs.declared.kind.IoKind.TheVariants.{Page}
 use Rattle.sa_devices.specs.Ios.{Io, sooner_of, fetches}
-
--- a page that an I/O is for is one of a space's
-abbrev pub HasPage : IoKind → Type 0
-HasPage (Page s a page) = page < PAGES
-HasPage _ = Unit {0}
 
 -- the one with the least end, and of these the one with the least number
 abbrev pub soonest_of : List Io → Option Io

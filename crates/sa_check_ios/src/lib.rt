@@ -3,7 +3,6 @@
 #![tactic(auto)]
 
 pub mod laws;
-mod pages;
 mod pending;
 mod ready;
 mod under_way;

@@ -3,16 +3,14 @@ ghost use Rattle.std.specs.Prelude.{◌≡◌, ◌≢◌, ◌↔◌, [], true, l
 ghost use Rattle.std.specs.List.{list_any};
 ghost use Rattle.std.specs.Option.{option_map};
 ghost use Rattle.sa_devices.specs.Ios.{Io, due_of, fetches};
-ghost use Rattle.sa_devices.specs.Laws.{has_page};
-ghost use Rattle.sa_devices.specs.Pages.{opening_pages, evicted};
+ghost use Rattle.sa_base.specs.Pages.{has_page};
+ghost use Rattle.sa_devices.specs.Pages.{HasPage, opening_pages, evicted};
 ghost use Rattle.sa_laws.specs.Record.{is_io_of};
-ghost use Rattle.sa_check_ios.specs.Kept.{HasPage};
 ghost use Rattle.sa_check_ios.specs.PendingView.{opened, begun_with, without_life, without_fetch};
 
-use crate::pages::{all_but, complete, evict_at, has_page, pages_at};
 use crate::under_way::{BegunIo, UnderWay};
-use sa_base::{ActNo, SpaceNo};
-use sa_devices::IoKind;
+use sa_base::{ActNo, SpaceNo, has_page};
+use sa_devices::{IoKind, all_but, complete, evict_at};
 use sa_spaces::{SpaceDef, Workload};
 use std::alloc::{AllocError, Global};
 use std::marker::Model;
@@ -147,7 +145,7 @@ impl Pending {
     pub fn pages(&self, s: SpaceNo) -> u16
         ensures { result ≡ slice_index self.now.pages s.0 }
     {
-        pages_at(self.pages.as_slice(), s)
+        self.pages.get(usize::from(s.0)).copied().unwrap_or(0)
     }
 
     /// The page of the space is resident.

@@ -3,8 +3,9 @@ ghost use Rattle.std.specs.Prelude.{◌≡◌, ◌↔◌, [], ◌∷◌, ◌++�
 ghost use Rattle.std.specs.List.{list_any};
 ghost use Rattle.std.specs.Option.{option_map};
 ghost use Rattle.sa_devices.specs.Ios.{Io, due_of, fetches, is_fetch_of, is_sooner};
+ghost use Rattle.sa_devices.specs.Pages.{HasPage};
 ghost use Rattle.sa_laws.specs.Record.{is_kind_of, is_io_of, is_io_of_other, fetches_other};
-ghost use Rattle.sa_check_ios.specs.Kept.{HasPage, soonest_of, nearer};
+ghost use Rattle.sa_check_ios.specs.Kept.{soonest_of, nearer};
 
 use sa_base::{ActNo, SpaceNo};
 use sa_devices::IoKind;
@@ -39,7 +40,8 @@ pub(crate) struct UnderWay {
 impl Model for UnderWay {
     ghost use Rattle.std.specs.Prelude.{◌≡◌, List, All};
     ghost use Rattle.sa_devices.specs.Ios.{Io};
-    ghost use Rattle.sa_check_ios.specs.Kept.{HasPage, soonest_of};
+    ghost use Rattle.sa_devices.specs.Pages.{HasPage};
+    ghost use Rattle.sa_check_ios.specs.Kept.{soonest_of};
 
     ghost Value = { List Io };
 

@@ -6,5 +6,4 @@ pub mod TotalLemmas
 pub mod IndexLemmas
 pub mod ChangeLemmas
 pub mod ReplayLemmas
-pub mod PageLemmas
 pub mod NeedLemmas

@@ -12,7 +12,7 @@ use Rattle.sa_base.specs.declared.record.Record.TheVariants as records
 use Rattle.sa_instr.specs.declared.instr.Instr.{Instr}
 use Rattle.sa_instr.specs.declared.instr.Instr.TheVariants as instrs
 use Rattle.sa_spaces.specs.Workload.{WorkloadView}
-use Rattle.sa_devices.specs.Laws.{has_page}
+use Rattle.sa_base.specs.Pages.{has_page}
 use Rattle.sa_laws.specs.State.{instr_of, next_instr, owner_at}
 use Rattle.sa_laws.specs.Life.{Life}
 use Rattle.sa_laws.specs.Readings.{Readings, is_resident, life_of}

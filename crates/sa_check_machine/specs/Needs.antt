@@ -10,7 +10,7 @@ use Rattle.sa_base.specs.declared.record.Record.TheVariants.{Ins, Out, Run, Stop
 use Rattle.sa_instr.specs.declared.instr.Instr.{Instr}
 use Rattle.sa_instr.specs.declared.instr.Instr.TheVariants.{Touch}
 use Rattle.sa_spaces.specs.Workload.{WorkloadView}
-use Rattle.sa_devices.specs.Laws.{has_page}
+use Rattle.sa_base.specs.Pages.{has_page}
 use Rattle.sa_laws.specs.declared.place.Place.TheVariants as place
 use Rattle.sa_laws.specs.State.{State, thread_at, instr_of, next_instr, program_len, owner_at, space_at}
 use Rattle.sa_laws.specs.Life.{Life, has_lock}

@@ -1,6 +1,5 @@
 // Which records the abstract machine can do.
 ghost use Rattle.std.specs.Prelude.{◌≡◌, ◌<◌, ◌⊎◌, ◌↔◌, ◌^◌, true, Some, None, IsTrue, is_some};
-ghost use Rattle.sa_devices.specs.Laws.{has_page};
 ghost use Rattle.sa_laws.specs.State.{thread_at, instr_of, next_instr, owner_at};
 ghost use Rattle.sa_laws.specs.Record.{length_in, is_thread};
 ghost use Rattle.sa_laws.specs.Step.{IsRunner, NobodyRuns, StandsIn, IsValueOf, IsBehindOut, CanBeReady};
@@ -8,7 +7,7 @@ ghost use Rattle.sa_check_machine.specs.Needs.{IsTouchedIn, IsMissedIn, IsFaulti
 
 use crate::beyond::{Beyond, LifeSeen};
 use crate::replay::Replay;
-use sa_base::{PACKAGE_PAGE, PAGES, ProcNo, Record, SpaceNo, ThreadNo};
+use sa_base::{PACKAGE_PAGE, ProcNo, Record, SpaceNo, ThreadNo, has_page};
 use sa_instr::{Instr, Regs};
 use sa_laws::Place;
 
@@ -205,11 +204,4 @@ fn is_value_of(regs: &Regs, instr: Instr, value: u64) -> bool
         Instr::Out(reg) => value == regs.get(reg),
         _ => false,
     }
-}
-
-// Whether the page is among these.
-fn has_page(pages: u16, page: u16) -> bool
-    ensures { result ≡ has_page pages page }
-{
-    page < PAGES && (pages >> page) % 2 == 1
 }

@@ -4,11 +4,10 @@ ghost use Rattle.sa_laws.specs.Demand.{is_bound, OwesNothing, IsFree, BeginsFree
 ghost use Rattle.sa_check_moment.specs.Seen.{seen, event};
 
 use crate::life::{carried_by, has_nothing};
-use crate::parts::parted;
 use sa_base::{ProcNo, Record};
 use sa_check_life::KeptLife;
 use sa_check_moment::Moment;
-use sa_check_shapes::is_step;
+use sa_check_shapes::{is_step, parted};
 
 /// Demand is announced, at an event of this number and processor with these records, on the moment before it.
 pub fn demand_is_said(moment: &Moment, number: u64, p: ProcNo, records: &[Record]) -> bool

@@ -1,5 +1,5 @@
 //! The rules of legal runs, each decided on what is read of a history at a moment: a file for each rule, but for those of
-//! time and shares. `table` has FastThreads' table of steps, and `life`, `page` and `parts` what several rules ask.
+//! time and shares. `table` has FastThreads' table of steps, and `life` and `page` what several rules ask.
 #![tactic(auto)]
 
 mod blocks;
@@ -13,7 +13,6 @@ mod once;
 mod order;
 mod owned;
 mod page;
-mod parts;
 mod table;
 mod turns;
 mod upcalls;

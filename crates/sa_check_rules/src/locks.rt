@@ -7,11 +7,10 @@ ghost use Rattle.sa_laws.specs.Locks.{TakesFor, CanTake, CanBeUsed, CanReady, Ca
 ghost use Rattle.sa_check_moment.specs.Seen.{seen, event};
 
 use crate::life::carried_by;
-use crate::parts::parted;
 use sa_base::{PACKAGE_PAGE, ProcNo, Record, SpaceNo, ThreadNo};
 use sa_check_life::{KeptLife, ListLock};
 use sa_check_moment::Moment;
-use sa_check_shapes::{is_back, is_step, own_part, stands_alone};
+use sa_check_shapes::{is_back, is_step, own_part, parted, stands_alone};
 
 /// List locks, at an event of this number and processor with these records, on the moment as it begins.
 pub fn locks_are_kept(moment: &Moment, number: u64, p: ProcNo, records: &[Record]) -> bool

@@ -4,9 +4,9 @@ ghost use Rattle.sa_laws.specs.Readings.{life_on};
 ghost use Rattle.sa_laws.specs.Locks.{TakesNext, RunsNext};
 ghost use Rattle.sa_check_moment.specs.Seen.{seen};
 
-use crate::parts::parted;
 use sa_base::{ProcNo, Record, SpaceNo, ThreadNo};
 use sa_check_moment::Moment;
+use sa_check_shapes::parted;
 
 /// List order, at an event of this processor with these records, on the moment before it.
 pub fn order_is_kept(moment: &Moment, p: ProcNo, records: &[Record]) -> bool

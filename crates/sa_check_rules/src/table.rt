@@ -7,11 +7,10 @@ ghost use Rattle.sa_laws.specs.Turns.{IsUnused, CanFault, CanSpin, CanRaise, Can
 ghost use Rattle.sa_check_moment.specs.Seen.{seen};
 
 use crate::life::{carried_by, finds_none, has_nothing, patience};
-use crate::parts::parted;
 use sa_base::{ActNo, BULK_RETURN, PACKAGE_PAGE, ProcNo, Record, SpaceNo};
 use sa_check_life::{KeptLife, ListLock};
 use sa_check_moment::Moment;
-use sa_check_shapes::{are_of_locks, is_ins_of, is_passage};
+use sa_check_shapes::{are_of_locks, is_ins_of, is_passage, parted};
 
 // The records are those of a step of the life that runs on the processor.
 pub(crate) fn is_step(moment: &Moment, p: ProcNo, records: &[Record]) -> bool

@@ -7,11 +7,10 @@ ghost use Rattle.sa_laws.specs.History.{begun};
 ghost use Rattle.sa_laws.specs.Turns.{IsStep, IsTickOrStep, IsLocalIns, IsTurn, TurnsAreTaken};
 ghost use Rattle.sa_check_moment.specs.Seen.{seen, event};
 
-use crate::parts::parted;
 use crate::table::is_step;
 use sa_base::{ProcNo, Record};
 use sa_check_moment::Moment;
-use sa_check_shapes::{closing_part, is_closing, is_interrupt, is_over, own_part};
+use sa_check_shapes::{closing_part, is_closing, is_interrupt, is_over, own_part, parted};
 use sa_instr::Instr;
 
 /// Turns and steps, at an event of this number and processor with these records, on the moment as it begins. `raised`:

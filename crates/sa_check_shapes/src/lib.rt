@@ -19,7 +19,7 @@ pub use kinds::{
 };
 pub use parts::{
     before_aims, before_wants, behind_told, closing_part, front_part, last_lines, leave_run,
-    others_of, own_part,
+    others_of, own_part, parted,
 };
 pub use turns::{
     are_of_locks, are_raising, are_told_alone, has_up, is_block, is_closing, is_fetch_or_nothing,

@@ -7,8 +7,8 @@ ghost use Rattle.sa_check_shapes.specs.Runs.{test_of, first_and_run};
 use crate::kinds::{is_aim_at, is_of_closing, is_of_leave, is_other_line, is_want};
 use sa_base::Record;
 
-// The first item and the others.
-pub(crate) fn parted<T: Copy>(items: &[T]) -> Option<(T, &[T])>
+/// The first item and the others.
+pub fn parted<T: Copy>(items: &[T]) -> Option<(T, &[T])>
     ensures { MatchOption result (items.now ≡ []) (λ p. items.now ≡ p.0 ∷ p.1.now) }
 {
     let (first, others) = items.split_first()?;

@@ -1,7 +1,7 @@
 -- What one micro-operation does: a row of the table of operations each.
-use Rattle.std.specs.Prelude.{◌≡◌, ℕ, ◌+◌, ◌-◌, ◌<◌, Bool, true, false, ◌||◌, ◌==◌, List, [], ◌∷◌, ◌++◌, length, take, drop, Option, Some, None, IsSome, slice_get, slice_set, unwrap_or, ⊤}
-use Rattle.std.specs.Int.{bit_at}
+use Rattle.std.specs.Prelude.{◌≡◌, ℕ, ◌+◌, ◌-◌, ◌<◌, Bool, true, false, ◌||◌, List, [], ◌∷◌, ◌++◌, length, take, drop, Option, Some, None, IsSome, slice_get, slice_set, unwrap_or, ⊤}
 use Rattle.sa_base.specs.Recorded.{Recorded}
+use Rattle.sa_base.specs.Pages.{has_page}
 use Rattle.sa_base.specs.declared.number.ProcNo.{ProcNo}
 use Rattle.sa_base.specs.declared.number.ThreadNo.{ThreadNo}
 use Rattle.sa_base.specs.Items.{items_at}
@@ -93,7 +93,7 @@ list_in f = unwrap_or f.list (processor 0)
 
 -- page k is among the resident pages
 abbrev pub is_resident : ℕ → ℕ → Bool
-is_resident pages k = bit_at pages k == 1
+is_resident pages k = has_page pages k
 
 -- what the operation at the frame's place does
 abbrev pub micro : PackageState → Frame → ℕ → Micro

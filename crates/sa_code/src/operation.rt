@@ -7,7 +7,7 @@ ghost use Rattle.sa_code.specs.Micro.{micro, micro_at, taken, pushed, popped, fr
 
 use crate::code::{CODE_PLACES, Op};
 use crate::state::{Frame, MicroDone, PackageState};
-use sa_base::{Item, PACKAGE_PAGE, ProcNo, Record, Seen, ThreadNo, Trace};
+use sa_base::{PACKAGE_PAGE, ProcNo, Record, Seen, ThreadNo, Trace, has_page};
 use sa_lists::ReadyLists;
 
 /// Does the operation at the frame's place, and adds its record, for which the trace has room. It cannot fail for want
@@ -72,11 +72,7 @@ fn add(trace: &mut Trace, seen: &Seen, what: Record)
         ++ items_at seen.now.event seen.now.proc (what ∷ []) }
     ensures spare { trace.new.spare + 1 ≡ trace.old.spare }
 {
-    trace.add(Item {
-        event: seen.event,
-        proc: seen.proc,
-        what,
-    });
+    trace.say(seen.event, seen.proc, what);
 }
 
 // The list on which the frame works.
@@ -94,7 +90,7 @@ fn list_of(frame: &Frame) -> ProcNo
 fn is_code_resident(seen: &Seen) -> bool
     ensures { result ≡ is_resident seen.now.pages PACKAGE_PAGE }
 {
-    (seen.pages >> PACKAGE_PAGE) % 2 == 1
+    has_page(seen.pages, PACKAGE_PAGE)
 }
 
 // Takes the lock of the frame's list.

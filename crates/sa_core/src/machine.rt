@@ -17,13 +17,16 @@ ghost use Rattle.sa_core.specs.Needs.{ByFresh, Welcomes, IsNext, Asks};
 
 use crate::users::Users;
 use sa_abstract::{SeatState, Step, UserLevel};
-use sa_base::{IoNo, Item, MAX_EVENTS, ProcNo, Record, SpaceNo, Stopped, Trace};
+use sa_base::{IoNo, MAX_EVENTS, ProcNo, Record, SpaceNo, Stopped, Trace};
 use sa_kernel::{ENTRY_ITEMS, Entry, Given, Kernel};
 use sa_spaces::Workload;
 use std::alloc::{AllocError, Global};
 
-/// The items of an event at most, but for notices told and activations given back: four of a step, and an entry's.
-pub(crate) const EVENT_ITEMS: usize = 84;
+/// The items of a step at most.
+pub(crate) const STEP_ITEMS: usize = 4;
+
+/// The items of an event at most, but for notices told and activations given back: a step's and an entry's.
+pub(crate) const EVENT_ITEMS: usize = STEP_ITEMS + ENTRY_ITEMS;
 
 /// The parts of the machine.
 #[derive(Drop)]
@@ -281,10 +284,10 @@ impl<U: UserLevel> Machine<U> {
     fn step(&mut self, p: ProcNo, s: SpaceNo) -> Step
         requires next { IsNext U.stands (machine_of self.old) }
         requires owner { owner_of (machine_of self.old).kernel p ≡ Some s }
-        requires room { 4 ≤ self.old.trace.spare }
+        requires room { STEP_ITEMS ≤ self.old.trace.spare }
         ensures machine { (machine_of self.new, result) ≡ stepped U.calls p s (machine_of self.old) }
         ensures kernel { self.new.kernel ≡ self.old.kernel }
-        ensures room { self.old.trace.spare ≤ self.new.trace.spare + 4 }
+        ensures room { self.old.trace.spare ≤ self.new.trace.spare + STEP_ITEMS }
     {
         let Some(ctx) = &mut self.contexts[usize::from(p.0)] else {
             unreachable!()
@@ -356,11 +359,7 @@ impl<U: UserLevel> Machine<U> {
         ensures machine { machine_of self.new ≡ sliced p (ticked p (machine_of self.old)) }
         ensures spends { Spends self.old self.new EVENT_ITEMS 0 }
     {
-        self.trace.add(Item {
-            event: self.events,
-            proc: p,
-            what: Record::Tick,
-        });
+        self.trace.say(self.events, p, Record::Tick);
         self.end_slice(p);
     }
 

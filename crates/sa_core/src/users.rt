@@ -5,6 +5,7 @@ ghost use Rattle.sa_base.specs.Items.{items_at, items_from};
 ghost use Rattle.sa_spaces.specs.Space.{SpaceView};
 ghost use Rattle.sa_abstract.specs.Keeps.{IsBefore, IsOf, IsSeenOf, IsTelling, IsStep, IsGoing};
 ghost use Rattle.sa_core_model.specs.Run.{setting, started_from};
+ghost use Rattle.sa_core.specs.declared.machine.TheConstants.{STEP_ITEMS};
 ghost use Rattle.sa_core.specs.Users.{one_unless, is_over, is_still, unfinished, active, stopped_of};
 
 use sa_abstract::{SeatState, Step, Tally, UserLevel};
@@ -201,7 +202,7 @@ impl<U: UserLevel> Users<U> {
         trace: &mut Trace,
     ) -> Step
         requires within { s.0 < length self.old }
-        requires room { 4 ≤ trace.old.spare }
+        requires room { STEP_ITEMS ≤ trace.old.spare }
         requires turn { (u : U) → slice_get self.old s.0 ≡ Some u
             → IsStep U.stands u seen.now ctx.old }
         ensures user { (u : U) → slice_get self.old s.0 ≡ Some u

@@ -22,7 +22,7 @@ use Rattle.sa_abstract.specs.declared.answer.Step.TheVariants.{Did, Block, More,
 use Rattle.sa_acts.specs.declared.acts.Act.{Act}
 use Rattle.sa_acts.specs.Table.{runs_in, space_of}
 use Rattle.sa_devices.specs.Ios.{due_of, io_at, io_no}
-use Rattle.sa_devices.specs.Laws.{has_page}
+use Rattle.sa_base.specs.Pages.{has_page}
 use Rattle.sa_devices.proofs.IosLemmas.{due_of-under_way}
 use Rattle.sa_kernel_model.specs.declared.entry.Entry.{Entry}
 use Rattle.sa_kernel_model.specs.declared.entry.Entry.TheVariants.{Interrupt, Block as BlockEntry, Complete, More as MoreEntry, Idle as IdleEntry, GiveBack as GiveBackEntry, InterruptOwn as InterruptOwnEntry}

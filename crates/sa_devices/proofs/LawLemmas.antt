@@ -5,7 +5,8 @@ use Rattle.std.proofs.lemmas.Nat.Bits.{bit_at_and, bit_at_or, bit_at-pow_same, b
 use Rattle.std.proofs.Math.Pow.{pow-lt}
 use Rattle.sa_devices.specs.Ios.{Io, due_of}
 use Rattle.sa_devices.specs.Pages.{with_page, without_page}
-use Rattle.sa_devices.specs.Laws.{IsSoonest, NoneIsDue, has_page}
+use Rattle.sa_base.specs.Pages.{has_page}
+use Rattle.sa_devices.specs.Laws.{IsSoonest, NoneIsDue}
 use Rattle.sa_devices.proofs.IosLemmas.{Member, IsDueOf, due_of-due}
 
 Member-from_Contains : (io : Io) (ios : List Io) → Contains ios io → Member io ios

@@ -1,6 +1,5 @@
--- What holds of I/Os and pages, whichever they are.
-use Rattle.std.specs.Prelude.{◌≡◌, ℕ, ◌<◌, ◌≤◌, ◌⊎◌, Bool, ◌==◌, List, Contains}
-use Rattle.std.specs.Int.{bit_at}
+-- What holds of I/Os, whichever they are.
+use Rattle.std.specs.Prelude.{◌≡◌, ℕ, ◌<◌, ◌≤◌, ◌⊎◌, List, Contains}
 use Rattle.sa_devices.specs.Ios.{Io}
 
 -- a does not come after b
@@ -16,7 +15,3 @@ pub record IsSoonest (event : ℕ) (ios : List Io) (d : Io) : Type 0 where
 -- none is due at the event
 abbrev pub NoneIsDue : ℕ → List Io → Type 0
 NoneIsDue event ios = (io : Io) → Contains ios io → event < io.ends
-
--- page k is resident
-abbrev pub has_page : ℕ → ℕ → Bool
-has_page bits k = bit_at bits k == 1

@@ -4,7 +4,8 @@ ghost use Rattle.sa_spaces.specs.declared.workload.Evict.{Evict};
 ghost use Rattle.sa_devices.specs.declared.kind.IoKind.{IoKind};
 ghost use Rattle.sa_devices.specs.Ios.{Io, due_of};
 ghost use Rattle.sa_devices.specs.Pages.{with_page, without_page, completed, evicted};
-ghost use Rattle.sa_devices.specs.Laws.{IsSoonest, NoneIsDue, has_page};
+ghost use Rattle.sa_base.specs.Pages.{has_page};
+ghost use Rattle.sa_devices.specs.Laws.{IsSoonest, NoneIsDue};
 
 use sa_base::PAGES;
 

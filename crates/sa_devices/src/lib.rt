@@ -9,4 +9,4 @@ mod under_way;
 
 pub use devices::Devices;
 pub use kind::IoKind;
-pub use pages::{all_but, complete, evict_at, has_page};
+pub use pages::{all_but, complete, evict_at};

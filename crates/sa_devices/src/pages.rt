@@ -2,20 +2,12 @@
 ghost use Rattle.std.specs.Prelude.{◌≡◌, ◌-◌, ◌^◌, ◌≤◌, All};
 ghost use Rattle.std.specs.List.Sorted.{IsNonDecreasingBy};
 ghost use Rattle.sa_spaces.specs.declared.workload.Evict.{Evict};
-ghost use Rattle.sa_devices.specs.Laws.{has_page};
 ghost use Rattle.sa_devices.specs.Pages.{HasPage, come, gone, without_pages, completed, evicted};
 
 use crate::kind::IoKind;
 use sa_base::{PAGES, SpaceNo, UPCALL_PAGE};
 use sa_instr::LAST_PAGE;
 use sa_spaces::Evict;
-
-/// Whether the page is among these.
-pub fn has_page(pages: u16, page: u16) -> bool
-    ensures { result ≡ has_page pages page }
-{
-    page < PAGES && (pages >> page) & 1 == 1
-}
 
 /// All pages but these.
 pub fn all_but(absent: &[u16]) -> u16

@@ -14,7 +14,7 @@ ghost use Rattle.sa_fast.specs.Instruction.{Outcome, outcome, outcome_of, went, 
 use crate::shared::Shared;
 use crate::threads::{Block, Place};
 use crate::work::WorkLists;
-use sa_base::{Item, MAX_THREADS, PAGES, Record, Seen, SpaceNo, ThreadNo, Trace};
+use sa_base::{MAX_THREADS, PAGES, Record, Seen, SpaceNo, ThreadNo, Trace, has_page};
 use sa_instr::{Instr, MAX_INSTRUCTIONS, MAX_PROGRAMS, Reg, Regs, local};
 use sa_spaces::SpaceDef;
 use sa_sync::{SyncAnswer, SyncState};
@@ -97,7 +97,7 @@ fn tell_records(
             add(trace, seen, Record::Out(space, t, block.regs.get(reg)));
         }
         Instr::Touch(page) => {
-            if has_page(seen, page) {
+            if has_page(seen.pages, page) {
                 add(trace, seen, ran);
             }
         }
@@ -111,19 +111,7 @@ fn add(trace: &mut Trace, seen: &Seen, what: Record)
     ensures items { trace.new.items ≡ trace.old.items ++ items_at seen.now.event seen.now.proc (what ∷ []) }
     ensures spare { trace.new.spare + 1 ≡ trace.old.spare }
 {
-    trace.add(Item {
-        event: seen.event,
-        proc: seen.proc,
-        what,
-    });
-}
-
-// Whether a page of the space is resident.
-fn has_page(seen: &Seen, page: u16) -> bool
-    requires { page < PAGES }
-    ensures { result ≡ is_resident seen.now.pages page }
-{
-    (seen.pages >> page) % 2 == 1
+    trace.say(seen.event, seen.proc, what);
 }
 
 // The effect of an instruction at which the thread with this block stands.
@@ -343,7 +331,7 @@ fn touch(fetch: u32, shared: &mut Shared, t: ThreadNo, block: Block, page: u16, 
     ensures { (w : _) → outcome shared.new w result
         ≡ touched shared.old w t block fetch page (is_resident seen.now.pages page) }
 {
-    if has_page(seen, page) {
+    if has_page(seen.pages, page) {
         shared.threads.set(t, next(block));
         Ran::Goes
     } else {

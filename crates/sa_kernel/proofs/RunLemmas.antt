@@ -15,7 +15,7 @@ use Rattle.sa_acts.specs.declared.acts.Act.{Act}
 use Rattle.sa_acts.specs.Table.{Slots, acts_of, holding, runs_in, IsRunning}
 use Rattle.sa_assign.specs.AssignView.{AssignView}
 use Rattle.sa_assign.specs.Aims.{is_aim}
-use Rattle.sa_devices.specs.Laws.{has_page}
+use Rattle.sa_base.specs.Pages.{has_page}
 use Rattle.sa_kernel_model.specs.declared.entry.Given.{Given}
 use Rattle.sa_kernel_model.specs.declared.entry.Given.TheVariants.{Nothing, Upcall}
 use Rattle.sa_kernel_model.specs.State.{State, Scene, owner_of, aim_of, life_of, can_upcall}

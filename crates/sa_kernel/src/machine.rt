@@ -5,9 +5,9 @@ ghost use Rattle.sa_base.specs.Recorded.{Adds};
 
 use sa_acts::Acts;
 use sa_assign::Assign;
-use sa_base::{ActNo, Note, ProcNo, Record, SpaceNo, Stopped, Trace, UPCALL_PAGE};
+use sa_base::{ActNo, Note, ProcNo, Record, SpaceNo, Stopped, Trace, UPCALL_PAGE, has_page};
 use sa_batch::Notices;
-use sa_devices::{Devices, IoKind, has_page};
+use sa_devices::{Devices, IoKind};
 use sa_kernel_model::Given;
 
 /// The parts of the kernel.

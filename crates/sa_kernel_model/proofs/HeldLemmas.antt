@@ -19,8 +19,8 @@ use Rattle.sa_devices.specs.declared.kind.IoKind.{IoKind}
 use Rattle.sa_devices.specs.declared.kind.IoKind.TheVariants.{Plain, Page, Upcall}
 use Rattle.sa_devices.specs.Ios.{Io, io_at, without}
 use Rattle.sa_devices.specs.Pages.{IsKind}
-use Rattle.sa_devices.specs.Laws.{has_page}
-use Rattle.sa_kernel_model.specs.State.{State, Scene, owner_of, aim_of, life_of, can_upcall, is_fetching, untold_of, taken_of}
+use Rattle.sa_base.specs.Pages.{has_page}
+use Rattle.sa_kernel_model.specs.State.{KernelState, Scene, owner_of, aim_of, life_of, can_upcall, is_fetching, untold_of, taken_of}
 use Rattle.sa_kernel_model.specs.Parts.{with_line, upcall, fetch_page, leave, moved, go_to_by}
 use Rattle.sa_kernel_model.specs.Entries.{stopped, go_to_aim, interrupted, told_or_left, block_begun, blocked_by, io_for, over_for, over, more, idled, gave_back, entered_as, handed_by, fetched, after_fetch}
 use Rattle.sa_kernel_model.specs.Closing.{spaces, want_one, want_for, must_want, wants, aims, interrupt, interrupt_one, interrupt_for, must_interrupt, has_low_line, closed}

@@ -22,7 +22,7 @@ use Rattle.sa_acts.specs.declared.acts.Act.{Act}
 use Rattle.sa_acts.specs.Table.{runs_in, holding, held_of}
 use Rattle.sa_assign.specs.Aims.{is_aim}
 use Rattle.sa_devices.specs.Ios.{Io, fetches}
-use Rattle.sa_devices.specs.Laws.{has_page}
+use Rattle.sa_base.specs.Pages.{has_page}
 use Rattle.sa_devices.specs.declared.kind.IoKind.{IoKind}
 use Rattle.sa_kernel_model.specs.Closing.{was_idle as idle_in}
 use Rattle.sa_kernel_model.specs.State.{State, Scene, owner_of, life_of, untold_of, is_fetching, can_upcall}

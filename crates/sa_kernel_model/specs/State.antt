@@ -11,7 +11,7 @@ use Rattle.sa_spaces.specs.declared.workload.Evict.{Evict}
 use Rattle.sa_acts.specs.declared.acts.Act.{Act}
 use Rattle.sa_assign.specs.AssignView.{AssignView}
 use Rattle.sa_devices.specs.Ios.{Io, fetches}
-use Rattle.sa_devices.specs.Laws.{has_page}
+use Rattle.sa_base.specs.Pages.{has_page}
 
 -- what the workload says once and for all
 pub record Fixed : Type 0 where

@@ -13,7 +13,7 @@ use Rattle.sa_base.specs.declared.limits.TheConstants.{BULK_RETURN}
 use Rattle.sa_spaces.specs.Workload.{WorkloadView}
 use Rattle.sa_devices.specs.Ios.{Io, fetches}
 use Rattle.sa_devices.specs.Pages.{opening_pages}
-use Rattle.sa_devices.specs.Laws.{has_page}
+use Rattle.sa_base.specs.Pages.{has_page}
 use Rattle.sa_laws.specs.State.{State, SpaceState, Runner, opening_state, space_at, thread_in, owner_at, runner_on, is_carried, is_due, active_threads}
 use Rattle.sa_laws.specs.Life.{Life, Lock}
 

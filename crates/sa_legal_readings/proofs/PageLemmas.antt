@@ -14,7 +14,7 @@ use Rattle.sa_devices.specs.declared.kind.IoKind.{IoKind}
 use Rattle.sa_devices.specs.declared.kind.IoKind.TheVariants.{Plain, Page, Upcall}
 use Rattle.sa_devices.specs.Ios.{Io}
 use Rattle.sa_devices.specs.Pages.{with_page, without_page, without_pages, come, gone, evicted, upcall_page}
-use Rattle.sa_devices.specs.Laws.{has_page}
+use Rattle.sa_base.specs.Pages.{has_page}
 use Rattle.sa_devices.proofs.LawLemmas.{has_page-with_same, has_page-with_other, has_page-without_same, has_page-without_other}
 use Rattle.sa_laws.specs.Readings.{Readings}
 use Rattle.sa_laws.specs.Record.{io_over, pages_after}

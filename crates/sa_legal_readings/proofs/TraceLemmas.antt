@@ -262,7 +262,7 @@ read-start w = record {
   until = λ k y at. absurd (none-some y at);
   raised = λ q v below raised. absurd (none-some raised.item raised.at);
   pages = λ s k ok below few.
-      ap (λ bits. Rattle.sa_devices.specs.Laws.has_page bits k) (get_or-map opening_pages w.spaces s.0 no_space 0 below)
+      ap (λ bits. Rattle.sa_base.specs.Pages.has_page bits k) (get_or-map opening_pages w.spaces s.0 no_space 0 below)
       ∙ opening-pages (Rattle.sa_laws.specs.State.space_def w s).absent k (small-pages w s ok below) few;
 }
 

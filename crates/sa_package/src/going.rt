@@ -9,7 +9,7 @@ ghost use Rattle.sa_package_model.specs.Conditions.{CanGo};
 ghost use Rattle.sa_package_model.specs.Step.{went, block_after, says_between};
 
 use crate::package::FastThreads;
-use sa_base::{Item, MAX_EVENTS, ProcNo, Record, Seen, SpaceNo, ThreadNo, Trace};
+use sa_base::{MAX_EVENTS, ProcNo, Record, Seen, SpaceNo, ThreadNo, Trace};
 use sa_fast::Block;
 use sa_instr::{Program, local};
 use sa_package_model::{Context, State};
@@ -62,11 +62,8 @@ fn run_on(
     ensures spare { trace.new.spare + n ≡ trace.old.spare }
 {
     for done in 0..n {
-        trace.add(Item {
-            event: seen.event + u64::from(done),
-            proc: seen.proc,
-            what: Record::Ins(space, thread, block.pc),
-        });
+        let event = seen.event + u64::from(done);
+        trace.say(event, seen.proc, Record::Ins(space, thread, block.pc));
         local(program, &mut block.regs, &mut block.pc);
     }
 }

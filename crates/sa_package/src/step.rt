@@ -15,9 +15,7 @@ ghost use Rattle.sa_package_model.specs.Step.{resettled, stepped, stepped_at, wo
 use crate::package::FastThreads;
 use crate::settling::place;
 use sa_abstract::Step;
-use sa_base::{
-    BULK_RETURN, Item, MAX_THREADS, PACKAGE_PAGE, ProcNo, Record, Seen, ThreadNo, Trace,
-};
+use sa_base::{BULK_RETURN, MAX_THREADS, PACKAGE_PAGE, ProcNo, Record, Seen, ThreadNo, Trace};
 use sa_code::{Frame, MicroDone, Op, micro};
 use sa_fast::{Place, Ran, Shared, idle_owed, run};
 use sa_instr::MAX_PATIENCE;
@@ -117,11 +115,8 @@ impl FastThreads {
         place(&mut self.package.shared, frame.thread, Place::Running);
         ctx.sections.remove_first();
         ctx.state = State::Code(frame);
-        trace.add(Item {
-            event: seen.event,
-            proc: seen.proc,
-            what: Record::Cont(self.package.shared.state.space, frame.thread),
-        });
+        let cont = Record::Cont(self.package.shared.state.space, frame.thread);
+        trace.say(seen.event, seen.proc, cont);
         Step::Did
     }
 
@@ -207,7 +202,7 @@ impl FastThreads {
     fn look(&mut self, seen: &Seen, ctx: &mut Context, looks: u16, trace: &mut Trace) -> Step
         requires proc { (own_list self.old seen.now.proc).0 < length self.old.shared.state.lists.lists }
         requires code { self.old.shared.state.code ≡ package_ops }
-        requires few { looks ≤ 1000 }
+        requires few { looks ≤ MAX_PATIENCE }
         requires room { 1 ≤ trace.old.spare }
         ensures { Steps (looked self.old seen.now ctx.old looks) seen.now trace.old self.new ctx.new result trace.new }
     {
@@ -219,11 +214,7 @@ impl FastThreads {
             return Step::Idle;
         }
         ctx.state = State::Look((looks + 1).min(MAX_PATIENCE));
-        trace.add(Item {
-            event: seen.event,
-            proc: seen.proc,
-            what: Record::Idle,
-        });
+        trace.say(seen.event, seen.proc, Record::Idle);
         Step::Did
     }
 

@@ -3,8 +3,8 @@ use Rattle.std.proofs.Common.{◌≡◌, ℕ, ◌+◌, ◌-◌, ◌<◌, ◌≤�
 use Rattle.std.proofs.lemmas.Bool.Decides.{nat_tests}
 use Rattle.std.proofs.lemmas.List.Elements.{All-get_or}
 use Rattle.sa_base.specs.declared.number.ThreadNo.{ThreadNo}
-use Rattle.sa_base.specs.declared.limits.TheConstants.{PAGES, BULK_RETURN}
-use Rattle.sa_instr.specs.declared.limits.TheConstants.{MAX_IO_LENGTH}
+use Rattle.sa_base.specs.declared.limits.TheConstants.{PAGES, FIRST_THREAD_PAGE, BULK_RETURN}
+use Rattle.sa_instr.specs.declared.limits.TheConstants.{LAST_PAGE, MAX_FETCH, MAX_IO_LENGTH}
 use Rattle.sa_base.specs.declared.context.Seen.{Seen}
 use Rattle.sa_base.specs.declared.record.Record.{Record}
 use Rattle.sa_instr.specs.Instr.{IsInRange}
@@ -70,11 +70,11 @@ forked_blocks : (x : Shared) (w : Option ThreadNo) (t : ThreadNo) (b : Block) (r
 forked_blocks x w t b reg program None = tt
 forked_blocks x w t b reg program (Some n) = tt
 
-touched_blocks : (x : Shared) (w : Option ThreadNo) (t : ThreadNo) (b : Block) (fetch page : ℕ) (there : Bool) → 1 ≤ fetch → fetch ≤ 1000 → 2 ≤ page → page ≤ 15 → CanBlock (touched x w t b fetch page there).answer
+touched_blocks : (x : Shared) (w : Option ThreadNo) (t : ThreadNo) (b : Block) (fetch page : ℕ) (there : Bool) → 1 ≤ fetch → fetch ≤ MAX_FETCH → FIRST_THREAD_PAGE ≤ page → page ≤ LAST_PAGE → CanBlock (touched x w t b fetch page there).answer
 touched_blocks x w t b fetch page true some few first last = tt
 touched_blocks x w t b fetch page false some few first last = (some, omega arith, (omega arith, omega arith))
 
-blocks : (fetch pages : ℕ) (x : Shared) (w : Option ThreadNo) (t : ThreadNo) (b : Block) (i : Instr) → 1 ≤ fetch → fetch ≤ 1000 → IsInRange i → CanBlock (outcome_of fetch pages x w t b i).answer
+blocks : (fetch pages : ℕ) (x : Shared) (w : Option ThreadNo) (t : ThreadNo) (b : Block) (i : Instr) → 1 ≤ fetch → fetch ≤ MAX_FETCH → IsInRange i → CanBlock (outcome_of fetch pages x w t b i).answer
 blocks fetch pages x w t b Compute some few range = tt
 blocks fetch pages x w t b (Set reg n) some few range = tt
 blocks fetch pages x w t b (Add reg other) some few range = tt
@@ -104,8 +104,8 @@ module _ (s : Setting) (u : Package) (seen : Seen) (made : IsMadeFor s u) where
   some_fetch : 1 ≤ u.fetch
   some_fetch = subst (λ n. 1 ≤ n) (sym made.fetch) made.setting.some_fetch
 
-  few_fetch : u.fetch ≤ 1000
-  few_fetch = subst (λ n. n ≤ 1000) (sym made.fetch) made.setting.short_fetch
+  few_fetch : u.fetch ≤ MAX_FETCH
+  few_fetch = subst (λ n. n ≤ MAX_FETCH) (sym made.fetch) made.setting.short_fetch
 
   coded_asks : (c : Context) (f : Frame) (op : Option Op) (m : Micro) (done : MicroDone) → IsAsked s seen (coded_by u seen c f op m done).answer
   coded_asks c f op m micros.Did = tt

@@ -6,6 +6,7 @@ use Rattle.sa_base.specs.declared.context.Seen.{Seen}
 use Rattle.sa_base.specs.declared.context.Stopped.{Stopped}
 use Rattle.sa_base.specs.declared.record.Note.{Note}
 use Rattle.sa_base.specs.declared.record.Note.TheVariants.{Add, Preempted, Blocked, Unblocked}
+use Rattle.sa_instr.specs.declared.limits.TheConstants.{MAX_PATIENCE}
 use Rattle.sa_lists.specs.ReadyView as ready
 use Rattle.sa_code.specs.declared.state.Frame.{Frame}
 use Rattle.sa_code.specs.declared.state.TheConstants.{MAX_LISTS}
@@ -54,7 +55,7 @@ CanAct u c (Work t) = CanWork u c t
 CanAct u c (Hint t) = CanSettle u c t
 CanAct u c Return = CanSettle u c None
 CanAct u c (User t) = CanRun u.def u.shared c.work t
-CanAct u c (Look looks) = looks ≤ 1000
+CanAct u c (Look looks) = looks ≤ MAX_PATIENCE
 
 -- the package can do a step of the context
 pub record CanStep (u : Package) (seen : Seen) (c : Context) : Type 0 where

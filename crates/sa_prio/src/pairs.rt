@@ -1,13 +1,12 @@
 // Pairs: a ready thread that outranks one on a processor whose line is low.
-ghost use Rattle.std.specs.Prelude.{◌≡◌, ◌==◌, ◌<◌};
-ghost use Rattle.std.specs.Int.{bit_at};
+ghost use Rattle.std.specs.Prelude.{◌≡◌, ◌<◌};
 ghost use Rattle.sa_base.specs.declared.limits.TheConstants.{MAX_PROCESSORS};
 ghost use Rattle.sa_package_model.specs.Conditions.{IsThread};
 ghost use Rattle.sa_prio_model.specs.Conditions.{CanRank};
 ghost use Rattle.sa_prio_model.specs.Prio.{on_at, with_on, rank_below, outranked_on, outranked, lower, lowest_below, lowest, has_pair};
 
 use crate::threads::PrioThreads;
-use sa_base::{ProcNo, Seen, ThreadNo};
+use sa_base::{ProcNo, Seen, ThreadNo, has_bit};
 use sa_prio_model::Outranked;
 
 impl PrioThreads {
@@ -45,7 +44,7 @@ impl PrioThreads {
         requires proc { q < MAX_PROCESSORS }
         ensures { result ≡ outranked_on self.now seen.now best q }
     {
-        if is_low(seen, q) {
+        if has_bit(seen.low, q) {
             self.rank_below(best, self.on_at(q))
         } else {
             None
@@ -84,14 +83,6 @@ impl PrioThreads {
     {
         self.lowest(seen).is_some()
     }
-}
-
-// Whether the space owns processor `q`, whose line is low.
-fn is_low(seen: &Seen, q: u16) -> bool
-    requires { q < MAX_PROCESSORS }
-    ensures { result ≡ (bit_at seen.now.low q == 1) }
-{
-    (seen.low >> q) % 2 == 1
 }
 
 // The lower of what was found and the thread on processor `q`; of one rank what was found.

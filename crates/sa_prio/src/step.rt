@@ -11,7 +11,7 @@ ghost use Rattle.sa_prio_model.specs.Urge.{came_out};
 
 use crate::threads::PrioThreads;
 use sa_abstract::Step;
-use sa_base::{Item, Record, Seen, ThreadNo, Trace};
+use sa_base::{Record, Seen, ThreadNo, Trace};
 use sa_package_model::State;
 use sa_prio_model::PrioContext;
 
@@ -81,11 +81,8 @@ impl PrioThreads {
         ensures { Steps (gives_way self.old seen.now ctx.old.base) seen.now trace.old self.new ctx.new result trace.new }
     {
         let thread = ctx.base.state.thread();
-        trace.add(Item {
-            event: seen.event,
-            proc: seen.proc,
-            what: Record::Back(self.base.space(), thread),
-        });
+        let back = Record::Back(self.base.space(), thread);
+        trace.say(seen.event, seen.proc, back);
         self.base.put_last(&mut ctx.base, thread);
         self.base.settle(seen, &mut ctx.base, None);
         ctx.urge = false;

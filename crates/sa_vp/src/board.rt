@@ -17,13 +17,13 @@ ghost use Rattle.sa_vp.specs.View.{board_of};
 ghost use Rattle.sa_vp.specs.Room.{Spends};
 ghost use Rattle.sa_vp.specs.Waits.{CountsWork, ListsReady};
 
-use crate::numbers::{blocked_by, has_page, list_of, space_of};
+use crate::numbers::{blocked_by, list_of, space_of};
 use crate::queue::put_behind;
 use crate::ready::Ready;
-use sa_base::{ActNo, IoNo, MAX_THREADS, ProcNo, Record, SpaceNo, ThreadNo, Trace};
+use sa_base::{ActNo, IoNo, MAX_THREADS, ProcNo, Record, SpaceNo, ThreadNo, Trace, has_page};
 use sa_check_machine::Replay;
 use sa_devices::{Devices, IoKind};
-use sa_instr::{Instr, Reg};
+use sa_instr::{Instr, Regs};
 use sa_links::Links;
 
 /// The items of an event at most.

@@ -2,9 +2,8 @@
 ghost use Rattle.std.specs.Prelude.{◌≡◌, ◌<◌};
 ghost use Rattle.sa_virtual.specs.Virtual.{space_of, list_of};
 ghost use Rattle.sa_virtual.specs.Turn.{of_io};
-ghost use Rattle.sa_devices.specs.Laws.{has_page};
 
-use sa_base::{ActNo, MAX_PROCESSORS, PAGES, ProcNo, SpaceNo};
+use sa_base::{ActNo, MAX_PROCESSORS, ProcNo, SpaceNo};
 use sa_devices::IoKind;
 use sa_vp_model::VIRTUALS;
 
@@ -35,11 +34,4 @@ pub(crate) fn blocked_by(kind: IoKind) -> ActNo
         IoKind::Plain(_, a) | IoKind::Page(_, a, _) => a,
         IoKind::Upcall(_) => ActNo(0),
     }
-}
-
-// Whether the page is among these.
-pub(crate) fn has_page(pages: u16, page: u16) -> bool
-    ensures { result ≡ has_page pages page }
-{
-    page < PAGES && (pages >> page) % 2 == 1
 }

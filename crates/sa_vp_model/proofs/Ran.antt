@@ -20,7 +20,7 @@ use Rattle.sa_spaces.specs.Workload.{WorkloadView, IsWorkload}
 use Rattle.sa_devices.specs.declared.kind.IoKind.{IoKind}
 use Rattle.sa_devices.specs.declared.kind.IoKind.TheVariants.{Plain, Page}
 use Rattle.sa_devices.specs.Ios.{Io}
-use Rattle.sa_devices.specs.Laws.{has_page}
+use Rattle.sa_base.specs.Pages.{has_page}
 use Rattle.sa_links.specs.Lists.{Lists}
 use Rattle.sa_lemmas.specs.Function.{put}
 use Rattle.sa_laws.specs.State.{Thread, thread_at, next_instr}

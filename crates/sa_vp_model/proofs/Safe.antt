@@ -28,7 +28,7 @@ use Rattle.sa_devices.specs.declared.kind.IoKind.{IoKind}
 use Rattle.sa_devices.specs.declared.kind.IoKind.TheVariants.{Plain, Page}
 use Rattle.sa_devices.specs.Ios.{Io, due_of}
 use Rattle.sa_devices.specs.Pages.{IsKind}
-use Rattle.sa_devices.specs.Laws.{has_page}
+use Rattle.sa_base.specs.Pages.{has_page}
 use Rattle.sa_laws.specs.declared.place.Place.TheVariants as places
 use Rattle.sa_laws.specs.State.{State, Thread, no_space, next_instr, thread_at, space_def, with_owner, placed_if, runner_of}
 use Rattle.sa_laws.specs.Machine.{next_effect}

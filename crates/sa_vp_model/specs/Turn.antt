@@ -16,7 +16,7 @@ use Rattle.sa_devices.specs.declared.kind.IoKind.TheVariants.{Plain, Page}
 use Rattle.sa_devices.specs.Ios.{Io, due_of, io_at, io_no}
 use Rattle.sa_devices.specs.Pages.{completed, evicted}
 use Rattle.sa_devices.specs.DevicesView.{begun_with, ended_with}
-use Rattle.sa_devices.specs.Laws.{has_page}
+use Rattle.sa_base.specs.Pages.{has_page}
 use Rattle.sa_links.specs.Lists.{list_at, with_list}
 use Rattle.sa_laws.specs.State.{State, Runner, thread_at, next_instr, runner_on, owner_at, space_at}
 use Rattle.sa_laws.specs.Machine.{next_effect}

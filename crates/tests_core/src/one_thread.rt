@@ -6,7 +6,7 @@ ghost use Rattle.sa_abstract.specs.Keeps.{IsTelling};
 ghost use Rattle.tests_core.specs.OneThread.{first_instr, jumps_to_itself, loop_regs, round_in, said_in, is_done};
 
 use sa_abstract::{SeatState, Step, Tally, UserLevel};
-use sa_base::{Item, MAX_EVENTS, Note, Record, Seen, SpaceNo, Stopped, ThreadNo, Trace};
+use sa_base::{MAX_EVENTS, Note, Record, Seen, SpaceNo, Stopped, ThreadNo, Trace};
 use sa_instr::{Instr, Reg, Regs};
 use sa_spaces::SpaceDef;
 use std::alloc::{AllocError, Global};
@@ -77,11 +77,7 @@ fn go_round(space: SpaceNo, seen: &Seen, n: u16, trace: &mut Trace)
     ensures spare { trace.new.spare + n ≡ trace.old.spare }
 {
     for done in 0..n {
-        trace.add(Item {
-            event: seen.event + u64::from(done),
-            proc: seen.proc,
-            what: round(space),
-        });
+        trace.say(seen.event + u64::from(done), seen.proc, round(space));
     }
 }
 
@@ -122,11 +118,7 @@ impl UserLevel for OneThread {
     fn answered(&mut self, _seen: &Seen, _ctx: &mut ()) {}
 
     fn step(&mut self, seen: &Seen, _ctx: &mut (), trace: &mut Trace) -> Step {
-        trace.add(Item {
-            event: seen.event,
-            proc: seen.proc,
-            what: self.shows(),
-        });
+        trace.say(seen.event, seen.proc, self.shows());
         if self.is_done() && seen.demand != 0 {
             return Step::Idle;
         }

@@ -7,7 +7,7 @@ ghost use Rattle.sa_laws.specs.History.{Test};
 ghost use Rattle.tests_kernel.specs.Plain.{GoesFrom, IsAtWork, IsLawful, IsPlain, IsSameSlice};
 
 use crate::bench::{Bench, fits};
-use sa_base::{Item, MAX_EVENTS, ProcNo, Record, Stopped, ThreadNo, Trace};
+use sa_base::{MAX_EVENTS, ProcNo, Record, Stopped, ThreadNo, Trace};
 use sa_kernel::{Entry, Kernel};
 use sa_kernel_model::quiet_events_go_on;
 use sa_spaces::Workload;
@@ -119,11 +119,7 @@ fn tick(
 {
     trace.reserve(1)?;
     kernel.evict(event);
-    trace.add(Item {
-        event,
-        proc: p,
-        what: Record::Tick,
-    });
+    trace.say(event, p, Record::Tick);
     if is_same_slice(slice, last, event) {
         quiet_events_go_on::<u64>();
         return Ok(());

@@ -11,7 +11,7 @@ ghost use Rattle.sa_check_lives.specs.View.{lives_of};
 ghost use Rattle.sa_check_lives.specs.Recorded.{IsForPush, recorded};
 ghost use Rattle.sa_check_machine.specs.Replayed.{after};
 ghost use Rattle.sa_check_machine.specs.Needs.{CanChange, NeedsWith, Sees, seen_of};
-ghost use Rattle.sa_check_ios.specs.Kept.{HasPage};
+ghost use Rattle.sa_devices.specs.Pages.{HasPage};
 ghost use Rattle.sa_check_moment.specs.Seen.{seen, at_event, behind_record};
 ghost use Rattle.sa_check_moment.specs.Reading.{ReadsPush, ReadsList, begun_by, ended_by, pending_after, ready_after};
 

@@ -1,7 +1,8 @@
 use Rattle.std.proofs.Common.{sym, subst, List, Some, ◌≡◌}
 use Rattle.std.proofs.lemmas.List.Elements.{All-push}
 use Rattle.sa_devices.specs.Ios.{Io}
-use Rattle.sa_check_ios.specs.Kept.{HasPage, soonest_of}
+use Rattle.sa_devices.specs.Pages.{HasPage}
+use Rattle.sa_check_ios.specs.Kept.{soonest_of}
 use Rattle.sa_check_ios.proofs.Soonest.{soonest-push, HavePages}
 use Rattle.sa_check_ios.proofs.under_way.UnderWay.begin.Goals as goal
 

@@ -5,7 +5,8 @@ use Rattle.std.proofs.lemmas.List.Elements.{All-filter}
 use Rattle.sa_devices.specs.declared.kind.IoKind.{IoKind}
 use Rattle.sa_devices.specs.Ios.{Io}
 use Rattle.sa_laws.specs.Record.{is_io_of, is_io_of_other}
-use Rattle.sa_check_ios.specs.Kept.{HasPage, soonest_of}
+use Rattle.sa_devices.specs.Pages.{HasPage}
+use Rattle.sa_check_ios.specs.Kept.{soonest_of}
 use Rattle.sa_check_ios.proofs.Soonest.{page-find, HavePages}
 use Rattle.sa_check_ios.proofs.under_way.UnderWay.end_life.Goals as goal
 

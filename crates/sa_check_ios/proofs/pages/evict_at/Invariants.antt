@@ -1,6 +1,0 @@
-use Rattle.std.proofs.Common.{◌≡◌, drop}
-use Rattle.sa_devices.specs.Pages.{evicted}
-use Rattle.sa_check_ios.proofs.pages.evict_at.Given as goal
-
-abbrev pub invariant-loop-evict : goal.invariant-loop-evict
-invariant-loop-evict l = evicted l.event (drop l.evict-index l.later) l.pages.items ≡ evicted l.event l.evictions l.fn.pages.items
