@@ -15,7 +15,7 @@ use Rattle.sa_abstract.specs.Calls.{Calls, Stepped, Gone}
 use Rattle.sa_abstract.specs.Keeps.{Standing, Keeps, IsOf, IsSeenOf, IsStep, IsTelling, IsGoing, GoesOn}
 use Rattle.sa_abstract.specs.declared.answer.Step.{Step}
 use Rattle.sa_abstract.specs.declared.answer.SeatState.{SeatState}
-use Rattle.sa_kernel_model.specs.State.{State, owner_of}
+use Rattle.sa_kernel_model.specs.State.{KernelState, owner_of}
 use Rattle.sa_kernel_model.specs.Entries.{held_for, next_note, after_fetch, fetched}
 use Rattle.sa_kernel_model.specs.Sound.{AreClaimed}
 use Rattle.sa_spaces.specs.Space.{SpaceView}
@@ -40,12 +40,12 @@ read-ctx cs i j x d within here read is = any cs i within (x) ∙ sym (ap (λ n.
 
 module _ {C : Type 0} where
   -- the next notice, and what comes with it
-  pub record IsNote (k : State C) (note : Note) (held : Option (Stopped C)) : Type 0 where
+  pub record IsNote (k : KernelState C) (note : Note) (held : Option (Stopped C)) : Type 0 where
     pub notes : List Note
     pub telling : k.telling ≡ note ∷ notes
     pub held_is : held ≡ held_for k note
 
-  pub next-is : (k : State C) (note : Note) (held : Option (Stopped C)) → ◌≡◌ {A = Option (Note × Option (Stopped C))} (Some (note, held)) (next_note k) → IsNote k note held
+  pub next-is : (k : KernelState C) (note : Note) (held : Option (Stopped C)) → ◌≡◌ {A = Option (Note × Option (Stopped C))} (Some (note, held)) (next_note k) → IsNote k note held
   next-is k note held is = go k.telling refl is
     where
       go : (ns : List Note) → k.telling ≡ ns → ◌≡◌ {A = Option (Note × Option (Stopped C))} (Some (note, held)) (option_map (λ n. (n, held_for k n)) (slice_get ns 0)) → IsNote k note held
@@ -59,7 +59,7 @@ module _ {C : Type 0} where
             held_is = ap (λ (z : Note × Option (Stopped C)). z.1) pair ∙ ap (held_for k) (sym first);
           }
 
-  held-same : (k : State C) (notes : List Note) (note : Note) → held_for (record k { telling = notes }) note ≡ held_for k note
+  held-same : (k : KernelState C) (notes : List Note) (note : Note) → held_for (record k { telling = notes }) note ≡ held_for k note
   held-same k notes (Add p) = refl
   held-same k notes (Preempted a) = refl
   held-same k notes (Blocked a) = refl
@@ -190,12 +190,12 @@ module _ {U C : Type 0} (f : Calls U C) (stands : Standing U C) (keep : Keeps f 
           (subst (λ (z : SeatState). GoesOn (setting m.workload s.0 can.def) n z) (local-is f stands keep m p s here) goes)))
 
   -- a notice was told
-  pub told-as : (p : ProcNo) (s : SpaceNo) (note : Note) (notes : List Note) (held : Option (Stopped C)) (m : Machine U C) (k : State C) (u : U) (c d : C) (us : List U) (cs : List (Option C))
+  pub told-as : (p : ProcNo) (s : SpaceNo) (note : Note) (notes : List Note) (held : Option (Stopped C)) (m : Machine U C) (k : KernelState C) (u : U) (c d : C) (us : List U) (cs : List (Option C))
       → user_of m s ≡ Some u → context_on m p ≡ Some c → m.kernel.telling ≡ note ∷ notes → held ≡ held_for m.kernel note → k ≡ after_fetch m.kernel.telling m.kernel
       → us ≡ slice_set m.users s.0 (f.told u c note held).0 → cs ≡ slice_set m.contexts p.0 (Some d) → d ≡ (f.told u c note held).1
       → record m { kernel = k; users = us; contexts = cs } ≡ told_one f p s note notes m
   told-as p s note notes held m k u c d us cs user ctx telling is_held is_k is_us is_cs is_d =
-      let j : State C = record m.kernel { telling = notes } in
+      let j : KernelState C = record m.kernel { telling = notes } in
       let next : k ≡ fetched note j = is_k ∙ ap (λ ns. after_fetch ns m.kernel) telling in
       let h : held ≡ held_for j note = is_held ∙ sym (held-same m.kernel notes note) in
       ap (λ z. record m { kernel = z; users = us; contexts = cs }) next

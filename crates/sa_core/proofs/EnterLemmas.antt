@@ -15,7 +15,7 @@ use Rattle.sa_abstract.specs.declared.answer.Step.TheVariants.{Block, More, Idle
 use Rattle.sa_devices.specs.Ios.{due_of, io_at, io_no}
 use Rattle.sa_devices.proofs.IosLemmas.{due_of-under_way}
 use Rattle.sa_kernel_model.specs.declared.entry.Entry.TheVariants.{Interrupt, Block as BlockEntry, Complete, More as MoreEntry, Idle as IdleEntry, GiveBack as GiveBackEntry, InterruptOwn as InterruptOwnEntry}
-use Rattle.sa_kernel_model.specs.State.{State, owner_of, line_of}
+use Rattle.sa_kernel_model.specs.State.{KernelState, owner_of, line_of}
 use Rattle.sa_kernel_model.specs.Fits.{IsFit, Asks as KernelAsks, upcalls}
 use Rattle.sa_kernel_model.specs.Sound.{AreClaimed}
 use Rattle.sa_kernel_model.proofs.SeenLemmas.{low-bit}
@@ -42,7 +42,7 @@ module _ {U C : Type 0} (f : Calls U C) (stands : Standing U C) (keep : Keeps f 
     place = new.place;
     lives = new.within;
     begins = stands-later f stands keep e m.event (begun f p new.space m) later new.begins.standing;
-    claimed = subst (λ (k : State C). AreClaimed k new.space.0) (ap (λ (z : Machine U C). z.kernel) (begun-is f stands keep p new.space m new.user new.is_user)) new.begins.claimed;
+    claimed = subst (λ (k : KernelState C). AreClaimed k new.space.0) (ap (λ (z : Machine U C). z.kernel) (begun-is f stands keep p new.space m new.user new.is_user)) new.begins.claimed;
   }
 
   lives-of : (e : ℕ) (m : Machine U C) (p : ProcNo) → Stands stands e m → p.0 < m.workload.processors → p.0 < length m.kernel.lives
@@ -195,8 +195,8 @@ module _ {U C : Type 0} (f : Calls U C) (stands : Standing U C) (keep : Keeps f 
   stopped-welcomes m n p a held next within raised is is_held unused up =
       let kernel : n.kernel ≡ m.kernel = ap (λ (z : Machine U C). z.kernel) is in
       subst (λ z. Welcomes f stands p (kernel_entered p a (Interrupt held) z)) (sym is)
-      (interrupt-welcomes m p a held next within raised (ap (λ (k : State C). k.acts a.0) (sym kernel) ∙ unused) is_held
-      (ap (λ (k : State C). upcalls k p (Interrupt held)) (sym kernel) ∙ up))
+      (interrupt-welcomes m p a held next within raised (ap (λ (k : KernelState C). k.acts a.0) (sym kernel) ∙ unused) is_held
+      (ap (λ (k : KernelState C). upcalls k p (Interrupt held)) (sym kernel) ∙ up))
 
   pub blocked-welcomes : (m n : Machine U C) (p : ProcNo) (a : ActNo) (len : ℕ) (page : Option ℕ) (held : Stopped C) → Asks stands p (Block len page) m → n ≡ without_context p m
       → stopped_in f m p (owner_of m.kernel p) ≡ Some held → n.kernel.acts a.0 ≡ None → upcalls n.kernel p (BlockEntry held len page) ≡ true
@@ -204,5 +204,5 @@ module _ {U C : Type 0} (f : Calls U C) (stands : Standing U C) (keep : Keeps f 
   blocked-welcomes m n p a len page held asks is is_held unused up =
       let kernel : n.kernel ≡ m.kernel = ap (λ (z : Machine U C). z.kernel) is in
       subst (λ z. Welcomes f stands p (kernel_entered p a (BlockEntry held len page) z)) (sym is)
-      (block-welcomes m p a len page held asks (ap (λ (k : State C). k.acts a.0) (sym kernel) ∙ unused) is_held
-      (ap (λ (k : State C). upcalls k p (BlockEntry held len page)) (sym kernel) ∙ up))
+      (block-welcomes m p a len page held asks (ap (λ (k : KernelState C). k.acts a.0) (sym kernel) ∙ unused) is_held
+      (ap (λ (k : KernelState C). upcalls k p (BlockEntry held len page)) (sym kernel) ∙ up))

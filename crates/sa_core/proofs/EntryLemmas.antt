@@ -9,7 +9,7 @@ use Rattle.sa_abstract.specs.Keeps.{Standing}
 use Rattle.sa_kernel_model.specs.declared.entry.Entry.{Entry}
 use Rattle.sa_kernel_model.specs.declared.entry.Given.{Given}
 use Rattle.sa_kernel_model.specs.declared.entry.Given.TheVariants.{Nothing}
-use Rattle.sa_kernel_model.specs.State.{State, Scene, owner_of}
+use Rattle.sa_kernel_model.specs.State.{KernelState, Scene, owner_of}
 use Rattle.sa_kernel_model.specs.Entries.{entered}
 use Rattle.sa_kernel_model.specs.Fits.{upcalls}
 use Rattle.sa_kernel_model.specs.Enters.{given_by}
@@ -59,7 +59,7 @@ module _ {U C : Type 0} (f : Calls U C) where
   welcomed-as p s m a b n u owner user is_a is_b is_n =
       let kernel : a.kernel ≡ m.kernel = ap (λ (z : Machine U C). z.kernel) (is_a ∙ begun-is p s m u user) in
       is_n ∙ ap (λ z. answered f p s z) (is_b
-      ∙ ap (λ (k : State C). told_all f p s k.telling a) kernel
+      ∙ ap (λ (k : KernelState C). told_all f p s k.telling a) kernel
       ∙ ap (λ z. told_all f p s m.kernel.telling z) is_a)
       ∙ sym (ap (λ o. welcomed_in f p o m) owner)
 
@@ -79,7 +79,7 @@ module _ {U C : Type 0} (f : Calls U C) where
         record {
           standing = subst (λ i. Stands stands i (begun f p new.space m)) (sym (ap (λ (z : Machine U C). z.event) b)) new.begins;
           owner = ap (λ (z : Machine U C). owner_of z.kernel p) b ∙ new.owner;
-          claimed = subst (λ (k : State C). AreClaimed k new.space.0) (sym (ap (λ (z : Machine U C). z.kernel) b)) new.claimed;
+          claimed = subst (λ (k : KernelState C). AreClaimed k new.space.0) (sym (ap (λ (z : Machine U C). z.kernel) b)) new.claimed;
         }))
 
     pub user-so : (p : ProcNo) (s : SpaceNo) (m : Machine U C) → (new : Welcomes f stands p m) → owner_of m.kernel p ≡ Some s → user_of m s ≡ Some new.user

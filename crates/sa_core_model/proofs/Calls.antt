@@ -21,7 +21,7 @@ use Rattle.sa_abstract.specs.Keeps.{Standing, Keeps, IsOf, IsSeenOf, IsStep, IsG
 use Rattle.sa_acts.specs.declared.acts.Act.{Act}
 use Rattle.sa_assign.specs.AssignView.{AssignView}
 use Rattle.sa_acts.specs.Table.{runs_in, held_of, taken_from}
-use Rattle.sa_kernel_model.specs.State.{State, owner_of, life_of}
+use Rattle.sa_kernel_model.specs.State.{KernelState, owner_of, life_of}
 use Rattle.sa_kernel_model.specs.Sound.{IsSound, AreClaimed, held_in, note_claim}
 use Rattle.sa_kernel_model.specs.Entries.{fetched, held_for, handed_by}
 use Rattle.sa_kernel_model.proofs.ClaimLemmas.{held-next, held-none, space-held}
@@ -161,7 +161,7 @@ module _ {C : Type 0} where
   kept-of s None some = absurd (omega (arith, some))
   kept-of s (Some act) some = kept-act s act act.held refl some
 
-  pub next-kept : (s : ℕ) (note : Note) (notes : List Note) (b : ℕ) (k : State C) → k.telling ≡ note ∷ notes → note_claim b note ≡ 1 → AreClaimed k s → IsKeptOf s (k.acts b)
+  pub next-kept : (s : ℕ) (note : Note) (notes : List Note) (b : ℕ) (k : KernelState C) → k.telling ≡ note ∷ notes → note_claim b note ≡ 1 → AreClaimed k s → IsKeptOf s (k.acts b)
   next-kept s note notes b k is one claimed =
       kept-of s (k.acts b) (held-next k.under_way k.untold note notes k.acts s b one
       (subst (λ (ns : List Note). AreClaimed (record k { telling = ns }) s) is claimed))
@@ -169,11 +169,11 @@ module _ {C : Type 0} where
   pub held-for : (s : ℕ) (x : Option (Act C)) (h : IsKeptOf s x) → held_of x ≡ Some h.stopped
   held-for s x h = ap held_of h.is ∙ h.holds
 
-  pub handed-acts : (o : Option (Stopped C)) (h : Stopped C) (a : ActNo) (k : State C) → o ≡ Some h → (handed_by o a k).acts ≡ put k.acts a.0 (taken_from (k.acts a.0))
+  pub handed-acts : (o : Option (Stopped C)) (h : Stopped C) (a : ActNo) (k : KernelState C) → o ≡ Some h → (handed_by o a k).acts ≡ put k.acts a.0 (taken_from (k.acts a.0))
   handed-acts None h a k e = absurd cc
   handed-acts (Some x) h a k e = refl
 
-  pub handed-lives : (o : Option (Stopped C)) (a : ActNo) (k : State C) → ((handed_by o a k).lives ≡ k.lives) × ((handed_by o a k).demands ≡ k.demands) × ((handed_by o a k).telling ≡ k.telling) × ((handed_by o a k).assign ≡ k.assign)
+  pub handed-lives : (o : Option (Stopped C)) (a : ActNo) (k : KernelState C) → ((handed_by o a k).lives ≡ k.lives) × ((handed_by o a k).demands ≡ k.demands) × ((handed_by o a k).telling ≡ k.telling) × ((handed_by o a k).assign ≡ k.assign)
   handed-lives None a k = (refl, refl, refl, refl)
   handed-lives (Some x) a k = (refl, refl, refl, refl)
 
@@ -199,7 +199,7 @@ module _ {U C : Type 0} (f : Calls U C) (stands : Standing U C) (keep : Keeps f 
       )
 
   -- a context of another activation is handed over with a notice
-  stands-handed : (e : ℕ) (m : Machine U C) (p : ProcNo) (s : SpaceNo) (k : State C) (b : ℕ) (v : U) (c : C) → Stands stands e m → (here : IsAt f stands keep m p s)
+  stands-handed : (e : ℕ) (m : Machine U C) (p : ProcNo) (s : SpaceNo) (k : KernelState C) (b : ℕ) (v : U) (c : C) → Stands stands e m → (here : IsAt f stands keep m p s)
       → (kept : IsKeptOf s.0 (m.kernel.acts b)) → IsSound k → k.lives ≡ m.kernel.lives → k.acts ≡ put m.kernel.acts b (taken_from (m.kernel.acts b)) → k.demands ≡ m.kernel.demands
       → stands (setting m.workload s.0 here.def) e v (put (put (contexts_of m s.0) here.act.0 (Some c)) b None)
       → Stands stands e (with_pair p s v c (record m { kernel = k }))
@@ -263,7 +263,7 @@ module _ {U C : Type 0} (f : Calls U C) (stands : Standing U C) (keep : Keeps f 
   called-is call p s m n u c user ctx = rw (user, ctx) refl
 
   tells-plain : (w : WorkloadView) (e g : ℕ) (m : Machine U C) (p : ProcNo) (s : SpaceNo) (note : Note) (notes : List Note) → (tells : Tells w e g p s (note ∷ notes) m)
-      → (k : State C) → k ≡ record m.kernel { telling = notes } → IsSound k → AreClaimed k s.0
+      → (k : KernelState C) → k ≡ record m.kernel { telling = notes } → IsSound k → AreClaimed k s.0
       → ((cs : Contexts C) (a : ℕ) (c : C) → told_contexts cs a c note ≡ put cs a (Some c))
       → Tells w e g p s notes (called (λ u c. f.told u c note (held_for m.kernel note)) p s (record m { kernel = k }))
   tells-plain w e g m p s note notes tells k same sound claimed plain =
@@ -277,20 +277,20 @@ module _ {U C : Type 0} (f : Calls U C) (stands : Standing U C) (keep : Keeps f 
       let put_law : stands (setting m.workload s.0 here.def) e r.0 (put (contexts_of m s.0) here.act.0 (Some r.1)) =
       subst (λ (x : Contexts C). stands (setting m.workload s.0 here.def) e r.0 x) (plain (contexts_of m s.0) here.act.0 r.1) law in
       let done : Stands stands e (with_pair p s r.0 r.1 m) = stands-put f stands keep e e m.event m p s r.0 r.1 m.items (omega arith) st here put_law in
-      let lives : k.lives ≡ m.kernel.lives = ap (λ (z : State C). z.lives) same in
-      let acts : k.acts ≡ m.kernel.acts = ap (λ (z : State C). z.acts) same in
-      let demands : length k.demands ≡ length m.kernel.demands = ap (λ (z : State C). length z.demands) same in
+      let lives : k.lives ≡ m.kernel.lives = ap (λ (z : KernelState C). z.lives) same in
+      let acts : k.acts ≡ m.kernel.acts = ap (λ (z : KernelState C). z.acts) same in
+      let demands : length k.demands ≡ length m.kernel.demands = ap (λ (z : KernelState C). length z.demands) same in
       subst (λ (z : Machine U C). Tells w e g p s notes z) (sym (called-is call p s m n here.user here.ctx here.is_user here.is_ctx)) (record {
         workload = tells.workload;
         event = tells.event;
         standing = stands-runs f stands keep e m.event (with_pair p s r.0 r.1 m) k m.items done sound lives acts demands;
         claimed = claimed;
-        owner = ap (λ (z : State C). owner_of z p) same ∙ tells.owner;
-        telling = ap (λ (z : State C). z.telling) same;
+        owner = ap (λ (z : KernelState C). owner_of z p) same ∙ tells.owner;
+        telling = ap (λ (z : KernelState C). z.telling) same;
       })
 
   tells-handed : (w : WorkloadView) (e g : ℕ) (m : Machine U C) (p : ProcNo) (s : SpaceNo) (note : Note) (notes : List Note) (b : ActNo) → (tells : Tells w e g p s (note ∷ notes) m)
-      → (k : State C) → k ≡ handed_by (held_of (m.kernel.acts b.0)) b (record m.kernel { telling = notes }) → IsSound k → AreClaimed k s.0 → note_claim b.0 note ≡ 1
+      → (k : KernelState C) → k ≡ handed_by (held_of (m.kernel.acts b.0)) b (record m.kernel { telling = notes }) → IsSound k → AreClaimed k s.0 → note_claim b.0 note ≡ 1
       → ((cs : Contexts C) (a : ℕ) (c : C) → told_contexts cs a c note ≡ put (put cs a (Some c)) b.0 None)
       → Tells w e g p s notes (called (λ u c. f.told u c note (held_for m.kernel note)) p s (record m { kernel = k }))
   tells-handed w e g m p s note notes b tells k same sound claimed one both =
@@ -304,19 +304,19 @@ module _ {U C : Type 0} (f : Calls U C) (stands : Standing U C) (keep : Keeps f 
       let put_law : stands (setting m.workload s.0 here.def) e r.0 (put (put (contexts_of m s.0) here.act.0 (Some r.1)) b.0 None) =
       subst (λ (x : Contexts C). stands (setting m.workload s.0 here.def) e r.0 x) (both (contexts_of m s.0) here.act.0 r.1) law in
       let kept = next-kept s.0 note notes b.0 m.kernel tells.telling one tells.claimed in
-      let j : State C = record m.kernel { telling = notes } in
+      let j : KernelState C = record m.kernel { telling = notes } in
       let o = held_of (m.kernel.acts b.0) in
       let rest = handed-lives o b j in
       subst (λ (z : Machine U C). Tells w e g p s notes z) (sym (called-is call p s m n here.user here.ctx here.is_user here.is_ctx)) (record {
         workload = tells.workload;
         event = tells.event;
         standing = stands-handed e m p s k b.0 r.0 r.1 st here kept sound
-            (ap (λ (z : State C). z.lives) same ∙ rest.0)
-            (ap (λ (z : State C). z.acts) same ∙ handed-acts o kept.stopped b j (held-for s.0 (m.kernel.acts b.0) kept))
-            (ap (λ (z : State C). z.demands) same ∙ rest.1) put_law;
+            (ap (λ (z : KernelState C). z.lives) same ∙ rest.0)
+            (ap (λ (z : KernelState C). z.acts) same ∙ handed-acts o kept.stopped b j (held-for s.0 (m.kernel.acts b.0) kept))
+            (ap (λ (z : KernelState C). z.demands) same ∙ rest.1) put_law;
         claimed = claimed;
-        owner = ap (λ (z : State C). owner_of z p) same ∙ ap (λ (a : AssignView). get_or a.owners p.0 None) rest.3 ∙ tells.owner;
-        telling = ap (λ (z : State C). z.telling) same ∙ rest.2;
+        owner = ap (λ (z : KernelState C). owner_of z p) same ∙ ap (λ (a : AssignView). get_or a.owners p.0 None) rest.3 ∙ tells.owner;
+        telling = ap (λ (z : KernelState C). z.telling) same ∙ rest.2;
       })
 
   pub tells-next : (w : WorkloadView) (e g : ℕ) (m : Machine U C) (p : ProcNo) (s : SpaceNo) (note : Note) (notes : List Note) → Tells w e g p s (note ∷ notes) m → Tells w e g p s notes (told_one f p s note notes m)

@@ -12,7 +12,7 @@ use Rattle.sa_acts.specs.Table.{runs_in, holding}
 use Rattle.sa_assign.specs.Aims.{least_below, is_aim}
 use Rattle.sa_devices.specs.declared.kind.IoKind.{IoKind}
 use Rattle.sa_devices.specs.declared.kind.IoKind.TheVariants.{Plain, Page, Upcall}
-use Rattle.sa_kernel_model.specs.State.{State, Scene, owner_of, can_upcall}
+use Rattle.sa_kernel_model.specs.State.{KernelState, Scene, owner_of, can_upcall}
 use Rattle.sa_kernel_model.specs.Parts.{fetch_page, leave, moved, upcall, go_to_by}
 use Rattle.sa_kernel_model.specs.Closing.{spaces, want_one, want_for, wants, must_want, aims, interrupt, interrupt_one, interrupt_for, must_interrupt, has_low_line, closed}
 use Rattle.sa_kernel_model.specs.Entries.{stopped, go_to_aim, over, over_for, more, idled, interrupted_own, told_or_left, block_begun}
@@ -22,13 +22,13 @@ use Rattle.sa_kernel_model.proofs.HeldLemmas.{stays-closed}
 
 module _ {C : Type 0} where
   -- the same activations run, and as many spaces have a demand
-  pub record SameRuns (k l : State C) : Type 0 where
+  pub record SameRuns (k l : KernelState C) : Type 0 where
     pub lives : l.lives ≡ k.lives
     pub acts : l.acts ≡ k.acts
     pub telling : l.telling ≡ k.telling
     pub demands : length l.demands ≡ length k.demands
 
-  pub same-again : (j k l : State C) → SameRuns j k → SameRuns k l → SameRuns j l
+  pub same-again : (j k l : KernelState C) → SameRuns j k → SameRuns k l → SameRuns j l
   same-again j k l a b = record {
     lives = b.lives ∙ a.lives;
     acts = b.acts ∙ a.acts;
@@ -88,12 +88,12 @@ module _ {C : Type 0} where
   same-own e p q x = record { lives = refl; acts = refl; telling = refl; demands = refl }
 
   -- a fresh activation of a space runs on a processor
-  pub record Starts (k l : State C) (p : ProcNo) (a : ActNo) (s : SpaceNo) : Type 0 where
+  pub record Starts (k l : KernelState C) (p : ProcNo) (a : ActNo) (s : SpaceNo) : Type 0 where
     pub lives : l.lives ≡ slice_set k.lives p.0 (Some a)
     pub acts : l.acts ≡ put k.acts a.0 (Some (runs_in s))
     pub demands : length l.demands ≡ length k.demands
 
-  pub starts-same : (k l m : State C) (p : ProcNo) (a : ActNo) (s : SpaceNo) → Starts k l p a s → SameRuns l m → Starts k m p a s
+  pub starts-same : (k l m : KernelState C) (p : ProcNo) (a : ActNo) (s : SpaceNo) → Starts k l p a s → SameRuns l m → Starts k m p a s
   starts-same k l m p a s h same = record { lives = same.lives ∙ h.lives; acts = same.acts ∙ h.acts; demands = same.demands ∙ h.demands }
 
   -- behind a stop or a block: an upcall, or the processor is left
@@ -147,7 +147,7 @@ module _ {C : Type 0} where
   aims-at e p a (Some s) x = aims-by e p s a (is_aim s.0 (owner_of x.state p)) (can_upcall x.state s) x refl
 
   -- the context of a life is set aside
-  pub record SetsAside (k l : State C) (p : ProcNo) (a : ActNo) (held : Stopped C) : Type 0 where
+  pub record SetsAside (k l : KernelState C) (p : ProcNo) (a : ActNo) (held : Stopped C) : Type 0 where
     pub lives : l.lives ≡ slice_set k.lives p.0 None
     pub acts : l.acts ≡ put k.acts a.0 (holding held (k.acts a.0))
     pub telling : l.telling ≡ k.telling

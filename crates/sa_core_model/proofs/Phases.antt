@@ -16,7 +16,7 @@ use Rattle.sa_abstract.specs.Calls.{Calls, Contexts}
 use Rattle.sa_abstract.specs.Keeps.{Standing, Keeps}
 use Rattle.sa_acts.specs.declared.acts.Act.{Act}
 use Rattle.sa_acts.specs.Table.{runs_in, holding}
-use Rattle.sa_kernel_model.specs.State.{State, owner_of, life_of}
+use Rattle.sa_kernel_model.specs.State.{KernelState, owner_of, life_of}
 use Rattle.sa_kernel_model.specs.Sound.{IsSound, AreAlive}
 use Rattle.sa_kernel_model.proofs.LifeLemmas.{alive-aside}
 use Rattle.sa_kernel_model.proofs.FormedLemmas.{free-set}
@@ -112,7 +112,7 @@ module _ {U C : Type 0} (f : Calls U C) (stands : Standing U C) (keep : Keeps f 
   }
 
   -- the kernel changes, but not what runs
-  pub stands-runs : (e event : ℕ) (m : Machine U C) (k : State C) (items : List Item) → Stands stands e m → IsSound k → k.lives ≡ m.kernel.lives → k.acts ≡ m.kernel.acts
+  pub stands-runs : (e event : ℕ) (m : Machine U C) (k : KernelState C) (items : List Item) → Stands stands e m → IsSound k → k.lives ≡ m.kernel.lives → k.acts ≡ m.kernel.acts
       → length k.demands ≡ length m.kernel.demands → Stands stands e (record m { kernel = k; event = event; items = items })
   stands-runs e event m k items st sound lives acts demands = record {
     workload = st.workload;
@@ -126,12 +126,12 @@ module _ {U C : Type 0} (f : Calls U C) (stands : Standing U C) (keep : Keeps f 
         (contexts-same m.kernel.lives k.lives m.kernel.acts k.acts m.contexts lives acts) st.values;
   }
 
-  pub stands-kernel : (e event : ℕ) (m : Machine U C) (k : State C) (items : List Item) → Stands stands e m → IsSound k → SameRuns m.kernel k
+  pub stands-kernel : (e event : ℕ) (m : Machine U C) (k : KernelState C) (items : List Item) → Stands stands e m → IsSound k → SameRuns m.kernel k
       → Stands stands e (record m { kernel = k; event = event; items = items })
   stands-kernel e event m k items st sound same = stands-runs e event m k items st sound same.lives same.acts same.demands
 
   -- activations are given back that have no context
-  pub stands-emptied : (e : ℕ) (m : Machine U C) (k : State C) (items : List Item) → Stands stands e m → IsSound k → k.lives ≡ m.kernel.lives
+  pub stands-emptied : (e : ℕ) (m : Machine U C) (k : KernelState C) (items : List Item) → Stands stands e m → IsSound k → k.lives ≡ m.kernel.lives
       → length k.demands ≡ length m.kernel.demands → ((t b : ℕ) → contexts_of m t b ≡ contexts_in m.kernel.lives k.acts m.contexts t b)
       → Stands stands e (record m { kernel = k; items = items })
   stands-emptied e m k items st sound lives demands same = record {
@@ -237,7 +237,7 @@ module _ {U C : Type 0} (f : Calls U C) (stands : Standing U C) (keep : Keeps f 
       no-life (Some a) e = absurd (let r = st.sound.formed.lives.run p.0 a e in let z = r.owner in cc)
 
   -- the processor is left
-  pub stands-left : (e : ℕ) (m : Machine U C) (p : ProcNo) (lives : List (Option ActNo)) (acts : ℕ → Option (Act C)) (k : State C) (items : List Item)
+  pub stands-left : (e : ℕ) (m : Machine U C) (p : ProcNo) (lives : List (Option ActNo)) (acts : ℕ → Option (Act C)) (k : KernelState C) (items : List Item)
       → Paused stands e p lives acts m → IsSound k → k.lives ≡ lives → k.acts ≡ acts → length k.demands ≡ length m.workload.spaces
       → Stands stands e (record m { kernel = k; items = items })
   stands-left e m p lives acts k items paused sound same_lives same_acts demands = record {
@@ -253,7 +253,7 @@ module _ {U C : Type 0} (f : Calls U C) (stands : Standing U C) (keep : Keeps f 
   }
 
   -- a fresh activation runs there, and its context begins
-  pub stands-begun : (e : ℕ) (m : Machine U C) (p : ProcNo) (s : SpaceNo) (n : ActNo) (lives : List (Option ActNo)) (acts : ℕ → Option (Act C)) (k : State C) (items : List Item)
+  pub stands-begun : (e : ℕ) (m : Machine U C) (p : ProcNo) (s : SpaceNo) (n : ActNo) (lives : List (Option ActNo)) (acts : ℕ → Option (Act C)) (k : KernelState C) (items : List Item)
       (u : U) (seen : Seen) → Paused stands e p lives acts m → IsSound k → k.lives ≡ slice_set lives p.0 (Some n) → k.acts ≡ put acts n.0 (Some (runs_in s))
       → length k.demands ≡ length m.workload.spaces → acts n.0 ≡ None → slice_get m.users s.0 ≡ Some u → seen.proc.0 < m.workload.processors
       → Stands stands e (with_pair p s (f.begun u seen).0 (f.begun u seen).1 (record m { kernel = k; items = items }))

@@ -26,7 +26,7 @@ use Rattle.sa_base.specs.Pages.{has_page}
 use Rattle.sa_devices.proofs.IosLemmas.{due_of-under_way}
 use Rattle.sa_kernel_model.specs.declared.entry.Entry.{Entry}
 use Rattle.sa_kernel_model.specs.declared.entry.Entry.TheVariants.{Interrupt, Block as BlockEntry, Complete, More as MoreEntry, Idle as IdleEntry, GiveBack as GiveBackEntry, InterruptOwn as InterruptOwnEntry}
-use Rattle.sa_kernel_model.specs.State.{State, Scene, owner_of, aim_of, line_of, life_of, taken_of, can_upcall}
+use Rattle.sa_kernel_model.specs.State.{KernelState, Scene, owner_of, aim_of, line_of, life_of, taken_of, can_upcall}
 use Rattle.sa_kernel_model.specs.Parts.{with_line}
 use Rattle.sa_kernel_model.specs.Closing.{closed}
 use Rattle.sa_kernel_model.specs.Entries.{entered, entered_as, evicted_at, stopped, gave_back, block_begun, blocked_by as kernel_blocked_by, told_or_left, without_acts, kind_at, IsOwnPage}
@@ -69,7 +69,7 @@ module _ {U C : Type 0} (f : Calls U C) (stands : Standing U C) (keep : Keeps f 
   rests-answered w e g m p s st owner fetched workload event =
       let same = called-rest (λ u c. f.answered u (seen_on m p s) c) p s (user_of m s) (context_on m p) m in record {
         standing = stands-answered f stands keep e m p s st owner;
-        fetched = ap (λ (k : State C). k.telling) same.kernel ∙ fetched;
+        fetched = ap (λ (k : KernelState C). k.telling) same.kernel ∙ fetched;
         workload = same.workload ∙ workload;
         event = same.event ∙ event;
       }
@@ -95,7 +95,7 @@ module _ {U C : Type 0} (f : Calls U C) (stands : Standing U C) (keep : Keeps f 
     pub place : p.0 < length m.contexts
     pub begins : Tells f stands keep w e g p space m.kernel.telling (begun f p space m)
 
-  welcomed-new : (w : WorkloadView) (e g : ℕ) (m : Machine U C) (p : ProcNo) (s : SpaceNo) (n : ActNo) (lives : List (Option ActNo)) (acts : ℕ → Option (Act C)) (k : State C) (items : List Item)
+  welcomed-new : (w : WorkloadView) (e g : ℕ) (m : Machine U C) (p : ProcNo) (s : SpaceNo) (n : ActNo) (lives : List (Option ActNo)) (acts : ℕ → Option (Act C)) (k : KernelState C) (items : List Item)
       → Paused stands e p lives acts m → IsSound k → k.lives ≡ slice_set lives p.0 (Some n) → k.acts ≡ put acts n.0 (Some (runs_in s)) → length k.demands ≡ length m.workload.spaces
       → acts n.0 ≡ None → IsUpcalled k p n → m.workload ≡ w → m.event ≡ g → Welcomed w e g p (record m { kernel = k; items = items })
   welcomed-new w e g m p s n lives acts k items paused sound new_lives new_acts demands unused up workload event =
@@ -163,7 +163,7 @@ module _ {U C : Type 0} (f : Calls U C) (stands : Standing U C) (keep : Keeps f 
       }
 
   -- .. by which activations are given back
-  pub none-taken : (k : State C) (contexts : List (Option C)) (s : SpaceNo) → IsSound k → (a : ActNo) → Contains (taken_of k s.0) a → (t : ℕ) → contexts_in k.lives k.acts contexts t a.0 ≡ None
+  pub none-taken : (k : KernelState C) (contexts : List (Option C)) (s : SpaceNo) → IsSound k → (a : ActNo) → Contains (taken_of k s.0) a → (t : ℕ) → contexts_in k.lives k.acts contexts t a.0 ≡ None
   none-taken k contexts s sound a has t =
       let taken = sound.formed.taken s.0 a has in
       let idle = running-none k.lives contexts a.0 (rests k.assign.owners k.lives k.acts a.0 sound.formed.lives (λ u is. both taken.here u (sym taken.is ∙ is) taken.taken)) in
@@ -210,7 +210,7 @@ module _ {U C : Type 0} (f : Calls U C) (stands : Standing U C) (keep : Keeps f 
   rests-hinted w e g m p n entry rest = rests-in w e g (kernel_entered p n entry m) p (owner_of (kernel_entered p n entry m).kernel p) rest refl
 
   -- an entry that sets a context aside, or finds none, and may upcall
-  pub record Pauses (e : ℕ) (m : Machine U C) (p : ProcNo) (n : ActNo) (entry : Entry C) (k : State C) : Type 0 where
+  pub record Pauses (e : ℕ) (m : Machine U C) (p : ProcNo) (n : ActNo) (entry : Entry C) (k : KernelState C) : Type 0 where
     pub paused : Paused stands e p k.lives k.acts m
     pub unused : k.acts n.0 ≡ None
     pub telling : k.telling ≡ []
@@ -218,7 +218,7 @@ module _ {U C : Type 0} (f : Calls U C) (stands : Standing U C) (keep : Keeps f 
     pub started : upcalls m.kernel p entry ≡ true → (s : SpaceNo) × Starts k (entered_as m.event p n entry (scene_of m)).state p n s
     pub same : upcalls m.kernel p entry ≡ false → SameRuns k (entered_as m.event p n entry (scene_of m)).state
 
-  rests-paused : (w : WorkloadView) (e g : ℕ) (m : Machine U C) (p : ProcNo) (n : ActNo) (entry : Entry C) (k : State C) → Pauses e m p n entry k → m.workload ≡ w → m.event ≡ g
+  rests-paused : (w : WorkloadView) (e g : ℕ) (m : Machine U C) (p : ProcNo) (n : ActNo) (entry : Entry C) (k : KernelState C) → Pauses e m p n entry k → m.workload ≡ w → m.event ≡ g
       → IsSound (entered m.event p n entry (scene_of m)).state → (upcalls m.kernel p entry ≡ true → IsUpcalled (entered m.event p n entry (scene_of m)).state p n)
       → Rests w e g (entered_on f p n entry m)
   rests-paused w e g m p n entry k pauses workload event sound up = go (upcalls m.kernel p entry) refl
@@ -252,14 +252,14 @@ module _ {U C : Type 0} (f : Calls U C) (stands : Standing U C) (keep : Keeps f 
       ∙ ap (λ (u : Option U). stopped_by f u (context_on m p)) here.is_user
       ∙ ap (λ (c : Option C). stopped_by f (Some here.user) c) here.is_ctx
 
-  upcalls-pages : (k l : State C) (aim : Option SpaceNo) → l.pages ≡ k.pages → upcalls_for l aim ≡ upcalls_for k aim
+  upcalls-pages : (k l : KernelState C) (aim : Option SpaceNo) → l.pages ≡ k.pages → upcalls_for l aim ≡ upcalls_for k aim
   upcalls-pages k l None e = refl
   upcalls-pages k l (Some s) e = ap (λ (ps : List ℕ). has_page (get_or ps s.0 0) 0) e
 
   other-act : (acts : ℕ → Option (Act C)) (n a : ActNo) (s : SpaceNo) → acts n.0 ≡ None → acts a.0 ≡ Some (runs_in s) → n.0 ≢ a.0
   other-act acts n a s none some e = let z : acts n.0 ≡ Some (runs_in s) = ap acts e ∙ some in cc
 
-  pub rests-upcall : (w : WorkloadView) (e g : ℕ) (m : Machine U C) (p : ProcNo) (n : ActNo) (entry : Entry C) (k : State C) → Rests w e g m → p.0 < length m.kernel.lives
+  pub rests-upcall : (w : WorkloadView) (e g : ℕ) (m : Machine U C) (p : ProcNo) (n : ActNo) (entry : Entry C) (k : KernelState C) → Rests w e g m → p.0 < length m.kernel.lives
       → IsFit m.kernel p m.event entry → m.kernel.acts n.0 ≡ None → Pauses e (without_context p m) p n entry k → Rests w e g (entered_on f p n entry (without_context p m))
   rests-upcall w e g m p n entry k rest within fit unused pauses =
       let st = rest.standing in
@@ -268,7 +268,7 @@ module _ {U C : Type 0} (f : Calls U C) (stands : Standing U C) (keep : Keeps f 
       (sound-after e m p n entry st rest.fetched within fit unused)
       (λ up. upcalled-closed m.event p x p n (upcalled-entered_as m.event p n entry (scene_of m) st.sound.claimed.told_to up within unused rest.fetched st.sound.formed st.sound.claimed.once))
 
-  pub welcomed-upcall : (w : WorkloadView) (e g : ℕ) (m : Machine U C) (p : ProcNo) (n : ActNo) (entry : Entry C) (k : State C) → Rests w e g m → p.0 < length m.kernel.lives
+  pub welcomed-upcall : (w : WorkloadView) (e g : ℕ) (m : Machine U C) (p : ProcNo) (n : ActNo) (entry : Entry C) (k : KernelState C) → Rests w e g m → p.0 < length m.kernel.lives
       → IsFit m.kernel p m.event entry → m.kernel.acts n.0 ≡ None → Pauses e (without_context p m) p n entry k → upcalls m.kernel p entry ≡ true
       → Welcomed w e g p (kernel_entered p n entry (without_context p m))
   welcomed-upcall w e g m p n entry k rest within fit unused pauses is =
@@ -283,7 +283,7 @@ module _ {U C : Type 0} (f : Calls U C) (stands : Standing U C) (keep : Keeps f 
       rest.workload rest.event
 
   -- .. by an interrupt
-  pauses-aside : (e : ℕ) (m : Machine U C) (p : ProcNo) (n : ActNo) (s : SpaceNo) (entry : Entry C) (k : State C) (held : Stopped C) → Stands stands e m → m.kernel.telling ≡ []
+  pauses-aside : (e : ℕ) (m : Machine U C) (p : ProcNo) (n : ActNo) (s : SpaceNo) (entry : Entry C) (k : KernelState C) (held : Stopped C) → Stands stands e m → m.kernel.telling ≡ []
       → m.kernel.acts n.0 ≡ None → (here : IsAt f stands keep m p s) → held.ctx ≡ here.ctx → SetsAside m.kernel k p here.act held
       → (upcalls m.kernel p entry ≡ true → (t : SpaceNo) × Starts k (entered_as m.event p n entry (scene_of m)).state p n t)
       → (upcalls m.kernel p entry ≡ false → SameRuns k (entered_as m.event p n entry (scene_of m)).state)
@@ -302,7 +302,7 @@ module _ {U C : Type 0} (f : Calls U C) (stands : Standing U C) (keep : Keeps f 
 
   -- an entry fits a processor whose context is set aside, or that has none
   pub record CanEnter (e : ℕ) (m : Machine U C) (p : ProcNo) (n : ActNo) (entry : Entry C) : Type 0 where
-    pub state : State C
+    pub state : KernelState C
     pub fit : IsFit m.kernel p m.event entry
     pub pauses : Pauses e (without_context p m) p n entry state
 

@@ -11,12 +11,12 @@ use Rattle.sa_spaces.specs.Workload.{WorkloadView}
 use Rattle.sa_abstract.specs.Calls.{Calls, Stepped, Gone}
 use Rattle.sa_abstract.specs.declared.answer.Step.{Step}
 use Rattle.sa_abstract.specs.declared.answer.Step.TheVariants.{Did}
-use Rattle.sa_kernel_model.specs.State.{State, Scene}
+use Rattle.sa_kernel_model.specs.State.{KernelState, Scene}
 use Rattle.sa_kernel_model.specs.Seen.{seen_of}
 
 pub record Machine (U C : Type 0) : Type 0 where
   pub workload : WorkloadView
-  pub kernel : State C
+  pub kernel : KernelState C
   -- of each space, its user level
   pub users : List U
   -- of each processor, the context that runs there

@@ -17,8 +17,8 @@ use Rattle.sa_package_model.specs.Hands.{threads_of}
 use Rattle.sa_package_model.specs.Stands.{IsStanding}
 use Rattle.sa_package_model.specs.Step.{fast_calls, local_at}
 use Rattle.sa_package_model.specs.declared.context.Context.{Context}
-use Rattle.sa_package_model.specs.declared.context.State.{State}
-use Rattle.sa_package_model.specs.declared.context.State.TheVariants.{Code, Work, Hint, Return, User, Look}
+use Rattle.sa_package_model.specs.declared.context.ContextState.{ContextState}
+use Rattle.sa_package_model.specs.declared.context.ContextState.TheVariants.{Code, Work, Hint, Return, User, Look}
 use Rattle.sa_package_model.specs.declared.package.Package.{Package}
 use Rattle.sa_laws.specs.Event.{Event}
 use Rattle.sa_laws.specs.Life.{Life}
@@ -53,7 +53,7 @@ carried-fits set e u cs s r a c t h k is carries =
     k.space.threads t (own_made set e u cs h a.0 c is t.0 in_hand)
 
 -- A context that is not inside the package, and carries a thread, stands at its instruction.
-at-instruction : (u : Package) (a : Abstract) (s : SpaceNo) (state : State) → u.shared.state.space ≡ s
+at-instruction : (u : Package) (a : Abstract) (s : SpaceNo) (state : ContextState) → u.shared.state.space ≡ s
     → ((t : ThreadNo) → carried_by state ≡ Some t → FitsThread (block_at u.shared.threads t.0) (thread_at a s t))
     → (if stands_inside state then None else option_map (point_of a) (runner_of s (carried_by state))) ≡ point_in (local_at u state)
 at-instruction u a s (Code f) space fits = refl

@@ -10,7 +10,7 @@ use Rattle.sa_abstract.specs.Calls.{Contexts}
 use Rattle.sa_abstract.specs.Setting.{Setting}
 use Rattle.sa_package_model.specs.Step.{stepped}
 use Rattle.sa_package_model.specs.declared.context.Context.{Context}
-use Rattle.sa_package_model.specs.declared.context.State.{State}
+use Rattle.sa_package_model.specs.declared.context.ContextState.{ContextState}
 use Rattle.sa_package_model.specs.declared.package.Package.{Package}
 use Rattle.sa_laws.specs.Life.{Life}
 use Rattle.sa_laws.specs.Readings.{Readings}
@@ -29,7 +29,7 @@ module _ (set : Setting) (e : ℕ) (u : Package) (w : WorkloadView) (r : Reading
   abbrev IsLegalFrom : Contexts Context → Context → Type 0
   IsLegalFrom cs c = IsFastScene set e u cs w r p a life c seen → IsLegal w set r p seen.event a cs (stepped u seen c)
 
-  pub step-legal : (cs : Contexts Context) (state : State) (fs : List Frame) (wk : Option ThreadNo)
+  pub step-legal : (cs : Contexts Context) (state : ContextState) (fs : List Frame) (wk : Option ThreadNo)
       → IsFastScene set e u cs w r p a life (record { state = state; sections = fs; work = wk }) seen
       → IsLegal w set r p seen.event a cs (stepped u seen (record { state = state; sections = fs; work = wk }))
   step-legal cs state fs wk fast = step-cases set e u w r p a life seen IsLegalFrom (record {

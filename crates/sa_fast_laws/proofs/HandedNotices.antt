@@ -23,7 +23,7 @@ use Rattle.sa_package_model.specs.Rules.{owed, took_over}
 use Rattle.sa_package_model.specs.Stands.{IsStanding, fast_stands}
 use Rattle.sa_package_model.specs.Step.{fast_calls}
 use Rattle.sa_package_model.specs.declared.context.Context.{Context}
-use Rattle.sa_package_model.specs.declared.context.State.TheVariants.{Work}
+use Rattle.sa_package_model.specs.declared.context.ContextState.TheVariants.{Work}
 use Rattle.sa_package_model.specs.declared.package.Package.{Package}
 use Rattle.sa_laws.specs.Event.{Event}
 use Rattle.sa_laws.specs.History.{is_inside, arisen}

@@ -25,8 +25,8 @@ use Rattle.sa_package_model.specs.Rules.{pair, did, with_shared}
 use Rattle.sa_package_model.specs.Stands.{fast_stands}
 use Rattle.sa_package_model.specs.Step.{fast_calls, gone_by, gone_at, local_at, spot_of, block_after}
 use Rattle.sa_package_model.specs.declared.context.Context.{Context}
-use Rattle.sa_package_model.specs.declared.context.State.{State}
-use Rattle.sa_package_model.specs.declared.context.State.TheVariants.{Code, Work, Hint, Return, User, Look}
+use Rattle.sa_package_model.specs.declared.context.ContextState.{ContextState}
+use Rattle.sa_package_model.specs.declared.context.ContextState.TheVariants.{Code, Work, Hint, Return, User, Look}
 use Rattle.sa_package_model.specs.declared.package.Package.{Package}
 use Rattle.sa_laws.specs.History.{after_event, is_inside}
 use Rattle.sa_laws.specs.Life.{Life}
@@ -144,7 +144,7 @@ pub fast-goes : (w : WorkloadView) (s : Setting) (e : ℕ) (r : Readings) (u : P
     → AreLegalIns fast_threads w seen.event p r (fast_calls.went u seen c n).says
     (λ last. fast_fits w s last (fast_calls.went u seen c n).user (put cs a.0 (Some (fast_calls.went u seen c n).ctx)))
 fast-goes w s e r u cs p a life c seen n acting sees low some later within local = by c.state c.sections c.work acting local where
-  by : (state : State) (fs : List Frame) (wk : Option ThreadNo)
+  by : (state : ContextState) (fs : List Frame) (wk : Option ThreadNo)
       → IsActing fast_calls fast_stands fast_fits w s e r u cs p a life (record { state = state; sections = fs; work = wk })
       → GoesOn s n (local_at u state)
       → AreLegalIns fast_threads w seen.event p r (gone_at u (record { state = state; sections = fs; work = wk }) n state).says

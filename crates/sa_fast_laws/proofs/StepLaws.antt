@@ -17,8 +17,8 @@ use Rattle.sa_package_model.specs.Context.{carried_by, stands_inside, stands_idl
 use Rattle.sa_package_model.specs.Stands.{fast_stands}
 use Rattle.sa_package_model.specs.Step.{fast_calls}
 use Rattle.sa_package_model.specs.declared.context.Context.{Context}
-use Rattle.sa_package_model.specs.declared.context.State.{State}
-use Rattle.sa_package_model.specs.declared.context.State.TheVariants.{Code, Work, Hint, Return, Look, User}
+use Rattle.sa_package_model.specs.declared.context.ContextState.{ContextState}
+use Rattle.sa_package_model.specs.declared.context.ContextState.TheVariants.{Code, Work, Hint, Return, Look, User}
 use Rattle.sa_package_model.specs.declared.package.Package.{Package}
 use Rattle.sa_laws.specs.Closing.{want_one}
 use Rattle.sa_laws.specs.Demand.{BeginsFreely, StepIsFreeIf}
@@ -133,7 +133,7 @@ fast-steps w s e r u cs p a life c seen i sees low some later within =
     step-legal s e u w r p a life seen cs c.state c.sections c.work (the-scene w s e r u cs p a life c seen i sees later within)
 
 -- A STOP: who is idle is read
-pub idle_is : (state : State) → stands_idle state ≡ (not (stands_inside state) && is_none (carried_by state))
+pub idle_is : (state : ContextState) → stands_idle state ≡ (not (stands_inside state) && is_none (carried_by state))
 idle_is (Code f) = refl
 idle_is (Work t) = refl
 idle_is (Hint t) = refl

@@ -15,8 +15,8 @@ use Rattle.sa_package_model.specs.Context.{carried_by, section_in, at_copy, befo
 use Rattle.sa_package_model.specs.Hands.{threads_in, threads_of}
 use Rattle.sa_package_model.specs.Rules.{thread_alone}
 use Rattle.sa_package_model.specs.declared.context.Context.{Context}
-use Rattle.sa_package_model.specs.declared.context.State.{State}
-use Rattle.sa_package_model.specs.declared.context.State.TheVariants.{Code, Work, Hint, Return, User, Look}
+use Rattle.sa_package_model.specs.declared.context.ContextState.{ContextState}
+use Rattle.sa_package_model.specs.declared.context.ContextState.TheVariants.{Code, Work, Hint, Return, User, Look}
 use Rattle.sa_laws.specs.Life.{same_thread}
 use Rattle.sa_laws.specs.Readings.{counts}
 use Rattle.sa_laws.specs.State.{SpaceState}
@@ -30,7 +30,7 @@ split_at : (works : List (List ℕ)) (f : Frame) (fs : List Frame) (k : Option �
 split_at works f fs None n t = omega arith
 split_at works f fs (Some k) n t = omega arith
 
-split_by : (works : List (List ℕ)) (state : State) (fs : List Frame) (n t : ℕ)
+split_by : (works : List (List ℕ)) (state : ContextState) (fs : List Frame) (n t : ℕ)
     → threads_in (before_all (section_in state) fs) t + one_of (thread_alone (section_in state) (carried_by state)) t + n
     ≡ pushed_in (section_in state) t + threads_in fs t + n + one_of (carried_by state) t
 split_by works (Code f) fs n t = split_at works f fs (copy_at f.pc) n t

@@ -12,8 +12,8 @@ use Rattle.sa_fast.specs.Work.{work_of}
 use Rattle.sa_package_model.specs.Context.{carried_by, section_in, at_copy, before_all}
 use Rattle.sa_package_model.specs.Hands.{threads_in, threads_of}
 use Rattle.sa_package_model.specs.declared.context.Context.{Context}
-use Rattle.sa_package_model.specs.declared.context.State.{State}
-use Rattle.sa_package_model.specs.declared.context.State.TheVariants.{Code, Work, Hint, Return, User, Look}
+use Rattle.sa_package_model.specs.declared.context.ContextState.{ContextState}
+use Rattle.sa_package_model.specs.declared.context.ContextState.TheVariants.{Code, Work, Hint, Return, User, Look}
 use Rattle.sa_laws.specs.Life.{Lock}
 use Rattle.sa_fits.specs.Life.{stopped_in, carried, lock_of, locks_from, pushed_in}
 use Rattle.sa_fits.specs.View.{view}
@@ -77,7 +77,7 @@ before_at : (f : Frame) (fs : List Frame) (k : Option ℕ) (t : ℕ) → stopped
 before_at f fs None t = omega arith
 before_at f fs (Some k) t = omega arith
 
-before_by : (state : State) (fs : List Frame) (t : ℕ)
+before_by : (state : ContextState) (fs : List Frame) (t : ℕ)
     → stopped_in (before_all (section_in state) fs) t ≤ one_of (carried_by state) t + stopped_in fs t
 before_by (Code f) fs t = before_at f fs (copy_at f.pc) t
 before_by (Work o) fs t = omega arith

@@ -24,7 +24,7 @@ use Rattle.sa_package_model.specs.Hands.{threads_in}
 use Rattle.sa_package_model.specs.Rules.{load, owed}
 use Rattle.sa_package_model.specs.Stands.{IsStanding}
 use Rattle.sa_package_model.specs.declared.context.Context.{Context}
-use Rattle.sa_package_model.specs.declared.context.State.{State}
+use Rattle.sa_package_model.specs.declared.context.ContextState.{ContextState}
 use Rattle.sa_package_model.specs.declared.package.Package.{Package}
 use Rattle.sa_laws.specs.Event.{Event}
 use Rattle.sa_laws.specs.History.{is_inside}
@@ -62,7 +62,7 @@ first_counted [] n first some = absurd (omega arith)
 first_counted (x ∷ xs) n first some = let one = count_same n x xs (first x refl) in omega arith
 
 module _ (set : Setting) (e : ℕ) (u : Package) (cs : Contexts Context) (h : IsStanding set e u cs) (s : SpaceNo) (r : Readings) (k : Holds s r u cs)
-    (a : ActNo) (state : State) (fs : List Frame) (wk : Option ThreadNo) (is : cs a.0 ≡ Some (record { state = state; sections = fs; work = wk }))
+    (a : ActNo) (state : ContextState) (fs : List Frame) (wk : Option ThreadNo) (is : cs a.0 ≡ Some (record { state = state; sections = fs; work = wk }))
     (life : Life) (there : life_of r a ≡ Some life) (stays : is_gone (stage_of r s a life) ≡ false) where
   abbrev c : Context
   c = record { state = state; sections = fs; work = wk }
@@ -162,7 +162,7 @@ module _ (set : Setting) (e : ℕ) (u : Package) (cs : Contexts Context) (h : Is
   abbrev left : Bool
   left = has_some fs || is_some wk
 
-  abbrev state : State
+  abbrev state : ContextState
   state = settled_to t left (is_some (owed u seen)) (has_bulk seen)
 
   pub settled-inside : cs a.0 ≡ Some (record { state = state; sections = fs; work = wk }) → seen.demand ≡ demand_of r s → seen.taken ≡ length (taken_of r s)

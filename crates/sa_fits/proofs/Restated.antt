@@ -12,7 +12,7 @@ use Rattle.sa_fast.specs.Rest.{one_of}
 use Rattle.sa_abstract.specs.Calls.{Contexts}
 use Rattle.sa_package_model.specs.Context.{carried_by, section_in}
 use Rattle.sa_package_model.specs.declared.context.Context.{Context}
-use Rattle.sa_package_model.specs.declared.context.State.{State}
+use Rattle.sa_package_model.specs.declared.context.ContextState.{ContextState}
 use Rattle.sa_package_model.specs.declared.package.Package.{Package}
 use Rattle.sa_laws.specs.Life.{Life}
 use Rattle.sa_laws.specs.Readings.{Readings}
@@ -22,7 +22,7 @@ use Rattle.sa_fits.specs.Life.{locks_from, pushed_in, beside, carried, count_if,
 use Rattle.sa_fits.specs.Stage.{stage_of, is_gone}
 use Rattle.sa_fits.specs.View.{view, in_copy}
 
-module _ (s : SpaceNo) (r : Readings) (u : Package) (cs : Contexts Context) (k : Holds s r u cs) (a : ActNo) (old state : State) (fs : List Frame)
+module _ (s : SpaceNo) (r : Readings) (u : Package) (cs : Contexts Context) (k : Holds s r u cs) (a : ActNo) (old state : ContextState) (fs : List Frame)
     (wk : Option ThreadNo)
     (is : cs a.0 ≡ Some (record { state = old; sections = fs; work = wk }))
     (was_out : section_in old ≡ None) (was_none : in_copy old ≡ false) (out : section_in state ≡ None) (no_copy : in_copy state ≡ false)

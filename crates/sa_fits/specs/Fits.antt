@@ -17,7 +17,7 @@ use Rattle.sa_abstract.specs.Calls.{Contexts}
 use Rattle.sa_abstract.specs.Setting.{Setting}
 use Rattle.sa_package_model.specs.Rules.{load}
 use Rattle.sa_package_model.specs.declared.context.Context.{Context}
-use Rattle.sa_package_model.specs.declared.context.State.TheVariants.{Work}
+use Rattle.sa_package_model.specs.declared.context.ContextState.TheVariants.{Work}
 use Rattle.sa_package_model.specs.declared.package.Package.{Package}
 use Rattle.sa_laws.specs.Life.{Life}
 use Rattle.sa_laws.specs.Readings.{Readings, Listed, running_of, untold_of, life_of, ready_of, is_in, load_of}

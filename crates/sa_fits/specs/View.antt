@@ -7,8 +7,8 @@ use Rattle.sa_code.specs.declared.state.Frame.{Frame}
 use Rattle.sa_copies.specs.Copies.{package_ops}
 use Rattle.sa_package_model.specs.Context.{carried_by, section_in, stands_inside, has_some, is_left}
 use Rattle.sa_package_model.specs.declared.context.Context.{Context}
-use Rattle.sa_package_model.specs.declared.context.State.{State}
-use Rattle.sa_package_model.specs.declared.context.State.TheVariants.{Code, Work, Hint, Return, User, Look}
+use Rattle.sa_package_model.specs.declared.context.ContextState.{ContextState}
+use Rattle.sa_package_model.specs.declared.context.ContextState.TheVariants.{Code, Work, Hint, Return, User, Look}
 
 pub record View : Type 0 where
   -- the thread that it carries; the section in which it is, or in whose copy
@@ -36,7 +36,7 @@ abbrev pub is_idle : View → Bool
 is_idle v = not v.inside && is_none v.carried
 
 -- FastThreads' contexts. The copies are from place 8 of the code on, and each ends with a yield.
-abbrev pub in_copy : State → Bool
+abbrev pub in_copy : ContextState → Bool
 in_copy (Code f) = nat_le 8 f.pc
 in_copy _ = false
 
@@ -44,17 +44,17 @@ abbrev pub is_yield_op : Option Op → Bool
 is_yield_op (Some Yield) = true
 is_yield_op _ = false
 
-abbrev pub at_yield : State → Bool
+abbrev pub at_yield : ContextState → Bool
 at_yield (Code f) = is_yield_op (slice_get package_ops f.pc)
 at_yield _ = false
 
-abbrev pub looks_of : State → ℕ
+abbrev pub looks_of : ContextState → ℕ
 looks_of (Look looks) = looks
 looks_of _ = 0
 
 -- What is left to do agrees with the state: in work something is; before a hint and a return, at an instruction and at a
 -- look nothing is.
-abbrev pub left_at : State → Bool → Bool
+abbrev pub left_at : ContextState → Bool → Bool
 left_at (Code f) left = left
 left_at (Work t) left = true
 left_at (Hint t) left = false
@@ -63,12 +63,12 @@ left_at (User t) left = false
 left_at (Look looks) left = false
 
 -- Sections to continue has only a context that carries no thread, in work, or one that continues a section in its copy.
-abbrev pub may_continue : State → Bool
+abbrev pub may_continue : ContextState → Bool
 may_continue (Code f) = nat_le 8 f.pc
 may_continue (Work None) = true
 may_continue _ = false
 
-abbrev pub is_lone : State → List Frame → Bool
+abbrev pub is_lone : ContextState → List Frame → Bool
 is_lone state [] = true
 is_lone state (f ∷ fs) = may_continue state
 

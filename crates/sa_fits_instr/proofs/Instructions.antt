@@ -31,8 +31,8 @@ use Rattle.sa_package_model.specs.Hands.{threads_of, name_of}
 use Rattle.sa_package_model.specs.Rules.{with_shared, load}
 use Rattle.sa_package_model.specs.Stands.{IsStanding}
 use Rattle.sa_package_model.specs.declared.context.Context.{Context}
-use Rattle.sa_package_model.specs.declared.context.State.{State}
-use Rattle.sa_package_model.specs.declared.context.State.TheVariants.{User}
+use Rattle.sa_package_model.specs.declared.context.ContextState.{ContextState}
+use Rattle.sa_package_model.specs.declared.context.ContextState.TheVariants.{User}
 use Rattle.sa_package_model.specs.declared.package.Package.{Package}
 use Rattle.sa_laws.specs.Effect.{Effect, effect_of}
 use Rattle.sa_laws.specs.History.{goes_on}
@@ -190,7 +190,7 @@ module _ (set : Setting) (e : ℕ) (u : Package) (cs : Contexts Context) (h : Is
     lives_now = life-changed (with_hand (next_effect w r.state s t).roused) r p a life runs there
 
     -- after it the context is in no section, and carries the thread exactly where it goes on
-    module _ (state : State) (out : section_in state ≡ None) (no_copy : in_copy state ≡ false)
+    module _ (state : ContextState) (out : section_in state ≡ None) (no_copy : in_copy state ≡ false)
         (ends : ((o.answer ≡ Goes) × (carried_by state ≡ Some t)) ⊎ ((o.answer ≡ Leaves) × (carried_by state ≡ None))) where
       abbrev new : Context
       new = record { state = state; sections = []; work = o.work }
@@ -298,13 +298,13 @@ module _ (set : Setting) (e : ℕ) (u : Package) (cs : Contexts Context) (h : Is
         ap goes_on place_here ∙ is_so.2
 
   -- ALL OF IT: what the package's instruction does is known from what all of them are
-  pub record IsIns (state : State) : Type 0 where
+  pub record IsIns (state : ContextState) : Type 0 where
     pub held : IsHeld s r q u v a c (record { state = state; sections = []; work = o.work })
     pub lists : o.shared.state.lists.lists ≡ u.shared.state.lists.lists
     pub goes : o.answer ≡ Goes → (thread_in (space_at q.state s) t).place ≡ place.Running life.proc
     pub leaves : o.answer ≡ Leaves → goes_on (thread_in (space_at q.state s) t).place ≡ false
 
-  pub ins-is : (can : IsThere u.shared ys None t b zp fits_now sits made inside pages i) (state : State) → section_in state ≡ None
+  pub ins-is : (can : IsThere u.shared ys None t b zp fits_now sits made inside pages i) (state : ContextState) → section_in state ≡ None
       → in_copy state ≡ false
       → ((o.answer ≡ Goes) × (carried_by state ≡ Some t)) ⊎ ((o.answer ≡ Leaves) × (carried_by state ≡ None))
       → IsIns state

@@ -21,8 +21,8 @@ use Rattle.sa_package_model.specs.Context.{has_some, settled_to, has_bulk, stand
 use Rattle.sa_package_model.specs.Rules.{owed}
 use Rattle.sa_package_model.specs.Stands.{IsStanding}
 use Rattle.sa_package_model.specs.declared.context.Context.{Context}
-use Rattle.sa_package_model.specs.declared.context.State.{State}
-use Rattle.sa_package_model.specs.declared.context.State.TheVariants.{Work}
+use Rattle.sa_package_model.specs.declared.context.ContextState.{ContextState}
+use Rattle.sa_package_model.specs.declared.context.ContextState.TheVariants.{Work}
 use Rattle.sa_package_model.specs.declared.package.Package.{Package}
 use Rattle.sa_laws.specs.Event.{Event}
 use Rattle.sa_laws.specs.History.{is_inside}
@@ -81,7 +81,7 @@ module _ (w : WorkloadView) (s : Setting) (e : ℕ) (before r last : Readings) (
   abbrev left : Bool
   left = has_some fs || is_some wk
 
-  abbrev state : State
+  abbrev state : ContextState
   state = settled_to None left (is_some (owed u seen)) (has_bulk seen)
 
   -- the context as it settles

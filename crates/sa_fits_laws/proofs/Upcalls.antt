@@ -18,7 +18,7 @@ use Rattle.sa_package_model.specs.Context.{fresh}
 use Rattle.sa_package_model.specs.Rules.{took_over}
 use Rattle.sa_package_model.specs.Stands.{IsStanding}
 use Rattle.sa_package_model.specs.declared.context.Context.{Context}
-use Rattle.sa_package_model.specs.declared.context.State.TheVariants.{Work}
+use Rattle.sa_package_model.specs.declared.context.ContextState.TheVariants.{Work}
 use Rattle.sa_package_model.specs.declared.package.Package.{Package}
 use Rattle.sa_laws.specs.Life.{Life, new_life, inherits}
 use Rattle.sa_laws.specs.Readings.{Readings, running_of, life_of, untold_of}

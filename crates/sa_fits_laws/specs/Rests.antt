@@ -6,7 +6,7 @@ use Rattle.sa_base.specs.declared.number.SpaceNo.{SpaceNo}
 use Rattle.sa_abstract.specs.Calls.{Contexts}
 use Rattle.sa_package_model.specs.Context.{carried_by}
 use Rattle.sa_package_model.specs.declared.context.Context.{Context}
-use Rattle.sa_package_model.specs.declared.context.State.TheVariants.{Work}
+use Rattle.sa_package_model.specs.declared.context.ContextState.TheVariants.{Work}
 use Rattle.sa_package_model.specs.declared.package.Package.{Package}
 use Rattle.sa_laws.specs.Life.{Life}
 use Rattle.sa_laws.specs.Readings.{Readings, life_of}

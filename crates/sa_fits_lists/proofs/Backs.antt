@@ -24,8 +24,8 @@ use Rattle.sa_package_model.specs.Context.{carried_by, section_in}
 use Rattle.sa_package_model.specs.Rules.{placed, put_last, due_last}
 use Rattle.sa_package_model.specs.Stands.{IsStanding}
 use Rattle.sa_package_model.specs.declared.context.Context.{Context}
-use Rattle.sa_package_model.specs.declared.context.State.{State}
-use Rattle.sa_package_model.specs.declared.context.State.TheVariants.{Code}
+use Rattle.sa_package_model.specs.declared.context.ContextState.{ContextState}
+use Rattle.sa_package_model.specs.declared.context.ContextState.TheVariants.{Code}
 use Rattle.sa_package_model.specs.declared.package.Package.{Package}
 use Rattle.sa_laws.specs.Life.{Life}
 use Rattle.sa_laws.specs.Readings.{Readings, running_of, life_of}
@@ -48,7 +48,7 @@ module _ (set : Setting) (e : ℕ) (u : Package) (cs : Contexts Context) (h : Is
     (w : WorkloadView) (number : ℕ) (p : ProcNo) (life : Life) (runs : running_of r p ≡ Some a) (there : life_of r a ≡ Some life)
     (of : life.space ≡ s)
     (known : s.0 < length r.state.spaces) (ends : section_in (Code f) ≡ None)
-    (state : State) (out : section_in state ≡ None) (bare : carried_by state ≡ None) (no_copy : in_copy state ≡ false) where
+    (state : ContextState) (out : section_in state ≡ None) (bare : carried_by state ≡ None) (no_copy : in_copy state ≡ false) where
   abbrev c : Context
   c = record { state = Code f; sections = fs; work = wk }
 

@@ -23,7 +23,7 @@ use Rattle.sa_package_model.specs.Context.{section_in, at_copy}
 use Rattle.sa_package_model.specs.Rules.{placed, with_shared}
 use Rattle.sa_package_model.specs.Stands.{IsStanding}
 use Rattle.sa_package_model.specs.declared.context.Context.{Context}
-use Rattle.sa_package_model.specs.declared.context.State.TheVariants.{Code, Work}
+use Rattle.sa_package_model.specs.declared.context.ContextState.TheVariants.{Code, Work}
 use Rattle.sa_package_model.specs.declared.package.Package.{Package}
 use Rattle.sa_laws.specs.Life.{Life, with_cont}
 use Rattle.sa_laws.specs.Locks.{CanCont, WithFirst, KeepsLocks}

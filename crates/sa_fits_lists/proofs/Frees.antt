@@ -18,8 +18,8 @@ use Rattle.sa_package_model.specs.Context.{carried_by, section_in, at_copy}
 use Rattle.sa_package_model.specs.Rules.{with_package}
 use Rattle.sa_package_model.specs.Stands.{IsStanding}
 use Rattle.sa_package_model.specs.declared.context.Context.{Context}
-use Rattle.sa_package_model.specs.declared.context.State.{State}
-use Rattle.sa_package_model.specs.declared.context.State.TheVariants.{Code}
+use Rattle.sa_package_model.specs.declared.context.ContextState.{ContextState}
+use Rattle.sa_package_model.specs.declared.context.ContextState.TheVariants.{Code}
 use Rattle.sa_package_model.specs.declared.package.Package.{Package}
 use Rattle.sa_laws.specs.Life.{Life, without_lock}
 use Rattle.sa_laws.specs.Locks.{CanFree, WithFirst, KeepsLocks}
@@ -61,7 +61,7 @@ module _ (set : Setting) (e : ℕ) (u : Package) (cs : Contexts Context) (h : Is
 
   -- after it the context is between routines, or at its copy's end
   module _ (pushes : f.pushed ≡ None)
-      (state : State) (out : section_in state ≡ None) (carries : carried_by state ≡ f.thread) (copies : in_copy state ≡ nat_le 8 f.pc) where
+      (state : ContextState) (out : section_in state ≡ None) (carries : carried_by state ≡ f.thread) (copies : in_copy state ≡ nat_le 8 f.pc) where
     abbrev new : Context
     new = record { state = state; sections = fs; work = wk }
 

@@ -38,7 +38,7 @@ use Rattle.sa_package_model.specs.Hands.{threads_of}
 use Rattle.sa_package_model.specs.Rules.{placed, with_shared, load}
 use Rattle.sa_package_model.specs.Stands.{IsStanding}
 use Rattle.sa_package_model.specs.declared.context.Context.{Context}
-use Rattle.sa_package_model.specs.declared.context.State.TheVariants.{Code}
+use Rattle.sa_package_model.specs.declared.context.ContextState.TheVariants.{Code}
 use Rattle.sa_package_model.specs.declared.package.Package.{Package}
 use Rattle.sa_laws.specs.Life.{Life, first_lock, change_first, with_first, ran}
 use Rattle.sa_laws.specs.Locks.{CanRun, WithFirst, KeepsLocks, TakesNext, next_thread, newest, oldest, threads_in as listed_in}

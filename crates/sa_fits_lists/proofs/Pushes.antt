@@ -34,7 +34,7 @@ use Rattle.sa_package_model.specs.Hands.{threads_in, threads_of}
 use Rattle.sa_package_model.specs.Rules.{placed, with_shared, load}
 use Rattle.sa_package_model.specs.Stands.{IsStanding}
 use Rattle.sa_package_model.specs.declared.context.Context.{Context}
-use Rattle.sa_package_model.specs.declared.context.State.TheVariants.{Code}
+use Rattle.sa_package_model.specs.declared.context.ContextState.TheVariants.{Code}
 use Rattle.sa_package_model.specs.declared.package.Package.{Package}
 use Rattle.sa_laws.specs.Life.{Life, Lock, first_lock, change_first, readied}
 use Rattle.sa_laws.specs.Locks.{CanReady, WithFirst, KeepsLocks}

@@ -23,7 +23,7 @@ use Rattle.sa_package_model.proofs.Holding.{own_work}
 use Rattle.sa_package_model.specs.Rules.{with_package, with_shared, pop_of, push_of}
 use Rattle.sa_package_model.specs.Stands.{IsStanding}
 use Rattle.sa_package_model.specs.declared.context.Context.{Context}
-use Rattle.sa_package_model.specs.declared.context.State.TheVariants.{Code, Work, Look}
+use Rattle.sa_package_model.specs.declared.context.ContextState.TheVariants.{Code, Work, Look}
 use Rattle.sa_package_model.specs.declared.package.Package.{Package}
 use Rattle.sa_laws.specs.Life.{Life}
 use Rattle.sa_laws.specs.Locks.{TakesFor, IsFirstOpen, KeepsLocks}

@@ -32,7 +32,7 @@ use Rattle.sa_package_model.specs.Hands.{sections_of, threads_of, name_of}
 use Rattle.sa_package_model.specs.Rules.{placed, load, thread_alone, took_over}
 use Rattle.sa_package_model.specs.Stands.{IsStanding}
 use Rattle.sa_package_model.specs.declared.context.Context.{Context}
-use Rattle.sa_package_model.specs.declared.context.State.TheVariants.{Work}
+use Rattle.sa_package_model.specs.declared.context.ContextState.TheVariants.{Work}
 use Rattle.sa_package_model.specs.declared.package.Package.{Package}
 use Rattle.sa_laws.specs.Life.{Life, inherits, bereft, inherited}
 use Rattle.sa_laws.specs.Readings.{Readings, running_of, life_of, untold_of, load_of, stopped_thread, untold_thread}

@@ -34,7 +34,7 @@ use Rattle.sa_package_model.specs.Rules.{placed, pair, did, coded_by, with_share
 use Rattle.sa_package_model.specs.Stands.{Fits as FitsOp, StandsAt}
 use Rattle.sa_package_model.specs.Step.{stepped}
 use Rattle.sa_package_model.specs.declared.context.Context.{Context}
-use Rattle.sa_package_model.specs.declared.context.State.TheVariants.{Code}
+use Rattle.sa_package_model.specs.declared.context.ContextState.TheVariants.{Code}
 use Rattle.sa_package_model.specs.declared.package.Package.{Package}
 use Rattle.sa_laws.specs.Event.{Event}
 use Rattle.sa_laws.specs.History.{is_inside, is_free, stepped as ends}

@@ -21,7 +21,7 @@ use Rattle.sa_abstract.specs.Setting.{Setting}
 use Rattle.sa_package_model.proofs.Views.{has_copy}
 use Rattle.sa_package_model.specs.Step.{stepped}
 use Rattle.sa_package_model.specs.declared.context.Context.{Context}
-use Rattle.sa_package_model.specs.declared.context.State.TheVariants.{Code}
+use Rattle.sa_package_model.specs.declared.context.ContextState.TheVariants.{Code}
 use Rattle.sa_package_model.specs.declared.package.Package.{Package}
 use Rattle.sa_laws.specs.Life.{Life}
 use Rattle.sa_laws.specs.Readings.{Readings, is_resident}

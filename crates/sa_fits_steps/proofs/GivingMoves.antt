@@ -24,8 +24,8 @@ use Rattle.sa_package_model.specs.Rules.{owed, settled}
 use Rattle.sa_package_model.specs.Stands.{IsStanding}
 use Rattle.sa_package_model.specs.Step.{answered}
 use Rattle.sa_package_model.specs.declared.context.Context.{Context}
-use Rattle.sa_package_model.specs.declared.context.State.{State}
-use Rattle.sa_package_model.specs.declared.context.State.TheVariants.{Return}
+use Rattle.sa_package_model.specs.declared.context.ContextState.{ContextState}
+use Rattle.sa_package_model.specs.declared.context.ContextState.TheVariants.{Return}
 use Rattle.sa_package_model.specs.declared.package.Package.{Package}
 use Rattle.sa_laws.specs.History.{after_records, is_up}
 use Rattle.sa_laws.specs.Life.{Life}
@@ -161,7 +161,7 @@ module _ (set : Setting) (e : ℕ) (u : Package) (cs : Contexts Context) (w : Wo
       given x has = i.given x (subst (λ xs. Contains xs x) (sym at) has)
 
   -- A CONTEXT SETTLES AGAIN where nothing is owed any more
-  module _ (old : State) (t : Option ThreadNo) (i : IsScene set e u cs w r p a life (record { state = old; sections = []; work = None }) seen)
+  module _ (old : ContextState) (t : Option ThreadNo) (i : IsScene set e u cs w r p a life (record { state = old; sections = []; work = None }) seen)
       (out : section_in old ≡ None) (no_copy : in_copy old ≡ false) (carries : carried_by old ≡ t) (yields : at_yield old ≡ false)
       (looks : looks_of old ≡ 0)
       -- as it settles
@@ -170,7 +170,7 @@ module _ (set : Setting) (e : ℕ) (u : Package) (cs : Contexts Context) (w : Wo
     abbrev was : Context
     was = record { state = old; sections = []; work = None }
 
-    abbrev state : State
+    abbrev state : ContextState
     state = settled_to t false (is_some (owed u seen)) (has_bulk seen)
 
     abbrev new : Context

@@ -21,8 +21,8 @@ use Rattle.sa_package_model.specs.Context.{carried_by, section_in, settled_to, h
 use Rattle.sa_package_model.specs.Rules.{pair, owed, settled, asks, load}
 use Rattle.sa_package_model.specs.Step.{fast_calls, answered}
 use Rattle.sa_package_model.specs.declared.context.Context.{Context}
-use Rattle.sa_package_model.specs.declared.context.State.{State}
-use Rattle.sa_package_model.specs.declared.context.State.TheVariants.{Return}
+use Rattle.sa_package_model.specs.declared.context.ContextState.{ContextState}
+use Rattle.sa_package_model.specs.declared.context.ContextState.TheVariants.{Return}
 use Rattle.sa_package_model.specs.declared.package.Package.{Package}
 use Rattle.sa_laws.specs.Demand.{OwesNothing}
 use Rattle.sa_laws.specs.History.{is_inside, after_event}
@@ -140,7 +140,7 @@ module _ (set : Setting) (e : ℕ) (u : Package) (cs : Contexts Context) (w : Wo
     by (asked.InterruptOwn q) h = absurd h.1
 
   -- A CONTEXT SETTLES AGAIN where nothing is owed any more
-  module _ (old : State) (t : Option ThreadNo) (y : IsFastScene set e u cs w r p a life (record { state = old; sections = []; work = None }) seen)
+  module _ (old : ContextState) (t : Option ThreadNo) (y : IsFastScene set e u cs w r p a life (record { state = old; sections = []; work = None }) seen)
       (out : section_in old ≡ None) (no_copy : in_copy old ≡ false) (carries : carried_by old ≡ t) (yields : at_yield old ≡ false)
       (looks : looks_of old ≡ 0)
       -- as it settles

@@ -17,8 +17,8 @@ use Rattle.sa_package_model.specs.Context.{section_in}
 use Rattle.sa_package_model.specs.Rules.{load, owed, is_idle}
 use Rattle.sa_package_model.specs.Stands.{IsStanding}
 use Rattle.sa_package_model.specs.declared.context.Context.{Context}
-use Rattle.sa_package_model.specs.declared.context.State.{State}
-use Rattle.sa_package_model.specs.declared.context.State.TheVariants.{Look}
+use Rattle.sa_package_model.specs.declared.context.ContextState.{ContextState}
+use Rattle.sa_package_model.specs.declared.context.ContextState.TheVariants.{Look}
 use Rattle.sa_package_model.specs.declared.package.Package.{Package}
 use Rattle.sa_laws.specs.Life.{Life}
 use Rattle.sa_laws.specs.Readings.{Readings, HasNothing, NoneIsOpen, life_of, carried_by as runs_by, demand_of, load_of, usable}
@@ -35,7 +35,7 @@ use Rattle.sa_fits_lists.proofs.OpenLists.{sought-none_opens}
 use Rattle.sa_fits_steps.proofs.Scenes.{IsOwnMarked}
 
 module _ (set : Setting) (e : ℕ) (u : Package) (cs : Contexts Context) (h : IsStanding set e u cs) (s : SpaceNo) (r : Readings) (k : Holds s r u cs)
-    (a : ActNo) (state : State) (is : cs a.0 ≡ Some (record { state = state; sections = []; work = None })) (life : Life) (there : life_of r a ≡ Some life)
+    (a : ActNo) (state : ContextState) (is : cs a.0 ≡ Some (record { state = state; sections = []; work = None })) (life : Life) (there : life_of r a ≡ Some life)
     (stays : is_gone (stage_of r s a life) ≡ false) (outside : section_in state ≡ None) (no_copy : in_copy state ≡ false) (w : WorkloadView)
     (seen : Seen) (demand : seen.demand ≡ demand_of r s) where
   abbrev c : Context

@@ -27,7 +27,7 @@ use Rattle.sa_package_model.specs.Context.{settled_to, has_bulk}
 use Rattle.sa_package_model.specs.Rules.{pair, did, with_package, owed, asks, is_idle, pop_of, popping_by, looked_by, own_list}
 use Rattle.sa_package_model.specs.Step.{stepped, answered}
 use Rattle.sa_package_model.specs.declared.context.Context.{Context}
-use Rattle.sa_package_model.specs.declared.context.State.TheVariants.{Code, Hint, Look}
+use Rattle.sa_package_model.specs.declared.context.ContextState.TheVariants.{Code, Hint, Look}
 use Rattle.sa_package_model.specs.declared.package.Package.{Package}
 use Rattle.sa_laws.specs.Event.{Event}
 use Rattle.sa_laws.specs.History.{is_inside, stepped as ends, after_records}

@@ -16,7 +16,7 @@ use Rattle.sa_abstract.specs.declared.answer.Step.TheVariants as asked
 use Rattle.sa_package_model.specs.Rules.{pair, owed, asks, is_idle, own_list}
 use Rattle.sa_package_model.specs.Step.{stepped}
 use Rattle.sa_package_model.specs.declared.context.Context.{Context}
-use Rattle.sa_package_model.specs.declared.context.State.TheVariants.{Hint, Look}
+use Rattle.sa_package_model.specs.declared.context.ContextState.TheVariants.{Hint, Look}
 use Rattle.sa_package_model.specs.declared.package.Package.{Package}
 use Rattle.sa_laws.specs.Life.{Life}
 use Rattle.sa_laws.specs.Readings.{ready_of, Readings, demand_of, carried_by as runs_by}

@@ -32,7 +32,7 @@ use Rattle.sa_package_model.specs.Context.{at_copy}
 use Rattle.sa_package_model.specs.Rules.{coded_by, with_shared, used_by}
 use Rattle.sa_package_model.specs.Stands.{StandsAt}
 use Rattle.sa_package_model.specs.declared.context.Context.{Context}
-use Rattle.sa_package_model.specs.declared.context.State.TheVariants.{Code, User}
+use Rattle.sa_package_model.specs.declared.context.ContextState.TheVariants.{Code, User}
 use Rattle.sa_package_model.specs.declared.package.Package.{Package}
 use Rattle.sa_laws.specs.Life.{Life, some_lock, first_lock, held_with}
 use Rattle.sa_laws.specs.Readings.{Readings, life_of, has_hand, is_resident}

@@ -18,7 +18,7 @@ use Rattle.sa_abstract.specs.Setting.{Setting}
 use Rattle.sa_package_model.specs.Rules.{with_shared}
 use Rattle.sa_package_model.specs.Step.{stepped}
 use Rattle.sa_package_model.specs.declared.context.Context.{Context}
-use Rattle.sa_package_model.specs.declared.context.State.TheVariants.{User}
+use Rattle.sa_package_model.specs.declared.context.ContextState.TheVariants.{User}
 use Rattle.sa_package_model.specs.declared.package.Package.{Package}
 use Rattle.sa_laws.specs.Life.{Life}
 use Rattle.sa_laws.specs.Readings.{Readings}

@@ -32,7 +32,7 @@ use Rattle.sa_package_model.specs.Rules.{pair, did, used_by, with_shared}
 use Rattle.sa_package_model.specs.Stands.{IsStanding}
 use Rattle.sa_package_model.specs.Step.{stepped}
 use Rattle.sa_package_model.specs.declared.context.Context.{Context}
-use Rattle.sa_package_model.specs.declared.context.State.TheVariants.{User}
+use Rattle.sa_package_model.specs.declared.context.ContextState.TheVariants.{User}
 use Rattle.sa_package_model.specs.declared.package.Package.{Package}
 use Rattle.sa_laws.specs.Effect.{Effect, effect_of, local_effect}
 use Rattle.sa_laws.specs.Event.{Event}

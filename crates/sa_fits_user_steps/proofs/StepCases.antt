@@ -15,8 +15,8 @@ use Rattle.sa_package_model.specs.Context.{carried_by, section_in, settled_to, h
 use Rattle.sa_package_model.specs.Rules.{pair, asks, owed, settled}
 use Rattle.sa_package_model.specs.Step.{answered, hinted, if_bulk, if_owed, stepped, stepped_at}
 use Rattle.sa_package_model.specs.declared.context.Context.{Context}
-use Rattle.sa_package_model.specs.declared.context.State.{State}
-use Rattle.sa_package_model.specs.declared.context.State.TheVariants.{Code, Work, Hint, Return, User, Look}
+use Rattle.sa_package_model.specs.declared.context.ContextState.{ContextState}
+use Rattle.sa_package_model.specs.declared.context.ContextState.TheVariants.{Code, Work, Hint, Return, User, Look}
 use Rattle.sa_package_model.specs.declared.package.Package.{Package}
 use Rattle.sa_laws.specs.Life.{Life}
 use Rattle.sa_laws.specs.Readings.{Readings}
@@ -25,7 +25,7 @@ use Rattle.sa_fits_steps.proofs.GivingMoves.{settled-scene}
 use Rattle.sa_fits_steps.proofs.Scenes.{IsScene}
 
 -- a context in this state, with nothing left to do
-abbrev pub calm : State → Context
+abbrev pub calm : ContextState → Context
 calm state = record { state = state; sections = []; work = None }
 
 -- it settles with this thread
@@ -33,7 +33,7 @@ abbrev pub settles_to : Package → Seen → Option ThreadNo → Context
 settles_to u seen t = calm (settled_to t false (is_some (owed u seen)) (has_bulk seen))
 
 -- WHERE A HINT OR A RETURN is no longer owed the context settles again, with this thread, and then makes its step.
-pub record SettlesAgain (u : Package) (seen : Seen) (old : State) (t : Option ThreadNo) : Type 0 where
+pub record SettlesAgain (u : Package) (seen : Seen) (old : ContextState) (t : Option ThreadNo) : Type 0 where
   pub out : section_in old ≡ None
   pub no_copy : in_copy old ≡ false
   pub carries : carried_by old ≡ t
@@ -105,7 +105,7 @@ module _ (set : Setting) (e : ℕ) (u : Package) (w : WorkloadView) (r : Reading
     pub give : (cs : Contexts Context) → IsScene set e u cs w r p a life (calm Return) seen → has_bulk seen ≡ true → Goal cs (calm Return)
     pub instr : (cs : Contexts Context) (t : ThreadNo) → IsScene set e u cs w r p a life (calm (User t)) seen → Goal cs (calm (User t))
     pub look : (cs : Contexts Context) (looks : ℕ) → IsScene set e u cs w r p a life (calm (Look looks)) seen → Goal cs (calm (Look looks))
-    pub again : (cs : Contexts Context) (old : State) (t : Option ThreadNo) → IsScene set e u cs w r p a life (calm old) seen → SettlesAgain u seen old t
+    pub again : (cs : Contexts Context) (old : ContextState) (t : Option ThreadNo) → IsScene set e u cs w r p a life (calm old) seen → SettlesAgain u seen old t
         → Goal (put cs a.0 (Some (settles_to u seen t))) (settles_to u seen t) → Goal cs (calm old)
 
   module _ (Goal : Contexts Context → Context → Type 0) (cases : StepCases Goal) where
@@ -124,7 +124,7 @@ module _ (set : Setting) (e : ℕ) (u : Package) (w : WorkloadView) (r : Reading
     calm-case cs None None true owes bulk i = cases.give cs i bulk
     calm-case cs None None false owes bulk i = cases.look cs 0 i
 
-    again-case : (cs : Contexts Context) (old : State) (t : Option ThreadNo) → Scene cs (calm old) → SettlesAgain u seen old t → Goal cs (calm old)
+    again-case : (cs : Contexts Context) (old : ContextState) (t : Option ThreadNo) → Scene cs (calm old) → SettlesAgain u seen old t → Goal cs (calm old)
     again-case cs old t i z =
         cases.again cs old t i z (calm-case (put cs a.0 (Some (settles_to u seen t))) t (owed u seen) (has_bulk seen) refl refl
         (settled-scene set e u cs w r p a life seen old t i z.out z.no_copy z.carries z.yields z.looks z.settles))
@@ -137,7 +137,7 @@ module _ (set : Setting) (e : ℕ) (u : Package) (w : WorkloadView) (r : Reading
     return-case cs true bulk i = cases.give cs i bulk
     return-case cs false few i = again-case cs Return None i (return-again u seen few)
 
-    pub step-cases : (cs : Contexts Context) (state : State) (fs : List Frame) (wk : Option ThreadNo)
+    pub step-cases : (cs : Contexts Context) (state : ContextState) (fs : List Frame) (wk : Option ThreadNo)
         → IsScene set e u cs w r p a life (record { state = state; sections = fs; work = wk }) seen
         → Goal cs (record { state = state; sections = fs; work = wk })
     step-cases cs (Code f) fs wk i = cases.code cs f fs wk i

@@ -33,8 +33,8 @@ use Rattle.sa_package_model.specs.Context.{carried_by, section_in, has_some, is_
 use Rattle.sa_package_model.specs.Rules.{settled, pair, did, with_shared, owed, used_by, stays_user}
 use Rattle.sa_package_model.specs.Step.{stepped}
 use Rattle.sa_package_model.specs.declared.context.Context.{Context}
-use Rattle.sa_package_model.specs.declared.context.State.{State}
-use Rattle.sa_package_model.specs.declared.context.State.TheVariants.{Work, User}
+use Rattle.sa_package_model.specs.declared.context.ContextState.{ContextState}
+use Rattle.sa_package_model.specs.declared.context.ContextState.TheVariants.{Work, User}
 use Rattle.sa_package_model.specs.declared.package.Package.{Package}
 use Rattle.sa_laws.specs.Event.{Event}
 use Rattle.sa_laws.specs.History.{is_inside, stepped as ends, after_records, goes_on as stays_on, is_up}
@@ -155,7 +155,7 @@ outs_plain s t None = (refl, tt)
 outs_plain s t (Some v) = (refl, tt)
 
 -- a thread that goes on is at its next instruction, or its context has threads to make ready
-abbrev pub goes_state : ThreadNo → Option ThreadNo → State
+abbrev pub goes_state : ThreadNo → Option ThreadNo → ContextState
 goes_state t None = User t
 goes_state t (Some first) = Work (Some t)
 
@@ -295,7 +295,7 @@ module _ (set : Setting) (e : ℕ) (u : Package) (cs : Contexts Context) (w : Wo
       by End is = tt
 
     -- THE STEP, whatever the context is after it
-    module _ (state : State) (out : section_in state ≡ None) (no_copy : in_copy state ≡ false)
+    module _ (state : ContextState) (out : section_in state ≡ None) (no_copy : in_copy state ≡ false)
         (ends_so : ((o.answer ≡ rans.Goes) × (carried_by state ≡ Some t)) ⊎ ((o.answer ≡ rans.Leaves) × (carried_by state ≡ None)))
         (step : stepped u seen (record { state = User t; sections = []; work = None }) ≡ did
         (pair with_ins (record { state = state; sections = []; work = o.work })) (run_says u.def seen.pages u.shared t)) where

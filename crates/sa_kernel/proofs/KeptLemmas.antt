@@ -17,7 +17,7 @@ use Rattle.sa_kernel.specs.declared.machine.Machine.{Machine}
 use Rattle.sa_kernel_model.specs.declared.entry.Entry.{Entry}
 use Rattle.sa_kernel_model.specs.declared.entry.Given.{Given}
 use Rattle.sa_kernel_model.specs.declared.entry.Given.TheVariants.{Upcall}
-use Rattle.sa_kernel_model.specs.State.{State, Scene}
+use Rattle.sa_kernel_model.specs.State.{KernelState, Scene}
 use Rattle.sa_kernel_model.specs.Closing.{closed}
 use Rattle.sa_kernel_model.specs.Entries.{entered_as, after_fetch}
 use Rattle.sa_kernel_model.specs.Opening.{opening_state, first_wants, opened}
@@ -85,19 +85,19 @@ module _ {C : Type 0} where
   kept-fetch m new room last is spends kept =
       let begun : new.devices.ios.begun ≤ m.devices.ios.begun = omega (arith, spends.count) in
       record {
-        sound = subst (λ (k : State C). IsSound k) (sym is) (sound-after_fetch (state_of m).telling (state_of m) refl kept.sound);
+        sound = subst (λ (k : KernelState C). IsSound k) (sym is) (sound-after_fetch (state_of m).telling (state_of m) refl kept.sound);
         notices = omega (arith, spends.notices, kept.notices);
         acts = omega (arith, spends.acts, kept.acts);
         ios = omega (arith, spends.ios, kept.ios);
         used = omega (arith, spends.used, kept.used);
         begun = omega (arith, kept.begun);
         pending = (let h = kept.pending in let less = (owed-after_fetch (state_of m).telling (state_of m) refl).1 in let now = ap pending_count is in omega arith);
-        prompt = subst (λ (k : State C). IsPrompt k) (sym is) (prompt-after_fetch (state_of m).telling (state_of m) kept.prompt);
+        prompt = subst (λ (k : KernelState C). IsPrompt k) (sym is) (prompt-after_fetch (state_of m).telling (state_of m) kept.prompt);
         last = kept.last;
       }
 
   pub told-fetch : (m new : Machine C) (s : ℕ) → state_of new ≡ after_fetch (state_of m).telling (state_of m) → AreClaimed (state_of m) s → AreClaimed (state_of new) s
-  told-fetch m new s is claimed = subst (λ (k : State C). AreClaimed k s) (sym is) (claimed-after_fetch (state_of m).telling (state_of m) s refl claimed)
+  told-fetch m new s is claimed = subst (λ (k : KernelState C). AreClaimed k s) (sym is) (claimed-after_fetch (state_of m).telling (state_of m) s refl claimed)
 
   pub owed-fetch : (m new : Machine C) → state_of new ≡ after_fetch (state_of m).telling (state_of m) → owed_items (state_of new) ≤ owed_items (state_of m)
   owed-fetch m new is = let less = (owed-after_fetch (state_of m).telling (state_of m) refl).0 in let now = ap owed_items is in omega arith
@@ -184,13 +184,13 @@ module _ {C : Type 0} where
   pub telling-new : (m new : Machine C) (tn : Recorded) (w : WorkloadView) (items : List Item) → state_of m ≡ opening_state w
       → scene_of new tn ≡ closed 0 (proc_no 0) (record { state = state_of m; items = items }) → (state_of new).telling ≡ []
   telling-new m new tn w items opens is =
-      ap (λ (x : Scene C). x.state.telling) is ∙ (stays-closed 0 (proc_no 0) (record { state = state_of m; items = items })).telling ∙ ap (λ (k : State C). k.telling) opens
+      ap (λ (x : Scene C). x.state.telling) is ∙ (stays-closed 0 (proc_no 0) (record { state = state_of m; items = items })).telling ∙ ap (λ (k : KernelState C). k.telling) opens
 
   pub kept-start : (m new : Machine C) (tn : Recorded) (w : WorkloadView) (items : List Item) → IsWorkload w → state_of m ≡ opening_state w → used m ≡ 0
       → scene_of new tn ≡ closed 0 (proc_no 0) (record { state = state_of m; items = items }) → Spends m new 0 0 0 → IsKept new 0 0
   kept-start m new tn w items ok opens none is spends =
-      let sound : IsSound (state_of m) = subst (λ (k : State C). IsSound k) (sym opens) (sound-opening w ok) in
-      let begun : m.devices.ios.begun ≡ 0 = ap (λ (k : State C). k.begun) opens in
+      let sound : IsSound (state_of m) = subst (λ (k : KernelState C). IsSound k) (sym opens) (sound-opening w ok) in
+      let begun : m.devices.ios.begun ≡ 0 = ap (λ (k : KernelState C). k.begun) opens in
       record {
         sound = sound-at (scene_of new tn) (closed 0 (proc_no 0) (record { state = state_of m; items = items })) is
             (sound-closed 0 (proc_no 0) (record { state = state_of m; items = items }) sound);
@@ -208,8 +208,8 @@ module _ {C : Type 0} where
   pub opened-is : (m : Machine C) (w : WorkloadView) (items : List Item) (x : Scene C) → state_of m ≡ opening_state w → items ≡ []
       → x ≡ closed 0 (proc_no 0) (record { state = state_of m; items = items ++ items_at 0 (proc_no 0) (first_wants 0 (length m.demands.items)) }) → x ≡ opened w
   opened-is m w items x opens empty is =
-      let F : State C → List Item → ℕ → Scene C = λ k xs n. closed 0 (proc_no 0) (record { state = k; items = xs ++ items_at 0 (proc_no 0) (first_wants 0 n) }) in
+      let F : KernelState C → List Item → ℕ → Scene C = λ k xs n. closed 0 (proc_no 0) (record { state = k; items = xs ++ items_at 0 (proc_no 0) (first_wants 0 n) }) in
       let one : ℕ = 1 in
       is ∙ ap (λ xs. F (state_of m) xs (length m.demands.items)) empty
-      ∙ ap (λ (k : State C). F k [] (length k.demands)) opens
+      ∙ ap (λ (k : KernelState C). F k [] (length k.demands)) opens
       ∙ ap (λ n. F (opening_state w) [] n) (length-replicate (length w.spaces) one)

@@ -6,7 +6,7 @@ use Rattle.sa_base.specs.Recorded.{Recorded}
 use Rattle.sa_kernel.specs.declared.machine.Machine.{Machine}
 use Rattle.sa_kernel_model.specs.declared.entry.Entry.{Entry}
 use Rattle.sa_kernel_model.specs.declared.entry.Given.{Given}
-use Rattle.sa_kernel_model.specs.State.{State, Scene}
+use Rattle.sa_kernel_model.specs.State.{KernelState, Scene}
 use Rattle.sa_kernel_model.specs.Closing.{closed}
 use Rattle.sa_kernel_model.specs.Entries.{entered, entered_as, after_fetch}
 use Rattle.sa_kernel_model.specs.Enters.{Enters}
@@ -44,5 +44,5 @@ module _ {C : Type 0} where
       → state_of new ≡ after_fetch (state_of m).telling (state_of m) → KeepsHistories (kernel_of v) (state_of new)
   lawful-fetch v m new room final view is =
       subst (λ (w : KernelView C). KeepsHistories (kernel_of w) (state_of new)) view
-      (λ test w events items history. subst (λ (k : State C). IsHistory test w events (record { state = k; items = items })) (sym is)
+      (λ test w events items history. subst (λ (k : KernelState C). IsHistory test w events (record { state = k; items = items })) (sym is)
       (history-fetched test w events (record { state = state_of m; items = items }) history))

@@ -18,7 +18,7 @@ use Rattle.sa_assign.specs.Aims.{is_aim}
 use Rattle.sa_base.specs.Pages.{has_page}
 use Rattle.sa_kernel_model.specs.declared.entry.Given.{Given}
 use Rattle.sa_kernel_model.specs.declared.entry.Given.TheVariants.{Nothing, Upcall}
-use Rattle.sa_kernel_model.specs.State.{State, Scene, owner_of, aim_of, life_of, can_upcall}
+use Rattle.sa_kernel_model.specs.State.{KernelState, Scene, owner_of, aim_of, life_of, can_upcall}
 use Rattle.sa_kernel_model.specs.Parts.{with_line, leave, moved, upcall, go_to, go_to_by}
 use Rattle.sa_kernel_model.specs.Entries.{stopped, go_to_aim, interrupted, told_or_left, block_begun, blocked, blocked_by}
 use Rattle.sa_kernel_model.specs.Enters.{Enters, given_by, upcalls_for, upcalls_in, untold_count}
@@ -108,7 +108,7 @@ module _ {C : Type 0} where
   unused-stopped e p (Some s) (Some a) None x n none = none
   unused-stopped e p (Some s) (Some a) (Some h) x n none = unused-held x.state.acts a.0 n h none
 
-  upcalls-same : (k m : State C) (aim : Option SpaceNo) → k.pages ≡ m.pages → upcalls_for k aim ≡ upcalls_for m aim
+  upcalls-same : (k m : KernelState C) (aim : Option SpaceNo) → k.pages ≡ m.pages → upcalls_for k aim ≡ upcalls_for m aim
   upcalls-same k m None same = refl
   upcalls-same k m (Some s) same = ap (λ pages. has_page (slice_index pages s.0) 0) same
 

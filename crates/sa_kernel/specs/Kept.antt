@@ -5,7 +5,7 @@ use Rattle.sa_base.specs.declared.number.SpaceNo.{SpaceNo}
 use Rattle.sa_base.specs.declared.limits.TheConstants.{MAX_EVENTS}
 use Rattle.sa_base.specs.Recorded.{Recorded}
 use Rattle.sa_kernel.specs.declared.machine.Machine.{Machine}
-use Rattle.sa_kernel_model.specs.State.{State, Scene, owner_of, line_of}
+use Rattle.sa_kernel_model.specs.State.{KernelState, Scene, owner_of, line_of}
 use Rattle.sa_kernel_model.specs.Closing.{has_low_line}
 use Rattle.sa_kernel_model.specs.Seen.{low_of}
 use Rattle.sa_kernel_model.specs.Owed.{pending_count}
@@ -31,11 +31,11 @@ pub record IsKept {C : Type 0} (m : Machine C) (room event : ℕ) : Type 0 where
   pub last : event ≤ MAX_EVENTS
 
 -- of each space, what it sees of low lines
-abbrev pub AreLow : {C : Type 0} → State C → List ℕ → Type 0
+abbrev pub AreLow : {C : Type 0} → KernelState C → List ℕ → Type 0
 AreLow k lows = (s : SpaceNo) → s.0 < length k.demands → slice_index lows s.0 ≡ low_of k s
 
 -- the space that owns a processor whose line is low, if this is one
-abbrev pub IsLowOwner : {C : Type 0} → State C → ProcNo → Option SpaceNo → Type 0
+abbrev pub IsLowOwner : {C : Type 0} → KernelState C → ProcNo → Option SpaceNo → Type 0
 IsLowOwner k p None = (s : ℕ) → has_low_line k s p.0 ≡ false
 IsLowOwner k p (Some s) = (owner_of k p ≡ Some s) × (line_of k p ≡ None)
 
@@ -46,7 +46,7 @@ pub record IsReady {C : Type 0} (m : Machine C) (lows : List ℕ) (room event : 
 
 module _ {C : Type 0} where
   -- the state of a kernel
-  abbrev pub kernel_of : KernelView C → State C
+  abbrev pub kernel_of : KernelView C → KernelState C
   kernel_of v = state_of v.parts
 
   -- the scene of a kernel and a trace

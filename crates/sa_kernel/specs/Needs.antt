@@ -4,18 +4,18 @@ use Rattle.sa_base.specs.declared.number.ProcNo.{ProcNo}
 use Rattle.sa_base.specs.declared.number.SpaceNo.{SpaceNo}
 use Rattle.sa_base.specs.declared.limits.TheConstants.{MAX_EVENTS}
 use Rattle.sa_kernel.specs.declared.machine.Machine.{Machine}
-use Rattle.sa_kernel_model.specs.State.{State}
+use Rattle.sa_kernel_model.specs.State.{KernelState}
 use Rattle.sa_kernel_model.specs.Sound.{HasSizes}
 use Rattle.sa_kernel.specs.View.{used}
 
 module _ {C : Type 0} where
   -- the lists have their sizes, and this is one of the processors
-  pub record HasProc (k : State C) (p : ProcNo) : Type 0 where
+  pub record HasProc (k : KernelState C) (p : ProcNo) : Type 0 where
     pub sizes : HasSizes k
     pub within : p.0 < length k.lives
 
   -- the lists have their sizes, and this is one of the spaces
-  pub record HasSpace (k : State C) (s : SpaceNo) : Type 0 where
+  pub record HasSpace (k : KernelState C) (s : SpaceNo) : Type 0 where
     pub sizes : HasSizes k
     pub within : s.0 < length k.demands
 

@@ -3,10 +3,10 @@ use Rattle.std.specs.Prelude.{ℕ, ◌+◌, ◌≤◌}
 use Rattle.sa_base.specs.Recorded.{Recorded}
 use Rattle.sa_acts.specs.Table.{acts_of}
 use Rattle.sa_kernel.specs.declared.machine.Machine.{Machine}
-use Rattle.sa_kernel_model.specs.State.{State, Scene}
+use Rattle.sa_kernel_model.specs.State.{KernelState, Scene}
 
 module _ {C : Type 0} where
-  abbrev pub state_of : Machine C → State C
+  abbrev pub state_of : Machine C → KernelState C
   state_of m = record {
     fixed = record { priorities = m.priorities.items; fetch = m.fetch; slice = m.slice; evictions = m.devices.evictions };
     assign = m.assign;

@@ -21,7 +21,7 @@ use Rattle.sa_laws.specs.Record.{with_life, after_record}
 use Rattle.sa_laws.specs.History.{arisen}
 use Rattle.sa_laws.specs.Life.{Life, new_life}
 use Rattle.sa_laws.specs.Readings.{Readings, life_of as life_at, running_of, owner_of as owner_in}
-use Rattle.sa_kernel_model.specs.State.{State, life_of}
+use Rattle.sa_kernel_model.specs.State.{KernelState, life_of}
 use Rattle.sa_kernel_model.proofs.NoteLemmas.{AreOnce}
 use Rattle.sa_core_model.specs.Machine.{answered, Machine, seen_on, begun}
 use Rattle.sa_core_model.specs.Standing.{contexts_of, contexts_in, context_in, running}
@@ -51,7 +51,7 @@ module _ {C : Type 0} where
 module _ {U C : Type 0} (level : UserLevel U C) where
   -- Where a context is set aside, or none ran, a fresh activation of the space can begin.
   pub record CanBegin (w : WorkloadView) (e g : ℕ) (p : ProcNo) (s : SpaceNo) (n : ActNo) (lives : List (Option ActNo))
-      (acts : ℕ → Option (Act C)) (us : List (List Note)) (m : Machine U C) (k : State C) (r : Readings) : Type 0 where
+      (acts : ℕ → Option (Act C)) (us : List (List Note)) (m : Machine U C) (k : KernelState C) (r : Readings) : Type 0 where
     pub ok : IsWorkload w
     pub paused : Paused level.stands e p lives acts m
     pub workload : m.workload ≡ w
@@ -71,7 +71,7 @@ module _ {U C : Type 0} (level : UserLevel U C) where
     pub nowhere : (q : ProcNo) → running_of r q ≢ Some n
 
   pub hearing-begun : (w : WorkloadView) (e g : ℕ) (p : ProcNo) (s : SpaceNo) (n : ActNo) (lives : List (Option ActNo))
-      (acts : ℕ → Option (Act C)) (us : List (List Note)) (m : Machine U C) (k : State C) (items : List Item) (r : Readings) (number : ℕ)
+      (acts : ℕ → Option (Act C)) (us : List (List Note)) (m : Machine U C) (k : KernelState C) (items : List Item) (r : Readings) (number : ℕ)
       (u : U) (def : SpaceView) (notes : List Note)
       → CanBegin w e g p s n lives acts us m k r → slice_get m.users s.0 ≡ Some u → slice_get w.spaces s.0 ≡ Some def
       → Tells level.calls level.stands level.keep w e g p s notes (begun level.calls p s (record m { kernel = k; items = items }))

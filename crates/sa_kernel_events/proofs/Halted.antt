@@ -23,7 +23,7 @@ use Rattle.sa_laws.specs.declared.place.Place.TheVariants as place
 use Rattle.sa_laws.specs.Life.{Life}
 use Rattle.sa_laws.specs.Readings.{Readings, running_of, owner_of as owner_in}
 use Rattle.sa_laws.specs.Record.{after_record, stopped_with}
-use Rattle.sa_kernel_model.specs.State.{State, owner_of}
+use Rattle.sa_kernel_model.specs.State.{KernelState, owner_of}
 use Rattle.sa_kernel_model.specs.Parts.{put_aside, with_line}
 use Rattle.sa_kernel_model.proofs.NoteLemmas.{copies}
 use Rattle.sa_kernel_model.proofs.OnceLemmas.{AreApart, apart-noted, apart-claimed, none-of}
@@ -52,7 +52,7 @@ use Rattle.sa_match.proofs.Begun.{begins-now, acts-at, tidy-now, fit-begun, nobo
 
 module _ {U C : Type 0} (level : UserLevel U C) where
   -- The machine before is x, the kernel after the stop or block is k, and what is read after its record is r.
-  pub record IsHalted (w : WorkloadView) (e : ℕ) (p : ProcNo) (n : ActNo) (x : Machine U C) (k : State C) (r : Readings) : Type 0 where
+  pub record IsHalted (w : WorkloadView) (e : ℕ) (p : ProcNo) (n : ActNo) (x : Machine U C) (k : KernelState C) (r : Readings) : Type 0 where
     pub ok : IsWorkload w
     pub workload : x.workload ≡ w
     pub paused : Paused level.stands e p k.lives k.acts (without_context p x)
@@ -67,18 +67,18 @@ module _ {U C : Type 0} (level : UserLevel U C) where
     pub sized : IsSized w r
 
   -- So no life runs there, and the fresh one runs nowhere.
-  pub free-halted : (w : WorkloadView) (e : ℕ) (p : ProcNo) (n : ActNo) (x : Machine U C) (k : State C) (r : Readings)
+  pub free-halted : (w : WorkloadView) (e : ℕ) (p : ProcNo) (n : ActNo) (x : Machine U C) (k : KernelState C) (r : Readings)
       → IsHalted w e p n x k r → running_of r p ≡ None
   free-halted w e p n x k r h = ap (λ (ls : List (Option ActNo)). get_or ls p.0 None) h.running ∙ h.paused.none
 
-  pub nowhere-halted : (w : WorkloadView) (e : ℕ) (p : ProcNo) (n : ActNo) (x : Machine U C) (k : State C) (r : Readings)
+  pub nowhere-halted : (w : WorkloadView) (e : ℕ) (p : ProcNo) (n : ActNo) (x : Machine U C) (k : KernelState C) (r : Readings)
       → IsHalted w e p n x k r → (q : ProcNo) → running_of r q ≢ Some n
   nowhere-halted w e p n x k r h q runs =
       let run = h.paused.alive.run q.0 n (sym (ap (λ (ls : List (Option ActNo)). get_or ls q.0 None) h.running) ∙ runs) in
       none-some (runs_in run.space) (sym h.unused ∙ run.act)
 
   -- No thread runs there then.
-  pub nobody-halted : (w : WorkloadView) (e : ℕ) (p : ProcNo) (n : ActNo) (x : Machine U C) (k : State C) (r : Readings)
+  pub nobody-halted : (w : WorkloadView) (e : ℕ) (p : ProcNo) (n : ActNo) (x : Machine U C) (k : KernelState C) (r : Readings)
       → IsHalted w e p n x k r → runner_on r.state p ≡ None
   nobody-halted w e p n x k r h = nobody-runs r.state p (λ s t is. elim (Rattle.std.proofs.lemmas.Bool.cases_lt s.0 (length w.spaces)) [
     | inl below ↦

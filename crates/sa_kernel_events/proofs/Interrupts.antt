@@ -27,7 +27,7 @@ use Rattle.sa_laws.proofs.Records.{records-append}
 use Rattle.sa_legal.proofs.AppendLemmas.{steps-append}
 use Rattle.sa_kernel_model.specs.declared.entry.Entry.{Entry}
 use Rattle.sa_kernel_model.specs.declared.entry.Entry.TheVariants.{Interrupt}
-use Rattle.sa_kernel_model.specs.State.{State, Scene, owner_of, untold_of}
+use Rattle.sa_kernel_model.specs.State.{KernelState, Scene, owner_of, untold_of}
 use Rattle.sa_kernel_model.specs.Parts.{moved, upcall, go_to_by}
 use Rattle.sa_kernel_model.specs.Closing.{closed}
 use Rattle.sa_kernel_model.specs.Entries.{entered, entered_as}
@@ -115,7 +115,7 @@ rest-some s n false old notes is = cc
 module _ {U C : Type 0} (level : UserLevel U C) where
   -- AN INTERRUPT THAT UPCALLS.
   pub interrupt-up : (w : WorkloadView) (events : List Event) (m : Machine U C) (p : ProcNo) (n : ActNo) (s : SpaceNo)
-      (held : Option (Stopped C)) (first : List Record) (y : State C) (owned : Bool)
+      (held : Option (Stopped C)) (first : List Record) (y : KernelState C) (owned : Bool)
       → (c : IsComposed level w events m) → Stops first
       → let g = m.event + 1 in
       let x : Machine U C = next_event m in

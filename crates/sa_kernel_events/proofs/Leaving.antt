@@ -26,7 +26,7 @@ use Rattle.sa_laws.specs.Upcalls.{fetch_records, leave_records}
 use Rattle.sa_laws.proofs.Records.{records-append}
 use Rattle.sa_legal.proofs.AppendLemmas.{steps-append}
 use Rattle.sa_kernel_model.specs.Entries.{entered, entered_as}
-use Rattle.sa_kernel_model.specs.State.{State, Scene, owner_of, is_fetching}
+use Rattle.sa_kernel_model.specs.State.{KernelState, Scene, owner_of, is_fetching}
 use Rattle.sa_kernel_model.proofs.EntryLemmas.{own-others, append-some}
 use Rattle.sa_kernel_model.proofs.WalkLemmas.{AreOwn, not-empty}
 use Rattle.sa_kernel_model.specs.Parts.{leave, fetch_page}
@@ -114,7 +114,7 @@ stops-interrupt _ p o s b (one t u a) = leave-passage p o s b
 module _ {U C : Type 0} (level : UserLevel U C) where
   -- AN INTERRUPT THAT LEAVES, since the upcall page is absent.
   pub interrupt-leave : (w : WorkloadView) (events : List Event) (m : Machine U C) (p : ProcNo) (n : ActNo) (s : SpaceNo)
-      (held : Option (Stopped C)) (own : List Record) (y : State C)
+      (held : Option (Stopped C)) (own : List Record) (y : KernelState C)
       → (c : IsComposed level w events m) → Stops own
       → let g = m.event + 1 in
       let x : Machine U C = next_event m in

@@ -22,7 +22,7 @@ use Rattle.sa_base.specs.declared.record.Record.{Record}
 use Rattle.std.specs.List.{list_any}
 use Rattle.sa_laws.specs.Record.{after_record, with_life}
 use Rattle.sa_laws.specs.History.{Test, after_records, behind_all, after_event, with_step, arisen, is_up}
-use Rattle.sa_kernel_model.specs.State.{State, Scene}
+use Rattle.sa_kernel_model.specs.State.{KernelState, Scene}
 use Rattle.sa_kernel_model.specs.Entries.{after_fetch, held_for}
 use Rattle.sa_kernel_model.specs.Histories.{IsHistory, read_from}
 use Rattle.sa_kernel_model.specs.Overview.{overview, read_off, space_of}
@@ -83,7 +83,7 @@ module _ {U C : Type 0} (level : UserLevel U C) where
 
   -- This leads from the up to the last told record.
   pub passage-up : (w : WorkloadView) (e g : ℕ) (p : ProcNo) (s : SpaceNo) (n : ActNo) (lives : List (Option ActNo))
-      (acts : ℕ → Option (Act C)) (us : List (List Note)) (m : Machine U C) (k : State C) (items : List Item) (r : Readings) (number : ℕ)
+      (acts : ℕ → Option (Act C)) (us : List (List Note)) (m : Machine U C) (k : KernelState C) (items : List Item) (r : Readings) (number : ℕ)
       (u : U) (def : SpaceView) (added : Bool) (notes : List Note)
       → CanBegin level w e g p s n lives acts us m k r → slice_get m.users s.0 ≡ Some u → slice_get w.spaces s.0 ≡ Some def
       → notes ≡ notes_told added p (get_or us s.0 []) → copies (Add p) us ≡ 0

@@ -18,7 +18,7 @@ use Rattle.sa_laws.specs.Event.{Event}
 use Rattle.sa_laws.specs.Life.{Life}
 use Rattle.sa_kernel_model.specs.declared.entry.Entry.{Entry}
 use Rattle.sa_kernel_model.specs.declared.entry.Entry.TheVariants.{Interrupt}
-use Rattle.sa_kernel_model.specs.State.{State, Scene, owner_of, life_of, line_of, aim_of, can_upcall}
+use Rattle.sa_kernel_model.specs.State.{KernelState, Scene, owner_of, life_of, line_of, aim_of, can_upcall}
 use Rattle.sa_kernel_model.specs.Parts.{go_to_by, put_aside, with_line}
 use Rattle.sa_kernel_model.specs.Entries.{entered_as, go_to_aim, stopped}
 use Rattle.sa_kernel_model.specs.Fits.{upcalls, IsFit}
@@ -57,7 +57,7 @@ module _ {U C : Type 0} (level : UserLevel U C) (w : WorkloadView) (events : Lis
   abbrev x : Machine U C
   x = next_event m
 
-  abbrev k : State C
+  abbrev k : KernelState C
   k = x.kernel
 
   abbrev g : ℕ
@@ -116,7 +116,7 @@ module _ {U C : Type 0} (level : UserLevel U C) (w : WorkloadView) (events : Lis
       (subst (λ (h : Option (Stopped C)). upcalls k p (Interrupt h) ≡ true) (sym is) (upcalls-is held true resident)))
 
   -- After the stop, if there is one, the processor is halted; then it passes to the aim.
-  record Halts (held : Option (Stopped C)) (first : List Record) (y : State C) : Type 0 where
+  record Halts (held : Option (Stopped C)) (first : List Record) (y : KernelState C) : Type 0 where
     is : stopped_in level.calls x p (owner_of k p) ≡ held
     stops : Stops first
     can : CanTurn w m.kernel (read level w events) (turn held)
@@ -128,7 +128,7 @@ module _ {U C : Type 0} (level : UserLevel U C) (w : WorkloadView) (events : Lis
     heard : s.0 < length y.untold
     owners : length y.assign.owners ≡ length k.assign.owners
 
-  goes-on : (held : Option (Stopped C)) (first : List Record) (y : State C) → Halts held first y → (b : Bool) → can_upcall k s ≡ b
+  goes-on : (held : Option (Stopped C)) (first : List Record) (y : KernelState C) → Halts held first y → (b : Bool) → can_upcall k s ≡ b
       → (ev : Event) × Goes level w events m p (turned level.calls p n m) ev
   goes-on held first y h true resident =
       let rest = rests-after held h.is in

@@ -26,7 +26,7 @@ use Rattle.sa_laws.specs.Life.{Life}
 use Rattle.sa_laws.specs.Record.{after_record, without_note}
 use Rattle.sa_kernel_model.proofs.NoteLemmas.{none-without, copies, once-left, AreOnce, told-left}
 use Rattle.sa_kernel_model.specs.Sound.{note_claim}
-use Rattle.sa_kernel_model.specs.State.{State, life_of}
+use Rattle.sa_kernel_model.specs.State.{KernelState, life_of}
 use Rattle.sa_kernel_model.specs.Entries.{fetched, held_for, handed_by}
 use Rattle.sa_core_model.proofs.Running.{contexts-put, contexts-put_kept}
 use Rattle.sa_core_model.proofs.Commits.{get-set}
@@ -99,7 +99,7 @@ module _ {U C : Type 0} (level : UserLevel U C) where
       subst (λ (x : ActNo). IsLifeOf s r.lives x) same (matched-of s m.kernel.acts r.lives here.act (runs_in s) h.matched here.runs refl)
 
   -- One call is made after its record.
-  heard : (w : WorkloadView) (e g : ℕ) (p : ProcNo) (s : SpaceNo) (n : ActNo) (m : Machine U C) (r next : Readings) (k : State C)
+  heard : (w : WorkloadView) (e g : ℕ) (p : ProcNo) (s : SpaceNo) (n : ActNo) (m : Machine U C) (r next : Readings) (k : KernelState C)
       (here : IsAt level.calls level.stands level.keep m p s) (v : U) (c : C) (cs : Contexts C)
       → IsWorkload w → m.workload ≡ w → ((t : SpaceNo) → t.0 ≢ s.0 → SameFor t r next)
       → level.hears w (setting w s.0 here.def) next n v cs
@@ -138,7 +138,7 @@ module _ {U C : Type 0} (level : UserLevel U C) where
   hearing-plain w e g p s n us note notes waiting after m r number ok h fetch none lives upped left once same law =
       let here = at-owned level.calls level.stands level.keep e m p s h.tells.standing h.tells.owner in
       let st = h.tells.standing in
-      let k : State C = record m.kernel { telling = notes } in
+      let k : KernelState C = record m.kernel { telling = notes } in
       let x : U × C = level.calls.told here.user here.ctx note None in
       let cs : List (Option C) = slice_set m.contexts p.0 (Some x.1) in
       let life : here.act ≡ n = same_Some here.act n (sym here.life ∙ h.life) in
@@ -154,7 +154,7 @@ module _ {U C : Type 0} (level : UserLevel U C) where
       let is : told_one level.calls p s note notes m ≡ with_pair p s x.0 x.1 (record m { kernel = k }) =
       ap (λ (o : Option (Stopped C)). called_by (λ u c. level.calls.told u c note o) p s (user_of m s) (context_on m p)
       (record m { kernel = fetched note k })) none
-      ∙ ap (λ (z : State C). called_by (λ u c. level.calls.told u c note None) p s (user_of m s) (context_on m p)
+      ∙ ap (λ (z : KernelState C). called_by (λ u c. level.calls.told u c note None) p s (user_of m s) (context_on m p)
       (record m { kernel = z })) fetch
       ∙ called-is level.calls level.stands level.keep (λ u c. level.calls.told u c note None) p s m
       (record m { kernel = k }) here.user here.ctx here.is_user here.is_ctx in
@@ -196,11 +196,11 @@ module _ {U C : Type 0} (level : UserLevel U C) where
       let here = at-owned level.calls level.stands level.keep e m p s h.tells.standing h.tells.owner in
       let st = h.tells.standing in
       let next = after_record w number p r (Told note) in
-      let j : State C = record m.kernel { telling = notes } in
+      let j : KernelState C = record m.kernel { telling = notes } in
       let kept_of = next-kept s.0 note notes b.0 m.kernel h.tells.telling one h.tells.claimed in
       let held : Stopped C = kept_of.stopped in
       let o = held-for s.0 (m.kernel.acts b.0) kept_of in
-      let k : State C = handed_by (held_of (m.kernel.acts b.0)) b j in
+      let k : KernelState C = handed_by (held_of (m.kernel.acts b.0)) b j in
       let x : U × C = level.calls.told here.user here.ctx note (Some held) in
       let cs : List (Option C) = slice_set m.contexts p.0 (Some x.1) in
       let life : here.act ≡ n = same_Some here.act n (sym here.life ∙ h.life) in
@@ -224,7 +224,7 @@ module _ {U C : Type 0} (level : UserLevel U C) where
       let is : told_one level.calls p s note notes m ≡ with_pair p s x.0 x.1 (record m { kernel = k }) =
       ap (λ (y : Option (Stopped C)). called_by (λ u c. level.calls.told u c note y) p s (user_of m s) (context_on m p)
       (record m { kernel = fetched note j })) (is_held ∙ o)
-      ∙ ap (λ (z : State C). called_by (λ u c. level.calls.told u c note (Some held)) p s (user_of m s) (context_on m p)
+      ∙ ap (λ (z : KernelState C). called_by (λ u c. level.calls.told u c note (Some held)) p s (user_of m s) (context_on m p)
       (record m { kernel = z })) fetch
       ∙ called-is level.calls level.stands level.keep (λ u c. level.calls.told u c note (Some held)) p s m
       (record m { kernel = k }) here.user here.ctx here.is_user here.is_ctx in

@@ -20,7 +20,7 @@ use Rattle.sa_laws.specs.Life.{Life}
 use Rattle.sa_laws.specs.Readings.{Readings, running_of}
 use Rattle.sa_laws.specs.History.{after_records, behind_all, after_event, with_step}
 use Rattle.sa_laws.proofs.Records.{records-append}
-use Rattle.sa_kernel_model.specs.State.{State, Scene}
+use Rattle.sa_kernel_model.specs.State.{KernelState, Scene}
 use Rattle.sa_kernel_model.specs.Histories.{IsHistory, read_from}
 use Rattle.sa_kernel_model.specs.Overview.{Overview, overview, read_off}
 use Rattle.sa_kernel_model.proofs.NoteLemmas.{copies}
@@ -83,7 +83,7 @@ module _ {U C : Type 0} (level : UserLevel U C) where
         (contexts_of after)
 
   pub up-ends : (w : WorkloadView) (events : List Event) (e g : ℕ) (p : ProcNo) (s : SpaceNo) (n : ActNo)
-      (lives : List (Option ActNo)) (acts : ℕ → Option (Act C)) (us : List (List Note)) (m : Machine U C) (k : State C)
+      (lives : List (Option ActNo)) (acts : ℕ → Option (Act C)) (us : List (List Note)) (m : Machine U C) (k : KernelState C)
       (items : List Item) (front : Readings)
       (u : U) (def : SpaceView) (added : Bool) (notes : List Note) (cl : List Record) (ev : Event)
       → (can : CanBegin level w e g p s n lives acts us m k front) → slice_get m.users s.0 ≡ Some u → slice_get w.spaces s.0 ≡ Some def

@@ -16,7 +16,7 @@ use Rattle.sa_share.specs.Rounds.{shares_of}
 use Rattle.sa_assign.specs.Aims.{Change, aimed, space_no, aims_with, changes}
 use Rattle.sa_assign.specs.Reaim.{proc_no, line_at, raised, lines_with, line_records, records_of, changed, changes_in}
 use Rattle.sa_devices.specs.Ios.{fetches}
-use Rattle.sa_kernel_model.specs.State.{State, Scene, Fixed}
+use Rattle.sa_kernel_model.specs.State.{KernelState, Scene, Fixed}
 use Rattle.sa_kernel_model.specs.Closing.{spaces, claims_from, claims as claims_in, claim_of as claim_in, first_space as first_in, shares as shares_in, aims}
 use Rattle.sa_laws.specs.State.{space_def, no_space}
 use Rattle.sa_laws.specs.Readings.{Readings}
@@ -79,7 +79,7 @@ aims-lawful w e p m (c ∷ cs) rest law =
 
 -- what the spaces claim, and their shares
 module _ {C : Type 0} where
-  claim-same : (w : WorkloadView) (k : State C) (m : Readings) (s : ℕ) → IsOf w k → overview m ≡ read_off k → claim_of w m (space_no s) ≡ claim_in k s
+  claim-same : (w : WorkloadView) (k : KernelState C) (m : Readings) (s : ℕ) → IsOf w k → overview m ≡ read_off k → claim_of w m (space_no s) ≡ claim_in k s
   claim-same w k m s of reads =
       let F : ℕ → Overview → Claim = λ n (v : Overview). record {
         priority = n;
@@ -89,14 +89,14 @@ module _ {C : Type 0} where
       sym (get_or-map (λ (d : SpaceView). d.priority) w.spaces s no_space) ∙ ap (λ (f : Fixed). slice_index f.priorities s) (sym of.fixed) in
       λ i. F (priority i) (reads i)
 
-  claims-same : (w : WorkloadView) (k : State C) (m : Readings) (s n : ℕ) → IsOf w k → overview m ≡ read_off k → map (claim_of w m) (spaces_from s n) ≡ claims_from k s n
+  claims-same : (w : WorkloadView) (k : KernelState C) (m : Readings) (s n : ℕ) → IsOf w k → overview m ≡ read_off k → map (claim_of w m) (spaces_from s n) ≡ claims_from k s n
   claims-same w k m s zero of reads = refl
   claims-same w k m s (suc n) of reads =
       let one = claim-same w k m s of reads in
       let rest = claims-same w k m (s + 1) n of reads in
       λ i. one i ∷ rest i
 
-  pub shares-same : (w : WorkloadView) (k : State C) (m : Readings) (e : ℕ) → IsOf w k → length k.assign.owners ≡ w.processors → overview m ≡ read_off k → shares_at w e m ≡ shares_in k e
+  pub shares-same : (w : WorkloadView) (k : KernelState C) (m : Readings) (e : ℕ) → IsOf w k → length k.assign.owners ≡ w.processors → overview m ≡ read_off k → shares_at w e m ≡ shares_in k e
   shares-same w k m e of owners reads =
       let claimed : claims_of w m ≡ claims_in k = claims-same w k m 0 (length w.spaces) of reads ∙ ap (claims_from k 0) (sym of.spaces) in
       let first : first_space w e ≡ first_in k e =
@@ -107,7 +107,7 @@ module _ {C : Type 0} where
       let S : ℕ → ℕ → List Claim → List ℕ = shares_of in
       λ i. S (sym owners i) (first i) (claimed i)
 
-  pub due-same : (w : WorkloadView) (k : State C) (m : Readings) (e : ℕ) → IsOf w k → length k.assign.owners ≡ w.processors → overview m ≡ read_off k
+  pub due-same : (w : WorkloadView) (k : KernelState C) (m : Readings) (e : ℕ) → IsOf w k → length k.assign.owners ≡ w.processors → overview m ≡ read_off k
       → aims_due w e m ≡ changes_in (spaces k) (shares_in k e) k.assign
   due-same w k m e of owners reads =
       let G : ℕ → List ℕ → Overview → List Change = λ n shares v. changes n shares v.assign.marks v.assign.aims in

@@ -8,7 +8,7 @@ use Rattle.sa_base.specs.declared.record.Item.{Item}
 use Rattle.sa_base.specs.Items.{items_at}
 use Rattle.sa_spaces.specs.Workload.{WorkloadView}
 use Rattle.sa_kernel_model.specs.declared.entry.Entry.{Entry}
-use Rattle.sa_kernel_model.specs.State.{State, Scene}
+use Rattle.sa_kernel_model.specs.State.{KernelState, Scene}
 use Rattle.sa_laws.specs.Readings.{Readings}
 use Rattle.sa_laws.specs.History.{Test, after_event}
 use Rattle.sa_kernel_model.specs.Turn.{Turn, CanTurn, IsUnused, turned, turn_on, event_of}
@@ -18,7 +18,7 @@ use Rattle.sa_kernel_model.proofs.LawLemmas.{turns-keep}
 use Rattle.sa_kernel_model.proofs.FrameLemmas.{adds-its-event}
 use Rattle.sa_kernel_model.proofs.RunLemmas.{all-at-turn}
 
-goes-on : (C : Type 0) (test : Test) (w : WorkloadView) (k : State C) (r : Readings) (e : ℕ) (p : ProcNo) (says : List Record) (past : List Item) (en : Option (Entry C)) (fresh : ActNo) (new : Scene C)
+goes-on : (C : Type 0) (test : Test) (w : WorkloadView) (k : KernelState C) (r : Readings) (e : ℕ) (p : ProcNo) (says : List Record) (past : List Item) (en : Option (Entry C)) (fresh : ActNo) (new : Scene C)
     → CanCall w k r e p says en → IsUnused k fresh en → new ≡ turn_on e p fresh en (scene_before k e p says past) → GoesOn test w r e p past new
 goes-on C test w k r e p says past en fresh new can unused is =
     let t : Turn C = record { number = e; proc = p; says = says; fresh = fresh; entry = en } in

@@ -15,7 +15,7 @@ use Rattle.sa_base.specs.declared.record.Record.TheVariants.{Line}
 use Rattle.sa_spaces.specs.Workload.{WorkloadView}
 use Rattle.sa_assign.specs.Aims.{Change}
 use Rattle.sa_assign.specs.Reaim.{proc_no, line_at, lines_after, records_of}
-use Rattle.sa_kernel_model.specs.State.{State}
+use Rattle.sa_kernel_model.specs.State.{KernelState}
 use Rattle.sa_laws.specs.Readings.{Readings, must_hear}
 use Rattle.sa_laws.specs.History.{behind, behind_all, after_records, after_event}
 use Rattle.sa_laws.specs.Shape.{is_want, is_line, is_no_aim, is_no_want, wants_in, lines_in, aims_in, before_wants, front_part, last_lines, others_of}
@@ -79,7 +79,7 @@ front-of (x ∷ xs) wl ll e lines cs some are none want_none want_line low are_l
 
 module _ {C : Type 0} where
   -- behind the closing no space wants none that must be told something
-  none-must : (w : WorkloadView) (k : State C) (r : Readings) (t : Turn C) (whole : Whole w k r t) (s : SpaceNo) → must_want whole.closing.lined s ≡ false
+  none-must : (w : WorkloadView) (k : KernelState C) (r : Readings) (t : Turn C) (whole : Whole w k r t) (s : SpaceNo) → must_want whole.closing.lined s ≡ false
   none-must w k r t whole s =
       let e = t.number in
       let p = t.proc in
@@ -90,7 +90,7 @@ module _ {C : Type 0} where
       must-alike cl.wanted cl.lined s cl.late_demands cl.late.untold (ap idles cl.late.lives)
       ∙ ap (λ (c : Readings). must_want c s) cl.wanted_is ∙ none-wanted w e p m (length w.spaces) s.0 demands untold
 
-  wants-due : (w : WorkloadView) (k : State C) (r : Readings) (t : Turn C) (whole : Whole w k r t) → wants_in (others_of (event_of t k).records) ≡ wants_due w (behind w (event_of t k) r (before_wants (event_of t k).records))
+  wants-due : (w : WorkloadView) (k : KernelState C) (r : Readings) (t : Turn C) (whole : Whole w k r t) → wants_in (others_of (event_of t k).records) ≡ wants_due w (behind w (event_of t k) r (before_wants (event_of t k).records))
   wants-due w k r t whole = go (filter (must_want m) (spaces_of w)) refl where
     e : ℕ
     e = t.number
@@ -130,7 +130,7 @@ module _ {C : Type 0} where
         ∙ sym wl ∙ sym (ap (λ xs. wants_due w (after_records w e p c xs)) front)
 
   -- the lines
-  lines-parts : (w : WorkloadView) (k : State C) (r : Readings) (t : Turn C) (whole : Whole w k r t)
+  lines-parts : (w : WorkloadView) (k : KernelState C) (r : Readings) (t : Turn C) (whole : Whole w k r t)
       → (front_part (event_of t k).records ≡ whole.own.records ++ (wants_due w (after_records w t.number t.proc (reading_at w r t k) whole.own.records) ++ records_of t.number whole.closing.wanted.lines (aims_due w t.number whole.closing.wanted)))
       × (last_lines (event_of t k).records ≡ lines_due w whole.closing.aimed)
   lines-parts w k r t whole =

@@ -14,7 +14,7 @@ use Rattle.sa_assign.specs.Aims.{Change, space_no, aims_with, aims_after}
 use Rattle.sa_assign.specs.Reaim.{proc_no, lines_with, lines_after, changes_in, reaimed, reaim_records}
 use Rattle.sa_kernel_model.specs.Sound.{HasSizes}
 use Rattle.sa_kernel_model.specs.Opening.{first_wants}
-use Rattle.sa_kernel_model.specs.State.{State, Scene}
+use Rattle.sa_kernel_model.specs.State.{KernelState, Scene}
 use Rattle.sa_kernel_model.specs.Closing.{for_spaces, claims_from, claim_of, claims, spaces, first_space, aims}
 
 -- one space more has said what it wants
@@ -42,7 +42,7 @@ module _ {C : Type 0} where
       ap (λ (z : Scene C). for_spaces f (s + 1) (n - (s + 1)) z) is ∙ ap (λ k. for_spaces f s k x) e
 
   -- one space more has claimed
-  pub one-claimed : (k : State C) (s n : ℕ) (before : List Claim) (c : Claim) → s < n → c ≡ claim_of k s
+  pub one-claimed : (k : KernelState C) (s n : ℕ) (before : List Claim) (c : Claim) → s < n → c ≡ claim_of k s
       → (before ++ c ∷ []) ++ claims_from k (s + 1) (n - (s + 1)) ≡ before ++ claims_from k s (n - s)
   one-claimed k s n before c below is =
       let e : suc (n - (s + 1)) ≡ n - s = omega arith in
@@ -50,14 +50,14 @@ module _ {C : Type 0} where
       ∙ ap (λ d. before ++ d ∷ claims_from k (s + 1) (n - (s + 1))) is
       ∙ ap (λ i. before ++ claims_from k s i) e
 
-  length-claims_from : (k : State C) (s n : ℕ) → length (claims_from k s n) ≡ n
+  length-claims_from : (k : KernelState C) (s n : ℕ) → length (claims_from k s n) ≡ n
   length-claims_from k s zero = refl
   length-claims_from k s (suc n) = ap suc (length-claims_from k (s + 1) n)
 
-  pub length-claims : (k : State C) → length (claims k) ≡ spaces k
+  pub length-claims : (k : KernelState C) → length (claims k) ≡ spaces k
   length-claims k = length-claims_from k 0 (spaces k)
 
-  pub first-fits : (k : State C) (first : ℕ) (cs : List Claim) → cs ≡ claims k → first < length k.demands → IsFirst first cs
+  pub first-fits : (k : KernelState C) (first : ℕ) (cs : List Claim) → cs ≡ claims k → first < length k.demands → IsFirst first cs
   first-fits k first cs is below =
       let e : length cs ≡ length k.demands = ap (λ (xs : List Claim). length xs) is ∙ length-claims k in
       let f : first < length cs = omega arith in
@@ -81,7 +81,7 @@ module _ {C : Type 0} where
       ∙ ap (λ m. F (claims old.state) m first) (length-claims old.state)
       ∙ ap (λ f. F (claims old.state) (spaces old.state) f) is
 
-  pub sizes-aims : (k : State C) (e n : ℕ) (shares : List ℕ) (a : AssignView) → HasSizes k → a ≡ reaimed e n shares k.assign → HasSizes (record k { assign = a })
+  pub sizes-aims : (k : KernelState C) (e n : ℕ) (shares : List ℕ) (a : AssignView) → HasSizes k → a ≡ reaimed e n shares k.assign → HasSizes (record k { assign = a })
   sizes-aims k e n shares a sizes is =
       let cs = changes_in n shares k.assign in
       subst (λ (b : AssignView). HasSizes (record k { assign = b })) (sym is) (record {

@@ -22,7 +22,7 @@ use Rattle.sa_assign.specs.Laws.{is_for}
 use Rattle.sa_assign.specs.Reaim.{proc_no, line_at, lines_with, line_records, records_of}
 use Rattle.sa_assign.proofs.AimLemmas.{all-filled}
 use Rattle.sa_devices.specs.Ios.{Io, fetches}
-use Rattle.sa_kernel_model.specs.State.{State}
+use Rattle.sa_kernel_model.specs.State.{KernelState}
 use Rattle.sa_laws.specs.Readings.{Readings, demand_of, is_fetching}
 use Rattle.sa_laws.specs.Record.{after_record}
 use Rattle.sa_laws.specs.History.{Test, behind, behind_all, after_records, after_event}
@@ -187,7 +187,7 @@ due-alike w e c d same = λ i. aims_due w e (record c { aims = same.aims i; mark
 
 module _ {C : Type 0} where
   -- the aims of an event, and the records before them
-  aims-parts : (w : WorkloadView) (k : State C) (r : Readings) (t : Turn C) (whole : Whole w k r t) → aims_in (event_of t k).records ≡ aims_due w t.number (behind w (event_of t k) r (before_aims (event_of t k).records))
+  aims-parts : (w : WorkloadView) (k : KernelState C) (r : Readings) (t : Turn C) (whole : Whole w k r t) → aims_in (event_of t k).records ≡ aims_due w t.number (behind w (event_of t k) r (before_aims (event_of t k).records))
   aims-parts w k r t whole = go (aims_due w e cl.wanted) refl where
     e : ℕ
     e = t.number
@@ -243,7 +243,7 @@ module _ {C : Type 0} where
         ∙ ap (λ xs. own ++ xs) (while-both is_no_aim wl (aim ∷ others) no_want ∙ ap (λ xs. wl ++ xs) (while-none is_no_aim aim others refl) ∙ append-nil wl) in
         inner ∙ sym (ap (λ xs. aims_due w e (after_records w e p c xs)) front ∙ ap (aims_due w e) (records-append w e p c own wl ∙ sym cl.wanted_is))
 
-  aims-covered : (test : Test) (w : WorkloadView) (k : State C) (r : Readings) (t : Turn C) → IsWorkload w → (whole : Whole w k r t) → (s : ℕ)
+  aims-covered : (test : Test) (w : WorkloadView) (k : KernelState C) (r : Readings) (t : Turn C) → IsWorkload w → (whole : Whole w k r t) → (s : ℕ)
       → share_at (shares_at w t.number (after_event test w r (event_of t k))) s ≤ aimed s (after_event test w r (event_of t k)).aims
   aims-covered test w k r t ok whole s =
       let e = t.number in

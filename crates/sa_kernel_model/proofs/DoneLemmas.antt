@@ -23,7 +23,7 @@ use Rattle.sa_devices.specs.Ios.{Io, io_at, is_number, without, fetches, is_fetc
 use Rattle.sa_devices.specs.Pages.{completed, IsKind}
 use Rattle.sa_devices.specs.declared.kind.IoKind.{IoKind}
 use Rattle.sa_devices.specs.declared.kind.IoKind.TheVariants.{Plain, Page, Upcall}
-use Rattle.sa_kernel_model.specs.State.{State, Scene, taken_of}
+use Rattle.sa_kernel_model.specs.State.{KernelState, Scene, taken_of}
 use Rattle.sa_kernel_model.specs.Closing.{was_idle as idle_in}
 use Rattle.sa_kernel_model.specs.Entries.{come_back, over_for, thread_of, without_acts, gave_back}
 use Rattle.sa_kernel_model.specs.Sound.{AreClaimed, io_claim, kind_claim, AreTaken}
@@ -142,7 +142,7 @@ was-there ns a c (inl was) = was
 was-there ns a c (inr new) = absurd (cc)
 
 module _ {C : Type 0} where
-  few-ios : (k : State C) (t : ℕ) (n : ℕ) (here : Io) (s : ℕ) (a : ActNo) → AreClaimed k t → io_at n k.under_way ≡ Some here → io_claim s a.0 here ≡ 1 → passing (is_io_of a) k.under_way ≤ 1
+  few-ios : (k : KernelState C) (t : ℕ) (n : ℕ) (here : Io) (s : ℕ) (a : ActNo) → AreClaimed k t → io_at n k.under_way ≡ Some here → io_claim s a.0 here ≡ 1 → passing (is_io_of a) k.under_way ≤ 1
   few-ios k t n here s a claimed at one =
       let member = member-le (io_claim s a.0) n k.under_way here at in
       let held = claimed s a.0 in

@@ -9,7 +9,7 @@ use Rattle.sa_base.specs.declared.record.Record.TheVariants.{Ins, Out, Run, Cont
 use Rattle.sa_base.specs.declared.record.Item.{Item}
 use Rattle.sa_base.specs.Items.{items_at}
 use Rattle.sa_spaces.specs.Workload.{WorkloadView}
-use Rattle.sa_kernel_model.specs.State.{State, Scene, line_of}
+use Rattle.sa_kernel_model.specs.State.{KernelState, Scene, line_of}
 use Rattle.sa_laws.specs.Readings.{Readings, owner_of as owner_in, aim_of as aim_in}
 use Rattle.sa_laws.specs.Record.{after_record}
 use Rattle.sa_laws.specs.History.{after_records}
@@ -109,7 +109,7 @@ append-some (x ∷ xs) ys some is = cc
 
 module _ {C : Type 0} where
   -- the own part of an event, with what its user level says; behind it stands the closing
-  pub record Turned (w : WorkloadView) (e : ℕ) (p : ProcNo) (r : Readings) (k : State C) (says : List Record) (en : Option (Entry C)) (y : Scene C) : Type 0 where
+  pub record Turned (w : WorkloadView) (e : ℕ) (p : ProcNo) (r : Readings) (k : KernelState C) (says : List Record) (en : Option (Entry C)) (y : Scene C) : Type 0 where
     pub records : List Record
     pub adds : y.items ≡ items_at e p records
     pub reads : overview (after_records w e p r records) ≡ read_off y.state
@@ -127,7 +127,7 @@ module _ {C : Type 0} where
     pub asked : (c : Readings) (rest : List Record) → c.state.owners ≡ k.assign.owners → FirstLineIsAsked AnyLines w c p (records ++ rest)
 
   -- where the processor's line is low
-  pub low-turned : (w : WorkloadView) (e : ℕ) (p : ProcNo) (r : Readings) (k : State C) (says : List Record) (en : Option (Entry C)) (x y : Scene C) (Q : List Record → Type 0) → line_of k p ≡ None → AreUsers says
+  pub low-turned : (w : WorkloadView) (e : ℕ) (p : ProcNo) (r : Readings) (k : KernelState C) (says : List Record) (en : Option (Entry C)) (x y : Scene C) (Q : List Record → Type 0) → line_of k p ≡ None → AreUsers says
       → x.items ≡ items_at e p says → x.state.fixed ≡ k.fixed → IdleAlike x.state (after_records w e p r says) → IsTidy x.state → Walk w e p (after_records w e p r says) x y (λ all. BeginsAsInterrupt all → ⊥) Q → ((own : List Record) → Q own → ShapeOf k p says en (says ++ own)) → Turned w e p r k says en y
   low-turned w e p r k says en x y Q low users items fixed idle tidy walk shape =
       let own = own-both says walk.records (users-are_own says users) walk.own in

@@ -12,7 +12,7 @@ use Rattle.sa_laws.specs.Record.{blocking, blocking_for, length_behind}
 use Rattle.sa_laws.specs.History.{Test, after_event}
 use Rattle.sa_base.specs.declared.record.Record.TheVariants.{Ins}
 use Rattle.sa_kernel_model.specs.declared.entry.Entry.TheVariants as entry
-use Rattle.sa_kernel_model.specs.State.{State}
+use Rattle.sa_kernel_model.specs.State.{KernelState}
 use Rattle.sa_kernel_model.specs.Opening.{opened}
 use Rattle.sa_kernel_model.specs.Turn.{Turn, turned, event_of, read_before_entry}
 use Rattle.sa_kernel_model.specs.Runs.{read_opening}
@@ -28,12 +28,12 @@ block-for r s a owner length =
     (ap (λ n. blocking_for small r s0 (Some t0) a n) length)
 
 -- what is read before the block
-abbrev state_behind : List (Option (Turn Blank)) → State Blank → State Blank
+abbrev state_behind : List (Option (Turn Blank)) → KernelState Blank → KernelState Blank
 state_behind [] k = k
 state_behind (None ∷ moves) k = state_behind moves (after_fetch k.telling k)
 state_behind (Some t ∷ moves) k = state_behind moves (turned t k).state
 
-abbrev reading_behind : Test → List (Option (Turn Blank)) → State Blank → Readings → Readings
+abbrev reading_behind : Test → List (Option (Turn Blank)) → KernelState Blank → Readings → Readings
 reading_behind test [] k r = r
 reading_behind test (None ∷ moves) k r = reading_behind test moves (after_fetch k.telling k) r
 reading_behind test (Some t ∷ moves) k r = reading_behind test moves (turned t k).state (after_event test small r (event_of t k))

@@ -19,7 +19,7 @@ use Rattle.sa_assign.specs.Aims.{space_no, least_below}
 use Rattle.sa_assign.specs.Reaim.{proc_no}
 use Rattle.sa_assign.proofs.ChoiceLemmas.{least_below-passes, least_below-none}
 use Rattle.sa_devices.specs.Ios.{Io}
-use Rattle.sa_kernel_model.specs.State.{State, owner_of, line_of, life_of, untold_of}
+use Rattle.sa_kernel_model.specs.State.{KernelState, owner_of, line_of, life_of, untold_of}
 use Rattle.sa_kernel_model.specs.Closing.{spaces, calls_for}
 use Rattle.sa_kernel_model.specs.Entries.{next_note, held_for, handed_by, after_fetch}
 use Rattle.sa_kernel_model.specs.Sound.{HasSizes, IsSound, AreClaimed, note_claim, held_in}
@@ -70,12 +70,12 @@ apart-from : (a : ℕ) (b : ActNo) → bit_of (eqb a b.0) ≡ 0 → b.0 ≢ a
 apart-from a b none same = let one = ap bit_of (eq-eqb a b.0 (sym same)) in omega arith
 
 module _ {C : Type 0} where
-  runs-on : (k : State C) (p : ProcNo) (s : SpaceNo) (l : Option ActNo) → l ≡ life_of k p → IsSome l → owner_of k p ≡ Some s → IsSound k → RunsOn k p s
+  runs-on : (k : KernelState C) (p : ProcNo) (s : SpaceNo) (l : Option ActNo) → l ≡ life_of k p → IsSome l → owner_of k p ≡ Some s → IsSound k → RunsOn k p s
   runs-on k p s None is some owner sound = absurd cc
   runs-on k p s (Some a) is some owner sound = record { life = a; here = sym is; act = runs-here k p s a owner (sym is) sound.formed }
 
   -- who is quiet
-  quiet-is : (k : State C) → HasSizes k → is_quiet k ≡ true → IsQuiet k
+  quiet-is : (k : KernelState C) → HasSizes k → is_quiet k ≡ true → IsQuiet k
   quiet-is k sizes quiet =
       let calm = (and_parts (eqb (length k.under_way) 0 && not (has_line k)) (not (has_call k)) quiet).0 in
       let idle = (and_parts (eqb (length k.under_way) 0) (not (has_line k)) calm).0 in
@@ -97,7 +97,7 @@ module _ {C : Type 0} where
       nothing [] note e has = let h = has.1 in omega arith
       nothing (n ∷ ns) note e has = cc
 
-  is-quiet : (k : State C) → IsQuiet k → is_quiet k ≡ true
+  is-quiet : (k : KernelState C) → IsQuiet k → is_quiet k ≡ true
   is-quiet k quiet =
       let none = ap (λ (ios : List Io). eqb (length ios) 0) quiet.under_way in
       let lines = not-found (length k.lives) (is_raised k) (λ p below. ap is_some (quiet.low (proc_no p))) in
@@ -119,13 +119,13 @@ module _ {C : Type 0} where
       go true = omega arith
       go false = omega arith
 
-  told-few : (k : State C) (t a : ℕ) → AreClaimed k t → sum_by (note_claim a) k.telling ≤ held_in t (k.acts a)
+  told-few : (k : KernelState C) (t a : ℕ) → AreClaimed k t → sum_by (note_claim a) k.telling ≤ held_in t (k.acts a)
   told-few k t a claimed =
       let was = claimed t a in
       let told = cond-true (eqb t t) (sum_by (note_claim a) k.telling) 0 (eq-eqb t t refl) in
       omega arith
 
-  pub held-in : (k : State C) (s a : ℕ) → 1 ≤ held_in s (k.acts a) → IsHeldIn k s a
+  pub held-in : (k : KernelState C) (s a : ℕ) → 1 ≤ held_in s (k.acts a) → IsHeldIn k s a
   held-in k s a some = go (held_of (k.acts a)) refl
     where
       go : (h : Option (Stopped C)) → h ≡ held_of (k.acts a) → IsHeldIn k s a
@@ -133,21 +133,21 @@ module _ {C : Type 0} where
       go (Some h) is = record { context = h; held = sym is; space = space-held (k.acts a) s some }
 
   -- the other told notices hand over what they did
-  acts-handed : (o : Option (Stopped C)) (a : ActNo) (k : State C) (n : ℕ) → n ≢ a.0 → (handed_by o a k).acts n ≡ k.acts n
+  acts-handed : (o : Option (Stopped C)) (a : ActNo) (k : KernelState C) (n : ℕ) → n ≢ a.0 → (handed_by o a k).acts n ≡ k.acts n
   acts-handed None a k n apart = refl
   acts-handed (Some h) a k n apart = put-other k.acts a.0 n (taken_from (k.acts a.0)) apart
 
-  telling-handed : (o : Option (Stopped C)) (a : ActNo) (k : State C) → (handed_by o a k).telling ≡ k.telling
+  telling-handed : (o : Option (Stopped C)) (a : ActNo) (k : KernelState C) → (handed_by o a k).telling ≡ k.telling
   telling-handed None a k = refl
   telling-handed (Some h) a k = refl
 
-  held_for-same : (k m : State C) (a : ℕ) (note : Note) → ((n : ℕ) → n ≢ a → m.acts n ≡ k.acts n) → note_claim a note ≡ 0 → answer_in m note ≡ answer_in k note
+  held_for-same : (k m : KernelState C) (a : ℕ) (note : Note) → ((n : ℕ) → n ≢ a → m.acts n ≡ k.acts n) → note_claim a note ≡ 0 → answer_in m note ≡ answer_in k note
   held_for-same k m a (Add p) same none = refl
   held_for-same k m a (Blocked b) same none = refl
   held_for-same k m a (Preempted b) same none = ap (λ x. Some (Preempted b, held_of x)) (same b.0 (apart-from a b none))
   held_for-same k m a (Unblocked b) same none = ap (λ x. Some (Unblocked b, held_of x)) (same b.0 (apart-from a b none))
 
-  answers-same : (k m : State C) (a : ℕ) (notes : List Note) → ((n : ℕ) → n ≢ a → m.acts n ≡ k.acts n) → sum_by (note_claim a) notes ≡ 0 → map (answer_in m) notes ≡ map (answer_in k) notes
+  answers-same : (k m : KernelState C) (a : ℕ) (notes : List Note) → ((n : ℕ) → n ≢ a → m.acts n ≡ k.acts n) → sum_by (note_claim a) notes ≡ 0 → map (answer_in m) notes ≡ map (answer_in k) notes
   answers-same k m a [] same none = refl
   answers-same k m a (note ∷ notes) same none =
       let all = sum_by-cons (note_claim a) note notes in
@@ -155,18 +155,18 @@ module _ {C : Type 0} where
       let rest = answers-same k m a notes same (omega arith) in
       λ i. first i ∷ rest i
 
-  answers-kept : (k m : State C) (notes : List Note) → ((note : Note) → answer_in m note ≡ answer_in k note) → map (answer_in m) notes ≡ map (answer_in k) notes
+  answers-kept : (k m : KernelState C) (notes : List Note) → ((note : Note) → answer_in m note ≡ answer_in k note) → map (answer_in m) notes ≡ map (answer_in k) notes
   answers-kept k m [] same = refl
   answers-kept k m (note ∷ notes) same = let first = same note in let rest = answers-kept k m notes same in λ i. first i ∷ rest i
 
-  same-answer : (k : State C) (notes : List Note) (note : Note) → answer_in (record k { telling = notes }) note ≡ answer_in k note
+  same-answer : (k : KernelState C) (notes : List Note) (note : Note) → answer_in (record k { telling = notes }) note ≡ answer_in k note
   same-answer k notes (Add p) = refl
   same-answer k notes (Blocked a) = refl
   same-answer k notes (Preempted a) = refl
   same-answer k notes (Unblocked a) = refl
 
   -- behind a notice that hands a context over, the others answer what they did
-  behind : (k : State C) (t : ℕ) (note : Note) (a : ActNo) (notes : List Note) → note ∷ notes ≡ k.telling → note_claim a.0 note ≡ bit_of (eqb a.0 a.0) → AreClaimed k t
+  behind : (k : KernelState C) (t : ℕ) (note : Note) (a : ActNo) (notes : List Note) → note ∷ notes ≡ k.telling → note_claim a.0 note ≡ bit_of (eqb a.0 a.0) → AreClaimed k t
       → map (answer_in (handed_by (held_of (k.acts a.0)) a (record k { telling = notes }))) notes ≡ map (answer_in k) notes
   behind k t note a notes is hands claimed =
       let few = told-few k t a.0 claimed in
@@ -176,14 +176,14 @@ module _ {C : Type 0} where
       let this : note_claim a.0 note ≡ 1 = hands ∙ ap bit_of (eq-eqb a.0 a.0 refl) in
       answers-same k (handed_by (held_of (k.acts a.0)) a (record k { telling = notes })) a.0 notes (λ n apart. acts-handed (held_of (k.acts a.0)) a (record k { telling = notes }) n apart) (omega arith)
 
-  after-one : (k : State C) (t : ℕ) (note : Note) (notes : List Note) → note ∷ notes ≡ k.telling → AreClaimed k t
+  after-one : (k : KernelState C) (t : ℕ) (note : Note) (notes : List Note) → note ∷ notes ≡ k.telling → AreClaimed k t
       → (map (answer_in (after_fetch (note ∷ notes) k)) notes ≡ map (answer_in k) notes) × ((after_fetch (note ∷ notes) k).telling ≡ notes)
   after-one k t (Add p) notes is claimed = (answers-kept k (record k { telling = notes }) notes (same-answer k notes), refl)
   after-one k t (Blocked a) notes is claimed = (answers-kept k (record k { telling = notes }) notes (same-answer k notes), refl)
   after-one k t (Preempted a) notes is claimed = (behind k t (Preempted a) a notes is refl claimed, telling-handed (held_of (k.acts a.0)) a (record k { telling = notes }))
   after-one k t (Unblocked a) notes is claimed = (behind k t (Unblocked a) a notes is refl claimed, telling-handed (held_of (k.acts a.0)) a (record k { telling = notes }))
 
-  handed-out : (notes : List Note) (k : State C) (t : ℕ) → notes ≡ k.telling → AreClaimed k t → answers (length notes) k ≡ map (answer_in k) notes
+  handed-out : (notes : List Note) (k : KernelState C) (t : ℕ) → notes ≡ k.telling → AreClaimed k t → answers (length notes) k ≡ map (answer_in k) notes
   handed-out [] k t is claimed = refl
   handed-out (note ∷ notes) k t is claimed =
       let m = after_fetch (note ∷ notes) k in

@@ -15,7 +15,7 @@ use Rattle.sa_lemmas.specs.Function.{put}
 use Rattle.sa_lemmas.proofs.FunctionUpdates.{put-other, put-self}
 use Rattle.sa_acts.specs.declared.acts.Act.{Act}
 use Rattle.sa_acts.specs.Table.{held_of, taken_from, space_of}
-use Rattle.sa_kernel_model.specs.State.{State, untold_of, taken_of}
+use Rattle.sa_kernel_model.specs.State.{KernelState, untold_of, taken_of}
 use Rattle.sa_kernel_model.specs.Closing.{was_idle as idle_in}
 use Rattle.sa_kernel_model.specs.Entries.{handed_over, handed_by, after_fetch}
 use Rattle.sa_kernel_model.specs.Sound.{note_claim, AreClaimed, AreTaken}
@@ -73,7 +73,7 @@ module _ {C : Type 0} where
   space-held (Some x) h is = refl
 
   -- the context of an activation is handed over
-  handed-reads : (k : State C) (a : ActNo) (notes : List Note) (h : Stopped C) → held_of (k.acts a.0) ≡ Some h
+  handed-reads : (k : KernelState C) (a : ActNo) (notes : List Note) (h : Stopped C) → held_of (k.acts a.0) ≡ Some h
       → (let v : Overview = record (read_off k) { taken = taken_behind (spaces_in k) notes (with_act (take (length k.fixed.priorities) k.taken) (spaces_in k a.0) a) } in v)
       ≡ read_off (handed_over a (record k { telling = notes }))
   handed-reads k a notes h is =
@@ -86,7 +86,7 @@ module _ {C : Type 0} where
       let G : (ℕ → Option SpaceNo) → List (List ActNo) → Overview = λ f t. record (read_off k) { spaces = f; taken = taken_behind f notes t } in
       λ i. G (spaces i) (taken i)
 
-  handed-tidy : (k : State C) (a : ActNo) (notes : List Note) (h : Stopped C) → held_of (k.acts a.0) ≡ Some h → AreTaken k.taken k.acts → IsTidy k → IsTidy (handed_over a (record k { telling = notes }))
+  handed-tidy : (k : KernelState C) (a : ActNo) (notes : List Note) (h : Stopped C) → held_of (k.acts a.0) ≡ Some h → AreTaken k.taken k.acts → IsTidy k → IsTidy (handed_over a (record k { telling = notes }))
   handed-tidy k a notes h is taken tidy = record {
     added = tidy.added;
     blocked = tidy.blocked;
@@ -102,7 +102,7 @@ module _ {C : Type 0} where
   }
 
   -- a stop that waits is of another activation than one that is handed over
-  other-waits : (k : State C) (note : Note) (notes : List Note) (t s : ℕ) (a b : ActNo) → k.telling ≡ note ∷ notes → note_claim a.0 note ≡ once_if true → AreClaimed k t → Contains (untold_of k s) (Preempted b) → b.0 ≢ a.0
+  other-waits : (k : KernelState C) (note : Note) (notes : List Note) (t s : ℕ) (a b : ActNo) → k.telling ≡ note ∷ notes → note_claim a.0 note ≡ once_if true → AreClaimed k t → Contains (untold_of k s) (Preempted b) → b.0 ≢ a.0
   other-waits k note notes t s a b is one claimed has same =
       let told : sum_by (note_claim a.0) k.telling ≡ once_if true + sum_by (note_claim a.0) notes = ap (sum_by (note_claim a.0)) is ∙ sum_by-cons (note_claim a.0) note notes ∙ ap (λ n. n + sum_by (note_claim a.0) notes) one in
       let waits = claim-there (untold_of k s) (note_claim b.0) (Preempted b) has in
@@ -116,14 +116,14 @@ module _ {C : Type 0} where
       let few = held-few (k.acts a.0) t in
       omega arith
 
-  handed-idle : (k : State C) (r : Readings) (a : ActNo) (note : Note) (notes : List Note) (t : ℕ) → k.telling ≡ note ∷ notes → note_claim a.0 note ≡ once_if true → AreClaimed k t → IdleAlike k r
+  handed-idle : (k : KernelState C) (r : Readings) (a : ActNo) (note : Note) (notes : List Note) (t : ℕ) → k.telling ≡ note ∷ notes → note_claim a.0 note ≡ once_if true → AreClaimed k t → IdleAlike k r
       → IdleAlike (handed_over a (record k { telling = notes })) r
   handed-idle k r a note notes t is one claimed idle s b has =
       let apart = other-waits k note notes t s a b is one claimed has in
       idle s b has ∙ ap (λ o. idle_in (held_of o)) (sym (put-other k.acts a.0 b.0 (taken_from (k.acts a.0)) apart))
 
   -- one notice is fetched
-  held-told : (k : State C) (note : Note) (notes : List Note) (t : ℕ) (a : ActNo) → note ∷ notes ≡ k.telling → note_claim a.0 note ≡ once_if true → AreClaimed k t → held_of (k.acts a.0) ≡ None → ⊥
+  held-told : (k : KernelState C) (note : Note) (notes : List Note) (t : ℕ) (a : ActNo) → note ∷ notes ≡ k.telling → note_claim a.0 note ≡ once_if true → AreClaimed k t → held_of (k.acts a.0) ≡ None → ⊥
   held-told k note notes t a is one claimed none =
       let told : sum_by (note_claim a.0) k.telling ≡ once_if true + sum_by (note_claim a.0) notes = ap (sum_by (note_claim a.0)) (sym is) ∙ sum_by-cons (note_claim a.0) note notes ∙ ap (λ n. n + sum_by (note_claim a.0) notes) one in
       let at_t = claimed t a.0 in
@@ -131,7 +131,7 @@ module _ {C : Type 0} where
       let no = held-none (k.acts a.0) t none in
       omega arith
 
-  pub record Fetched (k new : State C) (r : Readings) : Type 0 where
+  pub record Fetched (k new : KernelState C) (r : Readings) : Type 0 where
     pub reads : overview r ≡ read_off new
     pub tidy : IsTidy new
     pub idle : IdleAlike new r
@@ -139,7 +139,7 @@ module _ {C : Type 0} where
     pub lives : new.lives ≡ k.lives
     pub demands : new.demands ≡ k.demands
 
-  passed : (k : State C) (r : Readings) (notes : List Note) → overview r ≡ read_off (record k { telling = notes }) → IsTidy k → IdleAlike k r → Fetched k (record k { telling = notes }) r
+  passed : (k : KernelState C) (r : Readings) (notes : List Note) → overview r ≡ read_off (record k { telling = notes }) → IsTidy k → IdleAlike k r → Fetched k (record k { telling = notes }) r
   passed k r notes reads tidy idle = record {
     reads = reads;
     tidy = record { added = tidy.added; blocked = tidy.blocked; fetched = tidy.fetched; taken = tidy.taken };
@@ -149,7 +149,7 @@ module _ {C : Type 0} where
     demands = refl;
   }
 
-  handed-on : (w : WorkloadView) (k : State C) (r : Readings) (a : ActNo) (note : Note) (notes : List Note) (o : Option (Stopped C)) → IsKept w k r → note ∷ notes ≡ k.telling → note_claim a.0 note ≡ once_if true
+  handed-on : (w : WorkloadView) (k : KernelState C) (r : Readings) (a : ActNo) (note : Note) (notes : List Note) (o : Option (Stopped C)) → IsKept w k r → note ∷ notes ≡ k.telling → note_claim a.0 note ≡ once_if true
       → taken_by (spaces_in k) note (take (length k.fixed.priorities) k.taken) ≡ with_act (take (length k.fixed.priorities) k.taken) (spaces_in k a.0) a
       → held_of (k.acts a.0) ≡ o → Fetched k (handed_by o a (record k { telling = notes })) r
   handed-on w k r a note notes None kept is one takes none = absurd (held-told k note notes kept.sound.claimed.told_to a is one kept.sound.claimed.once none)
@@ -165,7 +165,7 @@ module _ {C : Type 0} where
         demands = refl;
       }
 
-  fetch-on : (w : WorkloadView) (k : State C) (r : Readings) (notes : List Note) → notes ≡ k.telling → IsKept w k r → Fetched k (after_fetch notes k) r
+  fetch-on : (w : WorkloadView) (k : KernelState C) (r : Readings) (notes : List Note) → notes ≡ k.telling → IsKept w k r → Fetched k (after_fetch notes k) r
   fetch-on w k r [] is kept = record { reads = kept.reads; tidy = kept.tidy; idle = kept.idle; fixed = refl; lives = refl; demands = refl }
   fetch-on w k r (Add p ∷ notes) is kept = passed k r notes (kept.reads ∙ ap (λ ns. read_off (record k { telling = ns })) (sym is)) kept.tidy kept.idle
   fetch-on w k r (Blocked a ∷ notes) is kept = passed k r notes (kept.reads ∙ ap (λ ns. read_off (record k { telling = ns })) (sym is)) kept.tidy kept.idle

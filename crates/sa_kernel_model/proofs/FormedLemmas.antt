@@ -26,7 +26,7 @@ use Rattle.sa_devices.specs.Pages.{IsKind, completed, evicted, opening_pages}
 use Rattle.sa_devices.specs.Ios.{Io, without, is_number}
 use Rattle.sa_devices.specs.declared.kind.IoKind.TheVariants.{Plain, Page, Upcall}
 use Rattle.sa_devices.proofs.SoundLemmas.{length-completed, length-evicted}
-use Rattle.sa_kernel_model.specs.State.{State, Scene, owner_of, aim_of, life_of, untold_of, taken_of, can_upcall, is_fetching}
+use Rattle.sa_kernel_model.specs.State.{KernelState, Scene, owner_of, aim_of, life_of, untold_of, taken_of, can_upcall, is_fetching}
 use Rattle.sa_batch.specs.Notices.{notes_told}
 use Rattle.sa_kernel_model.specs.Parts.{with_owner, without_aim, with_line, with_mark, with_demand, noted, with_io, put_aside, upcall, fetch_page, leave, moved, go_to_by}
 use Rattle.sa_kernel_model.specs.Entries.{stopped, go_to_aim, interrupted, told_or_left, block_begun, blocked_by, io_for, IsOwnPage, come_back, over_for, over, announced, more, idled, gave_back, interrupted_own, kind_at, entered_as, handed_over, handed_by, fetched, after_fetch, evicted_at}
@@ -114,7 +114,7 @@ spaces-aims_after n aims (c ∷ cs) below each =
 
 module _ {C : Type 0} where
   -- another assignment, whose owners are the same
-  formed-assign : (k : State C) (a : AssignView) → a.owners ≡ k.assign.owners → length a.aims ≡ length k.assign.aims → length a.lines ≡ length k.assign.lines
+  formed-assign : (k : KernelState C) (a : AssignView) → a.owners ≡ k.assign.owners → length a.aims ≡ length k.assign.aims → length a.lines ≡ length k.assign.lines
       → length a.marks ≡ length k.assign.marks → AreSpaces (length k.demands) a.aims → IsFormed k → IsFormed (record k { assign = a })
   formed-assign k a owners aims lines marks below sound =
       let z = sound.sizes in record {
@@ -139,18 +139,18 @@ module _ {C : Type 0} where
         taken = sound.taken;
       }
 
-  pub formed-line : (p : ProcNo) (event : Option ℕ) (k : State C) → IsFormed k → IsFormed (with_line p event k)
+  pub formed-line : (p : ProcNo) (event : Option ℕ) (k : KernelState C) → IsFormed k → IsFormed (with_line p event k)
   formed-line p event k sound = formed-assign k _ refl refl (length-set k.assign.lines p.0 event) refl sound.aims sound
 
-  pub formed-mark : (p : ProcNo) (idle : Bool) (k : State C) → IsFormed k → IsFormed (with_mark p idle k)
+  pub formed-mark : (p : ProcNo) (idle : Bool) (k : KernelState C) → IsFormed k → IsFormed (with_mark p idle k)
   formed-mark p idle k sound = formed-assign k _ refl refl refl (length-set k.assign.marks p.0 idle) sound.aims sound
 
-  pub formed-no_aim : (p : ProcNo) (k : State C) → IsFormed k → IsFormed (without_aim p k)
+  pub formed-no_aim : (p : ProcNo) (k : KernelState C) → IsFormed k → IsFormed (without_aim p k)
   formed-no_aim p k sound =
       formed-assign k _ refl (length-set k.assign.aims p.0 None) refl refl
       (spaces-set (length k.demands) k.assign.aims p.0 None (λ s is. absurd (none-some s is)) sound.aims) sound
 
-  pub formed-owner : (p : ProcNo) (o : Option SpaceNo) (k : State C) → life_of k p ≡ None → ((s : SpaceNo) → o ≡ Some s → s.0 < length k.demands)
+  pub formed-owner : (p : ProcNo) (o : Option SpaceNo) (k : KernelState C) → life_of k p ≡ None → ((s : SpaceNo) → o ≡ Some s → s.0 < length k.demands)
       → IsFormed k → IsFormed (with_owner p o k)
   formed-owner p o k free below sound =
       let z = sound.sizes in record {
@@ -175,7 +175,7 @@ module _ {C : Type 0} where
         taken = sound.taken;
       }
 
-  pub formed-noted : (s : SpaceNo) (note : Note) (k : State C) → IsFormed k → IsFormed (noted s note k)
+  pub formed-noted : (s : SpaceNo) (note : Note) (k : KernelState C) → IsFormed k → IsFormed (noted s note k)
   formed-noted s note k sound =
       let z = sound.sizes in record {
         sizes = record {
@@ -199,7 +199,7 @@ module _ {C : Type 0} where
         taken = sound.taken;
       }
 
-  formed-aside_acts : (p : ProcNo) (a : ActNo) (held : Stopped C) (k : State C) → life_of k p ≡ Some a → IsFormed k
+  formed-aside_acts : (p : ProcNo) (a : ActNo) (held : Stopped C) (k : KernelState C) → life_of k p ≡ Some a → IsFormed k
       → IsFormed (record k { lives = slice_set k.lives p.0 None; acts = put k.acts a.0 (holding held (k.acts a.0)) })
   formed-aside_acts p a held k here sound =
       let z = sound.sizes in
@@ -227,10 +227,10 @@ module _ {C : Type 0} where
         taken = taken-other k.taken k.acts a.0 (holding held (k.acts a.0)) (running-free (k.acts a.0) runs.space runs.act) sound.taken;
       }
 
-  pub formed-aside : (p : ProcNo) (s : SpaceNo) (a : ActNo) (note : Note) (held : Stopped C) (k : State C) → life_of k p ≡ Some a → IsFormed k → IsFormed (put_aside p s a note held k)
+  pub formed-aside : (p : ProcNo) (s : SpaceNo) (a : ActNo) (note : Note) (held : Stopped C) (k : KernelState C) → life_of k p ≡ Some a → IsFormed k → IsFormed (put_aside p s a note held k)
   formed-aside p s a note held k here sound = formed-noted s note _ (formed-aside_acts p a held k here sound)
 
-  formed-run_acts : (p : ProcNo) (s : SpaceNo) (a : ActNo) (notes : List Note) (k : State C) → owner_of k p ≡ Some s → k.acts a.0 ≡ None → IsFormed k
+  formed-run_acts : (p : ProcNo) (s : SpaceNo) (a : ActNo) (notes : List Note) (k : KernelState C) → owner_of k p ≡ Some s → k.acts a.0 ≡ None → IsFormed k
       → IsFormed (with_mark p false (record k { lives = slice_set k.lives p.0 (Some a); acts = put k.acts a.0 (Some (runs_in s)); untold = slice_set k.untold s.0 []; telling = notes }))
   formed-run_acts p s a notes k owner unused sound =
       let z = sound.sizes in
@@ -261,7 +261,7 @@ module _ {C : Type 0} where
       → IsFormed x.state → IsFormed (upcall e p s a added x).state
   formed-upcall e p s a added x owner unused sound = formed-run_acts p s a (notes_told added p (untold_of x.state s.0)) x.state owner unused sound
 
-  pub formed-demand : (s n : ℕ) (k : State C) → IsFormed k → IsFormed (with_demand s n k)
+  pub formed-demand : (s n : ℕ) (k : KernelState C) → IsFormed k → IsFormed (with_demand s n k)
   formed-demand s n k sound =
       let z = sound.sizes in
       let len : length (slice_set k.demands s n) ≡ length k.demands = length-set k.demands s n in
@@ -287,7 +287,7 @@ module _ {C : Type 0} where
         taken = sound.taken;
       }
 
-  formed-devices : (k : State C) (begun : ℕ) (ios : List Io) (pages : List ℕ) → length pages ≡ length k.pages → AreIos (length k.demands) ios → IsFormed k
+  formed-devices : (k : KernelState C) (begun : ℕ) (ios : List Io) (pages : List ℕ) → length pages ≡ length k.pages → AreIos (length k.demands) ios → IsFormed k
       → IsFormed (record k { begun = begun; under_way = ios; pages = pages })
   formed-devices k begun ios pages len kinds sound =
       let z = sound.sizes in record {
@@ -312,7 +312,7 @@ module _ {C : Type 0} where
         taken = sound.taken;
       }
 
-  formed-io : (kind : IoKind) (ends : ℕ) (k : State C) → IsKind (length k.demands) kind → IsFormed k → IsFormed (with_io kind ends k)
+  formed-io : (kind : IoKind) (ends : ℕ) (k : KernelState C) → IsKind (length k.demands) kind → IsFormed k → IsFormed (with_io kind ends k)
   formed-io kind ends k fits sound =
       formed-devices k (k.begun + 1) _ k.pages refl (All-push (λ (io : Io). IsKind (length k.demands) io.kind) k.under_way _ sound.ios fits) sound
 
@@ -538,7 +538,7 @@ module _ {C : Type 0} where
   formed-entered_as e p a GiveBack x within fit unused sound = formed-gave_back e p (owner_of x.state p) x sound
   formed-entered_as e p a (InterruptOwn q) x within fit unused sound = formed-own e p q x sound
 
-  formed-taken : (a : ActNo) (h : Stopped C) (k : State C) → held_of (k.acts a.0) ≡ Some h → IsFormed k → IsFormed (handed_over a k)
+  formed-taken : (a : ActNo) (h : Stopped C) (k : KernelState C) → held_of (k.acts a.0) ≡ Some h → IsFormed k → IsFormed (handed_over a k)
   formed-taken a h k is sound =
       let z = sound.sizes in record {
         sizes = record {
@@ -562,11 +562,11 @@ module _ {C : Type 0} where
         taken = taken-handed k.taken k.acts a h is sound.taken;
       }
 
-  formed-handed : (a : ActNo) (o : Option (Stopped C)) (k : State C) → held_of (k.acts a.0) ≡ o → IsFormed k → IsFormed (handed_by o a k)
+  formed-handed : (a : ActNo) (o : Option (Stopped C)) (k : KernelState C) → held_of (k.acts a.0) ≡ o → IsFormed k → IsFormed (handed_by o a k)
   formed-handed a None k is sound = sound
   formed-handed a (Some h) k is sound = formed-taken a h k is sound
 
-  formed-telling : (notes : List Note) (k : State C) → IsFormed k → IsFormed (record k { telling = notes })
+  formed-telling : (notes : List Note) (k : KernelState C) → IsFormed k → IsFormed (record k { telling = notes })
   formed-telling notes k sound =
       let z = sound.sizes in record {
         sizes = record {
@@ -590,17 +590,17 @@ module _ {C : Type 0} where
         taken = sound.taken;
       }
 
-  formed-fetched : (note : Note) (k : State C) → IsFormed k → IsFormed (fetched note k)
+  formed-fetched : (note : Note) (k : KernelState C) → IsFormed k → IsFormed (fetched note k)
   formed-fetched (Add p) k sound = sound
   formed-fetched (Blocked a) k sound = sound
   formed-fetched (Preempted a) k sound = formed-handed a (held_of (k.acts a.0)) k refl sound
   formed-fetched (Unblocked a) k sound = formed-handed a (held_of (k.acts a.0)) k refl sound
 
-  pub formed-after_fetch : (notes : List Note) (k : State C) → IsFormed k → IsFormed (after_fetch notes k)
+  pub formed-after_fetch : (notes : List Note) (k : KernelState C) → IsFormed k → IsFormed (after_fetch notes k)
   formed-after_fetch [] k sound = sound
   formed-after_fetch (note ∷ notes) k sound = formed-fetched note (record k { telling = notes }) (formed-telling notes k sound)
 
-  pub formed-evicted : (event : ℕ) (k : State C) → IsFormed k → IsFormed (evicted_at event k)
+  pub formed-evicted : (event : ℕ) (k : KernelState C) → IsFormed k → IsFormed (evicted_at event k)
   formed-evicted event k sound = formed-devices k k.begun k.under_way (evicted event k.fixed.evictions k.pages) (length-evicted event k.fixed.evictions k.pages) sound.ios sound
 
   pub formed-opening : (w : WorkloadView) → IsWorkload w → IsFormed (opening_state {C = C} w)

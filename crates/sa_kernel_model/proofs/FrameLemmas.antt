@@ -18,7 +18,7 @@ use Rattle.sa_devices.specs.declared.kind.IoKind.{IoKind}
 use Rattle.sa_devices.specs.declared.kind.IoKind.TheVariants.{Plain, Page, Upcall}
 use Rattle.sa_kernel_model.specs.declared.entry.Entry.{Entry}
 use Rattle.sa_kernel_model.specs.declared.entry.Entry.TheVariants as entry
-use Rattle.sa_kernel_model.specs.State.{State, Scene, owner_of, life_of, aim_of, untold_of, is_fetching, can_upcall, says}
+use Rattle.sa_kernel_model.specs.State.{KernelState, Scene, owner_of, life_of, aim_of, untold_of, is_fetching, can_upcall, says}
 use Rattle.sa_kernel_model.specs.Parts.{with_owner, without_aim, run_in, say_told, upcall, fetch_page, leave, moved, go_to_by, with_line, put_aside, with_io}
 use Rattle.sa_kernel_model.specs.Entries.{stopped, go_to_aim, interrupted, told_or_left, block_begun, blocked_by, io_for, over, kind_at, more, idled, gave_back, entered_as}
 use Rattle.sa_kernel_model.specs.Closing.{for_spaces, spaces, shares, must_want, want_one, want_for, wants, aims, must_interrupt, has_low_line, interrupt, interrupt_one, interrupt_for, lines, closed}
@@ -31,7 +31,7 @@ module _ {C : Type 0} where
   abbrev behind : List Item → Scene C → Scene C
   behind past x = record x { items = past ++ x.items }
 
-  more-items : (past xs : List Item) (k : State C) (x : Scene C) → (let y : Scene C = record { state = k; items = (past ++ x.items) ++ xs } in y) ≡ behind past (record { state = k; items = x.items ++ xs })
+  more-items : (past xs : List Item) (k : KernelState C) (x : Scene C) → (let y : Scene C = record { state = k; items = (past ++ x.items) ++ xs } in y) ≡ behind past (record { state = k; items = x.items ++ xs })
   more-items past xs k x = λ i. record { state = k; items = append_assoc past x.items xs i }
 
   framed-says : (past : List Item) (e : ℕ) (p : ProcNo) (r : Record) (x : Scene C) → says e p r (behind past x) ≡ behind past (says e p r x)

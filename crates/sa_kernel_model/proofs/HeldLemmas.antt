@@ -36,7 +36,7 @@ use Rattle.sa_kernel_model.proofs.ClaimLemmas.{Claims, All-io_at, held-none, hel
 
 module _ {C : Type 0} where
   -- a processor's activation runs in the space that owns it
-  pub runs-here : (k : State C) (p : ProcNo) (s : SpaceNo) (a : ActNo) → owner_of k p ≡ Some s → life_of k p ≡ Some a → IsFormed k → k.acts a.0 ≡ Some (runs_in s)
+  pub runs-here : (k : KernelState C) (p : ProcNo) (s : SpaceNo) (a : ActNo) → owner_of k p ≡ Some s → life_of k p ≡ Some a → IsFormed k → k.acts a.0 ≡ Some (runs_in s)
   runs-here k p s a owner life formed =
       let runs = formed.lives.run p.0 a life in
       runs.act ∙ ap (λ (t : SpaceNo). Some (runs_in t)) (some-same runs.space s (sym runs.owner ∙ owner))
@@ -45,7 +45,7 @@ module _ {C : Type 0} where
       some-same x y e = cc
 
   -- the owner of a processor has a list of notices
-  within-untold : (k : State C) (p : ProcNo) (s : SpaceNo) → owner_of k p ≡ Some s → IsFormed k → s.0 < length k.untold
+  within-untold : (k : KernelState C) (p : ProcNo) (s : SpaceNo) → owner_of k p ≡ Some s → IsFormed k → s.0 < length k.untold
   within-untold k p s owner formed = let below = formed.owners p.0 s owner in let z = formed.sizes.untold in omega arith
 
   pub pages-stopped : (e : ℕ) (p : ProcNo) (o : Option SpaceNo) (l : Option ActNo) (held : Option (Stopped C)) (x : Scene C)
@@ -169,7 +169,7 @@ module _ {C : Type 0} where
       subst (λ b. IsUpcalled (go_to_by e p s a (is_aim s.0 (owner_of x.state p)) b x).state p a) (sym up)
       (upcalled-go_to_by e p s a (is_aim s.0 (owner_of x.state p)) x t refl (can s refl))
 
-  upcalls-kept : (k m : State C) (aim : Option SpaceNo) → k.pages ≡ m.pages → upcalls_for m aim ≡ true → upcalls_for k aim ≡ true
+  upcalls-kept : (k m : KernelState C) (aim : Option SpaceNo) → k.pages ≡ m.pages → upcalls_for m aim ≡ true → upcalls_for k aim ≡ true
   upcalls-kept k m None same up = up
   upcalls-kept k m (Some s) same up = ap (λ (pages : List ℕ). has_page (get_or pages s.0 0) 0) same ∙ up
 
@@ -289,7 +289,7 @@ module _ {C : Type 0} where
   upcalled-entered_as e p a (InterruptOwn q) x t up within unused empty formed claimed = absurd cc
 
   -- the closing changes aims, lines and demands alone
-  pub record Stays (k : State C) (y : Scene C) : Type 0 where
+  pub record Stays (k : KernelState C) (y : Scene C) : Type 0 where
     pub owners : y.state.assign.owners ≡ k.assign.owners
     pub lives : y.state.lives ≡ k.lives
     pub acts : y.state.acts ≡ k.acts
@@ -298,17 +298,17 @@ module _ {C : Type 0} where
     pub telling : y.state.telling ≡ k.telling
     pub under_way : y.state.under_way ≡ k.under_way
 
-  stays-want_one : (k : State C) (e : ℕ) (p : ProcNo) (b : Bool) (s : ℕ) (x : Scene C) → Stays k x → Stays k (want_one e p b s x)
+  stays-want_one : (k : KernelState C) (e : ℕ) (p : ProcNo) (b : Bool) (s : ℕ) (x : Scene C) → Stays k x → Stays k (want_one e p b s x)
   stays-want_one k e p false s x h = h
   stays-want_one k e p true s x h =
       record { owners = h.owners; lives = h.lives; acts = h.acts; taken = h.taken; untold = h.untold; telling = h.telling; under_way = h.under_way }
 
-  stays-interrupt : (k : State C) (e : ℕ) (p : ProcNo) (q : Option ℕ) (x : Scene C) → Stays k x → Stays k (interrupt e p q x)
+  stays-interrupt : (k : KernelState C) (e : ℕ) (p : ProcNo) (q : Option ℕ) (x : Scene C) → Stays k x → Stays k (interrupt e p q x)
   stays-interrupt k e p None x h = h
   stays-interrupt k e p (Some q) x h =
       record { owners = h.owners; lives = h.lives; acts = h.acts; taken = h.taken; untold = h.untold; telling = h.telling; under_way = h.under_way }
 
-  stays-interrupt_one : (k : State C) (e : ℕ) (p : ProcNo) (b : Bool) (s : ℕ) (x : Scene C) → Stays k x → Stays k (interrupt_one e p b s x)
+  stays-interrupt_one : (k : KernelState C) (e : ℕ) (p : ProcNo) (b : Bool) (s : ℕ) (x : Scene C) → Stays k x → Stays k (interrupt_one e p b s x)
   stays-interrupt_one k e p false s x h = h
   stays-interrupt_one k e p true s x h = stays-interrupt k e p (least_below (length x.state.lives) (has_low_line x.state s)) x h
 
@@ -343,20 +343,20 @@ module _ {C : Type 0} where
       }
 
   -- the next notice is fetched
-  claimed-handed : (o : Option (Stopped C)) (note : Note) (a : ActNo) (notes : List Note) (k : State C) (t : ℕ) → held_of (k.acts a.0) ≡ o
+  claimed-handed : (o : Option (Stopped C)) (note : Note) (a : ActNo) (notes : List Note) (k : KernelState C) (t : ℕ) → held_of (k.acts a.0) ≡ o
       → ((b : ℕ) → note_claim b note ≡ bit_of (eqb b a.0)) → Claims k.under_way k.untold (note ∷ notes) k.acts t → AreClaimed (handed_by o a (record k { telling = notes })) t
   claimed-handed None note a notes k t none hands claims =
       absurd (let some = held-next k.under_way k.untold note notes k.acts t a.0 (hands a.0 ∙ ap bit_of (eq-eqb a.0 a.0 refl)) claims in
       let no = held-none (k.acts a.0) t none in omega arith)
   claimed-handed (Some h) note a notes k t is hands claims = claims-handed k.under_way k.untold note notes k.acts t a.0 hands claims
 
-  claimed-fetched : (note : Note) (notes : List Note) (k : State C) (t : ℕ) → Claims k.under_way k.untold (note ∷ notes) k.acts t → AreClaimed (fetched note (record k { telling = notes })) t
+  claimed-fetched : (note : Note) (notes : List Note) (k : KernelState C) (t : ℕ) → Claims k.under_way k.untold (note ∷ notes) k.acts t → AreClaimed (fetched note (record k { telling = notes })) t
   claimed-fetched (Add p) notes k t claims = claims-passed k.under_way k.untold (Add p) notes k.acts t (λ b. refl) claims
   claimed-fetched (Blocked a) notes k t claims = claims-passed k.under_way k.untold (Blocked a) notes k.acts t (λ b. refl) claims
   claimed-fetched (Preempted a) notes k t claims = claimed-handed (held_of (k.acts a.0)) (Preempted a) a notes k t refl (λ b. refl) claims
   claimed-fetched (Unblocked a) notes k t claims = claimed-handed (held_of (k.acts a.0)) (Unblocked a) a notes k t refl (λ b. refl) claims
 
-  pub claimed-after_fetch : (notes : List Note) (k : State C) (t : ℕ) → notes ≡ k.telling → AreClaimed k t → AreClaimed (after_fetch notes k) t
+  pub claimed-after_fetch : (notes : List Note) (k : KernelState C) (t : ℕ) → notes ≡ k.telling → AreClaimed k t → AreClaimed (after_fetch notes k) t
   claimed-after_fetch [] k t is claimed = claimed
   claimed-after_fetch (note ∷ notes) k t is claimed =
       claimed-fetched note notes k t (subst (λ ns. Claims k.under_way k.untold ns k.acts t) (sym is) claimed)

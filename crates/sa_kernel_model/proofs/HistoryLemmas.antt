@@ -9,7 +9,7 @@ use Rattle.sa_base.specs.Items.{items_at}
 use Rattle.sa_spaces.specs.Workload.{WorkloadView, IsWorkload}
 use Rattle.sa_kernel_model.specs.declared.entry.Entry.{Entry}
 use Rattle.sa_kernel_model.specs.declared.entry.Given.{Given}
-use Rattle.sa_kernel_model.specs.State.{State, Scene}
+use Rattle.sa_kernel_model.specs.State.{KernelState, Scene}
 use Rattle.sa_kernel_model.specs.Closing.{spaces, must_want, shares, closed, NoLineIsDue}
 use Rattle.sa_kernel_model.specs.Entries.{entered, entered_as, evicted_at, after_fetch}
 use Rattle.sa_kernel_model.specs.Enters.{Enters}
@@ -88,17 +88,17 @@ module _ {C : Type 0} where
       let r = read_from test w events in record {
         ok = u.history.ok;
         kept = u.history.kept;
-        within = subst (λ (k : State C). p.0 < length k.lives) u.state within;
+        within = subst (λ (k : KernelState C). p.0 < length k.lives) u.state within;
         later = later;
-        fetched = sym (ap (λ (k : State C). k.telling) u.state) ∙ u.fetched;
-        fits = subst (λ (k : State C). FitsTurn k p e entry) u.state u.fits;
-        right = subst (λ (k : State C). SaysRightly w k p r (read_within w e p r says) says entry) u.state u.right;
+        fetched = sym (ap (λ (k : KernelState C). k.telling) u.state) ∙ u.fetched;
+        fits = subst (λ (k : KernelState C). FitsTurn k p e entry) u.state u.fits;
+        right = subst (λ (k : KernelState C). SaysRightly w k p r (read_within w e p r says) says entry) u.state u.right;
       }
 
   sound-here : (test : Test) (w : WorkloadView) (events : List Event) (e : ℕ) (p : ProcNo) (says : List Record) (entry : Option (Entry C)) (x : Scene C)
       → IsUnderWay test w events e p says entry x → IsSound x.state
   sound-here test w events e p says entry x u =
-      subst (λ (k : State C). IsSound k) (sym u.state) (sound-evicted e u.before.state u.history.kept.sound)
+      subst (λ (k : KernelState C). IsSound k) (sym u.state) (sound-evicted e u.before.state u.history.kept.sound)
 
   pub entry-goes-on : (e : ℕ) (p : ProcNo) (entry : Entry C) (old new : Scene C) (result : Given) (upcalls : Bool) → p.0 < length old.state.lives → 1 ≤ e
       → Enters old new result upcalls (λ (a : ActNo). entered e p a entry) → GoesOnLawfully e p (Some entry) old new

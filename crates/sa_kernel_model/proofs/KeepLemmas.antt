@@ -18,7 +18,7 @@ use Rattle.sa_assign.specs.Reaim.{proc_no}
 use Rattle.sa_assign.proofs.ChoiceLemmas.{least_below-passes, least_below-none}
 use Rattle.sa_batch.specs.Notices.{has_untold}
 use Rattle.sa_devices.specs.Ios.{Io, fetches}
-use Rattle.sa_kernel_model.specs.State.{State, Scene, untold_of, is_fetching}
+use Rattle.sa_kernel_model.specs.State.{KernelState, Scene, untold_of, is_fetching}
 use Rattle.sa_kernel_model.specs.Closing.{closed, was_idle as idle_in}
 use Rattle.sa_kernel_model.specs.Sound.{IsSound, IsPrompt}
 use Rattle.sa_kernel_model.proofs.SoundLemmas.{sound-closed}
@@ -52,7 +52,7 @@ is-space s (Some t) is = ap (λ n. Some (record { 0 = n })) (eqb-true t.0 s.0 is
 
 module _ {C : Type 0} where
   -- what is read after the event is the state behind the closing
-  pub reads-after : (test : Test) (w : WorkloadView) (k : State C) (r : Readings) (t : Turn C) (whole : Whole w k r t)
+  pub reads-after : (test : Test) (w : WorkloadView) (k : KernelState C) (r : Readings) (t : Turn C) (whole : Whole w k r t)
       → overview (after_event test w r (event_of t k)) ≡ read_off (closed t.number t.proc whole.before).state
   reads-after test w k r t whole =
       overview-ended test w r (event_of t k) (behind_all w (event_of t k) r) ∙ ap overview whole.behind ∙ whole.closing.reads
@@ -73,7 +73,7 @@ module _ {C : Type 0} where
       ap (λ f. f a.0) same ∙ idle s a (subst (λ (us : List (List Note)). Contains (get_or us s []) (Preempted a)) stays.untold has)
       ∙ ap (λ (acts : ℕ → Option (Act C)). idle_in (held_of (acts a.0))) (sym stays.acts)
 
-  pub turn-keeps : (test : Test) (w : WorkloadView) (k : State C) (r : Readings) (t : Turn C) → IsKept w k r → CanTurn w k r t → IsKept w (turned t k).state (after_event test w r (event_of t k))
+  pub turn-keeps : (test : Test) (w : WorkloadView) (k : KernelState C) (r : Readings) (t : Turn C) → IsKept w k r → CanTurn w k r t → IsKept w (turned t k).state (after_event test w r (event_of t k))
   turn-keeps test w k r t kept can =
       let whole = whole-turn w k r t kept can in
       let y = whole.before in
@@ -96,7 +96,7 @@ module _ {C : Type 0} where
       subst (λ (x : Scene C). IsKept w x.state after) (sym whole.is) result
 
   -- after the event notices wait rightly
-  pub prompt-in : (k : State C) (r : Readings) → IsSound k → overview r ≡ read_off k → IsPrompt k → IsPromptIn r
+  pub prompt-in : (k : KernelState C) (r : Readings) → IsSound k → overview r ≡ read_off k → IsPrompt k → IsPromptIn r
   prompt-in k r sound reads prompt = record { each = λ s waits. go s waits (is_fetching k s.0) refl (least_below (length k.assign.owners) (λ q. is_aim s.0 (get_or k.assign.owners q None))) refl }
     where
       go : (s : SpaceNo) → untold_at r s ≢ [] → (b : Bool) → is_fetching k s.0 ≡ b → (o : Option ℕ) → least_below (length k.assign.owners) (λ q. is_aim s.0 (get_or k.assign.owners q None)) ≡ o

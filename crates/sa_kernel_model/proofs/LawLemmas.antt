@@ -7,7 +7,7 @@ use Rattle.sa_base.specs.declared.number.ActNo.{ActNo}
 use Rattle.sa_base.specs.declared.record.Record.{Record}
 use Rattle.sa_base.specs.declared.record.Record.TheVariants.{Stop}
 use Rattle.sa_spaces.specs.Workload.{WorkloadView}
-use Rattle.sa_kernel_model.specs.State.{State, line_of}
+use Rattle.sa_kernel_model.specs.State.{KernelState, line_of}
 use Rattle.sa_kernel_model.specs.Closing.{closed}
 use Rattle.sa_kernel_model.specs.Sound.{IsSound}
 use Rattle.sa_kernel_model.proofs.SoundLemmas.{sound-closed}
@@ -40,7 +40,7 @@ begins-own (Stop s t a ∷ xs) rest some begins = tt
 begins-own (x ∷ xs) rest some begins = begins
 
 module _ {C : Type 0} where
-  pub owner-is : (k : State C) (r : Readings) → IsSound k → overview r ≡ read_off k → (p : ℕ) → get_or k.assign.owners p None ≡ space_of_life r (get_or k.lives p None)
+  pub owner-is : (k : KernelState C) (r : Readings) → IsSound k → overview r ≡ read_off k → (p : ℕ) → get_or k.assign.owners p None ≡ space_of_life r (get_or k.lives p None)
   owner-is k r sound reads p = go (get_or k.assign.owners p None) (get_or k.lives p None) refl refl where
     go : (o : Option SpaceNo) (l : Option ActNo) → get_or k.assign.owners p None ≡ o → get_or k.lives p None ≡ l → o ≡ space_of_life r l
     go None None owner life = refl
@@ -52,7 +52,7 @@ module _ {C : Type 0} where
         let same : runs.space ≡ s = same_Some runs.space s (sym runs.owner ∙ owner) in
         sym (ap (λ (v : Overview). v.spaces a.0) reads ∙ ap act_space runs.act ∙ ap (λ (t : SpaceNo). Some t) same)
 
-  pub each-of : (w : WorkloadView) (k : State C) (r : Readings) (t : Turn C) (L : RecordLaw) → IsKept w k r → CanTurn w k r t
+  pub each-of : (w : WorkloadView) (k : KernelState C) (r : Readings) (t : Turn C) (L : RecordLaw) → IsKept w k r → CanTurn w k r t
       → ((c : Readings) (x : Record) (rest : List Record) → Lawful t.proc c x rest → L c x rest) → EachRecord L w t.number t.proc (reading_at w r t k) (event_of t k).records
   each-of w k r t L kept can weaker =
       each-weaker (Lawful t.proc) L w t.number t.proc (reading_at w r t k) (event_of t k).records weaker (whole-turn w k r t kept can).lawful

@@ -19,7 +19,7 @@ use Rattle.sa_assign.specs.Reaim.{proc_no}
 use Rattle.sa_assign.proofs.ChoiceLemmas.{least_below-passes}
 use Rattle.sa_batch.specs.Notices.{has_untold as has_in}
 use Rattle.sa_devices.specs.Ios.{fetches}
-use Rattle.sa_kernel_model.specs.State.{State, Scene, untold_of, is_fetching}
+use Rattle.sa_kernel_model.specs.State.{KernelState, Scene, untold_of, is_fetching}
 use Rattle.sa_kernel_model.specs.Closing.{for_spaces, is_told_by, has_low_line, must_interrupt as must_in, interrupt, interrupt_one, interrupt_for}
 use Rattle.sa_laws.specs.Readings.{Readings, owner_of as owner_at, aim_of as aim_at, line_of as line_at, untold_of as untold_at, is_fetching as fetching_at}
 use Rattle.sa_laws.specs.Record.{after_record}
@@ -138,14 +138,14 @@ untold-same [] = refl
 untold-same (n ∷ ns) = refl
 
 module _ {C : Type 0} where
-  must-same : (w : WorkloadView) (k : State C) (m : Readings) (s : ℕ) → length k.lives ≡ w.processors → overview m ≡ read_off k → must_interrupt w m (space_no s) ≡ must_in k s
+  must-same : (w : WorkloadView) (k : KernelState C) (m : Readings) (s : ℕ) → length k.lives ≡ w.processors → overview m ≡ read_off k → must_interrupt w m (space_no s) ≡ must_in k s
   must-same w k m s processors reads =
       let F : ℕ → Overview → Bool = λ n (v : Overview).
       has_untold (get_or v.untold s []) && not (list_any (fetches s) v.under_way)
       && is_none (least_below n (λ q. is_aim s (get_or v.assign.owners q None) && is_aim s (get_or v.assign.aims q None) && is_some (get_or v.assign.lines q None))) in
       (λ i. F (sym processors i) (reads i)) ∙ ap (λ b. b && not (is_fetching k s) && is_none (least_below (length k.lives) (is_told_by k s))) (untold-same (untold_of k s))
 
-  least-same : (w : WorkloadView) (k : State C) (m : Readings) (s : ℕ) → length k.lives ≡ w.processors → overview m ≡ read_off k
+  least-same : (w : WorkloadView) (k : KernelState C) (m : Readings) (s : ℕ) → length k.lives ≡ w.processors → overview m ≡ read_off k
       → least_below w.processors (can_be_raised m (space_no s)) ≡ least_below (length k.lives) (has_low_line k s)
   least-same w k m s processors reads =
       let F : ℕ → Overview → Option ℕ = λ n (v : Overview). least_below n (λ q. is_aim s (get_or v.assign.owners q None) && is_none (get_or v.assign.lines q None)) in

@@ -11,7 +11,7 @@ use Rattle.sa_base.specs.declared.record.Note.{Note}
 use Rattle.sa_base.specs.declared.record.Note.TheVariants.{Add, Preempted, Blocked, Unblocked}
 use Rattle.sa_acts.specs.declared.acts.Act.{Act}
 use Rattle.sa_acts.specs.Table.{held_of}
-use Rattle.sa_kernel_model.specs.State.{State, untold_of}
+use Rattle.sa_kernel_model.specs.State.{KernelState, untold_of}
 use Rattle.sa_kernel_model.specs.Sound.{AreClaimed, note_claim, held_in}
 use Rattle.sa_kernel_model.proofs.SeenLemmas.{bit_of}
 use Rattle.sa_kernel_model.proofs.ClaimLemmas.{held-none, held-space}
@@ -130,7 +130,7 @@ act_of (Blocked a) = Some a.0
 act_of (Unblocked a) = Some a.0
 
 module _ {C : Type 0} where
-  copies-held : (k : State C) (t : ℕ) (n : Note) (a : ℕ) → act_of n ≡ Some a → AreClaimed k t → IsTidy k → (s : ℕ) → copies_in n (untold_of k s) ≤ held_in s (k.acts a)
+  copies-held : (k : KernelState C) (t : ℕ) (n : Note) (a : ℕ) → act_of n ≡ Some a → AreClaimed k t → IsTidy k → (s : ℕ) → copies_in n (untold_of k s) ≤ held_in s (k.acts a)
   copies-held k t (Add p) a is claimed tidy s = absurd (cc)
   copies-held k t (Preempted b) a is claimed tidy s =
       let e : b.0 ≡ a = same_Some b.0 a is in
@@ -147,20 +147,20 @@ module _ {C : Type 0} where
       let all = claimed s b.0 in let one = less-by (Unblocked b) (note_claim b.0) (back-less b) (untold_of k s) in
       subst (λ i. copies_in (Unblocked b) (untold_of k s) ≤ held_in s (k.acts i)) e (omega arith)
 
-  pub none-added : (k : State C) → IsTidy k → (p : ProcNo) → copies (Add p) k.untold ≡ 0
+  pub none-added : (k : KernelState C) → IsTidy k → (p : ProcNo) → copies (Add p) k.untold ≡ 0
   none-added k tidy p = all-none (Add p) k.untold (λ s. let none = tidy.added s in let one = less-by (Add p) add_claim (add-less p) (untold_of k s) in omega arith)
 
-  pub none-of : (k : State C) (t : ℕ) (n : Note) (a : ℕ) → act_of n ≡ Some a → AreClaimed k t → IsTidy k → held_of (k.acts a) ≡ None → copies n k.untold ≡ 0
+  pub none-of : (k : KernelState C) (t : ℕ) (n : Note) (a : ℕ) → act_of n ≡ Some a → AreClaimed k t → IsTidy k → held_of (k.acts a) ≡ None → copies n k.untold ≡ 0
   none-of k t n a is claimed tidy none =
       all-none n k.untold (λ s. let zero_held = held-none (k.acts a) s none in let less = copies-held k t n a is claimed tidy s in omega arith)
 
-  once-act : (k : State C) (t : ℕ) (n : Note) (a : ℕ) → act_of n ≡ Some a → AreClaimed k t → IsTidy k → copies n k.untold ≤ 1
+  once-act : (k : KernelState C) (t : ℕ) (n : Note) (a : ℕ) → act_of n ≡ Some a → AreClaimed k t → IsTidy k → copies n k.untold ≤ 1
   once-act k t n a is claimed tidy =
       few-copies n k.untold (λ i. let less = copies-held k t n a is claimed tidy i in let few = held-few (k.acts a) i in omega arith)
       (λ i j some more. one-held (k.acts a) i j
       (let less = copies-held k t n a is claimed tidy i in omega arith) (let less = copies-held k t n a is claimed tidy j in omega arith))
 
-  pub once-claimed : (k : State C) (t : ℕ) → AreClaimed k t → IsTidy k → AreOnce k.untold
+  pub once-claimed : (k : KernelState C) (t : ℕ) → AreClaimed k t → IsTidy k → AreOnce k.untold
   once-claimed k t claimed tidy (Add p) = let none = none-added k tidy p in omega arith
   once-claimed k t claimed tidy (Preempted a) = once-act k t (Preempted a) a.0 refl claimed tidy
   once-claimed k t claimed tidy (Blocked a) = once-act k t (Blocked a) a.0 refl claimed tidy
@@ -177,5 +177,5 @@ apart-noted us s n real none apart = record {
   added = λ q. let more = copies-noted (Add q) n us s.0 in let no = ap once_if (real q) in let old = apart.added q in omega arith;
 }
 
-pub apart-claimed : {C : Type 0} (k : State C) (t : ℕ) → AreClaimed k t → IsTidy k → AreApart k.untold
+pub apart-claimed : {C : Type 0} (k : KernelState C) (t : ℕ) → AreClaimed k t → IsTidy k → AreApart k.untold
 apart-claimed k t claimed tidy = record { once = once-claimed k t claimed tidy; added = none-added k tidy }

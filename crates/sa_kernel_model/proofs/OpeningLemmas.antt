@@ -19,7 +19,7 @@ use Rattle.sa_spaces.specs.Workload.{WorkloadView, IsWorkload, IsEviction}
 use Rattle.sa_assign.specs.Aims.{space_no, least_below}
 use Rattle.sa_assign.specs.Reaim.{proc_no, records_of}
 use Rattle.sa_devices.specs.Pages.{evicted, gone}
-use Rattle.sa_kernel_model.specs.State.{State, Scene}
+use Rattle.sa_kernel_model.specs.State.{KernelState, Scene}
 use Rattle.sa_kernel_model.specs.Closing.{closed}
 use Rattle.sa_kernel_model.specs.Opening.{opening_state, opened, first_wants as wants_in}
 use Rattle.sa_kernel_model.proofs.FormedLemmas.{all-same}
@@ -114,7 +114,7 @@ wanting-reads C w ok =
     let n = length w.spaces in
     let nothing : List ℕ = [] in
     let none : List ActNo = [] in
-    let k : State C = opening_state w in
+    let k : KernelState C = opening_state w in
     let taken : replicate n none ≡ take (length k.fixed.priorities) k.taken =
     sym (ap (λ i. take i (replicate MAX_SPACES none)) (length-map w.spaces (λ (s : SpaceView). s.priority)) ∙ take-same n MAX_SPACES none ok.few_spaces) in
     let F : List (List ActNo) → Overview = λ t. record (read_off k) { taken = t } in

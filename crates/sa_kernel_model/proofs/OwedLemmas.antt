@@ -20,7 +20,7 @@ use Rattle.sa_devices.specs.declared.kind.IoKind.{IoKind}
 use Rattle.sa_devices.specs.declared.kind.IoKind.TheVariants.{Plain, Page, Upcall}
 use Rattle.sa_devices.specs.Ios.{without}
 use Rattle.sa_devices.specs.Pages.{completed}
-use Rattle.sa_kernel_model.specs.State.{State, Scene, owner_of, aim_of, life_of, can_upcall, is_fetching, untold_of, taken_of, says}
+use Rattle.sa_kernel_model.specs.State.{KernelState, Scene, owner_of, aim_of, life_of, can_upcall, is_fetching, untold_of, taken_of, says}
 use Rattle.sa_batch.specs.Notices.{notes_told}
 use Rattle.sa_kernel_model.specs.Parts.{with_line, with_owner, without_aim, upcall, fetch_page, leave, moved, go_to_by}
 use Rattle.sa_kernel_model.specs.Entries.{stopped, go_to_aim, interrupted, told_or_left, block_begun, blocked_by, over_for, over, more, idled, gave_back, interrupted_own, kind_at, entered_as, handed_by, after_fetch}
@@ -218,7 +218,7 @@ module _ {C : Type 0} where
       (omega arith, omega arith)
 
   -- what a fetched notice hands over is to be given back
-  owed-handed : (o : Option (Stopped C)) (a : ActNo) (k : State C) → (taken_count (handed_by o a k) ≤ taken_count k + 1) × (untold_count (handed_by o a k) ≡ untold_count k) × (told_count (handed_by o a k) ≡ told_count k)
+  owed-handed : (o : Option (Stopped C)) (a : ActNo) (k : KernelState C) → (taken_count (handed_by o a k) ≤ taken_count k + 1) × (untold_count (handed_by o a k) ≡ untold_count k) × (told_count (handed_by o a k) ≡ told_count k)
   owed-handed None a k = (omega arith, refl, refl)
   owed-handed (Some h) a k =
       let s = (space_of (k.acts a.0)).0 in
@@ -226,7 +226,7 @@ module _ {C : Type 0} where
       let push = length-append (taken_of k s) (a ∷ []) in
       (omega arith, refl, refl)
 
-  pub owed-after_fetch : (notes : List Note) (k : State C) → notes ≡ k.telling → (owed_items (after_fetch notes k) ≤ owed_items k) × (pending_count (after_fetch notes k) ≤ pending_count k)
+  pub owed-after_fetch : (notes : List Note) (k : KernelState C) → notes ≡ k.telling → (owed_items (after_fetch notes k) ≤ owed_items k) × (pending_count (after_fetch notes k) ≤ pending_count k)
   owed-after_fetch [] k is = (omega arith, omega arith)
   owed-after_fetch (Add p ∷ notes) k is = let t = ap (sum_by hand_over) is in let all = sum_by-cons hand_over (Add p) notes in (omega arith, omega arith)
   owed-after_fetch (Blocked a ∷ notes) k is = let t = ap (sum_by hand_over) is in let all = sum_by-cons hand_over (Blocked a) notes in (omega arith, omega arith)
@@ -242,7 +242,7 @@ module _ {C : Type 0} where
       (omega arith, omega arith)
 
   -- what is taken of a space is on its way
-  pub taken-pending : (k : State C) (s : ℕ) → length (taken_of k s) ≤ pending_count k
+  pub taken-pending : (k : KernelState C) (s : ℕ) → length (taken_of k s) ≤ pending_count k
   taken-pending k s = elim (cases_lt s (length k.taken)) [
     | inl within ↦ let some = get_or-le-sum_by (λ (list : List ActNo). length list) k.taken s [] within in omega arith
     | inr past ↦ let none = ap length (get_or_past k.taken s [] past) in omega arith

@@ -16,7 +16,7 @@ use Rattle.sa_assign.specs.Reaim.{proc_no, raised, lines_with, lines_after, chan
 use Rattle.sa_assign.proofs.ChoiceLemmas.{least_below-passes}
 use Rattle.sa_devices.specs.declared.kind.IoKind.{IoKind}
 use Rattle.sa_devices.specs.declared.kind.IoKind.TheVariants.{Plain, Page, Upcall}
-use Rattle.sa_kernel_model.specs.State.{State, Scene, owner_of, aim_of, line_of, life_of, can_upcall, is_fetching}
+use Rattle.sa_kernel_model.specs.State.{KernelState, Scene, owner_of, aim_of, line_of, life_of, can_upcall, is_fetching}
 use Rattle.sa_kernel_model.specs.Parts.{upcall, fetch_page, leave, moved, go_to_by}
 use Rattle.sa_kernel_model.specs.Entries.{stopped, go_to_aim, interrupted, told_or_left, block_begun, blocked_by, over_for, over, more, idled, gave_back, kind_at, entered_as, handed_by, after_fetch}
 use Rattle.sa_kernel_model.specs.Closing.{for_spaces, spaces, want_one, want_for, must_want, wants, shares, aims, interrupt, interrupt_one, interrupt_for, must_interrupt, has_low_line, closed}
@@ -239,7 +239,7 @@ module _ {C : Type 0} where
   placed-gave_back e p None x placed = placed
   placed-gave_back e p (Some s) x placed = placed
 
-  placed-raise : (k : State C) (q : ℕ) (v : Option ℕ) → line_of k (proc_no q) ≡ None → IsSome (owner_of k (proc_no q)) → ArePlaced k.assign k.lives
+  placed-raise : (k : KernelState C) (q : ℕ) (v : Option ℕ) → line_of k (proc_no q) ≡ None → IsSome (owner_of k (proc_no q)) → ArePlaced k.assign k.lives
       → ArePlaced (record k.assign { lines = slice_set k.assign.lines q v }) k.lives
   placed-raise k q v low some placed =
       all-but q (record k.assign { lines = slice_set k.assign.lines q v }) k.lives (but-line q v k.assign k.lives (but-all q k.assign k.lives placed))
@@ -293,11 +293,11 @@ module _ {C : Type 0} where
       let y = aims e p (wants e p x) in
       for_spaces-keeps AllAt (interrupt_for e p) (λ s z h. placed-interrupt_one e p (must_interrupt z.state s) s z h) 0 (spaces y.state) y (placed-aimed e p x sizes placed)
 
-  placed-handed : (o : Option (Stopped C)) (a : ActNo) (k : State C) → ArePlaced k.assign k.lives → ArePlaced (handed_by o a k).assign (handed_by o a k).lives
+  placed-handed : (o : Option (Stopped C)) (a : ActNo) (k : KernelState C) → ArePlaced k.assign k.lives → ArePlaced (handed_by o a k).assign (handed_by o a k).lives
   placed-handed None a k placed = placed
   placed-handed (Some h) a k placed = placed
 
-  pub placed-after_fetch : (notes : List Note) (k : State C) → ArePlaced k.assign k.lives → ArePlaced (after_fetch notes k).assign (after_fetch notes k).lives
+  pub placed-after_fetch : (notes : List Note) (k : KernelState C) → ArePlaced k.assign k.lives → ArePlaced (after_fetch notes k).assign (after_fetch notes k).lives
   placed-after_fetch [] k placed = placed
   placed-after_fetch (Add p ∷ notes) k placed = placed
   placed-after_fetch (Blocked a ∷ notes) k placed = placed

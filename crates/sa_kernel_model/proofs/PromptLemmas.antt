@@ -16,7 +16,7 @@ use Rattle.sa_kernel_model.specs.Entries.{handed_by, after_fetch, evicted_at}
 use Rattle.sa_assign.specs.Aims.{is_aim, space_no, least_below}
 use Rattle.sa_assign.specs.Reaim.{proc_no, changes_in}
 use Rattle.sa_assign.proofs.ChoiceLemmas.{least_below-passes, least_below-none}
-use Rattle.sa_kernel_model.specs.State.{State, Scene, owner_of, aim_of, line_of, untold_of, is_fetching}
+use Rattle.sa_kernel_model.specs.State.{KernelState, Scene, owner_of, aim_of, line_of, untold_of, is_fetching}
 use Rattle.sa_batch.specs.Notices.{has_untold}
 use Rattle.sa_kernel_model.specs.Closing.{for_spaces, spaces, want_one, want_for, must_want, wants, shares, aims, is_told_by, has_low_line, must_interrupt, interrupt, interrupt_one, interrupt_for, closed}
 use Rattle.sa_kernel_model.specs.Sound.{HasSizes, HasRaised, IsPrompt}
@@ -37,22 +37,22 @@ raised-line (Some e) h = refl
 
 module _ {C : Type 0} where
   -- processors have a cell each
-  pub record IsEven (k : State C) : Type 0 where
+  pub record IsEven (k : KernelState C) : Type 0 where
     pub owners : length k.assign.owners ≡ length k.lives
     pub lines : length k.assign.lines ≡ length k.lives
 
   -- no notice of the space waits without cause
-  abbrev pub PromptFor : ℕ → State C → Type 0
+  abbrev pub PromptFor : ℕ → KernelState C → Type 0
   PromptFor s k = has_untold (untold_of k s) ≡ true → is_fetching k s ≡ false → (p : ProcNo) → owner_of k p ≡ Some (space_no s) → HasRaised k (space_no s)
 
-  owned-within : (k : State C) (p : ProcNo) (s : SpaceNo) → IsEven k → owner_of k p ≡ Some s → p.0 < length k.lives
+  owned-within : (k : KernelState C) (p : ProcNo) (s : SpaceNo) → IsEven k → owner_of k p ≡ Some s → p.0 < length k.lives
   owned-within k p s even owner = elim (cases_lt p.0 (length k.lives)) [
     | inl below ↦ below
     | inr past ↦ absurd (no-owner s (sym (get_or_past k.assign.owners p.0 None (let e = even.owners in omega arith)) ∙ owner))
   ]
 
   -- a raised line stays raised where another is
-  kept-raised : (k : State C) (q e : ℕ) (s : SpaceNo) → IsEven k → HasRaised k s → HasRaised (record k { assign = record k.assign { lines = slice_set k.assign.lines q (Some e) } }) s
+  kept-raised : (k : KernelState C) (q e : ℕ) (s : SpaceNo) → IsEven k → HasRaised k s → HasRaised (record k { assign = record k.assign { lines = slice_set k.assign.lines q (Some e) } }) s
   kept-raised k q e s even has = record {
     proc = has.proc;
     owner = has.owner;
@@ -187,9 +187,9 @@ module _ {C : Type 0} where
       (record { owners = wanted.0.owners; lines = length-lines_after e w.state.assign.lines cs ∙ wanted.0.lines }, wanted.1)
 
   -- what the spaces' parts of the closing bring about for each of them holds for all numbers, where nothing waits for the others
-  pub each-space : (e : ℕ) (p : ProcNo) (y : Scene C) (P : ℕ → State C → Type 0) → Sizes y
+  pub each-space : (e : ℕ) (p : ProcNo) (y : Scene C) (P : ℕ → KernelState C → Type 0) → Sizes y
       → ((s : ℕ) → s < spaces y.state → P s (for_spaces (interrupt_for e p) 0 (spaces y.state) y).state)
-      → ((s : ℕ) (k : State C) → has_untold (untold_of k s) ≡ false → P s k) → (s : ℕ) → P s (for_spaces (interrupt_for e p) 0 (spaces y.state) y).state
+      → ((s : ℕ) (k : KernelState C) → has_untold (untold_of k s) ≡ false → P s k) → (s : ℕ) → P s (for_spaces (interrupt_for e p) 0 (spaces y.state) y).state
   each-space e p y P sizes within nothing s =
       let last = for_spaces (interrupt_for e p) 0 (spaces y.state) y in
       let len : length last.state.untold ≡ spaces y.state =
@@ -207,7 +207,7 @@ module _ {C : Type 0} where
       (λ t k none some. absurd (cc)) s.0 waits idle r owner
 
   -- where aims, lines, notices and I/Os are the same
-  prompt-same : (k m : State C) → m.assign ≡ k.assign → m.untold ≡ k.untold → m.under_way ≡ k.under_way → IsPrompt k → IsPrompt m
+  prompt-same : (k m : KernelState C) → m.assign ≡ k.assign → m.untold ≡ k.untold → m.under_way ≡ k.under_way → IsPrompt k → IsPrompt m
   prompt-same k m assign untold ios prompt s waits idle p owner =
       let h = prompt s (subst (λ (v : List (List Note)). has_untold (get_or v s.0 []) ≡ true) untold waits) (subst (λ (v : List Io). list_any (fetches s.0) v ≡ false) ios idle) p
       (subst (λ (v : AssignView). get_or v.owners p.0 None ≡ Some s) assign owner) in
@@ -217,19 +217,19 @@ module _ {C : Type 0} where
         raised = subst (λ (v : AssignView). IsSome (get_or v.lines h.proc.0 None)) (sym assign) h.raised;
       }
 
-  pub prompt-evicted : (event : ℕ) (k : State C) → IsPrompt k → IsPrompt (evicted_at event k)
+  pub prompt-evicted : (event : ℕ) (k : KernelState C) → IsPrompt k → IsPrompt (evicted_at event k)
   prompt-evicted event k prompt = prompt-same k (evicted_at event k) refl refl refl prompt
 
-  same-handed : (o : Option (Stopped C)) (a : ActNo) (k : State C) → ((handed_by o a k).assign ≡ k.assign) × ((handed_by o a k).untold ≡ k.untold) × ((handed_by o a k).under_way ≡ k.under_way)
+  same-handed : (o : Option (Stopped C)) (a : ActNo) (k : KernelState C) → ((handed_by o a k).assign ≡ k.assign) × ((handed_by o a k).untold ≡ k.untold) × ((handed_by o a k).under_way ≡ k.under_way)
   same-handed None a k = (refl, refl, refl)
   same-handed (Some h) a k = (refl, refl, refl)
 
-  same-fetched : (notes : List Note) (k : State C) → ((after_fetch notes k).assign ≡ k.assign) × ((after_fetch notes k).untold ≡ k.untold) × ((after_fetch notes k).under_way ≡ k.under_way)
+  same-fetched : (notes : List Note) (k : KernelState C) → ((after_fetch notes k).assign ≡ k.assign) × ((after_fetch notes k).untold ≡ k.untold) × ((after_fetch notes k).under_way ≡ k.under_way)
   same-fetched [] k = (refl, refl, refl)
   same-fetched (Add p ∷ notes) k = (refl, refl, refl)
   same-fetched (Blocked a ∷ notes) k = (refl, refl, refl)
   same-fetched (Preempted a ∷ notes) k = same-handed (held_of (k.acts a.0)) a (record k { telling = notes })
   same-fetched (Unblocked a ∷ notes) k = same-handed (held_of (k.acts a.0)) a (record k { telling = notes })
 
-  pub prompt-after_fetch : (notes : List Note) (k : State C) → IsPrompt k → IsPrompt (after_fetch notes k)
+  pub prompt-after_fetch : (notes : List Note) (k : KernelState C) → IsPrompt k → IsPrompt (after_fetch notes k)
   prompt-after_fetch notes k prompt = let same = same-fetched notes k in prompt-same k (after_fetch notes k) same.0 same.1 same.2 prompt

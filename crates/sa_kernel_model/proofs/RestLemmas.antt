@@ -15,7 +15,7 @@ use Rattle.sa_assign.specs.Aims.{Change, is_aim, least_below}
 use Rattle.sa_assign.specs.Reaim.{proc_no, changes_in, changed, records_of}
 use Rattle.sa_assign.proofs.ChoiceLemmas.{least_below-passes, least_below-none}
 use Rattle.sa_batch.specs.Notices.{has_untold}
-use Rattle.sa_kernel_model.specs.State.{State, Scene, owner_of, aim_of, line_of, untold_of, is_fetching}
+use Rattle.sa_kernel_model.specs.State.{KernelState, Scene, owner_of, aim_of, line_of, untold_of, is_fetching}
 use Rattle.sa_kernel_model.specs.Closing.{for_spaces, spaces, want_one, want_for, must_want, wants, aims, shares, interrupt, interrupt_one, interrupt_for, must_interrupt, is_told_by, has_low_line, lines, closed, NoLineIsDue}
 use Rattle.sa_kernel_model.specs.Entries.{handed_by, after_fetch}
 use Rattle.sa_acts.specs.Table.{held_of}
@@ -65,7 +65,7 @@ is-owner s o a same is = ap (is_aim s) same ∙ is
 
 module _ {C : Type 0} where
   -- the space is told somewhere, or owns no processor with a low line
-  abbrev Rests : ℕ → State C → Type 0
+  abbrev Rests : ℕ → KernelState C → Type 0
   Rests s k = must_interrupt k s ≡ true → least_below (length k.lives) (has_low_line k s) ≡ None
 
   abbrev Base : Scene C → Type 0
@@ -128,7 +128,7 @@ module _ {C : Type 0} where
         | inr apart ↦ served-from e p (s + 1) n y t (base-one e p (must_interrupt x.state s) s x base) (omega arith) (omega arith)
       ]
 
-  nothing-waits : (s : ℕ) (k : State C) → has_untold (untold_of k s) ≡ false → Rests s k
+  nothing-waits : (s : ℕ) (k : KernelState C) → has_untold (untold_of k s) ≡ false → Rests s k
   nothing-waits s k none must =
       absurd (true-false (sym (and_parts (has_untold (untold_of k s)) (not (is_fetching k s)) (and_parts (has_untold (untold_of k s) && not (is_fetching k s)) (is_none (least_below (length k.lives) (is_told_by k s))) must).0).0 ∙ none))
 
@@ -162,11 +162,11 @@ module _ {C : Type 0} where
       ∙ none-part (interrupt_for e p) 0 (spaces x.state) x (λ s. no-line e p (must_interrupt x.state s) s x refl none)
 
   -- the fetch of a notice changes nothing of this
-  rests-handed : (o : Option (Stopped C)) (a : ActNo) (k : State C) → NoLineIsDue k → NoLineIsDue (handed_by o a k)
+  rests-handed : (o : Option (Stopped C)) (a : ActNo) (k : KernelState C) → NoLineIsDue k → NoLineIsDue (handed_by o a k)
   rests-handed None a k none = none
   rests-handed (Some held) a k none = none
 
-  pub rests-fetched : (notes : List Note) (k : State C) → NoLineIsDue k → NoLineIsDue (after_fetch notes k)
+  pub rests-fetched : (notes : List Note) (k : KernelState C) → NoLineIsDue k → NoLineIsDue (after_fetch notes k)
   rests-fetched [] k none = none
   rests-fetched (Add p ∷ notes) k none = none
   rests-fetched (Blocked a ∷ notes) k none = none

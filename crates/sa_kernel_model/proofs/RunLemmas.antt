@@ -5,7 +5,7 @@ use Rattle.std.proofs.lemmas.List.{append-nil}
 use Rattle.sa_base.specs.declared.record.Item.{Item}
 use Rattle.sa_base.specs.Items.{items_at}
 use Rattle.sa_spaces.specs.Workload.{WorkloadView, IsWorkload}
-use Rattle.sa_kernel_model.specs.State.{State, Scene}
+use Rattle.sa_kernel_model.specs.State.{KernelState, Scene}
 use Rattle.sa_kernel_model.specs.Entries.{after_fetch}
 use Rattle.sa_kernel_model.specs.Opening.{opened}
 use Rattle.sa_laws.specs.Event.{items_of}
@@ -50,7 +50,7 @@ all-at-opening test w ok = record {
   shares_covered = start.cover-shares test w ok;
 }
 
-lawful-from : (C : Type 0) (test : Test) (w : WorkloadView) (k : State C) (r : Readings) (moves : List (Option (Turn C))) → IsWorkload w → IsKept w k r → CanMove test w k r moves
+lawful-from : (C : Type 0) (test : Test) (w : WorkloadView) (k : KernelState C) (r : Readings) (moves : List (Option (Turn C))) → IsWorkload w → IsKept w k r → CanMove test w k r moves
     → AllHoldFrom test w r (events moves k)
 lawful-from C test w k r [] ok kept can = tt
 lawful-from C test w k r (None ∷ moves) ok kept can = lawful-from C test w (after_fetch k.telling k) r moves ok (fetches-keep C w k r kept) can

@@ -9,7 +9,7 @@ use Rattle.std.proofs.Math.Pow.{pow-lt}
 use Rattle.sa_base.specs.declared.number.ProcNo.{ProcNo}
 use Rattle.sa_base.specs.declared.number.SpaceNo.{SpaceNo}
 use Rattle.sa_assign.specs.Aims.{is_aim}
-use Rattle.sa_kernel_model.specs.State.{State, owner_of, line_of}
+use Rattle.sa_kernel_model.specs.State.{KernelState, owner_of, line_of}
 use Rattle.sa_kernel_model.specs.Closing.{has_low_line}
 use Rattle.sa_kernel_model.specs.Sound.{HasSizes}
 use Rattle.sa_kernel_model.specs.Seen.{bits_where, low_of, IsLow}
@@ -66,17 +66,17 @@ low-from s (Some t) (Some e) is = absurd (and-false (is_aim s.0 (Some t)) is)
     and-false false h = cc
 
 module _ {C : Type 0} where
-  pub low-is : (k : State C) (s : SpaceNo) (q : ProcNo) → has_low_line k s.0 q.0 ≡ true → IsLow k s q
+  pub low-is : (k : KernelState C) (s : SpaceNo) (q : ProcNo) → has_low_line k s.0 q.0 ≡ true → IsLow k s q
   low-is k s q is = let h = low-from s (owner_of k q) (line_of k q) is in record { owner = h.0; line = h.1 }
 
-  pub is-low : (k : State C) (s : SpaceNo) (q : ProcNo) → IsLow k s q → has_low_line k s.0 q.0 ≡ true
+  pub is-low : (k : KernelState C) (s : SpaceNo) (q : ProcNo) → IsLow k s q → has_low_line k s.0 q.0 ≡ true
   is-low k s q low =
       ap (λ (o : Option SpaceNo). is_aim s.0 o && is_none (line_of k q)) low.owner
       ∙ ap (λ (l : Option ℕ). is_aim s.0 (Some s) && is_none l) low.line
       ∙ ap (λ b. b && true) (eq-eqb s.0 s.0 refl)
 
   -- bit q of the low lines is 1 exactly where the space owns processor q, whose line is low
-  pub low-bit : (k : State C) (s : SpaceNo) (q : ProcNo) → HasSizes k → (bit_at (low_of k s) q.0 ≡ 1) ↔ IsLow k s q
+  pub low-bit : (k : KernelState C) (s : SpaceNo) (q : ProcNo) → HasSizes k → (bit_at (low_of k s) q.0 ≡ 1) ↔ IsLow k s q
   low-bit k s q sizes = elim (cases_lt q.0 (length k.lives)) [
     | inl below ↦
         let bit = bit_at-bits_where (has_low_line k s.0) (length k.lives) q.0 below in

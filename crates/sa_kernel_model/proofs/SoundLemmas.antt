@@ -5,7 +5,7 @@ use Rattle.sa_base.specs.declared.number.ActNo.{ActNo}
 use Rattle.sa_base.specs.declared.record.Note.{Note}
 use Rattle.sa_spaces.specs.Workload.{WorkloadView, IsWorkload}
 use Rattle.sa_assign.specs.Reaim.{proc_no}
-use Rattle.sa_kernel_model.specs.State.{State, Scene}
+use Rattle.sa_kernel_model.specs.State.{KernelState, Scene}
 use Rattle.sa_kernel_model.specs.Closing.{closed}
 use Rattle.sa_kernel_model.specs.Entries.{entered_as, entered, after_fetch, evicted_at}
 use Rattle.sa_kernel_model.specs.Opening.{opening_state, opened}
@@ -56,14 +56,14 @@ module _ {C : Type 0} where
     claimed = record { told_to = sound.claimed.told_to; once = claimed-closed e p x sound.claimed.told_to sound.claimed.once };
   }
 
-  pub sound-after_fetch : (notes : List Note) (k : State C) → notes ≡ k.telling → IsSound k → IsSound (after_fetch notes k)
+  pub sound-after_fetch : (notes : List Note) (k : KernelState C) → notes ≡ k.telling → IsSound k → IsSound (after_fetch notes k)
   sound-after_fetch notes k is sound = record {
     formed = formed-after_fetch notes k sound.formed;
     placed = placed-after_fetch notes k sound.placed;
     claimed = record { told_to = sound.claimed.told_to; once = claimed-after_fetch notes k sound.claimed.told_to is sound.claimed.once };
   }
 
-  pub sound-evicted : (event : ℕ) (k : State C) → IsSound k → IsSound (evicted_at event k)
+  pub sound-evicted : (event : ℕ) (k : KernelState C) → IsSound k → IsSound (evicted_at event k)
   sound-evicted event k sound = record {
     formed = formed-evicted event k sound.formed;
     placed = sound.placed;

@@ -25,7 +25,7 @@ use Rattle.sa_devices.specs.Ios.{Io, fetches}
 use Rattle.sa_base.specs.Pages.{has_page}
 use Rattle.sa_devices.specs.declared.kind.IoKind.{IoKind}
 use Rattle.sa_kernel_model.specs.Closing.{was_idle as idle_in}
-use Rattle.sa_kernel_model.specs.State.{State, Scene, owner_of, life_of, untold_of, is_fetching, can_upcall}
+use Rattle.sa_kernel_model.specs.State.{KernelState, Scene, owner_of, life_of, untold_of, is_fetching, can_upcall}
 use Rattle.sa_kernel_model.specs.Parts.{upcall, put_aside, with_io, go_to}
 use Rattle.sa_kernel_model.specs.Entries.{stopped, told_or_left, block_begun, io_for}
 use Rattle.sa_kernel_model.proofs.FormedLemmas.{free-set}
@@ -88,7 +88,7 @@ WasStopped r b held = (life : Life) → r.lives b.0 ≡ Some life → held.idle 
 
 module _ {C : Type 0} where
   -- what is needed where a context is put aside, before the processor goes on
-  pub record CanStop (w : WorkloadView) (k : State C) (r : Readings) (p : ProcNo) (fresh : ActNo) : Type 0 where
+  pub record CanStop (w : WorkloadView) (k : KernelState C) (r : Readings) (p : ProcNo) (fresh : ActNo) : Type 0 where
     pub reads : overview r ≡ read_off k
     pub fetch : k.fixed.fetch ≡ w.fetch
     pub empty : k.telling ≡ []
@@ -98,7 +98,7 @@ module _ {C : Type 0} where
     pub moved : r.moved ≡ None
 
   -- The activation that is put aside is told of for the first time.
-  pub record IsAside (k : State C) (p : ProcNo) (o : SpaceNo) (b fresh : ActNo) (n : Note) : Type 0 where
+  pub record IsAside (k : KernelState C) (p : ProcNo) (o : SpaceNo) (b fresh : ActNo) (n : Note) : Type 0 where
     pub runs : Running k p o b
     pub inside : o.0 < length k.untold
     pub real : (q : ProcNo) → same_note n (Add q) ≡ false
@@ -112,7 +112,7 @@ module _ {C : Type 0} where
     | inr apart ↦ put-other acts b m (holding held (acts b)) apart ∙ free
   ]
 
-  go-on : (w : WorkloadView) (k : State C) (r next : Readings) (p : ProcNo) (o s : SpaceNo) (b fresh : ActNo) (n : Note) (held : Stopped C) (owned : Bool) → CanStop w k r p fresh → IsAside k p o b fresh n
+  go-on : (w : WorkloadView) (k : KernelState C) (r next : Readings) (p : ProcNo) (o s : SpaceNo) (b fresh : ActNo) (n : Note) (held : Stopped C) (owned : Bool) → CanStop w k r p fresh → IsAside k p o b fresh n
       → s.0 < length k.untold → overview next ≡ set_aside p o n (overview r) → next.moved ≡ None → (owned ≡ true → s.0 ≡ o.0)
       → CanGo w (put_aside p o b n held k) next p s fresh owned
   go-on w k r next p o s b fresh n held owned can aside inside reads moved same = record {
@@ -129,7 +129,7 @@ module _ {C : Type 0} where
   }
 
   -- where an interrupted processor goes is read off the history
-  aim-goes : (w : WorkloadView) (k : State C) (r : Readings) (p : ProcNo) (s : SpaceNo) (all : List Record) (o owner : Option SpaceNo) → overview r ≡ read_off k → o ≡ owner
+  aim-goes : (w : WorkloadView) (k : KernelState C) (r : Readings) (p : ProcNo) (s : SpaceNo) (all : List Record) (o owner : Option SpaceNo) → overview r ≡ read_off k → o ≡ owner
       → GoesTo (can_upcall k s) (is_aim s.0 o) p r o s all → GoesTo (is_resident r s UPCALL_PAGE) (is_aim s.0 owner) p r owner s all
   aim-goes w k r p s all o owner reads is goes =
       subst (λ (v : Overview). GoesTo (has_page (slice_index v.pages s.0) 0) (is_aim s.0 owner) p r owner s all) (sym reads)
@@ -173,10 +173,10 @@ module _ {C : Type 0} where
       not-none s (Some t) none is = cc
 
   -- which of those that wait were idle
-  held-other : (k : State C) (a b : ActNo) (held : Stopped C) → b.0 ≢ a.0 → idle_in (held_of (put k.acts a.0 (holding held (k.acts a.0)) b.0)) ≡ idle_in (held_of (k.acts b.0))
+  held-other : (k : KernelState C) (a b : ActNo) (held : Stopped C) → b.0 ≢ a.0 → idle_in (held_of (put k.acts a.0 (holding held (k.acts a.0)) b.0)) ≡ idle_in (held_of (k.acts b.0))
   held-other k a b held apart = ap (λ o. idle_in (held_of o)) (put-other k.acts a.0 b.0 (holding held (k.acts a.0)) apart)
 
-  stop-idle : (w : WorkloadView) (e : ℕ) (p : ProcNo) (r : Readings) (k : State C) (o : SpaceNo) (b : ActNo) (held : Stopped C) → copies (Preempted b) k.untold ≡ 0 → overview r ≡ read_off k
+  stop-idle : (w : WorkloadView) (e : ℕ) (p : ProcNo) (r : Readings) (k : KernelState C) (o : SpaceNo) (b : ActNo) (held : Stopped C) → copies (Preempted b) k.untold ≡ 0 → overview r ≡ read_off k
       → k.acts b.0 ≡ Some (runs_in o) → WasStopped r b held → IdleAlike k r → IdleAlike (put_aside p o b (Preempted b) held k) (after_record w e p r (Stop o held.thread b))
   stop-idle w e p r k o b held none reads act right idle t c has =
       let life = has-life (r.lives b.0) o (ap (λ (v : Overview). v.spaces b.0) reads ∙ ap act_space act) in
@@ -190,7 +190,7 @@ module _ {C : Type 0} where
             ∙ sym (ap (λ x. idle_in (held_of x)) (put-at k.acts b.0 c.0 (holding held (k.acts b.0)) same ∙ ap (holding held) act))
       ]
 
-  block-idle : (w : WorkloadView) (e : ℕ) (p : ProcNo) (r : Readings) (k : State C) (s : SpaceNo) (a : ActNo) (held : Stopped C) (kind : IoKind) (ends : ℕ) (io : IoNo) → copies (Preempted a) k.untold ≡ 0
+  block-idle : (w : WorkloadView) (e : ℕ) (p : ProcNo) (r : Readings) (k : KernelState C) (s : SpaceNo) (a : ActNo) (held : Stopped C) (kind : IoKind) (ends : ℕ) (io : IoNo) → copies (Preempted a) k.untold ≡ 0
       → IdleAlike k r → IdleAlike (put_aside p s a (Blocked a) held (with_io kind ends k)) (after_record w e p r (Block s held.thread a io))
   block-idle w e p r k s a held kind ends io none idle t c has =
       elim (contains-noted k.untold s.0 t (Blocked a) (Preempted c) has) [
@@ -228,7 +228,7 @@ module _ {C : Type 0} where
       }
 
   -- behind a block stands an upcall, or the leave
-  abbrev Behind : Bool → State C → ProcNo → SpaceNo → List Record → Type 0
+  abbrev Behind : Bool → KernelState C → ProcNo → SpaceNo → List Record → Type 0
   Behind true k p s all = BeginsWithUp s all
   Behind false k p s all = leave_run all ≡ leave_records p (owner_of k p) s (is_fetching k s.0)
 
@@ -238,7 +238,7 @@ module _ {C : Type 0} where
       reshaped w e p r x (upcall e p s fresh false x) (BeginsWithUp s) IsUpWithTold IsPassage (λ xs told. told.alone) (up-walk w e p r x s fresh false up)
   behind-walk false w e p r x s fresh same up = leave-walk w e p r x s same up.reads
 
-  goes-behind : (b : Bool) (k : State C) (r : Readings) (p : ProcNo) (s : SpaceNo) (all : List Record)
+  goes-behind : (b : Bool) (k : KernelState C) (r : Readings) (p : ProcNo) (s : SpaceNo) (all : List Record)
       → leave_records p (owner_of k p) s (is_fetching k s.0) ≡ leave_records p (Some s) s (list_any (fetches s.0) r.under_way) → Behind b k p s all → GoesOn b p r s all
   goes-behind true k r p s all left behind = behind
   goes-behind false k r p s all left behind = behind ∙ left

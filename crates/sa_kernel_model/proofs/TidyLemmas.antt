@@ -11,7 +11,7 @@ use Rattle.sa_base.specs.declared.record.Note.{Note}
 use Rattle.sa_base.specs.declared.record.Note.TheVariants.{Preempted, Blocked, Unblocked}
 use Rattle.sa_devices.specs.Ios.{Io, io_at, is_number, without, fetches, is_fetch_of}
 use Rattle.sa_devices.specs.declared.kind.IoKind.TheVariants.{Upcall}
-use Rattle.sa_kernel_model.specs.State.{State, taken_of}
+use Rattle.sa_kernel_model.specs.State.{KernelState, taken_of}
 use Rattle.sa_kernel_model.specs.Sound.{io_claim, kind_claim}
 use Rattle.sa_kernel_model.specs.Entries.{io_for}
 use Rattle.sa_kernel_model.specs.Kept.{IsTidy, AreDistinct, add_claim, block_claim, back_claim, fetch_claim}
@@ -181,8 +181,8 @@ tidy-fetched us ios n here at none tidy = record {
 
 module _ {C : Type 0} where
   -- The same of a state.
-  pub tidy-in : (k : State C) → IsTidy k → AreTidy k.untold k.under_way
+  pub tidy-in : (k : KernelState C) → IsTidy k → AreTidy k.untold k.under_way
   tidy-in k tidy = record { added = tidy.added; blocked = tidy.blocked; fetched = tidy.fetched }
 
-  pub tidy-of : (k : State C) → AreTidy k.untold k.under_way → ((s : ℕ) → AreDistinct (taken_of k s)) → IsTidy k
+  pub tidy-of : (k : KernelState C) → AreTidy k.untold k.under_way → ((s : ℕ) → AreDistinct (taken_of k s)) → IsTidy k
   tidy-of k tidy taken = record { added = tidy.added; blocked = tidy.blocked; fetched = tidy.fetched; taken = taken }

@@ -21,7 +21,7 @@ use Rattle.sa_devices.specs.Pages.{completed, IsKind}
 use Rattle.sa_devices.specs.declared.kind.IoKind.{IoKind}
 use Rattle.sa_kernel_model.specs.declared.entry.Entry.{Entry}
 use Rattle.sa_kernel_model.specs.declared.entry.Entry.TheVariants as entry
-use Rattle.sa_kernel_model.specs.State.{State, Scene, Fixed, owner_of, life_of, aim_of, line_of, demand_of, taken_of}
+use Rattle.sa_kernel_model.specs.State.{KernelState, Scene, Fixed, owner_of, life_of, aim_of, line_of, demand_of, taken_of}
 use Rattle.sa_kernel_model.specs.Parts.{with_line}
 use Rattle.sa_kernel_model.specs.Entries.{stopped, go_to_aim, interrupted, blocked_by, kind_at, over, over_for, announced, more, idled, gave_back, interrupted_own, entered_as}
 use Rattle.sa_kernel_model.specs.Sound.{IsSound}
@@ -61,7 +61,7 @@ same_kind a b kind is same = ap (λ (i : Io). i.kind) (sym same) ∙ is
 
 module _ {C : Type 0} where
   -- what is so before an entry; the event's processor has a low line then
-  pub record Stands (w : WorkloadView) (k : State C) (r : Readings) (p : ProcNo) : Type 0 where
+  pub record Stands (w : WorkloadView) (k : KernelState C) (r : Readings) (p : ProcNo) : Type 0 where
     pub sound : IsSound k
     pub tidy : IsTidy k
     pub of : IsOf w k
@@ -72,26 +72,26 @@ module _ {C : Type 0} where
     pub within : p.0 < length k.lives
     pub idle : IdleAlike k r
 
-  fetch-is : (w : WorkloadView) (k : State C) → IsOf w k → k.fixed.fetch ≡ w.fetch
+  fetch-is : (w : WorkloadView) (k : KernelState C) → IsOf w k → k.fixed.fetch ≡ w.fetch
   fetch-is w k of = ap (λ (f : Fixed). f.fetch) of.fixed
 
   -- where the line is low already
-  low-reads : (w : WorkloadView) (k : State C) (r : Readings) (p : ProcNo) → Stands w k r p → line_of k p ≡ None → overview r ≡ read_off k
+  low-reads : (w : WorkloadView) (k : KernelState C) (r : Readings) (p : ProcNo) → Stands w k r p → line_of k p ≡ None → overview r ≡ read_off k
   low-reads w k r p stands low =
       let F : List (Option ℕ) → Overview = λ lines. read_off (record k { assign = record k.assign { lines = lines } }) in
       stands.reads ∙ ap F (ap (λ l. slice_set k.assign.lines p.0 l) (sym low) ∙ set-get_or k.assign.lines p.0 None)
 
   -- the owner of a processor, its aim, and what runs there
-  inside-untold : (k : State C) (s : SpaceNo) → IsSound k → s.0 < length k.demands → s.0 < length k.untold
+  inside-untold : (k : KernelState C) (s : SpaceNo) → IsSound k → s.0 < length k.demands → s.0 < length k.untold
   inside-untold k s sound below = let len = sound.formed.sizes.untold in omega arith
 
-  owner-life : (k : State C) (p : ProcNo) (s : SpaceNo) → IsSound k → owner_of k p ≡ Some s → IsSome (life_of k p)
+  owner-life : (k : KernelState C) (p : ProcNo) (s : SpaceNo) → IsSound k → owner_of k p ≡ Some s → IsSome (life_of k p)
   owner-life k p s sound owner = (sound.placed p.0).runs (subst (λ (o : Option SpaceNo). IsSome o) (sym owner) refl)
 
-  life-owner : (k : State C) (p : ProcNo) (a : ActNo) → IsSound k → owner_of k p ≡ None → life_of k p ≡ Some a → ⊥
+  life-owner : (k : KernelState C) (p : ProcNo) (a : ActNo) → IsSound k → owner_of k p ≡ None → life_of k p ≡ Some a → ⊥
   life-owner k p a sound none life = let runs = sound.formed.lives.run p.0 a life in none-some runs.space (sym none ∙ runs.owner)
 
-  aside : (k : State C) (p : ProcNo) (s : SpaceNo) (a fresh : ActNo) → IsSound k → IsTidy k → owner_of k p ≡ Some s → life_of k p ≡ Some a → k.acts fresh.0 ≡ None
+  aside : (k : KernelState C) (p : ProcNo) (s : SpaceNo) (a fresh : ActNo) → IsSound k → IsTidy k → owner_of k p ≡ Some s → life_of k p ≡ Some a → k.acts fresh.0 ≡ None
       → IsAside k p s a fresh (Preempted a) × IsAside k p s a fresh (Blocked a)
   aside k p s a fresh sound tidy owner life unused =
       let act = runs-here k p s a owner life sound.formed in
@@ -104,14 +104,14 @@ module _ {C : Type 0} where
         record { runs = runs; inside = inside; real = λ q. refl; new = none-of k sound.claimed.told_to (Blocked a) a.0 refl sound.claimed.once tidy none; stopped = stopped; other = refl },
       )
 
-  new-fresh : (k : State C) (fresh : ActNo) → IsSound k → IsTidy k → k.acts fresh.0 ≡ None → copies (Preempted fresh) k.untold ≡ 0
+  new-fresh : (k : KernelState C) (fresh : ActNo) → IsSound k → IsTidy k → k.acts fresh.0 ≡ None → copies (Preempted fresh) k.untold ≡ 0
   new-fresh k fresh sound tidy unused = none-of k sound.claimed.told_to (Preempted fresh) fresh.0 refl sound.claimed.once tidy (ap held_of unused)
 
-  same-tidy : (k : State C) (p : ProcNo) → IsTidy k → IsTidy (with_line p None k)
+  same-tidy : (k : KernelState C) (p : ProcNo) → IsTidy k → IsTidy (with_line p None k)
   same-tidy k p tidy = record { added = tidy.added; blocked = tidy.blocked; fetched = tidy.fetched; taken = tidy.taken }
 
   -- an interrupt
-  turned-raised : (w : WorkloadView) (e : ℕ) (p : ProcNo) (r : Readings) (k : State C) (held : Option (Stopped C)) (x y : Scene C) (o : Option SpaceNo) (s : SpaceNo) → is_some (line_of k p) ≡ true → x.items ≡ [] → x.state.fixed ≡ k.fixed → IdleAlike x.state r → IsTidy x.state
+  turned-raised : (w : WorkloadView) (e : ℕ) (p : ProcNo) (r : Readings) (k : KernelState C) (held : Option (Stopped C)) (x y : Scene C) (o : Option SpaceNo) (s : SpaceNo) → is_some (line_of k p) ≡ true → x.items ≡ [] → x.state.fixed ≡ k.fixed → IdleAlike x.state r → IsTidy x.state
       → owner_in r p ≡ o → aim_in r p ≡ Some s → Walk w e p r x y (StopsAndGoes p r o (Some s)) IsInterrupt → Turned w e p r k [] (Some (entry.Interrupt held)) y
   turned-raised w e p r k held x y o s up empty fixed idle tidy owner aim walk = record {
     records = walk.records;
@@ -133,10 +133,10 @@ module _ {C : Type 0} where
     asked = λ c rest same. own-asked w c p walk.records rest walk.some walk.own;
   }
 
-  users-idle : (w : WorkloadView) (e : ℕ) (p : ProcNo) (r : Readings) (k : State C) (says : List Record) → AreUsers says → IdleAlike k r → IdleAlike k (after_records w e p r says)
+  users-idle : (w : WorkloadView) (e : ℕ) (p : ProcNo) (r : Readings) (k : KernelState C) (says : List Record) → AreUsers says → IdleAlike k r → IdleAlike k (after_records w e p r says)
   users-idle w e p r k says users idle s a has = ap (λ f. f a.0) (users-idles w e p r says users) ∙ idle s a has
 
-  stands-stop : (w : WorkloadView) (k : State C) (r : Readings) (p : ProcNo) (fresh : ActNo) → Stands w k r p → k.acts fresh.0 ≡ None → CanStop w (with_line p None k) r p fresh
+  stands-stop : (w : WorkloadView) (k : KernelState C) (r : Readings) (p : ProcNo) (fresh : ActNo) → Stands w k r p → k.acts fresh.0 ≡ None → CanStop w (with_line p None k) r p fresh
   stands-stop w k r p fresh stands unused = record {
     reads = stands.reads;
     fetch = fetch-is w k stands.of;
@@ -151,7 +151,7 @@ module _ {C : Type 0} where
   WereStopped r a None = Unit {0}
   WereStopped r a (Some held) = WasStopped r a held
 
-  turned-interrupt : (w : WorkloadView) (e : ℕ) (p : ProcNo) (r : Readings) (k : State C) (fresh : ActNo) (aim o : Option SpaceNo) (l : Option ActNo) (held : Option (Stopped C)) → Stands w k r p → k.acts fresh.0 ≡ None
+  turned-interrupt : (w : WorkloadView) (e : ℕ) (p : ProcNo) (r : Readings) (k : KernelState C) (fresh : ActNo) (aim o : Option SpaceNo) (l : Option ActNo) (held : Option (Stopped C)) → Stands w k r p → k.acts fresh.0 ≡ None
       → FitsInterrupt k p held → ((a : ActNo) → life_of k p ≡ Some a → WereStopped r a held) → aim_of k p ≡ aim → owner_of k p ≡ o → life_of k p ≡ l
       → Turned w e p r k [] (Some (entry.Interrupt held)) (go_to_aim e p fresh aim (stopped e p o l held (record { state = with_line p None k; items = [] })))
   turned-interrupt w e p r k fresh None o l held stands unused fits right aim owner life =
@@ -178,7 +178,7 @@ module _ {C : Type 0} where
       (ap (λ (v : Overview). get_or v.assign.owners p.0 None) stands.reads ∙ owner) (ap (λ (v : Overview). get_or v.assign.aims p.0 None) stands.reads ∙ aim) walk
 
   -- a block
-  turned-block : (w : WorkloadView) (e : ℕ) (p : ProcNo) (r : Readings) (k : State C) (says : List Record) (fresh : ActNo) (held : Stopped C) (len : ℕ) (page : Option ℕ) (o : Option SpaceNo) (l : Option ActNo)
+  turned-block : (w : WorkloadView) (e : ℕ) (p : ProcNo) (r : Readings) (k : KernelState C) (says : List Record) (fresh : ActNo) (held : Stopped C) (len : ℕ) (page : Option ℕ) (o : Option SpaceNo) (l : Option ActNo)
       → Stands w k r p → k.acts fresh.0 ≡ None → FitsBlock k p page → AreUsers says → IsFor w k p (after_records w e p r says) held len page → owner_of k p ≡ o → life_of k p ≡ l
       → Turned w e p r k says (Some (entry.Block held len page)) (blocked_by e p fresh o l held len page (record { state = k; items = items_at e p says }))
   turned-block w e p r k says fresh held len page None l stands unused fits users for owner life = absurd (none-some fits.space (sym owner ∙ fits.asks.owner))
@@ -200,7 +200,7 @@ module _ {C : Type 0} where
       low-turned w e p r k says (Some (entry.Block held len page)) x _ IsBlock fits.asks.low users refl refl (users-idle w e p r k says users stands.idle) stands.tidy walk (λ own is. record { own = own; is = refl; shape = is })
 
   -- a completion
-  turned-over : (w : WorkloadView) (e : ℕ) (p : ProcNo) (r : Readings) (k : State C) (says : List Record) (io : IoNo) (kind : Option IoKind) → Stands w k r p → FitsComplete k p e io → AreUsers says → kind_at io.0 k.under_way ≡ kind
+  turned-over : (w : WorkloadView) (e : ℕ) (p : ProcNo) (r : Readings) (k : KernelState C) (says : List Record) (io : IoNo) (kind : Option IoKind) → Stands w k r p → FitsComplete k p e io → AreUsers says → kind_at io.0 k.under_way ≡ kind
       → Turned w e p r k says (Some (entry.Complete io)) (over e p io kind (record { state = k; items = items_at e p says }))
   turned-over w e p r k says io None stands fits users is = absurd (none-some fits.here.kind (sym is ∙ ap (λ o. option_map (λ (i : Io). i.kind) o) fits.under_way))
   turned-over w e p r k says io (Some kind) stands fits users is =
@@ -215,7 +215,7 @@ module _ {C : Type 0} where
       (λ own over. record { own = own; is = refl; shape = λ io_here at. subst (λ was. IsOver was own) (sym (same_kind fits.here io_here kind same (same_Some fits.here io_here (sym fits.under_way ∙ at)))) over })
 
   -- a hint is its event's first record
-  turned-want : (w : WorkloadView) (e : ℕ) (p : ProcNo) (r : Readings) (k : State C) (s : SpaceNo) (n : ℕ) (idle : Bool) (en : Option (Entry C)) → Stands w k r p → line_of k p ≡ None → ShapeOf k p [] en (Want s n ∷ [])
+  turned-want : (w : WorkloadView) (e : ℕ) (p : ProcNo) (r : Readings) (k : KernelState C) (s : SpaceNo) (n : ℕ) (idle : Bool) (en : Option (Entry C)) → Stands w k r p → line_of k p ≡ None → ShapeOf k p [] en (Want s n ∷ [])
       → ((mark : Bool) → mark_after None (demand_of k s.0) n mark ≡ idle)
       → Turned w e p r k [] en (announced e p s n idle (record { state = k; items = [] }))
   turned-want w e p r k s n idle en stands low shape marks =
@@ -242,16 +242,16 @@ module _ {C : Type 0} where
         asked = λ c rest same. tt;
       }
 
-  hint-of : (k : State C) (s t : SpaceNo) (n : SpaceNo → ℕ) → s ≡ t → Want s (n s) ∷ [] ≡ Want t (n t) ∷ []
+  hint-of : (k : KernelState C) (s t : SpaceNo) (n : SpaceNo → ℕ) → s ≡ t → Want s (n s) ∷ [] ≡ Want t (n t) ∷ []
   hint-of k s t n same = ap (λ (u : SpaceNo). Want u (n u) ∷ []) same
 
-  turned-more : (w : WorkloadView) (e : ℕ) (p : ProcNo) (r : Readings) (k : State C) (n : ℕ) (o : Option SpaceNo) → Stands w k r p → FitsMore k p n → owner_of k p ≡ o
+  turned-more : (w : WorkloadView) (e : ℕ) (p : ProcNo) (r : Readings) (k : KernelState C) (n : ℕ) (o : Option SpaceNo) → Stands w k r p → FitsMore k p n → owner_of k p ≡ o
       → Turned w e p r k [] (Some (entry.More n)) (more e p n o (record { state = k; items = [] }))
   turned-more w e p r k n None stands fits owner = absurd (none-some fits.space (sym owner ∙ fits.asks.owner))
   turned-more w e p r k n (Some s) stands fits owner =
       turned-want w e p r k s (demand_of k s.0 + n) false (Some (entry.More n)) stands fits.asks.low (λ t is. hint-of k s t (λ u. demand_of k u.0 + n) (same_Some s t (sym owner ∙ is))) (λ mark. le-ltb (demand_of k s.0 + n) (demand_of k s.0) (omega arith))
 
-  turned-idle : (w : WorkloadView) (e : ℕ) (p : ProcNo) (r : Readings) (k : State C) (o : Option SpaceNo) → Stands w k r p → FitsIdle k p → owner_of k p ≡ o
+  turned-idle : (w : WorkloadView) (e : ℕ) (p : ProcNo) (r : Readings) (k : KernelState C) (o : Option SpaceNo) → Stands w k r p → FitsIdle k p → owner_of k p ≡ o
       → Turned w e p r k [] (Some entry.Idle) (idled e p o (record { state = k; items = [] }))
   turned-idle w e p r k None stands fits owner = absurd (none-some fits.space (sym owner ∙ fits.asks.owner))
   turned-idle w e p r k (Some s) stands fits owner =
@@ -259,7 +259,7 @@ module _ {C : Type 0} where
       let some : 1 ≤ demand_of k s.0 = subst (λ (t : SpaceNo). 1 ≤ demand_of k t.0) same fits.some in
       turned-want w e p r k s (demand_of k s.0 - 1) true (Some entry.Idle) stands fits.asks.low (λ t is. hint-of k s t (λ u. demand_of k u.0 - 1) (same_Some s t (sym owner ∙ is))) (λ mark. lt-ltb (demand_of k s.0 - 1) (demand_of k s.0) (omega arith))
 
-  turned-given : (w : WorkloadView) (e : ℕ) (p : ProcNo) (r : Readings) (k : State C) (says : List Record) (o : Option SpaceNo) → Stands w k r p → FitsGiveBack k p → AreUsers says → owner_of k p ≡ o
+  turned-given : (w : WorkloadView) (e : ℕ) (p : ProcNo) (r : Readings) (k : KernelState C) (says : List Record) (o : Option SpaceNo) → Stands w k r p → FitsGiveBack k p → AreUsers says → owner_of k p ≡ o
       → Turned w e p r k says (Some entry.GiveBack) (gave_back e p o (record { state = k; items = items_at e p says }))
   turned-given w e p r k says None stands fits users owner = absurd (none-some fits.space (sym owner ∙ fits.asks.owner))
   turned-given w e p r k says (Some s) stands fits users owner =
@@ -274,7 +274,7 @@ module _ {C : Type 0} where
       (λ own is. record { own = own; is = refl; shape = λ t has. is ∙ ap (λ (u : SpaceNo). map GiveBack (taken_of k u.0)) (same_Some s t (sym owner ∙ has)) })
 
   -- the line of another processor is the first record
-  turned-own : (w : WorkloadView) (e : ℕ) (p q : ProcNo) (r : Readings) (k : State C) → Stands w k r p → FitsOwn k p q
+  turned-own : (w : WorkloadView) (e : ℕ) (p q : ProcNo) (r : Readings) (k : KernelState C) → Stands w k r p → FitsOwn k p q
       → Turned w e p r k [] (Some (entry.InterruptOwn q)) (interrupted_own e p q (record { state = k; items = [] }))
   turned-own w e p q r k stands fits =
       let reads = low-reads w k r p stands fits.asks.low in
@@ -304,7 +304,7 @@ module _ {C : Type 0} where
       }
 
   -- the end of a slice
-  turned-slice : (w : WorkloadView) (e : ℕ) (p : ProcNo) (r : Readings) (k : State C) (says : List Record) → Stands w k r p → line_of k p ≡ None → says ≢ [] → AreUsers says
+  turned-slice : (w : WorkloadView) (e : ℕ) (p : ProcNo) (r : Readings) (k : KernelState C) (says : List Record) → Stands w k r p → line_of k p ≡ None → says ≢ [] → AreUsers says
       → Turned w e p r k says None (record { state = k; items = items_at e p says })
   turned-slice w e p r k says stands low some users = record {
     records = says;
@@ -329,12 +329,12 @@ module _ {C : Type 0} where
   before_closing e p fresh None x = x
   before_closing e p fresh (Some en) x = entered_as e p fresh en x
 
-  were-stopped : (w : WorkloadView) (k : State C) (r before : Readings) (p : ProcNo) (a : ActNo) (held : Option (Stopped C)) → Stands w k r p → IsSameRun r before → life_of k p ≡ Some a → WereIdle before p held → WereStopped r a held
+  were-stopped : (w : WorkloadView) (k : KernelState C) (r before : Readings) (p : ProcNo) (a : ActNo) (held : Option (Stopped C)) → Stands w k r p → IsSameRun r before → life_of k p ≡ Some a → WereIdle before p held → WereStopped r a held
   were-stopped w k r before p a None stands same life right = tt
   were-stopped w k r before p a (Some held) stands same life right = λ here is.
       right a here (ap (λ ls. get_or ls p.0 None) (sym same.running ∙ ap (λ (v : Overview). v.running) stands.reads) ∙ life) (ap (λ (f : ℕ → Option Life). f a.0) (sym same.lives) ∙ is)
 
-  pub turned-all : (w : WorkloadView) (e : ℕ) (p : ProcNo) (r before : Readings) (k : State C) (says : List Record) (fresh : ActNo) (en : Option (Entry C)) → Stands w k r p → IsUnused k fresh en → IsSameRun r before
+  pub turned-all : (w : WorkloadView) (e : ℕ) (p : ProcNo) (r before : Readings) (k : KernelState C) (says : List Record) (fresh : ActNo) (en : Option (Entry C)) → Stands w k r p → IsUnused k fresh en → IsSameRun r before
       → FitsTurn k p e en → SaysRightly w k p before (after_records w e p r says) says en
       → Turned w e p r k says en (before_closing e p fresh en (record { state = k; items = items_at e p says }))
   turned-all w e p r before k says fresh None stands unused same fits right = turned-slice w e p r k says stands fits right.0 right.1

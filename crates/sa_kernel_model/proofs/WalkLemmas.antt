@@ -26,7 +26,7 @@ use Rattle.sa_assign.specs.Aims.{is_aim}
 use Rattle.sa_batch.specs.Notices.{notes_told}
 use Rattle.sa_devices.specs.Ios.{Io, fetches}
 use Rattle.sa_devices.specs.declared.kind.IoKind.TheVariants.{Upcall}
-use Rattle.sa_kernel_model.specs.State.{State, Scene, owner_of, life_of, untold_of, is_fetching}
+use Rattle.sa_kernel_model.specs.State.{KernelState, Scene, owner_of, life_of, untold_of, is_fetching}
 use Rattle.sa_kernel_model.specs.Closing.{was_idle as idle_in}
 use Rattle.sa_kernel_model.specs.Parts.{with_owner, without_aim, with_held, put_aside, run_in, upcall, fetch_page, leave, moved, go_to_by}
 use Rattle.sa_laws.specs.Life.{Life, new_life}
@@ -207,7 +207,7 @@ module _ {C : Type 0} where
   }
 
   -- what an upcall needs
-  pub record CanUp (k : State C) (r : Readings) (p : ProcNo) (s : SpaceNo) (a : ActNo) (added : Bool) : Type 0 where
+  pub record CanUp (k : KernelState C) (r : Readings) (p : ProcNo) (s : SpaceNo) (a : ActNo) (added : Bool) : Type 0 where
     pub reads : overview r ≡ read_off k
     pub empty : k.telling ≡ []
     pub unused : k.acts a.0 ≡ None
@@ -218,7 +218,7 @@ module _ {C : Type 0} where
     pub moved : is_aim s.0 r.moved ≡ added
     pub some : notes_told added p (untold_of k s.0) ≢ []
 
-  upcalled : (k : State C) (p : ProcNo) (s : SpaceNo) (a : ActNo) (notes : List Note) → k.telling ≡ []
+  upcalled : (k : KernelState C) (p : ProcNo) (s : SpaceNo) (a : ActNo) (notes : List Note) → k.telling ≡ []
       → all_told (slice_set k.untold s.0 []) notes (ran p a s (read_off k)) ≡ read_off (run_in p s a notes k)
   upcalled k p s a notes empty =
       let G : (ℕ → Option SpaceNo) → List Note → Overview = λ f ns. record (read_off (run_in p s a notes k)) {
@@ -229,14 +229,14 @@ module _ {C : Type 0} where
       λ i. G (spaces i) (empty i)
 
   -- the notices that an up is followed by
-  notes-are : (k : State C) (r : Readings) (p : ProcNo) (s : SpaceNo) (added : Bool) → overview r ≡ read_off k → is_aim s.0 r.moved ≡ added → notes_told added p (untold_of k s.0) ≡ notes_due r p s
+  notes-are : (k : KernelState C) (r : Readings) (p : ProcNo) (s : SpaceNo) (added : Bool) → overview r ≡ read_off k → is_aim s.0 r.moved ≡ added → notes_told added p (untold_of k s.0) ≡ notes_due r p s
   notes-are k r p s false reads is =
       ap (λ (v : Overview). get_or v.untold s.0 []) (sym reads) ∙ ap (λ b. if b then Add p ∷ get_or r.untold s.0 [] else get_or r.untold s.0 []) (sym is)
   notes-are k r p s true reads is =
       ap (λ (v : Overview). Add p ∷ get_or v.untold s.0 []) (sym reads) ∙ ap (λ b. if b then Add p ∷ get_or r.untold s.0 [] else get_or r.untold s.0 []) (sym is)
 
   -- which of those that wait were idle
-  up-idle : (w : WorkloadView) (e : ℕ) (p : ProcNo) (r : Readings) (k : State C) (s : SpaceNo) (a : ActNo) (notes : List Note) → copies (Preempted a) k.untold ≡ 0 → IdleAlike k r
+  up-idle : (w : WorkloadView) (e : ℕ) (p : ProcNo) (r : Readings) (k : KernelState C) (s : SpaceNo) (a : ActNo) (notes : List Note) → copies (Preempted a) k.untold ≡ 0 → IdleAlike k r
       → IdleAlike (run_in p s a notes k) (after_records w e p r (Up s a ∷ map Told notes))
   up-idle w e p r k s a notes new idle t b has =
       let was = contains-emptied k.untold s.0 t (Preempted b) has in
@@ -346,7 +346,7 @@ module _ {C : Type 0} where
       }
 
   -- a processor goes to a space, by an upcall or by leaving it
-  pub record CanGo (w : WorkloadView) (k : State C) (r : Readings) (p : ProcNo) (s : SpaceNo) (a : ActNo) (owned : Bool) : Type 0 where
+  pub record CanGo (w : WorkloadView) (k : KernelState C) (r : Readings) (p : ProcNo) (s : SpaceNo) (a : ActNo) (owned : Bool) : Type 0 where
     pub reads : overview r ≡ read_off k
     pub fetch : k.fixed.fetch ≡ w.fetch
     pub empty : k.telling ≡ []
@@ -358,7 +358,7 @@ module _ {C : Type 0} where
     pub moved : r.moved ≡ None
     pub some : owned ≡ true → untold_of k s.0 ≢ []
 
-  abbrev pub Goes : State C → ProcNo → SpaceNo → Bool → Bool → List Record → Type 0
+  abbrev pub Goes : KernelState C → ProcNo → SpaceNo → Bool → Bool → List Record → Type 0
   Goes k p s owned can all = (c : Readings) → c.under_way ≡ k.under_way → GoesTo can owned p c (owner_of k p) s all
 
   pub go-walk : (w : WorkloadView) (e : ℕ) (p : ProcNo) (r : Readings) (x : Scene C) (s : SpaceNo) (a : ActNo) (owned can : Bool) → CanGo w x.state r p s a owned
@@ -429,21 +429,21 @@ module _ {C : Type 0} where
   held-space held None = refl
   held-space held (Some x) = refl
 
-  pub spaces-held : (k : State C) (a : ActNo) (held : Stopped C) → spaces_in (with_held a held k) ≡ spaces_in k
+  pub spaces-held : (k : KernelState C) (a : ActNo) (held : Stopped C) → spaces_in (with_held a held k) ≡ spaces_in k
   spaces-held k a held =
       put-through act_space k.acts a.0 (holding held (k.acts a.0)) ∙ ap (put (spaces_in k) a.0) (held-space held (k.acts a.0)) ∙ put-self (spaces_in k) a.0
 
-  pub aside-reads : (k : State C) (p : ProcNo) (s : SpaceNo) (a : ActNo) (n : Note) (held : Stopped C) → set_aside p s n (read_off k) ≡ read_off (put_aside p s a n held k)
+  pub aside-reads : (k : KernelState C) (p : ProcNo) (s : SpaceNo) (a : ActNo) (n : Note) (held : Stopped C) → set_aside p s n (read_off k) ≡ read_off (put_aside p s a n held k)
   aside-reads k p s a n held =
       let G : (ℕ → Option SpaceNo) → Overview = λ f. record (set_aside p s n (read_off k)) { spaces = f; taken = taken_behind f k.telling (take (length k.fixed.priorities) k.taken) } in
       ap G (sym (spaces-held k a held))
 
   -- who runs on a processor
-  pub record Running (k : State C) (p : ProcNo) (s : SpaceNo) (a : ActNo) : Type 0 where
+  pub record Running (k : KernelState C) (p : ProcNo) (s : SpaceNo) (a : ActNo) : Type 0 where
     pub life : life_of k p ≡ Some a
     pub act : k.acts a.0 ≡ Some (runs_in s)
 
-  pub runs-on : (k : State C) (r : Readings) (p : ProcNo) (s : SpaceNo) (a : ActNo) → overview r ≡ read_off k → Running k p s a → RunsOn r p s a
+  pub runs-on : (k : KernelState C) (r : Readings) (p : ProcNo) (s : SpaceNo) (a : ActNo) → overview r ≡ read_off k → Running k p s a → RunsOn r p s a
   runs-on k r p s a reads runs = record {
     act = ap (λ (v : Overview). get_or v.running p.0 None) reads ∙ runs.life;
     space = ap (λ (v : Overview). v.spaces a.0) reads ∙ ap act_space runs.act;

@@ -14,7 +14,7 @@ use Rattle.sa_base.specs.declared.record.Record.TheVariants.{Want}
 use Rattle.sa_base.specs.Items.{items_at}
 use Rattle.sa_spaces.specs.Workload.{WorkloadView}
 use Rattle.sa_assign.specs.Aims.{space_no}
-use Rattle.sa_kernel_model.specs.State.{State, Scene, untold_of, demand_of}
+use Rattle.sa_kernel_model.specs.State.{KernelState, Scene, untold_of, demand_of}
 use Rattle.sa_kernel_model.specs.Closing.{for_spaces, calls_for, must_want as must_in, want_one as want_in, want_for}
 use Rattle.sa_laws.specs.Readings.{Readings, demand_of as demand_at, untold_of as untold_at, must_hear}
 use Rattle.sa_laws.specs.Record.{after_record, mark_after}
@@ -127,13 +127,13 @@ none-wanted w e p m n t demands untold = elim (cases_lt t n) [
 ]
 
 module _ {C : Type 0} where
-  pub heard : (k : State C) (m : Readings) (s : ℕ) → IdleAlike k m → (n : Note) → Contains (untold_of k s) n → must_hear m n ≡ calls_for k n
+  pub heard : (k : KernelState C) (m : Readings) (s : ℕ) → IdleAlike k m → (n : Note) → Contains (untold_of k s) n → must_hear m n ≡ calls_for k n
   heard k m s idle (Add q) has = refl
   heard k m s idle (Preempted a) has = ap not (idle s a has)
   heard k m s idle (Blocked a) has = refl
   heard k m s idle (Unblocked a) has = refl
 
-  pub must-same : (k : State C) (m : Readings) (s : ℕ) → overview m ≡ read_off k → IdleAlike k m → must_want m (space_no s) ≡ must_in k s
+  pub must-same : (k : KernelState C) (m : Readings) (s : ℕ) → overview m ≡ read_off k → IdleAlike k m → must_want m (space_no s) ≡ must_in k s
   must-same k m s reads idle =
       ap (λ (v : Overview). slice_index v.demands s == 0 && list_any (must_hear m) (get_or v.untold s [])) reads
       ∙ ap (λ b. demand_of k s == 0 && b) (any-alike (must_hear m) (calls_for k) (untold_of k s) (heard k m s idle))

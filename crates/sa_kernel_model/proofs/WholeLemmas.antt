@@ -16,7 +16,7 @@ use Rattle.sa_spaces.specs.Workload.{WorkloadView}
 use Rattle.sa_assign.specs.Reaim.{records_of}
 use Rattle.sa_devices.specs.Pages.{evicted}
 use Rattle.sa_kernel_model.specs.declared.entry.Entry.{Entry}
-use Rattle.sa_kernel_model.specs.State.{State, Scene, Fixed}
+use Rattle.sa_kernel_model.specs.State.{KernelState, Scene, Fixed}
 use Rattle.sa_kernel_model.specs.Entries.{evicted_at}
 use Rattle.sa_kernel_model.specs.Closing.{spaces, wants, aims, closed}
 use Rattle.sa_kernel_model.specs.Sound.{IsSound}
@@ -187,10 +187,10 @@ module _ {C : Type 0} where
   sound-own e p fresh (Some entry) x within fit unused empty sound = sound-entered_as e p fresh entry x within fit unused empty sound
 
   -- the moment at the beginning of an event
-  abbrev pub reading_at : WorkloadView → Readings → Turn C → State C → Readings
+  abbrev pub reading_at : WorkloadView → Readings → Turn C → KernelState C → Readings
   reading_at w r t k = begun w (event_of t k) r
 
-  begins : (w : WorkloadView) (k : State C) (r : Readings) (t : Turn C) → IsKept w k r → CanTurn w k r t → Stands w (evicted_at t.number k) (reading_at w r t k) t.proc
+  begins : (w : WorkloadView) (k : KernelState C) (r : Readings) (t : Turn C) → IsKept w k r → CanTurn w k r t → Stands w (evicted_at t.number k) (reading_at w r t k) t.proc
   begins w k r t kept can =
       let F : List Evict → Overview → Overview = λ es (v : Overview). record v {
         assign = record v.assign { lines = slice_set v.assign.lines t.proc.0 None };
@@ -210,7 +210,7 @@ module _ {C : Type 0} where
       }
 
   -- the whole of a turn
-  pub record Whole (w : WorkloadView) (k : State C) (r : Readings) (t : Turn C) : Type 0 where
+  pub record Whole (w : WorkloadView) (k : KernelState C) (r : Readings) (t : Turn C) : Type 0 where
     pub before : Scene C
     pub own : Turned w t.number t.proc (reading_at w r t k) (evicted_at t.number k) t.says t.entry before
     pub closing : Closing w t.number t.proc (after_records w t.number t.proc (reading_at w r t k) own.records) before
@@ -224,12 +224,12 @@ module _ {C : Type 0} where
     pub behind : after_records w t.number t.proc (reading_at w r t k) (event_of t k).records ≡ closing.lined
     pub lawful : AreLawful w t.number t.proc (reading_at w r t k) (event_of t k).records
 
-  abbrev pub closing_of : (w : WorkloadView) (k : State C) (r : Readings) (t : Turn C) → Whole w k r t → List Record
+  abbrev pub closing_of : (w : WorkloadView) (k : KernelState C) (r : Readings) (t : Turn C) → Whole w k r t → List Record
   closing_of w k r t whole =
       wants_due w (after_records w t.number t.proc (reading_at w r t k) whole.own.records)
       ++ (records_of t.number whole.closing.wanted.lines (aims_due w t.number whole.closing.wanted) ++ lines_due w whole.closing.aimed)
 
-  pub whole-turn : (w : WorkloadView) (k : State C) (r : Readings) (t : Turn C) → IsKept w k r → CanTurn w k r t → Whole w k r t
+  pub whole-turn : (w : WorkloadView) (k : KernelState C) (r : Readings) (t : Turn C) → IsKept w k r → CanTurn w k r t → Whole w k r t
   whole-turn w k r t kept can =
       let e = t.number in
       let p = t.proc in

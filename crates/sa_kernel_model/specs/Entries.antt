@@ -21,7 +21,7 @@ use Rattle.sa_devices.specs.declared.kind.IoKind.{IoKind}
 use Rattle.sa_devices.specs.declared.kind.IoKind.TheVariants.{Plain, Page, Upcall}
 use Rattle.sa_kernel_model.specs.declared.entry.Entry.{Entry}
 use Rattle.sa_kernel_model.specs.declared.entry.Entry.TheVariants.{Interrupt, Block, Complete, More, Idle, GiveBack, InterruptOwn}
-use Rattle.sa_kernel_model.specs.State.{State, Scene, owner_of, aim_of, life_of, demand_of, taken_of, can_upcall, says}
+use Rattle.sa_kernel_model.specs.State.{KernelState, Scene, owner_of, aim_of, life_of, demand_of, taken_of, can_upcall, says}
 use Rattle.sa_kernel_model.specs.Parts.{with_line, with_mark, with_demand, noted, with_io, put_aside, upcall, leave, go_to}
 use Rattle.sa_kernel_model.specs.Closing.{closed}
 
@@ -143,36 +143,36 @@ module _ {C : Type 0} where
   entered e p fresh entry x = closed e p (entered_as e p fresh entry x)
 
   -- the next notice that an upcall told, if one is left: it is fetched, and the context that it hands over is taken
-  abbrev pub handed_over : ActNo → State C → State C
+  abbrev pub handed_over : ActNo → KernelState C → KernelState C
   handed_over a k = record k {
     acts = put k.acts a.0 (taken_from (k.acts a.0));
     taken = slice_set k.taken (space_of (k.acts a.0)).0 (taken_of k (space_of (k.acts a.0)).0 ++ a ∷ []);
   }
 
   -- A stopped context is handed over if one is held of the activation.
-  abbrev pub handed_by : Option (Stopped C) → ActNo → State C → State C
+  abbrev pub handed_by : Option (Stopped C) → ActNo → KernelState C → KernelState C
   handed_by None a k = k
   handed_by (Some held) a k = handed_over a k
 
-  abbrev pub fetched : Note → State C → State C
+  abbrev pub fetched : Note → KernelState C → KernelState C
   fetched (Add p) k = k
   fetched (Blocked a) k = k
   fetched (Preempted a) k = handed_by (held_of (k.acts a.0)) a k
   fetched (Unblocked a) k = handed_by (held_of (k.acts a.0)) a k
 
-  abbrev pub held_for : State C → Note → Option (Stopped C)
+  abbrev pub held_for : KernelState C → Note → Option (Stopped C)
   held_for k (Add p) = None
   held_for k (Blocked a) = None
   held_for k (Preempted a) = held_of (k.acts a.0)
   held_for k (Unblocked a) = held_of (k.acts a.0)
 
-  abbrev pub after_fetch : List Note → State C → State C
+  abbrev pub after_fetch : List Note → KernelState C → KernelState C
   after_fetch [] k = k
   after_fetch (note ∷ notes) k = fetched note (record k { telling = notes })
 
-  abbrev pub next_note : State C → Option (Note × Option (Stopped C))
+  abbrev pub next_note : KernelState C → Option (Note × Option (Stopped C))
   next_note k = option_map (λ note. (note, held_for k note)) (slice_get k.telling 0)
 
   -- the pages that the workload evicts at an event are absent
-  abbrev pub evicted_at : ℕ → State C → State C
+  abbrev pub evicted_at : ℕ → KernelState C → KernelState C
   evicted_at event k = record k { pages = evicted event k.fixed.evictions k.pages }

@@ -8,53 +8,53 @@ use Rattle.sa_devices.specs.Ios.{Io, io_at}
 use Rattle.sa_kernel_model.specs.declared.entry.TheConstants.{ENTRY_ITEMS}
 use Rattle.sa_kernel_model.specs.declared.entry.Entry.{Entry}
 use Rattle.sa_kernel_model.specs.declared.entry.Entry.TheVariants.{Interrupt, Block, Complete, More, Idle, GiveBack, InterruptOwn}
-use Rattle.sa_kernel_model.specs.State.{State, owner_of, line_of, life_of, aim_of, demand_of, taken_of}
+use Rattle.sa_kernel_model.specs.State.{KernelState, owner_of, line_of, life_of, aim_of, demand_of, taken_of}
 use Rattle.sa_kernel_model.specs.Entries.{IsOwnPage}
 use Rattle.sa_kernel_model.specs.Enters.{upcalls_for, upcalls_in, untold_count, taken_count}
 
 module _ {C : Type 0} where
   -- a spare of the trace that suffices for an entry
-  abbrev pub need_of : State C → ℕ
+  abbrev pub need_of : KernelState C → ℕ
   need_of k = ENTRY_ITEMS + untold_count k + taken_count k
 
   -- when an interrupt fits: the line is raised, and a context is handed over exactly where the processor is owned
-  pub record FitsInterrupt (k : State C) (p : ProcNo) (context : Option (Stopped C)) : Type 0 where
+  pub record FitsInterrupt (k : KernelState C) (p : ProcNo) (context : Option (Stopped C)) : Type 0 where
     pub raised : IsSome (line_of k p)
     pub held : IsSome context → IsSome (owner_of k p)
     pub owned : IsSome (owner_of k p) → IsSome context
 
   -- a context asks: its processor is owned by the space, and the line is low
-  pub record Asks (k : State C) (p : ProcNo) (s : SpaceNo) : Type 0 where
+  pub record Asks (k : KernelState C) (p : ProcNo) (s : SpaceNo) : Type 0 where
     pub owner : owner_of k p ≡ Some s
     pub low : line_of k p ≡ None
 
-  pub record FitsBlock (k : State C) (p : ProcNo) (absent : Option ℕ) : Type 0 where
+  pub record FitsBlock (k : KernelState C) (p : ProcNo) (absent : Option ℕ) : Type 0 where
     pub space : SpaceNo
     pub asks : Asks k p space
     pub page : IfSome absent IsOwnPage
 
-  pub record FitsComplete (k : State C) (p : ProcNo) (event : ℕ) (io : IoNo) : Type 0 where
+  pub record FitsComplete (k : KernelState C) (p : ProcNo) (event : ℕ) (io : IoNo) : Type 0 where
     pub here : Io
     pub under_way : io_at io.0 k.under_way ≡ Some here
     pub low : line_of k p ≡ None
 
-  pub record FitsMore (k : State C) (p : ProcNo) (n : ℕ) : Type 0 where
+  pub record FitsMore (k : KernelState C) (p : ProcNo) (n : ℕ) : Type 0 where
     pub space : SpaceNo
     pub asks : Asks k p space
     pub some : 1 ≤ n
     pub few : demand_of k space.0 + n ≤ length k.lives
 
-  pub record FitsIdle (k : State C) (p : ProcNo) : Type 0 where
+  pub record FitsIdle (k : KernelState C) (p : ProcNo) : Type 0 where
     pub space : SpaceNo
     pub asks : Asks k p space
     pub some : 1 ≤ demand_of k space.0
 
-  pub record FitsGiveBack (k : State C) (p : ProcNo) : Type 0 where
+  pub record FitsGiveBack (k : KernelState C) (p : ProcNo) : Type 0 where
     pub space : SpaceNo
     pub asks : Asks k p space
     pub some : 1 ≤ length (taken_of k space.0)
 
-  pub record FitsOwn (k : State C) (p q : ProcNo) : Type 0 where
+  pub record FitsOwn (k : KernelState C) (p q : ProcNo) : Type 0 where
     pub space : SpaceNo
     pub asks : Asks k p space
     pub other : p.0 ≡ q.0 → ⊥
@@ -62,7 +62,7 @@ module _ {C : Type 0} where
     pub owned : Asks k q space
 
   -- when an entry fits the processor at the event
-  abbrev pub IsFit : State C → ProcNo → ℕ → Entry C → Type 0
+  abbrev pub IsFit : KernelState C → ProcNo → ℕ → Entry C → Type 0
   IsFit k p event (Interrupt held) = FitsInterrupt k p held
   IsFit k p event (Block held len page) = FitsBlock k p page
   IsFit k p event (Complete io) = FitsComplete k p event io
@@ -72,7 +72,7 @@ module _ {C : Type 0} where
   IsFit k p event (InterruptOwn q) = FitsOwn k p q
 
   -- whether an entry upcalls
-  abbrev pub upcalls : State C → ProcNo → Entry C → Bool
+  abbrev pub upcalls : KernelState C → ProcNo → Entry C → Bool
   upcalls k p (Interrupt held) = upcalls_for k (aim_of k p)
   upcalls k p (Block held len page) = upcalls_in k (owner_of k p) (life_of k p)
   upcalls k p (Complete io) = false

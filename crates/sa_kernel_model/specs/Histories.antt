@@ -6,7 +6,7 @@ use Rattle.sa_base.specs.declared.record.Item.{Item}
 use Rattle.sa_base.specs.Items.{items_at}
 use Rattle.sa_spaces.specs.Workload.{WorkloadView, IsWorkload}
 use Rattle.sa_kernel_model.specs.declared.entry.Entry.{Entry}
-use Rattle.sa_kernel_model.specs.State.{State, Scene}
+use Rattle.sa_kernel_model.specs.State.{KernelState, Scene}
 use Rattle.sa_kernel_model.specs.Closing.{NoLineIsDue}
 use Rattle.sa_kernel_model.specs.Entries.{evicted_at}
 use Rattle.sa_laws.specs.Event.{Event, items_of}
@@ -70,7 +70,7 @@ module _ {C : Type 0} where
       → IsLonger test w events e p new
 
   -- a history that ends in the one state is a history of the other too
-  abbrev pub KeepsHistories : State C → State C → Type 0
+  abbrev pub KeepsHistories : KernelState C → KernelState C → Type 0
   KeepsHistories old new =
       (test : Test) (w : WorkloadView) (events : List Event) (items : List Item) → IsHistory test w events (record { state = old; items = items })
       → IsHistory test w events (record { state = new; items = items })

@@ -6,7 +6,7 @@ use Rattle.sa_base.specs.declared.record.Note.TheVariants.{Add, Preempted, Block
 use Rattle.sa_spaces.specs.Space.{SpaceView}
 use Rattle.sa_spaces.specs.Workload.{WorkloadView}
 use Rattle.sa_devices.specs.Ios.{Io, one_fetch}
-use Rattle.sa_kernel_model.specs.State.{State, Fixed, untold_of, taken_of}
+use Rattle.sa_kernel_model.specs.State.{KernelState, Fixed, untold_of, taken_of}
 use Rattle.sa_acts.specs.Table.{held_of}
 use Rattle.sa_kernel_model.specs.Closing.{was_idle as idle_in}
 use Rattle.sa_kernel_model.specs.Sound.{IsSound, io_claim}
@@ -50,13 +50,13 @@ AreDistinct [] = Unit {0}
 AreDistinct (a ∷ others) = ((b : ActNo) → Contains others b → b.0 ≢ a.0) × AreDistinct others
 
 module _ {C : Type 0} where
-  pub record IsOf (w : WorkloadView) (k : State C) : Type 0 where
+  pub record IsOf (w : WorkloadView) (k : KernelState C) : Type 0 where
     pub fixed : k.fixed ≡ fixed_of w
     pub processors : length k.lives ≡ w.processors
     pub spaces : length k.demands ≡ length w.spaces
 
   -- what waits and what is under way stands there once
-  pub record IsTidy (k : State C) : Type 0 where
+  pub record IsTidy (k : KernelState C) : Type 0 where
     -- an added processor is told at once
     pub added : (s : ℕ) → sum_by add_claim (untold_of k s) ≡ 0
     -- who has blocked, and was not told of, is still blocked, or it was not told either that he has come back
@@ -67,10 +67,10 @@ module _ {C : Type 0} where
     pub taken : (s : ℕ) → AreDistinct (taken_of k s)
 
   -- of each stop that waits to be told, the history and the kernel say alike whether the life was idle
-  abbrev pub IdleAlike : State C → Readings → Type 0
+  abbrev pub IdleAlike : KernelState C → Readings → Type 0
   IdleAlike k r = (s : ℕ) (a : ActNo) → Contains (untold_of k s) (Preempted a) → was_idle (life_of r a) ≡ idle_in (held_of (k.acts a.0))
 
-  pub record IsKept (w : WorkloadView) (k : State C) (r : Readings) : Type 0 where
+  pub record IsKept (w : WorkloadView) (k : KernelState C) (r : Readings) : Type 0 where
     pub sound : IsSound k
     pub of : IsOf w k
     pub tidy : IsTidy k

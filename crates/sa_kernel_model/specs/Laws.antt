@@ -4,7 +4,7 @@ use Rattle.sa_base.specs.declared.number.ProcNo.{ProcNo}
 use Rattle.sa_base.specs.declared.record.Record.{Record}
 use Rattle.sa_base.specs.declared.record.Item.{Item}
 use Rattle.sa_spaces.specs.Workload.{WorkloadView, IsWorkload}
-use Rattle.sa_kernel_model.specs.State.{State, line_of}
+use Rattle.sa_kernel_model.specs.State.{KernelState, line_of}
 use Rattle.sa_kernel_model.specs.Entries.{after_fetch, evicted_at}
 use Rattle.sa_kernel_model.specs.Opening.{opened}
 use Rattle.sa_base.specs.Items.{items_at}
@@ -61,7 +61,7 @@ abbrev pub HoldsAtOpening : KernelLaw → Type 0
 HoldsAtOpening L = (test : Test) (w : WorkloadView) → IsWorkload w → L test w (opening_readings w) (opening_event w)
 
 -- the own part of an event is that of its entry, and the rest is a closing
-pub record HasParts {C : Type 0} (k : State C) (t : Turn C) (e : Event) : Type 0 where
+pub record HasParts {C : Type 0} (k : KernelState C) (t : Turn C) (e : Event) : Type 0 where
   pub own : ShapeOf (evicted_at t.number k) t.proc t.says t.entry (own_part e.records)
   pub closing : IsClosing (closing_part e.records)
 
@@ -69,28 +69,28 @@ module _ (C : Type 0) where
   -- it holds at the event of each turn that can be taken
   abbrev pub HoldsAtTurns : KernelLaw → Type 0
   HoldsAtTurns L =
-      (test : Test) (w : WorkloadView) (k : State C) (r : Readings) (t : Turn C) → IsWorkload w → IsKept w k r → CanTurn w k r t
+      (test : Test) (w : WorkloadView) (k : KernelState C) (r : Readings) (t : Turn C) → IsWorkload w → IsKept w k r → CanTurn w k r t
       → L test w r (event_of t k)
 
   -- where no entry asks for a line, each line has its cause in the kernel
   abbrev pub LinesAreTheKernels : Type 0
   LinesAreTheKernels =
-      (w : WorkloadView) (k : State C) (r : Readings) (t : Turn C) → IsWorkload w → IsKept w k r → CanTurn w k r t → asks_line t.entry ≡ false
+      (w : WorkloadView) (k : KernelState C) (r : Readings) (t : Turn C) → IsWorkload w → IsKept w k r → CanTurn w k r t → asks_line t.entry ≡ false
       → LinesHaveCause NoLines w r (event_of t k)
 
   -- a turn keeps what is kept; so does the fetch of a notice
   abbrev pub TurnsKeep : Type 0
   TurnsKeep =
-      (test : Test) (w : WorkloadView) (k : State C) (r : Readings) (t : Turn C) → IsWorkload w → IsKept w k r → CanTurn w k r t
+      (test : Test) (w : WorkloadView) (k : KernelState C) (r : Readings) (t : Turn C) → IsWorkload w → IsKept w k r → CanTurn w k r t
       → IsKept w (turned t k).state (after_event test w r (event_of t k))
 
   abbrev pub FetchesKeep : Type 0
-  FetchesKeep = (w : WorkloadView) (k : State C) (r : Readings) → IsKept w k r → IsKept w (after_fetch k.telling k) r
+  FetchesKeep = (w : WorkloadView) (k : KernelState C) (r : Readings) → IsKept w k r → IsKept w (after_fetch k.telling k) r
 
   -- so does an event of a user level's records alone
   abbrev pub QuietEventsKeep : Type 0
   QuietEventsKeep =
-      (test : Test) (w : WorkloadView) (k : State C) (r : Readings) (e : ℕ) (p : ProcNo) (says : List Record) → IsKept w k r → line_of k p ≡ None → AreUsers says
+      (test : Test) (w : WorkloadView) (k : KernelState C) (r : Readings) (e : ℕ) (p : ProcNo) (says : List Record) → IsKept w k r → line_of k p ≡ None → AreUsers says
       → IsKept w (evicted_at e k) (after_event test w r (record { number = e; proc = p; records = says }))
 
   -- the opening is that of the laws, and begins it
@@ -105,10 +105,10 @@ module _ (C : Type 0) where
   -- a turn adds the items of its event behind those that stood in the trace
   abbrev pub AddsItsEvent : Type 0
   AddsItsEvent =
-      (w : WorkloadView) (k : State C) (r : Readings) (t : Turn C) (past : List Item) → IsWorkload w → IsKept w k r → CanTurn w k r t
+      (w : WorkloadView) (k : KernelState C) (r : Readings) (t : Turn C) (past : List Item) → IsWorkload w → IsKept w k r → CanTurn w k r t
       → turn_on t.number t.proc t.fresh t.entry (record (before_entry t k) { items = past ++ (before_entry t k).items })
       ≡ (record { state = (turned t k).state; items = past ++ items_at t.number t.proc (event_of t k).records })
 
   -- an event has the own part of its entry, and behind it the closing, and no other records
   abbrev pub TurnsHaveParts : Type 0
-  TurnsHaveParts = (w : WorkloadView) (k : State C) (r : Readings) (t : Turn C) → IsWorkload w → IsKept w k r → CanTurn w k r t → HasParts k t (event_of t k)
+  TurnsHaveParts = (w : WorkloadView) (k : KernelState C) (r : Readings) (t : Turn C) → IsWorkload w → IsKept w k r → CanTurn w k r t → HasParts k t (event_of t k)

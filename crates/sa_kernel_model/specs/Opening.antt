@@ -9,11 +9,11 @@ use Rattle.sa_spaces.specs.Workload.{WorkloadView}
 use Rattle.sa_assign.specs.Aims.{space_no}
 use Rattle.sa_assign.specs.Reaim.{proc_no}
 use Rattle.sa_devices.specs.Pages.{opening_pages}
-use Rattle.sa_kernel_model.specs.State.{State, Scene}
+use Rattle.sa_kernel_model.specs.State.{KernelState, Scene}
 use Rattle.sa_kernel_model.specs.Closing.{closed}
 
 -- nothing runs, and each space wants one processor
-abbrev pub opening_state : {C : Type 0} → WorkloadView → State C
+abbrev pub opening_state : {C : Type 0} → WorkloadView → KernelState C
 opening_state w = record {
   fixed = record {
     priorities = map (λ (s : SpaceView). s.priority) w.spaces;

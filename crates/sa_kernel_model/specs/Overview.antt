@@ -8,7 +8,7 @@ use Rattle.sa_base.specs.declared.record.Note.TheVariants.{Add, Preempted, Block
 use Rattle.sa_acts.specs.declared.acts.Act.{Act}
 use Rattle.sa_assign.specs.AssignView.{AssignView}
 use Rattle.sa_devices.specs.Ios.{Io}
-use Rattle.sa_kernel_model.specs.State.{State}
+use Rattle.sa_kernel_model.specs.State.{KernelState}
 use Rattle.sa_laws.specs.Life.{Life}
 use Rattle.sa_laws.specs.Readings.{Readings}
 use Rattle.sa_laws.specs.Record.{with_act}
@@ -63,10 +63,10 @@ module _ {C : Type 0} where
   abbrev pub act_space : Option (Act C) → Option SpaceNo
   act_space act = option_map (λ (here : Act C). here.space) act
 
-  abbrev pub spaces_in : State C → ℕ → Option SpaceNo
+  abbrev pub spaces_in : KernelState C → ℕ → Option SpaceNo
   spaces_in k a = act_space (k.acts a)
 
-  abbrev pub read_off : State C → Overview
+  abbrev pub read_off : KernelState C → Overview
   read_off k = record {
     assign = k.assign;
     running = k.lives;

@@ -13,47 +13,47 @@ use Rattle.sa_assign.specs.Aims.{is_aim}
 use Rattle.sa_batch.specs.Notices.{notes_told}
 use Rattle.sa_devices.specs.declared.kind.IoKind.{IoKind}
 use Rattle.sa_devices.specs.declared.kind.IoKind.TheVariants.{Upcall}
-use Rattle.sa_kernel_model.specs.State.{State, Scene, owner_of, untold_of, can_upcall, is_fetching, says}
+use Rattle.sa_kernel_model.specs.State.{KernelState, Scene, owner_of, untold_of, can_upcall, is_fetching, says}
 
 module _ {C : Type 0} where
-  abbrev pub with_owner : ProcNo → Option SpaceNo → State C → State C
+  abbrev pub with_owner : ProcNo → Option SpaceNo → KernelState C → KernelState C
   with_owner p s k = record k { assign = record k.assign { owners = slice_set k.assign.owners p.0 s } }
 
-  abbrev pub without_aim : ProcNo → State C → State C
+  abbrev pub without_aim : ProcNo → KernelState C → KernelState C
   without_aim p k = record k { assign = record k.assign { aims = slice_set k.assign.aims p.0 None } }
 
-  abbrev pub with_line : ProcNo → Option ℕ → State C → State C
+  abbrev pub with_line : ProcNo → Option ℕ → KernelState C → KernelState C
   with_line p event k = record k { assign = record k.assign { lines = slice_set k.assign.lines p.0 event } }
 
-  abbrev pub with_mark : ProcNo → Bool → State C → State C
+  abbrev pub with_mark : ProcNo → Bool → KernelState C → KernelState C
   with_mark p idle k = record k { assign = record k.assign { marks = slice_set k.assign.marks p.0 idle } }
 
-  abbrev pub with_life : ProcNo → Option ActNo → State C → State C
+  abbrev pub with_life : ProcNo → Option ActNo → KernelState C → KernelState C
   with_life p a k = record k { lives = slice_set k.lives p.0 a }
 
-  abbrev pub with_demand : ℕ → ℕ → State C → State C
+  abbrev pub with_demand : ℕ → ℕ → KernelState C → KernelState C
   with_demand s n k = record k { demands = slice_set k.demands s n }
 
   -- a notice for a space, behind those that it was not told
-  abbrev pub noted : SpaceNo → Note → State C → State C
+  abbrev pub noted : SpaceNo → Note → KernelState C → KernelState C
   noted s note k = record k { untold = slice_set k.untold s.0 (untold_of k s.0 ++ note ∷ []) }
 
   -- the context of an activation is held
-  abbrev pub with_held : ActNo → Stopped C → State C → State C
+  abbrev pub with_held : ActNo → Stopped C → KernelState C → KernelState C
   with_held a held k = record k { acts = put k.acts a.0 (holding held (k.acts a.0)) }
 
   -- an I/O has begun, which ends so many events later
-  abbrev pub with_io : IoKind → ℕ → State C → State C
+  abbrev pub with_io : IoKind → ℕ → KernelState C → KernelState C
   with_io kind ends k = record k {
     begun = k.begun + 1;
     under_way = k.under_way ++ record { number = k.begun; ends = ends; kind = kind } ∷ [];
   }
 
   -- the context that runs on a processor is no longer there: it is held, and its space is to be told
-  abbrev pub put_aside : ProcNo → SpaceNo → ActNo → Note → Stopped C → State C → State C
+  abbrev pub put_aside : ProcNo → SpaceNo → ActNo → Note → Stopped C → KernelState C → KernelState C
   put_aside p s a note held k = noted s note (with_held a held (with_life p None k))
 
-  abbrev pub run_in : ProcNo → SpaceNo → ActNo → List Note → State C → State C
+  abbrev pub run_in : ProcNo → SpaceNo → ActNo → List Note → KernelState C → KernelState C
   run_in p s a notes k = with_mark p false (with_life p (Some a) (record k {
     acts = put k.acts a.0 (Some (runs_in s));
     untold = slice_set k.untold s.0 [];

@@ -2,7 +2,7 @@
 use Rattle.std.specs.Prelude.{◌≡◌, List, [], ◌∷◌, ◌++◌, Option, Some, None}
 use Rattle.sa_base.specs.Items.{items_at}
 use Rattle.sa_spaces.specs.Workload.{WorkloadView, IsWorkload}
-use Rattle.sa_kernel_model.specs.State.{State, Scene}
+use Rattle.sa_kernel_model.specs.State.{KernelState, Scene}
 use Rattle.sa_kernel_model.specs.Entries.{after_fetch, evicted_at}
 use Rattle.sa_kernel_model.specs.Opening.{opened}
 use Rattle.sa_laws.specs.Event.{Event, items_of}
@@ -28,13 +28,13 @@ module _ {C : Type 0} where
   moved_all (move ∷ moves) x = moved_all moves (moved move x)
 
   -- the events of the turns, in order
-  abbrev pub events : List (Option (Turn C)) → State C → List Event
+  abbrev pub events : List (Option (Turn C)) → KernelState C → List Event
   events [] k = []
   events (None ∷ moves) k = events moves (after_fetch k.telling k)
   events (Some t ∷ moves) k = event_of t k ∷ events moves (turned t k).state
 
   -- each turn can be taken
-  abbrev pub CanMove : Test → WorkloadView → State C → Readings → List (Option (Turn C)) → Type 0
+  abbrev pub CanMove : Test → WorkloadView → KernelState C → Readings → List (Option (Turn C)) → Type 0
   CanMove test w k r [] = Unit {0}
   CanMove test w k r (None ∷ moves) = CanMove test w (after_fetch k.telling k) r moves
   CanMove test w k r (Some t ∷ moves) = CanTurn w k r t × CanMove test w (turned t k).state (after_event test w r (event_of t k)) moves

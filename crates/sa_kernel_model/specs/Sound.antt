@@ -13,7 +13,7 @@ use Rattle.sa_devices.specs.declared.kind.IoKind.{IoKind}
 use Rattle.sa_devices.specs.declared.kind.IoKind.TheVariants.{Plain, Page, Upcall}
 use Rattle.sa_devices.specs.Ios.{Io}
 use Rattle.sa_devices.specs.Pages.{IsKind}
-use Rattle.sa_kernel_model.specs.State.{State, owner_of, line_of, life_of, untold_of, is_fetching}
+use Rattle.sa_kernel_model.specs.State.{KernelState, owner_of, line_of, life_of, untold_of, is_fetching}
 use Rattle.sa_batch.specs.Notices.{has_untold}
 
 -- what stands there are spaces of the workload
@@ -56,7 +56,7 @@ io_claim s a io = kind_claim s a io.kind
 module _ {C : Type 0} where
   -- how many claims of space s there are on the context of activation a, where the last upcall told space `told_to`: I/Os
   -- under way, notices that were not told, and told ones that were not fetched
-  abbrev pub claims_on : State C → ℕ → ℕ → ℕ → ℕ
+  abbrev pub claims_on : KernelState C → ℕ → ℕ → ℕ → ℕ
   claims_on k told_to s a =
       sum_by (io_claim s a) k.under_way + sum_by (note_claim a) (untold_of k s) + (if s == told_to then sum_by (note_claim a) k.telling else 0)
 
@@ -66,16 +66,16 @@ module _ {C : Type 0} where
   held_in s (Some x) = if s == x.space.0 && is_some x.held then 1 else 0
 
   -- each context that is held has one claim on it, of its own space, and no other has any
-  abbrev pub AreClaimed : State C → ℕ → Type 0
+  abbrev pub AreClaimed : KernelState C → ℕ → Type 0
   AreClaimed k told_to = (s a : ℕ) → claims_on k told_to s a ≡ held_in s (k.acts a)
 
   -- so no context is lost or handed over twice; the last upcall told this space
-  pub record IsClaimed (k : State C) : Type 0 where
+  pub record IsClaimed (k : KernelState C) : Type 0 where
     pub told_to : ℕ
     pub once : AreClaimed k told_to
 
   -- each list has one entry for each processor, or for each space, and there are few of both
-  pub record HasSizes (k : State C) : Type 0 where
+  pub record HasSizes (k : KernelState C) : Type 0 where
     pub some_processor : 1 ≤ length k.lives
     pub few_processors : length k.lives ≤ MAX_PROCESSORS
     pub owners : length k.assign.owners ≡ length k.lives
@@ -113,7 +113,7 @@ module _ {C : Type 0} where
   AreTaken taken acts = (s : ℕ) (a : ActNo) → Contains (slice_index_or taken s []) a → IsTaken s (acts a.0)
 
   -- who runs where, and what was taken: spaces and numbers are in range and apart
-  pub record IsFormed (k : State C) : Type 0 where
+  pub record IsFormed (k : KernelState C) : Type 0 where
     pub sizes : HasSizes k
     pub owners : AreSpaces (length k.demands) k.assign.owners
     pub aims : AreSpaces (length k.demands) k.assign.aims
@@ -122,23 +122,23 @@ module _ {C : Type 0} where
     pub taken : AreTaken k.taken k.acts
 
   -- the space owns a processor whose line is raised
-  pub record HasRaised (k : State C) (s : SpaceNo) : Type 0 where
+  pub record HasRaised (k : KernelState C) (s : SpaceNo) : Type 0 where
     pub proc : ProcNo
     pub owner : owner_of k proc ≡ Some s
     pub raised : IsSome (line_of k proc)
 
   -- a notice waits only where its space owns no processor, or its upcall page is being fetched, or the line of one that it owns is raised
-  abbrev pub IsPrompt : State C → Type 0
+  abbrev pub IsPrompt : KernelState C → Type 0
   IsPrompt k = (s : SpaceNo) → has_untold (untold_of k s.0) ≡ true → is_fetching k s.0 ≡ false → (p : ProcNo) → owner_of k p ≡ Some s → HasRaised k s
 
   -- what always holds: nothing is lost
-  pub record IsSound (k : State C) : Type 0 where
+  pub record IsSound (k : KernelState C) : Type 0 where
     pub formed : IsFormed k
     pub placed : ArePlaced k.assign k.lives
     pub claimed : IsClaimed k
 
   -- an upcall was made: the activation runs on the processor in the space that owns it, and what it tells is of that space
-  pub record IsUpcalled (k : State C) (p : ProcNo) (a : ActNo) : Type 0 where
+  pub record IsUpcalled (k : KernelState C) (p : ProcNo) (a : ActNo) : Type 0 where
     pub space : SpaceNo
     pub owner : owner_of k p ≡ Some space
     pub life : life_of k p ≡ Some a

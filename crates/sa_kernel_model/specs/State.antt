@@ -23,7 +23,7 @@ pub record Fixed : Type 0 where
   pub slice : ℕ
   pub evictions : List Evict
 
-pub record State (C : Type 0) : Type 0 where
+pub record KernelState (C : Type 0) : Type 0 where
   pub fixed : Fixed
   -- of each processor: the space that owns it, its aim, its line, its idle mark
   pub assign : AssignView
@@ -47,37 +47,37 @@ pub record State (C : Type 0) : Type 0 where
 
 -- the kernel in the middle of an event: its state, and all items of the trace so far
 pub record Scene (C : Type 0) : Type 0 where
-  pub state : State C
+  pub state : KernelState C
   pub items : List Item
 
 module _ {C : Type 0} where
-  abbrev pub owner_of : State C → ProcNo → Option SpaceNo
+  abbrev pub owner_of : KernelState C → ProcNo → Option SpaceNo
   owner_of k p = slice_index_or k.assign.owners p.0 None
 
-  abbrev pub aim_of : State C → ProcNo → Option SpaceNo
+  abbrev pub aim_of : KernelState C → ProcNo → Option SpaceNo
   aim_of k p = slice_index_or k.assign.aims p.0 None
 
   -- the event that raised the line of a processor, none where it is low
-  abbrev pub line_of : State C → ProcNo → Option ℕ
+  abbrev pub line_of : KernelState C → ProcNo → Option ℕ
   line_of k p = slice_index_or k.assign.lines p.0 None
 
-  abbrev pub life_of : State C → ProcNo → Option ActNo
+  abbrev pub life_of : KernelState C → ProcNo → Option ActNo
   life_of k p = slice_index_or k.lives p.0 None
 
-  abbrev pub demand_of : State C → ℕ → ℕ
+  abbrev pub demand_of : KernelState C → ℕ → ℕ
   demand_of k s = slice_index k.demands s
 
-  abbrev pub untold_of : State C → ℕ → List Note
+  abbrev pub untold_of : KernelState C → ℕ → List Note
   untold_of k s = slice_index_or k.untold s []
 
-  abbrev pub taken_of : State C → ℕ → List ActNo
+  abbrev pub taken_of : KernelState C → ℕ → List ActNo
   taken_of k s = slice_index_or k.taken s []
 
   -- the upcall page of a space is resident; it is being fetched
-  abbrev pub can_upcall : State C → SpaceNo → Bool
+  abbrev pub can_upcall : KernelState C → SpaceNo → Bool
   can_upcall k s = has_page (slice_index k.pages s.0) 0
 
-  abbrev pub is_fetching : State C → ℕ → Bool
+  abbrev pub is_fetching : KernelState C → ℕ → Bool
   is_fetching k s = list_any (fetches s) k.under_way
 
   -- a record of this event on this processor

@@ -12,7 +12,7 @@ use Rattle.sa_base.specs.Items.{items_at}
 use Rattle.sa_spaces.specs.Workload.{WorkloadView}
 use Rattle.sa_kernel_model.specs.declared.entry.Entry.{Entry}
 use Rattle.sa_kernel_model.specs.declared.entry.Entry.TheVariants as entry
-use Rattle.sa_kernel_model.specs.State.{State, Scene, owner_of, line_of, life_of, demand_of, taken_of}
+use Rattle.sa_kernel_model.specs.State.{KernelState, Scene, owner_of, line_of, life_of, demand_of, taken_of}
 use Rattle.sa_kernel_model.specs.Closing.{closed}
 use Rattle.sa_kernel_model.specs.Entries.{entered, evicted_at, io_for}
 use Rattle.sa_kernel_model.specs.Fits.{IsFit}
@@ -63,22 +63,22 @@ pub record IsBehind (says records : List Record) (Own : List Record → Type 0) 
 
 module _ {C : Type 0} where
   -- the scene before the entry: the evictions of the event are done, and the user level has recorded what it does
-  abbrev pub before_entry : Turn C → State C → Scene C
+  abbrev pub before_entry : Turn C → KernelState C → Scene C
   before_entry t k = record { state = evicted_at t.number k; items = items_at t.number t.proc t.says }
 
   abbrev pub turn_on : ℕ → ProcNo → ActNo → Option (Entry C) → Scene C → Scene C
   turn_on e p fresh None x = closed e p x
   turn_on e p fresh (Some entry) x = entered e p fresh entry x
 
-  abbrev pub turned : Turn C → State C → Scene C
+  abbrev pub turned : Turn C → KernelState C → Scene C
   turned t k = turn_on t.number t.proc t.fresh t.entry (before_entry t k)
 
   -- the event, with all its records in order
-  abbrev pub event_of : Turn C → State C → Event
+  abbrev pub event_of : Turn C → KernelState C → Event
   event_of t k = record { number = t.number; proc = t.proc; records = map what_of (turned t k).items }
 
   -- the number of an entry's activation is not in use
-  abbrev pub IsUnused : State C → ActNo → Option (Entry C) → Type 0
+  abbrev pub IsUnused : KernelState C → ActNo → Option (Entry C) → Type 0
   IsUnused k fresh None = Unit {0}
   IsUnused k fresh (Some en) = k.acts fresh.0 ≡ None
 
@@ -88,7 +88,7 @@ module _ {C : Type 0} where
   asks_line _ = false
 
   -- a slice ends only on a processor whose line is low; any entry comes where it fits
-  abbrev pub FitsTurn : State C → ProcNo → ℕ → Option (Entry C) → Type 0
+  abbrev pub FitsTurn : KernelState C → ProcNo → ℕ → Option (Entry C) → Type 0
   FitsTurn k p e None = line_of k p ≡ None
   FitsTurn k p e (Some entry) = IsFit k p e entry
 
@@ -104,7 +104,7 @@ module _ {C : Type 0} where
   WereIdle r p (Some held) = WasIdle r p held
 
   -- A block is for what the history reads, and takes as long; r is read before the record of the block.
-  abbrev pub IsFor : WorkloadView → State C → ProcNo → Readings → Stopped C → ℕ → Option ℕ → Type 0
+  abbrev pub IsFor : WorkloadView → KernelState C → ProcNo → Readings → Stopped C → ℕ → Option ℕ → Type 0
   IsFor w k p r held length page =
       (s : SpaceNo) (a : ActNo) → owner_of k p ≡ Some s → life_of k p ≡ Some a
       → blocking w r s held.thread a ≡ (record { kind = io_for s a page; length = length })
@@ -112,7 +112,7 @@ module _ {C : Type 0} where
   -- What the entry says of the user level is what the history reads, and the records before it are the user level's.
   -- Where the kernel's own record is the first of the event, there are none. r is read before the event, m before the
   -- entry.
-  abbrev pub SaysRightly : WorkloadView → State C → ProcNo → Readings → Readings → List Record → Option (Entry C) → Type 0
+  abbrev pub SaysRightly : WorkloadView → KernelState C → ProcNo → Readings → Readings → List Record → Option (Entry C) → Type 0
   SaysRightly w k p r m says (Some (entry.Interrupt held)) = (says ≡ []) × WereIdle r p held
   SaysRightly w k p r m says (Some (entry.Block held length page)) = AreUsers says × IsFor w k p m held length page
   SaysRightly w k p r m says (Some (entry.Complete io)) = AreUsers says
@@ -123,12 +123,12 @@ module _ {C : Type 0} where
   SaysRightly w k p r m says None = (says ≢ []) × AreUsers says
 
   -- what is read before the entry
-  abbrev pub read_before_entry : WorkloadView → Turn C → State C → Readings → Readings
+  abbrev pub read_before_entry : WorkloadView → Turn C → KernelState C → Readings → Readings
   read_before_entry w t k r = after_records w t.number t.proc (begun w (event_of t k) r) t.says
 
   -- the turn can be taken: its entry meets its conditions, all notices of the last upcall were fetched, and what is read
   -- from the entry is so
-  pub record CanTurn (w : WorkloadView) (k : State C) (r : Readings) (t : Turn C) : Type 0 where
+  pub record CanTurn (w : WorkloadView) (k : KernelState C) (r : Readings) (t : Turn C) : Type 0 where
     pub within : t.proc.0 < length k.lives
     pub later : 1 ≤ t.number
     pub unused : IsUnused k t.fresh t.entry
@@ -136,16 +136,16 @@ module _ {C : Type 0} where
     pub fits : FitsTurn (evicted_at t.number k) t.proc t.number t.entry
     pub says : SaysRightly w (evicted_at t.number k) t.proc r (read_before_entry w t k r) t.says t.entry
 
-  abbrev pub IsOverFor : State C → IoNo → List Record → Type 0
+  abbrev pub IsOverFor : KernelState C → IoNo → List Record → Type 0
   IsOverFor k io own = (here : Io) → io_at io.0 k.under_way ≡ Some here → IsOver here.kind own
 
-  abbrev pub HintsOf : State C → ProcNo → (SpaceNo → ℕ) → List Record → Type 0
+  abbrev pub HintsOf : KernelState C → ProcNo → (SpaceNo → ℕ) → List Record → Type 0
   HintsOf k p n records = (s : SpaceNo) → owner_of k p ≡ Some s → records ≡ Want s (n s) ∷ []
 
-  abbrev pub GivesBack : State C → ProcNo → List Record → Type 0
+  abbrev pub GivesBack : KernelState C → ProcNo → List Record → Type 0
   GivesBack k p own = (s : SpaceNo) → owner_of k p ≡ Some s → own ≡ map GiveBackRecord (taken_of k s.0)
 
-  abbrev pub ShapeOf : State C → ProcNo → List Record → Option (Entry C) → List Record → Type 0
+  abbrev pub ShapeOf : KernelState C → ProcNo → List Record → Option (Entry C) → List Record → Type 0
   ShapeOf k p says None records = records ≡ says
   ShapeOf k p says (Some (entry.Interrupt held)) records = IsInterrupt records
   ShapeOf k p says (Some (entry.Block held len page)) records = IsBehind says records IsBlock

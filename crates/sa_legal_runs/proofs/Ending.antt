@@ -32,7 +32,7 @@ use Rattle.sa_laws.specs.Event.{Event}
 use Rattle.sa_laws.specs.Life.{Life}
 use Rattle.sa_kernel_model.specs.Facts.{IsQuiet}
 use Rattle.sa_kernel_model.specs.Closing.{calls_for, was_idle as idle_in}
-use Rattle.sa_kernel_model.specs.State.{State, owner_of, life_of, untold_of as untold_in}
+use Rattle.sa_kernel_model.specs.State.{KernelState, owner_of, life_of, untold_of as untold_in}
 use Rattle.sa_kernel_model.specs.Sound.{IsSound, note_claim, io_claim, held_in}
 use Rattle.sa_kernel_model.specs.Overview.{Overview}
 use Rattle.sa_kernel_model.specs.Seen.{is_quiet}
@@ -237,7 +237,7 @@ module _ {U C : Type 0} (level : UserLevel U C) where
       r : Readings
       r = read level w events
 
-      k : State C
+      k : KernelState C
       k = m.kernel
 
       sound : IsSound k
@@ -342,7 +342,7 @@ module _ {U C : Type 0} (level : UserLevel U C) where
       r : Readings
       r = read level w events
 
-      k : State C
+      k : KernelState C
       k = m.kernel
 
       sound : IsSound k

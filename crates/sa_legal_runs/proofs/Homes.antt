@@ -20,7 +20,7 @@ use Rattle.sa_acts.specs.declared.acts.Act.{Act}
 use Rattle.sa_assign.specs.Aims.{is_aim}
 use Rattle.sa_devices.specs.Ios.{due_of, io_no}
 use Rattle.sa_kernel_model.specs.Entries.{blocked_by, told_or_left, block_begun, entered_as, go_to_aim, stopped, fetched, held_for, handed_by, kind_at, gave_back, without_acts}
-use Rattle.sa_kernel_model.specs.State.{life_of, State, Scene, owner_of, line_of, aim_of, can_upcall, taken_of}
+use Rattle.sa_kernel_model.specs.State.{life_of, KernelState, Scene, owner_of, line_of, aim_of, can_upcall, taken_of}
 use Rattle.sa_kernel_model.specs.Parts.{with_line, go_to_by}
 use Rattle.sa_kernel_model.specs.declared.entry.Entry.{Entry}
 use Rattle.sa_kernel_model.specs.declared.entry.Entry.TheVariants.{Interrupt, Block as BlockEntry, Complete, More as MoreEntry, Idle as IdleEntry, GiveBack as GiveBackEntry, InterruptOwn as InterruptOwnEntry}
@@ -124,11 +124,11 @@ module _ {C : Type 0} where
   home-entered_as n e p fresh GiveBackEntry x owners aims h = home-gave n e p (owner_of x.state p) x h
   home-entered_as n e p fresh (InterruptOwnEntry q) x owners aims h = h
 
-  home-handed : (n : ℕ) (o : Option (Stopped C)) (a : ActNo) (k : State C) → AreHomed n k.acts → AreHomed n (handed_by o a k).acts
+  home-handed : (n : ℕ) (o : Option (Stopped C)) (a : ActNo) (k : KernelState C) → AreHomed n k.acts → AreHomed n (handed_by o a k).acts
   home-handed n None a k h = h
   home-handed n (Some held) a k h = home-put n k.acts a.0 (taken_from (k.acts a.0)) h (home-taken n (k.acts a.0) (λ act is. h a.0 act is))
 
-  home-fetched : (n : ℕ) (note : Note) (k : State C) → AreHomed n k.acts → AreHomed n (fetched note k).acts
+  home-fetched : (n : ℕ) (note : Note) (k : KernelState C) → AreHomed n k.acts → AreHomed n (fetched note k).acts
   home-fetched n (Add q) k h = h
   home-fetched n (Blocked a) k h = h
   home-fetched n (Preempted a) k h = home-handed n (held_of (k.acts a.0)) a k h
@@ -222,8 +222,8 @@ module _ {U C : Type 0} (f : Calls U C) where
   home-owned n p fresh (Some s) m owners aims h =
       let same = sym (kernel-stepped p s (seen_on m p s) (user_of m s) (context_on m p) m) in
       home-asked n p fresh (stepped f p s m).1 (stepped f p s m).0
-      (subst (λ (k : State C). AreSpaces n k.assign.owners) same owners) (subst (λ (k : State C). AreSpaces n k.assign.aims) same aims)
-      (subst (λ (k : State C). AreHomed n k.acts) same h)
+      (subst (λ (k : KernelState C). AreSpaces n k.assign.owners) same owners) (subst (λ (k : KernelState C). AreSpaces n k.assign.aims) same aims)
+      (subst (λ (k : KernelState C). AreHomed n k.acts) same h)
 
   home-due : (n : ℕ) (p : ProcNo) (fresh : ActNo) (o : Option IoNo) (m : Machine U C) → AreSpaces n m.kernel.assign.owners
       → AreSpaces n m.kernel.assign.aims → IsHomed n m → IsHomed n (turned_due f p fresh o m)

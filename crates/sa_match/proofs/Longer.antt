@@ -16,7 +16,7 @@ use Rattle.sa_laws.specs.Shape.{own_part, closing_part, others_of, is_own}
 use Rattle.sa_laws.specs.Turns.{IsClosing}
 use Rattle.sa_laws.proofs.Records.{items-push}
 use Rattle.sa_kernel_model.specs.declared.entry.Entry.{Entry}
-use Rattle.sa_kernel_model.specs.State.{State, Scene}
+use Rattle.sa_kernel_model.specs.State.{KernelState, Scene}
 use Rattle.sa_kernel_model.specs.Closing.{closed, NoLineIsDue}
 use Rattle.sa_kernel_model.specs.Entries.{entered_as, evicted_at}
 use Rattle.sa_kernel_model.specs.Turn.{Turn, CanTurn, FitsTurn, IsUnused, turned, turn_on, event_of, before_entry, ShapeOf}
@@ -52,7 +52,7 @@ module _ {C : Type 0} where
   last-kept test w events e x h =
       subst (λ (r : Readings). IsKept w x.state r) (after_events-push test w (opening_readings w) (opening_event w ∷ events) e) h.kept
 
-  low-turn : (w : WorkloadView) (k : State C) (r : Readings) (e : ℕ) (p : ProcNo) (fresh : ActNo) (en : Option (Entry C))
+  low-turn : (w : WorkloadView) (k : KernelState C) (r : Readings) (e : ℕ) (p : ProcNo) (fresh : ActNo) (en : Option (Entry C))
       (items : List Item) → IsKept w k r → p.0 < length k.lives → IsUnused k fresh en → k.telling ≡ [] → FitsTurn (evicted_at e k) p e en
       → NoLineIsDue (turn_on e p fresh en (record { state = evicted_at e k; items = items })).state
   low-turn w k r e p fresh None items kept within unused empty fits =
@@ -62,7 +62,7 @@ module _ {C : Type 0} where
       rests-closed e p (entered_as e p fresh en x) (sound-entered_as e p fresh en x within fits unused empty (sound-evicted e k kept.sound))
 
   -- A turn makes a history longer by its event.
-  pub history-turn : (test : Test) (w : WorkloadView) (events : List Event) (k : State C) (items : List Item) (t : Turn C)
+  pub history-turn : (test : Test) (w : WorkloadView) (events : List Event) (k : KernelState C) (items : List Item) (t : Turn C)
       → IsHistory test w events (record { state = k; items = items })
       → CanTurn w k (read_from test w events) t
       → IsHistory test w (events ++ event_of t k ∷ [])
@@ -83,14 +83,14 @@ module _ {C : Type 0} where
       })
 
   -- The event of a turn consists of its own part and its closing.
-  pub record Parted (t : Turn C) (k : State C) (own : List Record) : Type 0 where
+  pub record Parted (t : Turn C) (k : KernelState C) (own : List Record) : Type 0 where
     pub closing : List Record
     pub is : event_of t k ≡ event_with t.number t.proc own closing
     pub parts : IsClosed own closing
     pub closes : AreClosing closing
     pub shape : ShapeOf (evicted_at t.number k) t.proc t.says t.entry own
 
-  pub parted : (w : WorkloadView) (k : State C) (r : Readings) (t : Turn C) (own : List Record) → IsWorkload w → IsKept w k r
+  pub parted : (w : WorkloadView) (k : KernelState C) (r : Readings) (t : Turn C) (own : List Record) → IsWorkload w → IsKept w k r
       → CanTurn w k r t → own ≢ [] → AreOwn (others_of own)
       → (before_closing t.number t.proc t.fresh t.entry (before_entry t k)).items ≡ items_at t.number t.proc own → Parted t k own
   parted w k r t own ok kept can some are items =

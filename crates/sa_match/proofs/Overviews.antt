@@ -19,7 +19,7 @@ use Rattle.sa_laws.specs.declared.place.Place.TheVariants.{Running, Done}
 use Rattle.sa_laws.specs.Life.{Life}
 use Rattle.sa_laws.specs.State.{State as Abstract, SpaceState, space_at, thread_at, thread_in}
 use Rattle.sa_laws.specs.Readings.{Readings, running_of, life_of as life_at, owner_of as owner_in, taken_of as taken_at, space_of_life}
-use Rattle.sa_kernel_model.specs.State.{State, Fixed, line_of, taken_of}
+use Rattle.sa_kernel_model.specs.State.{KernelState, Fixed, line_of, taken_of}
 use Rattle.sa_kernel_model.specs.Entries.{evicted_at}
 use Rattle.sa_kernel_model.specs.Overview.{taken_behind, spaces_in, Overview, overview, read_off, act_space}
 use Rattle.sa_kernel_model.specs.Kept.{IsKept}
@@ -54,7 +54,7 @@ none-there a s t p past is =
     absurd (cc)
 
 module _ {C : Type 0} where
-  pub moment-of : (w : WorkloadView) (k : State C) (r : Readings) → IsSound k → overview r ≡ read_off k
+  pub moment-of : (w : WorkloadView) (k : KernelState C) (r : Readings) → IsSound k → overview r ≡ read_off k
       → length k.demands ≡ length w.spaces → length r.state.spaces ≡ length w.spaces
       → ((s : ℕ) → s < length w.spaces → ThreadsRun (space_no s) r) → IsMoment r
   moment-of w k r sound reads spaces size threads = record {
@@ -90,7 +90,7 @@ module _ {C : Type 0} where
           (found.0, found.1, owner ∙ ap Some (sym found.2), subst (λ (t : SpaceNo). t.0 < length w.spaces) (sym found.2) below)
 
   -- The taken activations that are read are those that the kernel has.
-  pub taken-reads : (k : State C) (r : Readings) (s : SpaceNo) → IsSound k → overview r ≡ read_off k → k.telling ≡ []
+  pub taken-reads : (k : KernelState C) (r : Readings) (s : SpaceNo) → IsSound k → overview r ≡ read_off k → k.telling ≡ []
       → s.0 < length k.demands → taken_at r s ≡ taken_of k s.0
   taken-reads k r s sound reads empty below =
       ap (λ (v : Overview). get_or v.taken s.0 []) reads
@@ -98,7 +98,7 @@ module _ {C : Type 0} where
       ∙ get_or-take (length k.fixed.priorities) k.taken s.0 [] (let same = sound.formed.sizes.priorities in omega (arith, below, same))
 
   -- On a processor that a space owns a life of it runs.
-  own-life : (k : State C) (r : Readings) (s : SpaceNo) (q : ProcNo) → IsSound k → overview r ≡ read_off k → owner_in r q ≡ Some s
+  own-life : (k : KernelState C) (r : Readings) (s : SpaceNo) (q : ProcNo) → IsSound k → overview r ≡ read_off k → owner_in r q ≡ Some s
       → HasLifeOn s r q
   own-life k r s q sound reads owner =
       by (get_or k.lives q.0 None) (ap (λ (v : Overview). get_or v.running q.0 None) reads)
@@ -108,7 +108,7 @@ module _ {C : Type 0} where
         by (Some a) some of = let found = has-life (r.lives a.0) s of in record { act = a; life = found.0; runs = some; is = found.1; space = found.2 }
 
   -- What a space sees of the kernel is what is read.
-  pub sees-of : (k : State C) (r : Readings) (p : ProcNo) (s : SpaceNo) (e : ℕ) → IsSound k → overview r ≡ read_off k
+  pub sees-of : (k : KernelState C) (r : Readings) (p : ProcNo) (s : SpaceNo) (e : ℕ) → IsSound k → overview r ≡ read_off k
       → k.telling ≡ [] → s.0 < length k.demands → Sees s r p e (seen_of k p s e)
   sees-of k r p s e sound reads empty below = record {
     proc = refl;
@@ -131,7 +131,7 @@ module _ {C : Type 0} where
   }
 
   -- Where the line is low, an event begins with what the kernel has.
-  pub begun-reads : (w : WorkloadView) (k : State C) (r : Readings) (e : ℕ) (p : ProcNo) → IsKept w k r → line_of k p ≡ None
+  pub begun-reads : (w : WorkloadView) (k : KernelState C) (r : Readings) (e : ℕ) (p : ProcNo) → IsKept w k r → line_of k p ≡ None
       → overview (begun_at w e p r) ≡ read_off (evicted_at e k)
   begun-reads w k r e p kept low =
       let F : List Evict → List (Option ℕ) → Overview → Overview = λ es lines (v : Overview). record v {

@@ -15,7 +15,7 @@ use Rattle.sa_sync.specs.Sync.{opening}
 use Rattle.sa_fast.specs.declared.threads.Place.TheVariants.{Running, Waiting}
 use Rattle.sa_fast.specs.Threads.{at_start}
 use Rattle.sa_package_model.specs.declared.context.Context.{Context}
-use Rattle.sa_package_model.specs.declared.context.State.TheVariants.{Code}
+use Rattle.sa_package_model.specs.declared.context.ContextState.TheVariants.{Code}
 use Rattle.sa_package_model.specs.declared.package.Package.{Package}
 use Rattle.sa_package_model.specs.Rules.{Pair, pair}
 use Rattle.sa_package_model.specs.Context.{fresh}

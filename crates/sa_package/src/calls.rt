@@ -8,7 +8,7 @@ use crate::package::FastThreads;
 use sa_abstract::{SeatState, Tally};
 use sa_base::{ProcNo, Seen};
 use sa_code::{Frame, Op};
-use sa_package_model::{Context, State};
+use sa_package_model::{Context, ContextState};
 
 impl FastThreads {
     /// The context goes on behind the last notice of its upcall, or behind an entry of the kernel that it asked for: it
@@ -33,11 +33,11 @@ impl FastThreads {
     }
 
     // The section in which a context stands, if it is in one.
-    fn own_section(&self, state: State) -> Option<Frame>
+    fn own_section(&self, state: ContextState) -> Option<Frame>
         ensures { result ≡ own_section self.now state }
     {
         match state {
-            State::Code(frame) => match self.package.shared.state.code.at(frame.pc) {
+            ContextState::Code(frame) => match self.package.shared.state.code.at(frame.pc) {
                 Some(Op::Push | Op::Pop | Op::Free) => Some(frame),
                 _ => None,
             },
@@ -51,7 +51,7 @@ impl FastThreads {
         ensures { result ≡ local_at self.now ctx.now.state }
     {
         match ctx.state {
-            State::User(thread) => {
+            ContextState::User(thread) => {
                 let block = self.package.shared.threads.block(thread);
                 SeatState::Local {
                     space: self.package.shared.state.space,

@@ -12,7 +12,7 @@ use crate::package::FastThreads;
 use sa_base::{MAX_EVENTS, ProcNo, Record, Seen, SpaceNo, ThreadNo, Trace};
 use sa_fast::Block;
 use sa_instr::{Program, local};
-use sa_package_model::{Context, State};
+use sa_package_model::{Context, ContextState};
 
 impl FastThreads {
     /// The context's thread runs `n` local instructions, one in each event from `seen.event` on. It cannot fail
@@ -26,7 +26,7 @@ impl FastThreads {
             trace.new.items ≡ trace.old.items ++ items_from seen.now.event seen.now.proc says }
         ensures spare { trace.new.spare + n ≡ trace.old.spare }
     {
-        if let State::User(thread) = ctx.state {
+        if let ContextState::User(thread) = ctx.state {
             let mut block = self.package.shared.threads.block(thread);
             let program = &self.package.def.programs()[usize::from(block.program)];
             run_on(

@@ -13,7 +13,7 @@ use sa_base::{Note, Stopped};
 use sa_code::{Code, Frame};
 use sa_copies::copy_place;
 use sa_fast::Place;
-use sa_package_model::{Context, State};
+use sa_package_model::{Context, ContextState};
 
 impl FastThreads {
     /// The context is told a notice of its upcall. With `Preempted` and `Unblocked` comes the context that was stopped or
@@ -59,12 +59,12 @@ impl FastThreads {
 }
 
 // The section in which a context stands, or of which it stands in a copy, at the place of the copy.
-fn section_of(code: &Code, state: State) -> Option<Frame>
+fn section_of(code: &Code, state: ContextState) -> Option<Frame>
     requires { code.now ≡ package_ops }
     ensures { result ≡ section_in state }
 {
     match state {
-        State::Code(mut frame) => {
+        ContextState::Code(mut frame) => {
             frame.pc = copy_place(code, frame.pc)?;
             Some(frame)
         }

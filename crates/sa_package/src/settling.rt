@@ -8,7 +8,7 @@ ghost use Rattle.sa_package_model.specs.Rules.{Pair, pair, load, owed, settled, 
 use crate::package::FastThreads;
 use sa_base::{BULK_RETURN, Seen, ThreadNo};
 use sa_fast::{Place, Shared, more_owed};
-use sa_package_model::{Context, State};
+use sa_package_model::{Context, ContextState};
 
 impl FastThreads {
     // How many threads are ready or run.
@@ -56,15 +56,15 @@ fn is_left(ctx: &Context) -> bool
 
 // What comes next for a context with this thread, where something is left to do, where a hint is owed, and where many
 // activations are taken.
-fn settled_to(thread: Option<ThreadNo>, left: bool, owed: bool, bulk: bool) -> State
+fn settled_to(thread: Option<ThreadNo>, left: bool, owed: bool, bulk: bool) -> ContextState
     ensures { result ≡ settled_to thread left owed bulk }
 {
     match (thread, left, owed, bulk) {
-        (_, true, _, _) => State::Work(thread),
-        (_, false, true, _) => State::Hint(thread),
-        (Some(t), false, false, _) => State::User(t),
-        (None, false, false, true) => State::Return,
-        (None, false, false, false) => State::Look(0),
+        (_, true, _, _) => ContextState::Work(thread),
+        (_, false, true, _) => ContextState::Hint(thread),
+        (Some(t), false, false, _) => ContextState::User(t),
+        (None, false, false, true) => ContextState::Return,
+        (None, false, false, false) => ContextState::Look(0),
     }
 }
 

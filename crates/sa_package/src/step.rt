@@ -19,7 +19,7 @@ use sa_base::{BULK_RETURN, MAX_THREADS, PACKAGE_PAGE, ProcNo, Record, Seen, Thre
 use sa_code::{Frame, MicroDone, Op, micro};
 use sa_fast::{Place, Ran, Shared, idle_owed, run};
 use sa_instr::MAX_PATIENCE;
-use sa_package_model::{Context, State};
+use sa_package_model::{Context, ContextState};
 
 // Where the routines of the package's code begin.
 const PUSH: u16 = 0;
@@ -42,12 +42,12 @@ impl FastThreads {
         ensures { ctx.new ≡ resettled self.now seen.now ctx.old ctx.old.state }
     {
         match ctx.state {
-            State::Hint(thread) => {
+            ContextState::Hint(thread) => {
                 if self.owed(seen).is_none() {
                     self.settle(seen, ctx, thread);
                 }
             }
-            State::Return => {
+            ContextState::Return => {
                 if seen.taken < BULK_RETURN {
                     self.settle(seen, ctx, None);
                 }
@@ -64,15 +64,15 @@ impl FastThreads {
             self.new ctx.new result trace.new }
     {
         match ctx.state {
-            State::Code(frame) => self.do_code(seen, ctx, frame, trace),
-            State::Work(_) => self.do_work(seen, ctx, trace),
-            State::Hint(_) => match self.owed(seen) {
+            ContextState::Code(frame) => self.do_code(seen, ctx, frame, trace),
+            ContextState::Work(_) => self.do_work(seen, ctx, trace),
+            ContextState::Hint(_) => match self.owed(seen) {
                 Some(more) => Step::More(more),
                 None => Step::Did,
             },
-            State::Return => Step::GiveBack,
-            State::User(thread) => self.do_thread(seen, ctx, thread, trace),
-            State::Look(looks) => self.look(seen, ctx, looks, trace),
+            ContextState::Return => Step::GiveBack,
+            ContextState::User(thread) => self.do_thread(seen, ctx, thread, trace),
+            ContextState::Look(looks) => self.look(seen, ctx, looks, trace),
         }
     }
 
@@ -114,7 +114,7 @@ impl FastThreads {
         self.put_last(ctx, ctx.state.thread());
         place(&mut self.package.shared, frame.thread, Place::Running);
         ctx.sections.remove_first();
-        ctx.state = State::Code(frame);
+        ctx.state = ContextState::Code(frame);
         let cont = Record::Cont(self.package.shared.state.space, frame.thread);
         trace.say(seen.event, seen.proc, cont);
         Step::Did
@@ -155,7 +155,7 @@ impl FastThreads {
         };
         if let MicroDone::Did = micro(&mut self.package.shared.state, &mut frame, seen, trace) {
             self.package.shared.works.take_first(&mut ctx.work, first);
-            ctx.state = State::Code(frame);
+            ctx.state = ContextState::Code(frame);
         }
         Step::Did
     }
@@ -186,7 +186,7 @@ impl FastThreads {
                 if ctx.work.is_some() {
                     self.settle(seen, ctx, Some(thread));
                 } else {
-                    ctx.state = State::User(thread);
+                    ctx.state = ContextState::User(thread);
                 }
                 Step::Did
             }
@@ -213,7 +213,7 @@ impl FastThreads {
         if self.is_idle(seen, looks) {
             return Step::Idle;
         }
-        ctx.state = State::Look((looks + 1).min(MAX_PATIENCE));
+        ctx.state = ContextState::Look((looks + 1).min(MAX_PATIENCE));
         trace.say(seen.event, seen.proc, Record::Idle);
         Step::Did
     }
@@ -241,7 +241,7 @@ impl FastThreads {
             thread: None,
         };
         if let MicroDone::Did = micro(&mut self.package.shared.state, &mut frame, seen, trace) {
-            ctx.state = State::Code(frame);
+            ctx.state = ContextState::Code(frame);
         }
         Step::Did
     }
@@ -291,7 +291,7 @@ impl FastThreads {
     {
         match self.package.shared.state.code.at(next.pc) {
             Some(Op::Leave) => self.settle(seen, ctx, next.thread),
-            _ => ctx.state = State::Code(next),
+            _ => ctx.state = ContextState::Code(next),
         }
     }
 }

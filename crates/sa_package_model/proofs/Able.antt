@@ -13,8 +13,8 @@ use Rattle.sa_lists.proofs.Changes.{home-inside}
 use Rattle.sa_fast.specs.Instruction.{CanRun}
 use Rattle.sa_fast.specs.Rest.{one_if, one_of}
 use Rattle.sa_package_model.specs.declared.context.Context.{Context}
-use Rattle.sa_package_model.specs.declared.context.State.{State}
-use Rattle.sa_package_model.specs.declared.context.State.TheVariants.{Code, Work, Hint, Return, User, Look}
+use Rattle.sa_package_model.specs.declared.context.ContextState.{ContextState}
+use Rattle.sa_package_model.specs.declared.context.ContextState.TheVariants.{Code, Work, Hint, Return, User, Look}
 use Rattle.sa_package_model.specs.declared.package.Package.{Package}
 use Rattle.sa_package_model.specs.Context.{carried_by, section_in}
 use Rattle.sa_package_model.specs.Conditions.{IsThread, CanGo, CanGoAt, CanAct, CanStep, CanTakeOver, CanBeTold}
@@ -39,7 +39,7 @@ module _ (s : Setting) (e : ℕ) (u : Package) (cs : Contexts Context) (h : IsSt
         ap (λ o. one_of (thread_alone o (carried_by c.state)) x) outside ∙ ap (λ o. one_of o x) carries in
         omega arith)
 
-    acts : (state : State) → c.state ≡ state → CanAct u c state
+    acts : (state : ContextState) → c.state ≡ state → CanAct u c state
     acts (Code g) at = code_can s e u cs h a c is g at
     acts (Work t) at = work_can s e u cs h a c is t (ap section_in at) (ap carried_by at)
     acts (Hint t) at = record { works = work_can s e u cs h a c is t (ap section_in at) (ap carried_by at); thread = thread_runs t (ap section_in at) (ap carried_by at) }
@@ -59,12 +59,12 @@ module _ (s : Setting) (e : ℕ) (u : Package) (cs : Contexts Context) (h : IsSt
   -- where it stands, and a run of local instructions
   pub seat_can : IsThread (carried_by c.state)
   seat_can = thread_there c.state refl where
-    thread_there : (state : State) → c.state ≡ state → IsThread (carried_by state)
+    thread_there : (state : ContextState) → c.state ≡ state → IsThread (carried_by state)
     thread_there state at = subst (λ x. IsThread (carried_by x)) at (own_thread s e u cs h a c is (carried_by c.state) (λ x. let less = carried_less c.state c.sections x in omega arith))
 
   pub go_can : (n : ℕ) → GoesOn s n (local_at u c.state) → CanGo u c
   go_can n local = go_at c.state refl local where
-    go_at : (state : State) → c.state ≡ state → GoesOn s n (local_at u state) → CanGoAt u c.state
+    go_at : (state : ContextState) → c.state ≡ state → GoesOn s n (local_at u state) → CanGoAt u c.state
     go_at (Code g) at local = absurd local
     go_at (Work t) at local = absurd local
     go_at (Hint t) at local = absurd local

@@ -32,8 +32,8 @@ use Rattle.sa_fast.specs.Hints.{usable, more_owed, idle_owed}
 use Rattle.sa_fast.specs.Threads.{block_at}
 use Rattle.sa_fast.specs.Instruction.{told_by, forked, touched, outcome_of, instr_of, IsAt}
 use Rattle.sa_package_model.specs.declared.context.Context.{Context}
-use Rattle.sa_package_model.specs.declared.context.State.{State}
-use Rattle.sa_package_model.specs.declared.context.State.TheVariants.{Code, Work, Hint, Return, User, Look}
+use Rattle.sa_package_model.specs.declared.context.ContextState.{ContextState}
+use Rattle.sa_package_model.specs.declared.context.ContextState.TheVariants.{Code, Work, Hint, Return, User, Look}
 use Rattle.sa_package_model.specs.declared.package.Package.{Package}
 use Rattle.sa_package_model.specs.Context.{carried_by, settled_to, is_left, has_bulk}
 use Rattle.sa_package_model.specs.Conditions.{CanAct, CanStep}
@@ -148,7 +148,7 @@ module _ (s : Setting) (u : Package) (seen : Seen) (made : IsMadeFor s u) where
   looked_asks c looks false None e = tt
 
   -- a context returns activations only where many are taken
-  abbrev IsBulk : State → Type 0
+  abbrev IsBulk : ContextState → Type 0
   IsBulk Return = has_bulk seen ≡ true
   IsBulk _ = Unit {0}
 
@@ -167,7 +167,7 @@ module _ (s : Setting) (u : Package) (seen : Seen) (made : IsMadeFor s u) where
   bulk_bulk c true e h = h refl
   bulk_bulk c false e h = settled_bulk None (is_left c) (is_some (owed u seen)) (has_bulk seen) refl
 
-  resettled_bulk : (c : Context) (state : State) → c.state ≡ state → IsBulk (resettled u seen c state).state
+  resettled_bulk : (c : Context) (state : ContextState) → c.state ≡ state → IsBulk (resettled u seen c state).state
   resettled_bulk c (Code f) e = subst IsBulk (sym e) tt
   resettled_bulk c (Work t) e = subst IsBulk (sym e) tt
   resettled_bulk c (Hint t) e = owed_bulk c t (owed u seen) (subst IsBulk (sym e) tt)
@@ -175,7 +175,7 @@ module _ (s : Setting) (u : Package) (seen : Seen) (made : IsMadeFor s u) where
   resettled_bulk c (User t) e = subst IsBulk (sym e) tt
   resettled_bulk c (Look looks) e = subst IsBulk (sym e) tt
 
-  asks_at : (c : Context) (state : State) → IsBulk state → CanAct u c state → IsAsked s seen (stepped_at u seen c state).answer
+  asks_at : (c : Context) (state : ContextState) → IsBulk state → CanAct u c state → IsAsked s seen (stepped_at u seen c state).answer
   asks_at c (Code f) bulk act = let m = micro u.shared.state f seen.pages in coded_asks c f (slice_get u.shared.state.code f.pc) m m.done
   asks_at c (Work t) bulk act = worked_asks c (slice_get c.sections 0) c.work
   asks_at c (Hint t) bulk act = hinted_asks c (owed u seen) refl

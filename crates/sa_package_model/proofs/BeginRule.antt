@@ -36,8 +36,8 @@ use Rattle.sa_fast.proofs.WorkSteps.{count_one}
 use Rattle.sa_fast.proofs.SyncSteps.{holds-set}
 use Rattle.sa_fast.proofs.RunSteps.{unmade_above}
 use Rattle.sa_package_model.specs.declared.context.Context.{Context}
-use Rattle.sa_package_model.specs.declared.context.State.{State}
-use Rattle.sa_package_model.specs.declared.context.State.TheVariants.{Code, Work, Hint, Return, User, Look}
+use Rattle.sa_package_model.specs.declared.context.ContextState.{ContextState}
+use Rattle.sa_package_model.specs.declared.context.ContextState.TheVariants.{Code, Work, Hint, Return, User, Look}
 use Rattle.sa_package_model.specs.declared.package.Package.{Package}
 use Rattle.sa_package_model.specs.Context.{fresh, carried_by, section_in, stands_between}
 use Rattle.sa_package_model.specs.Rules.{settled}
@@ -285,7 +285,7 @@ module _ (s : Setting) (e : ℕ) (u : Package) (cs : Contexts Context) (h : IsSt
   settles : section_in c.state ≡ None → IsChange s e u u (Some c) (settled u seen c (carried_by c.state))
   settles outside = settled-change s e u cs h a c is (carried_by c.state) outside refl seen
 
-  answered-by : (state : State) → c.state ≡ state → IsChange s e u u (Some c) (cond (stands_between state) (settled u seen c (carried_by c.state)) c)
+  answered-by : (state : ContextState) → c.state ≡ state → IsChange s e u u (Some c) (cond (stands_between state) (settled u seen c (carried_by c.state)) c)
   answered-by (Code f) at = still-change s e u cs h a c is
   answered-by (Work t) at = settles (ap section_in at)
   answered-by (Hint t) at = settles (ap section_in at)

@@ -27,8 +27,8 @@ use Rattle.sa_fast.specs.Work.{work_of}
 use Rattle.sa_fast.specs.Rest.{one_if, one_of, threads_at_rest, AgreesAt, not_carried}
 use Rattle.sa_fast.proofs.WorkSteps.{count_one, one_same, one_other}
 use Rattle.sa_package_model.specs.declared.context.Context.{Context}
-use Rattle.sa_package_model.specs.declared.context.State.{State}
-use Rattle.sa_package_model.specs.declared.context.State.TheVariants.{Code}
+use Rattle.sa_package_model.specs.declared.context.ContextState.{ContextState}
+use Rattle.sa_package_model.specs.declared.context.ContextState.TheVariants.{Code}
 use Rattle.sa_package_model.specs.declared.package.Package.{Package}
 use Rattle.sa_package_model.specs.Context.{carried_by, section_in, is_left, has_bulk, settled_to}
 use Rattle.sa_package_model.specs.Conditions.{IsThread, CanBeDue, CanCode}
@@ -302,7 +302,7 @@ module _ (s : Setting) (e : ℕ) (u : Package) (cs : Contexts Context) (h : IsSt
           let own : Fits u.shared.state.lists f (Some Free) = subst (Fits u.shared.state.lists f) op (fits k copy) in
           let held = own_locked s e u cs h a c is (list_in f).0 (has_lock k copy) in
           let within : (list_in f).0 < length u.shared.state.lists.locked = let same = h.parts.state.ready.locks in let y = inside k copy in omega arith in
-          let done : (state : State) → IsBetween state f.thread → IsChange s e u v (Some c) (at_state c state) = λ state between. record {
+          let done : (state : ContextState) → IsBetween state f.thread → IsChange s e u v (Some c) (at_state c state) = λ state between. record {
             made = made_with s u (record u.shared { state = m.state }) h.made refl;
             code = h.code;
             parts = parts_state u.def u.processors e (list_in f).0 u.shared m.state h.parts sound (freed-changes_only u.shared.state f (list_in f));

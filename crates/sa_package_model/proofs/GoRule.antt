@@ -23,8 +23,8 @@ use Rattle.sa_fast.specs.Rest.{AgreesBy, place_at, done_at, unmade_at, is_carrie
 use Rattle.sa_fast.proofs.SyncSteps.{holds-set}
 use Rattle.sa_fast.proofs.RunSteps.{place_inside}
 use Rattle.sa_package_model.specs.declared.context.Context.{Context}
-use Rattle.sa_package_model.specs.declared.context.State.{State}
-use Rattle.sa_package_model.specs.declared.context.State.TheVariants.{Code, Work, Hint, Return, User, Look}
+use Rattle.sa_package_model.specs.declared.context.ContextState.{ContextState}
+use Rattle.sa_package_model.specs.declared.context.ContextState.TheVariants.{Code, Work, Hint, Return, User, Look}
 use Rattle.sa_package_model.specs.declared.package.Package.{Package}
 use Rattle.sa_package_model.specs.Context.{carried_by, stands_inside}
 use Rattle.sa_package_model.specs.Rules.{with_shared}
@@ -47,7 +47,7 @@ module _ (s : Setting) (e : ℕ) (u : Package) (cs : Contexts Context) (h : IsSt
   user_at t at = h.parts.at t.0 (own_made s e u cs h a c is t.0 (user_has u.shared.works c t at))
 
   -- WHERE IT STANDS
-  seat_by : (state : State) → c.state ≡ state → IsSeat s (local_at u state) × (is_away (local_at u state) ≡ (stands_inside state || is_none (carried_by state)))
+  seat_by : (state : ContextState) → c.state ≡ state → IsSeat s (local_at u state) × (is_away (local_at u state) ≡ (stands_inside state || is_none (carried_by state)))
   seat_by (Code f) at = (tt, refl)
   seat_by (Work t) at = (tt, refl)
   seat_by (Hint t) at = (tt, refl)
@@ -96,7 +96,7 @@ module _ (s : Setting) (e : ℕ) (u : Package) (cs : Contexts Context) (h : IsSt
         context = h.contexts a c is;
       }
 
-  gone_by : (seen : Seen) (n : ℕ) (state : State) → e < seen.event → c.state ≡ state → GoesOn s n (local_at u state) → IsGone fast_calls fast_stands s seen cs a n (local_at u state) (gone_at u c n state)
+  gone_by : (seen : Seen) (n : ℕ) (state : ContextState) → e < seen.event → c.state ≡ state → GoesOn s n (local_at u state) → IsGone fast_calls fast_stands s seen cs a n (local_at u state) (gone_at u c n state)
   gone_by seen n (Code f) later at local = absurd local
   gone_by seen n (Work t) later at local = absurd local
   gone_by seen n (Hint t) later at local = absurd local

@@ -24,8 +24,8 @@ use Rattle.sa_fast.specs.declared.instruction.Ran.TheVariants.{Goes, Leaves, Blo
 use Rattle.sa_fast.specs.Threads.{block_at}
 use Rattle.sa_fast.specs.Instruction.{says_of, instr_of}
 use Rattle.sa_package_model.specs.declared.context.Context.{Context}
-use Rattle.sa_package_model.specs.declared.context.State.{State}
-use Rattle.sa_package_model.specs.declared.context.State.TheVariants.{Code, Work, Hint, Return, User, Look}
+use Rattle.sa_package_model.specs.declared.context.ContextState.{ContextState}
+use Rattle.sa_package_model.specs.declared.context.ContextState.TheVariants.{Code, Work, Hint, Return, User, Look}
 use Rattle.sa_package_model.specs.declared.package.Package.{Package}
 use Rattle.sa_package_model.specs.Context.{carried_by}
 use Rattle.sa_package_model.specs.Laws.{IsMadeFor}
@@ -136,7 +136,7 @@ module _ (s : Setting) (u : Package) (seen : Seen) (made : IsMadeFor s u) where
   looked_own c looks true None = none
   looked_own c looks false None = one _ tt
 
-  own_at : (c : Context) (state : State) → Own (stepped_at u seen c state).says
+  own_at : (c : Context) (state : ContextState) → Own (stepped_at u seen c state).says
   own_at c (Code f) = let m = micro u.shared.state f seen.pages in coded_own c f (slice_get u.shared.state.code f.pc) m m.done (micro_own f)
   own_at c (Work t) = worked_own c (slice_get c.sections 0) c.work
   own_at c (Hint t) = hinted_own c (owed u seen)

@@ -3,18 +3,18 @@ use Rattle.std.proofs.Common.{ℕ, Bool, true, false, Option, Some, None, is_som
 use Rattle.sa_base.specs.declared.number.ThreadNo.{ThreadNo}
 use Rattle.sa_base.specs.declared.context.Seen.{Seen}
 use Rattle.sa_package_model.specs.declared.context.Context.{Context}
-use Rattle.sa_package_model.specs.declared.context.State.{State}
-use Rattle.sa_package_model.specs.declared.context.State.TheVariants.{Code, Work, Hint, Return, User, Look}
+use Rattle.sa_package_model.specs.declared.context.ContextState.{ContextState}
+use Rattle.sa_package_model.specs.declared.context.ContextState.TheVariants.{Code, Work, Hint, Return, User, Look}
 use Rattle.sa_package_model.specs.declared.package.Package.{Package}
 use Rattle.sa_package_model.specs.Context.{is_left, settled_to, has_bulk}
 use Rattle.sa_package_model.specs.Conditions.{CanWork, CanSettle, CanAct, CanStep}
 use Rattle.sa_package_model.specs.Rules.{at_state, owed, settled}
 use Rattle.sa_package_model.specs.Step.{if_owed, if_bulk, resettled}
 
-works_at : (u : Package) (c : Context) (t : Option ThreadNo) (s : State) → CanWork u c t → CanWork u (at_state c s) t
+works_at : (u : Package) (c : Context) (t : Option ThreadNo) (s : ContextState) → CanWork u c t → CanWork u (at_state c s) t
 works_at u c t s h = record { section = h.section; carries = h.carries; thread = h.thread }
 
-acts : (u : Package) (c : Context) (t : Option ThreadNo) (left owes bulk : Bool) → CanSettle u c t → (s : State) → CanAct u (at_state c s) (settled_to t left owes bulk)
+acts : (u : Package) (c : Context) (t : Option ThreadNo) (left owes bulk : Bool) → CanSettle u c t → (s : ContextState) → CanAct u (at_state c s) (settled_to t left owes bulk)
 acts u c t true owes bulk h s = works_at u c t s h.works
 acts u c t false true bulk h s = record { works = works_at u c t s h.works; thread = h.thread }
 acts u c (Some n) false false bulk h s = h.thread
@@ -38,7 +38,7 @@ can-if_bulk : (u : Package) (seen : Seen) (c : Context) (bulk : Bool) → CanSte
 can-if_bulk u seen c true can h = can
 can-if_bulk u seen c false can h = can-settled u seen c None can h
 
-can-at : (u : Package) (seen : Seen) (c : Context) (s : State) → CanAct u c s → CanStep u seen c → CanStep u seen (resettled u seen c s)
+can-at : (u : Package) (seen : Seen) (c : Context) (s : ContextState) → CanAct u c s → CanStep u seen c → CanStep u seen (resettled u seen c s)
 can-at u seen c (Code f) act can = can
 can-at u seen c (Work t) act can = can
 can-at u seen c (Hint t) act can = can-if_owed u seen c t (owed u seen) can act

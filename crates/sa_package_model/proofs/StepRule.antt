@@ -18,8 +18,8 @@ use Rattle.sa_lists.proofs.Changes.{home-inside}
 use Rattle.sa_lists.proofs.Rounds.{sought-first}
 use Rattle.sa_code.specs.declared.state.Frame.{Frame}
 use Rattle.sa_package_model.specs.declared.context.Context.{Context}
-use Rattle.sa_package_model.specs.declared.context.State.{State}
-use Rattle.sa_package_model.specs.declared.context.State.TheVariants.{Code, Work, Hint, Return, User, Look}
+use Rattle.sa_package_model.specs.declared.context.ContextState.{ContextState}
+use Rattle.sa_package_model.specs.declared.context.ContextState.TheVariants.{Code, Work, Hint, Return, User, Look}
 use Rattle.sa_package_model.specs.declared.package.Package.{Package}
 use Rattle.sa_package_model.specs.Context.{carried_by, section_in, has_bulk}
 use Rattle.sa_package_model.specs.Rules.{own_list, at_state, owed, took_over, looked_by, is_idle}
@@ -52,7 +52,7 @@ module _ (s : Setting) (e : ℕ) (u : Package) (cs : Contexts Context) (h : IsSt
   bulk_change seen at true = stays
   bulk_change seen at false = settled-change s e u cs h a c is None (ap section_in at) (ap carried_by at) seen
 
-  resettled_stands : (seen : Seen) (state : State) → c.state ≡ state → IsStanding s e u (put cs a (Some (resettled u seen c state)))
+  resettled_stands : (seen : Seen) (state : ContextState) → c.state ≡ state → IsStanding s e u (put cs a (Some (resettled u seen c state)))
   resettled_stands seen (Code f) at = change-stands s e u cs h e a u (Some c) c is stays
   resettled_stands seen (Work t) at = change-stands s e u cs h e a u (Some c) c is stays
   resettled_stands seen (Hint t) at = change-stands s e u cs h e a u (Some c) (if_owed u seen c t (owed u seen)) is (owed_change seen t at (owed u seen))
@@ -102,7 +102,7 @@ module _ (s : Setting) (e : ℕ) (u : Package) (cs : Contexts Context) (h : IsSt
         then_later seen.event u (at_state c more) (omega arith)
         (between-change s e u cs h a c is None (ap section_in at) (ap carried_by at) more (record { section = refl; carries = refl; is = omega arith }))
 
-    at_stands : (state : State) → c.state ≡ state → Stands (stepped_at u seen c state)
+    at_stands : (state : ContextState) → c.state ≡ state → Stands (stepped_at u seen c state)
     at_stands (Code f) at =
         then_later seen.event (stepped_at u seen c (Code f)).user (stepped_at u seen c (Code f)).ctx (omega arith) (coded-change s e u cs h a c is f at seen)
     at_stands (Work t) at = work_stands t at (slice_get c.sections 0) refl c.work refl

@@ -17,8 +17,8 @@ use Rattle.sa_fast.proofs.WorkSteps.{one_same}
 use Rattle.sa_fast.proofs.RunSteps.{run-step}
 use Rattle.sa_fast.proofs.PlaceSteps.{place-step}
 use Rattle.sa_package_model.specs.declared.context.Context.{Context}
-use Rattle.sa_package_model.specs.declared.context.State.{State}
-use Rattle.sa_package_model.specs.declared.context.State.TheVariants.{User}
+use Rattle.sa_package_model.specs.declared.context.ContextState.{ContextState}
+use Rattle.sa_package_model.specs.declared.context.ContextState.TheVariants.{User}
 use Rattle.sa_package_model.specs.declared.package.Package.{Package}
 use Rattle.sa_package_model.specs.Context.{carried_by, section_in, settled_to, is_left, has_bulk}
 use Rattle.sa_package_model.specs.Rules.{at_state, owed, with_shared, stays_user, used_by, used}
@@ -61,7 +61,7 @@ module _ (s : Setting) (e : ℕ) (u : Package) (cs : Contexts Context) (h : IsSt
             (own_work s e u cs h a c is) (own_rest s e u cs h a c is t.0 (user_has u.shared.works c t at)) (rest_unlisted s e u cs h) (rest_once s e u cs h)
 
   -- behind the instruction the context has what the instruction left it, and carries the thread or none
-  outcome-change : (f : ℕ) (o : Outcome) (state : State) (n : Option ThreadNo) → e < f → HasRun o → IsBetween state n
+  outcome-change : (f : ℕ) (o : Outcome) (state : ContextState) (n : Option ThreadNo) → e < f → HasRun o → IsBetween state n
       → ((x : ℕ) → one_of n x ≡ stays_with o.answer t x) → IsChange s f u (with_shared u o.shared) (Some c) (at_state (record c { work = o.work }) state)
   outcome-change f o state n later both new stays =
       let step = both.0 in

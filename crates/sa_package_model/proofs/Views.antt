@@ -13,15 +13,15 @@ use Rattle.sa_copies.proofs.Places.{ops-copied, copies-copied, copies-ops}
 use Rattle.sa_fast.specs.Work.{work_of}
 use Rattle.sa_fast.specs.Rest.{one_if, one_of}
 use Rattle.sa_package_model.specs.declared.context.Context.{Context}
-use Rattle.sa_package_model.specs.declared.context.State.{State}
-use Rattle.sa_package_model.specs.declared.context.State.TheVariants.{Code, Work, Hint, Return, User, Look}
+use Rattle.sa_package_model.specs.declared.context.ContextState.{ContextState}
+use Rattle.sa_package_model.specs.declared.context.ContextState.TheVariants.{Code, Work, Hint, Return, User, Look}
 use Rattle.sa_package_model.specs.Context.{carried_by, section_in, before_all, at_copy, settled_to}
 use Rattle.sa_package_model.specs.Rules.{thread_alone}
 use Rattle.sa_package_model.specs.Hands.{sections_of, locks_in, locks_of, threads_in, threads_of}
 use Rattle.sa_package_model.specs.Stands.{Fits, IsSection, AreSections, StandsAt, IsState, IsContext}
 
 -- a state in no section, which carries t
-pub record IsBetween (state : State) (t : Option ThreadNo) : Type 0 where
+pub record IsBetween (state : ContextState) (t : Option ThreadNo) : Type 0 where
   pub section : section_in state ≡ None
   pub carries : carried_by state ≡ t
   pub is : IsState state
@@ -138,7 +138,7 @@ carried_at : (f : Frame) (fs : List Frame) (x : ℕ) (k : Option ℕ) → one_of
 carried_at f fs x None = omega arith
 carried_at f fs x (Some k) = omega arith
 
-pub carried_less : (state : State) (fs : List Frame) (x : ℕ) → one_of (carried_by state) x ≤ threads_in (before_all (section_in state) fs) x + one_of (thread_alone (section_in state) (carried_by state)) x
+pub carried_less : (state : ContextState) (fs : List Frame) (x : ℕ) → one_of (carried_by state) x ≤ threads_in (before_all (section_in state) fs) x + one_of (thread_alone (section_in state) (carried_by state)) x
 carried_less (Code f) fs x = carried_at f fs x (copy_at f.pc)
 carried_less (Work t) fs x = omega arith
 carried_less (Hint t) fs x = omega arith

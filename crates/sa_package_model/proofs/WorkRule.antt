@@ -24,8 +24,8 @@ use Rattle.sa_fast.specs.Work.{work_of, IsWork}
 use Rattle.sa_fast.specs.Rest.{one_if, one_of}
 use Rattle.sa_fast.proofs.WorkSteps.{without_first-step}
 use Rattle.sa_package_model.specs.declared.context.Context.{Context}
-use Rattle.sa_package_model.specs.declared.context.State.{State}
-use Rattle.sa_package_model.specs.declared.context.State.TheVariants.{Code}
+use Rattle.sa_package_model.specs.declared.context.ContextState.{ContextState}
+use Rattle.sa_package_model.specs.declared.context.ContextState.TheVariants.{Code}
 use Rattle.sa_package_model.specs.declared.package.Package.{Package}
 use Rattle.sa_package_model.specs.Context.{carried_by, section_in, is_left, has_bulk, settled_to}
 use Rattle.sa_package_model.specs.Conditions.{IsThread, CanBeDue, CanWork}
@@ -195,7 +195,7 @@ module _ (s : Setting) (e : ℕ) (u : Package) (cs : Contexts Context) (h : IsSt
       (sym op) (pushing_taken seen.proc (own_list u seen.proc) inside first work (is_locked u.shared.state.lists (own_list u seen.proc).0) refl) sound
 
   -- another state in no section, which carries the same
-  pub between-change : (state : State) → IsBetween state t → IsChange s e u u (Some c) (at_state c state)
+  pub between-change : (state : ContextState) → IsBetween state t → IsChange s e u u (Some c) (at_state c state)
   between-change state between = record {
     made = h.made;
     code = h.code;

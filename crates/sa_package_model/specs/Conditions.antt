@@ -17,8 +17,8 @@ use Rattle.sa_fast.specs.Work.{IsWork, IsUnlisted, AreApart}
 use Rattle.sa_fast.specs.Threads.{block_at}
 use Rattle.sa_fast.specs.Instruction.{CanRun, IsAt}
 use Rattle.sa_package_model.specs.declared.context.Context.{Context}
-use Rattle.sa_package_model.specs.declared.context.State.{State}
-use Rattle.sa_package_model.specs.declared.context.State.TheVariants.{Code, Work, Hint, Return, User, Look}
+use Rattle.sa_package_model.specs.declared.context.ContextState.{ContextState}
+use Rattle.sa_package_model.specs.declared.context.ContextState.TheVariants.{Code, Work, Hint, Return, User, Look}
 use Rattle.sa_package_model.specs.declared.package.Package.{Package}
 use Rattle.sa_package_model.specs.Context.{carried_by, section_in, before_all}
 use Rattle.sa_package_model.specs.Rules.{own_list}
@@ -49,7 +49,7 @@ pub record CanSettle (u : Package) (c : Context) (t : Option ThreadNo) : Type 0 
   pub works : CanWork u c t
   pub thread : IfSome t (λ n. CanRun u.def u.shared c.work n)
 
-abbrev pub CanAct : Package → Context → State → Type 0
+abbrev pub CanAct : Package → Context → ContextState → Type 0
 CanAct u c (Code f) = CanCode u f
 CanAct u c (Work t) = CanWork u c t
 CanAct u c (Hint t) = CanSettle u c t
@@ -82,7 +82,7 @@ CanBeTold u c (Preempted a) held = IfSome held (λ s. CanTakeOver u c s.ctx)
 CanBeTold u c (Unblocked a) held = IfSome held (λ s. CanTakeOver u c s.ctx)
 
 -- the context stands at an instruction of its thread, within its program
-abbrev pub CanGoAt : Package → State → Type 0
+abbrev pub CanGoAt : Package → ContextState → Type 0
 CanGoAt u (User t) = (t.0 < MAX_THREADS) × IsAt u.def (block_at u.shared.threads t.0)
 CanGoAt u _ = ⊥
 

@@ -31,8 +31,8 @@ use Rattle.sa_fast.specs.Threads.{block_at, with_block, moved_to, load_of}
 use Rattle.sa_fast.specs.Work.{Work as WorkOf, with_name, added, joined, without_first}
 use Rattle.sa_fast.specs.Instruction.{run, run_says, with_works}
 use Rattle.sa_package_model.specs.declared.context.Context.{Context}
-use Rattle.sa_package_model.specs.declared.context.State.{State}
-use Rattle.sa_package_model.specs.declared.context.State.TheVariants.{Code, User, Look}
+use Rattle.sa_package_model.specs.declared.context.ContextState.{ContextState}
+use Rattle.sa_package_model.specs.declared.context.ContextState.TheVariants.{Code, User, Look}
 use Rattle.sa_package_model.specs.declared.package.Package.{Package}
 use Rattle.sa_package_model.specs.Context.{carried_by, section_in, before_all, is_left, settled_to, has_bulk}
 
@@ -50,7 +50,7 @@ with_shared u x = record u { shared = x }
 abbrev pub with_package : Package → PackageState → Package
 with_package u s = record u { shared = record u.shared { state = s } }
 
-abbrev pub at_state : Context → State → Context
+abbrev pub at_state : Context → ContextState → Context
 at_state c state = record c { state = state }
 
 -- a thread is elsewhere, if there is one

@@ -12,8 +12,8 @@ use Rattle.sa_code.specs.Micro.{list_in}
 use Rattle.sa_copies.specs.Copies.{package_ops, copy_at}
 use Rattle.sa_fast.specs.Rest.{threads_at_rest, empty_at, ArePartsFor, AgreesAt, not_carried}
 use Rattle.sa_package_model.specs.declared.context.Context.{Context}
-use Rattle.sa_package_model.specs.declared.context.State.{State}
-use Rattle.sa_package_model.specs.declared.context.State.TheVariants.{Code, Look}
+use Rattle.sa_package_model.specs.declared.context.ContextState.{ContextState}
+use Rattle.sa_package_model.specs.declared.context.ContextState.TheVariants.{Code, Look}
 use Rattle.sa_package_model.specs.declared.package.Package.{Package}
 use Rattle.sa_package_model.specs.Laws.{IsMadeFor}
 use Rattle.sa_package_model.specs.Hands.{AreInOnePlace, sections_of, free_locks, locks_of, threads_of, name_of, carried_of}
@@ -43,7 +43,7 @@ StandsAt f (Some Free) = Unit {0}
 StandsAt f (Some Yield) = f.pushed ≡ None
 StandsAt f _ = ⊥
 
-abbrev pub IsState : State → Type 0
+abbrev pub IsState : ContextState → Type 0
 IsState (Code f) = StandsAt f (slice_get package_ops f.pc)
 IsState (Look looks) = looks ≤ MAX_PATIENCE
 IsState _ = Unit {0}

@@ -30,8 +30,8 @@ use Rattle.sa_fast.specs.declared.threads.Place.TheVariants.{Ready}
 use Rattle.sa_fast.specs.Threads.{unmade, at_start, block_at, with_block, gone_to, active_of, done_of}
 use Rattle.sa_fast.specs.Instruction.{with_thread}
 use Rattle.sa_package_model.specs.declared.context.Context.{Context}
-use Rattle.sa_package_model.specs.declared.context.State.{State}
-use Rattle.sa_package_model.specs.declared.context.State.TheVariants.{Code, Work, Hint, Return, User, Look}
+use Rattle.sa_package_model.specs.declared.context.ContextState.{ContextState}
+use Rattle.sa_package_model.specs.declared.context.ContextState.TheVariants.{Code, Work, Hint, Return, User, Look}
 use Rattle.sa_package_model.specs.declared.package.Package.{Package}
 use Rattle.sa_package_model.specs.Context.{fresh, carried_by, stands_idle, stands_between, stands_inside, before_all, has_bulk}
 use Rattle.sa_package_model.specs.Rules.{Pair, pair, with_shared, owed, settled, took_over, did, asks, coded, continued, pushing, used, looked}
@@ -94,7 +94,7 @@ abbrev pub hinted : Package → Context → Option ℕ → Stepped Package Conte
 hinted u c (Some n) = asks (pair u c) (More n)
 hinted u c None = did (pair u c) []
 
-abbrev pub stepped_at : Package → Seen → Context → State → Stepped Package Context
+abbrev pub stepped_at : Package → Seen → Context → ContextState → Stepped Package Context
 stepped_at u seen c (Code f) = coded u seen c f
 stepped_at u seen c (Work t) = worked u seen c (slice_get c.sections 0) c.work
 stepped_at u seen c (Hint t) = hinted u c (owed u seen)
@@ -111,7 +111,7 @@ abbrev pub if_bulk : Package → Seen → Context → Bool → Context
 if_bulk u seen c true = c
 if_bulk u seen c false = settled u seen c None
 
-abbrev pub resettled : Package → Seen → Context → State → Context
+abbrev pub resettled : Package → Seen → Context → ContextState → Context
 resettled u seen c (Hint t) = if_owed u seen c t (owed u seen)
 resettled u seen c Return = if_bulk u seen c (has_bulk seen)
 resettled u seen c state = c
@@ -142,7 +142,7 @@ gone_by u c n t b =
       says = says_between u.shared.state.space t program n b;
     }
 
-abbrev pub gone_at : Package → Context → ℕ → State → Gone Package Context
+abbrev pub gone_at : Package → Context → ℕ → ContextState → Gone Package Context
 gone_at u c n (User t) = gone_by u c n t (block_at u.shared.threads t.0)
 gone_at u c n _ = record { user = u; ctx = c; says = [] }
 
@@ -153,7 +153,7 @@ went u seen c n = gone_at u c n c.state
 abbrev pub stands_at : Package → ThreadNo → Block → SeatState
 stands_at u t b = Local u.shared.state.space t b.program b.pc b.regs
 
-abbrev pub local_at : Package → State → SeatState
+abbrev pub local_at : Package → ContextState → SeatState
 local_at u (User t) = stands_at u t (block_at u.shared.threads t.0)
 local_at u _ = Away
 
@@ -161,7 +161,7 @@ abbrev pub tally : Package → Tally
 tally u = record { made = u.shared.state.lists.made; done = done_of u.shared.threads; active = active_of u.shared.threads }
 
 -- the first list whose lock it has: that of the section in which it stands, else that of the first to continue
-abbrev pub own_section : Package → State → Option Frame
+abbrev pub own_section : Package → ContextState → Option Frame
 own_section u (Code f) = if is_in_section (slice_get u.shared.state.code f.pc) then Some f else None
 own_section u _ = None
 

@@ -8,7 +8,7 @@ use sa_code::Frame;
 
 /// Where a context stands, with the thread that it carries.
 #[derive(Clone, Copy, Debug, PartialEq, Eq)]
-pub enum State {
+pub enum ContextState {
     /// At a place of the package's code.
     Code(Frame),
     /// Between routines, with something left to do.
@@ -23,16 +23,16 @@ pub enum State {
     Look(u16),
 }
 
-impl State {
+impl ContextState {
     /// The thread that is carried.
     pub fn thread(self) -> Option<ThreadNo>
         ensures { result ≡ carried_by self }
     {
         match self {
-            State::Code(frame) => frame.thread,
-            State::Work(thread) | State::Hint(thread) => thread,
-            State::User(thread) => Some(thread),
-            State::Return | State::Look(_) => None,
+            ContextState::Code(frame) => frame.thread,
+            ContextState::Work(thread) | ContextState::Hint(thread) => thread,
+            ContextState::User(thread) => Some(thread),
+            ContextState::Return | ContextState::Look(_) => None,
         }
     }
 
@@ -40,28 +40,28 @@ impl State {
     pub fn is_idle(self) -> bool
         ensures { result ≡ stands_idle self }
     {
-        matches!(self, State::Look(_))
+        matches!(self, ContextState::Look(_))
     }
 
     /// Whether it is between routines, or at an instruction.
     pub fn is_between(self) -> bool
         ensures { result ≡ stands_between self }
     {
-        !matches!(self, State::Code(_) | State::Look(_))
+        !matches!(self, ContextState::Code(_) | ContextState::Look(_))
     }
 
     /// Whether it is inside the package.
     pub fn is_inside(self) -> bool
         ensures { result ≡ stands_inside self }
     {
-        !matches!(self, State::User(_) | State::Look(_))
+        !matches!(self, ContextState::User(_) | ContextState::Look(_))
     }
 }
 
 /// What an activation runs, in the package or at a thread's instruction.
 #[derive(Debug, Drop)]
 pub struct Context {
-    pub state: State,
+    pub state: ContextState,
     /// The critical sections that it has to continue.
     pub sections: Sections,
     /// The first thread of its work list, by which the list is named; `None` where the list is empty.
@@ -74,7 +74,7 @@ impl Context {
         ensures { result ≡ fresh }
     {
         Context {
-            state: State::Work(None),
+            state: ContextState::Work(None),
             sections: Sections::new(),
             work: None,
         }

@@ -7,6 +7,6 @@ pub mod laws;
 mod package;
 mod sections;
 
-pub use context::{Context, State};
+pub use context::{Context, ContextState};
 pub use package::Package;
 pub use sections::Sections;

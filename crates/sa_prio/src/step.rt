@@ -12,7 +12,7 @@ ghost use Rattle.sa_prio_model.specs.Urge.{came_out};
 use crate::threads::PrioThreads;
 use sa_abstract::Step;
 use sa_base::{Record, Seen, ThreadNo, Trace};
-use sa_package_model::State;
+use sa_package_model::ContextState;
 use sa_prio_model::PrioContext;
 
 impl PrioThreads {
@@ -105,7 +105,7 @@ impl PrioThreads {
 }
 
 // The thread on the processor of a context that stands so behind this answer: none behind a block.
-fn left_on(answer: Step, state: State) -> Option<ThreadNo>
+fn left_on(answer: Step, state: ContextState) -> Option<ThreadNo>
     ensures { result ≡ left_on answer state }
 {
     match answer {
@@ -115,11 +115,12 @@ fn left_on(answer: Step, state: State) -> Option<ThreadNo>
 }
 
 // Whether a context came to an instruction or a look from elsewhere.
-fn came_out(before: State, after: State) -> bool
+fn came_out(before: ContextState, after: ContextState) -> bool
     ensures { result ≡ came_out before after }
 {
     match (before, after) {
-        (State::User(_), State::User(_)) | (State::Look(_), State::Look(_)) => false,
+        (ContextState::User(_), ContextState::User(_))
+        | (ContextState::Look(_), ContextState::Look(_)) => false,
         _ => !after.is_inside(),
     }
 }

@@ -4,8 +4,8 @@ use Rattle.std.specs.Prelude.{if◌then◌else◌}
 use Rattle.sa_base.specs.declared.record.Record.{Record}
 use Rattle.sa_base.specs.declared.record.Record.TheVariants as records
 use Rattle.sa_package_model.specs.Context.{stands_inside}
-use Rattle.sa_package_model.specs.declared.context.State.{State}
-use Rattle.sa_package_model.specs.declared.context.State.TheVariants.{Code, Work, Hint, Return, User, Look}
+use Rattle.sa_package_model.specs.declared.context.ContextState.{ContextState}
+use Rattle.sa_package_model.specs.declared.context.ContextState.TheVariants.{Code, Work, Hint, Return, User, Look}
 use Rattle.sa_laws.specs.History.{settles, scans_after}
 use Rattle.sa_laws.specs.Readings.{Readings}
 use Rattle.sa_fits.specs.View.{looks_of}
@@ -51,14 +51,14 @@ settles-scans r last (records.Spin l) n e = refl
 settles-scans r last records.Tick n e = refl
 
 -- what came out is out
-pub came-outside : (before after : State) → came_out before after ≡ true → stands_inside after ≡ false
+pub came-outside : (before after : ContextState) → came_out before after ≡ true → stands_inside after ≡ false
 came-outside before after e = by (stands_inside after) (goes_on before after) e where
   by : (a b : Bool) → (not a && not b) ≡ true → a ≡ false
   by false b e = refl
   by true b e = absurd cc
 
 -- inside the package a context does not look
-pub inside-looks : (state : State) → stands_inside state ≡ true → looks_of state ≡ 0
+pub inside-looks : (state : ContextState) → stands_inside state ≡ true → looks_of state ≡ 0
 inside-looks (Code f) e = refl
 inside-looks (Work t) e = refl
 inside-looks (Hint t) e = refl

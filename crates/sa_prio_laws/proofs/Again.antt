@@ -23,7 +23,7 @@ use Rattle.sa_package_model.specs.Context.{carried_by, has_bulk, section_in, set
 use Rattle.sa_package_model.specs.Rules.{load, owed}
 use Rattle.sa_package_model.specs.Stands.{IsStanding}
 use Rattle.sa_package_model.specs.declared.context.Context.{Context}
-use Rattle.sa_package_model.specs.declared.context.State.{State}
+use Rattle.sa_package_model.specs.declared.context.ContextState.{ContextState}
 use Rattle.sa_laws.specs.Demand.{OwesNothing}
 use Rattle.sa_laws.specs.History.{after_event}
 use Rattle.sa_laws.specs.Life.{Life}
@@ -55,7 +55,7 @@ use Rattle.sa_prio_laws.proofs.Scenes.{IsPrioScene, outranked-same, seen-pairs}
 use Rattle.sa_prio_laws.proofs.Unbound.{IsUnbound}
 
 -- a context in this state, with nothing left to do and this mark
-abbrev pub at_rest : State → Bool → PrioContext
+abbrev pub at_rest : ContextState → Bool → PrioContext
 at_rest state urge = record { base = record { state = state; sections = []; work = None }; urge = urge }
 
 -- WHAT IS LEGAL of a step does not hang on what the context was
@@ -98,13 +98,13 @@ module _ (w : WorkloadView) (set : Setting) (r : Readings) (p : ProcNo) (n : ℕ
     by (asked.InterruptOwn q) h = (asks_too h.0, h.1)
 
 module _ (set : Setting) (e : ℕ) (v : Prio) (cs : Contexts PrioContext) (w : WorkloadView) (r : Readings) (p : ProcNo) (a : ActNo) (life : Life)
-    (old : State) (mark : Bool) (t : Option ThreadNo) (seen : Seen)
+    (old : ContextState) (mark : Bool) (t : Option ThreadNo) (seen : Seen)
     (i : IsPrioScene set e v cs w r p a life (record { base = record { state = old; sections = []; work = None }; urge = mark }) seen)
     (out : section_in old ≡ None) (no_copy : in_copy old ≡ false) (carries : carried_by old ≡ t) (yields : at_yield old ≡ false) where
   abbrev was : Context
   was = record { state = old; sections = []; work = None }
 
-  abbrev state : State
+  abbrev state : ContextState
   state = settled_to t false (is_some (owed v.base seen)) (has_bulk seen)
 
   mine : bases cs a.0 ≡ Some was

@@ -18,7 +18,7 @@ use Rattle.sa_abstract.specs.Setting.{Setting}
 use Rattle.sa_package_model.proofs.Views.{settled_between}
 use Rattle.sa_package_model.specs.Context.{carried_by, has_some, has_bulk, settled_to, stands_inside}
 use Rattle.sa_package_model.specs.Rules.{owed}
-use Rattle.sa_package_model.specs.declared.context.State.TheVariants.{Work}
+use Rattle.sa_package_model.specs.declared.context.ContextState.TheVariants.{Work}
 use Rattle.sa_laws.specs.Event.{Event}
 use Rattle.sa_laws.specs.History.{arisen, behind}
 use Rattle.sa_laws.specs.Readings.{Readings, running_of, ready_of}

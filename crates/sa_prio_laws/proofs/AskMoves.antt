@@ -20,7 +20,7 @@ use Rattle.sa_package_model.specs.Rules.{owed}
 use Rattle.sa_package_model.specs.Stands.{IsStanding}
 use Rattle.sa_package_model.specs.Step as fast
 use Rattle.sa_package_model.specs.declared.context.Context.{Context}
-use Rattle.sa_package_model.specs.declared.context.State.{State}
+use Rattle.sa_package_model.specs.declared.context.ContextState.{ContextState}
 use Rattle.sa_laws.specs.History.{is_inside, after_records, settles, stepped as ends}
 use Rattle.sa_laws.specs.Life.{Life}
 use Rattle.sa_laws.specs.Readings.{Readings}
@@ -54,7 +54,7 @@ carried-if true x y t one two = one
 carried-if false x y t one two = two
 
 module _ (set : Setting) (e : ℕ) (v : Prio) (cs : Contexts PrioContext) (w : WorkloadView) (r : Readings) (p : ProcNo) (a : ActNo) (life : Life)
-    (state : State) (seen : Seen)
+    (state : ContextState) (seen : Seen)
     (i : IsPrioScene set e v cs w r p a life (record { base = record { state = state; sections = []; work = None }; urge = false }) seen)
     (answer : Step) (x : Record) (xs : List Record) where
   abbrev c : Context

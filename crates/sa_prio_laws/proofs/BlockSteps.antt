@@ -31,7 +31,7 @@ use Rattle.sa_abstract.specs.Setting.{Setting}
 use Rattle.sa_abstract.specs.declared.answer.Step.TheVariants as asked
 use Rattle.sa_package_model.specs.Context.{carried_by, stands_inside}
 use Rattle.sa_package_model.specs.Rules.{placed_in, with_shared}
-use Rattle.sa_package_model.specs.declared.context.State.TheVariants.{Code, User}
+use Rattle.sa_package_model.specs.declared.context.ContextState.TheVariants.{Code, User}
 use Rattle.sa_package_model.specs.declared.context.Context.{Context}
 use Rattle.sa_package_model.specs.declared.package.Package.{Package}
 use Rattle.sa_laws.specs.Demand.{IsFree}

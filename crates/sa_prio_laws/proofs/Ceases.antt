@@ -15,8 +15,8 @@ use Rattle.sa_abstract.specs.Calls.{Contexts}
 use Rattle.sa_abstract.specs.Setting.{Setting}
 use Rattle.sa_package_model.specs.Context.{carried_by, fresh, stands_idle, stands_inside}
 use Rattle.sa_package_model.specs.declared.context.Context.{Context}
-use Rattle.sa_package_model.specs.declared.context.State.{State}
-use Rattle.sa_package_model.specs.declared.context.State.TheVariants.{Code, Work, Hint, Return, User, Look}
+use Rattle.sa_package_model.specs.declared.context.ContextState.{ContextState}
+use Rattle.sa_package_model.specs.declared.context.ContextState.TheVariants.{Code, Work, Hint, Return, User, Look}
 use Rattle.sa_laws.specs.Life.{Life}
 use Rattle.sa_laws.specs.Readings.{Readings, running_of, life_of, untold_of, owner_of}
 use Rattle.sa_laws.specs.Record.{after_record}
@@ -36,7 +36,7 @@ use Rattle.sa_prio_fits.specs.Fits.{prio_view, prio_fits, prio_hears}
 use Rattle.sa_prio_laws.proofs.Frames.{prio-based}
 
 -- A STOP: a context is idle where it is not in and carries no thread
-idle-is : (state : State) (urge : Bool) → (stands_idle state && not urge) ≡ (not (stands_inside state || urge) && is_none (carried_by state))
+idle-is : (state : ContextState) (urge : Bool) → (stands_idle state && not urge) ≡ (not (stands_inside state || urge) && is_none (carried_by state))
 idle-is (Code f) urge = refl
 idle-is (Work t) urge = refl
 idle-is (Hint t) urge = refl

@@ -22,8 +22,8 @@ use Rattle.sa_abstract.specs.Calls.{Contexts}
 use Rattle.sa_abstract.specs.Setting.{Setting}
 use Rattle.sa_package_model.specs.Context.{stands_inside}
 use Rattle.sa_package_model.specs.declared.context.Context.{Context}
-use Rattle.sa_package_model.specs.declared.context.State.{State}
-use Rattle.sa_package_model.specs.declared.context.State.TheVariants.{Code, Work, Hint, Return, User, Look}
+use Rattle.sa_package_model.specs.declared.context.ContextState.{ContextState}
+use Rattle.sa_package_model.specs.declared.context.ContextState.TheVariants.{Code, Work, Hint, Return, User, Look}
 use Rattle.sa_laws.specs.Life.{Life}
 use Rattle.sa_laws.specs.Locks.{is_back, back_is_due}
 use Rattle.sa_laws.specs.Readings.{Readings, Listed, ready_of}
@@ -61,7 +61,7 @@ keeps-with w r p life x keeps back = record {
   second false c e = absurd cc
 
 -- out of the code a context comes to an instruction or a look
-pub from-code : (f : Frame) (state : State) → stands_inside state ≡ false → true ≡ came_out (Code f) state
+pub from-code : (f : Frame) (state : ContextState) → stands_inside state ≡ false → true ≡ came_out (Code f) state
 from-code f (User t) out = refl
 from-code f (Look looks) out = refl
 from-code f (Code g) out = absurd cc

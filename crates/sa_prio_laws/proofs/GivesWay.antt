@@ -14,7 +14,7 @@ use Rattle.sa_abstract.specs.Keeps.{IsOwn}
 use Rattle.sa_abstract.specs.Setting.{Setting}
 use Rattle.sa_package_model.proofs.BeginRule.{later}
 use Rattle.sa_package_model.specs.declared.context.Context.{Context}
-use Rattle.sa_package_model.specs.declared.context.State.TheVariants.{User, Work}
+use Rattle.sa_package_model.specs.declared.context.ContextState.TheVariants.{User, Work}
 use Rattle.sa_package_model.specs.declared.package.Package.{Package}
 use Rattle.sa_laws.specs.Life.{Life}
 use Rattle.sa_laws.specs.Readings.{Readings, ready_of}

@@ -15,7 +15,7 @@ use Rattle.sa_abstract.specs.declared.answer.Step.TheVariants as asked
 use Rattle.sa_package_model.specs.Context.{has_bulk, settled_to, stands_inside}
 use Rattle.sa_package_model.specs.Rules.{pair, owed, asks}
 use Rattle.sa_package_model.specs.declared.context.Context.{Context}
-use Rattle.sa_package_model.specs.declared.context.State.TheVariants.{Hint, Return}
+use Rattle.sa_package_model.specs.declared.context.ContextState.TheVariants.{Hint, Return}
 use Rattle.sa_laws.specs.Life.{Life}
 use Rattle.sa_laws.specs.Readings.{Readings, demand_of, taken_of}
 use Rattle.sa_laws.specs.Turns.{is_of_locks}

@@ -14,8 +14,8 @@ use Rattle.sa_package_model.proofs.Views.{settled_between}
 use Rattle.sa_package_model.specs.Context.{carried_by, has_bulk, settled_to, stands_inside}
 use Rattle.sa_package_model.specs.Rules.{owed}
 use Rattle.sa_package_model.specs.declared.context.Context.{Context}
-use Rattle.sa_package_model.specs.declared.context.State.{State}
-use Rattle.sa_package_model.specs.declared.context.State.TheVariants as states
+use Rattle.sa_package_model.specs.declared.context.ContextState.{ContextState}
+use Rattle.sa_package_model.specs.declared.context.ContextState.TheVariants as states
 use Rattle.sa_laws.specs.Life.{Life}
 use Rattle.sa_laws.specs.Readings.{Readings, HasNothing, life_if}
 use Rattle.sa_laws.specs.Record.{after_record}
@@ -47,7 +47,7 @@ use Rattle.sa_prio_laws.proofs.Frames.{base-is}
 use Rattle.sa_prio_laws.proofs.Rules.{IsRuled}
 use Rattle.sa_prio_laws.proofs.Scenes.{IsPrioScene, outranked-same, seen-pair, seen-lowest}
 
-pub out-copy : (state : State) → is_out state ≡ true → in_copy state ≡ false
+pub out-copy : (state : ContextState) → is_out state ≡ true → in_copy state ≡ false
 out-copy (states.User t) e = refl
 out-copy (states.Look looks) e = refl
 out-copy (states.Code f) e = absurd cc
@@ -55,7 +55,7 @@ out-copy (states.Work t) e = absurd cc
 out-copy (states.Hint t) e = absurd cc
 out-copy states.Return e = absurd cc
 
-pub out-yield : (state : State) → is_out state ≡ true → at_yield state ≡ false
+pub out-yield : (state : ContextState) → is_out state ≡ true → at_yield state ≡ false
 out-yield (states.User t) e = refl
 out-yield (states.Look looks) e = refl
 out-yield (states.Code f) e = absurd cc
@@ -64,7 +64,7 @@ out-yield (states.Hint t) e = absurd cc
 out-yield states.Return e = absurd cc
 
 module _ (set : Setting) (e : ℕ) (v : Prio) (cs : Contexts PrioContext) (w : WorkloadView) (r : Readings) (p : ProcNo) (a : ActNo) (life : Life)
-    (state : State) (out : is_out state ≡ true) (seen : Seen)
+    (state : ContextState) (out : is_out state ≡ true) (seen : Seen)
     (i : IsPrioScene set e v cs w r p a life (record { base = record { state = state; sections = []; work = None }; urge = true }) seen) where
   abbrev c : Context
   c = record { state = state; sections = []; work = None }

@@ -28,8 +28,8 @@ use Rattle.sa_abstract.specs.declared.answer.Step.TheVariants.{Did}
 use Rattle.sa_package_model.specs.Rules.{with_shared}
 use Rattle.sa_package_model.specs.Step.{gone_by, gone_at, local_at, spot_of, block_after}
 use Rattle.sa_package_model.specs.declared.context.Context.{Context}
-use Rattle.sa_package_model.specs.declared.context.State.{State}
-use Rattle.sa_package_model.specs.declared.context.State.TheVariants.{Code, Work, Hint, Return, User, Look}
+use Rattle.sa_package_model.specs.declared.context.ContextState.{ContextState}
+use Rattle.sa_package_model.specs.declared.context.ContextState.TheVariants.{Code, Work, Hint, Return, User, Look}
 use Rattle.sa_package_model.specs.declared.package.Package.{Package}
 use Rattle.sa_laws.specs.History.{after_event}
 use Rattle.sa_laws.specs.Life.{Life}
@@ -203,7 +203,7 @@ pub prio-goes : (w : WorkloadView) (s : Setting) (e : ℕ) (r : Readings) (v : P
     → AreLegalIns prio_threads w seen.event p r (prio_calls.went v seen c n).says
     (λ last. prio_fits w s last (prio_calls.went v seen c n).user (put cs a.0 (Some (prio_calls.went v seen c n).ctx)))
 prio-goes w s e r v cs p a life c seen n acting sees low some later within local = by c.urge c.base.state c.base.sections c.base.work acting local where
-  by : (urge : Bool) (state : State) (fs : List Frame) (wk : Option ThreadNo)
+  by : (urge : Bool) (state : ContextState) (fs : List Frame) (wk : Option ThreadNo)
       → IsActing prio_calls prio_stands prio_fits w s e r v cs p a life (record { base = record { state = state; sections = fs; work = wk }; urge = urge })
       → GoesOn s n (if urge then Away else local_at v.base state)
       → AreLegalIns prio_threads w seen.event p r (gone_at v.base (record { state = state; sections = fs; work = wk }) n state).says

@@ -15,7 +15,7 @@ use Rattle.sa_abstract.specs.Setting.{Setting}
 use Rattle.sa_abstract.specs.declared.answer.Step.TheVariants as asked
 use Rattle.sa_package_model.specs.Rules.{is_idle, own_list}
 use Rattle.sa_package_model.specs.declared.context.Context.{Context}
-use Rattle.sa_package_model.specs.declared.context.State.TheVariants.{Look}
+use Rattle.sa_package_model.specs.declared.context.ContextState.TheVariants.{Look}
 use Rattle.sa_laws.specs.Life.{Life}
 use Rattle.sa_laws.specs.Readings.{Readings, HasNothing, demand_of, has_ready, ready_of, carried_by as runs_by}
 use Rattle.sa_user_laws.specs.Scene.{begun_at}

@@ -25,7 +25,7 @@ use Rattle.sa_package_model.proofs.Holding.{own_inside, rest_once}
 use Rattle.sa_package_model.proofs.Parts.{count_chosen}
 use Rattle.sa_package_model.proofs.Views.{section_locks}
 use Rattle.sa_package_model.specs.declared.context.Context.{Context}
-use Rattle.sa_package_model.specs.declared.context.State.TheVariants.{Code}
+use Rattle.sa_package_model.specs.declared.context.ContextState.TheVariants.{Code}
 use Rattle.sa_laws.specs.Life.{Life}
 use Rattle.sa_laws.specs.Readings.{Readings, ready_of}
 use Rattle.sa_user_laws.specs.Scene.{begun_at}

@@ -13,8 +13,8 @@ use Rattle.sa_abstract.specs.Setting.{Setting}
 use Rattle.sa_package_model.specs.Context.{carried_by, has_bulk, section_in, settled_to, stands_inside}
 use Rattle.sa_package_model.specs.Rules.{owed}
 use Rattle.sa_package_model.specs.Step.{if_bulk, if_owed}
-use Rattle.sa_package_model.specs.declared.context.State.{State}
-use Rattle.sa_package_model.specs.declared.context.State.TheVariants.{Hint, Return}
+use Rattle.sa_package_model.specs.declared.context.ContextState.{ContextState}
+use Rattle.sa_package_model.specs.declared.context.ContextState.TheVariants.{Hint, Return}
 use Rattle.sa_laws.specs.Life.{Life}
 use Rattle.sa_laws.specs.Readings.{Readings}
 use Rattle.sa_user_laws.specs.Steps.{IsLegalStep}
@@ -41,26 +41,26 @@ and_true true = refl
 and_true false = refl
 
 -- what is not inside the package is out
-out_of : (state : State) (b : Bool) → stands_inside state ≡ b → b ≡ false → is_out state ≡ true
+out_of : (state : ContextState) (b : Bool) → stands_inside state ≡ b → b ≡ false → is_out state ≡ true
 out_of state b is none = ap not (is ∙ none)
 
 module _ (set : Setting) (e : ℕ) (v : Prio) (w : WorkloadView) (r : Readings) (p : ProcNo) (a : ActNo) (life : Life) (seen : Seen) where
   -- the context as it settles with this thread
-  abbrev pub settles_to : Option ThreadNo → State
+  abbrev pub settles_to : Option ThreadNo → ContextState
   settles_to t = settled_to t false (is_some (owed v.base seen)) (has_bulk seen)
 
   -- FastThreads' step of a context in this state, without the mark, is legal
-  abbrev pub GoesLegally : State → Type 0
+  abbrev pub GoesLegally : ContextState → Type 0
   GoesLegally state =
       (cs : Contexts PrioContext) → IsPrioScene set e v cs w r p a life (at_rest state false) seen
       → (stands_inside state ≡ false → IsUnbound w r life)
       → IsLegalStep prio_calls prio_threads prio_fits w set r p seen.event a cs (goes v seen (record { state = state; sections = []; work = None }))
 
-  module _ (cs : Contexts PrioContext) (old : State) (mark : Bool) (t : Option ThreadNo)
+  module _ (cs : Contexts PrioContext) (old : ContextState) (mark : Bool) (t : Option ThreadNo)
       (i : IsPrioScene set e v cs w r p a life (record { base = record { state = old; sections = []; work = None }; urge = mark }) seen)
       (out : section_in old ≡ None) (no_copy : in_copy old ≡ false) (carries : carried_by old ≡ t) (yields : at_yield old ≡ false) (looks : looks_of old ≡ 0)
       (legal : GoesLegally (settled_to t false (is_some (owed v.base seen)) (has_bulk seen))) where
-    abbrev state : State
+    abbrev state : ContextState
     state = settled_to t false (is_some (owed v.base seen)) (has_bulk seen)
 
     -- without the mark it goes on
@@ -100,7 +100,7 @@ module _ (set : Setting) (e : ℕ) (v : Prio) (w : WorkloadView) (r : Readings) 
       IsLegalStep prio_calls prio_threads prio_fits w set r p seen.event a cs (served v seen (marked v seen (came_out (Hint t) d.state) d)))
       (sym none)
       (came (settled_to t false (is_some (owed v.base seen)) (has_bulk seen)) (settles-legal cs (Hint t) false t i refl refl refl refl refl legal)) where
-        came : (s : State)
+        came : (s : ContextState)
             → IsLegalStep prio_calls prio_threads prio_fits w set r p seen.event a cs
             (served v seen (marked v seen (is_out s) (record { state = s; sections = []; work = None })))
             → IsLegalStep prio_calls prio_threads prio_fits w set r p seen.event a cs
@@ -122,7 +122,7 @@ module _ (set : Setting) (e : ℕ) (v : Prio) (w : WorkloadView) (r : Readings) 
       IsLegalStep prio_calls prio_threads prio_fits w set r p seen.event a cs (served v seen (marked v seen (came_out Return d.state) d)))
       (sym few)
       (came (settled_to None false (is_some (owed v.base seen)) (has_bulk seen)) (settles-legal cs Return false None i refl refl refl refl refl legal)) where
-        came : (s : State)
+        came : (s : ContextState)
             → IsLegalStep prio_calls prio_threads prio_fits w set r p seen.event a cs
             (served v seen (marked v seen (is_out s) (record { state = s; sections = []; work = None })))
             → IsLegalStep prio_calls prio_threads prio_fits w set r p seen.event a cs
@@ -134,7 +134,7 @@ module _ (set : Setting) (e : ℕ) (v : Prio) (w : WorkloadView) (r : Readings) 
             (and_true (is_out s)) h
 
   -- A CONTEXT WITH THE MARK serves a pair, or goes on where none is there any more
-  pub urge-legal : (cs : Contexts PrioContext) (old : State) → is_out old ≡ true → looks_of old ≡ 0
+  pub urge-legal : (cs : Contexts PrioContext) (old : ContextState) → is_out old ≡ true → looks_of old ≡ 0
       → IsPrioScene set e v cs w r p a life (record { base = record { state = old; sections = []; work = None }; urge = true }) seen
       → GoesLegally (settled_to (carried_by old) false (is_some (owed v.base seen)) (has_bulk seen))
       → IsLegalStep prio_calls prio_threads prio_fits w set r p seen.event a cs

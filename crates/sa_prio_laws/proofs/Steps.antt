@@ -12,8 +12,8 @@ use Rattle.sa_abstract.specs.Setting.{Setting}
 use Rattle.sa_package_model.specs.Context.{has_bulk, settled_to, stands_inside}
 use Rattle.sa_package_model.specs.Rules.{owed}
 use Rattle.sa_package_model.specs.Step as fast
-use Rattle.sa_package_model.specs.declared.context.State.{State}
-use Rattle.sa_package_model.specs.declared.context.State.TheVariants.{Code, Work, Hint, Return, User, Look}
+use Rattle.sa_package_model.specs.declared.context.ContextState.{ContextState}
+use Rattle.sa_package_model.specs.declared.context.ContextState.TheVariants.{Code, Work, Hint, Return, User, Look}
 use Rattle.sa_laws.specs.Life.{Life}
 use Rattle.sa_laws.specs.Readings.{Readings, line_of}
 use Rattle.sa_user_laws.specs.Moments.{Sees}
@@ -83,7 +83,7 @@ module _ (set : Setting) (e : ℕ) (v : Prio) (w : WorkloadView) (r : Readings) 
         (subst (IsLegalStep prio_calls prio_threads prio_fits w set r p seen.event a cs)
         (sym (ap (going v seen Return) (give-is v.base seen bulk))) (give-legal set e v cs w r p a life seen i bulk))
 
-    calm-case : (state : State) (fs : List Frame) (wk : Option ThreadNo)
+    calm-case : (state : ContextState) (fs : List Frame) (wk : Option ThreadNo)
         → IsPrioScene set e v cs w r p a life (record { base = record { state = state; sections = fs; work = wk }; urge = false }) seen
         → (stands_inside state ≡ false → life.inside ≡ false) → Legal cs (record { base = record { state = state; sections = fs; work = wk }; urge = false })
     calm-case (Code f) fs wk i out = code-legal set e v cs w r p a life seen f fs wk i (code-faults set e v cs w r p a life seen f fs wk i)
@@ -103,7 +103,7 @@ module _ (set : Setting) (e : ℕ) (v : Prio) (w : WorkloadView) (r : Readings) 
     calm-case (Look looks) [] (Some n) i out = absurd (let left = i.own.left in cc)
 
     -- WITH THE MARK it is out, with nothing left to do
-    marked-case : (state : State) (fs : List Frame) (wk : Option ThreadNo) → is_out state ≡ true
+    marked-case : (state : ContextState) (fs : List Frame) (wk : Option ThreadNo) → is_out state ≡ true
         → IsPrioScene set e v cs w r p a life (record { base = record { state = state; sections = fs; work = wk }; urge = true }) seen
         → Legal cs (record { base = record { state = state; sections = fs; work = wk }; urge = true })
     marked-case (Code f) fs wk out i = absurd cc
@@ -117,7 +117,7 @@ module _ (set : Setting) (e : ℕ) (v : Prio) (w : WorkloadView) (r : Readings) 
     marked-case (Look looks) (f ∷ fs) wk out i = absurd (let left = i.own.left in cc)
     marked-case (Look looks) [] (Some n) out i = absurd (let left = i.own.left in cc)
 
-    pub step-legal : (urge : Bool) (state : State) (fs : List Frame) (wk : Option ThreadNo)
+    pub step-legal : (urge : Bool) (state : ContextState) (fs : List Frame) (wk : Option ThreadNo)
         → IsPrioScene set e v cs w r p a life (record { base = record { state = state; sections = fs; work = wk }; urge = urge }) seen
         → (urge ≡ false → stands_inside state ≡ false → life.inside ≡ false)
         → Legal cs (record { base = record { state = state; sections = fs; work = wk }; urge = urge })

@@ -19,7 +19,7 @@ use Rattle.sa_abstract.specs.Setting.{Setting}
 use Rattle.sa_package_model.specs.Context.{carried_by}
 use Rattle.sa_package_model.specs.Rules.{took_over}
 use Rattle.sa_package_model.specs.declared.context.Context.{Context}
-use Rattle.sa_package_model.specs.declared.context.State.TheVariants.{Work}
+use Rattle.sa_package_model.specs.declared.context.ContextState.TheVariants.{Work}
 use Rattle.sa_laws.specs.Life.{Life}
 use Rattle.sa_laws.specs.Readings.{Readings, running_of, life_of, untold_of, ready_of}
 use Rattle.sa_laws.specs.Record.{after_record}

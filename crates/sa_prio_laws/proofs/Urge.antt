@@ -13,8 +13,8 @@ use Rattle.sa_abstract.specs.Calls.{Contexts}
 use Rattle.sa_abstract.specs.Setting.{Setting}
 use Rattle.sa_package_model.specs.Context.{carried_by}
 use Rattle.sa_package_model.specs.Rules.{settled}
-use Rattle.sa_package_model.specs.declared.context.State.{State}
-use Rattle.sa_package_model.specs.declared.context.State.TheVariants.{Code, Work, Hint, Return, User, Look}
+use Rattle.sa_package_model.specs.declared.context.ContextState.{ContextState}
+use Rattle.sa_package_model.specs.declared.context.ContextState.TheVariants.{Code, Work, Hint, Return, User, Look}
 use Rattle.sa_laws.specs.Life.{Life}
 use Rattle.sa_laws.specs.Readings.{Readings}
 use Rattle.sa_user_laws.specs.Steps.{IsLegalStep}
@@ -44,7 +44,7 @@ nobody-outranked v seen q none =
 
 module _ (set : Setting) (e : ℕ) (v : Prio) (cs : Contexts PrioContext) (w : WorkloadView) (r : Readings) (p : ProcNo) (a : ActNo) (life : Life)
     (seen : Seen) where
-  pub urged-legal : (state : State) → is_out state ≡ true
+  pub urged-legal : (state : ContextState) → is_out state ≡ true
       → IsPrioScene set e v cs w r p a life (record { base = record { state = state; sections = []; work = None }; urge = true }) seen
       → (outranked v seen seen.proc ≡ None → lowest v seen ≡ None
       → IsLegalStep prio_calls prio_threads prio_fits w set r p seen.event a cs
@@ -56,7 +56,7 @@ module _ (set : Setting) (e : ℕ) (v : Prio) (cs : Contexts PrioContext) (w : W
         ap (λ (z : ProcNo). on_at v z.0) i.sees.proc
         ∙ i.kept p a (record { base = record { state = state; sections = []; work = None }; urge = true }) i.on.runs i.on.mine
 
-    way : (x : State) → is_out x ≡ true
+    way : (x : ContextState) → is_out x ≡ true
         → IsPrioScene set e v cs w r p a life (record { base = record { state = x; sections = []; work = None }; urge = true }) seen
         → on_at v seen.proc.0 ≡ carried_by x → (rank : ℕ) → outranked v seen seen.proc ≡ Some rank → (other : Option Outranked)
         → IsLegalStep prio_calls prio_threads prio_fits w set r p seen.event a cs

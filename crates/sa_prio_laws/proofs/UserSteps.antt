@@ -19,7 +19,7 @@ use Rattle.sa_package_model.proofs.Views.{settled_between}
 use Rattle.sa_package_model.specs.Context.{settled_to, has_bulk, stands_inside}
 use Rattle.sa_package_model.specs.Rules.{pair, did, owed, used_by, with_shared}
 use Rattle.sa_package_model.specs.declared.context.Context.{Context}
-use Rattle.sa_package_model.specs.declared.context.State.TheVariants.{User}
+use Rattle.sa_package_model.specs.declared.context.ContextState.TheVariants.{User}
 use Rattle.sa_package_model.specs.declared.package.Package.{Package}
 use Rattle.sa_laws.specs.History.{after_records, goes_on as stays_on}
 use Rattle.sa_laws.specs.Life.{Life}

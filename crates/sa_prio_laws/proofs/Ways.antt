@@ -22,7 +22,7 @@ use Rattle.sa_package_model.proofs.WorkRule.{between_due}
 use Rattle.sa_package_model.specs.Rules.{put_last, due_last}
 use Rattle.sa_package_model.specs.Stands.{IsStanding}
 use Rattle.sa_package_model.specs.declared.context.Context.{Context}
-use Rattle.sa_package_model.specs.declared.context.State.TheVariants.{User, Work}
+use Rattle.sa_package_model.specs.declared.context.ContextState.TheVariants.{User, Work}
 use Rattle.sa_package_model.specs.declared.package.Package.{Package}
 use Rattle.sa_laws.specs.Life.{Life}
 use Rattle.sa_laws.specs.Readings.{Readings, running_of, life_of}

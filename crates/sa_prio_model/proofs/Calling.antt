@@ -17,8 +17,8 @@ use Rattle.sa_lemmas.proofs.FunctionUpdates.{put-self}
 use Rattle.sa_lists.specs.declared.ranks.Ranks.TheVariants.{Many}
 use Rattle.std.specs.Prelude.{slice_index_or}
 use Rattle.sa_package_model.specs.declared.context.Context.{Context}
-use Rattle.sa_package_model.specs.declared.context.State.{State}
-use Rattle.sa_package_model.specs.declared.context.State.TheVariants.{Code, Work, Hint, Return, User, Look}
+use Rattle.sa_package_model.specs.declared.context.ContextState.{ContextState}
+use Rattle.sa_package_model.specs.declared.context.ContextState.TheVariants.{Code, Work, Hint, Return, User, Look}
 use Rattle.sa_package_model.specs.Conditions.{IsThread}
 use Rattle.sa_package_model.specs.Context.{fresh, carried_by, section_in, stands_inside, stands_between}
 use Rattle.sa_package_model.specs.Rules.{settled}
@@ -64,7 +64,7 @@ pub well-unmarked : (c : Context) → IsMarkedWell (unmarked c)
 well-unmarked c = λ e. absurd cc
 
 -- a context that is out, or between routines, is in no section
-pub out-no-section : (state : State) → is_out state ≡ true → section_in state ≡ None
+pub out-no-section : (state : ContextState) → is_out state ≡ true → section_in state ≡ None
 out-no-section (Code f) e = absurd cc
 out-no-section (Work t) e = absurd cc
 out-no-section (Hint t) e = absurd cc
@@ -72,7 +72,7 @@ out-no-section Return e = absurd cc
 out-no-section (User t) e = refl
 out-no-section (Look looks) e = refl
 
-between-no-section : (state : State) → stands_between state ≡ true → section_in state ≡ None
+between-no-section : (state : ContextState) → stands_between state ≡ true → section_in state ≡ None
 between-no-section (Code f) e = absurd cc
 between-no-section (Work t) e = refl
 between-no-section (Hint t) e = refl
@@ -164,7 +164,7 @@ module _ (s : Setting) (e : ℕ) (v : Prio) (cs : Contexts PrioContext) (h : IsP
         answered_by seen c.urge (stands_between c.base.state) (λ mark. out-no-section c.base.state (h.marks a c is mark)) (between-no-section c.base.state)
 
     -- WHERE IT STANDS
-    away_or : (state : State) → (is_away (fast.local_at v.base state) ≡ (stands_inside state || is_none (carried_by state))) → (urge : Bool)
+    away_or : (state : ContextState) → (is_away (fast.local_at v.base state) ≡ (stands_inside state || is_none (carried_by state))) → (urge : Bool)
         → is_away (if urge then Away else fast.local_at v.base state) ≡ ((stands_inside state || urge) || is_none (carried_by state))
     away_or state is true = tests (stands_inside state) (is_none (carried_by state)) where
       tests : (inside none : Bool) → true ≡ ((inside || true) || none)

@@ -16,8 +16,8 @@ use Rattle.sa_abstract.specs.Keeps.{IsSeen, IsOwn, IsStepped}
 use Rattle.sa_lemmas.specs.Function.{put}
 use Rattle.sa_lemmas.proofs.FunctionUpdates.{put-same, put-put, put-self}
 use Rattle.sa_package_model.specs.declared.context.Context.{Context}
-use Rattle.sa_package_model.specs.declared.context.State.{State}
-use Rattle.sa_package_model.specs.declared.context.State.TheVariants.{Code, Work, Hint, Return, User, Look}
+use Rattle.sa_package_model.specs.declared.context.ContextState.{ContextState}
+use Rattle.sa_package_model.specs.declared.context.ContextState.TheVariants.{Code, Work, Hint, Return, User, Look}
 use Rattle.sa_package_model.specs.Conditions.{IsThread}
 use Rattle.sa_package_model.specs.Context.{carried_by, section_in, has_bulk}
 use Rattle.sa_package_model.specs.Rules.{owed, settled}
@@ -38,14 +38,14 @@ use Rattle.sa_prio_model.proofs.Way.{way_stands, settled_stands}
 use Rattle.sa_prio_model.proofs.Calling.{well-marked, well-unmarked, out-no-section}
 
 -- where a context came out, it is out
-came_is_out : (before after : State) → came_out before after ≡ true → is_out after ≡ true
+came_is_out : (before after : ContextState) → came_out before after ≡ true → is_out after ≡ true
 came_is_out before after e = first (is_out after) (not (goes_on before after)) e where
   first : (a b : Bool) → (a && b) ≡ true → a ≡ true
   first true b h = refl
   first false b h = absurd cc
 
 -- what is on the processor behind a step is a thread of the space
-left_is_thread : (answer : Step) (state : State) → IsThread (carried_by state) → IsThread (left_on answer state)
+left_is_thread : (answer : Step) (state : ContextState) → IsThread (carried_by state) → IsThread (left_on answer state)
 left_is_thread Did state thread = thread
 left_is_thread (Block length page) state thread = tt
 left_is_thread (More n) state thread = thread
@@ -150,7 +150,7 @@ module _ (s : Setting) (e : ℕ) (v : Prio) (cs : Contexts PrioContext) (h : IsP
     bulk_stands is true = stands
     bulk_stands is false = subst (λ o. Still (settled v.base seen c o)) (ap carried_by is) (settled_again (ap section_in is))
 
-    again_stands : (state : State) → c.state ≡ state → Still (fast.resettled v.base seen c state)
+    again_stands : (state : ContextState) → c.state ≡ state → Still (fast.resettled v.base seen c state)
     again_stands (Code f) is = stands
     again_stands (Work t) is = stands
     again_stands (Hint t) is = owed_stands t is (owed v.base seen)

@@ -14,7 +14,7 @@ use Rattle.sa_abstract.specs.Setting.{Setting}
 use Rattle.sa_abstract.specs.Calls.{Calls, Stepped, Gone}
 use Rattle.sa_lists.specs.declared.ranks.Ranks.TheVariants.{Many}
 use Rattle.sa_package_model.specs.declared.context.Context.{Context}
-use Rattle.sa_package_model.specs.declared.context.State.{State}
+use Rattle.sa_package_model.specs.declared.context.ContextState.{ContextState}
 use Rattle.sa_package_model.specs.declared.package.Package.{Package}
 use Rattle.sa_package_model.specs.Context.{fresh, carried_by, stands_idle, stands_between, stands_inside}
 use Rattle.sa_package_model.specs.Rules.{settled, put_last}
@@ -46,11 +46,11 @@ answered v seen c = (v, if c.urge || stands_between c.base.state then settles v 
 
 -- A STEP of FastThreads. The thread that the context carries behind it is the one on the processor, but for one that
 -- blocks; and the context has come to an instruction or a look, or has not
-abbrev pub left_on : Step → State → Option ThreadNo
+abbrev pub left_on : Step → ContextState → Option ThreadNo
 left_on (Block length page) state = None
 left_on answer state = carried_by state
 
-abbrev pub going : Prio → Seen → State → Stepped Package Context → Stepped Prio PrioContext
+abbrev pub going : Prio → Seen → ContextState → Stepped Package Context → Stepped Prio PrioContext
 going v seen before r =
     let w = with_on (with_base v r.user) seen.proc (left_on r.answer r.ctx.state) in
     record { user = w; ctx = marked w seen (came_out before r.ctx.state) r.ctx; says = r.says; answer = r.answer }

@@ -2,8 +2,8 @@
 use Rattle.std.specs.Prelude.{Bool, true, false, not, ◌&&◌}
 use Rattle.sa_base.specs.declared.context.Seen.{Seen}
 use Rattle.sa_package_model.specs.declared.context.Context.{Context}
-use Rattle.sa_package_model.specs.declared.context.State.{State}
-use Rattle.sa_package_model.specs.declared.context.State.TheVariants.{User, Look}
+use Rattle.sa_package_model.specs.declared.context.ContextState.{ContextState}
+use Rattle.sa_package_model.specs.declared.context.ContextState.TheVariants.{User, Look}
 use Rattle.sa_package_model.specs.Context.{carried_by, stands_inside}
 use Rattle.sa_package_model.specs.Rules.{settled}
 use Rattle.sa_prio_model.specs.declared.context.PrioContext.{PrioContext}
@@ -17,7 +17,7 @@ abbrev pub marked : Prio → Seen → Bool → Context → PrioContext
 marked v seen came c = record { base = c; urge = came && has_pair v seen }
 
 -- at an instruction of its thread, or looking for one
-abbrev pub is_out : State → Bool
+abbrev pub is_out : ContextState → Bool
 is_out state = not (stands_inside state)
 
 -- settling is FastThreads'
@@ -26,10 +26,10 @@ settles v seen c = let d = settled v.base seen c (carried_by c.state) in marked 
 
 -- a context came to an instruction or a look from elsewhere: neither from its instruction to the next one, nor from a look
 -- to a further one
-abbrev pub goes_on : State → State → Bool
+abbrev pub goes_on : ContextState → ContextState → Bool
 goes_on (User t) (User n) = true
 goes_on (Look m) (Look n) = true
 goes_on before after = false
 
-abbrev pub came_out : State → State → Bool
+abbrev pub came_out : ContextState → ContextState → Bool
 came_out before after = is_out after && not (goes_on before after)

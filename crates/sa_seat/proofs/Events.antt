@@ -14,7 +14,7 @@ use Rattle.sa_assign.specs.AssignView.{AssignView}
 use Rattle.sa_assign.specs.Reaim.{line_at}
 use Rattle.sa_kernel_model.specs.declared.entry.Entry.{Entry}
 use Rattle.sa_kernel_model.specs.declared.entry.Entry.TheVariants.{Interrupt, Block as BlockEntry, Complete, More as MoreEntry, Idle as IdleEntry, GiveBack as GiveBackEntry, InterruptOwn as InterruptOwnEntry}
-use Rattle.sa_kernel_model.specs.State.{State, owner_of}
+use Rattle.sa_kernel_model.specs.State.{KernelState, owner_of}
 use Rattle.sa_kernel_model.specs.Entries.{fetched}
 use Rattle.sa_kernel_model.specs.Fits.{upcalls}
 use Rattle.sa_core_model.specs.Machine.{Machine, scene_of, user_of, context_on, seen_on, without_context, called_by, begun, begun_by, answered, stopped_in, stepped, stepped_by, gone_by}
@@ -67,7 +67,7 @@ module _ {U C : Type 0} (f : Calls U C) where
 
   says-told_one : (p : ProcNo) (s : SpaceNo) (note : Note) (notes : List Note) (m : Machine U C) → Says m (told_one f p s note notes m)
   says-told_one p s note notes m =
-      let k : State C = record m.kernel { telling = notes } in
+      let k : KernelState C = record m.kernel { telling = notes } in
       let here : Machine U C = record m { kernel = fetched note k } in
       says-again m here (told_one f p s note notes m)
       record { event = refl; tells = tells-same m.event (scene_of m) (scene_of here) refl (ap (λ (a : AssignView). a.lines) (same-fetched note k)) }
@@ -194,7 +194,7 @@ module _ {U C : Type 0} (f : Calls U C) where
       let goes = says-gone_in p (suc n) o first in
       let at : all.event ≡ e = event-more n went ∙ ap (λ (i : ℕ). i + n) goes.event ∙ omega arith in
       let same : (q k : ℕ) → line_at went.kernel.assign.lines q ≡ Some k → line_at first.kernel.assign.lines q ≡ Some k =
-      λ q k is. ap (λ (l : State C). line_at l.assign.lines q) (sym (lines-gone_in p (suc n) o first)) ∙ is in
+      λ q k is. ap (λ (l : KernelState C). line_at l.assign.lines q) (sym (lines-gone_in p (suc n) o first)) ∙ is in
       let end = says-sliced p all in
       let one : Tells e (scene_of m) (scene_of first) = tells-same e (scene_of m) (scene_of first) refl refl in
       let two : Tells e (scene_of m) (scene_of went) = tells-again e (scene_of m) (scene_of first) (scene_of went) one (tells-any first.event e first went same goes.tells) in

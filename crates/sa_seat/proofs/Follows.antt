@@ -4,7 +4,7 @@ use Rattle.std.proofs.lemmas.Bool.{cases_eq}
 use Rattle.std.proofs.lemmas.List.{get_or-set_same, get_or-set_other, length-set}
 use Rattle.std.proofs.lemmas.List.Elements.{Contains-push_cases}
 use Rattle.sa_assign.specs.Reaim.{proc_no, line_at}
-use Rattle.sa_kernel_model.specs.State.{State, line_of}
+use Rattle.sa_kernel_model.specs.State.{KernelState, line_of}
 use Rattle.sa_lines.specs.declared.view.Lane.{Lane}
 use Rattle.sa_lines.specs.Words.{lane_at}
 use Rattle.sa_lines.specs.Steps.{raised, lowered}
@@ -40,7 +40,7 @@ set-follows (Some e) lane = record {
   raised = λ k has. elim (Contains-push_cases lane.raised e k has) [ inl was ↦ inl was | inr is ↦ inr (ap Some is) ];
 }
 
-module _ {C : Type 0} (k : State C) where
+module _ {C : Type 0} (k : KernelState C) where
   -- the lines of so many processors were followed
   pub record Following (i : ℕ) (old new : KeeperSeen) (before lines : List (Option ℕ)) : Type 0 where
     pub table_is : new.table ≡ old.table

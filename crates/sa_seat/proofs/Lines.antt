@@ -24,7 +24,7 @@ use Rattle.sa_devices.specs.declared.kind.IoKind.{IoKind}
 use Rattle.sa_devices.specs.declared.kind.IoKind.TheVariants.{Plain, Page, Upcall}
 use Rattle.sa_kernel_model.specs.declared.entry.Entry.{Entry}
 use Rattle.sa_kernel_model.specs.declared.entry.Entry.TheVariants.{Interrupt, Block as BlockEntry, Complete, More as MoreEntry, Idle as IdleEntry, GiveBack as GiveBackEntry, InterruptOwn as InterruptOwnEntry}
-use Rattle.sa_kernel_model.specs.State.{State, Scene, owner_of, aim_of, life_of, can_upcall, is_fetching, untold_of}
+use Rattle.sa_kernel_model.specs.State.{KernelState, Scene, owner_of, aim_of, life_of, can_upcall, is_fetching, untold_of}
 use Rattle.sa_batch.specs.Notices.{notes_told}
 use Rattle.sa_kernel_model.specs.Parts.{with_line, with_owner, without_aim, fetch_page, leave, upcall, moved, go_to_by}
 use Rattle.sa_kernel_model.specs.Closing.{wants, want_for, want_one, must_want, aims, shares, spaces, interrupt, interrupt_one, interrupt_for, must_interrupt, has_low_line, closed}
@@ -262,7 +262,7 @@ module _ {C : Type 0} where
 
   -- a context fetches what it is told
 
-  tells-fetched : (e : ℕ) (note : Note) (k : State C) → (fetched note k).assign ≡ k.assign
+  tells-fetched : (e : ℕ) (note : Note) (k : KernelState C) → (fetched note k).assign ≡ k.assign
   tells-fetched e (Add p) k = refl
   tells-fetched e (Blocked a) k = refl
   tells-fetched e (Preempted a) k = by (held_of (k.acts a.0)) where
@@ -274,5 +274,5 @@ module _ {C : Type 0} where
     by None = refl
     by (Some held) = refl
 
-  pub same-fetched : (note : Note) (k : State C) → (fetched note k).assign ≡ k.assign
+  pub same-fetched : (note : Note) (k : KernelState C) → (fetched note k).assign ≡ k.assign
   same-fetched note k = tells-fetched 0 note k

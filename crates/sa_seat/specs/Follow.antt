@@ -2,7 +2,7 @@
 use Rattle.std.specs.Prelude.{◌≡◌, ℕ, ◌<◌, ◌≤◌, ◌⊎◌, Option, Some, None, IfSome, List, Contains, length}
 use Rattle.sa_base.specs.declared.limits.TheConstants.{MAX_EVENTS, MAX_PROCESSORS}
 use Rattle.sa_assign.specs.Reaim.{proc_no, line_at}
-use Rattle.sa_kernel_model.specs.State.{State, line_of}
+use Rattle.sa_kernel_model.specs.State.{KernelState, line_of}
 use Rattle.sa_core_model.specs.Machine.{Machine}
 use Rattle.sa_lines.specs.declared.view.Lane.{Lane}
 use Rattle.sa_lines.specs.Words.{lane_at}
@@ -22,7 +22,7 @@ abbrev pub AreStored : List (Option ℕ) → List Lane → Type 0
 AreStored lines lanes = (p : ℕ) → p < length lanes → (lane_at lanes p).line ≡ line_value (line_at lines p)
 
 -- the line of each processor was raised at an event that a run can have
-abbrev pub AreEvents : {C : Type 0} → State C → Type 0
+abbrev pub AreEvents : {C : Type 0} → KernelState C → Type 0
 AreEvents k = (p : ℕ) → IfSome (line_of k (proc_no p)) (λ e. e ≤ MAX_EVENTS)
 
 -- what the words need before they follow the lines of a machine, where these were stored last
@@ -38,7 +38,7 @@ pub record IsFollowed (line : Option ℕ) (old new : Lane) : Type 0 where
   pub account : new.account ≡ old.account
   pub raised : (e : ℕ) → Contains new.raised e → Contains old.raised e ⊎ (line ≡ Some e)
 
-pub record HasFollowed {C : Type 0} (k : State C) (processors : ℕ) (old new : KeeperSeen) (lines : List (Option ℕ)) : Type 0 where
+pub record HasFollowed {C : Type 0} (k : KernelState C) (processors : ℕ) (old new : KeeperSeen) (lines : List (Option ℕ)) : Type 0 where
   pub table_is : new.table ≡ old.table
   pub size : length new.lanes ≡ length old.lanes
   pub lines_are : (p : ℕ) → p < processors → line_at lines p ≡ line_of k (proc_no p)

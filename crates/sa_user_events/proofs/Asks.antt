@@ -34,7 +34,7 @@ use Rattle.sa_laws.specs.Shape.{others_of}
 use Rattle.sa_laws.specs.Step.{AreSteps}
 use Rattle.sa_laws.proofs.Records.{records-append}
 use Rattle.sa_kernel_model.specs.Entries.{entered_as}
-use Rattle.sa_kernel_model.specs.State.{State, Scene, owner_of, line_of}
+use Rattle.sa_kernel_model.specs.State.{KernelState, Scene, owner_of, line_of}
 use Rattle.sa_kernel_model.proofs.WalkLemmas.{AreOwn}
 use Rattle.sa_kernel_model.specs.Overview.{overview, read_off}
 use Rattle.sa_kernel_model.proofs.OverviewLemmas.{overview-ended}
@@ -72,7 +72,7 @@ first-same rules w r p (x ∷ xs) ys some asked = tt
 
 module _ {U C : Type 0} (level : UserLevel U C) where
   -- What an entry that a step asked for does.
-  pub record Entering (w : WorkloadView) (r : Readings) (g : ℕ) (p : ProcNo) (n : ActNo) (s : SpaceNo) (k : State C)
+  pub record Entering (w : WorkloadView) (r : Readings) (g : ℕ) (p : ProcNo) (n : ActNo) (s : SpaceNo) (k : KernelState C)
       (entry : Entry C) (own : List Record) : Type 0 where
     pub items : (items : List Item) → (entered_as g p n entry (record { state = k; items = items })).items ≡ items ++ items_at g p own
     pub some : own ≢ []

@@ -43,7 +43,7 @@ use Rattle.sa_laws.specs.Upcalls.{FirstLineIsAsked, leave_records}
 use Rattle.sa_legal.proofs.AppendLemmas.{steps-append}
 use Rattle.sa_kernel_model.specs.Entries.{blocked_by, told_or_left, io_for, entered, entered_as}
 use Rattle.sa_kernel_model.specs.Sound.{IsSound}
-use Rattle.sa_kernel_model.specs.State.{untold_of, life_of, State, Scene, owner_of, line_of, can_upcall, is_fetching}
+use Rattle.sa_kernel_model.specs.State.{untold_of, life_of, KernelState, Scene, owner_of, line_of, can_upcall, is_fetching}
 use Rattle.sa_kernel_model.proofs.OnceLemmas.{none-of}
 use Rattle.sa_kernel_model.proofs.EntryLemmas.{users-are_own, own-others}
 use Rattle.sa_kernel_model.proofs.WalkLemmas.{AreClosing, own-both, own-told, told-alone, AreOwn}
@@ -174,7 +174,7 @@ module _ {U C : Type 0} (level : UserLevel U C) (w : WorkloadView) (events : Lis
   abbrev x : Machine U C
   x = next_event m
 
-  abbrev k : State C
+  abbrev k : KernelState C
   k = x.kernel
 
   abbrev g : ℕ
@@ -214,7 +214,7 @@ module _ {U C : Type 0} (level : UserLevel U C) (w : WorkloadView) (events : Lis
   abbrev real : Readings
   real = after_records w g p b0 (says ++ block ∷ [])
 
-  abbrev aside : State C
+  abbrev aside : KernelState C
   aside = put_aside p s here.act (Blocked here.act) held (with_io (io_for s here.act page) (g + len) k)
 
   -- the scene after the block, if the event began with these items
@@ -388,7 +388,7 @@ module _ {U C : Type 0} (level : UserLevel U C) (w : WorkloadView) (events : Lis
       let ups = up_records s n notes in
       let e = blocks fit ups (λ v. upcall g p s n false v) true (λ v. refl) resident
       (λ v is. upped-items g p s n true v
-      ∙ ap (λ (q : State C). v.items ++ items_at g p (up_records s n (untold_of q s.0))) is) (own-told notes) in
+      ∙ ap (λ (q : KernelState C). v.items ++ items_at g p (up_records s n (untold_of q s.0))) is) (own-told notes) in
       let cl = e.closing in
       let all = says ++ block ∷ ups in
       let ev : Event = event_with g p all cl in
@@ -464,7 +464,7 @@ module _ {U C : Type 0} (level : UserLevel U C) (w : WorkloadView) (events : Lis
       let leaves = leave_records p o s still in
       let e = blocks fit leaves (λ v. leave g p s v) false (λ v. refl) resident
       (λ v is. leave-items g p s v
-      ∙ ap (λ (q : State C). v.items ++ items_at g p (leave_records p (owner_of q p) s (is_fetching q s.0))) is) (leave-own p o s still) in
+      ∙ ap (λ (q : KernelState C). v.items ++ items_at g p (leave_records p (owner_of q p) s (is_fetching q s.0))) is) (leave-own p o s still) in
       let cl = e.closing in
       let all = says ++ block ∷ leaves in
       let ev : Event = event_with g p all cl in

@@ -39,7 +39,7 @@ use Rattle.sa_laws.specs.Event.{Event}
 use Rattle.sa_laws.specs.Shape.{others_of}
 use Rattle.sa_kernel_model.specs.Sound.{IsSound}
 use Rattle.sa_kernel_model.specs.Entries.{entered_as, more, idled, gave_back, without_acts}
-use Rattle.sa_kernel_model.specs.State.{State, Scene, owner_of, line_of, demand_of, taken_of}
+use Rattle.sa_kernel_model.specs.State.{KernelState, Scene, owner_of, line_of, demand_of, taken_of}
 use Rattle.sa_kernel_model.proofs.WalkLemmas.{AreOwn, not-empty}
 use Rattle.sa_kernel_model.specs.Overview.{Overview}
 use Rattle.sa_kernel_model.specs.declared.entry.Entry.{Entry}
@@ -185,7 +185,7 @@ module _ {U C : Type 0} (level : UserLevel U C) where
       g : ℕ
       g = m.event + 1
 
-      k : State C
+      k : KernelState C
       k = x.kernel
 
       r : Readings

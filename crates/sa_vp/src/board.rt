@@ -23,7 +23,7 @@ use crate::ready::Ready;
 use sa_base::{ActNo, IoNo, MAX_THREADS, ProcNo, Record, SpaceNo, ThreadNo, Trace, has_page};
 use sa_check_machine::Replay;
 use sa_devices::{Devices, IoKind};
-use sa_instr::{Instr, Regs};
+use sa_instr::{Instr, Reg};
 use sa_links::Links;
 
 /// The items of an event at most.

@@ -8,7 +8,7 @@ use Rattle.sa_spaces.specs.Workload.{WorkloadView}
 use Rattle.sa_kernel_model.specs.declared.entry.Entry.{Entry}
 use Rattle.sa_kernel_model.specs.declared.entry.Entry.TheVariants.{Interrupt, Block, Complete, More, Idle, GiveBack, InterruptOwn}
 use Rattle.sa_base.specs.declared.record.Record.TheVariants.{Tick}
-use Rattle.sa_kernel_model.specs.State.{State, Scene, line_of}
+use Rattle.sa_kernel_model.specs.State.{KernelState, Scene, line_of}
 use Rattle.sa_kernel_model.specs.Entries.{evicted_at}
 use Rattle.sa_kernel_model.specs.Fits.{IsFit}
 use Rattle.sa_kernel_model.specs.Turn.{SaysRightly}
@@ -26,7 +26,7 @@ busy inside None idle some is = absurd cc
 busy true (Some t) idle some is = is
 busy false (Some t) idle some is = is
 
-says-rightly : (w : WorkloadView) (k : State ℕ) (p : ProcNo) (r m : Readings) (entry : Entry ℕ) → IsPlain entry → SaysRightly w k p r m [] (Some entry)
+says-rightly : (w : WorkloadView) (k : KernelState ℕ) (p : ProcNo) (r m : Readings) (entry : Entry ℕ) → IsPlain entry → SaysRightly w k p r m [] (Some entry)
 says-rightly w k p r m (Interrupt None) plain = (refl, tt)
 says-rightly w k p r m (Interrupt (Some held)) plain = (refl, λ a life run is. busy life.inside held.thread held.idle plain.thread plain.busy)
 says-rightly w k p r m (Block held len page) plain = absurd plain
@@ -37,7 +37,7 @@ says-rightly w k p r m GiveBack plain = refl
 says-rightly w k p r m (InterruptOwn q) plain = refl
 
 -- an entry fits behind the evictions of its event as before them
-fits-evicted : (e n : ℕ) (k : State ℕ) (p : ProcNo) (entry : Entry ℕ) → IsFit k p e entry → IsFit (evicted_at n k) p e entry
+fits-evicted : (e n : ℕ) (k : KernelState ℕ) (p : ProcNo) (entry : Entry ℕ) → IsFit k p e entry → IsFit (evicted_at n k) p e entry
 fits-evicted e n k p (Interrupt held) fit = record { raised = fit.raised; held = fit.held; owned = fit.owned }
 fits-evicted e n k p (Block held len page) fit = record { space = fit.space; asks = record { owner = fit.asks.owner; low = fit.asks.low }; page = fit.page }
 fits-evicted e n k p (Complete io) fit = record { here = fit.here; under_way = fit.under_way; low = fit.low }
@@ -65,7 +65,7 @@ longer-lawful test w events e p x next = record {
 }
 
 -- a history goes on by a plain entry
-pub enter-lawful : (e : ℕ) (p : ProcNo) (entry : Entry ℕ) (old mid : State ℕ) (before items : List Item) (new : Scene ℕ) → items ≡ before → mid ≡ evicted_at e old
+pub enter-lawful : (e : ℕ) (p : ProcNo) (entry : Entry ℕ) (old mid : KernelState ℕ) (before items : List Item) (new : Scene ℕ) → items ≡ before → mid ≡ evicted_at e old
     → old.telling ≡ [] → IsFit old p e entry → IsPlain entry → GoesOnLawfully e p (Some entry) (record { state = mid; items = items }) new
     → (slice last : ℕ) → GoesFrom slice last e (record { state = old; items = before }) new
 enter-lawful e p entry old mid before items new same evicts fetched fit plain goes slice last test w slices past =
@@ -74,13 +74,13 @@ enter-lawful e p entry old mid before items new same evicts fetched fit plain go
       history = past.history;
       state = evicts;
       items = same ∙ sym (append-nil before);
-      fetched = ap (λ (k : State ℕ). k.telling) evicts ∙ fetched;
-      fits = subst (λ (k : State ℕ). IsFit k p e entry) (sym evicts) (fits-evicted e e old p entry fit);
+      fetched = ap (λ (k : KernelState ℕ). k.telling) evicts ∙ fetched;
+      fits = subst (λ (k : KernelState ℕ). IsFit k p e entry) (sym evicts) (fits-evicted e e old p entry fit);
       right = (let r = read_from test w past.events in says-rightly w mid p r (read_within w e p r []) entry plain);
     }))
 
 -- an event of a tick goes on
-ticks : (test : Test) (w : WorkloadView) (events : List Event) (e : ℕ) (p : ProcNo) (old mid : State ℕ) (before items : List Item)
+ticks : (test : Test) (w : WorkloadView) (events : List Event) (e : ℕ) (p : ProcNo) (old mid : KernelState ℕ) (before items : List Item)
     → items ≡ before ++ record { event = e; proc = p; what = Tick } ∷ [] → mid ≡ evicted_at e old → old.telling ≡ [] → line_of old p ≡ None
     → IsHistory test w events (record { state = old; items = before }) → IsUnderWay test w events e p (Tick ∷ []) None (record { state = mid; items = items })
 ticks test w events e p old mid before items added evicts fetched low past = record {
@@ -88,8 +88,8 @@ ticks test w events e p old mid before items added evicts fetched low past = rec
   history = past;
   state = evicts;
   items = added;
-  fetched = ap (λ (k : State ℕ). k.telling) evicts ∙ fetched;
-  fits = ap (λ (k : State ℕ). line_of k p) evicts ∙ low;
+  fetched = ap (λ (k : KernelState ℕ). k.telling) evicts ∙ fetched;
+  fits = ap (λ (k : KernelState ℕ). line_of k p) evicts ∙ low;
   right = ((λ (none : Tick ∷ [] ≡ []). cc), refl);
 }
 
@@ -100,13 +100,13 @@ same-first w slice last e is (inr same) =
     ∙ sym (ap (λ n. if n == 0 then 0 else (last / n) % length w.spaces) is)
 
 -- a history goes on by a tick, at the end of a slice and without the kernel
-pub tick-lawful : (slice last e : ℕ) (p : ProcNo) (old mid : State ℕ) (before items : List Item) (new : Scene ℕ)
+pub tick-lawful : (slice last e : ℕ) (p : ProcNo) (old mid : KernelState ℕ) (before items : List Item) (new : Scene ℕ)
     → items ≡ before ++ record { event = e; proc = p; what = Tick } ∷ [] → mid ≡ evicted_at e old → old.telling ≡ [] → line_of old p ≡ None
     → GoesOnLawfully e p None (record { state = mid; items = items }) new → GoesFrom slice last e (record { state = old; items = before }) new
 tick-lawful slice last e p old mid before items new added evicts fetched low goes test w slices past =
     longer-lawful test w past.events e p new (goes test w past.events (Tick ∷ []) (ticks test w past.events e p old mid before items added evicts fetched low past.history))
 
-pub quiet-lawful : (slice last e : ℕ) (p : ProcNo) (old mid : State ℕ) (before items : List Item)
+pub quiet-lawful : (slice last e : ℕ) (p : ProcNo) (old mid : KernelState ℕ) (before items : List Item)
     → items ≡ before ++ record { event = e; proc = p; what = Tick } ∷ [] → mid ≡ evicted_at e old → old.telling ≡ [] → line_of old p ≡ None
     → p.0 < length old.lives → 1 ≤ e → IsSameSlice slice last e → QuietEventsGoOn ℕ
     → GoesFrom slice last e (record { state = old; items = before }) (record { state = mid; items = items })
@@ -117,6 +117,6 @@ quiet-lawful slice last e p old mid before items added evicts fetched low within
       last_is = ap (λ (ev : Event). ev.number) (last_of-push (opening_event w) past.events quiet);
       history = goes test w past.events e p (Tick ∷ []) (record { state = mid; items = items })
           (ticks test w past.events e p old mid before items added evicts fetched low past.history)
-          (subst (λ (k : State ℕ). p.0 < length k.lives) (sym evicts) within) later
+          (subst (λ (k : KernelState ℕ). p.0 < length k.lives) (sym evicts) within) later
           (same-first w slice last e slices same ∙ ap (first_space w) (sym past.last_is));
     }

@@ -2,12 +2,12 @@ use Rattle.std.proofs.Common.{◌≡◌, ℕ, IsTrue, Option, Some, None, IsSome
 use Rattle.sa_base.specs.declared.number.ProcNo.{ProcNo}
 use Rattle.sa_base.specs.declared.number.IoNo.{IoNo}
 use Rattle.sa_devices.specs.Ios.{Io, io_at}
-use Rattle.sa_kernel_model.specs.State.{State, line_of}
+use Rattle.sa_kernel_model.specs.State.{KernelState, line_of}
 use Rattle.sa_kernel.specs.Kept.{kernel_of}
 use Rattle.sa_kernel_model.specs.Fits.{FitsComplete}
 use Rattle.tests_kernel.proofs.bench.can_complete.Goals as goal
 
-completes : (k : State ℕ) (p : ProcNo) (event : ℕ) (io : IoNo) (found : Option Io) (line : Option ℕ) → found ≡ io_at io.0 k.under_way → IsSome found
+completes : (k : KernelState ℕ) (p : ProcNo) (event : ℕ) (io : IoNo) (found : Option Io) (line : Option ℕ) → found ≡ io_at io.0 k.under_way → IsSome found
     → line ≡ line_of k p → IsTrue (is_none line) → FitsComplete k p event io
 completes k p event io None line is some low none = absurd cc
 completes k p event io (Some here) None is some low none = record { here = here; under_way = sym is; low = sym low }
