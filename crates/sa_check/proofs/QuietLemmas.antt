@@ -22,7 +22,7 @@ use Rattle.sa_spaces.specs.Workload.{WorkloadView}
 use Rattle.sa_laws.specs.Event.{Event}
 use Rattle.sa_laws.specs.Life.{Life}
 use Rattle.sa_laws.specs.declared.rule.Rule.TheVariants.{Numbering, InTime, WhereOwned, WantCause, SharesCovered}
-use Rattle.sa_laws.specs.Readings.{Readings, opening_readings, running_of, life_of, line_of, demand_of, untold_of, space_of_life, must_hear, was_idle}
+use Rattle.sa_laws.specs.Readings.{Readings, running_of, life_of, line_of, demand_of, untold_of, space_of_life, must_hear, was_idle}
 use Rattle.sa_laws.specs.Ends.{LastLine}
 use Rattle.sa_laws.specs.Rules.{fast_threads, HoldEach, rules}
 use Rattle.sa_laws.specs.Record.{after_record, with_life}
@@ -399,10 +399,6 @@ settled-next w r e last held n is =
       prompt = (holds-each fast_threads w r e last InTime held).prompt;
     } in
     subst (λ k. IsSettled w k (after_event is_inside w r e)) same settled
-
--- .. and before any event
-pub settled-first : (w : WorkloadView) → WasSettled w (opening_readings w)
-settled-first w n is = absurd (omega (arith, is))
 
 -- the laws of records say nothing of a quiet one
 pub once-holds : (r : Readings) (rest : List Record) (x : Record) → is_quiet_record x ≡ true → TellsOnce r x rest

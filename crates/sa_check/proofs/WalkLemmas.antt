@@ -9,13 +9,12 @@ use Rattle.sa_lemmas.proofs.ListUpdates.{slice_get-append_seam}
 use Rattle.sa_base.specs.declared.record.Item.{Item}
 use Rattle.sa_spaces.specs.Workload.{WorkloadView}
 use Rattle.sa_laws.specs.declared.rule.Rule.{Rule}
-use Rattle.sa_laws.specs.declared.rule.Rule.TheVariants.{Numbering}
 use Rattle.sa_laws.specs.Event.{Event, events_of}
 use Rattle.sa_laws.specs.Readings.{Readings, opening_readings}
 use Rattle.sa_laws.specs.History.{is_inside, after_event, after_events}
 use Rattle.sa_laws.specs.Ends.{LastLine}
 use Rattle.sa_laws.specs.Rules.{fast_threads, HoldEach, Breaks, rules}
-use Rattle.sa_laws.specs.Legal.{before, line_at, HoldsBefore, BreaksAt, FirstBreakIn, FirstBreak}
+use Rattle.sa_laws.specs.Legal.{before, line_at, HoldsBefore, BreaksAt, FirstBreakIn}
 use Rattle.sa_check_moment.specs.Seen.{Seen}
 use Rattle.sa_legal.proofs.AppendLemmas.{events-append}
 use Rattle.sa_check.specs.declared.verdict.Verdict.{Verdict}
@@ -116,10 +115,6 @@ verdict-from w items line v some is = by (events_of items) v refl (walk w [] (ev
   by (e ∷ es) (Broken number rule) same holds =
       let there : FirstBreakIn fast_threads w (e ∷ es) line number rule = subst (λ (list : List Event). BreaksAt fast_threads w list line number rule) same holds in
       subst (λ (list : List Event). FirstBreakIn fast_threads w list line number rule) (sym same) there
-
--- a trace with no item breaks the opening
-pub empty-breaks : (w : WorkloadView) (items : List Item) (line : LastLine) → items ≡ [] → FirstBreak fast_threads w items line 0 Numbering
-empty-breaks w items line none = subst (λ (list : List Item). FirstBreak fast_threads w list line 0 Numbering) (sym none) (refl, refl)
 
 -- one event more: it is right, and the rest decides; or it breaks a rule
 pub goes-on : (w : WorkloadView) (m next : Seen) (events es : List Event) (e : Event) (line : LastLine) (last : Option LastLine) (v : Verdict)
