@@ -18,7 +18,7 @@ count() {
 # lines TEXT: the text with a line feed for each slash
 lines() { printf '%s' "$1" | tr '/' '\n'; }
 
-# repeat N TEXT: the text so many times
+# repeat N TEXT: the text N times
 repeat() { for ((i = 0; i < $1; i++)); do printf '%s' "$2"; done; }
 
 # run WORD..: the program on the file in; leaves its output, standard error and exit status
