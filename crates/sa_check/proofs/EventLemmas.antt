@@ -1,4 +1,4 @@
--- The first event of some items, and the items behind it.
+-- The first event of some items, and the items after it.
 use Rattle.std.proofs.Common.{◌≡◌, ◌≢◌, ℕ, suc, ◌+◌, None, refl, sym, ◌∙◌, ap, List, [], ◌∷◌, ◌++◌, map, take, drop, Bool, true, false, arith}
 use Rattle.std.specs.Prelude.{◌==◌, ◌&&◌, if◌then◌else◌}
 use Rattle.std.specs.List.{prefix_len}
@@ -40,8 +40,10 @@ first-event x (y ∷ ys) =
     ap (before_events x) (first-event y ys) ∙ by (is_with x y) (together x y) (first-event y ys)
   where
     by : (b : Bool) → (b ≡ true → Together x y)
-        → events_of (y ∷ ys) ≡ event y.event y.proc (y.what ∷ map what_of (take (prefix_len (is_with y) ys) ys)) ∷ events_of (drop (prefix_len (is_with y) ys) ys)
-        → (if b then event y.event y.proc (x.what ∷ y.what ∷ map what_of (take (prefix_len (is_with y) ys) ys)) ∷ events_of (drop (prefix_len (is_with y) ys) ys)
+        → events_of (y ∷ ys) ≡ event y.event y.proc (y.what ∷ map what_of (take (prefix_len (is_with y) ys) ys))
+        ∷ events_of (drop (prefix_len (is_with y) ys) ys)
+        → (if b then event y.event y.proc (x.what ∷ y.what ∷ map what_of (take (prefix_len (is_with y) ys) ys))
+        ∷ events_of (drop (prefix_len (is_with y) ys) ys)
         else event_of x ∷ event y.event y.proc (y.what ∷ map what_of (take (prefix_len (is_with y) ys) ys)) ∷ events_of (drop (prefix_len (is_with y) ys) ys))
         ≡ event x.event x.proc (x.what ∷ map what_of (take (if b then 1 + prefix_len (is_with x) ys else 0) (y ∷ ys)))
         ∷ events_of (drop (if b then 1 + prefix_len (is_with x) ys else 0) (y ∷ ys))

@@ -31,8 +31,10 @@ module _ (w : WorkloadView) (r : Readings) (e : Event) (last : Option LastLine) 
   pub first-is : Outcome (find (λ x. not (found x)) rules)
   first-is =
       step Numbering (drop 1 rules) (step StepTaken (drop 2 rules) (step AtMostOnce (drop 3 rules) (step InTime (drop 4 rules) (step WhereOwned (drop 5 rules)
-      (step AllTold (drop 6 rules) (step BlockUpcall (drop 7 rules) (step InterruptNext (drop 8 rules) (step LineCause (drop 9 rules) (step WantCause (drop 10 rules)
-      (step SharesCovered (drop 11 rules) (step DemandSaid (drop 12 rules) (step TurnsAndSteps (drop 13 rules) (step ListLocks (drop 14 rules) (step ListOrder (drop 15 rules) (step EndTold [] (λ all. all)))))))))))))))) tt
+      (step AllTold (drop 6 rules) (step BlockUpcall (drop 7 rules) (step InterruptNext (drop 8 rules)
+      (step LineCause (drop 9 rules) (step WantCause (drop 10 rules)
+      (step SharesCovered (drop 11 rules) (step DemandSaid (drop 12 rules) (step TurnsAndSteps (drop 13 rules)
+      (step ListLocks (drop 14 rules) (step ListOrder (drop 15 rules) (step EndTold [] (λ all. all)))))))))))))))) tt
 
 -- where each rule holds, none that does not is found
 pub none-fails : (holds : Rule → Bool) (list : List Rule) → list_all holds list ≡ true → find (λ rule. not (holds rule)) list ≡ None

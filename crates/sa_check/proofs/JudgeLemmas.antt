@@ -54,7 +54,7 @@ outcome m start next e last b through ending numbered begins starts read ends af
     first-is m.workload m.readings e last (λ rule. found_of (findings_of e.number b through.laws through.due ending) rule)
     (each m e last b through.laws through.due ending numbered read'.steps begins read'.laws read'.due after')
 
--- .. where these findings give this rule, or none
+-- the first rule that breaks is this one, or none, where these findings give it
 pub judged-so : (m start next : Seen) (e : Event) (last : Option LastLine) (b : Beginning) (through : ReadThrough) (ending : Ending)
     → IsNumbered m.workload m.readings e → IsBeginning m e b → start ≡ at_event e.number e.proc m → IsReadThrough start e through
     → next ≡ after m e → IsEnding next e.number last ending
@@ -65,7 +65,7 @@ judged-so m start next e last b through ending numbered begins starts read ends 
     (sym (found ∙ ap (λ (g : Findings). find (λ rule. not (found_of g rule)) rules) is))
     (outcome m start next e last b through ending numbered begins starts read ends after_it)
 
--- a quiet event, behind an event that left all as it must be
+-- a quiet event, after an event that left all as it must be
 pub quiet-from : (m start : Seen) (e : Event) → IsNumbered m.workload m.readings e → WasSettled m.workload m.readings → start ≡ at_event e.number e.proc m
     → is_quiet m.workload m.readings e ≡ true → IsQuietFrom start e
 quiet-from m start e numbered settled begins quiet =

@@ -17,7 +17,7 @@ take-before-wants (x ∷ xs) = ap (λ ys. x ∷ ys) (take-run is_no_want xs)
 pub take-before-aims : (xs : List Record) → take (length (before_aims xs)) xs ≡ before_aims xs
 take-before-aims xs = take-run is_no_aim xs
 
--- what was found at its place stays found behind it
+-- what was found at its place stays found after it
 pub found-behind : (due place : ℕ) (before now : Bool) (P Q : Type 0) → FoundAt due place P before now → (place ≡ due → (P ↔ Q))
     → (due < place → (IsTrue before ↔ Q)) → due < place + 1 → (IsTrue now ↔ Q)
 found-behind due place before now P Q at same old behind = elim (cases_eq place due) [

@@ -30,6 +30,7 @@ use Rattle.sa_laws.specs.History.{is_inside, begun, after_records, behind_all, i
 use Rattle.sa_laws.specs.Shape.{is_no_aim, is_no_want, is_other_line, aims_in, wants_in, others_of, before_aims, before_wants, before_lines, front_part}
 use Rattle.sa_laws.specs.Closing.{claims_of, spaces_of, must_want, want_one, wants_due, first_space, shares_at, aims_due}
 use Rattle.sa_laws.specs.Upcalls.{RecordLaw, EachRecord, TellsOnce, NamesTheLife, TellsAllThen, GivesUpcallThen, RaisesLine, IsPrompt}
+use Rattle.sa_laws.proofs.Records.{number-kept}
 use Rattle.sa_legal.proofs.FirstLemmas.{holds-each}
 use Rattle.sa_check.specs.Quiet.{is_quiet_record, keeps_first, is_quiet, IsSettled, WasSettled}
 
@@ -110,7 +111,8 @@ same-both r q s a b = record {
 }
 
 -- what a change keeps of a life
-option-kept : {A : Type 0} (f : Life → Life) (g : Life → A) → ((x : Life) → g (f x) ≡ g x) → (life : Option Life) → option_map g (option_map f life) ≡ option_map g life
+option-kept : {A : Type 0} (f : Life → Life) (g : Life → A) → ((x : Life) → g (f x) ≡ g x) → (life : Option Life)
+    → option_map g (option_map f life) ≡ option_map g life
 option-kept f g keeps None = refl
 option-kept f g keeps (Some x) = ap Some (keeps x)
 
@@ -125,22 +127,41 @@ life-kept f g keeps (Some b) lives a = elim (cases_eq a.0 b.0) [
 
 module _ (w : WorkloadView) (e : ℕ) (p : ProcNo) (r : Readings) where
   plain : (x : Record) → let q = after_record w e p r x in
-      q.demands ≡ r.demands → q.under_way ≡ r.under_way → q.aims ≡ r.aims → q.state.owners ≡ r.state.owners → q.running ≡ r.running → q.lines ≡ r.lines → q.untold ≡ r.untold
+      q.demands ≡ r.demands → q.under_way ≡ r.under_way → q.aims ≡ r.aims → q.state.owners ≡ r.state.owners → q.running ≡ r.running → q.lines ≡ r.lines
+      → q.untold ≡ r.untold
       → ((a : ActNo) → option_map (λ (x : Life). x.space) (life_of q a) ≡ option_map (λ (x : Life). x.space) (life_of r a))
       → ((a : ActNo) → option_map (λ (x : Life). x.idle) (life_of q a) ≡ option_map (λ (x : Life). x.idle) (life_of r a)) → IsSame r q
   plain x a b c d f g i j k = record { demands = a; under_way = b; aims = c; owners = d; running = f; lines = g; untold = i; spaces = j; idles = k }
 
   same-record : (x : Record) → is_quiet_record x ≡ true → IsSame r (after_record w e p r x)
-  same-record (Ins s t i) h = plain (Ins s t i) refl refl refl refl refl refl refl (λ a. life-kept _ (λ (x : Life). x.space) (λ x. refl) (running_of r p) r.lives a) (λ a. life-kept _ (λ (x : Life). x.idle) (λ x. refl) (running_of r p) r.lives a)
+  same-record (Ins s t i) h =
+      plain (Ins s t i) refl refl refl refl refl refl refl (λ a. life-kept _ (λ (x : Life). x.space) (λ x. refl) (running_of r p) r.lives a)
+      (λ a. life-kept _ (λ (x : Life). x.idle) (λ x. refl) (running_of r p) r.lives a)
   same-record (Out s t value) h = plain (Out s t value) refl refl refl refl refl refl refl (λ a. refl) (λ a. refl)
-  same-record (Run s t) h = plain (Run s t) refl refl refl refl refl refl refl (λ a. life-kept _ (λ (x : Life). x.space) (λ x. refl) (running_of r p) r.lives a) (λ a. life-kept _ (λ (x : Life). x.idle) (λ x. refl) (running_of r p) r.lives a)
-  same-record (Cont s None) h = plain (Cont s None) refl refl refl refl refl refl refl (λ a. life-kept _ (λ (x : Life). x.space) (λ x. refl) (running_of r p) r.lives a) (λ a. life-kept _ (λ (x : Life). x.idle) (λ x. refl) (running_of r p) r.lives a)
-  same-record (Cont s (Some t)) h = plain (Cont s (Some t)) refl refl refl refl refl refl refl (λ a. life-kept _ (λ (x : Life). x.space) (λ x. refl) (running_of r p) r.lives a) (λ a. life-kept _ (λ (x : Life). x.idle) (λ x. refl) (running_of r p) r.lives a)
-  same-record (Back s None) h = plain (Back s None) refl refl refl refl refl refl refl (λ a. life-kept _ (λ (x : Life). x.space) (λ x. refl) (running_of r p) r.lives a) (λ a. life-kept _ (λ (x : Life). x.idle) (λ x. refl) (running_of r p) r.lives a)
-  same-record (Back s (Some t)) h = plain (Back s (Some t)) refl refl refl refl refl refl refl (λ a. life-kept _ (λ (x : Life). x.space) (λ x. refl) (running_of r p) r.lives a) (λ a. life-kept _ (λ (x : Life). x.idle) (λ x. refl) (running_of r p) r.lives a)
-  same-record (Ready s t) h = plain (Ready s t) refl refl refl refl refl refl refl (λ a. life-kept _ (λ (x : Life). x.space) (λ x. refl) (running_of r p) r.lives a) (λ a. life-kept _ (λ (x : Life). x.idle) (λ x. refl) (running_of r p) r.lives a)
-  same-record (Take s l t) h = plain (Take s l t) refl refl refl refl refl refl refl (λ a. life-kept _ (λ (x : Life). x.space) (λ x. refl) (running_of r p) r.lives a) (λ a. life-kept _ (λ (x : Life). x.idle) (λ x. refl) (running_of r p) r.lives a)
-  same-record (Free s l t) h = plain (Free s l t) refl refl refl refl refl refl refl (λ a. life-kept _ (λ (x : Life). x.space) (λ x. refl) (running_of r p) r.lives a) (λ a. life-kept _ (λ (x : Life). x.idle) (λ x. refl) (running_of r p) r.lives a)
+  same-record (Run s t) h =
+      plain (Run s t) refl refl refl refl refl refl refl (λ a. life-kept _ (λ (x : Life). x.space) (λ x. refl) (running_of r p) r.lives a)
+      (λ a. life-kept _ (λ (x : Life). x.idle) (λ x. refl) (running_of r p) r.lives a)
+  same-record (Cont s None) h =
+      plain (Cont s None) refl refl refl refl refl refl refl (λ a. life-kept _ (λ (x : Life). x.space) (λ x. refl) (running_of r p) r.lives a)
+      (λ a. life-kept _ (λ (x : Life). x.idle) (λ x. refl) (running_of r p) r.lives a)
+  same-record (Cont s (Some t)) h =
+      plain (Cont s (Some t)) refl refl refl refl refl refl refl (λ a. life-kept _ (λ (x : Life). x.space) (λ x. refl) (running_of r p) r.lives a)
+      (λ a. life-kept _ (λ (x : Life). x.idle) (λ x. refl) (running_of r p) r.lives a)
+  same-record (Back s None) h =
+      plain (Back s None) refl refl refl refl refl refl refl (λ a. life-kept _ (λ (x : Life). x.space) (λ x. refl) (running_of r p) r.lives a)
+      (λ a. life-kept _ (λ (x : Life). x.idle) (λ x. refl) (running_of r p) r.lives a)
+  same-record (Back s (Some t)) h =
+      plain (Back s (Some t)) refl refl refl refl refl refl refl (λ a. life-kept _ (λ (x : Life). x.space) (λ x. refl) (running_of r p) r.lives a)
+      (λ a. life-kept _ (λ (x : Life). x.idle) (λ x. refl) (running_of r p) r.lives a)
+  same-record (Ready s t) h =
+      plain (Ready s t) refl refl refl refl refl refl refl (λ a. life-kept _ (λ (x : Life). x.space) (λ x. refl) (running_of r p) r.lives a)
+      (λ a. life-kept _ (λ (x : Life). x.idle) (λ x. refl) (running_of r p) r.lives a)
+  same-record (Take s l t) h =
+      plain (Take s l t) refl refl refl refl refl refl refl (λ a. life-kept _ (λ (x : Life). x.space) (λ x. refl) (running_of r p) r.lives a)
+      (λ a. life-kept _ (λ (x : Life). x.idle) (λ x. refl) (running_of r p) r.lives a)
+  same-record (Free s l t) h =
+      plain (Free s l t) refl refl refl refl refl refl refl (λ a. life-kept _ (λ (x : Life). x.space) (λ x. refl) (running_of r p) r.lives a)
+      (λ a. life-kept _ (λ (x : Life). x.idle) (λ x. refl) (running_of r p) r.lives a)
   same-record Idle h = plain Idle refl refl refl refl refl refl refl (λ a. refl) (λ a. refl)
   same-record (Spin l) h = plain (Spin l) refl refl refl refl refl refl refl (λ a. refl) (λ a. refl)
   same-record Tick h = plain Tick refl refl refl refl refl refl refl (λ a. refl) (λ a. refl)
@@ -161,7 +182,8 @@ both : (a b : Bool) → (a && b) ≡ true → (a ≡ true) × (b ≡ true)
 both true b h = (refl, h)
 both false b h = absurd cc
 
-same-records : (w : WorkloadView) (e : ℕ) (p : ProcNo) (r : Readings) (xs : List Record) → list_all is_quiet_record xs ≡ true → IsSame r (after_records w e p r xs)
+same-records : (w : WorkloadView) (e : ℕ) (p : ProcNo) (r : Readings) (xs : List Record) → list_all is_quiet_record xs ≡ true
+    → IsSame r (after_records w e p r xs)
 same-records w e p r [] h = same-itself r
 same-records w e p r (x ∷ xs) h =
     let each = both (is_quiet_record x) (list_all is_quiet_record xs) h in
@@ -184,10 +206,12 @@ same-begun w e r low = record {
 
 module _ {A : Type 0} (g : Life → A) (w : WorkloadView) (r : Readings) (e : Event) (q : Readings)
     (steps : (first : Record) (x : Life) → g (stepped is_inside w r e q first x) ≡ g x) (rises : (x : Life) → g (arisen is_inside w r e q x) ≡ g x) where
-  step-kept : (records : List Record) (lives : ℕ → Option Life) (a : ActNo) → option_map g (with_step is_inside w r e q records lives a.0) ≡ option_map g (lives a.0)
+  step-kept : (records : List Record) (lives : ℕ → Option Life) (a : ActNo)
+      → option_map g (with_step is_inside w r e q records lives a.0) ≡ option_map g (lives a.0)
   step-kept [] lives a = refl
   step-kept (first ∷ others) lives a = at (is_step first) where
-    at : (b : Bool) → option_map g ((if b then with_life (stepped is_inside w r e q first) (running_of r e.proc) lives else lives) a.0) ≡ option_map g (lives a.0)
+    at : (b : Bool) → option_map g ((if b then with_life (stepped is_inside w r e q first) (running_of r e.proc) lives else lives) a.0)
+        ≡ option_map g (lives a.0)
     at true = life-kept (stepped is_inside w r e q first) g (steps first) (running_of r e.proc) lives a
     at false = refl
 
@@ -200,7 +224,8 @@ module _ {A : Type 0} (g : Life → A) (w : WorkloadView) (r : Readings) (e : Ev
   end-kept : (a : ActNo) → option_map g (with_up is_inside w r e q (with_step is_inside w r e q e.records q.lives) a.0) ≡ option_map g (q.lives a.0)
   end-kept a = up-kept (with_step is_inside w r e q e.records q.lives) a ∙ step-kept e.records q.lives a
 
-same-event : (w : WorkloadView) (r : Readings) (e : Event) → line_of r e.proc ≡ None → list_all is_quiet_record e.records ≡ true → IsSame r (after_event is_inside w r e)
+same-event : (w : WorkloadView) (r : Readings) (e : Event) → line_of r e.proc ≡ None → list_all is_quiet_record e.records ≡ true
+    → IsSame r (after_event is_inside w r e)
 same-event w r e low h =
     let q = behind_all w e r in
     let here = same-both r (begun w e r) q (same-begun w e r low) (same-records w e.number e.proc (begun w e r) e.records h) in
@@ -227,7 +252,7 @@ same-shares : (w : WorkloadView) (n m : ℕ) (r q : Readings) → first_space w 
 same-shares w n m r q first same =
     ap (λ f. shares_of w.processors f (claims_of w q)) first ∙ ap (shares_of w.processors (first_space w n)) (same-claims w r q same)
 
--- .. the owners are
+-- where nothing changed that the owners depend on, they are the same
 same-map : (f g : Option ActNo → Option SpaceNo) → ((a : Option ActNo) → g a ≡ f a) → (xs : List (Option ActNo)) → map f xs ≡ map g xs
 same-map f g same [] = refl
 same-map f g same (x ∷ xs) = ap (λ y. y ∷ map f xs) (sym (same x)) ∙ ap (λ ys. g x ∷ ys) (same-map f g same xs)
@@ -236,7 +261,7 @@ same-space : (r q : Readings) → IsSame r q → (a : Option ActNo) → space_of
 same-space r q same None = refl
 same-space r q same (Some a) = same.spaces a
 
--- .. the wants are
+-- where nothing changed that the wants depend on, they are the same
 idle-so : (l k : Option Life) → option_map (λ (x : Life). x.idle) l ≡ option_map (λ (x : Life). x.idle) k → was_idle l ≡ was_idle k
 idle-so None None h = refl
 idle-so None (Some k) h = absurd cc
@@ -260,7 +285,7 @@ same-want r q same s =
     (same-any (must_hear r) (must_hear q) (same-hear r q same) (untold_of q s)
     ∙ ap (λ (untold : List (List Note)). list_any (must_hear r) (slice_index_or untold s.0 [])) same.untold)
 
--- .. and what is told in time is
+-- where nothing changed, what was told in time still is
 same-prompt : (r q : Readings) → IsSame r q → IsPrompt r → IsPrompt q
 same-prompt r q same prompt =
     let a : IsPrompt (record r { untold = q.untold }) =
@@ -270,13 +295,16 @@ same-prompt r q same prompt =
     let c : IsPrompt (record r { untold = q.untold; under_way = q.under_way; lines = q.lines }) =
     subst (λ lines. IsPrompt (record r { untold = q.untold; under_way = q.under_way; lines = lines })) (sym same.lines) (record { each = b.each }) in
     let d : IsPrompt (record r { untold = q.untold; under_way = q.under_way; lines = q.lines; state = record r.state { owners = q.state.owners } }) =
-    subst (λ owners. IsPrompt (record r { untold = q.untold; under_way = q.under_way; lines = q.lines; state = record r.state { owners = owners } })) (sym same.owners)
+    subst (λ owners. IsPrompt (record r { untold = q.untold; under_way = q.under_way; lines = q.lines; state = record r.state { owners = owners } }))
+    (sym same.owners)
     (record { each = c.each }) in
     record { each = d.each }
 
 settled-same : (w : WorkloadView) (n m : ℕ) (r q : Readings) → first_space w m ≡ first_space w n → IsSame r q → IsSettled w n r → IsSettled w m q
 settled-same w n m r q first same settled = record {
-  owned = same.owners ∙ settled.owned ∙ same-map (space_of_life r) (space_of_life q) (same-space r q same) r.running ∙ ap (map (space_of_life q)) (sym same.running);
+  owned =
+      same.owners ∙ settled.owned ∙ same-map (space_of_life r) (space_of_life q) (same-space r q same) r.running
+      ∙ ap (map (space_of_life q)) (sym same.running);
   covered = λ s.
       let before = settled.covered s in
       let shares = ap (λ list. share_at list s) (same-shares w n m r q first same) in
@@ -306,14 +334,16 @@ quiet-aims [] h = refl
 quiet-aims (x ∷ xs) h =
     let each = both (is_quiet_record x) (list_all is_quiet_record xs) h in
     let none = quiet-aims xs each.1 in
-    quiet-cases (λ y. aims_in (y ∷ xs) ≡ []) (λ s t i. none) (λ s t value. none) (λ s t. none) (λ s t. none) (λ s t. none) (λ s t. none) (λ s l t. none) (λ s l t. none) none (λ l. none) none x each.0
+    quiet-cases (λ y. aims_in (y ∷ xs) ≡ []) (λ s t i. none) (λ s t value. none) (λ s t. none) (λ s t. none) (λ s t. none) (λ s t. none) (λ s l t. none)
+    (λ s l t. none) none (λ l. none) none x each.0
 
 quiet-wants : (xs : List Record) → list_all is_quiet_record xs ≡ true → wants_in xs ≡ []
 quiet-wants [] h = refl
 quiet-wants (x ∷ xs) h =
     let each = both (is_quiet_record x) (list_all is_quiet_record xs) h in
     let none = quiet-wants xs each.1 in
-    quiet-cases (λ y. wants_in (y ∷ xs) ≡ []) (λ s t i. none) (λ s t value. none) (λ s t. none) (λ s t. none) (λ s t. none) (λ s t. none) (λ s l t. none) (λ s l t. none) none (λ l. none) none x each.0
+    quiet-cases (λ y. wants_in (y ∷ xs) ≡ []) (λ s t i. none) (λ s t value. none) (λ s t. none) (λ s t. none) (λ s t. none) (λ s t. none) (λ s l t. none)
+    (λ s l t. none) none (λ l. none) none x each.0
 
 quiet-others : (xs : List Record) → list_all is_quiet_record xs ≡ true → list_all is_quiet_record (others_of xs) ≡ true
 quiet-others [] h = refl
@@ -341,7 +371,9 @@ keeps-first w n h =
     (grind (arith, nat_tests, each.0), elim (eqb_tells (first_space w (n - 1)) (first_space w n)) [ inl same ↦ sym same.1 | inr other ↦ absurd cc ])
 
 pub quiet-records : (w : WorkloadView) (r : Readings) (e : Event) → is_quiet w r e ≡ true → list_all is_quiet_record e.records ≡ true
-quiet-records w r e quiet = (both (keeps_first w e.number) (list_all is_quiet_record e.records) (both (is_none (line_of r e.proc)) (keeps_first w e.number && list_all is_quiet_record e.records) quiet).1).1
+quiet-records w r e quiet =
+    (both (keeps_first w e.number) (list_all is_quiet_record e.records)
+    (both (is_none (line_of r e.proc)) (keeps_first w e.number && list_all is_quiet_record e.records) quiet).1).1
 
 module _ (w : WorkloadView) (r : Readings) (e : Event) (numbered : e.number ≡ r.number) (was : WasSettled w r) (quiet : is_quiet w r e ≡ true) where
   low : line_of r e.proc ≡ None
@@ -362,11 +394,12 @@ module _ (w : WorkloadView) (r : Readings) (e : Event) (numbered : e.number ≡ 
   quiet-settled =
       settled-same w (e.number - 1) e.number r (after_event is_inside w r e) first.1 (same-event w r e low (quiet-records w r e quiet)) before
 
-  -- .. and at each moment of it
+  -- at each moment of a quiet event all is as it must be
   during : (xs : List Record) → list_all is_quiet_record xs ≡ true → IsSettled w e.number (after_records w e.number e.proc (begun w e r) xs)
   during xs h =
       let q = after_records w e.number e.proc (begun w e r) xs in
-      settled-same w (e.number - 1) e.number r q first.1 (same-both r (begun w e r) q (same-begun w e r low) (same-records w e.number e.proc (begun w e r) xs h)) before
+      settled-same w (e.number - 1) e.number r q first.1
+      (same-both r (begun w e r) q (same-begun w e r low) (same-records w e.number e.proc (begun w e r) xs h)) before
 
   pub quiet-aims-due : aims_in e.records ≡ aims_due w e.number (after_records w e.number e.proc (begun w e r) (before_aims e.records))
   quiet-aims-due =
@@ -383,14 +416,11 @@ module _ (w : WorkloadView) (r : Readings) (e : Event) (numbered : e.number ≡ 
       quiet-wants (others_of e.records) (quiet-others e.records records) ∙ sym (ap (map want_one) (none-passes (must_want q) (spaces_of w) now.wants))
 
 -- where each rule held at the last event, all is as it must be
-number-records : (w : WorkloadView) (e : ℕ) (p : ProcNo) (r : Readings) (xs : List Record) → (after_records w e p r xs).number ≡ r.number
-number-records w e p r [] = refl
-number-records w e p r (x ∷ xs) = number-records w e p (after_record w e p r x) xs
-
-pub settled-next : (w : WorkloadView) (r : Readings) (e : Event) (last : Option LastLine) → HoldEach fast_threads w rules r e last → WasSettled w (after_event is_inside w r e)
+pub settled-next : (w : WorkloadView) (r : Readings) (e : Event) (last : Option LastLine) → HoldEach fast_threads w rules r e last
+    → WasSettled w (after_event is_inside w r e)
 settled-next w r e last held n is =
     let numbered = (holds-each fast_threads w r e last Numbering held).number in
-    let counted = number-records w e.number e.proc (begun w e r) e.records in
+    let counted = number-kept w e.number e.proc (begun w e r) e.records in
     let same : e.number ≡ n = omega (arith, numbered, counted, is) in
     let settled : IsSettled w e.number (after_event is_inside w r e) = record {
       owned = (holds-each fast_threads w r e last WhereOwned held).owned;
@@ -402,19 +432,29 @@ settled-next w r e last held n is =
 
 -- the laws of records say nothing of a quiet one
 pub once-holds : (r : Readings) (rest : List Record) (x : Record) → is_quiet_record x ≡ true → TellsOnce r x rest
-once-holds r rest = quiet-cases (λ x. TellsOnce r x rest) (λ s t i. tt) (λ s t value. tt) (λ s t. tt) (λ s t. tt) (λ s t. tt) (λ s t. tt) (λ s l t. tt) (λ s l t. tt) tt (λ l. tt) tt
+once-holds r rest =
+    quiet-cases (λ x. TellsOnce r x rest) (λ s t i. tt) (λ s t value. tt) (λ s t. tt) (λ s t. tt) (λ s t. tt) (λ s t. tt) (λ s l t. tt) (λ s l t. tt) tt
+    (λ l. tt) tt
 
 pub named-holds : (p : ProcNo) (r : Readings) (rest : List Record) (x : Record) → is_quiet_record x ≡ true → NamesTheLife p r x rest
-named-holds p r rest = quiet-cases (λ x. NamesTheLife p r x rest) (λ s t i. tt) (λ s t value. tt) (λ s t. tt) (λ s t. tt) (λ s t. tt) (λ s t. tt) (λ s l t. tt) (λ s l t. tt) tt (λ l. tt) tt
+named-holds p r rest =
+    quiet-cases (λ x. NamesTheLife p r x rest) (λ s t i. tt) (λ s t value. tt) (λ s t. tt) (λ s t. tt) (λ s t. tt) (λ s t. tt) (λ s l t. tt) (λ s l t. tt) tt
+    (λ l. tt) tt
 
 pub all-holds : (p : ProcNo) (r : Readings) (rest : List Record) (x : Record) → is_quiet_record x ≡ true → TellsAllThen p r x rest
-all-holds p r rest = quiet-cases (λ x. TellsAllThen p r x rest) (λ s t i. tt) (λ s t value. tt) (λ s t. tt) (λ s t. tt) (λ s t. tt) (λ s t. tt) (λ s l t. tt) (λ s l t. tt) tt (λ l. tt) tt
+all-holds p r rest =
+    quiet-cases (λ x. TellsAllThen p r x rest) (λ s t i. tt) (λ s t value. tt) (λ s t. tt) (λ s t. tt) (λ s t. tt) (λ s t. tt) (λ s l t. tt) (λ s l t. tt) tt
+    (λ l. tt) tt
 
 pub upcall-holds : (p : ProcNo) (r : Readings) (rest : List Record) (x : Record) → is_quiet_record x ≡ true → GivesUpcallThen p r x rest
-upcall-holds p r rest = quiet-cases (λ x. GivesUpcallThen p r x rest) (λ s t i. tt) (λ s t value. tt) (λ s t. tt) (λ s t. tt) (λ s t. tt) (λ s t. tt) (λ s l t. tt) (λ s l t. tt) tt (λ l. tt) tt
+upcall-holds p r rest =
+    quiet-cases (λ x. GivesUpcallThen p r x rest) (λ s t i. tt) (λ s t value. tt) (λ s t. tt) (λ s t. tt) (λ s t. tt) (λ s t. tt) (λ s l t. tt) (λ s l t. tt) tt
+    (λ l. tt) tt
 
 pub heard-holds : (r : Readings) (rest : List Record) (x : Record) → is_quiet_record x ≡ true → RaisesLine r x rest
-heard-holds r rest = quiet-cases (λ x. RaisesLine r x rest) (λ s t i. tt) (λ s t value. tt) (λ s t. tt) (λ s t. tt) (λ s t. tt) (λ s t. tt) (λ s l t. tt) (λ s l t. tt) tt (λ l. tt) tt
+heard-holds r rest =
+    quiet-cases (λ x. RaisesLine r x rest) (λ s t i. tt) (λ s t value. tt) (λ s t. tt) (λ s t. tt) (λ s t. tt) (λ s t. tt) (λ s l t. tt) (λ s l t. tt) tt
+    (λ l. tt) tt
 
 pub each-quiet : (L : RecordLaw) → ((r : Readings) (rest : List Record) (x : Record) → is_quiet_record x ≡ true → L r x rest)
     → (w : WorkloadView) (e : ℕ) (p : ProcNo) (r : Readings) (xs : List Record) → list_all is_quiet_record xs ≡ true → EachRecord L w e p r xs
@@ -423,9 +463,11 @@ each-quiet L holds w e p r (x ∷ xs) h =
     let each = both (is_quiet_record x) (list_all is_quiet_record xs) h in
     (holds r xs x each.0, each-quiet L holds w e p (after_record w e p r x) xs each.1)
 
--- no line stands among quiet records
+-- no line is among quiet records
 no-line : (last : Option Record) (x : Record) → is_quiet_record x ≡ true → is_other_line last x ≡ false
-no-line last = quiet-cases (λ x. is_other_line last x ≡ false) (λ s t i. refl) (λ s t value. refl) (λ s t. refl) (λ s t. refl) (λ s t. refl) (λ s t. refl) (λ s l t. refl) (λ s l t. refl) refl (λ l. refl) refl
+no-line last =
+    quiet-cases (λ x. is_other_line last x ≡ false) (λ s t i. refl) (λ s t value. refl) (λ s t. refl) (λ s t. refl) (λ s t. refl) (λ s t. refl) (λ s l t. refl)
+    (λ s l t. refl) refl (λ l. refl) refl
 
 lines-whole : (last : Option Record) (xs : List Record) → list_all is_quiet_record xs ≡ true → before_lines last xs ≡ xs
 lines-whole last [] h = refl

@@ -17,6 +17,8 @@ pub quiet-lines : (now m : Seen) (e : Event) (held : Bool) → list_all is_quiet
     → IsTrue held ↔ LinesAreDue (behind_some m e (front_part e.records)) e
 quiet-lines now m e held quiet here found =
     let all = subst (λ (s : Seen). IsTrue held ↔ (lines_in (drop (length e.records) e.records) ≡ lines_due s.workload s.readings)) here found in
-    let front = subst (λ (part : List Record). IsTrue held ↔ (lines_in (drop (length part) e.records) ≡ lines_due (behind_some m e part).workload (behind_some m e part).readings))
+    let front =
+    subst (λ (part : List Record). IsTrue held ↔ (lines_in (drop (length part) e.records)
+    ≡ lines_due (behind_some m e part).workload (behind_some m e part).readings))
     (sym (front-whole e.records quiet)) all in
     (λ is. record { due = front.0 is }, λ lines. front.1 lines.due)

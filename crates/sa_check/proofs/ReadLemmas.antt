@@ -67,7 +67,7 @@ right-event w m next first before after records said last a has same ends right 
     subst (λ (rest : Result Told Bad). Comes w m.readings rest a) (sym has.cut)
     (behind-right w m next first records said after last a has.some has.other same ends right comes)
 
--- the event that was gathered breaks a rule, so where no line behind it is bad, this comes of the whole
+-- the event that was gathered breaks a rule, so where no line after it is bad, this comes of the whole
 at-break : (w : WorkloadView) (m : Seen) (first : Item) (records : List Record) (said : Said) (rest : Result Told Bad) (last : Option LastLine) (rule : Rule)
     → records ≢ [] → IsOther first said → m.workload ≡ w → last ≡ line_said said
     → Breaks fast_threads m.workload m.readings (event first.event first.proc records) last rule → IsOk (with_said said rest)
@@ -98,7 +98,7 @@ broken-event w m first before after records said last rule has same ends breaks 
     subst (λ (rest : Result Told Bad). Comes w m.readings rest (Ok (Broken first.event rule))) (sym has.cut)
     (at-break w m first records said after last rule has.some has.other same ends breaks ok)
 
--- a line is bad while the records of an event are gathered, or behind them
+-- a line is bad while the records of an event are gathered, or after them
 bad-comes : (w : WorkloadView) (r : Readings) (rest : Result Told Bad) (bad : Bad) → rest ≡ Err bad → Comes w r rest (Err bad)
 bad-comes w r rest bad is = subst (λ (one : Result Told Bad). Comes w r one (Err bad)) (sym is) refl
 
@@ -128,7 +128,7 @@ judged w first (Ok t) v comes =
     }
 judged w first (Err bad) v comes = absurd cc
 
--- .. where a line is bad while the records of an event are gathered
+-- what comes of a text in which a line is bad while the records of an event are gathered
 pub bad-ahead : (w : WorkloadView) (r : Readings) (first : Item) (before after whole : Result Told Bad) (records : List Record) (e : Unread)
     → Gathers first before after records (Err e)
     → ((a : Result Verdict Bad) → Comes w r (with_said (Next first) before) a → Comes w (opening_readings w) whole a)
@@ -137,7 +137,7 @@ bad-ahead w r first before after whole records (Unread.Bad bad) is rest =
     refused w (opening_readings w) whole bad (rest (Err bad) (bad-comes w r (with_said (Next first) before) bad (front-bad (first ∷ []) before bad is)))
 bad-ahead w r first before after whole records Unread.OutOfMemory is rest = tt
 
--- .. where the event that was gathered breaks a rule, and all lines behind it were read
+-- what comes of a text in which the event that was gathered breaks a rule, and of which all lines after it were read
 pub break-found : (w : WorkloadView) (r : Readings) (here behind : Result Told Bad) (first : Item) (left : Result Told Bad) (v : Verdict)
     → (IsOk behind → Comes w r here (Ok v)) → ((bad : Bad) → behind ≡ Err bad → Comes w r here (Err bad))
     → ((a : Result Verdict Bad) → Comes w r here a → Comes w (opening_readings w) (in_front (first ∷ []) left) a)
@@ -145,7 +145,7 @@ pub break-found : (w : WorkloadView) (r : Readings) (here behind : Result Told B
 break-found w r here (Ok t) first left v good wrong rest = judged w first left v (rest (Ok v) (good refl))
 break-found w r here (Err bad) first left v good wrong rest = refused w (opening_readings w) (in_front (first ∷ []) left) bad (rest (Err bad) (wrong bad refl))
 
--- .. where it could not be judged
+-- what comes of a text of which the event that was gathered could not be judged
 pub none-found : (w : WorkloadView) (r : Readings) (here behind whole : Result Told Bad)
     → ((bad : Bad) → behind ≡ Err bad → Comes w r here (Err bad))
     → ((a : Result Verdict Bad) → Comes w r here a → Comes w (opening_readings w) whole a)

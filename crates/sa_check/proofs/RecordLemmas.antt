@@ -4,11 +4,16 @@ use Rattle.std.proofs.lemmas.List.{take_more, take_all, length-take}
 use Rattle.sa_legal.proofs.AppendLemmas.{records-append}
 use Rattle.std.specs.Prelude.{IsTrue}
 use Rattle.sa_base.specs.declared.record.Record.{Record}
+use Rattle.sa_base.specs.declared.record.Record.TheVariants.{Ins}
 use Rattle.sa_laws.specs.Event.{Event}
 use Rattle.sa_laws.specs.Step.{AreSteps, Needs}
 use Rattle.sa_laws.specs.Upcalls.{RecordLaw, EachRecord}
 use Rattle.sa_check_moment.specs.Seen.{Seen, behind_record}
 use Rattle.sa_check.specs.Records.{Each, behind_some}
+
+-- what is read past the last record
+abbrev pub no_record : Record
+no_record = Ins (record { 0 = 0 }) (record { 0 = 0 }) 0
 
 -- what was found of a law so far, and that it holds of the rest, is that it holds of all
 pub record Rest (L : RecordLaw) (now m : Seen) (e : Event) (rest : List Record) (found : Bool) : Type 0 where
@@ -33,7 +38,8 @@ rest-more L now next m e rest x xs before found is goes more old =
       );
     })
 
-pub rest-all : (L : RecordLaw) (now m : Seen) (e : Event) (rest : List Record) (found : Bool) → rest ≡ [] → Rest L now m e rest found → (IsTrue found ↔ Each L m e)
+pub rest-all : (L : RecordLaw) (now m : Seen) (e : Event) (rest : List Record) (found : Bool) → rest ≡ [] → Rest L now m e rest found
+    → (IsTrue found ↔ Each L m e)
 rest-all L now m e rest found none old =
     let old' : Rest L now m e [] found = subst (λ (ys : List Record). Rest L now m e ys found) none old in
     (λ yes. old'.same.0 (yes, tt), λ all. (old'.same.1 all).0)
@@ -52,7 +58,7 @@ no-step now m e rest x xs is stuck old all =
     let old' : StepsRest now m e (x ∷ xs) = subst (λ (ys : List Record). StepsRest now m e ys) is old in
     stuck (old'.same.1 all).0
 
--- behind one record more
+-- after one record more
 pub moment-more : (now next m : Seen) (e : Event) (i : ℕ) (d : Record) → now ≡ behind_some m e (take i e.records) → i < length e.records
     → next ≡ behind_record e.number e.proc (get_or e.records i d) now → next ≡ behind_some m e (take (i + 1) e.records)
 moment-more now next m e i d here within goes =
@@ -61,7 +67,7 @@ moment-more now next m e i d here within goes =
     ∙ ap (λ r. record m { readings = r }) (sym (records-append m.workload e.number e.proc m.readings (take i e.records) (x ∷ [])))
     ∙ ap (behind_some m e) (sym (take_more e.records i d within))
 
--- a place of the event, as the moment behind a part of it
+-- a place of the event, as the moment after a part of it
 pub at-place : (P : Seen → Type 0) (now m : Seen) (e : Event) (i due : ℕ) (part : List Record) → now ≡ behind_some m e (take i e.records)
     → due ≡ length part → take (length part) e.records ≡ part → i ≡ due → (P now ↔ P (behind_some m e part))
 at-place P now m e i due part here is front same =

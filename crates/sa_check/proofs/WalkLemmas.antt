@@ -45,7 +45,7 @@ same-itself n = grind (arith, nat_tests)
 not-more : (n k : ℕ) → (n + 1 == n + (k + 2)) ≡ false
 not-more n k = grind (arith, nat_tests)
 
--- the last line at an event behind the first ones
+-- the last line at an event after the first ones
 line-at : (done es : List Event) (e : Event) (line : LastLine) → line_at (done ++ e ∷ es) line (length done) ≡ line_before es line
 line-at done [] e line =
     ap (λ n. if length done + 1 == n then Some line else None) (length-append done (e ∷ []))
@@ -69,7 +69,8 @@ hold-one w done es e line held here k f below at = elim (cases_eq k (length done
       let at_read : HoldEach fast_threads w rules (before fast_threads w (done ++ e ∷ es) (length done)) e (line_before es line) =
       subst (λ (r : Readings). HoldEach fast_threads w rules r e (line_before es line)) (sym (read-behind w done (e ∷ es))) here in
       let at_line : HoldEach fast_threads w rules (before fast_threads w (done ++ e ∷ es) (length done)) e (line_at (done ++ e ∷ es) line (length done)) =
-      subst (λ (last : Option LastLine). HoldEach fast_threads w rules (before fast_threads w (done ++ e ∷ es) (length done)) e last) (sym (line-at done es e line)) at_read in
+      subst (λ (last : Option LastLine). HoldEach fast_threads w rules (before fast_threads w (done ++ e ∷ es) (length done)) e last)
+      (sym (line-at done es e line)) at_read in
       let at_place : HoldEach fast_threads w rules (before fast_threads w (done ++ e ∷ es) k) e (line_at (done ++ e ∷ es) line k) =
       subst (λ n. HoldEach fast_threads w rules (before fast_threads w (done ++ e ∷ es) n) e (line_at (done ++ e ∷ es) line n)) (sym same) at_line in
       subst (λ (g : Event). HoldEach fast_threads w rules (before fast_threads w (done ++ e ∷ es) k) g (line_at (done ++ e ∷ es) line k)) one at_place
@@ -95,7 +96,8 @@ walk w done (e ∷ es) line v held (inl goes) =
     (walk w (done ++ e ∷ []) es line v more' (subst (λ (r : Readings). IsVerdictFrom w r es line v) read goes.1))
 walk w done (e ∷ es) line v held (inr stops) =
     let breaks : Breaks fast_threads w (before fast_threads w (done ++ e ∷ es) (length done)) e (line_at (done ++ e ∷ es) line (length done)) stops.0 =
-    subst (λ (last : Option LastLine). Breaks fast_threads w (before fast_threads w (done ++ e ∷ es) (length done)) e last stops.0) (sym (line-at done es e line))
+    subst (λ (last : Option LastLine). Breaks fast_threads w (before fast_threads w (done ++ e ∷ es) (length done)) e last stops.0)
+    (sym (line-at done es e line))
     (subst (λ (r : Readings). Breaks fast_threads w r e (line_before es line) stops.0) (sym (read-behind w done (e ∷ es))) stops.1) in
     subst (λ (x : Verdict). IsVerdictOf w (done ++ e ∷ es) line x) (sym stops.2) (record {
       place = length done;
@@ -113,7 +115,8 @@ verdict-from w items line v some is = by (events_of items) v refl (walk w [] (ev
   by events Legal same holds = record { some = some; each = holds }
   by [] (Broken number rule) same holds = absurd (some same)
   by (e ∷ es) (Broken number rule) same holds =
-      let there : FirstBreakIn fast_threads w (e ∷ es) line number rule = subst (λ (list : List Event). BreaksAt fast_threads w list line number rule) same holds in
+      let there : FirstBreakIn fast_threads w (e ∷ es) line number rule =
+      subst (λ (list : List Event). BreaksAt fast_threads w list line number rule) same holds in
       subst (λ (list : List Event). FirstBreakIn fast_threads w list line number rule) (sym same) there
 
 -- one event more: it is right, and the rest decides; or it breaks a rule

@@ -22,14 +22,14 @@ abbrev pub line_said : Said → Option LastLine
 line_said (Next item) = None
 line_said (Last end events) = Some (record { end = end; events = events })
 
--- these are the records of the event that begins with this item: the item, and what was left to tell behind it, are the items of these records, and behind them
+-- these are the records of the event that begins with this item: the item, and what was left to tell after it, are the items of these records, and after them
 -- what the next line says and what is left then
 pub record HasGathered (first : Item) (before after : Result Told Bad) (records : List Record) (said : Said) : Type 0 where
   pub some : records ≢ []
   pub cut : in_front (first ∷ []) before ≡ in_front (items_at first.event first.proc records) (with_said said after)
   pub other : IsOther first said
 
--- .. or a line on the way is bad
+-- the records of an event are gathered, or a line on the way is bad
 abbrev pub Gathers : Item → Result Told Bad → Result Told Bad → List Record → Result Said Unread → Type 0
 Gathers first before after records (Ok said) = HasGathered first before after records said
 Gathers first before after records (Err (Unread.Bad bad)) = before ≡ Err bad

@@ -48,7 +48,7 @@ pub record IsSettled (w : WorkloadView) (n : ℕ) (r : Readings) : Type 0 where
   pub wants : (s : SpaceNo) → must_want r s ≡ false
   pub prompt : IsPrompt r
 
--- .. after the event before the next one, if there was one
+-- all is as it must be after the event before the next one, if there was one
 abbrev pub WasSettled : WorkloadView → Readings → Type 0
 WasSettled w r = (n : ℕ) → r.number ≡ n + 1 → IsSettled w n r
 

@@ -33,7 +33,7 @@ pub record IsFoundOf (m : Seen) (e : Event) (found : RecordsFound) : Type 0 wher
   pub gave_upcall : IsTrue found.gave_upcall ↔ Each (GivesUpcallThen e.proc) m e
   pub heard : IsTrue found.heard ↔ Each RaisesLine m e
 
--- the moment behind some records of the event
+-- the moment after some records of the event
 abbrev pub behind_some : Seen → Event → List Record → Seen
 behind_some m e records = record m { readings = after_records m.workload e.number e.proc m.readings records }
 

@@ -21,7 +21,7 @@ use Rattle.sa_check.specs.declared.begin.Beginning.{Beginning}
 use Rattle.sa_check.specs.declared.end.LastTold.{LastTold}
 use Rattle.sa_check.specs.declared.end.Ending.{Ending}
 
--- no line is asked for that is not, and no aim stands behind the first of the last lines
+-- no line is asked for that is not, and no aim comes after the first of the last lines
 pub record LinesAreInPlace (w : WorkloadView) (r : Readings) (p : ProcNo) (records : List Record) : Type 0 where
   pub first : FirstLineIsAsked NoLines w r p records
   pub order : aims_in (last_lines records) ≡ []
@@ -43,7 +43,7 @@ abbrev pub line_told : Option LastTold → Option LastLine
 line_told None = None
 line_told (Some told) = Some (told_line told)
 
--- the last line belongs to an event behind which no others stand
+-- the last line belongs to an event after which there are no others
 abbrev pub line_before : List Event → LastLine → Option LastLine
 line_before [] line = Some line
 line_before (e ∷ es) line = None

@@ -55,7 +55,7 @@ pub(crate) fn begin(moment: &mut Moment, event: &TraceEvent) -> Beginning
     }
 }
 
-// No line is asked for, and no aim stands behind the first of the last lines.
+// No line is asked for, and no aim comes after the first of the last lines.
 fn lines_are_in_place(records: &[Record]) -> bool
     ensures { (w : WorkloadView) (r : Readings) (p : ProcNo)
         → (IsTrue result ↔ LinesAreInPlace w r p records.now) }

@@ -39,7 +39,7 @@ impl RecordsFound {
         }
     }
 
-    // The same of one record more, on the moment before it; `rest` stands behind it.
+    // The same of one record more, on the moment before it; `rest` comes after it.
     fn and(self, moment: &Moment, p: ProcNo, what: &Record, rest: &[Record]) -> Self
         ensures { FoundMore (seen moment.now).readings p what.now rest.now self result }
     {
@@ -53,7 +53,7 @@ impl RecordsFound {
     }
 }
 
-/// The moment behind the records of an event, and what was found on the way.
+/// The moment after the records of an event, and what was found on the way.
 #[derive(Debug, Drop)]
 pub(crate) struct ReadThrough {
     pub(crate) moment: Moment,

@@ -7,7 +7,7 @@ use Rattle.std.proofs.lemmas.List.{append-nil}
 use Rattle.sa_base.specs.declared.number.SpaceNo.{SpaceNo}
 use Rattle.sa_assign.specs.Aims.{space_no}
 
--- the spaces from this one on, of so many
+-- of n spaces, those from space s on
 abbrev pub from : ℕ → ℕ → List SpaceNo
 from s n = map space_no (range_with_len s (n - s))
 
@@ -38,10 +38,11 @@ module _ {Y : Type 0} where
   -- one space more gave what it gave
   pub one-more : (f : SpaceNo → Option Y) (s n : ℕ) (before : List Y) (o : Option Y) → s < n → o ≡ f (space_no s)
       → (before ++ option_to_list o) ++ filter_map f (from (s + 1) n) ≡ before ++ filter_map f (from s n)
-  one-more f s n before o within is = joined o ∙ ap (λ x. before ++ cons_option x (filter_map f (from (s + 1) n))) is ∙ sym (ap (λ xs. before ++ filter_map f xs) (from-more s n within)) where
-    joined : (x : Option Y) → (before ++ option_to_list x) ++ filter_map f (from (s + 1) n) ≡ before ++ cons_option x (filter_map f (from (s + 1) n))
-    joined None = ap (λ xs. xs ++ filter_map f (from (s + 1) n)) (append-nil before)
-    joined (Some y) = append_assoc before (y ∷ []) (filter_map f (from (s + 1) n))
+  one-more f s n before o within is =
+      joined o ∙ ap (λ x. before ++ cons_option x (filter_map f (from (s + 1) n))) is ∙ sym (ap (λ xs. before ++ filter_map f xs) (from-more s n within)) where
+        joined : (x : Option Y) → (before ++ option_to_list x) ++ filter_map f (from (s + 1) n) ≡ before ++ cons_option x (filter_map f (from (s + 1) n))
+        joined None = ap (λ xs. xs ++ filter_map f (from (s + 1) n)) (append-nil before)
+        joined (Some y) = append_assoc before (y ∷ []) (filter_map f (from (s + 1) n))
 
   pub one-mapped : (g : SpaceNo → Y) (s n : ℕ) (before : List Y) (y : Y) → s < n → y ≡ g (space_no s)
       → (before ++ y ∷ []) ++ map g (from (s + 1) n) ≡ before ++ map g (from s n)
@@ -55,4 +56,5 @@ module _ {Y : Type 0} where
   all-mapped g s n before past = let none : n - s ≡ 0 = omega arith in ap (λ k. before ++ map g (map space_no (range_with_len s k))) none ∙ append-nil before
 
   pub all-given : (f : SpaceNo → Option Y) (s n : ℕ) (before : List Y) → n ≤ s → before ++ filter_map f (from s n) ≡ before
-  all-given f s n before past = let none : n - s ≡ 0 = omega arith in ap (λ k. before ++ filter_map f (map space_no (range_with_len s k))) none ∙ append-nil before
+  all-given f s n before past =
+      let none : n - s ≡ 0 = omega arith in ap (λ k. before ++ filter_map f (map space_no (range_with_len s k))) none ∙ append-nil before

@@ -1,3 +1,2 @@
 pub mod ChangeLemmas
-pub mod ClosingLemmas
 pub mod EachLemmas

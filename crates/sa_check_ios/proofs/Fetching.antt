@@ -18,13 +18,15 @@ list_any-kept : (p q : Io → Bool) (xs : List Io) → ((x : Io) → q x ≡ fal
 list_any-kept p q [] out = refl
 list_any-kept p q (x ∷ xs) out = elim (cases_Bool (q x)) [
   | inl so ↦ ap (list_any p) (cond-true (q x) (x ∷ filter q xs) (filter q xs) so) ∙ ap (λ b. p x || b) (list_any-kept p q xs out)
-  | inr other ↦ ap (list_any p) (cond-false (q x) (x ∷ filter q xs) (filter q xs) other) ∙ list_any-kept p q xs out ∙ sym (ap (λ b. b || list_any p xs) (out x other))
+  | inr other ↦
+      ap (list_any p) (cond-false (q x) (x ∷ filter q xs) (filter q xs) other) ∙ list_any-kept p q xs out ∙ sym (ap (λ b. b || list_any p xs) (out x other))
 ]
 
 list_any-gone : (p q : Io → Bool) (xs : List Io) → ((x : Io) → q x ≡ true → p x ≡ false) → list_any p (filter q xs) ≡ false
 list_any-gone p q [] out = refl
 list_any-gone p q (x ∷ xs) out = elim (cases_Bool (q x)) [
-  | inl so ↦ ap (list_any p) (cond-true (q x) (x ∷ filter q xs) (filter q xs) so) ∙ ap (λ b. b || list_any p (filter q xs)) (out x so) ∙ list_any-gone p q xs out
+  | inl so ↦
+      ap (list_any p) (cond-true (q x) (x ∷ filter q xs) (filter q xs) so) ∙ ap (λ b. b || list_any p (filter q xs)) (out x so) ∙ list_any-gone p q xs out
   | inr other ↦ ap (list_any p) (cond-false (q x) (x ∷ filter q xs) (filter q xs) other) ∙ list_any-gone p q xs out
 ]
 
@@ -67,7 +69,8 @@ fetches-other s t ios apart = list_any-kept (fetches t) (fetches_other s) ios (�
 pub AreFetching-life : (fetching : List Bool) (ios : List Io) (a : ActNo) → AreFetching fetching ios → AreFetching fetching (filter (is_io_of_other a) ios)
 AreFetching-life fetching ios a are = record { each = λ s within. are.each s within ∙ sym (fetches-life s a ios) }
 
-pub AreFetching-over : (fetching : List Bool) (ios : List Io) (s : SpaceNo) → AreFetching fetching ios → AreFetching (slice_set fetching s.0 false) (filter (fetches_other s) ios)
+pub AreFetching-over : (fetching : List Bool) (ios : List Io) (s : SpaceNo) → AreFetching fetching ios
+    → AreFetching (slice_set fetching s.0 false) (filter (fetches_other s) ios)
 AreFetching-over fetching ios s are = record {
   each = λ t within.
       let size = length-set fetching s.0 false in
@@ -80,13 +83,15 @@ AreFetching-over fetching ios s are = record {
 }
 
 -- an I/O that is no fetch, and one that is
-pub AreFetching-begin : (fetching : List Bool) (ios : List Io) (io : Io) → ((s : ℕ) → fetches s io ≡ false) → AreFetching fetching ios → AreFetching fetching (ios ++ io ∷ [])
+pub AreFetching-begin : (fetching : List Bool) (ios : List Io) (io : Io) → ((s : ℕ) → fetches s io ≡ false) → AreFetching fetching ios
+    → AreFetching fetching (ios ++ io ∷ [])
 AreFetching-begin fetching ios io none are = record {
   each = λ s within.
       are.each s within ∙ sym (fetches-push s ios io ∙ ap (λ b. list_any (fetches s) ios || b) (none s) ∙ or-false (list_any (fetches s) ios));
 }
 
-pub AreFetching-fetch : (fetching : List Bool) (ios : List Io) (io : Io) (s : SpaceNo) → io.kind ≡ Upcall s → AreFetching fetching ios → AreFetching (slice_set fetching s.0 true) (ios ++ io ∷ [])
+pub AreFetching-fetch : (fetching : List Bool) (ios : List Io) (io : Io) (s : SpaceNo) → io.kind ≡ Upcall s → AreFetching fetching ios
+    → AreFetching (slice_set fetching s.0 true) (ios ++ io ∷ [])
 AreFetching-fetch fetching ios io s is are = record {
   each = λ t within.
       let size = length-set fetching s.0 true in
@@ -97,6 +102,7 @@ AreFetching-fetch fetching ios io s is are = record {
             ∙ sym (fetches-push t ios io ∙ ap (λ b. list_any (fetches t) ios || b) (one ∙ eq-eqb s.0 t (sym same)) ∙ or-true (list_any (fetches t) ios))
         | inr apart ↦
             get_or-set_other fetching s.0 t true false apart ∙ are.each t (omega arith)
-            ∙ sym (fetches-push t ios io ∙ ap (λ b. list_any (fetches t) ios || b) (one ∙ ne_eqb s.0 t (λ e. apart (sym e))) ∙ or-false (list_any (fetches t) ios))
+            ∙ sym (fetches-push t ios io ∙ ap (λ b. list_any (fetches t) ios || b) (one ∙ ne_eqb s.0 t (λ e. apart (sym e)))
+            ∙ or-false (list_any (fetches t) ios))
       ];
 }

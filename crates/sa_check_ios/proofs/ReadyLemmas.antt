@@ -21,14 +21,17 @@ newest-push xs x =
     let last : length (xs ++ x ∷ []) - 1 ≡ length xs = omega arith in
     ap (slice_get (xs ++ x ∷ [])) last ∙ slice_get-append_seam xs [] x
 
--- one more thread, which stands in the list or in another
-pub newest-here : (p : Listed → Bool) (xs : List Listed) (i : ℕ) (x : Listed) → i < length xs → slice_index_or xs i x ≡ x → p x ≡ true → newest (filter p (take (i + 1) xs)) ≡ Some x
+-- one more thread, which is in the list or in another
+pub newest-here : (p : Listed → Bool) (xs : List Listed) (i : ℕ) (x : Listed) → i < length xs → slice_index_or xs i x ≡ x → p x ≡ true
+    → newest (filter p (take (i + 1) xs)) ≡ Some x
 newest-here p xs i x within is so =
     ap (λ ys. newest (filter p ys)) (take_more xs i x within ∙ ap (λ y. take i xs ++ y ∷ []) is)
     ∙ ap newest (filter-append p (take i xs) (x ∷ []) ∙ ap (λ ys. filter p (take i xs) ++ ys) (cond-true (p x) (x ∷ []) [] so))
     ∙ newest-push (filter p (take i xs)) x
 
-pub newest-other : (p : Listed → Bool) (xs : List Listed) (i : ℕ) (x : Listed) → i < length xs → slice_index_or xs i x ≡ x → p x ≡ false → newest (filter p (take (i + 1) xs)) ≡ newest (filter p (take i xs))
+pub newest-other : (p : Listed → Bool) (xs : List Listed) (i : ℕ) (x : Listed) → i < length xs → slice_index_or xs i x ≡ x → p x ≡ false
+    → newest (filter p (take (i + 1) xs)) ≡ newest (filter p (take i xs))
 newest-other p xs i x within is other =
     ap (λ ys. newest (filter p ys)) (take_more xs i x within ∙ ap (λ y. take i xs ++ y ∷ []) is)
-    ∙ ap newest (filter-append p (take i xs) (x ∷ []) ∙ ap (λ ys. filter p (take i xs) ++ ys) (cond-false (p x) (x ∷ []) [] other) ∙ append-nil (filter p (take i xs)))
+    ∙ ap newest (filter-append p (take i xs) (x ∷ []) ∙ ap (λ ys. filter p (take i xs) ++ ys) (cond-false (p x) (x ∷ []) [] other)
+    ∙ append-nil (filter p (take i xs)))

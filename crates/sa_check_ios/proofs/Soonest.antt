@@ -43,7 +43,8 @@ abbrev pub due_from : ℕ → Option Io → Option Io
 due_from event None = None
 due_from event (Some io) = cond (leb io.ends event) (Some io) None
 
-due-cons : (event : ℕ) (x y : Io) → cond (leb x.ends event) (Some (sooner_of x (due_from event (Some y)))) (due_from event (Some y)) ≡ due_from event (Some (sooner_of x (Some y)))
+due-cons : (event : ℕ) (x y : Io) → cond (leb x.ends event) (Some (sooner_of x (due_from event (Some y)))) (due_from event (Some y))
+    ≡ due_from event (Some (sooner_of x (Some y)))
 due-cons event x y = go (leb x.ends event) (leb y.ends event) (is_sooner y x) refl refl refl where
   go : (b c s : Bool) → leb x.ends event ≡ b → leb y.ends event ≡ c → is_sooner y x ≡ s
       → cond b (Some (sooner_of x (cond c (Some y) None))) (cond c (Some y) None) ≡ cond (leb (cond s y x).ends event) (Some (cond s y x)) None
@@ -67,11 +68,13 @@ due_of-soonest event (x ∷ xs) = ap (λ m. cond (leb x.ends event) (Some (soone
 abbrev pub HavePages : List Io → Type 0
 HavePages ios = All (λ (io : Io). HasPage io.kind) ios
 
-pub soonest-push : (ios : List Io) (io : Io) (first : Option Io) (soonest : Io) → first ≡ soonest_of ios → Some soonest ≡ nearer first (Some io) → Some soonest ≡ soonest_of (ios ++ io ∷ [])
+pub soonest-push : (ios : List Io) (io : Io) (first : Option Io) (soonest : Io) → first ≡ soonest_of ios → Some soonest ≡ nearer first (Some io)
+    → Some soonest ≡ soonest_of (ios ++ io ∷ [])
 soonest-push ios io first soonest is so = so ∙ ap (λ m. nearer m (Some io)) is ∙ sym (soonest_of-push ios io)
 
 -- one more of those that the loop passes
-pub soonest-more : (ios : List Io) (i : ℕ) (io : Io) (first : Option Io) (soonest : Io) → i < length ios → io ≡ slice_index_or ios i io → Some soonest ≡ nearer first (Some io)
+pub soonest-more : (ios : List Io) (i : ℕ) (io : Io) (first : Option Io) (soonest : Io) → i < length ios → io ≡ slice_index_or ios i io
+    → Some soonest ≡ nearer first (Some io)
     → nearer first (soonest_of (drop i ios)) ≡ soonest_of ios → nearer (Some soonest) (soonest_of (drop (i + 1) ios)) ≡ soonest_of ios
 soonest-more ios i io first soonest within is so known =
     ap (λ m. nearer m (soonest_of (drop (i + 1) ios))) so
@@ -84,6 +87,10 @@ soonest-more ios i io first soonest within is so known =
 pub page-find : (p : Io → Bool) (ios : List Io) → HavePages ios → IfSome (option_map (λ (io : Io). io.kind) (find p ios)) HasPage
 page-find p [] have = tt
 page-find p (x ∷ xs) have = elim (cases_Bool (p x)) [
-  | inl so ↦ subst (λ (o : Option Io). IfSome (option_map (λ (io : Io). io.kind) o) HasPage) (sym (cond-true (p x) (Some x) (find p xs) so)) (All-head (λ (io : Io). HasPage io.kind) x xs have)
-  | inr other ↦ subst (λ (o : Option Io). IfSome (option_map (λ (io : Io). io.kind) o) HasPage) (sym (cond-false (p x) (Some x) (find p xs) other)) (page-find p xs (All-tail (λ (io : Io). HasPage io.kind) x xs have))
+  | inl so ↦
+      subst (λ (o : Option Io). IfSome (option_map (λ (io : Io). io.kind) o) HasPage) (sym (cond-true (p x) (Some x) (find p xs) so))
+      (All-head (λ (io : Io). HasPage io.kind) x xs have)
+  | inr other ↦
+      subst (λ (o : Option Io). IfSome (option_map (λ (io : Io). io.kind) o) HasPage) (sym (cond-false (p x) (Some x) (find p xs) other))
+      (page-find p xs (All-tail (λ (io : Io). HasPage io.kind) x xs have))
 ]

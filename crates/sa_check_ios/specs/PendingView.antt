@@ -28,7 +28,7 @@ pending_of r = record { begun = r.begun; under_way = r.under_way; pages = r.page
 abbrev pub opened : WorkloadView → PendingView
 opened w = record { begun = 0; under_way = []; pages = map opening_pages w.spaces }
 
--- an I/O begins, and is due so many events behind this one
+-- an I/O begins, and is due `length` events after this one
 abbrev pub begun_with : IoKind → ℕ → ℕ → PendingView → PendingView
 begun_with kind event length v = record v {
   begun = v.begun + 1;

@@ -51,7 +51,7 @@ impl Pending {
         })
     }
 
-    /// Begins an I/O at the event that is due `length` events behind it. An error changes nothing; it comes where memory
+    /// Begins an I/O at the event that is due `length` events after it. An error changes nothing; it comes where memory
     /// runs out, and where 2^64 - 1 were begun.
     pub fn begin(&mut self, kind: IoKind, event: u64, length: u32) -> Result<(), AllocError>
         requires { HasPage kind }

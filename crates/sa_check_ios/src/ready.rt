@@ -62,7 +62,7 @@ impl Model for ReadyLists {
 }
 
 impl ReadyLists {
-    /// Before any record: thread 0 of each of so many spaces is ready in list 0. Fails only where memory runs out.
+    /// Before any record: thread 0 of each of this many spaces is ready in list 0. Fails only where memory runs out.
     pub fn new(alloc: Global, spaces: usize) -> Result<ReadyLists, AllocError>
         ensures { IfOk result (λ x. x ≡ first_ready spaces) }
     {
@@ -84,7 +84,7 @@ impl ReadyLists {
         self.rows[usize::from(s.0)].push(ListedThread { thread: t, list })
     }
 
-    /// The thread is run: it stands in no list of the space any more.
+    /// The thread is run: it is in no list of the space any more.
     pub fn run(&mut self, s: SpaceNo, t: ThreadNo)
         ensures { self.new ≡ without_ready self.old s t }
     {
@@ -103,7 +103,7 @@ impl ReadyLists {
         }
     }
 
-    /// A ready thread of the space stands in the list.
+    /// A ready thread of the space is in the list.
     pub fn has_ready(&self, s: SpaceNo, l: ProcNo) -> bool
         ensures { result ≡ list_any (is_in l) (listed_at self.now s) }
     {
@@ -158,14 +158,14 @@ impl Row {
     }
 }
 
-// The thread stands in the list.
+// The thread is in the list.
 fn is_in(x: ListedThread, l: ProcNo) -> bool
     ensures { result ≡ is_in l x }
 {
     x.list.0 == l.0
 }
 
-// Of these the first that stands in the list.
+// The first of the threads that is in the list.
 fn first_in(listed: &[ListedThread], l: ProcNo) -> Option<ListedThread>
     ensures { result ≡ find (is_in l) listed.now }
 {
@@ -177,7 +177,7 @@ fn first_in(listed: &[ListedThread], l: ProcNo) -> Option<ListedThread>
     None
 }
 
-// .. and the last.
+// The last of the threads that is in the list.
 fn last_in(listed: &[ListedThread], l: ProcNo) -> Option<ListedThread>
     ensures { result ≡ newest (filter (is_in l) listed.now) }
 {

@@ -61,7 +61,7 @@ impl UnderWay {
         }
     }
 
-    // Begins one behind the others. An error changes nothing.
+    // Begins one after the others. An error changes nothing.
     pub(crate) fn begin(&mut self, io: BegunIo) -> Result<(), AllocError>
         requires { HasPage io.kind }
         ensures ok { OnOk result (self.new ≡ self.old ++ io ∷ []) }

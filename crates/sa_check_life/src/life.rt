@@ -295,7 +295,7 @@ fn use_first(locks: &mut Vec<ListLock>, t: Option<ThreadNo>)
     locks[0] = lock;
 }
 
-// Puts the locks behind the others, each as one that was inherited.
+// Puts the locks after the others, each as one that was inherited.
 fn add_inherited(locks: &mut Vec<ListLock>, from: &[ListLock])
     requires { vec_len locks.old + length from.now ≤ vec_capacity locks.old }
     ensures { locks.new.items ≡ locks.old.items ++ map inherited from.now }

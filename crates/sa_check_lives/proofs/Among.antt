@@ -17,7 +17,8 @@ use Rattle.sa_check_life.specs.Change.{changed_by, adds_lock, enters, leaves}
 use Rattle.sa_check_lives.specs.Table.{AreAmong, KeepsAll, KeepsOthers, KeepsUpped, KeepsUnless, IsThere, IsAddedTo, is_inside}
 
 -- where the numbers grow
-pub among-more : (test : Life → Bool) (lives : ℕ → Option Life) (numbers more : List ℕ) → AreAmong test lives numbers → KeepsAll numbers more → AreAmong test lives more
+pub among-more : (test : Life → Bool) (lives : ℕ → Option Life) (numbers more : List ℕ) → AreAmong test lives numbers → KeepsAll numbers more
+    → AreAmong test lives more
 among-more test lives numbers more old keeps = record { each = λ a life is passes. keeps.each a (old.each a life is passes) }
 
 -- where one life changes, begins or ends
@@ -170,7 +171,8 @@ insiders-handed upped a from lives i0 i1 old others =
 pub among-begun : (test : Life → Bool) (lives : ℕ → Option Life) (numbers more : List ℕ) (a : ℕ) (life : Life)
     → AreAmong test lives numbers → KeepsOthers a numbers more → test life ≡ false → AreAmong test (put lives a (Some life)) more
 among-begun test lives numbers more a life old others fails =
-    among-put test lives numbers more a (Some life) old others (λ other is passes. let same = same_Some life other is in let bad : false ≡ true = sym fails ∙ ap test same ∙ passes in cc)
+    among-put test lives numbers more a (Some life) old others
+    (λ other is passes. let same = same_Some life other is in let bad : false ≡ true = sym fails ∙ ap test same ∙ passes in cc)
 
 pub among-ended : (test : Life → Bool) (lives : ℕ → Option Life) (numbers more : List ℕ) (a : ℕ)
     → AreAmong test lives numbers → KeepsOthers a numbers more → AreAmong test (put lives a None) more

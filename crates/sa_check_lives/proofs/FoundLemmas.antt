@@ -33,7 +33,7 @@ found test lives numbers none passes =
     let some = Any-from_list_any (λ a. test a (lives a)) numbers passes in
     found-at test lives none some.1 (lives some.1) refl some.4
 
--- .. is found, where it is among the numbers
+-- a life that passes is found, where its number is among the numbers
 finds : (p : Life → Bool) (test : ℕ → Option Life → Bool) (lives : ℕ → Option Life) (numbers : List ℕ) → AreAmong p lives numbers
     → (n : ℕ) (life : Life) → lives n ≡ Some life → p life ≡ true → test n (Some life) ≡ true → some_passes test lives numbers ≡ true
 finds p test lives numbers among n life is holds passes =

@@ -1,4 +1,4 @@
--- Numbers that stand beside a table.
+-- The lists of numbers that are kept beside a table.
 use Rattle.std.proofs.Common.{◌≡◌, ◌≢◌, ℕ, sym, ◌∙◌, ap, arith, not, ◌==◌, true, Bool, List}
 use Rattle.std.specs.Prelude.{Contains, filter}
 use Rattle.std.specs.Cmp.{nat_eq_equiv}
@@ -12,6 +12,6 @@ numbers-filter p xs n is c =
     (any-filter_same (λ k. n == k) p true (λ k t. ap p (sym (exact_unsigned_eq n k t)) ∙ is) xs
     ∙ list_any-from_Contains nat_eq_equiv n xs c)
 
--- .. as each other number does
+-- where one number is removed, each other number stays
 pub numbers-removed : (n k : ℕ) (xs : List ℕ) → k ≢ n → Contains xs k → Contains (filter (λ m. not (m == n)) xs) k
 numbers-removed n k xs apart there = numbers-filter (λ m. not (m == n)) xs k (grind (arith, nat_tests)) there

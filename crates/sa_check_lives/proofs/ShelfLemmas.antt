@@ -55,7 +55,7 @@ module _ (shelves now : List (List (ℕ × Life))) (view : shelves ≡ now) (i :
       ])
       ∙ ap (λ xs. put (lives_in xs) a (w (lives_in xs a))) view
 
-  -- .. or keeps its lives
+  -- where the shelf keeps its lives, all lives are kept
   pub shelf-kept : lives_among after ≡ lives_among before → lives_in (slice_set shelves i after) ≡ lives_in now
   shelf-kept is = fun_ext (λ q. elim (cases_eq (shelf_of q) i) [
     | inl on ↦ here-after q on ∙ ap (λ f. f q) is ∙ sym (here-before q on)

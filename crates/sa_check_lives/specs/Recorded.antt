@@ -59,7 +59,8 @@ RecordsAreRead = (w : WorkloadView) (e : ℕ) (p : ProcNo) (r : Readings) (x : R
     → IsForPush r p for_push → read_of (after_record w e p r x) ≡ recorded (roused_by w r x) for_push p x (read_of r)
 
 -- what was said of a step is what the readings say of it, at the life of this number
-pub record IsSaid (test : Test) (w : WorkloadView) (before : Readings) (e : Event) (after : Readings) (first : Record) (a : Option ActNo) (lives : ℕ → Option Life) (x : Stepped) : Type 0 where
+pub record IsSaid (test : Test) (w : WorkloadView) (before : Readings) (e : Event) (after : Readings) (first : Record) (a : Option ActNo)
+    (lives : ℕ → Option Life) (x : Stepped) : Type 0 where
   pub freed : x.freed ≡ is_free first
   pub scan : (scans : ℕ) → scans_by x.scan scans ≡ scans_after before first scans
   pub inside : (act : ActNo) (life : Life) → a ≡ Some act → lives act.0 ≡ Some life

@@ -1,4 +1,4 @@
--- The lives of a table, and the numbers that stand beside it.
+-- The lives of a table, and the lists of numbers that are kept beside it.
 use Rattle.std.specs.Prelude.{◌≡◌, ◌≢◌, ℕ, ◌%◌, ◌==◌, Bool, true, false, not, ◌&&◌, List, Contains, [], Option, Some, None, slice_index_or}
 use Rattle.std.specs.List.{list_any}
 use Rattle.std.specs.Ordering.{nat_cmp}

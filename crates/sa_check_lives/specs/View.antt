@@ -15,7 +15,7 @@ use Rattle.sa_check_life.specs.declared.change.Change.{Change}
 use Rattle.sa_check_life.specs.Change.{changed_by}
 use Rattle.sa_check_lives.specs.Table.{lives_in}
 
--- what a contract sees of the lives: ..
+-- what a contract sees of the lives
 pub record LivesView : Type 0 where
   pub lives : ℕ → Option Life
   -- of each processor: its running life
@@ -26,7 +26,7 @@ pub record LivesView : Type 0 where
   -- the life of the last up
   pub upped : Option ActNo
 
--- .. a reading of the table in which they lie; and these are parts of the readings of a history
+-- the lives as they are stored, in a table; what a contract sees is a reading of it, and is part of the readings of a history
 pub record Stored : Type 0 where
   pub table : List (List (ℕ × Life))
   pub running : List (Option ActNo)

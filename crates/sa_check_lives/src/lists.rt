@@ -44,7 +44,7 @@ pub(crate) fn row_at<T: Copy>(rows: &[Row<T>], s: SpaceNo) -> &[T]
     }
 }
 
-// Puts an item behind the others of the space. An error changes nothing.
+// Puts an item after the others of the space. An error changes nothing.
 pub(crate) fn add<T: Copy>(rows: &mut Vec<Row<T>>, s: SpaceNo, item: T) -> Result<(), AllocError>
     ensures ok { OnOk result (rows.new.items ≡ with_item rows.old.items s item) }
     ensures err { OnErr result (rows.new.items ≡ rows.old.items) }

@@ -46,7 +46,7 @@ impl Model for Lives {
 }
 
 impl Lives {
-    /// Before any record, of so many processors and spaces.
+    /// Before any record, of this many processors and spaces.
     pub fn new(alloc: Global, processors: u16, spaces: u16) -> Result<Self, AllocError>
         ensures { IfOk result (λ lives. lives_of lives ≡ no_lives processors spaces) }
     {

@@ -17,7 +17,7 @@ use sa_check_life::{Change, KeptLife, ListLock};
 use std::alloc::{AllocError, Global};
 use std::marker::Model;
 
-// The lives by their numbers. Beside them stand the numbers of those that have a lock, and of those that are in: each
+// The lives by their numbers. Beside them are the numbers of those that have a lock, and of those that are in: each
 // such life is among them, and few others.
 #[derive(Debug, Drop)]
 pub(crate) struct Table {

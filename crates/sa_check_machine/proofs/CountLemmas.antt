@@ -12,7 +12,8 @@ one_none : (b : Bool) → eqb (cond (not b) 1 0) 0 ≡ b
 one_none true = refl
 one_none false = refl
 
-count_none : (test : Place → Bool) (threads : List Thread) → eqb (count_in (λ place. not (test place)) threads) 0 ≡ list_all (λ (x : Thread). test x.place) threads
+count_none : (test : Place → Bool) (threads : List Thread)
+    → eqb (count_in (λ place. not (test place)) threads) 0 ≡ list_all (λ (x : Thread). test x.place) threads
 count_none test threads =
     sum_by-zero (λ (x : Thread). cond (not (test x.place)) 1 0) threads
     ∙ ap (λ (passes : Thread → Bool). list_all passes threads) (fun_ext (λ (x : Thread). one_none (test x.place)))

@@ -1,15 +1,16 @@
 -- The index of who runs stays right, and tells what a search through all threads finds.
-use Rattle.std.proofs.Common.{◌≡◌, ◌≢◌, ℕ, zero, suc, ◌+◌, ◌<◌, true, false, cond, List, [], ◌∷◌, length, get_or, set, Option, Some, None, ◌⊎◌, inl, inr, refl, sym, ap, subst, ◌∙◌, zero-add, arith}
-use Rattle.std.proofs.lemmas.Bool.{cases_eq, cases_lt, eq-eqb, eqb-true}
+use Rattle.std.proofs.Common.{◌≡◌, ◌≢◌, ℕ, ◌<◌, List, length, get_or, set, Option, Some, None, ◌⊎◌, inl, inr, refl, sym, ap, subst, ◌∙◌, zero-add}
+use Rattle.std.proofs.lemmas.Bool.{cases_eq, cases_lt}
 use Rattle.std.proofs.lemmas.Option.{same_Some}
 use Rattle.std.proofs.lemmas.List.{get_or-set_same, get_or-set_other, get_or_past}
 use Rattle.sa_base.specs.declared.number.ProcNo.{ProcNo}
 use Rattle.sa_base.specs.declared.number.SpaceNo.{SpaceNo}
 use Rattle.sa_base.specs.declared.number.ThreadNo.{ThreadNo}
 use Rattle.sa_laws.specs.declared.place.Place.{Place}
-use Rattle.sa_laws.specs.declared.place.Place.TheVariants.{Running, Ready, Blocked, Waiting, Carried, Done}
-use Rattle.sa_laws.specs.State.{Thread, SpaceState, Runner, at_start, is_running_on, runner_in, runner_from, first_runner}
-use Rattle.sa_check_machine.specs.Spaces.{no_threads, place_in}
+use Rattle.sa_laws.specs.declared.place.Place.TheVariants.{Running}
+use Rattle.sa_laws.specs.State.{SpaceState, Runner, runner_from, no_threads}
+use Rattle.sa_laws.proofs.Searches.{place_of, found-from, passed-from}
+use Rattle.sa_check_machine.specs.Spaces.{place_in}
 use Rattle.sa_check_machine.specs.Index.{Places, IsIndex, runner_at}
 
 abbrev pub runner : SpaceNo → ThreadNo → Runner
@@ -54,7 +55,8 @@ runner_same s r t u o is other =
 
 same_runner : (s r : SpaceNo) (t u : ThreadNo) → (r.0 ≡ s.0) × (u.0 ≡ t.0) → Some (runner s t) ≡ Some (runner r u)
 same_runner s r t u same =
-    let Of : ℕ → ℕ → Option Runner = λ n m. Some (runner (record { 0 = n }) (record { 0 = m })) in ap (λ n. Of n t.0) (sym same.0) ∙ ap (λ m. Of r.0 m) (sym same.1)
+    let Of : ℕ → ℕ → Option Runner = λ n m. Some (runner (record { 0 = n }) (record { 0 = m })) in
+    ap (λ n. Of n t.0) (sym same.0) ∙ ap (λ m. Of r.0 m) (sym same.1)
 
 -- a processor with a runner is one of the list
 pub runs_within : (runners : List (Option Runner)) (p : ProcNo) (x : Runner) → runner_at runners p ≡ Some x → p.0 < length runners
@@ -65,7 +67,8 @@ runs_within runners p x is = elim (cases_lt p.0 (length runners)) [
 
 module _ (s : SpaceNo) (t : ThreadNo) (old new : Places) (runners : List (Option Runner)) (others : OthersRun s t old new) (index : IsIndex old runners) where
   -- nothing changes in where the thread runs
-  pub index-stays : ((p : ProcNo) → new s t ≡ Running p → old s t ≡ Running p) → ((p : ProcNo) → old s t ≡ Running p → new s t ≡ Running p) → IsIndex new runners
+  pub index-stays : ((p : ProcNo) → new s t ≡ Running p → old s t ≡ Running p) → ((p : ProcNo) → old s t ≡ Running p → new s t ≡ Running p)
+      → IsIndex new runners
   index-stays back forth = record {
     listed = λ p r u runs. index.listed p r u (elim (same_or_other s r t u) [
       | inl same ↦ at_same old s r t u p same (back p (of_same new s r t u p same runs))
@@ -100,12 +103,14 @@ module _ (s : SpaceNo) (t : ThreadNo) (old new : Places) (runners : List (Option
       }
 
   -- the thread, which ran nowhere, runs on a processor where none ran
-  pub index-enters : (p : ProcNo) → p.0 < length runners → runner_at runners p ≡ None → ((q : ProcNo) → old s t ≡ Running q → ⊥) → new s t ≡ Running p → IsIndex new (set runners p.0 (Some (runner s t)))
+  pub index-enters : (p : ProcNo) → p.0 < length runners → runner_at runners p ≡ None → ((q : ProcNo) → old s t ≡ Running q → ⊥) → new s t ≡ Running p
+      → IsIndex new (set runners p.0 (Some (runner s t)))
   index-enters p within free rests runs = record {
     listed = λ q r u is. elim (same_or_other s r t u) [
       | inl same ↦
           let e : q.0 ≡ p.0 = one_proc (new s t) q p (of_same new s r t u q same is) runs in
-          ap (λ n. get_or (set runners p.0 (Some (runner s t))) n None) e ∙ get_or-set_same runners p.0 (Some (runner s t)) None within ∙ same_runner s r t u same
+          ap (λ n. get_or (set runners p.0 (Some (runner s t))) n None) e ∙ get_or-set_same runners p.0 (Some (runner s t)) None within
+          ∙ same_runner s r t u same
       | inr other ↦
           let listed = index.listed q r u (others.before r u q other is) in
           let apart : q.0 ≢ p.0 = λ e. let both : None ≡ Some (runner r u) = sym free ∙ ap (λ n. get_or runners n None) (sym e) ∙ listed in cc in
@@ -113,7 +118,8 @@ module _ (s : SpaceNo) (t : ThreadNo) (old new : Places) (runners : List (Option
     ];
     there = λ q r u is. elim (cases_eq q.0 p.0) [
       | inl e ↦
-          let here : runner_at (set runners p.0 (Some (runner s t))) q ≡ Some (runner s t) = ap (λ n. get_or (set runners p.0 (Some (runner s t))) n None) e ∙ get_or-set_same runners p.0 (Some (runner s t)) None within in
+          let here : runner_at (set runners p.0 (Some (runner s t))) q ≡ Some (runner s t) =
+          ap (λ n. get_or (set runners p.0 (Some (runner s t))) n None) e ∙ get_or-set_same runners p.0 (Some (runner s t)) None within in
           let same = runner_same s r t u (runner_at (set runners p.0 (Some (runner s t))) q) here is in
           at_same new s r t u q same (runs ∙ ap (λ n. Running (record { 0 = n })) (sym e))
       | inr apart ↦
@@ -122,79 +128,17 @@ module _ (s : SpaceNo) (t : ThreadNo) (old new : Places) (runners : List (Option
     ];
   }
 
--- the test of a search through the threads
-runs_there : (p : ProcNo) (place : Place) → is_running_on p place ≡ true → place ≡ Running p
-runs_there p (Running q) is = ap (λ n. Running (record { 0 = n })) (eqb-true q.0 p.0 is)
-runs_there p Ready is = cc
-runs_there p Blocked is = cc
-runs_there p Waiting is = cc
-runs_there p Carried is = cc
-runs_there p Done is = cc
-
-runs_not : (p : ProcNo) (place : Place) → is_running_on p place ≡ false → place ≡ Running p → ⊥
-runs_not p place fails is = let both : true ≡ false = sym (ap (is_running_on p) is ∙ eq-eqb p.0 p.0 refl) ∙ fails in cc
-
-abbrev place_of : List Thread → ℕ → Place
-place_of threads i = (get_or threads i (at_start 0 Done)).place
-
-passed : (p : ProcNo) (thread : Thread) (threads : List Thread) → is_running_on p thread.place ≡ false → ((i : ℕ) → place_of threads i ≡ Running p → ⊥) → (i : ℕ) → place_of (thread ∷ threads) i ≡ Running p → ⊥
-passed p thread threads fails rest zero runs = runs_not p thread.place fails runs
-passed p thread threads fails rest (suc i) runs = rest i runs
-
--- what the search finds in a space, and what it passes
-found_in : (p : ProcNo) (k j : ℕ) (threads : List Thread) (x : Runner) → runner_in p k j threads ≡ Some x → (x.space.0 ≡ k) × ((i : ℕ) × (x.thread.0 ≡ j + i) × (place_of threads i ≡ Running p))
-found_in p k j [] x is = cc
-found_in p k j (thread ∷ threads) x is =
-    let here : Runner = runner (record { 0 = k }) (record { 0 = j }) in
-    elim (is_running_on p thread.place) as (λ b. b ≡ is_running_on p thread.place → cond b (Some here) (runner_in p k (j + 1) threads) ≡ Some x
-    → (x.space.0 ≡ k) × ((i : ℕ) × (x.thread.0 ≡ j + i) × (place_of (thread ∷ threads) i ≡ Running p))) [
-      | true ↦ λ test found. let one : here ≡ x = same_Some _ _ found in
-          (sym (ap (λ (y : Runner). y.space.0) one), (0, omega (arith, ap (λ (y : Runner). y.thread.0) one), runs_there p thread.place (sym test)))
-      | false ↦ λ test found. let more = found_in p k (j + 1) threads x found in (more.0, (suc more.1.0, omega (arith, more.1.1), more.1.2))
-    ] refl is
-
-passed_in : (p : ProcNo) (k j : ℕ) (threads : List Thread) → runner_in p k j threads ≡ None → (i : ℕ) → place_of threads i ≡ Running p → ⊥
-passed_in p k j [] is i runs = let both : Done ≡ Running p = runs in cc
-passed_in p k j (thread ∷ threads) is i runs =
-    elim (is_running_on p thread.place) as (λ b. b ≡ is_running_on p thread.place → cond b (Some (runner (record { 0 = k }) (record { 0 = j }))) (runner_in p k (j + 1) threads) ≡ None → (i : ℕ) → place_of (thread ∷ threads) i ≡ Running p → ⊥) [
-      | true ↦ λ test none i runs. let both : Some (runner (record { 0 = k }) (record { 0 = j })) ≡ None = none in cc
-      | false ↦ λ test none. passed p thread threads (sym test) (passed_in p k (j + 1) threads none)
-    ] refl is i runs
-
-passed_all : (p : ProcNo) (space : SpaceState) (spaces : List SpaceState) → ((j : ℕ) → place_of space.threads j ≡ Running p → ⊥) → ((i j : ℕ) → place_of (get_or spaces i no_threads).threads j ≡ Running p → ⊥)
-    → (i j : ℕ) → place_of (get_or (space ∷ spaces) i no_threads).threads j ≡ Running p → ⊥
-passed_all p space spaces here rest zero j runs = here j runs
-passed_all p space spaces here rest (suc i) j runs = rest i j runs
-
--- and in all spaces
-found_from : (p : ProcNo) (k : ℕ) (spaces : List SpaceState) (x : Runner) → runner_from p k spaces ≡ Some x → (i : ℕ) × (x.space.0 ≡ k + i) × (place_of (get_or spaces i no_threads).threads x.thread.0 ≡ Running p)
-found_from p k [] x is = cc
-found_from p k (space ∷ spaces) x is =
-    elim (runner_in p k 0 space.threads) as (λ o. o ≡ runner_in p k 0 space.threads → first_runner o (runner_from p (k + 1) spaces) ≡ Some x
-    → (i : ℕ) × (x.space.0 ≡ k + i) × (place_of (get_or (space ∷ spaces) i no_threads).threads x.thread.0 ≡ Running p)) [
-      | None ↦ λ test found. let more = found_from p (k + 1) spaces x found in (suc more.0, omega (arith, more.1), more.2)
-      | Some y ↦ λ test found.
-          let here = found_in p k 0 space.threads x (sym test ∙ found) in
-          (0, omega (arith, here.0), subst (λ n. place_of space.threads n ≡ Running p) (sym (here.1.1 ∙ zero-add here.1.0)) here.1.2)
-    ] refl is
-
-passed_from : (p : ProcNo) (k : ℕ) (spaces : List SpaceState) → runner_from p k spaces ≡ None → (i j : ℕ) → place_of (get_or spaces i no_threads).threads j ≡ Running p → ⊥
-passed_from p k [] is i j runs = let both : Done ≡ Running p = runs in cc
-passed_from p k (space ∷ spaces) is i j runs =
-    elim (runner_in p k 0 space.threads) as (λ o. o ≡ runner_in p k 0 space.threads → first_runner o (runner_from p (k + 1) spaces) ≡ None → ⊥) [
-      | None ↦ λ test none. passed_all p space spaces (passed_in p k 0 space.threads (sym test)) (passed_from p (k + 1) spaces none) i j runs
-      | Some y ↦ λ test none. cc
-    ] refl is
-
--- so the index has what the search finds
-pub index-finds : (p : ProcNo) (spaces : List SpaceState) (runners : List (Option Runner)) → IsIndex (place_in spaces) runners → runner_at runners p ≡ runner_from p 0 spaces
+-- the index has what the search finds
+pub index-finds : (p : ProcNo) (spaces : List SpaceState) (runners : List (Option Runner)) → IsIndex (place_in spaces) runners
+    → runner_at runners p ≡ runner_from p 0 spaces
 index-finds p spaces runners index =
     elim (runner_from p 0 spaces) as (λ o. o ≡ runner_from p 0 spaces → runner_at runners p ≡ o) [
       | Some x ↦ λ test.
-          let found = found_from p 0 spaces x (sym test) in
-          index.listed p x.space x.thread (subst (λ n. place_of (get_or spaces n no_threads).threads x.thread.0 ≡ Running p) (sym (found.1 ∙ zero-add found.0)) found.2)
+          let found = found-from p 0 spaces x (sym test) in
+          index.listed p x.space x.thread (subst (λ n. place_of (get_or spaces n no_threads).threads x.thread.0 ≡ Running p)
+          (sym (found.1 ∙ zero-add found.0)) found.2)
       | None ↦ λ test. elim (runner_at runners p) as (λ q. q ≡ runner_at runners p → q ≡ None) [
         | None ↦ λ is. refl
-        | Some x ↦ λ is. absurd (passed_from p 0 spaces (sym test) x.space.0 x.thread.0 (index.there p x.space x.thread (sym is)))
+        | Some x ↦ λ is. absurd (passed-from p 0 spaces (sym test) x.space.0 x.thread.0 (index.there p x.space x.thread (sym is)))
       ] refl
     ] refl

@@ -10,7 +10,8 @@ use Rattle.sa_sync.specs.Sync.{Sync, Mutex, Semaphore, joiners_at, with_joiners,
 use Rattle.sa_sync.specs.Calls.{first_joiner, without_joiner}
 
 -- how often a thread waits, by the kinds of queues
-pub waits_parts : (s : Sync) (u : ℕ) → waits_of s u ≡ count_in_all u s.joiners + count_in_all u (map (λ (m : Mutex). m.queue) s.mutexes) + count_in_all u (map (λ (k : Semaphore). k.queue) s.semaphores)
+pub waits_parts : (s : Sync) (u : ℕ) → waits_of s u ≡ count_in_all u s.joiners + count_in_all u (map (λ (m : Mutex). m.queue) s.mutexes)
+    + count_in_all u (map (λ (k : Semaphore). k.queue) s.semaphores)
 waits_parts s u =
     let mutexes = map (λ (m : Mutex). m.queue) s.mutexes in let semaphores = map (λ (k : Semaphore). k.queue) s.semaphores in
     sum_by-append (count_in u) (s.joiners ++ mutexes) semaphores ∙ ap (λ n. n + count_in_all u semaphores) (sum_by-append (count_in u) s.joiners mutexes)

@@ -1,5 +1,5 @@
 -- The needs that a replay decides are those of the record.
-use Rattle.std.proofs.Common.{◌≡◌, ◌↔◌, ℕ, Option, Some, None, is_some, slice_index, inl, inr, refl, sym, ap, subst, ◌∙◌}
+use Rattle.std.proofs.Common.{◌≡◌, ◌↔◌, ℕ, Option, Some, None, is_some, slice_index, inl, inr, refl, sym, ap, subst, ◌∙◌, ◌<◌}
 use Rattle.std.proofs.lemmas.Option.{same_Some}
 use Rattle.std.specs.Option.{option_map}
 use Rattle.sa_base.specs.declared.number.ProcNo.{ProcNo}
@@ -13,14 +13,14 @@ use Rattle.sa_instr.specs.declared.instr.Instr.{Instr}
 use Rattle.sa_instr.specs.declared.instr.Instr.TheVariants as instrs
 use Rattle.sa_spaces.specs.Workload.{WorkloadView}
 use Rattle.sa_base.specs.Pages.{has_page}
-use Rattle.sa_laws.specs.State.{instr_of, next_instr, owner_at}
+use Rattle.sa_laws.specs.State.{instr_of, next_instr, owner_at, program_len}
 use Rattle.sa_laws.specs.Life.{Life}
 use Rattle.sa_laws.specs.Readings.{Readings, is_resident, life_of}
 use Rattle.sa_laws.specs.Record.{length_behind, locks_one}
 use Rattle.sa_laws.specs.Step.{IsTouched, IsMissed, IsFaulting, IsBehindOut, CanIns, CanBlock, CanUnblock, has_io, Needs}
 use Rattle.sa_check_machine.specs.declared.beyond.Beyond.{Beyond}
 use Rattle.sa_check_machine.specs.declared.beyond.LifeSeen.{LifeSeen}
-use Rattle.sa_check_machine.specs.Needs.{IsTouchedIn, IsMissedIn, IsFaultingIn, CanInsWith, CanBlockWith, CanUnblockWith, NeedsWith, Sees, seen_of, length_before, locks_one_of}
+use Rattle.sa_check_machine.specs.Needs.{IsTouchedIn, IsMissedIn, IsFaultingIn, CanInsWith, CanBlockWith, CanUnblockWith, NeedsWith, Sees, seen_of, length_before, locks_one_of, CanChange}
 
 -- among the pages that are read, a page is resident
 touched : (r : Readings) (s : SpaceNo) (instr : Instr) → IsTouchedIn (slice_index r.pages s.0) instr ≡ IsTouched r s instr
@@ -112,7 +112,8 @@ module _ (w : WorkloadView) (p : ProcNo) (r : Readings) where
   behind s t (Some (records.Spin l)) = refl
   behind s t (Some records.Tick) = refl
 
-  module _ (s : SpaceNo) (t : Option ThreadNo) (a : ActNo) (beyond : Beyond) (last : beyond.last ≡ r.last) (pages : beyond.pages ≡ slice_index r.pages s.0) (life : beyond.life ≡ option_map seen_of (life_of r a)) where
+  module _ (s : SpaceNo) (t : Option ThreadNo) (a : ActNo) (beyond : Beyond) (last : beyond.last ≡ r.last) (pages : beyond.pages ≡ slice_index r.pages s.0)
+      (life : beyond.life ≡ option_map seen_of (life_of r a)) where
     after_io : is_some (length_before w r.state s t beyond.last) ≡ is_some (length_behind w r s t r.last)
     after_io = ap (λ (l : Option Record). is_some (length_before w r.state s t l)) last ∙ ap (λ (o : Option ℕ). is_some o) (behind s t r.last)
 
@@ -181,9 +182,12 @@ module _ (w : WorkloadView) (p : ProcNo) (r : Readings) where
     )
 
   -- an `out`
-  out_needs : (s : SpaceNo) (t : ThreadNo) (value : ℕ) (last : Option Record) → last ≡ r.last → (owner_at r.state p ≡ Some s) × IsBehindOut w r.state s t value last ↔ (owner_at r.state p ≡ Some s) × IsBehindOut w r.state s t value r.last
-  out_needs s t value last is =
-      (λ h. (h.0, subst (λ (l : Option Record). IsBehindOut w r.state s t value l) is h.1), λ h. (h.0, subst (λ (l : Option Record). IsBehindOut w r.state s t value l) (sym is) h.1))
+  out_needs : (s : SpaceNo) (t : ThreadNo) (value : ℕ) (last : Option Record) → last ≡ r.last
+      → (owner_at r.state p ≡ Some s) × IsBehindOut w r.state s t value last ↔ (owner_at r.state p ≡ Some s) × IsBehindOut w r.state s t value r.last
+  out_needs s t value last is = (
+    λ h. (h.0, subst (λ (l : Option Record). IsBehindOut w r.state s t value l) is h.1),
+    λ h. (h.0, subst (λ (l : Option Record). IsBehindOut w r.state s t value l) (sym is) h.1),
+  )
 
   pub needs : (beyond : Beyond) (x : Record) → Sees r x beyond → NeedsWith w p r.state beyond x ↔ Needs w p r x
   needs beyond (records.Ins s t i) sees = subst (λ n. CanInsWith w p r.state s t i n ↔ CanIns w p r s t i) (sym sees) (ins_needs s t i)
@@ -209,3 +213,29 @@ module _ (w : WorkloadView) (p : ProcNo) (r : Readings) where
   needs beyond records.Idle sees = (λ h. h, λ h. h)
   needs beyond (records.Spin l) sees = (λ h. h, λ h. h)
   needs beyond records.Tick sees = (λ h. h, λ h. h)
+
+-- a record whose needs are met can be done
+pub can-change : (w : WorkloadView) (p : ProcNo) (r : Readings) (x : Record) → Needs w p r x → CanChange w p r.state x
+can-change w p r (records.Ins s t i) met = record { runs = met.runs; within = subst (λ n. n < program_len w r.state s t) (sym met.place) met.within }
+can-change w p r (records.Out s t value) met = tt
+can-change w p r (records.Run s t) met = met
+can-change w p r (records.Stop s t a) met = met.1
+can-change w p r (records.Block s t a io) met = met.runs
+can-change w p r (records.Unblock s t a) met = met.blocked
+can-change w p r (records.Cont s t) met = met
+can-change w p r (records.Back s t) met = met.1
+can-change w p r (records.Ready s t) met = met.1
+can-change w p r (records.Take s l t) met = tt
+can-change w p r (records.Free s l t) met = tt
+can-change w p r (records.Up s a) met = tt
+can-change w p r (records.Told note) met = tt
+can-change w p r (records.Move old new) met = tt
+can-change w p r (records.Want s n) met = tt
+can-change w p r (records.Aim q s) met = tt
+can-change w p r (records.Line q) met = tt
+can-change w p r (records.Fetch s) met = tt
+can-change w p r (records.Fetched s) met = tt
+can-change w p r (records.GiveBack a) met = tt
+can-change w p r records.Idle met = tt
+can-change w p r (records.Spin l) met = tt
+can-change w p r records.Tick met = tt

@@ -10,11 +10,11 @@ use Rattle.sa_spaces.specs.Workload.{WorkloadView}
 use Rattle.sa_sync.specs.Sync.{Mutex, free_mutex, semaphore_of, waits_of}
 use Rattle.sa_laws.specs.declared.place.Place.{Place}
 use Rattle.sa_laws.specs.declared.place.Place.TheVariants as places
-use Rattle.sa_laws.specs.State.{Thread, SpaceState, Runner, thread_in, put_thread, no_space, is_waiting, State, space_def, owner_at, runner_on, runner_of, runner_from, opening_space}
+use Rattle.sa_laws.specs.State.{Thread, SpaceState, Runner, thread_in, put_thread, no_space, is_waiting, State, space_def, owner_at, runner_on, runner_of, runner_from, opening_space, no_threads}
 use Rattle.sa_check_machine.specs.Running.{is_running, is_settled, can_move, HasDeclared, CanRun}
 use Rattle.sa_check_machine.specs.Shape.{IsShaped}
 use Rattle.sa_check_machine.proofs.ShapeLemmas.{at_rest, was_made, own_after, other_runs, other_ran, stays_declared}
-use Rattle.sa_check_machine.specs.Spaces.{no_threads, space_in, with_space_in, place_in, run_of, HasRun}
+use Rattle.sa_check_machine.specs.Spaces.{space_in, with_space_in, place_in, run_of, HasRun}
 use Rattle.sa_laws.specs.Step.{IsRunner, NobodyRuns}
 use Rattle.sa_check_machine.specs.Replayed.{Replayed}
 use Rattle.sa_check_machine.specs.Needs.{CanGo, CanPut}
@@ -24,10 +24,12 @@ use Rattle.sa_check_machine.proofs.IndexLemmas.{runner, runs_within, index-stays
 use Rattle.sa_check_machine.proofs.ChangeLemmas.{is_there, own_place, others_run, declared-set, placed_others, placed_own, placed_declared}
 
 -- a thread that runs can be put elsewhere
-pub runs_moves : (spaces : List SpaceState) (s : SpaceNo) (t : ThreadNo) (p : ProcNo) → place_in spaces s t ≡ places.Running p → can_move (space_in spaces s) t ≡ true
+pub runs_moves : (spaces : List SpaceState) (s : SpaceNo) (t : ThreadNo) (p : ProcNo) → place_in spaces s t ≡ places.Running p
+    → can_move (space_in spaces s) t ≡ true
 runs_moves spaces s t p runs = ap (λ (place : Place). is_settled place || (is_waiting place && waits_of (space_in spaces s).sync t.0 == 0)) runs
 
-module _ (w : WorkloadView) (spaces : List SpaceState) (owners : List (Option SpaceNo)) (runners : List (Option Runner)) (kept : IsReplay w spaces owners runners) where
+module _ (w : WorkloadView) (spaces : List SpaceState) (owners : List (Option SpaceNo)) (runners : List (Option Runner))
+    (kept : IsReplay w spaces owners runners) where
   -- the runner of a processor runs there
   pub runner_runs : (p : ProcNo) (s : SpaceNo) (t : ThreadNo) → runner_from p 0 spaces ≡ Some (runner s t) → place_in spaces s t ≡ places.Running p
   runner_runs p s t is = kept.index.there p s t (index-finds p spaces runners kept.index ∙ is)
@@ -46,7 +48,9 @@ module _ (w : WorkloadView) (spaces : List SpaceState) (owners : List (Option Sp
       as_many = length-set spaces s.0 (put_thread place (space_in spaces s) t) ∙ kept.as_many;
       declared = placed_declared spaces s t place can w.spaces kept.declared;
       processors = length-set runners p.0 None ∙ kept.processors;
-      index = index-leaves s t _ _ runners (placed_others spaces s t place can) kept.index p runs (λ q is. at_rest place q rests (sym (placed_own spaces s t place can) ∙ is));
+      index =
+          index-leaves s t _ _ runners (placed_others spaces s t place can) kept.index p runs
+          (λ q is. at_rest place q rests (sym (placed_own spaces s t place can) ∙ is));
     }
 
     -- a thread that runs nowhere is put where it runs nowhere
@@ -62,7 +66,8 @@ module _ (w : WorkloadView) (spaces : List SpaceState) (owners : List (Option Sp
     }
 
   -- a thread that runs nowhere comes to run on a processor where none runs
-  pub enter_kept : (p : ProcNo) (s : SpaceNo) (t : ThreadNo) → can_move (space_in spaces s) t ≡ true → get_or owners p.0 None ≡ Some s → runner_from p 0 spaces ≡ None → is_running (place_in spaces s t) ≡ false
+  pub enter_kept : (p : ProcNo) (s : SpaceNo) (t : ThreadNo) → can_move (space_in spaces s) t ≡ true → get_or owners p.0 None ≡ Some s
+      → runner_from p 0 spaces ≡ None → is_running (place_in spaces s t) ≡ false
       → IsReplay w (with_space_in spaces s (put_thread (places.Running p) (space_in spaces s) t)) owners (set runners p.0 (Some (runner s t)))
   enter_kept p s t can owned nobody rested = record {
     as_many = length-set spaces s.0 (put_thread (places.Running p) (space_in spaces s) t) ∙ kept.as_many;
@@ -79,13 +84,16 @@ module _ (w : WorkloadView) (spaces : List SpaceState) (owners : List (Option Sp
       let runs : place_in spaces s t ≡ places.Running p = subst (λ (xs : List SpaceState). place_in xs s t ≡ places.Running p) is go.runs in
       let there : s.0 < length spaces = is_there spaces s t (λ done. let both : places.Done ≡ places.Running p = sym done ∙ runs in cc) in
       let programs = (space_def w s).programs in
-      let inside : (thread_in x t).pc < length (get_or programs (thread_in x t).program []) = subst (λ (xs : List SpaceState). (thread_in (space_in xs s) t).pc < length (get_or programs (thread_in (space_in xs s) t).program [])) is go.within in
+      let inside : (thread_in x t).pc < length (get_or programs (thread_in x t).program []) =
+      subst (λ (xs : List SpaceState). (thread_in (space_in xs s) t).pc < length (get_or programs (thread_in (space_in xs s) t).program [])) is go.within in
       record {
         runs = ap is_running runs;
         at = record {
           in_space = elim (cases_lt (thread_in x t).program (length programs)) [
             | inl within ↦ within
-            | inr past ↦ let none : length (get_or programs (thread_in x t).program []) ≡ 0 = ap length (get_or_past programs (thread_in x t).program [] past) in absurd (omega (arith, none, inside))
+            | inr past ↦
+                let none : length (get_or programs (thread_in x t).program []) ≡ 0 = ap length (get_or_past programs (thread_in x t).program [] past) in
+                absurd (omega (arith, none, inside))
           ];
           in_program = inside;
         };
@@ -93,7 +101,8 @@ module _ (w : WorkloadView) (spaces : List SpaceState) (owners : List (Option Sp
       }
 
   -- a thread runs its next instruction
-  module _ (p : ProcNo) (s : SpaceNo) (t : ThreadNo) (x : SpaceState) (runs : place_in spaces s t ≡ places.Running p) (shape : IsShaped (space_in spaces s) t (place_in spaces s t) x) where
+  module _ (p : ProcNo) (s : SpaceNo) (t : ThreadNo) (x : SpaceState) (runs : place_in spaces s t ≡ places.Running p)
+      (shape : IsShaped (space_in spaces s) t (place_in spaces s t) x) where
     within : s.0 < length spaces
     within = is_there spaces s t (λ done. let both : places.Done ≡ places.Running p = sym done ∙ runs in cc)
 
@@ -109,7 +118,9 @@ module _ (w : WorkloadView) (spaces : List SpaceState) (owners : List (Option Sp
     own = own_place spaces s t x within ∙ ap (λ (y : Thread). y.place) (own_after (space_in spaces s) t (place_in spaces s t) x shape made)
 
     declared : AreDeclared w.spaces (with_space_in spaces s x)
-    declared = declared-set spaces s t x within w.spaces kept.declared (stays_declared (space_in spaces s) t (place_in spaces s t) x shape (get_or w.spaces s.0 no_space))
+    declared =
+        declared-set spaces s t x within w.spaces kept.declared
+        (stays_declared (space_in spaces s) t (place_in spaces s t) x shape (get_or w.spaces s.0 no_space))
 
     pub go_kept : is_running (place_in (with_space_in spaces s x) s t) ≡ true → IsReplay w (with_space_in spaces s x) owners runners
     go_kept goes =
@@ -133,16 +144,19 @@ module _ (w : WorkloadView) (spaces : List SpaceState) (owners : List (Option Sp
     }
 
   -- as it is known of a run
-  module _ (p : ProcNo) (s : SpaceNo) (t : ThreadNo) (def : SpaceView) (new : List SpaceState) (roused : List ThreadNo) (runs : place_in spaces s t ≡ places.Running p) (ran : HasRun spaces def s t new roused) where
+  module _ (p : ProcNo) (s : SpaceNo) (t : ThreadNo) (def : SpaceView) (new : List SpaceState) (roused : List ThreadNo)
+      (runs : place_in spaces s t ≡ places.Running p) (ran : HasRun spaces def s t new roused) where
     pub goes_on : is_running (place_in new s t) ≡ true → IsReplay w new owners runners
     goes_on goes =
         subst (λ (xs : List SpaceState). IsReplay w xs owners runners) (sym ran.spaces)
-        (go_kept p s t (run_of def (space_in spaces s) t).space runs ran.shape (subst (λ (xs : List SpaceState). is_running (place_in xs s t) ≡ true) ran.spaces goes))
+        (go_kept p s t (run_of def (space_in spaces s) t).space runs ran.shape
+        (subst (λ (xs : List SpaceState). is_running (place_in xs s t) ≡ true) ran.spaces goes))
 
     pub goes_off : is_running (place_in new s t) ≡ false → IsReplay w new owners (set runners p.0 None)
     goes_off rests =
         subst (λ (xs : List SpaceState). IsReplay w xs owners (set runners p.0 None)) (sym ran.spaces)
-        (stop_kept p s t (run_of def (space_in spaces s) t).space runs ran.shape (subst (λ (xs : List SpaceState). is_running (place_in xs s t) ≡ false) ran.spaces rests))
+        (stop_kept p s t (run_of def (space_in spaces s) t).space runs ran.shape
+        (subst (λ (xs : List SpaceState). is_running (place_in xs s t) ≡ false) ran.spaces rests))
 
   -- another owner
   pub owner_kept : (p : ProcNo) (owner : Option SpaceNo) → IsReplay w spaces (set owners p.0 owner) runners
@@ -154,8 +168,10 @@ module _ (w : WorkloadView) (spaces : List SpaceState) (owners : List (Option Sp
   }
 
 -- what is known of a replay is known of its value
-module _ (w : WorkloadView) (spaces : List SpaceState) (owners : List (Option SpaceNo)) (runners : List (Option Runner)) (roused : List ThreadNo) (kept : IsReplay w spaces owners runners)
-    (v : Replayed) (view : let x : Replayed = record { workload = w; state = record { spaces = spaces; owners = owners }; roused = roused } in x ≡ v) (p : ProcNo) (s : SpaceNo) where
+module _ (w : WorkloadView) (spaces : List SpaceState) (owners : List (Option SpaceNo)) (runners : List (Option Runner)) (roused : List ThreadNo)
+    (kept : IsReplay w spaces owners runners)
+    (v : Replayed) (view : let x : Replayed = record { workload = w; state = record { spaces = spaces; owners = owners }; roused = roused } in x ≡ v)
+    (p : ProcNo) (s : SpaceNo) where
   pub leave_runs : (o : Option ThreadNo) (t : ThreadNo) → IsRunner v.state p s o → o ≡ Some t → place_in spaces s t ≡ places.Running p
   leave_runs o t runs is =
       runner_runs w spaces owners runners kept p s t (ap (λ (x : Replayed). runner_on x.state p) view ∙ runs ∙ ap (λ (q : Option ThreadNo). runner_of s q) is)
@@ -163,7 +179,8 @@ module _ (w : WorkloadView) (spaces : List SpaceState) (owners : List (Option Sp
   pub listed_within : (t : ThreadNo) → place_in spaces s t ≡ places.Running p → p.0 < length runners
   listed_within t runs = runs_within runners p (runner s t) (kept.index.listed p s t runs)
 
-  pub put_can : (o : Option ThreadNo) (t : ThreadNo) → CanPut v.state s o → o ≡ Some t → (is_running (place_in spaces s t) ≡ false) × (can_move (space_in spaces s) t ≡ true)
+  pub put_can : (o : Option ThreadNo) (t : ThreadNo) → CanPut v.state s o → o ≡ Some t
+      → (is_running (place_in spaces s t) ≡ false) × (can_move (space_in spaces s) t ≡ true)
   put_can o t can is =
       let at : CanPut v.state s (Some t) = subst (λ (q : Option ThreadNo). CanPut v.state s q) is can in
       subst (λ (x : Replayed). (is_running (place_in x.state.spaces s t) ≡ false) × (can_move (space_in x.state.spaces s) t ≡ true)) (sym view) at
@@ -197,7 +214,8 @@ opening_has def = record {
 
 opening_declared : (defs : List SpaceView) (k : ℕ) → k < length defs → HasDeclared (get_or defs k no_space) (get_or (map opening_space defs) k no_threads).sync
 opening_declared defs k below =
-    subst (λ (x : SpaceState). HasDeclared (get_or defs k no_space) x.sync) (sym (get_or-map opening_space defs k no_space no_threads below)) (opening_has (get_or defs k no_space))
+    subst (λ (x : SpaceState). HasDeclared (get_or defs k no_space) x.sync) (sym (get_or-map opening_space defs k no_space no_threads below))
+    (opening_has (get_or defs k no_space))
 
 opening_rests : (defs : List SpaceView) (s : SpaceNo) (t : ThreadNo) (p : ProcNo) → place_in (map opening_space defs) s t ≡ places.Running p → ⊥
 opening_rests defs s t p runs = elim (cases_lt s.0 (length defs)) [
@@ -205,7 +223,8 @@ opening_rests defs s t p runs = elim (cases_lt s.0 (length defs)) [
       let at : space_in (map opening_space defs) s ≡ opening_space (get_or defs s.0 no_space) = get_or-map opening_space defs s.0 no_space no_threads within in
       first_rests (get_or defs s.0 no_space) t.0 p (sym (ap (λ (x : SpaceState). (thread_in x t).place) at) ∙ runs)
   | inr past ↦
-      let at : space_in (map opening_space defs) s ≡ no_threads = get_or_past (map opening_space defs) s.0 no_threads (omega (arith, length-map defs opening_space, past)) in
+      let at : space_in (map opening_space defs) s ≡ no_threads =
+      get_or_past (map opening_space defs) s.0 no_threads (omega (arith, length-map defs opening_space, past)) in
       let both : places.Done ≡ places.Running p = sym (ap (λ (x : SpaceState). (thread_in x t).place) at) ∙ runs in cc
 ]
 
@@ -223,7 +242,8 @@ opening_kept w = record {
   };
 }
 
-pub opened_kept : (w v : WorkloadView) (spaces : List SpaceState) (owners : List (Option SpaceNo)) (runners : List (Option Runner)) → v ≡ w → spaces ≡ map opening_space w.spaces → owners ≡ replicate w.processors None → runners ≡ replicate w.processors None
+pub opened_kept : (w v : WorkloadView) (spaces : List SpaceState) (owners : List (Option SpaceNo)) (runners : List (Option Runner)) → v ≡ w
+    → spaces ≡ map opening_space w.spaces → owners ≡ replicate w.processors None → runners ≡ replicate w.processors None
     → IsReplay v spaces owners runners
 opened_kept w v spaces owners runners same first unowned idle =
     subst (λ (u : WorkloadView). IsReplay u spaces owners runners) (sym same)

@@ -34,7 +34,8 @@ same_numbers : (s : Sync) → SameNumbers s s
 same_numbers s = record { mutexes = refl; semaphores = refl; joiners = refl; done = refl; cells = refl }
 
 -- an instruction that forks no thread
-alone : (x : SpaceState) (t : ThreadNo) (place : Place) (after : Thread) (sync : Sync) → StaysOrRests place after.place → TellsWaiting x.sync sync t.0 after.place → SameNumbers x.sync sync
+alone : (x : SpaceState) (t : ThreadNo) (place : Place) (after : Thread) (sync : Sync) → StaysOrRests place after.place
+    → TellsWaiting x.sync sync t.0 after.place → SameNumbers x.sync sync
     → IsShaped x t place (with_thread (with_sync x sync) t after)
 alone x t place after sync goes waits numbers = record {
   after = after;
@@ -62,7 +63,8 @@ told x t place thread sync answers.Waits is tells numbers =
     ]) numbers
 told x t place thread sync (answers.Wakes w) is tells numbers = alone x t place thread sync (inl is) (λ u waits. inl (omega (arith, tells u, waits))) numbers
 
-synced : (x : SpaceState) (t : ThreadNo) (place : Place) (thread : Thread) (change : Change) → thread.place ≡ place → TellsWhoWaits x.sync t.0 change → SameNumbers x.sync change.state
+synced : (x : SpaceState) (t : ThreadNo) (place : Place) (thread : Thread) (change : Change) → thread.place ≡ place → TellsWhoWaits x.sync t.0 change
+    → SameNumbers x.sync change.state
     → IsShaped x t place (sync_effect x t thread change).space
 synced x t place thread change is tells numbers = told x t place thread change.state change.answer is tells numbers
 
@@ -71,7 +73,9 @@ forks : (x : SpaceState) (t : ThreadNo) (thread : Thread) (reg : Reg) (program :
 forks x t thread reg program =
     let made = length x.threads in
     let forking = with_thread x t (next_with thread reg made) in
-    let done : Bool → Effect = λ b. cond b (effect (record forking { threads = forking.threads ++ at_start program places.Waiting ∷ [] }) (record { 0 = made } ∷ [])) (effect (with_thread x t (next_with thread reg (2 ^ 64 - 1))) []) in
+    let done : Bool → Effect =
+    λ b. cond b (effect (record forking { threads = forking.threads ++ at_start program places.Waiting ∷ [] }) (record { 0 = made } ∷ []))
+    (effect (with_thread x t (next_with thread reg (2 ^ 64 - 1))) []) in
     elim (nat_lt made MAX_THREADS) as (λ b. b ≡ nat_lt made MAX_THREADS → IsShaped x t thread.place (done b).space) [
       | true ↦ λ test. record {
         after = next_with thread reg made;
@@ -87,7 +91,8 @@ forks x t thread reg program =
     ] refl
 
 -- how often a thread waits, with other joiners of one thread
-waits_with : (s : Sync) (t : ℕ) (q : List ℕ) (u : ℕ) → t < length s.joiners → waits_of (with_joiners s t q) u + count_in u (joiners_at s t) ≡ waits_of s u + count_in u q
+waits_with : (s : Sync) (t : ℕ) (q : List ℕ) (u : ℕ) → t < length s.joiners
+    → waits_of (with_joiners s t q) u + count_in u (joiners_at s t) ≡ waits_of s u + count_in u q
 waits_with s t q u h = omega (arith, count_set u s.joiners t q h, waits_parts s u, waits_parts (with_joiners s t q) u)
 
 -- the end of a thread
@@ -119,10 +124,18 @@ module _ (def : SpaceView) (x : SpaceState) (t : ThreadNo) (thread : Thread) whe
       let made = length x.threads in
       synced x t thread.place (next_with thread reg (cond (nat_lt other made) 1 0)) (joined x.sync t.0 other made) refl
       (joined_tells x.sync t.0 other made (omega (arith, can.few, can.joiners))) (joined_keeps x.sync t.0 other made)
-  shape_of (Lock m) can = synced x t thread.place (next thread) (locked x.sync t.0 m) refl (locked_tells x.sync t.0 m (omega (arith, can.named.0, can.declared.mutexes))) (locked_keeps x.sync t.0 m)
-  shape_of (Unlock m) can = synced x t thread.place (next thread) (unlocked x.sync t.0 m) refl (unlocked_tells x.sync t.0 m (omega (arith, can.named.0, can.declared.mutexes))) (unlocked_keeps x.sync t.0 m)
-  shape_of (Wait k) can = synced x t thread.place (next thread) (waited x.sync t.0 k) refl (waited_tells x.sync t.0 k (omega (arith, can.named.0, can.declared.semaphores))) (waited_keeps x.sync t.0 k)
-  shape_of (Signal k) can = synced x t thread.place (next thread) (signalled x.sync k) refl (signalled_tells x.sync t.0 k (omega (arith, can.named.0, can.declared.semaphores))) (signalled_keeps x.sync k)
+  shape_of (Lock m) can =
+      synced x t thread.place (next thread) (locked x.sync t.0 m) refl (locked_tells x.sync t.0 m (omega (arith, can.named.0, can.declared.mutexes)))
+      (locked_keeps x.sync t.0 m)
+  shape_of (Unlock m) can =
+      synced x t thread.place (next thread) (unlocked x.sync t.0 m) refl (unlocked_tells x.sync t.0 m (omega (arith, can.named.0, can.declared.mutexes)))
+      (unlocked_keeps x.sync t.0 m)
+  shape_of (Wait k) can =
+      synced x t thread.place (next thread) (waited x.sync t.0 k) refl (waited_tells x.sync t.0 k (omega (arith, can.named.0, can.declared.semaphores)))
+      (waited_keeps x.sync t.0 k)
+  shape_of (Signal k) can =
+      synced x t thread.place (next thread) (signalled x.sync k) refl (signalled_tells x.sync t.0 k (omega (arith, can.named.0, can.declared.semaphores)))
+      (signalled_keeps x.sync k)
   shape_of (Io length) can = own x t thread.place (next thread) (inl refl)
   shape_of (Touch page) can = own x t thread.place (next thread) (inl refl)
   shape_of End can = ends x t thread (omega (arith, can.made, can.few, can.joiners))
@@ -194,7 +207,8 @@ module _ (x : SpaceState) (t : ThreadNo) (place : Place) (new : SpaceState) (sha
           let there : u.0 < length x.threads = was_made x u (λ done. let both : places.Done ≡ places.Waiting = sym done ∙ place in cc) in
           ap (λ (y : Thread). y.place) (other_within u other there) ∙ place
       | inr here ↦
-          subst (λ (n : ℕ). (get_or new.threads n (at_start 0 places.Done)).place ≡ places.Waiting) (sym here.0) (ap (λ (y : Thread). y.place) (own_after made) ∙ here.1)
+          subst (λ (n : ℕ). (get_or new.threads n (at_start 0 places.Done)).place ≡ places.Waiting) (sym here.0)
+          (ap (λ (y : Thread). y.place) (own_after made) ∙ here.1)
     ];
   }
 
@@ -205,12 +219,15 @@ module _ (x : SpaceState) (t : ThreadNo) (place : Place) (new : SpaceState) (sha
     cells = shape.numbers.cells ∙ declared.cells;
   }
 
-pub shape : (def : SpaceView) (x : SpaceState) (t : ThreadNo) (thread : Thread) (instr : Instr) → CanDo def x t thread instr → IsShaped x t thread.place (effect_of x t thread instr).space
+pub shape : (def : SpaceView) (x : SpaceState) (t : ThreadNo) (thread : Thread) (instr : Instr) → CanDo def x t thread instr
+    → IsShaped x t thread.place (effect_of x t thread instr).space
 shape def x t thread instr can = shape_of def x t thread instr can
 
--- a thread that runs, and stands at an instruction, can do it
-pub can_do : (def : SpaceView) (x : SpaceState) (t : ThreadNo) (thread : Thread) (instr : Instr) → IsSound x → CanRun def x t → thread ≡ thread_in x t → instr ≡ instr_in def thread
-    → (instr ≢ End → thread.pc + 1 < 2 ^ 16) → NamesDeclared def.mutexes (length def.sems) def.cells (length def.programs) instr → HasCount x.sync instr → CanDo def x t thread instr
+-- a thread that runs, and is at an instruction, can do it
+pub can_do : (def : SpaceView) (x : SpaceState) (t : ThreadNo) (thread : Thread) (instr : Instr) → IsSound x → CanRun def x t → thread ≡ thread_in x t
+    → instr ≡ instr_in def thread
+    → (instr ≢ End → thread.pc + 1 < 2 ^ 16) → NamesDeclared def.mutexes (length def.sems) def.cells (length def.programs) instr → HasCount x.sync instr
+    → CanDo def x t thread instr
 can_do def x t thread instr sound can is at next named count = record {
   made = was_made x t (λ done. let both : true ≡ false = sym can.runs ∙ ap is_running done in cc);
   few = sound.few;
@@ -228,10 +245,12 @@ can_do def x t thread instr sound can is at next named count = record {
 }
 
 -- so what always holds is kept, and the change has its shape
-pub run_kept : (def : SpaceView) (x : SpaceState) (t : ThreadNo) (thread : Thread) (instr : Instr) (new : Effect) → IsSound x → CanRun def x t → thread ≡ thread_in x t → CanDo def x t thread instr → new ≡ effect_of x t thread instr
+pub run_kept : (def : SpaceView) (x : SpaceState) (t : ThreadNo) (thread : Thread) (instr : Instr) (new : Effect) → IsSound x → CanRun def x t
+    → thread ≡ thread_in x t → CanDo def x t thread instr → new ≡ effect_of x t thread instr
     → IsSound new.space × IsShaped x t (thread_in x t).place new.space
 run_kept def x t thread instr new sound runs is can does =
     let place = (thread_in x t).place in
     let shaped : IsShaped x t place new.space =
-    subst (λ (p : Place). IsShaped x t p new.space) (ap (λ (y : Thread). y.place) is) (subst (λ (done : Effect). IsShaped x t thread.place done.space) (sym does) (shape def x t thread instr can)) in
+    subst (λ (p : Place). IsShaped x t p new.space) (ap (λ (y : Thread). y.place) is)
+    (subst (λ (done : Effect). IsShaped x t thread.place done.space) (sym does) (shape def x t thread instr can)) in
     (stays_sound x t place new.space shaped sound can.made (λ waits. let both : true ≡ false = sym runs.runs ∙ ap is_running waits in cc), shaped)

@@ -27,7 +27,8 @@ pub restless_none : (spaces : List SpaceState) (n : ℕ) → n ≡ restless_in s
 restless_none spaces n counted = ap (λ m. eqb m 0) counted ∙ count_none are_at_rest spaces
 
 -- at the opening each space has a thread that is ready
-all_count : (test : SpaceState → Bool) (defs : List SpaceView) → ((def : SpaceView) → test (opening_space def) ≡ false) → count_by (λ (x : SpaceState). not (test x)) (map opening_space defs) ≡ length defs
+all_count : (test : SpaceState → Bool) (defs : List SpaceView) → ((def : SpaceView) → test (opening_space def) ≡ false)
+    → count_by (λ (x : SpaceState). not (test x)) (map opening_space defs) ≡ length defs
 all_count test [] none = refl
 all_count test (def ∷ defs) none =
     let rest = all_count test defs none in
@@ -42,7 +43,8 @@ counted-opening defs few = record {
 }
 
 -- one space more
-pub opening-more : (defs : List SpaceView) (i : ℕ) (def : SpaceView) (x : SpaceState) (old new : List SpaceState) → i < length defs → def ≡ get_or defs i def → x ≡ opening_space def → old ≡ map opening_space (take i defs)
+pub opening-more : (defs : List SpaceView) (i : ℕ) (def : SpaceView) (x : SpaceState) (old new : List SpaceState) → i < length defs → def ≡ get_or defs i def
+    → x ≡ opening_space def → old ≡ map opening_space (take i defs)
     → new ≡ old ++ x ∷ [] → new ≡ map opening_space (take (i + 1) defs)
 opening-more defs i def x old new within is made before pushed =
     let same : x ≡ opening_space (get_or defs i def) = made ∙ ap opening_space is in

@@ -16,7 +16,7 @@ is_live place = not (is_done place)
 abbrev pub is_restless : Place → Bool
 is_restless place = not (is_at_rest place)
 
--- how many threads stand in places that pass a test
+-- how many threads are in places that pass a test
 abbrev pub count_in : (Place → Bool) → List Thread → ℕ
 count_in test threads = count_by (λ (thread : Thread). test thread.place) threads
 

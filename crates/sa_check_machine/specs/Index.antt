@@ -10,7 +10,7 @@ use Rattle.sa_laws.specs.State.{Runner}
 abbrev pub runner_at : List (Option Runner) → ProcNo → Option Runner
 runner_at runners p = slice_index_or runners p.0 None
 
--- where each thread stands
+-- where each thread is
 abbrev pub Places : Type 0
 Places = SpaceNo → ThreadNo → Place
 

@@ -3,9 +3,9 @@ use Rattle.std.specs.Prelude.{◌≡◌, ℕ, ◌<◌, List, Option, length, sli
 use Rattle.sa_base.specs.declared.number.SpaceNo.{SpaceNo}
 use Rattle.sa_spaces.specs.Space.{SpaceView}
 use Rattle.sa_spaces.specs.Workload.{WorkloadView}
-use Rattle.sa_laws.specs.State.{SpaceState, Runner, no_space}
+use Rattle.sa_laws.specs.State.{SpaceState, Runner, no_space, no_threads}
 use Rattle.sa_check_machine.specs.Running.{HasDeclared}
-use Rattle.sa_check_machine.specs.Spaces.{no_threads, place_in}
+use Rattle.sa_check_machine.specs.Spaces.{place_in}
 use Rattle.sa_check_machine.specs.Index.{IsIndex}
 
 -- each space has what the workload declares

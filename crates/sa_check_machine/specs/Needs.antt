@@ -38,7 +38,7 @@ pub record CanInsWith (w : WorkloadView) (p : ProcNo) (a : State) (s : SpaceNo) 
   pub within : i < program_len w a s t
   pub page : IsTouchedIn pages (instr_of w a s t i)
 
--- the length of the `io` of this thread whose record stands directly before
+-- the length of the `io` of this thread whose record comes directly before
 abbrev pub length_before : WorkloadView → State → SpaceNo → Option ThreadNo → Option Record → Option ℕ
 length_before w a s t (Some (Ins of u i)) =
     if of.0 == s.0 && is_thread u t then length_in (instr_of w a of u i) else None

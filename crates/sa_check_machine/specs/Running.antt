@@ -10,11 +10,11 @@ use Rattle.sa_laws.specs.declared.place.Place.{Place}
 use Rattle.sa_laws.specs.declared.place.Place.TheVariants.{Running, Waiting, Done}
 use Rattle.sa_laws.specs.State.{Thread, SpaceState, thread_in, is_due}
 
--- the instruction at which a thread stands in a space
+-- a thread's next instruction, by the programs of its space
 abbrev pub instr_in : SpaceView → Thread → Instr
 instr_in def thread = instr_at (slice_index_or def.programs thread.program []) thread.pc
 
--- it stands at an instruction of its program
+-- the thread is at an instruction of its program
 pub record IsAt (def : SpaceView) (thread : Thread) : Type 0 where
   pub in_space : thread.program < length def.programs
   pub in_program : thread.pc < length (slice_index_or def.programs thread.program [])
@@ -29,7 +29,7 @@ pub record HasDeclared (def : SpaceView) (sync : Sync) : Type 0 where
   pub semaphores : length sync.semaphores ≡ length def.sems
   pub cells : length sync.cells ≡ def.cells
 
--- the thread runs, and stands at an instruction of its program
+-- the thread runs, and is at an instruction of its program
 pub record CanRun (def : SpaceView) (x : SpaceState) (t : ThreadNo) : Type 0 where
   pub runs : is_running (thread_in x t).place ≡ true
   pub at : IsAt def (thread_in x t)
@@ -40,12 +40,12 @@ abbrev pub IsFull : Sync → Instr → Type 0
 IsFull sync (Signal k) = (semaphore_at sync k).count + 1 ≡ 2 ^ 32
 IsFull sync _ = ⊥
 
--- .. or has room for one more in each count that it adds to
+-- the instruction has room for one more in each count that it adds to
 abbrev pub HasCount : Sync → Instr → Type 0
 HasCount sync (Signal k) = (semaphore_at sync k).count + 1 < 2 ^ 32
 HasCount sync _ = Unit {0}
 
--- the thread stands in a place from which it can be put into another: it runs, is ready, blocked or carried, or it is due
+-- the thread is in a place from which it can be put into another: it runs, is ready, blocked or carried, or it is due
 abbrev pub is_settled : Place → Bool
 is_settled Waiting = false
 is_settled Done = false

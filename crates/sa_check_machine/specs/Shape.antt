@@ -17,7 +17,7 @@ StaysOrRests old new = (new ≡ old) ⊎ (is_running new ≡ false)
 abbrev pub IsForked : List Thread → Type 0
 IsForked more = (more ≡ []) ⊎ ((program : ℕ) × (more ≡ at_start program Waiting ∷ []))
 
--- who stands in a queue stood in one, or is thread t, which waits
+-- a thread in a queue was in one before, or is thread t, which waits
 abbrev pub TellsWaiting : Sync → Sync → ℕ → Place → Type 0
 TellsWaiting old new t place = (u : ℕ) → Waits new u → Waits old u ⊎ ((u ≡ t) × (place ≡ Waiting))
 

@@ -6,7 +6,7 @@ use Rattle.sa_sync.specs.Sync.{Waits}
 use Rattle.sa_laws.specs.declared.place.Place.TheVariants.{Waiting}
 use Rattle.sa_laws.specs.State.{SpaceState, thread_in}
 
--- there are no more threads than a space can have, and who stands in a queue waits
+-- there are no more threads than a space can have, and a thread in a queue waits
 pub record IsSound (x : SpaceState) : Type 0 where
   pub few : length x.threads ≤ MAX_THREADS
   pub joiners : length x.sync.joiners ≡ MAX_THREADS

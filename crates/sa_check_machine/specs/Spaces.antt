@@ -1,20 +1,15 @@
 -- The threads of all spaces, by the numbers of the spaces.
-use Rattle.std.specs.Prelude.{◌≡◌, ℕ, ◌≤◌, not, List, [], length, count_by, slice_index_or, slice_set}
+use Rattle.std.specs.Prelude.{◌≡◌, ℕ, ◌≤◌, not, List, length, count_by, slice_index_or, slice_set}
 use Rattle.sa_base.specs.declared.number.SpaceNo.{SpaceNo}
 use Rattle.sa_base.specs.declared.number.ThreadNo.{ThreadNo}
 use Rattle.sa_base.specs.declared.limits.TheConstants.{MAX_SPACES}
 use Rattle.sa_spaces.specs.Space.{SpaceView}
-use Rattle.sa_sync.specs.Sync.{opening as sync_opening}
 use Rattle.sa_laws.specs.declared.place.Place.{Place}
-use Rattle.sa_laws.specs.State.{SpaceState, no_space, thread_in}
+use Rattle.sa_laws.specs.State.{SpaceState, thread_in, no_threads}
 use Rattle.sa_laws.specs.Effect.{Effect, effect_of}
 use Rattle.sa_laws.specs.Ends.{are_done, are_at_rest}
 use Rattle.sa_check_machine.specs.Running.{instr_in}
 use Rattle.sa_check_machine.specs.Shape.{IsShaped}
-
--- a space that the workload does not have
-abbrev pub no_threads : SpaceState
-no_threads = record { threads = []; sync = sync_opening no_space }
 
 abbrev pub space_in : List SpaceState → SpaceNo → SpaceState
 space_in spaces s = slice_index_or spaces s.0 no_threads
@@ -22,7 +17,7 @@ space_in spaces s = slice_index_or spaces s.0 no_threads
 abbrev pub with_space_in : List SpaceState → SpaceNo → SpaceState → List SpaceState
 with_space_in spaces s x = slice_set spaces s.0 x
 
--- where a thread stands; one that was not made counts as done
+-- where a thread is; one that was not made counts as done
 abbrev pub place_in : List SpaceState → SpaceNo → ThreadNo → Place
 place_in spaces s t = (thread_in (space_in spaces s) t).place
 

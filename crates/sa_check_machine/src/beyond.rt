@@ -3,7 +3,7 @@ use sa_base::{Record, SpaceNo, ThreadNo};
 /// What the needs of a record look at beyond the abstract machine's state.
 #[derive(Clone, Copy, Debug)]
 pub struct Beyond {
-    /// The record of the same event that stands directly before.
+    /// The record of the same event that comes directly before.
     pub last: Option<Record>,
     /// The resident pages of the record's space: bit k says that page k is resident.
     pub pages: u16,

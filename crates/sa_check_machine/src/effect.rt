@@ -19,7 +19,7 @@ use sa_sync::{SyncAnswer, SyncState};
 // What a fork gives where as many threads were made as a space can have.
 const NOT_MADE: u64 = u64::MAX;
 
-// The instruction at which a thread stands.
+// A thread's next instruction.
 pub(crate) fn instr_at(def: &SpaceDef, thread: &ThreadState) -> Instr
     requires { IsAt def.now thread.now }
     ensures instr { result ≡ instr_in def.now thread.now }
@@ -31,7 +31,7 @@ pub(crate) fn instr_at(def: &SpaceDef, thread: &ThreadState) -> Instr
     def.programs()[usize::from(thread.program())].at(thread.pc())
 }
 
-// The effect of the instruction at which thread `t` stands. The threads that it forks or wakes are put, in order, into
+// The effect of the next instruction of thread `t`. The threads that it forks or wakes are put, in order, into
 // the list, which is empty.
 pub(crate) fn does(
     def: &SpaceDef,
@@ -93,7 +93,7 @@ fn go(def: &SpaceDef, table: &mut Threads, t: ThreadNo, thread: &ThreadState)
     table.set(t, &thread.went(program));
 }
 
-// The thread stands behind its instruction.
+// The thread goes on to the place after its instruction.
 fn pass(table: &mut Threads, t: ThreadNo, thread: &ThreadState)
     requires made { t.0 < length table.old }
     requires next { thread.now.pc + 1 < 2 ^ 16 }
@@ -129,7 +129,7 @@ fn answer_to(
     tell(table, roused, t, &thread.next(), answer);
 }
 
-// What an answer does to the calling thread, which stands behind its instruction.
+// What an answer does to the calling thread, which goes on to the place after its instruction.
 fn tell(
     table: &mut Threads,
     roused: &mut Vec<ThreadNo>,

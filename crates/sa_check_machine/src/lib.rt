@@ -1,4 +1,4 @@
-//! The abstract machine of threads in code, record by record: where each thread stands, what each instruction does to it,
+//! The abstract machine of threads in code, record by record: where each thread is, what each instruction does to it,
 //! which space owns each processor, and which records the machine can do. Of each space it counts the threads that are
 //! active, not done or not at rest.
 #![tactic(auto)]

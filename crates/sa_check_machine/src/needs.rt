@@ -50,7 +50,7 @@ impl Replay {
             && is_touched(self.instr_of(s, t, place), pages)
     }
 
-    /// Whether an `out` of the thread stands directly before, with this value, on a processor that its space owns.
+    /// Whether an `out` of the thread comes directly before, with this value, on a processor that its space owns.
     pub fn can_out(
         &self,
         p: ProcNo,
@@ -114,7 +114,7 @@ impl Replay {
         self.runner(p).is_none()
     }
 
-    /// Whether the thread, if one is given, stands in this place.
+    /// Whether the thread, if one is given, is in this place.
     pub fn stands_in(&self, place: Place, s: SpaceNo, t: Option<ThreadNo>) -> bool
         ensures { IsTrue result ↔ StandsIn place self.now.state s t }
     {

@@ -157,7 +157,7 @@ impl Replay {
         }
     }
 
-    /// The instruction at which the thread stands, and `end` where it stands at none.
+    /// The thread's next instruction, and `end` where it has none.
     pub fn next_instr(&self, s: SpaceNo, t: ThreadNo) -> Instr
         ensures { result ≡ next_instr self.now.workload self.now.state s t }
     {
@@ -238,7 +238,7 @@ impl Replay {
         }
     }
 
-    // The thread, if there is one, which runs nowhere, stands in another place where it runs nowhere.
+    // Puts the thread, if there is one, which runs nowhere, in another place where it runs nowhere.
     fn put(&mut self, s: SpaceNo, t: Option<ThreadNo>, place: Place)
         requires can { CanPut self.old.state s t }
         requires place { is_running place ≡ false }

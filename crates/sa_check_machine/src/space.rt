@@ -45,7 +45,7 @@ impl Model for SpaceThreads {
 impl SpaceThreads {
     ghost use Rattle.sa_laws.specs.State.{opening_space};
 
-    /// The space at the opening: thread 0 stands ready in program 0. Fails only where memory runs out.
+    /// The space at the opening: thread 0 is ready in program 0. Fails only where memory runs out.
     pub fn new(alloc: Global, def: &SpaceDef) -> Result<SpaceThreads, AllocError>
         ensures { IfOk result (λ space. space ≡ opening_space def.now) }
     {

@@ -8,7 +8,7 @@ use sa_instr::{Program, Reg, Regs, local};
 use sa_laws::Place;
 use std::marker::Model;
 
-/// A thread that was made: its program, the place of its next instruction, its registers, and where it stands.
+/// A thread that was made: its program, the place of its next instruction, its registers, and where it is.
 #[derive(Clone, Copy, Debug, PartialEq, Eq)]
 pub struct ThreadState {
     program: u16,
@@ -61,7 +61,7 @@ impl ThreadState {
         self.regs
     }
 
-    /// Where it stands.
+    /// Where it is.
     pub fn place(&self) -> Place
         ensures { result ≡ self.now.place }
     {
@@ -77,7 +77,7 @@ impl ThreadState {
         thread
     }
 
-    // The thread behind its instruction.
+    // The thread after its instruction.
     pub(crate) fn next(&self) -> ThreadState
         requires { self.now.pc + 1 < 2 ^ 16 }
         ensures { result ≡ next self.now }
@@ -98,7 +98,7 @@ impl ThreadState {
         thread
     }
 
-    // The thread behind an instruction that stays within it.
+    // The thread after an instruction that stays within it.
     pub(crate) fn went(&self, program: &Program) -> ThreadState
         requires { self.now.pc < length program.now }
         ensures { let instr = instr_at program.now self.now.pc in

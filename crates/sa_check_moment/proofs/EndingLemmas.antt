@@ -132,8 +132,11 @@ module _ (w : WorkloadView) (before : Readings) (number : ℕ) (p : ProcNo) (rec
       → (if b then with_life (arisen is_inside w before e r) (running_of r p) (stepped_if x a (read_of r)).lives else (stepped_if x a (read_of r)).lives)
       ≡ (arisen_if (if b then Some (is_in_if w r true (life_on r p)) else None) p (stepped_if x a (read_of r))).lives
   up-same false x a = refl
-  up-same true None a = ups-read is_inside w before e r (running_of r p) r.lives (is_in_if w r true (life_on r p)) (λ act life at here. tested true (running_of r p) act life at here)
-  up-same true (Some x) a = ups-read is_inside w before e r (running_of r p) (with_life (stepped_by x) a r.lives) (is_in_if w r true (life_on r p)) (tested_after x a)
+  up-same true None a =
+      ups-read is_inside w before e r (running_of r p) r.lives (is_in_if w r true (life_on r p))
+      (λ act life at here. tested true (running_of r p) act life at here)
+  up-same true (Some x) a =
+      ups-read is_inside w before e r (running_of r p) (with_life (stepped_by x) a r.lives) (is_in_if w r true (life_on r p)) (tested_after x a)
 
   -- the rest of what is read of lives stays
   rest-same : (up : Option Bool) (x : Option Stepped) (a : Option ActNo)
@@ -143,7 +146,8 @@ module _ (w : WorkloadView) (before : Readings) (number : ℕ) (p : ProcNo) (rec
   rest-same (Some inside) None a = refl
   rest-same (Some inside) (Some x) a = refl
 
-  pub ended-lives : arisen_if (up_by w r p records) p (stepped_if (step_by w (lowers before records) r (running_of before p) records) (running_of before p) (read_of r))
+  pub ended-lives : arisen_if (up_by w r p records) p
+      (stepped_if (step_by w (lowers before records) r (running_of before p) records) (running_of before p) (read_of r))
       ≡ read_of (ended is_inside w before e r)
   ended-lives =
       let a = running_of before p in
@@ -155,7 +159,8 @@ module _ (w : WorkloadView) (before : Readings) (number : ℕ) (p : ProcNo) (rec
 pub finish-whole : (m n : Kept) (before : Readings) (number : ℕ) (p : ProcNo) (records : List Record) (running : Option ActNo) (low : Bool)
     → running ≡ running_of before p → low ≡ lowers before records
     → n.workload ≡ m.workload → n.number ≡ m.number + 1 → n.state ≡ m.state → n.board ≡ m.board
-    → lives_of n.lives ≡ arisen_if (up_by (seen m).workload (seen m).readings p records) p (stepped_if (step_by (seen m).workload low (seen m).readings running records) running (lives_of m.lives))
+    → lives_of n.lives ≡ arisen_if (up_by (seen m).workload (seen m).readings p records) p
+    (stepped_if (step_by (seen m).workload low (seen m).readings running records) running (lives_of m.lives))
     → n.pending ≡ m.pending → n.ready ≡ m.ready → n.last ≡ None → n.moved ≡ None → seen n ≡ at_end before number p records (seen m)
 unfolding seen
 finish-whole m n before number p records running low runs is workload count state board lives pending ready last moved =
@@ -163,7 +168,8 @@ finish-whole m n before number p records running low runs is workload count stat
     let read : lives_of n.lives ≡ read_of (ended is_inside m.workload before (event number p records) r) =
     lives
     ∙ ap (λ (b : Bool). arisen_if (up_by m.workload r p records) p (stepped_if (step_by m.workload b r running records) running (read_of r))) is
-    ∙ ap (λ (a : Option ActNo). arisen_if (up_by m.workload r p records) p (stepped_if (step_by m.workload (lowers before records) r a records) a (read_of r))) runs
+    ∙ ap (λ (a : Option ActNo). arisen_if (up_by m.workload r p records) p
+    (stepped_if (step_by m.workload (lowers before records) r a records) a (read_of r))) runs
     ∙ ended-lives m.workload before number p records r in
     seen-as n m.workload (m.number + 1) m.state m.board (read_of (ended is_inside m.workload before (event number p records) r)) m.pending m.ready None None
     workload count state board read pending ready last moved

@@ -62,8 +62,10 @@ whole w number state board lives pending ready last moved =
     record { workload = w; readings = joined number state board lives pending ready last moved }
 
 -- is seen as another, where it was put together from the same
-pub seen-as : (n : Kept) (w : WorkloadView) (number : ℕ) (state : State) (board : BoardView) (lives : LivesView) (pending : PendingView) (ready : List (List Listed)) (last : Option Record) (moved : Option SpaceNo)
-    → n.workload ≡ w → n.number ≡ number → n.state ≡ state → n.board ≡ board → lives_of n.lives ≡ lives → n.pending ≡ pending → n.ready ≡ ready → n.last ≡ last → n.moved ≡ moved
+pub seen-as : (n : Kept) (w : WorkloadView) (number : ℕ) (state : State) (board : BoardView) (lives : LivesView) (pending : PendingView)
+    (ready : List (List Listed)) (last : Option Record) (moved : Option SpaceNo)
+    → n.workload ≡ w → n.number ≡ number → n.state ≡ state → n.board ≡ board → lives_of n.lives ≡ lives → n.pending ≡ pending → n.ready ≡ ready → n.last ≡ last
+    → n.moved ≡ moved
     → seen n ≡ whole w number state board lives pending ready last moved
 unfolding seen
 seen-as n w number state board lives pending ready last moved a b c d f g h i j =
@@ -118,7 +120,8 @@ pub read-whole : (m n : Kept) (e : ℕ) (p : ProcNo) (x : Record) (for_push : Bo
 unfolding seen
 read-whole m n e p x for_push begun list roused is workload number state woken board lives pending ready last moved =
     let r = (seen m).readings in
-    seen-as n m.workload r.number (changed m.workload p r.state x) (noted e p r.last x (board_of r)) (recorded (roused_by m.workload r.state x) for_push p x (read_of r))
+    seen-as n m.workload r.number (changed m.workload p r.state x) (noted e p r.last x (board_of r))
+    (recorded (roused_by m.workload r.state x) for_push p x (read_of r))
     (pending_after (begun_by m.workload r x) e x (pending_of r)) (ready_after (first_list (life_on r p) p) x r.ready) (Some x) (moved_after r.moved x)
     workload number state board (lives ∙ ap (λ (threads : List ThreadNo). recorded threads for_push p x (lives_of m.lives)) woken)
     (pending ∙ ap (λ (b : Option Blocking). pending_after b e x m.pending) is.begins)

@@ -2,6 +2,5 @@ pub mod EndLemmas
 pub mod EndingLemmas
 pub mod JoinLemmas
 pub mod ListedLemmas
-pub mod NeedLemmas
 pub mod OpenLemmas
 pub mod PageLemmas

@@ -13,7 +13,9 @@ use Rattle.sa_spaces.specs.Workload.{WorkloadView}
 use Rattle.sa_laws.specs.declared.place.Place.{Place}
 use Rattle.sa_laws.specs.State.{State, placed_if}
 use Rattle.sa_laws.specs.Readings.{Readings, space_of_life}
-use Rattle.sa_laws.specs.Record.{after_record, with_act, without_act, without_note, is_other_note}
+use Rattle.sa_laws.specs.Record.{after_record, without_note, is_other_note}
+use Rattle.sa_laws.proofs.Lengths.{with-length, without-length}
+use Rattle.sa_laws.proofs.Spaces.{placed-owners}
 use Rattle.sa_check_moment.specs.Seen.{Seen, opened, at_event, behind_record, at_end}
 use Rattle.sa_check_moment.specs.Listed.{IsListed}
 
@@ -64,21 +66,9 @@ still m n workload long is =
       untold = long.untold ∙ is.untold ∙ spaces;
     }
 
--- a thread that stands elsewhere moves no processor
-placed_owners : (a : State) (s : SpaceNo) (t : Option ThreadNo) (place : Place) → (placed_if a s t place).owners ≡ a.owners
-placed_owners a s None place = refl
-placed_owners a s (Some t) place = refl
-
+-- a thread that is put elsewhere moves no processor
 as_many : (a : State) (s : SpaceNo) (t : Option ThreadNo) (place : Place) → length (placed_if a s t place).owners ≡ length a.owners
-as_many a s t place = ap length (placed_owners a s t place)
-
-with-long : (taken : List (List ActNo)) (s : Option SpaceNo) (a : ActNo) → length (with_act taken s a) ≡ length taken
-with-long taken None a = refl
-with-long taken (Some s) a = length-set taken s.0 _
-
-without-long : (taken : List (List ActNo)) (s : Option SpaceNo) (a : ActNo) → length (without_act taken s a) ≡ length taken
-without-long taken None a = refl
-without-long taken (Some s) a = length-set taken s.0 _
+as_many a s t place = ap length (placed-owners a s t place)
 
 told-long : (untold : List (List Note)) (n : Note) → length (without_note untold n) ≡ length untold
 told-long untold n = length-map untold (filter (is_other_note n))
@@ -135,7 +125,7 @@ kept w e p r (Told (Preempted a)) = record {
   lines = refl;
   marks = refl;
   running = refl;
-  taken = with-long r.taken (space_of_life r (Some a)) a;
+  taken = with-length r.taken (space_of_life r (Some a)) a;
   untold = told-long r.untold _;
 }
 kept w e p r (Told (Blocked a)) = record { owners = refl; aims = refl; lines = refl; marks = refl; running = refl; taken = refl; untold = told-long r.untold _ }
@@ -145,10 +135,18 @@ kept w e p r (Told (Unblocked a)) = record {
   lines = refl;
   marks = refl;
   running = refl;
-  taken = with-long r.taken (space_of_life r (Some a)) a;
+  taken = with-length r.taken (space_of_life r (Some a)) a;
   untold = told-long r.untold _;
 }
-kept w e p r (Move old new) = record { owners = length-set r.state.owners p.0 _; aims = refl; lines = refl; marks = refl; running = refl; taken = refl; untold = refl }
+kept w e p r (Move old new) = record {
+  owners = length-set r.state.owners p.0 _;
+  aims = refl;
+  lines = refl;
+  marks = refl;
+  running = refl;
+  taken = refl;
+  untold = refl;
+}
 kept w e p r (Want s n) = record { owners = refl; aims = refl; lines = refl; marks = length-set r.marks p.0 _; running = refl; taken = refl; untold = refl }
 kept w e p r (Aim q s) = record { owners = refl; aims = length-set r.aims q.0 _; lines = refl; marks = refl; running = refl; taken = refl; untold = refl }
 kept w e p r (Line q) = record { owners = refl; aims = refl; lines = length-set r.lines q.0 _; marks = refl; running = refl; taken = refl; untold = refl }
@@ -160,14 +158,14 @@ kept w e p r (GiveBack a) = record {
   lines = refl;
   marks = refl;
   running = refl;
-  taken = without-long r.taken (space_of_life r (Some a)) a;
+  taken = without-length r.taken (space_of_life r (Some a)) a;
   untold = refl;
 }
 kept w e p r Idle = same (lists_of r)
 kept w e p r (Spin l) = same (lists_of r)
 kept w e p r Tick = same (lists_of r)
 
--- before any record, where an event begins, behind a record, and where an event ends
+-- before any record, where an event begins, after a record, and where an event ends
 pub listed-opened : (w : WorkloadView) → IsListed (opened w)
 listed-opened w = record {
   owners = length-replicate w.processors None;
@@ -181,7 +179,8 @@ listed-opened w = record {
 
 pub listed-begun : (number : ℕ) (p : ProcNo) (m : Seen) → IsListed m → IsListed (at_event number p m)
 listed-begun number p m is =
-    still m (at_event number p m) refl (record { owners = refl; aims = refl; lines = length-set m.readings.lines p.0 None; marks = refl; running = refl; taken = refl; untold = refl }) is
+    still m (at_event number p m) refl
+    (record { owners = refl; aims = refl; lines = length-set m.readings.lines p.0 None; marks = refl; running = refl; taken = refl; untold = refl }) is
 
 pub listed-behind : (number : ℕ) (p : ProcNo) (x : Record) (m : Seen) → IsListed m → IsListed (behind_record number p x m)
 listed-behind number p x m is = still m (behind_record number p x m) refl (kept m.workload number p m.readings x) is

@@ -32,7 +32,7 @@ board_of r = record { aims = r.aims; lines = r.lines; marks = r.marks; demands =
 abbrev pub lowered : ProcNo → BoardView → BoardView
 lowered p b = record b { lines = slice_set b.lines p.0 None }
 
--- after a record of an event of a processor, which stands behind another of the same event, or behind none
+-- after a record of an event of a processor, which comes after another of the same event, or after none
 abbrev pub marks_on : ProcNo → Option Record → BoardView → Record → List Bool
 marks_on p last b (Up s a) = slice_set b.marks p.0 false
 marks_on p last b (Want s n) =

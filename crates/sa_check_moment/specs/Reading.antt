@@ -11,7 +11,7 @@ use Rattle.sa_check_lives.specs.Recorded.{IsForPush}
 use Rattle.sa_check_ios.specs.PendingView.{PendingView, begun_for, without_life, without_fetch}
 use Rattle.sa_check_ios.specs.Ready.{with_ready, without_ready}
 
--- at a take, whether it is for a push; at a ready, the list in which the thread comes to stand
+-- at a take, whether it is for a push; at a ready, the list into which the thread is put
 abbrev pub ReadsPush : Readings → ProcNo → Record → Bool → Type 0
 ReadsPush r p (Take s l t) for_push = IsForPush r p for_push
 ReadsPush r p _ for_push = Unit {0}
@@ -36,7 +36,7 @@ abbrev pub pending_after : Option Blocking → ℕ → Record → PendingView �
 pending_after None e x v = ended_by x v
 pending_after (Some b) e x v = begun_for b e v
 
--- the ready threads after a record, where a thread that it makes ready comes to stand in this list
+-- the ready threads after a record, where a thread that it makes ready is put into this list
 abbrev pub ready_after : ProcNo → Record → List (List Listed) → List (List Listed)
 ready_after l (Ready s t) ready = with_ready ready s t l
 ready_after l (Run s t) ready = without_ready ready s t

@@ -18,7 +18,7 @@ pub record Seen : Type 0 where
   pub workload : WorkloadView
   pub readings : Readings
 
--- a moment as it is stored: the same, in which the lives in use stand in a table
+-- a moment as it is stored: the same, in which the lives in use are in a table
 pub record Kept : Type 0 where
   pub workload : WorkloadView
   pub number : ℕ
@@ -66,7 +66,7 @@ opened w = record { workload = w; readings = opening_readings w }
 abbrev pub event : ℕ → ProcNo → List Record → Event
 event number p records = record { number = number; proc = p; records = records }
 
--- at the beginning of an event, behind one record of it, and at its end, where this was read before it
+-- at the beginning of an event, after one record of it, and at its end, where this was read before it
 abbrev pub at_event : ℕ → ProcNo → Seen → Seen
 at_event number p m = record m { readings = begun m.workload (event number p []) m.readings }
 

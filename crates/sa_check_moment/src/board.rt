@@ -32,7 +32,7 @@ impl Model for Board {
 }
 
 impl Board {
-    // Before any record, of so many processors and spaces. Fails only where memory runs out.
+    // Before any record, of this many processors and spaces. Fails only where memory runs out.
     pub(crate) fn new(alloc: Global, processors: usize, spaces: usize) -> Result<Board, AllocError>
         ensures { IfOk result (λ b. b ≡ no_board processors spaces) }
     {
@@ -94,7 +94,7 @@ impl Board {
         put(&mut self.lines, p.0, None);
     }
 
-    // Reads a record of an event of the processor, behind which of the same event it stands.
+    // Reads a record of an event of the processor; `last` is the one of the same event directly before it.
     pub(crate) fn note(&mut self, event: u64, p: ProcNo, last: Option<Record>, what: &Record)
         ensures { self.new ≡ noted event p last what.now self.old }
     {

@@ -356,14 +356,14 @@ impl Moment {
         self.parts.lives.holds_lock(s, t)
     }
 
-    /// A ready thread of the space stands in the list.
+    /// A ready thread of the space is in the list.
     pub fn has_ready(&self, s: SpaceNo, l: ProcNo) -> bool
         ensures { result ≡ has_ready (seen self.now).readings s l }
     {
         self.parts.ready.has_ready(s, l)
     }
 
-    /// Each list of the space in which a ready thread stands is locked.
+    /// Each list of the space in which there is a ready thread is locked.
     pub fn none_is_open(&self, s: SpaceNo) -> bool
         ensures { IsTrue result ↔ NoneIsOpen (seen self.now).readings s }
     {
@@ -376,7 +376,7 @@ impl Moment {
     }
 
     /// Of the space's lists from that of the processor on, round, `l` is the first that nobody locks and in which a
-    /// ready thread stands.
+    /// ready thread is.
     pub fn is_first_open(&self, s: SpaceNo, p: ProcNo, l: ProcNo) -> bool
         ensures { IsTrue result ↔ IsFirstOpen (seen self.now).workload (seen self.now).readings s p l }
     {
@@ -410,7 +410,7 @@ impl Moment {
         self.parts.lives.upped()
     }
 
-    /// The record of the same event that stands directly before.
+    /// The record of the same event that comes directly before.
     pub fn last(&self) -> Option<Record>
         ensures { result ≡ (seen self.now).readings.last }
     {
@@ -489,7 +489,7 @@ impl Moment {
         self.parts.lives.some_is_in()
     }
 
-    // Nobody locks the list, and a ready thread stands in it.
+    // Nobody locks the list, and a ready thread is in it.
     fn is_open(&self, s: SpaceNo, l: ProcNo) -> bool
         ensures { IsTrue result ↔ IsOpen (seen self.now).readings s l }
     {
@@ -497,7 +497,7 @@ impl Moment {
     }
 }
 
-// The list so many places behind that of the processor, of as many as there are processors, round.
+// The list `k` places after that of the processor, of as many as there are processors, round.
 fn list_round(processors: u16, p: ProcNo, k: u16) -> ProcNo
     requires { 1 ≤ processors }
     ensures { (w : WorkloadView) → w.processors ≡ processors → result ≡ list_round w p k }

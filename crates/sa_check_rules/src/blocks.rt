@@ -1,4 +1,4 @@
-// A block gives an upcall: the law of each record, on the moment before it. `rest` stands behind it.
+// A block gives an upcall: the law of each record, on the moment before it. `rest` comes after it.
 ghost use Rattle.std.specs.Prelude.{◌↔◌, IsTrue};
 ghost use Rattle.sa_laws.specs.Upcalls.{GivesUpcall, GivesUpcallThen};
 ghost use Rattle.sa_check_moment.specs.Seen.{seen};
@@ -8,7 +8,7 @@ use sa_base::{IoNo, ProcNo, Record, SpaceNo};
 use sa_check_moment::Moment;
 use sa_check_shapes::goes_on;
 
-/// A block gives an upcall: a block has the number of its I/O, and behind it the processor goes on.
+/// A block gives an upcall: a block has the number of its I/O, and after it the processor goes on.
 pub fn gives_upcall(moment: &Moment, p: ProcNo, what: &Record, rest: &[Record]) -> bool
     ensures { IsTrue result ↔ GivesUpcallThen p (seen moment.now).readings what.now rest.now }
 {

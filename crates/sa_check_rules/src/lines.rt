@@ -1,4 +1,4 @@
-// A line has its cause: the law of each record, on the moment before it. `rest` stands behind it.
+// A line has its cause: the law of each record, on the moment before it. `rest` comes after it.
 ghost use Rattle.std.specs.Prelude.{◌↔◌, IsTrue};
 ghost use Rattle.sa_laws.specs.Upcalls.{IsHeard, RaisesLine};
 ghost use Rattle.sa_check_moment.specs.Seen.{seen};
@@ -7,7 +7,7 @@ use sa_base::{ProcNo, Record};
 use sa_check_moment::Moment;
 use sa_check_shapes::begins_with_line;
 
-/// A line has its cause: none is raised that is raised already, and behind an aim of a processor whose line is low stands
+/// A line has its cause: none is raised that is raised already, and after an aim of a processor whose line is low comes
 /// its line.
 pub fn raises_line(moment: &Moment, what: &Record, rest: &[Record]) -> bool
     ensures { IsTrue result ↔ RaisesLine (seen moment.now).readings what.now rest.now }
@@ -19,7 +19,7 @@ pub fn raises_line(moment: &Moment, what: &Record, rest: &[Record]) -> bool
     }
 }
 
-// The processor's line is raised, or stands here.
+// The processor's line is raised, or its record comes here.
 fn is_heard(moment: &Moment, p: ProcNo, rest: &[Record]) -> bool
     ensures { IsTrue result ↔ IsHeard (seen moment.now).readings p rest.now }
 {

@@ -21,7 +21,7 @@ pub fn locks_are_kept(moment: &Moment, number: u64, p: ProcNo, records: &[Record
     number == 0 || keeps_locks_in(moment, p, own_part(records))
 }
 
-// A step keeps to the rules, and an operation stands in an event of its own.
+// A step keeps to the rules, and an operation is in an event of its own.
 fn keeps_locks_in(moment: &Moment, p: ProcNo, records: &[Record]) -> bool
     ensures { let m = seen moment.now in
         IsTrue result ↔ KeepsLocksIn m.workload m.readings p records.now }

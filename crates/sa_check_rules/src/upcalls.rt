@@ -1,4 +1,4 @@
-// An upcall tells all: the law of each record, on the moment before it. `rest` stands behind it.
+// An upcall tells all: the law of each record, on the moment before it. `rest` comes after it.
 ghost use Rattle.std.specs.Prelude.{◌≡◌, ◌↔◌, ◌++◌, IsTrue};
 ghost use Rattle.std.specs.Option.{option_to_list};
 ghost use Rattle.sa_laws.specs.Readings.{untold_of};
@@ -9,7 +9,7 @@ use sa_base::{ActNo, Note, ProcNo, Record, SpaceNo};
 use sa_check_moment::Moment;
 use sa_check_shapes::{are_told, is_told};
 
-/// An upcall tells all: behind an up of a fresh number stands all that is due to its space, and that is something; and a
+/// An upcall tells all: after an up of a fresh number comes all that is due to its space, and that is something; and a
 /// giveback names a life that was taken.
 pub fn tells_all(moment: &Moment, p: ProcNo, what: &Record, rest: &[Record]) -> bool
     ensures { IsTrue result ↔ TellsAllThen p (seen moment.now).readings what.now rest.now }
@@ -21,7 +21,7 @@ pub fn tells_all(moment: &Moment, p: ProcNo, what: &Record, rest: &[Record]) -> 
     }
 }
 
-// Behind the up of the space in this activation stands all that is due to it.
+// After the up of the space in this activation comes all that is due to it.
 fn tells_all_to(moment: &Moment, p: ProcNo, s: SpaceNo, a: ActNo, rest: &[Record]) -> bool
     ensures { IsTrue result ↔ TellsAll p (seen moment.now).readings s a rest.now }
 {

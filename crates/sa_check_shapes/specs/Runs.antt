@@ -11,7 +11,7 @@ test_of NoAim = is_no_aim
 test_of NoWant = is_no_want
 test_of Leave = is_of_leave
 
--- the first record, and those behind it that pass the test
+-- the first record, and those after it that pass the test
 abbrev pub first_and_run : Run → List Record → List Record
 first_and_run run [] = []
 first_and_run run (first ∷ others) = first ∷ take_while (test_of run) others

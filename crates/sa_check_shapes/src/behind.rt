@@ -1,4 +1,4 @@
-// What stands behind a stop or a block: where the processor goes on.
+// What comes after a stop or a block: where the processor goes on.
 ghost use Rattle.std.specs.Prelude.{◌≡◌, ◌↔◌, IsTrue};
 ghost use Rattle.sa_laws.specs.Readings.{Readings};
 ghost use Rattle.sa_laws.specs.Shape.{BeginsWithUp, leave_run};
@@ -79,7 +79,7 @@ fn is_fetch_unless(s: SpaceNo, fetching: bool, records: &[Record]) -> bool
     }
 }
 
-/// Behind a block on a processor of this space stands an up of it, or the leave where its upcall page is absent.
+/// After a block on a processor of this space comes an up of it, or the leave where its upcall page is absent.
 pub fn goes_on(p: ProcNo, s: SpaceNo, page: UpcallPage, records: &[Record]) -> bool
     ensures { (r : Readings) → IsSeen r s page
         → (IsTrue result ↔ GoesOn page.resident p r s records.now) }
@@ -116,7 +116,7 @@ pub fn goes_to(
     }
 }
 
-/// An interrupt of a processor with this owner and aim: the stop of the owner's life, if there is an owner, and behind it
+/// An interrupt of a processor with this owner and aim: the stop of the owner's life, if there is an owner, and after it
 /// where the processor goes on.
 pub fn stops_and_goes(
     p: ProcNo,

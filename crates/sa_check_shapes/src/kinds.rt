@@ -121,7 +121,7 @@ pub fn follows_aim(last: Option<Record>, p: ProcNo) -> bool
     }
 }
 
-/// A line that does not stand directly behind an aim of its processor at a space.
+/// A line that does not come directly after an aim of its processor at a space.
 pub fn is_other_line(last: Option<Record>, what: Record) -> bool
     ensures { result ≡ is_other_line last what }
 {

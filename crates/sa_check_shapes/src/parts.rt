@@ -60,7 +60,7 @@ fn run_len(run: Run, records: &[Record]) -> usize
     records.len()
 }
 
-// The first record, and those behind it that pass the test.
+// The first record, and those after it that pass the test.
 fn first_and_run(run: Run, records: &[Record]) -> &[Record]
     ensures { result.now ≡ first_and_run run records.now }
 {
@@ -70,7 +70,7 @@ fn first_and_run(run: Run, records: &[Record]) -> &[Record]
     &records[..run_len(run, others) + 1]
 }
 
-/// The event's own part, which stands before its closing.
+/// The event's own part, which comes before its closing.
 pub fn own_part(records: &[Record]) -> &[Record]
     ensures { result.now ≡ own_part records.now }
 {
@@ -115,7 +115,7 @@ pub fn leave_run(records: &[Record]) -> &[Record]
     run_of(Run::Leave, records)
 }
 
-/// The records before the first line, not counting the event's first record, that does not stand directly behind an aim of
+/// The records before the first line, not counting the event's first record, that does not come directly after an aim of
 /// its processor at a space.
 pub fn front_part(records: &[Record]) -> &[Record]
     ensures { result.now ≡ front_part records.now }
@@ -130,7 +130,7 @@ pub fn last_lines(records: &[Record]) -> &[Record]
     &records[front_len(records)..]
 }
 
-// How many records stand before that line.
+// How many records come before that line.
 fn front_len(records: &[Record]) -> usize
     ensures len { result ≡ length (front_part records.now) }
     ensures within { result ≤ length records.now }
@@ -141,7 +141,7 @@ fn front_len(records: &[Record]) -> usize
     }
 }
 
-// How many of these records behind the first stand before that line.
+// How many of these records after the first come before that line.
 fn lines_len(first: Record, others: &[Record]) -> usize
     ensures len { result ≡ length (before_lines (Some first) others.now) }
     ensures within { result ≤ length others.now }
@@ -156,7 +156,7 @@ fn lines_len(first: Record, others: &[Record]) -> usize
     others.len()
 }
 
-/// What stands behind the run of told records with which the list begins.
+/// What comes after the run of told records with which the list begins.
 pub fn behind_told(records: &[Record]) -> &[Record]
     ensures { result.now ≡ behind_told records.now }
 {

@@ -24,7 +24,7 @@ pub fn are_raising(records: &[Record]) -> bool
     true
 }
 
-/// A closing: wants, and behind them aims at spaces and lines, and nothing else.
+/// A closing: wants, and after them aims at spaces and lines, and nothing else.
 pub fn is_closing(records: &[Record]) -> bool
     ensures { IsTrue result ↔ IsClosing records.now }
 {
@@ -150,7 +150,7 @@ fn all_operate(records: &[Record]) -> bool
     records.iter().all(|what| is_of_locks(*what))
 }
 
-/// Where an operation on ready lists is among these records, nothing stands behind the first.
+/// Where an operation on ready lists is among these records, nothing comes after the first.
 pub fn stands_alone(records: &[Record]) -> bool
     ensures { IsTrue result ↔ OperatesAlone records.now }
 {

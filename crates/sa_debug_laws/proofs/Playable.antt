@@ -1,49 +1,22 @@
 -- The items of a lawful history are records that the abstract machine can do, one after another.
-use Rattle.std.proofs.Common.{◌≡◌, ℕ, ◌<◌, List, [], ◌∷◌, ◌++◌, refl, sym, ap, ◌∙◌, subst}
+use Rattle.std.proofs.Common.{◌≡◌, ℕ, List, [], ◌∷◌, ◌++◌, refl, sym, ap, ◌∙◌, subst}
 use Rattle.sa_base.specs.declared.number.ProcNo.{ProcNo}
 use Rattle.sa_base.specs.declared.record.Record.{Record}
-use Rattle.sa_base.specs.declared.record.Record.TheVariants.{Ins, Out, Run, Stop, Block, Unblock, Cont, Back, Ready, Take, Free, Up, Told, Move, Want, Aim, Line, Fetch, Fetched, GiveBack, Idle, Spin, Tick}
 use Rattle.sa_base.specs.declared.record.Item.{Item}
 use Rattle.sa_base.specs.Items.{items_at}
 use Rattle.sa_spaces.specs.Workload.{WorkloadView}
 use Rattle.sa_laws.specs.Event.{Event, items_of}
-use Rattle.sa_laws.specs.State.{State, program_len}
+use Rattle.sa_laws.specs.State.{State}
 use Rattle.sa_laws.specs.Machine.{changed}
-use Rattle.sa_laws.specs.Step.{Needs, AreSteps}
+use Rattle.sa_laws.specs.Step.{AreSteps}
 use Rattle.sa_laws.specs.Readings.{Readings}
 use Rattle.sa_laws.specs.Record.{after_record}
 use Rattle.sa_laws.specs.History.{Test, begun, after_records, after_event, after_events}
 use Rattle.sa_laws.specs.Rules.{UserRules}
 use Rattle.sa_legal.specs.Fold.{AreLawful}
-use Rattle.sa_check_machine.specs.Needs.{CanChange}
+use Rattle.sa_check_machine.proofs.NeedLemmas.{can-change}
 use Rattle.sa_debug.specs.Reached.{CanPlay}
 use Rattle.sa_debug.specs.Views.{state_behind}
-
--- a record whose needs are met can be done
-can-change : (w : WorkloadView) (p : ProcNo) (r : Readings) (x : Record) → Needs w p r x → CanChange w p r.state x
-can-change w p r (Ins s t i) needs = record { runs = needs.runs; within = subst (λ n. n < program_len w r.state s t) (sym needs.place) needs.within }
-can-change w p r (Out s t value) needs = tt
-can-change w p r (Run s t) needs = needs
-can-change w p r (Stop s t a) needs = needs.1
-can-change w p r (Block s t a io) needs = needs.runs
-can-change w p r (Unblock s t a) needs = needs.blocked
-can-change w p r (Cont s t) needs = needs
-can-change w p r (Back s t) needs = needs.1
-can-change w p r (Ready s t) needs = needs.1
-can-change w p r (Take s l t) needs = tt
-can-change w p r (Free s l t) needs = tt
-can-change w p r (Up s a) needs = tt
-can-change w p r (Told note) needs = tt
-can-change w p r (Move old new) needs = tt
-can-change w p r (Want s n) needs = tt
-can-change w p r (Aim q s) needs = tt
-can-change w p r (Line q) needs = tt
-can-change w p r (Fetch s) needs = tt
-can-change w p r (Fetched s) needs = tt
-can-change w p r (GiveBack a) needs = tt
-can-change w p r Idle needs = tt
-can-change w p r (Spin l) needs = tt
-can-change w p r Tick needs = tt
 
 -- the state behind the records of an event, and behind events, is the one that is read
 records-state : (w : WorkloadView) (e : ℕ) (p : ProcNo) (r : Readings) (xs : List Record)

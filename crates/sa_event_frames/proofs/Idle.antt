@@ -21,8 +21,8 @@ use Rattle.sa_laws.specs.Readings.{Readings, running_of, life_of}
 use Rattle.sa_laws.specs.Record.{after_record, with_life, handed, stopped_with}
 use Rattle.sa_laws.specs.History.{Test, begun, after_records, after_event, behind_all, with_step, stepped, arisen, is_step, is_up}
 use Rattle.sa_laws.specs.Upcalls.{RunsWhereOwned, EachRecord, NamesTheLife}
-use Rattle.sa_kernel_model.proofs.WalkLemmas.{AreClosing}
 use Rattle.sa_laws.specs.Shape.{is_of_closing}
+use Rattle.sa_laws.proofs.Closings.{AreClosing}
 use Rattle.std.specs.List.{list_all}
 
 abbrev pub IdleAreOut : Readings → Type 0

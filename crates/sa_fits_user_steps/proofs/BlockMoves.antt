@@ -16,7 +16,6 @@ use Rattle.sa_lemmas.proofs.FunctionUpdates.{put-self, put-same}
 use Rattle.sa_lemmas.specs.Function.{put}
 use Rattle.sa_spaces.specs.Workload.{WorkloadView}
 use Rattle.sa_devices.specs.declared.kind.IoKind.TheVariants.{Page}
-use Rattle.sa_sync.specs.Sync.{opening as sync_opening}
 use Rattle.sa_fast.specs.declared.threads.Place.TheVariants as kept
 use Rattle.sa_abstract.specs.Calls.{Contexts, Stepped}
 use Rattle.sa_abstract.specs.Setting.{Setting}
@@ -32,7 +31,7 @@ use Rattle.sa_laws.specs.History.{is_inside, stepped as ends}
 use Rattle.sa_laws.specs.Life.{Life, some_lock, held_with}
 use Rattle.sa_laws.specs.Readings.{Readings, life_of, has_hand, counts}
 use Rattle.sa_laws.specs.Record.{after_record, blocking, locks_one, page_touched}
-use Rattle.sa_laws.specs.State.{no_space}
+use Rattle.sa_laws.specs.State.{no_threads}
 use Rattle.sa_laws.specs.Step.{HasCause, Needs}
 use Rattle.sa_user_laws.specs.Scene.{begun_at}
 use Rattle.sa_fits.proofs.EventEnds.{begun-holds}
@@ -62,7 +61,7 @@ pub inside-at : (w : WorkloadView) (r : Readings) (ev : Event) (here last : Read
 inside-at w r ev here last life spaces =
     or_false (some_lock life.locks || life.cont || has_hand last life)
     ∙ ap (λ y. some_lock life.locks || life.cont || y)
-    (ap (λ ys. list_any (counts (slice_index_or ys life.space.0 (record { threads = []; sync = sync_opening no_space }))) life.hand) spaces) where
+    (ap (λ ys. list_any (counts (slice_index_or ys life.space.0 no_threads)) life.hand) spaces) where
       or_false : (b : Bool) → (b || false || false) ≡ b
       or_false true = refl
       or_false false = refl

@@ -19,7 +19,6 @@ use Rattle.sa_instr.specs.Local.{instr_at}
 use Rattle.sa_instr.specs.declared.instr.Instr.TheVariants.{Io}
 use Rattle.sa_spaces.specs.Space.{SpaceView}
 use Rattle.sa_spaces.specs.Workload.{WorkloadView}
-use Rattle.sa_sync.specs.Sync.{opening as sync_opening}
 use Rattle.sa_fast.specs.Instruction.{says_of, outcome_of, instr_of, next_of, with_thread}
 use Rattle.sa_fast.specs.Rest.{place_at, one_where}
 use Rattle.sa_fast.specs.Threads.{unmade, block_at, moved_to}
@@ -40,7 +39,7 @@ use Rattle.sa_laws.specs.Life.{Life, held_with, with_hand}
 use Rattle.sa_laws.specs.Machine.{next_effect}
 use Rattle.sa_laws.specs.Readings.{Readings, life_of}
 use Rattle.sa_laws.specs.Record.{after_record, with_life, length_behind, length_in}
-use Rattle.sa_laws.specs.State.{runner_on, runner_of, space_at, Thread, thread_at, thread_in, space_def, program_len, next_instr, instr_of as law_instr, no_space, active_threads, is_active, with_thread as law_thread, put_thread, SpaceState}
+use Rattle.sa_laws.specs.State.{runner_on, runner_of, space_at, Thread, thread_at, thread_in, space_def, program_len, next_instr, instr_of as law_instr, active_threads, is_active, with_thread as law_thread, put_thread, SpaceState, no_threads}
 use Rattle.sa_laws.specs.Step.{IsTouched, AreSteps, Needs}
 use Rattle.sa_laws.specs.declared.place.Place.TheVariants as place
 use Rattle.sa_user_laws.proofs.Runners.{own-elsewhere, runner-is}
@@ -368,7 +367,7 @@ module _ (set : Setting) (e : ℕ) (u : Package) (cs : Contexts Context) (w : Wo
         busy = refl;
         marks = λ ev last spaces.
             let placed_so : (thread_at last.state set.space t).place ≡ place.Blocked =
-            ap (λ ys. (thread_in (slice_index_or ys set.space.0 (record { threads = []; sync = sync_opening no_space })) t).place) spaces
+            ap (λ ys. (thread_in (slice_index_or ys set.space.0 no_threads) t).place) spaces
             ∙ ap (λ (y : Thread). y.place) (own_is set e u cs w r p a life seen t i m is io) in
             record {
               inside = ap (λ y. is_inside w r ev last (not (stays_on y)) now) placed_so

@@ -21,12 +21,12 @@ use Rattle.sa_laws.specs.Life.{Life}
 use Rattle.sa_laws.specs.Readings.{Readings, owner_of as owner_in}
 use Rattle.sa_laws.specs.History.{after_records, behind_all, with_step}
 use Rattle.sa_laws.proofs.Records.{records-append}
+use Rattle.sa_laws.proofs.Closings.{AreClosing}
 use Rattle.sa_kernel_model.specs.State.{Scene, owner_of, untold_of}
 use Rattle.sa_kernel_model.specs.Parts.{moved, upcall}
 use Rattle.sa_kernel_model.specs.Closing.{closed}
 use Rattle.sa_kernel_model.specs.Histories.{IsHistory, read_from}
 use Rattle.sa_kernel_model.proofs.HeldLemmas.{stays-closed}
-use Rattle.sa_kernel_model.proofs.WalkLemmas.{AreClosing}
 use Rattle.sa_core_model.specs.Machine.{Machine, without_context, begun, answered}
 use Rattle.sa_core_model.specs.Turn.{told_all, welcomed_in}
 use Rattle.sa_core_model.specs.Standing.{contexts_in}

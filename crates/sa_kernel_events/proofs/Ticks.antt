@@ -20,8 +20,9 @@ use Rattle.sa_laws.specs.History.{after_records, after_event, is_up}
 use Rattle.sa_laws.specs.Event.{Event}
 use Rattle.sa_laws.specs.Step.{AreSteps}
 use Rattle.sa_laws.proofs.Records.{records-append}
+use Rattle.sa_laws.proofs.Closings.{AreClosing}
 use Rattle.sa_kernel_model.specs.State.{owner_of, line_of}
-use Rattle.sa_kernel_model.proofs.WalkLemmas.{AreClosing, not-empty}
+use Rattle.sa_kernel_model.proofs.WalkLemmas.{not-empty}
 use Rattle.sa_kernel_model.specs.Histories.{IsHistory}
 use Rattle.sa_core_model.specs.Machine.{Machine}
 use Rattle.sa_core_model.specs.Standing.{contexts_of, contexts_in, IsBetween}

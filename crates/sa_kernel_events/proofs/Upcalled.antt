@@ -20,12 +20,12 @@ use Rattle.sa_laws.specs.Life.{Life}
 use Rattle.sa_laws.specs.Readings.{Readings, running_of}
 use Rattle.sa_laws.specs.History.{after_records, behind_all, after_event, with_step}
 use Rattle.sa_laws.proofs.Records.{records-append}
+use Rattle.sa_laws.proofs.Closings.{AreClosing}
 use Rattle.sa_kernel_model.specs.State.{KernelState, Scene}
 use Rattle.sa_kernel_model.specs.Histories.{IsHistory, read_from}
 use Rattle.sa_kernel_model.specs.Overview.{Overview, overview, read_off}
 use Rattle.sa_kernel_model.proofs.NoteLemmas.{copies}
 use Rattle.sa_kernel_model.proofs.OverviewLemmas.{overview-ended}
-use Rattle.sa_kernel_model.proofs.WalkLemmas.{AreClosing}
 use Rattle.sa_core_model.specs.Machine.{Machine, begun, answered, user_of, context_on, seen_on}
 use Rattle.sa_core_model.proofs.Turns.{begun-is}
 use Rattle.sa_core_model.specs.Turn.{told_all}

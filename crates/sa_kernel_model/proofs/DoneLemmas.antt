@@ -33,6 +33,7 @@ use Rattle.sa_laws.specs.Record.{after_record, is_kind_of, is_io_of, is_io_of_ot
 use Rattle.sa_laws.specs.History.{after_records}
 use Rattle.sa_laws.specs.Turns.{IsOver}
 use Rattle.sa_laws.specs.Upcalls.{BeginsAsInterrupt}
+use Rattle.sa_laws.proofs.Closings.{AreClosing}
 use Rattle.sa_kernel_model.specs.Overview.{Overview, overview, read_off, act_space, spaces_in, taken_behind}
 use Rattle.sa_kernel_model.specs.Kept.{IsTidy, AreDistinct, fetch_claim}
 use Rattle.sa_kernel_model.proofs.OverviewLemmas.{put-through, back-record, give-record}
@@ -41,7 +42,7 @@ use Rattle.sa_kernel_model.proofs.OnceLemmas.{one-held, held-few, none-of}
 use Rattle.sa_kernel_model.proofs.IdleLemmas.{idles-with, given-idles, contains-noted, not-there}
 use Rattle.sa_kernel_model.proofs.TidyLemmas.{tidy-in, tidy-of, tidy-back, tidy-fetched, distinct-emptied}
 use Rattle.sa_kernel_model.proofs.UpLemmas.{AreLawful}
-use Rattle.sa_kernel_model.proofs.WalkLemmas.{reshaped, Walk, AreOwn, AreClosing, not-empty, has-life}
+use Rattle.sa_kernel_model.proofs.WalkLemmas.{reshaped, Walk, AreOwn, not-empty, has-life}
 
 -- how many I/Os pass a test
 abbrev passing : (Io → Bool) → List Io → ℕ

@@ -16,6 +16,7 @@ use Rattle.sa_laws.specs.History.{after_records}
 use Rattle.sa_laws.specs.Shape.{others_of, is_own, is_no_aim, is_line}
 use Rattle.sa_laws.specs.Upcalls.{BeginsAsInterrupt, StopsAndGoes, FirstLineIsAsked}
 use Rattle.sa_laws.proofs.Records.{records-append}
+use Rattle.sa_laws.proofs.Closings.{AreClosing}
 use Rattle.sa_kernel_model.specs.Overview.{overview, read_off}
 use Rattle.sa_kernel_model.specs.declared.entry.Entry.{Entry}
 use Rattle.std.specs.Prelude.{Option}
@@ -25,7 +26,7 @@ use Rattle.sa_kernel_model.specs.Kept.{IsTidy, IdleAlike}
 use Rattle.sa_kernel_model.specs.Laws.{AnyLines}
 use Rattle.sa_kernel_model.proofs.ShapeLemmas.{own-lines}
 use Rattle.sa_kernel_model.proofs.UpLemmas.{AreLawful}
-use Rattle.sa_kernel_model.proofs.WalkLemmas.{Walk, AreOwn, AreClosing, own-both}
+use Rattle.sa_kernel_model.proofs.WalkLemmas.{Walk, AreOwn, own-both}
 
 -- the records of a user level
 users-own : (x : Record) → is_users x ≡ true → is_own x ≡ true

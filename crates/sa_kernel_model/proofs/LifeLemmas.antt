@@ -12,6 +12,7 @@ use Rattle.sa_acts.specs.declared.acts.Act.{Act}
 use Rattle.sa_acts.specs.Table.{runs_in, held_of, taken_from, space_of}
 use Rattle.sa_kernel_model.specs.Entries.{without_acts}
 use Rattle.sa_kernel_model.specs.Sound.{AreSpaces, AreAlive, AreTaken, RunsIn, IsTaken}
+use Rattle.sa_laws.proofs.Numbers.{act-by_number}
 
 -- what stands somewhere after an update is the new item or an old one
 pub cell-cases : {A : Type 0} (xs : List (Option A)) (p q : ℕ) (x : Option A) (y : A) → get_or (slice_set xs p x) q None ≡ Some y
@@ -41,9 +42,6 @@ spaces-set n cells p o below each q s is = elim (cell-cases cells p q o s is) [ 
 abbrev no_life : Option ActNo
 no_life = None
 
-same-act : (a b : ActNo) → a.0 ≡ b.0 → a ≡ b
-same-act a b e = ap (λ n. record { 0 = n }) e
-
 -- a taken activation is listed
 listed-cases : (xs : List (List ActNo)) (i t : ℕ) (a b : ActNo) → Contains (get_or (slice_set xs i (get_or xs i [] ++ a ∷ [])) t []) b
     → ((t ≡ i) × (a ≡ b)) ⊎ Contains (get_or xs t []) b
@@ -66,7 +64,7 @@ module _ {C : Type 0} where
   alive-aside owners lives acts p a x here alive = record {
     run = λ q b is. elim (cell-cases lives p q None b is) [
       | inl at ↦ absurd (nothing b at.1)
-      | inr other ↦ runs-other owners acts q b a.0 x (λ e. other.0 (alive.apart q p b other.1 (here ∙ ap (λ (c : ActNo). Some c) (sym (same-act b a e))))) (alive.run q b other.1)
+      | inr other ↦ runs-other owners acts q b a.0 x (λ e. other.0 (alive.apart q p b other.1 (here ∙ ap (λ (c : ActNo). Some c) (sym (act-by_number b a e))))) (alive.run q b other.1)
     ];
     apart = λ q r b is that. elim (cell-cases lives p q None b is) [
       | inl at ↦ absurd (nothing b at.1)

@@ -14,9 +14,10 @@ use Rattle.sa_laws.specs.History.{after_records}
 use Rattle.sa_laws.specs.Shape.{is_own, is_of_closing, own_part, closing_part, others_of}
 use Rattle.sa_laws.specs.Closing.{must_want, want_one, spaces_of, aims_due, lines_due}
 use Rattle.sa_laws.specs.Turns.{AreRaising, IsClosing}
+use Rattle.sa_laws.proofs.Closings.{AreClosing}
 use Rattle.sa_kernel_model.specs.Turn.{ShapeOf, event_of}
 use Rattle.sa_kernel_model.specs.Laws.{TurnsHaveParts}
-use Rattle.sa_kernel_model.proofs.WalkLemmas.{AreOwn, AreClosing}
+use Rattle.sa_kernel_model.proofs.WalkLemmas.{AreOwn}
 use Rattle.sa_kernel_model.proofs.LineLemmas.{AreLines}
 use Rattle.sa_kernel_model.proofs.ShapeLemmas.{while-both, while-none, drop-front}
 use Rattle.sa_kernel_model.proofs.WholeLemmas.{closing_of, reading_at, whole-turn}

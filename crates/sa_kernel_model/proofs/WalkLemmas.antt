@@ -36,6 +36,7 @@ use Rattle.sa_laws.specs.History.{after_records}
 use Rattle.sa_laws.specs.Shape.{told_run, leave_run, is_own, is_of_closing, is_of_leave, BeginsWithUp}
 use Rattle.sa_laws.specs.Turns.{AreTold, IsFetchOrNothing, IsPassage}
 use Rattle.sa_laws.specs.Upcalls.{leave_records, fetch_records, GoesTo, RunsOn, notes_due}
+use Rattle.sa_laws.proofs.Closings.{AreClosing}
 use Rattle.sa_kernel_model.specs.Overview.{Overview, overview, read_off, space_of, act_space, spaces_in, taken_behind}
 use Rattle.sa_kernel_model.proofs.OverviewLemmas.{put-through, up-record}
 use Rattle.sa_kernel_model.proofs.NoteLemmas.{copies, AreOnce, none-without, told-run}
@@ -46,9 +47,6 @@ use Rattle.sa_kernel_model.proofs.TidyLemmas.{tidy-in, tidy-of, tidy-emptied, ti
 use Rattle.sa_kernel_model.proofs.UpLemmas.{AreLawful, told-lawful}
 
 -- a list of the closing's records, and a list of an event's own
-abbrev pub AreClosing : List Record → Type 0
-AreClosing xs = list_all is_of_closing xs ≡ true
-
 abbrev pub AreOwn : List Record → Type 0
 AreOwn xs = list_all is_own xs ≡ true
 

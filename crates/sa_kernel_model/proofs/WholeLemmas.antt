@@ -28,12 +28,12 @@ use Rattle.sa_laws.specs.Shape.{is_of_closing, is_no_want}
 use Rattle.sa_laws.specs.Closing.{must_want, want_one, spaces_of, wants_due, aims_due, lines_due}
 use Rattle.sa_laws.proofs.Records.{records-append}
 use Rattle.sa_laws.proofs.Lengths.{running-length, demands-length}
-use Rattle.sa_laws.proofs.Closings.{closing-aims, closing-append, closing-wants}
+use Rattle.sa_laws.proofs.Closings.{closing-aims, closing-append, closing-wants, AreClosing}
 use Rattle.sa_kernel_model.specs.Overview.{Overview, overview, read_off}
 use Rattle.sa_kernel_model.specs.Turn.{Turn, CanTurn, FitsTurn, IsUnused, what_of, before_entry, turn_on, turned, event_of}
 use Rattle.sa_kernel_model.specs.Kept.{IsOf, IdleAlike, IsKept}
 use Rattle.sa_kernel_model.proofs.UpLemmas.{AreLawful}
-use Rattle.sa_kernel_model.proofs.WalkLemmas.{AreClosing, items-both}
+use Rattle.sa_kernel_model.proofs.WalkLemmas.{items-both}
 use Rattle.sa_kernel_model.proofs.EntryLemmas.{Turned}
 use Rattle.sa_kernel_model.proofs.TurnedLemmas.{Stands, before_closing, turned-all}
 use Rattle.sa_kernel_model.proofs.WantLemmas.{Wanted, spaces_from, wants-from, wants-lawful}

@@ -20,6 +20,11 @@ pub records-append : (w : WorkloadView) (e : ℕ) (p : ProcNo) (r : Readings) (x
 records-append w e p r [] ys = refl
 records-append w e p r (x ∷ xs) ys = records-append w e p (after_record w e p r x) xs ys
 
+-- records leave the number of the next event
+pub number-kept : (w : WorkloadView) (e : ℕ) (p : ProcNo) (r : Readings) (xs : List Record) → (after_records w e p r xs).number ≡ r.number
+number-kept w e p r [] = refl
+number-kept w e p r (x ∷ xs) = number-kept w e p (after_record w e p r x) xs
+
 -- the items of a history with one event more
 pub items-push : (es : List Event) (e : Event) → items_of (es ++ e ∷ []) ≡ items_of es ++ items_at e.number e.proc e.records
 items-push [] e = append-nil (items_at e.number e.proc e.records)

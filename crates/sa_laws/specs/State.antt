@@ -50,8 +50,12 @@ no_space = record { priority = 0; mutexes = 0; sems = []; cells = 0; absent = []
 abbrev pub space_def : WorkloadView → SpaceNo → SpaceView
 space_def w s = slice_index_or w.spaces s.0 no_space
 
+-- a space that the workload does not have
+abbrev pub no_threads : SpaceState
+no_threads = record { threads = []; sync = sync_opening no_space }
+
 abbrev pub space_at : State → SpaceNo → SpaceState
-space_at a s = slice_index_or a.spaces s.0 (record { threads = []; sync = sync_opening no_space })
+space_at a s = slice_index_or a.spaces s.0 no_threads
 
 abbrev pub with_space : State → SpaceNo → SpaceState → State
 with_space a s x = record a { spaces = slice_set a.spaces s.0 x }

@@ -10,9 +10,9 @@ use Rattle.sa_base.specs.Items.{items_at}
 use Rattle.sa_spaces.specs.Workload.{WorkloadView}
 use Rattle.sa_laws.specs.Event.{Event, items_of}
 use Rattle.sa_laws.specs.Readings.{Readings}
-use Rattle.sa_laws.specs.Record.{after_record}
-use Rattle.sa_laws.specs.History.{after_records, after_event, begun}
+use Rattle.sa_laws.specs.History.{after_event, begun}
 use Rattle.sa_laws.specs.Rules.{UserRules}
+use Rattle.sa_laws.proofs.Records.{number-kept}
 use Rattle.sa_legal.specs.Fold.{AreLawful}
 use Rattle.sa_legal.specs.Headline.{up_to}
 use Rattle.sa_legal.proofs.WalkLemmas.{AtEnds, item}
@@ -21,10 +21,6 @@ use Rattle.sa_legal.proofs.WalkLemmas.{AtEnds, item}
 abbrev pub Numbered : ℕ → List Event → Type 0
 Numbered m [] = Unit {0}
 Numbered m (e ∷ es) = (e.number ≡ m) × Numbered (m + 1) es
-
-pub number-kept : (w : WorkloadView) (e : ℕ) (p : ProcNo) (r : Readings) (xs : List Record) → (after_records w e p r xs).number ≡ r.number
-number-kept w e p r [] = refl
-number-kept w e p r (x ∷ xs) = number-kept w e p (after_record w e p r x) xs
 
 pub number-next : (u : UserRules) (w : WorkloadView) (r : Readings) (e : Event) → (after_event u.inside w r e).number ≡ r.number + 1
 number-next u w r e = ap (λ n. n + 1) (number-kept w e.number e.proc (begun w e r) e.records)

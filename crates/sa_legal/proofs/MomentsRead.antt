@@ -20,6 +20,7 @@ use Rattle.sa_legal.specs.Words.{RaisedAt, aim_said, want_said, move_said, fetch
 use Rattle.sa_laws.specs.Rules.{UserRules, IsLawful}
 use Rattle.sa_laws.specs.Legal.{IsLegal}
 use Rattle.sa_laws.proofs.Lengths.{demands-length}
+use Rattle.sa_laws.proofs.Numbers.{proc-by_number}
 use Rattle.sa_legal.specs.Read.{Reads}
 use Rattle.sa_legal.proofs.EventLemmas.{along, legal-lawful, items-events}
 use Rattle.sa_legal.proofs.WalkLemmas.{walk, IsKept, item}
@@ -41,9 +42,6 @@ on-machine w p e r (x ∷ xs) within = (within, on-machine w p e (after_record w
 abbrev pub LinesRead : List Item → List (Option ℕ) → Type 0
 LinesRead past lines = (p : ProcNo) (v : ℕ) → get_or lines p.0 None ≡ Some v → RaisedAt past p v
 
-pub same-proc : (p q : ProcNo) → p.0 ≡ q.0 → p ≡ q
-same-proc p q e = ap (λ n. record { 0 = n }) e
-
 -- an item of an event of p leaves the lines of others raised, and that of p if the event raised it
 keeps-lines : (e : ℕ) (p : ProcNo) (past : List Item) (lines : List (Option ℕ)) (x : Record) → LinesRead past lines
     → ((v : ℕ) → get_or lines p.0 None ≡ Some v → v ≡ e)
@@ -56,7 +54,7 @@ lines-step : (e : ℕ) (p : ProcNo) (past : List Item) (lines : List (Option ℕ
     → LinesRead (past ++ item e p x ∷ []) (lines_after e lines x)
 lines-step e p past lines (Line t) read own q v is = elim (set-cases lines t.0 q.0 v e is) [
   | inl new ↦
-      let same : q ≡ t = same-proc q t new.0 in
+      let same : q ≡ t = proc-by_number q t new.0 in
       subst (λ (k : ProcNo). RaisedAt (past ++ item e p (Line t) ∷ []) k v) (sym same)
       (subst (λ n. RaisedAt (past ++ item e p (Line t) ∷ []) t n) (sym new.1) (raised-new past e p t))
   | inr old ↦ keeps-lines e p past lines (Line t) read own q v old

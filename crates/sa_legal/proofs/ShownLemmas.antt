@@ -23,8 +23,9 @@ use Rattle.sa_devices.specs.Ios.{is_fetch_of, fetches}
 use Rattle.sa_laws.specs.Readings.{Readings, running_of, untold_of}
 use Rattle.sa_laws.specs.Record.{after_record, running_after, under_way_after, untold_after, is_kind_of, is_io_of, is_io_of_other, fetches_other, blocking_for, length_behind}
 use Rattle.sa_laws.proofs.Lengths.{running-length}
+use Rattle.sa_laws.proofs.Numbers.{act-by_number}
 use Rattle.sa_legal.proofs.ReadLemmas.{filter-any, untold-stays, untold-comes, untold-length}
-use Rattle.sa_legal.proofs.StandingLemmas.{Standing, Nowhere, Runs, Blocked, Stopped, Returned, space_in, proc_in, took, Stood, standing_after, same-proc, same-number-act}
+use Rattle.sa_legal.proofs.StandingLemmas.{Standing, Nowhere, Runs, Blocked, Stopped, Returned, space_in, proc_in, took, Stood, standing_after, same-proc}
 use Rattle.sa_legal.proofs.ShapeLemmas.{MovesLives}
 
 pub record Shows (w : WorkloadView) (st : ℕ → Standing) (r : Readings) : Type 0 where
@@ -74,7 +75,7 @@ running-shown w p st r (Unblock of t a) rest s q b shows was law within is = sho
 running-shown w p st r (Up of a) rest s q b shows was law within is = elim (put-cases st a.0 b.0 (Runs of p) (Runs s q) is) [
   | inl new ↦
       let len = shows.running_len in
-      ap (λ n. get_or (slice_set r.running p.0 (Some a)) n None) (sym (same-proc of s p q new.1)) ∙ get_or-set_same r.running p.0 (Some a) None (omega arith) ∙ ap Some (same-number-act a b new.0)
+      ap (λ n. get_or (slice_set r.running p.0 (Some a)) n None) (sym (same-proc of s p q new.1)) ∙ get_or-set_same r.running p.0 (Some a) None (omega arith) ∙ ap Some (act-by_number a b (sym new.0))
   | inr old ↦
       let there = shows.running s q b old.1 in
       get_or-set_other r.running p.0 q.0 (Some a) None (λ same. none-some b (sym law.0 ∙ ap (λ n. get_or r.running n None) (sym same) ∙ there)) ∙ there
@@ -172,7 +173,7 @@ stopped-shown w p st r x s b shows was within is = one x was is where
   one (Stop of t a) was' is' = elim (put-cases st a.0 b.0 (Stopped of) (Stopped s) is') [
     | inl new ↦
         let len = shows.untold_len in
-        untold-comes r (Stop of t a) s (note.Preempted b) (omega arith) (same-space-of of s (Stopped of) (Stopped s) refl refl new.1, ap note.Preempted (sym (same-number-act a b new.0)))
+        untold-comes r (Stop of t a) s (note.Preempted b) (omega arith) (same-space-of of s (Stopped of) (Stopped s) refl refl new.1, ap note.Preempted (act-by_number b a new.0))
     | inr old ↦ stays-there (Stop of t a) (λ no_told. cc) old.1
   ]
   one (Block of t a io) was' is' = stays-there (Block of t a io) (λ no_told. cc) (waits-on is_stopped st a b (Blocked of) (Stopped s) refl refl is').1
@@ -198,7 +199,7 @@ returned-shown w p st r x s b shows was within is = one x was is where
   one (Unblock of t a) was' is' = elim (put-cases st a.0 b.0 (Returned of) (Returned s) is') [
     | inl new ↦
         let len = shows.untold_len in
-        untold-comes r (Unblock of t a) s (note.Unblocked b) (omega arith) (same-space-of of s (Returned of) (Returned s) refl refl new.1, ap note.Unblocked (sym (same-number-act a b new.0)))
+        untold-comes r (Unblock of t a) s (note.Unblocked b) (omega arith) (same-space-of of s (Returned of) (Returned s) refl refl new.1, ap note.Unblocked (act-by_number b a new.0))
     | inr old ↦ stays-there (Unblock of t a) (λ no_told. cc) old.1
   ]
   one (Block of t a io) was' is' = stays-there (Block of t a io) (λ no_told. cc) (waits-on is_returned st a b (Blocked of) (Returned s) refl refl is').1

@@ -27,6 +27,7 @@ use Rattle.sa_laws.specs.Upcalls.{RecordLaw, EachRecord}
 use Rattle.sa_laws.specs.Rules.{IsLawful, fast_threads}
 use Rattle.sa_laws.specs.Legal.{IsLegal, before}
 use Rattle.sa_laws.proofs.Lengths.{claims-length}
+use Rattle.sa_laws.proofs.Numbers.{proc-by_number, act-by_number}
 use Rattle.sa_legal.specs.Lives.{Stand, stand_if, stand_in, stand_said, stand_of, LivesAreRead}
 use Rattle.sa_legal.specs.Lives as life
 use Rattle.sa_legal.specs.Consequences.{AtEachMoment, RunApart, AreLockedOnce, LockersStand, IsRunning, IsBlocked, IsUntold, SharesAreTheOnes}
@@ -187,14 +188,11 @@ sound-before w items legal n =
     sound-walk w (take n (events_of items)) (along-take fast_threads.inside w (Moves w) (opening_readings w) (events_of items) n (sound-along w items legal))
 
 -- running lives have different numbers
-proc-is : (p q : ProcNo) → p.0 ≡ q.0 → p ≡ q
-proc-is p q e = ap (λ n. record { 0 = n }) e
-
 run-apart : (w : WorkloadView) (past : List Item) (r : Readings) → IsSound w past r → RunApart r
 run-apart w past r sound p q a one other =
     let here = sound.agrees.running p a one in
     let there = sound.agrees.running q a other in
-    proc-is p q (same-proc here.0 there.0 p q (sym here.1 ∙ there.1))
+    proc-by_number p q (same-proc here.0 there.0 p q (sym here.1 ∙ there.1))
 
 -- each locked list is one life's, which stands somewhere
 locker : (w : WorkloadView) (past : List Item) (r : Readings) (s : SpaceNo) (l : ProcNo) (sound : IsSound w past r) (locked : IsLocked r s l) → sound.named.0 s.0 l.0 ≡ locked.act.0
@@ -204,11 +202,8 @@ locker w past r s l sound locked =
     ∙ ap (λ (x : ProcNo). who locked.life.space.0 x.0) (sym locked.has.list)
     ∙ sound.named.1 locked.act.0 locked.life locked.is locked.has.lock locked.has.among
 
-act-is : (a b : ActNo) → a.0 ≡ b.0 → a ≡ b
-act-is a b e = ap (λ n. record { 0 = n }) e
-
 locked-once : (w : WorkloadView) (past : List Item) (r : Readings) → IsSound w past r → AreLockedOnce r
-locked-once w past r sound s l one other = act-is one.act other.act (sym (locker w past r s l sound one) ∙ locker w past r s l sound other)
+locked-once w past r sound s l one other = act-by_number one.act other.act (sym (locker w past r s l sound one) ∙ locker w past r s l sound other)
 
 lockers-stand : (w : WorkloadView) (past : List Item) (r : Readings) → IsSound w past r → LockersStand w r
 lockers-stand w past r sound s l within locked = stands (sound.st locked.act.0) refl where

@@ -27,6 +27,7 @@ use Rattle.sa_laws.specs.Machine.{next_effect}
 use Rattle.sa_laws.specs.Life.{Life, with_hand, without_lock, with_first, with_cont, ran, held_with, inherits, bereft, new_life}
 use Rattle.sa_laws.specs.Readings.{Readings, life_of, running_of, space_of_life, untold_of, taken_of}
 use Rattle.sa_laws.specs.Record.{with_life, handed, lives_after, after_record, running_after, under_way_after, untold_after, taken_after, with_act, without_act, is_other_act, is_kind_of, is_io_of, is_io_of_other, fetches_other, blocking_for, length_behind, stopped_with, back_with, made_ready, one_thread, locks}
+use Rattle.sa_laws.proofs.Numbers.{act-by_number}
 use Rattle.sa_legal.specs.Words.{Notes}
 use Rattle.sa_legal.proofs.UntoldLemmas.{untold-cases}
 
@@ -254,9 +255,6 @@ note-act m n e = cc
 pub note-back : (m n : ActNo) → note.Unblocked m ≡ note.Unblocked n → m.0 ≡ n.0
 note-back m n e = cc
 
-pub same-number-act : (a b : ActNo) → b.0 ≡ a.0 → a ≡ b
-same-number-act a b e = ap (λ n. record { 0 = n }) (sym e)
-
 pub stopped-step : (p : ProcNo) (st : ℕ → Standing) (r : Readings) (x : Record) (s : SpaceNo) (b : ActNo) → Agrees st r → Stood p st x
     → Contains (get_or (untold_after r x) s.0 []) (note.Preempted b) → standing_after p st x b.0 ≡ Stopped s
 stopped-step p st r x s b agrees was has = elim (untold-cases r x s (note.Preempted b) has) [
@@ -265,7 +263,7 @@ stopped-step p st r x s b agrees was has = elim (untold-cases r x s (note.Preemp
 ] where
   stopped-old : (y : Record) → Stood p st y → st b.0 ≡ Stopped s → y ≢ Told (note.Preempted b) → standing_after p st y b.0 ≡ Stopped s
   stopped-old (Told (note.Preempted a)) was' is other = elim (cases_eq b.0 a.0) [
-    | inl same ↦ absurd (other (ap (λ c. Told (note.Preempted c)) (same-number-act a b same)))
+    | inl same ↦ absurd (other (ap (λ c. Told (note.Preempted c)) (act-by_number a b (sym same))))
     | inr apart ↦ put-other st a.0 b.0 (took (st a.0)) apart ∙ is
   ]
   stopped-old (Told (note.Unblocked a)) was' is other = stays p st (Told (note.Unblocked a)) b.0 (Stopped s) was' is (λ e. cc)
@@ -287,7 +285,7 @@ returned-step p st r x s b agrees was has = elim (untold-cases r x s (note.Unblo
 ] where
   returned-old : (y : Record) → Stood p st y → st b.0 ≡ Returned s → y ≢ Told (note.Unblocked b) → standing_after p st y b.0 ≡ Returned s
   returned-old (Told (note.Unblocked a)) was' is other = elim (cases_eq b.0 a.0) [
-    | inl same ↦ absurd (other (ap (λ c. Told (note.Unblocked c)) (same-number-act a b same)))
+    | inl same ↦ absurd (other (ap (λ c. Told (note.Unblocked c)) (act-by_number a b (sym same))))
     | inr apart ↦ put-other st a.0 b.0 (took (st a.0)) apart ∙ is
   ]
   returned-old (Told (note.Preempted a)) was' is other = stays p st (Told (note.Preempted a)) b.0 (Returned s) was' is (λ e. cc)

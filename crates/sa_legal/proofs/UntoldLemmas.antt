@@ -17,6 +17,7 @@ use Rattle.sa_laws.specs.Record.{is_other_note, untold_after, after_record}
 use Rattle.sa_laws.specs.Upcalls.{IsUntoldTo, TellsOnce}
 use Rattle.sa_laws.specs.History.{Test}
 use Rattle.sa_laws.proofs.Notes.{same_note-itself}
+use Rattle.sa_laws.proofs.Numbers.{space-by_number}
 use Rattle.sa_legal.specs.Words.{Notes, StandsUntold}
 use Rattle.sa_legal.proofs.WalkLemmas.{IsKept, item}
 
@@ -56,23 +57,20 @@ other-note n z other same =
     let no : is_other_note n z ≡ false = ap (λ m. is_other_note m z) e ∙ ap not (same_note-itself z) in
     let both = sym other ∙ no in cc
 
-pub same-space : (s t : SpaceNo) → t.0 ≡ s.0 → s ≡ t
-same-space s t e = ap (λ n. record { 0 = n }) (sym e)
-
 -- after a record a note is untold that was untold before, and which it does not tell, or it is the record's own
 pub untold-cases : (r : Readings) (x : Record) (s : SpaceNo) (n : Note) → Contains (slice_index_or (untold_after r x) s.0 []) n
     → (Contains (untold_of r s) n × (x ≢ Told n)) ⊎ Notes x s n
 untold-cases r (Stop of t a) s n has = elim (with-cases r.untold of.0 s.0 (note.Preempted a) n has) [
   | inl old ↦ inl (old, λ no. cc)
-  | inr new ↦ inr (same-space of s new.0, sym new.1)
+  | inr new ↦ inr (space-by_number of s (sym new.0), sym new.1)
 ]
 untold-cases r (Block of t a io) s n has = elim (with-cases r.untold of.0 s.0 (note.Blocked a) n has) [
   | inl old ↦ inl (old, λ no. cc)
-  | inr new ↦ inr (same-space of s new.0, sym new.1)
+  | inr new ↦ inr (space-by_number of s (sym new.0), sym new.1)
 ]
 untold-cases r (Unblock of t a) s n has = elim (with-cases r.untold of.0 s.0 (note.Unblocked a) n has) [
   | inl old ↦ inl (old, λ no. cc)
-  | inr new ↦ inr (same-space of s new.0, sym new.1)
+  | inr new ↦ inr (space-by_number of s (sym new.0), sym new.1)
 ]
 untold-cases r (Told m) s n has =
     let left = without-cases (is_other_note m) r.untold s.0 n has in inl (left.0, other-note m n left.1)

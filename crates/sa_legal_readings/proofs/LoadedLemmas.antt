@@ -15,7 +15,7 @@ use Rattle.sa_spaces.specs.Workload.{WorkloadView}
 use Rattle.sa_assign.specs.Aims.{Change, space_no}
 use Rattle.sa_assign.specs.Reaim.{records_of, line_at, lines_with, line_records, proc_no}
 use Rattle.sa_laws.specs.Event.{Event, events_of}
-use Rattle.sa_laws.specs.State.{space_at, active_threads, opening_space}
+use Rattle.sa_laws.specs.State.{space_at, active_threads, opening_space, no_threads}
 use Rattle.sa_laws.specs.Readings.{Readings, opening_readings, demand_of, untold_thread, load_of, usable}
 use Rattle.sa_laws.specs.Record.{after_record}
 use Rattle.sa_laws.specs.History.{is_inside, begun, behind_all, after_records, after_event, after_events}
@@ -143,8 +143,7 @@ one-active : (def : SpaceView) → active_threads (opening_space def) ≡ 1
 one-active def = refl
 
 open-active : (defs : List SpaceView) (k : ℕ)
-    → active_threads (get_or (map opening_space defs) k
-    (record { threads = []; sync = Rattle.sa_sync.specs.Sync.opening Rattle.sa_laws.specs.State.no_space })) ≤ 1
+    → active_threads (get_or (map opening_space defs) k no_threads) ≤ 1
 open-active [] k = omega arith
 open-active (def ∷ defs) zero = let one = one-active def in omega (arith, one)
 open-active (def ∷ defs) (suc k) = open-active defs k

@@ -24,7 +24,7 @@ use Rattle.sa_sync.specs.declared.answer.SyncAnswer.TheVariants as answer
 use Rattle.sa_sync.specs.Calls.{Change}
 use Rattle.sa_laws.specs.declared.place.Place.{Place}
 use Rattle.sa_laws.specs.declared.place.Place.TheVariants as place
-use Rattle.sa_laws.specs.State.{State, SpaceState, Thread, space_at, with_space, with_thread, thread_in, put_thread, placed_if, is_active, active_threads, next_instr, at_start}
+use Rattle.sa_laws.specs.State.{State, SpaceState, Thread, space_at, with_space, with_thread, thread_in, put_thread, placed_if, is_active, active_threads, next_instr, at_start, no_threads}
 use Rattle.sa_laws.specs.Effect.{Effect, effect_of, answered, sync_effect}
 use Rattle.sa_laws.specs.Machine.{changed, next_effect}
 use Rattle.sa_laws.specs.Life.{Life, with_hand, with_first, with_cont, without_lock, ran, held_with, inherits, bereft, new_life}
@@ -33,6 +33,7 @@ use Rattle.sa_laws.specs.Record.{with_life, handed, lives_after, demands_after, 
 use Rattle.sa_laws.specs.History.{after_records}
 use Rattle.sa_laws.specs.Step.{Needs, AreSteps}
 use Rattle.sa_laws.specs.Upcalls.{RecordLaw, EachRecord, TellsAllThen}
+use Rattle.sa_laws.proofs.Numbers.{space-by_number}
 use Rattle.sa_legal.proofs.StandingLemmas.{Standing, space_of}
 use Rattle.sa_legal.proofs.ShapeLemmas.{is_telling, MovesLives}
 use Rattle.sa_legal.proofs.MovesLemmas.{stood}
@@ -109,9 +110,6 @@ count-push ts thread is =
     omega (arith, both, one, none)
 
 -- of the spaces, one is changed; one that is not there has no threads
-abbrev no_threads : SpaceState
-no_threads = record { threads = []; sync = Rattle.sa_sync.specs.Sync.opening Rattle.sa_laws.specs.State.no_space }
-
 spaces-set : (xs : List SpaceState) (i j : ℕ) (x : SpaceState) → (i ≡ j → active_threads x ≤ active_threads (get_or xs j no_threads))
     → active_threads (get_or (slice_set xs i x) j no_threads) ≤ active_threads (get_or xs j no_threads)
 spaces-set [] i j x less = omega arith
@@ -120,12 +118,9 @@ spaces-set (y ∷ xs) zero (suc j) x less = omega arith
 spaces-set (y ∷ xs) (suc i) zero x less = omega arith
 spaces-set (y ∷ xs) (suc i) (suc j) x less = spaces-set xs i j x (λ e. less (ap suc e))
 
-pub at-space : (s u : SpaceNo) → u.0 ≡ s.0 → u ≡ s
-at-space s u e = ap (λ n. record { 0 = n }) e
-
 active-space : (a : State) (s u : SpaceNo) (x : SpaceState) → (u ≡ s → active_threads x ≤ active_threads (space_at a s))
     → active_threads (space_at (with_space a u x) s) ≤ active_threads (space_at a s)
-active-space a s u x less = spaces-set a.spaces u.0 s.0 x (λ e. less (at-space s u e))
+active-space a s u x less = spaces-set a.spaces u.0 s.0 x (λ e. less (space-by_number u s e))
 
 active-placed : (a : State) (s u : SpaceNo) (t : Option ThreadNo) (where_ : Place) → is_active where_ ≡ false
     → active_threads (space_at (placed_if a u t where_) s) ≤ active_threads (space_at a s)

@@ -29,6 +29,7 @@ use Rattle.sa_legal.proofs.WalkLemmas.{item}
 use Rattle.sa_legal.proofs.EventLemmas.{legal-lawful, items-events}
 use Rattle.sa_legal.proofs.MovesLemmas.{agrees-start, agrees-begun, agrees-ended, nowhere_first}
 use Rattle.sa_laws.specs.Life.{Life}
+use Rattle.sa_laws.proofs.Records.{number-kept}
 use Rattle.sa_legal_readings.specs.Moments.{directly_before, record_of_event}
 use Rattle.sa_legal_readings.specs.Pages.{is_resident_in, evicted_if, is_evicted}
 use Rattle.sa_legal_readings.proofs.LifeLemmas.{Said, said-if}
@@ -37,7 +38,6 @@ use Rattle.sa_legal_readings.proofs.PageLemmas.{has_at, IsSmall, evicted-more, o
 use Rattle.sa_legal_readings.proofs.RaisedLemmas.{Until, RaisedAll, raised-begins, raised-ends, EndsWithEvent}
 use Rattle.sa_legal_readings.proofs.KnownLemmas.{known-event}
 use Rattle.sa_legal_readings.proofs.TrackLemmas.{Known, IsRead, IsReadIn, read-step}
-use Rattle.sa_legal.proofs.MomentLemmas.{number-kept}
 use Rattle.sa_legal.proofs.ReadLemmas.{differ}
 
 -- what is read at the end of an event

@@ -35,6 +35,7 @@ use Rattle.sa_laws.specs.Closing.{spaces_of, aims_due, want_one}
 use Rattle.sa_laws.specs.Upcalls.{FirstLineIsAsked}
 use Rattle.sa_laws.specs.Rules.{UserRules}
 use Rattle.sa_laws.proofs.Closings.{closing-opening}
+use Rattle.sa_laws.proofs.Records.{number-kept}
 use Rattle.sa_kernel_model.specs.State.{Scene}
 use Rattle.sa_kernel_model.specs.Opening.{opening_state}
 use Rattle.sa_kernel_model.proofs.HistoryLemmas.{history-opens}
@@ -49,7 +50,6 @@ use Rattle.sa_event_frames.proofs.Frames.{closing-alike, alike-stays, same-for, 
 use Rattle.sa_event_frames.proofs.Matching.{AreMatched, matched-ended}
 use Rattle.sa_match.proofs.Spaces.{of-space, fit-same}
 use Rattle.sa_match.proofs.Composed.{IsComposed}
-use Rattle.sa_legal.proofs.MomentLemmas.{number-kept}
 
 opening-some : (w : WorkloadView) → IsWorkload w → opening_records w ≢ []
 opening-some w ok empty =

@@ -10,13 +10,13 @@ use Rattle.sa_base.specs.declared.record.Item.{Item}
 use Rattle.sa_base.specs.Items.{items_at}
 use Rattle.sa_assign.specs.Reaim.{reaim_records, proc_no, changes_in}
 use Rattle.sa_laws.specs.Shape.{is_of_closing}
-use Rattle.sa_laws.proofs.Closings.{closing-aims}
+use Rattle.sa_laws.proofs.Closings.{closing-aims, AreClosing}
 use Rattle.sa_kernel_model.specs.State.{Scene}
 use Rattle.sa_kernel_model.specs.Closing.{closed, wants, aims, want_one, want_for, must_want, interrupt, interrupt_one, interrupt_for, must_interrupt, spaces, shares}
 use Rattle.sa_kernel_model.specs.Turn.{what_of}
 use Rattle.sa_kernel_model.proofs.WholeLemmas.{records-said}
 use Rattle.sa_kernel_model.proofs.PlacedLemmas.{for_spaces-keeps}
-use Rattle.sa_kernel_model.proofs.WalkLemmas.{AreClosing, items-both}
+use Rattle.sa_kernel_model.proofs.WalkLemmas.{items-both}
 
 module _ {C : Type 0} where
   -- From these items on, the records of a closing are added.

@@ -15,6 +15,7 @@ use Rattle.sa_laws.specs.Event.{Event}
 use Rattle.sa_laws.specs.History.{after_event, begun}
 use Rattle.sa_laws.specs.Opening.{opening_event}
 use Rattle.sa_laws.specs.Rules.{IsLawful}
+use Rattle.sa_laws.proofs.Records.{number-kept}
 use Rattle.sa_legal.specs.Fold.{AreLawful}
 use Rattle.sa_legal.proofs.AppendLemmas.{lawful-append}
 use Rattle.sa_kernel_model.specs.State.{Scene}
@@ -37,7 +38,6 @@ use Rattle.sa_spaces.specs.Space.{SpaceView}
 use Rattle.sa_base.specs.declared.number.ProcNo.{ProcNo}
 use Rattle.sa_base.specs.declared.number.ActNo.{ActNo}
 use Rattle.sa_match.proofs.Overviews.{moment-of}
-use Rattle.sa_legal.proofs.MomentLemmas.{number-kept}
 
 -- An event is strict where no I/O is due, where the line was raised, and where it completes the I/O that is due.
 pub strict-none : (w : WorkloadView) (r : Readings) (ev : Event) → due_of ev.number r.under_way ≡ None → IsStrict r ev

@@ -19,9 +19,9 @@ use Rattle.sa_laws.specs.Shape.{is_of_closing}
 use Rattle.sa_laws.specs.Turns.{TurnsAreTaken}
 use Rattle.sa_laws.specs.Upcalls.{FirstLineIsAsked}
 use Rattle.sa_laws.specs.Rules.{UserRules, IsLawful}
+use Rattle.sa_laws.proofs.Closings.{AreClosing}
 use Rattle.sa_legal.proofs.AppendLemmas.{steps-append}
 use Rattle.sa_kernel_model.specs.Laws.{AllHold}
-use Rattle.sa_kernel_model.proofs.WalkLemmas.{AreClosing}
 use Rattle.sa_user_laws.specs.Steps.{begins_step, RulesPass}
 use Rattle.sa_event_frames.proofs.Frames.{StaysPut}
 

@@ -15,6 +15,7 @@ use Rattle.sa_laws.specs.Opening.{opening_event}
 use Rattle.sa_laws.specs.Shape.{own_part, closing_part, others_of, is_own}
 use Rattle.sa_laws.specs.Turns.{IsClosing}
 use Rattle.sa_laws.proofs.Records.{items-push}
+use Rattle.sa_laws.proofs.Closings.{AreClosing}
 use Rattle.sa_kernel_model.specs.declared.entry.Entry.{Entry}
 use Rattle.sa_kernel_model.specs.State.{KernelState, Scene}
 use Rattle.sa_kernel_model.specs.Closing.{closed, NoLineIsDue}
@@ -32,7 +33,7 @@ use Rattle.sa_kernel_model.proofs.RestLemmas.{rests-closed}
 use Rattle.sa_kernel_model.proofs.SoundLemmas.{sound-evicted, sound-entered_as}
 use Rattle.sa_kernel_model.proofs.ShapeLemmas.{drop-front}
 use Rattle.sa_kernel_model.proofs.TurnedLemmas.{before_closing}
-use Rattle.sa_kernel_model.proofs.WalkLemmas.{AreClosing, AreOwn}
+use Rattle.sa_kernel_model.proofs.WalkLemmas.{AreOwn}
 use Rattle.sa_user_laws.specs.Steps.{IsClosed, event_with}
 use Rattle.sa_match.proofs.Closings.{closed-adds, records-are, Closes}
 

@@ -21,10 +21,11 @@ use Rattle.sa_laws.specs.Shape.{is_of_closing}
 use Rattle.sa_laws.specs.Upcalls.{FirstLineIsAsked}
 use Rattle.sa_laws.specs.Rules.{UserRules}
 use Rattle.sa_laws.proofs.Records.{records-append}
+use Rattle.sa_laws.proofs.Closings.{AreClosing}
 use Rattle.sa_kernel_model.proofs.OverviewLemmas.{users-record}
 use Rattle.sa_kernel_model.specs.Turn.{AreUsers, is_users}
 use Rattle.sa_kernel_model.specs.Overview.{Overview, overview, space_of}
-use Rattle.sa_kernel_model.proofs.WalkLemmas.{has-life, AreClosing}
+use Rattle.sa_kernel_model.proofs.WalkLemmas.{has-life}
 use Rattle.sa_user_laws.specs.Moments.{AlikeButDemands, life_in, SameFor}
 use Rattle.sa_user_laws.specs.Steps.{event_with}
 use Rattle.sa_user_laws.specs.Scene.{IsOn, begun_at}

@@ -14,7 +14,6 @@ use Rattle.sa_laws.specs.Rules.{UserRules}
 use Rattle.sa_kernel_model.proofs.ShapeLemmas.{drop-front}
 use Rattle.sa_kernel_model.specs.State.{line_of}
 use Rattle.sa_kernel_model.specs.Overview.{Overview}
-use Rattle.sa_kernel_model.proofs.WalkLemmas.{AreClosing}
 use Rattle.sa_core_model.specs.Machine.{Machine}
 use Rattle.sa_user_laws.specs.Steps.{IsClosed, event_with}
 use Rattle.sa_user_laws.specs.Scene.{begun_at}
@@ -27,6 +26,7 @@ use Rattle.sa_kernel_model.specs.Histories.{IsHistory}
 use Rattle.sa_laws.specs.Turns.{IsStrict, IsOver}
 use Rattle.sa_laws.specs.Step.{AreSteps}
 use Rattle.sa_laws.specs.Rules.{IsLawful}
+use Rattle.sa_laws.proofs.Closings.{AreClosing}
 use Rattle.sa_user_laws.specs.Steps.{RulesHold, RulesPass}
 use Rattle.sa_match.proofs.Composed.{scene, IsTraced}
 

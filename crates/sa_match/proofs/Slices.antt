@@ -15,6 +15,7 @@ use Rattle.sa_laws.specs.Readings.{Readings}
 use Rattle.sa_laws.specs.History.{after_records}
 use Rattle.sa_laws.specs.Closing.{first_space}
 use Rattle.sa_laws.specs.Shape.{own_part}
+use Rattle.sa_laws.proofs.Closings.{AreClosing}
 use Rattle.sa_kernel_model.specs.State.{Scene, line_of}
 use Rattle.sa_kernel_model.specs.Closing.{closed, wants, aims, want_for, want_one, must_want, interrupt, interrupt_one, interrupt_for, must_interrupt, for_spaces, spaces}
 use Rattle.sa_kernel_model.specs.Entries.{evicted_at}
@@ -26,7 +27,6 @@ use Rattle.sa_kernel_model.proofs.WantLemmas.{must-same}
 use Rattle.sa_kernel_model.proofs.PlacedLemmas.{for_spaces-keeps}
 use Rattle.sa_kernel_model.proofs.OverviewLemmas.{overview-ended, users-records}
 use Rattle.sa_kernel_model.proofs.EntryLemmas.{users-are_own, own-others}
-use Rattle.sa_kernel_model.proofs.WalkLemmas.{AreClosing}
 use Rattle.sa_core_model.specs.Machine.{Machine}
 use Rattle.sa_core_model.specs.Turn.{next_event, sliced, sliced_if, ends_slice}
 use Rattle.sa_core_model.proofs.Effects.{SameRuns, same-closed}

@@ -27,7 +27,7 @@ use Rattle.sa_laws.specs.Readings.{Readings, Listed, running_of, life_of, owner_
 use Rattle.sa_laws.specs.State.{SpaceState, Runner, space_at, thread_at, runner_on, runner_of}
 use Rattle.sa_laws.specs.declared.place.Place.TheVariants.{Running}
 use Rattle.sa_user_laws.proofs.Runners.{runner-behind}
-use Rattle.sa_user_laws.proofs.Searches.{found-from}
+use Rattle.sa_laws.proofs.Searches.{found-from}
 use Rattle.sa_user_laws.specs.Moments.{IsMoment, HasLifeOn, Sees}
 use Rattle.sa_fits.proofs.OneLife.{carried_has}
 use Rattle.sa_fits.proofs.Runners.{alone-runs, runs-carried}

@@ -18,7 +18,6 @@ use Rattle.sa_lemmas.proofs.FunctionUpdates.{put-self, put-same, put-other}
 use Rattle.sa_lemmas.specs.Function.{put}
 use Rattle.sa_instr.specs.declared.instr.Instr.TheVariants.{Io, Touch}
 use Rattle.sa_spaces.specs.Workload.{WorkloadView}
-use Rattle.sa_sync.specs.Sync.{opening as sync_opening}
 use Rattle.sa_code.specs.Micro.{micro, stays, is_resident as is_page_resident}
 use Rattle.sa_code.specs.declared.state.Frame.{Frame}
 use Rattle.sa_code.specs.declared.state.MicroDone.TheVariants as micros
@@ -40,7 +39,7 @@ use Rattle.sa_laws.specs.History.{is_step, with_step, settles, goes_on as stays_
 use Rattle.sa_laws.specs.Life.{Life, some_lock, first_lock, held_with}
 use Rattle.sa_laws.specs.Readings.{Readings, life_of, running_of, ready_of}
 use Rattle.sa_laws.specs.Record.{after_record, with_life, blocking_for}
-use Rattle.sa_laws.specs.State.{no_space, thread_in}
+use Rattle.sa_laws.specs.State.{thread_in, no_threads}
 use Rattle.sa_laws.specs.Turns.{CanFault, IsInsOf, is_of_locks}
 use Rattle.sa_laws.proofs.Records.{passage-plain, alone-plain}
 use Rattle.sa_user_laws.specs.Scene.{begun_at}
@@ -261,7 +260,7 @@ module _ (set : Setting) (e : ℕ) (v : Prio) (cs : Contexts PrioContext) (w : W
           let now : Life = held_with (Some t) life in
           let there : life_of here a ≡ Some now = ap (λ (f : ℕ → Option Life). f a.0) b.lives ∙ put-same r.lives a.0 (Some now) in
           let its = life-here set.space here u (bases cs) b.holds a d now (base-is cs a.0 (record { base = d; urge = false }) i.on.mine) there in
-          ap (λ ys. not (stays_on (thread_in (slice_index_or ys set.space.0 (record { threads = []; sync = sync_opening no_space })) t).place)) spaces
+          ap (λ ys. not (stays_on (thread_in (slice_index_or ys set.space.0 no_threads) t).place)) spaces
           ∙ ap (λ y. not (stays_on y)) (its.place t refl ∙ ap (λ g. place_of g now.proc) b.stage)
 
       pub io-legal : IsLegalStep prio_calls prio_threads prio_fits w set r p seen.event a cs

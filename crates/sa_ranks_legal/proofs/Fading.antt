@@ -15,10 +15,10 @@ use Rattle.sa_sync.specs.declared.answer.SyncAnswer.TheVariants as answer
 use Rattle.sa_sync.specs.Calls.{Change}
 use Rattle.sa_laws.specs.declared.place.Place.{Place}
 use Rattle.sa_laws.specs.declared.place.Place.TheVariants as place
-use Rattle.sa_laws.specs.State.{State, SpaceState, Thread, space_at, with_space, with_thread, thread_in, put_thread, placed_if, is_active, next_instr, at_start}
+use Rattle.sa_laws.specs.State.{State, SpaceState, Thread, space_at, with_space, with_thread, thread_in, put_thread, placed_if, is_active, next_instr, at_start, no_threads}
 use Rattle.sa_laws.specs.Effect.{effect, effect_of, answered, sync_effect, fork_effect, next_with, with_sync}
 use Rattle.sa_laws.specs.Machine.{changed, next_effect}
-use Rattle.sa_legal_readings.proofs.PassLemmas.{at-space}
+use Rattle.sa_laws.proofs.Numbers.{space-by_number}
 
 abbrev pub nobody : Thread
 nobody = at_start 0 place.Done
@@ -103,9 +103,6 @@ ins-fades x t instr.End = fades-set x.threads t.0 _ (record { program = refl; pl
 ins-fades x t i = same x t _ refl refl
 
 -- of the spaces one is changed
-abbrev no_threads : SpaceState
-no_threads = record { threads = []; sync = Rattle.sa_sync.specs.Sync.opening Rattle.sa_laws.specs.State.no_space }
-
 abbrev pub Fades : SpaceNo → State → State → Type 0
 Fades s a b = Kept (space_at a s) (space_at b s)
 
@@ -118,7 +115,7 @@ spaces-set (y ∷ xs) (suc i) zero x kept = fades-self y.threads
 spaces-set (y ∷ xs) (suc i) (suc j) x kept = spaces-set xs i j x (λ e. kept (ap suc e))
 
 space-fades : (a : State) (s u : SpaceNo) (x : SpaceState) → (u ≡ s → Kept (space_at a u) x) → Fades s a (with_space a u x)
-space-fades a s u x kept = spaces-set a.spaces u.0 s.0 x (λ e. let one = at-space s u e in subst (λ (k : SpaceNo). Kept (space_at a k) x) one (kept one))
+space-fades a s u x kept = spaces-set a.spaces u.0 s.0 x (λ e. let one = space-by_number u s e in subst (λ (k : SpaceNo). Kept (space_at a k) x) one (kept one))
 
 put-fades : (a : State) (s u : SpaceNo) (t : Option ThreadNo) (where_ : Place) → is_active where_ ≡ false → Fades s a (placed_if a u t where_)
 put-fades a s u None where_ idle = fades-self (space_at a s).threads

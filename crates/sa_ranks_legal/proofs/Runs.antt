@@ -11,7 +11,7 @@ use Rattle.sa_base.specs.declared.record.Note.{Note}
 use Rattle.sa_base.specs.declared.record.Note.TheVariants as note
 use Rattle.sa_spaces.specs.Workload.{WorkloadView}
 use Rattle.sa_laws.specs.Event.{Event}
-use Rattle.sa_laws.specs.State.{State, thread_at}
+use Rattle.sa_laws.specs.State.{thread_at, no_threads}
 use Rattle.sa_laws.specs.Readings.{Readings, opening_readings, life_if, owner_of, line_of, untold_of, space_of_life}
 use Rattle.sa_laws.specs.History.{begun, behind_all, after_event, after_events}
 use Rattle.sa_laws.specs.Opening.{opening_records}
@@ -90,11 +90,7 @@ event-fine w st r e moment law from s within fine = whole (in-form w r e law fro
 
 -- before the opening no thread runs, and no line is raised
 rests-in : (defs : List SpaceView) (k j : ℕ) (p : ProcNo)
-    → (get_or (get_or (map opening_space defs) k
-    (record {
-      threads = [];
-      sync = Rattle.sa_sync.specs.Sync.opening Rattle.sa_laws.specs.State.no_space;
-    })).threads j Rattle.sa_ranks_legal.proofs.Fading.nobody).place ≡ place.Running p → ⊥
+    → (get_or (get_or (map opening_space defs) k no_threads).threads j Rattle.sa_ranks_legal.proofs.Fading.nobody).place ≡ place.Running p → ⊥
 rests-in [] k j p is = absurd (cc)
 rests-in (def ∷ defs) zero zero p is = absurd (cc)
 rests-in (def ∷ defs) zero (suc j) p is = absurd (cc)

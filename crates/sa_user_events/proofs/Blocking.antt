@@ -46,7 +46,7 @@ use Rattle.sa_kernel_model.specs.Sound.{IsSound}
 use Rattle.sa_kernel_model.specs.State.{untold_of, life_of, KernelState, Scene, owner_of, line_of, can_upcall, is_fetching}
 use Rattle.sa_kernel_model.proofs.OnceLemmas.{none-of}
 use Rattle.sa_kernel_model.proofs.EntryLemmas.{users-are_own, own-others}
-use Rattle.sa_kernel_model.proofs.WalkLemmas.{AreClosing, own-both, own-told, told-alone, AreOwn}
+use Rattle.sa_kernel_model.proofs.WalkLemmas.{own-both, own-told, told-alone, AreOwn}
 use Rattle.sa_kernel_model.specs.Parts.{put_aside, with_io, upcall, leave}
 use Rattle.sa_kernel_model.proofs.NoteLemmas.{copies, copies_in, once_if}
 use Rattle.sa_kernel_model.specs.declared.entry.Entry.{Entry}
@@ -78,6 +78,7 @@ use Rattle.sa_acts.specs.declared.acts.Act.{Act}
 use Rattle.sa_assign.specs.Aims.{space_no}
 use Rattle.sa_laws.specs.Step.{AreSteps}
 use Rattle.sa_laws.proofs.Records.{records-append}
+use Rattle.sa_laws.proofs.Closings.{AreClosing}
 use Rattle.sa_kernel_model.specs.Enters.{upcalls_in}
 use Rattle.sa_core_model.proofs.Effects.{same-closed, same-again, same-leave}
 use Rattle.sa_event_frames.proofs.Frames.{same-for, alike-stays, closing-alike, put-again, StaysPut, plains-stay}

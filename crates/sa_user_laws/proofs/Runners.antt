@@ -15,18 +15,18 @@ use Rattle.sa_abstract.specs.Setting.{Setting}
 use Rattle.sa_abstract.specs.Calls.{Calls, Contexts}
 use Rattle.sa_abstract.specs.Keeps.{Standing, IsOwn}
 use Rattle.sa_laws.specs.declared.place.Place.TheVariants.{Running}
-use Rattle.sa_laws.specs.State.{State, Runner, space_at, thread_at, thread_in, runner_on, runner_of}
+use Rattle.sa_laws.specs.State.{State, Runner, space_at, thread_at, thread_in, runner_on, runner_of, no_threads}
 use Rattle.sa_laws.specs.Machine.{changed}
 use Rattle.sa_laws.specs.Life.{Life}
 use Rattle.sa_laws.specs.Readings.{Readings, owner_of}
 use Rattle.sa_laws.specs.Record.{after_record}
 use Rattle.sa_laws.specs.History.{after_records}
 use Rattle.sa_laws.specs.Rules.{UserRules}
+use Rattle.sa_laws.proofs.Searches.{place_of, found-from, passed-from}
 use Rattle.sa_laws.proofs.Spaces.{space-elsewhere, placed-elsewhere}
 use Rattle.sa_user_laws.specs.Moments.{IsMoment}
 use Rattle.sa_user_laws.specs.Scene.{Fits, Hears, Holds, IsOn, RunsAlone, IsActing}
 use Rattle.sa_user_laws.specs.Laws.{UserLaws}
-use Rattle.sa_user_laws.proofs.Searches.{no_threads, place_of, found-from, passed-from}
 
 -- where this thread of this space alone runs on a processor, or none, it is the one that a search through all finds
 pub runner-is : (a : State) (p : ProcNo) (s : SpaceNo) (o : Option ThreadNo)

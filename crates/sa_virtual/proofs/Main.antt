@@ -15,13 +15,12 @@ use Rattle.sa_instr.specs.declared.instr.Instr.TheVariants.{Out, Io as IoOf}
 use Rattle.sa_spaces.specs.Workload.{WorkloadView, IsWorkload}
 use Rattle.sa_devices.specs.Ios.{Io, due_of}
 use Rattle.sa_laws.specs.State.{runner_of, next_instr, thread_at}
-use Rattle.sa_laws.specs.Readings.{Readings, Listed, is_in}
+use Rattle.sa_laws.specs.Readings.{Listed, is_in}
 use Rattle.sa_base.specs.declared.record.Record.{Record}
 use Rattle.sa_base.specs.declared.record.Item.{Item}
 use Rattle.sa_base.specs.Items.{items_at}
 use Rattle.sa_laws.specs.Event.{Event, items_of, events_of, before_events}
-use Rattle.sa_laws.specs.Record.{after_record}
-use Rattle.sa_laws.specs.History.{after_records}
+use Rattle.sa_laws.proofs.Records.{number-kept}
 use Rattle.sa_check_machine.specs.Index.{runner_at}
 use Rattle.sa_check_machine.proofs.IndexLemmas.{runner}
 use Rattle.sa_virtual.specs.Virtual.{Virtuals, opening, space_of, list_of, placed_on, ready_of}
@@ -128,11 +127,7 @@ run_goes_on w v (p ∷ ps) c valid inside good below small =
     let turn = turn_is_legal w p v c valid (All-head (λ (q : ProcNo). q.0 < w.processors) p ps inside) good below (omega (arith, small)) in
     (turn.0, run_goes_on w (after w v p) ps (c + 1) valid (All-tail (λ (q : ProcNo). q.0 < w.processors) p ps inside) turn.1 turn.2 (omega (arith, small)))
 
--- each event says something, and is numbered behind the one before
-pub numbered : (w : WorkloadView) (e : ℕ) (p : ProcNo) (r : Readings) (xs : List Record) → (after_records w e p r xs).number ≡ r.number
-numbered w e p r [] = refl
-numbered w e p r (x ∷ xs) = numbered w e p (after_record w e p r x) xs
-
+-- each event says something, and is numbered after the one before
 abbrev Follow : ℕ → List Event → Type 0
 Follow n [] = Unit {0}
 Follow n (e ∷ es) = (e.number ≡ n) × (1 ≤ length e.records) × Follow (n + 1) es
@@ -142,7 +137,7 @@ pub run_follows : (w : WorkloadView) (v : Virtuals) (ps : List ProcNo) (c : ℕ)
 run_follows w v [] c valid inside good below small n is = tt
 run_follows w v (p ∷ ps) c valid inside good below small n is =
     let turn = turn_is_legal w p v c valid (All-head (λ (q : ProcNo). q.0 < w.processors) p ps inside) good below (omega (arith, small)) in
-    let next : (after w v p).base.number ≡ n + 1 = ap (λ k. k + 1) (numbered w v.base.number p (evicted w v p).base (turned w v p).says ∙ is) in
+    let next : (after w v p).base.number ≡ n + 1 = ap (λ k. k + 1) (number-kept w v.base.number p (evicted w v p).base (turned w v p).says ∙ is) in
     (is, turn.3, run_follows w (after w v p) ps (c + 1) valid (All-tail (λ (q : ProcNo). q.0 < w.processors) p ps inside) turn.1 turn.2 (omega (arith, small)) (n + 1) next)
 
 -- so the flat trace has these events

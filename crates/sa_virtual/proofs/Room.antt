@@ -14,10 +14,10 @@ use Rattle.sa_sync.specs.declared.answer.SyncAnswer.TheVariants as answers
 use Rattle.sa_sync.specs.Sync.{Sync, Semaphore, semaphore_at, semaphore_of, mutex_at, with_semaphore}
 use Rattle.sa_sync.specs.Calls.{Change, locked, locked_by, unlocked, passed_on, is_holder, waited, waited_by, signalled, signalled_by, joined, waits, goes}
 use Rattle.sa_laws.specs.declared.place.Place.{Place}
-use Rattle.sa_laws.specs.State.{State, SpaceState, Thread, put_thread, with_space, space_at, thread_at, placed_if, next_instr}
+use Rattle.sa_laws.specs.State.{State, SpaceState, Thread, put_thread, with_space, space_at, thread_at, placed_if, next_instr, no_threads}
 use Rattle.sa_laws.specs.Effect.{Effect, next, with_sync, answered, effect_of}
 use Rattle.sa_laws.specs.Machine.{next_effect}
-use Rattle.sa_check_machine.specs.Spaces.{no_threads, with_space_in}
+use Rattle.sa_check_machine.specs.Spaces.{with_space_in}
 use Rattle.sa_virtual.specs.Turning.{count_at, IsBelow}
 
 set_below : (c : ℕ) (spaces : List SpaceState) (s : SpaceNo) (x : SpaceState) → IsBelow c spaces → ((k : ℕ) → count_at x k ≤ c) → IsBelow c (with_space_in spaces s x)

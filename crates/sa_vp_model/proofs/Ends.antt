@@ -16,9 +16,8 @@ use Rattle.sa_sync.specs.Sync.{waits_of}
 use Rattle.sa_devices.specs.Ios.{Io}
 use Rattle.sa_laws.specs.declared.place.Place.{Place}
 use Rattle.sa_laws.specs.declared.place.Place.TheVariants as places
-use Rattle.sa_laws.specs.State.{is_due, is_waiting, space_at}
+use Rattle.sa_laws.specs.State.{is_due, is_waiting, space_at, no_threads}
 use Rattle.sa_laws.specs.Ends.{are_done, are_at_rest, IsAllDone}
-use Rattle.sa_check_machine.specs.Spaces.{no_threads}
 use Rattle.sa_virtual.specs.Virtual.{Virtuals}
 use Rattle.sa_virtual.specs.Legal.{NobodyIsDue, IsStuck, GoesOn, EndsWith}
 use Rattle.sa_virtual.specs.Holding.{worked, at_no, place_no, one_where}

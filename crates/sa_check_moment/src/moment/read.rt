@@ -49,7 +49,7 @@ struct Before {
     for_push: bool,
     // The I/O that the record begins.
     begun: Option<Begun>,
-    // The list in which a thread comes to stand that the record makes ready.
+    // The list into which a thread is put that the record makes ready.
     list: ProcNo,
 }
 
@@ -154,7 +154,7 @@ impl Moment {
         }
     }
 
-    // At a ready: the list in which the thread comes to stand.
+    // At a ready: the list into which the thread is put.
     fn list_at(&self, p: ProcNo, what: &Record) -> ProcNo
         ensures { ReadsList (seen self.now).readings p what.now result }
     {
@@ -243,7 +243,7 @@ impl Moment {
         }
     }
 
-    // The length of the thread's `io` whose record stands directly before.
+    // The length of the thread's `io` whose record comes directly before.
     fn length_behind(&self, s: SpaceNo, t: Option<ThreadNo>) -> Option<u32>
         ensures { result ≡ length_behind (seen self.now).workload (seen self.now).readings s t
             (seen self.now).readings.last }

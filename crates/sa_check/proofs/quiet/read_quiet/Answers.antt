@@ -2,7 +2,6 @@ use Rattle.std.proofs.Common.{◌≡◌, ◌↔◌, ◌+◌, List, [], ◌∷◌
 use Rattle.std.proofs.Math.Seq.{take-length}
 use Rattle.std.proofs.lemmas.List.{drop_more, drop_all}
 use Rattle.sa_base.specs.declared.record.Record.{Record}
-use Rattle.sa_base.specs.declared.record.Record.TheVariants.{Ins}
 use Rattle.std.specs.Prelude.{IsTrue}
 use Rattle.sa_laws.specs.Step.{AreSteps}
 use Rattle.sa_laws.specs.Shape.{lines_in}
@@ -11,14 +10,10 @@ use Rattle.sa_laws.specs.Upcalls.{TellsOnce, NamesTheLife, TellsAllThen, GivesUp
 use Rattle.sa_check_moment.specs.Seen.{seen}
 use Rattle.sa_check.specs.Items.{told_event}
 use Rattle.sa_check.specs.Records.{behind_some}
-use Rattle.sa_check.proofs.RecordLemmas.{steps-more, no-step, moment-more, tail-whole}
+use Rattle.sa_check.proofs.RecordLemmas.{steps-more, no-step, moment-more, tail-whole, no_record}
 use Rattle.sa_check.proofs.QuietLemmas.{each-quiet, once-holds, named-holds, all-holds, upcall-holds, heard-holds}
 use Rattle.sa_check.proofs.QuietLines.{quiet-lines}
 use Rattle.sa_check.proofs.quiet.read_quiet.Goals as goal
-
--- what stands where no record does
-abbrev no_record : Record
-no_record = Ins (record { 0 = 0 }) (record { 0 = 0 }) 0
 
 pub loop-what-init : goal.loop-what-init
 loop-what-init c = record { moment = refl; steps = record { same = (λ all. all, λ all. all) } }
@@ -72,13 +67,15 @@ returns c =
         told_once = (λ _. each-quiet TellsOnce once-holds m.workload e.number e.proc m.readings e.records quiet, λ _. found.told_once);
         named = (λ _. each-quiet (NamesTheLife e.proc) (named-holds e.proc) m.workload e.number e.proc m.readings e.records quiet, λ _. found.named);
         told_all = (λ _. each-quiet (TellsAllThen e.proc) (all-holds e.proc) m.workload e.number e.proc m.readings e.records quiet, λ _. found.told_all);
-        gave_upcall = (λ _. each-quiet (GivesUpcallThen e.proc) (upcall-holds e.proc) m.workload e.number e.proc m.readings e.records quiet, λ _. found.gave_upcall);
+        gave_upcall =
+            (λ _. each-quiet (GivesUpcallThen e.proc) (upcall-holds e.proc) m.workload e.number e.proc m.readings e.records quiet, λ _. found.gave_upcall);
         heard = (λ _. each-quiet RaisesLine heard-holds m.workload e.number e.proc m.readings e.records quiet, λ _. found.heard);
       };
       due = record {
         wants = (λ _. c.requires.none.wants, λ _. refl);
         aims = (λ _. c.requires.none.aims, λ _. refl);
         lines = quiet-lines now m e c.in_ok-lines.lines quiet here
-            (subst (λ (ys : List Record). IsTrue c.in_ok-lines.lines ↔ (lines_in ys ≡ lines_due now.workload now.readings)) (tail-whole e.records n) c.in_ok-lines.ensures);
+            (subst (λ (ys : List Record). IsTrue c.in_ok-lines.lines ↔ (lines_in ys ≡ lines_due now.workload now.readings))
+            (tail-whole e.records n) c.in_ok-lines.ensures);
       };
     }

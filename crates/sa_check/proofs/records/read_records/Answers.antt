@@ -2,7 +2,6 @@ use Rattle.std.proofs.Common.{◌≡◌, ◌+◌, List, [], ◌∷◌, length, t
 use Rattle.std.proofs.Math.Seq.{take-length}
 use Rattle.std.proofs.lemmas.List.{drop_more, drop_all}
 use Rattle.sa_base.specs.declared.record.Record.{Record}
-use Rattle.sa_base.specs.declared.record.Record.TheVariants.{Ins}
 use Rattle.sa_laws.specs.Step.{AreSteps}
 use Rattle.sa_laws.specs.Shape.{before_aims, before_wants, front_part}
 use Rattle.sa_laws.specs.Upcalls.{TellsOnce, NamesTheLife, TellsAllThen, GivesUpcallThen, RaisesLine}
@@ -12,12 +11,8 @@ use Rattle.sa_check.specs.Items.{told_event}
 use Rattle.sa_check.specs.Places.{WantsAreDue, AimsAreDue, LinesAreDue}
 use Rattle.sa_check.specs.Records.{FoundMore, behind_some}
 use Rattle.sa_check.proofs.PlaceLemmas.{take-before-wants, take-before-aims, found-behind}
-use Rattle.sa_check.proofs.RecordLemmas.{rest-first, rest-more, rest-all, steps-more, no-step, moment-more, at-place, part-within, tail-whole}
+use Rattle.sa_check.proofs.RecordLemmas.{rest-first, rest-more, rest-all, steps-more, no-step, moment-more, at-place, part-within, tail-whole, no_record}
 use Rattle.sa_check.proofs.records.read_records.Goals as goal
-
--- what stands where no record does
-abbrev no_record : Record
-no_record = Ins (record { 0 = 0 }) (record { 0 = 0 }) 0
 
 pub loop-i-init : goal.loop-i-init
 loop-i-init c =
@@ -44,7 +39,8 @@ returns-then-not-allows c =
     let now = seen c.loop-i.now in
     let e = told_event c.args.event.now in
     let x = get_or e.records c.loop-i.i no_record in
-    no-step now (seen c.args.moment) e (drop c.loop-i.i e.records) x (drop (c.loop-i.i + 1) e.records) (drop_more e.records c.loop-i.i no_record c.loop-i-test.true)
+    no-step now (seen c.args.moment) e (drop c.loop-i.i e.records) x (drop (c.loop-i.i + 1) e.records)
+    (drop_more e.records c.loop-i.i no_record c.loop-i-test.true)
     (λ needs. let yes = c.allows.ensures.1 needs in let no = c.if-not-allows.true in cc) c.loop-i.invariant.steps
 
 pub loop-i-preserved : goal.loop-i-preserved
@@ -62,7 +58,8 @@ loop-i-preserved c =
     let old = c.loop-i.invariant in
     let due = c.in_ok-due.ensures in
     let laws : FoundMore now.readings e.proc x others c.loop-i.laws c.and-laws.result =
-    subst (λ (behind : List Record). FoundMore now.readings e.proc x behind c.loop-i.laws c.and-laws.result) (tail-whole e.records (i + 1)) c.and-laws.ensures in
+    subst (λ (behind : List Record). FoundMore now.readings e.proc x behind c.loop-i.laws c.and-laws.result)
+    (tail-whole e.records (i + 1)) c.and-laws.ensures in
     let places = c.of-places in
     record {
       moment = moment-more now next m e i no_record old.moment c.loop-i-test.true goes;

@@ -6,6 +6,10 @@ use Rattle.sa_check_closing.proofs.choice.fill.Goals as goal
 
 pub loop-preserved : goal.loop-preserved
 loop-preserved c = record {
-  carried = filled-some c.saturating_sub-missing.result c.loop.counter c.args.shares.now c.args.marks.now c.args.s.0 c.in-Some.p (reaimed c.loop.now) (reaimed c.aim.new.now) c.loop-test.true (sym (c.in-Some.ensures.choice ∙ ap (choice c.args.shares.now c.args.marks.now) c.deref-in-loop.ensures.0)) c.in_ok-aim.ensures.carried ∙ c.loop.invariant.carried;
+  carried =
+      filled-some c.saturating_sub-missing.result c.loop.counter c.args.shares.now c.args.marks.now c.args.s.0 c.in-Some.p (reaimed c.loop.now)
+      (reaimed c.aim.new.now) c.loop-test.true
+      (sym (c.in-Some.ensures.choice ∙ ap (choice c.args.shares.now c.args.marks.now) c.deref-in-loop.ensures.0)) c.in_ok-aim.ensures.carried
+      ∙ c.loop.invariant.carried;
   few = (let few = c.loop.invariant.few in let same = c.aim.ensures.few in omega arith);
 }

@@ -11,4 +11,5 @@ returns-then-will_tell c =
     let size = c.processors-p-end.ensures.value in
     let is = c.workload.ensures in
     let n = ap (λ (w : WorkloadView). w.processors) is in
-    sym (ap is_none (least_below-found m.workload.processors (will_tell m.readings c.args.s) c.loop-p.p c.loop-p.invariant (sym c.will_tell.ensures ∙ c.if-will_tell.true) (omega arith)))
+    sym (ap is_none (least_below-found m.workload.processors (will_tell m.readings c.args.s) c.loop-p.p c.loop-p.invariant
+    (sym c.will_tell.ensures ∙ c.if-will_tell.true) (omega arith)))

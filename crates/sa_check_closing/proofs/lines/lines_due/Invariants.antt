@@ -7,4 +7,6 @@ use Rattle.sa_check_closing.proofs.EachLemmas.{from}
 use Rattle.sa_check_closing.proofs.lines.lines_due.Given as goal
 
 abbrev pub invariant-loop-s : goal.invariant-loop-s
-invariant-loop-s l = l.due.items ++ filter_map (line_for (seen l.moment).workload (seen l.moment).readings) (from l.s l.s-end) ≡ lines_due (seen l.moment).workload (seen l.moment).readings
+invariant-loop-s l =
+    l.due.items ++ filter_map (line_for (seen l.moment).workload (seen l.moment).readings) (from l.s l.s-end)
+    ≡ lines_due (seen l.moment).workload (seen l.moment).readings

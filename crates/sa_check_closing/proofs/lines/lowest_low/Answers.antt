@@ -11,4 +11,5 @@ returns-then-can_be_raised c =
     let size = c.processors-p-end.ensures.value in
     let is = c.workload.ensures in
     let n = ap (λ (w : WorkloadView). w.processors) is in
-    sym (least_below-found m.workload.processors (can_be_raised m.readings c.args.s) c.loop-p.p c.loop-p.invariant (sym c.can_be_raised.ensures ∙ c.if-can_be_raised.true) (omega arith))
+    sym (least_below-found m.workload.processors (can_be_raised m.readings c.args.s) c.loop-p.p c.loop-p.invariant
+    (sym c.can_be_raised.ensures ∙ c.if-can_be_raised.true) (omega arith))

@@ -16,7 +16,8 @@ want-more : (w : WorkloadView) (now next : Seen) (s n : ℕ) → s < n → now.w
     → after_records w 0 (proc_no 0) next.readings (map want_one (from (s + 1) n)) ≡ after_records w 0 (proc_no 0) now.readings (map want_one (from s n))
 want-more w now next s n within same goes =
     ap (λ (m : Seen). after_records w 0 (proc_no 0) m.readings (map want_one (from (s + 1) n))) goes
-    ∙ ap (λ (v : WorkloadView). after_records w 0 (proc_no 0) (after_record v 0 (proc_no 0) now.readings (Want (space_no s) 1)) (map want_one (from (s + 1) n))) same
+    ∙ ap (λ (v : WorkloadView). after_records w 0 (proc_no 0) (after_record v 0 (proc_no 0) now.readings (Want (space_no s) 1))
+    (map want_one (from (s + 1) n))) same
     ∙ sym (ap (λ (spaces : List SpaceNo). after_records w 0 (proc_no 0) now.readings (map want_one spaces)) (from-more s n within))
 
 pub loop-s-preserved : goal.loop-s-preserved
@@ -25,6 +26,8 @@ loop-s-preserved c =
     let next = seen c.in_ok-moment-2.moment in
     record {
       workload = ap (λ (m : Seen). m.workload) c.in_ok-moment-2.ensures ∙ c.loop-s.invariant.workload;
-      readings = want-more c.args.workload.now now next c.loop-s.s (length c.spaces-s-end.result.now) c.loop-s-test.true c.loop-s.invariant.workload c.in_ok-moment-2.ensures
+      readings =
+          want-more c.args.workload.now now next c.loop-s.s
+          (length c.spaces-s-end.result.now) c.loop-s-test.true c.loop-s.invariant.workload c.in_ok-moment-2.ensures
           ∙ c.loop-s.invariant.readings;
     }

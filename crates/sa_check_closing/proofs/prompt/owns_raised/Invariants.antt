@@ -5,4 +5,5 @@ use Rattle.sa_check_moment.specs.Seen.{seen}
 use Rattle.sa_check_closing.proofs.prompt.owns_raised.Given as goal
 
 abbrev pub invariant-loop-p : goal.invariant-loop-p
-invariant-loop-p l = (k : ℕ) → k < l.p → owner_of (seen l.moment).readings (proc_no k) ≡ Some l.s → is_some (line_of (seen l.moment).readings (proc_no k)) ≢ true
+invariant-loop-p l =
+    (k : ℕ) → k < l.p → owner_of (seen l.moment).readings (proc_no k) ≡ Some l.s → is_some (line_of (seen l.moment).readings (proc_no k)) ≢ true

@@ -17,10 +17,12 @@ and-false false = refl
 
 -- nothing is untold to a space that is not there
 nothing-past : (r : Readings) (s : SpaceNo) → length r.untold ≤ s.0 → must_want r s ≡ false
-nothing-past r s past = ap (λ (notes : List Note). (demand_of r s == 0) && list_any (must_hear r) notes) (get_or_past r.untold s.0 [] past) ∙ and-false (demand_of r s == 0)
+nothing-past r s past =
+    ap (λ (notes : List Note). (demand_of r s == 0) && list_any (must_hear r) notes) (get_or_past r.untold s.0 [] past) ∙ and-false (demand_of r s == 0)
 
 pub returns-then-must_want : goal.returns-then-must_want
-returns-then-must_want c = (λ e. absurd (cc), λ none. let same = none (space_no c.loop-s.s) in let is = c.must_want.ensures in let so = c.if-must_want.true in absurd (cc))
+returns-then-must_want c =
+    (λ e. absurd (cc), λ none. let same = none (space_no c.loop-s.s) in let is = c.must_want.ensures in let so = c.if-must_want.true in absurd (cc))
 
 pub returns : goal.returns
 returns c =

@@ -6,6 +6,7 @@ use Rattle.sa_check_closing.proofs.shares.claims.Given as goal
 
 abbrev pub invariant-loop-s : goal.invariant-loop-s
 invariant-loop-s l = record {
-  claims : l.claims.items ++ map (claim_of (seen l.moment).workload (seen l.moment).readings) (from l.s l.s-end) ≡ claims_of (seen l.moment).workload (seen l.moment).readings;
+  claims : l.claims.items ++ map (claim_of (seen l.moment).workload (seen l.moment).readings) (from l.s l.s-end)
+      ≡ claims_of (seen l.moment).workload (seen l.moment).readings;
   len : length l.claims.items ≡ l.s;
 }

@@ -7,4 +7,5 @@ use Rattle.sa_check_closing.proofs.EachLemmas.{from}
 use Rattle.sa_check_closing.proofs.wants.wants_due.Given as goal
 
 abbrev pub invariant-loop-s : goal.invariant-loop-s
-invariant-loop-s l = l.due.items ++ filter_map (want_for (seen l.moment).readings) (from l.s l.s-end) ≡ wants_due (seen l.moment).workload (seen l.moment).readings
+invariant-loop-s l =
+    l.due.items ++ filter_map (want_for (seen l.moment).readings) (from l.s l.s-end) ≡ wants_due (seen l.moment).workload (seen l.moment).readings

@@ -8,6 +8,10 @@ pub loop-x-preserved : goal.loop-x-preserved
 loop-x-preserved c =
     let x = c.x-item.result in
     elim c.if-is_in.branch [
-      | then-is_in w ↦ w.last-is ∙ sym (newest-here (is_in c.args.l) c.args.listed.now c.loop-x.x-index x c.loop-x-test.true (sym c.x-item.is) (sym c.is_in.ensures ∙ w.if-is_in.true))
-      | else-is_in w ↦ w.last-is ∙ c.loop-x.invariant ∙ sym (newest-other (is_in c.args.l) c.args.listed.now c.loop-x.x-index x c.loop-x-test.true (sym c.x-item.is) (sym c.is_in.ensures ∙ w.if-is_in.false))
+      | then-is_in w ↦
+          w.last-is ∙ sym (newest-here (is_in c.args.l) c.args.listed.now c.loop-x.x-index x c.loop-x-test.true (sym c.x-item.is)
+          (sym c.is_in.ensures ∙ w.if-is_in.true))
+      | else-is_in w ↦
+          w.last-is ∙ c.loop-x.invariant ∙ sym (newest-other (is_in c.args.l) c.args.listed.now c.loop-x.x-index x c.loop-x-test.true (sym c.x-item.is)
+          (sym c.is_in.ensures ∙ w.if-is_in.false))
     ]

@@ -27,7 +27,16 @@ loop-u-preserved c =
     let all : joiners_at s t ≡ u.0 ∷ drop 1 (joiners_at s t) = queue s t u.0 first in
     record {
       capacity = c.push_reserved.ensures.capacity ∙ inv.capacity;
-      room = omega (arith, inv.room, ap length left, ap length all, ap length c.push_reserved.ensures.items, length-append c.loop-u.roused.items (u ∷ []), c.push_reserved.ensures.capacity);
+      room =
+          omega (
+            arith,
+            inv.room,
+            ap length left,
+            ap length all,
+            ap length c.push_reserved.ensures.items,
+            length-append c.loop-u.roused.items (u ∷ []),
+            c.push_reserved.ensures.capacity,
+          );
       threads = ap (λ (x : Sync). length x.joiners) state ∙ length-set s.joiners t (drop 1 (joiners_at s t)) ∙ inv.threads;
       rest =
           ap (λ xs. xs ++ named (joiners_at new t)) c.push_reserved.ensures.items

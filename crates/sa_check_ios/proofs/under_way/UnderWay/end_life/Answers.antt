@@ -18,4 +18,7 @@ invariant_of-self c =
     )
 
 pub returns-clause-page : goal.returns-clause-page
-returns-clause-page c = subst (λ (o : Option IoKind). IfSome o HasPage) (sym (c.first_of_life-over.ensures ∙ ap (λ (ios : List Io). option_map (λ (io : Io). io.kind) (find (is_io_of c.args.a) ios)) c.as_slice.ensures.value)) (page-find (is_io_of c.args.a) c.self.inside.ios.items c.self.invariant.1)
+returns-clause-page c =
+    subst (λ (o : Option IoKind). IfSome o HasPage)
+    (sym (c.first_of_life-over.ensures ∙ ap (λ (ios : List Io). option_map (λ (io : Io). io.kind) (find (is_io_of c.args.a) ios)) c.as_slice.ensures.value))
+    (page-find (is_io_of c.args.a) c.self.inside.ios.items c.self.invariant.1)

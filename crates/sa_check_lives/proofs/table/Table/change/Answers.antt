@@ -23,7 +23,8 @@ invariant_of-self-2 c =
     let i1 = c.add_if-2.new.numbers.items in
     let after = with_life (changed_by change) (Some c.in-Some.a) old in
     let same : lives_in c.write.new.self ≡ after = c.in_ok-has_lock.ensures.ok in
-    let has : c.in_ok-has_lock.has_lock ≡ locks_one (after c.in-Some.a.0) = c.in_ok-has_lock.ensures.lock ∙ ap (λ lives. locks_one (lives c.in-Some.a.0)) same in
+    let has : c.in_ok-has_lock.has_lock ≡ locks_one (after c.in-Some.a.0) =
+    c.in_ok-has_lock.ensures.lock ∙ ap (λ lives. locks_one (lives c.in-Some.a.0)) same in
     let adds : IsThere (adds_lock change) c.in-Some.a.0 h1 = subst (λ b. IsThere b c.in-Some.a.0 h1) c.adds_lock.ensures c.in_ok-add_if.ensures.there in
     let comes : IsThere (enters change) c.in-Some.a.0 i1 = subst (λ b. IsThere b c.in-Some.a.0 i1) c.enters.ensures c.in_ok-add_if-2.ensures.there in
     let goes : KeepsUnless (leaves change) c.in-Some.a.0 i1 c.remove_if-2.new.numbers.items =

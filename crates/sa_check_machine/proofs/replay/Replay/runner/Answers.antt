@@ -8,4 +8,5 @@ use Rattle.sa_check_machine.proofs.replay.Replay.runner.Goals as goal
 pub returns : goal.returns
 returns c =
     let i = c.self.inside in
-    c.runner_in.ensures ∙ ap (λ (xs : List (Option Runner)). runner_at xs c.args.p) c.deref.ensures.value ∙ index-finds c.args.p i.spaces i.runners.items c.self.invariant.0.index ∙ ap (λ (x : Replayed). runner_on x.state c.args.p) c.self.view_is
+    c.runner_in.ensures ∙ ap (λ (xs : List (Option Runner)). runner_at xs c.args.p) c.deref.ensures.value
+    ∙ index-finds c.args.p i.spaces i.runners.items c.self.invariant.0.index ∙ ap (λ (x : Replayed). runner_on x.state c.args.p) c.self.view_is

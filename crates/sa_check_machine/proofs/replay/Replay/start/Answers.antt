@@ -7,7 +7,10 @@ use Rattle.sa_check_machine.proofs.replay.Replay.start.Goals as goal
 pub invariant_of-result : goal.invariant_of-result
 invariant_of-result c =
     let w = c.args.workload.now in
-    let spaces : c.in_ok-new.field-0 ≡ map opening_space w.spaces = c.in_ok-new.ensures ∙ ap (λ (defs : List SpaceView). map opening_space defs) c.spaces.ensures.value in
+    let spaces : c.in_ok-new.field-0 ≡ map opening_space w.spaces =
+    c.in_ok-new.ensures ∙ ap (λ (defs : List SpaceView). map opening_space defs) c.spaces.ensures.value in
     let owners : c.in_ok-vec.field-0.items ≡ replicate w.processors None = search rules in
-    let runners : c.in_ok-vec-2.field-0.items ≡ replicate w.processors None = search rules in
-    (opened_kept w c.in_ok-copy.field-0 c.in_ok-new.field-0 c.in_ok-vec.field-0.items c.in_ok-vec-2.field-0.items c.in_ok-copy.ensures spaces owners runners, search rules)
+    let runners : c.in_ok-vec-2.field-0.items ≡ replicate w.processors None = search rules in (
+      opened_kept w c.in_ok-copy.field-0 c.in_ok-new.field-0 c.in_ok-vec.field-0.items c.in_ok-vec-2.field-0.items c.in_ok-copy.ensures spaces owners runners,
+      search rules,
+    )

@@ -8,7 +8,9 @@ use Rattle.sa_check_machine.specs.Shape.{IsShaped}
 use Rattle.sa_check_machine.proofs.ShapeLemmas.{can_do, run_kept}
 use Rattle.sa_check_machine.proofs.space.SpaceThreads.run.Goals as goal
 
-kept : (c : goal.After-does) → let x = space c.self.inside.threads c.self.inside.sync in let new = space c.does.new.table c.does.new.sync in IsSound new × IsShaped x c.args.t (thread_in x c.args.t).place new
+kept : (c : goal.After-does) → let x = space c.self.inside.threads c.self.inside.sync in
+    let new = space c.does.new.table c.does.new.sync in
+    IsSound new × IsShaped x c.args.t (thread_in x c.args.t).place new
 kept c =
     let def = c.args.def.now in
     let x = space c.self.inside.threads c.self.inside.sync in
@@ -16,8 +18,11 @@ kept c =
     let instr = c.instr_at-instr.result in
     let runs : CanRun def x c.args.t = subst (λ (y : SpaceState). CanRun def y c.args.t) (sym c.self.view_is) c.requires.can in
     let found = c.instr_at-instr.ensures in
-    let can = can_do def x c.args.t thread instr c.self.invariant runs c.get-thread.ensures found.instr found.next found.named (c.is_full.ensures.count c.if-is_full.false) in
-    run_kept def x c.args.t thread instr (effect (space c.does.new.table c.does.new.sync) c.does.new.roused.items) c.self.invariant runs c.get-thread.ensures can c.does.ensures.effect
+    let can =
+    can_do def x c.args.t thread instr c.self.invariant runs c.get-thread.ensures found.instr found.next found.named
+    (c.is_full.ensures.count c.if-is_full.false) in
+    run_kept def x c.args.t thread instr
+    (effect (space c.does.new.table c.does.new.sync) c.does.new.roused.items) c.self.invariant runs c.get-thread.ensures can c.does.ensures.effect
 
 pub invariant_of-self : goal.invariant_of-self
 invariant_of-self c = (kept c).0

@@ -18,11 +18,14 @@ returns c before runs low =
     let w = (seen m).workload in
     let step : c.step_by-step.result ≡ step_by w start.lowers r start.running records = c.step_by-step.ensures in
     let up : c.up_by-up.result ≡ up_by w r p records = c.up_by-up.ensures in
-    let lives : lives_of c.end_event.new.lives ≡ arisen_if (up_by w r p records) p (stepped_if (step_by w start.lowers r start.running records) start.running (lives_of m.lives)) =
+    let lives : lives_of c.end_event.new.lives
+    ≡ arisen_if (up_by w r p records) p (stepped_if (step_by w start.lowers r start.running records) start.running (lives_of m.lives)) =
     c.in_ok-parts.ensures.lives ∙ ap (λ x. arisen_if x p (stepped_if c.step_by-step.result start.running (lives_of parts.lives))) up
     ∙ ap (λ x. arisen_if (up_by w r p records) p (stepped_if x start.running (lives_of parts.lives))) step
-    ∙ ap (λ (k : Kept). arisen_if (up_by w r p records) p (stepped_if (step_by w start.lowers r start.running records) start.running (lives_of k.lives))) same in
+    ∙ ap (λ (k : Kept). arisen_if (up_by w r p records) p (stepped_if (step_by w start.lowers r start.running records) start.running
+    (lives_of k.lives))) same in
     let count : c.in_ok-parts.field-0 ≡ parts.number + 1 = search rules in
     finish-whole m _ before c.args.number p records start.running start.lowers runs low
-    (ap (λ (k : Kept). k.workload) same) (count ∙ ap (λ (k : Kept). k.number + 1) same) (ap (λ (k : Kept). k.state) same) (ap (λ (k : Kept). k.board) same) lives
+    (ap (λ (k : Kept). k.workload) same) (count ∙ ap (λ (k : Kept). k.number + 1) same) (ap (λ (k : Kept). k.state) same)
+    (ap (λ (k : Kept). k.board) same) lives
     (ap (λ (k : Kept). k.pending) same) (ap (λ (k : Kept). k.ready) same) refl refl

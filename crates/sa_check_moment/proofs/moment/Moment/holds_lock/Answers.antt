@@ -6,4 +6,6 @@ use Rattle.sa_check_moment.proofs.moment.Moment.holds_lock.Goals as goal
 
 pub returns : goal.returns
 unfolding seen
-returns c = c.holds_lock.ensures (seen c.args.self.now).readings (ap (λ (m : Kept). lives_in m.lives.table) (sym c.self.view_is) ∙ ap (λ (m : Parts). lives_in m.lives.table) (sym c.deref.ensures))
+returns c =
+    c.holds_lock.ensures (seen c.args.self.now).readings
+    (ap (λ (m : Kept). lives_in m.lives.table) (sym c.self.view_is) ∙ ap (λ (m : Parts). lives_in m.lives.table) (sym c.deref.ensures))

@@ -6,4 +6,6 @@ use Rattle.sa_check_moment.proofs.moment.Moment.is_locked_by_other.Goals as goal
 
 pub returns : goal.returns
 unfolding seen
-returns c = c.is_locked_by_other.ensures (seen c.args.self.now).readings (ap (λ (m : Kept). lives_in m.lives.table) (sym c.self.view_is) ∙ ap (λ (m : Parts). lives_in m.lives.table) (sym c.deref.ensures))
+returns c =
+    c.is_locked_by_other.ensures (seen c.args.self.now).readings
+    (ap (λ (m : Kept). lives_in m.lives.table) (sym c.self.view_is) ∙ ap (λ (m : Parts). lives_in m.lives.table) (sym c.deref.ensures))

@@ -13,5 +13,6 @@ returns c =
     let r = (seen c.args.self.now).readings in
     let unsettled : IsAllDone r → ⊥ = λ done. let bad : false ≡ true = c.if-are_all_done.ensures.1 done in cc in
     not-iff c.some_is_in.result (SomeIsIn r.lives) (IsStuck r) c.some_is_in.ensures
-    (stuck-from r unsettled (c.if-not-are_all_at_rest.ensures.0 refl) (empty r.under_way (λ some. let bad : false ≡ true = c.if-is_busy.ensures.1 some in cc)) (sym c.if-not-are_all_low.ensures))
+    (stuck-from r unsettled (c.if-not-are_all_at_rest.ensures.0 refl) (empty r.under_way (λ some. let bad : false ≡ true = c.if-is_busy.ensures.1 some in cc))
+    (sym c.if-not-are_all_low.ensures))
     (not_in r)

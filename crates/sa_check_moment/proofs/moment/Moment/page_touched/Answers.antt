@@ -13,5 +13,6 @@ returns-in-Some-clause-few c =
     let m = c.args.self.now in
     let is : IsWorkload m.workload = subst (λ (w : WorkloadView). IsWorkload w) c.workload.ensures c.ranges-2.ensures in
     let page : c.page_in.result ≡ page_touched m.workload (seen m).readings c.args.s (Some c.in-Some.t) =
-    c.page_in.ensures ∙ ap page_in (c.next_instr.ensures ∙ ap (λ (k : Parts). next_instr k.replay.workload k.replay.state c.args.s c.in-Some.t) c.deref.ensures ∙ ap (λ (k : Kept). next_instr k.workload k.state c.args.s c.in-Some.t) c.self.view_is) in
+    c.page_in.ensures ∙ ap page_in (c.next_instr.ensures ∙ ap (λ (k : Parts). next_instr k.replay.workload k.replay.state c.args.s c.in-Some.t) c.deref.ensures
+    ∙ ap (λ (k : Kept). next_instr k.workload k.state c.args.s c.in-Some.t) c.self.view_is) in
     omega (arith, page, touches_few m.workload (seen m).readings c.args.s (Some c.in-Some.t) is)

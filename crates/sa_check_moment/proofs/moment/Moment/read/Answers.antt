@@ -5,6 +5,7 @@ use Rattle.sa_check_lives.specs.View.{lives_of}
 use Rattle.sa_check_lives.specs.Recorded.{recorded}
 use Rattle.sa_check_machine.specs.Replayed.{Replayed, after, roused_by}
 use Rattle.sa_check_machine.specs.Needs.{CanChange}
+use Rattle.sa_check_machine.proofs.NeedLemmas.{can-change}
 use Rattle.sa_check_moment.specs.Board.{noted}
 use Rattle.sa_check_moment.specs.declared.moment.Parts.{Parts}
 use Rattle.sa_check_moment.specs.KeptFields.{kept_in}
@@ -13,17 +14,16 @@ use Rattle.sa_check_moment.specs.Seen.{Seen, Kept, seen, behind_record}
 use Rattle.sa_check_moment.specs.Reading.{pending_after, ready_after}
 use Rattle.sa_check_moment.proofs.JoinLemmas.{read-whole, IsReadWith}
 use Rattle.sa_check_moment.proofs.ListedLemmas.{listed-behind}
-use Rattle.sa_check_moment.proofs.NeedLemmas.{can_change}
 use Rattle.sa_check_moment.proofs.moment.Moment.read.Goals as goal
 
 pub read_parts-requires-clause-can : goal.read_parts-requires-clause-can
 unfolding seen
 read_parts-requires-clause-can c =
     let m = c.args.self in
-    let can : CanChange m.workload c.args.p m.state c.args.what.now = can_change m.workload c.args.p (seen m).readings c.args.what.now c.requires in
+    let can : CanChange m.workload c.args.p m.state c.args.what.now = can-change m.workload c.args.p (seen m).readings c.args.what.now c.requires in
     subst (λ (k : Kept). CanChange k.workload c.args.p k.state c.args.what.now) (sym (ap kept_in c.deref_mut-parts.ensures.value ∙ c.self.view_is)) can
 
--- what is read is the moment behind the record
+-- what is read is the moment after the record
 whole : (c : goal.After-self-4-1) → let fields : Parts = record {
   replay = c.read_parts.new.replay;
   lives = c.read_parts.new.lives;
@@ -45,8 +45,10 @@ whole c =
     record { push = c.push_at.ensures; begins = c.begun_by.ensures.begun; listed = c.list_at.ensures } in
     let replay : c.read_parts.new.replay ≡ after p parts.replay x = c.in_ok-read_parts.ensures.replay in
     let workload : c.read_parts.new.replay.workload ≡ m.workload = ap (λ (v : Replayed). v.workload) replay ∙ ap (λ (k : Kept). k.workload) same in
-    let state : c.read_parts.new.replay.state ≡ changed m.workload p m.state x = ap (λ (v : Replayed). v.state) replay ∙ ap (λ (k : Kept). changed k.workload p k.state x) same in
-    let roused : c.read_parts.new.replay.roused ≡ roused_by m.workload m.state x = ap (λ (v : Replayed). v.roused) replay ∙ ap (λ (k : Kept). roused_by k.workload k.state x) same in
+    let state : c.read_parts.new.replay.state ≡ changed m.workload p m.state x =
+    ap (λ (v : Replayed). v.state) replay ∙ ap (λ (k : Kept). changed k.workload p k.state x) same in
+    let roused : c.read_parts.new.replay.roused ≡ roused_by m.workload m.state x =
+    ap (λ (v : Replayed). v.roused) replay ∙ ap (λ (k : Kept). roused_by k.workload k.state x) same in
     let board : c.note.new.self ≡ noted c.args.number p m.last x m.board = c.note.ensures ∙ ap (λ (k : Kept). noted c.args.number p k.last x k.board) same in
     let lives : lives_of c.read_parts.new.lives ≡ recorded c.read_parts.new.replay.roused c.push_at.result p x (lives_of m.lives) =
     c.in_ok-read_parts.ensures.lives ∙ ap (λ (k : Kept). recorded c.read_parts.new.replay.roused c.push_at.result p x (lives_of k.lives)) same in
@@ -55,7 +57,8 @@ whole c =
     let ready : c.read_parts.new.ready ≡ ready_after c.list_at.result x m.ready =
     c.in_ok-read_parts.ensures.ready ∙ ap (λ (k : Kept). ready_after c.list_at.result x k.ready) same in
     let moved : c.moved_after-parts.result ≡ moved_after m.moved x = c.moved_after-parts.ensures ∙ ap (λ (k : Kept). moved_after k.moved x) same in
-    read-whole m _ c.args.number p x c.push_at.result c.begun_by.result c.list_at.result c.read_parts.new.replay.roused with workload (ap (λ (k : Kept). k.number) same) state roused board lives pending ready refl moved
+    read-whole m _ c.args.number p x c.push_at.result c.begun_by.result c.list_at.result c.read_parts.new.replay.roused with workload
+    (ap (λ (k : Kept). k.number) same) state roused board lives pending ready refl moved
 
 pub invariant_of-self : goal.invariant_of-self
 invariant_of-self c =

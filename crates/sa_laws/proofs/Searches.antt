@@ -3,13 +3,9 @@ use Rattle.std.proofs.Common.{◌≡◌, ℕ, zero, suc, ◌+◌, zero-add, true
 use Rattle.std.proofs.lemmas.Bool.{eq-eqb, eqb-true}
 use Rattle.std.proofs.lemmas.Option.{same_Some}
 use Rattle.sa_base.specs.declared.number.ProcNo.{ProcNo}
-use Rattle.sa_sync.specs.Sync.{opening as sync_opening}
 use Rattle.sa_laws.specs.declared.place.Place.{Place}
 use Rattle.sa_laws.specs.declared.place.Place.TheVariants.{Running, Ready, Blocked, Waiting, Carried, Done}
-use Rattle.sa_laws.specs.State.{Thread, SpaceState, Runner, at_start, no_space, is_running_on, runner_in, first_runner, runner_from}
-
-abbrev pub no_threads : SpaceState
-no_threads = record { threads = []; sync = sync_opening no_space }
+use Rattle.sa_laws.specs.State.{Thread, SpaceState, Runner, at_start, is_running_on, runner_in, first_runner, runner_from, no_threads}
 
 abbrev there_is : ℕ → ℕ → Runner
 there_is k j = record { space = record { 0 = k }; thread = record { 0 = j } }
