@@ -1,7 +1,5 @@
 -- A history goes one way: it has one end, and each of its turns is one event more.
-use Rattle.std.proofs.Common.{◌≡◌, ℕ, Bool, true, false, List, [], ◌∷◌, ◌++◌, Option, Some, None, refl, sym, ap, ◌∙◌, append_assoc, arith}
-use Rattle.std.specs.Prelude.{if◌then◌else◌, ◌==◌, ◌&&◌}
-use Rattle.std.proofs.lemmas.Bool.Decides.{nat_tests}
+use Rattle.std.proofs.Common.{◌≡◌, ℕ, List, [], ◌∷◌, ◌++◌, Option, Some, None, refl, sym, ap, ◌∙◌, append_assoc}
 use Rattle.std.proofs.lemmas.List.{append-nil, append_cancel_left}
 use Rattle.sa_base.specs.declared.number.ProcNo.{ProcNo}
 use Rattle.sa_base.specs.declared.record.End.{End}
@@ -9,35 +7,12 @@ use Rattle.sa_base.specs.declared.record.End.TheVariants.{AllDone, Stuck, Budget
 use Rattle.sa_base.specs.declared.record.Item.{Item}
 use Rattle.sa_spaces.specs.Workload.{WorkloadView}
 use Rattle.sa_laws.specs.Ends.{EndsWith}
-use Rattle.sa_laws.specs.Event.{Event, events_of, items_of, event_of, is_of_event, before_events}
+use Rattle.sa_laws.specs.Event.{Event, events_of, items_of}
 use Rattle.sa_laws.specs.Readings.{Readings}
 use Rattle.sa_laws.specs.Rules.{UserRules}
+use Rattle.sa_legal.proofs.EventLemmas.{items-events}
 use Rattle.sa_debug.specs.OverHistories.{AddsTurn, over_histories, read}
 use Rattle.sa_debug_laws.proofs.Only.{GoesOneWay}
-
--- A trace is made of the items of its events.
-same-number : (a b c d : ℕ) → (a == b && c == d) ≡ true → a ≡ b
-same-number a b c d is = grind (arith, nat_tests, is)
-
-same-proc : (a b c d : ℕ) → (a == b && c == d) ≡ true → c ≡ d
-same-proc a b c d is = grind (arith, nat_tests, is)
-
-before-back : (x : Item) (es : List Event) → items_of (before_events x es) ≡ x ∷ items_of es
-before-back x [] = refl
-before-back x (e ∷ es) = go (is_of_event x e) refl
-  where
-    go : (b : Bool) → is_of_event x e ≡ b
-        → items_of (if b then record e { records = x.what ∷ e.records } ∷ es else event_of x ∷ e ∷ es) ≡ x ∷ items_of (e ∷ es)
-    go false is = refl
-    go true is =
-        ap (λ (n : ℕ). record { event = n; proc = e.proc; what = x.what } ∷ items_of (e ∷ es))
-        (sym (same-number x.event e.number x.proc.0 e.proc.0 is))
-        ∙ ap (λ (n : ℕ). record { event = x.event; proc = record { 0 = n }; what = x.what } ∷ items_of (e ∷ es))
-        (sym (same-proc x.event e.number x.proc.0 e.proc.0 is))
-
-items-back : (items : List Item) → items_of (events_of items) ≡ items
-items-back [] = refl
-items-back (x ∷ xs) = before-back x (events_of xs) ∙ ap (λ (ys : List Item). x ∷ ys) (items-back xs)
 
 -- one history begins with another
 abbrev pub Begins : List Item → List Item → Type 0
@@ -73,9 +48,9 @@ module _ (u : UserRules) (w : WorkloadView) (budget : ℕ) where
       let rest : one.event ∷ first.0 ≡ two.event ∷ second.0 =
       append_cancel_left (events_of items) (one.event ∷ first.0) (two.event ∷ second.0) whole in
       let event : one.event ≡ two.event = cc rest in
-      sym (items-back after)
+      sym (items-events after)
       ∙ ap items_of (one.adds ∙ ap (λ (e : Event). events_of items ++ e ∷ []) event ∙ sym two.adds)
-      ∙ items-back other
+      ∙ items-events other
 
   pub histories-go : GoesOneWay (over_histories u w budget) Begins
   histories-go = record {

@@ -49,7 +49,7 @@ passage-plain (Move old (Some new) ∷ Up s a ∷ xs) h = told-plain xs h
 passage-plain (Move old None ∷ Aim p None ∷ xs) h = fetch-plain xs h
 passage-plain xs h = absurd h
 
--- what has no operation on lists need not stand alone
+-- what has no operation on lists need not be alone
 pub alone-plain : (b : Bool) (xs : List Record) → b ≡ false → StandsAlone b xs
 alone-plain true xs e = absurd cc
 alone-plain false xs e = tt

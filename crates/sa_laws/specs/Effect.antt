@@ -22,7 +22,7 @@ pub record Effect : Type 0 where
 abbrev pub effect : SpaceState → List ThreadNo → Effect
 effect x roused = record { space = x; roused = roused }
 
--- the thread behind its instruction, with a value in a register or without one
+-- the thread after its instruction, with a value in a register or without one
 abbrev pub next : Thread → Thread
 next thread = record thread { pc = thread.pc + 1 }
 
@@ -39,7 +39,7 @@ local_effect x t thread instr = effect (with_thread x t (record thread {
   regs = regs_after instr thread.regs;
 })) []
 
--- a call on which the thread goes on, waits, or wakes another; the thread stands behind its instruction
+-- a call on which the thread goes on, waits, or wakes another; the thread is after its instruction then
 abbrev pub answered : SpaceState → ThreadNo → Thread → SyncAnswer → Effect
 answered x t thread answer.Goes = effect (with_thread x t thread) []
 answered x t thread answer.Waits = effect (with_thread x t (record thread { place = Waiting })) []

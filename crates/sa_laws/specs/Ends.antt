@@ -46,7 +46,7 @@ pub record GoesOn (r : Readings) : Type 0 where
   pub done : IsAllDone r → ⊥
   pub stuck : IsStuck r → ⊥
 
--- the end after so many events, with a budget: the first that holds
+-- the end after n events, with a budget: the first that holds
 abbrev pub EndsWith : ℕ → Readings → ℕ → Option End → Type 0
 EndsWith budget r events (Some AllDone) = IsAllDone r
 EndsWith budget r events (Some Stuck) = IsStuck r

@@ -27,11 +27,11 @@ abbrev pub after_records : WorkloadView → ℕ → ProcNo → Readings → List
 after_records w e p r [] = r
 after_records w e p r (x ∷ xs) = after_records w e p (after_record w e p r x) xs
 
--- the moment before a record of an event, which stands behind these
+-- the moment before a record of an event, which comes after these
 abbrev pub behind : WorkloadView → Event → Readings → List Record → Readings
 behind w e r records = after_records w e.number e.proc (begun w e r) records
 
--- the moment behind all records of an event
+-- the moment after all records of an event
 abbrev pub behind_all : WorkloadView → Event → Readings → Readings
 behind_all w e r = behind w e r e.records
 
@@ -82,7 +82,7 @@ scans_after before (Want s n) scans = if nat_lt n (demand_of before s) then scan
 scans_after before _ scans = 0
 
 -- the test of a user level: which lives are in. It is asked at the end of each own event of a life, and sees the moment
--- before the event, the event, the moment behind its records, whether the event settled the life, and the life.
+-- before the event, the event, the moment after its records, whether the event settled the life, and the life.
 abbrev pub Test : Type 0
 Test = WorkloadView → Readings → Event → Readings → Bool → Life → Bool
 

@@ -25,7 +25,7 @@ pub record IsLegalHistory (u : UserRules) (w : WorkloadView) (events : List Even
 abbrev pub IsLegal : UserRules → WorkloadView → List Item → Type 0
 IsLegal u w items = IsLegalHistory u w (events_of items)
 
--- .. a strict one: no local instruction comes while an I/O is due
+-- A flat trace is strict: no local instruction comes while an I/O is due.
 pub record IsStrictRun (u : UserRules) (w : WorkloadView) (items : List Item) : Type 0 where
   pub each : (n : ℕ) (e : Event) → slice_get (events_of items) n ≡ Some e → IsStrict (before u w (events_of items) n) e
 

@@ -18,12 +18,12 @@ use Rattle.sa_laws.specs.History.{begun, is_step}
 use Rattle.sa_laws.specs.Shape.{own_part}
 use Rattle.sa_laws.specs.Turns.{is_of_locks}
 
--- the list so many places behind that of a processor, round
+-- the list k places after that of a processor, round
 abbrev pub list_round : WorkloadView → ProcNo → ℕ → ProcNo
 list_round w p k = record { 0 = (p.0 + k) % w.processors }
 
 -- of the lists from that of the processor on, round, this one is the first that nobody locks and in which a ready
--- thread stands
+-- thread is
 pub record IsFirstOpen (w : WorkloadView) (r : Readings) (s : SpaceNo) (p l : ProcNo) : Type 0 where
   pub steps : ℕ
   pub within : steps < w.processors
@@ -77,7 +77,7 @@ pub record CanRun (r : Readings) (life : Life) (lock : Lock) (s : SpaceNo) : Typ
   pub used : CanBeUsed r life lock
   pub space : s ≡ life.space
 
--- a free names the first lock and its thread, behind its ready or run, and where the lock was inherited, under an open
+-- a free names the first lock and its thread, after its ready or run, and where the lock was inherited, under an open
 -- cont
 pub record CanFree (life : Life) (lock : Lock) (s : SpaceNo) (l : ProcNo) (t : Option ThreadNo) : Type 0 where
   pub space : s ≡ life.space
@@ -115,8 +115,8 @@ KeepsLocks w r p life (Cont s t) = WithFirst (first_lock life) (λ lock. CanCont
 KeepsLocks w r p life (Back s t) = s ≡ life.space
 KeepsLocks w r p life _ = Unit {0}
 
--- List locks: a step keeps to the rules above; a back comes exactly directly behind the free of a continued lock; and
--- take, ready, run, free, cont and back stand each in an event of its own.
+-- List locks: a step keeps to the rules above; a back comes exactly directly after the free of a continued lock; and
+-- take, ready, run, free, cont and back are each in an event of its own.
 pub record StepKeepsLocks (w : WorkloadView) (r : Readings) (p : ProcNo) (life : Life) (first : Record) : Type 0 where
   pub keeps : KeepsLocks w r p life first
   pub back : is_back first ≡ back_is_due life

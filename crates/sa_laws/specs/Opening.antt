@@ -8,7 +8,7 @@ use Rattle.sa_laws.specs.Readings.{Readings, opening_readings}
 use Rattle.sa_laws.specs.History.{after_records}
 use Rattle.sa_laws.specs.Closing.{want_one, spaces_of, aims_due}
 
--- event 0: each space wants one processor, and behind that stands the closing; nothing is untold then, so no line is
+-- event 0: each space wants one processor, and after that comes the closing; nothing is untold then, so no line is
 -- raised but for an aim
 abbrev pub first_wants : WorkloadView → List Record
 first_wants w = map want_one (spaces_of w)

@@ -176,14 +176,14 @@ pub record IsLocked (r : Readings) (s : SpaceNo) (l : ProcNo) : Type 0 where
   pub is : life_of r act ≡ Some life
   pub has : HasList life s l
 
--- a ready thread stands in this list
+-- a ready thread is in this list
 abbrev pub is_in : ProcNo → Listed → Bool
 is_in l listed = listed.list.0 == l.0
 
 abbrev pub has_ready : Readings → SpaceNo → ProcNo → Bool
 has_ready r s l = list_any (is_in l) (ready_of r s)
 
--- nobody locks it, and a ready thread stands in it
+-- nobody locks it, and a ready thread is in it
 pub record IsOpen (r : Readings) (s : SpaceNo) (l : ProcNo) : Type 0 where
   pub ready : has_ready r s l ≡ true
   pub unlocked : IsLocked r s l → ⊥

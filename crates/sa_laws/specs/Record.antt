@@ -107,7 +107,7 @@ taken_after r (Told (note.Unblocked a)) = with_act r.taken (space_of_life r (Som
 taken_after r (GiveBack a) = without_act r.taken (space_of_life r (Some a)) a
 taken_after r _ = r.taken
 
--- the length of the `io` instruction whose record stands directly before, if one of this thread does
+-- the length of the `io` instruction whose record comes directly before, if one of this thread does
 abbrev pub length_in : Instr → Option ℕ
 length_in (IoOf length) = Some length
 length_in _ = None
@@ -134,7 +134,7 @@ abbrev pub locks_one : Option Life → Bool
 locks_one None = false
 locks_one (Some life) = has_lock life
 
--- What a block is for: directly behind an `io` its length, and no page; where its life has a lock, the package's page;
+-- What a block is for: directly after an `io` its length, and no page; where its life has a lock, the package's page;
 -- else the page that its thread touches
 pub record Blocking : Type 0 where
   pub kind : IoKind

@@ -21,7 +21,7 @@ abbrev pub is_line : Record → Bool
 is_line (Line p) = true
 is_line _ = false
 
--- an event's own part, and behind it its closing: the closing begins with the first want, aim at a space, or line that
+-- an event's own part, and after it its closing: the closing begins with the first want, aim at a space, or line that
 -- is not the event's first record
 abbrev pub is_of_closing : Record → Bool
 is_of_closing (Want s n) = true
@@ -70,8 +70,8 @@ abbrev pub before_wants : List Record → List Record
 before_wants [] = []
 before_wants (first ∷ others) = first ∷ take_while is_no_want others
 
--- a line record that stands directly behind an aim of its processor at a space; the records before the first other line
--- that is not the event's first record, and those from it on; `last` stands directly before them
+-- a line record that comes directly after an aim of its processor at a space; the records before the first other line
+-- that is not the event's first record, and those from it on; `last` is the one directly before them
 abbrev pub follows_aim : Option Record → ProcNo → Bool
 follows_aim (Some (Aim p (Some s))) q = p.0 == q.0
 follows_aim _ q = false
@@ -91,7 +91,7 @@ front_part (first ∷ others) = first ∷ before_lines (Some first) others
 abbrev pub last_lines : List Record → List Record
 last_lines records = drop (length (front_part records)) records
 
--- the notices of the run of told records with which a list begins, and what stands behind that run
+-- the notices of the run of told records with which a list begins, and what comes after that run
 abbrev pub told_run : List Record → List Note
 told_run (Told n ∷ records) = n ∷ told_run records
 told_run _ = []

@@ -36,7 +36,7 @@ pub record State : Type 0 where
 abbrev pub at_start : ℕ → Place → Thread
 at_start program place = record { program = program; pc = 0; regs = replicate REGISTERS 0; place = place }
 
--- at the opening each space has made thread 0, which stands ready in program 0; nothing is owned
+-- at the opening each space has made thread 0, which is ready in program 0; nothing is owned
 abbrev pub opening_space : SpaceView → SpaceState
 opening_space def = record { threads = at_start 0 Ready ∷ []; sync = sync_opening def }
 
@@ -70,7 +70,7 @@ thread_at a s t = thread_in (space_at a s) t
 abbrev pub with_thread : SpaceState → ThreadNo → Thread → SpaceState
 with_thread x t thread = record x { threads = slice_set x.threads t.0 thread }
 
--- the thread stands in another place
+-- the thread is in another place
 abbrev pub put_thread : Place → SpaceState → ThreadNo → SpaceState
 put_thread place x t = with_thread x t (record (thread_in x t) { place = place })
 

@@ -29,7 +29,7 @@ IsRunner a p s t = runner_on a p ≡ runner_of s t
 abbrev pub NobodyRuns : State → ProcNo → Type 0
 NobodyRuns a p = runner_on a p ≡ None
 
--- the thread, if there is one, stands in this place
+-- the thread, if there is one, is in this place
 abbrev pub StandsIn : Place → State → SpaceNo → Option ThreadNo → Type 0
 StandsIn place a s None = Unit {0}
 StandsIn place a s (Some t) = (thread_at a s t).place ≡ place
@@ -39,7 +39,7 @@ abbrev pub IsTouched : Readings → SpaceNo → Instr → Type 0
 IsTouched r s (Touch page) = is_resident r s page ≡ true
 IsTouched r s _ = Unit {0}
 
--- .. or is absent
+-- the page of a `touch` is absent
 abbrev pub IsMissed : Readings → SpaceNo → Instr → Type 0
 IsMissed r s (Touch page) = is_resident r s page ≡ false
 IsMissed r s _ = ⊥
@@ -68,7 +68,7 @@ abbrev pub IsFaulting : WorkloadView → Readings → SpaceNo → Option ThreadN
 IsFaulting w r s None = ⊥
 IsFaulting w r s (Some t) = IsMissed r s (next_instr w r.state s t)
 
--- what a block is for: it stands directly behind an `io` of its thread, or its thread touches an absent page, or its
+-- what a block is for: it comes directly after an `io` of its thread, or its thread touches an absent page, or its
 -- life has a lock and the package's page is absent
 abbrev pub HasCause : WorkloadView → Readings → SpaceNo → Option ThreadNo → ActNo → Type 0
 HasCause w r s t a =

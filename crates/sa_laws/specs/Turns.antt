@@ -22,7 +22,7 @@ use Rattle.sa_laws.specs.Readings.{Readings, HasNothing, HasList, NoneIsOpen, ow
 use Rattle.sa_laws.specs.History.{begun}
 use Rattle.sa_laws.specs.Shape.{own_part, closing_part}
 
--- the closing's wants stand before its aims and lines, and nothing else stands in it
+-- the closing's wants come before its aims and lines, and nothing else is in it
 abbrev pub AreRaising : List Record → Type 0
 AreRaising [] = Unit {0}
 AreRaising (Aim p (Some s) ∷ records) = AreRaising records
@@ -190,8 +190,8 @@ IsTurn Step true e w r p records = IsInterrupt records
 IsTurn Step false e w r p records = IsTurnWhileDue Step (due_of e r.under_way) w r p records
 
 -- Turns and steps: an event from 1 on is the first that applies of an interrupt, where its processor's line was raised;
--- the completion of the I/O that is due; a tick, where nobody owns the processor; a step of its running life. Behind it
--- stand the closing's records, and no others.
+-- the completion of the I/O that is due; a tick, where nobody owns the processor; a step of its running life. After it
+-- come the closing's records, and no others.
 pub record TurnsAreTaken (Step : Steps) (w : WorkloadView) (r : Readings) (e : Event) : Type 0 where
   pub turn : 1 ≤ e.number → IsTurn Step (is_some (line_of r e.proc)) e.number w (begun w e r) e.proc (own_part e.records)
   pub closing : 1 ≤ e.number → IsClosing (closing_part e.records)

@@ -20,7 +20,7 @@ use Rattle.sa_laws.specs.History.{Test, begun, behind, after_event}
 use Rattle.sa_laws.specs.Closing.{wants_due, aims_due, shares_at, lines_due, must_want}
 use Rattle.sa_laws.specs.Shape.{others_of, wants_in, lines_in, aims_in, before_aims, before_wants, front_part, last_lines, told_run, leave_run, BeginsWithUp}
 
--- A law of each record of an event, given the moment before it and the records behind it.
+-- A law of each record of an event, given the moment before it and the records after it.
 abbrev pub RecordLaw : Type 1
 RecordLaw = Readings → Record → List Record → Type 0
 
@@ -76,8 +76,8 @@ pub record RunsWhereOwned (test : Test) (w : WorkloadView) (r : Readings) (e : E
   pub named : EachOf (NamesTheLife e.proc) w r e
   pub owned : (after_event test w r e).state.owners ≡ map (space_of_life (after_event test w r e)) (after_event test w r e).running
 
--- An upcall tells all: an up's number is in use by nobody; behind it stand `told add`, exactly where a move to its
--- space stands in the same event, and all that its space was not told, in order, and that is something. A giveback
+-- An upcall tells all: an up's number is in use by nobody; after it come `told add`, exactly where a move to its
+-- space is in the same event, and all that its space was not told, in order, and that is something. A giveback
 -- names a life that was taken and not given back.
 abbrev pub is_moved_to : Option SpaceNo → SpaceNo → Bool
 is_moved_to moved s = is_aim s.0 moved
@@ -103,7 +103,7 @@ TellsAllThen p r _ rest = Unit {0}
 pub record UpcallsTellAll (w : WorkloadView) (r : Readings) (e : Event) : Type 0 where
   pub told : EachOf (TellsAllThen e.proc) w r e
 
--- what stands behind where a processor goes on in a space: an up of that space where its upcall page is resident; else
+-- what comes after where a processor goes on in a space: an up of that space where its upcall page is resident; else
 -- the leave, which is a move from the owner to none, an aim at none, and a fetch of the page exactly where it was not
 -- being fetched
 abbrev pub fetch_records : SpaceNo → Bool → List Record
@@ -116,7 +116,7 @@ leave_records p owner s fetching = Move owner None ∷ Aim p None ∷ fetch_reco
 abbrev pub Leaves : ProcNo → Readings → Option SpaceNo → SpaceNo → List Record → Type 0
 Leaves p r owner s rest = leave_run rest ≡ leave_records p owner s (is_fetching r s)
 
--- A block gives an upcall: a block names the number of its I/O, and directly behind it stands an up of its space, or
+-- A block gives an upcall: a block names the number of its I/O, and directly after it comes an up of its space, or
 -- the leave.
 abbrev pub GoesOn : Bool → ProcNo → Readings → SpaceNo → List Record → Type 0
 GoesOn true p r s rest = BeginsWithUp s rest
@@ -162,8 +162,8 @@ pub record InterruptsNext (w : WorkloadView) (r : Readings) (e : Event) : Type 0
       → StopsAndGoes e.proc (begun w e r) (owner_of r e.proc) (aim_of r e.proc) e.records
   pub calm : BeginsAsInterrupt e.records → is_some (line_of r e.proc) ≡ true
 
--- A line has its cause: no line is raised that is raised already. Directly behind each aim at a space of a processor
--- with a low line stands its line. All other lines, but for one that a user level asked for, stand behind all aims, and
+-- A line has its cause: no line is raised that is raised already. Directly after each aim at a space of a processor
+-- with a low line comes its line. All other lines, but for one that a user level asked for, come after all aims, and
 -- they are those that are due there.
 abbrev pub BeginsWithLine : ProcNo → List Record → Type 0
 BeginsWithLine p (Line q ∷ rest) = q ≡ p

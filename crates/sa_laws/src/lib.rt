@@ -1,7 +1,7 @@
-//! What a legal run is: the abstract machine of threads, what is read off a history, and the laws.
+//! What a legal run is: the abstract machine of threads, what is read off a history, and the laws; and lemmas of these.
 //!
-//! These are definitions over plain lists and numbers. They know workloads, shares and the plain effects of
-//! synchronization, and neither a kernel nor a package.
+//! The definitions are over plain lists and numbers. They know workloads, shares and the plain effects of
+//! synchronization, and neither a kernel nor a package. The lemmas are those that several crates above need.
 #![tactic(auto)]
 
 mod place;

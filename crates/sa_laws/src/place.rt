@@ -1,6 +1,6 @@
 use sa_base::ProcNo;
 
-/// Where a thread stands. Each thread that was made stands in exactly one place.
+/// Where a thread is. Each thread that was made is in exactly one place.
 #[derive(Clone, Copy, Debug, PartialEq, Eq)]
 pub enum Place {
     /// An activation carries it on this processor.

@@ -1,4 +1,4 @@
-/// A rule of legal runs. They stand in the order in which they are looked at.
+/// A rule of legal runs. The rules are in the order in which they are looked at.
 #[derive(Clone, Copy, Debug, PartialEq, Eq)]
 pub enum Rule {
     /// The opening and the numbering of events.

@@ -52,7 +52,8 @@ before-later : (x : Item) (m : ℕ) (es : List Event) → x.event < m → AreNum
 before-later x m [] below numbered = refl
 before-later x m (e ∷ es) below numbered =
     let number = numbered.0 in
-    ap (λ b. if (b && x.proc.0 == e.proc.0) then record e { records = x.what ∷ e.records } ∷ es else event_of x ∷ e ∷ es) (not-equal x.event e.number (omega arith))
+    ap (λ b. if (b && x.proc.0 == e.proc.0) then record e { records = x.what ∷ e.records } ∷ es else event_of x ∷ e ∷ es)
+    (not-equal x.event e.number (omega arith))
 
 before-own : (n : ℕ) (p : ProcNo) (x : Record) (xs : List Record) (es : List Event)
     → before_events (item n p x) (record { number = n; proc = p; records = xs } ∷ es) ≡ record { number = n; proc = p; records = x ∷ xs } ∷ es
@@ -80,8 +81,11 @@ events-items m (e ∷ es) numbered = whole e.records refl (events-items (m + 1) 
 
 pub lawful-numbered : (u : UserRules) (w : WorkloadView) (r : Readings) (events : List Event) → AreLawful u w r events → AreNumbered r.number events
 lawful-numbered u w r [] law = tt
-lawful-numbered u w r (e ∷ es) law =
-    (law.0.numbering.number, law.0.numbering.some, subst (λ m. AreNumbered m es) (number-next u w r e) (lawful-numbered u w (after_event u.inside w r e) es law.1))
+lawful-numbered u w r (e ∷ es) law = (
+  law.0.numbering.number,
+  law.0.numbering.some,
+  subst (λ m. AreNumbered m es) (number-next u w r e) (lawful-numbered u w (after_event u.inside w r e) es law.1),
+)
 
 -- a legal history is that of a legal trace
 pub legal-items : (u : UserRules) (w : WorkloadView) (events : List Event) → IsLegalHistory u w events → IsLegal u w (items_of events)

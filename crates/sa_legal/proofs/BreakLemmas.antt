@@ -82,7 +82,9 @@ breaks-StepTaken = break-behind fast_threads smallest (e0 ∷ e1 ∷ e2 ∷ e3 �
     })
 
 pub breaks-AtMostOnce : FirstBreak fast_threads smallest told_of_nothing (stops_at 1) 1 AtMostOnce
-breaks-AtMostOnce = break-behind fast_threads smallest (e0 ∷ []) (at 1 (Move None (Some s0) ∷ Up s0 (act 0) ∷ Told (Add p0) ∷ Told (Preempted (act 7)) ∷ [])) (stops_at 1) AtMostOnce (before1 one)
+breaks-AtMostOnce =
+    break-behind fast_threads smallest (e0 ∷ []) (at 1 (Move None (Some s0) ∷ Up s0 (act 0) ∷ Told (Add p0) ∷ Told (Preempted (act 7)) ∷ []))
+    (stops_at 1) AtMostOnce (before1 one)
     (record {
       earlier = (
         record { number = refl; proc = omega arith; some = λ no. cc; opening = λ no. absurd (omega arith) },
@@ -144,16 +146,28 @@ breaks-AllTold = break-behind fast_threads smallest (e0 ∷ []) (at 1 (Move None
     })
 
 pub breaks-BlockUpcall : FirstBreak fast_threads blocking other_io (stops_at 5) 5 BlockUpcall
-breaks-BlockUpcall = break-behind fast_threads blocking (e0 ∷ e1 ∷ e2 ∷ e3 ∷ e4 ∷ []) (at 5 (Ins s0 t0 0 ∷ Block s0 (Some t0) (act 0) (record { 0 = 1 }) ∷ Up s0 (act 1) ∷ Told (Blocked (act 0)) ∷ [])) (stops_at 5) BlockUpcall (before5 (IoOf 2 ∷ End ∷ []))
+breaks-BlockUpcall =
+    break-behind fast_threads blocking (e0 ∷ e1 ∷ e2 ∷ e3 ∷ e4 ∷ [])
+    (at 5 (Ins s0 t0 0 ∷ Block s0 (Some t0) (act 0) (record { 0 = 1 }) ∷ Up s0 (act 1) ∷ Told (Blocked (act 0)) ∷ [])) (stops_at 5) BlockUpcall
+    (before5 (IoOf 2 ∷ End ∷ []))
     (record {
       earlier = (
         record { number = refl; proc = omega arith; some = λ no. cc; opening = λ no. absurd (omega arith) },
         (
-          record { steps = (record { owned = refl; runs = refl; place = refl; within = omega arith; page = tt }, (record { owned = refl; runs = refl; cause = inl refl }, (tt, (tt, tt)))) },
+          record {
+            steps = (
+              record { owned = refl; runs = refl; place = refl; within = omega arith; page = tt },
+              (record { owned = refl; runs = refl; cause = inl refl }, (tt, (tt, tt))),
+            );
+          },
           (
             record { told = (tt, (tt, (tt, ((0, omega arith, refl), tt)))) },
             (
-              record { prompt = prompt-calm (next (IoOf 2 ∷ End ∷ []) (r5 (IoOf 2 ∷ End ∷ [])) (at 5 (Ins s0 t0 0 ∷ Block s0 (Some t0) (act 0) (record { 0 = 1 }) ∷ Up s0 (act 1) ∷ Told (Blocked (act 0)) ∷ []))) refl },
+              record {
+                prompt = prompt-calm
+                    (next (IoOf 2 ∷ End ∷ []) (r5 (IoOf 2 ∷ End ∷ []))
+                    (at 5 (Ins s0 t0 0 ∷ Block s0 (Some t0) (act 0) (record { 0 = 1 }) ∷ Up s0 (act 1) ∷ Told (Blocked (act 0)) ∷ []))) refl;
+              },
               (
                 record { named = (tt, (record { act = refl; space = refl }, (refl, (tt, tt)))); owned = refl },
                 (record { told = (tt, (tt, (record { fresh = refl; notes = refl; some = λ no. cc }, (tt, tt)))) }, tt),
@@ -250,7 +264,8 @@ breaks-WantCause = break-behind fast_threads smallest (e0 ∷ e1 ∷ []) (at 2 (
     })
 
 pub breaks-SharesCovered : FirstBreak fast_threads smallest aimed_for_nothing (stops_at 2) 2 SharesCovered
-breaks-SharesCovered = break-behind fast_threads smallest (e0 ∷ e1 ∷ []) (at 2 (Take s0 p0 None ∷ Aim p0 (Some s0) ∷ Line p0 ∷ [])) (stops_at 2) SharesCovered (before2 one)
+breaks-SharesCovered =
+    break-behind fast_threads smallest (e0 ∷ e1 ∷ []) (at 2 (Take s0 p0 None ∷ Aim p0 (Some s0) ∷ Line p0 ∷ [])) (stops_at 2) SharesCovered (before2 one)
     (record {
       earlier = (
         record { number = refl; proc = omega arith; some = λ no. cc; opening = λ no. absurd (omega arith) },

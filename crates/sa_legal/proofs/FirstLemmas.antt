@@ -81,7 +81,8 @@ get-front (x ∷ xs) zero k below = absurd (omega arith)
 get-front (x ∷ xs) (suc n) zero below = refl
 get-front (x ∷ xs) (suc n) (suc k) below = get-front xs n k (omega arith)
 
-pub holds-each : (u : UserRules) (w : WorkloadView) (r : Readings) (e : Event) (last : Option LastLine) (rule : Rule) → HoldEach u w rules r e last → Holds u w rule r e last
+pub holds-each : (u : UserRules) (w : WorkloadView) (r : Readings) (e : Event) (last : Option LastLine) (rule : Rule) → HoldEach u w rules r e last
+    → Holds u w rule r e last
 holds-each u w r e last rule all = holds-one u w rules r e last (rank rule) rule all (at-rank rule)
 
 holds-earlier : (u : UserRules) (w : WorkloadView) (r : Readings) (e : Event) (last : Option LastLine) (a b : Rule) → rank a < rank b
@@ -94,14 +95,15 @@ same-rank : (a b : Rule) → rank a ≡ rank b → a ≡ b
 same-rank a b same = same_Some a b (sym (at-rank a) ∙ ap (slice_get rules) same ∙ at-rank b)
 
 -- at one event one rule is the first that fails
-one-rule : (u : UserRules) (w : WorkloadView) (r : Readings) (e : Event) (last : Option LastLine) (a b : Rule) → Breaks u w r e last a → Breaks u w r e last b → a ≡ b
+one-rule : (u : UserRules) (w : WorkloadView) (r : Readings) (e : Event) (last : Option LastLine) (a b : Rule) → Breaks u w r e last a
+    → Breaks u w r e last b → a ≡ b
 one-rule u w r e last a b of_a of_b = elim (cases_order (rank a) (rank b)) [
   | inl same ↦ same-rank a b same
   | inr (inl less) ↦ absurd (of_a.broken (holds-earlier u w r e last a b less of_b.earlier))
   | inr (inr more) ↦ absurd (of_b.broken (holds-earlier u w r e last b a more of_a.earlier))
 ]
 
--- and no break stands before another
+-- and no break comes before another
 not-before : (u : UserRules) (w : WorkloadView) (events : List Event) (line : LastLine) (m n : ℕ) (a b : Rule)
     → (x : BreaksAt u w events line m a) → (y : BreaksAt u w events line n b) → x.place < y.place → ⊥
 not-before u w events line m n a b x y below =
@@ -113,7 +115,8 @@ one-place : (u : UserRules) (w : WorkloadView) (events : List Event) (line : Las
 one-place u w events line m n a b k e f at_e at_f is_m is_n of_a of_b =
     let same : e ≡ f = same_Some e f (sym at_e ∙ at_f) in (
       sym is_m ∙ ap (λ (x : Event). x.number) same ∙ is_n,
-      one-rule u w (before u w events k) f (line_at events line k) a b (subst (λ (x : Event). Breaks u w (before u w events k) x (line_at events line k) a) same of_a) of_b,
+      one-rule u w (before u w events k) f (line_at events line k) a b
+          (subst (λ (x : Event). Breaks u w (before u w events k) x (line_at events line k) a) same of_a) of_b,
     )
 
 one-break : (u : UserRules) (w : WorkloadView) (events : List Event) (line : LastLine) (m n : ℕ) (a b : Rule)

@@ -107,8 +107,10 @@ break-behind u w events e line rule all breaks = record {
   earlier = λ k f below at.
       let there = sym (slice_get-append_left events (e ∷ []) k below) ∙ at in
       let held = right-at u w (opening_readings w) events all k f there in
-      subst (λ (past : List Event). HoldEach u w rules (after_events u.inside w (opening_readings w) past) f (line_at (events ++ e ∷ []) line k)) (sym (take-front events k e below))
+      subst (λ (past : List Event). HoldEach u w rules (after_events u.inside w (opening_readings w) past) f (line_at (events ++ e ∷ []) line k))
+      (sym (take-front events k e below))
       (subst (λ last. HoldEach u w rules (after_events u.inside w (opening_readings w) (take k events)) f last) (sym (no-line events e line k below)) held);
-  breaks = subst (λ (past : List Event). Breaks u w (after_events u.inside w (opening_readings w) past) e (line_at (events ++ e ∷ []) line (length events)) rule)
+  breaks =
+      subst (λ (past : List Event). Breaks u w (after_events u.inside w (opening_readings w) past) e (line_at (events ++ e ∷ []) line (length events)) rule)
       (sym (take-whole events e)) breaks;
 }

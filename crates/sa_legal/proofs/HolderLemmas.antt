@@ -34,14 +34,15 @@ use Rattle.sa_legal.proofs.WalkLemmas.{IsKept, item}
 use Rattle.sa_legal.proofs.EventLemmas.{good-at}
 use Rattle.sa_legal.proofs.OnceLemmas.{get-take, length-take_within}
 use Rattle.sa_legal.proofs.StandingLemmas.{Standing, Nowhere, Runs, Blocked, Stopped, Returned, Taken, space_in, took, Stood, Agrees, space_of, standing_after, agrees-step, stays, told-kind, kind}
-use Rattle.sa_legal.proofs.ShapeLemmas.{is_telling, MovesLives}
+use Rattle.sa_legal.proofs.ShapeLemmas.{is_telling, MovesLives, lives-move}
 use Rattle.sa_legal.proofs.MovesLemmas.{moves-lives, stood, agrees-start, agrees-begun, agrees-ended, nowhere_first}
 
 -- the life of the last up runs while told records follow it
 abbrev pub UppedRuns : (ℕ → Standing) → ProcNo → Readings → Type 0
 UppedRuns st p r = is_telling r.last ≡ true → (u : ActNo) × (r.upped ≡ Some u) × (s : SpaceNo) × (st u.0 ≡ Runs s p)
 
-pub upped-step : (w : WorkloadView) (e : ℕ) (p : ProcNo) (st : ℕ → Standing) (r : Readings) (x : Record) (rest : List Record) → Stood p st x → MovesLives w p r x rest
+pub upped-step : (w : WorkloadView) (e : ℕ) (p : ProcNo) (st : ℕ → Standing) (r : Readings) (x : Record) (rest : List Record) → Stood p st x
+    → MovesLives w p r x rest
     → UppedRuns st p r → UppedRuns (standing_after p st x) p (after_record w e p r x)
 upped-step w e p st r (Up s a) rest was law runs is = (a, refl, s, put-at st a.0 a.0 (Runs s p) refl)
 upped-step w e p st r (Told n) rest was law runs is =
@@ -74,7 +75,8 @@ kept-with : (f : Life → Life) (b : Option ActNo) (st new : ℕ → Standing) (
 kept-with f None st new lives others own kept n life is = others n life (λ a no. absurd (none-some a no)) (kept n life is)
 kept-with f (Some b) st new lives others own kept n life is = elim (cases_eq n b.0) [
   | inr apart ↦
-      others n life (λ a same at. apart (at ∙ ap (λ (c : ActNo). c.0) (sym (same_Some b a same)))) (kept n life (sym (put-other lives b.0 n (option_map f (lives b.0)) apart) ∙ is))
+      others n life (λ a same at. apart (at ∙ ap (λ (c : ActNo). c.0) (sym (same_Some b a same))))
+      (kept n life (sym (put-other lives b.0 n (option_map f (lives b.0)) apart) ∙ is))
   | inl at ↦ subst (λ m. Kept (is_taken (new m)) life.locks) (sym at) (there (lives b.0) refl (sym (put-at lives b.0 n (option_map f (lives b.0)) at) ∙ is))
 ] where
   there : (o : Option Life) → lives b.0 ≡ o → option_map f o ≡ Some life → Kept (is_taken (new b.0)) life.locks
@@ -96,7 +98,8 @@ kept-same : (f : Life → Life) (b : Option ActNo) (st new : ℕ → Standing) (
     → ((n : ℕ) → is_taken (new n) ≡ true → is_taken (st n) ≡ true) → AreKept st lives → AreKept new (with_life f b lives)
 kept-same f b st new lives same less kept = kept-with f b st new lives
     (λ n life apart k. weaken (is_taken (st n)) (is_taken (new n)) life.locks (less n) k)
-    (λ a life is at k. subst (λ ls. Kept (is_taken (new a.0)) ls) (sym (same life)) (weaken (is_taken (st a.0)) (is_taken (new a.0)) life.locks (less a.0) k)) kept
+    (λ a life is at k. subst (λ ls. Kept (is_taken (new a.0)) ls) (sym (same life))
+    (weaken (is_taken (st a.0)) (is_taken (new a.0)) life.locks (less a.0) k)) kept
 
 -- the first lock is used
 first-cases : (f : Lock → Lock) (ls : List Lock) (lock : Lock) → Contains (change_first f ls) lock → ((l : Lock) × (f l ≡ lock)) ⊎ Contains ls lock
@@ -155,21 +158,25 @@ kept-both taken other ls ms free kept from = record {
     | inl own ↦ kept.popped lock own push unused
     | inr got ↦
         let old = map-cases ms lock got in
-        ap (λ (l : Lock). l.thread) (sym old.2) ∙ from.popped old.0 old.1 (ap (λ (l : Lock). l.for_push) old.2 ∙ push) (ap (λ (l : Lock). l.used) old.2 ∙ unused)
+        ap (λ (l : Lock). l.thread) (sym old.2)
+        ∙ from.popped old.0 old.1 (ap (λ (l : Lock). l.for_push) old.2 ∙ push) (ap (λ (l : Lock). l.used) old.2 ∙ unused)
   ];
 }
 
 -- the life on which a step is made
-pub on-life : (r : Readings) (p : ProcNo) (a : ActNo) (life other : Life) → running_of r p ≡ Some a → r.lives a.0 ≡ Some life → life_on r p ≡ Some other → life ≡ other
+pub on-life : (r : Readings) (p : ProcNo) (a : ActNo) (life other : Life) → running_of r p ≡ Some a → r.lives a.0 ≡ Some life → life_on r p ≡ Some other
+    → life ≡ other
 on-life r p a life other runs is on = same_Some life other (sym is ∙ sym (ap (life_if r) runs) ∙ on)
 
 -- a take for a pop names no thread
-pop-takes-none : (w : WorkloadView) (r : Readings) (p : ProcNo) (life : Life) (s : SpaceNo) (l : ProcNo) (t : Option ThreadNo) (b : Bool) → has_hand r life ≡ b → b ≡ false
+pop-takes-none : (w : WorkloadView) (r : Readings) (p : ProcNo) (life : Life) (s : SpaceNo) (l : ProcNo) (t : Option ThreadNo) (b : Bool)
+    → has_hand r life ≡ b → b ≡ false
     → TakesFor b w r p life l → t ≡ carried_by r life → t ≡ None
 pop-takes-none w r p life s l t true is free target names = absurd (cc)
 pop-takes-none w r p life s l t false is free target names = names ∙ target.0
 
-kept-take : (w : WorkloadView) (p : ProcNo) (r : Readings) (s : SpaceNo) (l : ProcNo) (t : Option ThreadNo) (taken : Bool) (life : Life) → CanTake w r p life s l t → taken ≡ false
+kept-take : (w : WorkloadView) (p : ProcNo) (r : Readings) (s : SpaceNo) (l : ProcNo) (t : Option ThreadNo) (taken : Bool) (life : Life)
+    → CanTake w r p life s l t → taken ≡ false
     → Kept taken life.locks → Kept taken (locks r p l t life).locks
 kept-take w p r s l t taken life law free kept = record {
   bare = λ is. absurd (let clash = sym free ∙ is in cc);
@@ -185,7 +192,8 @@ runs-free : (st : ℕ → Standing) (r : Readings) (p : ProcNo) (a : ActNo) → 
 runs-free st r p a agrees runs = ap is_taken (agrees.running p a runs).1
 
 -- a stop or an unblock is told, and its life's locks and hand go to the life of the up
-kept-handed : (st : ℕ → Standing) (r : Readings) (p : ProcNo) (a u : ActNo) (s : SpaceNo) (v : Standing) (from : Option Life) → r.upped ≡ Some u → st u.0 ≡ Runs s p → u.0 ≢ a.0
+kept-handed : (st : ℕ → Standing) (r : Readings) (p : ProcNo) (a u : ActNo) (s : SpaceNo) (v : Standing) (from : Option Life) → r.upped ≡ Some u
+    → st u.0 ≡ Runs s p → u.0 ≢ a.0
     → life_of r a ≡ from → AreKept st r.lives → AreKept (put st a.0 v) (handed r.upped a from r.lives)
 kept-handed st r p a u s v None upped runs apart is kept = λ n life at.
     let other : n ≢ a.0 = λ same. none-some life (sym is ∙ ap r.lives (sym same) ∙ at) in
@@ -203,13 +211,17 @@ kept-handed st r p a u s v (Some from) upped runs apart is kept =
 pub apart-told : (st : ℕ → Standing) (a u : ℕ) (s t : SpaceNo) (p : ProcNo) (y : Standing) → st u ≡ Runs s p → st a ≡ y → kind y ≢ 1 → u ≢ a
 apart-told st a u s t p y runs is other same = other (ap kind (sym is ∙ ap st (sym same) ∙ runs))
 
-pub kept-step : (w : WorkloadView) (p : ProcNo) (st : ℕ → Standing) (r : Readings) (x : Record) (rest : List Record) → Agrees st r → Stood p st x → MovesLives w p r x rest
+pub kept-step : (w : WorkloadView) (p : ProcNo) (st : ℕ → Standing) (r : Readings) (x : Record) (rest : List Record) → Agrees st r → Stood p st x
+    → MovesLives w p r x rest
     → UppedRuns st p r → AreKept st r.lives → AreKept (standing_after p st x) (lives_after w p r x)
-kept-step w p st r (Ins s t i) rest agrees was law runs kept = kept-same (with_hand (next_effect w r.state s t).roused) (running_of r p) st st r.lives (λ l. refl) (λ n is. is) kept
+kept-step w p st r (Ins s t i) rest agrees was law runs kept =
+    kept-same (with_hand (next_effect w r.state s t).roused) (running_of r p) st st r.lives (λ l. refl) (λ n is. is) kept
 kept-step w p st r (Run s t) rest agrees was law runs kept = kept-with (with_first (ran t)) (running_of r p) st st r.lives (λ n life other k. k)
     (λ a life same at k. kept-first (ran t) (is_taken (st a.0)) life.locks (λ l. refl) k) kept
-kept-step w p st r (Stop s t a) rest agrees was law runs kept = kept-same (stopped_with t) (Some a) st _ r.lives (λ l. refl) (λ n is. put-less st a.0 n (Stopped s) refl is) kept
-kept-step w p st r (Block s t a io) rest agrees was law runs kept = kept-same (held_with t) (Some a) st _ r.lives (λ l. refl) (λ n is. put-less st a.0 n (Blocked s) refl is) kept
+kept-step w p st r (Stop s t a) rest agrees was law runs kept =
+    kept-same (stopped_with t) (Some a) st _ r.lives (λ l. refl) (λ n is. put-less st a.0 n (Stopped s) refl is) kept
+kept-step w p st r (Block s t a io) rest agrees was law runs kept =
+    kept-same (held_with t) (Some a) st _ r.lives (λ l. refl) (λ n is. put-less st a.0 n (Blocked s) refl is) kept
 kept-step w p st r (Unblock s t a) rest agrees was law runs kept =
     kept-same (with_hand (one_thread t)) (Some a) st _ r.lives (λ l. refl) (λ n is. put-less st a.0 n (Returned s) refl is) kept
 kept-step w p st r (Cont s t) rest agrees was law runs kept = kept-same (with_cont true) (running_of r p) st st r.lives (λ l. refl) (λ n is. is) kept
@@ -226,14 +238,17 @@ kept-step w p st r (Up s a) rest agrees was law runs kept = λ n life at. elim (
       let new : new_life s p ≡ life = same_Some (new_life s p) life (sym (put-at r.lives a.0 n (Some (new_life s p)) same) ∙ at) in
       subst (λ (l : Life). Kept (is_taken (put st a.0 (Runs s p) n)) l.locks) new (kept-none (is_taken (put st a.0 (Runs s p) n)))
   | inr apart ↦
-      subst (λ y. Kept (is_taken y) life.locks) (sym (put-other st a.0 n (Runs s p) apart)) (kept n life (sym (put-other r.lives a.0 n (Some (new_life s p)) apart) ∙ at))
+      subst (λ y. Kept (is_taken y) life.locks) (sym (put-other st a.0 n (Runs s p) apart))
+      (kept n life (sym (put-other r.lives a.0 n (Some (new_life s p)) apart) ∙ at))
 ]
 kept-step w p st r (Told (note.Preempted a)) rest agrees was law runs kept =
     let up = runs law.1 in
-    kept-handed st r p a up.0 up.2 (took (st a.0)) (life_of r a) up.1 up.3 (apart-told st a.0 up.0.0 up.2 was.0 p (Stopped was.0) up.3 was.1 (λ e. cc)) refl kept
+    kept-handed st r p a up.0 up.2 (took (st a.0)) (life_of r a) up.1 up.3
+    (apart-told st a.0 up.0.0 up.2 was.0 p (Stopped was.0) up.3 was.1 (λ e. cc)) refl kept
 kept-step w p st r (Told (note.Unblocked a)) rest agrees was law runs kept =
     let up = runs law.1 in
-    kept-handed st r p a up.0 up.2 (took (st a.0)) (life_of r a) up.1 up.3 (apart-told st a.0 up.0.0 up.2 was.0 p (Returned was.0) up.3 was.1 (λ e. cc)) refl kept
+    kept-handed st r p a up.0 up.2 (took (st a.0)) (life_of r a) up.1 up.3
+    (apart-told st a.0 up.0.0 up.2 was.0 p (Returned was.0) up.3 was.1 (λ e. cc)) refl kept
 kept-step w p st r (Told (note.Add q)) rest agrees was law runs kept = kept
 kept-step w p st r (Told (note.Blocked a)) rest agrees was law runs kept = kept
 kept-step w p st r (GiveBack a) rest agrees was law runs kept = λ n life at. elim (cases_eq n a.0) [
@@ -246,7 +261,7 @@ kept-step w p st r x rest agrees was law runs kept = kept
 abbrev pub HasThread : List Lock → ThreadNo → Type 0
 HasThread ls t = (lock : Lock) × Contains ls lock × (lock.thread ≡ Some t)
 
--- .. and one of a life of this space
+-- a thread holds a lock of a life of this space
 pub record Holds (lives : ℕ → Option Life) (s : SpaceNo) (t : ThreadNo) : Type 0 where
   pub act : ℕ
   pub life : Life
@@ -254,7 +269,8 @@ pub record Holds (lives : ℕ → Option Life) (s : SpaceNo) (t : ThreadNo) : Ty
   pub space : life.space ≡ s
   pub has : HasThread life.locks t
 
-with-at : (f : Life → Life) (b : Option ActNo) (a : ActNo) (lives : ℕ → Option Life) (life : Life) → b ≡ Some a → lives a.0 ≡ Some life → with_life f b lives a.0 ≡ Some (f life)
+with-at : (f : Life → Life) (b : Option ActNo) (a : ActNo) (lives : ℕ → Option Life) (life : Life) → b ≡ Some a → lives a.0 ≡ Some life
+    → with_life f b lives a.0 ≡ Some (f life)
 with-at f b a lives life at is =
     ap (λ o. with_life f o lives a.0) at ∙ put-at lives a.0 a.0 (option_map f (lives a.0)) refl ∙ ap (option_map f) is
 
@@ -264,11 +280,23 @@ holds-with : (f : Life → Life) (b : Option ActNo) (lives : ℕ → Option Life
 holds-with f None lives s t X same own holds = inl holds
 holds-with f (Some b) lives s t X same own holds = elim (cases_eq holds.act b.0) [
   | inr apart ↦
-      inl (record { act = holds.act; life = holds.life; is = put-other lives b.0 holds.act (option_map f (lives b.0)) apart ∙ holds.is; space = holds.space; has = holds.has })
+      inl (record {
+        act = holds.act;
+        life = holds.life;
+        is = put-other lives b.0 holds.act (option_map f (lives b.0)) apart ∙ holds.is;
+        space = holds.space;
+        has = holds.has;
+      })
   | inl at ↦
       let is : lives b.0 ≡ Some holds.life = ap lives (sym at) ∙ holds.is in
       elim (own b holds.life refl is holds.space holds.has) [
-        | inl has ↦ inl (record { act = b.0; life = f holds.life; is = with-at f (Some b) b lives holds.life refl is; space = same holds.life ∙ holds.space; has = has })
+        | inl has ↦ inl (record {
+          act = b.0;
+          life = f holds.life;
+          is = with-at f (Some b) b lives holds.life refl is;
+          space = same holds.life ∙ holds.space;
+          has = has;
+        })
         | inr x ↦ inr x
       ]
 ]
@@ -283,7 +311,8 @@ pub only-lock : (m k : Lock) → Contains (m ∷ []) k → m ≡ k
 only-lock m k (zero, below, is) = is
 only-lock m k (suc i, below, is) = absurd (omega arith)
 
-thread-first : (f : Lock → Lock) (ls : List Lock) (t : ThreadNo) → ((l : Lock) → slice_get ls 0 ≡ Some l → l.thread ≡ Some t → (f l).thread ≡ Some t) → HasThread ls t
+thread-first : (f : Lock → Lock) (ls : List Lock) (t : ThreadNo) → ((l : Lock) → slice_get ls 0 ≡ Some l → l.thread ≡ Some t → (f l).thread ≡ Some t)
+    → HasThread ls t
     → HasThread (change_first f ls) t
 thread-first f [] t keeps has = absurd (no-lock has.0 has.1)
 thread-first f (l ∷ ls) t keeps has = elim (Contains-append_cases (l ∷ []) ls has.0 has.1) [
@@ -328,18 +357,27 @@ free-keeps s of l t u life space law has =
           inr (first.2.space ∙ space, first.2.thread ∙ ap (λ (k : Lock). k.thread) same ∙ gone.2)
     ]
 
-pub has-life : (lives : ℕ → Option Life) (a : ℕ) (s : SpaceNo) (o : Option Life) → lives a ≡ o → space_of o ≡ Some s → (life : Life) × (lives a ≡ Some life) × (life.space ≡ s)
+pub has-life : (lives : ℕ → Option Life) (a : ℕ) (s : SpaceNo) (o : Option Life) → lives a ≡ o → space_of o ≡ Some s
+    → (life : Life) × (lives a ≡ Some life) × (life.space ≡ s)
 has-life lives a s None is space = absurd (none-some s space)
 has-life lives a s (Some life) is space = (life, is, same_Some life.space s space)
 
 -- what a told life holds is held by the life of the up
-holds-handed : (st : ℕ → Standing) (r : Readings) (a u : ActNo) (s of : SpaceNo) (t : ThreadNo) (from : Option Life) (X : Type 0) → r.upped ≡ Some u → u.0 ≢ a.0 → life_of r a ≡ from
+holds-handed : (st : ℕ → Standing) (r : Readings) (a u : ActNo) (s of : SpaceNo) (t : ThreadNo) (from : Option Life) (X : Type 0) → r.upped ≡ Some u
+    → u.0 ≢ a.0 → life_of r a ≡ from
     → space_of (r.lives a.0) ≡ Some of → space_of (r.lives u.0) ≡ Some of → Holds r.lives s t → Holds (handed r.upped a from r.lives) s t ⊎ X
 holds-handed st r a u s of t None X upped apart is space other holds = inl holds
 holds-handed st r a u s of t (Some from) X upped apart is space other holds = elim (cases_eq holds.act a.0) [
   | inr away ↦
-      holds-with (inherits from) r.upped (with_life bereft (Some a) r.lives) s t X (λ l. refl) (λ b life at there in_it has. inl (has.0, Contains-append_left life.locks (map inherited from.locks) has.0 has.1, has.2))
-      (record { act = holds.act; life = holds.life; is = put-other r.lives a.0 holds.act (option_map bereft (r.lives a.0)) away ∙ holds.is; space = holds.space; has = holds.has })
+      holds-with (inherits from) r.upped (with_life bereft (Some a) r.lives) s t X (λ l. refl)
+      (λ b life at there in_it has. inl (has.0, Contains-append_left life.locks (map inherited from.locks) has.0 has.1, has.2))
+      (record {
+        act = holds.act;
+        life = holds.life;
+        is = put-other r.lives a.0 holds.act (option_map bereft (r.lives a.0)) away ∙ holds.is;
+        space = holds.space;
+        has = holds.has;
+      })
   | inl at ↦
       let same : holds.life ≡ from = same_Some holds.life from (sym holds.is ∙ ap r.lives at ∙ is) in
       let has : HasThread from.locks t = subst (λ (l : Life). HasThread l.locks t) same holds.has in
@@ -348,14 +386,17 @@ holds-handed st r a u s of t (Some from) X upped apart is space other holds = el
       inl (record {
         act = u.0;
         life = inherits from heir.0;
-        is = with-at (inherits from) r.upped u (with_life bereft (Some a) r.lives) heir.0 upped (put-other r.lives a.0 u.0 (option_map bereft (r.lives a.0)) apart ∙ heir.1);
+        is =
+            with-at (inherits from) r.upped u (with_life bereft (Some a) r.lives) heir.0 upped
+            (put-other r.lives a.0 u.0 (option_map bereft (r.lives a.0)) apart ∙ heir.1);
         space = heir.2 ∙ sym owner ∙ ap (λ (l : Life). l.space) (sym same) ∙ holds.space;
         has = (inherited has.0, Contains-append_right heir.0.locks (map inherited from.locks) (inherited has.0) (map-has from.locks has.0 has.1), has.2);
       })
 ]
 
 -- the life of the up has the space of what is told to it
-pub told-space : (r : Readings) (u : ActNo) (n : Note) (o : Option SpaceNo) → r.upped ≡ Some u → space_of_life r r.upped ≡ o → IsUntoldTo r o n → ((q : ProcNo) → n ≢ note.Add q)
+pub told-space : (r : Readings) (u : ActNo) (n : Note) (o : Option SpaceNo) → r.upped ≡ Some u → space_of_life r r.upped ≡ o → IsUntoldTo r o n
+    → ((q : ProcNo) → n ≢ note.Add q)
     → (s : SpaceNo) × (space_of (r.lives u.0) ≡ Some s) × Contains (untold_of r s) n
 told-space r u (note.Add q) o upped is told other = absurd (other q refl)
 told-space r u n None upped is told other = absurd (told)
@@ -363,51 +404,71 @@ told-space r u (note.Preempted a) (Some s) upped is told other = (s, sym (ap (sp
 told-space r u (note.Blocked a) (Some s) upped is told other = (s, sym (ap (space_of_life r) upped) ∙ is, told)
 told-space r u (note.Unblocked a) (Some s) upped is told other = (s, sym (ap (space_of_life r) upped) ∙ is, told)
 
-pub holds-step : (w : WorkloadView) (p : ProcNo) (st : ℕ → Standing) (r : Readings) (x : Record) (rest : List Record) (s : SpaceNo) (t : ThreadNo) → Agrees st r → Stood p st x
+pub holds-step : (w : WorkloadView) (p : ProcNo) (st : ℕ → Standing) (r : Readings) (x : Record) (rest : List Record) (s : SpaceNo) (t : ThreadNo)
+    → Agrees st r → Stood p st x
     → MovesLives w p r x rest → UppedRuns st p r → AreKept st r.lives → Holds r.lives s t → Holds (lives_after w p r x) s t ⊎ Frees s t x
-holds-step w p st r (Ins of u i) rest s t agrees was law runs kept holds = holds-same (with_hand (next_effect w r.state of u).roused) (running_of r p) r.lives s t ⊥ (λ l. refl) (λ l. refl) holds
+holds-step w p st r (Ins of u i) rest s t agrees was law runs kept holds =
+    holds-same (with_hand (next_effect w r.state of u).roused) (running_of r p) r.lives s t ⊥ (λ l. refl) (λ l. refl) holds
 holds-step w p st r (Run of u) rest s t agrees was law runs kept holds = holds-with (with_first (ran u)) (running_of r p) r.lives s t ⊥ (λ l. refl)
     (λ a life at is space has. inl (run-keeps w r of u t (is_taken (st a.0)) life (kept a.0 life is)
     (subst (λ (m : Life). WithFirst (first_lock m) (λ lock. CanRun r m lock of)) (sym (on-life r p a life law.0 at is law.1)) law.2) has)) holds
 holds-step w p st r (Stop of u a) rest s t agrees was law runs kept holds = holds-same (stopped_with u) (Some a) r.lives s t ⊥ (λ l. refl) (λ l. refl) holds
 holds-step w p st r (Block of u a io) rest s t agrees was law runs kept holds = holds-same (held_with u) (Some a) r.lives s t ⊥ (λ l. refl) (λ l. refl) holds
-holds-step w p st r (Unblock of u a) rest s t agrees was law runs kept holds = holds-same (with_hand (one_thread u)) (Some a) r.lives s t ⊥ (λ l. refl) (λ l. refl) holds
-holds-step w p st r (Cont of u) rest s t agrees was law runs kept holds = holds-same (with_cont true) (running_of r p) r.lives s t ⊥ (λ l. refl) (λ l. refl) holds
+holds-step w p st r (Unblock of u a) rest s t agrees was law runs kept holds =
+    holds-same (with_hand (one_thread u)) (Some a) r.lives s t ⊥ (λ l. refl) (λ l. refl) holds
+holds-step w p st r (Cont of u) rest s t agrees was law runs kept holds =
+    holds-same (with_cont true) (running_of r p) r.lives s t ⊥ (λ l. refl) (λ l. refl) holds
 holds-step w p st r (Back of u) rest s t agrees was law runs kept holds = holds-same (back_with u) (running_of r p) r.lives s t ⊥ (λ l. refl) (λ l. refl) holds
 holds-step w p st r (Ready of u) rest s t agrees was law runs kept holds = holds-with (made_ready u) (running_of r p) r.lives s t ⊥ (λ l. refl)
     (λ a life at is space has. inl (thread-first readied life.locks t (λ l first same. same) has)) holds
 holds-step w p st r (Take of l u) rest s t agrees was law runs kept holds = holds-with (locks r p l u) (running_of r p) r.lives s t ⊥ (λ m. refl)
     (λ a life at is space has. inl (has.0, Contains-append_left life.locks (lock_for r p l u life ∷ []) has.0 has.1, has.2)) holds
-holds-step w p st r (Free of l u) rest s t agrees was law runs kept holds = holds-with without_lock (running_of r p) r.lives s t ((of ≡ s) × (u ≡ Some t)) (λ m. refl)
+holds-step w p st r (Free of l u) rest s t agrees was law runs kept holds =
+    holds-with without_lock (running_of r p) r.lives s t ((of ≡ s) × (u ≡ Some t)) (λ m. refl)
     (λ a life at is space has. free-keeps s of l u t life space
     (subst (λ (m : Life). WithFirst (first_lock m) (λ lock. CanFree m lock of l u)) (sym (on-life r p a life law.0 at is law.1)) law.2) has) holds
 holds-step w p st r (Up of a) rest s t agrees was law runs kept holds = elim (cases_eq holds.act a.0) [
   | inl same ↦ absurd (none-some holds.life (sym law.1 ∙ ap r.lives (sym same) ∙ holds.is))
   | inr apart ↦
-      inl (record { act = holds.act; life = holds.life; is = put-other r.lives a.0 holds.act (Some (new_life of p)) apart ∙ holds.is; space = holds.space; has = holds.has })
+      inl (record {
+        act = holds.act;
+        life = holds.life;
+        is = put-other r.lives a.0 holds.act (Some (new_life of p)) apart ∙ holds.is;
+        space = holds.space;
+        has = holds.has;
+      })
 ]
 holds-step w p st r (Told (note.Preempted a)) rest s t agrees was law runs kept holds =
     let up = runs law.1 in
     let told = told-space r up.0 (note.Preempted a) (space_of_life r r.upped) up.1 refl law.0 (λ q e. cc) in
     let space : space_of (r.lives a.0) ≡ Some told.0 = agrees.lives a ∙ ap space_in (agrees.stopped told.0 a told.2) in
-    holds-handed st r a up.0 s told.0 t (life_of r a) ⊥ up.1 (apart-told st a.0 up.0.0 up.2 was.0 p (Stopped was.0) up.3 was.1 (λ e. cc)) refl space told.1 holds
+    holds-handed st r a up.0 s told.0 t (life_of r a) ⊥ up.1
+    (apart-told st a.0 up.0.0 up.2 was.0 p (Stopped was.0) up.3 was.1 (λ e. cc)) refl space told.1 holds
 holds-step w p st r (Told (note.Unblocked a)) rest s t agrees was law runs kept holds =
     let up = runs law.1 in
     let told = told-space r up.0 (note.Unblocked a) (space_of_life r r.upped) up.1 refl law.0 (λ q e. cc) in
     let space : space_of (r.lives a.0) ≡ Some told.0 = agrees.lives a ∙ ap space_in (agrees.returned told.0 a told.2) in
-    holds-handed st r a up.0 s told.0 t (life_of r a) ⊥ up.1 (apart-told st a.0 up.0.0 up.2 was.0 p (Returned was.0) up.3 was.1 (λ e. cc)) refl space told.1 holds
+    holds-handed st r a up.0 s told.0 t (life_of r a) ⊥ up.1
+    (apart-told st a.0 up.0.0 up.2 was.0 p (Returned was.0) up.3 was.1 (λ e. cc)) refl space told.1 holds
 holds-step w p st r (Told (note.Add q)) rest s t agrees was law runs kept holds = inl holds
 holds-step w p st r (Told (note.Blocked a)) rest s t agrees was law runs kept holds = inl holds
 holds-step w p st r (GiveBack a) rest s t agrees was law runs kept holds = elim (cases_eq holds.act a.0) [
   | inl same ↦
       let bare = (kept holds.act holds.life holds.is).bare (ap (λ n. is_taken (st n)) same ∙ ap is_taken was.1) in
       absurd (no-lock holds.has.0 (subst (λ ls. Contains ls holds.has.0) bare holds.has.1))
-  | inr apart ↦ inl (record { act = holds.act; life = holds.life; is = put-other r.lives a.0 holds.act None apart ∙ holds.is; space = holds.space; has = holds.has })
+  | inr apart ↦ inl (record {
+    act = holds.act;
+    life = holds.life;
+    is = put-other r.lives a.0 holds.act None apart ∙ holds.is;
+    space = holds.space;
+    has = holds.has;
+  })
 ]
 holds-step w p st r x rest s t agrees was law runs kept holds = inl holds
 
 -- a take that names a thread, and a run, give it a lock
-pub some-life : (r : Readings) (p : ProcNo) (a : Option ActNo) (life : Life) → running_of r p ≡ a → life_if r a ≡ Some life → (b : ActNo) × (running_of r p ≡ Some b) × (r.lives b.0 ≡ Some life)
+pub some-life : (r : Readings) (p : ProcNo) (a : Option ActNo) (life : Life) → running_of r p ≡ a → life_if r a ≡ Some life
+    → (b : ActNo) × (running_of r p ≡ Some b) × (r.lives b.0 ≡ Some life)
 some-life r p None life runs is = absurd (none-some life is)
 some-life r p (Some b) life runs is = (b, runs, is)
 
@@ -415,7 +476,8 @@ run-has : (t : ThreadNo) (ls : List Lock) (l : Lock) → slice_get ls 0 ≡ Some
 run-has t [] l is = absurd (none-some l is)
 run-has t (m ∷ ls) l is = (ran t m, (0, omega arith, refl), refl)
 
-begins-holds : (w : WorkloadView) (p : ProcNo) (r : Readings) (x : Record) (rest : List Record) (s : SpaceNo) (t : ThreadNo) → MovesLives w p r x rest → Begins s t x
+begins-holds : (w : WorkloadView) (p : ProcNo) (r : Readings) (x : Record) (rest : List Record) (s : SpaceNo) (t : ThreadNo) → MovesLives w p r x rest
+    → Begins s t x
     → Holds (lives_after w p r x) s t
 begins-holds w p r (Take of l u) rest s t law begins =
     let on = some-life r p (running_of r p) law.0 refl law.1 in
@@ -442,32 +504,39 @@ begins-holds w p r x rest s t law begins = absurd (begins)
 abbrev pub LocksOnly : (Life → Life) → Type 0
 LocksOnly f = (l : Life) → ((f l).locks ≡ l.locks) × ((f l).space ≡ l.space)
 
-kept-if : (b : Bool) (f : Life → Life) (n : Option ActNo) (st : ℕ → Standing) (lives : ℕ → Option Life) → LocksOnly f → AreKept st lives → AreKept st (if b then with_life f n lives else lives)
+kept-if : (b : Bool) (f : Life → Life) (n : Option ActNo) (st : ℕ → Standing) (lives : ℕ → Option Life) → LocksOnly f → AreKept st lives
+    → AreKept st (if b then with_life f n lives else lives)
 kept-if true f n st lives same kept = kept-same f n st st lives (λ l. (same l).0) (λ m is. is) kept
 kept-if false f n st lives same kept = kept
 
-holds-if : (b : Bool) (f : Life → Life) (n : Option ActNo) (lives : ℕ → Option Life) (s : SpaceNo) (t : ThreadNo) → LocksOnly f → Holds lives s t → Holds (if b then with_life f n lives else lives) s t
-holds-if true f n lives s t same holds = elim (holds-same f n lives s t ⊥ (λ l. (same l).1) (λ l. (same l).0) holds) [ inl still ↦ still | inr never ↦ absurd never ]
+holds-if : (b : Bool) (f : Life → Life) (n : Option ActNo) (lives : ℕ → Option Life) (s : SpaceNo) (t : ThreadNo) → LocksOnly f → Holds lives s t
+    → Holds (if b then with_life f n lives else lives) s t
+holds-if true f n lives s t same holds =
+    elim (holds-same f n lives s t ⊥ (λ l. (same l).1) (λ l. (same l).0) holds) [ inl still ↦ still | inr never ↦ absurd never ]
 holds-if false f n lives s t same holds = holds
 
-kept-stepped : (test : Test) (w : WorkloadView) (st : ℕ → Standing) (before : Readings) (e : Event) (after : Readings) (xs : List Record) (lives : ℕ → Option Life)
+kept-stepped : (test : Test) (w : WorkloadView) (st : ℕ → Standing) (before : Readings) (e : Event) (after : Readings) (xs : List Record) (lives : ℕ
+    → Option Life)
     → AreKept st lives → AreKept st (with_step test w before e after xs lives)
 kept-stepped test w st before e after [] lives kept = kept
 kept-stepped test w st before e after (x ∷ xs) lives kept =
     kept-if (is_step x) (stepped test w before e after x) (running_of before e.proc) st lives (λ l. (refl, refl)) kept
 
-holds-stepped : (test : Test) (w : WorkloadView) (before : Readings) (e : Event) (after : Readings) (xs : List Record) (lives : ℕ → Option Life) (s : SpaceNo) (t : ThreadNo)
+holds-stepped : (test : Test) (w : WorkloadView) (before : Readings) (e : Event) (after : Readings) (xs : List Record) (lives : ℕ
+    → Option Life) (s : SpaceNo) (t : ThreadNo)
     → Holds lives s t → Holds (with_step test w before e after xs lives) s t
 holds-stepped test w before e after [] lives s t holds = holds
 holds-stepped test w before e after (x ∷ xs) lives s t holds =
     holds-if (is_step x) (stepped test w before e after x) (running_of before e.proc) lives s t (λ l. (refl, refl)) holds
 
-pub kept-ended : (test : Test) (w : WorkloadView) (st : ℕ → Standing) (before : Readings) (e : Event) (r : Readings) → AreKept st r.lives → AreKept st (ended test w before e r).lives
+pub kept-ended : (test : Test) (w : WorkloadView) (st : ℕ → Standing) (before : Readings) (e : Event) (r : Readings) → AreKept st r.lives
+    → AreKept st (ended test w before e r).lives
 kept-ended test w st before e r kept =
     kept-if (list_any is_up e.records) (arisen test w before e r) (running_of r e.proc) st (with_step test w before e r e.records r.lives) (λ l. (refl, refl))
     (kept-stepped test w st before e r e.records r.lives kept)
 
-holds-ended : (test : Test) (w : WorkloadView) (before : Readings) (e : Event) (r : Readings) (s : SpaceNo) (t : ThreadNo) → Holds r.lives s t → Holds (ended test w before e r).lives s t
+holds-ended : (test : Test) (w : WorkloadView) (before : Readings) (e : Event) (r : Readings) (s : SpaceNo) (t : ThreadNo) → Holds r.lives s t
+    → Holds (ended test w before e r).lives s t
 holds-ended test w before e r s t holds =
     holds-if (list_any is_up e.records) (arisen test w before e r) (running_of r e.proc) (with_step test w before e r e.records r.lives) s t (λ l. (refl, refl))
     (holds-stepped test w before e r e.records r.lives s t holds)
@@ -509,11 +578,12 @@ held-cases past x s t o =
           )
     ]
 
-held-step : (w : WorkloadView) (e : ℕ) (p : ProcNo) (past : List Item) (r : Readings) (x : Record) (rest : List Record) → AreHeldIn p past r → MovesLives w p r x rest
+held-step : (w : WorkloadView) (e : ℕ) (p : ProcNo) (past : List Item) (r : Readings) (x : Record) (rest : List Record) → AreHeldIn p past r
+    → MovesLives w p r x rest
     → AreHeldIn p (past ++ item e p x ∷ []) (after_record w e p r x)
 held-step w e p past r x rest inv law =
     let st = inv.held.st in
-    let was = stood w p st r x rest inv.held.agrees law in
+    let was = stood w p st r x rest inv.held.agrees (lives-move w p r x rest law) in
     record {
       held = record {
         st = standing_after p st x;
@@ -541,7 +611,8 @@ holds-lock r s t holds = record {
   thread = holds.has.2;
 }
 
-held-good : (w : WorkloadView) (e : ℕ) (p : ProcNo) (past : List Item) (r : Readings) (x : Record) (rest : List Record) → AreHeldIn p past r → MovesLives w p r x rest
+held-good : (w : WorkloadView) (e : ℕ) (p : ProcNo) (past : List Item) (r : Readings) (x : Record) (rest : List Record) → AreHeldIn p past r
+    → MovesLives w p r x rest
     → ReadiesNoHolder past (item e p x)
 held-good w e p past r (Ready of u) rest inv law s t is o =
     let space : of ≡ s = cc in
@@ -573,7 +644,8 @@ held-start w = record {
   holds = λ s t o. absurd (none-some o.item o.at);
 }
 
-held-within : (items : List Item) (j : ℕ) (s : SpaceNo) (t : ThreadNo) → j ≤ length items → HoldsListLock items j s t → HoldsListLock (take j items) (length (take j items)) s t
+held-within : (items : List Item) (j : ℕ) (s : SpaceNo) (t : ThreadNo) → j ≤ length items → HoldsListLock items j s t
+    → HoldsListLock (take j items) (length (take j items)) s t
 held-within items j s t within o =
     let len = length-take_within items j within in
     let before = o.before in
@@ -588,6 +660,7 @@ held-within items j s t within o =
 
 pub no-holder-is-ready : (w : WorkloadView) (items : List Item) → IsLegal fast_threads w items → NoHolderIsReady items
 no-holder-is-ready w items legal j s t stands o =
-    let good = good-at fast_threads w items (MovesLives w) AreHeld (λ e p. AreHeldIn p) ReadiesNoHolder legal (held-kept fast_threads.inside w) (moves-lives w) (held-start w) j stands.item stands.at in
+    let good = good-at fast_threads w items (MovesLives w) AreHeld (λ e p. AreHeldIn p) ReadiesNoHolder legal (held-kept fast_threads.inside w)
+    (moves-lives w) (held-start w) j stands.item stands.at in
     let within = slice_get_within items j stands.item stands.at in
     good s t stands.what (held-within items j s t (omega arith) o)

@@ -40,7 +40,8 @@ IosCounted past r = r.begun ≡ ios_begun past
 abbrev pub NamesItsIo : List Item → Item → Type 0
 NamesItsIo past x = (s : SpaceNo) (t : Option ThreadNo) (a : ActNo) (io : IoNo) → x.what ≡ Block s t a io → io.0 ≡ ios_begun past
 
-names-io : (e : ℕ) (p : ProcNo) (past : List Item) (r : Readings) (x : Record) (rest : List Record) → IosCounted past r → GivesUpcallThen p r x rest → NamesItsIo past (item e p x)
+names-io : (e : ℕ) (p : ProcNo) (past : List Item) (r : Readings) (x : Record) (rest : List Record) → IosCounted past r → GivesUpcallThen p r x rest
+    → NamesItsIo past (item e p x)
 names-io e p past r (Block of u b named) rest inv law s t a io is =
     let same : named.0 ≡ io.0 = cc in
     sym same ∙ law.number ∙ inv
@@ -48,12 +49,18 @@ names-io e p past r x rest inv law s t a io is = absurd (cc)
 
 ios-kept : (test : Test) (w : WorkloadView) → IsKept test w GivesUpcallThen IosCounted (λ e p. IosCounted) NamesItsIo
 ios-kept test w = record {
-  step = λ e p past r x rest inv law. (begun-more r.begun x ∙ ap (λ n. n + (if begins_io x then 1 else 0)) inv ∙ sym (ios-more past (item e p x)), names-io e p past r x rest inv law);
+  step =
+      λ e p past r x rest inv law. (
+        begun-more r.begun x ∙ ap (λ n. n + (if begins_io x then 1 else 0)) inv
+            ∙ sym (ios-more past (item e p x)),
+        names-io e p past r x rest inv law,
+      );
   begins = λ past r e inv. inv;
   ends = λ past before e r inv. inv;
 }
 
 pub blocks-name-their-io : (u : UserRules) (w : WorkloadView) (items : List Item) → IsLegal u w items → BlocksNameTheirIo items
 blocks-name-their-io u w items legal j s t a io stands =
-    good-at u w items GivesUpcallThen IosCounted (λ e p. IosCounted) NamesItsIo legal (ios-kept u.inside w) (λ r e law. law.block_upcall.blocks) refl j stands.item stands.at
+    good-at u w items GivesUpcallThen IosCounted (λ e p. IosCounted) NamesItsIo legal (ios-kept u.inside w)
+    (λ r e law. law.block_upcall.blocks) refl j stands.item stands.at
     s t a io stands.what

@@ -47,7 +47,8 @@ keeps-lines : (e : ℕ) (p : ProcNo) (past : List Item) (lines : List (Option �
     → ((v : ℕ) → get_or lines p.0 None ≡ Some v → v ≡ e)
     → (q : ProcNo) (v : ℕ) → get_or lines q.0 None ≡ Some v → RaisedAt (past ++ item e p x ∷ []) q v
 keeps-lines e p past lines x read own q v is =
-    raised-more past (item e p x) q v (λ below same. let late = own v (subst (λ (k : ProcNo). get_or lines k.0 None ≡ Some v) (sym same) is) in absurd (omega arith)) (read q v is)
+    raised-more past (item e p x) q v (λ below same. let late = own v (subst (λ (k : ProcNo). get_or lines k.0 None ≡ Some v) (sym same) is) in
+    absurd (omega arith)) (read q v is)
 
 lines-step : (e : ℕ) (p : ProcNo) (past : List Item) (lines : List (Option ℕ)) (x : Record) → LinesRead past lines
     → ((v : ℕ) → get_or lines p.0 None ≡ Some v → v ≡ e)
@@ -137,7 +138,8 @@ reads-begin w past r e reads = record {
   own = λ v is. absurd ((clear-cases r.lines e.proc.0 e.proc.0 v is).0 refl);
 }
 
-reads-end : (test : Test) (w : WorkloadView) (past : List Item) (before : Readings) (e : Event) (r : Readings) → Reads w past r → Reads w past (ended test w before e r)
+reads-end : (test : Test) (w : WorkloadView) (past : List Item) (before : Readings) (e : Event) (r : Readings) → Reads w past r
+    → Reads w past (ended test w before e r)
 reads-end test w past before e r reads = record {
   owners_len = reads.owners_len;
   aims_len = reads.aims_len;
@@ -190,5 +192,6 @@ legal-reads u w items legal =
     let gives : (r : Readings) (e : Event) → IsLawful u w r e → EachRecord (OnMachine w e.proc) w e.number e.proc (begun w e r) e.records =
     λ r e lawful. on-machine w e.proc e.number (begun w e r) e.records lawful.numbering.proc in
     let law = along u w (OnMachine w) gives (opening_readings w) (events_of items) (legal-lawful u w items legal) in
-    let read = (walk u.inside w (OnMachine w) (Reads w) (ReadsIn w) Any (reads-kept u.inside w) [] (opening_readings w) (events_of items) (reads-start w) law).0 in
+    let read = (walk u.inside w (OnMachine w) (Reads w) (ReadsIn w) Any (reads-kept u.inside w) [] (opening_readings w) (events_of items)
+    (reads-start w) law).0 in
     subst (λ (ys : List Item). Reads w ys (readings u.inside w (events_of items))) (items-events items) read

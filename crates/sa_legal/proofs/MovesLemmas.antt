@@ -1,5 +1,5 @@
--- The law of records that change lives holds along a legal run of FastThreads, and with it what is read agrees with
--- where the numbers stand.
+-- The law of records that change lives holds along a legal run, and with it what is read agrees with where the numbers
+-- stand.
 use Rattle.std.proofs.Common.{◌≡◌, ℕ, zero, suc, ◌≤◌, refl, sym, ◌∙◌, ap, subst, arith, Some, None, List, [], ◌∷◌, ◌++◌, length, map, true, false}
 use Rattle.std.specs.Prelude.{Option, Bool, if◌then◌else◌, replicate, get_or, Contains}
 use Rattle.std.specs.List.{list_any}
@@ -16,25 +16,25 @@ use Rattle.sa_assign.specs.Aims.{Change}
 use Rattle.sa_assign.specs.Reaim.{records_of, line_at, lines_with, line_records, proc_no}
 use Rattle.sa_laws.specs.Event.{Event}
 use Rattle.sa_laws.specs.Life.{Life}
-use Rattle.sa_laws.specs.Readings.{Readings, opening_readings, life_of, running_of, space_of_life}
+use Rattle.sa_laws.specs.Readings.{Readings, opening_readings, running_of, space_of_life}
 use Rattle.sa_laws.specs.Record.{after_record, with_life}
 use Rattle.sa_laws.specs.History.{Test, begun, after_records, is_step, is_up, with_step, ended, stepped, arisen}
 use Rattle.sa_laws.specs.Step.{Needs, AreSteps}
 use Rattle.sa_laws.specs.Upcalls.{EachRecord, IsUntoldTo, TellsOnce, NamesTheLife, TellsAllThen}
 use Rattle.sa_laws.specs.Closing.{spaces_of, want_one, aims_due}
 use Rattle.sa_laws.specs.Opening.{first_wants, opening_records}
-use Rattle.sa_laws.specs.Rules.{IsLawful, fast_threads}
+use Rattle.sa_laws.specs.Rules.{UserRules, IsLawful, fast_threads}
 use Rattle.sa_legal.proofs.StandingLemmas.{Standing, Nowhere, Runs, Blocked, Stopped, Returned, Taken, space_in, Stood, Agrees, space_of, space-with}
-use Rattle.sa_legal.proofs.ShapeLemmas.{is_telling, MovesLives, fits, AllFit, FirstLaw, FirstOf, IsShaped, fits-want, fits-aim, fits-line, whole-shaped, turn-shaped}
+use Rattle.sa_legal.proofs.ShapeLemmas.{is_telling, Moves, MovesLives, fits, AllFit, FirstLaw, FirstOf, IsShaped, fits-want, fits-aim, fits-line, whole-shaped, turn-shaped}
 
 -- the opening has wants, aims and lines alone
-abbrev is_calm : Record → Bool
+abbrev pub is_calm : Record → Bool
 is_calm (Want s n) = true
 is_calm (Aim p s) = true
 is_calm (Line p) = true
 is_calm _ = false
 
-abbrev AreCalm : List Record → Type 0
+abbrev pub AreCalm : List Record → Type 0
 AreCalm [] = Unit {0}
 AreCalm (x ∷ xs) = (is_calm x ≡ true) × AreCalm xs
 
@@ -66,12 +66,17 @@ calm-line p (Some e) = tt
 
 pub calm-aims : (e : ℕ) (lines : List (Option ℕ)) (cs : List Change) → AreCalm (records_of e lines cs)
 calm-aims e lines [] = tt
-calm-aims e lines (c ∷ cs) = (refl, calm-append (line_records c.proc (line_at lines c.proc)) (records_of e (lines_with e lines c) cs) (calm-line c.proc (line_at lines c.proc)) (calm-aims e (lines_with e lines c) cs))
+calm-aims e lines (c ∷ cs) = (
+  refl,
+  calm-append (line_records c.proc (line_at lines c.proc)) (records_of e (lines_with e lines c) cs) (calm-line c.proc (line_at lines c.proc))
+      (calm-aims e (lines_with e lines c) cs),
+)
 
 pub calm-opening : (w : WorkloadView) → AreCalm (opening_records w)
 calm-opening w =
     let wanting = after_records w 0 (proc_no 0) (opening_readings w) (first_wants w) in
-    calm-append (first_wants w) (records_of 0 wanting.lines (aims_due w 0 wanting)) (calm-wants (spaces_of w)) (calm-aims 0 wanting.lines (aims_due w 0 wanting))
+    calm-append (first_wants w) (records_of 0 wanting.lines (aims_due w 0 wanting)) (calm-wants (spaces_of w))
+    (calm-aims 0 wanting.lines (aims_due w 0 wanting))
 
 -- the records of a lawful event are in their places
 event-shaped : (w : WorkloadView) (r : Readings) (e : Event) → IsLawful fast_threads w r e → IsShaped w e.proc (begun w e r) e.records
@@ -85,35 +90,71 @@ event-shaped w r e law = one e.number refl where
       let later : 1 ≤ e.number = omega arith in
       let turns = law.turns_and_steps in
       let locks = law.list_locks in
-      whole-shaped w e.proc (begun w e r) e.records (turn-shaped w (begun w e r) e.proc e.number _ _ (turns.turn later) (locks.step later)) (turns.closing later)
+      whole-shaped w e.proc (begun w e r) e.records (turn-shaped w (begun w e r) e.proc e.number _ _ (turns.turn later) (locks.step later))
+      (turns.closing later)
 
--- so each of them may change what it changes
+-- told records come after an up or another told record
+abbrev pub AfterUps : Option Record → List Record → Type 0
+AfterUps last [] = Unit {0}
+AfterUps last (Told n ∷ xs) = (is_telling last ≡ true) × AfterUps (Some (Told n)) xs
+AfterUps last (x ∷ xs) = AfterUps (Some x) xs
+
+later-ups : (last : Option Record) (x : Record) (xs : List Record) → AfterUps last (x ∷ xs) → AfterUps (Some x) xs
+later-ups last (Told n) xs fit = fit.1
+later-ups last x xs fit = fit
+
+fit-ups : (last : Option Record) (xs : List Record) → AllFit last xs → AfterUps last xs
+fit-ups last [] fit = tt
+fit-ups None (Told n ∷ xs) fit = absurd (let clash = fit.0 in cc)
+fit-ups (Some y) (Told n ∷ xs) fit = (fit.0, fit-ups (Some (Told n)) xs fit.1)
+fit-ups last (x ∷ xs) fit = fit-ups (Some x) xs fit.1
+
+-- so each record of a lawful event may change what it changes, whatever the user level's rules are
+moves-one : (w : WorkloadView) (p : ProcNo) (r : Readings) (x : Record) (rest : List Record) (last : Option Record) → r.last ≡ last
+    → AfterUps last (x ∷ rest)
+    → NamesTheLife p r x rest → TellsAllThen p r x rest → TellsOnce r x rest → Needs w p r x → Moves w p r x rest
+moves-one w p r (Stop s t a) rest last is fit named tells once needs = named
+moves-one w p r (Block s t a io) rest last is fit named tells once needs = named
+moves-one w p r (Unblock s t a) rest last is fit named tells once needs = (needs.io, ap space_of needs.is ∙ ap Some needs.space)
+moves-one w p r (Up s a) rest last is fit named tells once needs = (named, tells.fresh)
+moves-one w p r (Told n) rest last is fit named tells once needs = (once, ap is_telling is ∙ fit.0)
+moves-one w p r (GiveBack a) rest last is fit named tells once needs = tells
+moves-one w p r x rest last is fit named tells once needs = tt
+
+moves-each : (w : WorkloadView) (e : ℕ) (p : ProcNo) (r : Readings) (xs : List Record) (last : Option Record) → r.last ≡ last → AfterUps last xs
+    → EachRecord (NamesTheLife p) w e p r xs → EachRecord (TellsAllThen p) w e p r xs → EachRecord TellsOnce w e p r xs → AreSteps w e p r xs
+    → EachRecord (Moves w p) w e p r xs
+moves-each w e p r [] last is fit named tells once steps = tt
+moves-each w e p r (x ∷ xs) last is fit named tells once steps = (
+  moves-one w p r x xs last is fit named.0 tells.0 once.0 steps.0,
+  moves-each w e p (after_record w e p r x) xs (Some x) refl (later-ups last x xs fit) named.1 tells.1 once.1 steps.1,
+)
+
+pub lawful-moves : (u : UserRules) (w : WorkloadView) (r : Readings) (e : Event) → IsLawful u w r e → AfterUps None e.records
+    → EachRecord (Moves w e.proc) w e.number e.proc (begun w e r) e.records
+lawful-moves u w r e law fit =
+    moves-each w e.number e.proc (begun w e r) e.records None refl fit law.where_owned.named law.all_told.told law.at_most_once.told law.step_taken.steps
+
+pub fast-moves : (w : WorkloadView) (r : Readings) (e : Event) → IsLawful fast_threads w r e
+    → EachRecord (Moves w e.proc) w e.number e.proc (begun w e r) e.records
+fast-moves w r e law = lawful-moves fast_threads w r e law (fit-ups None e.records (event-shaped w r e law).0)
+
+-- and for FastThreads the first one keeps the rules of list locks
 abbrev FirstIf : Option Record → WorkloadView → ProcNo → Readings → Record → Type 0
 FirstIf None w p r x = FirstLaw w p r x
 FirstIf (Some y) w p r x = Unit {0}
 
-life-space : (r : Readings) (s : SpaceNo) (a : ActNo) (life : Life) → life_of r a ≡ Some life → life.space ≡ s → space_of_life r (Some a) ≡ Some s
-life-space r s a life is same = ap space_of is ∙ ap Some same
-
-moves-one : (w : WorkloadView) (p : ProcNo) (r : Readings) (x : Record) (rest : List Record) (last : Option Record) → r.last ≡ last → fits last x ≡ true → FirstIf last w p r x
-    → NamesTheLife p r x rest → TellsAllThen p r x rest → TellsOnce r x rest → Needs w p r x → MovesLives w p r x rest
-moves-one w p r (Stop s t a) rest last is fit first named tells once needs = named
-moves-one w p r (Block s t a io) rest last is fit first named tells once needs = named
-moves-one w p r (Unblock s t a) rest None is fit first named tells once needs = (first, life-space r s a needs.life needs.is needs.space)
-moves-one w p r (Unblock s t a) rest (Some y) is fit first named tells once needs = absurd (cc)
-moves-one w p r (Up s a) rest last is fit first named tells once needs = (named, tells.fresh)
-moves-one w p r (Told n) rest None is fit first named tells once needs = absurd (cc)
-moves-one w p r (Told n) rest (Some y) is fit first named tells once needs = (once, ap is_telling is ∙ fit)
-moves-one w p r (GiveBack a) rest last is fit first named tells once needs = tells
-moves-one w p r (Run s t) rest None is fit first named tells once needs = first
-moves-one w p r (Run s t) rest (Some y) is fit first named tells once needs = absurd (cc)
-moves-one w p r (Ready s t) rest None is fit first named tells once needs = first
-moves-one w p r (Ready s t) rest (Some y) is fit first named tells once needs = absurd (cc)
-moves-one w p r (Take s l t) rest None is fit first named tells once needs = first
-moves-one w p r (Take s l t) rest (Some y) is fit first named tells once needs = absurd (cc)
-moves-one w p r (Free s l t) rest None is fit first named tells once needs = first
-moves-one w p r (Free s l t) rest (Some y) is fit first named tells once needs = absurd (cc)
-moves-one w p r x rest last is fit first named tells once needs = tt
+lives-one : (w : WorkloadView) (p : ProcNo) (r : Readings) (x : Record) (rest : List Record) (last : Option Record) → fits last x ≡ true
+    → FirstIf last w p r x → Moves w p r x rest → MovesLives w p r x rest
+lives-one w p r (Run s t) rest None fit first moves = first
+lives-one w p r (Run s t) rest (Some y) fit first moves = absurd (cc)
+lives-one w p r (Ready s t) rest None fit first moves = first
+lives-one w p r (Ready s t) rest (Some y) fit first moves = absurd (cc)
+lives-one w p r (Take s l t) rest None fit first moves = first
+lives-one w p r (Take s l t) rest (Some y) fit first moves = absurd (cc)
+lives-one w p r (Free s l t) rest None fit first moves = first
+lives-one w p r (Free s l t) rest (Some y) fit first moves = absurd (cc)
+lives-one w p r x rest last fit first moves = moves
 
 abbrev FirstOfIf : Option Record → WorkloadView → ProcNo → Readings → List Record → Type 0
 FirstOfIf last w p r [] = Unit {0}
@@ -123,24 +164,23 @@ none-first : (y : Record) (w : WorkloadView) (p : ProcNo) (r : Readings) (xs : L
 none-first y w p r [] = tt
 none-first y w p r (x ∷ xs) = tt
 
-moves-each : (w : WorkloadView) (e : ℕ) (p : ProcNo) (r : Readings) (xs : List Record) (last : Option Record) → r.last ≡ last → AllFit last xs → FirstOfIf last w p r xs
-    → EachRecord (NamesTheLife p) w e p r xs → EachRecord (TellsAllThen p) w e p r xs → EachRecord TellsOnce w e p r xs → AreSteps w e p r xs
-    → EachRecord (MovesLives w p) w e p r xs
-moves-each w e p r [] last is fit first named tells once steps = tt
-moves-each w e p r (x ∷ xs) last is fit first named tells once steps = (
-  moves-one w p r x xs last is fit.0 first named.0 tells.0 once.0 steps.0,
-  moves-each w e p (after_record w e p r x) xs (Some x) refl fit.1 (none-first x w p (after_record w e p r x) xs) named.1 tells.1 once.1 steps.1,
+lives-each : (w : WorkloadView) (e : ℕ) (p : ProcNo) (r : Readings) (xs : List Record) (last : Option Record) → AllFit last xs → FirstOfIf last w p r xs
+    → EachRecord (Moves w p) w e p r xs → EachRecord (MovesLives w p) w e p r xs
+lives-each w e p r [] last fit first moves = tt
+lives-each w e p r (x ∷ xs) last fit first moves = (
+  lives-one w p r x xs last fit.0 first moves.0,
+  lives-each w e p (after_record w e p r x) xs (Some x) fit.1 (none-first x w p (after_record w e p r x) xs) moves.1,
 )
 
 first-if : (w : WorkloadView) (p : ProcNo) (r : Readings) (xs : List Record) → FirstOf w p r xs → FirstOfIf None w p r xs
 first-if w p r [] first = tt
 first-if w p r (x ∷ xs) first = first
 
-pub moves-lives : (w : WorkloadView) (r : Readings) (e : Event) → IsLawful fast_threads w r e → EachRecord (MovesLives w e.proc) w e.number e.proc (begun w e r) e.records
+pub moves-lives : (w : WorkloadView) (r : Readings) (e : Event) → IsLawful fast_threads w r e
+    → EachRecord (MovesLives w e.proc) w e.number e.proc (begun w e r) e.records
 moves-lives w r e law =
     let shaped = event-shaped w r e law in
-    moves-each w e.number e.proc (begun w e r) e.records None refl shaped.0 (first-if w e.proc (begun w e r) e.records shaped.1)
-    law.where_owned.named law.all_told.told law.at_most_once.told law.step_taken.steps
+    lives-each w e.number e.proc (begun w e r) e.records None shaped.0 (first-if w e.proc (begun w e r) e.records shaped.1) (fast-moves w r e law)
 
 -- where the number of such a record stood
 nowhere : (x : Standing) → space_in x ≡ None → x ≡ Nowhere
@@ -151,10 +191,12 @@ nowhere (Stopped s) is = absurd (cc)
 nowhere (Returned s) is = absurd (cc)
 nowhere (Taken s) is = absurd (cc)
 
-its-space : (st : ℕ → Standing) (r : Readings) (a : ActNo) (s t : SpaceNo) (x : Standing) → Agrees st r → space_of_life r (Some a) ≡ Some s → st a.0 ≡ x → space_in x ≡ Some t → t ≡ s
+its-space : (st : ℕ → Standing) (r : Readings) (a : ActNo) (s t : SpaceNo) (x : Standing) → Agrees st r → space_of_life r (Some a) ≡ Some s → st a.0 ≡ x
+    → space_in x ≡ Some t → t ≡ s
 its-space st r a s t x agrees space is in_it = same_Some t s (sym in_it ∙ ap space_in (sym is) ∙ sym (agrees.lives a) ∙ space)
 
-pub stood : (w : WorkloadView) (p : ProcNo) (st : ℕ → Standing) (r : Readings) (x : Record) (rest : List Record) → Agrees st r → MovesLives w p r x rest → Stood p st x
+pub stood : (w : WorkloadView) (p : ProcNo) (st : ℕ → Standing) (r : Readings) (x : Record) (rest : List Record) → Agrees st r
+    → Moves w p r x rest → Stood p st x
 stood w p st r (Stop s t a) rest agrees law =
     let there = agrees.running p a law.act in there.1 ∙ ap (λ u. Runs u p) (its-space st r a s there.0 (Runs there.0 p) agrees law.space there.1 refl)
 stood w p st r (Block s t a io) rest agrees law =
@@ -174,7 +216,8 @@ stood w p st r (GiveBack a) rest agrees law = (law.life.space, agrees.taken law.
 stood w p st r x rest agrees law = tt
 
 -- at the end of an event nothing of it changes
-pub space-ended : (test : Test) (w : WorkloadView) (before : Readings) (e : Event) (r : Readings) (a : ℕ) → space_of ((ended test w before e r).lives a) ≡ space_of (r.lives a)
+pub space-ended : (test : Test) (w : WorkloadView) (before : Readings) (e : Event) (r : Readings) (a : ℕ)
+    → space_of ((ended test w before e r).lives a) ≡ space_of (r.lives a)
 space-ended test w before e r a = up (list_any is_up e.records) ∙ step e.records where
   if-same : (b : Bool) (f : Life → Life) (n : Option ActNo) (lives : ℕ → Option Life) → ((l : Life) → (f l).space ≡ l.space)
       → space_of ((if b then with_life f n lives else lives) a) ≡ space_of (lives a)
@@ -185,11 +228,13 @@ space-ended test w before e r a = up (list_any is_up e.records) ∙ step e.recor
   step [] = refl
   step (x ∷ xs) = if-same (is_step x) (stepped test w before e r x) (running_of before e.proc) r.lives (λ l. refl)
 
-  up : (b : Bool) → space_of ((if b then with_life (arisen test w before e r) (running_of r e.proc) (with_step test w before e r e.records r.lives) else with_step test w before e r e.records r.lives) a)
+  up : (b : Bool) → space_of ((if b then with_life (arisen test w before e r) (running_of r e.proc) (with_step test w before e r e.records r.lives)
+      else with_step test w before e r e.records r.lives) a)
       ≡ space_of (with_step test w before e r e.records r.lives a)
   up b = if-same b (arisen test w before e r) (running_of r e.proc) (with_step test w before e r e.records r.lives) (λ l. refl)
 
-pub agrees-ended : (test : Test) (w : WorkloadView) (st : ℕ → Standing) (before : Readings) (e : Event) (r : Readings) → Agrees st r → Agrees st (ended test w before e r)
+pub agrees-ended : (test : Test) (w : WorkloadView) (st : ℕ → Standing) (before : Readings) (e : Event) (r : Readings) → Agrees st r
+    → Agrees st (ended test w before e r)
 agrees-ended test w st before e r agrees = record {
   lives = λ a. space-ended test w before e r a.0 ∙ agrees.lives a;
   running = agrees.running;
@@ -215,7 +260,7 @@ nobody-runs zero k a is = none-some a is
 nobody-runs (suc n) zero a is = none-some a is
 nobody-runs (suc n) (suc k) a is = nobody-runs n k a is
 
-nothing-in : {A : Type 0} (n k : ℕ) (z : A) → Contains (get_or (replicate n []) k []) z → ⊥
+pub nothing-in : {A : Type 0} (n k : ℕ) (z : A) → Contains (get_or (replicate n []) k []) z → ⊥
 nothing-in zero k z has = let h = has in omega (arith, h.1)
 nothing-in (suc n) zero z has = let h = has in omega (arith, h.1)
 nothing-in (suc n) (suc k) z has = nothing-in n k z has

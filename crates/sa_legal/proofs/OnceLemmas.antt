@@ -18,7 +18,7 @@ use Rattle.sa_laws.specs.Event.{events_of}
 use Rattle.sa_laws.specs.History.{readings}
 use Rattle.sa_legal.proofs.UntoldLemmas.{IsCovered, TellsUntold, tells-kept}
 
--- before a place of a list stands what stands there in the list
+-- before a place of a list is what is there in the list
 pub get-take : (items : List Item) (j k : ℕ) → k < j → slice_get (take j items) k ≡ slice_get items k
 get-take [] zero k below = refl
 get-take [] (suc j) k below = refl
@@ -57,7 +57,8 @@ covered-start w s n has = absurd (no-notes (length w.spaces) s.0 n has)
 
 pub tells-at-most-once : (u : UserRules) (w : WorkloadView) (items : List Item) → IsLegal u w items → TellsAtMostOnce items
 tells-at-most-once u w items legal j n stands other =
-    let good = good-at u w items (λ p. TellsOnce) IsCovered (λ e p. IsCovered) TellsUntold legal (tells-kept u.inside w) (λ r e law. law.at_most_once.told) (covered-start w) j stands.item stands.at in
+    let good = good-at u w items (λ p. TellsOnce) IsCovered (λ e p. IsCovered) TellsUntold legal (tells-kept u.inside w) (λ r e law. law.at_most_once.told)
+    (covered-start w) j stands.item stands.at in
     let h = good n stands.what other in
     let within = slice_get_within items j stands.item stands.at in
     (h.0, stands-within items j h.0 n (omega arith) h.1)
@@ -66,5 +67,6 @@ tells-at-most-once u w items legal j n stands other =
 pub covered-whole : (u : UserRules) (w : WorkloadView) (items : List Item) → IsLegal u w items → IsCovered items (readings u.inside w (events_of items))
 covered-whole u w items legal =
     let law = along u w (λ p. TellsOnce) (λ r e lawful. lawful.at_most_once.told) (opening_readings w) (events_of items) (legal-lawful u w items legal) in
-    let read = (walk u.inside w (λ p. TellsOnce) IsCovered (λ e p. IsCovered) TellsUntold (tells-kept u.inside w) [] (opening_readings w) (events_of items) (covered-start w) law).0 in
+    let read = (walk u.inside w (λ p. TellsOnce) IsCovered (λ e p. IsCovered) TellsUntold (tells-kept u.inside w) [] (opening_readings w) (events_of items)
+    (covered-start w) law).0 in
     subst (λ (ys : List Item). IsCovered ys (readings u.inside w (events_of items))) (items-events items) read

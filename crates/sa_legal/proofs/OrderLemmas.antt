@@ -1,5 +1,5 @@
 -- A run in which two threads are ready, and the older one is taken from its own processor's list.
-use Rattle.std.proofs.Common.{◌≡◌, zero, suc, inl, inr, refl, sym, ◌∙◌, ap, subst, arith, Some, None, List, [], ◌∷◌}
+use Rattle.std.proofs.Common.{◌≡◌, inl, inr, refl, sym, ◌∙◌, ap, subst, arith, Some, None, List, [], ◌∷◌}
 use Rattle.std.specs.Prelude.{Contains}
 use Rattle.std.proofs.lemmas.Option.{same_Some}
 use Rattle.sa_base.specs.declared.number.SpaceNo.{SpaceNo}
@@ -20,6 +20,7 @@ use Rattle.sa_legal.proofs.ExampleLemmas.{prompt-calm, no-wants, one-share, Only
 use Rattle.sa_legal.proofs.SmallestLemmas.{r0, r5, next}
 use Rattle.sa_legal.proofs.BreakLemmas.{goes-on, right0, right1, right2, right3, right4}
 use Rattle.sa_legal.proofs.FoldLemmas.{with-end, break-behind}
+use Rattle.sa_legal.proofs.HolderLemmas.{only-lock}
 
 abbrev g : List Instr
 g = forking_program
@@ -96,17 +97,13 @@ apart02 e = let same = ap (λ (t : ThreadNo). t.0) (same_Some t0 t2 e) in omega 
 apart21 : Some t2 ≡ Some t1 → ⊥
 apart21 e = let same = ap (λ (t : ThreadNo). t.0) (same_Some t2 t1 e) in omega (arith, same)
 
-one-item : (x y : Lock) → Contains (x ∷ []) y → x ≡ y
-one-item x y (zero, below, is) = is
-one-item x y (suc k, below, is) = absurd (omega arith)
-
 -- where one life is in use, and has one lock, another thread than the lock's holds none
 holds-none : (r : Readings) (life : Life) (lock : Lock) (t : ThreadNo) → OnlyZero r.lives → r.lives 0 ≡ Some life → life.locks ≡ lock ∷ []
     → (lock.thread ≡ Some t → ⊥) → (s : SpaceNo) → HoldsLock r s t → ⊥
 holds-none r life lock t only is locks other s holds =
     let same : life ≡ holds.life = same_Some life holds.life (sym is ∙ the-one r.lives only holds.act.0 holds.life holds.is) in
     let all : holds.life.locks ≡ lock ∷ [] = ap (λ (x : Life). x.locks) (sym same) ∙ locks in
-    let one : lock ≡ holds.lock = one-item lock holds.lock (subst (λ (xs : List Lock). Contains xs holds.lock) all holds.among) in
+    let one : lock ≡ holds.lock = only-lock lock holds.lock (subst (λ (xs : List Lock). Contains xs holds.lock) all holds.among) in
     other (ap (λ (x : Lock). x.thread) one ∙ holds.thread)
 
 lawful5 : IsLawful fast_threads forking q5 f5
@@ -132,7 +129,10 @@ right5 : HoldEach fast_threads forking rules q5 f5 None
 right5 = with-end fast_threads forking q5 f5 None lawful5 (goes-on q6 refl refl)
 
 unlocked6 : IsLocked (begun (workload_with g) f6 q6) s0 p0 → ⊥
-unlocked6 locked = none-locked (begun (workload_with g) f6 q6) _ (only-put _ _ (only-put _ _ (only-put _ _ (only-put _ _ (only-put _ _ (only-put _ _ (only-put _ _ (only-put _ _ (only-put _ _ (only-put _ _ only-none)))))))))) refl refl s0 p0 locked
+unlocked6 locked =
+    none-locked (begun (workload_with g) f6 q6) _
+    (only-put _ _ (only-put _ _ (only-put _ _
+    (only-put _ _ (only-put _ _ (only-put _ _ (only-put _ _ (only-put _ _ (only-put _ _ (only-put _ _ only-none)))))))))) refl refl s0 p0 locked
 
 lawful6 : IsLawful fast_threads forking q6 f6
 lawful6 = record {
@@ -149,7 +149,16 @@ lawful6 = record {
   shares_covered = record { covered = one-share; due = refl };
   demand_said = record { step = λ _. record { free = λ no. absurd (cc) } };
   turns_and_steps = record { turn = λ _. refl; closing = λ _. tt };
-  list_locks = record { step = λ _. (record { keeps = record { space = refl; unlocked = unlocked6; locks = refl; cont = refl; thread = refl; target = refl }; back = refl }, refl) };
+  list_locks =
+      record {
+        step = λ _. (
+          record {
+            keeps = record { space = refl; unlocked = unlocked6; locks = refl; cont = refl; thread = refl; target = refl };
+            back = refl;
+          },
+          refl,
+        );
+      };
   list_order = record { run = tt };
 }
 
@@ -157,7 +166,11 @@ right6 : HoldEach fast_threads forking rules q6 f6 None
 right6 = with-end fast_threads forking q6 f6 None lawful6 (goes-on q7 refl refl)
 
 holds7 : HoldsLock (begun (workload_with g) f7 q7) s0 t1 → ⊥
-holds7 holds = holds-none (begun (workload_with g) f7 q7) _ _ t1 (only-put _ _ (only-put _ _ (only-put _ _ (only-put _ _ (only-put _ _ (only-put _ _ (only-put _ _ (only-put _ _ (only-put _ _ (only-put _ _ (only-put _ _ (only-put _ _ only-none)))))))))))) refl refl apart01 s0 holds
+holds7 holds =
+    holds-none (begun (workload_with g) f7 q7) _ _ t1
+    (only-put _ _ (only-put _ _ (only-put _ _
+    (only-put _ _ (only-put _ _ (only-put _ _ (only-put _ _ (only-put _ _ (only-put _ _ (only-put _ _ (only-put _ _ (only-put _ _ only-none)))))))))))) refl
+    refl apart01 s0 holds
 
 lawful7 : IsLawful fast_threads forking q7 f7
 lawful7 = record {
@@ -174,7 +187,24 @@ lawful7 = record {
   shares_covered = record { covered = one-share; due = refl };
   demand_said = record { step = λ _. record { free = λ no. absurd (cc) } };
   turns_and_steps = record { turn = λ _. refl; closing = λ _. tt };
-  list_locks = record { step = λ _. (record { keeps = record { push = refl; used = record { unused = refl; page = refl; cont = λ no. absurd (cc) }; space = refl; hand = (0, omega arith, refl); counts = refl; holds = holds7 }; back = refl }, refl) };
+  list_locks =
+      record {
+        step = λ _. (
+          record {
+            keeps =
+                record {
+                  push = refl;
+                  used = record { unused = refl; page = refl; cont = λ no. absurd (cc) };
+                  space = refl;
+                  hand = (0, omega arith, refl);
+                  counts = refl;
+                  holds = holds7;
+                };
+            back = refl;
+          },
+          refl,
+        );
+      };
   list_order = record { run = tt };
 }
 
@@ -196,7 +226,8 @@ lawful8 = record {
   shares_covered = record { covered = one-share; due = refl };
   demand_said = record { step = λ _. record { free = λ no. absurd (cc) } };
   turns_and_steps = record { turn = λ _. refl; closing = λ _. tt };
-  list_locks = record { step = λ _. (record { keeps = record { space = refl; list = refl; thread = refl; used = refl; cont = λ no. absurd (cc) }; back = refl }, refl) };
+  list_locks =
+      record { step = λ _. (record { keeps = record { space = refl; list = refl; thread = refl; used = refl; cont = λ no. absurd (cc) }; back = refl }, refl) };
   list_order = record { run = tt };
 }
 
@@ -226,7 +257,13 @@ right9 : HoldEach fast_threads forking rules q9 f9 None
 right9 = with-end fast_threads forking q9 f9 None lawful9 (goes-on q10 refl refl)
 
 unlocked10 : IsLocked (begun (workload_with g) f10 q10) s0 p0 → ⊥
-unlocked10 locked = none-locked (begun (workload_with g) f10 q10) _ (only-put _ _ (only-put _ _ (only-put _ _ (only-put _ _ (only-put _ _ (only-put _ _ (only-put _ _ (only-put _ _ (only-put _ _ (only-put _ _ (only-put _ _ (only-put _ _ (only-put _ _ (only-put _ _ (only-put _ _ (only-put _ _ (only-put _ _ (only-put _ _ only-none)))))))))))))))))) refl refl s0 p0 locked
+unlocked10 locked =
+    none-locked (begun (workload_with g) f10 q10) _
+    (only-put _ _ (only-put _ _ (only-put _ _
+    (only-put _ _ (only-put _ _ (only-put _ _
+    (only-put _ _ (only-put _ _ (only-put _ _
+    (only-put _ _ (only-put _ _ (only-put _ _ (only-put _ _ (only-put _ _ (only-put _ _ (only-put _ _ (only-put _ _ (only-put _ _ only-none))))))))))))))))))
+    refl refl s0 p0 locked
 
 lawful10 : IsLawful fast_threads forking q10 f10
 lawful10 = record {
@@ -243,7 +280,16 @@ lawful10 = record {
   shares_covered = record { covered = one-share; due = refl };
   demand_said = record { step = λ _. record { free = λ no. absurd (cc) } };
   turns_and_steps = record { turn = λ _. refl; closing = λ _. tt };
-  list_locks = record { step = λ _. (record { keeps = record { space = refl; unlocked = unlocked10; locks = refl; cont = refl; thread = refl; target = refl }; back = refl }, refl) };
+  list_locks =
+      record {
+        step = λ _. (
+          record {
+            keeps = record { space = refl; unlocked = unlocked10; locks = refl; cont = refl; thread = refl; target = refl };
+            back = refl;
+          },
+          refl,
+        );
+      };
   list_order = record { run = tt };
 }
 
@@ -251,7 +297,14 @@ right10 : HoldEach fast_threads forking rules q10 f10 None
 right10 = with-end fast_threads forking q10 f10 None lawful10 (goes-on q11 refl refl)
 
 holds11 : HoldsLock (begun (workload_with g) f11 q11) s0 t2 → ⊥
-holds11 holds = holds-none (begun (workload_with g) f11 q11) _ _ t2 (only-put _ _ (only-put _ _ (only-put _ _ (only-put _ _ (only-put _ _ (only-put _ _ (only-put _ _ (only-put _ _ (only-put _ _ (only-put _ _ (only-put _ _ (only-put _ _ (only-put _ _ (only-put _ _ (only-put _ _ (only-put _ _ (only-put _ _ (only-put _ _ (only-put _ _ (only-put _ _ only-none)))))))))))))))))))) refl refl apart02 s0 holds
+holds11 holds =
+    holds-none (begun (workload_with g) f11 q11) _ _ t2
+    (only-put _ _ (only-put _ _ (only-put _ _
+    (only-put _ _ (only-put _ _ (only-put _ _
+    (only-put _ _ (only-put _ _ (only-put _ _
+    (only-put _ _ (only-put _ _ (only-put _ _
+    (only-put _ _ (only-put _ _ (only-put _ _ (only-put _ _ (only-put _ _ (only-put _ _ (only-put _ _ (only-put _ _ only-none)))))))))))))))))))) refl refl
+    apart02 s0 holds
 
 lawful11 : IsLawful fast_threads forking q11 f11
 lawful11 = record {
@@ -268,7 +321,24 @@ lawful11 = record {
   shares_covered = record { covered = one-share; due = refl };
   demand_said = record { step = λ _. record { free = λ no. absurd (cc) } };
   turns_and_steps = record { turn = λ _. refl; closing = λ _. tt };
-  list_locks = record { step = λ _. (record { keeps = record { push = refl; used = record { unused = refl; page = refl; cont = λ no. absurd (cc) }; space = refl; hand = (0, omega arith, refl); counts = refl; holds = holds11 }; back = refl }, refl) };
+  list_locks =
+      record {
+        step = λ _. (
+          record {
+            keeps =
+                record {
+                  push = refl;
+                  used = record { unused = refl; page = refl; cont = λ no. absurd (cc) };
+                  space = refl;
+                  hand = (0, omega arith, refl);
+                  counts = refl;
+                  holds = holds11;
+                };
+            back = refl;
+          },
+          refl,
+        );
+      };
   list_order = record { run = tt };
 }
 
@@ -290,7 +360,8 @@ lawful12 = record {
   shares_covered = record { covered = one-share; due = refl };
   demand_said = record { step = λ _. record { free = λ no. absurd (cc) } };
   turns_and_steps = record { turn = λ _. refl; closing = λ _. tt };
-  list_locks = record { step = λ _. (record { keeps = record { space = refl; list = refl; thread = refl; used = refl; cont = λ no. absurd (cc) }; back = refl }, refl) };
+  list_locks =
+      record { step = λ _. (record { keeps = record { space = refl; list = refl; thread = refl; used = refl; cont = λ no. absurd (cc) }; back = refl }, refl) };
   list_order = record { run = tt };
 }
 
@@ -320,7 +391,16 @@ right13 : HoldEach fast_threads forking rules q13 f13 None
 right13 = with-end fast_threads forking q13 f13 None lawful13 (goes-on q14 refl refl)
 
 unlocked14 : IsLocked (begun (workload_with g) f14 q14) s0 p0 → ⊥
-unlocked14 locked = none-locked (begun (workload_with g) f14 q14) _ (only-put _ _ (only-put _ _ (only-put _ _ (only-put _ _ (only-put _ _ (only-put _ _ (only-put _ _ (only-put _ _ (only-put _ _ (only-put _ _ (only-put _ _ (only-put _ _ (only-put _ _ (only-put _ _ (only-put _ _ (only-put _ _ (only-put _ _ (only-put _ _ (only-put _ _ (only-put _ _ (only-put _ _ (only-put _ _ (only-put _ _ (only-put _ _ (only-put _ _ (only-put _ _ only-none)))))))))))))))))))))))))) refl refl s0 p0 locked
+unlocked14 locked =
+    none-locked (begun (workload_with g) f14 q14) _
+    (only-put _ _ (only-put _ _ (only-put _ _
+    (only-put _ _ (only-put _ _ (only-put _ _
+    (only-put _ _ (only-put _ _ (only-put _ _
+    (only-put _ _ (only-put _ _ (only-put _ _
+    (only-put _ _ (only-put _ _ (only-put _ _
+    (only-put _ _ (only-put _ _ (only-put _ _
+    (only-put _ _ (only-put _ _ (only-put _ _ (only-put _ _ (only-put _ _ (only-put _ _ (only-put _ _ (only-put _ _ only-none)))))))))))))))))))))))))) refl
+    refl s0 p0 locked
 
 lawful14 : IsLawful fast_threads forking q14 f14
 lawful14 = record {
@@ -337,7 +417,33 @@ lawful14 = record {
   shares_covered = record { covered = one-share; due = refl };
   demand_said = record { step = λ _. record { free = λ _. inl refl } };
   turns_and_steps = record { turn = λ _. refl; closing = λ _. tt };
-  list_locks = record { step = λ _. (record { keeps = record { space = refl; unlocked = unlocked14; locks = refl; cont = refl; thread = refl; target = (refl, record { steps = 0; within = omega arith; list = refl; opens = record { ready = refl; unlocked = unlocked14 }; first = λ k no. absurd (omega arith) }) }; back = refl }, refl) };
+  list_locks =
+      record {
+        step = λ _. (
+          record {
+            keeps =
+                record {
+                  space = refl;
+                  unlocked = unlocked14;
+                  locks = refl;
+                  cont = refl;
+                  thread = refl;
+                  target = (
+                    refl,
+                    record {
+                      steps = 0;
+                      within = omega arith;
+                      list = refl;
+                      opens = record { ready = refl; unlocked = unlocked14 };
+                      first = λ k no. absurd (omega arith);
+                    },
+                  );
+                };
+            back = refl;
+          },
+          refl,
+        );
+      };
   list_order = record { run = tt };
 }
 
@@ -345,7 +451,16 @@ right14 : HoldEach fast_threads forking rules q14 f14 None
 right14 = with-end fast_threads forking q14 f14 None lawful14 (goes-on q15 refl refl)
 
 all-right : AreRight fast_threads forking (r0 g) forking_run
-all-right = (right0 g, (right1 g, (right2 g, (right3 g, (right4 g, (right5, (right6, (right7, (right8, (right9, (right10, (right11, (right12, (right13, (right14, tt)))))))))))))))
+all-right = (
+  right0 g,
+  (
+    right1 g,
+    (
+      right2 g,
+      (right3 g, (right4 g, (right5, (right6, (right7, (right8, (right9, (right10, (right11, (right12, (right13, (right14, tt)))))))))))),
+    ),
+  ),
+)
 
 pub breaks-ListOrder : FirstBreak fast_threads forking older_taken (stops_at 15) 15 ListOrder
 breaks-ListOrder = break-behind fast_threads forking forking_run (at 15 (Run s0 t1 ∷ [])) (stops_at 15) ListOrder all-right
@@ -377,7 +492,15 @@ breaks-ListOrder = break-behind fast_threads forking forking_run (at 15 (Run s0 
                               (
                                 record { turn = λ _. refl; closing = λ _. tt },
                                 (
-                                  record { step = λ _. (record { keeps = record { pop = refl; used = record { unused = refl; page = refl; cont = λ no. absurd (cc) }; space = refl }; back = refl }, refl) },
+                                  record {
+                                    step = λ _. (
+                                      record {
+                                        keeps = record { pop = refl; used = record { unused = refl; page = refl; cont = λ no. absurd (cc) }; space = refl };
+                                        back = refl;
+                                      },
+                                      refl,
+                                    );
+                                  },
                                   tt,
                                 ),
                               ),

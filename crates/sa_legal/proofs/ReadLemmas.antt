@@ -57,7 +57,8 @@ said-more says past x d old new was now =
     now ∙ ap (unwrap_or (says x)) was ∙ sym (or-value (says x) (last_said says past) d) ∙ ap (λ o. unwrap_or o d) (sym (last-more says past x))
 
 -- a list with a value at one place, as the words have it
-pub set-said : {A : Type 0} (xs : List A) (i j : ℕ) (v d : A) → j < length xs → get_or (slice_set xs i v) j d ≡ unwrap_or (if i == j then Some v else None) (get_or xs j d)
+pub set-said : {A : Type 0} (xs : List A) (i j : ℕ) (v d : A) → j < length xs
+    → get_or (slice_set xs i v) j d ≡ unwrap_or (if i == j then Some v else None) (get_or xs j d)
 set-said xs i j v d within = elim (cases_eq i j) [
   | inl same ↦ at i same within
   | inr apart ↦ get_or-set_other xs i j v d (λ e. apart (sym e)) ∙ sym (ap (λ b. unwrap_or (if b then Some v else None) (get_or xs j d)) (not-same i j apart))
@@ -129,7 +130,8 @@ owners-length owners q (Move old new) = length-set owners q.0 new
 owners-length owners q x = refl
 
 -- the fetch of a space's upcall page
-no-fetch : (w : WorkloadView) (r : Readings) (s : ℕ) (of : SpaceNo) (t : Option ThreadNo) (a : ActNo) (o : Option ℕ) → is_fetch_of s (blocking_for w r of t a o).kind ≡ false
+no-fetch : (w : WorkloadView) (r : Readings) (s : ℕ) (of : SpaceNo) (t : Option ThreadNo) (a : ActNo) (o : Option ℕ)
+    → is_fetch_of s (blocking_for w r of t a o).kind ≡ false
 no-fetch w r s of t a None = refl
 no-fetch w r s of t a (Some n) = refl
 
@@ -147,7 +149,8 @@ or-said false false = refl
 pub filter-any : (f g : Io → Bool) → ((io : Io) → g io ≡ false → f io ≡ false) → (ios : List Io) → list_any f (filter g ios) ≡ list_any f ios
 filter-any f g gone [] = refl
 filter-any f g gone (io ∷ ios) = one (filter-any f g gone ios) (g io) refl where
-  one : list_any f (filter g ios) ≡ list_any f ios → (b : Bool) → g io ≡ b → list_any f (if b then io ∷ filter g ios else filter g ios) ≡ (f io || list_any f ios)
+  one : list_any f (filter g ios) ≡ list_any f ios → (b : Bool) → g io ≡ b
+      → list_any f (if b then io ∷ filter g ios else filter g ios) ≡ (f io || list_any f ios)
   one rest true is = ap (λ c. f io || c) rest
   one rest false is = rest ∙ sym (ap (λ c. c || list_any f ios) (gone io is))
 
@@ -202,7 +205,8 @@ raised-more past x p e apart o = record {
   line = o.line;
   raised = o.raised;
   none = λ k y above at below. elim (slice_get-push_cases past k x y at) [
-    | inl new ↦ (let raised = o.raised in let same = ap (λ (z : Item). z.event) new.1 in λ proc. apart (omega arith) (ap (λ (z : Item). z.proc) (sym new.1) ∙ proc))
+    | inl new ↦ (let raised = o.raised in let same = ap (λ (z : Item). z.event) new.1 in
+        λ proc. apart (omega arith) (ap (λ (z : Item). z.proc) (sym new.1) ∙ proc))
     | inr old ↦ o.none k y above old below
   ];
 }
@@ -235,7 +239,8 @@ clear-cases (x ∷ xs) (suc i) zero v is = ((λ e. cc), is)
 clear-cases (x ∷ xs) (suc i) (suc j) v is = let h = clear-cases xs i j v is in ((λ e. h.0 (omega arith)), h.1)
 
 -- what stands untold is read as untold
-pub with-keeps : (xs : List (List Note)) (i j : ℕ) (y z : Note) → Contains (get_or xs j []) z → Contains (get_or (slice_set xs i (get_or xs i [] ++ y ∷ [])) j []) z
+pub with-keeps : (xs : List (List Note)) (i j : ℕ) (y z : Note) → Contains (get_or xs j []) z
+    → Contains (get_or (slice_set xs i (get_or xs i [] ++ y ∷ [])) j []) z
 with-keeps [] i j y z has = has
 with-keeps (x ∷ xs) zero zero y z has = Contains-append_left x (y ∷ []) z has
 with-keeps (x ∷ xs) zero (suc j) y z has = has
@@ -252,7 +257,8 @@ filter-keeps test [] z passes has = has
 filter-keeps test (m ∷ ms) z passes has = elim (Contains-append_cases (m ∷ []) ms z has) [
   | inl first ↦
       let same : m ≡ z = only m z first in
-      subst (λ k. Contains (filter test (k ∷ ms)) z) (sym same) (subst (λ b. Contains (if b then z ∷ filter test ms else filter test ms) z) (sym passes) (0, omega arith, refl))
+      subst (λ k. Contains (filter test (k ∷ ms)) z) (sym same)
+      (subst (λ b. Contains (if b then z ∷ filter test ms else filter test ms) z) (sym passes) (0, omega arith, refl))
   | inr later ↦ one (test m) (filter-keeps test ms z passes later)
 ] where
   only : (m z : Note) → Contains (m ∷ []) z → m ≡ z
@@ -263,7 +269,8 @@ filter-keeps test (m ∷ ms) z passes has = elim (Contains-append_cases (m ∷ [
   one true rest = Contains-append_right (m ∷ []) (filter test ms) z rest
   one false rest = rest
 
-without-keeps : (test : Note → Bool) (xs : List (List Note)) (j : ℕ) (z : Note) → test z ≡ true → Contains (get_or xs j []) z → Contains (get_or (map (filter test) xs) j []) z
+without-keeps : (test : Note → Bool) (xs : List (List Note)) (j : ℕ) (z : Note) → test z ≡ true → Contains (get_or xs j []) z
+    → Contains (get_or (map (filter test) xs) j []) z
 without-keeps test [] j z passes has = has
 without-keeps test (x ∷ xs) zero z passes has = filter-keeps test x z passes has
 without-keeps test (x ∷ xs) (suc j) z passes has = without-keeps test xs j z passes has
@@ -274,7 +281,8 @@ other-note n m apart = one (same_note m n) refl where
   one true is = absurd (apart (same_note-same m n is))
   one false is = refl
 
-pub untold-stays : (r : Readings) (x : Record) (s : SpaceNo) (n : Note) → x ≢ Told n → Contains (untold_of r s) n → Contains (get_or (untold_after r x) s.0 []) n
+pub untold-stays : (r : Readings) (x : Record) (s : SpaceNo) (n : Note) → x ≢ Told n → Contains (untold_of r s) n
+    → Contains (get_or (untold_after r x) s.0 []) n
 untold-stays r (Stop of t a) s n other has = with-keeps r.untold of.0 s.0 (note.Preempted a) n has
 untold-stays r (Block of t a io) s n other has = with-keeps r.untold of.0 s.0 (note.Blocked a) n has
 untold-stays r (Unblock of t a) s n other has = with-keeps r.untold of.0 s.0 (note.Unblocked a) n has

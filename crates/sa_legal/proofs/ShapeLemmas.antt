@@ -25,7 +25,7 @@ use Rattle.sa_laws.specs.Turns.{AreRaising, IsClosing, AreTold, IsFetchOrNothing
 use Rattle.sa_laws.specs.Locks.{KeepsLocks, KeepsLocksIf, KeepsLocksIn, StandsAlone}
 use Rattle.sa_laws.specs.Upcalls.{RecordLaw, IsUntoldTo, RunsOn, IsTaken}
 
--- told records stand after an up or another told record
+-- told records come after an up or another told record
 abbrev pub is_telling : Option Record → Bool
 is_telling (Some (Up s a)) = true
 is_telling (Some (Told n)) = true
@@ -35,21 +35,32 @@ is_telling _ = false
 abbrev pub OnLife : WorkloadView → ProcNo → Readings → Record → Type 0
 OnLife w p r x = (life : Life) × (life_on r p ≡ Some life) × KeepsLocks w r p life x
 
--- the records that change a life, and what each needs
+-- the records that change a life, and what each needs, whatever the rules of list locks are
+abbrev pub Moves : WorkloadView → ProcNo → RecordLaw
+Moves w p r (Stop s t a) rest = RunsOn r p s a
+Moves w p r (Block s t a io) rest = RunsOn r p s a
+Moves w p r (Unblock s t a) rest = (list_any (is_io_of a) r.under_way ≡ true) × (space_of_life r (Some a) ≡ Some s)
+Moves w p r (Up s a) rest = (running_of r p ≡ None) × (life_of r a ≡ None)
+Moves w p r (Told n) rest = IsUntoldTo r (space_of_life r r.upped) n × (is_telling r.last ≡ true)
+Moves w p r (GiveBack a) rest = IsTaken r a
+Moves w p r _ rest = Unit {0}
+
+-- the same with what FastThreads' rules of list locks say
 abbrev pub MovesLives : WorkloadView → ProcNo → RecordLaw
-MovesLives w p r (Stop s t a) rest = RunsOn r p s a
-MovesLives w p r (Block s t a io) rest = RunsOn r p s a
-MovesLives w p r (Unblock s t a) rest = (list_any (is_io_of a) r.under_way ≡ true) × (space_of_life r (Some a) ≡ Some s)
-MovesLives w p r (Up s a) rest = (running_of r p ≡ None) × (life_of r a ≡ None)
-MovesLives w p r (Told n) rest = IsUntoldTo r (space_of_life r r.upped) n × (is_telling r.last ≡ true)
-MovesLives w p r (GiveBack a) rest = IsTaken r a
 MovesLives w p r (Run s t) rest = OnLife w p r (Run s t)
 MovesLives w p r (Ready s t) rest = OnLife w p r (Ready s t)
 MovesLives w p r (Take s l t) rest = OnLife w p r (Take s l t)
 MovesLives w p r (Free s l t) rest = OnLife w p r (Free s l t)
-MovesLives w p r _ rest = Unit {0}
+MovesLives w p r x rest = Moves w p r x rest
 
--- which records stand first, and which after another one
+pub lives-move : (w : WorkloadView) (p : ProcNo) (r : Readings) (x : Record) (rest : List Record) → MovesLives w p r x rest → Moves w p r x rest
+lives-move w p r (Run s t) rest law = tt
+lives-move w p r (Ready s t) rest law = tt
+lives-move w p r (Take s l t) rest law = tt
+lives-move w p r (Free s l t) rest law = tt
+lives-move w p r x rest law = law
+
+-- which records come first, and which after another one
 abbrev pub fits : Option Record → Record → Bool
 fits None (Told n) = false
 fits None x = true
@@ -81,7 +92,7 @@ FirstOf w p r (x ∷ xs) = FirstLaw w p r x
 abbrev pub IsShaped : WorkloadView → ProcNo → Readings → List Record → Type 0
 IsShaped w p r xs = AllFit None xs × FirstOf w p r xs
 
--- wants, aims and lines stand anywhere
+-- wants, aims and lines may be anywhere
 pub fits-want : (last : Option Record) (s : SpaceNo) (n : ℕ) → fits last (Want s n) ≡ true
 fits-want None s n = refl
 fits-want (Some y) s n = refl
@@ -185,14 +196,15 @@ given-fit last [] = tt
 given-fit None (a ∷ acts) = (refl, given-fit (Some (GiveBack a)) acts)
 given-fit (Some y) (a ∷ acts) = (refl, given-fit (Some (GiveBack a)) acts)
 
--- the records of the operations on ready lists stand alone
+-- the records of the operations on ready lists are alone
 alone : (w : WorkloadView) (p : ProcNo) (r : Readings) (x : Record) (xs : List Record) → fits None x ≡ true → is_of_locks x ≡ true → FirstLaw w p r x
     → StandsAlone (list_any is_of_locks (x ∷ xs)) xs → IsShaped w p r (x ∷ xs)
 alone w p r x xs fit of first stands =
     let any : list_any is_of_locks (x ∷ xs) ≡ true = ap (λ b. b || list_any is_of_locks xs) of in
     ((fit, none-fit x xs (subst (λ b. StandsAlone b xs) any stands)), first)
 
-kept : (w : WorkloadView) (r : Readings) (p : ProcNo) (life : Life) (x : Record) (o : Option Life) → o ≡ Some life → KeepsLocksIf true w r p o x → KeepsLocks w r p life x
+kept : (w : WorkloadView) (r : Readings) (p : ProcNo) (life : Life) (x : Record) (o : Option Life) → o ≡ Some life → KeepsLocksIf true w r p o x
+    → KeepsLocks w r p life x
 kept w r p life x o on keeps = let step : KeepsLocksIf true w r p (Some life) x = subst (λ o'. KeepsLocksIf true w r p o' x) on keeps in step.keeps
 
 step-by : (w : WorkloadView) (r : Readings) (p : ProcNo) (a : ActNo) (life : Life) (x : Record) (xs : List Record) → life_on r p ≡ Some life
@@ -221,19 +233,22 @@ step-in w r p (Some a) (Some life) [] on is keeps = absurd is
 step-shaped : (w : WorkloadView) (r : Readings) (p : ProcNo) (xs : List Record) → IsStep w r p xs → KeepsLocksIn w r p xs → IsShaped w p r xs
 step-shaped w r p xs is keeps = step-in w r p (running_of r p) (life_on r p) xs refl is keeps
 
-tick-shaped : (w : WorkloadView) (r : Readings) (p : ProcNo) (owner : Option SpaceNo) (xs : List Record) → IsTickOrStep IsStep owner w r p xs → KeepsLocksIn w r p xs
+tick-shaped : (w : WorkloadView) (r : Readings) (p : ProcNo) (owner : Option SpaceNo) (xs : List Record) → IsTickOrStep IsStep owner w r p xs
+    → KeepsLocksIn w r p xs
     → IsShaped w p r xs
 tick-shaped w r p None xs is keeps = subst (λ zs. IsShaped w p r zs) (sym is) ((refl, tt), tt)
 tick-shaped w r p (Some s) xs is keeps = step-shaped w r p xs is keeps
 
-due-shaped : (w : WorkloadView) (r : Readings) (p : ProcNo) (e : ℕ) (io : Option Io) (xs : List Record) → due_of e r.under_way ≡ io → IsTurnWhileDue IsStep io w r p xs
+due-shaped : (w : WorkloadView) (r : Readings) (p : ProcNo) (e : ℕ) (io : Option Io) (xs : List Record) → due_of e r.under_way ≡ io
+    → IsTurnWhileDue IsStep io w r p xs
     → KeepsLocksIn w r p xs → IsShaped w p r xs
 due-shaped w r p e None xs due is keeps = tick-shaped w r p (owner_of r p) xs is keeps
 due-shaped w r p e (Some io) xs due (inl over) keeps =
     over-shaped w p r io.kind xs (λ a of. due-any (is_io_of a) e r.under_way io due of) over
 due-shaped w r p e (Some io) xs due (inr local) keeps = step-shaped w r p xs local.1 keeps
 
-pub turn-shaped : (w : WorkloadView) (r : Readings) (p : ProcNo) (e : ℕ) (raised : Bool) (xs : List Record) → IsTurn IsStep raised e w r p xs → KeepsLocksIn w r p xs → IsShaped w p r xs
+pub turn-shaped : (w : WorkloadView) (r : Readings) (p : ProcNo) (e : ℕ) (raised : Bool) (xs : List Record) → IsTurn IsStep raised e w r p xs
+    → KeepsLocksIn w r p xs → IsShaped w p r xs
 turn-shaped w r p e true xs is keeps = interrupt-shaped w p r xs is
 turn-shaped w r p e false xs is keeps = due-shaped w r p e (due_of e r.under_way) xs refl is keeps
 
@@ -251,8 +266,12 @@ all-append : (last : Option Record) (xs ys : List Record) → AllFit last xs →
 all-append last [] ys left right = right last
 all-append last (x ∷ xs) ys left right = (left.0, all-append (Some x) xs ys left.1 right)
 
-pub whole-shaped : (w : WorkloadView) (p : ProcNo) (r : Readings) (xs : List Record) → IsShaped w p r (own_part xs) → IsClosing (closing_part xs) → IsShaped w p r xs
+pub whole-shaped : (w : WorkloadView) (p : ProcNo) (r : Readings) (xs : List Record) → IsShaped w p r (own_part xs) → IsClosing (closing_part xs)
+    → IsShaped w p r xs
 whole-shaped w p r [] own closing = (tt, tt)
 whole-shaped w p r (x ∷ xs) own closing =
-    let is : own_part (x ∷ xs) ++ closing_part (x ∷ xs) ≡ x ∷ xs = ap (λ ys. x ∷ ys) (parts-of is_own xs) in
-    (subst (λ zs. AllFit None zs) is (all-append None (own_part (x ∷ xs)) (closing_part (x ∷ xs)) own.0 (λ before. closing-fit before (closing_part (x ∷ xs)) closing)), own.1)
+    let is : own_part (x ∷ xs) ++ closing_part (x ∷ xs) ≡ x ∷ xs = ap (λ ys. x ∷ ys) (parts-of is_own xs) in (
+      subst (λ zs. AllFit None zs) is
+          (all-append None (own_part (x ∷ xs)) (closing_part (x ∷ xs)) own.0 (λ before. closing-fit before (closing_part (x ∷ xs)) closing)),
+      own.1,
+    )

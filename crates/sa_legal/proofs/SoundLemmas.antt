@@ -1,9 +1,8 @@
 -- What follows from the laws of a legal run of FastThreads at each moment of it.
-use Rattle.std.proofs.Common.{◌≡◌, ◌≢◌, ℕ, zero, suc, ◌⊎◌, inl, inr, refl, sym, ◌∙◌, ap, subst, arith, Some, None, List, [], ◌∷◌, ◌++◌, length, take, true}
+use Rattle.std.proofs.Common.{◌≡◌, ◌≢◌, ℕ, zero, suc, ◌⊎◌, inl, inr, refl, sym, ◌∙◌, ap, subst, arith, Some, None, List, [], ◌∷◌, ◌++◌, take, true}
 use Rattle.std.specs.Prelude.{Contains, Option, ◌==◌, if◌then◌else◌, is_some, unwrap_or}
 use Rattle.std.proofs.lemmas.Bool.{cases_eq}
 use Rattle.std.proofs.lemmas.Bool.Decides.{nat_tests}
-use Rattle.std.proofs.lemmas.List.{length-replicate}
 use Rattle.std.proofs.lemmas.Option.{none-some, same_Some}
 use Rattle.sa_lemmas.specs.Function.{put}
 use Rattle.sa_lemmas.proofs.FunctionUpdates.{put-at, put-other}
@@ -37,10 +36,10 @@ use Rattle.sa_legal.proofs.EventLemmas.{along, legal-lawful, items-events}
 use Rattle.sa_legal.proofs.MomentsRead.{OnMachine, on-machine, Any}
 use Rattle.sa_legal.proofs.TimelyLemmas.{first-below}
 use Rattle.sa_legal.proofs.StandingLemmas.{Standing, Nowhere, Runs, Blocked, Stopped, Returned, Taken, Agrees, space_of, space_in, took, Stood, standing_after, agrees-step, same-proc}
-use Rattle.sa_legal.proofs.ShapeLemmas.{MovesLives}
+use Rattle.sa_legal.proofs.ShapeLemmas.{MovesLives, lives-move}
 use Rattle.sa_legal.proofs.MovesLemmas.{moves-lives, stood, agrees-start, agrees-begun, agrees-ended, nowhere_first}
 use Rattle.sa_legal.proofs.HolderLemmas.{UppedRuns, AreKept, is_taken, upped-step, kept-step, kept-ended, no-lock}
-use Rattle.sa_legal.proofs.ShownLemmas.{Shows, shows-step}
+use Rattle.sa_legal.proofs.ShownLemmas.{Shows, shows-step, shows-start, shows-begun, shows-ended}
 use Rattle.sa_legal.proofs.WhoseLemmas.{SomeNamed, named-step, named-ended}
 
 -- where a number stands, in plain words
@@ -58,10 +57,12 @@ alike a b same = grind (arith, nat_tests)
 plain-put : (st : ℕ → Standing) (a b : ActNo) (v : Standing) (x : Stand) → plain v ≡ x → plain (put st b.0 v a.0) ≡ unwrap_or (stand_if a b x) (plain (st a.0))
 plain-put st a b v x is = elim (cases_eq a.0 b.0) [
   | inl same ↦ ap plain (put-at st b.0 a.0 v same) ∙ is ∙ sym (ap (λ c. unwrap_or (if c then Some x else None) (plain (st a.0))) (alike b.0 a.0 (sym same)))
-  | inr apart ↦ ap plain (put-other st b.0 a.0 v apart) ∙ sym (ap (λ c. unwrap_or (if c then Some x else None) (plain (st a.0))) (differ b.0 a.0 (λ e. apart (sym e))))
+  | inr apart ↦ ap plain (put-other st b.0 a.0 v apart)
+      ∙ sym (ap (λ c. unwrap_or (if c then Some x else None) (plain (st a.0))) (differ b.0 a.0 (λ e. apart (sym e))))
 ]
 
-plain-after : (p : ProcNo) (st : ℕ → Standing) (x : Record) (a : ActNo) → Stood p st x → plain (standing_after p st x a.0) ≡ unwrap_or (stand_in a p x) (plain (st a.0))
+plain-after : (p : ProcNo) (st : ℕ → Standing) (x : Record) (a : ActNo) → Stood p st x
+    → plain (standing_after p st x a.0) ≡ unwrap_or (stand_in a p x) (plain (st a.0))
 plain-after p st (Stop s t b) a was = plain-put st a b (Stopped s) life.Stopped refl
 plain-after p st (Block s t b io) a was = plain-put st a b (Blocked s) life.InBlock refl
 plain-after p st (Unblock s t b) a was = plain-put st a b (Returned s) life.Returned refl
@@ -89,23 +90,28 @@ pub record IsSoundIn (w : WorkloadView) (p : ProcNo) (past : List Item) (r : Rea
 abbrev Moves : WorkloadView → ProcNo → RecordLaw
 Moves w p r x rest = MovesLives w p r x rest × OnMachine w p r x rest
 
-both : (w : WorkloadView) (e : ℕ) (p : ProcNo) (r : Readings) (xs : List Record) → EachRecord (MovesLives w p) w e p r xs → EachRecord (OnMachine w p) w e p r xs → EachRecord (Moves w p) w e p r xs
+both : (w : WorkloadView) (e : ℕ) (p : ProcNo) (r : Readings) (xs : List Record) → EachRecord (MovesLives w p) w e p r xs
+    → EachRecord (OnMachine w p) w e p r xs → EachRecord (Moves w p) w e p r xs
 both w e p r [] left right = tt
 both w e p r (x ∷ xs) left right = ((left.0, right.0), both w e p (after_record w e p r x) xs left.1 right.1)
 
-sound-step : (w : WorkloadView) (e : ℕ) (p : ProcNo) (past : List Item) (r : Readings) (x : Record) (rest : List Record) → IsSoundIn w p past r → Moves w p r x rest
+sound-step : (w : WorkloadView) (e : ℕ) (p : ProcNo) (past : List Item) (r : Readings) (x : Record) (rest : List Record) → IsSoundIn w p past r
+    → Moves w p r x rest
     → IsSoundIn w p (past ++ item e p x ∷ []) (after_record w e p r x)
 sound-step w e p past r x rest inv law =
     let s = inv.sound in
-    let was = stood w p s.st r x rest s.agrees law.0 in
+    let moves = lives-move w p r x rest law.0 in
+    let was = stood w p s.st r x rest s.agrees moves in
     record {
       sound = record {
         st = standing_after p s.st x;
         agrees = agrees-step w e p s.st r x s.agrees was;
-        shows = shows-step w e p s.st r x rest s.shows was law.0 law.1;
+        shows = shows-step w e p s.st r x rest s.shows was moves law.1;
         kept = kept-step w p s.st r x rest s.agrees was law.0 inv.runs s.kept;
         named = named-step w p s.st r x rest s.agrees was law.0 inv.runs s.named;
-        told = λ a. said-more (stand_said a) past (item e p x) life.Unused (plain (s.st a.0)) (plain (standing_after p s.st x a.0)) (s.told a) (plain-after p s.st x a was);
+        told =
+            λ a. said-more (stand_said a) past (item e p x) life.Unused (plain (s.st a.0)) (plain (standing_after p s.st x a.0)) (s.told a)
+            (plain-after p s.st x a was);
       };
       runs = upped-step w e p s.st r x rest was law.0 inv.runs;
     }
@@ -117,14 +123,7 @@ sound-kept test w = record {
     sound = record {
       st = s.st;
       agrees = agrees-begun w s.st e r s.agrees;
-      shows = record {
-        running_len = s.shows.running_len;
-        untold_len = s.shows.untold_len;
-        running = s.shows.running;
-        blocked = s.shows.blocked;
-        stopped = s.shows.stopped;
-        returned = s.shows.returned;
-      };
+      shows = shows-begun w s.st e r s.shows;
       kept = s.kept;
       named = s.named;
       told = s.told;
@@ -134,14 +133,7 @@ sound-kept test w = record {
   ends = λ past first e r inv. let s = inv.sound in record {
     st = s.st;
     agrees = agrees-ended test w s.st first e r s.agrees;
-    shows = record {
-      running_len = s.shows.running_len;
-      untold_len = s.shows.untold_len;
-      running = s.shows.running;
-      blocked = s.shows.blocked;
-      stopped = s.shows.stopped;
-      returned = s.shows.returned;
-    };
+    shows = shows-ended test w s.st first e r s.shows;
     kept = kept-ended test w s.st first e r s.kept;
     named = named-ended test w first e r s.named;
     told = s.told;
@@ -152,35 +144,32 @@ sound-start : (w : WorkloadView) → IsSound w [] (opening_readings w)
 sound-start w = record {
   st = nowhere_first;
   agrees = agrees-start w;
-  shows = record {
-    running_len = length-replicate w.processors None;
-    untold_len = length-replicate (length w.spaces) [];
-    running = λ s p a is. absurd (cc);
-    blocked = λ s a is. absurd (cc);
-    stopped = λ s a within is. absurd (cc);
-    returned = λ s a within is. absurd (cc);
-  };
+  shows = shows-start w;
   kept = λ n life is. absurd (none-some life is);
   named = ((λ s l. 0), λ n life is. absurd (none-some life is));
   told = λ a. refl;
 }
 
-along-take : (test : Test) (w : WorkloadView) (L : ProcNo → RecordLaw) (r : Readings) (events : List Event) (n : ℕ) → Along test w L r events → Along test w L r (take n events)
+along-take : (test : Test) (w : WorkloadView) (L : ProcNo → RecordLaw) (r : Readings) (events : List Event) (n : ℕ) → Along test w L r events
+    → Along test w L r (take n events)
 along-take test w L r [] zero law = tt
 along-take test w L r [] (suc n) law = tt
 along-take test w L r (e ∷ es) zero law = tt
 along-take test w L r (e ∷ es) (suc n) law = (law.0, along-take test w L (after_event test w r e) es n law.1)
 
-sound-along : (w : WorkloadView) (items : List Item) → IsLegal fast_threads w items → Along fast_threads.inside w (Moves w) (opening_readings w) (events_of items)
+sound-along : (w : WorkloadView) (items : List Item) → IsLegal fast_threads w items
+    → Along fast_threads.inside w (Moves w) (opening_readings w) (events_of items)
 sound-along w items legal =
     let gives : (r : Readings) (e : Event) → IsLawful fast_threads w r e → EachRecord (Moves w e.proc) w e.number e.proc (begun w e r) e.records =
-    λ r e law. both w e.number e.proc (begun w e r) e.records (moves-lives w r e law) (on-machine w e.proc e.number (begun w e r) e.records law.numbering.proc) in
+    λ r e law. both w e.number e.proc (begun w e r) e.records (moves-lives w r e law)
+    (on-machine w e.proc e.number (begun w e r) e.records law.numbering.proc) in
     along fast_threads w (Moves w) gives (opening_readings w) (events_of items) (legal-lawful fast_threads w items legal)
 
 sound-walk : (w : WorkloadView) (events : List Event) → Along fast_threads.inside w (Moves w) (opening_readings w) events
     → IsSound w (items_of events) (after_events fast_threads.inside w (opening_readings w) events)
 sound-walk w events law =
-    (walk fast_threads.inside w (Moves w) (IsSound w) (λ e p. IsSoundIn w p) Any (sound-kept fast_threads.inside w) [] (opening_readings w) events (sound-start w) law).0
+    (walk fast_threads.inside w (Moves w) (IsSound w) (λ e p. IsSoundIn w p) Any (sound-kept fast_threads.inside w) [] (opening_readings w) events
+    (sound-start w) law).0
 
 sound-before : (w : WorkloadView) (items : List Item) → IsLegal fast_threads w items → (n : ℕ)
     → IsSound w (items_of (take n (events_of items))) (before fast_threads w (events_of items) n)
@@ -195,7 +184,8 @@ run-apart w past r sound p q a one other =
     proc-by_number p q (same-proc here.0 there.0 p q (sym here.1 ∙ there.1))
 
 -- each locked list is one life's, which stands somewhere
-locker : (w : WorkloadView) (past : List Item) (r : Readings) (s : SpaceNo) (l : ProcNo) (sound : IsSound w past r) (locked : IsLocked r s l) → sound.named.0 s.0 l.0 ≡ locked.act.0
+locker : (w : WorkloadView) (past : List Item) (r : Readings) (s : SpaceNo) (l : ProcNo) (sound : IsSound w past r) (locked : IsLocked r s l)
+    → sound.named.0 s.0 l.0 ≡ locked.act.0
 locker w past r s l sound locked =
     let who = sound.named.0 in
     ap (λ (x : SpaceNo). who x.0 l.0) (sym locked.has.space)
@@ -224,10 +214,12 @@ pub lives-run-apart : (w : WorkloadView) (items : List Item) → IsLegal fast_th
 lives-run-apart w items legal n = run-apart w (items_of (take n (events_of items))) (before fast_threads w (events_of items) n) (sound-before w items legal n)
 
 pub lists-are-locked-once : (w : WorkloadView) (items : List Item) → IsLegal fast_threads w items → AtEachMoment AreLockedOnce w items
-lists-are-locked-once w items legal n = locked-once w (items_of (take n (events_of items))) (before fast_threads w (events_of items) n) (sound-before w items legal n)
+lists-are-locked-once w items legal n =
+    locked-once w (items_of (take n (events_of items))) (before fast_threads w (events_of items) n) (sound-before w items legal n)
 
 pub lockers-stand-somewhere : (w : WorkloadView) (items : List Item) → IsLegal fast_threads w items → AtEachMoment (LockersStand w) w items
-lockers-stand-somewhere w items legal n = lockers-stand w (items_of (take n (events_of items))) (before fast_threads w (events_of items) n) (sound-before w items legal n)
+lockers-stand-somewhere w items legal n =
+    lockers-stand w (items_of (take n (events_of items))) (before fast_threads w (events_of items) n) (sound-before w items legal n)
 
 -- the shares are the only ones
 pub shares-are-the-ones : (w : WorkloadView) (event : ℕ) (r : Readings) → IsWorkload w → SharesAreTheOnes w event r
@@ -283,8 +275,11 @@ blocked-plain (Taken s) is = absurd (cc)
 lives-read : (w : WorkloadView) (past : List Item) (r : Readings) → IsSound w past r → LivesAreRead past r
 lives-read w past r sound = record {
   used = λ a.
-      let same : is_some (life_of r a) ≡ is_some (space_in (sound.st a.0)) = sym (some-space (life_of r a)) ∙ ap is_some (sound.agrees.lives a) in
-      ((λ is none. used-plain (sound.st a.0) (sym same ∙ is) (sound.told a ∙ none)), λ other. same ∙ plain-used (sound.st a.0) (λ none. other (sym (sound.told a) ∙ none)));
+      let same : is_some (life_of r a) ≡ is_some (space_in (sound.st a.0)) = sym (some-space (life_of r a)) ∙ ap is_some (sound.agrees.lives a) in (
+        (λ is none. used-plain (sound.st a.0) (sym same ∙ is) (sound.told a ∙ none)),
+        λ other. same
+            ∙ plain-used (sound.st a.0) (λ none. other (sym (sound.told a) ∙ none)),
+      );
   running = λ p a. (
     (λ is. sym (sound.told a) ∙ ap plain (sound.agrees.running p a is).1),
     λ is. let there = runs-plain (sound.st a.0) p (sound.told a ∙ is) in sound.shows.running there.0 p a there.1,
@@ -296,7 +291,8 @@ lives-read w past r sound = record {
   taken = λ s a has. sym (sound.told a) ∙ ap plain (sound.agrees.taken s a has);
 }
 
-pub lives-are-read : (w : WorkloadView) (items : List Item) → IsLegal fast_threads w items → LivesAreRead items (readings fast_threads.inside w (events_of items))
+pub lives-are-read : (w : WorkloadView) (items : List Item) → IsLegal fast_threads w items
+    → LivesAreRead items (readings fast_threads.inside w (events_of items))
 lives-are-read w items legal =
     let sound = sound-walk w (events_of items) (sound-along w items legal) in
     subst (λ (ys : List Item). LivesAreRead ys (readings fast_threads.inside w (events_of items))) (items-events items)

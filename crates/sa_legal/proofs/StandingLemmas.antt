@@ -53,7 +53,7 @@ took (Stopped s) = Taken s
 took (Returned s) = Taken s
 took x = x
 
--- .. and where it goes at a record
+-- where an activation number goes at a record
 abbrev pub standing_after : ProcNo → (ℕ → Standing) → Record → ℕ → Standing
 standing_after p st (Stop s t a) = put st a.0 (Stopped s)
 standing_after p st (Block s t a io) = put st a.0 (Blocked s)
@@ -120,7 +120,8 @@ keeps st a b v x y was is apart = elim (cases_eq b a) [
 ]
 
 -- a number of another kind stays where it stands
-pub stays : (p : ProcNo) (st : ℕ → Standing) (x : Record) (b : ℕ) (y : Standing) → Stood p st x → st b ≡ y → kind y ≢ kind_before x → standing_after p st x b ≡ y
+pub stays : (p : ProcNo) (st : ℕ → Standing) (x : Record) (b : ℕ) (y : Standing) → Stood p st x → st b ≡ y → kind y ≢ kind_before x
+    → standing_after p st x b ≡ y
 stays p st (Stop s t a) b y was is apart = keeps st a.0 b _ _ y was is apart
 stays p st (Block s t a io) b y was is apart = keeps st a.0 b _ _ y was is apart
 stays p st (Unblock s t a) b y was is apart = keeps st a.0 b _ _ y was is apart
@@ -338,7 +339,8 @@ taken-space : (s t : SpaceNo) → Taken s ≡ Taken t → s.0 ≡ t.0
 taken-space s t e = ap (λ (o : SpaceNo). o.0) (same_Some s t (ap space_in e))
 
 -- a number is told, and taken
-takes : (st : ℕ → Standing) (r : Readings) (s u : SpaceNo) (a b : ActNo) (v : Standing) → Agrees st r → space_in (st a.0) ≡ Some u → took (st a.0) ≡ Taken u → kind (st a.0) ≢ 5
+takes : (st : ℕ → Standing) (r : Readings) (s u : SpaceNo) (a b : ActNo) (v : Standing) → Agrees st r → space_in (st a.0) ≡ Some u → took (st a.0) ≡ Taken u
+    → kind (st a.0) ≢ 5
     → Contains (get_or (with_act r.taken (space_of_life r (Some a)) a) s.0 []) b → put st a.0 (took (st a.0)) b.0 ≡ Taken s
 takes st r s u a b v agrees space is apart has =
     let owned : space_of_life r (Some a) ≡ Some u = agrees.lives a ∙ space in
@@ -385,7 +387,8 @@ space-with f (Some b) lives a same = elim (cases_eq a b.0) [
   | inr apart ↦ ap space_of (put-other lives b.0 a (option_map f (lives b.0)) apart)
 ]
 
-pub space-handed : (up : Option ActNo) (b : ActNo) (from : Option Life) (lives : ℕ → Option Life) (a : ℕ) → space_of (handed up b from lives a) ≡ space_of (lives a)
+pub space-handed : (up : Option ActNo) (b : ActNo) (from : Option Life) (lives : ℕ → Option Life) (a : ℕ)
+    → space_of (handed up b from lives a) ≡ space_of (lives a)
 space-handed up b None lives a = refl
 space-handed up b (Some from) lives a =
     space-with (inherits from) up (with_life bereft (Some b) lives) a (λ l. refl) ∙ space-with bereft (Some b) lives a (λ l. refl)
@@ -405,14 +408,16 @@ took-space (Stopped s) = refl
 took-space (Returned s) = refl
 took-space (Taken s) = refl
 
-put-put : (lives : ℕ → Option Life) (st : ℕ → Standing) (a b : ℕ) (l : Option Life) (v : Standing) → space_of l ≡ space_in v → space_of (lives b) ≡ space_in (st b)
+put-put : (lives : ℕ → Option Life) (st : ℕ → Standing) (a b : ℕ) (l : Option Life) (v : Standing) → space_of l ≡ space_in v
+    → space_of (lives b) ≡ space_in (st b)
     → space_of (put lives a l b) ≡ space_in (put st a v b)
 put-put lives st a b l v new old = elim (cases_eq b a) [
   | inl at ↦ ap space_of (put-at lives a b l at) ∙ new ∙ ap space_in (sym (put-at st a b v at))
   | inr apart ↦ ap space_of (put-other lives a b l apart) ∙ old ∙ ap space_in (sym (put-other st a b v apart))
 ]
 
-pub lives-step : (w : WorkloadView) (p : ProcNo) (st : ℕ → Standing) (r : Readings) (x : Record) (b : ℕ) → ((c : ℕ) → space_of (r.lives c) ≡ space_in (st c)) → Stood p st x
+pub lives-step : (w : WorkloadView) (p : ProcNo) (st : ℕ → Standing) (r : Readings) (x : Record) (b : ℕ) → ((c : ℕ) → space_of (r.lives c) ≡ space_in (st c))
+    → Stood p st x
     → space_of (lives_after w p r x b) ≡ space_in (standing_after p st x b)
 lives-step w p st r (Ins s t i) b lives was = space-with (with_hand (next_effect w r.state s t).roused) (running_of r p) r.lives b (λ l. refl) ∙ lives b
 lives-step w p st r (Run s t) b lives was = space-with (with_first (ran t)) (running_of r p) r.lives b (λ l. refl) ∙ lives b

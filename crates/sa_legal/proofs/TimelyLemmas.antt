@@ -37,7 +37,8 @@ at-each-end u w items E legal close j x at =
     let law = legal-lawful u w items legal in
     let gives : (r : Readings) (e : Event) → IsLawful u w r e → EachRecord (OnMachine w e.proc) w e.number e.proc (begun w e r) e.records =
     λ r e lawful. on-machine w e.proc e.number (begun w e r) e.records lawful.numbering.proc in
-    let ends = walk-ends u w (OnMachine w) (Reads w) (ReadsIn w) Any E (reads-kept u.inside w) gives close [] (opening_readings w) (events_of items) (reads-start w) law in
+    let ends = walk-ends u w (OnMachine w) (Reads w) (ReadsIn w) Any E (reads-kept u.inside w) gives close [] (opening_readings w) (events_of items)
+    (reads-start w) law in
     let all = ends-at E [] 0 (events_of items) (numbered-lawful u w (opening_readings w) (events_of items) law) ends in
     let all' : (k : ℕ) (y : Item) → slice_get items k ≡ Some y → E (up_to y.event items) y.event =
     subst (λ (ys : List Item). (k : ℕ) (y : Item) → slice_get ys k ≡ Some y → E (up_to y.event ys) y.event) (items-events items) all in
@@ -65,7 +66,8 @@ pub tells-in-time : (u : UserRules) (w : WorkloadView) (items : List Item) → I
 tells-in-time u w items legal = at-each-end u w items (IsInTime w) legal (in-time u w)
 
 -- a list is that of its places
-tabulated : {A : Type 0} (d : A) (xs : List A) (f : ℕ → A) (a : ℕ) → ((k : ℕ) → k < length xs → get_or xs k d ≡ f (a + k)) → xs ≡ map f (range_with_len a (length xs))
+tabulated : {A : Type 0} (d : A) (xs : List A) (f : ℕ → A) (a : ℕ) → ((k : ℕ) → k < length xs → get_or xs k d ≡ f (a + k))
+    → xs ≡ map f (range_with_len a (length xs))
 tabulated d [] f a each = refl
 tabulated d (x ∷ xs) f a each =
     let first : x ≡ f a = each 0 (omega arith) ∙ ap f (omega arith) in
@@ -86,7 +88,8 @@ map-map f g (x ∷ xs) = ap (λ ys. f (g x) ∷ ys) (map-map f g xs)
 aims-are : (w : WorkloadView) (past : List Item) (r : Readings) → Reads w past r → r.aims ≡ map (last_aim past) (procs_of w)
 aims-are w past r reads =
     let len = reads.aims_len in
-    tabulated None r.aims (λ k. last_aim past (proc_no k)) 0 (λ k below. reads.aims (proc_no k) (omega arith) ∙ ap (λ n. last_aim past (proc_no n)) (omega arith))
+    tabulated None r.aims (λ k. last_aim past (proc_no k)) 0
+    (λ k below. reads.aims (proc_no k) (omega arith) ∙ ap (λ n. last_aim past (proc_no n)) (omega arith))
     ∙ ap (λ n. map (λ k. last_aim past (proc_no k)) (range_with_len 0 n)) len
     ∙ sym (map-map (last_aim past) proc_no (range_with_len 0 w.processors))
 
@@ -104,7 +107,8 @@ claim-is w past r s below reads = ap (λ n. record { priority = (claim_of w r s)
 claims-are : (w : WorkloadView) (past : List Item) (r : Readings) → Reads w past r → map (claim_in w past) (spaces_of w) ≡ claims_of w r
 claims-are w past r reads =
     map-map (claim_in w past) space_no (range_with_len 0 (length w.spaces))
-    ∙ agree (λ k. claim_in w past (space_no k)) (λ k. claim_of w r (space_no k)) 0 (length w.spaces) (λ k above below. claim-is w past r (space_no k) (omega arith) reads)
+    ∙ agree (λ k. claim_in w past (space_no k)) (λ k. claim_of w r (space_no k)) 0 (length w.spaces)
+    (λ k above below. claim-is w past r (space_no k) (omega arith) reads)
     ∙ sym (map-map (claim_of w r) space_no (range_with_len 0 (length w.spaces)))
 
 pub first-below : (w : WorkloadView) (e : ℕ) → 1 ≤ length w.spaces → first_space w e < length w.spaces
@@ -113,7 +117,8 @@ first-below w e some = one (w.slice == 0) where
   one true = omega arith
   one false = omega arith
 
-covers : (u : UserRules) (w : WorkloadView) → IsWorkload w → (past : List Item) (r : Readings) (e : Event) → IsLawful u w r e → Reads w past (after_event u.inside w r e)
+covers : (u : UserRules) (w : WorkloadView) → IsWorkload w → (past : List Item) (r : Readings) (e : Event) → IsLawful u w r e
+    → Reads w past (after_event u.inside w r e)
     → CoversShares w past e.number
 covers u w ok past r e law reads shares s given =
     let after = after_event u.inside w r e in

@@ -53,7 +53,8 @@ named-with f (Some b) who new lives others own named n life is = elim (cases_eq 
 abbrev AddsNone : (Life → Life) → Type 0
 AddsNone f = (l : Life) (lock : Lock) → Contains (f l).locks lock → (k : Lock) × Contains l.locks k × (k.list ≡ lock.list)
 
-named-fewer : (f : Life → Life) (b : Option ActNo) (who : ℕ → ℕ → ℕ) (lives : ℕ → Option Life) → ((l : Life) → (f l).space ≡ l.space) → AddsNone f → AreNamed who lives
+named-fewer : (f : Life → Life) (b : Option ActNo) (who : ℕ → ℕ → ℕ) (lives : ℕ → Option Life) → ((l : Life) → (f l).space ≡ l.space) → AddsNone f
+    → AreNamed who lives
     → AreNamed who (with_life f b lives)
 named-fewer f b who lives same fewer = named-with f b who who lives (λ n life is other k. k)
     (λ a life at is k lock has.
@@ -90,7 +91,8 @@ take-cases s l a who t m = one (t == s) (m == l) refl refl where
   one true false left right = inl refl
   one false c left right = inl refl
 
-named-take : (w : WorkloadView) (p : ProcNo) (r : Readings) (s : SpaceNo) (l : ProcNo) (t : Option ThreadNo) (a : ActNo) (who : ℕ → ℕ → ℕ) → running_of r p ≡ Some a
+named-take : (w : WorkloadView) (p : ProcNo) (r : Readings) (s : SpaceNo) (l : ProcNo) (t : Option ThreadNo) (a : ActNo) (who : ℕ → ℕ → ℕ)
+    → running_of r p ≡ Some a
     → ((life : Life) → r.lives a.0 ≡ Some life → CanTake w r p life s l t) → (IsLocked r s l → ⊥) → AreNamed who r.lives
     → AreNamed (take_who s.0 l.0 a.0 who) (with_life (locks r p l t) (running_of r p) r.lives)
 named-take w p r s l t a who runs can unlocked named = named-with (locks r p l t) (running_of r p) who (take_who s.0 l.0 a.0 who) r.lives
@@ -148,7 +150,8 @@ named-handed r a u of who (Some from) upped apart is space other named =
       | inr got ↦
           let old_lock = map-cases from.locks lock got in
           let heir = has-life r.lives u.0 of (r.lives u.0) refl other in
-          let there : r.lives u.0 ≡ Some life = sym (put-other r.lives a.0 u.0 (option_map bereft (r.lives a.0)) apart) ∙ ap (λ m. with_life bereft (Some a) r.lives m) (sym same) ∙ old in
+          let there : r.lives u.0 ≡ Some life =
+          sym (put-other r.lives a.0 u.0 (option_map bereft (r.lives a.0)) apart) ∙ ap (λ m. with_life bereft (Some a) r.lives m) (sym same) ∙ old in
           let one : heir.0 ≡ life = same_Some heir.0 life (sym heir.1 ∙ there) in
           let spaces : life.space.0 ≡ from.space.0 = ap (λ (c : Life). c.space.0) (sym one) ∙ ap (λ (c : SpaceNo). c.0) (heir.2 ∙ sym owner) in
           let lists : lock.list.0 ≡ old_lock.0.list.0 = ap (λ (c : Lock). c.list.0) (sym old_lock.2) in
@@ -159,18 +162,23 @@ named-handed r a u of who (Some from) upped apart is space other named =
 abbrev pub SomeNamed : (ℕ → Option Life) → Type 0
 SomeNamed lives = (who : ℕ → ℕ → ℕ) × AreNamed who lives
 
-pub named-step : (w : WorkloadView) (p : ProcNo) (st : ℕ → Standing) (r : Readings) (x : Record) (rest : List Record) → Agrees st r → Stood p st x → MovesLives w p r x rest → UppedRuns st p r
+pub named-step : (w : WorkloadView) (p : ProcNo) (st : ℕ → Standing) (r : Readings) (x : Record) (rest : List Record) → Agrees st r → Stood p st x
+    → MovesLives w p r x rest → UppedRuns st p r
     → SomeNamed r.lives → SomeNamed (lives_after w p r x)
 named-step w p st r (Ins s t i) rest agrees was law runs named =
     (named.0, named-fewer (with_hand (next_effect w r.state s t).roused) (running_of r p) named.0 r.lives (λ l. refl) (λ l. same-locks l.locks) named.1)
 named-step w p st r (Run s t) rest agrees was law runs named =
     (named.0, named-fewer (with_first (ran t)) (running_of r p) named.0 r.lives (λ l. refl) (λ l lock. first-fewer (ran t) l.locks lock (λ k. refl)) named.1)
-named-step w p st r (Stop s t a) rest agrees was law runs named = (named.0, named-fewer (stopped_with t) (Some a) named.0 r.lives (λ l. refl) (λ l. same-locks l.locks) named.1)
-named-step w p st r (Block s t a io) rest agrees was law runs named = (named.0, named-fewer (held_with t) (Some a) named.0 r.lives (λ l. refl) (λ l. same-locks l.locks) named.1)
+named-step w p st r (Stop s t a) rest agrees was law runs named =
+    (named.0, named-fewer (stopped_with t) (Some a) named.0 r.lives (λ l. refl) (λ l. same-locks l.locks) named.1)
+named-step w p st r (Block s t a io) rest agrees was law runs named =
+    (named.0, named-fewer (held_with t) (Some a) named.0 r.lives (λ l. refl) (λ l. same-locks l.locks) named.1)
 named-step w p st r (Unblock s t a) rest agrees was law runs named =
     (named.0, named-fewer (with_hand (one_thread t)) (Some a) named.0 r.lives (λ l. refl) (λ l. same-locks l.locks) named.1)
-named-step w p st r (Cont s t) rest agrees was law runs named = (named.0, named-fewer (with_cont true) (running_of r p) named.0 r.lives (λ l. refl) (λ l. same-locks l.locks) named.1)
-named-step w p st r (Back s t) rest agrees was law runs named = (named.0, named-fewer (back_with t) (running_of r p) named.0 r.lives (λ l. refl) (λ l. same-locks l.locks) named.1)
+named-step w p st r (Cont s t) rest agrees was law runs named =
+    (named.0, named-fewer (with_cont true) (running_of r p) named.0 r.lives (λ l. refl) (λ l. same-locks l.locks) named.1)
+named-step w p st r (Back s t) rest agrees was law runs named =
+    (named.0, named-fewer (back_with t) (running_of r p) named.0 r.lives (λ l. refl) (λ l. same-locks l.locks) named.1)
 named-step w p st r (Ready s t) rest agrees was law runs named =
     (named.0, named-fewer (made_ready t) (running_of r p) named.0 r.lives (λ l. refl) (λ l lock. first-fewer readied l.locks lock (λ k. refl)) named.1)
 named-step w p st r (Take s l t) rest agrees was law runs named =
@@ -193,13 +201,19 @@ named-step w p st r (Up s a) rest agrees was law runs named = (
 named-step w p st r (Told (note.Preempted a)) rest agrees was law runs named =
     let up = runs law.1 in
     let told = told-space r up.0 (note.Preempted a) (space_of_life r r.upped) up.1 refl law.0 (λ q e. cc) in
-    let space : space_of (r.lives a.0) ≡ Some told.0 = agrees.lives a ∙ ap space_in (agrees.stopped told.0 a told.2) in
-    (hand_who a.0 up.0.0 named.0, named-handed r a up.0 told.0 named.0 (life_of r a) up.1 (apart-told st a.0 up.0.0 up.2 was.0 p (Stopped was.0) up.3 was.1 (λ e. cc)) refl space told.1 named.1)
+    let space : space_of (r.lives a.0) ≡ Some told.0 = agrees.lives a ∙ ap space_in (agrees.stopped told.0 a told.2) in (
+      hand_who a.0 up.0.0 named.0,
+      named-handed r a up.0 told.0 named.0 (life_of r a) up.1
+          (apart-told st a.0 up.0.0 up.2 was.0 p (Stopped was.0) up.3 was.1 (λ e. cc)) refl space told.1 named.1,
+    )
 named-step w p st r (Told (note.Unblocked a)) rest agrees was law runs named =
     let up = runs law.1 in
     let told = told-space r up.0 (note.Unblocked a) (space_of_life r r.upped) up.1 refl law.0 (λ q e. cc) in
-    let space : space_of (r.lives a.0) ≡ Some told.0 = agrees.lives a ∙ ap space_in (agrees.returned told.0 a told.2) in
-    (hand_who a.0 up.0.0 named.0, named-handed r a up.0 told.0 named.0 (life_of r a) up.1 (apart-told st a.0 up.0.0 up.2 was.0 p (Returned was.0) up.3 was.1 (λ e. cc)) refl space told.1 named.1)
+    let space : space_of (r.lives a.0) ≡ Some told.0 = agrees.lives a ∙ ap space_in (agrees.returned told.0 a told.2) in (
+      hand_who a.0 up.0.0 named.0,
+      named-handed r a up.0 told.0 named.0 (life_of r a) up.1
+          (apart-told st a.0 up.0.0 up.2 was.0 p (Returned was.0) up.3 was.1 (λ e. cc)) refl space told.1 named.1,
+    )
 named-step w p st r (Told (note.Add q)) rest agrees was law runs named = named
 named-step w p st r (Told (note.Blocked a)) rest agrees was law runs named = named
 named-step w p st r (GiveBack a) rest agrees was law runs named = (
@@ -212,19 +226,24 @@ named-step w p st r (GiveBack a) rest agrees was law runs named = (
 named-step w p st r x rest agrees was law runs named = named
 
 -- at the end of an event
-named-if : (b : Bool) (f : Life → Life) (n : Option ActNo) (who : ℕ → ℕ → ℕ) (lives : ℕ → Option Life) → LocksOnly f → AreNamed who lives → AreNamed who (if b then with_life f n lives else lives)
+named-if : (b : Bool) (f : Life → Life) (n : Option ActNo) (who : ℕ → ℕ → ℕ) (lives : ℕ → Option Life) → LocksOnly f → AreNamed who lives
+    → AreNamed who (if b then with_life f n lives else lives)
 named-if true f n who lives same named =
     named-fewer f n who lives (λ l. (same l).1) (λ l lock has. (lock, subst (λ (ls : List Lock). Contains ls lock) (same l).0 has, refl)) named
 named-if false f n who lives same named = named
 
-named-stepped : (test : Test) (w : WorkloadView) (who : ℕ → ℕ → ℕ) (before : Readings) (e : Event) (after : Readings) (xs : List Record) (lives : ℕ → Option Life)
+named-stepped : (test : Test) (w : WorkloadView) (who : ℕ → ℕ → ℕ) (before : Readings) (e : Event) (after : Readings) (xs : List Record) (lives : ℕ
+    → Option Life)
     → AreNamed who lives → AreNamed who (with_step test w before e after xs lives)
 named-stepped test w who before e after [] lives named = named
-named-stepped test w who before e after (x ∷ xs) lives named = named-if (is_step x) (stepped test w before e after x) (running_of before e.proc) who lives (λ l. (refl, refl)) named
+named-stepped test w who before e after (x ∷ xs) lives named =
+    named-if (is_step x) (stepped test w before e after x) (running_of before e.proc) who lives (λ l. (refl, refl)) named
 
-pub named-ended : (test : Test) (w : WorkloadView) (before : Readings) (e : Event) (r : Readings) → SomeNamed r.lives → SomeNamed (ended test w before e r).lives
+pub named-ended : (test : Test) (w : WorkloadView) (before : Readings) (e : Event) (r : Readings) → SomeNamed r.lives
+    → SomeNamed (ended test w before e r).lives
 named-ended test w before e r named = (
   named.0,
-  named-if (list_any is_up e.records) (arisen test w before e r) (running_of r e.proc) named.0 (with_step test w before e r e.records r.lives) (λ l. (refl, refl))
+  named-if (list_any is_up e.records) (arisen test w before e r) (running_of r e.proc) named.0 (with_step test w before e r e.records r.lives)
+      (λ l. (refl, refl))
       (named-stepped test w named.0 before e r e.records r.lives named.1),
 )

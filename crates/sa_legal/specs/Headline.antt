@@ -31,7 +31,7 @@ abbrev pub up_to : ℕ → List Item → List Item
 up_to e [] = []
 up_to e (x ∷ xs) = if nat_le x.event e then x ∷ up_to e xs else []
 
--- Each told record but `told add` tells a stop, block or unblock that stands before it and that no record between
+-- Each told record but `told add` tells a stop, block or unblock that comes before it and that no record between
 -- tells: so no two tell the same.
 abbrev pub TellsAtMostOnce : List Item → Type 0
 TellsAtMostOnce items =
@@ -60,7 +60,7 @@ IsInTime w past event =
 abbrev pub TellsInTime : WorkloadView → List Item → Type 0
 TellsInTime w items = AtEachEnd (IsInTime w) items
 
--- The number of each upcall is in use by nobody: between two ups of one number stands its giveback.
+-- The number of each upcall is in use by nobody: between two ups of one number comes its giveback.
 abbrev pub IsGivenBack : List Item → ℕ → ℕ → ActNo → Type 0
 IsGivenBack items i j a = (k : ℕ) × (i < k) × (k < j) × Stands items k (GiveBack a)
 
@@ -115,7 +115,7 @@ abbrev pub NoHolderIsReady : List Item → Type 0
 NoHolderIsReady items =
     (j : ℕ) (s : SpaceNo) (t : ThreadNo) → Stands items j (Ready s t) → HoldsListLock items j s t → ⊥
 
--- A block names the number of its I/O: how many block and fetch records stand before it.
+-- A block names the number of its I/O: how many block and fetch records come before it.
 abbrev pub BlocksNameTheirIo : List Item → Type 0
 BlocksNameTheirIo items =
     (j : ℕ) (s : SpaceNo) (t : Option ThreadNo) (a : ActNo) (io : IoNo) → Stands items j (Block s t a io)

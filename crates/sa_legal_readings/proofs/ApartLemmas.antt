@@ -1,5 +1,5 @@
 -- No stop, block or unblock is untold to two spaces.
-use Rattle.std.proofs.Common.{◌≡◌, ◌≢◌, ℕ, zero, suc, ◌⊎◌, inl, inr, refl, sym, ◌∙◌, ap, subst, arith, Some, None, List, [], ◌∷◌, true, false}
+use Rattle.std.proofs.Common.{◌≡◌, ◌≢◌, ℕ, zero, suc, ◌⊎◌, inl, inr, refl, sym, ◌∙◌, ap, subst, arith, Some, None, List, [], ◌∷◌, length, true, false}
 use Rattle.std.specs.Prelude.{Option, Bool, if◌then◌else◌, Contains}
 use Rattle.std.proofs.lemmas.Bool.{cases_eq}
 use Rattle.std.proofs.lemmas.List.Elements.{Contains-append_right}
@@ -14,15 +14,18 @@ use Rattle.sa_base.specs.declared.record.Note.TheVariants as note
 use Rattle.sa_base.specs.declared.record.Record.{Record}
 use Rattle.sa_base.specs.declared.record.Record.TheVariants.{Stop, Block, Unblock, Up, Told, GiveBack}
 use Rattle.sa_spaces.specs.Workload.{WorkloadView}
-use Rattle.sa_laws.specs.Readings.{Readings, untold_of, space_of_life, life_of}
+use Rattle.sa_laws.specs.Event.{Event}
+use Rattle.sa_laws.specs.Readings.{Readings, opening_readings, untold_of, space_of_life, life_of}
 use Rattle.sa_laws.specs.Life.{Life}
 use Rattle.sa_laws.specs.Record.{after_record}
+use Rattle.sa_laws.specs.History.{Test, begun, ended}
 use Rattle.sa_laws.specs.Shape.{told_run}
 use Rattle.sa_laws.specs.Upcalls.{TellsAllThen, IsUntoldTo, is_moved_to}
 use Rattle.sa_legal.specs.Words.{Notes}
 use Rattle.sa_legal.proofs.UntoldLemmas.{untold-cases}
 use Rattle.sa_legal.proofs.StandingLemmas.{Standing, Nowhere, Runs, Blocked, Stopped, Returned, Taken, space_in, took, kind, standing_after, Stood, Agrees, space_of, space-handed, took-space}
-use Rattle.sa_legal.proofs.ShapeLemmas.{is_telling, MovesLives}
+use Rattle.sa_legal.proofs.ShapeLemmas.{is_telling, Moves}
+use Rattle.sa_legal.proofs.MovesLemmas.{agrees-start, agrees-begun, agrees-ended, nowhere_first, nothing-in}
 
 -- the life of an untold block is one of its space, and runs no more
 abbrev pub BlocksStand : (ℕ → Standing) → Readings → Type 0
@@ -130,7 +133,7 @@ told-of : (n m : Note) → Told n ≢ Told m → n ≢ m
 told-of n m apart same = apart (ap Told same)
 
 taken-step : (w : WorkloadView) (e : ℕ) (p : ProcNo) (st : ℕ → Standing) (r : Readings) (x : Record) (xs : List Record) → IsApart st r (x ∷ xs) → Stood p st x
-    → MovesLives w p r x xs
+    → Moves w p r x xs
     → TakenAreTold (standing_after p st x) (after_record w e p r x) xs
 taken-step w e p st r x xs apart was law s b has five = elim (untold-cases r x s (note.Blocked b) has) [
   | inl old ↦ stays x old.1 was law (λ k. apart.taken s b old.0 k)
@@ -138,7 +141,7 @@ taken-step w e p st r x xs apart was law s b has five = elim (untold-cases r x s
   | inr new ↦ comes x new five
 ] where
   -- a life that is told now is one of the space of the up
-  now : (n : Note) (a : ActNo) → Told n ≢ Told (note.Blocked b) → (n ≡ note.Preempted a) ⊎ (n ≡ note.Unblocked a) → MovesLives w p r (Told n) xs
+  now : (n : Note) (a : ActNo) → Told n ≢ Told (note.Blocked b) → (n ≡ note.Preempted a) ⊎ (n ≡ note.Unblocked a) → Moves w p r (Told n) xs
       → (kind (st b.0) ≡ 5 → Contains (told_run (Told n ∷ xs)) (note.Blocked b))
       → (is_telling r.last ≡ true → space_of_life r r.upped ≡ Some s → Contains (told_run (Told n ∷ xs)) (note.Blocked b))
       → space_in (st b.0) ≡ Some s → kind (put st a.0 (took (st a.0)) b.0) ≡ 5 → Contains (told_run xs) (note.Blocked b)
@@ -151,7 +154,7 @@ taken-step w e p st r x xs apart was law s b has five = elim (untold-cases r x s
         later-in n (note.Blocked b) (told_run xs) (told-of n (note.Blocked b) other) (taken (sym (ap kind (put-other st a.0 b.0 (took (st a.0)) away)) ∙ is))
   ]
 
-  stays : (y : Record) → y ≢ Told (note.Blocked b) → Stood p st y → MovesLives w p r y xs → (kind (st b.0) ≡ 5 → Contains (told_run (y ∷ xs)) (note.Blocked b))
+  stays : (y : Record) → y ≢ Told (note.Blocked b) → Stood p st y → Moves w p r y xs → (kind (st b.0) ≡ 5 → Contains (told_run (y ∷ xs)) (note.Blocked b))
       → (is_telling r.last ≡ true → space_of_life r r.upped ≡ Some s → Contains (told_run (y ∷ xs)) (note.Blocked b)) → space_in (st b.0) ≡ Some s
       → kind (standing_after p st y b.0) ≡ 5 → Contains (told_run xs) (note.Blocked b)
   stays (Told (note.Preempted a)) other was' moves taken told space is = now (note.Preempted a) a other (inl refl) moves taken told space is
@@ -190,7 +193,7 @@ due-has : (moved : Bool) (p : ProcNo) (ns : List Note) (m : Note) → Contains n
 due-has true p ns m has = Contains-append_right (note.Add p ∷ []) ns m has
 due-has false p ns m has = has
 
-told-step : (w : WorkloadView) (e : ℕ) (p : ProcNo) (r : Readings) (x : Record) (xs : List Record) → AllAreTold r (x ∷ xs) → MovesLives w p r x xs
+told-step : (w : WorkloadView) (e : ℕ) (p : ProcNo) (r : Readings) (x : Record) (xs : List Record) → AllAreTold r (x ∷ xs) → Moves w p r x xs
     → TellsAllThen p r x xs
     → AllAreTold (after_record w e p r x) xs
 told-step w e p r (Up u a) xs told law tells telling s m space has =
@@ -203,13 +206,39 @@ told-step w e p r (Told n) xs told law tells telling s m space has = elim (untol
 told-step w e p r x xs told law tells telling s m space has = absurd (cc)
 
 pub apart-step : (w : WorkloadView) (e : ℕ) (p : ProcNo) (st : ℕ → Standing) (r : Readings) (x : Record) (xs : List Record) → IsApart st r (x ∷ xs)
-    → Stood p st x → MovesLives w p r x xs
+    → Stood p st x → Moves w p r x xs
     → TellsAllThen p r x xs → IsApart (standing_after p st x) (after_record w e p r x) xs
 apart-step w e p st r x xs apart was law tells = record {
   agrees = Rattle.sa_legal.proofs.StandingLemmas.agrees-step w e p st r x apart.agrees was;
   blocks = blocks-step w e p st r x xs apart was;
   taken = taken-step w e p st r x xs apart was law;
   told = told-step w e p r x xs apart.told law tells;
+}
+
+-- it is so before any record, and stays so as an event begins and ends
+pub apart-start : (w : WorkloadView) → IsApart nowhere_first (opening_readings w) []
+apart-start w = record {
+  agrees = agrees-start w;
+  blocks = λ s b has. absurd (nothing-in (length w.spaces) s.0 (note.Blocked b) has);
+  taken = λ s b has five. absurd (nothing-in (length w.spaces) s.0 (note.Blocked b) has);
+  told = λ telling. absurd (cc);
+}
+
+pub apart-begun : (w : WorkloadView) (st : ℕ → Standing) (r : Readings) (e : Event) (xs : List Record) → IsApart st r [] → IsApart st (begun w e r) xs
+apart-begun w st r e xs apart = record {
+  agrees = agrees-begun w st e r apart.agrees;
+  blocks = apart.blocks;
+  taken = λ s b has five. absurd (none-in _ (apart.taken s b has five));
+  told = λ telling. absurd (cc);
+}
+
+pub apart-ended : (test : Test) (w : WorkloadView) (st : ℕ → Standing) (before : Readings) (e : Event) (r : Readings) → IsApart st r []
+    → IsApart st (ended test w before e r) []
+apart-ended test w st before e r apart = record {
+  agrees = agrees-ended test w st before e r apart.agrees;
+  blocks = apart.blocks;
+  taken = apart.taken;
+  told = λ telling. absurd (cc);
 }
 
 -- a note that is untold to two spaces

@@ -26,15 +26,15 @@ use Rattle.sa_laws.specs.Upcalls.{EachRecord, TellsAllThen}
 use Rattle.sa_laws.specs.Step.{Needs, AreSteps}
 use Rattle.sa_laws.specs.Rules.{IsLawful, fast_threads}
 use Rattle.sa_legal.proofs.StandingLemmas.{Standing, Runs, space_of, space_in, standing_after}
-use Rattle.sa_legal.proofs.ShapeLemmas.{MovesLives, parts-take}
-use Rattle.sa_legal.proofs.MovesLemmas.{moves-lives, agrees-begun}
+use Rattle.sa_legal.proofs.ShapeLemmas.{Moves, parts-take}
+use Rattle.sa_legal.proofs.MovesLemmas.{fast-moves}
 use Rattle.sa_legal_readings.proofs.TrackLemmas.{IsSized}
 use Rattle.sa_legal_readings.proofs.RangeLemmas.{while-more}
 use Rattle.sa_legal_readings.proofs.OwnLemmas.{OwnedByLives, owner-runs}
-use Rattle.sa_legal_readings.proofs.ApartLemmas.{IsApart, apart-step, none-in}
-use Rattle.sa_legal_readings.proofs.PassLemmas.{Kept, Passes, Goes, kept-all}
-use Rattle.sa_legal_readings.proofs.FormLemmas.{Turning, BlocksFirst, AllOut, is_quiet, Calm, StepOf, Form, turn-form, turning-cases, up-runs, quiet-runs, LowWants, closing-pass, pass-append, quiet-append, closing-quiet, out-pass, given-pass}
-use Rattle.sa_legal_readings.proofs.FineLemmas.{Covers, Fine, min-less, covers-more, usable-covers, arise-fine, step-space, settle-fine, keep-fine, IsStepOf, blocks-untold}
+use Rattle.sa_legal_readings.proofs.ApartLemmas.{IsApart, apart-step, apart-begun}
+use Rattle.sa_legal_readings.proofs.PassLemmas.{Kept, Passing, Passes, passing-each, passes-so, Goes, kept-all}
+use Rattle.sa_legal_readings.proofs.FormLemmas.{Turning, BlocksFirst, AllOut, is_quiet, Calm, StepOf, Form, step-form, turn-form, turning-cases, up-runs, quiet-runs, LowWants, closing-pass, pass-append, quiet-append, closing-quiet, out-pass, given-pass}
+use Rattle.sa_legal_readings.proofs.FineLemmas.{Covers, Each, Fine, fast-tested, min-less, covers-more, usable-covers, arise-fine, step-space, settle-fine, keep-fine, IsStepOf, blocks-untold}
 
 -- an event in its parts
 pub record InForm (w : WorkloadView) (r : Readings) (e : Event) : Type 0 where
@@ -42,7 +42,7 @@ pub record InForm (w : WorkloadView) (r : Readings) (e : Event) : Type 0 where
   pub own : List Record
   pub closing : List Record
   pub is : e.records ≡ first ∷ (own ++ closing)
-  pub form : Form w (begun w e r) e.proc first own
+  pub form : Form StepBy w (begun w e r) e.proc first own
   pub closes : IsClosing closing
   pub low : LowWants (after_records w e.number e.proc (begun w e r) (first ∷ own)) closing
 
@@ -78,7 +78,7 @@ raising-low r (x ∷ xs) is = absurd is
 while-none : (f : Record → Bool) (x : Record) (xs : List Record) → f x ≡ false → take_while f (x ∷ xs) ≡ []
 while-none f x xs is = ap (λ b. take (cond b (1 + prefix_len f xs) 0) (x ∷ xs)) is
 
--- the wants of a closing that begins with one are those of the event, and its own part is what stands before them
+-- the wants of a closing that begins with one are those of the event, and its own part is what comes before them
 pub record WantsBehind (others : List Record) : Type 0 where
   pub wants : wants_in others ≡ wants_in (drop (length (take_while is_own others)) others)
   pub part : take_while is_no_want others ≡ take_while is_own others
@@ -147,9 +147,9 @@ in-form w r e law from = one e.records refl where
         own = take_while is_own xs;
         closing = closing_part (x ∷ xs);
         is = is ∙ ap (λ ys. x ∷ ys) (sym (parts-take (prefix_len is_own xs) xs));
-        form = turn-form w (begun w e r) e.proc e.number (is_some (line_of r e.proc)) x (take_while is_own xs)
-            (subst (λ ys. IsTurn IsStep (is_some (line_of r e.proc)) e.number w (begun w e r) e.proc (own_part ys)) is (turns.turn from))
-            (subst (λ ys. KeepsLocksIn w (begun w e r) e.proc (own_part ys)) is (locks.step from));
+        form = turn-form StepBy IsStep w (begun w e r) e.proc e.number (is_some (line_of r e.proc)) x (take_while is_own xs)
+            (step-form w (begun w e r) e.proc x (take_while is_own xs) (subst (λ ys. KeepsLocksIn w (begun w e r) e.proc (own_part ys)) is (locks.step from)))
+            (subst (λ ys. IsTurn IsStep (is_some (line_of r e.proc)) e.number w (begun w e r) e.proc (own_part ys)) is (turns.turn from));
         closes = closes;
         low = low-wants w r e x xs (closing_part (x ∷ xs)) law from is refl closes;
       }
@@ -161,14 +161,6 @@ pub record IsCovered (w : WorkloadView) (r : Readings) : Type 0 where
   pub owned : OwnedByLives r
   pub sized : IsSized w r
 
-pub begun-apart : (w : WorkloadView) (st : ℕ → Standing) (r : Readings) (e : Event) (xs : List Record) → IsApart st r [] → IsApart st (begun w e r) xs
-begun-apart w st r e xs apart = record {
-  agrees = agrees-begun w st e r apart.agrees;
-  blocks = apart.blocks;
-  taken = λ s b has five. absurd (none-in _ (apart.taken s b has five));
-  told = λ telling. absurd (cc);
-}
-
 pub other-life : (r : Readings) (p : ProcNo) (a : ActNo) (s o : SpaceNo) → running_of r p ≡ Some a → space_of_life r (Some a) ≡ Some o → o.0 ≢ s.0
     → (n : ℕ) (life : Life) (b : ActNo) → r.lives n ≡ Some life → life.space ≡ s → running_of r p ≡ Some b → n ≢ b.0
 other-life r p a s o runs of apart n life b is in_it other same =
@@ -177,21 +169,28 @@ other-life r p a s o runs of apart n life b is in_it other same =
     apart (ap (λ (k : SpaceNo). k.0) (same_Some o s (sym there ∙ ap space_of is ∙ ap Some in_it)))
 
 -- the first record of a turn that is no passage, of another space
+pub first-passing : (w : WorkloadView) (p : ProcNo) (r : Readings) (s o : SpaceNo) (x : Record) (cs : List Record) → is_quiet x ≡ true → o.0 ≢ s.0
+    → owner_of r p ≡ Some o
+    → Needs w p r x → ((b : ActNo) → x ≡ GiveBack b → space_of_life r (Some b) ≢ Some s) → Passing s r x cs
+first-passing w p r s o (Run u t) cs quiet apart owner needs given =
+    λ same. apart (ap (λ (k : SpaceNo). k.0) (same_Some o s (sym owner ∙ needs.0 ∙ ap Some same)))
+first-passing w p r s o (Ready u t) cs quiet apart owner needs given =
+    λ same. apart (ap (λ (k : SpaceNo). k.0) (same_Some o s (sym owner ∙ needs.0 ∙ ap Some same)))
+first-passing w p r s o (Cont u t) cs quiet apart owner needs given =
+    λ same. apart (ap (λ (k : SpaceNo). k.0) (same_Some o s (sym owner ∙ needs.0 ∙ ap Some same)))
+first-passing w p r s o (GiveBack b) cs quiet apart owner needs given = given b refl
+first-passing w p r s o (Up u b) cs quiet apart owner needs given = absurd (cc)
+first-passing w p r s o x cs quiet apart owner needs given = tt
+
 first-pass : (w : WorkloadView) (p : ProcNo) (r : Readings) (s : SpaceNo) (a : ActNo) (life : Life) (x : Record) (ys cs : List Record) → is_quiet x ≡ true
     → life.space.0 ≢ s.0 → owner_of r p ≡ Some life.space
     → StepBy w r p a life x ys → Needs w p r x → ((b : ActNo) → x ≡ GiveBack b → space_of_life r (Some b) ≢ Some s) → Passes s r x cs
-first-pass w p r s a life (Run u t) ys cs quiet apart owner by needs given = λ same.
-    apart (ap (λ (k : SpaceNo). k.0) (same_Some life.space s (sym owner ∙ needs.0 ∙ ap Some same)))
-first-pass w p r s a life (Ready u t) ys cs quiet apart owner by needs given = λ same.
-    apart (ap (λ (k : SpaceNo). k.0) (same_Some life.space s (sym owner ∙ needs.0 ∙ ap Some same)))
-first-pass w p r s a life (Cont u t) ys cs quiet apart owner by needs given = λ same.
-    apart (ap (λ (k : SpaceNo). k.0) (same_Some life.space s (sym owner ∙ needs.0 ∙ ap Some same)))
-first-pass w p r s a life (GiveBack b) ys cs quiet apart owner by needs given = given b refl
-first-pass w p r s a life (Want u n) ys cs quiet apart owner by needs given = λ same. absurd (apart (sym (ap (λ (k : SpaceNo). k.0) by.1) ∙ same))
-first-pass w p r s a life (Up u b) ys cs quiet apart owner by needs given = absurd (cc)
-first-pass w p r s a life x ys cs quiet apart owner by needs given = tt
+first-pass w p r s a life x ys cs quiet apart owner by needs given =
+    passes-so s r x cs (first-passing w p r s life.space x cs quiet apart owner needs given) (λ u n is same.
+    let hint : StepBy w r p a life (Want u n) ys = subst (λ y. StepBy w r p a life y ys) is by in
+    absurd (apart (sym (ap (λ (k : SpaceNo). k.0) hint.1) ∙ same)))
 
-calm-pass : (s : SpaceNo) (r : Readings) (x : Record) (rest : List Record) → is_step x ≡ false → is_quiet x ≡ true → Passes s r x rest
+pub calm-pass : (s : SpaceNo) (r : Readings) (x : Record) (rest : List Record) → is_step x ≡ false → is_quiet x ≡ true → Passes s r x rest
 calm-pass s r (Run u t) rest none quiet = absurd (cc)
 calm-pass s r (Ready u t) rest none quiet = absurd (cc)
 calm-pass s r (Cont u t) rest none quiet = absurd (cc)
@@ -214,7 +213,7 @@ unsettled r c s (Block u t a io) step quiet is = absurd (cc)
 unsettled r c s x step quiet is = absurd (cc)
 
 -- after the records of an event, and its lives at the end
-abbrev After : WorkloadView → Readings → Event → List Record → Readings
+abbrev pub After : WorkloadView → Readings → Event → List Record → Readings
 After w r e xs = after_records w e.number e.proc (begun w e r) xs
 
 abbrev Final : WorkloadView → Readings → Event → List Record → ℕ → Option Life
@@ -223,7 +222,7 @@ Final w r e xs = with_up is_inside w r e (After w r e xs) (with_step is_inside w
 abbrev FineAfter : WorkloadView → Readings → Event → List Record → SpaceNo → Type 0
 FineAfter w r e xs s = Fine w (After w r e xs) (Final w r e xs) s
 
-abbrev GoesOn : WorkloadView → Readings → Event → List Record → Type 0
+abbrev pub GoesOn : WorkloadView → Readings → Event → List Record → Type 0
 GoesOn w r e xs = Goes w e.number e.proc (begun w e r) xs
 
 abbrev PassesAll : WorkloadView → Readings → Event → List Record → SpaceNo → Type 0
@@ -237,7 +236,7 @@ held-fine : (w : WorkloadView) (r : Readings) (e : Event) (s : SpaceNo) (xs : Li
     → ((a : ℕ) (life : Life) (b : ActNo) → r.lives a ≡ Some life → life.space ≡ s → life.inside ≡ true → running_of r e.proc ≡ Some b → IsStepOf xs → a ≢ b.0)
     → FineAfter w r e xs s
 held-fine w r e s xs known fine goes passes spared =
-    let all = kept-all w e.number e.proc known.st (begun w e r) s xs (begun-apart w known.st r e xs known.apart) goes passes (λ telling. absurd (cc)) in
+    let all = kept-all w e.number e.proc known.st (begun w e r) s xs (apart-begun w known.st r e xs known.apart) goes passes (λ telling. absurd (cc)) in
     keep-fine w r e (After w r e xs) s xs (kept-begun w r e (After w r e xs) s all.kept) fine spared
 
 -- a turn with a passage
@@ -258,7 +257,8 @@ turning-fine w r e s x ys cs known proc within fine goes closes passes blocks = 
             let at : space_of_life r (Some a) ≡ Some s = of ∙ ap (λ n. Some (record { 0 = n })) same in
             let untold = known.sized.untold in
             inr (inl (blocks-untold w e.number e.proc known.st (begun w e r) s a x ys cs blocks step runs at (omega arith)
-            (begun-apart w known.st r e (x ∷ (ys ++ cs)) known.apart) goes passes))
+            (apart-begun w known.st r e (x ∷ (ys ++ cs)) known.apart) goes
+            (passing-each w e.number e.proc s (begun w e r) (x ∷ (ys ++ cs)) passes)))
         | inr apart ↦
             held-fine w r e s (x ∷ (ys ++ cs)) known fine goes passes
             (λ n life b is at inside other step'. other-life r e.proc a s there.0 runs of apart n life b is at other)
@@ -273,10 +273,11 @@ up-turn-fine w r e s x ys cs known proc within fine is goes closes closing turni
   | inl up ↦
       let running = known.sized.running in
       let runs = up-runs w e.number e.proc s (begun w e r) (x ∷ ys) cs (omega arith) turning up closes in
-      arise-fine w r e (After w r e (x ∷ (ys ++ cs))) s
+      arise-fine is_inside w r e (After w r e (x ∷ (ys ++ cs))) s Each (Covers w (After w r e (x ∷ (ys ++ cs))) s)
       (with_step is_inside w r e (After w r e (x ∷ (ys ++ cs))) (x ∷ (ys ++ cs)) (After w r e (x ∷ (ys ++ cs))).lives) runs.0
-      (step-space w r e (After w r e (x ∷ (ys ++ cs))) (x ∷ (ys ++ cs)) (After w r e (x ∷ (ys ++ cs))).lives runs.0.act.0 ∙ runs.0.space)
-      (ap (list_any is_up) is ∙ runs.1)
+      (fast-tested w r e (After w r e (x ∷ (ys ++ cs))) s)
+      (step-space is_inside w r e (After w r e (x ∷ (ys ++ cs))) (x ∷ (ys ++ cs)) (After w r e (x ∷ (ys ++ cs))).lives runs.0.act.0 ∙ runs.0.space)
+      tt (ap (list_any is_up) is ∙ runs.1)
   | inr each ↦
       turning-fine w r e s x ys cs known proc within fine goes closes
       (pass-append w e.number e.proc s (begun w e r) (x ∷ ys) cs (each (begun w e r)) closing) blocks
@@ -297,7 +298,7 @@ calm-fine w r e s x ys cs known fine goes closing calm =
 -- a step of a life of another space
 other-fine : (w : WorkloadView) (r : Readings) (e : Event) (s : SpaceNo) (x : Record) (ys cs : List Record) → IsCovered w r → Fine w r r.lives s
     → GoesOn w r e (x ∷ (ys ++ cs))
-    → EachRecord (Passes s) w e.number e.proc (After w r e (x ∷ ys)) cs → (step : StepOf w (begun w e r) e.proc x ys)
+    → EachRecord (Passes s) w e.number e.proc (After w r e (x ∷ ys)) cs → (step : StepOf StepBy w (begun w e r) e.proc x ys)
     → space_of_life r (Some step.act) ≡ Some step.life.space → step.life.space.0 ≢ s.0
     → FineAfter w r e (x ∷ (ys ++ cs)) s
 other-fine w r e s x ys cs known fine goes closing step of apart =
@@ -338,7 +339,7 @@ lower-covers : (w : WorkloadView) (r : Readings) (e : Event) (s u : SpaceNo) (n 
     → CanLower w (begun w e r) life n → GoesOn w r e (Want u n ∷ cs) → EachRecord (Passes s) w e.number e.proc (After w r e (Want u n ∷ [])) cs
     → Covers w (After w r e (Want u n ∷ cs)) s
 lower-covers w r e s u n cs life known within same of lower goes closing =
-    let apart = begun-apart w known.st r e (Want u n ∷ cs) known.apart in
+    let apart = apart-begun w known.st r e (Want u n ∷ cs) known.apart in
     let all = kept-all w e.number e.proc (standing_after e.proc known.st (Want u n)) (after_record w e.number e.proc (begun w e r) (Want u n)) s cs
     (apart-step w e.number e.proc known.st (begun w e r) (Want u n) cs apart tt tt tt)
     (record { moves = goes.moves.1; tells = goes.tells.1; steps = goes.steps.1 }) closing (λ telling. absurd (cc)) in
@@ -358,7 +359,7 @@ same-fine : (w : WorkloadView) (r : Readings) (e : Event) (s : SpaceNo) (x : Rec
     → Fine w r r.lives s
     → BeginsFreely w r e.proc (x ∷ (ys ++ cs)) → GoesOn w r e (x ∷ (ys ++ cs)) → IsClosing cs
     → EachRecord (Passes s) w e.number e.proc (After w r e (x ∷ ys)) cs
-    → (step : StepOf w (begun w e r) e.proc x ys) → r.lives step.act.0 ≡ Some step.life → step.life.space ≡ s → FineAfter w r e (x ∷ (ys ++ cs)) s
+    → (step : StepOf StepBy w (begun w e r) e.proc x ys) → r.lives step.act.0 ≡ Some step.life → step.life.space ≡ s → FineAfter w r e (x ∷ (ys ++ cs)) s
 same-fine w r e s x ys cs known within fine freely goes closes closing step is of = one (settles r (After w r e (x ∷ (ys ++ cs))) x) refl where
   there : space_of_life r (Some step.act) ≡ Some s
   there = ap space_of is ∙ ap Some of
@@ -367,11 +368,12 @@ same-fine w r e s x ys cs known within fine freely goes closes closing step is o
   settled settles_it =
       let stands = known.apart.agrees.running e.proc step.act step.runs in
       let space : stands.0 ≡ s = same_Some stands.0 s (sym (known.apart.agrees.lives step.act ∙ ap space_in stands.1) ∙ there) in
-      let quiet = quiet-runs w e.number e.proc known.st (begun w e r) s step.act (x ∷ (ys ++ cs)) (begun-apart w known.st r e (x ∷ (ys ++ cs)) known.apart) goes
+      let quiet = quiet-runs w e.number e.proc known.st (begun w e r) s step.act (x ∷ (ys ++ cs)) (apart-begun w known.st r e (x ∷ (ys ++ cs)) known.apart) goes
       (quiet-append (x ∷ ys) cs step.quiet (closing-quiet cs closes)) step.runs (stands.1 ∙ ap (λ k. Runs k e.proc) space) in
       let same : quiet.0.act ≡ step.act = same_Some quiet.0.act step.act (sym quiet.0.runs ∙ quiet.1) in
-      settle-fine w r e (After w r e (x ∷ (ys ++ cs))) s x (ys ++ cs) (After w r e (x ∷ (ys ++ cs))).lives step.act step.runs
-      (ap (λ (k : ActNo). space_of ((After w r e (x ∷ (ys ++ cs))).lives k.0)) (sym same) ∙ quiet.0.space) step.step settles_it
+      settle-fine is_inside w r e (After w r e (x ∷ (ys ++ cs))) s Each (Covers w (After w r e (x ∷ (ys ++ cs))) s) x (ys ++ cs)
+      (After w r e (x ∷ (ys ++ cs))).lives step.act (fast-tested w r e (After w r e (x ∷ (ys ++ cs))) s) step.runs
+      (ap (λ (k : ActNo). space_of ((After w r e (x ∷ (ys ++ cs))).lives k.0)) (sym same) ∙ quiet.0.space) tt step.step settles_it
 
   out : settles r (After w r e (x ∷ (ys ++ cs))) x ≡ false → AllOut ys
   out none = two step.rest where
@@ -394,7 +396,7 @@ same-fine w r e s x ys cs known within fine freely goes closes closing step is o
           let life_is : life ≡ step.life = same_Some life step.life (sym at ∙ ap r.lives (same ∙ ap (λ (k : ActNo). k.0) act) ∙ is) in
           let clash : true ≡ false = sym inside ∙ ap (λ (k : Life). k.inside) life_is ∙ outside in cc)
       three passes (inr owes) =
-          let all = kept-all w e.number e.proc known.st (begun w e r) s (x ∷ (ys ++ cs)) (begun-apart w known.st r e (x ∷ (ys ++ cs)) known.apart) goes passes
+          let all = kept-all w e.number e.proc known.st (begun w e r) s (x ∷ (ys ++ cs)) (apart-begun w known.st r e (x ∷ (ys ++ cs)) known.apart) goes passes
           (λ telling. absurd (cc)) in
           inr
           (inr (covers-more w r (After w r e (x ∷ (ys ++ cs))) s all.kept.active all.kept.demand
@@ -426,13 +428,13 @@ pub event-fine : (w : WorkloadView) (r : Readings) (e : Event) → IsCovered w r
 event-fine w r e known law from s within fine = whole (in-form w r e law from) where
   goes-at : (xs : List Record) → e.records ≡ xs → GoesOn w r e xs
   goes-at xs is = record {
-    moves = subst (EachRecord (MovesLives w e.proc) w e.number e.proc (begun w e r)) is (moves-lives w r e law);
+    moves = subst (EachRecord (Moves w e.proc) w e.number e.proc (begun w e r)) is (fast-moves w r e law);
     tells = subst (EachRecord (TellsAllThen e.proc) w e.number e.proc (begun w e r)) is law.all_told.told;
     steps = subst (AreSteps w e.number e.proc (begun w e r)) is law.step_taken.steps;
   }
 
   formed : (x : Record) (ys cs : List Record) → e.records ≡ x ∷ (ys ++ cs) → IsClosing cs → EachRecord (Passes s) w e.number e.proc (After w r e (x ∷ ys)) cs
-      → Form w (begun w e r) e.proc x ys
+      → Form StepBy w (begun w e r) e.proc x ys
       → FineAfter w r e (x ∷ (ys ++ cs)) s
   formed x ys cs is closes closing (inl turns) =
       up-turn-fine w r e s x ys cs known law.numbering.proc within fine is (goes-at (x ∷ (ys ++ cs)) is) closes closing turns.0 turns.1

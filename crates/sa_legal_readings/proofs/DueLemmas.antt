@@ -46,7 +46,7 @@ raising-lines (Aim q (Some s) ∷ xs) is none = absurd (cc)
 raising-lines (Aim q None ∷ xs) is none = absurd is
 raising-lines (x ∷ xs) is none = absurd is
 
--- after the first other line of a closing stand lines
+-- after the first other line of a closing come lines
 abbrev rest_of : Option Record → List Record → List Record
 rest_of last xs = drop (length (before_lines last xs)) xs
 
@@ -97,7 +97,7 @@ raised-all w e p r (Line t ∷ xs) all =
       at (l ∷ ls) (suc i) (suc j) same' is' = at ls i j (omega arith) is'
 raised-all w e p r (x ∷ xs) all = absurd all
 
--- a line that stands among them is raised
+-- a line that is among them is raised
 named-raised : (w : WorkloadView) (e : ℕ) (p : ProcNo) (r : Readings) (xs : List Record) (q : ProcNo) → AllLine xs → q.0 < length r.lines → Contains xs (Line q)
     → get_or (after_records w e p r xs).lines q.0 None ≡ None → ⊥
 named-raised w e p r [] q all within has low = let h = has in absurd (omega (arith, h.1))

@@ -23,7 +23,7 @@ use Rattle.sa_laws.specs.Life.{Life}
 use Rattle.sa_laws.specs.Readings.{Readings, running_of, life_of, life_on, demand_of, owner_of, taken_of, space_of_life}
 use Rattle.sa_laws.specs.Record.{after_record, running_after}
 use Rattle.sa_laws.specs.History.{after_records, is_step, is_up}
-use Rattle.sa_laws.specs.Turns.{AreRaising, IsClosing, AreTold, IsFetchOrNothing, IsPassage, IsInterrupt, IsOver, IsInsOf, StepBy, StepIn, IsStep, IsTickOrStep, IsTurnWhileDue, IsTurn}
+use Rattle.sa_laws.specs.Turns.{AreRaising, IsClosing, AreTold, IsFetchOrNothing, IsPassage, IsInterrupt, IsOver, IsInsOf, StepBy, StepIn, IsStep, Steps, IsTickOrStep, IsTurnWhileDue, IsTurn}
 use Rattle.sa_laws.specs.Locks.{KeepsLocksIn}
 use Rattle.sa_laws.specs.Upcalls.{EachRecord}
 use Rattle.sa_legal.proofs.StandingLemmas.{Standing, Runs, kind, kind_before, stays, standing_after}
@@ -65,24 +65,27 @@ AllOut [] = Unit {0}
 AllOut (Out s t v ∷ xs) = AllOut xs
 AllOut (x ∷ xs) = ⊥
 
--- another turn: a completion or a tick; a step
+-- another turn: a completion or a tick; a step, by a user level's table of the steps of a running life
 pub record Calm (x : Record) (ys : List Record) : Type 0 where
   pub none : is_step x ≡ false
   pub quiet : is_quiet x ≡ true
   pub alone : ys ≡ []
 
-pub record StepOf (w : WorkloadView) (r : Readings) (p : ProcNo) (x : Record) (ys : List Record) : Type 0 where
+abbrev pub StepTable : Type 1
+StepTable = WorkloadView → Readings → ProcNo → ActNo → Life → Record → List Record → Type 0
+
+pub record StepOf (By : StepTable) (w : WorkloadView) (r : Readings) (p : ProcNo) (x : Record) (ys : List Record) : Type 0 where
   pub act : ActNo
   pub life : Life
   pub runs : running_of r p ≡ Some act
   pub on : life_on r p ≡ Some life
-  pub by : StepBy w r p act life x ys
+  pub by : By w r p act life x ys
   pub step : is_step x ≡ true
   pub quiet : AllQuiet (x ∷ ys)
   pub rest : AllOut ys ⊎ ((x ∷ ys ≡ map GiveBack (taken_of r life.space)) × ((b c : Readings) → Rattle.sa_laws.specs.History.settles b c x ≡ true))
 
-abbrev pub Form : WorkloadView → Readings → ProcNo → Record → List Record → Type 0
-Form w r p x ys = (Turning (x ∷ ys) × BlocksFirst x ys) ⊎ (Calm x ys ⊎ StepOf w r p x ys)
+abbrev pub Form : StepTable → WorkloadView → Readings → ProcNo → Record → List Record → Type 0
+Form By w r p x ys = (Turning (x ∷ ys) × BlocksFirst x ys) ⊎ (Calm x ys ⊎ StepOf By w r p x ys)
 
 pub passage-turning : (xs : List Record) → IsPassage xs → Turning xs
 passage-turning (Up u a ∷ xs) is = is
@@ -112,10 +115,10 @@ given-quiet [] = tt
 given-quiet (a ∷ acts) = (refl, given-quiet acts)
 
 -- a step
-step-alone : (w : WorkloadView) (r : Readings) (p : ProcNo) (a : ActNo) (life : Life) (x : Record) (ys : List Record) → running_of r p ≡ Some a
-    → life_on r p ≡ Some life → StepBy w r p a life x ys
-    → is_step x ≡ true → is_quiet x ≡ true → ys ≡ [] → StepOf w r p x ys
-step-alone w r p a life x ys runs on by step quiet alone = record {
+pub step-alone : (By : StepTable) (w : WorkloadView) (r : Readings) (p : ProcNo) (a : ActNo) (life : Life) (x : Record) (ys : List Record)
+    → running_of r p ≡ Some a → life_on r p ≡ Some life → By w r p a life x ys
+    → is_step x ≡ true → is_quiet x ≡ true → ys ≡ [] → StepOf By w r p x ys
+step-alone By w r p a life x ys runs on by step quiet alone = record {
   act = a;
   life = life;
   runs = runs;
@@ -126,25 +129,10 @@ step-alone w r p a life x ys runs on by step quiet alone = record {
   rest = inl (subst AllOut (sym alone) tt);
 }
 
-ins-form : (w : WorkloadView) (r : Readings) (p : ProcNo) (a : ActNo) (life : Life) (s : SpaceNo) (t : Rattle.sa_base.specs.declared.number.ThreadNo.ThreadNo)
-    (k : ℕ) (i : Instr) (ys : List Record)
-    → running_of r p ≡ Some a → life_on r p ≡ Some life → StepBy w r p a life (Ins s t k) ys → IsInsOf i ys → Form w r p (Ins s t k) ys
-ins-form w r p a life s t k (instr.Out reg) (Out u v n ∷ []) runs on by is =
-    inr (inr (record { act = a; life = life; runs = runs; on = on; by = by; step = refl; quiet = (refl, (refl, tt)); rest = inl tt }))
-ins-form w r p a life s t k (instr.Out reg) ys runs on by is = absurd (is)
-ins-form w r p a life s t k (instr.Io n) (Block u v b io ∷ ys) runs on by is = inl (passage-turning ys is, tt)
-ins-form w r p a life s t k (instr.Io n) ys runs on by is = absurd (is)
-ins-form w r p a life s t k i ys runs on by is = inr (inr (step-alone w r p a life (Ins s t k) ys runs on by refl refl is))
-
-by-form : (w : WorkloadView) (r : Readings) (p : ProcNo) (a : ActNo) (life : Life) (x : Record) (ys : List Record) → running_of r p ≡ Some a
-    → life_on r p ≡ Some life → StepBy w r p a life x ys
-    → KeepsLocksIn w r p (x ∷ ys) → Form w r p x ys
-by-form w r p a life (Ins s t i) ys runs on by keeps = ins-form w r p a life s t i _ ys runs on by by
-by-form w r p a life (Block s t b io) ys runs on by keeps = inl (passage-turning ys by.0, tt)
-by-form w r p a life (Spin l) ys runs on by keeps = inr (inr (step-alone w r p a life (Spin l) ys runs on by refl refl by.0))
-by-form w r p a life (Want s n) ys runs on by keeps = inr (inr (step-alone w r p a life (Want s n) ys runs on by refl refl by.0))
-by-form w r p a life Idle ys runs on by keeps = inr (inr (step-alone w r p a life Idle ys runs on by refl refl by.0))
-by-form w r p a life (GiveBack b) ys runs on by keeps =
+pub give-form : (By : StepTable) (w : WorkloadView) (r : Readings) (p : ProcNo) (a : ActNo) (life : Life) (b : ActNo) (ys : List Record)
+    → running_of r p ≡ Some a → life_on r p ≡ Some life → By w r p a life (GiveBack b) ys → GiveBack b ∷ ys ≡ map GiveBack (taken_of r life.space)
+    → Form By w r p (GiveBack b) ys
+give-form By w r p a life b ys runs on by all =
     inr (inr (record {
       act = a;
       life = life;
@@ -152,43 +140,67 @@ by-form w r p a life (GiveBack b) ys runs on by keeps =
       on = on;
       by = by;
       step = refl;
-      quiet = subst AllQuiet (sym by.all) (given-quiet (taken_of r life.space));
-      rest = inr (by.all, λ b' c. refl);
+      quiet = subst AllQuiet (sym all) (given-quiet (taken_of r life.space));
+      rest = inr (all, λ b' c. refl);
     }))
-by-form w r p a life (Take s l t) ys runs on by keeps = inr (inr (step-alone w r p a life (Take s l t) ys runs on by refl refl keeps.1))
-by-form w r p a life (Ready s t) ys runs on by keeps = inr (inr (step-alone w r p a life (Ready s t) ys runs on by refl refl keeps.1))
-by-form w r p a life (Run s t) ys runs on by keeps = inr (inr (step-alone w r p a life (Run s t) ys runs on by refl refl keeps.1))
-by-form w r p a life (Free s l t) ys runs on by keeps = inr (inr (step-alone w r p a life (Free s l t) ys runs on by refl refl keeps.1))
-by-form w r p a life (Cont s t) ys runs on by keeps = inr (inr (step-alone w r p a life (Cont s t) ys runs on by refl refl keeps.1))
-by-form w r p a life (Back s t) ys runs on by keeps = inr (inr (step-alone w r p a life (Back s t) ys runs on by refl refl keeps.1))
+
+pub ins-form : (By : StepTable) (w : WorkloadView) (r : Readings) (p : ProcNo) (a : ActNo) (life : Life) (s : SpaceNo)
+    (t : Rattle.sa_base.specs.declared.number.ThreadNo.ThreadNo) (k : ℕ) (i : Instr) (ys : List Record)
+    → running_of r p ≡ Some a → life_on r p ≡ Some life → By w r p a life (Ins s t k) ys → IsInsOf i ys → Form By w r p (Ins s t k) ys
+ins-form By w r p a life s t k (instr.Out reg) (Out u v n ∷ []) runs on by is =
+    inr (inr (record { act = a; life = life; runs = runs; on = on; by = by; step = refl; quiet = (refl, (refl, tt)); rest = inl tt }))
+ins-form By w r p a life s t k (instr.Out reg) ys runs on by is = absurd (is)
+ins-form By w r p a life s t k (instr.Io n) (Block u v b io ∷ ys) runs on by is = inl (passage-turning ys is, tt)
+ins-form By w r p a life s t k (instr.Io n) ys runs on by is = absurd (is)
+ins-form By w r p a life s t k i ys runs on by is = inr (inr (step-alone By w r p a life (Ins s t k) ys runs on by refl refl is))
+
+by-form : (w : WorkloadView) (r : Readings) (p : ProcNo) (a : ActNo) (life : Life) (x : Record) (ys : List Record) → running_of r p ≡ Some a
+    → life_on r p ≡ Some life → StepBy w r p a life x ys
+    → KeepsLocksIn w r p (x ∷ ys) → Form StepBy w r p x ys
+by-form w r p a life (Ins s t i) ys runs on by keeps = ins-form StepBy w r p a life s t i _ ys runs on by by
+by-form w r p a life (Block s t b io) ys runs on by keeps = inl (passage-turning ys by.0, tt)
+by-form w r p a life (Spin l) ys runs on by keeps = inr (inr (step-alone StepBy w r p a life (Spin l) ys runs on by refl refl by.0))
+by-form w r p a life (Want s n) ys runs on by keeps = inr (inr (step-alone StepBy w r p a life (Want s n) ys runs on by refl refl by.0))
+by-form w r p a life Idle ys runs on by keeps = inr (inr (step-alone StepBy w r p a life Idle ys runs on by refl refl by.0))
+by-form w r p a life (GiveBack b) ys runs on by keeps = give-form StepBy w r p a life b ys runs on by by.all
+by-form w r p a life (Take s l t) ys runs on by keeps = inr (inr (step-alone StepBy w r p a life (Take s l t) ys runs on by refl refl keeps.1))
+by-form w r p a life (Ready s t) ys runs on by keeps = inr (inr (step-alone StepBy w r p a life (Ready s t) ys runs on by refl refl keeps.1))
+by-form w r p a life (Run s t) ys runs on by keeps = inr (inr (step-alone StepBy w r p a life (Run s t) ys runs on by refl refl keeps.1))
+by-form w r p a life (Free s l t) ys runs on by keeps = inr (inr (step-alone StepBy w r p a life (Free s l t) ys runs on by refl refl keeps.1))
+by-form w r p a life (Cont s t) ys runs on by keeps = inr (inr (step-alone StepBy w r p a life (Cont s t) ys runs on by refl refl keeps.1))
+by-form w r p a life (Back s t) ys runs on by keeps = inr (inr (step-alone StepBy w r p a life (Back s t) ys runs on by refl refl keeps.1))
 by-form w r p a life x ys runs on by keeps = absurd (cc)
 
 in-form : (w : WorkloadView) (r : Readings) (p : ProcNo) (a : Option ActNo) (life : Option Life) (x : Record) (ys : List Record) → running_of r p ≡ a
     → life_on r p ≡ life → StepIn w r p a life (x ∷ ys)
-    → KeepsLocksIn w r p (x ∷ ys) → Form w r p x ys
+    → KeepsLocksIn w r p (x ∷ ys) → Form StepBy w r p x ys
 in-form w r p (Some a) (Some life) x ys runs on is keeps = by-form w r p a life x ys runs on is keeps
 in-form w r p (Some a) None x ys runs on is keeps = absurd is
 in-form w r p None life x ys runs on is keeps = absurd is
 
-pub turn-form : (w : WorkloadView) (r : Readings) (p : ProcNo) (e : ℕ) (raised : Bool) (x : Record) (ys : List Record) → IsTurn IsStep raised e w r p (x ∷ ys)
-    → KeepsLocksIn w r p (x ∷ ys)
-    → Form w r p x ys
-turn-form w r p e true x ys is keeps = inl (interrupt-form x ys is)
-turn-form w r p e false x ys is keeps = due (due_of e r.under_way) is where
+pub step-form : (w : WorkloadView) (r : Readings) (p : ProcNo) (x : Record) (ys : List Record) → KeepsLocksIn w r p (x ∷ ys) → IsStep w r p (x ∷ ys)
+    → Form StepBy w r p x ys
+step-form w r p x ys keeps step = in-form w r p (running_of r p) (life_on r p) x ys refl refl step keeps
+
+-- a turn, where each step has such a form
+pub turn-form : (By : StepTable) (Step : Steps) (w : WorkloadView) (r : Readings) (p : ProcNo) (e : ℕ) (raised : Bool) (x : Record) (ys : List Record)
+    → (Step w r p (x ∷ ys) → Form By w r p x ys) → IsTurn Step raised e w r p (x ∷ ys) → Form By w r p x ys
+turn-form By Step w r p e true x ys form is = inl (interrupt-form x ys is)
+turn-form By Step w r p e false x ys form is = due (due_of e r.under_way) is where
   tick : (y : Record) (zs : List Record) → y ∷ zs ≡ Tick ∷ [] → Calm y zs
   tick Tick [] same = record { none = refl; quiet = refl; alone = refl }
   tick y zs same = absurd (cc)
 
-  owned : (o : Option SpaceNo) → IsTickOrStep IsStep o w r p (x ∷ ys) → Form w r p x ys
+  owned : (o : Option SpaceNo) → IsTickOrStep Step o w r p (x ∷ ys) → Form By w r p x ys
   owned None ticks = inr (inl (tick x ys ticks))
-  owned (Some s) step = in-form w r p (running_of r p) (life_on r p) x ys refl refl step keeps
+  owned (Some s) step = form step
 
-  due : (o : Option Io) → IsTurnWhileDue IsStep o w r p (x ∷ ys) → Form w r p x ys
+  due : (o : Option Io) → IsTurnWhileDue Step o w r p (x ∷ ys) → Form By w r p x ys
   due None step = owned (owner_of r p) step
   due (Some io) (inl done) = inr (inl (over-form io.kind x ys done))
-  due (Some io) (inr local) = in-form w r p (running_of r p) (life_on r p) x ys refl refl local.1 keeps
+  due (Some io) (inr local) = form local.1
 
--- an up of the space stands in a turn, or none does, and then the turn does not concern it
+-- an up of the space is in a turn, or none is, and then the turn does not concern it
 abbrev pub UpOf : SpaceNo → List Record → Type 0
 UpOf s [] = ⊥
 UpOf s (Up u a ∷ xs) = u ≡ s

@@ -27,13 +27,13 @@ use Rattle.sa_laws.specs.Legal.{IsLegal}
 use Rattle.sa_laws.proofs.Records.{records-append}
 use Rattle.sa_legal.proofs.EventLemmas.{legal-lawful}
 use Rattle.sa_legal.proofs.StandingLemmas.{Standing, standing_after}
-use Rattle.sa_legal.proofs.MovesLemmas.{moves-lives, stood, agrees-start, agrees-ended, nowhere_first}
+use Rattle.sa_legal.proofs.MovesLemmas.{fast-moves, stood, nowhere_first}
 use Rattle.sa_legal_readings.specs.Demands.{DemandCoversLoad, DemandsCoverLoads}
 use Rattle.sa_legal_readings.proofs.ReadingLemmas.{IsReadAfter, after-next, after-start}
-use Rattle.sa_legal_readings.proofs.ApartLemmas.{IsApart, apart-step, none-in}
+use Rattle.sa_legal_readings.proofs.ApartLemmas.{IsApart, apart-step, apart-start, apart-begun, apart-ended, none-in}
 use Rattle.sa_legal_readings.proofs.PassLemmas.{Goes}
 use Rattle.sa_legal_readings.proofs.FineLemmas.{Fine}
-use Rattle.sa_legal_readings.proofs.CoverLemmas.{IsCovered, begun-apart, event-fine}
+use Rattle.sa_legal_readings.proofs.CoverLemmas.{IsCovered, event-fine}
 
 -- no note is untold to two spaces, from event to event
 pub record StaysApart (r : Readings) : Type 0 where
@@ -50,33 +50,12 @@ apart-all w e p st r (x ∷ xs) apart goes =
 
 apart-next : (w : WorkloadView) (r : Readings) (e : Event) → StaysApart r → IsLawful fast_threads w r e → StaysApart (after_event is_inside w r e)
 apart-next w r e known law =
-    let all = apart-all w e.number e.proc known.st (begun w e r) e.records (begun-apart w known.st r e e.records known.apart)
-    (record { moves = moves-lives w r e law; tells = law.all_told.told; steps = law.step_taken.steps }) in
-    record {
-      st = all.st;
-      apart = record {
-        agrees = agrees-ended is_inside w all.st r e (behind_all w e r) all.apart.agrees;
-        blocks = all.apart.blocks;
-        taken = all.apart.taken;
-        told = λ telling. absurd (cc);
-      };
-    }
+    let all = apart-all w e.number e.proc known.st (begun w e r) e.records (apart-begun w known.st r e e.records known.apart)
+    (record { moves = fast-moves w r e law; tells = law.all_told.told; steps = law.step_taken.steps }) in
+    record { st = all.st; apart = apart-ended is_inside w all.st r e (behind_all w e r) all.apart }
 
-apart-start : (w : WorkloadView) → StaysApart (opening_readings w)
-apart-start w = record {
-  st = nowhere_first;
-  apart = record {
-    agrees = agrees-start w;
-    blocks = λ s b has. absurd (none-at (length w.spaces) s.0 has);
-    taken = λ s b has five. absurd (none-at (length w.spaces) s.0 has);
-    told = λ telling. absurd (cc);
-  };
-} where
-  none-at : (n k : ℕ) {z : Rattle.sa_base.specs.declared.record.Note.Note}
-      → Rattle.std.specs.Prelude.Contains (get_or (Rattle.std.specs.Prelude.replicate n []) k []) z → ⊥
-  none-at zero k has = let h = has in omega (arith, h.1)
-  none-at (suc n) zero has = let h = has in omega (arith, h.1)
-  none-at (suc n) (suc k) has = none-at n k has
+stays-start : (w : WorkloadView) → StaysApart (opening_readings w)
+stays-start w = record { st = nowhere_first; apart = apart-start w }
 
 -- the opening: one thread is ready in each space, and each space wants one processor
 abbrev AllAims : List Record → Type 0
@@ -196,7 +175,7 @@ fine-at : (w : WorkloadView) (events : List Event) → AreLawful fast_threads w 
 fine-at w [] law n e at = absurd (none-some e at)
 fine-at w (x ∷ xs) law n e at =
     fine-along w ([] ++ x ∷ []) (after_event is_inside w (opening_readings w) x) xs (after-next w [] (opening_readings w) x (after-start w) law.0)
-    (apart-next w (opening_readings w) x (apart-start w) law.0)
+    (apart-next w (opening_readings w) x (stays-start w) law.0)
     (let next = Rattle.sa_legal.proofs.MomentLemmas.number-next fast_threads w (opening_readings w) x in omega arith)
     (first-fine w x law.0) law.1 n
 
@@ -208,7 +187,7 @@ covers-load w r fine s within none untold = one (fine s within) where
       ∙ (let zero_sum : active_threads (space_at r.state s) + 0 ≡ active_threads (space_at r.state s) = omega arith in zero_sum)
 
   one : Fine w r r.lives s → usable w r s ≤ demand_of r s
-  one (inl (a, life, is, of, inside)) = absurd (let clash = sym inside ∙ none (record { 0 = a }) life is of in cc)
+  one (inl (a, life, is, of, inside, each)) = absurd (let clash = sym inside ∙ none (record { 0 = a }) life is of in cc)
   one (inr (inl noted)) = absurd (none-in noted.0 (subst (λ ns. Rattle.std.specs.Prelude.Contains ns noted.0) untold noted.2))
   one (inr (inr covers)) = subst (λ n. min w.processors n ≤ demand_of r s) (sym load) covers
 

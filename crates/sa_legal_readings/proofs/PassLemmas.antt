@@ -35,7 +35,7 @@ use Rattle.sa_laws.specs.Step.{Needs, AreSteps}
 use Rattle.sa_laws.specs.Upcalls.{RecordLaw, EachRecord, TellsAllThen}
 use Rattle.sa_laws.proofs.Numbers.{space-by_number}
 use Rattle.sa_legal.proofs.StandingLemmas.{Standing, space_of}
-use Rattle.sa_legal.proofs.ShapeLemmas.{is_telling, MovesLives}
+use Rattle.sa_legal.proofs.ShapeLemmas.{is_telling, Moves}
 use Rattle.sa_legal.proofs.MovesLemmas.{stood}
 use Rattle.sa_legal_readings.proofs.ApartLemmas.{IsApart, apart-step, one-space, is_real, told-space, upped-space}
 use Rattle.sa_legal.proofs.ReadLemmas.{with-keeps}
@@ -67,14 +67,41 @@ kept-more s r m c one two = record {
 }
 
 -- a record does not concern a space
+abbrev pub Passing : SpaceNo → RecordLaw
+Passing s r (Up u a) rest = u ≢ s
+Passing s r (Run u t) rest = u ≢ s
+Passing s r (Ready u t) rest = u ≢ s
+Passing s r (Cont u t) rest = u ≢ s
+Passing s r (GiveBack a) rest = space_of_life r (Some a) ≢ Some s
+Passing s r _ rest = Unit {0}
+
+-- nor lowers its demand
 abbrev pub Passes : SpaceNo → RecordLaw
-Passes s r (Up u a) rest = u ≢ s
-Passes s r (Run u t) rest = u ≢ s
-Passes s r (Ready u t) rest = u ≢ s
-Passes s r (Cont u t) rest = u ≢ s
-Passes s r (GiveBack a) rest = space_of_life r (Some a) ≢ Some s
 Passes s r (Want u n) rest = u.0 ≡ s.0 → demand_of r s ≤ n
-Passes s r _ rest = Unit {0}
+Passes s r x rest = Passing s r x rest
+
+pub passing : (s : SpaceNo) (r : Readings) (x : Record) (rest : List Record) → Passes s r x rest → Passing s r x rest
+passing s r (Want u n) rest passes = tt
+passing s r x rest passes = passes
+
+pub passing-each : (w : WorkloadView) (e : ℕ) (p : ProcNo) (s : SpaceNo) (r : Readings) (xs : List Record) → EachRecord (Passes s) w e p r xs
+    → EachRecord (Passing s) w e p r xs
+passing-each w e p s r [] passes = tt
+passing-each w e p s r (x ∷ xs) passes = (passing s r x xs passes.0, passing-each w e p s (after_record w e p r x) xs passes.1)
+
+pub passing-more : (s : SpaceNo) (r : Readings) (x : Record) (rest more : List Record) → Passing s r x rest → Passing s r x (rest ++ more)
+passing-more s r (Up u a) rest more is = is
+passing-more s r (Run u t) rest more is = is
+passing-more s r (Ready u t) rest more is = is
+passing-more s r (Cont u t) rest more is = is
+passing-more s r (GiveBack a) rest more is = is
+passing-more s r x rest more is = is
+
+-- a record that does not concern a space passes it, if it lowers no demand of it
+pub passes-so : (s : SpaceNo) (r : Readings) (x : Record) (rest : List Record) → Passing s r x rest
+    → ((u : SpaceNo) (n : ℕ) → x ≡ Want u n → u.0 ≡ s.0 → demand_of r s ≤ n) → Passes s r x rest
+passes-so s r (Want u n) rest passes wants = wants u n refl
+passes-so s r x rest passes wants = passes
 
 -- threads that are ready or run
 abbrev counted : List Thread → ℕ
@@ -110,17 +137,20 @@ count-push ts thread is =
     omega (arith, both, one, none)
 
 -- of the spaces, one is changed; one that is not there has no threads
-spaces-set : (xs : List SpaceState) (i j : ℕ) (x : SpaceState) → (i ≡ j → active_threads x ≤ active_threads (get_or xs j no_threads))
-    → active_threads (get_or (slice_set xs i x) j no_threads) ≤ active_threads (get_or xs j no_threads)
-spaces-set [] i j x less = omega arith
-spaces-set (y ∷ xs) zero zero x less = less refl
-spaces-set (y ∷ xs) zero (suc j) x less = omega arith
-spaces-set (y ∷ xs) (suc i) zero x less = omega arith
-spaces-set (y ∷ xs) (suc i) (suc j) x less = spaces-set xs i j x (λ e. less (ap suc e))
+pub spaces-set : (Holds : SpaceState → SpaceState → Type 0) → ((x : SpaceState) → Holds x x) → (xs : List SpaceState) (i j : ℕ) (x : SpaceState)
+    → (i ≡ j → Holds (get_or xs j no_threads) x) → Holds (get_or xs j no_threads) (get_or (slice_set xs i x) j no_threads)
+spaces-set Holds self [] i j x one = self no_threads
+spaces-set Holds self (y ∷ xs) zero zero x one = one refl
+spaces-set Holds self (y ∷ xs) zero (suc j) x one = self (get_or xs j no_threads)
+spaces-set Holds self (y ∷ xs) (suc i) zero x one = self y
+spaces-set Holds self (y ∷ xs) (suc i) (suc j) x one = spaces-set Holds self xs i j x (λ e. one (ap suc e))
+
+abbrev HasMore : SpaceState → SpaceState → Type 0
+HasMore old new = active_threads new ≤ active_threads old
 
 active-space : (a : State) (s u : SpaceNo) (x : SpaceState) → (u ≡ s → active_threads x ≤ active_threads (space_at a s))
     → active_threads (space_at (with_space a u x) s) ≤ active_threads (space_at a s)
-active-space a s u x less = spaces-set a.spaces u.0 s.0 x (λ e. less (space-by_number u s e))
+active-space a s u x less = spaces-set HasMore (λ y. omega arith) a.spaces u.0 s.0 x (λ e. less (space-by_number u s e))
 
 active-placed : (a : State) (s u : SpaceNo) (t : Option ThreadNo) (where_ : Place) → is_active where_ ≡ false
     → active_threads (space_at (placed_if a u t where_) s) ≤ active_threads (space_at a s)
@@ -242,8 +272,8 @@ still-put s a o lives other b life is of = elim (cases_eq b a) [
   | inr apart ↦ (life, put-other lives a b o apart ∙ is, of, refl)
 ]
 
-lives-kept : (w : WorkloadView) (p : ProcNo) (st : ℕ → Standing) (r : Readings) (s : SpaceNo) (x : Record) (xs : List Record) → IsApart st r (x ∷ xs)
-    → MovesLives w p r x xs → Passes s r x xs
+pub lives-kept : (w : WorkloadView) (p : ProcNo) (st : ℕ → Standing) (r : Readings) (s : SpaceNo) (x : Record) (xs : List Record) → IsApart st r (x ∷ xs)
+    → Moves w p r x xs → Passing s r x xs
     → (is_telling r.last ≡ true → space_of_life r r.upped ≢ Some s) → StillIn s r.lives (lives_after w p r x)
 lives-kept w p st r s (Ins u t i) xs apart law passes quiet =
     still-same s (with_hand (next_effect w r.state u t).roused) (running_of r p) r.lives (λ l. refl) (λ l. refl)
@@ -287,7 +317,7 @@ note-other n z apart = refl
 
 -- what is told to one space is not untold to another
 told-other : (w : WorkloadView) (p : ProcNo) (st : ℕ → Standing) (r : Readings) (s : SpaceNo) (n z : Note) (xs : List Record) → IsApart st r (Told n ∷ xs)
-    → MovesLives w p r (Told n) xs
+    → Moves w p r (Told n) xs
     → space_of_life r r.upped ≢ Some s → is_real z ≡ true → Contains (untold_of r s) z → n ≢ z
 told-other w p st r s n z xs apart law quiet real has same =
     one (space_of_life r r.upped) refl (subst (Rattle.sa_laws.specs.Upcalls.IsUntoldTo r (space_of_life r r.upped)) same law.0) where
@@ -306,8 +336,9 @@ told-other w p st r s n z xs apart law quiet real has same =
         two (note.Blocked a) None at real' there up' = there
         two (note.Unblocked a) None at real' there up' = there
 
-noted-step : (w : WorkloadView) (p : ProcNo) (st : ℕ → Standing) (r : Readings) (s : SpaceNo) (x : Record) (xs : List Record) (n : Note) → IsApart st r (x ∷ xs)
-    → MovesLives w p r x xs
+pub noted-step : (w : WorkloadView) (p : ProcNo) (st : ℕ → Standing) (r : Readings) (s : SpaceNo) (x : Record) (xs : List Record) (n : Note)
+    → IsApart st r (x ∷ xs)
+    → Moves w p r x xs
     → (is_telling r.last ≡ true → space_of_life r r.upped ≢ Some s) → is_real n ≡ true → Contains (untold_of r s) n
     → Contains (get_or (untold_after r x) s.0 []) n
 noted-step w p st r s (Stop u t a) xs n apart law quiet real has = with-keeps r.untold u.0 s.0 (note.Preempted a) n has
@@ -318,7 +349,7 @@ noted-step w p st r s (Told m) xs n apart law quiet real has =
 noted-step w p st r s x xs n apart law quiet real has = has
 
 -- Nothing is told to the space by the records that follow.
-quiet-step : (w : WorkloadView) (e : ℕ) (p : ProcNo) (r : Readings) (s : SpaceNo) (x : Record) (xs : List Record) → MovesLives w p r x xs → Passes s r x xs
+pub quiet-step : (w : WorkloadView) (e : ℕ) (p : ProcNo) (r : Readings) (s : SpaceNo) (x : Record) (xs : List Record) → Moves w p r x xs → Passing s r x xs
     → (is_telling r.last ≡ true → space_of_life r r.upped ≢ Some s) → is_telling (Some x) ≡ true
     → space_of_life (after_record w e p r x) (after_record w e p r x).upped ≢ Some s
 quiet-step w e p r s (Up u a) xs law passes quiet telling is =
@@ -328,9 +359,22 @@ quiet-step w e p r s x xs law passes quiet telling is = absurd (cc)
 
 -- what is known along the records of an event
 pub record Goes (w : WorkloadView) (e : ℕ) (p : ProcNo) (r : Readings) (xs : List Record) : Type 0 where
-  pub moves : EachRecord (MovesLives w p) w e p r xs
+  pub moves : EachRecord (Moves w p) w e p r xs
   pub tells : EachRecord (TellsAllThen p) w e p r xs
   pub steps : AreSteps w e p r xs
+
+-- what is untold to a space stays so, where the records do not concern it
+pub noted-all : (w : WorkloadView) (e : ℕ) (p : ProcNo) (st : ℕ → Standing) (r : Readings) (s : SpaceNo) (xs : List Record) (n : Note) → IsApart st r xs
+    → Goes w e p r xs → EachRecord (Passing s) w e p r xs
+    → (is_telling r.last ≡ true → space_of_life r r.upped ≢ Some s) → is_real n ≡ true → Contains (untold_of r s) n
+    → Contains (untold_of (after_records w e p r xs) s) n
+noted-all w e p st r s [] n apart goes passes quiet real has = has
+noted-all w e p st r s (x ∷ xs) n apart goes passes quiet real has =
+    let law = goes.moves.0 in
+    let was = stood w p st r x xs apart.agrees law in
+    noted-all w e p (Rattle.sa_legal.proofs.StandingLemmas.standing_after p st x) (after_record w e p r x) s xs n
+    (apart-step w e p st r x xs apart was law goes.tells.0) (record { moves = goes.moves.1; tells = goes.tells.1; steps = goes.steps.1 }) passes.1
+    (λ telling. quiet-step w e p r s x xs law passes.0 quiet telling) real (noted-step w p st r s x xs n apart law quiet real has)
 
 pub record Arrives (s : SpaceNo) (r c : Readings) : Type 0 where
   pub st : ℕ → Standing
@@ -346,14 +390,15 @@ kept-all w e p st r s (x ∷ xs) apart goes passes quiet =
     let was = stood w p st r x xs apart.agrees law in
     let after = after_record w e p r x in
     let more = kept-all w e p (Rattle.sa_legal.proofs.StandingLemmas.standing_after p st x) after s xs (apart-step w e p st r x xs apart was law goes.tells.0)
-    (record { moves = goes.moves.1; tells = goes.tells.1; steps = goes.steps.1 }) passes.1 (λ telling. quiet-step w e p r s x xs law passes.0 quiet telling) in
+    (record { moves = goes.moves.1; tells = goes.tells.1; steps = goes.steps.1 }) passes.1
+    (λ telling. quiet-step w e p r s x xs law (passing s r x xs passes.0) quiet telling) in
     record {
       st = more.st;
       apart = more.apart;
       kept = kept-more s r after _ (record {
         active = active-step w p r s x xs goes.steps.0 passes.0;
         demand = demand-step r s x xs passes.0;
-        lives = lives-kept w p st r s x xs apart law passes.0 quiet;
+        lives = lives-kept w p st r s x xs apart law (passing s r x xs passes.0) quiet;
         noted = λ n real has. noted-step w p st r s x xs n apart law quiet real has;
       }) more.kept;
     }

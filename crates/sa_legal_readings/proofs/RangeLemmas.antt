@@ -100,7 +100,7 @@ move-passage n (Move old (Some new) ∷ Up s a ∷ xs) is head = (head old new (
 move-passage n (Move old None ∷ Aim q None ∷ xs) is head = move-fetch n xs is
 move-passage n xs is head = absurd (is)
 
--- what stands at the head of a part stands at that of the whole
+-- what is at the head of a part is at that of the whole
 take-head : (n : ℕ) (xs : List Record) (y : Record) (zs : List Record) → take n xs ≡ y ∷ zs → (ys : List Record) × (xs ≡ y ∷ ys)
 take-head zero xs y zs is = absurd (cc)
 take-head (suc n) [] y zs is = absurd (cc)

@@ -186,7 +186,7 @@ read-records w e p past r (x ∷ xs) inv known =
     subst (λ ys. IsReadIn w e p ys (after_records w e p (after_record w e p r x) xs)) (append_assoc past (item e p x ∷ []) (items_at e p xs))
     (read-records w e p (past ++ item e p x ∷ []) (after_record w e p r x) xs (read-step w e p past r x xs inv known.0) known.1)
 
--- some record stands last
+-- some record is the last
 last-of : (e : ℕ) (p : ProcNo) (past : List Item) (x : Record) (xs : List Record) → EndsWithEvent e p (past ++ items_at e p (x ∷ xs))
 last-of e p past x [] = (past, x, refl)
 last-of e p past x (y ∷ ys) =

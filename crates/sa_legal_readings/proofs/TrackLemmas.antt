@@ -24,7 +24,7 @@ use Rattle.sa_laws.proofs.Lengths.{demands-length, lines-length}
 use Rattle.sa_legal.specs.Words.{last_want, want_said, begins_io, ios_begun}
 use Rattle.sa_legal.proofs.WalkLemmas.{item}
 use Rattle.sa_legal.proofs.ReadLemmas.{said-more, last-more, demand-more, untold-length}
-use Rattle.sa_legal.proofs.ShapeLemmas.{MovesLives}
+use Rattle.sa_legal.proofs.ShapeLemmas.{MovesLives, lives-move}
 use Rattle.sa_legal.proofs.MovesLemmas.{stood}
 use Rattle.sa_legal.proofs.StandingLemmas.{Standing, Runs, Blocked, Stopped, Returned, Taken, Agrees, Stood, space_in, standing_after, agrees-step, kind}
 use Rattle.sa_legal.proofs.HolderLemmas.{has-life, on-life}
@@ -292,7 +292,7 @@ read-after w e p past r x rest inv known =
     let taken_len = sized.taken in
     let ready_len = sized.ready in
     let within = known.within in
-    let was = stood w p read.st r x rest read.agrees known.moves in
+    let was = stood w p read.st r x rest read.agrees (lives-move w p r x rest known.moves) in
     let names = names-life w past p r x read was in
     let agrees : AgreesWith past p r x = record { running = read.running p; upped = read.upped; names = names } in
     let y = item e p x in

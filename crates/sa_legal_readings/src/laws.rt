@@ -19,7 +19,7 @@ pub fn marks_are_read()
         → AreRead (MarksAreRead w) w items }
 {}
 
-/// A line is raised where a line record stands and no later event is its processor's.
+/// A line is raised where there is a line record of it and no later event is its processor's.
 pub fn lines_are_read()
     ensures { (w : WorkloadView) (items : List Item) → IsLegal fast_threads w items
         → AreRead (LinesAreRead w) w items }

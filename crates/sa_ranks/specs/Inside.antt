@@ -10,7 +10,7 @@ use Rattle.sa_laws.specs.History.{Test, is_inside, behind, behind_all}
 use Rattle.sa_laws.specs.Shape.{own_part}
 use Rattle.sa_ranks.specs.Pairs.{has_pair}
 
--- an event has an entry of the kernel, which closes it, where a record of one stands in it: of an interrupt or an upcall, a
+-- an event has an entry of the kernel, which closes it, where a record of one is in it: of an interrupt or an upcall, a
 -- completion, a block, the return of activations; or where it begins with a hint, or with a line that was asked for
 abbrev pub is_of_entry : Record → Bool
 is_of_entry (Stop s t a) = true
@@ -40,7 +40,7 @@ abbrev pub is_inside_or_urged : Test
 is_inside_or_urged w before e after settled life =
     is_inside w before e after settled life || (settled && has_pair w (settling w before e after) life.space)
 
--- LAWS: behind an entry's closing, and before a slice's
+-- LAWS: after an entry's closing, and before a slice's
 abbrev pub ClosedByAnEntry : Type 0
 ClosedByAnEntry =
     (w : WorkloadView) (before : Readings) (e : Event) → has_entry e.records ≡ true

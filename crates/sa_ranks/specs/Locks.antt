@@ -1,4 +1,4 @@
--- List locks, list order and demand where ready threads stand in list 0 by their ranks.
+-- List locks, list order and demand where ready threads are in list 0 by their ranks.
 use Rattle.std.specs.Prelude.{◌≡◌, ◌≤◌, ◌⊎◌, nat_lt, Bool, true, false, if◌then◌else◌, List, [], ◌∷◌, Option, Some, None}
 use Rattle.std.specs.List.{list_any}
 use Rattle.std.specs.Option.{option_map}
@@ -41,7 +41,7 @@ abbrev pub KeepsTheLock : WorkloadView → Readings → ProcNo → Life → Reco
 KeepsTheLock w r p life (Take s l t) = CanTake r life s l t
 KeepsTheLock w r p life first = KeepsLocks w r p life first
 
--- the back of a cont comes directly behind the free of its lock, and nothing else does; a back where no cont is open is
+-- the back of a cont comes directly after the free of its lock, and nothing else does; a back where no cont is open is
 -- that of a thread that gives way
 pub record StepKeepsTheLock (w : WorkloadView) (r : Readings) (p : ProcNo) (life : Life) (first : Record) : Type 0 where
   pub keeps : KeepsTheLock w r p life first

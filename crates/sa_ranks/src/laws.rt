@@ -1,7 +1,7 @@
 //! What follows from the definitions. No function here does anything.
 ghost use Rattle.sa_ranks.specs.Inside.{ClosedByAnEntry, ClosedByItsSlice};
 
-/// Of an event whose closing is an entry's, pairs are looked for behind all its records.
+/// Of an event whose closing is an entry's, pairs are looked for after all its records.
 pub fn pairs_are_looked_for_behind_an_entry()
     ensures { ClosedByAnEntry }
 {}

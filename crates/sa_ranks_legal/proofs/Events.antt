@@ -1,46 +1,26 @@
--- The records of an event of the package with thread priorities: what each may do to lives, and their parts.
+-- The records of an event of the package with thread priorities: where told records are among them, and their parts.
 use Rattle.std.proofs.Common.{◌≡◌, ℕ, zero, suc, ◌≤◌, inl, inr, refl, sym, ◌∙◌, ap, subst, arith, Some, None, List, [], ◌∷◌, ◌++◌, true, false}
 use Rattle.std.specs.Prelude.{Option, Bool, is_some, take_while}
 use Rattle.std.specs.List.{prefix_len}
 use Rattle.sa_base.specs.declared.number.ProcNo.{ProcNo}
 use Rattle.sa_base.specs.declared.record.Record.{Record}
-use Rattle.sa_base.specs.declared.record.Record.TheVariants.{Ins, Stop, Block, Unblock, Up, Told, Move, Want, Aim, Line, Fetch, GiveBack}
+use Rattle.sa_base.specs.declared.record.Record.TheVariants.{Ins, Stop, Block, Up, Told, Move, Aim, Fetch}
 use Rattle.sa_spaces.specs.Workload.{WorkloadView}
 use Rattle.sa_laws.specs.Event.{Event}
 use Rattle.sa_laws.specs.Readings.{Readings, line_of}
-use Rattle.sa_laws.specs.Record.{after_record}
 use Rattle.sa_laws.specs.History.{begun, is_step}
 use Rattle.sa_laws.specs.Shape.{own_part, closing_part, is_own}
-use Rattle.sa_laws.specs.Step.{Needs, AreSteps}
-use Rattle.sa_laws.specs.Upcalls.{EachRecord, NamesTheLife, TellsAllThen, TellsOnce}
 use Rattle.sa_laws.specs.Opening.{opening_records}
 use Rattle.sa_laws.specs.Turns.{IsClosing, AreTold, IsTurn}
 use Rattle.sa_laws.specs.Rules.{IsLawful}
-use Rattle.sa_legal.proofs.StandingLemmas.{space_of}
 use Rattle.sa_legal.proofs.ShapeLemmas.{is_telling, parts-take}
-use Rattle.sa_legal.proofs.MovesLemmas.{calm-opening}
-use Rattle.sa_legal_readings.proofs.FormLemmas.{Turning, AllQuiet, quiet-append, closing-quiet}
+use Rattle.sa_legal.proofs.MovesLemmas.{AreCalm, calm-opening, AfterUps, lawful-moves}
+use Rattle.sa_legal_readings.proofs.PassLemmas.{Goes}
+use Rattle.sa_legal_readings.proofs.FormLemmas.{Turning, AllQuiet, Form, interrupt-form, turn-form, quiet-append, closing-quiet}
 use Rattle.sa_ranks.specs.Rules.{prio_threads}
-use Rattle.sa_ranks.specs.Steps.{IsRankedStep}
+use Rattle.sa_ranks.specs.Steps.{RankedStepBy, IsRankedStep}
 use Rattle.sa_ranks.specs.Locks.{KeepsTheLockIn}
-use Rattle.sa_ranks_legal.proofs.Moving.{Moves, Goes}
-
--- the opening has wants, aims and lines alone
-abbrev pub is_calm : Record → Bool
-is_calm (Want s n) = true
-is_calm (Aim p s) = true
-is_calm (Line p) = true
-is_calm _ = false
-
-abbrev pub AreCalm : List Record → Type 0
-AreCalm [] = Unit {0}
-AreCalm (x ∷ xs) = (is_calm x ≡ true) × AreCalm xs
-
--- told records come after an up or another told record
-abbrev pub AfterUps : Option Record → List Record → Type 0
-AfterUps last [] = Unit {0}
-AfterUps last (Told n ∷ xs) = (is_telling last ≡ true) × AfterUps (Some (Told n)) xs
-AfterUps last (x ∷ xs) = AfterUps (Some x) xs
+use Rattle.sa_ranks_legal.proofs.Forms.{step-form}
 
 pub quiet-told : (last : Option Record) (xs : List Record) → AllQuiet xs → AfterUps last xs
 quiet-told last [] quiet = tt
@@ -70,33 +50,10 @@ turning-told last (Aim q None ∷ xs) cs is quiet = absurd is
 turning-told last (Aim q (Some v) ∷ xs) cs is quiet = absurd is
 turning-told last (x ∷ xs) cs is quiet = absurd is
 
-moves-one : (w : WorkloadView) (p : ProcNo) (r : Readings) (x : Record) (rest : List Record) (last : Option Record) → r.last ≡ last → AfterUps last (x ∷ rest)
-    → NamesTheLife p r x rest → TellsAllThen p r x rest → TellsOnce r x rest → Needs w p r x → Moves w p r x rest
-moves-one w p r (Stop s t a) rest last is fit named tells once needs = named
-moves-one w p r (Block s t a io) rest last is fit named tells once needs = named
-moves-one w p r (Unblock s t a) rest last is fit named tells once needs = (needs.io, ap space_of needs.is ∙ ap Some needs.space)
-moves-one w p r (Up s a) rest last is fit named tells once needs = (named, tells.fresh)
-moves-one w p r (Told n) rest last is fit named tells once needs = (once, ap is_telling is ∙ fit.0)
-moves-one w p r (GiveBack a) rest last is fit named tells once needs = tells
-moves-one w p r x rest last is fit named tells once needs = tt
-
-later-told : (last : Option Record) (x : Record) (xs : List Record) → AfterUps last (x ∷ xs) → AfterUps (Some x) xs
-later-told last (Told n) xs fit = fit.1
-later-told last x xs fit = fit
-
-moves-each : (w : WorkloadView) (e : ℕ) (p : ProcNo) (r : Readings) (xs : List Record) (last : Option Record) → r.last ≡ last → AfterUps last xs
-    → EachRecord (NamesTheLife p) w e p r xs → EachRecord (TellsAllThen p) w e p r xs → EachRecord TellsOnce w e p r xs → AreSteps w e p r xs
-    → EachRecord (Moves w p) w e p r xs
-moves-each w e p r [] last is fit named tells once steps = tt
-moves-each w e p r (x ∷ xs) last is fit named tells once steps = (
-  moves-one w p r x xs last is fit named.0 tells.0 once.0 steps.0,
-  moves-each w e p (after_record w e p r x) xs (Some x) refl (later-told last x xs fit) named.1 tells.1 once.1 steps.1,
-)
-
 pub event-goes : (w : WorkloadView) (r : Readings) (e : Event) → IsLawful prio_threads w r e → AfterUps None e.records
     → Goes w e.number e.proc (begun w e r) e.records
 event-goes w r e law fit = record {
-  moves = moves-each w e.number e.proc (begun w e r) e.records None refl fit law.where_owned.named law.all_told.told law.at_most_once.told law.step_taken.steps;
+  moves = lawful-moves prio_threads w r e law fit;
   tells = law.all_told.told;
   steps = law.step_taken.steps;
 }
@@ -108,16 +65,16 @@ pub record InForm (w : WorkloadView) (r : Readings) (e : Event) : Type 0 where
   pub closing : List Record
   pub is : e.records ≡ first ∷ (own ++ closing)
   pub part : own_part e.records ≡ first ∷ own
-  pub form : Rattle.sa_ranks_legal.proofs.Forms.Formed w (begun w e r) e.proc first own
+  pub form : Form RankedStepBy w (begun w e r) e.proc first own
   pub low : is_some (line_of r e.proc) ≡ true → Turning (first ∷ own) × (is_step first ≡ false)
   pub closes : IsClosing closing
 
 interrupts : (w : WorkloadView) (r : Readings) (p : ProcNo) (e : ℕ) (b : Bool) (x : Record) (ys : List Record) → IsTurn IsRankedStep b e w r p (x ∷ ys)
     → b ≡ true → Turning (x ∷ ys) × (is_step x ≡ false)
 interrupts w r p e false x ys is raised = absurd (cc)
-interrupts w r p e true (Stop u t a) ys is raised = ((Rattle.sa_legal_readings.proofs.FormLemmas.interrupt-form (Stop u t a) ys is).0, refl)
-interrupts w r p e true (Up u a) ys is raised = ((Rattle.sa_legal_readings.proofs.FormLemmas.interrupt-form (Up u a) ys is).0, refl)
-interrupts w r p e true (Move old new) ys is raised = ((Rattle.sa_legal_readings.proofs.FormLemmas.interrupt-form (Move old new) ys is).0, refl)
+interrupts w r p e true (Stop u t a) ys is raised = ((interrupt-form (Stop u t a) ys is).0, refl)
+interrupts w r p e true (Up u a) ys is raised = ((interrupt-form (Up u a) ys is).0, refl)
+interrupts w r p e true (Move old new) ys is raised = ((interrupt-form (Move old new) ys is).0, refl)
 interrupts w r p e true x ys is raised = absurd (is)
 
 pub in-form : (w : WorkloadView) (r : Readings) (e : Event) → IsLawful prio_threads w r e → 1 ≤ e.number → InForm w r e
@@ -134,13 +91,14 @@ in-form w r e law from = one e.records refl where
         closing = closing_part (x ∷ xs);
         is = is ∙ ap (λ ys. x ∷ ys) (sym (parts-take (prefix_len is_own xs) xs));
         part = ap own_part is;
-        form = Rattle.sa_ranks_legal.proofs.Forms.turn-form w (begun w e r) e.proc e.number (is_some (line_of r e.proc)) x (take_while is_own xs) turn
-            (subst (λ ys. KeepsTheLockIn w (begun w e r) e.proc (own_part ys)) is (locks.step from));
+        form = turn-form RankedStepBy IsRankedStep w (begun w e r) e.proc e.number (is_some (line_of r e.proc)) x (take_while is_own xs)
+            (step-form w (begun w e r) e.proc x (take_while is_own xs)
+            (subst (λ ys. KeepsTheLockIn w (begun w e r) e.proc (own_part ys)) is (locks.step from))) turn;
         low = λ raised. interrupts w (begun w e r) e.proc e.number (is_some (line_of r e.proc)) x (take_while is_own xs) turn raised;
         closes = subst (λ ys. IsClosing (closing_part ys)) is (turns.closing from);
       }
 
-form-told : (w : WorkloadView) (r : Readings) (p : ProcNo) (x : Record) (ys cs : List Record) → Rattle.sa_ranks_legal.proofs.Forms.Formed w r p x ys
+form-told : (w : WorkloadView) (r : Readings) (p : ProcNo) (x : Record) (ys cs : List Record) → Form RankedStepBy w r p x ys
     → IsClosing cs → AfterUps None (x ∷ (ys ++ cs))
 form-told w r p x ys cs (inl turns) closes = turning-told None (x ∷ ys) cs turns.0 (closing-quiet cs closes)
 form-told w r p x ys cs (inr (inl calm)) closes =

@@ -19,23 +19,27 @@ use Rattle.sa_laws.specs.Rules.{IsLawful}
 use Rattle.sa_legal.proofs.StandingLemmas.{Standing, Runs, Blocked, Taken, Nowhere, Stopped, Returned, kind, space_in, space_of}
 use Rattle.sa_ranks.specs.Rules.{prio_threads}
 use Rattle.sa_ranks.specs.Inside.{is_inside_or_urged}
-use Rattle.sa_ranks_legal.proofs.Moving.{Goes, Known, standings, held-all, known-all}
+use Rattle.sa_ranks.specs.Steps.{RankedStepBy}
+use Rattle.sa_ranks_legal.proofs.Moving.{Known, standings, held-all, known-all}
 use Rattle.sa_spaces.specs.Space.{SpaceView}
 use Rattle.sa_laws.specs.Event.{events_of}
 use Rattle.sa_laws.specs.State.{opening_state, opening_space}
 use Rattle.sa_laws.specs.declared.place.Place.TheVariants as place
 use Rattle.sa_legal.specs.Fold.{AreLawful}
 use Rattle.sa_legal.proofs.EventLemmas.{legal-lawful}
-use Rattle.sa_legal.proofs.MovesLemmas.{nowhere_first, agrees-start, agrees-ended, calm-opening}
-use Rattle.sa_legal_readings.proofs.ApartLemmas.{none-in}
+use Rattle.sa_legal.proofs.MovesLemmas.{AreCalm, nowhere_first, calm-opening}
+use Rattle.sa_legal.proofs.ShownLemmas.{shows-start, shows-ended}
+use Rattle.sa_legal_readings.proofs.ApartLemmas.{none-in, apart-start, apart-ended}
+use Rattle.sa_legal_readings.proofs.PassLemmas.{Goes}
+use Rattle.sa_legal_readings.proofs.FormLemmas.{Form}
+use Rattle.sa_legal_readings.proofs.CoverLemmas.{After}
 use Rattle.sa_legal_readings.proofs.OwnLemmas.{OwnedByLives}
 use Rattle.sa_ranks.specs.Locks.{BeginsUnurged}
 use Rattle.sa_ranks.specs.Promises.{IsCalm, OutranksNobody}
 use Rattle.sa_ranks_legal.specs.Laws.{EveryLegalRunOutranksNobody}
-use Rattle.sa_ranks_legal.proofs.Forms.{Formed}
-use Rattle.sa_ranks_legal.proofs.Events.{AreCalm, InForm, in-form, event-goes, event-told}
+use Rattle.sa_ranks_legal.proofs.Events.{InForm, in-form, event-goes, event-told}
 use Rattle.sa_ranks_legal.proofs.Fine.{Fine, held-none}
-use Rattle.sa_ranks_legal.proofs.Serve.{After, FineAfter, At, begun-known, calm-passes, up-fine, turning-fine, calm-fine, other-fine, same-fine, interrupt-fine}
+use Rattle.sa_ranks_legal.proofs.Serve.{FineAfter, At, begun-known, calm-passes, up-fine, turning-fine, calm-fine, other-fine, same-fine, interrupt-fine}
 
 -- what is known between events
 pub record Moment (w : WorkloadView) (st : ℕ → Standing) (r : Readings) : Type 0 where
@@ -63,7 +67,8 @@ event-fine w st r e moment law from s within fine = whole (in-form w r e law fro
     at : At w st r e parts.first parts.own parts.closing
     at = parts-at w st r e moment law parts
 
-    formed : line_of r e.proc ≡ None → Formed w (begun w e r) e.proc parts.first parts.own → FineAfter w st r e (parts.first ∷ (parts.own ++ parts.closing)) s
+    formed : line_of r e.proc ≡ None → Form RankedStepBy w (begun w e r) e.proc parts.first parts.own
+        → FineAfter w st r e (parts.first ∷ (parts.own ++ parts.closing)) s
     formed low (inl turns) =
         up-fine w st r e parts.first parts.own parts.closing at s within turns.0
         (λ own. turning-fine w st r e parts.first parts.own parts.closing at s within fine low turns.1 own)
@@ -104,28 +109,11 @@ low-in zero k = refl
 low-in (suc n) zero = refl
 low-in (suc n) (suc k) = low-in n k
 
-none-at : (n k : ℕ) {z : Note} → Contains (get_or (replicate n []) k []) z → ⊥
-none-at zero k has = let h = has in omega (arith, h.1)
-none-at (suc n) zero has = let h = has in omega (arith, h.1)
-none-at (suc n) (suc k) has = none-at n k has
-
 start : (w : WorkloadView) → Moment w nowhere_first (opening_readings w)
 start w = record {
   known = record {
-    apart = record {
-      agrees = agrees-start w;
-      blocks = λ s b has. absurd (none-at (length w.spaces) s.0 has);
-      taken = λ s b has five. absurd (none-at (length w.spaces) s.0 has);
-      told = λ telling. absurd (cc);
-    };
-    shows = record {
-      running_len = Rattle.std.proofs.lemmas.List.length-replicate w.processors None;
-      untold_len = Rattle.std.proofs.lemmas.List.length-replicate (length w.spaces) [];
-      running = λ s p a is. absurd (let clash = ap kind is in cc);
-      blocked = λ s a is. absurd (let clash = ap kind is in cc);
-      stopped = λ s a below is. absurd (let clash = ap kind is in cc);
-      returned = λ s a below is. absurd (let clash = ap kind is in cc);
-    };
+    apart = apart-start w;
+    shows = shows-start w;
     placed = record { owned = λ s t p runs. absurd (rests w s t p runs); one = λ s t v p runs other. absurd (rests w s t p runs) };
   };
   owned = nobody w.processors;
@@ -156,20 +144,8 @@ next w st r e moment law =
     (event-goes w r e law (event-told w r e law)) in
     record {
       known = record {
-        apart = record {
-          agrees = agrees-ended is_inside_or_urged w (standings e.proc st e.records) r e (behind_all w e r) all.apart.agrees;
-          blocks = all.apart.blocks;
-          taken = all.apart.taken;
-          told = λ telling. absurd (cc);
-        };
-        shows = record {
-          running_len = all.shows.running_len;
-          untold_len = all.shows.untold_len;
-          running = all.shows.running;
-          blocked = all.shows.blocked;
-          stopped = all.shows.stopped;
-          returned = all.shows.returned;
-        };
+        apart = apart-ended is_inside_or_urged w (standings e.proc st e.records) r e (behind_all w e r) all.apart;
+        shows = shows-ended is_inside_or_urged w (standings e.proc st e.records) r e (behind_all w e r) all.shows;
         placed = all.placed;
       };
       owned = law.where_owned.owned;

@@ -8,10 +8,9 @@ use Rattle.sa_base.specs.declared.number.SpaceNo.{SpaceNo}
 use Rattle.sa_base.specs.declared.number.ProcNo.{ProcNo}
 use Rattle.sa_base.specs.declared.number.ThreadNo.{ThreadNo}
 use Rattle.sa_base.specs.declared.number.ActNo.{ActNo}
-use Rattle.sa_base.specs.declared.record.Note.{Note}
 use Rattle.sa_base.specs.declared.record.Note.TheVariants as note
 use Rattle.sa_base.specs.declared.record.Record.{Record}
-use Rattle.sa_base.specs.declared.record.Record.TheVariants.{Ins, Out, Run, Stop, Block, Cont, Ready, Up, Want, Aim, Line, GiveBack, Idle}
+use Rattle.sa_base.specs.declared.record.Record.TheVariants.{Ins, Stop, Block, Ready, Want, Aim, Line, GiveBack, Idle}
 use Rattle.sa_spaces.specs.Workload.{WorkloadView}
 use Rattle.sa_laws.specs.Event.{Event}
 use Rattle.sa_laws.specs.Life.{Life}
@@ -20,37 +19,32 @@ use Rattle.sa_laws.specs.Readings.{Readings, running_of, life_on, owner_of, line
 use Rattle.sa_laws.specs.Record.{after_record}
 use Rattle.sa_laws.specs.History.{begun, behind, after_records, is_step, is_up, settles, with_step, with_up}
 use Rattle.sa_laws.specs.Shape.{own_part}
-use Rattle.sa_laws.specs.Step.{Needs, AreSteps}
+use Rattle.sa_laws.specs.Step.{AreSteps}
 use Rattle.sa_laws.specs.Upcalls.{EachRecord}
 use Rattle.sa_laws.specs.Turns.{AreRaising, IsClosing}
-use Rattle.sa_legal.proofs.StandingLemmas.{Standing, Runs, kind, space_in, space_of, space-with, standing_after, stays}
+use Rattle.sa_legal.proofs.StandingLemmas.{Standing, Runs, kind, space_in, space_of, standing_after, stays}
 use Rattle.sa_legal.proofs.ShapeLemmas.{is_telling}
-use Rattle.sa_legal_readings.proofs.ApartLemmas.{is_real}
-use Rattle.sa_legal_readings.proofs.FormLemmas.{Turning, BlocksFirst, is_quiet, AllQuiet, AllOut, Calm, quiet-append, closing-quiet, quiet-kind}
+use Rattle.sa_legal.proofs.AppendLemmas.{each-append}
+use Rattle.sa_legal.proofs.MovesLemmas.{AreCalm, stood}
+use Rattle.sa_legal.proofs.ShownLemmas.{shows-begun}
+use Rattle.sa_legal_readings.proofs.ApartLemmas.{apart-begun}
+use Rattle.sa_legal_readings.proofs.FormLemmas.{Turning, BlocksFirst, is_quiet, AllQuiet, AllOut, Calm, StepOf, turning-cases, up-runs, quiet-append, closing-quiet, quiet-kind, out-pass, given-pass}
 use Rattle.sa_ranks.specs.Inside.{is_inside_or_urged, has_entry}
 use Rattle.sa_ranks.specs.Pairs.{has_pair}
 use Rattle.sa_ranks_legal.proofs.Places.{IsPlaced, places-step, NoPair, no-pair}
-use Rattle.sa_ranks_legal.proofs.Moving.{Passing, Goes, Known, standings, held-all, known-all, known-step, stands, low-step}
-use Rattle.sa_laws.specs.Machine.{next_effect}
-use Rattle.sa_laws.specs.Life.{with_hand}
+use Rattle.sa_ranks.specs.Steps.{RankedStepBy}
+use Rattle.sa_ranks_legal.proofs.Moving.{Known, standings, held-all, known-all, known-step, low-step}
 use Rattle.sa_laws.specs.Demand.{is_bound}
 use Rattle.sa_laws.specs.Upcalls.{StopsAndGoes}
 use Rattle.sa_laws.specs.declared.place.Place.TheVariants as place
 use Rattle.sa_laws.proofs.Records.{records-append}
-use Rattle.sa_legal_readings.proofs.ApartLemmas.{none-in}
 use Rattle.sa_legal_readings.proofs.OwnLemmas.{OwnedByLives, owner-runs}
-use Rattle.sa_legal_readings.proofs.PassLemmas.{Passes}
-use Rattle.sa_legal_readings.proofs.FormLemmas.{turning-cases, up-runs}
-use Rattle.sa_legal_readings.proofs.CoverLemmas.{other-life}
-use Rattle.sa_legal_readings.proofs.FineLemmas.{one-act}
+use Rattle.sa_legal_readings.proofs.PassLemmas.{Passing, passing, passing-each, passing-more, Goes}
+use Rattle.sa_legal_readings.proofs.FineLemmas.{arise-fine, settle-fine, step-space, note-has, noted-end, blocks-untold}
+use Rattle.sa_legal_readings.proofs.CoverLemmas.{After, GoesOn, other-life, calm-pass, first-passing}
 use Rattle.sa_ranks.specs.Pairs.{rank_in}
 use Rattle.sa_ranks.specs.Locks.{BeginsUnurged, IsUnurged, IsUnurgedIf}
-use Rattle.sa_ranks_legal.proofs.Forms.{RankedStep}
-use Rattle.sa_ranks_legal.proofs.Events.{AreCalm}
-use Rattle.sa_ranks_legal.proofs.Fine.{Untold, Fine, Settles, Lowly, arise-fine, settle-fine, keep-fine, held-none, note-has, step-space}
-
-abbrev pub After : WorkloadView → Readings → Event → List Record → Readings
-After w r e xs = after_records w e.number e.proc (begun w e r) xs
+use Rattle.sa_ranks_legal.proofs.Fine.{Free, Fine, Settles, Lowly, urged, keep-fine, held-none}
 
 abbrev Final : WorkloadView → Readings → Event → List Record → ℕ → Option Life
 Final w r e xs = with_up is_inside_or_urged w r e (After w r e xs) (with_step is_inside_or_urged w r e (After w r e xs) xs (After w r e xs).lives)
@@ -58,28 +52,13 @@ Final w r e xs = with_up is_inside_or_urged w r e (After w r e xs) (with_step is
 abbrev pub FineAfter : WorkloadView → (ℕ → Standing) → Readings → Event → List Record → SpaceNo → Type 0
 FineAfter w st r e xs s = Fine (After w r e xs) (standings e.proc st xs) (Final w r e xs) s
 
-abbrev GoesOn : WorkloadView → Readings → Event → List Record → Type 0
-GoesOn w r e xs = Goes w e.number e.proc (begun w e r) xs
-
 abbrev PassesAll : WorkloadView → Readings → Event → List Record → SpaceNo → Type 0
 PassesAll w r e xs s = EachRecord (Passing s) w e.number e.proc (begun w e r) xs
 
 pub begun-known : (w : WorkloadView) (st : ℕ → Standing) (r : Readings) (e : Event) (xs : List Record) → Known w st r [] → Known w st (begun w e r) xs
 begun-known w st r e xs known = record {
-  apart = record {
-    agrees = Rattle.sa_legal.proofs.MovesLemmas.agrees-begun w st e r known.apart.agrees;
-    blocks = known.apart.blocks;
-    taken = λ s b has five. absurd (none-in _ (known.apart.taken s b has five));
-    told = λ telling. absurd (cc);
-  };
-  shows = record {
-    running_len = known.shows.running_len;
-    untold_len = known.shows.untold_len;
-    running = known.shows.running;
-    blocked = known.shows.blocked;
-    stopped = known.shows.stopped;
-    returned = known.shows.returned;
-  };
+  apart = apart-begun w st r e xs known.apart;
+  shows = shows-begun w st e r known.shows;
   placed = known.placed;
 }
 
@@ -126,28 +105,8 @@ closing-calm (x ∷ xs) is = absurd is
 
 passing-append : (w : WorkloadView) (e : ℕ) (p : ProcNo) (s : SpaceNo) (r : Readings) (xs cs : List Record) → EachRecord (Passing s) w e p r xs → AreCalm cs
     → EachRecord (Passing s) w e p r (xs ++ cs)
-passing-append w e p s r [] cs one calm = calm-passes w e p s r cs calm
-passing-append w e p s r (x ∷ xs) cs one calm = (widen x one.0, passing-append w e p s (after_record w e p r x) xs cs one.1 calm) where
-  widen : (y : Record) → Passing s r y xs → Passing s r y (xs ++ cs)
-  widen (Up u a) is = is
-  widen (Run u t) is = is
-  widen (Ready u t) is = is
-  widen (Cont u t) is = is
-  widen (GiveBack a) is = is
-  widen y is = is
-
-from-passes : (w : WorkloadView) (e : ℕ) (p : ProcNo) (s : SpaceNo) (r : Readings) (xs : List Record) → EachRecord (Passes s) w e p r xs
-    → EachRecord (Passing s) w e p r xs
-from-passes w e p s r [] all = tt
-from-passes w e p s r (x ∷ xs) all = (narrow x all.0, from-passes w e p s (after_record w e p r x) xs all.1) where
-  narrow : (y : Record) → Passes s r y xs → Passing s r y xs
-  narrow (Up u a) is = is
-  narrow (Run u t) is = is
-  narrow (Ready u t) is = is
-  narrow (Cont u t) is = is
-  narrow (GiveBack a) is = is
-  narrow (Want u n) is = tt
-  narrow y is = is
+passing-append w e p s r xs cs one calm =
+    each-append (Passing s) w e p r xs cs (λ x rest k is. passing-more s k x rest cs is) one (calm-passes w e p s (after_records w e p r xs) cs calm)
 
 places-prefix : (w : WorkloadView) (e : ℕ) (p : ProcNo) (r : Readings) (xs cs : List Record) → p.0 < w.processors → AreSteps w e p r (xs ++ cs)
     → IsPlaced w r.state → IsPlaced w (after_records w e p r xs).state
@@ -165,7 +124,7 @@ quiet-stays : (w : WorkloadView) (e : ℕ) (p : ProcNo) (st : ℕ → Standing) 
     → st a.0 ≡ Runs s p → standings p st xs a.0 ≡ Runs s p
 quiet-stays w e p st r s a [] within known goes quiet is = is
 quiet-stays w e p st r s a (x ∷ xs) within known goes quiet is =
-    let was = stands w p st r x xs known.apart.agrees goes.moves.0 in
+    let was = stood w p st r x xs known.apart.agrees goes.moves.0 in
     quiet-stays w e p (standing_after p st x) (after_record w e p r x) s a xs within (known-step w e p st r x xs within known goes)
     (record { moves = goes.moves.1; tells = goes.tells.1; steps = goes.steps.1 }) quiet.1 (stays p st x a.0 (Runs s p) was is (quiet-kind x quiet.0))
 
@@ -182,66 +141,15 @@ unsettled r c s (Block u t a io) step quiet is = absurd (cc)
 unsettled r c s x step quiet is = absurd (cc)
 
 out-passes : (w : WorkloadView) (e : ℕ) (p : ProcNo) (s : SpaceNo) (r : Readings) (xs : List Record) → AllOut xs → EachRecord (Passing s) w e p r xs
-out-passes w e p s r [] is = tt
-out-passes w e p s r (Out u t v ∷ xs) is = (tt, out-passes w e p s (after_record w e p r (Out u t v)) xs is)
-out-passes w e p s r (x ∷ xs) is = absurd is
-
--- the first record of a step of another space
-first-passes : (w : WorkloadView) (p : ProcNo) (r : Readings) (s o : SpaceNo) (x : Record) (cs : List Record) → is_quiet x ≡ true → o.0 ≢ s.0
-    → owner_of r p ≡ Some o
-    → Needs w p r x → ((b : ActNo) → x ≡ GiveBack b → space_of_life r (Some b) ≢ Some s) → Passing s r x cs
-first-passes w p r s o (Run u t) cs quiet apart owner needs given =
-    λ same. apart (ap (λ (k : SpaceNo). k.0) (same_Some o s (sym owner ∙ needs.0 ∙ ap Some same)))
-first-passes w p r s o (Ready u t) cs quiet apart owner needs given =
-    λ same. apart (ap (λ (k : SpaceNo). k.0) (same_Some o s (sym owner ∙ needs.0 ∙ ap Some same)))
-first-passes w p r s o (Cont u t) cs quiet apart owner needs given =
-    λ same. apart (ap (λ (k : SpaceNo). k.0) (same_Some o s (sym owner ∙ needs.0 ∙ ap Some same)))
-first-passes w p r s o (GiveBack b) cs quiet apart owner needs given = given b refl
-first-passes w p r s o (Up u b) cs quiet apart owner needs given = absurd (cc)
-first-passes w p r s o x cs quiet apart owner needs given = tt
+out-passes w e p s r xs is = passing-each w e p s r xs (out-pass w e p s r xs is)
 
 calm-first : (s : SpaceNo) (r : Readings) (x : Record) (rest : List Record) → is_step x ≡ false → is_quiet x ≡ true → Passing s r x rest
-calm-first s r (Run u t) rest none quiet = absurd (cc)
-calm-first s r (Ready u t) rest none quiet = absurd (cc)
-calm-first s r (Cont u t) rest none quiet = absurd (cc)
-calm-first s r (GiveBack b) rest none quiet = absurd (cc)
-calm-first s r (Up u b) rest none quiet = absurd (cc)
-calm-first s r x rest none quiet = tt
+calm-first s r x rest none quiet = passing s r x rest (calm-pass s r x rest none quiet)
 
 given-passes : (w : WorkloadView) (e : ℕ) (p : ProcNo) (s : SpaceNo) (r : Readings) (acts : List ActNo)
     → ((a : ActNo) → Contains acts a → space_of_life r (Some a) ≢ Some s)
     → EachRecord (Passing s) w e p r (map GiveBack acts)
-given-passes w e p s r acts other = from-passes w e p s r (map GiveBack acts) (Rattle.sa_legal_readings.proofs.FormLemmas.given-pass w e p s r acts other)
-
--- what a stop or a block notes is untold at the end of an event that has no up of its space
-noted-end : (w : WorkloadView) (e : ℕ) (p : ProcNo) (st : ℕ → Standing) (r : Readings) (s : SpaceNo) (x : Record) (xs : List Record) (n : Note)
-    → p.0 < w.processors → is_real n ≡ true → is_telling (Some x) ≡ false
-    → Contains (untold_of (after_record w e p r x) s) n → Known w st r (x ∷ xs) → Goes w e p r (x ∷ xs) → EachRecord (Passing s) w e p r (x ∷ xs)
-    → Untold (after_records w e p r (x ∷ xs)) s
-noted-end w e p st r s x xs n within real silent has known goes passes =
-    let held = held-all w e p (standing_after p st x) (after_record w e p r x) s xs within (known-step w e p st r x xs within known goes)
-    (record { moves = goes.moves.1; tells = goes.tells.1; steps = goes.steps.1 }) passes.1 (λ telling. absurd (let clash = sym silent ∙ telling in cc)) in
-    (n, real, held.noted n real has)
-
-blocks-untold : (w : WorkloadView) (e : ℕ) (p : ProcNo) (st : ℕ → Standing) (r : Readings) (s : SpaceNo) (a : ActNo) (x : Record) (ys cs : List Record)
-    → p.0 < w.processors → BlocksFirst x ys → is_step x ≡ true
-    → running_of r p ≡ Some a → space_of_life r (Some a) ≡ Some s → s.0 < length r.untold → Known w st r (x ∷ (ys ++ cs)) → Goes w e p r (x ∷ (ys ++ cs))
-    → EachRecord (Passing s) w e p r (x ∷ (ys ++ cs))
-    → Untold (after_records w e p r (x ∷ (ys ++ cs))) s
-blocks-untold w e p st r s a (Block u t b io) ys cs proc blocks step runs space within known goes passes =
-    let law = goes.moves.0 in
-    noted-end w e p st r s (Block u t b io) (ys ++ cs) (note.Blocked b) proc refl refl
-    (note-has r s u (note.Blocked b) (one-act r s u a b p runs law.act space law.space) within) known goes passes
-blocks-untold w e p st r s a (Ins v k i) (Block u t b io ∷ ys) cs proc blocks step runs space within known goes passes =
-    let after = after_record w e p r (Ins v k i) in
-    let law = goes.moves.1.0 in
-    let same : space_of_life after (Some b) ≡ space_of_life r (Some b) = space-with (with_hand (next_effect w r.state v k).roused) (running_of r p) r.lives b.0
-    (λ l. refl) in
-    noted-end w e p (standing_after p st (Ins v k i)) after s (Block u t b io) (ys ++ cs) (note.Blocked b) proc refl refl
-    (note-has after s u (note.Blocked b) (one-act r s u a b p runs law.act space (sym same ∙ law.space)) within)
-    (known-step w e p st r (Ins v k i) (Block u t b io ∷ (ys ++ cs)) proc known goes)
-    (record { moves = goes.moves.1; tells = goes.tells.1; steps = goes.steps.1 }) passes.1
-blocks-untold w e p st r s a x ys cs proc blocks step runs space within known goes passes = absurd (cc)
+given-passes w e p s r acts other = passing-each w e p s r (map GiveBack acts) (given-pass w e p s r acts other)
 
 -- what is known of an event
 pub record At (w : WorkloadView) (st : ℕ → Standing) (r : Readings) (e : Event) (x : Record) (ys cs : List Record) : Type 0 where
@@ -296,11 +204,13 @@ module _ (w : WorkloadView) (st : ℕ → Standing) (r : Readings) (e : Event) (
         let proc = at.proc in
         let runs = up-runs w e.number e.proc s (begun w e r) (x ∷ ys) cs (omega arith) turning up at.closes in
         let stood = behind-it.apart.agrees.running e.proc runs.0.act runs.0.runs in
-        arise-fine w r e (After w r e (x ∷ (ys ++ cs))) s (standings e.proc st (x ∷ (ys ++ cs)))
-        (with_step is_inside_or_urged w r e (After w r e (x ∷ (ys ++ cs))) (x ∷ (ys ++ cs)) (After w r e (x ∷ (ys ++ cs))).lives) runs.0 settling-it
-        (step-space w r e (After w r e (x ∷ (ys ++ cs))) (x ∷ (ys ++ cs)) (After w r e (x ∷ (ys ++ cs))).lives runs.0.act.0 ∙ runs.0.space)
+        arise-fine is_inside_or_urged w r e (After w r e (x ∷ (ys ++ cs))) s (Free (standings e.proc st (x ∷ (ys ++ cs))))
+        (NoPair (After w r e (x ∷ (ys ++ cs))) s)
+        (with_step is_inside_or_urged w r e (After w r e (x ∷ (ys ++ cs))) (x ∷ (ys ++ cs)) (After w r e (x ∷ (ys ++ cs))).lives) runs.0
+        (urged w r e (After w r e (x ∷ (ys ++ cs))) s settling-it)
+        (step-space is_inside_or_urged w r e (After w r e (x ∷ (ys ++ cs))) (x ∷ (ys ++ cs)) (After w r e (x ∷ (ys ++ cs))).lives runs.0.act.0 ∙ runs.0.space)
         (runs-free (standings e.proc st (x ∷ (ys ++ cs))) runs.0.act.0 stood.0 e.proc stood.1) (ap (list_any is_up) at.is ∙ runs.1)
-    | inr each ↦ other (from-passes w e.number e.proc s (begun w e r) (x ∷ ys) (each (begun w e r)))
+    | inr each ↦ other (passing-each w e.number e.proc s (begun w e r) (x ∷ ys) (each (begun w e r)))
   ]
 
   pub turning-fine : s.0 < length w.spaces → Fine r st r.lives s → line_of r e.proc ≡ None → BlocksFirst x ys
@@ -316,7 +226,7 @@ module _ (w : WorkloadView) (st : ℕ → Standing) (r : Readings) (e : Event) (
           | inl same ↦
               let is : space_of_life r (Some a) ≡ Some s = of ∙ ap (λ n. Some (record { 0 = n })) same in
               let untold = at.known.shows.untold_len in
-              inr (inl (blocks-untold w e.number e.proc st (begun w e r) s a x ys cs at.proc blocks step runs is (omega arith) here at.goes (passes-on own)))
+              inr (inl (blocks-untold w e.number e.proc st (begun w e r) s a x ys cs blocks step runs is (omega arith) here.apart at.goes (passes-on own)))
           | inr apart ↦
               held-fine fine (inl low) (passes-on own)
               (λ n life b is in_it inside other step'. other-life r e.proc a s there.0 runs of apart n life b is in_it other)
@@ -331,7 +241,7 @@ module _ (w : WorkloadView) (st : ℕ → Standing) (r : Readings) (e : Event) (
       ))
       (λ a life b is of inside other step. absurd (let clash = sym calm.none ∙ step in cc))
 
-  pub other-fine : Fine r st r.lives s → line_of r e.proc ≡ None → (step : RankedStep w (begun w e r) e.proc x ys)
+  pub other-fine : Fine r st r.lives s → line_of r e.proc ≡ None → (step : StepOf RankedStepBy w (begun w e r) e.proc x ys)
       → space_of_life r (Some step.act) ≡ Some step.life.space → step.life.space.0 ≢ s.0
       → FineAfter w st r e (x ∷ (ys ++ cs)) s
   other-fine fine low step of apart =
@@ -350,12 +260,12 @@ module _ (w : WorkloadView) (st : ℕ → Standing) (r : Readings) (e : Event) (
       own : AllOut ys ⊎ ((x ∷ ys ≡ map GiveBack (taken_of r step.life.space)) × ((b c : Readings) → settles b c x ≡ true))
           → EachRecord (Passing s) w e.number e.proc (begun w e r) (x ∷ ys)
       own (inl out) = (
-        first-passes w e.proc (begun w e r) s step.life.space x ys step.quiet.0 apart owner at.goes.steps.0 (λ b is. gives b is),
+        first-passing w e.proc (begun w e r) s step.life.space x ys step.quiet.0 apart owner at.goes.steps.0 (λ b is. gives b is),
         out-passes w e.number e.proc s (after_record w e.number e.proc (begun w e r) x) ys out,
       ) where
         gives : (b : ActNo) → x ≡ GiveBack b → space_of_life r (Some b) ≢ Some s
         gives b is =
-            let by = subst (λ y. Rattle.sa_ranks.specs.Steps.RankedStepBy w (begun w e r) e.proc step.act step.life y ys) is step.by in
+            let by = subst (λ y. RankedStepBy w (begun w e r) e.proc step.act step.life y ys) is step.by in
             taken b (head-has b ys (taken_of r step.life.space) by.all)
           where
             head-has : (k : ActNo) (zs : List Record) (acts : List ActNo) → GiveBack k ∷ zs ≡ map GiveBack acts → Contains acts k
@@ -365,7 +275,8 @@ module _ (w : WorkloadView) (st : ℕ → Standing) (r : Readings) (e : Event) (
           subst (EachRecord (Passing s) w e.number e.proc (begun w e r)) (sym all.0)
           (given-passes w e.number e.proc s (begun w e r) (taken_of r step.life.space) taken)
 
-  pub same-fine : Fine r st r.lives s → line_of r e.proc ≡ None → BeginsUnurged w r e.proc (x ∷ (ys ++ cs)) → (step : RankedStep w (begun w e r) e.proc x ys)
+  pub same-fine : Fine r st r.lives s → line_of r e.proc ≡ None → BeginsUnurged w r e.proc (x ∷ (ys ++ cs))
+      → (step : StepOf RankedStepBy w (begun w e r) e.proc x ys)
       → r.lives step.act.0 ≡ Some step.life → step.life.space ≡ s
       → FineAfter w st r e (x ∷ (ys ++ cs)) s
   same-fine fine low freely step is of = one (settles r (After w r e (x ∷ (ys ++ cs))) x) refl where
@@ -379,8 +290,9 @@ module _ (w : WorkloadView) (st : ℕ → Standing) (r : Readings) (e : Event) (
         let stays_there = quiet-stays w e.number e.proc st (begun w e r) s step.act (x ∷ (ys ++ cs)) at.proc here at.goes
         (quiet-append (x ∷ ys) cs step.quiet (closing-quiet cs at.closes))
         (stood.1 ∙ ap (λ k. Runs k e.proc) space) in
-        settle-fine w r e (After w r e (x ∷ (ys ++ cs))) s (standings e.proc st (x ∷ (ys ++ cs))) x (ys ++ cs)
-        (After w r e (x ∷ (ys ++ cs))).lives step.act settling-it step.runs
+        settle-fine is_inside_or_urged w r e (After w r e (x ∷ (ys ++ cs))) s (Free (standings e.proc st (x ∷ (ys ++ cs))))
+        (NoPair (After w r e (x ∷ (ys ++ cs))) s) x (ys ++ cs) (After w r e (x ∷ (ys ++ cs))).lives step.act
+        (urged w r e (After w r e (x ∷ (ys ++ cs))) s settling-it) step.runs
         (behind-it.apart.agrees.lives step.act ∙ ap space_in stays_there)
         (runs-free (standings e.proc st (x ∷ (ys ++ cs))) step.act.0 s e.proc stays_there) step.step settles_it
 
@@ -430,7 +342,7 @@ module _ (w : WorkloadView) (st : ℕ → Standing) (r : Readings) (e : Event) (
         subst (λ y. Contains (untold_of (after_record w e.number e.proc (begun w e r) y) s) (note.Preempted a)) (sym same)
         (note-has (begun w e r) s u (note.Preempted a) (is.0 ∙ of) (omega arith)) in
         inr
-        (inl (noted-end w e.number e.proc st (begun w e r) s x (ys ++ cs) (note.Preempted a) at.proc refl (ap (λ y. is_telling (Some y)) same) has here at.goes
+        (inl (noted-end w e.number e.proc st (begun w e r) s x (ys ++ cs) (note.Preempted a) refl (ap (λ y. is_telling (Some y)) same) has here.apart at.goes
         (passes-on own)))
     stopped y same o of is = absurd is
 

@@ -1,5 +1,5 @@
 -- The thread that runs on a processor of a space is the one that its running life's context carries: before a step, and
--- behind records of the space. For all user levels.
+-- after records of the space. For all user levels.
 use Rattle.std.proofs.Common.{◌≡◌, ◌≢◌, ℕ, List, [], ◌∷◌, All, Option, Some, None, get_or, refl, sym, ap, subst, ◌∙◌, zero-add, inl, inr}
 use Rattle.std.proofs.lemmas.Bool.{cases_eq}
 use Rattle.std.proofs.lemmas.List.Elements.{All-head, All-tail}
@@ -44,7 +44,7 @@ runner-is a p s o alone runs = by (runner_on a p) refl o refl where
       let it = alone x.space x.thread there in
       some ∙ ap (λ z. Some (record { space = z; thread = x.thread })) it.0 ∙ sym (ap (runner_of s) it.1)
 
--- so on a processor that the space owns, also at a later moment at which the other spaces stand as before
+-- so on a processor that the space owns, also at a later moment at which the other spaces are as before
 pub runner-behind : (s : SpaceNo) (r last : Readings) (p : ProcNo) (o : Option ThreadNo) → IsMoment r → owner_of r p ≡ Some s
     → ((z : SpaceNo) → z.0 ≢ s.0 → space_at last.state z ≡ space_at r.state z) → RunsAlone s last p o
     → runner_on last.state p ≡ runner_of s o

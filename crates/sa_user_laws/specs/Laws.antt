@@ -98,8 +98,8 @@ pub record UserLaws {U C : Type 0} (calls : Calls U C) (stands : Standing U C) (
       → life_of r b ≡ Some life → life.space ≡ s.space → held.thread ≡ life.thread → IsHanded cs n.0 note (Some held)
       → hears w s (after_record w number p r (Told note)) n (calls.told u c note (Some held)).0
       (told_contexts cs n.0 (calls.told u c note (Some held)).1 note)
-  -- The context goes on, and its event, in which its up stands, ends; r is read behind the last record. Where another
-  -- life of the space has blocked in this event, the end of that one's own event stands in r already, and not in `last`.
+  -- The context goes on, and its event, in which its up is, ends; r is read after the last record. Where another
+  -- life of the space has blocked in this event, the end of that one's own event is in r already, and not in `last`.
   pub answers : (w : WorkloadView) (s : Setting) (e : ℕ) (before r last : Readings) (ev : Event) (u : U) (cs : Contexts C) (n : ActNo) (c : C) (seen : Seen)
       → Holds stands w s e r u cs → hears w s r n u cs → cs n.0 ≡ Some c → running_of r ev.proc ≡ Some n
       → Contains ev.records (Up s.space n) → AlikeButEnds last r → Sees s.space r ev.proc ev.number seen

@@ -16,7 +16,7 @@ use Rattle.sa_laws.specs.History.{begun}
 use Rattle.sa_user_laws.specs.Moments.{IsMoment, AreSized}
 
 -- How a space's value and the contexts of its activations stand to what is read of the history: at rest, that is
--- between two events, directly behind a stop or a block, and directly before an up ..
+-- between two events, directly after a stop or a block, and directly before an up.
 abbrev pub Fits : Type 0 → Type 0 → Type 1
 Fits U C = WorkloadView → Setting → Readings → U → Contexts C → Type 0
 
@@ -68,6 +68,6 @@ pub record IsActing {U C : Type 0} (calls : Calls U C) (stands : Standing U C) (
   pub on : IsOn s.space r p a life cs c
   pub runner : runner_on r.state p ≡ runner_of s.space (calls.thread u c)
 
--- the moment directly behind the beginning of an event
+-- the moment directly after the beginning of an event
 abbrev pub begun_at : WorkloadView → ℕ → ProcNo → Readings → Readings
 begun_at w e p r = begun w (record { number = e; proc = p; records = [] }) r

@@ -26,16 +26,16 @@ use Rattle.sa_laws.specs.Rules.{UserRules}
 use Rattle.sa_user_laws.specs.Moments.{Alike, AlikeButDemands, Sees}
 use Rattle.sa_user_laws.specs.Scene.{Fits, begun_at}
 
--- an event with these records of its own, and a closing behind them
+-- an event with these records of its own, and a closing after them
 abbrev pub event_with : ℕ → ProcNo → List Record → List Record → Event
 event_with e p own closing = record { number = e; proc = p; records = own ++ closing }
 
--- A closing stands behind an event's own records, which read as its own.
+-- A closing comes after an event's own records, which read as its own.
 pub record IsClosed (own closing : List Record) : Type 0 where
   pub closes : IsClosing closing
   pub is_own : own_part (own ++ closing) ≡ own
 
--- The user level's rules hold at an event of its own ..
+-- The user level's rules hold at an event of its own.
 pub record RulesHold (rules : UserRules) (w : WorkloadView) (r : Readings) (ev : Event) (own : List Record) : Type 0 where
   pub steps : rules.Steps w (begun w ev r) ev.proc own
   pub demand : rules.Demand w r ev
@@ -77,7 +77,7 @@ module _ (rules : UserRules) where
     pub is_local : IsLocalIns w (begun_at w e p r) (x ∷ [])
     pub rules_hold : (closing : List Record) → IsClosed (x ∷ []) closing → RulesHold rules w r (event_with e p (x ∷ []) closing) (x ∷ [])
 
-  -- Local instructions that are committed at once: each is legal, and behind the last, with which a slice may end,
+  -- Local instructions that are committed at once: each is legal, and after the last, with which a slice may end,
   -- this holds.
   abbrev pub AreLegalIns : WorkloadView → ℕ → ProcNo → Readings → List Record → (Readings → Type 0) → Type 0
   AreLegalIns w e p r [] finally = finally r
@@ -113,7 +113,7 @@ module _ {U C : Type 0} (calls : Calls U C) (rules : UserRules) (fits : Fits U C
         → fits w s (after_event rules.inside w r (event_with e p own closing)) (calls.answered st.user seen st.ctx).0
         (put (put cs a.0 (Some st.ctx)) a.0 (Some (calls.answered st.user seen st.ctx).1))
 
-  -- One that asks for a block. The own event of its life ends with the block, whatever the kernel writes behind it; an
+  -- One that asks for a block. The own event of its life ends with the block, whatever the kernel writes after it; an
   -- upcall in the same event begins from that moment.
   pub record IsLegalBlock (w : WorkloadView) (s : Setting) (r : Readings) (p : ProcNo) (e : ℕ) (a : ActNo) (cs : Contexts C) (st : Stepped U C) (len : ℕ)
       (page : Option ℕ) : Type 0 where
