@@ -56,7 +56,7 @@ pub record IsSeenOf {U C : Type 0} (stands : Standing U C) (u : U) (seen : Seen)
   pub mine : others act ≡ Some c
   pub sees : IsSeen setting seen
 
--- the same, in an event behind those of all earlier steps
+-- the same, in an event after those of all earlier steps
 pub record IsStep {U C : Type 0} (stands : Standing U C) (u : U) (seen : Seen) (c : C) : Type 0 where
   pub setting : Setting
   pub event : ℕ
@@ -92,26 +92,26 @@ pub record IsTelling {U C : Type 0} (stands : Standing U C) (u : U) (c : C) (not
   pub mine : others act ≡ Some c
   pub handed : IsHanded others act note held
 
--- the contexts behind a notice: what was handed over is gone
+-- the contexts after a notice: what was handed over is gone
 abbrev pub told_contexts : {C : Type 0} → Contexts C → ℕ → C → Note → Contexts C
 told_contexts others act c (Add p) = put others act (Some c)
 told_contexts others act c (Blocked b) = put others act (Some c)
 told_contexts others act c (Preempted b) = put (put others act (Some c)) b.0 None
 told_contexts others act c (Unblocked b) = put (put others act (Some c)) b.0 None
 
--- the state stands at a thread's instruction of a space of this setting, within its program
+-- the state is at a thread's instruction of a space of this setting, within its program
 abbrev pub IsSeat : Setting → SeatState → Type 0
 IsSeat s (Local space thread program pc regs) =
     (space ≡ s.space) × (program < length s.def.programs) × (pc < length (program_at s.def.programs program))
 IsSeat s Away = Unit {0}
 
--- a thread stands there, and its next n instructions are local
+-- a thread is there, and its next n instructions are local
 abbrev pub GoesOn : Setting → ℕ → SeatState → Type 0
 GoesOn s n (Local space thread program pc regs) =
     AreLocal (program_at s.def.programs program) n (record { pc = pc; regs = regs })
 GoesOn s n Away = ⊥
 
--- the state behind n local instructions, and their records
+-- the state after n local instructions, and their records
 abbrev pub moved_to : SpaceNo → ThreadNo → ℕ → Spot → SeatState
 moved_to space thread program spot = Local space thread program spot.pc spot.regs
 
@@ -176,7 +176,8 @@ pub record IsStepped {U C : Type 0} (stands : Standing U C) (s : Setting) (seen 
   pub few : length r.says ≤ 4
 
 -- what is true of the outcome of n local instructions
-pub record IsGone {U C : Type 0} (calls : Calls U C) (stands : Standing U C) (s : Setting) (seen : Seen) (others : Contexts C) (a n : ℕ) (before : SeatState) (r : Gone U C) : Type 0 where
+pub record IsGone {U C : Type 0} (calls : Calls U C) (stands : Standing U C) (s : Setting) (seen : Seen) (others : Contexts C) (a n : ℕ) (before : SeatState)
+    (r : Gone U C) : Type 0 where
   pub value : stands s (seen.event + n - 1) r.user (put others a (Some r.ctx))
   pub says : r.says ≡ records_of s n before
   pub state : calls.local r.user r.ctx ≡ state_after s n before

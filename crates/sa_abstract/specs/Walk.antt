@@ -8,19 +8,19 @@ use Rattle.sa_instr.specs.declared.instr.Instr.{Instr}
 use Rattle.sa_instr.specs.declared.answer.Local.TheVariants.{Went}
 use Rattle.sa_instr.specs.Local.{instr_at, local_answer, place_after, regs_after}
 
--- where a thread stands: its place and its registers
+-- where a thread is: its place and its registers
 pub record Spot : Type 0 where
   pub pc : ℕ
   pub regs : List ℕ
 
--- the spot behind one instruction
+-- the spot after one instruction
 abbrev pub after_one : List Instr → Spot → Spot
 after_one program spot = record {
   pc = place_after (instr_at program spot.pc) spot.pc spot.regs;
   regs = regs_after (instr_at program spot.pc) spot.regs;
 }
 
--- the spot behind n instructions
+-- the spot after n instructions
 abbrev pub after_many : List Instr → ℕ → Spot → Spot
 after_many program zero spot = spot
 after_many program (suc n) spot = after_many program n (after_one program spot)

@@ -7,9 +7,9 @@ use sa_instr::Regs;
 pub enum Step {
     /// Nothing.
     Did,
-    /// The context blocks for so many events, 1 to 1,000,000: for an I/O, or until this page, 1 to 15, is resident.
+    /// The context blocks for this many events, 1 to 1,000,000: for an I/O, or until this page, 1 to 15, is resident.
     Block { length: u32, page: Option<u16> },
-    /// The hint that its space can use so many processors more, at least 1 (SOSP 1991, section 3.2).
+    /// The hint that its space can use this many processors more, at least 1 (SOSP 1991, section 3.2).
     More(u16),
     /// The hint that this processor is idle (SOSP 1991, section 3.2).
     Idle,
@@ -19,7 +19,7 @@ pub enum Step {
     InterruptOwn(ProcNo),
 }
 
-/// Where a context stands, as far as its processor can go on by itself.
+/// Where a context is, as far as its processor can go on by itself.
 #[derive(Clone, Copy, Debug, PartialEq, Eq)]
 pub enum SeatState {
     /// At the instruction at place `pc` of a program of the space, which its thread runs.

@@ -52,7 +52,7 @@ pub trait UserLevel: Sized + Drop + Send {
         requires { IsTelling stands self.old ctx.old note held }
         ensures { (self.new, ctx.new) ≡ calls.told self.old ctx.old note held };
 
-    /// The context goes on behind the last notice of its upcall, or behind a hint or another entry that it asked for.
+    /// The context goes on after the last notice of its upcall, or after a hint or another entry that it asked for.
     fn answered(&mut self, seen: &Seen, ctx: &mut Self::Ctx)
         requires { IsSeenOf stands self.old seen.now ctx.old }
         ensures { (self.new, ctx.new) ≡ calls.answered self.old seen.now ctx.old };
@@ -85,7 +85,7 @@ pub trait UserLevel: Sized + Drop + Send {
     fn in_section(&self, ctx: &Self::Ctx) -> Option<u16>
         ensures { result ≡ calls.in_section self.now ctx.now };
 
-    /// Where the context stands.
+    /// Where the context is.
     fn local(&self, ctx: &Self::Ctx) -> SeatState
         requires { IsOf stands self.now ctx.now }
         ensures { result ≡ calls.local self.now ctx.now };

@@ -1,20 +1,13 @@
 -- The threads that join one.
-use Rattle.std.proofs.Common.{◌≡◌, ℕ, ◌+◌, ◌<◌, ◌≤◌, List, [], ◌∷◌, ◌++◌, length, map, drop, Some, slice_get, ap, ◌∙◌, arith}
+use Rattle.std.proofs.Common.{◌≡◌, ℕ, ◌<◌, ◌≤◌, List, [], ◌∷◌, length, drop, Some, slice_get, ap, arith}
 use Rattle.std.proofs.lemmas.Option.{same_Some}
-use Rattle.std.proofs.lemmas.List.{get_or-set_same, set-set}
-use Rattle.std.proofs.lemmas.List.Sums.{sum_by-append}
+use Rattle.std.proofs.lemmas.List.{get_or-set_same}
 use Rattle.sa_base.specs.declared.limits.TheConstants.{MAX_THREADS}
-use Rattle.sa_links.specs.Lists.{count_in, count_in_all}
+use Rattle.sa_links.specs.Lists.{count_in}
 use Rattle.sa_links.proofs.Counting.{count_at, few_below}
-use Rattle.sa_sync.specs.Sync.{Sync, Mutex, Semaphore, joiners_at, with_joiners, waits_of, WaitsOnce}
+use Rattle.sa_sync.specs.Sync.{Sync, joiners_at, waits_of, WaitsOnce}
 use Rattle.sa_sync.specs.Calls.{first_joiner, without_joiner}
-
--- how often a thread waits, by the kinds of queues
-pub waits_parts : (s : Sync) (u : ℕ) → waits_of s u ≡ count_in_all u s.joiners + count_in_all u (map (λ (m : Mutex). m.queue) s.mutexes)
-    + count_in_all u (map (λ (k : Semaphore). k.queue) s.semaphores)
-waits_parts s u =
-    let mutexes = map (λ (m : Mutex). m.queue) s.mutexes in let semaphores = map (λ (k : Semaphore). k.queue) s.semaphores in
-    sum_by-append (count_in u) (s.joiners ++ mutexes) semaphores ∙ ap (λ n. n + count_in_all u semaphores) (sum_by-append (count_in u) s.joiners mutexes)
+use Rattle.sa_sync.proofs.LawLemmas.{waits_parts}
 
 -- no more join one than there can be
 pub few_joiners : (s : Sync) (t : ℕ) → WaitsOnce s → length (joiners_at s t) ≤ MAX_THREADS
@@ -32,6 +25,3 @@ queue s t u first = behind (joiners_at s t) u first
 
 pub rest_joins : (s : Sync) (t : ℕ) → t < length s.joiners → joiners_at (without_joiner s t) t ≡ drop 1 (joiners_at s t)
 rest_joins s t inside = get_or-set_same s.joiners t (drop 1 (joiners_at s t)) [] inside
-
-pub joiners_twice : (s : Sync) (t : ℕ) (q r : List ℕ) → with_joiners (with_joiners s t q) t r ≡ with_joiners s t r
-joiners_twice s t q r = ap (λ js. record s { joiners = js }) (set-set s.joiners t q r)

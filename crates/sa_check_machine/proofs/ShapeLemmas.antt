@@ -1,5 +1,5 @@
 -- Each instruction changes the threads of its space alike, and keeps what always holds of them.
-use Rattle.std.proofs.Common.{◌≡◌, ◌≢◌, ℕ, zero, suc, ◌+◌, ◌<◌, ◌≤◌, ◌^◌, ◌-◌, Bool, true, false, cond, nat_lt, List, [], ◌∷◌, ◌++◌, length, get_or, set, inl, inr, refl, sym, ap, subst, ◌∙◌, arith, length-append}
+use Rattle.std.proofs.Common.{◌≡◌, ◌≢◌, ℕ, zero, suc, ◌+◌, ◌<◌, ◌≤◌, ◌^◌, ◌-◌, Bool, true, false, cond, nat_lt, [], ◌∷◌, ◌++◌, length, get_or, set, inl, inr, refl, sym, ap, subst, ◌∙◌, arith, length-append}
 use Rattle.std.proofs.lemmas.Bool.{cases_eq, cases_lt, ltb-true, ne_eqb}
 use Rattle.std.proofs.lemmas.List.{length-set, get_or-set_same, get_or-set_other, get_or_append_left, get_or-append_right, get_or_past, append-nil}
 use Rattle.sa_base.specs.declared.number.ProcNo.{ProcNo}
@@ -11,15 +11,13 @@ use Rattle.sa_instr.specs.declared.instr.Reg.{Reg}
 use Rattle.sa_instr.specs.Instr.{NamesDeclared}
 use Rattle.sa_instr.specs.Regs.{reg_value}
 use Rattle.sa_spaces.specs.Space.{SpaceView}
-use Rattle.sa_links.specs.Lists.{count_in}
-use Rattle.sa_links.proofs.Counting.{count_set}
 use Rattle.sa_sync.specs.declared.answer.SyncAnswer.{SyncAnswer}
 use Rattle.sa_sync.specs.declared.answer.SyncAnswer.TheVariants as answers
-use Rattle.sa_sync.specs.Sync.{Sync, joiners_at, with_joiners, waits_of}
+use Rattle.sa_sync.specs.Sync.{Sync, with_joiners, waits_of}
 use Rattle.sa_sync.specs.Calls.{Change, locked, unlocked, waited, signalled, joined, finished, stored}
 use Rattle.sa_sync.specs.Laws.{SameNumbers, TellsWhoWaits, woken, joining}
-use Rattle.sa_sync.proofs.LawLemmas.{locked_tells, unlocked_tells, waited_tells, signalled_tells, joined_tells}
-use Rattle.sa_sync.proofs.Numbers.{locked_keeps, unlocked_keeps, waited_keeps, signalled_keeps, joined_keeps}
+use Rattle.sa_sync.proofs.LawLemmas.{waits-joiners, locked_tells, unlocked_tells, waited_tells, signalled_tells, joined_tells}
+use Rattle.sa_sync.proofs.Numbers.{same_numbers, locked_keeps, unlocked_keeps, waited_keeps, signalled_keeps, joined_keeps}
 use Rattle.sa_laws.specs.declared.place.Place.{Place}
 use Rattle.sa_laws.specs.declared.place.Place.TheVariants as places
 use Rattle.sa_laws.specs.State.{Thread, SpaceState, at_start, thread_in, with_thread}
@@ -27,11 +25,7 @@ use Rattle.sa_laws.specs.Effect.{Effect, effect, next, next_with, with_sync, ans
 use Rattle.sa_check_machine.specs.Running.{is_running, instr_in, IsAt, HasDeclared, HasCount, CanRun}
 use Rattle.sa_check_machine.specs.Sound.{IsSound}
 use Rattle.sa_check_machine.specs.Space.{CanDo}
-use Rattle.sa_check_machine.proofs.JoinerLemmas.{waits_parts}
 use Rattle.sa_check_machine.specs.Shape.{IsShaped, StaysOrRests, TellsWaiting}
-
-same_numbers : (s : Sync) → SameNumbers s s
-same_numbers s = record { mutexes = refl; semaphores = refl; joiners = refl; done = refl; cells = refl }
 
 -- an instruction that forks no thread
 alone : (x : SpaceState) (t : ThreadNo) (place : Place) (after : Thread) (sync : Sync) → StaysOrRests place after.place
@@ -90,17 +84,12 @@ forks x t thread reg program =
       | false ↦ λ test. own x t thread.place (next_with thread reg (2 ^ 64 - 1)) (inl refl)
     ] refl
 
--- how often a thread waits, with other joiners of one thread
-waits_with : (s : Sync) (t : ℕ) (q : List ℕ) (u : ℕ) → t < length s.joiners
-    → waits_of (with_joiners s t q) u + count_in u (joiners_at s t) ≡ waits_of s u + count_in u q
-waits_with s t q u h = omega (arith, count_set u s.joiners t q h, waits_parts s u, waits_parts (with_joiners s t q) u)
-
 -- the end of a thread
 ends : (x : SpaceState) (t : ThreadNo) (thread : Thread) → t.0 < length x.sync.joiners → IsShaped x t thread.place (end_effect x t thread).space
 ends x t thread inside =
     let sync = with_joiners (finished x.sync t.0) t.0 [] in
     alone x t thread.place (record thread { place = places.Done }) sync (inr refl) (λ u waits. inl (
-    let change = waits_with (finished x.sync t.0) t.0 [] u inside in
+    let change = waits-joiners (finished x.sync t.0) t.0 [] u inside in
     let same : waits_of (finished x.sync t.0) u ≡ waits_of x.sync u = refl in
     omega (arith, change, same, waits)
     )) (record { mutexes = refl; semaphores = refl; joiners = length-set x.sync.joiners t.0 []; done = length-set x.sync.done t.0 true; cells = refl })

@@ -1,4 +1,4 @@
--- What a micro-operation answers, and where its frame then stands.
+-- What a micro-operation answers, and where its frame then is.
 use Rattle.std.proofs.Common.{◌≡◌, ℕ, ◌-◌, ◌<◌, Bool, true, false, length, Option, Some, None, slice_get, refl, arith}
 use Rattle.std.proofs.lemmas.Option.{slice_get-get_or}
 use Rattle.sa_base.specs.declared.number.ProcNo.{ProcNo}
@@ -17,21 +17,25 @@ pub chosen-some : (r : ReadyView) (own : Bool) (l : ℕ) → 0 < length (list_of
 chosen-some r true l h = (_, slice_get-get_or (list_of r l) 0 0 h)
 chosen-some r false l h = (_, slice_get-get_or (list_of r l) (length (list_of r l) - 1) 0 (omega arith))
 
-pushed-answer : (s : PackageState) (f : Frame) (held resident : Bool) (l : ProcNo) (t : Option ThreadNo) (x : ThreadNo) → t ≡ Some x → (pushed s f resident l t).done ≡ answer_of (Some Push) held resident
+pushed-answer : (s : PackageState) (f : Frame) (held resident : Bool) (l : ProcNo) (t : Option ThreadNo) (x : ThreadNo) → t ≡ Some x
+    → (pushed s f resident l t).done ≡ answer_of (Some Push) held resident
 pushed-answer s f held false l t x e = refl
 pushed-answer s f held true l None x e = absurd cc
 pushed-answer s f held true l (Some y) x e = refl
 
-popped-answer : (s : PackageState) (f : Frame) (held resident : Bool) (l : ProcNo) (t : Option ℕ) (x : ℕ) → t ≡ Some x → (popped s f resident l t).done ≡ answer_of (Some Pop) held resident
+popped-answer : (s : PackageState) (f : Frame) (held resident : Bool) (l : ProcNo) (t : Option ℕ) (x : ℕ) → t ≡ Some x
+    → (popped s f resident l t).done ≡ answer_of (Some Pop) held resident
 popped-answer s f held false l t x e = refl
 popped-answer s f held true l None x e = absurd cc
 popped-answer s f held true l (Some y) x e = refl
 
-taken-answer : (s : PackageState) (f : Frame) (held resident : Bool) (l : ProcNo) → ((taken s f l held).done ≡ answer_of (Some TakePush) held resident) × ((taken s f l held).done ≡ answer_of (Some TakePop) held resident)
+taken-answer : (s : PackageState) (f : Frame) (held resident : Bool) (l : ProcNo)
+    → ((taken s f l held).done ≡ answer_of (Some TakePush) held resident) × ((taken s f l held).done ≡ answer_of (Some TakePop) held resident)
 taken-answer s f true resident l = (refl, refl)
 taken-answer s f false resident l = (refl, refl)
 
-micro_at-answer : (s : PackageState) (f : Frame) (resident : Bool) (op : Option Op) → CanDo s f op → (micro_at s f resident (list_in f) op).done ≡ answer_of op (is_locked s.lists (list_in f).0) resident
+micro_at-answer : (s : PackageState) (f : Frame) (resident : Bool) (op : Option Op) → CanDo s f op
+    → (micro_at s f resident (list_in f) op).done ≡ answer_of op (is_locked s.lists (list_in f).0) resident
 micro_at-answer s f resident (Some TakePush) can = (taken-answer s f (is_locked s.lists (list_in f).0) resident (list_in f)).0
 micro_at-answer s f resident (Some Push) can = pushed-answer s f (is_locked s.lists (list_in f).0) resident (list_in f) f.pushed can.1.thread can.1.pushes
 micro_at-answer s f resident (Some TakePop) can = (taken-answer s f (is_locked s.lists (list_in f).0) resident (list_in f)).1
@@ -43,7 +47,8 @@ micro_at-answer s f resident (Some Leave) can = refl
 micro_at-answer s f resident (Some Yield) can = refl
 micro_at-answer s f resident None can = absurd can
 
-pub micro-answer : (s : PackageState) (f : Frame) (pages : ℕ) → CanDo s f (slice_get s.code f.pc) → (micro s f pages).done ≡ answer_of (slice_get s.code f.pc) (is_locked s.lists (list_in f).0) (is_resident pages PACKAGE_PAGE)
+pub micro-answer : (s : PackageState) (f : Frame) (pages : ℕ) → CanDo s f (slice_get s.code f.pc)
+    → (micro s f pages).done ≡ answer_of (slice_get s.code f.pc) (is_locked s.lists (list_in f).0) (is_resident pages PACKAGE_PAGE)
 micro-answer s f pages can = micro_at-answer s f (is_resident pages PACKAGE_PAGE) (slice_get s.code f.pc) can
 
 -- the frame goes on where the operation was done
@@ -51,17 +56,20 @@ taken-goes_on : (s : PackageState) (f : Frame) (l : ProcNo) (held : Bool) → Go
 taken-goes_on s f l true = record { list = refl; own = refl; place = refl }
 taken-goes_on s f l false = record { list = refl; own = refl; place = refl }
 
-pushed-goes_on : (s : PackageState) (f : Frame) (resident : Bool) (l : ProcNo) (t : Option ThreadNo) → GoesOn f (pushed s f resident l t).frame (is_did (pushed s f resident l t).done)
+pushed-goes_on : (s : PackageState) (f : Frame) (resident : Bool) (l : ProcNo) (t : Option ThreadNo)
+    → GoesOn f (pushed s f resident l t).frame (is_did (pushed s f resident l t).done)
 pushed-goes_on s f false l t = record { list = refl; own = refl; place = refl }
 pushed-goes_on s f true l None = record { list = refl; own = refl; place = refl }
 pushed-goes_on s f true l (Some t) = record { list = refl; own = refl; place = refl }
 
-popped-goes_on : (s : PackageState) (f : Frame) (resident : Bool) (l : ProcNo) (t : Option ℕ) → GoesOn f (popped s f resident l t).frame (is_did (popped s f resident l t).done)
+popped-goes_on : (s : PackageState) (f : Frame) (resident : Bool) (l : ProcNo) (t : Option ℕ)
+    → GoesOn f (popped s f resident l t).frame (is_did (popped s f resident l t).done)
 popped-goes_on s f false l t = record { list = refl; own = refl; place = refl }
 popped-goes_on s f true l None = record { list = refl; own = refl; place = refl }
 popped-goes_on s f true l (Some t) = record { list = refl; own = refl; place = refl }
 
-micro_at-goes_on : (s : PackageState) (f : Frame) (resident : Bool) (l : ProcNo) (op : Option Op) → GoesOn f (micro_at s f resident l op).frame (is_did (micro_at s f resident l op).done)
+micro_at-goes_on : (s : PackageState) (f : Frame) (resident : Bool) (l : ProcNo) (op : Option Op)
+    → GoesOn f (micro_at s f resident l op).frame (is_did (micro_at s f resident l op).done)
 micro_at-goes_on s f resident l (Some TakePush) = taken-goes_on s f l (is_locked s.lists l.0)
 micro_at-goes_on s f resident l (Some Push) = pushed-goes_on s f resident l f.pushed
 micro_at-goes_on s f resident l (Some TakePop) = taken-goes_on s f l (is_locked s.lists l.0)
@@ -79,17 +87,20 @@ taken-still : (s : PackageState) (f : Frame) (l : ProcNo) (held : Bool) → is_d
 taken-still s f l true e = record { state = refl; frame = refl }
 taken-still s f l false e = absurd cc
 
-pushed-still : (s : PackageState) (f : Frame) (resident : Bool) (l : ProcNo) (t : Option ThreadNo) → is_did (pushed s f resident l t).done ≡ false → IsStill s f (pushed s f resident l t)
+pushed-still : (s : PackageState) (f : Frame) (resident : Bool) (l : ProcNo) (t : Option ThreadNo) → is_did (pushed s f resident l t).done ≡ false
+    → IsStill s f (pushed s f resident l t)
 pushed-still s f false l t e = record { state = refl; frame = refl }
 pushed-still s f true l None e = record { state = refl; frame = refl }
 pushed-still s f true l (Some t) e = absurd cc
 
-popped-still : (s : PackageState) (f : Frame) (resident : Bool) (l : ProcNo) (t : Option ℕ) → is_did (popped s f resident l t).done ≡ false → IsStill s f (popped s f resident l t)
+popped-still : (s : PackageState) (f : Frame) (resident : Bool) (l : ProcNo) (t : Option ℕ) → is_did (popped s f resident l t).done ≡ false
+    → IsStill s f (popped s f resident l t)
 popped-still s f false l t e = record { state = refl; frame = refl }
 popped-still s f true l None e = record { state = refl; frame = refl }
 popped-still s f true l (Some t) e = absurd cc
 
-micro_at-still : (s : PackageState) (f : Frame) (resident : Bool) (l : ProcNo) (op : Option Op) → is_did (micro_at s f resident l op).done ≡ false → IsStill s f (micro_at s f resident l op)
+micro_at-still : (s : PackageState) (f : Frame) (resident : Bool) (l : ProcNo) (op : Option Op) → is_did (micro_at s f resident l op).done ≡ false
+    → IsStill s f (micro_at s f resident l op)
 micro_at-still s f resident l (Some TakePush) e = taken-still s f l (is_locked s.lists l.0) e
 micro_at-still s f resident l (Some Push) e = pushed-still s f resident l f.pushed e
 micro_at-still s f resident l (Some TakePop) e = taken-still s f l (is_locked s.lists l.0) e

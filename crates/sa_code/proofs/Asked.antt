@@ -8,8 +8,9 @@ use Rattle.sa_code.specs.Changes.{ChangesOnly, IsPackage}
 use Rattle.sa_code.proofs.Steps.{pushed-changes_only, popped-changes_only, taken-list}
 use Rattle.sa_code.proofs.Kept.{has_holder, has_lock}
 
--- behind a take the frame's list can be changed, and its thread pushed or the list's popped
-pub can_change-taken : (s : PackageState) (f : Frame) → IsPackage s → HasList s f → CanChange (taken s f (list_in f) false).state (taken s f (list_in f) false).frame
+-- after a take the frame's list can be changed, and its thread pushed or the list's popped
+pub can_change-taken : (s : PackageState) (f : Frame) → IsPackage s → HasList s f
+    → CanChange (taken s f (list_in f) false).state (taken s f (list_in f) false).frame
 can_change-taken s f h list = record {
   list = record { there = list.there; inside = list.inside };
   locked = (taken-list s f (list_in f) (has_lock s (list_in f).0 h list.inside) (has_holder s (list_in f).0 h list.inside)).lock;
@@ -21,14 +22,16 @@ can_push-taken s f h = record { thread = h.thread; pushes = h.pushes; below = h.
 pub can_pop-taken : (s : PackageState) (f : Frame) → CanPop s f → CanPop (taken s f (list_in f) false).state (taken s f (list_in f) false).frame
 can_pop-taken s f h = record { some = h.some; carries = h.carries }
 
--- behind an effect it can be freed
-pub can_change-pushed : (s : PackageState) (f : Frame) (t : ThreadNo) → CanChange s f → CanChange (pushed s f true (list_in f) (Some t)).state (pushed s f true (list_in f) (Some t)).frame
+-- after an effect it can be freed
+pub can_change-pushed : (s : PackageState) (f : Frame) (t : ThreadNo) → CanChange s f
+    → CanChange (pushed s f true (list_in f) (Some t)).state (pushed s f true (list_in f) (Some t)).frame
 can_change-pushed s f t h = record {
   list = record { there = h.list.there; inside = subst (λ n. (list_in f).0 < n) (sym (pushed-changes_only s f true (list_in f) (Some t)).lists) h.list.inside };
   locked = h.locked;
 }
 
-pub can_change-popped : (s : PackageState) (f : Frame) (t : ℕ) → CanChange s f → CanChange (popped s f true (list_in f) (Some t)).state (popped s f true (list_in f) (Some t)).frame
+pub can_change-popped : (s : PackageState) (f : Frame) (t : ℕ) → CanChange s f
+    → CanChange (popped s f true (list_in f) (Some t)).state (popped s f true (list_in f) (Some t)).frame
 can_change-popped s f t h = record {
   list = record { there = h.list.there; inside = subst (λ n. (list_in f).0 < n) (sym (popped-changes_only s f true (list_in f) (Some t)).lists) h.list.inside };
   locked = h.locked;
@@ -42,4 +45,5 @@ pub can_change-kept : (s new : PackageState) (f : Frame) (m : ℕ) → ChangesOn
 can_change-kept s new f m only ne h = record { list = has_list-kept s new f m only h.list; locked = (only.others (list_in f).0 ne).lock ∙ h.locked }
 
 pub can_pop-kept : (s new : PackageState) (f : Frame) (m : ℕ) → ChangesOnly m s new → (list_in f).0 ≢ m → CanPop s f → CanPop new f
-can_pop-kept s new f m only ne h = record { some = subst (λ (xs : List ℕ). 0 < length xs) (sym (only.others (list_in f).0 ne).threads) h.some; carries = h.carries }
+can_pop-kept s new f m only ne h =
+    record { some = subst (λ (xs : List ℕ). 0 < length xs) (sym (only.others (list_in f).0 ne).threads) h.some; carries = h.carries }

@@ -19,7 +19,8 @@ use Rattle.sa_code.specs.Changes.{holder_of, IsList, ChangesOnly, IsPackage, beg
 use Rattle.sa_code.proofs.Steps.{taken-changes_only, pushed-changes_only, popped-changes_only, freed-changes_only, taken-list, pushed-list, popped-list, freed-list}
 
 -- a change of list l alone, which has a holder only where its lock is held
-package-changed : (s new : PackageState) (l : ℕ) (threads : List ℕ) (held : Bool) (holder : Option ThreadNo) → IsPackage s → ChangesOnly l s new → IsReady new.lists → IsList new l threads held holder → (held ≡ false → holder ≡ None) → IsPackage new
+package-changed : (s new : PackageState) (l : ℕ) (threads : List ℕ) (held : Bool) (holder : Option ThreadNo) → IsPackage s → ChangesOnly l s new
+    → IsReady new.lists → IsList new l threads held holder → (held ≡ false → holder ≡ None) → IsPackage new
 package-changed s new l threads held holder h only ready here free = record {
   ready = ready;
   holders = only.holders ∙ h.holders;
@@ -42,24 +43,28 @@ taken-package s f l false h inside =
     package-changed s (taken s f l false).state l.0 _ true f.thread h (taken-changes_only s f l false) (ready-with_lock s.lists l.0 true h.ready)
     (taken-list s f l (has_lock s l.0 h inside) (has_holder s l.0 h inside)) (λ e. absurd cc)
 
-pushed-package : (s : PackageState) (f : Frame) (resident : Bool) (l : ProcNo) (t : Option ThreadNo) (x : ThreadNo) → IsPackage s → l.0 < length s.lists.lists → t ≡ Some x → x.0 < s.lists.threads → IsUnlisted s.lists x.0 → IsPackage (pushed s f resident l t).state
+pushed-package : (s : PackageState) (f : Frame) (resident : Bool) (l : ProcNo) (t : Option ThreadNo) (x : ThreadNo) → IsPackage s → l.0 < length s.lists.lists
+    → t ≡ Some x → x.0 < s.lists.threads → IsUnlisted s.lists x.0 → IsPackage (pushed s f resident l t).state
 pushed-package s f false l t x h inside e below unlisted = h
 pushed-package s f true l None x h inside e below unlisted = h
 pushed-package s f true l (Some y) x h inside e below unlisted =
     let same : y ≡ x = same_Some y x e in
     package-changed s (pushed s f true l (Some y)).state l.0 _ (is_locked s.lists l.0) (holder_of s l.0) h (pushed-changes_only s f true l (Some y))
-    (ready-pushed s.lists l.0 y.0 h.ready inside (subst (λ (z : ThreadNo). z.0 < s.lists.threads) (sym same) below) (subst (λ (z : ThreadNo). IsUnlisted s.lists z.0) (sym same) unlisted))
+    (ready-pushed s.lists l.0 y.0 h.ready inside (subst (λ (z : ThreadNo). z.0 < s.lists.threads) (sym same) below)
+    (subst (λ (z : ThreadNo). IsUnlisted s.lists z.0) (sym same) unlisted))
     (pushed-list s f l y inside) (h.free l.0)
 
 without_chosen-ready : (r : ReadyView) (own : Bool) (l : ℕ) → IsReady r → l < length r.lists → IsReady (with_list r l (without_chosen r own l))
 without_chosen-ready r true l h inside = ready-without_newest r l h inside
 without_chosen-ready r false l h inside = ready-without_oldest r l h inside
 
-popped-package : (s : PackageState) (f : Frame) (resident : Bool) (l : ProcNo) (t : Option ℕ) → IsPackage s → l.0 < length s.lists.lists → is_locked s.lists l.0 ≡ true → IsPackage (popped s f resident l t).state
+popped-package : (s : PackageState) (f : Frame) (resident : Bool) (l : ProcNo) (t : Option ℕ) → IsPackage s → l.0 < length s.lists.lists
+    → is_locked s.lists l.0 ≡ true → IsPackage (popped s f resident l t).state
 popped-package s f false l t h inside locked = h
 popped-package s f true l None h inside locked = h
 popped-package s f true l (Some t) h inside locked =
-    package-changed s (popped s f true l (Some t)).state l.0 _ (is_locked s.lists l.0) _ h (popped-changes_only s f true l (Some t)) (without_chosen-ready s.lists (takes_first s.lists f.own) l.0 h.ready inside)
+    package-changed s (popped s f true l (Some t)).state l.0 _ (is_locked s.lists l.0) _ h (popped-changes_only s f true l (Some t))
+    (without_chosen-ready s.lists (takes_first s.lists f.own) l.0 h.ready inside)
     (popped-list s f l t inside (has_holder s l.0 h inside)) (λ e. absurd cc)
 
 freed-package : (s : PackageState) (f : Frame) (l : ProcNo) → IsPackage s → l.0 < length s.lists.lists → IsPackage (freed s f l).state
@@ -67,11 +72,14 @@ freed-package s f l h inside =
     package-changed s (freed s f l).state l.0 _ false None h (freed-changes_only s f l) (ready-with_lock s.lists l.0 false h.ready)
     (freed-list s f l (has_lock s l.0 h inside) (has_holder s l.0 h inside)) (λ e. refl)
 
-micro_at-package : (s : PackageState) (f : Frame) (resident : Bool) (op : Option Op) → IsPackage s → CanDo s f op → IsPackage (micro_at s f resident (list_in f) op).state
+micro_at-package : (s : PackageState) (f : Frame) (resident : Bool) (op : Option Op) → IsPackage s → CanDo s f op
+    → IsPackage (micro_at s f resident (list_in f) op).state
 micro_at-package s f resident (Some TakePush) h can = taken-package s f (list_in f) (is_locked s.lists (list_in f).0) h can.0.inside
-micro_at-package s f resident (Some Push) h can = pushed-package s f resident (list_in f) f.pushed can.1.thread h can.0.list.inside can.1.pushes can.1.below can.1.unlisted
+micro_at-package s f resident (Some Push) h can =
+    pushed-package s f resident (list_in f) f.pushed can.1.thread h can.0.list.inside can.1.pushes can.1.below can.1.unlisted
 micro_at-package s f resident (Some TakePop) h can = taken-package s f (list_in f) (is_locked s.lists (list_in f).0) h can.inside
-micro_at-package s f resident (Some Pop) h can = popped-package s f resident (list_in f) (chosen s.lists (takes_first s.lists f.own) (list_in f).0) h can.0.list.inside can.0.locked
+micro_at-package s f resident (Some Pop) h can =
+    popped-package s f resident (list_in f) (chosen s.lists (takes_first s.lists f.own) (list_in f).0) h can.0.list.inside can.0.locked
 micro_at-package s f resident (Some Free) h can = freed-package s f (list_in f) h can.list.inside
 micro_at-package s f resident (Some Leave) h can = h
 micro_at-package s f resident (Some Yield) h can = h

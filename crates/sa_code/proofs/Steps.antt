@@ -30,7 +30,8 @@ changes_only-refl l s = record {
 pub taken-changes_only : (s : PackageState) (f : Frame) (l : ProcNo) (held : Bool) → ChangesOnly l.0 s (taken s f l held).state
 taken-changes_only s f l true = changes_only-refl l.0 s
 taken-changes_only s f l false = record {
-  others = λ m ne. record { threads = refl; lock = is_locked-with_lock_other s.lists l.0 m true ne; holder = get_or-set_other s.holders l.0 m f.thread None ne };
+  others =
+      λ m ne. record { threads = refl; lock = is_locked-with_lock_other s.lists l.0 m true ne; holder = get_or-set_other s.holders l.0 m f.thread None ne };
   lists = refl;
   locks = length-set s.lists.locked l.0 true;
   holders = length-set s.holders l.0 f.thread;
@@ -40,7 +41,8 @@ taken-changes_only s f l false = record {
   code = refl;
 }
 
-pub pushed-changes_only : (s : PackageState) (f : Frame) (resident : Bool) (l : ProcNo) (t : Option ThreadNo) → ChangesOnly l.0 s (pushed s f resident l t).state
+pub pushed-changes_only : (s : PackageState) (f : Frame) (resident : Bool) (l : ProcNo) (t : Option ThreadNo)
+    → ChangesOnly l.0 s (pushed s f resident l t).state
 pushed-changes_only s f false l t = changes_only-refl l.0 s
 pushed-changes_only s f true l None = changes_only-refl l.0 s
 pushed-changes_only s f true l (Some t) = record {
@@ -60,7 +62,12 @@ popped-changes_only s f true l None = changes_only-refl l.0 s
 popped-changes_only s f true l (Some t) =
     let left = without_chosen s.lists (takes_first s.lists f.own) l.0 in
     record {
-      others = λ m ne. record { threads = list_of-with_list_other s.lists l.0 m left ne; lock = refl; holder = get_or-set_other s.holders l.0 m (Some (thread t)) None ne };
+      others =
+          λ m ne. record {
+            threads = list_of-with_list_other s.lists l.0 m left ne;
+            lock = refl;
+            holder = get_or-set_other s.holders l.0 m (Some (thread t)) None ne;
+          };
       lists = length-set s.lists.lists l.0 left;
       locks = refl;
       holders = length-set s.holders l.0 (Some (thread t));
@@ -97,14 +104,26 @@ pub micro-changes_only : (s : PackageState) (f : Frame) (pages : ℕ) → Change
 micro-changes_only s f pages = micro_at-changes_only s f (is_resident pages PACKAGE_PAGE) (list_in f) (slice_get s.code f.pc)
 
 -- what each kind of operation makes of its own list, where it is done
-pub taken-list : (s : PackageState) (f : Frame) (l : ProcNo) → l.0 < length s.lists.locked → l.0 < length s.holders → IsList (taken s f l false).state l.0 (list_of s.lists l.0) true f.thread
-taken-list s f l locks holders = record { threads = refl; lock = is_locked-with_lock_same s.lists l.0 true locks; holder = get_or-set_same s.holders l.0 f.thread None holders }
+pub taken-list : (s : PackageState) (f : Frame) (l : ProcNo) → l.0 < length s.lists.locked → l.0 < length s.holders
+    → IsList (taken s f l false).state l.0 (list_of s.lists l.0) true f.thread
+taken-list s f l locks holders =
+    record { threads = refl; lock = is_locked-with_lock_same s.lists l.0 true locks; holder = get_or-set_same s.holders l.0 f.thread None holders }
 
-pub pushed-list : (s : PackageState) (f : Frame) (l : ProcNo) (t : ThreadNo) → l.0 < length s.lists.lists → IsList (pushed s f true l (Some t)).state l.0 (inserted s.lists.ranks t.0 (list_of s.lists l.0)) (is_locked s.lists l.0) (holder_of s l.0)
-pushed-list s f l t inside = record { threads = list_of-with_list_same s.lists l.0 (inserted s.lists.ranks t.0 (list_of s.lists l.0)) inside; lock = refl; holder = refl }
+pub pushed-list : (s : PackageState) (f : Frame) (l : ProcNo) (t : ThreadNo) → l.0 < length s.lists.lists
+    → IsList (pushed s f true l (Some t)).state l.0 (inserted s.lists.ranks t.0 (list_of s.lists l.0)) (is_locked s.lists l.0) (holder_of s l.0)
+pushed-list s f l t inside =
+    record { threads = list_of-with_list_same s.lists l.0 (inserted s.lists.ranks t.0 (list_of s.lists l.0)) inside; lock = refl; holder = refl }
 
-pub popped-list : (s : PackageState) (f : Frame) (l : ProcNo) (t : ℕ) → l.0 < length s.lists.lists → l.0 < length s.holders → IsList (popped s f true l (Some t)).state l.0 (without_chosen s.lists (takes_first s.lists f.own) l.0) (is_locked s.lists l.0) (Some (thread t))
-popped-list s f l t inside holders = record { threads = list_of-with_list_same s.lists l.0 (without_chosen s.lists (takes_first s.lists f.own) l.0) inside; lock = refl; holder = get_or-set_same s.holders l.0 (Some (thread t)) None holders }
+pub popped-list : (s : PackageState) (f : Frame) (l : ProcNo) (t : ℕ) → l.0 < length s.lists.lists → l.0 < length s.holders
+    → IsList (popped s f true l (Some t)).state l.0 (without_chosen s.lists (takes_first s.lists f.own) l.0) (is_locked s.lists l.0) (Some (thread t))
+popped-list s f l t inside holders =
+    record {
+      threads = list_of-with_list_same s.lists l.0 (without_chosen s.lists (takes_first s.lists f.own) l.0) inside;
+      lock = refl;
+      holder = get_or-set_same s.holders l.0 (Some (thread t)) None holders;
+    }
 
-pub freed-list : (s : PackageState) (f : Frame) (l : ProcNo) → l.0 < length s.lists.locked → l.0 < length s.holders → IsList (freed s f l).state l.0 (list_of s.lists l.0) false None
-freed-list s f l locks holders = record { threads = refl; lock = is_locked-with_lock_same s.lists l.0 false locks; holder = get_or-set_same s.holders l.0 None None holders }
+pub freed-list : (s : PackageState) (f : Frame) (l : ProcNo) → l.0 < length s.lists.locked → l.0 < length s.holders
+    → IsList (freed s f l).state l.0 (list_of s.lists l.0) false None
+freed-list s f l locks holders =
+    record { threads = refl; lock = is_locked-with_lock_same s.lists l.0 false locks; holder = get_or-set_same s.holders l.0 None None holders }

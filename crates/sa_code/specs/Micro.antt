@@ -70,7 +70,9 @@ without_chosen r false l = take (length (list_of r l) - 1) (list_of r l)
 abbrev pub popped : PackageState → Frame → Bool → ProcNo → Option ℕ → Micro
 popped s f false l t = stays s f Faulted []
 popped s f true l None = stays s f Faulted []
-popped s f true l (Some t) = goes (with_holder (with_lists s (with_list s.lists l.0 (without_chosen s.lists (takes_first s.lists f.own) l.0))) l.0 (Some (ready.thread t))) (record f { thread = Some (ready.thread t) }) (Run s.space (ready.thread t))
+popped s f true l (Some t) =
+    goes (with_holder (with_lists s (with_list s.lists l.0 (without_chosen s.lists (takes_first s.lists f.own) l.0))) l.0 (Some (ready.thread t)))
+    (record f { thread = Some (ready.thread t) }) (Run s.space (ready.thread t))
 
 -- the free of list l
 abbrev pub freed : PackageState → Frame → ProcNo → Micro
@@ -109,7 +111,7 @@ pub record CanChange (s : PackageState) (f : Frame) : Type 0 where
   pub list : HasList s f
   pub locked : IsLocked s.lists (list_in f).0
 
--- the frame has a thread to push, which is one of the state's and stands in no list
+-- the frame has a thread to push, which is one of the state's and is in no list
 pub record CanPush (s : PackageState) (f : Frame) : Type 0 where
   pub thread : ThreadNo
   pub pushes : f.pushed ≡ Some thread

@@ -58,7 +58,7 @@ impl Code {
         code
     }
 
-    /// Adds an operation behind the last.
+    /// Adds an operation at the end.
     pub fn push(&mut self, op: Op)
         requires { length self.old < CODE_PLACES }
         ensures { self.new ≡ self.old ++ op ∷ [] }

@@ -62,7 +62,7 @@ pub fn operations_keep_what_holds()
         → CanDo s f (slice_get s.code f.pc) → IsPackage (micro s f pages).state }
 {}
 
-/// Behind a take its list can be changed, and behind an effect freed.
+/// After a take its list can be changed, and after an effect freed.
 pub fn an_operation_leads_to_what_the_next_asks()
     ensures taken { (s : PackageState) (f : Frame) → IsPackage s → HasList s f
         → CanChange (taken s f (list_in f) false).state (taken s f (list_in f) false).frame }

@@ -18,14 +18,14 @@ pub struct PackageState {
     pub code: Code,
 }
 
-/// Where a context stands in the package's code, and with what.
+/// Where a context is in the package's code, and with what.
 #[derive(Clone, Copy, Debug, Default, PartialEq, Eq)]
 pub struct Frame {
     /// The place.
     pub pc: u16,
     /// The list that the context works on.
     pub list: Option<ProcNo>,
-    /// The list is that of the processor on which the context took it; a list that stands alone is that of processor 0.
+    /// The list is that of the processor on which the context took it; a list that is the only one is that of processor 0.
     pub own: bool,
     /// The thread that a push still has to put into the list.
     pub pushed: Option<ThreadNo>,
@@ -36,7 +36,7 @@ pub struct Frame {
 /// What came of a micro-operation.
 #[derive(Clone, Copy, Debug, PartialEq, Eq)]
 pub enum MicroDone {
-    /// It was done, and the frame stands at the next place.
+    /// It was done, and the frame is at the next place.
     Did,
     /// The lock was held, and nothing changed.
     Spun,

@@ -6,7 +6,7 @@ use Rattle.sa_code.specs.declared.code.Op.TheVariants.{TakePush, Push, TakePop, 
 use Rattle.sa_copies.specs.Copies.{package_ops, is_in_section, section_at, copy_at}
 use Rattle.sa_copies.specs.Runs.{is_over, is_section_op}
 
--- what holds at each of the fourteen places, and behind them, holds everywhere
+-- what holds at each of the fourteen places, and after them, holds everywhere
 at_places : (P : ℕ → Type 0) → P 0 → P 1 → P 2 → P 3 → P 4 → P 5 → P 6 → P 7 → P 8 → P 9 → P 10 → P 11 → P 12 → P 13
     → ((n : ℕ) → P (suc (suc (suc (suc (suc (suc (suc (suc (suc (suc (suc (suc (suc (suc n))))))))))))))) → (pc : ℕ) → P pc
 at_places P a b c d e f g h i j k l m n rest zero = a
@@ -53,7 +53,9 @@ abbrev pub ArePaired : ℕ → ℕ → Type 0
 ArePaired c d = (copy_at c ≡ Some d) ⊎ ((is_over (slice_get package_ops c) ≡ true) × (is_over (slice_get package_ops d) ≡ true))
 
 pub next-paired : (c d : ℕ) → copy_at c ≡ Some d → ArePaired (c + 1) (d + 1)
-next-paired = at_copies (λ c d. ArePaired (c + 1) (d + 1)) (inl refl) (inr (refl, refl)) (inl refl) (inr (refl, refl)) (inl refl) (inr (refl, refl)) (inl refl) (inr (refl, refl))
+next-paired =
+    at_copies (λ c d. ArePaired (c + 1) (d + 1)) (inl refl) (inr (refl, refl)) (inl refl) (inr (refl, refl)) (inl refl) (inr (refl, refl)) (inl refl)
+    (inr (refl, refl))
 
 -- the operations and sections of places and copies
 pub ops-copied : (c d : ℕ) → copy_at c ≡ Some d → slice_get package_ops d ≡ slice_get package_ops c
@@ -71,7 +73,7 @@ sections-ops pc = search rules
 pub copies-ops : (pc : ℕ) → is_some (copy_at pc) ≡ is_section_op (slice_get package_ops pc)
 copies-ops pc = search rules
 
--- the operation behind another
+-- the operation after another
 pub next-take_push : (pc : ℕ) → slice_get package_ops pc ≡ Some TakePush → slice_get package_ops (pc + 1) ≡ Some Push
 next-take_push pc e = search rules
 

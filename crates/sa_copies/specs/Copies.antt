@@ -1,4 +1,4 @@
--- The package's code with the copies of its sections, and where these stand.
+-- The package's code with the copies of its sections, and where these are.
 use Rattle.std.specs.Prelude.{ℕ, ◌+◌, Bool, true, false, List, [], ◌∷◌, ◌++◌, Option, Some, None, slice_index_or, if◌then◌else◌}
 use Rattle.std.specs.List.{filter_map}
 use Rattle.sa_code.specs.declared.code.Op.{Op}
@@ -22,7 +22,7 @@ with_copies code = code ++ filter_map copied code
 abbrev pub package_ops : List Op
 package_ops = with_copies routine_ops
 
--- for each place the section in which it stands, or of which it stands in a copy
+-- for each place the section in which it is, or in whose copy
 abbrev pub sections : List (Option ℕ)
 sections = None ∷ Some 0 ∷ Some 0 ∷ None ∷ None ∷ Some 1 ∷ Some 1 ∷ None ∷ Some 0 ∷ Some 0 ∷ None ∷ Some 1 ∷ Some 1 ∷ None ∷ []
 
@@ -60,7 +60,7 @@ is_take TakePush = true
 is_take TakePop = true
 is_take _ = false
 
--- the place behind the last end of a routine among operations that stand from `at` on, or `last`
+-- the place after the last end of a routine among operations that begin at `at`, or `last`
 abbrev pub behind_last_leave : ℕ → ℕ → List Op → ℕ
 behind_last_leave at last [] = last
 behind_last_leave at last (op ∷ ops) = behind_last_leave (at + 1) (if is_leave op then at + 1 else last) ops

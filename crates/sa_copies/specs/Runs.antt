@@ -33,12 +33,15 @@ abbrev pub over : PackageState → Frame → Run
 over s f = record { state = s; frame = f; answers = []; items = [] }
 
 abbrev pub behind : Seen → Micro → Run → Run
-behind seen m rest = record { state = rest.state; frame = rest.frame; answers = m.done ∷ rest.answers; items = items_at seen.event seen.proc m.says ++ rest.items }
+behind seen m rest =
+    record { state = rest.state; frame = rest.frame; answers = m.done ∷ rest.answers; items = items_at seen.event seen.proc m.says ++ rest.items }
 
--- one operation behind another, each with what it sees, up to an end, which is not done
+-- one operation after another, each with what it sees, up to an end, which is not done
 abbrev pub run_of : PackageState → Frame → List Seen → Run
 run_of s f [] = over s f
-run_of s f (seen ∷ more) = if is_over (slice_get s.code f.pc) then over s f else behind seen (micro s f seen.pages) (run_of (micro s f seen.pages).state (micro s f seen.pages).frame more)
+run_of s f (seen ∷ more) =
+    if is_over (slice_get s.code f.pc) then over s f
+    else behind seen (micro s f seen.pages) (run_of (micro s f seen.pages).state (micro s f seen.pages).frame more)
 
 -- two runs gave the same answers, the same items, the same state, and the same frame but its place
 pub record IsAlike (a b : Run) : Type 0 where

@@ -1,4 +1,4 @@
-// The copies, and where the sections stand.
+// The copies, and where the sections are.
 ghost use Rattle.std.specs.Prelude.{◌≡◌, ◌+◌, ◌≤◌, ◌++◌, length, take, count_by};
 ghost use Rattle.std.specs.List.{filter_map};
 ghost use Rattle.sa_code.specs.Routines.{routine_ops};
@@ -6,7 +6,7 @@ ghost use Rattle.sa_copies.specs.Copies.{copied, with_copies, package_ops, is_in
 
 use sa_code::{CODE_PLACES, Code, Op};
 
-/// The code with a copy of each section behind it, each copy ending in `Yield`. It cannot fail for want of memory.
+/// The code with a copy of each section after it, each copy ending in `Yield`. It cannot fail for want of memory.
 pub fn make_copies(code: &Code) -> Code
     requires { code.now ≡ routine_ops }
     ensures { result ≡ with_copies code.now }
@@ -39,7 +39,7 @@ fn copy_of(op: Op) -> Option<Op>
     }
 }
 
-/// The section in which a place stands, or of which it stands in a copy: the push has number 0, the pop 1. `None`
+/// The section in which a place is, or in whose copy: the push has number 0, the pop 1. `None`
 /// exactly where the place is in no section and no copy of one.
 pub fn section_of(code: &Code, pc: u16) -> Option<u16>
     requires { code.now ≡ package_ops }
@@ -103,7 +103,7 @@ fn takes(ops: &[Op]) -> usize
         .count()
 }
 
-// The place behind the last routine: the copies begin there.
+// The place after the last routine: the copies begin there.
 fn first_copy(ops: &[Op]) -> usize
     ensures { result ≡ behind_last_leave 0 0 ops.now }
 {

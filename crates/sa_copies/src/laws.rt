@@ -50,7 +50,7 @@ pub fn a_copy_has_the_same_operation()
     ensures copies { (pc : ℕ) → is_some (copy_at pc) ≡ is_section_op (slice_get package_ops pc) }
 {}
 
-/// Behind each operation stands the one that follows it in its routine, and an end behind each free.
+/// After each operation comes the one that follows it in its routine, and an end after each free.
 pub fn operations_follow_one_another()
     ensures take_push { (pc : ℕ) → slice_get package_ops pc ≡ Some TakePush
         → slice_get package_ops (pc + 1) ≡ Some Push }

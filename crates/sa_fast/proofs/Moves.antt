@@ -18,7 +18,7 @@ pub record WorkStep (old new : Work) (lost gained : ℕ → ℕ) : Type 0 where
   -- the lists of others stay
   pub others : (l : ℕ) → one_of old.name l ≡ 0 → empty_at old.lists l ≡ 0 → list_at new.lists l ≡ list_at old.lists l
 
--- the thread stays with its context, or is at rest behind the instruction
+-- the thread stays with its context, or is at rest after the instruction
 abbrev pub stays_with : Ran → ThreadNo → ℕ → ℕ
 stays_with Goes t u = one_if t.0 u
 stays_with Leaves t u = 0
@@ -45,7 +45,7 @@ pub record JoinStep (lists : List (List ℕ)) (w v : Option ThreadNo) (new : Wor
   -- the lists of others stay
   pub others : (l : ℕ) → one_of w l ≡ 0 → one_of v l ≡ 0 → list_at new.lists l ≡ list_at lists l
 
--- the places of threads behind an instruction of thread t
+-- the places of threads after an instruction of thread t
 pub record PlaceStep (x : Shared) (t : ThreadNo) (o : Outcome) : Type 0 where
   pub places : (u : ℕ) → AgreesAt o.shared u
   pub carries : (u : ℕ) → not_carried o.shared u + stays_with o.answer t u ≡ not_carried x u + one_if t.0 u

@@ -1,4 +1,4 @@
--- Behind an instruction each thread's place agrees with where it is.
+-- After an instruction each thread's place agrees with where it is.
 use Rattle.std.proofs.Common.{◌≡◌, ◌≢◌, ℕ, ◌+◌, ◌≤◌, ◌<◌, Bool, true, false, cond, not, ◌&&◌, nat_lt, get_or, List, [], ◌∷◌, ◌++◌, length, Option, Some, None, refl, sym, ap, ◌∙◌, subst, ◌⊎◌, inl, inr, arith}
 use Rattle.std.proofs.lemmas.Bool.{cases_eq}
 use Rattle.std.proofs.lemmas.List.{get_or-set_same, get_or-set_other, length-set}
@@ -58,7 +58,7 @@ stays_other Goes t u ne = one_other t.0 u (λ e. ne (sym e))
 stays_other Leaves t u ne = refl
 stays_other (Blocks length page) t u ne = one_other t.0 u (λ e. ne (sym e))
 
--- where the thread of the instruction is behind it, by the answer
+-- where the thread of the instruction is after it, by the answer
 abbrev IsPlaceFor : Shared → ThreadNo → Sync → Place → Ran → Type 0
 IsPlaceFor x t s p Goes = p ≡ place_at x t.0
 IsPlaceFor x t s p Leaves = ((p ≡ Waiting) × (done_at s t.0 ≡ done_at x.sync t.0)) ⊎ ((p ≡ Done) × (done_at s t.0 ≡ 1))
@@ -72,7 +72,8 @@ record Shape (x : Shared) (t : ThreadNo) (o : Outcome) : Type 0 where
   done : (u : ℕ) → u ≢ t.0 → done_at o.shared.sync u ≡ done_at x.sync u
   place : IsPlaceFor x t o.shared.sync block.place o.answer
 
-module _ (def : SpaceView) (processors event : ℕ) (x : Shared) (w : Option ThreadNo) (t : ThreadNo) (parts : ArePartsFor def processors event x) (hand : threads_at_rest x t.0 ≡ 0)
+module _ (def : SpaceView) (processors event : ℕ) (x : Shared) (w : Option ThreadNo) (t : ThreadNo) (parts : ArePartsFor def processors event x)
+    (hand : threads_at_rest x t.0 ≡ 0)
     (once : (u : ℕ) → threads_at_rest x u ≤ 1) (all : (u : ℕ) → AgreesAt x u) (runs : not_carried x t.0 ≡ 0) where
   made_t : t.0 < x.state.lists.made
   made_t = made_below x.state.lists t.0 (omega (arith, hand))
@@ -94,10 +95,12 @@ module _ (def : SpaceView) (processors event : ℕ) (x : Shared) (w : Option Thr
     place_other u ne = ap (λ bs. (block_at bs u).place) shape.threads ∙ ap (λ (b : Block). b.place) (get_or-set_other x.threads t.0 u shape.block unmade ne)
 
     abbrev Agrees : Place → Type 0
-    Agrees p = AgreesBy (count_in_all t.0 o.shared.state.lists.lists) (waits_of o.shared.sync t.0) (done_at o.shared.sync t.0) (unmade_at o.shared.state.lists t.0) p
+    Agrees p =
+        AgreesBy (count_in_all t.0 o.shared.state.lists.lists) (waits_of o.shared.sync t.0) (done_at o.shared.sync t.0) (unmade_at o.shared.state.lists t.0) p
 
     -- in a hand, at a place of hands
-    in_hand : (p : Place) → threads_at_rest o.shared t.0 ≡ 0 → (one_where (is_ready p) ≡ 0) × (one_where (is_done_place p) ≡ 0) × (one_where (is_unmade p) ≡ 0) → Agrees p
+    in_hand : (p : Place) → threads_at_rest o.shared t.0 ≡ 0
+        → (one_where (is_ready p) ≡ 0) × (one_where (is_done_place p) ≡ 0) × (one_where (is_unmade p) ≡ 0) → Agrees p
     in_hand p none at = record {
       ready = omega (arith, none, at.0);
       waiting = omega (arith, none);
@@ -130,8 +133,10 @@ module _ (def : SpaceView) (processors event : ℕ) (x : Shared) (w : Option Thr
         })
 
     carries_t : (a : Ran) → o.answer ≡ a → IsPlaceFor x t o.shared.sync shape.block.place a → if_not (is_carried shape.block.place) + stays_with a t t.0 ≡ 1
-    carries_t Goes is at = let zero_is : if_not (is_carried shape.block.place) ≡ 0 = ap (λ p. if_not (is_carried p)) at ∙ runs in omega (arith, zero_is, one_same t.0 t.0 refl)
-    carries_t (Blocks length page) is at = let zero_is : if_not (is_carried shape.block.place) ≡ 0 = ap (λ p. if_not (is_carried p)) at in omega (arith, zero_is, one_same t.0 t.0 refl)
+    carries_t Goes is at = let zero_is : if_not (is_carried shape.block.place) ≡ 0 = ap (λ p. if_not (is_carried p)) at ∙ runs in
+        omega (arith, zero_is, one_same t.0 t.0 refl)
+    carries_t (Blocks length page) is at = let zero_is : if_not (is_carried shape.block.place) ≡ 0 = ap (λ p. if_not (is_carried p)) at in
+        omega (arith, zero_is, one_same t.0 t.0 refl)
     carries_t Leaves is (inl at) = let one : if_not (is_carried shape.block.place) ≡ 1 = ap (λ p. if_not (is_carried p)) at.0 in omega (arith, one)
     carries_t Leaves is (inr at) = let one : if_not (is_carried shape.block.place) ≡ 1 = ap (λ p. if_not (is_carried p)) at.0 in omega (arith, one)
 
@@ -139,8 +144,18 @@ module _ (def : SpaceView) (processors event : ℕ) (x : Shared) (w : Option Thr
     agrees_other u ne =
         let was = all u in
         let waiting : waits_of o.shared.sync u ≤ one_where (is_waiting (place_at x u)) =
-        omega (arith, was.waiting, step.threads u, stays_other o.answer t u ne, one_other t.0 u (λ e. ne (sym e)), same_listed u, same_unmade u, shape.done u ne) in
-        subst (λ p. AgreesBy (count_in_all u o.shared.state.lists.lists) (waits_of o.shared.sync u) (done_at o.shared.sync u) (unmade_at o.shared.state.lists u) p) (sym (place_other u ne))
+        omega (
+          arith,
+          was.waiting,
+          step.threads u,
+          stays_other o.answer t u ne,
+          one_other t.0 u (λ e. ne (sym e)),
+          same_listed u,
+          same_unmade u,
+          shape.done u ne,
+        ) in
+        subst (λ p. AgreesBy (count_in_all u o.shared.state.lists.lists) (waits_of o.shared.sync u) (done_at o.shared.sync u)
+        (unmade_at o.shared.state.lists u) p) (sym (place_other u ne))
         (record { ready = same_listed u ∙ was.ready; waiting = waiting; ends = shape.done u ne ∙ was.ends; new = same_unmade u ∙ was.new })
 
     shaped : PlaceStep x t o
@@ -179,7 +194,11 @@ module _ (def : SpaceView) (processors event : ℕ) (x : Shared) (w : Option Thr
   unlocked_done : (m : ℕ) → (unlocked x.sync t.0 m).state.done ≡ x.sync.done
   unlocked_done m =
       let q = (mutex_at x.sync m).queue in
-      elim (is_holder t.0 (mutex_at x.sync m).holder) as (λ b. (cond b (passed_on x.sync m q) (goes x.sync)).state.done ≡ x.sync.done) [ true ↦ passed_on-done x.sync m q | false ↦ refl ]
+      elim (is_holder t.0 (mutex_at x.sync m).holder) as (λ b. (cond b (passed_on x.sync m q) (goes x.sync)).state.done ≡ x.sync.done) [
+        | true ↦
+            passed_on-done x.sync m q
+        | false ↦ refl
+      ]
 
   joined_done : (other made : ℕ) → (joined x.sync t.0 other made).state.done ≡ x.sync.done
   joined_done other made =
@@ -204,16 +223,19 @@ module _ (def : SpaceView) (processors event : ℕ) (x : Shared) (w : Option Thr
       let apart : t.0 ≢ n = λ same. absurd (omega (arith, made_t, next.1, same)) in
       let above : unmade_at x.state.lists n ≡ 1 = unmade_above x.state.lists n (omega (arith, next.1)) in
       let place_n : place_at o.shared n ≡ Waiting = ap (λ (y : Block). y.place) (get_or-set_same parents n child unmade there) in
-      let place_not : (u : ℕ) → u ≢ n → place_at o.shared u ≡ (block_at parents u).place = λ u ne. ap (λ (y : Block). y.place) (get_or-set_other parents n u child unmade ne) in
+      let place_not : (u : ℕ) → u ≢ n → place_at o.shared u ≡ (block_at parents u).place =
+      λ u ne. ap (λ (y : Block). y.place) (get_or-set_other parents n u child unmade ne) in
       let place_old : (u : ℕ) → u ≢ n → place_at o.shared u ≡ place_at x u = λ u ne. place_not u ne ∙ elim (cases_eq u t.0) [
-        | inl same ↦ ap (λ k. (block_at parents k).place) same ∙ ap (λ (y : Block). y.place) (get_or-set_same x.threads t.0 parent unmade inside) ∙ at ∙ ap (place_at x) (sym same)
+        | inl same ↦ ap (λ k. (block_at parents k).place) same ∙ ap (λ (y : Block). y.place) (get_or-set_same x.threads t.0 parent unmade inside) ∙ at
+            ∙ ap (place_at x) (sym same)
         | inr other ↦ ap (λ (y : Block). y.place) (get_or-set_other x.threads t.0 u parent unmade other)
       ] in
       record {
         places = λ u. elim (cases_eq u n) [
           | inl same ↦
               subst (AgreesAt o.shared) (sym same)
-              (subst (λ p. AgreesBy (count_in_all n x.state.lists.lists) (waits_of x.sync n) (done_at x.sync n) (unmade_at o.shared.state.lists n) p) (sym place_n) (record {
+              (subst (λ p. AgreesBy (count_in_all n x.state.lists.lists) (waits_of x.sync n) (done_at x.sync n) (unmade_at o.shared.state.lists n) p)
+              (sym place_n) (record {
                 ready = omega (arith, once n, above);
                 waiting = omega (arith, once n, above);
                 ends = omega (arith, once n, above);
@@ -221,11 +243,14 @@ module _ (def : SpaceView) (processors event : ℕ) (x : Shared) (w : Option Thr
               }))
           | inr ne ↦
               let was = all u in
-              subst (λ p. AgreesBy (count_in_all u x.state.lists.lists) (waits_of x.sync u) (done_at x.sync u) (unmade_at o.shared.state.lists u) p) (sym (place_old u ne)) (record {
+              subst (λ p. AgreesBy (count_in_all u x.state.lists.lists) (waits_of x.sync u) (done_at x.sync u) (unmade_at o.shared.state.lists u) p)
+              (sym (place_old u ne)) (record {
                 ready = was.ready;
                 waiting = was.waiting;
                 ends = was.ends;
-                new = (let same_u : unmade_at o.shared.state.lists u ≡ unmade_at x.state.lists u = omega (arith, one_made x.state.lists n u next.1, one_other n u (λ f. ne (sym f))) in same_u ∙ was.new);
+                new =
+                    (let same_u : unmade_at o.shared.state.lists u ≡ unmade_at x.state.lists u =
+                    omega (arith, one_made x.state.lists n u next.1, one_other n u (λ f. ne (sym f))) in same_u ∙ was.new);
               })
         ];
         carries = λ u. elim (cases_eq u n) [
@@ -238,7 +263,8 @@ module _ (def : SpaceView) (processors event : ℕ) (x : Shared) (w : Option Thr
         ];
       }
 
-  instr_place : (fetch pages : ℕ) (b : Block) (i : Instr) → b.place ≡ place_at x t.0 → RunStep def processors event x w t (outcome_of fetch pages x w t b i) → PlaceStep x t (outcome_of fetch pages x w t b i)
+  instr_place : (fetch pages : ℕ) (b : Block) (i : Instr) → b.place ≡ place_at x t.0 → RunStep def processors event x w t (outcome_of fetch pages x w t b i)
+      → PlaceStep x t (outcome_of fetch pages x w t b i)
   instr_place fetch pages b Compute at step = shaped (went x w t b Compute) step (own_shape x.sync _ x.works w Goes refl at)
   instr_place fetch pages b (Set reg n) at step = shaped (went x w t b (Set reg n)) step (own_shape x.sync _ x.works w Goes refl at)
   instr_place fetch pages b (Add reg other) at step = shaped (went x w t b (Add reg other)) step (own_shape x.sync _ x.works w Goes refl at)
@@ -256,17 +282,23 @@ module _ (def : SpaceView) (processors event : ℕ) (x : Shared) (w : Option Thr
       (told_shape change.state (value_in b reg (cond (nat_lt other x.state.lists.made) 1 0)) change.answer (joined_done other x.state.lists.made) at)
   instr_place fetch pages b (Lock m) at step =
       let change = locked x.sync t.0 m in
-      shaped (synced x w t (next_of b) change) step (told_shape change.state (next_of b) change.answer (locked_by-done x.sync t.0 m (mutex_at x.sync m).holder (mutex_at x.sync m).queue) at)
+      shaped (synced x w t (next_of b) change) step
+      (told_shape change.state (next_of b) change.answer (locked_by-done x.sync t.0 m (mutex_at x.sync m).holder (mutex_at x.sync m).queue) at)
   instr_place fetch pages b (Unlock m) at step =
-      let change = unlocked x.sync t.0 m in shaped (synced x w t (next_of b) change) step (told_shape change.state (next_of b) change.answer (unlocked_done m) at)
+      let change = unlocked x.sync t.0 m in
+      shaped (synced x w t (next_of b) change) step (told_shape change.state (next_of b) change.answer (unlocked_done m) at)
   instr_place fetch pages b (Wait k) at step =
       let change = waited x.sync t.0 k in
-      shaped (synced x w t (next_of b) change) step (told_shape change.state (next_of b) change.answer (waited_by-done x.sync t.0 k (semaphore_at x.sync k).count (semaphore_at x.sync k).queue) at)
+      shaped (synced x w t (next_of b) change) step
+      (told_shape change.state (next_of b) change.answer (waited_by-done x.sync t.0 k (semaphore_at x.sync k).count (semaphore_at x.sync k).queue) at)
   instr_place fetch pages b (Signal k) at step =
       let change = signalled x.sync k in
-      shaped (synced x w t (next_of b) change) step (told_shape change.state (next_of b) change.answer (signalled_by-done x.sync k (semaphore_at x.sync k).count (semaphore_at x.sync k).queue) at)
-  instr_place fetch pages b (Io length) at step = shaped (outcome_of fetch pages x w t b (Io length)) step (own_shape x.sync (moved_to (next_of b) Blocked) x.works w (Blocks length None) refl refl)
-  instr_place fetch pages b (Touch page) at step = shaped (touched x w t b fetch page (is_resident pages page)) step (touched_shape b fetch page (is_resident pages page) at)
+      shaped (synced x w t (next_of b) change) step
+      (told_shape change.state (next_of b) change.answer (signalled_by-done x.sync k (semaphore_at x.sync k).count (semaphore_at x.sync k).queue) at)
+  instr_place fetch pages b (Io length) at step =
+      shaped (outcome_of fetch pages x w t b (Io length)) step (own_shape x.sync (moved_to (next_of b) Blocked) x.works w (Blocks length None) refl refl)
+  instr_place fetch pages b (Touch page) at step =
+      shaped (touched x w t b fetch page (is_resident pages page)) step (touched_shape b fetch page (is_resident pages page) at)
   instr_place fetch pages b End at step =
       let live : done_at x.sync t.0 ≡ 0 = omega (arith, hand) in
       let ends : (u : ℕ) → done_at (ended_sync x.sync t.0) u ≡ done_at x.sync u + one_if t.0 u =
@@ -279,7 +311,9 @@ module _ (def : SpaceView) (processors event : ℕ) (x : Shared) (w : Option Thr
         place = inr (refl, omega (arith, ends t.0, live, one_same t.0 t.0 refl));
       })
 
-pub place-step : (def : SpaceView) (processors event fetch pages : ℕ) (x : Shared) (w : Option ThreadNo) (t : ThreadNo) → ArePartsFor def processors event x → threads_at_rest x t.0 ≡ 0
-    → ((u : ℕ) → threads_at_rest x u ≤ 1) → ((u : ℕ) → AgreesAt x u) → not_carried x t.0 ≡ 0 → RunStep def processors event x w t (run def fetch pages x w t) → PlaceStep x t (run def fetch pages x w t)
+pub place-step : (def : SpaceView) (processors event fetch pages : ℕ) (x : Shared) (w : Option ThreadNo) (t : ThreadNo) → ArePartsFor def processors event x
+    → threads_at_rest x t.0 ≡ 0
+    → ((u : ℕ) → threads_at_rest x u ≤ 1) → ((u : ℕ) → AgreesAt x u) → not_carried x t.0 ≡ 0 → RunStep def processors event x w t (run def fetch pages x w t)
+    → PlaceStep x t (run def fetch pages x w t)
 place-step def processors event fetch pages x w t parts hand once all runs step =
     let b = block_at x.threads t.0 in instr_place def processors event x w t parts hand once all runs fetch pages b (instr_of def b) refl step

@@ -41,7 +41,7 @@ use Rattle.sa_fast.proofs.Moves.{WorkStep, RunStep, stays_with}
 use Rattle.sa_fast.proofs.WorkSteps.{one_same, still-step, added-step, added_all-step}
 use Rattle.sa_fast.proofs.SyncSteps.{SyncStep, holds-set, locked-step, unlocked-step, waited-step, signalled-step, joined-step, ended_sync, ended-numbers, ended-waits, ended-done}
 
--- PROGRAMS. The last instruction is `end`, so behind any other there is one
+-- PROGRAMS. The last instruction is `end`, so after any other there is one
 next_inside : (p : List Instr) (pc : ℕ) → IsProgram p → pc < length p → instr_at p pc ≢ End → pc + 1 < length p
 next_inside p pc is inside more = elim (cases_lt (pc + 1) (length p)) [
   | inl h ↦ h
@@ -77,7 +77,7 @@ unmade_above r t above = grind (arith, nat_tests)
 pub one_made : (r : ReadyView) (n u : ℕ) → r.made ≡ n → unmade_at (record r { made = n + 1 }) u + one_if n u ≡ unmade_at r u
 one_made r n u is = grind (arith, nat_tests)
 
--- the next thread to make is the one behind those that were made
+-- the next thread to make is the one after those that were made
 next_by : (b : Bool) (m n : ℕ) → Some n ≡ cond b (Some m) None → (b ≡ true) × (m ≡ n)
 next_by true m n e = (refl, sym (same_Some _ _ e))
 next_by false m n e = absurd cc
@@ -96,8 +96,10 @@ fits_on def old new fits same = record {
 }
 
 -- ONE INSTRUCTION of thread t, which is in its context's hand
-module _ (def : SpaceView) (processors event : ℕ) (x : Shared) (w : Option ThreadNo) (t : ThreadNo) (space : IsSpace def) (parts : ArePartsFor def processors event x)
-    (work : IsWork x.works w) (hand : threads_at_rest x t.0 ≡ 0) (rest : (u : ℕ) → 1 ≤ threads_at_rest x u → IsUnlisted x.works u) (once : (u : ℕ) → threads_at_rest x u ≤ 1) where
+module _ (def : SpaceView) (processors event : ℕ) (x : Shared) (w : Option ThreadNo) (t : ThreadNo) (space : IsSpace def)
+    (parts : ArePartsFor def processors event x)
+    (work : IsWork x.works w) (hand : threads_at_rest x t.0 ≡ 0) (rest : (u : ℕ) → 1 ≤ threads_at_rest x u → IsUnlisted x.works u)
+    (once : (u : ℕ) → threads_at_rest x u ≤ 1) where
   below : t.0 < MAX_THREADS
   below = let made = made_below x.state.lists t.0 (omega (arith, hand)) in omega (arith, made, parts.state.ready.made, parts.threads)
 
@@ -107,7 +109,7 @@ module _ (def : SpaceView) (processors event : ℕ) (x : Shared) (w : Option Thr
   few : (k : ℕ) → (semaphore_at x.sync k).count ≤ MAX_START + (event + 1)
   few k = omega (arith, parts.counts k)
 
-  -- who waits is a thread that was made, and stands in no work list
+  -- who waits is a thread that was made, and is in no work list
   waits_below : (u : ℕ) → 1 ≤ waits_of x.sync u → u < MAX_THREADS
   waits_below u waits = let made = made_below x.state.lists u (omega (arith, once u, waits)) in omega (arith, made, parts.state.ready.made, parts.threads)
 
@@ -118,7 +120,8 @@ module _ (def : SpaceView) (processors event : ℕ) (x : Shared) (w : Option Thr
   waits_once u = omega (arith, once u)
 
   -- an instruction that leaves the ready lists: the thread has block b, the work lists are `new`
-  moves-step : (s : Sync) (b : Block) (new : Work) (a : Ran) (gained : ℕ → ℕ) → FitsSpace def s → ((k : ℕ) → (semaphore_at s k).count ≤ MAX_START + (event + 1)) → IsAt def b
+  moves-step : (s : Sync) (b : Block) (new : Work) (a : Ran) (gained : ℕ → ℕ) → FitsSpace def s
+      → ((k : ℕ) → (semaphore_at s k).count ≤ MAX_START + (event + 1)) → IsAt def b
       → WorkStep (with_name x.works w) new (λ u. 0) gained
       → ((u : ℕ) → waits_of s u + done_at s u + gained u + stays_with a t u ≡ waits_of x.sync u + done_at x.sync u + one_if t.0 u)
       → RunStep def processors event x w t (outcome (with_works (with_thread (with_sync x s) t b) new) new.name a)
@@ -146,20 +149,26 @@ module _ (def : SpaceView) (processors event : ℕ) (x : Shared) (w : Option Thr
   kept-step : (s : Sync) (b : Block) (a : Ran) → FitsSpace def s → ((k : ℕ) → (semaphore_at s k).count ≤ MAX_START + (event + 1)) → IsAt def b
       → ((u : ℕ) → waits_of s u + done_at s u + stays_with a t u ≡ waits_of x.sync u + done_at x.sync u + one_if t.0 u)
       → RunStep def processors event x w t (outcome (with_thread (with_sync x s) t b) w a)
-  kept-step s b a fits counts at moved = moves-step s b (with_name x.works w) a (λ u. 0) fits counts at (still-step (with_name x.works w) parts.works) (λ u. omega (arith, moved u))
+  kept-step s b a fits counts at moved =
+      moves-step s b (with_name x.works w) a (λ u. 0) fits counts at (still-step (with_name x.works w) parts.works) (λ u. omega (arith, moved u))
 
   goes-step : (b : Block) → IsAt def b → RunStep def processors event x w t (outcome (with_thread x t b) w Goes)
   goes-step b at = kept-step x.sync b Goes parts.sync few at (λ u. refl)
 
   blocks-step : (b : Block) (length : ℕ) (page : Option ℕ) → IsAt def b → RunStep def processors event x w t (blocks x w t b length page)
-  blocks-step b length page at = kept-step x.sync (moved_to b Blocked) (Blocks length page) parts.sync few (record { program = at.program; place = at.place }) (λ u. refl)
+  blocks-step b length page at =
+      kept-step x.sync (moved_to b Blocked) (Blocks length page) parts.sync few (record { program = at.program; place = at.place }) (λ u. refl)
 
-  stored-step : (b : Block) (cell value : ℕ) → IsAt def b → RunStep def processors event x w t (outcome (with_sync (with_thread x t b) (stored x.sync cell value)) w Goes)
-  stored-step b cell value at = kept-step (stored x.sync cell value) b Goes (fits_on def x.sync (stored x.sync cell value) parts.sync (stored_keeps x.sync cell value)) few at (λ u. refl)
+  stored-step : (b : Block) (cell value : ℕ) → IsAt def b
+      → RunStep def processors event x w t (outcome (with_sync (with_thread x t b) (stored x.sync cell value)) w Goes)
+  stored-step b cell value at =
+      kept-step (stored x.sync cell value) b Goes (fits_on def x.sync (stored x.sync cell value) parts.sync (stored_keeps x.sync cell value)) few at (λ u. refl)
 
   -- what an answer of what the threads wait on does
-  answered : (s : Sync) (a : SyncAnswer) (b : Block) → FitsSpace def s → ((k : ℕ) → (semaphore_at s k).count ≤ MAX_START + (event + 1)) → ((u : ℕ) → done_at s u ≡ done_at x.sync u)
-      → ((u : ℕ) → waits_of s u + woken a u ≡ waits_of x.sync u + joining a t.0 u) → IsAt def b → RunStep def processors event x w t (told_by (with_sync x s) w t b a)
+  answered : (s : Sync) (a : SyncAnswer) (b : Block) → FitsSpace def s → ((k : ℕ) → (semaphore_at s k).count ≤ MAX_START + (event + 1))
+      → ((u : ℕ) → done_at s u ≡ done_at x.sync u)
+      → ((u : ℕ) → waits_of s u + woken a u ≡ waits_of x.sync u + joining a t.0 u) → IsAt def b
+      → RunStep def processors event x w t (told_by (with_sync x s) w t b a)
   answered s answer.Goes b fits counts ends tells at = kept-step s b Goes fits counts at (λ u. omega (arith, tells u, ends u))
   answered s answer.Waits b fits counts ends tells at =
       kept-step s (moved_to b Waiting) Leaves fits counts (record { program = at.program; place = at.place }) (λ u. omega (arith, tells u, ends u))
@@ -195,7 +204,15 @@ module _ (def : SpaceView) (processors event : ℕ) (x : Shared) (w : Option Thr
       record {
         parts = record {
           state = record {
-            ready = record { locks = ready.locks; processors = ready.processors; made = omega (arith, is.0, is.1); threads = ready.threads; below = ready.below; once = ready.once };
+            ready =
+                record {
+                  locks = ready.locks;
+                  processors = ready.processors;
+                  made = omega (arith, is.0, is.1);
+                  threads = ready.threads;
+                  below = ready.below;
+                  once = ready.once;
+                };
             holders = parts.state.holders;
             free = parts.state.free;
           };
@@ -206,7 +223,8 @@ module _ (def : SpaceView) (processors event : ℕ) (x : Shared) (w : Option Thr
           works = step.works;
           counts = few;
           at = λ u made. holds-set (IsAt def) parents n u child unmade (omega (arith, is.0, is.1, parts.threads, blocks)) (λ same. child_at)
-              (λ other. holds-set (IsAt def) x.threads t.0 u parent unmade (omega (arith, below, parts.blocks)) (λ same. parent_at) (λ differs. parts.at u (omega (arith, made, other, is.1))));
+              (λ other. holds-set (IsAt def) x.threads t.0 u parent unmade (omega (arith, below, parts.blocks)) (λ same. parent_at)
+              (λ differs. parts.at u (omega (arith, made, other, is.1))));
         };
         space = refl;
         code = refl;
@@ -221,9 +239,11 @@ module _ (def : SpaceView) (processors event : ℕ) (x : Shared) (w : Option Thr
   joins-step b reg next =
       let other : ℕ = reg_value b.regs reg in
       synced-step (joined x.sync t.0 other x.state.lists.made) (value_in b reg (cond (nat_lt other x.state.lists.made) 1 0))
-      (joined-step x.sync t.0 other x.state.lists.made (omega (arith, parts.sync.joiners, parts.state.ready.made, parts.threads))) (record { program = next.program; place = next.place })
+      (joined-step x.sync t.0 other x.state.lists.made (omega (arith, parts.sync.joiners, parts.state.ready.made, parts.threads)))
+      (record { program = next.program; place = next.place })
 
-  touched-step : (b : Block) (fetch page : ℕ) (resident : Bool) → IsAt def b → IsAt def (next_of b) → RunStep def processors event x w t (touched x w t b fetch page resident)
+  touched-step : (b : Block) (fetch page : ℕ) (resident : Bool) → IsAt def b → IsAt def (next_of b)
+      → RunStep def processors event x w t (touched x w t b fetch page resident)
   touched-step b fetch page true at next = goes-step (next_of b) next
   touched-step b fetch page false at next = blocks-step b fetch (Some page) at
 
@@ -235,7 +255,8 @@ module _ (def : SpaceView) (processors event : ℕ) (x : Shared) (w : Option Thr
       let waits : (u : ℕ) → waits_of s u + count_in u ts ≡ waits_of x.sync u = λ u. ended-waits x.sync t.0 u (omega (arith, below, parts.sync.joiners)) in
       let ends : (u : ℕ) → done_at s u ≡ done_at x.sync u + one_if t.0 u = λ u. ended-done x.sync t.0 u (omega (arith, below, parts.sync.done)) live in
       let apart : (u : ℕ) → count_in u ts + count_in_all u x.works ≤ 1 = λ u. elim (cases_lt 0 (count_in u ts)) [
-        | inl some ↦ let unlisted : count_in_all u x.works ≡ 0 = waits_unlisted u (omega (arith, waits u, some)) in omega (arith, unlisted, waits u, waits_once u)
+        | inl some ↦ let unlisted : count_in_all u x.works ≡ 0 = waits_unlisted u (omega (arith, waits u, some)) in
+            omega (arith, unlisted, waits u, waits_once u)
         | inr none ↦ omega (arith, none, parts.works.once u)
       ] in
       moves-step s (moved_to b Done) (added_all (with_name x.works w) ts) Leaves (λ u. count_in u ts)
@@ -246,7 +267,7 @@ module _ (def : SpaceView) (processors event : ℕ) (x : Shared) (w : Option Thr
   program_is : (b : Block) → IsAt def b → IsProgram (program_at def.programs b.program)
   program_is b at = All-get_or IsProgram def.programs b.program [] at.program space.programs
 
-  -- where the thread stands
+  -- where the thread is
   next : (b : Block) (i : Instr) → IsAt def b → i ≡ instr_of def b → i ≢ End → IsAt def (next_of b)
   next b i at is more = record {
     program = at.program;
@@ -264,32 +285,39 @@ module _ (def : SpaceView) (processors event : ℕ) (x : Shared) (w : Option Thr
       (All-get_or (NamesDeclared def.mutexes (length def.sems) def.cells (length def.programs)) (program_at def.programs b.program) b.pc End at.place
       (All-get_or (All (NamesDeclared def.mutexes (length def.sems) def.cells (length def.programs))) def.programs b.program [] at.program space.names))
 
-  instr-step : (fetch pages : ℕ) (b : Block) (i : Instr) → IsAt def b → i ≡ instr_of def b → RunStep def processors event x w t (outcome_of fetch pages x w t b i)
+  instr-step : (fetch pages : ℕ) (b : Block) (i : Instr) → IsAt def b → i ≡ instr_of def b
+      → RunStep def processors event x w t (outcome_of fetch pages x w t b i)
   instr-step fetch pages b Compute at is = went-step b Compute at is
   instr-step fetch pages b (Set reg n) at is = went-step b (Set reg n) at is
   instr-step fetch pages b (Add reg other) at is = went-step b (Add reg other) at is
   instr-step fetch pages b (Sub reg other) at is = went-step b (Sub reg other) at is
   instr-step fetch pages b (Jnz reg place) at is = went-step b (Jnz reg place) at is
-  instr-step fetch pages b (Load reg cell) at is = let n = next b (Load reg cell) at is (λ e. cc) in goes-step (value_in b reg (cell_at x.sync cell)) (record { program = n.program; place = n.place })
+  instr-step fetch pages b (Load reg cell) at is = let n = next b (Load reg cell) at is (λ e. cc) in
+      goes-step (value_in b reg (cell_at x.sync cell)) (record { program = n.program; place = n.place })
   instr-step fetch pages b (Store reg cell) at is = stored-step (next_of b) cell (reg_value b.regs reg) (next b (Store reg cell) at is (λ e. cc))
   instr-step fetch pages b (Out reg) at is = goes-step (next_of b) (next b (Out reg) at is (λ e. cc))
   instr-step fetch pages b (Fork reg program) at is =
       forked-step b reg program (next_made x.state.lists) refl (next b (Fork reg program) at is (λ e. cc)) (named b (Fork reg program) at is).1.0
   instr-step fetch pages b (Join reg) at is = joins-step b reg (next b (Join reg) at is (λ e. cc))
   instr-step fetch pages b (Lock m) at is =
-      synced-step (locked x.sync t.0 m) (next_of b) (locked-step x.sync t.0 m (omega (arith, parts.sync.mutexes, (named b (Lock m) at is).0))) (next b (Lock m) at is (λ e. cc))
+      synced-step (locked x.sync t.0 m) (next_of b) (locked-step x.sync t.0 m (omega (arith, parts.sync.mutexes, (named b (Lock m) at is).0)))
+      (next b (Lock m) at is (λ e. cc))
   instr-step fetch pages b (Unlock m) at is =
-      synced-step (unlocked x.sync t.0 m) (next_of b) (unlocked-step x.sync t.0 m (omega (arith, parts.sync.mutexes, (named b (Unlock m) at is).0))) (next b (Unlock m) at is (λ e. cc))
+      synced-step (unlocked x.sync t.0 m) (next_of b) (unlocked-step x.sync t.0 m (omega (arith, parts.sync.mutexes, (named b (Unlock m) at is).0)))
+      (next b (Unlock m) at is (λ e. cc))
   instr-step fetch pages b (Wait k) at is =
-      synced-step (waited x.sync t.0 k) (next_of b) (waited-step x.sync t.0 k (omega (arith, parts.sync.semaphores, (named b (Wait k) at is).0))) (next b (Wait k) at is (λ e. cc))
+      synced-step (waited x.sync t.0 k) (next_of b) (waited-step x.sync t.0 k (omega (arith, parts.sync.semaphores, (named b (Wait k) at is).0)))
+      (next b (Wait k) at is (λ e. cc))
   instr-step fetch pages b (Signal k) at is =
-      synced-step (signalled x.sync k) (next_of b) (signalled-step x.sync t.0 k (omega (arith, parts.sync.semaphores, (named b (Signal k) at is).0))) (next b (Signal k) at is (λ e. cc))
+      synced-step (signalled x.sync k) (next_of b) (signalled-step x.sync t.0 k (omega (arith, parts.sync.semaphores, (named b (Signal k) at is).0)))
+      (next b (Signal k) at is (λ e. cc))
   instr-step fetch pages b (Io length) at is = blocks-step (next_of b) length None (next b (Io length) at is (λ e. cc))
   instr-step fetch pages b (Touch page) at is = touched-step b fetch page (is_resident pages page) at (next b (Touch page) at is (λ e. cc))
   instr-step fetch pages b End at is = ended-step b at
 
 -- t is in its context's hand, so not at rest; threads at rest are in no work list
-pub run-step : (def : SpaceView) (processors event fetch pages : ℕ) (x : Shared) (w : Option ThreadNo) (t : ThreadNo) → IsSpace def → ArePartsFor def processors event x
+pub run-step : (def : SpaceView) (processors event fetch pages : ℕ) (x : Shared) (w : Option ThreadNo) (t : ThreadNo) → IsSpace def
+    → ArePartsFor def processors event x
     → IsWork x.works w → threads_at_rest x t.0 ≡ 0
     → ((u : ℕ) → 1 ≤ threads_at_rest x u → IsUnlisted x.works u) → ((u : ℕ) → threads_at_rest x u ≤ 1)
     → RunStep def processors event x w t (run def fetch pages x w t)

@@ -1,18 +1,18 @@
--- Who is woken waited before, and stands in no work list.
-use Rattle.std.proofs.Common.{◌≡◌, ℕ, ◌+◌, ◌<◌, cond, List, [], ◌∷◌, ◌++◌, length, map, drop, Some, slice_get, refl, sym, ap, ◌∙◌, inl, inr, arith}
+-- Who is woken waited before, and is in no work list.
+use Rattle.std.proofs.Common.{◌≡◌, ℕ, ◌+◌, ◌<◌, cond, List, [], ◌∷◌, length, drop, Some, slice_get, refl, sym, ap, ◌∙◌, inl, inr, arith}
 use Rattle.std.proofs.lemmas.Bool.{cases_eq, eq-eqb}
 use Rattle.std.proofs.lemmas.Option.{same_Some}
-use Rattle.std.proofs.lemmas.List.{get_or-set_same, set-set}
-use Rattle.std.proofs.lemmas.List.Sums.{sum_by-append}
+use Rattle.std.proofs.lemmas.List.{get_or-set_same}
 use Rattle.sa_base.specs.declared.number.ThreadNo.{ThreadNo}
 use Rattle.sa_base.specs.declared.limits.TheConstants.{MAX_THREADS}
-use Rattle.sa_links.specs.Lists.{count_in, count_in_all}
-use Rattle.sa_links.proofs.Counting.{count_set, count_same, count_other}
+use Rattle.sa_links.specs.Lists.{count_in}
+use Rattle.sa_links.proofs.Counting.{count_same, count_other}
 use Rattle.sa_sync.specs.declared.answer.SyncAnswer.{SyncAnswer}
 use Rattle.sa_sync.specs.declared.answer.SyncAnswer.TheVariants.{Wakes}
-use Rattle.sa_sync.specs.Sync.{Sync, Mutex, Semaphore, joiners_at, with_joiners, waits_of, Waits, WaitsOnce}
+use Rattle.sa_sync.specs.Sync.{Sync, joiners_at, waits_of, Waits, WaitsOnce}
 use Rattle.sa_sync.specs.Calls.{Change, first_joiner, without_joiner}
 use Rattle.sa_sync.specs.Laws.{TellsWhoWaits, woken, joining}
+use Rattle.sa_sync.proofs.LawLemmas.{waits-joiners}
 use Rattle.sa_fast.specs.Work.{IsUnlisted}
 
 -- a call that wakes a thread found it waiting
@@ -23,20 +23,12 @@ woken_waits s t change u tells is =
     let none : joining change.answer t u.0 ≡ 0 = ap (λ a. joining a t u.0) is in
     omega arith
 
--- so it is one of the threads, and stands in no work list
-pub woken_free : (s : Sync) (works : List (List ℕ)) (t : ℕ) (change : Change) (answer : SyncAnswer) → WaitsOnce s → TellsWhoWaits s t change → ((u : ℕ) → Waits s u → IsUnlisted works u) → answer ≡ change.answer
+-- so it is one of the threads, and is in no work list
+pub woken_free : (s : Sync) (works : List (List ℕ)) (t : ℕ) (change : Change) (answer : SyncAnswer) → WaitsOnce s → TellsWhoWaits s t change
+    → ((u : ℕ) → Waits s u → IsUnlisted works u) → answer ≡ change.answer
     → (u : ThreadNo) → answer ≡ Wakes u → (u.0 < MAX_THREADS) × IsUnlisted works u.0
 woken_free s works t change answer once tells waiting is u wakes =
     let waits = woken_waits s t change u tells (sym is ∙ wakes) in (once.threads u.0 waits, waiting u.0 waits)
-
--- how often a thread waits, by the kinds of queues, and with other joiners of one thread
-waits_parts : (s : Sync) (u : ℕ) → waits_of s u ≡ count_in_all u s.joiners + count_in_all u (map (λ (m : Mutex). m.queue) s.mutexes) + count_in_all u (map (λ (k : Semaphore). k.queue) s.semaphores)
-waits_parts s u =
-    let mutexes = map (λ (m : Mutex). m.queue) s.mutexes in let semaphores = map (λ (k : Semaphore). k.queue) s.semaphores in
-    sum_by-append (count_in u) (s.joiners ++ mutexes) semaphores ∙ ap (λ n. n + count_in_all u semaphores) (sum_by-append (count_in u) s.joiners mutexes)
-
-pub waits_with : (s : Sync) (t : ℕ) (q : List ℕ) (u : ℕ) → t < length s.joiners → waits_of (with_joiners s t q) u + count_in u (joiners_at s t) ≡ waits_of s u + count_in u q
-waits_with s t q u h = omega (arith, count_set u s.joiners t q h, waits_parts s u, waits_parts (with_joiners s t q) u)
 
 behind : (q : List ℕ) (u : ℕ) → slice_get q 0 ≡ Some u → q ≡ u ∷ drop 1 q
 behind [] u e = cc
@@ -49,7 +41,7 @@ module _ (s : Sync) (t u : ℕ) (inside : t < length s.joiners) (first : first_j
   -- the first that joins a thread waits, and no more once it is taken; the others wait on
   pub waits_less : (v : ℕ) → waits_of (without_joiner s t) v + count_in v (u ∷ []) ≡ waits_of s v
   waits_less v =
-      let change = waits_with s t (drop 1 (joiners_at s t)) v inside in
+      let change = waits-joiners s t (drop 1 (joiners_at s t)) v inside in
       let q : count_in v (joiners_at s t) ≡ count_in v (u ∷ drop 1 (joiners_at s t)) = ap (count_in v) queue in
       elim (cases_eq u v) [
         | inl same ↦ let one = count_same v u (drop 1 (joiners_at s t)) same in let alone = count_same v u [] same in omega arith
@@ -64,6 +56,3 @@ module _ (s : Sync) (t u : ℕ) (inside : t < length s.joiners) (first : first_j
 
   pub rest_joins : joiners_at (without_joiner s t) t ≡ drop 1 (joiners_at s t)
   rest_joins = get_or-set_same s.joiners t (drop 1 (joiners_at s t)) [] inside
-
-pub joiners_twice : (s : Sync) (t : ℕ) (q r : List ℕ) → with_joiners (with_joiners s t q) t r ≡ with_joiners s t r
-joiners_twice s t q r = ap (λ js. record s { joiners = js }) (set-set s.joiners t q r)

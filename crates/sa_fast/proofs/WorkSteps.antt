@@ -68,8 +68,9 @@ lacks works t h unlisted = starts (list_at works t) t (λ y e. h.named.first t y
 pub still-step : (w : Work) → AreWorks w.lists → WorkStep w w (λ u. 0) (λ u. 0)
 still-step w h = record { works = h; threads = λ t. refl; names = λ l. refl; others = λ l apart some. refl }
 
--- one change behind another
-pub then-step : (a b c : Work) (lost gained more_lost more : ℕ → ℕ) → WorkStep a b lost gained → WorkStep b c more_lost more → WorkStep a c (λ u. lost u + more_lost u) (λ u. gained u + more u)
+-- one change after another
+pub then-step : (a b c : Work) (lost gained more_lost more : ℕ → ℕ) → WorkStep a b lost gained → WorkStep b c more_lost more
+    → WorkStep a c (λ u. lost u + more_lost u) (λ u. gained u + more u)
 then-step a b c lost gained more_lost more first second = record {
   works = second.works;
   threads = λ t. omega (arith, first.threads t, second.threads t);
@@ -88,8 +89,9 @@ module _ (works : List (List ℕ)) (n : ℕ) (xs : List ℕ) (inside : n < lengt
   there : (l : ℕ) → l ≢ n → list_at (slice_set works n xs) l ≡ list_at works l
   there l ne = get_or-set_other works n l xs [] ne
 
--- a thread is put behind the others
-module _ (works : List (List ℕ)) (w : Option ThreadNo) (t : ThreadNo) (h : AreWorks works) (work : IsWork works w) (below : t.0 < MAX_THREADS) (unlisted : IsUnlisted works t.0) where
+-- a thread is put after the others
+module _ (works : List (List ℕ)) (w : Option ThreadNo) (t : ThreadNo) (h : AreWorks works) (work : IsWork works w) (below : t.0 < MAX_THREADS)
+    (unlisted : IsUnlisted works t.0) where
   counts : (u : ℕ) → count_in_all u (added (with_name works w) t).lists ≡ count_in_all u works + one_if t.0 u
   counts u = let more = added_counts (as_lists works) w t h.named below work u in let one = count_one u t.0 [] in omega arith
 
@@ -122,8 +124,10 @@ added-step works None t h work below unlisted =
           let nil : count_in u [] ≡ 0 = refl in
           omega (arith, new, old, nil, count-append u (list_at works t.0) (t.0 ∷ []), count_one u t.0 []);
       names = λ l. elim (cases_eq l t.0) [
-        | inl e ↦ subst (λ x. empty_at (slice_set works t.0 xs) x + one_if t.0 x ≡ empty_at works x + 0) (sym e) (omega (arith, none_here, some_here, one_same t.0 t.0 refl))
-        | inr ne ↦ let same : empty_at (slice_set works t.0 xs) l ≡ empty_at works l = ap one_if_empty (there works t.0 xs inside l ne) in omega (arith, same, one_other t.0 l (λ e. ne (sym e)))
+        | inl e ↦ subst (λ x. empty_at (slice_set works t.0 xs) x + one_if t.0 x ≡ empty_at works x + 0) (sym e)
+            (omega (arith, none_here, some_here, one_same t.0 t.0 refl))
+        | inr ne ↦ let same : empty_at (slice_set works t.0 xs) l ≡ empty_at works l = ap one_if_empty (there works t.0 xs inside l ne) in
+            omega (arith, same, one_other t.0 l (λ e. ne (sym e)))
       ];
       others = λ l apart some. there works t.0 xs inside l (λ e. let one : empty_at works l ≡ 1 = ap (empty_at works) e ∙ none_here in absurd (omega arith));
     }
@@ -139,13 +143,15 @@ added-step works (Some n) t h work below unlisted =
           let nil : count_in u [] ≡ 0 = refl in
           omega (arith, new, nil, count-append u (list_at works n.0) (t.0 ∷ []), count_one u t.0 []);
       names = λ l. elim (cases_eq l n.0) [
-        | inl e ↦ let a : empty_at (slice_set works n.0 xs) l ≡ 0 = ap (empty_at (slice_set works n.0 xs)) e ∙ some_here in let b : empty_at works l ≡ 0 = ap (empty_at works) e ∙ full in omega arith
+        | inl e ↦ let a : empty_at (slice_set works n.0 xs) l ≡ 0 = ap (empty_at (slice_set works n.0 xs)) e ∙ some_here in
+            let b : empty_at works l ≡ 0 = ap (empty_at works) e ∙ full in omega arith
         | inr ne ↦ let same : empty_at (slice_set works n.0 xs) l ≡ empty_at works l = ap one_if_empty (there works n.0 xs inside l ne) in omega arith
       ];
       others = λ l apart some. there works n.0 xs inside l (λ e. let one = one_same n.0 l (sym e) in absurd (omega arith));
     }
 
-pub added-work : (works : List (List ℕ)) (w : Option ThreadNo) (t : ThreadNo) → AreWorks works → IsWork works w → t.0 < MAX_THREADS → IsWork (added (with_name works w) t).lists (added (with_name works w) t).name
+pub added-work : (works : List (List ℕ)) (w : Option ThreadNo) (t : ThreadNo) → AreWorks works → IsWork works w → t.0 < MAX_THREADS
+    → IsWork (added (with_name works w) t).lists (added (with_name works w) t).name
 added-work works w t h work below =
     let new = added (with_name works w) t in added_named (as_lists works) (as_lists new.lists) w new.name t h.named below work refl
 
@@ -209,10 +215,12 @@ module _ (works : List (List ℕ)) (t : ThreadNo) (h : AreWorks works) (work : I
           below = λ u some. h.below u (omega (arith, count_left u));
           once = λ u. omega (arith, count_left u, h.once u);
         };
-        threads = λ u. let z : count_in u ys ≡ count_in u [] = ap (count_in u) nothing in let nil : count_in u [] ≡ 0 = refl in omega (arith, z, nil, count_q u);
+        threads = λ u. let z : count_in u ys ≡ count_in u [] = ap (count_in u) nothing in let nil : count_in u [] ≡ 0 = refl in
+            omega (arith, z, nil, count_q u);
         names = λ l. elim (cases_eq l t.0) [
           | inl same ↦ subst (λ x. empty_at left x + 0 ≡ empty_at works x + one_if t.0 x) (sym same) (omega (arith, empty_t, full_t, one_same t.0 t.0 refl))
-          | inr ne ↦ let kept : empty_at left l ≡ empty_at works l = ap one_if_empty (there works t.0 ys inside_t l ne) in omega (arith, kept, one_other t.0 l (λ e. ne (sym e)))
+          | inr ne ↦ let kept : empty_at left l ≡ empty_at works l = ap one_if_empty (there works t.0 ys inside_t l ne) in
+              omega (arith, kept, one_other t.0 l (λ e. ne (sym e)))
         ];
         others = λ l apart some. there works t.0 ys inside_t l (λ e. let one = one_same t.0 l (sym e) in absurd (omega arith));
       }
@@ -295,7 +303,8 @@ module _ (works : List (List ℕ)) (t : ThreadNo) (h : AreWorks works) (work : I
               (λ f. let one : empty_at works l ≡ 1 = ap (empty_at works) f ∙ was in absurd (omega arith));
         }
 
-  without_by : (next : Option ℕ) → slice_get (list_at left t.0) 0 ≡ next → WorkStep (with_name works (Some t)) (renamed left t.0 next) (one_of (Some t)) (λ u. 0)
+  without_by : (next : Option ℕ) → slice_get (list_at left t.0) 0 ≡ next
+      → WorkStep (with_name works (Some t)) (renamed left t.0 next) (one_of (Some t)) (λ u. 0)
   without_by None e = without_none e
   without_by (Some n) e = without_some n e
 
@@ -304,7 +313,8 @@ pub without_first-step : (works : List (List ℕ)) (t : ThreadNo) → AreWorks w
 without_first-step works t h work = without_by works t h work (slice_get (list_at (slice_set works t.0 (drop 1 (list_at works t.0))) t.0) 0) refl
 
 -- two contexts' lists become one
-module _ (works : List (List ℕ)) (l from : ThreadNo) (h : AreWorks works) (work : IsWork works (Some l)) (other : IsWork works (Some from)) (apart : l.0 ≢ from.0) where
+module _ (works : List (List ℕ)) (l from : ThreadNo) (h : AreWorks works) (work : IsWork works (Some l)) (other : IsWork works (Some from))
+    (apart : l.0 ≢ from.0) where
   abbrev all_of : List ℕ
   all_of = list_at works l.0 ++ list_at works from.0
 
@@ -354,7 +364,8 @@ module _ (works : List (List ℕ)) (l from : ThreadNo) (h : AreWorks works) (wor
           ]
         ];
         counts = counts_joined;
-        others = λ x a b. at_other x (λ f. let y = one_same l.0 x (sym f) in absurd (omega arith)) (λ f. let y = one_same from.0 x (sym f) in absurd (omega arith));
+        others =
+            λ x a b. at_other x (λ f. let y = one_same l.0 x (sym f) in absurd (omega arith)) (λ f. let y = one_same from.0 x (sym f) in absurd (omega arith));
       }
 
 pub joined-step : (works : List (List ℕ)) (w v : Option ThreadNo) → AreWorks works → IsWork works w → IsWork works v → AreApart w v

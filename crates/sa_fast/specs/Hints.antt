@@ -1,7 +1,7 @@
 -- The tests of the hints to the kernel.
 use Rattle.std.specs.Prelude.{ℕ, ◌-◌, Bool, Option, Some, None, nat_le, nat_lt, if◌then◌else◌}
 
--- how many processors a space with this load can use, of so many
+-- how many of these processors a space with this load can use
 abbrev pub usable : ℕ → ℕ → ℕ
 usable processors load = if nat_le processors load then processors else load
 

@@ -57,7 +57,7 @@ value_in b reg value = gone_to b (b.pc + 1) (with_reg b.regs reg value)
 abbrev pub went : Shared → Option ThreadNo → ThreadNo → Block → Instr → Outcome
 went x w t b i = outcome (with_thread x t (gone_to b (place_after i b.pc b.regs) (regs_after i b.regs))) w Goes
 
--- a call that may let the thread wait, or wake one, which is put into the work list; b is the block behind the instruction
+-- a call that may let the thread wait, or wake one, which is put into the work list; b is the block after the instruction
 abbrev pub told_by : Shared → Option ThreadNo → ThreadNo → Block → SyncAnswer → Outcome
 told_by x w t b answer.Goes = outcome (with_thread x t b) w Goes
 told_by x w t b answer.Waits = outcome (with_thread x t (moved_to b Waiting)) w Leaves
@@ -82,7 +82,7 @@ joins x w t b reg made =
     let other = reg_value b.regs reg in
     synced x w t (value_in b reg (if nat_lt other made then 1 else 0)) (joined_by x.sync t.0 other made)
 
--- the thread blocks; b is its block behind the instruction
+-- the thread blocks; b is its block after the instruction
 abbrev pub blocks : Shared → Option ThreadNo → ThreadNo → Block → ℕ → Option ℕ → Outcome
 blocks x w t b length page = outcome (with_thread x t (moved_to b Blocked)) w (Blocks length page)
 
@@ -150,6 +150,6 @@ pub record CanRun (def : SpaceView) (x : Shared) (w : Option ThreadNo) (t : Thre
   pub joiners : length x.sync.joiners ≡ MAX_THREADS
   pub few : (k : ℕ) → (semaphore_at x.sync k).count + 1 < 2 ^ 32
   pub threads : x.state.lists.threads ≡ MAX_THREADS
-  -- who waits, and who was not made, stands in no work list
+  -- who waits, and who was not made, is in no work list
   pub waiting : (u : ℕ) → Waits x.sync u → IsUnlisted x.works u
   pub unmade : (u : ℕ) → x.state.lists.made ≤ u → IsUnlisted x.works u

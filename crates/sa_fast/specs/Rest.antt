@@ -41,8 +41,8 @@ one_if_empty (t ∷ ts) = 0
 abbrev pub empty_at : List (List ℕ) → ℕ → ℕ
 empty_at works l = one_if_empty (list_at works l)
 
--- PLACES: a thread's place is Ready exactly where it stands in a list, Done exactly at its end, Unmade exactly before it
--- was made, and Waiting wherever it stands in a queue
+-- PLACES: a thread's place is Ready exactly where it is in a list, Done exactly at its end, Unmade exactly before it
+-- was made, and Waiting wherever it is in a queue
 abbrev pub one_where : Bool → ℕ
 one_where b = if b then 1 else 0
 
@@ -88,7 +88,7 @@ pub record FitsSpace (def : SpaceView) (s : Sync) : Type 0 where
   pub joiners : length s.joiners ≡ MAX_THREADS
   pub done : length s.done ≡ MAX_THREADS
 
--- a work list is named by its first thread, and a thread stands in one at most
+-- a work list is named by its first thread, and a thread is in one at most
 pub record AreWorks (works : List (List ℕ)) : Type 0 where
   pub named : AreNamed (record { nodes = MAX_THREADS; lists = works })
   pub below : (t : ℕ) → 1 ≤ count_in_all t works → t < MAX_THREADS

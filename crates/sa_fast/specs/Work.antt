@@ -18,7 +18,7 @@ abbrev pub work_of : List (List ℕ) → Option ThreadNo → List ℕ
 work_of lists None = []
 work_of lists (Some t) = list_at lists t.0
 
--- t is put behind the last
+-- t is put at the end
 abbrev pub added : Work → ThreadNo → Work
 added w t = let name = unwrap_or w.name t in with_name (slice_set w.lists name.0 (list_at w.lists name.0 ++ t.0 ∷ [])) (Some name)
 
@@ -27,7 +27,7 @@ abbrev pub added_all : Work → List ℕ → Work
 added_all w [] = w
 added_all w (t ∷ ts) = added_all (added w (record { 0 = t })) ts
 
--- a list is moved behind another
+-- a list is moved to the end of another
 abbrev pub moved : List (List ℕ) → ℕ → ℕ → List (List ℕ)
 moved lists l from = slice_set (slice_set lists l (list_at lists l ++ list_at lists from)) from []
 
@@ -40,13 +40,13 @@ abbrev pub without_first : List (List ℕ) → ThreadNo → Work
 without_first lists first =
     let left = slice_set lists first.0 (drop 1 (list_at lists first.0)) in renamed left first.0 (slice_get (list_at left first.0) 0)
 
--- one context's list is moved behind that of another
+-- one context's list is moved to the end of that of another
 abbrev pub joined : List (List ℕ) → Option ThreadNo → Option ThreadNo → Work
 joined lists name None = with_name lists name
 joined lists None (Some from) = with_name lists (Some from)
 joined lists (Some l) (Some from) = with_name (moved lists l.0 from.0) (Some l)
 
--- t stands in no work list
+-- t is in no work list
 abbrev pub IsUnlisted : List (List ℕ) → ℕ → Type 0
 IsUnlisted lists t = count_in_all t lists ≡ 0
 

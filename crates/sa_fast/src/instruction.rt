@@ -26,7 +26,7 @@ pub enum Ran {
     Goes,
     /// It waits, or is done.
     Leaves,
-    /// It blocks for so many events, 1 to 1,000,000: for an I/O, or until this page, 2 to 15, is resident.
+    /// It blocks for this many events, 1 to 1,000,000: for an I/O, or until this page, 2 to 15, is resident.
     Blocks { length: u32, page: Option<u16> },
 }
 
@@ -222,7 +222,7 @@ fn go(def: &SpaceDef, shared: &mut Shared, t: ThreadNo, block: Block) -> Ran
     Ran::Goes
 }
 
-// What an answer of what the threads wait on does to the calling thread, whose block is that behind its instruction.
+// What an answer of what the threads wait on does to the calling thread, whose block is that after its instruction.
 fn tell(
     shared: &mut Shared,
     work: &mut Option<ThreadNo>,
@@ -314,7 +314,7 @@ fn join(
     tell(shared, work, t, with_value(block, reg, known), answer)
 }
 
-// The thread blocks; its block is the one behind its instruction.
+// The thread blocks; its block is the one after its instruction.
 fn block_for(shared: &mut Shared, t: ThreadNo, block: Block, length: u32, page: Option<u16>) -> Ran
     requires { t.0 < MAX_THREADS }
     ensures { (w : _) → outcome shared.new w result ≡ blocks shared.old w t block length page }

@@ -38,7 +38,7 @@ impl WorkLists {
         Ok(WorkLists { chains })
     }
 
-    /// Puts a thread that stands in no list behind the last of a context's list.
+    /// Puts a thread that is in no list at the end of a context's list.
     pub fn add(&mut self, work: &mut Option<ThreadNo>, t: ThreadNo)
         requires thread { t.0 < MAX_THREADS }
         requires unlisted { IsUnlisted self.old t.0 }
@@ -71,7 +71,7 @@ impl WorkLists {
         };
     }
 
-    /// Moves a context's whole list behind that of another one.
+    /// Moves a context's whole list to the end of that of another one.
     pub fn append(&mut self, work: &mut Option<ThreadNo>, other: Option<ThreadNo>)
         requires work { IsWork self.old work.old }
         requires other { IsWork self.old other }

@@ -22,7 +22,8 @@ use Rattle.sa_fast_runs.proofs.Counted.{counted}
 use Rattle.sa_fast_runs.proofs.Leading.{leads-run, leads-open}
 
 -- of any user level that keeps its laws, a chain's history is a legal run, and ends as the definitions say
-module _ {V C : Type 0} (level : UserLevel V C) (w : WorkloadView) (ok : IsWorkload w) (budget : ℕ) (moves : List Move) (m : Machine V C) (chain : IsChain level.calls budget w moves m) where
+module _ {V C : Type 0} (level : UserLevel V C) (w : WorkloadView) (ok : IsWorkload w) (budget : ℕ) (moves : List Move) (m : Machine V C)
+    (chain : IsChain level.calls budget w moves m) where
   pub chain-legal : IsLegalRun level.rules w m.items
   chain-legal =
       let run = leads-run level.calls budget (opening level.calls w) moves m chain in

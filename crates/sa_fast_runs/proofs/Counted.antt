@@ -44,7 +44,7 @@ count-moves p (commit q n ∷ moves) =
     ∙ ap (λ k. k + count_by (λ (x : ProcNo). x.0 == p) (processors_of moves)) (count-same p n q)
     ∙ ap (λ k. cond (q.0 == p) n 0 + k) (count-moves p moves)
 
--- behind the opening a history has as many events of a processor as the moves make
+-- after the opening a history has as many events of a processor as the moves make
 behind : (es : List Event) (p : ProcNo) (ps : List ProcNo) → procs_of es ≡ p ∷ ps → procs_of (drop 1 es) ≡ ps
 behind [] p ps is = absurd cc
 behind (e ∷ es) p ps is = ap (drop 1) is

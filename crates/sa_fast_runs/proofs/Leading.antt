@@ -1,4 +1,4 @@
--- Runs by a schedule, and chains of turns and commits, are runs from the opening that made no move behind an end.
+-- Runs by a schedule, and chains of turns and commits, are runs from the opening that made no move after an end.
 use Rattle.std.proofs.Common.{◌≡◌, ℕ, zero, suc, ◌+◌, ◌-◌, ◌<◌, ◌≤◌, List, [], ◌∷◌, ◌++◌, length, Option, Some, None, slice_get, refl, sym, ap, ◌∙◌, subst, inl, inr, arith, length-append}
 use Rattle.std.proofs.lemmas.Bool.{cases_lt}
 use Rattle.std.proofs.lemmas.Option.{same_Some, slice_get_within}
@@ -43,7 +43,7 @@ many-processors order processors (suc n) =
     let rest = many-processors order processors n in
     ap length more ∙ omega (arith, size, rest)
 
--- what stands at a place of a list with one more
+-- what is at a place of a list with one more
 get-push : (ps : List ProcNo) (p : ProcNo) (k : ℕ) → k < length ps → slice_get (ps ++ p ∷ []) k ≡ slice_get ps k
 get-push [] p k inside = absurd (omega arith)
 get-push (q ∷ ps) p zero inside = refl
@@ -55,7 +55,8 @@ get-last [] p (suc k) is = absurd (omega arith)
 get-last (q ∷ ps) p zero is = absurd (omega arith)
 get-last (q ∷ ps) p (suc k) is = get-last ps p k (omega arith)
 
-pub processor-at : (order : Order) (processors n k : ℕ) → k < n → slice_get (processors_of (turns_by order processors n)) k ≡ Some (proc_no (processor_at order processors (k + 1)))
+pub processor-at : (order : Order) (processors n k : ℕ) → k < n
+    → slice_get (processors_of (turns_by order processors n)) k ≡ Some (proc_no (processor_at order processors (k + 1)))
 processor-at order processors zero k inside = absurd (omega arith)
 processor-at order processors (suc n) k inside =
     let p = proc_no (processor_at order processors (n + 1)) in
@@ -84,7 +85,7 @@ module _ {U C : Type 0} (f : Calls U C) (budget : ℕ) where
       leads-push (opening f w) (turns_by order w.processors n) run.0 (turn (proc_no (processor_at order w.processors (n + 1)))) m
       (turns-lead w order n run.0 run.1) run.2 run.3
 
-  -- a chain is a run, and none of its moves came behind an end
+  -- a chain is a run, and none of its moves came after an end
   abbrev pub leads-run : (m : Machine U C) (moves : List Move) (after : Machine U C) → Leads f budget m moves after → IsRun f m moves after
   leads-run m [] after leads = leads
   leads-run m (move ∷ moves) after leads = (leads.0, leads.2, leads-run leads.0 moves after leads.3)

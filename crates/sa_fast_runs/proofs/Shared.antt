@@ -62,7 +62,8 @@ shared-legal w budget closed ok run =
     let legal = left-legal w ok budget run.moves m run.chain closed run.shows run.few run.end run.turns in
     record {
       legal = legal;
-      count = ap (λ (xs : List Item). length (events_of xs)) run.shows ∙ chain-counts fast_level w ok budget run.moves m run.chain ∙ ap (λ n. n + 1) (sym run.events);
+      count = ap (λ (xs : List Item). length (events_of xs)) run.shows ∙ chain-counts fast_level w ok budget run.moves m run.chain
+          ∙ ap (λ n. n + 1) (sym run.events);
       quotas = λ spent p inside. sym (legal.counts p inside) ∙ run.spent spent p inside;
       right = λ end is. subst (λ (xs : List Item). IsRight fast_threads w xs (record { end = end; events = sum closed.turns })) (sym run.shows)
           (subst (λ (n : ℕ). IsRight fast_threads w m.items (record { end = end; events = n })) (sym run.events)

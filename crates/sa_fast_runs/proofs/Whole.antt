@@ -33,7 +33,8 @@ module _ {V C : Type 0} (level : UserLevel V C) where
     chain = turns-lead level.calls budget w order n m turns
 
     procs : procs_of (events_of m.items) ≡ proc_no 0 ∷ processors_of (turns_by order w.processors n)
-    procs = runs-follow level w (turns_by order w.processors n) m ok (leads-run level.calls budget (opening level.calls w) (turns_by order w.processors n) m chain)
+    procs =
+        runs-follow level w (turns_by order w.processors n) m ok (leads-run level.calls budget (opening level.calls w) (turns_by order w.processors n) m chain)
 
     count : length (events_of m.items) ≡ n + 1
     count =
@@ -54,7 +55,8 @@ module _ {V C : Type 0} (level : UserLevel V C) where
         next k ∙ processor-at order w.processors n k (omega arith) in
         same_Some e.proc (proc_no (processor_at order w.processors (k + 1))) (sym here ∙ ap (λ ps. slice_get ps (k + 1)) procs ∙ there)
       where
-        next : (k : ℕ) → slice_get (proc_no 0 ∷ processors_of (turns_by order w.processors n)) (k + 1) ≡ slice_get (processors_of (turns_by order w.processors n)) k
+        next : (k : ℕ) → slice_get (proc_no 0 ∷ processors_of (turns_by order w.processors n)) (k + 1)
+            ≡ slice_get (processors_of (turns_by order w.processors n)) k
         next k = let one : k + 1 ≡ suc k = omega arith in ap (slice_get (proc_no 0 ∷ processors_of (turns_by order w.processors n))) one
 
     pub turn-by-turn : IsTurnByTurn level.rules w order m.items n
@@ -76,7 +78,8 @@ module _ {V C : Type 0} (level : UserLevel V C) where
   pub so-far-legal : (w : WorkloadView) (order : Order) (budget : ℕ) (items : List Item) → IsWorkload w
       → (run : RunsSoFar level.calls w order budget items) → IsTurnByTurn level.rules w order items run.events
   so-far-legal w order budget items ok run =
-      subst (λ (xs : List Item). IsTurnByTurn level.rules w order xs run.events) (sym run.shows) (turn-by-turn w ok order budget run.events run.machine run.turns)
+      subst (λ (xs : List Item). IsTurnByTurn level.rules w order xs run.events) (sym run.shows)
+      (turn-by-turn w ok order budget run.events run.machine run.turns)
 
   pub whole-legal : (w : WorkloadView) (order : Order) (budget : ℕ) (items : List Item) (end : End) (events : ℕ) → IsWorkload w
       → RunsTo level.calls w order budget items end events → IsTurnByTurn level.rules w order items events × IsEnded level.rules w budget items end events

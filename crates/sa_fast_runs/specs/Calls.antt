@@ -43,7 +43,7 @@ CommitsReach =
     (w : WorkloadView) (m : FastMachine) (p : ProcNo) (n : ℕ)
     → IsReached w m → CanCommit fast_calls m p n → IsReached w (committed fast_calls p n m)
 
--- .. and what they reach is legal, strict where it was reached by turns alone, and ends as the definitions say
+-- what the moves reach is legal, strict where it was reached by turns alone, and ends as the definitions say
 abbrev pub ReachedAreLegal : Type 0
 ReachedAreLegal = (w : WorkloadView) (m : FastMachine) → IsWorkload w → IsReached w m → IsLegalRun fast_threads w m.items
 

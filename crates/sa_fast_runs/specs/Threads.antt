@@ -30,7 +30,7 @@ is_of p e = e.proc.0 == p
 abbrev pub events_on : ℕ → List Item → ℕ
 events_on p items = count_by (is_of p) (drop 1 (events_of items))
 
--- behind no event but the last one has the run ended
+-- after no event but the last one has the run ended
 pub record HasNoEarlierEnd (w : WorkloadView) (budget : ℕ) (items : List Item) : Type 0 where
   pub each : (n : ℕ) → n + 1 < length (events_of items) → EndsWith budget (before fast_threads w (events_of items) (n + 1)) n None
 
@@ -60,7 +60,7 @@ ClosedAreLegal =
     (w : WorkloadView) (budget : ℕ) (seats : List SeatView) (closed : ClosedView) → IsWorkload w
     → IsClosed fast_calls w budget seats closed → IsLegalClosed w budget closed
 
--- WHEN ALL HOST THREADS ARE DONE: there are as many events behind the opening as the counts sum up to; where the budget ended the
+-- WHEN ALL HOST THREADS ARE DONE: there are as many events after the opening as the counts sum up to; where the budget ended the
 -- run each processor had just its quota; and with its last line the history breaks no rule.
 pub record IsLegalHistory (w : WorkloadView) (budget : ℕ) (closed : ClosedView) : Type 0 where
   pub legal : IsLegalClosed w budget closed

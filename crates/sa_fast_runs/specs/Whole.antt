@@ -18,7 +18,7 @@ pub record IsLegalRun (u : UserRules) (w : WorkloadView) (items : List Item) : T
   -- each event has its place as its number
   pub numbers : (k : ℕ) (e : Event) → slice_get (events_of items) k ≡ Some e → e.number ≡ k
 
--- It is a strict one, of so many events behind the opening, and event k is of the order's k-th processor.
+-- It is a strict one, with this many events after the opening, and event k is of the order's k-th processor.
 pub record IsTurnByTurn (u : UserRules) (w : WorkloadView) (order : Order) (items : List Item) (events : ℕ) : Type 0 where
   pub run : IsLegalRun u w items
   pub strict : IsStrictRun u w items

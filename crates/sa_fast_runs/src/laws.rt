@@ -25,7 +25,7 @@ pub fn turns_are_strict()
     ensures { TurnsAreStrict }
 {}
 
-/// The trace of a run that made no move behind an end, with the last line that says this end, breaks no rule: the checker
+/// The trace of a run that made no move after an end, with the last line that says this end, breaks no rule: the checker
 /// says that it is legal.
 pub fn each_whole_run_is_right()
     ensures { RunsAreRight }
@@ -41,7 +41,7 @@ pub fn events_follow_the_moves()
 
 /// Whoever drives a core by its calls has a legal history at each moment: `start` opens one, `turn` and `commit` keep it so, one
 /// that was made by turns alone is strict, and `end` is as the definitions say; and `commit` adds exactly the records of its
-/// instructions, one an event, and behind them a closing where a slice ends.
+/// instructions, one an event, and after them a closing where a slice ends.
 pub fn core_calls_keep_legal()
     ensures start { StartReaches }
     ensures turn { TurnsReach }
@@ -60,7 +60,7 @@ pub fn runs_by_a_schedule_are_legal()
     ensures whole { WholeRunsAreLegal fast_calls fast_threads }
 {}
 
-/// Under host threads, whenever the machine's lock is free the history kept behind it is a legal run that had not ended before
+/// Under host threads, whenever the machine's lock is free the history that it guards is a legal run that had not ended before
 /// its last event, and the keeper's count of each processor is the number of its events; so it is of the closed machine, with
 /// its end; and where all host threads are done there are as many events as the counts sum up to, and where the budget ended
 /// the run each processor had just its quota.

@@ -1,5 +1,5 @@
 -- At the end of an own event a life is in exactly where its context is inside the package.
-use Rattle.std.proofs.Common.{◌≡◌, ℕ, ◌-◌, ◌≤◌, ◌<◌, min, nat_le, nat_lt, Bool, true, false, ◌||◌, List, [], ◌∷◌, map, length, Option, Some, None, is_some, is_none, slice_get, refl, sym, ap, ◌∙◌, subst, inl, inr, arith}
+use Rattle.std.proofs.Common.{◌≡◌, ℕ, ◌-◌, ◌≤◌, ◌<◌, min, nat_le, nat_lt, Bool, true, false, ◌||◌, List, [], ◌∷◌, map, length, Option, Some, None, is_some, is_none, refl, sym, ap, ◌∙◌, subst, inl, inr, arith}
 use Rattle.std.specs.Prelude.{◌&&◌, if◌then◌else◌}
 use Rattle.std.proofs.lemmas.Bool.{cases_lt, lt-ltb, le-ltb}
 use Rattle.std.proofs.lemmas.Bool.Decides.{nat_tests}
@@ -10,7 +10,7 @@ use Rattle.sa_base.specs.declared.number.ActNo.{ActNo}
 use Rattle.sa_base.specs.declared.number.SpaceNo.{SpaceNo}
 use Rattle.sa_base.specs.declared.number.ThreadNo.{ThreadNo}
 use Rattle.sa_spaces.specs.Workload.{WorkloadView}
-use Rattle.sa_links.proofs.Counting.{count_same}
+use Rattle.sa_links.proofs.Counting.{first_counted}
 use Rattle.sa_links.specs.Lists.{list_at, count_in}
 use Rattle.sa_code.specs.declared.state.Frame.{Frame}
 use Rattle.sa_fast.specs.Hints.{usable as usable_by, more_owed}
@@ -56,10 +56,6 @@ owed_by demand processors amount = elim (cases_lt demand (usable_by processors a
 
   is_le : (n m : ℕ) → n ≤ m → nat_le n m ≡ true
   is_le n m less = grind (arith, nat_tests)
-
-first_counted : (xs : List ℕ) (n : ℕ) → ((y : ℕ) → slice_get xs 0 ≡ Some y → y ≡ n) → 1 ≤ length xs → 1 ≤ count_in n xs
-first_counted [] n first some = absurd (omega arith)
-first_counted (x ∷ xs) n first some = let one = count_same n x xs (first x refl) in omega arith
 
 module _ (set : Setting) (e : ℕ) (u : Package) (cs : Contexts Context) (h : IsStanding set e u cs) (s : SpaceNo) (r : Readings) (k : Holds s r u cs)
     (a : ActNo) (state : ContextState) (fs : List Frame) (wk : Option ThreadNo) (is : cs a.0 ≡ Some (record { state = state; sections = fs; work = wk }))

@@ -26,7 +26,7 @@ round_past : (n p k : ℕ) → n ≤ p + k → p < n → k < n → (p + k) % n �
 round_past n p k past in_p in_k =
     ap (λ m. m % n) (let m = p + k - n in let sum : p + k ≡ m + n = omega arith in sum) ∙ add-mod_right (p + k - n) n ∙ mod-eq_of_lt (omega arith)
 
--- so many steps round lead there, and back
+-- that many steps round lead there, and back
 there : (n p q : ℕ) → p < n → q < n → (steps_round n p q < n) × ((p + steps_round n p q) % n ≡ q)
 there n p q in_p in_q = elim (cases_lt q p) [
   | inl less ↦

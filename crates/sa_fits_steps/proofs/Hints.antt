@@ -35,7 +35,8 @@ use Rattle.sa_fits_lists.proofs.OpenLists.{sought-none_opens}
 use Rattle.sa_fits_steps.proofs.Scenes.{IsOwnMarked}
 
 module _ (set : Setting) (e : ℕ) (u : Package) (cs : Contexts Context) (h : IsStanding set e u cs) (s : SpaceNo) (r : Readings) (k : Holds s r u cs)
-    (a : ActNo) (state : ContextState) (is : cs a.0 ≡ Some (record { state = state; sections = []; work = None })) (life : Life) (there : life_of r a ≡ Some life)
+    (a : ActNo) (state : ContextState) (is : cs a.0 ≡ Some (record { state = state; sections = []; work = None })) (life : Life)
+    (there : life_of r a ≡ Some life)
     (stays : is_gone (stage_of r s a life) ≡ false) (outside : section_in state ≡ None) (no_copy : in_copy state ≡ false) (w : WorkloadView)
     (seen : Seen) (demand : seen.demand ≡ demand_of r s) where
   abbrev c : Context

@@ -15,11 +15,12 @@ list_other c l m xs ne = get_or-set_other c.lists l m xs _ ne
 pub lists_same : (c : Lists) (l : ℕ) (xs : List ℕ) → length (with_list c l xs).lists ≡ length c.lists
 lists_same c l xs = length-set c.lists l xs
 
--- how often a number stands in them then
-pub count_with : (x : ℕ) (c : Lists) (l : ℕ) (xs : List ℕ) → l < length c.lists → count_in_all x (with_list c l xs).lists + count_in x (list_at c.lists l) ≡ count_in_all x c.lists + count_in x xs
+-- how often a number is in them then
+pub count_with : (x : ℕ) (c : Lists) (l : ℕ) (xs : List ℕ) → l < length c.lists
+    → count_in_all x (with_list c l xs).lists + count_in x (list_at c.lists l) ≡ count_in_all x c.lists + count_in x xs
 count_with x c l xs h = count_set x c.lists l xs h
 
--- what stands in one list stands in the lists, and in no other one
+-- what is in one list is in the lists, and in no other one
 pub in_listed : (c : Lists) (l x : ℕ) → IsIn x (list_at c.lists l) → IsListed c x
 in_listed c l x h = let a = count_at x c.lists l in omega arith
 
@@ -29,7 +30,7 @@ in_one c l m x apart h hl hm = elim (cases_eq l m) [
   | inr other ↦ let t = count_two x c.lists l m other h in let o = apart.once x in absurd (omega arith)
 ]
 
--- a list that is moved behind another leaves each number as often as it was
+-- a list that is moved to the end of another leaves each number as often as it was
 pub counts_moved : (c : Lists) (l m : ℕ) → l ≢ m → l < length c.lists → m < length c.lists
     → HasSameCounts c (with_list (with_list c l (list_at c.lists l ++ list_at c.lists m)) m [])
 counts_moved c l m differ left right x =

@@ -18,7 +18,7 @@ abbrev pub first_of : List ℕ → ℕ → ℕ
 first_of [] z = z
 first_of (y ∷ ys) z = y
 
--- the chain behind the first of ys
+-- the chain after the first of ys
 abbrev pub IsRest : Wires → List ℕ → ℕ → Type 0
 IsRest w [] z = Unit {0}
 IsRest w (y ∷ ys) z = IsChain w y ys z
@@ -48,7 +48,8 @@ edge_made w p q hp hq = record { forth = get_or-set_same w.next p q 0 hp; back =
 pub edge_kept : (w : Wires) (p q a b : ℕ) → IsEdge w a b → a ≢ p → b ≢ q → IsEdge (joined w p q) a b
 edge_kept w p q a b e ap bq = record { forth = get_or-set_other w.next p a q 0 ap ∙ e.forth; back = get_or-set_other w.prev q b p 0 bq ∙ e.back }
 
-pub chain_kept : (w : Wires) (p q a : ℕ) (xs : List ℕ) (z : ℕ) → IsChain w a xs z → a ≢ p → count_in p xs ≡ 0 → count_in q xs ≡ 0 → z ≢ q → IsChain (joined w p q) a xs z
+pub chain_kept : (w : Wires) (p q a : ℕ) (xs : List ℕ) (z : ℕ) → IsChain w a xs z → a ≢ p → count_in p xs ≡ 0 → count_in q xs ≡ 0 → z ≢ q
+    → IsChain (joined w p q) a xs z
 chain_kept w p q a [] z c ap lp lq zq = edge_kept w p q a z c ap zq
 chain_kept w p q a (x ∷ xs) z c ap lp lq zq =
     (edge_kept w p q a x c.0 ap (lacks_head q x xs lq), chain_kept w p q x xs z c.1 (lacks_head p x xs lp) (lacks_tail p x xs lp) (lacks_tail q x xs lq) zq)
@@ -58,25 +59,27 @@ pub rest_kept : (w : Wires) (p q : ℕ) (ys : List ℕ) (z : ℕ) → IsRest w y
 rest_kept w p q [] z r lp lq zq = tt
 rest_kept w p q (y ∷ ys) z r lp lq zq = chain_kept w p q y ys z r (lacks_head p y ys lp) (lacks_tail p y ys lp) (lacks_tail q y ys lq) zq
 
-pub rest_kept_first : (w : Wires) (p : ℕ) (ys : List ℕ) (z : ℕ) → IsRest w ys z → count_in p ys ≡ 0 → ((k : ℕ) → count_in k ys ≤ 1) → count_in z ys ≡ 0 → IsRest (joined w p (first_of ys z)) ys z
+pub rest_kept_first : (w : Wires) (p : ℕ) (ys : List ℕ) (z : ℕ) → IsRest w ys z → count_in p ys ≡ 0 → ((k : ℕ) → count_in k ys ≤ 1) → count_in z ys ≡ 0
+    → IsRest (joined w p (first_of ys z)) ys z
 rest_kept_first w p [] z r lp once lz = tt
 rest_kept_first w p (y ∷ ys) z r lp once lz =
     let twice = count_same y y ys refl in let o = once y in let ly : count_in y ys ≡ 0 = omega arith in
     chain_kept w p y y ys z r (lacks_head p y ys lp) (lacks_tail p y ys lp) ly (λ e. lacks_head z y ys lz (sym e))
 
-pub last_stands : (a : ℕ) (xs : List ℕ) → 1 ≤ count_in (last_of a xs) (a ∷ xs)
-last_stands a [] = let e = count_same a a [] refl in omega arith
-last_stands a (x ∷ xs) = let h = last_stands x xs in let g = count-cons-ge (last_of x xs) a (x ∷ xs) in omega arith
+pub last_in : (a : ℕ) (xs : List ℕ) → 1 ≤ count_in (last_of a xs) (a ∷ xs)
+last_in a [] = let e = count_same a a [] refl in omega arith
+last_in a (x ∷ xs) = let h = last_in x xs in let g = count-cons-ge (last_of x xs) a (x ∷ xs) in omega arith
 
-pub chain_aimed : (w : Wires) (q a : ℕ) (xs : List ℕ) (z : ℕ) → IsChain w a xs z → ((k : ℕ) → count_in k (a ∷ xs) ≤ 1) → count_in q xs ≡ 0 → last_of a xs < length w.next → q < length w.prev → IsChain (joined w (last_of a xs) q) a xs q
+pub chain_aimed : (w : Wires) (q a : ℕ) (xs : List ℕ) (z : ℕ) → IsChain w a xs z → ((k : ℕ) → count_in k (a ∷ xs) ≤ 1) → count_in q xs ≡ 0
+    → last_of a xs < length w.next → q < length w.prev → IsChain (joined w (last_of a xs) q) a xs q
 chain_aimed w q a [] z c once lq hp hq = edge_made w a q hp hq
 chain_aimed w q a (x ∷ xs) z c once lq hp hq =
     let p : ℕ = last_of x xs in
-    let differs : a ≢ p = λ e. (let stands = last_stands x xs in let o = once p in let s = count_same p a (x ∷ xs) e in absurd (omega arith)) in
+    let differs : a ≢ p = λ e. (let last = last_in x xs in let o = once p in let s = count_same p a (x ∷ xs) e in absurd (omega arith)) in
     let rest : (k : ℕ) → count_in k (x ∷ xs) ≤ 1 = λ k. (let g = count-cons-ge k a (x ∷ xs) in let o = once k in omega arith) in
     (edge_kept w p q a x c.0 differs (lacks_head q x xs lq), chain_aimed w q x xs z c.1 rest (lacks_tail q x xs lq) hp hq)
 
--- what stands once in a list with the head a in front is lacked by one part where it stands in the other
+-- what is once in a list with the head a in front is lacked by one part where it is in the other
 pub apart_parts : (k a : ℕ) (xs ys : List ℕ) → count_in k (a ∷ (xs ++ ys)) ≤ 1 → 1 ≤ count_in k (a ∷ xs) → count_in k ys ≡ 0
 apart_parts k a xs ys once stands = let e = count-append k (a ∷ xs) ys in omega arith
 
@@ -86,7 +89,7 @@ front_once k a xs ys once = let e = count-append k (a ∷ xs) ys in omega arith
 pub back_once : (k a : ℕ) (xs ys : List ℕ) → count_in k (a ∷ (xs ++ ys)) ≤ 1 → count_in k ys ≤ 1
 back_once k a xs ys once = let e = count-append k (a ∷ xs) ys in omega arith
 
--- the first of ys, or else z, does not stand in xs
+-- the first of ys, or else z, is not in xs
 pub first_lacks : (a : ℕ) (xs ys : List ℕ) (z : ℕ) → ((k : ℕ) → count_in k (a ∷ (xs ++ ys)) ≤ 1) → count_in z (xs ++ ys) ≡ 0 → count_in (first_of ys z) xs ≡ 0
 first_lacks a xs [] z once lz = let e = count-append z xs [] in omega arith
 first_lacks a xs (y ∷ ys) z once lz =
@@ -106,7 +109,7 @@ chain_with w x a xs ys z c once lz lx ax zx hp hx hx' hq =
     let parts = chain_split w a xs ys z c in
     let sum-x = count-append x xs ys in let sum-z = count-append z xs ys in
     let lx-xs : count_in x xs ≡ 0 = omega arith in let lx-ys : count_in x ys ≡ 0 = omega arith in let lz-ys : count_in z ys ≡ 0 = omega arith in
-    let lp-ys : count_in p ys ≡ 0 = apart_parts p a xs ys (once p) (last_stands a xs) in
+    let lp-ys : count_in p ys ≡ 0 = apart_parts p a xs ys (once p) (last_in a xs) in
     let lq-xs : count_in q xs ≡ 0 = first_lacks a xs ys z once lz in
     let front₁ = chain_aimed w x a xs q parts.0 (λ k. front_once k a xs ys (once k)) lx-xs hp hx' in
     let front₂ = chain_kept w₁ x q a xs x front₁ ax lx-xs lq-xs (first_differs x ys z lx-ys (λ e. zx (sym e))) in
@@ -128,8 +131,9 @@ chain_without w x a xs ys z c once lz hp hq =
     let sum-z = count-append z xs (x ∷ ys) in let sum-z' = count-append z xs ys in
     let lz-xy : count_in z (x ∷ ys) ≡ 0 = omega arith in let lz-ys : count_in z ys ≡ 0 = lacks_tail z x ys lz-xy in
     let lz-all : count_in z (xs ++ ys) ≡ 0 = omega arith in
-    let fewer : (k : ℕ) → count_in k (a ∷ (xs ++ ys)) ≤ 1 = λ k. (let o = once k in let e = count-append k (a ∷ xs) (x ∷ ys) in let e' = count-append k (a ∷ xs) ys in let g = count-cons-ge k x ys in omega arith) in
-    let lp-xy : count_in p (x ∷ ys) ≡ 0 = apart_parts p a xs (x ∷ ys) (once p) (last_stands a xs) in
+    let fewer : (k : ℕ) → count_in k (a ∷ (xs ++ ys)) ≤ 1 =
+    λ k. (let o = once k in let e = count-append k (a ∷ xs) (x ∷ ys) in let e' = count-append k (a ∷ xs) ys in let g = count-cons-ge k x ys in omega arith) in
+    let lp-xy : count_in p (x ∷ ys) ≡ 0 = apart_parts p a xs (x ∷ ys) (once p) (last_in a xs) in
     let front = chain_aimed w q a xs x parts.0 (λ k. front_once k a xs ys (fewer k)) (first_lacks a xs ys z fewer lz-all) hp hq in
     let rest = rest_kept_first w p ys z back.1 (lacks_tail p x ys lp-xy) (λ k. back_once k a xs ys (fewer k)) lz-ys in
     chain_join (joined w p q) a xs ys z front rest

@@ -1,18 +1,20 @@
--- How often a number stands in a list, and in lists.
-use Rattle.std.proofs.Common.{◌≡◌, ◌≢◌, ℕ, zero, suc, ◌+◌, ◌≤◌, ◌<◌, cond, not, List, [], ◌∷◌, ◌++◌, length, set, eqb, refl, sym, ap, ◌∙◌, subst, inl, inr, arith}
+-- How often a number is in a list, and in lists.
+use Rattle.std.proofs.Common.{◌≡◌, ◌≢◌, ℕ, zero, suc, ◌+◌, ◌≤◌, ◌<◌, cond, not, List, [], ◌∷◌, ◌++◌, length, set, replicate, Some, slice_get, eqb, refl, sym, ap, ◌∙◌, subst, inl, inr, arith}
 use Rattle.std.proofs.lemmas.Bool.{eq-eqb, ne_eqb, cases_eq, cases_lt}
+use Rattle.std.proofs.lemmas.Option.{same_Some}
 use Rattle.std.proofs.lemmas.List.{get_or-set_other, get_or_past}
 use Rattle.std.proofs.lemmas.List.Sums.{sum_by-cons, sum_by-append, sum_by-set, get_or-le-sum_by}
 use Rattle.sa_links.specs.Lists.{list_at, count_in, count_in_all, without}
 
-count-cons : (x y : ℕ) (ys : List ℕ) → count_in x (y ∷ ys) ≡ cond (eqb y x) 1 0 + count_in x ys
+pub count-cons : (x y : ℕ) (ys : List ℕ) → count_in x (y ∷ ys) ≡ cond (eqb y x) 1 0 + count_in x ys
 count-cons x y ys = sum_by-cons (λ z. cond (eqb z x) 1 0) y ys
 
 pub count_same : (x y : ℕ) (ys : List ℕ) → y ≡ x → count_in x (y ∷ ys) ≡ 1 + count_in x ys
 count_same x y ys e = count-cons x y ys ∙ ap (λ b. cond b 1 0 + count_in x ys) (eq-eqb y x e)
 
 pub count_other : (x y : ℕ) (ys : List ℕ) → y ≢ x → count_in x (y ∷ ys) ≡ count_in x ys
-count_other x y ys ne = let e : count_in x (y ∷ ys) ≡ 0 + count_in x ys = count-cons x y ys ∙ ap (λ b. cond b 1 0 + count_in x ys) (ne_eqb y x ne) in omega arith
+count_other x y ys ne =
+    let e : count_in x (y ∷ ys) ≡ 0 + count_in x ys = count-cons x y ys ∙ ap (λ b. cond b 1 0 + count_in x ys) (ne_eqb y x ne) in omega arith
 
 pub count-append : (x : ℕ) (xs ys : List ℕ) → count_in x (xs ++ ys) ≡ count_in x xs + count_in x ys
 count-append x xs ys = sum_by-append (λ z. cond (eqb z x) 1 0) xs ys
@@ -27,7 +29,30 @@ lacks_tail x y ys none = let c = count_other x y ys (lacks_head x y ys none) in 
 pub count-cons-ge : (x y : ℕ) (ys : List ℕ) → count_in x ys ≤ count_in x (y ∷ ys)
 count-cons-ge x y ys = let e = count-cons x y ys in omega arith
 
-pub count_set : (x : ℕ) (ls : List (List ℕ)) (l : ℕ) (xs : List ℕ) → l < length ls → count_in_all x (set ls l xs) + count_in x (list_at ls l) ≡ count_in_all x ls + count_in x xs
+-- what a list has at a place is in it
+pub get_in : (xs : List ℕ) (k t : ℕ) → slice_get xs k ≡ Some t → 1 ≤ count_in t xs
+get_in [] k t e = absurd cc
+get_in (x ∷ xs) zero t e = let one = count_same t x xs (same_Some _ _ e) in omega arith
+get_in (x ∷ xs) (suc k) t e = let rest = get_in xs k t e in let more = count-cons-ge t x xs in omega arith
+
+pub first_counted : (xs : List ℕ) (n : ℕ) → ((y : ℕ) → slice_get xs 0 ≡ Some y → y ≡ n) → 1 ≤ length xs → 1 ≤ count_in n xs
+first_counted [] n first some = absurd (omega arith)
+first_counted (x ∷ xs) n first some = let one = count_same n x xs (first x refl) in omega arith
+
+-- nothing is in empty lists
+pub count-replicate : (x n : ℕ) → count_in_all x (replicate n []) ≡ 0
+count-replicate x zero = refl
+count-replicate x (suc n) =
+    let more : count_in_all x (replicate (suc n) []) ≡ 0 + count_in_all x (replicate n []) = sum_by-cons (count_in x) [] (replicate n []) in
+    let rest = count-replicate x n in omega arith
+
+pub empty_lists : (n l : ℕ) → list_at (replicate n []) l ≡ []
+empty_lists zero l = refl
+empty_lists (suc n) zero = refl
+empty_lists (suc n) (suc l) = empty_lists n l
+
+pub count_set : (x : ℕ) (ls : List (List ℕ)) (l : ℕ) (xs : List ℕ) → l < length ls
+    → count_in_all x (set ls l xs) + count_in x (list_at ls l) ≡ count_in_all x ls + count_in x xs
 count_set x ls l xs h = sum_by-set (count_in x) ls l xs [] h
 
 pub count_at : (x : ℕ) (ls : List (List ℕ)) (l : ℕ) → count_in x (list_at ls l) ≤ count_in_all x ls
@@ -44,10 +69,10 @@ count_two x ls l m ne h =
     let at = count_at x (set ls l []) m in
     omega arith
 
-without_same : (x y : ℕ) (ys : List ℕ) → y ≡ x → without x (y ∷ ys) ≡ without x ys
+pub without_same : (x y : ℕ) (ys : List ℕ) → y ≡ x → without x (y ∷ ys) ≡ without x ys
 without_same x y ys e = ap (λ b. cond (not b) (y ∷ without x ys) (without x ys)) (eq-eqb y x e)
 
-without_other : (x y : ℕ) (ys : List ℕ) → y ≢ x → without x (y ∷ ys) ≡ y ∷ without x ys
+pub without_other : (x y : ℕ) (ys : List ℕ) → y ≢ x → without x (y ∷ ys) ≡ y ∷ without x ys
 without_other x y ys ne = ap (λ b. cond (not b) (y ∷ without x ys) (without x ys)) (ne_eqb y x ne)
 
 -- a list without x
@@ -62,7 +87,8 @@ pub count_without_other : (k x : ℕ) (xs : List ℕ) → k ≢ x → count_in k
 count_without_other k x [] ne = refl
 count_without_other k x (y ∷ ys) ne = elim (cases_eq y x) [
   | inl e ↦ let s = without_same x y ys e in ap (count_in k) s ∙ count_without_other k x ys ne ∙ sym (count_other k y ys (λ f. ne (sym f ∙ e)))
-  | inr yx ↦ let s = without_other x y ys yx in ap (count_in k) s ∙ count-cons k y (without x ys) ∙ ap (λ c. cond (eqb y k) 1 0 + c) (count_without_other k x ys ne) ∙ sym (count-cons k y ys)
+  | inr yx ↦ let s = without_other x y ys yx in
+      ap (count_in k) s ∙ count-cons k y (without x ys) ∙ ap (λ c. cond (eqb y k) 1 0 + c) (count_without_other k x ys ne) ∙ sym (count-cons k y ys)
 ]
 
 pub length_without : (x : ℕ) (xs : List ℕ) → length xs ≡ length (without x xs) + count_in x xs
@@ -83,7 +109,7 @@ without_between x (y ∷ xs) ys once =
     let none : count_in x (y ∷ xs) ≡ 0 = omega arith in
     without_other x y (xs ++ x ∷ ys) (lacks_head x y xs none) ∙ ap (λ zs. y ∷ zs) (without_between x xs ys (omega arith))
 
--- what stands in a list stands between two parts of it
+-- what is in a list is between two parts of it
 pub stands_between : (x : ℕ) (xs : List ℕ) → 1 ≤ count_in x xs → (front : List ℕ) × (back : List ℕ) × (xs ≡ front ++ x ∷ back)
 stands_between x [] h = absurd (omega arith)
 stands_between x (y ∷ ys) h = elim (cases_eq y x) [
@@ -91,7 +117,7 @@ stands_between x (y ∷ ys) h = elim (cases_eq y x) [
   | inr ne ↦ let c = count_other x y ys ne in let r = stands_between x ys (omega arith) in (y ∷ r.0, r.1, ap (λ zs. y ∷ zs) r.2)
 ]
 
--- no more numbers below n than n stand once each
+-- a list in which each number is below n, and none is twice, has n numbers at most
 pub few_below : (n : ℕ) (xs : List ℕ) → ((x : ℕ) → count_in x xs ≤ 1) → ((x : ℕ) → 1 ≤ count_in x xs → x < n) → length xs ≤ n
 few_below zero [] once below = omega arith
 few_below zero (x ∷ xs) once below = let c = count_same x x xs refl in let lt = below x (omega arith) in absurd (omega arith)

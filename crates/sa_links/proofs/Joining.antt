@@ -31,12 +31,14 @@ pub rolled_prev : (n : Node) (p : Place Node) → roll-Node (record { prev = p; 
 rolled_prev n p = rolls-Node' (record { prev = p; next = (out-Node n).next; number = (out-Node n).number }) ∙ (λ i. Node' p.ptr (out_next n i) (out_number n i))
 
 -- what a write of a node that agrees with the old one leaves of a property of the nodes
-kept : {X : Type 0} (f : Node → X) (nodes : List Node) (i : ℕ) (old new : Node) → i < length nodes → old ≡ get_or nodes i old → f new ≡ f old → map f (set nodes i new) ≡ map f nodes
+kept : {X : Type 0} (f : Node → X) (nodes : List Node) (i : ℕ) (old new : Node) → i < length nodes → old ≡ get_or nodes i old → f new ≡ f old
+    → map f (set nodes i new) ≡ map f nodes
 kept f nodes i old new h at same =
     let read : f new ≡ get_or (map f nodes) i (f old) = same ∙ ap f at ∙ sym (get_or-map f nodes i old (f old) h) in
     map-set f nodes i new ∙ ap (λ x. set (map f nodes) i x) read ∙ set-get_or (map f nodes) i (f old)
 
-module _ (base : Ptr) (nodes : List Node) (front back : Ptr) (n m : Node) (at-front : IsNodePlace base (length nodes) front) (at-back : IsNodePlace base (length nodes) back) where
+module _ (base : Ptr) (nodes : List Node) (front back : Ptr) (n m : Node) (at-front : IsNodePlace base (length nodes) front)
+    (at-back : IsNodePlace base (length nodes) back) where
   abbrev i : ℕ
   i = node_index base front
 
@@ -57,7 +59,8 @@ module _ (base : Ptr) (nodes : List Node) (front back : Ptr) (n m : Node) (at-fr
     joined_wires =
         let N : Node → ℕ = λ x. node_index base (next_of x) in let P : Node → ℕ = λ x. node_index base (prev_of x) in
         let next : map N end ≡ set (map N nodes) i j = kept N mid j m (with_prev m front) j-inside read-m refl ∙ map-set N nodes i (with_next n back) in
-        let prev : map P end ≡ set (map P nodes) j i = map-set P mid j (with_prev m front) ∙ ap (λ xs. set xs j i) (kept P nodes i n (with_next n back) at-front.inside read-n refl) in
+        let prev : map P end ≡ set (map P nodes) j i =
+        map-set P mid j (with_prev m front) ∙ ap (λ xs. set xs j i) (kept P nodes i n (with_next n back) at-front.inside read-n refl) in
         λ k. record { next = next k; prev = prev k }
 
     pub joined_size : length end ≡ length nodes
@@ -74,10 +77,12 @@ module _ (base : Ptr) (nodes : List Node) (front back : Ptr) (n m : Node) (at-fr
         let linked-mid = All-set L nodes i (with_next n back) first linked in
         let old' : L m = subst L (sym read-m) (linked-mid j m j-inside) in
         let second : L (with_prev m front) = record { prev = at-front; next = old'.next } in
-        subst (λ k. (x : ℕ) (d : Node) → x < length end → IsLinked base k (get_or end x d)) (sym joined_size) (All-set L mid j (with_prev m front) second linked-mid)
+        subst (λ k. (x : ℕ) (d : Node) → x < length end → IsLinked base k (get_or end x d)) (sym joined_size)
+        (All-set L mid j (with_prev m front) second linked-mid)
 
     pub joined_relinked : (base' : Ptr) → base' ≡ base → IsRelinked base nodes base' end
-    joined_relinked base' e = record { block = e; size = joined_size; numbers = joined_numbers; linked = λ l. subst (λ z. AreLinked z end) (sym e) (joined_linked l) }
+    joined_relinked base' e =
+        record { block = e; size = joined_size; numbers = joined_numbers; linked = λ l. subst (λ z. AreLinked z end) (sym e) (joined_linked l) }
 
 -- the same, as the steps of `join` say it
 module _ (base base₁ base₂ : Ptr) (nodes mid' new : List Node) (front back : Place Node) (n m : Node)
@@ -99,14 +104,16 @@ module _ (base base₁ base₂ : Ptr) (nodes mid' new : List Node) (front back :
   read-m' = subst (λ ms. m ≡ get_or ms (node_index base bp) m) mid-spelled (subst (λ z. m ≡ get_or mid' (node_index z bp) m) e₁ read-m)
 
   new-spelled : new ≡ end base nodes fp bp n m at-front at-back
-  new-spelled = subst (λ z. new ≡ set mid' (node_index z bp) (roll-Node (record { prev = front; next = (out-Node m).next; number = (out-Node m).number }))) e₁ new-is
+  new-spelled =
+      subst (λ z. new ≡ set mid' (node_index z bp) (roll-Node (record { prev = front; next = (out-Node m).next; number = (out-Node m).number }))) e₁ new-is
       ∙ (λ k. set (mid-spelled k) (node_index base bp) (rolled_prev m front k))
 
   pub join_wires : wires_of base₂ new ≡ joined (wires_of base nodes) (node_index base fp) (node_index base bp)
   join_wires = (λ k. wires_of ((e₂ ∙ e₁) k) (new-spelled k)) ∙ joined_wires base nodes fp bp n m at-front at-back read-n read-m'
 
   pub join_relinked : IsRelinked base nodes base₂ new
-  join_relinked = subst (λ ms. IsRelinked base nodes base₂ ms) (sym new-spelled) (joined_relinked base nodes fp bp n m at-front at-back read-n read-m' base₂ (e₂ ∙ e₁))
+  join_relinked =
+      subst (λ ms. IsRelinked base nodes base₂ ms) (sym new-spelled) (joined_relinked base nodes fp bp n m at-front at-back read-n read-m' base₂ (e₂ ∙ e₁))
 
 pub relinked_twice : (base : Ptr) (nodes : List Node) (base₁ : Ptr) (nodes₁ : List Node) (base₂ : Ptr) (nodes₂ : List Node)
     → IsRelinked base nodes base₁ nodes₁ → IsRelinked base₁ nodes₁ base₂ nodes₂ → IsRelinked base nodes base₂ nodes₂

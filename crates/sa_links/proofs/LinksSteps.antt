@@ -13,13 +13,14 @@ use Rattle.sa_links.specs.Lists.{IsFree, IsIn, IsListed, IsNext, Lists, count_in
 use Rattle.sa_links.specs.Rings.{Wires, joined, IsEdge, IsChain, IsRings, lists_of}
 use Rattle.sa_links.specs.Wiring.{IsNodePlace, node_index, next_of, prev_of, number_of, wires_of, number_at, AreNumbered, AreLinked, IsRelinked, IsLinks}
 use Rattle.std.proofs.lemmas.List.Sums.{sum_by-cons}
-use Rattle.sa_links.proofs.Counting.{count_same, count-append, count-cons-ge, count_set, count_at, stands_between, without_between}
-use Rattle.sa_links.proofs.Chains.{last_of, first_of, chain_begins, chain_ends, chain_split, edge_made, edge_kept}
+use Rattle.sa_links.proofs.Counting.{count_same, count-append, count-cons-ge, count-replicate, empty_lists, count_set, count_at, stands_between, without_between}
+use Rattle.sa_links.proofs.Chains.{last_of, first_of, last_in, chain_begins, chain_ends, chain_split, edge_made, edge_kept}
 use Rattle.sa_links.proofs.RingChanges.{lists_are, ring_with, ring_without, rings_moved, listed_leads_on}
 use Rattle.sa_links.proofs.Joining.{out_prev, out_next, out_number}
 
 pub with_same : (v : Lists) (l : ℕ) (xs : List ℕ) → xs ≡ list_at v.lists l → with_list v l xs ≡ v
-with_same v l xs e = let f : set v.lists l xs ≡ v.lists = ap (λ ys. set v.lists l ys) e ∙ set-get_or v.lists l [] in λ i. record { nodes = v.nodes; lists = f i }
+with_same v l xs e = let f : set v.lists l xs ≡ v.lists = ap (λ ys. set v.lists l ys) e ∙ set-get_or v.lists l [] in
+    λ i. record { nodes = v.nodes; lists = f i }
 
 -- the ends of a list
 pub front_of : (count : ℕ) (xs : List ℕ) (z : ℕ) → count ≤ z → ((x : ℕ) → 1 ≤ count_in x xs → x < count) → number_at count (first_of xs z) ≡ slice_get xs 0
@@ -30,14 +31,11 @@ pub last_got : (x : ℕ) (xs : List ℕ) → slice_get (x ∷ xs) (length xs) �
 last_got x [] = refl
 last_got x (y ∷ ys) = last_got y ys
 
-last_in : (x : ℕ) (xs : List ℕ) → 1 ≤ count_in (last_of x xs) (x ∷ xs)
-last_in x [] = let s = count_same x x [] refl in omega arith
-last_in x (y ∷ ys) = let h = last_in y ys in let e = count-append (last_of y ys) (x ∷ []) (y ∷ ys) in omega arith
-
 length_less : (x : ℕ) (xs : List ℕ) → length (x ∷ xs) - 1 ≡ length xs
 length_less x xs = omega arith
 
-pub back_of : (count a : ℕ) (xs : List ℕ) → count ≤ a → ((x : ℕ) → 1 ≤ count_in x xs → x < count) → number_at count (last_of a xs) ≡ slice_get xs (length xs - 1)
+pub back_of : (count a : ℕ) (xs : List ℕ) → count ≤ a → ((x : ℕ) → 1 ≤ count_in x xs → x < count)
+    → number_at count (last_of a xs) ≡ slice_get xs (length xs - 1)
 back_of count a [] ha below = ap (λ b. cond b (Some a) None) (le-ltb a count ha)
 back_of count a (x ∷ xs) ha below =
     let h : last_of x xs < count = below (last_of x xs) (last_in x xs) in
@@ -69,23 +67,31 @@ none_last [] e = refl
 none_last (x ∷ xs) e = let f : None ≡ Some (last_of x xs) = e ∙ ap (λ n. slice_get (x ∷ xs) n) (length_less x xs) ∙ last_got x xs in absurd (cc)
 
 -- reading
-pub number_read : (count : ℕ) (nodes : List Node) (i : ℕ) (n : Node) → AreNumbered count nodes → i < length nodes → n ≡ get_or nodes i n → (out-Node n).number ≡ number_at count i
+pub number_read : (count : ℕ) (nodes : List Node) (i : ℕ) (n : Node) → AreNumbered count nodes → i < length nodes → n ≡ get_or nodes i n
+    → (out-Node n).number ≡ number_at count i
 number_read count nodes i n numbered h e = out_number n ∙ ap number_of e ∙ sym (get_or-map number_of nodes i n None h) ∙ numbered i
 
-pub next_read : (base : Ptr) (nodes : List Node) (i : ℕ) (n : Node) → i < length nodes → n ≡ get_or nodes i n → node_index base (out-Node n).next.ptr ≡ get_or (wires_of base nodes).next i 0
-next_read base nodes i n h e = let f : Node → ℕ = λ x. node_index base (next_of x) in ap (node_index base) (out_next n) ∙ ap f e ∙ sym (get_or-map f nodes i n 0 h)
+pub next_read : (base : Ptr) (nodes : List Node) (i : ℕ) (n : Node) → i < length nodes → n ≡ get_or nodes i n
+    → node_index base (out-Node n).next.ptr ≡ get_or (wires_of base nodes).next i 0
+next_read base nodes i n h e = let f : Node → ℕ = λ x. node_index base (next_of x) in
+    ap (node_index base) (out_next n) ∙ ap f e ∙ sym (get_or-map f nodes i n 0 h)
 
-pub prev_read : (base : Ptr) (nodes : List Node) (i : ℕ) (n : Node) → i < length nodes → n ≡ get_or nodes i n → node_index base (out-Node n).prev.ptr ≡ get_or (wires_of base nodes).prev i 0
-prev_read base nodes i n h e = let f : Node → ℕ = λ x. node_index base (prev_of x) in ap (node_index base) (out_prev n) ∙ ap f e ∙ sym (get_or-map f nodes i n 0 h)
+pub prev_read : (base : Ptr) (nodes : List Node) (i : ℕ) (n : Node) → i < length nodes → n ≡ get_or nodes i n
+    → node_index base (out-Node n).prev.ptr ≡ get_or (wires_of base nodes).prev i 0
+prev_read base nodes i n h e = let f : Node → ℕ = λ x. node_index base (prev_of x) in
+    ap (node_index base) (out_prev n) ∙ ap f e ∙ sym (get_or-map f nodes i n 0 h)
 
-pub next_inside : (base : Ptr) (nodes : List Node) (i : ℕ) (n : Node) → AreLinked base nodes → i < length nodes → n ≡ get_or nodes i n → IsNodePlace base (length nodes) (out-Node n).next.ptr
+pub next_inside : (base : Ptr) (nodes : List Node) (i : ℕ) (n : Node) → AreLinked base nodes → i < length nodes → n ≡ get_or nodes i n
+    → IsNodePlace base (length nodes) (out-Node n).next.ptr
 next_inside base nodes i n linked h e = subst (λ p. IsNodePlace base (length nodes) p) (ap next_of (sym e) ∙ sym (out_next n)) (linked i n h).next
 
-pub prev_inside : (base : Ptr) (nodes : List Node) (i : ℕ) (n : Node) → AreLinked base nodes → i < length nodes → n ≡ get_or nodes i n → IsNodePlace base (length nodes) (out-Node n).prev.ptr
+pub prev_inside : (base : Ptr) (nodes : List Node) (i : ℕ) (n : Node) → AreLinked base nodes → i < length nodes → n ≡ get_or nodes i n
+    → IsNodePlace base (length nodes) (out-Node n).prev.ptr
 prev_inside base nodes i n linked h e = subst (λ p. IsNodePlace base (length nodes) p) (ap prev_of (sym e) ∙ sym (out_prev n)) (linked i n h).prev
 
 -- the nodes of a `Links` that is seen as v
-module _ {begin : Ptr} (base : Ptr) (nodes : List Node) (count : ℕ) (v : Lists) (view : lists_of (wires_of base nodes) count ≡ v) (I : IsLinks begin base nodes count) where
+module _ {begin : Ptr} (base : Ptr) (nodes : List Node) (count : ℕ) (v : Lists) (view : lists_of (wires_of base nodes) count ≡ v)
+    (I : IsLinks begin base nodes count) where
   abbrev w : Wires
   w = wires_of base nodes
 
@@ -120,7 +126,8 @@ module _ {begin : Ptr} (base : Ptr) (nodes : List Node) (count : ℕ) (v : Lists
           number_read count nodes i m I.numbered at.inside read-m ∙ ap (λ c. number_at c i) count_is ∙ ap (number_at v.nodes) i-is
           ∙ front_of v.nodes (list_at v.lists l) (v.nodes + l) (omega arith) (below l)
 
-      pub back_read : m ≡ get_or nodes (node_index base (out-Node n).prev.ptr) m → (out-Node m).number ≡ slice_get (list_at v.lists l) (length (list_at v.lists l) - 1)
+      pub back_read : m ≡ get_or nodes (node_index base (out-Node n).prev.ptr) m
+          → (out-Node m).number ≡ slice_get (list_at v.lists l) (length (list_at v.lists l) - 1)
       back_read read-m =
           let i : ℕ = node_index base (out-Node n).prev.ptr in
           let i-is : i ≡ last_of (v.nodes + l) (list_at v.lists l) = prev_read base nodes a n inside read-n ∙ last_led in
@@ -128,7 +135,8 @@ module _ {begin : Ptr} (base : Ptr) (nodes : List Node) (count : ℕ) (v : Lists
           number_read count nodes i m I.numbered at.inside read-m ∙ ap (λ c. number_at c i) count_is ∙ ap (number_at v.nodes) i-is
           ∙ back_of v.nodes (v.nodes + l) (list_at v.lists l) (omega arith) (below l)
 
-  module _ (base' : Ptr) (nodes' : List Node) (v' : Lists) (R : IsRelinked base nodes base' nodes') (r : IsRings (wires_of base' nodes') v') (same : v'.nodes ≡ v.nodes) where
+  module _ (base' : Ptr) (nodes' : List Node) (v' : Lists) (R : IsRelinked base nodes base' nodes') (r : IsRings (wires_of base' nodes') v')
+      (same : v'.nodes ≡ v.nodes) where
     pub view_after : lists_of (wires_of base' nodes') count ≡ v'
     view_after = ap (lists_of (wires_of base' nodes')) (count_is ∙ sym same) ∙ lists_are (wires_of base' nodes') v' r
 
@@ -153,7 +161,8 @@ last_leads : (w : Wires) (a : ℕ) (xs : List ℕ) (z : ℕ) → IsChain w a xs 
 last_leads w a [] z c = c.forth
 last_leads w a (x ∷ xs) z c = last_leads w x xs z c.1
 
-pub pushed_back : (w w' : Wires) (v : Lists) (l x a x' : ℕ) → IsRings w v → l < length v.lists → x < v.nodes → IsFree v x → a ≡ last_of (v.nodes + l) (list_at v.lists l) → x' ≡ x
+pub pushed_back : (w w' : Wires) (v : Lists) (l x a x' : ℕ) → IsRings w v → l < length v.lists → x < v.nodes → IsFree v x
+    → a ≡ last_of (v.nodes + l) (list_at v.lists l) → x' ≡ x
     → w' ≡ joined (joined w a x') x' (get_or w.next a 0) → IsRings w' (with_list v l (list_at v.lists l ++ x ∷ []))
 pushed_back w w' v l x a x' r hl hx free ha hx' e =
     let n : ℕ = v.nodes + l in let xs : List ℕ = list_at v.lists l in
@@ -177,7 +186,8 @@ module _ (w w' : Wires) (v : Lists) (l x i : ℕ) (xs ys : List ℕ) (r : IsRing
       let f' : w' ≡ joined (joined w (last_of n xs) (first_of ys n)) x x = f ∙ (λ k. joined (joined w (p k) (q k)) (hi k) (hi k)) in
       subst (λ u. IsRings u (with_list v l (xs ++ ys))) (sym f') (ring_without w v l x xs ys r hl e)
     where
-      split : (u : Wires) (a : ℕ) (us vs : List ℕ) (z : ℕ) → IsChain u a (us ++ x ∷ vs) z → (get_or u.prev x 0 ≡ last_of a us) × (get_or u.next x 0 ≡ first_of vs z)
+      split : (u : Wires) (a : ℕ) (us vs : List ℕ) (z : ℕ) → IsChain u a (us ++ x ∷ vs) z
+          → (get_or u.prev x 0 ≡ last_of a us) × (get_or u.next x 0 ≡ first_of vs z)
       split u a [] vs z c = (c.0.back, chain_begins u x vs z c.1)
       split u a (y ∷ us) vs z c = split u y us vs z c.1
 
@@ -189,7 +199,8 @@ module _ (w w' : Wires) (v : Lists) (l x i : ℕ) (r : IsRings w v) (hl : l < le
     front-is : xs ≡ [] ++ x ∷ drop 1 xs
     front-is = (front_splits x 0 xs got).0
 
-    pub popped_front : i ≡ first_of xs (v.nodes + l) → w' ≡ joined (joined w (get_or w.prev i 0) (get_or w.next i 0)) i i → IsRings w' (with_list v l (drop 1 xs))
+    pub popped_front : i ≡ first_of xs (v.nodes + l) → w' ≡ joined (joined w (get_or w.prev i 0) (get_or w.next i 0)) i i
+        → IsRings w' (with_list v l (drop 1 xs))
     popped_front hi f = removed w w' v l x i [] (drop 1 xs) r hl front-is (hi ∙ (front_splits x (v.nodes + l) xs got).1) f
 
     pub front_freed : IsFree (with_list v l (drop 1 xs)) x
@@ -203,7 +214,9 @@ module _ (w w' : Wires) (v : Lists) (l x i : ℕ) (r : IsRings w v) (hl : l < le
     back-is = (back_splits x 0 xs got).0
 
     pub popped_back : i ≡ last_of (v.nodes + l) xs → w' ≡ joined (joined w (get_or w.prev i 0) (get_or w.next i 0)) i i → IsRings w' (with_list v l front)
-    popped_back hi f = subst (λ zs. IsRings w' (with_list v l zs)) (append-nil front) (removed w w' v l x i front [] r hl back-is (hi ∙ (back_splits x (v.nodes + l) xs got).1) f)
+    popped_back hi f =
+        subst (λ zs. IsRings w' (with_list v l zs)) (append-nil front)
+        (removed w w' v l x i front [] r hl back-is (hi ∙ (back_splits x (v.nodes + l) xs got).1) f)
 
     pub back_freed : IsFree (with_list v l front) x
     back_freed = subst (λ zs. IsFree (with_list v l zs) x) (append-nil front) (freed w w' v l x i front [] r hl back-is)
@@ -230,7 +243,7 @@ module _ (w w' : Wires) (v : Lists) (l x i : ℕ) (r : IsRings w v) (hl : l < le
     pub stands_leads_on : get_or w.next x 0 ≢ x
     stands_leads_on = listed_leads_on w v l x parts.0 parts.1 r hl parts.2
 
--- what stands in the lists stands in one of them
+-- what is in the lists is in one of them
 stands_somewhere : (x : ℕ) (ls : List (List ℕ)) → 1 ≤ count_in_all x ls → (l : ℕ) × (l < length ls) × IsIn x (list_at ls l)
 stands_somewhere x [] h = absurd (omega arith)
 stands_somewhere x (xs ∷ ls) h = elim (cases_lt (count_in x xs) 1) [
@@ -244,7 +257,8 @@ free_read_back n x i e = elim (cases_lt i n) [
   | inr h ↦ absurd (false≢true (sym (ap (λ b. option_eq eqb (cond b (Some i) None) (Some x)) (le-ltb i n h)) ∙ e))
 ]
 
-pub free_is : (w : Wires) (v : Lists) (x i : ℕ) (t : Bool) → IsRings w v → x < v.nodes → i ≡ get_or w.next x 0 → t ≡ option_eq eqb (number_at v.nodes i) (Some x) → (t ≡ true) ↔ IsFree v x
+pub free_is : (w : Wires) (v : Lists) (x i : ℕ) (t : Bool) → IsRings w v → x < v.nodes → i ≡ get_or w.next x 0
+    → t ≡ option_eq eqb (number_at v.nodes i) (Some x) → (t ≡ true) ↔ IsFree v x
 free_is w v x i t r hx hi e = (
   (λ yes.
       let led : i ≡ x = free_read_back v.nodes x i (sym e ∙ yes) in
@@ -254,24 +268,30 @@ free_is w v x i t r hx hi e = (
       ]),
   λ free.
       let edge = r.lone x hx free in
-      e ∙ ap (λ k. option_eq eqb (number_at v.nodes k) (Some x)) (hi ∙ edge.forth) ∙ ap (λ b. option_eq eqb (cond b (Some x) None) (Some x)) (lt-ltb x v.nodes hx) ∙ eq-eqb x x refl,
+      e ∙ ap (λ k. option_eq eqb (number_at v.nodes k) (Some x)) (hi ∙ edge.forth)
+      ∙ ap (λ b. option_eq eqb (cond b (Some x) None) (Some x)) (lt-ltb x v.nodes hx) ∙ eq-eqb x x refl,
 )
 
-pub moved_none : (v : Lists) (l m : ℕ) → is_some (slice_get (list_at v.lists m) 0) ≡ false → v ≡ with_list (with_list v l (list_at v.lists l ++ list_at v.lists m)) m []
+pub moved_none : (v : Lists) (l m : ℕ) → is_some (slice_get (list_at v.lists m) 0) ≡ false
+    → v ≡ with_list (with_list v l (list_at v.lists l ++ list_at v.lists m)) m []
 moved_none v l m e = go (list_at v.lists m) refl e
   where
     go : (zs : List ℕ) → list_at v.lists m ≡ zs → is_some (slice_get zs 0) ≡ false → v ≡ with_list (with_list v l (list_at v.lists l ++ list_at v.lists m)) m []
     go [] is e =
-        let first : with_list v l (list_at v.lists l ++ list_at v.lists m) ≡ v = with_same v l _ (ap (λ us. list_at v.lists l ++ us) is ∙ append-nil (list_at v.lists l)) in
+        let first : with_list v l (list_at v.lists l ++ list_at v.lists m) ≡ v =
+        with_same v l _ (ap (λ us. list_at v.lists l ++ us) is ∙ append-nil (list_at v.lists l)) in
         sym (ap (λ u. with_list u m []) first ∙ with_same v m [] (sym is))
     go (z ∷ zs) is e = absurd (false≢true (sym e))
 
-pub moved : (w w₁ w₂ w₃ : Wires) (v : Lists) (l m e f b s t : ℕ) → IsRings w v → l ≢ m → l < length v.lists → m < length v.lists → is_some (slice_get (list_at v.lists m) 0) ≡ true
-    → e ≡ last_of (v.nodes + l) (list_at v.lists l) → f ≡ first_of (list_at v.lists m) (v.nodes + m) → b ≡ last_of (v.nodes + m) (list_at v.lists m) → s ≡ v.nodes + l → t ≡ v.nodes + m
+pub moved : (w w₁ w₂ w₃ : Wires) (v : Lists) (l m e f b s t : ℕ) → IsRings w v → l ≢ m → l < length v.lists → m < length v.lists
+    → is_some (slice_get (list_at v.lists m) 0) ≡ true
+    → e ≡ last_of (v.nodes + l) (list_at v.lists l) → f ≡ first_of (list_at v.lists m) (v.nodes + m) → b ≡ last_of (v.nodes + m) (list_at v.lists m)
+    → s ≡ v.nodes + l → t ≡ v.nodes + m
     → w₁ ≡ joined w e f → w₂ ≡ joined w₁ b s → w₃ ≡ joined w₂ t t → IsRings w₃ (with_list (with_list v l (list_at v.lists l ++ list_at v.lists m)) m [])
 moved w w₁ w₂ w₃ v l m e f b s t r ne hl hm some he hf hb hs ht f₁ f₂ f₃ = go (list_at v.lists m) refl some
   where
-    go : (zs : List ℕ) → list_at v.lists m ≡ zs → is_some (slice_get zs 0) ≡ true → IsRings w₃ (with_list (with_list v l (list_at v.lists l ++ list_at v.lists m)) m [])
+    go : (zs : List ℕ) → list_at v.lists m ≡ zs → is_some (slice_get zs 0) ≡ true
+        → IsRings w₃ (with_list (with_list v l (list_at v.lists l ++ list_at v.lists m)) m [])
     go [] is none = absurd (false≢true none)
     go (z ∷ zs) is full =
         let f-is : f ≡ z = hf ∙ ap (λ us. first_of us (v.nodes + m)) is in
@@ -281,7 +301,8 @@ moved w w₁ w₂ w₃ v l m e f b s t r ne hl hm some he hf hb hs ht f₁ f₂ 
         subst (λ u. IsRings u (with_list (with_list v l (list_at v.lists l ++ list_at v.lists m)) m [])) (sym all) (rings_moved w v l m z zs r ne hl hm is)
 
 -- one more node is closed in itself
-pub closed_more : (w w' : Wires) (i a size : ℕ) → a ≡ i → i < size → length w.next ≡ size → length w.prev ≡ size → w' ≡ joined w a a → ((k : ℕ) → k < i → IsEdge w k k) → (k : ℕ) → k < i + 1 → IsEdge w' k k
+pub closed_more : (w w' : Wires) (i a size : ℕ) → a ≡ i → i < size → length w.next ≡ size → length w.prev ≡ size → w' ≡ joined w a a
+    → ((k : ℕ) → k < i → IsEdge w k k) → (k : ℕ) → k < i + 1 → IsEdge w' k k
 closed_more w w' i a size ha h n n' e closed k hk =
     let e' : w' ≡ joined w i i = e ∙ ap (λ b. joined w b b) ha in
     subst (λ u. IsEdge u k k) (sym e') (elim (cases_eq k i) [
@@ -292,16 +313,6 @@ closed_more w w' i a size ha h n n' e closed k hk =
 pub wires_size : (base : Ptr) (nodes : List Node) → (length (wires_of base nodes).next ≡ length nodes) × (length (wires_of base nodes).prev ≡ length nodes)
 wires_size base nodes = (length-map nodes (λ n. node_index base (next_of n)), length-map nodes (λ n. node_index base (prev_of n)))
 
--- nothing stands in empty lists
-none_in : (x m : ℕ) → count_in_all x (replicate m []) ≡ 0
-none_in x zero = refl
-none_in x (suc m) = let s = sum_by-cons (count_in x) [] (replicate m []) in let h = none_in x m in let e : count_in_all x ([] ∷ replicate m []) ≡ 0 = omega arith in e
-
-empty_at : (m l : ℕ) → list_at (replicate m []) l ≡ []
-empty_at zero l = refl
-empty_at (suc m) zero = refl
-empty_at (suc m) (suc l) = empty_at m l
-
 -- nodes that are each closed in themselves are empty lists
 pub closed_rings : (w : Wires) (count lists : ℕ) → length w.next ≡ count + lists → length w.prev ≡ count + lists → ((k : ℕ) → k < count + lists → IsEdge w k k)
     → IsRings w (record { nodes = count; lists = replicate lists [] })
@@ -310,12 +321,13 @@ closed_rings w count lists n n' closed =
     record {
       nexts = omega arith;
       prevs = omega arith;
-      apart = record { below = λ x h. (let z = none_in x lists in absurd (omega arith)); once = λ x. (let z = none_in x lists in omega arith) };
-      rings = λ l h. subst (λ xs. IsChain w (count + l) xs (count + l)) (sym (empty_at lists l)) (closed (count + l) (omega arith));
+      apart = record { below = λ x h. (let z = count-replicate x lists in absurd (omega arith)); once = λ x. (let z = count-replicate x lists in omega arith) };
+      rings = λ l h. subst (λ xs. IsChain w (count + l) xs (count + l)) (sym (empty_lists lists l)) (closed (count + l) (omega arith));
       lone = λ x hx free. closed x (omega arith);
     }
 
-pub new_lists : (begin base base' : Ptr) (nodes nodes' : List Node) (count lists : ℕ) → length nodes ≡ count + lists → AreNumbered count nodes → AreLinked base nodes → begin ≡ base
+pub new_lists : (begin base base' : Ptr) (nodes nodes' : List Node) (count lists : ℕ) → length nodes ≡ count + lists → AreNumbered count nodes
+    → AreLinked base nodes → begin ≡ base
     → IsRelinked base nodes base' nodes' → ((k : ℕ) → k < length nodes → IsEdge (wires_of base' nodes') k k)
     → (lists_of (wires_of base' nodes') count ≡ record { nodes = count; lists = replicate lists [] }) × IsLinks begin base' nodes' count
 new_lists begin base base' nodes nodes' count lists size numbered linked begins R closed =
@@ -339,12 +351,14 @@ next_is w v x i r hi l xs ys e = elim (cases_lt l (length v.lists)) [
       let parts = chain_split w n xs (x ∷ ys) n (subst (λ zs. IsChain w n zs n) e (r.rings l h)) in
       let led : i ≡ first_of ys n = hi ∙ chain_begins w x ys n parts.1 in
       let below : (k : ℕ) → 1 ≤ count_in k ys → k < v.nodes = λ k hk.
-      (let A = r.apart in let a = count_at k v.lists l in let f = ap (count_in k) e in let t = count-append k xs (x ∷ ys) in let g = count-cons-ge k x ys in A.below k (omega arith)) in
+      (let A = r.apart in let a = count_at k v.lists l in let f = ap (count_in k) e in let t = count-append k xs (x ∷ ys) in let g = count-cons-ge k x ys in
+      A.below k (omega arith)) in
       ap (number_at v.nodes) led ∙ front_of v.nodes ys n (omega arith) below
-  | inr h ↦ let none : [] ≡ xs ++ x ∷ ys = sym (get_or_past v.lists l [] h) ∙ e in let f = ap length none in let g = length-append xs (x ∷ ys) in absurd (omega arith)
+  | inr h ↦ let none : [] ≡ xs ++ x ∷ ys = sym (get_or_past v.lists l [] h) ∙ e in let f = ap length none in let g = length-append xs (x ∷ ys) in
+      absurd (omega arith)
 ]
 
--- what a list has at a place stands in it
+-- what a list has at a place is in it
 if_some : (o : Option ℕ) (P Q : ℕ → Type 0) → ((x : ℕ) → P x → Q x) → IfSome o P → IfSome o Q
 if_some None P Q f h = tt
 if_some (Some x) P Q f h = f x h
@@ -357,17 +371,19 @@ some_stands (x ∷ xs) (suc k) =
 
 pub some_listed : (v : Lists) (l k : ℕ) → IfSome (slice_get (list_at v.lists l) k) (IsListed v)
 some_listed v l k =
-    if_some (slice_get (list_at v.lists l) k) (λ x. IsIn x (list_at v.lists l)) (IsListed v) (λ x h. (let a = count_at x v.lists l in omega arith)) (some_stands (list_at v.lists l) k)
+    if_some (slice_get (list_at v.lists l) k) (λ x. IsIn x (list_at v.lists l)) (IsListed v) (λ x h. (let a = count_at x v.lists l in omega arith))
+    (some_stands (list_at v.lists l) k)
 
 pub got_below : (w : Wires) (v : Lists) (l k x : ℕ) → IsRings w v → slice_get (list_at v.lists l) k ≡ Some x → x < v.nodes
 got_below w v l k x r e =
     let h : IfSome (Some x) (IsListed v) = subst (λ o. IfSome o (IsListed v)) e (some_listed v l k) in let A = r.apart in A.below x h
 
--- so does the one behind a listed node
+-- the one after a listed node is listed too
 pub next_listed : (w : Wires) (v : Lists) (x : ℕ) (next : Option ℕ) → IsListed v x → IsNext v x next → IfSome next (IsListed v)
 next_listed w v x next h is =
     let at = stands_somewhere x v.lists h in let parts = stands_between x (list_at v.lists at.0) at.2 in
     subst (λ o. IfSome o (IsListed v)) (sym (is at.0 parts.0 parts.1 parts.2))
     (if_some (slice_get parts.1 0) (λ y. IsIn y parts.1) (IsListed v)
-    (λ y hy. (let e = ap (count_in y) parts.2 in let t = count-append y parts.0 (x ∷ parts.1) in let g = count-cons-ge y x parts.1 in let a = count_at y v.lists at.0 in omega arith))
+    (λ y hy. (let e = ap (count_in y) parts.2 in let t = count-append y parts.0 (x ∷ parts.1) in let g = count-cons-ge y x parts.1 in
+    let a = count_at y v.lists at.0 in omega arith))
     (some_stands parts.1 0))

@@ -45,7 +45,8 @@ Word = Struct one_field
 
 module _ {M : Type 1} {𝓤 : Ura M} {𝓛 : Logic 𝓤} {K : Type 0} {Γ : List (Item 𝓤)} {G : Goal 𝓤 𝓛.H} where
   pub word_had : K → (c : Ptr) (vs : List Val) → (vs ≡ word c ∷ [] → Seq K 𝓛 Γ G) → Seq K 𝓛 (‵ (Word.own_val (c, tt) vs) ∷ Γ) G
-  word_had t c vs k = fpick t (λ vss. fsplit t $ feq_l t (λ ev. fsplit t $ feq_l t (λ e. drop t $ k (subst (λ (ws : List Val). vs ≡ vstruct (of_list (ws ++ [])) ∷ []) e ev))))
+  word_had t c vs k =
+      fpick t (λ vss. fsplit t $ feq_l t (λ ev. fsplit t $ feq_l t (λ e. drop t $ k (subst (λ (ws : List Val). vs ≡ vstruct (of_list (ws ++ [])) ∷ []) e ev))))
 
   pub word_made : K → (c : Ptr) → Step K 𝓛 (‵ (Word.own_val (c, tt) (word c ∷ [])) ∷ Γ) G Γ G
   word_made t c = step (λ s.
@@ -58,7 +59,8 @@ alone τ (v ∷ []) t = (v, (refl, t.0))
 alone τ (v ∷ w ∷ vs) t = absurd t.1
 
 module _ (Y : RattleType) (L : Laws Y) {M : Type 1} {𝓤 : Ura M} {𝓛 : Logic 𝓤} {K : Type 0} {Γ : List (Item 𝓤)} {G : Goal 𝓤 𝓛.H} where
-  pub tells : K → (x : Y.Denot) (vs : List Val) → ((v : Val) → vs ≡ v ∷ [] → Good (layout Y) v → Seq K 𝓛 (‵ (Y.own_val x (v ∷ [])) ∷ Γ) G) → Seq K 𝓛 (‵ (Y.own_val x vs) ∷ Γ) G
+  pub tells : K → (x : Y.Denot) (vs : List Val) → ((v : Val) → vs ≡ v ∷ [] → Good (layout Y) v → Seq K 𝓛 (‵ (Y.own_val x (v ∷ [])) ∷ Γ) G)
+      → Seq K 𝓛 (‵ (Y.own_val x vs) ∷ Γ) G
   tells t x vs k =
       peeks t (param 0 Y) (Is (param 0 Y)) (shows 𝓛 (param 0 Y)) x vs (λ is.
       let one = alone (layout Y) vs (((param_laws 0 Y L).lawful 𝓛).typed x vs is) in
@@ -89,7 +91,8 @@ module _ (E : El) where
     pub one_in : (y : el_x E) → i < length xs → length xs ≡ n → ent 𝓤 (sep 𝓤 (one y) (sem 𝓛 Beside)) (all (set xs i y))
     one_in y inside l = qed 𝓛 (‵ (part_at (R E) full_share y b (i * sz E + o)) ∷ ‵ Beside ∷ []) ∵
         rewrite ! 0 (λ (k : ℕ). ‵ (part_at (R E) full_share y b k)) (sym (place_is (sz E) o i)) refl $
-        use2 𝓛 (‵ (row (R E) full_share (set xs i y) b o)) (puts (shares (R E)) full_share 𝓛 xs i y b o inside) $ by ! (whole E 𝓛 full_share n (set xs i y) b o (length-set xs i y ∙ l))
+        use2 𝓛 (‵ (row (R E) full_share (set xs i y) b o)) (puts (shares (R E)) full_share 𝓛 xs i y b o inside) $ by !
+        (whole E 𝓛 full_share n (set xs i y) b o (length-set xs i y ∙ l))
 
 pub some_of : {X : Type 0} (xs : List X) (i : ℕ) → i < length xs → X
 some_of [] i h = absurd (not-suc-le-zero h)
@@ -111,14 +114,17 @@ module _ {M : Type 1} {𝓤 : Ura M} (𝓛 : Logic 𝓤) (R : RattleType) (b : �
   abbrev s : ℕ
   s = (mem R).size
 
-  pub one_seen : (xs : List R.Denot) (i : ℕ) (d : R.Denot) (o : ℕ) → i < length xs → ent 𝓤 (sem 𝓛 (elements_shared R xs b o κ)) (sem 𝓛 (shared_of R (get_or xs i d) b (i * s + o) κ))
+  pub one_seen : (xs : List R.Denot) (i : ℕ) (d : R.Denot) (o : ℕ) → i < length xs
+      → ent 𝓤 (sem 𝓛 (elements_shared R xs b o κ)) (sem 𝓛 (shared_of R (get_or xs i d) b (i * s + o) κ))
   one_seen [] i d o h = absurd (not-suc-le-zero h)
   one_seen (x ∷ xs) zero d o h =
       let e : o ≡ 0 * s + o = omega arith in
-      subst (λ (k : ℕ). ent 𝓤 (sem 𝓛 (elements_shared R (x ∷ xs) b o κ)) (sem 𝓛 (shared_of R x b k κ))) e (fst∗ 𝓤 (sem 𝓛 (shared_of R x b o κ)) (sem 𝓛 (elements_shared R xs b (o + s) κ)))
+      subst (λ (k : ℕ). ent 𝓤 (sem 𝓛 (elements_shared R (x ∷ xs) b o κ)) (sem 𝓛 (shared_of R x b k κ))) e
+      (fst∗ 𝓤 (sem 𝓛 (shared_of R x b o κ)) (sem 𝓛 (elements_shared R xs b (o + s) κ)))
   one_seen (x ∷ xs) (suc i) d o h =
       subst (λ (k : ℕ). ent 𝓤 (sem 𝓛 (elements_shared R (x ∷ xs) b o κ)) (sem 𝓛 (shared_of R (get_or xs i d) b k κ))) (next_place i s o)
-      (via 𝓤 (sem 𝓛 (elements_shared R xs b (o + s) κ)) (snd∗ 𝓤 (sem 𝓛 (shared_of R x b o κ)) (sem 𝓛 (elements_shared R xs b (o + s) κ))) (one_seen xs i d (o + s) (le_of_suc-le-suc h)))
+      (via 𝓤 (sem 𝓛 (elements_shared R xs b (o + s) κ)) (snd∗ 𝓤 (sem 𝓛 (shared_of R x b o κ)) (sem 𝓛 (elements_shared R xs b (o + s) κ)))
+      (one_seen xs i d (o + s) (le_of_suc-le-suc h)))
 
 module _ {M : Type 1} (𝓤 : Ura M) where
   three_said : (φ ψ χ : Type 0) → ent 𝓤 (sep 𝓤 (fact 𝓤 φ) (sep 𝓤 (fact 𝓤 ψ) (fact 𝓤 χ))) (fact 𝓤 (φ × ψ × χ))

@@ -1,15 +1,15 @@
 -- The rings of lists, and what is left of them once nodes are joined.
 --     lists_are      the lists are what the links say
---     ring_with, ring_without, rings_moved      a node is put into a list, or taken out of it; a list goes behind another
+--     ring_with, ring_without, rings_moved      a node is put into a list, or taken out of it; a list goes after another
 use Rattle.std.proofs.Common.{◌≡◌, ◌≢◌, ℕ, zero, suc, ◌+◌, ◌-◌, ◌≤◌, ◌<◌, ◌⊎◌, cond, List, [], ◌∷◌, ◌++◌, length, get_or, set, drop, ltb, refl, sym, ap, ◌∙◌, subst, inl, inr, arith}
 use Rattle.std.proofs.lemmas.Bool.{cases_eq, lt-ltb, le-ltb}
 use Rattle.std.proofs.lemmas.List.{get_or-set_other, get_or-set_same, length-set, drop_more, drop_all}
 use Rattle.sa_links.specs.Lists.{Lists, list_at, count_in, count_in_all, IsFree, with_list, IsApart}
 use Rattle.sa_links.specs.Rings.{Wires, joined, IsEdge, IsChain, IsRings, followed, rings_from, lists_of}
 use Rattle.sa_links.proofs.Counting.{count_same, count_other, count-append, count-cons-ge, count_set, count_at, count_two, few_below, lacks_head, lacks_tail}
-use Rattle.sa_links.proofs.Chains.{last_of, first_of, last_stands, chain_split, chain_join, chain_begins, edge_made, edge_kept, chain_kept, chain_aimed, chain_with, chain_without, first_differs}
+use Rattle.sa_links.proofs.Chains.{last_of, first_of, last_in, chain_split, chain_join, chain_begins, edge_made, edge_kept, chain_kept, chain_aimed, chain_with, chain_without, first_differs}
 
--- k stands in the ring of the list l
+-- k is in the ring of the list l
 abbrev pub Owned : Lists → ℕ → ℕ → Type 0
 Owned c l k = 1 ≤ count_in k ((c.nodes + l) ∷ list_at c.lists l)
 
@@ -58,7 +58,7 @@ first_stands a xs [] = let s = count_same a a (xs ++ []) refl in omega arith
 first_stands a xs (y ∷ ys) = let s = count_same y y ys refl in let e = count-append y (a ∷ xs) (y ∷ ys) in omega arith
 
 pub last_stands_before : (a : ℕ) (xs ys : List ℕ) → 1 ≤ count_in (last_of a xs) (a ∷ (xs ++ ys))
-last_stands_before a xs ys = let s = last_stands a xs in let e = count-append (last_of a xs) (a ∷ xs) ys in omega arith
+last_stands_before a xs ys = let s = last_in a xs in let e = count-append (last_of a xs) (a ∷ xs) ys in omega arith
 
 -- an edge between two nodes of other rings
 ring_kept : (w : Wires) (c : Lists) (p q m : ℕ) → IsChain w (c.nodes + m) (list_at c.lists m) (c.nodes + m)
@@ -90,13 +90,15 @@ rings_with w w' c l v r h lens apart chain others lone =
       lone = lone;
     }
 
-pub apart_with : (c : Lists) (l x : ℕ) (xs ys : List ℕ) → IsApart c → l < length c.lists → list_at c.lists l ≡ xs ++ ys → x < c.nodes → IsFree c x → IsApart (with_list c l (xs ++ x ∷ ys))
+pub apart_with : (c : Lists) (l x : ℕ) (xs ys : List ℕ) → IsApart c → l < length c.lists → list_at c.lists l ≡ xs ++ ys → x < c.nodes → IsFree c x
+    → IsApart (with_list c l (xs ++ x ∷ ys))
 apart_with c l x xs ys a h e hx free =
     let v : List ℕ = xs ++ x ∷ ys in
     let total : (k : ℕ) → ((k ≡ x) × (count_in_all k (set c.lists l v) ≡ 1)) ⊎ ((k ≢ x) × (count_in_all k (set c.lists l v) ≡ count_in_all k c.lists)) = λ k.
     (let s = count_set k c.lists l v h in let e' = ap (count_in k) e in let t = count-append k xs ys in let t' = count-append k xs (x ∷ ys) in
     elim (cases_eq k x) [
-      | inl kx ↦ let s' = count_same k x ys (sym kx) in let none : count_in_all k c.lists ≡ 0 = subst (λ z. count_in_all z c.lists ≡ 0) (sym kx) free in let at = count_at k c.lists l in inl (kx, omega arith)
+      | inl kx ↦ let s' = count_same k x ys (sym kx) in let none : count_in_all k c.lists ≡ 0 = subst (λ z. count_in_all z c.lists ≡ 0) (sym kx) free in
+          let at = count_at k c.lists l in inl (kx, omega arith)
       | inr kn ↦ let o = count_other k x ys (λ f. kn (sym f)) in inr (kn, omega arith)
     ]) in
     record {
@@ -104,11 +106,13 @@ apart_with c l x xs ys a h e hx free =
       once = λ k. elim (total k) [ inl t ↦ omega (arith, t.1) | inr t ↦ omega (arith, t.1, a.once k) ];
     }
 
-pub apart_without : (c : Lists) (l x : ℕ) (xs ys : List ℕ) → IsApart c → l < length c.lists → list_at c.lists l ≡ xs ++ x ∷ ys → IsApart (with_list c l (xs ++ ys))
+pub apart_without : (c : Lists) (l x : ℕ) (xs ys : List ℕ) → IsApart c → l < length c.lists → list_at c.lists l ≡ xs ++ x ∷ ys
+    → IsApart (with_list c l (xs ++ ys))
 apart_without c l x xs ys a h e =
     let v : List ℕ = xs ++ ys in
     let less : (k : ℕ) → count_in_all k (set c.lists l v) ≤ count_in_all k c.lists = λ k.
-    (let s = count_set k c.lists l v h in let e' = ap (count_in k) e in let t = count-append k xs ys in let t' = count-append k xs (x ∷ ys) in let g = count-cons-ge k x ys in omega arith) in
+    (let s = count_set k c.lists l v h in let e' = ap (count_in k) e in let t = count-append k xs ys in let t' = count-append k xs (x ∷ ys) in
+    let g = count-cons-ge k x ys in omega arith) in
     record {
       below = λ k hk. a.below k (omega (arith, less k));
       once = λ k. omega (arith, less k, a.once k);
@@ -135,10 +139,12 @@ ring_with w c l x xs ys r h e hx free =
     let fx : (c.nodes + m ≢ x) × (count_in x (list_at c.lists m) ≡ 0) = (λ f. absurd (omega arith), free_lacked c r.apart x m free) in
     ring_kept w₁ c x q m (ring_kept w c p x m (r.rings m hm) (foreign c r.apart l m p other h own-p) fx) fx (foreign c r.apart l m q other h own-q))
     (λ y hy free-y.
-    let s = count_set y c.lists l (xs ++ x ∷ ys) h in let e' = ap (count_in y) e in let t = count-append y xs ys in let t' = count-append y xs (x ∷ ys) in let g = count-cons-ge y x ys in
+    let s = count_set y c.lists l (xs ++ x ∷ ys) h in let e' = ap (count_in y) e in let t = count-append y xs ys in let t' = count-append y xs (x ∷ ys) in
+    let g = count-cons-ge y x ys in
     let was-free : IsFree c y = omega arith in
     let differs : y ≢ x = λ f. (let g' = count_same y x ys (sym f) in absurd (omega arith)) in
-    edge_kept w₁ x q y y (edge_kept w p x y y (r.lone y hy was-free) (free_differs c r.apart l p y hy was-free own-p) differs) differs (free_differs c r.apart l q y hy was-free own-q))
+    edge_kept w₁ x q y y (edge_kept w p x y y (r.lone y hy was-free) (free_differs c r.apart l p y hy was-free own-p) differs) differs
+    (free_differs c r.apart l q y hy was-free own-q))
 
 pub ring_without : (w : Wires) (c : Lists) (l x : ℕ) (xs ys : List ℕ) → IsRings w c → l < length c.lists → list_at c.lists l ≡ xs ++ x ∷ ys
     → IsRings (joined (joined w (last_of (c.nodes + l) xs) (first_of ys (c.nodes + l))) x x) (with_list c l (xs ++ ys))
@@ -146,7 +152,8 @@ ring_without w c l x xs ys r h e =
     let a : ℕ = c.nodes + l in let p : ℕ = last_of a xs in let q : ℕ = first_of ys a in let w₁ : Wires = joined w p q in let w₂ : Wires = joined w₁ x x in
     let own-p : Owned c l p = subst (λ zs. 1 ≤ count_in p (a ∷ zs)) (sym e) (last_stands_before a xs (x ∷ ys)) in
     let q-in : 1 ≤ count_in q (a ∷ (xs ++ x ∷ ys)) =
-    (let f = first_stands a xs ys in let t = count-append q (a ∷ xs) ys in let t' = count-append q (a ∷ xs) (x ∷ ys) in let g = count-cons-ge q x ys in omega arith) in
+    (let f = first_stands a xs ys in let t = count-append q (a ∷ xs) ys in let t' = count-append q (a ∷ xs) (x ∷ ys) in let g = count-cons-ge q x ys in
+    omega arith) in
     let own-q : Owned c l q = subst (λ zs. 1 ≤ count_in q (a ∷ zs)) (sym e) q-in in
     let x-in : 1 ≤ count_in x (xs ++ x ∷ ys) = (let g = count_same x x ys refl in let t = count-append x xs (x ∷ ys) in omega arith) in
     let x-in' : 1 ≤ count_in x (list_at c.lists l) = subst (λ zs. 1 ≤ count_in x zs) (sym e) x-in in
@@ -156,13 +163,15 @@ ring_without w c l x xs ys r h e =
     let n = r.nexts in let n' = r.prevs in
     let once : (k : ℕ) → count_in k (a ∷ (xs ++ x ∷ ys)) ≤ 1 = λ k. subst (λ zs. count_in k (a ∷ zs) ≤ 1) e (ring_once c r.apart l k) in
     let x-out : count_in x (xs ++ ys) ≡ 0 =
-    (let g = count_same x x ys refl in let t = count-append x (a ∷ xs) (x ∷ ys) in let t' = count-append x xs ys in let o = once x in let g' = count-cons-ge x a xs in omega arith) in
+    (let g = count_same x x ys refl in let t = count-append x (a ∷ xs) (x ∷ ys) in let t' = count-append x xs ys in let o = once x in
+    let g' = count-cons-ge x a xs in omega arith) in
     let a-x : a ≢ x = λ f. absurd (omega arith) in
     let chain : IsChain w₁ a (xs ++ ys) a = chain_without w x a xs ys a (subst (λ zs. IsChain w a zs a) e (r.rings l h)) once
     (subst (λ zs. count_in a zs ≡ 0) e (head_lacked c r.apart a l (omega arith)))
     (omega arith) (omega arith) in
     let k₁ = lengths_kept w p q in let k₂ = lengths_kept w₁ x x in let k₁n = k₁.0 in let k₁p = k₁.1 in
-    rings_with w w₂ c l (xs ++ ys) r h (k₂.0 ∙ k₁.0, k₂.1 ∙ k₁.1) (apart_without c l x xs ys r.apart h e) (chain_kept w₁ x x a (xs ++ ys) a chain a-x x-out x-out a-x) (λ m ne hm.
+    rings_with w w₂ c l (xs ++ ys) r h (k₂.0 ∙ k₁.0, k₂.1 ∙ k₁.1) (apart_without c l x xs ys r.apart h e)
+    (chain_kept w₁ x x a (xs ++ ys) a chain a-x x-out x-out a-x) (λ m ne hm.
     let other : l ≢ m = λ f. ne (sym f) in let fx = foreign c r.apart l m x other h own-x in
     ring_kept w₁ c x x m (ring_kept w c p q m (r.rings m hm) (foreign c r.apart l m p other h own-p) (foreign c r.apart l m q other h own-q)) fx fx)
     (λ y hy free-y. elim (cases_eq y x) [
@@ -171,7 +180,8 @@ ring_without w c l x xs ys r h e =
           let s = count_set y c.lists l (xs ++ ys) h in let e' = ap (count_in y) e in let t = count-append y xs ys in let t' = count-append y xs (x ∷ ys) in
           let g = count_other y x ys (λ f. ne (sym f)) in
           let was-free : IsFree c y = omega arith in
-          edge_kept w₁ x x y y (edge_kept w p q y y (r.lone y hy was-free) (free_differs c r.apart l p y hy was-free own-p) (free_differs c r.apart l q y hy was-free own-q)) ne ne
+          edge_kept w₁ x x y y (edge_kept w p q y y (r.lone y hy was-free) (free_differs c r.apart l p y hy was-free own-p)
+          (free_differs c r.apart l q y hy was-free own-q)) ne ne
     ])
 
 pub count_moved : (c : Lists) (l m : ℕ) → l ≢ m → l < length c.lists → m < length c.lists
@@ -189,21 +199,24 @@ apart_moved c l m a ne hl hm =
     let same = count_moved c l m ne hl hm in
     record { below = λ k hk. a.below k (omega (arith, same k)); once = λ k. omega (arith, same k, a.once k) }
 
--- the list m, which begins with f, goes behind the list l
+-- the list m, which begins with f, goes after the list l
 pub rings_moved : (w : Wires) (c : Lists) (l m f : ℕ) (ys : List ℕ) → IsRings w c → l ≢ m → l < length c.lists → m < length c.lists → list_at c.lists m ≡ f ∷ ys
     → IsRings (joined (joined (joined w (last_of (c.nodes + l) (list_at c.lists l)) f) (last_of f ys) (c.nodes + l)) (c.nodes + m) (c.nodes + m))
     (with_list (with_list c l (list_at c.lists l ++ list_at c.lists m)) m [])
 rings_moved w c l m f ys r ne hl hm from-is =
-    let s : ℕ = c.nodes + l in let t : ℕ = c.nodes + m in let xs : List ℕ = list_at c.lists l in let zs : List ℕ = list_at c.lists m in let v : List ℕ = xs ++ zs in
+    let s : ℕ = c.nodes + l in let t : ℕ = c.nodes + m in let xs : List ℕ = list_at c.lists l in let zs : List ℕ = list_at c.lists m in
+    let v : List ℕ = xs ++ zs in
     let e : ℕ = last_of s xs in let b : ℕ = last_of f ys in
     let w₁ : Wires = joined w e f in let w₂ : Wires = joined w₁ b s in let w₃ : Wires = joined w₂ t t in
     let other : m ≢ l = λ g. ne (sym g) in
     let A = r.apart in let n = r.nexts in let n' = r.prevs in
-    let own-e : Owned c l e = last_stands s xs in
+    let own-e : Owned c l e = last_in s xs in
     let own-s : Owned c l s = (let g = count_same s s xs refl in omega arith) in
     let own-t : Owned c m t = (let g = count_same t t zs refl in omega arith) in
-    let own-f : Owned c m f = subst (λ us. 1 ≤ count_in f (t ∷ us)) (sym from-is) (let g = count_same f f ys refl in let g' = count-cons-ge f t (f ∷ ys) in omega arith) in
-    let own-b : Owned c m b = subst (λ us. 1 ≤ count_in b (t ∷ us)) (sym from-is) (let g = last_stands f ys in let g' = count-cons-ge b t (f ∷ ys) in omega arith) in
+    let own-f : Owned c m f = subst (λ us. 1 ≤ count_in f (t ∷ us)) (sym from-is) (let g = count_same f f ys refl in let g' = count-cons-ge f t (f ∷ ys) in
+    omega arith) in
+    let own-b : Owned c m b = subst (λ us. 1 ≤ count_in b (t ∷ us)) (sym from-is) (let g = last_in f ys in let g' = count-cons-ge b t (f ∷ ys) in
+    omega arith) in
     let low-e = owned_below c A l e hl own-e in let low-s = owned_below c A l s hl own-s in let low-t = owned_below c A m t hm own-t in
     let low-f = owned_below c A m f hm own-f in let low-b = owned_below c A m b hm own-b in
     let e-not = foreign c A l m e ne hl own-e in let f-not = foreign c A m l f other hm own-f in let b-not = foreign c A m l b other hm own-b in
@@ -241,18 +254,21 @@ rings_moved w c l m f ys r ne hl hm from-is =
               (subst (λ us. IsChain w₃ s us s) (sym (get_or-set_same c.lists l v [] hl)) (subst (λ us. IsChain w₃ s (xs ++ us) s) (sym from-is) both₃))
           | inr kl ↦ subst (λ us. IsChain w₃ (c.nodes + k) us (c.nodes + k)) (sym (get_or-set_other c.lists l k v [] kl))
               (let l-k : l ≢ k = λ g. kl (sym g) in let m-k : m ≢ k = λ g. km (sym g) in
-              ring_kept w₂ c t t k (ring_kept w₁ c b s k (ring_kept w c e f k (r.rings k (omega arith)) (foreign c A l k e l-k hl own-e) (foreign c A m k f m-k hm own-f))
+              ring_kept w₂ c t t k (ring_kept w₁ c b s k
+              (ring_kept w c e f k (r.rings k (omega arith)) (foreign c A l k e l-k hl own-e) (foreign c A m k f m-k hm own-f))
               (foreign c A m k b m-k hm own-b) (foreign c A l k s l-k hl own-s)) (foreign c A m k t m-k hm own-t) (foreign c A m k t m-k hm own-t))
         ])
       ];
       lone = λ x hx free.
           let was-free : IsFree c x = (let g = count_moved c l m ne hl hm x in omega arith) in
           let differs : (k j : ℕ) → Owned c k j → x ≢ j = λ k j own. free_differs c A k j x hx was-free own in
-          edge_kept w₂ t t x x (edge_kept w₁ b s x x (edge_kept w e f x x (r.lone x hx was-free) (differs l e own-e) (differs m f own-f)) (differs m b own-b) (differs l s own-s)) (differs m t own-t) (differs m t own-t);
+          edge_kept w₂ t t x x (edge_kept w₁ b s x x (edge_kept w e f x x (r.lone x hx was-free) (differs l e own-e) (differs m f own-f)) (differs m b own-b)
+          (differs l s own-s)) (differs m t own-t) (differs m t own-t);
     }
 
 -- the way from a on, as far as it leads to nodes
-followed_is : (w : Wires) (n fuel a : ℕ) (xs : List ℕ) (z : ℕ) → IsChain w a xs z → ((x : ℕ) → 1 ≤ count_in x xs → x < n) → n ≤ z → length xs ≤ fuel → followed w.next n fuel a ≡ xs
+followed_is : (w : Wires) (n fuel a : ℕ) (xs : List ℕ) (z : ℕ) → IsChain w a xs z → ((x : ℕ) → 1 ≤ count_in x xs → x < n) → n ≤ z → length xs ≤ fuel
+    → followed w.next n fuel a ≡ xs
 followed_is w n zero a [] z c below hz hf = refl
 followed_is w n zero a (x ∷ xs) z c below hz hf = absurd (omega arith)
 followed_is w n (suc fuel) a [] z c below hz hf =
@@ -278,11 +294,13 @@ pub lists_are : (w : Wires) (c : Lists) → IsRings w c → lists_of w c.nodes �
 lists_are w c r =
     let n = r.nexts in let k : length w.next - c.nodes ≡ length c.lists = omega arith in let z : c.nodes ≡ c.nodes + 0 = omega arith in
     let e : rings_from w.next c.nodes c.nodes (length w.next - c.nodes) ≡ c.lists =
-    ap (λ j. rings_from w.next c.nodes c.nodes j) k ∙ ap (λ a. rings_from w.next c.nodes a (length c.lists)) z ∙ rings_from_are w c r 0 (length c.lists) (omega arith) in
+    ap (λ j. rings_from w.next c.nodes c.nodes j) k ∙ ap (λ a. rings_from w.next c.nodes a (length c.lists)) z
+    ∙ rings_from_are w c r 0 (length c.lists) (omega arith) in
     λ i. record { nodes = c.nodes; lists = e i }
 
--- what stands in a list is no ring of its own
-pub listed_leads_on : (w : Wires) (c : Lists) (l x : ℕ) (xs ys : List ℕ) → IsRings w c → l < length c.lists → list_at c.lists l ≡ xs ++ x ∷ ys → get_or w.next x 0 ≢ x
+-- what is in a list is no ring of its own
+pub listed_leads_on : (w : Wires) (c : Lists) (l x : ℕ) (xs ys : List ℕ) → IsRings w c → l < length c.lists → list_at c.lists l ≡ xs ++ x ∷ ys
+    → get_or w.next x 0 ≢ x
 listed_leads_on w c l x xs ys r h e f =
     let a : ℕ = c.nodes + l in
     let chain = chain_split w a xs (x ∷ ys) a (subst (λ zs. IsChain w a zs a) e (r.rings l h)) in

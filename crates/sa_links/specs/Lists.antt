@@ -11,14 +11,14 @@ pub record Lists : Type 0 where
 abbrev pub list_at : List (List ℕ) → ℕ → List ℕ
 list_at ls l = slice_index_or ls l []
 
--- how often x stands in a list, and in all lists together
+-- how often x is in a list, and in all lists together
 abbrev pub count_in : ℕ → List ℕ → ℕ
 count_in x xs = count_by (λ y. y == x) xs
 
 abbrev pub count_in_all : ℕ → List (List ℕ) → ℕ
 count_in_all x ls = sum_by (count_in x) ls
 
--- x stands in the list; in some list; in none
+-- x is in the list; in some list; in none
 abbrev pub IsIn : ℕ → List ℕ → Type 0
 IsIn x xs = 1 ≤ count_in x xs
 
@@ -28,7 +28,7 @@ IsListed c x = 1 ≤ count_in_all x c.lists
 abbrev pub IsFree : Lists → ℕ → Type 0
 IsFree c x = count_in_all x c.lists ≡ 0
 
--- next is the number behind x, wherever x stands, and none where x is the last
+-- next is the number after x, wherever x is, and none where x is the last
 abbrev pub IsNext : Lists → ℕ → Option ℕ → Type 0
 IsNext c x next = (l : ℕ) (front back : List ℕ) → list_at c.lists l ≡ front ++ x ∷ back → next ≡ slice_get back 0
 
@@ -45,6 +45,6 @@ pub record IsApart (c : Lists) : Type 0 where
   pub below : (x : ℕ) → 1 ≤ count_in_all x c.lists → x < c.nodes
   pub once : (x : ℕ) → count_in_all x c.lists ≤ 1
 
--- each number stands in them as often as before
+-- each number is in them as often as before
 abbrev pub HasSameCounts : Lists → Lists → Type 0
 HasSameCounts old new = (x : ℕ) → count_in_all x new.lists ≡ count_in_all x old.lists

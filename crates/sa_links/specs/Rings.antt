@@ -2,7 +2,7 @@
 use Rattle.std.specs.Prelude.{◌≡◌, ℕ, zero, suc, ◌+◌, ◌-◌, ◌<◌, List, [], ◌∷◌, length, nat_lt, slice_index, slice_set, if◌then◌else◌}
 use Rattle.sa_links.specs.Lists.{Lists, list_at, IsFree, IsApart}
 
--- where each node's links lead: the numbers of the nodes behind it and before it
+-- where each node's links lead: the numbers of the nodes after it and before it
 pub record Wires : Type 0 where
   pub next : List ℕ
   pub prev : List ℕ
@@ -21,7 +21,7 @@ abbrev pub IsChain : Wires → ℕ → List ℕ → ℕ → Type 0
 IsChain w a [] z = IsEdge w a z
 IsChain w a (x ∷ xs) z = IsEdge w a x × IsChain w x xs z
 
--- the list l is the ring of its head, which stands behind the nodes as their l-th, and a node that is in no
+-- the list l is the ring of its head, which comes after the nodes as the l-th of the heads, and a node that is in no
 -- list is a ring of its own
 pub record IsRings (w : Wires) (c : Lists) : Type 0 where
   pub nexts : length w.next ≡ c.nodes + length c.lists

@@ -39,7 +39,7 @@ wires_of base nodes = record { next = map (λ n. node_index base (next_of n)) no
 abbrev pub numbers_of : List Node → List (Option ℕ)
 numbers_of nodes = map number_of nodes
 
--- the first `count` nodes hold their own numbers, and the heads of lists behind them none
+-- the first `count` nodes hold their own numbers, and the heads of lists after them none
 abbrev pub number_at : ℕ → ℕ → Option ℕ
 number_at count k = if nat_lt k count then Some k else None
 

@@ -10,11 +10,11 @@ use std::marker::Model;
 
 /// Disjoint lists of node numbers, in one block of nodes that are linked in place.
 ///
-/// Nodes and lists are numbered from 0, each below a count that `new` is given. A node stands in at most one
+/// Nodes and lists are numbered from 0, each below a count that `new` is given. A node is in at most one
 /// list. Every call takes constant time, and none but `new` can fail for want of memory.
 #[derive(Debug, Drop)]
 pub struct Links {
-    // the nodes, and behind them the heads of the lists
+    // the nodes, and after them the heads of the lists
     nodes: Vec<Node>,
     begin: Place<Node>,
     count: u32,
@@ -63,7 +63,7 @@ impl Links {
         insert(&mut self.nodes, head, place);
     }
 
-    /// Puts a node that is in no list behind the last of `list`.
+    /// Puts a node that is in no list at the end of `list`.
     pub fn push_back(&mut self, list: u32, node: u32)
         requires list { list < length self.old.lists }
         requires node { node < self.old.nodes }
@@ -108,7 +108,7 @@ impl Links {
         Some(number)
     }
 
-    /// Takes a node out of `list`, in which it stands.
+    /// Takes a node out of `list`, which it is in.
     pub fn unlink(&mut self, list: u32, node: u32)
         requires list { list < length self.old.lists }
         requires stands { IsIn node (list_at self.old.lists list) }
@@ -121,7 +121,7 @@ impl Links {
         remove(&mut self.nodes, place);
     }
 
-    /// Moves all nodes of the list `from` behind the last of `list`, in their order. A node that is in no
+    /// Moves all nodes of the list `from` to the end of `list`, in their order. A node that is in no
     /// list stays so.
     pub fn append(&mut self, list: u32, from: u32)
         requires list { list < length self.old.lists }
@@ -177,7 +177,7 @@ impl Links {
         self.front(list).is_none()
     }
 
-    /// The node behind one that stands in a list: `None` exactly where that is the last of its list.
+    /// The node after one that is in a list: `None` exactly where that is the last of its list.
     pub fn after(&self, node: u32) -> Option<u32>
         requires { IsListed self.now node }
         ensures next { IsNext self.now node result }
@@ -188,7 +188,7 @@ impl Links {
         at(&self.nodes, at(&self.nodes, here).next).number
     }
 
-    /// Whether a node stands in no list.
+    /// Whether a node is in no list.
     pub fn is_free(&self, node: u32) -> bool
         requires { node < self.now.nodes }
         ensures { IsTrue result ↔ IsFree self.now node }
@@ -197,7 +197,7 @@ impl Links {
         at(&self.nodes, at(&self.nodes, place).next).number == Some(node)
     }
 
-    /// Says that the lists are apart: each has numbers of nodes alone, and no number stands more than once.
+    /// Says that the lists are apart: each has numbers of nodes alone, and no number is there more than once.
     pub fn are_apart(&self)
         ensures { IsApart self.now }
     {

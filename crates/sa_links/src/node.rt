@@ -6,7 +6,7 @@ ghost use Rattle.sa_links.specs.Wiring.{AreLinked, IsNodePlace, IsRelinked, node
 
 use crate::block::{Place, at, place_at, put};
 
-// A node stands in a ring of nodes. A ring of one node is closed in itself.
+// A node is in a ring of nodes. A ring of one node is closed in itself.
 #[derive(Clone, Copy, Debug)]
 pub(crate) struct Node {
     pub(crate) prev: Place<Node>,
@@ -49,7 +49,7 @@ pub(crate) fn join(nodes: &mut Vec<Node>, front: Place<Node>, back: Place<Node>)
     );
 }
 
-// Puts the node at `place` behind the one at `front`.
+// Puts the node at `place` after the one at `front`.
 pub(crate) fn insert(nodes: &mut Vec<Node>, front: Place<Node>, place: Place<Node>)
     requires front { IsNodePlace (vec_ptr nodes.old) (length nodes.old.items) front.ptr }
     requires place { IsNodePlace (vec_ptr nodes.old) (length nodes.old.items) place.ptr }

@@ -1,4 +1,4 @@
--- Lists of so many chains each, one behind another.
+-- Lists of equally many chains each, one after another.
 use Rattle.std.proofs.Common.{◌≡◌, ◌≢◌, ℕ, zero, suc, ◌+◌, ◌-◌, ◌*◌, ◌<◌, ◌≤◌, List, [], ◌∷◌, ◌++◌, length, take, drop, replicate, slice_set, refl, sym, ap, ◌∙◌, inl, inr, arith}
 use Rattle.std.proofs.lemmas.Bool.{cases_lt}
 use Rattle.std.proofs.lemmas.List.{drop-replicate, take-replicate, drop-set-lt, take-set-le, drop-set-add, get_or-take, get_or-drop, length-take-le, length-drop}
@@ -18,7 +18,7 @@ drop-add (suc m) n [] = drop-nil n ∙ sym (drop-nil (suc m + n))
     drop-nil (suc n) = refl
 drop-add (suc m) n (x ∷ xs) = let same : suc (m + n) ≡ suc m + n = omega arith in drop-add m n xs ∙ ap (λ k. drop k (x ∷ xs)) same
 
--- the first list's chains are the first, and the next list's come behind those
+-- the first list's chains are the first, and the next list's come after those
 chains-first : (chains : List (List ℕ)) (width : ℕ) → chains_of chains width 0 ≡ take width chains
 chains-first chains width = let none : 0 * width ≡ 0 = omega arith in ap (λ n. take width (drop n chains)) none
 
@@ -55,7 +55,8 @@ module _ (width : ℕ) where
   lists-set chains (suc n) (suc l) k xs inside small =
       let at : suc l * width + k ≡ width + (l * width + k) = omega arith in
       ap (λ i. lists_of (slice_set chains i xs) width (suc n)) at
-      ∙ ap (λ cs. joined cs ∷ lists_of (drop width (slice_set chains (width + (l * width + k)) xs)) width n) (take-set-le width chains (width + (l * width + k)) xs (omega arith))
+      ∙ ap (λ cs. joined cs ∷ lists_of (drop width (slice_set chains (width + (l * width + k)) xs)) width n)
+      (take-set-le width chains (width + (l * width + k)) xs (omega arith))
       ∙ ap (λ cs. joined (take width chains) ∷ lists_of cs width n) (drop-set-add width chains (l * width + k) xs)
       ∙ ap (λ ls. joined (take width chains) ∷ ls) (lists-set (drop width chains) n l k xs (omega arith) small)
       ∙ ap (λ cs. joined (take width chains) ∷ slice_set (lists_of (drop width chains) width n) l (joined (slice_set cs k xs))) (chains-next chains width l)
@@ -87,7 +88,7 @@ module _ (width : ℕ) where
       let size = length-drop (l * width) chains in
       length-take-le width (drop (l * width) chains) (omega arith)
 
-  -- a thread stands in the lists as often as in the chains
+  -- a thread is in the lists as often as in the chains
   count-joined : (t : ℕ) (chains : List (List ℕ)) → count_in t (joined chains) ≡ count_in_all t chains
   count-joined t [] = refl
   count-joined t (xs ∷ chains) =
@@ -103,8 +104,10 @@ module _ (width : ℕ) where
       let first = count-joined t (take width chains) in
       let size = length-drop width chains in
       let rest = count-lists t (drop width chains) n (omega arith) in
-      let parts : count_in_all t (take width chains) + count_in_all t (drop width chains) ≡ count_in_all t chains = sum_by-take-drop (count_in t) chains width in
-      let whole : count_in_all t (lists_of chains width (suc n)) ≡ count_in t (joined (take width chains)) + count_in_all t (lists_of (drop width chains) width n) =
+      let parts : count_in_all t (take width chains) + count_in_all t (drop width chains) ≡ count_in_all t chains =
+      sum_by-take-drop (count_in t) chains width in
+      let whole : count_in_all t (lists_of chains width (suc n))
+      ≡ count_in t (joined (take width chains)) + count_in_all t (lists_of (drop width chains) width n) =
       sum_by-cons (count_in t) (joined (take width chains)) (lists_of (drop width chains) width n) in
       omega arith
 

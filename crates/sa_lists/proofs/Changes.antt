@@ -2,10 +2,10 @@
 use Rattle.std.proofs.Common.{◌≡◌, ◌≢◌, ℕ, zero, suc, ◌+◌, ◌-◌, ◌<◌, ◌≤◌, nat_lt, Bool, true, false, cond, eqb, if◌then◌else◌, List, [], ◌∷◌, length, take, drop, replicate, Some, None, slice_get, slice_index, slice_set, refl, sym, ap, ◌∙◌, subst, inl, inr, arith}
 use Rattle.std.proofs.lemmas.Bool.{cases_eq, cases_lt, lt-ltb, le-ltb, eq-eqb, ne_eqb}
 use Rattle.std.proofs.lemmas.Option.{same_Some}
-use Rattle.std.proofs.lemmas.List.Sums.{sum_by-cons, sum_by-take-drop}
+use Rattle.std.proofs.lemmas.List.Sums.{sum_by-take-drop}
 use Rattle.std.proofs.lemmas.List.{get_or-set_other, get_or-set_same, length-replicate, length-set}
 use Rattle.sa_links.specs.Lists.{count_in, count_in_all, IsIn}
-use Rattle.sa_links.proofs.Counting.{count_set, count_same, count_other, count_at, count_two}
+use Rattle.sa_links.proofs.Counting.{count_set, count_same, count_other, count-cons, count-replicate, count_at, count_two}
 use Rattle.sa_base.specs.declared.limits.TheConstants.{MAX_PROCESSORS, MAX_THREADS}
 use Rattle.sa_lists.specs.declared.ranks.Ranks.{Ranks}
 use Rattle.sa_lists.specs.ReadyView.{ReadyView, no_threads, list_of, is_locked, IsUnlisted, with_list, with_lock, pushed, newest, without_newest, oldest, without_oldest, with_made, next_made, inserted, with_rank, home, AreListsFor, IsReady}
@@ -24,12 +24,14 @@ is_locked-with_lock_same r l held h = get_or-set_same r.locked l held false h
 pub is_locked-with_lock_other : (r : ReadyView) (l m : ℕ) (held : Bool) → m ≢ l → is_locked (with_lock r l held) m ≡ is_locked r m
 is_locked-with_lock_other r l m held ne = get_or-set_other r.locked l m held false ne
 
--- how often a thread stands in all lists, once list l is xs
-pub count-with_list : (r : ReadyView) (l t : ℕ) (xs : List ℕ) → l < length r.lists → count_in_all t (with_list r l xs).lists + count_in t (list_of r l) ≡ count_in_all t r.lists + count_in t xs
+-- how often a thread is in all lists, once list l is xs
+pub count-with_list : (r : ReadyView) (l t : ℕ) (xs : List ℕ) → l < length r.lists
+    → count_in_all t (with_list r l xs).lists + count_in t (list_of r l) ≡ count_in_all t r.lists + count_in t xs
 count-with_list r l t xs h = count_set t r.lists l xs h
 
 -- a list with fewer numbers than before keeps what holds of ready lists
-pub ready-fewer : (r : ReadyView) (l : ℕ) (xs : List ℕ) → IsReady r → l < length r.lists → ((t : ℕ) → count_in t xs ≤ count_in t (list_of r l)) → IsReady (with_list r l xs)
+pub ready-fewer : (r : ReadyView) (l : ℕ) (xs : List ℕ) → IsReady r → l < length r.lists → ((t : ℕ) → count_in t xs ≤ count_in t (list_of r l))
+    → IsReady (with_list r l xs)
 ready-fewer r l xs h inside fewer =
     let same = length-set r.lists l xs in
     record {
@@ -41,17 +43,14 @@ ready-fewer r l xs h inside fewer =
       once = λ t. let s = count-with_list r l t xs inside in let f = fewer t in let o = h.once t in omega arith;
     }
 
--- a thread that is put into a list stands in it once more, and in front of it where all ranks are one
-one_more : (u n : ℕ) (xs : List ℕ) → count_in u (n ∷ xs) ≡ cond (eqb n u) 1 0 + count_in u xs
-one_more u n xs = sum_by-cons (λ z. cond (eqb z u) 1 0) n xs
-
+-- a thread that is put into a list is in it once more, and in front of it where all ranks are one
 pub count-inserted : (ranks : List ℕ) (t u : ℕ) (xs : List ℕ) → count_in u (inserted ranks t xs) ≡ count_in u (t ∷ xs)
 count-inserted ranks t u [] = refl
 count-inserted ranks t u (x ∷ xs) =
     elim (nat_lt (slice_index ranks t) (slice_index ranks x)) as (λ b. count_in u (cond b (x ∷ inserted ranks t xs) (t ∷ x ∷ xs)) ≡ count_in u (t ∷ x ∷ xs)) [
       | true ↦
           let rest = count-inserted ranks t u xs in
-          omega (arith, rest, one_more u x (inserted ranks t xs), one_more u t (x ∷ xs), one_more u x xs, one_more u t xs)
+          omega (arith, rest, count-cons u x (inserted ranks t xs), count-cons u t (x ∷ xs), count-cons u x xs, count-cons u t xs)
       | false ↦ refl
     ]
 
@@ -98,13 +97,16 @@ ready-pushed r l t h inside possible unlisted =
       threads = h.threads;
       below = λ x listed. elim (cases_eq x t) [
         | inl e ↦ omega arith
-        | inr ne ↦ let s = count-with_list r l x new inside in let c = count-inserted r.ranks t x xs in let o = count_other x t xs (λ e. ne (sym e)) in h.below x (omega arith)
+        | inr ne ↦ let s = count-with_list r l x new inside in let c = count-inserted r.ranks t x xs in let o = count_other x t xs (λ e. ne (sym e)) in
+            h.below x (omega arith)
       ];
       once = λ x. elim (cases_eq x t) [
         | inl e ↦
-            let s = count-with_list r l t new inside in let c = count-inserted r.ranks t t xs in let o = count_same t t xs refl in let a = count_at t r.lists l in
+            let s = count-with_list r l t new inside in let c = count-inserted r.ranks t t xs in let o = count_same t t xs refl in
+            let a = count_at t r.lists l in
             subst (λ z. count_in_all z (pushed r l t).lists ≤ 1) (sym e) (omega (arith, unlisted))
-        | inr ne ↦ let s = count-with_list r l x new inside in let c = count-inserted r.ranks t x xs in let o = count_other x t xs (λ e. ne (sym e)) in let b = h.once x in omega arith
+        | inr ne ↦ let s = count-with_list r l x new inside in let c = count-inserted r.ranks t x xs in let o = count_other x t xs (λ e. ne (sym e)) in
+            let b = h.once x in omega arith
       ];
     }
 
@@ -117,13 +119,16 @@ pub ready-without_newest : (r : ReadyView) (l : ℕ) → IsReady r → l < lengt
 ready-without_newest r l h inside = ready-fewer r l (drop 1 (list_of r l)) h inside (λ t. let c = count-take_drop t 1 (list_of r l) in omega arith)
 
 pub ready-without_oldest : (r : ReadyView) (l : ℕ) → IsReady r → l < length r.lists → IsReady (without_oldest r l)
-ready-without_oldest r l h inside = ready-fewer r l (take (length (list_of r l) - 1) (list_of r l)) h inside (λ t. let c = count-take_drop t (length (list_of r l) - 1) (list_of r l) in omega arith)
+ready-without_oldest r l h inside =
+    ready-fewer r l (take (length (list_of r l) - 1) (list_of r l)) h inside (λ t. let c = count-take_drop t (length (list_of r l) - 1) (list_of r l) in
+    omega arith)
 
 -- so do the locks and the making
 pub ready-with_lock : (r : ReadyView) (l : ℕ) (held : Bool) → IsReady r → IsReady (with_lock r l held)
-ready-with_lock r l held h = record { locks = length-set r.locked l held ∙ h.locks; processors = h.processors; made = h.made; threads = h.threads; below = h.below; once = h.once }
+ready-with_lock r l held h =
+    record { locks = length-set r.locked l held ∙ h.locks; processors = h.processors; made = h.made; threads = h.threads; below = h.below; once = h.once }
 
--- a number stands once more in a list than before one of its places, or behind its first
+-- a number is in a list once more than before one of its places, or after its first
 count-take_before : (t k : ℕ) (xs : List ℕ) → slice_get xs k ≡ Some t → count_in t (take k xs) + 1 ≤ count_in t xs
 count-take_before t k [] e = absurd cc
 count-take_before t zero (x ∷ xs) e = let c = count_same t x xs (same_Some x t e) in omega arith
@@ -138,29 +143,26 @@ count-drop_behind : (t : ℕ) (xs : List ℕ) → slice_get xs 0 ≡ Some t → 
 count-drop_behind t [] e = absurd cc
 count-drop_behind t (x ∷ xs) e = let c = count_same t x xs (same_Some x t e) in omega arith
 
--- the thread that was taken out stands in no list
+-- the thread that was taken out is in no list
 pub newest-unlisted : (r : ReadyView) (l t : ℕ) → IsReady r → l < length r.lists → newest r l ≡ Some t → IsUnlisted (without_newest r l) t
 newest-unlisted r l t h inside e =
-    let c = count-drop_behind t (list_of r l) e in let s = count-with_list r l t (drop 1 (list_of r l)) inside in let o = h.once t in let a = count_at t r.lists l in omega arith
+    let c = count-drop_behind t (list_of r l) e in let s = count-with_list r l t (drop 1 (list_of r l)) inside in let o = h.once t in
+    let a = count_at t r.lists l in omega arith
 
 pub oldest-unlisted : (r : ReadyView) (l t : ℕ) → IsReady r → l < length r.lists → oldest r l ≡ Some t → IsUnlisted (without_oldest r l) t
 oldest-unlisted r l t h inside e =
-    let c = count-take_before t (length (list_of r l) - 1) (list_of r l) e in let s = count-with_list r l t (take (length (list_of r l) - 1) (list_of r l)) inside in let o = h.once t in let a = count_at t r.lists l in omega arith
+    let c = count-take_before t (length (list_of r l) - 1) (list_of r l) e in let s =
+    count-with_list r l t (take (length (list_of r l) - 1) (list_of r l)) inside in let o = h.once t in let a = count_at t r.lists l in omega arith
 
 -- the making of a thread keeps what holds too
 pub ready-with_made : (r : ReadyView) (rank : ℕ) → IsReady r → IsReady (with_made r rank (next_made r))
 ready-with_made r rank h = elim (cases_lt r.made r.threads) [
-  | inl more ↦ subst (λ (b : Bool). IsReady (with_made r rank (if b then Some r.made else None))) (sym (lt-ltb r.made r.threads more)) (record { locks = h.locks; processors = h.processors; made = omega arith; threads = h.threads; below = h.below; once = h.once })
+  | inl more ↦ subst (λ (b : Bool). IsReady (with_made r rank (if b then Some r.made else None))) (sym (lt-ltb r.made r.threads more))
+      (record { locks = h.locks; processors = h.processors; made = omega arith; threads = h.threads; below = h.below; once = h.once })
   | inr full ↦ subst (λ (b : Bool). IsReady (with_made r rank (if b then Some r.made else None))) (sym (le-ltb r.made r.threads full)) h
 ]
 
 -- new lists
-count-replicate : (t n : ℕ) → count_in_all t (replicate n []) ≡ 0
-count-replicate t zero = refl
-count-replicate t (suc n) =
-    let more : count_in_all t (replicate (suc n) []) ≡ 0 + count_in_all t (replicate n []) = sum_by-cons (count_in t) [] (replicate n []) in
-    let rest = count-replicate t n in omega arith
-
 pub ready-no_threads : (count : ℕ) (ranks : Ranks) (threads : ℕ) → count ≤ MAX_PROCESSORS → threads ≤ MAX_THREADS → IsReady (no_threads count ranks threads)
 ready-no_threads count ranks threads few most =
     let locks : length (replicate count false) ≡ count = length-replicate count false in
@@ -174,7 +176,7 @@ ready-no_threads count ranks threads few most =
       once = λ t. let c = count-replicate t count in omega arith;
     }
 
--- a thread stands in one list
+-- a thread is in one list
 pub listed-once : (r : ReadyView) (l m t : ℕ) → IsReady r → l < length r.lists → IsIn t (list_of r l) → IsIn t (list_of r m) → l ≡ m
 listed-once r l m t h inside here there = elim (cases_eq l m) [
   | inl same ↦ same

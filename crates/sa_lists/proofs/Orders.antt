@@ -20,7 +20,7 @@ AreNoGreater of t xs = (x : ℕ) → IsIn x xs → rank_of of x ≤ rank_of of t
 abbrev AllOutrank : List ℕ → ℕ → List ℕ → Type 0
 AllOutrank of t xs = (x : ℕ) → IsIn x xs → rank_of of t < rank_of of x
 
--- a thread comes in front of those that do not outrank it, and behind those that do
+-- a thread comes in front of those that do not outrank it, and after those that do
 front : (of : List ℕ) (t : ℕ) (xs : List ℕ) → AreNoGreater of t xs → inserted of t xs ≡ t ∷ xs
 front of t [] few = refl
 front of t (x ∷ xs) few = ap (λ b. cond b (x ∷ inserted of t xs) (t ∷ x ∷ xs)) (le-ltb (rank_of of t) (rank_of of x) (few x (in_head x xs)))
@@ -28,7 +28,8 @@ front of t (x ∷ xs) few = ap (λ b. cond b (x ∷ inserted of t xs) (t ∷ x �
 before : (of : List ℕ) (t : ℕ) (xs ys : List ℕ) → AreNoGreater of t ys → inserted of t (xs ++ ys) ≡ inserted of t xs ++ ys
 before of t [] ys few = front of t ys few
 before of t (x ∷ xs) ys few =
-    elim (nat_lt (rank_of of t) (rank_of of x)) as (λ b. cond b (x ∷ inserted of t (xs ++ ys)) (t ∷ x ∷ (xs ++ ys)) ≡ cond b (x ∷ inserted of t xs) (t ∷ x ∷ xs) ++ ys) [
+    elim (nat_lt (rank_of of t) (rank_of of x)) as (λ b. cond b (x ∷ inserted of t (xs ++ ys)) (t ∷ x ∷ (xs ++ ys))
+    ≡ cond b (x ∷ inserted of t xs) (t ∷ x ∷ xs) ++ ys) [
       | true ↦ ap (λ zs. x ∷ zs) (before of t xs ys few)
       | false ↦ refl
     ]
@@ -39,7 +40,7 @@ behind of t (x ∷ xs) ys all =
     ap (λ b. cond b (x ∷ inserted of t (xs ++ ys)) (t ∷ x ∷ (xs ++ ys))) (lt-ltb (rank_of of t) (rank_of of x) (all x (in_head x xs)))
     ∙ ap (λ zs. x ∷ zs) (behind of t xs ys (λ y is. all y (in_tail y x xs is)))
 
--- who stands in the list stands in one of the chains
+-- who is in the list is in one of the chains
 in_joined : (chains : List (List ℕ)) (x : ℕ) → IsIn x (joined chains) → (k : ℕ) × IsIn x (list_at chains k)
 in_joined [] x is = absurd (omega arith)
 in_joined (xs ∷ chains) x is =
@@ -76,7 +77,7 @@ pub joined-empty : (chains : List (List ℕ)) → ((k : ℕ) → is_filled (list
 joined-empty [] none = refl
 joined-empty (xs ∷ chains) none = ap (λ ys. joined chains ++ ys) (empty_is xs (none 0)) ∙ ap (λ ys. ys ++ []) (joined-empty chains (λ k. none (suc k)))
 
--- the first of two lists behind one another, where the first list has some
+-- the first of two lists one after the other, where the first list has some
 first-append : (xs ys : List ℕ) → is_filled xs ≡ true → (slice_get (xs ++ ys) 0 ≡ slice_get xs 0) × (drop 1 (xs ++ ys) ≡ drop 1 xs ++ ys)
 first-append [] ys some = absurd cc
 first-append (x ∷ xs) ys some = (refl, refl)
@@ -111,7 +112,8 @@ pub record IsFirst (chains : List (List ℕ)) (k : ℕ) : Type 0 where
   pub first : slice_get (joined chains) 0 ≡ slice_get (list_at chains k) 0
   pub rest : drop 1 (joined chains) ≡ joined (slice_set chains k (drop 1 (list_at chains k)))
 
-pub joined-first : (chains : List (List ℕ)) (k : ℕ) → is_filled (list_at chains k) ≡ true → ((j : ℕ) → k < j → is_filled (list_at chains j) ≡ false) → IsFirst chains k
+pub joined-first : (chains : List (List ℕ)) (k : ℕ) → is_filled (list_at chains k) ≡ true → ((j : ℕ) → k < j → is_filled (list_at chains j) ≡ false)
+    → IsFirst chains k
 joined-first [] k some none = absurd cc
 joined-first (xs ∷ chains) zero some none =
     let empty = joined-empty chains (λ j. none (suc j) (omega arith)) in
@@ -129,7 +131,8 @@ pub record IsLast (chains : List (List ℕ)) (k : ℕ) : Type 0 where
   pub last : slice_get (joined chains) (length (joined chains) - 1) ≡ slice_get (list_at chains k) (length (list_at chains k) - 1)
   pub rest : take (length (joined chains) - 1) (joined chains) ≡ joined (slice_set chains k (take (length (list_at chains k) - 1) (list_at chains k)))
 
-pub joined-last : (chains : List (List ℕ)) (k : ℕ) → is_filled (list_at chains k) ≡ true → ((j : ℕ) → j < k → is_filled (list_at chains j) ≡ false) → IsLast chains k
+pub joined-last : (chains : List (List ℕ)) (k : ℕ) → is_filled (list_at chains k) ≡ true → ((j : ℕ) → j < k → is_filled (list_at chains j) ≡ false)
+    → IsLast chains k
 joined-last [] k some none = absurd cc
 joined-last (xs ∷ chains) zero some none = let two = last-append (joined chains) xs some in record { last = two.0; rest = two.1 }
 joined-last (xs ∷ chains) (suc k) some none =
@@ -139,7 +142,8 @@ joined-last (xs ∷ chains) (suc k) some none =
     record {
       last = ap (λ ys. slice_get ys (length ys - 1)) same ∙ inner.last;
       rest = ap (λ ys. take (length ys - 1) ys) same ∙ inner.rest
-          ∙ sym (ap (λ ys. joined (slice_set chains k (take (length (list_at chains k) - 1) (list_at chains k))) ++ ys) empty ∙ append-nil (joined (slice_set chains k (take (length (list_at chains k) - 1) (list_at chains k)))));
+          ∙ sym (ap (λ ys. joined (slice_set chains k (take (length (list_at chains k) - 1) (list_at chains k))) ++ ys) empty
+          ∙ append-nil (joined (slice_set chains k (take (length (list_at chains k) - 1) (list_at chains k)))));
     }
 
 -- THE LAW
@@ -155,7 +159,8 @@ pub last-of-least : (chains : List (List ℕ)) (k : ℕ) → IsLeastFilled chain
 last-of-least chains k is = (joined-last chains k is.0 is.1).last
 
 -- two ordered lists, where none of the second outranks one of the first
-ordered-append : (of : List ℕ) (xs ys : List ℕ) → IsOrdered of xs → IsOrdered of ys → ((x y : ℕ) → IsIn x xs → IsIn y ys → rank_of of y ≤ rank_of of x) → IsOrdered of (xs ++ ys)
+ordered-append : (of : List ℕ) (xs ys : List ℕ) → IsOrdered of xs → IsOrdered of ys → ((x y : ℕ) → IsIn x xs → IsIn y ys → rank_of of y ≤ rank_of of x)
+    → IsOrdered of (xs ++ ys)
 ordered-append of [] ys a b apart = b
 ordered-append of (x ∷ xs) ys a b apart = (
   λ t is. let both = count-append t xs ys in elim (cases_lt 0 (count_in t xs)) [

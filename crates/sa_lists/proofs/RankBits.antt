@@ -96,16 +96,19 @@ put_in words rank at word is_in inside place e new =
     new ∙ ap (λ n. bit_or (slice_index words n) (1 * 2 ^ (rank % 64) % 18446744073709551616)) place
     ∙ ap (bit_or (slice_index words (rank / 64))) (shifted rank) in
     subst (λ b. HasPut words rank b (slice_set words at word)) (sym e)
-    (subst (λ ws. HasPut words rank true ws) (sym (ap (λ n. slice_set words n word) place ∙ ap (slice_set words (rank / 64)) same)) (with_bit words rank inside))
+    (subst (λ ws. HasPut words rank true ws) (sym (ap (λ n. slice_set words n word) place ∙ ap (slice_set words (rank / 64)) same))
+    (with_bit words rank inside))
 
 pub take_out : (words : List ℕ) (rank at word : ℕ) (is_in : Bool) → rank / 64 < length words → at ≡ rank / 64 → is_in ≡ false
-    → word ≡ bit_and (slice_index words at) (18446744073709551615 - 1 * 2 ^ (rank % 64) % 18446744073709551616) → HasPut words rank is_in (slice_set words at word)
+    → word ≡ bit_and (slice_index words at) (18446744073709551615 - 1 * 2 ^ (rank % 64) % 18446744073709551616)
+    → HasPut words rank is_in (slice_set words at word)
 take_out words rank at word is_in inside place e new =
     let same : word ≡ bit_and (slice_index words (rank / 64)) (bit_not w64 (2 ^ (rank % 64))) =
     new ∙ ap (λ n. bit_and (slice_index words n) (18446744073709551615 - 1 * 2 ^ (rank % 64) % 18446744073709551616)) place
     ∙ ap (λ bit. bit_and (slice_index words (rank / 64)) (18446744073709551615 - bit)) (shifted rank) in
     subst (λ b. HasPut words rank b (slice_set words at word)) (sym e)
-    (subst (λ ws. HasPut words rank false ws) (sym (ap (λ n. slice_set words n word) place ∙ ap (slice_set words (rank / 64)) same)) (without_bit words rank inside))
+    (subst (λ ws. HasPut words rank false ws) (sym (ap (λ n. slice_set words n word) place ∙ ap (slice_set words (rank / 64)) same))
+    (without_bit words rank inside))
 
 -- a word of 0 has no rank
 pub none_in_word : (words : List ℕ) (k : ℕ) → slice_index words (k / 64) ≡ 0 → has words k ≡ false
@@ -118,7 +121,7 @@ has_at words n i k small e =
     let bit : k % 64 ≡ i = omega arith in
     ap (λ m. eqb (bit_at (slice_index words m) (k % 64)) 1) word ∙ ap (λ j. eqb (bit_at (slice_index words n) j) 1) bit
 
--- the greatest and the least, where the words behind or before are 0
+-- the greatest and the least, where the words after or before are 0
 pub greatest_is : (words : List ℕ) (n : ℕ) → n < 4 → slice_index words n ≢ 0 → slice_index words n < 2 ^ 64 → ((i : ℕ) → n < i → slice_index words i ≡ 0)
     → IsGreatest words (Some (n * 64 + (63 - leading_zeros w64 (slice_index words n))))
 greatest_is words n few some fits behind =

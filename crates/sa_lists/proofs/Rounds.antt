@@ -35,7 +35,10 @@ find-none : (p : ℕ → Bool) (a n : ℕ) → find p (range_with_len a n) ≡ N
 find-none p a zero e k low high = absurd (omega arith)
 find-none p a (suc n) e k low high = elim (p a) as (λ b. p a ≡ b → cond b (Some a) (find p (range_with_len (a + 1) n)) ≡ None → p k ≡ false) [
   | true ↦ λ here found. absurd cc
-  | false ↦ λ here found. elim (cases_eq k a) [ inl e ↦ subst (λ j. p j ≡ false) (sym e) here | inr ne ↦ find-none p (a + 1) n found k (omega arith) (omega arith) ]
+  | false ↦ λ here found. elim (cases_eq k a) [
+    | inl e ↦ subst (λ j. p j ≡ false) (sym e) here
+    | inr ne ↦ find-none p (a + 1) n found k (omega arith) (omega arith)
+  ]
 ] refl e
 
 -- the steps to a number from p on, and to one before p
@@ -57,7 +60,8 @@ sought-is r p = find-append (is_open r) (range_with_len p (length r.lists - p)) 
 pub sought-first : (r : ReadyView) (p q : ℕ) → p < length r.lists → sought r p ≡ Some q → IsSought r p q
 sought-first r p q inside e =
     let n = length r.lists in
-    elim (find (is_open r) (range_with_len p (n - p))) as (λ (o : Option ℕ). find (is_open r) (range_with_len p (n - p)) ≡ o → option_or o (find (is_open r) (range_with_len 0 p)) ≡ Some q → IsSought r p q) [
+    elim (find (is_open r) (range_with_len p (n - p))) as (λ (o : Option ℕ). find (is_open r) (range_with_len p (n - p)) ≡ o
+    → option_or o (find (is_open r) (range_with_len 0 p)) ≡ Some q → IsSought r p q) [
       | Some x ↦ λ found same.
           let first = find-first (is_open r) p (n - p) q (found ∙ same) in
           let to = steps-from n p q first.from in
@@ -85,7 +89,8 @@ sought-first r p q inside e =
 pub sought-none : (r : ReadyView) (p k : ℕ) → p < length r.lists → sought r p ≡ None → k < length r.lists → is_open r k ≡ false
 sought-none r p k inside e below =
     let n = length r.lists in
-    elim (find (is_open r) (range_with_len p (n - p))) as (λ (o : Option ℕ). find (is_open r) (range_with_len p (n - p)) ≡ o → option_or o (find (is_open r) (range_with_len 0 p)) ≡ None → is_open r k ≡ false) [
+    elim (find (is_open r) (range_with_len p (n - p))) as (λ (o : Option ℕ). find (is_open r) (range_with_len p (n - p)) ≡ o
+    → option_or o (find (is_open r) (range_with_len 0 p)) ≡ None → is_open r k ≡ false) [
       | Some x ↦ λ found same. absurd cc
       | None ↦ λ none second. elim (cases_lt k p) [
         | inl low ↦ find-none (is_open r) 0 p second k (omega arith) (omega arith)

@@ -17,16 +17,28 @@ pub find-range_behind : (p : ℕ → Bool) (n m : ℕ) → n < m → p n ≡ fal
 find-range_behind p n m h e = find-range p n m h ∙ ap (λ b. cond b (Some n) (find p (range_with_len (n + 1) (m - (n + 1))))) e
 
 -- a search of two lists finds what the first has, or else what the second has
-pub find-append_some : {A : Type 0} (p : ℕ → Bool) (f : ℕ → A) (xs ys : List ℕ) (x : A) → Some x ≡ option_map f (find p xs) → Some x ≡ option_map f (find p (xs ++ ys))
-find-append_some p f xs ys x e = rw find-append (elim (find p xs) as (λ o. Some x ≡ option_map f o → Some x ≡ option_map f (option_or o (find p ys))) [ None ↦ λ h. absurd cc | Some y ↦ λ h. h ] e)
+pub find-append_some : {A : Type 0} (p : ℕ → Bool) (f : ℕ → A) (xs ys : List ℕ) (x : A) → Some x ≡ option_map f (find p xs)
+    → Some x ≡ option_map f (find p (xs ++ ys))
+find-append_some p f xs ys x e =
+    rw find-append (elim (find p xs) as (λ o. Some x ≡ option_map f o
+    → Some x ≡ option_map f (option_or o (find p ys))) [ None ↦ λ h. absurd cc | Some y ↦ λ h. h ] e)
 
-pub find-append_none : {A : Type 0} (p : ℕ → Bool) (f : ℕ → A) (xs ys : List ℕ) (o : Option A) → None ≡ option_map f (find p xs) → o ≡ option_map f (find p ys) → o ≡ option_map f (find p (xs ++ ys))
-find-append_none {A} p f xs ys o e second = rw find-append (elim (find p xs) as (λ (q : Option ℕ). None ≡ option_map f q → o ≡ option_map f (option_or q (find p ys))) [ None ↦ λ h. second | Some y ↦ λ h. absurd cc ] e)
+pub find-append_none : {A : Type 0} (p : ℕ → Bool) (f : ℕ → A) (xs ys : List ℕ) (o : Option A) → None ≡ option_map f (find p xs)
+    → o ≡ option_map f (find p ys) → o ≡ option_map f (find p (xs ++ ys))
+find-append_none {A} p f xs ys o e second =
+    rw find-append (elim (find p xs) as (λ (q : Option ℕ). None ≡ option_map f q
+    → o ≡ option_map f (option_or q (find p ys))) [ None ↦ λ h. second | Some y ↦ λ h. absurd cc ] e)
 
 -- what `seek` finds among the lists from p on, or else among those before p
-pub sought_some : (r : ReadyView) (p n : ℕ) (x : ProcNo) → n ≡ length r.lists → Some x ≡ option_map processor (find (is_open r) (range_with_len p (n - p))) → Some x ≡ option_map processor (sought r p)
-sought_some r p n x e found = find-append_some (is_open r) processor (range_with_len p (length r.lists - p)) (range_with_len 0 p) x (subst (λ m. Some x ≡ option_map processor (find (is_open r) (range_with_len p (m - p)))) e found)
+pub sought_some : (r : ReadyView) (p n : ℕ) (x : ProcNo) → n ≡ length r.lists → Some x ≡ option_map processor (find (is_open r) (range_with_len p (n - p)))
+    → Some x ≡ option_map processor (sought r p)
+sought_some r p n x e found =
+    find-append_some (is_open r) processor (range_with_len p (length r.lists - p)) (range_with_len 0 p) x
+    (subst (λ m. Some x ≡ option_map processor (find (is_open r) (range_with_len p (m - p)))) e found)
 
 pub sought_none : (r : ReadyView) (p n : ℕ) (o : Option ProcNo) → n ≡ length r.lists → None ≡ option_map processor (find (is_open r) (range_with_len p (n - p)))
     → o ≡ option_map processor (find (is_open r) (range_with_len 0 (p - 0))) → o ≡ option_map processor (sought r p)
-sought_none r p n o e none second = find-append_none (is_open r) processor (range_with_len p (length r.lists - p)) (range_with_len 0 p) o (subst (λ m. None ≡ option_map processor (find (is_open r) (range_with_len p (m - p)))) e none) (let zero : p - 0 ≡ p = omega arith in subst (λ k. o ≡ option_map processor (find (is_open r) (range_with_len 0 k))) zero second)
+sought_none r p n o e none second =
+    find-append_none (is_open r) processor (range_with_len p (length r.lists - p)) (range_with_len 0 p) o
+    (subst (λ m. None ≡ option_map processor (find (is_open r) (range_with_len p (m - p)))) e none) (let zero : p - 0 ≡ p = omega arith in
+    subst (λ k. o ≡ option_map processor (find (is_open r) (range_with_len 0 k))) zero second)

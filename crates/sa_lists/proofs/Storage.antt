@@ -40,7 +40,7 @@ module _ (kind : Ranks) (links : Lists) (filled : List RankSet) (of : List ℕ) 
   lists_are : lists ≡ now.lists.lists
   lists_are = ap (λ (r : Ranked). r.lists.lists) view
 
-  -- there is a set for each list, and a thread stands in the lists as often as in the chains
+  -- there is a set for each list, and a thread is in the lists as often as in the chains
   pub inside : (l : ℕ) → l < length now.lists.lists → l < length filled
   inside l less = subst (λ n. l < n) (ap length (sym lists_are) ∙ lists-length (width_of kind) links.lists (length filled)) less
 
@@ -88,10 +88,12 @@ module _ (kind : Ranks) (links : Lists) (filled : List RankSet) (of : List ℕ) 
     -- the first and the last thread
     pub first-is : (k : ℕ) → IsGreatest (words_of filled l) (Some k)
         → (slice_get (list_at now.lists.lists l) 0 ≡ slice_get (list_at links.lists (l * width_of kind + k)) 0)
-        × (drop 1 (list_at now.lists.lists l) ≡ joined (slice_set (chains_of links.lists (width_of kind) l) k (drop 1 (list_at links.lists (l * width_of kind + k)))))
+        × (drop 1 (list_at now.lists.lists l)
+        ≡ joined (slice_set (chains_of links.lists (width_of kind) l) k (drop 1 (list_at links.lists (l * width_of kind + k)))))
     first-is k greatest =
         let chain = chain-is (width_of kind) links.lists l k (has-small k greatest.1) in
-        let first = joined-first (chains_of links.lists (width_of kind) l) k (sym (h.sets l k here) ∙ greatest.1) (λ j more. sym (h.sets l j here) ∙ greatest.2 j more) in (
+        let first = joined-first (chains_of links.lists (width_of kind) l) k (sym (h.sets l k here) ∙ greatest.1)
+        (λ j more. sym (h.sets l j here) ∙ greatest.2 j more) in (
           ap (λ xs. slice_get xs 0) list-joined ∙ first.first ∙ ap (λ xs. slice_get xs 0) chain,
           ap (drop 1) list-joined ∙ first.rest ∙ ap (λ xs. joined (slice_set (chains_of links.lists (width_of kind) l) k (drop 1 xs))) chain,
         )
@@ -102,19 +104,23 @@ module _ (kind : Ranks) (links : Lists) (filled : List RankSet) (of : List ℕ) 
         × (take (length xs - 1) xs ≡ joined (slice_set (chains_of links.lists (width_of kind) l) k (take (length ys - 1) ys)))
     last-is k least =
         let chain = chain-is (width_of kind) links.lists l k (has-small k least.1) in
-        let last = joined-last (chains_of links.lists (width_of kind) l) k (sym (h.sets l k here) ∙ least.1) (λ j less. sym (h.sets l j here) ∙ least.2 j less) in (
+        let last = joined-last (chains_of links.lists (width_of kind) l) k (sym (h.sets l k here) ∙ least.1)
+        (λ j less. sym (h.sets l j here) ∙ least.2 j less) in (
           ap (λ xs. slice_get xs (length xs - 1)) list-joined ∙ last.last ∙ ap (λ xs. slice_get xs (length xs - 1)) chain,
           ap (λ xs. take (length xs - 1) xs) list-joined ∙ last.rest
               ∙ ap (λ xs. joined (slice_set (chains_of links.lists (width_of kind) l) k (take (length xs - 1) xs))) chain,
         )
 
     pub pushed-is : (t : ℕ) → rank_of of t < width_of kind
-        → inserted of t (list_at now.lists.lists l) ≡ joined (slice_set (chains_of links.lists (width_of kind) l) (rank_of of t) (t ∷ list_at links.lists (l * width_of kind + rank_of of t)))
+        → inserted of t (list_at now.lists.lists l)
+        ≡ joined (slice_set (chains_of links.lists (width_of kind) l) (rank_of of t) (t ∷ list_at links.lists (l * width_of kind + rank_of of t)))
     pushed-is t small =
         ap (inserted of t) list-joined
-        ∙ sym (joined-pushed of 0 (chains_of links.lists (width_of kind) l) (rank_of of t) t (λ k x is. let same = h.ranked l k x here is in omega arith) (omega arith)
+        ∙ sym (joined-pushed of 0 (chains_of links.lists (width_of kind) l) (rank_of of t) t (λ k x is. let same = h.ranked l k x here is in
+        omega arith) (omega arith)
         (subst (λ n. rank_of of t < n) (sym (chains-length (width_of kind) links.lists (length filled) l h.size here)) small))
-        ∙ ap (λ xs. joined (slice_set (chains_of links.lists (width_of kind) l) (rank_of of t) (t ∷ xs))) (chain-is (width_of kind) links.lists l (rank_of of t) small)
+        ∙ ap (λ xs. joined (slice_set (chains_of links.lists (width_of kind) l) (rank_of of t) (t ∷ xs)))
+        (chain-is (width_of kind) links.lists l (rank_of of t) small)
 
     -- one chain of the list changes, and it is noted whether it has some
     module _ (k : ℕ) (small : k < width_of kind) (xs : List ℕ) (ranks : (t : ℕ) → IsIn t xs → rank_of of t ≡ k)
@@ -126,10 +132,12 @@ module _ (kind : Ranks) (links : Lists) (filled : List RankSet) (of : List ℕ) 
       in_list = subst (λ n. k < n) (sym (chains-length (width_of kind) links.lists (length filled) l h.size here)) small
 
       chain_same : list_at (chains_of after (width_of kind) l) k ≡ xs
-      chain_same = ap (λ cs. list_at cs k) (chains-set_same (width_of kind) links.lists l k xs small) ∙ get_or-set_same (chains_of links.lists (width_of kind) l) k xs [] in_list
+      chain_same = ap (λ cs. list_at cs k) (chains-set_same (width_of kind) links.lists l k xs small)
+          ∙ get_or-set_same (chains_of links.lists (width_of kind) l) k xs [] in_list
 
       chain_other : (j : ℕ) → j ≢ k → list_at (chains_of after (width_of kind) l) j ≡ list_at (chains_of links.lists (width_of kind) l) j
-      chain_other j ne = ap (λ cs. list_at cs j) (chains-set_same (width_of kind) links.lists l k xs small) ∙ get_or-set_other (chains_of links.lists (width_of kind) l) k j xs [] ne
+      chain_other j ne = ap (λ cs. list_at cs j) (chains-set_same (width_of kind) links.lists l k xs small)
+          ∙ get_or-set_other (chains_of links.lists (width_of kind) l) k j xs [] ne
 
       chain_elsewhere : (m j : ℕ) → m ≢ l → list_at (chains_of after (width_of kind) m) j ≡ list_at (chains_of links.lists (width_of kind) m) j
       chain_elsewhere m j ne = ap (λ cs. list_at cs j) (chains-set_other (width_of kind) links.lists l m k xs small ne)
@@ -171,8 +179,12 @@ module _ (kind : Ranks) (links : Lists) (filled : List RankSet) (of : List ℕ) 
       pub value-after : ranked_of kind (with_list links (l * width_of kind + k) xs) new of
           ≡ record now { lists = with_list now.lists l (joined (slice_set (chains_of links.lists (width_of kind) l) k xs)) }
       value-after =
-          ap (λ n. record { lists = record { nodes = links.nodes; lists = lists_of (slice_set links.lists (l * width_of kind + k) xs) (width_of kind) n }; ranks = of }) noted.count
-          ∙ ap (λ ls. record { lists = record { nodes = links.nodes; lists = ls }; ranks = of }) (lists-set (width_of kind) links.lists (length filled) l k xs here small)
+          ap (λ n. record {
+            lists = record { nodes = links.nodes; lists = lists_of (slice_set links.lists (l * width_of kind + k) xs) (width_of kind) n };
+            ranks = of;
+          }) noted.count
+          ∙ ap (λ ls. record { lists = record { nodes = links.nodes; lists = ls }; ranks = of })
+          (lists-set (width_of kind) links.lists (length filled) l k xs here small)
           ∙ ap (λ (r : Ranked). record r { lists = with_list r.lists l (joined (slice_set (chains_of links.lists (width_of kind) l) k xs)) }) view
 
       -- the same, for lists of chains that are equal to these
@@ -186,7 +198,8 @@ module _ (kind : Ranks) (links : Lists) (filled : List RankSet) (of : List ℕ) 
           ap (λ (c : Lists). ranked_of kind c new of) (is ∙ ap (λ n. with_list links n xs) at) ∙ value-after
 
     -- A PUSH
-    pushed-ranks : (t : ℕ) → rank_of of t < width_of kind → (u : ℕ) → IsIn u (t ∷ list_at links.lists (l * width_of kind + rank_of of t)) → rank_of of u ≡ rank_of of t
+    pushed-ranks : (t : ℕ) → rank_of of t < width_of kind → (u : ℕ) → IsIn u (t ∷ list_at links.lists (l * width_of kind + rank_of of t))
+        → rank_of of u ≡ rank_of of t
     pushed-ranks t small u is = elim (cases_eq t u) [
       | inl same ↦ ap (rank_of of) (sym same)
       | inr ne ↦ let rest = count_other u t (list_at links.lists (l * width_of kind + rank_of of t)) ne in chain-ranks (rank_of of t) u small (omega arith)
@@ -202,11 +215,13 @@ module _ (kind : Ranks) (links : Lists) (filled : List RankSet) (of : List ℕ) 
 
       pub pushed-stored : IsRanked kind changed.lists new of
       pushed-stored =
-          stored-as (rank_of of t) small_rank (t ∷ list_at links.lists (l * width_of kind + rank_of of t)) (pushed-ranks t small_rank) new noted changed chain at is_there
+          stored-as (rank_of of t) small_rank (t ∷ list_at links.lists (l * width_of kind + rank_of of t))
+          (pushed-ranks t small_rank) new noted changed chain at is_there
 
       pub pushed-value : ranked_of kind changed new of ≡ record now { lists = with_list now.lists l (inserted now.ranks t (list_at now.lists.lists l)) }
       pushed-value =
-          value-as (rank_of of t) small_rank (t ∷ list_at links.lists (l * width_of kind + rank_of of t)) (pushed-ranks t small_rank) new noted changed chain at is_there
+          value-as (rank_of of t) small_rank (t ∷ list_at links.lists (l * width_of kind + rank_of of t))
+          (pushed-ranks t small_rank) new noted changed chain at is_there
           ∙ ap (λ ys. record now { lists = with_list now.lists l ys })
           (sym (pushed-is t small_rank) ∙ ap (λ rs. inserted rs t (list_at now.lists.lists l)) (ap (λ (r : Ranked). r.ranks) view))
 
@@ -229,7 +244,8 @@ module _ (kind : Ranks) (links : Lists) (filled : List RankSet) (of : List ℕ) 
       pub popped-stored : IsRanked kind changed.lists new of
       popped-stored = stored-as k small xs fewer_ranks new noted_so changed chain at is
 
-      pub popped-value : ranked_of kind changed new of ≡ record now { lists = with_list now.lists l (joined (slice_set (chains_of links.lists (width_of kind) l) k xs)) }
+      pub popped-value : ranked_of kind changed new of
+          ≡ record now { lists = with_list now.lists l (joined (slice_set (chains_of links.lists (width_of kind) l) k xs)) }
       popped-value = value-as k small xs fewer_ranks new noted_so changed chain at is
 
     -- the chain of the greatest rank without its first, and that of the least without its last
@@ -251,7 +267,8 @@ pub same-without : (r : Ranked) (l : ℕ) (xs : List ℕ) → xs ≡ list_at r.l
 same-without r l xs is = ap (λ ls. record r { lists = record r.lists { lists = ls } }) (sym (ap (slice_set r.lists.lists l) is ∙ set-get_or r.lists.lists l []))
 
 -- NEW LISTS
-pub opened-ranked : (kind : Ranks) (count threads : ℕ) (chains : List (List ℕ)) (filled : List RankSet) (of : List ℕ) → chains ≡ replicate (count * width_of kind) []
+pub opened-ranked : (kind : Ranks) (count threads : ℕ) (chains : List (List ℕ)) (filled : List RankSet) (of : List ℕ)
+    → chains ≡ replicate (count * width_of kind) []
     → length filled ≡ count → ((l k : ℕ) → l < count → has (words_of filled l) k ≡ false) → of ≡ opening_ranks kind threads → IsRanked kind chains filled of
 opened-ranked kind count threads chains filled of none size sets ranks =
     let empty : (l k : ℕ) → list_at (chains_of chains (width_of kind) l) k ≡ [] = λ l k.
@@ -299,9 +316,11 @@ ranked-given kind chains filled of t rank h free small = record {
   bare = given_bare kind of t rank h.bare;
 }
   where
-    given_below : (kind : Ranks) (of : List ℕ) (t u rank : ℕ) → rank_of of u < width_of kind → IsBare kind of → rank < MAX_RANKS → rank_of (slice_set of t rank) u < width_of kind
+    given_below : (kind : Ranks) (of : List ℕ) (t u rank : ℕ) → rank_of of u < width_of kind → IsBare kind of → rank < MAX_RANKS
+        → rank_of (slice_set of t rank) u < width_of kind
     given_below One of t u rank below bare small = subst (λ rs. rank_of (slice_set rs t rank) u < 1) (sym bare)
-        (let none = get_or_past (slice_set (let no_ranks : List ℕ = [] in no_ranks) t rank) u 0 (let size = length-set (let no_ranks : List ℕ = [] in no_ranks) t rank in omega arith) in omega arith)
+        (let none = get_or_past (slice_set (let no_ranks : List ℕ = [] in no_ranks) t rank) u 0 (let size =
+        length-set (let no_ranks : List ℕ = [] in no_ranks) t rank in omega arith) in omega arith)
     given_below Many of t u rank below bare small = elim (cases_eq u t) [
       | inr ne ↦ let same = get_or-set_other of t u rank 0 ne in omega arith
       | inl same ↦ elim (cases_lt t (length of)) [
@@ -315,7 +334,8 @@ ranked-given kind chains filled of t rank h free small = record {
     given_bare Many of t rank bare = tt
 
 -- a thread in no list is in no chain of a list
-pub free-chains : (kind : Ranks) (chains : List (List ℕ)) (t : ℕ) → count_in_all t chains ≡ 0 → (l k : ℕ) → IsIn t (list_at (chains_of chains (width_of kind) l) k) → ⊥
+pub free-chains : (kind : Ranks) (chains : List (List ℕ)) (t : ℕ) → count_in_all t chains ≡ 0 → (l k : ℕ)
+    → IsIn t (list_at (chains_of chains (width_of kind) l) k) → ⊥
 free-chains kind chains t free l k is = elim (cases_lt k (width_of kind)) [
   | inl small ↦
       let some = subst (IsIn t) (chain-is (width_of kind) chains l k small) is in

@@ -8,14 +8,15 @@ use Rattle.sa_links.specs.Lists.{Lists, list_at, count_in, count_in_all, IsApart
 use Rattle.sa_links.proofs.Counting.{count-append, few_below}
 use Rattle.sa_lists.specs.ReadyView.{IsStored}
 
--- the numbers of all lists, one list behind another
+-- the numbers of all lists, one list after another
 abbrev numbers_of : List (List ℕ) → List ℕ
 numbers_of [] = []
 numbers_of (xs ∷ ls) = xs ++ numbers_of ls
 
 count_in-numbers_of : (x : ℕ) (ls : List (List ℕ)) → count_in x (numbers_of ls) ≡ count_in_all x ls
 count_in-numbers_of x [] = refl
-count_in-numbers_of x (xs ∷ ls) = count-append x xs (numbers_of ls) ∙ ap (λ n. count_in x xs + n) (count_in-numbers_of x ls) ∙ sym (sum_by-cons (count_in x) xs ls)
+count_in-numbers_of x (xs ∷ ls) =
+    count-append x xs (numbers_of ls) ∙ ap (λ n. count_in x xs + n) (count_in-numbers_of x ls) ∙ sym (sum_by-cons (count_in x) xs ls)
 
 length-numbers_of : (ls : List (List ℕ)) → length (numbers_of ls) ≡ sum_by length ls
 length-numbers_of [] = refl
@@ -29,7 +30,8 @@ sum_by-le-nodes c apart =
     subst (λ n. n ≤ c.nodes) (length-numbers_of c.lists) (few_below c.nodes (numbers_of c.lists) once below)
 
 -- how they are stored once list l is xs, and as many threads more or less are counted
-pub stored-with : (links : Lists) (locked : List Bool) (ready made threads l : ℕ) (xs : List ℕ) (after : ℕ) → IsStored links locked ready made threads → l < length links.lists
+pub stored-with : (links : Lists) (locked : List Bool) (ready made threads l : ℕ) (xs : List ℕ) (after : ℕ) → IsStored links locked ready made threads
+    → l < length links.lists
     → after + length (list_at links.lists l) ≡ ready + length xs → IsStored (with_list links l xs) locked after made threads
 stored-with links locked ready made threads l xs after h inside changed =
     let same = length-set links.lists l xs in
@@ -57,8 +59,9 @@ length-take_some xs x e =
     let taken = length-take-le (length xs - 1) xs (omega arith) in
     omega arith
 
--- a thread that stands in a list is counted
-pub counted-some : (links : Lists) (locked : List Bool) (ready made threads l k x : ℕ) → IsStored links locked ready made threads → slice_get (list_at links.lists l) k ≡ Some x → 1 ≤ ready
+-- a thread that is in a list is counted
+pub counted-some : (links : Lists) (locked : List Bool) (ready made threads l k x : ℕ) → IsStored links locked ready made threads
+    → slice_get (list_at links.lists l) k ≡ Some x → 1 ≤ ready
 counted-some links locked ready made threads l k x h some =
     let within = slice_get_within (list_at links.lists l) k x some in
     elim (cases_lt l (length links.lists)) [
@@ -68,14 +71,16 @@ counted-some links locked ready made threads l k x h some =
 
 -- the oldest of list l is taken out, if there is one
 pub stored-kept : (links after : Lists) (locked : List Bool) (ready made threads l : ℕ) → IsStored links locked ready made threads → l < length links.lists
-    → let xs = list_at links.lists l in slice_get xs (length xs - 1) ≡ None → after ≡ with_list links l (take (length xs - 1) xs) → IsStored after locked ready made threads
+    → let xs = list_at links.lists l in
+    slice_get xs (length xs - 1) ≡ None → after ≡ with_list links l (take (length xs - 1) xs) → IsStored after locked ready made threads
 stored-kept links after locked ready made threads l h inside none changed =
     let xs = list_at links.lists l in
     subst (λ (c : Lists). IsStored c locked ready made threads) (sym changed)
     (stored-with links locked ready made threads l (take (length xs - 1) xs) ready h inside (ap (λ n. ready + n) (sym (length-take_none xs none))))
 
 pub stored-taken : (links after : Lists) (locked : List Bool) (ready made threads l x : ℕ) → IsStored links locked ready made threads → l < length links.lists
-    → let xs = list_at links.lists l in slice_get xs (length xs - 1) ≡ Some x → after ≡ with_list links l (take (length xs - 1) xs) → IsStored after locked (ready - 1) made threads
+    → let xs = list_at links.lists l in
+    slice_get xs (length xs - 1) ≡ Some x → after ≡ with_list links l (take (length xs - 1) xs) → IsStored after locked (ready - 1) made threads
 stored-taken links after locked ready made threads l x h inside some changed =
     let xs = list_at links.lists l in
     let some_ready = counted-some links locked ready made threads l (length xs - 1) x h some in

@@ -23,11 +23,11 @@ abbrev pub joined : List (List ℕ) → List ℕ
 joined [] = []
 joined (xs ∷ chains) = joined chains ++ xs
 
--- the chains of list l, where each has so many
+-- the chains of list l, where each list has `width` of them
 abbrev pub chains_of : List (List ℕ) → ℕ → ℕ → List (List ℕ)
 chains_of chains width l = take width (drop (l * width) chains)
 
--- so many lists, of so many chains each
+-- n lists, of `width` chains each
 abbrev pub lists_of : List (List ℕ) → ℕ → ℕ → List (List ℕ)
 lists_of chains width zero = []
 lists_of chains width (suc n) = joined (take width chains) ∷ lists_of (drop width chains) width n
@@ -57,7 +57,7 @@ IsBare Many of = Unit {0}
 abbrev pub AreByRank : List ℕ → List (List ℕ) → Type 0
 AreByRank of chains = (k t : ℕ) → IsIn t (list_at chains k) → rank_of of t ≡ k
 
--- chain k has some thread, and none behind it has, or none before it
+-- chain k has some thread, and none after it has, or none before it
 abbrev pub IsGreatestFilled : List (List ℕ) → ℕ → Type 0
 IsGreatestFilled chains k = (is_filled (list_at chains k) ≡ true) × ((j : ℕ) → k < j → is_filled (list_at chains j) ≡ false)
 

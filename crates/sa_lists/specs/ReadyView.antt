@@ -56,7 +56,7 @@ is_locked r l = slice_index_or r.locked l false
 abbrev pub IsLocked : ReadyView → ℕ → Type 0
 IsLocked r l = is_locked r l ≡ true
 
--- thread t stands in no list
+-- thread t is in no list
 abbrev pub IsUnlisted : ReadyView → ℕ → Type 0
 IsUnlisted r t = count_in_all t r.lists ≡ 0
 
@@ -75,7 +75,7 @@ rank_of ranks t = slice_index ranks t
 abbrev pub has_ranks : ReadyView → Bool
 has_ranks r = nat_lt 0 (length r.ranks)
 
--- a list with thread t too, which stands in front of the first that does not outrank it
+-- a list with thread t too, which is in front of the first that does not outrank it
 abbrev pub inserted : List ℕ → ℕ → List ℕ → List ℕ
 inserted ranks t [] = t ∷ []
 inserted ranks t (x ∷ xs) =
@@ -118,11 +118,11 @@ steps_round n p q = if nat_lt q p then n - p + q else q - p
 abbrev pub home : ReadyView → ℕ → ℕ
 home r p = if length r.lists == 1 then 0 else p
 
--- there are lists for so many processors: one for each, or one for all
+-- there are lists for that many processors: one for each, or one for all
 abbrev pub AreListsFor : ℕ → ℕ → Type 0
 AreListsFor processors count = (count ≡ processors) ⊎ (count ≡ 1)
 
--- the next thread to make, where there is one, and r once it is made with that rank; a thread that stands in a list
+-- the next thread to make, where there is one, and r once it is made with that rank; a thread that is in a list
 -- before it is made keeps the rank with which it was put there
 abbrev pub next_made : ReadyView → Option ℕ
 next_made r = if nat_lt r.made r.threads then Some r.made else None
@@ -144,7 +144,7 @@ pub record IsReady (r : ReadyView) : Type 0 where
   pub below : (t : ℕ) → 1 ≤ count_in_all t r.lists → t < r.threads
   pub once : (t : ℕ) → count_in_all t r.lists ≤ 1
 
--- how a `ReadyLists` stores them: lists of so many nodes, the locks, and how many threads are ready and made
+-- how a `ReadyLists` stores them: lists with a node for each thread, the locks, and how many threads are ready and made
 pub record IsStored (links : Lists) (locked : List Bool) (ready made threads : ℕ) : Type 0 where
   pub nodes : links.nodes ≡ threads
   pub counted : ready ≡ sum_by length links.lists

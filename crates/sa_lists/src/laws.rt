@@ -7,13 +7,13 @@ ghost use Rattle.sa_lists.specs.ReadyView.{ReadyView, no_threads, list_of, rank_
 
 use sa_base::{MAX_PROCESSORS, MAX_THREADS};
 
-/// A thread stands in at most one list.
+/// A thread is in at most one list.
 pub fn a_thread_stands_in_one_list()
     ensures { (r : ReadyView) (l m t : ℕ) → IsReady r → l < length r.lists
         → IsIn t (list_of r l) → IsIn t (list_of r m) → l ≡ m }
 {}
 
-/// A thread that was taken out stands in no list.
+/// A thread that was taken out is in no list.
 pub fn a_taken_thread_stands_in_none()
     ensures newest { (r : ReadyView) (l t : ℕ) → IsReady r → l < length r.lists
         → newest r l ≡ Some t → IsUnlisted (without_newest r l) t }
@@ -43,7 +43,7 @@ pub fn of_one_rank_the_newest_is_first()
 {}
 
 /// A chain for each rank is a list in the order of ranks: to put a thread in front of the chain of its rank is to put it
-/// into the list, behind all that outrank it and in front of all others; the first of the greatest rank that has some, and
+/// into the list, after all that outrank it and in front of all others; the first of the greatest rank that has some, and
 /// the last of the least, are the first and the last of the list.
 pub fn a_chain_for_each_rank_is_an_ordered_list()
     ensures pushed { (ranks : List ℕ) (chains : List (List ℕ)) (t : ℕ)

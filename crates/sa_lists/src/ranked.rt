@@ -66,7 +66,7 @@ impl RankedLists {
         })
     }
 
-    /// Gives a rank to a thread that stands in no list.
+    /// Gives a rank to a thread that is in no list.
     pub(crate) fn set_rank(&mut self, t: u16, rank: u16)
         requires free { IsFree self.old.lists t }
         requires rank { rank < MAX_RANKS }
@@ -82,7 +82,7 @@ impl RankedLists {
         0 < self.ranks.len()
     }
 
-    /// Puts a thread that stands in no list into `list`, as the newest of its rank.
+    /// Puts a thread that is in no list into `list`, as the newest of its rank.
     pub(crate) fn push(&mut self, list: u16, t: u16)
         requires list { list < length self.old.lists.lists }
         requires thread { t < self.old.lists.nodes }
@@ -152,7 +152,7 @@ impl RankedLists {
         greatest(&self.filled, list).is_none()
     }
 
-    /// Whether a thread stands in no list.
+    /// Whether a thread is in no list.
     pub(crate) fn is_free(&self, t: u16) -> bool
         requires { t < self.now.lists.nodes }
         ensures { IsTrue result ↔ IsFree self.now.lists t }
@@ -160,7 +160,7 @@ impl RankedLists {
         self.chains.is_free(u32::from(t))
     }
 
-    /// Says that the lists are apart: each has numbers of threads alone, and no number stands more than once.
+    /// Says that the lists are apart: each has numbers of threads alone, and no number is there more than once.
     pub(crate) fn are_apart(&self)
         ensures { IsApart self.now.lists }
     {
@@ -208,7 +208,7 @@ fn give_rank(ranks: &mut Vec<u16>, t: u16, rank: u16)
     }
 }
 
-// The ranks of so many lists without threads. Fails only where memory runs out.
+// The ranks of this many lists without threads. Fails only where memory runs out.
 fn no_ranks(alloc: Global, lists: u16) -> Result<Vec<RankSet>, AllocError>
     ensures { IfOk result (λ filled. (length filled.items ≡ lists)
         × ((l k : ℕ) → l < lists → has (words_of filled.items l) k ≡ false)) }

@@ -13,14 +13,14 @@ use std::marker::Model;
 
 /// The ready lists of a space, and the numbers of the threads that were made.
 ///
-/// A thread stands in at most one list. In a list the threads of the greatest rank come first, and of one rank the newest.
+/// A thread is in at most one list. In a list the threads of the greatest rank come first, and of one rank the newest.
 /// Each list has a lock, which whoever changes the list holds. Every call takes constant time, for any number of ready
 /// threads, but for `seek`, which looks at each list.
 #[derive(Debug, Drop)]
 pub struct ReadyLists {
     lists: RankedLists,
     locked: Vec<bool>,
-    // how many threads stand in the lists
+    // how many threads are in the lists
     ready: u32,
     made: u16,
     threads: u16,
@@ -69,7 +69,7 @@ impl ReadyLists {
         })
     }
 
-    /// Puts a thread that stands in no list into the locked list `p`, as the newest of its rank.
+    /// Puts a thread that is in no list into the locked list `p`, as the newest of its rank.
     pub fn push(&mut self, p: ProcNo, t: ThreadNo)
         requires list { p.0 < length self.old.lists }
         requires thread { t.0 < self.old.threads }
@@ -177,7 +177,7 @@ impl ReadyLists {
         Some(ThreadNo(thread as u16))
     }
 
-    /// How many threads stand in the lists. It takes constant time.
+    /// How many threads are in the lists. It takes constant time.
     pub fn ready(&self) -> u32
         ensures { result ≡ ready_count self.now }
     {
@@ -253,7 +253,7 @@ impl ReadyLists {
         self.lists.is_empty(l.0)
     }
 
-    /// Whether a thread stands in no list.
+    /// Whether a thread is in no list.
     pub fn is_unlisted(&self, t: ThreadNo) -> bool
         requires { t.0 < self.now.threads }
         ensures { IsTrue result ↔ IsUnlisted self.now t.0 }
@@ -261,7 +261,7 @@ impl ReadyLists {
         self.lists.is_free(t.0)
     }
 
-    /// Says what holds of all ready lists: above all, that a thread stands in at most one of them, and once.
+    /// Says what holds of all ready lists: above all, that a thread is in at most one of them, and once.
     pub fn are_apart(&self)
         ensures { IsReady self.now }
     {

@@ -13,13 +13,15 @@ use Rattle.sa_fast.specs.declared.threads.Block.{Block}
 use Rattle.sa_fast.specs.Threads.{gone_to}
 use Rattle.sa_package_model.specs.Step.{block_after, says_between, spot_of, at_spot}
 
--- the spot behind one instruction
-spot_is : (program : List Instr) (b : Block) (pc : ℕ) (regs : List ℕ) → pc ≡ place_after (instr_at program b.pc) b.pc b.regs → regs ≡ regs_after (instr_at program b.pc) b.regs → spot_of (gone_to b pc regs) ≡ after_one program (spot_of b)
+-- the spot after one instruction
+spot_is : (program : List Instr) (b : Block) (pc : ℕ) (regs : List ℕ) → pc ≡ place_after (instr_at program b.pc) b.pc b.regs
+    → regs ≡ regs_after (instr_at program b.pc) b.regs → spot_of (gone_to b pc regs) ≡ after_one program (spot_of b)
 spot_is program b pc regs at with =
     let of : ℕ → List ℕ → Spot = λ p r. record { pc = p; regs = r } in
     ap (λ p. of p regs) at ∙ ap (of (place_after (instr_at program b.pc) b.pc b.regs)) with
 
-module _ (program : List Instr) (b : Block) (pc : ℕ) (regs : List ℕ) (n done : ℕ) (more : done < n) (at : pc ≡ place_after (instr_at program b.pc) b.pc b.regs) (with : regs ≡ regs_after (instr_at program b.pc) b.regs) where
+module _ (program : List Instr) (b : Block) (pc : ℕ) (regs : List ℕ) (n done : ℕ) (more : done < n)
+    (at : pc ≡ place_after (instr_at program b.pc) b.pc b.regs) (with : regs ≡ regs_after (instr_at program b.pc) b.regs) where
   left : n - done ≡ suc (n - (done + 1))
   left = omega arith
 
@@ -29,11 +31,13 @@ module _ (program : List Instr) (b : Block) (pc : ℕ) (regs : List ℕ) (n done
       ∙ ap (λ k. block_after program k b) (sym left)
 
   pub items-more : (s : SpaceNo) (t : ThreadNo) (p : ProcNo) (event next : ℕ) (before : List Item) → next ≡ event + 1
-      → (before ++ record { event = event; proc = p; what = Ins s t b.pc } ∷ []) ++ items_from next p (says_between s t program (n - (done + 1)) (gone_to b pc regs))
+      → (before ++ record { event = event; proc = p; what = Ins s t b.pc } ∷ []) ++ items_from next p
+      (says_between s t program (n - (done + 1)) (gone_to b pc regs))
       ≡ before ++ items_from event p (says_between s t program (n - done) b)
   items-more s t p event next before e =
       let rest = ins_records s t program (n - (done + 1)) in
       append_assoc before (record { event = event; proc = p; what = Ins s t b.pc } ∷ []) (items_from next p (rest (spot_of (gone_to b pc regs))))
       ∙ ap (λ k. before ++ record { event = event; proc = p; what = Ins s t b.pc } ∷ items_from k p (rest (spot_of (gone_to b pc regs)))) e
-      ∙ ap (λ spot. before ++ record { event = event; proc = p; what = Ins s t b.pc } ∷ items_from (event + 1) p (rest spot)) (spot_is program b pc regs at with)
+      ∙ ap (λ spot. before ++ record { event = event; proc = p; what = Ins s t b.pc } ∷ items_from (event + 1) p (rest spot))
+      (spot_is program b pc regs at with)
       ∙ ap (λ k. before ++ items_from event p (says_between s t program k b)) (sym left)

@@ -1,5 +1,5 @@
 -- The worked rows of the handler, computed by the definitions: two holders of locks that were stopped, in one batch; and
--- the same handler stopped behind its first step, and told to a new one.
+-- the same handler stopped after its first step, and told to a new one.
 use Rattle.std.proofs.Common.{◌≡◌, ℕ, zero, suc, ◌++◌, List, [], ◌∷◌, Some, None, true, false, replicate, refl}
 use Rattle.sa_base.specs.declared.number.SpaceNo.{SpaceNo}
 use Rattle.sa_base.specs.declared.context.Seen.{Seen}
@@ -25,13 +25,13 @@ use Rattle.sa_package_model.specs.Step.{told, answered, stepped}
 abbrev seen_at : ℕ → Seen
 seen_at event = record { proc = processor 0; event = event; demand = 2; pages = 65535; taken = 0; low = 0 }
 
--- the records of so many steps, one behind another
+-- the records of n steps, one after another
 abbrev says_of : ℕ → Pair → List Record
 says_of zero p = []
 says_of (suc n) p =
     let s = stepped p.user (seen_at 0) p.ctx in s.says ++ says_of n (pair s.user s.ctx)
 
--- the package and the context behind so many steps
+-- the package and the context after n steps
 abbrev behind : ℕ → Pair → Pair
 behind zero p = p
 behind (suc n) p = let s = stepped p.user (seen_at 0) p.ctx in behind n (pair s.user s.ctx)

@@ -11,7 +11,7 @@ use sa_code::{Frame, Op};
 use sa_package_model::{Context, ContextState};
 
 impl FastThreads {
-    /// The context goes on behind the last notice of its upcall, or behind an entry of the kernel that it asked for: it
+    /// The context goes on after the last notice of its upcall, or after an entry of the kernel that it asked for: it
     /// settles, where it is between routines. A processor that was offered as idle looks on.
     pub fn answered(&mut self, seen: &Seen, ctx: &mut Context)
         ensures { (self.new, ctx.new) ≡ answered self.old seen.now ctx.old }
@@ -32,7 +32,7 @@ impl FastThreads {
         Some(section?.list.unwrap_or(ProcNo(0)).0)
     }
 
-    // The section in which a context stands, if it is in one.
+    // The section in which a context is, if it is in one.
     fn own_section(&self, state: ContextState) -> Option<Frame>
         ensures { result ≡ own_section self.now state }
     {
@@ -45,7 +45,7 @@ impl FastThreads {
         }
     }
 
-    /// Where the context stands, as far as its processor can go on by itself.
+    /// Where the context is, as far as its processor can go on by itself.
     pub fn local(&self, ctx: &Context) -> SeatState
         requires { IsThread (carried_by ctx.now.state) }
         ensures { result ≡ local_at self.now ctx.now.state }

@@ -58,7 +58,7 @@ impl FastThreads {
     }
 }
 
-// The section in which a context stands, or of which it stands in a copy, at the place of the copy.
+// The section in which a context is, or in whose copy, at the place of the copy.
 fn section_of(code: &Code, state: ContextState) -> Option<Frame>
     requires { code.now ≡ package_ops }
     ensures { result ≡ section_in state }

@@ -17,7 +17,7 @@ use std::alloc::{AllocError, Global};
 
 impl FastThreads {
     /// FastThreads of a space at its opening: there is a ready list for each processor, thread 0 is ready in list 0, and
-    /// all locks are free. The space has so many processors at most, 1 to 16, and the fetch of a page takes `fetch` events,
+    /// all locks are free. The space has this many processors at most, 1 to 16, and the fetch of a page takes `fetch` events,
     /// 1 to 1,000. Fails only where memory runs out; no other call can fail so.
     pub fn start(
         alloc: Global,

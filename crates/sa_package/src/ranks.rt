@@ -16,7 +16,7 @@ impl FastThreads {
         self.package.shared.threads.block(t).program
     }
 
-    /// The rank of the first thread in list 0, which none of that list outranks where they stand by their ranks: `None`
+    /// The rank of the first thread in list 0, which none of that list outranks where they are in the order of their ranks: `None`
     /// exactly where that list is empty. It takes constant time.
     pub fn first_rank(&self) -> Option<u16>
         requires list { 0 < length self.now.shared.state.lists.lists }

@@ -37,7 +37,7 @@ impl FastThreads {
         self.act(seen, ctx, trace)
     }
 
-    /// Where a hint is no longer owed, or the activations to give back are no longer so many, the context settles.
+    /// Where a hint is no longer owed, or the activations to give back are too few by now, the context settles.
     pub fn settle_again(&self, seen: &Seen, ctx: &mut Context)
         ensures { ctx.new ≡ resettled self.now seen.now ctx.old ctx.old.state }
     {

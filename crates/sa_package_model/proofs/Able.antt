@@ -42,7 +42,8 @@ module _ (s : Setting) (e : ℕ) (u : Package) (cs : Contexts Context) (h : IsSt
     acts : (state : ContextState) → c.state ≡ state → CanAct u c state
     acts (Code g) at = code_can s e u cs h a c is g at
     acts (Work t) at = work_can s e u cs h a c is t (ap section_in at) (ap carried_by at)
-    acts (Hint t) at = record { works = work_can s e u cs h a c is t (ap section_in at) (ap carried_by at); thread = thread_runs t (ap section_in at) (ap carried_by at) }
+    acts (Hint t) at =
+        record { works = work_can s e u cs h a c is t (ap section_in at) (ap carried_by at); thread = thread_runs t (ap section_in at) (ap carried_by at) }
     acts Return at = record { works = work_can s e u cs h a c is None (ap section_in at) (ap carried_by at); thread = tt }
     acts (User t) at = thread_runs (Some t) (ap section_in at) (ap carried_by at)
     acts (Look looks) at = subst IsState at (h.contexts a c is).state
@@ -56,11 +57,13 @@ module _ (s : Setting) (e : ℕ) (u : Package) (cs : Contexts Context) (h : IsSt
       acts = acts c.state refl;
     }
 
-  -- where it stands, and a run of local instructions
+  -- where it is, and a run of local instructions
   pub seat_can : IsThread (carried_by c.state)
   seat_can = thread_there c.state refl where
     thread_there : (state : ContextState) → c.state ≡ state → IsThread (carried_by state)
-    thread_there state at = subst (λ x. IsThread (carried_by x)) at (own_thread s e u cs h a c is (carried_by c.state) (λ x. let less = carried_less c.state c.sections x in omega arith))
+    thread_there state at =
+        subst (λ x. IsThread (carried_by x)) at
+        (own_thread s e u cs h a c is (carried_by c.state) (λ x. let less = carried_less c.state c.sections x in omega arith))
 
   pub go_can : (n : ℕ) → GoesOn s n (local_at u c.state) → CanGo u c
   go_can n local = go_at c.state refl local where

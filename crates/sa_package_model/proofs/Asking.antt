@@ -46,7 +46,8 @@ use Rattle.sa_package_model.proofs.Settled.{can-resettled}
 owed_fits : (demand processors load n : ℕ) → more_owed demand processors load ≡ Some n → (1 ≤ n) × (demand + n ≤ processors)
 owed_fits demand processors load n e =
     let most : usable processors load ≤ processors = grind (arith, nat_tests) in
-    elim (nat_le (usable processors load) demand) as (λ b. b ≡ nat_le (usable processors load) demand → cond b None (Some (usable processors load - demand)) ≡ Some n → (1 ≤ n) × (demand + n ≤ processors)) [
+    elim (nat_le (usable processors load) demand) as (λ b. b ≡ nat_le (usable processors load) demand
+    → cond b None (Some (usable processors load - demand)) ≡ Some n → (1 ≤ n) × (demand + n ≤ processors)) [
       | true ↦ λ test is. absurd cc
       | false ↦ λ test is.
           let more : demand < usable processors load = grind (arith, nat_tests) in
@@ -66,15 +67,18 @@ told_blocks x w t b answer.Goes = tt
 told_blocks x w t b answer.Waits = tt
 told_blocks x w t b (answer.Wakes u) = tt
 
-forked_blocks : (x : Shared) (w : Option ThreadNo) (t : ThreadNo) (b : Block) (reg : Reg) (program : ℕ) (made : Option ℕ) → CanBlock (forked x w t b reg program made).answer
+forked_blocks : (x : Shared) (w : Option ThreadNo) (t : ThreadNo) (b : Block) (reg : Reg) (program : ℕ) (made : Option ℕ)
+    → CanBlock (forked x w t b reg program made).answer
 forked_blocks x w t b reg program None = tt
 forked_blocks x w t b reg program (Some n) = tt
 
-touched_blocks : (x : Shared) (w : Option ThreadNo) (t : ThreadNo) (b : Block) (fetch page : ℕ) (there : Bool) → 1 ≤ fetch → fetch ≤ MAX_FETCH → FIRST_THREAD_PAGE ≤ page → page ≤ LAST_PAGE → CanBlock (touched x w t b fetch page there).answer
+touched_blocks : (x : Shared) (w : Option ThreadNo) (t : ThreadNo) (b : Block) (fetch page : ℕ) (there : Bool) → 1 ≤ fetch → fetch ≤ MAX_FETCH
+    → FIRST_THREAD_PAGE ≤ page → page ≤ LAST_PAGE → CanBlock (touched x w t b fetch page there).answer
 touched_blocks x w t b fetch page true some few first last = tt
 touched_blocks x w t b fetch page false some few first last = (some, omega arith, (omega arith, omega arith))
 
-blocks : (fetch pages : ℕ) (x : Shared) (w : Option ThreadNo) (t : ThreadNo) (b : Block) (i : Instr) → 1 ≤ fetch → fetch ≤ MAX_FETCH → IsInRange i → CanBlock (outcome_of fetch pages x w t b i).answer
+blocks : (fetch pages : ℕ) (x : Shared) (w : Option ThreadNo) (t : ThreadNo) (b : Block) (i : Instr) → 1 ≤ fetch → fetch ≤ MAX_FETCH → IsInRange i
+    → CanBlock (outcome_of fetch pages x w t b i).answer
 blocks fetch pages x w t b Compute some few range = tt
 blocks fetch pages x w t b (Set reg n) some few range = tt
 blocks fetch pages x w t b (Add reg other) some few range = tt
@@ -130,7 +134,8 @@ module _ (s : Setting) (u : Package) (seen : Seen) (made : IsMadeFor s u) where
 
   worked_asks : (c : Context) (f : Option Frame) (first : Option ThreadNo) → IsAsked s seen (worked u seen c f first).answer
   worked_asks c (Some f) first = tt
-  worked_asks c None (Some first) = let m = micro u.shared.state (push_of seen.proc (own_list u seen.proc) first (carried_by c.state)) seen.pages in pushing_asks c first m m.done
+  worked_asks c None (Some first) = let m = micro u.shared.state (push_of seen.proc (own_list u seen.proc) first (carried_by c.state)) seen.pages in
+      pushing_asks c first m m.done
   worked_asks c None None = tt
 
   hinted_asks : (c : Context) (more : Option ℕ) → owed u seen ≡ more → IsAsked s seen (hinted u c more).answer
@@ -182,7 +187,8 @@ module _ (s : Setting) (u : Package) (seen : Seen) (made : IsMadeFor s u) where
   asks_at c Return bulk act = let h : nat_le BULK_RETURN seen.taken ≡ true = bulk in grind (arith, nat_tests)
   asks_at c (User t) bulk act =
       let b = block_at u.shared.threads t.0 in
-      used_asks _ _ t _ _ (blocks u.fetch seen.pages u.shared c.work t b (instr_of u.def b) some_fetch few_fetch (in_range u.def b (subst IsSpace (sym made.def) made.setting.def) act.at))
+      used_asks _ _ t _ _ (blocks u.fetch seen.pages u.shared c.work t b (instr_of u.def b) some_fetch few_fetch
+      (in_range u.def b (subst IsSpace (sym made.def) made.setting.def) act.at))
   asks_at c (Look looks) bulk act = looked_asks c looks (is_idle u seen looks) (sought u.shared.state.lists (own_list u seen.proc).0) refl
 
   pub step-asks : (c : Context) → CanStep u seen c → IsAsked s seen (stepped u seen c).answer

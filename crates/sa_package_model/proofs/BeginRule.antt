@@ -1,11 +1,10 @@
 -- All stands at the opening, stays so at later events, with a fresh context, and where a context settles.
-use Rattle.std.proofs.Common.{◌≡◌, ◌≢◌, ℕ, zero, suc, ◌+◌, ◌≤◌, Bool, true, false, cond, List, [], ◌∷◌, ◌++◌, length, map, set, replicate, get_or, Some, None, refl, sym, ap, ◌∙◌, subst, inl, inr, arith}
+use Rattle.std.proofs.Common.{◌≡◌, ◌≢◌, ℕ, zero, suc, ◌+◌, ◌≤◌, Bool, true, false, cond, List, [], length, map, set, replicate, get_or, Some, None, refl, sym, ap, ◌∙◌, subst, inl, inr, arith}
 use Rattle.std.specs.Prelude.{All}
 use Rattle.std.proofs.lemmas.Bool.{cases_eq, cases_lt}
 use Rattle.std.proofs.lemmas.Bool.Decides.{nat_tests}
 use Rattle.std.proofs.lemmas.List.{length-set, length-map, length-replicate, get_or-map, get_or_past, get_or-set_same, get_or-set_other}
 use Rattle.std.proofs.lemmas.List.Elements.{All-get_or}
-use Rattle.std.proofs.lemmas.List.Sums.{sum_by-append, sum_by-cons}
 use Rattle.sa_base.specs.declared.limits.TheConstants.{MAX_PROCESSORS, MAX_THREADS}
 use Rattle.sa_base.specs.declared.context.Seen.{Seen}
 use Rattle.sa_instr.specs.declared.limits.TheConstants.{MAX_START}
@@ -15,14 +14,14 @@ use Rattle.sa_abstract.specs.Setting.{Setting, IsSetting}
 use Rattle.sa_abstract.specs.Calls.{Contexts}
 use Rattle.sa_abstract.specs.Walk.{program_at}
 use Rattle.sa_lemmas.specs.Function.{put}
-use Rattle.sa_links.specs.Lists.{list_at, count_in, count_in_all}
-use Rattle.sa_links.proofs.Counting.{count_set}
+use Rattle.sa_links.specs.Lists.{list_at, count_in_all}
+use Rattle.sa_links.proofs.Counting.{count_set, count-replicate, empty_lists}
 use Rattle.sa_lists.specs.declared.ranks.Ranks.{Ranks}
 use Rattle.sa_lists.specs.declared.ranks.Ranks.TheVariants.{One, Many}
 use Rattle.sa_lists.specs.ReadyView.{AreListsFor, ReadyView, no_threads, with_made, with_lock, pushed, is_locked, IsReady, inserted}
 use Rattle.sa_lists.proofs.Changes.{ready-with_made, ready-with_lock, ready-pushed, count-inserted}
-use Rattle.sa_sync.specs.Sync.{Mutex, Semaphore, free_mutex, semaphore_of, semaphore_at, opening, waits_of}
-use Rattle.sa_sync.proofs.Lists.{map-replicate}
+use Rattle.sa_sync.specs.Sync.{Semaphore, free_mutex, semaphore_of, semaphore_at, opening, waits_of}
+use Rattle.sa_sync.proofs.LawLemmas.{opening-waits}
 use Rattle.sa_code.proofs.Kept.{begun-package}
 use Rattle.sa_copies.specs.Copies.{package_ops}
 use Rattle.sa_fast.specs.declared.threads.Place.{Place}
@@ -48,45 +47,7 @@ use Rattle.sa_package_model.proofs.Changing.{IsChange, still-change, change-stan
 use Rattle.sa_package_model.proofs.Parts.{parts_later}
 use Rattle.sa_package_model.proofs.WorkRule.{settled-change}
 
--- THE OPENING. Lists of which none has anything
-empty_lists : (n l : ℕ) → list_at (replicate n []) l ≡ []
-empty_lists zero l = refl
-empty_lists (suc n) zero = refl
-empty_lists (suc n) (suc l) = empty_lists n l
-
-empties : (n t : ℕ) → count_in_all t (replicate n []) ≡ 0
-empties zero t = refl
-empties (suc n) t = let none : List ℕ = [] in omega (arith, sum_by-cons (count_in t) none (replicate n none), empties n t)
-
-no_waits : (t : ℕ) (starts : List ℕ) → count_in_all t (map (λ (k : Semaphore). k.queue) (map semaphore_of starts)) ≡ 0
-no_waits t [] = refl
-no_waits t (start ∷ starts) =
-    let none : List ℕ = [] in
-    omega (arith, sum_by-cons (count_in t) none (map (λ (k : Semaphore). k.queue) (map semaphore_of starts)), no_waits t starts)
-
-opening_waits : (def : SpaceView) (t : ℕ) → waits_of (opening def) t ≡ 0
-opening_waits def t = all_none MAX_THREADS where
-  mutexes : List (List ℕ)
-  mutexes = map (λ (m : Mutex). m.queue) (replicate def.mutexes free_mutex)
-
-  semaphores : List (List ℕ)
-  semaphores = map (λ (k : Semaphore). k.queue) (map semaphore_of def.sems)
-
-  no_mutex : count_in_all t mutexes ≡ 0
-  no_mutex = ap (count_in_all t) (map-replicate (λ (m : Mutex). m.queue) def.mutexes free_mutex) ∙ empties def.mutexes t
-
-  all_none : (n : ℕ) → count_in_all t (replicate n [] ++ mutexes ++ semaphores) ≡ 0
-  all_none n =
-      let none : List ℕ = [] in
-      omega (
-        arith,
-        sum_by-append (count_in t) (replicate n none ++ mutexes) semaphores,
-        sum_by-append (count_in t) (replicate n none) mutexes,
-        empties n t,
-        no_mutex,
-        no_waits t def.sems,
-      )
-
+-- THE OPENING
 all_false : (n i : ℕ) → get_or (replicate n false) i false ≡ false
 all_false zero i = refl
 all_false (suc n) zero = refl
@@ -130,7 +91,7 @@ opened_count ranks processors t some =
     omega (
       arith,
       first,
-      empties count t,
+      count-replicate t count,
       count_one t 0 (list_at lists 0),
       count-inserted rs 0 t (list_at lists 0),
       count_set t lists 0 (inserted rs 0 (list_at lists 0)) (omega (arith, some_lists ranks processors some, length-replicate count none)),
@@ -141,19 +102,21 @@ opened_ready ranks s h =
     let none : List ℕ = [] in
     let count = lists_for ranks s.processors in
     let unopened : ReadyView = no_threads count ranks MAX_THREADS in
-    let ready : IsReady unopened = (begun-package s.space package_ops count ranks MAX_THREADS (few_lists ranks s.processors h.few_processors) (omega arith)).ready in
+    let ready : IsReady unopened =
+    (begun-package s.space package_ops count ranks MAX_THREADS (few_lists ranks s.processors h.few_processors) (omega arith)).ready in
     let one : ReadyView = with_made unopened 0 (Some 0) in
     let one_ready : IsReady one = ready-with_made unopened 0 ready in
     let taken : ReadyView = with_lock one 0 true in
     let taken_ready : IsReady taken = ready-with_lock one 0 true one_ready in
     ready-with_lock (pushed taken 0 0) 0 false
-    (ready-pushed taken 0 0 taken_ready (omega (arith, some_lists ranks s.processors h.some_processor, length-replicate count none)) (omega arith) (empties count 0))
+    (ready-pushed taken 0 0 taken_ready (omega (arith, some_lists ranks s.processors h.some_processor, length-replicate count none)) (omega arith)
+    (count-replicate 0 count))
 
 opened_works : (n : ℕ) → n ≡ MAX_THREADS → AreWorks (replicate n [])
 opened_works n all = record {
   named = named-new (record { nodes = MAX_THREADS; lists = replicate n [] }) MAX_THREADS n refl all refl;
-  below = λ t some. absurd (omega (arith, some, empties n t));
-  once = λ t. omega (arith, empties n t);
+  below = λ t some. absurd (omega (arith, some, count-replicate t n));
+  once = λ t. omega (arith, count-replicate t n);
 }
 
 opening_fits : (def : SpaceView) → FitsSpace def (opening def)
@@ -167,8 +130,10 @@ opening_fits def = record {
 
 opening_counts : (def : SpaceView) (k : ℕ) → All (λ start. start ≤ MAX_START) def.sems → (semaphore_at (opening def) k).count ≤ MAX_START
 opening_counts def k few = elim (cases_lt k (length def.sems)) [
-  | inl inside ↦ subst (λ (x : Semaphore). x.count ≤ MAX_START) (sym (get_or-map semaphore_of def.sems k 0 (semaphore_of 0) inside)) (All-get_or (λ start. start ≤ MAX_START) def.sems k 0 inside few)
-  | inr past ↦ subst (λ (x : Semaphore). x.count ≤ MAX_START) (sym (get_or_past (map semaphore_of def.sems) k (semaphore_of 0) (omega (arith, past, length-map def.sems semaphore_of)))) (omega arith)
+  | inl inside ↦ subst (λ (x : Semaphore). x.count ≤ MAX_START) (sym (get_or-map semaphore_of def.sems k 0 (semaphore_of 0) inside))
+      (All-get_or (λ start. start ≤ MAX_START) def.sems k 0 inside few)
+  | inr past ↦ subst (λ (x : Semaphore). x.count ≤ MAX_START)
+      (sym (get_or_past (map semaphore_of def.sems) k (semaphore_of 0) (omega (arith, past, length-map def.sems semaphore_of)))) (omega arith)
 ]
 
 -- nothing is in a hand
@@ -182,7 +147,9 @@ all_at_rest rest all = record {
 -- thread 0 is Ready, all others are Unmade
 module _ (ranks : Ranks) (s : Setting) (h : IsSetting s) where
   place_first : place_at (started_with ranks s).shared 0 ≡ Ready
-  place_first = ap (λ (b : Block). b.place) (get_or-set_same (replicate MAX_THREADS unmade) 0 (at_start 0 Ready) unmade (omega (arith, length-replicate MAX_THREADS unmade)))
+  place_first =
+      ap (λ (b : Block). b.place) (get_or-set_same (replicate MAX_THREADS unmade) 0 (at_start 0 Ready) unmade
+      (omega (arith, length-replicate MAX_THREADS unmade)))
 
   place_rest : (t : ℕ) → t ≢ 0 → place_at (started_with ranks s).shared t ≡ Unmade
   place_rest t ne = ap (λ (b : Block). b.place) (get_or-set_other (replicate MAX_THREADS unmade) 0 t (at_start 0 Ready) unmade ne ∙ all_unmade MAX_THREADS t)
@@ -191,14 +158,16 @@ module _ (ranks : Ranks) (s : Setting) (h : IsSetting s) where
   ends t = ap (λ b. cond b 1 0) (all_false MAX_THREADS t)
 
   abbrev Agrees : ℕ → Place → Type 0
-  Agrees t p = AgreesBy (count_in_all t (opened ranks s.processors).lists) (waits_of (opening s.def) t) (done_at (opening s.def) t) (unmade_at (opened ranks s.processors) t) p
+  Agrees t p =
+      AgreesBy (count_in_all t (opened ranks s.processors).lists) (waits_of (opening s.def) t) (done_at (opening s.def) t)
+      (unmade_at (opened ranks s.processors) t) p
 
   agrees_first : Agrees 0 Ready
   agrees_first =
       let made : unmade_at (opened ranks s.processors) 0 ≡ 0 = refl in
       record {
         ready = omega (arith, opened_count ranks s.processors 0 h.some_processor, made);
-        waiting = omega (arith, opening_waits s.def 0);
+        waiting = omega (arith, opening-waits s.def 0);
         ends = ends 0;
         new = made;
       }
@@ -208,7 +177,7 @@ module _ (ranks : Ranks) (s : Setting) (h : IsSetting s) where
       let made : unmade_at (opened ranks s.processors) t ≡ 1 = unmade_above (opened ranks s.processors) t (omega arith) in
       record {
         ready = omega (arith, opened_count ranks s.processors t h.some_processor, made);
-        waiting = omega (arith, opening_waits s.def t);
+        waiting = omega (arith, opening-waits s.def t);
         ends = ends t;
         new = made;
       }
@@ -250,7 +219,8 @@ starts-with ranks s h =
       };
       locks = all_at_rest (free_locks (opened ranks s.processors)) (λ l. ap (λ b. cond b 0 1) (opened_free ranks s.processors l h.some_processor));
       threads = all_at_rest (threads_at_rest (started_with ranks s).shared)
-          (λ t. let ends : done_at (opening s.def) t ≡ 0 = ap (λ b. cond b 1 0) (all_false MAX_THREADS t) in omega (arith, opened_count ranks s.processors t h.some_processor, opening_waits s.def t, ends));
+          (λ t. let ends : done_at (opening s.def) t ≡ 0 = ap (λ b. cond b 1 0) (all_false MAX_THREADS t) in
+          omega (arith, opened_count ranks s.processors t h.some_processor, opening-waits s.def t, ends));
       works = all_at_rest (empty_at (replicate MAX_THREADS [])) (λ l. ap one_if_empty (empty_lists MAX_THREADS l));
       places = started_places ranks s h;
       carries = all_at_rest (not_carried (started_with ranks s).shared) (started_carries ranks s h);

@@ -49,7 +49,8 @@ sections_kept r s (f ∷ fs) same h =
 pub hand_kept : (works after : List (List ℕ)) (c : Context) → ((n : ThreadNo) → c.work ≡ Some n → list_at after n.0 ≡ list_at works n.0)
     → (t : ℕ) → threads_of after (Some c) t ≡ threads_of works (Some c) t
 hand_kept works after c same t =
-    ap (λ (xs : List ℕ). threads_in (sections_of c) t + one_of (thread_alone (section_in c.state) (carried_by c.state)) t + count_in t xs) (kept_by c.work same) where
+    ap (λ (xs : List ℕ). threads_in (sections_of c) t + one_of (thread_alone (section_in c.state) (carried_by c.state)) t + count_in t xs)
+    (kept_by c.work same) where
       kept_by : (w : Option ThreadNo) → ((n : ThreadNo) → w ≡ Some n → list_at after n.0 ≡ list_at works n.0) → work_of after w ≡ work_of works w
       kept_by None h = refl
       kept_by (Some n) h = h n refl
@@ -94,7 +95,8 @@ module _ (s : Setting) (e : ℕ) (u : Package) (cs : Contexts Context) (h : IsSt
   other_hand after b (Some c) is same t = hand_kept u.shared.works after c (λ n e. same n.0 (let one = names_own c n e in omega arith)) t
 
   -- A CHANGE
-  pub change-stands : (f a : ℕ) (v : Package) (old : Option Context) (new : Context) → cs a ≡ old → IsChange s f u v old new → IsStanding s f v (put cs a (Some new))
+  pub change-stands : (f a : ℕ) (v : Package) (old : Option Context) (new : Context) → cs a ≡ old → IsChange s f u v old new
+      → IsStanding s f v (put cs a (Some new))
   change-stands f a v old new is k =
       let here : put cs a (Some new) a ≡ Some new = put-same cs a (Some new) in
       let there : (b : ℕ) → b ≢ a → put cs a (Some new) b ≡ cs b = λ b ne. put-other cs a b (Some new) ne in
@@ -102,11 +104,16 @@ module _ (s : Setting) (e : ℕ) (u : Package) (cs : Contexts Context) (h : IsSt
         made = k.made;
         code = k.code;
         parts = k.parts;
-        locks = moves (free_locks u.shared.state.lists) (free_locks v.shared.state.lists) (λ b. locks_of (cs b)) (λ b. locks_of (put cs a (Some new) b)) a h.locks
-            (λ l. ap (λ x. free_locks v.shared.state.lists l + locks_of x l) here ∙ k.locks l ∙ ap (λ x. free_locks u.shared.state.lists l + locks_of x l) (sym is))
+        locks =
+            moves (free_locks u.shared.state.lists) (free_locks v.shared.state.lists) (λ b. locks_of (cs b)) (λ b. locks_of (put cs a (Some new) b)) a h.locks
+            (λ l. ap (λ x. free_locks v.shared.state.lists l + locks_of x l) here ∙ k.locks l
+            ∙ ap (λ x. free_locks u.shared.state.lists l + locks_of x l) (sym is))
             (λ b l ne. ap (λ x. locks_of x l) (there b ne));
-        threads = moves (threads_at_rest u.shared) (threads_at_rest v.shared) (λ b. threads_of u.shared.works (cs b)) (λ b. threads_of v.shared.works (put cs a (Some new) b)) a h.threads
-            (λ t. ap (λ x. threads_at_rest v.shared t + threads_of v.shared.works x t) here ∙ k.threads t ∙ ap (λ x. threads_at_rest u.shared t + threads_of u.shared.works x t) (sym is))
+        threads =
+            moves (threads_at_rest u.shared) (threads_at_rest v.shared) (λ b. threads_of u.shared.works (cs b))
+            (λ b. threads_of v.shared.works (put cs a (Some new) b)) a h.threads
+            (λ t. ap (λ x. threads_at_rest v.shared t + threads_of v.shared.works x t) here ∙ k.threads t
+            ∙ ap (λ x. threads_at_rest u.shared t + threads_of u.shared.works x t) (sym is))
             (λ b t ne. ap (λ x. threads_of v.shared.works x t) (there b ne)
             ∙ other_hand v.shared.works b (cs b) refl (λ l some. k.works l (ap (λ x. name_of x l) (sym is) ∙ name_none a b l ne some) (name_full b l some)) t);
         works = moves (empty_at u.shared.works) (empty_at v.shared.works) (λ b. name_of (cs b)) (λ b. name_of (put cs a (Some new) b)) a h.works
@@ -151,14 +158,26 @@ module _ (s : Setting) (e : ℕ) (u : Package) (cs : Contexts Context) (h : IsSt
 
   -- the same value and contexts stand at a later event, where the parts do
   pub later-stands : (f : ℕ) → ArePartsFor u.def u.processors f u.shared → IsStanding s f u cs
-  later-stands f parts = record { made = h.made; code = h.code; parts = parts; locks = h.locks; threads = h.threads; works = h.works; places = h.places; carries = h.carries; contexts = h.contexts }
+  later-stands f parts =
+      record {
+        made = h.made;
+        code = h.code;
+        parts = parts;
+        locks = h.locks;
+        threads = h.threads;
+        works = h.works;
+        places = h.places;
+        carries = h.carries;
+        contexts = h.contexts;
+      }
 
 -- ONE CONTEXT IS TAKEN OVER: what is to be shown of it
 pub record IsJoin (s : Setting) (event : ℕ) (u v : Package) (c d new : Context) : Type 0 where
   pub made : IsMadeFor s v
   pub code : v.shared.state.code ≡ package_ops
   pub parts : ArePartsFor v.def v.processors event v.shared
-  pub locks : (l : ℕ) → free_locks v.shared.state.lists l + locks_of (Some new) l ≡ free_locks u.shared.state.lists l + locks_of (Some c) l + locks_of (Some d) l
+  pub locks : (l : ℕ) → free_locks v.shared.state.lists l + locks_of (Some new) l
+      ≡ free_locks u.shared.state.lists l + locks_of (Some c) l + locks_of (Some d) l
   pub threads : (t : ℕ) → threads_at_rest v.shared t + threads_of v.shared.works (Some new) t
       ≡ threads_at_rest u.shared t + threads_of u.shared.works (Some c) t + threads_of u.shared.works (Some d) t
   pub names : (l : ℕ) → empty_at v.shared.works l + name_of (Some new) l ≡ empty_at u.shared.works l + name_of (Some c) l + name_of (Some d) l
@@ -183,27 +202,33 @@ module _ (s : Setting) (e : ℕ) (u : Package) (cs : Contexts Context) (h : IsSt
         parts = k.parts;
         locks = joins (free_locks u.shared.state.lists) (free_locks v.shared.state.lists) (λ x. locks_of (cs x)) (λ x. locks_of (ds x)) a b h.locks ne
             (λ l. ap (λ x. free_locks v.shared.state.lists l + locks_of x l) at_a ∙ k.locks l
-            ∙ ap (λ x. free_locks u.shared.state.lists l + locks_of x l + locks_of (Some d) l) (sym is_a) ∙ ap (λ x. free_locks u.shared.state.lists l + locks_of (cs a) l + locks_of x l) (sym is_b))
+            ∙ ap (λ x. free_locks u.shared.state.lists l + locks_of x l + locks_of (Some d) l) (sym is_a)
+            ∙ ap (λ x. free_locks u.shared.state.lists l + locks_of (cs a) l + locks_of x l) (sym is_b))
             (λ l. ap (λ x. locks_of x l) at_b)
             (λ x l na nb. ap (λ y. locks_of y l) (there x na nb));
-        threads = joins (threads_at_rest u.shared) (threads_at_rest v.shared) (λ x. threads_of u.shared.works (cs x)) (λ x. threads_of v.shared.works (ds x)) a b h.threads ne
+        threads =
+            joins (threads_at_rest u.shared) (threads_at_rest v.shared) (λ x. threads_of u.shared.works (cs x))
+            (λ x. threads_of v.shared.works (ds x)) a b h.threads ne
             (λ t. ap (λ x. threads_at_rest v.shared t + threads_of v.shared.works x t) at_a ∙ k.threads t
             ∙ ap (λ x. threads_at_rest u.shared t + threads_of u.shared.works x t + threads_of u.shared.works (Some d) t) (sym is_a)
             ∙ ap (λ x. threads_at_rest u.shared t + threads_of u.shared.works (cs a) t + threads_of u.shared.works x t) (sym is_b))
             (λ t. ap (λ x. threads_of v.shared.works x t) at_b)
             (λ x t na nb. ap (λ y. threads_of v.shared.works y t) (there x na nb)
             ∙ other_hand s e u cs h v.shared.works x (cs x) refl
-            (λ l some. k.works l (ap (λ y. name_of y l) (sym is_a) ∙ name_none s e u cs h a x l na some) (ap (λ y. name_of y l) (sym is_b) ∙ name_none s e u cs h b x l nb some)
+            (λ l some. k.works l (ap (λ y. name_of y l) (sym is_a) ∙ name_none s e u cs h a x l na some)
+            (ap (λ y. name_of y l) (sym is_b) ∙ name_none s e u cs h b x l nb some)
             (name_full s e u cs h x l some)) t);
         works = joins (empty_at u.shared.works) (empty_at v.shared.works) (λ x. name_of (cs x)) (λ x. name_of (ds x)) a b h.works ne
             (λ l. ap (λ x. empty_at v.shared.works l + name_of x l) at_a ∙ k.names l
-            ∙ ap (λ x. empty_at u.shared.works l + name_of x l + name_of (Some d) l) (sym is_a) ∙ ap (λ x. empty_at u.shared.works l + name_of (cs a) l + name_of x l) (sym is_b))
+            ∙ ap (λ x. empty_at u.shared.works l + name_of x l + name_of (Some d) l) (sym is_a)
+            ∙ ap (λ x. empty_at u.shared.works l + name_of (cs a) l + name_of x l) (sym is_b))
             (λ l. ap (λ x. name_of x l) at_b)
             (λ x l na nb. ap (λ y. name_of y l) (there x na nb));
         places = k.places;
         carries = joins (not_carried u.shared) (not_carried v.shared) (λ x. carried_of (cs x)) (λ x. carried_of (ds x)) a b h.carries ne
             (λ t. ap (λ x. not_carried v.shared t + carried_of x t) at_a ∙ k.carries t
-            ∙ ap (λ x. not_carried u.shared t + carried_of x t + carried_of (Some d) t) (sym is_a) ∙ ap (λ x. not_carried u.shared t + carried_of (cs a) t + carried_of x t) (sym is_b))
+            ∙ ap (λ x. not_carried u.shared t + carried_of x t + carried_of (Some d) t) (sym is_a)
+            ∙ ap (λ x. not_carried u.shared t + carried_of (cs a) t + carried_of x t) (sym is_b))
             (λ t. ap (λ x. carried_of x t) at_b)
             (λ x t na nb. ap (λ y. carried_of y t) (there x na nb));
         contexts = λ x y at. elim (cases_eq x b) [

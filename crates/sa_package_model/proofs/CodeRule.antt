@@ -41,7 +41,7 @@ use Rattle.sa_package_model.proofs.Holding.{lock_once, own_locked, own_inside, o
 use Rattle.sa_package_model.proofs.PlaceFacts.{IsPlaceable, agree_one, agree_in_hand, put_down, picked_up, put_still, rest_not_carried, own_placeable, own_at_rest, beside_placeable, blocked_hand, carried_hand_place}
 use Rattle.sa_package_model.proofs.Parts.{parts_placed, parts_state, parts_works, made_with, due-step, lock_freed, count_chosen}
 
--- where a context stands in the code
+-- where a context is in the code
 place_cases : (f : Frame) (op : Option Op) → StandsAt f op → (is_section_op op ≡ true) ⊎ ((op ≡ Some Yield) × (f.pushed ≡ None))
 place_cases f None h = absurd h
 place_cases f (Some TakePush) h = absurd h
@@ -56,7 +56,8 @@ some_pushed : (t : Option ThreadNo) → IsSome t → (n : ThreadNo) × (t ≡ So
 some_pushed None h = absurd cc
 some_pushed (Some n) h = (n, refl)
 
-module _ (s : Setting) (e : ℕ) (u : Package) (cs : Contexts Context) (h : IsStanding s e u cs) (a : ℕ) (c : Context) (is : cs a ≡ Some c) (f : Frame) (at : c.state ≡ Code f) where
+module _ (s : Setting) (e : ℕ) (u : Package) (cs : Contexts Context) (h : IsStanding s e u cs) (a : ℕ) (c : Context) (is : cs a ≡ Some c) (f : Frame)
+    (at : c.state ≡ Code f) where
   here : IsContext u.shared.state.lists c
   here = h.contexts a c is
 
@@ -84,7 +85,8 @@ module _ (s : Setting) (e : ℕ) (u : Package) (cs : Contexts Context) (h : IsSt
     locks_are : (m : ℕ) → locks_of (Some c) m ≡ one_if (list_in f).0 m + locks_in c.sections m
     locks_are = section_locks c f k at copy
 
-    threads_are : (x : ℕ) → threads_of u.shared.works (Some c) x ≡ one_of f.thread x + one_of f.pushed x + threads_in c.sections x + 0 + count_in x (work_of u.shared.works c.work)
+    threads_are : (x : ℕ) → threads_of u.shared.works (Some c) x
+        ≡ one_of f.thread x + one_of f.pushed x + threads_in c.sections x + 0 + count_in x (work_of u.shared.works c.work)
     threads_are = section_threads c f k at copy u.shared.works
 
     fits : Fits u.shared.state.lists f (slice_get package_ops f.pc)
@@ -144,7 +146,8 @@ module _ (s : Setting) (e : ℕ) (u : Package) (cs : Contexts Context) (h : IsSt
     } where
       own_due_here : CanBeDue u.shared f.thread
       own_due_here = own_due s e u cs h a c is f.thread (λ x.
-          let all : threads_in (sections_of c) x ≡ one_of f.thread x + one_of f.pushed x + threads_in c.sections x = ap (λ fs. threads_in fs x) (section_sections c f k at copy) in omega arith)
+          let all : threads_in (sections_of c) x ≡ one_of f.thread x + one_of f.pushed x + threads_in c.sections x =
+          ap (λ fs. threads_in fs x) (section_sections c f k at copy) in omega arith)
 
   -- AT A COPY'S END
   yield_can : slice_get package_ops f.pc ≡ Some Yield → f.pushed ≡ None → CanCode u f
@@ -155,7 +158,8 @@ module _ (s : Setting) (e : ℕ) (u : Package) (cs : Contexts Context) (h : IsSt
         pushes = subst IsThread (sym none) tt;
         carries = own_due s e u cs h a c is f.thread (λ x.
             let no : section_in c.state ≡ None = ap section_in at ∙ between.section in
-            let alone : thread_alone (section_in c.state) (carried_by c.state) ≡ f.thread = ap (λ o. thread_alone o (carried_by c.state)) no ∙ ap carried_by at in
+            let alone : thread_alone (section_in c.state) (carried_by c.state) ≡ f.thread =
+            ap (λ o. thread_alone o (carried_by c.state)) no ∙ ap carried_by at in
             let one : one_of (thread_alone (section_in c.state) (carried_by c.state)) x ≡ one_of f.thread x = ap (λ t. one_of t x) alone in omega arith);
       }
 
@@ -189,7 +193,8 @@ module _ (s : Setting) (e : ℕ) (u : Package) (cs : Contexts Context) (h : IsSt
 
     module _ (k : ℕ) (copy : copy_at f.pc ≡ Some k) where
       -- the effect of a push
-      pushes_so : (t : ThreadNo) → slice_get package_ops f.pc ≡ Some Push → f.pushed ≡ Some t → Keeps (Some Push) (pushed u.shared.state f true (list_in f) (Some t))
+      pushes_so : (t : ThreadNo) → slice_get package_ops f.pc ≡ Some Push → f.pushed ≡ Some t
+          → Keeps (Some Push) (pushed u.shared.state f true (list_in f) (Some t))
       pushes_so t op pushes sound =
           let m = pushed u.shared.state f true (list_in f) (Some t) in
           let g : Frame = m.frame in
@@ -204,42 +209,52 @@ module _ (s : Setting) (e : ℕ) (u : Package) (cs : Contexts Context) (h : IsSt
             made = made_with s u x h.made refl;
             code = h.code;
             parts = parts_placed u.def u.processors e (record u.shared { state = m.state }) f.pushed Ready
-                (parts_state u.def u.processors e (list_in f).0 u.shared m.state h.parts sound (pushed-changes_only u.shared.state f true (list_in f) (Some t)));
+                (parts_state u.def u.processors e (list_in f).0 u.shared m.state h.parts sound
+                (pushed-changes_only u.shared.state f true (list_in f) (Some t)));
             locks = λ y. omega (arith, section_locks new g copied.0 refl copied.1 y, locks_are k copy y);
             threads = λ y.
-                let all = count-with_list u.shared.state.lists (list_in f).0 y (inserted u.shared.state.lists.ranks t.0 (list_of u.shared.state.lists (list_in f).0)) (inside k copy) in
+                let all = count-with_list u.shared.state.lists (list_in f).0 y
+                (inserted u.shared.state.lists.ranks t.0 (list_of u.shared.state.lists (list_in f).0)) (inside k copy) in
                 let more = count-inserted u.shared.state.lists.ranks t.0 y (list_of u.shared.state.lists (list_in f).0) in
                 let one = count_one y t.0 (list_of u.shared.state.lists (list_in f).0) in
                 let gone : one_of f.pushed y ≡ one_if t.0 y = ap (λ p. one_of p y) pushes in
                 omega (arith, section_threads new g copied.0 refl copied.1 u.shared.works y, threads_are k copy y);
             names = λ y. refl;
             works = λ y p q. refl;
-            lists = λ y none held. list_of-with_list_other u.shared.state.lists (list_in f).0 y (inserted u.shared.state.lists.ranks t.0 (list_of u.shared.state.lists (list_in f).0)) (apart_others k copy y none);
+            lists =
+                λ y none held. list_of-with_list_other u.shared.state.lists (list_in f).0 y
+                (inserted u.shared.state.lists.ranks t.0 (list_of u.shared.state.lists (list_in f).0)) (apart_others k copy y none);
             places = subst (λ p. (y : ℕ) → AgreesAt (placed (record u.shared { state = m.state }) p Ready) y) (sym pushes)
                 (agree_one (record u.shared { state = m.state }) t Ready (pushed_placeable.inside t pushes)
-                (let all = count-with_list u.shared.state.lists (list_in f).0 t.0 (inserted u.shared.state.lists.ranks t.0 (list_of u.shared.state.lists (list_in f).0)) (inside k copy) in
+                (let all = count-with_list u.shared.state.lists (list_in f).0 t.0
+                (inserted u.shared.state.lists.ranks t.0 (list_of u.shared.state.lists (list_in f).0)) (inside k copy) in
                 let more = count-inserted u.shared.state.lists.ranks t.0 t.0 (list_of u.shared.state.lists (list_in f).0) in
                 let one = count_one t.0 t.0 (list_of u.shared.state.lists (list_in f).0) in let same = one_same t.0 t.0 refl in
                 let none = own_rest s e u cs h a c is t.0 (own_pushed k copy t pushes) in
                 record { ready = omega arith; waiting = omega arith; ends = omega arith; new = omega arith })
                 (λ y ne.
-                let all = count-with_list u.shared.state.lists (list_in f).0 y (inserted u.shared.state.lists.ranks t.0 (list_of u.shared.state.lists (list_in f).0)) (inside k copy) in
+                let all = count-with_list u.shared.state.lists (list_in f).0 y
+                (inserted u.shared.state.lists.ranks t.0 (list_of u.shared.state.lists (list_in f).0)) (inside k copy) in
                 let more = count-inserted u.shared.state.lists.ranks t.0 y (list_of u.shared.state.lists (list_in f).0) in
                 let one = count_one y t.0 (list_of u.shared.state.lists (list_in f).0) in let other = one_other t.0 y (λ q. ne (sym q)) in
                 let was = h.places y in
                 let ready = was.ready in
                 record { ready = omega arith; waiting = was.waiting; ends = was.ends; new = was.new }));
-            carries = λ y. let same = put_still (record u.shared { state = m.state }) f.pushed Ready (record { inside = pushed_placeable.inside; carried = pushed_placeable.carried }) y in
+            carries =
+                λ y. let same = put_still (record u.shared { state = m.state }) f.pushed Ready
+                (record { inside = pushed_placeable.inside; carried = pushed_placeable.carried }) y in
                 omega (arith, carried_x y);
             context = section_context new g copied.0 refl copied.1 m.state.lists
                 (subst (StandsAt g) (sym next) tt) (subst (Fits m.state.lists g) (sym next) (own.0, refl))
                 (sections_kept u.shared.state.lists m.state.lists c.sections
-                (λ y some. list_of-with_list_other u.shared.state.lists (list_in f).0 y (inserted u.shared.state.lists.ranks t.0 (list_of u.shared.state.lists (list_in f).0)) (apart_rest k copy y some)) (rest k copy));
+                (λ y some. list_of-with_list_other u.shared.state.lists (list_in f).0 y
+                (inserted u.shared.state.lists.ranks t.0 (list_of u.shared.state.lists (list_in f).0)) (apart_rest k copy y some)) (rest k copy));
           } in
           subst (λ o. IsChange s e u (with_shared u x) (Some c) (goes_on (with_shared u x) seen c g o)) (sym now) done
 
       -- the effect of a pop
-      pops_so : (t : ℕ) → slice_get package_ops f.pc ≡ Some Pop → chosen u.shared.state.lists (takes_first u.shared.state.lists f.own) (list_in f).0 ≡ Some t → Keeps (Some Pop) (popped u.shared.state f true (list_in f) (Some t))
+      pops_so : (t : ℕ) → slice_get package_ops f.pc ≡ Some Pop → chosen u.shared.state.lists (takes_first u.shared.state.lists f.own) (list_in f).0 ≡ Some t
+          → Keeps (Some Pop) (popped u.shared.state f true (list_in f) (Some t))
       pops_so t op takes sound =
           let m = popped u.shared.state f true (list_in f) (Some t) in
           let g : Frame = m.frame in
@@ -251,14 +266,17 @@ module _ (s : Setting) (e : ℕ) (u : Package) (cs : Contexts Context) (h : IsSt
           let left = without_chosen u.shared.state.lists (takes_first u.shared.state.lists f.own) (list_in f).0 in
           let own : Fits u.shared.state.lists f (Some Pop) = subst (Fits u.shared.state.lists f) op (fits k copy) in
           let listed : 1 ≤ count_in_all t u.shared.state.lists.lists =
-          (let one = count_chosen u.shared.state.lists (takes_first u.shared.state.lists f.own) (list_in f).0 t t takes in let same = one_same t t refl in let all = count_at t u.shared.state.lists.lists (list_in f).0 in omega arith) in
+          (let one = count_chosen u.shared.state.lists (takes_first u.shared.state.lists f.own) (list_in f).0 t t takes in let same = one_same t t refl in
+          let all = count_at t u.shared.state.lists.lists (list_in f).0 in omega arith) in
           let popped_rest : 1 ≤ threads_at_rest u.shared t = omega arith in
-          let popped_below : t < length u.shared.threads = (let below = h.parts.state.ready.below t listed in let all = h.parts.blocks in let most = h.parts.threads in omega arith) in
+          let popped_below : t < length u.shared.threads =
+          (let below = h.parts.state.ready.below t listed in let all = h.parts.blocks in let most = h.parts.threads in omega arith) in
           let done : IsChange s e u (with_shared u x) (Some c) new = record {
             made = made_with s u x h.made refl;
             code = h.code;
             parts = parts_placed u.def u.processors e (record u.shared { state = m.state }) g.thread Running
-                (parts_state u.def u.processors e (list_in f).0 u.shared m.state h.parts sound (popped-changes_only u.shared.state f true (list_in f) (Some t)));
+                (parts_state u.def u.processors e (list_in f).0 u.shared m.state h.parts sound
+                (popped-changes_only u.shared.state f true (list_in f) (Some t)));
             locks = λ y. omega (arith, section_locks new g copied.0 refl copied.1 y, locks_are k copy y);
             threads = λ y.
                 let all = count-with_list u.shared.state.lists (list_in f).0 y left (inside k copy) in
@@ -275,14 +293,16 @@ module _ (s : Setting) (e : ℕ) (u : Package) (cs : Contexts Context) (h : IsSt
                 record { ready = omega arith; waiting = omega arith; ends = omega arith; new = omega arith })
                 (λ y ne.
                 let all = count-with_list u.shared.state.lists (list_in f).0 y left (inside k copy) in
-                let one = count_chosen u.shared.state.lists (takes_first u.shared.state.lists f.own) (list_in f).0 t y takes in let other = one_other t y (λ q. ne (sym q)) in
+                let one = count_chosen u.shared.state.lists (takes_first u.shared.state.lists f.own) (list_in f).0 t y takes in
+                let other = one_other t y (λ q. ne (sym q)) in
                 let was = h.places y in
                 let ready = was.ready in
                 record { ready = omega arith; waiting = was.waiting; ends = was.ends; new = was.new });
             carries = λ y.
                 let up = picked_up (record u.shared { state = m.state }) (Some (thread t)) Running refl (record {
                   inside = λ n at. subst (λ (z : ThreadNo). z.0 < length u.shared.threads) (same_Some (thread t) n at) popped_below;
-                  carried = λ n at. subst (λ (z : ThreadNo). not_carried u.shared z.0 ≡ 1) (same_Some (thread t) n at) (rest_not_carried s e u cs h t popped_rest);
+                  carried =
+                      λ n at. subst (λ (z : ThreadNo). not_carried u.shared z.0 ≡ 1) (same_Some (thread t) n at) (rest_not_carried s e u cs h t popped_rest);
                 }) y in
                 let none : one_of f.thread y ≡ 0 = ap (λ p. one_of p y) own.2 in
                 omega (arith, carried_x y);
@@ -306,7 +326,13 @@ module _ (s : Setting) (e : ℕ) (u : Package) (cs : Contexts Context) (h : IsSt
             made = made_with s u (record u.shared { state = m.state }) h.made refl;
             code = h.code;
             parts = parts_state u.def u.processors e (list_in f).0 u.shared m.state h.parts sound (freed-changes_only u.shared.state f (list_in f));
-            locks = λ y. omega (arith, between_locks (at_state c state) f.thread between.section between.carries y, locks_are k copy y, lock_freed u.shared.state.lists (list_in f).0 within held y);
+            locks =
+                λ y. omega (
+                  arith,
+                  between_locks (at_state c state) f.thread between.section between.carries y,
+                  locks_are k copy y,
+                  lock_freed u.shared.state.lists (list_in f).0 within held y,
+                );
             threads = λ y.
                 let none : one_of f.pushed y ≡ 0 = ap (λ p. one_of p y) own.1 in
                 omega (arith, between_threads (at_state c state) f.thread between.section between.carries u.shared.works y, threads_are k copy y);
@@ -322,14 +348,16 @@ module _ (s : Setting) (e : ℕ) (u : Package) (cs : Contexts Context) (h : IsSt
           elim (next-free f.pc op) [
             | inl leaves ↦
                 subst (λ o. IsChange s e u v (Some c) (goes_on v seen c g o)) (sym (code_at ∙ leaves))
-                (done (settled_to f.thread (is_left c) (is_some (owed v seen)) (has_bulk seen)) (settled_between f.thread (is_left c) (is_some (owed v seen)) (has_bulk seen)))
+                (done (settled_to f.thread (is_left c) (is_some (owed v seen)) (has_bulk seen))
+                (settled_between f.thread (is_left c) (is_some (owed v seen)) (has_bulk seen)))
             | inr yields ↦
                 subst (λ o. IsChange s e u v (Some c) (goes_on v seen c g o)) (sym (code_at ∙ yields))
                 (done (Code g) (let b = yields_between g yields own.1 in record { section = b.section; carries = b.carries; is = b.is }))
           ]
 
     -- a copy gives control back
-    yields_so : slice_get package_ops f.pc ≡ Some Yield → f.pushed ≡ None → Keeps (Some Yield) (stays u.shared.state f micros.Yielded (Back u.shared.state.space f.thread ∷ []))
+    yields_so : slice_get package_ops f.pc ≡ Some Yield → f.pushed ≡ None
+        → Keeps (Some Yield) (stays u.shared.state f micros.Yielded (Back u.shared.state.space f.thread ∷ []))
     yields_so op none sound =
         let p = put_last u c f.thread in
         let step = due-step u.shared c.work f.thread h.parts.works (own_work s e u cs h a c is) (yield_can op none).carries in
@@ -341,9 +369,17 @@ module _ (s : Setting) (e : ℕ) (u : Package) (cs : Contexts Context) (h : IsSt
         record {
           made = made_with s u p.user.shared h.made refl;
           code = h.code;
-          parts = parts_works u.def u.processors e (placed u.shared f.thread Carried) p.user.shared.works (parts_placed u.def u.processors e u.shared f.thread Carried h.parts) step.works;
+          parts =
+              parts_works u.def u.processors e (placed u.shared f.thread Carried) p.user.shared.works
+              (parts_placed u.def u.processors e u.shared f.thread Carried h.parts) step.works;
           locks = λ y. omega (arith, between_locks new None state.section state.carries y, between_locks c f.thread no carries y);
-          threads = λ y. omega (arith, between_threads new None state.section state.carries p.user.shared.works y, between_threads c f.thread no carries u.shared.works y, step.threads y);
+          threads =
+              λ y. omega (
+                arith,
+                between_threads new None state.section state.carries p.user.shared.works y,
+                between_threads c f.thread no carries u.shared.works y,
+                step.threads y,
+              );
           names = λ y. step.names y;
           works = λ y p q. step.others y p q;
           lists = λ y p q. refl;
@@ -352,7 +388,8 @@ module _ (s : Setting) (e : ℕ) (u : Package) (cs : Contexts Context) (h : IsSt
               let down = put_down u.shared f.thread Carried refl thread_placeable y in
               let none : one_of (carried_by new.state) y ≡ 0 = ap (λ o. one_of o y) state.carries in
               omega (arith, carried_x y);
-          context = between_context new None state.section state.carries u.shared.state.lists state.is (between_rest c f.thread no carries u.shared.state.lists here);
+          context =
+              between_context new None state.section state.carries u.shared.state.lists state.is (between_rest c f.thread no carries u.shared.state.lists here);
         }
 
     not_at : (op : Op) → (StandsAt f (Some op) → ⊥) → slice_get u.shared.state.code f.pc ≡ Some op → ⊥

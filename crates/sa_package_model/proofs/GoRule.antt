@@ -1,4 +1,4 @@
--- Where a context stands; and a run of local instructions of its thread, which leaves all standing.
+-- Where a context is; and a run of local instructions of its thread, which leaves all standing.
 use Rattle.std.proofs.Common.{◌≡◌, ℕ, zero, suc, ◌+◌, ◌-◌, ◌≤◌, ◌<◌, List, [], length, Some, refl, sym, ap, ◌∙◌, subst, inl, inr, arith}
 use Rattle.std.specs.Prelude.{◌||◌, is_none, if◌then◌else◌}
 use Rattle.std.proofs.lemmas.Bool.{cases_eq}
@@ -47,7 +47,8 @@ module _ (s : Setting) (e : ℕ) (u : Package) (cs : Contexts Context) (h : IsSt
   user_at t at = h.parts.at t.0 (own_made s e u cs h a c is t.0 (user_has u.shared.works c t at))
 
   -- WHERE IT STANDS
-  seat_by : (state : ContextState) → c.state ≡ state → IsSeat s (local_at u state) × (is_away (local_at u state) ≡ (stands_inside state || is_none (carried_by state)))
+  seat_by : (state : ContextState) → c.state ≡ state
+      → IsSeat s (local_at u state) × (is_away (local_at u state) ≡ (stands_inside state || is_none (carried_by state)))
   seat_by (Code f) at = (tt, refl)
   seat_by (Work t) at = (tt, refl)
   seat_by (Hint t) at = (tt, refl)
@@ -61,13 +62,16 @@ module _ (s : Setting) (e : ℕ) (u : Package) (cs : Contexts Context) (h : IsSt
   seats = seat_by c.state refl
 
   -- A RUN
-  place_kept : (t : ThreadNo) (b : Block) → t.0 < length u.shared.threads → b.place ≡ place_at u.shared t.0 → (n : ℕ) → place_at (with_thread u.shared t b) n ≡ place_at u.shared n
+  place_kept : (t : ThreadNo) (b : Block) → t.0 < length u.shared.threads → b.place ≡ place_at u.shared t.0 → (n : ℕ)
+      → place_at (with_thread u.shared t b) n ≡ place_at u.shared n
   place_kept t b inside same n = elim (cases_eq n t.0) [
-    | inl here ↦ ap (place_at (with_thread u.shared t b)) here ∙ ap (λ (x : Block). x.place) (get_or-set_same u.shared.threads t.0 b unmade inside) ∙ same ∙ ap (place_at u.shared) (sym here)
+    | inl here ↦ ap (place_at (with_thread u.shared t b)) here ∙ ap (λ (x : Block). x.place) (get_or-set_same u.shared.threads t.0 b unmade inside) ∙ same
+        ∙ ap (place_at u.shared) (sym here)
     | inr there ↦ ap (λ (x : Block). x.place) (get_or-set_other u.shared.threads t.0 n b unmade there)
   ]
 
-  gone-change : (f : ℕ) (t : ThreadNo) (b : Block) → e ≤ f → c.state ≡ User t → IsAt u.def b → b.place ≡ place_at u.shared t.0 → IsChange s f u (with_shared u (with_thread u.shared t b)) (Some c) c
+  gone-change : (f : ℕ) (t : ThreadNo) (b : Block) → e ≤ f → c.state ≡ User t → IsAt u.def b → b.place ≡ place_at u.shared t.0
+      → IsChange s f u (with_shared u (with_thread u.shared t b)) (Some c) c
   gone-change f t b later at there same =
       let parts = parts_later u.def u.processors e f u.shared h.parts later in
       let below = own_below s e u cs h a c is t.0 (user_has u.shared.works c t at) in
@@ -90,13 +94,15 @@ module _ (s : Setting) (e : ℕ) (u : Package) (cs : Contexts Context) (h : IsSt
         works = λ l none some. refl;
         lists = λ l none held. refl;
         places = λ n.
-            subst (λ p. AgreesBy (count_in_all n u.shared.state.lists.lists) (waits_of u.shared.sync n) (done_at u.shared.sync n) (unmade_at u.shared.state.lists n) p)
+            subst (λ p. AgreesBy (count_in_all n u.shared.state.lists.lists) (waits_of u.shared.sync n) (done_at u.shared.sync n)
+            (unmade_at u.shared.state.lists n) p)
             (sym (place_kept t b (omega (arith, below, parts.blocks)) same n)) (h.places n);
         carries = λ n. ap (λ p. (if is_carried p then 0 else 1) + carried_of (Some c) n) (place_kept t b (omega (arith, below, parts.blocks)) same n);
         context = h.contexts a c is;
       }
 
-  gone_by : (seen : Seen) (n : ℕ) (state : ContextState) → e < seen.event → c.state ≡ state → GoesOn s n (local_at u state) → IsGone fast_calls fast_stands s seen cs a n (local_at u state) (gone_at u c n state)
+  gone_by : (seen : Seen) (n : ℕ) (state : ContextState) → e < seen.event → c.state ≡ state → GoesOn s n (local_at u state)
+      → IsGone fast_calls fast_stands s seen cs a n (local_at u state) (gone_at u c n state)
   gone_by seen n (Code f) later at local = absurd local
   gone_by seen n (Work t) later at local = absurd local
   gone_by seen n (Hint t) later at local = absurd local
@@ -107,11 +113,13 @@ module _ (s : Setting) (e : ℕ) (u : Package) (cs : Contexts Context) (h : IsSt
       let program : List Instr = program_at u.def.programs b.program in
       let after : Block = block_after program n b in
       let v : Package = with_shared u (with_thread u.shared t after) in
-      let is_program : IsProgram program = All-get_or IsProgram u.def.programs b.program [] there.program (subst IsSpace (sym h.made.def) h.made.setting.def).programs in
+      let is_program : IsProgram program =
+      All-get_or IsProgram u.def.programs b.program [] there.program (subst IsSpace (sym h.made.def) h.made.setting.def).programs in
       let below = own_below s e u cs h a c is t.0 (user_has u.shared.works c t at) in
       record {
         value = change-stands s e u cs h (seen.event + n - 1) a v (Some c) c is
-            (gone-change (seen.event + n - 1) t after (omega arith) at (record { program = there.program; place = after_inside program n (spot_of b) is_program there.place }) refl);
+            (gone-change (seen.event + n - 1) t after (omega arith) at
+            (record { program = there.program; place = after_inside program n (spot_of b) is_program there.place }) refl);
         says = ap (λ d. ins_records u.shared.state.space t (program_at d.programs b.program) n (spot_of b)) h.made.def;
         state =
             ap (local_at v) at ∙ ap (stands_at v t) (get_or-set_same u.shared.threads t.0 after unmade (omega (arith, below, h.parts.blocks)))
@@ -119,5 +127,6 @@ module _ (s : Setting) (e : ℕ) (u : Package) (cs : Contexts Context) (h : IsSt
       }
   gone_by seen n (Look looks) later at local = absurd local
 
-  pub goes : (seen : Seen) (n : ℕ) → e < seen.event → GoesOn s n (local_at u c.state) → IsGone fast_calls fast_stands s seen cs a n (local_at u c.state) (went u seen c n)
+  pub goes : (seen : Seen) (n : ℕ) → e < seen.event → GoesOn s n (local_at u c.state)
+      → IsGone fast_calls fast_stands s seen cs a n (local_at u c.state) (went u seen c n)
   goes seen n later local = gone_by seen n c.state later refl local

@@ -36,7 +36,7 @@ free_is : (b : Bool) → zero_if b ≡ 0 → b ≡ true
 free_is true e = refl
 free_is false e = absurd (omega arith)
 
--- what stands in lists stands in one of them
+-- what is in lists is in one of them
 stands_in_one : (ls : List (List ℕ)) (t : ℕ) → 1 ≤ count_in_all t ls → (l : ℕ) × (1 ≤ count_in t (list_at ls l))
 stands_in_one [] t some = absurd (let none : count_in_all t [] ≡ 0 = refl in omega arith)
 stands_in_one (xs ∷ ls) t some = elim (cases_lt (count_in t xs) 1) [
@@ -123,21 +123,24 @@ module _ (s : Setting) (e : ℕ) (u : Package) (cs : Contexts Context) (h : IsSt
     pub own_nowhere : (t : ℕ) → 1 ≤ threads_of u.shared.works (Some c) t → WaitsNowhere u.shared.sync t
     own_nowhere t some = let rest = own_rest t some in omega arith
 
-    -- a thread that it has beside its work list stands in no work list
-    pub own_unlisted : (t : ℕ) → 1 ≤ threads_in (sections_of c) t + one_of (thread_alone (section_in c.state) (carried_by c.state)) t → IsUnlisted u.shared.works t
+    -- a thread that it has beside its work list is in no work list
+    pub own_unlisted : (t : ℕ) → 1 ≤ threads_in (sections_of c) t + one_of (thread_alone (section_in c.state) (carried_by c.state)) t
+        → IsUnlisted u.shared.works t
     own_unlisted t some = elim (cases_lt (count_in_all t u.shared.works) 1) [
       | inl less ↦ omega arith
       | inr more ↦
           let held = works_held t more in
           let mine : 1 ≤ threads_of u.shared.works (cs a) t = subst (λ x. 1 ≤ threads_of u.shared.works x t) (sym is) (omega arith) in
-          let theirs : 1 ≤ threads_of u.shared.works (cs held.0) t = subst (λ x. 1 ≤ threads_of u.shared.works x t) (sym held.2) (let there = held.3 in omega arith) in
+          let theirs : 1 ≤ threads_of u.shared.works (cs held.0) t =
+          subst (λ x. 1 ≤ threads_of u.shared.works x t) (sym held.2) (let there = held.3 in omega arith) in
           let same : held.0 ≡ a = h.threads.apart held.0 a t theirs mine in
           let one : held.1 ≡ c = same_Some held.1 c (sym held.2 ∙ ap cs same ∙ is) in
           let there : 1 ≤ count_in t (work_of u.shared.works c.work) = subst (λ (x : Context). 1 ≤ count_in t (work_of u.shared.works x.work)) one held.3 in
           absurd (let once = thread_once t in omega arith)
     ]
 
-    pub own_due : (t : Option ThreadNo) → ((x : ℕ) → one_of t x ≤ threads_in (sections_of c) x + one_of (thread_alone (section_in c.state) (carried_by c.state)) x) → CanBeDue u.shared t
+    pub own_due : (t : Option ThreadNo)
+        → ((x : ℕ) → one_of t x ≤ threads_in (sections_of c) x + one_of (thread_alone (section_in c.state) (carried_by c.state)) x) → CanBeDue u.shared t
     own_due None has = tt
     own_due (Some n) has =
         let one = one_same n.0 n.0 refl in let here = has n.0 in
@@ -154,7 +157,8 @@ module _ (s : Setting) (e : ℕ) (u : Package) (cs : Contexts Context) (h : IsSt
       by None names = tt
       by (Some n) names =
           let name = names n refl in
-          let once : empty_at u.shared.works n.0 + name_of (Some c) n.0 ≤ 1 = subst (λ x. empty_at u.shared.works n.0 + name_of x n.0 ≤ 1) is (h.works.once a n.0) in
+          let once : empty_at u.shared.works n.0 + name_of (Some c) n.0 ≤ 1 =
+          subst (λ x. empty_at u.shared.works n.0 + name_of x n.0 ≤ 1) is (h.works.once a n.0) in
           let some : 1 ≤ length (list_at u.shared.works n.0) = not_empty (list_at u.shared.works n.0) (omega arith) in
           elim (cases_lt n.0 (length u.shared.works)) [
             | inl inside ↦ (let all = h.parts.works.named.all in omega arith, some)
@@ -162,7 +166,8 @@ module _ (s : Setting) (e : ℕ) (u : Package) (cs : Contexts Context) (h : IsSt
           ]
 
     -- its thread can run
-    pub own_runs : (f : ℕ) → e < f → f ≤ MAX_EVENTS → (t : ThreadNo) → ((x : ℕ) → one_if t.0 x ≤ one_of (thread_alone (section_in c.state) (carried_by c.state)) x) → CanRun u.def u.shared c.work t
+    pub own_runs : (f : ℕ) → e < f → f ≤ MAX_EVENTS → (t : ThreadNo)
+        → ((x : ℕ) → one_if t.0 x ≤ one_of (thread_alone (section_in c.state) (carried_by c.state)) x) → CanRun u.def u.shared c.work t
     own_runs f later within t has =
         let one = one_same t.0 t.0 refl in let here = has t.0 in
         let mine : 1 ≤ threads_of u.shared.works (Some c) t.0 = omega arith in

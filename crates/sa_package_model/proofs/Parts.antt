@@ -45,7 +45,8 @@ pub length_placed : (blocks : List Block) (t : Option ThreadNo) (place : Place) 
 length_placed blocks None place = refl
 length_placed blocks (Some n) place = length-set blocks n.0 (moved_to (block_at blocks n.0) place)
 
-at_set : (def : SpaceView) (blocks : List Block) (t n : ℕ) (b : Block) → (t ≡ n → IsAt def b) → IsAt def (block_at blocks t) → IsAt def (block_at (with_block blocks n b) t)
+at_set : (def : SpaceView) (blocks : List Block) (t n : ℕ) (b : Block) → (t ≡ n → IsAt def b) → IsAt def (block_at blocks t)
+    → IsAt def (block_at (with_block blocks n b) t)
 at_set def blocks t n b new old = elim (cases_eq t n) [
   | inr ne ↦ subst (IsAt def) (sym (get_or-set_other blocks n t b unmade ne)) old
   | inl e ↦ elim (cases_lt n (length blocks)) [
@@ -54,13 +55,15 @@ at_set def blocks t n b new old = elim (cases_eq t n) [
   ]
 ]
 
-at_placed : (def : SpaceView) (blocks : List Block) (t : ℕ) (n : Option ThreadNo) (place : Place) → IsAt def (block_at blocks t) → IsAt def (block_at (blocks_placed blocks n place) t)
+at_placed : (def : SpaceView) (blocks : List Block) (t : ℕ) (n : Option ThreadNo) (place : Place) → IsAt def (block_at blocks t)
+    → IsAt def (block_at (blocks_placed blocks n place) t)
 at_placed def blocks t None place h = h
 at_placed def blocks t (Some n) place h =
     at_set def blocks t n.0 (moved_to (block_at blocks n.0) place)
     (λ e. let here : IsAt def (block_at blocks n.0) = subst (λ k. IsAt def (block_at blocks k)) e h in record { program = here.program; place = here.place }) h
 
-pub parts_placed : (def : SpaceView) (p e : ℕ) (x : Shared) (t : Option ThreadNo) (place : Place) → ArePartsFor def p e x → ArePartsFor def p e (placed x t place)
+pub parts_placed : (def : SpaceView) (p e : ℕ) (x : Shared) (t : Option ThreadNo) (place : Place) → ArePartsFor def p e x
+    → ArePartsFor def p e (placed x t place)
 parts_placed def p e x t place h = record {
   state = h.state;
   lists = h.lists;
@@ -73,7 +76,8 @@ parts_placed def p e x t place h = record {
 }
 
 -- another package state, with as many lists and threads
-pub parts_state : (def : SpaceView) (p e l : ℕ) (x : Shared) (state : PackageState) → ArePartsFor def p e x → IsPackage state → ChangesOnly l x.state state → ArePartsFor def p e (record x { state = state })
+pub parts_state : (def : SpaceView) (p e l : ℕ) (x : Shared) (state : PackageState) → ArePartsFor def p e x → IsPackage state → ChangesOnly l x.state state
+    → ArePartsFor def p e (record x { state = state })
 parts_state def p e l x state h is only = record {
   state = is;
   sync = h.sync;
@@ -86,7 +90,8 @@ parts_state def p e l x state h is only = record {
 }
 
 -- other work lists
-pub parts_works : (def : SpaceView) (p e : ℕ) (x : Shared) (works : List (List ℕ)) → ArePartsFor def p e x → AreWorks works → ArePartsFor def p e (record x { works = works })
+pub parts_works : (def : SpaceView) (p e : ℕ) (x : Shared) (works : List (List ℕ)) → ArePartsFor def p e x → AreWorks works
+    → ArePartsFor def p e (record x { works = works })
 parts_works def p e x works h is = record {
   state = h.state;
   lists = h.lists;
@@ -103,7 +108,8 @@ pub made_with : (s : Setting) (u : Package) (x : Shared) → IsMadeFor s u → x
 made_with s u x h same = record { setting = h.setting; space = same ∙ h.space; def = h.def; processors = h.processors; fetch = h.fetch }
 
 -- a stopped thread is put into a work list, if there is one
-pub due-step : (x : Shared) (w t : Option ThreadNo) → AreWorks x.works → IsWork x.works w → CanBeDue x t → WorkStep (with_name x.works w) (due_last x w t) (λ u. 0) (one_of t)
+pub due-step : (x : Shared) (w t : Option ThreadNo) → AreWorks x.works → IsWork x.works w → CanBeDue x t
+    → WorkStep (with_name x.works w) (due_last x w t) (λ u. 0) (one_of t)
 due-step x w None h work due = still-step (with_name x.works w) h
 due-step x w (Some n) h work due = added-step x.works w n h work due.0 due.1
 
@@ -153,7 +159,8 @@ some_length : (xs : List ℕ) (t : ℕ) → slice_get xs (length xs - 1) ≡ Som
 some_length [] t e = absurd cc
 some_length (x ∷ xs) t e = omega arith
 
-pub count_chosen : (r : ReadyView) (own : Bool) (l t u : ℕ) → chosen r own l ≡ Some t → count_in u (without_chosen r own l) + one_if t u ≡ count_in u (list_of r l)
+pub count_chosen : (r : ReadyView) (own : Bool) (l t u : ℕ) → chosen r own l ≡ Some t
+    → count_in u (without_chosen r own l) + one_if t u ≡ count_in u (list_of r l)
 count_chosen r true l t u e = count_first (list_of r l) t u e
 count_chosen r false l t u e =
     let some = some_length (list_of r l) t e in count_last (list_of r l) (length (list_of r l) - 1) t u e (omega arith)

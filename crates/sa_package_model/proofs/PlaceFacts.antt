@@ -52,8 +52,10 @@ module _ (x : Shared) (n : ThreadNo) (p : Place) (inside : n.0 < length x.thread
       → ((u : ℕ) → u ≢ n.0 → AgreesAt x u) → (u : ℕ) → AgreesAt (placed x (Some n) p) u
   agree_one here others u = elim (cases_eq u n.0) [
     | inl e ↦ subst (λ k. AgreesAt (placed x (Some n) p) k) (sym e)
-        (subst (λ q. AgreesBy (count_in_all n.0 x.state.lists.lists) (waits_of x.sync n.0) (done_at x.sync n.0) (unmade_at x.state.lists n.0) q) (sym place_here) here)
-    | inr ne ↦ subst (λ q. AgreesBy (count_in_all u x.state.lists.lists) (waits_of x.sync u) (done_at x.sync u) (unmade_at x.state.lists u) q) (sym (place_there u ne)) (others u ne)
+        (subst (λ q. AgreesBy (count_in_all n.0 x.state.lists.lists) (waits_of x.sync n.0) (done_at x.sync n.0) (unmade_at x.state.lists n.0) q)
+        (sym place_here) here)
+    | inr ne ↦ subst (λ q. AgreesBy (count_in_all u x.state.lists.lists) (waits_of x.sync u) (done_at x.sync u) (unmade_at x.state.lists u) q)
+        (sym (place_there u ne)) (others u ne)
   ]
 
   pub carried_here : not_carried (placed x (Some n) p) n.0 ≡ if_not (is_carried p)
@@ -68,7 +70,8 @@ pub record IsPlaceable (x : Shared) (n : Option ThreadNo) (before : ℕ) : Type 
   pub carried : (m : ThreadNo) → n ≡ Some m → not_carried x m.0 ≡ before
 
 -- a thread in a hand goes to another place there
-pub agree_in_hand : (x : Shared) (n : Option ThreadNo) (before : ℕ) (p : Place) → IsHandPlace p → IsPlaceable x n before → ((m : ThreadNo) → n ≡ Some m → threads_at_rest x m.0 ≡ 0) → ((u : ℕ) → AgreesAt x u) → (u : ℕ) → AgreesAt (placed x n p) u
+pub agree_in_hand : (x : Shared) (n : Option ThreadNo) (before : ℕ) (p : Place) → IsHandPlace p → IsPlaceable x n before
+    → ((m : ThreadNo) → n ≡ Some m → threads_at_rest x m.0 ≡ 0) → ((u : ℕ) → AgreesAt x u) → (u : ℕ) → AgreesAt (placed x n p) u
 agree_in_hand x None before p hand can rest all u = all u
 agree_in_hand x (Some n) before p hand can rest all u =
     let none = rest n refl in
@@ -78,7 +81,8 @@ agree_in_hand x (Some n) before p hand can rest all u =
     agree_one x n p (can.inside n refl) (record { ready = omega arith; waiting = omega arith; ends = omega arith; new = omega arith }) (λ v ne. all v) u
 
 -- a carried thread is put down; one that is not carried is picked up; others stay what they are
-pub put_down : (x : Shared) (n : Option ThreadNo) (p : Place) → is_carried p ≡ false → IsPlaceable x n 0 → (u : ℕ) → not_carried (placed x n p) u ≡ not_carried x u + one_of n u
+pub put_down : (x : Shared) (n : Option ThreadNo) (p : Place) → is_carried p ≡ false → IsPlaceable x n 0 → (u : ℕ)
+    → not_carried (placed x n p) u ≡ not_carried x u + one_of n u
 put_down x None p free can u = omega arith
 put_down x (Some n) p free can u = elim (cases_eq u n.0) [
   | inl e ↦
@@ -87,7 +91,8 @@ put_down x (Some n) p free can u = elim (cases_eq u n.0) [
   | inr ne ↦ omega (arith, carried_there x n p (can.inside n refl) u ne, one_other n.0 u (λ f. ne (sym f)))
 ]
 
-pub picked_up : (x : Shared) (n : Option ThreadNo) (p : Place) → is_carried p ≡ true → IsPlaceable x n 1 → (u : ℕ) → not_carried (placed x n p) u + one_of n u ≡ not_carried x u
+pub picked_up : (x : Shared) (n : Option ThreadNo) (p : Place) → is_carried p ≡ true → IsPlaceable x n 1 → (u : ℕ)
+    → not_carried (placed x n p) u + one_of n u ≡ not_carried x u
 picked_up x None p held can u = omega arith
 picked_up x (Some n) p held can u = elim (cases_eq u n.0) [
   | inl e ↦
@@ -96,7 +101,8 @@ picked_up x (Some n) p held can u = elim (cases_eq u n.0) [
   | inr ne ↦ omega (arith, carried_there x n p (can.inside n refl) u ne, one_other n.0 u (λ f. ne (sym f)))
 ]
 
-pub put_still : (x : Shared) (n : Option ThreadNo) (p : Place) → IsPlaceable x n (if_not (is_carried p)) → (u : ℕ) → not_carried (placed x n p) u ≡ not_carried x u
+pub put_still : (x : Shared) (n : Option ThreadNo) (p : Place) → IsPlaceable x n (if_not (is_carried p)) → (u : ℕ)
+    → not_carried (placed x n p) u ≡ not_carried x u
 put_still x None p can u = refl
 put_still x (Some n) p can u = elim (cases_eq u n.0) [
   | inl e ↦ subst (λ k. not_carried (placed x (Some n) p) k ≡ not_carried x k) (sym e) (carried_here x n p (can.inside n refl) ∙ sym (can.carried n refl))
@@ -122,7 +128,8 @@ module _ (s : Setting) (e : ℕ) (u : Package) (cs : Contexts Context) (h : IsSt
   module _ (a : ℕ) (c : Context) (is : cs a ≡ Some c) where
     pub own_carried : (t : ℕ) → 1 ≤ one_of (carried_by c.state) t → not_carried u.shared t ≡ 0
     own_carried t some =
-        let once : not_carried u.shared t + carried_of (Some c) t ≤ 1 = subst (λ x. not_carried u.shared t + carried_of x t ≤ 1) is (h.carries.once a t) in omega arith
+        let once : not_carried u.shared t + carried_of (Some c) t ≤ 1 =
+        subst (λ x. not_carried u.shared t + carried_of x t ≤ 1) is (h.carries.once a t) in omega arith
 
     -- a thread that the context has beside the one that it carries
     pub own_beside : (t : ℕ) → 1 + one_of (carried_by c.state) t ≤ threads_of u.shared.works (Some c) t → not_carried u.shared t ≡ 1
@@ -138,7 +145,8 @@ module _ (s : Setting) (e : ℕ) (u : Package) (cs : Contexts Context) (h : IsSt
     ]
 
     -- what it has of a thread is enough to change the thread's place
-    pub own_hand : (n : Option ThreadNo) → carried_by c.state ≡ n → (m : ThreadNo) → n ≡ Some m → (1 ≤ one_of (carried_by c.state) m.0) × (1 ≤ threads_of u.shared.works (Some c) m.0)
+    pub own_hand : (n : Option ThreadNo) → carried_by c.state ≡ n → (m : ThreadNo) → n ≡ Some m
+        → (1 ≤ one_of (carried_by c.state) m.0) × (1 ≤ threads_of u.shared.works (Some c) m.0)
     own_hand n carries m at =
         let one : one_of (carried_by c.state) m.0 ≡ 1 = ap (λ o. one_of o m.0) (carries ∙ at) ∙ one_same m.0 m.0 refl in
         let hand = carried_hand (Some c) m.0 in (omega arith, omega arith)
@@ -152,7 +160,8 @@ module _ (s : Setting) (e : ℕ) (u : Package) (cs : Contexts Context) (h : IsSt
     pub own_at_rest : (n : Option ThreadNo) → carried_by c.state ≡ n → (m : ThreadNo) → n ≡ Some m → threads_at_rest u.shared m.0 ≡ 0
     own_at_rest n carries m at = own_rest s e u cs h a c is m.0 (own_hand n carries m at).1
 
-    pub beside_placeable : (n : Option ThreadNo) → ((x : ℕ) → one_of n x + one_of (carried_by c.state) x ≤ threads_of u.shared.works (Some c) x) → IsPlaceable u.shared n 1
+    pub beside_placeable : (n : Option ThreadNo) → ((x : ℕ) → one_of n x + one_of (carried_by c.state) x ≤ threads_of u.shared.works (Some c) x)
+        → IsPlaceable u.shared n 1
     beside_placeable n has = record {
       inside = λ m at.
           let one : one_of n m.0 ≡ 1 = ap (λ o. one_of o m.0) at ∙ one_same m.0 m.0 refl in
@@ -160,7 +169,8 @@ module _ (s : Setting) (e : ℕ) (u : Package) (cs : Contexts Context) (h : IsSt
       carried = λ m at. let one : one_of n m.0 ≡ 1 = ap (λ o. one_of o m.0) at ∙ one_same m.0 m.0 refl in own_beside m.0 (let has_it = has m.0 in omega arith);
     }
 
-    pub beside_at_rest : (n : Option ThreadNo) → ((x : ℕ) → one_of n x + one_of (carried_by c.state) x ≤ threads_of u.shared.works (Some c) x) → (m : ThreadNo) → n ≡ Some m → threads_at_rest u.shared m.0 ≡ 0
+    pub beside_at_rest : (n : Option ThreadNo) → ((x : ℕ) → one_of n x + one_of (carried_by c.state) x ≤ threads_of u.shared.works (Some c) x)
+        → (m : ThreadNo) → n ≡ Some m → threads_at_rest u.shared m.0 ≡ 0
     beside_at_rest n has m at =
         let one : one_of n m.0 ≡ 1 = ap (λ o. one_of o m.0) at ∙ one_same m.0 m.0 refl in own_rest s e u cs h a c is m.0 (let has_it = has m.0 in omega arith)
 

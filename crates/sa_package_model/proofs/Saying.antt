@@ -96,7 +96,8 @@ module _ (s : Setting) (u : Package) (seen : Seen) (made : IsMadeFor s u) where
   worked_own : (c : Context) (f : Option Frame) (first : Option ThreadNo) → Own (worked u seen c f first).says
   worked_own c (Some f) first = one _ made.space
   worked_own c None (Some first) =
-      let f = push_of seen.proc (own_list u seen.proc) first (carried_by c.state) in let m = micro u.shared.state f seen.pages in pushing_own c first m m.done (micro_own f)
+      let f = push_of seen.proc (own_list u seen.proc) first (carried_by c.state) in let m = micro u.shared.state f seen.pages in
+      pushing_own c first m m.done (micro_own f)
   worked_own c None None = none
 
   hinted_own : (c : Context) (more : Option ℕ) → Own (hinted u c more).says

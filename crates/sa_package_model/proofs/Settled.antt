@@ -14,7 +14,8 @@ use Rattle.sa_package_model.specs.Step.{if_owed, if_bulk, resettled}
 works_at : (u : Package) (c : Context) (t : Option ThreadNo) (s : ContextState) → CanWork u c t → CanWork u (at_state c s) t
 works_at u c t s h = record { section = h.section; carries = h.carries; thread = h.thread }
 
-acts : (u : Package) (c : Context) (t : Option ThreadNo) (left owes bulk : Bool) → CanSettle u c t → (s : ContextState) → CanAct u (at_state c s) (settled_to t left owes bulk)
+acts : (u : Package) (c : Context) (t : Option ThreadNo) (left owes bulk : Bool) → CanSettle u c t → (s : ContextState)
+    → CanAct u (at_state c s) (settled_to t left owes bulk)
 acts u c t true owes bulk h s = works_at u c t s h.works
 acts u c t false true bulk h s = record { works = works_at u c t s h.works; thread = h.thread }
 acts u c (Some n) false false bulk h s = h.thread
@@ -30,7 +31,8 @@ can-settled u seen c t can h = record {
   acts = acts u c t (is_left c) (is_some (owed u seen)) (has_bulk seen) h (settled_to t (is_left c) (is_some (owed u seen)) (has_bulk seen));
 }
 
-can-if_owed : (u : Package) (seen : Seen) (c : Context) (t : Option ThreadNo) (more : Option ℕ) → CanStep u seen c → CanSettle u c t → CanStep u seen (if_owed u seen c t more)
+can-if_owed : (u : Package) (seen : Seen) (c : Context) (t : Option ThreadNo) (more : Option ℕ) → CanStep u seen c → CanSettle u c t
+    → CanStep u seen (if_owed u seen c t more)
 can-if_owed u seen c t (Some n) can h = can
 can-if_owed u seen c t None can h = can-settled u seen c t can h
 

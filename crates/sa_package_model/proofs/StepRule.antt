@@ -77,7 +77,8 @@ module _ (s : Setting) (e : ℕ) (u : Package) (cs : Contexts Context) (h : IsSt
     unchanged : IsStanding s seen.event u (put cs a (Some c))
     unchanged = then_later seen.event u c (omega arith) stays
 
-    work_stands : (t : Option ThreadNo) → c.state ≡ Work t → (first : Option Frame) → slice_get c.sections 0 ≡ first → (w : Option ThreadNo) → c.work ≡ w → Stands (worked u seen c first w)
+    work_stands : (t : Option ThreadNo) → c.state ≡ Work t → (first : Option Frame) → slice_get c.sections 0 ≡ first → (w : Option ThreadNo) → c.work ≡ w
+        → Stands (worked u seen c first w)
     work_stands t at (Some f) sections w work =
         then_later seen.event (worked u seen c (Some f) w).user (worked u seen c (Some f) w).ctx (omega arith)
         (continued-change s e u cs h a c is t (ap section_in at) (ap carried_by at) f sections)
@@ -90,7 +91,8 @@ module _ (s : Setting) (e : ℕ) (u : Package) (cs : Contexts Context) (h : IsSt
     hint_stands t at (Some n) = unchanged
     hint_stands t at None = unchanged
 
-    look_stands : (looks : ℕ) → c.state ≡ Look looks → (idle : Bool) (l : Option ℕ) → sought u.shared.state.lists (own_list u seen.proc).0 ≡ l → Stands (looked_by u seen c looks idle l)
+    look_stands : (looks : ℕ) → c.state ≡ Look looks → (idle : Bool) (l : Option ℕ) → sought u.shared.state.lists (own_list u seen.proc).0 ≡ l
+        → Stands (looked_by u seen c looks idle l)
     look_stands looks at idle (Some l) found =
         let first = sought-first u.shared.state.lists (own_list u seen.proc).0 l proc_inside found in
         let some = open_filled (is_locked u.shared.state.lists l) (length (list_of u.shared.state.lists l)) first.here in
@@ -114,7 +116,8 @@ module _ (s : Setting) (e : ℕ) (u : Package) (cs : Contexts Context) (h : IsSt
     at_stands (Look looks) at = look_stands looks at (is_idle u seen looks) (sought u.shared.state.lists (own_list u seen.proc).0) refl
 
 -- A STEP
-module _ (s : Setting) (e : ℕ) (u : Package) (cs : Contexts Context) (a : ℕ) (c : Context) (seen : Seen) (h : IsStanding s e u cs) (is : cs a ≡ Some c) (sees : IsSeen s seen) (later : e < seen.event) where
+module _ (s : Setting) (e : ℕ) (u : Package) (cs : Contexts Context) (a : ℕ) (c : Context) (seen : Seen) (h : IsStanding s e u cs) (is : cs a ≡ Some c)
+    (sees : IsSeen s seen) (later : e < seen.event) where
   step_stands : IsStanding s seen.event (stepped u seen c).user (put cs a (Some (stepped u seen c).ctx))
   step_stands =
       let d = resettled u seen c c.state in
@@ -143,9 +146,11 @@ module _ (s : Setting) (e : ℕ) (u : Package) (cs : Contexts Context) (h : IsSt
   over_stands b held handed =
       let d = handed.stopped.ctx in
       subst (λ o. IsStanding s e (told_of u c o).user (put (put cs a (Some (told_of u c o).ctx)) b None)) (sym handed.is)
-      (join-stands s e u cs h e a b (took_over u c d).user c d (took_over u c d).ctx is handed.theirs handed.differ (took_over-join s e u cs h a b c d is handed.theirs handed.differ))
+      (join-stands s e u cs h e a b (took_over u c d).user c d (took_over u c d).ctx is handed.theirs handed.differ
+      (took_over-join s e u cs h a b c d is handed.theirs handed.differ))
 
-  pub told_stands : (note : Note) (held : Option (Stopped Context)) → IsHanded cs a note held → IsStanding s e (told u c note held).0 (told_contexts cs a (told u c note held).1 note)
+  pub told_stands : (note : Note) (held : Option (Stopped Context)) → IsHanded cs a note held
+      → IsStanding s e (told u c note held).0 (told_contexts cs a (told u c note held).1 note)
   told_stands (Add p) held handed = unchanged_stands
   told_stands (Blocked b) held handed = unchanged_stands
   told_stands (Preempted b) held handed = over_stands b.0 held handed

@@ -27,7 +27,7 @@ use Rattle.sa_package_model.proofs.Views.{carried_less}
 use Rattle.sa_package_model.proofs.PlaceFacts.{IsPlaceable, agree_in_hand, put_down, put_still, own_placeable, own_at_rest, carried_hand_place}
 use Rattle.sa_package_model.proofs.Parts.{length_placed, parts_placed, parts_works, made_with, due-step}
 
--- sections, one list of them behind another
+-- sections, one list of them after another
 locks_append : (fs gs : List Frame) (l : ℕ) → locks_in (fs ++ gs) l ≡ locks_in fs l + locks_in gs l
 locks_append [] gs l = omega arith
 locks_append (f ∷ fs) gs l = let rest = locks_append fs gs l in omega arith
@@ -63,7 +63,8 @@ alone_is None t m at = at
 alone_is (Some f) t m at = absurd cc
 
 -- the list that the two have
-joined_work : (works : List (List ℕ)) (w v : Option ThreadNo) → IsWork works w → IsWork works v → AreApart w v → JoinStep works w v (joined works w v) → IsWork (joined works w v).lists (joined works w v).name
+joined_work : (works : List (List ℕ)) (w v : Option ThreadNo) → IsWork works w → IsWork works v → AreApart w v → JoinStep works w v (joined works w v)
+    → IsWork (joined works w v).lists (joined works w v).name
 joined_work works w None mine theirs apart step = mine
 joined_work works None (Some m) mine theirs apart step = theirs
 joined_work works (Some n) (Some m) mine theirs apart step =
@@ -72,12 +73,15 @@ joined_work works (Some n) (Some m) mine theirs apart step =
     let names = step.names n.0 in
     (mine.0, not_empty (list_at (joined works (Some n) (Some m)).lists n.0) (omega arith))
 
-module _ (s : Setting) (e : ℕ) (u : Package) (cs : Contexts Context) (h : IsStanding s e u cs) (a b : ℕ) (c d : Context) (is : cs a ≡ Some c) (was : cs b ≡ Some d) (ne : b ≢ a) where
+module _ (s : Setting) (e : ℕ) (u : Package) (cs : Contexts Context) (h : IsStanding s e u cs) (a b : ℕ) (c d : Context) (is : cs a ≡ Some c)
+    (was : cs b ≡ Some d) (ne : b ≢ a) where
   -- what one has, the other has not
   thread_other : (t : ℕ) → 1 ≤ threads_of u.shared.works (Some d) t → threads_of u.shared.works (Some c) t ≡ 0
   thread_other t some = elim (cases_lt (threads_of u.shared.works (Some c) t) 1) [
     | inl less ↦ omega arith
-    | inr more ↦ absurd (ne (h.threads.apart b a t (subst (λ x. 1 ≤ threads_of u.shared.works x t) (sym was) some) (subst (λ x. 1 ≤ threads_of u.shared.works x t) (sym is) more)))
+    | inr more ↦
+        absurd (ne (h.threads.apart b a t (subst (λ x. 1 ≤ threads_of u.shared.works x t) (sym was) some)
+        (subst (λ x. 1 ≤ threads_of u.shared.works x t) (sym is) more)))
   ]
 
   lock_other : (l : ℕ) → 1 ≤ locks_of (Some d) l → locks_of (Some c) l ≡ 0
@@ -133,14 +137,17 @@ module _ (s : Setting) (e : ℕ) (u : Package) (cs : Contexts Context) (h : IsSt
     thread = due;
   }
 
-  due_moved : (t : Option ThreadNo) → CanBeDue u.shared t → CanBeDue (with_works (placed u.shared (carried_by d.state) Carried) (joined u.shared.works c.work d.work)) t
+  due_moved : (t : Option ThreadNo) → CanBeDue u.shared t
+      → CanBeDue (with_works (placed u.shared (carried_by d.state) Carried) (joined u.shared.works c.work d.work)) t
   due_moved None can = tt
   due_moved (Some n) can = (can.0, step.counts n.0 ∙ can.1)
 
-  again_placeable : (own : Option Frame) → IsPlaceable u.shared (carried_by d.state) 0 → IsPlaceable (placed u.shared (carried_by d.state) Carried) (thread_alone own (carried_by d.state)) 1
+  again_placeable : (own : Option Frame) → IsPlaceable u.shared (carried_by d.state) 0
+      → IsPlaceable (placed u.shared (carried_by d.state) Carried) (thread_alone own (carried_by d.state)) 1
   again_placeable own theirs = record {
     inside = λ m at.
-        let below = theirs.inside m (alone_is own (carried_by d.state) m at) in let all = length_placed u.shared.threads (carried_by d.state) Carried in omega arith;
+        let below = theirs.inside m (alone_is own (carried_by d.state) m at) in let all = length_placed u.shared.threads (carried_by d.state) Carried in
+        omega arith;
     carried = λ m at.
         let down = put_down u.shared (carried_by d.state) Carried refl theirs m.0 in
         let free = theirs.carried m (alone_is own (carried_by d.state) m at) in
@@ -156,7 +163,8 @@ module _ (s : Setting) (e : ℕ) (u : Package) (cs : Contexts Context) (h : IsSt
       let t = thread_alone own (carried_by d.state) in
       let moved : Shared = with_works (placed u.shared (carried_by d.state) Carried) (joined u.shared.works c.work d.work) in
       let name = (joined u.shared.works c.work d.work).name in
-      let last = due-step moved name t step.works (joined_work u.shared.works c.work d.work (own_work s e u cs h a c is) (own_work s e u cs h b d was) works_apart step)
+      let last = due-step moved name t step.works
+      (joined_work u.shared.works c.work d.work (own_work s e u cs h a c is) (own_work s e u cs h b d was) works_apart step)
       (due_moved t (alone_due u.shared own (carried_by d.state) due)) in
       let theirs = own_placeable s e u cs h b d was (carried_by d.state) refl in
       let theirs_rest = own_at_rest s e u cs h b d was (carried_by d.state) refl in
@@ -169,13 +177,16 @@ module _ (s : Setting) (e : ℕ) (u : Package) (cs : Contexts Context) (h : IsSt
         code = h.code;
         parts = parts_works u.def u.processors e (placed moved t Carried) v.shared.works
             (parts_placed u.def u.processors e moved t Carried
-            (parts_works u.def u.processors e (placed u.shared (carried_by d.state) Carried) moved.works (parts_placed u.def u.processors e u.shared (carried_by d.state) Carried h.parts) step.works))
+            (parts_works u.def u.processors e (placed u.shared (carried_by d.state) Carried) moved.works
+            (parts_placed u.def u.processors e u.shared (carried_by d.state) Carried h.parts) step.works))
             last.works;
         locks = λ l.
-            let sum : locks_in (sections_of new) l ≡ locks_in (sections_of c) l + locks_in (sections_of d) l = ap (λ fs. locks_in fs l) all ∙ locks_append (sections_of c) (sections_of d) l in
+            let sum : locks_in (sections_of new) l ≡ locks_in (sections_of c) l + locks_in (sections_of d) l =
+            ap (λ fs. locks_in fs l) all ∙ locks_append (sections_of c) (sections_of d) l in
             omega arith;
         threads = λ x.
-            let sum : threads_in (sections_of new) x ≡ threads_in (sections_of c) x + threads_in (sections_of d) x = ap (λ fs. threads_in fs x) all ∙ threads_append (sections_of c) (sections_of d) x in
+            let sum : threads_in (sections_of new) x ≡ threads_in (sections_of c) x + threads_in (sections_of d) x =
+            ap (λ fs. threads_in fs x) all ∙ threads_append (sections_of c) (sections_of d) x in
             omega (arith, step.threads x, last.threads x);
         names = λ l. omega (arith, step.names l, last.names l);
         works = λ l mine theirs some.

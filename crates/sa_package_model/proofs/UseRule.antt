@@ -31,11 +31,12 @@ use Rattle.sa_package_model.proofs.Holding.{rest_unlisted, rest_once, own_rest, 
 use Rattle.sa_package_model.proofs.PlaceFacts.{own_carried}
 use Rattle.sa_package_model.proofs.Parts.{parts_later, made_with}
 
--- the thread of a context that stands at an instruction is in its hand
+-- the thread of a context that is at an instruction is in its hand
 pub user_has : (works : List (List ℕ)) (c : Context) (t : ThreadNo) → c.state ≡ User t → 1 ≤ threads_of works (Some c) t.0
 user_has works c t at = omega (arith, between_threads c (Some t) (ap section_in at) (ap carried_by at) works t.0, one_same t.0 t.0 refl)
 
-module _ (s : Setting) (e : ℕ) (u : Package) (cs : Contexts Context) (h : IsStanding s e u cs) (a : ℕ) (c : Context) (is : cs a ≡ Some c) (t : ThreadNo) (at : c.state ≡ User t) where
+module _ (s : Setting) (e : ℕ) (u : Package) (cs : Contexts Context) (h : IsStanding s e u cs) (a : ℕ) (c : Context) (is : cs a ≡ Some c) (t : ThreadNo)
+    (at : c.state ≡ User t) where
   outside : section_in c.state ≡ None
   outside = ap section_in at
 
@@ -50,7 +51,8 @@ module _ (s : Setting) (e : ℕ) (u : Package) (cs : Contexts Context) (h : IsSt
   hand = own_rest s e u cs h a c is t.0 (user_has u.shared.works c t at)
 
   runs : not_carried u.shared t.0 ≡ 0
-  runs = own_carried s e u cs h a c is t.0 (let one : one_of (carried_by c.state) t.0 ≡ 1 = ap (λ o. one_of o t.0) carries ∙ one_same t.0 t.0 refl in omega arith)
+  runs =
+      own_carried s e u cs h a c is t.0 (let one : one_of (carried_by c.state) t.0 ≡ 1 = ap (λ o. one_of o t.0) carries ∙ one_same t.0 t.0 refl in omega arith)
 
   ran : (fetch pages : ℕ) → HasRun (run u.def fetch pages u.shared c.work t)
   ran fetch pages = let step = ran_step fetch pages in
@@ -60,7 +62,7 @@ module _ (s : Setting) (e : ℕ) (u : Package) (cs : Contexts Context) (h : IsSt
             run-step u.def u.processors e fetch pages u.shared c.work t (subst IsSpace (sym h.made.def) h.made.setting.def) h.parts
             (own_work s e u cs h a c is) (own_rest s e u cs h a c is t.0 (user_has u.shared.works c t at)) (rest_unlisted s e u cs h) (rest_once s e u cs h)
 
-  -- behind the instruction the context has what the instruction left it, and carries the thread or none
+  -- after the instruction the context has what the instruction left it, and carries the thread or none
   outcome-change : (f : ℕ) (o : Outcome) (state : ContextState) (n : Option ThreadNo) → e < f → HasRun o → IsBetween state n
       → ((x : ℕ) → one_of n x ≡ stays_with o.answer t x) → IsChange s f u (with_shared u o.shared) (Some c) (at_state (record c { work = o.work }) state)
   outcome-change f o state n later both new stays =
@@ -99,11 +101,13 @@ module _ (s : Setting) (e : ℕ) (u : Package) (cs : Contexts Context) (h : IsSt
   -- THE RULE, by the answer, and by whether threads are left to be made ready
   goes-change : (f : ℕ) (seen : Seen) (o : Outcome) (w : Option ThreadNo) → e < f → HasRun o → o.answer ≡ rans.Goes
       → IsChange s f u (with_shared u o.shared) (Some c) (stays_user (with_shared u o.shared) seen (record c { work = o.work }) t w)
-  goes-change f seen o None later step answer = outcome-change f o (User t) (Some t) later step (record { section = refl; carries = refl; is = tt }) (λ x. sym (ap (λ r. stays_with r t x) answer))
+  goes-change f seen o None later step answer =
+      outcome-change f o (User t) (Some t) later step (record { section = refl; carries = refl; is = tt }) (λ x. sym (ap (λ r. stays_with r t x) answer))
   goes-change f seen o (Some first) later step answer =
       let v : Package = with_shared u o.shared in
       let d : Context = record c { work = o.work } in
-      outcome-change f o (settled_to (Some t) (is_left d) (is_some (owed v seen)) (has_bulk seen)) (Some t) later step (settled_between (Some t) (is_left d) (is_some (owed v seen)) (has_bulk seen))
+      outcome-change f o (settled_to (Some t) (is_left d) (is_some (owed v seen)) (has_bulk seen)) (Some t) later step
+      (settled_between (Some t) (is_left d) (is_some (owed v seen)) (has_bulk seen))
       (λ x. sym (ap (λ r. stays_with r t x) answer))
 
   used_by-change : (f : ℕ) (seen : Seen) (o : Outcome) (answer : Ran) (says : List Record) → e < f → HasRun o → o.answer ≡ answer
@@ -113,7 +117,8 @@ module _ (s : Setting) (e : ℕ) (u : Package) (cs : Contexts Context) (h : IsSt
   used_by-change f seen o rans.Leaves says later step answer =
       let v : Package = with_shared u o.shared in
       let d : Context = record c { work = o.work } in
-      outcome-change f o (settled_to None (is_left d) (is_some (owed v seen)) (has_bulk seen)) None later step (settled_between None (is_left d) (is_some (owed v seen)) (has_bulk seen))
+      outcome-change f o (settled_to None (is_left d) (is_some (owed v seen)) (has_bulk seen)) None later step
+      (settled_between None (is_left d) (is_some (owed v seen)) (has_bulk seen))
       (λ x. sym (ap (λ r. stays_with r t x) answer))
   used_by-change f seen o (rans.Blocks length page) says later step answer =
       subst (λ state. IsChange s f u (with_shared u o.shared) (Some c) (at_state (record c { work = o.work }) state)) (sym at)

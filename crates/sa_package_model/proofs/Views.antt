@@ -1,4 +1,4 @@
--- What a context has, by where it stands.
+-- What a context has, by where it is.
 use Rattle.std.proofs.Common.{◌≡◌, ℕ, ◌+◌, ◌≤◌, Bool, true, false, List, ◌∷◌, Option, Some, None, is_some, slice_get, refl, sym, ap, ◌∙◌, subst, arith}
 use Rattle.sa_base.specs.declared.number.ThreadNo.{ThreadNo}
 use Rattle.sa_links.specs.Lists.{count_in}
@@ -8,7 +8,7 @@ use Rattle.sa_code.specs.declared.code.Op.TheVariants.{TakePush, Push, TakePop, 
 use Rattle.sa_code.specs.declared.state.Frame.{Frame}
 use Rattle.sa_code.specs.Micro.{list_in}
 use Rattle.sa_copies.specs.Copies.{package_ops, copy_at}
-use Rattle.sa_copies.specs.Runs.{is_section_op}
+use Rattle.sa_copies.specs.Runs.{at as moved_at, is_section_op}
 use Rattle.sa_copies.proofs.Places.{ops-copied, copies-copied, copies-ops}
 use Rattle.sa_fast.specs.Work.{work_of}
 use Rattle.sa_fast.specs.Rest.{one_if, one_of}
@@ -53,10 +53,6 @@ module _ (c : Context) (t : Option ThreadNo) (no : section_in c.state ≡ None) 
   pub between_rest : (r : ReadyView) → IsContext r c → AreSections r c.sections
   between_rest r h = subst (AreSections r) between_sections h.sections
 
--- a frame at its copy
-abbrev pub moved_at : Frame → ℕ → Frame
-moved_at f k = record f { pc = k }
-
 -- what it has in a section
 module _ (c : Context) (f : Frame) (k : ℕ) (at : c.state ≡ Code f) (copy : copy_at f.pc ≡ Some k) where
   section_is : section_in c.state ≡ Some (moved_at f k)
@@ -68,7 +64,8 @@ module _ (c : Context) (f : Frame) (k : ℕ) (at : c.state ≡ Code f) (copy : c
   pub section_locks : (l : ℕ) → locks_of (Some c) l ≡ one_if (list_in f).0 l + locks_in c.sections l
   section_locks l = ap (λ fs. locks_in fs l) section_sections
 
-  pub section_threads : (works : List (List ℕ)) (x : ℕ) → threads_of works (Some c) x ≡ one_of f.thread x + one_of f.pushed x + threads_in c.sections x + 0 + count_in x (work_of works c.work)
+  pub section_threads : (works : List (List ℕ)) (x : ℕ)
+      → threads_of works (Some c) x ≡ one_of f.thread x + one_of f.pushed x + threads_in c.sections x + 0 + count_in x (work_of works c.work)
   section_threads works x =
       ap (λ o. threads_in (before_all o c.sections) x + one_of (thread_alone o (carried_by c.state)) x + count_in x (work_of works c.work)) section_is
 
@@ -134,11 +131,13 @@ yields_between f op none = record {
 }
 
 -- the thread that a context carries is that of its section, or its own
-carried_at : (f : Frame) (fs : List Frame) (x : ℕ) (k : Option ℕ) → one_of f.thread x ≤ threads_in (before_all (at_copy f k) fs) x + one_of (thread_alone (at_copy f k) f.thread) x
+carried_at : (f : Frame) (fs : List Frame) (x : ℕ) (k : Option ℕ)
+    → one_of f.thread x ≤ threads_in (before_all (at_copy f k) fs) x + one_of (thread_alone (at_copy f k) f.thread) x
 carried_at f fs x None = omega arith
 carried_at f fs x (Some k) = omega arith
 
-pub carried_less : (state : ContextState) (fs : List Frame) (x : ℕ) → one_of (carried_by state) x ≤ threads_in (before_all (section_in state) fs) x + one_of (thread_alone (section_in state) (carried_by state)) x
+pub carried_less : (state : ContextState) (fs : List Frame) (x : ℕ)
+    → one_of (carried_by state) x ≤ threads_in (before_all (section_in state) fs) x + one_of (thread_alone (section_in state) (carried_by state)) x
 carried_less (Code f) fs x = carried_at f fs x (copy_at f.pc)
 carried_less (Work t) fs x = omega arith
 carried_less (Hint t) fs x = omega arith

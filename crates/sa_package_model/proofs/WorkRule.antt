@@ -8,7 +8,7 @@ use Rattle.sa_base.specs.declared.context.Seen.{Seen}
 use Rattle.sa_abstract.specs.Setting.{Setting}
 use Rattle.sa_abstract.specs.Calls.{Contexts}
 use Rattle.sa_links.specs.Lists.{list_at, count_in}
-use Rattle.sa_links.proofs.Counting.{count_same}
+use Rattle.sa_links.proofs.Counting.{first_counted}
 use Rattle.sa_lists.specs.ReadyView.{ReadyView, list_of, is_locked, processor}
 use Rattle.sa_lists.specs.ReadyView as ready
 use Rattle.sa_code.specs.declared.code.Op.{Op}
@@ -38,7 +38,7 @@ use Rattle.sa_package_model.proofs.Holding.{own_made, own_unready, own_due, own_
 use Rattle.sa_package_model.proofs.PlaceFacts.{IsPlaceable, agree_in_hand, put_down, picked_up, carried_small, own_placeable, own_at_rest, beside_placeable, beside_at_rest, running_hand, carried_hand_place}
 use Rattle.sa_package_model.proofs.Parts.{length_placed, parts_placed, parts_state, parts_works, made_with, due-step, lock_taken}
 
--- a section can stand in the code
+-- a section can be in the code
 fits_stands : (r : ReadyView) (f : Frame) (op : Option Op) → Fits r f op → StandsAt f op
 fits_stands r f None h = absurd h
 fits_stands r f (Some TakePush) h = absurd h
@@ -48,10 +48,6 @@ fits_stands r f (Some Pop) h = tt
 fits_stands r f (Some Free) h = tt
 fits_stands r f (Some Leave) h = absurd h
 fits_stands r f (Some Yield) h = absurd h
-
-head_counted : (xs : List ℕ) (n : ℕ) → ((y : ℕ) → slice_get xs 0 ≡ Some y → y ≡ n) → 1 ≤ length xs → 1 ≤ count_in n xs
-head_counted [] n first some = absurd (omega arith)
-head_counted (x ∷ xs) n first some = let one = count_same n x xs (first x refl) in omega arith
 
 -- a list that has a first
 first_of : (fs : List Frame) (f : Frame) → slice_get fs 0 ≡ Some f → fs ≡ f ∷ drop 1 fs
@@ -78,7 +74,8 @@ module _ (s : Setting) (e : ℕ) (u : Package) (cs : Contexts Context) (h : IsSt
   -- a thread that is carried can be put into the work list
   pub between_due : CanBeDue u.shared t
   between_due = own_due s e u cs h a c is t (λ x.
-      let alone : one_of (thread_alone (section_in c.state) (carried_by c.state)) x ≡ one_of t x = ap (λ o. one_of (thread_alone o (carried_by c.state)) x) no ∙ ap (λ o. one_of o x) carries in
+      let alone : one_of (thread_alone (section_in c.state) (carried_by c.state)) x ≡ one_of t x =
+      ap (λ o. one_of (thread_alone o (carried_by c.state)) x) no ∙ ap (λ o. one_of o x) carries in
       omega arith)
 
   -- the first section is continued
@@ -107,7 +104,8 @@ module _ (s : Setting) (e : ℕ) (u : Package) (cs : Contexts Context) (h : IsSt
         made = made_with s u v.shared h.made refl;
         code = h.code;
         parts = parts_placed u.def u.processors e p.user.shared f.thread Running
-            (parts_works u.def u.processors e (placed u.shared (carried_by c.state) Carried) p.user.shared.works (parts_placed u.def u.processors e u.shared (carried_by c.state) Carried h.parts) step.works);
+            (parts_works u.def u.processors e (placed u.shared (carried_by c.state) Carried) p.user.shared.works
+            (parts_placed u.def u.processors e u.shared (carried_by c.state) Carried h.parts) step.works);
         locks = λ y.
             let split : locks_in c.sections y ≡ one_if (list_in f).0 y + locks_in (drop 1 c.sections) y = ap (λ xs. locks_in xs y) fs in
             omega (arith, section_locks new f f.pc refl one.copy y, locks_are y);
@@ -119,11 +117,14 @@ module _ (s : Setting) (e : ℕ) (u : Package) (cs : Contexts Context) (h : IsSt
         works = λ y p q. step.others y p q;
         lists = λ y p q. refl;
         places = agree_in_hand p.user.shared f.thread 1 Running running_hand second second_rest
-            (agree_in_hand u.shared (carried_by c.state) 0 Carried carried_hand_place (own_placeable s e u cs h a c is (carried_by c.state) refl) (own_at_rest s e u cs h a c is (carried_by c.state) refl) h.places);
+            (agree_in_hand u.shared (carried_by c.state) 0 Carried carried_hand_place (own_placeable s e u cs h a c is (carried_by c.state) refl)
+            (own_at_rest s e u cs h a c is (carried_by c.state) refl) h.places);
         carries = λ y.
             let down = put_down u.shared (carried_by c.state) Carried refl (own_placeable s e u cs h a c is (carried_by c.state) refl) y in
             let up = picked_up p.user.shared f.thread Running refl second y in omega arith;
-        context = section_context new f f.pc refl one.copy u.shared.state.lists (fits_stands u.shared.state.lists f (slice_get package_ops f.pc) one.fits) one.fits both.1;
+        context =
+            section_context new f f.pc refl one.copy u.shared.state.lists
+            (fits_stands u.shared.state.lists f (slice_get package_ops f.pc) one.fits) one.fits both.1;
       }
 
   -- the first thread of the work list
@@ -133,8 +134,9 @@ module _ (s : Setting) (e : ℕ) (u : Package) (cs : Contexts Context) (h : IsSt
 
     first_mine : 1 ≤ threads_of u.shared.works (Some c) first.0
     first_mine =
-        let head = head_counted (list_at u.shared.works first.0) first.0 (λ y at. h.parts.works.named.first first.0 y at) has_work.1 in
-        let old : count_in first.0 (work_of u.shared.works c.work) ≡ count_in first.0 (list_at u.shared.works first.0) = ap (λ w. count_in first.0 (work_of u.shared.works w)) work in
+        let head = first_counted (list_at u.shared.works first.0) first.0 (λ y at. h.parts.works.named.first first.0 y at) has_work.1 in
+        let old : count_in first.0 (work_of u.shared.works c.work) ≡ count_in first.0 (list_at u.shared.works first.0) =
+        ap (λ w. count_in first.0 (work_of u.shared.works w)) work in
         omega (arith, threads_are first.0)
 
     unready_first : ready.IsUnlisted u.shared.state.lists first.0
@@ -145,8 +147,10 @@ module _ (s : Setting) (e : ℕ) (u : Package) (cs : Contexts Context) (h : IsSt
     within : p.0 < length u.shared.state.lists.locked
     within = let same = h.parts.state.ready.locks in omega arith
 
-    pushing_taken : (held : Bool) → is_locked u.shared.state.lists p.0 ≡ held → IsPackage (taken u.shared.state (push_of by p first (carried_by c.state)) p held).state
-        → let m = taken u.shared.state (push_of by p first (carried_by c.state)) p held in IsChange s e u (pushing_by u c first m m.done).user (Some c) (pushing_by u c first m m.done).ctx
+    pushing_taken : (held : Bool) → is_locked u.shared.state.lists p.0 ≡ held
+        → IsPackage (taken u.shared.state (push_of by p first (carried_by c.state)) p held).state
+        → let m = taken u.shared.state (push_of by p first (carried_by c.state)) p held in
+        IsChange s e u (pushing_by u c first m m.done).user (Some c) (pushing_by u c first m m.done).ctx
     pushing_taken true held sound = still-change s e u cs h a c is
     pushing_taken false free sound =
         let f = push_of by p first (carried_by c.state) in
@@ -163,14 +167,17 @@ module _ (s : Setting) (e : ℕ) (u : Package) (cs : Contexts Context) (h : IsSt
           locks = λ y. omega (arith, section_locks new g 8 refl refl y, locks_are y, lock_taken u.shared.state.lists p.0 within free y);
           threads = λ y.
               let same : one_of (carried_by c.state) y ≡ one_of t y = ap (λ o. one_of o y) carries in
-              let old : count_in y (work_of u.shared.works c.work) ≡ count_in y (work_of u.shared.works (Some first)) = ap (λ w. count_in y (work_of u.shared.works w)) work in
+              let old : count_in y (work_of u.shared.works c.work) ≡ count_in y (work_of u.shared.works (Some first)) =
+              ap (λ w. count_in y (work_of u.shared.works w)) work in
               omega (arith, section_threads new g 8 refl refl v.shared.works y, threads_are y, step.threads y);
           names = λ y. let old : one_of c.work y ≡ one_of (Some first) y = ap (λ w. one_of w y) work in omega (arith, step.names y);
           works = λ y none some. step.others y (ap (λ w. one_of w y) (sym work) ∙ none) some;
           lists = λ y none held. refl;
           places = h.places;
           carries = λ y. refl;
-          context = section_context new g 8 refl refl m.state.lists tt (refl, refl) (sections_kept u.shared.state.lists m.state.lists c.sections (λ y some. refl) rest);
+          context =
+              section_context new g 8 refl refl m.state.lists tt (refl, refl)
+              (sections_kept u.shared.state.lists m.state.lists c.sections (λ y some. refl) rest);
         }
 
     push_can : CanDo u.shared.state (push_of by p first (carried_by c.state)) (Some TakePush)
@@ -190,8 +197,10 @@ module _ (s : Setting) (e : ℕ) (u : Package) (cs : Contexts Context) (h : IsSt
       let f = push_of seen.proc (own_list u seen.proc) first (carried_by c.state) in
       let resident = is_resident seen.pages PACKAGE_PAGE in
       let op : slice_get u.shared.state.code 0 ≡ Some TakePush = ap (λ ops. slice_get ops 0) h.code in
-      let sound = micro-package u.shared.state f seen.pages h.parts.state (subst (CanDo u.shared.state f) (sym op) (push_can seen.proc (own_list u seen.proc) inside first work)) in
-      subst (λ o. let m = micro_at u.shared.state f resident (own_list u seen.proc) o in IsPackage m.state → IsChange s e u (pushing_by u c first m m.done).user (Some c) (pushing_by u c first m m.done).ctx)
+      let sound = micro-package u.shared.state f seen.pages h.parts.state
+      (subst (CanDo u.shared.state f) (sym op) (push_can seen.proc (own_list u seen.proc) inside first work)) in
+      subst (λ o. let m = micro_at u.shared.state f resident (own_list u seen.proc) o in
+      IsPackage m.state → IsChange s e u (pushing_by u c first m m.done).user (Some c) (pushing_by u c first m m.done).ctx)
       (sym op) (pushing_taken seen.proc (own_list u seen.proc) inside first work (is_locked u.shared.state.lists (own_list u seen.proc).0) refl) sound
 
   -- another state in no section, which carries the same
@@ -211,7 +220,8 @@ module _ (s : Setting) (e : ℕ) (u : Package) (cs : Contexts Context) (h : IsSt
   }
 
   pub settled-change : (seen : Seen) → IsChange s e u u (Some c) (settled u seen c t)
-  settled-change seen = between-change (settled_to t (is_left c) (is_some (owed u seen)) (has_bulk seen)) (settled_between t (is_left c) (is_some (owed u seen)) (has_bulk seen))
+  settled-change seen =
+      between-change (settled_to t (is_left c) (is_some (owed u seen)) (has_bulk seen)) (settled_between t (is_left c) (is_some (owed u seen)) (has_bulk seen))
 
   -- what it has to do it can do
   first_thread : (fs : List Frame) → ((x : ℕ) → threads_in fs x ≤ threads_of u.shared.works (Some c) x) → IfSome (slice_get fs 0) (λ f. IsThread f.thread)
@@ -246,13 +256,16 @@ module _ (s : Setting) (e : ℕ) (u : Package) (cs : Contexts Context) (h : IsSt
           code = h.code;
           parts = parts_state u.def u.processors e l u.shared m.state h.parts sound (taken-changes_only u.shared.state f (processor l) false);
           locks = λ y. omega (arith, section_locks new g 11 refl refl y, locks_are y, lock_taken u.shared.state.lists l in_locks free y);
-          threads = λ y. let none : one_of t y ≡ 0 = ap (λ o. one_of o y) nothing in omega (arith, section_threads new g 11 refl refl u.shared.works y, threads_are y);
+          threads = λ y. let none : one_of t y ≡ 0 = ap (λ o. one_of o y) nothing in
+              omega (arith, section_threads new g 11 refl refl u.shared.works y, threads_are y);
           names = λ y. refl;
           works = λ y q r. refl;
           lists = λ y q r. refl;
           places = h.places;
           carries = λ y. let none : one_of t y ≡ 0 = ap (λ o. one_of o y) nothing in omega (arith, carried_x y);
-          context = section_context new g 11 refl refl m.state.lists tt (refl, refl, refl, some) (sections_kept u.shared.state.lists m.state.lists c.sections (λ y some. refl) rest);
+          context =
+              section_context new g 11 refl refl m.state.lists tt (refl, refl, refl, some)
+              (sections_kept u.shared.state.lists m.state.lists c.sections (λ y some. refl) rest);
         }
 
   pub popping-change : (seen : Seen) (l : ℕ) → l < length u.shared.state.lists.lists → 0 < length (list_of u.shared.state.lists l) → t ≡ None
@@ -263,5 +276,6 @@ module _ (s : Setting) (e : ℕ) (u : Package) (cs : Contexts Context) (h : IsSt
       let op : slice_get u.shared.state.code 4 ≡ Some TakePop = ap (λ ops. slice_get ops 4) h.code in
       let has : HasList u.shared.state f = record { there = refl; inside = inside } in
       let sound = micro-package u.shared.state f seen.pages h.parts.state (subst (CanDo u.shared.state f) (sym op) has) in
-      subst (λ o. let m = micro_at u.shared.state f resident (processor l) o in IsPackage m.state → IsChange s e u (popping_by u c m m.done).user (Some c) (popping_by u c m m.done).ctx)
+      subst (λ o. let m = micro_at u.shared.state f resident (processor l) o in
+      IsPackage m.state → IsChange s e u (popping_by u c m m.done).user (Some c) (popping_by u c m m.done).ctx)
       (sym op) (popping_taken seen.proc l inside some nothing (is_locked u.shared.state.lists l) refl) sound

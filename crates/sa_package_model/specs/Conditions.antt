@@ -38,7 +38,7 @@ pub record CanCode (u : Package) (f : Frame) : Type 0 where
   pub carries : CanBeDue u.shared f.thread
 
 -- the first section to continue carries a thread of the space, and the one that is carried can be put into a work list;
--- the first thread to make ready stands in no list
+-- the first thread to make ready is in no list
 pub record CanWork (u : Package) (c : Context) (t : Option ThreadNo) : Type 0 where
   pub section : IfSome (slice_get c.sections 0) (λ f. IsThread f.thread)
   pub carries : CanBeDue u.shared t
@@ -81,7 +81,7 @@ CanBeTold u c (Blocked a) held = Unit {0}
 CanBeTold u c (Preempted a) held = IfSome held (λ s. CanTakeOver u c s.ctx)
 CanBeTold u c (Unblocked a) held = IfSome held (λ s. CanTakeOver u c s.ctx)
 
--- the context stands at an instruction of its thread, within its program
+-- the context is at an instruction of its thread, within its program
 abbrev pub CanGoAt : Package → ContextState → Type 0
 CanGoAt u (User t) = (t.0 < MAX_THREADS) × IsAt u.def (block_at u.shared.threads t.0)
 CanGoAt u _ = ⊥

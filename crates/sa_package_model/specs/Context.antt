@@ -39,7 +39,7 @@ stands_inside (User t) = false
 stands_inside (Look looks) = false
 stands_inside _ = true
 
--- the section in which a frame stands, or of which it stands in a copy: the frame at the place of the copy
+-- the section in which a frame is, or in whose copy: the frame at the place of the copy
 abbrev pub at_copy : Frame → Option ℕ → Option Frame
 at_copy f None = None
 at_copy f (Some place) = Some (record f { pc = place })
@@ -62,7 +62,7 @@ abbrev pub is_left : Context → Bool
 is_left c = has_some c.sections || is_some c.work
 
 -- settling: what comes next for a context with this thread, where something is left to do, where a hint is owed, and
--- where so many activations are taken that they are given back
+-- where enough activations are taken for them to be given back
 abbrev pub settled_to : Option ThreadNo → Bool → Bool → Bool → ContextState
 settled_to t true owed bulk = Work t
 settled_to t false true bulk = Hint t

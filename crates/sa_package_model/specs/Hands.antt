@@ -17,7 +17,7 @@ pub record AreInOnePlace (rest : ℕ → ℕ) (hands : ℕ → ℕ → ℕ) : Ty
   -- nothing is lost
   pub somewhere : (t : ℕ) → rest t ≡ 0 → (a : ℕ) × (1 ≤ hands a t)
 
--- the sections of a context: the one in which it stands, or in whose copy, and those that it has to continue
+-- the sections of a context: the one in which it is, or in whose copy, and those that it has to continue
 abbrev pub sections_of : Context → List Frame
 sections_of c = before_all (section_in c.state) c.sections
 
@@ -50,7 +50,7 @@ abbrev pub name_of : Option Context → ℕ → ℕ
 name_of None l = 0
 name_of (Some c) l = one_of c.work l
 
--- CARRIED is the thread with which a context stands
+-- CARRIED is the thread that a context has with it
 abbrev pub carried_of : Option Context → ℕ → ℕ
 carried_of None t = 0
 carried_of (Some c) t = one_of (carried_by c.state) t

@@ -85,8 +85,8 @@ owed u seen = more_owed seen.demand u.processors (load u)
 abbrev pub settled : Package → Seen → Context → Option ThreadNo → Context
 settled u seen c t = at_state c (settled_to t (is_left c) (is_some (owed u seen)) (has_bulk seen))
 
--- THE CHECK of a notice with context d: its section, and then the sections that it has to continue, come behind those of
--- c; its work list is put behind that of c; and where it is in no section its thread comes last
+-- THE CHECK of a notice with context d: its section, and then the sections that it has to continue, come after those of
+-- c; its work list is put at the end of that of c; and where it is in no section its thread comes last
 abbrev pub thread_alone : Option Frame → Option ThreadNo → Option ThreadNo
 thread_alone (Some f) t = None
 thread_alone None t = t
@@ -106,7 +106,7 @@ did p says = record { user = p.user; ctx = p.ctx; says = says; answer = Did }
 abbrev pub asks : Pair → Step → Stepped Package Context
 asks p answer = record { user = p.user; ctx = p.ctx; says = []; answer = answer }
 
--- code: the effects of push and pop move a thread; behind a free that is no copy's the routine is over
+-- code: the effects of push and pop move a thread; after a free that is no copy's the routine is over
 abbrev pub moved_by : Shared → Option Op → Frame → Frame → Shared
 moved_by x (Some Push) f g = placed x f.pushed Ready
 moved_by x (Some Pop) f g = placed x g.thread Running
@@ -139,7 +139,8 @@ coded u seen c f =
 -- work: the first section is continued in its copy, with its thread; one that is carried comes last in the work list
 abbrev pub continuing : Pair → Frame → Stepped Package Context
 continuing p f =
-    did (pair (placed_in p.user f.thread Running) (record p.ctx { state = Code f; sections = drop 1 p.ctx.sections })) (Cont p.user.shared.state.space f.thread ∷ [])
+    did (pair (placed_in p.user f.thread Running) (record p.ctx { state = Code f; sections = drop 1 p.ctx.sections }))
+    (Cont p.user.shared.state.space f.thread ∷ [])
 
 abbrev pub continued : Package → Context → Frame → Stepped Package Context
 continued u c f = continuing (put_last u c (carried_by c.state)) f

@@ -26,7 +26,7 @@ Fits r f (Some Pop) = IsSome f.list × (f.pushed ≡ None) × (f.thread ≡ None
 Fits r f (Some Free) = IsSome f.list × (f.pushed ≡ None)
 Fits r f _ = ⊥
 
--- and it stands in its copy
+-- and it is in its copy
 pub record IsSection (r : ReadyView) (f : Frame) : Type 0 where
   pub copy : copy_at f.pc ≡ Some f.pc
   pub fits : Fits r f (slice_get package_ops f.pc)
@@ -35,7 +35,7 @@ abbrev pub AreSections : ReadyView → List Frame → Type 0
 AreSections r [] = Unit {0}
 AreSections r (f ∷ fs) = IsSection r f × AreSections r fs
 
--- in the code a context stands in a section, or at a copy's end
+-- in the code a context is in a section, or at a copy's end
 abbrev pub StandsAt : Frame → Option Op → Type 0
 StandsAt f (Some Push) = Unit {0}
 StandsAt f (Some Pop) = Unit {0}

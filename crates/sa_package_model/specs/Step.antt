@@ -79,7 +79,7 @@ told u c (Blocked a) held = (u, c)
 told u c (Preempted a) held = let p = told_of u c held in (p.user, p.ctx)
 told u c (Unblocked a) held = let p = told_of u c held in (p.user, p.ctx)
 
--- behind an upcall's notices, a More and a GiveBack the context settles; behind an Idle its state and count stay, and in
+-- after an upcall's notices, a More and a GiveBack the context settles; after an Idle its state and count stay, and in
 -- the code it goes on there
 abbrev pub answered : Package → Seen → Context → Package × Context
 answered u seen c = (u, if stands_between c.state then settled u seen c (carried_by c.state) else c)
@@ -102,7 +102,7 @@ stepped_at u seen c Return = asks (pair u c) GiveBack
 stepped_at u seen c (User t) = used u seen c t
 stepped_at u seen c (Look looks) = looked u seen c looks
 
--- a hint that is no longer owed, and activations that are no longer so many: the context settles without an event
+-- a hint that is no longer owed, and activations that are too few by now: the context settles without an event
 abbrev pub if_owed : Package → Seen → Context → Option ThreadNo → Option ℕ → Context
 if_owed u seen c t (Some n) = c
 if_owed u seen c t None = settled u seen c t
@@ -149,7 +149,7 @@ gone_at u c n _ = record { user = u; ctx = c; says = [] }
 abbrev pub went : Package → Seen → Context → ℕ → Gone Package Context
 went u seen c n = gone_at u c n c.state
 
--- where a context stands
+-- where a context is
 abbrev pub stands_at : Package → ThreadNo → Block → SeatState
 stands_at u t b = Local u.shared.state.space t b.program b.pc b.regs
 
@@ -160,7 +160,7 @@ local_at u _ = Away
 abbrev pub tally : Package → Tally
 tally u = record { made = u.shared.state.lists.made; done = done_of u.shared.threads; active = active_of u.shared.threads }
 
--- the first list whose lock it has: that of the section in which it stands, else that of the first to continue
+-- the first list whose lock it has: that of the section in which it is, else that of the first to continue
 abbrev pub own_section : Package → ContextState → Option Frame
 own_section u (Code f) = if is_in_section (slice_get u.shared.state.code f.pc) then Some f else None
 own_section u _ = None

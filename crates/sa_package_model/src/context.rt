@@ -6,7 +6,7 @@ use crate::sections::Sections;
 use sa_base::ThreadNo;
 use sa_code::Frame;
 
-/// Where a context stands, with the thread that it carries.
+/// Where a context is, with the thread that it carries.
 #[derive(Clone, Copy, Debug, PartialEq, Eq)]
 pub enum ContextState {
     /// At a place of the package's code.

@@ -32,7 +32,7 @@ impl Sections {
         }
     }
 
-    /// Adds one behind the last.
+    /// Adds one at the end.
     pub fn add(&mut self, frame: Frame)
         requires { length self.old < MAX_LISTS }
         ensures { self.new ≡ self.old ++ frame ∷ [] }
@@ -40,7 +40,7 @@ impl Sections {
         self.frames.push(frame);
     }
 
-    /// Adds others behind the last, in their order.
+    /// Adds others at the end, in their order.
     pub fn append(&mut self, others: &Sections)
         requires { length self.old + length others.now ≤ MAX_LISTS }
         ensures { self.new ≡ self.old ++ others.now }

@@ -9,7 +9,8 @@ use Rattle.sa_package_model.specs.Step as fast
 use Rattle.sa_prio_model.specs.Prio.{Prio, with_base, with_on}
 use Rattle.sa_prio_model.specs.Step.{left_on, goes}
 
-pub gone_is : (v : Prio) (seen : Seen) (c : Context) (u : Package) (d : Context) (answer : Step) (t : Option ThreadNo) → u ≡ (fast.stepped v.base seen c).user → d ≡ (fast.stepped v.base seen c).ctx → answer ≡ (fast.stepped v.base seen c).answer
+pub gone_is : (v : Prio) (seen : Seen) (c : Context) (u : Package) (d : Context) (answer : Step) (t : Option ThreadNo) → u ≡ (fast.stepped v.base seen c).user
+    → d ≡ (fast.stepped v.base seen c).ctx → answer ≡ (fast.stepped v.base seen c).answer
     → t ≡ left_on answer d.state → with_on (with_base v u) seen.proc t ≡ (goes v seen c).user
 gone_is v seen c u d answer t user ctx answers thread =
     let r = fast.stepped v.base seen c in

@@ -49,7 +49,7 @@ impl PrioThreads {
         }
     }
 
-    /// The context goes on behind the last notice of its upcall, or behind an entry of the kernel that it asked for: it
+    /// The context goes on after the last notice of its upcall, or after an entry of the kernel that it asked for: it
     /// settles, where it is between routines or was to serve a pair. A processor that was offered as idle looks on.
     pub fn answered(&mut self, seen: &Seen, ctx: &mut PrioContext)
         requires { CanRank self.old }
@@ -70,7 +70,7 @@ impl PrioThreads {
         ctx.urge = !ctx.base.state.is_inside() && self.has_pair(seen);
     }
 
-    /// Where the context stands, as far as its processor can go on by itself.
+    /// Where the context is, as far as its processor can go on by itself.
     pub fn local(&self, ctx: &PrioContext) -> SeatState
         requires { IsThread (carried_by ctx.now.base.state) }
         ensures { result ≡ local self.now ctx.now }

@@ -26,7 +26,7 @@ impl PrioThreads {
         self.serve(seen, ctx, trace)
     }
 
-    // Where a hint is no longer owed, or the activations to give back are no longer so many, the context settles; one with the
+    // Where a hint is no longer owed, or the activations to give back are too few by now, the context settles; one with the
     // mark does not.
     fn settle_again(&self, seen: &Seen, ctx: &mut PrioContext)
         requires { CanRank self.now }
@@ -90,7 +90,7 @@ impl PrioThreads {
         Step::Did
     }
 
-    // A step of FastThreads. Behind it the context may have come to an instruction or a look where a pair exists.
+    // A step of FastThreads. After it the context may have come to an instruction or a look where a pair exists.
     fn go(&mut self, seen: &Seen, ctx: &mut PrioContext, trace: &mut Trace) -> Step
         requires turn { IsStep prio_stands self.old seen.now ctx.old }
         requires room { 2 ≤ trace.old.spare }
@@ -104,7 +104,7 @@ impl PrioThreads {
     }
 }
 
-// The thread on the processor of a context that stands so behind this answer: none behind a block.
+// The thread on the processor of a context in this state after this answer: none after a block.
 fn left_on(answer: Step, state: ContextState) -> Option<ThreadNo>
     ensures { result ≡ left_on answer state }
 {

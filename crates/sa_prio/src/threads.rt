@@ -10,8 +10,8 @@ use sa_spaces::SpaceDef;
 use std::alloc::{AllocError, Global};
 use std::marker::Model;
 
-/// The package with thread priorities of one address space: FastThreads with one ready list, in which the threads stand by
-/// their ranks. The rank of a thread is the number of its program.
+/// The package with thread priorities of one address space: FastThreads with one ready list, in which the threads are in the order
+/// of their ranks. The rank of a thread is the number of its program.
 #[derive(Debug, Drop)]
 pub struct PrioThreads {
     pub(crate) base: FastThreads,
@@ -31,7 +31,7 @@ impl Model for PrioThreads {
 }
 
 impl PrioThreads {
-    /// The package of a space at its opening: thread 0 is ready, all locks are free, and nothing runs. The space has so many
+    /// The package of a space at its opening: thread 0 is ready, all locks are free, and nothing runs. The space has this many
     /// processors at most, 1 to 16, and the fetch of a page takes `fetch` events, 1 to 1,000. Fails only where memory runs
     /// out; no other call can fail so.
     pub fn start(

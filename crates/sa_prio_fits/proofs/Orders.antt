@@ -1,23 +1,13 @@
 -- The order by rank: what comes into it, what is taken out of it, and which thread is first.
-use Rattle.std.proofs.Common.{◌≡◌, ◌≢◌, ℕ, ◌+◌, ◌<◌, ◌≤◌, nat_lt, Bool, true, false, cond, not, ◌==◌, if◌then◌else◌, List, [], ◌∷◌, ◌++◌, drop, Option, Some, None, slice_get, refl, sym, ap, ◌∙◌, subst, inl, inr, arith}
-use Rattle.std.proofs.lemmas.Bool.{cases_eq, cases_lt, lt-ltb, le-ltb, eq-eqb, ne_eqb}
-use Rattle.std.proofs.lemmas.List.Sums.{sum_by-cons}
+use Rattle.std.proofs.Common.{◌≡◌, ◌≢◌, ℕ, ◌+◌, ◌<◌, ◌≤◌, nat_lt, Bool, true, false, if◌then◌else◌, List, [], ◌∷◌, ◌++◌, drop, Option, Some, None, slice_get, refl, sym, ap, ◌∙◌, subst, inl, inr, arith}
+use Rattle.std.proofs.lemmas.Bool.{cases_eq, cases_lt, lt-ltb, le-ltb}
 use Rattle.std.proofs.lemmas.Option.{same_Some}
-use Rattle.sa_links.proofs.Counting.{count-cons-ge, count_same, count_other, count_without_same, count_without_other, without_lacked}
+use Rattle.sa_links.proofs.Counting.{count-cons, count-cons-ge, count_same, count_other, without_same, without_other, count_without_same, count_without_other, without_lacked}
 use Rattle.sa_links.specs.Lists.{count_in, without, IsIn}
 use Rattle.sa_lists.proofs.Changes.{count-inserted}
 use Rattle.sa_lists.specs.Chains.{IsOrdered}
 use Rattle.sa_lists.specs.ReadyView.{rank_of, inserted}
 use Rattle.sa_prio_fits.specs.ByRank.{by_rank_from, by_rank, greater, greatest}
-
-count-cons : (x y : ℕ) (ys : List ℕ) → count_in x (y ∷ ys) ≡ cond (y == x) 1 0 + count_in x ys
-count-cons x y ys = sum_by-cons (λ z. cond (z == x) 1 0) y ys
-
-without_same : (x y : ℕ) (ys : List ℕ) → y ≡ x → without x (y ∷ ys) ≡ without x ys
-without_same x y ys e = ap (λ b. if not b then y ∷ without x ys else without x ys) (eq-eqb y x e)
-
-without_other : (x y : ℕ) (ys : List ℕ) → y ≢ x → without x (y ∷ ys) ≡ y ∷ without x ys
-without_other x y ys ne = ap (λ b. if not b then y ∷ without x ys else without x ys) (ne_eqb y x ne)
 
 -- A THREAD COMES after the others
 pub by_rank-append : (ranks xs ns : List ℕ) (t : ℕ) → by_rank_from ranks xs (ns ++ t ∷ []) ≡ inserted ranks t (by_rank_from ranks xs ns)

@@ -1,4 +1,4 @@
--- A context settles again without an event: a hint that is no longer owed, activations that are no longer so many, and a
+-- A context settles again without an event: a hint that is no longer owed, activations that are too few by now, and a
 -- pair that is there no longer.
 use Rattle.std.proofs.Common.{◌≡◌, ℕ, ◌≤◌, Bool, true, false, not, ◌||◌, [], Option, Some, None, is_some, is_none, nat_le, nat_lt, min, refl, sym, ap, ◌∙◌, subst, inl, inr, arith}
 use Rattle.std.proofs.Math.Path.{fun_ext}

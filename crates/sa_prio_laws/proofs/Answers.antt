@@ -41,7 +41,7 @@ use Rattle.sa_prio_model.specs.declared.context.PrioContext.{PrioContext}
 use Rattle.sa_prio_fits.proofs.Fresh.{fresh-when}
 use Rattle.sa_prio_fits.proofs.Pairs.{pairs-alike, is-near, sees-lines}
 use Rattle.sa_prio_fits.specs.Fits.{is_fresh, prio_view, PrioFits, prio_fits, prio_hears}
-use Rattle.sa_prio_laws.proofs.Frames.{base-is}
+use Rattle.sa_prio_laws.proofs.Frames.{plain, base-is}
 
 -- an upcall's event has an entry of the kernel
 any-in : (p : Record → Bool) (xs : List Record) (x : Record) → Contains xs x → p x ≡ true → list_any p xs ≡ true
@@ -58,10 +58,6 @@ has-entry (y ∷ xs) x has so = ap (λ b. begins_entry y || b) (any-in is_of_ent
 pub out-or : (b x : Bool) → (b || (not b && x)) ≡ (b || (true && x))
 out-or true x = refl
 out-or false x = refl
-
--- a context in its upcall
-abbrev plain : PrioContext → PrioContext
-plain y = record { base = record { state = Work None; sections = y.base.sections; work = y.base.work }; urge = false }
 
 pub prio-answers : (w : WorkloadView) (s : Setting) (e : ℕ) (before r last : Readings) (ev : Event) (v : Prio) (cs : Contexts PrioContext) (n : ActNo)
     (c : PrioContext) (seen : Seen)

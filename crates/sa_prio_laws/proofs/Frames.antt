@@ -1,5 +1,5 @@
 -- The frame laws: what concerns no thread or life of the space does not matter; and who runs where.
-use Rattle.std.proofs.Common.{◌≡◌, ℕ, [], Option, Some, None, option_map, slice_index_or, refl, sym, ap, ◌∙◌, subst}
+use Rattle.std.proofs.Common.{◌≡◌, ℕ, false, [], Option, Some, None, option_map, slice_index_or, refl, sym, ap, ◌∙◌, subst}
 use Rattle.std.proofs.lemmas.Option.{same_Some, none-some}
 use Rattle.sa_base.specs.declared.number.ActNo.{ActNo}
 use Rattle.sa_base.specs.declared.number.ProcNo.{ProcNo}
@@ -8,6 +8,7 @@ use Rattle.sa_abstract.specs.Calls.{Contexts}
 use Rattle.sa_abstract.specs.Setting.{Setting}
 use Rattle.sa_package_model.specs.Context.{carried_by}
 use Rattle.sa_package_model.specs.declared.context.Context.{Context}
+use Rattle.sa_package_model.specs.declared.context.ContextState.TheVariants.{Work}
 use Rattle.sa_laws.specs.Life.{Life}
 use Rattle.sa_laws.specs.Readings.{Readings}
 use Rattle.sa_user_laws.specs.Moments.{SameFor, AlikeButDemands}
@@ -21,6 +22,10 @@ use Rattle.sa_prio_model.specs.Stands.{bases, prio_stands}
 use Rattle.sa_prio_model.specs.declared.context.PrioContext.{PrioContext}
 use Rattle.sa_prio_fits.specs.Fits.{prio_view, prio_fits, prio_hears}
 use Rattle.sa_prio_fits.specs.Ready.{FitsRanked}
+
+-- a context in its upcall
+abbrev pub plain : PrioContext → PrioContext
+plain y = record { base = record { state = Work None; sections = y.base.sections; work = y.base.work }; urge = false }
 
 -- FastThreads' context in each
 pub base-is : (cs : Contexts PrioContext) (i : ℕ) (c : PrioContext) → cs i ≡ Some c → bases cs i ≡ Some c.base

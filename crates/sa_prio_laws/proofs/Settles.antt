@@ -111,7 +111,7 @@ module _ (set : Setting) (e : ℕ) (v : Prio) (w : WorkloadView) (r : Readings) 
             (served v seen (marked v seen b (record { state = s; sections = []; work = None }))))
             (and_true (is_out s)) h
 
-  -- ACTIVATIONS that are no longer so many
+  -- ACTIVATIONS that are too few by now
   pub return-again : (cs : Contexts PrioContext) → has_bulk seen ≡ false
       → IsPrioScene set e v cs w r p a life (record { base = record { state = Return; sections = []; work = None }; urge = false }) seen
       → GoesLegally (settled_to None false (is_some (owed v.base seen)) (has_bulk seen))

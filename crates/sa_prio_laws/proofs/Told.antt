@@ -36,7 +36,7 @@ use Rattle.sa_prio_model.specs.declared.context.PrioContext.{PrioContext}
 use Rattle.sa_prio_fits.proofs.Ranked.{ranked-kept}
 use Rattle.sa_prio_fits.specs.Fits.{prio_view, PrioHears, prio_hears}
 use Rattle.sa_prio_fits.specs.Ready.{FitsRanked}
-use Rattle.sa_prio_laws.proofs.Frames.{base-is}
+use Rattle.sa_prio_laws.proofs.Frames.{plain, base-is}
 
 -- NOTICES that hand nothing over
 pub prio-tells_add : (w : WorkloadView) (s : Setting) (e : ℕ) (r : Readings) (v : Prio) (cs : Contexts PrioContext) (p : ProcNo) (n : ActNo)
@@ -119,10 +119,6 @@ module _ (w : WorkloadView) (s : Setting) (e : ℕ) (r : Readings) (v : Prio) (c
             ];
         calm = λ z mine. ap (λ (y : PrioContext). y.urge) (sym (same_Some new z (sym at_n ∙ mine)));
       }
-
--- a context in its upcall
-abbrev plain : PrioContext → PrioContext
-plain y = record { base = record { state = Work None; sections = y.base.sections; work = y.base.work }; urge = false }
 
 pub prio-tells : (w : WorkloadView) (s : Setting) (e : ℕ) (r : Readings) (v : Prio) (cs : Contexts PrioContext) (p : ProcNo) (n : ActNo)
     (c : PrioContext) (number : ℕ) (note : Note) (b : ActNo) (life : Life) (held : Stopped PrioContext)

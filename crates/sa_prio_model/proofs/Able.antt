@@ -41,7 +41,7 @@ module _ (v : Prio) (seen : Seen) (c : PrioContext) (r : IsStep prio_stands v se
   pub step_base : CanStep v.base seen c.base
   step_base = base.step_can r.setting r.event v.base (bases r.others) r.value.base r.act c.base base_mine seen.event r.later r.within seen r.sees
 
-  -- behind a step of FastThreads the threads still have their ranks
+  -- after a step of FastThreads the threads still have their ranks
   pub step_gone : CanRank (goes v seen c.base).user
   step_gone =
       let stands = base_stands r.setting r.event v r.others r.value r.act seen r.sees r.later r.within c r.mine in
@@ -71,12 +71,15 @@ module _ (v : Prio) (seen : Seen) (c : PrioContext) (r : IsStep prio_stands v se
     step_work = own_work r.setting r.event v.base (bases r.others) r.value.base r.act c.base base_mine
 
     pub step_due : CanBeDue v.base.shared (carried_by c.base.state)
-    step_due = way_due r.setting r.event v.base (bases r.others) r.value.base r.act c.base base_mine (out-no-section c.base.state (r.value.marks r.act c r.mine mark)) seen
+    step_due =
+        way_due r.setting r.event v.base (bases r.others) r.value.base r.act c.base base_mine
+        (out-no-section c.base.state (r.value.marks r.act c r.mine mark)) seen
 
     pub step_settled : IsStep prio_stands v seen (unmarked (settled v.base seen c.base (carried_by c.base.state)))
     step_settled =
         let d = settled v.base seen c.base (carried_by c.base.state) in
-        let there = settled_stands r.setting r.event v.base (bases r.others) r.value.base r.act c.base base_mine (out-no-section c.base.state (r.value.marks r.act c r.mine mark)) seen in
+        let there = settled_stands r.setting r.event v.base (bases r.others) r.value.base r.act c.base base_mine
+        (out-no-section c.base.state (r.value.marks r.act c r.mine mark)) seen in
         record {
           setting = r.setting;
           event = r.event;
@@ -96,7 +99,8 @@ answered_ranks v seen c r = ranks_can r.setting r.event v r.others r.value
 pub local_thread : (v : Prio) (c : PrioContext) → IsOf prio_stands v c → IsThread (carried_by c.base.state)
 local_thread v c r = base.seat_can r.setting r.event v.base (bases r.others) r.value.base r.act c.base (ap (option_map unmarked_of) r.mine)
 
-pub told_base : (v : Prio) (c : PrioContext) (note : Note) (held : Option (Stopped PrioContext)) → IsTelling prio_stands v c note held → CanBeTold v.base c.base note (option_map base_of held)
+pub told_base : (v : Prio) (c : PrioContext) (note : Note) (held : Option (Stopped PrioContext)) → IsTelling prio_stands v c note held
+    → CanBeTold v.base c.base note (option_map base_of held)
 told_base v c note held r =
     base.told_can r.setting r.event v.base (bases r.others) r.value.base r.act c.base (ap (option_map unmarked_of) r.mine) note (option_map base_of held)
     (base_handed r.setting r.event v r.others r.value r.act c r.mine note held r.handed)

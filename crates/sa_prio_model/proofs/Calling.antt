@@ -132,7 +132,8 @@ module _ (s : Setting) (e : ℕ) (v : Prio) (cs : Contexts PrioContext) (h : IsP
     same_state (Unblocked b) None = refl
     same_state (Unblocked b) (Some d) = refl
 
-    pub prio_tells : (note : Note) (held : Option (Stopped PrioContext)) → IsHanded cs a note held → IsPrioStanding s e (told v c note held).0 (told_contexts cs a (told v c note held).1 note)
+    pub prio_tells : (note : Note) (held : Option (Stopped PrioContext)) → IsHanded cs a note held
+        → IsPrioStanding s e (told v c note held).0 (told_contexts cs a (told v c note held).1 note)
     prio_tells note held handed =
         let d = (told v c note held).1 in
         record {

@@ -41,7 +41,8 @@ marks-gone cs a marks b c is = elim (cases_eq b a) [
 ]
 
 -- the threads on the processors, once another one is on one of them
-pub threads-with : (v : Prio) (p : ProcNo) (t : Option ThreadNo) → p.0 < length v.on → IsThread t → ((q : ℕ) → IsThread (on_at v q)) → (q : ℕ) → IsThread (on_at (with_on v p t) q)
+pub threads-with : (v : Prio) (p : ProcNo) (t : Option ThreadNo) → p.0 < length v.on → IsThread t → ((q : ℕ) → IsThread (on_at v q)) → (q : ℕ)
+    → IsThread (on_at (with_on v p t) q)
 threads-with v p t inside thread threads q = holds-set IsThread v.on p.0 q t None inside (λ same. thread) (λ other. threads q)
 
 module _ (s : Setting) (e : ℕ) (v : Prio) (cs : Contexts PrioContext) (h : IsPrioStanding s e v cs) where
@@ -57,7 +58,8 @@ module _ (s : Setting) (e : ℕ) (v : Prio) (cs : Contexts PrioContext) (h : IsP
       }
 
   -- another value and one context that changed
-  pub built : (f a : ℕ) (w : Prio) (d : PrioContext) → IsStanding s f w.base (put (bases cs) a (Some d.base)) → IsMarkedWell d → length w.on ≡ s.processors → ((q : ℕ) → IsThread (on_at w q))
+  pub built : (f a : ℕ) (w : Prio) (d : PrioContext) → IsStanding s f w.base (put (bases cs) a (Some d.base)) → IsMarkedWell d → length w.on ≡ s.processors
+      → ((q : ℕ) → IsThread (on_at w q))
       → IsPrioStanding s f w (put cs a (Some d))
   built f a w d base well processors threads = record {
     base = subst (IsStanding s f w.base) (sym (bases-put cs a (Some d))) base;

@@ -62,7 +62,8 @@ module _ (v : Prio) (seen : Seen) (best : ℕ) where
   }
 
   -- the one of processor n is lower than all before it
-  newest : (n rank : ℕ) → outranked_on v seen best n ≡ Some rank → ((q m : ℕ) → q < n → outranked_on v seen best q ≡ Some m → rank < m) → IsFound (suc n) (record { proc = processor n; rank = rank })
+  newest : (n rank : ℕ) → outranked_on v seen best n ≡ Some rank → ((q m : ℕ) → q < n → outranked_on v seen best q ≡ Some m → rank < m)
+      → IsFound (suc n) (record { proc = processor n; rank = rank })
   newest n rank here less = record {
     inside = omega arith;
     pair = here;
@@ -75,7 +76,8 @@ module _ (v : Prio) (seen : Seen) (best : ℕ) where
 
   says_lower : (n : ℕ) (x : Outranked) (rank : ℕ) → IsFound n x → outranked_on v seen best n ≡ Some rank → (lower_rank : Bool) → nat_lt rank x.rank ≡ lower_rank
       → Says (suc n) (if lower_rank then Some (record { proc = processor n; rank = rank }) else Some x)
-  says_lower n x rank is here true e = newest n rank here (λ q m less some. let least = is.lowest q m less some in let under = ltb-true rank x.rank e in omega arith)
+  says_lower n x rank is here true e =
+      newest n rank here (λ q m less some. let least = is.lowest q m less some in let under = ltb-true rank x.rank e in omega arith)
   says_lower n x rank is here false e = record {
     inside = let inside = is.inside in omega arith;
     pair = is.pair;
@@ -99,13 +101,15 @@ module _ (v : Prio) (seen : Seen) (best : ℕ) where
   found_says n x None says e = absurd cc
   found_says n x (Some y) says e = subst (IsFound n) (same_Some y x e) says
 
-  none_says : (n q : ℕ) (found : Option Outranked) (rank : Option ℕ) → Says n found → found ≡ None → q < n → outranked_on v seen best q ≡ rank → outranked_on v seen best q ≡ None
+  none_says : (n q : ℕ) (found : Option Outranked) (rank : Option ℕ) → Says n found → found ≡ None → q < n → outranked_on v seen best q ≡ rank
+      → outranked_on v seen best q ≡ None
   none_says n q None None says e less is = is
   none_says n q None (Some m) says e less is = absurd (says q m less is)
   none_says n q (Some y) rank says e less is = absurd cc
 
 -- with the first ready thread, if there is one
-lowest_by : (v : Prio) (seen : Seen) (x : Outranked) (first : Option ℕ) → first_rank v.base ≡ first → option_and_then (λ best. lowest_below v seen best (length v.on)) first ≡ Some x → IsLowest v seen x
+lowest_by : (v : Prio) (seen : Seen) (x : Outranked) (first : Option ℕ) → first_rank v.base ≡ first
+    → option_and_then (λ best. lowest_below v seen best (length v.on)) first ≡ Some x → IsLowest v seen x
 lowest_by v seen x None is e = absurd cc
 lowest_by v seen x (Some best) is e =
     let found = found_says v seen best (length v.on) x (lowest_below v seen best (length v.on)) (says v seen best (length v.on)) e in
@@ -120,7 +124,8 @@ lowest_by v seen x (Some best) is e =
 pub lowest-is : (v : Prio) (seen : Seen) (x : Outranked) → lowest v seen ≡ Some x → IsLowest v seen x
 lowest-is v seen x e = lowest_by v seen x (first_rank v.base) refl e
 
-none_by : (v : Prio) (seen : Seen) (q : ProcNo) (first : Option ℕ) → option_and_then (λ best. lowest_below v seen best (length v.on)) first ≡ None → q.0 < length v.on
+none_by : (v : Prio) (seen : Seen) (q : ProcNo) (first : Option ℕ) → option_and_then (λ best. lowest_below v seen best (length v.on)) first ≡ None
+    → q.0 < length v.on
     → option_and_then (λ best. outranked_on v seen best q.0) first ≡ None
 none_by v seen q None e less = refl
 none_by v seen q (Some best) e less =

@@ -44,7 +44,7 @@ came_is_out before after e = first (is_out after) (not (goes_on before after)) e
   first true b h = refl
   first false b h = absurd cc
 
--- what is on the processor behind a step is a thread of the space
+-- what is on the processor after a step is a thread of the space
 left_is_thread : (answer : Step) (state : ContextState) → IsThread (carried_by state) → IsThread (left_on answer state)
 left_is_thread Did state thread = thread
 left_is_thread (Block length page) state thread = tt
@@ -53,7 +53,8 @@ left_is_thread Idle state thread = thread
 left_is_thread GiveBack state thread = thread
 left_is_thread (InterruptOwn q) state thread = thread
 
-module _ (s : Setting) (e : ℕ) (v : Prio) (cs : Contexts PrioContext) (h : IsPrioStanding s e v cs) (a : ℕ) (seen : Seen) (sees : IsSeen s seen) (after : e < seen.event) (within : seen.event ≤ MAX_EVENTS) where
+module _ (s : Setting) (e : ℕ) (v : Prio) (cs : Contexts PrioContext) (h : IsPrioStanding s e v cs) (a : ℕ) (seen : Seen) (sees : IsSeen s seen)
+    (after : e < seen.event) (within : seen.event ≤ MAX_EVENTS) where
   abbrev Well : Stepped Prio PrioContext → Type 0
   Well r = IsStepped prio_stands s seen cs a r
 
@@ -71,7 +72,8 @@ module _ (s : Setting) (e : ℕ) (v : Prio) (cs : Contexts PrioContext) (h : IsP
         let r = fast.stepped v.base seen c in
         let w = (goes v seen c).user in
         let base = steps_well s e v.base (put (bases cs) a (Some c)) a c seen stands at sees after within in
-        let there : IsStanding s seen.event r.user (put (bases cs) a (Some r.ctx)) = subst (λ xs. IsStanding s seen.event r.user xs) (put-put (bases cs) a (Some c) (Some r.ctx)) base.value in
+        let there : IsStanding s seen.event r.user (put (bases cs) a (Some r.ctx)) =
+        subst (λ xs. IsStanding s seen.event r.user xs) (put-put (bases cs) a (Some c) (Some r.ctx)) base.value in
         let thread = seat_can s seen.event r.user (put (bases cs) a (Some r.ctx)) there a r.ctx (put-same (bases cs) a (Some r.ctx)) in
         let left = left_on r.answer r.ctx.state in
         record {
@@ -91,7 +93,9 @@ module _ (s : Setting) (e : ℕ) (v : Prio) (cs : Contexts PrioContext) (h : IsP
         let there = way_stands s e v.base (put (bases cs) a (Some c)) stands a c at outside seen in
         let now = subst (λ xs. IsStanding s e r.user.base xs) (put-put (bases cs) a (Some c) (Some r.ctx.base)) there in
         record {
-          value = built s e v cs h seen.event a r.user r.ctx (later s e seen.event r.user.base (put (bases cs) a (Some r.ctx.base)) now (omega arith)) (well-unmarked r.ctx.base)
+          value =
+              built s e v cs h seen.event a r.user r.ctx (later s e seen.event r.user.base (put (bases cs) a (Some r.ctx.base)) now (omega arith))
+              (well-unmarked r.ctx.base)
               (length-set v.on seen.proc.0 None ∙ h.processors)
               (threads-with (with_base v r.user.base) seen.proc None proc_on tt h.threads);
           asked = tt;
@@ -103,7 +107,9 @@ module _ (s : Setting) (e : ℕ) (v : Prio) (cs : Contexts PrioContext) (h : IsP
     interrupts_well out x calm found =
         let is = lowest-is v seen x found in
         record {
-          value = built s e v cs h seen.event a v (record { base = c; urge = true }) (later s e seen.event v.base (put (bases cs) a (Some c)) stands (omega arith)) (λ mark. out) h.processors h.threads;
+          value =
+              built s e v cs h seen.event a v (record { base = c; urge = true })
+              (later s e seen.event v.base (put (bases cs) a (Some c)) stands (omega arith)) (λ mark. out) h.processors h.threads;
           asked = (
             λ same. absurd (let both : None ≡ Some x.rank = sym calm ∙ ap (outranked v seen) (sym same) ∙ is.pair in cc),
             let inside = is.inside in let processors = h.processors in omega arith,
@@ -140,7 +146,8 @@ module _ (s : Setting) (e : ℕ) (v : Prio) (cs : Contexts PrioContext) (h : IsP
     settled_again : section_in c.state ≡ None → Still (settled v.base seen c (carried_by c.state))
     settled_again outside =
         let d = settled v.base seen c (carried_by c.state) in
-        subst (λ xs. IsStanding s e v.base xs) (put-put (bases cs) a (Some c) (Some d)) (settled_stands s e v.base (put (bases cs) a (Some c)) stands a c (put-same (bases cs) a (Some c)) outside seen)
+        subst (λ xs. IsStanding s e v.base xs) (put-put (bases cs) a (Some c) (Some d))
+        (settled_stands s e v.base (put (bases cs) a (Some c)) stands a c (put-same (bases cs) a (Some c)) outside seen)
 
     owed_stands : (t : Option ThreadNo) → c.state ≡ Hint t → (more : Option ℕ) → Still (fast.if_owed v.base seen c t more)
     owed_stands t is (Some n) = stands

@@ -19,7 +19,8 @@ use Rattle.sa_package_model.proofs.PlaceFacts.{agree_in_hand, put_down, own_plac
 use Rattle.sa_package_model.proofs.Parts.{parts_placed, parts_works, made_with, due-step}
 use Rattle.sa_package_model.proofs.WorkRule.{between_due, settled-change}
 
-module _ (s : Setting) (e : ℕ) (u : Package) (cs : Contexts Context) (h : IsStanding s e u cs) (a : ℕ) (c : Context) (is : cs a ≡ Some c) (outside : section_in c.state ≡ None) (seen : Seen) where
+module _ (s : Setting) (e : ℕ) (u : Package) (cs : Contexts Context) (h : IsStanding s e u cs) (a : ℕ) (c : Context) (is : cs a ≡ Some c)
+    (outside : section_in c.state ≡ None) (seen : Seen) where
   -- its thread can be put into the work list
   pub way_due : CanBeDue u.shared (carried_by c.state)
   way_due = between_due s e u cs h a c is (carried_by c.state) outside refl
@@ -35,9 +36,17 @@ module _ (s : Setting) (e : ℕ) (u : Package) (cs : Contexts Context) (h : IsSt
       record {
         made = made_with s u p.user.shared h.made refl;
         code = h.code;
-        parts = parts_works u.def u.processors e (placed u.shared t Carried) p.user.shared.works (parts_placed u.def u.processors e u.shared t Carried h.parts) step.works;
+        parts =
+            parts_works u.def u.processors e (placed u.shared t Carried) p.user.shared.works
+            (parts_placed u.def u.processors e u.shared t Carried h.parts) step.works;
         locks = λ y. omega (arith, between_locks new None state.section state.carries y, between_locks c t outside refl y);
-        threads = λ y. omega (arith, between_threads new None state.section state.carries p.user.shared.works y, between_threads c t outside refl u.shared.works y, step.threads y);
+        threads =
+            λ y. omega (
+              arith,
+              between_threads new None state.section state.carries p.user.shared.works y,
+              between_threads c t outside refl u.shared.works y,
+              step.threads y,
+            );
         names = λ y. step.names y;
         works = λ y q r. step.others y q r;
         lists = λ y q r. refl;
@@ -46,7 +55,9 @@ module _ (s : Setting) (e : ℕ) (u : Package) (cs : Contexts Context) (h : IsSt
             let down = put_down u.shared t Carried refl placeable y in
             let none : one_of (carried_by new.state) y ≡ 0 = ap (λ o. one_of o y) state.carries in
             omega arith;
-        context = between_context new None state.section state.carries u.shared.state.lists state.is (between_rest c t outside refl u.shared.state.lists (h.contexts a c is));
+        context =
+            between_context new None state.section state.carries u.shared.state.lists state.is
+            (between_rest c t outside refl u.shared.state.lists (h.contexts a c is));
       }
 
   pub way_stands : let p = put_last u c (carried_by c.state) in IsStanding s e p.user (put cs a (Some (settled p.user seen p.ctx None)))
@@ -55,4 +66,5 @@ module _ (s : Setting) (e : ℕ) (u : Package) (cs : Contexts Context) (h : IsSt
   -- a context between routines settles
   pub settled_stands : IsStanding s e u (put cs a (Some (settled u seen c (carried_by c.state))))
   settled_stands =
-      let d = settled u seen c (carried_by c.state) in change-stands s e u cs h e a u (Some c) d is (settled-change s e u cs h a c is (carried_by c.state) outside refl seen)
+      let d = settled u seen c (carried_by c.state) in
+      change-stands s e u cs h e a u (Some c) d is (settled-change s e u cs h a c is (carried_by c.state) outside refl seen)

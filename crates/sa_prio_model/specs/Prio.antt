@@ -11,7 +11,7 @@ use Rattle.sa_package_model.specs.declared.package.Package.{Package}
 use Rattle.sa_prio_model.specs.declared.pair.Outranked.{Outranked}
 
 pub record Prio : Type 0 where
-  -- FastThreads with one ready list, in which the threads stand by their ranks
+  -- FastThreads with one ready list, in which the threads are in the order of their ranks
   pub base : Package
   -- of each processor, the thread that the space's context there carries
   pub on : List (Option ThreadNo)

@@ -18,7 +18,7 @@ unmarked_of c = c.base
 abbrev pub bases : Contexts PrioContext → Contexts Context
 bases cs a = option_map unmarked_of (cs a)
 
--- a context with the mark stands at an instruction of its thread, or looks for one
+-- a context with the mark is at an instruction of its thread, or looks for one
 abbrev pub IsMarkedWell : PrioContext → Type 0
 IsMarkedWell c = c.urge ≡ true → is_out c.base.state ≡ true
 

@@ -40,11 +40,11 @@ abbrev pub told : Prio → PrioContext → Note → Option (Stopped PrioContext)
 told v c note held =
     let r = fast.told v.base c.base note (option_map base_of held) in (with_base v r.0, record c { base = r.1 })
 
--- behind an upcall's notices, a More, a GiveBack, and the interrupt of another processor the context settles
+-- after an upcall's notices, a More, a GiveBack, and the interrupt of another processor the context settles
 abbrev pub answered : Prio → Seen → PrioContext → Prio × PrioContext
 answered v seen c = (v, if c.urge || stands_between c.base.state then settles v seen c.base else c)
 
--- A STEP of FastThreads. The thread that the context carries behind it is the one on the processor, but for one that
+-- A STEP of FastThreads. The thread that the context carries after it is the one on the processor, but for one that
 -- blocks; and the context has come to an instruction or a look, or has not
 abbrev pub left_on : Step → ContextState → Option ThreadNo
 left_on (Block length page) state = None
@@ -69,7 +69,7 @@ gives_way v seen c =
       answer = Did;
     }
 
--- urge: another processor is interrupted; behind that the context settles
+-- urge: another processor is interrupted; after that the context settles
 abbrev pub interrupts : Prio → Context → Outranked → Stepped Prio PrioContext
 interrupts v c other = record { user = v; ctx = record { base = c; urge = true }; says = []; answer = InterruptOwn other.proc }
 
@@ -82,7 +82,7 @@ urged_by v seen c None None = goes v seen (settled v.base seen c (carried_by c.s
 abbrev pub urged : Prio → Seen → Context → Stepped Prio PrioContext
 urged v seen c = urged_by v seen c (outranked v seen seen.proc) (lowest v seen)
 
--- a hint that is no longer owed, and activations that are no longer so many: the context settles without an event. One with
+-- a hint that is no longer owed, and activations that are too few by now: the context settles without an event. One with
 -- the mark does not
 abbrev pub resettled : Prio → Seen → Context → PrioContext
 resettled v seen c = let d = fast.resettled v.base seen c c.state in marked v seen (came_out c.state d.state) d
@@ -103,7 +103,7 @@ went v seen c n =
     let r = fast.went v.base seen c.base n in
     record { user = with_base v r.user; ctx = record c { base = r.ctx }; says = r.says }
 
--- where a context stands
+-- where a context is
 abbrev pub local : Prio → PrioContext → SeatState
 local v c = if c.urge then Away else fast.local_at v.base c.base.state
 

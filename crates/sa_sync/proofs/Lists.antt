@@ -2,7 +2,8 @@
 use Rattle.std.proofs.Common.{◌≡◌, ℕ, zero, suc, ◌+◌, ◌≤◌, List, [], ◌∷◌, length, map, take, drop, set, replicate, refl, ap, arith}
 use Rattle.std.specs.Simd.Lanes.{zip2}
 
-pub zip2-set : {X Y Z : Type 0} (f : X → Y → Z) (xs : List X) (ys : List Y) (i : ℕ) (x : X) (y : Y) → zip2 f (set xs i x) (set ys i y) ≡ set (zip2 f xs ys) i (f x y)
+pub zip2-set : {X Y Z : Type 0} (f : X → Y → Z) (xs : List X) (ys : List Y) (i : ℕ) (x : X) (y : Y)
+    → zip2 f (set xs i x) (set ys i y) ≡ set (zip2 f xs ys) i (f x y)
 zip2-set f [] ys i x y = refl
 zip2-set f (a ∷ xs) [] zero x y = refl
 zip2-set f (a ∷ xs) [] (suc i) x y = refl
@@ -16,7 +17,8 @@ zip2-set_past f (a ∷ xs) [] i y h = refl
 zip2-set_past f (a ∷ xs) (b ∷ ys) zero y h = absurd (omega arith)
 zip2-set_past f (a ∷ xs) (b ∷ ys) (suc i) y h = ap (λ zs. f a b ∷ zs) (zip2-set_past f xs ys i y (omega arith))
 
-pub map-zip2 : {X Y Z : Type 0} (f : X → Y → Z) (g : Z → Y) → ((x : X) (y : Y) → g (f x y) ≡ y) → (xs : List X) (ys : List Y) → map g (zip2 f xs ys) ≡ take (length xs) ys
+pub map-zip2 : {X Y Z : Type 0} (f : X → Y → Z) (g : Z → Y) → ((x : X) (y : Y) → g (f x y) ≡ y) → (xs : List X) (ys : List Y)
+    → map g (zip2 f xs ys) ≡ take (length xs) ys
 map-zip2 f g e [] ys = refl
 map-zip2 f g e (x ∷ xs) [] = refl
 map-zip2 f g e (x ∷ xs) (y ∷ ys) = rw (e x y) (ap (λ zs. y ∷ zs) (map-zip2 f g e xs ys))

@@ -5,8 +5,8 @@ use Rattle.sa_sync.specs.Sync.{Sync, mutex_at, semaphore_at, joiners_at, is_done
 use Rattle.sa_sync.specs.Calls.{goes, waits, is_holder, locked, locked_by, passed_on, unlocked, waited, waited_by, signalled, signalled_by, joined, finished, without_joiner, stored}
 use Rattle.sa_sync.specs.Laws.{SameNumbers}
 
-same : (s : Sync) → SameNumbers s s
-same s = record { mutexes = refl; semaphores = refl; joiners = refl; done = refl; cells = refl }
+pub same_numbers : (s : Sync) → SameNumbers s s
+same_numbers s = record { mutexes = refl; semaphores = refl; joiners = refl; done = refl; cells = refl }
 
 mutex_kept : (s : Sync) (m : ℕ) (holder : Option ℕ) (q : List ℕ) → SameNumbers s (with_mutex s m holder q)
 mutex_kept s m holder q = record { mutexes = length-set s.mutexes m _; semaphores = refl; joiners = refl; done = refl; cells = refl }
@@ -30,7 +30,11 @@ passed_on_keeps s m (next ∷ q) = mutex_kept s m (Some next) q
 
 pub unlocked_keeps : (s : Sync) (t m : ℕ) → SameNumbers s (unlocked s t m).state
 unlocked_keeps s t m =
-    elim (is_holder t (mutex_at s m).holder) as (λ b. SameNumbers s (cond b (passed_on s m (mutex_at s m).queue) (goes s)).state) [ true ↦ passed_on_keeps s m (mutex_at s m).queue | false ↦ same s ]
+    elim (is_holder t (mutex_at s m).holder) as (λ b. SameNumbers s (cond b (passed_on s m (mutex_at s m).queue) (goes s)).state) [
+      | true ↦
+          passed_on_keeps s m (mutex_at s m).queue
+      | false ↦ same_numbers s
+    ]
 
 waited_by_keeps : (s : Sync) (t k count : ℕ) (q : List ℕ) → SameNumbers s (waited_by s t k count q).state
 waited_by_keeps s t k zero q = semaphore_kept s k 0 (q ++ t ∷ [])
@@ -48,9 +52,10 @@ signalled_keeps s k = signalled_by_keeps s k (semaphore_at s k).count (semaphore
 
 pub joined_keeps : (s : Sync) (t other made : ℕ) → SameNumbers s (joined s t other made).state
 joined_keeps s t other made =
-    elim (nat_lt other made && not (is_done s other)) as (λ b. SameNumbers s (cond b (waits (with_joiners s other (joiners_at s other ++ t ∷ []))) (goes s)).state) [
+    elim (nat_lt other made && not (is_done s other)) as (λ b. SameNumbers s
+    (cond b (waits (with_joiners s other (joiners_at s other ++ t ∷ []))) (goes s)).state) [
       | true ↦ joiners_kept s other (joiners_at s other ++ t ∷ [])
-      | false ↦ same s
+      | false ↦ same_numbers s
     ]
 
 pub finished_keeps : (s : Sync) (t : ℕ) → SameNumbers s (finished s t)

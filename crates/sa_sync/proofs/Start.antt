@@ -15,17 +15,22 @@ pub shown-opening : (space : SpaceView) (queues : ℕ) → queues ≡ MAX_THREAD
 shown-opening space queues e =
     let holders : List (Option ThreadNo) = replicate space.mutexes None in
     let many : length holders ≡ space.mutexes = length-replicate space.mutexes None in
-    let left : drop {A = List ℕ} MAX_THREADS (replicate queues []) ≡ replicate (space.mutexes + length space.sems) [] = drop-replicate MAX_THREADS queues (space.mutexes + length space.sems) [] (omega arith) in
-    let right : drop {A = List ℕ} (MAX_THREADS + length holders) (replicate queues []) ≡ replicate (length space.sems) [] = drop-replicate (MAX_THREADS + length holders) queues (length space.sems) [] (omega arith) in
+    let left : drop {A = List ℕ} MAX_THREADS (replicate queues []) ≡ replicate (space.mutexes + length space.sems) [] =
+    drop-replicate MAX_THREADS queues (space.mutexes + length space.sems) [] (omega arith) in
+    let right : drop {A = List ℕ} (MAX_THREADS + length holders) (replicate queues []) ≡ replicate (length space.sems) [] =
+    drop-replicate (MAX_THREADS + length holders) queues (length space.sems) [] (omega arith) in
     let mutexes : zip2 mutex_of holders (drop MAX_THREADS (replicate queues [])) ≡ replicate space.mutexes free_mutex =
-    ap (zip2 mutex_of holders) left ∙ zip2-replicate mutex_of holders (space.mutexes + length space.sems) [] (omega arith) ∙ map-replicate (λ h. mutex_of h []) space.mutexes None in
+    ap (zip2 mutex_of holders) left ∙ zip2-replicate mutex_of holders (space.mutexes + length space.sems) [] (omega arith)
+    ∙ map-replicate (λ h. mutex_of h []) space.mutexes None in
     let semaphores : zip2 semaphore_of space.sems (drop (MAX_THREADS + length holders) (replicate queues [])) ≡ map unwaited space.sems =
     ap (zip2 semaphore_of space.sems) right ∙ zip2-replicate semaphore_of space.sems (length space.sems) [] (omega arith) in
-    let joiners : take {A = List ℕ} MAX_THREADS (replicate queues []) ≡ replicate MAX_THREADS [] = take-replicate MAX_THREADS queues (space.mutexes + length space.sems) [] (omega arith) in
+    let joiners : take {A = List ℕ} MAX_THREADS (replicate queues []) ≡ replicate MAX_THREADS [] =
+    take-replicate MAX_THREADS queues (space.mutexes + length space.sems) [] (omega arith) in
     rw (mutexes, semaphores, joiners) refl
 
 pub shown-new : (space : SpaceView) (holders : List (Option ThreadNo)) (counts : List ℕ) (queues : Lists) (many : ℕ) (done : List Bool) (cells : List ℕ)
-    → holders ≡ replicate space.mutexes None → counts ≡ space.sems → queues ≡ record { nodes = MAX_THREADS; lists = replicate many [] } → many ≡ MAX_THREADS + space.mutexes + length space.sems → done ≡ replicate MAX_THREADS false → cells ≡ replicate space.cells 0
+    → holders ≡ replicate space.mutexes None → counts ≡ space.sems → queues ≡ record { nodes = MAX_THREADS; lists = replicate many [] }
+    → many ≡ MAX_THREADS + space.mutexes + length space.sems → done ≡ replicate MAX_THREADS false → cells ≡ replicate space.cells 0
     → shown holders counts queues.lists done cells ≡ opening space
 shown-new space holders counts queues many done cells nobody starts empty all undone zeros =
     ap (λ x. shown x counts queues.lists done cells) nobody

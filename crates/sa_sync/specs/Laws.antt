@@ -18,7 +18,7 @@ joining answer.Goes t u = 0
 joining answer.Waits t u = if t == u then 1 else 0
 joining (answer.Wakes woken) t u = 0
 
--- after a call of thread t each thread stands in as many queues as before, but for the caller where it waits, and
+-- after a call of thread t each thread is in as many queues as before, but for the caller where it waits, and
 -- the one that was woken
 abbrev pub TellsWhoWaits : Sync → ℕ → Change → Type 0
 TellsWhoWaits s t change = (u : ℕ) → waits_of change.state u + woken change.answer u ≡ waits_of s u + joining change.answer t u
@@ -41,9 +41,12 @@ abbrev pub QueuesAreInOrder : Type 0
 QueuesAreInOrder =
     ((s : Sync) (t m : ℕ) → m < length s.mutexes → IsQueueStep (locked s t m).answer t (mutex_at s m).queue (mutex_at (locked s t m).state m).queue)
     × ((s : Sync) (t m : ℕ) → m < length s.mutexes → IsQueueStep (unlocked s t m).answer t (mutex_at s m).queue (mutex_at (unlocked s t m).state m).queue)
-    × ((s : Sync) (t k : ℕ) → k < length s.semaphores → IsQueueStep (waited s t k).answer t (semaphore_at s k).queue (semaphore_at (waited s t k).state k).queue)
-    × ((s : Sync) (t k : ℕ) → k < length s.semaphores → IsQueueStep (signalled s k).answer t (semaphore_at s k).queue (semaphore_at (signalled s k).state k).queue)
-    × ((s : Sync) (t other made : ℕ) → made ≤ length s.joiners → IsQueueStep (joined s t other made).answer t (joiners_at s other) (joiners_at (joined s t other made).state other))
+    × ((s : Sync) (t k : ℕ) → k < length s.semaphores
+    → IsQueueStep (waited s t k).answer t (semaphore_at s k).queue (semaphore_at (waited s t k).state k).queue)
+    × ((s : Sync) (t k : ℕ) → k < length s.semaphores
+    → IsQueueStep (signalled s k).answer t (semaphore_at s k).queue (semaphore_at (signalled s k).state k).queue)
+    × ((s : Sync) (t other made : ℕ) → made ≤ length s.joiners
+    → IsQueueStep (joined s t other made).answer t (joiners_at s other) (joiners_at (joined s t other made).state other))
 
 -- the state after as many calls of `next_joiner`
 abbrev pub without_joiners : Sync → ℕ → ℕ → Sync
@@ -54,7 +57,7 @@ without_joiners s t (suc count) = without_joiners (without_joiner s t) t count
 abbrev pub JoinersAreInOrder : Type 0
 JoinersAreInOrder = (s : Sync) (t n : ℕ) → t < length s.joiners → first_joiner (without_joiners (finished s t) t n) t ≡ slice_get (joiners_at s t) n
 
--- each call keeps that a thread stands in one queue at most
+-- each call keeps that a thread is in one queue at most
 abbrev pub CallsKeepOneQueue : Type 0
 CallsKeepOneQueue =
     ((s : Sync) (t m : ℕ) → WaitsOnce s → t < MAX_THREADS → WaitsNowhere s t → m < length s.mutexes → WaitsOnce (locked s t m).state)

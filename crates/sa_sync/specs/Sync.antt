@@ -66,7 +66,7 @@ with_semaphore s k count queue = record s { semaphores = slice_set s.semaphores 
 abbrev pub with_joiners : Sync → ℕ → List ℕ → Sync
 with_joiners s t queue = record s { joiners = slice_set s.joiners t queue }
 
--- all queues, and how often a thread stands in them
+-- all queues, and how often a thread is in them
 abbrev pub queues_of : Sync → List (List ℕ)
 queues_of s = s.joiners ++ map (λ m. m.queue) s.mutexes ++ map (λ k. k.queue) s.semaphores
 

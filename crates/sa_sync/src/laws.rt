@@ -17,7 +17,7 @@ pub fn joiners_are_in_order()
     ensures { JoinersAreInOrder }
 {}
 
-/// Each call keeps that a thread stands in one queue at most.
+/// Each call keeps that a thread is in one queue at most.
 pub fn calls_keep_one_queue()
     ensures { CallsKeepOneQueue }
 {}

@@ -190,7 +190,7 @@ impl SyncState {
         self.cells[c as usize] = v;
     }
 
-    /// Whether the thread stands in no queue.
+    /// Whether the thread is in no queue.
     pub fn waits_nowhere(&self, t: ThreadNo) -> bool
         requires { t.0 < MAX_THREADS }
         ensures { IsTrue result ↔ WaitsNowhere self.now t.0 }
@@ -206,7 +206,7 @@ impl SyncState {
         self.counts[k as usize]
     }
 
-    /// Says that each thread stands in one queue at most. It does nothing.
+    /// Says that each thread is in one queue at most. It does nothing.
     pub fn waits_once(&self)
         ensures { WaitsOnce self.now }
     {

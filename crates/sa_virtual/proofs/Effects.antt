@@ -23,7 +23,7 @@ use Rattle.sa_laws.specs.declared.place.Place.TheVariants as places
 use Rattle.sa_laws.specs.State.{Thread, SpaceState, at_start, with_thread, is_waiting}
 use Rattle.sa_laws.specs.Effect.{Effect, effect, next, next_with, with_sync, answered, sync_effect, fork_effect, end_effect, effect_of}
 use Rattle.sa_check_machine.specs.Space.{CanDo}
-use Rattle.sa_check_machine.proofs.JoinerLemmas.{waits_parts}
+use Rattle.sa_sync.proofs.LawLemmas.{waits_parts}
 use Rattle.sa_links.proofs.Counting.{count_set}
 use Rattle.sa_virtual.specs.Holding.{one_where, kind, numbers, place_no}
 

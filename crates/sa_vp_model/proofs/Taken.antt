@@ -15,7 +15,7 @@ use Rattle.sa_base.specs.declared.limits.TheConstants.{MAX_PROCESSORS}
 use Rattle.sa_base.specs.declared.record.Record.TheVariants as rec
 use Rattle.sa_spaces.specs.Workload.{WorkloadView}
 use Rattle.sa_links.specs.Lists.{count_in, without}
-use Rattle.sa_links.proofs.Counting.{count_same, count-append, count-cons-ge}
+use Rattle.sa_links.proofs.Counting.{count-append, get_in}
 use Rattle.sa_assign.specs.Reaim.{proc_no}
 use Rattle.sa_laws.specs.declared.place.Place.{Place}
 use Rattle.sa_laws.specs.Life.{Life, without_lock, with_first, ran}
@@ -62,11 +62,6 @@ module _ (k n : ℕ) (some : 0 < n) where
     go false rest e = rest e
 
 -- PICKED: one of them
-get_in : (xs : List ℕ) (k t : ℕ) → slice_get xs k ≡ Some t → 1 ≤ count_in t xs
-get_in [] k t is = cc
-get_in (x ∷ xs) zero t is = let one = count_same t x xs (same_Some _ _ is) in omega (arith, one)
-get_in (x ∷ xs) (suc k) t is = omega (arith, get_in xs k t is, count-cons-ge t x xs)
-
 pub picked_in : (xs : List ℕ) (own : Bool) (t : ℕ) → picked xs own ≡ Some t → 1 ≤ count_in t xs
 picked_in xs true t is = get_in xs 0 t is
 picked_in xs false t is = get_in xs (length xs - 1) t is

@@ -3,7 +3,8 @@ use Rattle.std.proofs.lemmas.List.{length-set}
 use Rattle.sa_sync.specs.Sync.{Sync, joiners_at, with_joiners}
 use Rattle.sa_sync.specs.Calls.{first_joiner, without_joiner}
 use Rattle.sa_check_machine.specs.Space.{named}
-use Rattle.sa_check_machine.proofs.JoinerLemmas.{few_joiners, queue, rest_joins, joiners_twice}
+use Rattle.sa_check_machine.proofs.JoinerLemmas.{few_joiners, queue, rest_joins}
+use Rattle.sa_sync.proofs.LawLemmas.{joiners_twice}
 use Rattle.sa_check_machine.proofs.effect.wake_joiners.Goals as goal
 
 pub loop-u-init : goal.loop-u-init

@@ -22,7 +22,8 @@ tell-requires-in-Signal-clause-woken c =
     (signalled_tells s c.args.t.0 c.in-Signal.k (search rules)) c.requires.can.waiting c.signal-answer.ensures.answer
 
 -- an instruction that stays within its thread
-as_local : (fetch pages : ℕ) (x : Shared) (w : Option ThreadNo) (t : ThreadNo) (b : Block) (i j : Instr) → i ≡ j → outcome_of fetch pages x w t b j ≡ went x w t b j → outcome_of fetch pages x w t b i ≡ went x w t b i
+as_local : (fetch pages : ℕ) (x : Shared) (w : Option ThreadNo) (t : ThreadNo) (b : Block) (i j : Instr) → i ≡ j
+    → outcome_of fetch pages x w t b j ≡ went x w t b j → outcome_of fetch pages x w t b i ≡ went x w t b i
 as_local fetch pages x w t b i j e h = subst (λ k. outcome_of fetch pages x w t b k ≡ went x w t b k) (sym e) h
 
 pub returns-in-Compute : goal.returns-in-Compute

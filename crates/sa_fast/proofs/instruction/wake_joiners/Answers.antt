@@ -4,7 +4,8 @@ use Rattle.sa_links.specs.Lists.{count_in_all}
 use Rattle.sa_sync.specs.Sync.{Sync, joiners_at, with_joiners, Waits}
 use Rattle.sa_sync.specs.Calls.{first_joiner, without_joiner}
 use Rattle.sa_fast.specs.Work.{with_name, added, added_all}
-use Rattle.sa_fast.proofs.WakeLemmas.{first_waits, still_waits, rest_joins, joiners_twice, queue}
+use Rattle.sa_fast.proofs.WakeLemmas.{first_waits, still_waits, rest_joins, queue}
+use Rattle.sa_sync.proofs.LawLemmas.{joiners_twice}
 use Rattle.sa_fast.proofs.instruction.wake_joiners.Goals as goal
 
 pub add-requires-clause-thread : goal.add-requires-clause-thread

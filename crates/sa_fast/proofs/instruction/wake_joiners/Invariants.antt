@@ -10,7 +10,8 @@ invariant-loop-u l = record {
   threads : length l.sync.joiners ≡ MAX_THREADS;
   named : IsWork l.works l.work;
   waiting : (u : ℕ) → Waits l.sync u → IsUnlisted l.works u;
-  rest : added_all (with_name l.works l.work) (joiners_at l.sync l.t.0) ≡ added_all (with_name l.initial.works l.initial.work) (joiners_at l.initial.sync l.t.0);
+  rest : added_all (with_name l.works l.work) (joiners_at l.sync l.t.0)
+      ≡ added_all (with_name l.initial.works l.initial.work) (joiners_at l.initial.sync l.t.0);
   same : with_joiners l.sync l.t.0 [] ≡ with_joiners l.initial.sync l.t.0 [];
 }
 

@@ -56,7 +56,16 @@ module _ (E : El) where
   function = inst_fn (args E) code.function
 
   abbrev ended : Ended
-  ended = record { signature = record { lifetimes = 1; outlives = []; params = RefMutOf (0 ∷ []) tt (plain (λ _. Vr E)) (λ _. tt) ∷ plain (λ _. Pl E) ∷ plain (λ _. R E) ∷ []; result = plain (λ _. unit) }; kept = (yes, (no, (no, tt))) }
+  ended =
+      record {
+        signature = record {
+          lifetimes = 1;
+          outlives = [];
+          params = RefMutOf (0 ∷ []) tt (plain (λ _. Vr E)) (λ _. tt) ∷ plain (λ _. Pl E) ∷ plain (λ _. R E) ∷ [];
+          result = plain (λ _. unit);
+        };
+        kept = (yes, (no, (no, tt)));
+      }
 
   abbrev stayed : Stays ended.signature.params ended.kept
   stayed = (stay_ref (0 ∷ []) tt (plain (λ _. Vr E)), (stay_dropped (plain (λ _. Pl E)) no, (stay_dropped (plain (λ _. R E)) no, tt)))
@@ -68,9 +77,14 @@ module _ (E : El) where
   at d place = index_of (R E) d.ptr place.ptr
 
   abbrev spec : {M : Type 1} {𝓤 : Ura M} (𝓛 : Logic 𝓤) → Clauses 𝓤 ended
-  spec {𝓤 = 𝓤} 𝓛 κs a = record { ghost = Unit {0}; requires = λ _. fact 𝓤 (Asks a.0.now a.1.0); ensures = λ _ r w. sep 𝓤 (fact 𝓤 (w.0.now.items ≡ set a.0.now.items (at a.0.now a.1.0) a.1.1.0)) (fact 𝓤 (w.0.now.ptr ≡ a.0.now.ptr)) }
+  spec {𝓤 = 𝓤} 𝓛 κs a = record {
+    ghost = Unit {0};
+    requires = λ _. fact 𝓤 (Asks a.0.now a.1.0);
+    ensures = λ _ r w. sep 𝓤 (fact 𝓤 (w.0.now.items ≡ set a.0.now.items (at a.0.now a.1.0) a.1.1.0)) (fact 𝓤 (w.0.now.ptr ≡ a.0.now.ptr));
+  }
 
-module _ (E : El) {M : Type 1} {𝓤 : Ura M} (𝓛 : Logic 𝓤) (C : Calls 𝓤 𝓛.H) (Λ : Loops 𝓤 𝓛.H) (κ : Lft) (q : Share) (rb ro : ℕ) (γ : GName) (h : el_d E) (p : (Pl E).Denot) (y : el_x E) (us0 us1 us2 : List Val) where
+module _ (E : El) {M : Type 1} {𝓤 : Ura M} (𝓛 : Logic 𝓤) (C : Calls 𝓤 𝓛.H) (Λ : Loops 𝓤 𝓛.H) (κ : Lft) (q : Share) (rb ro : ℕ) (γ : GName) (h : el_d E)
+    (p : (Pl E).Denot) (y : el_x E) (us0 us1 us2 : List Val) where
   open 𝓛 use {H, A}
 
   abbrev self : MutBor (el_d E)
@@ -97,12 +111,15 @@ module _ (E : El) {M : Type 1} {𝓤 : Ura M} (𝓛 : Logic 𝓤) (C : Calls �
   abbrev i : ℕ
   i = at E h p
 
-  exits : us0 ≡ vptr rb ro ∷ [] → ent 𝓤 (⋆ 𝓛 (‵ (fobs γ ((Vr E).coded.code (with_item h i y))) ∷ ‵ (fbor κ (Borrowed (mem (Vr E)) rb ro γ)) ∷ ‵ (flft κ q) ∷ [])) (Post vunit)
+  exits : us0 ≡ vptr rb ro ∷ []
+      → ent 𝓤 (⋆ 𝓛 (‵ (fobs γ ((Vr E).coded.code (with_item h i y))) ∷ ‵ (fbor κ (Borrowed (mem (Vr E)) rb ro γ)) ∷ ‵ (flft κ q) ∷ [])) (Post vunit)
   exits passed =
       let new = with_item h i y in
       qed 𝓛 (‵ (fobs γ ((Vr E).coded.code new)) ∷ ‵ (fbor κ (Borrowed (mem (Vr E)) rb ro γ)) ∷ ‵ (flft κ q) ∷ []) ∵
-      suffices ! _ (ends_at 𝓛 (ended E) (stayed E) (spec E 𝓛) bound vunit tt (new, (tt, (tt, tt))) (tt, (tt, (tt, tt)))) $ Says-All ! (and_fact 𝓤 refl (last_fact 𝓤 refl)) $
-      nothing ! $ move ! (3 ∷ 0 ∷ []) $ join ! $ frame ! $ feq_i ! (List Val) us0 (vptr rb ro ∷ []) passed $ fjoin3 ! $ nothing ! $ nothing ! $ fjoin ! $ nothing ! $ fjoin ! $ move ! (1 ∷ 0 ∷ []) $ fjoin ! $
+      suffices ! _ (ends_at 𝓛 (ended E) (stayed E) (spec E 𝓛) bound vunit tt (new, (tt, (tt, tt))) (tt, (tt, (tt, tt)))) $ Says-All !
+      (and_fact 𝓤 refl (last_fact 𝓤 refl)) $
+      nothing ! $ move ! (3 ∷ 0 ∷ []) $ join ! $ frame ! $ feq_i ! (List Val) us0
+      (vptr rb ro ∷ []) passed $ fjoin3 ! $ nothing ! $ nothing ! $ fjoin ! $ nothing ! $ fjoin ! $ move ! (1 ∷ 0 ∷ []) $ fjoin ! $
       feq_i ! (List Val) (vunit ∷ []) (vunit ∷ []) refl $ move ! (1 ∷ 0 ∷ []) $ done !
 
   abbrev Had : Val → List (Item 𝓤)
@@ -115,12 +132,14 @@ module _ (E : El) {M : Type 1} {𝓤 : Ura M} (𝓛 : Logic 𝓤) (C : Calls �
       let inside : i < length xs = asked.inside in
       let pos : 0 < c = omega arith in
       let ys : List (el_x E) = set xs i y in
-      qed 𝓛 (Had vy) ∵ enter ! C Λ (function E) (vptr rb ro ∷ word p.ptr ∷ vy ∷ []) _ $ alloc_all ! (λ l. pass_all ! refl ((tt, tt), (word-Good [] p.ptr, (fy, tt))) $
+      qed 𝓛 (Had vy) ∵ enter ! C Λ (function E) (vptr rb ro ∷ word p.ptr ∷ vy ∷ []) _ $ alloc_all !
+      (λ l. pass_all ! refl ((tt, tt), (word-Good [] p.ptr, (fy, tt))) $
       let En : Env 𝓤 H = env (function E).locals l in
       vec_opens E ! tt h rb ro pos (λ b o hv at_b fl fc fit.
       let there : p.ptr ≡ block_ptr b (i * s + o) = asked.there ∙ ap (ptr_add (R E) i) at_b in
       use1 𝓛 (‵ (part_at (R E) full_share (get_or xs i y) b (i * s + o)) ⊛ ‵ (Beside E 𝓛 n xs i b o)) (one_out E 𝓛 n xs i b o y inside) $ split ! $
-      use1 𝓛 (some (λ (v : Val). given (Good E v) (‵ (fat full_share (elτ E) b (i * s + o) v) ⊛ ‵ (el_own E (get_or xs i y) (v ∷ []))))) (el_out E 𝓛 full_share (get_or xs i y) b (i * s + o)) $ pick ! (λ v. learn ! (λ tv. split ! $
+      use1 𝓛 (some (λ (v : Val). given (Good E v) (‵ (fat full_share (elτ E) b (i * s + o) v) ⊛ ‵ (el_own E (get_or xs i y) (v ∷ [])))))
+      (el_out E 𝓛 full_share (get_or xs i y) b (i * s + o)) $ pick ! (λ v. learn ! (λ tv. split ! $
       move ! (1 ∷ []) $ drop ! $
       take_at ! 2 $ rewrite ! 0 (λ (k : Ptr). ‵ (fat full_share (layout (Pl E)) (l 2) 0 (word k))) there refl $ give_at ! 2 $
       -- [the cell; the other values; the room; the token; the words; the open borrow; obs; auth; what the value owns]
@@ -134,7 +153,8 @@ module _ (E : El) {M : Type 1} {𝓤 : Ura M} (𝓛 : Logic 𝓤) (C : Calls �
       vec_closes E ! tt (with_item h i y) b o n c ys rb ro (at_b, refl, refl, refl) fl fc fit pos $
       returns ! (look_at ! 0 refl) $ free_all ! refl $ keep ! (0 ∷ 1 ∷ 2 ∷ []) $ by ! (exits passed)))))
 
-  entry : Asks E h p → ent 𝓤 (on_entry 𝓛 (ended E).signature (κ, tt) (q, tt) (self, (p, (y, tt))) (us0, (us1, (us2, tt)))) (WpFn 𝓤 H C Λ (function E) (us0 ++ (us1 ++ (us2 ++ []))) Post)
+  entry : Asks E h p → ent 𝓤 (on_entry 𝓛 (ended E).signature (κ, tt) (q, tt) (self, (p, (y, tt))) (us0, (us1, (us2, tt))))
+      (WpFn 𝓤 H C Λ (function E) (us0 ++ (us1 ++ (us2 ++ []))) Post)
   entry asked =
       qed 𝓛 ((‵ (flft κ q) ⊛ ‵ ftrue) ∷ ‵ (owns (MutRef (named 0) κ (Vr E) ∷ Pl E ∷ R E ∷ []) (self, (p, (y, tt))) (us0, (us1, (us2, tt)))) ∷ []) ∵
       split ! $ move ! (2 ∷ []) $
@@ -146,19 +166,26 @@ module _ (E : El) {M : Type 1} {𝓤 : Ura M} (𝓛 : Logic 𝓤) (C : Calls �
       fsplit ! $
       tells E.row E.laws ! y us2 (λ vy e2 fy.
       keep ! (2 ∷ 3 ∷ 4 ∷ 0 ∷ []) $
-      by ! (subst (λ (ws : List Val × List Val × List Val). ent 𝓤 (⋆ 𝓛 (Had vy)) (WpFn 𝓤 H C Λ (function E) (ws.0 ++ (ws.1 ++ (ws.2 ++ []))) Post)) (λ j. (sym e0 j, sym e1 j, sym e2 j)) (walk e0 asked vy fy)))))
+      by ! (subst (λ (ws : List Val × List Val × List Val). ent 𝓤 (⋆ 𝓛 (Had vy)) (WpFn 𝓤 H C Λ (function E) (ws.0 ++ (ws.1 ++ (ws.2 ++ []))) Post))
+      (λ j. (sym e0 j, sym e1 j, sym e2 j)) (walk e0 asked vy fy)))))
 
 meets : (E : El) {M : Type 1} {𝓤 : Ura M} (𝓛 : Logic 𝓤) (𝓣 : Tables 𝓤 𝓛.H)
     → Meets 𝓛 (ended E).signature (WpFn 𝓤 𝓛.H 𝓣.C 𝓣.Λ (function E)) (closing 𝓛 (ended E) (spec E 𝓛))
 meets E {𝓤 = 𝓤} 𝓛 𝓣 =
-    walk_Meets 𝓛 (ended E) (stayed E) (Goes-ref 𝓛 1 0 tt (plain (λ _. Vr E)), (Goes-dropped 𝓛 1 (plain (λ _. Pl E)) no (λ κs x f. refl), (Goes-dropped 𝓛 1 (plain (λ _. R E)) no (λ κs x f. refl), tt))) (spec E 𝓛) (WpFn 𝓤 𝓛.H 𝓣.C 𝓣.Λ (function E)) (WpFn-mono 𝓤 𝓛.H 𝓛.laws 𝓣 (function E))
-    (λ z. needs 𝓤 (Asks E z.0.3.0.now z.0.3.1.0) _ (entry E 𝓛 𝓣.C 𝓣.Λ z.0.0.0 z.0.1.0 z.0.3.0.ref_ptr.0 z.0.3.0.ref_ptr.1 z.0.3.0.ghost_name z.0.3.0.now z.0.3.1.0 z.0.3.1.1.0 z.0.4.0 z.0.4.1.0 z.0.4.1.1.0))
+    walk_Meets 𝓛 (ended E) (stayed E) (
+      Goes-ref 𝓛 1 0 tt (plain (λ _. Vr E)),
+      (Goes-dropped 𝓛 1 (plain (λ _. Pl E)) no (λ κs x f. refl), (Goes-dropped 𝓛 1 (plain (λ _. R E)) no (λ κs x f. refl), tt)),
+    ) (spec E 𝓛) (WpFn 𝓤 𝓛.H 𝓣.C 𝓣.Λ (function E)) (WpFn-mono 𝓤 𝓛.H 𝓛.laws 𝓣 (function E))
+    (λ z. needs 𝓤 (Asks E z.0.3.0.now z.0.3.1.0) _
+    (entry E 𝓛 𝓣.C 𝓣.Λ z.0.0.0 z.0.1.0 z.0.3.0.ref_ptr.0 z.0.3.0.ref_ptr.1 z.0.3.0.ghost_name z.0.3.0.now z.0.3.1.0 z.0.3.1.1.0 z.0.4.0 z.0.4.1.0 z.0.4.1.1.0))
 
 pub put_spec : {M : Type 1} → stated.statement M
 unfolding tables_of
 put_spec 𝓤 𝓛 𝓜 𝓡 wired X Z L LZ g d dd met md y =
     let E : El = record { row = X; laws = L; al = record { row = Z; laws = LZ; g = g; d = d; drops = dd } } in
     let 𝓣 : Tables 𝓤 𝓛.H = tables_of 𝓤 𝓛.H 𝓜 (tables 𝓤 𝓛.H 𝓜 𝓡 𝓡.env) in
-    spared 𝓛 (ended E).signature (𝓡.run (𝓡.env (#self (args E)))) (run_framed 𝓤 𝓛.H 𝓜 𝓡 (𝓡.env (#self (args E)))) 2 (X.lives, (Z.lives, tt)) (closing 𝓛 (ended E) (spec E 𝓛))
-    (entered 𝓤 𝓛.H (triple_of 𝓛 (ended E).signature (closing 𝓛 (ended E) (spec E 𝓛))) 𝓣.C 𝓣.Λ (#self (args E)) (function E) (code.unfolded 𝓤 𝓛.H 𝓜 𝓡 wired (X, (Z, tt)) d dd) (meets E 𝓛 𝓣))
+    spared 𝓛 (ended E).signature (𝓡.run (𝓡.env (#self (args E)))) (run_framed 𝓤 𝓛.H 𝓜 𝓡 (𝓡.env (#self (args E)))) 2 (X.lives, (Z.lives, tt))
+    (closing 𝓛 (ended E) (spec E 𝓛))
+    (entered 𝓤 𝓛.H (triple_of 𝓛 (ended E).signature (closing 𝓛 (ended E) (spec E 𝓛))) 𝓣.C 𝓣.Λ (#self (args E)) (function E)
+    (code.unfolded 𝓤 𝓛.H 𝓜 𝓡 wired (X, (Z, tt)) d dd) (meets E 𝓛 𝓣))
     ((y.0.0, y.0.1, tt, y.0.3, y.0.4), y.1)

@@ -13,5 +13,6 @@ loop-index-preserved c =
     let low : c.loop-index.index < length nodes = omega (arith, inside, index) in
     record {
       relinked = relinked_twice _ _ _ _ _ _ c.loop-index.invariant.relinked c.join.ensures.relinked;
-      closed = closed_more (wires_of base nodes) _ c.loop-index.index _ (length nodes) index low lens.0 lens.1 c.join.ensures.wires c.loop-index.invariant.closed;
+      closed =
+          closed_more (wires_of base nodes) _ c.loop-index.index _ (length nodes) index low lens.0 lens.1 c.join.ensures.wires c.loop-index.invariant.closed;
     }

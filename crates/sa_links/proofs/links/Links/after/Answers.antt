@@ -19,12 +19,15 @@ returns-clause-next c =
     let base = vec_ptr c.self.inside.nodes in let nodes = c.self.inside.nodes.items in let count = c.self.inside.count in let v = c.args.self.now in
     let i = node_index base (out-Node c.at.result.now).next.ptr in
     let place = next_inside base nodes _ c.at.result.now c.self.invariant.linked c.place_of-here.ensures.place.inside c.at.ensures in
-    let number = number_read count nodes i c.at-2.result.now c.self.invariant.numbered place.inside c.at-2.ensures ∙ ap (λ k. number_at k i) (count_is base nodes count v c.self.view_is c.self.invariant) in
-    let led = next_read base nodes _ c.at.result.now c.place_of-here.ensures.place.inside c.at.ensures ∙ ap (λ k. get_or (wires_of base nodes).next k 0) c.place_of-here.ensures.index in
+    let number = number_read count nodes i c.at-2.result.now c.self.invariant.numbered place.inside c.at-2.ensures
+    ∙ ap (λ k. number_at k i) (count_is base nodes count v c.self.view_is c.self.invariant) in
+    let led = next_read base nodes _ c.at.result.now c.place_of-here.ensures.place.inside c.at.ensures
+    ∙ ap (λ k. get_or (wires_of base nodes).next k 0) c.place_of-here.ensures.index in
     subst (IsNext v c.args.node) (sym number) (next_is (wires_of base nodes) v c.args.node i (rings_are base nodes count v c.self.view_is c.self.invariant) led)
 
 pub returns-clause-listed : goal.returns-clause-listed
-returns-clause-listed c = next_listed (wires_of (vec_ptr c.self.inside.nodes) c.self.inside.nodes.items) c.args.self.now c.args.node _ c.requires (returns-clause-next c)
+returns-clause-listed c =
+    next_listed (wires_of (vec_ptr c.self.inside.nodes) c.self.inside.nodes.items) c.args.self.now c.args.node _ c.requires (returns-clause-next c)
 
 pub returns-clause-node : goal.returns-clause-node
 returns-clause-node c =

@@ -6,7 +6,8 @@ use Rattle.sa_links.proofs.LinksSteps.{new_lists}
 use Rattle.sa_links.proofs.links.Links.new.Goals as goal
 
 made : (c : goal.After-close)
-    → (lists_of (wires_of (vec_ptr c.close.new.nodes) c.close.new.nodes.items) c.args.nodes ≡ record { nodes = c.args.nodes; lists = replicate c.args.lists [] })
+    → (lists_of (wires_of (vec_ptr c.close.new.nodes) c.close.new.nodes.items) c.args.nodes
+    ≡ record { nodes = c.args.nodes; lists = replicate c.args.lists [] })
     × IsLinks c.begin_of-begin.result.ptr (vec_ptr c.close.new.nodes) c.close.new.nodes.items c.args.nodes
 made c =
     let nodes = c.begin_of-begin.new.block in let same = sym c.begin_of-begin.ensures.block in

@@ -6,14 +6,22 @@ use Rattle.sa_links.specs.Wiring.{wires_of}
 use Rattle.sa_links.proofs.LinksSteps.{rings_are, head_is, pushed_front, links_after, view_after}
 use Rattle.sa_links.proofs.links.Links.push_front.Goals as goal
 
-changed : (c : goal.After-insert) → IsRings (wires_of (vec_ptr c.insert.new.nodes) c.insert.new.nodes.items) (with_list c.args.self.now c.args.list (c.args.node ∷ list_at c.args.self.now.lists c.args.list))
+changed : (c : goal.After-insert)
+    → IsRings (wires_of (vec_ptr c.insert.new.nodes) c.insert.new.nodes.items)
+    (with_list c.args.self.now c.args.list (c.args.node ∷ list_at c.args.self.now.lists c.args.list))
 changed c =
     let base = vec_ptr c.self.inside.nodes in let nodes = c.self.inside.nodes.items in let count = c.self.inside.count in let v = c.args.self.now in
-    pushed_front (wires_of base nodes) _ v c.args.list c.args.node _ _ (rings_are base nodes count v c.self.view_is c.self.invariant) c.requires.list c.requires.node c.requires.free
-    (head_is base nodes count v c.self.view_is c.self.invariant c.args.list c.requires.list _ c.place_of-head.ensures.index) c.place_of-place.ensures.index c.insert.ensures.wires
+    pushed_front (wires_of base nodes) _ v c.args.list c.args.node _ _
+    (rings_are base nodes count v c.self.view_is c.self.invariant) c.requires.list c.requires.node c.requires.free
+    (head_is base nodes count v c.self.view_is c.self.invariant c.args.list c.requires.list _ c.place_of-head.ensures.index) c.place_of-place.ensures.index
+    c.insert.ensures.wires
 
 pub invariant_of-self : goal.invariant_of-self
-invariant_of-self c = links_after (vec_ptr c.self.inside.nodes) c.self.inside.nodes.items c.self.inside.count c.args.self.now c.self.view_is c.self.invariant _ _ _ c.insert.ensures.relinked (changed c) refl
+invariant_of-self c =
+    links_after (vec_ptr c.self.inside.nodes) c.self.inside.nodes.items c.self.inside.count c.args.self.now c.self.view_is c.self.invariant
+    _ _ _ c.insert.ensures.relinked (changed c) refl
 
 pub returns : goal.returns
-returns c = view_after (vec_ptr c.self.inside.nodes) c.self.inside.nodes.items c.self.inside.count c.args.self.now c.self.view_is c.self.invariant _ _ _ c.insert.ensures.relinked (changed c) refl
+returns c =
+    view_after (vec_ptr c.self.inside.nodes) c.self.inside.nodes.items c.self.inside.count c.args.self.now c.self.view_is c.self.invariant
+    _ _ _ c.insert.ensures.relinked (changed c) refl

@@ -15,6 +15,7 @@ invariant_of-result c =
 
 pub returns : goal.returns
 returns c =
-    opened-value c.args.kind c.args.lists c.args.threads c.in_ok-chains.chains c.in_ok-filled.filled.items c.in_ok-ranks.ranks.items c.chain_of.result c.chain_of.ensures
+    opened-value c.args.kind c.args.lists c.args.threads c.in_ok-chains.chains c.in_ok-filled.filled.items c.in_ok-ranks.ranks.items c.chain_of.result
+    c.chain_of.ensures
     (c.in_ok-chains.ensures ∙ ap (λ n. record { nodes = n; lists = replicate c.chain_of.result [] }) c.from.ensures) c.in_ok-filled.ensures.0
     ∙ ap (λ rs. record { lists = record { nodes = c.args.threads; lists = replicate c.args.lists [] }; ranks = rs }) c.in_ok-ranks.ensures

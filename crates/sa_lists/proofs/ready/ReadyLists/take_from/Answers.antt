@@ -17,4 +17,5 @@ invariant_of-self-2 c =
     (sym c.pop_last.ensures.last ∙ c.in_ok-thread.was) (ap (λ (r : Ranked). r.lists) c.pop_last.ensures.lists)
 
 pub overflow_sub-self : goal.overflow_sub-self
-overflow_sub-self c = counted-some c.self.inside.lists.lists _ c.self.inside.ready _ _ c.args.q.0 _ _ c.self.invariant (sym c.pop_last.ensures.last ∙ c.in_ok-thread.was)
+overflow_sub-self c =
+    counted-some c.self.inside.lists.lists _ c.self.inside.ready _ _ c.args.q.0 _ _ c.self.invariant (sym c.pop_last.ensures.last ∙ c.in_ok-thread.was)

@@ -18,5 +18,7 @@ has_pair-ctx-requires c =
     let there = subst (λ (x : Prio). CanRank (goes x c.args.seen.now c.args.ctx.now.base).user) (sym c.self.view_is)
     (step_gone c.args.self.now c.args.seen.now c.args.ctx.now c.requires.turn) in
     let r = c.step-answer in
-    subst CanRank (sym (c.set_on.ensures ∙ gone_is v c.args.seen.now c.args.ctx.now.base r.new.self r.new.ctx r.result c.left_on.result r.ensures.user r.ensures.ctx r.ensures.answers c.left_on.ensures))
+    subst CanRank (sym (c.set_on.ensures
+    ∙ gone_is v c.args.seen.now c.args.ctx.now.base r.new.self r.new.ctx r.result c.left_on.result r.ensures.user r.ensures.ctx r.ensures.answers
+    c.left_on.ensures))
     there

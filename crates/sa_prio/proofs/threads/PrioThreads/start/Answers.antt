@@ -12,4 +12,6 @@ alike : (u v : Package) (on others : List (Option ThreadNo)) → u ≡ v → on 
 alike u v on others base threads = ap (λ x. built x on) base ∙ ap (built v) threads
 
 pub returns : goal.returns
-returns c = alike _ _ _ (replicate c.args.processors None) c.in_ok-base.ensures (c.in_ok-on.ensures.items_if_clones_equal (λ y h. search rules) ∙ ap (λ n. replicate n None) c.from.ensures)
+returns c =
+    alike _ _ _ (replicate c.args.processors None) c.in_ok-base.ensures
+    (c.in_ok-on.ensures.items_if_clones_equal (λ y h. search rules) ∙ ap (λ n. replicate n None) c.from.ensures)

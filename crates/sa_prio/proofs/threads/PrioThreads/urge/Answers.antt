@@ -29,5 +29,6 @@ go-requires-clause-turn c =
     let seen = c.args.seen.now in
     let ctx = c.args.ctx.now in
     let is : c.settle.new.ctx ≡ settled v.base seen ctx.base (carried_by ctx.base.state) =
-    c.settle.ensures ∙ ap (λ (x : Prio). settled x.base seen ctx.base c.thread-thread.result) c.self.view_is ∙ ap (settled v.base seen ctx.base) c.thread-thread.ensures in
+    c.settle.ensures ∙ ap (λ (x : Prio). settled x.base seen ctx.base c.thread-thread.result) c.self.view_is
+    ∙ ap (settled v.base seen ctx.base) c.thread-thread.ensures in
     subst (λ (x : Context). IsStep prio_stands v seen (record { base = x; urge = false })) (sym is) (step_settled v seen ctx c.requires.turn c.requires.mark)

@@ -9,5 +9,6 @@ index-requires c = let h = semaphore_declared c.self.inside c.args.self.now c.se
 pub returns : goal.returns
 returns c =
     c.index.ensures
-    ∙ sym (get_or_default c.self.inside.counts.items c.args.k 0 _ (semaphore_declared c.self.inside c.args.self.now c.self.view_is c.self.invariant c.args.k c.requires))
+    ∙ sym (get_or_default c.self.inside.counts.items c.args.k 0 _
+    (semaphore_declared c.self.inside c.args.self.now c.self.view_is c.self.invariant c.args.k c.requires))
     ∙ sym (ap (λ x. x.count) (semaphore_read c.self.inside c.args.self.now c.self.view_is c.self.invariant c.args.k c.requires))

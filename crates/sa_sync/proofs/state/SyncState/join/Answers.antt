@@ -9,4 +9,6 @@ push_back-requires-clause-free c =
 
 pub returns-then-not-index-clause-state : goal.returns-then-not-index-clause-state
 returns-then-not-index-clause-state c =
-    ap (λ x. x.state) (join_waits c.self.inside c.args.self.now c.self.view_is c.self.invariant c.args.t c.args.other c.args.made _ c.requires.made c.if-other-made.true (get_or_default c.self.inside.done.items c.args.other false _ (omega (arith, c.self.invariant.done)) ∙ sym c.index.ensures ∙ c.if-not-index.true) c.push_back.ensures)
+    ap (λ x. x.state) (join_waits c.self.inside c.args.self.now c.self.view_is c.self.invariant c.args.t c.args.other c.args.made _ c.requires.made
+    c.if-other-made.true (get_or_default c.self.inside.done.items c.args.other false _ (omega (arith, c.self.invariant.done)) ∙ sym c.index.ensures
+    ∙ c.if-not-index.true) c.push_back.ensures)

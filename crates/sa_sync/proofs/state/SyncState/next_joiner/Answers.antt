@@ -5,7 +5,8 @@ use Rattle.sa_sync.proofs.state.SyncState.next_joiner.Goals as goal
 
 pub returns-in_err-first-clause-first : goal.returns-in_err-first-clause-first
 returns-in_err-first-clause-first c =
-    ap (option_map (λ u. u.0)) c.from_residual.ensures ∙ joiner_first c.self.inside c.args.self.now c.self.view_is c.self.invariant c.args.t.0 _ c.requires (sym c.in_err-first.was ∙ c.pop_front.ensures.first)
+    ap (option_map (λ u. u.0)) c.from_residual.ensures
+    ∙ joiner_first c.self.inside c.args.self.now c.self.view_is c.self.invariant c.args.t.0 _ c.requires (sym c.in_err-first.was ∙ c.pop_front.ensures.first)
 
 pub returns-in_err-first-clause-state : goal.returns-in_err-first-clause-state
 returns-in_err-first-clause-state c =

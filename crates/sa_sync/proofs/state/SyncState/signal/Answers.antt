@@ -14,20 +14,35 @@ index_mut-requires c =
 
 pub overflow_add-index_mut : goal.overflow_add-index_mut
 overflow_add-index_mut c =
-    let count = (get_or_default c.self.inside.counts.items c.args.k 0 _ (semaphore_declared c.self.inside c.args.self.now c.self.view_is c.self.invariant c.args.k c.requires.declared) ∙ sym c.index_mut.ensures.value) in let same = ap (λ x. x.count) (semaphore_read c.self.inside c.args.self.now c.self.view_is c.self.invariant c.args.k c.requires.declared) in omega (arith, count, same, c.requires.count)
+    let count = (get_or_default c.self.inside.counts.items c.args.k 0 _
+    (semaphore_declared c.self.inside c.args.self.now c.self.view_is c.self.invariant c.args.k c.requires.declared) ∙ sym c.index_mut.ensures.value) in
+    let same = ap (λ x. x.count) (semaphore_read c.self.inside c.args.self.now c.self.view_is c.self.invariant c.args.k c.requires.declared) in
+    omega (arith, count, same, c.requires.count)
 
 pub returns-in-None-clause-state : goal.returns-in-None-clause-state
 returns-in-None-clause-state c =
-    ap (λ x. x.state) (signal_goes c.self.inside c.args.self.now c.self.view_is c.self.invariant c.args.k _ _ _ c.requires.declared (get_or_default c.self.inside.counts.items c.args.k 0 _ (semaphore_declared c.self.inside c.args.self.now c.self.view_is c.self.invariant c.args.k c.requires.declared) ∙ sym c.index_mut.ensures.value) (c.semaphore_queue-queue.ensures ∙ ap (λ n. MAX_THREADS + n + c.args.k) (c.len.ensures ∙ c.self.inside.holders.ok.0)) (sym c.in-None.is ∙ c.pop_front.ensures.first) c.pop_front.ensures.lists)
+    ap (λ x. x.state) (signal_goes c.self.inside c.args.self.now c.self.view_is c.self.invariant c.args.k _ _ _ c.requires.declared
+    (get_or_default c.self.inside.counts.items c.args.k 0 _
+    (semaphore_declared c.self.inside c.args.self.now c.self.view_is c.self.invariant c.args.k c.requires.declared) ∙ sym c.index_mut.ensures.value)
+    (c.semaphore_queue-queue.ensures ∙ ap (λ n. MAX_THREADS + n + c.args.k) (c.len.ensures ∙ c.self.inside.holders.ok.0))
+    (sym c.in-None.is ∙ c.pop_front.ensures.first) c.pop_front.ensures.lists)
 
 pub returns-in-None-clause-answer : goal.returns-in-None-clause-answer
 returns-in-None-clause-answer c =
-    ap (λ x. x.answer) (signal_goes c.self.inside c.args.self.now c.self.view_is c.self.invariant c.args.k _ _ _ c.requires.declared (get_or_default c.self.inside.counts.items c.args.k 0 _ (semaphore_declared c.self.inside c.args.self.now c.self.view_is c.self.invariant c.args.k c.requires.declared) ∙ sym c.index_mut.ensures.value) (c.semaphore_queue-queue.ensures ∙ ap (λ n. MAX_THREADS + n + c.args.k) (c.len.ensures ∙ c.self.inside.holders.ok.0)) (sym c.in-None.is ∙ c.pop_front.ensures.first) c.pop_front.ensures.lists)
+    ap (λ x. x.answer) (signal_goes c.self.inside c.args.self.now c.self.view_is c.self.invariant c.args.k _ _ _ c.requires.declared
+    (get_or_default c.self.inside.counts.items c.args.k 0 _
+    (semaphore_declared c.self.inside c.args.self.now c.self.view_is c.self.invariant c.args.k c.requires.declared) ∙ sym c.index_mut.ensures.value)
+    (c.semaphore_queue-queue.ensures ∙ ap (λ n. MAX_THREADS + n + c.args.k) (c.len.ensures ∙ c.self.inside.holders.ok.0))
+    (sym c.in-None.is ∙ c.pop_front.ensures.first) c.pop_front.ensures.lists)
 
 pub returns-in-Some-clause-state : goal.returns-in-Some-clause-state
 returns-in-Some-clause-state c =
-    ap (λ x. x.state) (signal_wakes c.self.inside c.args.self.now c.self.view_is c.self.invariant c.args.k _ c.in-Some.first _ c.requires.declared (c.semaphore_queue-queue.ensures ∙ ap (λ n. MAX_THREADS + n + c.args.k) (c.len.ensures ∙ c.self.inside.holders.ok.0)) (sym c.in-Some.is ∙ c.pop_front.ensures.first) c.pop_front.ensures.lists)
+    ap (λ x. x.state) (signal_wakes c.self.inside c.args.self.now c.self.view_is c.self.invariant c.args.k _ c.in-Some.first _ c.requires.declared
+    (c.semaphore_queue-queue.ensures ∙ ap (λ n. MAX_THREADS + n + c.args.k) (c.len.ensures ∙ c.self.inside.holders.ok.0))
+    (sym c.in-Some.is ∙ c.pop_front.ensures.first) c.pop_front.ensures.lists)
 
 pub returns-in-Some-clause-answer : goal.returns-in-Some-clause-answer
 returns-in-Some-clause-answer c =
-    ap (λ x. x.answer) (signal_wakes c.self.inside c.args.self.now c.self.view_is c.self.invariant c.args.k _ c.in-Some.first _ c.requires.declared (c.semaphore_queue-queue.ensures ∙ ap (λ n. MAX_THREADS + n + c.args.k) (c.len.ensures ∙ c.self.inside.holders.ok.0)) (sym c.in-Some.is ∙ c.pop_front.ensures.first) c.pop_front.ensures.lists)
+    ap (λ x. x.answer) (signal_wakes c.self.inside c.args.self.now c.self.view_is c.self.invariant c.args.k _ c.in-Some.first _ c.requires.declared
+    (c.semaphore_queue-queue.ensures ∙ ap (λ n. MAX_THREADS + n + c.args.k) (c.len.ensures ∙ c.self.inside.holders.ok.0))
+    (sym c.in-Some.is ∙ c.pop_front.ensures.first) c.pop_front.ensures.lists)

@@ -22,16 +22,32 @@ index_mut-requires c =
 
 pub returns-then-count-eq0-clause-state : goal.returns-then-count-eq0-clause-state
 returns-then-count-eq0-clause-state c =
-    ap (λ x. x.state) (wait_waits c.self.inside c.args.self.now c.self.view_is c.self.invariant c.args.k _ c.args.t _ c.requires.declared (get_or_default c.self.inside.counts.items c.args.k 0 _ (semaphore_declared c.self.inside c.args.self.now c.self.view_is c.self.invariant c.args.k c.requires.declared) ∙ sym c.index-count.ensures ∙ c.if-count-eq0.true) (c.semaphore_queue-queue.ensures ∙ ap (λ n. MAX_THREADS + n + c.args.k) (c.len.ensures ∙ c.self.inside.holders.ok.0)) c.push_back.ensures)
+    ap (λ x. x.state) (wait_waits c.self.inside c.args.self.now c.self.view_is c.self.invariant c.args.k _ c.args.t _ c.requires.declared
+    (get_or_default c.self.inside.counts.items c.args.k 0 _
+    (semaphore_declared c.self.inside c.args.self.now c.self.view_is c.self.invariant c.args.k c.requires.declared) ∙ sym c.index-count.ensures
+    ∙ c.if-count-eq0.true) (c.semaphore_queue-queue.ensures
+    ∙ ap (λ n. MAX_THREADS + n + c.args.k) (c.len.ensures ∙ c.self.inside.holders.ok.0)) c.push_back.ensures)
 
 pub returns-then-count-eq0-clause-answer : goal.returns-then-count-eq0-clause-answer
 returns-then-count-eq0-clause-answer c =
-    ap (λ x. x.answer) (wait_waits c.self.inside c.args.self.now c.self.view_is c.self.invariant c.args.k _ c.args.t _ c.requires.declared (get_or_default c.self.inside.counts.items c.args.k 0 _ (semaphore_declared c.self.inside c.args.self.now c.self.view_is c.self.invariant c.args.k c.requires.declared) ∙ sym c.index-count.ensures ∙ c.if-count-eq0.true) (c.semaphore_queue-queue.ensures ∙ ap (λ n. MAX_THREADS + n + c.args.k) (c.len.ensures ∙ c.self.inside.holders.ok.0)) c.push_back.ensures)
+    ap (λ x. x.answer) (wait_waits c.self.inside c.args.self.now c.self.view_is c.self.invariant c.args.k _ c.args.t _ c.requires.declared
+    (get_or_default c.self.inside.counts.items c.args.k 0 _
+    (semaphore_declared c.self.inside c.args.self.now c.self.view_is c.self.invariant c.args.k c.requires.declared) ∙ sym c.index-count.ensures
+    ∙ c.if-count-eq0.true) (c.semaphore_queue-queue.ensures
+    ∙ ap (λ n. MAX_THREADS + n + c.args.k) (c.len.ensures ∙ c.self.inside.holders.ok.0)) c.push_back.ensures)
 
 pub returns-else-count-eq0-clause-state : goal.returns-else-count-eq0-clause-state
 returns-else-count-eq0-clause-state c =
-    ap (λ x. x.state) (wait_goes c.self.inside c.args.self.now c.self.view_is c.self.invariant c.args.k (c.index-count.result.now - 1) c.args.t c.requires.declared (get_or_default c.self.inside.counts.items c.args.k 0 _ (semaphore_declared c.self.inside c.args.self.now c.self.view_is c.self.invariant c.args.k c.requires.declared) ∙ sym c.index-count.ensures ∙ more_than_none c.index-count.result.now c.if-count-eq0.false))
+    ap (λ x. x.state) (wait_goes c.self.inside c.args.self.now c.self.view_is c.self.invariant c.args.k
+    (c.index-count.result.now - 1) c.args.t c.requires.declared
+    (get_or_default c.self.inside.counts.items c.args.k 0 _
+    (semaphore_declared c.self.inside c.args.self.now c.self.view_is c.self.invariant c.args.k c.requires.declared) ∙ sym c.index-count.ensures
+    ∙ more_than_none c.index-count.result.now c.if-count-eq0.false))
 
 pub returns-else-count-eq0-clause-answer : goal.returns-else-count-eq0-clause-answer
 returns-else-count-eq0-clause-answer c =
-    ap (λ x. x.answer) (wait_goes c.self.inside c.args.self.now c.self.view_is c.self.invariant c.args.k (c.index-count.result.now - 1) c.args.t c.requires.declared (get_or_default c.self.inside.counts.items c.args.k 0 _ (semaphore_declared c.self.inside c.args.self.now c.self.view_is c.self.invariant c.args.k c.requires.declared) ∙ sym c.index-count.ensures ∙ more_than_none c.index-count.result.now c.if-count-eq0.false))
+    ap (λ x. x.answer) (wait_goes c.self.inside c.args.self.now c.self.view_is c.self.invariant c.args.k
+    (c.index-count.result.now - 1) c.args.t c.requires.declared
+    (get_or_default c.self.inside.counts.items c.args.k 0 _
+    (semaphore_declared c.self.inside c.args.self.now c.self.view_is c.self.invariant c.args.k c.requires.declared) ∙ sym c.index-count.ensures
+    ∙ more_than_none c.index-count.result.now c.if-count-eq0.false))
