@@ -23,7 +23,7 @@ fn main(rt: HostRuntime) -> ExitCode {
     ExitCode::from(status.code())
 }
 
-/// The words behind the program's name. One that is no text is no word of a command.
+/// The words after the program's name. One that is no text is no word of a command.
 fn read_command_line(rt: &(impl Env + AllocGlobal)) -> Result<Words, Status> {
     let words = env::args(rt).map_err(|error| match error.kind() {
         ErrorKind::OutOfMemory => Status::OutOfMemory,

@@ -8,7 +8,7 @@ use Rattle.std.specs.Prelude.{◌==◌, codes, if◌then◌else◌}
 use Rattle.std.specs.Str.{bytes_eq}
 use Rattle.sa_cli.specs.Texts.{through_close, workload_part, trace_part}
 
--- the bytes through the first `close` stand at the front
+-- the bytes through the first `close` are at the front
 by-tests : (bs first more : List ℕ) (ends closes : Bool) → take (length first) bs ≡ first → take (length more) bs ≡ more
     → take (length (if ends then (if closes then [] else first) else more)) bs ≡ (if ends then (if closes then [] else first) else more)
 by-tests bs first more true true x y = refl
@@ -18,7 +18,8 @@ by-tests bs first more false closes x y = y
 through-front : (line bs : List ℕ) → take (length (through_close line bs)) bs ≡ through_close line bs
 through-front line [] = refl
 through-front line (b ∷ bs) = ap (λ xs. b ∷ xs)
-    (by-tests bs (through_close [] bs) (through_close (line ++ b ∷ []) bs) (b == 10) (bytes_eq line (codes "close")) (through-front [] bs) (through-front (line ++ b ∷ []) bs))
+    (by-tests bs (through_close [] bs) (through_close (line ++ b ∷ []) bs) (b == 10) (bytes_eq line (codes "close")) (through-front [] bs)
+    (through-front (line ++ b ∷ []) bs))
 
 pub workload-front : (input : List ℕ) → take (length (workload_part input)) input ≡ workload_part input
 workload-front input = through-front [] input
@@ -43,7 +44,8 @@ pub line-more : (input : List ℕ) (start i n : ℕ) → i < length input → ge
 line-more input start i n within feed other rest =
     let rest' = rw (drop_more input i 0 within) at rest in
     let choose : Bool → Bool → List ℕ = λ ends closes.
-    if ends then (if closes then [] else through_close [] (drop (i + 1) input)) else through_close (slice_range input start i ++ get_or input i 0 ∷ []) (drop (i + 1) input) in
+    if ends then (if closes then [] else through_close [] (drop (i + 1) input))
+    else through_close (slice_range input start i ++ get_or input i 0 ∷ []) (drop (i + 1) input) in
     let goes : choose (get_or input i 0 == 10) (bytes_eq (slice_range input start i) (codes "close")) ≡ choose true false =
     ap (λ t. choose t (bytes_eq (slice_range input start i) (codes "close"))) (is-feed (get_or input i 0) feed) ∙ ap (λ t. choose true t) other in
     let len = ap length goes in
@@ -66,7 +68,8 @@ pub byte-more : (input : List ℕ) (start i n : ℕ) → start ≤ i → i < len
 byte-more input start i n forward within other rest =
     let rest' = rw (drop_more input i 0 within) at rest in
     let choose : Bool → List ℕ = λ ends.
-    if ends then (if bytes_eq (slice_range input start i) (codes "close") then [] else through_close [] (drop (i + 1) input)) else through_close (slice_range input start i ++ get_or input i 0 ∷ []) (drop (i + 1) input) in
+    if ends then (if bytes_eq (slice_range input start i) (codes "close") then [] else through_close [] (drop (i + 1) input))
+    else through_close (slice_range input start i ++ get_or input i 0 ∷ []) (drop (i + 1) input) in
     let goes : choose (get_or input i 0 == 10) ≡ choose false = ap choose (no-feed (get_or input i 0) other) in
     let len = ap length goes in
     let line = line-byte input start i forward within in

@@ -14,7 +14,7 @@ use Rattle.sa_cli.specs.declared.input.TheConstants.{INPUT_LIMIT}
 use Rattle.sa_cli.specs.Refusals.{Badness, IsInputRefused, IsRefused, NothingRead, too_long}
 use Rattle.sa_cli.specs.Input.{ReadsInput}
 
--- the line is told by what stands before the limit
+-- the line is told by what comes before the limit
 pub long-front : (limit : ℕ) (bytes more : List ℕ) → limit ≤ length bytes → too_long limit (bytes ++ more) ≡ too_long limit bytes
 unfolding too_long
 long-front limit bytes more long =

@@ -89,7 +89,7 @@ module _ (mine : WorkloadView → Type 0) (plan : Plan) (kept : AreKept plan.run
       subst (λ (v : Status). RunAnswers mine plan old new items v) (sym cut.0)
       (cut.1, (e, ended-so items w e events (TookSome old new) is ok runs cut.2))
 
-  -- .. where the machine that ran has this trace
+  -- what is answered of a run that ended, where the machine that ran has this trace
   pub ended-answers : (ran : Ran) (trace : Recorded) (w : WorkloadView) (e : End) (events : ℕ) (status : Status) → ran ≡ Plain trace → mine w → IsWorkload w
       → RunsTo plan.runs.calls w (plan.order w) plan.budget trace.items e events
       → Writes old.taken new.taken old.writes new.writes (plan.shown trace.items e events) (status_of_end e) status
@@ -98,7 +98,7 @@ module _ (mine : WorkloadView → Type 0) (plan : Plan) (kept : AreKept plan.run
       subst (λ (r : Ran). RunAnswers mine plan old new (history r) status) (sym plain)
       (written-answers trace.items w e events status is ok runs writes)
 
-  -- .. or where memory ran out on the way
+  -- what is answered where memory ran out on the way
   pub stopped-answers : (ran : Ran) (trace : Recorded) (w : WorkloadView) (status : Status) → ran ≡ Plain trace → status ≡ OutOfMemory
       → mine w → IsWorkload w → (trace.items ≡ []) ⊎ RunsSoFar plan.runs.calls w (plan.order w) plan.budget trace.items
       → RunAnswers mine plan old new (history ran) status

@@ -96,7 +96,8 @@ read-scripted (Some xs) (Some ys) bytes (BadScript bad) reads (inl long) =
 read-scripted (Some xs) (Some ys) bytes (BadScript bad) reads (inr wrong) =
     whole-of bytes (BadScript bad) (inr wrong) xs ys reads.taken (reads.end refl wrong.has.whole)
 
-pub gave-scripted : (before after : Option (List ℕ)) (bytes : List ℕ) (a : Scripted) → ReadsInput SCRIPTS_LIMIT before after bytes → IsScripted bytes a → GaveScripted before after a
+pub gave-scripted : (before after : Option (List ℕ)) (bytes : List ℕ) (a : Scripted) → ReadsInput SCRIPTS_LIMIT before after bytes → IsScripted bytes a
+    → GaveScripted before after a
 gave-scripted before after bytes a reads is = record { input = bytes; reads = reads; is = is; told = read-scripted before after bytes a reads is }
 
 -- `debug` is complete

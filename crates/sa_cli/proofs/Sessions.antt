@@ -31,14 +31,16 @@ use Rattle.sa_cli.proofs.Scripts.{gave-scripted}
 pub first-cut : (before after : Option (List ℕ)) (first second : List ℕ) → AppendsPrefix before after first → AppendsPrefix before after (first ++ second)
 first-cut before after first second cut = out-cut before before after [] [] [] first second (out-none before []) cut
 
-pub second-cut : (before at after : Option (List ℕ)) (first between second : List ℕ) → GoesOut before at [] first between → AppendsPrefix at after (between ++ second)
+pub second-cut : (before at after : Option (List ℕ)) (first between second : List ℕ) → GoesOut before at [] first between
+    → AppendsPrefix at after (between ++ second)
     → AppendsPrefix before after (first ++ second)
 second-cut before at after first between second out cut =
     subst (λ (v : List ℕ). AppendsPrefix before after (first ++ v)) (append-nil second) (out-cut before at after [] first between second [] out cut)
 
 module _ (budget : ℕ) (old new : World) where
   -- a session that is over was written, or cut
-  pub over-answers : (bytes replies : List ℕ) (trace : Recorded) (end : End) (events : ℕ) (ran : Ran) (s : Status) → ReadsInput SCRIPTS_LIMIT old.left new.left bytes
+  pub over-answers : (bytes replies : List ℕ) (trace : Recorded) (end : End) (events : ℕ) (ran : Ran) (s : Status)
+      → ReadsInput SCRIPTS_LIMIT old.left new.left bytes
       → IsDone budget bytes replies trace.items end events → ran ≡ Plain trace
       → Writes old.taken new.taken old.writes new.writes (replies ++ trace_text trace.items end events) status.Quit s → AnswersDebug budget old new ran s
   over-answers bytes replies trace end events ran s reads done is wrote =

@@ -69,7 +69,8 @@ module _ (budget : ℕ) (old new : World) where
   written-shared ran shared e status ends (inr cut) =
       subst (λ (v : Status). AnswersThreads budget old new ran v) (sym cut.0) (cut.1, (e, record { shared = shared; ends = ends; went = cut.2 }))
 
-  pub shared-answers : (w : WorkloadView) (closed : ClosedView) (ran : Ran) (status : Status) → ran ≡ Shared closed → GaveText IsText old.left new.left w → IsWorkload w
+  pub shared-answers : (w : WorkloadView) (closed : ClosedView) (ran : Ran) (status : Status) → ran ≡ Shared closed → GaveText IsText old.left new.left w
+      → IsWorkload w
       → HasRun fast_calls w budget closed → WritesClosed old.taken new.taken old.writes new.writes closed status → AnswersThreads budget old new ran status
   shared-answers w closed ran status is gave ok run writes = go closed.end refl
     where
@@ -79,11 +80,13 @@ module _ (budget : ℕ) (old new : World) where
       go : (o : Option End) → closed.end ≡ o → AnswersThreads budget old new ran status
       go None none =
           let stops : status ≡ OutOfMemory =
-          subst (λ (o : Option End). MatchOption o (status ≡ OutOfMemory) (λ e. Writes old.taken new.taken old.writes new.writes (trace_text closed.items e (sum closed.turns)) (status_of_end e) status)) none writes in
+          subst (λ (o : Option End). MatchOption o (status ≡ OutOfMemory)
+          (λ e. Writes old.taken new.taken old.writes new.writes (trace_text closed.items e (sum closed.turns)) (status_of_end e) status)) none writes in
           subst (λ (v : Status). AnswersThreads budget old new ran v) (sym stops) (inr shared)
       go (Some e) some =
           written-shared ran shared e status some
-          (subst (λ (o : Option End). MatchOption o (status ≡ OutOfMemory) (λ e. Writes old.taken new.taken old.writes new.writes (trace_text closed.items e (sum closed.turns)) (status_of_end e) status)) some writes)
+          (subst (λ (o : Option End). MatchOption o (status ≡ OutOfMemory)
+          (λ e. Writes old.taken new.taken old.writes new.writes (trace_text closed.items e (sum closed.turns)) (status_of_end e) status)) some writes)
 
   -- an accepted input is run, and any other is refused
   pub shared-takes : (ran : Ran) (status : Status) → AnswersThreads budget old new ran status → Takes IsText old new status (HasEnded status)

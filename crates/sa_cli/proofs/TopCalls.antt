@@ -1,15 +1,15 @@
 -- What both top calls promise, from what the parts of a command say.
-use Rattle.std.proofs.Common.{◌≡◌, ℕ, ◌≤◌, List, [], Option, Some, None, refl, subst, arith}
+use Rattle.std.proofs.Common.{◌≡◌, ℕ, List, [], Option, Some, None, refl, subst, arith}
 use Rattle.sa_command.specs.declared.command.Command.{Command}
 use Rattle.sa_cli.specs.declared.outcome.Outcome.{Outcome}
 use Rattle.sa_cli.specs.declared.outcome.Ran.TheVariants.{Nothing}
 use Rattle.sa_cli.specs.declared.outcome.Status.{Status}
 use Rattle.sa_cli.specs.declared.outcome.Status.TheVariants.{Usage}
 use Rattle.sa_cli.specs.Input.{LosesPrefix}
-use Rattle.sa_cli.specs.Outcome.{WritesNothing}
 use Rattle.sa_cli.specs.Answers.{World}
 use Rattle.sa_cli.specs.Commands.{Answers, CanHaveRun, ReadsNothing}
-use Rattle.sa_cli.specs.TopCall.{Streams, DoesTheCommand}
+use Rattle.sa_cli.specs.Streams.{Streams, UsesStreams}
+use Rattle.sa_cli.specs.TopCall.{DoesTheCommand}
 use Rattle.sa_cli.proofs.Results.{not-usage}
 use Rattle.sa_cli.proofs.Completeness.{answers-complete}
 
@@ -24,11 +24,10 @@ module _ {S K : Type 0} {world_of : Streams S K → World} {before after : Strea
   does-along o p is does = subst (λ (v : Option Command). DoesTheCommand world_of v before after outcome) is does
 
   -- a command that is answered is done
-  pub does : (command : Command) → CanHaveRun (Some command) outcome.ran → (WritesNothing outcome.status → after.sink ≡ before.sink)
-      → (ReadsNothing (Some command) → after.source ≡ before.source) → LosesPrefix (world_of before).left (world_of after).left
-      → (world_of before).reads ≤ (world_of after).reads → (world_of before).writes ≤ (world_of after).writes
-      → Answers command (world_of before) (world_of after) outcome.ran outcome.status → DoesTheCommand world_of (Some command) before after outcome
-  does command ran unwritten unread lost reads writes answers =
+  pub does : (command : Command) → CanHaveRun (Some command) outcome.ran → (ReadsNothing (Some command) → after.source ≡ before.source)
+      → UsesStreams world_of before after outcome.status → Answers command (world_of before) (world_of after) outcome.ran outcome.status
+      → DoesTheCommand world_of (Some command) before after outcome
+  does command ran unread uses answers =
       let old = world_of before in
       let new = world_of after in
       let not_usage : outcome.status ≡ Usage → ⊥ =
@@ -36,12 +35,12 @@ module _ {S K : Type 0} {world_of : Streams S K → World} {before after : Strea
       record {
         usage = (λ usage. absurd (not_usage usage), λ none. absurd cc);
         untouched = λ usage. absurd (not_usage usage);
-        unwritten = unwritten;
+        unwritten = uses.unwritten;
         unread = unread;
         ran = ran;
-        lost = lost;
-        reads_counted = reads;
-        writes_counted = writes;
+        lost = uses.lost;
+        reads_counted = uses.reads_counted;
+        writes_counted = uses.writes_counted;
         answers = answers;
         complete = answers-complete command old new outcome.ran outcome.status answers;
       }

@@ -32,7 +32,8 @@ module _ (before at after : Option (List ℕ)) (waited : List ℕ) (items rest :
   abbrev whole : flat_map line_of items ≡ so_far.lines ++ (more ++ flat_map line_of (drop n rest))
   whole = so_far.whole ∙ ap (λ v. so_far.lines ++ v) (lines-split rest n more is)
 
-  pub lines-out : (behind : List Item) (waits : List ℕ) → behind ≡ drop n rest → GoesOut at after between more waits → AreOut before after waited items behind waits
+  pub lines-out : (behind : List Item) (waits : List ℕ) → behind ≡ drop n rest → GoesOut at after between more waits
+      → AreOut before after waited items behind waits
   lines-out behind waits back out = record {
     lines = so_far.lines ++ more;
     whole = whole ∙ sym (append_assoc so_far.lines more (flat_map line_of (drop n rest))) ∙ ap (λ v. (so_far.lines ++ more) ++ flat_map line_of v) (sym back);
@@ -69,7 +70,7 @@ module _ (before at after : Option (List ℕ)) (waited between : List ℕ) (item
       subst (λ (v : List ℕ). AppendsPrefix before after (waited ++ (flat_map line_of items ++ v))) (append-nil line ∙ is)
       (out-cut before at after waited (flat_map line_of items) between line [] out cut)
 
-  -- .. as its write says
+  -- the same where the write of the last line says which it is
   pub run-ends : {T E : Type 0} (line waits : List ℕ) (result : Result T E) → line ≡ last_line_of items end events
       → GoesOut before at waited (flat_map line_of items) between
       → OnOk result (GoesOut at after between line waits) → OnErr result (AppendsPrefix at after (between ++ line))

@@ -42,7 +42,8 @@ module _ (schedule : ScheduleWord) (budget : ℕ) (old new : World) where
   nothing-virtual (BadScript bad) cause = absurd cause
 
   -- a run that ended was written, or cut, or memory ran out
-  ended-virtual : (items : List Item) (e : End) → VpEnded schedule budget old new (TookAll old new) items e → AnswersVp schedule budget old new items (status_of_end e)
+  ended-virtual : (items : List Item) (e : End) → VpEnded schedule budget old new (TookAll old new) items e
+      → AnswersVp schedule budget old new items (status_of_end e)
   ended-virtual items end.AllDone ended = ended
   ended-virtual items end.Stuck ended = ended
   ended-virtual items end.Budget ended = ended
@@ -51,24 +52,36 @@ module _ (schedule : ScheduleWord) (budget : ℕ) (old new : World) where
     ran-so : (e : End) (events : ℕ) (lost : List ℕ) (goes : List ℕ → Type 0) → RunsTo w order budget items e events lost → goes (run_text items e events lost)
         → VpEnded schedule budget old new goes items e
     ran-so e events lost goes run went =
-        record { workload = w; gave = gave; events = events; lost = lost; run = subst (λ (o : Order). RunsTo w o budget items e events lost) is run; went = went }
+        record {
+          workload = w;
+          gave = gave;
+          events = events;
+          lost = lost;
+          run = subst (λ (o : Order). RunsTo w o budget items e events lost) is run;
+          went = went;
+        }
 
     written-virtual : (e : End) (events : ℕ) (lost : List ℕ) (status : Status) → RunsTo w order budget items e events lost
-        → Writes old.taken new.taken old.writes new.writes (run_text items e events lost) (status_of_end e) status → AnswersVp schedule budget old new items status
+        → Writes old.taken new.taken old.writes new.writes (run_text items e events lost) (status_of_end e) status
+        → AnswersVp schedule budget old new items status
     written-virtual e events lost status run (inl whole) =
-        subst (λ (v : Status). AnswersVp schedule budget old new items v) (sym whole.0) (ended-virtual items e (ran-so e events lost (TookAll old new) run whole.1))
+        subst (λ (v : Status). AnswersVp schedule budget old new items v) (sym whole.0)
+        (ended-virtual items e (ran-so e events lost (TookAll old new) run whole.1))
     written-virtual e events lost status run (inr cut) =
         subst (λ (v : Status). AnswersVp schedule budget old new items v) (sym cut.0) (cut.1, (e, ran-so e events lost (TookSome old new) run cut.2))
 
-  module _ (ran : Ran) (trace : Recorded) (plain : ran ≡ Plain trace) (w : WorkloadView) (gave : GaveText IsText old.left new.left w) (order : Order) (is : order ≡ order_by schedule w) where
+  module _ (ran : Ran) (trace : Recorded) (plain : ran ≡ Plain trace) (w : WorkloadView) (gave : GaveText IsText old.left new.left w) (order : Order)
+      (is : order ≡ order_by schedule w) where
     pub virtual-answers : (e : End) (events : ℕ) (lost : List ℕ) (status : Status) → RunsTo w order budget trace.items e events lost
         → Writes old.taken new.taken old.writes new.writes (run_text trace.items e events lost) (status_of_end e) status
         → AnswersVp schedule budget old new (history ran) status
     virtual-answers e events lost status run writes =
-        subst (λ (r : Ran). AnswersVp schedule budget old new (history r) status) (sym plain) (written-virtual w gave order is trace.items e events lost status run writes)
+        subst (λ (r : Ran). AnswersVp schedule budget old new (history r) status) (sym plain)
+        (written-virtual w gave order is trace.items e events lost status run writes)
 
-    -- .. or memory ran out on the way
-    pub virtual-stops : (status : Status) → status ≡ OutOfMemory → (trace.items ≡ []) ⊎ RunsSoFar w order budget trace.items → AnswersVp schedule budget old new (history ran) status
+    -- what is answered where memory ran out on the way
+    pub virtual-stops : (status : Status) → status ≡ OutOfMemory → (trace.items ≡ []) ⊎ RunsSoFar w order budget trace.items
+        → AnswersVp schedule budget old new (history ran) status
     virtual-stops status out run =
         subst (λ (r : Ran). AnswersVp schedule budget old new (history r) status) (sym plain)
         (subst (λ (v : Status). AnswersVp schedule budget old new trace.items v) (sym out) (stopped run))

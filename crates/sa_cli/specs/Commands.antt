@@ -78,7 +78,7 @@ CheckAnswers old new WriteFault = HasRisen old.writes new.writes × ((v : Verdic
 CheckAnswers old new OutOfMemory = ⊤
 CheckAnswers old new other = ⊥
 
--- .. by what ran and the status
+-- what each command answers, by what ran and the status
 abbrev pub Answers : Command → World → World → Ran → Status → Type 0
 Answers (Run schedule budget user_level) old new ran status = AnswersRun (run_plan schedule budget user_level) old new (history ran) status
 Answers (Threads budget burst) old new ran status = AnswersThreads budget old new ran status

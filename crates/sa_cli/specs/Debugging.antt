@@ -29,7 +29,7 @@ pub record BeginsWith (input : List ℕ) (w : WorkloadView) : Type 0 where
   pub short : length (workload_part input) ≤ INPUT_LIMIT
   pub is : IsText (workload_part input) w
 
--- .. and the second one is a script of these commands for it
+-- the first part is the text of this workload, and the second one is a script of these commands for it
 pub record IsScriptOf (input : List ℕ) (w : WorkloadView) (commands : List DebugCommand) : Type 0 where
   pub has : BeginsWith input w
   pub read : script_of w (trace_part input) ≡ Ok commands
@@ -51,7 +51,7 @@ pub data Scripted : Type 0 where
   BadWorkload : Bad → Scripted
   BadScript : Bad → Scripted
 
--- .. where one that is too long is refused first
+-- An input is found to be this; one that is too long is refused first.
 abbrev pub IsScripted : List ℕ → Scripted → Type 0
 IsScripted input (Accepted w commands) = IsScriptOf input w commands
 IsScripted input (BadWorkload bad) = RefusesWorkload input bad
@@ -82,7 +82,7 @@ pub record Debugged (budget : ℕ) (old new : World) (goes : List ℕ → Type 0
   pub over : IsOver workload budget commands replies items end events
   pub went : goes (replies ++ trace_text items end events)
 
--- .. as far as they were done
+-- some of the commands were done with a machine of the workload, whose trace this is
 pub record DebuggedSoFar (budget : ℕ) (old new : World) (items : List Item) : Type 0 where
   pub workload : WorkloadView
   pub commands : List DebugCommand

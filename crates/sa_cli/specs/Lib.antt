@@ -5,6 +5,7 @@ pub mod Texts
 pub mod Schedules
 pub mod Packages
 pub mod Answers
+pub mod Streams
 pub mod Debugging
 pub mod Scripted
 pub mod Commands

@@ -17,7 +17,7 @@ pub record IsDone (budget : ℕ) (input replies : List ℕ) (items : List Item) 
   pub is : IsScripted input (Accepted workload commands)
   pub over : IsOver workload budget commands replies items end events
 
--- .. as far as they were done
+-- the input is a workload and a script, some of whose commands were done
 pub record IsHalfDone (budget : ℕ) (input : List ℕ) (items : List Item) : Type 0 where
   pub workload : WorkloadView
   pub commands : List DebugCommand

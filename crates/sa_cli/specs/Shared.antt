@@ -45,7 +45,7 @@ pub record SharedRun (budget : ℕ) (old new : World) (ran : Ran) : Type 0 where
   pub run : HasRun fast_calls workload budget closed
   pub legal : IsLegalHistory workload budget closed
 
--- .. it ended so, and its text went to the sink in this way
+-- the shared run ended so, and its text went to the sink in this way
 pub record SharedEnded (budget : ℕ) (old new : World) (goes : List ℕ → Type 0) (ran : Ran) (end : End) : Type 0 where
   pub shared : SharedRun budget old new ran
   pub ends : shared.closed.end ≡ Some end

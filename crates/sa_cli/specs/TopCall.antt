@@ -1,25 +1,14 @@
 -- What both top calls promise of a command.
-use Rattle.std.specs.Prelude.{◌≡◌, ◌↔◌, ℕ, ◌≤◌, List, Option, None}
+use Rattle.std.specs.Prelude.{◌≡◌, ◌↔◌, ◌≤◌, Option, None}
 use Rattle.sa_command.specs.declared.command.Command.{Command}
 use Rattle.sa_cli.specs.declared.outcome.Outcome.{Outcome}
 use Rattle.sa_cli.specs.declared.outcome.Status.TheVariants.{Usage}
 use Rattle.sa_cli.specs.Input.{LosesPrefix}
 use Rattle.sa_cli.specs.Outcome.{WritesNothing}
-use Rattle.sa_cli.specs.Answers.{World, world}
+use Rattle.sa_cli.specs.Answers.{World}
+use Rattle.sa_cli.specs.Streams.{Streams}
 use Rattle.sa_cli.specs.Commands.{AnswersTo, CanHaveRun, ReadsNothing}
 use Rattle.sa_cli.specs.Complete.{IsCompleteTo}
-
--- the source and the sink that a call is lent, as whole values
-pub record Streams (S K : Type 0) : Type 0 where
-  pub source : S
-  pub sink : K
-
-abbrev pub streams : {S K : Type 0} → S → K → Streams S K
-streams source sink = record { source = source; sink = sink }
-
--- what they tell, where a source tells what is left and how many reads failed, and a sink what was taken and how many writes failed
-abbrev pub world_by : {S K : Type 0} → (S → Option (List ℕ)) → (K → Option (List ℕ)) → (S → ℕ) → (K → ℕ) → Streams S K → World
-world_by left taken reads writes both = world (left both.source) (taken both.sink) (reads both.source) (writes both.sink)
 
 -- The outcome is an answer to the command, where the source and the sink were `before` and have become `after`.
 pub record DoesTheCommand {S K : Type 0} (world_of : Streams S K → World) (command : Option Command) (before after : Streams S K) (outcome : Outcome)

@@ -3,7 +3,8 @@ ghost use Rattle.std.specs.Option.{ForSome};
 ghost use Rattle.sa_command.specs.Commands.{command_of};
 ghost use Rattle.sa_command.specs.Ranges.{IsInRange};
 ghost use Rattle.sa_cli.specs.Shared.{limits_of};
-ghost use Rattle.sa_cli.specs.TopCall.{DoesTheCommand, streams, world_by};
+ghost use Rattle.sa_cli.specs.Streams.{streams, world_by};
+ghost use Rattle.sa_cli.specs.TopCall.{DoesTheCommand};
 
 use crate::commands::{check_texts, migrate, run_generated, run_text};
 use crate::debug::debug_texts;

@@ -1,12 +1,12 @@
 // The commands `run`, `load`, `migrate` and `check`.
 ghost use Rattle.std.specs.Prelude.{◌≡◌, ◌⊎◌, ℕ, ◌≤◌, List, [], Option, IfOk, IfErr};
 ghost use Rattle.sa_sched.specs.Kind.{order_of, AreAmong};
-ghost use Rattle.sa_cli.specs.Input.{LosesPrefix};
 ghost use Rattle.sa_cli.specs.Outcome.{history, RanHere, WritesNothing};
 ghost use Rattle.sa_run.specs.Run.{RunsTo, RunsSoFar};
 ghost use Rattle.sa_cli.specs.Schedules.{order_by};
 ghost use Rattle.sa_cli.specs.Packages.{runs_of};
-ghost use Rattle.sa_cli.specs.Answers.{World, world};
+ghost use Rattle.sa_cli.specs.Answers.{world};
+ghost use Rattle.sa_cli.specs.Streams.{UsesStreams, streams, world_by};
 ghost use Rattle.sa_cli.specs.Commands.{run_plan, AnswersRun, AnswersLoad, MigrateAnswers, CheckAnswers};
 
 use crate::found::{Found, read_found};
@@ -37,15 +37,11 @@ pub(crate) fn run_text<S: Source, K: Sink>(
     requires some { 1 ≤ budget }
     requires few { budget ≤ MAX_EVENTS }
     ensures here { RanHere result.ran }
-    ensures unwritten { WritesNothing result.status → sink.new ≡ sink.old }
-    ensures lost { LosesPrefix (S.left source.old) (S.left source.new) }
-    ensures reads_counted { S.faults source.old ≤ S.faults source.new }
-    ensures writes_counted { K.faults sink.old ≤ K.faults sink.new }
-    ensures answers { let before : World
-        = world (S.left source.old) (K.taken sink.old) (S.faults source.old) (K.faults sink.old) in
-        let after : World
-        = world (S.left source.new) (K.taken sink.new) (S.faults source.new) (K.faults sink.new) in
-        AnswersRun (run_plan schedule budget user_level) before after (history result.ran) result.status }
+    ensures uses { UsesStreams (world_by S.left K.taken S.faults K.faults)
+        (streams source.old sink.old) (streams source.new sink.new) result.status }
+    ensures answers { let told = world_by S.left K.taken S.faults K.faults in
+        AnswersRun (run_plan schedule budget user_level) (told (streams source.old sink.old))
+        (told (streams source.new sink.new)) (history result.ran) result.status }
 {
     let workload = match read_workload(alloc, source) {
         Ok(workload) => workload,
@@ -117,15 +113,11 @@ pub(crate) fn migrate<S: Source, K: Sink>(
     sink: &mut K,
 ) -> Status
     requires { slice ≤ MAX_SLICE }
-    ensures unwritten { WritesNothing result → sink.new ≡ sink.old }
-    ensures lost { LosesPrefix (S.left source.old) (S.left source.new) }
-    ensures reads_counted { S.faults source.old ≤ S.faults source.new }
-    ensures writes_counted { K.faults sink.old ≤ K.faults sink.new }
-    ensures answers { let before : World
-        = world (S.left source.old) (K.taken sink.old) (S.faults source.old) (K.faults sink.old) in
-        let after : World
-        = world (S.left source.new) (K.taken sink.new) (S.faults source.new) (K.faults sink.new) in
-        MigrateAnswers slice before after result }
+    ensures uses { UsesStreams (world_by S.left K.taken S.faults K.faults)
+        (streams source.old sink.old) (streams source.new sink.new) result }
+    ensures answers { let told = world_by S.left K.taken S.faults K.faults in
+        MigrateAnswers slice (told (streams source.old sink.old))
+        (told (streams source.new sink.new)) result }
 {
     match migrated_text(alloc, slice, source) {
         Ok(text) => written(sink, &text, Status::Migrated),
@@ -133,17 +125,13 @@ pub(crate) fn migrate<S: Source, K: Sink>(
     }
 }
 
-/// `check`: judges the trace of the source, which stands after its workload, and writes the verdict.
+/// `check`: judges the trace of the source, which comes after its workload, and writes the verdict.
 pub(crate) fn check_texts<S: Source, K: Sink>(alloc: Global, source: &mut S, sink: &mut K) -> Status
-    ensures unwritten { WritesNothing result → sink.new ≡ sink.old }
-    ensures lost { LosesPrefix (S.left source.old) (S.left source.new) }
-    ensures reads_counted { S.faults source.old ≤ S.faults source.new }
-    ensures writes_counted { K.faults sink.old ≤ K.faults sink.new }
-    ensures answers { let before : World
-        = world (S.left source.old) (K.taken sink.old) (S.faults source.old) (K.faults sink.old) in
-        let after : World
-        = world (S.left source.new) (K.taken sink.new) (S.faults source.new) (K.faults sink.new) in
-        CheckAnswers before after result }
+    ensures uses { UsesStreams (world_by S.left K.taken S.faults K.faults)
+        (streams source.old sink.old) (streams source.new sink.new) result }
+    ensures answers { let told = world_by S.left K.taken S.faults K.faults in
+        CheckAnswers (told (streams source.old sink.old))
+        (told (streams source.new sink.new)) result }
 {
     match read_found(alloc, source) {
         Ok(Found::Judged(verdict)) => write_verdict(alloc, verdict, sink),

@@ -4,9 +4,9 @@ ghost use Rattle.std.specs.Io.KnownBytes.{Appends};
 ghost use Rattle.sa_io.specs.Faults.{HasRisen, AppendsPrefix};
 ghost use Rattle.sa_trace.specs.TraceText.{trace_text};
 ghost use Rattle.sa_cli.specs.declared.outcome.Ran.TheVariants.{Plain};
-ghost use Rattle.sa_cli.specs.Answers.{World, world, Writes};
+ghost use Rattle.sa_cli.specs.Answers.{Writes};
+ghost use Rattle.sa_cli.specs.Streams.{UsesStreams, streams, world_by};
 ghost use Rattle.sa_cli.specs.Debugging.{AnswersDebug};
-ghost use Rattle.sa_cli.specs.Input.{LosesPrefix};
 ghost use Rattle.sa_cli.specs.Outcome.{RanHere, WritesNothing};
 ghost use Rattle.sa_cli.specs.Scripted.{IsDone, IsStopped};
 
@@ -35,7 +35,7 @@ enum Stopped {
     OutOfMemory(Trace),
 }
 
-/// `debug`: makes the session of the source's workload by the script that stands after it, within the budget, and writes the
+/// `debug`: makes the session of the source's workload by the script that comes after it, within the budget, and writes the
 /// replies and the trace text once the session is over.
 pub(crate) fn debug_texts<S: Source, K: Sink>(
     alloc: Global,
@@ -46,15 +46,11 @@ pub(crate) fn debug_texts<S: Source, K: Sink>(
     requires some { 1 ≤ budget }
     requires few { budget ≤ MAX_EVENTS }
     ensures here { RanHere result.ran }
-    ensures unwritten { WritesNothing result.status → sink.new ≡ sink.old }
-    ensures lost { LosesPrefix (S.left source.old) (S.left source.new) }
-    ensures reads_counted { S.faults source.old ≤ S.faults source.new }
-    ensures writes_counted { K.faults sink.old ≤ K.faults sink.new }
-    ensures answers { let before : World
-        = world (S.left source.old) (K.taken sink.old) (S.faults source.old) (K.faults sink.old) in
-        let after : World
-        = world (S.left source.new) (K.taken sink.new) (S.faults source.new) (K.faults sink.new) in
-        AnswersDebug budget before after result.ran result.status }
+    ensures uses { UsesStreams (world_by S.left K.taken S.faults K.faults)
+        (streams source.old sink.old) (streams source.new sink.new) result.status }
+    ensures answers { let told = world_by S.left K.taken S.faults K.faults in
+        AnswersDebug budget (told (streams source.old sink.old))
+        (told (streams source.new sink.new)) result.ran result.status }
 {
     let input = match read_input(alloc, SCRIPTS_LIMIT, source) {
         Ok(input) => input,

@@ -1,4 +1,4 @@
-// What an input of two texts is found to be: a workload text up to its first line that is `close`, and directly behind it
+// What an input of two texts is found to be: a workload text up to its first line that is `close`, and directly after it
 // a trace text.
 ghost use Rattle.std.specs.Prelude.{◌≡◌, ◌≤◌, length, codes, IfOk, IsErrOf};
 ghost use Rattle.std.specs.Str.{bytes_eq};

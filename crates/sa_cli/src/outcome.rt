@@ -34,12 +34,12 @@ pub enum Status {
     Checked,
     /// The trace breaks this rule first, at the event of this number, and so it was written.
     Broken(u64, Rule),
-    /// The input is too long for a workload and a trace, or what stands after its workload is no trace text. Lines are counted
+    /// The input is too long for a workload and a trace, or what comes after its workload is no trace text. Lines are counted
     /// from the first line of the trace text, and in an input that is too long from the first of all.
     BadTrace(Bad),
     /// The session of a script is over, and all was written.
     Quit,
-    /// The input is too long for a workload and a script, or what stands after its workload is no script. Lines are counted
+    /// The input is too long for a workload and a script, or what comes after its workload is no script. Lines are counted
     /// from the first line of the script, and in an input that is too long from the first of all.
     BadScript(Bad),
 }

@@ -1,9 +1,8 @@
 // The command `threads`.
 ghost use Rattle.std.specs.Prelude.{◌≡◌, ◌≤◌, sum};
 ghost use Rattle.sa_base.specs.declared.limits.TheConstants.{MAX_BURST, MAX_EVENTS};
-ghost use Rattle.sa_cli.specs.Input.{LosesPrefix};
 ghost use Rattle.sa_cli.specs.Outcome.{RanShared, WritesNothing};
-ghost use Rattle.sa_cli.specs.Answers.{World, world};
+ghost use Rattle.sa_cli.specs.Streams.{UsesStreams, streams, world_by};
 ghost use Rattle.sa_cli.specs.Shared.{limits_of, WritesClosed, AnswersThreads};
 ghost use Rattle.sa_cli.specs.declared.outcome.Ran.TheVariants.{Shared};
 
@@ -44,15 +43,11 @@ pub(crate) fn run_shared<S: Source, K: Sink, G: Gate, R: Threads + Wait + Sync>(
     requires some_burst { 1 ≤ limits.burst }
     requires few_burst { limits.burst ≤ MAX_BURST }
     ensures shared { RanShared result.ran }
-    ensures unwritten { WritesNothing result.status → sink.new ≡ sink.old }
-    ensures lost { LosesPrefix (S.left source.old) (S.left source.new) }
-    ensures reads_counted { S.faults source.old ≤ S.faults source.new }
-    ensures writes_counted { K.faults sink.old ≤ K.faults sink.new }
-    ensures answers { let before : World
-        = world (S.left source.old) (K.taken sink.old) (S.faults source.old) (K.faults sink.old) in
-        let after : World
-        = world (S.left source.new) (K.taken sink.new) (S.faults source.new) (K.faults sink.new) in
-        AnswersThreads limits.budget before after result.ran result.status }
+    ensures uses { UsesStreams (world_by S.left K.taken S.faults K.faults)
+        (streams source.old sink.old) (streams source.new sink.new) result.status }
+    ensures answers { let told = world_by S.left K.taken S.faults K.faults in
+        AnswersThreads limits.budget (told (streams source.old sink.old))
+        (told (streams source.new sink.new)) result.ran result.status }
 {
     let workload = match read_workload(alloc, source) {
         Ok(workload) => workload,

@@ -3,9 +3,9 @@ ghost use Rattle.std.specs.Prelude.{◌≡◌, ◌≤◌, length, OnOk, OnErr};
 ghost use Rattle.std.specs.Io.KnownBytes.{Appends};
 ghost use Rattle.sa_base.specs.declared.limits.TheConstants.{MAX_SPACES};
 ghost use Rattle.sa_io.specs.Faults.{HasRisen, AppendsPrefix};
-ghost use Rattle.sa_cli.specs.Input.{LosesPrefix};
 ghost use Rattle.sa_cli.specs.Outcome.{history, status_of_end, RanHere, WritesNothing};
-ghost use Rattle.sa_cli.specs.Answers.{World, world, Writes};
+ghost use Rattle.sa_cli.specs.Answers.{Writes};
+ghost use Rattle.sa_cli.specs.Streams.{UsesStreams, streams, world_by};
 ghost use Rattle.sa_cli.specs.Virtual.{run_text, AnswersVp};
 ghost use Rattle.sa_cli.specs.declared.outcome.Ran.TheVariants.{Plain};
 
@@ -33,15 +33,11 @@ pub(crate) fn run_virtual<S: Source, K: Sink>(
     requires some { 1 ≤ budget }
     requires few { budget ≤ MAX_EVENTS }
     ensures here { RanHere result.ran }
-    ensures unwritten { WritesNothing result.status → sink.new ≡ sink.old }
-    ensures lost { LosesPrefix (S.left source.old) (S.left source.new) }
-    ensures reads_counted { S.faults source.old ≤ S.faults source.new }
-    ensures writes_counted { K.faults sink.old ≤ K.faults sink.new }
-    ensures answers { let before : World
-        = world (S.left source.old) (K.taken sink.old) (S.faults source.old) (K.faults sink.old) in
-        let after : World
-        = world (S.left source.new) (K.taken sink.new) (S.faults source.new) (K.faults sink.new) in
-        AnswersVp schedule budget before after (history result.ran) result.status }
+    ensures uses { UsesStreams (world_by S.left K.taken S.faults K.faults)
+        (streams source.old sink.old) (streams source.new sink.new) result.status }
+    ensures answers { let told = world_by S.left K.taken S.faults K.faults in
+        AnswersVp schedule budget (told (streams source.old sink.old))
+        (told (streams source.new sink.new)) (history result.ran) result.status }
 {
     let workload = match read_workload(alloc, source) {
         Ok(workload) => workload,

@@ -67,7 +67,7 @@ pub(crate) fn written<K: Sink>(sink: &mut K, text: &[u8], done: Status) -> Statu
     status_of(write_text(sink, text), done)
 }
 
-/// Writes the text of a run with this trace that ended so, after so many events. It takes no memory.
+/// Writes the text of a run with this trace that ended so, after `events` events. It takes no memory.
 pub(crate) fn run_written<K: Sink>(sink: &mut K, trace: &Trace, end: End, events: u64) -> Status
     ensures status { Writes (K.taken sink.old) (K.taken sink.new)
         (K.faults sink.old) (K.faults sink.new) (trace_text trace.now.items end events) (status_of_end end) result }

@@ -30,7 +30,8 @@ use Rattle.sa_core_model.proofs.Turns.{step-law}
 use Rattle.sa_core_model.proofs.Runs.{local-is}
 
 -- a context that was read in its place
-pub read-ctx : {C : Type 0} (cs : List (Option C)) (i j : ℕ) (x : Option C) (d : C) → i < length cs → j ≡ i → x ≡ get_or cs j x → x ≡ Some d → get_or cs i None ≡ Some d
+pub read-ctx : {C : Type 0} (cs : List (Option C)) (i j : ℕ) (x : Option C) (d : C) → i < length cs → j ≡ i → x ≡ get_or cs j x → x ≡ Some d
+    → get_or cs i None ≡ Some d
 read-ctx cs i j x d within here read is = any cs i within (x) ∙ sym (ap (λ n. get_or cs n x) here) ∙ sym read ∙ is
   where
     any : {C : Type 0} (cs : List (Option C)) (i : ℕ) → i < length cs → (x : Option C) → get_or cs i None ≡ get_or cs i x
@@ -45,10 +46,12 @@ module _ {C : Type 0} where
     pub telling : k.telling ≡ note ∷ notes
     pub held_is : held ≡ held_for k note
 
-  pub next-is : (k : KernelState C) (note : Note) (held : Option (Stopped C)) → ◌≡◌ {A = Option (Note × Option (Stopped C))} (Some (note, held)) (next_note k) → IsNote k note held
+  pub next-is : (k : KernelState C) (note : Note) (held : Option (Stopped C)) → ◌≡◌ {A = Option (Note × Option (Stopped C))} (Some (note, held)) (next_note k)
+      → IsNote k note held
   next-is k note held is = go k.telling refl is
     where
-      go : (ns : List Note) → k.telling ≡ ns → ◌≡◌ {A = Option (Note × Option (Stopped C))} (Some (note, held)) (option_map (λ n. (n, held_for k n)) (slice_get ns 0)) → IsNote k note held
+      go : (ns : List Note) → k.telling ≡ ns
+          → ◌≡◌ {A = Option (Note × Option (Stopped C))} (Some (note, held)) (option_map (λ n. (n, held_for k n)) (slice_get ns 0)) → IsNote k note held
       go [] e none = absurd cc
       go (n ∷ ns) e some =
           let pair : ◌≡◌ {A = Note × Option (Stopped C)} (note, held) (n, held_for k n) = same_Some (note, held) (n, held_for k n) some in
@@ -67,8 +70,10 @@ module _ {C : Type 0} where
 
 module _ {U C : Type 0} where
   -- a call as it changes the machine
-  pub called-as : (call : U → C → U × C) (p : ProcNo) (s : SpaceNo) (m : Machine U C) (u : U) (c d : C) (us : List U) (cs : List (Option C)) → user_of m s ≡ Some u → context_on m p ≡ Some c
-      → us ≡ slice_set m.users s.0 (call u c).0 → cs ≡ slice_set m.contexts p.0 (Some d) → d ≡ (call u c).1 → record m { users = us; contexts = cs } ≡ called call p s m
+  pub called-as : (call : U → C → U × C) (p : ProcNo) (s : SpaceNo) (m : Machine U C) (u : U) (c d : C) (us : List U) (cs : List (Option C))
+      → user_of m s ≡ Some u → context_on m p ≡ Some c
+      → us ≡ slice_set m.users s.0 (call u c).0 → cs ≡ slice_set m.contexts p.0 (Some d) → d ≡ (call u c).1
+      → record m { users = us; contexts = cs } ≡ called call p s m
   called-as call p s m u c d us cs user ctx is_us is_cs is_d =
       ap (λ zs. record m { users = zs; contexts = cs }) is_us
       ∙ ap (λ zs. record m { users = slice_set m.users s.0 (call u c).0; contexts = zs }) (is_cs ∙ ap (λ z. slice_set m.contexts p.0 (Some z)) is_d)
@@ -78,28 +83,34 @@ module _ {U C : Type 0} where
           → called call p s m ≡ record m { users = slice_set m.users s.0 (call u c).0; contexts = slice_set m.contexts p.0 (Some (call u c).1) }
       the-call a b = rw (a, b) refl
 
-  pub stepped-as : (f : Calls U C) (p : ProcNo) (s : SpaceNo) (m : Machine U C) (u : U) (c d : C) (us : List U) (cs : List (Option C)) (items : List Item) (answer : Step) (seen : Seen)
-      → user_of m s ≡ Some u → context_on m p ≡ Some c → seen ≡ seen_on m p s → us ≡ slice_set m.users s.0 (f.stepped u seen c).user → cs ≡ slice_set m.contexts p.0 (Some d)
+  pub stepped-as : (f : Calls U C) (p : ProcNo) (s : SpaceNo) (m : Machine U C) (u : U) (c d : C) (us : List U) (cs : List (Option C)) (items : List Item)
+      (answer : Step) (seen : Seen)
+      → user_of m s ≡ Some u → context_on m p ≡ Some c → seen ≡ seen_on m p s → us ≡ slice_set m.users s.0 (f.stepped u seen c).user
+      → cs ≡ slice_set m.contexts p.0 (Some d)
       → d ≡ (f.stepped u seen c).ctx → items ≡ m.items ++ items_at seen.event seen.proc (f.stepped u seen c).says → answer ≡ (f.stepped u seen c).answer
       → (record m { users = us; contexts = cs; items = items }, answer) ≡ stepped f p s m
   stepped-as f p s m u c d us cs items answer seen user ctx is_seen is_us is_cs is_d is_items is_answer =
       let r = f.stepped u seen c in
       ap (λ zs. (record m { users = zs; contexts = cs; items = items }, answer)) is_us
-      ∙ ap (λ zs. (record m { users = slice_set m.users s.0 r.user; contexts = zs; items = items }, answer)) (is_cs ∙ ap (λ z. slice_set m.contexts p.0 (Some z)) is_d)
+      ∙ ap (λ zs. (record m { users = slice_set m.users s.0 r.user; contexts = zs; items = items }, answer))
+      (is_cs ∙ ap (λ z. slice_set m.contexts p.0 (Some z)) is_d)
       ∙ ap (λ zs. (record m { users = slice_set m.users s.0 r.user; contexts = slice_set m.contexts p.0 (Some r.ctx); items = zs }, answer)) is_items
       ∙ ap (λ z. (made seen r, z)) is_answer
       ∙ ap (λ (v : Seen). (made v (f.stepped u v c), (f.stepped u v c).answer)) is_seen
       ∙ sym (the-step user ctx)
     where
       made : Seen → Stepped U C → Machine U C
-      made v r = record m { users = slice_set m.users s.0 r.user; contexts = slice_set m.contexts p.0 (Some r.ctx); items = m.items ++ items_at v.event v.proc r.says }
+      made v r =
+          record m { users = slice_set m.users s.0 r.user; contexts = slice_set m.contexts p.0 (Some r.ctx); items = m.items ++ items_at v.event v.proc r.says }
 
       the-step : user_of m s ≡ Some u → context_on m p ≡ Some c
           → stepped f p s m ≡ (made (seen_on m p s) (f.stepped u (seen_on m p s) c), (f.stepped u (seen_on m p s) c).answer)
       the-step a b = rw (a, b) refl
 
-  pub gone-as : (f : Calls U C) (p : ProcNo) (s : SpaceNo) (n : ℕ) (m : Machine U C) (u : U) (c d : C) (us : List U) (cs : List (Option C)) (items : List Item) (seen : Seen)
-      → owner_of m.kernel p ≡ Some s → user_of m s ≡ Some u → context_on m p ≡ Some c → seen ≡ seen_on m p s → us ≡ slice_set m.users s.0 (f.went u seen c n).user
+  pub gone-as : (f : Calls U C) (p : ProcNo) (s : SpaceNo) (n : ℕ) (m : Machine U C) (u : U) (c d : C) (us : List U) (cs : List (Option C))
+      (items : List Item) (seen : Seen)
+      → owner_of m.kernel p ≡ Some s → user_of m s ≡ Some u → context_on m p ≡ Some c → seen ≡ seen_on m p s
+      → us ≡ slice_set m.users s.0 (f.went u seen c n).user
       → cs ≡ slice_set m.contexts p.0 (Some d) → d ≡ (f.went u seen c n).ctx → items ≡ m.items ++ items_from seen.event seen.proc (f.went u seen c n).says
       → record m { users = us; contexts = cs; items = items } ≡ gone_in f p n (owner_of m.kernel p) m
   gone-as f p s n m u c d us cs items seen owner user ctx is_seen is_us is_cs is_d is_items =
@@ -111,7 +122,12 @@ module _ {U C : Type 0} where
       ∙ sym (ap (λ (o : Option SpaceNo). gone_in f p n o m) owner ∙ the-run user ctx)
     where
       made : Seen → Gone U C → Machine U C
-      made v r = record m { users = slice_set m.users s.0 r.user; contexts = slice_set m.contexts p.0 (Some r.ctx); items = m.items ++ items_from v.event v.proc r.says }
+      made v r =
+          record m {
+            users = slice_set m.users s.0 r.user;
+            contexts = slice_set m.contexts p.0 (Some r.ctx);
+            items = m.items ++ items_from v.event v.proc r.says;
+          }
 
       the-run : user_of m s ≡ Some u → context_on m p ≡ Some c → gone f p s n m ≡ made (seen_on m p s) (f.went u (seen_on m p s) c n)
       the-run a b = rw (a, b) refl
@@ -162,7 +178,8 @@ module _ {U C : Type 0} (f : Calls U C) (stands : Standing U C) (keep : Keeps f 
           here-as (λ v d. length (f.stepped v seen d).says ≤ 4)
           (λ here. subst (λ (z : Seen). length (f.stepped here.user z here.ctx).says ≤ 4) (sym is) (step-law f stands keep e m p s st here later few).few)
 
-      pub telling-here : (note : Note) (notes : List Note) (held : Option (Stopped C)) → m.kernel.telling ≡ note ∷ notes → AreClaimed m.kernel s.0 → held ≡ held_for m.kernel note
+      pub telling-here : (note : Note) (notes : List Note) (held : Option (Stopped C)) → m.kernel.telling ≡ note ∷ notes → AreClaimed m.kernel s.0
+          → held ≡ held_for m.kernel note
           → IsTelling stands u c note held
       telling-here note notes held telling claimed is =
           here-as (λ v d. IsTelling stands v d note held) (λ here. record {
@@ -178,20 +195,24 @@ module _ {U C : Type 0} (f : Calls U C) (stands : Standing U C) (keep : Keeps f 
       pub local-here : local_on f m p ≡ f.local u c
       local-here = here-as (λ v d. local_on f m p ≡ f.local v d) (λ here. local-is f stands keep m p s here)
 
-      pub going-here : (seen : Seen) (n : ℕ) → seen ≡ seen_on m p s → e < m.event → 1 ≤ n → m.event + n ≤ MAX_EVENTS + 1 → CanGo f m p n → IsGoing f stands u seen c n
+      pub going-here : (seen : Seen) (n : ℕ) → seen ≡ seen_on m p s → e < m.event → 1 ≤ n → m.event + n ≤ MAX_EVENTS + 1 → CanGo f m p n
+          → IsGoing f stands u seen c n
       going-here seen n is later some within can =
           let at = ap (λ (z : Seen). z.event) is in
           let t : can.space ≡ s = same_Some can.space s (sym can.owner ∙ owner) in
           let is_def : slice_get m.workload.spaces s.0 ≡ Some can.def = ap (λ (z : SpaceNo). slice_get m.workload.spaces z.0) (sym t) ∙ can.is_def in
-          let goes : GoesOn (setting m.workload s.0 can.def) n (local_on f m p) = subst (λ (z : SpaceNo). GoesOn (setting m.workload z.0 can.def) n (local_on f m p)) t can.goes in
+          let goes : GoesOn (setting m.workload s.0 can.def) n (local_on f m p) =
+          subst (λ (z : SpaceNo). GoesOn (setting m.workload z.0 can.def) n (local_on f m p)) t can.goes in
           here-as (λ v d. IsGoing f stands v seen d n)
           (λ here. is-going f stands keep e n m p s seen st here (ap (λ (z : Seen). z.proc) is) (omega (arith, at, later)) some (omega (arith, at, within))
           (subst (λ (z : SpaceView). GoesOn (setting m.workload s.0 z) n (f.local here.user here.ctx)) (same_Some can.def here.def (sym is_def ∙ here.is_def))
           (subst (λ (z : SeatState). GoesOn (setting m.workload s.0 can.def) n z) (local-is f stands keep m p s here) goes)))
 
   -- a notice was told
-  pub told-as : (p : ProcNo) (s : SpaceNo) (note : Note) (notes : List Note) (held : Option (Stopped C)) (m : Machine U C) (k : KernelState C) (u : U) (c d : C) (us : List U) (cs : List (Option C))
-      → user_of m s ≡ Some u → context_on m p ≡ Some c → m.kernel.telling ≡ note ∷ notes → held ≡ held_for m.kernel note → k ≡ after_fetch m.kernel.telling m.kernel
+  pub told-as : (p : ProcNo) (s : SpaceNo) (note : Note) (notes : List Note) (held : Option (Stopped C)) (m : Machine U C) (k : KernelState C) (u : U)
+      (c d : C) (us : List U) (cs : List (Option C))
+      → user_of m s ≡ Some u → context_on m p ≡ Some c → m.kernel.telling ≡ note ∷ notes → held ≡ held_for m.kernel note
+      → k ≡ after_fetch m.kernel.telling m.kernel
       → us ≡ slice_set m.users s.0 (f.told u c note held).0 → cs ≡ slice_set m.contexts p.0 (Some d) → d ≡ (f.told u c note held).1
       → record m { kernel = k; users = us; contexts = cs } ≡ told_one f p s note notes m
   told-as p s note notes held m k u c d us cs user ctx telling is_held is_k is_us is_cs is_d =
@@ -250,7 +271,8 @@ module _ {U C : Type 0} (f : Calls U C) (stands : Standing U C) (keep : Keeps f 
             less = rw h.0 (omega (arith, len, was));
           })
 
-  pub told-cons : (p : ProcNo) (s : SpaceNo) (m : Machine U C) (note x : Note) (notes xs : List Note) → note ∷ notes ≡ x ∷ xs → told_one f p s note notes m ≡ told_one f p s x xs m
+  pub told-cons : (p : ProcNo) (s : SpaceNo) (m : Machine U C) (note x : Note) (notes xs : List Note) → note ∷ notes ≡ x ∷ xs
+      → told_one f p s note notes m ≡ told_one f p s x xs m
   told-cons p s m note x notes xs same =
       let a : note ≡ x = ap (λ ns. get_or ns 0 note) same in
       let b : notes ≡ xs = ap (λ ns. drop 1 ns) same in

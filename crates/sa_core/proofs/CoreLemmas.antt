@@ -21,7 +21,7 @@ use Rattle.sa_core_model.specs.Run.{setting, opening, IsTurn, CanGo, AreNextLoca
 use Rattle.sa_core_model.specs.Standing.{IsBetween}
 use Rattle.sa_core_model.proofs.Turns.{Rests, rests-turned, between-rests}
 use Rattle.sa_core_model.proofs.Runs.{rests-committed, stands-opening, can-go}
-use Rattle.sa_core.specs.declared.machine.Machine.{Machine as Parts}
+use Rattle.sa_core.specs.declared.machine.CoreParts.{CoreParts}
 use Rattle.sa_core.specs.declared.machine.TheConstants.{EVENT_ITEMS}
 use Rattle.sa_core.specs.View.{CoreView, machine_of, machine}
 use Rattle.sa_core.specs.Room.{owed, HasRoom, Spends, IsKept}
@@ -36,12 +36,13 @@ no-end false false false e = refl
 
 pub goes-on : {U C : Type 0} (f : Calls U C) (budget : ℕ) (m : Machine U C) → end_of f budget m ≡ None → m.event ≤ budget → m.event < budget
 goes-on f budget m none within = elim (cases_eq m.event budget) [
-  | inl same ↦ absurd (let t : (m.event == budget) ≡ true = grind (arith, nat_tests, same) in let n = no-end (all_done f m) (is_stuck f m) (m.event == budget) none in cc)
+  | inl same ↦ absurd (let t : (m.event == budget) ≡ true = grind (arith, nat_tests, same) in
+      let n = no-end (all_done f m) (is_stuck f m) (m.event == budget) none in cc)
   | inr apart ↦ omega (arith, within, apart)
 ]
 
 module _ {U C : Type 0} (f : Calls U C) (stands : Standing U C) (keep : Keeps f stands) where
-  pub kept-start : (m : Parts U C) (w : WorkloadView) (budget : ℕ) → IsWorkload w → machine_of m ≡ opening f w → owed m ≡ 0 → m.kernel.last ≡ 0
+  pub kept-start : (m : CoreParts U C) (w : WorkloadView) (budget : ℕ) → IsWorkload w → machine_of m ≡ opening f w → owed m ≡ 0 → m.kernel.last ≡ 0
       → budget ≤ MAX_EVENTS → IsKept stands m budget 0
   kept-start m w budget ok is none last few = record {
     between = subst (λ (z : Machine U C). IsBetween stands z) (sym is) (stands-opening f stands keep w ok);
@@ -51,7 +52,8 @@ module _ {U C : Type 0} (f : Calls U C) (stands : Standing U C) (keep : Keeps f 
     room = record { entries = omega arith; items = omega (arith, none) };
   }
 
-  pub kept-room : (m new : Parts U C) (budget n k : ℕ) → IsKept stands m budget k → machine_of new ≡ machine_of m → new.kernel.last ≡ m.kernel.last → HasRoom new n → IsKept stands new budget n
+  pub kept-room : (m new : CoreParts U C) (budget n k : ℕ) → IsKept stands m budget k → machine_of new ≡ machine_of m → new.kernel.last ≡ m.kernel.last
+      → HasRoom new n → IsKept stands new budget n
   kept-room m new budget n k kept same last room =
       let e : new.events ≡ m.events = ap (λ (z : Machine U C). z.event) same in record {
         between = subst (λ (z : Machine U C). IsBetween stands z) (sym same) kept.between;
@@ -63,13 +65,14 @@ module _ {U C : Type 0} (f : Calls U C) (stands : Standing U C) (keep : Keeps f 
 
   -- a turn
 
-  pub record Turned (m new : Parts U C) (p : ProcNo) (budget spare : ℕ) : Type 0 where
+  pub record Turned (m new : CoreParts U C) (p : ProcNo) (budget spare : ℕ) : Type 0 where
     pub kept : IsKept stands new budget (spare - 1)
     pub turn : IsTurn f (machine_of m) p (machine_of new)
     pub event : new.events ≡ m.events + 1
     pub workload : new.workload ≡ m.workload
 
-  pub kept-turn : (m new : Parts U C) (p : ProcNo) (budget spare : ℕ) → IsKept stands m budget spare → ByFresh (machine_of m) (machine_of new) (λ fresh. turned f p fresh (machine_of m))
+  pub kept-turn : (m new : CoreParts U C) (p : ProcNo) (budget spare : ℕ) → IsKept stands m budget spare
+      → ByFresh (machine_of m) (machine_of new) (λ fresh. turned f p fresh (machine_of m))
       → Spends m new EVENT_ITEMS 1 → p.0 < m.workload.processors → m.events < budget → 1 ≤ spare → Turned m new p budget spare
   kept-turn m new p budget spare kept by spends within left some =
       let few : m.events + 1 ≤ MAX_EVENTS = omega (arith, left, kept.few) in
@@ -94,8 +97,7 @@ module _ {U C : Type 0} (f : Calls U C) (stands : Standing U C) (keep : Keeps f 
       }
 
 -- fewer instructions
-
-fewer-local : (program : List Instr) (n k : ℕ) (spot : Spot) → k ≤ n → AreLocal program n spot → AreLocal program k spot
+pub fewer-local : (program : List Instr) (n k : ℕ) (spot : Spot) → k ≤ n → AreLocal program n spot → AreLocal program k spot
 fewer-local program n zero spot few all = tt
 fewer-local program zero (suc k) spot few all = absurd (omega (arith, few))
 fewer-local program (suc n) (suc k) spot few all = (all.0, fewer-local program n k (after_one program spot) (omega (arith, few)) all.1)
@@ -120,7 +122,8 @@ pub record AreLeft (n left k : ℕ) : Type 0 where
   pub few : k ≤ n
   pub within : k ≤ left
 
-left-of : (n left slice event : ℕ) (b : Bool) → (slice == 0) ≡ b → 1 ≤ n → 1 ≤ left → AreLeft n left (if b then min n left else min (min n left) (slice - event % slice))
+left-of : (n left slice event : ℕ) (b : Bool) → (slice == 0) ≡ b → 1 ≤ n → 1 ≤ left
+    → AreLeft n left (if b then min n left else min (min n left) (slice - event % slice))
 left-of n left slice event true is some more = record { some = omega (arith, some, more); few = omega arith; within = omega arith }
 left-of n left slice event false is some more =
     let apart : slice ≢ 0 = λ e. (let t : (slice == 0) ≡ true = grind (arith, nat_tests, e) in cc) in
@@ -131,11 +134,11 @@ pub are-left : {U C : Type 0} (budget : ℕ) (m : Machine U C) (n : ℕ) → 1 �
 are-left budget m n some left = left-of n (budget - m.event) m.workload.slice m.event (m.workload.slice == 0) refl some (omega (arith, left))
 
 module _ {U C : Type 0} (f : Calls U C) (stands : Standing U C) (keep : Keeps f stands) where
-  pub record Committed (m new : Parts U C) (k budget spare : ℕ) : Type 0 where
+  pub record Committed (m new : CoreParts U C) (k budget spare : ℕ) : Type 0 where
     pub kept : IsKept stands new budget (spare - k)
     pub workload : new.workload ≡ m.workload
 
-  pub kept-commit : (m new : Parts U C) (p : ProcNo) (k budget spare : ℕ) → IsKept stands m budget spare → machine_of new ≡ committed f p k (machine_of m)
+  pub kept-commit : (m new : CoreParts U C) (p : ProcNo) (k budget spare : ℕ) → IsKept stands m budget spare → machine_of new ≡ committed f p k (machine_of m)
       → Spends m new (k + ENTRY_ITEMS) 0 → 1 ≤ k → k ≤ spare → m.events + k ≤ budget → CanGo f (machine_of m) p k → Committed m new k budget spare
   kept-commit m new p zero budget spare kept is spends some room left can = absurd (omega (arith, some))
   kept-commit m new p (suc j) budget spare kept is spends some room left can =
@@ -158,12 +161,13 @@ module _ {U C : Type 0} (f : Calls U C) (stands : Standing U C) (keep : Keeps f 
       }
 
 -- room was made, and the run goes on
-pub record IsReady {U C : Type 0} (m : Parts U C) (old : CoreView U C) (budget : ℕ) : Type 0 where
+pub record IsReady {U C : Type 0} (m : CoreParts U C) (old : CoreView U C) (budget : ℕ) : Type 0 where
   pub same : machine_of m ≡ machine old
   pub left : m.events < budget
 
-pub ready : {U C : Type 0} (f : Calls U C) (stands : Standing U C) (m : Parts U C) (mid old : CoreView U C) (budget spare : ℕ)
-    → record { parts = m; budget = budget; spare = spare } ≡ mid → machine mid ≡ machine old → mid.budget ≡ old.budget → end_of f old.budget (machine old) ≡ None
+pub ready : {U C : Type 0} (f : Calls U C) (stands : Standing U C) (m : CoreParts U C) (mid old : CoreView U C) (budget spare : ℕ)
+    → record { parts = m; budget = budget; spare = spare } ≡ mid → machine mid ≡ machine old → mid.budget ≡ old.budget
+    → end_of f old.budget (machine old) ≡ None
     → IsKept stands m budget spare → IsReady m old budget
 ready {U} {C} f stands m mid old budget spare view is budgets none kept =
     let same : machine_of m ≡ machine old = ap (λ (v : CoreView U C). machine v) view ∙ is in
@@ -172,8 +176,10 @@ ready {U} {C} f stands m mid old budget spare view is budgets none kept =
     ap (λ (b : ℕ). end_of f b (machine_of m)) limit ∙ ap (λ (z : Machine U C). end_of f old.budget z) same ∙ none in
     record { same = same; left = goes-on f budget (machine_of m) on kept.within }
 
-pub next-go : {U C : Type 0} (f : Calls U C) (stands : Standing U C) (keep : Keeps f stands) (m : Parts U C) (old : CoreView U C) (budget spare n k : ℕ) (p : ProcNo)
-    → IsReady m old budget → IsKept stands m budget spare → AreNextLocal (machine old).workload n (local_on f (machine old) p) → k ≤ n → CanGo f (machine_of m) p k
+pub next-go : {U C : Type 0} (f : Calls U C) (stands : Standing U C) (keep : Keeps f stands) (m : CoreParts U C) (old : CoreView U C) (budget spare n k : ℕ)
+    (p : ProcNo)
+    → IsReady m old budget → IsKept stands m budget spare → AreNextLocal (machine old).workload n (local_on f (machine old) p) → k ≤ n
+    → CanGo f (machine_of m) p k
 next-go {U} {C} f stands keep m old budget spare n k p is kept next few =
     can-fewer f (machine_of m) p n k few (can-go f stands keep m.events n (machine_of m) p kept.between.standing
     (subst (λ (z : Machine U C). AreNextLocal z.workload n (local_on f z p)) (sym is.same) next))

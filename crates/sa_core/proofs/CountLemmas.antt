@@ -39,7 +39,8 @@ module _ {U : Type 0} (xs ys : List U) (i j : ℕ) (x u : U) where
   set-by g v same here is new = ap (λ zs. slice_set zs j v) same ∙ ap (λ n. slice_set ys n v) here ∙ ap (slice_set ys i) (new ∙ ap g is)
 
 -- the user level of one space more
-pub started-next : {U C : Type 0} (f : Calls U C) (w : WorkloadView) (s m n : ℕ) (defs : List SpaceView) (def : SpaceView) → slice_get defs s ≡ Some def → m ≡ suc s
+pub started-next : {U C : Type 0} (f : Calls U C) (w : WorkloadView) (s m n : ℕ) (defs : List SpaceView) (def : SpaceView)
+    → slice_get defs s ≡ Some def → m ≡ suc s
     → started_from f w (n + s) (drop s defs) ≡ f.started (setting w (n + s) def) ∷ started_from f w (n + s + 1) (drop m defs)
 started-next f w s m n [] def at next = absurd cc
 started-next f w s zero n (d ∷ defs) def at next = absurd (omega (arith, next))
@@ -53,8 +54,9 @@ started-next f w (suc s) (suc m) n (d ∷ defs) def at next =
     let e : n + 1 + s ≡ n + suc s = omega arith in
     subst (λ k. started_from f w k (drop s defs) ≡ f.started (setting w k def) ∷ started_from f w (k + 1) (drop m defs)) e h
 
--- .. behind those that are started
-pub started-more : {U C : Type 0} (f : Calls U C) (w : WorkloadView) (s m : ℕ) (old new all : List U) (def : SpaceView) → slice_get w.spaces s ≡ Some def → m ≡ suc s
+-- it is started after those that are started already
+pub started-more : {U C : Type 0} (f : Calls U C) (w : WorkloadView) (s m : ℕ) (old new all : List U) (def : SpaceView)
+    → slice_get w.spaces s ≡ Some def → m ≡ suc s
     → new ≡ old ++ f.started (setting w s def) ∷ [] → old ++ started_from f w s (drop s w.spaces) ≡ all → new ++ started_from f w m (drop m w.spaces) ≡ all
 started-more f w s m old new all def at next is was =
     let h = started-next f w s m 0 w.spaces def at next in

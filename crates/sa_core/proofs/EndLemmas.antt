@@ -53,7 +53,8 @@ pub vacant : {C : Type 0} (v : Slots C) → (a : ActNo) × ((acts_of v).acts a.0
 vacant v = (record { 0 = length v.table.slots }, get_or_past v.table.slots (length v.table.slots) None (omega arith))
 
 -- one event more has begun of those that are left
-pub skip-one : {U C : Type 0} (n i : ℕ) (m next whole : Machine U C) → i < n → next ≡ next_event m → more_events (n - i) m ≡ whole → more_events (n - (i + 1)) next ≡ whole
+pub skip-one : {U C : Type 0} (n i : ℕ) (m next whole : Machine U C) → i < n → next ≡ next_event m → more_events (n - i) m ≡ whole
+    → more_events (n - (i + 1)) next ≡ whole
 skip-one n i m next whole below is was =
     let e : n - i ≡ suc (n - (i + 1)) = omega (arith, below) in
     ap (λ z. more_events (n - (i + 1)) z) is ∙ sym (ap (λ k. more_events k m) e) ∙ was

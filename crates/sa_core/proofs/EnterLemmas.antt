@@ -1,4 +1,4 @@
--- What entries and steps need, and what holds behind them.
+-- What entries and steps need, and what holds after them.
 use Rattle.std.proofs.Common.{◌≡◌, ◌≢◌, ℕ, ◌+◌, ◌<◌, ◌≤◌, true, Option, Some, None, IsSome, IfSome, length, refl, sym, ap, subst, ◌∙◌, arith}
 use Rattle.std.specs.Option.{option_map}
 use Rattle.sa_base.specs.declared.number.ProcNo.{ProcNo}
@@ -42,24 +42,29 @@ module _ {U C : Type 0} (f : Calls U C) (stands : Standing U C) (keep : Keeps f 
     place = new.place;
     lives = new.within;
     begins = stands-later f stands keep e m.event (begun f p new.space m) later new.begins.standing;
-    claimed = subst (λ (k : KernelState C). AreClaimed k new.space.0) (ap (λ (z : Machine U C). z.kernel) (begun-is f stands keep p new.space m new.user new.is_user)) new.begins.claimed;
+    claimed =
+        subst (λ (k : KernelState C). AreClaimed k new.space.0)
+        (ap (λ (z : Machine U C). z.kernel) (begun-is f stands keep p new.space m new.user new.is_user)) new.begins.claimed;
   }
 
   lives-of : (e : ℕ) (m : Machine U C) (p : ProcNo) → Stands stands e m → p.0 < m.workload.processors → p.0 < length m.kernel.lives
   lives-of e m p st within = omega (arith, within, st.lives)
 
   -- the line is raised
-  can-stop : (m : Machine U C) (p : ProcNo) (n : ActNo) → (next : IsNext stands m) → p.0 < m.workload.processors → IsSome (line_of m.kernel p) → m.kernel.acts n.0 ≡ None
+  can-stop : (m : Machine U C) (p : ProcNo) (n : ActNo) → (next : IsNext stands m) → p.0 < m.workload.processors → IsSome (line_of m.kernel p)
+      → m.kernel.acts n.0 ≡ None
       → CanEnter f stands keep next.last m p n (Interrupt (stopped_in f m p (owner_of m.kernel p)))
   can-stop m p n next within raised unused =
       let line = some-is (line_of m.kernel p) raised in
       can-interrupt f stands keep m.workload next.last m.event m p n line.0 (rests m next) (lives-of next.last m p next.standing within) line.1 unused
 
-  pub interrupt-fits : (m : Machine U C) (p : ProcNo) (n : ActNo) (held : Option (Stopped C)) → IsNext stands m → p.0 < m.workload.processors → IsSome (line_of m.kernel p)
+  pub interrupt-fits : (m : Machine U C) (p : ProcNo) (n : ActNo) (held : Option (Stopped C)) → IsNext stands m → p.0 < m.workload.processors
+      → IsSome (line_of m.kernel p)
       → m.kernel.acts n.0 ≡ None → held ≡ stopped_in f m p (owner_of m.kernel p) → IsFit m.kernel p m.event (Interrupt held)
   interrupt-fits m p n held next within raised unused is = rw is ((can-stop m p n next within raised unused).fit)
 
-  pub interrupt-welcomes : (m : Machine U C) (p : ProcNo) (n : ActNo) (held : Option (Stopped C)) → IsNext stands m → p.0 < m.workload.processors → IsSome (line_of m.kernel p)
+  pub interrupt-welcomes : (m : Machine U C) (p : ProcNo) (n : ActNo) (held : Option (Stopped C)) → IsNext stands m → p.0 < m.workload.processors
+      → IsSome (line_of m.kernel p)
       → m.kernel.acts n.0 ≡ None → held ≡ stopped_in f m p (owner_of m.kernel p) → upcalls m.kernel p (Interrupt held) ≡ true
       → Welcomes f stands p (kernel_entered p n (Interrupt held) (without_context p m))
   interrupt-welcomes m p n held next within raised unused is up =
@@ -67,7 +72,8 @@ module _ {U C : Type 0} (f : Calls U C) (stands : Standing U C) (keep : Keeps f 
       let can = can-stop m p n next within raised unused in
       subst (λ (x : Option (Stopped C)). Welcomes f stands p (kernel_entered p n (Interrupt x) (without_context p m))) (sym is)
       (welcomes-new m.workload next.last m.event p (kernel_entered p n (Interrupt h) (without_context p m)) (let z = next.before in omega (arith, z))
-      (welcomed-upcall f stands keep m.workload next.last m.event m p n (Interrupt h) can.state (rests m next) (lives-of next.last m p next.standing within) can.fit unused can.pauses up))
+      (welcomed-upcall f stands keep m.workload next.last m.event m p n (Interrupt h) can.state (rests m next)
+      (lives-of next.last m p next.standing within) can.fit unused can.pauses up))
 
   -- a block
   pub blocks-held : (m : Machine U C) (p : ProcNo) (asked : Step) → Asks stands p asked m → stopped_in f m p (owner_of m.kernel p) ≢ None
@@ -76,20 +82,23 @@ module _ {U C : Type 0} (f : Calls U C) (stands : Standing U C) (keep : Keeps f 
       let is = sym (stopped-is f stands keep m p asks.space here) ∙ none in
       cc
 
-  can-hold : (m : Machine U C) (p : ProcNo) (n : ActNo) (len : ℕ) (page : Option ℕ) (held : Stopped C) → Asks stands p (Block len page) m → m.kernel.acts n.0 ≡ None
+  can-hold : (m : Machine U C) (p : ProcNo) (n : ActNo) (len : ℕ) (page : Option ℕ) (held : Stopped C) → Asks stands p (Block len page) m
+      → m.kernel.acts n.0 ≡ None
       → stopped_in f m p (owner_of m.kernel p) ≡ Some held → CanEnter f stands keep m.event m p n (BlockEntry held len page)
   can-hold m p n len page held asks unused is =
       can-block f stands keep m.workload m.event m.event m p n asks.space len page held (rests-between f stands keep m asks.between) asks.owner asks.low unused
       (own-page f stands keep page (asks.can.2)) is
 
-  pub block-fits : (m : Machine U C) (p : ProcNo) (n : ActNo) (len : ℕ) (page : Option ℕ) (held : Stopped C) → Asks stands p (Block len page) m → m.kernel.acts n.0 ≡ None
+  pub block-fits : (m : Machine U C) (p : ProcNo) (n : ActNo) (len : ℕ) (page : Option ℕ) (held : Stopped C) → Asks stands p (Block len page) m
+      → m.kernel.acts n.0 ≡ None
       → stopped_in f m p (owner_of m.kernel p) ≡ Some held → IsFit m.kernel p m.event (BlockEntry held len page)
   block-fits m p n len page held asks unused is = (can-hold m p n len page held asks unused is).fit
 
   pub asks-within : (m : Machine U C) (p : ProcNo) (asked : Step) → Asks stands p asked m → p.0 < length m.kernel.lives
   asks-within m p asked asks = (at-owned f stands keep m.event m p asks.space asks.between.standing asks.owner).within
 
-  pub block-welcomes : (m : Machine U C) (p : ProcNo) (n : ActNo) (len : ℕ) (page : Option ℕ) (held : Stopped C) → Asks stands p (Block len page) m → m.kernel.acts n.0 ≡ None
+  pub block-welcomes : (m : Machine U C) (p : ProcNo) (n : ActNo) (len : ℕ) (page : Option ℕ) (held : Stopped C) → Asks stands p (Block len page) m
+      → m.kernel.acts n.0 ≡ None
       → stopped_in f m p (owner_of m.kernel p) ≡ Some held → upcalls m.kernel p (BlockEntry held len page) ≡ true
       → Welcomes f stands p (kernel_entered p n (BlockEntry held len page) (without_context p m))
   block-welcomes m p n len page held asks unused is up =
@@ -127,28 +136,34 @@ module _ {U C : Type 0} (f : Calls U C) (stands : Standing U C) (keep : Keeps f 
         owned = record { owner = low.owner; low = low.line };
       }
 
-  pub more-stands : (m : Machine U C) (p : ProcNo) (n : ActNo) (i : ℕ) → Asks stands p (More i) m → m.kernel.acts n.0 ≡ None → Stands stands m.event (kernel_entered p n (MoreEntry i) m)
+  pub more-stands : (m : Machine U C) (p : ProcNo) (n : ActNo) (i : ℕ) → Asks stands p (More i) m → m.kernel.acts n.0 ≡ None
+      → Stands stands m.event (kernel_entered p n (MoreEntry i) m)
   more-stands m p n i asks unused =
       (rests-entered f stands keep m.workload m.event m.event m p n (MoreEntry i) (rests-between f stands keep m asks.between) (asks-within m p (More i) asks)
       (more-fits m p i asks) unused (same-more m.event p i (owner_of m.kernel p) (scene_of m))).standing
 
-  pub idle-stands : (m : Machine U C) (p : ProcNo) (n : ActNo) → Asks stands p Idle m → m.kernel.acts n.0 ≡ None → Stands stands m.event (kernel_entered p n IdleEntry m)
+  pub idle-stands : (m : Machine U C) (p : ProcNo) (n : ActNo) → Asks stands p Idle m → m.kernel.acts n.0 ≡ None
+      → Stands stands m.event (kernel_entered p n IdleEntry m)
   idle-stands m p n asks unused =
       (rests-entered f stands keep m.workload m.event m.event m p n IdleEntry (rests-between f stands keep m asks.between) (asks-within m p Idle asks)
       (idle-fits m p asks) unused (same-idled m.event p (owner_of m.kernel p) (scene_of m))).standing
 
-  pub back-stands : (m : Machine U C) (p : ProcNo) (n : ActNo) → Asks stands p GiveBack m → m.kernel.acts n.0 ≡ None → Stands stands m.event (kernel_entered p n GiveBackEntry m)
+  pub back-stands : (m : Machine U C) (p : ProcNo) (n : ActNo) → Asks stands p GiveBack m → m.kernel.acts n.0 ≡ None
+      → Stands stands m.event (kernel_entered p n GiveBackEntry m)
   back-stands m p n asks unused =
       (rests-given f stands keep m.workload m.event m.event m p n asks.space (rests-between f stands keep m asks.between) (asks-within m p GiveBack asks)
       asks.owner (back-fits m p asks) unused).standing
 
-  pub own-stands : (m : Machine U C) (p q : ProcNo) (n : ActNo) → Asks stands p (InterruptOwn q) m → m.kernel.acts n.0 ≡ None → Stands stands m.event (kernel_entered p n (InterruptOwnEntry q) m)
+  pub own-stands : (m : Machine U C) (p q : ProcNo) (n : ActNo) → Asks stands p (InterruptOwn q) m → m.kernel.acts n.0 ≡ None
+      → Stands stands m.event (kernel_entered p n (InterruptOwnEntry q) m)
   own-stands m p q n asks unused =
-      (rests-entered f stands keep m.workload m.event m.event m p n (InterruptOwnEntry q) (rests-between f stands keep m asks.between) (asks-within m p (InterruptOwn q) asks)
+      (rests-entered f stands keep m.workload m.event m.event m p n (InterruptOwnEntry q) (rests-between f stands keep m asks.between)
+      (asks-within m p (InterruptOwn q) asks)
       (own-fits m p q asks) unused (same-own m.event p q (scene_of m))).standing
 
   -- the I/O that is due
-  pub due-fits : (m : Machine U C) (p : ProcNo) (io : IoNo) → line_of m.kernel p ≡ None → option_map io_no (due_of m.event m.kernel.under_way) ≡ Some io → IsFit m.kernel p m.event (Complete io)
+  pub due-fits : (m : Machine U C) (p : ProcNo) (io : IoNo) → line_of m.kernel p ≡ None → option_map io_no (due_of m.event m.kernel.under_way) ≡ Some io
+      → IsFit m.kernel p m.event (Complete io)
   due-fits m p io low due =
       let there = subst (λ (o : Option IoNo). IfSome o (λ i. IsSome (io_at i.0 m.kernel.under_way))) due (due_of-under_way m.event m.kernel.under_way) in
       let here = some-is (io_at io.0 m.kernel.under_way) there in
@@ -186,10 +201,12 @@ module _ {U C : Type 0} (f : Calls U C) (stands : Standing U C) (keep : Keeps f 
       })
 
   pub can-next : (m n : Machine U C) (p : ProcNo) (k : ℕ) → CanGo f m p k → n ≡ next_event m → CanGo f n p k
-  can-next m n p k can is = subst (λ z. CanGo f z p k) (sym is) (record { space = can.space; def = can.def; owner = can.owner; is_def = can.is_def; goes = can.goes })
+  can-next m n p k can is =
+      subst (λ z. CanGo f z p k) (sym is) (record { space = can.space; def = can.def; owner = can.owner; is_def = can.is_def; goes = can.goes })
 
-  -- .. at a machine that is known to be so
-  pub stopped-welcomes : (m n : Machine U C) (p : ProcNo) (a : ActNo) (held : Option (Stopped C)) → IsNext stands m → p.0 < m.workload.processors → IsSome (line_of m.kernel p)
+  -- the same at a machine that is known to be without the context
+  pub stopped-welcomes : (m n : Machine U C) (p : ProcNo) (a : ActNo) (held : Option (Stopped C)) → IsNext stands m → p.0 < m.workload.processors
+      → IsSome (line_of m.kernel p)
       → n ≡ without_context p m → held ≡ stopped_in f m p (owner_of m.kernel p) → n.kernel.acts a.0 ≡ None → upcalls n.kernel p (Interrupt held) ≡ true
       → Welcomes f stands p (kernel_entered p a (Interrupt held) n)
   stopped-welcomes m n p a held next within raised is is_held unused up =
@@ -198,7 +215,8 @@ module _ {U C : Type 0} (f : Calls U C) (stands : Standing U C) (keep : Keeps f 
       (interrupt-welcomes m p a held next within raised (ap (λ (k : KernelState C). k.acts a.0) (sym kernel) ∙ unused) is_held
       (ap (λ (k : KernelState C). upcalls k p (Interrupt held)) (sym kernel) ∙ up))
 
-  pub blocked-welcomes : (m n : Machine U C) (p : ProcNo) (a : ActNo) (len : ℕ) (page : Option ℕ) (held : Stopped C) → Asks stands p (Block len page) m → n ≡ without_context p m
+  pub blocked-welcomes : (m n : Machine U C) (p : ProcNo) (a : ActNo) (len : ℕ) (page : Option ℕ) (held : Stopped C) → Asks stands p (Block len page) m
+      → n ≡ without_context p m
       → stopped_in f m p (owner_of m.kernel p) ≡ Some held → n.kernel.acts a.0 ≡ None → upcalls n.kernel p (BlockEntry held len page) ≡ true
       → Welcomes f stands p (kernel_entered p a (BlockEntry held len page) n)
   blocked-welcomes m n p a len page held asks is is_held unused up =

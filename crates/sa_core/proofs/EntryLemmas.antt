@@ -1,4 +1,4 @@
--- What an entry makes of the machine, and the upcall behind it.
+-- What an entry makes of the machine, and the upcall after it.
 use Rattle.std.proofs.Common.{◌≡◌, ◌≢◌, Bool, true, false, Some, None, refl, sym, ap, subst, ◌∙◌}
 use Rattle.std.proofs.lemmas.Option.{same_Some}
 use Rattle.sa_base.specs.declared.number.ProcNo.{ProcNo}
@@ -29,7 +29,8 @@ given-false false a given is none = refl
 
 module _ {U C : Type 0} where
   -- an entry of the kernel is one of the machine
-  pub entered-scene : (m : Machine U C) (p : ProcNo) (n : ActNo) (entry : Entry C) (x : Scene C) → x ≡ entered m.event p n entry (scene_of m) → with_scene x m ≡ kernel_entered p n entry m
+  pub entered-scene : (m : Machine U C) (p : ProcNo) (n : ActNo) (entry : Entry C) (x : Scene C) → x ≡ entered m.event p n entry (scene_of m)
+      → with_scene x m ≡ kernel_entered p n entry m
   entered-scene m p n entry x is = ap (λ z. with_scene z m) is
 
 module _ {U C : Type 0} (f : Calls U C) where
@@ -38,15 +39,18 @@ module _ {U C : Type 0} (f : Calls U C) where
   entered-upcall m k n p a entry up is_k is_n =
       is_n ∙ ap (λ (z : Machine U C). welcomed_in f p (owner_of z.kernel p) z) is_k ∙ sym (ap (λ b. welcomed_if f p b (kernel_entered p a entry m)) up)
 
-  pub entered-plain : (m n : Machine U C) (p : ProcNo) (a : ActNo) (entry : Entry C) → upcalls m.kernel p entry ≡ false → n ≡ kernel_entered p a entry m → n ≡ entered_on f p a entry m
+  pub entered-plain : (m n : Machine U C) (p : ProcNo) (a : ActNo) (entry : Entry C) → upcalls m.kernel p entry ≡ false → n ≡ kernel_entered p a entry m
+      → n ≡ entered_on f p a entry m
   entered-plain m n p a entry up is = is ∙ sym (ap (λ b. welcomed_if f p b (kernel_entered p a entry m)) up)
 
-  pub hinted-some : (m k n : Machine U C) (p : ProcNo) (s : SpaceNo) (a : ActNo) (entry : Entry C) → k ≡ kernel_entered p a entry m → owner_of k.kernel p ≡ Some s → n ≡ answered f p s k
+  pub hinted-some : (m k n : Machine U C) (p : ProcNo) (s : SpaceNo) (a : ActNo) (entry : Entry C) → k ≡ kernel_entered p a entry m
+      → owner_of k.kernel p ≡ Some s → n ≡ answered f p s k
       → n ≡ hinted f p a entry m
   hinted-some m k n p s a entry is_k owner is_n =
       is_n ∙ sym (ap (λ o. answered_in f p o k) owner) ∙ ap (λ (z : Machine U C). answered_in f p (owner_of z.kernel p) z) is_k
 
-  pub hinted-none : (m k : Machine U C) (p : ProcNo) (a : ActNo) (entry : Entry C) → k ≡ kernel_entered p a entry m → owner_of k.kernel p ≡ None → k ≡ hinted f p a entry m
+  pub hinted-none : (m k : Machine U C) (p : ProcNo) (a : ActNo) (entry : Entry C) → k ≡ kernel_entered p a entry m → owner_of k.kernel p ≡ None
+      → k ≡ hinted f p a entry m
   hinted-none m k p a entry is_k owner =
       sym (ap (λ o. answered_in f p o k) owner) ∙ ap (λ (z : Machine U C). answered_in f p (owner_of z.kernel p) z) is_k
 

@@ -13,7 +13,7 @@ use Rattle.sa_kernel_model.specs.Sound.{AreClaimed}
 use Rattle.sa_core_model.specs.Machine.{Machine, user_of, seen_on, begun}
 use Rattle.sa_core_model.specs.Run.{setting}
 use Rattle.sa_core_model.specs.Standing.{Stands, IsBetween}
-use Rattle.sa_core.specs.declared.machine.Machine.{Machine as Parts}
+use Rattle.sa_core.specs.declared.machine.CoreParts.{CoreParts}
 use Rattle.sa_core.specs.View.{machine_of}
 use Rattle.sa_core.specs.Room.{HasRoom}
 
@@ -56,8 +56,8 @@ module _ {U C : Type 0} (stands : Standing U C) where
     pub low : line_of m.kernel p ≡ None
     pub can : IsAsked (setting m.workload space.0 def) (seen_on m p space) asked
 
--- what always holds of a run: it stands between two events, within its budget, and there is room for so many more
-pub record IsRunning {U C : Type 0} (stands : Standing U C) (m : Parts U C) (budget spare : ℕ) : Type 0 where
+-- what always holds of a run: it is between two events, within its budget, and there is room for `spare` more
+pub record IsRunning {U C : Type 0} (stands : Standing U C) (m : CoreParts U C) (budget spare : ℕ) : Type 0 where
   pub between : IsBetween stands (machine_of m)
   pub within : m.events ≤ budget
   pub few : budget ≤ MAX_EVENTS

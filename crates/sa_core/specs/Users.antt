@@ -23,7 +23,7 @@ module _ {U C : Type 0} (f : Calls U C) where
   abbrev pub active : List U → ℕ
   active users = sum_by (λ u. one_unless (is_still (f.tally u))) users
 
-  -- in so many spaces something is still to be done, and in so many some thread is active
+  -- in n spaces something is still to be done, and in k some thread is active
   pub record Counted (users : List U) (n k : ℕ) : Type 0 where
     pub left : n ≡ unfinished users
     pub work : k ≡ active users

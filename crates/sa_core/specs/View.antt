@@ -2,9 +2,9 @@
 use Rattle.std.specs.Prelude.{◌≡◌, ℕ}
 use Rattle.sa_kernel.specs.Kept.{kernel_of}
 use Rattle.sa_core_model.specs.Machine.{Machine}
-use Rattle.sa_core.specs.declared.machine.Machine.{Machine as Parts}
+use Rattle.sa_core.specs.declared.machine.CoreParts.{CoreParts}
 
-abbrev pub machine_of : {U C : Type 0} → Parts U C → Machine U C
+abbrev pub machine_of : {U C : Type 0} → CoreParts U C → Machine U C
 machine_of m = record {
   workload = m.workload;
   kernel = kernel_of m.kernel;
@@ -14,15 +14,15 @@ machine_of m = record {
   items = m.trace.items;
 }
 
--- what a contract sees of a core: its parts, ..
+-- what a contract sees of a core
 pub record CoreView (U C : Type 0) : Type 0 where
-  pub parts : Parts U C
+  pub parts : CoreParts U C
   -- the number of events at which the run ends
   pub budget : ℕ
   -- for how many more events there is room
   pub spare : ℕ
 
--- .. and the machine that they make up
+-- the machine that a core's parts make up
 abbrev pub machine : {U C : Type 0} → CoreView U C → Machine U C
 machine v = machine_of v.parts
 

@@ -30,7 +30,7 @@ pub(crate) const EVENT_ITEMS: usize = STEP_ITEMS + ENTRY_ITEMS;
 
 /// The parts of the machine.
 #[derive(Drop)]
-pub(crate) struct Machine<U: UserLevel> {
+pub(crate) struct CoreParts<U: UserLevel> {
     pub(crate) workload: Workload,
     pub(crate) kernel: Kernel<U::Ctx>,
     pub(crate) users: Users<U>,
@@ -41,7 +41,7 @@ pub(crate) struct Machine<U: UserLevel> {
     pub(crate) events: u64,
 }
 
-// No context on any of so many processors.
+// No context on any of the processors.
 fn no_contexts<C: Drop>(alloc: Global, processors: u16) -> Result<Vec<Option<C>>, AllocError>
     ensures { IfOk result (λ contexts. contexts.items ≡ replicate processors None) }
 {
@@ -52,7 +52,7 @@ fn no_contexts<C: Drop>(alloc: Global, processors: u16) -> Result<Vec<Option<C>>
     Ok(contexts)
 }
 
-impl<U: UserLevel> Machine<U> {
+impl<U: UserLevel> CoreParts<U> {
     /// The machine at the opening of a workload. Fails only where memory runs out.
     pub(crate) fn start(alloc: Global, w: Workload) -> Result<Self, AllocError>
         ensures opened { IfOk result (λ m. machine_of m ≡ opening U.calls w) }
@@ -64,7 +64,7 @@ impl<U: UserLevel> Machine<U> {
         let kernel = Kernel::start(alloc, &w, &mut trace)?;
         let users = Users::start(alloc, &w)?;
         let contexts = no_contexts(alloc, w.processors())?;
-        Ok(Machine {
+        Ok(CoreParts {
             workload: w,
             kernel,
             users,
@@ -150,7 +150,7 @@ impl<U: UserLevel> Machine<U> {
         }
     }
 
-    // The context goes on behind its upcall, or behind an entry that it asked for.
+    // The context goes on after its upcall, or after an entry that it asked for.
     fn respond(&mut self, p: ProcNo, s: SpaceNo)
         requires stands { Stands U.stands self.old.events (machine_of self.old) }
         requires owner { owner_of (machine_of self.old).kernel p ≡ Some s }
@@ -223,7 +223,7 @@ impl<U: UserLevel> Machine<U> {
         self.enter(p, Entry::Complete(io));
     }
 
-    // An entry that the running context asked for, behind which it goes on.
+    // An entry that the running context asked for, after which it goes on.
     fn hint(&mut self, p: ProcNo, entry: Entry<U::Ctx>)
         requires within { p.0 < self.old.workload.processors }
         requires now { Stands U.stands self.old.events (machine_of self.old) }
@@ -434,7 +434,7 @@ impl<U: UserLevel> Machine<U> {
         self.turn_now(p);
     }
 
-    // `n` local instructions of the context that runs on a processor, in this event and those behind it.
+    // `n` local instructions of the context that runs on a processor, in this event and those after it.
     fn go(&mut self, p: ProcNo, n: u16)
         requires next { IsNext U.stands (machine_of self.old) }
         requires can { CanGo U.calls (machine_of self.old) p n }

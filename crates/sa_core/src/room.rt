@@ -5,13 +5,13 @@ ghost use Rattle.sa_core_model.specs.Standing.{IsBetween};
 ghost use Rattle.sa_core.specs.View.{machine_of};
 ghost use Rattle.sa_core.specs.Room.{owed, HasRoom};
 
-use crate::machine::{EVENT_ITEMS, Machine};
+use crate::machine::{CoreParts, EVENT_ITEMS};
 use sa_abstract::UserLevel;
 use sa_base::Trace;
 use std::alloc::AllocError;
 
-impl<U: UserLevel> Machine<U> {
-    // The items of so many events and those that are owed before them, if their number fits.
+impl<U: UserLevel> CoreParts<U> {
+    // The items of that many events and those that are owed before them, if their number fits.
     fn items_for(&self, events: usize) -> Option<usize>
         requires { (machine_of self.now).kernel.telling ≡ [] }
         ensures { IfSome result (λ items. EVENT_ITEMS * events + owed self.now ≤ items) }

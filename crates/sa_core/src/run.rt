@@ -6,7 +6,7 @@ ghost use Rattle.sa_core_model.specs.End.{end_of, committable, local_on};
 ghost use Rattle.sa_core_model.specs.Run.{opening, IsTurn, AreNextLocal};
 ghost use Rattle.sa_core.specs.View.{machine, IsSame};
 
-use crate::machine::Machine;
+use crate::machine::CoreParts;
 use sa_abstract::{SeatState, UserLevel};
 use sa_base::{End, ProcNo, Trace};
 use sa_spaces::Workload;
@@ -20,7 +20,7 @@ const EVENTS_AT_ONCE: usize = 64;
 #[derive(Drop)]
 pub struct Core<U: UserLevel> {
     budget: u64,
-    machine: Machine<U>,
+    machine: CoreParts<U>,
     // for how many events there is room
     spare: usize,
 }
@@ -46,7 +46,7 @@ impl<U: UserLevel> Core<U> {
         ensures spare { IfOk result (λ core. core.spare ≡ 0) }
     {
         w.ranges();
-        let machine = Machine::start(alloc, w)?;
+        let machine = CoreParts::start(alloc, w)?;
         Ok(Core {
             budget,
             machine,
@@ -101,7 +101,7 @@ impl<U: UserLevel> Core<U> {
     }
 
     /// The next `n` instructions of the context that runs on the processor, which are local, as events one after
-    /// another: as many as the budget leaves, and none behind the end of a slice. Answers how many. I/Os that are due
+    /// another: as many as the budget leaves, and none after the end of a slice. Answers how many. I/Os that are due
     /// wait. It takes no memory where there is room for `n` events; an error changes nothing.
     pub fn commit(&mut self, p: ProcNo, n: u16) -> Result<u16, AllocError>
         requires some { 1 ≤ n }

@@ -176,7 +176,7 @@ impl<U: UserLevel> Users<U> {
         self.counts = self.counts.after(was, is);
     }
 
-    /// A context goes on behind an upcall or an entry.
+    /// A context goes on after an upcall or an entry.
     pub(crate) fn answered(&mut self, s: SpaceNo, seen: &Seen, ctx: &mut U::Ctx)
         requires within { s.0 < length self.old }
         requires sees { (u : U) → slice_get self.old s.0 ≡ Some u

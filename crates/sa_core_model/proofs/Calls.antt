@@ -46,7 +46,8 @@ module _ {U C : Type 0} (f : Calls U C) (stands : Standing U C) (keep : Keeps f 
   size-of : (e : ℕ) (m : Machine U C) → Stands stands e m → length m.contexts ≡ length m.kernel.lives
   size-of e m st = st.contexts ∙ sym st.lives
 
-  pub mine : (e : ℕ) (m : Machine U C) (p : ProcNo) (s : SpaceNo) → Stands stands e m → (here : IsAt f stands keep m p s) → contexts_of m s.0 here.act.0 ≡ Some here.ctx
+  pub mine : (e : ℕ) (m : Machine U C) (p : ProcNo) (s : SpaceNo) → Stands stands e m → (here : IsAt f stands keep m p s)
+      → contexts_of m s.0 here.act.0 ≡ Some here.ctx
   mine e m p s st here =
       context-here m.kernel.assign.owners m.kernel.lives m.kernel.acts m.contexts p.0 here.act s (runs-at e m p s st here) (size-of e m st) ∙ here.is_ctx
 
@@ -69,7 +70,8 @@ module _ {U C : Type 0} (f : Calls U C) (stands : Standing U C) (keep : Keeps f 
     mine = mine e m p s st here;
   }
 
-  pub is-seen_of : (e : ℕ) (m : Machine U C) (p : ProcNo) (s : SpaceNo) (seen : Seen) → Stands stands e m → (here : IsAt f stands keep m p s) → seen.proc ≡ p → IsSeenOf stands here.user seen here.ctx
+  pub is-seen_of : (e : ℕ) (m : Machine U C) (p : ProcNo) (s : SpaceNo) (seen : Seen) → Stands stands e m → (here : IsAt f stands keep m p s) → seen.proc ≡ p
+      → IsSeenOf stands here.user seen here.ctx
   is-seen_of e m p s seen st here at = record {
     setting = setting m.workload s.0 here.def;
     event = e;
@@ -112,7 +114,8 @@ module _ {U C : Type 0} (f : Calls U C) (stands : Standing U C) (keep : Keeps f 
   }
 
   -- another value and another context of it
-  pub stands-put : (e g event : ℕ) (m : Machine U C) (p : ProcNo) (s : SpaceNo) (v : U) (c : C) (items : List Item) → e ≤ g → Stands stands e m → (here : IsAt f stands keep m p s)
+  pub stands-put : (e g event : ℕ) (m : Machine U C) (p : ProcNo) (s : SpaceNo) (v : U) (c : C) (items : List Item) → e ≤ g → Stands stands e m
+      → (here : IsAt f stands keep m p s)
       → stands (setting m.workload s.0 here.def) g v (put (contexts_of m s.0) here.act.0 (Some c))
       → Stands stands g (record (with_pair p s v c m) { items = items; event = event })
   stands-put e g event m p s v c items later st here new =
@@ -128,7 +131,8 @@ module _ {U C : Type 0} (f : Calls U C) (stands : Standing U C) (keep : Keeps f 
         users = length-set m.users s.0 v ∙ st.users;
         there = there-put m.contexts k.lives p.0 c (size-of e m st) (some-true (life_of k p) here.act here.life) st.there;
         values = values-put stands m.workload g m.users s.0 v (contexts_of m) (contexts_in k.lives k.acts cs)
-            (λ def of. subst (λ (d : SpaceView). stands (setting m.workload s.0 d) g v (contexts_in k.lives k.acts cs s.0)) (same_Some here.def def (sym here.is_def ∙ of))
+            (λ def of. subst (λ (d : SpaceView). stands (setting m.workload s.0 d) g v (contexts_in k.lives k.acts cs s.0))
+            (same_Some here.def def (sym here.is_def ∙ of))
             (subst (λ (x : Contexts C). stands (setting m.workload s.0 here.def) g v x)
             (fun_ext (contexts-put k.assign.owners k.lives k.acts m.contexts p.0 here.act s runs (size-of e m st) here.within c)) new))
             (contexts-put_kept k.assign.owners k.lives k.acts m.contexts p.0 here.act s runs (Some c))
@@ -136,12 +140,14 @@ module _ {U C : Type 0} (f : Calls U C) (stands : Standing U C) (keep : Keeps f 
       }
 
   -- a call that goes on, in an event that is under way
-  pub stands-answered : (e : ℕ) (m : Machine U C) (p : ProcNo) (s : SpaceNo) → Stands stands e m → owner_of m.kernel p ≡ Some s → Stands stands e (answered f p s m)
+  pub stands-answered : (e : ℕ) (m : Machine U C) (p : ProcNo) (s : SpaceNo) → Stands stands e m → owner_of m.kernel p ≡ Some s
+      → Stands stands e (answered f p s m)
   stands-answered e m p s st owner =
       let here = at-owned f stands keep e m p s st owner in
       let seen = seen_on m p s in
       let r : U × C = f.answered here.user seen here.ctx in
-      let law = keep.answers (setting m.workload s.0 here.def) e here.user (contexts_of m s.0) here.act.0 here.ctx seen (value-at e m p s st here) (mine e m p s st here) (sees-at e m p s st here) in
+      let law = keep.answers (setting m.workload s.0 here.def) e here.user (contexts_of m s.0) here.act.0 here.ctx seen (value-at e m p s st here)
+      (mine e m p s st here) (sees-at e m p s st here) in
       rw (here.is_user, here.is_ctx) (stands-put e e m.event m p s r.0 r.1 m.items (omega arith) st here law)
 
 -- a notice hands over a context that is held of its space
@@ -161,7 +167,8 @@ module _ {C : Type 0} where
   kept-of s None some = absurd (omega (arith, some))
   kept-of s (Some act) some = kept-act s act act.held refl some
 
-  pub next-kept : (s : ℕ) (note : Note) (notes : List Note) (b : ℕ) (k : KernelState C) → k.telling ≡ note ∷ notes → note_claim b note ≡ 1 → AreClaimed k s → IsKeptOf s (k.acts b)
+  pub next-kept : (s : ℕ) (note : Note) (notes : List Note) (b : ℕ) (k : KernelState C) → k.telling ≡ note ∷ notes → note_claim b note ≡ 1 → AreClaimed k s
+      → IsKeptOf s (k.acts b)
   next-kept s note notes b k is one claimed =
       kept-of s (k.acts b) (held-next k.under_way k.untold note notes k.acts s b one
       (subst (λ (ns : List Note). AreClaimed (record k { telling = ns }) s) is claimed))
@@ -169,17 +176,20 @@ module _ {C : Type 0} where
   pub held-for : (s : ℕ) (x : Option (Act C)) (h : IsKeptOf s x) → held_of x ≡ Some h.stopped
   held-for s x h = ap held_of h.is ∙ h.holds
 
-  pub handed-acts : (o : Option (Stopped C)) (h : Stopped C) (a : ActNo) (k : KernelState C) → o ≡ Some h → (handed_by o a k).acts ≡ put k.acts a.0 (taken_from (k.acts a.0))
+  pub handed-acts : (o : Option (Stopped C)) (h : Stopped C) (a : ActNo) (k : KernelState C) → o ≡ Some h
+      → (handed_by o a k).acts ≡ put k.acts a.0 (taken_from (k.acts a.0))
   handed-acts None h a k e = absurd cc
   handed-acts (Some x) h a k e = refl
 
-  pub handed-lives : (o : Option (Stopped C)) (a : ActNo) (k : KernelState C) → ((handed_by o a k).lives ≡ k.lives) × ((handed_by o a k).demands ≡ k.demands) × ((handed_by o a k).telling ≡ k.telling) × ((handed_by o a k).assign ≡ k.assign)
+  pub handed-lives : (o : Option (Stopped C)) (a : ActNo) (k : KernelState C) → ((handed_by o a k).lives ≡ k.lives) × ((handed_by o a k).demands ≡ k.demands)
+      × ((handed_by o a k).telling ≡ k.telling) × ((handed_by o a k).assign ≡ k.assign)
   handed-lives None a k = (refl, refl, refl, refl)
   handed-lives (Some x) a k = (refl, refl, refl, refl)
 
 module _ {U C : Type 0} (f : Calls U C) (stands : Standing U C) (keep : Keeps f stands) where
-  -- the contexts behind a notice that hands over the one of activation b: it is gone, and that of the running life is c
-  pub contexts-given : (e : ℕ) (m : Machine U C) (p : ProcNo) (s : SpaceNo) (b : ℕ) (c : C) → Stands stands e m → (here : IsAt f stands keep m p s) → IsKeptOf s.0 (m.kernel.acts b)
+  -- the contexts after a notice that hands over the one of activation b: it is gone, and that of the running life is c
+  pub contexts-given : (e : ℕ) (m : Machine U C) (p : ProcNo) (s : SpaceNo) (b : ℕ) (c : C) → Stands stands e m → (here : IsAt f stands keep m p s)
+      → IsKeptOf s.0 (m.kernel.acts b)
       → ((i : ℕ) → put (put (contexts_of m s.0) here.act.0 (Some c)) b None i
       ≡ contexts_in m.kernel.lives (put m.kernel.acts b (taken_from (m.kernel.acts b))) (slice_set m.contexts p.0 (Some c)) s.0 i)
       × ((t : ℕ) → t ≢ s.0 → (i : ℕ) → contexts_of m t i
@@ -189,7 +199,8 @@ module _ {U C : Type 0} (f : Calls U C) (stands : Standing U C) (keep : Keeps f 
       let cs : List (Option C) = slice_set m.contexts p.0 (Some c) in
       let size : length m.contexts ≡ length j.lives = st.contexts ∙ sym st.lives in
       let runs : RunsOn j.assign.owners j.lives j.acts p.0 here.act s = (st.sound.formed.lives, here.life, here.runs) in
-      let is_held : IsHeld j.assign.owners j.lives j.acts cs b kept.act kept.stopped = record { alive = st.sound.formed.lives; is = kept.is; holds = kept.holds } in
+      let is_held : IsHeld j.assign.owners j.lives j.acts cs b kept.act kept.stopped =
+      record { alive = st.sound.formed.lives; is = kept.is; holds = kept.holds } in
       let given : ℕ → Option (Act C) = put j.acts b (taken_from (j.acts b)) in (
         λ i. ap (λ (x : Contexts C). put x b None i) (fun_ext (contexts-put j.assign.owners j.lives j.acts m.contexts p.0 here.act s runs size here.within c))
             ∙ subst (λ (n : ℕ). put (contexts_in j.lives j.acts cs n) b None i ≡ contexts_in j.lives given cs n i) kept.space
@@ -199,8 +210,10 @@ module _ {U C : Type 0} (f : Calls U C) (stands : Standing U C) (keep : Keeps f 
       )
 
   -- a context of another activation is handed over with a notice
-  stands-handed : (e : ℕ) (m : Machine U C) (p : ProcNo) (s : SpaceNo) (k : KernelState C) (b : ℕ) (v : U) (c : C) → Stands stands e m → (here : IsAt f stands keep m p s)
-      → (kept : IsKeptOf s.0 (m.kernel.acts b)) → IsSound k → k.lives ≡ m.kernel.lives → k.acts ≡ put m.kernel.acts b (taken_from (m.kernel.acts b)) → k.demands ≡ m.kernel.demands
+  stands-handed : (e : ℕ) (m : Machine U C) (p : ProcNo) (s : SpaceNo) (k : KernelState C) (b : ℕ) (v : U) (c : C) → Stands stands e m
+      → (here : IsAt f stands keep m p s)
+      → (kept : IsKeptOf s.0 (m.kernel.acts b)) → IsSound k → k.lives ≡ m.kernel.lives → k.acts ≡ put m.kernel.acts b (taken_from (m.kernel.acts b))
+      → k.demands ≡ m.kernel.demands
       → stands (setting m.workload s.0 here.def) e v (put (put (contexts_of m s.0) here.act.0 (Some c)) b None)
       → Stands stands e (with_pair p s v c (record m { kernel = k }))
   stands-handed e m p s k b v c st here kept sound lives acts demands new =
@@ -222,7 +235,8 @@ module _ {U C : Type 0} (f : Calls U C) (stands : Standing U C) (keep : Keeps f 
         values = values-same stands m.workload e (slice_set m.users s.0 v) (contexts_in j.lives given cs) (contexts_in k.lives k.acts cs)
             (contexts-same j.lives k.lives given k.acts cs lives acts)
             (values-put stands m.workload e m.users s.0 v (contexts_of m) (contexts_in j.lives given cs)
-            (λ def of. subst (λ (d : SpaceView). stands (setting m.workload s.0 d) e v (contexts_in j.lives given cs s.0)) (same_Some here.def def (sym here.is_def ∙ of))
+            (λ def of. subst (λ (d : SpaceView). stands (setting m.workload s.0 d) e v (contexts_in j.lives given cs s.0))
+            (same_Some here.def def (sym here.is_def ∙ of))
             (subst (λ (x : Contexts C). stands (setting m.workload s.0 here.def) e v x) own new))
             both.1 st.values);
       }
@@ -231,7 +245,8 @@ module _ {U C : Type 0} (f : Calls U C) (stands : Standing U C) (keep : Keeps f 
       → IsKeptOf s.0 (m.kernel.acts b.0) → IsHandedOver (contexts_of m s.0) here.act.0 b.0 (held_of (m.kernel.acts b.0))
   over-next e m p s b st here kept =
       let k = m.kernel in
-      let is_held : IsHeld k.assign.owners k.lives k.acts m.contexts b.0 kept.act kept.stopped = record { alive = st.sound.formed.lives; is = kept.is; holds = kept.holds } in record {
+      let is_held : IsHeld k.assign.owners k.lives k.acts m.contexts b.0 kept.act kept.stopped =
+      record { alive = st.sound.formed.lives; is = kept.is; holds = kept.holds } in record {
         stopped = kept.stopped;
         is = held-for s.0 (k.acts b.0) kept;
         theirs = subst (λ (n : ℕ). contexts_in k.lives k.acts m.contexts n b.0 ≡ Some kept.stopped.ctx) kept.space
@@ -240,7 +255,8 @@ module _ {U C : Type 0} (f : Calls U C) (stands : Standing U C) (keep : Keeps f 
       }
 
   -- what comes with the next notice
-  pub handed-next : (e : ℕ) (m : Machine U C) (p : ProcNo) (s : SpaceNo) (note : Note) (notes : List Note) → Stands stands e m → (here : IsAt f stands keep m p s)
+  pub handed-next : (e : ℕ) (m : Machine U C) (p : ProcNo) (s : SpaceNo) (note : Note) (notes : List Note) → Stands stands e m
+      → (here : IsAt f stands keep m p s)
       → m.kernel.telling ≡ note ∷ notes → AreClaimed m.kernel s.0 → IsHanded (contexts_of m s.0) here.act.0 note (held_for m.kernel note)
   handed-next e m p s (Add q) notes st here is claimed = refl
   handed-next e m p s (Blocked b) notes st here is claimed = refl
@@ -262,7 +278,8 @@ module _ {U C : Type 0} (f : Calls U C) (stands : Standing U C) (keep : Keeps f 
       → called_by call p s (user_of m s) (context_on m p) n ≡ with_pair p s (call u c).0 (call u c).1 n
   called-is call p s m n u c user ctx = rw (user, ctx) refl
 
-  tells-plain : (w : WorkloadView) (e g : ℕ) (m : Machine U C) (p : ProcNo) (s : SpaceNo) (note : Note) (notes : List Note) → (tells : Tells w e g p s (note ∷ notes) m)
+  tells-plain : (w : WorkloadView) (e g : ℕ) (m : Machine U C) (p : ProcNo) (s : SpaceNo) (note : Note) (notes : List Note)
+      → (tells : Tells w e g p s (note ∷ notes) m)
       → (k : KernelState C) → k ≡ record m.kernel { telling = notes } → IsSound k → AreClaimed k s.0
       → ((cs : Contexts C) (a : ℕ) (c : C) → told_contexts cs a c note ≡ put cs a (Some c))
       → Tells w e g p s notes (called (λ u c. f.told u c note (held_for m.kernel note)) p s (record m { kernel = k }))
@@ -289,8 +306,10 @@ module _ {U C : Type 0} (f : Calls U C) (stands : Standing U C) (keep : Keeps f 
         telling = ap (λ (z : KernelState C). z.telling) same;
       })
 
-  tells-handed : (w : WorkloadView) (e g : ℕ) (m : Machine U C) (p : ProcNo) (s : SpaceNo) (note : Note) (notes : List Note) (b : ActNo) → (tells : Tells w e g p s (note ∷ notes) m)
-      → (k : KernelState C) → k ≡ handed_by (held_of (m.kernel.acts b.0)) b (record m.kernel { telling = notes }) → IsSound k → AreClaimed k s.0 → note_claim b.0 note ≡ 1
+  tells-handed : (w : WorkloadView) (e g : ℕ) (m : Machine U C) (p : ProcNo) (s : SpaceNo) (note : Note) (notes : List Note) (b : ActNo)
+      → (tells : Tells w e g p s (note ∷ notes) m)
+      → (k : KernelState C) → k ≡ handed_by (held_of (m.kernel.acts b.0)) b (record m.kernel { telling = notes }) → IsSound k → AreClaimed k s.0
+      → note_claim b.0 note ≡ 1
       → ((cs : Contexts C) (a : ℕ) (c : C) → told_contexts cs a c note ≡ put (put cs a (Some c)) b.0 None)
       → Tells w e g p s notes (called (λ u c. f.told u c note (held_for m.kernel note)) p s (record m { kernel = k }))
   tells-handed w e g m p s note notes b tells k same sound claimed one both =
@@ -319,20 +338,23 @@ module _ {U C : Type 0} (f : Calls U C) (stands : Standing U C) (keep : Keeps f 
         telling = ap (λ (z : KernelState C). z.telling) same ∙ rest.2;
       })
 
-  pub tells-next : (w : WorkloadView) (e g : ℕ) (m : Machine U C) (p : ProcNo) (s : SpaceNo) (note : Note) (notes : List Note) → Tells w e g p s (note ∷ notes) m → Tells w e g p s notes (told_one f p s note notes m)
+  pub tells-next : (w : WorkloadView) (e g : ℕ) (m : Machine U C) (p : ProcNo) (s : SpaceNo) (note : Note) (notes : List Note)
+      → Tells w e g p s (note ∷ notes) m → Tells w e g p s notes (told_one f p s note notes m)
   tells-next w e g m p s note notes tells =
       let sound = sound-after_fetch (note ∷ notes) m.kernel (sym tells.telling) tells.standing.sound in
       let claimed = claimed-after_fetch (note ∷ notes) m.kernel s.0 (sym tells.telling) tells.claimed in
       go note tells sound claimed
     where
-      go : (n : Note) → Tells w e g p s (n ∷ notes) m → IsSound (fetched n (record m.kernel { telling = notes })) → AreClaimed (fetched n (record m.kernel { telling = notes })) s.0
+      go : (n : Note) → Tells w e g p s (n ∷ notes) m → IsSound (fetched n (record m.kernel { telling = notes }))
+          → AreClaimed (fetched n (record m.kernel { telling = notes })) s.0
           → Tells w e g p s notes (told_one f p s n notes m)
       go (Add q) t sound claimed = tells-plain w e g m p s (Add q) notes t _ refl sound claimed (λ cs a c. refl)
       go (Blocked b) t sound claimed = tells-plain w e g m p s (Blocked b) notes t _ refl sound claimed (λ cs a c. refl)
       go (Preempted b) t sound claimed = tells-handed w e g m p s (Preempted b) notes b t _ refl sound claimed (grind (arith, nat_tests)) (λ cs a c. refl)
       go (Unblocked b) t sound claimed = tells-handed w e g m p s (Unblocked b) notes b t _ refl sound claimed (grind (arith, nat_tests)) (λ cs a c. refl)
 
-  -- .. and all of them
-  pub tells-all : (w : WorkloadView) (e g : ℕ) (p : ProcNo) (s : SpaceNo) (notes : List Note) (m : Machine U C) → Tells w e g p s notes m → Tells w e g p s [] (told_all f p s notes m)
+  -- it is told all of them
+  pub tells-all : (w : WorkloadView) (e g : ℕ) (p : ProcNo) (s : SpaceNo) (notes : List Note) (m : Machine U C) → Tells w e g p s notes m
+      → Tells w e g p s [] (told_all f p s notes m)
   tells-all w e g p s [] m tells = tells
   tells-all w e g p s (note ∷ notes) m tells = tells-all w e g p s notes (told_one f p s note notes m) (tells-next w e g m p s note notes tells)

@@ -56,7 +56,7 @@ whole-slice n slice event false zero_is fits k some below =
     let is : (event + k) % slice ≡ event % slice + k = sym (mod-add-mod event slice k) ∙ mod-eq_of_lt within in
     grind (arith, nat_tests, is, some)
 
--- one local instruction makes one record, and the others go on behind it
+-- one local instruction makes one record, and the others go on after it
 one-record : (s : Setting) (n : ℕ) (x : SeatState) → GoesOn s (suc n) x → (r : Record) × (records_of s 1 x ≡ r ∷ [])
 one-record s n (Local space thread program pc regs) goes = (Ins space thread pc, refl)
 one-record s n Away goes = absurd goes
@@ -137,7 +137,7 @@ module _ {U C : Type 0} (f : Calls U C) (stands : Standing U C) (keep : Keeps f 
   abbrev gone_first : (m : Machine U C) (p : ProcNo) (s : SpaceNo) → U → C → Gone U C
   gone_first m p s u c = f.went u (seen_on (next_event m) p s) c 1
 
-  -- the machine behind it
+  -- the machine after it
   abbrev behind : (m : Machine U C) (p : ProcNo) (s : SpaceNo) → U → C → Machine U C
   behind m p s u c = gone_to f p s (gone_first m p s u c) (next_event m)
 
@@ -158,7 +158,8 @@ module _ {U C : Type 0} (f : Calls U C) (stands : Standing U C) (keep : Keeps f 
   first-steps m p n is at = is.can.steps at.space at.here.user at.here.ctx at.here.owner at.here.is_user at.here.is_ctx
 
   -- THE TURN does it, whatever number is fresh
-  stepped-is : (m : Machine U C) (p : ProcNo) (s : SpaceNo) (u : U) (c : C) (r : Stepped U C) → user_of m s ≡ Some u → context_on m p ≡ Some c → f.stepped u (seen_on m p s) c ≡ r
+  stepped-is : (m : Machine U C) (p : ProcNo) (s : SpaceNo) (u : U) (c : C) (r : Stepped U C) → user_of m s ≡ Some u → context_on m p ≡ Some c
+      → f.stepped u (seen_on m p s) c ≡ r
       → stepped f p s m ≡ (step_to f p s r m, r.answer)
   stepped-is m p s u c r user ctx is = rw (user, ctx, is) refl
 
@@ -180,7 +181,7 @@ module _ {U C : Type 0} (f : Calls U C) (stands : Standing U C) (keep : Keeps f 
       ∙ ap (λ (z : Machine U C × Step). asked f p fresh z.1 z.0) step
       ∙ ap (λ (list : List Item). sliced p (record (with_pair p s r.user r.ctx x) { items = x.items ++ list })) items
 
-  -- the first of some, behind which no slice ends
+  -- the first of some, after which no slice ends
   no-slice : (m : Machine U C) (p : ProcNo) → ends_slice m ≡ false → sliced p m ≡ m
   no-slice m p ends = ap (λ (b : Bool). sliced_if p b m) ends
 
@@ -191,7 +192,8 @@ module _ {U C : Type 0} (f : Calls U C) (stands : Standing U C) (keep : Keeps f 
       ∙ no-slice (behind m p at.space at.here.user at.here.ctx) p (is.whole 1 (omega arith) (omega arith))
 
   -- THE COMMIT does it first
-  commit-one : (m : Machine U C) (p : ProcNo) → IsReady m p 1 → (at : IsFirst m p 0) → committed f p 1 m ≡ sliced p (behind m p at.space at.here.user at.here.ctx)
+  commit-one : (m : Machine U C) (p : ProcNo) → IsReady m p 1 → (at : IsFirst m p 0)
+      → committed f p 1 m ≡ sliced p (behind m p at.space at.here.user at.here.ctx)
   commit-one m p is at =
       let x : Machine U C = next_event m in
       ap (λ (o : Option SpaceNo). sliced p (gone_in f p 1 o x)) at.here.owner
@@ -233,7 +235,8 @@ module _ {U C : Type 0} (f : Calls U C) (stands : Standing U C) (keep : Keeps f 
 
   -- AND THE OTHERS are ready then
   behind-local : (m : Machine U C) (p : ProcNo) (n : ℕ) (is : IsReady m p (suc n)) (at : IsFirst m p n)
-      → local_on f (behind m p at.space at.here.user at.here.ctx) p ≡ state_after (setting m.workload at.space.0 at.here.def) 1 (f.local at.here.user at.here.ctx)
+      → local_on f (behind m p at.space at.here.user at.here.ctx) p
+      ≡ state_after (setting m.workload at.space.0 at.here.def) 1 (f.local at.here.user at.here.ctx)
   behind-local m p n is at =
       let x : Machine U C = next_event m in
       let r : Gone U C = gone_first m p at.space at.here.user at.here.ctx in
@@ -243,7 +246,8 @@ module _ {U C : Type 0} (f : Calls U C) (stands : Standing U C) (keep : Keeps f 
       ∙ ap (λ (o : Option C). local_by f (Some r.user) o) (read-set x.contexts p.0 r.ctx at.here.ctx at.here.is_ctx)
       ∙ (first-law m p n is at).state
 
-  behind-between : (m : Machine U C) (p : ProcNo) (n : ℕ) (is : IsReady m p (suc n)) (at : IsFirst m p n) → IsBetween stands (behind m p at.space at.here.user at.here.ctx)
+  behind-between : (m : Machine U C) (p : ProcNo) (n : ℕ) (is : IsReady m p (suc n)) (at : IsFirst m p n)
+      → IsBetween stands (behind m p at.space at.here.user at.here.ctx)
   behind-between m p n is at =
       let x : Machine U C = next_event m in
       let y : Machine U C = behind m p at.space at.here.user at.here.ctx in
@@ -251,7 +255,8 @@ module _ {U C : Type 0} (f : Calls U C) (stands : Standing U C) (keep : Keeps f 
       (first-goes (setting m.workload at.space.0 at.here.def) n (f.local at.here.user at.here.ctx) at.goes) in
       between-rests f stands keep m.workload (m.event + 1) y (subst (λ (i : ℕ). Rests f stands keep m.workload i (m.event + 1) y) (omega arith) done)
 
-  ready-more : (m : Machine U C) (p : ProcNo) (n : ℕ) (is : IsReady m p (suc n)) (at : IsFirst m p n) → IsReady (behind m p at.space at.here.user at.here.ctx) p n
+  ready-more : (m : Machine U C) (p : ProcNo) (n : ℕ) (is : IsReady m p (suc n)) (at : IsFirst m p n)
+      → IsReady (behind m p at.space at.here.user at.here.ctx) p n
   ready-more m p n is at =
       let x : Machine U C = next_event m in
       let s = at.space in
@@ -280,7 +285,8 @@ module _ {U C : Type 0} (f : Calls U C) (stands : Standing U C) (keep : Keeps f 
           steps = λ t v d owner user ctx.
               let same_space : s ≡ t = same_Some s t (sym at.here.owner ∙ owner) in
               let has : slice_get (slice_set x.users s.0 r.user) s.0 ≡ Some r.user = get-set x.users s.0 r.user u at.here.is_user in
-              let same_user : r.user ≡ v = same_Some r.user v (sym has ∙ ap (λ (z : SpaceNo). slice_get (slice_set x.users s.0 r.user) z.0) same_space ∙ user) in
+              let same_user : r.user ≡ v = same_Some r.user v
+              (sym has ∙ ap (λ (z : SpaceNo). slice_get (slice_set x.users s.0 r.user) z.0) same_space ∙ user) in
               let runs : get_or (slice_set x.contexts p.0 (Some r.ctx)) p.0 None ≡ Some r.ctx = read-set x.contexts p.0 r.ctx c at.here.is_ctx in
               let same_ctx : r.ctx ≡ d = same_Some r.ctx d (sym runs ∙ ctx) in
               subst (λ (z : U). AreSteps f n z d) same_user (subst (λ (z : C). AreSteps f n r.user z) same_ctx ((first-steps m p n is at).2 (seen_on x p s)));
@@ -294,7 +300,8 @@ module _ {U C : Type 0} (f : Calls U C) (stands : Standing U C) (keep : Keeps f 
   can-turn : (m : Machine U C) (p : ProcNo) (n : ℕ) → IsReady m p (suc n) → IsFirst m p n → CanTurn f m p
   can-turn m p n is at = record { within = sees-at f stands keep m.event (next_event m) p at.space at.rest.standing at.here; event = omega (arith, is.event) }
 
-  turns-run : (n : ℕ) (m : Machine U C) (p : ProcNo) (fresh : ActNo) → IsReady m p (suc n) → m.kernel.acts fresh.0 ≡ None → IsRun f m (turns p (suc n)) (committed f p (suc n) m)
+  turns-run : (n : ℕ) (m : Machine U C) (p : ProcNo) (fresh : ActNo) → IsReady m p (suc n) → m.kernel.acts fresh.0 ≡ None
+      → IsRun f m (turns p (suc n)) (committed f p (suc n) m)
   turns-run zero m p fresh is unused =
       let at = first m p 0 is in
       (turned f p fresh m, (can-turn m p 0 is at, record { fresh = fresh; unused = unused; is = refl }), commit-one m p is at ∙ sym (turn-is m p 0 fresh is at))
@@ -302,13 +309,15 @@ module _ {U C : Type 0} (f : Calls U C) (stands : Standing U C) (keep : Keeps f 
       let at = first m p (suc n) is in
       let y : Machine U C = behind m p at.space at.here.user at.here.ctx in
       let others : IsRun f y (turns p (suc n)) (committed f p (suc (suc n)) m) =
-      subst (λ (z : Machine U C). IsRun f y (turns p (suc n)) z) (sym (commit-goes m p n is at)) (turns-run n y p fresh (ready-more m p (suc n) is at) unused) in (
+      subst (λ (z : Machine U C). IsRun f y (turns p (suc n)) z) (sym (commit-goes m p n is at))
+      (turns-run n y p fresh (ready-more m p (suc n) is at) unused) in (
         turned f p fresh m,
         (can-turn m p (suc n) is at, record { fresh = fresh; unused = unused; is = refl }),
         subst (λ (z : Machine U C). IsRun f z (turns p (suc n)) (committed f p (suc (suc n)) m)) (sym (turn-goes m p n fresh is at)) others,
       )
 
-  run-turns : (n : ℕ) (m : Machine U C) (p : ProcNo) (after : Machine U C) → IsReady m p (suc n) → IsRun f m (turns p (suc n)) after → after ≡ committed f p (suc n) m
+  run-turns : (n : ℕ) (m : Machine U C) (p : ProcNo) (after : Machine U C) → IsReady m p (suc n) → IsRun f m (turns p (suc n)) after
+      → after ≡ committed f p (suc n) m
   run-turns zero m p after is run =
       let at = first m p 0 is in
       run.2 ∙ run.1.1.is ∙ turn-is m p 0 run.1.1.fresh is at ∙ sym (commit-one m p is at)
@@ -319,12 +328,14 @@ module _ {U C : Type 0} (f : Calls U C) (stands : Standing U C) (keep : Keeps f 
       subst (λ (z : Machine U C). IsRun f z (turns p (suc n)) after) (run.1.1.is ∙ turn-goes m p n run.1.1.fresh is at) run.2 in
       run-turns n y p after (ready-more m p (suc n) is at) others ∙ sym (commit-goes m p n is at)
 
-  pub commits-run : (m : Machine U C) (p : ProcNo) (n : ℕ) (fresh : ActNo) → IsBetween stands m → CanCommit f m p n → CanStep f m p n → m.kernel.acts fresh.0 ≡ None
+  pub commits-run : (m : Machine U C) (p : ProcNo) (n : ℕ) (fresh : ActNo) → IsBetween stands m → CanCommit f m p n → CanStep f m p n
+      → m.kernel.acts fresh.0 ≡ None
       → IsRun f m (replicate n (turn p)) (committed f p n m)
   commits-run m p zero fresh between can steps unused = refl
   commits-run m p (suc n) fresh between can steps unused = turns-run n m p fresh (ready m p (suc n) between can steps) unused
 
-  pub runs-commit : (m : Machine U C) (p : ProcNo) (n : ℕ) (after : Machine U C) → IsBetween stands m → CanCommit f m p n → CanStep f m p n → IsRun f m (replicate n (turn p)) after
+  pub runs-commit : (m : Machine U C) (p : ProcNo) (n : ℕ) (after : Machine U C) → IsBetween stands m → CanCommit f m p n → CanStep f m p n
+      → IsRun f m (replicate n (turn p)) after
       → after ≡ committed f p n m
   runs-commit m p zero after between can steps run = run
   runs-commit m p (suc n) after between can steps run = run-turns n m p after (ready m p (suc n) between can steps) run

@@ -46,7 +46,8 @@ module _ {C : Type 0} where
   demands-interrupt n e p None x h = h
   demands-interrupt n e p (Some q) x h = h
 
-  demands-interrupt_one : (n e : ℕ) (p : ProcNo) (b : Bool) (s : ℕ) (x : Scene C) → length x.state.demands ≡ n → length (interrupt_one e p b s x).state.demands ≡ n
+  demands-interrupt_one : (n e : ℕ) (p : ProcNo) (b : Bool) (s : ℕ) (x : Scene C) → length x.state.demands ≡ n
+      → length (interrupt_one e p b s x).state.demands ≡ n
   demands-interrupt_one n e p false s x h = h
   demands-interrupt_one n e p true s x h = demands-interrupt n e p (least_below (length x.state.lives) (has_low_line x.state s)) x h
 
@@ -56,14 +57,15 @@ module _ {C : Type 0} where
       let P : Scene C → Type 0 = λ y. length y.state.demands ≡ n in
       let w = wants e p x in
       let h : P w = for_spaces-keeps P (want_for e p) (λ s y h. demands-want_one n e p (must_want y.state s) s y h) 0 (spaces x.state) x refl in
-      for_spaces-keeps P (interrupt_for e p) (λ s y h. demands-interrupt_one n e p (must_interrupt y.state s) s y h) 0 (spaces (aims e p w).state) (aims e p w) h
+      for_spaces-keeps P (interrupt_for e p) (λ s y h. demands-interrupt_one n e p (must_interrupt y.state s) s y h) 0 (spaces (aims e p w).state)
+      (aims e p w) h
 
   pub same-closed : (e : ℕ) (p : ProcNo) (x : Scene C) → SameRuns x.state (closed e p x).state
   same-closed e p x =
       let h = stays-closed e p x in
       record { lives = h.lives; acts = h.acts; telling = h.telling; demands = demands-closed e p x }
 
-  -- entries behind which the same activations run
+  -- entries after which the same activations run
 
   same-over_for : (e : ℕ) (p : ProcNo) (kind : IoKind) (x : Scene C) → SameRuns x.state (over_for e p kind x).state
   same-over_for e p (Plain s a) x = record { lives = refl; acts = refl; telling = refl; demands = refl }
@@ -96,7 +98,7 @@ module _ {C : Type 0} where
   pub starts-same : (k l m : KernelState C) (p : ProcNo) (a : ActNo) (s : SpaceNo) → Starts k l p a s → SameRuns l m → Starts k m p a s
   starts-same k l m p a s h same = record { lives = same.lives ∙ h.lives; acts = same.acts ∙ h.acts; demands = same.demands ∙ h.demands }
 
-  -- behind a stop or a block: an upcall, or the processor is left
+  -- after a stop or a block: an upcall, or the processor is left
 
   same-fetch_page : (e : ℕ) (p : ProcNo) (s : SpaceNo) (b : Bool) (x : Scene C) → SameRuns x.state (fetch_page e p s b x).state
   same-fetch_page e p s true x = record { lives = refl; acts = refl; telling = refl; demands = refl }
@@ -129,7 +131,8 @@ module _ {C : Type 0} where
     pub started : upcalls_for x.state aim ≡ true → (s : SpaceNo) × Starts x.state y.state p a s
     pub same : upcalls_for x.state aim ≡ false → SameRuns x.state y.state
 
-  aims-by : (e : ℕ) (p : ProcNo) (s : SpaceNo) (a : ActNo) (owned b : Bool) (x : Scene C) → can_upcall x.state s ≡ b → Aims x (go_to_by e p s a owned b x) p a (Some s)
+  aims-by : (e : ℕ) (p : ProcNo) (s : SpaceNo) (a : ActNo) (owned b : Bool) (x : Scene C) → can_upcall x.state s ≡ b
+      → Aims x (go_to_by e p s a owned b x) p a (Some s)
   aims-by e p s a owned true x can = record {
     started = λ up. (s, starts-go_to e p s a owned x);
     same = λ up. absurd (let z = sym can ∙ up in cc);
@@ -154,7 +157,8 @@ module _ {C : Type 0} where
     pub pages : l.pages ≡ k.pages
     pub demands : length l.demands ≡ length k.demands
 
-  pub stopped-aside : (e : ℕ) (p : ProcNo) (o : Option SpaceNo) (l : Option ActNo) (h : Option (Stopped C)) (x : Scene C) (s : SpaceNo) (a : ActNo) (held : Stopped C)
+  pub stopped-aside : (e : ℕ) (p : ProcNo) (o : Option SpaceNo) (l : Option ActNo) (h : Option (Stopped C)) (x : Scene C) (s : SpaceNo) (a : ActNo)
+      (held : Stopped C)
       → o ≡ Some s → l ≡ Some a → h ≡ Some held → SetsAside x.state (stopped e p o l h x).state p a held
   stopped-aside e p o l h x s a held owner life is =
       rw (owner, life, is) (record { lives = refl; acts = refl; telling = refl; pages = refl; demands = refl })

@@ -29,8 +29,10 @@ use Rattle.sa_core_model.proofs.Effects.{SameRuns}
 
 -- where two lists have the same cells filled
 
-pub there-set : {A B : Type 0} (xs : List (Option A)) (ys : List (Option B)) (p : ℕ) (x : Option A) (y : Option B) → length xs ≡ length ys → is_some x ≡ is_some y
-    → ((q : ℕ) → is_some (get_or xs q None) ≡ is_some (get_or ys q None)) → (q : ℕ) → is_some (get_or (slice_set xs p x) q None) ≡ is_some (get_or (slice_set ys p y) q None)
+pub there-set : {A B : Type 0} (xs : List (Option A)) (ys : List (Option B)) (p : ℕ) (x : Option A) (y : Option B) → length xs ≡ length ys
+    → is_some x ≡ is_some y
+    → ((q : ℕ) → is_some (get_or xs q None) ≡ is_some (get_or ys q None)) → (q : ℕ)
+    → is_some (get_or (slice_set xs p x) q None) ≡ is_some (get_or (slice_set ys p y) q None)
 there-set [] [] p x y size same each q = refl
 there-set [] (b ∷ ys) p x y size same each q = absurd (omega (arith, size))
 there-set (a ∷ xs) [] p x y size same each q = absurd (omega (arith, size))
@@ -40,7 +42,8 @@ there-set (a ∷ xs) (b ∷ ys) (suc p) x y size same each zero = each zero
 there-set (a ∷ xs) (b ∷ ys) (suc p) x y size same each (suc q) = there-set xs ys p x y (omega (arith, size)) same (λ r. each (suc r)) q
 
 pub there-put : {A B : Type 0} (xs : List (Option A)) (ys : List (Option B)) (p : ℕ) (x : A) → length xs ≡ length ys → is_some (get_or ys p None) ≡ true
-    → ((q : ℕ) → is_some (get_or xs q None) ≡ is_some (get_or ys q None)) → (q : ℕ) → is_some (get_or (slice_set xs p (Some x)) q None) ≡ is_some (get_or ys q None)
+    → ((q : ℕ) → is_some (get_or xs q None) ≡ is_some (get_or ys q None)) → (q : ℕ)
+    → is_some (get_or (slice_set xs p (Some x)) q None) ≡ is_some (get_or ys q None)
 there-put [] [] p x size here each q = refl
 there-put [] (b ∷ ys) p x size here each q = absurd (omega (arith, size))
 there-put (a ∷ xs) [] p x size here each q = absurd (omega (arith, size))
@@ -63,12 +66,14 @@ within-of (y ∷ xs) zero x e = omega arith
 within-of (y ∷ xs) (suc p) x e = (let h = within-of xs p x e in omega arith)
 
 module _ {C : Type 0} where
-  pub contexts-same : (ls ms : List (Option ActNo)) (f g : ℕ → Option (Act C)) (cs : List (Option C)) → ms ≡ ls → g ≡ f → (t b : ℕ) → contexts_in ls f cs t b ≡ contexts_in ms g cs t b
+  pub contexts-same : (ls ms : List (Option ActNo)) (f g : ℕ → Option (Act C)) (cs : List (Option C)) → ms ≡ ls → g ≡ f → (t b : ℕ)
+      → contexts_in ls f cs t b ≡ contexts_in ms g cs t b
   contexts-same ls ms f g cs l a t b =
       ap (λ (x : List (Option ActNo)). contexts_in x f cs t b) (sym l) ∙ ap (λ (x : ℕ → Option (Act C)). contexts_in ms x cs t b) (sym a)
 
 -- nothing runs on the processor, and all else stands
-pub record Paused {U C : Type 0} (stands : Standing U C) (e : ℕ) (p : ProcNo) (ls : List (Option ActNo)) (acts : ℕ → Option (Act C)) (m : Machine U C) : Type 0 where
+pub record Paused {U C : Type 0} (stands : Standing U C) (e : ℕ) (p : ProcNo) (ls : List (Option ActNo)) (acts : ℕ
+    → Option (Act C)) (m : Machine U C) : Type 0 where
   pub workload : IsWorkload m.workload
   pub within : p.0 < length ls
   pub none : get_or ls p.0 None ≡ None
@@ -112,7 +117,8 @@ module _ {U C : Type 0} (f : Calls U C) (stands : Standing U C) (keep : Keeps f 
   }
 
   -- the kernel changes, but not what runs
-  pub stands-runs : (e event : ℕ) (m : Machine U C) (k : KernelState C) (items : List Item) → Stands stands e m → IsSound k → k.lives ≡ m.kernel.lives → k.acts ≡ m.kernel.acts
+  pub stands-runs : (e event : ℕ) (m : Machine U C) (k : KernelState C) (items : List Item) → Stands stands e m → IsSound k → k.lives ≡ m.kernel.lives
+      → k.acts ≡ m.kernel.acts
       → length k.demands ≡ length m.kernel.demands → Stands stands e (record m { kernel = k; event = event; items = items })
   stands-runs e event m k items st sound lives acts demands = record {
     workload = st.workload;
@@ -208,10 +214,11 @@ module _ {U C : Type 0} (f : Calls U C) (stands : Standing U C) (keep : Keeps f 
         users = st.users;
         there = there-set m.contexts k.lives p.0 None None size refl st.there;
         values = values-same stands m.workload e m.users (contexts_of m) _
-            (contexts-stop k.assign.owners k.lives k.acts m.contexts p.0 here.act s (st.sound.formed.lives, here.life, here.runs) size held (here.is_ctx ∙ ap Some (sym is))) st.values;
+            (contexts-stop k.assign.owners k.lives k.acts m.contexts p.0 here.act s (st.sound.formed.lives, here.life, here.runs) size held
+            (here.is_ctx ∙ ap Some (sym is))) st.values;
       }
 
-  -- .. or none runs there
+  -- no context runs on the processor
   pub paused-off : (e : ℕ) (m : Machine U C) (p : ProcNo) → Stands stands e m → p.0 < length m.kernel.lives → owner_of m.kernel p ≡ None
       → Paused stands e p m.kernel.lives m.kernel.acts (without_context p m)
   paused-off e m p st within off =
@@ -253,7 +260,8 @@ module _ {U C : Type 0} (f : Calls U C) (stands : Standing U C) (keep : Keeps f 
   }
 
   -- a fresh activation runs there, and its context begins
-  pub stands-begun : (e : ℕ) (m : Machine U C) (p : ProcNo) (s : SpaceNo) (n : ActNo) (lives : List (Option ActNo)) (acts : ℕ → Option (Act C)) (k : KernelState C) (items : List Item)
+  pub stands-begun : (e : ℕ) (m : Machine U C) (p : ProcNo) (s : SpaceNo) (n : ActNo) (lives : List (Option ActNo)) (acts : ℕ
+      → Option (Act C)) (k : KernelState C) (items : List Item)
       (u : U) (seen : Seen) → Paused stands e p lives acts m → IsSound k → k.lives ≡ slice_set lives p.0 (Some n) → k.acts ≡ put acts n.0 (Some (runs_in s))
       → length k.demands ≡ length m.workload.spaces → acts n.0 ≡ None → slice_get m.users s.0 ≡ Some u → seen.proc.0 < m.workload.processors
       → Stands stands e (with_pair p s (f.begun u seen).0 (f.begun u seen).1 (record m { kernel = k; items = items }))
@@ -279,9 +287,12 @@ module _ {U C : Type 0} (f : Calls U C) (stands : Standing U C) (keep : Keeps f 
         users = length-set m.users s.0 v ∙ paused.users;
         there = λ q. there-set m.contexts lives p.0 (Some c) (Some n) size refl paused.there q
             ∙ ap (λ (ls : List (Option ActNo)). is_some (get_or ls q None)) (sym new_lives);
-        values = values-same stands m.workload e (slice_set m.users s.0 v) (contexts_in (slice_set lives p.0 (Some n)) (put acts n.0 (Some (runs_in s))) cs) (contexts_in k.lives k.acts cs)
+        values =
+            values-same stands m.workload e (slice_set m.users s.0 v) (contexts_in (slice_set lives p.0 (Some n)) (put acts n.0 (Some (runs_in s))) cs)
+            (contexts_in k.lives k.acts cs)
             (contexts-same (slice_set lives p.0 (Some n)) k.lives (put acts n.0 (Some (runs_in s))) k.acts cs new_lives new_acts)
-            (values-put stands m.workload e m.users s.0 v (contexts_in lives acts m.contexts) (contexts_in (slice_set lives p.0 (Some n)) (put acts n.0 (Some (runs_in s))) cs)
+            (values-put stands m.workload e m.users s.0 v (contexts_in lives acts m.contexts)
+            (contexts_in (slice_set lives p.0 (Some n)) (put acts n.0 (Some (runs_in s))) cs)
             (λ def of. subst (λ (x : Contexts C). stands (setting m.workload s.0 def) e v x) (fun_ext (contexts-begin lives acts m.contexts p.0 n s free c))
             (keep.begins (setting m.workload s.0 def) e u (contexts_in lives acts m.contexts s.0) n.0 seen (paused.values s.0 u def at of) none sees))
             (contexts-begin_kept lives acts m.contexts p.0 n s free c) paused.values);

@@ -70,7 +70,8 @@ module _ {C : Type 0} where
     | inr f ↦ rw f (running-at lives contexts p n here (λ q e. let z = only (suc q) e in omega (arith, z)) (omega (arith, size)))
   ]
 
-  pub running-none : (lives : List (Option ActNo)) (contexts : List (Option C)) (n : ℕ) → ((q : ℕ) → is_life n (get_or lives q None) ≡ false) → running lives contexts n ≡ None
+  pub running-none : (lives : List (Option ActNo)) (contexts : List (Option C)) (n : ℕ) → ((q : ℕ) → is_life n (get_or lives q None) ≡ false)
+      → running lives contexts n ≡ None
   running-none [] contexts n none = refl
   running-none (x ∷ lives) [] n none = refl
   running-none (x ∷ lives) (y ∷ contexts) n none = let f = none 0 in rw f (running-none lives contexts n (λ q. none (suc q)))
@@ -113,7 +114,8 @@ module _ {C : Type 0} where
   if-none false = refl
 
   -- another context runs on a processor
-  module _ (owners : List (Option SpaceNo)) (lives : List (Option ActNo)) (acts : ℕ → Option (Act C)) (contexts : List (Option C)) (p : ℕ) (a : ActNo) (s : SpaceNo) where
+  module _ (owners : List (Option SpaceNo)) (lives : List (Option ActNo)) (acts : ℕ
+      → Option (Act C)) (contexts : List (Option C)) (p : ℕ) (a : ActNo) (s : SpaceNo) where
     pub context-here : RunsOn owners lives acts p a s → length contexts ≡ length lives → contexts_in lives acts contexts s.0 a.0 ≡ get_or contexts p None
     context-here runs size =
         ap (λ (x : Option (Act C)). context_in s.0 x (running lives contexts a.0)) runs.2
@@ -129,7 +131,7 @@ module _ {C : Type 0} where
         ∙ running-at lives new p a.0 (ap (is_life a.0) runs.1 ∙ life-same a.0) (only-one owners lives acts p a runs.0 runs.1) (length-set contexts p c ∙ size)
         ∙ get_or-set_same contexts p c None (omega (arith, within, size))
 
-    -- .. where another context of the space is put
+    -- another context of the space is put there
     pub contexts-put : RunsOn owners lives acts p a s → length contexts ≡ length lives → p < length lives → (c : C) (b : ℕ)
         → put (contexts_in lives acts contexts s.0) a.0 (Some c) b ≡ contexts_in lives acts (slice_set contexts p (Some c)) s.0 b
     contexts-put runs size within c b =
@@ -141,7 +143,7 @@ module _ {C : Type 0} where
               ∙ sym (ap (context_in s.0 (acts b)) (running-put_other lives contexts p b (Some c) (ap (is_life b) runs.1 ∙ life-other b a y)))
         ]
 
-    -- .. and those of the other spaces are the same
+    -- the contexts of the other spaces are the same then
     pub contexts-put_kept : RunsOn owners lives acts p a s → (c : Option C) (t : ℕ) → t ≢ s.0 → (b : ℕ)
         → contexts_in lives acts contexts t b ≡ contexts_in lives acts (slice_set contexts p c) t b
     contexts-put_kept runs c t apart b =
@@ -155,7 +157,8 @@ module _ {C : Type 0} where
         ]
 
     -- the context is held by the kernel and runs no more
-    pub contexts-stop : RunsOn owners lives acts p a s → length contexts ≡ length lives → (held : Stopped C) → get_or contexts p None ≡ Some held.ctx → (t b : ℕ)
+    pub contexts-stop : RunsOn owners lives acts p a s → length contexts ≡ length lives → (held : Stopped C)
+        → get_or contexts p None ≡ Some held.ctx → (t b : ℕ)
         → contexts_in lives acts contexts t b
         ≡ contexts_in (slice_set lives p None) (put acts a.0 (holding held (acts a.0))) (slice_set contexts p None) t b
     contexts-stop runs size held is t b =
@@ -213,10 +216,12 @@ module _ {C : Type 0} where
         ]
       where
         elsewhere : IsFree → (c : C) (b t : ℕ) → b ≢ n.0
-            → contexts_in lives acts contexts t b ≡ contexts_in (slice_set lives p (Some n)) (put acts n.0 (Some (runs_in s))) (slice_set contexts p (Some c)) t b
+            → contexts_in lives acts contexts t b
+            ≡ contexts_in (slice_set lives p (Some n)) (put acts n.0 (Some (runs_in s))) (slice_set contexts p (Some c)) t b
         elsewhere free c b t apart =
             let ran = running-other lives contexts p b (Some n) (Some c) (ap (is_life b) free.none) (life-other b n apart) in
-            sym (ap (λ (x : Option (Act C)). context_in t x (running (slice_set lives p (Some n)) (slice_set contexts p (Some c)) b)) (put-other acts n.0 b (Some (runs_in s)) apart)
+            sym (ap (λ (x : Option (Act C)). context_in t x (running (slice_set lives p (Some n)) (slice_set contexts p (Some c)) b))
+            (put-other acts n.0 b (Some (runs_in s)) apart)
             ∙ ap (context_in t (acts b)) ran)
 
     pub contexts-begin_kept : IsFree → (c : C) (t : ℕ) → t ≢ s.0 → (b : ℕ)
@@ -238,14 +243,16 @@ module _ {C : Type 0} where
         ]
 
   -- a context that is held is handed over
-  module _ (owners : List (Option SpaceNo)) (lives : List (Option ActNo)) (acts : ℕ → Option (Act C)) (contexts : List (Option C)) (b : ℕ) (act : Act C) (held : Stopped C) where
+  module _ (owners : List (Option SpaceNo)) (lives : List (Option ActNo)) (acts : ℕ
+      → Option (Act C)) (contexts : List (Option C)) (b : ℕ) (act : Act C) (held : Stopped C) where
     pub record IsHeld : Type 0 where
       pub alive : AreAlive owners lives acts
       pub is : acts b ≡ Some act
       pub holds : act.held ≡ Some held
 
     pub held-no_life : IsHeld → (q : ℕ) → is_life b (get_or lives q None) ≡ false
-    held-no_life h = rests owners lives acts b h.alive (λ s e. let z : Some act ≡ Some (runs_in s) = sym h.is ∙ e in let y : act.held ≡ None = cc in let w = h.holds in cc)
+    held-no_life h =
+        rests owners lives acts b h.alive (λ s e. let z : Some act ≡ Some (runs_in s) = sym h.is ∙ e in let y : act.held ≡ None = cc in let w = h.holds in cc)
 
     pub context-held : IsHeld → contexts_in lives acts contexts act.space.0 b ≡ Some held.ctx
     context-held h =
@@ -289,7 +296,8 @@ module _ {C : Type 0} where
       | inr y ↦ sym (ap (λ (x : Option (Act C)). context_in t x (running lives contexts b)) (put-other acts a b None y))
     ]
 
-    pub contexts-back : (list : List ActNo) (acts : ℕ → Option (Act C)) → ((a : ActNo) → Contains list a → (t : ℕ) → contexts_in lives acts contexts t a.0 ≡ None)
+    pub contexts-back : (list : List ActNo) (acts : ℕ → Option (Act C))
+        → ((a : ActNo) → Contains list a → (t : ℕ) → contexts_in lives acts contexts t a.0 ≡ None)
         → (t b : ℕ) → contexts_in lives acts contexts t b ≡ contexts_in lives (without_acts list acts) contexts t b
     contexts-back [] acts none t b = refl
     contexts-back (a ∷ list) acts none t b =

@@ -38,9 +38,11 @@ module _ {U C : Type 0} (f : Calls U C) (stands : Standing U C) (keep : Keeps f 
   rests-more : (w : WorkloadView) (e : ℕ) (n g : ℕ) (m : Machine U C) → Rests f stands keep w e g m → Rests f stands keep w e (g + n) (more_events n m)
   rests-more w e zero g m rest = subst (λ (i : ℕ). Rests f stands keep w e i m) (omega arith) rest
   rests-more w e (suc n) g m rest =
-      subst (λ (i : ℕ). Rests f stands keep w e i (more_events n (next_event m))) (omega arith) (rests-more w e n (g + 1) (next_event m) (rests-next f stands keep w e g m rest))
+      subst (λ (i : ℕ). Rests f stands keep w e i (more_events n (next_event m))) (omega arith)
+      (rests-more w e n (g + 1) (next_event m) (rests-next f stands keep w e g m rest))
 
-  pub gone-is : (m : Machine U C) (p : ProcNo) (s : SpaceNo) (n : ℕ) → (here : IsAt f stands keep m p s) → gone f p s n m ≡ gone_to f p s (f.went here.user (seen_on m p s) here.ctx n) m
+  pub gone-is : (m : Machine U C) (p : ProcNo) (s : SpaceNo) (n : ℕ) → (here : IsAt f stands keep m p s)
+      → gone f p s n m ≡ gone_to f p s (f.went here.user (seen_on m p s) here.ctx n) m
   gone-is m p s n here = rw (here.is_user, here.is_ctx) refl
 
   pub local-is : (m : Machine U C) (p : ProcNo) (s : SpaceNo) → (here : IsAt f stands keep m p s) → local_on f m p ≡ f.local here.user here.ctx
@@ -49,14 +51,17 @@ module _ {U C : Type 0} (f : Calls U C) (stands : Standing U C) (keep : Keeps f 
       ∙ ap (λ (u : Option U). local_by f u (get_or m.contexts p.0 None)) here.is_user
       ∙ ap (λ (c : Option C). local_by f (Some here.user) c) here.is_ctx
 
-  pub gone-law : (e n : ℕ) (m : Machine U C) (p : ProcNo) (s : SpaceNo) → Stands stands e m → (here : IsAt f stands keep m p s) → e < m.event → 1 ≤ n → m.event + n ≤ MAX_EVENTS + 1
+  pub gone-law : (e n : ℕ) (m : Machine U C) (p : ProcNo) (s : SpaceNo) → Stands stands e m → (here : IsAt f stands keep m p s) → e < m.event → 1 ≤ n
+      → m.event + n ≤ MAX_EVENTS + 1
       → GoesOn (setting m.workload s.0 here.def) n (f.local here.user here.ctx)
-      → IsGone f stands (setting m.workload s.0 here.def) (seen_on m p s) (contexts_of m s.0) here.act.0 n (f.local here.user here.ctx) (f.went here.user (seen_on m p s) here.ctx n)
+      → IsGone f stands (setting m.workload s.0 here.def) (seen_on m p s) (contexts_of m s.0) here.act.0 n (f.local here.user here.ctx)
+      (f.went here.user (seen_on m p s) here.ctx n)
   gone-law e n m p s st here later some few goes =
       keep.goes (setting m.workload s.0 here.def) e here.user (contexts_of m s.0) here.act.0 here.ctx (seen_on m p s) n
       (value-at f stands keep e m p s st here) (mine f stands keep e m p s st here) (sees-at f stands keep e m p s st here) later some few goes
 
-  pub rests-gone : (w : WorkloadView) (e g n : ℕ) (m : Machine U C) (p : ProcNo) (s : SpaceNo) → (rest : Rests f stands keep w e g m) → (here : IsAt f stands keep m p s) → e < m.event → 1 ≤ n
+  pub rests-gone : (w : WorkloadView) (e g n : ℕ) (m : Machine U C) (p : ProcNo) (s : SpaceNo) → (rest : Rests f stands keep w e g m)
+      → (here : IsAt f stands keep m p s) → e < m.event → 1 ≤ n
       → m.event + n ≤ MAX_EVENTS + 1 → GoesOn (setting m.workload s.0 here.def) n (f.local here.user here.ctx)
       → Rests f stands keep w (g + n - 1) g (gone_to f p s (f.went here.user (seen_on m p s) here.ctx n) m)
   rests-gone w e g n m p s rest here later some few goes =
@@ -99,7 +104,8 @@ module _ {U C : Type 0} (f : Calls U C) (stands : Standing U C) (keep : Keeps f 
   length-started w o [] = refl
   length-started w o (def ∷ defs) = ap suc (length-started w (o + 1) defs)
 
-  pub started-at : (w : WorkloadView) (o i : ℕ) (defs : List SpaceView) (u : U) (def : SpaceView) → slice_get (started_from f w o defs) i ≡ Some u → slice_get defs i ≡ Some def
+  pub started-at : (w : WorkloadView) (o i : ℕ) (defs : List SpaceView) (u : U) (def : SpaceView) → slice_get (started_from f w o defs) i ≡ Some u
+      → slice_get defs i ≡ Some def
       → u ≡ f.started (setting w (o + i) def)
   started-at w o i [] u def at of = absurd cc
   started-at w o zero (d ∷ defs) u def at of =
@@ -140,9 +146,11 @@ module _ {U C : Type 0} (f : Calls U C) (stands : Standing U C) (keep : Keeps f 
           demands = same.demands ∙ length-replicate (length w.spaces) one;
           users = length-started w 0 w.spaces;
           there = λ p. ap (λ (o : Option C). is_some o) (all-same w.processors p no_context)
-              ∙ sym (ap (λ (ls : List (Option ActNo)). is_some (get_or ls p None)) lives ∙ ap (λ (o : Option ActNo). is_some o) (all-same w.processors p no_life));
+              ∙ sym (ap (λ (ls : List (Option ActNo)). is_some (get_or ls p None)) lives
+              ∙ ap (λ (o : Option ActNo). is_some o) (all-same w.processors p no_life));
           values = λ s u def at of.
-              subst (λ (v : U). stands (setting w s def) 0 v (contexts_of m s)) (sym (started-at w 0 s w.spaces u def at of ∙ ap (λ (k : ℕ). f.started (setting w k def)) (omega arith)))
+              subst (λ (v : U). stands (setting w s def) 0 v (contexts_of m s))
+              (sym (started-at w 0 s w.spaces u def at of ∙ ap (λ (k : ℕ). f.started (setting w k def)) (omega arith)))
               (subst (λ (cs : Contexts C). stands (setting w s def) 0 (f.started (setting w s def)) cs)
               (fun_ext (λ a. sym (ap (λ (g : ℕ → Option (Act C)). context_in s (g a) (running m.kernel.lives m.contexts a)) acts)))
               (keep.starts (setting w s def) (is-setting w s def ok of)));
@@ -152,9 +160,10 @@ module _ {U C : Type 0} (f : Calls U C) (stands : Standing U C) (keep : Keeps f 
         event = refl;
       }
 
-  -- where a context stands, its space is the one that owns its processor
+  -- where a context is, its space is the one that owns its processor
 
-  seat-go : (w : WorkloadView) (s : SpaceNo) (def : SpaceView) (n : ℕ) (x : SeatState) → slice_get w.spaces s.0 ≡ Some def → IsSeat (setting w s.0 def) x → AreNextLocal w n x
+  seat-go : (w : WorkloadView) (s : SpaceNo) (def : SpaceView) (n : ℕ) (x : SeatState) → slice_get w.spaces s.0 ≡ Some def → IsSeat (setting w s.0 def) x
+      → AreNextLocal w n x
       → GoesOn (setting w s.0 def) n x
   seat-go w s def n (Local space thread program pc regs) of seat next =
       let here : slice_get w.spaces space.0 ≡ Some def = ap (λ (z : SpaceNo). slice_get w.spaces z.0) seat.0 ∙ of in
@@ -169,14 +178,16 @@ module _ {U C : Type 0} (f : Calls U C) (stands : Standing U C) (keep : Keeps f 
       go (Some s) owner =
           let here = at-owned f stands keep e m p s st owner in
           let is = local-is m p s here in
-          let seat = (keep.seats (setting m.workload s.0 here.def) e here.user (contexts_of m s.0) here.act.0 here.ctx (value-at f stands keep e m p s st here) (mine f stands keep e m p s st here)).0 in
+          let seat = (keep.seats (setting m.workload s.0 here.def) e here.user (contexts_of m s.0) here.act.0 here.ctx
+          (value-at f stands keep e m p s st here) (mine f stands keep e m p s st here)).0 in
           record {
             space = s;
             def = here.def;
             owner = owner;
             is_def = here.is_def;
             goes = subst (λ (x : SeatState). GoesOn (setting m.workload s.0 here.def) n x) (sym is)
-                (seat-go m.workload s here.def n (f.local here.user here.ctx) here.is_def seat (subst (λ (x : SeatState). AreNextLocal m.workload n x) is next));
+                (seat-go m.workload s here.def n (f.local here.user here.ctx) here.is_def seat
+                (subst (λ (x : SeatState). AreNextLocal m.workload n x) is next));
           }
 
   -- each move keeps a machine standing, and so does a run
@@ -185,7 +196,8 @@ module _ {U C : Type 0} (f : Calls U C) (stands : Standing U C) (keep : Keeps f 
   stands-committed m after p zero between can is = absurd (let z = can.some in omega arith)
   stands-committed m after p (suc n) between can is =
       subst (λ (z : Machine U C). IsBetween stands z) (sym is)
-      (between-rests f stands keep m.workload (m.event + suc n) (committed f p (suc n) m) (rests-committed m p n between can.event (can-go m.event (suc n) m p between.standing can.go)))
+      (between-rests f stands keep m.workload (m.event + suc n) (committed f p (suc n) m)
+      (rests-committed m p n between can.event (can-go m.event (suc n) m p between.standing can.go)))
 
   pub stands-move : (m : Machine U C) (move : Move) (after : Machine U C) → IsBetween stands m → IsMove f m move after → IsBetween stands after
   stands-move m (turn p) after between made =

@@ -64,7 +64,8 @@ module _ {U C : Type 0} (f : Calls U C) (stands : Standing U C) (keep : Keeps f 
   called-rest call p s (Some u) None m = record { kernel = refl; workload = refl; event = refl }
   called-rest call p s (Some u) (Some c) m = record { kernel = refl; workload = refl; event = refl }
 
-  pub rests-answered : (w : WorkloadView) (e g : ℕ) (m : Machine U C) (p : ProcNo) (s : SpaceNo) → Stands stands e m → owner_of m.kernel p ≡ Some s → m.kernel.telling ≡ []
+  pub rests-answered : (w : WorkloadView) (e g : ℕ) (m : Machine U C) (p : ProcNo) (s : SpaceNo) → Stands stands e m → owner_of m.kernel p ≡ Some s
+      → m.kernel.telling ≡ []
       → m.workload ≡ w → m.event ≡ g → Rests w e g (answered f p s m)
   rests-answered w e g m p s st owner fetched workload event =
       let same = called-rest (λ u c. f.answered u (seen_on m p s) c) p s (user_of m s) (context_on m p) m in record {
@@ -74,7 +75,7 @@ module _ {U C : Type 0} (f : Calls U C) (stands : Standing U C) (keep : Keeps f 
         event = same.event ∙ event;
       }
 
-  -- behind an upcall the context begins, is told, and goes on
+  -- after an upcall the context begins, is told, and goes on
   pub read-at : {A : Type 0} (xs : List A) (i : ℕ) → i < length xs → (x : A) × (slice_get xs i ≡ Some x)
   read-at [] i below = absurd (omega (arith, below))
   read-at (x ∷ xs) zero below = (x, refl)
@@ -95,8 +96,10 @@ module _ {U C : Type 0} (f : Calls U C) (stands : Standing U C) (keep : Keeps f 
     pub place : p.0 < length m.contexts
     pub begins : Tells f stands keep w e g p space m.kernel.telling (begun f p space m)
 
-  welcomed-new : (w : WorkloadView) (e g : ℕ) (m : Machine U C) (p : ProcNo) (s : SpaceNo) (n : ActNo) (lives : List (Option ActNo)) (acts : ℕ → Option (Act C)) (k : KernelState C) (items : List Item)
-      → Paused stands e p lives acts m → IsSound k → k.lives ≡ slice_set lives p.0 (Some n) → k.acts ≡ put acts n.0 (Some (runs_in s)) → length k.demands ≡ length m.workload.spaces
+  welcomed-new : (w : WorkloadView) (e g : ℕ) (m : Machine U C) (p : ProcNo) (s : SpaceNo) (n : ActNo) (lives : List (Option ActNo)) (acts : ℕ
+      → Option (Act C)) (k : KernelState C) (items : List Item)
+      → Paused stands e p lives acts m → IsSound k → k.lives ≡ slice_set lives p.0 (Some n) → k.acts ≡ put acts n.0 (Some (runs_in s))
+      → length k.demands ≡ length m.workload.spaces
       → acts n.0 ≡ None → IsUpcalled k p n → m.workload ≡ w → m.event ≡ g → Welcomed w e g p (record m { kernel = k; items = items })
   welcomed-new w e g m p s n lives acts k items paused sound new_lives new_acts demands unused up workload event =
       let t : SpaceNo = up.space in
@@ -144,29 +147,34 @@ module _ {U C : Type 0} (f : Calls U C) (stands : Standing U C) (keep : Keeps f 
 
   -- an entry
 
-  pub sound-after : (e : ℕ) (m : Machine U C) (p : ProcNo) (n : ActNo) (entry : Entry C) → Stands stands e m → m.kernel.telling ≡ [] → p.0 < length m.kernel.lives
+  pub sound-after : (e : ℕ) (m : Machine U C) (p : ProcNo) (n : ActNo) (entry : Entry C) → Stands stands e m → m.kernel.telling ≡ []
+      → p.0 < length m.kernel.lives
       → IsFit m.kernel p m.event entry → m.kernel.acts n.0 ≡ None → IsSound (entered m.event p n entry (scene_of m)).state
   sound-after e m p n entry st fetched within fit unused =
       sound-closed m.event p (entered_as m.event p n entry (scene_of m)) (sound-entered_as m.event p n entry (scene_of m) within fit unused fetched st.sound)
 
-  -- .. behind which the same activations run
+  -- an entry after which the same activations run
   pub rests-entered : (w : WorkloadView) (e g : ℕ) (m : Machine U C) (p : ProcNo) (n : ActNo) (entry : Entry C) → Rests w e g m → p.0 < length m.kernel.lives
-      → IsFit m.kernel p m.event entry → m.kernel.acts n.0 ≡ None → SameRuns m.kernel (entered_as m.event p n entry (scene_of m)).state → Rests w e g (kernel_entered p n entry m)
+      → IsFit m.kernel p m.event entry → m.kernel.acts n.0 ≡ None → SameRuns m.kernel (entered_as m.event p n entry (scene_of m)).state
+      → Rests w e g (kernel_entered p n entry m)
   rests-entered w e g m p n entry rest within fit unused same =
       let x = entered_as m.event p n entry (scene_of m) in
       let y = closed m.event p x in
       let both = same-again m.kernel x.state y.state same (same-closed m.event p x) in record {
-        standing = stands-kernel f stands keep e m.event m y.state y.items rest.standing (sound-after e m p n entry rest.standing rest.fetched within fit unused) both;
+        standing =
+            stands-kernel f stands keep e m.event m y.state y.items rest.standing (sound-after e m p n entry rest.standing rest.fetched within fit unused) both;
         fetched = both.telling ∙ rest.fetched;
         workload = rest.workload;
         event = rest.event;
       }
 
-  -- .. by which activations are given back
-  pub none-taken : (k : KernelState C) (contexts : List (Option C)) (s : SpaceNo) → IsSound k → (a : ActNo) → Contains (taken_of k s.0) a → (t : ℕ) → contexts_in k.lives k.acts contexts t a.0 ≡ None
+  -- an entry by which activations are given back
+  pub none-taken : (k : KernelState C) (contexts : List (Option C)) (s : SpaceNo) → IsSound k → (a : ActNo) → Contains (taken_of k s.0) a → (t : ℕ)
+      → contexts_in k.lives k.acts contexts t a.0 ≡ None
   none-taken k contexts s sound a has t =
       let taken = sound.formed.taken s.0 a has in
-      let idle = running-none k.lives contexts a.0 (rests k.assign.owners k.lives k.acts a.0 sound.formed.lives (λ u is. both taken.here u (sym taken.is ∙ is) taken.taken)) in
+      let idle = running-none k.lives contexts a.0
+      (rests k.assign.owners k.lives k.acts a.0 sound.formed.lives (λ u is. both taken.here u (sym taken.is ∙ is) taken.taken)) in
       ap (λ (x : Option (Act C)). context_in t x (running k.lives contexts a.0)) taken.is
       ∙ ap (context_in t (Some taken.here)) idle
       ∙ nothing taken.here taken.none_held t
@@ -181,7 +189,8 @@ module _ {U C : Type 0} (f : Calls U C) (stands : Standing U C) (keep : Keeps f 
       nothing : (act : Act C) → act.held ≡ None → (t : ℕ) → context_in t (Some act) None ≡ None
       nothing act none t = if-none _ _ (ap (λ (h : Option (Stopped C)). Rattle.sa_core_model.specs.Standing.held_or_running h None) none)
 
-  pub rests-given : (w : WorkloadView) (e g : ℕ) (m : Machine U C) (p : ProcNo) (n : ActNo) (s : SpaceNo) → Rests w e g m → p.0 < length m.kernel.lives → owner_of m.kernel p ≡ Some s
+  pub rests-given : (w : WorkloadView) (e g : ℕ) (m : Machine U C) (p : ProcNo) (n : ActNo) (s : SpaceNo) → Rests w e g m → p.0 < length m.kernel.lives
+      → owner_of m.kernel p ≡ Some s
       → IsFit m.kernel p m.event GiveBackEntry → m.kernel.acts n.0 ≡ None → Rests w e g (kernel_entered p n GiveBackEntry m)
   rests-given w e g m p n s rest within owner fit unused =
       let k = m.kernel in
@@ -191,7 +200,8 @@ module _ {U C : Type 0} (f : Calls U C) (stands : Standing U C) (keep : Keeps f 
       let gave : x ≡ gave_back m.event p (Some s) (scene_of m) = ap (λ (o : Option SpaceNo). gave_back m.event p o (scene_of m)) owner in
       let acts : y.state.acts ≡ without_acts (taken_of k s.0) k.acts = close.acts ∙ ap (λ (z : Scene C). z.state.acts) gave in
       record {
-        standing = stands-emptied f stands keep e m y.state y.items rest.standing (sound-after e m p n GiveBackEntry rest.standing rest.fetched within fit unused)
+        standing =
+            stands-emptied f stands keep e m y.state y.items rest.standing (sound-after e m p n GiveBackEntry rest.standing rest.fetched within fit unused)
             (close.lives ∙ ap (λ (z : Scene C). z.state.lives) gave)
             (close.demands ∙ ap (λ (z : Scene C). length z.state.demands) gave)
             (λ t b. contexts-back k.lives m.contexts (taken_of k s.0) k.acts (none-taken k m.contexts s rest.standing.sound) t b
@@ -202,11 +212,13 @@ module _ {U C : Type 0} (f : Calls U C) (stands : Standing U C) (keep : Keeps f 
       }
 
   -- the context that asked for an entry goes on
-  rests-in : (w : WorkloadView) (e g : ℕ) (m : Machine U C) (p : ProcNo) (o : Option SpaceNo) → Rests w e g m → owner_of m.kernel p ≡ o → Rests w e g (answered_in f p o m)
+  rests-in : (w : WorkloadView) (e g : ℕ) (m : Machine U C) (p : ProcNo) (o : Option SpaceNo) → Rests w e g m → owner_of m.kernel p ≡ o
+      → Rests w e g (answered_in f p o m)
   rests-in w e g m p None rest owner = rest
   rests-in w e g m p (Some s) rest owner = rests-answered w e g m p s rest.standing owner rest.fetched rest.workload rest.event
 
-  rests-hinted : (w : WorkloadView) (e g : ℕ) (m : Machine U C) (p : ProcNo) (n : ActNo) (entry : Entry C) → Rests w e g (kernel_entered p n entry m) → Rests w e g (hinted f p n entry m)
+  rests-hinted : (w : WorkloadView) (e g : ℕ) (m : Machine U C) (p : ProcNo) (n : ActNo) (entry : Entry C) → Rests w e g (kernel_entered p n entry m)
+      → Rests w e g (hinted f p n entry m)
   rests-hinted w e g m p n entry rest = rests-in w e g (kernel_entered p n entry m) p (owner_of (kernel_entered p n entry m).kernel p) rest refl
 
   -- an entry that sets a context aside, or finds none, and may upcall
@@ -218,8 +230,10 @@ module _ {U C : Type 0} (f : Calls U C) (stands : Standing U C) (keep : Keeps f 
     pub started : upcalls m.kernel p entry ≡ true → (s : SpaceNo) × Starts k (entered_as m.event p n entry (scene_of m)).state p n s
     pub same : upcalls m.kernel p entry ≡ false → SameRuns k (entered_as m.event p n entry (scene_of m)).state
 
-  rests-paused : (w : WorkloadView) (e g : ℕ) (m : Machine U C) (p : ProcNo) (n : ActNo) (entry : Entry C) (k : KernelState C) → Pauses e m p n entry k → m.workload ≡ w → m.event ≡ g
-      → IsSound (entered m.event p n entry (scene_of m)).state → (upcalls m.kernel p entry ≡ true → IsUpcalled (entered m.event p n entry (scene_of m)).state p n)
+  rests-paused : (w : WorkloadView) (e g : ℕ) (m : Machine U C) (p : ProcNo) (n : ActNo) (entry : Entry C) (k : KernelState C) → Pauses e m p n entry k
+      → m.workload ≡ w → m.event ≡ g
+      → IsSound (entered m.event p n entry (scene_of m)).state
+      → (upcalls m.kernel p entry ≡ true → IsUpcalled (entered m.event p n entry (scene_of m)).state p n)
       → Rests w e g (entered_on f p n entry m)
   rests-paused w e g m p n entry k pauses workload event sound up = go (upcalls m.kernel p entry) refl
     where
@@ -234,7 +248,8 @@ module _ {U C : Type 0} (f : Calls U C) (stands : Standing U C) (keep : Keeps f 
           let start = pauses.started is in
           let all = starts-same k x.state y.state p n start.0 start.1 (same-closed m.event p x) in
           rests-welcomed w e g (kernel_entered p n entry m) p
-          (welcomed-new w e g m p start.0 n k.lives k.acts y.state y.items pauses.paused sound all.lives all.acts (all.demands ∙ pauses.demands) pauses.unused (up is) workload event)
+          (welcomed-new w e g m p start.0 n k.lives k.acts y.state y.items pauses.paused sound all.lives all.acts (all.demands ∙ pauses.demands) pauses.unused
+          (up is) workload event)
       go false is =
           let all = same-again k x.state y.state (pauses.same is) (same-closed m.event p x) in record {
             standing = stands-left f stands keep e m p k.lives k.acts y.state y.items pauses.paused sound all.lives all.acts (all.demands ∙ pauses.demands);
@@ -259,16 +274,20 @@ module _ {U C : Type 0} (f : Calls U C) (stands : Standing U C) (keep : Keeps f 
   other-act : (acts : ℕ → Option (Act C)) (n a : ActNo) (s : SpaceNo) → acts n.0 ≡ None → acts a.0 ≡ Some (runs_in s) → n.0 ≢ a.0
   other-act acts n a s none some e = let z : acts n.0 ≡ Some (runs_in s) = ap acts e ∙ some in cc
 
-  pub rests-upcall : (w : WorkloadView) (e g : ℕ) (m : Machine U C) (p : ProcNo) (n : ActNo) (entry : Entry C) (k : KernelState C) → Rests w e g m → p.0 < length m.kernel.lives
-      → IsFit m.kernel p m.event entry → m.kernel.acts n.0 ≡ None → Pauses e (without_context p m) p n entry k → Rests w e g (entered_on f p n entry (without_context p m))
+  pub rests-upcall : (w : WorkloadView) (e g : ℕ) (m : Machine U C) (p : ProcNo) (n : ActNo) (entry : Entry C) (k : KernelState C) → Rests w e g m
+      → p.0 < length m.kernel.lives
+      → IsFit m.kernel p m.event entry → m.kernel.acts n.0 ≡ None → Pauses e (without_context p m) p n entry k
+      → Rests w e g (entered_on f p n entry (without_context p m))
   rests-upcall w e g m p n entry k rest within fit unused pauses =
       let st = rest.standing in
       let x = entered_as m.event p n entry (scene_of m) in
       rests-paused w e g (without_context p m) p n entry k pauses rest.workload rest.event
       (sound-after e m p n entry st rest.fetched within fit unused)
-      (λ up. upcalled-closed m.event p x p n (upcalled-entered_as m.event p n entry (scene_of m) st.sound.claimed.told_to up within unused rest.fetched st.sound.formed st.sound.claimed.once))
+      (λ up. upcalled-closed m.event p x p n
+      (upcalled-entered_as m.event p n entry (scene_of m) st.sound.claimed.told_to up within unused rest.fetched st.sound.formed st.sound.claimed.once))
 
-  pub welcomed-upcall : (w : WorkloadView) (e g : ℕ) (m : Machine U C) (p : ProcNo) (n : ActNo) (entry : Entry C) (k : KernelState C) → Rests w e g m → p.0 < length m.kernel.lives
+  pub welcomed-upcall : (w : WorkloadView) (e g : ℕ) (m : Machine U C) (p : ProcNo) (n : ActNo) (entry : Entry C) (k : KernelState C) → Rests w e g m
+      → p.0 < length m.kernel.lives
       → IsFit m.kernel p m.event entry → m.kernel.acts n.0 ≡ None → Pauses e (without_context p m) p n entry k → upcalls m.kernel p entry ≡ true
       → Welcomed w e g p (kernel_entered p n entry (without_context p m))
   welcomed-upcall w e g m p n entry k rest within fit unused pauses is =
@@ -277,13 +296,16 @@ module _ {U C : Type 0} (f : Calls U C) (stands : Standing U C) (keep : Keeps f 
       let y = closed m.event p x in
       let start = pauses.started is in
       let all = starts-same k x.state y.state p n start.0 start.1 (same-closed m.event p x) in
-      welcomed-new w e g (without_context p m) p start.0 n k.lives k.acts y.state y.items pauses.paused (sound-after e m p n entry st rest.fetched within fit unused)
+      welcomed-new w e g (without_context p m) p start.0 n k.lives k.acts y.state y.items pauses.paused
+      (sound-after e m p n entry st rest.fetched within fit unused)
       all.lives all.acts (all.demands ∙ pauses.demands) pauses.unused
-      (upcalled-closed m.event p x p n (upcalled-entered_as m.event p n entry (scene_of m) st.sound.claimed.told_to is within unused rest.fetched st.sound.formed st.sound.claimed.once))
+      (upcalled-closed m.event p x p n
+      (upcalled-entered_as m.event p n entry (scene_of m) st.sound.claimed.told_to is within unused rest.fetched st.sound.formed st.sound.claimed.once))
       rest.workload rest.event
 
-  -- .. by an interrupt
-  pauses-aside : (e : ℕ) (m : Machine U C) (p : ProcNo) (n : ActNo) (s : SpaceNo) (entry : Entry C) (k : KernelState C) (held : Stopped C) → Stands stands e m → m.kernel.telling ≡ []
+  -- a context is set aside by an interrupt
+  pauses-aside : (e : ℕ) (m : Machine U C) (p : ProcNo) (n : ActNo) (s : SpaceNo) (entry : Entry C) (k : KernelState C) (held : Stopped C) → Stands stands e m
+      → m.kernel.telling ≡ []
       → m.kernel.acts n.0 ≡ None → (here : IsAt f stands keep m p s) → held.ctx ≡ here.ctx → SetsAside m.kernel k p here.act held
       → (upcalls m.kernel p entry ≡ true → (t : SpaceNo) × Starts k (entered_as m.event p n entry (scene_of m)).state p n t)
       → (upcalls m.kernel p entry ≡ false → SameRuns k (entered_as m.event p n entry (scene_of m)).state)
@@ -306,7 +328,8 @@ module _ {U C : Type 0} (f : Calls U C) (stands : Standing U C) (keep : Keeps f 
     pub fit : IsFit m.kernel p m.event entry
     pub pauses : Pauses e (without_context p m) p n entry state
 
-  interrupted-some : (w : WorkloadView) (e g : ℕ) (m : Machine U C) (p : ProcNo) (n : ActNo) (s : SpaceNo) (raised : ℕ) (held : Stopped C) → Rests w e g m → p.0 < length m.kernel.lives
+  interrupted-some : (w : WorkloadView) (e g : ℕ) (m : Machine U C) (p : ProcNo) (n : ActNo) (s : SpaceNo) (raised : ℕ) (held : Stopped C) → Rests w e g m
+      → p.0 < length m.kernel.lives
       → line_of m.kernel p ≡ Some raised → m.kernel.acts n.0 ≡ None → (here : IsAt f stands keep m p s) → held.ctx ≡ here.ctx
       → CanEnter e m p n (Interrupt (Some held))
   interrupted-some w e g m p n s raised held rest within line unused here is =
@@ -314,13 +337,16 @@ module _ {U C : Type 0} (f : Calls U C) (stands : Standing U C) (keep : Keeps f 
       let low : Scene C = record { state = with_line p None k; items = m.items } in
       let y : Scene C = stopped m.event p (owner_of k p) (life_of k p) (Some held) low in
       let aside = stopped-aside m.event p (owner_of k p) (life_of k p) (Some held) low s here.act held here.owner here.life refl in
-      let mine : SetsAside k y.state p here.act held = record { lives = aside.lives; acts = aside.acts; telling = aside.telling; pages = aside.pages; demands = aside.demands } in
+      let mine : SetsAside k y.state p here.act held =
+      record { lives = aside.lives; acts = aside.acts; telling = aside.telling; pages = aside.pages; demands = aside.demands } in
       let aims = aims-at m.event p n (aim_of k p) y in
       let same = upcalls-pages k y.state (aim_of k p) mine.pages in
       record {
         state = y.state;
         fit = record { raised = ap (λ (o : Option ℕ). is_some o) line; held = λ h. ap (λ (o : Option SpaceNo). is_some o) here.owner; owned = λ h. refl };
-        pauses = pauses-aside e m p n s (Interrupt (Some held)) y.state held rest.standing rest.fetched unused here is mine (λ up. aims.started (same ∙ up)) (λ up. aims.same (same ∙ up));
+        pauses =
+            pauses-aside e m p n s (Interrupt (Some held)) y.state held rest.standing rest.fetched unused here is mine (λ up. aims.started (same ∙ up))
+            (λ up. aims.same (same ∙ up));
       }
 
   interrupted-none : (w : WorkloadView) (e g : ℕ) (m : Machine U C) (p : ProcNo) (n : ActNo) (raised : ℕ) → Rests w e g m → p.0 < length m.kernel.lives
@@ -336,10 +362,16 @@ module _ {U C : Type 0} (f : Calls U C) (stands : Standing U C) (keep : Keeps f 
       let acts : y.state.acts ≡ k.acts = ap (λ (z : Scene C). z.state.acts) is in
       record {
         state = y.state;
-        fit = record { raised = ap (λ (o : Option ℕ). is_some o) line; held = λ h. absurd cc; owned = λ h. absurd (let z = sym h ∙ ap (λ (o : Option SpaceNo). is_some o) off in cc) };
+        fit =
+            record {
+              raised = ap (λ (o : Option ℕ). is_some o) line;
+              held = λ h. absurd cc;
+              owned = λ h. absurd (let z = sym h ∙ ap (λ (o : Option SpaceNo). is_some o) off in cc);
+            };
         pauses = record {
           paused = subst (λ (ls : List (Option ActNo)). Paused stands e p ls y.state.acts (without_context p m)) (sym lives)
-              (subst (λ (fs : ℕ → Option (Act C)). Paused stands e p k.lives fs (without_context p m)) (sym acts) (paused-off f stands keep e m p rest.standing within off));
+              (subst (λ (fs : ℕ → Option (Act C)). Paused stands e p k.lives fs (without_context p m)) (sym acts)
+              (paused-off f stands keep e m p rest.standing within off));
           unused = ap (λ (fs : ℕ → Option (Act C)). fs n.0) acts ∙ unused;
           telling = ap (λ (z : Scene C). z.state.telling) is ∙ rest.fetched;
           demands = ap (λ (z : Scene C). length z.state.demands) is ∙ rest.standing.demands;
@@ -367,7 +399,7 @@ module _ {U C : Type 0} (f : Calls U C) (stands : Standing U C) (keep : Keeps f 
       let can = can-interrupt w e g m p n raised rest within line unused in
       rests-upcall w e g m p n (Interrupt (stopped_in f m p (owner_of m.kernel p))) can.state rest within can.fit unused can.pauses
 
-  -- .. by a block
+  -- a context is set aside by a block
   blocked-is : (m : Machine U C) (p : ProcNo) (n : ActNo) (s : SpaceNo) (held : Stopped C) (len : ℕ) (page : Option ℕ) → (here : IsAt f stands keep m p s)
       → entered_as m.event p n (BlockEntry held len page) (scene_of m)
       ≡ told_or_left m.event p s n (can_upcall m.kernel s) (block_begun m.event p s here.act held len page (scene_of m))
@@ -375,13 +407,17 @@ module _ {U C : Type 0} (f : Calls U C) (stands : Standing U C) (keep : Keeps f 
       ap (λ (o : Option SpaceNo). kernel_blocked_by m.event p n o (life_of m.kernel p) held len page (scene_of m)) here.owner
       ∙ ap (λ (l : Option ActNo). kernel_blocked_by m.event p n (Some s) l held len page (scene_of m)) here.life
 
-  pub can-block : (w : WorkloadView) (e g : ℕ) (m : Machine U C) (p : ProcNo) (n : ActNo) (s : SpaceNo) (len : ℕ) (page : Option ℕ) (held : Stopped C) → Rests w e g m
+  pub can-block : (w : WorkloadView) (e g : ℕ) (m : Machine U C) (p : ProcNo) (n : ActNo) (s : SpaceNo) (len : ℕ) (page : Option ℕ) (held : Stopped C)
+      → Rests w e g m
       → owner_of m.kernel p ≡ Some s → line_of m.kernel p ≡ None → m.kernel.acts n.0 ≡ None → IfSome page IsOwnPage
       → stopped_in f m p (owner_of m.kernel p) ≡ Some held → CanEnter e m p n (BlockEntry held len page)
   can-block w e g m p n s len page held rest owner low unused own is_held =
       let k = m.kernel in
       let here = at-owned f stands keep e m p s rest.standing owner in
-      let same_ctx : held.ctx ≡ here.ctx = ap (λ (h : Stopped C). h.ctx) (same_Some held (record { ctx = here.ctx; thread = f.thread here.user here.ctx; idle = f.idle here.user here.ctx }) (sym is_held ∙ stopped-is m p s here)) in
+      let same_ctx : held.ctx ≡ here.ctx =
+      ap (λ (h : Stopped C). h.ctx)
+      (same_Some held (record { ctx = here.ctx; thread = f.thread here.user here.ctx; idle = f.idle here.user here.ctx })
+      (sym is_held ∙ stopped-is m p s here)) in
       let entry : Entry C = BlockEntry held len page in
       let y : Scene C = block_begun m.event p s here.act held len page (scene_of m) in
       let is = blocked-is m p n s held len page here in
@@ -391,7 +427,9 @@ module _ {U C : Type 0} (f : Calls U C) (stands : Standing U C) (keep : Keeps f 
       record {
         state = y.state;
         fit = record { space = s; asks = record { owner = owner; low = low }; page = own };
-        pauses = pauses-aside e m p n s entry y.state held rest.standing rest.fetched unused here same_ctx (blocked-aside m.event p s here.act held len page (scene_of m))
+        pauses =
+            pauses-aside e m p n s entry y.state held rest.standing rest.fetched unused here same_ctx
+            (blocked-aside m.event p s here.act held len page (scene_of m))
             (λ can. (s, subst (λ (z : Scene C). Starts y.state z.state p n s) (sym is) (cases.0 (sym up ∙ can))))
             (λ can. subst (λ (z : Scene C). SameRuns y.state z.state) (sym is) (cases.1 (sym up ∙ can)));
       }
@@ -434,13 +472,15 @@ module _ {U C : Type 0} (f : Calls U C) (stands : Standing U C) (keep : Keeps f 
       → stepped f p s m ≡ (step_to f p s (f.stepped here.user (seen_on m p s) here.ctx) m, (f.stepped here.user (seen_on m p s) here.ctx).answer)
   stepped-is m p s here = rw (here.is_user, here.is_ctx) refl
 
-  pub step-law : (e : ℕ) (m : Machine U C) (p : ProcNo) (s : SpaceNo) → (st : Stands stands e m) → (here : IsAt f stands keep m p s) → e < m.event → m.event ≤ MAX_EVENTS
+  pub step-law : (e : ℕ) (m : Machine U C) (p : ProcNo) (s : SpaceNo) → (st : Stands stands e m) → (here : IsAt f stands keep m p s) → e < m.event
+      → m.event ≤ MAX_EVENTS
       → IsStepped stands (setting m.workload s.0 here.def) (seen_on m p s) (contexts_of m s.0) here.act.0 (f.stepped here.user (seen_on m p s) here.ctx)
   step-law e m p s st here later few =
       keep.steps (setting m.workload s.0 here.def) e here.user (contexts_of m s.0) here.act.0 here.ctx (seen_on m p s)
       (value-at f stands keep e m p s st here) (mine f stands keep e m p s st here) (sees-at f stands keep e m p s st here) later few
 
-  pub rests-stepped : (w : WorkloadView) (e g : ℕ) (m : Machine U C) (p : ProcNo) (s : SpaceNo) → (rest : Rests w e g m) → (here : IsAt f stands keep m p s) → e < m.event → m.event ≤ MAX_EVENTS
+  pub rests-stepped : (w : WorkloadView) (e g : ℕ) (m : Machine U C) (p : ProcNo) (s : SpaceNo) → (rest : Rests w e g m) → (here : IsAt f stands keep m p s)
+      → e < m.event → m.event ≤ MAX_EVENTS
       → Rests w g g (step_to f p s (f.stepped here.user (seen_on m p s) here.ctx) m)
   rests-stepped w e g m p s rest here later few =
       let r = f.stepped here.user (seen_on m p s) here.ctx in
@@ -456,8 +496,10 @@ module _ {U C : Type 0} (f : Calls U C) (stands : Standing U C) (keep : Keeps f 
   own-page None h = tt
   own-page (Some k) h = (h.0, let z = h.1 in omega arith)
 
-  rests-asked : (w : WorkloadView) (g : ℕ) (m : Machine U C) (p : ProcNo) (n : ActNo) (s : SpaceNo) (seen : Seen) (answer : Step) → Rests w g g m → (here : IsAt f stands keep m p s)
-      → seen ≡ seen_on m p s → line_of m.kernel p ≡ None → m.kernel.acts n.0 ≡ None → IsAsked (setting m.workload s.0 here.def) seen answer → Rests w g g (asked f p n answer m)
+  rests-asked : (w : WorkloadView) (g : ℕ) (m : Machine U C) (p : ProcNo) (n : ActNo) (s : SpaceNo) (seen : Seen) (answer : Step) → Rests w g g m
+      → (here : IsAt f stands keep m p s)
+      → seen ≡ seen_on m p s → line_of m.kernel p ≡ None → m.kernel.acts n.0 ≡ None → IsAsked (setting m.workload s.0 here.def) seen answer
+      → Rests w g g (asked f p n answer m)
   rests-asked w g m p n s seen Did rest here sees low unused ask = rests-sliced w g g m p rest
   rests-asked w g m p n s seen (Block len page) rest here sees low unused ask =
       rests-blocked w g g m p n s len page rest here.owner low unused (own-page page ask.2)
@@ -465,7 +507,8 @@ module _ {U C : Type 0} (f : Calls U C) (stands : Standing U C) (keep : Keeps f 
       let asks : Asks m.kernel p s = record { owner = here.owner; low = low } in
       let few = subst (λ (z : Seen). z.demand + i ≤ m.workload.processors) sees ask.1 in
       rests-hinted w g g m p n (MoreEntry i) (rests-entered w g g m p n (MoreEntry i) rest here.within
-      (record { space = s; asks = asks; some = ask.0; few = omega (arith, few, rest.standing.lives) }) unused (same-more m.event p i (owner_of m.kernel p) (scene_of m)))
+      (record { space = s; asks = asks; some = ask.0; few = omega (arith, few, rest.standing.lives) }) unused
+      (same-more m.event p i (owner_of m.kernel p) (scene_of m)))
   rests-asked w g m p n s seen Idle rest here sees low unused ask =
       let asks : Asks m.kernel p s = record { owner = here.owner; low = low } in
       let some = subst (λ (z : Seen). 1 ≤ z.demand) sees ask in
@@ -491,7 +534,8 @@ module _ {U C : Type 0} (f : Calls U C) (stands : Standing U C) (keep : Keeps f 
 
   -- the I/O that is due
   rests-due : (w : WorkloadView) (e g : ℕ) (m : Machine U C) (p : ProcNo) (n : ActNo) (io : IoNo) → Rests w e g m → p.0 < length m.kernel.lives
-      → line_of m.kernel p ≡ None → m.kernel.acts n.0 ≡ None → option_map io_no (due_of m.event m.kernel.under_way) ≡ Some io → Rests w e g (entered_on f p n (Complete io) m)
+      → line_of m.kernel p ≡ None → m.kernel.acts n.0 ≡ None → option_map io_no (due_of m.event m.kernel.under_way) ≡ Some io
+      → Rests w e g (entered_on f p n (Complete io) m)
   rests-due w e g m p n io rest within low unused due =
       let there = subst (λ (o : Option IoNo). IfSome o (λ i. IsSome (io_at i.0 m.kernel.under_way))) due (due_of-under_way m.event m.kernel.under_way) in
       let here = some-is (io_at io.0 m.kernel.under_way) there in
@@ -508,7 +552,8 @@ module _ {U C : Type 0} (f : Calls U C) (stands : Standing U C) (keep : Keeps f 
   }
 
   -- a turn, in an event that has begun
-  rests-owned : (w : WorkloadView) (e g : ℕ) (m : Machine U C) (p : ProcNo) (n : ActNo) (o : Option SpaceNo) → Rests w e g m → e < m.event → m.event ≤ MAX_EVENTS
+  rests-owned : (w : WorkloadView) (e g : ℕ) (m : Machine U C) (p : ProcNo) (n : ActNo) (o : Option SpaceNo) → Rests w e g m → e < m.event
+      → m.event ≤ MAX_EVENTS
       → line_of m.kernel p ≡ None → m.kernel.acts n.0 ≡ None → owner_of m.kernel p ≡ o → Rests w g g (turned_owned f p n o m)
   rests-owned w e g m p n None rest later few low unused owner =
       let done = rests-sliced w e g (ticked p m) p (rests-ticked w e g m p rest) in
@@ -525,8 +570,10 @@ module _ {U C : Type 0} (f : Calls U C) (stands : Standing U C) (keep : Keeps f 
       (rests-asked w g after p n s (seen_on m p s) r.answer done there refl low unused
       (subst (λ d. IsAsked (setting m.workload s.0 d) (seen_on m p s) r.answer) (sym same) law.asked))
 
-  rests-turned_due : (w : WorkloadView) (e g : ℕ) (m : Machine U C) (p : ProcNo) (n : ActNo) (o : Option IoNo) → Rests w e g m → e < m.event → m.event ≤ MAX_EVENTS
-      → p.0 < length m.kernel.lives → line_of m.kernel p ≡ None → m.kernel.acts n.0 ≡ None → option_map io_no (due_of m.event m.kernel.under_way) ≡ o → Rests w g g (turned_due f p n o m)
+  rests-turned_due : (w : WorkloadView) (e g : ℕ) (m : Machine U C) (p : ProcNo) (n : ActNo) (o : Option IoNo) → Rests w e g m → e < m.event
+      → m.event ≤ MAX_EVENTS
+      → p.0 < length m.kernel.lives → line_of m.kernel p ≡ None → m.kernel.acts n.0 ≡ None → option_map io_no (due_of m.event m.kernel.under_way) ≡ o
+      → Rests w g g (turned_due f p n o m)
   rests-turned_due w e g m p n None rest later few within low unused due = rests-owned w e g m p n (owner_of m.kernel p) rest later few low unused refl
   rests-turned_due w e g m p n (Some io) rest later few within low unused due =
       rests-later w e g (entered_on f p n (Complete io) m) (omega (arith, later, rest.event)) (rests-due w e g m p n io rest within low unused due)
@@ -552,7 +599,8 @@ module _ {U C : Type 0} (f : Calls U C) (stands : Standing U C) (keep : Keeps f 
   rests-between m between = record { standing = between.standing; fetched = between.fetched; workload = refl; event = refl }
 
   -- a turn keeps a machine standing, and is one event
-  pub rests-turned : (m : Machine U C) (p : ProcNo) (n : ActNo) → IsBetween stands m → m.event + 1 ≤ MAX_EVENTS → p.0 < m.workload.processors → m.kernel.acts n.0 ≡ None
+  pub rests-turned : (m : Machine U C) (p : ProcNo) (n : ActNo) → IsBetween stands m → m.event + 1 ≤ MAX_EVENTS → p.0 < m.workload.processors
+      → m.kernel.acts n.0 ≡ None
       → Rests m.workload (m.event + 1) (m.event + 1) (turned f p n m)
   rests-turned m p n between few within unused =
       let first = rests-next m.workload m.event m.event m (rests-between m between) in

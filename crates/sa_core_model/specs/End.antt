@@ -65,7 +65,7 @@ module _ {U C : Type 0} (f : Calls U C) where
   local_on m p = local_in m p (owner_of m.kernel p)
 
 module _ {U C : Type 0} where
-  -- how many of n events the budget leaves, and none behind the end of a slice
+  -- how many of n events the budget leaves, and none after the end of a slice
   abbrev pub within_slice : ℕ → Machine U C → ℕ
   within_slice n m = if m.workload.slice == 0 then n else min n (m.workload.slice - m.event % m.workload.slice)
 

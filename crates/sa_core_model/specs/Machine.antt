@@ -69,7 +69,7 @@ module _ {U C : Type 0} (f : Calls U C) where
   abbrev pub begun : ProcNo → SpaceNo → Machine U C → Machine U C
   begun p s m = begun_by p s (seen_on m p s) (user_of m s) m
 
-  -- the context goes on behind its upcall, or behind an entry that it asked for
+  -- the context goes on after its upcall, or after an entry that it asked for
   abbrev pub answered : ProcNo → SpaceNo → Machine U C → Machine U C
   answered p s m = called (λ u c. f.answered u (seen_on m p s) c) p s m
 

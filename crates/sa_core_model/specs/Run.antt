@@ -72,7 +72,7 @@ module _ {U C : Type 0} (f : Calls U C) where
     pub within : p.0 < m.workload.processors
     pub event : m.event < MAX_EVENTS
 
-  -- so many local instructions can be committed: the line is low, and no slice ends before the last of them
+  -- n local instructions can be committed: the line is low, and no slice ends before the last of them
   pub record CanCommit (m : Machine U C) (p : ProcNo) (n : ℕ) : Type 0 where
     pub some : 1 ≤ n
     pub event : m.event + n ≤ MAX_EVENTS
@@ -80,7 +80,7 @@ module _ {U C : Type 0} (f : Calls U C) where
     pub slice : within_slice n m ≡ n
     pub go : AreNextLocal m.workload n (local_on f m p)
 
--- what is done to a machine: a turn of a processor, or so many local instructions of the context that runs there
+-- what is done to a machine: a turn of a processor, or some number of local instructions of the context that runs there
 pub data Move : Type 0 where
   turn : ProcNo → Move
   commit : ProcNo → ℕ → Move

@@ -28,7 +28,7 @@ module _ {C : Type 0} where
   held_or_running None c = c
   held_or_running (Some held) c = Some held.ctx
 
-  -- .. if the activation is of the space
+  -- the same, if the activation is of the space
   abbrev pub context_in : ℕ → Option (Act C) → Option C → Option C
   context_in s None c = None
   context_in s (Some act) c = if act.space.0 == s then held_or_running act.held c else None

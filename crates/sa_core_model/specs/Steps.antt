@@ -19,12 +19,12 @@ module _ {U C : Type 0} where
   abbrev pub as_step : Gone U C → Stepped U C
   as_step r = record { user = r.user; ctx = r.ctx; says = r.says; answer = Did }
 
-  -- one run of instructions, and another behind it
+  -- one run of instructions, and another after it
   abbrev pub both : Gone U C → Gone U C → Gone U C
   both first rest = record { user = rest.user; ctx = rest.ctx; says = first.says ++ rest.says }
 
 module _ {U C : Type 0} (f : Calls U C) where
-  -- the first of the instructions, and n others behind it, are done at once as one after the other
+  -- the first of the instructions, and n others after it, are done at once as one after the other
   abbrev pub IsFirstOf : ℕ → U → Seen → C → Type 0
   IsFirstOf zero u seen c = Unit {0}
   IsFirstOf (suc n) u seen c =

@@ -25,7 +25,7 @@ module _ {U C : Type 0} where
   abbrev pub next_event : Machine U C → Machine U C
   next_event m = record m { event = m.event + 1; kernel = evicted_at (m.event + 1) m.kernel }
 
-  -- so many more
+  -- that many events more
   abbrev pub more_events : ℕ → Machine U C → Machine U C
   more_events zero m = m
   more_events (suc n) m = more_events n (next_event m)
@@ -60,7 +60,7 @@ module _ {U C : Type 0} (f : Calls U C) where
   told_all p s [] m = m
   told_all p s (note ∷ notes) m = told_all p s notes (told_one p s note notes m)
 
-  -- behind an upcall: its context begins, is told, and goes on
+  -- after an upcall: its context begins, is told, and goes on
   abbrev pub welcomed_in : ProcNo → Option SpaceNo → Machine U C → Machine U C
   welcomed_in p None m = m
   welcomed_in p (Some s) m = answered f p s (told_all p s m.kernel.telling (begun f p s m))
@@ -73,7 +73,7 @@ module _ {U C : Type 0} (f : Calls U C) where
   abbrev pub entered_on : ProcNo → ActNo → Entry C → Machine U C → Machine U C
   entered_on p fresh entry m = welcomed_if p (upcalls m.kernel p entry) (kernel_entered p fresh entry m)
 
-  -- an entry that the running context asks for, and behind which it goes on
+  -- an entry that the running context asks for, and after which it goes on
   abbrev pub answered_in : ProcNo → Option SpaceNo → Machine U C → Machine U C
   answered_in p None m = m
   answered_in p (Some s) m = answered f p s m

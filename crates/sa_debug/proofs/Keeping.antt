@@ -18,7 +18,7 @@ use Rattle.sa_debug.specs.Reached.{Reaches, IsPlayable}
 use Rattle.sa_debug.specs.Views.{Followed, IsBehind, state_behind}
 use Rattle.sa_debug.proofs.Playing.{take-front}
 
--- what is behind the first items of a trace is behind those of a longer one
+-- what has followed the first items of a trace has followed those of a longer one
 behind-more : (x : Followed) (items more all : List Item) → all ≡ items ++ more → IsBehind x items → IsBehind x all
 behind-more x items more all is b = record {
   few = omega (arith, b.few, ap length is, length-append items more);
@@ -26,7 +26,7 @@ behind-more x items more all is b = record {
 }
 
 module _ {U C : Type 0} (f : Calls U C) where
-  -- so many turns can be made
+  -- a turn can be made
   pub can-turn : (core : CoreView U C) (x : Followed) (p : ProcNo) → IsKept f core x → end_of f core.budget (machine core) ≡ None
       → p.0 < (machine core).workload.processors → CanTurn f (machine core) p
   can-turn core x p kept none within = record {
@@ -63,20 +63,24 @@ module _ {U C : Type 0} (f : Calls U C) where
     few = omega (arith, budget, kept.few);
     within = omega (arith, budget, ap (λ (m : Machine U C). m.event) same, kept.within);
     turns = kept.turns;
-    reached = subst (λ b. Reaches f kept.workload b kept.turns (machine new)) (sym budget) (subst (λ m. Reaches f kept.workload old.budget kept.turns m) (sym same) kept.reached);
+    reached =
+        subst (λ b. Reaches f kept.workload b kept.turns (machine new)) (sym budget)
+        (subst (λ m. Reaches f kept.workload old.budget kept.turns m) (sym same) kept.reached);
     follows = kept.follows;
     behind = subst (λ (m : Machine U C). IsBehind x m.items) (sym same) kept.behind;
   }
 
   -- a turn that was made, or for which there was no memory
-  pub kept-turn : {A E : Type 0} (r : Result A E) (old new : CoreView U C) (x : Followed) (p : ProcNo) → IsKept f old x → end_of f old.budget (machine old) ≡ None
+  pub kept-turn : {A E : Type 0} (r : Result A E) (old new : CoreView U C) (x : Followed) (p : ProcNo) → IsKept f old x
+      → end_of f old.budget (machine old) ≡ None
       → p.0 < (machine old).workload.processors → OnOk r (IsTurn f (machine old) p (machine new)) → OnOk r ((machine new).event ≡ (machine old).event + 1)
       → (machine new).workload ≡ (machine old).workload → new.budget ≡ old.budget → OnErr r (machine new ≡ machine old) → IsKept f new x
   kept-turn (Ok a) old new x p kept none within made event workload budget err = kept-made old new x p kept none within made event workload budget
   kept-turn (Err e) old new x p kept none within made event workload budget err = kept-same old new x kept err budget
 
   -- at the opening
-  pub kept-start : (core : CoreView U C) (replay : Replayed) (x : Followed) → IsWorkload (machine core).workload → machine core ≡ opening f (machine core).workload
+  pub kept-start : (core : CoreView U C) (replay : Replayed) (x : Followed) → IsWorkload (machine core).workload
+      → machine core ≡ opening f (machine core).workload
       → replay ≡ opened (machine core).workload → IsPlayable f (machine core).workload core.budget → core.budget ≤ MAX_EVENTS
       → x.workload ≡ replay.workload → x.state ≡ replay.state → x.taken ≡ 0 → IsKept f core x
   kept-start core replay x ok starts opens playable few workload state taken =

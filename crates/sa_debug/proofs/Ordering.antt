@@ -41,7 +41,9 @@ find-none test first n k is = ap (λ i. find test (drop i (in_order first n))) (
 -- a processor that is found is one of them
 below : (first n : ℕ) → 1 ≤ n → (ks : List ℕ) → All (λ p. p.0 < n) (map (λ k. proc_no ((first + k) % n)) ks)
 below first n some [] = All-nil (λ (p : ProcNo). p.0 < n)
-below first n some (k ∷ ks) = All-cons (λ (p : ProcNo). p.0 < n) (proc_no ((first + k) % n)) (map (λ i. proc_no ((first + i) % n)) ks) (mod_below (first + k) n some) (below first n some ks)
+below first n some (k ∷ ks) =
+    All-cons (λ (p : ProcNo). p.0 < n) (proc_no ((first + k) % n)) (map (λ i. proc_no ((first + i) % n)) ks) (mod_below (first + k) n some)
+    (below first n some ks)
 
 find-among : (P : ProcNo → Type 0) (test : ProcNo → Bool) (ps : List ProcNo) (p : ProcNo) → All P ps → find test ps ≡ Some p → P p
 find-among P test [] p all h = absurd cc

@@ -8,7 +8,7 @@ use Rattle.sa_check_machine.specs.Needs.{CanChange}
 use Rattle.sa_debug.specs.Reached.{CanPlay}
 use Rattle.sa_debug.specs.Views.{state_behind}
 
--- the next item can change the state behind those before it
+-- the next item can change the state after those before it
 pub can-next : (w : WorkloadView) (a : State) (items : List Item) (i : ℕ) (d : Item) → CanPlay w a items → i < length items
     → CanChange w (get_or items i d).proc (state_behind w a (take i items)) (get_or items i d).what
 can-next w a [] i d can within = absurd (omega arith)
@@ -24,20 +24,22 @@ behind-next w a (x ∷ xs) (suc i) d within =
     let more : suc i + 1 ≡ suc (i + 1) = omega arith in
     ap (λ n. state_behind w a (take n (x ∷ xs))) more ∙ behind-next w (changed w x.proc a x.what) xs i d (omega arith)
 
--- what is behind some items is behind more
+-- the first items of a list are the first of a longer one
 pub take-front : {A : Type 0} (n : ℕ) (xs ys : List A) → n ≤ length xs → take n (xs ++ ys) ≡ take n xs
 take-front zero xs ys few = refl
 take-front (suc n) [] ys few = absurd (omega arith)
 take-front (suc n) (x ∷ xs) ys few = ap (λ zs. x ∷ zs) (take-front n xs ys (omega arith))
 
--- the same of a state that is said to be the one behind them
-pub can-change : (v w : WorkloadView) (a b : State) (items : List Item) (i : ℕ) (d : Item) → v ≡ w → a ≡ state_behind w b (take i items) → CanPlay w b items → i < length items
+-- the same of a state that is said to be the one after them
+pub can-change : (v w : WorkloadView) (a b : State) (items : List Item) (i : ℕ) (d : Item) → v ≡ w → a ≡ state_behind w b (take i items) → CanPlay w b items
+    → i < length items
     → CanChange v (get_or items i d).proc a (get_or items i d).what
 can-change v w a b items i d same is can within =
     subst (λ u. CanChange u (get_or items i d).proc a (get_or items i d).what) (sym same)
     (subst (λ x. CanChange w (get_or items i d).proc x (get_or items i d).what) (sym is) (can-next w b items i d can within))
 
-pub behind-change : (v w : WorkloadView) (a b new : State) (items : List Item) (i : ℕ) (d : Item) → v ≡ w → a ≡ state_behind w b (take i items) → i < length items
+pub behind-change : (v w : WorkloadView) (a b new : State) (items : List Item) (i : ℕ) (d : Item) → v ≡ w → a ≡ state_behind w b (take i items)
+    → i < length items
     → new ≡ changed v (get_or items i d).proc a (get_or items i d).what → new ≡ state_behind w b (take (i + 1) items)
 behind-change v w a b new items i d same is within made =
     made ∙ ap (λ u. changed u (get_or items i d).proc a (get_or items i d).what) same

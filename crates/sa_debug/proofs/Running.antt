@@ -8,7 +8,7 @@ module _ {M : Type 0} (o : Watched M) where
   passes : (s between t : Session M) (p : ProcNo) → IsNext o s p → between ≡ s → Turns o between p t → Passes o s p t
   passes s between t p next same turns = record { has = next; turns = subst (λ x. Turns o x p t) same turns }
 
-  -- what so many turns lead to, one turn more leads to
+  -- what some turns lead to, these and one more before them lead to
   pub runs-on : (n i : ℕ) (s between t last : Session M) (p : ProcNo) (reply : Reply) → i < n → IsNext o s p → between ≡ s → Turns o between p t
       → RunsTo o (n - (i + 1)) t last reply → RunsTo o (n - i) s last reply
   runs-on n i s between t last p reply within next same turns runs =

@@ -12,7 +12,7 @@ none_halted = replicate MAX_PROCESSORS false
 abbrev pub goes : List Bool → ProcNo → Bool
 goes halted p = not (slice_index_or halted p.0 false)
 
--- so many processors, cyclically from one on
+-- a number of processors, cyclically from one on
 abbrev pub in_order : ℕ → ℕ → List ProcNo
 in_order first processors = map (λ k. proc_no ((first + k) % processors)) (range_with_len 0 processors)
 

@@ -1,4 +1,4 @@
--- A session over histories: what a reader of a trace is told. No machine stands in it.
+-- A session over histories: what a reader of a trace is told. No machine is in it.
 use Rattle.std.specs.Prelude.{◌≡◌, ℕ, ◌-◌, Bool, false, ◌||◌, if◌then◌else◌, List, [], ◌∷◌, ◌++◌, length, Option, Some, None, is_some}
 use Rattle.std.specs.Option.{option_map}
 use Rattle.sa_base.specs.declared.number.ProcNo.{ProcNo}

@@ -32,12 +32,12 @@ module _ {U C : Type 0} (f : Calls U C) where
     view = λ m s t. view_in (state_behind m.workload (opening_state m.workload) m.items) s t;
   }
 
--- what a contract sees of a session: its core, the halts and the breakpoints; ..
+-- what a contract sees of a session: its core, the halts and the breakpoints
 pub record SessionView (U C : Type 0) : Type 0 where
   pub core : CoreView U C
   pub halted : List Bool
   pub points : List Point
 
--- .. and the session that they make up
+-- the session that they make up
 abbrev pub session : {U C : Type 0} → SessionView U C → Session (Machine U C)
 session v = record { machine = machine v.core; halted = v.halted; points = v.points }

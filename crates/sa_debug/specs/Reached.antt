@@ -12,13 +12,13 @@ use Rattle.sa_core_model.specs.Run.Move.{turn}
 use Rattle.sa_laws.specs.State.{State, opening_state}
 use Rattle.sa_laws.specs.Machine.{changed}
 
--- each of these items can change the state behind those before it
+-- each of these items can change the state after those before it
 abbrev pub CanPlay : WorkloadView → State → List Item → Type 0
 CanPlay w a [] = Unit {0}
 CanPlay w a (x ∷ xs) = CanChange w x.proc a x.what × CanPlay w (changed w x.proc a x.what) xs
 
 module _ {U C : Type 0} (f : Calls U C) where
-  -- so many turns, of any processors, lead from the opening of the workload to the machine, and none comes behind an end
+  -- that many turns, of any processors, lead from the opening of the workload to the machine, and none comes after an end
   abbrev pub Reaches : WorkloadView → (budget turns : ℕ) → Machine U C → Type 0
   Reaches w budget zero m = m ≡ opening f w
   Reaches w budget (suc n) m =

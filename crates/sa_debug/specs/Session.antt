@@ -75,7 +75,7 @@ module _ {M : Type 0} where
   with_machine s m = record s { machine = m }
 
 module _ {M : Type 0} (o : Watched M) where
-  -- the processor behind that of the last event, and before event 1 processor 0
+  -- the processor after that of the last event, and before event 1 processor 0
   abbrev pub first : M → ℕ
   first m = if o.event m == 0 then 0 else ((o.last m).0 + 1) % o.processors m
 
@@ -105,7 +105,7 @@ module _ {M : Type 0} (o : Watched M) where
     pub turn : o.IsTurn s.machine p machine
     pub is : t ≡ with_machine s machine
 
-  -- .. and the number of that event is told
+  -- a processor makes one turn, and the number of that event is told
   pub record Steps (s : Session M) (p : ProcNo) (t : Session M) (reply : Reply) : Type 0 where
     pub turns : Turns s p t
     pub answer : reply ≡ Event (o.event t.machine)
@@ -141,7 +141,7 @@ module _ {M : Type 0} (o : Watched M) where
   RunsTo (suc n) s t reply =
       SaysEnded s t reply ⊎ (Stops s t reply ⊎ ((p : ProcNo) × (between : Session M) × Passes s p between × RunsTo n between t reply))
 
-  -- .. or memory ran out behind some of them
+  -- some turns were made, and then memory ran out
   abbrev pub RunsSoFar : ℕ → Session M → Session M → Type 0
   RunsSoFar zero s t = t ≡ s
   RunsSoFar (suc n) s t = (t ≡ s) ⊎ ((p : ProcNo) × (between : Session M) × Passes s p between × RunsSoFar n between t)

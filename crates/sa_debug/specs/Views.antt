@@ -1,4 +1,4 @@
--- What is shown of a thread, and the state of the abstract machine behind some items.
+-- What is shown of a thread, and the state of the abstract machine after some items.
 use Rattle.std.specs.Prelude.{◌≡◌, ℕ, ◌≤◌, List, [], ◌∷◌, length, take, Option, slice_get}
 use Rattle.std.specs.Option.{option_map}
 use Rattle.sa_base.specs.declared.number.SpaceNo.{SpaceNo}
@@ -16,12 +16,12 @@ view_of thread = record { place = thread.place; pc = thread.pc; regs = thread.re
 abbrev pub view_in : State → SpaceNo → ThreadNo → Option View
 view_in a s t = option_map view_of (slice_get (space_at a s).threads t.0)
 
--- the state behind these items
+-- the state after these items
 abbrev pub state_behind : WorkloadView → State → List Item → State
 state_behind w a [] = a
 state_behind w a (x ∷ xs) = state_behind w (changed w x.proc a x.what) xs
 
--- what has taken the first items of a trace, and the state behind them
+-- what has taken the first items of a trace, and the state after them
 pub record Followed : Type 0 where
   pub workload : WorkloadView
   pub state : State

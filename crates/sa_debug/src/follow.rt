@@ -11,7 +11,7 @@ use sa_script::View;
 use std::alloc::AllocError;
 use std::marker::Model;
 
-/// The abstract machine of threads behind the first items of a trace.
+/// The abstract machine of threads after the first items of a trace.
 #[derive(Debug, Drop)]
 pub(crate) struct Follower {
     replay: Replay,

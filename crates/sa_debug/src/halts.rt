@@ -40,7 +40,7 @@ impl Halts {
         self.halted[usize::from(p.0)] = halted;
     }
 
-    /// The first processor that is not halted, of so many, cyclically from this one on.
+    /// The first of the processors that is not halted, cyclically from this one on.
     pub(crate) fn next(&self, first: u16, processors: u16) -> Option<ProcNo>
         requires few { processors ≤ MAX_PROCESSORS }
         requires first { first < processors }

@@ -67,7 +67,7 @@ impl Points {
         self.points.len() >= MAX_POINTS
     }
 
-    /// Adds a breakpoint behind the others. An error changes nothing.
+    /// Adds a breakpoint after the others. An error changes nothing.
     pub(crate) fn add(&mut self, point: Point) -> Result<(), AllocError>
         ensures ok { OnOk result (self.new ≡ self.old ++ point ∷ []) }
         ensures err { OnErr result (self.new ≡ self.old) }

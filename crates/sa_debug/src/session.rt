@@ -179,7 +179,7 @@ impl<U: UserLevel> Session<U> {
         self.core.turn(p)
     }
 
-    // At most so many turns of the processors that are not halted, in order.
+    // At most `turns` turns of the processors that are not halted, in order.
     fn run(&mut self, turns: u32) -> Result<Reply, AllocError>
         ensures ok { IfOk result (λ reply.
             RunsTo (over_machines U.calls self.old.core.budget) turns (session self.old) (session self.new) reply) }
@@ -300,7 +300,7 @@ impl<U: UserLevel> Session<U> {
     }
 }
 
-// The number of the processor behind this one, of so many.
+// The number of the processor after this one, cyclically.
 fn following(p: ProcNo, processors: u16) -> u16
     requires { 1 ≤ processors }
     ensures following { result ≡ (p.0 + 1) % processors }

@@ -38,7 +38,7 @@ one-end budget n r None (Some Budget) a b = absurd (a.1 b.1)
 one-end budget n r None None a b = refl
 
 module _ (u : UserRules) (w : WorkloadView) (budget : ℕ) where
-  -- Two turns behind one history, with both of which a longer one begins, leave the same history.
+  -- Two turns after one history, with both of which a longer one begins, leave the same history.
   one-turn : (items : List Item) (p r : ProcNo) (after other x : List Item) → AddsTurn u w items p after → AddsTurn u w items r other
       → Begins after x → Begins other x → after ≡ other
   one-turn items p r after other x one two first second =

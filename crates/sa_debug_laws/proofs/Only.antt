@@ -14,7 +14,7 @@ use Rattle.sa_debug.specs.Session.{SaysEnded, Turns, Steps, IsHeld, Stops, IsNex
 use Rattle.sa_debug_laws.proofs.Keeping.{ran, does-all}
 
 -- What goes one way: it has one end, and each turn of it leads on. Of two turns that both lead to the same later state the
--- states behind them are one.
+-- states after them are one.
 pub record GoesOneWay {N : Type 0} (q : Watched N) (Before : N → N → Type 0) : Type 0 where
   pub ends : (m : N) (one other : Option End) → q.HasEnded m one → q.HasEnded m other → one ≡ other
   pub here : (m : N) → Before m m

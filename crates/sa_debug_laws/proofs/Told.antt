@@ -39,7 +39,7 @@ use Rattle.sa_debug_laws.proofs.Showing.{Shows, all-seen, so-far-seen}
 use Rattle.sa_debug_laws.proofs.Standing.{stands-same}
 
 module _ (w : WorkloadView) (budget : ℕ) (ok : IsWorkload w) where
-  -- the events behind the opening
+  -- the events after the opening
   pub composed-at : (m : FastMachine) → IsReachedByTurns w m → (events : List Event) × IsComposed fast_level w events m
   composed-at m is =
       let done = reached-run fast_level w [] (opening fast_calls w) is.moves m (reached-opening fast_level w ok) is.run in

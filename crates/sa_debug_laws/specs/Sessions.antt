@@ -32,7 +32,7 @@ SessionsAreLegal =
     (w : WorkloadView) (budget : ℕ) (commands : List DebugCommand) (s : Session FastMachine) (replies : List Reply) → IsWorkload w
     → IsSession w budget commands s replies → IsLegalSession w budget s.machine
 
--- .. and where memory ran out at the next command
+-- the same of a session in which memory ran out at the next command
 abbrev pub SessionsSoFarAreLegal : Type 0
 SessionsSoFarAreLegal =
     (w : WorkloadView) (budget : ℕ) (commands : List DebugCommand) (s t : Session FastMachine) (replies : List Reply) (command : DebugCommand) → IsWorkload w

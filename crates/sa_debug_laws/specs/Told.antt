@@ -16,7 +16,7 @@ use Rattle.sa_debug_laws.specs.Sessions.{IsSession}
 abbrev pub Leads : WorkloadView → (budget : ℕ) → List DebugCommand → Session (List Item) → List Reply → Type 0
 Leads w budget commands s replies = DoAll (over_histories fast_threads w budget) commands (fresh (opening_items w)) s replies
 
--- .. and to no other one with this history, and with no other replies
+-- the commands lead to this session with these replies, to no other one with its history, and with no other replies
 pub record IsTold (w : WorkloadView) (budget : ℕ) (commands : List DebugCommand) (s : Session (List Item)) (replies : List Reply) : Type 0 where
   pub done : Leads w budget commands s replies
   pub only : (t : Session (List Item)) (others : List Reply) → Leads w budget commands t others → t.machine ≡ s.machine
@@ -32,7 +32,7 @@ SessionsAreTold =
     (w : WorkloadView) (budget : ℕ) (commands : List DebugCommand) (s : Session FastMachine) (replies : List Reply)
     → IsWorkload w → IsSession w budget commands s replies → IsTold w budget commands (by_history s) replies
 
--- .. and where memory ran out at the next command
+-- the same of a session in which memory ran out at the next command
 abbrev pub SessionsSoFarAreTold : Type 0
 SessionsSoFarAreTold =
     (w : WorkloadView) (budget : ℕ) (commands : List DebugCommand) (s t : Session FastMachine) (replies : List Reply) (command : DebugCommand)

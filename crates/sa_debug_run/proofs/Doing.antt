@@ -60,8 +60,10 @@ pub done-none : (budget : ℕ) (commands : List DebugCommand) (s : Session FastM
 done-none budget commands s text empty = record { replies = []; done = (refl, refl); says = empty }
 
 -- one command more is done
-pub done-more : (budget now : ℕ) (commands : List DebugCommand) (i : ℕ) (d : DebugCommand) (s between t : Session FastMachine) (text more : List ℕ) (reply : Reply)
-    → now ≡ budget → i < length commands → AreDone budget (take i commands) s between text → Does (over_machines fast_calls now) (get_or commands i d) between t reply
+pub done-more : (budget now : ℕ) (commands : List DebugCommand) (i : ℕ) (d : DebugCommand) (s between t : Session FastMachine) (text more : List ℕ)
+    (reply : Reply)
+    → now ≡ budget → i < length commands → AreDone budget (take i commands) s between text
+    → Does (over_machines fast_calls now) (get_or commands i d) between t reply
     → more ≡ text ++ reply_text reply → AreDone budget (take (i + 1) commands) s t more
 done-more budget now commands i d s between t text more reply same within are does says = record {
   replies = are.replies ++ reply ∷ [];
@@ -78,16 +80,22 @@ pub done-all : (budget : ℕ) (commands : List DebugCommand) (i : ℕ) (s t : Se
     → AreDone budget (take i commands) s t text → AreDone budget commands s t text
 done-all budget commands i s t text past are = subst (λ cs. AreDone budget cs s t text) (take-all commands i past) are
 
--- memory ran out at a command, and behind one
+-- memory ran out at a command, and after one
 pub came-at : (budget now : ℕ) (commands : List DebugCommand) (i : ℕ) (d : DebugCommand) (s between t : Session FastMachine) (text : List ℕ)
-    → now ≡ budget → i < length commands → AreDone budget (take i commands) s between text → DoesSoFar (over_machines fast_calls now) (get_or commands i d) between t
+    → now ≡ budget → i < length commands → AreDone budget (take i commands) s between text
+    → DoesSoFar (over_machines fast_calls now) (get_or commands i d) between t
     → CameSoFar (over_machines fast_calls budget) commands s t
 came-at budget now commands i d s between t text same within are came = record {
   count = i;
   between = between;
   replies = are.replies;
   done = are.done;
-  last = inr (get_or commands i d, slice_get-get_or commands i d within, subst (λ b. DoesSoFar (over_machines fast_calls b) (get_or commands i d) between t) same came);
+  last =
+      inr (
+        get_or commands i d,
+        slice_get-get_or commands i d within,
+        subst (λ b. DoesSoFar (over_machines fast_calls b) (get_or commands i d) between t) same came,
+      );
 }
 
 pub came-behind : (budget : ℕ) (commands : List DebugCommand) (i : ℕ) (s t : Session FastMachine) (text : List ℕ) → AreDone budget (take i commands) s t text
@@ -125,7 +133,8 @@ over-so w budget b c commands m s t text items end o events legal tells ok opens
 came-legal : (w : WorkloadView) (budget : ℕ) (commands : List DebugCommand) (t : Session FastMachine) → SessionsAreLegal → SessionsSoFarAreLegal → IsWorkload w
     → CameSoFar (over_machines fast_calls budget) commands (fresh (opening fast_calls w)) t → IsLegalSession w budget t.machine
 came-legal w budget commands t whole so_far ok came = elim came.last [
-  | inl same ↦ subst (λ (x : Session FastMachine). IsLegalSession w budget x.machine) (sym same) (whole w budget (take came.count commands) came.between came.replies ok came.done)
+  | inl same ↦ subst (λ (x : Session FastMachine). IsLegalSession w budget x.machine) (sym same)
+      (whole w budget (take came.count commands) came.between came.replies ok came.done)
   | inr part ↦ so_far w budget (take came.count commands) came.between t came.replies part.0 ok came.done part.2
 ]
 

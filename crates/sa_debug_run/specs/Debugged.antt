@@ -75,7 +75,7 @@ pub record IsDebugged (w : WorkloadView) (budget : ℕ) (script replies : List �
   pub read : script_of w script ≡ Ok commands
   pub over : IsOver w budget commands replies items end events
 
--- .. or some of them
+-- the bytes are a script for this workload, and some of its commands were done
 pub record IsDebuggedSoFar (w : WorkloadView) (budget : ℕ) (script : List ℕ) (items : List Item) : Type 0 where
   pub commands : List DebugCommand
   pub read : script_of w script ≡ Ok commands

@@ -13,7 +13,7 @@ use std::alloc::{AllocError, Global};
 
 /// Does the commands, whose numbers are in the ranges of the workload. Answers the texts of the replies, one after another.
 ///
-/// An error is want of memory, behind some of the commands.
+/// An error is want of memory, after some of the commands.
 pub(crate) fn do_all(
     alloc: Global,
     debugged: &mut Session<FastThreads>,

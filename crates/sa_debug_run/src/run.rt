@@ -35,7 +35,7 @@ pub enum Undebugged {
     OutOfMemory(Trace),
 }
 
-/// Does the commands of a script with a machine of the workload, within so many events, 1 to 1,000,000. The script is read
+/// Does the commands of a script with a machine of the workload, within `budget` events, 1 to 1,000,000. The script is read
 /// whole before anything runs.
 pub fn debug(
     alloc: Global,

@@ -37,7 +37,8 @@ room_for : (c : Credit) (a : Account) → MayCredit a c → a.count ≤ MAX_EVEN
 room_for (Turns n) a may le = may.1
 room_for (Ended x) a may le = le
 
-pub may_grant : (v : View) (p : ℕ) (c : Credit) → IsKeeping v → p < length (lanes_of v) → ((q : ℕ) → IsQuiet (lane_at (lanes_of v) q)) → MayCredit (lane_at (lanes_of v) p).account c → MayGrant p (number_of c) v
+pub may_grant : (v : View) (p : ℕ) (c : Credit) → IsKeeping v → p < length (lanes_of v) → ((q : ℕ) → IsQuiet (lane_at (lanes_of v) q))
+    → MayCredit (lane_at (lanes_of v) p).account c → MayGrant p (number_of c) v
 may_grant v p c keeping inside quiet may =
     let a = (lane_at (lanes_of v) p).account in record {
       keeping = keeping;
@@ -55,7 +56,8 @@ set_twice (x ∷ xs) (suc i) a b = ap (λ l. x ∷ l) (set_twice xs i a b)
 -- what was handed over and taken is credited
 handed_over : (l : Lane) (c : Credit) → credit_of (number_of c) ≡ c → l.handed ≡ None → cleared (granted (number_of c) l) ≡ credited_lane c l
 handed_over l c back none_handed =
-    let credited_it : cleared (granted (number_of c) l) ≡ record l { account = credited c l.account; handed = None } = ap (λ (z : Credit). record l { account = credited z l.account; handed = None }) back in
+    let credited_it : cleared (granted (number_of c) l) ≡ record l { account = credited c l.account; handed = None } =
+    ap (λ (z : Credit). record l { account = credited z l.account; handed = None }) back in
     credited_it ∙ ap (λ (z : Option ℕ). record l { account = credited c l.account; handed = z }) (sym none_handed)
 
 pub credit_lanes : (lanes : List Lane) (p : ℕ) (c : Credit) → p < length lanes → (lane_at lanes p).handed ≡ None → credit_of (number_of c) ≡ c
@@ -65,15 +67,16 @@ credit_lanes lanes p c lt none_handed back =
     ∙ set_twice lanes p (granted (number_of c) (lane_at lanes p)) (cleared (granted (number_of c) (lane_at lanes p)))
     ∙ ap (λ (l : Lane). slice_set lanes p l) (handed_over (lane_at lanes p) c back none_handed)
 
--- the keeper's view behind a credit
+-- the keeper's view after a credit
 pub credit_view : (v : View) (p : ℕ) (c : Credit) → IsKeeping v → p < length (lanes_of v) → (lane_at (lanes_of v) p).handed ≡ None → credit_of (number_of c) ≡ c
     → on_lane p cleared (on_lane p (granted (number_of c)) v) ≡ on_lane p (credited_lane c) v
 credit_view (Keeping lanes split) p c k lt none_handed back = ap (λ (l : List Lane). Keeping l split) (credit_lanes lanes p c lt none_handed back)
 credit_view (Polling q own) p c k lt none_handed back = refl
 credit_view Spent p c k lt none_handed back = refl
 
--- behind a credit the keeper is as between calls
-pub keeps_credited : (table : TableId) (v : View) (p : ℕ) (c : Credit) → KeepsWell table v → MayCredit (lane_at (lanes_of v) p).account c → KeepsWell table (on_lane p (credited_lane c) v)
+-- after a credit the keeper is as between calls
+pub keeps_credited : (table : TableId) (v : View) (p : ℕ) (c : Credit) → KeepsWell table v → MayCredit (lane_at (lanes_of v) p).account c
+    → KeepsWell table (on_lane p (credited_lane c) v)
 keeps_credited table (Polling q own) p c well may = absurd well.keeping
 keeps_credited table Spent p c well may = absurd well.keeping
 keeps_credited table (Keeping lanes split) p c well may = record {
@@ -86,13 +89,16 @@ keeps_credited table (Keeping lanes split) p c well may = record {
 }
 
 -- the same, with the processor and the number as the code has them
-pub grants : (v : View) (lanes : List Lane) (p q n : ℕ) (c : Credit) → q ≡ p → n ≡ number_of c → lanes_of v ≡ lanes → IsKeeping v → ((i : ℕ) → IsQuiet (lane_at (lanes_of v) i))
+pub grants : (v : View) (lanes : List Lane) (p q n : ℕ) (c : Credit) → q ≡ p → n ≡ number_of c → lanes_of v ≡ lanes → IsKeeping v
+    → ((i : ℕ) → IsQuiet (lane_at (lanes_of v) i))
     → q < length (lanes_of v) → MayCredit (lane_at lanes p).account c → MayGrant q n v
 grants v lanes p q n c same is known k quiet lt may =
     subst (λ z. MayGrant q z v) (sym is)
-    (may_grant v q c k lt quiet (subst (λ (l : List Lane). MayCredit (lane_at l q).account c) (sym known) (subst (λ z. MayCredit (lane_at lanes z).account c) (sym same) may)))
+    (may_grant v q c k lt quiet (subst (λ (l : List Lane). MayCredit (lane_at l q).account c) (sym known)
+    (subst (λ z. MayCredit (lane_at lanes z).account c) (sym same) may)))
 
-pub credits : (v granted_one cleared_one : View) (lanes : List Lane) (p q n : ℕ) (c : Credit) → q ≡ p → n ≡ number_of c → lanes_of v ≡ lanes → IsKeeping v → ((i : ℕ) → IsQuiet (lane_at (lanes_of v) i))
+pub credits : (v granted_one cleared_one : View) (lanes : List Lane) (p q n : ℕ) (c : Credit) → q ≡ p → n ≡ number_of c → lanes_of v ≡ lanes → IsKeeping v
+    → ((i : ℕ) → IsQuiet (lane_at (lanes_of v) i))
     → q < length (lanes_of v) → MayCredit (lane_at lanes p).account c → granted_one ≡ on_lane q (granted n) v → cleared_one ≡ on_lane q cleared granted_one
     → cleared_one ≡ on_lane p (credited_lane c) v
 credits v granted_one cleared_one lanes p q n c same is known k quiet lt may one two =

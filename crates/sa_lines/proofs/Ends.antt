@@ -128,7 +128,8 @@ module _ {S : Type 0} (s : State S View) (id : ℕ) (lanes : List Lane) (n : ℕ
         (h.agree id o.0 q whole o.1 b is o.2 tt o.3 (subst (λ z. q < length (lanes_of z)) (sym same) lt));
   }
 
-pub splits : {S : Type 0} (id : ℕ) (lanes : List Lane) (n : ℕ) → Splits {S = S} Holds id (Keeping lanes n) (left_view (Keeping lanes n)) (right_view (Keeping lanes n))
+pub splits : {S : Type 0} (id : ℕ) (lanes : List Lane) (n : ℕ)
+    → Splits {S = S} Holds id (Keeping lanes n) (left_view (Keeping lanes n)) (right_view (Keeping lanes n))
 splits id lanes n = λ s h is. split_holds s id lanes n h is
 
 -- a join
@@ -136,7 +137,9 @@ splits id lanes n = λ s h is. split_holds s id lanes n h is
 some_same : (a b : Polled) → Some a ≡ Some b → a ≡ b
 some_same a b e = cc
 
-module _ {S : Type 0} (s : State S View) (id other : ℕ) (lanes : List Lane) (n : ℕ) (p : ProcNo) (own : Polled) (h : Holds s) (is : get_elem? s.views id ≡ some (Keeping lanes n)) (is' : get_elem? s.views other ≡ some (Polling p own)) (apart : other ≢ id) (inside : p.0 < length lanes) where
+module _ {S : Type 0} (s : State S View) (id other : ℕ) (lanes : List Lane) (n : ℕ) (p : ProcNo) (own : Polled) (h : Holds s)
+    (is : get_elem? s.views id ≡ some (Keeping lanes n)) (is' : get_elem? s.views other ≡ some (Polling p own)) (apart : other ≢ id)
+    (inside : p.0 < length lanes) where
   abbrev pub keeping : View
   keeping = Keeping lanes n
 
@@ -171,7 +174,8 @@ module _ {S : Type 0} (s : State S View) (id other : ℕ) (lanes : List Lane) (n
   both_knew q b k = dite (ℕ_discrete q p.0)
       (λ e. elim k [
         | inl z ↦ absurd (apart (h.one_poller other id q polling keeping own fresh_polled is' is (sym e, refl) (inl (z.0, refl))))
-        | inr z ↦ (let now = sym (ap (λ (l : Lane). l.joined) (lane_here p.0 (joined_with own) lanes inside)) ∙ ap (λ (i : ℕ). (lane_at (changed p.0 (joined_with own) lanes) i).joined) (sym e) ∙ z in inr (sym e, some_same own b now))
+        | inr z ↦ (let now = sym (ap (λ (l : Lane). l.joined) (lane_here p.0 (joined_with own) lanes inside))
+            ∙ ap (λ (i : ℕ). (lane_at (changed p.0 (joined_with own) lanes) i).joined) (sym e) ∙ z in inr (sym e, some_same own b now))
       ])
       (λ ne. elim k [
         | inl z ↦ inl (inl z, ne)
@@ -180,7 +184,8 @@ module _ {S : Type 0} (s : State S View) (id other : ℕ) (lanes : List Lane) (n
 
   knew_it : (j q : ℕ) (x : View) (b : Polled) → Joined j x → Knows x q b → (i : ℕ) × (y : View) × (get_elem? s.views i ≡ some y) × Knows y q b
   knew_it j q x b (spent_one e) k = absurd (subst (λ z. Knows z q b) (sym e) k)
-  knew_it j q x b (both_one a e) k = elim (both_knew q b (subst (λ z. Knows z q b) (sym e) k)) [ inl z ↦ (id, keeping, is, z.0) | inr z ↦ (other, polling, is', z) ]
+  knew_it j q x b (both_one a e) k =
+      elim (both_knew q b (subst (λ z. Knows z q b) (sym e) k)) [ inl z ↦ (id, keeping, is, z.0) | inr z ↦ (other, polling, is', z) ]
   knew_it j q x b (other_one a c e) k = (j, x, e, k)
 
   -- no other view knows what the keeper knows now
@@ -227,13 +232,16 @@ module _ {S : Type 0} (s : State S View) (id other : ℕ) (lanes : List Lane) (n
         subst (λ z. AgreeAt s.words q (lane_at (lanes_of z) q) b) same (joined_agree q b (h.agree id o.0 q keeping o.1 b is o.2 tt o.3 lt'));
   }
 
-joins_there : {S : Type 0} (id other : ℕ) (lanes : List Lane) (n : ℕ) (p : ProcNo) (own : Polled) → p.0 < length lanes → Joins {S = S} Holds id (Keeping lanes n) other (Polling p own) (joined_view (Keeping lanes n) (Polling p own)) spent_view
-joins_there id other lanes n p own inside = λ s h is ne there. elim (at_set s.views id other (joined_view (Keeping lanes n) (Polling p own)) (Polling p own) there) [
-  | inl z ↦ absurd (ne z.0)
-  | inr z ↦ join_holds s id other lanes n p own h is z.1 ne inside
-]
+joins_there : {S : Type 0} (id other : ℕ) (lanes : List Lane) (n : ℕ) (p : ProcNo) (own : Polled) → p.0 < length lanes
+    → Joins {S = S} Holds id (Keeping lanes n) other (Polling p own) (joined_view (Keeping lanes n) (Polling p own)) spent_view
+joins_there id other lanes n p own inside =
+    λ s h is ne there. elim (at_set s.views id other (joined_view (Keeping lanes n) (Polling p own)) (Polling p own) there) [
+      | inl z ↦ absurd (ne z.0)
+      | inr z ↦ join_holds s id other lanes n p own h is z.1 ne inside
+    ]
 
-pub joins : {S : Type 0} (id other : ℕ) (v w : View) (p : ℕ) → IsKeeping v → IsPollerOf w p → p < length (lanes_of v) → Joins {S = S} Holds id v other w (joined_view v w) spent_view
+pub joins : {S : Type 0} (id other : ℕ) (v w : View) (p : ℕ) → IsKeeping v → IsPollerOf w p → p < length (lanes_of v)
+    → Joins {S = S} Holds id v other w (joined_view v w) spent_view
 joins id other (Polling q own) w p k l lt = absurd k
 joins id other Spent w p k l lt = absurd k
 joins id other (Keeping lanes n) (Keeping others m) p k l lt = absurd l

@@ -31,14 +31,16 @@ pub proc_credit : (p : ℕ) → proc_of (credit_word p) ≡ p
 proc_credit p = grind arith
 
 -- lanes when one is changed
-pub same_field : {B : Type 0} (g : Lane → B) (change : Lane → Lane) → ((l : Lane) → g (change l) ≡ g l) → (lanes : List Lane) (p q : ℕ) → g (lane_at (changed p change lanes) q) ≡ g (lane_at lanes q)
+pub same_field : {B : Type 0} (g : Lane → B) (change : Lane → Lane) → ((l : Lane) → g (change l) ≡ g l) → (lanes : List Lane) (p q : ℕ)
+    → g (lane_at (changed p change lanes) q) ≡ g (lane_at lanes q)
 same_field g change keep [] p q = refl
 same_field g change keep (l ∷ lanes) zero zero = keep l
 same_field g change keep (l ∷ lanes) zero (suc q) = refl
 same_field g change keep (l ∷ lanes) (suc p) zero = refl
 same_field g change keep (l ∷ lanes) (suc p) (suc q) = same_field g change keep lanes p q
 
-pub all_changed : (P : Lane → Type 0) (change : Lane → Lane) (lanes : List Lane) (p q : ℕ) → ((i : ℕ) → P (lane_at lanes i)) → P (change (lane_at lanes p)) → P (lane_at (changed p change lanes) q)
+pub all_changed : (P : Lane → Type 0) (change : Lane → Lane) (lanes : List Lane) (p q : ℕ) → ((i : ℕ) → P (lane_at lanes i)) → P (change (lane_at lanes p))
+    → P (lane_at (changed p change lanes) q)
 all_changed P change [] p q all now = all q
 all_changed P change (l ∷ lanes) zero zero all now = now
 all_changed P change (l ∷ lanes) zero (suc q) all now = all (suc q)
@@ -89,13 +91,15 @@ module _ {S : Type 0} (s : State S View) (id : ℕ) (v w : View) (h : Holds s) (
       (id, w, set_at s.views id v w is, follows.still (subst IsKeeping same k.3)))
       (λ ne. (k.0, k.1, set_else s.views id k.0 w ne ∙ k.2, k.3))
 
-  pub still_one_keeper : (i j : ℕ) (x y : View) → get_elem? (slice_set s.views id w) i ≡ some x → get_elem? (slice_set s.views id w) j ≡ some y → IsKeeping x → IsKeeping y → i ≡ j
+  pub still_one_keeper : (i j : ℕ) (x y : View) → get_elem? (slice_set s.views id w) i ≡ some x → get_elem? (slice_set s.views id w) j ≡ some y → IsKeeping x
+      → IsKeeping y → i ≡ j
   still_one_keeper i j x y a b kx ky =
       let xs = was i x a in
       let ys = was j y b in
       h.one_keeper i j xs.0 ys.0 xs.1 ys.1 (xs.2.keeping kx) (ys.2.keeping ky)
 
-  pub still_one_poller : (i j q : ℕ) (x y : View) (c d : Polled) → get_elem? (slice_set s.views id w) i ≡ some x → get_elem? (slice_set s.views id w) j ≡ some y → Knows x q c → Knows y q d → i ≡ j
+  pub still_one_poller : (i j q : ℕ) (x y : View) (c d : Polled) → get_elem? (slice_set s.views id w) i ≡ some x
+      → get_elem? (slice_set s.views id w) j ≡ some y → Knows x q c → Knows y q d → i ≡ j
   still_one_poller i j q x y c d a b kx ky =
       let xs = was i x a in
       let ys = was j y b in
@@ -107,7 +111,8 @@ module _ {S : Type 0} (s : State S View) (id : ℕ) (h : Holds s) (place x : ℕ
   abbrev pub words : List ℕ
   words = slice_set s.words place x
 
-  module _ (lanes : List Lane) (split : ℕ) (is : get_elem? s.views id ≡ some (Keeping lanes split)) (p : ℕ) (change : Lane → Lane) (same : (l : Lane) → (change l).joined ≡ l.joined) where
+  module _ (lanes : List Lane) (split : ℕ) (is : get_elem? s.views id ≡ some (Keeping lanes split)) (p : ℕ) (change : Lane → Lane) (same : (l : Lane)
+      → (change l).joined ≡ l.joined) where
     abbrev pub before : View
     before = Keeping lanes split
 
@@ -124,7 +129,8 @@ module _ {S : Type 0} (s : State S View) (id : ℕ) (h : Holds s) (place x : ℕ
     follows = record { keeping = λ k. k; still = λ k. k; knows = λ q b k. (b, knew q b k) }
 
     -- what agreed before
-    agreed : (j q : ℕ) (y : View) (b : Polled) → get_elem? (slice_set s.views id after) j ≡ some y → Knows y q b → q < length lanes → AgreeAt s.words q (lane_at lanes q) b
+    agreed : (j q : ℕ) (y : View) (b : Polled) → get_elem? (slice_set s.views id after) j ≡ some y → Knows y q b → q < length lanes
+        → AgreeAt s.words q (lane_at lanes q) b
     agreed j q y b there k lt = elim (at_set s.views id j after y there) [
       | inl e ↦ h.agree id id q before before b is is tt (knew q b (subst (λ z. Knows z q b) (sym e.1) k)) lt
       | inr e ↦ h.agree id j q before y b is e.1 tt k lt
@@ -219,7 +225,8 @@ module _ {S : Type 0} (slots id : ℕ) (held : List (ℕ × S)) where
   becomes_at : (change : Lane → Lane) (v : View) (p q : ℕ) → q ≡ p → Becomes (v, held) (on_lane q change v) (on_lane p change v, held)
   becomes_at change v p q e = ap (λ (z : ℕ). (on_lane z change v, held)) (sym e)
 
-  raise_keeps : (v : View) (p e : ℕ) → IsKeeping v → Allows Holds slots id (v, held) (line_word p) (λ _. e + 1) (λ _. Raises (step slots (line_word p) (e + 1) 0 none) (v, held) (e + 1))
+  raise_keeps : (v : View) (p e : ℕ) → IsKeeping v
+      → Allows Holds slots id (v, held) (line_word p) (λ _. e + 1) (λ _. Raises (step slots (line_word p) (e + 1) 0 none) (v, held) (e + 1))
   raise_keeps (Polling q own) p e k = absurd k
   raise_keeps Spent p e k = absurd k
   raise_keeps (Keeping lanes split) p e k = λ s h len is fits. (
@@ -233,7 +240,8 @@ module _ {S : Type 0} (slots id : ℕ) (held : List (ℕ × S)) where
         ∙ becomes_at (raised (e + 1 - 1)) (Keeping lanes split) p (proc_of (line_word p)) (proc_line p),
   )
 
-  lower_keeps : (v : View) (p : ℕ) → IsKeeping v → Allows Holds slots id (v, held) (line_word p) (λ _. 0) (λ _. Lowers (step slots (line_word p) 0 0 none) (v, held) 0)
+  lower_keeps : (v : View) (p : ℕ) → IsKeeping v
+      → Allows Holds slots id (v, held) (line_word p) (λ _. 0) (λ _. Lowers (step slots (line_word p) 0 0 none) (v, held) 0)
   lower_keeps (Polling q own) p k = absurd k
   lower_keeps Spent p k = absurd k
   lower_keeps (Keeping lanes split) p k = λ s h len is fits. (
@@ -246,7 +254,8 @@ module _ {S : Type 0} (slots id : ℕ) (held : List (ℕ × S)) where
     becomes_at lowered (Keeping lanes split) p (proc_of (line_word p)) (proc_line p),
   )
 
-  grant_keeps : (v : View) (p n : ℕ) → MayGrant p n v → Allows Holds slots id (v, held) (credit_word p) (λ _. n) (λ _. Grants (step slots (credit_word p) n 0 none) (v, held) n)
+  grant_keeps : (v : View) (p n : ℕ) → MayGrant p n v
+      → Allows Holds slots id (v, held) (credit_word p) (λ _. n) (λ _. Grants (step slots (credit_word p) n 0 none) (v, held) n)
   grant_keeps (Polling q own) p n may = absurd may.keeping
   grant_keeps Spent p n may = absurd may.keeping
   grant_keeps (Keeping lanes split) p n may = λ s h len is fits. (
@@ -270,16 +279,19 @@ module _ {S : Type 0} (slots id : ℕ) (held : List (ℕ × S)) where
       (subst (λ z. Holds record { words = s.words; homes = s.homes; views = z }) (sym (set_again s.views id v is)) h)
 
   -- what a clear does where it reads 0, and where it does not
-  clear_goes : (lanes : List Lane) (split p : ℕ) (s : State S View) → Holds s → get_elem? s.views id ≡ some (Keeping lanes split) → (b : Bool) → (slice_index s.words (credit_word p) == 0) ≡ b
+  clear_goes : (lanes : List Lane) (split p : ℕ) (s : State S View) → Holds s → get_elem? s.views id ≡ some (Keeping lanes split) → (b : Bool)
+      → (slice_index s.words (credit_word p) == 0) ≡ b
       → (w : View) × (a : Act S) × Valid s.homes held a × Holds (stepped s (credit_word p) (slice_index s.words (credit_word p)) id held w a)
-      × MatchBool b (Becomes (Keeping lanes split, held) (on_lane (proc_of (credit_word p)) cleared (Keeping lanes split)) (w, carried_after held a)) (Becomes (Keeping lanes split, held) (Keeping lanes split) (w, carried_after held a))
+      × MatchBool b (Becomes (Keeping lanes split, held) (on_lane (proc_of (credit_word p)) cleared (Keeping lanes split)) (w, carried_after held a))
+      (Becomes (Keeping lanes split, held) (Keeping lanes split) (w, carried_after held a))
   clear_goes lanes split p s h is true e =
       let n : ℕ = slice_index s.words (credit_word p) in (
         on_lane p cleared (Keeping lanes split),
         keeps,
         tt,
         keeper_keeps s id h (credit_word p) n s.homes lanes split is p cleared (λ l. refl) (apart_credit p)
-            (λ b room a. agree_credit s.words p n (cleared (lane_at lanes p)) b room (agree_cleared (slice_index s.words (line_word p)) n (lane_at lanes p) b e a)),
+            (λ b room a. agree_credit s.words p n (cleared (lane_at lanes p)) b room
+            (agree_cleared (slice_index s.words (line_word p)) n (lane_at lanes p) b e a)),
         becomes_at cleared (Keeping lanes split) p (proc_of (credit_word p)) (proc_credit p),
       )
   clear_goes lanes split p s h is false e =
@@ -291,12 +303,14 @@ module _ {S : Type 0} (slots id : ℕ) (held : List (ℕ × S)) where
         refl,
       )
 
-  clear_keeps : (v : View) (p : ℕ) → IsKeeping v → Allows Holds slots id (v, held) (credit_word p) (λ n. n) (Clears (step slots (credit_word p) 0 0 none) (v, held))
+  clear_keeps : (v : View) (p : ℕ) → IsKeeping v
+      → Allows Holds slots id (v, held) (credit_word p) (λ n. n) (Clears (step slots (credit_word p) 0 0 none) (v, held))
   clear_keeps (Polling q own) p k = absurd k
   clear_keeps Spent p k = absurd k
   clear_keeps (Keeping lanes split) p k = λ s h len is fits. clear_goes lanes split p s h is (slice_index s.words (credit_word p) == 0) refl
 
-  poll_own : (q : ProcNo) (own : Polled) → Allows Holds slots id (Polling q own, held) (line_word q.0) (λ n. n) (Polls (step slots (line_word q.0) 0 0 none) (Polling q own, held))
+  poll_own : (q : ProcNo) (own : Polled)
+      → Allows Holds slots id (Polling q own, held) (line_word q.0) (λ n. n) (Polls (step slots (line_word q.0) 0 0 none) (Polling q own, held))
   poll_own q own = λ s h len is fits.
       let n : ℕ = slice_index s.words (line_word q.0) in (
         Polling q (polled n own),
@@ -307,13 +321,17 @@ module _ {S : Type 0} (slots id : ℕ) (held : List (ℕ × S)) where
         refl,
       )
 
-  poll_keeps : (v : View) (p : ℕ) → IsPollerOf v p → Allows Holds slots id (v, held) (line_word p) (λ n. n) (Polls (step slots (line_word p) 0 0 none) (v, held))
+  poll_keeps : (v : View) (p : ℕ) → IsPollerOf v p
+      → Allows Holds slots id (v, held) (line_word p) (λ n. n) (Polls (step slots (line_word p) 0 0 none) (v, held))
   poll_keeps (Keeping lanes split) p k = absurd k
   poll_keeps Spent p k = absurd k
-  poll_keeps (Polling q own) p k = subst (λ z. Allows Holds slots id (Polling q own, held) (line_word z) (λ n. n) (Polls (step slots (line_word z) 0 0 none) (Polling q own, held))) k (poll_own q own)
+  poll_keeps (Polling q own) p k =
+      subst (λ z. Allows Holds slots id (Polling q own, held) (line_word z) (λ n. n) (Polls (step slots (line_word z) 0 0 none) (Polling q own, held))) k
+      (poll_own q own)
 
   -- the number that is taken leaves room in the account
-  room_after : (q : ProcNo) (own : Polled) (n : ℕ) → 0 < n → (s : State S View) → Holds s → get_elem? s.views id ≡ some (Polling q own) → slice_index s.words (credit_word q.0) ≡ n → (applied n own.account).count ≤ MAX_EVENTS
+  room_after : (q : ProcNo) (own : Polled) (n : ℕ) → 0 < n → (s : State S View) → Holds s → get_elem? s.views id ≡ some (Polling q own)
+      → slice_index s.words (credit_word q.0) ≡ n → (applied n own.account).count ≤ MAX_EVENTS
   room_after q own n pos s h is found =
       let k = h.keeper in
       let size = (h.fits k.0 k.1 k.2 k.3).size in
@@ -324,9 +342,11 @@ module _ {S : Type 0} (slots id : ℕ) (held : List (ℕ × S)) where
       room_taken (slice_index s.words (line_word q.0)) n lane own pos (subst (λ z. Agree (slice_index s.words (line_word q.0)) z lane own) found a)
 
   -- what a take does where it finds the number, and where it does not
-  take_goes : (q : ProcNo) (own : Polled) (n : ℕ) → 0 < n → (s : State S View) → Holds s → get_elem? s.views id ≡ some (Polling q own) → (b : Bool) → (slice_index s.words (credit_word q.0) == n) ≡ b
+  take_goes : (q : ProcNo) (own : Polled) (n : ℕ) → 0 < n → (s : State S View) → Holds s → get_elem? s.views id ≡ some (Polling q own) → (b : Bool)
+      → (slice_index s.words (credit_word q.0) == n) ≡ b
       → (w : View) × (a : Act S) × Valid s.homes held a × Holds (stepped s (credit_word q.0) (either b 0 (slice_index s.words (credit_word q.0))) id held w a)
-      × MatchBool b (Becomes (Polling q own, held) (on_poller (taken n) (Polling q own)) (w, carried_after held a) × ((applied n own.account).count ≤ MAX_EVENTS)) (Becomes (Polling q own, held) (Polling q own) (w, carried_after held a))
+      × MatchBool b (Becomes (Polling q own, held) (on_poller (taken n) (Polling q own)) (w, carried_after held a)
+      × ((applied n own.account).count ≤ MAX_EVENTS)) (Becomes (Polling q own, held) (Polling q own) (w, carried_after held a))
   take_goes q own n pos s h is true e =
       let found : slice_index s.words (credit_word q.0) ≡ n = grind (arith, nat_tests, e) in (
         Polling q (taken n own),
@@ -345,34 +365,47 @@ module _ {S : Type 0} (slots id : ℕ) (held : List (ℕ × S)) where
     refl,
   )
 
-  take_keeps : (v : View) (p n : ℕ) → IsPollerOf v p → 0 < n → Allows Holds slots id (v, held) (credit_word p) (λ m. either (m == n) 0 m) (Takes (step slots (credit_word p) n 0 none) (v, held))
+  take_keeps : (v : View) (p n : ℕ) → IsPollerOf v p → 0 < n
+      → Allows Holds slots id (v, held) (credit_word p) (λ m. either (m == n) 0 m) (Takes (step slots (credit_word p) n 0 none) (v, held))
   take_keeps (Keeping lanes split) p n k pos = absurd k
   take_keeps Spent p n k pos = absurd k
   take_keeps (Polling q own) p n k pos =
-      subst (λ z. Allows Holds slots id (Polling q own, held) (credit_word z) (λ m. either (m == n) 0 m) (Takes (step slots (credit_word z) n 0 none) (Polling q own, held))) k
+      subst (λ z. Allows Holds slots id (Polling q own, held) (credit_word z) (λ m. either (m == n) 0 m)
+      (Takes (step slots (credit_word z) n 0 none) (Polling q own, held))) k
       (λ s h len is fits. take_goes q own n pos s h is (slice_index s.words (credit_word q.0) == n) refl)
 
   -- the same, with the place of the word as the code gives it
-  pub raise_allows : (v : View) (p e i : ℕ) → i ≡ line_word p → IsKeeping v → Allows Holds slots id (v, held) i (λ _. e + 1) (λ _. Raises (step slots i (e + 1) 0 none) (v, held) (e + 1))
-  raise_allows v p e i at_i k = subst (λ z. Allows Holds slots id (v, held) z (λ _. e + 1) (λ _. Raises (step slots z (e + 1) 0 none) (v, held) (e + 1))) (sym at_i) (raise_keeps v p e k)
+  pub raise_allows : (v : View) (p e i : ℕ) → i ≡ line_word p → IsKeeping v
+      → Allows Holds slots id (v, held) i (λ _. e + 1) (λ _. Raises (step slots i (e + 1) 0 none) (v, held) (e + 1))
+  raise_allows v p e i at_i k =
+      subst (λ z. Allows Holds slots id (v, held) z (λ _. e + 1) (λ _. Raises (step slots z (e + 1) 0 none) (v, held) (e + 1))) (sym at_i) (raise_keeps v p e k)
 
-  pub lower_allows : (v : View) (p i : ℕ) → i ≡ line_word p → IsKeeping v → Allows Holds slots id (v, held) i (λ _. 0) (λ _. Lowers (step slots i 0 0 none) (v, held) 0)
-  lower_allows v p i at_i k = subst (λ z. Allows Holds slots id (v, held) z (λ _. 0) (λ _. Lowers (step slots z 0 0 none) (v, held) 0)) (sym at_i) (lower_keeps v p k)
+  pub lower_allows : (v : View) (p i : ℕ) → i ≡ line_word p → IsKeeping v
+      → Allows Holds slots id (v, held) i (λ _. 0) (λ _. Lowers (step slots i 0 0 none) (v, held) 0)
+  lower_allows v p i at_i k =
+      subst (λ z. Allows Holds slots id (v, held) z (λ _. 0) (λ _. Lowers (step slots z 0 0 none) (v, held) 0)) (sym at_i) (lower_keeps v p k)
 
-  pub grant_allows : (v : View) (p n i : ℕ) → i ≡ credit_word p → MayGrant p n v → Allows Holds slots id (v, held) i (λ _. n) (λ _. Grants (step slots i n 0 none) (v, held) n)
-  grant_allows v p n i at_i may = subst (λ z. Allows Holds slots id (v, held) z (λ _. n) (λ _. Grants (step slots z n 0 none) (v, held) n)) (sym at_i) (grant_keeps v p n may)
+  pub grant_allows : (v : View) (p n i : ℕ) → i ≡ credit_word p → MayGrant p n v
+      → Allows Holds slots id (v, held) i (λ _. n) (λ _. Grants (step slots i n 0 none) (v, held) n)
+  grant_allows v p n i at_i may =
+      subst (λ z. Allows Holds slots id (v, held) z (λ _. n) (λ _. Grants (step slots z n 0 none) (v, held) n)) (sym at_i) (grant_keeps v p n may)
 
-  pub clear_allows : (v : View) (p i : ℕ) → i ≡ credit_word p → IsKeeping v → Allows Holds slots id (v, held) i (λ n. n) (Clears (step slots i 0 0 none) (v, held))
+  pub clear_allows : (v : View) (p i : ℕ) → i ≡ credit_word p → IsKeeping v
+      → Allows Holds slots id (v, held) i (λ n. n) (Clears (step slots i 0 0 none) (v, held))
   clear_allows v p i at_i k = subst (λ z. Allows Holds slots id (v, held) z (λ n. n) (Clears (step slots z 0 0 none) (v, held))) (sym at_i) (clear_keeps v p k)
 
-  pub poll_allows : (v : View) (p i : ℕ) → i ≡ line_word p → IsPollerOf v p → Allows Holds slots id (v, held) i (λ n. n) (Polls (step slots i 0 0 none) (v, held))
+  pub poll_allows : (v : View) (p i : ℕ) → i ≡ line_word p → IsPollerOf v p
+      → Allows Holds slots id (v, held) i (λ n. n) (Polls (step slots i 0 0 none) (v, held))
   poll_allows v p i at_i k = subst (λ z. Allows Holds slots id (v, held) z (λ n. n) (Polls (step slots z 0 0 none) (v, held))) (sym at_i) (poll_keeps v p k)
 
-  pub take_allows : (v : View) (p n i : ℕ) → i ≡ credit_word p → IsPollerOf v p → 0 < n → Allows Holds slots id (v, held) i (λ m. either (m == n) 0 m) (Takes (step slots i n 0 none) (v, held))
-  take_allows v p n i at_i k pos = subst (λ z. Allows Holds slots id (v, held) z (λ m. either (m == n) 0 m) (Takes (step slots z n 0 none) (v, held))) (sym at_i) (take_keeps v p n k pos)
+  pub take_allows : (v : View) (p n i : ℕ) → i ≡ credit_word p → IsPollerOf v p → 0 < n
+      → Allows Holds slots id (v, held) i (λ m. either (m == n) 0 m) (Takes (step slots i n 0 none) (v, held))
+  take_allows v p n i at_i k pos =
+      subst (λ z. Allows Holds slots id (v, held) z (λ m. either (m == n) 0 m) (Takes (step slots z n 0 none) (v, held))) (sym at_i) (take_keeps v p n k pos)
 
 -- the two words of a processor of the keeper are in the table
-pub words_inside : (table other : TableId) (v : View) (lanes : List Lane) (p : ℕ) → table ≡ other → lanes_of v ≡ lanes → KeepsWell table v → p < length lanes → credit_word p < other.words
+pub words_inside : (table other : TableId) (v : View) (lanes : List Lane) (p : ℕ) → table ≡ other → lanes_of v ≡ lanes → KeepsWell table v → p < length lanes
+    → credit_word p < other.words
 words_inside table other v lanes p own same well lt =
     let size = well.size in
     let words : table.words ≡ other.words = ap (λ (t : TableId). t.words) own in

@@ -53,9 +53,9 @@ AreBalanced credit lane account =
 
 -- a processor's two words, what the keeper knows of it, and what its poller knows
 pub record Agree (line credit : ℕ) (lane : Lane) (poller : Polled) : Type 0 where
-  -- the line word is what the keeper stored ..
+  -- the line word is what the keeper stored
   pub stored : line ≡ lane.line
-  -- .. which is 0, or says an event at which the keeper raised the line
+  -- the line word is 0, or says an event at which the keeper raised the line
   pub raised : IsLineOf lane.raised lane.line
   -- and so is every value that was polled
   pub polled : All (IsLineOf lane.raised) poller.read

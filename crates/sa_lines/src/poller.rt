@@ -105,7 +105,7 @@ impl Poller {
             .checked_sub(1)
     }
 
-    // Waits until the credit's number stands in the credit word, takes it from there, and applies
+    // Waits until the credit's number is in the credit word, takes it from there, and applies
     // it.
     pub(crate) fn take<R: Wait>(&mut self, rt: &R, words: &LineWords, what: Credit)
         requires own { self.old.table ≡ words.now }
@@ -138,7 +138,7 @@ fn try_take(seat: &mut Seat<u8, View>, words: &LineWords, p: ProcNo, number: u64
         == number
 }
 
-// Waits until the number stands in the credit word, and takes it from there.
+// Waits until the number is in the credit word, and takes it from there.
 fn take_number<R: Wait>(
     rt: &R,
     seat: &mut Seat<u8, View>,

@@ -23,7 +23,7 @@ module _ {U C : Type 0} (f : Calls U C) where
       subst (λ (n : ℕ). TurnsTo f w order budget n after) (sym (add-one k))
       (m, so_far, open_still, subst (λ (q : ℕ). IsMove f m (turn (proc_no q)) after) is made)
 
--- the schedule behind it
+-- the schedule after it
 pub schedule-more : (order : Order) (processors k : ℕ) (s t : Turns) → s ≡ turned_often (start order processors) k → t ≡ turned s
     → t ≡ turned_often (start order processors) (k + 1)
 schedule-more order processors k s t at is =

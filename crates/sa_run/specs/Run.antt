@@ -12,15 +12,15 @@ use Rattle.sa_core_model.specs.Run.Move.{turn}
 use Rattle.sa_core_model.specs.End.{end_of}
 
 module _ {U C : Type 0} (f : Calls U C) where
-  -- so many turns lead from the opening of the workload to the machine: the k-th is that of the order's k-th processor, and
-  -- none comes behind an end
+  -- that many turns lead from the opening of the workload to the machine: the k-th is that of the order's k-th processor, and
+  -- none comes after an end
   abbrev pub TurnsTo : WorkloadView → Order → ℕ → ℕ → Machine U C → Type 0
   TurnsTo w order budget zero m = m ≡ opening f w
   TurnsTo w order budget (suc k) m =
       (before : Machine U C) × TurnsTo w order budget k before × (end_of f budget before ≡ None)
       × IsMove f before (turn (proc_no (processor_at order w.processors (k + 1)))) m
 
-  -- the run of the workload ends so, behind so many events, and these are its items
+  -- the run of the workload ends so, after that many events, and these are its items
   pub record RunsTo (w : WorkloadView) (order : Order) (budget : ℕ) (items : List Item) (end : End) (events : ℕ) : Type 0 where
     pub machine : Machine U C
     pub turns : TurnsTo w order budget events machine

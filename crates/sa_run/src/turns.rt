@@ -19,7 +19,7 @@ pub struct Ended {
     pub events: u64,
 }
 
-/// Runs the workload by the order of turns until it ends, within so many events, 1 to 1,000,000. An error is want of
+/// Runs the workload by the order of turns until it ends, within `budget` events, 1 to 1,000,000. An error is want of
 /// memory, with the trace so far.
 pub fn run<U: UserLevel>(
     alloc: Global,

@@ -22,7 +22,8 @@ many-more : (code : List Instr) (n : ℕ) (spot : Spot) → after_many code (suc
 many-more code zero spot = refl
 many-more code (suc n) spot = many-more code n (after_one code spot)
 
-local-more : (code : List Instr) (n : ℕ) (spot : Spot) → AreLocal code n spot → local_answer (instr_at code (after_many code n spot).pc) ≡ Went → AreLocal code (suc n) spot
+local-more : (code : List Instr) (n : ℕ) (spot : Spot) → AreLocal code n spot → local_answer (instr_at code (after_many code n spot).pc) ≡ Went
+    → AreLocal code (suc n) spot
 local-more code zero spot all next = (next, tt)
 local-more code (suc n) spot all next = (all.0, local-more code n (after_one code spot) all.1 next)
 
@@ -54,14 +55,16 @@ pub record Advanced (w : WorkloadView) (copy next : SeatState) : Type 0 where
   pub next_is : next ≡ moved w 1 copy
   pub place : IsPlace w next
 
-ready-place : (w : WorkloadView) (copy next : SeatState) (code : List Instr) → IsPlace w copy → IsCode w code copy → next ≡ moved w 1 copy → IsReady code next → IsPlace w next
+ready-place : (w : WorkloadView) (copy next : SeatState) (code : List Instr) → IsPlace w copy → IsCode w code copy → next ≡ moved w 1 copy → IsReady code next
+    → IsPlace w next
 ready-place w (Local space thread program pc regs) next code place is same ready =
     let s = after_one (code_of w space program) (record { pc = pc; regs = regs }) in
     let here : s.pc < length code = subst (λ (x : SeatState). IsReady code x) same ready in
     subst (λ (x : SeatState). IsPlace w x) (sym same) (place.0, place.1, subst (λ (l : List Instr). s.pc < length l) is here)
 ready-place w Away next code place is same ready = absurd is
 
-pub advanced : (w : WorkloadView) (copy next : SeatState) (code : List Instr) (went : Bool) → IsPlace w copy → IsCode w code copy → IsAdvanced code copy went next → went ≡ true → Advanced w copy next
+pub advanced : (w : WorkloadView) (copy next : SeatState) (code : List Instr) (went : Bool) → IsPlace w copy → IsCode w code copy
+    → IsAdvanced code copy went next → went ≡ true → Advanced w copy next
 advanced w (Local space thread program pc regs) next code true place is adv e =
     let same : next ≡ moved w 1 (Local space thread program pc regs) =
     subst (λ (l : List Instr). next ≡ moved_by l) is adv.1 in record {
@@ -75,7 +78,8 @@ advanced w (Local space thread program pc regs) next code true place is adv e =
 advanced w (Local space thread program pc regs) next code false place is adv e = absurd (let z : false ≡ true = e in cc)
 advanced w Away next code went place is adv e = absurd is
 
-pub seat-stepped : (w : WorkloadView) (table : TableId) (s : SeatView) (next : SeatState) (q : PollerSeen) → IsSeatOf w table s → Advanced w s.copy next → s.pending < MAX_BURST
+pub seat-stepped : (w : WorkloadView) (table : TableId) (s : SeatView) (next : SeatState) (q : PollerSeen) → IsSeatOf w table s → Advanced w s.copy next
+    → s.pending < MAX_BURST
     → q.table ≡ s.poller.table → q.proc ≡ s.poller.proc → IsSeatOf w table (record { poller = q; start = s.start; copy = next; pending = s.pending + 1 })
 seat-stepped w table s next q is adv few same proc = record {
   of_table = same ∙ is.of_table;
@@ -146,24 +150,30 @@ not-away : (w : WorkloadView) (code : List Instr) (x : SeatState) → IsCode w c
 not-away w code (Local space thread program pc regs) is = λ e. absurd (let z = e in cc)
 not-away w code Away is = absurd is
 
-pub burst-limit : (w : WorkloadView) (code : List Instr) (limit : ℕ) (old s : SeatView) → Bursting w old s limit → IsCode w code old.copy → IsBurst w limit old Limit s
+pub burst-limit : (w : WorkloadView) (code : List Instr) (limit : ℕ) (old s : SeatView) → Bursting w old s limit → IsCode w code old.copy
+    → IsBurst w limit old Limit s
 burst-limit w code limit old s b is = record {
   few = (let e = b.pending in omega (arith, e));
   start = b.start;
   copy = b.copy ∙ ap (λ (k : ℕ). moved w k old.copy) (sym b.pending);
   local = subst (λ (k : ℕ). CanMove w k old.copy) (sym b.pending) b.local;
-  poller = b.poller ∙ ap (λ (l : List ℕ). record old.poller { read = l }) (ap (λ (k : ℕ). old.poller.read ++ zeros k) (sym b.pending) ∙ sym (append-none (old.poller.read ++ zeros s.pending)));
+  poller =
+      b.poller ∙ ap (λ (l : List ℕ). record old.poller { read = l })
+      (ap (λ (k : ℕ). old.poller.read ++ zeros k) (sym b.pending) ∙ sym (append-none (old.poller.read ++ zeros s.pending)));
   ends = (not-away w code old.copy is, b.pending);
 }
 
-pub burst-ends : (w : WorkloadView) (code : List Instr) (limit : ℕ) (old s next : SeatView) (i : ℕ) (end : BurstEnd) → Bursting w old s i → i < limit → IsCode w code old.copy
+pub burst-ends : (w : WorkloadView) (code : List Instr) (limit : ℕ) (old s next : SeatView) (i : ℕ) (end : BurstEnd) → Bursting w old s i → i < limit
+    → IsCode w code old.copy
     → IsStep w s (Some end) next → IsBurst w limit old end next
 burst-ends w code limit old s next i Shared b more is step = subst (λ (z : SeatView). IsBurst w limit old Shared z) (sym step.1) record {
   few = (let e = b.pending in omega (arith, e, more));
   start = b.start;
   copy = b.copy ∙ ap (λ (k : ℕ). moved w k old.copy) (sym b.pending);
   local = subst (λ (k : ℕ). CanMove w k old.copy) (sym b.pending) b.local;
-  poller = b.poller ∙ ap (λ (l : List ℕ). record old.poller { read = l }) (ap (λ (k : ℕ). old.poller.read ++ zeros k) (sym b.pending) ∙ sym (append-none (old.poller.read ++ zeros s.pending)));
+  poller =
+      b.poller ∙ ap (λ (l : List ℕ). record old.poller { read = l })
+      (ap (λ (k : ℕ). old.poller.read ++ zeros k) (sym b.pending) ∙ sym (append-none (old.poller.read ++ zeros s.pending)));
   ends = (not-away w code old.copy is, (let e = b.pending in omega (arith, e, more)), step.0);
 }
 burst-ends w code limit old s next i (Line e) b more is step = subst (λ (z : SeatView). IsBurst w limit old (Line e) z) (sym step.1) record {

@@ -12,7 +12,7 @@ use Rattle.sa_spaces.specs.Workload.{WorkloadView, IsWorkload}
 use Rattle.sa_instr.specs.declared.instr.Instr.{Instr}
 use Rattle.sa_abstract.specs.Calls.{Calls}
 use Rattle.sa_abstract.specs.Keeps.{Standing, Keeps, IsSeat}
-use Rattle.sa_abstract.specs.Walk.{Spot, AreLocal, after_one, program_at}
+use Rattle.sa_abstract.specs.Walk.{program_at}
 use Rattle.sa_abstract.specs.declared.answer.SeatState.{SeatState}
 use Rattle.sa_abstract.specs.declared.answer.SeatState.TheVariants.{Local, Away}
 use Rattle.sa_assign.specs.Reaim.{proc_no, line_at}
@@ -29,6 +29,7 @@ use Rattle.sa_core_model.proofs.Phases.{at-owned}
 use Rattle.sa_core_model.proofs.Calls.{value-at, mine}
 use Rattle.sa_core_model.proofs.Turns.{rests-turned}
 use Rattle.sa_core_model.proofs.Runs.{stands-opening, stands-move, local-is, rests-committed, can-go}
+use Rattle.sa_core.proofs.CoreLemmas.{fewer-local}
 use Rattle.sa_seat.specs.Chain.{Leads, IsChain, turns_in, turns_of, HasLine, line_item}
 use Rattle.sa_seat.specs.Seat.{IsPlace, CanMove}
 use Rattle.sa_seat.proofs.Lines.{Tells, tells-closed}
@@ -105,7 +106,7 @@ module _ {U C : Type 0} (f : Calls U C) (stands : Standing U C) (keep : Keeps f 
   moves-by m after (turn p) between made = moves-turn m after p between made.0 made.1
   moves-by m after (commit p n) between made = moves-commit m after p n between made.0 made.1
 
-  -- behind all of them
+  -- after all of them
   pub record Reached (w : WorkloadView) (moves : List Move) (m : Machine U C) : Type 0 where
     pub between : IsBetween stands m
     pub workload : m.workload ≡ w
@@ -121,7 +122,8 @@ module _ {U C : Type 0} (f : Calls U C) (stands : Standing U C) (keep : Keeps f 
         | inr new ↦ (omega (arith, new.0), subst (λ (i : ℕ). HasLine (opening f w).items i q) (sym new.0) new.1)
       ]
 
-  reached-from : (w : WorkloadView) (budget c : ℕ) (m after : Machine U C) (moves : List Move) (p : ℕ) → IsBetween stands m → m.workload ≡ w → AreSaid m → c ≤ m.event
+  reached-from : (w : WorkloadView) (budget c : ℕ) (m after : Machine U C) (moves : List Move) (p : ℕ) → IsBetween stands m → m.workload ≡ w → AreSaid m
+      → c ≤ m.event
       → Leads f budget m moves after → IsBetween stands after × (after.workload ≡ w) × AreSaid after × (c + turns_of p moves ≤ after.event)
   reached-from w budget c m after [] p between same said few leads =
       subst (λ (z : Machine U C). IsBetween stands z × (z.workload ≡ w) × AreSaid z × (c + 0 ≤ z.event)) (sym leads) (between, same, said, omega (arith, few))
@@ -129,7 +131,8 @@ module _ {U C : Type 0} (f : Calls U C) (stands : Standing U C) (keep : Keeps f 
       let next = leads.0 in
       let h = moves-by m next move between leads.2 in
       let some = turns-few p move in
-      let rest = reached-from w budget (c + turns_in p move) next after moves p (stands-move f stands keep m move next between leads.2) (h.workload ∙ same) (h.said said)
+      let rest = reached-from w budget (c + turns_in p move) next after moves p (stands-move f stands keep m move next between leads.2) (h.workload ∙ same)
+      (h.said said)
       (omega (arith, h.event, few, some)) leads.3 in
       (rest.0, rest.1, rest.2, omega (arith, rest.3))
 
@@ -139,8 +142,9 @@ module _ {U C : Type 0} (f : Calls U C) (stands : Standing U C) (keep : Keeps f 
       let h = go 0 in
       record { between = h.0; workload = h.1; said = h.2; count = λ p. (let z = (go p).3 in omega (arith, z)) }
 
-  -- where a context stands, it is in a program of the workload
-  seat-place : (w : WorkloadView) (s : SpaceNo) (def : SpaceView) (x : SeatState) → slice_get w.spaces s.0 ≡ Some def → s.0 < length w.spaces → IsSeat (setting w s.0 def) x → IsPlace w x
+  -- where a context is at an instruction, it is in a program of the workload
+  seat-place : (w : WorkloadView) (s : SpaceNo) (def : SpaceView) (x : SeatState) → slice_get w.spaces s.0 ≡ Some def → s.0 < length w.spaces
+      → IsSeat (setting w s.0 def) x → IsPlace w x
   seat-place w s def (Local space thread program pc regs) of within seat =
       let at : space.0 ≡ s.0 = ap (λ (z : SpaceNo). z.0) seat.0 in
       let here : slice_get w.spaces space.0 ≡ Some def = ap (λ (i : ℕ). slice_get w.spaces i) at ∙ of in
@@ -159,15 +163,12 @@ module _ {U C : Type 0} (f : Calls U C) (stands : Standing U C) (keep : Keeps f 
       go (Some s) owner =
           let st = between.standing in
           let here = at-owned f stands keep m.event m p s st owner in
-          let seat = (keep.seats (setting m.workload s.0 here.def) m.event here.user (contexts_of m s.0) here.act.0 here.ctx (value-at f stands keep m.event m p s st here) (mine f stands keep m.event m p s st here)).0 in
-          subst (λ (x : SeatState). IsPlace m.workload x) (sym (local-is f stands keep m p s here)) (seat-place m.workload s here.def (f.local here.user here.ctx) here.is_def (slice_get_within m.workload.spaces s.0 here.def here.is_def) seat)
+          let seat = (keep.seats (setting m.workload s.0 here.def) m.event here.user (contexts_of m s.0) here.act.0 here.ctx
+          (value-at f stands keep m.event m p s st here) (mine f stands keep m.event m p s st here)).0 in
+          subst (λ (x : SeatState). IsPlace m.workload x) (sym (local-is f stands keep m p s here))
+          (seat-place m.workload s here.def (f.local here.user here.ctx) here.is_def (slice_get_within m.workload.spaces s.0 here.def here.is_def) seat)
 
 -- a burst that can be committed
-
-fewer-local : (code : List Instr) (n k : ℕ) (spot : Spot) → k ≤ n → AreLocal code n spot → AreLocal code k spot
-fewer-local code n zero spot few all = tt
-fewer-local code zero (suc k) spot few all = absurd (omega (arith, few))
-fewer-local code (suc n) (suc k) spot few all = (all.0, fewer-local code n k (after_one code spot) (omega (arith, few)) all.1)
 
 next-fewer : (w : WorkloadView) (n k : ℕ) (x : SeatState) → k ≤ n → AreNextLocal w n x → AreNextLocal w k x
 next-fewer w n k (Local space thread program pc regs) few next =
@@ -179,7 +180,8 @@ move-next w n (Local space thread program pc regs) some can = can
 move-next w n Away some can = absurd (omega (arith, some, can))
 
 slice-left : (n left slice event : ℕ) (b : Bool) → (slice == 0) ≡ b
-    → (if b then (if b then min n left else min (min n left) (slice - event % slice)) else min (if b then min n left else min (min n left) (slice - event % slice)) (slice - event % slice))
+    → (if b then (if b then min n left else min (min n left) (slice - event % slice))
+    else min (if b then min n left else min (min n left) (slice - event % slice)) (slice - event % slice))
     ≡ (if b then min n left else min (min n left) (slice - event % slice))
 slice-left n left slice event true is = refl
 slice-left n left slice event false is = omega arith
@@ -189,7 +191,8 @@ pub record Commits {U C : Type 0} (f : Calls U C) (m : Machine U C) (p : ProcNo)
   pub few : k ≤ n
   pub within : m.event + k ≤ budget
 
-pub commits : {U C : Type 0} (f : Calls U C) (m : Machine U C) (p : ProcNo) (n budget k : ℕ) → k ≡ committable budget m n → 1 ≤ k → m.event < budget → budget ≤ MAX_EVENTS
+pub commits : {U C : Type 0} (f : Calls U C) (m : Machine U C) (p : ProcNo) (n budget k : ℕ) → k ≡ committable budget m n → 1 ≤ k → m.event < budget
+    → budget ≤ MAX_EVENTS
     → line_of m.kernel p ≡ None → AreNextLocal m.workload n (local_on f m p) → Commits f m p n budget k
 commits f m p n budget k is some left most low next =
     let b = m.workload.slice == 0 in

@@ -67,8 +67,10 @@ join-begins all keeper places = record {
   counts = length-zeros places;
 }
 
-module _ (all left rest : List SeatView) (s : SeatView) (old new next : KeeperSeen) (turns after : List ℕ) (places : ℕ) (joining : Joining all left old new turns places)
-    (popped : left ≡ rest ++ s ∷ []) (inside : length all ≤ length old.lanes) (room : length all ≤ places) (in_order : (p : ℕ) (x : SeatView) → slice_get all p ≡ Some x → x.poller.proc.0 ≡ p)
+module _ (all left rest : List SeatView) (s : SeatView) (old new next : KeeperSeen) (turns after : List ℕ) (places : ℕ)
+    (joining : Joining all left old new turns places)
+    (popped : left ≡ rest ++ s ∷ []) (inside : length all ≤ length old.lanes) (room : length all ≤ places) (in_order : (p : ℕ) (x : SeatView)
+    → slice_get all p ≡ Some x → x.poller.proc.0 ≡ p)
     (joins : next ≡ with_poller s.poller new) (counts : after ≡ slice_set turns s.poller.proc.0 s.poller.account.count) where
   left-size : length left ≡ length rest + 1
   left-size = rw popped (length-append rest (s ∷ []))
@@ -84,8 +86,10 @@ module _ (all left rest : List SeatView) (s : SeatView) (old new next : KeeperSe
 
   lane-own : lane_at next.lanes (length rest) ≡ joined_with (known s) (lane_at new.lanes (length rest))
   lane-own = ap (λ (k : KeeperSeen). lane_at k.lanes (length rest)) joins
-      ∙ subst (λ (q : ℕ). lane_at (changed q (joined_with (known s)) new.lanes) (length rest) ≡ joined_with (known s) (lane_at new.lanes (length rest))) (sym place)
-      (lane_here (length rest) (joined_with (known s)) new.lanes (let a = joining.size in let b = joining.few in let c = left-size in omega (arith, a, b, c, inside)))
+      ∙ subst (λ (q : ℕ). lane_at (changed q (joined_with (known s)) new.lanes) (length rest)
+      ≡ joined_with (known s) (lane_at new.lanes (length rest))) (sym place)
+      (lane_here (length rest) (joined_with (known s)) new.lanes (let a = joining.size in let b = joining.few in let c = left-size in
+      omega (arith, a, b, c, inside)))
 
   count-next : (p : ℕ) → p ≢ length rest → count_at after p ≡ count_at turns p
   count-next p apart = ap (λ (l : List ℕ). count_at l p) counts ∙ get_or-set_other turns s.poller.proc.0 p s.poller.account.count 0 (λ e. apart (e ∙ place))
@@ -93,7 +97,8 @@ module _ (all left rest : List SeatView) (s : SeatView) (old new next : KeeperSe
   count-own : count_at after (length rest) ≡ s.poller.account.count
   count-own = ap (λ (l : List ℕ). count_at l (length rest)) counts
       ∙ subst (λ (q : ℕ). get_or (slice_set turns q s.poller.account.count) (length rest) 0 ≡ s.poller.account.count) (sym place)
-      (get_or-set_same turns (length rest) s.poller.account.count 0 (let a = joining.counts in let b = joining.few in let c = left-size in omega (arith, a, b, c, room)))
+      (get_or-set_same turns (length rest) s.poller.account.count 0 (let a = joining.counts in let b = joining.few in let c = left-size in
+      omega (arith, a, b, c, room)))
 
   pub join-next : Joining all rest old next after places
   join-next = record {
@@ -101,20 +106,34 @@ module _ (all left rest : List SeatView) (s : SeatView) (old new next : KeeperSe
     size = ap (λ (k : KeeperSeen). length k.lanes) joins ∙ length_changed s.poller.proc.0 (joined_with (known s)) new.lanes ∙ joining.size;
     lanes = λ p. elim (cases_eq p (length rest)) [
       | inl own ↦ subst (λ (q : ℕ). IsSameLane (lane_at old.lanes q) (lane_at next.lanes q)) (sym own)
-          (subst (λ (l : Lane). IsSameLane (lane_at old.lanes (length rest)) l) (sym lane-own) record { account = (joining.lanes (length rest)).account; raised = (joining.lanes (length rest)).raised })
+          (subst (λ (l : Lane). IsSameLane (lane_at old.lanes (length rest)) l) (sym lane-own) record {
+            account = (joining.lanes (length rest)).account;
+            raised = (joining.lanes (length rest)).raised;
+          })
       | inr apart ↦ subst (λ (l : Lane). IsSameLane (lane_at old.lanes p) l) (sym (lane-next p apart)) (joining.lanes p)
     ];
     few = (let a = joining.few in let b = left-size in omega (arith, a, b));
-    part = λ p x e. joining.part p x (ap (λ (l : List SeatView). slice_get l p) popped ∙ slice_get-append_left rest (s ∷ []) p (slice_get_within rest p x e) ∙ e);
+    part =
+        λ p x e. joining.part p x (ap (λ (l : List SeatView). slice_get l p) popped ∙ slice_get-append_left rest (s ∷ []) p (slice_get_within rest p x e) ∙ e);
     over = λ p x e. elim (joining.over p x e) [
       | inl still ↦ elim (slice_get-push_cases rest p s x (ap (λ (l : List SeatView). slice_get l p) (sym popped) ∙ still)) [
-        | inl last ↦ inr (subst (λ (q : ℕ). (length rest ≤ q) × ((lane_at next.lanes q).joined ≡ Some (known x)) × (count_at after q ≡ x.poller.account.count)) (sym last.0)
-            (omega arith, ap (λ (l : Lane). l.joined) lane-own ∙ ap (λ (z : SeatView). Some (known z)) (sym last.1), count-own ∙ ap (λ (z : SeatView). z.poller.account.count) (sym last.1)))
+        | inl last ↦ inr (subst (λ (q : ℕ). (length rest ≤ q) × ((lane_at next.lanes q).joined ≡ Some (known x))
+            × (count_at after q ≡ x.poller.account.count)) (sym last.0) (
+              omega arith,
+              ap (λ (l : Lane). l.joined) lane-own ∙ ap (λ (z : SeatView). Some (known z)) (sym last.1),
+              count-own
+                  ∙ ap (λ (z : SeatView). z.poller.account.count) (sym last.1),
+            ))
         | inr before ↦ inl before
       ]
       | inr done ↦
           let apart : p ≢ length rest = λ q. absurd (let a = left-size in let b = done.0 in omega (arith, a, b, q)) in
-          inr ((let a = left-size in let b = done.0 in omega (arith, a, b)), ap (λ (l : Lane). l.joined) (lane-next p apart) ∙ done.1, count-next p apart ∙ done.2)
+          inr (
+            (let a = left-size in let b = done.0 in omega (arith, a, b)),
+            ap (λ (l : Lane). l.joined) (lane-next p apart)
+                ∙ done.1,
+            count-next p apart ∙ done.2,
+          )
     ];
     none = λ p le.
         let apart : p ≢ length rest = λ q. absurd (let a = left-size in let b = joining.few in omega (arith, a, b, q, le)) in
@@ -122,7 +141,8 @@ module _ (all left rest : List SeatView) (s : SeatView) (old new next : KeeperSe
     counts = ap (λ (l : List ℕ). length l) counts ∙ length-set turns s.poller.proc.0 s.poller.account.count ∙ joining.counts;
   }
 
-pub join-ends : (all left : List SeatView) (old new : KeeperSeen) (turns : List ℕ) (places n : ℕ) → Joining all left old new turns places → length left ≡ 0 → length all ≡ n
+pub join-ends : (all left : List SeatView) (old new : KeeperSeen) (turns : List ℕ) (places n : ℕ) → Joining all left old new turns places → length left ≡ 0
+    → length all ≡ n
     → AreJoined n all old new turns
 join-ends all left old new turns places n joining gone same = record {
   table_is = joining.table_is;
@@ -138,11 +158,14 @@ join-ends all left old new turns places n joining gone same = record {
 settled-at : (lanes : List Lane) (p : ℕ) (q : Polled) → All IsSettled lanes → p < length lanes → (lane_at lanes p).joined ≡ Some q
     → (q.account ≡ (lane_at lanes p).account) × All (IsLineOf (lane_at lanes p).raised) q.read
 settled-at lanes p q all lt is =
-    subst (λ (o : Option Polled). MatchOption o (Unit {0}) (λ poller. (poller.account ≡ (lane_at lanes p).account) × All (IsLineOf (lane_at lanes p).raised) poller.read)) is (all p _ lt)
+    subst (λ (o : Option Polled). MatchOption o (Unit {0})
+    (λ poller. (poller.account ≡ (lane_at lanes p).account) × All (IsLineOf (lane_at lanes p).raised) poller.read)) is (all p _ lt)
 
-module _ {U C : Type 0} (f : Calls U C) (w : WorkloadView) (table : TableId) (budget : ℕ) (core : CoreView U C) (lines : List (Option ℕ)) (keeper new : KeeperSeen) (locked : IsLocked f budget w table core lines keeper)
+module _ {U C : Type 0} (f : Calls U C) (w : WorkloadView) (table : TableId) (budget : ℕ) (core : CoreView U C) (lines : List (Option ℕ))
+    (keeper new : KeeperSeen) (locked : IsLocked f budget w table core lines keeper)
     (seats : List SeatView) (turns : List ℕ) (are : AreSeats w.processors seats) (joined : AreJoined w.processors seats keeper new turns)
-    (settled : All IsSettled new.lanes) (closed : ClosedView) (items : closed.items ≡ (machine core).items) (ends : closed.end ≡ end_of f core.budget (machine core)) (told : closed.turns ≡ turns) where
+    (settled : All IsSettled new.lanes) (closed : ClosedView) (items : closed.items ≡ (machine core).items)
+    (ends : closed.end ≡ end_of f core.budget (machine core)) (told : closed.turns ≡ turns) where
   inside : (p : ℕ) (s : SeatView) → slice_get seats p ≡ Some s → p < w.processors
   inside p s e = (let a = slice_get_within seats p s e in let b = are.0 in omega (arith, a, b))
 
@@ -164,7 +187,8 @@ module _ {U C : Type 0} (f : Calls U C) (w : WorkloadView) (table : TableId) (bu
         | inr some ↦
             let same : some.0 ≡ e = (let z = some.2 in omega (arith, z)) in
             subst (λ (i : List Item). HasLine i e p) (sym items)
-            ((locked.kept.each p lt).raised e (subst (λ (l : List ℕ). Contains l e) (joined.lanes p).raised (subst (λ (k : ℕ). Contains (lane_at new.lanes p).raised k) same some.1)))
+            ((locked.kept.each p lt).raised e
+            (subst (λ (l : List ℕ). Contains l e) (joined.lanes p).raised (subst (λ (k : ℕ). Contains (lane_at new.lanes p).raised k) same some.1)))
       ]
 
   is-over : (p : ℕ) (s : SeatView) → slice_get seats p ≡ Some s → IsOver closed p s

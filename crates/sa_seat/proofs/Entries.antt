@@ -19,7 +19,8 @@ module _ {U C : Type 0} (f : Calls U C) (budget : ℕ) (m : Machine U C) (s : Se
       go zero e = absurd (omega (arith, e, some))
       go (suc k) e = is
 
-  events-fit : (k n : ℕ) (after : Machine U C) → k ≡ s.pending → IsEvents f budget m s k n after → (1 ≤ n) × (s.pending ≡ 0 → n ≡ 1) × (0 < s.pending → n ≤ s.pending)
+  events-fit : (k n : ℕ) (after : Machine U C) → k ≡ s.pending → IsEvents f budget m s k n after
+      → (1 ≤ n) × (s.pending ≡ 0 → n ≡ 1) × (0 < s.pending → n ≤ s.pending)
   events-fit zero n after e is = (let z = is.one in omega (arith, z), (λ none. is.one), λ some. absurd (omega (arith, e, some)))
   events-fit (suc k) n after e is = (is.some, (λ none. absurd (omega (arith, e, none))), λ some. is.few)
 

@@ -106,7 +106,8 @@ module _ {U C : Type 0} (f : Calls U C) where
       let one = kernel_entered p a entry m in
       says-again m one _ (says-kernel_entered p a entry m) (says-answered_in p (owner_of one.kernel p) one)
 
-  says-blocked_by : (p : ProcNo) (a : ActNo) (len : ℕ) (page : Option ℕ) (held : Option (Stopped C)) (m : Machine U C) → Says m (blocked_by f p a len page held m)
+  says-blocked_by : (p : ProcNo) (a : ActNo) (len : ℕ) (page : Option ℕ) (held : Option (Stopped C)) (m : Machine U C)
+      → Says m (blocked_by f p a len page held m)
   says-blocked_by p a len page None m = says-self m
   says-blocked_by p a len page (Some held) m = says-entered_on p a (BlockEntry held len page) m
 
@@ -143,7 +144,8 @@ module _ {U C : Type 0} (f : Calls U C) where
       says-again m (without_context p m) _ (says-without p m) (says-entered_on p a (Interrupt (stopped_in f m p (owner_of m.kernel p))) (without_context p m))
 
   -- a turn is an event by itself
-  pub tells-turned : (p : ProcNo) (a : ActNo) (m : Machine U C) → ((turned f p a m).event ≡ m.event + 1) × Tells (m.event + 1) (scene_of m) (scene_of (turned f p a m))
+  pub tells-turned : (p : ProcNo) (a : ActNo) (m : Machine U C)
+      → ((turned f p a m).event ≡ m.event + 1) × Tells (m.event + 1) (scene_of m) (scene_of (turned f p a m))
   tells-turned p a m =
       let n = next_event m in
       let h = says-turned_raised p a _ n in
@@ -167,14 +169,16 @@ module _ {U C : Type 0} (f : Calls U C) where
   tells-more_events : (e n : ℕ) (m : Machine U C) → Tells e (scene_of m) (scene_of (more_events n m))
   tells-more_events e zero m = tells-same e (scene_of m) (scene_of m) refl refl
   tells-more_events e (suc n) m =
-      tells-again e (scene_of m) (scene_of (next_event m)) _ (tells-same e (scene_of m) (scene_of (next_event m)) refl refl) (tells-more_events e n (next_event m))
+      tells-again e (scene_of m) (scene_of (next_event m)) _ (tells-same e (scene_of m) (scene_of (next_event m)) refl refl)
+      (tells-more_events e n (next_event m))
 
   -- nothing but the closing raises a line in a commit
   tells-any : (d e : ℕ) (m after : Machine U C) → ((q k : ℕ) → line_at after.kernel.assign.lines q ≡ Some k → line_at m.kernel.assign.lines q ≡ Some k)
       → Tells d (scene_of m) (scene_of after) → Tells e (scene_of m) (scene_of after)
   tells-any d e m after same h = record { kept = h.kept; raised = λ q k is. inl (same q k is) }
 
-  lines-gone_by : (p : ProcNo) (s : SpaceNo) (seen : Seen) (n : ℕ) (u : Option U) (c : Option C) (m : Machine U C) → (gone_by f p s seen n u c m).kernel ≡ m.kernel
+  lines-gone_by : (p : ProcNo) (s : SpaceNo) (seen : Seen) (n : ℕ) (u : Option U) (c : Option C) (m : Machine U C)
+      → (gone_by f p s seen n u c m).kernel ≡ m.kernel
   lines-gone_by p s seen n None c m = refl
   lines-gone_by p s seen n (Some u) None m = refl
   lines-gone_by p s seen n (Some u) (Some c) m = refl
@@ -197,8 +201,10 @@ module _ {U C : Type 0} (f : Calls U C) where
       λ q k is. ap (λ (l : KernelState C). line_at l.assign.lines q) (sym (lines-gone_in p (suc n) o first)) ∙ is in
       let end = says-sliced p all in
       let one : Tells e (scene_of m) (scene_of first) = tells-same e (scene_of m) (scene_of first) refl refl in
-      let two : Tells e (scene_of m) (scene_of went) = tells-again e (scene_of m) (scene_of first) (scene_of went) one (tells-any first.event e first went same goes.tells) in
+      let two : Tells e (scene_of m) (scene_of went) =
+      tells-again e (scene_of m) (scene_of first) (scene_of went) one (tells-any first.event e first went same goes.tells) in
       let three : Tells e (scene_of m) (scene_of all) = tells-again e (scene_of m) (scene_of went) (scene_of all) two (tells-more_events e n went) in (
         end.event ∙ at,
-        tells-again e (scene_of m) (scene_of all) (scene_of (sliced p all)) three (subst (λ (i : ℕ). Tells i (scene_of all) (scene_of (sliced p all))) at end.tells),
+        tells-again e (scene_of m) (scene_of all) (scene_of (sliced p all)) three
+            (subst (λ (i : ℕ). Tells i (scene_of all) (scene_of (sliced p all))) at end.tells),
       )

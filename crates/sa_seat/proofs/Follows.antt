@@ -41,7 +41,7 @@ set-follows (Some e) lane = record {
 }
 
 module _ {C : Type 0} (k : KernelState C) where
-  -- the lines of so many processors were followed
+  -- the lines of the first i processors were followed
   pub record Following (i : ℕ) (old new : KeeperSeen) (before lines : List (Option ℕ)) : Type 0 where
     pub table_is : new.table ≡ old.table
     pub size : length new.lanes ≡ length old.lanes
@@ -59,7 +59,8 @@ module _ {C : Type 0} (k : KernelState C) where
   }
 
   -- a line that is as it was stored
-  follow-same : (i : ℕ) (old new : KeeperSeen) (before lines after : List (Option ℕ)) (line : Option ℕ) → Following i old new before lines → AreStored before old.lanes → i < length old.lanes
+  follow-same : (i : ℕ) (old new : KeeperSeen) (before lines after : List (Option ℕ)) (line : Option ℕ) → Following i old new before lines
+      → AreStored before old.lanes → i < length old.lanes
       → i < length lines → line ≡ line_of k (proc_no i) → line ≡ line_at lines i → after ≡ slice_set lines i line → Following (i + 1) old new before after
   follow-same i old new before lines after line f stored within inside is same put =
       subst (λ (z : List (Option ℕ)). Following (i + 1) old new before z) (sym put) record {
@@ -67,7 +68,8 @@ module _ {C : Type 0} (k : KernelState C) where
         size = f.size;
         places = length-set lines i line ∙ f.places;
         done = λ p lt. elim (cases_eq p i) [
-          | inl here ↦ subst (λ (q : ℕ). (line_at (slice_set lines i line) q ≡ line_of k (proc_no q)) × IsFollowed (line_of k (proc_no q)) (lane_at old.lanes q) (lane_at new.lanes q)) (sym here)
+          | inl here ↦ subst (λ (q : ℕ). (line_at (slice_set lines i line) q ≡ line_of k (proc_no q))
+              × IsFollowed (line_of k (proc_no q)) (lane_at old.lanes q) (lane_at new.lanes q)) (sym here)
               (let l = f.left i (omega arith) in (
                 get_or-set_same lines i line None inside ∙ is,
                 subst (λ (z : Lane). IsFollowed (line_of k (proc_no i)) (lane_at old.lanes i) z) (sym l.0) record {
@@ -85,7 +87,8 @@ module _ {C : Type 0} (k : KernelState C) where
       }
 
   -- a line that is stored
-  follow-store : (i : ℕ) (old new next : KeeperSeen) (before lines after : List (Option ℕ)) (line : Option ℕ) → Following i old new before lines → i < length old.lanes → i < length lines
+  follow-store : (i : ℕ) (old new next : KeeperSeen) (before lines after : List (Option ℕ)) (line : Option ℕ) → Following i old new before lines
+      → i < length old.lanes → i < length lines
       → line ≡ line_of k (proc_no i) → next ≡ set_at i line new → after ≡ slice_set lines i line → Following (i + 1) old next before after
   follow-store i old new next before lines after line f within inside is made put =
       subst (λ (z : KeeperSeen). Following (i + 1) old z before after) (sym made)
@@ -94,15 +97,21 @@ module _ {C : Type 0} (k : KernelState C) where
         size = set-size i line new ∙ f.size;
         places = length-set lines i line ∙ f.places;
         done = λ p lt. elim (cases_eq p i) [
-          | inl here ↦ subst (λ (q : ℕ). (line_at (slice_set lines i line) q ≡ line_of k (proc_no q)) × IsFollowed (line_of k (proc_no q)) (lane_at old.lanes q) (lane_at (set_at i line new).lanes q)) (sym here) (
-            get_or-set_same lines i line None inside ∙ is,
-            subst (λ (z : Lane). IsFollowed (line_of k (proc_no i)) (lane_at old.lanes i) z) (sym (set-here i line new (let z = f.size in omega (arith, within, z))))
-                (subst (λ (o : Option ℕ). IsFollowed o (lane_at old.lanes i) (set_lane line (lane_at new.lanes i))) is
-                (subst (λ (z : Lane). IsFollowed line z (set_lane line (lane_at new.lanes i))) (f.left i (omega arith)).0 (set-follows line (lane_at new.lanes i)))),
-          )
+          | inl here ↦ subst (λ (q : ℕ). (line_at (slice_set lines i line) q ≡ line_of k (proc_no q))
+              × IsFollowed (line_of k (proc_no q)) (lane_at old.lanes q) (lane_at (set_at i line new).lanes q)) (sym here) (
+                get_or-set_same lines i line None inside ∙ is,
+                subst (λ (z : Lane). IsFollowed (line_of k (proc_no i)) (lane_at old.lanes i) z)
+                    (sym (set-here i line new (let z = f.size in omega (arith, within, z))))
+                    (subst (λ (o : Option ℕ). IsFollowed o (lane_at old.lanes i) (set_lane line (lane_at new.lanes i))) is
+                    (subst (λ (z : Lane). IsFollowed line z (set_lane line (lane_at new.lanes i))) (f.left i (omega arith)).0
+                    (set-follows line (lane_at new.lanes i)))),
+              )
           | inr apart ↦
-              let h = f.done p (omega (arith, lt, apart)) in
-              (get_or-set_other lines i p line None apart ∙ h.0, subst (λ (z : Lane). IsFollowed (line_of k (proc_no p)) (lane_at old.lanes p) z) (sym (set-else i p line new apart)) h.1)
+              let h = f.done p (omega (arith, lt, apart)) in (
+                get_or-set_other lines i p line None apart
+                    ∙ h.0,
+                subst (λ (z : Lane). IsFollowed (line_of k (proc_no p)) (lane_at old.lanes p) z) (sym (set-else i p line new apart)) h.1,
+              )
         ];
         left = λ p le.
             let apart : p ≢ i = λ e. absurd (omega (arith, le, e)) in
@@ -110,10 +119,13 @@ module _ {C : Type 0} (k : KernelState C) where
             (set-else i p line new apart ∙ h.0, get_or-set_other lines i p line None apart ∙ h.1);
       })
 
-  pub follow-next : (i : ℕ) (old new next : KeeperSeen) (before lines after : List (Option ℕ)) (line : Option ℕ) → Following i old new before lines → AreStored before old.lanes → i < length old.lanes
-      → i < length lines → line ≡ line_of k (proc_no i) → IsStored i (line_at lines i) line new next → after ≡ slice_set lines i line → Following (i + 1) old next before after
+  pub follow-next : (i : ℕ) (old new next : KeeperSeen) (before lines after : List (Option ℕ)) (line : Option ℕ) → Following i old new before lines
+      → AreStored before old.lanes → i < length old.lanes
+      → i < length lines → line ≡ line_of k (proc_no i) → IsStored i (line_at lines i) line new next → after ≡ slice_set lines i line
+      → Following (i + 1) old next before after
   follow-next i old new next before lines after line f stored within inside is store put = elim store [
-    | inl same ↦ subst (λ (z : KeeperSeen). Following (i + 1) old z before after) (sym same.1) (follow-same i old new before lines after line f stored within inside is same.0 put)
+    | inl same ↦ subst (λ (z : KeeperSeen). Following (i + 1) old z before after) (sym same.1)
+        (follow-same i old new before lines after line f stored within inside is same.0 put)
     | inr made ↦ follow-store i old new next before lines after line f within inside is made put
   ]
 

@@ -20,7 +20,8 @@ fresh-at table (suc n) k x is = elim (slice_get-push_cases (fresh_pollers table 
   | inr before ↦ let h = fresh-at table n k x before in (h.0, (let z = h.1 in omega (arith, z)))
 ]
 
-drop-next : (xs : List PollerSeen) (n : ℕ) (y : PollerSeen) (ys : List PollerSeen) → drop n xs ≡ y ∷ ys → (slice_get xs n ≡ Some y) × (drop (n + 1) xs ≡ ys) × (n < length xs)
+drop-next : (xs : List PollerSeen) (n : ℕ) (y : PollerSeen) (ys : List PollerSeen) → drop n xs ≡ y ∷ ys
+    → (slice_get xs n ≡ Some y) × (drop (n + 1) xs ≡ ys) × (n < length xs)
 drop-next [] zero y ys e = absurd cc
 drop-next [] (suc n) y ys e = absurd cc
 drop-next (x ∷ xs) zero y ys e = (cc, cc, omega arith)
@@ -31,14 +32,16 @@ pub record Next (xs rest : List PollerSeen) (n : ℕ) (x : PollerSeen) : Type 0 
   pub rest_is : rest ≡ drop (n + 1) xs
   pub within : n < length xs
 
-pub next-poller : (xs ps rest : List PollerSeen) (n : ℕ) (x : PollerSeen) → ps ≡ drop n xs → 0 < length ps → x ≡ get_or ps 0 x → rest ≡ remove ps 0 → Next xs rest n x
+pub next-poller : (xs ps rest : List PollerSeen) (n : ℕ) (x : PollerSeen) → ps ≡ drop n xs → 0 < length ps → x ≡ get_or ps 0 x → rest ≡ remove ps 0
+    → Next xs rest n x
 next-poller xs [] rest n x e some v r = absurd (omega (arith, some))
 next-poller xs (y ∷ ys) rest n x e some v r =
     let d = drop-next xs n y ys (sym e) in
     let same : x ≡ y = v in record { at = d.0 ∙ ap Some (sym same); rest_is = r ∙ sym d.1; within = d.2 }
 
 pub next-seat : (table : TableId) (seats after : List SeatView) (s : SeatView) → after ≡ seats ++ s ∷ [] → s ≡ fresh_seat table (length seats)
-    → ((p : ℕ) (t : SeatView) → slice_get seats p ≡ Some t → t ≡ fresh_seat table p) → (p : ℕ) (t : SeatView) → slice_get after p ≡ Some t → t ≡ fresh_seat table p
+    → ((p : ℕ) (t : SeatView) → slice_get seats p ≡ Some t → t ≡ fresh_seat table p) → (p : ℕ) (t : SeatView) → slice_get after p ≡ Some t
+    → t ≡ fresh_seat table p
 next-seat table seats after s is fresh each p t at = elim (slice_get-push_cases seats p s t (ap (λ (l : List SeatView). slice_get l p) (sym is) ∙ at)) [
   | inl last ↦ last.1 ∙ fresh ∙ ap (fresh_seat table) (sym last.0)
   | inr before ↦ each p t before

@@ -108,13 +108,18 @@ module _ {C : Type 0} where
   }
 
   -- a line is raised, with its record
-  tells-line : (e q : ℕ) (p : ProcNo) (x y : Scene C) → y.items ≡ x.items ++ line_item e p q ∷ [] → y.state.assign.lines ≡ slice_set x.state.assign.lines q (Some e) → Tells e x y
+  tells-line : (e q : ℕ) (p : ProcNo) (x y : Scene C) → y.items ≡ x.items ++ line_item e p q ∷ []
+      → y.state.assign.lines ≡ slice_set x.state.assign.lines q (Some e) → Tells e x y
   tells-line e q p x y items ls = record {
     kept = λ i h. subst (λ (is : List Item). Contains is i) (sym items) (Contains-append_left x.items (line_item e p q ∷ []) i h);
     raised = λ r k is. elim (set-cases x.state.assign.lines q r (Some e)) [
       | inl at ↦ inr (
         same_Some k e (sym is ∙ ap (λ (l : List (Option ℕ)). line_at l r) ls ∙ at.1),
-        (p, subst (λ (i : Item). Contains y.items i) (ap (λ (n : ℕ). line_item e p n) (sym at.0)) (subst (λ (is : List Item). Contains is (line_item e p q)) (sym items) (Contains-push x.items (line_item e p q)))),
+        (
+          p,
+          subst (λ (i : Item). Contains y.items i) (ap (λ (n : ℕ). line_item e p n) (sym at.0))
+              (subst (λ (is : List Item). Contains is (line_item e p q)) (sym items) (Contains-push x.items (line_item e p q))),
+        ),
       )
       | inr other ↦ inl (sym other ∙ ap (λ (l : List (Option ℕ)). line_at l r) (sym ls) ∙ is)
     ];
@@ -177,7 +182,8 @@ module _ {C : Type 0} where
       let first : List Item = record { event = e; proc = p; what = Move owner None } ∷ [] in
       let second : List Item = record { event = e; proc = p; what = Aim p None } ∷ [] in
       let left : Scene C = record { state = without_aim p (with_owner p None x.state); items = (x.items ++ first) ++ second } in
-      tells-again e x left (leave e p s x) (tells-more e x left (first ++ second) (append_assoc x.items first second) refl) (tells-fetch_page e p s (is_fetching left.state s.0) left)
+      tells-again e x left (leave e p s x) (tells-more e x left (first ++ second) (append_assoc x.items first second) refl)
+      (tells-fetch_page e p s (is_fetching left.state s.0) left)
 
   tells-upcall : (e : ℕ) (p : ProcNo) (s : SpaceNo) (a : ActNo) (added : Bool) (x : Scene C) → Tells e x (upcall e p s a added x)
   tells-upcall e p s a added x =
@@ -223,7 +229,8 @@ module _ {C : Type 0} where
   tells-blocked_by e p fresh (Some s) None held len page x = tells-same e x x refl refl
   tells-blocked_by e p fresh (Some s) (Some a) held len page x =
       let y = block_begun e p s a held len page x in
-      tells-again e x y (told_or_left e p s fresh (can_upcall x.state s) y) (tells-more e x y _ refl refl) (tells-told_or_left e p s fresh (can_upcall x.state s) y)
+      tells-again e x y (told_or_left e p s fresh (can_upcall x.state s) y) (tells-more e x y _ refl refl)
+      (tells-told_or_left e p s fresh (can_upcall x.state s) y)
 
   tells-over_for : (e : ℕ) (p : ProcNo) (kind : IoKind) (x : Scene C) → Tells e x (over_for e p kind x)
   tells-over_for e p (Plain s a) x = tells-more e x _ _ refl refl
@@ -258,7 +265,8 @@ module _ {C : Type 0} where
   tells-entered_as e p a (InterruptOwnEntry q) x = tells-line e q.0 p x _ refl refl
 
   pub tells-entered : (e : ℕ) (p : ProcNo) (a : ActNo) (entry : Entry C) (x : Scene C) → Tells e x (entered e p a entry x)
-  tells-entered e p a entry x = tells-again e x (entered_as e p a entry x) (entered e p a entry x) (tells-entered_as e p a entry x) (tells-closed e p (entered_as e p a entry x))
+  tells-entered e p a entry x =
+      tells-again e x (entered_as e p a entry x) (entered e p a entry x) (tells-entered_as e p a entry x) (tells-closed e p (entered_as e p a entry x))
 
   -- a context fetches what it is told
 

@@ -73,8 +73,10 @@ module _ {U C : Type 0} (f : Calls U C) (stands : Standing U C) (keep : Keeps f 
         events = are-events (opening f w) budget r.said (omega arith) few;
       }
 
-  pub locked-opening : (w : WorkloadView) (table : TableId) (budget : ℕ) (core : CoreView U C) (keeper : KeeperSeen) (lines : List (Option ℕ)) → IsWorkload w → machine core ≡ opening f w
-      → core.budget ≡ budget → budget ≤ MAX_EVENTS → HasFollowed (machine core).kernel (machine core).workload.processors (fresh_keeper table w.processors) keeper lines
+  pub locked-opening : (w : WorkloadView) (table : TableId) (budget : ℕ) (core : CoreView U C) (keeper : KeeperSeen) (lines : List (Option ℕ)) → IsWorkload w
+      → machine core ≡ opening f w
+      → core.budget ≡ budget → budget ≤ MAX_EVENTS
+      → HasFollowed (machine core).kernel (machine core).workload.processors (fresh_keeper table w.processors) keeper lines
       → IsLocked f budget w table core lines keeper
   locked-opening w table budget core keeper lines ok is same few follows =
       let r : Reached f stands keep w [] (opening f w) = reached f stands keep w budget (opening f w) [] ok refl in
@@ -107,8 +109,10 @@ module _ {U C : Type 0} (f : Calls U C) (stands : Standing U C) (keep : Keeps f 
 
   -- a move
 
-  module _ (w : WorkloadView) (table : TableId) (budget : ℕ) (core new : CoreView U C) (lines : List (Option ℕ)) (keeper : KeeperSeen) (locked : IsLocked f budget w table core lines keeper)
-      (none : end_of f budget (machine core) ≡ None) (move : Move) (made : IsMove f (machine core) move (machine new)) (within : (machine new).event ≤ budget) where
+  module _ (w : WorkloadView) (table : TableId) (budget : ℕ) (core new : CoreView U C) (lines : List (Option ℕ)) (keeper : KeeperSeen)
+      (locked : IsLocked f budget w table core lines keeper)
+      (none : end_of f budget (machine core) ≡ None) (move : Move) (made : IsMove f (machine core) move (machine new))
+      (within : (machine new).event ≤ budget) where
     abbrev pub after : List Move
     after = locked.moves ++ move ∷ []
 
@@ -137,7 +141,8 @@ module _ {U C : Type 0} (f : Calls U C) (stands : Standing U C) (keep : Keeps f 
       events = are-events (machine new) budget behind.said within locked.few;
     }
 
-    module _ (next : KeeperSeen) (stored : List (Option ℕ)) (follows : HasFollowed (machine new).kernel (machine new).workload.processors keeper next stored) where
+    module _ (next : KeeperSeen) (stored : List (Option ℕ))
+        (follows : HasFollowed (machine new).kernel (machine new).workload.processors keeper next stored) where
       pub may-count : (p : ProcNo) (n : ℕ) → p.0 < w.processors → turns_in p.0 move ≡ n → 0 < n → MayCredit (lane_at next.lanes p.0).account (Turns n)
       may-count p n lt is some =
           let same : (lane_at next.lanes p.0).account.count ≡ turns_of p.0 locked.moves =
@@ -147,12 +152,15 @@ module _ {U C : Type 0} (f : Calls U C) (stands : Standing U C) (keep : Keeps f 
           (some, (let few = locked.few in omega (arith, same, all, one, is, within, few)))
 
       lane-after : (q : ℕ) (lane : Lane) (c : ℕ) → q < w.processors → turns_in q move ≡ c → lane.account.count ≡ (lane_at next.lanes q).account.count + c
-          → lane.account.end ≡ (lane_at next.lanes q).account.end → lane.line ≡ (lane_at next.lanes q).line → lane.raised ≡ (lane_at next.lanes q).raised → IsLane f budget after (machine new) q lane
+          → lane.account.end ≡ (lane_at next.lanes q).account.end → lane.line ≡ (lane_at next.lanes q).line → lane.raised ≡ (lane_at next.lanes q).raised
+          → IsLane f budget after (machine new) q lane
       lane-after q lane c lt is count end line raised =
           let old = locked.kept.each q lt in
           let h = follows.followed q (omega (arith, lt, procs)) in
           let open_still : (lane_at keeper.lanes q).account.end ≡ None = elim old.end [ inl e ↦ e | inr e ↦ e ∙ none ] in record {
-            count = (let a : (lane_at next.lanes q).account.count ≡ turns_of q locked.moves = ap (λ (x : Account). x.count) h.account ∙ old.count in let b = turns-more q locked.moves move in omega (arith, a, b, count, is));
+            count =
+                (let a : (lane_at next.lanes q).account.count ≡ turns_of q locked.moves = ap (λ (x : Account). x.count) h.account ∙ old.count in
+                let b = turns-more q locked.moves move in omega (arith, a, b, count, is));
             line = line ∙ h.line_is;
             raised = λ e has. elim (h.raised e (subst (λ (es : List ℕ). Contains es e) raised has)) [
               | inl was ↦ let z = old.raised e was in (z.0, moves.kept (line_item e z.0 q) z.1)
@@ -161,7 +169,8 @@ module _ {U C : Type 0} (f : Calls U C) (stands : Standing U C) (keep : Keeps f 
             end = inl (end ∙ ap (λ (x : Account). x.end) h.account ∙ open_still);
           }
 
-      pub locked-after : (p : ProcNo) (n : ℕ) → p.0 < w.processors → turns_in p.0 move ≡ n → ((q : ℕ) → q ≢ p.0 → turns_in q move ≡ 0) → new.budget ≡ core.budget
+      pub locked-after : (p : ProcNo) (n : ℕ) → p.0 < w.processors → turns_in p.0 move ≡ n → ((q : ℕ) → q ≢ p.0 → turns_in q move ≡ 0)
+          → new.budget ≡ core.budget
           → IsLocked f budget w table new stored (credited_at p.0 (Turns n) next)
       locked-after p n lt is others same = record {
         workload = locked.workload;
@@ -187,7 +196,8 @@ module _ {U C : Type 0} (f : Calls U C) (stands : Standing U C) (keep : Keeps f 
 
   -- the end is told
 
-  module _ (w : WorkloadView) (table : TableId) (budget : ℕ) (core : CoreView U C) (lines : List (Option ℕ)) (keeper : KeeperSeen) (locked : IsLocked f budget w table core lines keeper)
+  module _ (w : WorkloadView) (table : TableId) (budget : ℕ) (core : CoreView U C) (lines : List (Option ℕ)) (keeper : KeeperSeen)
+      (locked : IsLocked f budget w table core lines keeper)
       (x : End) (ends : end_of f budget (machine core) ≡ Some x) (p : ProcNo) (lt : p.0 < w.processors) where
     pub may-end : MayCredit (lane_at keeper.lanes p.0).account (EndCredit x)
     may-end = elim (locked.kept.each p.0 lt).end [ inl e ↦ inl e | inr e ↦ inr (e ∙ ends) ]
@@ -204,11 +214,13 @@ module _ {U C : Type 0} (f : Calls U C) (stands : Standing U C) (keep : Keeps f 
       kept = record {
         size = length_changed p.0 (credited_lane (EndCredit x)) keeper.lanes ∙ locked.kept.size;
         each = λ q inside. elim (cases_eq q p.0) [
-          | inl here ↦ subst (λ (i : ℕ). IsLane f budget locked.moves (machine core) i (lane_at (changed p.0 (credited_lane (EndCredit x)) keeper.lanes) i)) (sym here)
+          | inl here ↦ subst (λ (i : ℕ). IsLane f budget locked.moves (machine core) i
+              (lane_at (changed p.0 (credited_lane (EndCredit x)) keeper.lanes) i)) (sym here)
               (subst (λ (l : Lane). IsLane f budget locked.moves (machine core) p.0 l)
               (sym (lane_here p.0 (credited_lane (EndCredit x)) keeper.lanes (let a = locked.kept.size in omega (arith, a, lt))))
               (let old = locked.kept.each p.0 lt in record { count = old.count; line = old.line; raised = old.raised; end = inr (sym ends) }))
-          | inr apart ↦ subst (λ (l : Lane). IsLane f budget locked.moves (machine core) q l) (sym (lane_else p.0 q (credited_lane (EndCredit x)) keeper.lanes apart)) (locked.kept.each q inside)
+          | inr apart ↦ subst (λ (l : Lane). IsLane f budget locked.moves (machine core) q l)
+              (sym (lane_else p.0 q (credited_lane (EndCredit x)) keeper.lanes apart)) (locked.kept.each q inside)
         ];
         stored = locked.kept.stored;
       };
@@ -220,8 +232,10 @@ module _ {U C : Type 0} (f : Calls U C) (stands : Standing U C) (keep : Keeps f 
     pub made : IsMove f m move after
     pub within : after.event ≤ budget
 
-  pub turn-done : (w : WorkloadView) (table : TableId) (budget : ℕ) (core new : CoreView U C) (lines : List (Option ℕ)) (keeper : KeeperSeen) (p : ProcNo) → IsLocked f budget w table core lines keeper
-      → end_of f budget (machine core) ≡ None → p.0 < w.processors → IsTurn f (machine core) p (machine new) → (machine new).event ≡ (machine core).event + 1 → Done budget (machine core) (machine new) (turn p)
+  pub turn-done : (w : WorkloadView) (table : TableId) (budget : ℕ) (core new : CoreView U C) (lines : List (Option ℕ)) (keeper : KeeperSeen) (p : ProcNo)
+      → IsLocked f budget w table core lines keeper
+      → end_of f budget (machine core) ≡ None → p.0 < w.processors → IsTurn f (machine core) p (machine new) → (machine new).event ≡ (machine core).event + 1
+      → Done budget (machine core) (machine new) (turn p)
   turn-done w table budget core new lines keeper p locked none lt is event =
       let r = reached f stands keep w budget (machine core) locked.moves locked.workload locked.chain in
       let left = goes-on f budget (machine core) none locked.within in
@@ -231,14 +245,17 @@ module _ {U C : Type 0} (f : Calls U C) (stands : Standing U C) (keep : Keeps f 
         within = omega (arith, event, left);
       }
 
-  pub can-next : (w : WorkloadView) (table : TableId) (budget n : ℕ) (core : CoreView U C) (lines : List (Option ℕ)) (keeper : KeeperSeen) (p : ProcNo) (start : SeatState)
-      → IsLocked f budget w table core lines keeper → 0 < n → CanMove w n start → local_on f (machine core) p ≡ start → AreNextLocal (machine core).workload n (local_on f (machine core) p)
+  pub can-next : (w : WorkloadView) (table : TableId) (budget n : ℕ) (core : CoreView U C) (lines : List (Option ℕ)) (keeper : KeeperSeen) (p : ProcNo)
+      (start : SeatState)
+      → IsLocked f budget w table core lines keeper → 0 < n → CanMove w n start → local_on f (machine core) p ≡ start
+      → AreNextLocal (machine core).workload n (local_on f (machine core) p)
   can-next w table budget n core lines keeper p start locked some can is =
       let r = reached f stands keep w budget (machine core) locked.moves locked.workload locked.chain in
       subst (λ (v : WorkloadView). AreNextLocal v n (local_on f (machine core) p)) (sym r.workload)
       (subst (λ (x : SeatState). AreNextLocal w n x) (sym is) (move-next w n start some can))
 
-  pub commit-done : (w : WorkloadView) (table : TableId) (budget n k : ℕ) (core new : CoreView U C) (lines : List (Option ℕ)) (keeper : KeeperSeen) (p : ProcNo) → IsLocked f budget w table core lines keeper
+  pub commit-done : (w : WorkloadView) (table : TableId) (budget n k : ℕ) (core new : CoreView U C) (lines : List (Option ℕ)) (keeper : KeeperSeen)
+      (p : ProcNo) → IsLocked f budget w table core lines keeper
       → end_of f budget (machine core) ≡ None → k ≡ committable core.budget (machine core) n → 1 ≤ k → line_of (machine core).kernel p ≡ None
       → AreNextLocal (machine core).workload n (local_on f (machine core) p) → machine new ≡ committed f p k (machine core)
       → Done budget (machine core) (machine new) (commit p k) × (k ≤ n) × (k ≡ committable budget (machine core) n)
@@ -252,7 +269,8 @@ module _ {U C : Type 0} (f : Calls U C) (stands : Standing U C) (keep : Keeps f 
 
   -- the machine as it was
 
-  pub locked-same : (w : WorkloadView) (table : TableId) (budget : ℕ) (core new : CoreView U C) (lines : List (Option ℕ)) (keeper : KeeperSeen) → IsLocked f budget w table core lines keeper
+  pub locked-same : (w : WorkloadView) (table : TableId) (budget : ℕ) (core new : CoreView U C) (lines : List (Option ℕ)) (keeper : KeeperSeen)
+      → IsLocked f budget w table core lines keeper
       → machine new ≡ machine core → new.budget ≡ core.budget → IsLocked f budget w table new lines keeper
   locked-same w table budget core new lines keeper locked same budgets = record {
     workload = locked.workload;

@@ -12,7 +12,7 @@ use Rattle.sa_core_model.specs.Run.{opening, Move, IsMove}
 use Rattle.sa_core_model.specs.Run.Move.{turn, commit}
 
 module _ {U C : Type 0} (f : Calls U C) (budget : ℕ) where
-  -- the moves lead from one machine to another, and none comes behind an end
+  -- the moves lead from one machine to another, and none comes after an end
   abbrev pub Leads : Machine U C → List Move → Machine U C → Type 0
   Leads m [] after = after ≡ m
   Leads m (move ∷ moves) after =

@@ -61,7 +61,7 @@ module _ {U C : Type 0} (f : Calls U C) (budget : ℕ) where
       × (c ≡ local_on f m s.poller.proc) × (start ≡ s.start) × (c ≢ start)
   IsAnswer m s (Turned n) after = IsEvents m s s.pending n after
 
-  -- .. and the seat afterwards
+  -- what an entry answers, and the seat afterwards
   pub record IsEntered (m : Machine U C) (s : SeatView) (answer : Entered) (after : Machine U C) (seat : SeatView) : Type 0 where
     pub answers : IsAnswer m s answer after
     pub seat_is : seat ≡ renewed (local_on f after s.poller.proc) (credited_by answer s)
@@ -73,7 +73,7 @@ Fits s (DroppedLine e) = 0 < s.pending
 Fits s (DroppedStart c start) = (0 < s.pending) × (start ≡ s.start) × (c ≢ start)
 Fits s (Ended x) = Unit {0}
 
--- the seat behind an entry, whose copy is the core's context
+-- the seat after an entry, whose copy is the core's context
 pub record HasEntered (old : SeatView) (answer : Entered) (new : SeatView) : Type 0 where
   pub fits : Fits old answer
   pub context : SeatState

@@ -13,7 +13,7 @@ abbrev pub set_at : ℕ → Option ℕ → KeeperSeen → KeeperSeen
 set_at p None keeper = lowered_at p keeper
 set_at p (Some e) keeper = raised_at p e keeper
 
--- .. unless it is as it was stored last
+-- the line is stored, unless it is as it was stored last
 abbrev pub IsStored : ℕ → Option ℕ → Option ℕ → KeeperSeen → KeeperSeen → Type 0
 IsStored p last line old new = ((line ≡ last) × (new ≡ old)) ⊎ (new ≡ set_at p line old)
 
@@ -32,7 +32,7 @@ pub record MayFollow {U C : Type 0} (m : Machine U C) (lines : List (Option ℕ)
   pub stored : AreStored lines keeper.lanes
   pub events : AreEvents m.kernel
 
--- what the keeper knows of a processor behind that: the line, with the event that raised it, and what it knew before
+-- what the keeper knows of a processor after that: the line, with the event that raised it, and what it knew before
 pub record IsFollowed (line : Option ℕ) (old new : Lane) : Type 0 where
   pub line_is : new.line ≡ line_value line
   pub account : new.account ≡ old.account

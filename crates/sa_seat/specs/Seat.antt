@@ -30,7 +30,7 @@ pub record SeatView : Type 0 where
 abbrev pub code_of : WorkloadView → SpaceNo → ℕ → List Instr
 code_of w space program = program_at (programs_in (slice_get w.spaces space.0)) program
 
--- the state stands in a program of the workload
+-- the state is in a program of the workload
 abbrev pub IsPlace : WorkloadView → SeatState → Type 0
 IsPlace w (Local space thread program pc regs) =
     (space.0 < length w.spaces)
@@ -38,7 +38,7 @@ IsPlace w (Local space thread program pc regs) =
     × (pc < length (code_of w space program))
 IsPlace w Away = Unit {0}
 
--- the state behind n local instructions
+-- the state after n local instructions
 abbrev pub moved : WorkloadView → ℕ → SeatState → SeatState
 moved w n (Local space thread program pc regs) =
     moved_to space thread program (after_many (code_of w space program) n (record { pc = pc; regs = regs }))
@@ -111,7 +111,7 @@ IsEnd w limit n start copy Limit = (start ≢ Away) × (n ≡ limit)
 IsEnd w limit n start copy Shared = (start ≢ Away) × (n < limit) × (next_answer w copy ≢ Some Went)
 IsEnd w limit n start copy (Line e) = (start ≢ Away) × (n < limit) × (next_answer w copy ≡ Some Went)
 
--- a burst of at most so many instructions: each was local, and before each the line word was read as low
+-- a burst of at most `limit` instructions: each was local, and before each the line word was read as low
 pub record IsBurst (w : WorkloadView) (limit : ℕ) (old : SeatView) (end : BurstEnd) (new : SeatView) : Type 0 where
   pub few : new.pending ≤ limit
   pub start : new.start ≡ old.start
@@ -132,7 +132,7 @@ abbrev pub IsReady : List Instr → SeatState → Type 0
 IsReady code (Local space thread program pc regs) = pc < length code
 IsReady code Away = Unit {0}
 
--- whether the instruction there is local, and the state behind it where it is
+-- whether the instruction there is local, and the state after it where it is
 abbrev pub IsAdvanced : List Instr → SeatState → Bool → SeatState → Type 0
 IsAdvanced code Away went new = (went ≡ false) × (new ≡ Away)
 IsAdvanced code (Local space thread program pc regs) true new =

@@ -6,7 +6,7 @@ ghost use Rattle.sa_seat.specs.Lock.{no_workload, no_table};
 
 use std::marker::Brand;
 
-/// Which machine it is: its workload, its budget, and the table on which its words stand. Contracts alone see them; whoever
+/// Which machine it is: its workload, its budget, and the table on which its words are. Contracts alone see them; whoever
 /// makes a machine picks them.
 pub trait Named {
     ghost workload: { WorkloadView };

@@ -74,7 +74,8 @@ module _ (c d : Counts) (spaces : List SpaceState) (s : SpaceNo) (t : ThreadNo) 
       }
 
   -- any other
-  rest : (r u : ℕ) → ((n : ℕ) → if_at s.0 t.0 r u n ≡ 0) → AgreesAt c spaces r u → Agrees (d.ready r u) (d.carries r u) (d.blocks r u) (waits_of (at_no spaces r).sync u + d.works r u) (place_no (at_no spaces r) u)
+  rest : (r u : ℕ) → ((n : ℕ) → if_at s.0 t.0 r u n ≡ 0) → AgreesAt c spaces r u
+      → Agrees (d.ready r u) (d.carries r u) (d.blocks r u) (waits_of (at_no spaces r).sync u + d.works r u) (place_no (at_no spaces r) u)
   rest r u none a = record {
     in_lists = omega (arith, a.in_lists, moves.ready r u, none (one_if (kind old) 1), none (one_if (kind new) 1));
     in_queue = omega (arith, a.in_queue, moves.carries r u, none (one_if (kind old) 2), none (one_if (kind new) 2));
@@ -85,17 +86,21 @@ module _ (c d : Counts) (spaces : List SpaceState) (s : SpaceNo) (t : ThreadNo) 
   in_space : (u : ℕ) → Agrees (d.ready s.0 u) (d.carries s.0 u) (d.blocks s.0 u) (waits_of y.sync u + d.works s.0 u) (place_no y u)
   in_space u = elim (cases_eq u t.0) [
     | inl e ↦ subst (λ n. Agrees (d.ready s.0 n) (d.carries s.0 n) (d.blocks s.0 n) (waits_of y.sync n + d.works s.0 n) (place_no y n)) (sym e)
-        (subst (λ place. Agrees (d.ready s.0 t.0) (d.carries s.0 t.0) (d.blocks s.0 t.0) (waits_of y.sync t.0 + d.works s.0 t.0) place) (sym (put_own new x t made)) mine)
-    | inr ne ↦ subst (λ place. Agrees (d.ready s.0 u) (d.carries s.0 u) (d.blocks s.0 u) (waits_of y.sync u + d.works s.0 u) place) (sym (put_other new x t made (record { 0 = u }) ne))
+        (subst (λ place. Agrees (d.ready s.0 t.0) (d.carries s.0 t.0) (d.blocks s.0 t.0) (waits_of y.sync t.0 + d.works s.0 t.0) place)
+        (sym (put_own new x t made)) mine)
+    | inr ne ↦ subst (λ place. Agrees (d.ready s.0 u) (d.carries s.0 u) (d.blocks s.0 u) (waits_of y.sync u + d.works s.0 u) place)
+        (sym (put_other new x t made (record { 0 = u }) ne))
         (rest s.0 u (λ n. at_thread s.0 t.0 s.0 u n ne) (agree s.0 u))
   ]
 
   pub moved : AllAgree d (with_space_in spaces s (put_thread new (space_in spaces s) t))
   moved r u = elim (cases_eq r s.0) [
     | inl e ↦ subst (λ n. AgreesAt d (with_space_in spaces s y) n u) (sym e)
-        (subst (λ (z : SpaceState). Agrees (d.ready s.0 u) (d.carries s.0 u) (d.blocks s.0 u) (waits_of z.sync u + d.works s.0 u) (place_no z u)) (sym (this_space spaces s y inside)) (in_space u))
+        (subst (λ (z : SpaceState). Agrees (d.ready s.0 u) (d.carries s.0 u) (d.blocks s.0 u) (waits_of z.sync u + d.works s.0 u) (place_no z u))
+        (sym (this_space spaces s y inside)) (in_space u))
     | inr ne ↦
-        subst (λ (z : SpaceState). Agrees (d.ready r u) (d.carries r u) (d.blocks r u) (waits_of z.sync u + d.works r u) (place_no z u)) (sym (other_space spaces s y inside r ne))
+        subst (λ (z : SpaceState). Agrees (d.ready r u) (d.carries r u) (d.blocks r u) (waits_of z.sync u + d.works r u) (place_no z u))
+        (sym (other_space spaces s y inside r ne))
         (rest r u (λ n. at_space s.0 t.0 r u n ne) (agree r u))
   ]
 
@@ -123,10 +128,12 @@ module _ (c d : Counts) (spaces : List SpaceState) (s : SpaceNo) (inside' : s.0 
   pub ran : AllAgree d (with_space_in spaces s run.space)
   ran r u = elim (cases_eq r s.0) [
     | inl e ↦ subst (λ n. AgreesAt d (with_space_in spaces s run.space) n u) (sym e)
-        (subst (λ (z : SpaceState). Agrees (d.ready s.0 u) (d.carries s.0 u) (d.blocks s.0 u) (waits_of z.sync u + d.works s.0 u) (place_no z u)) (sym (this_space spaces s run.space inside')) (ran_here u))
+        (subst (λ (z : SpaceState). Agrees (d.ready s.0 u) (d.carries s.0 u) (d.blocks s.0 u) (waits_of z.sync u + d.works s.0 u) (place_no z u))
+        (sym (this_space spaces s run.space inside')) (ran_here u))
     | inr ne ↦
         let a = agree r u in
-        subst (λ (z : SpaceState). Agrees (d.ready r u) (d.carries r u) (d.blocks r u) (waits_of z.sync u + d.works r u) (place_no z u)) (sym (other_space spaces s run.space inside' r ne)) (record {
+        subst (λ (z : SpaceState). Agrees (d.ready r u) (d.carries r u) (d.blocks r u) (waits_of z.sync u + d.works r u) (place_no z u))
+        (sym (other_space spaces s run.space inside' r ne)) (record {
           in_lists = rouses.ready r u ∙ a.in_lists;
           in_queue = rouses.carries r u ∙ a.in_queue;
           in_ios = rouses.blocks r u ∙ a.in_ios;

@@ -43,12 +43,13 @@ roused_numbers (u ∷ us) = ap (λ xs. u ∷ xs) (roused_numbers us)
 abbrev of_thread : ThreadNo → Place → ℕ → ℕ
 of_thread t place u = cond (t.0 == u) (one_where (is_waiting place)) 0
 
-abbrev nought : Bool → ℕ
+-- nothing is counted either way
+abbrev pub nought : Bool → ℕ
 nought b = cond b 0 0
 
-same : (b : Bool) → nought b ≡ 0
-same true = refl
-same false = refl
+pub nought_is : (b : Bool) → nought b ≡ 0
+nought_is true = refl
+nought_is false = refl
 
 one_rouses : (w : ThreadNo) (u : ℕ) → count_in u (numbers (w ∷ [])) ≡ woken (answers.Wakes w) u
 one_rouses w u = elim (cases_eq w.0 u) [
@@ -65,7 +66,7 @@ plain_one program zero = refl
 plain_one program (suc k) = refl
 
 module _ (x : SpaceState) (t : ThreadNo) (p : ProcNo) (runs : place_no x t.0 ≡ places.Running p) (made : t.0 < length x.threads) where
-  -- where a thread stands, once this one is another
+  -- where a thread is, once this one is another
   own : (after : Thread) → place_no (with_thread x t after) t.0 ≡ after.place
   own after = ap (λ (y : Thread). y.place) (get_or-set_same x.threads t.0 after (at_start 0 places.Done) made)
 
@@ -82,7 +83,8 @@ module _ (x : SpaceState) (t : ThreadNo) (p : ProcNo) (runs : place_no x t.0 ≡
   alone after sync roused plain sums = record {
     waits = λ u. elim (cases_eq u t.0) [
       | inl e ↦ subst (λ n. waits_of sync n + count_in n (numbers roused) + waiting x n ≡ waits_of x.sync n + waiting (with_thread x t after) n) (sym e) (
-          let mine : of_thread t after.place t.0 ≡ one_where (is_waiting after.place) = ap (λ b. cond b (one_where (is_waiting after.place)) 0) (eq-eqb t.0 t.0 refl) in
+          let mine : of_thread t after.place t.0 ≡ one_where (is_waiting after.place) =
+          ap (λ b. cond b (one_where (is_waiting after.place)) 0) (eq-eqb t.0 t.0 refl) in
           let now : waiting (with_thread x t after) t.0 ≡ one_where (is_waiting after.place) = ap (λ place. one_where (is_waiting place)) (own after) in
           omega (arith, sums t.0, mine, now, none_waits))
       | inr ne ↦
@@ -98,7 +100,7 @@ module _ (x : SpaceState) (t : ThreadNo) (p : ProcNo) (runs : place_no x t.0 ≡
 
   -- nobody waits anew
   runs_on : (after : Thread) (u : ℕ) → is_waiting after.place ≡ false → of_thread t after.place u ≡ 0
-  runs_on after u is = ap (λ b. cond (t.0 == u) (one_where b) 0) is ∙ same (t.0 == u)
+  runs_on after u is = ap (λ b. cond (t.0 == u) (one_where b) 0) is ∙ nought_is (t.0 == u)
 
   goes_on : (after : Thread) → after.place ≡ places.Running p → Tells x (effect (with_thread x t after) [])
   goes_on after is = alone after x.sync [] (ap kind is) (λ u. omega (arith, runs_on after u (ap is_waiting is)))
@@ -140,12 +142,15 @@ module _ (x : SpaceState) (t : ThreadNo) (p : ProcNo) (runs : place_no x t.0 ≡
           | inr past ↦ elim (cases_eq u made') [
             | inl e ↦
                 let one : count_in u (numbers (record { 0 = made' } ∷ [])) ≡ 1 = count_same u made' [] (sym e) in
-                let now : waiting new u ≡ 1 = ap (λ place. one_where (is_waiting place)) (behind u past ∙ ap (λ n. (get_or (child ∷ []) n (at_start 0 places.Done)).place) (let z : u - made' ≡ 0 = omega (arith, e) in z)) in
+                let now : waiting new u ≡ 1 =
+                ap (λ place. one_where (is_waiting place))
+                (behind u past ∙ ap (λ n. (get_or (child ∷ []) n (at_start 0 places.Done)).place) (let z : u - made' ≡ 0 = omega (arith, e) in z)) in
                 let old : waiting x u ≡ 0 = ap (λ place. one_where (is_waiting place)) (before u past) in
                 omega (arith, one, now, old)
             | inr ne ↦
                 let none : count_in u (numbers (record { 0 = made' } ∷ [])) ≡ 0 = count_other u made' [] (λ e. ne (sym e)) in
-                let now : waiting new u ≡ 0 = ap (λ place. one_where (is_waiting place)) (behind u past ∙ past_one program (u - made') (omega (arith, past, ne))) in
+                let now : waiting new u ≡ 0 =
+                ap (λ place. one_where (is_waiting place)) (behind u past ∙ past_one program (u - made') (omega (arith, past, ne))) in
                 let old : waiting x u ≡ 0 = ap (λ place. one_where (is_waiting place)) (before u past) in
                 omega (arith, none, now, old)
           ]
@@ -160,7 +165,9 @@ module _ (x : SpaceState) (t : ThreadNo) (p : ProcNo) (runs : place_no x t.0 ≡
   forks thread reg program is =
       let made' = length x.threads in
       let forking = with_thread x t (next_with thread reg made') in
-      let done : Bool → Effect = λ b. cond b (effect (record forking { threads = forking.threads ++ at_start program places.Waiting ∷ [] }) (record { 0 = made' } ∷ [])) (effect (with_thread x t (next_with thread reg (2 ^ 64 - 1))) []) in
+      let done : Bool → Effect = λ b. cond b
+      (effect (record forking { threads = forking.threads ++ at_start program places.Waiting ∷ [] }) (record { 0 = made' } ∷ []))
+      (effect (with_thread x t (next_with thread reg (2 ^ 64 - 1))) []) in
       elim (nat_lt made' MAX_THREADS) as (λ b. Tells x (done b)) [
         | true ↦ forked (next_with thread reg made') program is
         | false ↦ goes_on (next_with thread reg (2 ^ 64 - 1)) is
@@ -174,7 +181,7 @@ module _ (x : SpaceState) (t : ThreadNo) (p : ProcNo) (runs : place_no x t.0 ≡
       let us = joiners_at x.sync t.0 in
       alone (record thread { place = places.Done }) sync (map (λ u. record { 0 = u }) us) refl (λ u.
       let all : count_in u (numbers (map (λ u. record { 0 = u }) us)) ≡ count_in u us = ap (count_in u) (roused_numbers us) in
-      omega (arith, all, count_set u done.joiners t.0 [] inside, waits_parts done u, waits_parts sync u, same (t.0 == u)))
+      omega (arith, all, count_set u done.joiners t.0 [] inside, waits_parts done u, waits_parts sync u, nought_is (t.0 == u)))
 
   module _ (def : SpaceView) (thread : Thread) (is : thread.place ≡ places.Running p) where
     pub tells_of : (instr : Instr) → CanDo def x t thread instr → Tells x (effect_of x t thread instr)
@@ -184,7 +191,8 @@ module _ (x : SpaceState) (t : ThreadNo) (p : ProcNo) (runs : place_no x t.0 ≡
     tells_of (Sub reg n) can = goes_on _ is
     tells_of (Jnz reg place) can = goes_on _ is
     tells_of (Load reg cell) can = goes_on _ is
-    tells_of (Store reg cell) can = alone (next thread) (stored x.sync cell (reg_value thread.regs reg)) [] (ap kind is) (λ u. omega (arith, runs_on (next thread) u (ap is_waiting is)))
+    tells_of (Store reg cell) can =
+        alone (next thread) (stored x.sync cell (reg_value thread.regs reg)) [] (ap kind is) (λ u. omega (arith, runs_on (next thread) u (ap is_waiting is)))
     tells_of (Out reg) can = goes_on (next thread) is
     tells_of (Fork reg program) can = forks thread reg program is
     tells_of (Join reg) can =

@@ -47,7 +47,8 @@ module _ (w : WorkloadView) (spaces : List SpaceState) (s : SpaceNo) (t : Thread
       elim (cases_eq u t.0) [
         | inl e ↦ subst (λ n. IsAt (space_def w s) (thread_in (put_thread new x t) (record { 0 = n }))) (sym e)
             (let at = all t.0 (omega (arith, e, made)) in
-            subst (IsAt (space_def w s)) (sym (get_or-set_same x.threads t.0 thread (at_start 0 places.Done) (omega (arith, e, made)))) (record { in_space = at.in_space; in_program = at.in_program }))
+            subst (IsAt (space_def w s)) (sym (get_or-set_same x.threads t.0 thread (at_start 0 places.Done) (omega (arith, e, made))))
+            (record { in_space = at.in_space; in_program = at.in_program }))
         | inr ne ↦ subst (IsAt (space_def w s)) (sym (get_or-set_other x.threads t.0 u thread (at_start 0 places.Done) ne)) (all u made)
       ]
 
@@ -59,34 +60,42 @@ pub record KeepsLife (f : Life → Life) : Type 0 where
   pub space : (life : Life) → (f life).space ≡ life.space
   pub locks : (life : Life) → has_lock (f life) ≡ has_lock life
 
-pub lives_kept : (w : WorkloadView) (f : Life → Life) (a : ActNo) (lives : ℕ → Option Life) → KeepsLife f → HaveLives w lives → HaveLives w (with_life f (Some a) lives)
+pub lives_kept : (w : WorkloadView) (f : Life → Life) (a : ActNo) (lives : ℕ → Option Life) → KeepsLife f → HaveLives w lives
+    → HaveLives w (with_life f (Some a) lives)
 lives_kept w f a lives keeps have b = elim (cases_eq b.0 a.0) [
   | inl e ↦
       let old = have b in
-      let is : with_life f (Some a) lives b.0 ≡ Some (f old.0) = put-at lives a.0 b.0 (option_map f (lives a.0)) e ∙ ap (λ n. option_map f (lives n)) (sym e) ∙ ap (option_map f) old.1 in
+      let is : with_life f (Some a) lives b.0 ≡ Some (f old.0) =
+      put-at lives a.0 b.0 (option_map f (lives a.0)) e ∙ ap (λ n. option_map f (lives n)) (sym e) ∙ ap (option_map f) old.1 in
       (f old.0, is, keeps.space old.0 ∙ old.2, keeps.locks old.0 ∙ old.3)
   | inr ne ↦ let old = have b in (old.0, put-other lives a.0 b.0 (option_map f (lives a.0)) ne ∙ old.1, old.2, old.3)
 ]
 
-pub threads_put : (f : Life → Life) (a : ActNo) (lives : ℕ → Option Life) → threads_of (with_life f (Some a) lives) ≡ put (threads_of lives) a.0 (thread_of_life (option_map f (lives a.0)))
+pub threads_put : (f : Life → Life) (a : ActNo) (lives : ℕ → Option Life)
+    → threads_of (with_life f (Some a) lives) ≡ put (threads_of lives) a.0 (thread_of_life (option_map f (lives a.0)))
 threads_put f a lives = fun_ext (λ b. elim (cases_eq b a.0) [
-  | inl e ↦ ap thread_of_life (put-at lives a.0 b (option_map f (lives a.0)) e) ∙ sym (put-at (threads_of lives) a.0 b (thread_of_life (option_map f (lives a.0))) e)
-  | inr ne ↦ ap thread_of_life (put-other lives a.0 b (option_map f (lives a.0)) ne) ∙ sym (put-other (threads_of lives) a.0 b (thread_of_life (option_map f (lives a.0))) ne)
+  | inl e ↦ ap thread_of_life (put-at lives a.0 b (option_map f (lives a.0)) e)
+      ∙ sym (put-at (threads_of lives) a.0 b (thread_of_life (option_map f (lives a.0))) e)
+  | inr ne ↦ ap thread_of_life (put-other lives a.0 b (option_map f (lives a.0)) ne)
+      ∙ sym (put-other (threads_of lives) a.0 b (thread_of_life (option_map f (lives a.0))) ne)
 ])
 
--- .. where it keeps its thread, and where it gets one
+-- the thread of a life that changes, where it keeps its thread, and where it gets one
 same_seen : (f : Life → Life) → ((life : Life) → (f life).thread ≡ life.thread) → (o : Option Life) → thread_of_life (option_map f o) ≡ thread_of_life o
 same_seen f same None = refl
 same_seen f same (Some life) = same life
 
-pub threads_same : (f : Life → Life) (a : ActNo) (lives : ℕ → Option Life) → ((life : Life) → (f life).thread ≡ life.thread) → threads_of (with_life f (Some a) lives) ≡ threads_of lives
+pub threads_same : (f : Life → Life) (a : ActNo) (lives : ℕ → Option Life) → ((life : Life) → (f life).thread ≡ life.thread)
+    → threads_of (with_life f (Some a) lives) ≡ threads_of lives
 threads_same f a lives same = threads_put f a lives ∙ ap (put (threads_of lives) a.0) (same_seen f same (lives a.0)) ∙ put-self (threads_of lives) a.0
 
-pub threads_new : (w : WorkloadView) (f : Life → Life) (a : ActNo) (lives : ℕ → Option Life) (o : Option ThreadNo) → HaveLives w lives → ((life : Life) → (f life).thread ≡ o)
+pub threads_new : (w : WorkloadView) (f : Life → Life) (a : ActNo) (lives : ℕ → Option Life) (o : Option ThreadNo) → HaveLives w lives
+    → ((life : Life) → (f life).thread ≡ o)
     → threads_of (with_life f (Some a) lives) ≡ put (threads_of lives) a.0 o
-threads_new w f a lives o have gets = threads_put f a lives ∙ ap (put (threads_of lives) a.0) (ap (λ x. thread_of_life (option_map f x)) (have a).1 ∙ gets (have a).0)
+threads_new w f a lives o have gets =
+    threads_put f a lives ∙ ap (put (threads_of lives) a.0) (ap (λ x. thread_of_life (option_map f x)) (have a).1 ∙ gets (have a).0)
 
--- where a thread of this kind stands
+-- where a thread of this kind is
 pub is_ready : (place : Place) → 1 ≤ one_if (kind place) 1 → place ≡ places.Ready
 is_ready places.Ready some = refl
 is_ready places.Carried some = absurd (omega (arith, some))
@@ -116,5 +125,6 @@ first true c is = refl
 first false c is = cc
 
 -- a thread that is settled can be put elsewhere
-pub settled_moves : (spaces : List SpaceState) (s : SpaceNo) (t : ThreadNo) (place : Place) → is_settled place ≡ true → place_in spaces s t ≡ place → can_move (space_in spaces s) t ≡ true
+pub settled_moves : (spaces : List SpaceState) (s : SpaceNo) (t : ThreadNo) (place : Place) → is_settled place ≡ true → place_in spaces s t ≡ place
+    → can_move (space_in spaces s) t ≡ true
 settled_moves spaces s t place settled is = first (is_settled (place_in spaces s t)) (is_due (space_in spaces s) t) (ap is_settled is ∙ settled)

@@ -1,5 +1,5 @@
 -- A virtual processor leaves its processor, stopped or blocked; and one is placed.
-use Rattle.std.proofs.Common.{◌≡◌, ◌≢◌, ℕ, ◌+◌, ◌<◌, ◌≤◌, Bool, true, false, cond, List, [], ◌∷◌, ◌++◌, length, get_or, set, Option, Some, None, inl, inr, refl, sym, ap, subst, ◌∙◌, arith}
+use Rattle.std.proofs.Common.{◌≡◌, ◌≢◌, ℕ, ◌+◌, ◌<◌, ◌≤◌, cond, List, [], ◌∷◌, ◌++◌, length, get_or, set, Option, Some, None, inl, inr, refl, sym, ap, subst, ◌∙◌, arith}
 use Rattle.std.proofs.lemmas.Bool.{cases_eq}
 use Rattle.std.proofs.lemmas.List.{length-set, get_or-set_same, get_or-set_other}
 use Rattle.std.proofs.lemmas.List.Elements.{All-push}
@@ -26,13 +26,9 @@ use Rattle.sa_check_machine.proofs.ReplayLemmas.{leave_kept, owner_kept}
 use Rattle.sa_virtual.specs.Virtual.{space_of}
 use Rattle.sa_virtual.specs.Holding.{Parts, Holds, Fits, counts_of, threads_of, AllAgree, AreOnce, in_queue, on_processors, in_ios, is_one, is_virtual, holds, holds_for, one_if, one_where, IsOwn}
 use Rattle.sa_virtual.proofs.Agree.{if_at, Moves, moved}
-use Rattle.sa_virtual.proofs.Sums.{at_none, holds_some, holds_none, queued, placed_there, carried_other, blocked_other}
+use Rattle.sa_virtual.proofs.Sums.{at_none, holds_some, holds_none, queued, placed_there, carried_other, blocked_other, one_or_none}
 use Rattle.sa_virtual.proofs.Kept.{sized_put, within_put, KeepsLife, lives_kept, threads_new, settled_moves}
 use Rattle.sa_virtual.proofs.Pushed.{placed_within, placed_once, owned}
-
-one_or_none : (b : Bool) → one_where b ≤ 1
-one_or_none true = omega arith
-one_or_none false = omega arith
 
 -- nothing is on a processor that was left
 left_fits : (owners : List (Option SpaceNo)) (o : Option SpaceNo) (runners others : List (Option Runner)) (placed : List (Option ActNo)) (p : ProcNo)
@@ -52,7 +48,8 @@ left_fits owners o runners others placed p fits within none same q = elim (cases
       }
 ]
 
-module _ (w : WorkloadView) (v : Parts) (runners : List (Option Runner)) (h : Holds w v runners) (p : ProcNo) (a : ActNo) (at : get_or v.placed p.0 None ≡ Some a) where
+module _ (w : WorkloadView) (v : Parts) (runners : List (Option Runner)) (h : Holds w v runners) (p : ProcNo) (a : ActNo)
+    (at : get_or v.placed p.0 None ≡ Some a) where
   abbrev s : SpaceNo
   s = space_of a
 
@@ -109,17 +106,27 @@ module _ (w : WorkloadView) (v : Parts) (runners : List (Option Runner)) (h : Ho
         (get_or-set_same runners p.0 None None (runs_within runners p (runner s t) runs))
         (λ q ne. get_or-set_other runners p.0 q.0 None None ne)
 
-    stop_moves : Moves s.0 t.0 (places.Running p) places.Carried (counts_of w.processors threads v) (counts_of w.processors (put threads a.0 (Some t)) (stops (Some t)))
+    stop_moves : Moves s.0 t.0 (places.Running p) places.Carried (counts_of w.processors threads v)
+        (counts_of w.processors (put threads a.0 (Some t)) (stops (Some t)))
     stop_moves = record {
       ready = λ r u. refl;
-      carries = λ r u. omega (arith, sum_by_push (holds (put threads a.0 (Some t)) r u) v.queue a, holds_now (Some t) r u t refl, carried_other threads (Some t) r u a v.queue not_queued, at_none s.0 t.0 r u);
+      carries =
+          λ r u. omega (
+            arith,
+            sum_by_push (holds (put threads a.0 (Some t)) r u) v.queue a,
+            holds_now (Some t) r u t refl,
+            carried_other threads (Some t) r u a v.queue not_queued,
+            at_none s.0 t.0 r u,
+          );
       blocks = λ r u. omega (arith, blocked_other threads (Some t) r u a v.ios not_blocked);
       works = λ r u. refl;
     }
 
     pub stop_holds : Holds w (stops (Some t)) (set runners p.0 None)
     stop_holds = record {
-      replay = leave_kept w v.state.spaces v.state.owners runners h.replay s t places.Carried (settled_moves v.state.spaces s t (places.Running p) refl place) p place refl;
+      replay =
+          leave_kept w v.state.spaces v.state.owners runners h.replay s t places.Carried
+          (settled_moves v.state.spaces s t (places.Running p) refl place) p place refl;
       owners = h.owners;
       sized = sized_put w v.state.spaces s t places.Carried inside h.sized;
       within = within_put w v.state.spaces s t places.Carried inside h.within;
@@ -129,8 +136,11 @@ module _ (w : WorkloadView) (v : Parts) (runners : List (Option Runner)) (h : Ho
       fits = left_runners;
       lives = lives_kept w (stopped_with (Some t)) a v.lives (keeps_stop (Some t)) h.lives;
       ios = h.ios;
-      agree = subst (λ f. AllAgree (counts_of w.processors f (stops (Some t))) (stops (Some t)).state.spaces) (sym (threads_new w (stopped_with (Some t)) a v.lives (Some t) h.lives (λ life. refl)))
-          (moved (counts_of w.processors threads v) (counts_of w.processors (put threads a.0 (Some t)) (stops (Some t))) v.state.spaces s t (places.Running p) places.Carried h.agree place (λ e. cc) stop_moves);
+      agree =
+          subst (λ f. AllAgree (counts_of w.processors f (stops (Some t))) (stops (Some t)).state.spaces)
+          (sym (threads_new w (stopped_with (Some t)) a v.lives (Some t) h.lives (λ life. refl)))
+          (moved (counts_of w.processors threads v) (counts_of w.processors (put threads a.0 (Some t)) (stops (Some t))) v.state.spaces s t
+          (places.Running p) places.Carried h.agree place (λ e. cc) stop_moves);
     }
 
     -- BLOCKED, for an I/O of it; its processor has no owner then
@@ -151,7 +161,9 @@ module _ (w : WorkloadView) (v : Parts) (runners : List (Option Runner)) (h : Ho
       spaces' = (placed v.state s t places.Blocked).spaces
 
       left : IsReplay w spaces' v.state.owners (set runners p.0 None)
-      left = leave_kept w v.state.spaces v.state.owners runners h.replay s t places.Blocked (settled_moves v.state.spaces s t (places.Running p) refl place) p place refl
+      left =
+          leave_kept w v.state.spaces v.state.owners runners h.replay s t places.Blocked
+          (settled_moves v.state.spaces s t (places.Running p) refl place) p place refl
 
       -- and nobody runs there: so the processor can move
       pub block_moves_on : (owner_at (placed v.state s t places.Blocked) p ≡ Some s) × NobodyRuns (placed v.state s t places.Blocked) p
@@ -160,11 +172,20 @@ module _ (w : WorkloadView) (v : Parts) (runners : List (Option Runner)) (h : Ho
         sym (index-finds p spaces' (set runners p.0 None) left.index) ∙ get_or-set_same runners p.0 None None (runs_within runners p (runner s t) runs),
       )
 
-      block_counts : Moves s.0 t.0 (places.Running p) places.Blocked (counts_of w.processors threads v) (counts_of w.processors (put threads a.0 (Some t)) blocks)
+      block_counts : Moves s.0 t.0 (places.Running p) places.Blocked (counts_of w.processors threads v)
+          (counts_of w.processors (put threads a.0 (Some t)) blocks)
       block_counts = record {
         ready = λ r u. refl;
         carries = λ r u. omega (arith, carried_other threads (Some t) r u a v.queue not_queued);
-        blocks = λ r u. omega (arith, sum_by_push (λ (x : Io). holds_for (put threads a.0 (Some t)) r u x.kind) v.ios io, carries (put threads a.0 (Some t)) r u, holds_now (Some t) r u t refl, blocked_other threads (Some t) r u a v.ios not_blocked, at_none s.0 t.0 r u);
+        blocks =
+            λ r u. omega (
+              arith,
+              sum_by_push (λ (x : Io). holds_for (put threads a.0 (Some t)) r u x.kind) v.ios io,
+              carries (put threads a.0 (Some t)) r u,
+              holds_now (Some t) r u t refl,
+              blocked_other threads (Some t) r u a v.ios not_blocked,
+              at_none s.0 t.0 r u,
+            );
         works = λ r u. refl;
       }
 
@@ -185,14 +206,17 @@ module _ (w : WorkloadView) (v : Parts) (runners : List (Option Runner)) (h : Ho
         once = block_once;
         fits = λ q. elim (cases_eq q.0 p.0) [
           | inl e ↦
-              let gone : get_or (set v.placed p.0 None) q.0 None ≡ None = ap (λ n. get_or (set v.placed p.0 None) n None) e ∙ get_or-set_same v.placed p.0 None None within in
+              let gone : get_or (set v.placed p.0 None) q.0 None ≡ None =
+              ap (λ n. get_or (set v.placed p.0 None) n None) e ∙ get_or-set_same v.placed p.0 None None within in
               record { owned = λ b is. let both : None ≡ Some b = sym gone ∙ is in cc; runs = (left_runners q).runs }
           | inr ne ↦ record { owned = λ b is. get_or-set_other v.state.owners p.0 q.0 None None ne ∙ (left_runners q).owned b is; runs = (left_runners q).runs }
         ];
         lives = lives_kept w (held_with (Some t)) a v.lives keeps_block h.lives;
         ios = All-push (λ (x : Io). IsOwn x.kind) v.ios io h.ios own;
-        agree = subst (λ f. AllAgree (counts_of w.processors f blocks) spaces') (sym (threads_new w (held_with (Some t)) a v.lives (Some t) h.lives (λ life. refl)))
-            (moved (counts_of w.processors threads v) (counts_of w.processors (put threads a.0 (Some t)) blocks) v.state.spaces s t (places.Running p) places.Blocked h.agree place (λ e. cc) block_counts);
+        agree =
+            subst (λ f. AllAgree (counts_of w.processors f blocks) spaces') (sym (threads_new w (held_with (Some t)) a v.lives (Some t) h.lives (λ life. refl)))
+            (moved (counts_of w.processors threads v) (counts_of w.processors (put threads a.0 (Some t)) blocks) v.state.spaces s t
+            (places.Running p) places.Blocked h.agree place (λ e. cc) block_counts);
       }
 
   -- one that carried no thread is stopped
@@ -202,7 +226,14 @@ module _ (w : WorkloadView) (v : Parts) (runners : List (Option Runner)) (h : Ho
         let g = h.agree r u in
         record {
           in_lists = g.in_lists;
-          in_queue = omega (arith, g.in_queue, sum_by_push (holds (put threads a.0 None) r u) v.queue a, holds_none (put threads a.0 None) r u a (put-same threads a.0 None), carried_other threads None r u a v.queue not_queued);
+          in_queue =
+              omega (
+                arith,
+                g.in_queue,
+                sum_by_push (holds (put threads a.0 None) r u) v.queue a,
+                holds_none (put threads a.0 None) r u a (put-same threads a.0 None),
+                carried_other threads None r u a v.queue not_queued,
+              );
           in_ios = omega (arith, g.in_ios, blocked_other threads None r u a v.ios not_blocked);
           in_work = g.in_work;
         }
@@ -219,5 +250,7 @@ module _ (w : WorkloadView) (v : Parts) (runners : List (Option Runner)) (h : Ho
       fits = left_fits v.state.owners None runners runners v.placed p h.fits within idle (λ q ne. refl);
       lives = lives_kept w (stopped_with None) a v.lives (keeps_stop None) h.lives;
       ios = h.ios;
-      agree = subst (λ f. AllAgree (counts_of w.processors f (stops None)) v.state.spaces) (sym (threads_new w (stopped_with None) a v.lives None h.lives (λ life. refl))) idle_agrees;
+      agree =
+          subst (λ f. AllAgree (counts_of w.processors f (stops None)) v.state.spaces)
+          (sym (threads_new w (stopped_with None) a v.lives None h.lives (λ life. refl))) idle_agrees;
     }

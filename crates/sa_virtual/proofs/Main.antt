@@ -53,7 +53,12 @@ chosen_one xs false x is = got xs 0 x is
 fewer : (l : ProcNo) (t : ThreadNo) (xs : List Listed) → of_thread t (filter (is_in l) xs) ≤ of_thread t xs
 fewer l t [] = omega arith
 fewer l t (y ∷ xs) = elim (is_in l y) as (λ b. of_thread t (cond b (y ∷ filter (is_in l) xs) (filter (is_in l) xs)) ≤ of_thread t (y ∷ xs)) [
-  | true ↦ omega (arith, fewer l t xs, sum_by-cons (λ (z : Listed). cond (eqb z.thread.0 t.0) 1 0) y xs, sum_by-cons (λ (z : Listed). cond (eqb z.thread.0 t.0) 1 0) y (filter (is_in l) xs))
+  | true ↦ omega (
+    arith,
+    fewer l t xs,
+    sum_by-cons (λ (z : Listed). cond (eqb z.thread.0 t.0) 1 0) y xs,
+    sum_by-cons (λ (z : Listed). cond (eqb z.thread.0 t.0) 1 0) y (filter (is_in l) xs),
+  )
   | false ↦ omega (arith, fewer l t xs, sum_by-cons (λ (z : Listed). cond (eqb z.thread.0 t.0) 1 0) y xs)
 ]
 
@@ -67,13 +72,16 @@ module _ (w : WorkloadView) (valid : IsWorkload w) (e : ℕ) (p : ProcNo) (insid
 
   -- a turn that says only one thing, and changes nothing
   module _ (v : Virtuals) (good : Good w v) (a : ActNo) (at : placed_on v p ≡ Some a) where
-    takes_one : (l : ProcNo) (own : Bool) → carried_on v p ≡ None → (o : Option Listed) → chosen (threads_in v (space_of a) l) own ≡ o → Met w e p v.base (taken_from v a l o)
-    takes_one l own idle None is = record { steps = (tt, tt); stands = good.stands; quiet = good.quiet; some = omega arith; counts = λ c below. weaker c v.base.state.spaces below }
+    takes_one : (l : ProcNo) (own : Bool) → carried_on v p ≡ None → (o : Option Listed) → chosen (threads_in v (space_of a) l) own ≡ o
+        → Met w e p v.base (taken_from v a l o)
+    takes_one l own idle None is =
+        record { steps = (tt, tt); stands = good.stands; quiet = good.quiet; some = omega arith; counts = λ c below. weaker c v.base.state.spaces below }
     takes_one l own idle (Some x) is =
         takes w e p v good a at few l x (omega (arith, chosen_one (threads_in v (space_of a) l) own x is, fewer l x.thread (ready_of v (space_of a)))) idle
 
     pops : carried_on v p ≡ None → (o : Option ProcNo) → Met w e p v.base (popped v a o)
-    pops idle None = record { steps = (tt, tt); stands = good.stands; quiet = good.quiet; some = omega arith; counts = λ c below. weaker c v.base.state.spaces below }
+    pops idle None =
+        record { steps = (tt, tt); stands = good.stands; quiet = good.quiet; some = omega arith; counts = λ c below. weaker c v.base.state.spaces below }
     pops idle (Some l) = takes_one l (l.0 == (list_of a).0) idle (chosen (threads_in v (space_of a) l) (l.0 == (list_of a).0)) refl
 
     module _ (room : HasRoom v.base.state.spaces) (t : ThreadNo) (runs : runner_at good.stands.runners p ≡ Some (runner (space_of a) t)) where
@@ -90,7 +98,8 @@ module _ (w : WorkloadView) (valid : IsWorkload w) (e : ℕ) (p : ProcNo) (insid
         go true is = faults w valid e p v good a at t runs room is
         go false is = by_instr (next_instr w v.base.state (space_of a) t) refl is
 
-    steps : HasRoom v.base.state.spaces → (t : Option ThreadNo) (ts : List ThreadNo) → carried_on v p ≡ t → v.work a.0 ≡ ts → Met w e p v.base (stepped w v p a t ts)
+    steps : HasRoom v.base.state.spaces → (t : Option ThreadNo) (ts : List ThreadNo) → carried_on v p ≡ t → v.work a.0 ≡ ts
+        → Met w e p v.base (stepped w v p a t ts)
     steps room t (first ∷ others) is work = pushes w e p v good a at few t first others work
     steps room (Some t) [] is work = runs_it room t (carrier w e p v good a at few ∙ ap (λ o. runner_of (space_of a) o) is)
     steps room None [] is work = pops is (find (λ l. has_some (threads_in v (space_of a) l)) (round_from w (list_of a)))
@@ -99,9 +108,11 @@ module _ (w : WorkloadView) (valid : IsWorkload w) (e : ℕ) (p : ProcNo) (insid
     stops_now [] is some = cc
     stops_now (first ∷ rest) is some = stops_it w e p v good inside few a at first rest is
 
-  moves : (v : Virtuals) → Good w v → HasRoom v.base.state.spaces → (a : ActNo) → placed_on v p ≡ Some a → (b : Bool) → nat_le quantum (v.steps a.0) && some_wait v.queue ≡ b → Met w e p v.base (moves_on w v p a b)
+  moves : (v : Virtuals) → Good w v → HasRoom v.base.state.spaces → (a : ActNo) → placed_on v p ≡ Some a → (b : Bool)
+      → nat_le quantum (v.steps a.0) && some_wait v.queue ≡ b → Met w e p v.base (moves_on w v p a b)
   moves v good room a at true is = stops_now v good a at v.queue refl (second (nat_le quantum (v.steps a.0)) (some_wait v.queue) is)
-  moves v good room a at false is = steps (with_step a v) (record { stands = good.stands; quiet = good.quiet }) a at room (carried_on v p) (v.work a.0) refl refl
+  moves v good room a at false is =
+      steps (with_step a v) (record { stands = good.stands; quiet = good.quiet }) a at room (carried_on v p) (v.work a.0) refl refl
 
   goes : (v : Virtuals) → Good w v → HasRoom v.base.state.spaces → (o : Option ActNo) → placed_on v p ≡ o → Met w e p v.base (goes_on w v p o)
   goes v good room None is = places_first w e p v good inside is
@@ -112,15 +123,22 @@ module _ (w : WorkloadView) (valid : IsWorkload w) (e : ℕ) (p : ProcNo) (insid
   turns v good room (Some io) is = unblocks w e p v good io is
 
 -- EACH TURN
-pub turn_is_legal : (w : WorkloadView) (p : ProcNo) (v : Virtuals) (c : ℕ) → IsWorkload w → p.0 < w.processors → Good w v → IsBelow c v.base.state.spaces → c + 1 < 2 ^ 32
+pub turn_is_legal : (w : WorkloadView) (p : ProcNo) (v : Virtuals) (c : ℕ) → IsWorkload w → p.0 < w.processors → Good w v → IsBelow c v.base.state.spaces
+    → c + 1 < 2 ^ 32
     → IsTurn w v (event_on v p (turned w v p).says) × Good w (after w v p) × IsBelow (c + 1) (after w v p).base.state.spaces × (1 ≤ length (turned w v p).says)
 turn_is_legal w p v c valid inside good below small =
     let now : Virtuals = evicted w v p in
     let there : Good w now = record { stands = good.stands; quiet = good.quiet } in
-    let met : Met w v.base.number p now.base (turned w v p) = turns w valid v.base.number p inside now there (λ s k. omega (arith, below s k, small)) (due_of v.base.number v.base.under_way) refl in
-    (record { number = refl; proc = inside; steps = record { steps = met.steps }; exact = refl }, record { stands = met.stands; quiet = met.quiet }, met.counts c below, met.some)
+    let met : Met w v.base.number p now.base (turned w v p) =
+    turns w valid v.base.number p inside now there (λ s k. omega (arith, below s k, small)) (due_of v.base.number v.base.under_way) refl in (
+      record { number = refl; proc = inside; steps = record { steps = met.steps }; exact = refl },
+      record { stands = met.stands; quiet = met.quiet },
+      met.counts c below,
+      met.some,
+    )
 
-pub run_goes_on : (w : WorkloadView) (v : Virtuals) (ps : List ProcNo) (c : ℕ) → IsWorkload w → All (λ (p : ProcNo). p.0 < w.processors) ps → Good w v → IsBelow c v.base.state.spaces
+pub run_goes_on : (w : WorkloadView) (v : Virtuals) (ps : List ProcNo) (c : ℕ) → IsWorkload w → All (λ (p : ProcNo). p.0 < w.processors) ps → Good w v
+    → IsBelow c v.base.state.spaces
     → c + length ps < 2 ^ 32 → AreTurns w v (run_from w v ps)
 run_goes_on w v [] c valid inside good below small = tt
 run_goes_on w v (p ∷ ps) c valid inside good below small =
@@ -132,7 +150,8 @@ abbrev Follow : ℕ → List Event → Type 0
 Follow n [] = Unit {0}
 Follow n (e ∷ es) = (e.number ≡ n) × (1 ≤ length e.records) × Follow (n + 1) es
 
-pub run_follows : (w : WorkloadView) (v : Virtuals) (ps : List ProcNo) (c : ℕ) → IsWorkload w → All (λ (p : ProcNo). p.0 < w.processors) ps → Good w v → IsBelow c v.base.state.spaces
+pub run_follows : (w : WorkloadView) (v : Virtuals) (ps : List ProcNo) (c : ℕ) → IsWorkload w → All (λ (p : ProcNo). p.0 < w.processors) ps → Good w v
+    → IsBelow c v.base.state.spaces
     → c + length ps < 2 ^ 32 → (n : ℕ) → v.base.number ≡ n → Follow n (run_from w v ps)
 run_follows w v [] c valid inside good below small n is = tt
 run_follows w v (p ∷ ps) c valid inside good below small n is =
@@ -146,11 +165,14 @@ one_event : (n : ℕ) (p : ProcNo) (x : Record) (xs : List Record) (rest : List 
 one_event n p x [] rest [] is follow = ap (before_events (record { event = n; proc = p; what = x })) is
 one_event n p x [] rest (e ∷ es) is follow =
     ap (before_events (record { event = n; proc = p; what = x })) is
-    ∙ ap (λ b. cond (b && eqb p.0 e.proc.0) (record e { records = x ∷ e.records } ∷ es) (record { number = n; proc = p; records = x ∷ [] } ∷ e ∷ es)) (ne_eqb n e.number (λ same. absurd (omega (arith, same, follow.0))))
+    ∙ ap (λ b. cond (b && eqb p.0 e.proc.0) (record e { records = x ∷ e.records } ∷ es) (record { number = n; proc = p; records = x ∷ [] } ∷ e ∷ es))
+    (ne_eqb n e.number (λ same. absurd (omega (arith, same, follow.0))))
 one_event n p x (y ∷ xs) rest es is follow =
     ap (before_events (record { event = n; proc = p; what = x })) (one_event n p y xs rest es is follow)
-    ∙ ap (λ b. cond (b && eqb p.0 p.0) (record { number = n; proc = p; records = x ∷ y ∷ xs } ∷ es) (record { number = n; proc = p; records = x ∷ [] } ∷ record { number = n; proc = p; records = y ∷ xs } ∷ es)) (eq-eqb n n refl)
-    ∙ ap (λ b. cond b (record { number = n; proc = p; records = x ∷ y ∷ xs } ∷ es) (record { number = n; proc = p; records = x ∷ [] } ∷ record { number = n; proc = p; records = y ∷ xs } ∷ es)) (eq-eqb p.0 p.0 refl)
+    ∙ ap (λ b. cond (b && eqb p.0 p.0) (record { number = n; proc = p; records = x ∷ y ∷ xs } ∷ es)
+    (record { number = n; proc = p; records = x ∷ [] } ∷ record { number = n; proc = p; records = y ∷ xs } ∷ es)) (eq-eqb n n refl)
+    ∙ ap (λ b. cond b (record { number = n; proc = p; records = x ∷ y ∷ xs } ∷ es)
+    (record { number = n; proc = p; records = x ∷ [] } ∷ record { number = n; proc = p; records = y ∷ xs } ∷ es)) (eq-eqb p.0 p.0 refl)
 
 first_event : (n k : ℕ) (p : ProcNo) (records : List Record) (es : List Event) → k ≡ n → 1 ≤ length records → Follow (n + 1) es → events_of (items_of es) ≡ es
     → events_of (items_at k p records ++ items_of es) ≡ record { number = k; proc = p; records = records } ∷ es

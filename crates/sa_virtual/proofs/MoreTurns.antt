@@ -40,7 +40,8 @@ pub same_owners : (a : State) (s : SpaceNo) (t : Option ThreadNo) → (placed_if
 same_owners a s None = refl
 same_owners a s (Some t) = refl
 
-module _ (w : WorkloadView) (e : ℕ) (p : ProcNo) (v : Virtuals) (good : Good w v) (inside : p.0 < w.processors) (few : w.processors ≤ MAX_PROCESSORS) (a : ActNo) (at : placed_on v p ≡ Some a) where
+module _ (w : WorkloadView) (e : ℕ) (p : ProcNo) (v : Virtuals) (good : Good w v) (inside : p.0 < w.processors) (few : w.processors ≤ MAX_PROCESSORS)
+    (a : ActNo) (at : placed_on v p ≡ Some a) where
   abbrev h : Holds w (parts_of v) good.stands.runners
   h = good.stands.holds
 
@@ -56,7 +57,8 @@ module _ (w : WorkloadView) (e : ℕ) (p : ProcNo) (v : Virtuals) (good : Good w
   stop_it None runs = record { runners = good.stands.runners; holds = left.idle_holds w (parts_of v) good.stands.runners h p a at runs }
   stop_it (Some t) runs = record { runners = set good.stands.runners p.0 None; holds = left.stop_holds w (parts_of v) good.stands.runners h p a at t runs }
 
-  module _ (t : Option ThreadNo) (runs : runner_at good.stands.runners p ≡ runner_of s t) (first : ActNo) (rest : List ActNo) (queue : v.queue ≡ first ∷ rest) where
+  module _ (t : Option ThreadNo) (runs : runner_at good.stands.runners p ≡ runner_of s t) (first : ActNo) (rest : List ActNo)
+      (queue : v.queue ≡ first ∷ rest) where
     abbrev now : Parts
     now = left.stops w (parts_of v) good.stands.runners h p a at t
 
@@ -97,7 +99,9 @@ module _ (w : WorkloadView) (e : ℕ) (p : ProcNo) (v : Virtuals) (good : Good w
       );
       stands = record {
         runners = done.runners;
-        holds = subst (λ placed. Holds w (record (on.places' w now done.runners done.holds p inside free first (rest ++ a ∷ []) queue' None) { placed = placed }) done.runners)
+        holds =
+            subst (λ placed. Holds w (record (on.places' w now done.runners done.holds p inside free first (rest ++ a ∷ []) queue' None) { placed = placed })
+            done.runners)
             placed_twice (on.none_holds w now done.runners done.holds p inside free first (rest ++ a ∷ []) queue' (same_thread ∙ is));
       };
       quiet = quiet;
@@ -111,19 +115,34 @@ module _ (w : WorkloadView) (e : ℕ) (p : ProcNo) (v : Virtuals) (good : Good w
             left.stop_needs w (parts_of v) good.stands.runners h p a at t runs,
             (
               (owns_still, nobody),
-              ((on.owns w now done.runners done.holds p inside free first (rest ++ a ∷ []) queue', nobody, on.place w now done.runners done.holds p inside free first (rest ++ a ∷ []) queue' u (same_thread ∙ is)), tt),
+              (
+                (
+                  on.owns w now done.runners done.holds p inside free first (rest ++ a ∷ []) queue',
+                  nobody,
+                  on.place w now done.runners done.holds p inside free first (rest ++ a ∷ []) queue' u (same_thread ∙ is),
+                ),
+                tt,
+              ),
             ),
           );
           stands = record {
             runners = set done.runners p.0 (Some (runner (space_of first) u));
-            holds = subst (λ placed. Holds w (record (on.places' w now done.runners done.holds p inside free first (rest ++ a ∷ []) queue' (Some u)) { placed = placed; lives = with_life (with_cont true) (get_or (set v.base.running p.0 None) p.0 None) now.lives }) (set done.runners p.0 (Some (runner (space_of first) u))))
+            holds =
+                subst (λ placed. Holds w (record (on.places' w now done.runners done.holds p inside free first (rest ++ a ∷ []) queue' (Some u)) {
+                  placed = placed;
+                  lives = with_life (with_cont true) (get_or (set v.base.running p.0 None) p.0 None) now.lives;
+                }) (set done.runners p.0 (Some (runner (space_of first) u))))
                 placed_twice
-                (subst (λ o. Holds w (record (on.places' w now done.runners done.holds p inside free first (rest ++ a ∷ []) queue' (Some u)) { lives = with_life (with_cont true) o now.lives }) (set done.runners p.0 (Some (runner (space_of first) u))))
+                (subst (λ o. Holds w (record (on.places' w now done.runners done.holds p inside free first (rest ++ a ∷ []) queue' (Some u)) {
+                  lives = with_life (with_cont true) o now.lives;
+                }) (set done.runners p.0 (Some (runner (space_of first) u))))
                 (sym (quiet p)) (on.some_holds w now done.runners done.holds p inside free first (rest ++ a ∷ []) queue' u (same_thread ∙ is)));
           };
           quiet = quiet;
           some = omega arith;
-          counts = λ c below. put_event c (with_owner now.state p (Some (space_of first))) (space_of first) (Some u) (places.Running p) (put_below c v.base.state s t places.Carried below);
+          counts =
+              λ c below. put_event c (with_owner now.state p (Some (space_of first))) (space_of first) (Some u) (places.Running p)
+              (put_below c v.base.state s t places.Carried below);
         }
 
   -- 3. ITS STEPS ARE MADE

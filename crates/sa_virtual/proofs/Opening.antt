@@ -39,28 +39,43 @@ module _ (a : ℕ) where
   cons : (n : ℕ) (queue : List ActNo) → n ≢ a → in_queue queue a ≡ 0 → in_queue (record { 0 = n } ∷ queue) a ≡ 0
   cons n queue ne none = let z : one_if n a ≡ 0 = ap one_where (ne_eqb n a ne) in omega (arith, z, none, unqueued queue (record { 0 = n }) a)
 
-  pub place_none : (n b k : ℕ) → ((s : ℕ) → b ≤ s → s < b + n → MAX_PROCESSORS * s + k ≢ a) → in_queue (map (λ s. virtual (space_no s) k) (range_with_len b n)) a ≡ 0
+  pub place_none : (n b k : ℕ) → ((s : ℕ) → b ≤ s → s < b + n → MAX_PROCESSORS * s + k ≢ a)
+      → in_queue (map (λ s. virtual (space_no s) k) (range_with_len b n)) a ≡ 0
   place_none zero b k apart = refl
-  place_none (suc n) b k apart = cons (MAX_PROCESSORS * b + k) (map (λ s. virtual (space_no s) k) (range_with_len (b + 1) n)) (apart b (omega arith) (omega arith)) (place_none n (b + 1) k (λ s low high. apart s (omega (arith, low)) (omega (arith, high))))
+  place_none (suc n) b k apart =
+      cons (MAX_PROCESSORS * b + k) (map (λ s. virtual (space_no s) k) (range_with_len (b + 1) n)) (apart b (omega arith) (omega arith))
+      (place_none n (b + 1) k (λ s low high. apart s (omega (arith, low)) (omega (arith, high))))
 
-  place_once : (n b k : ℕ) → k ≡ a % MAX_PROCESSORS → b ≤ a / MAX_PROCESSORS → a / MAX_PROCESSORS < b + n → in_queue (map (λ s. virtual (space_no s) k) (range_with_len b n)) a ≡ 1
+  place_once : (n b k : ℕ) → k ≡ a % MAX_PROCESSORS → b ≤ a / MAX_PROCESSORS → a / MAX_PROCESSORS < b + n
+      → in_queue (map (λ s. virtual (space_no s) k) (range_with_len b n)) a ≡ 1
   place_once zero b k is low high = absurd (omega (arith, low, high))
   place_once (suc n) b k is low high =
       let rest = map (λ s. virtual (space_no s) k) (range_with_len (b + 1) n) in
       elim (cases_eq (MAX_PROCESSORS * b + k) a) [
         | inl e ↦
             let one : one_if (MAX_PROCESSORS * b + k) a ≡ 1 = ap one_where (eq-eqb (MAX_PROCESSORS * b + k) a e) in
-            omega (arith, one, unqueued rest (record { 0 = MAX_PROCESSORS * b + k }) a, place_none n (b + 1) k (λ s l h' same. absurd (omega (arith, e, same, l))))
+            omega (
+              arith,
+              one,
+              unqueued rest (record { 0 = MAX_PROCESSORS * b + k }) a,
+              place_none n (b + 1) k (λ s l h' same. absurd (omega (arith, e, same, l))),
+            )
         | inr ne ↦
             let z : one_if (MAX_PROCESSORS * b + k) a ≡ 0 = ap one_where (ne_eqb (MAX_PROCESSORS * b + k) a ne) in
             let more : b ≢ a / MAX_PROCESSORS = λ e. ne (omega (arith, e, is)) in
-            omega (arith, z, unqueued rest (record { 0 = MAX_PROCESSORS * b + k }) a, place_once n (b + 1) k is (omega (arith, low, more)) (omega (arith, high)))
+            omega (
+              arith,
+              z,
+              unqueued rest (record { 0 = MAX_PROCESSORS * b + k }) a,
+              place_once n (b + 1) k is (omega (arith, low, more)) (omega (arith, high)),
+            )
       ]
 
   split : (spaces k : ℕ) (ks : List ℕ) → in_queue (of_places spaces (k ∷ ks)) a ≡ in_queue (of_place spaces k) a + in_queue (of_places spaces ks) a
   split spaces k ks = sum_by-append (λ (c : ActNo). cond (eqb c.0 a) 1 0) (of_place spaces k) (of_places spaces ks)
 
-  pub places_none : (spaces m b : ℕ) → ((k s : ℕ) → b ≤ k → k < b + m → s < spaces → MAX_PROCESSORS * s + k ≢ a) → in_queue (of_places spaces (range_with_len b m)) a ≡ 0
+  pub places_none : (spaces m b : ℕ) → ((k s : ℕ) → b ≤ k → k < b + m → s < spaces → MAX_PROCESSORS * s + k ≢ a)
+      → in_queue (of_places spaces (range_with_len b m)) a ≡ 0
   places_none spaces zero b apart = refl
   places_none spaces (suc m) b apart =
       omega (
@@ -70,7 +85,8 @@ module _ (a : ℕ) where
         places_none spaces m (b + 1) (λ k s low high inside. apart k s (omega (arith, low)) (omega (arith, high)) inside),
       )
 
-  places_once : (spaces m b : ℕ) → b + m ≤ MAX_PROCESSORS → b ≤ a % MAX_PROCESSORS → a % MAX_PROCESSORS < b + m → a / MAX_PROCESSORS < spaces → in_queue (of_places spaces (range_with_len b m)) a ≡ 1
+  places_once : (spaces m b : ℕ) → b + m ≤ MAX_PROCESSORS → b ≤ a % MAX_PROCESSORS → a % MAX_PROCESSORS < b + m → a / MAX_PROCESSORS < spaces
+      → in_queue (of_places spaces (range_with_len b m)) a ≡ 1
   places_once spaces zero b few low high inside = absurd (omega (arith, low, high))
   places_once spaces (suc m) b few low high inside = elim (cases_eq b (a % MAX_PROCESSORS)) [
     | inl e ↦ omega (
@@ -102,7 +118,8 @@ module _ (a : ℕ) where
     not_first x = ap (λ b. one_where (b && nat_lt (a % MAX_PROCESSORS) w.processors)) (le-ltb _ _ x)
 
     not_second : w.processors ≤ a % MAX_PROCESSORS → one_where (is_virtual w (record { 0 = a })) ≡ 0
-    not_second x = ap (λ b. one_where (nat_lt (a / MAX_PROCESSORS) (length w.spaces) && b)) (le-ltb _ _ x) ∙ never (nat_lt (a / MAX_PROCESSORS) (length w.spaces))
+    not_second x =
+        ap (λ b. one_where (nat_lt (a / MAX_PROCESSORS) (length w.spaces) && b)) (le-ltb _ _ x) ∙ never (nat_lt (a / MAX_PROCESSORS) (length w.spaces))
 
 -- THE REST
 none_there : (n a : ℕ) → on_processors (replicate n None) a ≡ 0
@@ -132,7 +149,7 @@ none_worked : (n s t : ℕ) → worked (λ a. []) n s t ≡ 0
 none_worked zero s t = refl
 none_worked (suc n) s t = omega (arith, none_worked n s t)
 
--- a thread that does not wait stands in no queue
+-- a thread that does not wait is in no queue
 no_wait : (x : SpaceState) (t : ℕ) → IsSound x → is_waiting (place_no x t) ≡ false → waits_of x.sync t ≡ 0
 no_wait x t sound is = elim (cases_lt 0 (waits_of x.sync t)) [
   | inl some ↦ let both : false ≡ true = sym is ∙ ap is_waiting (sound.waiting (record { 0 = t }) some) in cc
@@ -142,18 +159,36 @@ no_wait x t sound is = elim (cases_lt 0 (waits_of x.sync t)) [
 later : (t : ℕ) → count_by (λ (x : Listed). eqb x.thread.0 (suc t)) (first_listed ∷ []) ≡ 0
 later t = sum_by-cons (λ (x : Listed). cond (eqb x.thread.0 (suc t)) 1 0) first_listed [] ∙ ap (λ b. cond b 1 0 + 0) (ne_eqb 0 (suc t) (λ e. cc))
 
-first_agrees : (def : SpaceView) (t : ℕ) → Agrees (count_by (λ (x : Listed). eqb x.thread.0 t) (first_listed ∷ [])) 0 0 (waits_of (opening_space def).sync t + 0) (place_no (opening_space def) t)
-first_agrees def zero = record { in_lists = refl; in_queue = refl; in_ios = refl; in_work = let none = no_wait (opening_space def) 0 (opening-sound def) refl in omega (arith, none) }
-first_agrees def (suc t) = record { in_lists = later t; in_queue = refl; in_ios = refl; in_work = let none = no_wait (opening_space def) (suc t) (opening-sound def) refl in omega (arith, none) }
+first_agrees : (def : SpaceView) (t : ℕ)
+    → Agrees (count_by (λ (x : Listed). eqb x.thread.0 t) (first_listed ∷ [])) 0 0 (waits_of (opening_space def).sync t + 0) (place_no (opening_space def) t)
+first_agrees def zero =
+    record {
+      in_lists = refl;
+      in_queue = refl;
+      in_ios = refl;
+      in_work = let none = no_wait (opening_space def) 0 (opening-sound def) refl in
+          omega (arith, none);
+    }
+first_agrees def (suc t) =
+    record {
+      in_lists = later t;
+      in_queue = refl;
+      in_ios = refl;
+      in_work = let none = no_wait (opening_space def) (suc t) (opening-sound def) refl in
+          omega (arith, none);
+    }
 
 opening_agrees : (w : WorkloadView) → AllAgree (counts_of w.processors (threads_of opening_life) (parts_of (opening w))) (map opening_space w.spaces)
 opening_agrees w s t =
-    let agrees : ℕ → SpaceState → Type 0 = λ r x. Agrees (listed (replicate (length w.spaces) (first_listed ∷ [])) r t) 0 0 (waits_of x.sync t + 0) (place_no x t) in
+    let agrees : ℕ → SpaceState → Type 0 =
+    λ r x. Agrees (listed (replicate (length w.spaces) (first_listed ∷ [])) r t) 0 0 (waits_of x.sync t + 0) (place_no x t) in
     let all = each_opening w agrees
-    (λ r h. subst (λ (xs : List Listed). Agrees (count_by (λ (x : Listed). eqb x.thread.0 t) xs) 0 0 (waits_of (opening_space (get_or w.spaces r no_space)).sync t + 0) (place_no (opening_space (get_or w.spaces r no_space)) t))
+    (λ r h. subst (λ (xs : List Listed). Agrees (count_by (λ (x : Listed). eqb x.thread.0 t) xs) 0 0
+    (waits_of (opening_space (get_or w.spaces r no_space)).sync t + 0) (place_no (opening_space (get_or w.spaces r no_space)) t))
     (sym (get_or-replicate (length w.spaces) r (first_listed ∷ []) [] h)) (first_agrees (get_or w.spaces r no_space) t))
     (λ r h. subst (λ (xs : List Listed). Agrees (count_by (λ (x : Listed). eqb x.thread.0 t) xs) 0 0 (waits_of no_threads.sync t + 0) (place_no no_threads t))
-    (sym (get_or_past (replicate (length w.spaces) (first_listed ∷ [])) r [] (omega (arith, h, length-replicate {A = List Listed} (length w.spaces) (first_listed ∷ [])))))
+    (sym (get_or_past (replicate (length w.spaces) (first_listed ∷ [])) r []
+    (omega (arith, h, length-replicate {A = List Listed} (length w.spaces) (first_listed ∷ [])))))
     (let none : waits_of no_threads.sync t ≡ 0 = elim (cases_lt 0 (waits_of no_threads.sync t)) [
       | inl some ↦ absurd (some_first t ((opening-sound no_space).waiting (record { 0 = t }) some))
       | inr none ↦ omega (arith, none)
@@ -207,8 +242,10 @@ opening_good w valid = record {
 -- no semaphore has more than it can start with
 start_below : (sems : List ℕ) (k : ℕ) → All (λ start. start ≤ MAX_START) sems → (get_or (map semaphore_of sems) k (semaphore_of 0)).count ≤ MAX_START
 start_below sems k starts = elim (cases_lt k (length sems)) [
-  | inl h ↦ subst (λ (x : Semaphore). x.count ≤ MAX_START) (sym (get_or-map semaphore_of sems k 0 (semaphore_of 0) h)) (All-get_or (λ start. start ≤ MAX_START) sems k 0 h starts)
-  | inr h ↦ subst (λ (x : Semaphore). x.count ≤ MAX_START) (sym (get_or_past (map semaphore_of sems) k (semaphore_of 0) (omega (arith, h, length-map sems semaphore_of)))) (omega arith)
+  | inl h ↦ subst (λ (x : Semaphore). x.count ≤ MAX_START) (sym (get_or-map semaphore_of sems k 0 (semaphore_of 0) h))
+      (All-get_or (λ start. start ≤ MAX_START) sems k 0 h starts)
+  | inr h ↦ subst (λ (x : Semaphore). x.count ≤ MAX_START)
+      (sym (get_or_past (map semaphore_of sems) k (semaphore_of 0) (omega (arith, h, length-map sems semaphore_of)))) (omega arith)
 ]
 
 pub opening_below : (w : WorkloadView) → IsWorkload w → IsBelow MAX_START (opening w).base.state.spaces

@@ -33,8 +33,10 @@ place_fits : (owners : List (Option SpaceNo)) (runners : List (Option Runner)) (
     → (q : ProcNo) → Fits (get_or (set owners p.0 (Some (space_of a))) q.0 None) (runner_at runners q) (get_or (set placed p.0 (Some a)) q.0 None)
 place_fits owners runners placed p a fits within inside none q = elim (cases_eq q.0 p.0) [
   | inl e ↦
-      let here : get_or (set placed p.0 (Some a)) q.0 None ≡ Some a = ap (λ n. get_or (set placed p.0 (Some a)) n None) e ∙ get_or-set_same placed p.0 (Some a) None within in
-      let owner : get_or (set owners p.0 (Some (space_of a))) q.0 None ≡ Some (space_of a) = ap (λ n. get_or (set owners p.0 (Some (space_of a))) n None) e ∙ get_or-set_same owners p.0 (Some (space_of a)) None inside in
+      let here : get_or (set placed p.0 (Some a)) q.0 None ≡ Some a =
+      ap (λ n. get_or (set placed p.0 (Some a)) n None) e ∙ get_or-set_same placed p.0 (Some a) None within in
+      let owner : get_or (set owners p.0 (Some (space_of a))) q.0 None ≡ Some (space_of a) =
+      ap (λ n. get_or (set owners p.0 (Some (space_of a))) n None) e ∙ get_or-set_same owners p.0 (Some (space_of a)) None inside in
       let idle : runner_at runners q ≡ None = ap (λ n. get_or runners n None) e ∙ none in
       record {
         owned = λ b is. owner ∙ ap (λ (c : ActNo). Some (space_of c)) (same_Some _ _ (sym here ∙ is));
@@ -48,7 +50,8 @@ place_fits owners runners placed p a fits within inside none q = elim (cases_eq 
       }
 ]
 
-module _ (w : WorkloadView) (v : Parts) (runners : List (Option Runner)) (h : Holds w v runners) (p : ProcNo) (inside : p.0 < w.processors) (free : get_or v.placed p.0 None ≡ None)
+module _ (w : WorkloadView) (v : Parts) (runners : List (Option Runner)) (h : Holds w v runners) (p : ProcNo) (inside : p.0 < w.processors)
+    (free : get_or v.placed p.0 None ≡ None)
     (a : ActNo) (rest : List ActNo) (queue : v.queue ≡ a ∷ rest) where
   abbrev s : SpaceNo
   s = space_of a
@@ -115,7 +118,9 @@ module _ (w : WorkloadView) (v : Parts) (runners : List (Option Runner)) (h : Ho
 
     pub some_holds : Holds w (places' (Some t)) (set runners p.0 (Some (runner s t)))
     some_holds = record {
-      replay = enter_kept w v.state.spaces owned'.owners runners replay p s t (settled_moves v.state.spaces s t places.Carried refl place) owns nobody (ap is_running place);
+      replay =
+          enter_kept w v.state.spaces owned'.owners runners replay p s t (settled_moves v.state.spaces s t places.Carried refl place) owns nobody
+          (ap is_running place);
       owners = length-set v.state.owners p.0 (Some s) ∙ h.owners;
       sized = sized_put w v.state.spaces s t (places.Running p) there h.sized;
       within = within_put w v.state.spaces s t (places.Running p) there h.within;
@@ -124,11 +129,15 @@ module _ (w : WorkloadView) (v : Parts) (runners : List (Option Runner)) (h : Ho
       once = once;
       fits = λ q. record {
         owned = (fits q).owned;
-        runs = λ x runs. entered runners (set v.placed p.0 (Some a)) p q (runner s t) a x (get_or-set_same v.placed p.0 (Some a) None within) refl runs (λ same. (fits q).runs x same);
+        runs =
+            λ x runs. entered runners (set v.placed p.0 (Some a)) p q (runner s t) a x (get_or-set_same v.placed p.0 (Some a) None within) refl runs
+            (λ same. (fits q).runs x same);
       };
       lives = h.lives;
       ios = h.ios;
-      agree = moved (counts_of w.processors threads v) (counts_of w.processors threads (places' (Some t))) v.state.spaces s t places.Carried (places.Running p) h.agree place (λ e. cc) moves;
+      agree =
+          moved (counts_of w.processors threads v) (counts_of w.processors threads (places' (Some t))) v.state.spaces s t places.Carried
+          (places.Running p) h.agree place (λ e. cc) moves;
     }
 
   pub none_holds : threads a.0 ≡ None → Holds w (places' None) runners

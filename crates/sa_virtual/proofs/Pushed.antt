@@ -50,16 +50,20 @@ both_true true false some = absurd (omega (arith, some))
 both_true false c some = absurd (omega (arith, some))
 
 -- one that comes to run on a processor
-pub entered : (runners : List (Option Runner)) (placed : List (Option ActNo)) (p q : ProcNo) (y : Runner) (a : ActNo) (x : Runner) → get_or placed p.0 None ≡ Some a → y.space ≡ space_of a
+pub entered : (runners : List (Option Runner)) (placed : List (Option ActNo)) (p q : ProcNo) (y : Runner) (a : ActNo) (x : Runner)
+    → get_or placed p.0 None ≡ Some a → y.space ≡ space_of a
     → runner_at (set runners p.0 (Some y)) q ≡ Some x
     → (runner_at runners q ≡ Some x → (b : ActNo) × (get_or placed q.0 None ≡ Some b) × (x.space ≡ space_of b))
     → (b : ActNo) × (get_or placed q.0 None ≡ Some b) × (x.space ≡ space_of b)
 entered runners placed p q y a x at of is old = elim (cases_eq q.0 p.0) [
   | inl e ↦ elim (cases_lt p.0 (length runners)) [
     | inl within ↦
-        let same : y ≡ x = same_Some _ _ (sym (get_or-set_same runners p.0 (Some y) None within) ∙ sym (ap (λ n. get_or (set runners p.0 (Some y)) n None) e) ∙ is) in
+        let same : y ≡ x = same_Some _ _
+        (sym (get_or-set_same runners p.0 (Some y) None within) ∙ sym (ap (λ n. get_or (set runners p.0 (Some y)) n None) e) ∙ is) in
         (a, ap (λ n. get_or placed n None) e ∙ at, sym (ap (λ (z : Runner). z.space) same) ∙ of)
-    | inr past ↦ let none : get_or (set runners p.0 (Some y)) q.0 None ≡ None = get_or_past (set runners p.0 (Some y)) q.0 None (omega (arith, e, past, length-set runners p.0 (Some y))) in let both : None ≡ Some x = sym none ∙ is in cc
+    | inr past ↦ let none : get_or (set runners p.0 (Some y)) q.0 None ≡ None =
+        get_or_past (set runners p.0 (Some y)) q.0 None (omega (arith, e, past, length-set runners p.0 (Some y))) in
+        let both : None ≡ Some x = sym none ∙ is in cc
   ]
   | inr ne ↦ old (sym (get_or-set_other runners p.0 q.0 (Some y) None ne) ∙ is)
 ]
@@ -72,7 +76,8 @@ pub due_moves : (spaces : List SpaceState) (s : SpaceNo) (t : ThreadNo) → is_d
 due_moves spaces s t due = second (is_settled (place_in spaces s t)) (is_due (space_in spaces s) t) due
 
 -- what is placed is a virtual processor
-module _ (w : WorkloadView) (v : Parts) (runners : List (Option Runner)) (h : Holds w v runners) (p : ProcNo) (a : ActNo) (at : get_or v.placed p.0 None ≡ Some a) where
+module _ (w : WorkloadView) (v : Parts) (runners : List (Option Runner)) (h : Holds w v runners) (p : ProcNo) (a : ActNo)
+    (at : get_or v.placed p.0 None ≡ Some a) where
   pub placed_within : p.0 < length v.placed
   placed_within = elim (cases_lt p.0 (length v.placed)) [
     | inl within ↦ within
@@ -81,7 +86,8 @@ module _ (w : WorkloadView) (v : Parts) (runners : List (Option Runner)) (h : Ho
 
   pub placed_once : 1 ≤ on_processors v.placed a.0
   placed_once =
-      let one : one_where (is_one a.0 (get_or v.placed p.0 None)) ≡ 1 = ap (λ (o : Option ActNo). one_where (is_one a.0 o)) at ∙ ap one_where (eq-eqb a.0 a.0 refl) in
+      let one : one_where (is_one a.0 (get_or v.placed p.0 None)) ≡ 1 =
+      ap (λ (o : Option ActNo). one_where (is_one a.0 o)) at ∙ ap one_where (eq-eqb a.0 a.0 refl) in
       omega (arith, one, get_or-le-sum_by (λ (x : Option ActNo). cond (is_one a.0 x) 1 0) v.placed p.0 None placed_within)
 
   pub known : ((space_of a).0 < length w.spaces) × ((list_of a).0 < w.processors)
@@ -114,7 +120,8 @@ module _ (w : WorkloadView) (v : Parts) (runners : List (Option Runner)) (h : Ho
 
     works : (r u : ℕ) → worked (put v.work a.0 others) w.processors r u + if_at s.0 first.0 r u 1 ≡ worked v.work w.processors r u + if_at s.0 first.0 r u 0
     works r u = elim (cases_eq r s.0) [
-      | inl e ↦ subst (λ n. worked (put v.work a.0 others) w.processors n u + if_at s.0 first.0 n u 1 ≡ worked v.work w.processors n u + if_at s.0 first.0 n u 0) (sym e)
+      | inl e ↦ subst (λ n. worked (put v.work a.0 others) w.processors n u + if_at s.0 first.0 n u 1
+          ≡ worked v.work w.processors n u + if_at s.0 first.0 n u 0) (sym e)
           (omega (arith, worked_less u, one_here s.0 first.0 u, at_none s.0 first.0 s.0 u))
       | inr ne ↦ omega (
         arith,
@@ -138,7 +145,12 @@ module _ (w : WorkloadView) (v : Parts) (runners : List (Option Runner)) (h : Ho
 
     push_moves : Moves s.0 first.0 places.Waiting places.Ready (counts_of w.processors threads v) (counts_of w.processors threads pushed)
     push_moves = record {
-      ready = λ r u. omega (arith, listed_more v.ready s (record { thread = first; list = list_of a }) r u (omega (arith, h.spaces, known.0)), at_none s.0 first.0 r u);
+      ready =
+          λ r u. omega (
+            arith,
+            listed_more v.ready s (record { thread = first; list = list_of a }) r u (omega (arith, h.spaces, known.0)),
+            at_none s.0 first.0 r u,
+          );
       carries = λ r u. refl;
       blocks = λ r u. refl;
       works = works;
@@ -149,7 +161,8 @@ module _ (w : WorkloadView) (v : Parts) (runners : List (Option Runner)) (h : Ho
 
     pub push_holds : Holds w pushed runners
     push_holds = record {
-      replay = put_kept w v.state.spaces v.state.owners runners h.replay s first places.Ready (due_moves v.state.spaces s first due) (ap is_running waits.0) refl;
+      replay =
+          put_kept w v.state.spaces v.state.owners runners h.replay s first places.Ready (due_moves v.state.spaces s first due) (ap is_running waits.0) refl;
       owners = h.owners;
       sized = sized_put w v.state.spaces s first places.Ready push_inside h.sized;
       within = within_put w v.state.spaces s first places.Ready push_inside h.within;
@@ -159,7 +172,9 @@ module _ (w : WorkloadView) (v : Parts) (runners : List (Option Runner)) (h : Ho
       fits = h.fits;
       lives = h.lives;
       ios = h.ios;
-      agree = moved (counts_of w.processors threads v) (counts_of w.processors threads pushed) v.state.spaces s first places.Waiting places.Ready h.agree waits.0 (λ e. cc) push_moves;
+      agree =
+          moved (counts_of w.processors threads v) (counts_of w.processors threads pushed) v.state.spaces s first places.Waiting places.Ready h.agree waits.0
+          (λ e. cc) push_moves;
     }
 
   -- A POP
@@ -192,7 +207,9 @@ module _ (w : WorkloadView) (v : Parts) (runners : List (Option Runner)) (h : Ho
 
     pub pop_holds : Holds w popped (set runners p.0 (Some (runner s t)))
     pop_holds = record {
-      replay = enter_kept w v.state.spaces v.state.owners runners h.replay p s t (settled_moves v.state.spaces s t places.Ready refl place) owned nobody (ap is_running place);
+      replay =
+          enter_kept w v.state.spaces v.state.owners runners h.replay p s t (settled_moves v.state.spaces s t places.Ready refl place) owned nobody
+          (ap is_running place);
       owners = h.owners;
       sized = sized_put w v.state.spaces s t (places.Running p) pop_inside h.sized;
       within = within_put w v.state.spaces s t (places.Running p) pop_inside h.within;
@@ -205,5 +222,7 @@ module _ (w : WorkloadView) (v : Parts) (runners : List (Option Runner)) (h : Ho
       };
       lives = h.lives;
       ios = h.ios;
-      agree = moved (counts_of w.processors threads v) (counts_of w.processors threads popped) v.state.spaces s t places.Ready (places.Running p) h.agree place (λ e. cc) pop_moves;
+      agree =
+          moved (counts_of w.processors threads v) (counts_of w.processors threads popped) v.state.spaces s t places.Ready (places.Running p) h.agree place
+          (λ e. cc) pop_moves;
     }

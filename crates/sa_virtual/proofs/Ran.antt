@@ -36,7 +36,7 @@ use Rattle.sa_virtual.proofs.Sums.{work_past, work_here}
 use Rattle.sa_virtual.proofs.Kept.{each_set}
 use Rattle.sa_virtual.proofs.Pushed.{known, number_is, number_other}
 
--- who stands in a queue waits
+-- who is in a queue waits
 waits_then : (place : Place) (n m : ℕ) → n + m ≡ one_where (is_waiting place) → 1 ≤ n → place ≡ places.Waiting
 waits_then places.Waiting n m sum some = refl
 waits_then places.Ready n m sum some = absurd (omega (arith, sum, some))
@@ -45,7 +45,8 @@ waits_then places.Blocked n m sum some = absurd (omega (arith, sum, some))
 waits_then places.Done n m sum some = absurd (omega (arith, sum, some))
 waits_then (places.Running p) n m sum some = absurd (omega (arith, sum, some))
 
-module _ (w : WorkloadView) (v : Parts) (runners : List (Option Runner)) (h : Holds w v runners) (p : ProcNo) (a : ActNo) (at : get_or v.placed p.0 None ≡ Some a)
+module _ (w : WorkloadView) (v : Parts) (runners : List (Option Runner)) (h : Holds w v runners) (p : ProcNo) (a : ActNo)
+    (at : get_or v.placed p.0 None ≡ Some a)
     (few : w.processors ≤ MAX_PROCESSORS) (t : ThreadNo) (runs : runner_at runners p ≡ Some (runner (space_of a) t)) where
   abbrev s : SpaceNo
   s = space_of a
@@ -85,8 +86,9 @@ module _ (w : WorkloadView) (v : Parts) (runners : List (Option Runner)) (h : Ho
   pub stands : IsAt (space_def w s) (thread_at v.state s t)
   stands = h.within s.0 t.0 made
 
-  -- given that it can do it, and that all threads stand within their programs then
-  module _ (can : CanDo (space_def w s) x t (thread_at v.state s t) (next_instr w v.state s t)) (then : StandWithin w (with_space_in v.state.spaces s run.space)) where
+  -- given that it can do it, and that all threads are within their programs then
+  module _ (can : CanDo (space_def w s) x t (thread_at v.state s t) (next_instr w v.state s t))
+      (then : StandWithin w (with_space_in v.state.spaces s run.space)) where
     shaped : IsShaped x t (thread_at v.state s t).place run.space
     shaped = shape (space_def w s) x t (thread_at v.state s t) (next_instr w v.state s t) can
 
@@ -107,7 +109,8 @@ module _ (w : WorkloadView) (v : Parts) (runners : List (Option Runner)) (h : Ho
 
     sized : (r : ℕ) → IsSized (at_no (with_space_in v.state.spaces s run.space) r)
     sized = each_set (λ r z. IsSized z) v.state.spaces s run.space inside h.sized
-        (let kept = stays_sound x t (thread_at v.state s t).place run.space shaped sound made (λ waits. let both : places.Running p ≡ places.Waiting = sym place ∙ waits in cc) in
+        (let kept = stays_sound x t (thread_at v.state s t).place run.space shaped sound made (λ waits. let both : places.Running p ≡ places.Waiting =
+        sym place ∙ waits in cc) in
         record { few = kept.few; joiners = kept.joiners })
 
     agree : AllAgree (counts_of w.processors threads goes) (with_space_in v.state.spaces s run.space)
@@ -133,14 +136,16 @@ module _ (w : WorkloadView) (v : Parts) (runners : List (Option Runner)) (h : Ho
     pub on_holds : is_running (place_in (with_space_in v.state.spaces s run.space) s t) ≡ true → Holds w goes runners
     on_holds still = holds_with runners (go_kept w v.state.spaces v.state.owners runners h.replay p s t run.space place shaped still) h.fits
 
-    -- .. or it waits, or is done
+    -- it waits, or is done
     pub off_holds : is_running (place_in (with_space_in v.state.spaces s run.space) s t) ≡ false → Holds w goes (set runners p.0 None)
-    off_holds rests = holds_with (set runners p.0 None) (stop_kept w v.state.spaces v.state.owners runners h.replay p s t run.space place shaped rests) (λ q. record {
-      owned = (h.fits q).owned;
-      runs = λ y is. elim (cases_eq q.0 p.0) [
-        | inl e ↦
-            let none : runner_at (set runners p.0 None) q ≡ None = ap (λ n. get_or (set runners p.0 None) n None) e ∙ get_or-set_same runners p.0 None None (runs_within runners p (runner s t) runs) in
-            let both : None ≡ Some y = sym none ∙ is in cc
-        | inr ne ↦ (h.fits q).runs y (sym (get_or-set_other runners p.0 q.0 None None ne) ∙ is)
-      ];
-    })
+    off_holds rests =
+        holds_with (set runners p.0 None) (stop_kept w v.state.spaces v.state.owners runners h.replay p s t run.space place shaped rests) (λ q. record {
+          owned = (h.fits q).owned;
+          runs = λ y is. elim (cases_eq q.0 p.0) [
+            | inl e ↦
+                let none : runner_at (set runners p.0 None) q ≡ None =
+                ap (λ n. get_or (set runners p.0 None) n None) e ∙ get_or-set_same runners p.0 None None (runs_within runners p (runner s t) runs) in
+                let both : None ≡ Some y = sym none ∙ is in cc
+            | inr ne ↦ (h.fits q).runs y (sym (get_or-set_other runners p.0 q.0 None None ne) ∙ is)
+          ];
+        })

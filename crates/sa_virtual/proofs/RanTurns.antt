@@ -137,7 +137,8 @@ module _ (w : WorkloadView) (valid : IsWorkload w) (e : ℕ) (p : ProcNo) (v : V
   gone = go (is_running (place_in goes.state.spaces s t)) refl where
     go : (b : Bool) → is_running (place_in goes.state.spaces s t) ≡ b → Stands w goes
     go true still = record { runners = good.stands.runners; holds = run.on_holds w (parts_of v) good.stands.runners h p a at few t runs can then still }
-    go false rests = record { runners = set good.stands.runners p.0 None; holds = run.off_holds w (parts_of v) good.stands.runners h p a at few t runs can then rests }
+    go false rests =
+        record { runners = set good.stands.runners p.0 None; holds = run.off_holds w (parts_of v) good.stands.runners h p a at few t runs can then rests }
 
   -- it can run
   pub ins : misses r s i ≡ false → CanIns w p r s t thread.pc
@@ -161,14 +162,21 @@ module _ (w : WorkloadView) (valid : IsWorkload w) (e : ℕ) (p : ProcNo) (v : V
       let own = kind_own w r (Some t) a behind in
       let needs = left.block_needs w (parts_of v) good.stands.runners h p a at t runs miss_io of carries own in
       record {
-        steps = (record { owned = needs.0; runs = needs.1; cause = inr (inl (missed r s i is)) }, (left.block_moves_on w (parts_of v) good.stands.runners h p a at t runs miss_io of carries own, tt));
-        stands = record { runners = set good.stands.runners p.0 None; holds = left.block_holds w (parts_of v) good.stands.runners h p a at t runs miss_io of carries own };
+        steps = (
+          record { owned = needs.0; runs = needs.1; cause = inr (inl (missed r s i is)) },
+          (left.block_moves_on w (parts_of v) good.stands.runners h p a at t runs miss_io of carries own, tt),
+        );
+        stands =
+            record {
+              runners = set good.stands.runners p.0 None;
+              holds = left.block_holds w (parts_of v) good.stands.runners h p a at t runs miss_io of carries own;
+            };
         quiet = quiet_set r.running p good.quiet;
         some = omega arith;
         counts = λ c below. put_event c r.state s (Some t) places.Blocked below;
       }
 
-  -- .. AN INSTRUCTION after which it says nothing more
+  -- 4. AN INSTRUCTION after which it says nothing more
   lives_stay : with_life (with_hand effect'.roused) (get_or r.running p.0 None) r.lives ≡ r.lives
   lives_stay = ap (λ o. with_life (with_hand effect'.roused) o r.lives) (good.quiet p)
 
@@ -181,7 +189,7 @@ module _ (w : WorkloadView) (valid : IsWorkload w) (e : ℕ) (p : ProcNo) (v : V
   pub plainly : misses r s i ≡ false → Met w e p r plain
   plainly is = record { steps = (ins is, tt); stands = stands_on; quiet = good.quiet; some = omega arith; counts = λ c below. ins_below w c r.state s t below }
 
-  -- .. an `out`, which says its value
+  -- 4. AN `out`, which says its value
   module _ (reg : Reg) (is_out : i ≡ Out reg) where
     abbrev new : State
     new = goes.state
@@ -197,7 +205,9 @@ module _ (w : WorkloadView) (valid : IsWorkload w) (e : ℕ) (p : ProcNo) (v : V
     same_instr = ap (λ (y : Thread). instr_at (get_or (space_def w s).programs y.program []) thread.pc) new_thread ∙ is_out
 
     value : IsValueOf (thread_at new s t).regs (instr_of w new s t thread.pc) (reg_value thread.regs reg)
-    value = subst (λ (j : Instr). IsValueOf (thread_at new s t).regs j (reg_value thread.regs reg)) (sym same_instr) (sym (ap (λ (y : Thread). reg_value y.regs reg) new_thread))
+    value =
+        subst (λ (j : Instr). IsValueOf (thread_at new s t).regs j (reg_value thread.regs reg)) (sym same_instr)
+        (sym (ap (λ (y : Thread). reg_value y.regs reg) new_thread))
 
     pub outs : Met w e p r (record { says = rec.Ins s t thread.pc ∷ rec.Out s t (reg_value thread.regs reg) ∷ []; after = record v { work = goes.work } })
     outs = record {
@@ -208,7 +218,7 @@ module _ (w : WorkloadView) (valid : IsWorkload w) (e : ℕ) (p : ProcNo) (v : V
       counts = λ c below. ins_below w c r.state s t below;
     }
 
-  -- .. an `io`, on which it blocks
+  -- 4. AN `io`, on which it blocks
   module _ (n : ℕ) (is_io : i ≡ IoOf n) where
     abbrev pub mid : Readings
     mid = after_record w e p r (rec.Ins s t thread.pc)
@@ -242,7 +252,9 @@ module _ (w : WorkloadView) (valid : IsWorkload w) (e : ℕ) (p : ProcNo) (v : V
     length' = length_behind w mid s (Some t) mid.last
 
     io_needs : (owner_at goes.state p ≡ Some s) × IsRunner goes.state p s (Some t)
-    io_needs = left.block_needs w goes good.stands.runners went p a at t runs io_of (kind_once w mid (Some t) a length') (kind_holds w mid (Some t) a length') (kind_own w mid (Some t) a length')
+    io_needs =
+        left.block_needs w goes good.stands.runners went p a at t runs io_of (kind_once w mid (Some t) a length') (kind_holds w mid (Some t) a length')
+        (kind_own w mid (Some t) a length')
 
     pub blocks_on : Met w e p r (record {
       says = rec.Ins s t thread.pc ∷ rec.Block s (Some t) a (record { 0 = r.begun }) ∷ rec.Move (Some s) None ∷ [];
@@ -253,14 +265,22 @@ module _ (w : WorkloadView) (valid : IsWorkload w) (e : ℕ) (p : ProcNo) (v : V
         ins (ap (misses r s) is_io),
         (
           record { owned = io_needs.0; runs = io_needs.1; cause = inl (ap is_some behind_io) },
-          (left.block_moves_on w goes good.stands.runners went p a at t runs io_of (kind_once w mid (Some t) a length') (kind_holds w mid (Some t) a length') (kind_own w mid (Some t) a length'), tt),
+          (
+            left.block_moves_on w goes good.stands.runners went p a at t runs io_of (kind_once w mid (Some t) a length') (kind_holds w mid (Some t) a length')
+                (kind_own w mid (Some t) a length'),
+            tt,
+          ),
         ),
       );
       stands = record {
         runners = set good.stands.runners p.0 None;
-        holds = subst (λ lives. Holds w (record (left.blocks w goes good.stands.runners went p a at t runs io_of (kind_once w mid (Some t) a length') (kind_holds w mid (Some t) a length') (kind_own w mid (Some t) a length')) { lives = with_life (held_with (Some t)) (Some a) lives }) (set good.stands.runners p.0 None))
+        holds =
+            subst (λ lives. Holds w (record
+            (left.blocks w goes good.stands.runners went p a at t runs io_of (kind_once w mid (Some t) a length') (kind_holds w mid (Some t) a length')
+            (kind_own w mid (Some t) a length')) { lives = with_life (held_with (Some t)) (Some a) lives }) (set good.stands.runners p.0 None))
             (sym lives_stay)
-            (left.block_holds w goes good.stands.runners went p a at t runs io_of (kind_once w mid (Some t) a length') (kind_holds w mid (Some t) a length') (kind_own w mid (Some t) a length'));
+            (left.block_holds w goes good.stands.runners went p a at t runs io_of (kind_once w mid (Some t) a length') (kind_holds w mid (Some t) a length')
+            (kind_own w mid (Some t) a length'));
       };
       quiet = quiet_set r.running p good.quiet;
       some = omega arith;

@@ -20,11 +20,15 @@ use Rattle.sa_laws.specs.Machine.{next_effect}
 use Rattle.sa_check_machine.specs.Spaces.{with_space_in}
 use Rattle.sa_virtual.specs.Turning.{count_at, IsBelow}
 
-set_below : (c : ℕ) (spaces : List SpaceState) (s : SpaceNo) (x : SpaceState) → IsBelow c spaces → ((k : ℕ) → count_at x k ≤ c) → IsBelow c (with_space_in spaces s x)
+set_below : (c : ℕ) (spaces : List SpaceState) (s : SpaceNo) (x : SpaceState) → IsBelow c spaces → ((k : ℕ) → count_at x k ≤ c)
+    → IsBelow c (with_space_in spaces s x)
 set_below c spaces s x below here r k = elim (cases_eq r s.0) [
   | inl e ↦ elim (cases_lt s.0 (length spaces)) [
-    | inl within ↦ subst (λ (y : SpaceState). count_at y k ≤ c) (sym (ap (λ n. get_or (set spaces s.0 x) n no_threads) e ∙ get_or-set_same spaces s.0 x no_threads within)) (here k)
-    | inr past ↦ subst (λ (y : SpaceState). count_at y k ≤ c) (sym (get_or_past (set spaces s.0 x) r no_threads (omega (arith, e, past, length-set spaces s.0 x)))) (subst (λ (y : SpaceState). count_at y k ≤ c) (get_or_past spaces r no_threads (omega (arith, e, past))) (below r k))
+    | inl within ↦ subst (λ (y : SpaceState). count_at y k ≤ c)
+        (sym (ap (λ n. get_or (set spaces s.0 x) n no_threads) e ∙ get_or-set_same spaces s.0 x no_threads within)) (here k)
+    | inr past ↦ subst (λ (y : SpaceState). count_at y k ≤ c)
+        (sym (get_or_past (set spaces s.0 x) r no_threads (omega (arith, e, past, length-set spaces s.0 x))))
+        (subst (λ (y : SpaceState). count_at y k ≤ c) (get_or_past spaces r no_threads (omega (arith, e, past))) (below r k))
   ]
   | inr ne ↦ subst (λ (y : SpaceState). count_at y k ≤ c) (sym (get_or-set_other spaces s.0 r x no_threads ne)) (below r k)
 ]
@@ -40,10 +44,14 @@ sem_set : (s : Sync) (j count : ℕ) (q : List ℕ) → count ≤ (semaphore_at 
 sem_set s j count q most k = elim (cases_eq k j) [
   | inl e ↦ elim (cases_lt j (length s.semaphores)) [
     | inl within ↦ subst (λ n. (semaphore_at (with_semaphore s j count q) n).count ≤ (semaphore_at s n).count + 1) (sym e)
-        (subst (λ (x : Semaphore). x.count ≤ (semaphore_at s j).count + 1) (sym (get_or-set_same s.semaphores j (record { count = count; queue = q }) (semaphore_of 0) within)) most)
-    | inr past ↦ subst (λ (x : Semaphore). x.count ≤ (semaphore_at s k).count + 1) (sym (get_or_past (set s.semaphores j (record { count = count; queue = q })) k (semaphore_of 0) (omega (arith, e, past, length-set s.semaphores j (record { count = count; queue = q }))))) (omega arith)
+        (subst (λ (x : Semaphore). x.count ≤ (semaphore_at s j).count + 1)
+        (sym (get_or-set_same s.semaphores j (record { count = count; queue = q }) (semaphore_of 0) within)) most)
+    | inr past ↦ subst (λ (x : Semaphore). x.count ≤ (semaphore_at s k).count + 1)
+        (sym (get_or_past (set s.semaphores j (record { count = count; queue = q })) k (semaphore_of 0)
+        (omega (arith, e, past, length-set s.semaphores j (record { count = count; queue = q }))))) (omega arith)
   ]
-  | inr ne ↦ subst (λ (x : Semaphore). x.count ≤ (semaphore_at s k).count + 1) (sym (get_or-set_other s.semaphores j k (record { count = count; queue = q }) (semaphore_of 0) ne)) (omega arith)
+  | inr ne ↦ subst (λ (x : Semaphore). x.count ≤ (semaphore_at s k).count + 1)
+      (sym (get_or-set_other s.semaphores j k (record { count = count; queue = q }) (semaphore_of 0) ne)) (omega arith)
 ]
 
 locks' : (s : Sync) (t m : ℕ) (holder : Option ℕ) (q : List ℕ) → IsOneMore s (locked_by s t m holder q).state
@@ -70,7 +78,8 @@ joins : (s : Sync) (change : Change) (b : Bool) → IsOneMore s change.state →
 joins s change true is = is
 joins s change false is = same s
 
-told : (x : SpaceState) (t : ThreadNo) (thread : Thread) (sync : Sync) (answer : SyncAnswer) → IsOneMore x.sync sync → IsOneMore x.sync (answered (with_sync x sync) t thread answer).space.sync
+told : (x : SpaceState) (t : ThreadNo) (thread : Thread) (sync : Sync) (answer : SyncAnswer) → IsOneMore x.sync sync
+    → IsOneMore x.sync (answered (with_sync x sync) t thread answer).space.sync
 told x t thread sync answers.Goes is = is
 told x t thread sync answers.Waits is = is
 told x t thread sync (answers.Wakes u) is = is
@@ -84,15 +93,20 @@ one_more x t thread (Store reg cell) = same x.sync
 one_more x t thread (Fork reg program) = forks x _ _ (nat_lt (length x.threads) MAX_THREADS) (same x.sync) (same x.sync)
 one_more x t thread (Join reg) = let change = joined x.sync t.0 (reg_value thread.regs reg) (length x.threads) in
     told x t _ change.state change.answer (joins x.sync (waits _) _ (same x.sync))
-one_more x t thread (Lock m) = told x t (next thread) (locked x.sync t.0 m).state (locked x.sync t.0 m).answer (locks' x.sync t.0 m (mutex_at x.sync m).holder (mutex_at x.sync m).queue)
-one_more x t thread (Unlock m) = told x t (next thread) (unlocked x.sync t.0 m).state (unlocked x.sync t.0 m).answer (unlocks x.sync t.0 m (is_holder t.0 (mutex_at x.sync m).holder))
-one_more x t thread (Wait j) = told x t (next thread) (waited x.sync t.0 j).state (waited x.sync t.0 j).answer (waits' x.sync t.0 j (semaphore_at x.sync j).count (semaphore_at x.sync j).queue refl)
+one_more x t thread (Lock m) =
+    told x t (next thread) (locked x.sync t.0 m).state (locked x.sync t.0 m).answer (locks' x.sync t.0 m (mutex_at x.sync m).holder (mutex_at x.sync m).queue)
+one_more x t thread (Unlock m) =
+    told x t (next thread) (unlocked x.sync t.0 m).state (unlocked x.sync t.0 m).answer (unlocks x.sync t.0 m (is_holder t.0 (mutex_at x.sync m).holder))
+one_more x t thread (Wait j) =
+    told x t (next thread) (waited x.sync t.0 j).state (waited x.sync t.0 j).answer
+    (waits' x.sync t.0 j (semaphore_at x.sync j).count (semaphore_at x.sync j).queue refl)
 one_more x t thread (Signal j) = told x t (next thread) (signalled x.sync j).state (signalled x.sync j).answer (signals x.sync j (semaphore_at x.sync j).queue)
 one_more x t thread End = same x.sync
 one_more x t thread i = same x.sync
 
 -- a record
-pub ins_below : (w : WorkloadView) (c : ℕ) (a : State) (s : SpaceNo) (t : ThreadNo) → IsBelow c a.spaces → IsBelow (c + 1) (with_space a s (next_effect w a s t).space).spaces
+pub ins_below : (w : WorkloadView) (c : ℕ) (a : State) (s : SpaceNo) (t : ThreadNo) → IsBelow c a.spaces
+    → IsBelow (c + 1) (with_space a s (next_effect w a s t).space).spaces
 ins_below w c a s t below = set_below (c + 1) a.spaces s (next_effect w a s t).space (λ r k. omega (arith, below r k))
     (λ k. omega (arith, below s.0 k, one_more (space_at a s) t (thread_at a s t) (next_instr w a s t) k))
 

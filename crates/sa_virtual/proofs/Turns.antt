@@ -30,6 +30,7 @@ use Rattle.sa_virtual.proofs.Room.{weaker, put_event}
 use Rattle.sa_virtual.proofs.Unblocked as over
 use Rattle.sa_virtual.proofs.PlacedOn as on
 use Rattle.sa_virtual.proofs.Pushed as push
+use Rattle.sa_virtual.proofs.Sums.{one_or_none}
 
 -- 1. AN I/O IS OVER
 pub own_kind : (k : IoKind) → IsOwn k → is_kind_of (of_io k) k ≡ true
@@ -38,7 +39,7 @@ own_kind (Page s a k) is = eq-eqb a.0 a.0 refl
 own_kind (Upcall s) is = absurd is
 
 -- the one that is due is one of those under way
-sooner_one : (io : Io) (o : Option Io) → (sooner_of io o ≡ io) ⊎ (Some (sooner_of io o) ≡ o)
+pub sooner_one : (io : Io) (o : Option Io) → (sooner_of io o ≡ io) ⊎ (Some (sooner_of io o) ≡ o)
 sooner_one io None = inl refl
 sooner_one io (Some other) = go (is_sooner other io) where
   go : (b : Bool) → (cond b other io ≡ io) ⊎ (Some (cond b other io) ≡ Some other)
@@ -71,10 +72,6 @@ due_among e (x ∷ xs) io due all =
       | false ↦ λ is. among_more x xs io (rest io is)
     ] due
 
-pub one_or_none : (b : Bool) → one_where b ≤ 1
-one_or_none true = omega arith
-one_or_none false = omega arith
-
 module _ (w : WorkloadView) (e : ℕ) (p : ProcNo) (v : Virtuals) (good : Good w v) where
   abbrev runners : List (Option Runner)
   runners = good.stands.runners
@@ -104,7 +101,8 @@ module _ (w : WorkloadView) (e : ℕ) (p : ProcNo) (v : Virtuals) (good : Good w
   abbrev Placing : ActNo → List ActNo → Option ThreadNo → Type 0
   Placing a rest t = Met w e p v.base (placing p (owner_at v.base.state p) t a [] rest v)
 
-  pub places_one : (a : ActNo) (rest : List ActNo) → p.0 < w.processors → placed_on v p ≡ None → v.queue ≡ a ∷ rest → (t : Option ThreadNo) → thread_of v a ≡ t → Placing a rest t
+  pub places_one : (a : ActNo) (rest : List ActNo) → p.0 < w.processors → placed_on v p ≡ None → v.queue ≡ a ∷ rest → (t : Option ThreadNo)
+      → thread_of v a ≡ t → Placing a rest t
   places_one a rest inside free queue None is = record {
     steps = ((refl, on.nobody w (parts_of v) runners h p inside free a rest queue), tt);
     stands = record { runners = runners; holds = on.none_holds w (parts_of v) runners h p inside free a rest queue is };
@@ -115,10 +113,22 @@ module _ (w : WorkloadView) (e : ℕ) (p : ProcNo) (v : Virtuals) (good : Good w
   places_one a rest inside free queue (Some t) is =
       let nobody = on.nobody w (parts_of v) runners h p inside free a rest queue in
       record {
-        steps = ((refl, nobody), ((on.owns w (parts_of v) runners h p inside free a rest queue, nobody, on.place w (parts_of v) runners h p inside free a rest queue t is), tt));
+        steps = (
+          (refl, nobody),
+          (
+            (
+              on.owns w (parts_of v) runners h p inside free a rest queue,
+              nobody,
+              on.place w (parts_of v) runners h p inside free a rest queue t is,
+            ),
+            tt,
+          ),
+        );
         stands = record {
           runners = set runners p.0 (Some (runner (space_of a) t));
-          holds = subst (λ lives. Holds w (record (on.places' w (parts_of v) runners h p inside free a rest queue (Some t)) { lives = lives }) (set runners p.0 (Some (runner (space_of a) t))))
+          holds =
+              subst (λ lives. Holds w (record (on.places' w (parts_of v) runners h p inside free a rest queue (Some t)) { lives = lives })
+              (set runners p.0 (Some (runner (space_of a) t))))
               (sym (same_lives (with_cont true) v.base.running good.quiet)) (on.some_holds w (parts_of v) runners h p inside free a rest queue t is);
         };
         quiet = good.quiet;
@@ -128,7 +138,13 @@ module _ (w : WorkloadView) (e : ℕ) (p : ProcNo) (v : Virtuals) (good : Good w
 
   pub places_first : p.0 < w.processors → placed_on v p ≡ None → Met w e p v.base (placed_first v p v.queue)
   places_first inside free = elim v.queue as (λ q. q ≡ v.queue → Met w e p v.base (placed_first v p q)) [
-    | [] ↦ λ is. record { steps = (tt, tt); stands = good.stands; quiet = good.quiet; some = omega arith; counts = λ c below. weaker c v.base.state.spaces below }
+    | [] ↦ λ is. record {
+      steps = (tt, tt);
+      stands = good.stands;
+      quiet = good.quiet;
+      some = omega arith;
+      counts = λ c below. weaker c v.base.state.spaces below;
+    }
     | a ∷ rest ↦ λ is. places_one a rest inside free (sym is) (thread_of v a) refl
   ] refl
 
@@ -157,7 +173,10 @@ module _ (w : WorkloadView) (e : ℕ) (p : ProcNo) (v : Virtuals) (good : Good w
       steps = (tt, (push.push_needs w (parts_of v) runners h p a at few first others work, (tt, tt)));
       stands = record {
         runners = runners;
-        holds = subst (λ o. Holds w (record (push.pushed w (parts_of v) runners h p a at few first others work) { lives = with_life without_lock o (with_life (made_ready first) o (with_life (locks v.base p (list_of a) t) o v.base.lives)) }) runners)
+        holds =
+            subst (λ o. Holds w (record (push.pushed w (parts_of v) runners h p a at few first others work) {
+              lives = with_life without_lock o (with_life (made_ready first) o (with_life (locks v.base p (list_of a) t) o v.base.lives));
+            }) runners)
             (sym (good.quiet p)) (push.push_holds w (parts_of v) runners h p a at few first others work);
       };
       quiet = good.quiet;
@@ -165,7 +184,7 @@ module _ (w : WorkloadView) (e : ℕ) (p : ProcNo) (v : Virtuals) (good : Good w
       counts = λ c below. put_event c v.base.state s (Some first) places.Ready below;
     }
 
-    -- .. and a pop
+    -- 4. A POP
     pub takes : (l : ProcNo) (x : Listed) → 1 ≤ listed v.ready s.0 x.thread.0 → carried_on v p ≡ None → Met w e p v.base (taken_from v a l (Some x))
     takes l x some idle =
         let free : runner_at runners p ≡ None = carrier ∙ ap (runner_of s) idle in
@@ -173,7 +192,10 @@ module _ (w : WorkloadView) (e : ℕ) (p : ProcNo) (v : Virtuals) (good : Good w
           steps = (tt, (push.pop_needs w (parts_of v) runners h p a at x.thread some free, (tt, tt)));
           stands = record {
             runners = set runners p.0 (Some (runner s x.thread));
-            holds = subst (λ o. Holds w (record (push.popped w (parts_of v) runners h p a at x.thread some free) { lives = with_life without_lock o (with_life (with_first (ran x.thread)) o (with_life (locks v.base p l None) o v.base.lives)) }) (set runners p.0 (Some (runner s x.thread))))
+            holds =
+                subst (λ o. Holds w (record (push.popped w (parts_of v) runners h p a at x.thread some free) {
+                  lives = with_life without_lock o (with_life (with_first (ran x.thread)) o (with_life (locks v.base p l None) o v.base.lives));
+                }) (set runners p.0 (Some (runner s x.thread))))
                 (sym (good.quiet p)) (push.pop_holds w (parts_of v) runners h p a at x.thread some free);
           };
           quiet = good.quiet;

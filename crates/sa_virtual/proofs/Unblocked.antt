@@ -96,7 +96,9 @@ module _ (w : WorkloadView) (v : Parts) (a : ActNo) (runners : List (Option Runn
 
     some_holds : Holds w (over (Some t)) runners
     some_holds = record {
-      replay = put_kept w v.state.spaces v.state.owners runners h.replay s t places.Carried (settled_moves v.state.spaces s t places.Blocked refl place) (ap is_running place) refl;
+      replay =
+          put_kept w v.state.spaces v.state.owners runners h.replay s t places.Carried (settled_moves v.state.spaces s t places.Blocked refl place)
+          (ap is_running place) refl;
       owners = h.owners;
       sized = sized_put w v.state.spaces s t places.Carried inside h.sized;
       within = within_put w v.state.spaces s t places.Carried inside h.within;
@@ -107,7 +109,8 @@ module _ (w : WorkloadView) (v : Parts) (a : ActNo) (runners : List (Option Runn
       lives = lives_kept w (handed (Some t)) a v.lives (keeps (Some t)) h.lives;
       ios = ios;
       agree = same_counts (Some t) (threads_of (over (Some t)).lives) (threads_same (handed (Some t)) a v.lives (λ life. refl)) (over (Some t)).state.spaces
-          (moved (counts_of w.processors threads v) (counts_of w.processors threads (over (Some t))) v.state.spaces s t places.Blocked places.Carried h.agree place (λ e. cc) moves);
+          (moved (counts_of w.processors threads v)
+          (counts_of w.processors threads (over (Some t))) v.state.spaces s t places.Blocked places.Carried h.agree place (λ e. cc) moves);
     }
 
   -- one that carries no thread

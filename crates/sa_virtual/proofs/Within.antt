@@ -59,7 +59,8 @@ module _ (def : SpaceView) (space : IsSpace def) (x : SpaceState) (t : ThreadNo)
   pub named : (i : Instr) → i ≡ instr_in def thread → NamesDeclared def.mutexes (length def.sems) def.cells (length def.programs) i
   named i is =
       subst (NamesDeclared def.mutexes (length def.sems) def.cells (length def.programs)) (sym is)
-      (All-get_or (NamesDeclared def.mutexes (length def.sems) def.cells (length def.programs)) (get_or def.programs thread.program []) thread.pc End at.in_program
+      (All-get_or (NamesDeclared def.mutexes (length def.sems) def.cells (length def.programs))
+      (get_or def.programs thread.program []) thread.pc End at.in_program
       (All-get_or (All (NamesDeclared def.mutexes (length def.sems) def.cells (length def.programs))) def.programs thread.program [] at.in_space space.names))
 
   pub next_place : (i : Instr) → i ≡ instr_in def thread → i ≢ End → thread.pc + 1 < length (get_or def.programs thread.program [])
@@ -73,7 +74,8 @@ module _ (def : SpaceView) (space : IsSpace def) (x : SpaceState) (t : ThreadNo)
   one after sync there u below =
       let made : u < length x.threads = omega (arith, below, length-set x.threads t.0 after) in
       elim (cases_eq u t.0) [
-        | inl e ↦ subst (λ n. IsAt def (get_or (set x.threads t.0 after) n (at_start 0 places.Done))) (sym e) (subst (IsAt def) (sym (get_or-set_same x.threads t.0 after (at_start 0 places.Done) (omega (arith, e, made)))) there)
+        | inl e ↦ subst (λ n. IsAt def (get_or (set x.threads t.0 after) n (at_start 0 places.Done))) (sym e)
+            (subst (IsAt def) (sym (get_or-set_same x.threads t.0 after (at_start 0 places.Done) (omega (arith, e, made)))) there)
         | inr ne ↦ subst (IsAt def) (sym (get_or-set_other x.threads t.0 u after (at_start 0 places.Done) ne)) (all u made)
       ]
 
@@ -106,10 +108,12 @@ module _ (def : SpaceView) (space : IsSpace def) (x : SpaceState) (t : ThreadNo)
       let size : length parents ≡ length x.threads = length-set x.threads t.0 after in
       let some : IsProgram (get_or def.programs program []) = All-get_or IsProgram def.programs program [] inside space.programs in
       elim (cases_lt u (length x.threads)) [
-        | inl old ↦ subst (IsAt def) (sym (get_or_append_left parents (child ∷ []) (at_start 0 places.Done) u (omega (arith, size, old)))) (goes after there u (omega (arith, size, old)))
+        | inl old ↦ subst (IsAt def) (sym (get_or_append_left parents (child ∷ []) (at_start 0 places.Done) u (omega (arith, size, old))))
+            (goes after there u (omega (arith, size, old)))
         | inr new ↦
             let last : u - length x.threads ≡ 0 = omega (arith, new, below, size, length-append parents (child ∷ [])) in
-            subst (IsAt def) (sym (get_or-append_right parents (child ∷ []) (length x.threads) u (at_start 0 places.Done) size new ∙ ap (λ n. get_or (child ∷ []) n (at_start 0 places.Done)) last))
+            subst (IsAt def) (sym (get_or-append_right parents (child ∷ []) (length x.threads) u (at_start 0 places.Done) size new
+            ∙ ap (λ n. get_or (child ∷ []) n (at_start 0 places.Done)) last))
             (record { in_space = inside; in_program = omega (arith, some.not_empty) })
       ]
 
@@ -117,7 +121,9 @@ module _ (def : SpaceView) (space : IsSpace def) (x : SpaceState) (t : ThreadNo)
   forks reg program is =
       let made' = length x.threads in
       let forking = with_thread x t (next_with thread reg made') in
-      let done : Bool → Effect = λ b. cond b (effect (record forking { threads = forking.threads ++ at_start program places.Waiting ∷ [] }) (record { 0 = made' } ∷ [])) (effect (with_thread x t (next_with thread reg (2 ^ 64 - 1))) []) in
+      let done : Bool → Effect = λ b. cond b
+      (effect (record forking { threads = forking.threads ++ at_start program places.Waiting ∷ [] }) (record { 0 = made' } ∷ []))
+      (effect (with_thread x t (next_with thread reg (2 ^ 64 - 1))) []) in
       elim (nat_lt made' MAX_THREADS) as (λ b. AllAt def (done b).space) [
         | true ↦ forked (next_with thread reg made') program (behind_with (Fork reg program) reg made' is (λ e. cc)) (named (Fork reg program) is).1.0
         | false ↦ goes (next_with thread reg (2 ^ 64 - 1)) (behind_with (Fork reg program) reg (2 ^ 64 - 1) is (λ e. cc))
@@ -140,4 +146,5 @@ module _ (def : SpaceView) (space : IsSpace def) (x : SpaceState) (t : ThreadNo)
   within_of (Signal k) is = synced (next thread) (signalled x.sync k) (behind (Signal k) is (λ e. cc))
   within_of (Io n) is = goes (next thread) (behind (Io n) is (λ e. cc))
   within_of (Touch n) is = goes (next thread) (behind (Touch n) is (λ e. cc))
-  within_of End is = one (record thread { place = places.Done }) (end_effect x t thread).space.sync (record { in_space = at.in_space; in_program = at.in_program })
+  within_of End is =
+      one (record thread { place = places.Done }) (end_effect x t thread).space.sync (record { in_space = at.in_space; in_program = at.in_program })

@@ -97,7 +97,7 @@ pub record Agrees (ready carries blocks waits : ℕ) (place : Place) : Type 0 wh
   pub in_ios : blocks ≡ one_if (kind place) 3
   pub in_work : waits ≡ one_where (is_waiting place)
 
--- the counts of all threads, and where they stand
+-- the counts of all threads, and where they are
 pub record Counts : Type 0 where
   pub ready : ℕ → ℕ → ℕ
   pub carries : ℕ → ℕ → ℕ
@@ -165,7 +165,7 @@ IsOwn (Plain s a) = s ≡ space_of a
 IsOwn (Page s a k) = s ≡ space_of a
 IsOwn (Upcall s) = ⊥
 
--- each thread that was made stands within its program
+-- each thread that was made is within its program
 abbrev pub StandWithin : WorkloadView → List SpaceState → Type 0
 StandWithin w spaces =
     (s t : ℕ) → t < length (at_no spaces s).threads → IsAt (space_def w (record { 0 = s })) (thread_in (at_no spaces s) (record { 0 = t }))

@@ -35,7 +35,7 @@ AreTurns w v (e ∷ es) = IsTurn w v e × AreTurns w (after w v e.proc) es
 abbrev pub IsLegalVp : WorkloadView → List Item → Type 0
 IsLegalVp w items = AreTurns w (opening w) (events_of items)
 
--- what is read behind all events
+-- what is read after all events
 abbrev pub after_all : WorkloadView → Virtuals → List Event → Virtuals
 after_all w v [] = v
 after_all w v (e ∷ es) = after_all w (after w v e.proc) es

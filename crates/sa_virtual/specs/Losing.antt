@@ -25,7 +25,8 @@ abbrev pub on : ℕ → ℕ → List Record → Event
 on n q records = record { number = n; proc = p q; records = records }
 
 abbrev pub the_workload_space0 : SpaceView
-the_workload_space0 = record { priority = 0; mutexes = 0; sems = []; cells = 0; absent = []; programs = (Fork R0 1 ∷ IoOf 3 ∷ End ∷ []) ∷ (End ∷ []) ∷ []; patience = 1 }
+the_workload_space0 =
+    record { priority = 0; mutexes = 0; sems = []; cells = 0; absent = []; programs = (Fork R0 1 ∷ IoOf 3 ∷ End ∷ []) ∷ (End ∷ []) ∷ []; patience = 1 }
 
 abbrev pub the_workload : WorkloadView
 the_workload = record { processors = 1; fetch = 10; spaces = the_workload_space0 ∷ []; evictions = []; turns = []; slice = 0 }

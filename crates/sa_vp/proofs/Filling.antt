@@ -1,4 +1,4 @@
--- Numbers that are put behind one another into a list.
+-- Numbers that are put one after another into a list.
 use Rattle.std.proofs.Common.{◌≡◌, ℕ, zero, suc, ◌+◌, ◌<◌, ◌≤◌, List, [], ◌∷◌, ◌++◌, length, get_or, set, take, drop, refl, sym, ap, ◌∙◌, arith, append_assoc, add-one}
 use Rattle.std.proofs.Math.Seq.{take-suc, take-length}
 use Rattle.std.proofs.lemmas.List.{get_or-map, length-map, append-nil, length-set, get_or-set_same, set-get_or, take-append-drop}
@@ -51,7 +51,8 @@ module _ (c : Lists) (l : ℕ) (xs : List ℕ) (inside : l < length c.lists) whe
       ap (λ ls. record { nodes = c.nodes; lists = ls })
       (set_twice c.lists l (list_at c.lists l ++ take i xs) (list_at (filled c l xs i).lists l ++ u ∷ [])
       ∙ ap (λ ys. set c.lists l (ys ++ u ∷ [])) here
-      ∙ ap (set c.lists l) (append_assoc (list_at c.lists l) (take i xs) (u ∷ []) ∙ ap (λ v. list_at c.lists l ++ (take i xs ++ v ∷ [])) is ∙ ap (λ ys. list_at c.lists l ++ ys) (sym next) ∙ ap (λ k. list_at c.lists l ++ take k xs) (sym (add-one i))))
+      ∙ ap (set c.lists l) (append_assoc (list_at c.lists l) (take i xs) (u ∷ []) ∙ ap (λ v. list_at c.lists l ++ (take i xs ++ v ∷ [])) is
+      ∙ ap (λ ys. list_at c.lists l ++ ys) (sym next) ∙ ap (λ k. list_at c.lists l ++ take k xs) (sym (add-one i))))
 
   pub all : (i : ℕ) → i ≡ length xs → filled c l xs i ≡ with_list c l (list_at c.lists l ++ xs)
   all i is = ap (λ k. with_list c l (list_at c.lists l ++ take k xs)) is ∙ ap (λ ys. with_list c l (list_at c.lists l ++ ys)) (take-length xs)

@@ -31,7 +31,8 @@ goes-on budget b none within = go (is_done b) (is_stuck b) (b.number == budget +
   go false true e is open' = cc
   go false false true is open' = cc
   go false false false is open' =
-      let other : b.number ≢ budget + 1 = λ same. let yes : (b.number == budget + 1) ≡ true = eq-eqb b.number (budget + 1) same in let both : true ≡ false = sym yes ∙ is in cc in
+      let other : b.number ≢ budget + 1 = λ same. let yes : (b.number == budget + 1) ≡ true = eq-eqb b.number (budget + 1) same in
+      let both : true ≡ false = sym yes ∙ is in cc in
       omega (arith, within, other)
 
 -- what is read off one board is read off the same board under its own workload
@@ -43,7 +44,8 @@ pub record IsInside (m : Parts) (budget : ℕ) (old : VpView) : Type 0 where
   pub board : board_of m ≡ old.board
   pub same_budget : budget ≡ old.budget
 
-pub inside-view : (m : Parts) (budget spare : ℕ) (made old : VpView) → (let view : VpView = record { board = board_of m; budget = budget; spare = spare } in view ≡ made)
+pub inside-view : (m : Parts) (budget spare : ℕ) (made old : VpView)
+    → (let view : VpView = record { board = board_of m; budget = budget; spare = spare } in view ≡ made)
     → made ≡ record old { spare = made.spare } → IsInside m budget old
 inside-view m budget spare made old view rest = record {
   board = ap (λ (v : VpView). v.board) view ∙ ap (λ (v : VpView). v.board) rest;
@@ -56,7 +58,9 @@ module _ (m : Parts) (budget spare : ℕ) (kept : IsKept m budget spare) (p : Pr
   inside = subst (λ (b : Board). p.0 < b.workload.processors) (sym is.board) within
 
   pub last : m.number ≤ budget
-  last = goes-on budget (board_of m) (subst (λ k. end_of k (board_of m) ≡ None) (sym is.same_budget) (subst (λ (b : Board). end_of old.budget b ≡ None) (sym is.board) none)) kept.within
+  last =
+      goes-on budget (board_of m) (subst (λ k. end_of k (board_of m) ≡ None) (sym is.same_budget)
+      (subst (λ (b : Board). end_of old.budget b ≡ None) (sym is.board) none)) kept.within
 
   pub event : m.number ≤ MAX_EVENTS
   event = omega (arith, last, kept.few)

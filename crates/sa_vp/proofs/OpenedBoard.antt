@@ -14,7 +14,8 @@ use Rattle.sa_vp.specs.declared.board.Parts.{Parts}
 use Rattle.sa_vp.specs.View.{board_of}
 use Rattle.sa_vp.specs.Opening.{queue_at_opening}
 
-abbrev built : Replayed → DevicesView → Lists → List (Option ActNo) → List (Option ThreadNo) → List ℕ → List Lists → List Lists → ℕ → List ℕ → List ℕ → List Item → ℕ → Board
+abbrev built : Replayed → DevicesView → Lists → List (Option ActNo) → List (Option ThreadNo) → List ℕ → List Lists → List Lists → ℕ → List ℕ → List ℕ
+    → List Item → ℕ → Board
 built r d q p t st re wo du bl lo it nu = record {
   workload = r.workload;
   number = nu;
@@ -48,16 +49,35 @@ pub opened-board : (m : Parts) (w : WorkloadView)
     → m.number ≡ 1
     → board_of m ≡ opened w
 opened-board m w r d q p t st re wo du bl lo it nu =
-    ap (λ (x : Replayed). built x m.devices m.queue m.placed.items m.threads.items m.steps.items m.ready.items m.work.items m.due m.blocked.items m.lost.items m.trace.items m.number) r
-    ∙ ap (λ (x : DevicesView). built (replay_opened w) x m.queue m.placed.items m.threads.items m.steps.items m.ready.items m.work.items m.due m.blocked.items m.lost.items m.trace.items m.number) d
-    ∙ ap (λ (x : Lists). built (replay_opened w) (no_ios w) x m.placed.items m.threads.items m.steps.items m.ready.items m.work.items m.due m.blocked.items m.lost.items m.trace.items m.number) q
-    ∙ ap (λ (x : List (Option ActNo)). built (replay_opened w) (no_ios w) (queue_at_opening w) x m.threads.items m.steps.items m.ready.items m.work.items m.due m.blocked.items m.lost.items m.trace.items m.number) p
-    ∙ ap (λ (x : List (Option ThreadNo)). built (replay_opened w) (no_ios w) (queue_at_opening w) (replicate w.processors None) x m.steps.items m.ready.items m.work.items m.due m.blocked.items m.lost.items m.trace.items m.number) t
-    ∙ ap (λ (x : List ℕ). built (replay_opened w) (no_ios w) (queue_at_opening w) (replicate w.processors None) (replicate VIRTUALS None) x m.ready.items m.work.items m.due m.blocked.items m.lost.items m.trace.items m.number) st
-    ∙ ap (λ (x : List Lists). built (replay_opened w) (no_ios w) (queue_at_opening w) (replicate w.processors None) (replicate VIRTUALS None) (replicate VIRTUALS 0) x m.work.items m.due m.blocked.items m.lost.items m.trace.items m.number) re
-    ∙ ap (λ (x : List Lists). built (replay_opened w) (no_ios w) (queue_at_opening w) (replicate w.processors None) (replicate VIRTUALS None) (replicate VIRTUALS 0) (replicate (length w.spaces) (first_ready w.processors)) x m.due m.blocked.items m.lost.items m.trace.items m.number) wo
-    ∙ ap (λ (x : ℕ). built (replay_opened w) (no_ios w) (queue_at_opening w) (replicate w.processors None) (replicate VIRTUALS None) (replicate VIRTUALS 0) (replicate (length w.spaces) (first_ready w.processors)) (replicate (length w.spaces) (empty w.processors)) x m.blocked.items m.lost.items m.trace.items m.number) du
-    ∙ ap (λ (x : List ℕ). built (replay_opened w) (no_ios w) (queue_at_opening w) (replicate w.processors None) (replicate VIRTUALS None) (replicate VIRTUALS 0) (replicate (length w.spaces) (first_ready w.processors)) (replicate (length w.spaces) (empty w.processors)) 0 x m.lost.items m.trace.items m.number) bl
-    ∙ ap (λ (x : List ℕ). built (replay_opened w) (no_ios w) (queue_at_opening w) (replicate w.processors None) (replicate VIRTUALS None) (replicate VIRTUALS 0) (replicate (length w.spaces) (first_ready w.processors)) (replicate (length w.spaces) (empty w.processors)) 0 (replicate (length w.spaces) 0) x m.trace.items m.number) lo
-    ∙ ap (λ (x : List Item). built (replay_opened w) (no_ios w) (queue_at_opening w) (replicate w.processors None) (replicate VIRTUALS None) (replicate VIRTUALS 0) (replicate (length w.spaces) (first_ready w.processors)) (replicate (length w.spaces) (empty w.processors)) 0 (replicate (length w.spaces) 0) (replicate (length w.spaces) 0) x m.number) it
-    ∙ ap (λ (x : ℕ). built (replay_opened w) (no_ios w) (queue_at_opening w) (replicate w.processors None) (replicate VIRTUALS None) (replicate VIRTUALS 0) (replicate (length w.spaces) (first_ready w.processors)) (replicate (length w.spaces) (empty w.processors)) 0 (replicate (length w.spaces) 0) (replicate (length w.spaces) 0) [] x) nu
+    ap (λ (x : Replayed). built x m.devices m.queue m.placed.items m.threads.items m.steps.items m.ready.items m.work.items m.due m.blocked.items m.lost.items
+    m.trace.items m.number) r
+    ∙ ap (λ (x : DevicesView). built
+    (replay_opened w) x m.queue m.placed.items m.threads.items m.steps.items m.ready.items m.work.items m.due m.blocked.items m.lost.items
+    m.trace.items m.number) d
+    ∙ ap (λ (x : Lists). built (replay_opened w)
+    (no_ios w) x m.placed.items m.threads.items m.steps.items m.ready.items m.work.items m.due m.blocked.items m.lost.items m.trace.items m.number) q
+    ∙ ap (λ (x : List (Option ActNo)). built (replay_opened w) (no_ios w)
+    (queue_at_opening w) x m.threads.items m.steps.items m.ready.items m.work.items m.due m.blocked.items m.lost.items m.trace.items m.number) p
+    ∙ ap (λ (x : List (Option ThreadNo)). built (replay_opened w) (no_ios w) (queue_at_opening w)
+    (replicate w.processors None) x m.steps.items m.ready.items m.work.items m.due m.blocked.items m.lost.items m.trace.items m.number) t
+    ∙ ap (λ (x : List ℕ). built (replay_opened w) (no_ios w) (queue_at_opening w) (replicate w.processors None)
+    (replicate VIRTUALS None) x m.ready.items m.work.items m.due m.blocked.items m.lost.items m.trace.items m.number) st
+    ∙ ap (λ (x : List Lists). built (replay_opened w) (no_ios w) (queue_at_opening w) (replicate w.processors None) (replicate VIRTUALS None)
+    (replicate VIRTUALS 0) x m.work.items m.due m.blocked.items m.lost.items m.trace.items m.number) re
+    ∙ ap (λ (x : List Lists). built (replay_opened w) (no_ios w) (queue_at_opening w) (replicate w.processors None) (replicate VIRTUALS None)
+    (replicate VIRTUALS 0) (replicate (length w.spaces) (first_ready w.processors)) x m.due m.blocked.items m.lost.items m.trace.items m.number) wo
+    ∙ ap (λ (x : ℕ). built (replay_opened w) (no_ios w) (queue_at_opening w) (replicate w.processors None) (replicate VIRTUALS None) (replicate VIRTUALS 0)
+    (replicate (length w.spaces) (first_ready w.processors))
+    (replicate (length w.spaces) (empty w.processors)) x m.blocked.items m.lost.items m.trace.items m.number) du
+    ∙ ap (λ (x : List ℕ). built (replay_opened w) (no_ios w) (queue_at_opening w) (replicate w.processors None) (replicate VIRTUALS None)
+    (replicate VIRTUALS 0) (replicate (length w.spaces) (first_ready w.processors))
+    (replicate (length w.spaces) (empty w.processors)) 0 x m.lost.items m.trace.items m.number) bl
+    ∙ ap (λ (x : List ℕ). built (replay_opened w) (no_ios w) (queue_at_opening w) (replicate w.processors None) (replicate VIRTUALS None)
+    (replicate VIRTUALS 0) (replicate (length w.spaces) (first_ready w.processors)) (replicate (length w.spaces) (empty w.processors)) 0
+    (replicate (length w.spaces) 0) x m.trace.items m.number) lo
+    ∙ ap (λ (x : List Item). built (replay_opened w) (no_ios w) (queue_at_opening w) (replicate w.processors None) (replicate VIRTUALS None)
+    (replicate VIRTUALS 0) (replicate (length w.spaces) (first_ready w.processors)) (replicate (length w.spaces) (empty w.processors)) 0
+    (replicate (length w.spaces) 0) (replicate (length w.spaces) 0) x m.number) it
+    ∙ ap (λ (x : ℕ). built (replay_opened w) (no_ios w) (queue_at_opening w) (replicate w.processors None) (replicate VIRTUALS None) (replicate VIRTUALS 0)
+    (replicate (length w.spaces) (first_ready w.processors)) (replicate (length w.spaces) (empty w.processors)) 0 (replicate (length w.spaces) 0)
+    (replicate (length w.spaces) 0) [] x) nu

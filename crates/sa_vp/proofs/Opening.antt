@@ -12,7 +12,7 @@ use Rattle.sa_links.specs.Lists.{count_in, count_in_all}
 use Rattle.sa_virtual.specs.Virtual.{virtual, of_place, of_places, opening, opening_queue}
 use Rattle.sa_virtual.specs.Holding.{one_where, is_virtual}
 use Rattle.sa_virtual.proofs.Opening.{queue_once, opening_good}
-use Rattle.sa_virtual.proofs.Turns.{one_or_none}
+use Rattle.sa_virtual.proofs.Sums.{one_or_none}
 use Rattle.sa_vp_model.specs.declared.limits.TheConstants.{VIRTUALS}
 use Rattle.sa_vp_model.proofs.Main.{number_small}
 use Rattle.sa_vp_model.proofs.Safe.{queue_count}
@@ -24,26 +24,31 @@ place-more s k = map-range_with_len_more (λ r. virtual (space_no r) k) 0 s s (o
 
 pub places-append : (spaces : ℕ) (ks js : List ℕ) → of_places spaces (ks ++ js) ≡ of_places spaces ks ++ of_places spaces js
 places-append spaces [] js = refl
-places-append spaces (k ∷ ks) js = ap (λ xs. of_place spaces k ++ xs) (places-append spaces ks js) ∙ sym (append_assoc (of_place spaces k) (of_places spaces ks) (of_places spaces js))
+places-append spaces (k ∷ ks) js =
+    ap (λ xs. of_place spaces k ++ xs) (places-append spaces ks js) ∙ sym (append_assoc (of_place spaces k) (of_places spaces ks) (of_places spaces js))
 
 pub places-more : (spaces k : ℕ) → of_places spaces (range_with_len 0 (k + 1)) ≡ of_places spaces (range_with_len 0 k) ++ of_place spaces k
 places-more spaces k =
     let from : 0 + k ≡ k = omega arith in
     ap (of_places spaces) (range-append 0 k 1) ∙ places-append spaces (range_with_len 0 k) (range_with_len (0 + k) 1)
-    ∙ ap (λ a. of_places spaces (range_with_len 0 k) ++ (of_place spaces a ++ [])) from ∙ ap (λ xs. of_places spaces (range_with_len 0 k) ++ xs) (append-nil (of_place spaces k))
+    ∙ ap (λ a. of_places spaces (range_with_len 0 k) ++ (of_place spaces a ++ [])) from
+    ∙ ap (λ xs. of_places spaces (range_with_len 0 k) ++ xs) (append-nil (of_place spaces k))
 
 pub numbers-append : (xs ys : List ActNo) → act_numbers (xs ++ ys) ≡ act_numbers xs ++ act_numbers ys
 numbers-append xs ys = map-append (λ (a : ActNo). a.0) xs ys
 
-pub number-more : (xs : List ℕ) (numbers : List ℕ) (s k n : ℕ) → n ≡ MAX_PROCESSORS * s + k → numbers ≡ xs ++ act_numbers (of_place s k) → numbers ++ n ∷ [] ≡ xs ++ act_numbers (of_place (s + 1) k)
+pub number-more : (xs : List ℕ) (numbers : List ℕ) (s k n : ℕ) → n ≡ MAX_PROCESSORS * s + k → numbers ≡ xs ++ act_numbers (of_place s k)
+    → numbers ++ n ∷ [] ≡ xs ++ act_numbers (of_place (s + 1) k)
 number-more xs numbers s k n is old =
     ap (λ ys. ys ++ n ∷ []) old ∙ append_assoc xs (act_numbers (of_place s k)) (n ∷ [])
     ∙ ap (λ m. xs ++ (act_numbers (of_place s k) ++ m ∷ [])) is
     ∙ ap (λ ys. xs ++ ys) (sym (ap act_numbers (place-more s k) ∙ numbers-append (of_place s k) (virtual (space_no s) k ∷ [])))
 
-pub numbers-more : (numbers more : List ℕ) (spaces k : ℕ) → numbers ≡ act_numbers (of_places spaces (range_with_len 0 k)) → more ≡ numbers ++ act_numbers (of_place spaces k) → more ≡ act_numbers (of_places spaces (range_with_len 0 (k + 1)))
+pub numbers-more : (numbers more : List ℕ) (spaces k : ℕ) → numbers ≡ act_numbers (of_places spaces (range_with_len 0 k))
+    → more ≡ numbers ++ act_numbers (of_place spaces k) → more ≡ act_numbers (of_places spaces (range_with_len 0 (k + 1)))
 numbers-more numbers more spaces k old is =
-    is ∙ ap (λ xs. xs ++ act_numbers (of_place spaces k)) old ∙ sym (ap act_numbers (places-more spaces k) ∙ numbers-append (of_places spaces (range_with_len 0 k)) (of_place spaces k))
+    is ∙ ap (λ xs. xs ++ act_numbers (of_place spaces k)) old
+    ∙ sym (ap act_numbers (places-more spaces k) ∙ numbers-append (of_places spaces (range_with_len 0 k)) (of_place spaces k))
 
 -- no number of the opening's queue comes twice, and each is that of a virtual processor
 module _ (w : WorkloadView) (valid : IsWorkload w) (u : ℕ) where

@@ -19,12 +19,16 @@ pub row : (rows : List Lists) (i s : ℕ) (x : Lists) → i ≡ s → s < length
 row rows i s x e inside is = get_or_read rows s x inside (is ∙ ap (λ k. get_or rows k x) e) no_lists
 
 -- a thread runs, or is continued, in the same state
-pub can-run : (w : WorkloadView) (p : ProcNo) (x y : State) (s r : SpaceNo) (t u : ThreadNo) → x ≡ y → s ≡ r → t ≡ u → CanChange w p y (Run r u) → CanChange w p x (Run s t)
+pub can-run : (w : WorkloadView) (p : ProcNo) (x y : State) (s r : SpaceNo) (t u : ThreadNo) → x ≡ y → s ≡ r → t ≡ u → CanChange w p y (Run r u)
+    → CanChange w p x (Run s t)
 can-run w p x y s r t u state space thread' can =
-    subst (λ z. CanChange w p z (Run s t)) (sym state) (subst (λ q. CanChange w p y (Run q t)) (sym space) (subst (λ v. CanChange w p y (Run r v)) (sym thread') can))
+    subst (λ z. CanChange w p z (Run s t)) (sym state)
+    (subst (λ q. CanChange w p y (Run q t)) (sym space) (subst (λ v. CanChange w p y (Run r v)) (sym thread') can))
 
-pub can-cont : (w : WorkloadView) (p : ProcNo) (x y : State) (s r : SpaceNo) (t : ThreadNo) → x ≡ y → s ≡ r → CanChange w p y (Cont r (Some t)) → CanChange w p x (Cont s (Some t))
-can-cont w p x y s r t state space can = subst (λ z. CanChange w p z (Cont s (Some t))) (sym state) (subst (λ q. CanChange w p y (Cont q (Some t))) (sym space) can)
+pub can-cont : (w : WorkloadView) (p : ProcNo) (x y : State) (s r : SpaceNo) (t : ThreadNo) → x ≡ y → s ≡ r → CanChange w p y (Cont r (Some t))
+    → CanChange w p x (Cont s (Some t))
+can-cont w p x y s r t state space can =
+    subst (λ z. CanChange w p z (Cont s (Some t))) (sym state) (subst (λ q. CanChange w p y (Cont q (Some t))) (sym space) can)
 
 -- the thread of a number
 pub of-number : (o : Option ℕ) (t : ThreadNo) → Some t ≡ option_map thread o → o ≡ Some t.0
@@ -33,7 +37,8 @@ of-number (Some n) t e = ap (λ (u : ThreadNo). Some u.0) (sym (same_Some _ _ e)
 
 last_some : (x : ℕ) (xs : List ℕ) → slice_get (x ∷ xs) (length (x ∷ xs) - 1) ≡ None → ⊥
 last_some x [] is = cc
-last_some x (y ∷ ys) is = let same : length (x ∷ y ∷ ys) - 1 ≡ suc (length (y ∷ ys) - 1) = omega arith in last_some y ys (sym (ap (slice_get (x ∷ y ∷ ys)) same) ∙ is)
+last_some x (y ∷ ys) is = let same : length (x ∷ y ∷ ys) - 1 ≡ suc (length (y ∷ ys) - 1) = omega arith in
+    last_some y ys (sym (ap (slice_get (x ∷ y ∷ ys)) same) ∙ is)
 
 -- a list that has a thread gives one
 pub picked-some : (xs : List ℕ) (own : Bool) → is_some_list xs ≡ true → option_map thread (picked xs own) ≡ None → ⊥

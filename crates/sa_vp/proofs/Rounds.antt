@@ -18,11 +18,13 @@ shifted : (f : ℕ → ℕ) (a b n : ℕ) → ((k : ℕ) → k < n → f (a + k)
 shifted f a b zero same = refl
 shifted f a b (suc n) same =
     let first : f a ≡ b = let a0 : a + 0 ≡ a = omega arith in let b0 : b + 0 ≡ b = omega arith in ap f (sym a0) ∙ same 0 (omega arith) ∙ b0 in
-    let rest = shifted f (a + 1) (b + 1) n (λ k below. let a1 : a + 1 + k ≡ a + (k + 1) = omega arith in let b1 : b + (k + 1) ≡ b + 1 + k = omega arith in ap f a1 ∙ same (k + 1) (omega (arith, below)) ∙ b1) in
+    let rest = shifted f (a + 1) (b + 1) n (λ k below. let a1 : a + 1 + k ≡ a + (k + 1) = omega arith in let b1 : b + (k + 1) ≡ b + 1 + k = omega arith in
+    ap f a1 ∙ same (k + 1) (omega (arith, below)) ∙ b1) in
     ap (λ x. x ∷ map f (range_with_len (a + 1) n)) first ∙ ap (λ xs. b ∷ xs) rest
 
 pub range-append : (a n m : ℕ) → range_with_len a (n + m) ≡ range_with_len a n ++ range_with_len (a + n) m
-range-append a zero m = let same : zero + m ≡ m = omega arith in let from : a ≡ a + zero = omega arith in ap (range_with_len a) same ∙ ap (λ k. range_with_len k m) from
+range-append a zero m = let same : zero + m ≡ m = omega arith in let from : a ≡ a + zero = omega arith in
+    ap (range_with_len a) same ∙ ap (λ k. range_with_len k m) from
 range-append a (suc n) m =
     let same : suc n + m ≡ suc (n + m) = omega arith in
     let from : a + 1 + n ≡ a + suc n = omega arith in
@@ -36,16 +38,21 @@ rounds n p inside =
     let f : ℕ → ℕ = λ k. (p + k) % n in
     let whole : n ≡ n - p + p = omega (arith, inside) in
     let zero' : 0 + (n - p) ≡ n - p = omega arith in
-    let front = shifted f 0 p (n - p) (λ k below. let at : p + (0 + k) ≡ p + k = omega arith in ap (λ j. j % n) at ∙ mod-eq_of_lt (omega (arith, below, inside))) in
-    let back = shifted f (n - p) 0 p (λ k below. let at : 0 + k ≡ k = omega arith in past p k n (omega (arith, inside)) (omega (arith, inside)) (omega (arith, below, inside)) ∙ sym at) in
-    ap (λ m. map f (range_with_len 0 m)) whole ∙ ap (map f) (range-append 0 (n - p) p) ∙ map-append f (range_with_len 0 (n - p)) (range_with_len (0 + (n - p)) p)
-    ∙ ap (λ xs. xs ++ map f (range_with_len (0 + (n - p)) p)) front ∙ ap (λ a. range_with_len p (n - p) ++ map f (range_with_len a p)) zero' ∙ ap (λ xs. range_with_len p (n - p) ++ xs) back
+    let front = shifted f 0 p (n - p) (λ k below. let at : p + (0 + k) ≡ p + k = omega arith in
+    ap (λ j. j % n) at ∙ mod-eq_of_lt (omega (arith, below, inside))) in
+    let back = shifted f (n - p) 0 p (λ k below. let at : 0 + k ≡ k = omega arith in
+    past p k n (omega (arith, inside)) (omega (arith, inside)) (omega (arith, below, inside)) ∙ sym at) in
+    ap (λ m. map f (range_with_len 0 m)) whole ∙ ap (map f) (range-append 0 (n - p) p)
+    ∙ map-append f (range_with_len 0 (n - p)) (range_with_len (0 + (n - p)) p)
+    ∙ ap (λ xs. xs ++ map f (range_with_len (0 + (n - p)) p)) front ∙ ap (λ a. range_with_len p (n - p) ++ map f (range_with_len a p)) zero'
+    ∙ ap (λ xs. range_with_len p (n - p) ++ xs) back
 
 -- A SEARCH
 find-map : {A B : Type 0} (test : B → Bool) (f : A → B) (xs : List A) → find test (map f xs) ≡ option_map f (find (λ x. test (f x)) xs)
 find-map test f [] = refl
 find-map {A} {B} test f (x ∷ xs) = go (test (f x)) (find-map test f xs) where
-  go : (b : Bool) → find test (map f xs) ≡ option_map f (find (λ y. test (f y)) xs) → cond b (Some (f x)) (find test (map f xs)) ≡ option_map f (cond b (Some x) (find (λ y. test (f y)) xs))
+  go : (b : Bool) → find test (map f xs) ≡ option_map f (find (λ y. test (f y)) xs)
+      → cond b (Some (f x)) (find test (map f xs)) ≡ option_map f (cond b (Some x) (find (λ y. test (f y)) xs))
   go true later = refl
   go false later = later
 
@@ -67,10 +74,12 @@ module _ (r : ReadyView) (free : IsUnlocked r) where
   pub open_is : (k : ℕ) → is_open r k ≡ is_some_list (list_of r k)
   open_is k = ap (λ b. not b && nat_lt 0 (length (list_of r k))) (unlocked k) ∙ some_is (list_of r k)
 
-  pub sought_is : (l : ProcNo) → l.0 < length r.lists → option_map processor (sought r l.0) ≡ find (λ k. is_some_list (list_at r.lists k.0)) (round (length r.lists) l)
+  pub sought_is : (l : ProcNo) → l.0 < length r.lists
+      → option_map processor (sought r l.0) ≡ find (λ k. is_some_list (list_at r.lists k.0)) (round (length r.lists) l)
   sought_is l inside =
       let same : is_open r ≡ (λ k. is_some_list (list_of r k)) = fun_ext open_is in
       ap (λ (f : ℕ → Bool). option_map processor (find f (numbers_round (length r.lists) l.0))) same
       ∙ sym (find-map (λ (k : ProcNo). is_some_list (list_at r.lists k.0)) processor (numbers_round (length r.lists) l.0))
       ∙ ap (λ ns. find (λ (k : ProcNo). is_some_list (list_at r.lists k.0)) (map processor ns)) (sym (rounds (length r.lists) l.0 inside))
-      ∙ ap (find (λ (k : ProcNo). is_some_list (list_at r.lists k.0))) (sym (map-map (λ n. (l.0 + n) % length r.lists) processor (range_with_len 0 (length r.lists))))
+      ∙ ap (find (λ (k : ProcNo). is_some_list (list_at r.lists k.0)))
+      (sym (map-map (λ n. (l.0 + n) % length r.lists) processor (range_with_len 0 (length r.lists))))

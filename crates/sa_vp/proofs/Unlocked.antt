@@ -1,4 +1,4 @@
--- A list is locked, changed and unlocked: no lock is held behind it.
+-- A list is locked, changed and unlocked: no lock is held after it.
 use Rattle.std.proofs.Common.{◌≡◌, ℕ, zero, suc, ◌+◌, ◌-◌, ◌<◌, Bool, true, false, List, [], ◌∷◌, length, get_or, set, replicate, Option, Some, None, refl, sym, ap, subst, ◌∙◌, arith}
 use Rattle.std.specs.Prelude.{IfSome}
 use Rattle.std.specs.Option.{option_map}
@@ -36,17 +36,20 @@ module _ (r : ReadyView) (free : IsUnlocked r) (l : ℕ) where
   pub front : (t : ℕ) → inserted r.ranks t (list_of r l) ≡ t ∷ list_of r l
   front t = ap (λ ranks. inserted ranks t (list_of r l)) free.ranks ∙ inserted_front t (list_of r l)
 
-  pub pushed-unlocked : (t : ℕ) (locked made new : ReadyView) → locked ≡ with_lock r l true → made ≡ pushed locked l t → new ≡ with_lock made l false → IsUnlocked new
+  pub pushed-unlocked : (t : ℕ) (locked made new : ReadyView) → locked ≡ with_lock r l true → made ≡ pushed locked l t → new ≡ with_lock made l false
+      → IsUnlocked new
   pushed-unlocked t locked made new first second third =
       subst IsUnlocked (sym (third ∙ ap (λ x. with_lock x l false) (second ∙ ap (λ x. pushed x l t) first))) (unlocked-with (inserted r.ranks t (list_of r l)))
 
-  pub pushed-seen : (t : ℕ) (locked made new : ReadyView) (old : Lists) → seen r ≡ old → locked ≡ with_lock r l true → made ≡ pushed locked l t → new ≡ with_lock made l false
+  pub pushed-seen : (t : ℕ) (locked made new : ReadyView) (old : Lists) → seen r ≡ old → locked ≡ with_lock r l true → made ≡ pushed locked l t
+      → new ≡ with_lock made l false
       → seen new ≡ with_list old l (t ∷ list_at old.lists l)
   pushed-seen t locked made new old is first second third =
       ap seen (third ∙ ap (λ x. with_lock x l false) (second ∙ ap (λ x. pushed x l t) first))
       ∙ ap (λ xs. with_list (seen r) l xs) (front t) ∙ ap (λ (c : Lists). with_list c l (t ∷ list_at c.lists l)) is
 
-  pub taken-unlocked : (xs : List ℕ) (locked made new : ReadyView) → locked ≡ with_lock r l true → made ≡ ready.with_list locked l xs → new ≡ with_lock made l false → IsUnlocked new
+  pub taken-unlocked : (xs : List ℕ) (locked made new : ReadyView) → locked ≡ with_lock r l true → made ≡ ready.with_list locked l xs
+      → new ≡ with_lock made l false → IsUnlocked new
   taken-unlocked xs locked made new first second third =
       subst IsUnlocked (sym (third ∙ ap (λ x. with_lock x l false) (second ∙ ap (λ x. ready.with_list x l xs) first))) (unlocked-with xs)
 

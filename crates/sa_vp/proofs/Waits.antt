@@ -42,7 +42,9 @@ no_ios (io ∷ ios) some = absurd (some (λ same. cc))
 
 -- nothing is lost then
 pub none_lost : (b : Board) → BlocksByIos b → (b.devices.ios.under_way ≢ [] → ⊥) → b.lost ≡ loses b
-none_lost b waits some = fill_by_all (λ s. get_or b.lost s 0 + lost_now b s) b.lost (length b.lost) 0 refl (λ k below. let zero : get_or b.blocked k 0 ≡ 0 = waits (no_ios b.devices.ios.under_way some) k in omega (arith, zero))
+none_lost b waits some =
+    fill_by_all (λ s. get_or b.lost s 0 + lost_now b s) b.lost (length b.lost) 0 refl (λ k below. let zero : get_or b.blocked k 0 ≡ 0 =
+    waits (no_ios b.devices.ios.under_way some) k in omega (arith, zero))
 
 -- WORK: none of a sum of 0 is more
 none_in : {X : Type 0} (f : X → ℕ) (xs : List X) (i : ℕ) (d : X) → f d ≡ 0 → sum_by f xs ≡ 0 → f (get_or xs i d) ≡ 0
@@ -66,7 +68,8 @@ read_work w b read none s l = no_length (list_in b.work s l) (none_in length (of
 -- READY THREADS: one that is ready is counted
 one_ready : (threads : List Thread) (t : ℕ) → (get_or threads t (at_start 0 places.Done)).place ≡ places.Ready → 1 ≤ count_in is_ready threads
 one_ready threads t ready = elim (cases_lt t (length threads)) [
-  | inl below ↦ subst (λ place. cond (is_ready place) 1 0 ≤ count_in is_ready threads) ready (get_or-le-sum_by (λ (x : Thread). cond (is_ready x.place) 1 0) threads t (at_start 0 places.Done) below)
+  | inl below ↦ subst (λ place. cond (is_ready place) 1 0 ≤ count_in is_ready threads) ready
+      (get_or-le-sum_by (λ (x : Thread). cond (is_ready x.place) 1 0) threads t (at_start 0 places.Done) below)
   | inr past ↦
       let done : places.Ready ≡ places.Done = sym ready ∙ ap (λ (x : Thread). x.place) (get_or_past threads t (at_start 0 places.Done) past) in
       cc
@@ -84,12 +87,14 @@ none_found {A} test (x ∷ xs) never = go (test x) refl (none_found test xs neve
   go false is rest = rest
 
 -- where none is ready, no ready list has a thread
-pub none_sought : (a : ActNo) (b : Board) → IsTabled b → IsVirtual b a → ListsReady b (space_of a) → count_in is_ready (space_at b.state (space_of a)).threads ≡ 0
+pub none_sought : (a : ActNo) (b : Board) → IsTabled b → IsVirtual b a → ListsReady b (space_of a)
+    → count_in is_ready (space_at b.state (space_of a)).threads ≡ 0
     → None ≡ find (λ l. is_some_list (list_in b.ready (space_of a) l)) (round_from b.workload (list_of a))
 none_sought a b tabled virtual ready none = none_found (λ l. is_some_list (list_in b.ready (space_of a) l)) (round_from b.workload (list_of a)) empty where
   empty : (l : ProcNo) → is_some_list (list_in b.ready (space_of a) l) ≡ true → ⊥
   empty l some = elim (cases_lt l.0 b.workload.processors) [
-    | inl below ↦ no_head (list_in b.ready (space_of a) l) (λ t is. let one = one_ready (space_at b.state (space_of a)).threads t (ready l t below is) in omega (arith, one, none)) some
+    | inl below ↦ no_head (list_in b.ready (space_of a) l) (λ t is. let one = one_ready (space_at b.state (space_of a)).threads t (ready l t below is) in
+        omega (arith, one, none)) some
     | inr past ↦
         let many = (tabled.ready_rows (space_of a).0 virtual.space).many in
         let out : list_in b.ready (space_of a) l ≡ [] = get_or_past (of_space b.ready (space_of a)).lists l.0 [] (omega (arith, past, many)) in

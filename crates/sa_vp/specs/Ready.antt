@@ -10,6 +10,6 @@ pub record IsUnlocked (r : ReadyView) : Type 0 where
   pub locked : r.locked ≡ replicate (length r.lists) false
   pub ranks : r.ranks ≡ []
 
--- so many numbers, from one on and round
+-- that many numbers, from one on and round
 abbrev pub round : ℕ → ProcNo → List ProcNo
 round count l = map (λ n. proc_no ((l.0 + n) % count)) (range_with_len 0 count)

@@ -25,7 +25,7 @@ board_of m = record {
   items = m.trace.items;
 }
 
--- what a contract sees of a run: the board, ..
+-- what a contract sees of a run
 pub record VpView : Type 0 where
   pub board : Board
   -- the number of events at which the run ends

@@ -1,4 +1,4 @@
--- Who waits: virtual processors that are blocked, threads that stand in work lists, and threads that stand in ready lists.
+-- Who waits: virtual processors that are blocked, threads that are in work lists, and threads that are in ready lists.
 use Rattle.std.specs.Prelude.{◌≡◌, ℕ, ◌<◌, true, [], Some, slice_index_or}
 use Rattle.sa_base.specs.declared.number.ProcNo.{ProcNo}
 use Rattle.sa_base.specs.declared.number.SpaceNo.{SpaceNo}
@@ -17,4 +17,5 @@ CountsWork b = b.due ≡ 0 → (s : SpaceNo) (l : ProcNo) → list_in b.work s l
 
 -- the newest thread of each ready list of a space is ready
 abbrev pub ListsReady : Board → SpaceNo → Type 0
-ListsReady b s = (l : ProcNo) (t : ℕ) → l.0 < b.workload.processors → picked (list_in b.ready s l) true ≡ Some t → (thread_at b.state s (thread t)).place ≡ places.Ready
+ListsReady b s =
+    (l : ProcNo) (t : ℕ) → l.0 < b.workload.processors → picked (list_in b.ready s l) true ≡ Some t → (thread_at b.state s (thread t)).place ≡ places.Ready

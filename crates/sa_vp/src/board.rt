@@ -48,7 +48,7 @@ pub(crate) struct Parts {
     // of each space, a ready list and a work list at each place
     pub(crate) ready: Vec<Ready>,
     pub(crate) work: Vec<Links>,
-    // how many threads stand in work lists
+    // how many threads are in work lists
     pub(crate) due: u64,
     // of each space, how many of its virtual processors are blocked, and what it has lost
     pub(crate) blocked: Vec<u32>,
@@ -264,7 +264,7 @@ impl Parts {
         self.say(p, Record::Free(s, l, carried));
     }
 
-    // The thread blocks for an I/O of so many events, and the virtual processor with it.
+    // The thread blocks for an I/O of `len` events, and the virtual processor with it.
     fn block(&mut self, p: ProcNo, a: ActNo, t: ThreadNo, kind: IoKind, len: u32)
         requires inside { p.0 < self.old.replay.workload.processors }
         requires can { CanBlockOn p a t kind (board_of self.old) }
@@ -317,7 +317,7 @@ impl Parts {
         self.say(p, Record::Out(s, t, value));
     }
 
-    // The thread runs `io`, and blocks for an I/O of so many events.
+    // The thread runs `io`, and blocks for an I/O of `len` events.
     fn go_block(&mut self, p: ProcNo, a: ActNo, t: ThreadNo, pc: u16, len: u32)
         requires inside { p.0 < self.old.replay.workload.processors }
         requires at { pc ≡ (thread_at self.old.replay.state (space_of a) t).pc }

@@ -1,4 +1,4 @@
-// Numbers put behind one another into lists.
+// Numbers put one after another into lists.
 ghost use Rattle.std.specs.Prelude.{◌≡◌, ℕ, ◌+◌, ◌≤◌, ◌<◌, [], ◌∷◌, ◌++◌, length, IfOk, OnOk, slice_set};
 ghost use Rattle.sa_base.specs.declared.limits.TheConstants.{MAX_PROCESSORS, MAX_SPACES, MAX_THREADS};
 ghost use Rattle.std.specs.List.{range_with_len};
@@ -12,7 +12,7 @@ use sa_base::{ProcNo, ThreadNo};
 use sa_links::Links;
 use std::alloc::{AllocError, Global};
 
-// Puts threads, which stand in no list, behind the last of a list.
+// Puts threads, which are in no list, after the last of a list.
 pub(crate) fn put_behind(links: &mut Links, l: ProcNo, threads: &[ThreadNo])
     requires list { l.0 < length links.old.lists }
     requires below { (u : ℕ) → 1 ≤ count_in u (numbers threads.now) → u < links.old.nodes }
@@ -24,7 +24,7 @@ pub(crate) fn put_behind(links: &mut Links, l: ProcNo, threads: &[ThreadNo])
     }
 }
 
-// The virtual processors of a place, one of each space, behind those of the places before.
+// The virtual processors of a place, one of each space, after those of the places before.
 fn add_place(numbers: &mut Vec<u32>, spaces: u16, k: u16) -> Result<(), AllocError>
     requires spaces { spaces ≤ MAX_SPACES }
     requires place { k < MAX_PROCESSORS }

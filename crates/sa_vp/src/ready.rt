@@ -13,7 +13,7 @@ use sa_lists::{Ranks, ReadyLists};
 use std::alloc::{AllocError, Global};
 use std::marker::Model;
 
-// A list at each place, the newest thread first. A thread stands in at most one of them.
+// A list at each place, the newest thread first. A thread is in at most one of them.
 #[derive(Debug, Drop)]
 pub(crate) struct Ready {
     lists: ReadyLists,
@@ -42,7 +42,7 @@ impl Ready {
         })
     }
 
-    // A thread that stands in no list becomes the newest of list `l`.
+    // A thread that is in no list becomes the newest of list `l`.
     pub(crate) fn push(&mut self, l: ProcNo, t: ThreadNo)
         requires list { l.0 < length self.old.lists }
         requires thread { t.0 < self.old.nodes }

@@ -28,7 +28,7 @@ fn opening_queue(alloc: Global, w: &Workload) -> Result<Links, AllocError>
     Ok(queue)
 }
 
-// The ready lists of so many spaces: thread 0 is ready at place 0. Fails only where memory runs out.
+// The ready lists of the spaces: thread 0 is ready at place 0. Fails only where memory runs out.
 fn opening_ready(alloc: Global, spaces: usize, lists: u16) -> Result<Vec<Ready>, AllocError>
     requires some { 1 ≤ lists }
     requires few { lists ≤ MAX_PROCESSORS }
@@ -43,7 +43,7 @@ fn opening_ready(alloc: Global, spaces: usize, lists: u16) -> Result<Vec<Ready>,
     Ok(rows)
 }
 
-// The work lists of so many spaces. Fails only where memory runs out.
+// The work lists of the spaces. Fails only where memory runs out.
 fn opening_work(alloc: Global, spaces: usize, lists: u16) -> Result<Vec<Links>, AllocError>
     ensures { IfOk result (λ work. work.items ≡ replicate spaces (empty lists)) }
 {
@@ -54,14 +54,14 @@ fn opening_work(alloc: Global, spaces: usize, lists: u16) -> Result<Vec<Links>, 
     Ok(rows)
 }
 
-// No virtual processor on any of so many processors. Fails only where memory runs out.
+// No virtual processor on any of the processors. Fails only where memory runs out.
 fn nobody(alloc: Global, processors: u16) -> Result<Vec<Option<ActNo>>, AllocError>
     ensures { IfOk result (λ placed. placed.items ≡ replicate processors None) }
 {
     vec![in alloc; None; usize::from(processors)]
 }
 
-// No thread of any of so many virtual processors. Fails only where memory runs out.
+// No thread of any of `count` virtual processors. Fails only where memory runs out.
 fn no_threads(alloc: Global, count: usize) -> Result<Vec<Option<ThreadNo>>, AllocError>
     ensures { IfOk result (λ threads. threads.items ≡ replicate count None) }
 {
@@ -92,7 +92,7 @@ struct Tables {
     lost: Vec<u64>,
 }
 
-// The tables of so many spaces and processors. Fails only where memory runs out.
+// The tables of the spaces and processors. Fails only where memory runs out.
 fn opening_tables(alloc: Global, spaces: usize, processors: u16) -> Result<Tables, AllocError>
     ensures { IfOk result (IsOpeningTable spaces processors) }
 {

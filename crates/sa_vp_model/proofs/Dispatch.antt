@@ -34,7 +34,8 @@ module _ (w : WorkloadView) (valid : IsWorkload w) (v : Virtuals) (good : Good w
   back None is n reason due found = cc
   back (Some io) is n reason due found =
       let number : io.number ≡ n.0 = ap (λ (m : IoNo). m.0) (same_Some _ _ due) in
-      let at : io_at n.0 v.base.under_way ≡ Some io = ap (λ k. io_at k v.base.under_way) (sym number) ∙ due_found v.base.number v.base.begun v.base.under_way io fits.numbered is in
+      let at : io_at n.0 v.base.under_way ≡ Some io =
+      ap (λ k. io_at k v.base.under_way) (sym number) ∙ due_found v.base.number v.base.begun v.base.under_way io fits.numbered is in
       let same : io.kind ≡ reason = same_Some _ _ (sym (ap (option_map (λ (y : Io). y.kind)) at) ∙ found) in
       subst (λ k. CanComeBack p (rules.of_io k) (board_of w v x)) same (safe.comes_back w valid v good x fits p io is)
 
@@ -65,7 +66,8 @@ module _ (w : WorkloadView) (valid : IsWorkload w) (v : Virtuals) (good : Good w
 
     reads : (ts : List ThreadNo) → v.work a.0 ≡ ts → (u : ℕ) → slice_get (numbers ts) 0 ≡ Some u → CanReady p a (thread u) (board_of w now more)
     reads [] work u found = cc
-    reads (t ∷ ts) work u found = subst (λ n. CanReady p a (thread n) (board_of w now more)) (same_Some _ _ found) (safe.readies_it w valid now good' more fits' p a at t ts work)
+    reads (t ∷ ts) work u found =
+        subst (λ n. CanReady p a (thread n) (board_of w now more)) (same_Some _ _ found) (safe.readies_it w valid now good' more fits' p a at t ts work)
 
     runs : (t : ThreadNo) → rules.carried_on v p ≡ Some t → CanRunOn p a t (board_of w now more)
     runs t carried = record {
@@ -92,11 +94,13 @@ module _ (w : WorkloadView) (valid : IsWorkload w) (v : Virtuals) (good : Good w
     inside = inside;
     back = back (due_of v.base.number v.base.under_way) refl;
     first = places;
-    gives_way = λ a at turn. safe.gives_way w valid v good x fits p inside a at (second (nat_le rules.quantum (v.steps a.0)) (rules.some_wait v.queue) (sym (main.turn_same w valid p inside v good x fits first room a) ∙ turn));
+    gives_way =
+        λ a at turn. safe.gives_way w valid v good x fits p inside a at
+        (second (nat_le rules.quantum (v.steps a.0)) (rules.some_wait v.queue) (sym (main.turn_same w valid p inside v good x fits first room a) ∙ turn));
     steps = steps;
   }
 
--- .. and so at each turn
+-- a board that is read can act at each turn
 pub can_act : (w : WorkloadView) (p : ProcNo) (b : Board) → IsRead w b → p.0 < w.processors → b.number ≤ MAX_EVENTS → CanAct p (begun b)
 can_act w p b read inside few =
     subst (λ (c : Board). CanAct p (begun c)) (sym read.is)

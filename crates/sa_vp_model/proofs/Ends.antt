@@ -69,13 +69,15 @@ module _ (w : WorkloadView) (b : Board) (read : IsRead w b) where
   due_is : b.due ≡ total x.work
   due_is = ap (λ (c : Board). c.due) read.is ∙ read.fits.due
 
-  -- who is due stands in a work list
+  -- who is due is in a work list
   nobody : b.due ≡ 0 → NobodyIsDue v
   nobody none s t = elim (cases_lt s.0 (length w.spaces)) [
     | inl below ↦
-        let row = get_or-le-sum_by (λ (c : Lists). sum_by length c.lists) x.work s.0 (record { nodes = 0; lists = [] }) (omega (arith, below, read.fits.many_work)) in
+        let row = get_or-le-sum_by (λ (c : Lists). sum_by length c.lists) x.work s.0 (record { nodes = 0; lists = [] })
+        (omega (arith, below, read.fits.many_work)) in
         let fewer = sum_less (count_in t.0) length (rows x.work s.0).lists (λ ts. count_by-le-length (λ y. y == t.0) ts) in
-        waits_none (place_no (at_no v.base.state.spaces s.0) t.0) (waits_of (at_no v.base.state.spaces s.0).sync t.0) (worked v.work w.processors s.0 t.0) ((read.good.stands.holds.agree s.0 t.0).in_work)
+        waits_none (place_no (at_no v.base.state.spaces s.0) t.0) (waits_of (at_no v.base.state.spaces s.0).sync t.0) (worked v.work w.processors s.0 t.0)
+        ((read.good.stands.holds.agree s.0 t.0).in_work)
         (omega (arith, due_is, none, row, fewer, worked_all v.work s.0 t.0 w.processors (rows x.work s.0) (read.fits.work s.0 below)))
     | inr past ↦ ap (λ y. is_due y t) (get_or_past v.base.state.spaces s.0 no_threads (omega (arith, past, read.good.stands.holds.replay.as_many)))
   ]
@@ -89,7 +91,8 @@ module _ (w : WorkloadView) (b : Board) (read : IsRead w b) where
       let here = head_counts (list_at (rows x.work row.0).lists list.0) list.2 in
       let there = count_at u (rows x.work row.0).lists list.0 in
       let worked' = worked_all v.work row.0 u w.processors (rows x.work row.0) (read.fits.work row.0 below) in
-      let is = waits_one (place_no (at_no v.base.state.spaces row.0) u) (waits_of (at_no v.base.state.spaces row.0).sync u) (worked v.work w.processors row.0 u) ((read.good.stands.holds.agree row.0 u).in_work) (omega (arith, here, there, worked')) in
+      let is = waits_one (place_no (at_no v.base.state.spaces row.0) u) (waits_of (at_no v.base.state.spaces row.0).sync u)
+      (worked v.work w.processors row.0 u) ((read.good.stands.holds.agree row.0 u).in_work) (omega (arith, here, there, worked')) in
       let both : true ≡ false = sym is ∙ none (record { 0 = row.0 }) (record { 0 = u }) in cc
 
   state_is : b.state ≡ v.base.state
@@ -107,7 +110,8 @@ module _ (w : WorkloadView) (b : Board) (read : IsRead w b) where
   some_ios (io ∷ ios) is none = cc
 
   -- both ways
-  stuck : (r d i : Bool) → list_all are_at_rest b.state.spaces ≡ r → (b.due == 0) ≡ d → no_io b.devices.ios.under_way ≡ i → (IsAllDone v.base → ⊥) → r && (d && i) ≡ true → IsStuck v
+  stuck : (r d i : Bool) → list_all are_at_rest b.state.spaces ≡ r → (b.due == 0) ≡ d → no_io b.devices.ios.under_way ≡ i → (IsAllDone v.base → ⊥)
+      → r && (d && i) ≡ true → IsStuck v
   stuck true true true rest due ios not all = record {
     some = not;
     rest = ap (λ a. list_all are_at_rest a.spaces) (sym state_is) ∙ rest;
@@ -118,7 +122,8 @@ module _ (w : WorkloadView) (b : Board) (read : IsRead w b) where
   stuck true false i rest due ios not all = cc
   stuck false d i rest due ios not all = cc
 
-  not_stuck : (r d i : Bool) → list_all are_at_rest b.state.spaces ≡ r → (b.due == 0) ≡ d → no_io b.devices.ios.under_way ≡ i → r && (d && i) ≡ false → IsStuck v → ⊥
+  not_stuck : (r d i : Bool) → list_all are_at_rest b.state.spaces ≡ r → (b.due == 0) ≡ d → no_io b.devices.ios.under_way ≡ i → r && (d && i) ≡ false
+      → IsStuck v → ⊥
   not_stuck true true true rest due ios all is = cc
   not_stuck true true false rest due ios all is = some_ios b.devices.ios.under_way ios (ios_are ∙ is.ios)
   not_stuck true false i rest due ios all is = elim (cases_lt 0 b.due) [
@@ -138,11 +143,18 @@ module _ (w : WorkloadView) (b : Board) (read : IsRead w b) where
       stuck = not_stuck (list_all are_at_rest b.state.spaces) (b.due == 0) (no_io b.devices.ios.under_way) refl refl refl stuck';
     }
 
-    go : (c d e : Bool) → is_done b ≡ c → is_stuck b ≡ d → (b.number == budget + 1) ≡ e → EndsWith budget v events (cond c (Some AllDone) (cond d (Some Stuck) (cond e (Some Budget) None)))
+    go : (c d e : Bool) → is_done b ≡ c → is_stuck b ≡ d → (b.number == budget + 1) ≡ e
+        → EndsWith budget v events (cond c (Some AllDone) (cond d (Some Stuck) (cond e (Some Budget) None)))
     go true d e done stuck' last = done_is true done
-    go false true e done stuck' last = stuck (list_all are_at_rest b.state.spaces) (b.due == 0) (no_io b.devices.ios.under_way) refl refl refl (λ all. let both : true ≡ false = sym all ∙ done_is false done in cc) stuck'
+    go false true e done stuck' last =
+        stuck (list_all are_at_rest b.state.spaces) (b.due == 0) (no_io b.devices.ios.under_way) refl refl refl (λ all. let both : true ≡ false =
+        sym all ∙ done_is false done in cc) stuck'
     go false false true done stuck' last = (goes done stuck', let same = eqb-true b.number (budget + 1) last in omega (arith, same, number))
-    go false false false done stuck' last = (goes done stuck', λ same. let yes : (b.number == budget + 1) ≡ true = eq-eqb b.number (budget + 1) (omega (arith, same, number)) in let both : true ≡ false = sym yes ∙ last in cc)
+    go false false false done stuck' last = (
+      goes done stuck',
+      λ same. let yes : (b.number == budget + 1) ≡ true = eq-eqb b.number (budget + 1) (omega (arith, same, number)) in
+          let both : true ≡ false = sym yes ∙ last in cc,
+    )
 
 pub ends_are_read : EndsAreRead
 ends_are_read w budget events b read number = ends w b read budget events number

@@ -24,7 +24,7 @@ pub record Follows (w : WorkloadView) (p : ProcNo) (v : Virtuals) (t : Turned) (
   pub blocked : (s : ℕ) → get_or own.blocked s 0 ≤ get_or x.blocked s 0 + 1
   pub due : own.due ≤ x.due + MAX_THREADS
 
--- .. where it may have made one step before
+-- the board follows what is read, where one step may have been made before
 pub record Goes (w : WorkloadView) (p : ProcNo) (v : Virtuals) (t : Turned) (x : Own) (b : Board) : Type 0 where
   pub own : Own
   pub is : b ≡ board_of w (behind w p v t) own

@@ -1,13 +1,14 @@
 -- I/Os under way: the one that is due is found by its number, and is the only one of its virtual processor.
-use Rattle.std.proofs.Common.{◌≡◌, ◌≢◌, ℕ, ◌+◌, ◌≤◌, Bool, true, false, cond, eqb, not, List, [], ◌∷◌, ◌++◌, filter, Option, Some, None, inl, inr, ◌⊎◌, refl, sym, ap, ◌∙◌, arith}
+use Rattle.std.proofs.Common.{◌≡◌, ◌≢◌, ℕ, ◌+◌, ◌≤◌, Bool, true, false, cond, eqb, not, List, [], ◌∷◌, ◌++◌, filter, Some, inl, inr, ◌⊎◌, refl, sym, ap, ◌∙◌, arith}
 use Rattle.std.specs.Prelude.{find, count_by, nat_le}
 use Rattle.std.proofs.lemmas.Bool.{cases_eq, ne_eqb, eq-eqb}
 use Rattle.std.proofs.lemmas.Option.{same_Some}
 use Rattle.std.proofs.lemmas.List.Sums.{sum_by-cons, sum_by_push}
 use Rattle.sa_base.specs.declared.number.ActNo.{ActNo}
-use Rattle.sa_devices.specs.Ios.{Io, due_of, sooner_of, is_sooner, is_number, io_at, without}
+use Rattle.sa_devices.specs.Ios.{Io, due_of, sooner_of, is_number, io_at, without}
 use Rattle.sa_laws.specs.Record.{is_io_of, is_io_of_other}
 use Rattle.sa_virtual.specs.Holding.{one_where, one_if, in_ios}
+use Rattle.sa_virtual.proofs.Turns.{sooner_one}
 use Rattle.sa_vp_model.specs.Mirror.{AreNumbered}
 
 abbrev one : Bool → ℕ
@@ -26,13 +27,6 @@ of-cons a io ios = sum_by-cons (λ (x : Io). cond (is_io_of a x) 1 0) io ios
 abbrev IsAmong : Io → List Io → Type 0
 IsAmong io [] = ⊥
 IsAmong io (x ∷ xs) = (x ≡ io) ⊎ IsAmong io xs
-
-sooner_one : (io : Io) (o : Option Io) → (sooner_of io o ≡ io) ⊎ (Some (sooner_of io o) ≡ o)
-sooner_one io None = inl refl
-sooner_one io (Some other) = go (is_sooner other io) where
-  go : (b : Bool) → (cond b other io ≡ io) ⊎ (Some (cond b other io) ≡ Some other)
-  go true = inr refl
-  go false = inl refl
 
 due_among : (e : ℕ) (ios : List Io) (io : Io) → due_of e ios ≡ Some io → IsAmong io ios
 due_among e [] io due = cc
@@ -73,10 +67,11 @@ due_found e begun ios io numbered due = among-found io ios (due_among e ios io d
 -- THE ONLY ONE OF ITS VIRTUAL PROCESSOR
 none_left : (a : ActNo) (ios : List Io) → in_ios ios a.0 ≡ 0 → filter (is_io_of_other a) ios ≡ ios
 none_left a [] none = refl
-none_left a (x ∷ xs) none = elim (is_io_of a x) as (λ b. b ≡ is_io_of a x → cond (not b) (x ∷ filter (is_io_of_other a) xs) (filter (is_io_of_other a) xs) ≡ x ∷ xs) [
-  | true ↦ λ is. let some : one (is_io_of a x) ≡ 1 = ap one (sym is) in absurd (omega (arith, some, of-cons a x xs, none))
-  | false ↦ λ is. let no-one : one (is_io_of a x) ≡ 0 = ap one (sym is) in ap (λ ys. x ∷ ys) (none_left a xs (omega (arith, no-one, of-cons a x xs, none)))
-] refl
+none_left a (x ∷ xs) none =
+    elim (is_io_of a x) as (λ b. b ≡ is_io_of a x → cond (not b) (x ∷ filter (is_io_of_other a) xs) (filter (is_io_of_other a) xs) ≡ x ∷ xs) [
+      | true ↦ λ is. let some : one (is_io_of a x) ≡ 1 = ap one (sym is) in absurd (omega (arith, some, of-cons a x xs, none))
+      | false ↦ λ is. let no-one : one (is_io_of a x) ≡ 0 = ap one (sym is) in ap (λ ys. x ∷ ys) (none_left a xs (omega (arith, no-one, of-cons a x xs, none)))
+    ] refl
 
 found_of : (a : ActNo) (n : ℕ) (here : Io) (ios : List Io) → io_at n ios ≡ Some here → is_io_of a here ≡ true → 1 ≤ in_ios ios a.0
 found_of a n here [] is of = cc
@@ -100,7 +95,8 @@ over a n here (x ∷ xs) is of once = both (λ there alone. over a n here xs the
       let same : x ≡ here = same_Some _ _ (sym (ap (λ b. cond b (Some x) (io_at n xs)) at) ∙ is) in
       let some : one (is_io_of a x) ≡ 1 = ap one mine in
       record {
-        left = ap (λ c. cond (not c) (x ∷ rest) rest) mine ∙ none_left a xs (omega (arith, some, of-cons a x xs, once)) ∙ sym (ap (λ b. cond b xs (x ∷ without n xs)) at);
+        left = ap (λ c. cond (not c) (x ∷ rest) rest) mine ∙ none_left a xs (omega (arith, some, of-cons a x xs, once))
+            ∙ sym (ap (λ b. cond b xs (x ∷ without n xs)) at);
         found = ap (λ c. cond c (Some x) (find (is_io_of a) xs)) mine ∙ ap Some same;
       }
   both later true false at mine =
@@ -136,7 +132,8 @@ pub numbered_more : (begun : ℕ) (ios : List Io) (io : Io) → io.number ≡ be
 numbered_more begun ios io is are = record {
   once = λ n. elim (cases_eq io.number n) [
     | inl e ↦ omega (arith, sum_by_push (λ (x : Io). cond (is_number n x) 1 0) ios io, one_at (is_number n io), are.below n (omega (arith, e, is)))
-    | inr ne ↦ let none : one (is_number n io) ≡ 0 = ap one (ne_eqb io.number n ne) in omega (arith, sum_by_push (λ (x : Io). cond (is_number n x) 1 0) ios io, none, are.once n)
+    | inr ne ↦ let none : one (is_number n io) ≡ 0 = ap one (ne_eqb io.number n ne) in
+        omega (arith, sum_by_push (λ (x : Io). cond (is_number n x) 1 0) ios io, none, are.once n)
   ];
   below = λ n past.
       let none : one (is_number n io) ≡ 0 = ap one (ne_eqb io.number n (λ e. absurd (omega (arith, e, is, past)))) in

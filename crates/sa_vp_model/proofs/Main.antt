@@ -48,11 +48,13 @@ use Rattle.sa_vp_model.proofs.Ran.{runs_it, more_most}
 use Rattle.sa_vp_model.proofs.Taken.{looks_for}
 
 -- NUMBERS of virtual processors are small
-both_small : (spaces processors a : ℕ) → spaces ≤ MAX_SPACES → 1 ≤ one_where (nat_lt (a / MAX_PROCESSORS) spaces && nat_lt (a % MAX_PROCESSORS) processors) → a < VIRTUALS
+both_small : (spaces processors a : ℕ) → spaces ≤ MAX_SPACES → 1 ≤ one_where (nat_lt (a / MAX_PROCESSORS) spaces && nat_lt (a % MAX_PROCESSORS) processors)
+    → a < VIRTUALS
 both_small spaces processors a few some = elim (cases_lt (a / MAX_PROCESSORS) spaces) [
   | inl below ↦ omega (arith, below, few)
   | inr past ↦
-      let none : one_where (nat_lt (a / MAX_PROCESSORS) spaces && nat_lt (a % MAX_PROCESSORS) processors) ≡ 0 = ap (λ b. one_where (b && nat_lt (a % MAX_PROCESSORS) processors)) (le-ltb (a / MAX_PROCESSORS) spaces past) in
+      let none : one_where (nat_lt (a / MAX_PROCESSORS) spaces && nat_lt (a % MAX_PROCESSORS) processors) ≡ 0 =
+      ap (λ b. one_where (b && nat_lt (a % MAX_PROCESSORS) processors)) (le-ltb (a / MAX_PROCESSORS) spaces past) in
       absurd (omega (arith, none, some))
 ]
 
@@ -79,7 +81,8 @@ waits_same : (q : List ActNo) → is_some_list (act_numbers q) ≡ rules.some_wa
 waits_same [] = refl
 waits_same (a ∷ q) = refl
 
-module _ (w : WorkloadView) (valid : IsWorkload w) (p : ProcNo) (inside : p.0 < w.processors) (v : Virtuals) (good : Good w v) (x : Own) (fits : Fits w v x) (first : v.base.last ≡ None) (room : HasRoom v.base.state.spaces) where
+module _ (w : WorkloadView) (valid : IsWorkload w) (p : ProcNo) (inside : p.0 < w.processors) (v : Virtuals) (good : Good w v) (x : Own) (fits : Fits w v x)
+    (first : v.base.last ≡ None) (room : HasRoom v.base.state.spaces) where
   -- A STEP
   module _ (a : ActNo) (at : placed_on v p ≡ Some a) where
     abbrev pub now : Virtuals
@@ -120,9 +123,12 @@ module _ (w : WorkloadView) (valid : IsWorkload w) (p : ProcNo) (inside : p.0 < 
     abbrev step : List ℕ → Option ThreadNo → Board
     step ts t = steps_on p a (slice_get ts 0) t (board_of w now more)
 
-    steps_by : (t : Option ThreadNo) (ts : List ThreadNo) → rules.carried_on v p ≡ t → v.work a.0 ≡ ts → Follows w p now (rules.stepped w now p a t ts) more (step (numbers ts) t)
+    steps_by : (t : Option ThreadNo) (ts : List ThreadNo) → rules.carried_on v p ≡ t → v.work a.0 ≡ ts
+        → Follows w p now (rules.stepped w now p a t ts) more (step (numbers ts) t)
     steps_by t (u ∷ us) is work = readied w p now good' more fits' a at valid.few_processors t u us work
-    steps_by (Some t) [] is work = runs_it w valid p now good' more fits' a at small t (carrier w v.base.number p v good a at valid.few_processors ∙ ap (λ o. runner_of (space_of a) o) is) room first
+    steps_by (Some t) [] is work =
+        runs_it w valid p now good' more fits' a at small t
+        (carrier w v.base.number p v good a at valid.few_processors ∙ ap (λ o. runner_of (space_of a) o) is) room first
     steps_by None [] is work = looks_for w p now good' more fits' a at valid.few_processors
 
     stepped : Follows w p now (rules.stepped w now p a (rules.carried_on v p) (v.work a.0)) more (steps p a (board_of w v x))
@@ -131,27 +137,55 @@ module _ (w : WorkloadView) (valid : IsWorkload w) (p : ProcNo) (inside : p.0 < 
         (steps_by (rules.carried_on v p) (v.work a.0) refl refl)
 
   plainly : (t : rules.Turned) (b : Board) → Follows w p v t x b → Goes w p v t x b
-  plainly t b f = record { own = f.own; is = f.is; fits = f.fits; lost = f.lost; items = f.items; begun = f.begun; steps = λ a. omega (arith, f.steps a); blocked = f.blocked; due = f.due }
+  plainly t b f =
+      record {
+        own = f.own;
+        is = f.is;
+        fits = f.fits;
+        lost = f.lost;
+        items = f.items;
+        begun = f.begun;
+        steps = λ a. omega (arith, f.steps a);
+        blocked = f.blocked;
+        due = f.due;
+      }
 
   with_a_step : (a : ActNo) (at : placed_on v p ≡ Some a) (t : rules.Turned) (b : Board) → Follows w p (rules.with_step a v) t (more a at) b → Goes w p v t x b
-  with_a_step a at t b f = record { own = f.own; is = f.is; fits = f.fits; lost = f.lost; items = f.items; begun = f.begun; steps = λ c. omega (arith, f.steps c, more_most x.steps a.0 c); blocked = f.blocked; due = f.due }
+  with_a_step a at t b f =
+      record {
+        own = f.own;
+        is = f.is;
+        fits = f.fits;
+        lost = f.lost;
+        items = f.items;
+        begun = f.begun;
+        steps = λ c. omega (arith, f.steps c, more_most x.steps a.0 c);
+        blocked = f.blocked;
+        due = f.due;
+      }
 
-  moves : (a : ActNo) → placed_on v p ≡ Some a → (b : Bool) → nat_le rules.quantum (v.steps a.0) && rules.some_wait v.queue ≡ b → Goes w p v (rules.moves_on w v p a b) x (moves_on p a b (board_of w v x))
-  moves a at true is = plainly _ _ (relieved w p v good x fits a at (placed_small w valid v good p a at) (rules.carried_on v p) v.queue refl (second (nat_le rules.quantum (v.steps a.0)) (rules.some_wait v.queue) is) (all_small w valid v good)) where
-    second : (c d : Bool) → c && d ≡ true → d ≡ true
-    second true d e = e
-    second false d e = cc
+  moves : (a : ActNo) → placed_on v p ≡ Some a → (b : Bool) → nat_le rules.quantum (v.steps a.0) && rules.some_wait v.queue ≡ b
+      → Goes w p v (rules.moves_on w v p a b) x (moves_on p a b (board_of w v x))
+  moves a at true is =
+      plainly _ _ (relieved w p v good x fits a at (placed_small w valid v good p a at) (rules.carried_on v p) v.queue refl
+      (second (nat_le rules.quantum (v.steps a.0)) (rules.some_wait v.queue) is) (all_small w valid v good)) where
+        second : (c d : Bool) → c && d ≡ true → d ≡ true
+        second true d e = e
+        second false d e = cc
   moves a at false is = with_a_step a at _ _ (stepped a at)
 
   pub turn_same : (a : ActNo) → has_had_its_turn (board_of w v x) a ≡ nat_le rules.quantum (v.steps a.0) && rules.some_wait v.queue
-  turn_same a = ap (λ (f : ℕ → ℕ). nat_le rules.quantum (f a.0) && is_some_list (act_numbers v.queue)) fits.steps ∙ ap (λ b. nat_le rules.quantum (v.steps a.0) && b) (waits_same v.queue)
+  turn_same a = ap (λ (f : ℕ → ℕ). nat_le rules.quantum (f a.0) && is_some_list (act_numbers v.queue)) fits.steps
+      ∙ ap (λ b. nat_le rules.quantum (v.steps a.0) && b) (waits_same v.queue)
 
   goes : (o : Option ActNo) → placed_on v p ≡ o → Goes w p v (rules.goes_on w v p o) x (goes_on p o (board_of w v x))
   goes None is = plainly _ _ (places_it w p v good x fits v.queue refl (all_small w valid v good))
   goes (Some a) is =
-      subst (λ b. Goes w p v (rules.moves_on w v p a (nat_le rules.quantum (v.steps a.0) && rules.some_wait v.queue)) x (moves_on p a b (board_of w v x))) (sym (turn_same a))
+      subst (λ b. Goes w p v (rules.moves_on w v p a (nat_le rules.quantum (v.steps a.0) && rules.some_wait v.queue)) x (moves_on p a b (board_of w v x)))
+      (sym (turn_same a))
       (moves a is (nat_le rules.quantum (v.steps a.0) && rules.some_wait v.queue) refl)
 
-  pub turns : (o : Option Io) → due_of v.base.number v.base.under_way ≡ o → Goes w p v (rules.turned_by w v p o) x (acts p (option_map io_no o) (board_of w v x))
+  pub turns : (o : Option Io) → due_of v.base.number v.base.under_way ≡ o
+      → Goes w p v (rules.turned_by w v p o) x (acts p (option_map io_no o) (board_of w v x))
   turns None is = goes (placed_on v p) refl
   turns (Some io) is = plainly _ _ (unblocks w p v good x fits io is)

@@ -21,7 +21,7 @@ use Rattle.sa_vp_model.specs.Board.{opened, empty, first_ready, no_lists}
 use Rattle.sa_vp_model.specs.Mirror.{Own, board_of, Fits, IsBounded, AreLists, newest_first, rows, total}
 use Rattle.sa_vp_model.specs.Run.{IsRead}
 
--- a table of one value that is also what stands past its end
+-- a table of one value that is also what is read past its end
 all_are : {A : Type 0} (n : ℕ) (d : A) → ◌≡◌ {A = ℕ → A} (λ a. get_or (replicate n d) a d) (λ a. d)
 all_are {A} n d = fun_ext (λ a. elim (cases_lt a n) [
   | inl below ↦ get_or-replicate n a d d below
@@ -50,16 +50,22 @@ module _ (w : WorkloadView) (valid : IsWorkload w) where
 
   first : (l : ℕ) → l < w.processors → list_at (first_ready w.processors).lists l ≡ newest_first (first_listed ∷ []) l
   first zero below = get_or-set_same (empty w.processors).lists 0 (0 ∷ []) [] (omega (arith, below, many))
-  first (suc l) below = get_or-set_other (empty w.processors).lists 0 (suc l) (0 ∷ []) [] (λ e. cc) ∙ empty_list w.processors (suc l) below ∙ sym (ap (λ b. cond b (0 ∷ []) []) (ne_eqb 0 (suc l) (λ e. cc)))
+  first (suc l) below = get_or-set_other (empty w.processors).lists 0 (suc l) (0 ∷ []) [] (λ e. cc) ∙ empty_list w.processors (suc l) below
+      ∙ sym (ap (λ b. cond b (0 ∷ []) []) (ne_eqb 0 (suc l) (λ e. cc)))
 
-  ready_at : (s : ℕ) → s < length w.spaces → AreLists w.processors (newest_first (get_or (replicate (length w.spaces) (first_listed ∷ [])) s [])) (rows own.ready s)
+  ready_at : (s : ℕ) → s < length w.spaces
+      → AreLists w.processors (newest_first (get_or (replicate (length w.spaces) (first_listed ∷ [])) s [])) (rows own.ready s)
   ready_at s below =
-      subst (λ (c : Lists). AreLists w.processors (newest_first (get_or (replicate (length w.spaces) (first_listed ∷ [])) s [])) c) (sym (get_or-replicate (length w.spaces) s (first_ready w.processors) no_lists below))
-      (subst (λ (xs : List Listed). AreLists w.processors (newest_first xs) (first_ready w.processors)) (sym (get_or-replicate (length w.spaces) s (first_listed ∷ []) [] below))
+      subst (λ (c : Lists). AreLists w.processors (newest_first (get_or (replicate (length w.spaces) (first_listed ∷ [])) s [])) c)
+      (sym (get_or-replicate (length w.spaces) s (first_ready w.processors) no_lists below))
+      (subst (λ (xs : List Listed). AreLists w.processors (newest_first xs) (first_ready w.processors))
+      (sym (get_or-replicate (length w.spaces) s (first_listed ∷ []) [] below))
       (record { nodes = refl; many = length-set (empty w.processors).lists 0 (0 ∷ []) ∙ many; each = first }))
 
   work_at : (s : ℕ) → s < length w.spaces → AreLists w.processors (λ l. []) (rows own.work s)
-  work_at s below = subst (AreLists w.processors (λ l. [])) (sym (get_or-replicate (length w.spaces) s (empty w.processors) no_lists below)) (record { nodes = refl; many = many; each = empty_list w.processors })
+  work_at s below =
+      subst (AreLists w.processors (λ l. [])) (sym (get_or-replicate (length w.spaces) s (empty w.processors) no_lists below))
+      (record { nodes = refl; many = many; each = empty_list w.processors })
 
   none_due : 0 ≡ total own.work
   none_due =

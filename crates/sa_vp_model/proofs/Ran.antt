@@ -53,16 +53,19 @@ pub more_most : (xs : List ℕ) (i k : ℕ) → get_or (set xs i (get_or xs i 0 
 more_most xs i k = elim (cases_eq k i) [
   | inl e ↦ elim (cases_lt i (length xs)) [
     | inl within' ↦
-        let there : get_or (set xs i (get_or xs i 0 + 1)) k 0 ≡ get_or xs i 0 + 1 = ap (λ n. get_or (set xs i (get_or xs i 0 + 1)) n 0) e ∙ get_or-set_same xs i (get_or xs i 0 + 1) 0 within' in
+        let there : get_or (set xs i (get_or xs i 0 + 1)) k 0 ≡ get_or xs i 0 + 1 =
+        ap (λ n. get_or (set xs i (get_or xs i 0 + 1)) n 0) e ∙ get_or-set_same xs i (get_or xs i 0 + 1) 0 within' in
         let same : get_or xs k 0 ≡ get_or xs i 0 = ap (λ n. get_or xs n 0) e in omega (arith, there, same)
     | inr past ↦
-        let none : get_or (set xs i (get_or xs i 0 + 1)) k 0 ≡ 0 = get_or_past (set xs i (get_or xs i 0 + 1)) k 0 (omega (arith, past, e, length-set xs i (get_or xs i 0 + 1))) in omega (arith, none)
+        let none : get_or (set xs i (get_or xs i 0 + 1)) k 0 ≡ 0 =
+        get_or_past (set xs i (get_or xs i 0 + 1)) k 0 (omega (arith, past, e, length-set xs i (get_or xs i 0 + 1))) in omega (arith, none)
   ]
   | inr ne ↦ let same : get_or (set xs i (get_or xs i 0 + 1)) k 0 ≡ get_or xs k 0 = get_or-set_other xs i k (get_or xs i 0 + 1) 0 ne in omega (arith, same)
 ]
 
 -- a touch of a page that is not there
-missed_is : (w : WorkloadView) (v : Virtuals) (x : Own) (s : SpaceNo) (i : Instr) → misses v.base s i ≡ true → missed_page (board_of w v x) s i ≡ Some (page_in i)
+missed_is : (w : WorkloadView) (v : Virtuals) (x : Own) (s : SpaceNo) (i : Instr) → misses v.base s i ≡ true
+    → missed_page (board_of w v x) s i ≡ Some (page_in i)
 missed_is w v x s (Touch page) is = ap (λ b. cond b None (Some page)) (yes (is_resident v.base s page) is) where
   yes : (b : Bool) → not b ≡ true → b ≡ false
   yes true e = cc
@@ -77,7 +80,8 @@ missed_not w v x s (Touch page) is = ap (λ b. cond b None (Some page)) (yes (is
 missed_not w v x s i is = refl
 
 -- BLOCKED: of readings in the middle of an event, whose lives are those of its beginning
-module _ (w : WorkloadView) (v : Virtuals) (good : Good w v) (x : Own) (fits : Fits w v x) (a : ActNo) (inside' : (space_of a).0 < length w.spaces) (small : a.0 < VIRTUALS) (t : ThreadNo) where
+module _ (w : WorkloadView) (v : Virtuals) (good : Good w v) (x : Own) (fits : Fits w v x) (a : ActNo) (inside' : (space_of a).0 < length w.spaces)
+    (small : a.0 < VIRTUALS) (t : ThreadNo) where
   abbrev pub blocked_own : Own
   blocked_own = record x { spare = x.spare - 1; threads = set x.threads a.0 (Some t); blocked = one_more x.blocked (space_of a) }
 
@@ -87,8 +91,10 @@ module _ (w : WorkloadView) (v : Virtuals) (good : Good w v) (x : Own) (fits : F
       ∙ sym (threads_new w (held_with (Some t)) a v.base.lives (Some t) good.stands.holds.lives (λ life. refl))
 
   -- one more I/O, of this virtual processor
-  pub blocked_more : (ios : List Io) (io : Io) → ios ≡ v.base.under_way → ((r : ℕ) → one_where (is_of (record { 0 = r }) io.kind) ≡ one_where (eqb (space_of a).0 r))
-      → (r : ℕ) → r < length w.spaces → get_or (one_more x.blocked (space_of a)) r 0 ≡ sum_by (λ (y : Io). one_where (is_of (record { 0 = r }) y.kind)) (ios ++ io ∷ [])
+  pub blocked_more : (ios : List Io) (io : Io) → ios ≡ v.base.under_way
+      → ((r : ℕ) → one_where (is_of (record { 0 = r }) io.kind) ≡ one_where (eqb (space_of a).0 r))
+      → (r : ℕ) → r < length w.spaces
+      → get_or (one_more x.blocked (space_of a)) r 0 ≡ sum_by (λ (y : Io). one_where (is_of (record { 0 = r }) y.kind)) (ios ++ io ∷ [])
   blocked_more ios io same kind r below =
       let was = fits.blocked r below in
       let there = ap (λ ys. sum_by (λ (y : Io). one_where (is_of (record { 0 = r }) y.kind)) ys) same in
@@ -97,7 +103,8 @@ module _ (w : WorkloadView) (v : Virtuals) (good : Good w v) (x : Own) (fits : F
         | inl e ↦
             let one : one_where (eqb (space_of a).0 r) ≡ 1 = ap one_where (eq-eqb (space_of a).0 r (sym e)) in
             let now : get_or (one_more x.blocked (space_of a)) r 0 ≡ get_or x.blocked r 0 + 1 =
-            ap (λ n. get_or (set x.blocked n (get_or x.blocked n 0 + 1)) r 0) (sym e) ∙ get_or-set_same x.blocked r (get_or x.blocked r 0 + 1) 0 (omega (arith, below, fits.many_blocked)) in
+            ap (λ n. get_or (set x.blocked n (get_or x.blocked n 0 + 1)) r 0) (sym e)
+            ∙ get_or-set_same x.blocked r (get_or x.blocked r 0 + 1) 0 (omega (arith, below, fits.many_blocked)) in
             omega (arith, was, there, more, one, now, kind r)
         | inr ne ↦
             let none : one_where (eqb (space_of a).0 r) ≡ 0 = ap one_where (ne_eqb (space_of a).0 r (λ e. ne (sym e))) in
@@ -105,8 +112,10 @@ module _ (w : WorkloadView) (v : Virtuals) (good : Good w v) (x : Own) (fits : F
             omega (arith, was, there, more, none, now, kind r)
       ]
 
-module _ (w : WorkloadView) (valid : IsWorkload w) (p : ProcNo) (v : Virtuals) (good : Good w v) (x : Own) (fits : Fits w v x) (a : ActNo) (at : placed_on v p ≡ Some a)
-    (small : a.0 < VIRTUALS) (t : ThreadNo) (runs' : runner_at good.stands.runners p ≡ Some (runner (space_of a) t)) (room : HasRoom v.base.state.spaces) (first : v.base.last ≡ None) where
+module _ (w : WorkloadView) (valid : IsWorkload w) (p : ProcNo) (v : Virtuals) (good : Good w v) (x : Own) (fits : Fits w v x) (a : ActNo)
+    (at : placed_on v p ≡ Some a)
+    (small : a.0 < VIRTUALS) (t : ThreadNo) (runs' : runner_at good.stands.runners p ≡ Some (runner (space_of a) t)) (room : HasRoom v.base.state.spaces)
+    (first : v.base.last ≡ None) where
   abbrev few : w.processors ≤ MAX_PROCESSORS
   few = valid.few_processors
 
@@ -133,7 +142,8 @@ module _ (w : WorkloadView) (valid : IsWorkload w) (p : ProcNo) (v : Virtuals) (
   no_lock = let have = good.stands.holds.lives a in ap locks_one have.1 ∙ have.3
 
   for : blocking w r s (Some t) a ≡ record { kind = Page s a (page_in i); length = w.fetch }
-  for = ap (λ o. blocking_for w r s (Some t) a (length_behind w r s (Some t) o)) first ∙ ap (λ b. record { kind = Page s a (cond b PACKAGE_PAGE (page_in i)); length = w.fetch }) no_lock
+  for = ap (λ o. blocking_for w r s (Some t) a (length_behind w r s (Some t) o)) first
+      ∙ ap (λ b. record { kind = Page s a (cond b PACKAGE_PAGE (page_in i)); length = w.fetch }) no_lock
 
   abbrev missed : Turned
   missed = ran w v p a t thread i true
@@ -150,14 +160,21 @@ module _ (w : WorkloadView) (valid : IsWorkload w) (p : ProcNo) (v : Virtuals) (
   faults = record {
     own = missed_own;
     is = ap (λ (b : Blocking). record (board_of w (behind w p v missed) missed_own) {
-      devices = record { ios = record { begun = r.begun + 1; under_way = r.under_way ++ with_io' b.kind b.length ∷ []; spare = x.spare - 1 }; pages = r.pages; evictions = w.evictions };
+      devices =
+          record {
+            ios = record { begun = r.begun + 1; under_way = r.under_way ++ with_io' b.kind b.length ∷ []; spare = x.spare - 1 };
+            pages = r.pages;
+            evictions = w.evictions;
+          };
     }) (sym for);
     fits = record {
       threads = blocked_threads w v good x fits a there small t;
       steps = fits.steps;
       ready = fits.ready;
       work = fits.work;
-      blocked = blocked_more w v good x fits a there small t r.under_way (let b = blocking w r s (Some t) a in with_io' b.kind b.length) refl (λ q. ap (λ (b : Blocking). one_where (is_of (record { 0 = q }) b.kind)) for);
+      blocked =
+          blocked_more w v good x fits a there small t r.under_way (let b = blocking w r s (Some t) a in
+          with_io' b.kind b.length) refl (λ q. ap (λ (b : Blocking). one_where (is_of (record { 0 = q }) b.kind)) for);
       due = fits.due;
       numbered = numbered_more r.begun r.under_way (let b = blocking w r s (Some t) a in with_io' b.kind b.length) refl fits.numbered;
       many_threads = length-set x.threads a.0 (Some t) ∙ fits.many_threads;
@@ -200,13 +217,15 @@ module _ (w : WorkloadView) (valid : IsWorkload w) (p : ProcNo) (v : Virtuals) (
   due = omega (
     arith,
     fits.due,
-    total_with w.processors (length w.spaces) x.work s l (list_in x.work s l ++ numbers roused) fits.many_work there (within w p v good x fits a at few) (fits.work s.0 there).many,
+    total_with w.processors (length w.spaces) x.work s l (list_in x.work s l ++ numbers roused) fits.many_work there (within w p v good x fits a at few)
+        (fits.work s.0 there).many,
     length-append (list_in x.work s l) (numbers roused),
     length-map roused (λ (u : ThreadNo). u.0),
   )
 
   many_work' : length work' ≡ length w.spaces
-  many_work' = many_with w.processors (length w.spaces) x.work s l (list_in x.work s l ++ numbers roused) fits.many_work there (within w p v good x fits a at few)
+  many_work' =
+      many_with w.processors (length w.spaces) x.work s l (list_in x.work s l ++ numbers roused) fits.many_work there (within w p v good x fits a at few)
 
   stays : threads_of v.base.lives ≡ threads_of (with_life (with_hand roused) (get_or r.running p.0 None) r.lives)
   stays = sym (ap (λ o. threads_of (with_life (with_hand roused) o r.lives)) (good.quiet p))
@@ -242,7 +261,7 @@ module _ (w : WorkloadView) (valid : IsWorkload w) (p : ProcNo) (v : Virtuals) (
     due = omega (arith, few_roused);
   }
 
-  -- .. which gives a value out
+  -- AN INSTRUCTION which gives a value out
   abbrev gives : Reg → Turned
   gives reg = record { says = rec.Ins s t thread.pc ∷ rec.Out s t (reg_value thread.regs reg) ∷ []; after = went }
 
@@ -274,7 +293,7 @@ module _ (w : WorkloadView) (valid : IsWorkload w) (p : ProcNo) (v : Virtuals) (
     due = omega (arith, few_roused);
   }
 
-  -- .. on which it blocks
+  -- AN INSTRUCTION on which it blocks
   module _ (n : ℕ) (is_n : i ≡ IoOf n) where
     abbrev blocks_on : Turned
     blocks_on = record {
@@ -297,20 +316,28 @@ module _ (w : WorkloadView) (valid : IsWorkload w) (p : ProcNo) (v : Virtuals) (
     }
 
     io_threads : (λ b. get_or (set x.threads a.0 (Some t)) b None) ≡ threads_of (with_life (held_with (Some t)) (Some a) mid.lives)
-    io_threads = blocked_threads w v good x fits a there small t ∙ sym (ap (λ o. threads_of (with_life (held_with (Some t)) (Some a) (with_life (with_hand roused) o r.lives))) (good.quiet p))
+    io_threads = blocked_threads w v good x fits a there small t
+        ∙ sym (ap (λ o. threads_of (with_life (held_with (Some t)) (Some a) (with_life (with_hand roused) o r.lives))) (good.quiet p))
 
     blocks_io : Follows w p v blocks_on x (ends_with p a t thread.regs (IoOf n) (goes p a t (board_of w v x)))
     blocks_io = record {
       own = io_own;
       is = ap (λ (b : Blocking). record (board_of w (behind w p v blocks_on) io_own) {
-        devices = record { ios = record { begun = r.begun + 1; under_way = r.under_way ++ with_io' b.kind b.length ∷ []; spare = x.spare - 1 }; pages = r.pages; evictions = w.evictions };
+        devices =
+            record {
+              ios = record { begun = r.begun + 1; under_way = r.under_way ++ with_io' b.kind b.length ∷ []; spare = x.spare - 1 };
+              pages = r.pages;
+              evictions = w.evictions;
+            };
       }) (sym for_io);
       fits = record {
         threads = io_threads;
         steps = fits.steps;
         ready = fits.ready;
         work = works;
-        blocked = blocked_more w v good x fits a there small t r.under_way (let b = blocking w mid s (Some t) a in with_io' b.kind b.length) refl (λ q. ap (λ (b : Blocking). one_where (is_of (record { 0 = q }) b.kind)) for_io);
+        blocked =
+            blocked_more w v good x fits a there small t r.under_way (let b = blocking w mid s (Some t) a in
+            with_io' b.kind b.length) refl (λ q. ap (λ (b : Blocking). one_where (is_of (record { 0 = q }) b.kind)) for_io);
         due = due;
         numbered = numbered_more r.begun r.under_way (let b = blocking w mid s (Some t) a in with_io' b.kind b.length) refl fits.numbered;
         many_threads = length-set x.threads a.0 (Some t) ∙ fits.many_threads;
@@ -322,8 +349,11 @@ module _ (w : WorkloadView) (valid : IsWorkload w) (p : ProcNo) (v : Virtuals) (
         many_pages = fits.many_pages;
       };
       lost = refl;
-      items = ap (λ is. is ++ item v p (rec.Move (Some s) None) ∷ []) (append_assoc x.items (item v p (rec.Ins s t thread.pc) ∷ []) (item v p (rec.Block s (Some t) a (record { 0 = r.begun })) ∷ []))
-          ∙ append_assoc x.items (item v p (rec.Ins s t thread.pc) ∷ item v p (rec.Block s (Some t) a (record { 0 = r.begun })) ∷ []) (item v p (rec.Move (Some s) None) ∷ []);
+      items =
+          ap (λ is. is ++ item v p (rec.Move (Some s) None) ∷ [])
+          (append_assoc x.items (item v p (rec.Ins s t thread.pc) ∷ []) (item v p (rec.Block s (Some t) a (record { 0 = r.begun })) ∷ []))
+          ∙ append_assoc x.items (item v p (rec.Ins s t thread.pc) ∷ item v p (rec.Block s (Some t) a (record { 0 = r.begun })) ∷ [])
+          (item v p (rec.Move (Some s) None) ∷ []);
       begun = omega arith;
       steps = λ b. omega arith;
       blocked = λ q. more_most x.blocked s.0 q;
@@ -339,4 +369,5 @@ module _ (w : WorkloadView) (valid : IsWorkload w) (p : ProcNo) (v : Virtuals) (
   runs_it = go (misses r s i) refl where
     go : (b : Bool) → misses r s i ≡ b → Follows w p v (ran w v p a t thread i b) x (runs p a t (board_of w v x))
     go true is = subst (Follows w p v missed x) (sym (ap (λ o. runs_on p a t i o (board_of w v x)) (missed_is w v x s i is))) faults
-    go false is = subst (Follows w p v (ran w v p a t thread i false) x) (sym (ap (λ o. runs_on p a t i o (board_of w v x)) (missed_not w v x s i is))) (by_instr i refl)
+    go false is =
+        subst (Follows w p v (ran w v p a t thread i false) x) (sym (ap (λ o. runs_on p a t i o (board_of w v x)) (missed_not w v x s i is))) (by_instr i refl)

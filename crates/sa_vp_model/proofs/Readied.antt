@@ -31,7 +31,8 @@ use Rattle.sa_vp_model.proofs.Placed.{item}
 pub number_else : (a : ActNo) (k : ℕ) → k ≢ (list_of a).0 → MAX_PROCESSORS * (space_of a).0 + k ≢ a.0
 number_else a k ne is = absurd (ne (omega (arith, is, number_is a)))
 
-module _ (w : WorkloadView) (p : ProcNo) (v : Virtuals) (good : Good w v) (x : Own) (fits : Fits w v x) (a : ActNo) (at : placed_on v p ≡ Some a) (few : w.processors ≤ MAX_PROCESSORS) where
+module _ (w : WorkloadView) (p : ProcNo) (v : Virtuals) (good : Good w v) (x : Own) (fits : Fits w v x) (a : ActNo) (at : placed_on v p ≡ Some a)
+    (few : w.processors ≤ MAX_PROCESSORS) where
   abbrev s : SpaceNo
   s = space_of a
 
@@ -48,8 +49,9 @@ module _ (w : WorkloadView) (p : ProcNo) (v : Virtuals) (good : Good w v) (x : O
   pub work_is : list_in x.work s l ≡ numbers (v.work a.0)
   work_is = (fits.work s.0 inside).each l.0 within ∙ ap (λ n. numbers (v.work n)) (sym (number_is a))
 
-  -- .. becomes another
-  pub work_with : (ts : List ThreadNo) (ys : List ℕ) → ys ≡ numbers ts → (r : ℕ) → r < length w.spaces → AreLists w.processors (λ k. numbers (put v.work a.0 ts (MAX_PROCESSORS * r + k))) (rows (with_list_in x.work s l ys) r)
+  -- its work list becomes another
+  pub work_with : (ts : List ThreadNo) (ys : List ℕ) → ys ≡ numbers ts → (r : ℕ) → r < length w.spaces
+      → AreLists w.processors (λ k. numbers (put v.work a.0 ts (MAX_PROCESSORS * r + k))) (rows (with_list_in x.work s l ys) r)
   work_with ts ys is = lists_with w.processors (length w.spaces) x.work s l ys fits.many_work inside within
       (λ r k. numbers (v.work (MAX_PROCESSORS * r + k))) (λ r k. numbers (put v.work a.0 ts (MAX_PROCESSORS * r + k))) fits.work
       (λ k e. is ∙ ap numbers (sym (put-at v.work a.0 (MAX_PROCESSORS * s.0 + k) ts (omega (arith, e, number_is a)))))
@@ -69,10 +71,12 @@ module _ (w : WorkloadView) (p : ProcNo) (v : Virtuals) (good : Good w v) (x : O
     ready_here : get_or ready s.0 [] ≡ ready_of v s ++ listed ∷ []
     ready_here = get_or-set_same v.ready s.0 (ready_of v s ++ listed ∷ []) [] (omega (arith, inside, good.stands.holds.spaces))
 
-    ready_with : (r : ℕ) → r < length w.spaces → AreLists w.processors (newest_first (get_or ready r [])) (rows (with_list_in x.ready s l (first.0 ∷ list_in x.ready s l)) r)
+    ready_with : (r : ℕ) → r < length w.spaces
+        → AreLists w.processors (newest_first (get_or ready r [])) (rows (with_list_in x.ready s l (first.0 ∷ list_in x.ready s l)) r)
     ready_with = lists_with w.processors (length w.spaces) x.ready s l (first.0 ∷ list_in x.ready s l) fits.many_ready inside within
         (λ r. newest_first (get_or v.ready r [])) (λ r. newest_first (get_or ready r [])) fits.ready
-        (λ k e. ap (λ ys. first.0 ∷ ys) ((fits.ready s.0 inside).each l.0 within) ∙ sym (newest_own (ready_of v s) listed l.0 refl) ∙ ap (newest_first (ready_of v s ++ listed ∷ [])) (sym e) ∙ ap (λ xs. newest_first xs k) (sym ready_here))
+        (λ k e. ap (λ ys. first.0 ∷ ys) ((fits.ready s.0 inside).each l.0 within) ∙ sym (newest_own (ready_of v s) listed l.0 refl)
+        ∙ ap (newest_first (ready_of v s ++ listed ∷ [])) (sym e) ∙ ap (λ xs. newest_first xs k) (sym ready_here))
         (λ r k below ne. ap (λ xs. newest_first xs k) (sym (get_or-set_other v.ready s.0 r (ready_of v s ++ listed ∷ []) [] ne)))
         (λ k below ne. sym (newest_other (ready_of v s) listed k (λ e. ne (sym e))) ∙ ap (λ xs. newest_first xs k) (sym ready_here))
 
@@ -89,7 +93,10 @@ module _ (w : WorkloadView) (p : ProcNo) (v : Virtuals) (good : Good w v) (x : O
       own = own;
       is = refl;
       fits = record {
-        threads = fits.threads ∙ sym (ap (λ o. threads_of (with_life without_lock o (with_life (made_ready first) o (with_life (locks v.base p l t) o v.base.lives)))) (good.quiet p));
+        threads =
+            fits.threads
+            ∙ sym (ap (λ o. threads_of (with_life without_lock o (with_life (made_ready first) o (with_life (locks v.base p l t) o v.base.lives))))
+            (good.quiet p));
         steps = fits.steps;
         ready = ready_with;
         work = work_with others (drop 1 (list_in x.work s l)) (ap (drop 1) old_work);

@@ -34,7 +34,8 @@ use Rattle.sa_vp_model.proofs.Tables.{table_put}
 use Rattle.sa_vp_model.proofs.Follows.{Follows, behind}
 use Rattle.sa_vp_model.proofs.Placed.{zero_most, item, queue_of}
 
-module _ (w : WorkloadView) (p : ProcNo) (v : Virtuals) (good : Good w v) (x : Own) (fits : Fits w v x) (a : ActNo) (at : placed_on v p ≡ Some a) (within : a.0 < VIRTUALS)
+module _ (w : WorkloadView) (p : ProcNo) (v : Virtuals) (good : Good w v) (x : Own) (fits : Fits w v x) (a : ActNo) (at : placed_on v p ≡ Some a)
+    (within : a.0 < VIRTUALS)
     (t : Option ThreadNo) where
   abbrev s : SpaceNo
   s = space_of a
@@ -131,7 +132,9 @@ module _ (w : WorkloadView) (p : ProcNo) (v : Virtuals) (good : Good w v) (x : O
       own = own (said' ++ item v p (rec.Cont (space_of first) (Some u)) ∷ []);
       is = goes (Some u) is;
       fits = record {
-        threads = threads ∙ sym (ap (λ o. threads_of (with_life (with_cont true) o (with_life (stopped_with t) (Some a) v.base.lives))) (quiet_set v.base.running p good.quiet p));
+        threads =
+            threads ∙ sym (ap (λ o. threads_of (with_life (with_cont true) o (with_life (stopped_with t) (Some a) v.base.lives)))
+            (quiet_set v.base.running p good.quiet p));
         steps = steps;
         ready = fits.ready;
         work = fits.work;
@@ -155,6 +158,7 @@ module _ (w : WorkloadView) (p : ProcNo) (v : Virtuals) (good : Good w v) (x : O
       due = omega arith;
     }
 
-  pub relieved : (q : List ActNo) → v.queue ≡ q → some_wait q ≡ true → All (λ (b : ActNo). b.0 < VIRTUALS) q → Follows w p v (stopped v p a t q) x (gives v.queue)
+  pub relieved : (q : List ActNo) → v.queue ≡ q → some_wait q ≡ true → All (λ (b : ActNo). b.0 < VIRTUALS) q
+      → Follows w p v (stopped v p a t q) x (gives v.queue)
   relieved [] is some small = cc
   relieved (first ∷ rest) is some small = follows first rest is (All-head (λ (b : ActNo). b.0 < VIRTUALS) first rest small) (thread_of v first) refl

@@ -44,7 +44,7 @@ use Rattle.sa_virtual.specs.Turn.{of_io, placing, misses}
 use Rattle.sa_virtual.specs.Turn as rules
 use Rattle.sa_virtual.specs.Holding.{in_queue, in_ios, is_virtual, one_if, one_where, numbers, parts_of, kind, listed}
 use Rattle.sa_virtual.specs.Turning.{Good, HasRoom, Met}
-use Rattle.sa_virtual.proofs.Sums.{unqueued}
+use Rattle.sa_virtual.proofs.Sums.{one_or_none, unqueued}
 use Rattle.sa_virtual.proofs.Pushed as pushes
 use Rattle.sa_virtual.proofs.Left as left
 use Rattle.sa_virtual.proofs.Turns as turns
@@ -71,7 +71,8 @@ sum_none f (x ∷ xs) none = omega (arith, sum_by-cons f x xs, none 0 (omega ari
 -- numbers of virtual processors in a queue
 pub queue_count : (q : List ActNo) (a : ℕ) → count_in a (act_numbers q) ≡ in_queue q a
 queue_count [] a = refl
-queue_count (b ∷ q) a = omega (arith, sum_by-cons (λ y. cond (eqb y a) 1 0) b.0 (act_numbers q), sum_by-cons (λ (c : ActNo). cond (eqb c.0 a) 1 0) b q, queue_count q a)
+queue_count (b ∷ q) a =
+    omega (arith, sum_by-cons (λ y. cond (eqb y a) 1 0) b.0 (act_numbers q), sum_by-cons (λ (c : ActNo). cond (eqb c.0 a) 1 0) b q, queue_count q a)
 
 all_queue : (q : List ActNo) (a : ℕ) → count_in_all a (act_numbers q ∷ []) ≡ in_queue q a
 all_queue q a = omega (arith, sum_by-cons (count_in a) (act_numbers q) [], queue_count q a)
@@ -96,7 +97,11 @@ module _ (w : WorkloadView) (valid : IsWorkload w) (v : Virtuals) (good : Good w
   pub virtual_of : (a : ActNo) → 1 ≤ one_where (is_virtual w (record { 0 = a.0 })) → IsVirtual (board_of w v x) a
   virtual_of a some =
       let both = pushes.both_true (nat_lt (space_of a).0 (length w.spaces)) (nat_lt (list_of a).0 w.processors) some in
-      record { space = ltb-true (space_of a).0 (length w.spaces) both.0; list = ltb-true (list_of a).0 w.processors both.1; small = number_small w valid v good a.0 some }
+      record {
+        space = ltb-true (space_of a).0 (length w.spaces) both.0;
+        list = ltb-true (list_of a).0 w.processors both.1;
+        small = number_small w valid v good a.0 some;
+      }
 
   pub held : (a : ActNo) → held_by (board_of w v x) a ≡ thread_of v a
   held a = ap (λ (f : ℕ → Option ThreadNo). f a.0) fits.threads
@@ -110,7 +115,7 @@ module _ (w : WorkloadView) (valid : IsWorkload w) (v : Virtuals) (good : Good w
     among = turns.due_among v.base.number v.base.under_way io due good.stands.holds.ios
 
     back_once : in_ios v.base.under_way back.0 ≡ 1
-    back_once = omega (arith, among.1, good.stands.holds.once back.0, turns.one_or_none (is_virtual w (record { 0 = back.0 })))
+    back_once = omega (arith, among.1, good.stands.holds.once back.0, one_or_none (is_virtual w (record { 0 = back.0 })))
 
     back_virtual : IsVirtual (board_of w v x) back
     back_virtual = virtual_of back (omega (arith, back_once, good.stands.holds.once back.0))
@@ -119,7 +124,7 @@ module _ (w : WorkloadView) (valid : IsWorkload w) (v : Virtuals) (good : Good w
     comes_back = record {
       tabled = tabled;
       virtual = back_virtual;
-      free = omega (arith, all_queue v.queue back.0, back_once, good.stands.holds.once back.0, turns.one_or_none (is_virtual w (record { 0 = back.0 })));
+      free = omega (arith, all_queue v.queue back.0, back_once, good.stands.holds.once back.0, one_or_none (is_virtual w (record { 0 = back.0 })));
       some = omega (arith, fits.blocked (space_of back).0 back_virtual.space, over.some_blocked v back back_once);
       can = subst (λ o. CanChange w p v.base.state (rec.Unblock (space_of back) o back)) (sym (held back))
           ((turns.unblocks w v.base.number p v good io due).steps.0.blocked);
@@ -132,7 +137,9 @@ module _ (w : WorkloadView) (valid : IsWorkload w) (v : Virtuals) (good : Good w
       many_threads = fits.many_threads;
       many_steps = fits.many_steps;
       many_placed = good.stands.holds.processors;
-      small = number_small w valid v good a.0 (omega (arith, ap (λ q. in_queue q a.0) queue, unqueued rest a a.0, ap one_where (eq-eqb a.0 a.0 refl), good.stands.holds.once a.0));
+      small =
+          number_small w valid v good a.0
+          (omega (arith, ap (λ q. in_queue q a.0) queue, unqueued rest a a.0, ap one_where (eq-eqb a.0 a.0 refl), good.stands.holds.once a.0));
       can = λ t is. (turns.places_one w v.base.number p v good a rest inside free queue (Some t) (sym (held a) ∙ is)).steps.1.0;
     }
 
@@ -140,10 +147,13 @@ module _ (w : WorkloadView) (valid : IsWorkload w) (v : Virtuals) (good : Good w
     module _ (a : ActNo) (at : placed_on v p ≡ Some a) where
       met : (first : ActNo) (rest : List ActNo) → v.queue ≡ first ∷ rest → (u : Option ThreadNo) → thread_of v first ≡ u
           → Met w v.base.number p v.base (placing p (Some (space_of a)) u first (rec.Stop (space_of a) (rules.carried_on v p) a ∷ []) (rest ++ a ∷ []) v)
-      met first rest queue u is = subst (λ o. Met w v.base.number p v.base (placing p (Some (space_of a)) o first (rec.Stop (space_of a) (rules.carried_on v p) a ∷ []) (rest ++ a ∷ []) v)) is
+      met first rest queue u is =
+          subst (λ o. Met w v.base.number p v.base
+          (placing p (Some (space_of a)) o first (rec.Stop (space_of a) (rules.carried_on v p) a ∷ []) (rest ++ a ∷ []) v)) is
           (more.stops_it w v.base.number p v good inside valid.few_processors a at first rest queue)
 
-      no_first : (q : List ActNo) (first : ℕ) → v.queue ≡ q → slice_get (act_numbers v.queue) 0 ≡ Some first → (b : ActNo) × (rest : List ActNo) × (v.queue ≡ b ∷ rest) × (b.0 ≡ first)
+      no_first : (q : List ActNo) (first : ℕ) → v.queue ≡ q → slice_get (act_numbers v.queue) 0 ≡ Some first
+          → (b : ActNo) × (rest : List ActNo) × (v.queue ≡ b ∷ rest) × (b.0 ≡ first)
       no_first [] first is found = let none : None ≡ Some first = sym (ap (λ q. slice_get (act_numbers q) 0) is) ∙ found in cc
       no_first (b ∷ rest) first is found = (b, rest, is, same_Some _ _ (sym (ap (λ q. slice_get (act_numbers q) 0) is) ∙ found))
 
@@ -167,7 +177,9 @@ module _ (w : WorkloadView) (valid : IsWorkload w) (v : Virtuals) (good : Good w
             many_steps = fits.many_steps;
             many_placed = good.stands.holds.processors;
             small = number_small w valid v good b.0 (omega (arith, ap (λ q. in_queue q b.0) queue, unqueued rest b b.0, one, good.stands.holds.once b.0));
-            can = λ t is. (met b rest queue (Some t) (sym (held b) ∙ sym (get_or-set_other x.threads a.0 b.0 (rules.carried_on v p) None other) ∙ is)).steps.1.1.0;
+            can =
+                λ t is. (met b rest queue (Some t)
+                (sym (held b) ∙ sym (get_or-set_other x.threads a.0 b.0 (rules.carried_on v p) None other) ∙ is)).steps.1.1.0;
           }
 
       pub gives_way : rules.some_wait v.queue ≡ true → CanGiveWay p a (board_of w v x)
@@ -198,10 +210,11 @@ module _ (w : WorkloadView) (valid : IsWorkload w) (v : Virtuals) (good : Good w
     pub work_list : list_in x.work s (list_of a) ≡ numbers (v.work a.0)
     work_list = (fits.work s.0 known.0).each (list_of a).0 known.1 ∙ ap (λ n. numbers (v.work n)) (sym (pushes.number_is a))
 
-    -- .. a push
+    -- the step is a push
     module _ (first : ThreadNo) (others : List ThreadNo) (work : v.work a.0 ≡ first ∷ others) where
       not_listed : listed v.ready s.0 first.0 ≡ 0
-      not_listed = (good.stands.holds.agree s.0 first.0).in_lists ∙ ap (λ place. one_if (kind place) 1) (pushes.waits w (parts_of v) good.stands.runners good.stands.holds p a at few first others work).0
+      not_listed = (good.stands.holds.agree s.0 first.0).in_lists
+          ∙ ap (λ place. one_if (kind place) 1) (pushes.waits w (parts_of v) good.stands.runners good.stands.holds p a at few first others work).0
 
       pub readies_it : CanReady p a first (board_of w v x)
       readies_it = record {
@@ -222,7 +235,7 @@ module _ (w : WorkloadView) (valid : IsWorkload w) (v : Virtuals) (good : Good w
         can = (pushes.push_needs w (parts_of v) good.stands.runners good.stands.holds p a at few first others work).1;
       }
 
-    -- .. or an instruction
+    -- the step is an instruction
     module _ (room : HasRoom v.base.state.spaces) (t : ThreadNo) (carried : rules.carried_on v p ≡ Some t) where
       runs : runner_at good.stands.runners p ≡ Some (runner s t)
       runs = turns.carrier w v.base.number p v good a at few ∙ ap (λ o. runner_of s o) carried
@@ -240,7 +253,9 @@ module _ (w : WorkloadView) (valid : IsWorkload w) (v : Virtuals) (good : Good w
       program = All-get_or IsProgram (space_def w s).programs (thread_at v.base.state s t).program [] stands.in_space space.programs
 
       ranged : IsInRange i
-      ranged = All-get_or IsInRange (get_or (space_def w s).programs (thread_at v.base.state s t).program []) (thread_at v.base.state s t).pc End stands.in_program program.ranges
+      ranged =
+          All-get_or IsInRange (get_or (space_def w s).programs (thread_at v.base.state s t).program [])
+          (thread_at v.base.state s t).pc End stands.in_program program.ranges
 
       not_full : (sync : Sync) (j : Instr) → ((k : ℕ) → (semaphore_at sync k).count + 1 < 2 ^ 32) → IsFull sync j → ⊥
       not_full sync (Signal k) few' full = omega (arith, few' k, full)
@@ -264,7 +279,7 @@ module _ (w : WorkloadView) (valid : IsWorkload w) (v : Virtuals) (good : Good w
         due = omega (arith, due, event, roused.few w valid v.base.number p v good a at t runs room);
       }
 
-      -- .. on which it blocks
+      -- the step is an instruction on which it blocks
       touches : (j : Instr) (page : ℕ) → IsInRange j → missed_page (board_of w v x) s j ≡ Some page → (1 ≤ page) × (page ≤ LAST_PAGE)
       touches (Touch k) page in_range is = go (has_page (slice_index v.base.pages s.0) k) is where
         go : (b : Bool) → cond b None (Some k) ≡ Some page → (1 ≤ page) × (page ≤ LAST_PAGE)
@@ -272,7 +287,8 @@ module _ (w : WorkloadView) (valid : IsWorkload w) (v : Virtuals) (good : Good w
         go false e = let same : k ≡ page = same_Some _ _ e in (omega (arith, in_range.0.0, same), omega (arith, in_range.0.1, same))
       touches j page in_range is = cc
 
-      pub faults_it : v.base.number ≤ MAX_EVENTS → v.base.begun < v.base.number → ((r : ℕ) → get_or x.blocked r 0 < v.base.number) → (page : ℕ) → missed_page (board_of w v x) s i ≡ Some page
+      pub faults_it : v.base.number ≤ MAX_EVENTS → v.base.begun < v.base.number → ((r : ℕ) → get_or x.blocked r 0 < v.base.number) → (page : ℕ)
+          → missed_page (board_of w v x) s i ≡ Some page
           → CanBlockOn p a t (Page s a page) (board_of w v x)
       faults_it event begun blocked page is =
           let range = touches i page ranged is in
@@ -290,7 +306,8 @@ module _ (w : WorkloadView) (valid : IsWorkload w) (v : Virtuals) (good : Good w
       gone_tabled =
           let woken = (next_effect w v.base.state s t).roused in
           let ys = list_in x.work s (list_of a) ++ numbers woken in
-          let are = work_with w p v good x fits a at few (v.work a.0 ++ woken) ys (ap (λ zs. zs ++ numbers woken) work_list ∙ sym (map-append (λ (u : ThreadNo). u.0) (v.work a.0) woken)) in
+          let are = work_with w p v good x fits a at few (v.work a.0 ++ woken) ys
+          (ap (λ zs. zs ++ numbers woken) work_list ∙ sym (map-append (λ (u : ThreadNo). u.0) (v.work a.0) woken)) in
           record {
             threads = fits.many_threads;
             steps = fits.many_steps;
@@ -318,13 +335,15 @@ module _ (w : WorkloadView) (valid : IsWorkload w) (v : Virtuals) (good : Good w
         can = (ran.blocks_on w valid v.base.number p v good a at t runs room n is).steps.1.0.runs;
       }
 
-    -- .. or looks for a thread
+    -- the step looks for a thread
     pub looks_it : rules.carried_on v p ≡ None → CanLook p a (board_of w v x)
     looks_it idle = record {
       tabled = tabled;
       virtual = is_virtual_here;
       can = λ l own t below is.
           let list = (fits.ready s.0 known.0).each l.0 below in
-          let some : 1 ≤ listed v.ready s.0 t = omega (arith, ap (count_in t) list, picked_in (list_in x.ready s l) own t is, newest_few t (ready_of v s) l.0) in
-          pushes.pop_needs w (parts_of v) good.stands.runners good.stands.holds p a at (thread t) some (turns.carrier w v.base.number p v good a at few ∙ ap (λ o. runner_of s o) idle);
+          let some : 1 ≤ listed v.ready s.0 t =
+          omega (arith, ap (count_in t) list, picked_in (list_in x.ready s l) own t is, newest_few t (ready_of v s) l.0) in
+          pushes.pop_needs w (parts_of v) good.stands.runners good.stands.holds p a at (thread t) some
+          (turns.carrier w v.base.number p v good a at few ∙ ap (λ o. runner_of s o) idle);
     }

@@ -32,7 +32,8 @@ table_put {A} xs i x d inside = fun_ext (λ a. elim (cases_eq a i) [
 ])
 
 -- LISTS OF SPACES: one list of one space is another
-module _ (processors : ℕ) (spaces : ℕ) (xs : List Lists) (s : SpaceNo) (l : ProcNo) (ys : List ℕ) (many : length xs ≡ spaces) (inside : s.0 < spaces) (within : l.0 < processors) where
+module _ (processors : ℕ) (spaces : ℕ) (xs : List Lists) (s : SpaceNo) (l : ProcNo) (ys : List ℕ) (many : length xs ≡ spaces) (inside : s.0 < spaces)
+    (within : l.0 < processors) where
   abbrev old : Lists
   old = of_space xs s
 
@@ -43,7 +44,8 @@ module _ (processors : ℕ) (spaces : ℕ) (xs : List Lists) (s : SpaceNo) (l : 
   here = get_or-set_same xs s.0 (with_list old l.0 ys) no_lists (omega (arith, many, inside))
 
   pub lists_with : (of new : ℕ → ℕ → List ℕ) → ((r : ℕ) → r < spaces → AreLists processors (of r) (rows xs r))
-      → ((k : ℕ) → k ≡ l.0 → ys ≡ new s.0 k) → ((r k : ℕ) → k < processors → r ≢ s.0 → of r k ≡ new r k) → ((k : ℕ) → k < processors → k ≢ l.0 → of s.0 k ≡ new s.0 k)
+      → ((k : ℕ) → k ≡ l.0 → ys ≡ new s.0 k) → ((r k : ℕ) → k < processors → r ≢ s.0 → of r k ≡ new r k)
+      → ((k : ℕ) → k < processors → k ≢ l.0 → of s.0 k ≡ new s.0 k)
       → (r : ℕ) → r < spaces → AreLists processors (new r) (rows now r)
   lists_with of new are mine others rest r below = elim (cases_eq r s.0) [
     | inl e ↦
@@ -68,24 +70,29 @@ module _ (processors : ℕ) (spaces : ℕ) (xs : List Lists) (s : SpaceNo) (l : 
   pub many_with : length now ≡ spaces
   many_with = length-set xs s.0 (with_list old l.0 ys) ∙ many
 
-  -- .. and so is the number of all in them
+  -- the number of all in the lists changes by as much
   pub total_with : length old.lists ≡ processors → total now + length (list_in xs s l) ≡ total xs + length ys
   total_with size =
-      let a : total now + sum_by length old.lists ≡ total xs + sum_by length (set old.lists l.0 ys) = sum_by-set (λ (c : Lists). sum_by length c.lists) xs s.0 (with_list old l.0 ys) no_lists (omega (arith, many, inside)) in
-      let b : sum_by length (set old.lists l.0 ys) + length (list_in xs s l) ≡ sum_by length old.lists + length ys = sum_by-set length old.lists l.0 ys [] (omega (arith, size, within)) in
+      let a : total now + sum_by length old.lists ≡ total xs + sum_by length (set old.lists l.0 ys) =
+      sum_by-set (λ (c : Lists). sum_by length c.lists) xs s.0 (with_list old l.0 ys) no_lists (omega (arith, many, inside)) in
+      let b : sum_by length (set old.lists l.0 ys) + length (list_in xs s l) ≡ sum_by length old.lists + length ys =
+      sum_by-set length old.lists l.0 ys [] (omega (arith, size, within)) in
       omega (arith, a, b)
 
 -- READY THREADS, newest first
-newest-cons : (x : Listed) (xs : List Listed) (l : ℕ) (b : Bool) → is_in (record { 0 = l }) x ≡ b → newest_first (x ∷ xs) l ≡ cond b (newest_first xs l ++ x.thread.0 ∷ []) (newest_first xs l)
+newest-cons : (x : Listed) (xs : List Listed) (l : ℕ) (b : Bool) → is_in (record { 0 = l }) x ≡ b
+    → newest_first (x ∷ xs) l ≡ cond b (newest_first xs l ++ x.thread.0 ∷ []) (newest_first xs l)
 newest-cons x xs l b is = ap (λ c. cond c (newest_first xs l ++ x.thread.0 ∷ []) (newest_first xs l)) is
 
 -- one more
 pub newest_own : (xs : List Listed) (x : Listed) (l : ℕ) → x.list.0 ≡ l → newest_first (xs ++ x ∷ []) l ≡ x.thread.0 ∷ newest_first xs l
 newest_own [] x l is = newest-cons x [] l true (eq-eqb x.list.0 l is)
-newest_own (y ∷ ys) x l is = elim (is_in (record { 0 = l }) y) as (λ b. cond b (newest_first (ys ++ x ∷ []) l ++ y.thread.0 ∷ []) (newest_first (ys ++ x ∷ []) l) ≡ x.thread.0 ∷ cond b (newest_first ys l ++ y.thread.0 ∷ []) (newest_first ys l)) [
-  | true ↦ ap (λ zs. zs ++ y.thread.0 ∷ []) (newest_own ys x l is)
-  | false ↦ newest_own ys x l is
-]
+newest_own (y ∷ ys) x l is =
+    elim (is_in (record { 0 = l }) y) as (λ b. cond b (newest_first (ys ++ x ∷ []) l ++ y.thread.0 ∷ []) (newest_first (ys ++ x ∷ []) l)
+    ≡ x.thread.0 ∷ cond b (newest_first ys l ++ y.thread.0 ∷ []) (newest_first ys l)) [
+      | true ↦ ap (λ zs. zs ++ y.thread.0 ∷ []) (newest_own ys x l is)
+      | false ↦ newest_own ys x l is
+    ]
 
 pub newest_other : (xs : List Listed) (x : Listed) (l : ℕ) → x.list.0 ≢ l → newest_first (xs ++ x ∷ []) l ≡ newest_first xs l
 newest_other [] x l ne = newest-cons x [] l false (ne_eqb x.list.0 l ne)
@@ -105,16 +112,19 @@ newest_less (y ∷ ys) t l = go (newest_less ys t l) (eqb y.thread.0 t.0) (is_in
   alone c is = ap (λ b. cond (not b) (y.thread.0 ∷ []) []) is
 
   left : (b c : Bool) → eqb y.thread.0 t.0 ≡ c → is_in (record { 0 = l }) y ≡ b
-      → newest_first (filter (is_other_thread t) (y ∷ ys)) l ≡ cond (not c) (cond b (newest_first kept l ++ y.thread.0 ∷ []) (newest_first kept l)) (newest_first kept l)
+      → newest_first (filter (is_other_thread t) (y ∷ ys)) l
+      ≡ cond (not c) (cond b (newest_first kept l ++ y.thread.0 ∷ []) (newest_first kept l)) (newest_first kept l)
   left b true mine at = ap (λ c. newest_first (cond (not c) (y ∷ kept) kept) l) mine
   left b false mine at = ap (λ c. newest_first (cond (not c) (y ∷ kept) kept) l) mine ∙ newest-cons y kept l b at
 
   right : (b c : Bool) → eqb y.thread.0 t.0 ≡ c → is_in (record { 0 = l }) y ≡ b
       → without t.0 (newest_first (y ∷ ys) l) ≡ cond b (without t.0 old ++ cond (not c) (y.thread.0 ∷ []) []) (without t.0 old)
-  right true c mine at = ap (without t.0) (newest-cons y ys l true at) ∙ filter-append (λ z. not (eqb z t.0)) old (y.thread.0 ∷ []) ∙ ap (λ zs. without t.0 old ++ zs) (alone c mine)
+  right true c mine at = ap (without t.0) (newest-cons y ys l true at) ∙ filter-append (λ z. not (eqb z t.0)) old (y.thread.0 ∷ [])
+      ∙ ap (λ zs. without t.0 old ++ zs) (alone c mine)
   right false c mine at = ap (without t.0) (newest-cons y ys l false at)
 
-  go : newest_first kept l ≡ without t.0 old → (c b : Bool) → eqb y.thread.0 t.0 ≡ c → is_in (record { 0 = l }) y ≡ b → newest_first (filter (is_other_thread t) (y ∷ ys)) l ≡ without t.0 (newest_first (y ∷ ys) l)
+  go : newest_first kept l ≡ without t.0 old → (c b : Bool) → eqb y.thread.0 t.0 ≡ c → is_in (record { 0 = l }) y ≡ b
+      → newest_first (filter (is_other_thread t) (y ∷ ys)) l ≡ without t.0 (newest_first (y ∷ ys) l)
   go less true true mine at = left true true mine at ∙ less ∙ sym (append-nil (without t.0 old)) ∙ sym (right true true mine at)
   go less true false mine at = left false true mine at ∙ less ∙ sym (right false true mine at)
   go less false true mine at = left true false mine at ∙ ap (λ zs. zs ++ y.thread.0 ∷ []) (less) ∙ sym (right true false mine at)
@@ -127,10 +137,12 @@ backward (x ∷ xs) = backward xs ++ x.thread.0 ∷ []
 
 newest-backward : (xs : List Listed) (l : ℕ) → newest_first xs l ≡ backward (filter (is_in (record { 0 = l })) xs)
 newest-backward [] l = refl
-newest-backward (y ∷ ys) l = elim (is_in (record { 0 = l }) y) as (λ b. cond b (newest_first ys l ++ y.thread.0 ∷ []) (newest_first ys l) ≡ backward (cond b (y ∷ filter (is_in (record { 0 = l })) ys) (filter (is_in (record { 0 = l })) ys))) [
-  | true ↦ ap (λ zs. zs ++ y.thread.0 ∷ []) (newest-backward ys l)
-  | false ↦ newest-backward ys l
-]
+newest-backward (y ∷ ys) l =
+    elim (is_in (record { 0 = l }) y) as (λ b. cond b (newest_first ys l ++ y.thread.0 ∷ []) (newest_first ys l)
+    ≡ backward (cond b (y ∷ filter (is_in (record { 0 = l })) ys) (filter (is_in (record { 0 = l })) ys))) [
+      | true ↦ ap (λ zs. zs ++ y.thread.0 ∷ []) (newest-backward ys l)
+      | false ↦ newest-backward ys l
+    ]
 
 length-backward : (xs : List Listed) → length (backward xs) ≡ length xs
 length-backward [] = refl
@@ -152,7 +164,8 @@ last-backward (x ∷ xs) =
     ap (slice_get (backward (x ∷ xs))) place ∙ slice_get-append_seam (backward xs) [] x.thread.0
 
 -- WHO IS TAKEN
-pub picked_one : (xs : List Listed) (l : ProcNo) (own : Bool) → picked (newest_first xs l.0) own ≡ option_map (λ (x : Listed). x.thread.0) (chosen (filter (is_in l) xs) own)
+pub picked_one : (xs : List Listed) (l : ProcNo) (own : Bool)
+    → picked (newest_first xs l.0) own ≡ option_map (λ (x : Listed). x.thread.0) (chosen (filter (is_in l) xs) own)
 picked_one xs l true = ap (λ ys. slice_get ys 0) (newest-backward xs l.0) ∙ first-backward (filter (is_in l) xs)
 picked_one xs l false = ap (λ ys. slice_get ys (length ys - 1)) (newest-backward xs l.0) ∙ last-backward (filter (is_in l) xs)
 
@@ -166,7 +179,7 @@ some-backward (x ∷ xs) = go (backward xs) where
 pub some_one : (xs : List Listed) (l : ProcNo) → is_some_list (newest_first xs l.0) ≡ has_some (filter (is_in l) xs)
 some_one xs l = ap is_some_list (newest-backward xs l.0) ∙ some-backward (filter (is_in l) xs)
 
--- .. and what is left, where it stands there once
+-- what is left, where the one that is taken is there once
 last-split : (xs : List ℕ) (t : ℕ) → slice_get xs (length xs - 1) ≡ Some t → xs ≡ take (length xs - 1) xs ++ t ∷ []
 last-split [] t is = cc
 last-split (x ∷ []) t is = ap (λ y. y ∷ []) (same_Some _ _ is)
@@ -182,17 +195,20 @@ left_one (x ∷ xs) true t is few =
     sym (without_between t [] xs (subst (λ y. count_in t (y ∷ xs) ≤ 1) same few)) ∙ ap (λ y. without t (y ∷ xs)) (sym same)
 left_one xs false t is few =
     let whole : xs ≡ take (length xs - 1) xs ++ t ∷ [] = last-split xs t is in
-    sym (append-nil (take (length xs - 1) xs)) ∙ sym (without_between t (take (length xs - 1) xs) [] (subst (λ ys. count_in t ys ≤ 1) whole few)) ∙ ap (without t) (sym whole)
+    sym (append-nil (take (length xs - 1) xs)) ∙ sym (without_between t (take (length xs - 1) xs) [] (subst (λ ys. count_in t ys ≤ 1) whole few))
+    ∙ ap (without t) (sym whole)
 
 pub newest_few : (t : ℕ) (xs : List Listed) (l : ℕ) → count_in t (newest_first xs l) ≤ count_by (λ (x : Listed). x.thread.0 == t) xs
 newest_few t [] l = omega arith
 newest_few t (y ∷ ys) l =
     let cons = sum_by-cons (λ (x : Listed). cond (eqb x.thread.0 t) 1 0) y ys in
-    elim (is_in (record { 0 = l }) y) as (λ b. count_in t (cond b (newest_first ys l ++ y.thread.0 ∷ []) (newest_first ys l)) ≤ count_by (λ (x : Listed). x.thread.0 == t) (y ∷ ys)) [
+    elim (is_in (record { 0 = l }) y) as (λ b. count_in t (cond b (newest_first ys l ++ y.thread.0 ∷ []) (newest_first ys l)) ≤ count_by
+    (λ (x : Listed). x.thread.0 == t) (y ∷ ys)) [
       | true ↦ omega (arith, cons, newest_few t ys l, count-append t (newest_first ys l) (y.thread.0 ∷ []), sum_by-cons (λ z. cond (eqb z t) 1 0) y.thread.0 [])
       | false ↦ omega (arith, cons, newest_few t ys l)
     ]
 
 -- what is taken leaves no list that lacks it
-pub newest_stays : (xs : List Listed) (t : ThreadNo) (l : ℕ) → count_in t.0 (newest_first xs l) ≡ 0 → newest_first (filter (is_other_thread t) xs) l ≡ newest_first xs l
+pub newest_stays : (xs : List Listed) (t : ThreadNo) (l : ℕ) → count_in t.0 (newest_first xs l) ≡ 0
+    → newest_first (filter (is_other_thread t) xs) l ≡ newest_first xs l
 newest_stays xs t l none = newest_less xs t l ∙ without_lacked t.0 (newest_first xs l) none

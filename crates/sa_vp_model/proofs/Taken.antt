@@ -48,7 +48,8 @@ module _ (k n : ℕ) (some : 0 < n) where
   below : (m : ℕ) → (at m).0 < n
   below m = mod-lt (k + m) some
 
-  find_same : (f g : ProcNo → Bool) → ((l : ProcNo) → l.0 < n → f l ≡ g l) → (b c : ℕ) → find f (map at (range_with_len b c)) ≡ find g (map at (range_with_len b c))
+  find_same : (f g : ProcNo → Bool) → ((l : ProcNo) → l.0 < n → f l ≡ g l) → (b c : ℕ)
+      → find f (map at (range_with_len b c)) ≡ find g (map at (range_with_len b c))
   find_same f g same b zero = refl
   find_same f g same b (suc c) =
       ap (λ d. cond d (Some (at b)) (find f (map at (range_with_len (b + 1) c)))) (same (at b) (below b))
@@ -57,7 +58,8 @@ module _ (k n : ℕ) (some : 0 < n) where
   find_below : (f : ProcNo → Bool) (b c : ℕ) (l : ProcNo) → find f (map at (range_with_len b c)) ≡ Some l → l.0 < n
   find_below f b zero l is = cc
   find_below f b (suc c) l is = go (f (at b)) (λ later. find_below f (b + 1) c l later) is where
-    go : (d : Bool) → (find f (map at (range_with_len (b + 1) c)) ≡ Some l → l.0 < n) → cond d (Some (at b)) (find f (map at (range_with_len (b + 1) c))) ≡ Some l → l.0 < n
+    go : (d : Bool) → (find f (map at (range_with_len (b + 1) c)) ≡ Some l → l.0 < n)
+        → cond d (Some (at b)) (find f (map at (range_with_len (b + 1) c))) ≡ Some l → l.0 < n
     go true rest e = subst (λ (q : ProcNo). q.0 < n) (same_Some _ _ e) (below b)
     go false rest e = rest e
 
@@ -66,7 +68,7 @@ pub picked_in : (xs : List ℕ) (own : Bool) (t : ℕ) → picked xs own ≡ Som
 picked_in xs true t is = get_in xs 0 t is
 picked_in xs false t is = get_in xs (length xs - 1) t is
 
--- .. and there is one
+-- a list that is not empty has a last one
 last_some : {A : Type 0} (x : A) (xs : List A) → slice_get (x ∷ xs) (length (x ∷ xs) - 1) ≡ None → ⊥
 last_some x [] is = cc
 last_some x (y ∷ ys) is =
@@ -78,8 +80,9 @@ chosen_some [] own some is = cc
 chosen_some (x ∷ xs) true some is = last_some x xs is
 chosen_some (x ∷ xs) false some is = cc
 
--- a thread stands in one list at most
-newest_two : (t : ℕ) (xs : List Listed) (k l : ℕ) → k ≢ l → count_in t (newest_first xs k) + count_in t (newest_first xs l) ≤ count_by (λ (x : Listed). x.thread.0 == t) xs
+-- a thread is in one list at most
+newest_two : (t : ℕ) (xs : List Listed) (k l : ℕ) → k ≢ l
+    → count_in t (newest_first xs k) + count_in t (newest_first xs l) ≤ count_by (λ (x : Listed). x.thread.0 == t) xs
 newest_two t [] k l ne = omega arith
 newest_two t (y ∷ ys) k l ne = go (is_in (record { 0 = k }) y) (is_in (record { 0 = l }) y) refl refl (newest_two t ys k l ne) where
   cons : count_by (λ (x : Listed). x.thread.0 == t) (y ∷ ys) ≡ one_where (eqb y.thread.0 t) + count_by (λ (x : Listed). x.thread.0 == t) ys
@@ -95,9 +98,12 @@ newest_two t (y ∷ ys) k l ne = go (is_in (record { 0 = k }) y) (is_in (record 
       → count_in t (newest_first ys k) + count_in t (newest_first ys l) ≤ count_by (λ (x : Listed). x.thread.0 == t) ys
       → count_in t (newest_first (y ∷ ys) k) + count_in t (newest_first (y ∷ ys) l) ≤ count_by (λ (x : Listed). x.thread.0 == t) (y ∷ ys)
   go true true first second rest = absurd (ne (sym (eqb-true y.list.0 k first) ∙ eqb-true y.list.0 l second))
-  go true false first second rest = let u = ap (count_in t) (at k true first) in let v = ap (count_in t) (at l false second) in omega (arith, cons, more k, u, v, rest)
-  go false true first second rest = let u = ap (count_in t) (at k false first) in let v = ap (count_in t) (at l true second) in omega (arith, cons, more l, u, v, rest)
-  go false false first second rest = let u = ap (count_in t) (at k false first) in let v = ap (count_in t) (at l false second) in omega (arith, cons, u, v, rest)
+  go true false first second rest = let u = ap (count_in t) (at k true first) in let v = ap (count_in t) (at l false second) in
+      omega (arith, cons, more k, u, v, rest)
+  go false true first second rest = let u = ap (count_in t) (at k false first) in let v = ap (count_in t) (at l true second) in
+      omega (arith, cons, more l, u, v, rest)
+  go false false first second rest = let u = ap (count_in t) (at k false first) in let v = ap (count_in t) (at l false second) in
+      omega (arith, cons, u, v, rest)
 
 at_most_one : (place : Place) → one_if (kind place) 1 ≤ 1
 at_most_one place = go (eqb (kind place) 1) where
@@ -105,7 +111,8 @@ at_most_one place = go (eqb (kind place) 1) where
   go true = omega arith
   go false = omega arith
 
-module _ (w : WorkloadView) (p : ProcNo) (v : Virtuals) (good : Good w v) (x : Own) (fits : Fits w v x) (a : ActNo) (at' : placed_on v p ≡ Some a) (few : w.processors ≤ MAX_PROCESSORS) where
+module _ (w : WorkloadView) (p : ProcNo) (v : Virtuals) (good : Good w v) (x : Own) (fits : Fits w v x) (a : ActNo) (at' : placed_on v p ≡ Some a)
+    (few : w.processors ≤ MAX_PROCESSORS) where
   abbrev s : SpaceNo
   s = space_of a
 
@@ -146,9 +153,11 @@ module _ (w : WorkloadView) (p : ProcNo) (v : Virtuals) (good : Good w v) (x : O
     ready_with : (r : ℕ) → r < length w.spaces → AreLists w.processors (newest_first (get_or ready r [])) (rows (with_list_in x.ready s l (left_of old own)) r)
     ready_with = lists_with w.processors (length w.spaces) x.ready s l (left_of old own) fits.many_ready inside below'
         (λ r. newest_first (get_or v.ready r [])) (λ r. newest_first (get_or ready r [])) fits.ready
-        (λ k e. leaves ∙ ap (without t.0) (list_is l below') ∙ sym (newest_less (ready_of v s) t l.0) ∙ ap (newest_first (filter (is_other_thread t) (ready_of v s))) (sym e) ∙ ap (λ xs. newest_first xs k) (sym ready_here))
+        (λ k e. leaves ∙ ap (without t.0) (list_is l below') ∙ sym (newest_less (ready_of v s) t l.0)
+        ∙ ap (newest_first (filter (is_other_thread t) (ready_of v s))) (sym e) ∙ ap (λ xs. newest_first xs k) (sym ready_here))
         (λ r k small ne. ap (λ xs. newest_first xs k) (sym (get_or-set_other v.ready s.0 r (filter (is_other_thread t) (ready_of v s)) [] ne)))
-        (λ k small ne. sym (newest_stays (ready_of v s) t k (omega (arith, newest_two t.0 (ready_of v s) k l.0 ne, once, here))) ∙ ap (λ xs. newest_first xs k) (sym ready_here))
+        (λ k small ne. sym (newest_stays (ready_of v s) t k (omega (arith, newest_two t.0 (ready_of v s) k l.0 ne, once, here)))
+        ∙ ap (λ xs. newest_first xs k) (sym ready_here))
 
     abbrev taken_own : Own
     taken_own = record x {
@@ -161,7 +170,10 @@ module _ (w : WorkloadView) (p : ProcNo) (v : Virtuals) (good : Good w v) (x : O
       own = taken_own;
       is = ap (λ o. takes p s l o (left_of old own) (board_of w v x)) picks;
       fits = record {
-        threads = fits.threads ∙ sym (ap (λ o. threads_of (with_life without_lock o (with_life (with_first (ran t)) o (with_life (locks v.base p l None) o v.base.lives)))) (good.quiet p));
+        threads =
+            fits.threads
+            ∙ sym (ap (λ o. threads_of (with_life without_lock o (with_life (with_first (ran t)) o (with_life (locks v.base p l None) o v.base.lives))))
+            (good.quiet p));
         steps = fits.steps;
         ready = ready_with;
         work = fits.work;
@@ -194,7 +206,9 @@ module _ (w : WorkloadView) (p : ProcNo) (v : Virtuals) (good : Good w v) (x : O
   has l = has_some (threads_in v s l)
 
   same : find (λ l. is_some_list (list_in x.ready s l)) (round_from w (list_of a)) ≡ find has (round_from w (list_of a))
-  same = find_same (list_of a).0 w.processors some (λ l. is_some_list (list_in x.ready s l)) has (λ l below'. ap is_some_list (list_is l below') ∙ some_one (ready_of v s) l) 0 w.processors
+  same =
+      find_same (list_of a).0 w.processors some (λ l. is_some_list (list_in x.ready s l)) has
+      (λ l below'. ap is_some_list (list_is l below') ∙ some_one (ready_of v s) l) 0 w.processors
 
   looked : (o : Option ProcNo) → find has (round_from w (list_of a)) ≡ o → Follows w p v (popped v a o) x (takes_from p a o (board_of w v x))
   looked None is = record {
@@ -228,4 +242,6 @@ module _ (w : WorkloadView) (p : ProcNo) (v : Virtuals) (good : Good w v) (x : O
       (chosen (threads_in v s l) (l.0 == (list_of a).0)) refl
 
   pub looks_for : Follows w p v (popped v a (find has (round_from w (list_of a)))) x (looks p a (board_of w v x))
-  looks_for = subst (Follows w p v (popped v a (find has (round_from w (list_of a)))) x) (sym (ap (λ o. takes_from p a o (board_of w v x)) same)) (looked (find has (round_from w (list_of a))) refl)
+  looks_for =
+      subst (Follows w p v (popped v a (find has (round_from w (list_of a)))) x) (sym (ap (λ o. takes_from p a o (board_of w v x)) same))
+      (looked (find has (round_from w (list_of a))) refl)

@@ -107,7 +107,8 @@ module _ (w : WorkloadView) (p : ProcNo) (b : Board) (read : IsRead w b) (inside
   same : turned p b ≡ board_of w after' own
   same = ap (turned p) read.is ∙ ap counted gone.is
 
-  legal_turn : legal.IsTurn w v (rules.event_on v p turn.says) × Good w after' × IsBelow (MAX_START + v.base.number + 1) after'.base.state.spaces × (1 ≤ length turn.says)
+  legal_turn : legal.IsTurn w v (rules.event_on v p turn.says) × Good w after' × IsBelow (MAX_START + v.base.number + 1) after'.base.state.spaces
+      × (1 ≤ length turn.says)
   legal_turn = turn_is_legal w p v (MAX_START + v.base.number) read.valid inside read.good read.below (omega (arith, few, number_is))
 
   number_after : after'.base.number ≡ v.base.number + 1
@@ -138,7 +139,9 @@ module _ (w : WorkloadView) (p : ProcNo) (b : Board) (read : IsRead w b) (inside
     lost = λ s. elim (cases_lt s (length w.spaces)) [
       | inl below ↦ omega (arith, number_after, lost_at s below, sized s, read.bounded.lost s)
       | inr past ↦
-          let none : get_or (loses shown) s 0 ≡ 0 = get_or_past (loses shown) s 0 (omega (arith, past, many, length-map-range_with_len (λ k. get_or gone.own.lost k 0 + lost_now shown k) 0 (length gone.own.lost))) in
+          let none : get_or (loses shown) s 0 ≡ 0 =
+          get_or_past (loses shown) s 0
+          (omega (arith, past, many, length-map-range_with_len (λ k. get_or gone.own.lost k 0 + lost_now shown k) 0 (length gone.own.lost))) in
           omega (arith, none, number_after)
     ];
   }

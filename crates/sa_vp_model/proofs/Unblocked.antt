@@ -26,7 +26,8 @@ use Rattle.sa_virtual.specs.Holding.{in_ios, is_virtual, one_where}
 use Rattle.sa_virtual.specs.Turning.{Good}
 use Rattle.sa_virtual.proofs.Sums as sums
 use Rattle.sa_virtual.proofs.Kept.{threads_same}
-use Rattle.sa_virtual.proofs.Turns.{IsAmong, due_among, own_kind, one_or_none}
+use Rattle.sa_virtual.proofs.Turns.{IsAmong, due_among, own_kind}
+use Rattle.sa_virtual.proofs.Sums.{one_or_none}
 use Rattle.sa_vp_model.specs.declared.limits.TheConstants.{VIRTUALS}
 use Rattle.sa_vp_model.specs.Board.{Board, act_numbers}
 use Rattle.sa_vp_model.specs.Turn.{completes, completed_by, one_less}
@@ -44,7 +45,8 @@ counts_for s a (Upcall r) is = cc
 pub some_blocked : (v : Virtuals) (a : ActNo) → in_ios v.base.under_way a.0 ≡ 1 → 1 ≤ blocked_in v (record { 0 = (space_of a).0 })
 some_blocked v a once =
     let s = (space_of a).0 in
-    let less = sums.over (λ (y : Io). one_where (is_of (record { 0 = s }) y.kind)) a (one_where (eqb s s)) (λ y of. counts_for s a y.kind of) v.base.under_way once in
+    let less = sums.over (λ (y : Io). one_where (is_of (record { 0 = s }) y.kind)) a (one_where (eqb s s))
+    (λ y of. counts_for s a y.kind of) v.base.under_way once in
     let one : one_where (eqb s s) ≡ 1 = ap one_where (eq-eqb s s refl) in
     omega (arith, less, one)
 
@@ -53,15 +55,18 @@ pub less_most : (xs : List ℕ) (i k : ℕ) → get_or (set xs i (get_or xs i 0 
 less_most xs i k = elim (cases_eq k i) [
   | inl e ↦ elim (cases_lt i (length xs)) [
     | inl within ↦
-        let there : get_or (set xs i (get_or xs i 0 - 1)) k 0 ≡ get_or xs i 0 - 1 = ap (λ n. get_or (set xs i (get_or xs i 0 - 1)) n 0) e ∙ get_or-set_same xs i (get_or xs i 0 - 1) 0 within in
+        let there : get_or (set xs i (get_or xs i 0 - 1)) k 0 ≡ get_or xs i 0 - 1 =
+        ap (λ n. get_or (set xs i (get_or xs i 0 - 1)) n 0) e ∙ get_or-set_same xs i (get_or xs i 0 - 1) 0 within in
         let same : get_or xs k 0 ≡ get_or xs i 0 = ap (λ n. get_or xs n 0) e in omega (arith, there, same)
     | inr past ↦
-        let none : get_or (set xs i (get_or xs i 0 - 1)) k 0 ≡ 0 = get_or_past (set xs i (get_or xs i 0 - 1)) k 0 (omega (arith, past, e, length-set xs i (get_or xs i 0 - 1))) in omega (arith, none)
+        let none : get_or (set xs i (get_or xs i 0 - 1)) k 0 ≡ 0 =
+        get_or_past (set xs i (get_or xs i 0 - 1)) k 0 (omega (arith, past, e, length-set xs i (get_or xs i 0 - 1))) in omega (arith, none)
   ]
   | inr ne ↦ let same : get_or (set xs i (get_or xs i 0 - 1)) k 0 ≡ get_or xs k 0 = get_or-set_other xs i k (get_or xs i 0 - 1) 0 ne in omega (arith, same)
 ]
 
-module _ (w : WorkloadView) (p : ProcNo) (v : Virtuals) (good : Good w v) (x : Own) (fits : Fits w v x) (io : Io) (due : due_of v.base.number v.base.under_way ≡ Some io) where
+module _ (w : WorkloadView) (p : ProcNo) (v : Virtuals) (good : Good w v) (x : Own) (fits : Fits w v x) (io : Io)
+    (due : due_of v.base.number v.base.under_way ≡ Some io) where
   abbrev a : ActNo
   a = of_io io.kind
 
@@ -109,7 +114,8 @@ module _ (w : WorkloadView) (p : ProcNo) (v : Virtuals) (good : Good w v) (x : O
       ∙ ap (λ t. made t (without io.number ios) (completed io.kind v.base.pages) (act_numbers v.queue ++ a.0 ∷ [])) held
       ∙ ap (λ us. made (thread_of v a) us (completed io.kind v.base.pages) (act_numbers v.queue ++ a.0 ∷ [])) (sym gone.left)
       ∙ ap (λ o. made (thread_of v a) (filter (is_io_of_other a) ios) (with_page v.base.pages o) (act_numbers v.queue ++ a.0 ∷ [])) (sym gone.found)
-      ∙ ap (λ qs. made (thread_of v a) (filter (is_io_of_other a) ios) (with_page v.base.pages (find (is_io_of a) ios)) qs) (sym (map-append (λ (b : ActNo). b.0) v.queue (a ∷ [])))
+      ∙ ap (λ qs. made (thread_of v a) (filter (is_io_of_other a) ios) (with_page v.base.pages (find (is_io_of a) ios)) qs)
+      (sym (map-append (λ (b : ActNo). b.0) v.queue (a ∷ [])))
 
   blocked : (r : ℕ) → r < length w.spaces → get_or own.blocked r 0 ≡ blocked_in next (record { 0 = r })
   blocked r below =
@@ -119,7 +125,8 @@ module _ (w : WorkloadView) (p : ProcNo) (v : Virtuals) (good : Good w v) (x : O
         | inl e ↦
             let one : one_where (eqb s.0 r) ≡ 1 = ap one_where (eq-eqb s.0 r (sym e)) in
             let there : get_or own.blocked r 0 ≡ get_or x.blocked r 0 - 1 =
-            ap (λ n. get_or (set x.blocked n (get_or x.blocked n 0 - 1)) r 0) (sym e) ∙ get_or-set_same x.blocked r (get_or x.blocked r 0 - 1) 0 (omega (arith, below, fits.many_blocked)) in
+            ap (λ n. get_or (set x.blocked n (get_or x.blocked n 0 - 1)) r 0) (sym e)
+            ∙ get_or-set_same x.blocked r (get_or x.blocked r 0 - 1) 0 (omega (arith, below, fits.many_blocked)) in
             omega (arith, was, less, one, there)
         | inr ne ↦
             let none : one_where (eqb s.0 r) ≡ 0 = ap one_where (ne_eqb s.0 r (λ e. ne (sym e))) in

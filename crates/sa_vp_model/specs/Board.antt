@@ -33,14 +33,14 @@ pub record Board : Type 0 where
   -- of each space, at each place: the ready list, the newest thread first; the work list
   pub ready : List Lists
   pub work : List Lists
-  -- how many threads stand in work lists
+  -- how many threads are in work lists
   pub due : ℕ
   -- of each space: how many of its virtual processors are blocked, and what it has lost
   pub blocked : List ℕ
   pub lost : List ℕ
   pub items : List Item
 
--- so many lists without a thread
+-- that many lists without a thread
 abbrev pub empty : ℕ → Lists
 empty lists = record { nodes = MAX_THREADS; lists = replicate lists [] }
 

@@ -25,6 +25,7 @@ is_stuck b = list_all are_at_rest b.state.spaces && (b.due == 0 && no_io b.devic
 abbrev pub end_of : ℕ → Board → Option End
 end_of budget b = if is_done b then Some AllDone else (if is_stuck b then Some Stuck else (if b.number == budget + 1 then Some Budget else None))
 
--- it ends so as a legal run does, with so many events behind it
+-- it ends so as a legal run does, after that many events
 abbrev pub EndsAreRead : Type 0
-EndsAreRead = (w : WorkloadView) (budget events : ℕ) (b : Board) (read : IsRead w b) → b.number ≡ events + 1 → EndsWith budget read.virtuals events (end_of budget b)
+EndsAreRead =
+    (w : WorkloadView) (budget events : ℕ) (b : Board) (read : IsRead w b) → b.number ≡ events + 1 → EndsWith budget read.virtuals events (end_of budget b)

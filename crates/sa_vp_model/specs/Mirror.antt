@@ -49,7 +49,7 @@ board_of w v x = record {
   items = x.items;
 }
 
--- the threads of a list, newest first, where they stand in the order in which they became ready
+-- the threads of a list, newest first, where they are in the order in which they became ready
 abbrev pub newest_first : List Listed → ℕ → List ℕ
 newest_first [] l = []
 newest_first (x ∷ xs) l = if is_in (record { 0 = l }) x then newest_first xs l ++ x.thread.0 ∷ [] else newest_first xs l
@@ -89,7 +89,7 @@ pub record Fits (w : WorkloadView) (v : Virtuals) (x : Own) : Type 0 where
   pub many_lost : length x.lost ≡ length w.spaces
   pub many_pages : length v.base.pages ≡ length w.spaces
 
--- .. and no count is above what so many events can make of it
+-- no count is above what the events so far can make of it
 pub record IsBounded (v : Virtuals) (x : Own) : Type 0 where
   pub begun : v.base.begun < v.base.number
   pub steps : (a : ℕ) → slice_index_or x.steps a 0 < v.base.number

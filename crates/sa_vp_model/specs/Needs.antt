@@ -60,7 +60,8 @@ pub record CanComeBack (p : ProcNo) (a : ActNo) (b : Board) : Type 0 where
   pub can : CanChange b.workload p b.state (Unblock (space_of a) (held_by b a) a)
 
 -- one is placed
-pub record CanPlace (p : ProcNo) (a : ActNo) (w : WorkloadView) (state : State) (threads : List (Option ThreadNo)) (steps : List ℕ) (placed : List (Option ActNo)) : Type 0 where
+pub record CanPlace (p : ProcNo) (a : ActNo) (w : WorkloadView) (state : State) (threads : List (Option ThreadNo)) (steps : List ℕ)
+    (placed : List (Option ActNo)) : Type 0 where
   pub many_threads : length threads ≡ VIRTUALS
   pub many_steps : length steps ≡ VIRTUALS
   pub many_placed : length placed ≡ w.processors
@@ -110,14 +111,16 @@ pub record CanGoOn (p : ProcNo) (a : ActNo) (t : ThreadNo) (b : Board) : Type 0 
 pub record CanLook (p : ProcNo) (a : ActNo) (b : Board) : Type 0 where
   pub tabled : IsTabled b
   pub virtual : IsVirtual b a
-  pub can : (l : ProcNo) (own : Bool) (t : ℕ) → l.0 < b.workload.processors → picked (list_in b.ready (space_of a) l) own ≡ Some t → CanChange b.workload p b.state (Run (space_of a) (thread t))
+  pub can : (l : ProcNo) (own : Bool) (t : ℕ) → l.0 < b.workload.processors → picked (list_in b.ready (space_of a) l) own ≡ Some t
+      → CanChange b.workload p b.state (Run (space_of a) (thread t))
 
 -- one runs its thread
 pub record CanRunOn (p : ProcNo) (a : ActNo) (t : ThreadNo) (b : Board) : Type 0 where
   pub tabled : IsTabled b
   pub virtual : IsVirtual b a
   pub goes : CanGoOn p a t b
-  pub faults : (page : ℕ) → missed_page b (space_of a) (next_instr b.workload b.state (space_of a) t) ≡ Some page → CanBlockOn p a t (Page (space_of a) a page) b
+  pub faults : (page : ℕ) → missed_page b (space_of a) (next_instr b.workload b.state (space_of a) t) ≡ Some page
+      → CanBlockOn p a t (Page (space_of a) a page) b
   pub blocks : (n : ℕ) → next_instr b.workload b.state (space_of a) t ≡ IoOf n → CanBlockOn p a t (Plain (space_of a) a) (goes_with p a t b)
 
 -- one does a step
@@ -133,7 +136,8 @@ pub record CanStep (p : ProcNo) (a : ActNo) (b : Board) : Type 0 where
 pub record CanAct (p : ProcNo) (b : Board) : Type 0 where
   pub tabled : IsTabled b
   pub inside : p.0 < b.workload.processors
-  pub back : (n : IoNo) (reason : IoKind) → option_map io_no (due_of b.number b.devices.ios.under_way) ≡ Some n → option_map (λ (io : Io). io.kind) (io_at n.0 b.devices.ios.under_way) ≡ Some reason → CanComeBack p (of_io reason) b
+  pub back : (n : IoNo) (reason : IoKind) → option_map io_no (due_of b.number b.devices.ios.under_way) ≡ Some n
+      → option_map (λ (io : Io). io.kind) (io_at n.0 b.devices.ios.under_way) ≡ Some reason → CanComeBack p (of_io reason) b
   pub first : slice_index_or b.placed p.0 None ≡ None → (a : ℕ) → slice_get (queued b) 0 ≡ Some a → CanPlaceOn p (act a) b
   pub gives_way : (a : ActNo) → slice_index_or b.placed p.0 None ≡ Some a → has_had_its_turn b a ≡ true → CanGiveWay p a b
   pub steps : (a : ActNo) → slice_index_or b.placed p.0 None ≡ Some a → CanStep p a b

@@ -98,7 +98,7 @@ readies p a t first b =
       due = b.due - 1;
     })))
 
--- .. or its thread blocks
+-- In a step its thread may also block.
 abbrev pub blocks : ProcNo → ActNo → ThreadNo → IoKind → ℕ → Board → Board
 blocks p a t kind len b =
     let s = space_of a in
@@ -109,7 +109,7 @@ blocks p a t kind len b =
       blocked = one_more b.blocked s;
     }))
 
--- .. or runs an instruction
+-- In a step its thread may also run an instruction.
 abbrev pub rouses : ActNo → List ThreadNo → Board → Board
 rouses a ts b =
     let s = space_of a in
@@ -142,8 +142,8 @@ runs p a t b =
     let i = next_instr b.workload b.state s t in
     runs_on p a t i (missed_page b s i) b
 
--- .. or it takes a thread from the first list, round from its own, that has one: the newest of its own, the oldest of
--- another
+-- In a step it may also take a thread from the first list, round from its own, that has one: the newest of its own, the oldest of
+-- another.
 abbrev pub is_some_list : List ℕ → Bool
 is_some_list [] = false
 is_some_list (t ∷ ts) = true
@@ -202,7 +202,7 @@ acts p None b = goes_on p (slice_index_or b.placed p.0 None) b
 abbrev pub begun : Board → Board
 begun b = record b { devices = record b.devices { pages = evicted b.number b.devices.evictions b.devices.pages } }
 
--- .. and at its end each space loses as many of its ready threads as it has blocked virtual processors
+-- at the end of the event each space loses as many of its ready threads as it has blocked virtual processors
 abbrev pub loss : State → List ℕ → ℕ → ℕ
 loss state blocked s = min (slice_index_or blocked s 0) (count_in is_ready (space_at state (record { 0 = s })).threads)
 

@@ -4,7 +4,7 @@ ghost use Rattle.sa_vp_model.specs.Runs.{RunsAreRead};
 ghost use Rattle.sa_vp_model.specs.End.{EndsAreRead};
 
 /// A turn on a board that is read off a history is the turn of that history by the rules, and leaves what is read
-/// behind it.
+/// after it.
 pub fn turns_are_read()
     ensures { TurnsAreRead }
 {}

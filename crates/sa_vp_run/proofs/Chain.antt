@@ -23,7 +23,7 @@ use Rattle.sa_virtual.specs.Virtual.{opening}
 use Rattle.sa_virtual.specs.Legal.{IsLegalVp, EndsWith, after_all}
 use Rattle.sa_vp_run.specs.Run.{first_turns, first_events, EndsAt, IsVpRun, RunsSoFar, RunsTo}
 
--- the board behind the first turns by an order
+-- the board after the first turns by an order
 abbrev pub board_at : WorkloadView → Order → ℕ → Board
 board_at w order n = board_after (opened w) (first_turns w order n)
 
@@ -48,13 +48,13 @@ module _ (w : WorkloadView) (order : Order) where
       ∙ sym (after-more (opened w) (first_turns w order n) (proc_no (processor_at order w.processors (n + 1))))
       ∙ ap (board_after (opened w)) (sym (turns-more n))
 
--- the schedule behind it
+-- the schedule after it
 pub schedule-more : (order : Order) (processors n : ℕ) (s t : Turns) → s ≡ turned_often (start order processors) n → t ≡ schedule_turned s
     → t ≡ turned_often (start order processors) (n + 1)
 schedule-more order processors n s t at is =
     is ∙ ap schedule_turned at ∙ ap (turned_often (start order processors)) (sym (add-one n))
 
--- WHAT IS READ of the board behind the first turns
+-- WHAT IS READ of the board after the first turns
 module _ (w : WorkloadView) (valid : IsWorkload w) (order : Order) (n : ℕ) (few : n ≤ MAX_EVENTS)
     (among : (k : ℕ) → k < n → processor_at order w.processors (k + 1) < w.processors) where
   abbrev turn_at : ℕ → ProcNo
@@ -75,7 +75,8 @@ module _ (w : WorkloadView) (valid : IsWorkload w) (order : Order) (n : ℕ) (fe
   ends-at : (budget m : ℕ) (o : Option End) → m ≤ n → end_of budget (board_at w order m) ≡ o → EndsAt w order budget m o
   ends-at budget m o less is =
       subst (EndsAt w order budget m) is
-      (subst (λ k. EndsWith budget (after_all w (opening w) (first_events w order m)) k (end_of budget (board_at w order m))) (many m) ((read m less).ends budget))
+      (subst (λ k. EndsWith budget (after_all w (opening w) (first_events w order m)) k (end_of budget (board_at w order m))) (many m)
+      ((read m less).ends budget))
 
   module _ (budget : ℕ) (b : Board) (is : b ≡ board_at w order n) (within : n ≤ budget)
       (goes_on : (k : ℕ) → k < n → end_of budget (board_at w order k) ≡ None) where
@@ -98,7 +99,7 @@ module _ (w : WorkloadView) (valid : IsWorkload w) (order : Order) (n : ℕ) (fe
       losses = λ s below. ap (λ (c : Board). get_or c.lost s 0) is ∙ whole.lost s below;
     }
 
-    -- .. as it is handed out
+    -- the run as it is handed out
     pub ended-as : (e : End) (items : List Item) (events : ℕ) (lost : List ℕ) → end_of budget b ≡ Some e → items ≡ b.items → events ≡ n → lost ≡ b.lost
         → RunsTo w order budget items e events lost
     ended-as e items events lost ends shows count losses =

@@ -18,11 +18,11 @@ first_turns w order n = map (λ k. proc_no (processor_at order w.processors (k +
 abbrev pub first_events : WorkloadView → Order → ℕ → List Event
 first_events w order n = run_from w (opening w) (first_turns w order n)
 
--- how a run has ended behind its first turns, if it has
+-- how a run has ended after its first turns, if it has
 abbrev pub EndsAt : WorkloadView → Order → ℕ → ℕ → Option End → Type 0
 EndsAt w order budget n end = EndsWith budget (after_all w (opening w) (first_events w order n)) n end
 
--- these are the items of the first turns by the order; they are a legal run on virtual processors, which has ended behind
+-- these are the items of the first turns by the order; they are a legal run on virtual processors, which has ended after
 -- none but the last of these turns
 pub record IsVpRun (w : WorkloadView) (order : Order) (budget : ℕ) (items : List Item) (events : ℕ) : Type 0 where
   pub history : items ≡ items_of (first_events w order events)
@@ -35,7 +35,7 @@ pub record RunsSoFar (w : WorkloadView) (order : Order) (budget : ℕ) (items : 
   pub events : ℕ
   pub run : IsVpRun w order budget items events
 
--- the run of the workload ends so, behind so many events; these are its items, and what each space has lost
+-- the run of the workload ends so, after that many events; these are its items, and what each space has lost
 pub record RunsTo (w : WorkloadView) (order : Order) (budget : ℕ) (items : List Item) (end : End) (events : ℕ) (lost : List ℕ) : Type 0 where
   pub run : IsVpRun w order budget items events
   pub ends : EndsAt w order budget events (Some end)

@@ -20,7 +20,7 @@ pub struct Ended {
     pub lost: Vec<u64>,
 }
 
-/// Runs the workload on virtual processors by the order of turns until it ends, within so many events, 1 to 1,000,000. An
+/// Runs the workload on virtual processors by the order of turns until it ends, within `budget` events, 1 to 1,000,000. An
 /// error is want of memory, with the trace so far.
 pub fn run(alloc: Global, workload: Workload, kind: Kind, budget: u64) -> Result<Ended, Trace>
     requires some { 1 ≤ budget }

@@ -49,7 +49,7 @@ next w p n within = elim (cases_eq (n % w + 1) w) [
       omega (arith, h.0, a))
 ]
 
--- so many for each round, and one more in a round that came so far
+-- one for each whole round, and one more in a last round that came to this processor
 pub quota-is : (w p n : ℕ) → p < w → n / w + (if nat_lt p (n % w) then 1 else 0) ≡ quota_of w p n
 unfolding quota_of
 quota-is w p zero within = (let h = zero-div w in let k = ap (extra p) (zero-mod w) ∙ extra-none p in omega (arith, h, k))

@@ -1,4 +1,4 @@
--- The seats behind their workers.
+-- The seats once their workers are done.
 use Rattle.std.proofs.Common.{◌≡◌, ℕ, ◌<◌, ◌≤◌, ◌++◌, Some, List, length, take, drop, slice_get, sym, ap, subst, ◌∙◌, arith}
 use Rattle.std.specs.Prelude.{slice_index_or}
 use Rattle.std.proofs.Math.Seq.{take-append_seam}
@@ -20,7 +20,8 @@ pub record AreWorked (n budget : ℕ) (seats : List SeatView) : Type 0 where
   pub within : (p : ℕ) (s : SeatView) → slice_get seats p ≡ Some s → s.poller.account.count ≤ quota_of n p budget
 
 pub are-worked : (table : TableId) (n budget : ℕ) (old new : List SeatView) → AreFresh table n old → length new ≡ length old
-    → ((i : ℕ) (d : SeatView) → i < length old → HasWorked (quota_of n (slice_index_or old i d).poller.proc.0 budget) (slice_index_or old i d) (slice_index_or new i d))
+    → ((i : ℕ) (d : SeatView) → i < length old
+    → HasWorked (quota_of n (slice_index_or old i d).poller.proc.0 budget) (slice_index_or old i d) (slice_index_or new i d))
     → AreWorked n budget new
 are-worked table n budget old new fresh same each = record {
   are = (same ∙ fresh.0, λ p s at. (let w = work p s at in ap (λ (q : ProcNo). q.0) w.proc));
@@ -37,12 +38,15 @@ are-worked table n budget old new fresh same each = record {
         (subst (λ (x : SeatView). HasWorked (quota_of n x.poller.proc.0 budget) x (slice_index_or new p s)) was (each p s lt))
 
 -- the same of the elements to which a slice of them was written back
-pub worked-back : (table : TableId) (n m budget b len : ℕ) (items old new : List SeatView) → AreFresh table n items → old ≡ items → len ≡ length items → length new ≡ length old
+pub worked-back : (table : TableId) (n m budget b len : ℕ) (items old new : List SeatView) → AreFresh table n items → old ≡ items → len ≡ length items
+    → length new ≡ length old
     → m ≡ n → b ≡ budget
-    → ((i : ℕ) (d : SeatView) → i < length old → HasWorked (quota_of m (slice_index_or old i d).poller.proc.0 b) (slice_index_or old i d) (slice_index_or new i d))
+    → ((i : ℕ) (d : SeatView) → i < length old
+    → HasWorked (quota_of m (slice_index_or old i d).poller.proc.0 b) (slice_index_or old i d) (slice_index_or new i d))
     → AreWorked n budget (take len (new ++ drop (length new) items))
 worked-back table n m budget b len items old new fresh lent all same processors few each =
     let size : length new ≡ length items = same ∙ ap (λ (l : List SeatView). length l) lent in
     let worked = are-worked table n b old new (subst (λ (l : List SeatView). AreFresh table n l) (sym lent) fresh) same
-    (subst (λ (k : ℕ). (i : ℕ) (d : SeatView) → i < length old → HasWorked (quota_of k (slice_index_or old i d).poller.proc.0 b) (slice_index_or old i d) (slice_index_or new i d)) processors each) in
+    (subst (λ (k : ℕ). (i : ℕ) (d : SeatView) → i < length old
+    → HasWorked (quota_of k (slice_index_or old i d).poller.proc.0 b) (slice_index_or old i d) (slice_index_or new i d)) processors each) in
     subst (λ (l : List SeatView). AreWorked n budget l) (sym (written-back len new items all size)) (subst (λ (k : ℕ). AreWorked n k new) few worked)

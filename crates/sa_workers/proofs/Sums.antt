@@ -26,7 +26,7 @@ below-none f (suc n) none =
     let here = none n (omega arith) in
     omega (arith, h, here)
 
--- what stands at one place alone
+-- what is at one place alone
 pub below-one : (f : ℕ → ℕ) (n q : ℕ) → q < n → ((k : ℕ) → k ≢ q → f k ≡ 0) → below f n ≡ f q
 below-one f zero q lt others = absurd (omega arith)
 below-one f (suc n) q lt others = elim (cases_eq q n) [
@@ -61,7 +61,7 @@ below-tight f g (suc n) le all k lt =
       | inr apart ↦ below-tight f g n (λ i small. le i (omega arith)) (omega (arith, rest, here, all)) k (omega (arith, apart))
     ]
 
--- the sum of a list, of which nothing stands behind some place
+-- the sum of a list, of which nothing comes after some place
 below-front : (f : ℕ → ℕ) (n : ℕ) → below f (suc n) ≡ f 0 + below (λ k. f (suc k)) n
 below-front f zero = omega arith
 below-front f (suc n) = (let h = below-front f n in omega (arith, h))

@@ -75,10 +75,12 @@ module _ {U C : Type 0} (f : Calls U C) (stands : Standing U C) (keep : Keeps f 
   has-run w budget seats closed ok are within is =
       let quota : ℕ → ℕ = λ p. quota_of w.processors p budget in
       let few : (p : ℕ) → p < w.processors → turns_at closed p ≤ quota p =
-      λ p lt. let s = seat-at seats p (omega (arith, lt, are.0)) in let count = (is.over p s.0 s.1).count in let most = within p s.0 s.1 in omega (arith, count, most) in
+      λ p lt. let s = seat-at seats p (omega (arith, lt, are.0)) in let count = (is.over p s.0 s.1).count in let most = within p s.0 s.1 in
+      omega (arith, count, most) in
       let all : below quota w.processors ≡ budget = quotas-add w.processors budget ok.some_processor in
       let total : sum closed.turns ≡ below (turns_at closed) w.processors = sum-below closed.turns w.processors is.none in
-      let turns : below (turns_at closed) w.processors ≡ below (λ p. turns_of p is.moves) w.processors = below-same (turns_at closed) (λ p. turns_of p is.moves) w.processors is.turns in
+      let turns : below (turns_at closed) w.processors ≡ below (λ p. turns_of p is.moves) w.processors =
+      below-same (turns_at closed) (λ p. turns_of p is.moves) w.processors is.turns in
       let events = events-from w budget (opening f w) is.machine is.moves (stands-opening f stands keep w ok) refl is.chain in
       let most = below-le (turns_at closed) quota w.processors few in record {
         moves = is.moves;

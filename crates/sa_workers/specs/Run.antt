@@ -15,7 +15,7 @@ abbrev pub turns_at : ClosedView → ℕ → ℕ
 turns_at closed p = slice_index_or closed.turns p 0
 
 module _ {U C : Type 0} (f : Calls U C) where
-  -- turns and commits led from the opening to the machine, none of them behind an end, and this is its history
+  -- turns and commits led from the opening to the machine, none of them after an end, and this is its history
   pub record HasRun (w : WorkloadView) (budget : ℕ) (closed : ClosedView) : Type 0 where
     pub moves : List Move
     pub machine : Machine U C

@@ -54,7 +54,7 @@ impl HoldGate {
         Some(held == SAW && other == SAW)
     }
 
-    // Looks whether so many arrivals were counted, at most as often as the limit allows.
+    // Looks whether at least `least` arrivals were counted, at most as often as the limit allows.
     fn look(&self, arrivals: &AtomicU64, least: u64) -> u64 {
         for _look in 0..self.limit {
             if arrivals.load(Ordering::SeqCst) >= least {

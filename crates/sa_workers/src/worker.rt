@@ -9,7 +9,7 @@ use sa_seat::{Entered, Machine, Named, Seat};
 use std::alloc::AllocError;
 use std::sync::Wait;
 
-/// Drives the processor of the seat: runs local instructions ahead, in bursts of at most so many, 1 to 64, arrives at the
+/// Drives the processor of the seat: runs local instructions ahead, in bursts of at most `burst`, 1 to 64, arrives at the
 /// gate and enters, until the run has ended or the seat's count is the quota. An entry that dropped a burst is followed by one
 /// without a burst. An error is want of memory.
 pub fn work<U: UserLevel, K: Named, R: Wait, G: Gate>(

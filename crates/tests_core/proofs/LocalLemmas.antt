@@ -1,11 +1,11 @@
--- Local instructions behind a first one.
+-- Local instructions after a first one.
 use Rattle.std.proofs.Common.{◌≡◌, ℕ, zero, suc, ◌-◌, ◌<◌, List, subst, arith}
 use Rattle.sa_instr.specs.declared.instr.Instr.{Instr}
 use Rattle.sa_instr.specs.declared.answer.Local.TheVariants.{Went}
 use Rattle.sa_instr.specs.Local.{instr_at, local_answer, place_after, regs_after}
 use Rattle.sa_abstract.specs.Walk.{AreLocal}
 
--- the first is local, and those behind it are
+-- the first is local, and those after it are
 pub first-and-rest : (program : List Instr) (n pc place : ℕ) (regs after : List ℕ) → 0 < n → local_answer (instr_at program pc) ≡ Went
     → place ≡ place_after (instr_at program pc) pc regs → after ≡ regs_after (instr_at program pc) regs
     → AreLocal program (n - 1) (record { pc = place; regs = after }) → AreLocal program n (record { pc = pc; regs = regs })

@@ -51,11 +51,13 @@ has-program [] is = absurd (cc)
 has-program (first ∷ rest) is = omega arith
 
 module _ (s : Setting) (space : SpaceNo) (here : space ≡ s.space) where
-  seats-in : (b : Bool) → b ≡ jumps_to_itself (first_instr s.def.programs) → IsSeat s (seat_in b space) × (is_away (seat_in b space) ≡ (false || is_none (carried b)))
+  seats-in : (b : Bool) → b ≡ jumps_to_itself (first_instr s.def.programs)
+      → IsSeat s (seat_in b space) × (is_away (seat_in b space) ≡ (false || is_none (carried b)))
   seats-in true is = ((here, has-program s.def.programs is, has-first (program_at s.def.programs 0) is), refl)
   seats-in false is = (tt, refl)
 
-  goes-says : (b : Bool) → b ≡ jumps_to_itself (first_instr s.def.programs) → (n : ℕ) → GoesOn s n (seat_in b space) → replicate n (round_in space) ≡ records_of s n (seat_in b space)
+  goes-says : (b : Bool) → b ≡ jumps_to_itself (first_instr s.def.programs) → (n : ℕ) → GoesOn s n (seat_in b space)
+      → replicate n (round_in space) ≡ records_of s n (seat_in b space)
   goes-says true is n goes = says-rounds (program_at s.def.programs 0) is space n
   goes-says false is n goes = absurd goes
 

@@ -103,7 +103,7 @@ fn are_next_local(workload: &Workload, n: u16, state: SeatState) -> bool
     are_local(program, n, pc, regs)
 }
 
-// Whether so many instructions can be committed.
+// Whether `n` instructions can be committed.
 fn can_commit<U: UserLevel>(core: &Core<U>, p: ProcNo, n: u16) -> bool
     requires { p.0 < (machine core.now).workload.processors }
     ensures low { IsTrue result → line_of (machine core.now).kernel p ≡ None }
@@ -139,9 +139,9 @@ fn is_away<U: UserLevel>(rt: &impl Abort, core: &Core<U>, p: ProcNo) {
 pub(crate) enum Act {
     Reserve(u16),
     Turns(ProcNo, u16),
-    // So many are asked for, and so many are made.
+    // How many are asked for, and how many are made.
     Commit(ProcNo, u16, u16),
-    // How the run has ended, behind so many events.
+    // How the run has ended, and after how many events.
     Ends(Option<End>, u64),
     // No context stands at an instruction, and the line is low.
     IsAway(ProcNo),
@@ -162,7 +162,7 @@ fn do_one<U: UserLevel>(rt: &impl Abort, core: &mut Core<U>, act: Act) -> Result
     Ok(())
 }
 
-// All of it, one behind another.
+// All of it, one after another.
 fn do_all<U: UserLevel>(rt: &impl Abort, core: &mut Core<U>, acts: &[Act]) -> Result<(), Fail> {
     for each in acts {
         do_one(rt, core, *each)?;
@@ -171,7 +171,7 @@ fn do_all<U: UserLevel>(rt: &impl Abort, core: &mut Core<U>, acts: &[Act]) -> Re
     Ok(())
 }
 
-// A run of the workload of a text within so many events: all is done with it in turn, and then its trace has these events.
+// A run of the workload of a text within a budget of events: all is done with it in turn, and then its trace has these events.
 pub(crate) fn run<U: UserLevel>(
     rt: &impl Abort,
     alloc: Global,

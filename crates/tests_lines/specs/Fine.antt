@@ -6,7 +6,7 @@ use Rattle.sa_lines.specs.declared.view.Lane.{Lane}
 use Rattle.sa_lines.specs.Words.{lane_at}
 use Rattle.sa_lines.specs.Seen.{PollerSeen}
 
--- at most so many turns, and no other end than AllDone
+-- at most `turns` turns, and no other end than AllDone
 pub record IsFine (turns : ℕ) (lane : Lane) : Type 0 where
   pub few : lane.account.count ≤ turns
   pub open_end : (lane.account.end ≡ None) ⊎ (lane.account.end ≡ Some AllDone)

@@ -255,7 +255,7 @@ fn stir(keeper: &mut Keeper, words: &LineWords, lowered: ProcNo, raised: ProcNo,
     keeper.raise(words, raised, event);
 }
 
-// Credits a turn, behind so many.
+// Credits a turn, after `turns` others.
 fn credit_turn<R: Wait>(
     rt: &R,
     keeper: &mut Keeper,

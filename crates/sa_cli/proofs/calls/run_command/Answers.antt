@@ -1,8 +1,8 @@
 use Rattle.std.proofs.Common.{Some, sym, ap, subst, ◌∙◌, rules, arith}
 use Rattle.sa_command.specs.declared.command.Command.TheVariants.{Run, Load, Migrate, Check, Vp, Debug}
 use Rattle.sa_cli.specs.declared.outcome.Status.{Status}
-use Rattle.sa_cli.specs.Outcome.{RanHere, WritesNothing}
-use Rattle.sa_cli.specs.Answers.{world}
+use Rattle.sa_cli.specs.Outcome.{RanHere}
+use Rattle.sa_cli.specs.Streams.{UsesStreams, streams, world_by}
 use Rattle.sa_cli.specs.Commands.{MigrateAnswers, CheckAnswers}
 use Rattle.sa_cli.proofs.TopCalls.{loses-nothing, does-along, does, does-nothing}
 use Rattle.sa_cli.proofs.calls.run_command.Goals as goal
@@ -21,8 +21,7 @@ returns-in-Some-Run g c =
     let run = c.in-Some-Run in
     let said = c.run_text.ensures in
     does-along _ _ (sym (run.is ∙ ap Some (rw run.is at run.field-0-is)))
-    (does (Run run.schedule run.budget run.user_level) said.here said.unwritten (λ load. absurd load)
-    said.lost said.reads_counted said.writes_counted said.answers)
+    (does (Run run.schedule run.budget run.user_level) said.here (λ load. absurd load) said.uses said.answers)
 
 pub run_generated-requires : goal.run_generated-requires
 run_generated-requires g c =
@@ -37,8 +36,9 @@ returns-in-Some-Load g c =
     let left = g.S.Source.left c.args.source.now in
     let reads = g.S.Source.faults c.args.source.now in
     does-along _ _ (sym (load.is ∙ ap Some (rw load.is at load.field-0-is)))
-    (does (Load load.number load.budget) said.here said.unwritten (λ load. search rules)
-    (loses-nothing left) (omega arith) said.writes_counted (said.answers left reads))
+    (does (Load load.number load.budget) said.here (λ load. search rules)
+    (record { unwritten = said.unwritten; lost = loses-nothing left; reads_counted = omega arith; writes_counted = said.writes_counted })
+    (said.answers left reads))
 
 pub migrate-requires : goal.migrate-requires
 migrate-requires g c =
@@ -46,31 +46,25 @@ migrate-requires g c =
 
 pub returns-in-Some-Migrate : goal.returns-in-Some-Migrate
 returns-in-Some-Migrate g c =
+    let told = world_by g.S.Source.left g.K.Sink.taken g.S.Source.faults g.K.Sink.faults in
     let migrates = c.in-Some-Migrate in
     let said = c.migrate.ensures in
     let outcome = c.nothing-in-Some-Migrate.ensures in
-    let before =
-    world (g.S.Source.left c.args.source.now) (g.K.Sink.taken c.args.sink.now) (g.S.Source.faults c.args.source.now) (g.K.Sink.faults c.args.sink.now) in
-    let after =
-    world (g.S.Source.left c.migrate.new.source) (g.K.Sink.taken c.migrate.new.sink)
-    (g.S.Source.faults c.migrate.new.source) (g.K.Sink.faults c.migrate.new.sink) in
+    let before = told (streams c.args.source.now c.args.sink.now) in
+    let after = told (streams c.migrate.new.source c.migrate.new.sink) in
     does-along _ _ (sym (migrates.is ∙ ap Some (rw migrates.is at migrates.field-0-is)))
-    (does (Migrate migrates.slice) (subst RanHere (sym outcome.ran) tt) (λ nothing. said.unwritten (subst WritesNothing outcome.status nothing))
-    (λ load. absurd load) said.lost said.reads_counted said.writes_counted
+    (does (Migrate migrates.slice) (subst RanHere (sym outcome.ran) tt) (λ load. absurd load) (subst (UsesStreams _ _ _) (sym outcome.status) said.uses)
     (outcome.ran, subst (λ (v : Status). MigrateAnswers migrates.slice before after v) (sym outcome.status) said.answers))
 
 pub returns-in-Some-Check : goal.returns-in-Some-Check
 returns-in-Some-Check g c =
+    let told = world_by g.S.Source.left g.K.Sink.taken g.S.Source.faults g.K.Sink.faults in
     let said = c.check_texts.ensures in
     let outcome = c.nothing-in-Some-Check.ensures in
-    let before =
-    world (g.S.Source.left c.args.source.now) (g.K.Sink.taken c.args.sink.now) (g.S.Source.faults c.args.source.now) (g.K.Sink.faults c.args.sink.now) in
-    let after =
-    world (g.S.Source.left c.check_texts.new.source) (g.K.Sink.taken c.check_texts.new.sink)
-    (g.S.Source.faults c.check_texts.new.source) (g.K.Sink.faults c.check_texts.new.sink) in
+    let before = told (streams c.args.source.now c.args.sink.now) in
+    let after = told (streams c.check_texts.new.source c.check_texts.new.sink) in
     does-along _ _ (sym (c.in-Some-Check.is ∙ ap Some (rw c.in-Some-Check.is at c.in-Some-Check.field-0-is)))
-    (does Check (subst RanHere (sym outcome.ran) tt) (λ nothing. said.unwritten (subst WritesNothing outcome.status nothing)) (λ load. absurd load)
-    said.lost said.reads_counted said.writes_counted
+    (does Check (subst RanHere (sym outcome.ran) tt) (λ load. absurd load) (subst (UsesStreams _ _ _) (sym outcome.status) said.uses)
     (outcome.ran, subst (λ (v : Status). CheckAnswers before after v) (sym outcome.status) said.answers))
 
 pub run_virtual-requires : goal.run_virtual-requires
@@ -84,7 +78,7 @@ returns-in-Some-Vp g c =
     let vp = c.in-Some-Vp in
     let said = c.run_virtual.ensures in
     does-along _ _ (sym (vp.is ∙ ap Some (rw vp.is at vp.field-0-is)))
-    (does (Vp vp.schedule vp.budget) said.here said.unwritten (λ load. absurd load) said.lost said.reads_counted said.writes_counted said.answers)
+    (does (Vp vp.schedule vp.budget) said.here (λ load. absurd load) said.uses said.answers)
 
 pub debug_texts-requires : goal.debug_texts-requires
 debug_texts-requires g c =
@@ -97,4 +91,4 @@ returns-in-Some-Debug g c =
     let debug = c.in-Some-Debug in
     let said = c.debug_texts.ensures in
     does-along _ _ (sym (debug.is ∙ ap Some (rw debug.is at debug.field-0-is)))
-    (does (Debug debug.budget) said.here said.unwritten (λ load. absurd load) said.lost said.reads_counted said.writes_counted said.answers)
+    (does (Debug debug.budget) said.here (λ load. absurd load) said.uses said.answers)

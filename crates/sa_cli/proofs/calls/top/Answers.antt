@@ -34,8 +34,7 @@ returns-in-Some g c =
     let said = c.run_shared.ensures in
     let is = is-threads c.read_words-command.result limits (sym c.limits_of.ensures ∙ c.in-Some.is) in
     does-along _ _ (sym is ∙ c.read_words-command.ensures)
-    (does (Threads limits.budget limits.burst) said.shared said.unwritten (λ load. absurd load)
-    said.lost said.reads_counted said.writes_counted said.answers)
+    (does (Threads limits.budget limits.burst) said.shared (λ load. absurd load) said.uses said.answers)
 
 pub run_command-requires-clause-range : goal.run_command-requires-clause-range
 run_command-requires-clause-range g c = λ command is. c.commands_are_in_range.ensures c.args.words.now command (sym c.read_words-command.ensures ∙ is)

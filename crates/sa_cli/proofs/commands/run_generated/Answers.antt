@@ -9,7 +9,8 @@ use Rattle.sa_cli.proofs.commands.run_generated.Goals as goal
 pub returns-in-Ok-run-clause-answers : goal.returns-in-Ok-run-clause-answers
 returns-in-Ok-run-clause-answers g c = λ left reads.
     ended-answers (λ w. w ≡ generated c.args.number) (load_plan c.args.budget) fast-kept (world left _ reads _) (world left _ reads _) _ c.in-Ok-run.ended.trace
-    c.in-Ok.workload c.in-Ok-run.ended.end c.in-Ok-run.ended.events _ c.write_last_line.ensures.ran c.in-Ok.ensures c.ranges-2.ensures c.in-Ok-run.ensures.ok c.write_last_line.ensures.status
+    c.in-Ok.workload c.in-Ok-run.ended.end c.in-Ok-run.ended.events _ c.write_last_line.ensures.ran c.in-Ok.ensures c.ranges-2.ensures c.in-Ok-run.ensures.ok
+    c.write_last_line.ensures.status
 
 pub returns-in-Err-clause-answers : goal.returns-in-Err-clause-answers
 returns-in-Err-clause-answers g c = λ left reads.

@@ -11,5 +11,7 @@ returns-clause-found g c =
       input = c.in_ok-input.input.items;
       reads = c.in_ok-input.ensures.input;
       is = found;
-      told = read-found (g.S.Source.left c.args.source.now) (g.S.Source.left c.read_input.new.source) c.in_ok-input.input.items c.in_ok-found.found c.in_ok-input.ensures.input found;
+      told =
+          read-found (g.S.Source.left c.args.source.now)
+          (g.S.Source.left c.read_input.new.source) c.in_ok-input.input.items c.in_ok-found.found c.in_ok-input.ensures.input found;
     }

@@ -6,7 +6,8 @@ use Rattle.sa_cli.proofs.output.put_run.Goals as goal
 pub returns-in_err-put_lines-clause-err : goal.returns-in_err-put_lines-clause-err
 returns-in_err-put_lines-clause-err g c =
     on_err c.from_residual.result
-    (lines-cut (g.K.Sink.taken c.args.sink.now) (g.K.Sink.taken c.put_lines.new.sink) c.args.pieces.now c.args.items.now c.args.end c.args.events c.in_err-put_lines.ensures.err)
+    (lines-cut (g.K.Sink.taken c.args.sink.now)
+    (g.K.Sink.taken c.put_lines.new.sink) c.args.pieces.now c.args.items.now c.args.end c.args.events c.in_err-put_lines.ensures.err)
 
 pub returns-clause-ok : goal.returns-clause-ok
 returns-clause-ok g c =

@@ -5,7 +5,8 @@ use Rattle.sa_io.proofs.PieceLemmas.{on_err}
 use Rattle.sa_trace.specs.TraceText.{trace_text}
 use Rattle.sa_trace.specs.Losses.{losses_text}
 use Rattle.sa_cli.proofs.TracePieces.{all-ends}
-use Rattle.sa_cli.proofs.VpPieces.{both-out, second-cut, first-cut}
+use Rattle.sa_cli.proofs.Sessions.{first-cut}
+use Rattle.sa_cli.proofs.VpPieces.{both-out, second-cut}
 use Rattle.sa_cli.proofs.vp.write_text.Goals as goal
 
 pub returns-in_err-put_run-clause-err : goal.returns-in_err-put_run-clause-err
@@ -22,7 +23,8 @@ returns-in_err-put-clause-err g c =
     let line : c.as_slice.result.now ≡ losses_text ended.lost.items = search rules in
     let one : GoesOut (g.K.Sink.taken c.args.sink.now) (g.K.Sink.taken c.put_run.new.sink) [] trace c.put_run.new.pieces = search rules in
     on_err c.from_residual-in_err-put.result
-    (second-cut (g.K.Sink.taken c.args.sink.now) (g.K.Sink.taken c.put_run.new.sink) (g.K.Sink.taken c.put.new.sink) trace c.put_run.new.pieces (losses_text ended.lost.items)
+    (second-cut (g.K.Sink.taken c.args.sink.now) (g.K.Sink.taken c.put_run.new.sink) (g.K.Sink.taken c.put.new.sink) trace c.put_run.new.pieces
+    (losses_text ended.lost.items)
     c.as_slice.result.now line one c.in_err-put.ensures.err)
 
 pub returns-clause-ok : goal.returns-clause-ok
@@ -31,9 +33,11 @@ returns-clause-ok g c =
     let trace = trace_text ended.trace.items ended.end ended.events in
     let line : c.as_slice.result.now ≡ losses_text ended.lost.items = search rules in
     let one : GoesOut (g.K.Sink.taken c.args.sink.now) (g.K.Sink.taken c.put_run.new.sink) [] trace c.put_run.new.pieces = search rules in
-    let both = both-out (g.K.Sink.taken c.args.sink.now) (g.K.Sink.taken c.put_run.new.sink) (g.K.Sink.taken c.put.new.sink) trace c.put_run.new.pieces (losses_text ended.lost.items)
+    let both = both-out (g.K.Sink.taken c.args.sink.now) (g.K.Sink.taken c.put_run.new.sink) (g.K.Sink.taken c.put.new.sink) trace c.put_run.new.pieces
+    (losses_text ended.lost.items)
     c.put.new.self c.as_slice.result.now line one c.in_ok-put.ensures.ok in
-    (all-ends (g.K.Sink.taken c.args.sink.now) (g.K.Sink.taken c.put.new.sink) (g.K.Sink.taken c.end.new.sink) (trace ++ losses_text ended.lost.items) c.put.new.self c.end.result
+    (all-ends (g.K.Sink.taken c.args.sink.now) (g.K.Sink.taken c.put.new.sink) (g.K.Sink.taken c.end.new.sink)
+    (trace ++ losses_text ended.lost.items) c.put.new.self c.end.result
     both c.end.ensures.ok c.end.ensures.err).0
 
 pub returns-clause-err : goal.returns-clause-err
@@ -42,7 +46,9 @@ returns-clause-err g c =
     let trace = trace_text ended.trace.items ended.end ended.events in
     let line : c.as_slice.result.now ≡ losses_text ended.lost.items = search rules in
     let one : GoesOut (g.K.Sink.taken c.args.sink.now) (g.K.Sink.taken c.put_run.new.sink) [] trace c.put_run.new.pieces = search rules in
-    let both = both-out (g.K.Sink.taken c.args.sink.now) (g.K.Sink.taken c.put_run.new.sink) (g.K.Sink.taken c.put.new.sink) trace c.put_run.new.pieces (losses_text ended.lost.items)
+    let both = both-out (g.K.Sink.taken c.args.sink.now) (g.K.Sink.taken c.put_run.new.sink) (g.K.Sink.taken c.put.new.sink) trace c.put_run.new.pieces
+    (losses_text ended.lost.items)
     c.put.new.self c.as_slice.result.now line one c.in_ok-put.ensures.ok in
-    (all-ends (g.K.Sink.taken c.args.sink.now) (g.K.Sink.taken c.put.new.sink) (g.K.Sink.taken c.end.new.sink) (trace ++ losses_text ended.lost.items) c.put.new.self c.end.result
+    (all-ends (g.K.Sink.taken c.args.sink.now) (g.K.Sink.taken c.put.new.sink) (g.K.Sink.taken c.end.new.sink)
+    (trace ++ losses_text ended.lost.items) c.put.new.self c.end.result
     both c.end.ensures.ok c.end.ensures.err).1

@@ -19,7 +19,8 @@ loop-command-preserved c = record {
   budget = c.command.ensures.budget ∙ c.loop-command.invariant.budget;
   workload = c.command.ensures.workload ∙ c.loop-command.invariant.workload;
   done = done-more c.args.debugged.now.core.budget c.loop-command.debugged.core.budget c.args.commands.now c.loop-command.command-index _
-      (session c.args.debugged.now) (session c.loop-command.debugged) (session c.command.new.self) c.loop-command.text.items c.print_reply.new.out.items c.in_ok-reply.reply
+      (session c.args.debugged.now) (session c.loop-command.debugged)
+      (session c.command.new.self) c.loop-command.text.items c.print_reply.new.out.items c.in_ok-reply.reply
       c.loop-command.invariant.budget c.loop-command-test.true c.loop-command.invariant.done c.in_ok-reply.ensures.ok c.in_ok-print_reply.ensures.ok;
 }
 

@@ -4,7 +4,7 @@ use Rattle.sa_debug.specs.OverMachines.{session}
 use Rattle.sa_debug_run.specs.Debugged.{AreDone}
 use Rattle.sa_debug_run.proofs.replies.do_all.Given as goal
 
--- so many commands are done
+-- the commands so far are done
 abbrev pub invariant-loop-command : goal.invariant-loop-command
 invariant-loop-command l = record {
   budget : l.debugged.core.budget ≡ l.initial.debugged.core.budget;

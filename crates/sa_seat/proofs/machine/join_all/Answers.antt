@@ -15,7 +15,8 @@ loop-seat-preserved g c =
     let size = c.requires.seats.0 in
     let lanes = c.requires.lanes in
     let few = c.requires.processors in
-    join-next c.args.seats.items old.seats.items c.pop.new.self.items s c.args.keeper.now old.keeper c.join.new.self old.turns (slice_set old.turns c.proc.result.0 c.account.result.count) 16
+    join-next c.args.seats.items old.seats.items c.pop.new.self.items s c.args.keeper.now old.keeper c.join.new.self old.turns
+    (slice_set old.turns c.proc.result.0 c.account.result.count) 16
     old.invariant c.in-Some.ensures.items (omega (arith, size, lanes)) (omega (arith, size, few)) c.requires.seats.1
     (c.join.ensures ∙ ap (λ (q : PollerSeen). with_poller q old.keeper) same)
     (ap (λ (q : ProcNo). slice_set old.turns q.0 c.account.result.count) proc ∙ ap (λ (a : Account). slice_set old.turns s.poller.proc.0 a.count) account)

@@ -12,8 +12,10 @@ of-requires-clause-table g c =
     let inv = c.loop-seats.invariant in
     let some : 0 < vec_len c.loop-seats.pollers = not-empty (vec_len c.loop-seats.pollers) c.is_empty.result c.is_empty.ensures c.loop-seats-test.true in
     let pos : 0 < length c.loop-seats.pollers.items = omega (arith, some, c.loop-seats.pollers.ok.0) in
-    let next = next-poller c.args.pollers.items c.loop-seats.pollers.items c.remove.new.self.items n c.remove.result inv.rest pos c.remove.ensures.value c.remove.ensures.items in
-    let is = fresh-at g.K.Named.table g.K.Named.workload.processors n c.remove.result (ap (λ (l : List PollerSeen). slice_get l n) (sym c.requires) ∙ next.at) in
+    let next = next-poller c.args.pollers.items c.loop-seats.pollers.items c.remove.new.self.items n c.remove.result inv.rest pos c.remove.ensures.value
+    c.remove.ensures.items in
+    let is = fresh-at g.K.Named.table g.K.Named.workload.processors n c.remove.result
+    (ap (λ (l : List PollerSeen). slice_get l n) (sym c.requires) ∙ next.at) in
     ap (λ (q : PollerSeen). q.table) is.0
 
 pub of-requires-clause-processor : goal.of-requires-clause-processor
@@ -22,8 +24,10 @@ of-requires-clause-processor g c =
     let inv = c.loop-seats.invariant in
     let some : 0 < vec_len c.loop-seats.pollers = not-empty (vec_len c.loop-seats.pollers) c.is_empty.result c.is_empty.ensures c.loop-seats-test.true in
     let pos : 0 < length c.loop-seats.pollers.items = omega (arith, some, c.loop-seats.pollers.ok.0) in
-    let next = next-poller c.args.pollers.items c.loop-seats.pollers.items c.remove.new.self.items n c.remove.result inv.rest pos c.remove.ensures.value c.remove.ensures.items in
-    let is = fresh-at g.K.Named.table g.K.Named.workload.processors n c.remove.result (ap (λ (l : List PollerSeen). slice_get l n) (sym c.requires) ∙ next.at) in
+    let next = next-poller c.args.pollers.items c.loop-seats.pollers.items c.remove.new.self.items n c.remove.result inv.rest pos c.remove.ensures.value
+    c.remove.ensures.items in
+    let is = fresh-at g.K.Named.table g.K.Named.workload.processors n c.remove.result
+    (ap (λ (l : List PollerSeen). slice_get l n) (sym c.requires) ∙ next.at) in
     subst (λ (q : PollerSeen). q.proc.0 < g.K.Named.workload.processors) (sym is.0) is.1
 
 pub loop-seats-preserved : goal.loop-seats-preserved
@@ -32,9 +36,12 @@ loop-seats-preserved g c =
     let inv = c.loop-seats.invariant in
     let some : 0 < vec_len c.loop-seats.pollers = not-empty (vec_len c.loop-seats.pollers) c.is_empty.result c.is_empty.ensures c.loop-seats-test.true in
     let pos : 0 < length c.loop-seats.pollers.items = omega (arith, some, c.loop-seats.pollers.ok.0) in
-    let next = next-poller c.args.pollers.items c.loop-seats.pollers.items c.remove.new.self.items n c.remove.result inv.rest pos c.remove.ensures.value c.remove.ensures.items in
-    let is = fresh-at g.K.Named.table g.K.Named.workload.processors n c.remove.result (ap (λ (l : List PollerSeen). slice_get l n) (sym c.requires) ∙ next.at) in
-    let grown : length c.push.new.self.items ≡ n + 1 = ap (λ (l : List SeatView). length l) c.in_ok-push.ensures.items ∙ length-append c.loop-seats.seats.items (c.of.result ∷ []) in
+    let next = next-poller c.args.pollers.items c.loop-seats.pollers.items c.remove.new.self.items n c.remove.result inv.rest pos c.remove.ensures.value
+    c.remove.ensures.items in
+    let is = fresh-at g.K.Named.table g.K.Named.workload.processors n c.remove.result
+    (ap (λ (l : List PollerSeen). slice_get l n) (sym c.requires) ∙ next.at) in
+    let grown : length c.push.new.self.items ≡ n + 1 =
+    ap (λ (l : List SeatView). length l) c.in_ok-push.ensures.items ∙ length-append c.loop-seats.seats.items (c.of.result ∷ []) in
     record {
       rest = next.rest_is ∙ ap (λ (k : ℕ). drop k c.args.pollers.items) (sym grown);
       within = (let z = next.within in omega (arith, grown, z));

@@ -18,7 +18,8 @@ push_back-requires-clause-free c =
     let i = c.loop-number.number-index in
     let inside : 0 < length c.args.links.now.lists = omega (arith, c.requires.list) in
     let below : i < length xs = omega (arith, c.loop-number-test.true) in
-    subst (λ (l : Lists). IsFree l (get_or xs i 0)) (sym c.loop-number.invariant) (free c.args.links.now 0 xs inside i (get_or xs i 0) below refl (c.requires.once (get_or xs i 0)))
+    subst (λ (l : Lists). IsFree l (get_or xs i 0)) (sym c.loop-number.invariant)
+    (free c.args.links.now 0 xs inside i (get_or xs i 0) below refl (c.requires.once (get_or xs i 0)))
 
 pub loop-number-preserved : goal.loop-number-preserved
 loop-number-preserved c =
@@ -26,4 +27,5 @@ loop-number-preserved c =
     let i = c.loop-number.number-index in
     let inside : 0 < length c.args.links.now.lists = omega (arith, c.requires.list) in
     let below : i < length xs = omega (arith, c.loop-number-test.true) in
-    c.push_back.ensures ∙ ap (λ (l : Lists). with_list l 0 (list_at l.lists 0 ++ get_or xs i 0 ∷ [])) c.loop-number.invariant ∙ more c.args.links.now 0 xs inside i (get_or xs i 0) below refl
+    c.push_back.ensures ∙ ap (λ (l : Lists). with_list l 0 (list_at l.lists 0 ++ get_or xs i 0 ∷ [])) c.loop-number.invariant
+    ∙ more c.args.links.now 0 xs inside i (get_or xs i 0) below refl

@@ -31,4 +31,5 @@ loop-t-preserved c =
     let below : i < length (numbers ts) = omega (arith, c.loop-t-test.true, numbers_many ts) in
     let at : u ≡ get_or (numbers ts) i 0 = c.from-in-loop-t.ensures ∙ sym (numbers_at ts i (record { 0 = 0 }) (c.loop-t-test.true)) in
     c.push_back.ensures ∙ ap (λ (k : ℕ). with_list c.loop-t.links k (list_at c.loop-t.links.lists k ++ u ∷ [])) c.from.ensures
-    ∙ ap (λ (l : Lists). with_list l c.args.l.0 (list_at l.lists c.args.l.0 ++ u ∷ [])) c.loop-t.invariant ∙ more c.args.links.now c.args.l.0 (numbers ts) c.requires.list i u below at
+    ∙ ap (λ (l : Lists). with_list l c.args.l.0 (list_at l.lists c.args.l.0 ++ u ∷ [])) c.loop-t.invariant
+    ∙ more c.args.links.now c.args.l.0 (numbers ts) c.requires.list i u below at

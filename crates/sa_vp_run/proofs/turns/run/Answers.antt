@@ -51,13 +51,15 @@ loop-end-preserved c =
     let more : c.turn.new.self.board.number - 1 ≡ n + 1 = omega (arith, c.in-Ok-turn.ensures.number, inv.some) in
     record {
       some = omega (arith, c.in-Ok-turn.ensures.number);
-      board = c.in-Ok-turn.ensures.ok ∙ one-more w order n v.board c.loop-end.schedule c.next.result c.turns_are_in_order.ensures some inv.schedule c.next.ensures.processor inv.board
+      board = c.in-Ok-turn.ensures.ok
+          ∙ one-more w order n v.board c.loop-end.schedule c.next.result c.turns_are_in_order.ensures some inv.schedule c.next.ensures.processor inv.board
           ∙ sym (ap (board_at w order) more);
       goes_on = λ k below. elim (cases_lt k n) [
         | inl before ↦ inv.goes_on k before
         | inr past ↦
             let is : k ≡ n = omega (arith, past, below, more) in
-            ap (λ j. end_of c.args.budget (board_at w order j)) is ∙ ap (end_of c.args.budget) (sym inv.board) ∙ ap (λ b. end_of b v.board) (sym inv.budget) ∙ none
+            ap (λ j. end_of c.args.budget (board_at w order j)) is ∙ ap (end_of c.args.budget) (sym inv.board)
+            ∙ ap (λ b. end_of b v.board) (sym inv.budget) ∙ none
       ];
       among = λ k below. elim (cases_lt k n) [
         | inl before ↦ inv.among k before
@@ -67,7 +69,8 @@ loop-end-preserved c =
             let here = ap (λ j. processor_at order w.processors (j + 1)) is in
             omega (arith, here, at, c.next.ensures.among, inv.processors)
       ];
-      schedule = schedule-more order w.processors n c.loop-end.schedule c.next.new.self inv.schedule c.next.ensures.turned ∙ sym (ap (turned_often (start order w.processors)) more);
+      schedule = schedule-more order w.processors n c.loop-end.schedule c.next.new.self inv.schedule c.next.ensures.turned
+          ∙ sym (ap (turned_often (start order w.processors)) more);
       processors = ap (λ (s : Turns). s.processors) c.next.ensures.turned ∙ inv.processors;
       workload = c.in-Ok-turn.ensures.workload ∙ inv.workload;
       budget = c.in-Ok-turn.ensures.budget ∙ inv.budget;
@@ -80,8 +83,10 @@ returns-in-Some-clause-ok c =
     let inv = c.loop-end.invariant in
     let v = c.loop-end.vp in
     let n = v.board.number - 1 in
-    ended-as w c.ranges-2.ensures (order_of c.args.kind) n (omega (arith, inv.within, c.requires.few)) inv.among c.args.budget v.board inv.board (omega (arith, inv.within)) inv.goes_on
-    c.in-Some.end _ c.events-events.result _ (ap (λ b. end_of b v.board) (sym inv.budget) ∙ sym c.end.ensures ∙ c.in-Some.is) c.into_losses-trace.ensures.trace (omega (arith, c.events-events.ensures)) c.into_losses-trace.ensures.lost
+    ended-as w c.ranges-2.ensures (order_of c.args.kind) n (omega (arith, inv.within, c.requires.few)) inv.among c.args.budget v.board inv.board
+    (omega (arith, inv.within)) inv.goes_on
+    c.in-Some.end _ c.events-events.result _ (ap (λ b. end_of b v.board) (sym inv.budget) ∙ sym c.end.ensures
+    ∙ c.in-Some.is) c.into_losses-trace.ensures.trace (omega (arith, c.events-events.ensures)) c.into_losses-trace.ensures.lost
 
 pub returns-in_default-turn-clause-err : goal.returns-in_default-turn-clause-err
 returns-in_default-turn-clause-err c =
@@ -89,5 +94,6 @@ returns-in_default-turn-clause-err c =
     let inv = c.loop-end.invariant in
     let v = c.loop-end.vp in
     let n = v.board.number - 1 in
-    inr (so-far-as w c.ranges-2.ensures (order_of c.args.kind) n (omega (arith, inv.within, c.requires.few)) inv.among c.args.budget v.board inv.board (omega (arith, inv.within)) inv.goes_on
+    inr (so-far-as w c.ranges-2.ensures (order_of c.args.kind) n (omega (arith, inv.within, c.requires.few)) inv.among c.args.budget v.board inv.board
+    (omega (arith, inv.within)) inv.goes_on
     _ (c.into_trace.ensures ∙ ap (λ (u : VpView). u.board.items) c.in_default-turn.ensures.err.1))

@@ -6,7 +6,7 @@ use Rattle.sa_vp_model.specs.End.{end_of}
 use Rattle.sa_vp_run.proofs.Chain.{board_at}
 use Rattle.sa_vp_run.proofs.turns.run.Given as goal
 
--- so many turns were made
+-- the turns so far were made
 abbrev pub invariant-loop-end : goal.invariant-loop-end
 invariant-loop-end l = record {
   some : 1 ≤ l.vp.board.number;

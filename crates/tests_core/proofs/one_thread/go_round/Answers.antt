@@ -15,7 +15,8 @@ loop-done-preserved c =
       spare = omega (arith, longer, c.say.ensures.room.same, inv.spare);
       items =
           ap (λ xs. xs ++ items_from next a.seen.now.proc (replicate (a.n - (done + 1)) r)) c.say.ensures.items
-          ∙ items-more c.round.result r a.seen.now.proc a.n done (a.seen.now.event + c.from.result) next c.loop-done.trace.items c.round.ensures c.loop-done-test.true here
+          ∙ items-more c.round.result r a.seen.now.proc a.n done
+          (a.seen.now.event + c.from.result) next c.loop-done.trace.items c.round.ensures c.loop-done-test.true here
           ∙ ap (λ k. c.loop-done.trace.items ++ items_from (a.seen.now.event + k) a.seen.now.proc (replicate (a.n - done) r)) c.from.ensures
           ∙ inv.items;
     }

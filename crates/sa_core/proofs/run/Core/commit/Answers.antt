@@ -9,10 +9,12 @@ commit-requires-clause-can g c =
     λ κs i. let keep = (g.met.U.UserLevel g.world.𝓛 g.world.𝓜 g.world.𝓡 ((λ s x. x), (λ x. x), (λ x. x), λ x. x)).keeps in
     let f = g.U.UserLevel.calls in
     let k = c.self.inside in
-    let is = ready f g.U.UserLevel.stands k.machine c.make_room.new.self c.args.self.now k.budget k.spare c.self.view_is c.make_room.ensures.machine c.make_room.ensures.budget
+    let is = ready f g.U.UserLevel.stands k.machine c.make_room.new.self c.args.self.now k.budget k.spare c.self.view_is c.make_room.ensures.machine
+    c.make_room.ensures.budget
     c.requires.goes_on c.self.invariant in
     let are = are-left k.budget (machine_of k.machine) c.args.n c.requires.some is.left in
-    next-go f g.U.UserLevel.stands keep k.machine c.args.self.now k.budget k.spare c.args.n c.committable-made.result c.args.p is c.self.invariant c.requires.next
+    next-go f g.U.UserLevel.stands keep k.machine c.args.self.now k.budget k.spare c.args.n c.committable-made.result c.args.p is c.self.invariant
+    c.requires.next
     (rw c.committable-made.ensures are.few)
 
 pub invariant_of-self : goal.invariant_of-self
@@ -20,7 +22,8 @@ invariant_of-self g c =
     let keep = (g.met.U.UserLevel g.world.𝓛 g.world.𝓜 g.world.𝓡 ((λ s x. x), (λ x. x), (λ x. x), λ x. x)).keeps in
     let f = g.U.UserLevel.calls in
     let k = c.self.inside in
-    let is = ready f g.U.UserLevel.stands k.machine c.make_room.new.self c.args.self.now k.budget k.spare c.self.view_is c.make_room.ensures.machine c.make_room.ensures.budget
+    let is = ready f g.U.UserLevel.stands k.machine c.make_room.new.self c.args.self.now k.budget k.spare c.self.view_is c.make_room.ensures.machine
+    c.make_room.ensures.budget
     c.requires.goes_on c.self.invariant in
     let are = are-left k.budget (machine_of k.machine) c.args.n c.requires.some is.left in
     let made = c.committable-made.result in
@@ -30,7 +33,8 @@ invariant_of-self g c =
     let spare = ap (λ (v : CoreView g.row.U.Denot g.row.U-Ctx.Denot). v.spare) c.self.view_is in
     let room = c.in_ok-make_room.ensures.ok in
     let can = next-go f g.U.UserLevel.stands keep k.machine c.args.self.now k.budget k.spare c.args.n made c.args.p is c.self.invariant c.requires.next few in
-    rw c.from-2.ensures (kept-commit f g.U.UserLevel.stands keep k.machine c.commit.new.self c.args.p made k.budget k.spare c.self.invariant c.commit.ensures.machine c.commit.ensures.spends
+    rw c.from-2.ensures (kept-commit f g.U.UserLevel.stands keep k.machine c.commit.new.self c.args.p made k.budget k.spare c.self.invariant
+    c.commit.ensures.machine c.commit.ensures.spends
     some (omega (arith, few, spare, room, c.from.ensures)) (omega (arith, within, is.left)) can).kept
 
 pub returns-clause-workload : goal.returns-clause-workload
@@ -38,7 +42,8 @@ returns-clause-workload g c =
     let keep = (g.met.U.UserLevel g.world.𝓛 g.world.𝓜 g.world.𝓡 ((λ s x. x), (λ x. x), (λ x. x), λ x. x)).keeps in
     let f = g.U.UserLevel.calls in
     let k = c.self.inside in
-    let is = ready f g.U.UserLevel.stands k.machine c.make_room.new.self c.args.self.now k.budget k.spare c.self.view_is c.make_room.ensures.machine c.make_room.ensures.budget
+    let is = ready f g.U.UserLevel.stands k.machine c.make_room.new.self c.args.self.now k.budget k.spare c.self.view_is c.make_room.ensures.machine
+    c.make_room.ensures.budget
     c.requires.goes_on c.self.invariant in
     let are = are-left k.budget (machine_of k.machine) c.args.n c.requires.some is.left in
     let made = c.committable-made.result in
@@ -48,6 +53,7 @@ returns-clause-workload g c =
     let spare = ap (λ (v : CoreView g.row.U.Denot g.row.U-Ctx.Denot). v.spare) c.self.view_is in
     let room = c.in_ok-make_room.ensures.ok in
     let can = next-go f g.U.UserLevel.stands keep k.machine c.args.self.now k.budget k.spare c.args.n made c.args.p is c.self.invariant c.requires.next few in
-    (kept-commit f g.U.UserLevel.stands keep k.machine c.commit.new.self c.args.p made k.budget k.spare c.self.invariant c.commit.ensures.machine c.commit.ensures.spends
+    (kept-commit f g.U.UserLevel.stands keep k.machine c.commit.new.self c.args.p made k.budget k.spare c.self.invariant c.commit.ensures.machine
+    c.commit.ensures.spends
     some (omega (arith, few, spare, room, c.from.ensures)) (omega (arith, within, is.left)) can).workload
     ∙ ap (λ (z : Machine g.row.U.Denot g.row.U-Ctx.Denot). z.workload) is.same

@@ -10,12 +10,14 @@ invariant_of-self g c =
     let keep = (g.met.U.UserLevel g.world.𝓛 g.world.𝓜 g.world.𝓡 ((λ s x. x), (λ x. x), (λ x. x), λ x. x)).keeps in
     let f = g.U.UserLevel.calls in
     let k = c.self.inside in
-    let is = ready f g.U.UserLevel.stands k.machine c.make_room.new.self c.args.self.now k.budget k.spare c.self.view_is c.make_room.ensures.machine c.make_room.ensures.budget
+    let is = ready f g.U.UserLevel.stands k.machine c.make_room.new.self c.args.self.now k.budget k.spare c.self.view_is c.make_room.ensures.machine
+    c.make_room.ensures.budget
     c.requires.goes_on c.self.invariant in
     let within = subst (λ (z : Machine g.row.U.Denot g.row.U-Ctx.Denot). c.args.p.0 < z.workload.processors) (sym is.same) c.requires.within in
     let spare = ap (λ (v : CoreView g.row.U.Denot g.row.U-Ctx.Denot). v.spare) c.self.view_is in
     let room = c.in_ok-make_room.ensures.ok in
-    let done = kept-turn f g.U.UserLevel.stands keep k.machine c.turn.new.self c.args.p k.budget k.spare c.self.invariant c.turn.ensures.machine c.turn.ensures.spends within is.left
+    let done = kept-turn f g.U.UserLevel.stands keep k.machine c.turn.new.self c.args.p k.budget k.spare c.self.invariant c.turn.ensures.machine
+    c.turn.ensures.spends within is.left
     (omega (arith, spare, room)) in
     done.kept
 
@@ -24,12 +26,14 @@ returns-clause-ok g c =
     let keep = (g.met.U.UserLevel g.world.𝓛 g.world.𝓜 g.world.𝓡 ((λ s x. x), (λ x. x), (λ x. x), λ x. x)).keeps in
     let f = g.U.UserLevel.calls in
     let k = c.self.inside in
-    let is = ready f g.U.UserLevel.stands k.machine c.make_room.new.self c.args.self.now k.budget k.spare c.self.view_is c.make_room.ensures.machine c.make_room.ensures.budget
+    let is = ready f g.U.UserLevel.stands k.machine c.make_room.new.self c.args.self.now k.budget k.spare c.self.view_is c.make_room.ensures.machine
+    c.make_room.ensures.budget
     c.requires.goes_on c.self.invariant in
     let within = subst (λ (z : Machine g.row.U.Denot g.row.U-Ctx.Denot). c.args.p.0 < z.workload.processors) (sym is.same) c.requires.within in
     let spare = ap (λ (v : CoreView g.row.U.Denot g.row.U-Ctx.Denot). v.spare) c.self.view_is in
     let room = c.in_ok-make_room.ensures.ok in
-    let done = kept-turn f g.U.UserLevel.stands keep k.machine c.turn.new.self c.args.p k.budget k.spare c.self.invariant c.turn.ensures.machine c.turn.ensures.spends within is.left
+    let done = kept-turn f g.U.UserLevel.stands keep k.machine c.turn.new.self c.args.p k.budget k.spare c.self.invariant c.turn.ensures.machine
+    c.turn.ensures.spends within is.left
     (omega (arith, spare, room)) in
     subst (λ (z : Machine g.row.U.Denot g.row.U-Ctx.Denot). IsTurn f z c.args.p (machine_of c.turn.new.self)) is.same done.turn
 
@@ -38,12 +42,14 @@ returns-clause-event g c =
     let keep = (g.met.U.UserLevel g.world.𝓛 g.world.𝓜 g.world.𝓡 ((λ s x. x), (λ x. x), (λ x. x), λ x. x)).keeps in
     let f = g.U.UserLevel.calls in
     let k = c.self.inside in
-    let is = ready f g.U.UserLevel.stands k.machine c.make_room.new.self c.args.self.now k.budget k.spare c.self.view_is c.make_room.ensures.machine c.make_room.ensures.budget
+    let is = ready f g.U.UserLevel.stands k.machine c.make_room.new.self c.args.self.now k.budget k.spare c.self.view_is c.make_room.ensures.machine
+    c.make_room.ensures.budget
     c.requires.goes_on c.self.invariant in
     let within = subst (λ (z : Machine g.row.U.Denot g.row.U-Ctx.Denot). c.args.p.0 < z.workload.processors) (sym is.same) c.requires.within in
     let spare = ap (λ (v : CoreView g.row.U.Denot g.row.U-Ctx.Denot). v.spare) c.self.view_is in
     let room = c.in_ok-make_room.ensures.ok in
-    let done = kept-turn f g.U.UserLevel.stands keep k.machine c.turn.new.self c.args.p k.budget k.spare c.self.invariant c.turn.ensures.machine c.turn.ensures.spends within is.left
+    let done = kept-turn f g.U.UserLevel.stands keep k.machine c.turn.new.self c.args.p k.budget k.spare c.self.invariant c.turn.ensures.machine
+    c.turn.ensures.spends within is.left
     (omega (arith, spare, room)) in
     done.event ∙ ap (λ (z : Machine g.row.U.Denot g.row.U-Ctx.Denot). z.event + 1) is.same
 
@@ -52,11 +58,13 @@ returns-clause-workload g c =
     let keep = (g.met.U.UserLevel g.world.𝓛 g.world.𝓜 g.world.𝓡 ((λ s x. x), (λ x. x), (λ x. x), λ x. x)).keeps in
     let f = g.U.UserLevel.calls in
     let k = c.self.inside in
-    let is = ready f g.U.UserLevel.stands k.machine c.make_room.new.self c.args.self.now k.budget k.spare c.self.view_is c.make_room.ensures.machine c.make_room.ensures.budget
+    let is = ready f g.U.UserLevel.stands k.machine c.make_room.new.self c.args.self.now k.budget k.spare c.self.view_is c.make_room.ensures.machine
+    c.make_room.ensures.budget
     c.requires.goes_on c.self.invariant in
     let within = subst (λ (z : Machine g.row.U.Denot g.row.U-Ctx.Denot). c.args.p.0 < z.workload.processors) (sym is.same) c.requires.within in
     let spare = ap (λ (v : CoreView g.row.U.Denot g.row.U-Ctx.Denot). v.spare) c.self.view_is in
     let room = c.in_ok-make_room.ensures.ok in
-    let done = kept-turn f g.U.UserLevel.stands keep k.machine c.turn.new.self c.args.p k.budget k.spare c.self.invariant c.turn.ensures.machine c.turn.ensures.spends within is.left
+    let done = kept-turn f g.U.UserLevel.stands keep k.machine c.turn.new.self c.args.p k.budget k.spare c.self.invariant c.turn.ensures.machine
+    c.turn.ensures.spends within is.left
     (omega (arith, spare, room)) in
     done.workload ∙ ap (λ (z : Machine g.row.U.Denot g.row.U-Ctx.Denot). z.workload) is.same

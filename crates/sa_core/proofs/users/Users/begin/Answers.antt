@@ -10,10 +10,14 @@ after-self-inside-requires-clause-few g c =
 
 pub returns-clause-user : goal.returns-clause-user
 returns-clause-user g c = λ u at.
-    let is = user-is c.self.inside.levels.items c.args.self.now c.args.s.0 c.from.result c.index_mut-level.result.now u c.self.view_is c.from.ensures c.index_mut-level.ensures.value c.requires.within at in
-    set-by c.self.inside.levels.items c.args.self.now c.args.s.0 c.from.result c.index_mut-level.result.now u (λ (w : g.row.U.Denot). (g.U.UserLevel.calls.begun w c.args.seen.now).0) c.begin-ctx.new.self c.self.view_is c.from.ensures is (ap (λ (z : g.row.U.Denot × g.row.U-Ctx.Denot). z.0) c.begin-ctx.ensures)
+    let is = user-is c.self.inside.levels.items c.args.self.now c.args.s.0 c.from.result c.index_mut-level.result.now u c.self.view_is c.from.ensures
+    c.index_mut-level.ensures.value c.requires.within at in
+    set-by c.self.inside.levels.items c.args.self.now c.args.s.0 c.from.result c.index_mut-level.result.now u
+    (λ (w : g.row.U.Denot). (g.U.UserLevel.calls.begun w c.args.seen.now).0) c.begin-ctx.new.self c.self.view_is c.from.ensures is
+    (ap (λ (z : g.row.U.Denot × g.row.U-Ctx.Denot). z.0) c.begin-ctx.ensures)
 
 pub returns-clause-ctx : goal.returns-clause-ctx
 returns-clause-ctx g c = λ u at.
-    let is = user-is c.self.inside.levels.items c.args.self.now c.args.s.0 c.from.result c.index_mut-level.result.now u c.self.view_is c.from.ensures c.index_mut-level.ensures.value c.requires.within at in
+    let is = user-is c.self.inside.levels.items c.args.self.now c.args.s.0 c.from.result c.index_mut-level.result.now u c.self.view_is c.from.ensures
+    c.index_mut-level.ensures.value c.requires.within at in
     ap (λ (z : g.row.U.Denot × g.row.U-Ctx.Denot). z.1) c.begin-ctx.ensures ∙ ap (λ (w : g.row.U.Denot). (g.U.UserLevel.calls.begun w c.args.seen.now).1) is

@@ -11,25 +11,35 @@ after-self-inside-requires-clause-few g c =
 
 pub returns-clause-user : goal.returns-clause-user
 returns-clause-user g c = λ u at.
-    let is = user-is c.self.inside.levels.items c.args.self.now c.args.s.0 c.from.result c.index_mut-level.result.now u c.self.view_is c.from.ensures c.index_mut-level.ensures.value c.requires.within at in
-    set-by c.self.inside.levels.items c.args.self.now c.args.s.0 c.from.result c.index_mut-level.result.now u (λ (w : g.row.U.Denot). (g.U.UserLevel.calls.stepped w c.args.seen.now c.args.ctx.now).user) c.step-asked.new.self c.self.view_is c.from.ensures is c.step-asked.ensures.user
+    let is = user-is c.self.inside.levels.items c.args.self.now c.args.s.0 c.from.result c.index_mut-level.result.now u c.self.view_is c.from.ensures
+    c.index_mut-level.ensures.value c.requires.within at in
+    set-by c.self.inside.levels.items c.args.self.now c.args.s.0 c.from.result c.index_mut-level.result.now u
+    (λ (w : g.row.U.Denot). (g.U.UserLevel.calls.stepped w c.args.seen.now c.args.ctx.now).user) c.step-asked.new.self c.self.view_is c.from.ensures is
+    c.step-asked.ensures.user
 
 pub returns-clause-ctx : goal.returns-clause-ctx
 returns-clause-ctx g c = λ u at.
-    let is = user-is c.self.inside.levels.items c.args.self.now c.args.s.0 c.from.result c.index_mut-level.result.now u c.self.view_is c.from.ensures c.index_mut-level.ensures.value c.requires.within at in
+    let is = user-is c.self.inside.levels.items c.args.self.now c.args.s.0 c.from.result c.index_mut-level.result.now u c.self.view_is c.from.ensures
+    c.index_mut-level.ensures.value c.requires.within at in
     c.step-asked.ensures.ctx ∙ ap (λ (w : g.row.U.Denot). (g.U.UserLevel.calls.stepped w c.args.seen.now c.args.ctx.now).ctx) is
 
 pub returns-clause-answer : goal.returns-clause-answer
 returns-clause-answer g c = λ u at.
-    let is = user-is c.self.inside.levels.items c.args.self.now c.args.s.0 c.from.result c.index_mut-level.result.now u c.self.view_is c.from.ensures c.index_mut-level.ensures.value c.requires.within at in
+    let is = user-is c.self.inside.levels.items c.args.self.now c.args.s.0 c.from.result c.index_mut-level.result.now u c.self.view_is c.from.ensures
+    c.index_mut-level.ensures.value c.requires.within at in
     c.step-asked.ensures.answer ∙ ap (λ (w : g.row.U.Denot). (g.U.UserLevel.calls.stepped w c.args.seen.now c.args.ctx.now).answer) is
 
 pub returns-clause-items : goal.returns-clause-items
 returns-clause-items g c = λ u at.
-    let is = user-is c.self.inside.levels.items c.args.self.now c.args.s.0 c.from.result c.index_mut-level.result.now u c.self.view_is c.from.ensures c.index_mut-level.ensures.value c.requires.within at in
-    c.step-asked.ensures.items ∙ ap (λ (w : g.row.U.Denot). c.args.trace.now.items ++ items_at c.args.seen.now.event c.args.seen.now.proc (g.U.UserLevel.calls.stepped w c.args.seen.now c.args.ctx.now).says) is
+    let is = user-is c.self.inside.levels.items c.args.self.now c.args.s.0 c.from.result c.index_mut-level.result.now u c.self.view_is c.from.ensures
+    c.index_mut-level.ensures.value c.requires.within at in
+    c.step-asked.ensures.items ∙ ap
+    (λ (w : g.row.U.Denot). c.args.trace.now.items ++ items_at c.args.seen.now.event c.args.seen.now.proc
+    (g.U.UserLevel.calls.stepped w c.args.seen.now c.args.ctx.now).says) is
 
 pub returns-clause-spare : goal.returns-clause-spare
 returns-clause-spare g c = λ u at.
-    let is = user-is c.self.inside.levels.items c.args.self.now c.args.s.0 c.from.result c.index_mut-level.result.now u c.self.view_is c.from.ensures c.index_mut-level.ensures.value c.requires.within at in
-    ap (λ (w : g.row.U.Denot). c.step-asked.new.trace.spare + length (g.U.UserLevel.calls.stepped w c.args.seen.now c.args.ctx.now).says) (sym is) ∙ c.step-asked.ensures.spare
+    let is = user-is c.self.inside.levels.items c.args.self.now c.args.s.0 c.from.result c.index_mut-level.result.now u c.self.view_is c.from.ensures
+    c.index_mut-level.ensures.value c.requires.within at in
+    ap (λ (w : g.row.U.Denot). c.step-asked.new.trace.spare + length (g.U.UserLevel.calls.stepped w c.args.seen.now c.args.ctx.now).says) (sym is)
+    ∙ c.step-asked.ensures.spare

@@ -11,15 +11,21 @@ after-self-inside-requires-clause-few g c =
 
 pub returns-clause-user : goal.returns-clause-user
 returns-clause-user g c = λ u at.
-    let is = user-is c.self.inside.levels.items c.args.self.now c.args.s.0 c.from.result c.index_mut-level.result.now u c.self.view_is c.from.ensures c.index_mut-level.ensures.value c.requires.within at in
-    set-by c.self.inside.levels.items c.args.self.now c.args.s.0 c.from.result c.index_mut-level.result.now u (λ (w : g.row.U.Denot). (g.U.UserLevel.calls.went w c.args.seen.now c.args.ctx.now c.args.n).user) c.went.new.self c.self.view_is c.from.ensures is c.went.ensures.user
+    let is = user-is c.self.inside.levels.items c.args.self.now c.args.s.0 c.from.result c.index_mut-level.result.now u c.self.view_is c.from.ensures
+    c.index_mut-level.ensures.value c.requires.within at in
+    set-by c.self.inside.levels.items c.args.self.now c.args.s.0 c.from.result c.index_mut-level.result.now u
+    (λ (w : g.row.U.Denot). (g.U.UserLevel.calls.went w c.args.seen.now c.args.ctx.now c.args.n).user) c.went.new.self c.self.view_is c.from.ensures is
+    c.went.ensures.user
 
 pub returns-clause-ctx : goal.returns-clause-ctx
 returns-clause-ctx g c = λ u at.
-    let is = user-is c.self.inside.levels.items c.args.self.now c.args.s.0 c.from.result c.index_mut-level.result.now u c.self.view_is c.from.ensures c.index_mut-level.ensures.value c.requires.within at in
+    let is = user-is c.self.inside.levels.items c.args.self.now c.args.s.0 c.from.result c.index_mut-level.result.now u c.self.view_is c.from.ensures
+    c.index_mut-level.ensures.value c.requires.within at in
     c.went.ensures.ctx ∙ ap (λ (w : g.row.U.Denot). (g.U.UserLevel.calls.went w c.args.seen.now c.args.ctx.now c.args.n).ctx) is
 
 pub returns-clause-items : goal.returns-clause-items
 returns-clause-items g c = λ u at.
-    let is = user-is c.self.inside.levels.items c.args.self.now c.args.s.0 c.from.result c.index_mut-level.result.now u c.self.view_is c.from.ensures c.index_mut-level.ensures.value c.requires.within at in
-    c.went.ensures.items ∙ ap (λ (w : g.row.U.Denot). c.args.trace.now.items ++ items_from c.args.seen.now.event c.args.seen.now.proc (g.U.UserLevel.calls.went w c.args.seen.now c.args.ctx.now c.args.n).says) is
+    let is = user-is c.self.inside.levels.items c.args.self.now c.args.s.0 c.from.result c.index_mut-level.result.now u c.self.view_is c.from.ensures
+    c.index_mut-level.ensures.value c.requires.within at in
+    c.went.ensures.items ∙ ap (λ (w : g.row.U.Denot). c.args.trace.now.items ++ items_from c.args.seen.now.event c.args.seen.now.proc
+    (g.U.UserLevel.calls.went w c.args.seen.now c.args.ctx.now c.args.n).says) is

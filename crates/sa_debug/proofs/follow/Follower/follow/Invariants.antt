@@ -3,7 +3,7 @@ use Rattle.sa_laws.specs.State.{opening_state}
 use Rattle.sa_debug.specs.Views.{state_behind}
 use Rattle.sa_debug.proofs.follow.Follower.follow.Given as goal
 
--- the replay is behind the items that were taken
+-- the replay has come through the items that were taken
 abbrev pub invariant-loop-self : goal.invariant-loop-self
 invariant-loop-self l = record {
   workload : l.self-inside.replay.workload ≡ l.fn.self.workload;

@@ -61,7 +61,8 @@ loop-turn-preserved g c =
     subst (λ n. Turns (over_machines g.U.UserLevel.calls n) between c.in-Ok.p after) kept c.in_ok-turn-in-Ok.ensures.ok in
     record {
       budget = c.turn.ensures.budget ∙ kept;
-      workload = c.turn.ensures.workload ∙ ap (λ (v : CoreView g.row.U.Denot g.row.U-Ctx.Denot). (machine v).workload) c.in-Ok.ensures.core ∙ c.loop-turn.invariant.workload;
+      workload = c.turn.ensures.workload ∙ ap (λ (v : CoreView g.row.U.Denot g.row.U-Ctx.Denot). (machine v).workload) c.in-Ok.ensures.core
+          ∙ c.loop-turn.invariant.workload;
       runs = λ t reply runs. c.loop-turn.invariant.runs t reply
           (runs-on (over_machines g.U.UserLevel.calls c.args.self.now.core.budget) c.args.turns c.loop-turn._turn s between after t c.in-Ok.p reply
           c.loop-turn-test.true next c.in-Ok.ensures.next.1 turns runs);

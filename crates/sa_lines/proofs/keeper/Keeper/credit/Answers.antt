@@ -37,7 +37,8 @@ returns-clause-keeper g c =
     let word = c.proc-p.ensures.word in
     let inside : c.proc-p.result.0 < length (lanes_of seat.me.0) = omega (arith, size, words, words', word, same) in
     let known : lanes_of seat.me.0 ≡ c.args.self.now.lanes = ap (λ (k : KeeperSeen). k.lanes) c.self.view_is in
-    let view = credits seat.me.0 c.grant.new.seat.me.0 c.see_taken.new.seat.me.0 c.args.self.now.lanes p c.proc-p.result.0 c.number.result c.args.what same c.number.ensures known well.keeping well.quiet inside c.requires.what
+    let view = credits seat.me.0 c.grant.new.seat.me.0 c.see_taken.new.seat.me.0 c.args.self.now.lanes p c.proc-p.result.0 c.number.result c.args.what same
+    c.number.ensures known well.keeping well.quiet inside c.requires.what
     (ap (λ (m : View × List (ℕ × ℕ)). m.0) c.grant.ensures.granted) (ap (λ (m : View × List (ℕ × ℕ)). m.0) c.see_taken.ensures.cleared) in
     let table = c.see_taken.ensures.own ∙ c.grant.ensures.own ∙ ap (λ (k : KeeperSeen). k.table) c.self.view_is in
     let lanes = ap lanes_of view ∙ lanes_on seat.me.0 p (credited_lane c.args.what) ∙ ap (changed p (credited_lane c.args.what)) known in

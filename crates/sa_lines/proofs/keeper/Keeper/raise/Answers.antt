@@ -10,7 +10,8 @@ store-requires c =
     let table = c.words.inside.table.shared.table_id in
     let own : me.table_id ≡ table = ap (λ (k : KeeperSeen). k.table) c.self.view_is ∙ c.requires.own ∙ sym c.words.view_is in
     let lanes : lanes_of me.me.0 ≡ c.args.self.now.lanes = ap (λ (k : KeeperSeen). k.lanes) c.self.view_is in
-    let room : credit_word c.args.p.0 < table.words = words_inside me.table_id table me.me.0 c.args.self.now.lanes c.args.p.0 own lanes c.self.invariant.0 c.requires.processor in
+    let room : credit_word c.args.p.0 < table.words =
+    words_inside me.table_id table me.me.0 c.args.self.now.lanes c.args.p.0 own lanes c.self.invariant.0 c.requires.processor in
     let place = c.line_word.ensures in (
       own,
       omega (arith, room, place),

@@ -35,11 +35,15 @@ commit-requires-clause-next g c κs within =
     let h = c.self.inside in
     let p = c.args.seat.now.poller.proc in
     let n = c.pending.result in
-    let none : end_of f b (machine h.core) ≡ None = ap (λ (v : HeldView g.row.U.Denot g.row.U-Ctx.Denot). end_of f b (machine v.core)) c.self.view_is ∙ c.requires.goes_on in
-    let low : line_of (machine h.core).kernel p ≡ None = ap (λ (v : HeldView g.row.U.Denot g.row.U-Ctx.Denot). line_of (machine v.core).kernel p) c.self.view_is ∙ c.requires.low in
-    let start : local_on f (machine h.core) p ≡ c.args.seat.now.start = ap (λ (v : HeldView g.row.U.Denot g.row.U-Ctx.Denot). local_on f (machine v.core) p) c.self.view_is ∙ c.requires.start in
+    let none : end_of f b (machine h.core) ≡ None =
+    ap (λ (v : HeldView g.row.U.Denot g.row.U-Ctx.Denot). end_of f b (machine v.core)) c.self.view_is ∙ c.requires.goes_on in
+    let low : line_of (machine h.core).kernel p ≡ None =
+    ap (λ (v : HeldView g.row.U.Denot g.row.U-Ctx.Denot). line_of (machine v.core).kernel p) c.self.view_is ∙ c.requires.low in
+    let start : local_on f (machine h.core) p ≡ c.args.seat.now.start =
+    ap (λ (v : HeldView g.row.U.Denot g.row.U-Ctx.Denot). local_on f (machine v.core) p) c.self.view_is ∙ c.requires.start in
     let some : 0 < n = (let a = c.pending.ensures.pending in let d = c.requires.pending in omega (arith, a, d)) in
-    let next = can-next f g.U.UserLevel.stands keep w table b n h.core h.lines h.keeper p c.args.seat.now.start c.self.invariant some c.pending.ensures.local start in
+    let next = can-next f g.U.UserLevel.stands keep w table b n h.core h.lines h.keeper p c.args.seat.now.start c.self.invariant some
+    c.pending.ensures.local start in
     subst (λ (q : ProcNo). AreNextLocal (machine h.core).workload n (local_on f (machine h.core) q)) (sym c.proc.ensures.proc) next
 
 pub follow-requires-clause-follow : goal.follow-requires-clause-follow
@@ -52,15 +56,21 @@ follow-requires-clause-follow g c κs within =
     let h = c.self.inside in
     let p = c.args.seat.now.poller.proc in
     let n = c.pending.result in
-    let none : end_of f b (machine h.core) ≡ None = ap (λ (v : HeldView g.row.U.Denot g.row.U-Ctx.Denot). end_of f b (machine v.core)) c.self.view_is ∙ c.requires.goes_on in
-    let low : line_of (machine h.core).kernel p ≡ None = ap (λ (v : HeldView g.row.U.Denot g.row.U-Ctx.Denot). line_of (machine v.core).kernel p) c.self.view_is ∙ c.requires.low in
-    let start : local_on f (machine h.core) p ≡ c.args.seat.now.start = ap (λ (v : HeldView g.row.U.Denot g.row.U-Ctx.Denot). local_on f (machine v.core) p) c.self.view_is ∙ c.requires.start in
+    let none : end_of f b (machine h.core) ≡ None =
+    ap (λ (v : HeldView g.row.U.Denot g.row.U-Ctx.Denot). end_of f b (machine v.core)) c.self.view_is ∙ c.requires.goes_on in
+    let low : line_of (machine h.core).kernel p ≡ None =
+    ap (λ (v : HeldView g.row.U.Denot g.row.U-Ctx.Denot). line_of (machine v.core).kernel p) c.self.view_is ∙ c.requires.low in
+    let start : local_on f (machine h.core) p ≡ c.args.seat.now.start =
+    ap (λ (v : HeldView g.row.U.Denot g.row.U-Ctx.Denot). local_on f (machine v.core) p) c.self.view_is ∙ c.requires.start in
     let some : 0 < n = (let a = c.pending.ensures.pending in let d = c.requires.pending in omega (arith, a, d)) in
-    let next = can-next f g.U.UserLevel.stands keep w table b n h.core h.lines h.keeper p c.args.seat.now.start c.self.invariant some c.pending.ensures.local start in
+    let next = can-next f g.U.UserLevel.stands keep w table b n h.core h.lines h.keeper p c.args.seat.now.start c.self.invariant some
+    c.pending.ensures.local start in
     let k = c.in_ok-made.made in
     let lt : p.0 < w.processors = subst (λ (q : ProcNo). q.0 < w.processors) c.proc.ensures.proc c.proc.ensures.within in
-    let is : machine c.commit.new.self ≡ committed f p k (machine h.core) = subst (λ (q : ProcNo). machine c.commit.new.self ≡ committed f q k (machine h.core)) c.proc.ensures.proc c.in_ok-made.ensures.machine in
-    let all = commit-done f g.U.UserLevel.stands keep w table b n k h.core c.commit.new.self h.lines h.keeper p c.self.invariant none c.in_ok-made.ensures.made c.in_ok-made.ensures.some low next is in
+    let is : machine c.commit.new.self ≡ committed f p k (machine h.core) =
+    subst (λ (q : ProcNo). machine c.commit.new.self ≡ committed f q k (machine h.core)) c.proc.ensures.proc c.in_ok-made.ensures.machine in
+    let all = commit-done f g.U.UserLevel.stands keep w table b n k h.core c.commit.new.self h.lines h.keeper p c.self.invariant none
+    c.in_ok-made.ensures.made c.in_ok-made.ensures.some low next is in
     let done = all.0 in
     may-follow f g.U.UserLevel.stands keep w table b h.core c.commit.new.self h.lines h.keeper c.self.invariant none (commit p k) done.made done.within
 
@@ -74,18 +84,25 @@ credit-requires-clause-what g c = λ inside.
     let h = c.self.inside in
     let p = c.args.seat.now.poller.proc in
     let n = c.pending.result in
-    let none : end_of f b (machine h.core) ≡ None = ap (λ (v : HeldView g.row.U.Denot g.row.U-Ctx.Denot). end_of f b (machine v.core)) c.self.view_is ∙ c.requires.goes_on in
-    let low : line_of (machine h.core).kernel p ≡ None = ap (λ (v : HeldView g.row.U.Denot g.row.U-Ctx.Denot). line_of (machine v.core).kernel p) c.self.view_is ∙ c.requires.low in
-    let start : local_on f (machine h.core) p ≡ c.args.seat.now.start = ap (λ (v : HeldView g.row.U.Denot g.row.U-Ctx.Denot). local_on f (machine v.core) p) c.self.view_is ∙ c.requires.start in
+    let none : end_of f b (machine h.core) ≡ None =
+    ap (λ (v : HeldView g.row.U.Denot g.row.U-Ctx.Denot). end_of f b (machine v.core)) c.self.view_is ∙ c.requires.goes_on in
+    let low : line_of (machine h.core).kernel p ≡ None =
+    ap (λ (v : HeldView g.row.U.Denot g.row.U-Ctx.Denot). line_of (machine v.core).kernel p) c.self.view_is ∙ c.requires.low in
+    let start : local_on f (machine h.core) p ≡ c.args.seat.now.start =
+    ap (λ (v : HeldView g.row.U.Denot g.row.U-Ctx.Denot). local_on f (machine v.core) p) c.self.view_is ∙ c.requires.start in
     let some : 0 < n = (let a = c.pending.ensures.pending in let d = c.requires.pending in omega (arith, a, d)) in
-    let next = can-next f g.U.UserLevel.stands keep w table b n h.core h.lines h.keeper p c.args.seat.now.start c.self.invariant some c.pending.ensures.local start in
+    let next = can-next f g.U.UserLevel.stands keep w table b n h.core h.lines h.keeper p c.args.seat.now.start c.self.invariant some
+    c.pending.ensures.local start in
     let k = c.in_ok-made.made in
     let lt : p.0 < w.processors = subst (λ (q : ProcNo). q.0 < w.processors) c.proc.ensures.proc c.proc.ensures.within in
-    let is : machine c.commit.new.self ≡ committed f p k (machine h.core) = subst (λ (q : ProcNo). machine c.commit.new.self ≡ committed f q k (machine h.core)) c.proc.ensures.proc c.in_ok-made.ensures.machine in
-    let all = commit-done f g.U.UserLevel.stands keep w table b n k h.core c.commit.new.self h.lines h.keeper p c.self.invariant none c.in_ok-made.ensures.made c.in_ok-made.ensures.some low next is in
+    let is : machine c.commit.new.self ≡ committed f p k (machine h.core) =
+    subst (λ (q : ProcNo). machine c.commit.new.self ≡ committed f q k (machine h.core)) c.proc.ensures.proc c.in_ok-made.ensures.machine in
+    let all = commit-done f g.U.UserLevel.stands keep w table b n k h.core c.commit.new.self h.lines h.keeper p c.self.invariant none
+    c.in_ok-made.ensures.made c.in_ok-made.ensures.some low next is in
     let done = all.0 in
     subst (λ (i : ℕ). MayCredit (lane_at c.follow.new.keeper.lanes p.0).account (Turns i)) (sym c.from.ensures)
-    (may-count f g.U.UserLevel.stands keep w table b h.core c.commit.new.self h.lines h.keeper c.self.invariant none (commit p k) done.made done.within c.follow.new.keeper c.follow.new.lines c.follow.ensures p k lt
+    (may-count f g.U.UserLevel.stands keep w table b h.core c.commit.new.self h.lines h.keeper c.self.invariant none
+    (commit p k) done.made done.within c.follow.new.keeper c.follow.new.lines c.follow.ensures p k lt
     (turns-here p k) c.in_ok-made.ensures.some)
 
 pub invariant_of-self-2 : goal.invariant_of-self-2
@@ -98,17 +115,24 @@ invariant_of-self-2 g c =
     let h = c.self.inside in
     let p = c.args.seat.now.poller.proc in
     let n = c.pending.result in
-    let none : end_of f b (machine h.core) ≡ None = ap (λ (v : HeldView g.row.U.Denot g.row.U-Ctx.Denot). end_of f b (machine v.core)) c.self.view_is ∙ c.requires.goes_on in
-    let low : line_of (machine h.core).kernel p ≡ None = ap (λ (v : HeldView g.row.U.Denot g.row.U-Ctx.Denot). line_of (machine v.core).kernel p) c.self.view_is ∙ c.requires.low in
-    let start : local_on f (machine h.core) p ≡ c.args.seat.now.start = ap (λ (v : HeldView g.row.U.Denot g.row.U-Ctx.Denot). local_on f (machine v.core) p) c.self.view_is ∙ c.requires.start in
+    let none : end_of f b (machine h.core) ≡ None =
+    ap (λ (v : HeldView g.row.U.Denot g.row.U-Ctx.Denot). end_of f b (machine v.core)) c.self.view_is ∙ c.requires.goes_on in
+    let low : line_of (machine h.core).kernel p ≡ None =
+    ap (λ (v : HeldView g.row.U.Denot g.row.U-Ctx.Denot). line_of (machine v.core).kernel p) c.self.view_is ∙ c.requires.low in
+    let start : local_on f (machine h.core) p ≡ c.args.seat.now.start =
+    ap (λ (v : HeldView g.row.U.Denot g.row.U-Ctx.Denot). local_on f (machine v.core) p) c.self.view_is ∙ c.requires.start in
     let some : 0 < n = (let a = c.pending.ensures.pending in let d = c.requires.pending in omega (arith, a, d)) in
-    let next = can-next f g.U.UserLevel.stands keep w table b n h.core h.lines h.keeper p c.args.seat.now.start c.self.invariant some c.pending.ensures.local start in
+    let next = can-next f g.U.UserLevel.stands keep w table b n h.core h.lines h.keeper p c.args.seat.now.start c.self.invariant some
+    c.pending.ensures.local start in
     let k = c.in_ok-made.made in
     let lt : p.0 < w.processors = subst (λ (q : ProcNo). q.0 < w.processors) c.proc.ensures.proc c.proc.ensures.within in
-    let is : machine c.commit.new.self ≡ committed f p k (machine h.core) = subst (λ (q : ProcNo). machine c.commit.new.self ≡ committed f q k (machine h.core)) c.proc.ensures.proc c.in_ok-made.ensures.machine in
-    let all = commit-done f g.U.UserLevel.stands keep w table b n k h.core c.commit.new.self h.lines h.keeper p c.self.invariant none c.in_ok-made.ensures.made c.in_ok-made.ensures.some low next is in
+    let is : machine c.commit.new.self ≡ committed f p k (machine h.core) =
+    subst (λ (q : ProcNo). machine c.commit.new.self ≡ committed f q k (machine h.core)) c.proc.ensures.proc c.in_ok-made.ensures.machine in
+    let all = commit-done f g.U.UserLevel.stands keep w table b n k h.core c.commit.new.self h.lines h.keeper p c.self.invariant none
+    c.in_ok-made.ensures.made c.in_ok-made.ensures.some low next is in
     let done = all.0 in
     subst (λ (z : KeeperSeen). IsLocked f b w table c.commit.new.self c.follow.new.lines z) (sym c.credit.ensures.keeper)
     (subst (λ (i : ℕ). IsLocked f b w table c.commit.new.self c.follow.new.lines (credited_at p.0 (Turns i) c.follow.new.keeper)) (sym c.from.ensures)
-    (locked-after f g.U.UserLevel.stands keep w table b h.core c.commit.new.self h.lines h.keeper c.self.invariant none (commit p k) done.made done.within c.follow.new.keeper c.follow.new.lines c.follow.ensures p k lt
+    (locked-after f g.U.UserLevel.stands keep w table b h.core c.commit.new.self h.lines h.keeper c.self.invariant none
+    (commit p k) done.made done.within c.follow.new.keeper c.follow.new.lines c.follow.ensures p k lt
     (turns-here p k) (λ q apart. turns-else p q k apart) c.in_ok-made.ensures.budget))

@@ -13,7 +13,8 @@ credit-requires-clause-what g c =
     let h = c.self.inside in
     let ends : end_of f g.K.Named.budget (machine h.core) ≡ Some c.args.end =
     ap (λ (v : HeldView g.row.U.Denot g.row.U-Ctx.Denot). end_of f g.K.Named.budget (machine v.core)) c.self.view_is ∙ c.requires.end in
-    may-end f g.U.UserLevel.stands keep g.K.Named.workload g.K.Named.table g.K.Named.budget h.core h.lines h.keeper c.self.invariant c.args.end ends c.args.seat.now.poller.proc lt
+    may-end f g.U.UserLevel.stands keep g.K.Named.workload g.K.Named.table g.K.Named.budget h.core h.lines h.keeper c.self.invariant c.args.end ends
+    c.args.seat.now.poller.proc lt
 
 pub invariant_of-self : goal.invariant_of-self
 invariant_of-self g c =
@@ -23,4 +24,5 @@ invariant_of-self g c =
     let ends : end_of f g.K.Named.budget (machine h.core) ≡ Some c.args.end =
     ap (λ (v : HeldView g.row.U.Denot g.row.U-Ctx.Denot). end_of f g.K.Named.budget (machine v.core)) c.self.view_is ∙ c.requires.end in
     subst (λ (k : KeeperSeen). IsLocked f g.K.Named.budget g.K.Named.workload g.K.Named.table h.core h.lines k) (sym c.credit.ensures.keeper)
-    (locked-ended f g.U.UserLevel.stands keep g.K.Named.workload g.K.Named.table g.K.Named.budget h.core h.lines h.keeper c.self.invariant c.args.end ends c.args.seat.now.poller.proc c.credit.ensures.within)
+    (locked-ended f g.U.UserLevel.stands keep g.K.Named.workload g.K.Named.table g.K.Named.budget h.core h.lines h.keeper c.self.invariant c.args.end ends
+    c.args.seat.now.poller.proc c.credit.ensures.within)

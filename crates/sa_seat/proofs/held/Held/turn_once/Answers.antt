@@ -29,10 +29,13 @@ follow-requires-clause-follow g c κs within =
     let b = g.K.Named.budget in
     let h = c.self.inside in
     let p = c.args.seat.now.poller.proc in
-    let none : end_of f b (machine h.core) ≡ None = ap (λ (v : HeldView g.row.U.Denot g.row.U-Ctx.Denot). end_of f b (machine v.core)) c.self.view_is ∙ c.requires.goes_on in
+    let none : end_of f b (machine h.core) ≡ None =
+    ap (λ (v : HeldView g.row.U.Denot g.row.U-Ctx.Denot). end_of f b (machine v.core)) c.self.view_is ∙ c.requires.goes_on in
     let lt : p.0 < w.processors = subst (λ (q : ProcNo). q.0 < w.processors) c.proc.ensures.proc c.proc.ensures.within in
-    let is : IsTurn f (machine h.core) p (machine c.turn.new.self) = subst (λ (q : ProcNo). IsTurn f (machine h.core) q (machine c.turn.new.self)) c.proc.ensures.proc c.in_ok-turn.ensures.ok in
-    let done = turn-done f g.U.UserLevel.stands keep w table b h.core c.turn.new.self h.lines h.keeper p c.self.invariant none lt is c.in_ok-turn.ensures.event in
+    let is : IsTurn f (machine h.core) p (machine c.turn.new.self) =
+    subst (λ (q : ProcNo). IsTurn f (machine h.core) q (machine c.turn.new.self)) c.proc.ensures.proc c.in_ok-turn.ensures.ok in
+    let done = turn-done f g.U.UserLevel.stands keep w table b h.core c.turn.new.self h.lines h.keeper p c.self.invariant none lt is
+    c.in_ok-turn.ensures.event in
     may-follow f g.U.UserLevel.stands keep w table b h.core c.turn.new.self h.lines h.keeper c.self.invariant none (turn p) done.made done.within
 
 pub credit-requires-clause-what : goal.credit-requires-clause-what
@@ -44,11 +47,15 @@ credit-requires-clause-what g c = λ inside.
     let b = g.K.Named.budget in
     let h = c.self.inside in
     let p = c.args.seat.now.poller.proc in
-    let none : end_of f b (machine h.core) ≡ None = ap (λ (v : HeldView g.row.U.Denot g.row.U-Ctx.Denot). end_of f b (machine v.core)) c.self.view_is ∙ c.requires.goes_on in
+    let none : end_of f b (machine h.core) ≡ None =
+    ap (λ (v : HeldView g.row.U.Denot g.row.U-Ctx.Denot). end_of f b (machine v.core)) c.self.view_is ∙ c.requires.goes_on in
     let lt : p.0 < w.processors = subst (λ (q : ProcNo). q.0 < w.processors) c.proc.ensures.proc c.proc.ensures.within in
-    let is : IsTurn f (machine h.core) p (machine c.turn.new.self) = subst (λ (q : ProcNo). IsTurn f (machine h.core) q (machine c.turn.new.self)) c.proc.ensures.proc c.in_ok-turn.ensures.ok in
-    let done = turn-done f g.U.UserLevel.stands keep w table b h.core c.turn.new.self h.lines h.keeper p c.self.invariant none lt is c.in_ok-turn.ensures.event in
-    may-count f g.U.UserLevel.stands keep w table b h.core c.turn.new.self h.lines h.keeper c.self.invariant none (turn p) done.made done.within c.follow.new.keeper c.follow.new.lines c.follow.ensures p 1 lt
+    let is : IsTurn f (machine h.core) p (machine c.turn.new.self) =
+    subst (λ (q : ProcNo). IsTurn f (machine h.core) q (machine c.turn.new.self)) c.proc.ensures.proc c.in_ok-turn.ensures.ok in
+    let done = turn-done f g.U.UserLevel.stands keep w table b h.core c.turn.new.self h.lines h.keeper p c.self.invariant none lt is
+    c.in_ok-turn.ensures.event in
+    may-count f g.U.UserLevel.stands keep w table b h.core c.turn.new.self h.lines h.keeper c.self.invariant none
+    (turn p) done.made done.within c.follow.new.keeper c.follow.new.lines c.follow.ensures p 1 lt
     (turns-here p 1) (omega arith)
 
 pub invariant_of-self-2 : goal.invariant_of-self-2
@@ -60,10 +67,14 @@ invariant_of-self-2 g c =
     let b = g.K.Named.budget in
     let h = c.self.inside in
     let p = c.args.seat.now.poller.proc in
-    let none : end_of f b (machine h.core) ≡ None = ap (λ (v : HeldView g.row.U.Denot g.row.U-Ctx.Denot). end_of f b (machine v.core)) c.self.view_is ∙ c.requires.goes_on in
+    let none : end_of f b (machine h.core) ≡ None =
+    ap (λ (v : HeldView g.row.U.Denot g.row.U-Ctx.Denot). end_of f b (machine v.core)) c.self.view_is ∙ c.requires.goes_on in
     let lt : p.0 < w.processors = subst (λ (q : ProcNo). q.0 < w.processors) c.proc.ensures.proc c.proc.ensures.within in
-    let is : IsTurn f (machine h.core) p (machine c.turn.new.self) = subst (λ (q : ProcNo). IsTurn f (machine h.core) q (machine c.turn.new.self)) c.proc.ensures.proc c.in_ok-turn.ensures.ok in
-    let done = turn-done f g.U.UserLevel.stands keep w table b h.core c.turn.new.self h.lines h.keeper p c.self.invariant none lt is c.in_ok-turn.ensures.event in
+    let is : IsTurn f (machine h.core) p (machine c.turn.new.self) =
+    subst (λ (q : ProcNo). IsTurn f (machine h.core) q (machine c.turn.new.self)) c.proc.ensures.proc c.in_ok-turn.ensures.ok in
+    let done = turn-done f g.U.UserLevel.stands keep w table b h.core c.turn.new.self h.lines h.keeper p c.self.invariant none lt is
+    c.in_ok-turn.ensures.event in
     subst (λ (k : KeeperSeen). IsLocked f b w table c.turn.new.self c.follow.new.lines k) (sym c.credit.ensures.keeper)
-    (locked-after f g.U.UserLevel.stands keep w table b h.core c.turn.new.self h.lines h.keeper c.self.invariant none (turn p) done.made done.within c.follow.new.keeper c.follow.new.lines c.follow.ensures p 1 lt
+    (locked-after f g.U.UserLevel.stands keep w table b h.core c.turn.new.self h.lines h.keeper c.self.invariant none
+    (turn p) done.made done.within c.follow.new.keeper c.follow.new.lines c.follow.ensures p 1 lt
     (turns-here p 1) (λ q apart. turns-else p q 1 apart) c.in_ok-turn.ensures.budget)

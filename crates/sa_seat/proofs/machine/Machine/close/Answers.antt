@@ -7,5 +7,6 @@ pub returns : goal.returns
 returns g c =
     let h = c.core.inside in
     let closed : ClosedView = record { items = c.into_trace.result.items; end = c.end-end.result; turns = c.join_all-turns.result } in
-    is-closed g.U.UserLevel.calls g.K.Named.workload g.K.Named.table g.K.Named.budget h.core h.lines h.keeper c.join_all-turns.new.keeper c.core.invariant c.args.seats.items c.join_all-turns.result
+    is-closed g.U.UserLevel.calls g.K.Named.workload g.K.Named.table g.K.Named.budget h.core h.lines h.keeper c.join_all-turns.new.keeper c.core.invariant
+    c.args.seats.items c.join_all-turns.result
     c.requires c.join_all-turns.ensures c.close.ensures closed c.into_trace.ensures c.end-end.ensures refl

@@ -17,7 +17,9 @@ put_behind-requires-clause-below c = λ u some.
     let can = c.requires.can in
     let work = ap (λ (x : Parts). x.work.items) c.say.ensures in
     let inside : s.0 < length m.work.items = omega (arith, can.virtual.space, can.tabled.work) in
-    let here = row m.work.items c.from.result s.0 c.index_mut.result.now (c.from.ensures ∙ ap (λ (q : SpaceNo). q.0) c.space_of-s.ensures) inside (c.index_mut.ensures.value ∙ ap (λ (rows : List Lists). get_or rows c.from.result c.index_mut.result.now) work) in
+    let here = row m.work.items c.from.result s.0 c.index_mut.result.now (c.from.ensures ∙ ap (λ (q : SpaceNo). q.0) c.space_of-s.ensures) inside
+    (c.index_mut.ensures.value ∙ ap (λ (rows : List Lists). get_or rows c.from.result c.index_mut.result.now) work) in
     let nodes : c.index_mut.result.now.nodes ≡ MAX_THREADS = ap (λ (x : Lists). x.nodes) here ∙ (can.tabled.work_rows s.0 can.virtual.space).nodes in
-    let roused = c.roused-roused.ensures ∙ ap (λ (x : Parts). x.replay.roused) c.say.ensures ∙ ap (λ (q : SpaceNo). (next_effect m.replay.workload m.replay.state q c.args.t).roused) c.space_of-s.ensures in
+    let roused = c.roused-roused.ensures ∙ ap (λ (x : Parts). x.replay.roused) c.say.ensures
+    ∙ ap (λ (q : SpaceNo). (next_effect m.replay.workload m.replay.state q c.args.t).roused) c.space_of-s.ensures in
     omega (arith, nodes, can.below u (subst (λ (ts : List ThreadNo). 1 ≤ count_in u (numbers ts)) roused some))

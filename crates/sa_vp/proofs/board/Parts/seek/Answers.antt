@@ -9,5 +9,6 @@ use Rattle.sa_vp.proofs.board.Parts.seek.Goals as goal
 pub returns-then-ready_threads-eq0-clause-found : goal.returns-then-ready_threads-eq0-clause-found
 returns-then-ready_threads-eq0-clause-found c =
     let m = c.args.self.now in
-    let none = ap (λ (s : SpaceNo). count_in is_ready (space_at m.replay.state s).threads) (sym c.space_of-s.ensures) ∙ sym c.ready_threads.ensures ∙ c.if-ready_threads-eq0.true in
+    let none = ap (λ (s : SpaceNo). count_in is_ready (space_at m.replay.state s).threads) (sym c.space_of-s.ensures) ∙ sym c.ready_threads.ensures
+    ∙ c.if-ready_threads-eq0.true in
     none_sought c.args.a (board_of m) c.requires.tabled c.requires.known c.requires.ready none

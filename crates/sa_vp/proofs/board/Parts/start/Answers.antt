@@ -23,5 +23,7 @@ returns c =
       lost = tables.lost;
       trace = c.new-2.result;
       number = 1;
-    }) c.args.w.now c.in_ok-replay.ensures c.in_ok-devices.ensures lists.queue (made.placed ∙ ap (λ n. replicate n None) c.processors.ensures.value) made.threads made.steps lists.ready lists.work refl
-    (made.blocked ∙ ap (λ (xs : List SpaceView). replicate (length xs) 0) c.spaces.ensures.value) (made.lost ∙ ap (λ (xs : List SpaceView). replicate (length xs) 0) c.spaces.ensures.value) c.new-2.ensures.items refl
+    }) c.args.w.now c.in_ok-replay.ensures c.in_ok-devices.ensures lists.queue
+    (made.placed ∙ ap (λ n. replicate n None) c.processors.ensures.value) made.threads made.steps lists.ready lists.work refl
+    (made.blocked ∙ ap (λ (xs : List SpaceView). replicate (length xs) 0) c.spaces.ensures.value)
+    (made.lost ∙ ap (λ (xs : List SpaceView). replicate (length xs) 0) c.spaces.ensures.value) c.new-2.ensures.items refl

@@ -33,10 +33,12 @@ invariant_of-self c =
     let is = inside-view k.parts k.budget k.spare c.make_room.new.self c.args.self.now c.self.view_is c.make_room.ensures.rest in
     let spare = ap (λ (v : VpView). v.spare) c.self.view_is in
     let room = c.in_ok-make_room.ensures.ok in
-    kept-turn k.parts k.budget k.spare c.self.invariant c.args.p c.args.self.now is c.requires.within c.requires.goes_on c.turn.new.self c.turn.ensures.board c.turn.ensures.room (omega (arith, spare, room))
+    kept-turn k.parts k.budget k.spare c.self.invariant c.args.p c.args.self.now is c.requires.within c.requires.goes_on c.turn.new.self c.turn.ensures.board
+    c.turn.ensures.room (omega (arith, spare, room))
 
 pub returns-clause-number : goal.returns-clause-number
 returns-clause-number c =
     let k = c.self.inside in
     let is = inside-view k.parts k.budget k.spare c.make_room.new.self c.args.self.now c.self.view_is c.make_room.ensures.rest in
-    number-turn k.parts k.budget k.spare c.self.invariant c.args.p c.args.self.now is c.requires.within c.requires.goes_on c.turn.new.self c.turn.ensures.board c.turn.ensures.room
+    number-turn k.parts k.budget k.spare c.self.invariant c.args.p c.args.self.now is c.requires.within c.requires.goes_on c.turn.new.self
+    c.turn.ensures.board c.turn.ensures.room
