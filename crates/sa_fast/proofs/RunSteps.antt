@@ -1,9 +1,9 @@
 -- An instruction of a thread moves threads between rest and the hand of its context, and loses none.
-use Rattle.std.proofs.Common.{◌≡◌, ◌≢◌, ℕ, ◌+◌, ◌-◌, ◌≤◌, ◌<◌, Bool, true, false, cond, eqb, nat_lt, get_or, List, [], length, Option, Some, None, refl, sym, ap, ◌∙◌, subst, inl, inr, arith}
+use Rattle.std.proofs.Common.{◌≡◌, ◌≢◌, ℕ, ◌+◌, ◌-◌, ◌≤◌, ◌<◌, Bool, true, false, cond, nat_lt, get_or, List, [], length, Option, Some, None, refl, sym, ap, ◌∙◌, subst, inl, inr, arith}
 use Rattle.std.specs.Prelude.{All}
 use Rattle.std.proofs.lemmas.Bool.{cases_lt, ltb-true}
 use Rattle.std.proofs.lemmas.Bool.Decides.{nat_tests}
-use Rattle.std.proofs.lemmas.Option.{same_Some, get_or_from_slice_get}
+use Rattle.std.proofs.lemmas.Option.{same_Some}
 use Rattle.std.proofs.lemmas.List.{length-set}
 use Rattle.std.proofs.lemmas.List.Elements.{All-get_or}
 use Rattle.sa_base.specs.declared.number.ThreadNo.{ThreadNo}
@@ -12,10 +12,11 @@ use Rattle.sa_instr.specs.declared.limits.TheConstants.{MAX_START}
 use Rattle.sa_instr.specs.declared.instr.Instr.{Instr}
 use Rattle.sa_instr.specs.declared.instr.Instr.TheVariants.{Compute, Set, Add, Sub, Jnz, Load, Store, Out, Fork, Join, Lock, Unlock, Wait, Signal, Io, Touch, End}
 use Rattle.sa_instr.specs.declared.instr.Reg.{Reg}
-use Rattle.sa_instr.specs.Instr.{JumpsBelow, NamesDeclared}
-use Rattle.sa_instr.specs.Local.{instr_at, place_after, regs_after}
+use Rattle.sa_instr.specs.Instr.{NamesDeclared}
+use Rattle.sa_instr.specs.Local.{place_after, regs_after}
 use Rattle.sa_instr.specs.Program.{IsProgram}
 use Rattle.sa_instr.specs.Regs.{reg_value}
+use Rattle.sa_instr.proofs.PlaceLemmas.{next_inside, place_inside}
 use Rattle.sa_spaces.specs.Space.{SpaceView, IsSpace}
 use Rattle.sa_links.specs.Lists.{count_in, count_in_all}
 use Rattle.sa_abstract.specs.Walk.{program_at}
@@ -40,31 +41,6 @@ use Rattle.sa_fast.specs.Rest.{one_if, one_of, done_at, unmade_at, threads_at_re
 use Rattle.sa_fast.proofs.Moves.{WorkStep, RunStep, stays_with}
 use Rattle.sa_fast.proofs.WorkSteps.{one_same, still-step, added-step, added_all-step}
 use Rattle.sa_fast.proofs.SyncSteps.{SyncStep, holds-set, locked-step, unlocked-step, waited-step, signalled-step, joined-step, ended_sync, ended-numbers, ended-waits, ended-done}
-
--- PROGRAMS. The last instruction is `end`, so after any other there is one
-next_inside : (p : List Instr) (pc : ℕ) → IsProgram p → pc < length p → instr_at p pc ≢ End → pc + 1 < length p
-next_inside p pc is inside more = elim (cases_lt (pc + 1) (length p)) [
-  | inl h ↦ h
-  | inr h ↦
-      let last : pc ≡ length p - 1 = omega arith in
-      absurd (more (ap (instr_at p) last ∙ get_or_from_slice_get p (length p - 1) End End is.ends))
-]
-
--- where both ways of a test are below
-test_below : (b : Bool) (m k n : ℕ) → m < n → k < n → cond b m k < n
-test_below true m k n left right = left
-test_below false m k n left right = right
-
--- an instruction that stays within its thread leads to a place of the program, and others stay at theirs
-pub place_inside : (p : List Instr) (pc : ℕ) (regs : List ℕ) (i : Instr) → IsProgram p → pc < length p → i ≡ instr_at p pc → place_after i pc regs < length p
-place_inside p pc regs Compute is inside at = next_inside p pc is inside (λ e. let no = at ∙ e in cc)
-place_inside p pc regs (Set reg n) is inside at = next_inside p pc is inside (λ e. let no = at ∙ e in cc)
-place_inside p pc regs (Add reg other) is inside at = next_inside p pc is inside (λ e. let no = at ∙ e in cc)
-place_inside p pc regs (Sub reg other) is inside at = next_inside p pc is inside (λ e. let no = at ∙ e in cc)
-place_inside p pc regs (Jnz reg place) is inside at =
-    let jumps : JumpsBelow (length p) (Jnz reg place) = subst (JumpsBelow (length p)) (sym at) (All-get_or (JumpsBelow (length p)) p pc End inside is.jumps) in
-    test_below (eqb (reg_value regs reg) 0) (pc + 1) place (length p) (next_inside p pc is inside (λ e. let no = at ∙ e in cc)) jumps.1.0
-place_inside p pc regs i is inside at = inside
 
 -- NUMBERS OF THREADS
 pub made_below : (r : ReadyView) (t : ℕ) → unmade_at r t ≡ 0 → t < r.made

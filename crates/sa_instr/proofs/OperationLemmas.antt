@@ -1,11 +1,10 @@
 -- Each operation stands in the list of the operations, and no two have one word.
-use Rattle.std.proofs.Common.{◌≡◌, ℕ, ◌<◌, Option, Some, List, get_or, refl, sym, ap, ◌∙◌, arith, find}
+use Rattle.std.proofs.Common.{◌≡◌, ℕ, ◌<◌, Some, get_or, refl, sym, ap, ◌∙◌, arith}
 use Rattle.std.proofs.lemmas.Option.{same_Some}
-use Rattle.std.specs.Str.{bytes_eq}
 use Rattle.sa_instr.specs.declared.operation.Operation.{Operation}
 use Rattle.sa_instr.specs.declared.operation.Operation.TheVariants.{Compute, Set, Add, Sub, Jnz, Load, Store, Out, Fork, Join, Lock, Unlock, Wait, Signal, Io, Touch, End}
 use Rattle.sa_instr.specs.declared.operation.TheConstants.{OPERATIONS}
-use Rattle.sa_instr.specs.Operation.{form_of}
+use Rattle.sa_instr.specs.Operation.{form_of, operation_of}
 
 -- the place of an operation in the list
 pub place_of : (operation : Operation) → (k : ℕ) × (k < 17) × (get_or OPERATIONS k End ≡ operation)
@@ -27,29 +26,11 @@ place_of Io = (14, omega arith, refl)
 place_of Touch = (15, omega arith, refl)
 place_of End = (16, omega arith, refl)
 
--- the operation of a word
-operation_of : List ℕ → Option Operation
-operation_of word = find (λ operation. bytes_eq word (form_of operation).word) OPERATIONS
-
-found : (operation : Operation) → operation_of (form_of operation).word ≡ Some operation
+-- the operation of a word is found by it
+pub operation-found : (operation : Operation) → operation_of (form_of operation).word ≡ Some operation
 unfolding operation_of
-found Compute = refl
-found Set = refl
-found Add = refl
-found Sub = refl
-found Jnz = refl
-found Load = refl
-found Store = refl
-found Out = refl
-found Fork = refl
-found Join = refl
-found Lock = refl
-found Unlock = refl
-found Wait = refl
-found Signal = refl
-found Io = refl
-found Touch = refl
-found End = refl
+operation-found End = refl
+operation-found _ = refl
 
 pub words-differ : (a b : Operation) → (form_of a).word ≡ (form_of b).word → a ≡ b
-words-differ a b same = same_Some a b (sym (found a) ∙ ap operation_of same ∙ found b)
+words-differ a b same = same_Some a b (sym (operation-found a) ∙ ap operation_of same ∙ operation-found b)

@@ -1,9 +1,11 @@
 -- The operations of instructions, and how each is written.
-use Rattle.std.specs.Prelude.{◌≢◌, ℕ, List, [], ◌∷◌, codes}
+use Rattle.std.specs.Prelude.{◌≢◌, ℕ, List, [], ◌∷◌, Option, codes, find}
+use Rattle.std.specs.Str.{bytes_eq}
 use Rattle.sa_instr.specs.declared.operand.OperandKind.{OperandKind}
 use Rattle.sa_instr.specs.declared.operand.OperandKind.TheVariants.{Register, Value, Place, Cell, Program, Mutex, Semaphore, Length, Page}
 use Rattle.sa_instr.specs.declared.operation.Operation.{Operation}
 use Rattle.sa_instr.specs.declared.operation.Operation.TheVariants.{Compute, Set, Add, Sub, Jnz, Load, Store, Out, Fork, Join, Lock, Unlock, Wait, Signal, Io, Touch, End}
+use Rattle.sa_instr.specs.declared.operation.TheConstants.{OPERATIONS}
 
 -- an operation's word, and what its operands are
 pub record Written : Type 0 where
@@ -32,6 +34,10 @@ form_of Signal = written (codes "signal") (Semaphore ∷ [])
 form_of Io = written (codes "io") (Length ∷ [])
 form_of Touch = written (codes "touch") (Page ∷ [])
 form_of End = written (codes "end") []
+
+-- the operation of a word
+unfoldable pub operation_of : List ℕ → Option Operation
+operation_of word = find (λ operation. bytes_eq word (form_of operation).word) OPERATIONS
 
 -- no operation has this word
 abbrev pub IsNoWord : List ℕ → Type 0

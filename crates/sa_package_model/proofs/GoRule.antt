@@ -9,6 +9,7 @@ use Rattle.sa_base.specs.declared.context.Seen.{Seen}
 use Rattle.sa_instr.specs.declared.instr.Instr.{Instr}
 use Rattle.sa_instr.specs.Local.{instr_at}
 use Rattle.sa_instr.specs.Program.{IsProgram}
+use Rattle.sa_instr.proofs.PlaceLemmas.{place_inside}
 use Rattle.sa_spaces.specs.Space.{IsSpace}
 use Rattle.sa_links.specs.Lists.{count_in_all}
 use Rattle.sa_sync.specs.Sync.{waits_of}
@@ -21,7 +22,6 @@ use Rattle.sa_fast.specs.Threads.{unmade, block_at}
 use Rattle.sa_fast.specs.Instruction.{with_thread, IsAt}
 use Rattle.sa_fast.specs.Rest.{AgreesBy, place_at, done_at, unmade_at, is_carried}
 use Rattle.sa_fast.proofs.SyncSteps.{holds-set}
-use Rattle.sa_fast.proofs.RunSteps.{place_inside}
 use Rattle.sa_package_model.specs.declared.context.Context.{Context}
 use Rattle.sa_package_model.specs.declared.context.ContextState.{ContextState}
 use Rattle.sa_package_model.specs.declared.context.ContextState.TheVariants.{Code, Work, Hint, Return, User, Look}

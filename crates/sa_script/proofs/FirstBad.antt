@@ -1,7 +1,6 @@
 -- The line that is refused is the first that no script has behind the lines before it.
 use Rattle.std.proofs.Common.{◌≡◌, ℕ, suc, ◌+◌, ◌-◌, ◌<◌, ◌≤◌, List, [], ◌∷◌, ◌++◌, length, take, Option, Some, None, Result, Ok, Err, ◌⊎◌, refl, sym, ap, ◌∙◌, subst, inl, inr, arith}
 use Rattle.std.specs.Prelude.{All}
-use Rattle.std.proofs.lemmas.Option.{same_Some}
 use Rattle.std.proofs.lemmas.List.Elements.{All-nil, All-cons}
 use Rattle.sa_base.specs.declared.refusal.Bad.{Bad}
 use Rattle.sa_base.specs.declared.refusal.Cause.{Cause}
@@ -9,11 +8,12 @@ use Rattle.sa_base.specs.Cause.{bad_at}
 use Rattle.sa_spaces.specs.Workload.{WorkloadView, IsWorkload}
 use Rattle.sa_text.specs.LineText.{LineText, line_texts}
 use Rattle.sa_trace.specs.Pieces.{unless}
-use Rattle.sa_trace.proofs.FirstBad.{same_cons, take_fewer, compared}
+use Rattle.sa_trace.specs.Reading.{bad_after}
+use Rattle.sa_trace.proofs.FirstBad.{same_cons, some_after, same_after, take_fewer, compared}
 use Rattle.sa_script.specs.declared.command.DebugCommand.{DebugCommand}
 use Rattle.sa_script.specs.declared.script.TheConstants.{MAX_LINES}
-use Rattle.sa_script.specs.Line.{line_in}
-use Rattle.sa_script.specs.Reading.{bad_behind, goes_on, read_from, script_of}
+use Rattle.sa_script.specs.Line.{line_in, cause_after}
+use Rattle.sa_script.specs.Reading.{goes_on, read_from, script_of}
 use Rattle.sa_script.specs.Text.{script_text, Fits, IsTextOf}
 use Rattle.sa_script.specs.TextLaws.{IsFirstBad}
 use Rattle.sa_script.proofs.Commands.{IsSmall, small-workload}
@@ -32,16 +32,6 @@ goes_on-err number (Ok None) more last bad h = inr (inr (refl, h))
 unless-err : (o : Option Bad) (cs : List DebugCommand) (bad : Bad) → unless o cs ≡ Err bad → o ≡ Some bad
 unless-err None cs bad h = absurd cc
 unless-err (Some b) cs bad h = ap (λ x. Some x) (same_bad b bad h)
-
-some_behind : (number : ℕ) (lines : List LineText) (bad : Bad) → bad_behind number lines ≡ Some bad → (bad.line ≡ number) × (1 ≤ length lines)
-some_behind number [] bad h = absurd cc
-some_behind number (line ∷ lines) bad h = (let e : _ ≡ bad = same_Some _ bad h in sym (ap (λ (b : Bad). b.line) e), omega arith)
-
-same_behind : (number : ℕ) (others lines : List LineText) → take 1 others ≡ take 1 lines → bad_behind number others ≡ bad_behind number lines
-same_behind number [] [] h = refl
-same_behind number [] (line ∷ lines) h = absurd cc
-same_behind number (other ∷ others) [] h = absurd cc
-same_behind number (other ∷ others) (line ∷ lines) h = ap (λ l. bad_behind number (l ∷ [])) (same_cons other line [] [] h).0
 
 -- reading stops k lines on: some script has these k lines, and what goes on with the next line too is refused alike
 pub record Stops (w : WorkloadView) (number : ℕ) (before : List DebugCommand) (lines : List LineText) (bad : Bad) (k : ℕ) : Type 0 where
@@ -75,12 +65,12 @@ module _ (w : WorkloadView) where
       ap (step w number before others) (ap (line_in w number) same.0 ∙ next) ∙ later others same.1
 
   last-alike : (number : ℕ) (before : List DebugCommand) (line : LineText) (lines : List LineText) (bad : Bad) → line_in w number line ≡ Ok None
-      → bad_behind (number + 1) lines ≡ Some bad
+      → bad_after cause_after (number + 1) lines ≡ Some bad
       → (others : List LineText) → take 2 others ≡ take 2 (line ∷ lines) → read_from w number before others ≡ Err bad
   last-alike number before line lines bad last behind [] e = absurd cc
   last-alike number before line lines bad last behind (other ∷ others) e =
       let same = same_cons other line (take 1 others) (take 1 lines) e in
-      ap (step w number before others) (ap (line_in w number) same.0 ∙ last) ∙ ap (λ o. unless o before) (same_behind (number + 1) others lines same.1 ∙ behind)
+      ap (step w number before others) (ap (line_in w number) same.0 ∙ last) ∙ ap (λ o. unless o before) (same_after cause_after (number + 1) others lines same.1 ∙ behind)
 
   stops : IsSmall w → (number : ℕ) (before : List DebugCommand) (lines : List LineText) (bad : Bad) → number ≤ MAX_LINES + 1
       → read_from w number before lines ≡ Err bad → (k : ℕ) × Stops w number before lines bad k
@@ -97,7 +87,7 @@ module _ (w : WorkloadView) where
     },
   )
   stops small number before (line ∷ lines) bad few h =
-      elim (goes_on-err number (line_in w number line) (λ c. read_from w (number + 1) (before ++ c ∷ []) lines) (unless (bad_behind (number + 1) lines) before) bad h) [
+      elim (goes_on-err number (line_in w number line) (λ c. read_from w (number + 1) (before ++ c ∷ []) lines) (unless (bad_after cause_after (number + 1) lines) before) bad h) [
         | inl wrong ↦ (
           0,
           record {
@@ -130,8 +120,8 @@ module _ (w : WorkloadView) where
           | inr last ↦
               let is = line_in-none w small number line last.0 in
               let low : number ≤ MAX_LINES = is.1 in
-              let behind = unless-err (bad_behind (number + 1) lines) before bad last.1 in
-              let some = some_behind (number + 1) lines bad behind in (
+              let behind = unless-err (bad_after cause_after (number + 1) lines) before bad last.1 in
+              let some = some_after cause_after (number + 1) lines bad behind in (
                 1,
                 record {
                   line = some.0;

@@ -11,27 +11,29 @@ use Rattle.sa_base.specs.declared.refusal.Cause.{Cause}
 use Rattle.sa_base.specs.declared.refusal.Cause.TheVariants.{TooMany}
 use Rattle.sa_base.specs.Cause.{bad_at}
 use Rattle.sa_spaces.specs.Workload.{WorkloadView, IsWorkload}
-use Rattle.sa_text.specs.LineText.{LineText, whole_line, line_texts}
+use Rattle.sa_text.specs.LineText.{LineText, ended_line, whole_line, line_texts}
 use Rattle.sa_text.proofs.LineLemmas.{line_texts-ended, line_texts-joined}
 use Rattle.sa_trace.specs.Line.{pieces_in}
 use Rattle.sa_trace.specs.Pieces.{and_then, unless}
+use Rattle.sa_trace.specs.Reading.{bad_after}
 use Rattle.sa_trace.proofs.Readings.{and_then-ok, if_either}
-use Rattle.sa_trace.proofs.LineTexts.{AreFine, line_by, fine-lacks, pieces_in-line, pieces_in-ok}
+use Rattle.sa_trace.proofs.LineTexts.{AreFine, fine-lacks, pieces_in-line, pieces_in-ok}
+use Rattle.sa_trace.proofs.Whole.{none_after}
 use Rattle.sa_script.specs.declared.command.DebugCommand.{DebugCommand}
 use Rattle.sa_script.specs.declared.command.DebugCommand.TheVariants.{Break, Clear, Halt, Go, Step, Run, Show}
 use Rattle.sa_script.specs.declared.script.TheConstants.{MAX_LINES}
 use Rattle.sa_script.specs.Fields.{Pieces}
-use Rattle.sa_script.specs.Line.{said_by, line_in}
-use Rattle.sa_script.specs.Reading.{bad_behind, goes_on, read_from, script_of}
+use Rattle.sa_script.specs.Line.{said_by, line_in, cause_after}
+use Rattle.sa_script.specs.Reading.{goes_on, read_from, script_of}
 use Rattle.sa_script.specs.Text.{words_of, last_words, line_of, script_text, Fits, IsScript}
 use Rattle.sa_script.proofs.Commands.{IsSmall, small-workload, said_by-command, said_by-last, command-said, fine-command, fine-last}
 
 -- the line of a command, and the last line
 abbrev pub command_line : DebugCommand → LineText
-command_line c = line_by (words_of c)
+command_line c = ended_line (words_of c)
 
 abbrev pub last_line : LineText
-last_line = line_by last_words
+last_line = ended_line last_words
 
 -- the lines of a text
 abbrev pub text_lines : List DebugCommand → List LineText
@@ -41,7 +43,7 @@ text_lines cs = map command_line cs ++ last_line ∷ []
 abbrev pub numbered : WorkloadView → ℕ → Pieces → Result (Option DebugCommand) Cause
 numbered w number ps = cond (nat_lt MAX_LINES number) (Err TooMany) (said_by w ps)
 
-line_in-fine : (w : WorkloadView) (number : ℕ) (ps : Pieces) → 1 ≤ length ps → AreFine ps → line_in w number (line_by ps) ≡ numbered w number ps
+line_in-fine : (w : WorkloadView) (number : ℕ) (ps : Pieces) → 1 ≤ length ps → AreFine ps → line_in w number (ended_line ps) ≡ numbered w number ps
 line_in-fine w number [] some fine = absurd (omega arith)
 line_in-fine w number (p ∷ ps) some fine = ap (λ r. and_then r (numbered w number)) (pieces_in-line p ps fine)
 
@@ -69,7 +71,7 @@ line_in-last w number = line_in-fine w number last_words (omega arith) fine-last
 
 -- and is the line of what it is read as
 pub line_in-ok : (w : WorkloadView) (number : ℕ) (line : LineText) (o : Option DebugCommand) → line_in w number line ≡ Ok o
-    → (ps : Pieces) × (line ≡ line_by ps) × (number ≤ MAX_LINES) × (said_by w ps ≡ Ok o)
+    → (ps : Pieces) × (line ≡ ended_line ps) × (number ≤ MAX_LINES) × (said_by w ps ≡ Ok o)
 line_in-ok w number line o h =
     let ps = and_then-ok (pieces_in line) (numbered w number) o h in
     let is = pieces_in-ok line ps.0 ps.1 in
@@ -83,17 +85,17 @@ pub line_in-some : (w : WorkloadView) → IsSmall w → (number : ℕ) (line : L
 line_in-some w few number line c h =
     let got = line_in-ok w number line (Some c) h in
     let is = said_by-command w few got.0 c got.3 in
-    (got.1 ∙ ap line_by is.0, got.2, is.1)
+    (got.1 ∙ ap ended_line is.0, got.2, is.1)
 
 pub line_in-none : (w : WorkloadView) → IsSmall w → (number : ℕ) (line : LineText) → line_in w number line ≡ Ok None → (line ≡ last_line) × (number ≤ MAX_LINES)
 line_in-none w few number line h =
     let got = line_in-ok w number line None h in
-    (got.1 ∙ ap line_by (said_by-last w few got.0 got.3), got.2)
+    (got.1 ∙ ap ended_line (said_by-last w few got.0 got.3), got.2)
 
 -- what comes of a line, behind some commands and before some lines
 abbrev pub step : WorkloadView → ℕ → List DebugCommand → List LineText → Result (Option DebugCommand) Cause → Result (List DebugCommand) Bad
 step w number before rest said =
-    goes_on number said (λ c. read_from w (number + 1) (before ++ c ∷ []) rest) (unless (bad_behind (number + 1) rest) before)
+    goes_on number said (λ c. read_from w (number + 1) (before ++ c ∷ []) rest) (unless (bad_after cause_after (number + 1) rest) before)
 
 last-said : (w : WorkloadView) → said_by w last_words ≡ Ok None
 last-said w = refl
@@ -157,15 +159,11 @@ unless-read : (o : Option Bad) (a b : List DebugCommand) → unless o a ≡ Ok b
 unless-read None a b h = (refl, cc)
 unless-read (Some bad) a b h = absurd cc
 
-none_behind : (number : ℕ) (lines : List LineText) → bad_behind number lines ≡ None → lines ≡ []
-none_behind number [] h = refl
-none_behind number (line ∷ lines) h = absurd cc
-
 pub lines-only : (w : WorkloadView) → IsSmall w → (number : ℕ) (before : List DebugCommand) (lines : List LineText) (all : List DebugCommand)
     → read_from w number before lines ≡ Ok all → AreLinesOf w number before lines all
 lines-only w small number before [] all h = absurd cc
 lines-only w small number before (line ∷ lines) all h =
-    elim (goes_on-ok number (line_in w number line) (λ c. read_from w (number + 1) (before ++ c ∷ []) lines) (unless (bad_behind (number + 1) lines) before) all h) [
+    elim (goes_on-ok number (line_in w number line) (λ c. read_from w (number + 1) (before ++ c ∷ []) lines) (unless (bad_after cause_after (number + 1) lines) before) all h) [
       | inl next ↦
           let is = line_in-some w small number line next.0 next.1 in
           let rest = lines-only w small (number + 1) (before ++ next.0 ∷ []) lines all next.2 in
@@ -178,11 +176,11 @@ lines-only w small number before (line ∷ lines) all h =
           }
       | inr last ↦
           let is = line_in-none w small number line last.0 in
-          let none = unless-read (bad_behind (number + 1) lines) before all last.1 in
+          let none = unless-read (bad_after cause_after (number + 1) lines) before all last.1 in
           record {
             more = [];
             whole = sym none.1 ∙ sym (append-nil before);
-            are = ap (λ l. l ∷ lines) is.0 ∙ ap (λ ls. last_line ∷ ls) (none_behind (number + 1) lines none.0);
+            are = ap (λ l. l ∷ lines) is.0 ∙ ap (λ ls. last_line ∷ ls) (none_after cause_after (number + 1) lines none.0);
             fit = All-nil (Fits w);
             few = omega (arith, is.1);
           }

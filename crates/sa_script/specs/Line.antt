@@ -36,10 +36,10 @@ said_by w pieces = and_then (taken word_in pieces) (λ x. finished (command_at w
 abbrev pub line_in : WorkloadView → ℕ → LineText → Result (Option DebugCommand) Cause
 line_in w number line = and_then (pieces_in line) (λ pieces. if nat_lt MAX_LINES number then Err TooMany else said_by w pieces)
 
--- why the line of this number may not stand behind the last one
+-- why the line of this number may not follow the last one
 abbrev pub too_many : ℕ → Result Pieces Cause → Cause
 too_many number (Ok pieces) = if nat_lt MAX_LINES number then TooMany else BadWord
 too_many number (Err cause) = cause
 
-abbrev pub cause_behind : ℕ → LineText → Cause
-cause_behind number line = too_many number (pieces_in line)
+abbrev pub cause_after : ℕ → LineText → Cause
+cause_after number line = too_many number (pieces_in line)

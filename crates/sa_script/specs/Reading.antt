@@ -8,13 +8,9 @@ use Rattle.sa_base.specs.Cause.{bad_at}
 use Rattle.sa_spaces.specs.Workload.{WorkloadView}
 use Rattle.sa_text.specs.LineText.{LineText, line_texts}
 use Rattle.sa_trace.specs.Pieces.{unless}
+use Rattle.sa_trace.specs.Reading.{bad_after}
 use Rattle.sa_script.specs.declared.command.DebugCommand.{DebugCommand}
-use Rattle.sa_script.specs.Line.{line_in, cause_behind}
-
--- nothing follows the last line, else the first line that does is bad
-abbrev pub bad_behind : ℕ → List LineText → Option Bad
-bad_behind number [] = None
-bad_behind number (line ∷ rest) = Some (bad_at number (cause_behind number line))
+use Rattle.sa_script.specs.Line.{line_in, cause_after}
 
 -- what comes of what a line says: it is bad, or the commands go on with one more, or it is the last
 abbrev pub goes_on : {A : Type 0} → ℕ → Result (Option DebugCommand) Cause → (DebugCommand → Result A Bad) → Result A Bad → Result A Bad
@@ -27,7 +23,7 @@ abbrev pub read_from : WorkloadView → ℕ → List DebugCommand → List LineT
 read_from w number commands [] = Err (bad_at number Missing)
 read_from w number commands (line ∷ rest) =
     goes_on number (line_in w number line) (λ command. read_from w (number + 1) (commands ++ command ∷ []) rest)
-    (unless (bad_behind (number + 1) rest) commands)
+    (unless (bad_after cause_after (number + 1) rest) commands)
 
 -- what a text is read as: the commands of a script, or the first line that is bad, from 1, and why
 unfoldable pub script_of : WorkloadView → List ℕ → Result (List DebugCommand) Bad

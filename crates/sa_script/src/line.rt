@@ -2,7 +2,7 @@
 ghost use Rattle.std.specs.Prelude.{◌≡◌};
 ghost use Rattle.sa_text.specs.Line.{IsWithin, text_of_line};
 ghost use Rattle.sa_trace.specs.Pieces.{with_rest};
-ghost use Rattle.sa_script.specs.Line.{command_at, said_by, line_in, cause_behind};
+ghost use Rattle.sa_script.specs.Line.{command_at, said_by, line_in, cause_after};
 
 use crate::command::DebugCommand;
 use crate::fields::{read_point, read_proc, read_thread, read_turns};
@@ -60,10 +60,10 @@ fn read_command(w: &Workload, word: Word, words: &mut Pieces) -> Result<Option<D
     Ok(Some(command))
 }
 
-/// Why the line may not stand behind the last one.
-pub(crate) fn cause_behind(text: &[u8], line: Line) -> Cause
+/// Why the line may not follow the last one.
+pub(crate) fn cause_after(text: &[u8], line: Line) -> Cause
     requires { IsWithin text.now line }
-    ensures { result ≡ cause_behind line.number (text_of_line text.now line) }
+    ensures { result ≡ cause_after line.number (text_of_line text.now line) }
 {
     match read_pieces(text, line) {
         Err(cause) => cause,

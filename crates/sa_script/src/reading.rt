@@ -1,9 +1,11 @@
 ghost use Rattle.std.specs.Prelude.{◌≡◌, map};
 ghost use Rattle.std.specs.Result.{result_err};
 ghost use Rattle.sa_text.specs.Line.{text_of_line};
-ghost use Rattle.sa_script.specs.Reading.{script_of, bad_behind, IsReading};
+ghost use Rattle.sa_script.specs.Reading.{script_of, IsReading};
+ghost use Rattle.sa_trace.specs.Reading.{bad_after};
+ghost use Rattle.sa_script.specs.Line.{cause_after};
 
-use crate::line::{cause_behind, read_line};
+use crate::line::{cause_after, read_line};
 use crate::script::Script;
 use sa_base::{Bad, Cause, Unread};
 use sa_spaces::Workload;
@@ -36,10 +38,10 @@ pub fn read_script(alloc: Global, bytes: &[u8], w: &Workload) -> Result<Script, 
 fn check_end(text: &[u8], lines: &mut Lines) -> Result<(), Bad>
     requires { lines.old.text ≡ text.now }
     ensures { result_err result
-        ≡ bad_behind lines.old.number (map (text_of_line text.now) lines.old.left) }
+        ≡ bad_after cause_after lines.old.number (map (text_of_line text.now) lines.old.left) }
 {
     match lines.next() {
         None => Ok(()),
-        Some(line) => Err(Bad::new(line.number, cause_behind(text, line))),
+        Some(line) => Err(Bad::new(line.number, cause_after(text, line))),
     }
 }

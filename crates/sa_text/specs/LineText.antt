@@ -1,6 +1,6 @@
 -- The lines of a text, as bytes.
 use Rattle.std.specs.Prelude.{◌≡◌, ◌≢◌, ℕ, ◌+◌, ◌<◌, Bool, true, false, List, [], ◌∷◌, ◌++◌, length, Some, All, slice_get, ◌==◌, if◌then◌else◌}
-use Rattle.std.specs.List.{flat_map}
+use Rattle.std.specs.List.{flat_map, join_with_byte}
 
 -- a line: its bytes, and whether a line feed follows them
 pub record LineText : Type 0 where
@@ -20,6 +20,10 @@ line_texts (b ∷ bs) = if b == 10 then record { bytes = []; ended = true } ∷ 
 -- what a line takes of its text: its bytes, and the line feed where one follows
 abbrev pub whole_line : LineText → List ℕ
 whole_line l = l.bytes ++ (if l.ended then 10 ∷ [] else [])
+
+-- a line of these words, with a space between each two, and a line feed after them
+abbrev pub ended_line : List (List ℕ) → LineText
+ended_line words = record { bytes = join_with_byte 32 words; ended = true }
 
 -- no byte is a line feed
 abbrev pub LacksLineFeed : List ℕ → Type 0

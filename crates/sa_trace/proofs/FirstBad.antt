@@ -20,7 +20,7 @@ use Rattle.sa_trace.specs.declared.line.Said.{Said}
 use Rattle.sa_trace.specs.declared.line.Said.TheVariants.{Next, Last}
 use Rattle.sa_trace.specs.Pieces.{unless}
 use Rattle.sa_trace.specs.Line.{last_of, so_far, least_event, line_in}
-use Rattle.sa_trace.specs.Reading.{Told, told, bad_behind, goes_on, read_from, read_of}
+use Rattle.sa_trace.specs.Reading.{Told, told, bad_after, cause_after, goes_on, read_from, read_of}
 use Rattle.sa_trace.specs.Text.{FitsItem, InOrder}
 use Rattle.sa_trace.specs.TextLaws.{IsFirstBad}
 use Rattle.sa_trace.proofs.Lines.{FitsProc}
@@ -43,15 +43,17 @@ unless-err : (o : Option Bad) (t : Told) (bad : Bad) → unless o t ≡ Err bad 
 unless-err None t bad h = absurd cc
 unless-err (Some b) t bad h = ap (λ x. Some x) (same_bad b bad h)
 
-some_behind : (number : ℕ) (lines : List LineText) (bad : Bad) → bad_behind number lines ≡ Some bad → (bad.line ≡ number) × (1 ≤ length lines)
-some_behind number [] bad h = absurd cc
-some_behind number (line ∷ lines) bad h = (let e : _ ≡ bad = same_Some _ bad h in sym (ap (λ (b : Bad). b.line) e), omega arith)
+pub some_after : (cause : ℕ → LineText → Cause) (number : ℕ) (lines : List LineText) (bad : Bad) → bad_after cause number lines ≡ Some bad
+    → (bad.line ≡ number) × (1 ≤ length lines)
+some_after cause number [] bad h = absurd cc
+some_after cause number (line ∷ lines) bad h = (let e : _ ≡ bad = same_Some _ bad h in sym (ap (λ (b : Bad). b.line) e), omega arith)
 
-same_behind : (number : ℕ) (others lines : List LineText) → take 1 others ≡ take 1 lines → bad_behind number others ≡ bad_behind number lines
-same_behind number [] [] h = refl
-same_behind number [] (line ∷ lines) h = absurd cc
-same_behind number (other ∷ others) [] h = absurd cc
-same_behind number (other ∷ others) (line ∷ lines) h = ap (λ l. bad_behind number (l ∷ [])) (same_cons other line [] [] h).0
+pub same_after : (cause : ℕ → LineText → Cause) (number : ℕ) (others lines : List LineText) → take 1 others ≡ take 1 lines
+    → bad_after cause number others ≡ bad_after cause number lines
+same_after cause number [] [] h = refl
+same_after cause number [] (line ∷ lines) h = absurd cc
+same_after cause number (other ∷ others) [] h = absurd cc
+same_after cause number (other ∷ others) (line ∷ lines) h = ap (λ l. bad_after cause number (l ∷ [])) (same_cons other line [] [] h).0
 
 -- the counts of few items are small
 pub all-of : {A : Type 0} (P : A → Type 0) (xs : List A) → ((x : A) → P x) → All P xs
@@ -120,12 +122,12 @@ next-alike number before line lines item bad k next later (other ∷ others) e =
     ap (step number before others) (ap (line_in (so_far before)) same.0 ∙ next) ∙ later others same.1
 
 last-alike : (number : ℕ) (before : List Item) (line : LineText) (lines : List LineText) (end : End) (events : ℕ) (bad : Bad) → line_in (so_far before) line ≡ Ok (Last end events)
-    → bad_behind (number + 1) lines ≡ Some bad
+    → bad_after cause_after (number + 1) lines ≡ Some bad
     → (others : List LineText) → take 2 others ≡ take 2 (line ∷ lines) → read_from number before others ≡ Err bad
 last-alike number before line lines end events bad last behind [] e = absurd cc
 last-alike number before line lines end events bad last behind (other ∷ others) e =
     let same = same_cons other line (take 1 others) (take 1 lines) e in
-    ap (step number before others) (ap (line_in (so_far before)) same.0 ∙ last) ∙ ap (λ o. unless o (told before end events)) (same_behind (number + 1) others lines same.1 ∙ behind)
+    ap (step number before others) (ap (line_in (so_far before)) same.0 ∙ last) ∙ ap (λ o. unless o (told before end events)) (same_after cause_after (number + 1) others lines same.1 ∙ behind)
 
 pub stops : (number : ℕ) (before : List Item) (lines : List LineText) (bad : Bad) → FitsLast (last_of before) → length before + length lines < 2 ^ 64
     → read_from number before lines ≡ Err bad → (k : ℕ) × Stops number before lines bad k
@@ -144,7 +146,7 @@ stops number before [] bad fits few h = (
   },
 )
 stops number before (line ∷ lines) bad fits few h =
-    elim (goes_on-err number (line_in (so_far before) line) (λ item. read_from (number + 1) (before ++ item ∷ []) lines) (λ end events. unless (bad_behind (number + 1) lines) (told before end events)) bad h) [
+    elim (goes_on-err number (line_in (so_far before) line) (λ item. read_from (number + 1) (before ++ item ∷ []) lines) (λ end events. unless (bad_after cause_after (number + 1) lines) (told before end events)) bad h) [
       | inl wrong ↦ (
         0,
         record {
@@ -186,8 +188,8 @@ stops number before (line ∷ lines) bad fits few h =
             )
         | inr last ↦
             let is = line_in-end before line last.0 last.1 (fits_proc (last_of before) fits) last.2 in
-            let behind = unless-err (bad_behind (number + 1) lines) (told before last.0 last.1) bad last.3 in
-            let some = some_behind (number + 1) lines bad behind in (
+            let behind = unless-err (bad_after cause_after (number + 1) lines) (told before last.0 last.1) bad last.3 in
+            let some = some_after cause_after (number + 1) lines bad behind in (
               1,
               record {
                 line = some.0;

@@ -18,7 +18,7 @@ use Rattle.sa_base.specs.declared.refusal.Cause.TheVariants.{NotAscii, Missing}
 use Rattle.sa_trace.specs.Field.{range_of, AllFit}
 use Rattle.sa_trace.specs.Kind.{form_of}
 use Rattle.sa_trace.specs.Parts.{parts_of}
-use Rattle.sa_text.specs.LineText.{LineText, LacksLineFeed}
+use Rattle.sa_text.specs.LineText.{LineText, ended_line, LacksLineFeed}
 use Rattle.sa_text.specs.Pieces.{pieces_of, LacksSpace}
 use Rattle.sa_text.proofs.PieceLemmas.{pieces_of-are_pieces, pieces_only}
 use Rattle.sa_text.proofs.Spelling.{decimal-is_spelling, decimal-lacks}
@@ -156,10 +156,6 @@ joined-printed (p ∷ q ∷ ps) h =
     let both = both_true (is_printed p) (list_all is_printed (q ∷ ps)) h in
     list_all-append (λ b. nat_le 32 b && nat_le b 126) p (32 ∷ join_with_byte 32 (q ∷ ps)) ∙ and_true (is_printed p) (is_printed (join_with_byte 32 (q ∷ ps))) both.0 (joined-printed (q ∷ ps) both.1)
 
--- a line of pieces
-abbrev pub line_by : List (List ℕ) → LineText
-line_by ps = record { bytes = join_with_byte 32 ps; ended = true }
-
 pub printed-lacks : (bytes : List ℕ) → is_printed bytes ≡ true → LacksLineFeed bytes
 printed-lacks bytes h =
     All-weaker (λ b. (nat_le 32 b && nat_le b 126) ≡ true) (λ b. b ≢ 10)
@@ -168,7 +164,7 @@ printed-lacks bytes h =
 pub fine-lacks : (ps : List (List ℕ)) → AreFine ps → LacksLineFeed (join_with_byte 32 ps)
 fine-lacks ps h = printed-lacks (join_with_byte 32 ps) (joined-printed ps h.printed)
 
-pub pieces_in-line : (p : List ℕ) (ps : List (List ℕ)) → AreFine (p ∷ ps) → pieces_in (line_by (p ∷ ps)) ≡ Ok (p ∷ ps)
+pub pieces_in-line : (p : List ℕ) (ps : List (List ℕ)) → AreFine (p ∷ ps) → pieces_in (ended_line (p ∷ ps)) ≡ Ok (p ∷ ps)
 pieces_in-line p ps h =
     ap (λ b. cond b (Ok (pieces_of (join_with_byte 32 (p ∷ ps)))) (Err NotAscii)) (joined-printed (p ∷ ps) h.printed)
     ∙ ap (λ qs. Ok qs) (sym (pieces_only (p ∷ ps) (join_with_byte 32 (p ∷ ps)) (record { joined = refl; some = omega arith; apart = h.spaceless })))
@@ -176,7 +172,7 @@ pieces_in-line p ps h =
 refused : (cause : Cause) (ps : List (List ℕ)) → Err cause ≡ Ok ps → ⊥
 refused cause ps h = absurd cc
 
-pub pieces_in-ok : (line : LineText) (ps : List (List ℕ)) → pieces_in line ≡ Ok ps → (line ≡ line_by ps) × All LacksSpace ps
+pub pieces_in-ok : (line : LineText) (ps : List (List ℕ)) → pieces_in line ≡ Ok ps → (line ≡ ended_line ps) × All LacksSpace ps
 pieces_in-ok line ps h =
     elim (if_either (is_printed line.bytes) (cond line.ended (Ok (pieces_of line.bytes)) (Err Missing)) (Err NotAscii) (Ok ps) h) [
       | inl printed ↦ elim (if_either line.ended (Ok (pieces_of line.bytes)) (Err Missing) (Ok ps) printed.1) [

@@ -23,7 +23,7 @@ use Rattle.sa_trace.specs.Parts.{parts_of}
 use Rattle.sa_trace.specs.TraceText.{kind_number, count_of_kind, counts_of}
 use Rattle.sa_trace.specs.Pieces.{unless}
 use Rattle.sa_trace.specs.Line.{so_far, line_in}
-use Rattle.sa_trace.specs.Reading.{Told, told, bad_behind, goes_on, read_from, read_of}
+use Rattle.sa_trace.specs.Reading.{Told, told, bad_after, cause_after, goes_on, read_from, read_of}
 use Rattle.sa_trace.specs.Reader.{in_front, with_said, counted, and_item, read_on, LeftToRead, left}
 use Rattle.sa_trace.proofs.Counting.{count-more}
 use Rattle.sa_trace.proofs.Whole.{last_of-append}
@@ -126,7 +126,7 @@ unfolding read_on
 read_from-front number items [] = refl
 read_from-front number items (line ∷ rest) =
     goes_on-front number items (line_in (so_far items) line) (λ item. read_from (number + 1) (items ++ item ∷ []) rest)
-    (λ item. read_on (number + 1) (and_item item (so_far items)) rest) (bad_behind (number + 1) rest)
+    (λ item. read_on (number + 1) (and_item item (so_far items)) rest) (bad_after cause_after (number + 1) rest)
     (λ item. read_from-front (number + 1) (items ++ item ∷ []) rest
     ∙ ap (λ so. in_front (items ++ item ∷ []) (read_on (number + 1) so rest)) (so_far-append items item))
 
@@ -139,7 +139,7 @@ none-left at none = ap (read_on at.number at.so) none
 abbrev pub says_on : LeftToRead → List LineText → Result Said Cause → Result Told Bad
 says_on at rest said =
     goes_on at.number said (λ item. in_front (item ∷ []) (read_on (at.number + 1) (and_item item at.so) rest))
-    (λ end events. unless (bad_behind (at.number + 1) rest) (told [] end events))
+    (λ end events. unless (bad_after cause_after (at.number + 1) rest) (told [] end events))
 
 by-line : (at : LeftToRead) (line : LineText) (rest : List LineText) (said : Result Said Cause) → at.lines ≡ line ∷ rest
     → said ≡ line_in at.so line → left at ≡ says_on at rest said
@@ -158,14 +158,14 @@ item-line at after so line item next same says number added =
     ∙ ap (λ s. in_front (item ∷ []) (read_on after.number s after.lines)) (sym (added ∙ ap (and_item item) same))
 
 pub last-line : (at : LeftToRead) (line : LineText) (rest : List LineText) (end : End) (events number : ℕ) → at.lines ≡ line ∷ rest
-    → Ok (Last end events) ≡ line_in at.so line → number ≡ at.number + 1 → bad_behind number rest ≡ None → left at ≡ Ok (told [] end events)
+    → Ok (Last end events) ≡ line_in at.so line → number ≡ at.number + 1 → bad_after cause_after number rest ≡ None → left at ≡ Ok (told [] end events)
 last-line at line rest end events number next says is none =
-    by-line at line rest (Ok (Last end events)) next says ∙ ap (λ o. unless o (told [] end events)) (ap (λ n. bad_behind n rest) (sym is) ∙ none)
+    by-line at line rest (Ok (Last end events)) next says ∙ ap (λ o. unless o (told [] end events)) (ap (λ n. bad_after cause_after n rest) (sym is) ∙ none)
 
 pub line-behind : (at : LeftToRead) (line : LineText) (rest : List LineText) (end : End) (events number : ℕ) (bad : Bad) → at.lines ≡ line ∷ rest
-    → Ok (Last end events) ≡ line_in at.so line → number ≡ at.number + 1 → bad_behind number rest ≡ Some bad → left at ≡ Err bad
+    → Ok (Last end events) ≡ line_in at.so line → number ≡ at.number + 1 → bad_after cause_after number rest ≡ Some bad → left at ≡ Err bad
 line-behind at line rest end events number bad next says is some =
-    by-line at line rest (Ok (Last end events)) next says ∙ ap (λ o. unless o (told [] end events)) (ap (λ n. bad_behind n rest) (sym is) ∙ some)
+    by-line at line rest (Ok (Last end events)) next says ∙ ap (λ o. unless o (told [] end events)) (ap (λ n. bad_after cause_after n rest) (sym is) ∙ some)
 
 -- the counts of the items so far stay below what is below them
 pub below-more : (m n : ℕ) (counts : List ℕ) → m ≤ n → All (λ k. k < m) counts → All (λ k. k < n) counts

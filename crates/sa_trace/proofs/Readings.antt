@@ -1,11 +1,9 @@
 -- A number, a field and a record have each one spelling in pieces, which is read back.
-use Rattle.std.proofs.Common.{◌≡◌, ◌≢◌, ℕ, ◌^◌, ◌<◌, ◌≤◌, ◌&&◌, Bool, true, false, cond, List, [], ◌∷◌, map, Option, Some, None, Result, Ok, Err, refl, ap, ◌∙◌, subst, arith, nat_le, nat_lt, ◌⊎◌, inl, inr}
+use Rattle.std.proofs.Common.{◌≡◌, ◌≢◌, ℕ, ◌^◌, ◌<◌, ◌≤◌, ◌&&◌, Bool, true, false, cond, List, [], ◌∷◌, map, Option, Some, None, Result, Ok, Err, refl, ap, ◌∙◌, subst, arith, nat_le, ◌⊎◌, inl, inr}
 use Rattle.std.specs.Prelude.{All, codes, decimal}
 use Rattle.std.specs.Str.{bytes_eq}
-use Rattle.std.specs.Str.Parse.{digits_value}
-use Rattle.std.proofs.lemmas.Bool.{false≢true, ltb-true, leb-true, le-leb}
+use Rattle.std.proofs.lemmas.Bool.{false≢true, leb-true, le-leb}
 use Rattle.std.proofs.lemmas.Slice.Eq.{bytes_eq-Decides}
-use Rattle.std.proofs.lemmas.Option.{same_Some}
 use Rattle.std.proofs.lemmas.List.Elements.{All-nil, All-cons, All-head, All-tail}
 use Rattle.sa_trace.specs.declared.field.Field.{Field}
 use Rattle.sa_trace.specs.declared.field.Field.TheVariants.{Space, OptionalSpace, Thread, OptionalThread, Processor, Activation, Io, Place, Value, Demand}
@@ -14,7 +12,7 @@ use Rattle.sa_base.specs.declared.refusal.Cause.TheVariants.{BadNumber, OutOfRan
 use Rattle.sa_trace.specs.Field.{range_of, Fits, AllFit}
 use Rattle.sa_trace.specs.Pieces.{and_then, or_cause, within, number_in, field_in, fields_in, wrong_or, wrong_count}
 use Rattle.sa_text.proofs.Spelling.{decimal-lacks}
-use Rattle.sa_text.proofs.NumberOf.{reads_number}
+use Rattle.sa_text.proofs.NumberOf.{reads_number, number_of-some}
 use Rattle.sa_text.specs.Number.{number_of}
 
 -- what an answer is made of
@@ -25,23 +23,10 @@ and_then-ok (Err e) f b h = absurd cc
 pub same_Ok : {A : Type 0} (a b : A) → (λ (r : Result A Cause). r) (Ok a) ≡ Ok b → a ≡ b
 same_Ok a b h = cc
 
-if_some : (b : Bool) (x n : ℕ) → cond b (Some x) None ≡ Some n → (b ≡ true) × (x ≡ n)
-if_some true x n h = (refl, same_Some x n h)
-if_some false x n h = absurd cc
-
 pub both_true : (a b : Bool) → (a && b) ≡ true → (a ≡ true) × (b ≡ true)
 both_true true true h = (refl, refl)
 both_true true false h = absurd (false≢true h)
 both_true false b h = absurd (false≢true h)
-
--- a number is read from its decimal text alone
-pub number_of-some : (piece : List ℕ) (n : ℕ) → number_of piece ≡ Some n → (piece ≡ decimal n) × (n < 2 ^ 64)
-number_of-some piece n h =
-    let v = digits_value 10 piece in
-    let made = if_some (nat_lt v (2 ^ 64) && bytes_eq piece (decimal v)) v n h in
-    let tests = both_true (nat_lt v (2 ^ 64)) (bytes_eq piece (decimal v)) made.0 in
-    let small : v < 2 ^ 64 = ltb-true v (2 ^ 64) tests.0 in
-    ((bytes_eq-Decides piece (decimal v)).0 tests.1 ∙ ap decimal made.1, subst (λ m. m < 2 ^ 64) made.1 small)
 
 pub or_cause-ok : {A E : Type 0} (o : Option A) (cause : E) (a : A) → or_cause o cause ≡ Ok a → o ≡ Some a
 or_cause-ok None cause a h = absurd cc

@@ -10,25 +10,25 @@ use Rattle.sa_base.specs.declared.record.End.{End}
 use Rattle.sa_base.specs.declared.record.Item.{Item}
 use Rattle.sa_base.specs.declared.refusal.Bad.{Bad}
 use Rattle.sa_base.specs.declared.refusal.Cause.{Cause}
-use Rattle.sa_text.specs.LineText.{LineText, whole_line, line_texts}
+use Rattle.sa_text.specs.LineText.{LineText, ended_line, whole_line, line_texts}
 use Rattle.sa_text.proofs.LineLemmas.{line_texts-ended, line_texts-joined}
 use Rattle.sa_trace.specs.TraceText.{line_of, counts_of, last_line_of, trace_text}
 use Rattle.sa_trace.specs.declared.line.Said.{Said}
 use Rattle.sa_trace.specs.declared.line.Said.TheVariants.{Next, Last}
 use Rattle.sa_trace.specs.Pieces.{and_then, unless}
 use Rattle.sa_trace.specs.Line.{last_of, so_far, least_event, said_by, pieces_in, line_in}
-use Rattle.sa_trace.specs.Reading.{Told, told, bad_behind, goes_on, read_from, read_of}
+use Rattle.sa_trace.specs.Reading.{Told, told, bad_after, cause_after, goes_on, read_from, read_of}
 use Rattle.sa_trace.specs.Text.{FitsItem, MayFollow, InOrder, IsTextOf}
 use Rattle.sa_trace.proofs.Readings.{and_then-ok}
 use Rattle.sa_trace.proofs.Lines.{item_pieces, last_pieces, FitsProc, said_by-item, said_by-last, said_by-next, said_by-end}
-use Rattle.sa_trace.proofs.LineTexts.{line_by, fine-item, fine-last, fine-lacks, pieces_in-line, pieces_in-ok, line_of-pieces, last_line_of-pieces}
+use Rattle.sa_trace.proofs.LineTexts.{fine-item, fine-last, fine-lacks, pieces_in-line, pieces_in-ok, line_of-pieces, last_line_of-pieces}
 
 -- the line of an item, and the last line behind some items
 abbrev pub item_line : Item → LineText
-item_line item = line_by (item_pieces item)
+item_line item = ended_line (item_pieces item)
 
 abbrev pub last_line : List Item → End → ℕ → LineText
-last_line items end events = line_by (last_pieces (counts_of items) end events)
+last_line items end events = ended_line (last_pieces (counts_of items) end events)
 
 -- the lines of a text
 abbrev pub text_lines : List Item → List Item → End → ℕ → List LineText
@@ -51,7 +51,7 @@ line_in-next items line item fits h =
     let ps = and_then-ok (pieces_in line) (said_by (so_far items)) (Next item) h in
     let is = pieces_in-ok line ps.0 ps.1 in
     let read = said_by-next items ps.0 item fits is.1 ps.2 in
-    (is.0 ∙ ap line_by read.0, read.1, read.2)
+    (is.0 ∙ ap ended_line read.0, read.1, read.2)
 
 pub line_in-end : (items : List Item) (line : LineText) (end : End) (events : ℕ) → FitsProc (last_of items) → line_in (so_far items) line ≡ Ok (Last end events)
     → (line ≡ last_line items end events) × (least_event (last_of items) ≤ events) × (events < 2 ^ 64) × All (λ n. n < 2 ^ 64) (counts_of items)
@@ -59,7 +59,7 @@ line_in-end items line end events fits h =
     let ps = and_then-ok (pieces_in line) (said_by (so_far items)) (Last end events) h in
     let is = pieces_in-ok line ps.0 ps.1 in
     let read = said_by-end items ps.0 end events fits is.1 ps.2 in
-    (is.0 ∙ ap line_by read.0, read.1, read.2, read.3)
+    (is.0 ∙ ap ended_line read.0, read.1, read.2, read.3)
 
 -- the last of some items and one more
 pub last_of-append : (items : List Item) (item : Item) → last_of (items ++ item ∷ []) ≡ Some item
@@ -71,7 +71,7 @@ last_of-append items item =
 -- what comes of a line, behind some items and before some lines
 abbrev pub step : ℕ → List Item → List LineText → Result Said Cause → Result Told Bad
 step number items rest said =
-    goes_on number said (λ item. read_from (number + 1) (items ++ item ∷ []) rest) (λ end events. unless (bad_behind (number + 1) rest) (told items end events))
+    goes_on number said (λ item. read_from (number + 1) (items ++ item ∷ []) rest) (λ end events. unless (bad_after cause_after (number + 1) rest) (told items end events))
 
 -- what makes the items and the end behind some items a text's
 pub record AreAccepted (before more whole : List Item) (events : ℕ) : Type 0 where
@@ -116,14 +116,14 @@ unless_told : (o : Option Bad) (a t : Told) → unless o a ≡ Ok t → (o ≡ N
 unless_told None a t h = (refl, cc)
 unless_told (Some bad) a t h = absurd cc
 
-none_behind : (number : ℕ) (lines : List LineText) → bad_behind number lines ≡ None → lines ≡ []
-none_behind number [] h = refl
-none_behind number (line ∷ lines) h = absurd cc
+pub none_after : (cause : ℕ → LineText → Cause) (number : ℕ) (lines : List LineText) → bad_after cause number lines ≡ None → lines ≡ []
+none_after cause number [] h = refl
+none_after cause number (line ∷ lines) h = absurd cc
 
 pub lines-only : (number : ℕ) (before : List Item) (lines : List LineText) (t : Told) → FitsProc (last_of before) → read_from number before lines ≡ Ok t → AreLinesOf before lines t
 lines-only number before [] t fits h = absurd cc
 lines-only number before (line ∷ lines) t fits h =
-    elim (goes_on-ok number (line_in (so_far before) line) (λ item. read_from (number + 1) (before ++ item ∷ []) lines) (λ end events. unless (bad_behind (number + 1) lines) (told before end events)) t h) [
+    elim (goes_on-ok number (line_in (so_far before) line) (λ item. read_from (number + 1) (before ++ item ∷ []) lines) (λ end events. unless (bad_after cause_after (number + 1) lines) (told before end events)) t h) [
       | inl next ↦
           let is = line_in-next before line next.0 fits next.1 in
           let rest = lines-only (number + 1) (before ++ next.0 ∷ []) lines t (subst FitsProc (sym (last_of-append before next.0)) is.1.proc) next.2 in
@@ -141,10 +141,10 @@ lines-only number before (line ∷ lines) t fits h =
           }
       | inr last ↦
           let is = line_in-end before line last.0 last.1 fits last.2 in
-          let none = unless_told (bad_behind (number + 1) lines) (told before last.0 last.1) t last.3 in
+          let none = unless_told (bad_after cause_after (number + 1) lines) (told before last.0 last.1) t last.3 in
           subst (AreLinesOf before (line ∷ lines)) none.1 (record {
             more = [];
-            are = ap (λ l. l ∷ lines) is.0 ∙ ap (λ ls. last_line before last.0 last.1 ∷ ls) (none_behind (number + 1) lines none.0);
+            are = ap (λ l. l ∷ lines) is.0 ∙ ap (λ ls. last_line before last.0 last.1 ∷ ls) (none_after cause_after (number + 1) lines none.0);
             accepted = record { all = sym (append-nil before); fit = All-nil FitsItem; in_order = tt; enough = is.1; small = is.2; few = is.3 };
           })
     ]

@@ -23,15 +23,18 @@ pub record Told : Type 0 where
 abbrev pub told : List Item → End → ℕ → Told
 told items end events = record { items = items; end = end; events = events }
 
--- why a line may not stand behind the last one
+-- why a line may not follow the last one
 abbrev pub too_many : Result (List (List ℕ)) Cause → Cause
 too_many (Ok pieces) = BadWord
 too_many (Err cause) = cause
 
--- nothing follows the last line, else the first line that does is bad
-abbrev pub bad_behind : ℕ → List LineText → Option Bad
-bad_behind number [] = None
-bad_behind number (line ∷ rest) = Some (bad_at number (too_many (pieces_in line)))
+abbrev pub cause_after : ℕ → LineText → Cause
+cause_after number line = too_many (pieces_in line)
+
+-- nothing follows the last line, else the first line that does is bad, by the cause that its number and it have
+abbrev pub bad_after : (ℕ → LineText → Cause) → ℕ → List LineText → Option Bad
+bad_after cause number [] = None
+bad_after cause number (line ∷ rest) = Some (bad_at number (cause number line))
 
 -- what comes of what a line says: it is bad, or the items go on with one more, or it is the last
 abbrev pub goes_on : {A : Type 0} → ℕ → Result Said Cause → (Item → Result A Bad) → (End → ℕ → Result A Bad) → Result A Bad
@@ -44,7 +47,7 @@ abbrev pub read_from : ℕ → List Item → List LineText → Result Told Bad
 read_from number items [] = Err (bad_at number Missing)
 read_from number items (line ∷ rest) =
     goes_on number (line_in (so_far items) line) (λ item. read_from (number + 1) (items ++ item ∷ []) rest)
-    (λ end events. unless (bad_behind (number + 1) rest) (told items end events))
+    (λ end events. unless (bad_after cause_after (number + 1) rest) (told items end events))
 
 -- what a text is read as: what it tells, or the first line that is bad, from 1, and why
 unfoldable pub read_of : List ℕ → Result Told Bad

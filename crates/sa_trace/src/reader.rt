@@ -2,7 +2,7 @@
 ghost use Rattle.std.specs.Prelude.{◌≡◌, ◌≤◌, length, map};
 ghost use Rattle.std.specs.Result.{result_err};
 ghost use Rattle.sa_text.specs.Line.{text_of_line};
-ghost use Rattle.sa_trace.specs.Reading.{bad_behind};
+ghost use Rattle.sa_trace.specs.Reading.{bad_after, cause_after};
 
 use crate::line::{Said, read_line};
 use crate::so_far::SoFar;
@@ -86,7 +86,7 @@ fn check_end(text: &[u8], lines: &mut Lines) -> Result<(), Bad>
     ensures number { lines.old.number ≤ lines.new.number }
     ensures fewer { length lines.new.left ≤ length lines.old.left }
     ensures bad { result_err result
-        ≡ bad_behind lines.old.number (map (text_of_line text.now) lines.old.left) }
+        ≡ bad_after cause_after lines.old.number (map (text_of_line text.now) lines.old.left) }
 {
     let Some(line) = lines.next() else {
         return Ok(());

@@ -1,8 +1,7 @@
 -- Each thread stands within its program, whatever the instruction.
-use Rattle.std.proofs.Common.{◌≡◌, ◌≢◌, ℕ, ◌+◌, ◌-◌, ◌^◌, ◌<◌, length-append, Bool, true, false, cond, eqb, nat_lt, List, [], ◌∷◌, ◌++◌, length, get_or, set, inl, inr, sym, ap, subst, ◌∙◌, arith}
+use Rattle.std.proofs.Common.{◌≡◌, ◌≢◌, ℕ, ◌+◌, ◌-◌, ◌^◌, ◌<◌, length-append, Bool, true, false, cond, nat_lt, [], ◌∷◌, ◌++◌, length, get_or, set, inl, inr, sym, ap, subst, ◌∙◌, arith}
 use Rattle.std.specs.Prelude.{All}
 use Rattle.std.proofs.lemmas.Bool.{cases_eq, cases_lt}
-use Rattle.std.proofs.lemmas.Option.{get_or_from_slice_get}
 use Rattle.std.proofs.lemmas.List.{length-set, get_or-set_same, get_or-set_other, get_or_append_left, get_or-append_right}
 use Rattle.std.proofs.lemmas.List.Elements.{All-get_or}
 use Rattle.sa_base.specs.declared.number.ThreadNo.{ThreadNo}
@@ -10,10 +9,11 @@ use Rattle.sa_base.specs.declared.limits.TheConstants.{MAX_THREADS}
 use Rattle.sa_instr.specs.declared.instr.Instr.{Instr}
 use Rattle.sa_instr.specs.declared.instr.Instr.TheVariants.{Compute, Set, Add, Sub, Jnz, Load, Store, Out, Fork, Join, Lock, Unlock, Wait, Signal, Io, Touch, End}
 use Rattle.sa_instr.specs.declared.instr.Reg.{Reg}
-use Rattle.sa_instr.specs.Instr.{JumpsBelow, NamesDeclared}
-use Rattle.sa_instr.specs.Local.{instr_at, place_after, regs_after}
+use Rattle.sa_instr.specs.Instr.{NamesDeclared}
+use Rattle.sa_instr.specs.Local.{place_after, regs_after}
 use Rattle.sa_instr.specs.Program.{IsProgram}
 use Rattle.sa_instr.specs.Regs.{reg_value}
+use Rattle.sa_instr.proofs.PlaceLemmas.{next_inside, place_inside}
 use Rattle.sa_spaces.specs.Space.{SpaceView, IsSpace}
 use Rattle.sa_sync.specs.declared.answer.SyncAnswer.{SyncAnswer}
 use Rattle.sa_sync.specs.declared.answer.SyncAnswer.TheVariants as answers
@@ -27,30 +27,6 @@ use Rattle.sa_check_machine.specs.Running.{IsAt, instr_in}
 -- all threads of a space
 abbrev pub AllAt : SpaceView → SpaceState → Type 0
 AllAt def x = (t : ℕ) → t < length x.threads → IsAt def (thread_in x (record { 0 = t }))
-
-next_inside : (p : List Instr) (pc : ℕ) → IsProgram p → pc < length p → instr_at p pc ≢ End → pc + 1 < length p
-next_inside p pc is inside more = elim (cases_lt (pc + 1) (length p)) [
-  | inl h ↦ h
-  | inr h ↦
-      let last : pc ≡ length p - 1 = omega arith in
-      absurd (more (ap (instr_at p) last ∙ get_or_from_slice_get p (length p - 1) End End is.ends))
-]
-
--- where both ways of a test are below
-test_below : (b : Bool) (m k n : ℕ) → m < n → k < n → cond b m k < n
-test_below true m k n left right = left
-test_below false m k n left right = right
-
--- a local instruction leads to a place of the program
-place_inside : (p : List Instr) (pc : ℕ) (regs : List ℕ) (i : Instr) → IsProgram p → pc < length p → i ≡ instr_at p pc → place_after i pc regs < length p
-place_inside p pc regs Compute is inside at = next_inside p pc is inside (λ e. let no = at ∙ e in cc)
-place_inside p pc regs (Set reg n) is inside at = next_inside p pc is inside (λ e. let no = at ∙ e in cc)
-place_inside p pc regs (Add reg other) is inside at = next_inside p pc is inside (λ e. let no = at ∙ e in cc)
-place_inside p pc regs (Sub reg other) is inside at = next_inside p pc is inside (λ e. let no = at ∙ e in cc)
-place_inside p pc regs (Jnz reg place) is inside at =
-    let jumps : JumpsBelow (length p) (Jnz reg place) = subst (JumpsBelow (length p)) (sym at) (All-get_or (JumpsBelow (length p)) p pc End inside is.jumps) in
-    test_below (eqb (reg_value regs reg) 0) (pc + 1) place (length p) (next_inside p pc is inside (λ e. let no = at ∙ e in cc)) jumps.1.0
-place_inside p pc regs i is inside at = inside
 
 module _ (def : SpaceView) (space : IsSpace def) (x : SpaceState) (t : ThreadNo) (thread : Thread) (at : IsAt def thread) (all : AllAt def x) where
   program_is : IsProgram (get_or def.programs thread.program [])

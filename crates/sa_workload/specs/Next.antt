@@ -1,5 +1,5 @@
 -- What a line leads to from a position, or why it is refused there: the reader's contracts are equations to this.
-use Rattle.std.specs.Prelude.{ℕ, ◌+◌, ◌-◌, Bool, true, false, ◌==◌, ◌&&◌, not, nat_le, if◌then◌else◌, List, [], ◌∷◌, ◌++◌, length, slice_get, slice_index, slice_index_or, find, Option, Some, None, Result, Ok, Err, codes}
+use Rattle.std.specs.Prelude.{ℕ, ◌+◌, ◌-◌, Bool, true, false, ◌==◌, ◌&&◌, not, nat_le, if◌then◌else◌, List, [], ◌∷◌, ◌++◌, length, slice_get, slice_index, slice_index_or, Option, Some, None, Result, Ok, Err, codes}
 use Rattle.sa_base.specs.Cause.{cause_number}
 use Rattle.sa_base.specs.declared.refusal.Cause.TheVariants.{BadWord, TooMany, Missing}
 use Rattle.std.specs.Option.{option_map, is_some}
@@ -16,7 +16,6 @@ use Rattle.sa_instr.specs.declared.operand.Operand.TheVariants.{Register, Value,
 use Rattle.sa_instr.specs.declared.operand.OperandKind.{OperandKind}
 use Rattle.sa_instr.specs.declared.operand.OperandKind.TheVariants as Kinds
 use Rattle.sa_instr.specs.declared.operation.Operation.{Operation}
-use Rattle.sa_instr.specs.declared.operation.TheConstants.{OPERATIONS}
 use Rattle.sa_instr.specs.Operation.{form_of}
 use Rattle.sa_instr.specs.Parts.{instr_of}
 use Rattle.sa_spaces.specs.declared.workload.Evict.{Evict}
@@ -122,10 +121,7 @@ abbrev pub operands_from : List OperandKind → List ℕ → List Operand
 operands_from (kind ∷ kinds) (n ∷ ns) = operand_from kind n ∷ operands_from kinds ns
 operands_from _ _ = []
 
--- the operation of a word, and the instruction of a word and numbers
-unfoldable pub operation_of : List ℕ → Option Operation
-operation_of word = find (λ operation. bytes_eq word (form_of operation).word) OPERATIONS
-
+-- the instruction of an operation and numbers
 abbrev pub made_by : List ℕ → Option Operation → Option Instr
 made_by ns None = None
 made_by ns (Some operation) = instr_of operation (operands_from (form_of operation).operands ns)

@@ -5,13 +5,12 @@ use Rattle.std.specs.Str.{bytes_eq}
 use Rattle.sa_instr.specs.declared.operand.OperandKind.{OperandKind}
 use Rattle.sa_instr.specs.declared.operand.OperandKind.TheVariants as Kinds
 use Rattle.sa_instr.specs.declared.operation.Operation.{Operation}
-use Rattle.sa_instr.specs.Operation.{form_of}
+use Rattle.sa_instr.specs.Operation.{form_of, operation_of}
 use Rattle.sa_workload.specs.declared.stage.MachineLine.{MachineLine}
 use Rattle.sa_workload.specs.declared.stage.MachineLine.TheVariants.{Version, Processors, Fetch, Slice, Spaces}
 use Rattle.sa_workload.specs.declared.stage.Reader.{Reader}
 use Rattle.sa_workload.specs.declared.stage.Stage.{Stage}
 use Rattle.sa_workload.specs.declared.stage.Stage.TheVariants.{Machine, Space, Sem, Absent, Program, Instr, Evict, Turn, Closed}
-use Rattle.sa_workload.specs.Next.{operation_of}
 
 -- as many numbers as limits, each below its own
 abbrev pub AreBelow : List ℕ → List ℕ → Type 0

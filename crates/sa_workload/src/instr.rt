@@ -1,8 +1,8 @@
 // The instruction of a line.
 ghost use Rattle.std.specs.Prelude.{◌≡◌, ◌<◌, Some};
-ghost use Rattle.sa_instr.specs.Operation.{form_of};
+ghost use Rattle.sa_instr.specs.Operation.{form_of, operation_of};
 ghost use Rattle.sa_instr.specs.Parts.{instr_of};
-ghost use Rattle.sa_workload.specs.Next.{is_end, made_by, operand_from, operands_from, operation_of};
+ghost use Rattle.sa_workload.specs.Next.{is_end, made_by, operand_from, operands_from};
 ghost use Rattle.sa_workload.specs.Rooms.{room_for, AllHaveRoom};
 
 use sa_instr::{Instr, Operand, OperandKind, Operation, Reg};

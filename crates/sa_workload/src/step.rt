@@ -2,11 +2,12 @@
 ghost use Rattle.std.specs.Prelude.{◌≡◌, ◌≤◌, ◌+◌, ◌^◌, true, List, ℕ, [], ◌∷◌, length, slice_index, MatchResult, Ok};
 ghost use Rattle.std.specs.Option.{is_some};
 ghost use Rattle.sa_instr.specs.Program.{IsProgram};
+ghost use Rattle.sa_instr.specs.Operation.{operation_of};
 ghost use Rattle.sa_spaces.specs.Space.{IsSpace};
 ghost use Rattle.sa_workload.specs.Fields.{index_of};
 ghost use Rattle.sa_workload.specs.Position.{AtInstr, IsReached};
 ghost use Rattle.sa_workload.specs.Bad.{instr_words};
-ghost use Rattle.sa_workload.specs.Next.{draft_from, evict_from, fields_of, operation_of, step};
+ghost use Rattle.sa_workload.specs.Next.{draft_from, evict_from, fields_of, step};
 ghost use Rattle.sa_workload.specs.Stage.{machine_of, draft_of, at_stage, position_of, AreNumbersOf, Gives};
 ghost use Rattle.sa_workload.specs.Rooms.{room_of, space_rooms, evict_rooms, turn_rooms, AreBelow, AllHaveRoom, RoomsAt};
 ghost use Rattle.sa_workload.specs.Steps.{expected, after_program as behind_program, after_sem as behind_sem, after_spaces as behind_spaces, space_of_draft, with_program, with_sem};

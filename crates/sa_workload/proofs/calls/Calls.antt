@@ -12,20 +12,21 @@ use Rattle.sa_instr.specs.declared.operand.OperandKind.{OperandKind}
 use Rattle.sa_instr.specs.declared.operation.Operation.{Operation}
 use Rattle.sa_instr.specs.declared.operation.TheConstants.{OPERATIONS}
 use Rattle.sa_instr.specs.declared.instr.Instr.{Instr}
-use Rattle.sa_instr.specs.Operation.{form_of, IsNoWord}
+use Rattle.sa_instr.specs.Operation.{form_of, IsNoWord, operation_of}
 use Rattle.sa_instr.specs.Program.{IsProgram}
+use Rattle.sa_instr.proofs.OperationLemmas.{operation-found}
 use Rattle.sa_spaces.specs.Space.{SpaceView, IsSpace}
 use Rattle.sa_text.specs.LineText.{LineText}
 use Rattle.sa_workload.specs.Bad.{Field, Register, list_lt, instr_words}
 use Rattle.sa_workload.specs.Fields.{and_then, unless, field_at, fields_at, at_end, index_of, line_numbers, order_cause}
 use Rattle.sa_workload.specs.Position.{Machine, Draft, Position, AtVersion, AtAbsent, AtInstr, AtEvict, IsReached}
-use Rattle.sa_workload.specs.Next.{draft_numbers, evict_numbers, fields_of, is_end, is_full, last_numbers, last_of, made_by, next_by, operand_from, operands_from, operation_of, step}
+use Rattle.sa_workload.specs.Next.{draft_numbers, evict_numbers, fields_of, is_end, is_full, last_numbers, last_of, made_by, next_by, operand_from, operands_from, step}
 use Rattle.sa_workload.specs.Steps.{expected, space_of_draft, with_program}
 use Rattle.sa_workload.specs.Rooms.{AreBelow, room_for}
 use Rattle.sa_workload.specs.Reading.{line_in, read_from, goes_on}
 use Rattle.sa_spaces.specs.declared.workload.Evict.{Evict}
 use Rattle.sa_workload.proofs.fields.FieldLemmas.{AllPass, all_long}
-use Rattle.sa_workload.proofs.fields.InstrLemmas.{IsAllowed, instr-read, no_operation, operation-expected, operation-found}
+use Rattle.sa_workload.proofs.fields.InstrLemmas.{IsAllowed, instr-read, no_operation, operation-expected}
 use Rattle.sa_workload.proofs.calls.Rooms.{all_pass}
 use Rattle.sa_workload.proofs.forward.Sound.{end_of}
 use Rattle.sa_workload.proofs.forward.Reached.{begun_more, whole_program, with_program-drafted, whole_space}

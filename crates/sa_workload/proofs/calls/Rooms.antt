@@ -5,7 +5,8 @@ use Rattle.sa_base.specs.declared.limits.TheConstants.{FIRST_THREAD_PAGE, MAX_EV
 use Rattle.sa_instr.specs.declared.limits.TheConstants.{LAST_PAGE, MAX_CELLS, MAX_FETCH, MAX_INSTRUCTIONS, MAX_IO_LENGTH, MAX_MUTEXES, MAX_PATIENCE, MAX_PRIORITY, MAX_PROGRAMS, MAX_SEMAPHORES, MAX_SLICE, MAX_START}
 use Rattle.sa_instr.specs.declared.operand.OperandKind.{OperandKind}
 use Rattle.sa_instr.specs.declared.operand.OperandKind.TheVariants as Kinds
-use Rattle.sa_instr.specs.Operation.{form_of}
+use Rattle.sa_instr.specs.Operation.{form_of, operation_of}
+use Rattle.sa_instr.proofs.OperationLemmas.{operation-found}
 use Rattle.sa_workload.specs.declared.stage.MachineLine.{MachineLine}
 use Rattle.sa_workload.specs.declared.stage.MachineLine.TheVariants.{Version, Processors, Fetch, Slice, Spaces}
 use Rattle.sa_workload.specs.declared.stage.Reader.{Reader}
@@ -14,12 +15,12 @@ use Rattle.sa_workload.specs.declared.stage.Stage.TheVariants.{Machine, Space, S
 use Rattle.sa_workload.specs.Bad.{DeclaredNumbers, Field, within, declared, operand_field, fields_by, instr_words}
 use Rattle.sa_workload.specs.Fields.{index_of}
 use Rattle.sa_workload.specs.Position.{IsReached}
-use Rattle.sa_workload.specs.Next.{draft_numbers, fields_of, is_last_impatient, operation_of}
+use Rattle.sa_workload.specs.Next.{draft_numbers, fields_of, is_last_impatient}
 use Rattle.sa_workload.specs.Rooms.{AreBelow, space_rooms, room_for, AllHaveRoom, RoomsAt}
 use Rattle.sa_workload.specs.Stage.{machine_of, draft_of, machine_position, at_stage, AreNumbersOf}
 use Rattle.sa_workload.specs.Steps.{expected}
 use Rattle.sa_workload.proofs.fields.FieldLemmas.{Passes, AllPass, within-passes, declared-passes, line-ok}
-use Rattle.sa_workload.proofs.fields.InstrLemmas.{expected-operation, operation-fields, operation-found}
+use Rattle.sa_workload.proofs.fields.InstrLemmas.{expected-operation, operation-fields}
 use Rattle.sa_workload.proofs.forward.Sound.{by_word}
 
 pub all_pass : (fields : List Field) (ns : List ℕ) → AreNumbersOf fields ns → AllPass fields ns

@@ -1,14 +1,13 @@
 -- What the words of a line are read as, and back: a field has one spelling.
-use Rattle.std.proofs.Common.{◌≡◌, ℕ, zero, suc, ◌+◌, ◌^◌, ◌<◌, ◌≤◌, ◌&&◌, ◌⊎◌, Bool, true, false, cond, List, [], ◌∷◌, ◌++◌, length, get_or, Contains, Option, Some, None, Result, Ok, Err, codes, decimal, refl, sym, ap, ap₂, ◌∙◌, subst, inl, inr, arith, nat_le, nat_lt}
+use Rattle.std.proofs.Common.{◌≡◌, ℕ, zero, suc, ◌+◌, ◌^◌, ◌<◌, ◌≤◌, ◌&&◌, ◌⊎◌, Bool, true, false, cond, List, [], ◌∷◌, ◌++◌, length, get_or, Contains, Option, Some, None, Result, Ok, Err, codes, decimal, refl, sym, ap, ap₂, ◌∙◌, subst, inl, inr, arith, nat_le}
 use Rattle.std.specs.Option.{is_some, option_map}
 use Rattle.std.specs.Str.{bytes_eq}
-use Rattle.std.specs.Str.Parse.{digits_value}
 use Rattle.std.proofs.lemmas.Bool.{false≢true, ltb-true, leb-true, le-leb, lt-ltb}
 use Rattle.std.proofs.lemmas.Fmt.{decimal_digit}
 use Rattle.std.proofs.lemmas.List.{append-nil}
 use Rattle.std.proofs.lemmas.Slice.Eq.{bytes_eq-Decides}
 use Rattle.sa_text.specs.Number.{number_of}
-use Rattle.sa_text.proofs.NumberOf.{reads_number}
+use Rattle.sa_text.proofs.NumberOf.{reads_number, number_of-some}
 use Rattle.sa_workload.specs.Bad.{Field, Register, Number, within, declared, registers}
 use Rattle.sa_workload.specs.Fields.{and_then, unless, or_cause, index_of, read_field, fields_at, at_end, order_cause, line_numbers}
 
@@ -127,19 +126,6 @@ register-spelled n d h = ap (λ ds. 114 ∷ ds) (sym (decimal_digit n (omega ari
 register-read : (n : ℕ) → n < 8 → index_of (get_or registers n []) registers ≡ Some n
 register-read (suc (suc (suc (suc (suc (suc (suc (suc n)))))))) h = absurd (omega arith)
 register-read _ h = refl
-
--- a number is read from its decimal text alone
-if_some : (b : Bool) (x n : ℕ) → cond b (Some x) None ≡ Some n → (b ≡ true) × (x ≡ n)
-if_some true x n h = (refl, cc)
-if_some false x n h = absurd cc
-
-number_of-some : (word : List ℕ) (n : ℕ) → number_of word ≡ Some n → (word ≡ decimal n) × (n < 2 ^ 64)
-number_of-some word n h =
-    let v = digits_value 10 word in
-    let made = if_some (nat_lt v (2 ^ 64) && bytes_eq word (decimal v)) v n h in
-    let tests = both_true (nat_lt v (2 ^ 64)) (bytes_eq word (decimal v)) made.0 in
-    let small : v < 2 ^ 64 = ltb-true v (2 ^ 64) tests.0 in
-    ((bytes_eq-Decides word (decimal v)).0 tests.1 ∙ ap decimal made.1, subst (λ m. m < 2 ^ 64) made.1 small)
 
 -- a field is read from its spelling alone
 pub read-spelled : (f : Field) (n : ℕ) → Passes f n → read_field f (spelled f n) ≡ Ok n

@@ -17,13 +17,13 @@ use Rattle.sa_instr.specs.declared.operation.Operation.TheVariants as Operations
 use Rattle.sa_instr.specs.declared.operation.TheConstants.{OPERATIONS}
 use Rattle.sa_instr.specs.Instr.{reg_number, IsInRange, JumpsBelow, NamesDeclared}
 use Rattle.sa_instr.specs.Operand.{kind_of, InRange, IsPlaceBelow, IsDeclared, Each}
-use Rattle.sa_instr.specs.Operation.{form_of, IsNoWord}
+use Rattle.sa_instr.specs.Operation.{form_of, IsNoWord, operation_of}
 use Rattle.sa_instr.specs.Parts.{parts, parts_of, instr_of}
 use Rattle.sa_instr.proofs.PartsLemmas.{remade, parts-back, fit-some}
 use Rattle.sa_workload.specs.Text.{operand_word, instr_line}
 use Rattle.sa_workload.specs.Bad.{DeclaredNumbers, Field, operand_field, fields_by, instr_words}
 use Rattle.sa_workload.specs.Fields.{index_of}
-use Rattle.sa_workload.specs.Next.{reg_from, operand_from, operands_from, operation_of, made_by}
+use Rattle.sa_workload.specs.Next.{reg_from, operand_from, operands_from, made_by}
 use Rattle.sa_workload.proofs.fields.FieldLemmas.{contained, spelled, Passes, spelled_all, AllPass, passes-within, passes-declared, within-passes, declared-passes}
 
 reg_number-from : (n : ℕ) → n < 8 → reg_number (reg_from n) ≡ n
@@ -37,12 +37,6 @@ reg_from-number _ = refl
 pub reg_number-below : (r : Reg) → reg_number r < 8
 reg_number-below R0 = omega arith
 reg_number-below _ = omega arith
-
--- what is found by the word of an operation
-pub operation-found : (o : Operation) → operation_of (form_of o).word ≡ Some o
-unfolding operation_of
-operation-found Operations.End = refl
-operation-found _ = refl
 
 pub operation-expected : (o : Operation) → is_some (index_of (form_of o).word instr_words) ≡ true
 operation-expected Operations.End = refl

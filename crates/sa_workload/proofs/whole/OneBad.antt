@@ -5,14 +5,14 @@ use Rattle.std.proofs.lemmas.List.{map-append, drop_more, take-take, get_or-take
 use Rattle.std.proofs.lemmas.List.Elements.{All-map}
 use Rattle.std.proofs.lemmas.Option.{slice_get_past, slice_get_within, slice_get-get_or}
 use Rattle.sa_spaces.specs.Workload.{WorkloadView, IsWorkload}
-use Rattle.sa_text.specs.LineText.{LineText, line_texts}
+use Rattle.sa_text.specs.LineText.{LineText, ended_line, line_texts}
 use Rattle.sa_text.specs.Pieces.{pieces_of}
 use Rattle.sa_workload.specs.Text.{workload_lines, text_of}
 use Rattle.sa_workload.specs.Bad.{IsUpTo, IsTooMany, field_cause, fields_behind, WordCause, Begins, LineCause, words_of, IsBad}
 use Rattle.sa_workload.specs.Laws.{TextsDiffer}
 use Rattle.sa_workload.proofs.forward.Completion.{begins_front}
 use Rattle.sa_workload.proofs.forward.Standing.{lines-injective}
-use Rattle.sa_workload.proofs.whole.TextLemmas.{ended_line, line_texts-text_of, words_of-text_of}
+use Rattle.sa_workload.proofs.whole.TextLemmas.{line_texts-text_of, words_of-text_of}
 
 -- the lines up to one of them
 split_at : (ls : List LineText) (i n : ℕ) (line : LineText) → slice_get ls i ≡ Some line → i < n

@@ -7,7 +7,7 @@ use Rattle.std.proofs.lemmas.List.Sums.{AllPass-from_list_all}
 use Rattle.std.proofs.lemmas.List.Folds.{flat_map-map}
 use Rattle.std.proofs.lemmas.List.Splits.{join_with_byte-slice_split}
 use Rattle.sa_spaces.specs.Workload.{WorkloadView, IsWorkload}
-use Rattle.sa_text.specs.LineText.{LineText, line_texts, whole_line, LacksLineFeed}
+use Rattle.sa_text.specs.LineText.{LineText, ended_line, line_texts, whole_line, LacksLineFeed}
 use Rattle.sa_text.specs.Pieces.{pieces_of, LacksSpace}
 use Rattle.sa_text.proofs.LineLemmas.{line_texts-printed, line_texts-joined}
 use Rattle.sa_text.proofs.PieceLemmas.{pieces_of-spaced}
@@ -112,10 +112,6 @@ pieces_of-words (word ∷ words) h =
     ap pieces_of (join-spaced word words)
     ∙ pieces_of-spaced word words (visible-lacks word (All-head IsVisible word words h.1))
     (All-weaker IsVisible LacksSpace visible-lacks words (All-tail IsVisible word words h.1))
-
--- a line of words, with its line feed
-abbrev pub ended_line : List (List ℕ) → LineText
-ended_line line = record { bytes = join_with_byte 32 line; ended = true }
 
 ended-joined : (lines : List (List (List ℕ))) → map (λ l. record { bytes = l; ended = true }) (map (join_with_byte 32) lines) ≡ map ended_line lines
 ended-joined [] = refl

@@ -6,7 +6,7 @@ use Rattle.sa_text.specs.Line.{text_of_line}
 use Rattle.sa_trace.specs.declared.line.Said.TheVariants.{Next, Last}
 use Rattle.sa_trace.specs.declared.so_far.SoFar.{SoFar}
 use Rattle.sa_trace.specs.Line.{line_in}
-use Rattle.sa_trace.specs.Reading.{bad_behind, told}
+use Rattle.sa_trace.specs.Reading.{bad_after, cause_after, told}
 use Rattle.sa_trace.specs.Reader.{LeftToRead, left}
 use Rattle.sa_trace.proofs.ReadOn.{none-left, bad-line, item-line, last-line, line-behind, counted-below}
 use Rattle.sa_trace.proofs.reader.Reader.next.Goals as goal
@@ -34,7 +34,7 @@ returns-in_err-check_end-in-Ok-Last-clause-says c =
     let lines : at.lines ≡ line ∷ rest = ap (λ (a : LeftToRead). a.lines) (sym c.self.view_is) ∙ ap (map (text_of_line text)) c.in-Some.ensures.first in
     let says : Ok (Last c.in-Ok-Last.end c.in-Ok-Last.events) ≡ line_in at.so line = search rules in
     let number : c.next.new.self.number ≡ at.number + 1 = search rules in
-    let some : bad_behind c.next.new.self.number rest ≡ Some c.in_err-check_end-in-Ok-Last.field-0.0 = search rules in
+    let some : bad_after cause_after c.next.new.self.number rest ≡ Some c.in_err-check_end-in-Ok-Last.field-0.0 = search rules in
     let e : left at ≡ Err c.in_err-check_end-in-Ok-Last.field-0.0 =
     line-behind at line rest c.in-Ok-Last.end c.in-Ok-Last.events c.next.new.self.number c.in_err-check_end-in-Ok-Last.field-0.0 lines says number some in
     search (e, rules)
@@ -71,6 +71,6 @@ returns-in_ok-check_end-in-Ok-Last-clause-says c =
     let lines : at.lines ≡ line ∷ rest = ap (λ (a : LeftToRead). a.lines) (sym c.self.view_is) ∙ ap (map (text_of_line text)) c.in-Some.ensures.first in
     let says : Ok (Last c.in-Ok-Last.end c.in-Ok-Last.events) ≡ line_in at.so line = search rules in
     let number : c.next.new.self.number ≡ at.number + 1 = search rules in
-    let none : bad_behind c.next.new.self.number rest ≡ None = search rules in
+    let none : bad_after cause_after c.next.new.self.number rest ≡ None = search rules in
     last-line at line rest c.in-Ok-Last.end c.in-Ok-Last.events c.next.new.self.number lines says number none
     ∙ ap₂ (λ end events. Ok (told [] end events)) (sym c.in-Ok-Last.end-is) (sym c.in-Ok-Last.events-is)
