@@ -2,7 +2,7 @@
 use Rattle.std.proofs.Common.{◌≡◌, ◌≢◌, ℕ, suc, ◌+◌, None, refl, sym, ◌∙◌, ap, List, [], ◌∷◌, ◌++◌, map, take, drop, Bool, true, false, arith}
 use Rattle.std.specs.Prelude.{◌==◌, ◌&&◌, if◌then◌else◌}
 use Rattle.std.specs.List.{prefix_len}
-use Rattle.std.proofs.lemmas.Bool.Decides.{nat_tests}
+use Rattle.std.proofs.lemmas.Bool.{and_parts, eqb-true, eq-eqb}
 use Rattle.sa_base.specs.declared.record.Item.{Item}
 use Rattle.sa_base.specs.declared.record.Record.{Record}
 use Rattle.sa_base.specs.Items.{items_at}
@@ -12,26 +12,15 @@ use Rattle.sa_laws.specs.Ends.{LastLine}
 use Rattle.sa_check.specs.Items.{is_with, what_of}
 use Rattle.sa_check.specs.Sides.{line_before}
 
-and-both : (a b : Bool) → (a && b) ≡ true → (a ≡ true) × (b ≡ true)
-and-both true true is = (refl, refl)
-and-both true false is = absurd (cc)
-and-both false b is = absurd (cc)
-
-same-number : (a b : ℕ) → (a == b) ≡ true → a ≡ b
-same-number a b is = grind (arith, nat_tests)
-
-same-itself : (a : ℕ) → (a == a) ≡ true
-same-itself a = grind (arith, nat_tests)
-
 record Together (x y : Item) : Type 0 where
   event : x.event ≡ y.event
   proc : x.proc ≡ y.proc
 
 together : (x y : Item) → is_with x y ≡ true → Together x y
 together x y is =
-    let both = and-both (x.event == y.event) (x.proc.0 == y.proc.0) is in
-    let proc : x.proc.0 ≡ y.proc.0 = same-number x.proc.0 y.proc.0 both.1 in
-    record { event = same-number x.event y.event both.0; proc = λ i. record { 0 = proc i } }
+    let both = and_parts (x.event == y.event) (x.proc.0 == y.proc.0) is in
+    let proc : x.proc.0 ≡ y.proc.0 = eqb-true x.proc.0 y.proc.0 both.1 in
+    record { event = eqb-true x.event y.event both.0; proc = λ i. record { 0 = proc i } }
 
 pub first-event : (x : Item) (xs : List Item)
     → events_of (x ∷ xs) ≡ event x.event x.proc (x.what ∷ map what_of (take (prefix_len (is_with x) xs) xs)) ∷ events_of (drop (prefix_len (is_with x) xs) xs)
@@ -89,6 +78,7 @@ front-event first (x ∷ []) rest some apart = before-other first x rest apart
 front-event first (x ∷ y ∷ ys) rest some apart =
     let own = event first.event first.proc (y ∷ ys) in
     let one = event first.event first.proc (x ∷ []) in
-    let itself : is_with first first ≡ true = ap (λ b. b && first.proc.0 == first.proc.0) (same-itself first.event) ∙ same-itself first.proc.0 in
+    let itself : is_with first first ≡ true =
+    ap (λ b. b && first.proc.0 == first.proc.0) (eq-eqb first.event first.event refl) ∙ eq-eqb first.proc.0 first.proc.0 refl in
     ap (before_events (record first { what = x })) (front-event first (y ∷ ys) rest (λ none. cc) apart)
     ∙ ap (λ b. if b then event first.event first.proc (x ∷ y ∷ ys) ∷ events_of rest else one ∷ own ∷ events_of rest) itself

@@ -1,9 +1,9 @@
 -- A quiet event leaves owners, shares, wants and what is told in time as they were.
 use Rattle.std.proofs.Common.{◌≡◌, ℕ, zero, suc, ◌+◌, ◌-◌, ◌≤◌, refl, sym, ◌∙◌, ap, subst, inl, inr, arith, Bool, true, false, List, [], ◌∷◌, ◌++◌, map, length, take, Option, Some, None}
-use Rattle.std.specs.Prelude.{◌==◌, nat_lt, not, ◌&&◌, ◌||◌, slice_index, slice_index_or, if◌then◌else◌, is_none, filter, slice_set}
+use Rattle.std.specs.Prelude.{◌==◌, nat_lt, not, ◌&&◌, ◌||◌, slice_index, slice_index_or, if◌then◌else◌, is_none, slice_set}
 use Rattle.std.specs.List.{list_all, list_any, prefix_len}
 use Rattle.std.specs.Option.{option_map}
-use Rattle.std.proofs.lemmas.Bool.{cases_eq}
+use Rattle.std.proofs.lemmas.Bool.{cases_eq, and_parts}
 use Rattle.std.proofs.lemmas.Bool.Decides.{eqb_tells, nat_tests}
 use Rattle.std.proofs.lemmas.List.{set-get_or}
 use Rattle.sa_base.specs.declared.number.ProcNo.{ProcNo}
@@ -19,6 +19,8 @@ use Rattle.sa_share.specs.Share.{share_at}
 use Rattle.sa_share.specs.Rounds.{shares_of}
 use Rattle.sa_assign.specs.Aims.{aimed, missing, changes_for, changes_from, aims_after}
 use Rattle.sa_spaces.specs.Workload.{WorkloadView}
+use Rattle.sa_lemmas.proofs.Options.{none-is}
+use Rattle.sa_lemmas.proofs.Searches.{none-left}
 use Rattle.sa_laws.specs.Event.{Event}
 use Rattle.sa_laws.specs.Life.{Life}
 use Rattle.sa_laws.specs.declared.rule.Rule.TheVariants.{Numbering, InTime, WhereOwned, WantCause, SharesCovered}
@@ -178,15 +180,11 @@ module _ (w : WorkloadView) (e : ℕ) (p : ProcNo) (r : Readings) where
   same-record (Fetched s) h = absurd cc
   same-record (GiveBack a) h = absurd cc
 
-both : (a b : Bool) → (a && b) ≡ true → (a ≡ true) × (b ≡ true)
-both true b h = (refl, h)
-both false b h = absurd cc
-
 same-records : (w : WorkloadView) (e : ℕ) (p : ProcNo) (r : Readings) (xs : List Record) → list_all is_quiet_record xs ≡ true
     → IsSame r (after_records w e p r xs)
 same-records w e p r [] h = same-itself r
 same-records w e p r (x ∷ xs) h =
-    let each = both (is_quiet_record x) (list_all is_quiet_record xs) h in
+    let each = and_parts (is_quiet_record x) (list_all is_quiet_record xs) h in
     same-both r (after_record w e p r x) (after_records w e p (after_record w e p r x) xs) (same-record w e p r x each.0)
     (same-records w e p (after_record w e p r x) xs each.1)
 
@@ -325,14 +323,11 @@ none-missing s (suc n) shares marks aims covered =
     ∙ none-missing (s + 1) n shares marks aims covered
 
 -- nor is one among the records, and no want
-none-passes : {A : Type 0} (test : A → Bool) (xs : List A) → ((x : A) → test x ≡ false) → filter test xs ≡ []
-none-passes test [] none = refl
-none-passes test (x ∷ xs) none = ap (λ b. if b then x ∷ filter test xs else filter test xs) (none x) ∙ none-passes test xs none
 
 quiet-aims : (xs : List Record) → list_all is_quiet_record xs ≡ true → aims_in xs ≡ []
 quiet-aims [] h = refl
 quiet-aims (x ∷ xs) h =
-    let each = both (is_quiet_record x) (list_all is_quiet_record xs) h in
+    let each = and_parts (is_quiet_record x) (list_all is_quiet_record xs) h in
     let none = quiet-aims xs each.1 in
     quiet-cases (λ y. aims_in (y ∷ xs) ≡ []) (λ s t i. none) (λ s t value. none) (λ s t. none) (λ s t. none) (λ s t. none) (λ s t. none) (λ s l t. none)
     (λ s l t. none) none (λ l. none) none x each.0
@@ -340,20 +335,20 @@ quiet-aims (x ∷ xs) h =
 quiet-wants : (xs : List Record) → list_all is_quiet_record xs ≡ true → wants_in xs ≡ []
 quiet-wants [] h = refl
 quiet-wants (x ∷ xs) h =
-    let each = both (is_quiet_record x) (list_all is_quiet_record xs) h in
+    let each = and_parts (is_quiet_record x) (list_all is_quiet_record xs) h in
     let none = quiet-wants xs each.1 in
     quiet-cases (λ y. wants_in (y ∷ xs) ≡ []) (λ s t i. none) (λ s t value. none) (λ s t. none) (λ s t. none) (λ s t. none) (λ s t. none) (λ s l t. none)
     (λ s l t. none) none (λ l. none) none x each.0
 
 quiet-others : (xs : List Record) → list_all is_quiet_record xs ≡ true → list_all is_quiet_record (others_of xs) ≡ true
 quiet-others [] h = refl
-quiet-others (x ∷ xs) h = (both (is_quiet_record x) (list_all is_quiet_record xs) h).1
+quiet-others (x ∷ xs) h = (and_parts (is_quiet_record x) (list_all is_quiet_record xs) h).1
 
 quiet-front : (n : ℕ) (xs : List Record) → list_all is_quiet_record xs ≡ true → list_all is_quiet_record (take n xs) ≡ true
 quiet-front zero xs h = refl
 quiet-front (suc n) [] h = refl
 quiet-front (suc n) (x ∷ xs) h =
-    let each = both (is_quiet_record x) (list_all is_quiet_record xs) h in
+    let each = and_parts (is_quiet_record x) (list_all is_quiet_record xs) h in
     ap (λ b. b && list_all is_quiet_record (take n xs)) each.0 ∙ quiet-front n xs each.1
 
 before-wants : (xs : List Record) → list_all is_quiet_record xs ≡ true → list_all is_quiet_record (before_wants xs) ≡ true
@@ -361,28 +356,24 @@ before-wants [] h = refl
 before-wants (x ∷ xs) h = quiet-front (suc (prefix_len is_no_want xs)) (x ∷ xs) h
 
 -- a quiet event's parts
-low-none : (line : Option ℕ) → is_none line ≡ true → line ≡ None
-low-none None h = refl
-low-none (Some n) h = absurd cc
 
 keeps-first : (w : WorkloadView) (n : ℕ) → keeps_first w n ≡ true → (1 ≤ n) × (first_space w n ≡ first_space w (n - 1))
 keeps-first w n h =
-    let each = both (nat_lt 0 n) (first_space w (n - 1) == first_space w n) h in
+    let each = and_parts (nat_lt 0 n) (first_space w (n - 1) == first_space w n) h in
     (grind (arith, nat_tests, each.0), elim (eqb_tells (first_space w (n - 1)) (first_space w n)) [ inl same ↦ sym same.1 | inr other ↦ absurd cc ])
 
 pub quiet-records : (w : WorkloadView) (r : Readings) (e : Event) → is_quiet w r e ≡ true → list_all is_quiet_record e.records ≡ true
-quiet-records w r e quiet =
-    (both (keeps_first w e.number) (list_all is_quiet_record e.records)
-    (both (is_none (line_of r e.proc)) (keeps_first w e.number && list_all is_quiet_record e.records) quiet).1).1
+quiet-records w r e quiet = (and_parts (keeps_first w e.number) (list_all is_quiet_record e.records)
+    (and_parts (is_none (line_of r e.proc)) (keeps_first w e.number && list_all is_quiet_record e.records) quiet).1).1
 
 module _ (w : WorkloadView) (r : Readings) (e : Event) (numbered : e.number ≡ r.number) (was : WasSettled w r) (quiet : is_quiet w r e ≡ true) where
   low : line_of r e.proc ≡ None
-  low = low-none (line_of r e.proc) (both (is_none (line_of r e.proc)) (keeps_first w e.number && list_all is_quiet_record e.records) quiet).0
+  low = none-is (line_of r e.proc) (and_parts (is_none (line_of r e.proc)) (keeps_first w e.number && list_all is_quiet_record e.records) quiet).0
 
   first : (1 ≤ e.number) × (first_space w e.number ≡ first_space w (e.number - 1))
   first =
-      keeps-first w e.number (both (keeps_first w e.number) (list_all is_quiet_record e.records)
-      (both (is_none (line_of r e.proc)) (keeps_first w e.number && list_all is_quiet_record e.records) quiet).1).0
+      keeps-first w e.number (and_parts (keeps_first w e.number) (list_all is_quiet_record e.records)
+      (and_parts (is_none (line_of r e.proc)) (keeps_first w e.number && list_all is_quiet_record e.records) quiet).1).0
 
   before : IsSettled w (e.number - 1) r
   before =
@@ -413,7 +404,7 @@ module _ (w : WorkloadView) (r : Readings) (e : Event) (numbered : e.number ≡ 
       let records = quiet-records w r e quiet in
       let q = after_records w e.number e.proc (begun w e r) (before_wants e.records) in
       let now = during (before_wants e.records) (before-wants e.records records) in
-      quiet-wants (others_of e.records) (quiet-others e.records records) ∙ sym (ap (map want_one) (none-passes (must_want q) (spaces_of w) now.wants))
+      quiet-wants (others_of e.records) (quiet-others e.records records) ∙ sym (ap (map want_one) (none-left (must_want q) (spaces_of w) now.wants))
 
 -- where each rule held at the last event, all is as it must be
 pub settled-next : (w : WorkloadView) (r : Readings) (e : Event) (last : Option LastLine) → HoldEach fast_threads w rules r e last
@@ -460,7 +451,7 @@ pub each-quiet : (L : RecordLaw) → ((r : Readings) (rest : List Record) (x : R
     → (w : WorkloadView) (e : ℕ) (p : ProcNo) (r : Readings) (xs : List Record) → list_all is_quiet_record xs ≡ true → EachRecord L w e p r xs
 each-quiet L holds w e p r [] h = tt
 each-quiet L holds w e p r (x ∷ xs) h =
-    let each = both (is_quiet_record x) (list_all is_quiet_record xs) h in
+    let each = and_parts (is_quiet_record x) (list_all is_quiet_record xs) h in
     (holds r xs x each.0, each-quiet L holds w e p (after_record w e p r x) xs each.1)
 
 -- no line is among quiet records
@@ -472,9 +463,9 @@ no-line last =
 lines-whole : (last : Option Record) (xs : List Record) → list_all is_quiet_record xs ≡ true → before_lines last xs ≡ xs
 lines-whole last [] h = refl
 lines-whole last (x ∷ xs) h =
-    let each = both (is_quiet_record x) (list_all is_quiet_record xs) h in
+    let each = and_parts (is_quiet_record x) (list_all is_quiet_record xs) h in
     ap (λ b. if b then [] else x ∷ before_lines (Some x) xs) (no-line last x each.0) ∙ ap (λ ys. x ∷ ys) (lines-whole (Some x) xs each.1)
 
 pub front-whole : (xs : List Record) → list_all is_quiet_record xs ≡ true → front_part xs ≡ xs
 front-whole [] h = refl
-front-whole (x ∷ xs) h = ap (λ ys. x ∷ ys) (lines-whole (Some x) xs (both (is_quiet_record x) (list_all is_quiet_record xs) h).1)
+front-whole (x ∷ xs) h = ap (λ ys. x ∷ ys) (lines-whole (Some x) xs (and_parts (is_quiet_record x) (list_all is_quiet_record xs) h).1)

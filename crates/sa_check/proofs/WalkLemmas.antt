@@ -1,7 +1,7 @@
 -- A trace is judged event by event.
-use Rattle.std.proofs.Common.{◌≡◌, ◌≢◌, ◌⊎◌, ℕ, ◌+◌, ◌<◌, refl, sym, ◌∙◌, ap, subst, inl, inr, arith, List, [], ◌∷◌, ◌++◌, length, take, append_assoc, length-append, Option, Some, None, true, false}
+use Rattle.std.proofs.Common.{◌≡◌, ◌≢◌, ◌⊎◌, ℕ, ◌+◌, ◌<◌, refl, sym, ◌∙◌, ap, subst, inl, inr, arith, List, [], ◌∷◌, ◌++◌, length, take, append_assoc, length-append, Option, Some, None, false}
 use Rattle.std.specs.Prelude.{slice_get, ◌==◌, if◌then◌else◌}
-use Rattle.std.proofs.lemmas.Bool.{cases_eq}
+use Rattle.std.proofs.lemmas.Bool.{cases_eq, eq-eqb}
 use Rattle.std.proofs.lemmas.Bool.Decides.{nat_tests}
 use Rattle.std.proofs.lemmas.List.{append-nil}
 use Rattle.std.proofs.lemmas.Option.{same_Some}
@@ -39,9 +39,6 @@ take-all-front : (xs ys : List Event) → take (length xs) (xs ++ ys) ≡ xs
 take-all-front [] ys = refl
 take-all-front (x ∷ xs) ys = ap (λ zs. x ∷ zs) (take-all-front xs ys)
 
-same-itself : (n : ℕ) → (n == n) ≡ true
-same-itself n = grind (arith, nat_tests)
-
 not-more : (n k : ℕ) → (n + 1 == n + (k + 2)) ≡ false
 not-more n k = grind (arith, nat_tests)
 
@@ -49,7 +46,7 @@ not-more n k = grind (arith, nat_tests)
 line-at : (done es : List Event) (e : Event) (line : LastLine) → line_at (done ++ e ∷ es) line (length done) ≡ line_before es line
 line-at done [] e line =
     ap (λ n. if length done + 1 == n then Some line else None) (length-append done (e ∷ []))
-    ∙ ap (λ b. if b then Some line else None) (same-itself (length done + 1))
+    ∙ ap (λ b. if b then Some line else None) (eq-eqb (length done + 1) (length done + 1) refl)
 line-at done (f ∷ fs) e line =
     let len : length (done ++ e ∷ f ∷ fs) ≡ length done + (length fs + 2) = omega (arith, length-append done (e ∷ f ∷ fs)) in
     ap (λ n. if length done + 1 == n then Some line else None) len

@@ -9,6 +9,7 @@ use Rattle.sa_lemmas.specs.Function.{put}
 use Rattle.sa_lemmas.proofs.FunctionUpdates.{put-at, put-other, put-same, put-self}
 use Rattle.sa_base.specs.declared.number.ActNo.{ActNo}
 use Rattle.sa_base.specs.declared.number.ThreadNo.{ThreadNo}
+use Rattle.sa_lemmas.proofs.Options.{option_map_some}
 use Rattle.sa_laws.specs.Life.{Life, Lock, some_lock, has_lock, change_first, readied, ran, with_hand, inherits, inherited, bereft}
 use Rattle.sa_laws.specs.Record.{with_life, handed, locks_one}
 use Rattle.sa_check_life.specs.declared.change.Change.{Change}
@@ -75,10 +76,6 @@ inside-before Free life is = inl (is, refl)
 inside-before (Step x) life is = inr is
 inside-before (Arise b) life is = inr is
 
-mapped : {A B : Type 0} (f : A → B) (o : Option A) (y : B) → option_map f o ≡ Some y → (x : A) × (o ≡ Some x) × (f x ≡ y)
-mapped f None y is = absurd (none-some y is)
-mapped f (Some x) y is = (x, refl, same_Some (f x) y is)
-
 -- those with a lock after a change
 pub holders-changed : (lives : ℕ → Option Life) (change : Change) (a : ActNo) (has : Bool) (removed : Bool) (h0 h1 h2 : List ℕ)
     → AreAmong has_lock lives h0 → KeepsAll h0 h1 → IsThere (adds_lock change) a.0 h1
@@ -88,7 +85,7 @@ holders-changed lives change a has removed h0 h1 h2 old grown there is others ke
     let w = option_map (changed_by change) (lives a.0) in
     let more : AreAmong has_lock lives h1 = among-more has_lock lives h0 h1 old grown in
     among-put has_lock lives h1 h2 a.0 w more others (λ life new passes.
-    let at : (x : Life) × (lives a.0 ≡ Some x) × (changed_by change x ≡ life) = mapped (changed_by change) (lives a.0) life new in
+    let at : (x : Life) × (lives a.0 ≡ Some x) × (changed_by change x ≡ life) = option_map_some (changed_by change) (lives a.0) life new in
     let had : has ≡ true = is ∙ ap locks_one (put-same lives a.0 w ∙ new) ∙ passes in
     kept.each (stays had) (elim (lock-before change at.0 (ap has_lock at.2 ∙ passes)) [
       | inl before ↦ more.each a.0 at.0 at.1 before
@@ -117,7 +114,7 @@ insiders-changed lives change a i0 i1 i2 old grown there others kept =
     let w = option_map (changed_by change) (lives a.0) in
     let more : AreAmong is_inside lives i1 = among-more is_inside lives i0 i1 old grown in
     among-put is_inside lives i1 i2 a.0 w more others (λ life new passes.
-    let at : (x : Life) × (lives a.0 ≡ Some x) × (changed_by change x ≡ life) = mapped (changed_by change) (lives a.0) life new in
+    let at : (x : Life) × (lives a.0 ≡ Some x) × (changed_by change x ≡ life) = option_map_some (changed_by change) (lives a.0) life new in
     elim (inside-before change at.0 (ap is_inside at.2 ∙ passes)) [
       | inl before ↦ kept.each before.1 (more.each a.0 at.0 at.1 before.0)
       | inr here ↦ kept.each (stays-in change here) (there.each here)
@@ -132,7 +129,7 @@ bereft-among : (test : Life → Bool) (a : ActNo) (lives : ℕ → Option Life) 
     → AreAmong test lives numbers → KeepsOthers a.0 numbers more → AreAmong test (with_life bereft (Some a) lives) more
 bereft-among test a lives numbers more out old others =
     among-put test lives numbers more a.0 (option_map bereft (lives a.0)) old others
-    (λ life new passes. let at : (x : Life) × (lives a.0 ≡ Some x) × (bereft x ≡ life) = mapped bereft (lives a.0) life new in
+    (λ life new passes. let at : (x : Life) × (lives a.0 ≡ Some x) × (bereft x ≡ life) = option_map_some bereft (lives a.0) life new in
     absurd (out at.0 (ap test at.2 ∙ passes)))
 
 handed-among : (test : Life → Bool) (upped : Option ActNo) (a : ActNo) (from : Life) (lives : ℕ → Option Life) (numbers more : List ℕ)
@@ -146,7 +143,7 @@ handed-among test (Some to) a from lives numbers more out old others gets =
     let first : AreAmong test left more = bereft-among test a lives numbers more out old others in
     among-put test left more more to.0 (option_map (inherits from) (left to.0)) first (keeps-self to.0 more)
     (λ life new passes.
-    let at : (x : Life) × (left to.0 ≡ Some x) × (inherits from x ≡ life) = mapped (inherits from) (left to.0) life new in
+    let at : (x : Life) × (left to.0 ≡ Some x) × (inherits from x ≡ life) = option_map_some (inherits from) (left to.0) life new in
     elim (gets at.0 to refl (ap test at.2 ∙ passes)) [
       | inl before ↦ first.each to.0 at.0 at.1 before
       | inr there ↦ there
@@ -185,7 +182,7 @@ pub among-roused : (test : Life → Bool) (lives : ℕ → Option Life) (threads
     → AreAmong test lives numbers → AreAmong test (with_life (with_hand threads) (Some a) lives) numbers
 among-roused test lives threads a numbers same old =
     among-put test lives numbers numbers a.0 (option_map (with_hand threads) (lives a.0)) old (keeps-self a.0 numbers) (λ life new passes.
-    let at : (x : Life) × (lives a.0 ≡ Some x) × (with_hand threads x ≡ life) = mapped (with_hand threads) (lives a.0) life new in
+    let at : (x : Life) × (lives a.0 ≡ Some x) × (with_hand threads x ≡ life) = option_map_some (with_hand threads) (lives a.0) life new in
     old.each a.0 at.0 at.1 (sym (same at.0) ∙ ap test at.2 ∙ passes))
 
 -- after a call that may have failed

@@ -1,6 +1,6 @@
 -- Lives that are changed, handed over and put back.
 use Rattle.std.proofs.Common.{◌≡◌, ℕ, sym, ◌∙◌, ap, Option, Some, None}
-use Rattle.std.specs.Prelude.{Result, Ok, Err, OnOk, OnErr, IfNone}
+use Rattle.std.specs.Prelude.{IfNone}
 use Rattle.std.specs.Option.{option_map}
 use Rattle.sa_lemmas.specs.Function.{put}
 use Rattle.sa_lemmas.proofs.FunctionUpdates.{put-same, put-put, put-self}
@@ -17,15 +17,6 @@ restored f lives a from is =
     ∙ put-put lives a.0 w (Some from)
     ∙ ap (put lives a.0) (sym is)
     ∙ put-self lives a.0
-
--- a clause on a result, with another fact
-pub on-ok : {T E P Q : Type 0} (result : Result T E) → (P → Q) → OnOk result P → OnOk result Q
-on-ok (Ok x) f p = f p
-on-ok (Err e) f p = p
-
-pub on-err : {T E P Q : Type 0} (result : Result T E) → (P → Q) → OnErr result P → OnErr result Q
-on-err (Ok x) f p = p
-on-err (Err e) f p = f p
 
 pub on-none : {A P Q : Type 0} (found : Option A) → (P → Q) → IfNone found P → IfNone found Q
 on-none None f p = f p

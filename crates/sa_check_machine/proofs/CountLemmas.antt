@@ -8,7 +8,7 @@ use Rattle.sa_laws.specs.State.{Thread}
 use Rattle.sa_laws.specs.Ends.{is_done, is_at_rest}
 use Rattle.sa_check_machine.specs.Counts.{count_in, is_live, is_restless}
 
-one_none : (b : Bool) → eqb (cond (not b) 1 0) 0 ≡ b
+pub one_none : (b : Bool) → eqb (cond (not b) 1 0) 0 ≡ b
 one_none true = refl
 one_none false = refl
 

@@ -1,9 +1,11 @@
 -- The threads that join one.
-use Rattle.std.proofs.Common.{◌≡◌, ℕ, ◌<◌, ◌≤◌, List, [], ◌∷◌, length, drop, Some, slice_get, ap, arith}
+use Rattle.std.proofs.Common.{◌≡◌, ℕ, ◌<◌, ◌≤◌, List, [], ◌∷◌, length, drop, Some, slice_get, ap, arith, ◌+◌, ◌++◌, map, ◌∙◌}
 use Rattle.std.proofs.lemmas.Option.{same_Some}
-use Rattle.std.proofs.lemmas.List.{get_or-set_same}
+use Rattle.std.proofs.lemmas.List.{get_or-set_same, set-set}
 use Rattle.sa_base.specs.declared.limits.TheConstants.{MAX_THREADS}
-use Rattle.sa_links.specs.Lists.{count_in}
+use Rattle.sa_links.specs.Lists.{count_in, count_in_all}
+use Rattle.std.proofs.lemmas.List.Sums.{sum_by-append}
+use Rattle.sa_lemmas.proofs.ListReads.{first-rest}
 use Rattle.sa_links.proofs.Counting.{count_at, few_below}
 use Rattle.sa_sync.specs.Sync.{Sync, joiners_at, waits_of, WaitsOnce}
 use Rattle.sa_sync.specs.Calls.{first_joiner, without_joiner}
@@ -15,13 +17,9 @@ few_joiners s t once =
     let part : (u : ℕ) → count_in u (joiners_at s t) ≤ waits_of s u = λ u. omega (arith, count_at u s.joiners t, waits_parts s u) in
     few_below MAX_THREADS (joiners_at s t) (λ u. omega (arith, part u, once.once u)) (λ u some. once.threads u (omega (arith, part u, some)))
 
-behind : (q : List ℕ) (u : ℕ) → slice_get q 0 ≡ Some u → q ≡ u ∷ drop 1 q
-behind [] u e = cc
-behind (x ∷ q) u e = ap (λ y. y ∷ q) (same_Some _ _ e)
-
 -- the first of them, and the others
 pub queue : (s : Sync) (t u : ℕ) → first_joiner s t ≡ Some u → joiners_at s t ≡ u ∷ drop 1 (joiners_at s t)
-queue s t u first = behind (joiners_at s t) u first
+queue s t u first = first-rest (joiners_at s t) u first
 
 pub rest_joins : (s : Sync) (t : ℕ) → t < length s.joiners → joiners_at (without_joiner s t) t ≡ drop 1 (joiners_at s t)
 rest_joins s t inside = get_or-set_same s.joiners t (drop 1 (joiners_at s t)) [] inside

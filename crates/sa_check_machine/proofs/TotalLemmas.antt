@@ -1,5 +1,5 @@
 -- How many spaces have something left to do.
-use Rattle.std.proofs.Common.{◌≡◌, ℕ, ◌≤◌, Bool, true, false, not, cond, eqb, List, [], ◌∷◌, length, map, refl, sym, ap, ◌∙◌, arith, ◌<◌, ◌+◌, ◌++◌, take, get_or}
+use Rattle.std.proofs.Common.{◌≡◌, ℕ, ◌≤◌, Bool, false, not, cond, eqb, List, [], ◌∷◌, length, map, refl, sym, ap, ◌∙◌, arith, ◌<◌, ◌+◌, ◌++◌, take, get_or}
 use Rattle.std.specs.List.{list_all, count_by}
 use Rattle.std.proofs.Math.Path.{fun_ext}
 use Rattle.std.proofs.lemmas.List.{length-map, map_more}
@@ -7,13 +7,10 @@ use Rattle.std.proofs.lemmas.List.Sums.{sum_by-cons}
 use Rattle.std.proofs.lemmas.List.Folds.{sum_by-zero}
 use Rattle.sa_base.specs.declared.limits.TheConstants.{MAX_SPACES}
 use Rattle.sa_spaces.specs.Space.{SpaceView}
+use Rattle.sa_check_machine.proofs.CountLemmas.{one_none}
 use Rattle.sa_laws.specs.State.{SpaceState, opening_space}
 use Rattle.sa_laws.specs.Ends.{are_done, are_at_rest}
 use Rattle.sa_check_machine.specs.Spaces.{live_in, restless_in, IsCounted}
-
-one_none : (b : Bool) → eqb (cond (not b) 1 0) 0 ≡ b
-one_none true = refl
-one_none false = refl
 
 count_none : (test : SpaceState → Bool) (spaces : List SpaceState) → eqb (count_by (λ (x : SpaceState). not (test x)) spaces) 0 ≡ list_all test spaces
 count_none test spaces =

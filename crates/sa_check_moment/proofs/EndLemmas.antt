@@ -1,11 +1,12 @@
 -- A moment at which nothing can happen any more.
-use Rattle.std.proofs.Common.{◌≡◌, ◌≢◌, ◌↔◌, ℕ, suc, Bool, true, false, not, List, [], ◌∷◌, Option, Some, None, is_none, get_or, length, inl, inr, sym, ap, ◌∙◌, refl}
+use Rattle.std.proofs.Common.{◌≡◌, ◌≢◌, ◌↔◌, ℕ, suc, Bool, true, false, not, List, [], ◌∷◌, Option, None, is_none, get_or, length, inl, inr, sym, ap, ◌∙◌, refl}
 use Rattle.std.proofs.lemmas.Bool.{cases_lt, and_from}
 use Rattle.std.proofs.lemmas.List.{get_or_past}
 use Rattle.std.specs.Prelude.{IsTrue}
 use Rattle.std.specs.List.{list_all}
 use Rattle.std.proofs.lemmas.List.Sums.{AllPass-from_list_all}
 use Rattle.sa_base.specs.declared.number.ProcNo.{ProcNo}
+use Rattle.sa_lemmas.proofs.Options.{none-is}
 use Rattle.sa_laws.specs.Life.{Life}
 use Rattle.sa_laws.specs.Readings.{Readings, line_of}
 use Rattle.sa_laws.specs.Ends.{IsAllDone, IsStuck, are_at_rest}
@@ -14,10 +15,6 @@ use Rattle.sa_check_lives.specs.Table.{SomeIsIn}
 pub empty : {A : Type 0} (xs : List A) → (xs ≢ [] → ⊥) → xs ≡ []
 empty [] none = refl
 empty (x ∷ xs) none = absurd (none (λ is. cc))
-
-none-is : {A : Type 0} (o : Option A) → is_none o ≡ true → o ≡ None
-none-is None is = refl
-none-is (Some x) is = cc
 
 all_none : (xs : List (Option ℕ)) → ((i : ℕ) → get_or xs i None ≡ None) → list_all is_none xs ≡ true
 all_none [] low = refl

@@ -3,13 +3,13 @@ use Rattle.std.proofs.Common.{◌≡◌, ℕ, refl, sym, ◌∙◌, ◌+◌, ap,
 use Rattle.std.specs.List.{list_any}
 use Rattle.std.specs.Option.{option_map}
 use Rattle.std.proofs.lemmas.Bool.{cases_eq}
-use Rattle.std.proofs.lemmas.Option.{same_Some, none-some}
 use Rattle.sa_lemmas.proofs.FunctionUpdates.{put-at, put-other}
 use Rattle.sa_base.specs.declared.number.ProcNo.{ProcNo}
 use Rattle.sa_base.specs.declared.number.ActNo.{ActNo}
 use Rattle.sa_base.specs.declared.record.Record.{Record}
 use Rattle.sa_base.specs.declared.record.Record.TheVariants.{Ins, Out, Run, Stop, Block, Unblock, Cont, Back, Ready, Take, Free, Up, Told, Move, Want, Aim, Line, Fetch, Fetched, GiveBack, Idle, Spin, Tick}
 use Rattle.sa_spaces.specs.Workload.{WorkloadView}
+use Rattle.sa_lemmas.proofs.Options.{option_map_some}
 use Rattle.sa_laws.specs.Event.{Event}
 use Rattle.sa_laws.specs.Life.{Life}
 use Rattle.sa_laws.specs.Readings.{Readings, running_of, life_if, life_on, demand_of}
@@ -79,10 +79,6 @@ module _ (before after : Readings) (others : List Record) where
   scans-same (Spin l) scans = refl
   scans-same Tick scans = refl
 
-mapped : {A B : Type 0} (f : A → B) (o : Option A) (y : B) → option_map f o ≡ Some y → (x : A) × (o ≡ Some x) × (f x ≡ y)
-mapped f None y is = absurd (none-some y is)
-mapped f (Some x) y is = (x, refl, same_Some (f x) y is)
-
 module _ (w : WorkloadView) (before : Readings) (number : ℕ) (p : ProcNo) (records : List Record) (r : Readings) where
   abbrev e : Event
   e = event number p records
@@ -123,7 +119,7 @@ module _ (w : WorkloadView) (before : Readings) (number : ℕ) (p : ProcNo) (rec
       let new = option_map (stepped_by x) (r.lives b.0) in
       elim (cases_eq act.0 b.0) [
         | inl same ↦
-            let old = mapped (stepped_by x) (r.lives b.0) life (sym (put-at r.lives b.0 act.0 new same) ∙ here) in
+            let old = option_map_some (stepped_by x) (r.lives b.0) life (sym (put-at r.lives b.0 act.0 new same) ∙ here) in
             tested true (running_of r p) act old.0 at (ap r.lives same ∙ old.1) ∙ ap (λ (l : Life). is_inside w before e r true l) old.2
         | inr apart ↦ tested true (running_of r p) act life at (sym (put-other r.lives b.0 act.0 new apart) ∙ here)
       ]

@@ -1,10 +1,9 @@
 -- What a core keeps.
-use Rattle.std.proofs.Common.{◌≡◌, ◌≢◌, ℕ, zero, suc, ◌+◌, ◌-◌, ◌%◌, ◌<◌, ◌≤◌, ◌==◌, if◌then◌else◌, min, Bool, true, false, Some, None, List, refl, sym, ap, subst, ◌∙◌, inl, inr, arith, mod-lt}
+use Rattle.std.proofs.Common.{◌≡◌, ◌≢◌, ℕ, zero, suc, ◌+◌, ◌-◌, ◌%◌, ◌<◌, ◌≤◌, ◌==◌, if◌then◌else◌, min, Bool, true, false, None, List, refl, sym, ap, subst, ◌∙◌, inl, inr, arith, mod-lt}
 use Rattle.std.proofs.lemmas.Bool.{cases_eq}
 use Rattle.std.proofs.lemmas.Bool.Decides.{nat_tests}
 use Rattle.sa_base.specs.declared.number.ProcNo.{ProcNo}
 use Rattle.sa_base.specs.declared.limits.TheConstants.{MAX_EVENTS}
-use Rattle.sa_base.specs.declared.record.End.TheVariants.{AllDone, Stuck, Budget}
 use Rattle.sa_spaces.specs.Workload.{WorkloadView, IsWorkload}
 use Rattle.sa_instr.specs.declared.instr.Instr.{Instr}
 use Rattle.sa_abstract.specs.Calls.{Calls}
@@ -26,13 +25,7 @@ use Rattle.sa_core.specs.declared.machine.TheConstants.{EVENT_ITEMS}
 use Rattle.sa_core.specs.View.{CoreView, machine_of, machine}
 use Rattle.sa_core.specs.Room.{owed, HasRoom, Spends, IsKept}
 use Rattle.sa_core.specs.Needs.{ByFresh}
-
--- where there is no end, there are events left
-no-end : (a b c : Bool) → (if a then Some AllDone else if b then Some Stuck else if c then Some Budget else None) ≡ None → c ≡ false
-no-end true b c e = absurd cc
-no-end false true c e = absurd cc
-no-end false false true e = absurd cc
-no-end false false false e = refl
+use Rattle.sa_core.proofs.EndLemmas.{no-end}
 
 pub goes-on : {U C : Type 0} (f : Calls U C) (budget : ℕ) (m : Machine U C) → end_of f budget m ≡ None → m.event ≤ budget → m.event < budget
 goes-on f budget m none within = elim (cases_eq m.event budget) [

@@ -68,8 +68,3 @@ started-more f w s m old new all def at next is was =
     ap (λ xs. xs ++ started_from f w m (drop m w.spaces)) is
     ∙ append_assoc old (f.started (setting w s def) ∷ []) (started_from f w m (drop m w.spaces))
     ∙ ap (λ xs. old ++ xs) (sym here) ∙ was
-
-pub read-at : {A : Type 0} (xs : List A) (i : ℕ) → i < length xs → (x : A) × (slice_get xs i ≡ Some x)
-read-at [] i below = absurd (omega (arith, below))
-read-at (x ∷ xs) zero below = (x, refl)
-read-at (x ∷ xs) (suc i) below = read-at xs i (omega (arith, below))

@@ -36,15 +36,15 @@ some-left test (x ∷ xs) some = go (test x) refl (some-left test xs)
         rw is (rest (λ none. some (here ∙ omega (arith, zero, none))))
 
 -- what no end is found for goes on
-none-of : (a b c : Bool) → (if a then Some AllDone else if b then Some Stuck else if c then Some Budget else None) ≡ None → c ≡ false
-none-of true b c none = absurd cc
-none-of false true c none = absurd cc
-none-of false false true none = absurd cc
-none-of false false false none = refl
+pub no-end : (a b c : Bool) → (if a then Some AllDone else if b then Some Stuck else if c then Some Budget else None) ≡ None → c ≡ false
+no-end true b c none = absurd cc
+no-end false true c none = absurd cc
+no-end false false true none = absurd cc
+no-end false false false none = refl
 
 pub goes-on : {U C : Type 0} (f : Calls U C) (budget : ℕ) (m : Machine U C) → end_of f budget m ≡ None → m.event ≢ budget
 goes-on f budget m none is =
-    let e = none-of (all_done f m) (is_stuck f m) (m.event == budget) none in
+    let e = no-end (all_done f m) (is_stuck f m) (m.event == budget) none in
     let t : (m.event == budget) ≡ true = grind (arith, nat_tests, is) in
     cc
 

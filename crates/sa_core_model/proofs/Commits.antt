@@ -4,6 +4,7 @@ use Rattle.std.specs.Option.{option_map}
 use Rattle.std.proofs.Math.Nat.{mod-add-mod, mod-eq_of_lt}
 use Rattle.std.proofs.lemmas.Bool.Decides.{nat_tests}
 use Rattle.std.proofs.lemmas.Option.{same_Some}
+use Rattle.std.proofs.lemmas.List.{set-set}
 use Rattle.sa_base.specs.declared.number.ProcNo.{ProcNo}
 use Rattle.sa_base.specs.declared.number.SpaceNo.{SpaceNo}
 use Rattle.sa_base.specs.declared.number.ActNo.{ActNo}
@@ -75,11 +76,6 @@ same-items e p says r is = rw is refl
 items-behind : (e : ℕ) (p : ProcNo) (before : List Item) (says rest : List Record) (r : Record) → says ≡ r ∷ []
     → before ++ items_from e p (says ++ rest) ≡ (before ++ items_from e p says) ++ items_from (e + 1) p rest
 items-behind e p before says rest r is = rw is (sym (append_assoc before (record { event = e; proc = p; what = r } ∷ []) (items_from (e + 1) p rest)))
-
-set-again : {A : Type 0} (xs : List A) (i : ℕ) (a b : A) → slice_set (slice_set xs i a) i b ≡ slice_set xs i b
-set-again [] i a b = refl
-set-again (x ∷ xs) zero a b = refl
-set-again (x ∷ xs) (suc i) a b = ap (λ ys. x ∷ ys) (set-again xs i a b)
 
 pub get-set : {A : Type 0} (xs : List A) (i : ℕ) (a x : A) → slice_get xs i ≡ Some x → slice_get (slice_set xs i a) i ≡ Some a
 get-set [] i a x at = absurd cc
@@ -218,9 +214,9 @@ module _ {U C : Type 0} (f : Calls U C) (stands : Standing U C) (keep : Keeps f 
       let says = first-says m p (suc n) is at in
       let old : C = at.here.ctx in
       let joined : next_event (gone_to f p s (both r t) x) ≡ gone_to f p s t y =
-      ap (λ (users : List U). next_event (record (gone_to f p s (both r t) x) { users = users })) (sym (set-again x.users s.0 r.user t.user))
+      ap (λ (users : List U). next_event (record (gone_to f p s (both r t) x) { users = users })) (sym (set-set x.users s.0 r.user t.user))
       ∙ ap (λ (contexts : List (Option C)). next_event (record (gone_to f p s (both r t) x) { users = slice_set (slice_set x.users s.0 r.user) s.0 t.user; contexts = contexts }))
-      (sym (set-again x.contexts p.0 (Some r.ctx) (Some t.ctx)))
+      (sym (set-set x.contexts p.0 (Some r.ctx) (Some t.ctx)))
       ∙ ap (λ (items : List Item). record (gone_to f p s t y) { items = items }) (items-behind x.event p x.items r.says t.says says.0 says.1) in
       ap (λ (o : Option SpaceNo). next_event (gone_in f p (suc (suc n)) o x)) at.here.owner
       ∙ ap (λ (z : Machine U C). next_event z) (gone-is f stands keep x p s (suc (suc n)) at.here)

@@ -12,6 +12,7 @@ use Rattle.sa_lemmas.specs.Function.{put}
 use Rattle.sa_lemmas.proofs.ListUpdates.{slice_get-set_cases}
 use Rattle.sa_spaces.specs.Space.{SpaceView}
 use Rattle.sa_spaces.specs.Workload.{WorkloadView, IsWorkload}
+use Rattle.sa_lemmas.proofs.ListReads.{some-below}
 use Rattle.sa_abstract.specs.Calls.{Calls, Contexts}
 use Rattle.sa_abstract.specs.Keeps.{Standing, Keeps}
 use Rattle.sa_acts.specs.declared.acts.Act.{Act}
@@ -59,11 +60,6 @@ some-is (Some x) e = (x, refl)
 pub none-is : {A : Type 0} (o : Option A) → is_some o ≡ false → o ≡ None
 none-is None e = refl
 none-is (Some x) e = absurd cc
-
-pub within-of : {A : Type 0} (xs : List (Option A)) (p : ℕ) (x : A) → get_or xs p None ≡ Some x → p < length xs
-within-of [] p x e = absurd cc
-within-of (y ∷ xs) zero x e = omega arith
-within-of (y ∷ xs) (suc p) x e = (let h = within-of xs p x e in omega arith)
 
 module _ {C : Type 0} where
   pub contexts-same : (ls ms : List (Option ActNo)) (f g : ℕ → Option (Act C)) (cs : List (Option C)) → ms ≡ ls → g ≡ f → (t b : ℕ)
@@ -185,7 +181,7 @@ module _ {U C : Type 0} (f : Calls U C) (stands : Standing U C) (keep : Keeps f 
         def = d.0;
         owner = owner;
         life = life.1;
-        within = within-of m.kernel.lives p.0 a life.1;
+        within = some-below m.kernel.lives p.0 a life.1;
         runs = runs-here m.kernel p s a owner life.1 st.sound.formed;
         is_user = u.1;
         is_ctx = c.1;

@@ -1,6 +1,6 @@
 -- Which context belongs to which activation, as lives, activations and contexts change.
-use Rattle.std.proofs.Common.{◌≡◌, ◌≢◌, ℕ, zero, suc, ◌<◌, ◌==◌, if◌then◌else◌, Bool, true, false, Option, Some, None, List, [], ◌∷◌, get_or, slice_set, length, Contains, refl, sym, ap, ◌∙◌, ◌⊎◌, inl, inr, arith}
-use Rattle.std.proofs.lemmas.Bool.{cases_eq}
+use Rattle.std.proofs.Common.{◌≡◌, ◌≢◌, ℕ, zero, suc, ◌<◌, ◌==◌, if◌then◌else◌, Bool, true, false, Option, Some, None, List, [], ◌∷◌, get_or, slice_set, length, Contains, refl, sym, ap, ◌∙◌, inl, inr, arith}
+use Rattle.std.proofs.lemmas.Bool.{cases_eq, eqb-true, cases_Bool}
 use Rattle.std.proofs.lemmas.Bool.Decides.{nat_tests}
 use Rattle.std.proofs.lemmas.List.{get_or-set_same, length-set}
 use Rattle.sa_base.specs.declared.number.SpaceNo.{SpaceNo}
@@ -8,6 +8,7 @@ use Rattle.sa_base.specs.declared.number.ActNo.{ActNo}
 use Rattle.sa_base.specs.declared.context.Stopped.{Stopped}
 use Rattle.sa_lemmas.specs.Function.{put}
 use Rattle.sa_lemmas.proofs.FunctionUpdates.{put-same, put-at, put-other}
+use Rattle.sa_lemmas.proofs.Membership.{contains-head, contains-tail}
 use Rattle.sa_acts.specs.declared.acts.Act.{Act}
 use Rattle.sa_acts.specs.Table.{runs_in, holding, taken_from}
 use Rattle.sa_kernel_model.specs.Sound.{AreAlive}
@@ -15,15 +16,8 @@ use Rattle.sa_kernel_model.specs.Entries.{without_acts}
 use Rattle.sa_kernel_model.proofs.LifeLemmas.{cell-cases}
 use Rattle.sa_core_model.specs.Standing.{is_life, running, held_or_running, context_in, contexts_in}
 
-bool-cases : (b : Bool) → (b ≡ true) ⊎ (b ≡ false)
-bool-cases true = inl refl
-bool-cases false = inr refl
-
 true-false : (b : Bool) → b ≡ true → b ≡ false → ⊥
 true-false b t f = cc
-
-eq-true : (a b : ℕ) → (a == b) ≡ true → a ≡ b
-eq-true a b e = elim (cases_eq a b) [ inl y ↦ y | inr y ↦ absurd (let f : (a == b) ≡ false = grind (arith, nat_tests, y) in cc) ]
 
 pub life-same : (n : ℕ) → is_life n (Some (record { 0 = n })) ≡ true
 life-same n = grind (arith, nat_tests)
@@ -33,16 +27,10 @@ life-other n a apart = grind (arith, nat_tests, apart)
 
 pub life-is : (n : ℕ) (o : Option ActNo) → is_life n o ≡ true → o ≡ Some (record { 0 = n })
 life-is n None e = absurd cc
-life-is n (Some b) e = ap (λ k. Some (record { 0 = k })) (eq-true b.0 n e)
+life-is n (Some b) e = ap (λ k. Some (record { 0 = k })) (eqb-true b.0 n e)
 
 not-life : (n : ℕ) (o : Option ActNo) → (o ≡ Some (record { 0 = n }) → ⊥) → is_life n o ≡ false
-not-life n o apart = elim (bool-cases (is_life n o)) [ inl t ↦ absurd (apart (life-is n o t)) | inr f ↦ f ]
-
-pub contains-head : {A : Type 0} (a : A) (list : List A) → Contains (a ∷ list) a
-contains-head a list = (0, omega arith, refl)
-
-pub contains-tail : {A : Type 0} (a : A) (list : List A) (b : A) → Contains list b → Contains (a ∷ list) b
-contains-tail a list b has = (suc has.0, (let h = has.1 in omega arith), has.2)
+not-life n o apart = elim (cases_Bool (is_life n o)) [ inl t ↦ absurd (apart (life-is n o t)) | inr f ↦ f ]
 
 module _ {C : Type 0} where
   pub running-other : (lives : List (Option ActNo)) (contexts : List (Option C)) (p n : ℕ) (l : Option ActNo) (c : Option C)
@@ -65,7 +53,7 @@ module _ {C : Type 0} where
   running-at [] contexts p n here only size = absurd cc
   running-at (x ∷ lives) [] p n here only size = absurd (omega (arith, size))
   running-at (x ∷ lives) (y ∷ contexts) zero n here only size = rw here refl
-  running-at (x ∷ lives) (y ∷ contexts) (suc p) n here only size = elim (bool-cases (is_life n x)) [
+  running-at (x ∷ lives) (y ∷ contexts) (suc p) n here only size = elim (cases_Bool (is_life n x)) [
     | inl t ↦ absurd (let e = only 0 t in omega (arith, e))
     | inr f ↦ rw f (running-at lives contexts p n here (λ q e. let z = only (suc q) e in omega (arith, z)) (omega (arith, size)))
   ]

@@ -10,6 +10,7 @@ use Rattle.sa_base.specs.declared.limits.TheConstants.{MAX_EVENTS}
 use Rattle.sa_base.specs.Items.{items_at}
 use Rattle.sa_spaces.specs.Space.{SpaceView, IsSpace}
 use Rattle.sa_spaces.specs.Workload.{WorkloadView, IsWorkload}
+use Rattle.sa_lemmas.proofs.ListReads.{all-same}
 use Rattle.sa_abstract.specs.Calls.{Calls, Contexts}
 use Rattle.sa_abstract.specs.Setting.{IsSetting}
 use Rattle.sa_abstract.specs.Keeps.{Standing, Keeps, GoesOn, IsGone, IsSeat}
@@ -21,7 +22,6 @@ use Rattle.sa_assign.specs.Reaim.{proc_no}
 use Rattle.sa_kernel_model.specs.State.{Scene, owner_of}
 use Rattle.sa_kernel_model.specs.Opening.{opening_state, first_wants}
 use Rattle.sa_kernel_model.proofs.SoundLemmas.{sound-opening, sound-closed}
-use Rattle.sa_kernel_model.proofs.FormedLemmas.{all-same}
 use Rattle.sa_core_model.specs.Machine.{Machine, seen_on, gone, gone_to}
 use Rattle.sa_core_model.specs.Turn.{turned, next_event, more_events, gone_in, committed}
 use Rattle.sa_core_model.specs.End.{local_on, local_in, local_by}

@@ -1,5 +1,6 @@
 -- What a session keeps from command to command.
 use Rattle.std.proofs.Common.{◌≡◌, suc, ◌+◌, ◌<◌, ◌≤◌, List, ◌++◌, length, take, None, Result, Ok, Err, OnOk, OnErr, refl, sym, ap, ◌∙◌, subst, arith, length-append}
+use Rattle.std.proofs.lemmas.List.{take-append-le}
 use Rattle.sa_base.specs.declared.limits.TheConstants.{MAX_EVENTS}
 use Rattle.sa_base.specs.declared.number.ProcNo.{ProcNo}
 use Rattle.sa_base.specs.declared.record.Item.{Item}
@@ -16,13 +17,12 @@ use Rattle.sa_laws.specs.State.{opening_state}
 use Rattle.sa_debug.specs.Kept.{IsKept}
 use Rattle.sa_debug.specs.Reached.{Reaches, IsPlayable}
 use Rattle.sa_debug.specs.Views.{Followed, IsBehind, state_behind}
-use Rattle.sa_debug.proofs.Playing.{take-front}
 
 -- what has followed the first items of a trace has followed those of a longer one
 behind-more : (x : Followed) (items more all : List Item) → all ≡ items ++ more → IsBehind x items → IsBehind x all
 behind-more x items more all is b = record {
   few = omega (arith, b.few, ap length is, length-append items more);
-  state = b.state ∙ ap (state_behind x.workload (opening_state x.workload)) (sym (ap (take x.taken) is ∙ take-front x.taken items more b.few));
+  state = b.state ∙ ap (state_behind x.workload (opening_state x.workload)) (sym (ap (take x.taken) is ∙ take-append-le x.taken items more b.few));
 }
 
 module _ {U C : Type 0} (f : Calls U C) where
@@ -101,13 +101,3 @@ module _ {U C : Type 0} (f : Calls U C) where
               ∙ ap (λ n. state_behind x.workload (opening_state x.workload) (take n (machine core).items)) (sym taken);
         };
       }
-
--- what follows on an error
-pub on_err : {A E P Q : Type 0} (r : Result A E) → (P → Q) → OnErr r P → OnErr r Q
-on_err (Ok a) f h = tt
-on_err (Err e) f h = f h
-
--- what holds anyway holds on an error
-pub for_err : {A E P : Type 0} (r : Result A E) → P → OnErr r P
-for_err (Ok a) h = tt
-for_err (Err e) h = h

@@ -2,16 +2,12 @@
 use Rattle.std.proofs.Common.{◌≡◌, ℕ, zero, suc, ◌%◌, ◌<◌, Bool, true, false, ◌&&◌, ◌==◌, List, [], ◌∷◌, ◌++◌, length, All}
 use Rattle.std.proofs.Common.{slice_index_or, slice_set, get_or, set, refl, sym, ap, ◌∙◌, subst}
 use Rattle.std.specs.List.{list_any}
-use Rattle.std.proofs.lemmas.Bool.{eqb-true}
+use Rattle.std.proofs.lemmas.Bool.{eqb-true, false_from_ne_true}
 use Rattle.std.proofs.lemmas.List.{get_or-set_same}
 use Rattle.std.proofs.lemmas.List.Elements.{All-nil, All-cons, All-append}
 use Rattle.std.proofs.lemmas.List.Folds.{list_any_none}
 use Rattle.sa_script.specs.declared.command.Point.{Point}
 use Rattle.sa_debug.specs.Points.{same_point, IsMarked}
-
-not_true : (b : Bool) → (b ≡ true → ⊥) → b ≡ false
-not_true true h = absurd (h refl)
-not_true false h = refl
 
 second : (x y z : Bool) → y ≡ false → (x && y && z) ≡ false
 second true y z h = ap (λ b. b && z) h
@@ -25,7 +21,7 @@ third false y z h = refl
 -- two numbers of which one has its slot set and the other not
 apart : (slots : List Bool) (m n : ℕ) → slice_index_or slots (m % 64) false ≡ false → slice_index_or slots (n % 64) false ≡ true → (m == n) ≡ false
 apart slots m n unset marked =
-    not_true (m == n) (λ is. let bad : false ≡ true = sym unset ∙ ap (λ k. slice_index_or slots (k % 64) false) (eqb-true m n is) ∙ marked in cc)
+    false_from_ne_true (m == n) (λ is. let bad : false ≡ true = sym unset ∙ ap (λ k. slice_index_or slots (k % 64) false) (eqb-true m n is) ∙ marked in cc)
 
 -- a point one of whose slots is not set is no breakpoint
 pub no_thread : (threads places : List Bool) (points now : List Point) (p : Point) (i : ℕ)

@@ -1,5 +1,5 @@
 -- Items that can be played, one after another.
-use Rattle.std.proofs.Common.{◌≡◌, ℕ, zero, suc, ◌+◌, ◌<◌, ◌≤◌, List, [], ◌∷◌, ◌++◌, length, get_or, take, refl, sym, ap, ◌∙◌, subst, arith}
+use Rattle.std.proofs.Common.{◌≡◌, ℕ, zero, suc, ◌+◌, ◌<◌, List, [], ◌∷◌, length, get_or, take, refl, sym, ap, ◌∙◌, subst, arith}
 use Rattle.sa_base.specs.declared.record.Item.{Item}
 use Rattle.sa_spaces.specs.Workload.{WorkloadView}
 use Rattle.sa_laws.specs.State.{State}
@@ -23,12 +23,6 @@ behind-next w a (x ∷ xs) zero d within = refl
 behind-next w a (x ∷ xs) (suc i) d within =
     let more : suc i + 1 ≡ suc (i + 1) = omega arith in
     ap (λ n. state_behind w a (take n (x ∷ xs))) more ∙ behind-next w (changed w x.proc a x.what) xs i d (omega arith)
-
--- the first items of a list are the first of a longer one
-pub take-front : {A : Type 0} (n : ℕ) (xs ys : List A) → n ≤ length xs → take n (xs ++ ys) ≡ take n xs
-take-front zero xs ys few = refl
-take-front (suc n) [] ys few = absurd (omega arith)
-take-front (suc n) (x ∷ xs) ys few = ap (λ zs. x ∷ zs) (take-front n xs ys (omega arith))
 
 -- the same of a state that is said to be the one after them
 pub can-change : (v w : WorkloadView) (a b : State) (items : List Item) (i : ℕ) (d : Item) → v ≡ w → a ≡ state_behind w b (take i items) → CanPlay w b items

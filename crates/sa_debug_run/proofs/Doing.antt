@@ -2,7 +2,7 @@
 use Rattle.std.proofs.Common.{◌≡◌, ℕ, zero, suc, ◌+◌, ◌<◌, ◌≤◌, List, [], ◌∷◌, ◌++◌, length, get_or, take, Option, Some, None, refl, sym, ap, ◌∙◌, subst, inl, inr, arith}
 use Rattle.std.specs.Prelude.{unwrap_or}
 use Rattle.std.proofs.lemmas.Grind.{flat_map-append}
-use Rattle.std.proofs.lemmas.List.{append-nil}
+use Rattle.std.proofs.lemmas.List.{append-nil, take_more}
 use Rattle.std.proofs.lemmas.Option.{slice_get-get_or}
 use Rattle.sa_base.specs.declared.record.End.{End}
 use Rattle.sa_base.specs.declared.record.End.TheVariants.{Budget}
@@ -42,13 +42,6 @@ do-push o (d ∷ cs) s between t replies c reply done does = (
   do-push o cs done.0 between t done.2 c reply done.5 does,
 )
 
-take-push : {A : Type 0} (xs : List A) (i : ℕ) (d : A) → i < length xs → take (i + 1) xs ≡ take i xs ++ get_or xs i d ∷ []
-take-push [] i d within = absurd (omega arith)
-take-push (x ∷ xs) zero d within = refl
-take-push (x ∷ xs) (suc i) d within =
-    let more : suc i + 1 ≡ suc (i + 1) = omega arith in
-    ap (λ n. take n (x ∷ xs)) more ∙ ap (λ ys. x ∷ ys) (take-push xs i d (omega arith))
-
 take-all : {A : Type 0} (xs : List A) (i : ℕ) → length xs ≤ i → take i xs ≡ xs
 take-all [] zero past = refl
 take-all [] (suc i) past = refl
@@ -67,7 +60,7 @@ pub done-more : (budget now : ℕ) (commands : List DebugCommand) (i : ℕ) (d :
     → more ≡ text ++ reply_text reply → AreDone budget (take (i + 1) commands) s t more
 done-more budget now commands i d s between t text more reply same within are does says = record {
   replies = are.replies ++ reply ∷ [];
-  done = subst (λ cs. DoAll (over_machines fast_calls budget) cs s t (are.replies ++ reply ∷ [])) (sym (take-push commands i d within))
+  done = subst (λ cs. DoAll (over_machines fast_calls budget) cs s t (are.replies ++ reply ∷ [])) (sym (take_more commands i d within))
       (do-push (over_machines fast_calls budget) (take i commands) s between t are.replies (get_or commands i d) reply are.done
       (subst (λ b. Does (over_machines fast_calls b) (get_or commands i d) between t reply) same does));
   says = says ∙ ap (λ bs. bs ++ reply_text reply) are.says

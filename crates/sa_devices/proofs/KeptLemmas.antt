@@ -10,6 +10,7 @@ use Rattle.std.proofs.lemmas.List.Elements.{All-from_recursion}
 use Rattle.std.proofs.lemmas.List.Sorted.{Contains-permutation, IsPermutation-sym}
 use Rattle.std.proofs.lemmas.Option.{none-some, same_Some}
 use Rattle.sa_base.specs.declared.number.IoNo.{IoNo}
+use Rattle.sa_lemmas.proofs.Membership.{contains-head}
 use Rattle.sa_devices.specs.declared.under_way.Entry.{Entry}
 use Rattle.sa_devices.specs.Ios.{Io, due_of, io_no, io_at, without}
 use Rattle.sa_devices.specs.DevicesView.{IosView, begun_with, ended_with}
@@ -17,9 +18,6 @@ use Rattle.sa_devices.specs.Kept.{Key, key_of, key_cmp, IsNotAfter, listed, entr
 use Rattle.sa_devices.proofs.IosLemmas.{io_of, listed-append, without-listed, io_at-listed, Member, stands-under_way, IsListed, ends_at-listed, IsDueOf, due_of-due}
 
 -- ---- elements
-
-Contains-here : {X : Type 0} (x : X) (xs : List X) → Contains (x ∷ xs) x
-Contains-here x xs = (0, omega arith, refl)
 
 Contains-later : {X : Type 0} (x y : X) (xs : List X) → Contains xs y → Contains (x ∷ xs) y
 Contains-later x y xs at = (suc at.0, omega (arith, at.1), at.2)
@@ -62,7 +60,7 @@ AreKept-begin places e keys after old moved order =
             let last : n ≡ length places = omega arith in
             let ends_is : e.ends ≡ ends = same_Some e.ends ends (sym (ends_at-new places e) ∙ ap (ends_at (places ++ Some e ∷ [])) (sym last) ∙ at) in
             let is : key ≡ key_of ends n = ap (λ (x : ℕ). key_of x (length places)) ends_is ∙ ap (key_of ends) (sym last) in
-            subst (Contains (key ∷ keys)) is (Contains-here key keys)
+            subst (Contains (key ∷ keys)) is (contains-head key keys)
       ]);
       covered = λ k at. elim (Contains-cases key k keys (Contains-permutation after (key ∷ keys) k (IsPermutation-sym (key ∷ keys) after moved) at)) [
         | inl same ↦ subst (IsCovered (places ++ Some e ∷ [])) same (record { by = key; one = ends_at-new places e; first = inr (refl, omega arith) })
@@ -175,7 +173,7 @@ listed-none places keys kept none = go 0 places (λ i ends at. let key = kept.ke
 pub none-listed : (places : List (Option Entry)) (keys : List Key) → AreKept places keys → listed 0 places ≡ [] → length keys ≡ 0
 none-listed places [] kept none = refl
 none-listed places (x ∷ xs) kept none =
-    let cover = kept.covered x (Contains-here x xs) in
+    let cover = kept.covered x (contains-head x xs) in
     let own = ends_at-listed 0 cover.by.0.1 cover.by.0.0 places cover.one in
     absurd (subst (Member own.io) none own.member)
 

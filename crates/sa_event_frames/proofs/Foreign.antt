@@ -86,13 +86,6 @@ set-either [] i x d = inr refl
 set-either (y ∷ xs) zero x d = inl refl
 set-either (y ∷ xs) (suc i) x d = set-either xs i x d
 
-pub set-other : {A : Type 0} (xs : List A) (i j : ℕ) (x d : A) → j ≢ i → get_or (slice_set xs i x) j d ≡ get_or xs j d
-set-other [] i j x d apart = refl
-set-other (y ∷ xs) zero zero x d apart = absurd (apart refl)
-set-other (y ∷ xs) zero (suc j) x d apart = refl
-set-other (y ∷ xs) (suc i) zero x d apart = refl
-set-other (y ∷ xs) (suc i) (suc j) x d apart = set-other xs i j x d (λ e. apart (ap suc e))
-
 runs-set : (s t : SpaceNo) (old new : ℕ → Option Life) (running : List (Option ActNo)) (p q : ProcNo) (x : Option ActNo)
     → ((b : ℕ) → life_in t (new b) ≡ life_in t (old b))
     → AreLivesOf s old (get_or running p.0 None) → AreLivesOf s new x → t.0 ≢ s.0
@@ -107,7 +100,7 @@ runs-set s t old new running p q x same was is apart = elim (cases_eq q.0 p.0) [
             ∙ runs-none s t old (get_or running p.0 None) was apart
       ] in
       ap (λ n. runs_in t new (get_or (slice_set running p.0 x) n None)) y ∙ after ∙ sym before
-  | inr y ↦ ap (runs_in t new) (set-other running p.0 q.0 x None y) ∙ runs-alike t old new (get_or running q.0 None) same
+  | inr y ↦ ap (runs_in t new) (get_or-set_other running p.0 q.0 x None y) ∙ runs-alike t old new (get_or running q.0 None) same
 ]
 
 -- A record of processor p is one of the space.

@@ -1,12 +1,14 @@
 -- Who is woken waited before, and is in no work list.
-use Rattle.std.proofs.Common.{◌≡◌, ℕ, ◌+◌, ◌<◌, cond, List, [], ◌∷◌, length, drop, Some, slice_get, refl, sym, ap, ◌∙◌, inl, inr, arith}
+use Rattle.std.proofs.Common.{◌≡◌, ℕ, ◌+◌, ◌<◌, cond, List, [], ◌∷◌, length, drop, Some, slice_get, refl, sym, ap, ◌∙◌, inl, inr, arith, ◌++◌, map}
 use Rattle.std.proofs.lemmas.Bool.{cases_eq, eq-eqb}
 use Rattle.std.proofs.lemmas.Option.{same_Some}
-use Rattle.std.proofs.lemmas.List.{get_or-set_same}
+use Rattle.std.proofs.lemmas.List.{get_or-set_same, set-set}
 use Rattle.sa_base.specs.declared.number.ThreadNo.{ThreadNo}
 use Rattle.sa_base.specs.declared.limits.TheConstants.{MAX_THREADS}
-use Rattle.sa_links.specs.Lists.{count_in}
-use Rattle.sa_links.proofs.Counting.{count_same, count_other}
+use Rattle.sa_links.specs.Lists.{count_in, count_in_all}
+use Rattle.sa_links.proofs.Counting.{count_same, count_other, count_set}
+use Rattle.std.proofs.lemmas.List.Sums.{sum_by-append}
+use Rattle.sa_lemmas.proofs.ListReads.{first-rest}
 use Rattle.sa_sync.specs.declared.answer.SyncAnswer.{SyncAnswer}
 use Rattle.sa_sync.specs.declared.answer.SyncAnswer.TheVariants.{Wakes}
 use Rattle.sa_sync.specs.Sync.{Sync, joiners_at, waits_of, Waits, WaitsOnce}
@@ -30,13 +32,10 @@ pub woken_free : (s : Sync) (works : List (List ℕ)) (t : ℕ) (change : Change
 woken_free s works t change answer once tells waiting is u wakes =
     let waits = woken_waits s t change u tells (sym is ∙ wakes) in (once.threads u.0 waits, waiting u.0 waits)
 
-behind : (q : List ℕ) (u : ℕ) → slice_get q 0 ≡ Some u → q ≡ u ∷ drop 1 q
-behind [] u e = cc
-behind (x ∷ q) u e = ap (λ y. y ∷ q) (same_Some _ _ e)
 
 module _ (s : Sync) (t u : ℕ) (inside : t < length s.joiners) (first : first_joiner s t ≡ Some u) where
   pub queue : joiners_at s t ≡ u ∷ drop 1 (joiners_at s t)
-  queue = behind (joiners_at s t) u first
+  queue = first-rest (joiners_at s t) u first
 
   -- the first that joins a thread waits, and no more once it is taken; the others wait on
   pub waits_less : (v : ℕ) → waits_of (without_joiner s t) v + count_in v (u ∷ []) ≡ waits_of s v

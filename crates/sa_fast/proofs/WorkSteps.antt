@@ -6,6 +6,7 @@ use Rattle.std.proofs.lemmas.List.{get_or-set_same, get_or-set_other, length-set
 use Rattle.std.proofs.lemmas.List.Sums.{sum_by-cons}
 use Rattle.sa_base.specs.declared.number.ThreadNo.{ThreadNo}
 use Rattle.sa_base.specs.declared.limits.TheConstants.{MAX_THREADS}
+use Rattle.sa_lemmas.proofs.ListReads.{empty-first}
 use Rattle.sa_links.specs.Lists.{Lists, list_at, count_in, count_in_all}
 use Rattle.sa_links.proofs.Counting.{count-append, count_set, count_at, count_two, count_same}
 use Rattle.sa_links.proofs.CallerLemmas.{counts_moved}
@@ -51,10 +52,6 @@ starts (x ∷ xs) n first none = absurd (let one = count_same n x xs (first x re
 begins : (xs : List ℕ) (n : ℕ) → ((y : ℕ) → slice_get xs 0 ≡ Some y → y ≡ n) → 1 ≤ length xs → xs ≡ n ∷ drop 1 xs
 begins [] n first some = absurd (omega arith)
 begins (x ∷ xs) n first some = ap (λ y. y ∷ xs) (first x refl)
-
-none_first : (xs : List ℕ) → slice_get xs 0 ≡ None → xs ≡ []
-none_first [] e = refl
-none_first (x ∷ xs) e = absurd cc
 
 some_first : (xs : List ℕ) (n : ℕ) → slice_get xs 0 ≡ Some n → (1 ≤ length xs) × (1 ≤ count_in n xs)
 some_first [] n e = absurd cc
@@ -207,7 +204,7 @@ module _ (works : List (List ℕ)) (t : ThreadNo) (h : AreWorks works) (work : I
 
   without_none : slice_get (list_at left t.0) 0 ≡ None → WorkStep (with_name works (Some t)) (with_name left None) (one_of (Some t)) (λ u. 0)
   without_none e =
-      let nothing : ys ≡ [] = none_first ys (ap (λ xs. slice_get xs 0) (sym left_t) ∙ e) in
+      let nothing : ys ≡ [] = empty-first ys (ap (λ xs. slice_get xs 0) (sym left_t) ∙ e) in
       let empty_t : empty_at left t.0 ≡ 1 = ap one_if_empty (left_t ∙ nothing) in
       record {
         works = record {

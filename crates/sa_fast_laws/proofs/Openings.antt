@@ -1,11 +1,12 @@
 -- The laws at the beginning, and who is in.
 use Rattle.std.proofs.Common.{length-set, ◌≡◌, ◌≢◌, ℕ, true, List, [], ◌∷◌, Option, Some, None, IsSome, slice_index_or, replicate, reverse, length, refl, sym, ap, ◌∙◌, subst, inl, inr, arith}
 use Rattle.std.proofs.lemmas.Bool.{cases_eq}
-use Rattle.std.proofs.lemmas.List.{get_or-set_same, get_or-set_other}
+use Rattle.std.proofs.lemmas.List.{get_or-set_same, get_or-set_other, length-replicate}
 use Rattle.sa_base.specs.declared.limits.TheConstants.{MAX_THREADS}
 use Rattle.sa_base.specs.declared.number.ActNo.{ActNo}
 use Rattle.sa_base.specs.declared.number.ProcNo.{ProcNo}
 use Rattle.sa_spaces.specs.Workload.{WorkloadView}
+use Rattle.sa_lemmas.proofs.ListReads.{all-same}
 use Rattle.sa_lists.proofs.Changes.{no_rank, inserted_front}
 use Rattle.sa_lists.specs.ReadyView.{inserted, no_threads, list_of}
 use Rattle.sa_lists.specs.declared.ranks.Ranks.TheVariants.{One}
@@ -20,7 +21,7 @@ use Rattle.sa_laws.specs.Readings.{Readings, life_of, opening_readings, first_li
 use Rattle.sa_user_laws.specs.Scene.{Holds as HoldsNow, IsOfSpace}
 use Rattle.sa_fits.proofs.ReadyOrders.{numbers-here, numbers-there}
 use Rattle.sa_fits.specs.Fits.{numbers_in, FitsLists, fast_fits}
-use Rattle.sa_fits_laws.proofs.Openings.{same_read, many_same, opening-holds, opening-ready}
+use Rattle.sa_fits_laws.proofs.Openings.{opening-holds, opening-ready}
 
 pub fast-inside : (w : WorkloadView) (s : Setting) (e : ℕ) (r : Readings) (u : Package) (cs : Contexts Context) (a : ActNo) (life : Life)
     → HoldsNow fast_stands w s e r u cs → fast_fits w s r u cs
@@ -45,7 +46,7 @@ fast-starts w s of set = record {
   no_ranks = no_rank (no_threads s.processors One MAX_THREADS) 0 0 refl
 
   many_lists : length (started s).shared.state.lists.lists ≡ s.processors
-  many_lists = length-set (replicate s.processors []) 0 (first_list s) ∙ many_same s.processors []
+  many_lists = length-set (replicate s.processors []) 0 (first_list s) ∙ length-replicate s.processors []
 
   lists_are : (l : ProcNo) → numbers_in (first_listed ∷ []) l ≡ reverse (list_of (started s).shared.state.lists l.0)
   lists_are l = elim (cases_eq 0 l.0) [
@@ -55,10 +56,10 @@ fast-starts w s of set = record {
     list_here : list_of (started s).shared.state.lists 0 ≡ 0 ∷ []
     list_here =
         get_or-set_same (replicate s.processors []) 0 (first_list s) []
-        (let all = many_same {A = List ℕ} s.processors [] in let some = set.some_processor in omega arith)
+        (let all = length-replicate {A = List ℕ} s.processors [] in let some = set.some_processor in omega arith)
         ∙ ap (λ rs. inserted rs 0 (slice_index_or (replicate s.processors []) 0 [])) no_ranks
         ∙ inserted_front 0 (slice_index_or (replicate s.processors []) 0 [])
-        ∙ ap (λ xs. 0 ∷ xs) (same_read s.processors 0 [])
+        ∙ ap (λ xs. 0 ∷ xs) (all-same s.processors 0 [])
 
     list_there : (n : ℕ) → n ≢ 0 → list_of (started s).shared.state.lists n ≡ []
-    list_there n ne = get_or-set_other (replicate s.processors []) 0 n (first_list s) [] ne ∙ same_read s.processors n []
+    list_there n ne = get_or-set_other (replicate s.processors []) 0 n (first_list s) [] ne ∙ all-same s.processors n []

@@ -1,5 +1,5 @@
 -- Lists of notices without one that was told.
-use Rattle.std.proofs.Common.{◌≡◌, ◌≢◌, ℕ, zero, suc, ◌+◌, ◌≤◌, ◌<◌, Bool, true, false, cond, not, ◌||◌, ◌&&◌, List, [], ◌∷◌, map, filter, length, sum_by, count_by, Contains, get_or, slice_index_or, refl, sym, ap, ◌∙◌, subst, arith}
+use Rattle.std.proofs.Common.{◌≡◌, ◌≢◌, ℕ, zero, suc, ◌+◌, ◌≤◌, ◌<◌, Bool, true, false, cond, not, ◌||◌, ◌&&◌, List, [], ◌∷◌, filter, length, sum_by, count_by, Contains, slice_index_or, refl, sym, ap, ◌∙◌, subst, arith}
 use Rattle.std.specs.Prelude.{if◌then◌else◌}
 use Rattle.std.proofs.lemmas.Bool.{eq-eqb, ne_eqb, eqb-true as eqb-is}
 use Rattle.std.proofs.lemmas.List.Sums.{sum_by-cons}
@@ -9,12 +9,6 @@ use Rattle.sa_base.specs.declared.record.Note.{Note}
 use Rattle.sa_base.specs.declared.record.Note.TheVariants.{Add, Preempted, Blocked, Unblocked}
 use Rattle.sa_laws.specs.Record.{same_note, is_other_note}
 use Rattle.sa_fits.specs.Fits.{is_of}
-
--- each list of lists is changed
-pub map-list : {A : Type 0} (f : List A → List A) (xs : List (List A)) (j : ℕ) → f [] ≡ [] → get_or (map f xs) j [] ≡ f (get_or xs j [])
-map-list f [] j none = sym none
-map-list f (x ∷ xs) zero none = refl
-map-list f (x ∷ xs) (suc j) none = map-list f xs j none
 
 -- what passes stays
 any_if : {A : Type 0} (p : A → Bool) (x : A) (ys : List A) (c : Bool) → list_any p (if c then x ∷ ys else ys) ≡ ((c && p x) || list_any p ys)

@@ -5,6 +5,7 @@ use Rattle.std.proofs.lemmas.Bool.{lt-ltb, cases_eq, eq-eqb, ne_eqb}
 use Rattle.std.proofs.lemmas.List.{length-map, length-reverse, map-append, reverse-append}
 use Rattle.std.proofs.lemmas.Option.{same_Some}
 use Rattle.std.specs.List.{list_any}
+use Rattle.std.proofs.lemmas.List.Elements.{filter-append}
 use Rattle.sa_base.specs.declared.number.ProcNo.{ProcNo}
 use Rattle.sa_base.specs.declared.number.ThreadNo.{ThreadNo}
 use Rattle.sa_lemmas.proofs.ListUpdates.{slice_get-append_seam}
@@ -16,13 +17,6 @@ use Rattle.sa_package_model.specs.declared.package.Package.{Package}
 use Rattle.sa_laws.specs.Readings.{Listed, is_in}
 use Rattle.sa_laws.specs.Record.{is_other_thread}
 use Rattle.sa_fits.specs.Fits.{FitsLists, number_in, numbers_in}
-
-pub filter-append : {A : Type 0} (p : A → Bool) (xs ys : List A) → filter p (xs ++ ys) ≡ filter p xs ++ filter p ys
-filter-append p [] ys = refl
-filter-append p (x ∷ xs) ys = kept-or (p x) x (filter p (xs ++ ys)) (filter p xs) (filter p ys) (filter-append p xs ys) where
-  kept-or : {A : Type 0} (b : Bool) (x : A) (zs xs ys : List A) → zs ≡ xs ++ ys → (if b then x ∷ zs else zs) ≡ (if b then x ∷ xs else xs) ++ ys
-  kept-or true x zs xs ys e = ap (λ ws. x ∷ ws) e
-  kept-or false x zs xs ys e = e
 
 pub numbers-append : (xs ys : List Listed) (l : ProcNo) → numbers_in (xs ++ ys) l ≡ numbers_in xs l ++ numbers_in ys l
 numbers-append xs ys l = ap (map number_in) (filter-append (is_in l) xs ys) ∙ map-append number_in (filter (is_in l) xs) (filter (is_in l) ys)

@@ -1,8 +1,6 @@
 -- Lives fit as before where a stop or a return of one is read.
-use Rattle.std.proofs.Common.{◌≡◌, ◌≢◌, ℕ, ◌<◌, ◌&&◌, Bool, false, true, not, length, List, Option, Some, None, option_map, is_none, Contains, refl, sym, ap, ◌∙◌, subst, inl, inr, arith, [], slice_index_or}
-use Rattle.std.proofs.lemmas.Bool.{cases_lt}
-use Rattle.std.proofs.lemmas.List.{get_or_past}
-use Rattle.std.proofs.lemmas.Option.{slice_get_within, none-some}
+use Rattle.std.proofs.Common.{◌≡◌, ◌≢◌, ℕ, ◌<◌, ◌&&◌, Bool, false, true, not, length, List, Option, Some, None, option_map, is_none, Contains, refl, sym, ap, ◌∙◌, subst, arith, []}
+use Rattle.std.proofs.lemmas.Option.{slice_get_within}
 use Rattle.std.specs.List.{list_any}
 use Rattle.sa_base.specs.declared.number.ActNo.{ActNo}
 use Rattle.sa_base.specs.declared.number.ProcNo.{ProcNo}
@@ -13,6 +11,7 @@ use Rattle.sa_base.specs.declared.record.Record.TheVariants as records
 use Rattle.sa_lemmas.proofs.FunctionUpdates.{put-same, put-other}
 use Rattle.sa_lemmas.specs.Function.{put}
 use Rattle.sa_spaces.specs.Workload.{WorkloadView}
+use Rattle.sa_lemmas.proofs.ListReads.{some-below}
 use Rattle.sa_abstract.specs.Calls.{Contexts}
 use Rattle.sa_abstract.specs.Setting.{Setting}
 use Rattle.sa_package_model.specs.Context.{carried_by}
@@ -45,13 +44,6 @@ not-any kind b ns never = by (list_any (same_note (note_of kind b)) ns) refl whe
   by : (z : Bool) → list_any (same_note (note_of kind b)) ns ≡ z → list_any (same_note (note_of kind b)) ns ≡ false
   by false is = is
   by true is = absurd (never (any-note kind b ns is))
-
--- where someone runs, there is a processor
-pub some-below : {A : Type 0} (xs : List (Option A)) (i : ℕ) (x : A) → slice_index_or xs i None ≡ Some x → i < length xs
-some-below xs i x e = elim (cases_lt i (length xs)) [
-  | inl less ↦ less
-  | inr past ↦ absurd (none-some x (sym (get_or_past xs i None past) ∙ e))
-]
 
 module _ {C : Type 0} (look : C → View) (base : C → Context) (bs : Contexts Context) (cs : Contexts C) (on : IsBasedOn look base bs cs)
     (w : WorkloadView) (s : Setting) (e : ℕ) (r : Readings) (u : Package) (of_space : IsOfSpace w s) (sizes : AreSized w r) (h : IsStanding s e u bs)

@@ -5,6 +5,7 @@ use Rattle.std.proofs.lemmas.Bool.{not-true, eq-eqb, ne_eqb}
 use Rattle.std.proofs.lemmas.Bool.Decides.{nat_tests}
 use Rattle.std.proofs.lemmas.List.Sums.{sum_by-cons}
 use Rattle.std.specs.List.{list_all, list_any}
+use Rattle.std.proofs.lemmas.List.Folds.{list_all_at}
 use Rattle.sa_base.specs.declared.number.ActNo.{ActNo}
 use Rattle.sa_base.specs.declared.number.ProcNo.{ProcNo}
 use Rattle.sa_base.specs.declared.number.ThreadNo.{ThreadNo}
@@ -99,15 +100,6 @@ all-counted p q (x ∷ xs) (y ∷ ys) d e less same past =
           let few = few-counted p xs d (length ys) (λ k above below. past (suc k) (omega arith) (omega arith)) in
           ap (λ n. n == suc (length ys)) (passed p x xs (same 0 (omega arith) ∙ is)) ∙ ne_eqb (count_by p xs) (suc (length ys)) (omega arith)
           ∙ sym (ap (λ c. c && list_all q ys) is)
-
--- some entry fails
-not-all : {B : Type 0} (q : B → Bool) (ys : List B) (k : ℕ) (e : B) → k < length ys → q (slice_index_or ys k e) ≡ false → list_all q ys ≡ false
-not-all q [] k e below is = absurd (omega arith)
-not-all q (y ∷ ys) zero e below is = ap (λ b. b && list_all q ys) is
-not-all q (y ∷ ys) (suc k) e below is = ap (λ b. q y && b) (not-all q ys k e (omega arith) is) ∙ fails (q y) where
-  fails : (b : Bool) → (b && false) ≡ false
-  fails true = refl
-  fails false = refl
 
 -- THREADS, as the package keeps them and as the history says where they are. Of one that a context carries its stage tells.
 abbrev pub is_returned : Stage → Bool
@@ -242,7 +234,7 @@ module _ (s : Setting) (e : ℕ) (r : Readings) (u : Package) (cs : Contexts Con
 
       by : (o : Option ThreadNo) → carried_by (base c).state ≡ o → Stirs
       by None none = inr (a, life, is, (rests a c life mine is).marks.inside ∙ busy-inside (look c).inside (look c).carried busy (on.carries c ∙ none))
-      by (Some t) at = inl (not-all (λ x. is_at_rest x.place) (space_at r.state s.space).threads t.0 (at_start 0 place.Done)
+      by (Some t) at = inl (list_all_at (λ x. is_at_rest x.place) (space_at r.state s.space).threads t.0 (at_start 0 place.Done)
           (let made = own_made s e u cs h a.0 (base c) (on.down a.0 c mine) t.0 (carried_has u.shared.works (base c) t at) in let all = k.space.made in
           omega arith)
           (ap is_at_rest (l.place t at ∙ gone-place (stage_of r s.space a life) life.proc gone)))

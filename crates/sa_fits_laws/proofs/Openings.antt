@@ -1,7 +1,7 @@
 -- At the opening a space has one thread, which is ready, and no life.
 use Rattle.std.proofs.Common.{◌≡◌, ℕ, ◌+◌, List, [], ◌∷◌, map, Some, None, slice_get, slice_index_or, refl, sym, ap, ◌∙◌, subst, inl, inr, arith, zero, suc, ◌<◌, sum_by, Contains, count_by, replicate}
 use Rattle.std.specs.Prelude.{length, ◌≤◌, cond}
-use Rattle.std.proofs.lemmas.List.{get_or-set_same}
+use Rattle.std.proofs.lemmas.List.{get_or-set_same, get_or-replicate, length-replicate}
 use Rattle.std.proofs.lemmas.List.Sums.{sum_by-cons}
 use Rattle.std.proofs.lemmas.Option.{same_Some, none-some, slice_get_within}
 use Rattle.sa_base.specs.declared.limits.TheConstants.{MAX_THREADS}
@@ -9,6 +9,7 @@ use Rattle.sa_base.specs.declared.number.ThreadNo.{ThreadNo}
 use Rattle.sa_base.specs.declared.record.Note.{Note}
 use Rattle.sa_base.specs.declared.record.Note.TheVariants.{Preempted, Unblocked}
 use Rattle.sa_spaces.specs.Workload.{WorkloadView}
+use Rattle.sa_lemmas.proofs.ListReads.{all-same}
 use Rattle.sa_lists.specs.declared.ranks.Ranks.{Ranks}
 use Rattle.sa_fast.specs.Rest.{one_where}
 use Rattle.sa_fast.specs.Threads.{block_at, unmade, at_start, is_loaded, load_of as loaded}
@@ -22,17 +23,6 @@ use Rattle.sa_user_laws.specs.Scene.{IsOfSpace}
 use Rattle.sa_fits.proofs.Places.{loaded-with}
 use Rattle.sa_fits.specs.Fits.{is_of, FitsSpace, FitsThread, Holds}
 
--- lists of one thing
-pub same_read : {A : Type 0} (n i : ℕ) (x : A) → slice_index_or (replicate n x) i x ≡ x
-same_read zero i x = refl
-same_read (suc n) zero x = refl
-same_read (suc n) (suc i) x = same_read n i x
-
-pub below_read : {A : Type 0} (n i : ℕ) (x d : A) → i < n → slice_index_or (replicate n x) i d ≡ x
-below_read zero i x d less = absurd (omega arith)
-below_read (suc n) zero x d less = refl
-below_read (suc n) (suc i) x d less = below_read n i x d (omega arith)
-
 map_read : {A B : Type 0} (f : A → B) (xs : List A) (i : ℕ) (x : A) (d : B) → slice_get xs i ≡ Some x → slice_index_or (map f xs) i d ≡ f x
 map_read f [] i x d e = absurd (none-some x e)
 map_read f (y ∷ xs) zero x d e = ap f (same_Some y x e)
@@ -42,10 +32,6 @@ none_loaded : (n : ℕ) → loaded (replicate n unmade) ≡ 0
 none_loaded zero = refl
 none_loaded (suc n) = sum_by-cons (λ (z : Block). cond (is_loaded z.place) 1 0) unmade (replicate n unmade)
     ∙ (let rest = none_loaded n in let sum : 0 + loaded (replicate n unmade) ≡ 0 = omega arith in sum)
-
-pub many_same : {A : Type 0} (n : ℕ) (x : A) → length (replicate n x) ≡ n
-many_same zero x = refl
-many_same (suc n) x = ap suc (many_same n x)
 
 module _ (ranks : Ranks) (w : WorkloadView) (s : Setting) (of : IsOfSpace w s) where
   nothing : (m : Note) → Contains [] m → ⊥
@@ -58,7 +44,7 @@ module _ (ranks : Ranks) (w : WorkloadView) (s : Setting) (of : IsOfSpace w s) w
   space_is = map_read opening_space w.spaces s.space.0 s.def _ of.def
 
   many : 0 < length (replicate MAX_THREADS unmade)
-  many = let all = many_same MAX_THREADS unmade in omega arith
+  many = let all = length-replicate MAX_THREADS unmade in omega arith
 
   -- its first thread, in the package
   pub first-block : block_at (started_with ranks s).shared.threads 0 ≡ at_start 0 kept.Ready
@@ -69,7 +55,7 @@ module _ (ranks : Ranks) (w : WorkloadView) (s : Setting) (of : IsOfSpace w s) w
 
   -- the one that is ready
   pub opening-ready : ready_of (opening_readings w) s.space ≡ first_listed ∷ []
-  opening-ready = below_read (length w.spaces) s.space.0 (first_listed ∷ []) [] below
+  opening-ready = get_or-replicate (length w.spaces) s.space.0 (first_listed ∷ []) [] below
 
   pub opening-holds : Holds s.space (opening_readings w) (started_with ranks s) (λ a. None)
   opening-holds = record {
@@ -85,19 +71,19 @@ module _ (ranks : Ranks) (w : WorkloadView) (s : Setting) (of : IsOfSpace w s) w
     load =
         let active : active_threads (space_at (opening_state w) s.space) ≡ 1 = ap active_threads space_is in
         let untold : sum_by (untold_thread (opening_readings w)) (untold_of (opening_readings w) s.space) ≡ 0 =
-        ap (sum_by (untold_thread (opening_readings w))) (same_read (length w.spaces) s.space.0 []) in
+        ap (sum_by (untold_thread (opening_readings w))) (all-same (length w.spaces) s.space.0 []) in
         let one = loaded-with (replicate MAX_THREADS unmade) 0 (at_start 0 kept.Ready) many in
         let none = none_loaded MAX_THREADS in
-        let old : block_at (replicate MAX_THREADS unmade) 0 ≡ unmade = same_read MAX_THREADS 0 unmade in
+        let old : block_at (replicate MAX_THREADS unmade) 0 ≡ unmade = all-same MAX_THREADS 0 unmade in
         let zero_is : one_where (is_loaded (block_at (replicate MAX_THREADS unmade) 0).place) ≡ 0 =
         ap (λ (z : Block). one_where (is_loaded z.place)) old in
         omega arith;
     lives = λ a c at. absurd cc;
     others = λ a life at mine none. absurd cc;
     noted = λ a there. elim there [
-      | inl stop ↦ absurd (nothing (Preempted a) (subst (λ ns. Contains ns (Preempted a)) (same_read (length w.spaces) s.space.0 []) stop))
-      | inr back ↦ absurd (nothing (Unblocked a) (subst (λ ns. Contains ns (Unblocked a)) (same_read (length w.spaces) s.space.0 []) back))
+      | inl stop ↦ absurd (nothing (Preempted a) (subst (λ ns. Contains ns (Preempted a)) (all-same (length w.spaces) s.space.0 []) stop))
+      | inr back ↦ absurd (nothing (Unblocked a) (subst (λ ns. Contains ns (Unblocked a)) (all-same (length w.spaces) s.space.0 []) back))
     ];
-    single = λ a. subst (λ ns. count_by (is_of a) ns ≤ 1) (sym (same_read (length w.spaces) s.space.0 [])) (omega arith);
+    single = λ a. subst (λ ns. count_by (is_of a) ns ≤ 1) (sym (all-same (length w.spaces) s.space.0 [])) (omega arith);
     runs = λ p a life at its mine. absurd cc;
   }

@@ -10,6 +10,7 @@ use Rattle.sa_base.specs.declared.record.Note.{Note}
 use Rattle.sa_base.specs.declared.record.Note.TheVariants.{Add, Preempted, Blocked, Unblocked}
 use Rattle.sa_base.specs.declared.record.Record.TheVariants as records
 use Rattle.sa_spaces.specs.Workload.{WorkloadView}
+use Rattle.sa_lemmas.proofs.ListReads.{map-list}
 use Rattle.sa_abstract.specs.Calls.{Contexts}
 use Rattle.sa_package_model.specs.declared.context.Context.{Context}
 use Rattle.sa_package_model.specs.declared.package.Package.{Package}
@@ -18,7 +19,7 @@ use Rattle.sa_laws.specs.Readings.{Readings, running_of, life_of, untold_of, sto
 use Rattle.sa_laws.specs.Record.{after_record, same_note, is_other_note}
 use Rattle.sa_laws.specs.State.{space_at, active_threads}
 use Rattle.sa_fits.proofs.NoteLists.{notes-same}
-use Rattle.sa_fits.proofs.Notices.{map-list, any-filter, tells, contained-fails, count-without}
+use Rattle.sa_fits.proofs.Notices.{any-filter, tells, contained-fails, count-without}
 use Rattle.sa_fits.specs.Fits.{Holds, is_of, FitsSpace}
 use Rattle.sa_fits.specs.Life.{HasLife}
 use Rattle.sa_fits.specs.Stage.{stage_on, stage_of, stage_by, is_act}

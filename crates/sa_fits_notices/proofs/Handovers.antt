@@ -15,6 +15,7 @@ use Rattle.sa_base.specs.declared.record.Record.TheVariants.{Told}
 use Rattle.sa_lemmas.proofs.FunctionUpdates.{put-same, put-other}
 use Rattle.sa_lemmas.specs.Function.{put}
 use Rattle.sa_spaces.specs.Workload.{WorkloadView}
+use Rattle.sa_lemmas.proofs.ListReads.{map-list}
 use Rattle.sa_code.specs.declared.state.Frame.{Frame}
 use Rattle.sa_fast.proofs.WorkSteps.{one_other}
 use Rattle.sa_fast.specs.Rest.{one_of, one_where, place_at, threads_at_rest}
@@ -42,7 +43,7 @@ use Rattle.sa_laws.specs.declared.place.Place.TheVariants as place
 use Rattle.sa_fits.proofs.Hands.{split, held-append}
 use Rattle.sa_fits.proofs.InCode.{before-less}
 use Rattle.sa_fits.proofs.NoteLists.{any-contained}
-use Rattle.sa_fits.proofs.Notices.{tells, back-alone, map-list, any-filter, sum-without, count-without, count-contained, contained-fails, note_of, same-self, of-self, other-passes, told-once, told-none}
+use Rattle.sa_fits.proofs.Notices.{tells, back-alone, any-filter, sum-without, count-without, count-contained, contained-fails, note_of, same-self, of-self, other-passes, told-once, told-none}
 use Rattle.sa_fits.proofs.OneLife.{carried_one, carried_has, other-life}
 use Rattle.sa_fits.proofs.Places.{block-here, block-there, loaded-placed, SameThreads, sum_same}
 use Rattle.sa_fits.proofs.ThreadsBeside.{life-here}

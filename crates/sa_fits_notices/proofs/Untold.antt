@@ -4,6 +4,7 @@ use Rattle.std.proofs.Common.{◌≡◌, ◌≢◌, ℕ, ◌+◌, ◌≤◌, ◌
 use Rattle.std.proofs.lemmas.Bool.{cases_eq, eq-eqb, ne_eqb}
 use Rattle.std.proofs.lemmas.Option.{same_Some, none-some}
 use Rattle.std.specs.List.{list_any}
+use Rattle.std.proofs.Math.Bool.{or-false}
 use Rattle.sa_base.specs.declared.number.ActNo.{ActNo}
 use Rattle.sa_base.specs.declared.number.ProcNo.{ProcNo}
 use Rattle.sa_base.specs.declared.number.SpaceNo.{SpaceNo}
@@ -38,10 +39,6 @@ pub runs-only : (stopped returned runs : Bool) → stage_by stopped returned run
 runs-only true returned runs is = absurd (let no_such = ap is_running is in cc)
 runs-only false true runs is = absurd (let no_such = ap is_running is in cc)
 runs-only false false runs is = (refl, refl)
-
-or_none : (b : Bool) → (b || false) ≡ b
-or_none true = refl
-or_none false = refl
 
 -- A LIFE CEASES TO RUN: others run where they ran.
 module _ (s : SpaceNo) (r q : Readings) (u : Package) (cs : Contexts Context) (k : Holds s r u cs) (p : ProcNo) (a : ActNo) (life : Life)
@@ -100,10 +97,10 @@ module _ (set : Setting) (e : ℕ) (u : Package) (cs : Contexts Context) (h : Is
       let ns = untold_of r s in
       let stops : list_any (same_note (Preempted x)) (ns ++ note ∷ []) ≡ list_any (same_note (Preempted x)) ns =
       any-append (same_note (Preempted x)) ns note ∙ ap (λ b. list_any (same_note (Preempted x)) ns || b) (i.apart x ne).0
-      ∙ or_none (list_any (same_note (Preempted x)) ns) in
+      ∙ or-false (list_any (same_note (Preempted x)) ns) in
       let backs : list_any (same_note (Unblocked x)) (ns ++ note ∷ []) ≡ list_any (same_note (Unblocked x)) ns =
       any-append (same_note (Unblocked x)) ns note ∙ ap (λ b. list_any (same_note (Unblocked x)) ns || b) (i.apart x ne).1
-      ∙ or_none (list_any (same_note (Unblocked x)) ns) in
+      ∙ or-false (list_any (same_note (Unblocked x)) ns) in
       ap (λ ms. stage_by (list_any (same_note (Preempted x)) ms) (list_any (same_note (Unblocked x)) ms) (is_act x (running_of q y))) i.untold
       ∙ ap (λ b. stage_by b (list_any (same_note (Unblocked x)) (ns ++ note ∷ [])) (is_act x (running_of q y))) stops
       ∙ ap (λ b. stage_by (list_any (same_note (Preempted x)) ns) b (is_act x (running_of q y))) backs

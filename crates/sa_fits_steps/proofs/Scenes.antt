@@ -1,9 +1,7 @@
 -- What is known before a step of a running life: sizes, who runs on its processor, and who runs there after it.
-use Rattle.std.proofs.Common.{◌≡◌, ◌≢◌, ℕ, zero, suc, ◌≤◌, ◌<◌, List, [], ◌∷◌, length, Option, Some, None, slice_get, slice_index_or, option_map, refl, sym, ap, ◌∙◌, inl, inr, arith}
+use Rattle.std.proofs.Common.{◌≡◌, ◌≢◌, ℕ, ◌≤◌, ◌<◌, length, Option, Some, None, option_map, refl, sym, ap, ◌∙◌, arith}
 use Rattle.std.specs.Prelude.{min, false, true, ◌⊎◌, Contains}
-use Rattle.std.proofs.lemmas.Bool.{cases_lt}
-use Rattle.std.proofs.lemmas.List.{get_or_past}
-use Rattle.std.proofs.lemmas.Option.{same_Some, none-some, slice_get_within}
+use Rattle.std.proofs.lemmas.Option.{slice_get_within, get_or_from_slice_get}
 use Rattle.sa_base.specs.declared.context.Seen.{Seen}
 use Rattle.sa_base.specs.declared.limits.TheConstants.{MAX_EVENTS}
 use Rattle.sa_base.specs.declared.number.ActNo.{ActNo}
@@ -12,6 +10,7 @@ use Rattle.sa_base.specs.declared.number.SpaceNo.{SpaceNo}
 use Rattle.sa_base.specs.declared.number.ThreadNo.{ThreadNo}
 use Rattle.sa_instr.specs.declared.limits.TheConstants.{MAX_PATIENCE}
 use Rattle.sa_spaces.specs.Workload.{WorkloadView}
+use Rattle.sa_lemmas.proofs.ListReads.{some-below}
 use Rattle.sa_lists.proofs.Changes.{home-inside}
 use Rattle.sa_abstract.specs.Calls.{Contexts}
 use Rattle.sa_abstract.specs.Keeps.{IsStepped}
@@ -69,17 +68,6 @@ pub record IsFastScene (set : Setting) (e : ℕ) (u : Package) (cs : Contexts Co
   -- where it is not inside the package it is out, or owes nothing
   pub free : stands_inside c.state ≡ false → (life.inside ≡ false) ⊎ OwesNothing w r life
 
-read_or : {A : Type 0} (xs : List A) (i : ℕ) (x d : A) → slice_get xs i ≡ Some x → slice_index_or xs i d ≡ x
-read_or [] i x d e = absurd (none-some x e)
-read_or (y ∷ xs) zero x d e = same_Some y x e
-read_or (y ∷ xs) (suc i) x d e = read_or xs i x d e
-
-pub some_below : {A : Type 0} (xs : List (Option A)) (i : ℕ) (x : A) → slice_index_or xs i None ≡ Some x → i < length xs
-some_below xs i x e = elim (cases_lt i (length xs)) [
-  | inl less ↦ less
-  | inr past ↦ absurd (none-some x (sym (get_or_past xs i None past) ∙ e))
-]
-
 -- WHO RUNS on a processor that the space owns, at a moment at which other spaces are as before
 pub runs-there : (set : Setting) (e : ℕ) (v : Package) (ds : Contexts Context) → IsStanding set e v ds → (r last : Readings) → IsMoment r
     → Holds set.space last v ds
@@ -111,7 +99,7 @@ module _ (set : Setting) (e : ℕ) (u : Package) (cs : Contexts Context) (w : Wo
   heard = let less = below in let same = i.sizes.untold in omega arith
 
   pub procs : p.0 < length r.running
-  procs = some_below r.running p.0 a i.on.runs
+  procs = some-below r.running p.0 a i.on.runs
 
   pub inside : p.0 < w.processors
   inside = let less = procs in let same = i.sizes.running in omega arith
@@ -120,7 +108,7 @@ module _ (set : Setting) (e : ℕ) (u : Package) (cs : Contexts Context) (w : Wo
   processors = i.stands.made.processors ∙ i.of.processors
 
   pub def : space_def w set.space ≡ u.def
-  def = read_or w.spaces set.space.0 set.def no_space i.of.def ∙ sym i.stands.made.def
+  def = get_or_from_slice_get w.spaces set.space.0 set.def no_space i.of.def ∙ sym i.stands.made.def
 
   pub space : u.shared.state.space ≡ set.space
   space = i.stands.made.space

@@ -1,7 +1,6 @@
 -- An instruction and its operation and operands undo each other.
 use Rattle.std.proofs.Common.{◌≡◌, ℕ, Option, Some, None, MatchOption, List, [], ◌∷◌, length, map, IsSome, IfSome, refl, sym, ap, subst, ◌∙◌, arith}
 use Rattle.std.proofs.lemmas.Bool.{false≢true}
-use Rattle.std.proofs.lemmas.Bool.Decides.{nat_tests}
 use Rattle.std.proofs.lemmas.Option.{same_Some}
 use Rattle.std.specs.Prelude.{◌==◌, ◌↔◌, if◌then◌else◌}
 use Rattle.std.specs.Option.{option_map}
@@ -17,6 +16,7 @@ use Rattle.sa_instr.specs.declared.operation.Operation.TheVariants as Operations
 use Rattle.sa_instr.specs.Operand.{kind_of}
 use Rattle.sa_instr.specs.Operation.{form_of}
 use Rattle.sa_instr.specs.Parts.{FitTheOperation, parts, parts_of, read_at, from_two, instr_from, instr_of, register_in, value_in, place_in, cell_in, program_in, mutex_in, semaphore_in, length_in, page_in}
+use Rattle.sa_lemmas.proofs.Options.{right_number, wrong_number}
 
 -- something is read from an operand exactly where it is of this kind, and then the operand is this one
 abbrev pub IsReading : {A : Type 0} → OperandKind → (A → Operand) → Operand → Option A → Type 0
@@ -160,10 +160,6 @@ page = record { kind = Kinds.Page; held = λ a. Page a; read = page_in; back = p
 abbrev pub IsMaking : List OperandKind → Operation → List Operand → Option Instr → Type 0
 IsMaking kinds operation o made = MatchOption made (map kind_of o ≡ kinds → ⊥) (λ i. (map kind_of o ≡ kinds) × (parts_of i ≡ parts operation o))
 
--- nothing is made of the wrong number of operands
-wrong_number : {A : Type 0} (n m : ℕ) (o : Option A) → (n ≡ m → ⊥) → (if n == m then o else None) ≡ None
-wrong_number n m o apart = grind (arith, nat_tests)
-
 none-making : (kinds : List OperandKind) (operation : Operation) (o : List Operand) (made : Option Instr) → made ≡ None
     → (map kind_of o ≡ kinds → ⊥) → IsMaking kinds operation o made
 none-making kinds operation o None e unfit = unfit
@@ -257,9 +253,6 @@ parts-back operation o i e = made-parts operation o (instr_of operation o) i (ma
 
 pub fit-some : (operation : Operation) (o : List Operand) → IsSome (instr_of operation o) ↔ FitTheOperation (parts operation o)
 fit-some operation o = made-some (form_of operation).operands operation o (instr_of operation o) (making operation o)
-
-right_number : {A : Type 0} (n m : ℕ) (o : Option A) → n ≡ m → o ≡ (if n == m then o else None)
-right_number n m o same = grind (arith, nat_tests)
 
 if-made : (operation : Operation) (o : List Operand) (made : Option Instr) → IsMaking (form_of operation).operands operation o made
     → IfSome made (λ i. parts_of i ≡ parts operation o)

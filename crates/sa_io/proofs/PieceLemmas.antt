@@ -2,9 +2,9 @@
 use Rattle.std.proofs.Common.{◌≡◌, ℕ, ◌+◌, ◌≤◌, min, List, [], ◌++◌, length, take, drop, Option, sym, ap, subst, ◌∙◌, refl, append_assoc, append-nil, take-append-drop, arith}
 use Rattle.std.proofs.lemmas.List.{take-append-le, take_min}
 use Rattle.std.proofs.Math.Seq.{take-append-add}
-use Rattle.std.proofs.KnownBytes.{Appends-trans, Appends-nil}
-use Rattle.std.specs.Prelude.{Result, Ok, Err, OnOk, OnErr}
-use Rattle.std.specs.Io.KnownBytes.{Appends}
+use Rattle.std.proofs.KnownBytes.{Appends-trans, Appends-nil, Consumes-trans}
+use Rattle.std.specs.Prelude.{OnOk}
+use Rattle.std.specs.Io.KnownBytes.{Appends, Consumes}
 use Rattle.sa_io.specs.Faults.{AppendsPrefix}
 use Rattle.sa_io.specs.Pieces.{GoesOut}
 
@@ -22,10 +22,10 @@ prefix-behind before at after text written piece behind whole taken cut =
     ∙ ap (λ v. written ++ v) (take-append-le k piece behind (omega arith) ∙ take_min cut.0 piece) in
     (length written + k, subst P (sym end) (Appends-trans before at after written (take cut.0 piece) taken cut.1))
 
--- what holds anyway holds at an error
-pub on_err : {T E Q : Type 0} (result : Result T E) → Q → OnErr result Q
-on_err (Ok x) holds = tt
-on_err (Err e) holds = holds
+-- what was lost before a read that gave more
+pub lost-more : (before at after : Option (List ℕ)) (bytes more : List ℕ) → Consumes before at bytes → Consumes at after more
+    → (lost : List ℕ) × Consumes before after lost
+lost-more before at after bytes more taken then = (bytes ++ more, Consumes-trans before at after bytes more taken then)
 
 -- nothing was put
 pub out-none : (before : Option (List ℕ)) (waited : List ℕ) → GoesOut before before waited [] waited

@@ -1,6 +1,5 @@
 -- A completion: a blocked life comes back, or an upcall page was fetched.
 use Rattle.sa_laws.specs.declared.place.Place.TheVariants as place
-use Rattle.sa_match.proofs.Lists.{read-at}
 use Rattle.std.proofs.lemmas.List.Sums.{get_or-le-sum_by}
 use Rattle.std.specs.Prelude.{◌==◌, sum_by, if◌then◌else◌}
 use Rattle.std.proofs.lemmas.List.{append-nil}
@@ -63,6 +62,7 @@ use Rattle.sa_match.proofs.Longer.{Parted, parted, history-turn}
 use Rattle.std.specs.List.{find, list_any}
 use Rattle.std.proofs.lemmas.List.Folds.{list_any_at}
 use Rattle.std.specs.Option.{option_map}
+use Rattle.sa_lemmas.proofs.ListReads.{read-at}
 use Rattle.sa_devices.specs.declared.kind.IoKind.{IoKind}
 use Rattle.sa_devices.specs.declared.kind.IoKind.TheVariants.{Plain, Page, Upcall}
 use Rattle.sa_devices.specs.Pages.{IsKind}

@@ -1,5 +1,4 @@
 -- A processor is halted: its context is set aside, or none ran there.
-use Rattle.sa_match.proofs.Lists.{read-at}
 use Rattle.std.proofs.Common.{◌+◌, ◌≢◌, is_some, get_or, ◌≡◌, ℕ, ◌<◌, arith, sym, ◌∙◌, ap, subst, refl, Option, Some, None, IsSome, List, [], ◌∷◌, ◌++◌, length, slice_get, slice_set, inl, inr}
 use Rattle.std.proofs.lemmas.List.{set-get_or}
 use Rattle.std.proofs.lemmas.Bool.{cases_lt, cases_eq}
@@ -15,6 +14,7 @@ use Rattle.sa_base.specs.declared.record.Record.TheVariants.{Stop}
 use Rattle.sa_lemmas.proofs.FunctionUpdates.{put-other}
 use Rattle.sa_spaces.specs.Space.{SpaceView}
 use Rattle.sa_spaces.specs.Workload.{WorkloadView, IsWorkload}
+use Rattle.sa_lemmas.proofs.ListReads.{read-at}
 use Rattle.sa_abstract.specs.Calls.{Contexts}
 use Rattle.sa_acts.specs.Table.{runs_in, holding, held_of}
 use Rattle.sa_assign.specs.Aims.{space_no}

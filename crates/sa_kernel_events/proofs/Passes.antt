@@ -1,5 +1,4 @@
 -- From a halted processor to the end of the event: by an upcall of a space, or by the leave.
-use Rattle.sa_match.proofs.Lists.{read-at}
 use Rattle.std.proofs.lemmas.Option.{slice_get_within, same_Some}
 use Rattle.std.proofs.Common.{Contains, get_or, ◌≡◌, ℕ, ◌<◌, arith, sym, ◌∙◌, ap, subst, refl, Bool, true, false, not, Option, Some, None, List, [], ◌∷◌, ◌++◌, map, length, slice_get, slice_set, append_assoc}
 use Rattle.std.proofs.lemmas.List.{get_or-set_same}
@@ -13,6 +12,7 @@ use Rattle.sa_base.specs.declared.record.Record.TheVariants.{Up, Told, Move}
 use Rattle.sa_base.specs.Items.{items_at}
 use Rattle.sa_lemmas.specs.Function.{put}
 use Rattle.sa_spaces.specs.Workload.{WorkloadView}
+use Rattle.sa_lemmas.proofs.ListReads.{read-at}
 use Rattle.sa_acts.specs.Table.{runs_in}
 use Rattle.sa_batch.specs.Notices.{notes_told}
 use Rattle.sa_assign.specs.Aims.{space_no}

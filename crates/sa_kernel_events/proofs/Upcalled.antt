@@ -1,5 +1,4 @@
 -- The whole of an upcall, from the moment before its up to the end of its event.
-use Rattle.sa_match.proofs.Lists.{read-at}
 use Rattle.std.proofs.Common.{Contains, get_or, ◌≡◌, ℕ, ◌<◌, arith, sym, ◌∙◌, ap, subst, Bool, Option, Some, None, List, [], ◌∷◌, ◌++◌, length, map, slice_get, inl, inr}
 use Rattle.std.proofs.lemmas.Bool.{cases_eq}
 use Rattle.sa_base.specs.declared.number.ProcNo.{ProcNo}
@@ -12,6 +11,7 @@ use Rattle.sa_base.specs.declared.record.Record.TheVariants.{Told, Up as UpRecor
 use Rattle.sa_base.specs.declared.record.Item.{Item}
 use Rattle.sa_spaces.specs.Space.{SpaceView}
 use Rattle.sa_spaces.specs.Workload.{WorkloadView, IsWorkload}
+use Rattle.sa_lemmas.proofs.ListReads.{read-at}
 use Rattle.sa_acts.specs.declared.acts.Act.{Act}
 use Rattle.sa_batch.specs.Notices.{notes_told}
 use Rattle.sa_assign.specs.Aims.{space_no}

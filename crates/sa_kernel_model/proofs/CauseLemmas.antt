@@ -13,6 +13,7 @@ use Rattle.sa_base.specs.declared.record.Note.TheVariants.{Add, Preempted, Block
 use Rattle.sa_base.specs.declared.record.Record.{Record}
 use Rattle.sa_base.specs.declared.record.Record.TheVariants.{Line}
 use Rattle.sa_spaces.specs.Workload.{WorkloadView}
+use Rattle.sa_lemmas.proofs.Searches.{while-none}
 use Rattle.sa_assign.specs.Aims.{Change}
 use Rattle.sa_assign.specs.Reaim.{proc_no, line_at, lines_after, records_of}
 use Rattle.sa_kernel_model.specs.State.{KernelState}
@@ -33,7 +34,7 @@ use Rattle.sa_kernel_model.proofs.WalkLemmas.{AreOwn}
 use Rattle.sa_kernel_model.proofs.WantLemmas.{none-wanted}
 use Rattle.sa_kernel_model.proofs.AimLemmas.{aims-reads}
 use Rattle.sa_kernel_model.proofs.LineLemmas.{AreLines}
-use Rattle.sa_kernel_model.proofs.ShapeLemmas.{while-both, while-all, while-none, filter-both, filter-all, filter-none, drop-front, own-wants, own-lines, lines-wants, lines-aims, wants-all, wants-aims, wants-lines, aims-wants, aims-none, front-is}
+use Rattle.sa_kernel_model.proofs.ShapeLemmas.{while-both, while-all, filter-both, filter-all, filter-none, drop-front, own-wants, own-lines, lines-wants, lines-aims, wants-all, wants-aims, wants-lines, aims-wants, aims-none, front-is}
 use Rattle.sa_kernel_model.proofs.WholeLemmas.{Whole, closing_of, reading_at, whole-turn}
 use Rattle.sa_kernel_model.proofs.LawLemmas.{each-of}
 

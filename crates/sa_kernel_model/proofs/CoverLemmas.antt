@@ -11,6 +11,7 @@ use Rattle.sa_base.specs.declared.number.ProcNo.{ProcNo}
 use Rattle.sa_base.specs.declared.record.Record.{Record}
 use Rattle.sa_base.specs.declared.record.Record.TheVariants.{Aim, Line}
 use Rattle.sa_spaces.specs.Workload.{WorkloadView, IsWorkload}
+use Rattle.sa_lemmas.proofs.Searches.{while-none}
 use Rattle.sa_share.specs.declared.Claim.{Claim}
 use Rattle.sa_share.specs.Share.{share_at, priority_at, claim_at, IsFirst, IsShare}
 use Rattle.sa_share.specs.Fair.{IsLowered}
@@ -36,7 +37,7 @@ use Rattle.sa_kernel_model.specs.Turn.{Turn, event_of}
 use Rattle.sa_kernel_model.specs.Laws.{HoldsAtTurns}
 use Rattle.sa_kernel_model.proofs.AimLemmas.{aims-reads}
 use Rattle.sa_kernel_model.proofs.LineLemmas.{AreLines}
-use Rattle.sa_kernel_model.proofs.ShapeLemmas.{while-both, while-all, while-none, lines-aims, wants-aims, aims-of}
+use Rattle.sa_kernel_model.proofs.ShapeLemmas.{while-both, while-all, lines-aims, wants-aims, aims-of}
 use Rattle.sa_kernel_model.proofs.WholeLemmas.{Whole, Closing, reading_at, whole-turn}
 
 -- aims come only by changes

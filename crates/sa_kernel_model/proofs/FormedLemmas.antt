@@ -16,6 +16,7 @@ use Rattle.sa_acts.specs.declared.acts.Act.{Act}
 use Rattle.sa_base.specs.declared.limits.TheConstants.{MAX_SPACES}
 use Rattle.sa_spaces.specs.Space.{SpaceView}
 use Rattle.sa_spaces.specs.Workload.{WorkloadView, IsWorkload}
+use Rattle.sa_lemmas.proofs.ListReads.{all-same}
 use Rattle.sa_kernel_model.specs.Opening.{opening_state}
 use Rattle.sa_acts.specs.Table.{holding, runs_in, held_of, taken_from, space_of}
 use Rattle.sa_assign.specs.AssignView.{AssignView}
@@ -55,11 +56,6 @@ one = 1
 
 no-life-some : (a : ActNo) → no_life ≡ Some a → ⊥
 no-life-some a e = cc
-
-pub all-same : {A : Type 0} (n i : ℕ) (x : A) → get_or (replicate n x) i x ≡ x
-all-same zero i x = refl
-all-same (suc n) zero x = refl
-all-same (suc n) (suc i) x = all-same n i x
 
 abbrev pub no_space : Option SpaceNo
 no_space = None

@@ -8,6 +8,7 @@ use Rattle.sa_base.specs.declared.number.ActNo.{ActNo}
 use Rattle.sa_base.specs.declared.context.Stopped.{Stopped}
 use Rattle.sa_lemmas.specs.Function.{put}
 use Rattle.sa_lemmas.proofs.FunctionUpdates.{put-at, put-other}
+use Rattle.sa_lemmas.proofs.Membership.{contains-head, contains-tail}
 use Rattle.sa_acts.specs.declared.acts.Act.{Act}
 use Rattle.sa_acts.specs.Table.{runs_in, held_of, taken_from, space_of}
 use Rattle.sa_kernel_model.specs.Entries.{without_acts}
@@ -25,12 +26,6 @@ cell-cases (z ∷ xs) (suc p) (suc q) x y is = elim (cell-cases xs p q x y is) [
   | inl at ↦ inl (ap suc at.0, at.1)
   | inr other ↦ inr ((λ e. other.0 cc), other.1)
 ]
-
-contains-head : {A : Type 0} (a : A) (list : List A) → Contains (a ∷ list) a
-contains-head a list = (0, omega arith, refl)
-
-contains-tail : {A : Type 0} (a : A) (list : List A) (b : A) → Contains list b → Contains (a ∷ list) b
-contains-tail a list b has = (suc has.0, (let h = has.1 in omega arith), has.2)
 
 pub contains-nil : {A : Type 0} (b : A) → Contains [] b → ⊥
 contains-nil b has = let h = has.1 in omega arith

@@ -14,6 +14,7 @@ use Rattle.sa_base.specs.declared.record.Record.{Record}
 use Rattle.sa_base.specs.declared.record.Record.TheVariants.{Line}
 use Rattle.sa_base.specs.Items.{items_at}
 use Rattle.sa_spaces.specs.Workload.{WorkloadView}
+use Rattle.sa_lemmas.proofs.Options.{none-is}
 use Rattle.sa_assign.specs.Aims.{is_aim, space_no, least_below}
 use Rattle.sa_assign.specs.Reaim.{proc_no}
 use Rattle.sa_assign.proofs.ChoiceLemmas.{least_below-passes}
@@ -90,10 +91,6 @@ is-owner : (s : ℕ) (o : Option SpaceNo) → is_aim s o ≡ true → o ≡ Some
 is-owner s None is = absurd (cc)
 is-owner s (Some t) is = ap (λ n. Some (space_no n)) (eqb-true t.0 s is)
 
-is-low : (l : Option ℕ) → is_none l ≡ true → l ≡ None
-is-low None is = refl
-is-low (Some e) is = absurd (cc)
-
 pub record IsRaisedFor (m : Readings) (s q : ℕ) : Type 0 where
   pub owner : owner_at m (proc_no q) ≡ Some (space_no s)
   pub low : line_at m (proc_no q) ≡ None
@@ -102,7 +99,7 @@ raised-for : (w : WorkloadView) (m : Readings) (s q : ℕ) → least_below w.pro
 raised-for w m s q is =
     let passes = (least_below-passes w.processors (can_be_raised m (space_no s)) q is).passes in record {
       owner = is-owner s (owner_at m (proc_no q)) (and_parts (is_aim s (owner_at m (proc_no q))) (is_none (line_at m (proc_no q))) passes).0;
-      low = is-low (line_at m (proc_no q)) (and_parts (is_aim s (owner_at m (proc_no q))) (is_none (line_at m (proc_no q))) passes).1;
+      low = none-is (line_at m (proc_no q)) (and_parts (is_aim s (owner_at m (proc_no q))) (is_none (line_at m (proc_no q))) passes).1;
     }
 
 must-other : (w : WorkloadView) (e : ℕ) (p : ProcNo) (m : Readings) (b : Bool) (o : Option ℕ) (s t : ℕ) → t ≢ s → least_below w.processors (can_be_raised m (space_no s)) ≡ o

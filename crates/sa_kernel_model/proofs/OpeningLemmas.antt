@@ -2,7 +2,7 @@
 use Rattle.std.proofs.Common.{◌≡◌, ◌≢◌, ℕ, zero, suc, ◌≤◌, ◌+◌, refl, sym, ◌∙◌, ap, subst, arith, Some, None, List, [], ◌∷◌, ◌++◌, append_assoc, length, map, take, replicate, sum_by, false}
 use Rattle.std.specs.Prelude.{Option, Bool, ◌&&◌, not, cond, is_none, IsSome, nat_lt, get_or, slice_set, filter_map, Contains, All}
 use Rattle.std.proofs.lemmas.Bool.{ne_eqb}
-use Rattle.std.proofs.lemmas.List.{set-get_or, append-nil, length-map, length-replicate, map-append, length_push}
+use Rattle.std.proofs.lemmas.List.{set-get_or, append-nil, length-map, length-replicate, map-append, length_push, take-replicate}
 use Rattle.std.proofs.lemmas.List.Elements.{All-head, All-tail}
 use Rattle.sa_base.specs.declared.number.SpaceNo.{SpaceNo}
 use Rattle.sa_base.specs.declared.number.ProcNo.{ProcNo}
@@ -16,13 +16,13 @@ use Rattle.sa_base.specs.Items.{items_at}
 use Rattle.sa_spaces.specs.Space.{SpaceView}
 use Rattle.sa_spaces.specs.declared.workload.Evict.{Evict}
 use Rattle.sa_spaces.specs.Workload.{WorkloadView, IsWorkload, IsEviction}
+use Rattle.sa_lemmas.proofs.ListReads.{all-same}
 use Rattle.sa_assign.specs.Aims.{space_no, least_below}
 use Rattle.sa_assign.specs.Reaim.{proc_no, records_of}
 use Rattle.sa_devices.specs.Pages.{evicted, gone}
 use Rattle.sa_kernel_model.specs.State.{KernelState, Scene}
 use Rattle.sa_kernel_model.specs.Closing.{closed}
 use Rattle.sa_kernel_model.specs.Opening.{opening_state, opened, first_wants as wants_in}
-use Rattle.sa_kernel_model.proofs.FormedLemmas.{all-same}
 use Rattle.sa_kernel_model.proofs.SoundLemmas.{sound-opened}
 use Rattle.sa_kernel_model.proofs.HeldLemmas.{stays-closed}
 use Rattle.sa_laws.specs.Readings.{Readings, opening_readings, demand_of, untold_of, is_fetching}
@@ -100,11 +100,6 @@ begins-same w ok =
     no_line : Option ℕ
     no_line = None
 
-take-same : {A : Type 0} (n m : ℕ) (x : A) → n ≤ m → take n (replicate m x) ≡ replicate n x
-take-same zero m x less = refl
-take-same (suc n) zero x less = absurd (omega arith)
-take-same (suc n) (suc m) x less = ap (λ xs. x ∷ xs) (take-same n m x (omega arith))
-
 -- the moment behind the first wants
 abbrev pub wanting : WorkloadView → Readings
 wanting w = after_records w 0 zeroth (opening_readings w) (first_wants w)
@@ -116,7 +111,7 @@ wanting-reads C w ok =
     let none : List ActNo = [] in
     let k : KernelState C = opening_state w in
     let taken : replicate n none ≡ take (length k.fixed.priorities) k.taken =
-    sym (ap (λ i. take i (replicate MAX_SPACES none)) (length-map w.spaces (λ (s : SpaceView). s.priority)) ∙ take-same n MAX_SPACES none ok.few_spaces) in
+    sym (ap (λ i. take i (replicate MAX_SPACES none)) (length-map w.spaces (λ (s : SpaceView). s.priority)) ∙ take-replicate n MAX_SPACES none ok.few_spaces) in
     let F : List (List ActNo) → Overview = λ t. record (read_off k) { taken = t } in
     first-reads w 0 zeroth (opening_readings w) w.processors nothing n refl refl ∙ ap F taken
 

@@ -7,6 +7,7 @@ use Rattle.std.proofs.lemmas.Bool.{and_parts, not_from_true}
 use Rattle.sa_base.specs.declared.number.SpaceNo.{SpaceNo}
 use Rattle.sa_base.specs.declared.record.Record.{Record}
 use Rattle.sa_base.specs.declared.record.Record.TheVariants.{Want, Line}
+use Rattle.sa_lemmas.proofs.Searches.{while-none}
 use Rattle.sa_assign.specs.Aims.{Change}
 use Rattle.sa_assign.specs.Reaim.{line_at, lines_with, line_records, records_of}
 use Rattle.sa_kernel_model.specs.Entries.{evicted_at}
@@ -19,7 +20,7 @@ use Rattle.sa_kernel_model.specs.Turn.{ShapeOf, event_of}
 use Rattle.sa_kernel_model.specs.Laws.{TurnsHaveParts}
 use Rattle.sa_kernel_model.proofs.WalkLemmas.{AreOwn}
 use Rattle.sa_kernel_model.proofs.LineLemmas.{AreLines}
-use Rattle.sa_kernel_model.proofs.ShapeLemmas.{while-both, while-none, drop-front}
+use Rattle.sa_kernel_model.proofs.ShapeLemmas.{while-both, drop-front}
 use Rattle.sa_kernel_model.proofs.WholeLemmas.{closing_of, reading_at, whole-turn}
 
 none-own : (cl : List Record) → AreClosing cl → take_while is_own cl ≡ []

@@ -11,6 +11,7 @@ use Rattle.sa_base.specs.declared.record.Note.{Note}
 use Rattle.sa_base.specs.declared.record.Note.TheVariants.{Add, Preempted, Blocked, Unblocked}
 use Rattle.sa_base.specs.declared.record.Item.{Item}
 use Rattle.sa_base.specs.Items.{items_at}
+use Rattle.sa_lemmas.proofs.Options.{none-is}
 use Rattle.sa_assign.specs.Aims.{Change, is_aim, least_below}
 use Rattle.sa_assign.specs.Reaim.{proc_no, changes_in, changed, records_of}
 use Rattle.sa_assign.proofs.ChoiceLemmas.{least_below-passes, least_below-none}
@@ -56,10 +57,6 @@ none-below n f g only none = go (least_below n g) refl
         let found = least_below-passes n g r is in
         absurd (true-false (sym (only r found.within found.passes) ∙ least_below-none n f none r found.within))
 
-is-none : (o : Option ℕ) → is_none o ≡ true → o ≡ None
-is-none None h = refl
-is-none (Some n) h = absurd cc
-
 is-owner : (s : ℕ) (o : Option SpaceNo) (a : Option SpaceNo) → a ≡ o → is_aim s o ≡ true → is_aim s a ≡ true
 is-owner s o a same is = ap (is_aim s) same ∙ is
 
@@ -86,7 +83,7 @@ module _ {C : Type 0} where
       (raised-stays k.assign.lines q r e) in
       let was : must_interrupt k s ≡ true =
       both-last (has_untold (untold_of k s) && not (is_fetching k s)) (is_none (least_below n (is_told_by next s))) (is_none (least_below n (is_told_by k s)))
-      (λ none. ap is_none (none-below n (is_told_by next s) (is_told_by k s) told (is-none (least_below n (is_told_by next s)) none))) must in
+      (λ none. ap is_none (none-below n (is_told_by next s) (is_told_by k s) told (none-is (least_below n (is_told_by next s)) none))) must in
       none-below n (has_low_line k s) (has_low_line next s)
       (λ r below. both-last (is_aim s (owner_of k (proc_no r))) (is_none (line_of next (proc_no r))) (is_none (line_of k (proc_no r))) (low-before k.assign.lines q r e))
       (rests was)
@@ -104,12 +101,13 @@ module _ {C : Type 0} where
       let n = length k.lives in
       let found = least_below-passes n (has_low_line k s) q (sym is) in
       let owner = (and_parts (is_aim s (owner_of k (proc_no q))) (is_none (line_of k (proc_no q))) found.passes).0 in
-      let low = is-none (line_of k (proc_no q)) (and_parts (is_aim s (owner_of k (proc_no q))) (is_none (line_of k (proc_no q))) found.passes).1 in
+      let low = none-is (line_of k (proc_no q)) (and_parts (is_aim s (owner_of k (proc_no q))) (is_none (line_of k (proc_no q))) found.passes).1 in
       let aim = is-owner s (owner_of k (proc_no q)) (aim_of k (proc_no q)) ((base.0 q).settled low) owner in
       let within : q < length k.assign.lines = (let b = found.within in let l = base.1.lines in omega arith) in
       let raised : is_some (line_of next (proc_no q)) ≡ true = ap is_some (get_or-set_same k.assign.lines q (Some e) None within) in
       let told : is_told_by next s q ≡ true = and_from (is_aim s (owner_of k (proc_no q)) && is_aim s (aim_of k (proc_no q))) (is_some (line_of next (proc_no q))) (and_from _ _ owner aim) raised in
-      let none = is-none (least_below n (is_told_by next s)) (and_parts (has_untold (untold_of k s) && not (is_fetching k s)) (is_none (least_below n (is_told_by next s))) must).1 in
+      let none = none-is (least_below n (is_told_by next s))
+      (and_parts (has_untold (untold_of k s) && not (is_fetching k s)) (is_none (least_below n (is_told_by next s))) must).1 in
       absurd (true-false (sym told ∙ least_below-none n (is_told_by next s) none q found.within))
 
   served-one : (e : ℕ) (p : ProcNo) (b : Bool) (s : ℕ) (x : Scene C) → b ≡ must_interrupt x.state s → Base x → Rests s (interrupt_one e p b s x).state

@@ -31,9 +31,6 @@ while-both f (x ∷ xs) ys all =
 pub while-all : (f : Record → Bool) (xs : List Record) → list_all f xs ≡ true → take_while f xs ≡ xs
 while-all f xs all = ap (take_while f) (sym (append-nil xs)) ∙ while-both f xs [] all ∙ append-nil xs
 
-pub while-none : (f : Record → Bool) (x : Record) (xs : List Record) → f x ≡ false → take_while f (x ∷ xs) ≡ []
-while-none f x xs not_so = take_while-cons f x xs ∙ ap (λ b. cond b (x ∷ take_while f xs) []) not_so
-
 pub filter-both : (f : Record → Bool) (xs ys : List Record) → filter f (xs ++ ys) ≡ filter f xs ++ filter f ys
 filter-both f [] ys = refl
 filter-both f (x ∷ xs) ys = one (f x) (filter-both f xs ys) where

@@ -4,6 +4,7 @@ use Rattle.sa_base.specs.declared.number.ProcNo.{ProcNo}
 use Rattle.sa_base.specs.declared.number.ActNo.{ActNo}
 use Rattle.sa_base.specs.declared.record.Note.{Note}
 use Rattle.sa_spaces.specs.Workload.{WorkloadView, IsWorkload}
+use Rattle.sa_lemmas.proofs.ListReads.{all-same}
 use Rattle.sa_assign.specs.Reaim.{proc_no}
 use Rattle.sa_kernel_model.specs.State.{KernelState, Scene}
 use Rattle.sa_kernel_model.specs.Closing.{closed}
@@ -12,7 +13,7 @@ use Rattle.sa_kernel_model.specs.Opening.{opening_state, opened}
 use Rattle.sa_kernel_model.specs.Fits.{IsFit, upcalls}
 use Rattle.sa_kernel_model.specs.declared.entry.Entry.{Entry}
 use Rattle.sa_kernel_model.specs.Sound.{note_claim, IsPlaced, ArePlaced, AreClaimed, IsUpcalled, IsSound}
-use Rattle.sa_kernel_model.proofs.FormedLemmas.{all-same, no_life, no_event, no_space, no_notes, formed-opening, formed-entered_as, formed-closed, formed-after_fetch, formed-evicted}
+use Rattle.sa_kernel_model.proofs.FormedLemmas.{no_life, no_event, no_space, no_notes, formed-opening, formed-entered_as, formed-closed, formed-after_fetch, formed-evicted}
 use Rattle.sa_kernel_model.proofs.PlacedLemmas.{placed-same, placed-entered_as, placed-closed, placed-after_fetch}
 use Rattle.sa_kernel_model.proofs.ClaimLemmas.{cond-zero}
 use Rattle.sa_kernel_model.proofs.HeldLemmas.{upcalled-entered_as, upcalled-closed, claimed-entered_as, claimed-closed, claimed-after_fetch}

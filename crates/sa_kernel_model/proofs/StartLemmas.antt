@@ -7,10 +7,11 @@ use Rattle.sa_base.specs.declared.number.ProcNo.{ProcNo}
 use Rattle.sa_base.specs.declared.record.Record.{Record}
 use Rattle.sa_base.specs.declared.record.Record.TheVariants.{Aim}
 use Rattle.sa_spaces.specs.Workload.{WorkloadView, IsWorkload}
+use Rattle.sa_lemmas.proofs.ListReads.{all-same}
+use Rattle.sa_lemmas.proofs.Searches.{while-none}
 use Rattle.sa_assign.specs.Aims.{Change, space_no}
 use Rattle.sa_assign.specs.Reaim.{proc_no, line_at, lines_with, line_records, records_of}
 use Rattle.sa_kernel_model.specs.Opening.{opened}
-use Rattle.sa_kernel_model.proofs.FormedLemmas.{all-same}
 use Rattle.sa_kernel_model.proofs.SoundLemmas.{sound-opening, sound-opened}
 use Rattle.sa_kernel_model.proofs.PromptLemmas.{prompt-closed}
 use Rattle.sa_laws.specs.Readings.{Readings, opening_readings, space_of_life}
@@ -25,7 +26,7 @@ use Rattle.sa_kernel_model.specs.Laws.{HoldsAtOpening, AnyLines, ToldOnce, AllTo
 use Rattle.sa_kernel_model.proofs.UpLemmas.{Lawful, AreLawful, each-weaker}
 use Rattle.sa_kernel_model.proofs.WantLemmas.{spaces_from, wants-lawful, nothing-heard}
 use Rattle.sa_kernel_model.proofs.AimLemmas.{aims-lawful, aims-reads}
-use Rattle.sa_kernel_model.proofs.ShapeLemmas.{while-both, while-none, drop-front, wants-aims, wants-lines, aims-of, front-is}
+use Rattle.sa_kernel_model.proofs.ShapeLemmas.{while-both, drop-front, wants-aims, wants-lines, aims-of, front-is}
 use Rattle.sa_kernel_model.proofs.KeepLemmas.{prompt-in}
 use Rattle.sa_kernel_model.proofs.LawLemmas.{owned-map, owner-is}
 use Rattle.sa_kernel_model.proofs.CoverLemmas.{IsAimed, covered, wants-keep-aims}

@@ -1,10 +1,11 @@
 -- Interrupts and blocks: the context that ran is put aside, and the processor goes on.
 use Rattle.std.proofs.Common.{◌≡◌, ◌≢◌, ℕ, ◌<◌, ◌+◌, inl, inr, refl, sym, ◌∙◌, ap, subst, arith, Some, None, List, [], ◌∷◌, ◌++◌, length, true, false}
-use Rattle.std.specs.Prelude.{Option, Bool, ◌&&◌, ◌||◌, not, is_none, option_map, get_or, slice_set, slice_index}
+use Rattle.std.specs.Prelude.{Option, Bool, ◌&&◌, not, is_none, option_map, get_or, slice_set, slice_index}
 use Rattle.std.specs.List.{list_any}
 use Rattle.std.proofs.lemmas.Bool.{cases_eq, eqb-true}
 use Rattle.std.proofs.lemmas.List.{get_or-set_same, length-set}
 use Rattle.std.proofs.lemmas.List.Folds.{list_any-append}
+use Rattle.std.proofs.Math.Bool.{or-false}
 use Rattle.sa_base.specs.declared.number.SpaceNo.{SpaceNo}
 use Rattle.sa_base.specs.declared.number.ProcNo.{ProcNo}
 use Rattle.sa_base.specs.declared.number.ActNo.{ActNo}
@@ -57,9 +58,6 @@ noted-some : (us : List (List Note)) (s : ℕ) (n : Note) → s < length us → 
 noted-some us s n within is = push-some (get_or us s []) n (sym (get_or-set_same us s (get_or us s [] ++ n ∷ []) [] within) ∙ is)
 
 -- a block
-or-false : (b : Bool) → (b || false) ≡ b
-or-false true = refl
-or-false false = refl
 
 abbrev blocked_with : ℕ → ProcNo → SpaceNo → ActNo → Blocking → Overview → Overview
 blocked_with e p s a b v = record (set_aside p s (Blocked a) v) { begun = v.begun + 1; under_way = v.under_way ++ record { number = v.begun; ends = e + b.length; kind = b.kind } ∷ [] }

@@ -1,7 +1,7 @@
 -- Records and events after others.
-use Rattle.std.proofs.Common.{◌≡◌, ◌≢◌, ℕ, ◌+◌, ◌<◌, refl, sym, ◌∙◌, ap, subst, arith, List, [], ◌∷◌, ◌++◌, true}
+use Rattle.std.proofs.Common.{◌≡◌, ◌≢◌, ℕ, ◌+◌, ◌<◌, refl, sym, ◌∙◌, ap, subst, arith, List, [], ◌∷◌, ◌++◌}
 use Rattle.std.specs.Prelude.{◌↔◌, ◌==◌, ◌&&◌, Bool, if◌then◌else◌}
-use Rattle.std.proofs.lemmas.Bool.Decides.{nat_tests}
+use Rattle.std.proofs.lemmas.Bool.{eq-eqb}
 use Rattle.sa_base.specs.declared.number.ProcNo.{ProcNo}
 use Rattle.sa_base.specs.declared.record.Record.{Record}
 use Rattle.sa_base.specs.declared.record.Item.{Item}
@@ -44,9 +44,6 @@ pub lawful-append : (u : UserRules) (w : WorkloadView) (r : Readings) (es fs : L
 lawful-append u w r [] fs left right = right
 lawful-append u w r (e ∷ es) fs left right = (left.0, lawful-append u w (after_event u.inside w r e) es fs left.1 right)
 
-pub alike : (a : ℕ) → (a == a) ≡ true
-alike a = grind (arith, nat_tests)
-
 -- an item before the history of a later event, and before that of its own
 before-later : (x : Item) (m : ℕ) (es : List Event) → x.event < m → AreNumbered m es → before_events x es ≡ event_of x ∷ es
 before-later x m [] below numbered = refl
@@ -60,7 +57,7 @@ before-own : (n : ℕ) (p : ProcNo) (x : Record) (xs : List Record) (es : List E
 before-own n p x xs es =
     let own : Event = record { number = n; proc = p; records = xs } in
     let choose : Bool → List Event = λ b. if b then record { number = n; proc = p; records = x ∷ xs } ∷ es else event_of (item n p x) ∷ own ∷ es in
-    ap choose (ap (λ b. b && (p.0 == p.0)) (alike n) ∙ alike p.0)
+    ap choose (ap (λ b. b && (p.0 == p.0)) (eq-eqb n n refl) ∙ eq-eqb p.0 p.0 refl)
 
 event-items : (n : ℕ) (p : ProcNo) (x : Record) (xs : List Record) (rest : List Item) (es : List Event) → events_of rest ≡ es → AreNumbered (n + 1) es
     → events_of (items_at n p (x ∷ xs) ++ rest) ≡ record { number = n; proc = p; records = x ∷ xs } ∷ es

@@ -19,6 +19,7 @@ use Rattle.sa_base.specs.declared.record.Record.{Record}
 use Rattle.sa_base.specs.declared.record.Record.TheVariants.{Ins, Run, Stop, Block, Unblock, Cont, Back, Ready, Take, Free, Up, Told, GiveBack}
 use Rattle.sa_base.specs.declared.record.Item.{Item}
 use Rattle.sa_spaces.specs.Workload.{WorkloadView}
+use Rattle.sa_lemmas.proofs.Membership.{contains-single}
 use Rattle.sa_laws.specs.Event.{Event}
 use Rattle.sa_laws.specs.Machine.{next_effect}
 use Rattle.sa_laws.specs.Life.{Life, Lock, with_hand, without_lock, with_first, with_cont, change_first, first_lock, ran, readied, held_with, inherits, inherited, bereft, new_life}
@@ -307,23 +308,19 @@ holds-same : (f : Life → Life) (b : Option ActNo) (lives : ℕ → Option Life
 holds-same f b lives s t X space same holds =
     holds-with f b lives s t X space (λ a life at is of has. inl (subst (λ ls. HasThread ls t) (sym (same life)) has)) holds
 
-pub only-lock : (m k : Lock) → Contains (m ∷ []) k → m ≡ k
-only-lock m k (zero, below, is) = is
-only-lock m k (suc i, below, is) = absurd (omega arith)
-
 thread-first : (f : Lock → Lock) (ls : List Lock) (t : ThreadNo) → ((l : Lock) → slice_get ls 0 ≡ Some l → l.thread ≡ Some t → (f l).thread ≡ Some t)
     → HasThread ls t
     → HasThread (change_first f ls) t
 thread-first f [] t keeps has = absurd (no-lock has.0 has.1)
 thread-first f (l ∷ ls) t keeps has = elim (Contains-append_cases (l ∷ []) ls has.0 has.1) [
-  | inl first ↦ (f l, (0, omega arith, refl), keeps l refl (ap (λ (k : Lock). k.thread) (only-lock l has.0 first) ∙ has.2))
+  | inl first ↦ (f l, (0, omega arith, refl), keeps l refl (ap (λ (k : Lock). k.thread) (contains-single l has.0 first) ∙ has.2))
   | inr later ↦ (has.0, Contains-append_right (f l ∷ []) ls has.0 later, has.2)
 ]
 
 thread-drop : (ls : List Lock) (t : ThreadNo) → HasThread ls t → HasThread (drop 1 ls) t ⊎ ((l : Lock) × (slice_get ls 0 ≡ Some l) × (l.thread ≡ Some t))
 thread-drop [] t has = absurd (no-lock has.0 has.1)
 thread-drop (l ∷ ls) t has = elim (Contains-append_cases (l ∷ []) ls has.0 has.1) [
-  | inl first ↦ inr (l, refl, ap (λ (k : Lock). k.thread) (only-lock l has.0 first) ∙ has.2)
+  | inl first ↦ inr (l, refl, ap (λ (k : Lock). k.thread) (contains-single l has.0 first) ∙ has.2)
   | inr later ↦ inl (has.0, later, has.2)
 ]
 

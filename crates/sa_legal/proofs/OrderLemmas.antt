@@ -6,6 +6,7 @@ use Rattle.sa_base.specs.declared.number.SpaceNo.{SpaceNo}
 use Rattle.sa_base.specs.declared.number.ThreadNo.{ThreadNo}
 use Rattle.sa_base.specs.declared.record.Record.TheVariants.{Ins, Run, Ready, Take, Free}
 use Rattle.sa_instr.specs.declared.instr.Instr.{Instr}
+use Rattle.sa_lemmas.proofs.Membership.{contains-single}
 use Rattle.sa_laws.specs.declared.rule.Rule.TheVariants.{ListOrder}
 use Rattle.sa_laws.specs.Event.{Event}
 use Rattle.sa_laws.specs.Life.{Life, Lock}
@@ -20,7 +21,6 @@ use Rattle.sa_legal.proofs.ExampleLemmas.{prompt-calm, no-wants, one-share, Only
 use Rattle.sa_legal.proofs.SmallestLemmas.{r0, r5, next}
 use Rattle.sa_legal.proofs.BreakLemmas.{goes-on, right0, right1, right2, right3, right4}
 use Rattle.sa_legal.proofs.FoldLemmas.{with-end, break-behind}
-use Rattle.sa_legal.proofs.HolderLemmas.{only-lock}
 
 abbrev g : List Instr
 g = forking_program
@@ -103,7 +103,7 @@ holds-none : (r : Readings) (life : Life) (lock : Lock) (t : ThreadNo) → OnlyZ
 holds-none r life lock t only is locks other s holds =
     let same : life ≡ holds.life = same_Some life holds.life (sym is ∙ the-one r.lives only holds.act.0 holds.life holds.is) in
     let all : holds.life.locks ≡ lock ∷ [] = ap (λ (x : Life). x.locks) (sym same) ∙ locks in
-    let one : lock ≡ holds.lock = only-lock lock holds.lock (subst (λ (xs : List Lock). Contains xs holds.lock) all holds.among) in
+    let one : lock ≡ holds.lock = contains-single lock holds.lock (subst (λ (xs : List Lock). Contains xs holds.lock) all holds.among) in
     other (ap (λ (x : Lock). x.thread) one ∙ holds.thread)
 
 lawful5 : IsLawful fast_threads forking q5 f5

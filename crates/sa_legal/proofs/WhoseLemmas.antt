@@ -16,6 +16,7 @@ use Rattle.sa_base.specs.declared.record.Note.TheVariants as note
 use Rattle.sa_base.specs.declared.record.Record.{Record}
 use Rattle.sa_base.specs.declared.record.Record.TheVariants.{Ins, Run, Stop, Block, Unblock, Cont, Back, Ready, Take, Free, Up, Told, GiveBack}
 use Rattle.sa_spaces.specs.Workload.{WorkloadView}
+use Rattle.sa_lemmas.proofs.Membership.{contains-single}
 use Rattle.sa_laws.specs.Event.{Event}
 use Rattle.sa_laws.specs.Machine.{next_effect}
 use Rattle.sa_laws.specs.Life.{Life, Lock, with_hand, without_lock, with_first, with_cont, change_first, ran, readied, held_with, inherits, inherited, bereft, new_life}
@@ -25,7 +26,7 @@ use Rattle.sa_laws.specs.History.{Test, is_step, is_up, with_step, ended, steppe
 use Rattle.sa_laws.specs.Locks.{CanTake}
 use Rattle.sa_legal.proofs.StandingLemmas.{Standing, Stopped, Returned, space_in, Stood, Agrees, space_of}
 use Rattle.sa_legal.proofs.ShapeLemmas.{MovesLives}
-use Rattle.sa_legal.proofs.HolderLemmas.{UppedRuns, LocksOnly, on-life, drop-has, map-cases, no-lock, apart-told, told-space, has-life, some-life, only-lock}
+use Rattle.sa_legal.proofs.HolderLemmas.{UppedRuns, LocksOnly, on-life, drop-has, map-cases, no-lock, apart-told, told-space, has-life, some-life}
 
 -- the life that has a list of a space among its locks is the one that is named for it
 abbrev pub IsNamed : (ℕ → ℕ → ℕ) → ℕ → Life → Type 0
@@ -68,7 +69,7 @@ first-fewer : (f : Lock → Lock) (ls : List Lock) (lock : Lock) → ((l : Lock)
     → (k : Lock) × Contains ls k × (k.list ≡ lock.list)
 first-fewer f [] lock same has = absurd (no-lock lock has)
 first-fewer f (l ∷ ls) lock same has = elim (Contains-append_cases (f l ∷ []) ls lock has) [
-  | inl first ↦ (l, (0, omega arith, refl), sym (same l) ∙ ap (λ (k : Lock). k.list) (only-lock (f l) lock first))
+  | inl first ↦ (l, (0, omega arith, refl), sym (same l) ∙ ap (λ (k : Lock). k.list) (contains-single (f l) lock first))
   | inr later ↦ (lock, Contains-append_right (l ∷ []) ls lock later, refl)
 ]
 

@@ -1,9 +1,10 @@
 -- After each event of a legal run a closing would add no want and no aim.
-use Rattle.std.proofs.Common.{◌≡◌, ℕ, zero, suc, ◌+◌, refl, sym, ◌∙◌, ap, subst, arith, Some, List, [], ◌∷◌, ◌++◌, take, map, false}
-use Rattle.std.specs.Prelude.{slice_get, filter, Bool, if◌then◌else◌}
+use Rattle.std.proofs.Common.{◌≡◌, ℕ, zero, suc, ◌+◌, refl, sym, ◌∙◌, ap, subst, arith, Some, List, [], ◌∷◌, ◌++◌, take, map}
+use Rattle.std.specs.Prelude.{slice_get}
 use Rattle.std.proofs.lemmas.Option.{none-some, same_Some}
 use Rattle.sa_base.specs.declared.record.Item.{Item}
 use Rattle.sa_spaces.specs.Workload.{WorkloadView}
+use Rattle.sa_lemmas.proofs.Searches.{none-left}
 use Rattle.sa_share.specs.Rounds.{shares_of}
 use Rattle.sa_assign.proofs.AimLemmas.{none-missing}
 use Rattle.sa_assign.specs.Aims.{changes}
@@ -14,10 +15,6 @@ use Rattle.sa_laws.specs.Closing.{spaces_of, want_one, must_want, claims_of, sha
 use Rattle.sa_laws.specs.Rules.{IsLawful, fast_threads}
 use Rattle.sa_laws.specs.Legal.{IsLegal, before}
 use Rattle.sa_legal_readings.specs.Closings.{NothingIsDue, ClosingsAddNothing}
-
-none-left : {A : Type 0} (test : A → Bool) (xs : List A) → ((x : A) → test x ≡ false) → filter test xs ≡ []
-none-left test [] none = refl
-none-left test (x ∷ xs) none = ap (λ b. if b then x ∷ filter test xs else filter test xs) (none x) ∙ none-left test xs none
 
 pub nothing-due : (w : WorkloadView) (r : Readings) (e : Event) → IsLawful fast_threads w r e → NothingIsDue w e.number (after_event is_inside w r e)
 nothing-due w r e law =

@@ -1,6 +1,6 @@
 -- After each event of a legal run the demand of a space covers its load, where no life of it is in and nothing is untold to it.
-use Rattle.std.proofs.Common.{◌≡◌, ◌≢◌, ℕ, ◌+◌, ◌<◌, ◌≤◌, ◌⊎◌, inl, inr, refl, sym, ◌∙◌, ap, subst, arith, Some, None, List, [], ◌∷◌, ◌++◌, length, map, take, drop, true, false}
-use Rattle.std.specs.Prelude.{Option, Bool, ◌==◌, not, nat_lt, min, cond, if◌then◌else◌, is_some, get_or, slice_set, take_while, filter, Contains}
+use Rattle.std.proofs.Common.{◌≡◌, ◌≢◌, ℕ, ◌+◌, ◌<◌, ◌≤◌, ◌⊎◌, inl, inr, refl, sym, ◌∙◌, ap, subst, arith, Some, None, List, [], ◌∷◌, ◌++◌, length, map, drop, true, false}
+use Rattle.std.specs.Prelude.{Option, Bool, ◌==◌, not, nat_lt, min, if◌then◌else◌, is_some, get_or, slice_set, take_while, filter, Contains}
 use Rattle.std.specs.List.{list_any, prefix_len}
 use Rattle.std.proofs.lemmas.Bool.{cases_eq, and_parts, not-false, eqb-true}
 use Rattle.std.proofs.lemmas.List.{get_or-set_same}
@@ -11,6 +11,7 @@ use Rattle.sa_base.specs.declared.number.ActNo.{ActNo}
 use Rattle.sa_base.specs.declared.record.Record.{Record}
 use Rattle.sa_base.specs.declared.record.Record.TheVariants.{Ins, Run, Block, Cont, Ready, Up, Want, Aim, Line, GiveBack, Idle}
 use Rattle.sa_spaces.specs.Workload.{WorkloadView}
+use Rattle.sa_lemmas.proofs.Searches.{while-none}
 use Rattle.sa_laws.specs.Event.{Event}
 use Rattle.sa_laws.specs.State.{space_at, active_threads}
 use Rattle.sa_laws.specs.Life.{Life}
@@ -74,9 +75,6 @@ raising-low r (Aim q (Some t) ∷ xs) is = raising-low r xs is
 raising-low r (Line q ∷ xs) is = raising-low r xs is
 raising-low r (Aim q None ∷ xs) is = absurd is
 raising-low r (x ∷ xs) is = absurd is
-
-while-none : (f : Record → Bool) (x : Record) (xs : List Record) → f x ≡ false → take_while f (x ∷ xs) ≡ []
-while-none f x xs is = ap (λ b. take (cond b (1 + prefix_len f xs) 0) (x ∷ xs)) is
 
 -- the wants of a closing that begins with one are those of the event, and its own part is what comes before them
 pub record WantsBehind (others : List Record) : Type 0 where

@@ -14,6 +14,7 @@ use Rattle.sa_assign.specs.Aims.{is_aim, least_below}
 use Rattle.sa_assign.specs.Reaim.{proc_no}
 use Rattle.sa_assign.proofs.ChoiceLemmas.{least_below-passes, least_below-none}
 use Rattle.sa_base.specs.declared.record.Item.{Item}
+use Rattle.sa_lemmas.proofs.Options.{none-is}
 use Rattle.sa_laws.specs.Event.{Event, events_of}
 use Rattle.sa_laws.specs.Readings.{Readings, owner_of, aim_of, line_of, untold_of, is_fetching, opening_readings}
 use Rattle.sa_laws.specs.Record.{after_record}
@@ -241,10 +242,6 @@ all-three true true true x y z = refl
 all-three true true false x y z = absurd (cc)
 all-three true false c x y z = absurd (cc)
 all-three false b c x y z = absurd (cc)
-
-none-is : {A : Type 0} (o : Option A) → is_none o ≡ true → o ≡ None
-none-is None is = refl
-none-is (Some x) is = absurd (cc)
 
 -- lists that are made of others
 made-has : {A B : Type 0} (h : A → Option B) (xs : List A) (x : A) (y : B) → Contains xs x → h x ≡ Some y → Contains (filter_map h xs) y

@@ -11,6 +11,7 @@ use Rattle.sa_base.specs.declared.record.Record.{Record}
 use Rattle.sa_base.specs.declared.record.Record.TheVariants.{Want, Move, Aim, Line}
 use Rattle.sa_base.specs.declared.record.Item.{Item}
 use Rattle.sa_spaces.specs.Workload.{WorkloadView}
+use Rattle.sa_lemmas.proofs.ListReads.{all-same}
 use Rattle.sa_assign.specs.Aims.{Change}
 use Rattle.sa_assign.specs.Reaim.{records_of, line_at, lines_with, line_records, proc_no}
 use Rattle.sa_laws.specs.Event.{Event, events_of}
@@ -33,7 +34,6 @@ use Rattle.sa_legal_readings.specs.Closings.{LowLinesAreAimed}
 use Rattle.sa_legal_readings.proofs.TurnLemmas.{is_calm, AllCalm, Turned, turn-turned}
 use Rattle.sa_legal_readings.proofs.LowLemmas.{LowAimed, Fine, AllLeave, fine-step, each-behind}
 use Rattle.sa_legal.proofs.ShapeLemmas.{parts-take}
-use Rattle.sa_legal_readings.proofs.TraceLemmas.{absent}
 
 -- the owners, aims and lines
 pub record IsKept (r after : Readings) : Type 0 where
@@ -265,7 +265,7 @@ low-first w e law =
           (subst (AllLeave e.proc q) (sym records)
           (leave-append e.proc q (first_wants w) (records_of 0 wanting.lines (aims_due w 0 wanting)) (wants-leave e.proc q (spaces_of w))
           (aims-leave e.proc q 0 wanting.lines (aims_due w 0 wanting))))
-          (inl (λ is. absent w.processors q.0 None ∙ sym (absent w.processors q.0 None)));
+          (inl (λ is. all-same w.processors q.0 None ∙ sym (all-same w.processors q.0 None)));
     }
 
 pub low-along : (w : WorkloadView) (r : Readings) (events : List Event) → LowAt w r → AreLawful fast_threads w r events → (n : ℕ)

@@ -1,6 +1,6 @@
 -- From event to event: at the end of each event of a legal run what is read is what the words say.
-use Rattle.std.proofs.Common.{◌≡◌, ◌≢◌, ℕ, zero, suc, ◌<◌, ◌≤◌, refl, sym, ◌∙◌, ap, subst, arith, Some, None, List, [], ◌∷◌, ◌++◌, length, false, append_assoc, append-nil}
-use Rattle.std.specs.Prelude.{Option, ◌==◌, if◌then◌else◌, get_or, slice_get, replicate, All}
+use Rattle.std.proofs.Common.{◌≡◌, ◌≢◌, ℕ, suc, ◌<◌, ◌≤◌, refl, sym, ◌∙◌, ap, subst, arith, Some, None, List, [], ◌∷◌, ◌++◌, length, false, append_assoc, append-nil}
+use Rattle.std.specs.Prelude.{Option, ◌==◌, if◌then◌else◌, slice_get, All}
 use Rattle.std.specs.List.{list_any}
 use Rattle.std.specs.Option.{option_or}
 use Rattle.std.proofs.lemmas.List.{length-replicate, length-map, get_or-map, get_or-replicate}
@@ -13,6 +13,7 @@ use Rattle.sa_base.specs.declared.record.Item.{Item}
 use Rattle.sa_base.specs.Items.{items_at}
 use Rattle.sa_spaces.specs.Workload.{WorkloadView, IsWorkload, IsEviction}
 use Rattle.sa_spaces.specs.Space.{IsSpace}
+use Rattle.sa_lemmas.proofs.ListReads.{all-same}
 use Rattle.sa_devices.specs.Pages.{opening_pages}
 use Rattle.sa_devices.proofs.SoundLemmas.{length-evicted}
 use Rattle.sa_laws.specs.Event.{Event, items_of, events_of}
@@ -213,10 +214,6 @@ read-next w past r e at law =
     (ends-event e past law.numbering.some) (read-event w past r e at law)
 
 -- before any event
-pub absent : {A : Type 0} (n k : ℕ) (d : A) → get_or (replicate n d) k d ≡ d
-absent zero k d = refl
-absent (suc n) zero d = refl
-absent (suc n) (suc k) d = absent n k d
 
 small-pages : (w : WorkloadView) (s : SpaceNo) → IsWorkload w → s.0 < length w.spaces
     → All (λ page. page < 16) (Rattle.sa_laws.specs.State.space_def w s).absent
@@ -242,18 +239,18 @@ read-start w = record {
       pages = length-map w.spaces opening_pages;
     };
     state = refl;
-    running = λ p. absent w.processors p.0 None;
+    running = λ p. all-same w.processors p.0 None;
     upped = refl;
     homes = λ b life is. absurd (none-some life is);
-    demands = λ s below. absent (length w.spaces) s.0 0;
-    marks = λ p below. absent w.processors p.0 false;
-    untold = λ s below. absent (length w.spaces) s.0 [];
+    demands = λ s below. all-same (length w.spaces) s.0 0;
+    marks = λ p below. all-same w.processors p.0 false;
+    untold = λ s below. all-same (length w.spaces) s.0 [];
     stops = λ s u a below has is. absurd (let h = has in omega (arith, h.1));
     locks = λ b life is. absurd (none-some life is);
     hands = λ b life is. absurd (none-some life is);
     conts = λ b life is. absurd (none-some life is);
     stopped = λ b life is. absurd (none-some life is);
-    taken = λ s below. absent (length w.spaces) s.0 [];
+    taken = λ s below. all-same (length w.spaces) s.0 [];
     ready = λ s below. get_or-replicate (length w.spaces) s.0 (first_listed ∷ []) [] below;
     all_taken = λ a home is taken. absurd (none-some home is);
     begun = refl;

@@ -1,7 +1,7 @@
 -- How a run ends: what the machine says is so in the history.
 use Rattle.sa_kernel_model.proofs.WantLemmas.{heard}
 use Rattle.sa_kernel_model.proofs.FactLemmas.{not-found, quiet-says}
-use Rattle.sa_match.proofs.Lists.{all-pass, read-at}
+use Rattle.sa_match.proofs.Lists.{all-pass}
 use Rattle.sa_match.proofs.Shown.{runs-reads, owner-reads}
 use Rattle.sa_match.proofs.Composed.{holds-at, IsComposed, read, moment}
 use Rattle.std.proofs.lemmas.Option.{get_or_from_slice_get, slice_get_within, same_Some, none-some}
@@ -21,6 +21,7 @@ use Rattle.sa_base.specs.declared.record.Note.{Note}
 use Rattle.sa_base.specs.declared.record.Note.TheVariants.{Add, Preempted, Blocked, Unblocked}
 use Rattle.sa_spaces.specs.Space.{SpaceView}
 use Rattle.sa_spaces.specs.Workload.{WorkloadView}
+use Rattle.sa_lemmas.proofs.ListReads.{read-at}
 use Rattle.sa_acts.specs.declared.acts.Act.{Act}
 use Rattle.sa_acts.specs.Table.{held_of}
 use Rattle.sa_assign.specs.Aims.{least_below, space_no}

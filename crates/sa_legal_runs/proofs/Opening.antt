@@ -20,6 +20,7 @@ use Rattle.sa_base.specs.declared.number.ActNo.{ActNo}
 use Rattle.sa_base.specs.declared.record.Record.{Record}
 use Rattle.sa_base.specs.Items.{items_at}
 use Rattle.sa_spaces.specs.Workload.{WorkloadView, IsWorkload}
+use Rattle.sa_lemmas.proofs.ListReads.{all-same}
 use Rattle.sa_abstract.specs.Calls.{Contexts}
 use Rattle.sa_acts.specs.declared.acts.Act.{Act}
 use Rattle.sa_assign.specs.Aims.{Change, space_no}
@@ -39,7 +40,6 @@ use Rattle.sa_laws.proofs.Records.{number-kept}
 use Rattle.sa_kernel_model.specs.State.{Scene}
 use Rattle.sa_kernel_model.specs.Opening.{opening_state}
 use Rattle.sa_kernel_model.proofs.HistoryLemmas.{history-opens}
-use Rattle.sa_kernel_model.proofs.FormedLemmas.{all-same}
 use Rattle.sa_core_model.specs.Machine.{Machine}
 use Rattle.sa_core_model.specs.Run.{setting, opening}
 use Rattle.sa_core_model.specs.Standing.{context_in, contexts_of, running}

@@ -34,7 +34,7 @@ put_comm f i j a b apart = fun_ext (λ k. elim (cases_eq k j) [
   ]
 ])
 
--- an update by what stands there changes nothing
+-- an update by what is there changes nothing
 pub put-self : {A : Type 0} (f : ℕ → A) (i : ℕ) → put f i (f i) ≡ f
 put-self f i = fun_ext (λ j. elim (cases_eq j i) [
   | inl same ↦ put-at f i j (f i) same ∙ ap f (sym same)

@@ -1,2 +1,9 @@
+pub mod Booleans
 pub mod FunctionUpdates
+pub mod ListReads
 pub mod ListUpdates
+pub mod Membership
+pub mod Options
+pub mod Results
+pub mod Searches
+pub mod Texts

@@ -1,6 +1,6 @@
--- A list that was updated at one place, or got one item more. The same for `get_or`, two updates, the length
--- and `map` stand in `Rattle.std.proofs.lemmas.List`; sums and counts in its `Sums`; folds over `++` in `Sums`
--- and `Folds`.
+-- A list that was updated at one place, or got one item more. Lemmas on `get_or`, two updates, the length and
+-- `map` after an update are in `Rattle.std.proofs.lemmas.List`; those on sums and counts are in its `Sums`, and
+-- those on folds over `++` in its `Sums` and `Folds`.
 use Rattle.std.proofs.Common.{◌≡◌, ◌≢◌, ℕ, zero, suc, ◌<◌, ◌≤◌, Some, None, List, [], ◌∷◌, ◌++◌, length, slice_get, slice_set, ◌⊎◌, inl, inr, refl, ap, arith}
 use Rattle.std.proofs.lemmas.List.{length-set}
 use Rattle.std.proofs.lemmas.Option.{slice_get_past}
@@ -19,11 +19,11 @@ slice_get-set_other (y ∷ xs) zero (suc j) x apart = refl
 slice_get-set_other (y ∷ xs) (suc i) zero x apart = refl
 slice_get-set_other (y ∷ xs) (suc i) (suc j) x apart = slice_get-set_other xs i j x (λ e. apart (ap suc e))
 
--- behind the list nothing comes to stand
+-- past the end there is nothing after an update either
 pub slice_get-set_past : {A : Type 0} (xs : List A) (i j : ℕ) (x : A) → length xs ≤ j → slice_get (slice_set xs i x) j ≡ None
 slice_get-set_past xs i j x past = slice_get_past (slice_set xs i x) j (omega (arith, length-set xs i x))
 
--- what stands somewhere after an update is the new item or an old one
+-- an item after an update is the new one or an old one
 pub slice_get-set_cases : {A : Type 0} (xs : List A) (i j : ℕ) (x y : A) → slice_get (slice_set xs i x) j ≡ Some y
     → ((j ≡ i) × (y ≡ x)) ⊎ ((j ≢ i) × (slice_get xs j ≡ Some y))
 slice_get-set_cases [] i j x y is = inr (cc, is)
@@ -41,18 +41,18 @@ set-slice_get [] i x is = refl
 set-slice_get (y ∷ xs) zero x is = cc
 set-slice_get (y ∷ xs) (suc i) x is = ap (λ rest. y ∷ rest) (set-slice_get xs i x is)
 
--- the items of a list stand at their places also before others
+-- the items of a list keep their places where others come after them
 pub slice_get-append_left : {A : Type 0} (xs ys : List A) (i : ℕ) → i < length xs → slice_get (xs ++ ys) i ≡ slice_get xs i
 slice_get-append_left [] ys i within = absurd (omega arith)
 slice_get-append_left (x ∷ xs) ys zero within = refl
 slice_get-append_left (x ∷ xs) ys (suc i) within = slice_get-append_left xs ys i (omega arith)
 
--- and the one behind them at their length
+-- the first of those others is at the length of the list
 pub slice_get-append_seam : {A : Type 0} (xs ys : List A) (x : A) → slice_get (xs ++ x ∷ ys) (length xs) ≡ Some x
 slice_get-append_seam [] ys x = refl
 slice_get-append_seam (y ∷ xs) ys x = slice_get-append_seam xs ys x
 
--- what stands somewhere after a push is the new item, at the end, or an old one
+-- an item after a push is the new one, at the end, or an old one
 pub slice_get-push_cases : {A : Type 0} (xs : List A) (i : ℕ) (x y : A) → slice_get (xs ++ x ∷ []) i ≡ Some y
     → ((i ≡ length xs) × (y ≡ x)) ⊎ (slice_get xs i ≡ Some y)
 slice_get-push_cases [] zero x y is = inl (refl, cc)

@@ -1,6 +1,7 @@
 -- A credit goes through its number, and leaves the keeper as it was but for the account.
-use Rattle.std.proofs.Common.{◌≡◌, ℕ, zero, suc, ◌-◌, ◌*◌, ◌<◌, ◌≤◌, nat_lt, Bool, true, false, List, [], ◌∷◌, length, slice_set, refl, sym, ◌∙◌, ap, subst, arith, Option, None, if◌then◌else◌}
+use Rattle.std.proofs.Common.{◌≡◌, ℕ, ◌-◌, ◌*◌, ◌<◌, ◌≤◌, nat_lt, Bool, true, false, List, length, slice_set, refl, sym, ◌∙◌, ap, subst, arith, Option, None, if◌then◌else◌}
 use Rattle.std.proofs.lemmas.Bool.Decides.{nat_tests}
+use Rattle.std.proofs.lemmas.List.{set-set}
 use Rattle.sa_base.specs.declared.limits.TheConstants.{MAX_EVENTS}
 use Rattle.sa_base.specs.declared.record.End.TheVariants.{AllDone, Stuck, Budget}
 use Rattle.atomic_table.specs.Seated.{TableId}
@@ -48,11 +49,6 @@ may_grant v p c keeping inside quiet may =
       room = subst (λ (z : Credit). (credited z a).count ≤ MAX_EVENTS) (sym (credit_back c a may)) (room_for c a may (quiet p).counted);
     }
 
-set_twice : {A : Type 0} (l : List A) (i : ℕ) (a b : A) → slice_set (slice_set l i a) i b ≡ slice_set l i b
-set_twice [] i a b = refl
-set_twice (x ∷ xs) zero a b = refl
-set_twice (x ∷ xs) (suc i) a b = ap (λ l. x ∷ l) (set_twice xs i a b)
-
 -- what was handed over and taken is credited
 handed_over : (l : Lane) (c : Credit) → credit_of (number_of c) ≡ c → l.handed ≡ None → cleared (granted (number_of c) l) ≡ credited_lane c l
 handed_over l c back none_handed =
@@ -64,7 +60,7 @@ pub credit_lanes : (lanes : List Lane) (p : ℕ) (c : Credit) → p < length lan
     → changed p cleared (changed p (granted (number_of c)) lanes) ≡ changed p (credited_lane c) lanes
 credit_lanes lanes p c lt none_handed back =
     ap (λ (l : Lane). slice_set (changed p (granted (number_of c)) lanes) p (cleared l)) (lane_here p (granted (number_of c)) lanes lt)
-    ∙ set_twice lanes p (granted (number_of c) (lane_at lanes p)) (cleared (granted (number_of c) (lane_at lanes p)))
+    ∙ set-set lanes p (granted (number_of c) (lane_at lanes p)) (cleared (granted (number_of c) (lane_at lanes p)))
     ∙ ap (λ (l : Lane). slice_set lanes p l) (handed_over (lane_at lanes p) c back none_handed)
 
 -- the keeper's view after a credit

@@ -1,6 +1,5 @@
 -- What is kept from move to move, and that a run is a legal history.
 use Rattle.sa_kernel_model.proofs.HistoryLemmas.{after_events-push}
-use Rattle.sa_match.proofs.Lists.{read-at}
 use Rattle.std.proofs.Common.{get_or, true, None, Option, is_some, false, ◌≡◌, ℕ, ◌+◌, arith, sym, ◌∙◌, ap, subst, refl, Some, List, [], ◌∷◌, ◌++◌, length, slice_get}
 use Rattle.std.proofs.lemmas.Option.{same_Some, none-some}
 use Rattle.sa_base.specs.declared.record.Record.{Record}
@@ -37,6 +36,7 @@ use Rattle.sa_kernel_model.specs.Overview.{Overview}
 use Rattle.sa_spaces.specs.Space.{SpaceView}
 use Rattle.sa_base.specs.declared.number.ProcNo.{ProcNo}
 use Rattle.sa_base.specs.declared.number.ActNo.{ActNo}
+use Rattle.sa_lemmas.proofs.ListReads.{read-at}
 use Rattle.sa_match.proofs.Overviews.{moment-of}
 
 -- An event is strict where no I/O is due, where the line was raised, and where it completes the I/O that is due.

@@ -1,13 +1,8 @@
 -- Reading a list at a place within it, and what a list contains.
-use Rattle.std.proofs.Common.{◌≡◌, Bool, true, subst, ℕ, zero, suc, ◌<◌, Some, List, [], ◌∷◌, length, slice_get, refl, arith}
+use Rattle.std.proofs.Common.{◌≡◌, Bool, true, subst, ℕ, zero, suc, Some, List, [], ◌∷◌, slice_get}
 use Rattle.std.specs.List.{list_all}
 use Rattle.std.proofs.lemmas.Option.{same_Some, none-some}
 use Rattle.std.proofs.lemmas.Bool.{and_parts}
-
-pub read-at : {A : Type 0} (xs : List A) (i : ℕ) → i < length xs → (x : A) × (slice_get xs i ≡ Some x)
-read-at [] i below = absurd (omega (arith, below))
-read-at (x ∷ xs) zero below = (x, refl)
-read-at (x ∷ xs) (suc i) below = read-at xs i (omega (arith, below))
 
 pub all-pass : {A : Type 0} (g : A → Bool) (xs : List A) (i : ℕ) (x : A) → list_all g xs ≡ true → slice_get xs i ≡ Some x → g x ≡ true
 all-pass g [] i x all at = absurd (none-some x at)

@@ -2,6 +2,7 @@
 use Rattle.std.proofs.Common.{◌≡◌, ◌≤◌, ◌<◌, ℕ, List, [], ◌∷◌, map, length, get_or, drop, Some, None, refl, sym, ap, ◌∙◌, arith, length-drop, take, take_all, ◌-◌}
 use Rattle.std.proofs.lemmas.List.{length-map}
 use Rattle.std.specs.Prelude.{option_and_then}
+use Rattle.sa_lemmas.proofs.ListReads.{two_first}
 use Rattle.sa_picture.specs.declared.request.Settings.{Settings}
 use Rattle.sa_picture.specs.Request.{settings_of, with_option}
 
@@ -13,11 +14,6 @@ lone_word s (word ∷ other ∷ words) some few = absurd (omega arith)
 
 pub no_pair : {X : Type 0} (f : X → List ℕ) (s : Settings) (xs : List X) → 1 ≤ length xs → length xs < 2 → None ≡ settings_of s (map f xs)
 no_pair f s xs some few = sym (lone_word s (map f xs) (omega (arith, length-map xs f)) (omega (arith, length-map xs f)))
-
-two_first : {X : Type 0} (xs : List X) (a b : X) → 2 ≤ length xs → a ≡ get_or xs 0 a → b ≡ get_or xs 1 b → xs ≡ a ∷ b ∷ drop 2 xs
-two_first [] a b two first second = absurd (omega arith)
-two_first (x ∷ []) a b two first second = absurd (omega arith)
-two_first (x ∷ y ∷ xs) a b two first second = ap (λ z. z ∷ y ∷ xs) (sym first) ∙ ap (λ z. a ∷ z ∷ xs) (sym second)
 
 -- a pair is set before the others
 pub pair_first : {X : Type 0} (f : X → List ℕ) (s t : Settings) (xs : List X) (a b : X) → 2 ≤ length xs → a ≡ get_or xs 0 a → b ≡ get_or xs 1 b

@@ -10,6 +10,7 @@ use Rattle.sa_base.specs.declared.number.ThreadNo.{ThreadNo}
 use Rattle.sa_base.specs.declared.record.Record.{Record}
 use Rattle.sa_lemmas.specs.Function.{put}
 use Rattle.sa_spaces.specs.Workload.{WorkloadView}
+use Rattle.sa_lemmas.proofs.ListReads.{some-below}
 use Rattle.sa_abstract.specs.Calls.{Contexts}
 use Rattle.sa_abstract.specs.Setting.{Setting}
 use Rattle.sa_abstract.specs.declared.answer.Step.{Step}
@@ -29,7 +30,6 @@ use Rattle.sa_user_laws.specs.Steps.{IsLegalAsk}
 use Rattle.sa_fits.specs.Fits.{Holds}
 use Rattle.sa_fits.specs.Life.{IsMarked}
 use Rattle.sa_fits.specs.View.{view}
-use Rattle.sa_fits_laws.proofs.Ceases.{some-below}
 use Rattle.sa_fits_steps.proofs.Asks.{IsAsking}
 use Rattle.sa_ranks.specs.Inside.{has_entry}
 use Rattle.sa_ranks.specs.Rules.{prio_threads}

@@ -18,6 +18,8 @@ use Rattle.sa_lemmas.proofs.FunctionUpdates.{put-self, put-same, put-other}
 use Rattle.sa_lemmas.specs.Function.{put}
 use Rattle.sa_instr.specs.declared.instr.Instr.TheVariants.{Io, Touch}
 use Rattle.sa_spaces.specs.Workload.{WorkloadView}
+use Rattle.sa_lemmas.proofs.ListReads.{some-below}
+use Rattle.sa_sync.specs.Sync.{opening as sync_opening}
 use Rattle.sa_code.specs.Micro.{micro, stays, is_resident as is_page_resident}
 use Rattle.sa_code.specs.declared.state.Frame.{Frame}
 use Rattle.sa_code.specs.declared.state.MicroDone.TheVariants as micros
@@ -47,7 +49,6 @@ use Rattle.sa_user_laws.specs.Steps.{IsLegalStep, event_with}
 use Rattle.sa_fits.proofs.ThreadsBeside.{life-here}
 use Rattle.sa_fits.specs.Stage.{was_idle, place_of}
 use Rattle.sa_fits.specs.Life.{IsAtRest}
-use Rattle.sa_fits_laws.proofs.Ceases.{some-below}
 use Rattle.sa_fits_laws.proofs.LifeEnds.{end-fits}
 use Rattle.sa_fits_laws.specs.Rests.{LivesFit, RestBut}
 use Rattle.sa_fits_steps.proofs.Scenes.{IsScene}

@@ -15,6 +15,7 @@ use Rattle.sa_instr.specs.declared.limits.TheConstants.{MAX_PATIENCE}
 use Rattle.sa_lemmas.proofs.FunctionUpdates.{put-same, put-other}
 use Rattle.sa_lemmas.specs.Function.{put}
 use Rattle.sa_spaces.specs.Workload.{WorkloadView}
+use Rattle.sa_lemmas.proofs.ListReads.{some-below}
 use Rattle.sa_abstract.specs.Calls.{Contexts}
 use Rattle.sa_abstract.specs.Keeps.{IsOwn}
 use Rattle.sa_abstract.specs.Setting.{Setting}
@@ -44,7 +45,6 @@ use Rattle.sa_fits.specs.Life.{IsMarked}
 use Rattle.sa_fits.specs.Stage.{Runs, stage_of, stage_on, is_running}
 use Rattle.sa_fits.specs.View.{view, looks_of, is_lone}
 use Rattle.sa_fits_laws.proofs.Answers.{life-carries}
-use Rattle.sa_fits_laws.proofs.Ceases.{some-below}
 use Rattle.sa_fits_laws.proofs.LifeEnds.{ended-fits}
 use Rattle.sa_fits_laws.proofs.Rests.{others-rest}
 use Rattle.sa_fits_laws.proofs.SameSpace.{alike-holds, alike-stage}

@@ -1,5 +1,5 @@
 -- The eight registers one after another are all of them.
-use Rattle.std.proofs.Common.{◌≡◌, ℕ, List, [], ◌∷◌, length, Result, Ok, Err, OnOk, refl, arith}
+use Rattle.std.proofs.Common.{◌≡◌, ℕ, List, [], ◌∷◌, length, refl, arith}
 use Rattle.std.specs.List.{flat_map}
 use Rattle.sa_script.specs.declared.printing.TheConstants.{REGS}
 use Rattle.sa_script.specs.Reply.{number_text, register_text}
@@ -15,8 +15,3 @@ all-registers (a ∷ b ∷ c ∷ []) is = absurd (omega arith)
 all-registers (a ∷ b ∷ []) is = absurd (omega arith)
 all-registers (a ∷ []) is = absurd (omega arith)
 all-registers [] is = absurd (omega arith)
-
--- what follows on success
-pub on_ok : {A E P Q : Type 0} (r : Result A E) → (P → Q) → OnOk r P → OnOk r Q
-on_ok (Ok a) f h = f h
-on_ok (Err e) f h = tt

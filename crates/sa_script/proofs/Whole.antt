@@ -13,6 +13,8 @@ use Rattle.sa_base.specs.Cause.{bad_at}
 use Rattle.sa_spaces.specs.Workload.{WorkloadView, IsWorkload}
 use Rattle.sa_text.specs.LineText.{LineText, ended_line, whole_line, line_texts}
 use Rattle.sa_text.proofs.LineLemmas.{line_texts-ended, line_texts-joined}
+use Rattle.sa_lemmas.proofs.Booleans.{if_either}
+use Rattle.sa_lemmas.proofs.Texts.{regroup}
 use Rattle.sa_trace.specs.Line.{pieces_in}
 use Rattle.sa_trace.specs.Pieces.{and_then, unless}
 use Rattle.sa_trace.specs.Reading.{bad_after}
@@ -199,8 +201,6 @@ lines-text cs =
     ∙ ap (λ bs. flat_map (λ c. line_of (words_of c)) cs ++ bs) (append-nil (line_of last_words))
 
 -- and the lines of the text are those lines
-regroup : (bs cs ds : List ℕ) → ((bs ++ 10 ∷ []) ++ cs) ++ ds ≡ bs ++ 10 ∷ (cs ++ ds)
-regroup bs cs ds = simp append_assoc
 
 commands-lines : (w : WorkloadView) → IsSmall w → (cs : List DebugCommand) (rest : List ℕ) → All (Fits w) cs
     → line_texts (flat_map (λ c. line_of (words_of c)) cs ++ rest) ≡ map command_line cs ++ line_texts rest

@@ -1,7 +1,7 @@
 -- A burst goes on by one instruction, and ends.
 use Rattle.std.proofs.Common.{◌≡◌, ◌≢◌, ℕ, zero, suc, ◌+◌, ◌<◌, ◌++◌, Bool, true, false, Some, None, List, [], ◌∷◌, length, replicate, refl, sym, ap, subst, ◌∙◌, arith, add-one}
 use Rattle.std.proofs.lemmas.Option.{same_Some}
-use Rattle.std.proofs.lemmas.List.{append_assoc}
+use Rattle.std.proofs.lemmas.List.{append_assoc, append-nil}
 use Rattle.atomic_table.specs.Seated.{TableId}
 use Rattle.sa_base.specs.declared.limits.TheConstants.{MAX_BURST}
 use Rattle.sa_spaces.specs.Workload.{WorkloadView}
@@ -109,17 +109,13 @@ can-none : (w : WorkloadView) (x : SeatState) → CanMove w 0 x
 can-none w (Local space thread program pc regs) = tt
 can-none w Away = refl
 
-append-none : {A : Type 0} (xs : List A) → xs ++ [] ≡ xs
-append-none [] = refl
-append-none {A} (x ∷ xs) = ap (λ (l : List A). x ∷ l) (append-none xs)
-
 pub burst-begins : (w : WorkloadView) (old : SeatView) → old.pending ≡ 0 → Bursting w old old 0
 burst-begins w old none = record {
   pending = none;
   start = refl;
   copy = sym (moved-none w old.copy);
   local = can-none w old.copy;
-  poller = ap (λ (l : List ℕ). record old.poller { read = l }) (sym (append-none old.poller.read));
+  poller = ap (λ (l : List ℕ). record old.poller { read = l }) (sym (append-nil old.poller.read));
 }
 
 zeros-more : (n : ℕ) → zeros n ++ one_zero ≡ zeros (suc n)
@@ -157,9 +153,8 @@ burst-limit w code limit old s b is = record {
   start = b.start;
   copy = b.copy ∙ ap (λ (k : ℕ). moved w k old.copy) (sym b.pending);
   local = subst (λ (k : ℕ). CanMove w k old.copy) (sym b.pending) b.local;
-  poller =
-      b.poller ∙ ap (λ (l : List ℕ). record old.poller { read = l })
-      (ap (λ (k : ℕ). old.poller.read ++ zeros k) (sym b.pending) ∙ sym (append-none (old.poller.read ++ zeros s.pending)));
+  poller = b.poller ∙ ap (λ (l : List ℕ). record old.poller { read = l })
+      (ap (λ (k : ℕ). old.poller.read ++ zeros k) (sym b.pending) ∙ sym (append-nil (old.poller.read ++ zeros s.pending)));
   ends = (not-away w code old.copy is, b.pending);
 }
 
@@ -171,9 +166,8 @@ burst-ends w code limit old s next i Shared b more is step = subst (λ (z : Seat
   start = b.start;
   copy = b.copy ∙ ap (λ (k : ℕ). moved w k old.copy) (sym b.pending);
   local = subst (λ (k : ℕ). CanMove w k old.copy) (sym b.pending) b.local;
-  poller =
-      b.poller ∙ ap (λ (l : List ℕ). record old.poller { read = l })
-      (ap (λ (k : ℕ). old.poller.read ++ zeros k) (sym b.pending) ∙ sym (append-none (old.poller.read ++ zeros s.pending)));
+  poller = b.poller ∙ ap (λ (l : List ℕ). record old.poller { read = l })
+      (ap (λ (k : ℕ). old.poller.read ++ zeros k) (sym b.pending) ∙ sym (append-nil (old.poller.read ++ zeros s.pending)));
   ends = (not-away w code old.copy is, (let e = b.pending in omega (arith, e, more)), step.0);
 }
 burst-ends w code limit old s next i (Line e) b more is step = subst (λ (z : SeatView). IsBurst w limit old (Line e) z) (sym step.1) record {
@@ -195,6 +189,6 @@ burst-away w limit old none away = record {
   copy = sym (ap (λ (k : ℕ). moved w k old.copy) none ∙ moved-none w old.copy);
   local = subst (λ (k : ℕ). CanMove w k old.copy) (sym none) (can-none w old.copy);
   poller = ap (λ (l : List ℕ). record old.poller { read = l })
-      (sym (append-none (old.poller.read ++ zeros old.pending) ∙ ap (λ (k : ℕ). old.poller.read ++ zeros k) none ∙ append-none old.poller.read));
+      (sym (append-nil (old.poller.read ++ zeros old.pending) ∙ ap (λ (k : ℕ). old.poller.read ++ zeros k) none ∙ append-nil old.poller.read));
   ends = away;
 }

@@ -10,6 +10,7 @@ use Rattle.sa_base.specs.Items.{items_at}
 use Rattle.sa_spaces.specs.Space.{SpaceView}
 use Rattle.sa_spaces.specs.Workload.{WorkloadView, IsWorkload}
 use Rattle.sa_instr.specs.declared.instr.Instr.{Instr}
+use Rattle.sa_lemmas.proofs.ListReads.{all-same}
 use Rattle.sa_abstract.specs.Calls.{Calls}
 use Rattle.sa_abstract.specs.Keeps.{Standing, Keeps, IsSeat}
 use Rattle.sa_abstract.specs.Walk.{program_at}
@@ -18,7 +19,6 @@ use Rattle.sa_abstract.specs.declared.answer.SeatState.TheVariants.{Local, Away}
 use Rattle.sa_assign.specs.Reaim.{proc_no, line_at}
 use Rattle.sa_kernel_model.specs.State.{Scene, owner_of, line_of}
 use Rattle.sa_kernel_model.specs.Opening.{opening_state, first_wants}
-use Rattle.sa_kernel_model.proofs.FormedLemmas.{all-same}
 use Rattle.sa_core_model.specs.Machine.{Machine, scene_of}
 use Rattle.sa_core_model.specs.Turn.{turned, committed}
 use Rattle.sa_core_model.specs.End.{end_of, local_on, local_in, committable}

@@ -15,6 +15,7 @@ use Rattle.sa_base.specs.declared.record.Note.TheVariants.{Add, Preempted, Block
 use Rattle.sa_base.specs.declared.record.Record.{Record}
 use Rattle.sa_base.specs.declared.record.Record.TheVariants.{Line, Aim, Move, Up, Told}
 use Rattle.sa_base.specs.Items.{items_at}
+use Rattle.sa_lemmas.proofs.Membership.{contains-head, contains-tail}
 use Rattle.sa_acts.specs.Table.{held_of}
 use Rattle.sa_assign.specs.Aims.{Change, space_no, is_aim, least_below}
 use Rattle.sa_assign.specs.Reaim.{proc_no, line_at, raised, lines_with, lines_after, line_records, records_of, changes_in, reaim_records}
@@ -42,14 +43,9 @@ set-cases (x ∷ xs) (suc i) (suc q) v = elim (set-cases xs i q v) [ inl h ↦ i
 
 -- the records of raised lines among those of changed aims
 
-has-cons : {A : Type 0} (y : A) (xs : List A) (x : A) → Contains xs x → Contains (y ∷ xs) x
-has-cons y xs x h = Contains-append_right (y ∷ []) xs x h
-
-has-first : {A : Type 0} (x : A) (xs : List A) → Contains (x ∷ xs) x
-has-first x xs = (0, omega arith, refl)
-
 raised-by : (e p q k : ℕ) (line : Option ℕ) → q ≡ p → raised e line ≡ Some k → (line ≡ Some k) ⊎ ((k ≡ e) × Contains (line_records p line) (Line (proc_no q)))
-raised-by e p q k None same is = inr (sym (same_Some e k is), subst (λ (i : ℕ). Contains (line_records p None) (Line (proc_no i))) (sym same) (has-first (Line (proc_no p)) []))
+raised-by e p q k None same is =
+    inr (sym (same_Some e k is), subst (λ (i : ℕ). Contains (line_records p None) (Line (proc_no i))) (sym same) (contains-head (Line (proc_no p)) []))
 raised-by e p q k (Some earlier) same is = inl is
 
 pub changes-tell : (e q k : ℕ) (ls : List (Option ℕ)) (cs : List Change) → line_at (lines_after e ls cs) q ≡ Some k
@@ -64,18 +60,21 @@ changes-tell e q k ls (c ∷ cs) is =
       | inl here ↦ elim (set-cases ls c.proc q (raised e (line_at ls c.proc))) [
         | inl at ↦ elim (raised-by e c.proc q k (line_at ls c.proc) at.0 (sym at.1 ∙ here)) [
           | inl was ↦ inl (ap (line_at ls) at.0 ∙ was)
-          | inr new ↦ inr (new.0, has-cons aim (own ++ rest) (Line (proc_no q)) (Contains-append_left own rest (Line (proc_no q)) new.1))
+          | inr new ↦ inr (new.0, contains-tail aim (own ++ rest) (Line (proc_no q)) (Contains-append_left own rest (Line (proc_no q)) new.1))
         ]
         | inr other ↦ inl (sym other ∙ here)
       ]
-      | inr new ↦ inr (new.0, has-cons aim (own ++ rest) (Line (proc_no q)) (Contains-append_right own rest (Line (proc_no q)) new.1))
+      | inr new ↦ inr (new.0, contains-tail aim (own ++ rest) (Line (proc_no q)) (Contains-append_right own rest (Line (proc_no q)) new.1))
     ]
 
 pub has-item : (e : ℕ) (p : ProcNo) (rs : List Record) (r : Record) → Contains rs r → Contains (items_at e p rs) (record { event = e; proc = p; what = r })
 has-item e p [] r h = absurd (omega (arith, h.1))
 has-item e p (x ∷ rs) r (zero, lt, is) =
-    subst (λ (z : Record). Contains (items_at e p (x ∷ rs)) (record { event = e; proc = p; what = z })) is (has-first (record { event = e; proc = p; what = x }) (items_at e p rs))
-has-item e p (x ∷ rs) r (suc k, lt, is) = has-cons (record { event = e; proc = p; what = x }) (items_at e p rs) (record { event = e; proc = p; what = r }) (has-item e p rs r (k, omega (arith, lt), is))
+    subst (λ (z : Record). Contains (items_at e p (x ∷ rs)) (record { event = e; proc = p; what = z })) is
+    (contains-head (record { event = e; proc = p; what = x }) (items_at e p rs))
+has-item e p (x ∷ rs) r (suc k, lt, is) =
+    contains-tail (record { event = e; proc = p; what = x }) (items_at e p rs) (record { event = e; proc = p; what = r })
+    (has-item e p rs r (k, omega (arith, lt), is))
 
 module _ {C : Type 0} where
   -- from one scene to another of the same event: items were added, and each line that is raised was so, or has its record

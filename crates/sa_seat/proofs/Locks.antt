@@ -9,11 +9,11 @@ use Rattle.sa_base.specs.declared.number.ProcNo.{ProcNo}
 use Rattle.sa_base.specs.declared.record.End.{End}
 use Rattle.sa_base.specs.declared.limits.TheConstants.{MAX_EVENTS}
 use Rattle.sa_spaces.specs.Workload.{WorkloadView, IsWorkload}
+use Rattle.sa_lemmas.proofs.ListReads.{all-same}
 use Rattle.sa_abstract.specs.Calls.{Calls}
 use Rattle.sa_abstract.specs.Keeps.{Standing, Keeps}
 use Rattle.sa_assign.specs.Reaim.{proc_no, line_at}
 use Rattle.sa_kernel_model.specs.State.{line_of}
-use Rattle.sa_kernel_model.proofs.FormedLemmas.{all-same}
 use Rattle.sa_core_model.specs.Machine.{Machine}
 use Rattle.sa_core_model.specs.End.{end_of, local_on, committable}
 use Rattle.sa_abstract.specs.declared.answer.SeatState.{SeatState}

@@ -5,6 +5,7 @@ use Rattle.std.proofs.lemmas.Bool.{ltb-true, ltb-false, and_parts, cases_lt}
 use Rattle.std.proofs.lemmas.List.{append-nil}
 use Rattle.std.proofs.lemmas.List.Elements.{Contains-append_right}
 use Rattle.sa_base.specs.declared.record.Item.{Item}
+use Rattle.sa_lemmas.proofs.Membership.{contains-head}
 use Rattle.sa_shapes.specs.declared.shape.Shape.{Shape}
 use Rattle.sa_shapes.specs.declared.shape.Shape.TheVariants as shape
 use Rattle.sa_shapes.specs.declared.shape.Shown.{Shown}
@@ -17,7 +18,6 @@ use Rattle.sa_shapes.specs.Window.{place, is_inside}
 use Rattle.sa_shapes.specs.Change.{change, start}
 use Rattle.sa_shapes.specs.Stretches.{turned, closed, where_changed, stretches_from, stretches}
 use Rattle.sa_shapes.specs.Laws.{Tiles, HasPlace}
-use Rattle.sa_shapes.proofs.Elements.{first}
 
 -- a stretch before the others, or none where it would be empty
 fills-closed : (t : Track) (o : Going) (at last to : ℕ) (rest : List Shape) → o.from ≤ at → Tiles at to rest → Tiles o.from to (closed t o at last ++ rest)
@@ -59,7 +59,7 @@ covered [] a b p fills low high = absurd (omega (arith, fills))
 covered (shape.Mark m ∷ rest) a b p fills low high = absurd fills
 covered (shape.Stretch s ∷ rest) a b p fills low high =
     elim (cases_lt p s.to) [
-      | inl before ↦ record { stretch = s; there = first (shape.Stretch s) rest; from = omega (arith, fills.0); to = before }
+      | inl before ↦ record { stretch = s; there = contains-head (shape.Stretch s) rest; from = omega (arith, fills.0); to = before }
       | inr behind ↦
           let more = covered rest s.to b p fills.2 behind high in
           record { stretch = more.stretch; there = Contains-append_right (shape.Stretch s ∷ []) rest _ more.there; from = more.from; to = more.to }

@@ -6,6 +6,7 @@ use Rattle.std.proofs.lemmas.List.Sums.{sum_by-cons}
 use Rattle.std.proofs.lemmas.List.Elements.{Contains-append_right}
 use Rattle.sa_base.specs.declared.number.ProcNo.{ProcNo}
 use Rattle.sa_base.specs.declared.record.Item.{Item}
+use Rattle.sa_lemmas.proofs.Membership.{contains-head}
 use Rattle.sa_shapes.specs.declared.marks.Stack.{Stack}
 use Rattle.sa_shapes.specs.declared.shape.Mark.{Mark}
 use Rattle.sa_shapes.specs.declared.shape.Shape.{Shape}
@@ -14,7 +15,7 @@ use Rattle.sa_shapes.specs.declared.window.Window.{Window}
 use Rattle.sa_shapes.specs.Window.{place, is_inside}
 use Rattle.sa_shapes.specs.Marks.{has_mark, lane_of, is_marked, row_at, height_over, mark_at, marks_from, marks}
 use Rattle.sa_shapes.specs.Laws.{HasMark}
-use Rattle.sa_shapes.proofs.Elements.{first, first_or_rest, none_there}
+use Rattle.sa_shapes.proofs.Elements.{first_or_rest, none_there}
 
 module _ (w : Window) (lane : ProcNo) where
   record Marked (shapes : List Shape) (i : Item) : Type 0 where
@@ -29,7 +30,13 @@ module _ (w : Window) (lane : ProcNo) where
   marked-first row i rest other inside has =
       subst (λ (b : Bool). Marked (cond b (mark_at w lane row i ++ rest) other) i) (sym has)
       (subst (λ (b : Bool). Marked (cond b (shape.Mark (record { lane = lane; at = place w i.event; row = row; item = i }) ∷ []) [] ++ rest) i) (sym inside)
-      (record { mark = record { lane = lane; at = place w i.event; row = row; item = i }; there = first _ rest; lane_is = refl; at = refl; item = refl }))
+      (record {
+        mark = record { lane = lane; at = place w i.event; row = row; item = i };
+        there = contains-head _ rest;
+        lane_is = refl;
+        at = refl;
+        item = refl;
+      }))
 
   marked-rest : (b : Bool) (one rest other : List Shape) (i : Item) → Marked rest i → Marked other i → Marked (cond b (one ++ rest) other) i
   marked-rest true one rest other i this that =

@@ -1,8 +1,8 @@
 -- The lines of a trace hold no sign of markup.
-use Rattle.std.proofs.Common.{◌≡◌, ℕ, ◌^◌, ◌<◌, ◌≤◌, ◌&&◌, Bool, true, not, eqb, List, [], ◌∷◌, ◌++◌, Option, Some, None, refl, ap, ◌∙◌, arith}
+use Rattle.std.proofs.Common.{◌≡◌, ℕ, ◌^◌, ◌<◌, ◌≤◌, ◌&&◌, true, not, eqb, List, [], ◌∷◌, ◌++◌, Option, Some, None, refl, ap, ◌∙◌, arith}
 use Rattle.std.specs.Prelude.{codes, decimal}
 use Rattle.std.specs.List.{flat_map}
-use Rattle.std.proofs.lemmas.Bool.{ne_eqb}
+use Rattle.std.proofs.lemmas.Bool.{ne_eqb, and_from}
 use Rattle.std.proofs.lemmas.List.Elements.{All-weaker}
 use Rattle.std.proofs.lemmas.List.Folds.{list_all-append}
 use Rattle.std.proofs.lemmas.List.Sums.{list_all-from_AllPass}
@@ -19,19 +19,16 @@ use Rattle.sa_trace.specs.TraceText.{field, line_of}
 use Rattle.sa_trace.proofs.Readings.{greatest-small}
 use Rattle.sa_svg.specs.Laws.{is_plain}
 
-and_true : (a b : Bool) → a ≡ true → b ≡ true → (a && b) ≡ true
-and_true a b p q = ap (λ x. x && b) p ∙ q
-
 plain-append : (xs ys : List ℕ) → is_plain xs ≡ true → is_plain ys ≡ true → is_plain (xs ++ ys) ≡ true
-plain-append xs ys p q = list_all-append (λ b. not (eqb b 60) && not (eqb b 62) && not (eqb b 38)) xs ys ∙ and_true (is_plain xs) (is_plain ys) p q
+plain-append xs ys p q = list_all-append (λ b. not (eqb b 60) && not (eqb b 62) && not (eqb b 38)) xs ys ∙ and_from (is_plain xs) (is_plain ys) p q
 
 other : (b n : ℕ) → (b ≡ n → ⊥) → not (eqb b n) ≡ true
 other b n differ = ap not (ne_eqb b n differ)
 
 plain-digit : (b : ℕ) → 48 ≤ b → b ≤ 57 → (not (eqb b 60) && not (eqb b 62) && not (eqb b 38)) ≡ true
 plain-digit b low high =
-    and_true (not (eqb b 60) && not (eqb b 62)) (not (eqb b 38))
-    (and_true (not (eqb b 60)) (not (eqb b 62)) (other b 60 (λ e. omega arith)) (other b 62 (λ e. omega arith))) (other b 38 (λ e. omega arith))
+    and_from (not (eqb b 60) && not (eqb b 62)) (not (eqb b 38))
+    (and_from (not (eqb b 60)) (not (eqb b 62)) (other b 60 (λ e. omega arith)) (other b 62 (λ e. omega arith))) (other b 38 (λ e. omega arith))
 
 plain-decimal : (n : ℕ) → n < 2 ^ 64 → is_plain (decimal n) ≡ true
 plain-decimal n small =

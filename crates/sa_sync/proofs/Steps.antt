@@ -1,5 +1,5 @@
 -- What a state shows after each call is what the call's definition says.
-use Rattle.std.proofs.Common.{◌≡◌, ◌≢◌, ℕ, suc, ◌+◌, ◌-◌, ◌≤◌, ◌<◌, true, false, cond, not, ◌&&◌, List, [], ◌∷◌, ◌++◌, length, drop, set, get_or, Option, Some, None, slice_get, nat_lt, refl, sym, ap, ◌∙◌, subst, arith, length-drop}
+use Rattle.std.proofs.Common.{◌≡◌, ◌≢◌, ℕ, suc, ◌+◌, ◌-◌, ◌≤◌, ◌<◌, true, false, cond, not, ◌&&◌, List, [], ◌∷◌, ◌++◌, length, drop, set, get_or, Option, Some, None, slice_get, nat_lt, sym, ap, ◌∙◌, subst, arith, length-drop}
 use Rattle.std.proofs.lemmas.Bool.{lt-ltb}
 use Rattle.std.proofs.lemmas.List.{get_or_default, get_or-take, set-get_or}
 use Rattle.std.specs.Option.{option_map}
@@ -7,21 +7,13 @@ use Rattle.std.specs.Simd.Lanes.{zip2}
 use Rattle.sa_base.specs.declared.number.ThreadNo.{ThreadNo}
 use Rattle.sa_links.specs.Lists.{Lists, IsApart, IsFree, count_in_all, with_list, list_at}
 use Rattle.sa_base.specs.declared.limits.TheConstants.{MAX_THREADS}
+use Rattle.sa_lemmas.proofs.ListReads.{first-rest, empty-first}
 use Rattle.sa_sync.specs.declared.state.SyncState.TheInside.{Inside}
 use Rattle.sa_sync.specs.Sync.{Sync, WaitsNowhere, WaitsOnce, queues_of, mutex_at, semaphore_at, joiners_at, with_mutex, with_semaphore, with_joiners}
 use Rattle.sa_sync.specs.Calls.{goes, waits, wakes, is_holder, locked, locked_by, passed_on, unlocked, waited, waited_by, signalled, signalled_by, joined, first_joiner, without_joiner}
 use Rattle.sa_sync.specs.Parts.{IsState, mutex_of, semaphore_of, shown, sync_of}
 use Rattle.sa_sync.proofs.Lists.{length_zip2}
 use Rattle.sa_sync.proofs.Shown.{queues-shown, mutex-shown, semaphore-shown, shown-mutex, shown-semaphore, shown-joiners}
-
--- what is first in a queue, and what comes after it
-empty_queue : (q : List ℕ) → slice_get q 0 ≡ None → q ≡ []
-empty_queue [] e = refl
-empty_queue (x ∷ q) e = cc
-
-queue_from : (q : List ℕ) (x : ℕ) → slice_get q 0 ≡ Some x → q ≡ x ∷ drop 1 q
-queue_from [] x e = cc
-queue_from (y ∷ q) x e = let same : y ≡ x = cc in ap (λ z. z ∷ q) same
 
 pub more_than_none : (n : ℕ) → n ≢ 0 → n ≡ suc (n - 1)
 more_than_none n h = omega arith
@@ -134,7 +126,7 @@ module _ (s : Inside) (v : Sync) (is : sync_of s ≡ v) (good : IsState s) where
       → goes (shown (set s.holders.items m None) s.counts.items after.lists s.done.items s.cells.items) ≡ unlocked v t.0 m
   unlock_frees m l t r after h read holds at none taken =
       let q = get_or s.queues.lists (MAX_THREADS + m) [] in
-      let empty : q ≡ [] = empty_queue q (sym (none ∙ ap (λ i. slice_get (list_at s.queues.lists i) 0) at)) in
+      let empty : q ≡ [] = empty-first q (sym (none ∙ ap (λ i. slice_get (list_at s.queues.lists i) 0) at)) in
       let new : shown (set s.holders.items m None) s.counts.items after.lists s.done.items s.cells.items ≡ with_mutex v m None (drop 1 q) =
       ap (λ (x : Lists). shown (set s.holders.items m None) s.counts.items x.lists s.done.items s.cells.items) taken
       ∙ ap (λ i. shown (set s.holders.items m None) s.counts.items (set s.queues.lists i (drop 1 (get_or s.queues.lists i []))) s.done.items s.cells.items) at
@@ -148,7 +140,7 @@ module _ (s : Inside) (v : Sync) (is : sync_of s ≡ v) (good : IsState s) where
   unlock_wakes m l t r next after h read holds at first taken =
       let q = get_or s.queues.lists (MAX_THREADS + m) [] in
       let holder : Option ThreadNo = Some (record { 0 = next }) in
-      let from : q ≡ next ∷ drop 1 q = queue_from q next (sym (first ∙ ap (λ i. slice_get (list_at s.queues.lists i) 0) at)) in
+      let from : q ≡ next ∷ drop 1 q = first-rest q next (sym (first ∙ ap (λ i. slice_get (list_at s.queues.lists i) 0) at)) in
       let new : shown (set s.holders.items m holder) s.counts.items after.lists s.done.items s.cells.items ≡ with_mutex v m (Some next) (drop 1 q) =
       ap (λ (x : Lists). shown (set s.holders.items m holder) s.counts.items x.lists s.done.items s.cells.items) taken
       ∙ ap (λ i. shown (set s.holders.items m holder) s.counts.items (set s.queues.lists i (drop 1 (get_or s.queues.lists i []))) s.done.items s.cells.items) at
@@ -188,7 +180,7 @@ module _ (s : Inside) (v : Sync) (is : sync_of s ≡ v) (good : IsState s) where
   signal_goes k l count after h counted at none taken =
       let i = MAX_THREADS + length s.holders.items + k in
       let q = get_or s.queues.lists i [] in
-      let empty : q ≡ [] = empty_queue q (sym (none ∙ ap (λ j. slice_get (list_at s.queues.lists j) 0) at)) in
+      let empty : q ≡ [] = empty-first q (sym (none ∙ ap (λ j. slice_get (list_at s.queues.lists j) 0) at)) in
       let new : shown s.holders.items (set s.counts.items k (count + 1)) after.lists s.done.items s.cells.items ≡ with_semaphore v k (count + 1) (drop 1 q) =
       ap (λ (x : Lists). shown s.holders.items (set s.counts.items k (count + 1)) x.lists s.done.items s.cells.items) taken
       ∙ ap (λ j. shown s.holders.items (set s.counts.items k (count + 1))
@@ -204,7 +196,7 @@ module _ (s : Inside) (v : Sync) (is : sync_of s ≡ v) (good : IsState s) where
       let i = MAX_THREADS + length s.holders.items + k in
       let q = get_or s.queues.lists i [] in
       let count = get_or s.counts.items k 0 in
-      let from : q ≡ first ∷ drop 1 q = queue_from q first (sym (some ∙ ap (λ j. slice_get (list_at s.queues.lists j) 0) at)) in
+      let from : q ≡ first ∷ drop 1 q = first-rest q first (sym (some ∙ ap (λ j. slice_get (list_at s.queues.lists j) 0) at)) in
       let new : shown s.holders.items s.counts.items after.lists s.done.items s.cells.items ≡ with_semaphore v k count (drop 1 q) =
       ap (λ (x : Lists). shown s.holders.items s.counts.items x.lists s.done.items s.cells.items) taken
       ∙ ap (λ j. shown s.holders.items s.counts.items (set s.queues.lists j (drop 1 (get_or s.queues.lists j []))) s.done.items s.cells.items) at

@@ -1,8 +1,8 @@
 -- A line has one spelling in bytes, which is read back.
-use Rattle.std.proofs.Common.{◌≡◌, ◌≢◌, ℕ, ◌^◌, ◌<◌, ◌≤◌, ◌&&◌, Bool, true, cond, List, [], ◌∷◌, ◌++◌, map, Option, Some, None, Ok, Err, refl, sym, ap, ◌∙◌, subst, inl, inr, arith, append_assoc, append-nil, nat_le}
+use Rattle.std.proofs.Common.{◌≡◌, ◌≢◌, ℕ, ◌^◌, ◌<◌, ◌≤◌, ◌&&◌, Bool, true, cond, List, [], ◌∷◌, ◌++◌, map, Option, Some, None, Ok, Err, refl, sym, ap, ◌∙◌, subst, inl, inr, arith, append_assoc, nat_le}
 use Rattle.std.specs.Prelude.{All, codes, decimal}
 use Rattle.std.specs.List.{flat_map, list_all, join_with_byte}
-use Rattle.std.proofs.lemmas.Bool.{le-leb, leb-true}
+use Rattle.std.proofs.lemmas.Bool.{le-leb, leb-true, and_parts, and_from}
 use Rattle.std.proofs.lemmas.Grind.{flat_map-append}
 use Rattle.std.proofs.lemmas.List.Elements.{All-nil, All-cons, All-append, All-weaker, All-head, All-tail}
 use Rattle.std.proofs.lemmas.List.Folds.{list_all-append}
@@ -25,9 +25,11 @@ use Rattle.sa_text.proofs.Spelling.{decimal-is_spelling, decimal-lacks}
 use Rattle.sa_text.proofs.Lacking.{lacks_by_test}
 use Rattle.sa_trace.specs.TraceText.{field, line_of, end_word, counts_text, counts_of, last_line_of}
 use Rattle.sa_text.specs.Pieces.{is_printed}
+use Rattle.sa_lemmas.proofs.Booleans.{if_either}
+use Rattle.sa_lemmas.proofs.Texts.{join-spaced}
 use Rattle.sa_trace.specs.Line.{pieces_in}
 use Rattle.sa_trace.specs.Text.{FitsItem}
-use Rattle.sa_trace.proofs.Readings.{if_either, both_true, same_Ok, piece, greatest-small}
+use Rattle.sa_trace.proofs.Readings.{same_Ok, piece, greatest-small}
 use Rattle.sa_trace.proofs.Records.{word_pieces, record_pieces}
 use Rattle.sa_trace.proofs.Lines.{item_pieces, last_pieces}
 
@@ -36,15 +38,15 @@ pub record AreFine (ps : List (List ℕ)) : Type 0 where
   pub printed : list_all is_printed ps ≡ true
   pub spaceless : All LacksSpace ps
 
-pub and_true : (a b : Bool) → a ≡ true → b ≡ true → (a && b) ≡ true
-and_true a b p q = ap (λ x. x && b) p ∙ q
-
 pub fine-cons : (p : List ℕ) (ps : List (List ℕ)) → is_printed p ≡ true → LacksSpace p → AreFine ps → AreFine (p ∷ ps)
-fine-cons p ps printed spaceless h = record { printed = and_true (is_printed p) (list_all is_printed ps) printed h.printed; spaceless = All-cons LacksSpace p ps spaceless h.spaceless }
+fine-cons p ps printed spaceless h = record {
+  printed = and_from (is_printed p) (list_all is_printed ps) printed h.printed;
+  spaceless = All-cons LacksSpace p ps spaceless h.spaceless;
+}
 
 pub fine-append : (ps qs : List (List ℕ)) → AreFine ps → AreFine qs → AreFine (ps ++ qs)
 fine-append ps qs a b = record {
-  printed = list_all-append is_printed ps qs ∙ and_true (list_all is_printed ps) (list_all is_printed qs) a.printed b.printed;
+  printed = list_all-append is_printed ps qs ∙ and_from (list_all is_printed ps) (list_all is_printed qs) a.printed b.printed;
   spaceless = All-append LacksSpace ps qs a.spaceless b.spaceless;
 }
 
@@ -54,7 +56,8 @@ fine-nil = record { printed = refl; spaceless = All-nil LacksSpace }
 decimal-printed : (n : ℕ) → n < 2 ^ 64 → is_printed (decimal n) ≡ true
 decimal-printed n small =
     list_all-from_AllPass (λ b. nat_le 32 b && nat_le b 126) (decimal n)
-    (All-weaker (λ b. (48 ≤ b) × (b ≤ 57)) (λ b. (nat_le 32 b && nat_le b 126) ≡ true) (λ b d. and_true (nat_le 32 b) (nat_le b 126) (le-leb 32 b (omega (arith, d.0))) (le-leb b 126 (omega (arith, d.1))))
+    (All-weaker (λ b. (48 ≤ b) × (b ≤ 57)) (λ b. (nat_le 32 b && nat_le b 126) ≡ true)
+    (λ b d. and_from (nat_le 32 b) (nat_le b 126) (le-leb 32 b (omega (arith, d.0))) (le-leb b 126 (omega (arith, d.1))))
     (decimal n) (decimal-is_spelling n small).digits)
 
 pub fine-decimal : (n : ℕ) (ps : List (List ℕ)) → n < 2 ^ 64 → AreFine ps → AreFine (decimal n ∷ ps)
@@ -151,15 +154,17 @@ fine-last counts end events few small =
 -- printed pieces make a printed line
 joined-printed : (ps : List (List ℕ)) → list_all is_printed ps ≡ true → is_printed (join_with_byte 32 ps) ≡ true
 joined-printed [] h = refl
-joined-printed (p ∷ []) h = (both_true (is_printed p) true h).0
+joined-printed (p ∷ []) h = (and_parts (is_printed p) true h).0
 joined-printed (p ∷ q ∷ ps) h =
-    let both = both_true (is_printed p) (list_all is_printed (q ∷ ps)) h in
-    list_all-append (λ b. nat_le 32 b && nat_le b 126) p (32 ∷ join_with_byte 32 (q ∷ ps)) ∙ and_true (is_printed p) (is_printed (join_with_byte 32 (q ∷ ps))) both.0 (joined-printed (q ∷ ps) both.1)
+    let both = and_parts (is_printed p) (list_all is_printed (q ∷ ps)) h in
+    list_all-append (λ b. nat_le 32 b && nat_le b 126) p (32 ∷ join_with_byte 32 (q ∷ ps))
+    ∙ and_from (is_printed p) (is_printed (join_with_byte 32 (q ∷ ps))) both.0 (joined-printed (q ∷ ps) both.1)
 
 pub printed-lacks : (bytes : List ℕ) → is_printed bytes ≡ true → LacksLineFeed bytes
 printed-lacks bytes h =
     All-weaker (λ b. (nat_le 32 b && nat_le b 126) ≡ true) (λ b. b ≢ 10)
-    (λ b t. let low : 32 ≤ b = leb-true 32 b (both_true (nat_le 32 b) (nat_le b 126) t).0 in omega arith) bytes (AllPass-from_list_all (λ b. nat_le 32 b && nat_le b 126) bytes h)
+    (λ b t. let low : 32 ≤ b = leb-true 32 b (and_parts (nat_le 32 b) (nat_le b 126) t).0 in omega arith) bytes
+    (AllPass-from_list_all (λ b. nat_le 32 b && nat_le b 126) bytes h)
 
 pub fine-lacks : (ps : List (List ℕ)) → AreFine ps → LacksLineFeed (join_with_byte 32 ps)
 fine-lacks ps h = printed-lacks (join_with_byte 32 ps) (joined-printed ps h.printed)
@@ -187,11 +192,6 @@ pieces_in-ok line ps h =
       | inr other ↦ absurd (refused NotAscii ps other.1)
     ]
 
--- pieces one after another, with a space in front of each but the first
-pub spaced : (p : List ℕ) (ps : List (List ℕ)) → join_with_byte 32 (p ∷ ps) ≡ p ++ flat_map (λ w. 32 ∷ w) ps
-spaced p [] = sym (append-nil p)
-spaced p (q ∷ qs) = ap (λ r. p ++ (32 ∷ r)) (spaced q qs)
-
 fields-spaced : (vs : List (Option ℕ)) → flat_map (λ w. 32 ∷ w) (map piece vs) ≡ flat_map field vs
 fields-spaced [] = refl
 fields-spaced (None ∷ vs) = ap (λ r. codes " -" ++ r) (fields-spaced vs)
@@ -212,7 +212,7 @@ line_of-pieces item =
     regroup_item (decimal item.event) (decimal item.proc.0) (form_of kind).word (flat_map field fields)
     ∙ ap (λ bs. (decimal item.event ++ ((32 ∷ decimal item.proc.0) ++ bs)) ++ 10 ∷ [])
     (sym (flat_map-append (λ w. 32 ∷ w) (word_pieces kind) (map piece fields) ∙ ap (λ bs. bs ++ flat_map (λ w. 32 ∷ w) (map piece fields)) (words-spaced kind) ∙ ap (λ bs. (32 ∷ (form_of kind).word) ++ bs) (fields-spaced fields)))
-    ∙ ap (λ bs. bs ++ 10 ∷ []) (sym (spaced (decimal item.event) (decimal item.proc.0 ∷ record_pieces item.what)))
+    ∙ ap (λ bs. bs ++ 10 ∷ []) (sym (join-spaced (decimal item.event) (decimal item.proc.0 ∷ record_pieces item.what)))
 
 regroup_last : (w e c : List ℕ) → ((((codes "end " ++ w) ++ (32 ∷ e)) ++ c) ++ 10 ∷ []) ≡ ((codes "end" ++ ((32 ∷ w) ++ ((32 ∷ e) ++ c))) ++ 10 ∷ [])
 regroup_last w e c = simp append_assoc
@@ -221,4 +221,4 @@ pub last_line_of-pieces : (items : List Item) (end : End) (events : ℕ) → las
 last_line_of-pieces items end events =
     regroup_last (end_word end) (decimal events) (counts_text (counts_of items))
     ∙ ap (λ bs. (codes "end" ++ ((32 ∷ end_word end) ++ ((32 ∷ decimal events) ++ bs))) ++ 10 ∷ []) (sym (counts-spaced (counts_of items)))
-    ∙ ap (λ bs. bs ++ 10 ∷ []) (sym (spaced (codes "end") (end_word end ∷ decimal events ∷ map decimal (counts_of items))))
+    ∙ ap (λ bs. bs ++ 10 ∷ []) (sym (join-spaced (codes "end") (end_word end ∷ decimal events ∷ map decimal (counts_of items))))

@@ -5,6 +5,7 @@ use Rattle.std.specs.Str.{bytes_eq}
 use Rattle.std.proofs.lemmas.Bool.Decides.{eqb_tells}
 use Rattle.std.proofs.lemmas.Slice.Eq.{bytes_eq-Decides}
 use Rattle.std.proofs.lemmas.List.Elements.{All-head, All-tail}
+use Rattle.std.proofs.lemmas.Bool.{false_from_ne_true}
 use Rattle.sa_base.specs.declared.number.ProcNo.{ProcNo}
 use Rattle.sa_base.specs.declared.record.End.{End}
 use Rattle.sa_base.specs.declared.record.End.TheVariants.{AllDone, Stuck, Budget}
@@ -15,13 +16,14 @@ use Rattle.sa_base.specs.declared.refusal.Cause.TheVariants.{BadWord}
 use Rattle.sa_trace.specs.Parts.{parts_of, FitTheKind}
 use Rattle.sa_text.specs.Pieces.{LacksSpace}
 use Rattle.sa_text.proofs.Spelling.{decimal-is_spelling}
+use Rattle.sa_lemmas.proofs.Booleans.{if_either}
 use Rattle.sa_trace.specs.TraceText.{counts_of, end_word}
 use Rattle.sa_trace.specs.declared.line.Said.{Said}
 use Rattle.sa_trace.specs.declared.line.Said.TheVariants.{Next, Last}
 use Rattle.sa_trace.specs.Pieces.{and_then, unless, number_in, wrong_count, end_of}
 use Rattle.sa_trace.specs.Line.{MAX16, MAX64, last_of, so_far, least_event, processor_in, record_in, item_by, item_at, counts_at, end_at, said_by}
 use Rattle.sa_trace.specs.Text.{FitsItem, MayFollow}
-use Rattle.sa_trace.proofs.Readings.{and_then-ok, if_either, not_true, same_Ok, number_in-ok, number_in-decimal, wrong_count-none, wrong_count-decimals}
+use Rattle.sa_trace.proofs.Readings.{and_then-ok, same_Ok, number_in-ok, number_in-decimal, wrong_count-none, wrong_count-decimals}
 use Rattle.sa_trace.proofs.Records.{record_pieces, record_in-ok, record_in-pieces}
 
 -- an item in pieces, and the last line
@@ -97,7 +99,7 @@ item_at-ok last event (p ∷ rest) said fits lacks h =
 
 -- a decimal text is not the word `end`
 no_end : (n : ℕ) → n < 2 ^ 64 → bytes_eq (decimal n) (codes "end") ≡ false
-no_end n small = not_true (bytes_eq (decimal n) (codes "end")) (λ same.
+no_end n small = false_from_ne_true (bytes_eq (decimal n) (codes "end")) (λ same.
     let word : decimal n ≡ 101 ∷ 110 ∷ 100 ∷ [] = (bytes_eq-Decides (decimal n) (codes "end")).0 same in
     let digits : All (λ b. (48 ≤ b) × (b ≤ 57)) (101 ∷ 110 ∷ 100 ∷ []) = subst (λ bs. All (λ b. (48 ≤ b) × (b ≤ 57)) bs) word (decimal-is_spelling n small).digits in
     let first : 101 ≤ 57 = (All-head (λ b. (48 ≤ b) × (b ≤ 57)) 101 (110 ∷ 100 ∷ []) digits).1 in omega arith)

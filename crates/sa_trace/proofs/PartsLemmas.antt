@@ -2,7 +2,6 @@
 use Rattle.std.proofs.Common.{◌≡◌, ℕ, Option, Some, None, MatchOption, List, [], ◌∷◌, length, IsSome, IfSome, refl, sym, ap, subst, ◌∙◌, arith}
 use Rattle.std.proofs.lemmas.Bool.{false≢true}
 use Rattle.std.proofs.lemmas.Option.{same_Some}
-use Rattle.std.proofs.lemmas.Bool.Decides.{nat_tests}
 use Rattle.std.specs.Prelude.{◌==◌, ◌↔◌, if◌then◌else◌}
 use Rattle.sa_trace.specs.declared.kind.Kind.{Kind}
 use Rattle.sa_trace.specs.declared.kind.Kind.TheVariants as Kinds
@@ -14,15 +13,12 @@ use Rattle.sa_trace.specs.Field.{AllFit}
 use Rattle.sa_trace.specs.Kind.{form_of}
 use Rattle.sa_trace.specs.Parts.{FitTheKind, parts, parts_of, field_at, from_two, from_three, from_four, record_from, record_of}
 use Rattle.std.specs.Option.{option_map}
+use Rattle.sa_lemmas.proofs.Options.{right_number, wrong_number}
 use Rattle.sa_trace.proofs.Coding.{Coded, IsReading, space, thread, processor, activation, io, optional_space, optional_thread, place, value, demand}
 
 -- a record is made exactly where the fields fit, and then it has this kind and these fields
 abbrev pub IsMaking : List Field → Kind → List (Option ℕ) → Option Record → Type 0
 IsMaking fields kind f made = MatchOption made (AllFit fields f → ⊥) (λ r. AllFit fields f × (parts_of r ≡ parts kind f))
-
--- nothing is made of the wrong number of fields
-wrong_number : {A : Type 0} (n m : ℕ) (o : Option A) → (n ≡ m → ⊥) → (if n == m then o else None) ≡ None
-wrong_number n m o apart = grind (arith, nat_tests)
 
 none-making : (fields : List Field) (kind : Kind) (f : List (Option ℕ)) (o : Option Record) → o ≡ None → (AllFit fields f → ⊥) → IsMaking fields kind f o
 none-making fields kind f None e unfit = unfit
@@ -195,9 +191,6 @@ parts-back kind f r e = made-parts kind f (record_of kind f) r (making kind f) e
 
 pub fit-some : (kind : Kind) (f : List (Option ℕ)) → IsSome (record_of kind f) ↔ FitTheKind (parts kind f)
 fit-some kind f = made-some (form_of kind).fields kind f (record_of kind f) (making kind f)
-
-right_number : {A : Type 0} (n m : ℕ) (o : Option A) → n ≡ m → o ≡ (if n == m then o else None)
-right_number n m o same = grind (arith, nat_tests)
 
 if-made : (kind : Kind) (f : List (Option ℕ)) (o : Option Record) → IsMaking (form_of kind).fields kind f o → IfSome o (λ r. parts_of r ≡ parts kind f)
 if-made kind f None is = tt

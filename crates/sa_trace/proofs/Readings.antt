@@ -1,9 +1,11 @@
 -- A number, a field and a record have each one spelling in pieces, which is read back.
-use Rattle.std.proofs.Common.{◌≡◌, ◌≢◌, ℕ, ◌^◌, ◌<◌, ◌≤◌, ◌&&◌, Bool, true, false, cond, List, [], ◌∷◌, map, Option, Some, None, Result, Ok, Err, refl, ap, ◌∙◌, subst, arith, nat_le, ◌⊎◌, inl, inr}
+use Rattle.std.proofs.Common.{◌≡◌, ◌≢◌, ℕ, ◌^◌, ◌<◌, ◌≤◌, ◌&&◌, Bool, true, false, cond, List, [], ◌∷◌, map, Option, Some, None, Result, Ok, Err, refl, ap, ◌∙◌, subst, arith, nat_le, ◌⊎◌, inl, inr, nat_lt}
 use Rattle.std.specs.Prelude.{All, codes, decimal}
 use Rattle.std.specs.Str.{bytes_eq}
-use Rattle.std.proofs.lemmas.Bool.{false≢true, leb-true, le-leb}
+use Rattle.std.proofs.lemmas.Bool.{false≢true, leb-true, le-leb, ltb-true, and_parts, false_from_ne_true}
 use Rattle.std.proofs.lemmas.Slice.Eq.{bytes_eq-Decides}
+use Rattle.std.specs.Str.Parse.{digits_value}
+use Rattle.std.proofs.lemmas.Option.{cond_some}
 use Rattle.std.proofs.lemmas.List.Elements.{All-nil, All-cons, All-head, All-tail}
 use Rattle.sa_trace.specs.declared.field.Field.{Field}
 use Rattle.sa_trace.specs.declared.field.Field.TheVariants.{Space, OptionalSpace, Thread, OptionalThread, Processor, Activation, Io, Place, Value, Demand}
@@ -14,6 +16,7 @@ use Rattle.sa_trace.specs.Pieces.{and_then, or_cause, within, number_in, field_i
 use Rattle.sa_text.proofs.Spelling.{decimal-lacks}
 use Rattle.sa_text.proofs.NumberOf.{reads_number, number_of-some}
 use Rattle.sa_text.specs.Number.{number_of}
+use Rattle.sa_lemmas.proofs.Booleans.{if_either}
 
 -- what an answer is made of
 pub and_then-ok : {A B E : Type 0} (r : Result A E) (f : A → Result B E) (b : B) → and_then r f ≡ Ok b → (a : A) × (r ≡ Ok a) × (f a ≡ Ok b)
@@ -23,10 +26,6 @@ and_then-ok (Err e) f b h = absurd cc
 pub same_Ok : {A : Type 0} (a b : A) → (λ (r : Result A Cause). r) (Ok a) ≡ Ok b → a ≡ b
 same_Ok a b h = cc
 
-pub both_true : (a b : Bool) → (a && b) ≡ true → (a ≡ true) × (b ≡ true)
-both_true true true h = (refl, refl)
-both_true true false h = absurd (false≢true h)
-both_true false b h = absurd (false≢true h)
 
 pub or_cause-ok : {A E : Type 0} (o : Option A) (cause : E) (a : A) → or_cause o cause ≡ Ok a → o ≡ Some a
 or_cause-ok None cause a h = absurd cc
@@ -42,7 +41,7 @@ number_in-ok least greatest piece n h =
     let got = and_then-ok (or_cause (number_of piece) BadNumber) (within least greatest) n h in
     let spelled = number_of-some piece got.0 (or_cause-ok (number_of piece) BadNumber got.0 got.1) in
     let inside = if_ok (nat_le least got.0 && nat_le got.0 greatest) got.0 n OutOfRange got.2 in
-    let tests = both_true (nat_le least got.0) (nat_le got.0 greatest) inside.0 in (
+    let tests = and_parts (nat_le least got.0) (nat_le got.0 greatest) inside.0 in (
       spelled.0 ∙ ap decimal inside.1,
       subst (λ m. m < 2 ^ 64) inside.1 spelled.1,
       subst (λ m. least ≤ m) inside.1 (leb-true least got.0 tests.0),
@@ -85,14 +84,6 @@ abbrev pub piece : Option ℕ → List ℕ
 piece None = codes "-"
 piece (Some n) = decimal n
 
-pub if_either : {A : Type 0} (b : Bool) (x y z : A) → cond b x y ≡ z → ((b ≡ true) × (x ≡ z)) ⊎ ((b ≡ false) × (y ≡ z))
-if_either true x y z h = inl (refl, h)
-if_either false x y z h = inr (refl, h)
-
-pub not_true : (b : Bool) → (b ≡ true → ⊥) → b ≡ false
-not_true true h = absurd (h refl)
-not_true false h = refl
-
 cond-and_false : {A : Type 0} (a : Bool) (x y : A) → cond (a && false) x y ≡ y
 cond-and_false true x y = refl
 cond-and_false false x y = refl
@@ -111,7 +102,7 @@ greatest-small Demand = omega arith
 
 -- a decimal text is no dash
 no_dash : (n : ℕ) → n < 2 ^ 64 → bytes_eq (decimal n) (codes "-") ≡ false
-no_dash n small = not_true (bytes_eq (decimal n) (codes "-")) (λ same.
+no_dash n small = false_from_ne_true (bytes_eq (decimal n) (codes "-")) (λ same.
     let dash : decimal n ≡ 45 ∷ [] = (bytes_eq-Decides (decimal n) (codes "-")).0 same in
     let lacks : All (λ b. b ≢ 45) (45 ∷ []) = subst (λ bs. All (λ b. b ≢ 45) bs) dash (decimal-lacks n 45 small (omega arith)) in
     All-head (λ b. b ≢ 45) 45 [] lacks refl)
@@ -120,7 +111,7 @@ pub field_in-ok : (field : Field) (p : List ℕ) (v : Option ℕ) → field_in f
 field_in-ok field p v h =
     elim (if_either ((range_of field).optional && bytes_eq p (codes "-")) (Ok None) (and_then (number_in 0 (range_of field).greatest p) (λ n. Ok (Some n))) (Ok v) h) [
       | inl taken ↦
-          let tests = both_true (range_of field).optional (bytes_eq p (codes "-")) taken.0 in
+          let tests = and_parts (range_of field).optional (bytes_eq p (codes "-")) taken.0 in
           let e : None ≡ v = same_Ok None v taken.1 in
           subst (λ w. (p ≡ piece w) × Fits field w) e ((bytes_eq-Decides p (codes "-")).0 tests.1, tests.0)
       | inr other ↦

@@ -1,10 +1,9 @@
 -- A record has one spelling in pieces, which is read back.
-use Rattle.std.proofs.Common.{◌≡◌, ℕ, Bool, true, List, [], ◌∷◌, ◌++◌, map, find, Option, Some, None, Ok, refl, sym, ap, ◌∙◌, subst, inl, inr}
+use Rattle.std.proofs.Common.{◌≡◌, ℕ, true, List, [], ◌∷◌, ◌++◌, map, find, Option, Some, None, Ok, refl, sym, ap, ◌∙◌, subst, inl, inr}
 use Rattle.std.specs.Prelude.{All, codes}
 use Rattle.std.specs.Str.{bytes_eq}
 use Rattle.std.proofs.lemmas.Bool.{false≢true}
 use Rattle.std.proofs.lemmas.Slice.Eq.{bytes_eq-Decides}
-use Rattle.std.proofs.lemmas.Option.{same_Some}
 use Rattle.std.proofs.lemmas.List.Elements.{All-head}
 use Rattle.sa_trace.specs.declared.kind.Kind.{Kind}
 use Rattle.sa_trace.specs.declared.kind.Kind.TheVariants.{Ins, Out, Run, Stop, Block, Unblock, Cont, Back, Ready, Take, Free, Up, ToldAdd, ToldPreempted, ToldBlocked, ToldUnblocked, Move, Want, Aim, Line, Fetch, Fetched, GiveBack, Idle, Spin, Tick}
@@ -16,22 +15,15 @@ use Rattle.sa_trace.specs.Parts.{parts_of, record_of, FitTheKind}
 use Rattle.sa_trace.proofs.PartsLemmas.{remade, parts-back}
 use Rattle.sa_text.specs.Pieces.{pieces_of, LacksSpace}
 use Rattle.sa_text.proofs.PieceLemmas.{pieces_of-one}
+use Rattle.sa_lemmas.proofs.Booleans.{if_either}
+use Rattle.sa_lemmas.proofs.Searches.{find-passes}
 use Rattle.sa_trace.specs.Pieces.{and_then, or_cause, fields_in, has_word, has_note, known, note_at, kind_at}
 use Rattle.sa_trace.specs.Line.{record_by, record_in}
-use Rattle.sa_trace.proofs.Readings.{and_then-ok, or_cause-ok, if_either, same_Ok, piece, fields_in-ok, fields_in-pieces}
+use Rattle.sa_trace.proofs.Readings.{and_then-ok, or_cause-ok, same_Ok, piece, fields_in-ok, fields_in-pieces}
 
 -- the word of a kind in pieces, which are two for a notice
 abbrev pub word_pieces : Kind → List (List ℕ)
 word_pieces kind = pieces_of (form_of kind).word
-
--- what is found passes the test
-pub find-passes : {X : Type 0} (test : X → Bool) (xs : List X) (x : X) → find test xs ≡ Some x → test x ≡ true
-find-passes test [] x h = absurd cc
-find-passes test (y ∷ ys) x h =
-    elim (if_either (test y) (Some y) (find test ys) (Some x) h) [
-      | inl here ↦ subst (λ z. test z ≡ true) (same_Some y x here.1) here.0
-      | inr later ↦ find-passes test ys x later.1
-    ]
 
 note_word : (note v : List ℕ) → bytes_eq note v ≡ true → codes "told" ∷ note ∷ [] ≡ codes "told" ∷ v ∷ []
 note_word note v h = ap (λ w. codes "told" ∷ w ∷ []) ((bytes_eq-Decides note v).0 h)

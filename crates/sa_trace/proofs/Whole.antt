@@ -12,6 +12,7 @@ use Rattle.sa_base.specs.declared.refusal.Bad.{Bad}
 use Rattle.sa_base.specs.declared.refusal.Cause.{Cause}
 use Rattle.sa_text.specs.LineText.{LineText, ended_line, whole_line, line_texts}
 use Rattle.sa_text.proofs.LineLemmas.{line_texts-ended, line_texts-joined}
+use Rattle.sa_lemmas.proofs.Texts.{regroup}
 use Rattle.sa_trace.specs.TraceText.{line_of, counts_of, last_line_of, trace_text}
 use Rattle.sa_trace.specs.declared.line.Said.{Said}
 use Rattle.sa_trace.specs.declared.line.Said.TheVariants.{Next, Last}
@@ -162,8 +163,6 @@ lines-text items end events =
     ∙ ap (λ bs. flat_map line_of items ++ bs) (append-nil (whole_line (last_line items end events)) ∙ sym (last_line_of-pieces items end events))
 
 -- and the lines of the text are those lines
-regroup : (bs cs ds : List ℕ) → ((bs ++ 10 ∷ []) ++ cs) ++ ds ≡ bs ++ 10 ∷ (cs ++ ds)
-regroup bs cs ds = simp append_assoc
 
 items-lines : (items : List Item) (rest : List ℕ) → All FitsItem items → line_texts (flat_map line_of items ++ rest) ≡ map item_line items ++ line_texts rest
 items-lines [] rest fits = refl

@@ -1,5 +1,5 @@
 -- Where a thread runs, a run goes on.
-use Rattle.sa_match.proofs.Lists.{all-pass, read-at}
+use Rattle.sa_match.proofs.Lists.{all-pass}
 use Rattle.std.proofs.lemmas.Option.{get_or_from_slice_get}
 use Rattle.std.proofs.lemmas.List.{get_or_past}
 use Rattle.std.proofs.Common.{◌≡◌, sym, ◌∙◌, ap, refl, Bool, true, false, List, [], ◌∷◌, length, inl, inr}
@@ -9,6 +9,7 @@ use Rattle.sa_base.specs.declared.number.ProcNo.{ProcNo}
 use Rattle.sa_base.specs.declared.number.SpaceNo.{SpaceNo}
 use Rattle.sa_base.specs.declared.number.ThreadNo.{ThreadNo}
 use Rattle.sa_spaces.specs.Workload.{WorkloadView}
+use Rattle.sa_lemmas.proofs.ListReads.{read-at}
 use Rattle.sa_laws.specs.declared.place.Place.{Place}
 use Rattle.sa_laws.specs.declared.place.Place.TheVariants.{Running, Done}
 use Rattle.sa_laws.specs.Event.{Event}

@@ -1,7 +1,7 @@
 -- Numbers that are put one after another into a list.
 use Rattle.std.proofs.Common.{◌≡◌, ℕ, zero, suc, ◌+◌, ◌<◌, ◌≤◌, List, [], ◌∷◌, ◌++◌, length, get_or, set, take, drop, refl, sym, ap, ◌∙◌, arith, append_assoc, add-one}
 use Rattle.std.proofs.Math.Seq.{take-suc, take-length}
-use Rattle.std.proofs.lemmas.List.{get_or-map, length-map, append-nil, length-set, get_or-set_same, set-get_or, take-append-drop}
+use Rattle.std.proofs.lemmas.List.{get_or-map, length-map, append-nil, length-set, get_or-set_same, set-get_or, take-append-drop, set-set}
 use Rattle.sa_base.specs.declared.number.ThreadNo.{ThreadNo}
 use Rattle.sa_virtual.specs.Holding.{numbers}
 use Rattle.sa_links.specs.Lists.{Lists, list_at, with_list, count_in, count_in_all}
@@ -13,12 +13,6 @@ numbers_many ts = length-map ts (λ (t : ThreadNo). t.0)
 
 pub numbers_at : (ts : List ThreadNo) (i : ℕ) (d : ThreadNo) → i < length ts → get_or (numbers ts) i 0 ≡ (get_or ts i d).0
 numbers_at ts i d inside = get_or-map (λ (t : ThreadNo). t.0) ts i d 0 inside
-
--- one set twice
-pub set_twice : {A : Type 0} (xs : List A) (i : ℕ) (x y : A) → set (set xs i x) i y ≡ set xs i y
-set_twice [] i x y = refl
-set_twice (z ∷ zs) zero x y = refl
-set_twice (z ∷ zs) (suc i) x y = ap (λ ws. z ∷ ws) (set_twice zs i x y)
 
 drop_at : (xs : List ℕ) (i : ℕ) → i < length xs → drop i xs ≡ get_or xs i 0 ∷ drop (suc i) xs
 drop_at [] i inside = absurd (omega (arith, inside))
@@ -49,7 +43,7 @@ module _ (c : Lists) (l : ℕ) (xs : List ℕ) (inside : l < length c.lists) whe
       let here = get_or-set_same c.lists l (list_at c.lists l ++ take i xs) [] inside in
       let next = take-suc xs i 0 below in
       ap (λ ls. record { nodes = c.nodes; lists = ls })
-      (set_twice c.lists l (list_at c.lists l ++ take i xs) (list_at (filled c l xs i).lists l ++ u ∷ [])
+      (set-set c.lists l (list_at c.lists l ++ take i xs) (list_at (filled c l xs i).lists l ++ u ∷ [])
       ∙ ap (λ ys. set c.lists l (ys ++ u ∷ [])) here
       ∙ ap (set c.lists l) (append_assoc (list_at c.lists l) (take i xs) (u ∷ []) ∙ ap (λ v. list_at c.lists l ++ (take i xs ++ v ∷ [])) is
       ∙ ap (λ ys. list_at c.lists l ++ ys) (sym next) ∙ ap (λ k. list_at c.lists l ++ take k xs) (sym (add-one i))))

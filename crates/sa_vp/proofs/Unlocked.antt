@@ -2,7 +2,7 @@
 use Rattle.std.proofs.Common.{◌≡◌, ℕ, zero, suc, ◌+◌, ◌-◌, ◌<◌, Bool, true, false, List, [], ◌∷◌, length, get_or, set, replicate, Option, Some, None, refl, sym, ap, subst, ◌∙◌, arith}
 use Rattle.std.specs.Prelude.{IfSome}
 use Rattle.std.specs.Option.{option_map}
-use Rattle.std.proofs.lemmas.List.{length-set, set-get_or}
+use Rattle.std.proofs.lemmas.List.{length-set, set-get_or, set-set}
 use Rattle.sa_base.specs.declared.number.ProcNo.{ProcNo}
 use Rattle.sa_base.specs.declared.number.ThreadNo.{ThreadNo}
 use Rattle.sa_links.specs.Lists.{Lists, list_at, with_list}
@@ -12,7 +12,6 @@ use Rattle.sa_lists.proofs.Changes.{inserted_front}
 use Rattle.sa_lists.proofs.Rounds.{sought-first, IsSought}
 use Rattle.sa_vp_model.specs.Turn.{is_some_list}
 use Rattle.sa_vp.specs.Ready.{IsUnlocked, round}
-use Rattle.sa_vp.proofs.Filling.{set_twice}
 use Rattle.sa_vp.proofs.Rounds.{open_is, unlocked}
 
 -- what a caller sees of ready lists
@@ -25,7 +24,7 @@ module _ (r : ReadyView) (free : IsUnlocked r) (l : ℕ) where
   changed xs = with_lock (ready.with_list (with_lock r l true) l xs) l false
 
   back : set (set r.locked l true) l false ≡ r.locked
-  back = set_twice r.locked l true false ∙ ap (set r.locked l) (sym (unlocked r free l)) ∙ set-get_or r.locked l false
+  back = set-set r.locked l true false ∙ ap (set r.locked l) (sym (unlocked r free l)) ∙ set-get_or r.locked l false
 
   pub unlocked-with : (xs : List ℕ) → IsUnlocked (changed xs)
   unlocked-with xs = record {

@@ -14,6 +14,7 @@ use Rattle.sa_base.specs.declared.number.ActNo.{ActNo}
 use Rattle.sa_base.specs.declared.limits.TheConstants.{MAX_PROCESSORS}
 use Rattle.sa_base.specs.declared.record.Record.TheVariants as rec
 use Rattle.sa_spaces.specs.Workload.{WorkloadView}
+use Rattle.sa_lemmas.proofs.Searches.{find-passes}
 use Rattle.sa_links.specs.Lists.{count_in, without}
 use Rattle.sa_links.proofs.Counting.{count-append, get_in}
 use Rattle.sa_assign.specs.Reaim.{proc_no}
@@ -34,12 +35,6 @@ use Rattle.sa_vp_model.proofs.Placed.{item}
 use Rattle.sa_vp_model.proofs.Readied as readied
 
 -- FOUND
-pub found_true : {A : Type 0} (f : A → Bool) (xs : List A) (x : A) → find f xs ≡ Some x → f x ≡ true
-found_true f [] x is = cc
-found_true f (y ∷ ys) x is = go (f y) refl (λ later. found_true f ys x later) is where
-  go : (b : Bool) → f y ≡ b → (find f ys ≡ Some x → f x ≡ true) → cond b (Some y) (find f ys) ≡ Some x → f x ≡ true
-  go true at rest e = ap f (sym (same_Some _ _ e)) ∙ at
-  go false at rest e = rest e
 
 module _ (k n : ℕ) (some : 0 < n) where
   abbrev at : ℕ → ProcNo
@@ -238,7 +233,7 @@ module _ (w : WorkloadView) (p : ProcNo) (v : Virtuals) (good : Good w v) (x : O
     due = omega arith;
   }
   looked (Some l) is =
-      taken_if l (find_below (list_of a).0 w.processors some has 0 w.processors l is) (found_true has (round_from w (list_of a)) l is) (l.0 == (list_of a).0)
+      taken_if l (find_below (list_of a).0 w.processors some has 0 w.processors l is) (find-passes has (round_from w (list_of a)) l is) (l.0 == (list_of a).0)
       (chosen (threads_in v s l) (l.0 == (list_of a).0)) refl
 
   pub looks_for : Follows w p v (popped v a (find has (round_from w (list_of a)))) x (looks p a (board_of w v x))

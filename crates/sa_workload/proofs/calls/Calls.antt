@@ -1,10 +1,10 @@
 -- What the functions of the reader that go on in several steps come to.
-use Rattle.std.proofs.Common.{◌≡◌, ◌≢◌, ℕ, ◌+◌, ◌<◌, ◌≤◌, slice_index, Bool, true, false, cond, find, List, [], ◌∷◌, ◌++◌, length, get_or, map, drop, codes, Option, Some, None, IfSome, IfNone, Result, Ok, Err, Ordering, Less, Equal, Greater, inl, inr, refl, sym, ap, ap₂, ◌∙◌, subst, arith, eqb, ltb, lt-ltb, eq-eqb, append_assoc}
+use Rattle.std.proofs.Common.{◌≡◌, ◌≢◌, ℕ, ◌+◌, ◌<◌, ◌≤◌, slice_index, Bool, true, false, cond, find, List, [], ◌∷◌, ◌++◌, length, get_or, map, drop, codes, Option, Some, None, IfSome, IfNone, Result, Ok, Err, Ordering, Less, Equal, Greater, inl, inr, refl, sym, ap, ap₂, ◌∙◌, subst, arith, eqb, lt-ltb, eq-eqb, append_assoc}
 use Rattle.std.specs.Option.{is_some, option_map}
 use Rattle.std.specs.Ordering.{nat_cmp, ordering_then}
 use Rattle.std.specs.Cmp.Lexicographic.{slice_cmp}
 use Rattle.std.specs.Str.{bytes_eq}
-use Rattle.std.proofs.lemmas.Bool.{cases_lt, cases_eq, false_from_ne_true, ltb-true, ne_eqb}
+use Rattle.std.proofs.lemmas.Bool.{cases_lt, cases_eq, false_from_ne_true, ne_eqb, le-ltb}
 use Rattle.std.proofs.lemmas.List.{drop_more, get_or-map, length-map, length_push}
 use Rattle.std.proofs.lemmas.Option.{same_Some}
 use Rattle.std.proofs.lemmas.Slice.Eq.{bytes_eq-Decides}
@@ -85,9 +85,6 @@ Compared xs ys Less = list_lt xs ys ≡ true
 Compared xs ys Equal = xs ≡ ys
 Compared xs ys Greater = list_lt ys xs ≡ true
 
-not_less : (x y : ℕ) → y ≤ x → ltb x y ≡ false
-not_less x y h = false_from_ne_true (ltb x y) (λ t. let l : x < y = ltb-true x y t in absurd (omega arith))
-
 pub compared : (xs ys : List ℕ) → length xs ≡ length ys → Compared xs ys (slice_cmp nat_cmp xs ys)
 compared [] [] long = refl
 compared [] (y ∷ ys) long = absurd (omega arith)
@@ -95,7 +92,8 @@ compared (x ∷ xs) [] long = absurd (omega arith)
 compared (x ∷ xs) (y ∷ ys) long = elim (cases_lt x y) [
   | inl less ↦ subst (λ (b : Bool). Compared (x ∷ xs) (y ∷ ys) (ordering_then (cond b Less (cond (eqb x y) Equal Greater)) (slice_cmp nat_cmp xs ys))) (sym (lt-ltb x y less)) (less_head x y xs ys less)
   | inr more ↦
-      subst (λ (b : Bool). Compared (x ∷ xs) (y ∷ ys) (ordering_then (cond b Less (cond (eqb x y) Equal Greater)) (slice_cmp nat_cmp xs ys))) (sym (not_less x y more))
+      subst (λ (b : Bool). Compared (x ∷ xs) (y ∷ ys) (ordering_then (cond b Less (cond (eqb x y) Equal Greater)) (slice_cmp nat_cmp xs ys)))
+      (sym (le-ltb x y more))
       (elim (cases_eq x y) [
         | inr other ↦ subst (λ (b : Bool). Compared (x ∷ xs) (y ∷ ys) (ordering_then (cond b Equal Greater) (slice_cmp nat_cmp xs ys))) (sym (ne_eqb x y other)) (less_head y x ys xs (omega arith))
         | inl same ↦ subst (λ (b : Bool). Compared (x ∷ xs) (y ∷ ys) (ordering_then (cond b Equal Greater) (slice_cmp nat_cmp xs ys))) (sym (eq-eqb x y same))

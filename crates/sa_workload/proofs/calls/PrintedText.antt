@@ -9,12 +9,8 @@ use Rattle.sa_instr.specs.declared.instr.Instr.{Instr}
 use Rattle.sa_spaces.specs.Space.{SpaceView}
 use Rattle.sa_spaces.specs.Workload.{WorkloadView}
 use Rattle.sa_spaces.specs.declared.workload.Evict.{Evict}
+use Rattle.sa_lemmas.proofs.Texts.{join-spaced}
 use Rattle.sa_workload.specs.Text.{instr_line, program_lines, space_line, space_lines, sem_line, absent_line, evict_line, turn_line, version_of, slice_lines, machine_lines, closing_lines, workload_lines, line_text, text_of}
-
--- words with a space between each two are the first, and each other behind a space
-pub join-spaced : (word : List ℕ) (words : List (List ℕ)) → join_with_byte 32 (word ∷ words) ≡ word ++ flat_map (λ w. 32 ∷ w) words
-join-spaced word [] = sym (append-nil word)
-join-spaced word (w ∷ ws) = ap (λ rest. word ++ 32 ∷ rest) (join-spaced w ws)
 
 -- the texts of lines that are made of lists, one after another
 pub flat_map-flat_map : {A B C : Type 0} (f : B → List C) (g : A → List B) (xs : List A)

@@ -1,13 +1,16 @@
 -- What the words of a line are read as, and back: a field has one spelling.
-use Rattle.std.proofs.Common.{◌≡◌, ℕ, zero, suc, ◌+◌, ◌^◌, ◌<◌, ◌≤◌, ◌&&◌, ◌⊎◌, Bool, true, false, cond, List, [], ◌∷◌, ◌++◌, length, get_or, Contains, Option, Some, None, Result, Ok, Err, codes, decimal, refl, sym, ap, ap₂, ◌∙◌, subst, inl, inr, arith, nat_le}
+use Rattle.std.proofs.Common.{◌≡◌, ℕ, zero, suc, ◌+◌, ◌^◌, ◌<◌, ◌≤◌, ◌&&◌, ◌⊎◌, Bool, true, false, cond, List, [], ◌∷◌, ◌++◌, length, get_or, Contains, Option, Some, None, Result, Ok, Err, codes, decimal, refl, sym, ap, ap₂, ◌∙◌, subst, inl, inr, arith, nat_le, nat_lt}
 use Rattle.std.specs.Option.{is_some, option_map}
 use Rattle.std.specs.Str.{bytes_eq}
-use Rattle.std.proofs.lemmas.Bool.{false≢true, ltb-true, leb-true, le-leb, lt-ltb}
+use Rattle.std.proofs.lemmas.Bool.{false≢true, ltb-true, leb-true, le-leb, lt-ltb, and_parts}
+use Rattle.std.specs.Str.Parse.{digits_value}
 use Rattle.std.proofs.lemmas.Fmt.{decimal_digit}
 use Rattle.std.proofs.lemmas.List.{append-nil}
 use Rattle.std.proofs.lemmas.Slice.Eq.{bytes_eq-Decides}
+use Rattle.std.proofs.lemmas.Option.{cond_some}
 use Rattle.sa_text.specs.Number.{number_of}
 use Rattle.sa_text.proofs.NumberOf.{reads_number, number_of-some}
+use Rattle.sa_lemmas.proofs.Booleans.{if_either}
 use Rattle.sa_workload.specs.Bad.{Field, Register, Number, within, declared, registers}
 use Rattle.sa_workload.specs.Fields.{and_then, unless, or_cause, index_of, read_field, fields_at, at_end, order_cause, line_numbers}
 
@@ -34,14 +37,6 @@ unless-ok (Some cause) r a h = absurd cc
 or_cause-ok : {A : Type 0} (o : Option A) (cause : ℕ) (a : A) → or_cause o cause ≡ Ok a → o ≡ Some a
 or_cause-ok None cause a h = absurd cc
 or_cause-ok (Some b) cause a h = ap Some (same_ok b a h)
-
-pub if_either : {A : Type 0} (b : Bool) (x y z : A) → cond b x y ≡ z → ((b ≡ true) × (x ≡ z)) ⊎ ((b ≡ false) × (y ≡ z))
-if_either true x y z h = inl (refl, h)
-if_either false x y z h = inr (refl, h)
-
-pub both_true : (a b : Bool) → (a && b) ≡ true → (a ≡ true) × (b ≡ true)
-both_true true b h = (refl, h)
-both_true false b h = absurd (false≢true h)
 
 -- the place of a word
 pub index_of-some : (word : List ℕ) (ks : List (List ℕ)) (n : ℕ) → index_of word ks ≡ Some n → (n < length ks) × (get_or ks n word ≡ word)
@@ -113,7 +108,7 @@ pub passes-declared : (count n : ℕ) → n < count → count < 2 ^ 64 → Passe
 passes-declared count n h small = (omega arith, lt-ltb n count h)
 
 pub within-passes : (low high n : ℕ) → Passes (within low high) n → (low ≤ n) × (n ≤ high)
-within-passes low high n p = let b = both_true (nat_le low n) (nat_le n high) p.1 in (leb-true low n b.0, leb-true n high b.1)
+within-passes low high n p = let b = and_parts (nat_le low n) (nat_le n high) p.1 in (leb-true low n b.0, leb-true n high b.1)
 
 pub declared-passes : (count n : ℕ) → Passes (declared count) n → n < count
 declared-passes count n p = ltb-true n count p.1

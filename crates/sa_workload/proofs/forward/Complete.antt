@@ -3,7 +3,7 @@ use Rattle.std.proofs.Common.{◌≡◌, ◌≢◌, ℕ, ◌+◌, ◌-◌, ◌<�
 use Rattle.std.specs.Option.{is_some, option_map}
 use Rattle.std.specs.List.{flat_map, list_all}
 use Rattle.std.proofs.Math.Seq.{get_or-append_seam}
-use Rattle.std.proofs.lemmas.Bool.{lt-leb, cond-true, cond-false, false≢true, eqb-false}
+use Rattle.std.proofs.lemmas.Bool.{lt-leb, cond-true, cond-false, false≢true, eqb-false, and_parts}
 use Rattle.std.proofs.lemmas.List.{get_or_append_left}
 use Rattle.std.proofs.lemmas.List.Elements.{All-push}
 use Rattle.std.proofs.lemmas.List.{nil_from_length}
@@ -26,7 +26,7 @@ use Rattle.sa_workload.specs.Fields.{and_then, order_cause, line_numbers, index_
 use Rattle.sa_workload.specs.Position.{Machine, Draft, Position, AtVersion, AtSlice, AtSpaces, AtSpace, AtAbsent, AtInstr, AtEvict, AtTurn, Closed}
 use Rattle.sa_workload.specs.Steps.{expected, after_sem, after_spaces, after_program, after_instr, with_program}
 use Rattle.sa_workload.specs.Next.{draft_numbers, fields_of, is_full, last_numbers, last_of, evict_numbers, is_end, is_last_impatient, step, step_instr, next}
-use Rattle.sa_workload.proofs.fields.FieldLemmas.{line-spelled, spelled_all, AllPass, passes-within, passes-declared, both_true}
+use Rattle.sa_workload.proofs.fields.FieldLemmas.{line-spelled, spelled_all, AllPass, passes-within, passes-declared}
 use Rattle.sa_workload.proofs.fields.InstrLemmas.{AreSmall, IsAllowed, instr-back, numbers_of_instr, operation-expected}
 use Rattle.sa_workload.proofs.forward.Fronts.{last_is, slice_get_at, all_true, true_all}
 use Rattle.sa_workload.proofs.forward.Orders.{none-order, before_evict, less_head}
@@ -349,7 +349,7 @@ module _ (versions : ℕ) (w : WorkloadView) (h : IsWorkload w) where
     where
       own : (done : List SpaceView) (s : SpaceView) → Among w.spaces done s → version_of w ≡ 3 → is_last_impatient (machine_in w) done ≡ true → s.patience ≢ 1
       own done s at v need one =
-          let b = both_true (leb (length w.spaces) (length done + 1)) (list_all (λ (t : SpaceView). eqb t.patience 1) done) need in
+          let b = and_parts (leb (length w.spaces) (length done + 1)) (list_all (λ (t : SpaceView). eqb t.patience 1) done) need in
           let few : length w.spaces ≤ length done + 1 = leb-true (length w.spaces) (length done + 1) b.0 in
           let last : at.rest ≡ [] = nil_from_length at.rest (omega (arith, ap length at.is, length-append done (s ∷ at.rest))) in
           let all : All (λ (t : SpaceView). t.patience ≡ 1) (done ++ s ∷ []) = All-push (λ (t : SpaceView). t.patience ≡ 1) done s (true_all (λ (t : SpaceView). t.patience) 1 done b.1) one in

@@ -1,18 +1,13 @@
 -- The order of lines of one word.
 use Rattle.std.proofs.Common.{◌≡◌, ℕ, ◌<◌, ◌⊎◌, ◌&&◌, ◌||◌, Bool, true, false, cond, List, [], ◌∷◌, length, Option, Some, None, refl, sym, ap, ap₂, ◌∙◌, inl, inr, arith, ltb, eqb, lt-ltb, eq-eqb, ltb-true, eqb-true, subst}
 use Rattle.std.specs.Str.{bytes_eq}
-use Rattle.std.proofs.lemmas.Bool.{false≢true, false_from_ne_true, cases_lt, cases_eq}
+use Rattle.std.proofs.lemmas.Bool.{false≢true, false_from_ne_true, cases_lt, cases_eq, and_parts, or_cases}
 use Rattle.std.proofs.lemmas.Slice.Eq.{bytes_eq-Decides}
 use Rattle.sa_spaces.specs.declared.workload.Evict.{Evict}
 use Rattle.sa_spaces.specs.Workload.{IsBefore}
 use Rattle.sa_workload.specs.Bad.{list_lt}
 use Rattle.sa_workload.specs.Fields.{order_cause}
 use Rattle.sa_workload.specs.Next.{evict_numbers}
-use Rattle.sa_workload.proofs.fields.FieldLemmas.{both_true}
-
-or_cases : (a b : Bool) → (a || b) ≡ true → (a ≡ true) ⊎ (b ≡ true)
-or_cases true b h = inl refl
-or_cases false b h = inr h
 
 -- what one list before another says of their heads
 pub before_heads : (x y : ℕ) (xs ys : List ℕ) → list_lt (x ∷ xs) (y ∷ ys) ≡ true → (x < y) ⊎ ((x ≡ y) × (list_lt xs ys ≡ true))
@@ -20,7 +15,7 @@ before_heads x y xs ys h = pick (or_cases (ltb x y) (eqb x y && list_lt xs ys) h
   where
     pick : (ltb x y ≡ true) ⊎ ((eqb x y && list_lt xs ys) ≡ true) → (x < y) ⊎ ((x ≡ y) × (list_lt xs ys ≡ true))
     pick (inl a) = inl (ltb-true x y a)
-    pick (inr b) = let c = both_true (eqb x y) (list_lt xs ys) b in inr (eqb-true x y c.0, c.1)
+    pick (inr b) = let c = and_parts (eqb x y) (list_lt xs ys) b in inr (eqb-true x y c.0, c.1)
 
 pub list_lt-asym : (xs ys : List ℕ) → list_lt xs ys ≡ true → list_lt ys xs ≡ true → ⊥
 list_lt-asym [] [] h k = absurd (cc h)

@@ -1,5 +1,5 @@
 -- A line that leads on from a reached position is a step to a reached position.
-use Rattle.std.proofs.Common.{◌≡◌, ℕ, ◌+◌, ◌-◌, ◌<◌, ◌≤◌, ◌==◌, leb, leb-false, Result, ◌&&◌, not, Bool, true, false, List, [], ◌∷◌, ◌++◌, length, get_or, slice_index, Option, Some, None, Ok, Err, codes, decimal, refl, sym, ap, ap₂, ◌∙◌, subst, inl, inr, arith, le-leb, eq-eqb, ne_eqb, eqb-true, ◌≢◌, if◌then◌else◌}
+use Rattle.std.proofs.Common.{◌≡◌, ℕ, ◌+◌, ◌-◌, ◌<◌, ◌≤◌, ◌==◌, leb-false, Result, ◌&&◌, not, Bool, true, false, List, [], ◌∷◌, ◌++◌, length, get_or, slice_index, Option, Some, None, Ok, Err, codes, decimal, refl, sym, ap, ap₂, ◌∙◌, subst, inl, inr, arith, le-leb, eq-eqb, ne_eqb, eqb-true, ◌≢◌, if◌then◌else◌}
 use Rattle.std.specs.Option.{is_some, option_map}
 use Rattle.std.specs.List.{AllByRecursion}
 use Rattle.std.proofs.lemmas.Bool.{cond_both, false≢true, eqb-false}
@@ -12,13 +12,14 @@ use Rattle.sa_instr.specs.declared.instr.Instr.TheVariants.{End}
 use Rattle.sa_spaces.specs.declared.workload.Evict.{Evict}
 use Rattle.sa_spaces.specs.Space.{SpaceView}
 use Rattle.sa_spaces.specs.Workload.{IsEviction, IsBefore}
+use Rattle.sa_lemmas.proofs.Booleans.{if_either}
 use Rattle.sa_workload.specs.Text.{instr_line}
 use Rattle.sa_workload.specs.Bad.{Field, within, declared, list_lt, instr_words}
 use Rattle.sa_workload.specs.Fields.{order_cause, line_numbers, index_of}
 use Rattle.sa_workload.specs.Position.{Machine, Draft, Position, AtVersion, AtProcessors, AtFetch, AtSlice, AtSpaces, AtSpace, AtSem, AtAbsent, AtProgram, AtInstr, AtEvict, AtTurn, Closed, IsReached}
 use Rattle.sa_workload.specs.Steps.{Steps, with_sem, expected, step_version, step_processors, step_fetch, step_slice, step_spaces, step_space, step_sem, step_absent, step_first_program, step_program, step_instr as step_by_instr, step_evict, step_first_turn, step_turn, step_first_close, step_close, after_sem, after_instr}
 use Rattle.sa_workload.specs.Next.{numbers_at, fields_of, is_full, last_numbers, last_of, evict_numbers, draft_from, evict_from, turn_from, is_end, step, step_instr, next_by, is_last_impatient}
-use Rattle.sa_workload.proofs.fields.FieldLemmas.{if_either, and_then-ok, contained, line-ok, Passes, spelled_all, AllPass, within-passes, declared-passes}
+use Rattle.sa_workload.proofs.fields.FieldLemmas.{and_then-ok, contained, line-ok, Passes, spelled_all, AllPass, within-passes, declared-passes}
 use Rattle.sa_workload.proofs.fields.InstrLemmas.{instr-read}
 use Rattle.sa_workload.proofs.forward.Fronts.{last_is, all_true}
 use Rattle.sa_workload.proofs.forward.Orders.{before_heads, order-none, evict_before}
@@ -152,9 +153,6 @@ instr_goes versions m spaces d len instrs word r known ns pass room order =
           (λ last. end_of i.instr (not_both (length instrs + 1 == len) (is_end i.instr) fine (eq-eqb (length instrs + 1) len last)));
     })))
 
-not_full : (limit n : ℕ) → leb limit n ≡ false → n < limit
-not_full limit n h = omega (arith, leb-false limit n h)
-
 above_last : (pages : List ℕ) (k : ℕ) → order_cause (option_map (λ page. page ∷ []) (last_of pages)) (k ∷ []) ≡ None → 0 < length pages → slice_index pages (length pages - 1) < k
 above_last pages k o some =
     let less : list_lt (get_or pages (length pages - 1) 0 ∷ []) (k ∷ []) ≡ true =
@@ -176,7 +174,7 @@ evict_goes versions m spaces es r =
         r.1,
         r.2,
         record {
-          few = omega (arith, length_push es this, not_full MAX_EVICTIONS (length es) room);
+          few = omega (arith, length_push es this, leb-false MAX_EVICTIONS (length es) room);
           each = All-push (IsEviction m.count) es this r.3.each (record { first = event.0; last = event.1; space = declared-passes m.count b hb; page = page.1 });
           rise = λ k d. rise-push IsBefore es this d (λ j. r.3.rise j d) (λ some. evict_before (get_or es (length es - 1) d) this
               (order-none (evict_numbers (get_or es (length es - 1) d)) (a ∷ b ∷ c ∷ []) refl
@@ -264,7 +262,14 @@ lands versions three (AtEvict m spaces es) word r = among versions (AtEvict m sp
 lands versions three (AtTurn m spaces es ts) word r = among versions (AtTurn m spaces es ts) word (
   between _ 0 (m.processors - 1) (λ n a room order. record {
     step = step_turn m spaces es ts (turn_from (n ∷ []));
-    reached = (r.0, r.1, r.2, r.3, more_turns m ts (turn_from (n ∷ [])) r.4 (omega (arith, a.1, r.0.processors.0)) (not_full MAX_TURNS (length ts) room), omega (arith, length_push ts (turn_from (n ∷ []))));
+    reached = (
+      r.0,
+      r.1,
+      r.2,
+      r.3,
+      more_turns m ts (turn_from (n ∷ [])) r.4 (omega (arith, a.1, r.0.processors.0)) (leb-false MAX_TURNS (length ts) room),
+      omega (arith, length_push ts (turn_from (n ∷ []))),
+    );
   }),
   (none _ (λ room order. record { step = step_close m spaces es ts; reached = reached-closed versions m spaces es ts r.0 r.1 r.2 r.3 r.4 }), tt),
 )

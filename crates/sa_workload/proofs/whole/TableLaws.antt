@@ -6,7 +6,7 @@ use Rattle.std.specs.Result.{is_ok}
 use Rattle.std.specs.Option.{is_some}
 use Rattle.std.specs.Str.{bytes_eq}
 use Rattle.std.specs.Str.Parse.{digits_value}
-use Rattle.std.proofs.lemmas.Bool.{false_from_ne_true, false≢true, eqb-true}
+use Rattle.std.proofs.lemmas.Bool.{false_from_ne_true, false≢true, eqb-true, and_parts}
 use Rattle.std.proofs.lemmas.Slice.Eq.{bytes_eq-Decides}
 use Rattle.std.proofs.lemmas.List.{length-map}
 use Rattle.std.proofs.lemmas.List.Elements.{All-map}
@@ -18,7 +18,7 @@ use Rattle.sa_workload.specs.Fields.{and_then, index_of, order_cause, read_field
 use Rattle.sa_workload.specs.Position.{Position, AtVersion, AtInstr, Closed, shown, shown_spaces, shown_draft}
 use Rattle.sa_workload.specs.Steps.{expected}
 use Rattle.sa_workload.specs.Next.{numbers_at, is_full, last_numbers, fields_of, next}
-use Rattle.sa_workload.proofs.fields.FieldLemmas.{same_ok, both_true, and_then-ok, and_then-err, contained, spelled_all, AllPass, read-ok, behind, fields-ok, fields-spelled, all_long}
+use Rattle.sa_workload.proofs.fields.FieldLemmas.{same_ok, and_then-ok, and_then-err, contained, spelled_all, AllPass, read-ok, behind, fields-ok, fields-spelled, all_long}
 use Rattle.sa_workload.proofs.fields.InstrLemmas.{operation-expected}
 use Rattle.sa_workload.proofs.causes.Causes.{is_stuck, Leads, step-leads}
 use Rattle.sa_workload.proofs.forward.Completion.{begins_front}
@@ -193,7 +193,7 @@ IsStuckLine lines word = IsLastPlace lines × Contains instr_words word × (word
 
 stuck_line : (p : Position) (word : List ℕ) → is_some (index_of word (expected p)) ≡ true → is_stuck p word ≡ true → IsStuckLine (shown p) word
 stuck_line (AtInstr m spaces d len instrs) word known h =
-    let b = both_true (length instrs + 1 == len) (not (bytes_eq word (codes "end"))) h in (
+    let b = and_parts (length instrs + 1 == len) (not (bytes_eq word (codes "end"))) h in (
       record {
         front = shown_spaces m spaces ++ shown_draft m.version d;
         len = len;
@@ -237,7 +237,7 @@ stuck_at versions s p a word words right few are order long none =
         → IfSome (if b then Some old else None) (λ last. IsTrue (list_lt last (numbers_of (length fields) (word ∷ words)))) → order_cause (if b then Some old else None) ns ≡ None
     ordered false t ns pass new o = refl
     ordered true t ns pass new o =
-        let are : AreNumbers fields = ordered-numbers versions (numbers_at p) word (both_true (is_some (index_of word ordered_words)) _ t).0 in
+        let are : AreNumbers fields = ordered-numbers versions (numbers_at p) word (and_parts (is_some (index_of word ordered_words)) _ t).0 in
         none-order old ns (ap (list_lt old) (sym (new ∙ numbers_of-spelled fields ns [] are pass)) ∙ o)
 
     by : {r : Result Position ℕ} (b : Bool) → Leads b r → (b ≡ true → IsStuckLine (shown p) word) → ((q : Position) → r ≡ Ok q → ⊥) → IsStuckLine (shown p) word

@@ -12,6 +12,7 @@ use Rattle.sa_text.specs.Pieces.{pieces_of, LacksSpace}
 use Rattle.sa_text.proofs.LineLemmas.{line_texts-printed, line_texts-joined}
 use Rattle.sa_text.proofs.PieceLemmas.{pieces_of-spaced}
 use Rattle.sa_text.proofs.Spelling.{decimal-is_spelling}
+use Rattle.sa_lemmas.proofs.Texts.{join-spaced}
 use Rattle.sa_workload.specs.Text.{workload_lines, line_text, text_of}
 use Rattle.sa_workload.specs.Bad.{IsPrinted, words_of, Field, Register, Number}
 use Rattle.sa_workload.specs.Fields.{index_of}
@@ -22,7 +23,6 @@ use Rattle.sa_workload.proofs.fields.FieldLemmas.{and_then-ok, contained, spelle
 use Rattle.sa_workload.proofs.forward.Sound.{took}
 use Rattle.sa_workload.proofs.forward.Complete.{run, complete}
 use Rattle.sa_workload.proofs.forward.Standing.{version_of-le}
-use Rattle.sa_workload.proofs.calls.PrintedText.{join-spaced}
 
 -- each byte is printed and no space
 abbrev pub IsVisible : List ℕ → Type 0

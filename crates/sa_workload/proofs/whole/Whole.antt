@@ -21,8 +21,9 @@ use Rattle.sa_workload.specs.Bad.{IsUpTo, Begins, IsPrinted, LineCause, WordCaus
 use Rattle.sa_workload.specs.Position.{Position, AtVersion, Closed, IsReached, shown}
 use Rattle.sa_workload.specs.Next.{next}
 use Rattle.sa_text.specs.Pieces.{is_printed}
+use Rattle.sa_lemmas.proofs.Booleans.{if_either}
 use Rattle.sa_workload.specs.Reading.{line_in, finished, goes_on, read_from, read_of, IsReading}
-use Rattle.sa_workload.proofs.fields.FieldLemmas.{same_err, if_either}
+use Rattle.sa_workload.proofs.fields.FieldLemmas.{same_err}
 use Rattle.sa_workload.proofs.forward.Standing.{IsAt, Setting, any, alone, of_any, of_first, is_first, at_first, at_next, begins, whole_lines}
 use Rattle.sa_workload.proofs.forward.Fronts.{slice_get_at}
 use Rattle.sa_workload.proofs.forward.Sound.{took, sound}

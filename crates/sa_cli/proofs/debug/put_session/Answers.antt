@@ -1,7 +1,8 @@
 use Rattle.std.proofs.Common.{ℕ, List, ◌++◌, subst}
 use Rattle.sa_io.specs.Faults.{AppendsPrefix}
 use Rattle.sa_io.specs.Pieces.{GoesOut}
-use Rattle.sa_io.proofs.PieceLemmas.{on_err, out-both}
+use Rattle.sa_io.proofs.PieceLemmas.{out-both}
+use Rattle.sa_lemmas.proofs.Results.{on_err}
 use Rattle.sa_trace.specs.TraceText.{trace_text}
 use Rattle.sa_cli.proofs.Sessions.{first-cut, second-cut}
 use Rattle.sa_cli.proofs.TracePieces.{all-ends}

@@ -1,5 +1,6 @@
 use Rattle.std.proofs.Common.{rules, ◌∙◌, [], refl}
-use Rattle.sa_io.proofs.PieceLemmas.{on_err, out-none}
+use Rattle.sa_io.proofs.PieceLemmas.{out-none}
+use Rattle.sa_lemmas.proofs.Results.{on_err}
 use Rattle.sa_cli.proofs.TracePieces.{lines-out, lines-stopped, lines-all}
 use Rattle.sa_cli.proofs.output.put_lines.Goals as goal
 

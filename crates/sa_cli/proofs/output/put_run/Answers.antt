@@ -1,5 +1,5 @@
 use Rattle.std.proofs.Common.{◌∙◌}
-use Rattle.sa_io.proofs.PieceLemmas.{on_err}
+use Rattle.sa_lemmas.proofs.Results.{on_err}
 use Rattle.sa_cli.proofs.TracePieces.{run-ends, lines-cut}
 use Rattle.sa_cli.proofs.output.put_run.Goals as goal
 

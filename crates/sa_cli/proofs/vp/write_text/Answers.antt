@@ -1,7 +1,7 @@
 use Rattle.std.proofs.Common.{rules, ◌≡◌, [], ◌++◌}
 use Rattle.sa_io.specs.Faults.{AppendsPrefix}
 use Rattle.sa_io.specs.Pieces.{GoesOut}
-use Rattle.sa_io.proofs.PieceLemmas.{on_err}
+use Rattle.sa_lemmas.proofs.Results.{on_err}
 use Rattle.sa_trace.specs.TraceText.{trace_text}
 use Rattle.sa_trace.specs.Losses.{losses_text}
 use Rattle.sa_cli.proofs.TracePieces.{all-ends}

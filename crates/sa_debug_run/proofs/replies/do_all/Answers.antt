@@ -1,10 +1,10 @@
 use Rattle.std.proofs.Common.{◌≡◌, ◌∙◌, get_or, refl, sym, subst}
 use Rattle.sa_spaces.specs.Workload.{WorkloadView}
+use Rattle.sa_lemmas.proofs.Results.{on_err}
 use Rattle.sa_script.specs.declared.command.DebugCommand.{DebugCommand}
 use Rattle.sa_script.specs.declared.command.DebugCommand.TheVariants.{Break}
 use Rattle.sa_script.specs.Text.{Fits}
 use Rattle.sa_debug.specs.OverMachines.{session}
-use Rattle.sa_debug.proofs.Keeping.{for_err}
 use Rattle.sa_debug_run.proofs.Doing.{done-more, came-at, came-behind}
 use Rattle.sa_debug_run.proofs.replies.do_all.Goals as goal
 
@@ -26,14 +26,14 @@ loop-command-preserved c = record {
 
 pub returns-in_err-reply-clause-err : goal.returns-in_err-reply-clause-err
 returns-in_err-reply-clause-err c =
-    for_err c.from_residual.result
+    on_err c.from_residual.result
     (came-at c.args.debugged.now.core.budget c.loop-command.debugged.core.budget c.args.commands.now c.loop-command.command-index _
     (session c.args.debugged.now) (session c.loop-command.debugged) (session c.command.new.self) c.loop-command.text.items
     c.loop-command.invariant.budget c.loop-command-test.true c.loop-command.invariant.done c.in_err-reply.ensures.err)
 
 pub returns-in_err-print_reply-clause-err : goal.returns-in_err-print_reply-clause-err
 returns-in_err-print_reply-clause-err c =
-    for_err c.from_residual-in_err-print_reply.result
+    on_err c.from_residual-in_err-print_reply.result
     (came-behind c.args.debugged.now.core.budget c.args.commands.now _ (session c.args.debugged.now) (session c.command.new.self) _
     (done-more c.args.debugged.now.core.budget c.loop-command.debugged.core.budget c.args.commands.now c.loop-command.command-index _
     (session c.args.debugged.now) (session c.loop-command.debugged) (session c.command.new.self) c.loop-command.text.items _ c.in_ok-reply.reply

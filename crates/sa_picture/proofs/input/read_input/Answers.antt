@@ -1,5 +1,6 @@
 use Rattle.std.proofs.Common.{rules}
-use Rattle.sa_picture.proofs.Told.{end-of-input, lost-more}
+use Rattle.sa_io.proofs.PieceLemmas.{lost-more}
+use Rattle.sa_picture.proofs.Told.{end-of-input}
 use Rattle.sa_picture.proofs.input.read_input.Goals as goal
 
 pub returns-then-count-eq0-clause-input : goal.returns-then-count-eq0-clause-input

@@ -1,5 +1,6 @@
 use Rattle.std.proofs.Common.{rules, ◌++◌}
-use Rattle.sa_picture.proofs.Told.{piece-taken, piece-cut, on_err}
+use Rattle.sa_lemmas.proofs.Results.{on_err}
+use Rattle.sa_picture.proofs.Told.{piece-taken, piece-cut}
 use Rattle.sa_picture.proofs.output.write_text.Goals as goal
 
 pub returns-in_err-write-clause-err : goal.returns-in_err-write-clause-err

@@ -1,17 +1,17 @@
 use Rattle.std.proofs.Common.{arith, Some}
-use Rattle.sa_check_lives.proofs.MapLemmas.{on-ok, on-err}
+use Rattle.std.proofs.lemmas.Result.{on_ok_weaker, on_err_weaker}
 use Rattle.sa_check_lives.proofs.ShelfLemmas.{shelf-put, shelf-kept}
 use Rattle.sa_check_lives.proofs.shelves.Shelves.insert.Goals as goal
 
 pub returns-clause-ok : goal.returns-clause-ok
-returns-clause-ok c = on-ok c.insert.result
+returns-clause-ok c = on_ok_weaker c.insert.result
     (shelf-put c.self.inside.shelves.items c.args.self.now c.self.view_is c.shelf_of.result c.index_mut.result.now c.insert.new.self
     (omega (arith, c.shelf_of.ensures.within, c.self.invariant)) c.index_mut.ensures.value
     c.args.a.0 (λ _. Some c.args.life) c.shelf_of.ensures.shelf)
     c.insert.ensures.ok
 
 pub returns-clause-err : goal.returns-clause-err
-returns-clause-err c = on-err c.insert.result
+returns-clause-err c = on_err_weaker c.insert.result
     (shelf-kept c.self.inside.shelves.items c.args.self.now c.self.view_is c.shelf_of.result c.index_mut.result.now c.insert.new.self
     (omega (arith, c.shelf_of.ensures.within, c.self.invariant)) c.index_mut.ensures.value)
     c.insert.ensures.err

@@ -1,19 +1,19 @@
 use Rattle.std.proofs.Common.{arith}
 use Rattle.std.specs.Option.{option_map}
+use Rattle.std.proofs.lemmas.Result.{on_ok_weaker, on_err_weaker}
 use Rattle.sa_check_life.specs.Change.{changed_by}
-use Rattle.sa_check_lives.proofs.MapLemmas.{on-ok, on-err}
 use Rattle.sa_check_lives.proofs.ShelfLemmas.{shelf-put, shelf-kept}
 use Rattle.sa_check_lives.proofs.shelves.Shelves.write.Goals as goal
 
 pub returns-clause-ok : goal.returns-clause-ok
-returns-clause-ok c = on-ok c.write.result
+returns-clause-ok c = on_ok_weaker c.write.result
     (shelf-put c.self.inside.shelves.items c.args.self.now c.self.view_is c.shelf_of.result c.index_mut.result.now c.write.new.self
     (omega (arith, c.shelf_of.ensures.within, c.self.invariant)) c.index_mut.ensures.value
     c.args.a.0 (option_map (changed_by c.args.change.now)) c.shelf_of.ensures.shelf)
     c.write.ensures.ok
 
 pub returns-clause-err : goal.returns-clause-err
-returns-clause-err c = on-err c.write.result
+returns-clause-err c = on_err_weaker c.write.result
     (shelf-kept c.self.inside.shelves.items c.args.self.now c.self.view_is c.shelf_of.result c.index_mut.result.now c.write.new.self
     (omega (arith, c.shelf_of.ensures.within, c.self.invariant)) c.index_mut.ensures.value)
     c.write.ensures.err

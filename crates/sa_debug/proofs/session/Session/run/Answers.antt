@@ -1,9 +1,9 @@
 use Rattle.std.proofs.Common.{◌≡◌, ◌-◌, ◌⊎◌, refl, ap, ◌∙◌, subst, arith}
+use Rattle.sa_lemmas.proofs.Results.{on_err}
 use Rattle.sa_core.specs.View.{CoreView, machine}
 use Rattle.sa_debug.specs.Session.{IsNext, SaysEnded, Stops, Turns, RunsTo, RunsSoFar}
 use Rattle.sa_debug.specs.OverMachines.{over_machines, session}
 use Rattle.sa_debug.proofs.Running.{runs-on, comes-on, runs-no_more, comes-no_more, runs-over}
-use Rattle.sa_debug.proofs.Keeping.{for_err}
 use Rattle.sa_debug.proofs.session.Session.run.Goals as goal
 
 pub loop-turn-init : goal.loop-turn-init
@@ -36,7 +36,7 @@ returns-in-Err-clause-workload g c =
 
 pub returns-in_err-turn-in-Ok-clause-err : goal.returns-in_err-turn-in-Ok-clause-err
 returns-in_err-turn-in-Ok-clause-err g c =
-    for_err c.from_residual.result (c.loop-turn.invariant.so_far (session c.turn.new.self)
+    on_err c.from_residual.result (c.loop-turn.invariant.so_far (session c.turn.new.self)
     (comes-no_more (over_machines g.U.UserLevel.calls c.args.self.now.core.budget) c.args.turns c.loop-turn._turn (session c.loop-turn.self) (session c.turn.new.self)
     c.loop-turn-test.true (c.in_err-turn-in-Ok.ensures.err ∙ c.in-Ok.ensures.next.1)))
 

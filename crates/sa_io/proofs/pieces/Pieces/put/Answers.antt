@@ -1,7 +1,8 @@
 use Rattle.std.proofs.Common.{rules, ◌≡◌, ◌++◌, [], ap, sym, ◌∙◌, append_assoc}
 use Rattle.std.proofs.KnownBytes.{Appends-trans}
-use Rattle.sa_io.proofs.PieceLemmas.{prefix-behind, on_err, filled-up}
+use Rattle.sa_io.proofs.PieceLemmas.{prefix-behind, filled-up}
 use Rattle.sa_io.proofs.pieces.Pieces.put.Goals as goal
+use Rattle.sa_lemmas.proofs.Results.{on_err}
 
 pub returns-in_err-write-clause-err : goal.returns-in_err-write-clause-err
 returns-in_err-write-clause-err g c =

@@ -1,0 +1,13 @@
+-- What a list contains: its first item, the items after it, and in a list of one item that one alone.
+use Rattle.std.proofs.Common.{◌≡◌, zero, suc, List, [], ◌∷◌, refl, arith}
+use Rattle.std.specs.Prelude.{Contains}
+
+pub contains-head : {A : Type 0} (a : A) (list : List A) → Contains (a ∷ list) a
+contains-head a list = (0, omega arith, refl)
+
+pub contains-tail : {A : Type 0} (a : A) (list : List A) (b : A) → Contains list b → Contains (a ∷ list) b
+contains-tail a list b has = (suc has.0, (let h = has.1 in omega arith), has.2)
+
+pub contains-single : {A : Type 0} (a b : A) → Contains (a ∷ []) b → a ≡ b
+contains-single a b (zero, within, is) = is
+contains-single a b (suc i, within, is) = absurd (omega arith)
