@@ -180,7 +180,7 @@ module _ {C : Type 0} where
   set-other (y ∷ ys) (suc i) zero v apart = refl
   set-other (y ∷ ys) (suc i) (suc j) v apart = set-other ys i j v (λ e. apart (ap suc e))
 
-  -- a value put in where one stood is such a change
+  -- a value put in where one was is such a change
   pub updates-with_value : (old : Slab (Act C)) (key : ℕ) (x y : Act C) → get old key ≡ Some x
       → Updates old (with_value old key y) key (Some y)
   updates-with_value old key x y is = record {
@@ -285,7 +285,7 @@ module _ {C : Type 0} where
     | inr past ↦ subst (λ (qs : List QueueView). HasRoom old qs spare) (sym (set_past queues s _ past)) room
   ]
 
-  -- .. and that number is no longer used
+  -- a number that is given back is no longer used
   pub room-gave : (old new : Slab (Act C)) (queues : List QueueView) (spare key s : ℕ) (a : ActNo) → HasRoom old queues spare
       → Updates old new key None → new.capacity ≡ old.capacity → slice_get (queue_at queues s).numbers 0 ≡ Some a
       → HasRoom new (shorter queues s) spare
@@ -335,7 +335,7 @@ module _ {C : Type 0} where
     kept = room.kept;
   }
 
-  -- there is room for so many more
+  -- there is room for n more
   pub room-respared : (old : Slab (Act C)) (queues : List QueueView) (spare n : ℕ) → HasRoom old queues spare
       → HasRoomFor old n → HaveRoom (slab_len old + n) queues → HasRoom old queues n
   room-respared old queues spare n room slots rooms = record {

@@ -11,7 +11,7 @@ pub record QueueView : Type 0 where
 abbrev pub queue_at : List QueueView → ℕ → QueueView
 queue_at queues s = slice_index_or queues s (record { numbers = []; room = 0 })
 
--- how many stand in a queue
+-- how many numbers are in a queue
 abbrev pub queued : QueueView → ℕ
 queued q = length q.numbers
 
@@ -19,7 +19,7 @@ queued q = length q.numbers
 abbrev pub all_numbers : List QueueView → List (List ActNo)
 all_numbers queues = map (λ (q : QueueView). q.numbers) queues
 
--- each queue has room for so many numbers in all
+-- each queue has room for n numbers in all
 abbrev pub HaveRoom : ℕ → List QueueView → Type 0
 HaveRoom n queues = All (λ (q : QueueView). n ≤ q.room) queues
 

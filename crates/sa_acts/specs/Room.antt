@@ -16,7 +16,7 @@ module _ {C : Type 0} where
     pub space : x.space.0 < MAX_SPACES
     pub held : IsSome x.held → x.taken ≡ false
 
--- there is room for so many more activations, each of which can be taken
+-- there is room for that many more activations, each of which can be taken
 pub record HasRoom {C : Type 0} (table : Slab (Act C)) (taken : List QueueView) (spare : ℕ) : Type 0 where
   pub queues : length taken ≡ MAX_SPACES
   pub slots : HasRoomFor table spare

@@ -37,7 +37,7 @@ module _ {C : Type 0} where
     pub none_held : here.held ≡ None
     pub not_taken : here.taken ≡ false
 
--- what a contract sees of the activations: ..
+-- what a contract sees of the activations
 pub record ActsView (C : Type 0) : Type 0 where
   pub acts : ℕ → Option (Act C)
   -- of each space, the activations whose contexts were taken and that were not given back, in that order
@@ -47,7 +47,7 @@ pub record ActsView (C : Type 0) : Type 0 where
   -- for how many more there is room
   pub spare : ℕ
 
--- .. a reading of the table in which they lie
+-- the table in which the activations lie
 pub record Slots (C : Type 0) : Type 0 where
   pub table : Slab (Act C)
   pub taken : List (List ActNo)

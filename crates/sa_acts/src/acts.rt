@@ -171,7 +171,7 @@ fn no_queues(alloc: Global) -> [Queue; MAX_SPACES]
     ]
 }
 
-// Makes room for so many numbers in each queue.
+// Makes room for that many numbers in each queue.
 fn reserve_all(queues: &mut [Queue; MAX_SPACES], room: usize) -> Result<(), AllocError>
     ensures ok { OnOk result (HaveRoom room queues.new) }
     ensures numbers { all_numbers queues.new ≡ all_numbers queues.old }
@@ -183,7 +183,7 @@ fn reserve_all(queues: &mut [Queue; MAX_SPACES], room: usize) -> Result<(), Allo
     Ok(())
 }
 
-// Makes room for so many numbers in one queue.
+// Makes room for that many numbers in one queue.
 fn reserve_one(queues: &mut [Queue; MAX_SPACES], s: usize, room: usize) -> Result<(), AllocError>
     requires { s < MAX_SPACES }
     ensures ok { OnOk result (room ≤ (queue_at queues.new s).room) }
@@ -192,7 +192,7 @@ fn reserve_one(queues: &mut [Queue; MAX_SPACES], s: usize, room: usize) -> Resul
     queues[s].reserve(room)
 }
 
-// Puts a number behind the others of the space's queue, in which there is room.
+// Puts a number after the others of the space's queue, in which there is room.
 fn push_on(queues: &mut [Queue; MAX_SPACES], s: SpaceNo, a: ActNo)
     requires space { s.0 < MAX_SPACES }
     requires room { queued (queue_at queues.old s.0) < (queue_at queues.old s.0).room }
@@ -215,7 +215,7 @@ fn pop_from(queues: &mut [Queue; MAX_SPACES], s: SpaceNo) -> Option<ActNo>
     }
 }
 
-// How many numbers stand in the space's queue.
+// How many numbers are in the space's queue.
 fn length_of(queues: &[Queue; MAX_SPACES], s: SpaceNo) -> usize
     ensures { result ≡ queued (queue_at queues.now s.0) }
 {

@@ -19,7 +19,8 @@ one_if s o = cond (is_aim s o) 1 0
 aimed-cons : (s : ℕ) (o : Option SpaceNo) (os : List (Option SpaceNo)) → aimed s (o ∷ os) ≡ one_if s o + aimed s os
 aimed-cons s o os = sum_by-cons (one_if s) o os
 
-aimed-set : (s : ℕ) (aims : List (Option SpaceNo)) (p : ℕ) (o : Option SpaceNo) → p < length aims → aimed s (set aims p o) + one_if s (aim_at aims p) ≡ aimed s aims + one_if s o
+aimed-set : (s : ℕ) (aims : List (Option SpaceNo)) (p : ℕ) (o : Option SpaceNo) → p < length aims
+    → aimed s (set aims p o) + one_if s (aim_at aims p) ≡ aimed s aims + one_if s o
 aimed-set s aims p o within = sum_by-set (one_if s) aims p o None within
 
 one_if-same : (s : ℕ) → one_if s (Some (space_no s)) ≡ 1
@@ -28,7 +29,7 @@ one_if-same s = cond-true (eqb s s) 1 0 (eq-eqb s s refl)
 one_if-other : (s t : ℕ) → t ≢ s → one_if s (Some (space_no t)) ≡ 0
 one_if-other s t apart = cond-false (eqb t s) 1 0 (ne_eqb t s apart)
 
-is_aim-true : (s : ℕ) (o : Option SpaceNo) → is_aim s o ≡ true → o ≡ Some (space_no s)
+pub is_aim-true : (s : ℕ) (o : Option SpaceNo) → is_aim s o ≡ true → o ≡ Some (space_no s)
 is_aim-true s None e = cc
 is_aim-true s (Some t) e = ap (λ (n : ℕ). Some (space_no n)) (eqb-true t.0 s e)
 
@@ -45,8 +46,9 @@ aimed-some s (o ∷ os) some = elim (cases_Bool (is_aim s o)) [
       (suc later.0, omega arith, later.2)
 ]
 
--- where each is aimed, and no space has more than so many, there are at most as many processors
-all-aimed : (aims : List (Option SpaceNo)) (shares : List ℕ) → ((p : ℕ) → p < length aims → has_no_aim aims p ≡ false) → ((s : ℕ) → aimed s aims ≤ share_at shares s) → length aims ≤ sum shares
+-- where each is aimed, and no space has more than its share, there are no more processors than the shares say
+all-aimed : (aims : List (Option SpaceNo)) (shares : List ℕ) → ((p : ℕ) → p < length aims → has_no_aim aims p ≡ false)
+    → ((s : ℕ) → aimed s aims ≤ share_at shares s) → length aims ≤ sum shares
 all-aimed [] shares each few = omega arith
 all-aimed (None ∷ os) shares each few = absurd (grind (arith, each 0 (omega arith)))
 all-aimed (Some t ∷ os) shares each few =
@@ -75,7 +77,8 @@ all-aimed (Some t ∷ os) shares each few =
     omega arith
 
 -- a space that misses one gets a processor
-choice-some : (shares : List ℕ) (marks : List Bool) (aims : List (Option SpaceNo)) (s : ℕ) → sum shares ≤ length aims → aimed s aims < share_at shares s → choice shares marks aims ≡ None → ⊥
+choice-some : (shares : List ℕ) (marks : List Bool) (aims : List (Option SpaceNo)) (s : ℕ) → sum shares ≤ length aims → aimed s aims < share_at shares s
+    → choice shares marks aims ≡ None → ⊥
 choice-some shares marks aims s fits short none =
     let each : (p : ℕ) → p < length aims → (has_no_aim aims p ≡ false) × (can_be_spared shares aims p ≡ false) = choice-none shares marks aims none in
     let few : (t : ℕ) → aimed t aims ≤ share_at shares t = λ t. elim (cases_lt 0 (aimed t aims)) [
@@ -129,7 +132,8 @@ surplus-spared : (shares : List ℕ) (aims : List (Option SpaceNo)) (o : Option 
 surplus-spared shares aims None e = tt
 surplus-spared shares aims (Some t) e = ltb-true (share_at shares t.0) (aimed t.0 aims) e
 
-choice-spared : (shares : List ℕ) (marks : List Bool) (aims : List (Option SpaceNo)) (p : ℕ) → choice shares marks aims ≡ Some p → (p < length aims) × IsSpared shares aims (aim_at aims p)
+choice-spared : (shares : List ℕ) (marks : List Bool) (aims : List (Option SpaceNo)) (p : ℕ) → choice shares marks aims ≡ Some p
+    → (p < length aims) × IsSpared shares aims (aim_at aims p)
 choice-spared shares marks aims p chosen = elim (choice-passes shares marks aims p chosen) [
   | inl free ↦ (free.within, subst (IsSpared shares aims) (sym (is_none-true (aim_at aims p) free.passes)) tt)
   | inr spared ↦ (spared.within, surplus-spared shares aims (aim_at aims p) spared.passes)
@@ -140,8 +144,8 @@ record Served (shares : List ℕ) (s : ℕ) (aims after : List (Option SpaceNo))
   own : aimed s after ≡ aimed s aims + 1
   others : (t : ℕ) → t ≢ s → Keeps (share_at shares t) (aimed t aims) (aimed t after)
 
-served : (shares : List ℕ) (s : ℕ) (aims : List (Option SpaceNo)) (p : ℕ) → aimed s aims < share_at shares s → p < length aims → (old : Option SpaceNo) → aim_at aims p ≡ old → IsSpared shares aims old
-    → Served shares s aims (aims_with aims (record { proc = p; space = s }))
+served : (shares : List ℕ) (s : ℕ) (aims : List (Option SpaceNo)) (p : ℕ) → aimed s aims < share_at shares s → p < length aims → (old : Option SpaceNo)
+    → aim_at aims p ≡ old → IsSpared shares aims old → Served shares s aims (aims_with aims (record { proc = p; space = s }))
 served shares s aims p short within None at spared =
     let after = set aims p (Some (space_no s)) in
     record {
@@ -177,7 +181,7 @@ served shares s aims p short within (Some u) at spared =
           ];
     }
 
--- what so many changes for s do
+-- what n changes for s do
 record Filled (shares : List ℕ) (marks : List Bool) (s n : ℕ) (aims : List (Option SpaceNo)) (cs : List Change) : Type 0 where
   due : AreDue shares marks aims cs
   own : aimed s (aims_after aims cs) ≡ aimed s aims + n
@@ -188,8 +192,10 @@ record Filled (shares : List ℕ) (marks : List Bool) (s n : ℕ) (aims : List (
 is_for-same : (s p : ℕ) → cond {A = ℕ} (is_for s (record { proc = p; space = s })) 1 0 ≡ 1
 is_for-same s p = cond-true (eqb s s) 1 0 (eq-eqb s s refl)
 
-filled-more : (shares : List ℕ) (marks : List Bool) (s n : ℕ) (aims : List (Option SpaceNo)) (p : Option ℕ) → choice shares marks aims ≡ p → sum shares ≤ length aims → aimed s aims < share_at shares s
-    → ((after : List (Option SpaceNo)) → length after ≡ length aims → aimed s after ≡ aimed s aims + 1 → Filled shares marks s n after (changes_for n shares marks s after))
+filled-more : (shares : List ℕ) (marks : List Bool) (s n : ℕ) (aims : List (Option SpaceNo)) (p : Option ℕ) → choice shares marks aims ≡ p
+    → sum shares ≤ length aims → aimed s aims < share_at shares s
+    → ((after : List (Option SpaceNo)) → length after ≡ length aims → aimed s after ≡ aimed s aims + 1
+    → Filled shares marks s n after (changes_for n shares marks s after))
     → Filled shares marks s (suc n) aims (change_to s aims p (changes_for n shares marks s))
 filled-more shares marks s n aims None chosen fits short again = absurd (choice-some shares marks aims s fits short chosen)
 filled-more shares marks s n aims (Some p) chosen fits short again =
@@ -208,13 +214,21 @@ filled-more shares marks s n aims (Some p) chosen fits short again =
     record {
       due = (record { short = short; chosen = chosen; within = spared.0; spared = spared.1 }, rest.due);
       own = omega arith;
-      others = λ t apart. Keeps-trans (share_at shares t) (aimed t aims) (aimed t after) (aimed t (aims_after after cs)) (one.others t apart) (rest.others t apart);
+      others =
+          λ t apart. Keeps-trans (share_at shares t) (aimed t aims) (aimed t after) (aimed t (aims_after after cs)) (one.others t apart) (rest.others t apart);
       size = rest.size ∙ size;
       count = omega arith;
     }
 
-filled : (shares : List ℕ) (marks : List Bool) (s n : ℕ) (aims : List (Option SpaceNo)) → sum shares ≤ length aims → (0 < n → aimed s aims + n ≤ share_at shares s) → Filled shares marks s n aims (changes_for n shares marks s aims)
-filled shares marks s zero aims fits short = record { due = tt; own = omega arith; others = λ t apart. Keeps-same (share_at shares t) (aimed t aims) (aimed t aims) refl; size = refl; count = refl }
+filled : (shares : List ℕ) (marks : List Bool) (s n : ℕ) (aims : List (Option SpaceNo)) → sum shares ≤ length aims
+    → (0 < n → aimed s aims + n ≤ share_at shares s) → Filled shares marks s n aims (changes_for n shares marks s aims)
+filled shares marks s zero aims fits short = record {
+  due = tt;
+  own = omega arith;
+  others = λ t apart. Keeps-same (share_at shares t) (aimed t aims) (aimed t aims) refl;
+  size = refl;
+  count = refl;
+}
 filled shares marks s (suc n) aims fits short =
     let enough = short (omega arith) in
     filled-more shares marks s n aims (choice shares marks aims) refl fits (omega arith)
@@ -225,13 +239,15 @@ abbrev AreFor : ℕ → List Change → Type 0
 AreFor s [] = Unit {0}
 AreFor s (c ∷ cs) = (c.space ≡ s) × AreFor s cs
 
-AreFor-change_to : (s : ℕ) (aims : List (Option SpaceNo)) (p : Option ℕ) (rest : List (Option SpaceNo) → List Change) → ((after : List (Option SpaceNo)) → AreFor s (rest after)) → AreFor s (change_to s aims p rest)
+AreFor-change_to : (s : ℕ) (aims : List (Option SpaceNo)) (p : Option ℕ) (rest : List (Option SpaceNo) → List Change)
+    → ((after : List (Option SpaceNo)) → AreFor s (rest after)) → AreFor s (change_to s aims p rest)
 AreFor-change_to s aims None rest all = tt
 AreFor-change_to s aims (Some p) rest all = (refl, all (aims_with aims (record { proc = p; space = s })))
 
 AreFor-changes_for : (n : ℕ) (shares : List ℕ) (marks : List Bool) (s : ℕ) (aims : List (Option SpaceNo)) → AreFor s (changes_for n shares marks s aims)
 AreFor-changes_for zero shares marks s aims = tt
-AreFor-changes_for (suc n) shares marks s aims = AreFor-change_to s aims (choice shares marks aims) (changes_for n shares marks s) (AreFor-changes_for n shares marks s)
+AreFor-changes_for (suc n) shares marks s aims =
+    AreFor-change_to s aims (choice shares marks aims) (changes_for n shares marks s) (AreFor-changes_for n shares marks s)
 
 count_by-AreFor : (s t : ℕ) (cs : List Change) → AreFor s cs → t ≢ s → count_by (is_for t) cs ≡ 0
 count_by-AreFor s t [] all apart = refl
@@ -247,15 +263,18 @@ AreInOrder-below s t (c ∷ cs) le order = (omega (arith, order.0), order.1)
 
 AreInOrder-append : (s : ℕ) (xs ys : List Change) → AreFor s xs → AreInOrder (s + 1) ys → AreInOrder s (xs ++ ys)
 AreInOrder-append s [] ys all order = AreInOrder-below s (s + 1) ys (omega arith) order
-AreInOrder-append s (c ∷ xs) ys all order = (omega (arith, all.0), subst (λ (n : ℕ). AreInOrder n (xs ++ ys)) (sym all.0) (AreInOrder-append s xs ys all.1 order))
+AreInOrder-append s (c ∷ xs) ys all order =
+    (omega (arith, all.0), subst (λ (n : ℕ). AreInOrder n (xs ++ ys)) (sym all.0) (AreInOrder-append s xs ys all.1 order))
 
 pub AreInOrder-changes_from : (s n : ℕ) (shares : List ℕ) (marks : List Bool) (aims : List (Option SpaceNo)) → AreInOrder s (changes_from s n shares marks aims)
 AreInOrder-changes_from s zero shares marks aims = tt
 AreInOrder-changes_from s (suc n) shares marks aims =
     let own = changes_for (missing shares aims s) shares marks s aims in
-    AreInOrder-append s own (changes_from (s + 1) n shares marks (aims_after aims own)) (AreFor-changes_for (missing shares aims s) shares marks s aims) (AreInOrder-changes_from (s + 1) n shares marks (aims_after aims own))
+    AreInOrder-append s own (changes_from (s + 1) n shares marks (aims_after aims own)) (AreFor-changes_for (missing shares aims s) shares marks s aims)
+    (AreInOrder-changes_from (s + 1) n shares marks (aims_after aims own))
 
-AreDue-append : (shares : List ℕ) (marks : List Bool) (aims : List (Option SpaceNo)) (xs ys : List Change) → AreDue shares marks aims xs → AreDue shares marks (aims_after aims xs) ys → AreDue shares marks aims (xs ++ ys)
+AreDue-append : (shares : List ℕ) (marks : List Bool) (aims : List (Option SpaceNo)) (xs ys : List Change) → AreDue shares marks aims xs
+    → AreDue shares marks (aims_after aims xs) ys → AreDue shares marks aims (xs ++ ys)
 AreDue-append shares marks aims [] ys mine others = others
 AreDue-append shares marks aims (x ∷ xs) ys mine others = (mine.0, AreDue-append shares marks (aims_with aims x) xs ys mine.1 others)
 
@@ -292,7 +311,8 @@ all-filled s (suc n) shares marks aims fits =
     let theirs = all-filled (s + 1) n shares marks between (omega arith) in
     let after = aims_after between rest in
     let all_own = AreFor-changes_for m shares marks s aims in
-    let counts : (t : ℕ) → count_by (is_for t) (own ++ rest) ≡ count_by (is_for t) own + count_by (is_for t) rest = λ t. sum_by-append (λ (x : Change). cond {A = ℕ} (is_for t x) 1 0) own rest in
+    let counts : (t : ℕ) → count_by (is_for t) (own ++ rest) ≡ count_by (is_for t) own + count_by (is_for t) rest =
+    λ t. sum_by-append (λ (x : Change). cond {A = ℕ} (is_for t x) 1 0) own rest in
     let done : AllFilled shares marks s (suc n) aims after (own ++ rest) = record {
       due = AreDue-append shares marks aims own rest mine.due theirs.due;
       met = λ t le less. elim (cases_eq t s) [
@@ -343,7 +363,8 @@ aimed-kept n s shares marks aims fits le =
 pub met-reaimed : (event spaces : ℕ) (shares : List ℕ) (old new : AssignView) → sum shares ≤ length old.aims → new ≡ reaimed event spaces shares old
     → (s : ℕ) → s < spaces → share_at shares s ≤ aimed s new.aims
 met-reaimed event spaces shares old new fits is s below =
-    let met : share_at shares s ≤ aimed s (reaimed event spaces shares old).aims = (all-filled 0 spaces shares old.marks old.aims fits).met s (omega arith) (omega arith) in
+    let met : share_at shares s ≤ aimed s (reaimed event spaces shares old).aims =
+    (all-filled 0 spaces shares old.marks old.aims fits).met s (omega arith) (omega arith) in
     subst (λ (a : AssignView). share_at shares s ≤ aimed s a.aims) (sym is) met
 
 -- where each space has its share there is nothing to change

@@ -31,7 +31,8 @@ least_below-passes (suc n) test p found = go (least_below n test) (least_below-p
 pub greatest_below-passes : (n : ℕ) (test : ℕ → Bool) (p : ℕ) → greatest_below n test ≡ Some p → PassesBelow n test p
 greatest_below-passes zero test p found = absurd (none-some p found)
 greatest_below-passes (suc n) test p found = go (test n) refl (greatest_below-passes n test p) found where
-  go : (b : Bool) → test n ≡ b → (greatest_below n test ≡ Some p → PassesBelow n test p) → cond b (Some n) (greatest_below n test) ≡ Some p → PassesBelow (suc n) test p
+  go : (b : Bool) → test n ≡ b → (greatest_below n test ≡ Some p → PassesBelow n test p) → cond b (Some n) (greatest_below n test) ≡ Some p
+      → PassesBelow (suc n) test p
   go true is again e = PassesBelow-last n test p true is e
   go false is again e = PassesBelow-more n test p (again e)
 

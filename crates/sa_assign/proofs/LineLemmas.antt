@@ -19,18 +19,21 @@ raised-is_none event None = refl
 raised-is_none event (Some e) = refl
 
 -- the line of p after a change
-line_at-lines_with : (event p : ℕ) (lines : List (Option ℕ)) (c : Change) → p < length lines → line_at (lines_with event lines c) p ≡ cond (eqb c.proc p) (raised event (line_at lines p)) (line_at lines p)
+line_at-lines_with : (event p : ℕ) (lines : List (Option ℕ)) (c : Change) → p < length lines
+    → line_at (lines_with event lines c) p ≡ cond (eqb c.proc p) (raised event (line_at lines p)) (line_at lines p)
 line_at-lines_with event p lines c within = elim (cases_eq c.proc p) [
   | inl same ↦
       let inside : c.proc < length lines = omega arith in
       let line = raised event (line_at lines c.proc) in
       ap (line_at (lines_with event lines c)) (sym same) ∙ get_or-set_same lines c.proc line None inside
-      ∙ ap (λ (q : ℕ). raised event (line_at lines q)) same ∙ sym (cond-true (eqb c.proc p) (raised event (line_at lines p)) (line_at lines p) (eq-eqb c.proc p same))
+      ∙ ap (λ (q : ℕ). raised event (line_at lines q)) same
+      ∙ sym (cond-true (eqb c.proc p) (raised event (line_at lines p)) (line_at lines p) (eq-eqb c.proc p same))
   | inr other ↦ get_or-set_other lines c.proc p (raised event (line_at lines c.proc)) None (λ e. other (sym e))
       ∙ sym (cond-false (eqb c.proc p) (raised event (line_at lines p)) (line_at lines p) (ne_eqb c.proc p other))
 ]
 
-line-step : (here later : Bool) (event : ℕ) (line next : Option ℕ) → next ≡ cond here (raised event line) line → cond later (raised event next) next ≡ cond (here || later) (raised event line) line
+line-step : (here later : Bool) (event : ℕ) (line next : Option ℕ) → next ≡ cond here (raised event line) line
+    → cond later (raised event next) next ≡ cond (here || later) (raised event line) line
 line-step true true event line next is = ap (raised event) is ∙ raised-raised event line
 line-step true false event line next is = is
 line-step false true event line next is = ap (raised event) is
@@ -56,7 +59,8 @@ count_by-line_records p q (Some e) = none (eqb q p) where
   none true = refl
   none false = refl
 
-count-step : (here later low own next : Bool) → (here ≡ true → own ≡ low) → next ≡ cond here false low → cond {A = ℕ} (here && own) 1 0 + cond {A = ℕ} (later && next) 1 0 ≡ cond {A = ℕ} ((here || later) && low) 1 0
+count-step : (here later low own next : Bool) → (here ≡ true → own ≡ low) → next ≡ cond here false low
+    → cond {A = ℕ} (here && own) 1 0 + cond {A = ℕ} (later && next) 1 0 ≡ cond {A = ℕ} ((here || later) && low) 1 0
 count-step true true low own next same is = rw (same refl, is) (omega arith)
 count-step true false low own next same is = rw (same refl) (omega arith)
 count-step false true low own next same is = rw is (omega arith)

@@ -15,11 +15,13 @@ pub aims_after-append : (aims : List (Option SpaceNo)) (xs ys : List Change) →
 aims_after-append aims [] ys = refl
 aims_after-append aims (x ∷ xs) ys = aims_after-append (aims_with aims x) xs ys
 
-pub lines_after-append : (event : ℕ) (lines : List (Option ℕ)) (xs ys : List Change) → lines_after event lines (xs ++ ys) ≡ lines_after event (lines_after event lines xs) ys
+pub lines_after-append : (event : ℕ) (lines : List (Option ℕ)) (xs ys : List Change)
+    → lines_after event lines (xs ++ ys) ≡ lines_after event (lines_after event lines xs) ys
 lines_after-append event lines [] ys = refl
 lines_after-append event lines (x ∷ xs) ys = lines_after-append event (lines_with event lines x) xs ys
 
-pub records_of-append : (event : ℕ) (lines : List (Option ℕ)) (xs ys : List Change) → records_of event lines (xs ++ ys) ≡ records_of event lines xs ++ records_of event (lines_after event lines xs) ys
+pub records_of-append : (event : ℕ) (lines : List (Option ℕ)) (xs ys : List Change)
+    → records_of event lines (xs ++ ys) ≡ records_of event lines xs ++ records_of event (lines_after event lines xs) ys
 records_of-append event lines [] ys = refl
 records_of-append event lines (x ∷ xs) ys =
     let own = line_records x.proc (line_at lines x.proc) in
@@ -30,12 +32,9 @@ records_of-append event lines (x ∷ xs) ys =
     ap (λ (v : List Record). aim ∷ (own ++ v)) (records_of-append event after xs ys)
     ∙ ap (λ (v : List Record). aim ∷ v) (sym (append_assoc own mine others))
 
--- a record with its event and processor
-abbrev item_of : ℕ → ProcNo → Record → Item
-item_of event proc r = record { event = event; proc = proc; what = r }
-
 -- changes are carried out one after another
-pub carried_out-append : (event : ℕ) (proc : ProcNo) (xs ys : List Change) (x : AssignView × List Item) → carried_out event proc (xs ++ ys) x ≡ carried_out event proc ys (carried_out event proc xs x)
+pub carried_out-append : (event : ℕ) (proc : ProcNo) (xs ys : List Change) (x : AssignView × List Item)
+    → carried_out event proc (xs ++ ys) x ≡ carried_out event proc ys (carried_out event proc xs x)
 carried_out-append event proc xs ys x =
     let lines = x.0.lines in
     let aims_path = aims_after-append x.0.aims xs ys in
@@ -43,33 +42,39 @@ carried_out-append event proc xs ys x =
     let mine = records_of event lines xs in
     let others = records_of event (lines_after event lines xs) ys in
     let items_path = ap (λ (v : List Record). x.1 ++ items_at event proc v) (records_of-append event lines xs ys)
-    ∙ ap (λ (v : List Item). x.1 ++ v) (map-append (λ (r : Record). item_of event proc r) mine others)
+    ∙ ap (λ (v : List Item). x.1 ++ v) (map-append (λ (r : Record). let i : Item = record { event = event; proc = proc; what = r } in i) mine others)
     ∙ sym (append_assoc x.1 (items_at event proc mine) (items_at event proc others)) in
     λ i. (record x.0 { aims = aims_path i; lines = lines_path i }, items_path i)
 
 -- one change, and then the others
-pub changes_for-suc : (n : ℕ) (shares : List ℕ) (marks : List Bool) (s : ℕ) (aims : List (Option SpaceNo)) → changes_for (suc n) shares marks s aims ≡ changes_for 1 shares marks s aims ++ changes_for n shares marks s (aims_after aims (changes_for 1 shares marks s aims))
+pub changes_for-suc : (n : ℕ) (shares : List ℕ) (marks : List Bool) (s : ℕ) (aims : List (Option SpaceNo))
+    → changes_for (suc n) shares marks s aims
+    ≡ changes_for 1 shares marks s aims ++ changes_for n shares marks s (aims_after aims (changes_for 1 shares marks s aims))
 changes_for-suc n shares marks s aims = go n (choice shares marks aims) refl where
-  go : (n : ℕ) (p : Option ℕ) → choice shares marks aims ≡ p → change_to s aims p (changes_for n shares marks s) ≡ change_to s aims p (λ _. []) ++ changes_for n shares marks s (aims_after aims (change_to s aims p (λ _. [])))
+  go : (n : ℕ) (p : Option ℕ) → choice shares marks aims ≡ p
+      → change_to s aims p (changes_for n shares marks s)
+      ≡ change_to s aims p (λ _. []) ++ changes_for n shares marks s (aims_after aims (change_to s aims p (λ _. [])))
   go zero None is = refl
   go (suc n) None is = sym (ap (λ q. change_to s aims q (changes_for n shares marks s)) is)
   go n (Some p) is = refl
 
--- what is done for a space that misses so many, an assignment and the items being these
+-- what is done for a space that misses n, an assignment and the items being these
 abbrev pub filled : ℕ → ProcNo → ℕ → List ℕ → ℕ → AssignView × List Item → AssignView × List Item
 filled event proc n shares s x = carried_out event proc (changes_for n shares x.0.marks s x.0.aims) x
 
-pub filled-suc : (event : ℕ) (proc : ProcNo) (n : ℕ) (shares : List ℕ) (s : ℕ) (x : AssignView × List Item) → filled event proc (suc n) shares s x ≡ filled event proc n shares s (filled event proc 1 shares s x)
+pub filled-suc : (event : ℕ) (proc : ProcNo) (n : ℕ) (shares : List ℕ) (s : ℕ) (x : AssignView × List Item)
+    → filled event proc (suc n) shares s x ≡ filled event proc n shares s (filled event proc 1 shares s x)
 filled-suc event proc n shares s x =
     let own = changes_for 1 shares x.0.marks s x.0.aims in
     ap (λ (cs : List Change). carried_out event proc cs x) (changes_for-suc n shares x.0.marks s x.0.aims)
     ∙ carried_out-append event proc own (changes_for n shares x.0.marks s (aims_after x.0.aims own)) x
 
--- what is done for so many spaces from s on
+-- what is done for n spaces from s on
 abbrev pub filled_from : ℕ → ProcNo → ℕ → ℕ → List ℕ → AssignView × List Item → AssignView × List Item
 filled_from event proc s n shares x = carried_out event proc (changes_from s n shares x.0.marks x.0.aims) x
 
-pub filled_from-suc : (event : ℕ) (proc : ProcNo) (s n : ℕ) (shares : List ℕ) (x : AssignView × List Item) → filled_from event proc s (suc n) shares x ≡ filled_from event proc (s + 1) n shares (filled event proc (missing shares x.0.aims s) shares s x)
+pub filled_from-suc : (event : ℕ) (proc : ProcNo) (s n : ℕ) (shares : List ℕ) (x : AssignView × List Item)
+    → filled_from event proc s (suc n) shares x ≡ filled_from event proc (s + 1) n shares (filled event proc (missing shares x.0.aims s) shares s x)
 filled_from-suc event proc s n shares x =
     let own = changes_for (missing shares x.0.aims s) shares x.0.marks s x.0.aims in
     carried_out-append event proc own (changes_from (s + 1) n shares x.0.marks (aims_after x.0.aims own)) x

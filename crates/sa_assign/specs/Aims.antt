@@ -76,7 +76,7 @@ change_to s aims (Some p) rest =
     let c : Change = record { proc = p; space = s } in
     c ∷ rest (aims_with aims c)
 
--- the changes for a space that misses so many
+-- the changes for a space that misses that many
 abbrev pub changes_for : ℕ → List ℕ → List Bool → ℕ → List (Option SpaceNo) → List Change
 changes_for zero shares marks s aims = []
 changes_for (suc more) shares marks s aims =
@@ -86,7 +86,7 @@ changes_for (suc more) shares marks s aims =
 abbrev pub missing : List ℕ → List (Option SpaceNo) → ℕ → ℕ
 missing shares aims s = share_at shares s - aimed s aims
 
--- the changes for so many spaces from s on, in the order of their numbers
+-- the changes for n spaces from s on, in the order of their numbers
 abbrev pub changes_from : ℕ → ℕ → List ℕ → List Bool → List (Option SpaceNo) → List Change
 changes_from s zero shares marks aims = []
 changes_from s (suc spaces) shares marks aims =

@@ -10,9 +10,9 @@ use Rattle.sa_assign.specs.Aims.{Change, aim_at, aimed, choice, aims_with}
 pub record IsDue (shares : List ℕ) (marks : List Bool) (aims : List (Option SpaceNo)) (c : Change) : Type 0 where
   -- the space has fewer aims than its share
   pub short : aimed c.space aims < share_at shares c.space
-  -- the processor is the one to choose ..
+  -- the processor is the one to choose
   pub chosen : choice shares marks aims ≡ Some c.proc
-  -- .. and it has no aim, or one of a space with more than its share
+  -- it has no aim, or one of a space with more than its share
   pub within : c.proc < length aims
   pub spared : MatchOption (aim_at aims c.proc) (Unit {0}) (λ t. share_at shares t.0 < aimed t.0 aims)
 

@@ -16,7 +16,7 @@ proc_no p = record { 0 = p }
 abbrev pub line_at : List (Option ℕ) → ℕ → Option ℕ
 line_at lines p = slice_index_or lines p None
 
--- a line that is due is raised by this event, unless it stands
+-- a line that is due is raised by this event, unless it is raised already
 abbrev pub raised : ℕ → Option ℕ → Option ℕ
 raised event None = Some event
 raised event (Some earlier) = Some earlier
@@ -34,7 +34,7 @@ abbrev pub line_records : ℕ → Option ℕ → List Record
 line_records p None = Line (proc_no p) ∷ []
 line_records p (Some earlier) = []
 
--- the records of changes by this event: each aim, and behind it its line where that was low
+-- the records of changes by this event: each aim, and after it its line where that was low
 abbrev pub records_of : ℕ → List (Option ℕ) → List Change → List Record
 records_of event lines [] = []
 records_of event lines (c ∷ cs) =
@@ -45,15 +45,15 @@ records_of event lines (c ∷ cs) =
 abbrev pub changed : ℕ → AssignView → List Change → AssignView
 changed event a cs = record a { aims = aims_after a.aims cs; lines = lines_after event a.lines cs }
 
--- the changes until each of so many spaces has its share
+-- the changes until each of that many spaces has its share
 abbrev pub changes_in : ℕ → List ℕ → AssignView → List Change
 changes_in spaces shares a = changes spaces shares a.marks a.aims
 
--- the assignment when the aims are changed until each of so many spaces has its share ..
+-- the assignment when the aims are changed until each of that many spaces has its share
 abbrev pub reaimed : ℕ → ℕ → List ℕ → AssignView → AssignView
 reaimed event spaces shares a = changed event a (changes_in spaces shares a)
 
--- .. and the records of that
+-- the records of these changes
 abbrev pub reaim_records : ℕ → ℕ → List ℕ → AssignView → List Record
 reaim_records event spaces shares a = records_of event a.lines (changes_in spaces shares a)
 

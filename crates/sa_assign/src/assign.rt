@@ -138,7 +138,7 @@ impl Assign {
     /// remainder begin at the space `first`. Space by space, in the order of their numbers, each missing aim
     /// is that of the lowest-numbered processor without one, else of the lowest-numbered processor that is
     /// marked idle and aimed at a space with more than its share, else of the highest-numbered processor
-    /// aimed at such a space. Each change is recorded for the event and the processor of `item`, and behind it
+    /// aimed at such a space. Each change is recorded for the event and the processor of `item`, and after it
     /// the line that it raises where that was low. There are at most 16 claims; `first` is one of them, or 0
     /// where there are none.
     pub fn reaim(&mut self, claims: &[Claim], first: u16, item: Item, trace: &mut Trace)
@@ -220,7 +220,7 @@ impl Assign {
     }
 }
 
-// The same for each of so many processors.
+// The same for each of that many processors.
 fn cells<T: Copy + Default>(processors: u16, value: T) -> ArrayVec<T, PLACES>
     requires { processors ≤ MAX_PROCESSORS }
     ensures { result.items ≡ replicate processors value }

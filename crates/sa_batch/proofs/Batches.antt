@@ -11,7 +11,8 @@ pub notes-at : (bs : List Noted) (i : ℕ) (b : Noted) → i < length bs → b �
 notes-at bs i b within here = ap notes_of here ∙ sym (get_or-map notes_of bs i b [] within)
 
 -- a batch is another
-pub notes-set : (bs : List Noted) (i : ℕ) (b : Noted) (notes : List Note) → b.notes ≡ notes → map notes_of (slice_set bs i b) ≡ slice_set (map notes_of bs) i notes
+pub notes-set : (bs : List Noted) (i : ℕ) (b : Noted) (notes : List Note) → b.notes ≡ notes
+    → map notes_of (slice_set bs i b) ≡ slice_set (map notes_of bs) i notes
 notes-set bs i b notes is = map-set notes_of bs i b ∙ ap (slice_set (map notes_of bs) i) is
 
 -- a batch holds a notice more

@@ -16,16 +16,16 @@ pub record NoticesView : Type 0 where
 abbrev pub notes_of : Noted → List Note
 notes_of b = b.notes
 
--- the notices of a batch, behind that of an added processor, if there is one
+-- the notices of a batch, after that of an added processor, if there is one
 abbrev pub behind_added : Option ProcNo → List Note → List Note
 behind_added None notes = notes
 behind_added (Some p) notes = Add p ∷ notes
 
--- each batch has room for so many more
+-- each batch has room for n more
 abbrev pub HaveRoom : ℕ → List Noted → Type 0
 HaveRoom n batches = All (λ (b : Noted). n ≤ b.spare) batches
 
--- an upcall tells a space what it was not told, behind the notice of its processor, if that was added
+-- an upcall tells a space what it was not told, after the notice of its processor, if that was added
 abbrev pub notes_told : Bool → ProcNo → List Note → List Note
 notes_told true p notes = Add p ∷ notes
 notes_told false p notes = notes

@@ -37,7 +37,7 @@ impl Model for Notices {
 impl Notices {
     ghost use Rattle.sa_batch.specs.Notices.{NoticesView};
 
-    /// No notice of any of so many spaces, and no room.
+    /// No notice of any of that many spaces, and no room.
     pub fn new(alloc: Global, spaces: usize) -> Result<Self, AllocError>
         ensures { IfOk result (λ n. let none : NoticesView = record { untold = replicate spaces []; telling = []; spare = 0 } in n ≡ none) }
     {
@@ -63,7 +63,7 @@ impl Notices {
         Ok(())
     }
 
-    /// A notice for a space, behind those that it was not told.
+    /// A notice for a space, after those that it was not told.
     pub fn add(&mut self, s: SpaceNo, note: Note)
         requires space { s.0 < length self.old.untold }
         requires room { 1 ≤ self.old.spare }
@@ -75,7 +75,7 @@ impl Notices {
         self.spare -= 1;
     }
 
-    /// An upcall tells the space what it was not told, behind the notice of a processor that was added.
+    /// An upcall tells the space what it was not told, after the notice of a processor that was added.
     pub fn tell(&mut self, s: SpaceNo, p: ProcNo, added: bool)
         requires space { s.0 < length self.old.untold }
         requires fetched { self.old.telling ≡ [] }
@@ -178,7 +178,7 @@ fn empty_batches(alloc: Global, n: usize) -> Result<Vec<Batch>, AllocError>
     Ok(batches)
 }
 
-// Makes room for so many more notices in each batch.
+// Makes room for that many more notices in each batch.
 fn reserve_all(batches: &mut Vec<Batch>, n: usize) -> Result<(), AllocError>
     ensures ok { OnOk result (HaveRoom n batches.new.items) }
     ensures grows { (k : ℕ) → HaveRoom k batches.old.items → HaveRoom k batches.new.items }
@@ -190,11 +190,12 @@ fn reserve_all(batches: &mut Vec<Batch>, n: usize) -> Result<(), AllocError>
     Ok(())
 }
 
-// Puts a notice behind the others of a batch.
+// Puts a notice after the others of a batch.
 fn add_to(batches: &mut Vec<Batch>, i: usize, note: Note)
     requires within { i < length batches.old.items }
     requires room { HaveRoom 1 batches.old.items }
-    ensures notes { map notes_of batches.new.items ≡ slice_set (map notes_of batches.old.items) i (slice_index_or (map notes_of batches.old.items) i [] ++ note ∷ []) }
+    ensures notes { map notes_of batches.new.items
+        ≡ slice_set (map notes_of batches.old.items) i (slice_index_or (map notes_of batches.old.items) i [] ++ note ∷ []) }
     ensures room { (k : ℕ) → HaveRoom (k + 1) batches.old.items → HaveRoom k batches.new.items }
 {
     batches[i].add(note);

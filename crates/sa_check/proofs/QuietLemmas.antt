@@ -1,6 +1,6 @@
 -- A quiet event leaves owners, shares, wants and what is told in time as they were.
 use Rattle.std.proofs.Common.{◌≡◌, ℕ, zero, suc, ◌+◌, ◌-◌, ◌≤◌, refl, sym, ◌∙◌, ap, subst, inl, inr, arith, Bool, true, false, List, [], ◌∷◌, ◌++◌, map, length, take, Option, Some, None}
-use Rattle.std.specs.Prelude.{◌==◌, nat_lt, not, ◌&&◌, ◌||◌, slice_index, slice_index_or, if◌then◌else◌, is_none, slice_set}
+use Rattle.std.specs.Prelude.{◌==◌, nat_lt, not, ◌&&◌, ◌||◌, slice_index, slice_index_or, if◌then◌else◌, is_none, slice_set, filter}
 use Rattle.std.specs.List.{list_all, list_any, prefix_len}
 use Rattle.std.specs.Option.{option_map}
 use Rattle.std.proofs.lemmas.Bool.{cases_eq, and_parts}
@@ -17,7 +17,8 @@ use Rattle.sa_base.specs.declared.record.Record.TheVariants.{Ins, Out, Run, Stop
 use Rattle.sa_lemmas.proofs.FunctionUpdates.{put-same, put-other}
 use Rattle.sa_share.specs.Share.{share_at}
 use Rattle.sa_share.specs.Rounds.{shares_of}
-use Rattle.sa_assign.specs.Aims.{aimed, missing, changes_for, changes_from, aims_after}
+use Rattle.sa_assign.specs.Aims.{aimed}
+use Rattle.sa_assign.proofs.AimLemmas.{none-missing}
 use Rattle.sa_spaces.specs.Workload.{WorkloadView}
 use Rattle.sa_lemmas.proofs.Options.{none-is}
 use Rattle.sa_lemmas.proofs.Searches.{none-left}
@@ -312,17 +313,7 @@ settled-same w n m r q first same settled = record {
   prompt = same-prompt r q same settled.prompt;
 }
 
--- where each space has its share, no aim is due
-none-missing : (s n : ℕ) (shares : List ℕ) (marks : List Bool) (aims : List (Option SpaceNo)) → ((t : ℕ) → share_at shares t ≤ aimed t aims)
-    → changes_from s n shares marks aims ≡ []
-none-missing s zero shares marks aims covered = refl
-none-missing s (suc n) shares marks aims covered =
-    let enough = covered s in
-    let none : missing shares aims s ≡ 0 = omega (arith, enough) in
-    ap (λ k. let own = changes_for k shares marks s aims in own ++ changes_from (s + 1) n shares marks (aims_after aims own)) none
-    ∙ none-missing (s + 1) n shares marks aims covered
-
--- nor is one among the records, and no want
+-- no aim is among the records, and no want
 
 quiet-aims : (xs : List Record) → list_all is_quiet_record xs ≡ true → aims_in xs ≡ []
 quiet-aims [] h = refl

@@ -102,7 +102,7 @@ fn pass(table: &mut Threads, t: ThreadNo, thread: &ThreadState)
     table.set(t, &thread.next());
 }
 
-// The same, with a value in a register.
+// The thread goes on after its instruction, with this value in a register.
 fn give(table: &mut Threads, t: ThreadNo, thread: &ThreadState, reg: Reg, value: u64)
     requires made { t.0 < length table.old }
     requires next { thread.now.pc + 1 < 2 ^ 16 }

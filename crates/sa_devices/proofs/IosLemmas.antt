@@ -1,4 +1,4 @@
--- The I/Os that stand at their places, and which of them is due.
+-- The I/Os at their places, and which of them is due.
 use Rattle.std.proofs.Common.{IsSome, IfSome, ◌≡◌, ℕ, zero, suc, ◌+◌, ◌<◌, ◌≤◌, Bool, true, false, cond, eqb, leb, ◌⊎◌, inl, inr, List, [], ◌∷◌, ◌++◌, length, set, Option, Some, None, option_map, refl, sym, ap, subst, ◌∙◌, arith}
 use Rattle.std.proofs.lemmas.Bool.{both_ways, eq-eqb, ne_eqb, leb-true, leb-false, cond-true, cond-false}
 use Rattle.std.proofs.lemmas.Bool.Decides.{nat_tests}
@@ -7,16 +7,18 @@ use Rattle.sa_devices.specs.declared.under_way.Entry.{Entry}
 use Rattle.sa_devices.specs.Ios.{Io, is_number, io_no, is_sooner, sooner_of, due_of, io_at, without}
 use Rattle.sa_devices.specs.Kept.{listed, entry_at, ends_at}
 
--- the I/O of a number that stands at a place
+-- the I/O of a number, by the entry at its place
 abbrev pub io_of : ℕ → Entry → Io
 io_of n e = record { number = n; ends = e.ends; kind = e.kind }
 
-pub listed-append : (first : ℕ) (places : List (Option Entry)) (e : Entry) → listed first (places ++ Some e ∷ []) ≡ listed first places ++ io_of (first + length places) e ∷ []
+pub listed-append : (first : ℕ) (places : List (Option Entry)) (e : Entry)
+    → listed first (places ++ Some e ∷ []) ≡ listed first places ++ io_of (first + length places) e ∷ []
 listed-append first [] e = ap (λ (n : ℕ). io_of n e ∷ []) (omega arith)
 listed-append first (None ∷ places) e = listed-append (first + 1) places e ∙ ap (λ (n : ℕ). listed (first + 1) places ++ io_of n e ∷ []) (omega arith)
-listed-append first (Some x ∷ places) e = ap (λ (ios : List Io). io_of first x ∷ ios) (listed-append (first + 1) places e ∙ ap (λ (n : ℕ). listed (first + 1) places ++ io_of n e ∷ []) (omega arith))
+listed-append first (Some x ∷ places) e =
+    ap (λ (ios : List Io). io_of first x ∷ ios) (listed-append (first + 1) places e ∙ ap (λ (n : ℕ). listed (first + 1) places ++ io_of n e ∷ []) (omega arith))
 
--- a number below the first stands nowhere
+-- a number below the first is nowhere
 io_at-below : (n first : ℕ) (places : List (Option Entry)) → n < first → io_at n (listed first places) ≡ None
 io_at-below n first [] below = refl
 io_at-below n first (None ∷ places) below = io_at-below n (first + 1) places (omega arith)
@@ -35,8 +37,10 @@ io_at-listed first (suc i) (None ∷ places) =
     ap (λ (k : ℕ). io_at k (listed (first + 1) places)) n ∙ io_at-listed (first + 1) i places ∙ ap (λ (k : ℕ). option_map (io_of k) (entry_at places i)) (sym n)
 io_at-listed first (suc i) (Some e ∷ places) =
     let n : first + suc i ≡ first + 1 + i = omega arith in
-    cond-false (eqb first (first + suc i)) (Some (io_of first e)) (io_at (first + suc i) (listed (first + 1) places)) (ne_eqb first (first + suc i) (λ same. omega arith))
-    ∙ ap (λ (k : ℕ). io_at k (listed (first + 1) places)) n ∙ io_at-listed (first + 1) i places ∙ ap (λ (k : ℕ). option_map (io_of k) (entry_at places i)) (sym n)
+    cond-false (eqb first (first + suc i)) (Some (io_of first e)) (io_at (first + suc i) (listed (first + 1) places))
+    (ne_eqb first (first + suc i) (λ same. omega arith))
+    ∙ ap (λ (k : ℕ). io_at k (listed (first + 1) places)) n ∙ io_at-listed (first + 1) i places
+    ∙ ap (λ (k : ℕ). option_map (io_of k) (entry_at places i)) (sym n)
 
 without-below : (n first : ℕ) (places : List (Option Entry)) → n < first → without n (listed first places) ≡ listed first places
 without-below n first [] below = refl
@@ -67,7 +71,7 @@ abbrev pub Member : Io → List Io → Type 0
 Member io [] = ⊥
 Member io (x ∷ xs) = (io ≡ x) ⊎ Member io xs
 
--- an I/O of the list stands at a place
+-- an I/O of the list is at a place
 pub record StandsAt (first : ℕ) (places : List (Option Entry)) (io : Io) : Type 0 where
   pub index : ℕ
   pub number : io.number ≡ first + index
@@ -79,7 +83,11 @@ listed-stands first (None ∷ places) io member =
     let later = listed-stands (first + 1) places io member in
     let number = later.number in
     record { index = suc later.index; number = omega arith; ends = later.ends }
-listed-stands first (Some e ∷ places) io (inl same) = record { index = 0; number = ap (λ (x : Io). x.number) same ∙ omega arith; ends = ap (λ (x : Io). Some x.ends) (sym same) }
+listed-stands first (Some e ∷ places) io (inl same) = record {
+  index = 0;
+  number = ap (λ (x : Io). x.number) same ∙ omega arith;
+  ends = ap (λ (x : Io). Some x.ends) (sym same);
+}
 listed-stands first (Some e ∷ places) io (inr member) =
     let later = listed-stands (first + 1) places io member in
     let number = later.number in
@@ -92,7 +100,7 @@ stands-under_way places io member =
     let same : io.number ≡ at.index = omega arith in
     ap (ends_at places) same ∙ at.ends
 
--- what stands at a place is an I/O of the list
+-- what is at a place is an I/O of the list
 pub record IsListed (first i ends : ℕ) (places : List (Option Entry)) : Type 0 where
   pub io : Io
   pub member : Member io (listed first places)
@@ -102,7 +110,12 @@ pub record IsListed (first i ends : ℕ) (places : List (Option Entry)) : Type 0
 pub ends_at-listed : (first i ends : ℕ) (places : List (Option Entry)) → ends_at places i ≡ Some ends → IsListed first i ends places
 ends_at-listed first i ends [] at = absurd (none-some ends at)
 ends_at-listed first zero ends (None ∷ places) at = absurd (none-some ends at)
-ends_at-listed first zero ends (Some e ∷ places) at = record { io = io_of first e; member = inl refl; number = omega arith; ends_then = same_Some e.ends ends at }
+ends_at-listed first zero ends (Some e ∷ places) at = record {
+  io = io_of first e;
+  member = inl refl;
+  number = omega arith;
+  ends_then = same_Some e.ends ends at;
+}
 ends_at-listed first (suc i) ends (None ∷ places) at =
     let later = ends_at-listed (first + 1) i ends places at in
     let number = later.number in
@@ -176,7 +189,8 @@ IsDueOf-sooner event x xs (Some d) early due = go (is_sooner d x) refl where
 pub due_of-due : (event : ℕ) (ios : List Io) → IsDueOf event ios (due_of event ios)
 due_of-due event [] = λ io member. absurd member
 due_of-due event (x ∷ xs) = go (leb x.ends event) refl (due_of-due event xs) where
-  go : (b : Bool) → leb x.ends event ≡ b → IsDueOf event xs (due_of event xs) → IsDueOf event (x ∷ xs) (cond b (Some (sooner_of x (due_of event xs))) (due_of event xs))
+  go : (b : Bool) → leb x.ends event ≡ b → IsDueOf event xs (due_of event xs)
+      → IsDueOf event (x ∷ xs) (cond b (Some (sooner_of x (due_of event xs))) (due_of event xs))
   go true is due = IsDueOf-sooner event x xs (due_of event xs) (leb-true x.ends event is) due
   go false is due = IsDueOf-later event x xs (due_of event xs) (leb-false x.ends event is) due
 

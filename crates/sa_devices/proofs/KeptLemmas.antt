@@ -10,7 +10,7 @@ use Rattle.std.proofs.lemmas.List.Elements.{All-from_recursion}
 use Rattle.std.proofs.lemmas.List.Sorted.{Contains-permutation, IsPermutation-sym}
 use Rattle.std.proofs.lemmas.Option.{none-some, same_Some}
 use Rattle.sa_base.specs.declared.number.IoNo.{IoNo}
-use Rattle.sa_lemmas.proofs.Membership.{contains-head}
+use Rattle.sa_lemmas.proofs.Membership.{contains-head, contains-tail}
 use Rattle.sa_devices.specs.declared.under_way.Entry.{Entry}
 use Rattle.sa_devices.specs.Ios.{Io, due_of, io_no, io_at, without}
 use Rattle.sa_devices.specs.DevicesView.{IosView, begun_with, ended_with}
@@ -18,9 +18,6 @@ use Rattle.sa_devices.specs.Kept.{Key, key_of, key_cmp, IsNotAfter, listed, entr
 use Rattle.sa_devices.proofs.IosLemmas.{io_of, listed-append, without-listed, io_at-listed, Member, stands-under_way, IsListed, ends_at-listed, IsDueOf, due_of-due}
 
 -- ---- elements
-
-Contains-later : {X : Type 0} (x y : X) (xs : List X) → Contains xs y → Contains (x ∷ xs) y
-Contains-later x y xs at = (suc at.0, omega (arith, at.1), at.2)
 
 Contains-cases : {X : Type 0} (x y : X) (xs : List X) → Contains (x ∷ xs) y → (x ≡ y) ⊎ Contains xs y
 Contains-cases {X} x y xs at = go at.0 at.1 at.2 where
@@ -47,13 +44,14 @@ IsOfOne-old places e key one = ends_at-old places e key.0.1 (ends_at-below place
 
 -- ---- an I/O begins
 
-pub AreKept-begin : (places : List (Option Entry)) (e : Entry) (keys after : List Key) → AreKept places keys → IsPermutation (key_of e.ends (length places) ∷ keys) after → KeepsHeap key_cmp keys after → AreKept (places ++ Some e ∷ []) after
+pub AreKept-begin : (places : List (Option Entry)) (e : Entry) (keys after : List Key) → AreKept places keys
+    → IsPermutation (key_of e.ends (length places) ∷ keys) after → KeepsHeap key_cmp keys after → AreKept (places ++ Some e ∷ []) after
 AreKept-begin places e keys after old moved order =
     let key = key_of e.ends (length places) in
     record {
       ordered = order old.ordered;
       keyed = λ n ends at. Contains-permutation (key ∷ keys) after (key_of ends n) moved (elim (cases_lt n (length places)) [
-        | inl below ↦ Contains-later key (key_of ends n) keys (old.keyed n ends (sym (ends_at-old places e n below) ∙ at))
+        | inl below ↦ contains-tail key keys (key_of ends n) (old.keyed n ends (sym (ends_at-old places e n below) ∙ at))
         | inr past ↦
             let below = ends_at-below (places ++ Some e ∷ []) n ends at in
             let size = length-append places (Some e ∷ []) in
@@ -76,13 +74,18 @@ pub HaveKeys-over : (places : List (Option Entry)) (i : ℕ) (keys : List Key) �
 HaveKeys-over places i keys old n ends at = elim (cases_eq n i) [
   | inr apart ↦ old n ends (sym (ap (λ (x : Option Entry). option_map (λ (y : Entry). y.ends) x) (get_or-set_other places i n None None apart)) ∙ at)
   | inl same ↦ elim (cases_lt i (length places)) [
-    | inl below ↦ absurd (none-some ends (sym (ap (λ (x : Option Entry). option_map (λ (y : Entry). y.ends) x) (ap (entry_at (set places i None)) same ∙ get_or-set_same places i None None below)) ∙ at))
-    | inr past ↦ absurd (none-some ends (sym (ap (λ (x : Option Entry). option_map (λ (y : Entry). y.ends) x) (get_or_past (set places i None) n None (omega (arith, length-set places i None)))) ∙ at))
+    | inl below ↦
+        absurd (none-some ends (sym (ap (λ (x : Option Entry). option_map (λ (y : Entry). y.ends) x)
+        (ap (entry_at (set places i None)) same ∙ get_or-set_same places i None None below)) ∙ at))
+    | inr past ↦
+        absurd (none-some ends (sym (ap (λ (x : Option Entry). option_map (λ (y : Entry). y.ends) x)
+        (get_or_past (set places i None) n None (omega (arith, length-set places i None)))) ∙ at))
   ]
 ]
 
 -- the first key is taken, whose I/O is over
-pub HaveKeys-pop : (places : List (Option Entry)) (key : Key) (keys after : List Key) → HaveKeys places keys → IsPermutation keys (key ∷ after) → (IsOfOne places key → ⊥) → HaveKeys places after
+pub HaveKeys-pop : (places : List (Option Entry)) (key : Key) (keys after : List Key) → HaveKeys places keys → IsPermutation keys (key ∷ after)
+    → (IsOfOne places key → ⊥) → HaveKeys places after
 HaveKeys-pop places key keys after old moved over n ends at =
     elim (Contains-cases key (key_of ends n) after (Contains-permutation keys (key ∷ after) (key_of ends n) moved (old n ends at))) [
       | inl same ↦ absurd (over (subst (IsOfOne places) (sym same) at))
@@ -100,7 +103,8 @@ NotAfter-first x y keys bound at =
     NotAfter-from_lt x y (subst (λ (k : Key). lt_by_cmp key_cmp x k ≡ false) at.2 (all at.0 y at.1))
 
 -- the first key is that of an I/O under way
-pub AreKept-first : (places : List (Option Entry)) (x : Key) (keys : List Key) → IsHeap key_cmp keys → HaveKeys places keys → IsUpperBound key_cmp x keys → IsOfOne places x → AreKept places keys
+pub AreKept-first : (places : List (Option Entry)) (x : Key) (keys : List Key) → IsHeap key_cmp keys → HaveKeys places keys → IsUpperBound key_cmp x keys
+    → IsOfOne places x → AreKept places keys
 AreKept-first places x keys ordered keyed bound one = record {
   ordered = ordered;
   keyed = keyed;
@@ -127,13 +131,15 @@ first-one places x keys kept at bound =
 
 -- ---- the one that is due
 
-pub due_of-none : (event : ℕ) (places : List (Option Entry)) (keys : List Key) → AreKept places keys → length keys ≡ 0 → option_map io_no (due_of event (listed 0 places)) ≡ None
+pub due_of-none : (event : ℕ) (places : List (Option Entry)) (keys : List Key) → AreKept places keys → length keys ≡ 0
+    → option_map io_no (due_of event (listed 0 places)) ≡ None
 due_of-none event places keys kept none = go (due_of event (listed 0 places)) (due_of-due event (listed 0 places)) where
   go : (d : Option Io) → IsDueOf event (listed 0 places) d → option_map io_no d ≡ None
   go None due = refl
   go (Some d) due = (let at = kept.keyed d.number d.ends (stands-under_way places d due.0) in absurd (omega (arith, at.1)))
 
-pub due_of-later : (event : ℕ) (places : List (Option Entry)) (x : Key) (keys : List Key) → AreKept places keys → IsUpperBound key_cmp x keys → event < x.0.0 → option_map io_no (due_of event (listed 0 places)) ≡ None
+pub due_of-later : (event : ℕ) (places : List (Option Entry)) (x : Key) (keys : List Key) → AreKept places keys → IsUpperBound key_cmp x keys → event < x.0.0
+    → option_map io_no (due_of event (listed 0 places)) ≡ None
 due_of-later event places x keys kept bound later = go (due_of event (listed 0 places)) (due_of-due event (listed 0 places)) where
   go : (d : Option Io) → IsDueOf event (listed 0 places) d → option_map io_no d ≡ None
   go None due = refl
@@ -142,8 +148,8 @@ due_of-later event places x keys kept bound later = go (due_of event (listed 0 p
       let early = due.1 in
       absurd (grind arith))
 
-pub due_of-first : (event : ℕ) (places : List (Option Entry)) (x : Key) (keys : List Key) → AreKept places keys → Contains keys x → IsUpperBound key_cmp x keys → x.0.0 ≤ event
-    → option_map io_no (due_of event (listed 0 places)) ≡ Some (record { 0 = x.0.1 })
+pub due_of-first : (event : ℕ) (places : List (Option Entry)) (x : Key) (keys : List Key) → AreKept places keys → Contains keys x → IsUpperBound key_cmp x keys
+    → x.0.0 ≤ event → option_map io_no (due_of event (listed 0 places)) ≡ Some (record { 0 = x.0.1 })
 due_of-first event places x keys kept at bound early =
     go (due_of event (listed 0 places)) (due_of-due event (listed 0 places)) (ends_at-listed 0 x.0.1 x.0.0 places (first-one places x keys kept at bound)) where
       go : (d : Option Io) → IsDueOf event (listed 0 places) d → IsListed 0 x.0.1 x.0.0 places → option_map io_no d ≡ Some (record { 0 = x.0.1 })
@@ -177,13 +183,13 @@ none-listed places (x ∷ xs) kept none =
     let own = ends_at-listed 0 cover.by.0.1 cover.by.0.0 places cover.one in
     absurd (subst (Member own.io) none own.member)
 
--- an I/O under way stands at its place
+-- an I/O under way is at its place
 pub io_at-place : (n : ℕ) (places : List (Option Entry)) → io_at n (listed 0 places) ≡ option_map (io_of n) (entry_at places n)
 io_at-place n places =
     let zero_less : 0 + n ≡ n = omega arith in
     ap (λ (k : ℕ). io_at k (listed 0 places)) (sym zero_less) ∙ io_at-listed 0 n places ∙ ap (λ (k : ℕ). option_map (io_of k) (entry_at places n)) zero_less
 
--- what is under way stands at its place
+-- what is under way is at its place
 pub record Stands (places : List (Option Entry)) (n : ℕ) : Type 0 where
   pub entry : Entry
   pub at : entry_at places n ≡ Some entry
@@ -193,7 +199,11 @@ pub stands : (places : List (Option Entry)) (n : ℕ) (ios : List Io) → listed
 stands places n ios is under = go (entry_at places n) refl (subst IsSome (ap (io_at n) (sym is) ∙ io_at-place n places) under) where
   go : (e : Option Entry) → entry_at places n ≡ e → IsSome (option_map (io_of n) e) → Stands places n
   go None at some = cc
-  go (Some e) at some = record { entry = e; at = at; below = ends_at-below places n e.ends (ap (λ (x : Option Entry). option_map (λ (y : Entry). y.ends) x) at) }
+  go (Some e) at some = record {
+    entry = e;
+    at = at;
+    below = ends_at-below places n e.ends (ap (λ (x : Option Entry). option_map (λ (y : Entry). y.ends) x) at);
+  }
 
 -- ---- what contracts see
 
@@ -204,14 +214,17 @@ pub ended-view : (places : List (Option Entry)) (n spare : ℕ) → ios_view (se
 ended-view places n spare =
     let size = length-set places n None in
     let zero_less : 0 + n ≡ n = omega arith in
-    let ios : listed 0 (set places n None) ≡ without n (listed 0 places) = sym (without-listed 0 n places) ∙ ap (λ (k : ℕ). without k (listed 0 places)) zero_less in
+    let ios : listed 0 (set places n None) ≡ without n (listed 0 places) =
+    sym (without-listed 0 n places) ∙ ap (λ (k : ℕ). without k (listed 0 places)) zero_less in
     λ i. record { begun = size i; under_way = ios i; spare = spare }
 
-pub begun-view : (places : List (Option Entry)) (e : Entry) (spare : ℕ) → ios_view (places ++ Some e ∷ []) (spare - 1) ≡ begun_with (ios_view places spare) e.kind e.ends
+pub begun-view : (places : List (Option Entry)) (e : Entry) (spare : ℕ)
+    → ios_view (places ++ Some e ∷ []) (spare - 1) ≡ begun_with (ios_view places spare) e.kind e.ends
 begun-view places e spare =
     let size : length (places ++ Some e ∷ []) ≡ length places + 1 = length-append places (Some e ∷ []) in
     let zero_less : 0 + length places ≡ length places = omega arith in
-    let ios : listed 0 (places ++ Some e ∷ []) ≡ listed 0 places ++ io_of (length places) e ∷ [] = listed-append 0 places e ∙ ap (λ (n : ℕ). listed 0 places ++ io_of n e ∷ []) zero_less in
+    let ios : listed 0 (places ++ Some e ∷ []) ≡ listed 0 places ++ io_of (length places) e ∷ [] =
+    listed-append 0 places e ∙ ap (λ (n : ℕ). listed 0 places ++ io_of n e ∷ []) zero_less in
     λ i. record { begun = size i; under_way = ios i; spare = spare - 1 }
 
 -- what a pop of a heap with keys did
@@ -221,7 +234,8 @@ pub record Popped (old new : List Key) : Type 0 where
   pub moved : IsPermutation old (key ∷ new)
   pub order : PopsGreatest key_cmp old key new
 
-pub popped : (r : Option Key) (old new : List Key) → IsSome r → IfSome r (λ x. x ≡ slice_index_or old 0 x) → IfSome r (λ x. IsPermutation old (x ∷ new)) → IfSome r (λ x. PopsGreatest key_cmp old x new) → Popped old new
+pub popped : (r : Option Key) (old new : List Key) → IsSome r → IfSome r (λ x. x ≡ slice_index_or old 0 x) → IfSome r (λ x. IsPermutation old (x ∷ new))
+    → IfSome r (λ x. PopsGreatest key_cmp old x new) → Popped old new
 popped None old new some top moved order = cc
 popped (Some x) old new some top moved order = record { key = x; top = top; moved = moved; order = order }
 

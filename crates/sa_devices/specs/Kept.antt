@@ -28,11 +28,11 @@ key_cmp a b = ordering_then (nat_cmp b.0.0 a.0.0) (nat_cmp b.0.1 a.0.1)
 abbrev pub IsNotAfter : Key → Key → Type 0
 IsNotAfter a b = (a.0.0 < b.0.0) ⊎ ((a.0.0 ≡ b.0.0) × (a.0.1 ≤ b.0.1))
 
--- the I/O that stands at a place
+-- the I/O at a place
 abbrev pub entry_at : List (Option Entry) → ℕ → Option Entry
 entry_at places n = slice_index_or places n None
 
--- the end of the I/O that stands at a place
+-- the end of the I/O at a place
 abbrev pub ends_at : List (Option Entry) → ℕ → Option ℕ
 ends_at places n = option_map (λ (e : Entry). e.ends) (entry_at places n)
 

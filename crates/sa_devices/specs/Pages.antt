@@ -45,7 +45,7 @@ abbrev pub evicted : ℕ → List Evict → List ℕ → List ℕ
 evicted event [] pages = pages
 evicted event (e ∷ es) pages = evicted event es (if e.event == event then gone pages e.space.0 e.page else pages)
 
--- the I/O is for one of so many spaces, and a page that it is for is not the upcall page
+-- the I/O is for one of n spaces, and a page that it is for is not the upcall page
 abbrev pub IsKind : ℕ → IoKind → Type 0
 IsKind spaces (Plain s a) = s.0 < spaces
 IsKind spaces (Page s a k) = (s.0 < spaces) × (1 ≤ k) × (k ≤ LAST_PAGE)

@@ -74,7 +74,7 @@ impl Devices {
         self.ios.reserve(n)
     }
 
-    /// Begins an I/O that is due `len` events behind `event`, and answers its number, which is how many were
+    /// Begins an I/O that is due `len` events after `event`, and answers its number, which is how many were
     /// begun before. There is room for it, so it cannot fail for want of memory.
     pub fn begin(&mut self, kind: IoKind, event: u64, len: u32) -> IoNo
         requires room { 1 ≤ self.old.ios.spare }

@@ -18,7 +18,7 @@ pub(crate) struct Entry {
     pub(crate) kind: IoKind,
 }
 
-/// The I/Os that were begun, by their numbers: the place of one that is over is empty. Those under way stand
+/// The I/Os that were begun, by their numbers: the place of one that is over is empty. Those under way are
 /// in a heap too, by their ends. The heap keeps the key of one that was over before its turn until its turn
 /// comes. An ordered map could not promise to begin an I/O with no memory taken.
 #[derive(Debug, Drop)]

@@ -8,7 +8,7 @@ use Rattle.std.specs.Io.KnownBytes.{Appends, Consumes}
 use Rattle.sa_io.specs.Faults.{AppendsPrefix}
 use Rattle.sa_io.specs.Pieces.{GoesOut}
 
--- a prefix of what comes behind what was written is a prefix of the text
+-- a prefix of what comes after what was written is a prefix of the text
 pub prefix-behind : (before at after : Option (List ℕ)) (text written piece behind : List ℕ)
     → text ≡ written ++ (piece ++ behind)
     → Appends before at written → AppendsPrefix at after piece
@@ -31,7 +31,7 @@ lost-more before at after bytes more taken then = (bytes ++ more, Consumes-trans
 pub out-none : (before : Option (List ℕ)) (waited : List ℕ) → GoesOut before before waited [] waited
 out-none before waited = record { sent = []; taken = Appends-nil before; whole = append-nil waited }
 
--- one text and another behind it
+-- one text and another after it
 pub out-both : (before at after : Option (List ℕ)) (waited first between second waits : List ℕ)
     → GoesOut before at waited first between → GoesOut at after between second waits → GoesOut before after waited (first ++ second) waits
 out-both before at after waited first between second waits one two = record {
@@ -45,14 +45,16 @@ out-both before at after waited first between second waits one two = record {
 }
 
 -- the rest goes out: all went out
-pub out-all : (before at after : Option (List ℕ)) (text waits : List ℕ) → GoesOut before at [] text waits → Appends at after waits → Appends before after text
+pub out-all : (before at after : Option (List ℕ)) (text waits : List ℕ)
+    → GoesOut before at [] text waits → Appends at after waits → Appends before after text
 out-all before at after text waits out rest =
     let P : List ℕ → Type 0 = λ v. Appends before after v in
     subst P (sym out.whole) (Appends-trans before at after out.sent waits out.taken rest)
 
--- a write fails at a text behind another one, and more would have come
+-- a write fails at a text after another one, and more would have come
 pub out-cut : (before at after : Option (List ℕ)) (waited first between second more : List ℕ)
-    → GoesOut before at waited first between → AppendsPrefix at after (between ++ second) → AppendsPrefix before after (waited ++ (first ++ (second ++ more)))
+    → GoesOut before at waited first between → AppendsPrefix at after (between ++ second)
+    → AppendsPrefix before after (waited ++ (first ++ (second ++ more)))
 out-cut before at after waited first between second more out cut =
     let whole : waited ++ (first ++ (second ++ more)) ≡ out.sent ++ ((between ++ second) ++ more) =
     sym (append_assoc waited first (second ++ more))
@@ -62,15 +64,18 @@ out-cut before at after waited first between second more out cut =
     prefix-behind before at after (waited ++ (first ++ (second ++ more))) out.sent (between ++ second) more whole out.taken cut
 
 -- a write fails as the rest goes out
-pub out-end_cut : (before at after : Option (List ℕ)) (text waits : List ℕ) → GoesOut before at [] text waits → AppendsPrefix at after waits → AppendsPrefix before after text
+pub out-end_cut : (before at after : Option (List ℕ)) (text waits : List ℕ)
+    → GoesOut before at [] text waits → AppendsPrefix at after waits → AppendsPrefix before after text
 out-end_cut before at after text waits out cut =
     prefix-behind before at after text out.sent waits [] (out.whole ∙ ap (λ v. out.sent ++ v) (sym (append-nil waits))) out.taken cut
 
 -- what waits is filled up to a piece from the front of the rest
-pub filled-up : (text sent waiting rest front behind piece : List ℕ) (n : ℕ) → text ≡ sent ++ (waiting ++ rest) → front ≡ take n rest → behind ≡ drop n rest
+pub filled-up : (text sent waiting rest front behind piece : List ℕ) (n : ℕ)
+    → text ≡ sent ++ (waiting ++ rest) → front ≡ take n rest → behind ≡ drop n rest
     → piece ≡ waiting ++ front → text ≡ sent ++ (piece ++ behind)
 filled-up text sent waiting rest front behind piece n whole is_front is_behind is_piece =
-    let joined : rest ≡ front ++ behind = sym (take-append-drop n rest) ∙ ap (λ v. v ++ drop n rest) (sym is_front) ∙ ap (λ v. front ++ v) (sym is_behind) in
+    let joined : rest ≡ front ++ behind =
+    sym (take-append-drop n rest) ∙ ap (λ v. v ++ drop n rest) (sym is_front) ∙ ap (λ v. front ++ v) (sym is_behind) in
     whole
     ∙ ap (λ v. sent ++ (waiting ++ v)) joined
     ∙ ap (λ v. sent ++ v) (sym (append_assoc waiting front behind) ∙ ap (λ v. v ++ behind) (sym is_piece))

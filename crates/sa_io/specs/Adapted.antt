@@ -1,4 +1,4 @@
--- What a clause sees of a reader or a writer of std's that stands as a source or a sink.
+-- What a clause sees of a reader or a writer of std's that is used as a source or a sink.
 use Rattle.std.specs.Prelude.{ℕ}
 
 -- std's object, and how many calls failed

@@ -2,11 +2,11 @@
 use Rattle.std.specs.Prelude.{ℕ, ◌+◌, ◌-◌, ◌^◌, ◌≤◌, min, List, take, Option}
 use Rattle.std.specs.Io.KnownBytes.{Appends}
 
--- one more, for a count that stands still at its greatest value
+-- one more, for a count that stays at its greatest value
 abbrev pub count_up : ℕ → ℕ
 count_up count = min (count + 1) (2 ^ 64 - 1)
 
--- a count of faults, which stands still at its greatest value, has risen
+-- a count of faults, which stays at its greatest value, has risen
 abbrev pub HasRisen : ℕ → ℕ → Type 0
 HasRisen before now = count_up before ≤ now
 

@@ -49,7 +49,7 @@ impl<R: Read> Source for StdSource<R> {
             (Keeps (R.remaining self.old.inner) (R.remaining self.new.inner)) }
         ensures counted { self.old.faults ≤ self.new.faults }
 
-        // And the count is exact.
+        // The count is exact.
         ensures no_fault { OnOk result (self.new.faults ≡ self.old.faults) }
         ensures one_fault { OnErr result (self.new.faults ≡ count_up self.old.faults) }
     {
@@ -108,7 +108,7 @@ impl<W: Write> Sink for StdSink<W> {
             (AppendsPrefix (W.contents self.old.inner) (W.contents self.new.inner) piece.now) }
         ensures counted { self.old.faults ≤ self.new.faults }
 
-        // And the count is exact.
+        // The count is exact.
         ensures no_fault { OnOk result (self.new.faults ≡ self.old.faults) }
         ensures one_fault { OnErr result (self.new.faults ≡ count_up self.old.faults) }
     {

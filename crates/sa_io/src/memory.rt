@@ -75,7 +75,7 @@ impl Source for MemSource {
         ensures err { OnErr result (self.new.left ≡ self.old.left) }
         ensures counted { self.old.faults ≤ self.new.faults }
 
-        // And exactly this.
+        // The call does exactly this.
         ensures fails { IsErr result ↔ NextReadFails self.old }
         ensures count { IfOk result (λ n. n ≡ next_count self.old (length into.old)) }
         ensures bytes { IfOk result (λ n. into.new ≡ take n self.old.left ++ drop n into.old) }
@@ -186,7 +186,7 @@ impl Sink for MemSink {
             (AppendsPrefix (Some self.old.taken) (Some self.new.taken) piece.now) }
         ensures counted { self.old.faults ≤ self.new.faults }
 
-        // And exactly this.
+        // The call does exactly this.
         ensures fails { IsErr result ↔ NextWriteFails self.old piece.now }
         ensures after { OnOk result (self.new ≡ after_write self.old piece.now) }
         ensures after_failed { OnErr result (self.new ≡ after_failed_write self.old) }

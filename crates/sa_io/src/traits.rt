@@ -25,7 +25,7 @@ pub trait Source {
     /// The bytes that reads will give from here on, where the source tells them.
     ghost left: { Self → Option (List ℕ) };
 
-    /// How many reads have failed, up to 2^64 - 1, where the count stands still. It may rise at a read
+    /// How many reads have failed, up to 2^64 - 1, where the count stays. It may rise at a read
     /// that gives bytes, too.
     ghost faults: { Self → ℕ };
 
@@ -50,7 +50,7 @@ pub trait Sink {
     /// The bytes that the sink took, where it tells them.
     ghost taken: { Self → Option (List ℕ) };
 
-    /// How many writes have failed, up to 2^64 - 1, where the count stands still. It may rise at a write
+    /// How many writes have failed, up to 2^64 - 1, where the count stays. It may rise at a write
     /// that takes the piece, too.
     ghost faults: { Self → ℕ };
 

@@ -33,7 +33,8 @@ one_back v s a first =
     let list = first-of (taken_in v s) a first in
     let here : get_or (slice_set v.taken s (drop 1 (taken_in v s))) s [] ≡ drop 1 (taken_in v s) = elim (cases_lt s (length v.taken)) [
       | inl within ↦ get_or-set_same v.taken s (drop 1 (taken_in v s)) [] within
-      | inr past ↦ let e : taken_in v s ≡ [] = get_or_past v.taken s [] past in let f : slice_get (taken_in v s) 0 ≡ None = ap (λ xs. slice_get xs 0) e in absurd cc
+      | inr past ↦
+          let e : taken_in v s ≡ [] = get_or_past v.taken s [] past in let f : slice_get (taken_in v s) 0 ≡ None = ap (λ xs. slice_get xs 0) e in absurd cc
     ] in
     record {
       acts = ap (λ xs. without_acts xs (without (without_first v s) a).acts) here ∙ ap (λ xs. without_acts xs v.acts) (sym list);
@@ -43,7 +44,8 @@ one_back v s a first =
       used = elim (is_some (v.acts a.0)) as (λ b. cond b (v.used - 1) v.used ≤ v.used) [ true ↦ omega arith | false ↦ omega arith ];
     }
 
-pub one-back : {C : Type 0} (v w : ActsView C) (s : ℕ) (a : ActNo) (r : Option ActNo) → r ≡ slice_get (taken_in v s) 0 → r ≡ Some a → w ≡ gave_back v s → OneBack v w s a
+pub one-back : {C : Type 0} (v w : ActsView C) (s : ℕ) (a : ActNo) (r : Option ActNo) → r ≡ slice_get (taken_in v s) 0 → r ≡ Some a → w ≡ gave_back v s
+    → OneBack v w s a
 one-back v w s a r is some gives =
     let first = sym is ∙ some in
     let e : w ≡ without (without_first v s) a = gives ∙ ap (gave (without_first v s)) first in

@@ -13,7 +13,7 @@ use Rattle.sa_spaces.specs.Workload.{WorkloadView, IsWorkload}
 use Rattle.sa_assign.specs.Reaim.{proc_no}
 use Rattle.sa_devices.specs.DevicesView.{DevicesView}
 use Rattle.sa_devices.specs.Pages.{evicted}
-use Rattle.sa_kernel.specs.declared.machine.Machine.{Machine}
+use Rattle.sa_kernel.specs.declared.parts.Parts.{Parts}
 use Rattle.sa_kernel_model.specs.declared.entry.Entry.{Entry}
 use Rattle.sa_kernel_model.specs.declared.entry.Given.{Given}
 use Rattle.sa_kernel_model.specs.declared.entry.Given.TheVariants.{Upcall}
@@ -45,7 +45,7 @@ none-owed C w =
     omega arith
 
 module _ {C : Type 0} where
-  pub kept-evict : (m : Machine C) (d : DevicesView) (event room last : ℕ) → d ≡ record m.devices { pages = evicted event m.devices.evictions m.devices.pages }
+  pub kept-evict : (m : Parts C) (d : DevicesView) (event room last : ℕ) → d ≡ record m.devices { pages = evicted event m.devices.evictions m.devices.pages }
       → IsKept m room last → IsKept (record m { devices = d }) room last
   kept-evict m d event room last is kept =
       subst (λ (v : DevicesView). IsKept (record m { devices = v }) room last) (sym is) (record {
@@ -66,7 +66,7 @@ module _ {C : Type 0} where
   prompt-at : (x y : Scene C) → x ≡ y → IsPrompt y.state → IsPrompt x.state
   prompt-at x y is prompt = subst (λ (z : Scene C). IsPrompt z.state) (sym is) prompt
 
-  pub kept-closed : (m new : Machine C) (t tn : Recorded) (event room last : ℕ) (p : ProcNo) → scene_of new tn ≡ closed event p (scene_of m t)
+  pub kept-closed : (m new : Parts C) (t tn : Recorded) (event room last : ℕ) (p : ProcNo) → scene_of new tn ≡ closed event p (scene_of m t)
       → Spends m new 0 0 0 → last < event → event ≤ MAX_EVENTS → IsKept m room last → IsKept new room event
   kept-closed m new t tn event room last p is spends later few kept = record {
     sound = sound-at (scene_of new tn) (closed event p (scene_of m t)) is (sound-closed event p (scene_of m t) kept.sound);
@@ -75,12 +75,13 @@ module _ {C : Type 0} where
     ios = omega (arith, spends.ios, kept.ios);
     used = omega (arith, spends.used, kept.used);
     begun = omega (arith, spends.count, kept.begun);
-    pending = (let h = kept.pending in let same = (owed-closed event p (scene_of m t)).1 in let now = ap (λ (x : Scene C). pending_count x.state) is in omega arith);
+    pending =
+        (let h = kept.pending in let same = (owed-closed event p (scene_of m t)).1 in let now = ap (λ (x : Scene C). pending_count x.state) is in omega arith);
     prompt = prompt-at (scene_of new tn) (closed event p (scene_of m t)) is (prompt-closed event p (scene_of m t) kept.sound.formed.sizes);
     last = few;
   }
 
-  pub kept-fetch : (m new : Machine C) (room last : ℕ) → state_of new ≡ after_fetch (state_of m).telling (state_of m) → Spends m new 0 0 0
+  pub kept-fetch : (m new : Parts C) (room last : ℕ) → state_of new ≡ after_fetch (state_of m).telling (state_of m) → Spends m new 0 0 0
       → IsKept m room last → IsKept new room last
   kept-fetch m new room last is spends kept =
       let begun : new.devices.ios.begun ≤ m.devices.ios.begun = omega (arith, spends.count) in
@@ -91,25 +92,27 @@ module _ {C : Type 0} where
         ios = omega (arith, spends.ios, kept.ios);
         used = omega (arith, spends.used, kept.used);
         begun = omega (arith, kept.begun);
-        pending = (let h = kept.pending in let less = (owed-after_fetch (state_of m).telling (state_of m) refl).1 in let now = ap pending_count is in omega arith);
+        pending =
+            (let h = kept.pending in let less = (owed-after_fetch (state_of m).telling (state_of m) refl).1 in let now = ap pending_count is in omega arith);
         prompt = subst (λ (k : KernelState C). IsPrompt k) (sym is) (prompt-after_fetch (state_of m).telling (state_of m) kept.prompt);
         last = kept.last;
       }
 
-  pub told-fetch : (m new : Machine C) (s : ℕ) → state_of new ≡ after_fetch (state_of m).telling (state_of m) → AreClaimed (state_of m) s → AreClaimed (state_of new) s
+  pub told-fetch : (m new : Parts C) (s : ℕ) → state_of new ≡ after_fetch (state_of m).telling (state_of m) → AreClaimed (state_of m) s
+      → AreClaimed (state_of new) s
   told-fetch m new s is claimed = subst (λ (k : KernelState C). AreClaimed k s) (sym is) (claimed-after_fetch (state_of m).telling (state_of m) s refl claimed)
 
-  pub owed-fetch : (m new : Machine C) → state_of new ≡ after_fetch (state_of m).telling (state_of m) → owed_items (state_of new) ≤ owed_items (state_of m)
+  pub owed-fetch : (m new : Parts C) → state_of new ≡ after_fetch (state_of m).telling (state_of m) → owed_items (state_of new) ≤ owed_items (state_of m)
   owed-fetch m new is = let less = (owed-after_fetch (state_of m).telling (state_of m) refl).0 in let now = ap owed_items is in omega arith
 
   -- an entry, before its closing
-  pub record IsEntered (m mid : Machine C) (t tm : Recorded) (given : Given) (p : ProcNo) : Type 0 where
+  pub record IsEntered (m mid : Parts C) (t tm : Recorded) (given : Given) (p : ProcNo) : Type 0 where
     pub sound : IsSound (state_of mid)
     pub items : length tm.items + owed_items (state_of mid) ≤ length t.items + owed_items (state_of m) + 6
     pub pending : pending_count (state_of mid) ≤ pending_count (state_of m) + 1
     pub upcalled : (a : ActNo) → given ≡ Upcall a → IsUpcalled (state_of mid) p a
 
-  pub entered-mid : (v : KernelView C) (m mid : Machine C) (t tm : Recorded) (event room last : ℕ) (p : ProcNo) (entry : Entry C) (given : Given)
+  pub entered-mid : (v : KernelView C) (m mid : Parts C) (t tm : Recorded) (event room last : ℕ) (p : ProcNo) (entry : Entry C) (given : Given)
       → record { parts = m; spare = room; last = last } ≡ v → p.0 < processors v → IsFit (kernel_of v) p event entry → (kernel_of v).telling ≡ []
       → Enters (scene_of m t) (scene_of mid tm) given (upcalls (state_of m) p entry) (λ a. entered_as event p a entry)
       → IsKept m room last → IsEntered m mid t tm given p
@@ -126,16 +129,19 @@ module _ {C : Type 0} where
       let items = owes.items in
       let pending = owes.pending in
       record {
-        sound = sound-at (scene_of mid tm) (entered_as event p enters.fresh entry old) enters.scene (sound-entered_as event p enters.fresh entry old within fit enters.unused empty kept.sound);
+        sound =
+            sound-at (scene_of mid tm) (entered_as event p enters.fresh entry old) enters.scene
+            (sound-entered_as event p enters.fresh entry old within fit enters.unused empty kept.sound);
         items = omega arith;
         pending = omega arith;
         upcalled = λ a is.
             let both = given-upcall (upcalls (state_of m) p entry) enters.fresh a (sym enters.given ∙ is) in
             let up = upcalled-entered_as event p enters.fresh entry old claimed.told_to both.0 within enters.unused empty kept.sound.formed claimed.once in
-            subst (λ (x : Scene C). IsUpcalled x.state p a) (sym enters.scene) (subst (λ b. IsUpcalled (entered_as event p enters.fresh entry old).state p b) both.1 up);
+            subst (λ (x : Scene C). IsUpcalled x.state p a) (sym enters.scene)
+            (subst (λ b. IsUpcalled (entered_as event p enters.fresh entry old).state p b) both.1 up);
       }
 
-  pub kept-entered : (m mid new : Machine C) (t tm tn : Recorded) (event room last : ℕ) (p : ProcNo) (given : Given) → IsEntered m mid t tm given p
+  pub kept-entered : (m mid new : Parts C) (t tm tn : Recorded) (event room last : ℕ) (p : ProcNo) (given : Given) → IsEntered m mid t tm given p
       → scene_of new tn ≡ closed event p (scene_of mid tm) → Spends m mid 1 1 2 → Spends mid new 0 0 0 → 1 ≤ room → last < event → event ≤ MAX_EVENTS
       → IsKept m room last → IsKept new (room - 1) event
   kept-entered m mid new t tm tn event room last p given entered is spent spends some later few kept = record {
@@ -145,13 +151,15 @@ module _ {C : Type 0} where
     ios = omega (arith, spends.ios, spent.ios, kept.ios);
     used = omega (arith, spends.used, spent.used, kept.used);
     begun = omega (arith, spends.count, spent.count, kept.begun);
-    pending = (let h = kept.pending in let more = entered.pending in let same = (owed-closed event p (scene_of mid tm)).1 in let now = ap (λ (x : Scene C). pending_count x.state) is in omega arith);
+    pending =
+        (let h = kept.pending in let more = entered.pending in let same = (owed-closed event p (scene_of mid tm)).1 in
+        let now = ap (λ (x : Scene C). pending_count x.state) is in omega arith);
     prompt = prompt-at (scene_of new tn) (closed event p (scene_of mid tm)) is (prompt-closed event p (scene_of mid tm) entered.sound.formed.sizes);
     last = few;
   }
 
-  -- what is owed behind the closing
-  pub owed-entered : (m mid new : Machine C) (t tm tn : Recorded) (event most : ℕ) (p : ProcNo) (given : Given) → IsEntered m mid t tm given p
+  -- what is owed after the closing
+  pub owed-entered : (m mid new : Parts C) (t tm tn : Recorded) (event most : ℕ) (p : ProcNo) (given : Given) → IsEntered m mid t tm given p
       → scene_of new tn ≡ closed event p (scene_of mid tm) → Adds most t tm → Adds 64 tm tn
       → t.spare + owed_items (state_of new) ≤ tn.spare + owed_items (state_of m) + 80
   owed-entered m mid new t tm tn event most p given entered is adds closes =
@@ -162,7 +170,7 @@ module _ {C : Type 0} where
       let b = closes.spare in
       omega arith
 
-  pub owed-slice : (m new : Machine C) (t tn : Recorded) (event : ℕ) (p : ProcNo) → scene_of new tn ≡ closed event p (scene_of m t) → Adds 64 t tn
+  pub owed-slice : (m new : Parts C) (t tn : Recorded) (event : ℕ) (p : ProcNo) → scene_of new tn ≡ closed event p (scene_of m t) → Adds 64 t tn
       → t.spare + owed_items (state_of new) ≤ tn.spare + owed_items (state_of m) + 80
   owed-slice m new t tn event p is closes =
       let same = (owed-closed event p (scene_of m t)).0 in
@@ -170,23 +178,25 @@ module _ {C : Type 0} where
       let b = closes.spare in
       omega arith
 
-  pub upcalled-new : (m mid new : Machine C) (t tm tn : Recorded) (event : ℕ) (p : ProcNo) (given : Given) → IsEntered m mid t tm given p
+  pub upcalled-new : (m mid new : Parts C) (t tm tn : Recorded) (event : ℕ) (p : ProcNo) (given : Given) → IsEntered m mid t tm given p
       → scene_of new tn ≡ closed event p (scene_of mid tm) → (a : ActNo) → given ≡ Upcall a → IsUpcalled (state_of new) p a
   upcalled-new m mid new t tm tn event p given entered is a up =
       subst (λ (x : Scene C). IsUpcalled x.state p a) (sym is) (upcalled-closed event p (scene_of mid tm) p a (entered.upcalled a up))
 
   -- nothing is owed at the opening
-  pub owed-new : (m new : Machine C) (tn : Recorded) (w : WorkloadView) (items : List Item) → state_of m ≡ opening_state w
+  pub owed-new : (m new : Parts C) (tn : Recorded) (w : WorkloadView) (items : List Item) → state_of m ≡ opening_state w
       → scene_of new tn ≡ closed 0 (proc_no 0) (record { state = state_of m; items = items }) → owed_items (state_of new) ≡ 0
   owed-new m new tn w items opens is =
-      ap (λ (x : Scene C). owed_items x.state) is ∙ (owed-closed 0 (proc_no 0) (record { state = state_of m; items = items })).0 ∙ ap owed_items opens ∙ none-owed C w
+      ap (λ (x : Scene C). owed_items x.state) is ∙ (owed-closed 0 (proc_no 0) (record { state = state_of m; items = items })).0 ∙ ap owed_items opens
+      ∙ none-owed C w
 
-  pub telling-new : (m new : Machine C) (tn : Recorded) (w : WorkloadView) (items : List Item) → state_of m ≡ opening_state w
+  pub telling-new : (m new : Parts C) (tn : Recorded) (w : WorkloadView) (items : List Item) → state_of m ≡ opening_state w
       → scene_of new tn ≡ closed 0 (proc_no 0) (record { state = state_of m; items = items }) → (state_of new).telling ≡ []
   telling-new m new tn w items opens is =
-      ap (λ (x : Scene C). x.state.telling) is ∙ (stays-closed 0 (proc_no 0) (record { state = state_of m; items = items })).telling ∙ ap (λ (k : KernelState C). k.telling) opens
+      ap (λ (x : Scene C). x.state.telling) is ∙ (stays-closed 0 (proc_no 0) (record { state = state_of m; items = items })).telling
+      ∙ ap (λ (k : KernelState C). k.telling) opens
 
-  pub kept-start : (m new : Machine C) (tn : Recorded) (w : WorkloadView) (items : List Item) → IsWorkload w → state_of m ≡ opening_state w → used m ≡ 0
+  pub kept-start : (m new : Parts C) (tn : Recorded) (w : WorkloadView) (items : List Item) → IsWorkload w → state_of m ≡ opening_state w → used m ≡ 0
       → scene_of new tn ≡ closed 0 (proc_no 0) (record { state = state_of m; items = items }) → Spends m new 0 0 0 → IsKept new 0 0
   kept-start m new tn w items ok opens none is spends =
       let sound : IsSound (state_of m) = subst (λ (k : KernelState C). IsSound k) (sym opens) (sound-opening w ok) in
@@ -205,10 +215,12 @@ module _ {C : Type 0} where
         last = omega arith;
       }
 
-  pub opened-is : (m : Machine C) (w : WorkloadView) (items : List Item) (x : Scene C) → state_of m ≡ opening_state w → items ≡ []
-      → x ≡ closed 0 (proc_no 0) (record { state = state_of m; items = items ++ items_at 0 (proc_no 0) (first_wants 0 (length m.demands.items)) }) → x ≡ opened w
+  pub opened-is : (m : Parts C) (w : WorkloadView) (items : List Item) (x : Scene C) → state_of m ≡ opening_state w → items ≡ []
+      → x ≡ closed 0 (proc_no 0) (record { state = state_of m; items = items ++ items_at 0 (proc_no 0) (first_wants 0 (length m.demands.items)) })
+      → x ≡ opened w
   opened-is m w items x opens empty is =
-      let F : KernelState C → List Item → ℕ → Scene C = λ k xs n. closed 0 (proc_no 0) (record { state = k; items = xs ++ items_at 0 (proc_no 0) (first_wants 0 n) }) in
+      let F : KernelState C → List Item → ℕ → Scene C =
+      λ k xs n. closed 0 (proc_no 0) (record { state = k; items = xs ++ items_at 0 (proc_no 0) (first_wants 0 n) }) in
       let one : ℕ = 1 in
       is ∙ ap (λ xs. F (state_of m) xs (length m.demands.items)) empty
       ∙ ap (λ (k : KernelState C). F k [] (length k.demands)) opens

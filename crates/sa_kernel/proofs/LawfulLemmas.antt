@@ -3,7 +3,7 @@ use Rattle.std.proofs.Common.{◌≡◌, ℕ, ◌<◌, ◌∙◌, sym, ap, subst
 use Rattle.sa_base.specs.declared.number.ProcNo.{ProcNo}
 use Rattle.sa_base.specs.declared.number.ActNo.{ActNo}
 use Rattle.sa_base.specs.Recorded.{Recorded}
-use Rattle.sa_kernel.specs.declared.machine.Machine.{Machine}
+use Rattle.sa_kernel.specs.declared.parts.Parts.{Parts}
 use Rattle.sa_kernel_model.specs.declared.entry.Entry.{Entry}
 use Rattle.sa_kernel_model.specs.declared.entry.Given.{Given}
 use Rattle.sa_kernel_model.specs.State.{KernelState, Scene}
@@ -17,7 +17,7 @@ use Rattle.sa_kernel.specs.Kept.{KernelView, kernel_of, processors, scene}
 use Rattle.sa_kernel_model.proofs.HistoryLemmas.{entry-goes-on, slice-goes-on, history-fetched}
 
 module _ {C : Type 0} where
-  pub lawful-entered : (v : KernelView C) (m mid new : Machine C) (t tm tn : Recorded) (event room last : ℕ) (p : ProcNo) (entry : Entry C) (given : Given)
+  pub lawful-entered : (v : KernelView C) (m mid new : Parts C) (t tm tn : Recorded) (event room last : ℕ) (p : ProcNo) (entry : Entry C) (given : Given)
       → record { parts = m; spare = room; last = last } ≡ v → p.0 < processors v → last < event
       → Enters (scene_of m t) (scene_of mid tm) given (upcalls (state_of m) p entry) (λ (a : ActNo). entered_as event p a entry)
       → scene_of new tn ≡ closed event p (scene_of mid tm) → GoesOnLawfully event p (Some entry) (scene v t) (scene_of new tn)
@@ -32,7 +32,7 @@ module _ {C : Type 0} where
       subst (λ (w : KernelView C). GoesOnLawfully event p (Some entry) (scene w t) (scene_of new tn)) view
       (entry-goes-on event p entry (scene_of m t) (scene_of new tn) given (upcalls (state_of m) p entry) within (omega arith) whole)
 
-  pub lawful-slice : (v : KernelView C) (m new : Machine C) (t tn : Recorded) (event room last : ℕ) (p : ProcNo)
+  pub lawful-slice : (v : KernelView C) (m new : Parts C) (t tn : Recorded) (event room last : ℕ) (p : ProcNo)
       → record { parts = m; spare = room; last = last } ≡ v → p.0 < processors v → last < event
       → scene_of new tn ≡ closed event p (scene_of m t) → GoesOnLawfully event p None (scene v t) (scene_of new tn)
   lawful-slice v m new t tn event room last p view inside later closes =
@@ -40,7 +40,7 @@ module _ {C : Type 0} where
       subst (λ (w : KernelView C). GoesOnLawfully event p None (scene w t) (scene_of new tn)) view
       (slice-goes-on event p (scene_of m t) (scene_of new tn) within (omega arith) closes)
 
-  pub lawful-fetch : (v : KernelView C) (m new : Machine C) (room final : ℕ) → record { parts = m; spare = room; last = final } ≡ v
+  pub lawful-fetch : (v : KernelView C) (m new : Parts C) (room final : ℕ) → record { parts = m; spare = room; last = final } ≡ v
       → state_of new ≡ after_fetch (state_of m).telling (state_of m) → KeepsHistories (kernel_of v) (state_of new)
   lawful-fetch v m new room final view is =
       subst (λ (w : KernelView C). KeepsHistories (kernel_of w) (state_of new)) view

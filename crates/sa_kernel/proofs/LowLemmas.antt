@@ -8,7 +8,7 @@ use Rattle.sa_base.specs.declared.record.Note.{Note}
 use Rattle.sa_base.specs.declared.record.Note.TheVariants.{Add, Preempted, Blocked, Unblocked}
 use Rattle.sa_base.specs.declared.context.Stopped.{Stopped}
 use Rattle.sa_acts.specs.Table.{held_of}
-use Rattle.sa_kernel.specs.declared.machine.Machine.{Machine}
+use Rattle.sa_kernel.specs.declared.parts.Parts.{Parts}
 use Rattle.sa_kernel.specs.View.{state_of}
 use Rattle.sa_kernel.specs.Kept.{AreLow}
 use Rattle.sa_kernel_model.specs.State.{KernelState}
@@ -33,5 +33,6 @@ module _ {C : Type 0} where
   low-after_fetch (Preempted a ∷ notes) k lows is = low-handed (held_of (k.acts a.0)) a (record k { telling = notes }) lows is
   low-after_fetch (Unblocked a ∷ notes) k lows is = low-handed (held_of (k.acts a.0)) a (record k { telling = notes }) lows is
 
-  pub low-fetch : (m new : Machine C) (lows : List ℕ) → state_of new ≡ after_fetch (state_of m).telling (state_of m) → AreLow (state_of m) lows → AreLow (state_of new) lows
+  pub low-fetch : (m new : Parts C) (lows : List ℕ) → state_of new ≡ after_fetch (state_of m).telling (state_of m) → AreLow (state_of m) lows
+      → AreLow (state_of new) lows
   low-fetch m new lows is low = subst (λ (k : KernelState C). AreLow k lows) (sym is) (low-after_fetch (state_of m).telling (state_of m) lows low)

@@ -46,8 +46,8 @@ module _ {C : Type 0} where
   moved-acts e p s true x n = refl
   moved-acts e p s false x n = refl
 
-  pub enters-upcall : (e : ℕ) (p : ProcNo) (s : SpaceNo) (a : ActNo) (owned : Bool) (old mid new : Scene C) → mid.state.acts a.0 ≡ None → can_upcall old.state s ≡ true
-      → owned ≡ is_aim s.0 (owner_of old.state p) → mid ≡ moved e p s owned old → new ≡ upcall e p s a (not owned) mid
+  pub enters-upcall : (e : ℕ) (p : ProcNo) (s : SpaceNo) (a : ActNo) (owned : Bool) (old mid new : Scene C) → mid.state.acts a.0 ≡ None
+      → can_upcall old.state s ≡ true → owned ≡ is_aim s.0 (owner_of old.state p) → mid ≡ moved e p s owned old → new ≡ upcall e p s a (not owned) mid
       → Enters old new (Upcall a) (can_upcall old.state s) (λ b. go_to e p s b)
   enters-upcall e p s a owned old mid new unused present owner moves is = record {
     fresh = a;
@@ -172,13 +172,17 @@ module _ {C : Type 0} where
       same (Some s) (Some a) none = elim none [ inl h ↦ cc | inr h ↦ cc ]
 
 -- a list of notices grows by one
-pub count-noted : (untold : List (List Note)) (s : ℕ) (note : Note) → sum_by length (slice_set untold s (get_or untold s [] ++ note ∷ [])) ≤ sum_by length untold + 1
+pub count-noted : (untold : List (List Note)) (s : ℕ) (note : Note)
+    → sum_by length (slice_set untold s (get_or untold s [] ++ note ∷ [])) ≤ sum_by length untold + 1
 count-noted untold s note = elim (cases_lt s (length untold)) [
   | inl within ↦
       let new : List Note = get_or untold s [] ++ note ∷ [] in
-      let e : sum_by length (slice_set untold s new) + length (get_or untold s []) ≡ sum_by length untold + length new = sum_by-set length untold s new [] within in
+      let e : sum_by length (slice_set untold s new) + length (get_or untold s []) ≡ sum_by length untold + length new =
+      sum_by-set length untold s new [] within in
       omega (arith, length-append (get_or untold s []) (note ∷ []))
-  | inr past ↦ let e : sum_by length (slice_set untold s (get_or untold s [] ++ note ∷ [])) ≡ sum_by length untold = ap (sum_by length) (set_past untold s _ past) in omega arith
+  | inr past ↦
+      let e : sum_by length (slice_set untold s (get_or untold s [] ++ note ∷ [])) ≡ sum_by length untold = ap (sum_by length) (set_past untold s _ past) in
+      omega arith
 ]
 
 module _ {C : Type 0} where
@@ -207,10 +211,12 @@ module _ {C : Type 0} where
   count-interrupt e p held a old mid low is =
       let o = owner_of old.state p in
       let l = life_of old.state p in
-      let same : untold_count mid.state ≡ untold_count (stopped e p o l held (lowered p old)).state = ap (λ (x : Scene C). untold_count x.state) (stopped-low e p held a old mid low is) in
+      let same : untold_count mid.state ≡ untold_count (stopped e p o l held (lowered p old)).state =
+      ap (λ (x : Scene C). untold_count x.state) (stopped-low e p held a old mid low is) in
       let more : untold_count (stopped e p o l held (lowered p old)).state ≤ untold_count old.state + 1 = count-stopped e p o l held (lowered p old) in
       omega arith
 
   -- a call that does not upcall
-  pub enters-nothing : (f : ActNo → Scene C → Scene C) (a : ActNo) (old new : Scene C) (up : Bool) → up ≡ false → old.state.acts a.0 ≡ None → new ≡ f a old → Enters old new Nothing up f
+  pub enters-nothing : (f : ActNo → Scene C → Scene C) (a : ActNo) (old new : Scene C) (up : Bool) → up ≡ false → old.state.acts a.0 ≡ None → new ≡ f a old
+      → Enters old new Nothing up f
   enters-nothing f a old new up is unused scene = record { fresh = a; unused = unused; given = ap (λ b. given_by b a) (sym is); scene = scene }

@@ -4,7 +4,7 @@ use Rattle.sa_base.specs.declared.number.ProcNo.{ProcNo}
 use Rattle.sa_base.specs.declared.number.SpaceNo.{SpaceNo}
 use Rattle.sa_base.specs.declared.limits.TheConstants.{MAX_EVENTS}
 use Rattle.sa_base.specs.Recorded.{Recorded}
-use Rattle.sa_kernel.specs.declared.machine.Machine.{Machine}
+use Rattle.sa_kernel.specs.declared.parts.Parts.{Parts}
 use Rattle.sa_kernel_model.specs.State.{KernelState, Scene, owner_of, line_of}
 use Rattle.sa_kernel_model.specs.Closing.{has_low_line}
 use Rattle.sa_kernel_model.specs.Seen.{low_of}
@@ -14,12 +14,12 @@ use Rattle.sa_kernel.specs.View.{state_of, used}
 
 -- the parts, for how many more entries there is room, and the event of the last entry
 pub record KernelView (C : Type 0) : Type 0 where
-  pub parts : Machine C
+  pub parts : Parts C
   pub spare : ℕ
   pub last : ℕ
 
 -- what always holds
-pub record IsKept {C : Type 0} (m : Machine C) (room event : ℕ) : Type 0 where
+pub record IsKept {C : Type 0} (m : Parts C) (room event : ℕ) : Type 0 where
   pub sound : IsSound (state_of m)
   pub notices : room ≤ m.notices.spare
   pub acts : room ≤ m.acts.spare
@@ -39,8 +39,8 @@ abbrev pub IsLowOwner : {C : Type 0} → KernelState C → ProcNo → Option Spa
 IsLowOwner k p None = (s : ℕ) → has_low_line k s p.0 ≡ false
 IsLowOwner k p (Some s) = (owner_of k p ≡ Some s) × (line_of k p ≡ None)
 
--- .. and what each space sees of low lines stands ready
-pub record IsReady {C : Type 0} (m : Machine C) (lows : List ℕ) (room event : ℕ) : Type 0 where
+-- what always holds, and what each space sees of low lines is at hand
+pub record IsReady {C : Type 0} (m : Parts C) (lows : List ℕ) (room event : ℕ) : Type 0 where
   pub kept : IsKept m room event
   pub low : AreLow (state_of m) lows
 

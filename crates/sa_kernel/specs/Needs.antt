@@ -3,7 +3,7 @@ use Rattle.std.specs.Prelude.{◌≡◌, ℕ, ◌+◌, ◌^◌, ◌≤◌, ◌<�
 use Rattle.sa_base.specs.declared.number.ProcNo.{ProcNo}
 use Rattle.sa_base.specs.declared.number.SpaceNo.{SpaceNo}
 use Rattle.sa_base.specs.declared.limits.TheConstants.{MAX_EVENTS}
-use Rattle.sa_kernel.specs.declared.machine.Machine.{Machine}
+use Rattle.sa_kernel.specs.declared.parts.Parts.{Parts}
 use Rattle.sa_kernel_model.specs.State.{KernelState}
 use Rattle.sa_kernel_model.specs.Sound.{HasSizes}
 use Rattle.sa_kernel.specs.View.{used}
@@ -20,13 +20,13 @@ module _ {C : Type 0} where
     pub within : s.0 < length k.demands
 
   -- an upcall may come: what the last one told was fetched, and there is room and a number for a fresh activation
-  pub record MayUpcall (m : Machine C) : Type 0 where
+  pub record MayUpcall (m : Parts C) : Type 0 where
     pub fetched : m.notices.telling ≡ []
     pub room : 1 ≤ m.acts.spare
     pub few : used m + 1 < 2 ^ 32
 
   -- n I/Os may begin at the event: there is room and a number for each
-  pub record MayBegin (m : Machine C) (event n : ℕ) : Type 0 where
+  pub record MayBegin (m : Parts C) (event n : ℕ) : Type 0 where
     pub room : n ≤ m.devices.ios.spare
     pub last : event ≤ MAX_EVENTS
     pub few : m.devices.ios.begun + n ≤ 2 ^ 32

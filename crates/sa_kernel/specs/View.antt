@@ -1,12 +1,12 @@
--- The fields of the machine as the state, and its room.
+-- The parts of the kernel as the state, and their room.
 use Rattle.std.specs.Prelude.{ℕ, ◌+◌, ◌≤◌}
 use Rattle.sa_base.specs.Recorded.{Recorded}
 use Rattle.sa_acts.specs.Table.{acts_of}
-use Rattle.sa_kernel.specs.declared.machine.Machine.{Machine}
+use Rattle.sa_kernel.specs.declared.parts.Parts.{Parts}
 use Rattle.sa_kernel_model.specs.State.{KernelState, Scene}
 
 module _ {C : Type 0} where
-  abbrev pub state_of : Machine C → KernelState C
+  abbrev pub state_of : Parts C → KernelState C
   state_of m = record {
     fixed = record { priorities = m.priorities.items; fetch = m.fetch; slice = m.slice; evictions = m.devices.evictions };
     assign = m.assign;
@@ -21,15 +21,15 @@ module _ {C : Type 0} where
     pages = m.devices.pages;
   }
 
-  abbrev pub scene_of : Machine C → Recorded → Scene C
+  abbrev pub scene_of : Parts C → Recorded → Scene C
   scene_of m trace = record { state = state_of m; items = trace.items }
 
   -- how many numbers are in use
-  abbrev pub used : Machine C → ℕ
+  abbrev pub used : Parts C → ℕ
   used m = (acts_of m.acts).used
 
-  -- at most so much of the room of each kind was spent: for notices, for activations, for I/Os; and so many more I/Os were begun and numbers are used
-  pub record Spends (old new : Machine C) (notes fresh begun : ℕ) : Type 0 where
+  -- no more room was spent than this: for notices, for activations, for I/Os; and no more I/Os were begun, nor numbers used
+  pub record Spends (old new : Parts C) (notes fresh begun : ℕ) : Type 0 where
     pub notices : old.notices.spare ≤ new.notices.spare + notes
     pub acts : old.acts.spare ≤ new.acts.spare + fresh
     pub ios : old.devices.ios.spare ≤ new.devices.ios.spare + begun

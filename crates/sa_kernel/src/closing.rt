@@ -6,7 +6,7 @@ ghost use Rattle.sa_assign.specs.Aims.{aimed, least_below};
 ghost use Rattle.sa_base.specs.Recorded.{Adds};
 ghost use Rattle.sa_kernel_model.specs.Closing.{was_idle};
 
-use crate::machine::{Machine, is_owner};
+use crate::parts::{Parts, is_owner};
 use arrayvec::ArrayVec;
 use sa_assign::AIM_ITEMS;
 use sa_base::{ActNo, Item, MAX_SPACES, Note, ProcNo, Record, SpaceNo, Trace};
@@ -15,7 +15,7 @@ use sa_share::Claim;
 // The most items that a closing says: a want and a line of each space, and the new aims.
 pub(crate) const CLOSING_ITEMS: usize = 2 * MAX_SPACES + AIM_ITEMS;
 
-impl<C: Drop> Machine<C> {
+impl<C: Drop> Parts<C> {
     ghost use Rattle.sa_kernel.specs.View.{state_of, scene_of, Spends};
     ghost use Rattle.sa_kernel.specs.Needs.{HasProc, HasSpace};
     ghost use Rattle.sa_kernel_model.specs.State.{owner_of, aim_of, life_of, demand_of, can_upcall, untold_of, taken_of};

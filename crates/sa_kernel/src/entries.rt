@@ -7,7 +7,7 @@ ghost use Rattle.sa_devices.specs.Pages.{IsKind};
 ghost use Rattle.sa_base.specs.Recorded.{Adds};
 ghost use Rattle.sa_kernel_model.specs.Entries.{io_for, thread_of, without_acts, IsOwnPage};
 
-use crate::machine::Machine;
+use crate::parts::Parts;
 use sa_acts::Acts;
 use sa_base::{
     ActNo, IoNo, MAX_PROCESSORS, Note, ProcNo, Record, SpaceNo, Stopped, ThreadNo, Trace,
@@ -15,7 +15,7 @@ use sa_base::{
 use sa_devices::IoKind;
 use sa_kernel_model::Given;
 
-impl<C: Drop> Machine<C> {
+impl<C: Drop> Parts<C> {
     ghost use Rattle.sa_kernel.specs.View.{state_of, scene_of, used, Spends};
     ghost use Rattle.sa_kernel.specs.Needs.{HasProc, HasSpace, MayUpcall, MayBegin};
     ghost use Rattle.sa_kernel_model.specs.State.{owner_of, aim_of, life_of, demand_of, can_upcall, untold_of, taken_of};
@@ -108,7 +108,7 @@ impl<C: Drop> Machine<C> {
         trace.say(event, p, Record::Want(s, n));
     }
 
-    // The space can use so many more processors.
+    // The space can use that many more processors.
     pub(crate) fn more(&mut self, event: u64, p: ProcNo, n: u16, trace: &mut Trace)
         requires sound { IsFormed (state_of self.old) }
         requires within { p.0 < length self.old.lives.items }

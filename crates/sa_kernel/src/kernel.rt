@@ -5,7 +5,7 @@ ghost use Rattle.sa_devices.specs.Ios.{due_of, io_at, io_no};
 ghost use Rattle.sa_base.specs.Recorded.{Adds};
 ghost use Rattle.sa_laws.specs.History.{Test};
 
-use crate::machine::Machine;
+use crate::parts::Parts;
 use crate::seen::Lows;
 use crate::start::OPENING;
 use sa_base::{IoNo, MAX_EVENTS, MAX_PROCESSORS, Note, ProcNo, Seen, SpaceNo, Stopped, Trace};
@@ -19,7 +19,7 @@ use std::marker::Model;
 /// want of memory.
 #[derive(Debug, Drop)]
 pub struct Kernel<C: Drop> {
-    parts: Machine<C>,
+    parts: Parts<C>,
     // It changes at closings alone.
     lows: Lows,
     spare: usize,
@@ -65,7 +65,7 @@ impl<C: Drop> Kernel<C> {
     {
         w.ranges();
         trace.reserve(OPENING)?;
-        let mut parts = Machine::new(alloc, w)?;
+        let mut parts = Parts::new(alloc, w)?;
         parts.open(trace);
         let lows = parts.lows();
         Ok(Kernel {

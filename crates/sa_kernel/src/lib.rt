@@ -4,7 +4,7 @@
 mod closing;
 mod entries;
 mod kernel;
-mod machine;
+mod parts;
 mod seen;
 mod start;
 

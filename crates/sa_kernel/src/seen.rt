@@ -2,13 +2,13 @@
 ghost use Rattle.std.specs.Prelude.{◌≡◌, ℕ, ◌^◌, ◌<◌, bit_or, length, is_some, Some, IsSome};
 ghost use Rattle.sa_assign.specs.Aims.{least_below};
 
-use crate::machine::Machine;
+use crate::parts::Parts;
 use sa_base::{MAX_SPACES, ProcNo, Seen, SpaceNo};
 
 // Of each space, what it sees of low lines: bit q says that it owns processor q, whose line is low.
 pub(crate) type Lows = [u16; MAX_SPACES];
 
-impl<C: Drop> Machine<C> {
+impl<C: Drop> Parts<C> {
     ghost use Rattle.sa_kernel.specs.View.{state_of};
     ghost use Rattle.sa_kernel.specs.Needs.{HasProc, HasSpace};
     ghost use Rattle.sa_kernel.specs.Kept.{AreLow, IsLowOwner};

@@ -8,7 +8,7 @@ ghost use Rattle.sa_base.specs.Recorded.{Adds};
 ghost use Rattle.sa_kernel_model.specs.Opening.{first_wants};
 
 use crate::closing::CLOSING_ITEMS;
-use crate::machine::Machine;
+use crate::parts::Parts;
 use sa_acts::Acts;
 use sa_assign::Assign;
 use sa_base::{ActNo, MAX_EVENTS, MAX_SPACES, Note, ProcNo, Record, SpaceNo, Stopped, Trace};
@@ -21,7 +21,7 @@ use std::alloc::{AllocError, Global};
 /// How many items the opening has at most: a want of each space, and those of a closing.
 pub(crate) const OPENING: usize = MAX_SPACES + CLOSING_ITEMS;
 
-impl<C: Drop> Machine<C> {
+impl<C: Drop> Parts<C> {
     ghost use Rattle.sa_kernel.specs.View.{state_of, scene_of, used, Spends};
     ghost use Rattle.sa_kernel.specs.Needs.{MayUpcall, MayBegin};
     ghost use Rattle.sa_kernel_model.specs.Sound.{IsFormed, HasSizes};
@@ -38,7 +38,7 @@ impl<C: Drop> Machine<C> {
         ensures used { IfOk result (λ m. used m ≡ 0) }
     {
         let spaces = w.spaces();
-        Ok(Machine {
+        Ok(Parts {
             fetch: w.fetch(),
             slice: w.slice(),
             priorities: priorities(alloc, spaces)?,
@@ -65,7 +65,7 @@ impl<C: Drop> Machine<C> {
         self.close(0, ProcNo(0), trace);
     }
 
-    // Makes room for so many entries. An error changes nothing but the room.
+    // Makes room for that many entries. An error changes nothing but the room.
     pub(crate) fn reserve(&mut self, n: usize) -> Result<(), AllocError>
         ensures ok { OnOk result ((n ≤ self.new.notices.spare) × (n ≤ self.new.acts.spare)
             × (2 * n ≤ self.new.devices.ios.spare)) }
@@ -197,7 +197,7 @@ fn priorities(alloc: Global, spaces: &[SpaceDef]) -> Result<Vec<u8>, AllocError>
     Ok(priorities)
 }
 
-// The same value so many times.
+// The same value that many times.
 fn cells<T: Copy>(alloc: Global, n: usize, value: T) -> Result<Vec<T>, AllocError>
     ensures { IfOk result (λ v. v.items ≡ replicate n value) }
 {

@@ -41,7 +41,8 @@ aim-record w e p m c (Some earlier) up =
     sym (set-get_or m.lines c.proc None) ∙ ap (slice_set m.lines c.proc) (up ∙ ap (raised e) (sym up)) in
     λ i. record (overview m) { assign = record (overview m).assign { aims = aims_with m.aims c; lines = same i } }
 
-pub aims-reads : (w : WorkloadView) (e : ℕ) (p : ProcNo) (m : Readings) (cs : List Change) → overview (after_records w e p m (records_of e m.lines cs)) ≡ changed_by e cs (overview m)
+pub aims-reads : (w : WorkloadView) (e : ℕ) (p : ProcNo) (m : Readings) (cs : List Change)
+    → overview (after_records w e p m (records_of e m.lines cs)) ≡ changed_by e cs (overview m)
 aims-reads w e p m [] = refl
 aims-reads w e p m (c ∷ cs) =
     let one = Aim (proc_no c.proc) (Some (space_no c.space)) ∷ line_records c.proc (line_at m.lines c.proc) in
@@ -62,8 +63,8 @@ aim-lawful w e p m c None rest low law = (
 aim-lawful w e p m c (Some earlier) rest up law =
     (record { once = tt; named = tt; all = tt; gives = tt; raises = record { line = λ is. absurd (none-some earlier (sym is ∙ up)) } }, law)
 
-pub aims-lawful : (w : WorkloadView) (e : ℕ) (p : ProcNo) (m : Readings) (cs : List Change) (rest : List Record) → AreLawful w e p (after_records w e p m (records_of e m.lines cs)) rest
-    → AreLawful w e p m (records_of e m.lines cs ++ rest)
+pub aims-lawful : (w : WorkloadView) (e : ℕ) (p : ProcNo) (m : Readings) (cs : List Change) (rest : List Record)
+    → AreLawful w e p (after_records w e p m (records_of e m.lines cs)) rest → AreLawful w e p m (records_of e m.lines cs ++ rest)
 aims-lawful w e p m [] rest law = law
 aims-lawful w e p m (c ∷ cs) rest law =
     let one = Aim (proc_no c.proc) (Some (space_no c.space)) ∷ line_records c.proc (line_at m.lines c.proc) in
@@ -71,9 +72,11 @@ aims-lawful w e p m (c ∷ cs) rest law =
     let lines : next.lines ≡ lines_with e m.lines c = ap (λ (v : Overview). v.assign.lines) (aim-record w e p m c (line_at m.lines c.proc) refl) in
     let others = records_of e (lines_with e m.lines c) cs in
     let same : records_of e next.lines cs ≡ others = ap (λ ls. records_of e ls cs) lines in
-    let after : after_records w e p m (records_of e m.lines (c ∷ cs)) ≡ after_records w e p next (records_of e next.lines cs) = records-append w e p m one others ∙ ap (after_records w e p next) (sym same) in
+    let after : after_records w e p m (records_of e m.lines (c ∷ cs)) ≡ after_records w e p next (records_of e next.lines cs) =
+    records-append w e p m one others ∙ ap (after_records w e p next) (sym same) in
     let rest_law = aims-lawful w e p next cs rest (subst (λ (d : Readings). AreLawful w e p d rest) after law) in
-    let all : line_records c.proc (line_at m.lines c.proc) ++ (others ++ rest) ≡ (line_records c.proc (line_at m.lines c.proc) ++ others) ++ rest = sym (append_assoc (line_records c.proc (line_at m.lines c.proc)) others rest) in
+    let all : line_records c.proc (line_at m.lines c.proc) ++ (others ++ rest) ≡ (line_records c.proc (line_at m.lines c.proc) ++ others) ++ rest =
+    sym (append_assoc (line_records c.proc (line_at m.lines c.proc)) others rest) in
     subst (λ xs. AreLawful w e p m (Aim (proc_no c.proc) (Some (space_no c.space)) ∷ xs)) all
     (aim-lawful w e p m c (line_at m.lines c.proc) (others ++ rest) refl (subst (λ xs. AreLawful w e p next (xs ++ rest)) same rest_law))
 
@@ -89,14 +92,16 @@ module _ {C : Type 0} where
       sym (get_or-map (λ (d : SpaceView). d.priority) w.spaces s no_space) ∙ ap (λ (f : Fixed). slice_index f.priorities s) (sym of.fixed) in
       λ i. F (priority i) (reads i)
 
-  claims-same : (w : WorkloadView) (k : KernelState C) (m : Readings) (s n : ℕ) → IsOf w k → overview m ≡ read_off k → map (claim_of w m) (spaces_from s n) ≡ claims_from k s n
+  claims-same : (w : WorkloadView) (k : KernelState C) (m : Readings) (s n : ℕ) → IsOf w k → overview m ≡ read_off k
+      → map (claim_of w m) (spaces_from s n) ≡ claims_from k s n
   claims-same w k m s zero of reads = refl
   claims-same w k m s (suc n) of reads =
       let one = claim-same w k m s of reads in
       let rest = claims-same w k m (s + 1) n of reads in
       λ i. one i ∷ rest i
 
-  pub shares-same : (w : WorkloadView) (k : KernelState C) (m : Readings) (e : ℕ) → IsOf w k → length k.assign.owners ≡ w.processors → overview m ≡ read_off k → shares_at w e m ≡ shares_in k e
+  pub shares-same : (w : WorkloadView) (k : KernelState C) (m : Readings) (e : ℕ) → IsOf w k → length k.assign.owners ≡ w.processors → overview m ≡ read_off k
+      → shares_at w e m ≡ shares_in k e
   shares-same w k m e of owners reads =
       let claimed : claims_of w m ≡ claims_in k = claims-same w k m 0 (length w.spaces) of reads ∙ ap (claims_from k 0) (sym of.spaces) in
       let first : first_space w e ≡ first_in k e =
@@ -120,7 +125,8 @@ module _ {C : Type 0} where
     pub adds : (aims e p x).items ≡ x.items ++ items_at e p (records_of e m.lines (aims_due w e m))
     pub reads : overview (after_records w e p m (records_of e m.lines (aims_due w e m))) ≡ read_off (aims e p x).state
 
-  pub aims-walk : (w : WorkloadView) (e : ℕ) (p : ProcNo) (m : Readings) (x : Scene C) → IsOf w x.state → length x.state.assign.owners ≡ w.processors → overview m ≡ read_off x.state → Aimed w e p m x
+  pub aims-walk : (w : WorkloadView) (e : ℕ) (p : ProcNo) (m : Readings) (x : Scene C) → IsOf w x.state → length x.state.assign.owners ≡ w.processors
+      → overview m ≡ read_off x.state → Aimed w e p m x
   aims-walk w e p m x of owners reads =
       let k = x.state in
       let cs = aims_due w e m in

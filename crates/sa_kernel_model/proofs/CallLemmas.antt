@@ -18,12 +18,14 @@ use Rattle.sa_kernel_model.proofs.LawLemmas.{turns-keep}
 use Rattle.sa_kernel_model.proofs.FrameLemmas.{adds-its-event}
 use Rattle.sa_kernel_model.proofs.RunLemmas.{all-at-turn}
 
-goes-on : (C : Type 0) (test : Test) (w : WorkloadView) (k : KernelState C) (r : Readings) (e : ℕ) (p : ProcNo) (says : List Record) (past : List Item) (en : Option (Entry C)) (fresh : ActNo) (new : Scene C)
-    → CanCall w k r e p says en → IsUnused k fresh en → new ≡ turn_on e p fresh en (scene_before k e p says past) → GoesOn test w r e p past new
+goes-on : (C : Type 0) (test : Test) (w : WorkloadView) (k : KernelState C) (r : Readings) (e : ℕ) (p : ProcNo) (says : List Record) (past : List Item)
+    (en : Option (Entry C)) (fresh : ActNo) (new : Scene C) → CanCall w k r e p says en → IsUnused k fresh en
+    → new ≡ turn_on e p fresh en (scene_before k e p says past) → GoesOn test w r e p past new
 goes-on C test w k r e p says past en fresh new can unused is =
     let t : Turn C = record { number = e; proc = p; says = says; fresh = fresh; entry = en } in
     let turn : CanTurn w k r t = record { within = can.within; later = can.later; unused = unused; fetched = can.fetched; fits = can.fits; says = can.right } in
-    let next : new ≡ record { state = (turned t k).state; items = past ++ items_at e p (event_of t k).records } = is ∙ adds-its-event C w k r t past can.ok can.kept turn in
+    let next : new ≡ record { state = (turned t k).state; items = past ++ items_at e p (event_of t k).records } =
+    is ∙ adds-its-event C w k r t past can.ok can.kept turn in
     record {
       event = event_of t k;
       number = refl;
@@ -34,7 +36,8 @@ goes-on C test w k r e p says past en fresh new can unused is =
     }
 
 pub entries-go-on : (C : Type 0) → EntriesGoOn C
-entries-go-on C test w k r e p says past en result upcalls new can enters = goes-on C test w k r e p says past (Some en) enters.fresh new can enters.unused enters.scene
+entries-go-on C test w k r e p says past en result upcalls new can enters =
+    goes-on C test w k r e p says past (Some en) enters.fresh new can enters.unused enters.scene
 
 pub slices-go-on : (C : Type 0) → SlicesGoOn C
 slices-go-on C test w k r e p says past new can is = goes-on C test w k r e p says past None (record { 0 = 0 }) new can tt is

@@ -55,31 +55,37 @@ filter-nothing f [] none = refl
 filter-nothing f (s ∷ ss) none = ap (λ b. cond b (s ∷ filter f ss) (filter f ss)) (none s) ∙ filter-nothing f ss none
 
 -- wants in an event
-wants-behind : (own wl rest : List Record) → own ≢ [] → AreOwn (others_of own) → list_all is_want wl ≡ true → list_all is_no_want rest ≡ true → wants_in (others_of (own ++ (wl ++ rest))) ≡ wl
+wants-behind : (own wl rest : List Record) → own ≢ [] → AreOwn (others_of own) → list_all is_want wl ≡ true → list_all is_no_want rest ≡ true
+    → wants_in (others_of (own ++ (wl ++ rest))) ≡ wl
 wants-behind [] wl rest some are wants none = absurd (some refl)
 wants-behind (x ∷ xs) wl rest some are wants none =
     filter-both is_want xs (wl ++ rest) ∙ ap (λ ys. ys ++ filter is_want (wl ++ rest)) (filter-none is_want xs (own-wants xs are))
-    ∙ filter-both is_want wl rest ∙ ap (λ ys. ys ++ filter is_want rest) (filter-all is_want wl wants) ∙ ap (λ ys. wl ++ ys) (filter-none is_want rest none) ∙ append-nil wl
+    ∙ filter-both is_want wl rest ∙ ap (λ ys. ys ++ filter is_want rest) (filter-all is_want wl wants) ∙ ap (λ ys. wl ++ ys) (filter-none is_want rest none)
+    ∙ append-nil wl
 
 before-none : (own rest : List Record) → own ≢ [] → AreOwn (others_of own) → list_all is_no_want rest ≡ true → before_wants (own ++ rest) ≡ own ++ rest
 before-none [] rest some are none = absurd (some refl)
-before-none (x ∷ xs) rest some are none = ap (λ ys. x ∷ ys) (while-both is_no_want xs rest (own-wants xs are) ∙ ap (λ ys. xs ++ ys) (while-all is_no_want rest none))
+before-none (x ∷ xs) rest some are none =
+    ap (λ ys. x ∷ ys) (while-both is_no_want xs rest (own-wants xs are) ∙ ap (λ ys. xs ++ ys) (while-all is_no_want rest none))
 
 before-some : (own : List Record) (s : SpaceNo) (rest : List Record) → own ≢ [] → AreOwn (others_of own) → before_wants (own ++ (want_one s ∷ rest)) ≡ own
 before-some [] s rest some are = absurd (some refl)
 before-some (x ∷ xs) s rest some are =
-    ap (λ ys. x ∷ ys) (while-both is_no_want xs (want_one s ∷ rest) (own-wants xs are) ∙ ap (λ ys. xs ++ ys) (while-none is_no_want (want_one s) rest refl) ∙ append-nil xs)
+    ap (λ ys. x ∷ ys) (while-both is_no_want xs (want_one s ∷ rest) (own-wants xs are) ∙ ap (λ ys. xs ++ ys) (while-none is_no_want (want_one s) rest refl)
+    ∙ append-nil xs)
 
 -- lines in an event
-pub front-of : (own wl ll : List Record) (e : ℕ) (lines : List (Option ℕ)) (cs : List Change) → own ≢ [] → AreOwn (others_of own) → list_all is_no_aim own ≡ true → list_all is_no_aim wl ≡ true
-    → list_all (λ y. not (is_line y)) wl ≡ true → ((q : ℕ) (others : List Record) → ll ≡ Line (proc_no q) ∷ others → line_at (lines_after e lines cs) q ≡ None) → AreLines ll
+pub front-of : (own wl ll : List Record) (e : ℕ) (lines : List (Option ℕ)) (cs : List Change) → own ≢ [] → AreOwn (others_of own)
+    → list_all is_no_aim own ≡ true → list_all is_no_aim wl ≡ true → list_all (λ y. not (is_line y)) wl ≡ true
+    → ((q : ℕ) (others : List Record) → ll ≡ Line (proc_no q) ∷ others → line_at (lines_after e lines cs) q ≡ None) → AreLines ll
     → front_part (own ++ (wl ++ (records_of e lines cs ++ ll))) ≡ own ++ (wl ++ records_of e lines cs)
 front-of [] wl ll e lines cs some are none want_none want_line low are_lines = absurd (some refl)
 front-of (x ∷ xs) wl ll e lines cs some are none want_none want_line low are_lines =
-    front-is x xs wl ll e lines cs (and_parts (is_no_aim x) (list_all is_no_aim xs) none).0 (and_parts (is_no_aim x) (list_all is_no_aim xs) none).1 (own-lines xs are) want_none want_line low are_lines
+    front-is x xs wl ll e lines cs (and_parts (is_no_aim x) (list_all is_no_aim xs) none).0 (and_parts (is_no_aim x) (list_all is_no_aim xs) none).1
+    (own-lines xs are) want_none want_line low are_lines
 
 module _ {C : Type 0} where
-  -- behind the closing no space wants none that must be told something
+  -- after the closing no space wants none that must be told something
   none-must : (w : WorkloadView) (k : KernelState C) (r : Readings) (t : Turn C) (whole : Whole w k r t) (s : SpaceNo) → must_want whole.closing.lined s ≡ false
   none-must w k r t whole s =
       let e = t.number in
@@ -87,11 +93,13 @@ module _ {C : Type 0} where
       let m = after_records w e p (reading_at w r t k) whole.own.records in
       let cl = whole.closing in
       let demands : length m.demands ≡ length w.spaces = ap (λ (v : Overview). length v.demands) whole.own.reads ∙ whole.of.spaces in
-      let untold : length m.untold ≡ length w.spaces = ap (λ (v : Overview). length v.untold) whole.own.reads ∙ whole.sound.formed.sizes.untold ∙ whole.of.spaces in
+      let untold : length m.untold ≡ length w.spaces =
+      ap (λ (v : Overview). length v.untold) whole.own.reads ∙ whole.sound.formed.sizes.untold ∙ whole.of.spaces in
       must-alike cl.wanted cl.lined s cl.late_demands cl.late.untold (ap idles cl.late.lives)
       ∙ ap (λ (c : Readings). must_want c s) cl.wanted_is ∙ none-wanted w e p m (length w.spaces) s.0 demands untold
 
-  wants-due : (w : WorkloadView) (k : KernelState C) (r : Readings) (t : Turn C) (whole : Whole w k r t) → wants_in (others_of (event_of t k).records) ≡ wants_due w (behind w (event_of t k) r (before_wants (event_of t k).records))
+  wants-due : (w : WorkloadView) (k : KernelState C) (r : Readings) (t : Turn C) (whole : Whole w k r t)
+      → wants_in (others_of (event_of t k).records) ≡ wants_due w (behind w (event_of t k) r (before_wants (event_of t k).records))
   wants-due w k r t whole = go (filter (must_want m) (spaces_of w)) refl where
     e : ℕ
     e = t.number
@@ -111,10 +119,12 @@ module _ {C : Type 0} where
     no_wants : list_all is_no_want rest ≡ true
     no_wants =
         list_all-append is_no_want (records_of t.number whole.closing.wanted.lines (aims_due w t.number whole.closing.wanted)) (lines_due w whole.closing.aimed)
-        ∙ ap (λ b. b && list_all is_no_want (lines_due w whole.closing.aimed)) (aims-wants t.number whole.closing.wanted.lines (aims_due w t.number whole.closing.wanted))
+        ∙ ap (λ b. b && list_all is_no_want (lines_due w whole.closing.aimed))
+        (aims-wants t.number whole.closing.wanted.lines (aims_due w t.number whole.closing.wanted))
         ∙ lines-wants (lines_due w whole.closing.aimed) whole.closing.lines
 
-    go : (ss : List SpaceNo) → filter (must_want m) (spaces_of w) ≡ ss → wants_in (others_of (event_of t k).records) ≡ wants_due w (behind w (event_of t k) r (before_wants (event_of t k).records))
+    go : (ss : List SpaceNo) → filter (must_want m) (spaces_of w) ≡ ss
+        → wants_in (others_of (event_of t k).records) ≡ wants_due w (behind w (event_of t k) r (before_wants (event_of t k).records))
     go [] none =
         let wl : wants_due w m ≡ [] = ap (map want_one) none in
         let records : (event_of t k).records ≡ whole.own.records ++ rest = whole.records ∙ ap (λ xs. whole.own.records ++ (xs ++ rest)) wl in
@@ -125,14 +135,18 @@ module _ {C : Type 0} where
         ∙ ap (map want_one) (filter-nothing (must_want whole.closing.lined) (spaces_of w) (none-must w k r t whole)))
     go (s ∷ ss) some =
         let wl : wants_due w m ≡ want_one s ∷ map want_one ss = ap (map want_one) some in
-        let records : (event_of t k).records ≡ whole.own.records ++ (want_one s ∷ (map want_one ss ++ rest)) = whole.records ∙ ap (λ xs. whole.own.records ++ (xs ++ rest)) wl in
-        let front : before_wants (event_of t k).records ≡ whole.own.records = ap before_wants records ∙ before-some whole.own.records s (map want_one ss ++ rest) whole.own.some whole.own.own in
-        ap (λ xs. wants_in (others_of xs)) records ∙ wants-behind whole.own.records (want_one s ∷ map want_one ss) rest whole.own.some whole.own.own (wants-all (s ∷ ss)) no_wants
+        let records : (event_of t k).records ≡ whole.own.records ++ (want_one s ∷ (map want_one ss ++ rest)) =
+        whole.records ∙ ap (λ xs. whole.own.records ++ (xs ++ rest)) wl in
+        let front : before_wants (event_of t k).records ≡ whole.own.records =
+        ap before_wants records ∙ before-some whole.own.records s (map want_one ss ++ rest) whole.own.some whole.own.own in
+        ap (λ xs. wants_in (others_of xs)) records
+        ∙ wants-behind whole.own.records (want_one s ∷ map want_one ss) rest whole.own.some whole.own.own (wants-all (s ∷ ss)) no_wants
         ∙ sym wl ∙ sym (ap (λ xs. wants_due w (after_records w e p c xs)) front)
 
   -- the lines
   lines-parts : (w : WorkloadView) (k : KernelState C) (r : Readings) (t : Turn C) (whole : Whole w k r t)
-      → (front_part (event_of t k).records ≡ whole.own.records ++ (wants_due w (after_records w t.number t.proc (reading_at w r t k) whole.own.records) ++ records_of t.number whole.closing.wanted.lines (aims_due w t.number whole.closing.wanted)))
+      → (front_part (event_of t k).records ≡ whole.own.records ++ (wants_due w (after_records w t.number t.proc (reading_at w r t k) whole.own.records)
+      ++ records_of t.number whole.closing.wanted.lines (aims_due w t.number whole.closing.wanted)))
       × (last_lines (event_of t k).records ≡ lines_due w whole.closing.aimed)
   lines-parts w k r t whole =
       let e = t.number in
@@ -145,12 +159,19 @@ module _ {C : Type 0} where
       let cs = aims_due w e cl.wanted in
       let al = records_of e cl.wanted.lines cs in
       let ll = lines_due w cl.aimed in
-      let lines : cl.aimed.lines ≡ lines_after e cl.wanted.lines cs = ap (λ (d : Readings). d.lines) cl.aimed_is ∙ ap (λ (v : Overview). v.assign.lines) (aims-reads w e p cl.wanted cs) in
+      let lines : cl.aimed.lines ≡ lines_after e cl.wanted.lines cs =
+      ap (λ (d : Readings). d.lines) cl.aimed_is ∙ ap (λ (v : Overview). v.assign.lines) (aims-reads w e p cl.wanted cs) in
       let low : (q : ℕ) (others : List Record) → ll ≡ Line (proc_no q) ∷ others → line_at (lines_after e cl.wanted.lines cs) q ≡ None = λ q others is.
       ap (λ ls. line_at ls q) (sym lines) ∙ (subst (λ xs. AreLawful w e p cl.aimed xs) is cl.lawful_lines).0.raises in
-      let front = ap front_part whole.records ∙ front-of own wl ll e cl.wanted.lines cs whole.own.some whole.own.own whole.own.no_aim (wants-aims ss) (wants-lines ss) low cl.lines in
-      let all : own ++ (wl ++ (al ++ ll)) ≡ (own ++ (wl ++ al)) ++ ll = ap (λ xs. own ++ xs) (sym (append_assoc wl al ll)) ∙ sym (append_assoc own (wl ++ al) ll) in
-      (front, ap (λ xs. drop (length xs) (event_of t k).records) front ∙ ap (drop (length (own ++ (wl ++ al)))) (whole.records ∙ all) ∙ drop-front (own ++ (wl ++ al)) ll)
+      let front =
+      ap front_part whole.records ∙ front-of own wl ll e cl.wanted.lines cs whole.own.some whole.own.own whole.own.no_aim (wants-aims ss)
+      (wants-lines ss) low cl.lines in
+      let all : own ++ (wl ++ (al ++ ll)) ≡ (own ++ (wl ++ al)) ++ ll =
+      ap (λ xs. own ++ xs) (sym (append_assoc wl al ll)) ∙ sym (append_assoc own (wl ++ al) ll) in (
+        front,
+        ap (λ xs. drop (length xs) (event_of t k).records) front ∙ ap (drop (length (own ++ (wl ++ al)))) (whole.records ∙ all)
+            ∙ drop-front (own ++ (wl ++ al)) ll,
+      )
 
 pub want-cause : (C : Type 0) → HoldsAtTurns C WantsHaveCause
 want-cause C test w k r t ok kept can =
@@ -177,16 +198,20 @@ line-cause C test w k r t ok kept can =
     let parts = lines-parts w k r t whole in
     let ll = lines_due w cl.aimed in
     let moment : after_records w e p c (own ++ (wl ++ al)) ≡ cl.aimed =
-    records-append w e p c own (wl ++ al) ∙ records-append w e p m wl al ∙ ap (λ (d : Readings). after_records w e p d al) (sym cl.wanted_is) ∙ sym cl.aimed_is in
+    records-append w e p c own (wl ++ al) ∙ records-append w e p m wl al ∙ ap (λ (d : Readings). after_records w e p d al) (sym cl.wanted_is)
+    ∙ sym cl.aimed_is in
     record {
       heard = each-of w k r t RaisesLine kept can (λ d x rest law. law.raises);
-      first = subst (λ xs. FirstLineIsAsked AnyLines w r p xs) (sym whole.records) (whole.own.asked r (closing_of w k r t whole) (ap (λ (v : Overview). v.assign.owners) kept.reads));
+      first =
+          subst (λ xs. FirstLineIsAsked AnyLines w r p xs) (sym whole.records)
+          (whole.own.asked r (closing_of w k r t whole) (ap (λ (v : Overview). v.assign.owners) kept.reads));
       order = ap aims_in parts.1 ∙ aims-none ll (lines-aims ll cl.lines);
       due = ap lines_in parts.1 ∙ filter-all is_line ll cl.lines ∙ sym (ap (λ xs. lines_due w (after_records w e p c xs)) parts.0 ∙ ap (lines_due w) moment);
     }
 
 -- No entry asks for a line where its records have none.
-none-asked : (w : WorkloadView) (c : Readings) (p : ProcNo) (xs rest : List Record) → xs ≢ [] → list_all (λ x. not (is_line x)) xs ≡ true → FirstLineIsAsked NoLines w c p (xs ++ rest)
+none-asked : (w : WorkloadView) (c : Readings) (p : ProcNo) (xs rest : List Record) → xs ≢ [] → list_all (λ x. not (is_line x)) xs ≡ true
+    → FirstLineIsAsked NoLines w c p (xs ++ rest)
 none-asked w c p [] rest some none = absurd (some refl)
 none-asked w c p (Line q ∷ xs) rest some none = absurd (cc)
 none-asked w c p (x ∷ xs) rest some none = tt
@@ -197,7 +222,9 @@ kernels-lines C w k r t ok kept can none =
     let law = line-cause C is_inside w k r t ok kept can in
     record {
       heard = law.heard;
-      first = subst (λ xs. FirstLineIsAsked NoLines w r t.proc xs) (sym whole.records) (none-asked w r t.proc whole.own.records (closing_of w k r t whole) whole.own.some (whole.own.no_line none));
+      first =
+          subst (λ xs. FirstLineIsAsked NoLines w r t.proc xs) (sym whole.records)
+          (none-asked w r t.proc whole.own.records (closing_of w k r t whole) whole.own.some (whole.own.no_line none));
       order = law.order;
       due = law.due;
     }

@@ -1,8 +1,7 @@
 -- The contexts that are held, and the claims on them.
-use Rattle.std.proofs.Common.{◌≡◌, ℕ, zero, suc, ◌+◌, ◌<◌, ◌≤◌, Bool, true, false, ◌&&◌, cond, eqb, Option, Some, None, is_some, List, [], ◌∷◌, ◌++◌, length, sum_by, get_or, slice_set, Contains, All, refl, sym, ap, subst, ◌∙◌, inl, inr, arith}
+use Rattle.std.proofs.Common.{◌≡◌, ℕ, zero, suc, ◌+◌, ◌<◌, ◌≤◌, Bool, true, false, ◌&&◌, cond, eqb, Option, Some, None, is_some, List, [], ◌∷◌, ◌++◌, length, sum_by, get_or, slice_set, Contains, refl, sym, ap, subst, ◌∙◌, inl, inr, arith}
 use Rattle.std.proofs.lemmas.Bool.{cases_eq, cond-true, cond-false, eq-eqb, ne_eqb, eqb-true}
 use Rattle.std.proofs.lemmas.List.{get_or-set_other, get_or-set_same}
-use Rattle.std.proofs.lemmas.List.Elements.{All-head, All-tail}
 use Rattle.std.proofs.lemmas.List.Sums.{sum_by-cons, sum_by_push}
 use Rattle.sa_base.specs.declared.number.ProcNo.{ProcNo}
 use Rattle.sa_base.specs.declared.number.SpaceNo.{SpaceNo}
@@ -15,7 +14,8 @@ use Rattle.sa_lemmas.proofs.FunctionUpdates.{put-at, put-other}
 use Rattle.sa_acts.specs.declared.acts.Act.{Act}
 use Rattle.sa_acts.specs.Table.{holding, runs_in, held_of, taken_from, space_of}
 use Rattle.sa_devices.specs.declared.kind.IoKind.TheVariants.{Upcall}
-use Rattle.sa_devices.specs.Ios.{Io, io_at, without, is_number}
+use Rattle.sa_devices.proofs.SoundLemmas.{sum-without}
+use Rattle.sa_devices.specs.Ios.{Io, io_at, without}
 use Rattle.sa_batch.specs.Notices.{notes_told}
 use Rattle.sa_kernel_model.specs.Entries.{io_for, without_acts}
 use Rattle.sa_kernel_model.specs.Sound.{note_claim, kind_claim, io_claim, held_in, IsTaken}
@@ -67,7 +67,8 @@ sum-emptied : (f : Note → ℕ) (untold : List (List Note)) (s t : ℕ) → s <
     → sum_by f (get_or (slice_set untold s []) t []) + cond (eqb t s) (sum_by f (get_or untold s [])) 0 ≡ sum_by f (get_or untold t [])
 sum-emptied f untold s t within = elim (cases_eq t s) [
   | inl same ↦
-      let now : sum_by f (get_or (slice_set untold s []) t []) ≡ 0 = ap (λ i. sum_by f (get_or (slice_set untold s []) i [])) same ∙ ap (sum_by f) (get_or-set_same untold s [] [] within) in
+      let now : sum_by f (get_or (slice_set untold s []) t []) ≡ 0 =
+      ap (λ i. sum_by f (get_or (slice_set untold s []) i [])) same ∙ ap (sum_by f) (get_or-set_same untold s [] [] within) in
       let was = ap (λ i. sum_by f (get_or untold i [])) same in
       let one = cond-true (eqb t s) (sum_by f (get_or untold s [])) 0 (eq-eqb t s same) in
       omega arith
@@ -86,36 +87,6 @@ sum-told a false p notes = refl
 io_for-claim : (s a : ℕ) (t : SpaceNo) (b : ActNo) (page : Option ℕ) → kind_claim s a (io_for t b page) ≡ cond (eqb s t.0) (bit_of (eqb a b.0)) 0
 io_for-claim s a t b None = both-tests (eqb s t.0) (eqb a b.0)
 io_for-claim s a t b (Some k) = both-tests (eqb s t.0) (eqb a b.0)
-
--- an I/O that is over
-sum-without : (f : Io → ℕ) (n : ℕ) (ios : List Io) (here : Io) → io_at n ios ≡ Some here → sum_by f (without n ios) + f here ≡ sum_by f ios
-sum-without f n [] here is = absurd (none here is)
-  where
-    none : (x : Io) → None ≡ Some x → ⊥
-    none x e = cc
-sum-without f n (io ∷ ios) here is = go (is_number n io) (sum-without f n ios here) is
-  where
-    go : (b : Bool) → (io_at n ios ≡ Some here → sum_by f (without n ios) + f here ≡ sum_by f ios) → cond b (Some io) (io_at n ios) ≡ Some here
-        → sum_by f (cond b ios (io ∷ without n ios)) + f here ≡ sum_by f (io ∷ ios)
-    go true rest e = let same : f io ≡ f here = ap f (some-same io here e) in let all = sum_by-cons f io ios in omega arith
-      where
-        some-same : (x y : Io) → Some x ≡ Some y → x ≡ y
-        some-same x y e = cc
-    go false rest e = let all = sum_by-cons f io ios in let left = sum_by-cons f io (without n ios) in let h = rest e in omega arith
-
-pub All-io_at : (P : Io → Type 0) (n : ℕ) (ios : List Io) (here : Io) → io_at n ios ≡ Some here → All P ios → P here
-All-io_at P n [] here is all = absurd (none here is)
-  where
-    none : (x : Io) → None ≡ Some x → ⊥
-    none x e = cc
-All-io_at P n (io ∷ ios) here is all = go (is_number n io) (λ e. All-io_at P n ios here e (All-tail P io ios all)) is
-  where
-    go : (b : Bool) → (io_at n ios ≡ Some here → P here) → cond b (Some io) (io_at n ios) ≡ Some here → P here
-    go true rest e = subst P (some-same io here e) (All-head P io ios all)
-      where
-        some-same : (x y : Io) → Some x ≡ Some y → x ≡ y
-        some-same x y e = cc
-    go false rest e = rest e
 
 module _ {C : Type 0} where
   -- what is held of an activation
@@ -148,10 +119,12 @@ module _ {C : Type 0} where
       known true h = refl
       known false h = absurd (omega arith)
 
-      go : (h : Option (Stopped C)) → y.held ≡ h → 1 ≤ bit_of (eqb t y.space.0 && is_some y.held) → bit_of (eqb u y.space.0 && is_some y.held) ≡ bit_of (eqb u t)
+      go : (h : Option (Stopped C)) → y.held ≡ h → 1 ≤ bit_of (eqb t y.space.0 && is_some y.held)
+          → bit_of (eqb u y.space.0 && is_some y.held) ≡ bit_of (eqb u t)
       go None is some = absurd (let none = held-act y t is in omega arith)
       go (Some h) is some =
-          let same : t ≡ y.space.0 = eqb-true t y.space.0 (known (eqb t y.space.0) (subst (λ (o : Option (Stopped C)). 1 ≤ bit_of (eqb t y.space.0 && is_some o)) is some)) in
+          let same : t ≡ y.space.0 =
+          eqb-true t y.space.0 (known (eqb t y.space.0) (subst (λ (o : Option (Stopped C)). 1 ≤ bit_of (eqb t y.space.0 && is_some o)) is some)) in
           ap (λ (o : Option (Stopped C)). bit_of (eqb u y.space.0 && is_some o)) is ∙ and-true (eqb u y.space.0) ∙ ap (λ n. bit_of (eqb u n)) (sym same)
 
   pub space-held : (x : Option (Act C)) (t : ℕ) → 1 ≤ held_in t x → (space_of x).0 ≡ t
@@ -192,7 +165,8 @@ module _ {C : Type 0} where
         omega arith
   ]
 
-  held-rests : (acts : ℕ → Option (Act C)) (i b t : ℕ) (x : Option (Act C)) → held_in t (acts i) ≡ 0 → held_in t x ≡ 0 → held_in t (put acts i x b) ≡ held_in t (acts b)
+  held-rests : (acts : ℕ → Option (Act C)) (i b t : ℕ) (x : Option (Act C)) → held_in t (acts i) ≡ 0 → held_in t x ≡ 0
+      → held_in t (put acts i x b) ≡ held_in t (acts b)
   held-rests acts i b t x was none =
       let e = held-emptied acts i b t x none in
       let z : cond (eqb b i) (held_in t (acts i)) 0 ≡ 0 = ap (λ n. cond (eqb b i) n 0) was ∙ cond-zero (eqb b i) in
@@ -201,10 +175,11 @@ module _ {C : Type 0} where
   -- the claims of each space on each context
   abbrev pub Claims : List Io → List (List Note) → List Note → (ℕ → Option (Act C)) → ℕ → Type 0
   Claims ios untold telling acts told_to =
-      (s a : ℕ) → sum_by (io_claim s a) ios + sum_by (note_claim a) (get_or untold s []) + cond (eqb s told_to) (sum_by (note_claim a) telling) 0 ≡ held_in s (acts a)
+      (s a : ℕ) → sum_by (io_claim s a) ios + sum_by (note_claim a) (get_or untold s []) + cond (eqb s told_to) (sum_by (note_claim a) telling) 0
+      ≡ held_in s (acts a)
 
-  pub claims-stopped : (ios : List Io) (untold : List (List Note)) (telling : List Note) (acts : ℕ → Option (Act C)) (t : ℕ) (s : SpaceNo) (a : ActNo) (h : Stopped C)
-      → s.0 < length untold → acts a.0 ≡ Some (runs_in s) → Claims ios untold telling acts t
+  pub claims-stopped : (ios : List Io) (untold : List (List Note)) (telling : List Note) (acts : ℕ → Option (Act C)) (t : ℕ) (s : SpaceNo) (a : ActNo)
+      (h : Stopped C) → s.0 < length untold → acts a.0 ≡ Some (runs_in s) → Claims ios untold telling acts t
       → Claims ios (slice_set untold s.0 (get_or untold s.0 [] ++ Preempted a ∷ [])) telling (put acts a.0 (holding h (acts a.0))) t
   claims-stopped ios untold telling acts t s a h within runs claims u b =
       let was = claims u b in
@@ -213,8 +188,9 @@ module _ {C : Type 0} where
       let swap = two-tests (eqb u s.0) (eqb b a.0) in
       omega arith
 
-  pub claims-blocked : (ios : List Io) (untold : List (List Note)) (telling : List Note) (acts : ℕ → Option (Act C)) (t : ℕ) (s : SpaceNo) (a : ActNo) (h : Stopped C)
-      (io : Io) (page : Option ℕ) → io.kind ≡ io_for s a page → s.0 < length untold → acts a.0 ≡ Some (runs_in s) → Claims ios untold telling acts t
+  pub claims-blocked : (ios : List Io) (untold : List (List Note)) (telling : List Note) (acts : ℕ → Option (Act C)) (t : ℕ) (s : SpaceNo) (a : ActNo)
+      (h : Stopped C) (io : Io) (page : Option ℕ) → io.kind ≡ io_for s a page → s.0 < length untold → acts a.0 ≡ Some (runs_in s)
+      → Claims ios untold telling acts t
       → Claims (ios ++ io ∷ []) (slice_set untold s.0 (get_or untold s.0 [] ++ Blocked a ∷ [])) telling (put acts a.0 (holding h (acts a.0))) t
   claims-blocked ios untold telling acts t s a h io page kind within runs claims u b =
       let was = claims u b in
@@ -226,16 +202,16 @@ module _ {C : Type 0} where
       let swap = two-tests (eqb u s.0) (eqb b a.0) in
       omega arith
 
-  pub claims-fetch : (ios : List Io) (untold : List (List Note)) (telling : List Note) (acts : ℕ → Option (Act C)) (t : ℕ) (s : SpaceNo) (io : Io) → io.kind ≡ Upcall s
-      → Claims ios untold telling acts t → Claims (ios ++ io ∷ []) untold telling acts t
+  pub claims-fetch : (ios : List Io) (untold : List (List Note)) (telling : List Note) (acts : ℕ → Option (Act C)) (t : ℕ) (s : SpaceNo) (io : Io)
+      → io.kind ≡ Upcall s → Claims ios untold telling acts t → Claims (ios ++ io ∷ []) untold telling acts t
   claims-fetch ios untold telling acts t s io kind claims u b =
       let was = claims u b in
       let more = sum_by_push (io_claim u b) ios io in
       let none : io_claim u b io ≡ 0 = ap (kind_claim u b) kind in
       omega arith
 
-  pub claims-run : (ios : List Io) (untold : List (List Note)) (telling : List Note) (acts : ℕ → Option (Act C)) (t : ℕ) (s : SpaceNo) (a : ActNo) (added : Bool) (p : ProcNo)
-      → telling ≡ [] → s.0 < length untold → acts a.0 ≡ None → Claims ios untold telling acts t
+  pub claims-run : (ios : List Io) (untold : List (List Note)) (telling : List Note) (acts : ℕ → Option (Act C)) (t : ℕ) (s : SpaceNo) (a : ActNo)
+      (added : Bool) (p : ProcNo) → telling ≡ [] → s.0 < length untold → acts a.0 ≡ None → Claims ios untold telling acts t
       → Claims ios (slice_set untold s.0 []) (notes_told added p (get_or untold s.0 [])) (put acts a.0 (Some (runs_in s))) s.0
   claims-run ios untold telling acts t s a added p empty within unused claims u b =
       let was = claims u b in
@@ -245,8 +221,8 @@ module _ {C : Type 0} where
       let held = held-rests acts a.0 b u (Some (runs_in s)) (ap (held_in u) unused) (held-runs (Some (runs_in s)) s u refl) in
       omega arith
 
-  pub claims-back : (ios : List Io) (untold : List (List Note)) (telling : List Note) (acts : ℕ → Option (Act C)) (t n : ℕ) (s : SpaceNo) (a : ActNo) (here : Io) (page : Option ℕ)
-      → io_at n ios ≡ Some here → here.kind ≡ io_for s a page → s.0 < length untold → Claims ios untold telling acts t
+  pub claims-back : (ios : List Io) (untold : List (List Note)) (telling : List Note) (acts : ℕ → Option (Act C)) (t n : ℕ) (s : SpaceNo) (a : ActNo)
+      (here : Io) (page : Option ℕ) → io_at n ios ≡ Some here → here.kind ≡ io_for s a page → s.0 < length untold → Claims ios untold telling acts t
       → Claims (without n ios) (slice_set untold s.0 (get_or untold s.0 [] ++ Unblocked a ∷ [])) telling acts t
   claims-back ios untold telling acts t n s a here page is kind within claims u b =
       let was = claims u b in
@@ -278,11 +254,12 @@ module _ {C : Type 0} where
       claims u b ∙ sym (held-without list acts u (λ a has. held-taken s (acts a.0) u (taken a has)) b)
 
   -- a told notice is fetched: it hands nothing over, or a context
-  pub claims-passed : (ios : List Io) (untold : List (List Note)) (note : Note) (notes : List Note) (acts : ℕ → Option (Act C)) (t : ℕ) → ((b : ℕ) → note_claim b note ≡ 0)
-      → Claims ios untold (note ∷ notes) acts t → Claims ios untold notes acts t
+  pub claims-passed : (ios : List Io) (untold : List (List Note)) (note : Note) (notes : List Note) (acts : ℕ → Option (Act C)) (t : ℕ)
+      → ((b : ℕ) → note_claim b note ≡ 0) → Claims ios untold (note ∷ notes) acts t → Claims ios untold notes acts t
   claims-passed ios untold note notes acts t none claims u b =
       let was = claims u b in
-      let less : sum_by (note_claim b) (note ∷ notes) ≡ sum_by (note_claim b) notes = sum_by-cons (note_claim b) note notes ∙ ap (λ n. n + sum_by (note_claim b) notes) (none b) ∙ omega arith in
+      let less : sum_by (note_claim b) (note ∷ notes) ≡ sum_by (note_claim b) notes =
+      sum_by-cons (note_claim b) note notes ∙ ap (λ n. n + sum_by (note_claim b) notes) (none b) ∙ omega arith in
       let told = ap (λ n. cond (eqb u t) n 0) less in
       omega arith
 
@@ -301,8 +278,10 @@ module _ {C : Type 0} where
   claims-handed ios untold note notes acts t a hands claims u b =
       let was = claims u b in
       let some = held-next ios untold note notes acts t a (hands a ∙ ap bit_of (eq-eqb a a refl)) claims in
-      let cons : sum_by (note_claim b) (note ∷ notes) ≡ bit_of (eqb b a) + sum_by (note_claim b) notes = sum_by-cons (note_claim b) note notes ∙ ap (λ n. n + sum_by (note_claim b) notes) (hands b) in
-      let told : cond (eqb u t) (sum_by (note_claim b) (note ∷ notes)) 0 ≡ cond (eqb u t) (bit_of (eqb b a)) 0 + cond (eqb u t) (sum_by (note_claim b) notes) 0 =
+      let cons : sum_by (note_claim b) (note ∷ notes) ≡ bit_of (eqb b a) + sum_by (note_claim b) notes =
+      sum_by-cons (note_claim b) note notes ∙ ap (λ n. n + sum_by (note_claim b) notes) (hands b) in
+      let told : cond (eqb u t) (sum_by (note_claim b) (note ∷ notes)) 0
+      ≡ cond (eqb u t) (bit_of (eqb b a)) 0 + cond (eqb u t) (sum_by (note_claim b) notes) 0 =
       ap (λ n. cond (eqb u t) n 0) cons ∙ split (eqb u t) (bit_of (eqb b a)) (sum_by (note_claim b) notes) in
       let swap = two-tests (eqb u t) (eqb b a) in
       let held = held-emptied acts a b u (taken_from (acts a)) (held-taken_from (acts a) u) in

@@ -13,6 +13,7 @@ use Rattle.sa_assign.specs.AssignView.{AssignView}
 use Rattle.sa_assign.specs.Aims.{Change, space_no, aims_with, aims_after}
 use Rattle.sa_assign.specs.Reaim.{proc_no, lines_with, lines_after, changes_in, reaimed, reaim_records}
 use Rattle.sa_kernel_model.specs.Sound.{HasSizes}
+use Rattle.sa_kernel_model.proofs.SizeLemmas.{sizes_of, sizes-kept}
 use Rattle.sa_kernel_model.specs.Opening.{first_wants}
 use Rattle.sa_kernel_model.specs.State.{KernelState, Scene}
 use Rattle.sa_kernel_model.specs.Closing.{for_spaces, claims_from, claim_of, claims, spaces, first_space, aims}
@@ -81,20 +82,11 @@ module _ {C : Type 0} where
       ∙ ap (λ m. F (claims old.state) m first) (length-claims old.state)
       ∙ ap (λ f. F (claims old.state) (spaces old.state) f) is
 
-  pub sizes-aims : (k : KernelState C) (e n : ℕ) (shares : List ℕ) (a : AssignView) → HasSizes k → a ≡ reaimed e n shares k.assign → HasSizes (record k { assign = a })
+  pub sizes-aims : (k : KernelState C) (e n : ℕ) (shares : List ℕ) (a : AssignView) → HasSizes k → a ≡ reaimed e n shares k.assign
+      → HasSizes (record k { assign = a })
   sizes-aims k e n shares a sizes is =
       let cs = changes_in n shares k.assign in
-      subst (λ (b : AssignView). HasSizes (record k { assign = b })) (sym is) (record {
-        some_processor = sizes.some_processor;
-        few_processors = sizes.few_processors;
-        owners = sizes.owners;
-        aims = length-aims_after k.assign.aims cs ∙ sizes.aims;
-        lines = length-lines_after e k.assign.lines cs ∙ sizes.lines;
-        marks = sizes.marks;
-        some_space = sizes.some_space;
-        few_spaces = sizes.few_spaces;
-        untold = sizes.untold;
-        pages = sizes.pages;
-        priorities = sizes.priorities;
-        taken = sizes.taken;
-      })
+      subst (λ (b : AssignView). HasSizes (record k { assign = b })) (sym is) (sizes-kept k _ (λ i. record (sizes_of k) {
+        aims = length-aims_after k.assign.aims cs i;
+        lines = length-lines_after e k.assign.lines cs i;
+      }) sizes)

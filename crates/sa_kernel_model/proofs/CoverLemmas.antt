@@ -73,7 +73,7 @@ first-is w e c some = go (w.slice == 0) where
   go true = let len = claims-length w c in omega arith
   go false = let len = claims-length w c in omega arith
 
--- a moment behind the aims that are due
+-- a moment after the aims that are due
 pub record IsAimed (w : WorkloadView) (e : ℕ) (c d : Readings) : Type 0 where
   pub aims : d.aims ≡ aims_after c.aims (aims_due w e c)
   pub demands : d.demands ≡ c.demands
@@ -94,7 +94,8 @@ few-aims : (b : Bool) (demand old share : ℕ) → share ≤ want_in b demand ol
 few-aims true demand old share few is = omega arith
 few-aims false demand old share few is = absurd (cc)
 
-want-same : (w : WorkloadView) (e : ℕ) (c d : Readings) (t : ℕ) → IsAimed w e c d → (claim_of w d (space_no t)).want ≡ want_in (is_fetching c (space_no t)) (demand_of c (space_no t)) (aimed t d.aims)
+want-same : (w : WorkloadView) (e : ℕ) (c d : Readings) (t : ℕ) → IsAimed w e c d
+    → (claim_of w d (space_no t)).want ≡ want_in (is_fetching c (space_no t)) (demand_of c (space_no t)) (aimed t d.aims)
 want-same w e c d t after =
     let F : List ℕ → List Io → ℕ = λ demands ios. want_in (list_any (fetches t) ios) (slice_index demands t) (aimed t d.aims) in
     λ i. F (after.demands i) (after.under_way i)
@@ -106,10 +107,12 @@ priority-same w c d t = elim (cases_lt t (length w.spaces)) [
       (let none : Claim = record { priority = 0; want = 0 } in
       let old = claims-length w c in
       let new = claims-length w d in
-      ap (λ (x : Claim). x.priority) (get_or_past (claims_of w d) t none (omega arith)) ∙ sym (ap (λ (x : Claim). x.priority) (get_or_past (claims_of w c) t none (omega arith))))
+      ap (λ (x : Claim). x.priority) (get_or_past (claims_of w d) t none (omega arith))
+      ∙ sym (ap (λ (x : Claim). x.priority) (get_or_past (claims_of w c) t none (omega arith))))
 ]
 
-pub covered : (w : WorkloadView) (e : ℕ) (c d : Readings) → IsWorkload w → length c.aims ≡ w.processors → IsAimed w e c d → (s : ℕ) → share_at (shares_at w e d) s ≤ aimed s d.aims
+pub covered : (w : WorkloadView) (e : ℕ) (c d : Readings) → IsWorkload w → length c.aims ≡ w.processors → IsAimed w e c d → (s : ℕ)
+    → share_at (shares_at w e d) s ≤ aimed s d.aims
 covered w e c d ok len after s =
     let first = first_space w e in
     let old = claims_of w c in
@@ -124,7 +127,8 @@ covered w e c d ok len after s =
     let fits : sum shares ≤ length c.aims = (let total = share.total in omega arith) in
     let filled = all-filled 0 n shares c.marks c.aims fits in
     let aims : (t : ℕ) → aimed t d.aims ≡ aimed t (aims_after c.aims (aims_due w e c)) = λ t. ap (aimed t) after.aims in
-    let met : (t : ℕ) → t < n → share_at shares t ≤ aimed t d.aims = λ t below. (let m = filled.met t (omega arith) (omega arith) in let a = aims t in omega arith) in
+    let met : (t : ℕ) → t < n → share_at shares t ≤ aimed t d.aims =
+    λ t below. (let m = filled.met t (omega arith) (omega arith) in let a = aims t in omega arith) in
     let lowered : IsLowered old new shares = record {
       spaces = new_len ∙ sym old_len;
       priority = λ t. priority-same w c d t;
@@ -188,7 +192,8 @@ due-alike w e c d same = λ i. aims_due w e (record c { aims = same.aims i; mark
 
 module _ {C : Type 0} where
   -- the aims of an event, and the records before them
-  aims-parts : (w : WorkloadView) (k : KernelState C) (r : Readings) (t : Turn C) (whole : Whole w k r t) → aims_in (event_of t k).records ≡ aims_due w t.number (behind w (event_of t k) r (before_aims (event_of t k).records))
+  aims-parts : (w : WorkloadView) (k : KernelState C) (r : Readings) (t : Turn C) (whole : Whole w k r t)
+      → aims_in (event_of t k).records ≡ aims_due w t.number (behind w (event_of t k) r (before_aims (event_of t k).records))
   aims-parts w k r t whole = go (aims_due w e cl.wanted) refl where
     e : ℕ
     e = t.number
@@ -226,7 +231,8 @@ module _ {C : Type 0} where
     said : (cs : List Change) → aims_due w e cl.wanted ≡ cs → (event_of t k).records ≡ own ++ (wl ++ (records_of e cl.wanted.lines cs ++ ll))
     said cs is = whole.records ∙ ap (λ ds. own ++ (wl ++ (records_of e cl.wanted.lines ds ++ ll))) is
 
-    go : (cs : List Change) → aims_due w e cl.wanted ≡ cs → aims_in (event_of t k).records ≡ aims_due w e (behind w (event_of t k) r (before_aims (event_of t k).records))
+    go : (cs : List Change) → aims_due w e cl.wanted ≡ cs
+        → aims_in (event_of t k).records ≡ aims_due w e (behind w (event_of t k) r (before_aims (event_of t k).records))
     go [] none =
         let records : (event_of t k).records ≡ own ++ (wl ++ ll) = said [] none in
         let all : before_aims (event_of t k).records ≡ (event_of t k).records =
@@ -234,7 +240,8 @@ module _ {C : Type 0} where
         ∙ ap (λ xs. own ++ xs) (while-both is_no_aim wl ll no_want ∙ ap (λ xs. wl ++ xs) (while-all is_no_aim ll no_line)) ∙ sym records in
         let aimed : cl.aimed ≡ cl.wanted = cl.aimed_is ∙ ap (λ cs. after_records w e p cl.wanted (records_of e cl.wanted.lines cs)) none in
         let same : aims_due w e cl.lined ≡ aims_due w e cl.wanted =
-        ap (aims_due w e) cl.lined_is ∙ due-alike w e cl.aimed (after_records w e p cl.aimed ll) (lines-claims w e p cl.aimed ll cl.lines) ∙ ap (aims_due w e) aimed in
+        ap (aims_due w e) cl.lined_is ∙ due-alike w e cl.aimed (after_records w e p cl.aimed ll) (lines-claims w e p cl.aimed ll cl.lines)
+        ∙ ap (aims_due w e) aimed in
         inner ∙ sym (ap (λ xs. aims_due w e (after_records w e p c xs)) all ∙ ap (aims_due w e) whole.behind ∙ same)
     go (d ∷ ds) is =
         let aim = Aim (proc_no d.proc) (Some (space_no d.space)) in
@@ -258,12 +265,15 @@ module _ {C : Type 0} where
       let aims = aims-reads w e p cl.wanted cs in
       let end : behind_all w (event_of t k) r ≡ after_records w e p cl.aimed ll = whole.behind ∙ cl.lined_is in
       let len : length cl.wanted.aims ≡ w.processors =
-      ap (λ (d : Readings). length d.aims) cl.wanted_is ∙ ap (λ (xs : List (Option SpaceNo)). length xs) (wants-keep-aims w e p m (filter (must_want m) (spaces_of w)))
+      ap (λ (d : Readings). length d.aims) cl.wanted_is
+      ∙ ap (λ (xs : List (Option SpaceNo)). length xs) (wants-keep-aims w e p m (filter (must_want m) (spaces_of w)))
       ∙ ap (λ (v : Overview). length v.assign.aims) whole.own.reads ∙ whole.sound.formed.sizes.aims ∙ whole.of.processors in
       let is : IsAimed w e cl.wanted after = record {
         aims = ap (λ (d : Readings). d.aims) end ∙ claims.aims ∙ ap (λ (d : Readings). d.aims) cl.aimed_is ∙ ap (λ (v : Overview). v.assign.aims) aims;
         demands = ap (λ (d : Readings). d.demands) end ∙ claims.demands ∙ ap (λ (d : Readings). d.demands) cl.aimed_is ∙ ap (λ (v : Overview). v.demands) aims;
-        under_way = ap (λ (d : Readings). d.under_way) end ∙ claims.under_way ∙ ap (λ (d : Readings). d.under_way) cl.aimed_is ∙ ap (λ (v : Overview). v.under_way) aims;
+        under_way =
+            ap (λ (d : Readings). d.under_way) end ∙ claims.under_way ∙ ap (λ (d : Readings). d.under_way) cl.aimed_is
+            ∙ ap (λ (v : Overview). v.under_way) aims;
       } in
       covered w e cl.wanted after ok len is s
 

@@ -1,4 +1,4 @@
--- The own part of an event: what stands before its closing.
+-- The own part of an event: what comes before its closing.
 use Rattle.std.proofs.Common.{false, ◌≡◌, ◌≢◌, ℕ, refl, sym, ◌∙◌, ap, subst, Some, None, List, [], ◌∷◌, ◌++◌, append_assoc, true}
 use Rattle.std.specs.Prelude.{not, ◌&&◌, is_some}
 use Rattle.std.specs.List.{list_all}
@@ -46,7 +46,8 @@ users-own x is = absurd (cc)
 pub users-are_own : (xs : List Record) → AreUsers xs → AreOwn xs
 users-are_own [] is = refl
 users-are_own (x ∷ xs) is =
-    ap (λ b. b && list_all is_own xs) (users-own x (and_parts (is_users x) (list_all is_users xs) is).0) ∙ users-are_own xs (and_parts (is_users x) (list_all is_users xs) is).1
+    ap (λ b. b && list_all is_own xs) (users-own x (and_parts (is_users x) (list_all is_users xs) is).0)
+    ∙ users-are_own xs (and_parts (is_users x) (list_all is_users xs) is).1
 
 users-moved : (w : WorkloadView) (e : ℕ) (p : ProcNo) (r : Readings) (x : Record) → is_users x ≡ true → (after_record w e p r x).moved ≡ r.moved
 users-moved w e p r (Move o n) is = absurd (cc)
@@ -55,9 +56,11 @@ users-moved w e p r x is = refl
 pub users-are_moved : (w : WorkloadView) (e : ℕ) (p : ProcNo) (r : Readings) (xs : List Record) → AreUsers xs → (after_records w e p r xs).moved ≡ r.moved
 users-are_moved w e p r [] is = refl
 users-are_moved w e p r (x ∷ xs) is =
-    users-are_moved w e p (after_record w e p r x) xs (and_parts (is_users x) (list_all is_users xs) is).1 ∙ users-moved w e p r x (and_parts (is_users x) (list_all is_users xs) is).0
+    users-are_moved w e p (after_record w e p r x) xs (and_parts (is_users x) (list_all is_users xs) is).1
+    ∙ users-moved w e p r x (and_parts (is_users x) (list_all is_users xs) is).0
 
-user-lawful : (w : WorkloadView) (e : ℕ) (p : ProcNo) (r : Readings) (x : Record) (rest : List Record) → is_users x ≡ true → AreLawful w e p (after_record w e p r x) rest → AreLawful w e p r (x ∷ rest)
+user-lawful : (w : WorkloadView) (e : ℕ) (p : ProcNo) (r : Readings) (x : Record) (rest : List Record) → is_users x ≡ true
+    → AreLawful w e p (after_record w e p r x) rest → AreLawful w e p r (x ∷ rest)
 user-lawful w e p r (Ins s t i) rest is law = (record { once = tt; named = tt; all = tt; gives = tt; raises = tt }, law)
 user-lawful w e p r (Out s t v) rest is law = (record { once = tt; named = tt; all = tt; gives = tt; raises = tt }, law)
 user-lawful w e p r (Run s t) rest is law = (record { once = tt; named = tt; all = tt; gives = tt; raises = tt }, law)
@@ -71,7 +74,8 @@ user-lawful w e p r (Spin l) rest is law = (record { once = tt; named = tt; all 
 user-lawful w e p r Tick rest is law = (record { once = tt; named = tt; all = tt; gives = tt; raises = tt }, law)
 user-lawful w e p r x rest is law = absurd (cc)
 
-pub users-lawful : (w : WorkloadView) (e : ℕ) (p : ProcNo) (r : Readings) (xs rest : List Record) → AreUsers xs → AreLawful w e p (after_records w e p r xs) rest → AreLawful w e p r (xs ++ rest)
+pub users-lawful : (w : WorkloadView) (e : ℕ) (p : ProcNo) (r : Readings) (xs rest : List Record) → AreUsers xs
+    → AreLawful w e p (after_records w e p r xs) rest → AreLawful w e p r (xs ++ rest)
 users-lawful w e p r [] rest is law = law
 users-lawful w e p r (x ∷ xs) rest is law =
     user-lawful w e p r x (xs ++ rest) (and_parts (is_users x) (list_all is_users xs) is).0
@@ -102,15 +106,17 @@ own-one x own = refl
 pub own-no_aim : (xs : List Record) → AreOwn xs → list_all is_no_aim xs ≡ true
 own-no_aim [] own = refl
 own-no_aim (x ∷ xs) own =
-    ap (λ b. b && list_all is_no_aim xs) (own-one x (and_parts (is_own x) (list_all is_own xs) own).0) ∙ own-no_aim xs (and_parts (is_own x) (list_all is_own xs) own).1
+    ap (λ b. b && list_all is_no_aim xs) (own-one x (and_parts (is_own x) (list_all is_own xs) own).0)
+    ∙ own-no_aim xs (and_parts (is_own x) (list_all is_own xs) own).1
 
 pub append-some : (xs ys : List Record) → ys ≢ [] → xs ++ ys ≢ []
 append-some [] ys some is = some is
 append-some (x ∷ xs) ys some is = cc
 
 module _ {C : Type 0} where
-  -- the own part of an event, with what its user level says; behind it stands the closing
-  pub record Turned (w : WorkloadView) (e : ℕ) (p : ProcNo) (r : Readings) (k : KernelState C) (says : List Record) (en : Option (Entry C)) (y : Scene C) : Type 0 where
+  -- the own part of an event, with what its user level says; after it comes the closing
+  pub record Turned (w : WorkloadView) (e : ℕ) (p : ProcNo) (r : Readings) (k : KernelState C) (says : List Record) (en : Option (Entry C))
+      (y : Scene C) : Type 0 where
     pub records : List Record
     pub adds : y.items ≡ items_at e p records
     pub reads : overview (after_records w e p r records) ≡ read_off y.state
@@ -128,14 +134,18 @@ module _ {C : Type 0} where
     pub asked : (c : Readings) (rest : List Record) → c.state.owners ≡ k.assign.owners → FirstLineIsAsked AnyLines w c p (records ++ rest)
 
   -- where the processor's line is low
-  pub low-turned : (w : WorkloadView) (e : ℕ) (p : ProcNo) (r : Readings) (k : KernelState C) (says : List Record) (en : Option (Entry C)) (x y : Scene C) (Q : List Record → Type 0) → line_of k p ≡ None → AreUsers says
-      → x.items ≡ items_at e p says → x.state.fixed ≡ k.fixed → IdleAlike x.state (after_records w e p r says) → IsTidy x.state → Walk w e p (after_records w e p r says) x y (λ all. BeginsAsInterrupt all → ⊥) Q → ((own : List Record) → Q own → ShapeOf k p says en (says ++ own)) → Turned w e p r k says en y
+  pub low-turned : (w : WorkloadView) (e : ℕ) (p : ProcNo) (r : Readings) (k : KernelState C) (says : List Record) (en : Option (Entry C)) (x y : Scene C)
+      (Q : List Record → Type 0) → line_of k p ≡ None → AreUsers says → x.items ≡ items_at e p says → x.state.fixed ≡ k.fixed
+      → IdleAlike x.state (after_records w e p r says) → IsTidy x.state → Walk w e p (after_records w e p r says) x y (λ all. BeginsAsInterrupt all → ⊥) Q
+      → ((own : List Record) → Q own → ShapeOf k p says en (says ++ own)) → Turned w e p r k says en y
   low-turned w e p r k says en x y Q low users items fixed idle tidy walk shape =
       let own = own-both says walk.records (users-are_own says users) walk.own in
       let some = append-some says walk.records walk.some in
       record {
         records = says ++ walk.records;
-        adds = walk.adds ∙ ap (λ v. v ++ items_at e p walk.records) items ∙ sym (map-append (λ (z : Record). let i : Item = record { event = e; proc = p; what = z } in i) says walk.records);
+        adds =
+            walk.adds ∙ ap (λ v. v ++ items_at e p walk.records) items
+            ∙ sym (map-append (λ (z : Record). let i : Item = record { event = e; proc = p; what = z } in i) says walk.records);
         reads = ap overview (records-append w e p r says walk.records) ∙ walk.reads;
         lawful = λ rest closes law.
             subst (λ xs. AreLawful w e p r xs) (sym (append_assoc says walk.records rest))
@@ -149,7 +159,9 @@ module _ {C : Type 0} where
         shape = shape walk.records walk.shape;
         no_aim = own-no_aim (says ++ walk.records) own;
         no_line = λ none. own-lines (says ++ walk.records) own;
-        calm = λ begins. absurd (users-calm says walk.records users (λ b. walk.is [] refl (subst (λ xs. BeginsAsInterrupt xs) (sym (append-nil walk.records)) b)) begins);
+        calm =
+            λ begins. absurd (users-calm says walk.records users (λ b. walk.is [] refl
+            (subst (λ xs. BeginsAsInterrupt xs) (sym (append-nil walk.records)) b)) begins);
         turns = λ up. absurd (let no = sym up ∙ ap is_some low in cc);
         asked = λ c rest same. own-asked w c p (says ++ walk.records) rest some own;
       }

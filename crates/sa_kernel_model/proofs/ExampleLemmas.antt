@@ -22,7 +22,8 @@ no-and : (b : Bool) → false ≡ (b && false)
 no-and true = refl
 no-and false = refl
 
-block-for : (r : Readings) (s : SpaceNo) (a : ActNo) → Some s0 ≡ Some s → length_behind small r s0 (Some t0) r.last ≡ Some 3 → blocking small r s (Some t0) a ≡ (record { kind = io_for s a None; length = 3 })
+block-for : (r : Readings) (s : SpaceNo) (a : ActNo) → Some s0 ≡ Some s → length_behind small r s0 (Some t0) r.last ≡ Some 3
+    → blocking small r s (Some t0) a ≡ (record { kind = io_for s a None; length = 3 })
 block-for r s a owner length =
     subst (λ u. blocking small r u (Some t0) a ≡ (record { kind = io_for u a None; length = 3 })) (same_Some s0 s owner)
     (ap (λ n. blocking_for small r s0 (Some t0) a n) length)
@@ -42,18 +43,40 @@ abbrev before_block : Test → Readings
 before_block test =
     let k = (opened {C = Blank} small).state in
     let moves = take 5 short_run in
-    read_before_entry small (turn 5 (Ins s0 t0 0 ∷ []) 1 (Some (entry.Block held 3 None))) (state_behind moves k) (reading_behind test moves k (read_opening test small))
+    read_before_entry small (turn 5 (Ins s0 t0 0 ∷ []) 1 (Some (entry.Block held 3 None))) (state_behind moves k)
+    (reading_behind test moves k (read_opening test small))
 
 abbrev first_io : Io
 first_io = record { number = 0; ends = 8; kind = Plain s0 (act 0) }
 
 pub short-run : ShortRunCanBeMade
 short-run test = (
-  record { within = omega arith; later = omega arith; unused = refl; fetched = refl; fits = record { raised = refl; held = λ some. absurd (cc); owned = λ some. absurd (cc) }; says = (refl, tt) },
+  record {
+    within = omega arith;
+    later = omega arith;
+    unused = refl;
+    fetched = refl;
+    fits = record { raised = refl; held = λ some. absurd (cc); owned = λ some. absurd (cc) };
+    says = (refl, tt);
+  },
   (
-    record { within = omega arith; later = omega arith; unused = refl; fetched = refl; fits = record { space = s0; asks = record { owner = refl; low = refl }; some = omega arith }; says = refl },
+    record {
+      within = omega arith;
+      later = omega arith;
+      unused = refl;
+      fetched = refl;
+      fits = record { space = s0; asks = record { owner = refl; low = refl }; some = omega arith };
+      says = refl;
+    },
     (
-      record { within = omega arith; later = omega arith; unused = refl; fetched = refl; fits = record { space = s0; asks = record { owner = refl; low = refl }; some = omega arith; few = omega arith }; says = refl },
+      record {
+        within = omega arith;
+        later = omega arith;
+        unused = refl;
+        fetched = refl;
+        fits = record { space = s0; asks = record { owner = refl; low = refl }; some = omega arith; few = omega arith };
+        says = refl;
+      },
       (
         record { within = omega arith; later = omega arith; unused = tt; fetched = refl; fits = refl; says = ((λ is. cc), refl) },
         (
@@ -66,7 +89,14 @@ short-run test = (
             says = (refl, λ s a owner life. block-for (before_block test) s a owner refl);
           },
           (
-            record { within = omega arith; later = omega arith; unused = refl; fetched = refl; fits = record { here = first_io; under_way = refl; low = refl }; says = refl },
+            record {
+              within = omega arith;
+              later = omega arith;
+              unused = refl;
+              fetched = refl;
+              fits = record { here = first_io; under_way = refl; low = refl };
+              says = refl;
+            },
             (
               record {
                 within = omega arith;

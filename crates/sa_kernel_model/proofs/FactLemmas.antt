@@ -79,8 +79,11 @@ module _ {C : Type 0} where
   quiet-is k sizes quiet =
       let calm = (and_parts (eqb (length k.under_way) 0 && not (has_line k)) (not (has_call k)) quiet).0 in
       let idle = (and_parts (eqb (length k.under_way) 0) (not (has_line k)) calm).0 in
-      let lines : least_below (length k.lives) (is_raised k) ≡ None = none-found (least_below (length k.lives) (is_raised k)) (not-true (has_line k) (and_parts (eqb (length k.under_way) 0) (not (has_line k)) calm).1) in
-      let calls : least_below (spaces k) (is_called k) ≡ None = none-found (least_below (spaces k) (is_called k)) (not-true (has_call k) (and_parts (eqb (length k.under_way) 0 && not (has_line k)) (not (has_call k)) quiet).1) in
+      let lines : least_below (length k.lives) (is_raised k) ≡ None =
+      none-found (least_below (length k.lives) (is_raised k)) (not-true (has_line k) (and_parts (eqb (length k.under_way) 0) (not (has_line k)) calm).1) in
+      let calls : least_below (spaces k) (is_called k) ≡ None =
+      none-found (least_below (spaces k) (is_called k))
+      (not-true (has_call k) (and_parts (eqb (length k.under_way) 0 && not (has_line k)) (not (has_call k)) quiet).1) in
       record {
         under_way = no-items Io k.under_way idle;
         low = λ p. elim (cases_lt p.0 (length k.lives)) [
@@ -141,13 +144,15 @@ module _ {C : Type 0} where
   telling-handed None a k = refl
   telling-handed (Some h) a k = refl
 
-  held_for-same : (k m : KernelState C) (a : ℕ) (note : Note) → ((n : ℕ) → n ≢ a → m.acts n ≡ k.acts n) → note_claim a note ≡ 0 → answer_in m note ≡ answer_in k note
+  held_for-same : (k m : KernelState C) (a : ℕ) (note : Note) → ((n : ℕ) → n ≢ a → m.acts n ≡ k.acts n) → note_claim a note ≡ 0
+      → answer_in m note ≡ answer_in k note
   held_for-same k m a (Add p) same none = refl
   held_for-same k m a (Blocked b) same none = refl
   held_for-same k m a (Preempted b) same none = ap (λ x. Some (Preempted b, held_of x)) (same b.0 (apart-from a b none))
   held_for-same k m a (Unblocked b) same none = ap (λ x. Some (Unblocked b, held_of x)) (same b.0 (apart-from a b none))
 
-  answers-same : (k m : KernelState C) (a : ℕ) (notes : List Note) → ((n : ℕ) → n ≢ a → m.acts n ≡ k.acts n) → sum_by (note_claim a) notes ≡ 0 → map (answer_in m) notes ≡ map (answer_in k) notes
+  answers-same : (k m : KernelState C) (a : ℕ) (notes : List Note) → ((n : ℕ) → n ≢ a → m.acts n ≡ k.acts n) → sum_by (note_claim a) notes ≡ 0
+      → map (answer_in m) notes ≡ map (answer_in k) notes
   answers-same k m a [] same none = refl
   answers-same k m a (note ∷ notes) same none =
       let all = sum_by-cons (note_claim a) note notes in
@@ -155,7 +160,8 @@ module _ {C : Type 0} where
       let rest = answers-same k m a notes same (omega arith) in
       λ i. first i ∷ rest i
 
-  answers-kept : (k m : KernelState C) (notes : List Note) → ((note : Note) → answer_in m note ≡ answer_in k note) → map (answer_in m) notes ≡ map (answer_in k) notes
+  answers-kept : (k m : KernelState C) (notes : List Note) → ((note : Note) → answer_in m note ≡ answer_in k note)
+      → map (answer_in m) notes ≡ map (answer_in k) notes
   answers-kept k m [] same = refl
   answers-kept k m (note ∷ notes) same = let first = same note in let rest = answers-kept k m notes same in λ i. first i ∷ rest i
 
@@ -165,23 +171,26 @@ module _ {C : Type 0} where
   same-answer k notes (Preempted a) = refl
   same-answer k notes (Unblocked a) = refl
 
-  -- behind a notice that hands a context over, the others answer what they did
-  behind : (k : KernelState C) (t : ℕ) (note : Note) (a : ActNo) (notes : List Note) → note ∷ notes ≡ k.telling → note_claim a.0 note ≡ bit_of (eqb a.0 a.0) → AreClaimed k t
-      → map (answer_in (handed_by (held_of (k.acts a.0)) a (record k { telling = notes }))) notes ≡ map (answer_in k) notes
+  -- after a notice that hands a context over, the others answer what they did
+  behind : (k : KernelState C) (t : ℕ) (note : Note) (a : ActNo) (notes : List Note) → note ∷ notes ≡ k.telling → note_claim a.0 note ≡ bit_of (eqb a.0 a.0)
+      → AreClaimed k t → map (answer_in (handed_by (held_of (k.acts a.0)) a (record k { telling = notes }))) notes ≡ map (answer_in k) notes
   behind k t note a notes is hands claimed =
       let few = told-few k t a.0 claimed in
       let one = held-few (k.acts a.0) t in
       let all = sum_by-cons (note_claim a.0) note notes in
       let same = ap (sum_by (note_claim a.0)) is in
       let this : note_claim a.0 note ≡ 1 = hands ∙ ap bit_of (eq-eqb a.0 a.0 refl) in
-      answers-same k (handed_by (held_of (k.acts a.0)) a (record k { telling = notes })) a.0 notes (λ n apart. acts-handed (held_of (k.acts a.0)) a (record k { telling = notes }) n apart) (omega arith)
+      answers-same k (handed_by (held_of (k.acts a.0)) a (record k { telling = notes })) a.0 notes
+      (λ n apart. acts-handed (held_of (k.acts a.0)) a (record k { telling = notes }) n apart) (omega arith)
 
   after-one : (k : KernelState C) (t : ℕ) (note : Note) (notes : List Note) → note ∷ notes ≡ k.telling → AreClaimed k t
       → (map (answer_in (after_fetch (note ∷ notes) k)) notes ≡ map (answer_in k) notes) × ((after_fetch (note ∷ notes) k).telling ≡ notes)
   after-one k t (Add p) notes is claimed = (answers-kept k (record k { telling = notes }) notes (same-answer k notes), refl)
   after-one k t (Blocked a) notes is claimed = (answers-kept k (record k { telling = notes }) notes (same-answer k notes), refl)
-  after-one k t (Preempted a) notes is claimed = (behind k t (Preempted a) a notes is refl claimed, telling-handed (held_of (k.acts a.0)) a (record k { telling = notes }))
-  after-one k t (Unblocked a) notes is claimed = (behind k t (Unblocked a) a notes is refl claimed, telling-handed (held_of (k.acts a.0)) a (record k { telling = notes }))
+  after-one k t (Preempted a) notes is claimed =
+      (behind k t (Preempted a) a notes is refl claimed, telling-handed (held_of (k.acts a.0)) a (record k { telling = notes }))
+  after-one k t (Unblocked a) notes is claimed =
+      (behind k t (Unblocked a) a notes is refl claimed, telling-handed (held_of (k.acts a.0)) a (record k { telling = notes }))
 
   handed-out : (notes : List Note) (k : KernelState C) (t : ℕ) → notes ≡ k.telling → AreClaimed k t → answers (length notes) k ≡ map (answer_in k) notes
   handed-out [] k t is claimed = refl
@@ -190,7 +199,8 @@ module _ {C : Type 0} where
       let one = after-one k t note notes is claimed in
       let first : next_note k ≡ answer_in k note = ap (λ ns. option_map (λ n. (n, held_for k n)) (slice_get ns 0)) (sym is) in
       let rest : answers (length notes) (after_fetch k.telling k) ≡ map (answer_in k) notes =
-      ap (λ ns. answers (length notes) (after_fetch ns k)) (sym is) ∙ handed-out notes m t (sym one.1) (claimed-after_fetch (note ∷ notes) k t is claimed) ∙ one.0 in
+      ap (λ ns. answers (length notes) (after_fetch ns k)) (sym is) ∙ handed-out notes m t (sym one.1) (claimed-after_fetch (note ∷ notes) k t is claimed)
+      ∙ one.0 in
       λ i. first i ∷ rest i
 
 pub owners-run : (C : Type 0) → OwnersRun C

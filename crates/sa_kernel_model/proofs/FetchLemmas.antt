@@ -31,14 +31,17 @@ use Rattle.sa_kernel_model.proofs.NoteLemmas.{once_if}
 use Rattle.sa_kernel_model.proofs.OnceLemmas.{one-held, held-few}
 
 -- one item more in a list of lists
-push-cases : (ts : List (List ActNo)) (s t : ℕ) (a : ActNo) → (get_or (slice_set ts s (get_or ts s [] ++ a ∷ [])) t [] ≡ get_or ts t []) ⊎ (get_or (slice_set ts s (get_or ts s [] ++ a ∷ [])) t [] ≡ get_or ts t [] ++ a ∷ [])
+push-cases : (ts : List (List ActNo)) (s t : ℕ) (a : ActNo)
+    → (get_or (slice_set ts s (get_or ts s [] ++ a ∷ [])) t [] ≡ get_or ts t [])
+    ⊎ (get_or (slice_set ts s (get_or ts s [] ++ a ∷ [])) t [] ≡ get_or ts t [] ++ a ∷ [])
 push-cases [] s t a = inl refl
 push-cases (u ∷ ts) zero zero a = inr refl
 push-cases (u ∷ ts) zero (suc t) a = inl refl
 push-cases (u ∷ ts) (suc s) zero a = inl refl
 push-cases (u ∷ ts) (suc s) (suc t) a = push-cases ts s t a
 
-take-push : (n : ℕ) (ts : List (List ActNo)) (s : ℕ) (a : ActNo) → slice_set (take n ts) s (get_or (take n ts) s [] ++ a ∷ []) ≡ take n (slice_set ts s (get_or ts s [] ++ a ∷ []))
+take-push : (n : ℕ) (ts : List (List ActNo)) (s : ℕ) (a : ActNo)
+    → slice_set (take n ts) s (get_or (take n ts) s [] ++ a ∷ []) ≡ take n (slice_set ts s (get_or ts s [] ++ a ∷ []))
 take-push zero ts s a = refl
 take-push (suc n) [] s a = refl
 take-push (suc n) (u ∷ ts) zero a = refl
@@ -54,7 +57,7 @@ distinct-push (c ∷ ids) a apart distinct = (
   distinct-push ids a (λ b has. apart b (Contains-append_right (c ∷ []) ids b has)) distinct.1,
 )
 
--- a notice that stands there has a claim
+-- the claim of a notice of a list is part of their sum
 claim-there : (ns : List Note) (f : Note → ℕ) (n : Note) → Contains ns n → f n ≤ sum_by f ns
 claim-there [] f n (k, below, is) = absurd (omega arith)
 claim-there (x ∷ ns) f n (zero, below, is) = let all = sum_by-cons f x ns in let e = ap f is in omega arith
@@ -74,7 +77,9 @@ module _ {C : Type 0} where
 
   -- the context of an activation is handed over
   handed-reads : (k : KernelState C) (a : ActNo) (notes : List Note) (h : Stopped C) → held_of (k.acts a.0) ≡ Some h
-      → (let v : Overview = record (read_off k) { taken = taken_behind (spaces_in k) notes (with_act (take (length k.fixed.priorities) k.taken) (spaces_in k a.0) a) } in v)
+      → (let v : Overview = record (read_off k) {
+        taken = taken_behind (spaces_in k) notes (with_act (take (length k.fixed.priorities) k.taken) (spaces_in k a.0) a);
+      } in v)
       ≡ read_off (handed_over a (record k { telling = notes }))
   handed-reads k a notes h is =
       let new = handed_over a (record k { telling = notes }) in
@@ -86,7 +91,8 @@ module _ {C : Type 0} where
       let G : (ℕ → Option SpaceNo) → List (List ActNo) → Overview = λ f t. record (read_off k) { spaces = f; taken = taken_behind f notes t } in
       λ i. G (spaces i) (taken i)
 
-  handed-tidy : (k : KernelState C) (a : ActNo) (notes : List Note) (h : Stopped C) → held_of (k.acts a.0) ≡ Some h → AreTaken k.taken k.acts → IsTidy k → IsTidy (handed_over a (record k { telling = notes }))
+  handed-tidy : (k : KernelState C) (a : ActNo) (notes : List Note) (h : Stopped C) → held_of (k.acts a.0) ≡ Some h → AreTaken k.taken k.acts → IsTidy k
+      → IsTidy (handed_over a (record k { telling = notes }))
   handed-tidy k a notes h is taken tidy = record {
     added = tidy.added;
     blocked = tidy.blocked;
@@ -102,12 +108,15 @@ module _ {C : Type 0} where
   }
 
   -- a stop that waits is of another activation than one that is handed over
-  other-waits : (k : KernelState C) (note : Note) (notes : List Note) (t s : ℕ) (a b : ActNo) → k.telling ≡ note ∷ notes → note_claim a.0 note ≡ once_if true → AreClaimed k t → Contains (untold_of k s) (Preempted b) → b.0 ≢ a.0
+  other-waits : (k : KernelState C) (note : Note) (notes : List Note) (t s : ℕ) (a b : ActNo) → k.telling ≡ note ∷ notes → note_claim a.0 note ≡ once_if true
+      → AreClaimed k t → Contains (untold_of k s) (Preempted b) → b.0 ≢ a.0
   other-waits k note notes t s a b is one claimed has same =
-      let told : sum_by (note_claim a.0) k.telling ≡ once_if true + sum_by (note_claim a.0) notes = ap (sum_by (note_claim a.0)) is ∙ sum_by-cons (note_claim a.0) note notes ∙ ap (λ n. n + sum_by (note_claim a.0) notes) one in
+      let told : sum_by (note_claim a.0) k.telling ≡ once_if true + sum_by (note_claim a.0) notes =
+      ap (sum_by (note_claim a.0)) is ∙ sum_by-cons (note_claim a.0) note notes ∙ ap (λ n. n + sum_by (note_claim a.0) notes) one in
       let waits = claim-there (untold_of k s) (note_claim b.0) (Preempted b) has in
       let own = one-own b in
-      let here : once_if true ≤ sum_by (note_claim a.0) (untold_of k s) = subst (λ i. once_if true ≤ sum_by (note_claim i) (untold_of k s)) same (omega arith) in
+      let here : once_if true ≤ sum_by (note_claim a.0) (untold_of k s) =
+      subst (λ i. once_if true ≤ sum_by (note_claim i) (untold_of k s)) same (omega arith) in
       let at_s = claimed s a.0 in
       let at_t = claimed t a.0 in
       let full = cond-true (t == t) (sum_by (note_claim a.0) k.telling) 0 (eq-eqb t t refl) in
@@ -116,16 +125,18 @@ module _ {C : Type 0} where
       let few = held-few (k.acts a.0) t in
       omega arith
 
-  handed-idle : (k : KernelState C) (r : Readings) (a : ActNo) (note : Note) (notes : List Note) (t : ℕ) → k.telling ≡ note ∷ notes → note_claim a.0 note ≡ once_if true → AreClaimed k t → IdleAlike k r
-      → IdleAlike (handed_over a (record k { telling = notes })) r
+  handed-idle : (k : KernelState C) (r : Readings) (a : ActNo) (note : Note) (notes : List Note) (t : ℕ) → k.telling ≡ note ∷ notes
+      → note_claim a.0 note ≡ once_if true → AreClaimed k t → IdleAlike k r → IdleAlike (handed_over a (record k { telling = notes })) r
   handed-idle k r a note notes t is one claimed idle s b has =
       let apart = other-waits k note notes t s a b is one claimed has in
       idle s b has ∙ ap (λ o. idle_in (held_of o)) (sym (put-other k.acts a.0 b.0 (taken_from (k.acts a.0)) apart))
 
   -- one notice is fetched
-  held-told : (k : KernelState C) (note : Note) (notes : List Note) (t : ℕ) (a : ActNo) → note ∷ notes ≡ k.telling → note_claim a.0 note ≡ once_if true → AreClaimed k t → held_of (k.acts a.0) ≡ None → ⊥
+  held-told : (k : KernelState C) (note : Note) (notes : List Note) (t : ℕ) (a : ActNo) → note ∷ notes ≡ k.telling → note_claim a.0 note ≡ once_if true
+      → AreClaimed k t → held_of (k.acts a.0) ≡ None → ⊥
   held-told k note notes t a is one claimed none =
-      let told : sum_by (note_claim a.0) k.telling ≡ once_if true + sum_by (note_claim a.0) notes = ap (sum_by (note_claim a.0)) (sym is) ∙ sum_by-cons (note_claim a.0) note notes ∙ ap (λ n. n + sum_by (note_claim a.0) notes) one in
+      let told : sum_by (note_claim a.0) k.telling ≡ once_if true + sum_by (note_claim a.0) notes =
+      ap (sum_by (note_claim a.0)) (sym is) ∙ sum_by-cons (note_claim a.0) note notes ∙ ap (λ n. n + sum_by (note_claim a.0) notes) one in
       let at_t = claimed t a.0 in
       let full = cond-true (t == t) (sum_by (note_claim a.0) k.telling) 0 (eq-eqb t t refl) in
       let no = held-none (k.acts a.0) t none in
@@ -139,7 +150,8 @@ module _ {C : Type 0} where
     pub lives : new.lives ≡ k.lives
     pub demands : new.demands ≡ k.demands
 
-  passed : (k : KernelState C) (r : Readings) (notes : List Note) → overview r ≡ read_off (record k { telling = notes }) → IsTidy k → IdleAlike k r → Fetched k (record k { telling = notes }) r
+  passed : (k : KernelState C) (r : Readings) (notes : List Note) → overview r ≡ read_off (record k { telling = notes }) → IsTidy k → IdleAlike k r
+      → Fetched k (record k { telling = notes }) r
   passed k r notes reads tidy idle = record {
     reads = reads;
     tidy = record { added = tidy.added; blocked = tidy.blocked; fetched = tidy.fetched; taken = tidy.taken };
@@ -149,7 +161,8 @@ module _ {C : Type 0} where
     demands = refl;
   }
 
-  handed-on : (w : WorkloadView) (k : KernelState C) (r : Readings) (a : ActNo) (note : Note) (notes : List Note) (o : Option (Stopped C)) → IsKept w k r → note ∷ notes ≡ k.telling → note_claim a.0 note ≡ once_if true
+  handed-on : (w : WorkloadView) (k : KernelState C) (r : Readings) (a : ActNo) (note : Note) (notes : List Note) (o : Option (Stopped C)) → IsKept w k r
+      → note ∷ notes ≡ k.telling → note_claim a.0 note ≡ once_if true
       → taken_by (spaces_in k) note (take (length k.fixed.priorities) k.taken) ≡ with_act (take (length k.fixed.priorities) k.taken) (spaces_in k a.0) a
       → held_of (k.acts a.0) ≡ o → Fetched k (handed_by o a (record k { telling = notes })) r
   handed-on w k r a note notes None kept is one takes none = absurd (held-told k note notes kept.sound.claimed.told_to a is one kept.sound.claimed.once none)

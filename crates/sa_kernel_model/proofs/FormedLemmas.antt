@@ -1,8 +1,8 @@
 -- What an entry leaves is formed.
-use Rattle.std.proofs.Common.{◌≡◌, ◌≢◌, ℕ, zero, suc, ◌+◌, ◌<◌, ◌≤◌, Bool, true, false, not, cond, Option, Some, None, IsSome, IfSome, List, [], ◌∷◌, ◌++◌, length, get_or, slice_set, replicate, Contains, All, refl, sym, ap, subst, ◌∙◌, inl, inr, arith}
+use Rattle.std.proofs.Common.{◌≡◌, ◌≢◌, ℕ, zero, suc, ◌+◌, ◌<◌, ◌≤◌, Bool, true, false, not, Option, Some, None, IsSome, IfSome, List, [], ◌∷◌, ◌++◌, length, get_or, slice_set, replicate, Contains, refl, sym, ap, subst, ◌∙◌, inl, inr, arith}
 use Rattle.std.proofs.lemmas.List.{length-set, length-map, length-replicate, get_or-set_same}
-use Rattle.std.proofs.lemmas.Bool.{cases_eq, eqb-true}
-use Rattle.std.proofs.lemmas.List.Elements.{All-nil, All-cons, All-head, All-tail, All-push}
+use Rattle.std.proofs.lemmas.Bool.{cases_eq}
+use Rattle.std.proofs.lemmas.List.Elements.{All-nil, All-push}
 use Rattle.sa_base.specs.declared.number.ProcNo.{ProcNo}
 use Rattle.sa_base.specs.declared.number.SpaceNo.{SpaceNo}
 use Rattle.sa_base.specs.declared.number.ActNo.{ActNo}
@@ -21,12 +21,13 @@ use Rattle.sa_kernel_model.specs.Opening.{opening_state}
 use Rattle.sa_acts.specs.Table.{holding, runs_in, held_of, taken_from, space_of}
 use Rattle.sa_assign.specs.AssignView.{AssignView}
 use Rattle.sa_assign.specs.Aims.{Change, is_aim, space_no, choice, missing, change_to, changes_for, changes_from, aims_with, aims_after, least_below}
+use Rattle.sa_assign.proofs.AimLemmas.{is_aim-true}
 use Rattle.sa_assign.specs.Reaim.{proc_no, reaimed, changes_in}
 use Rattle.sa_devices.specs.declared.kind.IoKind.{IoKind}
 use Rattle.sa_devices.specs.Pages.{IsKind, completed, evicted, opening_pages}
-use Rattle.sa_devices.specs.Ios.{Io, without, is_number}
+use Rattle.sa_devices.specs.Ios.{Io, without}
 use Rattle.sa_devices.specs.declared.kind.IoKind.TheVariants.{Plain, Page, Upcall}
-use Rattle.sa_devices.proofs.SoundLemmas.{length-completed, length-evicted}
+use Rattle.sa_devices.proofs.SoundLemmas.{All-without, length-completed, length-evicted}
 use Rattle.sa_kernel_model.specs.State.{KernelState, Scene, owner_of, aim_of, life_of, untold_of, taken_of, can_upcall, is_fetching}
 use Rattle.sa_batch.specs.Notices.{notes_told}
 use Rattle.sa_kernel_model.specs.Parts.{with_owner, without_aim, with_line, with_mark, with_demand, noted, with_io, put_aside, upcall, fetch_page, leave, moved, go_to_by}
@@ -35,12 +36,10 @@ use Rattle.sa_kernel_model.specs.Closing.{for_spaces, spaces, want_one, want_for
 use Rattle.sa_kernel_model.specs.Fits.{IsFit}
 use Rattle.sa_kernel_model.specs.declared.entry.Entry.{Entry}
 use Rattle.sa_kernel_model.specs.declared.entry.Entry.TheVariants.{Interrupt, Block, Complete, More, Idle, GiveBack, InterruptOwn}
+use Rattle.sa_kernel_model.proofs.SizeLemmas.{sizes_of, sizes-kept}
 use Rattle.sa_kernel_model.proofs.ClosingLemmas.{length-aims_after, length-lines_after}
 use Rattle.sa_kernel_model.specs.Sound.{AreSpaces, AreIos, AreAlive, IsFormed}
-use Rattle.sa_kernel_model.proofs.LifeLemmas.{spaces-set, alive-aside, alive-run, alive-owner, taken-other, running-free, unused-free, alive-without, taken-without, taken-rests, alive-other, held-rests, taken-handed, contains-nil}
-
-abbrev pub no_life : Option ActNo
-no_life = None
+use Rattle.sa_kernel_model.proofs.LifeLemmas.{no_life, spaces-set, alive-aside, alive-run, alive-owner, taken-other, running-free, unused-free, alive-without, taken-without, taken-rests, alive-other, held-rests, taken-handed, contains-nil}
 
 abbrev pub no_event : Option ℕ
 no_event = None
@@ -68,13 +67,6 @@ free-set [] p = refl
 free-set (l ∷ lives) zero = refl
 free-set (l ∷ lives) (suc p) = free-set lives p
 
-All-without : (P : Io → Type 0) (n : ℕ) (ios : List Io) → All P ios → All P (without n ios)
-All-without P n [] all = all
-All-without P n (x ∷ xs) all = go (is_number n x) (All-without P n xs (All-tail P x xs all)) where
-  go : (b : Bool) → All P (without n xs) → All P (cond b xs (x ∷ without n xs))
-  go true rest = All-tail P x xs all
-  go false rest = All-cons P x (without n xs) (All-head P x xs all) rest
-
 abbrev AreBelow : ℕ → List Change → Type 0
 AreBelow n [] = Unit {0}
 AreBelow n (c ∷ cs) = (c.space < n) × AreBelow n cs
@@ -85,7 +77,8 @@ below-change_to : (n s : ℕ) (aims : List (Option SpaceNo)) (p : Option ℕ) (r
 below-change_to n s aims None rest below all = tt
 below-change_to n s aims (Some p) rest below all = (below, all (aims_with aims (record { proc = p; space = s })))
 
-below-changes_for : (n more : ℕ) (shares : List ℕ) (marks : List Bool) (s : ℕ) (aims : List (Option SpaceNo)) → s < n → AreBelow n (changes_for more shares marks s aims)
+below-changes_for : (n more : ℕ) (shares : List ℕ) (marks : List Bool) (s : ℕ) (aims : List (Option SpaceNo)) → s < n
+    → AreBelow n (changes_for more shares marks s aims)
 below-changes_for n zero shares marks s aims below = tt
 below-changes_for n (suc more) shares marks s aims below =
     below-change_to n s aims (choice shares marks aims) (changes_for more shares marks s) below (λ after. below-changes_for n more shares marks s after below)
@@ -94,11 +87,13 @@ below-append : (n : ℕ) (xs ys : List Change) → AreBelow n xs → AreBelow n 
 below-append n [] ys mine others = others
 below-append n (x ∷ xs) ys mine others = (mine.0, below-append n xs ys mine.1 others)
 
-below-changes_from : (n s more : ℕ) (shares : List ℕ) (marks : List Bool) (aims : List (Option SpaceNo)) → s + more ≤ n → AreBelow n (changes_from s more shares marks aims)
+below-changes_from : (n s more : ℕ) (shares : List ℕ) (marks : List Bool) (aims : List (Option SpaceNo)) → s + more ≤ n
+    → AreBelow n (changes_from s more shares marks aims)
 below-changes_from n s zero shares marks aims fits = tt
 below-changes_from n s (suc more) shares marks aims fits =
     let own = changes_for (missing shares aims s) shares marks s aims in
-    below-append n own _ (below-changes_for n (missing shares aims s) shares marks s aims (omega arith)) (below-changes_from n (s + 1) more shares marks (aims_after aims own) (omega arith))
+    below-append n own _ (below-changes_for n (missing shares aims s) shares marks s aims (omega arith))
+    (below-changes_from n (s + 1) more shares marks (aims_after aims own) (omega arith))
 
 spaces-aims_after : (n : ℕ) (aims : List (Option SpaceNo)) (cs : List Change) → AreBelow n cs → AreSpaces n aims → AreSpaces n (aims_after aims cs)
 spaces-aims_after n aims [] below each = each
@@ -110,30 +105,17 @@ spaces-aims_after n aims (c ∷ cs) below each =
 
 module _ {C : Type 0} where
   -- another assignment, whose owners are the same
-  formed-assign : (k : KernelState C) (a : AssignView) → a.owners ≡ k.assign.owners → length a.aims ≡ length k.assign.aims → length a.lines ≡ length k.assign.lines
-      → length a.marks ≡ length k.assign.marks → AreSpaces (length k.demands) a.aims → IsFormed k → IsFormed (record k { assign = a })
-  formed-assign k a owners aims lines marks below sound =
-      let z = sound.sizes in record {
-        sizes = record {
-          some_processor = z.some_processor;
-          few_processors = z.few_processors;
-          owners = ap (λ (xs : List (Option SpaceNo)). length xs) owners ∙ z.owners;
-          aims = aims ∙ z.aims;
-          lines = lines ∙ z.lines;
-          marks = marks ∙ z.marks;
-          some_space = z.some_space;
-          few_spaces = z.few_spaces;
-          untold = z.untold;
-          pages = z.pages;
-          priorities = z.priorities;
-          taken = z.taken;
-        };
-        owners = subst (AreSpaces (length k.demands)) (sym owners) sound.owners;
-        aims = below;
-        ios = sound.ios;
-        lives = subst (λ xs. AreAlive xs k.lives k.acts) (sym owners) sound.lives;
-        taken = sound.taken;
-      }
+  formed-assign : (k : KernelState C) (a : AssignView) → a.owners ≡ k.assign.owners → length a.aims ≡ length k.assign.aims
+      → length a.lines ≡ length k.assign.lines → length a.marks ≡ length k.assign.marks → AreSpaces (length k.demands) a.aims → IsFormed k
+      → IsFormed (record k { assign = a })
+  formed-assign k a owners aims lines marks below sound = record {
+    sizes = sizes-kept k _ (λ i. record (sizes_of k) { owners = length (owners i); aims = aims i; lines = lines i; marks = marks i }) sound.sizes;
+    owners = subst (AreSpaces (length k.demands)) (sym owners) sound.owners;
+    aims = below;
+    ios = sound.ios;
+    lives = subst (λ xs. AreAlive xs k.lives k.acts) (sym owners) sound.lives;
+    taken = sound.taken;
+  }
 
   pub formed-line : (p : ProcNo) (event : Option ℕ) (k : KernelState C) → IsFormed k → IsFormed (with_line p event k)
   formed-line p event k sound = formed-assign k _ refl refl (length-set k.assign.lines p.0 event) refl sound.aims sound
@@ -148,74 +130,31 @@ module _ {C : Type 0} where
 
   pub formed-owner : (p : ProcNo) (o : Option SpaceNo) (k : KernelState C) → life_of k p ≡ None → ((s : SpaceNo) → o ≡ Some s → s.0 < length k.demands)
       → IsFormed k → IsFormed (with_owner p o k)
-  formed-owner p o k free below sound =
-      let z = sound.sizes in record {
-        sizes = record {
-          some_processor = z.some_processor;
-          few_processors = z.few_processors;
-          owners = length-set k.assign.owners p.0 o ∙ z.owners;
-          aims = z.aims;
-          lines = z.lines;
-          marks = z.marks;
-          some_space = z.some_space;
-          few_spaces = z.few_spaces;
-          untold = z.untold;
-          pages = z.pages;
-          priorities = z.priorities;
-          taken = z.taken;
-        };
-        owners = spaces-set (length k.demands) k.assign.owners p.0 o below sound.owners;
-        aims = sound.aims;
-        ios = sound.ios;
-        lives = alive-owner k.assign.owners k.lives k.acts p.0 o free sound.lives;
-        taken = sound.taken;
-      }
+  formed-owner p o k free below sound = record {
+    sizes = sizes-kept k _ (λ i. record (sizes_of k) { owners = length-set k.assign.owners p.0 o i }) sound.sizes;
+    owners = spaces-set (length k.demands) k.assign.owners p.0 o below sound.owners;
+    aims = sound.aims;
+    ios = sound.ios;
+    lives = alive-owner k.assign.owners k.lives k.acts p.0 o free sound.lives;
+    taken = sound.taken;
+  }
 
   pub formed-noted : (s : SpaceNo) (note : Note) (k : KernelState C) → IsFormed k → IsFormed (noted s note k)
-  formed-noted s note k sound =
-      let z = sound.sizes in record {
-        sizes = record {
-          some_processor = z.some_processor;
-          few_processors = z.few_processors;
-          owners = z.owners;
-          aims = z.aims;
-          lines = z.lines;
-          marks = z.marks;
-          some_space = z.some_space;
-          few_spaces = z.few_spaces;
-          untold = length-set k.untold s.0 (untold_of k s.0 ++ note ∷ []) ∙ z.untold;
-          pages = z.pages;
-          priorities = z.priorities;
-          taken = z.taken;
-        };
-        owners = sound.owners;
-        aims = sound.aims;
-        ios = sound.ios;
-        lives = sound.lives;
-        taken = sound.taken;
-      }
+  formed-noted s note k sound = record {
+    sizes = sizes-kept k _ (λ i. record (sizes_of k) { untold = length-set k.untold s.0 (untold_of k s.0 ++ note ∷ []) i }) sound.sizes;
+    owners = sound.owners;
+    aims = sound.aims;
+    ios = sound.ios;
+    lives = sound.lives;
+    taken = sound.taken;
+  }
 
   formed-aside_acts : (p : ProcNo) (a : ActNo) (held : Stopped C) (k : KernelState C) → life_of k p ≡ Some a → IsFormed k
       → IsFormed (record k { lives = slice_set k.lives p.0 None; acts = put k.acts a.0 (holding held (k.acts a.0)) })
   formed-aside_acts p a held k here sound =
-      let z = sound.sizes in
       let runs = sound.lives.run p.0 a here in
-      let len : length (slice_set k.lives p.0 None) ≡ length k.lives = length-set k.lives p.0 None in
       record {
-        sizes = record {
-          some_processor = omega (arith, z.some_processor);
-          few_processors = omega (arith, z.few_processors);
-          owners = z.owners ∙ sym len;
-          aims = z.aims ∙ sym len;
-          lines = z.lines ∙ sym len;
-          marks = z.marks ∙ sym len;
-          some_space = z.some_space;
-          few_spaces = z.few_spaces;
-          untold = z.untold;
-          pages = z.pages;
-          priorities = z.priorities;
-          taken = z.taken;
-        };
+        sizes = sizes-kept k _ (λ i. record (sizes_of k) { lives = length-set k.lives p.0 None i }) sound.sizes;
         owners = sound.owners;
         aims = sound.aims;
         ios = sound.ios;
@@ -223,35 +162,26 @@ module _ {C : Type 0} where
         taken = taken-other k.taken k.acts a.0 (holding held (k.acts a.0)) (running-free (k.acts a.0) runs.space runs.act) sound.taken;
       }
 
-  pub formed-aside : (p : ProcNo) (s : SpaceNo) (a : ActNo) (note : Note) (held : Stopped C) (k : KernelState C) → life_of k p ≡ Some a → IsFormed k → IsFormed (put_aside p s a note held k)
+  pub formed-aside : (p : ProcNo) (s : SpaceNo) (a : ActNo) (note : Note) (held : Stopped C) (k : KernelState C) → life_of k p ≡ Some a → IsFormed k
+      → IsFormed (put_aside p s a note held k)
   formed-aside p s a note held k here sound = formed-noted s note _ (formed-aside_acts p a held k here sound)
 
   formed-run_acts : (p : ProcNo) (s : SpaceNo) (a : ActNo) (notes : List Note) (k : KernelState C) → owner_of k p ≡ Some s → k.acts a.0 ≡ None → IsFormed k
-      → IsFormed (with_mark p false (record k { lives = slice_set k.lives p.0 (Some a); acts = put k.acts a.0 (Some (runs_in s)); untold = slice_set k.untold s.0 []; telling = notes }))
-  formed-run_acts p s a notes k owner unused sound =
-      let z = sound.sizes in
-      let len : length (slice_set k.lives p.0 (Some a)) ≡ length k.lives = length-set k.lives p.0 (Some a) in
-      record {
-        sizes = record {
-          some_processor = omega (arith, z.some_processor);
-          few_processors = omega (arith, z.few_processors);
-          owners = z.owners ∙ sym len;
-          aims = z.aims ∙ sym len;
-          lines = z.lines ∙ sym len;
-          marks = length-set k.assign.marks p.0 false ∙ z.marks ∙ sym len;
-          some_space = z.some_space;
-          few_spaces = z.few_spaces;
-          untold = length-set k.untold s.0 [] ∙ z.untold;
-          pages = z.pages;
-          priorities = z.priorities;
-          taken = z.taken;
-        };
-        owners = sound.owners;
-        aims = sound.aims;
-        ios = sound.ios;
-        lives = alive-run k.assign.owners k.lives k.acts p.0 a s owner unused sound.lives;
-        taken = taken-other k.taken k.acts a.0 (Some (runs_in s)) (unused-free (k.acts a.0) unused) sound.taken;
-      }
+      → IsFormed
+      (with_mark p false
+      (record k { lives = slice_set k.lives p.0 (Some a); acts = put k.acts a.0 (Some (runs_in s)); untold = slice_set k.untold s.0 []; telling = notes }))
+  formed-run_acts p s a notes k owner unused sound = record {
+    sizes = sizes-kept k _ (λ i. record (sizes_of k) {
+      lives = length-set k.lives p.0 (Some a) i;
+      marks = length-set k.assign.marks p.0 false i;
+      untold = length-set k.untold s.0 [] i;
+    }) sound.sizes;
+    owners = sound.owners;
+    aims = sound.aims;
+    ios = sound.ios;
+    lives = alive-run k.assign.owners k.lives k.acts p.0 a s owner unused sound.lives;
+    taken = taken-other k.taken k.acts a.0 (Some (runs_in s)) (unused-free (k.acts a.0) unused) sound.taken;
+  }
 
   pub formed-upcall : (e : ℕ) (p : ProcNo) (s : SpaceNo) (a : ActNo) (added : Bool) (x : Scene C) → owner_of x.state p ≡ Some s → x.state.acts a.0 ≡ None
       → IsFormed x.state → IsFormed (upcall e p s a added x).state
@@ -259,23 +189,9 @@ module _ {C : Type 0} where
 
   pub formed-demand : (s n : ℕ) (k : KernelState C) → IsFormed k → IsFormed (with_demand s n k)
   formed-demand s n k sound =
-      let z = sound.sizes in
       let len : length (slice_set k.demands s n) ≡ length k.demands = length-set k.demands s n in
       record {
-        sizes = record {
-          some_processor = z.some_processor;
-          few_processors = z.few_processors;
-          owners = z.owners;
-          aims = z.aims;
-          lines = z.lines;
-          marks = z.marks;
-          some_space = omega (arith, z.some_space);
-          few_spaces = omega (arith, z.few_spaces);
-          untold = z.untold ∙ sym len;
-          pages = z.pages ∙ sym len;
-          priorities = z.priorities ∙ sym len;
-          taken = z.taken;
-        };
+        sizes = sizes-kept k _ (λ i. record (sizes_of k) { demands = len i }) sound.sizes;
         owners = subst (λ m. AreSpaces m k.assign.owners) (sym len) sound.owners;
         aims = subst (λ m. AreSpaces m k.assign.aims) (sym len) sound.aims;
         ios = subst (λ m. AreIos m k.under_way) (sym len) sound.ios;
@@ -285,76 +201,64 @@ module _ {C : Type 0} where
 
   formed-devices : (k : KernelState C) (begun : ℕ) (ios : List Io) (pages : List ℕ) → length pages ≡ length k.pages → AreIos (length k.demands) ios → IsFormed k
       → IsFormed (record k { begun = begun; under_way = ios; pages = pages })
-  formed-devices k begun ios pages len kinds sound =
-      let z = sound.sizes in record {
-        sizes = record {
-          some_processor = z.some_processor;
-          few_processors = z.few_processors;
-          owners = z.owners;
-          aims = z.aims;
-          lines = z.lines;
-          marks = z.marks;
-          some_space = z.some_space;
-          few_spaces = z.few_spaces;
-          untold = z.untold;
-          pages = len ∙ z.pages;
-          priorities = z.priorities;
-          taken = z.taken;
-        };
-        owners = sound.owners;
-        aims = sound.aims;
-        ios = kinds;
-        lives = sound.lives;
-        taken = sound.taken;
-      }
+  formed-devices k begun ios pages len kinds sound = record {
+    sizes = sizes-kept k _ (λ i. record (sizes_of k) { pages = len i }) sound.sizes;
+    owners = sound.owners;
+    aims = sound.aims;
+    ios = kinds;
+    lives = sound.lives;
+    taken = sound.taken;
+  }
 
   formed-io : (kind : IoKind) (ends : ℕ) (k : KernelState C) → IsKind (length k.demands) kind → IsFormed k → IsFormed (with_io kind ends k)
   formed-io kind ends k fits sound =
       formed-devices k (k.begun + 1) _ k.pages refl (All-push (λ (io : Io). IsKind (length k.demands) io.kind) k.under_way _ sound.ios fits) sound
 
-  formed-fetch : (e : ℕ) (p : ProcNo) (s : SpaceNo) (b : Bool) (x : Scene C) → s.0 < length x.state.demands → IsFormed x.state → IsFormed (fetch_page e p s b x).state
+  formed-fetch : (e : ℕ) (p : ProcNo) (s : SpaceNo) (b : Bool) (x : Scene C) → s.0 < length x.state.demands → IsFormed x.state
+      → IsFormed (fetch_page e p s b x).state
   formed-fetch e p s true x below sound = sound
   formed-fetch e p s false x below sound = formed-io (Upcall s) (e + x.state.fixed.fetch) x.state below sound
 
-  pub formed-leave : (e : ℕ) (p : ProcNo) (s : SpaceNo) (x : Scene C) → s.0 < length x.state.demands → life_of x.state p ≡ None → IsFormed x.state → IsFormed (leave e p s x).state
+  pub formed-leave : (e : ℕ) (p : ProcNo) (s : SpaceNo) (x : Scene C) → s.0 < length x.state.demands → life_of x.state p ≡ None → IsFormed x.state
+      → IsFormed (leave e p s x).state
   formed-leave e p s x below free sound =
       let left = formed-no_aim p (with_owner p None x.state) (formed-owner p None x.state free (λ t is. absurd (none-some t is)) sound) in
       formed-fetch e p s (is_fetching x.state s.0) _ below left
 
-  formed-moved : (e : ℕ) (p : ProcNo) (s : SpaceNo) (owned : Bool) (x : Scene C) → s.0 < length x.state.demands → life_of x.state p ≡ None → IsFormed x.state → IsFormed (moved e p s owned x).state
+  formed-moved : (e : ℕ) (p : ProcNo) (s : SpaceNo) (owned : Bool) (x : Scene C) → s.0 < length x.state.demands → life_of x.state p ≡ None → IsFormed x.state
+      → IsFormed (moved e p s owned x).state
   formed-moved e p s true x below free sound = sound
   formed-moved e p s false x below free sound = formed-owner p (Some s) x.state free (λ t is. below-same t is) sound
     where
       below-same : (t : SpaceNo) → Some s ≡ Some t → t.0 < length x.state.demands
       below-same t is = let f : s ≡ t = cc in let h : s.0 ≡ t.0 = ap (λ (v : SpaceNo). v.0) f in omega arith
 
-  pub owner-moved : (e : ℕ) (p : ProcNo) (s : SpaceNo) (owned : Bool) (x : Scene C) → owned ≡ is_aim s.0 (owner_of x.state p) → p.0 < length x.state.assign.owners
-      → owner_of (moved e p s owned x).state p ≡ Some s
-  owner-moved e p s true x is within = owner (owner_of x.state p) (sym is)
-    where
-      owner : (o : Option SpaceNo) → is_aim s.0 o ≡ true → o ≡ Some s
-      owner None h = cc
-      owner (Some t) h = ap (λ n. Some (record { 0 = n })) (eqb-true t.0 s.0 h)
+  pub owner-moved : (e : ℕ) (p : ProcNo) (s : SpaceNo) (owned : Bool) (x : Scene C) → owned ≡ is_aim s.0 (owner_of x.state p)
+      → p.0 < length x.state.assign.owners → owner_of (moved e p s owned x).state p ≡ Some s
+  owner-moved e p s true x is within = is_aim-true s.0 (owner_of x.state p) (sym is)
   owner-moved e p s false x is within = get_or-set_same x.state.assign.owners p.0 (Some s) None within
 
   pub acts-moved : (e : ℕ) (p : ProcNo) (s : SpaceNo) (owned : Bool) (x : Scene C) (n : ℕ) → (moved e p s owned x).state.acts n ≡ x.state.acts n
   acts-moved e p s true x n = refl
   acts-moved e p s false x n = refl
 
-  formed-go_to_by : (e : ℕ) (p : ProcNo) (s : SpaceNo) (a : ActNo) (owned can : Bool) (x : Scene C) → owned ≡ is_aim s.0 (owner_of x.state p) → p.0 < length x.state.assign.owners
-      → s.0 < length x.state.demands → life_of x.state p ≡ None → x.state.acts a.0 ≡ None → IsFormed x.state → IsFormed (go_to_by e p s a owned can x).state
+  formed-go_to_by : (e : ℕ) (p : ProcNo) (s : SpaceNo) (a : ActNo) (owned can : Bool) (x : Scene C) → owned ≡ is_aim s.0 (owner_of x.state p)
+      → p.0 < length x.state.assign.owners → s.0 < length x.state.demands → life_of x.state p ≡ None → x.state.acts a.0 ≡ None → IsFormed x.state
+      → IsFormed (go_to_by e p s a owned can x).state
   formed-go_to_by e p s a owned false x is within below free unused sound = formed-leave e p s x below free sound
   formed-go_to_by e p s a owned true x is within below free unused sound =
-      formed-upcall e p s a (not owned) (moved e p s owned x) (owner-moved e p s owned x is within) (acts-moved e p s owned x a.0 ∙ unused) (formed-moved e p s owned x below free sound)
+      formed-upcall e p s a (not owned) (moved e p s owned x) (owner-moved e p s owned x is within) (acts-moved e p s owned x a.0 ∙ unused)
+      (formed-moved e p s owned x below free sound)
 
-  formed-go_to_aim : (e : ℕ) (p : ProcNo) (a : ActNo) (aim : Option SpaceNo) (x : Scene C) → p.0 < length x.state.assign.owners → ((s : SpaceNo) → aim ≡ Some s → s.0 < length x.state.demands)
-      → life_of x.state p ≡ None → x.state.acts a.0 ≡ None → IsFormed x.state → IsFormed (go_to_aim e p a aim x).state
+  formed-go_to_aim : (e : ℕ) (p : ProcNo) (a : ActNo) (aim : Option SpaceNo) (x : Scene C) → p.0 < length x.state.assign.owners
+      → ((s : SpaceNo) → aim ≡ Some s → s.0 < length x.state.demands) → life_of x.state p ≡ None → x.state.acts a.0 ≡ None → IsFormed x.state
+      → IsFormed (go_to_aim e p a aim x).state
   formed-go_to_aim e p a None x within below free unused sound = sound
   formed-go_to_aim e p a (Some s) x within below free unused sound =
       formed-go_to_by e p s a (is_aim s.0 (owner_of x.state p)) (can_upcall x.state s) x refl within (below s refl) free unused sound
 
-  pub formed-stopped : (e : ℕ) (p : ProcNo) (o : Option SpaceNo) (l : Option ActNo) (held : Option (Stopped C)) (x : Scene C) → l ≡ life_of x.state p → IsFormed x.state
-      → IsFormed (stopped e p o l held x).state
+  pub formed-stopped : (e : ℕ) (p : ProcNo) (o : Option SpaceNo) (l : Option ActNo) (held : Option (Stopped C)) (x : Scene C) → l ≡ life_of x.state p
+      → IsFormed x.state → IsFormed (stopped e p o l held x).state
   formed-stopped e p None l held x life sound = sound
   formed-stopped e p (Some s) None held x life sound = sound
   formed-stopped e p (Some s) (Some a) None x life sound = sound
@@ -424,7 +328,9 @@ module _ {C : Type 0} where
       kind (Some k) h = (below, h.0, h.1)
 
       begun : IsFormed (block_begun e p s a held len page x).state
-      begun = formed-aside p s a (Blocked a) held (with_io (io_for s a page) (e + len) x.state) (sym life) (formed-io (io_for s a page) (e + len) x.state (kind page fits) sound)
+      begun =
+          formed-aside p s a (Blocked a) held (with_io (io_for s a page) (e + len) x.state) (sym life)
+          (formed-io (io_for s a page) (e + len) x.state (kind page fits) sound)
 
       free : (block_begun e p s a held len page x).state.acts b.0 ≡ None
       free = elim (cases_eq b.0 a.0) [
@@ -447,7 +353,8 @@ module _ {C : Type 0} where
   pub formed-over : (e : ℕ) (p : ProcNo) (io : IoNo) (kind : Option IoKind) (x : Scene C) → IsFormed x.state → IsFormed (over e p io kind x).state
   formed-over e p io None x sound = sound
   formed-over e p io (Some kind) x sound =
-      formed-over_for e p kind _ (formed-devices x.state x.state.begun (without io.0 x.state.under_way) (completed kind x.state.pages) (length-completed kind x.state.pages)
+      formed-over_for e p kind _ (formed-devices x.state x.state.begun (without io.0 x.state.under_way) (completed kind x.state.pages)
+      (length-completed kind x.state.pages)
       (All-without (λ (i : Io). IsKind (length x.state.demands) i.kind) io.0 x.state.under_way sound.ios) sound)
 
   formed-announced : (e : ℕ) (p : ProcNo) (s : SpaceNo) (n : ℕ) (idle : Bool) (x : Scene C) → IsFormed x.state → IsFormed (announced e p s n idle x).state
@@ -465,25 +372,13 @@ module _ {C : Type 0} where
   formed-gave_back e p None x sound = sound
   formed-gave_back e p (Some s) x sound =
       let k = x.state in
-      let z = sound.sizes in record {
-        sizes = record {
-          some_processor = z.some_processor;
-          few_processors = z.few_processors;
-          owners = z.owners;
-          aims = z.aims;
-          lines = z.lines;
-          marks = z.marks;
-          some_space = z.some_space;
-          few_spaces = z.few_spaces;
-          untold = z.untold;
-          pages = z.pages;
-          priorities = z.priorities;
-          taken = length-set k.taken s.0 [] ∙ z.taken;
-        };
+      record {
+        sizes = sizes-kept k _ (λ i. record (sizes_of k) { taken = length-set k.taken s.0 [] i }) sound.sizes;
         owners = sound.owners;
         aims = sound.aims;
         ios = sound.ios;
-        lives = alive-without k.assign.owners k.lives (taken_of k s.0) k.acts (λ a has u is. taken-rests s.0 (k.acts a.0) u (sound.taken s.0 a has) is) sound.lives;
+        lives =
+            alive-without k.assign.owners k.lives (taken_of k s.0) k.acts (λ a has u is. taken-rests s.0 (k.acts a.0) u (sound.taken s.0 a has) is) sound.lives;
         taken = taken-without k.taken k.acts s.0 sound.taken;
       }
 
@@ -521,7 +416,8 @@ module _ {C : Type 0} where
       let w = wants e p x in
       let wanted : IsFormed w.state = formed-for_spaces (want_for e p) (λ s y h. formed-want_one e p (must_want y.state s) s y h) 0 (spaces x.state) x sound in
       let aimed = formed-aims e p w wanted in
-      formed-for_spaces (interrupt_for e p) (λ s y h. formed-interrupt_one e p (must_interrupt y.state s) s y h) 0 (spaces (aims e p w).state) (aims e p w) aimed
+      formed-for_spaces (interrupt_for e p) (λ s y h. formed-interrupt_one e p (must_interrupt y.state s) s y h) 0 (spaces (aims e p w).state)
+      (aims e p w) aimed
 
   pub formed-entered_as : (e : ℕ) (p : ProcNo) (a : ActNo) (entry : Entry C) (x : Scene C) → p.0 < length x.state.lives → IsFit x.state p e entry
       → x.state.acts a.0 ≡ None → IsFormed x.state → IsFormed (entered_as e p a entry x).state
@@ -535,56 +431,28 @@ module _ {C : Type 0} where
   formed-entered_as e p a (InterruptOwn q) x within fit unused sound = formed-own e p q x sound
 
   formed-taken : (a : ActNo) (h : Stopped C) (k : KernelState C) → held_of (k.acts a.0) ≡ Some h → IsFormed k → IsFormed (handed_over a k)
-  formed-taken a h k is sound =
-      let z = sound.sizes in record {
-        sizes = record {
-          some_processor = z.some_processor;
-          few_processors = z.few_processors;
-          owners = z.owners;
-          aims = z.aims;
-          lines = z.lines;
-          marks = z.marks;
-          some_space = z.some_space;
-          few_spaces = z.few_spaces;
-          untold = z.untold;
-          pages = z.pages;
-          priorities = z.priorities;
-          taken = length-set k.taken (space_of (k.acts a.0)).0 _ ∙ z.taken;
-        };
-        owners = sound.owners;
-        aims = sound.aims;
-        ios = sound.ios;
-        lives = alive-other k.assign.owners k.lives k.acts a.0 (taken_from (k.acts a.0)) (held-rests (k.acts a.0) h is) sound.lives;
-        taken = taken-handed k.taken k.acts a h is sound.taken;
-      }
+  formed-taken a h k is sound = record {
+    sizes = sizes-kept k _ (ap (λ n. record (sizes_of k) { taken = n }) (length-set k.taken (space_of (k.acts a.0)).0 _)) sound.sizes;
+    owners = sound.owners;
+    aims = sound.aims;
+    ios = sound.ios;
+    lives = alive-other k.assign.owners k.lives k.acts a.0 (taken_from (k.acts a.0)) (held-rests (k.acts a.0) h is) sound.lives;
+    taken = taken-handed k.taken k.acts a h is sound.taken;
+  }
 
   formed-handed : (a : ActNo) (o : Option (Stopped C)) (k : KernelState C) → held_of (k.acts a.0) ≡ o → IsFormed k → IsFormed (handed_by o a k)
   formed-handed a None k is sound = sound
   formed-handed a (Some h) k is sound = formed-taken a h k is sound
 
   formed-telling : (notes : List Note) (k : KernelState C) → IsFormed k → IsFormed (record k { telling = notes })
-  formed-telling notes k sound =
-      let z = sound.sizes in record {
-        sizes = record {
-          some_processor = z.some_processor;
-          few_processors = z.few_processors;
-          owners = z.owners;
-          aims = z.aims;
-          lines = z.lines;
-          marks = z.marks;
-          some_space = z.some_space;
-          few_spaces = z.few_spaces;
-          untold = z.untold;
-          pages = z.pages;
-          priorities = z.priorities;
-          taken = z.taken;
-        };
-        owners = sound.owners;
-        aims = sound.aims;
-        ios = sound.ios;
-        lives = sound.lives;
-        taken = sound.taken;
-      }
+  formed-telling notes k sound = record {
+    sizes = sizes-kept k _ refl sound.sizes;
+    owners = sound.owners;
+    aims = sound.aims;
+    ios = sound.ios;
+    lives = sound.lives;
+    taken = sound.taken;
+  }
 
   formed-fetched : (note : Note) (k : KernelState C) → IsFormed k → IsFormed (fetched note k)
   formed-fetched (Add p) k sound = sound
@@ -597,7 +465,8 @@ module _ {C : Type 0} where
   formed-after_fetch (note ∷ notes) k sound = formed-fetched note (record k { telling = notes }) (formed-telling notes k sound)
 
   pub formed-evicted : (event : ℕ) (k : KernelState C) → IsFormed k → IsFormed (evicted_at event k)
-  formed-evicted event k sound = formed-devices k k.begun k.under_way (evicted event k.fixed.evictions k.pages) (length-evicted event k.fixed.evictions k.pages) sound.ios sound
+  formed-evicted event k sound =
+      formed-devices k k.begun k.under_way (evicted event k.fixed.evictions k.pages) (length-evicted event k.fixed.evictions k.pages) sound.ios sound
 
   pub formed-opening : (w : WorkloadView) → IsWorkload w → IsFormed (opening_state {C = C} w)
   formed-opening w ok = record {

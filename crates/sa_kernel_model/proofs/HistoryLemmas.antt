@@ -103,7 +103,8 @@ module _ {C : Type 0} where
   pub entry-goes-on : (e : ℕ) (p : ProcNo) (entry : Entry C) (old new : Scene C) (result : Given) (upcalls : Bool) → p.0 < length old.state.lives → 1 ≤ e
       → Enters old new result upcalls (λ (a : ActNo). entered e p a entry) → GoesOnLawfully e p (Some entry) old new
   entry-goes-on e p entry old new result upcalls within later enters test w events says u =
-      let enters_so = subst (λ (x : Scene C). Enters x new result upcalls (λ (a : ActNo). entered e p a entry)) (scene-is test w events e p says (Some entry) old u) enters in
+      let enters_so =
+      subst (λ (x : Scene C). Enters x new result upcalls (λ (a : ActNo). entered e p a entry)) (scene-is test w events e p says (Some entry) old u) enters in
       longer test w events u.before new u.history e p
       (entries-go-on C test w u.before.state (read_from test w events) e p says u.before.items entry result upcalls new
       (can-call test w events e p says (Some entry) old u within later) enters_so)
@@ -150,9 +151,9 @@ holds-last test w r e (x ∷ xs) h =
     record { before = rest.before; holds = rest.holds; after = rest.after }
 
 module _ {C : Type 0} where
-  -- behind a history a closing adds nothing, while the remainder of the processors begins with the same space
-  nothing-closes : (test : Test) (w : WorkloadView) (events : List Event) (e : ℕ) (p : ProcNo) (before : Scene C) (h : IsHistory test w events before) (items : List Item)
-      → first_space w e ≡ first_space w (last_number w events)
+  -- after a history a closing adds nothing, while the remainder of the processors begins with the same space
+  nothing-closes : (test : Test) (w : WorkloadView) (events : List Event) (e : ℕ) (p : ProcNo) (before : Scene C) (h : IsHistory test w events before)
+      (items : List Item) → first_space w e ≡ first_space w (last_number w events)
       → closed e p (record { state = evicted_at e before.state; items = items }) ≡ (record { state = evicted_at e before.state; items = items })
   nothing-closes test w events e p before h items same =
       let k = before.state in
@@ -160,7 +161,8 @@ module _ {C : Type 0} where
       let last = holds-last test w (opening_readings w) (opening_event w) events h.lawful in
       let n = last_number w events in
       let wanted : (s : ℕ) → must_want k s ≡ false =
-      λ s. sym (must-same k r s h.kept.reads h.kept.idle) ∙ ap (λ (c : Readings). must_want_in c (space_no s)) last.after ∙ last.holds.want_cause.none (space_no s) in
+      λ s. sym (must-same k r s h.kept.reads h.kept.idle) ∙ ap (λ (c : Readings). must_want_in c (space_no s)) last.after
+      ∙ last.holds.want_cause.none (space_no s) in
       let enough : (s : ℕ) → share_at (shares_at w n r) s ≤ aimed s r.aims =
       subst (λ (c : Readings). (s : ℕ) → share_at (shares_at w n c) s ≤ aimed s c.aims) (sym last.after) last.holds.shares_covered.covered in
       let due : aims_due w e r ≡ [] =
@@ -170,8 +172,8 @@ module _ {C : Type 0} where
       sym (due-same w k r e h.kept.of (h.kept.sound.formed.sizes.owners ∙ h.kept.of.processors) h.kept.reads) ∙ due in
       closing-adds-nothing e p (record { state = evicted_at e k; items = items }) wanted aimed_all h.low
 
-same-event : (event : Event) (e : ℕ) (p : ProcNo) (says : List Record) (past items : List Item) → event.number ≡ e → event.proc ≡ p → items ≡ past ++ items_at e p event.records
-    → items ≡ past ++ items_at e p says → event ≡ (record { number = e; proc = p; records = says })
+same-event : (event : Event) (e : ℕ) (p : ProcNo) (says : List Record) (past items : List Item) → event.number ≡ e → event.proc ≡ p
+    → items ≡ past ++ items_at e p event.records → items ≡ past ++ items_at e p says → event ≡ (record { number = e; proc = p; records = says })
 same-event event e p says past items number proc one other =
     let same : items_at e p event.records ≡ items_at e p says = append_cancel_left past (items_at e p event.records) (items_at e p says) (sym one ∙ other) in
     let records : event.records ≡ says = sym (records-said e p event.records) ∙ ap (map what_of) same ∙ records-said e p says in
@@ -189,4 +191,5 @@ quiet-goes-on C test w events e p says x u within later same =
     ap (λ (n : ℕ). items_at n event.proc event.records) next.number ∙ ap (λ (q : ProcNo). items_at e q event.records) next.proc in
     let here = next.history.items ∙ items-push past event ∙ ap (λ (xs : List Item). items_of past ++ xs) items in
     let said = u.items ∙ ap (λ (xs : List Item). xs ++ items_at e p says) u.history.items in
-    subst (λ (ev : Event). IsHistory test w (events ++ ev ∷ []) x) (same-event event e p says (items_of past) x.items next.number next.proc here said) next.history
+    subst (λ (ev : Event). IsHistory test w (events ++ ev ∷ []) x)
+    (same-event event e p says (items_of past) x.items next.number next.proc here said) next.history

@@ -66,19 +66,23 @@ user-idles w e p r (Spin l) is = refl
 user-idles w e p r Tick is = refl
 user-idles w e p r x is = absurd (cc)
 
-pub users-idles : (w : WorkloadView) (e : ℕ) (p : ProcNo) (r : Readings) (xs : List Record) → AreUsers xs → idles (after_records w e p r xs).lives ≡ idles r.lives
+pub users-idles : (w : WorkloadView) (e : ℕ) (p : ProcNo) (r : Readings) (xs : List Record) → AreUsers xs
+    → idles (after_records w e p r xs).lives ≡ idles r.lives
 users-idles w e p r [] is = refl
 users-idles w e p r (x ∷ xs) is =
-    users-idles w e p (after_record w e p r x) xs (and_parts (is_users x) (list_all is_users xs) is).1 ∙ user-idles w e p r x (and_parts (is_users x) (list_all is_users xs) is).0
+    users-idles w e p (after_record w e p r x) xs (and_parts (is_users x) (list_all is_users xs) is).1
+    ∙ user-idles w e p r x (and_parts (is_users x) (list_all is_users xs) is).0
 
-pub given-idles : (w : WorkloadView) (e : ℕ) (p : ProcNo) (r : Readings) (ids : List ActNo) (b : ℕ) → ((a : ActNo) → Contains ids a → b ≢ a.0) → idles (after_records w e p r (map GiveBack ids)).lives b ≡ idles r.lives b
+pub given-idles : (w : WorkloadView) (e : ℕ) (p : ProcNo) (r : Readings) (ids : List ActNo) (b : ℕ) → ((a : ActNo) → Contains ids a → b ≢ a.0)
+    → idles (after_records w e p r (map GiveBack ids)).lives b ≡ idles r.lives b
 given-idles w e p r [] b apart = refl
 given-idles w e p r (a ∷ ids) b apart =
     given-idles w e p (after_record w e p r (GiveBack a)) ids b (λ c has. apart c (Contains-append_right (a ∷ []) ids c has))
     ∙ ap was_idle (put-other r.lives a.0 b None (apart a (0, omega arith, refl)))
 
 -- the end of an event changes nothing
-idles-stepped : (test : Test) (w : WorkloadView) (before : Readings) (e : Event) (after : Readings) (xs : List Record) (lives : ℕ → Option Life) → idles (with_step test w before e after xs lives) ≡ idles lives
+idles-stepped : (test : Test) (w : WorkloadView) (before : Readings) (e : Event) (after : Readings) (xs : List Record) (lives : ℕ → Option Life)
+    → idles (with_step test w before e after xs lives) ≡ idles lives
 idles-stepped test w before e after [] lives = refl
 idles-stepped test w before e after (x ∷ xs) lives = one (is_step x) where
   one : (b : Bool) → idles (if b then with_life (stepped test w before e after x) (running_of before e.proc) lives else lives) ≡ idles lives
@@ -90,7 +94,8 @@ idles-risen : (test : Test) (w : WorkloadView) (before : Readings) (e : Event) (
 idles-risen test w before e after true lives = idles-with (arisen test w before e after) (running_of after e.proc) lives (λ l. refl)
 idles-risen test w before e after false lives = refl
 
-pub idles-ended : (test : Test) (w : WorkloadView) (before : Readings) (e : Event) (after : Readings) → idles (ended test w before e after).lives ≡ idles after.lives
+pub idles-ended : (test : Test) (w : WorkloadView) (before : Readings) (e : Event) (after : Readings)
+    → idles (ended test w before e after).lives ≡ idles after.lives
 idles-ended test w before e after =
     idles-risen test w before e after _ (with_step test w before e after e.records after.lives) ∙ idles-stepped test w before e after e.records after.lives
 
@@ -105,7 +110,8 @@ contains-emptied (u ∷ us) zero (suc t) n has = has
 contains-emptied (u ∷ us) (suc s) zero n has = has
 contains-emptied (u ∷ us) (suc s) (suc t) n has = contains-emptied us s t n has
 
-pub contains-noted : (us : List (List Note)) (s t : ℕ) (m n : Note) → Contains (get_or (slice_set us s (get_or us s [] ++ m ∷ [])) t []) n → Contains (get_or us t []) n ⊎ (m ≡ n)
+pub contains-noted : (us : List (List Note)) (s t : ℕ) (m n : Note) → Contains (get_or (slice_set us s (get_or us s [] ++ m ∷ [])) t []) n
+    → Contains (get_or us t []) n ⊎ (m ≡ n)
 contains-noted [] s t m n has = inl has
 contains-noted (u ∷ us) zero zero m n has = Contains-push_cases u m n has
 contains-noted (u ∷ us) zero (suc t) m n has = inl has

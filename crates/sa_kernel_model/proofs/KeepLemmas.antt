@@ -2,7 +2,7 @@
 use Rattle.std.proofs.Common.{◌≡◌, ◌≢◌, ℕ, inl, inr, refl, sym, ◌∙◌, ap, subst, arith, Some, None, List, [], ◌∷◌, length, true, false}
 use Rattle.std.specs.Prelude.{Option, Bool, ◌⊎◌, is_some, get_or, Contains}
 use Rattle.std.specs.List.{list_any}
-use Rattle.std.proofs.lemmas.Bool.{cases_lt, eqb-true, eq-eqb}
+use Rattle.std.proofs.lemmas.Bool.{cases_lt, eq-eqb}
 use Rattle.std.proofs.lemmas.List.{get_or_past}
 use Rattle.std.proofs.lemmas.Option.{none-some}
 use Rattle.sa_base.specs.declared.number.SpaceNo.{SpaceNo}
@@ -15,6 +15,7 @@ use Rattle.sa_acts.specs.declared.acts.Act.{Act}
 use Rattle.sa_acts.specs.Table.{held_of}
 use Rattle.sa_assign.specs.Aims.{is_aim, least_below}
 use Rattle.sa_assign.specs.Reaim.{proc_no}
+use Rattle.sa_assign.proofs.AimLemmas.{is_aim-true}
 use Rattle.sa_assign.proofs.ChoiceLemmas.{least_below-passes, least_below-none}
 use Rattle.sa_batch.specs.Notices.{has_untold}
 use Rattle.sa_devices.specs.Ios.{Io, fetches}
@@ -34,7 +35,8 @@ use Rattle.sa_kernel_model.proofs.IdleLemmas.{idles, idles-ended}
 use Rattle.sa_kernel_model.proofs.WholeLemmas.{Whole, reading_at, whole-turn}
 
 -- which processors a space owns, and whether something waits
-owns-none : (n : ℕ) (owners : List (Option SpaceNo)) (s : SpaceNo) → length owners ≡ n → least_below n (λ q. is_aim s.0 (get_or owners q None)) ≡ None → (p : ProcNo) → get_or owners p.0 None ≢ Some s
+owns-none : (n : ℕ) (owners : List (Option SpaceNo)) (s : SpaceNo) → length owners ≡ n → least_below n (λ q. is_aim s.0 (get_or owners q None)) ≡ None
+    → (p : ProcNo) → get_or owners p.0 None ≢ Some s
 owns-none n owners s len none p owner = elim (cases_lt p.0 n) [
   | inl below ↦
       let no = least_below-none n (λ q. is_aim s.0 (get_or owners q None)) none p.0 below in
@@ -46,12 +48,8 @@ some-waits : (ns : List Note) → ns ≢ [] → has_untold ns ≡ true
 some-waits [] some = absurd (some refl)
 some-waits (n ∷ ns) some = refl
 
-is-space : (s : SpaceNo) (o : Option SpaceNo) → is_aim s.0 o ≡ true → o ≡ Some s
-is-space s None is = absurd (cc)
-is-space s (Some t) is = ap (λ n. Some (record { 0 = n })) (eqb-true t.0 s.0 is)
-
 module _ {C : Type 0} where
-  -- what is read after the event is the state behind the closing
+  -- what is read after the event is the state after the closing
   pub reads-after : (test : Test) (w : WorkloadView) (k : KernelState C) (r : Readings) (t : Turn C) (whole : Whole w k r t)
       → overview (after_event test w r (event_of t k)) ≡ read_off (closed t.number t.proc whole.before).state
   reads-after test w k r t whole =
@@ -63,7 +61,12 @@ module _ {C : Type 0} where
       let stays = stays-closed e p y in
       let new = (closed e p y).state in
       let P : List (List Note) → List Io → List (List ActNo) → Type 0 = λ us ios ts. IsTidy (record new { untold = us; under_way = ios; taken = ts }) in
-      let here : P y.state.untold y.state.under_way y.state.taken = record { added = tidy.added; blocked = tidy.blocked; fetched = tidy.fetched; taken = tidy.taken } in
+      let here : P y.state.untold y.state.under_way y.state.taken = record {
+        added = tidy.added;
+        blocked = tidy.blocked;
+        fetched = tidy.fetched;
+        taken = tidy.taken;
+      } in
       subst (λ us. P us new.under_way new.taken) (sym stays.untold)
       (subst (λ ios. P y.state.untold ios new.taken) (sym stays.under_way) (subst (λ ts. P y.state.untold y.state.under_way ts) (sym stays.taken) here))
 
@@ -73,7 +76,8 @@ module _ {C : Type 0} where
       ap (λ f. f a.0) same ∙ idle s a (subst (λ (us : List (List Note)). Contains (get_or us s []) (Preempted a)) stays.untold has)
       ∙ ap (λ (acts : ℕ → Option (Act C)). idle_in (held_of (acts a.0))) (sym stays.acts)
 
-  pub turn-keeps : (test : Test) (w : WorkloadView) (k : KernelState C) (r : Readings) (t : Turn C) → IsKept w k r → CanTurn w k r t → IsKept w (turned t k).state (after_event test w r (event_of t k))
+  pub turn-keeps : (test : Test) (w : WorkloadView) (k : KernelState C) (r : Readings) (t : Turn C) → IsKept w k r → CanTurn w k r t
+      → IsKept w (turned t k).state (after_event test w r (event_of t k))
   turn-keeps test w k r t kept can =
       let whole = whole-turn w k r t kept can in
       let y = whole.before in
@@ -84,7 +88,8 @@ module _ {C : Type 0} where
       let reads = reads-after test w k r t whole in
       let closes = whole.closing.closes in
       let m = after_records w e p (reading_at w r t k) whole.own.records in
-      let lives : idles after.lives ≡ idles m.lives = idles-ended test w r (event_of t k) (behind_all w (event_of t k) r) ∙ ap (λ (c : Readings). idles c.lives) whole.behind ∙ ap idles whole.closing.lives in
+      let lives : idles after.lives ≡ idles m.lives =
+      idles-ended test w r (event_of t k) (behind_all w (event_of t k) r) ∙ ap (λ (c : Readings). idles c.lives) whole.behind ∙ ap idles whole.closing.lives in
       let lives_len : length new.state.lives ≡ w.processors = ap (λ (ls : List (Option ActNo)). length ls) (stays-closed e p y).lives ∙ whole.of.processors in
       let result : IsKept w new.state after = record {
         sound = sound-closed e p y whole.sound;
@@ -97,15 +102,24 @@ module _ {C : Type 0} where
 
   -- after the event notices wait rightly
   pub prompt-in : (k : KernelState C) (r : Readings) → IsSound k → overview r ≡ read_off k → IsPrompt k → IsPromptIn r
-  prompt-in k r sound reads prompt = record { each = λ s waits. go s waits (is_fetching k s.0) refl (least_below (length k.assign.owners) (λ q. is_aim s.0 (get_or k.assign.owners q None))) refl }
+  prompt-in k r sound reads prompt = record {
+    each = λ s waits. go s waits (is_fetching k s.0) refl (least_below (length k.assign.owners) (λ q. is_aim s.0 (get_or k.assign.owners q None))) refl;
+  }
     where
-      go : (s : SpaceNo) → untold_at r s ≢ [] → (b : Bool) → is_fetching k s.0 ≡ b → (o : Option ℕ) → least_below (length k.assign.owners) (λ q. is_aim s.0 (get_or k.assign.owners q None)) ≡ o
+      go : (s : SpaceNo) → untold_at r s ≢ [] → (b : Bool) → is_fetching k s.0 ≡ b → (o : Option ℕ)
+          → least_below (length k.assign.owners) (λ q. is_aim s.0 (get_or k.assign.owners q None)) ≡ o
           → OwnsNone r s ⊎ ((fetching_at r s ≡ true) ⊎ OwnsRaised r s)
       go s waits true fetching o is = inr (inl (ap (λ (v : Overview). list_any (fetches s.0) v.under_way) reads ∙ fetching))
       go s waits false idle None is =
-          inl (λ p owner. owns-none (length k.assign.owners) k.assign.owners s refl is p (ap (λ (v : Overview). get_or v.assign.owners p.0 None) (sym reads) ∙ owner))
+          inl (λ p owner. owns-none (length k.assign.owners) k.assign.owners s refl is p
+          (ap (λ (v : Overview). get_or v.assign.owners p.0 None) (sym reads) ∙ owner))
       go s waits false idle (Some q) is =
           let found = (least_below-passes (length k.assign.owners) (λ i. is_aim s.0 (get_or k.assign.owners i None)) q is).passes in
-          let some : has_untold (untold_of k s.0) ≡ true = ap (λ (v : Overview). has_untold (get_or v.untold s.0 [])) (sym reads) ∙ some-waits (untold_at r s) waits in
-          let has = prompt s some idle (proc_no q) (is-space s (get_or k.assign.owners q None) found) in
-          inr (inr (has.proc, ap (λ (v : Overview). get_or v.assign.owners has.proc.0 None) reads ∙ has.owner, ap (λ (v : Overview). is_some (get_or v.assign.lines has.proc.0 None)) reads ∙ has.raised))
+          let some : has_untold (untold_of k s.0) ≡ true =
+          ap (λ (v : Overview). has_untold (get_or v.untold s.0 [])) (sym reads) ∙ some-waits (untold_at r s) waits in
+          let has = prompt s some idle (proc_no q) (is_aim-true s.0 (get_or k.assign.owners q None) found) in
+          inr (inr (
+            has.proc,
+            ap (λ (v : Overview). get_or v.assign.owners has.proc.0 None) reads ∙ has.owner,
+            ap (λ (v : Overview). is_some (get_or v.assign.lines has.proc.0 None)) reads ∙ has.raised,
+          ))

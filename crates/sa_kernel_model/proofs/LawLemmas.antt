@@ -40,12 +40,14 @@ begins-own (Stop s t a ∷ xs) rest some begins = tt
 begins-own (x ∷ xs) rest some begins = begins
 
 module _ {C : Type 0} where
-  pub owner-is : (k : KernelState C) (r : Readings) → IsSound k → overview r ≡ read_off k → (p : ℕ) → get_or k.assign.owners p None ≡ space_of_life r (get_or k.lives p None)
+  pub owner-is : (k : KernelState C) (r : Readings) → IsSound k → overview r ≡ read_off k → (p : ℕ)
+      → get_or k.assign.owners p None ≡ space_of_life r (get_or k.lives p None)
   owner-is k r sound reads p = go (get_or k.assign.owners p None) (get_or k.lives p None) refl refl where
     go : (o : Option SpaceNo) (l : Option ActNo) → get_or k.assign.owners p None ≡ o → get_or k.lives p None ≡ l → o ≡ space_of_life r l
     go None None owner life = refl
     go (Some s) None owner life =
-        absurd (let some = (sound.placed p).runs (subst (λ (o : Option SpaceNo). IsSome o) (sym owner) refl) in let none = subst (λ (l : Option ActNo). IsSome l) life some in cc)
+        absurd (let some = (sound.placed p).runs (subst (λ (o : Option SpaceNo). IsSome o) (sym owner) refl) in
+        let none = subst (λ (l : Option ActNo). IsSome l) life some in cc)
     go None (Some a) owner life = absurd (let runs = sound.formed.lives.run p a life in none-some runs.space (sym owner ∙ runs.owner))
     go (Some s) (Some a) owner life =
         let runs = sound.formed.lives.run p a life in
@@ -53,7 +55,8 @@ module _ {C : Type 0} where
         sym (ap (λ (v : Overview). v.spaces a.0) reads ∙ ap act_space runs.act ∙ ap (λ (t : SpaceNo). Some t) same)
 
   pub each-of : (w : WorkloadView) (k : KernelState C) (r : Readings) (t : Turn C) (L : RecordLaw) → IsKept w k r → CanTurn w k r t
-      → ((c : Readings) (x : Record) (rest : List Record) → Lawful t.proc c x rest → L c x rest) → EachRecord L w t.number t.proc (reading_at w r t k) (event_of t k).records
+      → ((c : Readings) (x : Record) (rest : List Record) → Lawful t.proc c x rest → L c x rest)
+      → EachRecord L w t.number t.proc (reading_at w r t k) (event_of t k).records
   each-of w k r t L kept can weaker =
       each-weaker (Lawful t.proc) L w t.number t.proc (reading_at w r t k) (event_of t k).records weaker (whole-turn w k r t kept can).lawful
 
@@ -71,7 +74,9 @@ in-time C test w k r t ok kept can =
     let whole = whole-turn w k r t kept can in
     let y = whole.before in
     record {
-      prompt = prompt-in (closed t.number t.proc y).state (after_event test w r (event_of t k)) (sound-closed t.number t.proc y whole.sound) (reads-after test w k r t whole)
+      prompt =
+          prompt-in (closed t.number t.proc y).state (after_event test w r (event_of t k)) (sound-closed t.number t.proc y whole.sound)
+          (reads-after test w k r t whole)
           (prompt-closed t.number t.proc y whole.sound.formed.sizes);
     }
 
@@ -86,7 +91,9 @@ where-owned C test w k r t ok kept can =
     let running : after.running ≡ new.lives = ap (λ (v : Overview). v.running) reads in
     record {
       named = each-of w k r t (NamesTheLife t.proc) kept can (λ c x rest law. law.named);
-      owned = owners ∙ owned-map new.assign.owners new.lives (space_of_life after) sound.formed.sizes.owners (owner-is new after sound reads) ∙ ap (map (space_of_life after)) (sym running);
+      owned =
+          owners ∙ owned-map new.assign.owners new.lives (space_of_life after) sound.formed.sizes.owners (owner-is new after sound reads)
+          ∙ ap (map (space_of_life after)) (sym running);
     }
 
 pub interrupt-next : (C : Type 0) → HoldsAtTurns C InterruptNext
@@ -96,7 +103,9 @@ interrupt-next C test w k r t ok kept can =
     let rest = closing_of w k r t whole in
     let line : is_some (line_at r t.proc) ≡ is_some (line_of k t.proc) = ap (λ (v : Overview). is_some (get_or v.assign.lines t.proc.0 None)) kept.reads in
     record {
-      interrupt = λ up. subst (λ xs. StopsAndGoes t.proc c (owner_at r t.proc) (aim_at r t.proc) xs) (sym whole.records) (whole.own.turns (sym line ∙ up) rest whole.closing.closes);
+      interrupt =
+          λ up. subst (λ xs. StopsAndGoes t.proc c (owner_at r t.proc) (aim_at r t.proc) xs) (sym whole.records)
+          (whole.own.turns (sym line ∙ up) rest whole.closing.closes);
       calm = λ begins. line ∙ whole.own.calm (begins-own whole.own.records rest whole.own.some (subst (λ xs. BeginsAsInterrupt xs) whole.records begins));
     }
 

@@ -1,3 +1,4 @@
+pub mod SizeLemmas
 pub mod ClosingLemmas
 pub mod LifeLemmas
 pub mod FormedLemmas

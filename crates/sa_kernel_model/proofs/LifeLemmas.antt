@@ -15,7 +15,7 @@ use Rattle.sa_kernel_model.specs.Entries.{without_acts}
 use Rattle.sa_kernel_model.specs.Sound.{AreSpaces, AreAlive, AreTaken, RunsIn, IsTaken}
 use Rattle.sa_laws.proofs.Numbers.{act-by_number}
 
--- what stands somewhere after an update is the new item or an old one
+-- what is somewhere after an update is the new item or an old one
 pub cell-cases : {A : Type 0} (xs : List (Option A)) (p q : ℕ) (x : Option A) (y : A) → get_or (slice_set xs p x) q None ≡ Some y
     → ((q ≡ p) × (x ≡ Some y)) ⊎ ((q ≢ p) × (get_or xs q None ≡ Some y))
 cell-cases [] p q x y is = absurd cc
@@ -34,7 +34,7 @@ pub spaces-set : (n : ℕ) (cells : List (Option SpaceNo)) (p : ℕ) (o : Option
     → AreSpaces n cells → AreSpaces n (slice_set cells p o)
 spaces-set n cells p o below each q s is = elim (cell-cases cells p q o s is) [ inl at ↦ below s at.1 | inr other ↦ each q s other.1 ]
 
-abbrev no_life : Option ActNo
+abbrev pub no_life : Option ActNo
 no_life = None
 
 -- a taken activation is listed
@@ -51,7 +51,8 @@ module _ {C : Type 0} where
   not-none x y none some = cc
 
   -- where what runs differs from the number that changes
-  runs-other : (owners : List (Option SpaceNo)) (acts : ℕ → Option (Act C)) (p : ℕ) (a : ActNo) (n : ℕ) (x : Option (Act C)) → a.0 ≢ n → RunsIn owners acts p a → RunsIn owners (put acts n x) p a
+  runs-other : (owners : List (Option SpaceNo)) (acts : ℕ → Option (Act C)) (p : ℕ) (a : ActNo) (n : ℕ) (x : Option (Act C)) → a.0 ≢ n → RunsIn owners acts p a
+      → RunsIn owners (put acts n x) p a
   runs-other owners acts p a n x apart runs = record { space = runs.space; owner = runs.owner; act = put-other acts n a.0 x apart ∙ runs.act }
 
   pub alive-aside : (owners : List (Option SpaceNo)) (lives : List (Option ActNo)) (acts : ℕ → Option (Act C)) (p : ℕ) (a : ActNo) (x : Option (Act C))
@@ -59,7 +60,9 @@ module _ {C : Type 0} where
   alive-aside owners lives acts p a x here alive = record {
     run = λ q b is. elim (cell-cases lives p q None b is) [
       | inl at ↦ absurd (nothing b at.1)
-      | inr other ↦ runs-other owners acts q b a.0 x (λ e. other.0 (alive.apart q p b other.1 (here ∙ ap (λ (c : ActNo). Some c) (sym (act-by_number b a e))))) (alive.run q b other.1)
+      | inr other ↦
+          runs-other owners acts q b a.0 x (λ e. other.0 (alive.apart q p b other.1 (here ∙ ap (λ (c : ActNo). Some c) (sym (act-by_number b a e)))))
+          (alive.run q b other.1)
     ];
     apart = λ q r b is that. elim (cell-cases lives p q None b is) [
       | inl at ↦ absurd (nothing b at.1)
@@ -74,7 +77,8 @@ module _ {C : Type 0} where
       nothing b e = cc
 
   pub alive-run : (owners : List (Option SpaceNo)) (lives : List (Option ActNo)) (acts : ℕ → Option (Act C)) (p : ℕ) (a : ActNo) (s : SpaceNo)
-      → get_or owners p None ≡ Some s → acts a.0 ≡ None → AreAlive owners lives acts → AreAlive owners (slice_set lives p (Some a)) (put acts a.0 (Some (runs_in s)))
+      → get_or owners p None ≡ Some s → acts a.0 ≡ None → AreAlive owners lives acts
+      → AreAlive owners (slice_set lives p (Some a)) (put acts a.0 (Some (runs_in s)))
   alive-run owners lives acts p a s owner unused alive = record {
     run = λ q b is. elim (cell-cases lives p q (Some a) b is) [
       | inl at ↦ record { space = s; owner = ap (λ n. get_or owners n None) at.0 ∙ owner; act = put-at acts a.0 b.0 (Some (runs_in s)) (same b at.1) }
@@ -179,7 +183,8 @@ module _ {C : Type 0} where
     | inr apart ↦
         let was = each t b (subst (λ (xs : List ActNo). Contains xs b) (get_or-set_other taken s t [] [] apart) has) in
         is-taken t (without_acts (get_or taken s []) acts b.0) (acts b.0)
-        (without-other (get_or taken s []) acts b.0 (λ c in'. λ e. apart (two-spaces t s (acts b.0) was (is-taken s (acts b.0) (acts c.0) (ap acts (sym e)) (each s c in'))))) was
+        (without-other (get_or taken s []) acts b.0
+        (λ c in'. λ e. apart (two-spaces t s (acts b.0) was (is-taken s (acts b.0) (acts c.0) (ap acts (sym e)) (each s c in'))))) was
   ]
     where
       emptied : (xs : List (List ActNo)) (i : ℕ) → get_or (slice_set xs i []) i [] ≡ []
@@ -215,7 +220,8 @@ module _ {C : Type 0} where
   taken-handed taken acts a h is each t b has = elim (listed-cases taken (space_of (acts a.0)).0 t a b has) [
     | inl new ↦
         let now : IsTaken t (taken_from (acts a.0)) = subst (λ n. IsTaken n (taken_from (acts a.0))) (sym new.0) (taken-now (acts a.0) h is) in
-        is-taken t (put acts a.0 (taken_from (acts a.0)) b.0) (taken_from (acts a.0)) (put-at acts a.0 b.0 (taken_from (acts a.0)) (ap (λ (c : ActNo). c.0) (sym new.1))) now
+        is-taken t (put acts a.0 (taken_from (acts a.0)) b.0) (taken_from (acts a.0))
+        (put-at acts a.0 b.0 (taken_from (acts a.0)) (ap (λ (c : ActNo). c.0) (sym new.1))) now
     | inr old ↦
         let was = each t b old in
         elim (cases_eq b.0 a.0) [

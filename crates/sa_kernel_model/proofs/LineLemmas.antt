@@ -4,7 +4,7 @@ use Rattle.std.specs.Prelude.{Option, Bool, ◌&&◌, not, cond, is_some, is_non
 use Rattle.std.specs.List.{list_all, list_any, cons_option}
 use Rattle.std.specs.Option.{option_map}
 use Rattle.std.proofs.Math.Path.{fun_ext}
-use Rattle.std.proofs.lemmas.Bool.{cases_eq, eqb-true, ne_eqb, and_parts}
+use Rattle.std.proofs.lemmas.Bool.{cases_eq, ne_eqb, and_parts}
 use Rattle.std.proofs.lemmas.List.{get_or-set_other, append-nil}
 use Rattle.sa_base.specs.declared.number.SpaceNo.{SpaceNo}
 use Rattle.sa_base.specs.declared.number.ProcNo.{ProcNo}
@@ -17,6 +17,7 @@ use Rattle.sa_spaces.specs.Workload.{WorkloadView}
 use Rattle.sa_lemmas.proofs.Options.{none-is}
 use Rattle.sa_assign.specs.Aims.{is_aim, space_no, least_below}
 use Rattle.sa_assign.specs.Reaim.{proc_no}
+use Rattle.sa_assign.proofs.AimLemmas.{is_aim-true}
 use Rattle.sa_assign.proofs.ChoiceLemmas.{least_below-passes}
 use Rattle.sa_batch.specs.Notices.{has_untold as has_in}
 use Rattle.sa_devices.specs.Ios.{fetches}
@@ -55,11 +56,14 @@ lines-alike : (w : WorkloadView) (m c : Readings) (s n : ℕ) → ((t : ℕ) →
 lines-alike w m c s zero must due = refl
 lines-alike w m c s (suc n) must due =
     let rest = lines-alike w m c (s + 1) n (λ t from. must t (omega arith)) (λ t from. due t (omega arith)) in
-    ap (λ b. filter_map (line_due w m) (cond b (space_no s ∷ filter (must_interrupt w m) (spaces_from (s + 1) n)) (filter (must_interrupt w m) (spaces_from (s + 1) n)))) (must s (omega arith))
+    ap (λ b. filter_map (line_due w m) (cond b (space_no s ∷ filter (must_interrupt w m) (spaces_from (s + 1) n))
+    (filter (must_interrupt w m) (spaces_from (s + 1) n)))) (must s (omega arith))
     ∙ go (must_interrupt w c (space_no s)) rest where
       go : (b : Bool) → lines_from w m (s + 1) n ≡ lines_from w c (s + 1) n
-          → filter_map (line_due w m) (cond b (space_no s ∷ filter (must_interrupt w m) (spaces_from (s + 1) n)) (filter (must_interrupt w m) (spaces_from (s + 1) n)))
-          ≡ filter_map (line_due w c) (cond b (space_no s ∷ filter (must_interrupt w c) (spaces_from (s + 1) n)) (filter (must_interrupt w c) (spaces_from (s + 1) n)))
+          → filter_map (line_due w m) (cond b (space_no s ∷ filter (must_interrupt w m) (spaces_from (s + 1) n))
+          (filter (must_interrupt w m) (spaces_from (s + 1) n)))
+          ≡ filter_map (line_due w c) (cond b (space_no s ∷ filter (must_interrupt w c) (spaces_from (s + 1) n))
+          (filter (must_interrupt w c) (spaces_from (s + 1) n)))
       go true same = λ i. cons_option (due s (omega arith) i) (same i)
       go false same = same
 
@@ -87,9 +91,6 @@ can-same w e p m q s t apart owner = fun_ext (λ j. elim (cases_eq j q) [
 ])
 
 -- the processor whose line is raised for a space
-is-owner : (s : ℕ) (o : Option SpaceNo) → is_aim s o ≡ true → o ≡ Some (space_no s)
-is-owner s None is = absurd (cc)
-is-owner s (Some t) is = ap (λ n. Some (space_no n)) (eqb-true t.0 s is)
 
 pub record IsRaisedFor (m : Readings) (s q : ℕ) : Type 0 where
   pub owner : owner_at m (proc_no q) ≡ Some (space_no s)
@@ -98,26 +99,29 @@ pub record IsRaisedFor (m : Readings) (s q : ℕ) : Type 0 where
 raised-for : (w : WorkloadView) (m : Readings) (s q : ℕ) → least_below w.processors (can_be_raised m (space_no s)) ≡ Some q → IsRaisedFor m s q
 raised-for w m s q is =
     let passes = (least_below-passes w.processors (can_be_raised m (space_no s)) q is).passes in record {
-      owner = is-owner s (owner_at m (proc_no q)) (and_parts (is_aim s (owner_at m (proc_no q))) (is_none (line_at m (proc_no q))) passes).0;
+      owner = is_aim-true s (owner_at m (proc_no q)) (and_parts (is_aim s (owner_at m (proc_no q))) (is_none (line_at m (proc_no q))) passes).0;
       low = none-is (line_at m (proc_no q)) (and_parts (is_aim s (owner_at m (proc_no q))) (is_none (line_at m (proc_no q))) passes).1;
     }
 
-must-other : (w : WorkloadView) (e : ℕ) (p : ProcNo) (m : Readings) (b : Bool) (o : Option ℕ) (s t : ℕ) → t ≢ s → least_below w.processors (can_be_raised m (space_no s)) ≡ o
+must-other : (w : WorkloadView) (e : ℕ) (p : ProcNo) (m : Readings) (b : Bool) (o : Option ℕ) (s t : ℕ) → t ≢ s
+    → least_below w.processors (can_be_raised m (space_no s)) ≡ o
     → must_interrupt w (after_records w e p m (one_line b o)) (space_no t) ≡ must_interrupt w m (space_no t)
 must-other w e p m false o s t apart is = refl
 must-other w e p m true None s t apart is = refl
 must-other w e p m true (Some q) s t apart is =
-    ap (λ f. has_untold (untold_at m (space_no t)) && not (fetching_at m (space_no t)) && is_none (least_below w.processors f)) (will-same w e p m q s t apart (raised-for w m s q is).owner)
+    ap (λ f. has_untold (untold_at m (space_no t)) && not (fetching_at m (space_no t)) && is_none (least_below w.processors f))
+    (will-same w e p m q s t apart (raised-for w m s q is).owner)
 
-due-other : (w : WorkloadView) (e : ℕ) (p : ProcNo) (m : Readings) (b : Bool) (o : Option ℕ) (s t : ℕ) → t ≢ s → least_below w.processors (can_be_raised m (space_no s)) ≡ o
-    → line_due w (after_records w e p m (one_line b o)) (space_no t) ≡ line_due w m (space_no t)
+due-other : (w : WorkloadView) (e : ℕ) (p : ProcNo) (m : Readings) (b : Bool) (o : Option ℕ) (s t : ℕ) → t ≢ s
+    → least_below w.processors (can_be_raised m (space_no s)) ≡ o → line_due w (after_records w e p m (one_line b o)) (space_no t) ≡ line_due w m (space_no t)
 due-other w e p m false o s t apart is = refl
 due-other w e p m true None s t apart is = refl
 due-other w e p m true (Some q) s t apart is =
     ap (λ f. option_map (λ i. Line (proc_no i)) (least_below w.processors f)) (can-same w e p m q s t apart (raised-for w m s q is).owner)
 
-one-lawful : (w : WorkloadView) (e : ℕ) (p : ProcNo) (m : Readings) (b : Bool) (o : Option ℕ) (s : ℕ) (rest : List Record) → least_below w.processors (can_be_raised m (space_no s)) ≡ o
-    → AreLawful w e p (after_records w e p m (one_line b o)) rest → AreLawful w e p m (one_line b o ++ rest)
+one-lawful : (w : WorkloadView) (e : ℕ) (p : ProcNo) (m : Readings) (b : Bool) (o : Option ℕ) (s : ℕ) (rest : List Record)
+    → least_below w.processors (can_be_raised m (space_no s)) ≡ o → AreLawful w e p (after_records w e p m (one_line b o)) rest
+    → AreLawful w e p m (one_line b o ++ rest)
 one-lawful w e p m false o s rest is law = law
 one-lawful w e p m true None s rest is law = law
 one-lawful w e p m true (Some q) s rest is law = (record { once = tt; named = tt; all = tt; gives = tt; raises = (raised-for w m s q is).low }, law)
@@ -135,17 +139,21 @@ untold-same [] = refl
 untold-same (n ∷ ns) = refl
 
 module _ {C : Type 0} where
-  must-same : (w : WorkloadView) (k : KernelState C) (m : Readings) (s : ℕ) → length k.lives ≡ w.processors → overview m ≡ read_off k → must_interrupt w m (space_no s) ≡ must_in k s
+  must-same : (w : WorkloadView) (k : KernelState C) (m : Readings) (s : ℕ) → length k.lives ≡ w.processors → overview m ≡ read_off k
+      → must_interrupt w m (space_no s) ≡ must_in k s
   must-same w k m s processors reads =
       let F : ℕ → Overview → Bool = λ n (v : Overview).
       has_untold (get_or v.untold s []) && not (list_any (fetches s) v.under_way)
-      && is_none (least_below n (λ q. is_aim s (get_or v.assign.owners q None) && is_aim s (get_or v.assign.aims q None) && is_some (get_or v.assign.lines q None))) in
-      (λ i. F (sym processors i) (reads i)) ∙ ap (λ b. b && not (is_fetching k s) && is_none (least_below (length k.lives) (is_told_by k s))) (untold-same (untold_of k s))
+      && is_none (least_below n (λ q. is_aim s (get_or v.assign.owners q None) && is_aim s (get_or v.assign.aims q None)
+      && is_some (get_or v.assign.lines q None))) in
+      (λ i. F (sym processors i) (reads i)) ∙ ap (λ b. b && not (is_fetching k s) && is_none (least_below (length k.lives) (is_told_by k s)))
+      (untold-same (untold_of k s))
 
   least-same : (w : WorkloadView) (k : KernelState C) (m : Readings) (s : ℕ) → length k.lives ≡ w.processors → overview m ≡ read_off k
       → least_below w.processors (can_be_raised m (space_no s)) ≡ least_below (length k.lives) (has_low_line k s)
   least-same w k m s processors reads =
-      let F : ℕ → Overview → Option ℕ = λ n (v : Overview). least_below n (λ q. is_aim s (get_or v.assign.owners q None) && is_none (get_or v.assign.lines q None)) in
+      let F : ℕ → Overview → Option ℕ =
+      λ n (v : Overview). least_below n (λ q. is_aim s (get_or v.assign.owners q None) && is_none (get_or v.assign.lines q None)) in
       λ i. F (sym processors i) (reads i)
 
   -- the lines of n spaces from s on
@@ -156,8 +164,10 @@ module _ {C : Type 0} where
     pub lines : AreLines xs
     pub fixed : y.state.fixed ≡ x.state.fixed
 
-  head-lined : (w : WorkloadView) (e : ℕ) (p : ProcNo) (m : Readings) (x : Scene C) (s : ℕ) (b : Bool) (o : Option ℕ) → least_below (length x.state.lives) (has_low_line x.state s) ≡ o → overview m ≡ read_off x.state
-      → ((interrupt_one e p b s x).items ≡ x.items ++ items_at e p (one_line b o)) × (overview (after_records w e p m (one_line b o)) ≡ read_off (interrupt_one e p b s x).state)
+  head-lined : (w : WorkloadView) (e : ℕ) (p : ProcNo) (m : Readings) (x : Scene C) (s : ℕ) (b : Bool) (o : Option ℕ)
+      → least_below (length x.state.lives) (has_low_line x.state s) ≡ o → overview m ≡ read_off x.state
+      → ((interrupt_one e p b s x).items ≡ x.items ++ items_at e p (one_line b o))
+      × (overview (after_records w e p m (one_line b o)) ≡ read_off (interrupt_one e p b s x).state)
       × ((interrupt_one e p b s x).state.lives ≡ x.state.lives)
   head-lined w e p m x s false o is reads = (sym (append-nil x.items), reads, refl)
   head-lined w e p m x s true None is reads = (
@@ -176,8 +186,8 @@ module _ {C : Type 0} where
     go None = refl
     go (Some q) = refl
 
-  pub lines-walk : (w : WorkloadView) (e : ℕ) (p : ProcNo) (m : Readings) (x : Scene C) (s n : ℕ) → length x.state.lives ≡ w.processors → overview m ≡ read_off x.state
-      → Lined w e p m x (for_spaces (interrupt_for e p) s n x) (lines_from w m s n)
+  pub lines-walk : (w : WorkloadView) (e : ℕ) (p : ProcNo) (m : Readings) (x : Scene C) (s n : ℕ) → length x.state.lives ≡ w.processors
+      → overview m ≡ read_off x.state → Lined w e p m x (for_spaces (interrupt_for e p) s n x) (lines_from w m s n)
   lines-walk w e p m x s zero processors reads = record { adds = sym (append-nil x.items); reads = reads; lawful = λ rest law. law; lines = refl; fixed = refl }
   lines-walk w e p m x s (suc n) processors reads =
       let k = x.state in
@@ -191,10 +201,12 @@ module _ {C : Type 0} where
       let head = head-lined w e p m x s b o refl reads in
       let rest = lines-walk w e p next y (s + 1) n (ap (λ (ls : List (Option ActNo)). length ls) head.2 ∙ processors) head.1 in
       let later : lines_from w next (s + 1) n ≡ lines_from w m (s + 1) n =
-      lines-alike w next m (s + 1) n (λ t from. must-other w e p m b o s t (λ is. omega arith) least) (λ t from. due-other w e p m b o s t (λ is. omega arith) least) in
+      lines-alike w next m (s + 1) n (λ t from. must-other w e p m b o s t (λ is. omega arith) least)
+      (λ t from. due-other w e p m b o s t (λ is. omega arith) least) in
       let both : one ++ lines_from w next (s + 1) n ≡ lines_from w m s (suc n) =
       ap (λ xs. one ++ xs) later ∙ sym (front w m b o s (filter (must_interrupt w m) (spaces_from (s + 1) n)) least)
-      ∙ ap (λ c. filter_map (line_due w m) (cond c (space_no s ∷ filter (must_interrupt w m) (spaces_from (s + 1) n)) (filter (must_interrupt w m) (spaces_from (s + 1) n)))) (sym must) in
+      ∙ ap (λ c. filter_map (line_due w m) (cond c (space_no s ∷ filter (must_interrupt w m) (spaces_from (s + 1) n))
+      (filter (must_interrupt w m) (spaces_from (s + 1) n)))) (sym must) in
       let z = for_spaces (interrupt_for e p) (s + 1) n y in
       let xs = lines_from w next (s + 1) n in
       let is : after_records w e p next xs ≡ after_records w e p m (one ++ xs) = sym (records-append w e p m one xs) in

@@ -13,7 +13,7 @@ use Rattle.sa_laws.proofs.Notes.{same_note-itself}
 use Rattle.sa_kernel_model.specs.Overview.{Overview, overview, taken_by, taken_behind}
 use Rattle.sa_kernel_model.proofs.OverviewLemmas.{told-spaces}
 
--- how often a notice stands in a list, and in all lists
+-- how often a notice is in a list, and in all lists
 abbrev pub once_if : Bool → ℕ
 once_if b = if b then 1 else 0
 
@@ -28,7 +28,7 @@ copies n (u ∷ us) = copies_in n u + copies n us
 abbrev pub AreOnce : List (List Note) → Type 0
 AreOnce untold = (n : Note) → copies n untold ≤ 1
 
--- what does not stand there is not taken out
+-- what is not there is not taken out
 none-filtered : (n : Note) (ms : List Note) → copies_in n ms ≡ 0 → filter (is_other_note n) ms ≡ ms
 none-filtered n [] none = refl
 none-filtered n (m ∷ ms) none = here (same_note m n) none (λ rest. none-filtered n ms rest) where

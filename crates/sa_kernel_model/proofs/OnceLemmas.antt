@@ -36,7 +36,7 @@ once-noted us s n none once m = one (same_note n m) refl (copies-noted m n us s.
   one true same less = let here = ap (λ x. copies x us) (same_note-same n m same) in omega arith
   one false apart less = let few = once m in omega arith
 
--- how often a notice stands there, by what its space says
+-- how often a notice is there, by what its space says
 all-none : (n : Note) (us : List (List Note)) → ((s : ℕ) → copies_in n (get_or us s []) ≡ 0) → copies n us ≡ 0
 all-none n [] none = refl
 all-none n (u ∷ us) none = let here = none 0 in let rest = all-none n us (λ s. none (suc s)) in omega arith
@@ -130,7 +130,8 @@ act_of (Blocked a) = Some a.0
 act_of (Unblocked a) = Some a.0
 
 module _ {C : Type 0} where
-  copies-held : (k : KernelState C) (t : ℕ) (n : Note) (a : ℕ) → act_of n ≡ Some a → AreClaimed k t → IsTidy k → (s : ℕ) → copies_in n (untold_of k s) ≤ held_in s (k.acts a)
+  copies-held : (k : KernelState C) (t : ℕ) (n : Note) (a : ℕ) → act_of n ≡ Some a → AreClaimed k t → IsTidy k → (s : ℕ)
+      → copies_in n (untold_of k s) ≤ held_in s (k.acts a)
   copies-held k t (Add p) a is claimed tidy s = absurd (cc)
   copies-held k t (Preempted b) a is claimed tidy s =
       let e : b.0 ≡ a = same_Some b.0 a is in
@@ -148,9 +149,11 @@ module _ {C : Type 0} where
       subst (λ i. copies_in (Unblocked b) (untold_of k s) ≤ held_in s (k.acts i)) e (omega arith)
 
   pub none-added : (k : KernelState C) → IsTidy k → (p : ProcNo) → copies (Add p) k.untold ≡ 0
-  none-added k tidy p = all-none (Add p) k.untold (λ s. let none = tidy.added s in let one = less-by (Add p) add_claim (add-less p) (untold_of k s) in omega arith)
+  none-added k tidy p =
+      all-none (Add p) k.untold (λ s. let none = tidy.added s in let one = less-by (Add p) add_claim (add-less p) (untold_of k s) in omega arith)
 
-  pub none-of : (k : KernelState C) (t : ℕ) (n : Note) (a : ℕ) → act_of n ≡ Some a → AreClaimed k t → IsTidy k → held_of (k.acts a) ≡ None → copies n k.untold ≡ 0
+  pub none-of : (k : KernelState C) (t : ℕ) (n : Note) (a : ℕ) → act_of n ≡ Some a → AreClaimed k t → IsTidy k → held_of (k.acts a) ≡ None
+      → copies n k.untold ≡ 0
   none-of k t n a is claimed tidy none =
       all-none n k.untold (λ s. let zero_held = held-none (k.acts a) s none in let less = copies-held k t n a is claimed tidy s in omega arith)
 
@@ -166,12 +169,13 @@ module _ {C : Type 0} where
   once-claimed k t claimed tidy (Blocked a) = once-act k t (Blocked a) a.0 refl claimed tidy
   once-claimed k t claimed tidy (Unblocked a) = once-act k t (Unblocked a) a.0 refl claimed tidy
 
--- what waits stands there once, and nothing says that a processor was added
+-- what waits is there once, and nothing says that a processor was added
 pub record AreApart (untold : List (List Note)) : Type 0 where
   pub once : AreOnce untold
   pub added : (q : ProcNo) → copies (Add q) untold ≡ 0
 
-pub apart-noted : (us : List (List Note)) (s : SpaceNo) (n : Note) → ((q : ProcNo) → same_note n (Add q) ≡ false) → copies n us ≡ 0 → AreApart us → AreApart (with_note us s n)
+pub apart-noted : (us : List (List Note)) (s : SpaceNo) (n : Note) → ((q : ProcNo) → same_note n (Add q) ≡ false) → copies n us ≡ 0 → AreApart us
+    → AreApart (with_note us s n)
 apart-noted us s n real none apart = record {
   once = once-noted us s n none apart.once;
   added = λ q. let more = copies-noted (Add q) n us s.0 in let no = ap once_if (real q) in let old = apart.added q in omega arith;

@@ -64,8 +64,9 @@ unmarked-first : (last : Option Record) (old : ℕ) (mark : Bool) → old ≡ 0 
 unmarked-first None old mark none is = ap (nat_lt 1) none
 unmarked-first (Some x) old mark none is = is
 
-first-reads : (w : WorkloadView) (e : ℕ) (p : ProcNo) (c : Readings) (marks : ℕ) (xs : List ℕ) (n : ℕ) → c.marks ≡ replicate marks false → c.demands ≡ xs ++ replicate n 0
-    → overview (after_records w e p c (map want_one (spaces_from (length xs) n))) ≡ (record (overview c) { demands = xs ++ replicate n 1 })
+first-reads : (w : WorkloadView) (e : ℕ) (p : ProcNo) (c : Readings) (marks : ℕ) (xs : List ℕ) (n : ℕ) → c.marks ≡ replicate marks false
+    → c.demands ≡ xs ++ replicate n 0 → overview (after_records w e p c (map want_one (spaces_from (length xs) n)))
+    ≡ (record (overview c) { demands = xs ++ replicate n 1 })
 first-reads w e p c marks xs zero none demands = λ i. record (overview c) { demands = demands i }
 first-reads w e p c marks xs (suc n) none demands =
     let s = length xs in
@@ -100,7 +101,7 @@ begins-same w ok =
     no_line : Option ℕ
     no_line = None
 
--- the moment behind the first wants
+-- the moment after the first wants
 abbrev pub wanting : WorkloadView → Readings
 wanting w = after_records w 0 zeroth (opening_readings w) (first_wants w)
 
@@ -161,7 +162,7 @@ module _ (C : Type 0) where
     no_acts : List ActNo
     no_acts = []
 
-  -- the opening is the first wants, and behind them the aims that are due
+  -- the opening is the first wants, and after them the aims that are due
   pub record Opened (w : WorkloadView) : Type 0 where
     pub closing : Closing w 0 zeroth (wanting w) (opening_scene w)
     pub wanted : closing.wanted ≡ wanting w
@@ -185,14 +186,18 @@ module _ (C : Type 0) where
       let al = records_of 0 cl.wanted.lines (aims_due w 0 cl.wanted) in
       let am = records_of 0 m.lines (aims_due w 0 m) in
       let same : al ≡ am = ap (λ (c : Readings). records_of 0 c.lines (aims_due w 0 c)) wanted in
-      let all : after_records w 0 zeroth (opening_readings w) (opening_records w) ≡ after_records w 0 zeroth m am = records-append w 0 zeroth (opening_readings w) (first_wants w) am in
+      let all : after_records w 0 zeroth (opening_readings w) (opening_records w) ≡ after_records w 0 zeroth m am =
+      records-append w 0 zeroth (opening_readings w) (first_wants w) am in
       let aimed : cl.aimed ≡ after_records w 0 zeroth (opening_readings w) (opening_records w) =
       cl.aimed_is ∙ ap (λ (c : Readings). after_records w 0 zeroth c (records_of 0 c.lines (aims_due w 0 c))) wanted ∙ sym all in
       let left : (after_records w 0 zeroth m am).untold ≡ m.untold = (closing-leaves w 0 zeroth m am (closing-aims 0 m.lines (aims_due w 0 m))).untold in
-      let late : (after_records w 0 zeroth (opening_readings w) (opening_records w)).untold ≡ replicate n [] = ap (λ (c : Readings). c.untold) all ∙ left ∙ untold in
+      let late : (after_records w 0 zeroth (opening_readings w) (opening_records w)).untold ≡ replicate n [] =
+      ap (λ (c : Readings). c.untold) all ∙ left ∙ untold in
       let ld : lines_due w cl.aimed ≡ [] = no-lines_due w cl.aimed n (ap (λ (c : Readings). c.untold) aimed ∙ late) in
-      let lined : cl.lined ≡ after_records w 0 zeroth (opening_readings w) (opening_records w) = cl.lined_is ∙ ap (after_records w 0 zeroth cl.aimed) ld ∙ aimed in
-      let closings : wants_due w m ++ (al ++ lines_due w cl.aimed) ≡ am = ap (λ xs. xs ++ (al ++ lines_due w cl.aimed)) wd ∙ ap (λ xs. al ++ xs) ld ∙ append-nil al ∙ same in
+      let lined : cl.lined ≡ after_records w 0 zeroth (opening_readings w) (opening_records w) =
+      cl.lined_is ∙ ap (after_records w 0 zeroth cl.aimed) ld ∙ aimed in
+      let closings : wants_due w m ++ (al ++ lines_due w cl.aimed) ≡ am =
+      ap (λ xs. xs ++ (al ++ lines_due w cl.aimed)) wd ∙ ap (λ xs. al ++ xs) ld ∙ append-nil al ∙ same in
       let first : items_at 0 zeroth (wants_in 0 n) ≡ items_at 0 zeroth (first_wants w) = ap (items_at 0 zeroth) (wants-same 0 n) in
       record {
         closing = cl;
@@ -205,8 +210,9 @@ module _ (C : Type 0) where
             ∙ sym (map-append (λ (r : Record). let i : Item = record { event = 0; proc = zeroth; what = r } in i) (first_wants w) am);
       }
 
-  -- what is read behind the opening
-  pub opening-reads : (test : Test) (w : WorkloadView) → IsWorkload w → (o : Opened w) → overview (after_event test w (opening_readings w) (opening_event w)) ≡ read_off (opened {C = C} w).state
+  -- what is read after the opening
+  pub opening-reads : (test : Test) (w : WorkloadView) → IsWorkload w → (o : Opened w)
+      → overview (after_event test w (opening_readings w) (opening_event w)) ≡ read_off (opened {C = C} w).state
   opening-reads test w ok o =
       overview-ended test w (opening_readings w) (opening_event w) (behind_all w (opening_event w) (opening_readings w))
       ∙ ap (λ (c : Readings). overview (after_records w 0 zeroth c (opening_records w))) (begins-same w ok) ∙ ap overview (sym o.lined) ∙ o.closing.reads
@@ -224,7 +230,8 @@ opening-keeps C test w ok =
     let end = behind_all w (opening_event w) (opening_readings w) in
     let lives : idles after.lives ≡ idles (wanting w).lives =
     idles-ended test w (opening_readings w) (opening_event w) end
-    ∙ ap (λ (c : Readings). idles (after_records w 0 zeroth c (opening_records w)).lives) (begins-same w ok) ∙ ap (λ (c : Readings). idles c.lives) (sym o.lined) ∙ ap idles o.closing.lives in
+    ∙ ap (λ (c : Readings). idles (after_records w 0 zeroth c (opening_records w)).lives) (begins-same w ok)
+    ∙ ap (λ (c : Readings). idles c.lives) (sym o.lined) ∙ ap idles o.closing.lives in
     record {
       sound = sound-opened w ok;
       of = record {

@@ -78,7 +78,8 @@ users-record w e p r (Ins s t i) is =
 users-record w e p r (Out s t v) is = refl
 users-record w e p r (Run s t) is = seen-same _ r.state.owners _ _ (overview r) refl (spaces-with (with_first (ran t)) (running_of r p) r.lives (λ l. refl))
 users-record w e p r (Cont s t) is =
-    seen-same _ r.state.owners _ _ (overview r) (placed-owners r.state s t (place.Running p)) (spaces-with (with_cont true) (running_of r p) r.lives (λ l. refl))
+    seen-same _ r.state.owners _ _ (overview r) (placed-owners r.state s t (place.Running p))
+    (spaces-with (with_cont true) (running_of r p) r.lives (λ l. refl))
 users-record w e p r (Back s t) is =
     seen-same _ r.state.owners _ _ (overview r) (placed-owners r.state s t place.Carried) (spaces-with (back_with t) (running_of r p) r.lives (λ l. refl))
 users-record w e p r (Ready s t) is = seen-same _ r.state.owners _ _ (overview r) refl (spaces-with (made_ready t) (running_of r p) r.lives (λ l. refl))
@@ -89,7 +90,8 @@ users-record w e p r (Spin l) is = refl
 users-record w e p r Tick is = refl
 users-record w e p r x is = absurd (cc)
 
-pub users-records : (w : WorkloadView) (e : ℕ) (p : ProcNo) (r : Readings) (xs : List Record) → list_all is_users xs ≡ true → overview (after_records w e p r xs) ≡ overview r
+pub users-records : (w : WorkloadView) (e : ℕ) (p : ProcNo) (r : Readings) (xs : List Record) → list_all is_users xs ≡ true
+    → overview (after_records w e p r xs) ≡ overview r
 users-records w e p r [] is = refl
 users-records w e p r (x ∷ xs) is =
     users-records w e p (after_record w e p r x) xs (and_parts (is_users x) (list_all is_users xs) is).1
@@ -109,7 +111,8 @@ spaces-risen : (test : Test) (w : WorkloadView) (before : Readings) (e : Event) 
 spaces-risen test w before e after true lives = spaces-with (arisen test w before e after) (running_of after e.proc) lives (λ l. refl)
 spaces-risen test w before e after false lives = refl
 
-pub overview-ended : (test : Test) (w : WorkloadView) (before : Readings) (e : Event) (after : Readings) → overview (ended test w before e after) ≡ overview after
+pub overview-ended : (test : Test) (w : WorkloadView) (before : Readings) (e : Event) (after : Readings)
+    → overview (ended test w before e after) ≡ overview after
 overview-ended test w before e after =
     seen-same after.state.owners after.state.owners _ _ (overview after) refl
     (spaces-risen test w before e after _ (with_step test w before e after e.records after.lives) ∙ spaces-stepped test w before e after e.records after.lives)
@@ -122,7 +125,8 @@ pub up-record : (w : WorkloadView) (e : ℕ) (p : ProcNo) (r : Readings) (s : Sp
       running = slice_set r.running p.0 (Some a);
       spaces = put (overview r).spaces a.0 (Some s);
     })
-up-record w e p r s a = seen-same r.state.owners r.state.owners _ _ (overview (after_record w e p r (Up s a))) refl (put-through space_of r.lives a.0 (Some (new_life s p)))
+up-record w e p r s a =
+    seen-same r.state.owners r.state.owners _ _ (overview (after_record w e p r (Up s a))) refl (put-through space_of r.lives a.0 (Some (new_life s p)))
 
 pub stop-record : (w : WorkloadView) (e : ℕ) (p : ProcNo) (r : Readings) (s : SpaceNo) (t : Option ThreadNo) (a : ActNo)
     → overview (after_record w e p r (Stop s t a))
@@ -160,5 +164,6 @@ told-spaces w e p r (note.Preempted a) = spaces-handed r.upped a (life_of r a) r
 told-spaces w e p r (note.Blocked a) = refl
 told-spaces w e p r (note.Unblocked a) = spaces-handed r.upped a (life_of r a) r.lives
 
-pub give-record : (w : WorkloadView) (e : ℕ) (p : ProcNo) (r : Readings) (a : ActNo) → (overview (after_record w e p r (GiveBack a))).spaces ≡ put (overview r).spaces a.0 None
+pub give-record : (w : WorkloadView) (e : ℕ) (p : ProcNo) (r : Readings) (a : ActNo)
+    → (overview (after_record w e p r (GiveBack a))).spaces ≡ put (overview r).spaces a.0 None
 give-record w e p r a = put-through space_of r.lives a.0 None

@@ -32,7 +32,8 @@ use Rattle.sa_kernel_model.specs.declared.entry.Entry.TheVariants.{Interrupt, Bl
 use Rattle.sa_kernel_model.proofs.HeldLemmas.{stays-closed}
 
 -- lists in a list, of which one changes
-pub count-set : {A : Type 0} (xs : List (List A)) (i : ℕ) (new : List A) → sum_by length (slice_set xs i new) + length (get_or xs i []) ≤ sum_by length xs + length new
+pub count-set : {A : Type 0} (xs : List (List A)) (i : ℕ) (new : List A)
+    → sum_by length (slice_set xs i new) + length (get_or xs i []) ≤ sum_by length xs + length new
 count-set xs i new = elim (cases_lt i (length xs)) [
   | inl within ↦ let e = sum_by-set length xs i new [] within in omega arith
   | inr past ↦
@@ -52,12 +53,13 @@ told-few (note ∷ notes) = let all = sum_by-cons hand_over note notes in let re
     at-most (Blocked a) = omega arith
     at-most (Unblocked a) = omega arith
 
-told-by : (added : Bool) (p : ProcNo) (notes : List Note) → (sum_by hand_over (notes_told added p notes) ≤ length notes) × (length (notes_told added p notes) ≤ length notes + 1)
+told-by : (added : Bool) (p : ProcNo) (notes : List Note)
+    → (sum_by hand_over (notes_told added p notes) ≤ length notes) × (length (notes_told added p notes) ≤ length notes + 1)
 told-by true p notes = (let all = sum_by-cons hand_over (Add p) notes in let few = told-few notes in omega arith, omega arith)
 told-by false p notes = (told-few notes, omega arith)
 
 module _ {C : Type 0} where
-  -- so many items more than were owed, and so many notices more
+  -- with what is owed, at most `more` items more; and at most `notes` notices more on their way
   pub record Owes (old new : Scene C) (more notes : ℕ) : Type 0 where
     pub items : length new.items + owed_items new.state ≤ length old.items + owed_items old.state + more
     pub pending : pending_count new.state ≤ pending_count old.state + notes
@@ -66,14 +68,17 @@ module _ {C : Type 0} where
   owes-nothing x = record { items = omega arith; pending = omega arith }
 
   owes-both : (x y z : Scene C) (a b c d m n : ℕ) → Owes x y a b → Owes y z c d → a + c ≤ m → b + d ≤ n → Owes x z m n
-  owes-both x y z a b c d m n first second few little = record { items = (let p = first.items in let q = second.items in omega arith); pending = (let p = first.pending in let q = second.pending in omega arith) }
+  owes-both x y z a b c d m n first second few little = record {
+    items = (let p = first.items in let q = second.items in omega arith);
+    pending = (let p = first.pending in let q = second.pending in omega arith);
+  }
 
   owes-more : (x y : Scene C) (a b m n : ℕ) → Owes x y a b → a ≤ m → b ≤ n → Owes x y m n
   owes-more x y a b m n owes few little = record { items = (let p = owes.items in omega arith); pending = (let p = owes.pending in omega arith) }
 
   -- one record, and nothing else that counts
-  owes-said : (x : Scene C) (y : Scene C) (item : Item) → y.items ≡ x.items ++ item ∷ [] → y.state.untold ≡ x.state.untold → y.state.telling ≡ x.state.telling → y.state.taken ≡ x.state.taken
-      → Owes x y 1 0
+  owes-said : (x : Scene C) (y : Scene C) (item : Item) → y.items ≡ x.items ++ item ∷ [] → y.state.untold ≡ x.state.untold → y.state.telling ≡ x.state.telling
+      → y.state.taken ≡ x.state.taken → Owes x y 1 0
   owes-said x y item says untold telling taken =
       let len : length y.items ≡ length x.items + 1 = ap length says ∙ length-append x.items (item ∷ []) ∙ omega arith in
       let u : untold_count y.state ≡ untold_count x.state = ap (sum_by length) untold in
@@ -82,8 +87,9 @@ module _ {C : Type 0} where
       record { items = omega arith; pending = omega arith }
 
   -- a record, and a notice
-  owes-noted : (x y : Scene C) (item : Item) (s : ℕ) (note : Note) → y.items ≡ x.items ++ item ∷ [] → y.state.untold ≡ slice_set x.state.untold s (get_or x.state.untold s [] ++ note ∷ [])
-      → y.state.telling ≡ x.state.telling → y.state.taken ≡ x.state.taken → Owes x y 3 1
+  owes-noted : (x y : Scene C) (item : Item) (s : ℕ) (note : Note) → y.items ≡ x.items ++ item ∷ []
+      → y.state.untold ≡ slice_set x.state.untold s (get_or x.state.untold s [] ++ note ∷ []) → y.state.telling ≡ x.state.telling
+      → y.state.taken ≡ x.state.taken → Owes x y 3 1
   owes-noted x y item s note says noted telling taken =
       let len : length y.items ≡ length x.items + 1 = ap length says ∙ length-append x.items (item ∷ []) ∙ omega arith in
       let new : List Note = get_or x.state.untold s [] ++ note ∷ [] in
@@ -107,8 +113,8 @@ module _ {C : Type 0} where
   owes-leave : (e : ℕ) (p : ProcNo) (s : SpaceNo) (x : Scene C) → Owes x (leave e p s x) 3 0
   owes-leave e p s x = go (is_fetching x.state s.0)
     where
-      go : (b : Bool)
-          → Owes x (fetch_page e p s b (says e p (Aim p None) (says e p (Move (owner_of x.state p) None) (record x { state = without_aim p (with_owner p None x.state) })))) 3 0
+      go : (b : Bool) → Owes x (fetch_page e p s b (says e p (Aim p None) (says e p (Move (owner_of x.state p) None)
+          (record x { state = without_aim p (with_owner p None x.state) })))) 3 0
       go b =
           let y = record x { state = without_aim p (with_owner p None x.state) } in
           let one = says e p (Move (owner_of x.state p) None) y in
@@ -126,10 +132,12 @@ module _ {C : Type 0} where
       let few = told-by added p notes in
       let less = few.0 in
       let enough = few.1 in
-      let up : length (x.items ++ record { event = e; proc = p; what = Up s a } ∷ []) ≡ length x.items + 1 = length-append x.items (record { event = e; proc = p; what = Up s a } ∷ []) ∙ omega arith in
+      let up : length (x.items ++ record { event = e; proc = p; what = Up s a } ∷ []) ≡ length x.items + 1 =
+      length-append x.items (record { event = e; proc = p; what = Up s a } ∷ []) ∙ omega arith in
       let len : length y.items ≡ length x.items + 1 + length told =
       length-append (x.items ++ record { event = e; proc = p; what = Up s a } ∷ []) (items_at e p (map Told told))
-      ∙ ap (λ n. length (x.items ++ record { event = e; proc = p; what = Up s a } ∷ []) + n) (length-map (map Told told) (λ (r : Record). record { event = e; proc = p; what = r }) ∙ length-map told Told)
+      ∙ ap (λ n. length (x.items ++ record { event = e; proc = p; what = Up s a } ∷ []) + n)
+      (length-map (map Told told) (λ (r : Record). record { event = e; proc = p; what = r }) ∙ length-map told Told)
       ∙ ap (λ n. n + length told) up in
       let set = count-set x.state.untold s.0 [] in
       record { items = omega arith; pending = omega arith }
@@ -141,7 +149,8 @@ module _ {C : Type 0} where
   owes-go_to_by : (e : ℕ) (p : ProcNo) (s : SpaceNo) (a : ActNo) (owned can : Bool) (x : Scene C) → Owes x (go_to_by e p s a owned can x) 3 0
   owes-go_to_by e p s a owned false x = owes-leave e p s x
   owes-go_to_by e p s a owned true x =
-      owes-both x (moved e p s owned x) (upcall e p s a (not owned) (moved e p s owned x)) 1 0 2 0 3 0 (owes-moved e p s owned x) (owes-upcall e p s a (not owned) (moved e p s owned x)) (omega arith) (omega arith)
+      owes-both x (moved e p s owned x) (upcall e p s a (not owned) (moved e p s owned x)) 1 0 2 0 3 0 (owes-moved e p s owned x)
+      (owes-upcall e p s a (not owned) (moved e p s owned x)) (omega arith) (omega arith)
 
   owes-go_to_aim : (e : ℕ) (p : ProcNo) (a : ActNo) (aim : Option SpaceNo) (x : Scene C) → Owes x (go_to_aim e p a aim x) 3 0
   owes-go_to_aim e p a None x = owes-more x x 0 0 3 0 (owes-nothing x) (omega arith) (omega arith)
@@ -177,7 +186,8 @@ module _ {C : Type 0} where
   owes-over e p io None x = owes-more x x 0 0 3 1 (owes-nothing x) (omega arith) (omega arith)
   owes-over e p io (Some kind) x =
       let y = over e p io (Some kind) x in
-      let owes = owes-over_for e p kind (record x { state = record x.state { under_way = without io.0 x.state.under_way; pages = completed kind x.state.pages } }) in
+      let owes =
+      owes-over_for e p kind (record x { state = record x.state { under_way = without io.0 x.state.under_way; pages = completed kind x.state.pages } }) in
       record { items = owes.items; pending = owes.pending }
 
   owes-more_for : (e : ℕ) (p : ProcNo) (n : ℕ) (o : Option SpaceNo) (x : Scene C) → Owes x (more e p n o x) 1 0
@@ -194,7 +204,8 @@ module _ {C : Type 0} where
       let given = taken_of x.state s.0 in
       let len : length (gave_back e p (Some s) x).items ≡ length x.items + length given =
       length-append x.items (items_at e p (map GiveBackRecord given))
-      ∙ ap (λ n. length x.items + n) (length-map (map GiveBackRecord given) (λ (r : Record). record { event = e; proc = p; what = r }) ∙ length-map given GiveBackRecord) in
+      ∙ ap (λ n. length x.items + n) (length-map (map GiveBackRecord given) (λ (r : Record). record { event = e; proc = p; what = r })
+      ∙ length-map given GiveBackRecord) in
       let set = count-set x.state.taken s.0 [] in
       record { items = omega arith; pending = omega arith }
 
@@ -209,7 +220,8 @@ module _ {C : Type 0} where
   owes-entered_as e p a (InterruptOwn q) x = owes-more x _ 1 0 6 1 (owes-said x (interrupted_own e p q x) _ refl refl refl refl) (omega arith) (omega arith)
 
   -- the closing owes nothing
-  pub owed-closed : (e : ℕ) (p : ProcNo) (x : Scene C) → (owed_items (closed e p x).state ≡ owed_items x.state) × (pending_count (closed e p x).state ≡ pending_count x.state)
+  pub owed-closed : (e : ℕ) (p : ProcNo) (x : Scene C)
+      → (owed_items (closed e p x).state ≡ owed_items x.state) × (pending_count (closed e p x).state ≡ pending_count x.state)
   owed-closed e p x =
       let h = stays-closed e p x in
       let u : untold_count (closed e p x).state ≡ untold_count x.state = ap (sum_by length) h.untold in
@@ -218,7 +230,8 @@ module _ {C : Type 0} where
       (omega arith, omega arith)
 
   -- what a fetched notice hands over is to be given back
-  owed-handed : (o : Option (Stopped C)) (a : ActNo) (k : KernelState C) → (taken_count (handed_by o a k) ≤ taken_count k + 1) × (untold_count (handed_by o a k) ≡ untold_count k) × (told_count (handed_by o a k) ≡ told_count k)
+  owed-handed : (o : Option (Stopped C)) (a : ActNo) (k : KernelState C)
+      → (taken_count (handed_by o a k) ≤ taken_count k + 1) × (untold_count (handed_by o a k) ≡ untold_count k) × (told_count (handed_by o a k) ≡ told_count k)
   owed-handed None a k = (omega arith, refl, refl)
   owed-handed (Some h) a k =
       let s = (space_of (k.acts a.0)).0 in
@@ -226,10 +239,12 @@ module _ {C : Type 0} where
       let push = length-append (taken_of k s) (a ∷ []) in
       (omega arith, refl, refl)
 
-  pub owed-after_fetch : (notes : List Note) (k : KernelState C) → notes ≡ k.telling → (owed_items (after_fetch notes k) ≤ owed_items k) × (pending_count (after_fetch notes k) ≤ pending_count k)
+  pub owed-after_fetch : (notes : List Note) (k : KernelState C) → notes ≡ k.telling
+      → (owed_items (after_fetch notes k) ≤ owed_items k) × (pending_count (after_fetch notes k) ≤ pending_count k)
   owed-after_fetch [] k is = (omega arith, omega arith)
   owed-after_fetch (Add p ∷ notes) k is = let t = ap (sum_by hand_over) is in let all = sum_by-cons hand_over (Add p) notes in (omega arith, omega arith)
-  owed-after_fetch (Blocked a ∷ notes) k is = let t = ap (sum_by hand_over) is in let all = sum_by-cons hand_over (Blocked a) notes in (omega arith, omega arith)
+  owed-after_fetch (Blocked a ∷ notes) k is =
+      let t = ap (sum_by hand_over) is in let all = sum_by-cons hand_over (Blocked a) notes in (omega arith, omega arith)
   owed-after_fetch (Preempted a ∷ notes) k is =
       let t = ap (sum_by hand_over) is in let all = sum_by-cons hand_over (Preempted a) notes in
       let h = owed-handed (held_of (k.acts a.0)) a (record k { telling = notes }) in

@@ -1,4 +1,4 @@
--- An event has its entry's records, and behind them the closing.
+-- An event has its entry's records, and after them the closing.
 use Rattle.std.proofs.Common.{◌≡◌, ◌≢◌, ℕ, refl, sym, ◌∙◌, ap, subst, Some, None, List, [], ◌∷◌, ◌++◌, length, map, drop}
 use Rattle.std.specs.Prelude.{Option, filter, take_while}
 use Rattle.std.specs.List.{list_all}
@@ -40,7 +40,8 @@ lines-raise (x ∷ ll) lines = absurd (cc)
 aims-raise : (e : ℕ) (lines : List (Option ℕ)) (cs : List Change) (ll : List Record) → AreRaising ll → AreRaising (records_of e lines cs ++ ll)
 aims-raise e lines [] ll raises = raises
 aims-raise e lines (c ∷ cs) ll raises = one (line_at lines c.proc) (aims-raise e (lines_with e lines c) cs ll raises) where
-  one : (l : Option ℕ) → AreRaising (records_of e (lines_with e lines c) cs ++ ll) → AreRaising ((line_records c.proc l ++ records_of e (lines_with e lines c) cs) ++ ll)
+  one : (l : Option ℕ) → AreRaising (records_of e (lines_with e lines c) cs ++ ll)
+      → AreRaising ((line_records c.proc l ++ records_of e (lines_with e lines c) cs) ++ ll)
   one None rest = rest
   one (Some x) rest = rest
 
@@ -62,7 +63,8 @@ turns-parts C w k r t ok kept can =
     let m = after_records w e t.proc (reading_at w r t k) own in
     let closing = closing_of w k r t whole in
     let part : own_part (event_of t k).records ≡ own = ap own_part whole.records ∙ own-is own closing whole.own.some whole.own.own cl.closes in
-    let rest : closing_part (event_of t k).records ≡ closing = ap (λ xs. drop (length xs) (event_of t k).records) part ∙ ap (drop (length own)) whole.records ∙ drop-front own closing in
+    let rest : closing_part (event_of t k).records ≡ closing =
+    ap (λ xs. drop (length xs) (event_of t k).records) part ∙ ap (drop (length own)) whole.records ∙ drop-front own closing in
     record {
       own = subst (λ xs. ShapeOf (evicted_at e k) t.proc t.says t.entry xs) (sym part) whole.own.shape;
       closing = subst (λ xs. IsClosing xs) (sym rest)

@@ -33,9 +33,11 @@ none-set (x ∷ xs) zero = refl
 none-set (x ∷ xs) (suc p) = none-set xs p
 
 -- the same, of cells that are the same
-pub placed-same : (o o' a a' : Option SpaceNo) (l l' : Option ℕ) (x x' : Option ActNo) → o' ≡ o → a' ≡ a → l' ≡ l → x' ≡ x → IsPlaced o a l x → IsPlaced o' a' l' x'
+pub placed-same : (o o' a a' : Option SpaceNo) (l l' : Option ℕ) (x x' : Option ActNo) → o' ≡ o → a' ≡ a → l' ≡ l → x' ≡ x → IsPlaced o a l x
+    → IsPlaced o' a' l' x'
 placed-same o o' a a' l l' x x' owner aim line life h =
-    subst (λ v. IsPlaced o' a' l' v) (sym life) (subst (λ v. IsPlaced o' a' v x) (sym line) (subst (λ v. IsPlaced o' v l x) (sym aim) (subst (λ v. IsPlaced v a l x) (sym owner) h)))
+    subst (λ v. IsPlaced o' a' l' v) (sym life)
+    (subst (λ v. IsPlaced o' a' v x) (sym line) (subst (λ v. IsPlaced o' v l x) (sym aim) (subst (λ v. IsPlaced v a l x) (sym owner) h)))
 
 -- processors but p are placed
 abbrev pub PlacedBut : ℕ → AssignView → List (Option ActNo) → Type 0
@@ -51,21 +53,28 @@ all-but p a lives but here q = elim (cases_eq q p) [
   | inr apart ↦ but q apart
 ]
 
-but-line : (p : ℕ) (v : Option ℕ) (a : AssignView) (lives : List (Option ActNo)) → PlacedBut p a lives → PlacedBut p (record a { lines = slice_set a.lines p v }) lives
+but-line : (p : ℕ) (v : Option ℕ) (a : AssignView) (lives : List (Option ActNo)) → PlacedBut p a lives
+    → PlacedBut p (record a { lines = slice_set a.lines p v }) lives
 but-line p v a lives but q apart =
-    subst (λ l. IsPlaced (get_or a.owners q None) (get_or a.aims q None) l (get_or lives q None)) (sym (get_or-set_other a.lines p q v None apart)) (but q apart)
+    subst (λ l. IsPlaced (get_or a.owners q None) (get_or a.aims q None) l (get_or lives q None)) (sym (get_or-set_other a.lines p q v None apart))
+    (but q apart)
 
-but-owner : (p : ℕ) (v : Option SpaceNo) (a : AssignView) (lives : List (Option ActNo)) → PlacedBut p a lives → PlacedBut p (record a { owners = slice_set a.owners p v }) lives
+but-owner : (p : ℕ) (v : Option SpaceNo) (a : AssignView) (lives : List (Option ActNo)) → PlacedBut p a lives
+    → PlacedBut p (record a { owners = slice_set a.owners p v }) lives
 but-owner p v a lives but q apart =
-    subst (λ o. IsPlaced o (get_or a.aims q None) (get_or a.lines q None) (get_or lives q None)) (sym (get_or-set_other a.owners p q v None apart)) (but q apart)
+    subst (λ o. IsPlaced o (get_or a.aims q None) (get_or a.lines q None) (get_or lives q None)) (sym (get_or-set_other a.owners p q v None apart))
+    (but q apart)
 
-but-aim : (p : ℕ) (v : Option SpaceNo) (a : AssignView) (lives : List (Option ActNo)) → PlacedBut p a lives → PlacedBut p (record a { aims = slice_set a.aims p v }) lives
+but-aim : (p : ℕ) (v : Option SpaceNo) (a : AssignView) (lives : List (Option ActNo)) → PlacedBut p a lives
+    → PlacedBut p (record a { aims = slice_set a.aims p v }) lives
 but-aim p v a lives but q apart =
-    subst (λ o. IsPlaced (get_or a.owners q None) o (get_or a.lines q None) (get_or lives q None)) (sym (get_or-set_other a.aims p q v None apart)) (but q apart)
+    subst (λ o. IsPlaced (get_or a.owners q None) o (get_or a.lines q None) (get_or lives q None)) (sym (get_or-set_other a.aims p q v None apart))
+    (but q apart)
 
 but-life : (p : ℕ) (v : Option ActNo) (a : AssignView) (lives : List (Option ActNo)) → PlacedBut p a lives → PlacedBut p a (slice_set lives p v)
 but-life p v a lives but q apart =
-    subst (λ o. IsPlaced (get_or a.owners q None) (get_or a.aims q None) (get_or a.lines q None) o) (sym (get_or-set_other lives p q v None apart)) (but q apart)
+    subst (λ o. IsPlaced (get_or a.owners q None) (get_or a.aims q None) (get_or a.lines q None) o) (sym (get_or-set_other lives p q v None apart))
+    (but q apart)
 
 some-none : (o : Option SpaceNo) → o ≡ None → IsSome o → ⊥
 some-none None e h = cc
@@ -81,7 +90,8 @@ placed-raised o a l l' x low some h = record {
 
 -- an aim changes, and its line is raised
 set-both : (aims : List (Option SpaceNo)) (lines : List (Option ℕ)) (c q : ℕ) (s : SpaceNo) (e : ℕ) → length aims ≡ length lines
-    → ((get_or (slice_set aims c (Some s)) q None ≡ get_or aims q None) × (get_or (slice_set lines c (raised e (get_or lines c None))) q None ≡ get_or lines q None))
+    → ((get_or (slice_set aims c (Some s)) q None ≡ get_or aims q None)
+    × (get_or (slice_set lines c (raised e (get_or lines c None))) q None ≡ get_or lines q None))
     ⊎ ((get_or (slice_set aims c (Some s)) q None ≡ Some s) × IsSome (get_or (slice_set lines c (raised e (get_or lines c None))) q None))
 set-both [] [] c q s e len = inl (refl, refl)
 set-both [] (l ∷ lines) c q s e len = absurd (omega arith)
@@ -124,7 +134,8 @@ module _ {C : Type 0} where
   abbrev pub AllAt : Scene C → Type 0
   AllAt x = ArePlaced x.state.assign x.state.lives
 
-  but-stopped : (e : ℕ) (p : ProcNo) (o : Option SpaceNo) (l : Option ActNo) (held : Option (Stopped C)) (x : Scene C) → ButAt p x → ButAt p (stopped e p o l held x)
+  but-stopped : (e : ℕ) (p : ProcNo) (o : Option SpaceNo) (l : Option ActNo) (held : Option (Stopped C)) (x : Scene C) → ButAt p x
+      → ButAt p (stopped e p o l held x)
   but-stopped e p None l held x but = but
   but-stopped e p (Some s) None held x but = but
   but-stopped e p (Some s) (Some a) None x but = but
@@ -160,7 +171,8 @@ module _ {C : Type 0} where
   but-moved e p s false x but = but-owner p.0 (Some s) x.state.assign x.state.lives but
 
   pub cells-moved : (e : ℕ) (p : ProcNo) (s : SpaceNo) (owned : Bool) (x : Scene C)
-      → (aim_of (moved e p s owned x).state p ≡ aim_of x.state p) × (line_of (moved e p s owned x).state p ≡ line_of x.state p) × ((moved e p s owned x).state.lives ≡ x.state.lives)
+      → (aim_of (moved e p s owned x).state p ≡ aim_of x.state p) × (line_of (moved e p s owned x).state p ≡ line_of x.state p)
+      × ((moved e p s owned x).state.lives ≡ x.state.lives)
   cells-moved e p s true x = (refl, refl, refl)
   cells-moved e p s false x = (refl, refl, refl)
 
@@ -245,8 +257,8 @@ module _ {C : Type 0} where
       all-but q (record k.assign { lines = slice_set k.assign.lines q v }) k.lives (but-line q v k.assign k.lives (but-all q k.assign k.lives placed))
       (placed-raised _ _ (line_of k (proc_no q)) _ _ low some (placed q))
 
-  pub placed-entered_as : (e : ℕ) (p : ProcNo) (a : ActNo) (entry : Entry C) (x : Scene C) → HasSizes x.state → p.0 < length x.state.lives → IsFit x.state p e entry
-      → AllAt x → AllAt (entered_as e p a entry x)
+  pub placed-entered_as : (e : ℕ) (p : ProcNo) (a : ActNo) (entry : Entry C) (x : Scene C) → HasSizes x.state → p.0 < length x.state.lives
+      → IsFit x.state p e entry → AllAt x → AllAt (entered_as e p a entry x)
   placed-entered_as e p a (Interrupt held) x sizes within fit placed = placed-interrupted e p a held x sizes within fit.raised placed
   placed-entered_as e p a (Block held len page) x sizes within fit placed =
       placed-blocked e p a (owner_of x.state p) (life_of x.state p) held len page x refl within fit.asks.low placed
@@ -279,25 +291,29 @@ module _ {C : Type 0} where
   placed-interrupt_one e p false s x placed = placed
   placed-interrupt_one e p true s x placed = placed-interrupt e p s (least_below (length x.state.lives) (has_low_line x.state s)) x refl placed
 
-  -- behind the wants and the aims
+  -- after the wants and the aims
   pub placed-aimed : (e : ℕ) (p : ProcNo) (x : Scene C) → HasSizes x.state → AllAt x → AllAt (aims e p (wants e p x))
   placed-aimed e p x sizes placed =
       let P : Scene C → Type 0 = λ y. AllAt y × (length y.state.assign.aims ≡ length y.state.assign.lines) in
       let w = wants e p x in
       let wanted : P w =
-      for_spaces-keeps P (want_for e p) (λ s y h. placed-want_one e p (must_want y.state s) s y h) 0 (spaces x.state) x (placed, sizes.aims ∙ sym sizes.lines) in
+      for_spaces-keeps P (want_for e p) (λ s y h. placed-want_one e p (must_want y.state s) s y h) 0 (spaces x.state) x
+      (placed, sizes.aims ∙ sym sizes.lines) in
       placed-changes e w.state.assign w.state.lives (changes_in (spaces w.state) (shares w.state e) w.state.assign) wanted.1 wanted.0
 
   pub placed-closed : (e : ℕ) (p : ProcNo) (x : Scene C) → HasSizes x.state → AllAt x → AllAt (closed e p x)
   placed-closed e p x sizes placed =
       let y = aims e p (wants e p x) in
-      for_spaces-keeps AllAt (interrupt_for e p) (λ s z h. placed-interrupt_one e p (must_interrupt z.state s) s z h) 0 (spaces y.state) y (placed-aimed e p x sizes placed)
+      for_spaces-keeps AllAt (interrupt_for e p) (λ s z h. placed-interrupt_one e p (must_interrupt z.state s) s z h) 0 (spaces y.state) y
+      (placed-aimed e p x sizes placed)
 
-  placed-handed : (o : Option (Stopped C)) (a : ActNo) (k : KernelState C) → ArePlaced k.assign k.lives → ArePlaced (handed_by o a k).assign (handed_by o a k).lives
+  placed-handed : (o : Option (Stopped C)) (a : ActNo) (k : KernelState C) → ArePlaced k.assign k.lives
+      → ArePlaced (handed_by o a k).assign (handed_by o a k).lives
   placed-handed None a k placed = placed
   placed-handed (Some h) a k placed = placed
 
-  pub placed-after_fetch : (notes : List Note) (k : KernelState C) → ArePlaced k.assign k.lives → ArePlaced (after_fetch notes k).assign (after_fetch notes k).lives
+  pub placed-after_fetch : (notes : List Note) (k : KernelState C) → ArePlaced k.assign k.lives
+      → ArePlaced (after_fetch notes k).assign (after_fetch notes k).lives
   placed-after_fetch [] k placed = placed
   placed-after_fetch (Add p ∷ notes) k placed = placed
   placed-after_fetch (Blocked a ∷ notes) k placed = placed

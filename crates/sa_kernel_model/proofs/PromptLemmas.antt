@@ -1,6 +1,6 @@
 -- After the closing of an event no notice waits without cause.
 use Rattle.std.proofs.Common.{◌≡◌, ℕ, zero, suc, ◌+◌, ◌<◌, ◌≤◌, Bool, true, false, ◌&&◌, not, Option, Some, None, IsSome, is_some, is_none, List, [], ◌∷◌, length, get_or, slice_set, refl, sym, ap, subst, ◌∙◌, inl, inr, arith}
-use Rattle.std.proofs.lemmas.Bool.{cases_eq, cases_lt, eqb-true, and_parts}
+use Rattle.std.proofs.lemmas.Bool.{cases_eq, cases_lt, and_parts}
 use Rattle.std.proofs.lemmas.List.{get_or_past, get_or-set_other, get_or-set_same, length-set}
 use Rattle.sa_base.specs.declared.number.ProcNo.{ProcNo}
 use Rattle.sa_base.specs.declared.number.SpaceNo.{SpaceNo}
@@ -15,6 +15,7 @@ use Rattle.sa_devices.specs.Ios.{Io, fetches}
 use Rattle.sa_kernel_model.specs.Entries.{handed_by, after_fetch, evicted_at}
 use Rattle.sa_assign.specs.Aims.{is_aim, space_no, least_below}
 use Rattle.sa_assign.specs.Reaim.{proc_no, changes_in}
+use Rattle.sa_assign.proofs.AimLemmas.{is_aim-true}
 use Rattle.sa_assign.proofs.ChoiceLemmas.{least_below-passes, least_below-none}
 use Rattle.sa_kernel_model.specs.State.{KernelState, Scene, owner_of, aim_of, line_of, untold_of, is_fetching}
 use Rattle.sa_batch.specs.Notices.{has_untold}
@@ -23,10 +24,6 @@ use Rattle.sa_kernel_model.specs.Sound.{HasSizes, HasRaised, IsPrompt}
 use Rattle.sa_kernel_model.proofs.ClosingLemmas.{length-lines_after}
 use Rattle.sa_kernel_model.proofs.SeenLemmas.{is-low}
 use Rattle.sa_kernel_model.proofs.PlacedLemmas.{for_spaces-keeps}
-
-is-owner : (s : ℕ) (o : Option SpaceNo) → is_aim s o ≡ true → o ≡ Some (space_no s)
-is-owner s None h = absurd cc
-is-owner s (Some t) h = ap (λ n. Some (space_no n)) (eqb-true t.0 s h)
 
 no-owner : (s : SpaceNo) → None ≡ Some s → ⊥
 no-owner s is = cc
@@ -52,7 +49,8 @@ module _ {C : Type 0} where
   ]
 
   -- a raised line stays raised where another is
-  kept-raised : (k : KernelState C) (q e : ℕ) (s : SpaceNo) → IsEven k → HasRaised k s → HasRaised (record k { assign = record k.assign { lines = slice_set k.assign.lines q (Some e) } }) s
+  kept-raised : (k : KernelState C) (q e : ℕ) (s : SpaceNo) → IsEven k → HasRaised k s
+      → HasRaised (record k { assign = record k.assign { lines = slice_set k.assign.lines q (Some e) } }) s
   kept-raised k q e s even has = record {
     proc = has.proc;
     owner = has.owner;
@@ -86,8 +84,8 @@ module _ {C : Type 0} where
   good-interrupt_one e p true s t x good = good-interrupt e p (least_below (length x.state.lives) (has_low_line x.state s)) t x good
 
   -- a space's part of the closing
-  served-interrupt : (e : ℕ) (p : ProcNo) (s : ℕ) (q : Option ℕ) (x : Scene C) → q ≡ least_below (length x.state.lives) (has_low_line x.state s) → IsEven x.state
-      → PromptFor s (interrupt e p q x).state
+  served-interrupt : (e : ℕ) (p : ProcNo) (s : ℕ) (q : Option ℕ) (x : Scene C) → q ≡ least_below (length x.state.lives) (has_low_line x.state s)
+      → IsEven x.state → PromptFor s (interrupt e p q x).state
   served-interrupt e p s None x is even waits idle r owner =
       let k = x.state in
       let below = owned-within k r (space_no s) even owner in
@@ -106,16 +104,20 @@ module _ {C : Type 0} where
       let within : q < length k.assign.lines = (let b = found.within in let l = even.lines in omega arith) in
       record {
         proc = proc_no q;
-        owner = is-owner s (owner_of k (proc_no q)) (and_parts _ (is_none (line_of k (proc_no q))) found.passes).0;
+        owner = is_aim-true s (owner_of k (proc_no q)) (and_parts _ (is_none (line_of k (proc_no q))) found.passes).0;
         raised = ap is_some (get_or-set_same k.assign.lines q (Some e) None within);
       }
 
-  served-one : (e : ℕ) (p : ProcNo) (b : Bool) (s : ℕ) (x : Scene C) → b ≡ must_interrupt x.state s → IsEven x.state → PromptFor s (interrupt_one e p b s x).state
-  served-one e p true s x is even waits idle r owner = served-interrupt e p s (least_below (length x.state.lives) (has_low_line x.state s)) x refl even waits idle r owner
+  served-one : (e : ℕ) (p : ProcNo) (b : Bool) (s : ℕ) (x : Scene C) → b ≡ must_interrupt x.state s → IsEven x.state
+      → PromptFor s (interrupt_one e p b s x).state
+  served-one e p true s x is even waits idle r owner =
+      served-interrupt e p s (least_below (length x.state.lives) (has_low_line x.state s)) x refl even waits idle r owner
   served-one e p false s x is even waits idle r owner = told (least_below (length x.state.lives) (is_told_by x.state s)) refl
     where
       told : (o : Option ℕ) → o ≡ least_below (length x.state.lives) (is_told_by x.state s) → HasRaised x.state (space_no s)
-      told None none = absurd (all-true (has_untold (untold_of x.state s)) (is_fetching x.state s) (is_none (least_below (length x.state.lives) (is_told_by x.state s))) waits idle (ap is_none (sym none)) (sym is))
+      told None none =
+          absurd (all-true (has_untold (untold_of x.state s)) (is_fetching x.state s)
+          (is_none (least_below (length x.state.lives) (is_told_by x.state s))) waits idle (ap is_none (sym none)) (sym is))
         where
           all-true : (a b c : Bool) → a ≡ true → b ≡ false → c ≡ true → (a && not b && c) ≡ false → ⊥
           all-true true false true ea eb ec h = cc
@@ -129,7 +131,7 @@ module _ {C : Type 0} where
           let l = is_some (line_of x.state (proc_no q)) in
           record {
             proc = proc_no q;
-            owner = is-owner s (owner_of x.state (proc_no q)) (first o a l found.passes);
+            owner = is_aim-true s (owner_of x.state (proc_no q)) (first o a l found.passes);
             raised = last o a l found.passes;
           }
         where
@@ -143,8 +145,9 @@ module _ {C : Type 0} where
           last true false c h = absurd cc
           last false b c h = absurd cc
 
-  -- so many spaces from s on
-  served-from : (e : ℕ) (p : ProcNo) (s n : ℕ) (x : Scene C) (t : ℕ) → IsEven x.state → s ≤ t → t < s + n → PromptFor t (for_spaces (interrupt_for e p) s n x).state
+  -- n spaces from s on
+  served-from : (e : ℕ) (p : ProcNo) (s n : ℕ) (x : Scene C) (t : ℕ) → IsEven x.state → s ≤ t → t < s + n
+      → PromptFor t (for_spaces (interrupt_for e p) s n x).state
   served-from e p s zero x t even from below = absurd (omega arith)
   served-from e p s (suc n) x t even from below =
       let y = interrupt_for e p s x in
@@ -164,7 +167,8 @@ module _ {C : Type 0} where
   sizes-want_one e p false s x h = h
   sizes-want_one e p true s x h = (record { owners = h.0.owners; lines = h.0.lines }, h.1 ∙ sym (length-set x.state.demands s 1))
 
-  sizes-interrupt : (e : ℕ) (p : ProcNo) (q : Option ℕ) (x : Scene C) → length x.state.untold ≡ length x.state.demands → length (interrupt e p q x).state.untold ≡ length (interrupt e p q x).state.demands
+  sizes-interrupt : (e : ℕ) (p : ProcNo) (q : Option ℕ) (x : Scene C) → length x.state.untold ≡ length x.state.demands
+      → length (interrupt e p q x).state.untold ≡ length (interrupt e p q x).state.demands
   sizes-interrupt e p None x h = h
   sizes-interrupt e p (Some q) x h = h
 
@@ -176,7 +180,7 @@ module _ {C : Type 0} where
       go None = h
       go (Some q) = h
 
-  -- behind the wants and the aims each list has its length
+  -- after the wants and the aims each list has its length
   pub sizes-aimed : (e : ℕ) (p : ProcNo) (x : Scene C) → HasSizes x.state → Sizes (aims e p (wants e p x))
   sizes-aimed e p x sizes =
       let w = wants e p x in
@@ -193,7 +197,8 @@ module _ {C : Type 0} where
   each-space e p y P sizes within nothing s =
       let last = for_spaces (interrupt_for e p) 0 (spaces y.state) y in
       let len : length last.state.untold ≡ spaces y.state =
-      for_spaces-keeps (λ z. length z.state.untold ≡ spaces y.state) (interrupt_for e p) (λ t z h. untold-one (spaces y.state) e p (must_interrupt z.state t) t z h) 0 (spaces y.state) y sizes.1 in
+      for_spaces-keeps (λ z. length z.state.untold ≡ spaces y.state) (interrupt_for e p)
+      (λ t z h. untold-one (spaces y.state) e p (must_interrupt z.state t) t z h) 0 (spaces y.state) y sizes.1 in
       elim (cases_lt s (spaces y.state)) [
         | inl below ↦ within s below
         | inr past ↦ nothing s last.state (ap has_untold (get_or_past last.state.untold s [] (omega arith)))
@@ -209,7 +214,9 @@ module _ {C : Type 0} where
   -- where aims, lines, notices and I/Os are the same
   prompt-same : (k m : KernelState C) → m.assign ≡ k.assign → m.untold ≡ k.untold → m.under_way ≡ k.under_way → IsPrompt k → IsPrompt m
   prompt-same k m assign untold ios prompt s waits idle p owner =
-      let h = prompt s (subst (λ (v : List (List Note)). has_untold (get_or v s.0 []) ≡ true) untold waits) (subst (λ (v : List Io). list_any (fetches s.0) v ≡ false) ios idle) p
+      let h =
+      prompt s (subst (λ (v : List (List Note)). has_untold (get_or v s.0 []) ≡ true) untold waits)
+      (subst (λ (v : List Io). list_any (fetches s.0) v ≡ false) ios idle) p
       (subst (λ (v : AssignView). get_or v.owners p.0 None ≡ Some s) assign owner) in
       record {
         proc = h.proc;
@@ -220,11 +227,13 @@ module _ {C : Type 0} where
   pub prompt-evicted : (event : ℕ) (k : KernelState C) → IsPrompt k → IsPrompt (evicted_at event k)
   prompt-evicted event k prompt = prompt-same k (evicted_at event k) refl refl refl prompt
 
-  same-handed : (o : Option (Stopped C)) (a : ActNo) (k : KernelState C) → ((handed_by o a k).assign ≡ k.assign) × ((handed_by o a k).untold ≡ k.untold) × ((handed_by o a k).under_way ≡ k.under_way)
+  same-handed : (o : Option (Stopped C)) (a : ActNo) (k : KernelState C)
+      → ((handed_by o a k).assign ≡ k.assign) × ((handed_by o a k).untold ≡ k.untold) × ((handed_by o a k).under_way ≡ k.under_way)
   same-handed None a k = (refl, refl, refl)
   same-handed (Some h) a k = (refl, refl, refl)
 
-  same-fetched : (notes : List Note) (k : KernelState C) → ((after_fetch notes k).assign ≡ k.assign) × ((after_fetch notes k).untold ≡ k.untold) × ((after_fetch notes k).under_way ≡ k.under_way)
+  same-fetched : (notes : List Note) (k : KernelState C)
+      → ((after_fetch notes k).assign ≡ k.assign) × ((after_fetch notes k).untold ≡ k.untold) × ((after_fetch notes k).under_way ≡ k.under_way)
   same-fetched [] k = (refl, refl, refl)
   same-fetched (Add p ∷ notes) k = (refl, refl, refl)
   same-fetched (Blocked a ∷ notes) k = (refl, refl, refl)

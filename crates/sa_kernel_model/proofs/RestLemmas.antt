@@ -79,13 +79,15 @@ module _ {C : Type 0} where
       let next = (interrupt e p (Some q) x).state in
       let n = length k.lives in
       let told : (r : ℕ) → r < n → is_told_by k s r ≡ true → is_told_by next s r ≡ true =
-      λ r below. both-last (is_aim s (owner_of k (proc_no r)) && is_aim s (aim_of k (proc_no r))) (is_some (line_of k (proc_no r))) (is_some (line_of next (proc_no r)))
+      λ r below. both-last (is_aim s (owner_of k (proc_no r)) && is_aim s (aim_of k (proc_no r))) (is_some (line_of k (proc_no r)))
+      (is_some (line_of next (proc_no r)))
       (raised-stays k.assign.lines q r e) in
       let was : must_interrupt k s ≡ true =
       both-last (has_untold (untold_of k s) && not (is_fetching k s)) (is_none (least_below n (is_told_by next s))) (is_none (least_below n (is_told_by k s)))
       (λ none. ap is_none (none-below n (is_told_by next s) (is_told_by k s) told (none-is (least_below n (is_told_by next s)) none))) must in
       none-below n (has_low_line k s) (has_low_line next s)
-      (λ r below. both-last (is_aim s (owner_of k (proc_no r))) (is_none (line_of next (proc_no r))) (is_none (line_of k (proc_no r))) (low-before k.assign.lines q r e))
+      (λ r below. both-last (is_aim s (owner_of k (proc_no r))) (is_none (line_of next (proc_no r))) (is_none (line_of k (proc_no r)))
+      (low-before k.assign.lines q r e))
       (rests was)
 
   rests-one : (e : ℕ) (p : ProcNo) (b : Bool) (t s : ℕ) (x : Scene C) → Rests s x.state → Rests s (interrupt_one e p b t x).state
@@ -93,7 +95,8 @@ module _ {C : Type 0} where
   rests-one e p true t s x rests = rests-raised e p (least_below (length x.state.lives) (has_low_line x.state t)) s x rests
 
   -- a space's part of the closing
-  served : (e : ℕ) (p : ProcNo) (s : ℕ) (q : Option ℕ) (x : Scene C) → q ≡ least_below (length x.state.lives) (has_low_line x.state s) → Base x → Rests s (interrupt e p q x).state
+  served : (e : ℕ) (p : ProcNo) (s : ℕ) (q : Option ℕ) (x : Scene C) → q ≡ least_below (length x.state.lives) (has_low_line x.state s) → Base x
+      → Rests s (interrupt e p q x).state
   served e p s None x is base must = sym is
   served e p s (Some q) x is base must =
       let k = x.state in
@@ -105,8 +108,10 @@ module _ {C : Type 0} where
       let aim = is-owner s (owner_of k (proc_no q)) (aim_of k (proc_no q)) ((base.0 q).settled low) owner in
       let within : q < length k.assign.lines = (let b = found.within in let l = base.1.lines in omega arith) in
       let raised : is_some (line_of next (proc_no q)) ≡ true = ap is_some (get_or-set_same k.assign.lines q (Some e) None within) in
-      let told : is_told_by next s q ≡ true = and_from (is_aim s (owner_of k (proc_no q)) && is_aim s (aim_of k (proc_no q))) (is_some (line_of next (proc_no q))) (and_from _ _ owner aim) raised in
-      let none = none-is (least_below n (is_told_by next s))
+      let told : is_told_by next s q ≡ true =
+      and_from (is_aim s (owner_of k (proc_no q)) && is_aim s (aim_of k (proc_no q))) (is_some (line_of next (proc_no q))) (and_from _ _ owner aim) raised in
+      let none =
+      none-is (least_below n (is_told_by next s))
       (and_parts (has_untold (untold_of k s) && not (is_fetching k s)) (is_none (least_below n (is_told_by next s))) must).1 in
       absurd (true-false (sym told ∙ least_below-none n (is_told_by next s) none q found.within))
 
@@ -121,14 +126,16 @@ module _ {C : Type 0} where
       elim (cases_eq t s) [
         | inl same ↦
             subst (λ u. Rests u (for_spaces (interrupt_for e p) (s + 1) n y).state) (sym same)
-            (for_spaces-keeps (λ (z : Scene C). Rests s z.state) (interrupt_for e p) (λ u z rests. rests-one e p (must_interrupt z.state u) u s z rests) (s + 1) n y
+            (for_spaces-keeps (λ (z : Scene C). Rests s z.state) (interrupt_for e p) (λ u z rests. rests-one e p (must_interrupt z.state u) u s z rests)
+            (s + 1) n y
             (served-one e p (must_interrupt x.state s) s x refl base))
         | inr apart ↦ served-from e p (s + 1) n y t (base-one e p (must_interrupt x.state s) s x base) (omega arith) (omega arith)
       ]
 
   nothing-waits : (s : ℕ) (k : KernelState C) → has_untold (untold_of k s) ≡ false → Rests s k
   nothing-waits s k none must =
-      absurd (true-false (sym (and_parts (has_untold (untold_of k s)) (not (is_fetching k s)) (and_parts (has_untold (untold_of k s) && not (is_fetching k s)) (is_none (least_below (length k.lives) (is_told_by k s))) must).0).0 ∙ none))
+      absurd (true-false (sym (and_parts (has_untold (untold_of k s)) (not (is_fetching k s))
+      (and_parts (has_untold (untold_of k s) && not (is_fetching k s)) (is_none (least_below (length k.lives) (is_told_by k s))) must).0).0 ∙ none))
 
   pub rests-closed : (e : ℕ) (p : ProcNo) (x : Scene C) → IsSound x.state → NoLineIsDue (closed e p x).state
   rests-closed e p x sound =
@@ -148,8 +155,8 @@ module _ {C : Type 0} where
   no-line e p false s x is none = refl
   no-line e p true s x is none = ap (λ (o : Option ℕ). interrupt e p o x) (none s is)
 
-  pub closing-adds-nothing : (e : ℕ) (p : ProcNo) (x : Scene C) → ((s : ℕ) → must_want x.state s ≡ false) → changes_in (spaces x.state) (shares x.state e) x.state.assign ≡ []
-      → NoLineIsDue x.state → closed e p x ≡ x
+  pub closing-adds-nothing : (e : ℕ) (p : ProcNo) (x : Scene C) → ((s : ℕ) → must_want x.state s ≡ false)
+      → changes_in (spaces x.state) (shares x.state e) x.state.assign ≡ [] → NoLineIsDue x.state → closed e p x ≡ x
   closing-adds-nothing e p x wanted aimed none =
       let A : List Change → Scene C = λ cs. record {
         state = record x.state { assign = changed e x.state.assign cs };

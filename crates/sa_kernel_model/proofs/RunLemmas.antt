@@ -50,8 +50,8 @@ all-at-opening test w ok = record {
   shares_covered = start.cover-shares test w ok;
 }
 
-lawful-from : (C : Type 0) (test : Test) (w : WorkloadView) (k : KernelState C) (r : Readings) (moves : List (Option (Turn C))) → IsWorkload w → IsKept w k r → CanMove test w k r moves
-    → AllHoldFrom test w r (events moves k)
+lawful-from : (C : Type 0) (test : Test) (w : WorkloadView) (k : KernelState C) (r : Readings) (moves : List (Option (Turn C))) → IsWorkload w → IsKept w k r
+    → CanMove test w k r moves → AllHoldFrom test w r (events moves k)
 lawful-from C test w k r [] ok kept can = tt
 lawful-from C test w k r (None ∷ moves) ok kept can = lawful-from C test w (after_fetch k.telling k) r moves ok (fetches-keep C w k r kept) can
 lawful-from C test w k r (Some t ∷ moves) ok kept can = (
@@ -59,8 +59,8 @@ lawful-from C test w k r (Some t ∷ moves) ok kept can = (
   lawful-from C test w (turned t k).state (after_event test w r (event_of t k)) moves ok (turns-keep C test w k r t ok kept can.0) can.1,
 )
 
-items-from : (C : Type 0) (test : Test) (w : WorkloadView) (x : Scene C) (r : Readings) (moves : List (Option (Turn C))) → IsWorkload w → IsKept w x.state r → CanMove test w x.state r moves
-    → (moved_all moves x).items ≡ x.items ++ items_of (events moves x.state)
+items-from : (C : Type 0) (test : Test) (w : WorkloadView) (x : Scene C) (r : Readings) (moves : List (Option (Turn C))) → IsWorkload w → IsKept w x.state r
+    → CanMove test w x.state r moves → (moved_all moves x).items ≡ x.items ++ items_of (events moves x.state)
 items-from C test w x r [] ok kept can = sym (append-nil x.items)
 items-from C test w x r (None ∷ moves) ok kept can =
     items-from C test w (record x { state = after_fetch x.state.telling x.state }) r moves ok (fetches-keep C w x.state r kept) can
@@ -73,8 +73,10 @@ items-from C test w x r (Some t ∷ moves) ok kept can =
     ∙ append_assoc x.items (items_at t.number t.proc e.records) (items_of (events moves (turned t x.state).state))
 
 pub runs-lawful : (C : Type 0) → RunsAreLawful C
-runs-lawful C test w moves ok can =
-    (all-at-opening test w ok, lawful-from C test w (opened {C = C} w).state (after_event test w (opening_readings w) (opening_event w)) moves ok (opening-keeps C test w ok) can)
+runs-lawful C test w moves ok can = (
+  all-at-opening test w ok,
+  lawful-from C test w (opened {C = C} w).state (after_event test w (opening_readings w) (opening_event w)) moves ok (opening-keeps C test w ok) can,
+)
 
 pub runs-events : (C : Type 0) → RunsAreTheirEvents C
 runs-events C test w moves ok can =

@@ -34,14 +34,16 @@ while-all f xs all = ap (take_while f) (sym (append-nil xs)) ∙ while-both f xs
 pub filter-both : (f : Record → Bool) (xs ys : List Record) → filter f (xs ++ ys) ≡ filter f xs ++ filter f ys
 filter-both f [] ys = refl
 filter-both f (x ∷ xs) ys = one (f x) (filter-both f xs ys) where
-  one : (b : Bool) → filter f (xs ++ ys) ≡ filter f xs ++ filter f ys → cond b (x ∷ filter f (xs ++ ys)) (filter f (xs ++ ys)) ≡ cond b (x ∷ filter f xs) (filter f xs) ++ filter f ys
+  one : (b : Bool) → filter f (xs ++ ys) ≡ filter f xs ++ filter f ys
+      → cond b (x ∷ filter f (xs ++ ys)) (filter f (xs ++ ys)) ≡ cond b (x ∷ filter f xs) (filter f xs) ++ filter f ys
   one true rest = ap (λ zs. x ∷ zs) rest
   one false rest = rest
 
 pub filter-all : (f : Record → Bool) (xs : List Record) → list_all f xs ≡ true → filter f xs ≡ xs
 filter-all f [] all = refl
 filter-all f (x ∷ xs) all =
-    ap (λ b. cond b (x ∷ filter f xs) (filter f xs)) (and_parts (f x) (list_all f xs) all).0 ∙ ap (λ zs. x ∷ zs) (filter-all f xs (and_parts (f x) (list_all f xs) all).1)
+    ap (λ b. cond b (x ∷ filter f xs) (filter f xs)) (and_parts (f x) (list_all f xs) all).0
+    ∙ ap (λ zs. x ∷ zs) (filter-all f xs (and_parts (f x) (list_all f xs) all).1)
 
 pub filter-none : (f : Record → Bool) (xs : List Record) → list_all (λ x. not (f x)) xs ≡ true → filter f xs ≡ []
 filter-none f [] all = refl
@@ -98,7 +100,8 @@ wants-lines (s ∷ ss) = wants-lines ss
 pub aims-wants : (e : ℕ) (lines : List (Option ℕ)) (cs : List Change) → list_all is_no_want (records_of e lines cs) ≡ true
 aims-wants e lines [] = refl
 aims-wants e lines (c ∷ cs) = one (line_at lines c.proc) (aims-wants e (lines_with e lines c) cs) where
-  one : (l : Option ℕ) → list_all is_no_want (records_of e (lines_with e lines c) cs) ≡ true → list_all is_no_want (line_records c.proc l ++ records_of e (lines_with e lines c) cs) ≡ true
+  one : (l : Option ℕ) → list_all is_no_want (records_of e (lines_with e lines c) cs) ≡ true
+      → list_all is_no_want (line_records c.proc l ++ records_of e (lines_with e lines c) cs) ≡ true
   one None rest = rest
   one (Some x) rest = rest
 
@@ -122,14 +125,14 @@ aims-said e lines (c ∷ cs) = ap (λ zs. c ∷ zs) (one (line_at lines c.proc) 
   one None rest = rest
   one (Some x) rest = rest
 
-pub aims-of : (own wl ll : List Record) (e : ℕ) (lines : List (Option ℕ)) (cs : List Change) → list_all is_no_aim own ≡ true → list_all is_no_aim wl ≡ true → list_all is_no_aim ll ≡ true
-    → aims_in (own ++ (wl ++ (records_of e lines cs ++ ll))) ≡ cs
+pub aims-of : (own wl ll : List Record) (e : ℕ) (lines : List (Option ℕ)) (cs : List Change) → list_all is_no_aim own ≡ true → list_all is_no_aim wl ≡ true
+    → list_all is_no_aim ll ≡ true → aims_in (own ++ (wl ++ (records_of e lines cs ++ ll))) ≡ cs
 aims-of own wl ll e lines cs none no_want no_line =
     aims-both own (wl ++ (records_of e lines cs ++ ll)) ∙ ap (λ xs. xs ++ aims_in (wl ++ (records_of e lines cs ++ ll))) (aims-none own none)
     ∙ aims-both wl (records_of e lines cs ++ ll) ∙ ap (λ xs. xs ++ aims_in (records_of e lines cs ++ ll)) (aims-none wl no_want)
     ∙ aims-both (records_of e lines cs) ll ∙ ap (λ xs. xs ++ aims_in ll) (aims-said e lines cs) ∙ ap (λ xs. cs ++ xs) (aims-none ll no_line) ∙ append-nil cs
 
--- what stands last in a list, and before it
+-- what is last in a list, and what is before it
 abbrev last_of : Option Record → List Record → Option Record
 last_of l [] = l
 last_of l (x ∷ xs) = last_of (Some x) xs
@@ -141,7 +144,8 @@ last-both l (x ∷ xs) ys = last-both (Some x) xs ys
 lines-both : (l : Option Record) (xs ys : List Record) → before_lines l xs ≡ xs → before_lines l (xs ++ ys) ≡ xs ++ before_lines (last_of l xs) ys
 lines-both l [] ys is = refl
 lines-both l (x ∷ xs) ys is = one (is_other_line l x) is (λ rest. lines-both (Some x) xs ys rest) where
-  one : (b : Bool) → (if b then [] else x ∷ before_lines (Some x) xs) ≡ x ∷ xs → (before_lines (Some x) xs ≡ xs → before_lines (Some x) (xs ++ ys) ≡ xs ++ before_lines (last_of (Some x) xs) ys)
+  one : (b : Bool) → (if b then [] else x ∷ before_lines (Some x) xs) ≡ x ∷ xs
+      → (before_lines (Some x) xs ≡ xs → before_lines (Some x) (xs ++ ys) ≡ xs ++ before_lines (last_of (Some x) xs) ys)
       → (if b then [] else x ∷ before_lines (Some x) (xs ++ ys)) ≡ x ∷ (xs ++ before_lines (last_of (Some x) xs) ys)
   one true none rest = absurd (let no : [] ≡ x ∷ xs = none in cc)
   one false all rest = ap (λ zs. x ∷ zs) (rest (cc))
@@ -164,31 +168,38 @@ follows e lines (c ∷ cs) l = ap (λ zs. aim ∷ zs) (one (line_at lines c.proc
   aim = Aim (proc_no c.proc) (Some (space_no c.space))
 
   one : (o : Option ℕ) → ((k : Option Record) → before_lines k (records_of e (lines_with e lines c) cs) ≡ records_of e (lines_with e lines c) cs)
-      → before_lines (Some (Aim (proc_no c.proc) (Some (space_no c.space)))) (line_records c.proc o ++ records_of e (lines_with e lines c) cs) ≡ line_records c.proc o ++ records_of e (lines_with e lines c) cs
+      → before_lines (Some (Aim (proc_no c.proc) (Some (space_no c.space)))) (line_records c.proc o ++ records_of e (lines_with e lines c) cs)
+      ≡ line_records c.proc o ++ records_of e (lines_with e lines c) cs
   one None rest =
-      ap (λ b. if not b then [] else Line (proc_no c.proc) ∷ before_lines (Some (Line (proc_no c.proc))) (records_of e (lines_with e lines c) cs)) (eq-eqb c.proc c.proc refl)
+      ap (λ b. if not b then [] else Line (proc_no c.proc) ∷ before_lines (Some (Line (proc_no c.proc))) (records_of e (lines_with e lines c) cs))
+      (eq-eqb c.proc c.proc refl)
       ∙ ap (λ zs. Line (proc_no c.proc) ∷ zs) (rest (Some (Line (proc_no c.proc))))
   one (Some x) rest = rest (Some (Aim (proc_no c.proc) (Some (space_no c.space))))
 
--- what stands before the last lines is no aim of a processor with a low line
+-- what comes before the last lines is no aim of a processor with a low line
 abbrev IsHigh : List (Option ℕ) → Option Record → Type 0
 IsHigh lines l = (q : ℕ) → line_at lines q ≡ None → follows_aim l (proc_no q) ≡ false
 
-high-aims : (e : ℕ) (lines : List (Option ℕ)) (cs : List Change) (l : Option Record) → IsHigh lines l → IsHigh (lines_after e lines cs) (last_of l (records_of e lines cs))
+high-aims : (e : ℕ) (lines : List (Option ℕ)) (cs : List Change) (l : Option Record) → IsHigh lines l
+    → IsHigh (lines_after e lines cs) (last_of l (records_of e lines cs))
 high-aims e lines [] l high = high
 high-aims e lines (c ∷ cs) l high = one (line_at lines c.proc) refl (λ k h. high-aims e (lines_with e lines c) cs k h) where
   next : List (Option ℕ)
   next = lines_with e lines c
 
-  one : (o : Option ℕ) → line_at lines c.proc ≡ o → ((k : Option Record) → IsHigh (lines_with e lines c) k → IsHigh (lines_after e (lines_with e lines c) cs) (last_of k (records_of e (lines_with e lines c) cs)))
-      → IsHigh (lines_after e (lines_with e lines c) cs) (last_of (Some (Aim (proc_no c.proc) (Some (space_no c.space)))) (line_records c.proc o ++ records_of e (lines_with e lines c) cs))
+  one : (o : Option ℕ) → line_at lines c.proc ≡ o
+      → ((k : Option Record) → IsHigh (lines_with e lines c) k
+      → IsHigh (lines_after e (lines_with e lines c) cs) (last_of k (records_of e (lines_with e lines c) cs)))
+      → IsHigh (lines_after e (lines_with e lines c) cs)
+      (last_of (Some (Aim (proc_no c.proc) (Some (space_no c.space)))) (line_records c.proc o ++ records_of e (lines_with e lines c) cs))
   one None is rest = rest (Some (Line (proc_no c.proc))) (λ q low. refl)
   one (Some x) is rest = rest (Some (Aim (proc_no c.proc) (Some (space_no c.space)))) (λ q low. ne_eqb c.proc q (λ same.
       (let within : c.proc < length lines = elim (cases_lt c.proc (length lines)) [
         | inl below ↦ below
         | inr past ↦ absurd (none-some x (sym (get_or_past lines c.proc None (omega arith)) ∙ is))
       ] in
-      none-some x (sym low ∙ ap (λ i. line_at (lines_with e lines c) i) (sym same) ∙ get_or-set_same lines c.proc (raised e (line_at lines c.proc)) None within ∙ ap (raised e) is))))
+      none-some x (sym low ∙ ap (λ i. line_at (lines_with e lines c) i) (sym same) ∙ get_or-set_same lines c.proc (raised e (line_at lines c.proc)) None within
+      ∙ ap (raised e) is))))
 
 -- a list without aims does not end with one
 abbrev IsNoAim : Option Record → Type 0
@@ -197,7 +208,8 @@ IsNoAim (Some x) = is_no_aim x ≡ true
 
 last-no-aim : (l : Option Record) (xs : List Record) → IsNoAim l → list_all is_no_aim xs ≡ true → IsNoAim (last_of l xs)
 last-no-aim l [] none all = none
-last-no-aim l (x ∷ xs) none all = last-no-aim (Some x) xs (and_parts (is_no_aim x) (list_all is_no_aim xs) all).0 (and_parts (is_no_aim x) (list_all is_no_aim xs) all).1
+last-no-aim l (x ∷ xs) none all =
+    last-no-aim (Some x) xs (and_parts (is_no_aim x) (list_all is_no_aim xs) all).0 (and_parts (is_no_aim x) (list_all is_no_aim xs) all).1
 
 no-aim-high : (lines : List (Option ℕ)) (l : Option Record) → IsNoAim l → IsHigh lines l
 no-aim-high lines None none q low = refl
@@ -205,23 +217,25 @@ no-aim-high lines (Some (Aim p (Some s))) none q low = absurd (cc)
 no-aim-high lines (Some (Aim p None)) none q low = refl
 no-aim-high lines (Some x) none q low = refl
 
-nothing-more : (l : Option Record) (ll : List Record) (lines : List (Option ℕ)) → IsHigh lines l → ((q : ℕ) (others : List Record) → ll ≡ Line (proc_no q) ∷ others → line_at lines q ≡ None) → AreLines ll
-    → before_lines l ll ≡ []
+nothing-more : (l : Option Record) (ll : List Record) (lines : List (Option ℕ)) → IsHigh lines l
+    → ((q : ℕ) (others : List Record) → ll ≡ Line (proc_no q) ∷ others → line_at lines q ≡ None) → AreLines ll → before_lines l ll ≡ []
 nothing-more l [] lines high low are = refl
 nothing-more l (Line q ∷ ll) lines high low are =
     ap (λ b. if not b then [] else Line q ∷ before_lines (Some (Line q)) ll) (high q.0 (low q.0 ll refl))
 nothing-more l (x ∷ ll) lines high low are = absurd (cc)
 
 -- the parts of an event: an own part, wants, aims with their lines, and other lines
-pub front-is : (x : Record) (xs wl ll : List Record) (e : ℕ) (lines : List (Option ℕ)) (cs : List Change) → is_no_aim x ≡ true → list_all is_no_aim xs ≡ true → list_all (λ y. not (is_line y)) xs ≡ true
-    → list_all is_no_aim wl ≡ true → list_all (λ y. not (is_line y)) wl ≡ true → ((q : ℕ) (others : List Record) → ll ≡ Line (proc_no q) ∷ others → line_at (lines_after e lines cs) q ≡ None) → AreLines ll
+pub front-is : (x : Record) (xs wl ll : List Record) (e : ℕ) (lines : List (Option ℕ)) (cs : List Change) → is_no_aim x ≡ true → list_all is_no_aim xs ≡ true
+    → list_all (λ y. not (is_line y)) xs ≡ true → list_all is_no_aim wl ≡ true → list_all (λ y. not (is_line y)) wl ≡ true
+    → ((q : ℕ) (others : List Record) → ll ≡ Line (proc_no q) ∷ others → line_at (lines_after e lines cs) q ≡ None) → AreLines ll
     → front_part ((x ∷ xs) ++ (wl ++ (records_of e lines cs ++ ll))) ≡ (x ∷ xs) ++ (wl ++ records_of e lines cs)
 front-is x xs wl ll e lines cs first none no_line want_none want_line low are_lines =
     let al = records_of e lines cs in
     let one = last_of (Some x) xs in
     let two = last_of one wl in
     let three = last_of two al in
-    let high : IsHigh (lines_after e lines cs) three = high-aims e lines cs two (no-aim-high lines two (last-no-aim one wl (last-no-aim (Some x) xs first none) want_none)) in
+    let high : IsHigh (lines_after e lines cs) three =
+    high-aims e lines cs two (no-aim-high lines two (last-no-aim one wl (last-no-aim (Some x) xs first none) want_none)) in
     let end : before_lines three ll ≡ [] = nothing-more three ll (lines_after e lines cs) high low are_lines in
     ap (λ zs. x ∷ zs) (lines-both (Some x) xs (wl ++ (al ++ ll)) (no-lines (Some x) xs no_line)
     ∙ ap (λ zs. xs ++ zs) (lines-both one wl (al ++ ll) (no-lines one wl want_line)

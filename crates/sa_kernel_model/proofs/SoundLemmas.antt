@@ -13,7 +13,8 @@ use Rattle.sa_kernel_model.specs.Opening.{opening_state, opened}
 use Rattle.sa_kernel_model.specs.Fits.{IsFit, upcalls}
 use Rattle.sa_kernel_model.specs.declared.entry.Entry.{Entry}
 use Rattle.sa_kernel_model.specs.Sound.{note_claim, IsPlaced, ArePlaced, AreClaimed, IsUpcalled, IsSound}
-use Rattle.sa_kernel_model.proofs.FormedLemmas.{no_life, no_event, no_space, no_notes, formed-opening, formed-entered_as, formed-closed, formed-after_fetch, formed-evicted}
+use Rattle.sa_kernel_model.proofs.FormedLemmas.{no_event, no_space, no_notes, formed-opening, formed-entered_as, formed-closed, formed-after_fetch, formed-evicted}
+use Rattle.sa_kernel_model.proofs.LifeLemmas.{no_life}
 use Rattle.sa_kernel_model.proofs.PlacedLemmas.{placed-same, placed-entered_as, placed-closed, placed-after_fetch}
 use Rattle.sa_kernel_model.proofs.ClaimLemmas.{cond-zero}
 use Rattle.sa_kernel_model.proofs.HeldLemmas.{upcalled-entered_as, upcalled-closed, claimed-entered_as, claimed-closed, claimed-after_fetch}
@@ -30,11 +31,13 @@ nothing-placed = record { runs = λ h. absurd (none h); aimed = λ h. absurd (lo
 placed-opening : (C : Type 0) (w : WorkloadView) → ArePlaced (opening_state {C = C} w).assign (opening_state {C = C} w).lives
 placed-opening C w p =
     let n = w.processors in
-    placed-same no_space _ no_space _ no_event _ no_life _ (all-same n p no_space) (all-same n p no_space) (all-same n p no_event) (all-same n p no_life) nothing-placed
+    placed-same no_space _ no_space _ no_event _ no_life _ (all-same n p no_space) (all-same n p no_space) (all-same n p no_event)
+    (all-same n p no_life) nothing-placed
 
 claimed-opening : (C : Type 0) (w : WorkloadView) → AreClaimed (opening_state {C = C} w) 0
 claimed-opening C w s a =
-    let none : sum_by (note_claim a) (get_or (replicate (length w.spaces) no_notes) s []) ≡ 0 = ap (sum_by (note_claim a)) (all-same (length w.spaces) s no_notes) in
+    let none : sum_by (note_claim a) (get_or (replicate (length w.spaces) no_notes) s []) ≡ 0 =
+    ap (sum_by (note_claim a)) (all-same (length w.spaces) s no_notes) in
     let told = cond-zero (eqb s 0) in
     omega arith
 
@@ -74,7 +77,8 @@ module _ {C : Type 0} where
   -- a whole entry, and the opening
   pub sound-entered : (e : ℕ) (p : ProcNo) (a : ActNo) (entry : Entry C) (x : Scene C) → p.0 < length x.state.lives → IsFit x.state p e entry
       → x.state.acts a.0 ≡ None → x.state.telling ≡ [] → IsSound x.state → IsSound (entered e p a entry x).state
-  sound-entered e p a entry x within fit unused empty sound = sound-closed e p (entered_as e p a entry x) (sound-entered_as e p a entry x within fit unused empty sound)
+  sound-entered e p a entry x within fit unused empty sound =
+      sound-closed e p (entered_as e p a entry x) (sound-entered_as e p a entry x within fit unused empty sound)
 
   pub upcalled-entered : (e : ℕ) (p : ProcNo) (a : ActNo) (entry : Entry C) (x : Scene C) → upcalls x.state p entry ≡ true → p.0 < length x.state.lives
       → x.state.acts a.0 ≡ None → x.state.telling ≡ [] → IsSound x.state → IsUpcalled (entered e p a entry x).state p a

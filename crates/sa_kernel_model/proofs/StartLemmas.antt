@@ -37,11 +37,13 @@ calm-wants : (n : ℕ) (rest : List Record) → 1 ≤ n → BeginsAsInterrupt (m
 calm-wants zero rest some begins = omega arith
 calm-wants (suc n) rest some begins = begins
 
-asked-wants : (w : WorkloadView) (c : Readings) (p : ProcNo) (n : ℕ) (rest : List Record) → 1 ≤ n → FirstLineIsAsked AnyLines w c p (map want_one (spaces_from 0 n) ++ rest)
+asked-wants : (w : WorkloadView) (c : Readings) (p : ProcNo) (n : ℕ) (rest : List Record) → 1 ≤ n
+    → FirstLineIsAsked AnyLines w c p (map want_one (spaces_from 0 n) ++ rest)
 asked-wants w c p zero rest some = absurd (omega arith)
 asked-wants w c p (suc n) rest some = tt
 
-front-wants : (n e : ℕ) (lines : List (Option ℕ)) (cs : List Change) → 1 ≤ n → front_part (map want_one (spaces_from 0 n) ++ records_of e lines cs) ≡ map want_one (spaces_from 0 n) ++ records_of e lines cs
+front-wants : (n e : ℕ) (lines : List (Option ℕ)) (cs : List Change) → 1 ≤ n
+    → front_part (map want_one (spaces_from 0 n) ++ records_of e lines cs) ≡ map want_one (spaces_from 0 n) ++ records_of e lines cs
 front-wants zero e lines cs some = absurd (omega arith)
 front-wants (suc n) e lines cs some =
     let first = want_one (space_no 0) in
@@ -52,7 +54,9 @@ front-wants (suc n) e lines cs some =
 
 no-aims : (e : ℕ) (lines : List (Option ℕ)) (cs : List Change) → take_while is_no_aim (records_of e lines cs) ≡ []
 no-aims e lines [] = refl
-no-aims e lines (c ∷ cs) = while-none is_no_aim (Aim (proc_no c.proc) (Some (space_no c.space))) (line_records c.proc (line_at lines c.proc) ++ records_of e (lines_with e lines c) cs) refl
+no-aims e lines (c ∷ cs) =
+    while-none is_no_aim (Aim (proc_no c.proc) (Some (space_no c.space)))
+    (line_records c.proc (line_at lines c.proc) ++ records_of e (lines_with e lines c) cs) refl
 
 -- each record is lawful
 lawful-opening : (w : WorkloadView) → IsWorkload w → AreLawful w 0 zeroth (begun w (opening_event w) (opening_readings w)) (opening_records w)
@@ -61,11 +65,13 @@ lawful-opening w ok =
     let cs = aims_due w 0 m in
     let al = records_of 0 m.lines cs in
     let last : AreLawful w 0 zeroth m al = subst (λ xs. AreLawful w 0 zeroth m xs) (append-nil al) (aims-lawful w 0 zeroth m cs [] tt) in
-    subst (λ (c : Readings). AreLawful w 0 zeroth c (opening_records w)) (sym (begins-same w ok)) (wants-lawful w 0 zeroth (opening_readings w) (spaces_of w) al last)
+    subst (λ (c : Readings). AreLawful w 0 zeroth c (opening_records w)) (sym (begins-same w ok))
+    (wants-lawful w 0 zeroth (opening_readings w) (spaces_of w) al last)
 
 each-opening : (w : WorkloadView) (L : RecordLaw) → IsWorkload w → ((c : Readings) (x : Record) (rest : List Record) → Lawful zeroth c x rest → L c x rest)
     → EachRecord L w 0 zeroth (begun w (opening_event w) (opening_readings w)) (opening_records w)
-each-opening w L ok weaker = each-weaker (Lawful zeroth) L w 0 zeroth (begun w (opening_event w) (opening_readings w)) (opening_records w) weaker (lawful-opening w ok)
+each-opening w L ok weaker =
+    each-weaker (Lawful zeroth) L w 0 zeroth (begun w (opening_event w) (opening_readings w)) (opening_records w) weaker (lawful-opening w ok)
 
 pub told-once : HoldsAtOpening ToldOnce
 told-once test w ok = record { told = each-opening w TellsOnce ok (λ c x rest law. law.once) }
@@ -78,14 +84,17 @@ block-upcalls test w ok = record { blocks = each-opening w (GivesUpcallThen zero
 
 pub interrupt-next : HoldsAtOpening InterruptNext
 interrupt-next test w ok = record {
-  interrupt = λ up. absurd (let none : is_some (get_or (opening_readings w).lines 0 None) ≡ false = ap is_some (all-same w.processors 0 no_line) in let no = sym up ∙ none in cc);
+  interrupt =
+      λ up. absurd (let none : is_some (get_or (opening_readings w).lines 0 None) ≡ false = ap is_some (all-same w.processors 0 no_line) in
+      let no = sym up ∙ none in cc);
   calm = λ begins. absurd (calm-wants (length w.spaces) (records_of 0 (wanting w).lines (aims_due w 0 (wanting w))) ok.some_space begins);
 } where
   no_line : Option ℕ
   no_line = None
 
--- the moment behind the opening, from its beginning
-end-is : (w : WorkloadView) → IsWorkload w → behind_all w (opening_event w) (opening_readings w) ≡ after_records w 0 zeroth (opening_readings w) (opening_records w)
+-- the moment after the opening, from its beginning
+end-is : (w : WorkloadView) → IsWorkload w
+    → behind_all w (opening_event w) (opening_readings w) ≡ after_records w 0 zeroth (opening_readings w) (opening_records w)
 end-is w ok = ap (λ (c : Readings). after_records w 0 zeroth c (opening_records w)) (begins-same w ok)
 
 -- the kernel's opening is over no context
@@ -99,7 +108,9 @@ pub in-time : HoldsAtOpening IsToldInTime
 in-time test w ok =
     let o = opened-is Nothing w ok in
     record {
-      prompt = prompt-in (opened {C = Nothing} w).state (after_event test w (opening_readings w) (opening_event w)) (sound-opened w ok) (opening-reads Nothing test w ok o)
+      prompt =
+          prompt-in (opened {C = Nothing} w).state (after_event test w (opening_readings w) (opening_event w)) (sound-opened w ok)
+          (opening-reads Nothing test w ok o)
           (prompt-closed 0 zeroth (opening_scene Nothing w) (sound-opening {C = Nothing} w ok).formed.sizes);
     }
 
@@ -112,7 +123,9 @@ where-owned test w ok =
     let reads = opening-reads Nothing test w ok o in
     record {
       named = each-opening w (NamesTheLife zeroth) ok (λ c x rest law. law.named);
-      owned = ap (λ (v : Overview). v.assign.owners) reads ∙ owned-map new.assign.owners new.lives (space_of_life after) sound.formed.sizes.owners (owner-is new after sound reads)
+      owned =
+          ap (λ (v : Overview). v.assign.owners) reads
+          ∙ owned-map new.assign.owners new.lives (space_of_life after) sound.formed.sizes.owners (owner-is new after sound reads)
           ∙ ap (λ (v : Overview). map (space_of_life after) v.running) (sym reads);
     }
 
@@ -131,13 +144,15 @@ line-cause test w ok =
     let cs = aims_due w 0 m in
     let all = opening_records w in
     let front : front_part all ≡ all = front-wants (length w.spaces) 0 m.lines cs ok.some_space in
-    let none : drop (length (front_part all)) all ≡ [] = ap (λ xs. drop (length xs) all) front ∙ ap (drop (length all)) (sym (append-nil all)) ∙ drop-front all [] in
+    let none : drop (length (front_part all)) all ≡ [] =
+    ap (λ xs. drop (length xs) all) front ∙ ap (drop (length all)) (sym (append-nil all)) ∙ drop-front all [] in
     record {
       heard = each-opening w RaisesLine ok (λ c x rest law. law.raises);
       first = asked-wants w (opening_readings w) zeroth (length w.spaces) (records_of 0 m.lines cs) ok.some_space;
       order = ap aims_in none;
       due = ap (λ xs. lines_in xs) none
-          ∙ sym (ap (λ xs. lines_due w (after_records w 0 zeroth r xs)) front ∙ no-lines_due w (after_records w 0 zeroth r all) (length w.spaces) (untold-after w ok));
+          ∙ sym (ap (λ xs. lines_due w (after_records w 0 zeroth r xs)) front
+          ∙ no-lines_due w (after_records w 0 zeroth r all) (length w.spaces) (untold-after w ok));
     }
 
 pub cover-shares : HoldsAtOpening AimsCoverShares
@@ -148,10 +163,12 @@ cover-shares test w ok =
     let al = records_of 0 m.lines cs in
     let fw = first_wants w in
     let after = after_event test w (opening_readings w) (opening_event w) in
-    let end : behind_all w (opening_event w) (opening_readings w) ≡ after_records w 0 zeroth m al = end-is w ok ∙ records-append w 0 zeroth (opening_readings w) fw al in
+    let end : behind_all w (opening_event w) (opening_readings w) ≡ after_records w 0 zeroth m al =
+    end-is w ok ∙ records-append w 0 zeroth (opening_readings w) fw al in
     let aims = aims-reads w 0 zeroth m cs in
     let none : Option SpaceNo = None in
-    let len : length m.aims ≡ w.processors = ap (λ (xs : List (Option SpaceNo)). length xs) (wants-keep-aims w 0 zeroth (opening_readings w) (spaces_of w)) ∙ length-replicate w.processors none in
+    let len : length m.aims ≡ w.processors =
+    ap (λ (xs : List (Option SpaceNo)). length xs) (wants-keep-aims w 0 zeroth (opening_readings w) (spaces_of w)) ∙ length-replicate w.processors none in
     let is : IsAimed w 0 m after = record {
       aims = ap (λ (d : Readings). d.aims) end ∙ ap (λ (v : Overview). v.assign.aims) aims;
       demands = ap (λ (d : Readings). d.demands) end ∙ ap (λ (v : Overview). v.demands) aims;
@@ -163,5 +180,7 @@ cover-shares test w ok =
     while-both is_no_aim fw al (wants-aims (spaces_of w)) ∙ ap (λ xs. fw ++ xs) (no-aims 0 m.lines cs) ∙ append-nil fw in
     record {
       covered = covered w 0 m after ok len is;
-      due = inner ∙ sym (ap (λ xs. aims_due w 0 (after_records w 0 zeroth r xs)) front ∙ ap (λ (c : Readings). aims_due w 0 (after_records w 0 zeroth c fw)) (begins-same w ok));
+      due =
+          inner ∙ sym (ap (λ xs. aims_due w 0 (after_records w 0 zeroth r xs)) front
+          ∙ ap (λ (c : Readings). aims_due w 0 (after_records w 0 zeroth c fw)) (begins-same w ok));
     }

@@ -1,15 +1,15 @@
--- What waits and what is under way stands there once: what each part of an entry leaves of that.
+-- What waits and what is under way is there once: what each part of an entry leaves of that.
 use Rattle.std.proofs.Common.{◌≡◌, ◌≢◌, ℕ, zero, suc, ◌<◌, ◌≤◌, ◌+◌, inl, inr, refl, sym, ◌∙◌, ap, subst, arith, Some, None, List, [], ◌∷◌, ◌++◌, length, sum_by, true, false}
-use Rattle.std.specs.Prelude.{Option, Bool, ◌⊎◌, ◌==◌, ◌&&◌, ◌||◌, if◌then◌else◌, get_or, slice_set}
+use Rattle.std.specs.Prelude.{Option, Bool, ◌⊎◌, ◌==◌, ◌&&◌, ◌||◌, get_or, slice_set}
 use Rattle.std.specs.List.{list_any}
 use Rattle.std.proofs.lemmas.Bool.{cases_eq, eq-eqb, ne_eqb}
 use Rattle.std.proofs.lemmas.List.Sums.{sum_by-cons, sum_by_push}
-use Rattle.std.proofs.lemmas.Option.{none-some, same_Some}
 use Rattle.sa_base.specs.declared.number.SpaceNo.{SpaceNo}
 use Rattle.sa_base.specs.declared.number.ActNo.{ActNo}
 use Rattle.sa_base.specs.declared.record.Note.{Note}
 use Rattle.sa_base.specs.declared.record.Note.TheVariants.{Preempted, Blocked, Unblocked}
-use Rattle.sa_devices.specs.Ios.{Io, io_at, is_number, without, fetches, is_fetch_of}
+use Rattle.sa_devices.proofs.SoundLemmas.{sum-without}
+use Rattle.sa_devices.specs.Ios.{Io, io_at, without, fetches, is_fetch_of}
 use Rattle.sa_devices.specs.declared.kind.IoKind.TheVariants.{Upcall}
 use Rattle.sa_kernel_model.specs.State.{KernelState, taken_of}
 use Rattle.sa_kernel_model.specs.Sound.{io_claim, kind_claim}
@@ -54,7 +54,8 @@ distinct-emptied (u ∷ ts) (suc s) distinct (suc t) = distinct-emptied ts s (λ
 
 -- a notice more
 pub noted-cases : (us : List (List Note)) (s t : ℕ) (n : Note) → s < length us
-    → ((t ≢ s) × (get_or (slice_set us s (get_or us s [] ++ n ∷ [])) t [] ≡ get_or us t [])) ⊎ ((t ≡ s) × (get_or (slice_set us s (get_or us s [] ++ n ∷ [])) t [] ≡ get_or us t [] ++ n ∷ []))
+    → ((t ≢ s) × (get_or (slice_set us s (get_or us s [] ++ n ∷ [])) t [] ≡ get_or us t []))
+    ⊎ ((t ≡ s) × (get_or (slice_set us s (get_or us s [] ++ n ∷ [])) t [] ≡ get_or us t [] ++ n ∷ []))
 noted-cases [] s t n within = absurd (omega arith)
 noted-cases (u ∷ us) zero zero n within = inr (refl, refl)
 noted-cases (u ∷ us) zero (suc t) n within = inl ((λ is. omega arith), refl)
@@ -96,7 +97,8 @@ tidy-noted us ios new s n within real here others few tidy = record {
   fetched = few;
 }
 
-pub tidy-stopped : (us : List (List Note)) (ios : List Io) (s : ℕ) (a : ActNo) → s < length us → AreTidy us ios → AreTidy (slice_set us s (get_or us s [] ++ Preempted a ∷ [])) ios
+pub tidy-stopped : (us : List (List Note)) (ios : List Io) (s : ℕ) (a : ActNo) → s < length us → AreTidy us ios
+    → AreTidy (slice_set us s (get_or us s [] ++ Preempted a ∷ [])) ios
 tidy-stopped us ios s a within tidy =
     tidy-noted us ios ios s (Preempted a) within refl (λ b. omega arith) (λ t b apart. omega arith) tidy.fetched tidy
 
@@ -155,28 +157,21 @@ tidy-fetch us ios s number ends none tidy =
     }
 
 -- an I/O is over
-pub sum-left : (f : Io → ℕ) (n : ℕ) (ios : List Io) (here : Io) → io_at n ios ≡ Some here → sum_by f (without n ios) + f here ≡ sum_by f ios
-sum-left f n [] here is = absurd (none-some here is)
-sum-left f n (io ∷ ios) here is = go (is_number n io) is (λ at. sum-left f n ios here at) where
-  go : (b : Bool) → (if b then Some io else io_at n ios) ≡ Some here → (io_at n ios ≡ Some here → sum_by f (without n ios) + f here ≡ sum_by f ios)
-      → sum_by f (if b then ios else io ∷ without n ios) + f here ≡ sum_by f (io ∷ ios)
-  go true at rest = let all = sum_by-cons f io ios in let e = ap f (same_Some io here at) in omega arith
-  go false at rest = let all = sum_by-cons f io ios in let left = sum_by-cons f io (without n ios) in let more = rest at in omega arith
-
 pub tidy-back : (us : List (List Note)) (ios : List Io) (s : SpaceNo) (a : ActNo) (n : ℕ) (here : Io) → s.0 < length us → io_at n ios ≡ Some here
     → ((b : ℕ) → io_claim s.0 b here ≡ once_if (b == a.0)) → ((t b : ℕ) → t ≢ s.0 → io_claim t b here ≡ 0) → AreTidy us ios
     → AreTidy (slice_set us s.0 (get_or us s.0 [] ++ Unblocked a ∷ [])) (without n ios)
 tidy-back us ios s a n here within at one none tidy =
     tidy-noted us ios (without n ios) s.0 (Unblocked a) within refl
-    (λ b. let left = sum-left (io_claim s.0 b) n ios here at in let claim = one b in omega arith)
-    (λ t b apart. let left = sum-left (io_claim t b) n ios here at in let claim = none t b apart in omega arith)
-    (λ t. let left = sum-left (fetch_claim t) n ios here at in let old = tidy.fetched t in omega arith) tidy
+    (λ b. let left = sum-without (io_claim s.0 b) n ios here at in let claim = one b in omega arith)
+    (λ t b apart. let left = sum-without (io_claim t b) n ios here at in let claim = none t b apart in omega arith)
+    (λ t. let left = sum-without (fetch_claim t) n ios here at in let old = tidy.fetched t in omega arith) tidy
 
-pub tidy-fetched : (us : List (List Note)) (ios : List Io) (n : ℕ) (here : Io) → io_at n ios ≡ Some here → ((t b : ℕ) → io_claim t b here ≡ 0) → AreTidy us ios → AreTidy us (without n ios)
+pub tidy-fetched : (us : List (List Note)) (ios : List Io) (n : ℕ) (here : Io) → io_at n ios ≡ Some here → ((t b : ℕ) → io_claim t b here ≡ 0) → AreTidy us ios
+    → AreTidy us (without n ios)
 tidy-fetched us ios n here at none tidy = record {
   added = tidy.added;
-  blocked = λ t a. let left = sum-left (io_claim t a) n ios here at in let claim = none t a in let old = tidy.blocked t a in omega arith;
-  fetched = λ t. let left = sum-left (fetch_claim t) n ios here at in let old = tidy.fetched t in omega arith;
+  blocked = λ t a. let left = sum-without (io_claim t a) n ios here at in let claim = none t a in let old = tidy.blocked t a in omega arith;
+  fetched = λ t. let left = sum-without (fetch_claim t) n ios here at in let old = tidy.fetched t in omega arith;
 }
 
 module _ {C : Type 0} where

@@ -35,7 +35,8 @@ each-weaker L M w e p r [] weaker law = tt
 each-weaker L M w e p r (x ∷ xs) weaker law = (weaker r x xs law.0, each-weaker L M w e p (after_record w e p r x) xs weaker law.1)
 
 -- what is told was untold
-untold-head : (r : Readings) (s : SpaceNo) (us : List (List Note)) (n : Note) (ns : List Note) → s.0 < length us → r.untold ≡ slice_set us s.0 (n ∷ ns) → Contains (untold_of r s) n
+untold-head : (r : Readings) (s : SpaceNo) (us : List (List Note)) (n : Note) (ns : List Note) → s.0 < length us → r.untold ≡ slice_set us s.0 (n ∷ ns)
+    → Contains (untold_of r s) n
 untold-head r s us n ns within is =
     let has : untold_of r s ≡ n ∷ ns = ap (λ (v : List (List Note)). get_or v s.0 []) is ∙ get_or-set_same us s.0 (n ∷ ns) [] within in
     let head : Contains (n ∷ ns) n = (0, omega arith, refl) in
@@ -47,8 +48,8 @@ tells-head r s (Preempted a) has = has
 tells-head r s (Blocked a) has = has
 tells-head r s (Unblocked a) has = has
 
-pub told-lawful : (w : WorkloadView) (e : ℕ) (p : ProcNo) (r : Readings) (s : SpaceNo) (a : ActNo) (us : List (List Note)) (ns : List Note) (rest : List Record) → s.0 < length us
-    → r.untold ≡ slice_set us s.0 ns → AreOnce (slice_set us s.0 ns) → r.upped ≡ Some a → (overview r).spaces a.0 ≡ Some s
+pub told-lawful : (w : WorkloadView) (e : ℕ) (p : ProcNo) (r : Readings) (s : SpaceNo) (a : ActNo) (us : List (List Note)) (ns : List Note) (rest : List Record)
+    → s.0 < length us → r.untold ≡ slice_set us s.0 ns → AreOnce (slice_set us s.0 ns) → r.upped ≡ Some a → (overview r).spaces a.0 ≡ Some s
     → AreLawful w e p (after_records w e p r (map Told ns)) rest → AreLawful w e p r (map Told ns ++ rest)
 told-lawful w e p r s a us [] rest within is once upped space law = law
 told-lawful w e p r s a us (n ∷ ns) rest within is once upped space law =

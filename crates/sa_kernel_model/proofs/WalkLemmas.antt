@@ -24,7 +24,7 @@ use Rattle.sa_acts.specs.Table.{runs_in, holding, held_of}
 use Rattle.sa_base.specs.declared.context.Stopped.{Stopped}
 use Rattle.sa_assign.specs.Aims.{is_aim}
 use Rattle.sa_batch.specs.Notices.{notes_told}
-use Rattle.sa_devices.specs.Ios.{Io, fetches}
+use Rattle.sa_devices.specs.Ios.{fetches}
 use Rattle.sa_devices.specs.declared.kind.IoKind.TheVariants.{Upcall}
 use Rattle.sa_kernel_model.specs.State.{KernelState, Scene, owner_of, life_of, untold_of, is_fetching}
 use Rattle.sa_kernel_model.specs.Closing.{was_idle as idle_in}
@@ -58,12 +58,13 @@ own-told [] = refl
 own-told (n ∷ ns) = own-told ns
 
 -- items in order
-pub items-both : (e : ℕ) (p : ProcNo) (x y z : List Item) (xs ys : List Record) → y ≡ x ++ items_at e p xs → z ≡ y ++ items_at e p ys → z ≡ x ++ items_at e p (xs ++ ys)
+pub items-both : (e : ℕ) (p : ProcNo) (x y z : List Item) (xs ys : List Record) → y ≡ x ++ items_at e p xs → z ≡ y ++ items_at e p ys
+    → z ≡ x ++ items_at e p (xs ++ ys)
 items-both e p x y z xs ys one two =
     two ∙ ap (λ v. v ++ items_at e p ys) one ∙ append_assoc x (items_at e p xs) (items_at e p ys)
     ∙ ap (λ v. x ++ v) (sym (map-append (λ (r : Record). let i : Item = record { event = e; proc = p; what = r } in i) xs ys))
 
--- the closing's records behind a run of others
+-- the closing's records after a run of others
 pub closing-told : (xs : List Record) → AreClosing xs → told_run xs ≡ []
 closing-told [] is = refl
 closing-told (Told n ∷ xs) is = absurd (cc)
@@ -91,8 +92,8 @@ leave-behind (x ∷ xs) ys is closes =
     ∙ ap (λ zs. x ∷ zs) (leave-behind xs ys (and_parts (is_of_leave x) (list_all is_of_leave xs) is).1 closes)
 
 -- the records of a fetch
-fetch-laws : (w : WorkloadView) (e : ℕ) (p : ProcNo) (r : Readings) (s : SpaceNo) (b : Bool) (rest : List Record) → AreLawful w e p (after_records w e p r (fetch_records s b)) rest
-    → AreLawful w e p r (fetch_records s b ++ rest)
+fetch-laws : (w : WorkloadView) (e : ℕ) (p : ProcNo) (r : Readings) (s : SpaceNo) (b : Bool) (rest : List Record)
+    → AreLawful w e p (after_records w e p r (fetch_records s b)) rest → AreLawful w e p r (fetch_records s b ++ rest)
 fetch-laws w e p r s true rest law = law
 fetch-laws w e p r s false rest law = (record { once = tt; named = tt; all = tt; gives = tt; raises = tt }, law)
 
@@ -110,7 +111,7 @@ not-empty x xs is = cc
 abbrev pub set_aside : ProcNo → SpaceNo → Note → Overview → Overview
 set_aside p s n v = record v { running = slice_set v.running p.0 None; untold = slice_set v.untold s.0 (get_or v.untold s.0 [] ++ n ∷ []) }
 
--- an up with its told records, alone and behind a move
+-- an up with its told records, alone and after a move
 pub record IsUpWithTold (xs : List Record) : Type 0 where
   pub alone : IsPassage xs
   pub moved : (o : Option SpaceNo) (n : SpaceNo) → IsPassage (Move o (Some n) ∷ xs)
@@ -128,7 +129,7 @@ no-life : (o : Option Life) → space_of o ≡ None → o ≡ None
 no-life None is = refl
 no-life (Some l) is = absurd (cc)
 
--- what is read behind an upcall
+-- what is read after an upcall
 abbrev ran : ProcNo → ActNo → SpaceNo → Overview → Overview
 ran p a s v = record v {
   assign = record v.assign { marks = slice_set v.assign.marks p.0 false };
@@ -139,30 +140,33 @@ ran p a s v = record v {
 abbrev all_told : List (List Note) → List Note → Overview → Overview
 all_told us notes v = record v { untold = us; taken = taken_behind v.spaces notes v.taken }
 
--- the notices of an upcall, alone or behind that of an added processor
+-- the notices of an upcall, alone or after that of an added processor
 alone-reads : (w : WorkloadView) (e : ℕ) (p : ProcNo) (r : Readings) (us : List (List Note)) (s : SpaceNo) → s.0 < length us → r.untold ≡ us → AreApart us
     → overview (after_records w e p r (map Told (get_or us s.0 []))) ≡ all_told (slice_set us s.0 []) (get_or us s.0 []) (overview r)
 alone-reads w e p r us s within is apart =
     let full : slice_set us s.0 (get_or us s.0 []) ≡ us = set-get_or us s.0 [] in
     told-run w e p r us s.0 (get_or us s.0 []) within (is ∙ sym full) (subst (λ v. AreOnce v) (sym full) apart.once)
 
-same-behind : (w : WorkloadView) (e : ℕ) (p : ProcNo) (r : Readings) (us : List (List Note)) → r.untold ≡ us → AreApart us → (after_record w e p r (Told (Add p))).untold ≡ us
+same-behind : (w : WorkloadView) (e : ℕ) (p : ProcNo) (r : Readings) (us : List (List Note)) → r.untold ≡ us → AreApart us
+    → (after_record w e p r (Told (Add p))).untold ≡ us
 same-behind w e p r us is apart = none-without (Add p) r.untold (ap (copies (Add p)) is ∙ apart.added p) ∙ is
 
-told-reads : (w : WorkloadView) (e : ℕ) (p : ProcNo) (r : Readings) (us : List (List Note)) (s : SpaceNo) (added : Bool) → s.0 < length us → r.untold ≡ us → AreApart us
-    → overview (after_records w e p r (map Told (notes_told added p (get_or us s.0 [])))) ≡ all_told (slice_set us s.0 []) (notes_told added p (get_or us s.0 [])) (overview r)
+told-reads : (w : WorkloadView) (e : ℕ) (p : ProcNo) (r : Readings) (us : List (List Note)) (s : SpaceNo) (added : Bool) → s.0 < length us → r.untold ≡ us
+    → AreApart us → overview (after_records w e p r (map Told (notes_told added p (get_or us s.0 []))))
+    ≡ all_told (slice_set us s.0 []) (notes_told added p (get_or us s.0 [])) (overview r)
 told-reads w e p r us s false within is apart = alone-reads w e p r us s within is apart
 told-reads w e p r us s true within is apart = alone-reads w e p (after_record w e p r (Told (Add p))) us s within (same-behind w e p r us is apart) apart
 
-alone-laws : (w : WorkloadView) (e : ℕ) (p : ProcNo) (r : Readings) (us : List (List Note)) (s : SpaceNo) (a : ActNo) (rest : List Record) → s.0 < length us → r.untold ≡ us → AreApart us
-    → r.upped ≡ Some a → (overview r).spaces a.0 ≡ Some s → AreLawful w e p (after_records w e p r (map Told (get_or us s.0 []))) rest
-    → AreLawful w e p r (map Told (get_or us s.0 []) ++ rest)
+alone-laws : (w : WorkloadView) (e : ℕ) (p : ProcNo) (r : Readings) (us : List (List Note)) (s : SpaceNo) (a : ActNo) (rest : List Record) → s.0 < length us
+    → r.untold ≡ us → AreApart us → r.upped ≡ Some a → (overview r).spaces a.0 ≡ Some s
+    → AreLawful w e p (after_records w e p r (map Told (get_or us s.0 []))) rest → AreLawful w e p r (map Told (get_or us s.0 []) ++ rest)
 alone-laws w e p r us s a rest within is apart upped space law =
     let full : slice_set us s.0 (get_or us s.0 []) ≡ us = set-get_or us s.0 [] in
     told-lawful w e p r s a us (get_or us s.0 []) rest within (is ∙ sym full) (subst (λ v. AreOnce v) (sym full) apart.once) upped space law
 
-told-laws : (w : WorkloadView) (e : ℕ) (p : ProcNo) (r : Readings) (us : List (List Note)) (s : SpaceNo) (a : ActNo) (added : Bool) (rest : List Record) → s.0 < length us → r.untold ≡ us → AreApart us
-    → r.upped ≡ Some a → (overview r).spaces a.0 ≡ Some s → AreLawful w e p (after_records w e p r (map Told (notes_told added p (get_or us s.0 [])))) rest
+told-laws : (w : WorkloadView) (e : ℕ) (p : ProcNo) (r : Readings) (us : List (List Note)) (s : SpaceNo) (a : ActNo) (added : Bool) (rest : List Record)
+    → s.0 < length us → r.untold ≡ us → AreApart us → r.upped ≡ Some a → (overview r).spaces a.0 ≡ Some s
+    → AreLawful w e p (after_records w e p r (map Told (notes_told added p (get_or us s.0 [])))) rest
     → AreLawful w e p r (map Told (notes_told added p (get_or us s.0 [])) ++ rest)
 told-laws w e p r us s a false rest within is apart upped space law = alone-laws w e p r us s a rest within is apart upped space law
 told-laws w e p r us s a true rest within is apart upped space law = (
@@ -175,7 +179,7 @@ has-life None s is = absurd (none-some s is)
 has-life (Some life) s is = (life, refl, same_Some life.space s is)
 
 module _ {C : Type 0} where
-  -- a part of an entry, between two scenes: its records, behind which stands the closing
+  -- a part of an entry, between two scenes: its records, after which comes the closing
   pub record Walk (w : WorkloadView) (e : ℕ) (p : ProcNo) (r : Readings) (x y : Scene C) (P Q : List Record → Type 0) : Type 0 where
     pub records : List Record
     pub adds : y.items ≡ x.items ++ items_at e p records
@@ -189,8 +193,10 @@ module _ {C : Type 0} where
     pub shape : Q records
     pub is : (rest : List Record) → AreClosing rest → P (records ++ rest)
 
-  pub reshaped : (w : WorkloadView) (e : ℕ) (p : ProcNo) (r : Readings) (x y : Scene C) (P Q S : List Record → Type 0) → ((xs : List Record) → Q xs → S xs) → Walk w e p r x y P Q → Walk w e p r x y P S
-  reshaped w e p r x y P Q S to walk = record {
+  -- the same part, said otherwise
+  pub reshaped : (w : WorkloadView) (e : ℕ) (p : ProcNo) (r : Readings) (x y : Scene C) (P Q R S : List Record → Type 0)
+      → ((xs : List Record) → P xs → R xs) → ((xs : List Record) → Q xs → S xs) → Walk w e p r x y P Q → Walk w e p r x y R S
+  reshaped w e p r x y P Q R S begins shows walk = record {
     records = walk.records;
     adds = walk.adds;
     reads = walk.reads;
@@ -200,8 +206,8 @@ module _ {C : Type 0} where
     tidy = walk.tidy;
     some = walk.some;
     own = walk.own;
-    shape = to walk.records walk.shape;
-    is = walk.is;
+    shape = shows walk.records walk.shape;
+    is = λ rest closes. begins (walk.records ++ rest) (walk.is rest closes);
   }
 
   -- what an upcall needs
@@ -227,19 +233,22 @@ module _ {C : Type 0} where
       λ i. G (spaces i) (empty i)
 
   -- the notices that an up is followed by
-  notes-are : (k : KernelState C) (r : Readings) (p : ProcNo) (s : SpaceNo) (added : Bool) → overview r ≡ read_off k → is_aim s.0 r.moved ≡ added → notes_told added p (untold_of k s.0) ≡ notes_due r p s
+  notes-are : (k : KernelState C) (r : Readings) (p : ProcNo) (s : SpaceNo) (added : Bool) → overview r ≡ read_off k → is_aim s.0 r.moved ≡ added
+      → notes_told added p (untold_of k s.0) ≡ notes_due r p s
   notes-are k r p s false reads is =
       ap (λ (v : Overview). get_or v.untold s.0 []) (sym reads) ∙ ap (λ b. if b then Add p ∷ get_or r.untold s.0 [] else get_or r.untold s.0 []) (sym is)
   notes-are k r p s true reads is =
-      ap (λ (v : Overview). Add p ∷ get_or v.untold s.0 []) (sym reads) ∙ ap (λ b. if b then Add p ∷ get_or r.untold s.0 [] else get_or r.untold s.0 []) (sym is)
+      ap (λ (v : Overview). Add p ∷ get_or v.untold s.0 []) (sym reads)
+      ∙ ap (λ b. if b then Add p ∷ get_or r.untold s.0 [] else get_or r.untold s.0 []) (sym is)
 
   -- which of those that wait were idle
-  up-idle : (w : WorkloadView) (e : ℕ) (p : ProcNo) (r : Readings) (k : KernelState C) (s : SpaceNo) (a : ActNo) (notes : List Note) → copies (Preempted a) k.untold ≡ 0 → IdleAlike k r
-      → IdleAlike (run_in p s a notes k) (after_records w e p r (Up s a ∷ map Told notes))
+  up-idle : (w : WorkloadView) (e : ℕ) (p : ProcNo) (r : Readings) (k : KernelState C) (s : SpaceNo) (a : ActNo) (notes : List Note)
+      → copies (Preempted a) k.untold ≡ 0 → IdleAlike k r → IdleAlike (run_in p s a notes k) (after_records w e p r (Up s a ∷ map Told notes))
   up-idle w e p r k s a notes new idle t b has =
       let was = contains-emptied k.untold s.0 t (Preempted b) has in
       let apart = not-there k.untold t a b new was in
-      ap (λ f. f b.0) (told-all_idles w e p (after_record w e p r (Up s a)) notes) ∙ ap was_idle (put-other r.lives a.0 b.0 (Some (new_life s p)) apart) ∙ idle t b was
+      ap (λ f. f b.0) (told-all_idles w e p (after_record w e p r (Up s a)) notes) ∙ ap was_idle (put-other r.lives a.0 b.0 (Some (new_life s p)) apart)
+      ∙ idle t b was
       ∙ ap (λ o. idle_in (held_of o)) (sym (put-other k.acts a.0 b.0 (Some (runs_in s)) apart))
 
   pub up-walk : (w : WorkloadView) (e : ℕ) (p : ProcNo) (r : Readings) (x : Scene C) (s : SpaceNo) (a : ActNo) (added : Bool) → CanUp x.state r p s a added
@@ -250,7 +259,8 @@ module _ {C : Type 0} where
       let notes = notes_told added p (untold_of k s.0) in
       let first = after_record w e p r (Up s a) in
       let untold : first.untold ≡ us = ap (λ (v : Overview). v.untold) can.reads in
-      let space : (overview first).spaces a.0 ≡ Some s = ap (λ (v : Overview). v.spaces a.0) (up-record w e p r s a) ∙ put-same (overview r).spaces a.0 (Some s) in
+      let space : (overview first).spaces a.0 ≡ Some s =
+      ap (λ (v : Overview). v.spaces a.0) (up-record w e p r s a) ∙ put-same (overview r).spaces a.0 (Some s) in
       record {
         records = Up s a ∷ map Told notes;
         adds = append_assoc x.items (record { event = e; proc = p; what = Up s a } ∷ []) (items_at e p (map Told notes));
@@ -287,11 +297,12 @@ module _ {C : Type 0} where
   fetch-adds e p s true x = sym (append-nil x.items)
   fetch-adds e p s false x = refl
 
-  fetch-reads : (w : WorkloadView) (e : ℕ) (p : ProcNo) (r : Readings) (s : SpaceNo) (b : Bool) (x : Scene C) → x.state.fixed.fetch ≡ w.fetch → overview r ≡ read_off x.state
-      → overview (after_records w e p r (fetch_records s b)) ≡ read_off (fetch_page e p s b x).state
+  fetch-reads : (w : WorkloadView) (e : ℕ) (p : ProcNo) (r : Readings) (s : SpaceNo) (b : Bool) (x : Scene C) → x.state.fixed.fetch ≡ w.fetch
+      → overview r ≡ read_off x.state → overview (after_records w e p r (fetch_records s b)) ≡ read_off (fetch_page e p s b x).state
   fetch-reads w e p r s true x same reads = reads
   fetch-reads w e p r s false x same reads =
-      let G : Overview → ℕ → Overview = λ v n. record v { begun = v.begun + 1; under_way = v.under_way ++ record { number = v.begun; ends = e + n; kind = Upcall s } ∷ [] } in
+      let G : Overview → ℕ → Overview =
+      λ v n. record v { begun = v.begun + 1; under_way = v.under_way ++ record { number = v.begun; ends = e + n; kind = Upcall s } ∷ [] } in
       let back = sym same in
       λ i. G (reads i) (back i)
 
@@ -307,14 +318,17 @@ module _ {C : Type 0} where
   fetch-tidy : (e : ℕ) (p : ProcNo) (s : SpaceNo) (b : Bool) (x : Scene C) → is_fetching x.state s.0 ≡ b → IsTidy x.state → IsTidy (fetch_page e p s b x).state
   fetch-tidy e p s true x is tidy = tidy
   fetch-tidy e p s false x is tidy =
-      tidy-of (fetch_page e p s false x).state (tidy-fetch x.state.untold x.state.under_way s x.state.begun (e + x.state.fixed.fetch) is (tidy-in x.state tidy)) tidy.taken
+      tidy-of (fetch_page e p s false x).state
+      (tidy-fetch x.state.untold x.state.under_way s x.state.begun (e + x.state.fixed.fetch) is (tidy-in x.state tidy)) tidy.taken
 
-  pub leave-walk : (w : WorkloadView) (e : ℕ) (p : ProcNo) (r : Readings) (x : Scene C) (s : SpaceNo) → x.state.fixed.fetch ≡ w.fetch → overview r ≡ read_off x.state
-      → Walk w e p r x (leave e p s x) (λ all. leave_run all ≡ leave_records p (owner_of x.state p) s (is_fetching x.state s.0)) IsPassage
+  pub leave-walk : (w : WorkloadView) (e : ℕ) (p : ProcNo) (r : Readings) (x : Scene C) (s : SpaceNo) → x.state.fixed.fetch ≡ w.fetch
+      → overview r ≡ read_off x.state → Walk w e p r x (leave e p s x) (λ all. leave_run all
+      ≡ leave_records p (owner_of x.state p) s (is_fetching x.state s.0)) IsPassage
   leave-walk w e p r x s same reads =
       let owner = owner_of x.state p in
       let fetching = is_fetching x.state s.0 in
-      let F : Overview → Overview = λ (v : Overview). record v { assign = record v.assign { owners = slice_set v.assign.owners p.0 None; aims = slice_set v.assign.aims p.0 None } } in
+      let F : Overview → Overview =
+      λ (v : Overview). record v { assign = record v.assign { owners = slice_set v.assign.owners p.0 None; aims = slice_set v.assign.aims p.0 None } } in
       let left = after_record w e p (after_record w e p r (Move owner None)) (Aim p None) in
       let left_scene : Scene C = record {
         state = without_aim p (with_owner p None x.state);
@@ -336,7 +350,9 @@ module _ {C : Type 0} where
         );
         fixed = fetch-fixed e p s fetching left_scene;
         idle = fetch-idle w e p left s fetching left_scene;
-        tidy = λ tidy. fetch-tidy e p s fetching left_scene refl (record { added = tidy.added; blocked = tidy.blocked; fetched = tidy.fetched; taken = tidy.taken });
+        tidy =
+            λ tidy. fetch-tidy e p s fetching left_scene refl
+            (record { added = tidy.added; blocked = tidy.blocked; fetched = tidy.fetched; taken = tidy.taken });
         some = not-empty (Move owner None) (Aim p None ∷ fetch_records s fetching);
         own = fetch-own s fetching;
         shape = fetch-alone s fetching;
@@ -359,23 +375,13 @@ module _ {C : Type 0} where
   abbrev pub Goes : KernelState C → ProcNo → SpaceNo → Bool → Bool → List Record → Type 0
   Goes k p s owned can all = (c : Readings) → c.under_way ≡ k.under_way → GoesTo can owned p c (owner_of k p) s all
 
-  pub go-walk : (w : WorkloadView) (e : ℕ) (p : ProcNo) (r : Readings) (x : Scene C) (s : SpaceNo) (a : ActNo) (owned can : Bool) → CanGo w x.state r p s a owned
-      → Walk w e p r x (go_to_by e p s a owned can x) (Goes x.state p s owned can) IsPassage
+  pub go-walk : (w : WorkloadView) (e : ℕ) (p : ProcNo) (r : Readings) (x : Scene C) (s : SpaceNo) (a : ActNo) (owned can : Bool)
+      → CanGo w x.state r p s a owned → Walk w e p r x (go_to_by e p s a owned can x) (Goes x.state p s owned can) IsPassage
   go-walk w e p r x s a owned false go =
-      let walk = leave-walk w e p r x s go.fetch go.reads in
-      record {
-        records = walk.records;
-        adds = walk.adds;
-        reads = walk.reads;
-        lawful = walk.lawful;
-        fixed = walk.fixed;
-        idle = walk.idle;
-        tidy = walk.tidy;
-        some = walk.some;
-        own = walk.own;
-        shape = walk.shape;
-        is = λ rest closes c same. walk.is rest closes ∙ ap (λ (ios : List Io). leave_records p (owner_of x.state p) s (list_any (fetches s.0) ios)) (sym same);
-      }
+      let k = x.state in
+      let leaves : Bool → List Record = leave_records p (owner_of k p) s in
+      reshaped w e p r x (leave e p s x) (λ all. leave_run all ≡ leaves (is_fetching k s.0)) IsPassage (Goes k p s owned false) IsPassage
+      (λ all left c same. left ∙ ap (λ ios. leaves (list_any (fetches s.0) ios)) (sym same)) (λ xs passes. passes) (leave-walk w e p r x s go.fetch go.reads)
   go-walk w e p r x s a true true go =
       let can : CanUp x.state r p s a false = record {
         reads = go.reads;
@@ -388,8 +394,8 @@ module _ {C : Type 0} where
         moved = ap (is_aim s.0) go.moved;
         some = go.some refl;
       } in
-      let walk = up-walk w e p r x s a false can in
-      record { records = walk.records; adds = walk.adds; reads = walk.reads; lawful = walk.lawful; fixed = walk.fixed; idle = walk.idle; tidy = walk.tidy; some = walk.some; own = walk.own; shape = walk.shape.alone; is = λ rest closes c same. walk.is rest closes }
+      reshaped w e p r x (upcall e p s a false x) (BeginsWithUp s) IsUpWithTold (Goes x.state p s true true) IsPassage
+      (λ all begins c same. begins) (λ xs told. told.alone) (up-walk w e p r x s a false can)
   go-walk w e p r x s a false true go =
       let owner = owner_of x.state p in
       let move = Move owner (Some s) in
@@ -431,9 +437,11 @@ module _ {C : Type 0} where
   spaces-held k a held =
       put-through act_space k.acts a.0 (holding held (k.acts a.0)) ∙ ap (put (spaces_in k) a.0) (held-space held (k.acts a.0)) ∙ put-self (spaces_in k) a.0
 
-  pub aside-reads : (k : KernelState C) (p : ProcNo) (s : SpaceNo) (a : ActNo) (n : Note) (held : Stopped C) → set_aside p s n (read_off k) ≡ read_off (put_aside p s a n held k)
+  pub aside-reads : (k : KernelState C) (p : ProcNo) (s : SpaceNo) (a : ActNo) (n : Note) (held : Stopped C)
+      → set_aside p s n (read_off k) ≡ read_off (put_aside p s a n held k)
   aside-reads k p s a n held =
-      let G : (ℕ → Option SpaceNo) → Overview = λ f. record (set_aside p s n (read_off k)) { spaces = f; taken = taken_behind f k.telling (take (length k.fixed.priorities) k.taken) } in
+      let G : (ℕ → Option SpaceNo) → Overview =
+      λ f. record (set_aside p s n (read_off k)) { spaces = f; taken = taken_behind f k.telling (take (length k.fixed.priorities) k.taken) } in
       ap G (sym (spaces-held k a held))
 
   -- who runs on a processor

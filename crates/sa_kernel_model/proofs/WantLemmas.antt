@@ -34,9 +34,11 @@ spaces_from s n = map space_no (range_with_len s n)
 pub any-alike : {A : Type 0} (f g : A → Bool) (xs : List A) → ((x : A) → Contains xs x → f x ≡ g x) → list_any f xs ≡ list_any g xs
 any-alike f g [] same = refl
 any-alike f g (x ∷ xs) same =
-    ap (λ b. b || list_any f xs) (same x (0, omega arith, refl)) ∙ ap (λ b. g x || b) (any-alike f g xs (λ y has. same y (Contains-append_right (x ∷ []) xs y has)))
+    ap (λ b. b || list_any f xs) (same x (0, omega arith, refl))
+    ∙ ap (λ b. g x || b) (any-alike f g xs (λ y has. same y (Contains-append_right (x ∷ []) xs y has)))
 
-pub filter-alike : (f g : SpaceNo → Bool) (s n : ℕ) → ((t : ℕ) → s ≤ t → f (space_no t) ≡ g (space_no t)) → filter f (spaces_from s n) ≡ filter g (spaces_from s n)
+pub filter-alike : (f g : SpaceNo → Bool) (s n : ℕ) → ((t : ℕ) → s ≤ t → f (space_no t) ≡ g (space_no t))
+    → filter f (spaces_from s n) ≡ filter g (spaces_from s n)
 filter-alike f g s zero same = refl
 filter-alike f g s (suc n) same =
     let rest = filter-alike f g (s + 1) n (λ t from. same t (omega arith)) in
@@ -52,44 +54,51 @@ front : (b : Bool) (s : ℕ) (ss : List SpaceNo) → map want_one (cond b (space
 front true s ss = refl
 front false s ss = refl
 
-pub wants-lawful : (w : WorkloadView) (e : ℕ) (p : ProcNo) (m : Readings) (ss : List SpaceNo) (rest : List Record) → AreLawful w e p (after_records w e p m (map want_one ss)) rest
-    → AreLawful w e p m (map want_one ss ++ rest)
+pub wants-lawful : (w : WorkloadView) (e : ℕ) (p : ProcNo) (m : Readings) (ss : List SpaceNo) (rest : List Record)
+    → AreLawful w e p (after_records w e p m (map want_one ss)) rest → AreLawful w e p m (map want_one ss ++ rest)
 wants-lawful w e p m [] rest law = law
 wants-lawful w e p m (s ∷ ss) rest law =
     (record { once = tt; named = tt; all = tt; gives = tt; raises = tt }, wants-lawful w e p (after_record w e p m (want_one s)) ss rest law)
 
--- a want behind an event's first record marks nothing
+-- a want after an event's first record marks nothing
 unmarked : (last : Option Record) (old new : ℕ) (mark : Bool) → IsSome last → mark_after last old new mark ≡ mark
 unmarked None old new mark some = absurd (cc)
 unmarked (Some x) old new mark some = refl
 
 -- other spaces need no more and no less
-want-other : (w : WorkloadView) (e : ℕ) (p : ProcNo) (m : Readings) (s t : ℕ) → t ≢ s → must_want (after_record w e p m (want_one (space_no s))) (space_no t) ≡ must_want m (space_no t)
+want-other : (w : WorkloadView) (e : ℕ) (p : ProcNo) (m : Readings) (s t : ℕ) → t ≢ s
+    → must_want (after_record w e p m (want_one (space_no s))) (space_no t) ≡ must_want m (space_no t)
 want-other w e p m s t apart = ap (λ d. d == 0 && list_any (must_hear m) (untold_at m (space_no t))) (get_or-set_other m.demands s t 1 0 apart)
 
-want-here : (w : WorkloadView) (e : ℕ) (p : ProcNo) (m : Readings) (s : ℕ) → s < length m.demands → must_want (after_record w e p m (want_one (space_no s))) (space_no s) ≡ false
+want-here : (w : WorkloadView) (e : ℕ) (p : ProcNo) (m : Readings) (s : ℕ) → s < length m.demands
+    → must_want (after_record w e p m (want_one (space_no s))) (space_no s) ≡ false
 want-here w e p m s within = ap (λ d. d == 0 && list_any (must_hear m) (untold_at m (space_no s))) (get_or-set_same m.demands s 1 0 within)
 
-other-space : (w : WorkloadView) (e : ℕ) (p : ProcNo) (m : Readings) (s t : ℕ) (b : Bool) → t ≢ s → must_want (after_records w e p m (one_want b s)) (space_no t) ≡ must_want m (space_no t)
+other-space : (w : WorkloadView) (e : ℕ) (p : ProcNo) (m : Readings) (s t : ℕ) (b : Bool) → t ≢ s
+    → must_want (after_records w e p m (one_want b s)) (space_no t) ≡ must_want m (space_no t)
 other-space w e p m s t false apart = refl
 other-space w e p m s t true apart = want-other w e p m s t apart
 
--- behind the wants that are due no space wants none that must be told something
+-- after the wants that are due no space wants none that must be told something
 abbrev behind_wants : WorkloadView → ℕ → ProcNo → Readings → (SpaceNo → Bool) → ℕ → ℕ → Readings
 behind_wants w e p m f s n = after_records w e p m (map want_one (filter f (spaces_from s n)))
 
-earlier-stay : (w : WorkloadView) (e : ℕ) (p : ProcNo) (m : Readings) (f : SpaceNo → Bool) (s n t : ℕ) → t < s → must_want (behind_wants w e p m f s n) (space_no t) ≡ must_want m (space_no t)
+earlier-stay : (w : WorkloadView) (e : ℕ) (p : ProcNo) (m : Readings) (f : SpaceNo → Bool) (s n t : ℕ) → t < s
+    → must_want (behind_wants w e p m f s n) (space_no t) ≡ must_want m (space_no t)
 earlier-stay w e p m f s zero t below = refl
 earlier-stay w e p m f s (suc n) t below =
-    go (f (space_no s)) (earlier-stay w e p m f (s + 1) n t (omega arith)) (earlier-stay w e p (after_record w e p m (want_one (space_no s))) f (s + 1) n t (omega arith)) where
+    go (f (space_no s)) (earlier-stay w e p m f (s + 1) n t (omega arith))
+    (earlier-stay w e p (after_record w e p m (want_one (space_no s))) f (s + 1) n t (omega arith)) where
       go : (b : Bool) → must_want (behind_wants w e p m f (s + 1) n) (space_no t) ≡ must_want m (space_no t)
-          → must_want (behind_wants w e p (after_record w e p m (want_one (space_no s))) f (s + 1) n) (space_no t) ≡ must_want (after_record w e p m (want_one (space_no s))) (space_no t)
-          → must_want (after_records w e p m (map want_one (cond b (space_no s ∷ filter f (spaces_from (s + 1) n)) (filter f (spaces_from (s + 1) n))))) (space_no t) ≡ must_want m (space_no t)
+          → must_want (behind_wants w e p (after_record w e p m (want_one (space_no s))) f (s + 1) n) (space_no t)
+          ≡ must_want (after_record w e p m (want_one (space_no s))) (space_no t)
+          → must_want (after_records w e p m (map want_one (cond b (space_no s ∷ filter f (spaces_from (s + 1) n)) (filter f (spaces_from (s + 1) n)))))
+          (space_no t) ≡ must_want m (space_no t)
       go true skip rest = rest ∙ want-other w e p m s t (λ is. omega arith)
       go false skip rest = skip
 
-wants-done : (w : WorkloadView) (e : ℕ) (p : ProcNo) (m : Readings) (f : SpaceNo → Bool) (s n t : ℕ) → s ≤ t → t < s + n → t < length m.demands → must_want m (space_no t) ≡ f (space_no t)
-    → must_want (behind_wants w e p m f s n) (space_no t) ≡ false
+wants-done : (w : WorkloadView) (e : ℕ) (p : ProcNo) (m : Readings) (f : SpaceNo → Bool) (s n t : ℕ) → s ≤ t → t < s + n → t < length m.demands
+    → must_want m (space_no t) ≡ f (space_no t) → must_want (behind_wants w e p m f s n) (space_no t) ≡ false
 wants-done w e p m f s zero t from below within is = absurd (omega arith)
 wants-done w e p m f s (suc n) t from below within is =
     let next = after_record w e p m (want_one (space_no s)) in
@@ -97,17 +106,21 @@ wants-done w e p m f s (suc n) t from below within is =
       | inl same ↦ here (f (space_no s)) (sym (ap (λ i. must_want m (space_no i)) same) ∙ is ∙ ap (λ i. f (space_no i)) same) same
       | inr apart ↦
           later (f (space_no s)) (wants-done w e p m f (s + 1) n t (omega arith) (omega arith) within is)
-          (wants-done w e p next f (s + 1) n t (omega arith) (omega arith) (let len = length-set m.demands s 1 in omega arith) (want-other w e p m s t apart ∙ is))
+          (wants-done w e p next f (s + 1) n t (omega arith) (omega arith) (let len = length-set m.demands s 1 in omega arith)
+          (want-other w e p m s t apart ∙ is))
     ] where
       here : (b : Bool) → must_want m (space_no s) ≡ b → t ≡ s
-          → must_want (after_records w e p m (map want_one (cond b (space_no s ∷ filter f (spaces_from (s + 1) n)) (filter f (spaces_from (s + 1) n))))) (space_no t) ≡ false
+          → must_want (after_records w e p m (map want_one (cond b (space_no s ∷ filter f (spaces_from (s + 1) n)) (filter f (spaces_from (s + 1) n)))))
+          (space_no t) ≡ false
       here true was same =
           earlier-stay w e p (after_record w e p m (want_one (space_no s))) f (s + 1) n t (omega arith)
           ∙ ap (λ i. must_want (after_record w e p m (want_one (space_no s))) (space_no i)) same ∙ want-here w e p m s (omega arith)
       here false was same = earlier-stay w e p m f (s + 1) n t (omega arith) ∙ ap (λ i. must_want m (space_no i)) same ∙ was
 
-      later : (b : Bool) → must_want (behind_wants w e p m f (s + 1) n) (space_no t) ≡ false → must_want (behind_wants w e p (after_record w e p m (want_one (space_no s))) f (s + 1) n) (space_no t) ≡ false
-          → must_want (after_records w e p m (map want_one (cond b (space_no s ∷ filter f (spaces_from (s + 1) n)) (filter f (spaces_from (s + 1) n))))) (space_no t) ≡ false
+      later : (b : Bool) → must_want (behind_wants w e p m f (s + 1) n) (space_no t) ≡ false
+          → must_want (behind_wants w e p (after_record w e p m (want_one (space_no s))) f (s + 1) n) (space_no t) ≡ false
+          → must_want (after_records w e p m (map want_one (cond b (space_no s ∷ filter f (spaces_from (s + 1) n)) (filter f (spaces_from (s + 1) n)))))
+          (space_no t) ≡ false
       later true skip rest = rest
       later false skip rest = skip
 
@@ -118,7 +131,8 @@ untold-wants w e p m (s ∷ ss) = untold-wants w e p (after_record w e p m (want
 pub nothing-heard : (c : Readings) (s : SpaceNo) → untold_at c s ≡ [] → must_want c s ≡ false
 nothing-heard c s none = ap (λ ns. demand_at c s == 0 && list_any (must_hear c) ns) none ∙ and_right (demand_at c s == 0) false refl
 
-pub none-wanted : (w : WorkloadView) (e : ℕ) (p : ProcNo) (m : Readings) (n t : ℕ) → length m.demands ≡ n → length m.untold ≡ n → must_want (behind_wants w e p m (must_want m) 0 n) (space_no t) ≡ false
+pub none-wanted : (w : WorkloadView) (e : ℕ) (p : ProcNo) (m : Readings) (n t : ℕ) → length m.demands ≡ n → length m.untold ≡ n
+    → must_want (behind_wants w e p m (must_want m) 0 n) (space_no t) ≡ false
 none-wanted w e p m n t demands untold = elim (cases_lt t n) [
   | inl below ↦ wants-done w e p m (must_want m) 0 n t (omega arith) (omega arith) (omega arith) refl
   | inr past ↦
@@ -146,13 +160,15 @@ module _ {C : Type 0} where
     pub last : IsSome (after_records w e p m xs).last
     pub fixed : y.state.fixed ≡ x.state.fixed
 
-  head-wanted : (w : WorkloadView) (e : ℕ) (p : ProcNo) (m : Readings) (x : Scene C) (s : ℕ) (b : Bool) → overview m ≡ read_off x.state → IdleAlike x.state m → IsSome m.last
-      → Wanted w e p m x (want_in e p b s x) (one_want b s)
+  head-wanted : (w : WorkloadView) (e : ℕ) (p : ProcNo) (m : Readings) (x : Scene C) (s : ℕ) (b : Bool) → overview m ≡ read_off x.state → IdleAlike x.state m
+      → IsSome m.last → Wanted w e p m x (want_in e p b s x) (one_want b s)
   head-wanted w e p m x s false reads idle last =
       record { adds = sym (append-nil x.items); reads = reads; idle = idle; last = last; fixed = refl }
   head-wanted w e p m x s true reads idle last =
-      let F : Bool → Overview → Overview = λ b (v : Overview). record v { assign = record v.assign { marks = slice_set v.assign.marks p.0 b }; demands = slice_set v.demands s 1 } in
-      let G : List Bool → Overview = λ marks. record (overview m) { assign = record (overview m).assign { marks = marks }; demands = slice_set m.demands s 1 } in
+      let F : Bool → Overview → Overview =
+      λ b (v : Overview). record v { assign = record v.assign { marks = slice_set v.assign.marks p.0 b }; demands = slice_set v.demands s 1 } in
+      let G : List Bool → Overview =
+      λ marks. record (overview m) { assign = record (overview m).assign { marks = marks }; demands = slice_set m.demands s 1 } in
       let H : Overview → Overview = λ (v : Overview). record v { demands = slice_set v.demands s 1 } in
       let was = get_or m.marks p.0 false in
       let same : slice_set m.marks p.0 (mark_after m.last (demand_at m (space_no s)) 1 was) ≡ m.marks =
@@ -165,8 +181,8 @@ module _ {C : Type 0} where
         fixed = refl;
       }
 
-  wanted-both : (w : WorkloadView) (e : ℕ) (p : ProcNo) (m : Readings) (x y z : Scene C) (xs ys : List Record) → Wanted w e p m x y xs → Wanted w e p (after_records w e p m xs) y z ys
-      → Wanted w e p m x z (xs ++ ys)
+  wanted-both : (w : WorkloadView) (e : ℕ) (p : ProcNo) (m : Readings) (x y z : Scene C) (xs ys : List Record) → Wanted w e p m x y xs
+      → Wanted w e p (after_records w e p m xs) y z ys → Wanted w e p m x z (xs ++ ys)
   wanted-both w e p m x y z xs ys one two =
       let next = after_records w e p m xs in
       let is : after_records w e p next ys ≡ after_records w e p m (xs ++ ys) = sym (records-append w e p m xs ys) in
@@ -178,8 +194,8 @@ module _ {C : Type 0} where
         fixed = two.fixed ∙ one.fixed;
       }
 
-  pub wants-from : (w : WorkloadView) (e : ℕ) (p : ProcNo) (m : Readings) (x : Scene C) (s n : ℕ) → overview m ≡ read_off x.state → IdleAlike x.state m → IsSome m.last
-      → Wanted w e p m x (for_spaces (want_for e p) s n x) (map want_one (filter (must_want m) (spaces_from s n)))
+  pub wants-from : (w : WorkloadView) (e : ℕ) (p : ProcNo) (m : Readings) (x : Scene C) (s n : ℕ) → overview m ≡ read_off x.state → IdleAlike x.state m
+      → IsSome m.last → Wanted w e p m x (for_spaces (want_for e p) s n x) (map want_one (filter (must_want m) (spaces_from s n)))
   wants-from w e p m x s zero reads idle last =
       record { adds = sym (append-nil x.items); reads = reads; idle = idle; last = last; fixed = refl }
   wants-from w e p m x s (suc n) reads idle last =

@@ -1,4 +1,4 @@
--- A whole turn: the own part of its event, and behind it the closing.
+-- A whole turn: the own part of its event, and after it the closing.
 use Rattle.std.proofs.Common.{◌≡◌, ◌≢◌, ℕ, ◌<◌, refl, sym, ◌∙◌, ap, subst, Some, None, List, [], ◌∷◌, ◌++◌, length, map, true}
 use Rattle.std.specs.Prelude.{Option, IsSome, slice_set, filter}
 use Rattle.std.specs.List.{list_all}
@@ -50,7 +50,7 @@ demands-kept : (w : WorkloadView) (e : ℕ) (p : ProcNo) (r : Readings) (xs : Li
 demands-kept w e p r [] = refl
 demands-kept w e p r (x ∷ xs) = demands-kept w e p (after_record w e p r x) xs ∙ demands-length r.demands x
 
--- behind some record there is a last one
+-- after some record there is a last one
 last-kept : (w : WorkloadView) (e : ℕ) (p : ProcNo) (r : Readings) (xs : List Record) → IsSome r.last → IsSome (after_records w e p r xs).last
 last-kept w e p r [] some = some
 last-kept w e p r (x ∷ xs) some = last-kept w e p (after_record w e p r x) xs refl
@@ -88,10 +88,12 @@ demands-one : (demands : List ℕ) (x : Record) → is_no_want x ≡ true → de
 demands-one demands (Want s n) none = absurd (cc)
 demands-one demands x none = refl
 
-pub demands-same : (w : WorkloadView) (e : ℕ) (p : ProcNo) (r : Readings) (xs : List Record) → list_all is_no_want xs ≡ true → (after_records w e p r xs).demands ≡ r.demands
+pub demands-same : (w : WorkloadView) (e : ℕ) (p : ProcNo) (r : Readings) (xs : List Record) → list_all is_no_want xs ≡ true
+    → (after_records w e p r xs).demands ≡ r.demands
 demands-same w e p r [] none = refl
 demands-same w e p r (x ∷ xs) none =
-    demands-same w e p (after_record w e p r x) xs (and_parts (is_no_want x) (list_all is_no_want xs) none).1 ∙ demands-one r.demands x (and_parts (is_no_want x) (list_all is_no_want xs) none).0
+    demands-same w e p (after_record w e p r x) xs (and_parts (is_no_want x) (list_all is_no_want xs) none).1
+    ∙ demands-one r.demands x (and_parts (is_no_want x) (list_all is_no_want xs) none).0
 
 -- the records of items
 pub records-said : (e : ℕ) (p : ProcNo) (xs : List Record) → map what_of (items_at e p xs) ≡ xs
@@ -99,7 +101,7 @@ records-said e p [] = refl
 records-said e p (x ∷ xs) = ap (λ ys. x ∷ ys) (records-said e p xs)
 
 module _ {C : Type 0} where
-  -- the closing behind a scene, with a reading of it
+  -- the closing after a scene, with a reading of it
   pub record Closing (w : WorkloadView) (e : ℕ) (p : ProcNo) (m : Readings) (y : Scene C) : Type 0 where
     pub wanted : Readings
     pub aimed : Readings
@@ -123,12 +125,13 @@ module _ {C : Type 0} where
     pub lives : lined.lives ≡ m.lives
     pub owners : lined.state.owners ≡ m.state.owners
 
-  pub closing-walk : (w : WorkloadView) (e : ℕ) (p : ProcNo) (m : Readings) (y : Scene C) → IsOf w y.state → length y.state.assign.owners ≡ w.processors → overview m ≡ read_off y.state → IdleAlike y.state m
-      → IsSome m.last → Closing w e p m y
+  pub closing-walk : (w : WorkloadView) (e : ℕ) (p : ProcNo) (m : Readings) (y : Scene C) → IsOf w y.state → length y.state.assign.owners ≡ w.processors
+      → overview m ≡ read_off y.state → IdleAlike y.state m → IsSome m.last → Closing w e p m y
   closing-walk w e p m y of owners reads idle last =
       let wl = wants_due w m in
       let y1 = wants e p y in
-      let all : map want_one (filter (must_want m) (spaces_from 0 (spaces y.state))) ≡ wl = ap (λ n. map want_one (filter (must_want m) (spaces_from 0 n))) of.spaces in
+      let all : map want_one (filter (must_want m) (spaces_from 0 (spaces y.state))) ≡ wl =
+      ap (λ n. map want_one (filter (must_want m) (spaces_from 0 n))) of.spaces in
       let one : Wanted w e p m y y1 wl = subst (λ (xs : List Record). Wanted w e p m y y1 xs) all (wants-from w e p m y 0 (spaces y.state) reads idle last) in
       let m1 = after_records w e p m wl in
       let wants_close : AreClosing wl = closing-wants (filter (must_want m) (spaces_of w)) in
@@ -138,7 +141,8 @@ module _ {C : Type 0} where
       let spaces1 : length y1.state.demands ≡ length w.spaces =
       ap (λ (v : Overview). length v.demands) (sym one.reads) ∙ demands-kept w e p m wl ∙ ap (λ (v : Overview). length v.demands) reads ∙ of.spaces in
       let owners1 : length y1.state.assign.owners ≡ w.processors =
-      ap (λ (v : Overview). length v.assign.owners) (sym one.reads) ∙ ap (λ (os : List (Option SpaceNo)). length os) left1.owners ∙ ap (λ (v : Overview). length v.assign.owners) reads ∙ owners in
+      ap (λ (v : Overview). length v.assign.owners) (sym one.reads) ∙ ap (λ (os : List (Option SpaceNo)). length os) left1.owners
+      ∙ ap (λ (v : Overview). length v.assign.owners) reads ∙ owners in
       let of1 : IsOf w y1.state = record { fixed = one.fixed ∙ of.fixed; processors = lives1; spaces = spaces1 } in
       let two = aims-walk w e p m1 y1 of1 owners1 one.reads in
       let al = records_of e m1.lines (aims_due w e m1) in
@@ -148,7 +152,8 @@ module _ {C : Type 0} where
       let ll = lines_due w m2 in
       let all_lines : lines_from w m2 0 (spaces y2.state) ≡ ll = ap (λ n. lines_from w m2 0 n) spaces1 in
       let y3 = closed e p y in
-      let three : Lined w e p m2 y2 y3 ll = subst (λ (xs : List Record). Lined w e p m2 y2 y3 xs) all_lines (lines-walk w e p m2 y2 0 (spaces y2.state) lives1 two.reads) in
+      let three : Lined w e p m2 y2 y3 ll =
+      subst (λ (xs : List Record). Lined w e p m2 y2 y3 xs) all_lines (lines-walk w e p m2 y2 0 (spaces y2.state) lives1 two.reads) in
       let lawful_lines : AreLawful w e p m2 ll = subst (λ xs. AreLawful w e p m2 xs) (append-nil ll) (three.lawful [] tt) in
       record {
         wanted = m1;
@@ -181,8 +186,8 @@ module _ {C : Type 0} where
   turn-is e p fresh None x = refl
   turn-is e p fresh (Some entry) x = refl
 
-  sound-own : (e : ℕ) (p : ProcNo) (fresh : ActNo) (en : Option (Entry C)) (x : Scene C) → p.0 < length x.state.lives → FitsTurn x.state p e en → IsUnused x.state fresh en → x.state.telling ≡ []
-      → IsSound x.state → IsSound (before_closing e p fresh en x).state
+  sound-own : (e : ℕ) (p : ProcNo) (fresh : ActNo) (en : Option (Entry C)) (x : Scene C) → p.0 < length x.state.lives → FitsTurn x.state p e en
+      → IsUnused x.state fresh en → x.state.telling ≡ [] → IsSound x.state → IsSound (before_closing e p fresh en x).state
   sound-own e p fresh None x within fit unused empty sound = sound
   sound-own e p fresh (Some entry) x within fit unused empty sound = sound-entered_as e p fresh entry x within fit unused empty sound
 
@@ -190,7 +195,8 @@ module _ {C : Type 0} where
   abbrev pub reading_at : WorkloadView → Readings → Turn C → KernelState C → Readings
   reading_at w r t k = begun w (event_of t k) r
 
-  begins : (w : WorkloadView) (k : KernelState C) (r : Readings) (t : Turn C) → IsKept w k r → CanTurn w k r t → Stands w (evicted_at t.number k) (reading_at w r t k) t.proc
+  begins : (w : WorkloadView) (k : KernelState C) (r : Readings) (t : Turn C) → IsKept w k r → CanTurn w k r t
+      → Stands w (evicted_at t.number k) (reading_at w r t k) t.proc
   begins w k r t kept can =
       let F : List Evict → Overview → Overview = λ es (v : Overview). record v {
         assign = record v.assign { lines = slice_set v.assign.lines t.proc.0 None };
@@ -243,9 +249,11 @@ module _ {C : Type 0} where
       let of : IsOf w y.state = record {
         fixed = own.fixed ∙ kept.of.fixed;
         processors =
-            ap (λ (v : Overview). length v.running) (sym own.reads) ∙ running-kept w e p c own.records ∙ ap (λ (v : Overview). length v.running) stands.reads ∙ kept.of.processors;
+            ap (λ (v : Overview). length v.running) (sym own.reads) ∙ running-kept w e p c own.records ∙ ap (λ (v : Overview). length v.running) stands.reads
+            ∙ kept.of.processors;
         spaces =
-            ap (λ (v : Overview). length v.demands) (sym own.reads) ∙ demands-kept w e p c own.records ∙ ap (λ (v : Overview). length v.demands) stands.reads ∙ kept.of.spaces;
+            ap (λ (v : Overview). length v.demands) (sym own.reads) ∙ demands-kept w e p c own.records ∙ ap (λ (v : Overview). length v.demands) stands.reads
+            ∙ kept.of.spaces;
       } in
       let owners : length y.state.assign.owners ≡ w.processors = sound.formed.sizes.owners ∙ of.processors in
       let last : IsSome m.last = last-some w e p c own.records own.some in
@@ -255,7 +263,8 @@ module _ {C : Type 0} where
       let ll = lines_due w cl.aimed in
       let none : List Item = [] in
       let all : turned t k ≡ closed e p y = turn-is e p t.fresh t.entry (before_entry t k) in
-      let items : (closed e p y).items ≡ items_at e p (own.records ++ (wl ++ (al ++ ll))) = items-both e p none y.items (closed e p y).items own.records (wl ++ (al ++ ll)) own.adds cl.adds in
+      let items : (closed e p y).items ≡ items_at e p (own.records ++ (wl ++ (al ++ ll))) =
+      items-both e p none y.items (closed e p y).items own.records (wl ++ (al ++ ll)) own.adds cl.adds in
       let records : (event_of t k).records ≡ own.records ++ (wl ++ (al ++ ll)) =
       ap (λ (x : Scene C). map what_of x.items) all ∙ ap (map what_of) items ∙ records-said e p (own.records ++ (wl ++ (al ++ ll))) in
       let end : after_records w e p m (wl ++ (al ++ ll)) ≡ cl.lined =

@@ -34,7 +34,7 @@ module _ {C : Type 0} where
     pub fits : FitsTurn (evicted_at e k) p e en
     pub right : SaysRightly w (evicted_at e k) p r (after_records w e p (begun w (event_at e p) r) says) says en
 
-  -- the scene before the call, behind a past
+  -- the scene before the call, after a past
   abbrev pub scene_before : KernelState C → ℕ → ProcNo → List Record → List Item → Scene C
   scene_before k e p says past = record { state = evicted_at e k; items = past ++ items_at e p says }
 
@@ -51,7 +51,8 @@ module _ (C : Type 0) where
   -- After an entry the history goes on by what its contract says.
   abbrev pub EntriesGoOn : Type 0
   EntriesGoOn =
-      (test : Test) (w : WorkloadView) (k : KernelState C) (r : Readings) (e : ℕ) (p : ProcNo) (says : List Record) (past : List Item) (en : Entry C) (result : Given) (upcalls : Bool) (new : Scene C)
+      (test : Test) (w : WorkloadView) (k : KernelState C) (r : Readings) (e : ℕ) (p : ProcNo) (says : List Record) (past : List Item) (en : Entry C)
+      (result : Given) (upcalls : Bool) (new : Scene C)
       → CanCall w k r e p says (Some en) → Enters (scene_before k e p says past) new result upcalls (λ (a : ActNo). entered e p a en)
       → GoesOn test w r e p past new
 

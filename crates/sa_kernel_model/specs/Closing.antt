@@ -17,7 +17,7 @@ use Rattle.sa_kernel_model.specs.State.{KernelState, Scene, owner_of, aim_of, li
 use Rattle.sa_kernel_model.specs.Parts.{with_demand, with_line}
 
 module _ {C : Type 0} where
-  -- for so many spaces from s on, in the order of their numbers
+  -- for n spaces from s on, in the order of their numbers
   abbrev pub for_spaces : (ℕ → Scene C → Scene C) → ℕ → ℕ → Scene C → Scene C
   for_spaces f s zero x = x
   for_spaces f s (suc n) x = for_spaces f (s + 1) n (f s x)

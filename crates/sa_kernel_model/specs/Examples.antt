@@ -47,7 +47,7 @@ abbrev pub turn : ℕ → List Record → ℕ → Option (Entry Blank) → Turn 
 turn e says fresh en = record { number = e; proc = p0; says = says; fresh = act fresh; entry = en }
 
 -- the processor is taken, two hints follow, a slice ends, the context blocks and comes back, and the one that ran on is
--- stopped; behind each upcall its notices are fetched
+-- stopped; after each upcall its notices are fetched
 abbrev pub short_run : List (Option (Turn Blank))
 short_run =
     Some (turn 1 [] 0 (Some (entry.Interrupt None))) ∷ None

@@ -35,7 +35,7 @@ module _ {C : Type 0} where
     pub low : (p : ProcNo) → line_of k p ≡ None
     pub told : (s : SpaceNo) (note : Note) → Contains (untold_of k s.0) note → calls_for k note ≡ false
 
-  -- what so many calls of `next_note` answer, one after another
+  -- what n calls of `next_note` answer, one after another
   abbrev pub answers : ℕ → KernelState C → List (Option (Note × Option (Stopped C)))
   answers zero k = []
   answers (suc n) k = next_note k ∷ answers n (after_fetch k.telling k)

@@ -19,7 +19,7 @@ use Rattle.sa_kernel_model.specs.Kept.{IsKept}
 use Rattle.sa_kernel_model.specs.Runs.{AllHoldFrom}
 use Rattle.sa_kernel_model.specs.Calls.{event_at}
 
--- the last of some events, and the number of the last one behind the opening
+-- the last of some events, and the number of the last one after the opening
 abbrev pub last_of : Event → List Event → Event
 last_of e [] = e
 last_of e (x ∷ xs) = last_of x xs
@@ -27,7 +27,7 @@ last_of e (x ∷ xs) = last_of x xs
 abbrev pub last_number : WorkloadView → List Event → ℕ
 last_number w events = (last_of (opening_event w) events).number
 
--- what is read behind the opening and these events; and within the next one, where the user level has recorded what it does
+-- what is read after the opening and these events; and within the next one, where the user level has recorded what it does
 abbrev pub read_from : Test → WorkloadView → List Event → Readings
 read_from test w events = readings test w (opening_event w ∷ events)
 
@@ -44,9 +44,10 @@ module _ {C : Type 0} where
     pub kept : IsKept w x.state (read_from test w events)
     pub low : NoLineIsDue x.state
 
-  -- Event e goes on, on processor p: behind these events its pages were evicted, and the user level has recorded what it
+  -- Event e goes on, on processor p: after these events its pages were evicted, and the user level has recorded what it
   -- does. Now the kernel may be entered so, or a slice ends.
-  pub record IsUnderWay (test : Test) (w : WorkloadView) (events : List Event) (e : ℕ) (p : ProcNo) (says : List Record) (entry : Option (Entry C)) (x : Scene C) : Type 0 where
+  pub record IsUnderWay (test : Test) (w : WorkloadView) (events : List Event) (e : ℕ) (p : ProcNo) (says : List Record) (entry : Option (Entry C))
+      (x : Scene C) : Type 0 where
     pub before : Scene C
     pub history : IsHistory test w events before
     pub state : x.state ≡ evicted_at e before.state

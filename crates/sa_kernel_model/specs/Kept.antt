@@ -44,7 +44,7 @@ add_claim (Unblocked b) = 0
 abbrev pub fetch_claim : ℕ → Io → ℕ
 fetch_claim s io = one_fetch s io.kind
 
--- no number stands there twice
+-- no number is there twice
 abbrev pub AreDistinct : List ActNo → Type 0
 AreDistinct [] = Unit {0}
 AreDistinct (a ∷ others) = ((b : ActNo) → Contains others b → b.0 ≢ a.0) × AreDistinct others
@@ -55,7 +55,7 @@ module _ {C : Type 0} where
     pub processors : length k.lives ≡ w.processors
     pub spaces : length k.demands ≡ length w.spaces
 
-  -- what waits and what is under way stands there once
+  -- what waits and what is under way is there once
   pub record IsTidy (k : KernelState C) : Type 0 where
     -- an added processor is told at once
     pub added : (s : ℕ) → sum_by add_claim (untold_of k s) ≡ 0

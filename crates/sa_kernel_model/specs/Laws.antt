@@ -90,7 +90,8 @@ module _ (C : Type 0) where
   -- so does an event of a user level's records alone
   abbrev pub QuietEventsKeep : Type 0
   QuietEventsKeep =
-      (test : Test) (w : WorkloadView) (k : KernelState C) (r : Readings) (e : ℕ) (p : ProcNo) (says : List Record) → IsKept w k r → line_of k p ≡ None → AreUsers says
+      (test : Test) (w : WorkloadView) (k : KernelState C) (r : Readings) (e : ℕ) (p : ProcNo) (says : List Record) → IsKept w k r → line_of k p ≡ None
+      → AreUsers says
       → IsKept w (evicted_at e k) (after_event test w r (record { number = e; proc = p; records = says }))
 
   -- the opening is that of the laws, and begins it
@@ -102,13 +103,14 @@ module _ (C : Type 0) where
       (test : Test) (w : WorkloadView) → IsWorkload w
       → IsKept w (opened {C = C} w).state (after_event test w (opening_readings w) (opening_event w))
 
-  -- a turn adds the items of its event behind those that stood in the trace
+  -- a turn adds the items of its event after those that were in the trace
   abbrev pub AddsItsEvent : Type 0
   AddsItsEvent =
       (w : WorkloadView) (k : KernelState C) (r : Readings) (t : Turn C) (past : List Item) → IsWorkload w → IsKept w k r → CanTurn w k r t
       → turn_on t.number t.proc t.fresh t.entry (record (before_entry t k) { items = past ++ (before_entry t k).items })
       ≡ (record { state = (turned t k).state; items = past ++ items_at t.number t.proc (event_of t k).records })
 
-  -- an event has the own part of its entry, and behind it the closing, and no other records
+  -- an event has the own part of its entry, and after it the closing, and no other records
   abbrev pub TurnsHaveParts : Type 0
-  TurnsHaveParts = (w : WorkloadView) (k : KernelState C) (r : Readings) (t : Turn C) → IsWorkload w → IsKept w k r → CanTurn w k r t → HasParts k t (event_of t k)
+  TurnsHaveParts =
+      (w : WorkloadView) (k : KernelState C) (r : Readings) (t : Turn C) → IsWorkload w → IsKept w k r → CanTurn w k r t → HasParts k t (event_of t k)

@@ -38,7 +38,7 @@ opening_state w = record {
   pages = map opening_pages w.spaces;
 }
 
--- so many spaces from s on want one processor each
+-- n spaces from s on want one processor each
 abbrev pub first_wants : ℕ → ℕ → List Record
 first_wants s zero = []
 first_wants s (suc n) = Want (space_no s) 1 ∷ first_wants (s + 1) n

@@ -22,6 +22,6 @@ module _ {C : Type 0} where
   abbrev pub pending_count : KernelState C → ℕ
   pending_count k = untold_count k + told_count k + taken_count k
 
-  -- so many items are owed at most: two for a notice that was not told, one for a told one and for a taken activation
+  -- that many items are owed at most: two for a notice that was not told, one for a told one and for a taken activation
   abbrev pub owed_items : KernelState C → ℕ
   owed_items k = untold_count k + pending_count k

@@ -34,7 +34,7 @@ module _ {C : Type 0} where
   abbrev pub with_demand : ℕ → ℕ → KernelState C → KernelState C
   with_demand s n k = record k { demands = slice_set k.demands s n }
 
-  -- a notice for a space, behind those that it was not told
+  -- a notice for a space, after those that it was not told
   abbrev pub noted : SpaceNo → Note → KernelState C → KernelState C
   noted s note k = record k { untold = slice_set k.untold s.0 (untold_of k s.0 ++ note ∷ []) }
 
@@ -42,7 +42,7 @@ module _ {C : Type 0} where
   abbrev pub with_held : ActNo → Stopped C → KernelState C → KernelState C
   with_held a held k = record k { acts = put k.acts a.0 (holding held (k.acts a.0)) }
 
-  -- an I/O has begun, which ends so many events later
+  -- an I/O has begun, which ends at this event
   abbrev pub with_io : IoKind → ℕ → KernelState C → KernelState C
   with_io kind ends k = record k {
     begun = k.begun + 1;

@@ -44,7 +44,7 @@ abbrev pub AllHoldFrom : Test → WorkloadView → Readings → List Event → T
 AllHoldFrom test w r [] = Unit {0}
 AllHoldFrom test w r (e ∷ es) = AllHold test w r e × AllHoldFrom test w (after_event test w r e) es
 
--- what is read behind the opening
+-- what is read after the opening
 abbrev pub read_opening : Test → WorkloadView → Readings
 read_opening test w = after_event test w (opening_readings w) (opening_event w)
 

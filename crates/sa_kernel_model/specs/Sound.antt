@@ -16,7 +16,7 @@ use Rattle.sa_devices.specs.Pages.{IsKind}
 use Rattle.sa_kernel_model.specs.State.{KernelState, owner_of, line_of, life_of, untold_of, is_fetching}
 use Rattle.sa_batch.specs.Notices.{has_untold}
 
--- what stands there are spaces of the workload
+-- what is there are spaces of the workload
 abbrev pub AreSpaces : ℕ → List (Option SpaceNo) → Type 0
 AreSpaces spaces cells = (p : ℕ) (s : SpaceNo) → slice_index_or cells p None ≡ Some s → s.0 < spaces
 
@@ -35,7 +35,9 @@ pub record IsPlaced (owner aim : Option SpaceNo) (line : Option ℕ) (life : Opt
 
 -- each processor is so
 abbrev pub ArePlaced : AssignView → List (Option ActNo) → Type 0
-ArePlaced assign lives = (p : ℕ) → IsPlaced (slice_index_or assign.owners p None) (slice_index_or assign.aims p None) (slice_index_or assign.lines p None) (slice_index_or lives p None)
+ArePlaced assign lives =
+    (p : ℕ) → IsPlaced (slice_index_or assign.owners p None) (slice_index_or assign.aims p None) (slice_index_or assign.lines p None)
+    (slice_index_or lives p None)
 
 -- a notice hands over the context of activation a, once or not
 abbrev pub note_claim : ℕ → Note → ℕ

@@ -10,7 +10,7 @@ pub const ENTRY_ITEMS: usize = 80;
 pub enum Entry<C> {
     /// The processor's raised line. The context that ran there is handed over, if one did.
     Interrupt(Option<Stopped<C>>),
-    /// The running context blocks for so many events, for an I/O or, where there is one, until the page is resident.
+    /// The running context blocks for `length` events, for an I/O or, where there is one, until the page is resident.
     Block {
         held: Stopped<C>,
         length: u32,
@@ -18,7 +18,7 @@ pub enum Entry<C> {
     },
     /// The I/O is over.
     Complete(IoNo),
-    /// The hint that the space can use so many more processors.
+    /// The hint that the space can use that many more processors.
     More(u16),
     /// The hint that this processor is idle.
     Idle,

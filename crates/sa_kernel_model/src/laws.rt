@@ -23,7 +23,7 @@ pub fn opening_begins<C: Drop>()
     ensures keeps { OpeningKeeps C }
 {}
 
-/// A turn does the same whatever stood in the trace before, and adds the items of its event behind that.
+/// A turn does the same whatever was in the trace before, and adds the items of its event after that.
 pub fn turns_add_their_events<C: Drop>()
     ensures { AddsItsEvent C }
 {}
@@ -50,13 +50,13 @@ pub fn turns_run_where_owned<C: Drop>()
     ensures { HoldsAtTurns C RunsWhereOwned }
 {}
 
-/// An upcall's number is in use by nobody, and behind it stand the added processor, if it was moved, and all that its
+/// An upcall's number is in use by nobody, and after it come the added processor, if it was moved, and all that its
 /// space was not told, in order, which is something; what is given back was taken.
 pub fn upcalls_tell_all<C: Drop>()
     ensures { HoldsAtTurns C AllTold }
 {}
 
-/// A block names the number of its I/O, and behind it stands an upcall of its space, or the leave.
+/// A block names the number of its I/O, and after it comes an upcall of its space, or the leave.
 pub fn blocks_give_upcalls<C: Drop>()
     ensures { HoldsAtTurns C BlockUpcall }
 {}
@@ -66,8 +66,8 @@ pub fn interrupts_are_next<C: Drop>()
     ensures { HoldsAtTurns C InterruptNext }
 {}
 
-/// No line is raised that is raised already. Behind each aim of a processor with a low line stands its line; all other
-/// lines, but for one that an entry asks for, stand behind all aims, and they are those that are due there.
+/// No line is raised that is raised already. After each aim of a processor with a low line comes its line; all other
+/// lines, but for one that an entry asks for, come after all aims, and they are those that are due there.
 pub fn lines_have_causes<C: Drop>()
     ensures asked { HoldsAtTurns C LineCause }
     ensures alone { LinesAreTheKernels C }

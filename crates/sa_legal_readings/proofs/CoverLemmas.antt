@@ -23,10 +23,10 @@ use Rattle.sa_laws.specs.Closing.{must_want, want_one, wants_due, spaces_of}
 use Rattle.sa_laws.specs.Demand.{BeginsFreely, StepIsFree, StepIsFreeIf, OwesNothing, is_bound}
 use Rattle.sa_laws.specs.Locks.{KeepsLocksIn}
 use Rattle.sa_laws.specs.Turns.{IsClosing, AreRaising, IsTurn, IsStep, StepBy, CanLower, CanHint}
-use Rattle.sa_laws.specs.Upcalls.{EachRecord, TellsAllThen}
+use Rattle.sa_laws.specs.Upcalls.{RecordLaw, EachRecord, TellsAllThen}
 use Rattle.sa_laws.specs.Step.{Needs, AreSteps}
 use Rattle.sa_laws.specs.Rules.{IsLawful, fast_threads}
-use Rattle.sa_legal.proofs.StandingLemmas.{Standing, Runs, space_of, space_in, standing_after}
+use Rattle.sa_legal.proofs.StandingLemmas.{Standing, Runs, Agrees, space_of, space_in, standing_after}
 use Rattle.sa_legal.proofs.ShapeLemmas.{Moves, parts-take}
 use Rattle.sa_legal.proofs.MovesLemmas.{fast-moves}
 use Rattle.sa_legal_readings.proofs.TrackLemmas.{IsSized}
@@ -34,7 +34,7 @@ use Rattle.sa_legal_readings.proofs.RangeLemmas.{while-more}
 use Rattle.sa_legal_readings.proofs.OwnLemmas.{OwnedByLives, owner-runs}
 use Rattle.sa_legal_readings.proofs.ApartLemmas.{IsApart, apart-step, apart-begun}
 use Rattle.sa_legal_readings.proofs.PassLemmas.{Kept, Passing, Passes, passing-each, passes-so, Goes, kept-all}
-use Rattle.sa_legal_readings.proofs.FormLemmas.{Turning, BlocksFirst, AllOut, is_quiet, Calm, StepOf, Form, step-form, turn-form, turning-cases, up-runs, quiet-runs, LowWants, closing-pass, pass-append, quiet-append, closing-quiet, out-pass, given-pass}
+use Rattle.sa_legal_readings.proofs.FormLemmas.{Turning, BlocksFirst, AllOut, is_quiet, Calm, StepTable, StepOf, Form, step-form, turn-form, turning-cases, up-runs, quiet-runs, LowWants, closing-pass, pass-append, quiet-append, closing-quiet, out-pass, given-pass}
 use Rattle.sa_legal_readings.proofs.FineLemmas.{Covers, Each, Fine, fast-tested, min-less, covers-more, usable-covers, arise-fine, step-space, settle-fine, keep-fine, IsStepOf, blocks-untold}
 
 -- an event in its parts
@@ -167,7 +167,7 @@ other-life r p a s o runs of apart n life b is in_it other same =
     apart (ap (λ (k : SpaceNo). k.0) (same_Some o s (sym there ∙ ap space_of is ∙ ap Some in_it)))
 
 -- the first record of a turn that is no passage, of another space
-pub first-passing : (w : WorkloadView) (p : ProcNo) (r : Readings) (s o : SpaceNo) (x : Record) (cs : List Record) → is_quiet x ≡ true → o.0 ≢ s.0
+first-passing : (w : WorkloadView) (p : ProcNo) (r : Readings) (s o : SpaceNo) (x : Record) (cs : List Record) → is_quiet x ≡ true → o.0 ≢ s.0
     → owner_of r p ≡ Some o
     → Needs w p r x → ((b : ActNo) → x ≡ GiveBack b → space_of_life r (Some b) ≢ Some s) → Passing s r x cs
 first-passing w p r s o (Run u t) cs quiet apart owner needs given =
@@ -179,14 +179,6 @@ first-passing w p r s o (Cont u t) cs quiet apart owner needs given =
 first-passing w p r s o (GiveBack b) cs quiet apart owner needs given = given b refl
 first-passing w p r s o (Up u b) cs quiet apart owner needs given = absurd (cc)
 first-passing w p r s o x cs quiet apart owner needs given = tt
-
-first-pass : (w : WorkloadView) (p : ProcNo) (r : Readings) (s : SpaceNo) (a : ActNo) (life : Life) (x : Record) (ys cs : List Record) → is_quiet x ≡ true
-    → life.space.0 ≢ s.0 → owner_of r p ≡ Some life.space
-    → StepBy w r p a life x ys → Needs w p r x → ((b : ActNo) → x ≡ GiveBack b → space_of_life r (Some b) ≢ Some s) → Passes s r x cs
-first-pass w p r s a life x ys cs quiet apart owner by needs given =
-    passes-so s r x cs (first-passing w p r s life.space x cs quiet apart owner needs given) (λ u n is same.
-    let hint : StepBy w r p a life (Want u n) ys = subst (λ y. StepBy w r p a life y ys) is by in
-    absurd (apart (sym (ap (λ (k : SpaceNo). k.0) hint.1) ∙ same)))
 
 pub calm-pass : (s : SpaceNo) (r : Readings) (x : Record) (rest : List Record) → is_step x ≡ false → is_quiet x ≡ true → Passes s r x rest
 calm-pass s r (Run u t) rest none quiet = absurd (cc)
@@ -293,43 +285,67 @@ calm-fine w r e s x ys cs known fine goes closing calm =
     held-fine w r e s (x ∷ (ys ++ cs)) known fine goes (pass-append w e.number e.proc s (begun w e r) (x ∷ ys) cs own closing)
     (λ a life b is of inside other step. absurd (let clash = sym calm.none ∙ step in cc))
 
--- a step of a life of another space
+-- A step of a life of another space does not concern this one, where a giveback of the table gives back all that was taken.
+abbrev pub GivesAll : StepTable → Type 0
+GivesAll By =
+    (w : WorkloadView) (r : Readings) (p : ProcNo) (a : ActNo) (life : Life) (b : ActNo) (ys : List Record) → By w r p a life (GiveBack b) ys
+    → GiveBack b ∷ ys ≡ map GiveBack (taken_of r life.space)
+
+pub step-passes : (By : StepTable) (L : RecordLaw) (w : WorkloadView) (st : ℕ → Standing) (r : Readings) (e : Event) (s : SpaceNo) (x : Record)
+    (ys : List Record) → GivesAll By → Agrees st r → OwnedByLives r → Needs w e.proc (begun w e r) x → (step : StepOf By w (begun w e r) e.proc x ys)
+    → space_of_life r (Some step.act) ≡ Some step.life.space → step.life.space.0 ≢ s.0
+    → (Passing s (begun w e r) x ys → L (begun w e r) x ys)
+    → ((c : Readings) (xs : List Record) → EachRecord (Passes s) w e.number e.proc c xs → EachRecord L w e.number e.proc c xs)
+    → EachRecord L w e.number e.proc (begun w e r) (x ∷ ys)
+step-passes By L w st r e s x ys gives_all agrees owned needs step of apart first rest = own step.rest where
+  owner : owner_of r e.proc ≡ Some step.life.space
+  owner = owner-runs r e.proc owned ∙ ap (space_of_life r) step.runs ∙ of
+
+  taken : (b : ActNo) → Contains (taken_of r step.life.space) b → space_of_life r (Some b) ≢ Some s
+  taken b has at =
+      apart
+      (ap (λ (k : SpaceNo). k.0) (same_Some step.life.space s (sym (agrees.lives b ∙ ap space_in (agrees.taken step.life.space b has)) ∙ at)))
+
+  own : AllOut ys ⊎ ((x ∷ ys ≡ map GiveBack (taken_of r step.life.space)) × ((b c : Readings) → settles b c x ≡ true))
+      → EachRecord L w e.number e.proc (begun w e r) (x ∷ ys)
+  own (inl out) = (
+    first (first-passing w e.proc (begun w e r) s step.life.space x ys step.quiet.0 apart owner needs (λ b is. gives b is)),
+    rest (after_record w e.number e.proc (begun w e r) x) ys
+        (out-pass w e.number e.proc s (after_record w e.number e.proc (begun w e r) x) ys out),
+  ) where
+    gives : (b : ActNo) → x ≡ GiveBack b → space_of_life r (Some b) ≢ Some s
+    gives b is =
+        let by : By w (begun w e r) e.proc step.act step.life (GiveBack b) ys =
+        subst (λ y. By w (begun w e r) e.proc step.act step.life y ys) is step.by in
+        taken b (head-has b ys (taken_of r step.life.space) (gives_all w (begun w e r) e.proc step.act step.life b ys by))
+      where
+        head-has : (k : ActNo) (zs : List Record) (acts : List ActNo) → GiveBack k ∷ zs ≡ map GiveBack acts → Contains acts k
+        head-has k zs [] same = absurd (cc)
+        head-has k zs (a ∷ acts) same = (0, omega arith, (let one : a ≡ k = cc in one))
+  own (inr all) =
+      subst (EachRecord L w e.number e.proc (begun w e r)) (sym all.0)
+      (rest (begun w e r) (map GiveBack (taken_of r step.life.space))
+      (given-pass w e.number e.proc s (begun w e r) (taken_of r step.life.space) taken))
+
 other-fine : (w : WorkloadView) (r : Readings) (e : Event) (s : SpaceNo) (x : Record) (ys cs : List Record) → IsCovered w r → Fine w r r.lives s
     → GoesOn w r e (x ∷ (ys ++ cs))
     → EachRecord (Passes s) w e.number e.proc (After w r e (x ∷ ys)) cs → (step : StepOf StepBy w (begun w e r) e.proc x ys)
     → space_of_life r (Some step.act) ≡ Some step.life.space → step.life.space.0 ≢ s.0
     → FineAfter w r e (x ∷ (ys ++ cs)) s
 other-fine w r e s x ys cs known fine goes closing step of apart =
-    held-fine w r e s (x ∷ (ys ++ cs)) known fine goes (pass-append w e.number e.proc s (begun w e r) (x ∷ ys) cs (own step.rest) closing)
+    held-fine w r e s (x ∷ (ys ++ cs)) known fine goes (pass-append w e.number e.proc s (begun w e r) (x ∷ ys) cs own closing)
     (λ n life b is at inside other step'. other-life r e.proc step.act s step.life.space step.runs of apart n life b is at other)
   where
-    owner : owner_of r e.proc ≡ Some step.life.space
-    owner = owner-runs r e.proc known.owned ∙ ap (space_of_life r) step.runs ∙ of
+    lowers : (u : SpaceNo) (n : ℕ) → x ≡ Want u n → u.0 ≡ s.0 → demand_of r s ≤ n
+    lowers u n is same =
+        let hint : StepBy w (begun w e r) e.proc step.act step.life (Want u n) ys =
+        subst (λ y. StepBy w (begun w e r) e.proc step.act step.life y ys) is step.by in
+        absurd (apart (sym (ap (λ (k : SpaceNo). k.0) hint.1) ∙ same))
 
-    taken : (b : ActNo) → Contains (taken_of r step.life.space) b → space_of_life r (Some b) ≢ Some s
-    taken b has at =
-        apart
-        (ap (λ (k : SpaceNo). k.0)
-        (same_Some step.life.space s (sym (known.apart.agrees.lives b ∙ ap space_in (known.apart.agrees.taken step.life.space b has)) ∙ at)))
-
-    own : AllOut ys ⊎ ((x ∷ ys ≡ map GiveBack (taken_of r step.life.space)) × ((b c : Readings) → settles b c x ≡ true))
-        → EachRecord (Passes s) w e.number e.proc (begun w e r) (x ∷ ys)
-    own (inl out) = (
-      first-pass w e.proc (begun w e r) s step.act step.life x ys ys step.quiet.0 apart owner step.by goes.steps.0 (λ b is. gives b is),
-      out-pass w e.number e.proc s (after_record w e.number e.proc (begun w e r) x) ys out,
-    ) where
-      gives : (b : ActNo) → x ≡ GiveBack b → space_of_life r (Some b) ≢ Some s
-      gives b is =
-          let by : StepBy w (begun w e r) e.proc step.act step.life (GiveBack b) ys =
-          subst (λ y. StepBy w (begun w e r) e.proc step.act step.life y ys) is step.by in
-          taken b (head-has b ys (taken_of r step.life.space) by.all)
-        where
-          head-has : (k : ActNo) (zs : List Record) (acts : List ActNo) → GiveBack k ∷ zs ≡ map GiveBack acts → Contains acts k
-          head-has k zs [] same = absurd (cc)
-          head-has k zs (a ∷ acts) same = (0, omega arith, (let one : a ≡ k = cc in one))
-    own (inr all) =
-        subst (EachRecord (Passes s) w e.number e.proc (begun w e r)) (sym all.0)
-        (given-pass w e.number e.proc s (begun w e r) (taken_of r step.life.space) taken)
+    own : EachRecord (Passes s) w e.number e.proc (begun w e r) (x ∷ ys)
+    own =
+        step-passes StepBy (Passes s) w known.st r e s x ys (λ w' r' p a life b zs by. by.all) known.apart.agrees known.owned goes.steps.0 step of apart
+        (λ passing'. passes-so s (begun w e r) x ys passing' lowers) (λ c xs each. each)
 
 -- a lowering hint stays above the load
 lower-covers : (w : WorkloadView) (r : Readings) (e : Event) (s u : SpaceNo) (n : ℕ) (cs : List Record) (life : Life) → IsCovered w r → s.0 < length w.spaces

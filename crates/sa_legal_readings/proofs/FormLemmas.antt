@@ -27,7 +27,7 @@ use Rattle.sa_laws.specs.Turns.{AreRaising, IsClosing, AreTold, IsFetchOrNothing
 use Rattle.sa_laws.specs.Locks.{KeepsLocksIn}
 use Rattle.sa_laws.specs.Upcalls.{EachRecord}
 use Rattle.sa_legal.proofs.StandingLemmas.{Standing, Runs, kind, kind_before, stays, standing_after}
-use Rattle.sa_legal.proofs.MovesLemmas.{stood}
+use Rattle.sa_legal.proofs.MovesLemmas.{AreCalm, stood}
 use Rattle.sa_legal_readings.proofs.ApartLemmas.{IsApart, apart-step}
 use Rattle.sa_legal_readings.proofs.PassLemmas.{Passes, Goes}
 use Rattle.sa_legal_readings.proofs.StepLemmas.{run-length}
@@ -387,20 +387,30 @@ pub quiet-append : (xs cs : List Record) → AllQuiet xs → AllQuiet cs → All
 quiet-append [] cs one two = two
 quiet-append (x ∷ xs) cs one two = (one.0, quiet-append xs cs one.1 two)
 
-raising-quiet : (xs : List Record) → AreRaising xs → AllQuiet xs
-raising-quiet [] is = tt
-raising-quiet (Aim q (Some t) ∷ xs) is = (refl, raising-quiet xs is)
-raising-quiet (Line q ∷ xs) is = (refl, raising-quiet xs is)
-raising-quiet (Aim q None ∷ xs) is = absurd is
-raising-quiet (x ∷ xs) is = absurd is
+raising-calm : (xs : List Record) → AreRaising xs → AreCalm xs
+raising-calm [] is = tt
+raising-calm (Aim q (Some t) ∷ xs) is = (refl, raising-calm xs is)
+raising-calm (Line q ∷ xs) is = (refl, raising-calm xs is)
+raising-calm (Aim q None ∷ xs) is = absurd is
+raising-calm (x ∷ xs) is = absurd is
+
+pub closing-calm : (xs : List Record) → IsClosing xs → AreCalm xs
+closing-calm (Want u n ∷ xs) is = (refl, closing-calm xs is)
+closing-calm [] is = tt
+closing-calm (Aim q (Some t) ∷ xs) is = raising-calm (Aim q (Some t) ∷ xs) is
+closing-calm (Line q ∷ xs) is = raising-calm (Line q ∷ xs) is
+closing-calm (Aim q None ∷ xs) is = absurd is
+closing-calm (x ∷ xs) is = absurd is
+
+calm-quiet : (xs : List Record) → AreCalm xs → AllQuiet xs
+calm-quiet [] calm = tt
+calm-quiet (Want u n ∷ xs) calm = (refl, calm-quiet xs calm.1)
+calm-quiet (Aim q t ∷ xs) calm = (refl, calm-quiet xs calm.1)
+calm-quiet (Line q ∷ xs) calm = (refl, calm-quiet xs calm.1)
+calm-quiet (x ∷ xs) calm = absurd (let clash = calm.0 in cc)
 
 pub closing-quiet : (xs : List Record) → IsClosing xs → AllQuiet xs
-closing-quiet (Want u n ∷ xs) is = (refl, closing-quiet xs is)
-closing-quiet [] is = tt
-closing-quiet (Aim q (Some t) ∷ xs) is = raising-quiet (Aim q (Some t) ∷ xs) is
-closing-quiet (Line q ∷ xs) is = raising-quiet (Line q ∷ xs) is
-closing-quiet (Aim q None ∷ xs) is = absurd is
-closing-quiet (x ∷ xs) is = absurd is
+closing-quiet xs is = calm-quiet xs (closing-calm xs is)
 
 pub out-pass : (w : WorkloadView) (e : ℕ) (p : ProcNo) (s : SpaceNo) (r : Readings) (xs : List Record) → AllOut xs → EachRecord (Passes s) w e p r xs
 out-pass w e p s r [] is = tt

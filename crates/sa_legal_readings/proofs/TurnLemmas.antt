@@ -3,7 +3,6 @@ use Rattle.std.proofs.Common.{◌≡◌, ℕ, ◌⊎◌, inl, inr, refl, sym, �
 use Rattle.std.specs.Prelude.{Option, Bool, ◌&&◌, take_while}
 use Rattle.std.specs.List.{list_all}
 use Rattle.std.proofs.lemmas.Option.{none-some}
-use Rattle.std.proofs.lemmas.Bool.{eqb-true}
 use Rattle.sa_base.specs.declared.number.SpaceNo.{SpaceNo}
 use Rattle.sa_base.specs.declared.number.ProcNo.{ProcNo}
 use Rattle.sa_base.specs.declared.number.ThreadNo.{ThreadNo}
@@ -18,6 +17,7 @@ use Rattle.sa_devices.specs.declared.kind.IoKind.{IoKind}
 use Rattle.sa_devices.specs.declared.kind.IoKind.TheVariants.{Plain, Page, Upcall}
 use Rattle.sa_devices.specs.Ios.{Io, due_of}
 use Rattle.sa_assign.specs.Aims.{is_aim}
+use Rattle.sa_assign.proofs.AimLemmas.{is_aim-true}
 use Rattle.sa_laws.specs.Life.{Life}
 use Rattle.sa_laws.specs.Readings.{Readings, owner_of, running_of, life_on, taken_of, is_resident}
 use Rattle.sa_laws.specs.Record.{after_record}
@@ -147,15 +147,11 @@ leave-head p owner s fetching x xs ys leaves is =
     let there = head-of is_of_leave xs (Move owner None) _ leaves in
     let same : x ∷ ys ≡ Move owner None ∷ there.0 = sym is ∙ there.1 in cc
 
-owner-aim : (b : SpaceNo) (owner : Option SpaceNo) → is_aim b.0 owner ≡ true → owner ≡ Some b
-owner-aim b None is = absurd (cc)
-owner-aim b (Some s) is = ap (λ n. Some (record { 0 = n })) (eqb-true s.0 b.0 is)
-
 goes-heads : (here owned : Bool) (p : ProcNo) (r : Readings) (owner : Option SpaceNo) (b : SpaceNo) (xs : List Record) → is_aim b.0 owner ≡ owned
     → GoesTo here owned p r owner b xs
     → Heads p owner (Some b) xs
 goes-heads true true p r owner b xs at goes = record {
-  up = λ s a ys is. sym (owner-aim b owner at);
+  up = λ s a ys is. sym (is_aim-true b.0 owner at);
   move = λ old new ys is. absurd (subst (BeginsWithUp b) is goes);
   left = λ old q ys is. absurd (subst (BeginsWithUp b) is goes);
 }

@@ -10,7 +10,7 @@ use Rattle.sa_base.specs.declared.number.ThreadNo.{ThreadNo}
 use Rattle.sa_base.specs.declared.number.ActNo.{ActNo}
 use Rattle.sa_base.specs.declared.record.Note.TheVariants as note
 use Rattle.sa_base.specs.declared.record.Record.{Record}
-use Rattle.sa_base.specs.declared.record.Record.TheVariants.{Ins, Stop, Block, Ready, Want, Aim, Line, GiveBack, Idle}
+use Rattle.sa_base.specs.declared.record.Record.TheVariants.{Ins, Stop, Block, Want, Aim, Line, GiveBack, Idle}
 use Rattle.sa_spaces.specs.Workload.{WorkloadView}
 use Rattle.sa_laws.specs.Event.{Event}
 use Rattle.sa_laws.specs.Life.{Life}
@@ -21,14 +21,14 @@ use Rattle.sa_laws.specs.History.{begun, behind, after_records, is_step, is_up, 
 use Rattle.sa_laws.specs.Shape.{own_part}
 use Rattle.sa_laws.specs.Step.{AreSteps}
 use Rattle.sa_laws.specs.Upcalls.{EachRecord}
-use Rattle.sa_laws.specs.Turns.{AreRaising, IsClosing}
+use Rattle.sa_laws.specs.Turns.{IsClosing}
 use Rattle.sa_legal.proofs.StandingLemmas.{Standing, Runs, kind, space_in, space_of, standing_after, stays}
 use Rattle.sa_legal.proofs.ShapeLemmas.{is_telling}
 use Rattle.sa_legal.proofs.AppendLemmas.{each-append}
 use Rattle.sa_legal.proofs.MovesLemmas.{AreCalm, stood}
 use Rattle.sa_legal.proofs.ShownLemmas.{shows-begun}
 use Rattle.sa_legal_readings.proofs.ApartLemmas.{apart-begun}
-use Rattle.sa_legal_readings.proofs.FormLemmas.{Turning, BlocksFirst, is_quiet, AllQuiet, AllOut, Calm, StepOf, turning-cases, up-runs, quiet-append, closing-quiet, quiet-kind, out-pass, given-pass}
+use Rattle.sa_legal_readings.proofs.FormLemmas.{Turning, BlocksFirst, is_quiet, AllQuiet, AllOut, Calm, StepOf, turning-cases, up-runs, quiet-append, closing-calm, closing-quiet, quiet-kind, out-pass}
 use Rattle.sa_ranks.specs.Inside.{is_inside_or_urged, has_entry}
 use Rattle.sa_ranks.specs.Pairs.{has_pair}
 use Rattle.sa_ranks_legal.proofs.Places.{IsPlaced, places-step, NoPair, no-pair}
@@ -38,10 +38,10 @@ use Rattle.sa_laws.specs.Demand.{is_bound}
 use Rattle.sa_laws.specs.Upcalls.{StopsAndGoes}
 use Rattle.sa_laws.specs.declared.place.Place.TheVariants as place
 use Rattle.sa_laws.proofs.Records.{records-append}
-use Rattle.sa_legal_readings.proofs.OwnLemmas.{OwnedByLives, owner-runs}
+use Rattle.sa_legal_readings.proofs.OwnLemmas.{OwnedByLives}
 use Rattle.sa_legal_readings.proofs.PassLemmas.{Passing, passing, passing-each, passing-more, Goes}
 use Rattle.sa_legal_readings.proofs.FineLemmas.{arise-fine, settle-fine, step-space, note-has, noted-end, blocks-untold}
-use Rattle.sa_legal_readings.proofs.CoverLemmas.{After, GoesOn, other-life, calm-pass, first-passing}
+use Rattle.sa_legal_readings.proofs.CoverLemmas.{After, GoesOn, other-life, calm-pass, step-passes}
 use Rattle.sa_ranks.specs.Pairs.{rank_in}
 use Rattle.sa_ranks.specs.Locks.{BeginsUnurged, IsUnurged, IsUnurgedIf}
 use Rattle.sa_ranks_legal.proofs.Fine.{Free, Fine, Settles, Lowly, urged, keep-fine, held-none}
@@ -88,21 +88,6 @@ near-none r c s near none =
     → rank_in (space_at a s) t ≤ rank_in (space_at a s) u)
     (sym near.0) (λ t u p ready runs low. none t u p ready runs (near.1 p low))
 
-raising-calm : (xs : List Record) → AreRaising xs → AreCalm xs
-raising-calm [] is = tt
-raising-calm (Aim q (Some t) ∷ xs) is = (refl, raising-calm xs is)
-raising-calm (Line q ∷ xs) is = (refl, raising-calm xs is)
-raising-calm (Aim q None ∷ xs) is = absurd is
-raising-calm (x ∷ xs) is = absurd is
-
-closing-calm : (xs : List Record) → IsClosing xs → AreCalm xs
-closing-calm (Want u n ∷ xs) is = (refl, closing-calm xs is)
-closing-calm [] is = tt
-closing-calm (Aim q (Some t) ∷ xs) is = raising-calm (Aim q (Some t) ∷ xs) is
-closing-calm (Line q ∷ xs) is = raising-calm (Line q ∷ xs) is
-closing-calm (Aim q None ∷ xs) is = absurd is
-closing-calm (x ∷ xs) is = absurd is
-
 passing-append : (w : WorkloadView) (e : ℕ) (p : ProcNo) (s : SpaceNo) (r : Readings) (xs cs : List Record) → EachRecord (Passing s) w e p r xs → AreCalm cs
     → EachRecord (Passing s) w e p r (xs ++ cs)
 passing-append w e p s r xs cs one calm =
@@ -140,16 +125,8 @@ unsettled r c s (Want u n) step quiet is = ((λ rest k. tt), λ life. not-false 
 unsettled r c s (Block u t a io) step quiet is = absurd (cc)
 unsettled r c s x step quiet is = absurd (cc)
 
-out-passes : (w : WorkloadView) (e : ℕ) (p : ProcNo) (s : SpaceNo) (r : Readings) (xs : List Record) → AllOut xs → EachRecord (Passing s) w e p r xs
-out-passes w e p s r xs is = passing-each w e p s r xs (out-pass w e p s r xs is)
-
 calm-first : (s : SpaceNo) (r : Readings) (x : Record) (rest : List Record) → is_step x ≡ false → is_quiet x ≡ true → Passing s r x rest
 calm-first s r x rest none quiet = passing s r x rest (calm-pass s r x rest none quiet)
-
-given-passes : (w : WorkloadView) (e : ℕ) (p : ProcNo) (s : SpaceNo) (r : Readings) (acts : List ActNo)
-    → ((a : ActNo) → Contains acts a → space_of_life r (Some a) ≢ Some s)
-    → EachRecord (Passing s) w e p r (map GiveBack acts)
-given-passes w e p s r acts other = passing-each w e p s r (map GiveBack acts) (given-pass w e p s r acts other)
 
 -- what is known of an event
 pub record At (w : WorkloadView) (st : ℕ → Standing) (r : Readings) (e : Event) (x : Record) (ys cs : List Record) : Type 0 where
@@ -245,35 +222,13 @@ module _ (w : WorkloadView) (st : ℕ → Standing) (r : Readings) (e : Event) (
       → space_of_life r (Some step.act) ≡ Some step.life.space → step.life.space.0 ≢ s.0
       → FineAfter w st r e (x ∷ (ys ++ cs)) s
   other-fine fine low step of apart =
-      held-fine fine (inl low) (passes-on (own step.rest))
+      held-fine fine (inl low) (passes-on own)
       (λ n life b is in_it inside other step'. other-life r e.proc step.act s step.life.space step.runs of apart n life b is in_it other)
     where
-      owner : owner_of r e.proc ≡ Some step.life.space
-      owner = owner-runs r e.proc at.owned ∙ ap (space_of_life r) step.runs ∙ of
-
-      taken : (b : ActNo) → Contains (taken_of r step.life.space) b → space_of_life r (Some b) ≢ Some s
-      taken b has is =
-          apart
-          (ap (λ (k : SpaceNo). k.0)
-          (same_Some step.life.space s (sym (at.known.apart.agrees.lives b ∙ ap space_in (at.known.apart.agrees.taken step.life.space b has)) ∙ is)))
-
-      own : AllOut ys ⊎ ((x ∷ ys ≡ map GiveBack (taken_of r step.life.space)) × ((b c : Readings) → settles b c x ≡ true))
-          → EachRecord (Passing s) w e.number e.proc (begun w e r) (x ∷ ys)
-      own (inl out) = (
-        first-passing w e.proc (begun w e r) s step.life.space x ys step.quiet.0 apart owner at.goes.steps.0 (λ b is. gives b is),
-        out-passes w e.number e.proc s (after_record w e.number e.proc (begun w e r) x) ys out,
-      ) where
-        gives : (b : ActNo) → x ≡ GiveBack b → space_of_life r (Some b) ≢ Some s
-        gives b is =
-            let by = subst (λ y. RankedStepBy w (begun w e r) e.proc step.act step.life y ys) is step.by in
-            taken b (head-has b ys (taken_of r step.life.space) by.all)
-          where
-            head-has : (k : ActNo) (zs : List Record) (acts : List ActNo) → GiveBack k ∷ zs ≡ map GiveBack acts → Contains acts k
-            head-has k zs [] same = absurd (cc)
-            head-has k zs (a ∷ acts) same = (0, omega arith, (let one : a ≡ k = cc in one))
-      own (inr all) =
-          subst (EachRecord (Passing s) w e.number e.proc (begun w e r)) (sym all.0)
-          (given-passes w e.number e.proc s (begun w e r) (taken_of r step.life.space) taken)
+      own : EachRecord (Passing s) w e.number e.proc (begun w e r) (x ∷ ys)
+      own =
+          step-passes RankedStepBy (Passing s) w st r e s x ys (λ w' r' p a life b zs by. by.all) at.known.apart.agrees at.owned at.goes.steps.0 step of apart
+          (λ passes. passes) (λ c xs' each. passing-each w e.number e.proc s c xs' each)
 
   pub same-fine : Fine r st r.lives s → line_of r e.proc ≡ None → BeginsUnurged w r e.proc (x ∷ (ys ++ cs))
       → (step : StepOf RankedStepBy w (begun w e r) e.proc x ys)
@@ -306,7 +261,11 @@ module _ (w : WorkloadView) (st : ℕ → Standing) (r : Readings) (e : Event) (
         → FineAfter w st r e (x ∷ (ys ++ cs)) s
     bound pass binds outs =
         let own : EachRecord (Passing s) w e.number e.proc (begun w e r)
-        (x ∷ ys) = (pass ys (begun w e r), out-passes w e.number e.proc s (after_record w e.number e.proc (begun w e r) x) ys outs) in
+        (x ∷ ys) = (
+          pass ys (begun w e r),
+          passing-each w e.number e.proc s (after_record w e.number e.proc (begun w e r) x) ys
+              (out-pass w e.number e.proc s (after_record w e.number e.proc (begun w e r) x) ys outs),
+        ) in
         let free : IsUnurged w r step.life x = subst (λ o. IsUnurgedIf true w r o x) step.on
         (subst (λ k. IsUnurgedIf k w r (life_on r e.proc) x) step.step freely) in
         three (passes-on own) (free.unurged (binds step.life))

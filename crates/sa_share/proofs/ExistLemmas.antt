@@ -24,12 +24,14 @@ IsBefore-cases first claims shares s t = elim (cases_order (priority_at claims s
   ]
 ]
 
-GoesFirst-cases : (first : ℕ) (claims : List Claim) (shares : List ℕ) (s : ℕ) (chosen : Option ℕ) → GoesFirst first claims shares s chosen ⊎ (GoesFirst first claims shares s chosen → ⊥)
+GoesFirst-cases : (first : ℕ) (claims : List Claim) (shares : List ℕ) (s : ℕ) (chosen : Option ℕ)
+    → GoesFirst first claims shares s chosen ⊎ (GoesFirst first claims shares s chosen → ⊥)
 GoesFirst-cases first claims shares s None = inl tt
 GoesFirst-cases first claims shares s (Some t) = IsBefore-cases first claims shares s t
 
 -- there is a next space, or every want is met
-next-exists : (first : ℕ) (claims : List Claim) (shares : List ℕ) → IsFirst first claims → (k : ℕ) → k ≤ length claims → (next : Option ℕ) × IsNextSoFar k first claims shares next
+next-exists : (first : ℕ) (claims : List Claim) (shares : List ℕ) → IsFirst first claims → (k : ℕ) → k ≤ length claims
+    → (next : Option ℕ) × IsNextSoFar k first claims shares next
 next-exists first claims shares is_first zero within = (None, λ s below. absurd (omega arith))
 next-exists first claims shares is_first (suc k) within =
     let so_far = next-exists first claims shares is_first k (omega arith) in
@@ -47,15 +49,24 @@ abbrev IsSharing : ℕ → ℕ → List Claim → Type 0
 IsSharing processors first claims = (shares : List ℕ) × (length shares ≡ length claims) × IsShare processors first claims shares
 
 -- one processor more can be given, or every want is met
-sharing-more : (processors first : ℕ) (claims : List Claim) (old : IsSharing processors first claims) (next : Option ℕ) → IsNextSoFar (length claims) first claims old.0 next → IsSharing (processors + 1) first claims
+sharing-more : (processors first : ℕ) (claims : List Claim) (old : IsSharing processors first claims) (next : Option ℕ)
+    → IsNextSoFar (length claims) first claims old.0 next → IsSharing (processors + 1) first claims
 sharing-more processors first claims old None none = (old.0, old.1, IsShare-all processors (processors + 1) first claims old.0 (omega arith) old.2 met) where
   met : (s : ℕ) → want_at claims s ≤ share_at old.0 s
   met s = elim (cases_lt s (length claims)) [ inl below ↦ none s below | inr past ↦ let e = want_at-past claims s past in omega arith ]
-sharing-more processors first claims old (Some s) next = (set old.0 s (share_at old.0 s + 1), length-set old.0 s (share_at old.0 s + 1) ∙ old.1, IsShare-more processors first claims old.0 s (omega arith) old.2 next)
+sharing-more processors first claims old (Some s) next = (
+  set old.0 s (share_at old.0 s + 1),
+  length-set old.0 s (share_at old.0 s + 1) ∙ old.1,
+  IsShare-more processors first claims old.0 s (omega arith) old.2 next,
+)
 
 -- there are shares, one for each claim
 pub sharing-exists : (processors first : ℕ) (claims : List Claim) → IsFirst first claims → IsSharing processors first claims
-sharing-exists zero first claims is_first = (replicate (length claims) 0, length-replicate (length claims) 0, IsShare-none first claims (replicate (length claims) 0) (sum_by-replicate (λ (n : ℕ). n) (length claims) 0 ∙ omega arith))
+sharing-exists zero first claims is_first = (
+  replicate (length claims) 0,
+  length-replicate (length claims) 0,
+  IsShare-none first claims (replicate (length claims) 0) (sum_by-replicate (λ (n : ℕ). n) (length claims) 0 ∙ omega arith),
+)
 sharing-exists (suc processors) first claims is_first =
     let old = sharing-exists processors first claims is_first in
     let next = next-exists first claims old.0 is_first (length claims) (omega arith) in

@@ -17,7 +17,8 @@ spent processors first claims shares of_shares = elim (cases_lt processors (tota
 ]
 
 -- claims that fall, but not below their shares, change no share
-pub stays : (processors first : ℕ) (claims lower : List Claim) (shares : List ℕ) → IsShare processors first claims shares → IsLowered claims lower shares → IsShare processors first lower shares
+pub stays : (processors first : ℕ) (claims lower : List Claim) (shares : List ℕ) → IsShare processors first claims shares → IsLowered claims lower shares
+    → IsShare processors first lower shares
 stays processors first claims lower shares of_shares fell = record {
   within = fell.covered;
   total = omega (arith, of_shares.total, sum-wants claims, sum-wants lower, fewer, enough);

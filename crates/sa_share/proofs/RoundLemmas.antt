@@ -15,19 +15,23 @@ use Rattle.sa_share.proofs.TurnLemmas.{IsNextSoFar, next-passes, next-chosen, ne
 is_before-true : (first : ℕ) (claims : List Claim) (shares : List ℕ) (s t : ℕ) → is_before first claims shares s t ≡ true → IsBefore first claims shares s t
 is_before-true first claims shares s t e = grind (arith, nat_tests)
 
-is_before-false : (first : ℕ) (claims : List Claim) (shares : List ℕ) (s t : ℕ) → is_before first claims shares s t ≡ false → IsBefore first claims shares s t → ⊥
+is_before-false : (first : ℕ) (claims : List Claim) (shares : List ℕ) (s t : ℕ) → is_before first claims shares s t ≡ false → IsBefore first claims shares s t
+    → ⊥
 is_before-false first claims shares s t e before = grind (arith, nat_tests)
 
-goes_first-true : (first : ℕ) (claims : List Claim) (shares : List ℕ) (s : ℕ) (chosen : Option ℕ) → goes_first first claims shares s chosen ≡ true → GoesFirst first claims shares s chosen
+goes_first-true : (first : ℕ) (claims : List Claim) (shares : List ℕ) (s : ℕ) (chosen : Option ℕ) → goes_first first claims shares s chosen ≡ true
+    → GoesFirst first claims shares s chosen
 goes_first-true first claims shares s None e = tt
 goes_first-true first claims shares s (Some t) e = is_before-true first claims shares s t e
 
-goes_first-false : (first : ℕ) (claims : List Claim) (shares : List ℕ) (s : ℕ) (chosen : Option ℕ) → goes_first first claims shares s chosen ≡ false → GoesFirst first claims shares s chosen → ⊥
+goes_first-false : (first : ℕ) (claims : List Claim) (shares : List ℕ) (s : ℕ) (chosen : Option ℕ) → goes_first first claims shares s chosen ≡ false
+    → GoesFirst first claims shares s chosen → ⊥
 goes_first-false first claims shares s None e goes = cc
 goes_first-false first claims shares s (Some t) e goes = is_before-false first claims shares s t e goes
 
 -- the choice so far is the next space
-next_below-next : (n first : ℕ) (claims : List Claim) (shares : List ℕ) → IsFirst first claims → n ≤ length claims → IsNextSoFar n first claims shares (next_below n first claims shares)
+next_below-next : (n first : ℕ) (claims : List Claim) (shares : List ℕ) → IsFirst first claims → n ≤ length claims
+    → IsNextSoFar n first claims shares (next_below n first claims shares)
 next_below-next zero first claims shares is_first within = λ s below. absurd (omega arith)
 next_below-next (suc n) first claims shares is_first within =
     let chosen = next_below n first claims shares in
@@ -38,7 +42,8 @@ next_below-next (suc n) first claims shares is_first within =
     subst (λ k. IsNextSoFar k first claims shares (next_below (suc n) first claims shares)) (add-one n)
     (cond_both (wants && goes) (Some n) chosen Next
     (λ both. let parts = and_parts wants goes both in
-    next-chosen n first claims shares chosen (ltb-true (share_at shares n) (want_at claims n) parts.0) (goes_first-true first claims shares n chosen parts.1) so_far)
+    next-chosen n first claims shares chosen (ltb-true (share_at shares n) (want_at claims n) parts.0)
+    (goes_first-true first claims shares n chosen parts.1) so_far)
     (λ not_both. elim (cases_lt (share_at shares n) (want_at claims n)) [
       | inr sated ↦ next-passes n first claims shares chosen sated so_far
       | inl more ↦ elim (and_cases wants goes not_both) [
@@ -52,7 +57,9 @@ record AreShares (processors first : ℕ) (claims : List Claim) (shares : List �
   given : IsShare processors first claims shares
   places : length shares ≡ MAX_SPACES
 
-with_one_more-shares : (processors first : ℕ) (claims : List Claim) (shares : List ℕ) (next : Option ℕ) → length claims ≤ MAX_SPACES → AreShares processors first claims shares → IsNextSoFar (length claims) first claims shares next → AreShares (processors + 1) first claims (with_one_more shares next)
+with_one_more-shares : (processors first : ℕ) (claims : List Claim) (shares : List ℕ) (next : Option ℕ) → length claims ≤ MAX_SPACES
+    → AreShares processors first claims shares → IsNextSoFar (length claims) first claims shares next
+    → AreShares (processors + 1) first claims (with_one_more shares next)
 with_one_more-shares processors first claims shares None fits old none = record {
   given = IsShare-all processors (processors + 1) first claims shares (omega arith) old.given met;
   places = old.places;
@@ -64,7 +71,8 @@ with_one_more-shares processors first claims shares (Some s) fits old next = rec
   places = length-set shares s (share_at shares s + 1) ∙ old.places;
 }
 
-shares_of-shares : (processors first : ℕ) (claims : List Claim) → length claims ≤ MAX_SPACES → IsFirst first claims → AreShares processors first claims (shares_of processors first claims)
+shares_of-shares : (processors first : ℕ) (claims : List Claim) → length claims ≤ MAX_SPACES → IsFirst first claims
+    → AreShares processors first claims (shares_of processors first claims)
 shares_of-shares zero first claims fits is_first = record {
   given = IsShare-none first claims (replicate MAX_SPACES 0) (sum_by-replicate (λ (n : ℕ). n) MAX_SPACES 0);
   places = refl;
@@ -76,14 +84,17 @@ shares_of-shares (suc processors) first claims fits is_first =
     (shares_of-shares processors first claims fits is_first)
     (next_below-next (length claims) first claims shares is_first (omega arith)))
 
-pub shares_of-share : (processors first : ℕ) (claims : List Claim) → length claims ≤ MAX_SPACES → IsFirst first claims → IsShare processors first claims (shares_of processors first claims)
+pub shares_of-share : (processors first : ℕ) (claims : List Claim) → length claims ≤ MAX_SPACES → IsFirst first claims
+    → IsShare processors first claims (shares_of processors first claims)
 shares_of-share processors first claims fits is_first = (shares_of-shares processors first claims fits is_first).given
 
-pub length-shares_of : (processors first : ℕ) (claims : List Claim) → length claims ≤ MAX_SPACES → IsFirst first claims → length (shares_of processors first claims) ≡ MAX_SPACES
+pub length-shares_of : (processors first : ℕ) (claims : List Claim) → length claims ≤ MAX_SPACES → IsFirst first claims
+    → length (shares_of processors first claims) ≡ MAX_SPACES
 length-shares_of processors first claims fits is_first = (shares_of-shares processors first claims fits is_first).places
 
 -- shares in 16 places are those
-pub shares_of-unique : (processors first : ℕ) (claims : List Claim) (shares : List ℕ) → length claims ≤ MAX_SPACES → IsFirst first claims → IsShare processors first claims shares → length shares ≡ MAX_SPACES → shares ≡ shares_of processors first claims
+pub shares_of-unique : (processors first : ℕ) (claims : List Claim) (shares : List ℕ) → length claims ≤ MAX_SPACES → IsFirst first claims
+    → IsShare processors first claims shares → length shares ≡ MAX_SPACES → shares ≡ shares_of processors first claims
 shares_of-unique processors first claims shares fits is_first given places =
     let own = shares_of-shares processors first claims fits is_first in
     shares_unique processors first claims shares (shares_of processors first claims) given own.given (places ∙ sym own.places)

@@ -55,7 +55,7 @@ sum-le (x ∷ xs) (y ∷ ys) le =
     let tail = sum-le xs ys (λ t. le (suc t)) in
     omega (arith, sum-cons x xs, sum-cons y ys)
 
--- .. and with the same sum it is the same everywhere
+-- a list that is nowhere above another and has the same sum is the same everywhere
 pub sum-same : (xs ys : List ℕ) → IsLe xs ys → sum xs ≡ sum ys → (s : ℕ) → get_or xs s 0 ≡ get_or ys s 0
 sum-same [] [] le same s = refl
 sum-same [] (y ∷ ys) le same zero = omega (arith, sum-cons y ys)
@@ -73,7 +73,8 @@ sum-same (x ∷ xs) (y ∷ ys) le same (suc s) =
     sum-same xs ys (λ t. le (suc t)) (omega (arith, sum-cons x xs, sum-cons y ys)) s
 
 -- no space has less by one sharing than by another
-no-less : (processors first : ℕ) (claims : List Claim) (x y : List ℕ) → IsShare processors first claims x → IsShare processors first claims y → (s : ℕ) → share_at x s < share_at y s → ⊥
+no-less : (processors first : ℕ) (claims : List Claim) (x y : List ℕ) → IsShare processors first claims x → IsShare processors first claims y → (s : ℕ)
+    → share_at x s < share_at y s → ⊥
 no-less processors first claims x y of_x of_y s less = elim (less-or-le x y) [
   | inl found ↦
       let t = found.0 in
@@ -96,7 +97,8 @@ no-less processors first claims x y of_x of_y s less = elim (less-or-le x y) [
 ]
 
 -- the shares are unique
-pub share_at-unique : (processors first : ℕ) (claims : List Claim) (x y : List ℕ) → IsShare processors first claims x → IsShare processors first claims y → (s : ℕ) → share_at x s ≡ share_at y s
+pub share_at-unique : (processors first : ℕ) (claims : List Claim) (x y : List ℕ) → IsShare processors first claims x → IsShare processors first claims y
+    → (s : ℕ) → share_at x s ≡ share_at y s
 share_at-unique processors first claims x y of_x of_y s = elim (cases_order (share_at x s) (share_at y s)) [
   | inl same ↦ same
   | inr apart ↦ elim apart [
@@ -105,7 +107,8 @@ share_at-unique processors first claims x y of_x of_y s = elim (cases_order (sha
   ]
 ]
 
-pub shares_unique : (processors first : ℕ) (claims : List Claim) (x y : List ℕ) → IsShare processors first claims x → IsShare processors first claims y → length x ≡ length y → x ≡ y
+pub shares_unique : (processors first : ℕ) (claims : List Claim) (x y : List ℕ) → IsShare processors first claims x → IsShare processors first claims y
+    → length x ≡ length y → x ≡ y
 shares_unique processors first claims x y of_x of_y long = ext_get_or 0 x y long (λ s within. share_at-unique processors first claims x y of_x of_y s)
 
 -- the wants as a list
@@ -133,9 +136,11 @@ IsShare-none first claims shares empty = record {
   none s = sym (sum-same [] shares (λ t. omega arith) (sym empty) s)
 
 -- every want is met
-pub IsShare-all : (given processors first : ℕ) (claims : List Claim) (shares : List ℕ) → given ≤ processors → IsShare given first claims shares → ((s : ℕ) → want_at claims s ≤ share_at shares s) → IsShare processors first claims shares
+pub IsShare-all : (given processors first : ℕ) (claims : List Claim) (shares : List ℕ) → given ≤ processors → IsShare given first claims shares
+    → ((s : ℕ) → want_at claims s ≤ share_at shares s) → IsShare processors first claims shares
 IsShare-all given processors first claims shares few old met =
-    let within : total_want claims ≤ sum shares = omega (arith, sum-wants claims, sum-le (wants claims) shares (λ s. let e = get_or-wants claims s in let f = met s in omega arith)) in
+    let within : total_want claims ≤ sum shares =
+    omega (arith, sum-wants claims, sum-le (wants claims) shares (λ s. let e = get_or-wants claims s in let f = met s in omega arith)) in
     let sum_was = old.total in
     record {
       within = old.within;
@@ -146,26 +151,28 @@ IsShare-all given processors first claims shares few old met =
     }
 
 -- where a space wants more, fewer processors are given than wanted
-sum-less : (claims : List Claim) (shares : List ℕ) (s : ℕ) → ((t : ℕ) → share_at shares t ≤ want_at claims t) → WantsMore claims shares s → sum shares < total_want claims
+sum-less : (claims : List Claim) (shares : List ℕ) (s : ℕ) → ((t : ℕ) → share_at shares t ≤ want_at claims t) → WantsMore claims shares s
+    → sum shares < total_want claims
 sum-less claims shares s wanted more =
     let le : IsLe shares (wants claims) = λ t. let e = get_or-wants claims t in let f = wanted t in omega arith in
     let sums = sum-le shares (wants claims) le in
     let apart : sum shares ≢ sum (wants claims) = λ same. let e = sum-same shares (wants claims) le same s in let f = get_or-wants claims s in omega arith in
     omega (arith, sum-wants claims)
 
--- past the claims a space wants nothing ..
+-- past the claims a space wants nothing
 pub want_at-past : (claims : List Claim) (s : ℕ) → length claims ≤ s → want_at claims s ≡ 0
 want_at-past claims s past = ap (λ (claim : Claim). claim.want) (get_or_past claims s (record { priority = 0; want = 0 }) past)
 
--- .. so a space that wants more is one of the claims
+-- a space that wants more is one of the claims
 WantsMore-within : (claims : List Claim) (shares : List ℕ) (s : ℕ) → WantsMore claims shares s → s < length claims
 WantsMore-within claims shares s more = elim (cases_lt s (length claims)) [
   | inl below ↦ below
   | inr past ↦ let e = want_at-past claims s past in absurd (omega arith)
 ]
 
--- .. and gets nothing
-pub share_at-past : (processors first : ℕ) (claims : List Claim) (shares : List ℕ) → IsShare processors first claims shares → (s : ℕ) → length claims ≤ s → share_at shares s ≡ 0
+-- past the claims a space gets nothing
+pub share_at-past : (processors first : ℕ) (claims : List Claim) (shares : List ℕ) → IsShare processors first claims shares → (s : ℕ) → length claims ≤ s
+    → share_at shares s ≡ 0
 share_at-past processors first claims shares of_shares s past = let e = want_at-past claims s past in let f = of_shares.within s in omega arith
 
 -- what it says of numbers that s is served before t
@@ -202,7 +209,8 @@ served-cases first claims shares s t within = elim (cases_eq t s) [
 ]
 
 -- one processor more, for the space that is next
-pub IsShare-more : (given first : ℕ) (claims : List Claim) (shares : List ℕ) (s : ℕ) → length claims ≤ length shares → IsShare given first claims shares → IsNext (length claims) first claims shares s → IsShare (given + 1) first claims (set shares s (share_at shares s + 1))
+pub IsShare-more : (given first : ℕ) (claims : List Claim) (shares : List ℕ) (s : ℕ) → length claims ≤ length shares → IsShare given first claims shares
+    → IsNext (length claims) first claims shares s → IsShare (given + 1) first claims (set shares s (share_at shares s + 1))
 IsShare-more given first claims shares s room old next = record {
   within = λ t. elim (cases t) [ inl served ↦ omega arith | inr passed ↦ let e = old.within t in omega arith ];
   total =
@@ -241,5 +249,7 @@ IsShare-more given first claims shares s room old next = record {
   cases : (t : ℕ) → IsServed first claims shares s t ⊎ IsPassed shares s t
   cases t = served-cases first claims shares s t within
 
-  before : (t : ℕ) → t ≢ s → WantsMore claims shares t → (priority_at claims t ≤ priority_at claims s) × (priority_at claims s ≡ priority_at claims t → share_at shares s ≤ share_at shares t) × (priority_at claims s ≡ priority_at claims t → share_at shares s ≡ share_at shares t → rank_of first claims s < rank_of first claims t)
+  before : (t : ℕ) → t ≢ s → WantsMore claims shares t
+      → (priority_at claims t ≤ priority_at claims s) × (priority_at claims s ≡ priority_at claims t → share_at shares s ≤ share_at shares t)
+      × (priority_at claims s ≡ priority_at claims t → share_at shares s ≡ share_at shares t → rank_of first claims s < rank_of first claims t)
   before t other more = IsBefore-numbers first claims shares s t (next.before t (WantsMore-within claims shares t more) other more)

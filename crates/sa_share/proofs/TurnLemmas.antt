@@ -18,16 +18,19 @@ rank-cases first n s first_in s_in = elim (cases_lt s first) [
 ]
 
 -- two spaces have different ranks
-rank_of-same : (first : ℕ) (claims : List Claim) (s t : ℕ) → first < length claims → s < length claims → t < length claims → rank_of first claims s ≡ rank_of first claims t → s ≡ t
+rank_of-same : (first : ℕ) (claims : List Claim) (s t : ℕ) → first < length claims → s < length claims → t < length claims
+    → rank_of first claims s ≡ rank_of first claims t → s ≡ t
 rank_of-same first claims s t first_in s_in t_in same = elim (rank-cases first (length claims) s first_in s_in) [
   | inl low ↦ elim (rank-cases first (length claims) t first_in t_in) [ inl low_t ↦ omega arith | inr high_t ↦ omega arith ]
   | inr high ↦ elim (rank-cases first (length claims) t first_in t_in) [ inl low_t ↦ omega arith | inr high_t ↦ omega arith ]
 ]
 
-IsBefore-trans : (first : ℕ) (claims : List Claim) (shares : List ℕ) (s t u : ℕ) → IsBefore first claims shares s t → IsBefore first claims shares t u → IsBefore first claims shares s u
+IsBefore-trans : (first : ℕ) (claims : List Claim) (shares : List ℕ) (s t u : ℕ) → IsBefore first claims shares s t → IsBefore first claims shares t u
+    → IsBefore first claims shares s u
 IsBefore-trans first claims shares s t u st tu = grind arith
 
-IsBefore-total : (first : ℕ) (claims : List Claim) (shares : List ℕ) (s t : ℕ) → first < length claims → s < length claims → t < length claims → s ≢ t → (IsBefore first claims shares s t → ⊥) → IsBefore first claims shares t s
+IsBefore-total : (first : ℕ) (claims : List Claim) (shares : List ℕ) (s t : ℕ) → first < length claims → s < length claims → t < length claims → s ≢ t
+    → (IsBefore first claims shares s t → ⊥) → IsBefore first claims shares t s
 IsBefore-total first claims shares s t first_in s_in t_in apart not =
     let different : rank_of first claims s ≢ rank_of first claims t = λ same. apart (rank_of-same first claims s t first_in s_in t_in same) in
     grind arith
@@ -37,7 +40,8 @@ abbrev pub IsNextSoFar : ℕ → ℕ → List Claim → List ℕ → Option ℕ 
 IsNextSoFar k first claims shares next = MatchOption next ((s : ℕ) → s < k → want_at claims s ≤ share_at shares s) (IsNext k first claims shares)
 
 -- the space k is sated, and the choice stays
-pub next-passes : (k first : ℕ) (claims : List Claim) (shares : List ℕ) (next : Option ℕ) → want_at claims k ≤ share_at shares k → IsNextSoFar k first claims shares next → IsNextSoFar (k + 1) first claims shares next
+pub next-passes : (k first : ℕ) (claims : List Claim) (shares : List ℕ) (next : Option ℕ) → want_at claims k ≤ share_at shares k
+    → IsNextSoFar k first claims shares next → IsNextSoFar (k + 1) first claims shares next
 next-passes k first claims shares None sated so_far = below_more _ _ so_far sated
 next-passes k first claims shares (Some s) sated so_far = record {
   within = omega arith;
@@ -49,7 +53,8 @@ next-passes k first claims shares (Some s) sated so_far = record {
 }
 
 -- nothing was chosen so far, and the space k wants more
-pub next-begins : (k first : ℕ) (claims : List Claim) (shares : List ℕ) → WantsMore claims shares k → IsNextSoFar k first claims shares None → IsNextSoFar (k + 1) first claims shares (Some k)
+pub next-begins : (k first : ℕ) (claims : List Claim) (shares : List ℕ) → WantsMore claims shares k → IsNextSoFar k first claims shares None
+    → IsNextSoFar (k + 1) first claims shares (Some k)
 next-begins k first claims shares more so_far = record {
   within = omega arith;
   wants = more;
@@ -57,7 +62,8 @@ next-begins k first claims shares more so_far = record {
 }
 
 -- the space k goes before the one chosen so far
-pub next-changes : (k first : ℕ) (claims : List Claim) (shares : List ℕ) (s : ℕ) → WantsMore claims shares k → IsBefore first claims shares k s → IsNextSoFar k first claims shares (Some s) → IsNextSoFar (k + 1) first claims shares (Some k)
+pub next-changes : (k first : ℕ) (claims : List Claim) (shares : List ℕ) (s : ℕ) → WantsMore claims shares k → IsBefore first claims shares k s
+    → IsNextSoFar k first claims shares (Some s) → IsNextSoFar (k + 1) first claims shares (Some k)
 next-changes k first claims shares s more earlier so_far = record {
   within = omega arith;
   wants = more;
@@ -68,22 +74,27 @@ next-changes k first claims shares s more earlier so_far = record {
 }
 
 -- the space k does not go before the one chosen so far
-pub next-stays : (k first : ℕ) (claims : List Claim) (shares : List ℕ) (s : ℕ) → first < length claims → k < length claims → (IsBefore first claims shares k s → ⊥) → IsNextSoFar k first claims shares (Some s) → IsNextSoFar (k + 1) first claims shares (Some s)
+pub next-stays : (k first : ℕ) (claims : List Claim) (shares : List ℕ) (s : ℕ) → first < length claims → k < length claims
+    → (IsBefore first claims shares k s → ⊥) → IsNextSoFar k first claims shares (Some s) → IsNextSoFar (k + 1) first claims shares (Some s)
 next-stays k first claims shares s first_in k_in not so_far = record {
   within = omega arith;
   wants = so_far.wants;
   before = λ t below apart wants. elim (cases_eq t k) [
-    | inl same ↦ subst (λ u. IsBefore first claims shares s u) (sym same) (IsBefore-total first claims shares k s first_in k_in (omega arith) (λ e. apart (same ∙ e)) not)
+    | inl same ↦
+        subst (λ u. IsBefore first claims shares s u) (sym same)
+        (IsBefore-total first claims shares k s first_in k_in (omega arith) (λ e. apart (same ∙ e)) not)
     | inr other ↦ so_far.before t (omega arith) apart wants
   ];
 }
 
--- the space k wants more: it is chosen where it goes first ..
-pub next-chosen : (k first : ℕ) (claims : List Claim) (shares : List ℕ) (next : Option ℕ) → WantsMore claims shares k → GoesFirst first claims shares k next → IsNextSoFar k first claims shares next → IsNextSoFar (k + 1) first claims shares (Some k)
+-- the space k wants more: it is chosen where it goes first
+pub next-chosen : (k first : ℕ) (claims : List Claim) (shares : List ℕ) (next : Option ℕ) → WantsMore claims shares k → GoesFirst first claims shares k next
+    → IsNextSoFar k first claims shares next → IsNextSoFar (k + 1) first claims shares (Some k)
 next-chosen k first claims shares None more goes so_far = next-begins k first claims shares more so_far
 next-chosen k first claims shares (Some s) more goes so_far = next-changes k first claims shares s more goes so_far
 
--- .. and else the choice stays
-pub next-kept : (k first : ℕ) (claims : List Claim) (shares : List ℕ) (next : Option ℕ) → first < length claims → k < length claims → (GoesFirst first claims shares k next → ⊥) → IsNextSoFar k first claims shares next → IsNextSoFar (k + 1) first claims shares next
+-- the choice stays where the space k does not go first
+pub next-kept : (k first : ℕ) (claims : List Claim) (shares : List ℕ) (next : Option ℕ) → first < length claims → k < length claims
+    → (GoesFirst first claims shares k next → ⊥) → IsNextSoFar k first claims shares next → IsNextSoFar (k + 1) first claims shares next
 next-kept k first claims shares None first_in k_in not so_far = absurd (not tt)
 next-kept k first claims shares (Some s) first_in k_in not so_far = next-stays k first claims shares s first_in k_in not so_far

@@ -30,7 +30,7 @@ abbrev pub with_one_more : List ℕ → Option ℕ → List ℕ
 with_one_more shares None = shares
 with_one_more shares (Some s) = slice_set shares s (share_at shares s + 1)
 
--- the shares of the claims in so many processors: one place for each space that there can be
+-- the shares of the claims in that many processors: one place for each space that there can be
 abbrev pub shares_of : ℕ → ℕ → List Claim → List ℕ
 shares_of zero first claims = replicate MAX_SPACES 0
 shares_of (suc processors) first claims =

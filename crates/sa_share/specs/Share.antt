@@ -34,7 +34,7 @@ rank_of first claims s = (s + length claims - first) % length claims
 abbrev pub IsFirst : ℕ → List Claim → Type 0
 IsFirst first claims = first < max 1 (length claims)
 
--- these are the shares of the claims in so many processors, where the space `first` has rank 0
+-- these are the shares of the claims in that many processors, where the space `first` has rank 0
 pub record IsShare (processors first : ℕ) (claims : List Claim) (shares : List ℕ) : Type 0 where
   -- no space gets more than it wants
   pub within : (s : ℕ) → share_at shares s ≤ want_at claims s
@@ -43,9 +43,9 @@ pub record IsShare (processors first : ℕ) (claims : List Claim) (shares : List
   -- a space gets something only where every space of higher priority has its whole want
   pub higher : (s t : ℕ) → priority_at claims s < priority_at claims t → 0 < share_at shares s
       → share_at shares t ≡ want_at claims t
-  -- a space with less than it wants is at most one behind any other of its priority ..
+  -- a space with less than it wants gets at most one less than any other of its priority
   pub level : (s t : ℕ) → priority_at claims s ≡ priority_at claims t → WantsMore claims shares s
       → share_at shares t ≤ share_at shares s + 1
-  -- .. and one behind only those of lower rank
+  -- it gets one less only than those of lower rank
   pub earlier : (s t : ℕ) → priority_at claims s ≡ priority_at claims t → WantsMore claims shares s
       → share_at shares t ≡ share_at shares s + 1 → rank_of first claims t < rank_of first claims s

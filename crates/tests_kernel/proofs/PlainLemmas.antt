@@ -36,7 +36,7 @@ says-rightly w k p r m Idle plain = refl
 says-rightly w k p r m GiveBack plain = refl
 says-rightly w k p r m (InterruptOwn q) plain = refl
 
--- an entry fits behind the evictions of its event as before them
+-- an entry fits after the evictions of its event as before them
 fits-evicted : (e n : ℕ) (k : KernelState ℕ) (p : ProcNo) (entry : Entry ℕ) → IsFit k p e entry → IsFit (evicted_at n k) p e entry
 fits-evicted e n k p (Interrupt held) fit = record { raised = fit.raised; held = fit.held; owned = fit.owned }
 fits-evicted e n k p (Block held len page) fit = record { space = fit.space; asks = record { owner = fit.asks.owner; low = fit.asks.low }; page = fit.page }
@@ -52,7 +52,7 @@ fits-evicted e n k p (InterruptOwn q) fit = record {
   owned = record { owner = fit.owned.owner; low = fit.owned.low };
 }
 
--- the last of some events, where one is put behind them
+-- the last of some events, where one is put after them
 last_of-push : (e : Event) (es : List Event) (x : Event) → last_of e (es ++ x ∷ []) ≡ x
 last_of-push e [] x = refl
 last_of-push e (y ∷ es) x = last_of-push y es x
@@ -65,9 +65,10 @@ longer-lawful test w events e p x next = record {
 }
 
 -- a history goes on by a plain entry
-pub enter-lawful : (e : ℕ) (p : ProcNo) (entry : Entry ℕ) (old mid : KernelState ℕ) (before items : List Item) (new : Scene ℕ) → items ≡ before → mid ≡ evicted_at e old
-    → old.telling ≡ [] → IsFit old p e entry → IsPlain entry → GoesOnLawfully e p (Some entry) (record { state = mid; items = items }) new
-    → (slice last : ℕ) → GoesFrom slice last e (record { state = old; items = before }) new
+pub enter-lawful : (e : ℕ) (p : ProcNo) (entry : Entry ℕ) (old mid : KernelState ℕ) (before items : List Item) (new : Scene ℕ) → items ≡ before
+    → mid ≡ evicted_at e old → old.telling ≡ [] → IsFit old p e entry → IsPlain entry
+    → GoesOnLawfully e p (Some entry) (record { state = mid; items = items }) new → (slice last : ℕ)
+    → GoesFrom slice last e (record { state = old; items = before }) new
 enter-lawful e p entry old mid before items new same evicts fetched fit plain goes slice last test w slices past =
     longer-lawful test w past.events e p new (goes test w past.events [] (record {
       before = record { state = old; items = before };
@@ -94,7 +95,8 @@ ticks test w events e p old mid before items added evicts fetched low past = rec
 }
 
 same-first : (w : WorkloadView) (slice last e : ℕ) → w.slice ≡ slice → IsSameSlice slice last e → first_space w e ≡ first_space w last
-same-first w slice last e is (inl none) = ap (λ n. if n == 0 then 0 else (e / n) % length w.spaces) (is ∙ none) ∙ sym (ap (λ n. if n == 0 then 0 else (last / n) % length w.spaces) (is ∙ none))
+same-first w slice last e is (inl none) =
+    ap (λ n. if n == 0 then 0 else (e / n) % length w.spaces) (is ∙ none) ∙ sym (ap (λ n. if n == 0 then 0 else (last / n) % length w.spaces) (is ∙ none))
 same-first w slice last e is (inr same) =
     ap (λ n. if n == 0 then 0 else (e / n) % length w.spaces) is ∙ ap (λ q. if slice == 0 then 0 else q % length w.spaces) same
     ∙ sym (ap (λ n. if n == 0 then 0 else (last / n) % length w.spaces) is)
@@ -104,7 +106,8 @@ pub tick-lawful : (slice last e : ℕ) (p : ProcNo) (old mid : KernelState ℕ) 
     → items ≡ before ++ record { event = e; proc = p; what = Tick } ∷ [] → mid ≡ evicted_at e old → old.telling ≡ [] → line_of old p ≡ None
     → GoesOnLawfully e p None (record { state = mid; items = items }) new → GoesFrom slice last e (record { state = old; items = before }) new
 tick-lawful slice last e p old mid before items new added evicts fetched low goes test w slices past =
-    longer-lawful test w past.events e p new (goes test w past.events (Tick ∷ []) (ticks test w past.events e p old mid before items added evicts fetched low past.history))
+    longer-lawful test w past.events e p new
+    (goes test w past.events (Tick ∷ []) (ticks test w past.events e p old mid before items added evicts fetched low past.history))
 
 pub quiet-lawful : (slice last e : ℕ) (p : ProcNo) (old mid : KernelState ℕ) (before items : List Item)
     → items ≡ before ++ record { event = e; proc = p; what = Tick } ∷ [] → mid ≡ evicted_at e old → old.telling ≡ [] → line_of old p ≡ None

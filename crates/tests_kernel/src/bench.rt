@@ -16,7 +16,7 @@ fn asks(kernel: &Kernel<u64>, p: ProcNo) -> bool
     kernel.owner(p).is_some() && kernel.line(p).is_none()
 }
 
-// Whether so many processors more fit the demand of the space that asks.
+// Whether that many processors more fit the demand of the space that asks.
 fn can_want(kernel: &Kernel<u64>, p: ProcNo, event: u64, n: u16) -> bool
     requires { p.0 < processors kernel.now }
     ensures { IsTrue result → FitsMore (kernel_of kernel.now) p n }

@@ -10,7 +10,9 @@ pub loop-turn-init : goal.loop-turn-init
 loop-turn-init c = record { given = IsShare-none c.args.first c.args.claims.now _ refl; places = refl }
 
 pub returns-in_default-clause-shares : goal.returns-in_default-clause-shares
-returns-in_default-clause-shares c = IsShare-all c.loop-turn._turn c.args.processors c.args.first c.args.claims.now c.loop-turn.shares (omega arith) c.loop-turn.invariant.given c.in_default.ensures.none
+returns-in_default-clause-shares c =
+    IsShare-all c.loop-turn._turn c.args.processors c.args.first c.args.claims.now c.loop-turn.shares
+    (omega arith) c.loop-turn.invariant.given c.in_default.ensures.none
 
 pub loop-turn-preserved : goal.loop-turn-preserved
 loop-turn-preserved c =
@@ -34,4 +36,5 @@ pub returns-clause-function : goal.returns-clause-function
 returns-clause-function c =
     let all : c.loop-turn._turn ≡ c.args.processors = omega arith in
     subst (λ (n : ℕ). c.loop-turn.shares ≡ shares_of n c.args.first c.args.claims.now) all
-    (shares_of-unique c.loop-turn._turn c.args.first c.args.claims.now c.loop-turn.shares c.requires.spaces c.requires.first c.loop-turn.invariant.given c.loop-turn.invariant.places)
+    (shares_of-unique c.loop-turn._turn c.args.first c.args.claims.now c.loop-turn.shares
+    c.requires.spaces c.requires.first c.loop-turn.invariant.given c.loop-turn.invariant.places)

@@ -8,7 +8,8 @@ returns-in-Some-clause-within c = least_below-within (length c.args.aims.now) (h
 
 pub returns-in-Some-first_idle-clause-within : goal.returns-in-Some-first_idle-clause-within
 returns-in-Some-first_idle-clause-within c =
-    least_below-within (length c.args.aims.now) (is_idle_and_spared c.args.shares.now c.args.marks.now c.args.aims.now) (Some c.in-Some-first_idle.p) c.in-Some-first_idle.ensures
+    least_below-within (length c.args.aims.now) (is_idle_and_spared c.args.shares.now c.args.marks.now c.args.aims.now)
+    (Some c.in-Some-first_idle.p) c.in-Some-first_idle.ensures
 
 pub returns-clause-within : goal.returns-clause-within
 returns-clause-within c =

@@ -11,7 +11,9 @@ loop-evict-init c =
     let event = c.args.event in
     let es = c.args.evictions.now in
     let from = c.partition_point-from.result in
-    let point = IsPartitionPoint-from_clause (λ (e : Evict). ltb e.event event) es from c.partition_point-from.ensures.partitioned (IsPartitionedBy-event event es c.requires.order) (λ a r q k. search rules) in
+    let point =
+    IsPartitionPoint-from_clause (λ (e : Evict). ltb e.event event) es from c.partition_point-from.ensures.partitioned
+    (IsPartitionedBy-event event es c.requires.order) (λ a r q k. search rules) in
     let cut = IsCut-from_point event es from point in
     ap (λ (xs : List Evict). evicted event xs c.args.pages.now) (take_rest es from) ∙ evicted-skip event from es c.args.pages.now cut.0
 
@@ -20,7 +22,10 @@ returns-then-evict-event c =
     let event = c.args.event in
     let es = c.args.evictions.now in
     let from = c.partition_point-from.result in
-    let point = IsPartitionPoint-from_clause (λ (e : Evict). ltb e.event event) es from c.partition_point-from.ensures.partitioned (IsPartitionedBy-event event es c.requires.order) (λ a r q k. search rules) in
+    let point =
+    IsPartitionPoint-from_clause (λ (e : Evict). ltb e.event event) es from c.partition_point-from.ensures.partitioned
+    (IsPartitionedBy-event event es c.requires.order) (λ a r q k. search rules) in
     let cut = IsCut-from_point event es from point in
-    sym (evicted-then event from c.loop-evict.evict-index es c.loop-evict.pages _ c.requires.order cut c.partition_point-from.ensures.bound c.loop-evict-test.true c.if-evict-event.true)
+    sym (evicted-then event from c.loop-evict.evict-index es c.loop-evict.pages _
+    c.requires.order cut c.partition_point-from.ensures.bound c.loop-evict-test.true c.if-evict-event.true)
     ∙ c.loop-evict.invariant

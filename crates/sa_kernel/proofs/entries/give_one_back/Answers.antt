@@ -12,7 +12,9 @@ returns g c =
     record {
       acts = one.acts;
       taken = one.taken;
-      items = items-one c.args.event c.args.p c.in-Some.a (taken_in v c.args.s.0) (taken_in w c.args.s.0) c.args.trace.now.items c.say.new.self.items one.list c.say.ensures.items;
+      items =
+          items-one c.args.event c.args.p c.in-Some.a (taken_in v c.args.s.0)
+          (taken_in w c.args.s.0) c.args.trace.now.items c.say.new.self.items one.list c.say.ensures.items;
       left = (let e = ap (λ (xs : List ActNo). length xs) one.list in omega arith);
       spare = one.spare;
       used = one.used;

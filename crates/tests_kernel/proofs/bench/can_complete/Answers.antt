@@ -17,4 +17,5 @@ pub returns-then-due-io : goal.returns-then-due-io
 returns-then-due-io c = λ low.
     let k = kernel_of c.args.kernel.now in
     let some = subst (λ n. IsSome (io_at n k.under_way)) c.if-due-io.true c.in-Some.ensures.under_way in
-    completes k c.args.p c.args.event c.args.io (io_at c.args.io.0 k.under_way) c.line.result refl some c.line.ensures (ap not c.is_none.ensures ∙ ap (λ b. not (not b)) low)
+    completes k c.args.p c.args.event c.args.io (io_at c.args.io.0 k.under_way) c.line.result refl some c.line.ensures
+    (ap not c.is_none.ensures ∙ ap (λ b. not (not b)) low)

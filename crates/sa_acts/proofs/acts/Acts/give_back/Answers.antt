@@ -13,7 +13,9 @@ invariant_of-self-2 g c =
 
 pub returns-clause-gave : goal.returns-clause-gave
 returns-clause-gave g c =
-    let queues = ap (λ (qs : List QueueView). acts_of (record { table = c.try_remove.new.self; taken = all_numbers qs; spare = c.self.inside.spare })) c.pop_from.ensures.rest in
+    let queues =
+    ap (λ (qs : List QueueView). acts_of
+    (record { table = c.try_remove.new.self; taken = all_numbers qs; spare = c.self.inside.spare })) c.pop_from.ensures.rest in
     queues ∙ view-gave c.self.inside.slots c.try_remove.new.self c.self.inside.taken c.self.inside.spare c.args.s.0 c.in_ok-a.a
     c.try_remove.ensures.updates (sym c.in_ok-a.ensures.first)
     ∙ ap (λ (v : Slots g.row.C.Denot). gave_back (acts_of v) c.args.s.0) c.self.view_is

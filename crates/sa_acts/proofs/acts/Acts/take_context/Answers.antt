@@ -18,14 +18,28 @@ invariant_of-self g c =
     let kept = c.self.invariant.kept c.args.a.0 x is in
     let room = room-took c.self.inside.slots c.self.inside.taken c.self.inside.spare c.args.a.0 x y x.space.0 c.args.a
     c.self.invariant is (kept.held held) refl (record { space = kept.space; held = λ h. absurd (false≢true h) }) kept.space in
-    subst (λ (h : Option (Stopped g.row.C.Denot)). HasRoom (with_value c.self.inside.slots c.args.a.0 (record x { held = h; taken = true })) c.push_on.new.queues c.self.inside.spare)
-    (sym c.take.ensures.after) (subst (λ (qs : List QueueView). HasRoom (with_value c.self.inside.slots c.args.a.0 y) qs c.self.inside.spare) (sym c.push_on.ensures) room)
+    subst (λ (h : Option (Stopped g.row.C.Denot)). HasRoom (with_value c.self.inside.slots c.args.a.0
+    (record x { held = h; taken = true })) c.push_on.new.queues c.self.inside.spare)
+    (sym c.take.ensures.after) (subst (λ (qs : List QueueView). HasRoom (with_value c.self.inside.slots c.args.a.0 y) qs c.self.inside.spare)
+    (sym c.push_on.ensures) room)
 
 pub returns-clause-took : goal.returns-clause-took
 returns-clause-took g c =
     let x : Act g.row.C.Denot = c.in-Some.act.now in
     let is : get c.self.inside.slots c.args.a.0 ≡ Some x = sym c.in-Some.ensures.value in
-    let changed = ap (λ (h : Option (Stopped g.row.C.Denot)). acts_of (record { table = with_value c.self.inside.slots c.args.a.0 (record x { held = h; taken = true }); taken = all_numbers c.push_on.new.queues; spare = c.self.inside.spare })) c.take.ensures.after in
-    let queues = ap (λ (qs : List QueueView). acts_of (record { table = with_value c.self.inside.slots c.args.a.0 (record x { held = None; taken = true }); taken = all_numbers qs; spare = c.self.inside.spare })) c.push_on.ensures in
+    let changed =
+    ap (λ (h : Option (Stopped g.row.C.Denot)). acts_of
+    (record {
+      table = with_value c.self.inside.slots c.args.a.0 (record x { held = h; taken = true });
+      taken = all_numbers c.push_on.new.queues;
+      spare = c.self.inside.spare;
+    })) c.take.ensures.after in
+    let queues =
+    ap (λ (qs : List QueueView). acts_of
+    (record {
+      table = with_value c.self.inside.slots c.args.a.0 (record x { held = None; taken = true });
+      taken = all_numbers qs;
+      spare = c.self.inside.spare;
+    })) c.push_on.ensures in
     changed ∙ queues ∙ view-took c.self.inside.slots c.self.inside.taken c.self.inside.spare c.args.a x is
     ∙ ap (λ (v : Slots g.row.C.Denot). took (acts_of v) c.args.a) c.self.view_is

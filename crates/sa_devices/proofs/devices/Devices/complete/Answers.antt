@@ -23,7 +23,8 @@ pub complete-requires : goal.complete-requires
 complete-requires c =
     let d = c.self.inside in
     let at = found c.args.io.0 d.ios.under_way c.complete-kind.result c.complete-kind.ensures.kind in
-    IsKind-page (length d.pages.items) c.complete-kind.result (IsKind-found c.args.io.0 (length d.pages.items) d.ios.under_way c.complete-kind.result c.self.invariant.kinds at)
+    IsKind-page (length d.pages.items) c.complete-kind.result
+    (IsKind-found c.args.io.0 (length d.pages.items) d.ios.under_way c.complete-kind.result c.self.invariant.kinds at)
 
 pub invariant_of-self : goal.invariant_of-self
 invariant_of-self c =

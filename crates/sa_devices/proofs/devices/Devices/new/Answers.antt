@@ -19,4 +19,5 @@ invariant_of-result c =
     ap length c.loop-space.invariant.pages ∙ length-map (take i spaces) opening_pages ∙ length-take-le i spaces (omega arith) ∙ all in
     let in_range = subst (λ (xs : List SpaceView). All (IsEviction (length xs)) evictions) (sym c.spaces-space-items.ensures.value) c.evictions.ensures.range in
     subst (λ (es : List Evict). IsSound c.new.result c.loop-space.fetching.items c.loop-space.pages.items es) (sym c.in_ok-from_slice.ensures.items)
-    (IsSound-new c.new.result c.loop-space.fetching.items c.loop-space.pages.items evictions (length spaces) c.new.ensures counted size in_range c.evictions.ensures.rise)
+    (IsSound-new c.new.result c.loop-space.fetching.items c.loop-space.pages.items evictions
+    (length spaces) c.new.ensures counted size in_range c.evictions.ensures.rise)

@@ -31,7 +31,8 @@ returns-clause-kind c =
     let places = c.self.inside.places.items in
     let n = c.args.io.0 in
     let at = stands places n c.args.self.now.under_way (ap (λ (v : IosView). v.under_way) c.self.view_is) c.requires in
-    let same : at.entry ≡ c.in-Some.entry = same_Some at.entry c.in-Some.entry (sym at.at ∙ get_or_default places n None c.index.result.now at.below ∙ sym c.index.ensures ∙ c.in-Some.is) in
+    let same : at.entry ≡ c.in-Some.entry =
+    same_Some at.entry c.in-Some.entry (sym at.at ∙ get_or_default places n None c.index.result.now at.below ∙ sym c.index.ensures ∙ c.in-Some.is) in
     ap (λ (v : IosView). option_map (λ (x : Io). x.kind) (io_at n v.under_way)) (sym c.self.view_is)
     ∙ ap (option_map (λ (x : Io). x.kind)) (io_at-place n places)
     ∙ ap (λ e. option_map (λ (x : Io). x.kind) (option_map (io_of n) e)) at.at

@@ -9,7 +9,8 @@ taken_front : (bytes to came : List ℕ) (at n : ℕ) → n ≤ length (drop at 
 taken_front bytes to came at n fits is =
     let from = drop at bytes in
     let front : take n came ≡ take n from =
-    ap (take n) is ∙ subst (λ k. take k (take n from ++ drop n to) ≡ take n from) (length-take-le n from fits) (take-append_seam (take n from) (drop n to)) in
+    ap (take n) is
+    ∙ subst (λ k. take k (take n from ++ drop n to) ≡ take n from) (length-take-le n from fits) (take-append_seam (take n from) (drop n to)) in
     sym (ap (λ l. l ++ drop (at + n) bytes) front ∙ ap (λ l. take n from ++ l) (sym (drop-drop n at bytes)) ∙ take-append-drop n from)
 
 pub returns-clause-taken : goal.returns-clause-taken

@@ -9,11 +9,14 @@ use Rattle.sa_kernel.proofs.kernel.Kernel.start.Goals as goal
 
 pub lows-lows-requires : goal.lows-lows-requires
 lows-lows-requires g c =
-    (kept-start c.in_ok-parts.parts c.open.new.self c.open.new.trace c.args.w.now _ c.ranges-2.ensures c.in_ok-parts.ensures.state c.in_ok-parts.ensures.used c.open.ensures.exact c.open.ensures.room).sound.formed
+    (kept-start c.in_ok-parts.parts c.open.new.self c.open.new.trace c.args.w.now _ c.ranges-2.ensures
+    c.in_ok-parts.ensures.state c.in_ok-parts.ensures.used c.open.ensures.exact c.open.ensures.room).sound.formed
 
 pub invariant_of-result : goal.invariant_of-result
 invariant_of-result g c = record {
-  kept = kept-start c.in_ok-parts.parts c.open.new.self c.open.new.trace c.args.w.now _ c.ranges-2.ensures c.in_ok-parts.ensures.state c.in_ok-parts.ensures.used c.open.ensures.exact c.open.ensures.room;
+  kept =
+      kept-start c.in_ok-parts.parts c.open.new.self c.open.new.trace c.args.w.now _ c.ranges-2.ensures c.in_ok-parts.ensures.state c.in_ok-parts.ensures.used
+      c.open.ensures.exact c.open.ensures.room;
   low = c.lows-lows.ensures;
 }
 
