@@ -7,7 +7,7 @@ pub record Recorded : Type 0 where
   pub items : List Item
   pub spare : ℕ
 
--- so many items more at most, for which there was room
+-- at most that many items more, for which there was room
 pub record Adds (most : ℕ) (old new : Recorded) : Type 0 where
   pub spare : old.spare ≤ new.spare + most
   pub same : new.spare + length new.items ≡ old.spare + length old.items

@@ -13,14 +13,14 @@ pub enum Note {
     Unblocked(ActNo),
 }
 
-/// What stands where no notice was put yet.
+/// What is in a place where no notice was put yet.
 impl Default for Note {
     fn default() -> Note {
         Note::Add(ProcNo(0))
     }
 }
 
-/// What happened, without its event. The 23 kinds stand in the order of the trace text's counts.
+/// What happened, without its event. The 23 kinds are in the order of the trace text's counts.
 /// A thread that may be absent is the one that the context carries.
 #[derive(Clone, Copy, Debug, PartialEq, Eq)]
 pub enum Record {
@@ -40,7 +40,7 @@ pub enum Record {
     Cont(SpaceNo, Option<ThreadNo>),
     /// A continued section is over, and control is back with the handler.
     Back(SpaceNo, Option<ThreadNo>),
-    /// The thread stands in a ready list.
+    /// The thread is in a ready list.
     Ready(SpaceNo, ThreadNo),
     /// The lock of this processor's ready list was taken.
     Take(SpaceNo, ProcNo, Option<ThreadNo>),

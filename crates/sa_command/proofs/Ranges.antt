@@ -17,7 +17,7 @@ use Rattle.sa_command.specs.Values.{within, number_within, schedule_of, package_
 use Rattle.sa_command.specs.Commands.{with_schedule, with_budget, with_burst, with_package, with_option, settings_of, nothing_set, set_by, run_options, threads_options, turn_options, budget_option, run_of, threads_of, load_of, migrate_of, check_of, vp_of, debug_of, named, command_of}
 use Rattle.sa_command.specs.Ranges.{IsFrom, IsInRange, CommandsAreInRange}
 
--- what holds of the value, if there is one, holds behind a step that keeps it
+-- what holds of the value, if there is one, holds after a step that keeps it
 bind : {A B : Type 0} (P : A → Type 0) (Q : B → Type 0) (k : A → Option B) (o : Option A) → IfSome o P
     → ((x : A) → P x → IfSome (k x) Q) → IfSome (option_and_then k o) Q
 bind P Q k None h step = tt
@@ -72,7 +72,8 @@ with_option-range taken s name value h =
     (any (package_of value)) (λ x k. record { budget = h.budget; burst = h.burst }) in
     let last = if bytes_eq name (codes "--package") then with_package taken s value else None in
     let behind = if bytes_eq name (codes "--burst") then with_burst taken s value else last in
-    chosen AreFine (bytes_eq name (codes "--schedule")) (with_schedule taken s value) (if bytes_eq name (codes "--budget") then with_budget taken s value else behind) schedule
+    chosen AreFine (bytes_eq name (codes "--schedule")) (with_schedule taken s value)
+    (if bytes_eq name (codes "--budget") then with_budget taken s value else behind) schedule
     (chosen AreFine (bytes_eq name (codes "--budget")) (with_budget taken s value) behind budget
     (chosen AreFine (bytes_eq name (codes "--burst")) (with_burst taken s value) last burst
     (chosen AreFine (bytes_eq name (codes "--package")) (with_package taken s value) None user_level tt)))

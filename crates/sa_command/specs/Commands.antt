@@ -113,7 +113,7 @@ named name words =
     else (if bytes_eq name (codes "vp") then vp_of words
     else (if bytes_eq name (codes "debug") then debug_of words else None))))))
 
--- the command of the words behind the program's name
+-- the command of the words after the program's name
 abbrev pub command_of : List (List ℕ) → Option Command
 command_of [] = None
 command_of (name ∷ words) = named name words

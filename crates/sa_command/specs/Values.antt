@@ -16,7 +16,7 @@ within low high n = if nat_le low n && nat_le n high then Some n else None
 abbrev pub number_within : ℕ → ℕ → List ℕ → Option ℕ
 number_within low high bytes = option_and_then (within low high) (number_of bytes)
 
--- what stands behind a prefix
+-- what follows a prefix
 abbrev pub behind : List ℕ → List ℕ → Option (List ℕ)
 behind prefix word = if bytes_eq (take (length prefix) word) prefix then Some (drop (length prefix) word) else None
 

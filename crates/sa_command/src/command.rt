@@ -25,19 +25,19 @@ pub enum PackageWord {
 /// What the program is asked to do.
 #[derive(Clone, Copy, Debug, PartialEq, Eq)]
 pub enum Command {
-    /// Runs the workload of standard input with this user level, for at most so many events, 1 to 1,000,000.
+    /// Runs the workload of standard input with this user level, for at most that many events, 1 to 1,000,000.
     Run {
         schedule: ScheduleWord,
         budget: u64,
         user_level: PackageWord,
     },
-    /// Runs the workload of standard input with a host thread for each processor, for at most so many events, 1 to
-    /// 1,000,000, in bursts of at most so many instructions, 1 to 64.
+    /// Runs the workload of standard input with a host thread for each processor, for at most that many events, 1 to
+    /// 1,000,000, in bursts of at most that many instructions, 1 to 64.
     Threads {
         budget: u64,
         burst: u16,
     },
-    /// Runs the workload that is made of the number, for at most so many events, 1 to 1,000,000.
+    /// Runs the workload that is made of the number, for at most that many events, 1 to 1,000,000.
     Load {
         number: u64,
         budget: u64,
@@ -46,14 +46,14 @@ pub enum Command {
     Migrate {
         slice: u32,
     },
-    /// Runs the workload of standard input on virtual processors, for at most so many events, 1 to 1,000,000.
+    /// Runs the workload of standard input on virtual processors, for at most that many events, 1 to 1,000,000.
     Vp {
         schedule: ScheduleWord,
         budget: u64,
     },
-    /// Judges the trace text of standard input beside the workload text that stands before it.
+    /// Judges the trace text of standard input beside the workload text that comes before it.
     Check,
-    /// Debugs the workload of standard input by the script that stands behind it, for at most so many events, 1 to 1,000,000.
+    /// Debugs the workload of standard input by the script that follows it, for at most that many events, 1 to 1,000,000.
     Debug {
         budget: u64,
     },

@@ -36,7 +36,7 @@ pub(crate) fn read_options(taken: Options, words: &[String]) -> Option<Settings>
     read_settings(taken, nothing, words)
 }
 
-// What is set behind these words.
+// What is set after these words.
 fn read_settings(taken: Options, settings: Settings, words: &[String]) -> Option<Settings>
     ensures { result ≡ settings_of taken settings (map string_bytes words.now) }
 {
@@ -50,7 +50,7 @@ fn read_settings(taken: Options, settings: Settings, words: &[String]) -> Option
     }
 }
 
-// What is set behind one option.
+// What is set after one option.
 fn with_option(taken: Options, settings: Settings, name: &str, value: &[u8]) -> Option<Settings>
     ensures { result ≡ with_option taken settings name.now value.now }
 {

@@ -27,7 +27,7 @@ fn read_list(words: &[String]) -> Option<Command>
     }
 }
 
-// The command of this name, and these words behind it.
+// The command of this name, and these words after it.
 fn read_named(name: &str, words: &[String]) -> Option<Command>
     ensures { result ≡ named name.now (map string_bytes words.now) }
 {

@@ -2,7 +2,7 @@ ghost use Rattle.std.specs.Prelude.{◌≡◌, map, string_bytes};
 
 use std::marker::Model;
 
-/// The words of a command line behind the program's name, in order. Contracts see the list of their bytes.
+/// The words of a command line after the program's name, in order. Contracts see the list of their bytes.
 #[derive(Debug, Drop)]
 pub struct Words {
     list: Vec<String>,

@@ -52,7 +52,8 @@ is_space n k = record {
   absent_rise = λ i h. absurd (omega arith);
   some_program = omega arith;
   few_programs = omega arith;
-  programs = all_of IsProgram (main_program (workers_of n) ∷ worker_program (rounds_of n) ∷ []) (is_main (workers_of n) (omega arith), (is_worker (rounds_of n) (omega arith), tt));
+  programs = all_of IsProgram (main_program (workers_of n) ∷ worker_program (rounds_of n) ∷ [])
+      (is_main (workers_of n) (omega arith), (is_worker (rounds_of n) (omega arith), tt));
   names = all_of (All (NamesDeclared 1 1 1 2)) (main_program (workers_of n) ∷ worker_program (rounds_of n) ∷ []) (
     all_of (NamesDeclared 1 1 1 2) (main_program (workers_of n)) (search rules),
     (all_of (NamesDeclared 1 1 1 2) (worker_program (rounds_of n)) (search rules), tt),
@@ -65,7 +66,8 @@ pub are_spaces : (n count : ℕ) → All IsSpace (map (generated_space n) (range
 are_spaces n count = All-map IsSpace (generated_space n) (range_with_len 0 count) (λ i d h. is_space n _)
 
 -- the same where the lists are equal to the made ones
-pub space_with : (n k : ℕ) (sems absent : List ℕ) (programs : List (List Instr)) → sems ≡ 0 ∷ [] → absent ≡ [] → programs ≡ main_program (workers_of n) ∷ worker_program (rounds_of n) ∷ []
+pub space_with : (n k : ℕ) (sems absent : List ℕ) (programs : List (List Instr)) → sems ≡ 0 ∷ [] → absent ≡ []
+    → programs ≡ main_program (workers_of n) ∷ worker_program (rounds_of n) ∷ []
     → IsSpace (record { priority = k % 8; mutexes = 1; sems = sems; cells = 1; absent = absent; programs = programs; patience = 1 })
 space_with n k sems absent programs starts pages made = rw (starts, pages, made) (is_space n k)
 
@@ -88,6 +90,7 @@ is_workload n =
       slice = omega arith;
     }
 
-pub workload_with : (n : ℕ) (spaces : List SpaceView) (evictions : List Evict) (turns : List ProcNo) → spaces ≡ map (generated_space n) (range_with_len 0 (spaces_of n)) → evictions ≡ [] → turns ≡ []
+pub workload_with : (n : ℕ) (spaces : List SpaceView) (evictions : List Evict) (turns : List ProcNo)
+    → spaces ≡ map (generated_space n) (range_with_len 0 (spaces_of n)) → evictions ≡ [] → turns ≡ []
     → IsWorkload (record { processors = processors_of n; fetch = 10; spaces = spaces; evictions = evictions; turns = turns; slice = 0 })
 workload_with n spaces evictions turns made none untold = rw (made, none, untold) (is_workload n)

@@ -60,7 +60,8 @@ is_probe_space k few = record {
   some_program = omega arith;
   few_programs = omega arith;
   programs = all_of IsProgram (forking_program ∷ io_program k ∷ []) (is_forking, (is_io k few, tt));
-  names = all_of (All (NamesDeclared 0 0 0 2)) (forking_program ∷ io_program k ∷ []) (all_of (NamesDeclared 0 0 0 2) forking_program (search rules), (all_of (NamesDeclared 0 0 0 2) (io_program k) (search rules), tt));
+  names = all_of (All (NamesDeclared 0 0 0 2)) (forking_program ∷ io_program k ∷ [])
+      (all_of (NamesDeclared 0 0 0 2) forking_program (search rules), (all_of (NamesDeclared 0 0 0 2) (io_program k) (search rules), tt));
   patient = omega arith;
   patience = omega arith;
 }
@@ -82,6 +83,7 @@ is_probe k few = record {
   slice = omega arith;
 }
 
-pub probe_with : (k : ℕ) (spaces : List SpaceView) (evictions : List Evict) (turns : List ProcNo) → k ≤ 40 → spaces ≡ probe_space k ∷ [] → evictions ≡ [] → turns ≡ probe_turns k
+pub probe_with : (k : ℕ) (spaces : List SpaceView) (evictions : List Evict) (turns : List ProcNo) → k ≤ 40 → spaces ≡ probe_space k ∷ [] → evictions ≡ []
+    → turns ≡ probe_turns k
     → IsWorkload (record { processors = 2; fetch = 10; spaces = spaces; evictions = evictions; turns = turns; slice = 0 })
 probe_with k spaces evictions turns few made none told = rw (made, none, told) (is_probe k few)

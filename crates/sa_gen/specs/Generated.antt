@@ -20,7 +20,7 @@ workers_of n = 1 + n / 64 % 200
 abbrev pub rounds_of : ℕ → ℕ
 rounds_of n = 1 + n / 12800 % 100
 
--- program 0 forks so many workers, waits for a signal of each, and gives out what is then in cell 0
+-- program 0 forks n workers, waits for a signal of each, and gives out what is then in cell 0
 abbrev pub main_program : ℕ → List Instr
 main_program workers =
     Set R1 1 ∷ Set R0 workers ∷ Fork R2 1 ∷ Sub R0 R1 ∷ Jnz R0 2

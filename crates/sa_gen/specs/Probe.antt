@@ -1,4 +1,4 @@
--- The workload in which a fork is interrupted after so many events of its operation on a ready list.
+-- The workload in which a fork is interrupted after a given number of events of its operation on a ready list.
 use Rattle.std.specs.Prelude.{ℕ, ◌+◌, List, [], ◌∷◌, ◌++◌, replicate}
 use Rattle.sa_base.specs.declared.number.ProcNo.{ProcNo}
 use Rattle.sa_instr.specs.declared.instr.Reg.TheVariants.{R0, R1}
@@ -25,7 +25,7 @@ probe_space k = record {
   patience = 1;
 }
 
--- so many turns of a processor
+-- this number of turns of a processor
 abbrev pub turns_of : ℕ → ℕ → List ProcNo
 turns_of proc count = replicate count (record { 0 = proc })
 

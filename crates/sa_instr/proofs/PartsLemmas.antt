@@ -165,7 +165,8 @@ none-making : (kinds : List OperandKind) (operation : Operation) (o : List Opera
 none-making kinds operation o None e unfit = unfit
 none-making kinds operation o (Some i) e unfit = absurd cc
 
-bare-making : (operation : Operation) (i : Instr) → parts_of i ≡ parts operation [] → (o : List Operand) → IsMaking [] operation o (if length o == 0 then Some i else None)
+bare-making : (operation : Operation) (i : Instr) → parts_of i ≡ parts operation [] → (o : List Operand)
+    → IsMaking [] operation o (if length o == 0 then Some i else None)
 bare-making operation i shown [] = (refl, shown)
 bare-making operation i shown (x ∷ o) = none-making [] operation (x ∷ o) _ (wrong_number (length (x ∷ o)) 0 _ (λ e. absurd (omega arith))) (λ e. cc)
 
@@ -195,7 +196,8 @@ module _ {A B : Type 0} (p : Coded A) (q : Coded B) (operation : Operation) (mak
   two-making [] = λ e. cc
   two-making (x ∷ []) = λ e. cc
   two-making (x ∷ y ∷ []) = by_two x y (p.read x) (q.read y) (p.back x) (q.back y)
-  two-making (x ∷ y ∷ z ∷ o) = none-making (p.kind ∷ q.kind ∷ []) operation (x ∷ y ∷ z ∷ o) _ (wrong_number (length (x ∷ y ∷ z ∷ o)) 2 _ (λ e. absurd (omega arith))) (λ e. cc)
+  two-making (x ∷ y ∷ z ∷ o) =
+      none-making (p.kind ∷ q.kind ∷ []) operation (x ∷ y ∷ z ∷ o) _ (wrong_number (length (x ∷ y ∷ z ∷ o)) 2 _ (λ e. absurd (omega arith))) (λ e. cc)
 
 -- each operation with its operands
 pub making : (operation : Operation) (o : List Operand) → IsMaking (form_of operation).operands operation o (instr_of operation o)

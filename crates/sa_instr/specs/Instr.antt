@@ -25,6 +25,6 @@ IsInRange instr = Each InRange (parts_of instr).operands
 abbrev pub JumpsBelow : (len : ℕ) → Instr → Type 0
 JumpsBelow len instr = Each (IsPlaceBelow len) (parts_of instr).operands
 
--- the mutex, semaphore, cell or program that the instruction names is declared, where there are so many of each
+-- the mutex, semaphore, cell or program that the instruction names is declared, where there are that many of each
 abbrev pub NamesDeclared : (mutexes sems cells programs : ℕ) → Instr → Type 0
 NamesDeclared mutexes sems cells programs instr = Each (IsDeclared mutexes sems cells programs) (parts_of instr).operands

@@ -6,7 +6,7 @@ use Rattle.sa_instr.specs.declared.answer.Local.{Local}
 use Rattle.sa_instr.specs.declared.answer.Local.TheVariants.{Went, NotLocal, Ended}
 use Rattle.sa_instr.specs.Regs.{reg_value, with_reg}
 
--- the instruction at a place of a program, and `end` behind its last one
+-- the instruction at a place of a program, and `end` after its last one
 abbrev pub instr_at : List Instr → ℕ → Instr
 instr_at program pc = slice_index_or program pc End
 

@@ -31,7 +31,7 @@ abbrev pub IsPlaceBelow : (len : ℕ) → Operand → Type 0
 IsPlaceBelow len (Place place) = place < len
 IsPlaceBelow len _ = Unit {0}
 
--- what the operand names is declared, where there are so many of each
+-- what the operand names is declared, where there are that many of each
 abbrev pub IsDeclared : (mutexes sems cells programs : ℕ) → Operand → Type 0
 IsDeclared mutexes sems cells programs (Cell cell) = cell < cells
 IsDeclared mutexes sems cells programs (Program program) = program < programs

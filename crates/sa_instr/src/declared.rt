@@ -17,7 +17,7 @@ pub struct Declared {
 }
 
 impl Declared {
-    /// Whether a space may declare so many.
+    /// Whether a space may declare that many.
     pub fn is_in_range(&self) -> bool
         ensures { IsTrue result ↔
             ((self.now.mutexes ≤ MAX_MUTEXES) × (self.now.sems ≤ MAX_SEMAPHORES)

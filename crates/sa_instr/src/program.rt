@@ -64,7 +64,7 @@ impl Program {
         ensures at { slice_get self.now pc ≡ Some result }
         ensures instr { result ≡ instr_at self.now pc }
 
-        // What a program keeps to, at this place: there is a next one, but behind an `End`.
+        // What a program keeps to, at this place: there is a next one, except after an `End`.
         ensures short { length self.now ≤ MAX_INSTRUCTIONS }
         ensures next { result ≢ Instr.End → pc + 1 < length self.now }
         ensures jumps { JumpsBelow (length self.now) result }

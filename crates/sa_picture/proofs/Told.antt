@@ -32,7 +32,7 @@ piece-taken before at after text written rest piece behind n whole front back ta
       Appends-trans before at after written piece taken more,
     )
 
--- a prefix of a piece behind what was written is a prefix of the text
+-- a prefix of a piece after what was written is a prefix of the text
 pub piece-cut : (before at after : Option (List ℕ)) (text written rest piece behind : List ℕ) (n : ℕ)
     → text ≡ written ++ rest → piece ≡ take n rest → behind ≡ drop n rest
     → Appends before at written → AppendsPrefix at after piece

@@ -31,7 +31,7 @@ last_event items = event_of (slice_get items (length items - 1))
 abbrev pub window_of : Request → List Item → Option Window
 window_of r items = window_to (unwrap_or r.from (first_event items)) (min (unwrap_or r.to (last_event items)) (last_event items))
 
--- .. where there is no more to draw than a picture may have
+-- a window in which there is no more to draw than a picture may have
 abbrev pub drawable : List Item → Window → Option Window
 drawable items w = if can_be_drawn (extent_of w items) then Some w else None
 

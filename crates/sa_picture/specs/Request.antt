@@ -30,7 +30,7 @@ settings_of s [] = Some s
 settings_of s (word ∷ []) = None
 settings_of s (name ∷ value ∷ words) = option_and_then (λ t. settings_of t words) (with_option s name value)
 
--- the last event does not stand before the first, where both are named
+-- the last event is not before the first, where both are named
 abbrev pub in_order : Option ℕ → Option ℕ → Bool
 in_order (Some from) (Some to) = nat_le from to
 in_order from to = true
@@ -39,6 +39,6 @@ abbrev pub request_by : Settings → Option Request
 request_by s =
     if in_order s.from s.to then Some (record { from = s.from; to = s.to; width = unwrap_or s.width DEFAULT_WIDTH }) else None
 
--- the request of the words behind the program's name
+-- the request of the words after the program's name
 abbrev pub request_of : List (List ℕ) → Option Request
 request_of words = option_and_then request_by (settings_of (record { from = None; to = None; width = None }) words)

@@ -30,7 +30,7 @@ fn main(rt: HostRuntime) -> ExitCode {
     ExitCode::from(status.code())
 }
 
-/// The words behind the program's name. One that is no text is no word of a request.
+/// The words after the program's name. One that is no text is no word of a request.
 fn read_command_line(rt: &(impl Env + AllocGlobal)) -> Result<Vec<String>, Status> {
     let words = env::args(rt).map_err(|error| match error.kind() {
         ErrorKind::OutOfMemory => Status::OutOfMemory,

@@ -56,7 +56,7 @@ fn in_order(from: Option<u64>, to: Option<u64>) -> bool
     }
 }
 
-// What is set behind these words.
+// What is set after these words.
 fn read_settings(settings: Settings, words: &[String]) -> Option<Settings>
     ensures { result ≡ settings_of settings (map string_bytes words.now) }
 {
@@ -70,7 +70,7 @@ fn read_settings(settings: Settings, words: &[String]) -> Option<Settings>
     }
 }
 
-// What is set behind one option.
+// What is set after one option.
 fn with_option(settings: Settings, name: &str, value: &[u8]) -> Option<Settings>
     ensures { result ≡ with_option settings name.now value.now }
 {

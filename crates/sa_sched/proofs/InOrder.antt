@@ -9,7 +9,7 @@ use Rattle.sa_sched.specs.Order.{Order, RoundRobin, Seed, Given, Hold, processor
 use Rattle.sa_sched.specs.Turns.{Rest, NoRest, Words, Procs, Holding, Turns, start, whole, behind, turned, turned_often, next_of, next_processor, holds}
 use Rattle.sa_sched.proofs.Lists.{slice_get-drop, drop-next}
 
--- what is left of an order behind so many turns
+-- what is left of an order after that many turns
 abbrev rest_behind : Order → ℕ → Rest
 rest_behind RoundRobin turns = NoRest
 rest_behind (Seed seed) turns = Words (increment_of seed) (state_of seed turns)
@@ -25,7 +25,8 @@ rest_first (Hold held from) =
     let before : from - 1 ≡ from - (0 + 1) = omega arith in
     ap (λ x. Holding held x (1 - from)) before ∙ ap (λ x. Holding held (from - (0 + 1)) x) over
 
-hold_behind : (held from turns before : ℕ) → from - (turns + 1) ≡ before → behind (Holding held before (min (turns + 1 - from) HOLD_EVENTS)) ≡ rest_behind (Hold held from) (turns + 1)
+hold_behind : (held from turns before : ℕ) → from - (turns + 1) ≡ before
+    → behind (Holding held before (min (turns + 1 - from) HOLD_EVENTS)) ≡ rest_behind (Hold held from) (turns + 1)
 hold_behind held from turns zero e =
     let none : 0 ≡ from - (turns + 1 + 1) = omega arith in
     let over : min (min (turns + 1 - from) HOLD_EVENTS + 1) HOLD_EVENTS ≡ min (turns + 1 + 1 - from) HOLD_EVENTS = omega arith in
@@ -42,7 +43,8 @@ rest_next (Given procs) turns = ap Procs (sym (drop-next procs turns))
 rest_next (Hold held from) turns =
     hold_behind held from turns (from - (turns + 1)) refl
 
-behind_turns : (order : Order) (processors turns : ℕ) → 1 ≤ processors → turned_often (start order processors) turns ≡ record { processors = processors; turn = turns % processors; rest = rest_behind order turns }
+behind_turns : (order : Order) (processors turns : ℕ) → 1 ≤ processors
+    → turned_often (start order processors) turns ≡ record { processors = processors; turn = turns % processors; rest = rest_behind order turns }
 behind_turns order processors zero some =
     let first : 0 ≡ 0 % processors = omega arith in
     let made : ℕ → Rest → Turns = λ turn rest. record { processors = processors; turn = turn; rest = rest } in
@@ -58,7 +60,8 @@ back : (turns : ℕ) → turns ≡ turns + 1 - 1
 back turns = omega arith
 
 -- a processor is held at the same events
-same_tests : (processors held from turns : ℕ) → holds processors held (from - (turns + 1)) (min (turns + 1 - from) HOLD_EVENTS) ≡ is_held processors held from (turns + 1)
+same_tests : (processors held from turns : ℕ)
+    → holds processors held (from - (turns + 1)) (min (turns + 1 - from) HOLD_EVENTS) ≡ is_held processors held from (turns + 1)
 same_tests processors held from turns = grind (arith, nat_tests)
 
 held_place : (processors held from turns : ℕ) → is_held processors held from (turns + 1) ≡ true → min (turns + 1 - from) HOLD_EVENTS ≡ turns + 1 - from
@@ -73,10 +76,14 @@ next_at (Hold held from) processors turns =
     let k = turns + 1 in
     let over = min (k - from) HOLD_EVENTS in
     ap (λ b. cond b (other_than held (over % (processors - 1))) (turns % processors)) (same_tests processors held from turns)
-    ∙ elim (is_held processors held from k) as (λ b. b ≡ is_held processors held from k → cond b (other_than held (over % (processors - 1))) (turns % processors) ≡ cond b (other_than held ((k - from) % (processors - 1))) (in_turn processors k)) [
+    ∙ elim (is_held processors held from k) as
+    (λ b. b ≡ is_held processors held from k
+    → cond b (other_than held (over % (processors - 1))) (turns % processors) ≡ cond b (other_than held ((k - from) % (processors - 1)))
+    (in_turn processors k)) [
       | true ↦ λ e. ap (λ n. other_than held (n % (processors - 1))) (held_place processors held from turns (sym e))
       | false ↦ λ e. ap (λ n. n % processors) (back turns)
     ] refl
 
-pub turns_in_order : (order : Order) (processors turns : ℕ) → 1 ≤ processors → next_processor (turned_often (start order processors) turns) ≡ processor_at order processors (turns + 1)
+pub turns_in_order : (order : Order) (processors turns : ℕ) → 1 ≤ processors
+    → next_processor (turned_often (start order processors) turns) ≡ processor_at order processors (turns + 1)
 turns_in_order order processors turns some = ap next_processor (behind_turns order processors turns some) ∙ next_at order processors turns

@@ -42,12 +42,18 @@ word-small state =
     or_lt 32 (x / 2 ^ (by % 32)) (x * 2 ^ ((32 - by % 32) % 32) % 2 ^ 32) left (mod-lt (x * 2 ^ ((32 - by % 32) % 32)) (omega arith))
 
 -- the generator that the crate makes of a seed is the one of the definition
-pub seeded : (seed : ℕ) → Words (pcg32_of_seed (pcg32_seed 16 seed)).increment (pcg32_of_seed (pcg32_seed 16 seed)).state ≡ Words (increment_of seed) (state_of seed 0)
+pub seeded : (seed : ℕ) → Words (pcg32_of_seed (pcg32_seed 16 seed)).increment (pcg32_of_seed (pcg32_seed 16 seed)).state ≡ Words (increment_of seed)
+    (state_of seed 0)
 seeded seed =
     let a = seed_word seed 1 in let b = seed_word seed 2 in let c = seed_word seed 3 in let d = seed_word seed 4 in
-    let words : ℕ → ℕ → Rest = λ (state increment : ℕ). Words (bit_or increment 1) (state_behind (bit_or increment 1) ((state + bit_or increment 1) % 2 ^ 64)) in
-    let low : u64_at (bytes_of a b c d) 0 ≡ joined_words a b = ap (λ x. x + u32_at (bytes_of a b c d) 1 * 2 ^ 32) (word_0 a b c d (word-small (stretched seed 1))) ∙ ap (λ x. a + x * 2 ^ 32) (word_1 a b c d (word-small (stretched seed 2))) in
-    let high : u64_at (bytes_of a b c d) 1 ≡ joined_words c d = ap (λ x. x + u32_at (bytes_of a b c d) 3 * 2 ^ 32) (word_2 a b c d (word-small (stretched seed 3))) ∙ ap (λ x. c + x * 2 ^ 32) (word_3 a b c d (word-small (stretched seed 4))) in
+    let words : ℕ → ℕ → Rest = λ (state increment : ℕ). Words (bit_or increment 1)
+    (state_behind (bit_or increment 1) ((state + bit_or increment 1) % 2 ^ 64)) in
+    let low : u64_at (bytes_of a b c d) 0 ≡ joined_words a b =
+    ap (λ x. x + u32_at (bytes_of a b c d) 1 * 2 ^ 32) (word_0 a b c d (word-small (stretched seed 1)))
+    ∙ ap (λ x. a + x * 2 ^ 32) (word_1 a b c d (word-small (stretched seed 2))) in
+    let high : u64_at (bytes_of a b c d) 1 ≡ joined_words c d =
+    ap (λ x. x + u32_at (bytes_of a b c d) 3 * 2 ^ 32) (word_2 a b c d (word-small (stretched seed 3)))
+    ∙ ap (λ x. c + x * 2 ^ 32) (word_3 a b c d (word-small (stretched seed 4))) in
     ap (λ bytes. Words (pcg32_of_seed bytes).increment (pcg32_of_seed bytes).state) (stretch seed)
     ∙ ap (λ x. words x (u64_at (bytes_of a b c d) 1)) low
     ∙ ap (λ x. words (joined_words a b) x) high

@@ -4,7 +4,7 @@
 use Rattle.std.specs.Prelude.{ℕ, zero, suc, ◌+◌, ◌-◌, ◌*◌, ◌/◌, ◌%◌, ◌^◌, bit_or, bit_xor}
 use Rattle.std.specs.Int.{w32, rotate_right}
 
--- the state behind a state
+-- the state that follows a state
 abbrev pub state_behind : ℕ → ℕ → ℕ
 state_behind increment state = (state * 6364136223846793005 % 2 ^ 64 + increment) % 2 ^ 64
 
@@ -29,7 +29,7 @@ joined_words low high = low + high * 2 ^ 32
 abbrev pub increment_of : ℕ → ℕ
 increment_of seed = bit_or (joined_words (seed_word seed 3) (seed_word seed 4)) 1
 
--- its state after so many words: the first is one step behind the seed's first two words plus the increment
+-- its state after that many words: the first is one step after the seed's first two words plus the increment
 abbrev pub state_of : ℕ → ℕ → ℕ
 state_of seed zero = state_behind (increment_of seed) ((joined_words (seed_word seed 1) (seed_word seed 2) + increment_of seed) % 2 ^ 64)
 state_of seed (suc words) = state_behind (increment_of seed) (state_of seed words)

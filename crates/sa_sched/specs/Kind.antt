@@ -10,7 +10,7 @@ order_of (kind.Seed seed) = Seed seed
 order_of (kind.Given procs) = Given (map (λ p. p.0) procs.items)
 order_of (kind.Hold proc from) = Hold proc.0 from
 
--- the processors that are given are among so many
+-- the processors that are given are among that many
 abbrev pub AreAmong : ℕ → Order → Type 0
 AreAmong processors RoundRobin = Unit {0}
 AreAmong processors (Seed seed) = Unit {0}

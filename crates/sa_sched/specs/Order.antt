@@ -8,7 +8,7 @@ pub data Order : Type 0 where
   RoundRobin : Order
   -- by the words that the generator makes of this seed
   Seed : ℕ → Order
-  -- these processors, and round robin behind them
+  -- these processors, and round robin after them
   Given : List ℕ → Order
   -- round robin, but that this processor has no turn from this event on, for a while
   Hold : ℕ → ℕ → Order

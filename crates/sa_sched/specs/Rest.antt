@@ -16,7 +16,7 @@ rest_of (order.Seed rng) = Words rng.increment rng.state
 rest_of (order.Given procs next) = Procs (procs_from procs.items next)
 rest_of (order.Hold proc before over) = Holding proc.0 before over
 
--- a place in a given list is in it or at its end, and its processors are among so many; a hold has its end
+-- a place in a given list is in it or at its end, and its processors are among that many; a hold has its end
 abbrev pub IsOrder : ℕ → Order → Type 0
 IsOrder processors order.RoundRobin = Unit {0}
 IsOrder processors (order.Seed rng) = Unit {0}

@@ -43,7 +43,7 @@ next_of processors turn (Holding held before over) =
 abbrev pub next_processor : Turns → ℕ
 next_processor s = next_of s.processors s.turn s.rest
 
--- the schedule behind its next turn
+-- the schedule after its next turn
 abbrev pub behind : Rest → Rest
 behind NoRest = NoRest
 behind (Words increment state) = Words increment (state_behind increment state)
@@ -54,7 +54,7 @@ behind (Holding held (suc before) over) = Holding held before over
 abbrev pub turned : Turns → Turns
 turned s = record { processors = s.processors; turn = (s.turn + 1) % s.processors; rest = behind s.rest }
 
--- and behind so many turns
+-- the schedule after that many turns
 abbrev pub turned_often : Turns → ℕ → Turns
 turned_often s zero = s
 turned_often s (suc turns) = turned (turned_often s turns)

@@ -8,7 +8,7 @@ pub enum Kind {
     /// By the words that the generator `rand_pcg::Lcg64Xsh32` makes of this seed: the k-th, modulo
     /// the number of processors, is the processor of event k.
     Seed(u64),
-    /// These processors, and behind them the one that has its turn by round robin.
+    /// These processors, and after them the one that has its turn by round robin.
     Given(Vec<ProcNo>),
     /// Round robin, but that one processor stands still for `HOLD_EVENTS` events, while the others
     /// take turns.

@@ -94,7 +94,7 @@ fn beginning_of(kind: Kind, processors: u16) -> Order
     }
 }
 
-// The next processor of an order, of so many, where by round robin it is the turn of `turn`.
+// The next of that many processors by an order, where by round robin it is the turn of `turn`.
 fn next_in(order: &mut Order, turn: u16, processors: u16) -> ProcNo
     requires turn { turn < processors }
     requires few { processors ≤ MAX_PROCESSORS }

@@ -64,11 +64,12 @@ thread-fits w s t h = (h.space, omega (arith, h.thread))
 point-fits : (w : WorkloadView) (x : Point) → FitsPoint w x → PointFits w x
 point-fits w x h = ((h.thread.space, omega (arith, h.thread.thread)), (omega arith, omega (arith, h.place)))
 
--- what a word and the pieces behind it say is the command whose words they are
+-- what a word and the pieces after it say is the command whose words they are
 abbrev pub IsSaid : WorkloadView → Pieces → Pieces → DebugCommand → Type 0
 IsSaid w ps rest c = (ps ≡ words_of c ++ rest) × Fits w c
 
-one-back : (w : WorkloadView) → IsSmall w → (word : Word) (ps rest : Pieces) (c : DebugCommand) → command_at w word ps ≡ Ok (Some c, rest) → IsSaid w (word_text word ∷ ps) rest c
+one-back : (w : WorkloadView) → IsSmall w → (word : Word) (ps rest : Pieces) (c : DebugCommand) → command_at w word ps ≡ Ok (Some c, rest)
+    → IsSaid w (word_text word ∷ ps) rest c
 one-back w few Break ps rest c h =
     let got = command-back (point_at w) point_words (PointFits w) (reads-point w few.spaces) (λ x. commands.Break x) ps rest c h in
     subst (IsSaid w (codes "break" ∷ ps) rest) got.1 (ap (λ r. codes "break" ∷ r) got.2, fits-point w got.0 got.3)
@@ -76,32 +77,46 @@ one-back w few Clear ps rest c h =
     let got = command-back (point_at w) point_words (PointFits w) (reads-point w few.spaces) (λ x. commands.Clear x) ps rest c h in
     subst (IsSaid w (codes "clear" ∷ ps) rest) got.1 (ap (λ r. codes "clear" ∷ r) got.2, fits-point w got.0 got.3)
 one-back w few Halt ps rest c h =
-    let got = command-back (taken (proc_in w)) (λ p. decimal p.0 ∷ []) (λ p. p.0 ≤ w.processors - 1) (reads-next_proc w few.processors) (λ p. commands.Halt p) ps rest c h in
+    let got = command-back (taken (proc_in w)) (λ p. decimal p.0 ∷ []) (λ p. p.0 ≤ w.processors - 1) (reads-next_proc w few.processors)
+    (λ p. commands.Halt p) ps rest c h in
     subst (IsSaid w (codes "halt" ∷ ps) rest) got.1 (ap (λ r. codes "halt" ∷ r) got.2, omega (arith, got.3, few.some))
 one-back w few Go ps rest c h =
-    let got = command-back (taken (proc_in w)) (λ p. decimal p.0 ∷ []) (λ p. p.0 ≤ w.processors - 1) (reads-next_proc w few.processors) (λ p. commands.Go p) ps rest c h in
+    let got = command-back (taken (proc_in w)) (λ p. decimal p.0 ∷ []) (λ p. p.0 ≤ w.processors - 1) (reads-next_proc w few.processors)
+    (λ p. commands.Go p) ps rest c h in
     subst (IsSaid w (codes "go" ∷ ps) rest) got.1 (ap (λ r. codes "go" ∷ r) got.2, omega (arith, got.3, few.some))
 one-back w few Step ps rest c h =
-    let got = command-back (taken (proc_in w)) (λ p. decimal p.0 ∷ []) (λ p. p.0 ≤ w.processors - 1) (reads-next_proc w few.processors) (λ p. commands.Step p) ps rest c h in
+    let got = command-back (taken (proc_in w)) (λ p. decimal p.0 ∷ []) (λ p. p.0 ≤ w.processors - 1) (reads-next_proc w few.processors)
+    (λ p. commands.Step p) ps rest c h in
     subst (IsSaid w (codes "step" ∷ ps) rest) got.1 (ap (λ r. codes "step" ∷ r) got.2, omega (arith, got.3, few.some))
 one-back w few Run ps rest c h =
     let got = command-back (taken turns_in) (λ n. decimal n ∷ []) (λ n. (1 ≤ n) × (n ≤ MAX_EVENTS)) reads-next_turns (λ n. commands.Run n) ps rest c h in
     subst (IsSaid w (codes "run" ∷ ps) rest) got.1 (ap (λ r. codes "run" ∷ r) got.2, got.3)
 one-back w few Show ps rest c h =
-    let got = command-back (thread_at w) (λ x. thread_words x.space x.thread) (NamedFits w) (reads-named w few.spaces) (λ x. commands.Show x.space x.thread) ps rest c h in
+    let got = command-back (thread_at w) (λ x. thread_words x.space x.thread) (NamedFits w) (reads-named w few.spaces)
+    (λ x. commands.Show x.space x.thread) ps rest c h in
     subst (IsSaid w (codes "show" ∷ ps) rest) got.1 (ap (λ r. codes "show" ∷ r) got.2, fits-thread w got.0 got.3)
 one-back w few Quit ps rest c h =
     let same = same_taken None (Some c) ps rest h in let e = same.0 in absurd cc
 
 -- and the last one
-none-back : (w : WorkloadView) → IsSmall w → (word : Word) (ps rest : Pieces) → command_at w word ps ≡ Ok (None, rest) → word_text word ∷ ps ≡ last_words ++ rest
+none-back : (w : WorkloadView) → IsSmall w → (word : Word) (ps rest : Pieces) → command_at w word ps ≡ Ok (None, rest)
+    → word_text word ∷ ps ≡ last_words ++ rest
 none-back w few Break ps rest h = absurd (command-never (point_at w) point_words (PointFits w) (reads-point w few.spaces) (λ x. commands.Break x) ps rest h)
 none-back w few Clear ps rest h = absurd (command-never (point_at w) point_words (PointFits w) (reads-point w few.spaces) (λ x. commands.Clear x) ps rest h)
-none-back w few Halt ps rest h = absurd (command-never (taken (proc_in w)) (λ p. decimal p.0 ∷ []) (λ p. p.0 ≤ w.processors - 1) (reads-next_proc w few.processors) (λ p. commands.Halt p) ps rest h)
-none-back w few Go ps rest h = absurd (command-never (taken (proc_in w)) (λ p. decimal p.0 ∷ []) (λ p. p.0 ≤ w.processors - 1) (reads-next_proc w few.processors) (λ p. commands.Go p) ps rest h)
-none-back w few Step ps rest h = absurd (command-never (taken (proc_in w)) (λ p. decimal p.0 ∷ []) (λ p. p.0 ≤ w.processors - 1) (reads-next_proc w few.processors) (λ p. commands.Step p) ps rest h)
-none-back w few Run ps rest h = absurd (command-never (taken turns_in) (λ n. decimal n ∷ []) (λ n. (1 ≤ n) × (n ≤ MAX_EVENTS)) reads-next_turns (λ n. commands.Run n) ps rest h)
-none-back w few Show ps rest h = absurd (command-never (thread_at w) (λ x. thread_words x.space x.thread) (NamedFits w) (reads-named w few.spaces) (λ x. commands.Show x.space x.thread) ps rest h)
+none-back w few Halt ps rest h =
+    absurd (command-never (taken (proc_in w)) (λ p. decimal p.0 ∷ []) (λ p. p.0 ≤ w.processors - 1) (reads-next_proc w few.processors)
+    (λ p. commands.Halt p) ps rest h)
+none-back w few Go ps rest h =
+    absurd (command-never (taken (proc_in w)) (λ p. decimal p.0 ∷ []) (λ p. p.0 ≤ w.processors - 1) (reads-next_proc w few.processors)
+    (λ p. commands.Go p) ps rest h)
+none-back w few Step ps rest h =
+    absurd (command-never (taken (proc_in w)) (λ p. decimal p.0 ∷ []) (λ p. p.0 ≤ w.processors - 1) (reads-next_proc w few.processors)
+    (λ p. commands.Step p) ps rest h)
+none-back w few Run ps rest h =
+    absurd (command-never (taken turns_in) (λ n. decimal n ∷ []) (λ n. (1 ≤ n) × (n ≤ MAX_EVENTS)) reads-next_turns (λ n. commands.Run n) ps rest h)
+none-back w few Show ps rest h =
+    absurd (command-never (thread_at w) (λ x. thread_words x.space x.thread) (NamedFits w) (reads-named w few.spaces)
+    (λ x. commands.Show x.space x.thread) ps rest h)
 none-back w few Quit ps rest h = ap (λ r. codes "quit" ∷ r) (same_taken {A = Option DebugCommand} None None ps rest h).1
 
 unless-ok : {A : Type 0} (o : Option Cause) (a b : A) → unless o a ≡ Ok b → (o ≡ None) × (a ≡ b)
@@ -137,11 +152,14 @@ command-said w few (commands.Break x) fits =
 command-said w few (commands.Clear x) fits =
     ap finished (command-forth (point_at w) point_words (PointFits w) (reads-point w few.spaces) (λ x. commands.Clear x) x (point-fits w x fits))
 command-said w few (commands.Halt p) fits =
-    ap finished (command-forth (taken (proc_in w)) (λ p. decimal p.0 ∷ []) (λ p. p.0 ≤ w.processors - 1) (reads-next_proc w few.processors) (λ p. commands.Halt p) p (omega (arith, fits)))
+    ap finished (command-forth (taken (proc_in w)) (λ p. decimal p.0 ∷ []) (λ p. p.0 ≤ w.processors - 1) (reads-next_proc w few.processors)
+    (λ p. commands.Halt p) p (omega (arith, fits)))
 command-said w few (commands.Go p) fits =
-    ap finished (command-forth (taken (proc_in w)) (λ p. decimal p.0 ∷ []) (λ p. p.0 ≤ w.processors - 1) (reads-next_proc w few.processors) (λ p. commands.Go p) p (omega (arith, fits)))
+    ap finished (command-forth (taken (proc_in w)) (λ p. decimal p.0 ∷ []) (λ p. p.0 ≤ w.processors - 1) (reads-next_proc w few.processors)
+    (λ p. commands.Go p) p (omega (arith, fits)))
 command-said w few (commands.Step p) fits =
-    ap finished (command-forth (taken (proc_in w)) (λ p. decimal p.0 ∷ []) (λ p. p.0 ≤ w.processors - 1) (reads-next_proc w few.processors) (λ p. commands.Step p) p (omega (arith, fits)))
+    ap finished (command-forth (taken (proc_in w)) (λ p. decimal p.0 ∷ []) (λ p. p.0 ≤ w.processors - 1) (reads-next_proc w few.processors)
+    (λ p. commands.Step p) p (omega (arith, fits)))
 command-said w few (commands.Run n) fits =
     ap finished (command-forth (taken turns_in) (λ n. decimal n ∷ []) (λ n. (1 ≤ n) × (n ≤ MAX_EVENTS)) reads-next_turns (λ n. commands.Run n) n fits)
 command-said w few (commands.Show s t) fits =
@@ -163,11 +181,16 @@ fine-points w few x fits =
 pub fine-command : (w : WorkloadView) → IsSmall w → (c : DebugCommand) → Fits w c → AreFine (words_of c)
 fine-command w few (commands.Break x) fits = fine-cons (codes "break") (point_words x) refl (lacks_by_test 32 (codes "break") refl) (fine-points w few x fits)
 fine-command w few (commands.Clear x) fits = fine-cons (codes "clear") (point_words x) refl (lacks_by_test 32 (codes "clear") refl) (fine-points w few x fits)
-fine-command w few (commands.Halt p) fits = fine-cons (codes "halt") (decimal p.0 ∷ []) refl (lacks_by_test 32 (codes "halt") refl) (fine-number p.0 (omega (arith, fits, few.processors)))
-fine-command w few (commands.Go p) fits = fine-cons (codes "go") (decimal p.0 ∷ []) refl (lacks_by_test 32 (codes "go") refl) (fine-number p.0 (omega (arith, fits, few.processors)))
-fine-command w few (commands.Step p) fits = fine-cons (codes "step") (decimal p.0 ∷ []) refl (lacks_by_test 32 (codes "step") refl) (fine-number p.0 (omega (arith, fits, few.processors)))
-fine-command w few (commands.Run n) fits = fine-cons (codes "run") (decimal n ∷ []) refl (lacks_by_test 32 (codes "run") refl) (fine-number n (omega (arith, fits.1)))
-fine-command w few (commands.Show s t) fits = fine-cons (codes "show") (thread_words s t) refl (lacks_by_test 32 (codes "show") refl) (fine-threads w few s t fits)
+fine-command w few (commands.Halt p) fits =
+    fine-cons (codes "halt") (decimal p.0 ∷ []) refl (lacks_by_test 32 (codes "halt") refl) (fine-number p.0 (omega (arith, fits, few.processors)))
+fine-command w few (commands.Go p) fits =
+    fine-cons (codes "go") (decimal p.0 ∷ []) refl (lacks_by_test 32 (codes "go") refl) (fine-number p.0 (omega (arith, fits, few.processors)))
+fine-command w few (commands.Step p) fits =
+    fine-cons (codes "step") (decimal p.0 ∷ []) refl (lacks_by_test 32 (codes "step") refl) (fine-number p.0 (omega (arith, fits, few.processors)))
+fine-command w few (commands.Run n) fits =
+    fine-cons (codes "run") (decimal n ∷ []) refl (lacks_by_test 32 (codes "run") refl) (fine-number n (omega (arith, fits.1)))
+fine-command w few (commands.Show s t) fits =
+    fine-cons (codes "show") (thread_words s t) refl (lacks_by_test 32 (codes "show") refl) (fine-threads w few s t fits)
 
 pub fine-last : AreFine last_words
 fine-last = fine-cons (codes "quit") [] refl (lacks_by_test 32 (codes "quit") refl) fine-nil

@@ -1,4 +1,4 @@
--- The line that is refused is the first that no script has behind the lines before it.
+-- The line that is refused is the first that no script has after the lines before it.
 use Rattle.std.proofs.Common.{◌≡◌, ℕ, suc, ◌+◌, ◌-◌, ◌<◌, ◌≤◌, List, [], ◌∷◌, ◌++◌, length, take, Option, Some, None, Result, Ok, Err, ◌⊎◌, refl, sym, ap, ◌∙◌, subst, inl, inr, arith}
 use Rattle.std.specs.Prelude.{All}
 use Rattle.std.proofs.lemmas.List.Elements.{All-nil, All-cons}
@@ -22,9 +22,11 @@ use Rattle.sa_script.proofs.Whole.{command_line, text_lines, step, line_in-some,
 same_bad : (a b : Bad) → (λ (r : Result (List DebugCommand) Bad). r) (Err a) ≡ Err b → a ≡ b
 same_bad a b h = cc
 
-goes_on-err : (number : ℕ) (r : Result (Option DebugCommand) Cause) (more : DebugCommand → Result (List DebugCommand) Bad) (last : Result (List DebugCommand) Bad) (bad : Bad)
+goes_on-err : (number : ℕ) (r : Result (Option DebugCommand) Cause) (more : DebugCommand → Result (List DebugCommand) Bad)
+    (last : Result (List DebugCommand) Bad) (bad : Bad)
     → goes_on number r more last ≡ Err bad
-    → ((cause : Cause) × (r ≡ Err cause) × (bad_at number cause ≡ bad)) ⊎ (((c : DebugCommand) × (r ≡ Ok (Some c)) × (more c ≡ Err bad)) ⊎ ((r ≡ Ok None) × (last ≡ Err bad)))
+    → ((cause : Cause) × (r ≡ Err cause) × (bad_at number cause ≡ bad))
+    ⊎ (((c : DebugCommand) × (r ≡ Ok (Some c)) × (more c ≡ Err bad)) ⊎ ((r ≡ Ok None) × (last ≡ Err bad)))
 goes_on-err number (Err cause) more last bad h = inl (cause, refl, same_bad (bad_at number cause) bad h)
 goes_on-err number (Ok (Some c)) more last bad h = inr (inl (c, refl, h))
 goes_on-err number (Ok None) more last bad h = inr (inr (refl, h))
@@ -49,14 +51,16 @@ module _ (w : WorkloadView) where
   no_line-alike number before bad h [] e = h
   no_line-alike number before bad h (other ∷ others) e = absurd cc
 
-  cause-alike : (number : ℕ) (before : List DebugCommand) (line : LineText) (lines : List LineText) (cause : Cause) (bad : Bad) → line_in w number line ≡ Err cause
+  cause-alike : (number : ℕ) (before : List DebugCommand) (line : LineText) (lines : List LineText) (cause : Cause) (bad : Bad)
+      → line_in w number line ≡ Err cause
       → bad_at number cause ≡ bad → (others : List LineText) → take 1 others ≡ take 1 (line ∷ lines) → read_from w number before others ≡ Err bad
   cause-alike number before line lines cause bad wrong is [] e = absurd cc
   cause-alike number before line lines cause bad wrong is (other ∷ others) e =
       let same = same_cons other line [] [] e in
       ap (step w number before others) (ap (line_in w number) same.0 ∙ wrong) ∙ ap (λ b. Err b) is
 
-  next-alike : (number : ℕ) (before : List DebugCommand) (line : LineText) (lines : List LineText) (c : DebugCommand) (bad : Bad) (k : ℕ) → line_in w number line ≡ Ok (Some c)
+  next-alike : (number : ℕ) (before : List DebugCommand) (line : LineText) (lines : List LineText) (c : DebugCommand) (bad : Bad) (k : ℕ)
+      → line_in w number line ≡ Ok (Some c)
       → ((others : List LineText) → take (suc k) others ≡ take (suc k) lines → read_from w (number + 1) (before ++ c ∷ []) others ≡ Err bad)
       → (others : List LineText) → take (suc (suc k)) others ≡ take (suc (suc k)) (line ∷ lines) → read_from w number before others ≡ Err bad
   next-alike number before line lines c bad k next later [] e = absurd cc
@@ -70,7 +74,8 @@ module _ (w : WorkloadView) where
   last-alike number before line lines bad last behind [] e = absurd cc
   last-alike number before line lines bad last behind (other ∷ others) e =
       let same = same_cons other line (take 1 others) (take 1 lines) e in
-      ap (step w number before others) (ap (line_in w number) same.0 ∙ last) ∙ ap (λ o. unless o before) (same_after cause_after (number + 1) others lines same.1 ∙ behind)
+      ap (step w number before others) (ap (line_in w number) same.0 ∙ last)
+      ∙ ap (λ o. unless o before) (same_after cause_after (number + 1) others lines same.1 ∙ behind)
 
   stops : IsSmall w → (number : ℕ) (before : List DebugCommand) (lines : List LineText) (bad : Bad) → number ≤ MAX_LINES + 1
       → read_from w number before lines ≡ Err bad → (k : ℕ) × Stops w number before lines bad k
@@ -87,7 +92,8 @@ module _ (w : WorkloadView) where
     },
   )
   stops small number before (line ∷ lines) bad few h =
-      elim (goes_on-err number (line_in w number line) (λ c. read_from w (number + 1) (before ++ c ∷ []) lines) (unless (bad_after cause_after (number + 1) lines) before) bad h) [
+      elim (goes_on-err number (line_in w number line) (λ c. read_from w (number + 1) (before ++ c ∷ []) lines)
+      (unless (bad_after cause_after (number + 1) lines) before) bad h) [
         | inl wrong ↦ (
           0,
           record {
@@ -137,7 +143,8 @@ module _ (w : WorkloadView) where
       ]
 
   -- a script that has the line too is refused later
-  has_not : IsSmall w → (other : List ℕ) (cs : List DebugCommand) (bad : Bad) → IsTextOf w other cs → bad.line ≤ MAX_LINES → read_from w 1 [] (line_texts other) ≡ Err bad → ⊥
+  has_not : IsSmall w → (other : List ℕ) (cs : List DebugCommand) (bad : Bad) → IsTextOf w other cs → bad.line ≤ MAX_LINES
+      → read_from w 1 [] (line_texts other) ≡ Err bad → ⊥
   has_not small other cs bad is few h =
       let lines : line_texts other ≡ text_lines cs = ap line_texts is.printed ∙ text-lines w small cs is.fit in
       let over : bad.line ≡ MAX_LINES + 1 = lines-refused w small 1 [] cs bad is.fit (omega arith) (sym (ap (read_from w 1 []) lines) ∙ h) in

@@ -55,7 +55,8 @@ module _ {A : Type 0} (read : List ℕ → Result A Cause) (spell : A → List �
   pub reads-taken : Reads (taken read) (λ a. spell a ∷ []) Fits
   reads-taken = record { back = taken-back; forth = λ a rest fits. ap (λ r. with_rest r rest) (is.forth a fits) }
 
-module _ {A B : Type 0} (one : Pieces → Taken A) (other : Pieces → Taken B) (spell_one : A → Pieces) (spell_other : B → Pieces) (FitsOne : A → Type 0) (FitsOther : B → Type 0) where
+module _ {A B : Type 0} (one : Pieces → Taken A) (other : Pieces → Taken B) (spell_one : A → Pieces) (spell_other : B → Pieces) (FitsOne : A → Type 0)
+    (FitsOther : B → Type 0) where
   both-back : Reads one spell_one FitsOne → Reads other spell_other FitsOther → (ps rest : Pieces) (x : A × B) → both one other ps ≡ Ok (x, rest)
       → (ps ≡ (spell_one x.0 ++ spell_other x.1) ++ rest) × (FitsOne x.0 × FitsOther x.1)
   both-back a b ps rest x h =
@@ -70,7 +71,7 @@ module _ {A B : Type 0} (one : Pieces → Taken A) (other : Pieces → Taken B) 
         (is_one.1, is_other.1),
       )
 
-  -- one behind the other
+  -- one after the other
   pub reads-both : Reads one spell_one FitsOne → Reads other spell_other FitsOther
       → Reads (both one other) (λ x. spell_one x.0 ++ spell_other x.1) (λ x. FitsOne x.0 × FitsOther x.1)
   reads-both a b = record {
@@ -82,7 +83,8 @@ module _ {A B : Type 0} (one : Pieces → Taken A) (other : Pieces → Taken B) 
   }
 
 -- another value by the same pieces
-module _ {A B : Type 0} (read : Pieces → Taken A) (spell : A → Pieces) (Fits : A → Type 0) (make : A → B) (parts : B → A) (there : (b : B) → make (parts b) ≡ b) (back : (a : A) → parts (make a) ≡ a) where
+module _ {A B : Type 0} (read : Pieces → Taken A) (spell : A → Pieces) (Fits : A → Type 0) (make : A → B) (parts : B → A) (there : (b : B) → make (parts b) ≡ b)
+    (back : (a : A) → parts (make a) ≡ a) where
   made-back : Reads read spell Fits → (ps rest : Pieces) (b : B) → made make (read ps) ≡ Ok (b, rest) → (ps ≡ spell (parts b) ++ rest) × Fits (parts b)
   made-back is ps rest b h =
       let got = and_then-ok (read ps) (λ a. Ok (make a.0, a.1)) (b, rest) h in
@@ -112,10 +114,12 @@ module _ {A : Type 0} (make : ℕ → A) (number : A → ℕ) (there : (a : A) �
       let same : got.0 ≡ number a = sym (back got.0) ∙ ap number (same_Ok (make got.0) a got.2) in
       subst (λ n. (p ≡ decimal n) × (n ≤ greatest)) same (is.0, is.3)
 
-  pub reads-numbered : greatest < 2 ^ 64 → ReadsPiece (λ p. and_then (number_in 0 greatest p) (λ n. Ok (make n))) (λ a. decimal (number a)) (λ a. number a ≤ greatest)
+  pub reads-numbered : greatest < 2 ^ 64
+      → ReadsPiece (λ p. and_then (number_in 0 greatest p) (λ n. Ok (make n))) (λ a. decimal (number a)) (λ a. number a ≤ greatest)
   reads-numbered small = record {
     back = numbered-back;
-    forth = λ a fits. ap (λ r. and_then r (λ n. Ok (make n))) (number_in-decimal 0 greatest (number a) (omega (arith, fits)) (omega arith) fits) ∙ ap (λ x. Ok x) (there a);
+    forth = λ a fits. ap (λ r. and_then r (λ n. Ok (make n))) (number_in-decimal 0 greatest (number a) (omega (arith, fits)) (omega arith) fits)
+        ∙ ap (λ x. Ok x) (there a);
   }
 
 -- a space that is declared
@@ -163,7 +167,8 @@ NamedFits w x = (x.space.0 < length w.spaces) × (x.thread.0 ≤ MAX_THREADS - 1
 
 pub reads-named : (w : WorkloadView) → length w.spaces < 2 ^ 64 → Reads (thread_at w) (λ x. thread_words x.space x.thread) (NamedFits w)
 reads-named w few =
-    reads-made (both (taken (space_in w)) (taken thread_in)) (λ x. decimal x.0.0 ∷ decimal x.1.0 ∷ []) (λ x. (x.0.0 < length w.spaces) × (x.1.0 ≤ MAX_THREADS - 1))
+    reads-made (both (taken (space_in w)) (taken thread_in)) (λ x. decimal x.0.0 ∷ decimal x.1.0 ∷ [])
+    (λ x. (x.0.0 < length w.spaces) × (x.1.0 ≤ MAX_THREADS - 1))
     named (λ x. (x.space, x.thread)) (λ x. refl) (λ x. refl)
     (reads-both (taken (space_in w)) (taken thread_in) (λ s. decimal s.0 ∷ []) (λ t. decimal t.0 ∷ []) (λ s. s.0 < length w.spaces) (λ t. t.0 ≤ MAX_THREADS - 1)
     (reads-taken (space_in w) (λ s. decimal s.0) (λ s. s.0 < length w.spaces) (reads-space w few))
@@ -177,9 +182,11 @@ PointFits w x = NamedFits w (named_of x) × ((0 ≤ x.place) × (x.place ≤ MAX
 
 pub reads-point : (w : WorkloadView) → length w.spaces < 2 ^ 64 → Reads (point_at w) point_words (PointFits w)
 reads-point w few =
-    reads-made (both (thread_at w) (taken place_in)) (λ x. thread_words x.0.space x.0.thread ++ decimal x.1 ∷ []) (λ x. NamedFits w x.0 × ((0 ≤ x.1) × (x.1 ≤ MAX_INSTRUCTIONS - 1)))
+    reads-made (both (thread_at w) (taken place_in)) (λ x. thread_words x.0.space x.0.thread ++ decimal x.1 ∷ [])
+    (λ x. NamedFits w x.0 × ((0 ≤ x.1) × (x.1 ≤ MAX_INSTRUCTIONS - 1)))
     point (λ x. (named_of x, x.place)) (λ x. refl) (λ x. refl)
-    (reads-both (thread_at w) (taken place_in) (λ x. thread_words x.space x.thread) (λ n. decimal n ∷ []) (NamedFits w) (λ n. (0 ≤ n) × (n ≤ MAX_INSTRUCTIONS - 1))
+    (reads-both (thread_at w) (taken place_in) (λ x. thread_words x.space x.thread) (λ n. decimal n ∷ []) (NamedFits w)
+    (λ n. (0 ≤ n) × (n ≤ MAX_INSTRUCTIONS - 1))
     (reads-named w few)
     (reads-taken place_in decimal (λ n. (0 ≤ n) × (n ≤ MAX_INSTRUCTIONS - 1)) (reads-number 0 (MAX_INSTRUCTIONS - 1) (omega arith))))
 

@@ -65,7 +65,8 @@ numbered-over : (w : WorkloadView) (number : ℕ) (ps : Pieces) → MAX_LINES < 
 numbered-over w number ps over = ap (λ b. cond b (Err TooMany) (said_by w ps)) (lt-ltb MAX_LINES number over)
 
 -- each line is read back
-pub line_in-command : (w : WorkloadView) → IsSmall w → (number : ℕ) (c : DebugCommand) → Fits w c → line_in w number (command_line c) ≡ numbered w number (words_of c)
+pub line_in-command : (w : WorkloadView) → IsSmall w → (number : ℕ) (c : DebugCommand) → Fits w c
+    → line_in w number (command_line c) ≡ numbered w number (words_of c)
 line_in-command w few number c fits = line_in-fine w number (words_of c) (some-words c) (fine-command w few c fits)
 
 pub line_in-last : (w : WorkloadView) (number : ℕ) → line_in w number last_line ≡ numbered w number last_words
@@ -94,7 +95,7 @@ line_in-none w few number line h =
     let got = line_in-ok w number line None h in
     (got.1 ∙ ap ended_line (said_by-last w few got.0 got.3), got.2)
 
--- what comes of a line, behind some commands and before some lines
+-- what comes of a line, after some commands and before some lines
 abbrev pub step : WorkloadView → ℕ → List DebugCommand → List LineText → Result (Option DebugCommand) Cause → Result (List DebugCommand) Bad
 step w number before rest said =
     goes_on number said (λ c. read_from w (number + 1) (before ++ c ∷ []) rest) (unless (bad_after cause_after (number + 1) rest) before)
@@ -109,7 +110,8 @@ lines-read w small number before [] fits few =
     ap (step w number before []) (line_in-last w number ∙ numbered-within w number last_words (omega arith) ∙ last-said w) ∙ ap Ok (sym (append-nil before))
 lines-read w small number before (c ∷ more) fits few =
     ap (step w number before (text_lines more))
-    (line_in-command w small number c (All-head (Fits w) c more fits) ∙ numbered-within w number (words_of c) (omega arith) ∙ command-said w small c (All-head (Fits w) c more fits))
+    (line_in-command w small number c (All-head (Fits w) c more fits) ∙ numbered-within w number (words_of c) (omega arith)
+    ∙ command-said w small c (All-head (Fits w) c more fits))
     ∙ lines-read w small (number + 1) (before ++ c ∷ []) more (All-tail (Fits w) c more fits) (omega arith)
     ∙ ap Ok (append_assoc before (c ∷ []) more)
 
@@ -121,7 +123,8 @@ never : {A : Type 0} (cs : List DebugCommand) (bad : Bad) → (λ (r : Result (L
 never cs bad h = absurd cc
 
 within_or_over : (number : ℕ) → number ≤ MAX_LINES + 1 → (number ≤ MAX_LINES) ⊎ (number ≡ MAX_LINES + 1)
-within_or_over number few = elim (eqb_tells number (MAX_LINES + 1)) [ inl same ↦ inr same.1 | inr other ↦ let apart : number ≢ MAX_LINES + 1 = other.1 in inl (omega arith) ]
+within_or_over number few =
+    elim (eqb_tells number (MAX_LINES + 1)) [ inl same ↦ inr same.1 | inr other ↦ let apart : number ≢ MAX_LINES + 1 = other.1 in inl (omega arith) ]
 
 pub lines-refused : (w : WorkloadView) → IsSmall w → (number : ℕ) (before more : List DebugCommand) (bad : Bad) → All (Fits w) more → number ≤ MAX_LINES + 1
     → read_from w number before (text_lines more) ≡ Err bad → bad.line ≡ MAX_LINES + 1
@@ -137,7 +140,8 @@ lines-refused w small number before (c ∷ more) bad fits few h =
       | inl within ↦
           lines-refused w small (number + 1) (before ++ c ∷ []) more bad (All-tail (Fits w) c more fits) (omega arith)
           (sym (ap (step w number before (text_lines more))
-          (line_in-command w small number c (All-head (Fits w) c more fits) ∙ numbered-within w number (words_of c) within ∙ command-said w small c (All-head (Fits w) c more fits))) ∙ h)
+          (line_in-command w small number c (All-head (Fits w) c more fits) ∙ numbered-within w number (words_of c) within
+          ∙ command-said w small c (All-head (Fits w) c more fits))) ∙ h)
       | inr over ↦
           line_is number TooMany bad (sym (ap (step w number before (text_lines more))
           (line_in-command w small number c (All-head (Fits w) c more fits) ∙ numbered-over w number (words_of c) (omega arith))) ∙ h) ∙ over
@@ -151,7 +155,8 @@ pub record AreLinesOf (w : WorkloadView) (number : ℕ) (before : List DebugComm
   pub fit : All (Fits w) more
   pub few : number + length more ≤ MAX_LINES
 
-goes_on-ok : {A : Type 0} (number : ℕ) (r : Result (Option DebugCommand) Cause) (more : DebugCommand → Result A Bad) (last : Result A Bad) (a : A) → goes_on number r more last ≡ Ok a
+goes_on-ok : {A : Type 0} (number : ℕ) (r : Result (Option DebugCommand) Cause) (more : DebugCommand → Result A Bad) (last : Result A Bad) (a : A)
+    → goes_on number r more last ≡ Ok a
     → ((c : DebugCommand) × (r ≡ Ok (Some c)) × (more c ≡ Ok a)) ⊎ ((r ≡ Ok None) × (last ≡ Ok a))
 goes_on-ok number (Err cause) more last a h = absurd cc
 goes_on-ok number (Ok (Some c)) more last a h = inl (c, refl, h)
@@ -165,7 +170,8 @@ pub lines-only : (w : WorkloadView) → IsSmall w → (number : ℕ) (before : L
     → read_from w number before lines ≡ Ok all → AreLinesOf w number before lines all
 lines-only w small number before [] all h = absurd cc
 lines-only w small number before (line ∷ lines) all h =
-    elim (goes_on-ok number (line_in w number line) (λ c. read_from w (number + 1) (before ++ c ∷ []) lines) (unless (bad_after cause_after (number + 1) lines) before) all h) [
+    elim (goes_on-ok number (line_in w number line) (λ c. read_from w (number + 1) (before ++ c ∷ []) lines)
+    (unless (bad_after cause_after (number + 1) lines) before) all h) [
       | inl next ↦
           let is = line_in-some w small number line next.0 next.1 in
           let rest = lines-only w small (number + 1) (before ++ next.0 ∷ []) lines all next.2 in

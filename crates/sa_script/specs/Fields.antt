@@ -1,4 +1,4 @@
--- What the pieces behind the first word of a line say: spaces, threads, places, processors and numbers of turns.
+-- What the pieces after the first word of a line say: spaces, threads, places, processors and numbers of turns.
 use Rattle.std.specs.Prelude.{ℕ, ◌-◌, nat_lt, List, [], ◌∷◌, length, Result, Ok, Err, if◌then◌else◌}
 use Rattle.sa_base.specs.declared.limits.TheConstants.{MAX_EVENTS, MAX_THREADS}
 use Rattle.sa_base.specs.declared.number.ProcNo.{ProcNo}
@@ -26,7 +26,7 @@ abbrev pub taken : {A : Type 0} → (List ℕ → Result A Cause) → Pieces →
 taken read [] = Err Missing
 taken read (piece ∷ rest) = with_rest (read piece) rest
 
--- one behind the other
+-- one after the other
 abbrev pub both : {A B : Type 0} → (Pieces → Taken A) → (Pieces → Taken B) → Pieces → Taken (A × B)
 both first second pieces = and_then (first pieces) (λ a. and_then (second a.1) (λ b. Ok ((a.0, b.0), b.1)))
 

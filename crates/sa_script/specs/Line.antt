@@ -14,7 +14,7 @@ use Rattle.sa_script.specs.declared.word.Word.TheVariants.{Break, Clear, Halt, G
 use Rattle.sa_script.specs.Words.{word_in}
 use Rattle.sa_script.specs.Fields.{Pieces, Taken, taken, made, proc_in, turns_in, thread_at, point_at}
 
--- behind each word its fields: together they are a command, or the end of the script
+-- after each word its fields: together they are a command, or the end of the script
 abbrev pub command_at : WorkloadView → Word → Pieces → Taken (Option DebugCommand)
 command_at w Break pieces = made (λ x. Some (commands.Break x)) (point_at w pieces)
 command_at w Clear pieces = made (λ x. Some (commands.Clear x)) (point_at w pieces)
@@ -25,7 +25,7 @@ command_at w Run pieces = made (λ n. Some (commands.Run n)) (taken turns_in pie
 command_at w Show pieces = made (λ x. Some (commands.Show x.space x.thread)) (thread_at w pieces)
 command_at w Quit pieces = Ok (None, pieces)
 
--- and nothing behind them
+-- and nothing after them
 abbrev pub finished : Taken (Option DebugCommand) → Result (Option DebugCommand) Cause
 finished r = and_then r (λ x. unless (at_end x.1) x.0)
 

@@ -18,7 +18,7 @@ goes_on number (Err cause) more last = Err (bad_at number cause)
 goes_on number (Ok (Some command)) more last = more command
 goes_on number (Ok None) more last = last
 
--- what these lines are read as, behind these commands, where the first has this number
+-- what these lines are read as, after these commands, where the first has this number
 abbrev pub read_from : WorkloadView → ℕ → List DebugCommand → List LineText → Result (List DebugCommand) Bad
 read_from w number commands [] = Err (bad_at number Missing)
 read_from w number commands (line ∷ rest) =

@@ -12,7 +12,7 @@ use Rattle.sa_script.specs.declared.reply.View.{View}
 use Rattle.sa_script.specs.declared.reply.Reply.{Reply}
 use Rattle.sa_script.specs.declared.reply.Reply.TheVariants.{Accepted, Full, NotThere, Event, Ended, AtBreak, Halted, Shown}
 
--- a number behind a space
+-- a number after a space
 abbrev pub number_text : ℕ → List ℕ
 number_text n = codes " " ++ decimal n
 

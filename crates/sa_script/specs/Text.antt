@@ -61,7 +61,7 @@ pub record IsTextOf (w : WorkloadView) (text : List ℕ) (commands : List DebugC
   pub printed : text ≡ script_text commands
   pub fit : All (Fits w) commands
 
--- .. and of no more lines than there may be
+-- the script of these commands for this workload, of no more lines than there may be
 pub record IsScript (w : WorkloadView) (text : List ℕ) (commands : List DebugCommand) : Type 0 where
   pub text_of : IsTextOf w text commands
   pub few : length commands + 1 ≤ MAX_LINES

@@ -21,7 +21,7 @@ ScriptsDiffer =
     → one ≡ other
 
 -- Some script, of any number of lines, has the lines before a line, and none has them and the line, unless the line is the
--- first that is one too many; it may be one that is missing behind the last.
+-- first that is one too many; it may be one that is missing after the last.
 pub record IsFirstBad (w : WorkloadView) (text : List ℕ) (k : ℕ) : Type 0 where
   pub counted : 1 ≤ k
   pub within : k ≤ length (line_texts text) + 1

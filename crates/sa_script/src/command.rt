@@ -23,7 +23,7 @@ pub enum DebugCommand {
     Go(ProcNo),
     /// Makes one turn of the processor, halted or not.
     Step(ProcNo),
-    /// Makes at most so many turns, 1 to 1,000,000, of the processors that are not halted.
+    /// Makes at most that many turns, 1 to 1,000,000, of the processors that are not halted.
     Run(u32),
     /// Shows the thread of the space.
     Show(SpaceNo, ThreadNo),

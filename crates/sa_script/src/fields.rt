@@ -1,4 +1,4 @@
-// What stands behind the first word of a line.
+// What follows the first word of a line.
 ghost use Rattle.std.specs.Prelude.{◌≡◌, ◌≤◌, IfOk};
 ghost use Rattle.sa_trace.specs.Pieces.{number_in, with_rest};
 ghost use Rattle.sa_script.specs.Fields.{taken, space_in, thread_in, place_in, proc_in, turns_in, thread_at, point_at};

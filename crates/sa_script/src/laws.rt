@@ -8,7 +8,7 @@ pub fn scripts_are_read()
     ensures differ { ScriptsDiffer }
 {}
 
-/// The line that is refused is the first that no script, of any number of lines, has behind the lines before it, or the
+/// The line that is refused is the first that no script, of any number of lines, has after the lines before it, or the
 /// first that is one too many; and there is no other such line.
 pub fn refused_lines_are_first()
     ensures first { RefusedLinesAreFirst }

@@ -55,7 +55,7 @@ fn push_reply(out: &mut Vec<u8>, reply: &Reply) -> Result<(), AllocError>
     }
 }
 
-// Appends a number behind a space.
+// Appends a space and a number.
 fn push_number(out: &mut Vec<u8>, n: u64) -> Result<(), AllocError>
     ensures { OnOk result (out.new.items ≡ out.old.items ++ number_text n) }
 {

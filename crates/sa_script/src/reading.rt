@@ -14,7 +14,7 @@ use std::alloc::Global;
 
 /// The commands of which these bytes are the script, for a session of this workload.
 ///
-/// `Bad` exactly where they are no script, with the first line that no script has behind the lines before it, and the
+/// `Bad` exactly where they are no script, with the first line that no script has after the lines before it, and the
 /// first cause that applies to that line.
 pub fn read_script(alloc: Global, bytes: &[u8], w: &Workload) -> Result<Script, Unread>
     ensures { IsReading (script_of w.now bytes.now) result }

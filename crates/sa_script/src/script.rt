@@ -34,7 +34,7 @@ impl Script {
         }
     }
 
-    // Adds a command behind the others. An error changes nothing.
+    // Adds a command after the others. An error changes nothing.
     pub(crate) fn add(&mut self, command: DebugCommand) -> Result<(), AllocError>
         ensures ok { OnOk result (self.new ≡ self.old ++ command ∷ []) }
         ensures err { OnErr result (self.new ≡ self.old) }

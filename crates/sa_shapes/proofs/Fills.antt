@@ -22,7 +22,8 @@ use Rattle.sa_shapes.specs.Laws.{Tiles, HasPlace}
 -- a stretch before the others, or none where it would be empty
 fills-closed : (t : Track) (o : Going) (at last to : ℕ) (rest : List Shape) → o.from ≤ at → Tiles at to rest → Tiles o.from to (closed t o at last ++ rest)
 fills-closed t o at last to rest behind fills =
-    (elim (nat_lt o.from at) as (λ (b : Bool). b ≡ nat_lt o.from at → Tiles o.from to (cond b (shape.Stretch (record { track = t; from = o.from; to = at; shown = o.shown; first = o.first; last = last }) ∷ []) [] ++ rest)) [
+    (elim (nat_lt o.from at) as (λ (b : Bool). b ≡ nat_lt o.from at
+    → Tiles o.from to (cond b (shape.Stretch (record { track = t; from = o.from; to = at; shown = o.shown; first = o.first; last = last }) ∷ []) [] ++ rest)) [
       | true ↦ λ e. (refl, ltb-true o.from at (sym e), fills)
       | false ↦ λ e. let same : at ≡ o.from = omega (arith, ltb-false o.from at (sym e)) in subst (λ (n : ℕ). Tiles n to rest) same fills
     ]) refl
@@ -72,5 +73,6 @@ inside-place w event inside =
 
 pub all-placed : (w : Window) (items : List Item) (i : Item) → is_inside w i.event ≡ true → HasPlace w items i
 all-placed w items i inside =
-    let c = covered (stretches w items (Lane i.proc)) 0 w.count (place w i.event) (all-fill w items (Lane i.proc)) (omega arith) (inside-place w i.event inside) in
+    let c = covered (stretches w items (Lane i.proc)) 0 w.count (place w i.event) (all-fill w items (Lane i.proc)) (omega arith)
+    (inside-place w i.event inside) in
     record { stretch = c.stretch; there = c.there; from = c.from; to = c.to }

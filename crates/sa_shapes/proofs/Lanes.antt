@@ -1,4 +1,4 @@
--- Each lane that an item stands on is there.
+-- Each lane that an item is on is in the picture.
 use Rattle.std.proofs.Common.{◌<◌, ◌≤◌, List, [], ◌∷◌, inl, inr, subst, arith}
 use Rattle.std.specs.Prelude.{Contains}
 use Rattle.sa_base.specs.declared.record.Item.{Item}

@@ -43,7 +43,8 @@ module _ (w : Window) (lane : ProcNo) where
       record { mark = this.mark; there = Contains-append_right one rest _ this.there; lane_is = this.lane_is; at = this.at; item = this.item }
   marked-rest false one rest other i this that = that
 
-  marked : (s : Stack) (items : List Item) (i : Item) → Contains items i → is_inside w i.event ≡ true → is_marked lane i ≡ true → Marked (marks_from w lane s items) i
+  marked : (s : Stack) (items : List Item) (i : Item) → Contains items i → is_inside w i.event ≡ true → is_marked lane i ≡ true
+      → Marked (marks_from w lane s items) i
   marked s [] i there inside has = absurd (none_there i there)
   marked s (j ∷ items) i there inside has =
       elim (first_or_rest j items i there) [
@@ -82,5 +83,6 @@ all-marked w items i there inside has =
     let m = marked w (lane_of i.proc i.what) (record { event = 0; height = 0 }) items i there inside own in
     record { mark = m.mark; there = m.there; lane = m.lane_is; at = m.at; item = m.item }
 
-pub all-counted : (w : Window) (items : List Item) (lane : ProcNo) → length (marks w items lane) ≡ count_by (λ (i : Item). is_marked lane i && is_inside w i.event) items
+pub all-counted : (w : Window) (items : List Item) (lane : ProcNo)
+    → length (marks w items lane) ≡ count_by (λ (i : Item). is_marked lane i && is_inside w i.event) items
 all-counted w items lane = counted w lane (record { event = 0; height = 0 }) items

@@ -32,12 +32,14 @@ module _ (w : Window) (t : Track) (items : List Item) where
       → (o.from < to → IsShown w items t (record { track = t; from = o.from; to = to; shown = o.shown; first = o.first; last = last }))
       → AreShown w items t rest → AreShown w items t (closed t o to last ++ rest)
   shows-closed o to last rest is others =
-      (elim (nat_lt o.from to) as (λ (b : Bool). b ≡ nat_lt o.from to → AreShown w items t (cond b (shape.Stretch (record { track = t; from = o.from; to = to; shown = o.shown; first = o.first; last = last }) ∷ []) [] ++ rest)) [
+      (elim (nat_lt o.from to) as (λ (b : Bool). b ≡ nat_lt o.from to
+      → AreShown w items t (cond b (shape.Stretch (record { track = t; from = o.from; to = to; shown = o.shown; first = o.first; last = last }) ∷ []) []
+      ++ rest)) [
         | true ↦ λ e. (is (ltb-true o.from to (sym e)), others)
         | false ↦ λ e. others
       ]) refl
 
-  -- where the walk stands: these items are done, and the open stretch shows what the track shows after them
+  -- where the walk is: these items are done, and the open stretch shows what the track shows after them
   record Stands (done rest : List Item) (o : Going) (k : ℕ) : Type 0 where
     whole : items ≡ done ++ rest
     count : k ≡ length done
@@ -66,10 +68,12 @@ module _ (w : Window) (t : Track) (items : List Item) where
       same (record {
         whole = step-whole done i rest stands.whole;
         count = step-count done i k stands.count;
-        shown = ap (λ (c : Option Shown). turns_to c o.shown) is ∙ ap (λ (v : Shown). turns_to (change t v i) v) stands.shown ∙ sym (shown-more t (start t) done i);
+        shown = ap (λ (c : Option Shown). turns_to c o.shown) is ∙ ap (λ (v : Shown). turns_to (change t v i) v) stands.shown
+            ∙ sym (shown-more t (start t) done i);
       })
   shows-next done i rest o k (Some v) stands is same other =
-      let here : slice_get items k ≡ Some i = ap (λ (l : List Item). slice_get l k) stands.whole ∙ ap (slice_get (done ++ i ∷ rest)) stands.count ∙ at_seam done i rest in
+      let here : slice_get items k ≡ Some i = ap (λ (l : List Item). slice_get l k) stands.whole ∙ ap (slice_get (done ++ i ∷ rest)) stands.count
+      ∙ at_seam done i rest in
       shows-closed o (turned w o i) k _
       (λ less. record {
         track = refl;
@@ -79,7 +83,8 @@ module _ (w : Window) (t : Track) (items : List Item) where
       (other v (record {
         whole = step-whole done i rest stands.whole;
         count = step-count done i k stands.count;
-        shown = ap (λ (c : Option Shown). turns_to c o.shown) is ∙ ap (λ (u : Shown). turns_to (change t u i) u) stands.shown ∙ sym (shown-more t (start t) done i);
+        shown = ap (λ (c : Option Shown). turns_to c o.shown) is ∙ ap (λ (u : Shown). turns_to (change t u i) u) stands.shown
+            ∙ sym (shown-more t (start t) done i);
       }))
 
   shows : (done rest : List Item) (o : Going) (k : ℕ) → Stands done rest o k → AreShown w items t (stretches_from w t o k rest)

@@ -86,7 +86,7 @@ MarksAreCounted =
     (w : Window) (items : List Item) (lane : ProcNo)
     → length (marks w items lane) ≡ count_by (λ (i : Item). is_marked lane i && is_inside w i.event) items
 
--- every lane that an item stands on is there
+-- every lane that an item is on is there
 pub record HasLane (w : Window) (items : List Item) (i : Item) : Type 0 where
   pub own : i.proc.0 < (extent_of w items).lanes
   pub marked : (lane_of i.proc i.what).0 < (extent_of w items).lanes

@@ -36,7 +36,7 @@ lane_of proc other = proc
 abbrev pub is_marked : ProcNo → Item → Bool
 is_marked lane i = has_mark i.what && (lane_of i.proc i.what).0 == lane.0
 
--- the marks of one event stand over one another, up to the top row
+-- the marks of one event are one over another, up to the top row
 abbrev pub row_at : Stack → ℕ → ℕ
 row_at s event = if s.event == event then s.height else 0
 

@@ -12,7 +12,7 @@ use Rattle.sa_shapes.specs.declared.window.Window.{Window}
 use Rattle.sa_shapes.specs.Window.{place}
 use Rattle.sa_shapes.specs.Change.{start, change}
 
--- the event from which on a track shows what an item makes it show: that of the item, and behind that of a block, in which a thread ran
+-- the event from which on a track shows what an item makes it show: that of the item, and the one after that of a block, in which a thread ran
 abbrev pub since_by : ℕ → Record → ℕ
 since_by event (Block s t a io) = min (event + 1) (2 ^ 64 - 1)
 since_by event other = event
@@ -20,7 +20,7 @@ since_by event other = event
 abbrev pub since : Item → ℕ
 since i = since_by i.event i.what
 
--- .. and its place, which is not before that of the stretch that ends there
+-- the place of that event, which is not before that of the stretch that ends there
 abbrev pub turned : Window → Going → Item → ℕ
 turned w o i = max o.from (place w (since i))
 

@@ -3,7 +3,7 @@ use Rattle.std.specs.Prelude.{ℕ, ◌+◌, ◌-◌, Bool, ◌&&◌, Option, Som
 use Rattle.sa_shapes.specs.declared.window.Window.{Window}
 use Rattle.sa_shapes.specs.declared.window.TheConstants.{MAX_COUNT}
 
--- the place of an event, counted from the first that is drawn; those before are put at its beginning, those behind at its end
+-- the place of an event, counted from the first that is drawn; those before are put at its beginning, those after at its end
 abbrev pub place : Window → ℕ → ℕ
 place w event = min (event - w.from) w.count
 

@@ -61,7 +61,7 @@ fn with_item(window: Window, extent: Extent, item: &Item) -> Extent
     }
 }
 
-// The number behind that of the space, 0 for none.
+// The number after that of the space, 0 for none.
 fn above(s: Option<SpaceNo>) -> u32
     ensures { result ≡ above_space s }
 {

@@ -15,7 +15,7 @@ pub fn records_have_marks()
     ensures counted { MarksAreCounted }
 {}
 
-/// Each lane that an item stands on is in the picture.
+/// Each lane that an item is on is in the picture.
 pub fn lanes_are_there()
     ensures { LanesAreThere }
 {}

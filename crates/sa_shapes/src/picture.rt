@@ -17,7 +17,7 @@ pub struct Picture {
     /// How many lanes there are, one for each processor from 0 on, and how many spaces; at most `MAX_LANES`.
     pub lanes: u16,
     pub spaces: u16,
-    /// How many rows of marks stand above a lane.
+    /// How many rows of marks are above a lane.
     pub depth: u16,
     pub shapes: Vec<Shape>,
 }

@@ -6,7 +6,7 @@ use sa_base::{Item, ProcNo, SpaceNo};
 /// The most processors of a picture, and the most spaces.
 pub const MAX_LANES: usize = 16;
 
-/// The greatest row of a mark. What would stand higher stands there too.
+/// The greatest row of a mark. What would be higher is there too.
 pub const TOP_ROW: u16 = 11;
 
 /// A line of the picture along which things are shown.
@@ -37,10 +37,10 @@ pub struct Stretch {
     pub track: Track,
     /// The place of its first event, counted from the first event that is drawn.
     pub from: u16,
-    /// The place behind its last event, above `from`.
+    /// The place after its last event, above `from`.
     pub to: u16,
     pub shown: Shown,
-    /// The index of the item with which the track began to show this, and the index behind the last before it showed another.
+    /// The index of the item with which the track began to show this, and the index after the last before it showed another.
     pub first: usize,
     pub last: usize,
 }
@@ -51,7 +51,7 @@ pub struct Mark {
     pub lane: ProcNo,
     /// The place of its event, counted from the first event that is drawn.
     pub at: u16,
-    /// How high it stands over the lane, from 0 to `TOP_ROW`.
+    /// How high it is over the lane, from 0 to `TOP_ROW`.
     pub row: u16,
     pub item: Item,
 }

@@ -44,7 +44,7 @@ pub(crate) fn push_stretches(
     push_closed(out, track, going, window.count, items.len())
 }
 
-// The event from which on a processor does what the item makes it do: a block is over only behind its event.
+// The event from which on a processor does what the item makes it do: a block is over only after its event.
 fn since(item: &Item) -> u64
     ensures { result ≡ since item.now }
 {

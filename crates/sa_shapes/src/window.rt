@@ -13,7 +13,7 @@ pub struct Window {
 }
 
 impl Window {
-    /// The window from one event to another, or of the one event where the other stands before it. `None` where it has more
+    /// The window from one event to another, or of the one event where the other is before it. `None` where it has more
     /// events than a picture may have.
     pub fn to(from: u64, to: u64) -> Option<Window>
         ensures { result ≡ window_to from to }
@@ -29,7 +29,7 @@ impl Window {
         }
     }
 
-    /// The place of an event, counted from the first that is drawn: 0 for those before, `count` for those behind.
+    /// The place of an event, counted from the first that is drawn: 0 for those before, `count` for those after.
     pub fn place(self, event: u64) -> u16
         ensures place { result ≡ place self event }
         ensures within { result ≤ self.count }

@@ -165,7 +165,7 @@ impl SpaceDef {
         self.programs.as_slice()
     }
 
-    /// The patience, 1 to 1,000: after so many looks that found no thread, an idle processor is offered to
+    /// The patience, 1 to 1,000: after that many looks that found no thread, an idle processor is offered to
     /// the kernel.
     pub fn patience(&self) -> u16
         ensures value { result ≡ self.now.patience }

@@ -23,7 +23,7 @@ pub struct Evict {
 impl Evict {
     ghost use Rattle.sa_spaces.specs.Workload.{IsEviction, IsBefore};
 
-    // Whether it is of a page of one of so many spaces, at an event that a run can have.
+    // Whether it is of a page of one of that many spaces, at an event that a run can have.
     fn is_in_range(&self, spaces: usize) -> bool
         ensures { IsTrue result ↔ IsEviction spaces self.now }
     {
@@ -225,7 +225,7 @@ impl Workload {
     }
 }
 
-// Whether a machine may have so many processors and spaces, and take so long for a fetch.
+// Whether a machine may have that many processors and spaces, and take that long for a fetch.
 fn is_machine(processors: u16, fetch: u32, spaces: usize) -> bool
     ensures { IsTrue result ↔ ((1 ≤ processors) × (processors ≤ MAX_PROCESSORS)
         × (1 ≤ fetch) × (fetch ≤ MAX_FETCH) × (1 ≤ spaces) × (spaces ≤ MAX_SPACES)) }
@@ -238,7 +238,7 @@ fn is_machine(processors: u16, fetch: u32, spaces: usize) -> bool
         && spaces <= MAX_SPACES
 }
 
-// Whether there are few enough turns, each of one of so many processors.
+// Whether there are few enough turns, each of one of that many processors.
 fn are_turns(turns: &[ProcNo], processors: u16) -> bool
     ensures { IsTrue result ↔ ((length turns.now ≤ MAX_TURNS)
         × All (λ proc. proc.0 < processors) turns.now) }

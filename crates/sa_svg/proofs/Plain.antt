@@ -82,5 +82,6 @@ plain-line i fits =
     let head : List ℕ = decimal i.event ++ field (Some i.proc.0) in
     let what : List ℕ = (form_of parts.kind).word ++ flat_map field parts.fields in
     let one = plain-append (decimal i.event) (field (Some i.proc.0)) (plain-decimal i.event fits.event) (plain-number i.proc.0 (omega (arith, fits.proc))) in
-    let two = plain-append (form_of parts.kind).word (flat_map field parts.fields) (plain-word parts.kind) (plain-fields (form_of parts.kind).fields parts.fields fits.what) in
+    let two = plain-append (form_of parts.kind).word (flat_map field parts.fields) (plain-word parts.kind)
+    (plain-fields (form_of parts.kind).fields parts.fields fits.what) in
     plain-append ((head ++ codes " ") ++ what) (codes "\n") (plain-append (head ++ codes " ") what (plain-append head (codes " ") one refl) two) refl

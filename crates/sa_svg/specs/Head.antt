@@ -67,7 +67,7 @@ space_entry s = legend_entry (numbered (codes "t s") s) ((s % 8) * 84 + 6) ((s /
 abbrev pub spaces_legend : ℕ → List ℕ
 spaces_legend spaces = flat_map space_entry (range_with_len 0 spaces)
 
--- the axis: the number of every so many events, and a line down the picture
+-- the axis: the number of an event at regular distances, and a line down the picture
 abbrev pub event_at : Window → ℕ → ℕ
 event_at w at = min (w.from + at) (2 ^ 64 - 1)
 
@@ -94,7 +94,7 @@ lane_name l p = words 6 (bar_y l p + 14) (numbered (codes "processor ") p) ++ co
 abbrev pub lane_names : Layout → List ℕ
 lane_names l = flat_map (lane_name l) (range_with_len 0 l.lanes)
 
--- all that stands before the shapes
+-- all that comes before the shapes
 unfoldable pub head_text : Layout → Window → List ℕ
 head_text l w =
     open_text l ++ style_text ++ ground_text l ++ legend_text ++ spaces_legend l.spaces ++ ticks l w ++ space_names l.spaces ++ lane_names l

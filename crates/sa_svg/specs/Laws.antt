@@ -9,6 +9,6 @@ use Rattle.sa_trace.specs.TraceText.{line_of}
 abbrev pub is_plain : List ℕ → Bool
 is_plain bytes = list_all (λ b. not (b == 60) && not (b == 62) && not (b == 38)) bytes
 
--- the lines of a trace text, which stand in the titles, need no escape
+-- the lines of a trace text, which are in the titles, need no escape
 abbrev pub LinesArePlain : Type 0
 LinesArePlain = (i : Item) → FitsItem i → is_plain (line_of i) ≡ true

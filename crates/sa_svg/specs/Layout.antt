@@ -1,4 +1,4 @@
--- Where things stand, in pixels from the upper left corner.
+-- Where things are, in pixels from the upper left corner.
 use Rattle.std.specs.Prelude.{ℕ, ◌+◌, ◌-◌, ◌*◌, ◌/◌, Bool, min, max, nat_le, if◌then◌else◌}
 use Rattle.sa_shapes.specs.declared.picture.Picture.{Picture}
 use Rattle.sa_svg.specs.declared.layout.Layout.{Layout}
@@ -27,14 +27,14 @@ span_of l from to = (to - from) * l.unit
 abbrev pub has_words : Layout → Bool
 has_words l = nat_le UNIT_OF_WORDS l.unit
 
--- the spaces stand one below another; so many processors are so high over the line of a space
+-- the spaces are one below another; that many processors are so high over the line of a space
 abbrev pub space_base : ℕ → ℕ
 space_base s = TOP + s * SPACE_HEIGHT + 58
 
 abbrev pub steps : Layout → ℕ → ℕ
 steps l n = (STEPS_HEIGHT / (l.lanes + 1)) * min n (l.lanes + 1)
 
--- below them stand the lanes: each has its rows of marks, and its bar
+-- below them are the lanes: each has its rows of marks, and its bar
 abbrev pub lane_height : Layout → ℕ
 lane_height l = l.depth * MARK_HEIGHT + LANE_GAP
 

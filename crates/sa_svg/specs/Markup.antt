@@ -6,7 +6,7 @@ use Rattle.sa_svg.specs.declared.markup.Rect.{Rect}
 abbrev pub number : List ℕ → ℕ → List ℕ
 number name n = codes " " ++ name ++ codes "=\"" ++ decimal n ++ codes "\""
 
--- where a rectangle stands, and how large it is; where a text stands
+-- where a rectangle is, and how large it is; where a text is
 unfoldable pub rect_attrs : Rect → List ℕ
 rect_attrs r = number (codes "x") r.x ++ number (codes "y") r.y ++ number (codes "width") r.width ++ number (codes "height") r.height
 
@@ -23,7 +23,7 @@ text_tag class x y = codes "<text class=\"" ++ class ++ codes "\"" ++ text_attrs
 unfoldable pub text_at : List ℕ → ℕ → ℕ → List ℕ → List ℕ
 text_at class x y words = text_tag class x y ++ words ++ codes "</text>"
 
--- a word and a number behind it
+-- a word and a number after it
 abbrev pub numbered : List ℕ → ℕ → List ℕ
 numbered word n = word ++ decimal n
 

@@ -75,7 +75,7 @@ pub(crate) const MARKS_STYLE: &[u8] =
     b".mi{fill:#f7c9a9}.mb{fill:#d8d8d8}.mu{fill:#d5e8d4}.mh{fill:#fbf3b0}.ml{fill:#eef4fb}.mf{fill:#e9d4e3}\
     .mi,.mb,.mu,.mh,.ml,.mf{stroke:#999;stroke-width:.5px}";
 
-/// Appends all that stands before the shapes.
+/// Appends all that comes before the shapes.
 #[tactic(auto, unfolding(crate::specs::Head::head_text))]
 pub(crate) fn push_head(out: &mut Vec<u8>, layout: Layout, window: Window) -> Result<(), AllocError>
     ensures { OnOk result (out.new.items ≡ out.old.items ++ head_text layout window) }
@@ -231,7 +231,7 @@ fn push_entry(
     out.extend_from_slice(b"\n")
 }
 
-// Where a sample of the legend stands.
+// Where a sample of the legend is.
 fn sample_box(x: u64, y: u64) -> Rect
     ensures { result ≡ sample_box x y }
 {

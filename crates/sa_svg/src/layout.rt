@@ -1,4 +1,4 @@
-// Where things stand.
+// Where things are.
 ghost use Rattle.std.specs.Prelude.{◌≡◌, ◌*◌, ◌≤◌};
 ghost use Rattle.sa_svg.specs.Layout.{unit_of, layout_of, x_of, span_of, lane_height, lane_top, bar_y, mark_y, space_base, steps, width_of, height_of, has_words, tick_step};
 
@@ -21,7 +21,7 @@ pub(crate) const LEGEND_WIDTH: u64 = 720;
 pub(crate) const MAX_UNIT: u64 = 24;
 
 pub(crate) const UNIT_OF_WORDS: u16 = 15;
-// How many pixels stand above the spaces, and how many a space and a lane have.
+// How many pixels are above the spaces, and how many a space and a lane have.
 pub(crate) const TOP: u64 = 118;
 
 pub(crate) const SPACE_HEIGHT: u16 = 62;
@@ -89,7 +89,7 @@ impl Layout {
         self.unit >= UNIT_OF_WORDS
     }
 
-    // The line on which the steps of a space stand, and how high so many processors are.
+    // The line on which the steps of a space are, and how high that many processors are.
     pub(crate) fn space_base(self, s: u16) -> u64
         ensures base { result ≡ space_base s }
         ensures small { result ≤ 4_294_968_000 }
@@ -104,7 +104,7 @@ impl Layout {
         u64::from(u32::from(STEPS_HEIGHT) / most * u32::from(n).min(most))
     }
 
-    // How high a lane is, where it begins, and where its bar and its marks stand.
+    // How high a lane is, where it begins, and where its bar and its marks are.
     fn lane_height(self) -> u64
         ensures height { result ≡ lane_height self }
         ensures small { result ≤ 800_000 }
@@ -165,7 +165,7 @@ impl Layout {
     }
 }
 
-// How many pixels an event is wide, so that so many events fit into the width if they can.
+// How many pixels an event is wide, such that this number of events fits into the width if it can.
 fn unit_of(width: u64, count: u16) -> u16
     ensures { result ≡ unit_of width count }
 {

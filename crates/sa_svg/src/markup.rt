@@ -5,7 +5,7 @@ ghost use Rattle.sa_svg.specs.Markup.{number, rect_attrs, text_attrs, text_tag, 
 use sa_text::print_number;
 use std::alloc::AllocError;
 
-/// Where a rectangle stands, and how large it is.
+/// Where a rectangle is, and how large it is.
 #[derive(Clone, Copy, Debug)]
 pub struct Rect {
     pub x: u64,
@@ -25,7 +25,7 @@ pub(crate) fn push_number(out: &mut Vec<u8>, name: &[u8], n: u64) -> Result<(), 
     out.extend_from_slice(b"\"")
 }
 
-// Appends the attributes that say where a rectangle stands.
+// Appends the attributes that say where a rectangle is.
 #[tactic(auto, unfolding(crate::specs::Markup::rect_attrs))]
 fn push_rect_attrs(out: &mut Vec<u8>, rect: Rect) -> Result<(), AllocError>
     ensures { OnOk result (out.new.items ≡ out.old.items ++ rect_attrs rect) }
@@ -36,7 +36,7 @@ fn push_rect_attrs(out: &mut Vec<u8>, rect: Rect) -> Result<(), AllocError>
     push_number(out, b"height", rect.height)
 }
 
-// Appends the attributes that say where a text stands.
+// Appends the attributes that say where a text is.
 #[tactic(auto, unfolding(crate::specs::Markup::text_attrs))]
 fn push_text_attrs(out: &mut Vec<u8>, x: u64, y: u64) -> Result<(), AllocError>
     ensures { OnOk result (out.new.items ≡ out.old.items ++ text_attrs x y) }
@@ -45,7 +45,7 @@ fn push_text_attrs(out: &mut Vec<u8>, x: u64, y: u64) -> Result<(), AllocError>
     push_number(out, b"y", y)
 }
 
-/// Appends a word and a number behind it.
+/// Appends a word and a number after it.
 pub(crate) fn push_numbered(out: &mut Vec<u8>, word: &[u8], n: u64) -> Result<(), AllocError>
     ensures { OnOk result (out.new.items ≡ out.old.items ++ numbered word.now n) }
 {
@@ -78,7 +78,7 @@ pub(crate) fn push_numbered_rect(
     push_rect_end(out, place)
 }
 
-// Appends what stands behind a rectangle's class.
+// Appends what follows a rectangle's class.
 fn push_rect_end(out: &mut Vec<u8>, place: Rect) -> Result<(), AllocError>
     ensures { OnOk result (out.new.items ≡ out.old.items ++ codes "\"" ++ rect_attrs place ++ codes "/>") }
 {

@@ -25,7 +25,7 @@ pub(crate) fn push_look_rect(out: &mut Vec<u8>, look: Look, place: Rect) -> Resu
     }
 }
 
-/// Appends the word that stands in a bar.
+/// Appends the word that is in a bar.
 pub(crate) fn push_look_word(
     out: &mut Vec<u8>,
     x: u64,

@@ -15,7 +15,8 @@ digit-value bytes i n within digit is =
     let one = digit_value_digit (get_or bytes i 0) digit in
     omega (arith, more, one, is)
 
-pub digit-more : (bytes : List ℕ) (i : ℕ) → i < length bytes → IsInRange 48 57 (get_or bytes i 0) → AllDigits 10 (take i bytes) → AllDigits 10 (take (i + 1) bytes)
+pub digit-more : (bytes : List ℕ) (i : ℕ) → i < length bytes → IsInRange 48 57 (get_or bytes i 0) → AllDigits 10 (take i bytes)
+    → AllDigits 10 (take (i + 1) bytes)
 digit-more bytes i within digit before =
     let one = digit_value_digit (get_or bytes i 0) digit in
     digits_more 10 bytes i within before (omega (arith, one, digit))

@@ -1,4 +1,4 @@
--- The lines of a text: the first one, those behind it, and what they are together.
+-- The lines of a text: the first one, those after it, and what they are together.
 use Rattle.std.proofs.Common.{◌≡◌, ◌≢◌, ℕ, zero, suc, ◌+◌, ◌-◌, ◌<◌, ◌≤◌, inl, inr, Bool, true, false, cond, ltb, eqb, List, [], ◌∷◌, ◌++◌, length, get_or, take, drop, map, Some, All, arith, rules, tests, sym, ◌∙◌, ap, subst, refl, append_assoc, length-append}
 use Rattle.std.specs.List.{flat_map, slice_range, slice_get}
 use Rattle.std.specs.Option.{option_map}
@@ -52,7 +52,7 @@ placed-texts text number start (l ∷ ls) e =
     ap (λ n. take n (drop start text)) size ∙ (ap (take (length l.bytes)) (e ∙ append_assoc l.bytes _ (flat_map whole_line ls)) ∙ take_at l.bytes _ _ refl) in
     rw (here, placed-texts text (number + 1) (start + length (whole_line l)) ls behind)
 
--- the n bytes behind `start`, as a line
+-- the n bytes from `start` on, as a line
 abbrev line_at : ℕ → ℕ → ℕ → Bool → Line
 line_at number start n ended = record { number = number; start = start; end = start + n; ended = ended }
 
@@ -76,7 +76,7 @@ next_ended text number start n inside lacks feed =
     omega (arith, length-append (take n rest) (10 ∷ []), size) in
     ap (placed number start) lines ∙ rw (next, size)
 
--- the next line, where the text ends behind its n bytes
+-- the next line, where the text ends after its n bytes
 next_open : (text : List ℕ) (number start n : ℕ) → start < length text → start + n ≡ length text
     → LacksLineFeed (take n (drop start text))
     → lines_from text number start ≡ line_at number start n false ∷ lines_from text (number + 1) (start + n)
@@ -136,7 +136,8 @@ line_texts-append (b ∷ bs) rest =
       | inl e ↦ rw e (ap (λ ls. record { bytes = []; ended = true } ∷ ls) (line_texts-append bs rest))
       | inr n ↦ line_texts-other b (bs ++ 10 ∷ rest) n
           ∙ (ap (onto_first_line b) (line_texts-append bs rest)
-          ∙ (onto_first_line-append b (line_texts (bs ++ 10 ∷ [])) (line_texts rest) (length-line_texts-pos (bs ++ 10 ∷ []) (omega (arith, length-append bs (10 ∷ []))))
+          ∙ (onto_first_line-append b (line_texts (bs ++ 10 ∷ [])) (line_texts rest)
+          (length-line_texts-pos (bs ++ 10 ∷ []) (omega (arith, length-append bs (10 ∷ []))))
           ∙ ap (λ ls. ls ++ line_texts rest) (sym (line_texts-other b (bs ++ 10 ∷ []) n))))
     ]
 
@@ -145,7 +146,8 @@ abbrev Apart : List LineText → Type 0
 Apart ls = All (λ l. LacksLineFeed l.bytes) ls
 
 apart_onto : (b : ℕ) (ls : List LineText) → b ≢ 10 → Apart ls → Apart (onto_first_line b ls)
-apart_onto b [] n h = All-cons (λ l. LacksLineFeed l.bytes) (record { bytes = b ∷ []; ended = false }) [] (All-cons (λ x. x ≢ 10) b [] n (All-nil (λ x. x ≢ 10))) h
+apart_onto b [] n h =
+    All-cons (λ l. LacksLineFeed l.bytes) (record { bytes = b ∷ []; ended = false }) [] (All-cons (λ x. x ≢ 10) b [] n (All-nil (λ x. x ≢ 10))) h
 apart_onto b (l ∷ ls) n h =
     All-cons (λ l. LacksLineFeed l.bytes) (record { bytes = b ∷ l.bytes; ended = l.ended }) ls
     (All-cons (λ x. x ≢ 10) b l.bytes n (All-head (λ l. LacksLineFeed l.bytes) l ls h)) (All-tail (λ l. LacksLineFeed l.bytes) l ls h)
@@ -187,7 +189,7 @@ line_texts-open_last (b ∷ bs) =
 pub line_texts-are_lines : (text : List ℕ) → IsLinesOf text (line_texts text)
 line_texts-are_lines text = record { joined = line_texts-joined text; apart = line_texts-apart text; open_last = line_texts-open_last text }
 
--- a first line, and the lines behind it
+-- a first line, and the lines after it
 only_first : (bytes : List ℕ) (ended : Bool) (ls : List LineText) → LacksLineFeed bytes → (ended ≡ false → (ls ≡ []) × (0 < length bytes))
     → ls ≡ line_texts (flat_map whole_line ls)
     → record { bytes = bytes; ended = ended } ∷ ls ≡ line_texts (flat_map whole_line (record { bytes = bytes; ended = ended } ∷ ls))
@@ -226,12 +228,13 @@ placed-within text [] number start e h = All-nil (IsWithin text)
 placed-within text (l ∷ ls) number start e h =
     let behind : drop (start + length (whole_line l)) text ≡ flat_map whole_line ls =
     sym (drop-drop (length (whole_line l)) start text) ∙ (ap (drop (length (whole_line l))) e ∙ drop_at (whole_line l) (flat_map whole_line ls) _ refl) in
-    let room : start + length (whole_line l) ≤ length text = omega (arith, length-drop start text, ap length e, length-append (whole_line l) (flat_map whole_line ls)) in
+    let room : start + length (whole_line l) ≤ length text =
+    omega (arith, length-drop start text, ap length e, length-append (whole_line l) (flat_map whole_line ls)) in
     All-cons (IsWithin text) _ (placed (number + 1) (start + length (whole_line l)) ls)
     (record { forward = omega arith; inside = omega (arith, length-append l.bytes (cond l.ended (10 ∷ []) [])) })
     (placed-within text ls (number + 1) (start + length (whole_line l)) behind room)
 
--- what stands behind the last line feed
+-- what follows the last line feed
 pub line_texts-rest : (bytes : List ℕ) → LacksLineFeed bytes
     → line_texts bytes ≡ cond (eqb (length bytes) 0) [] (record { bytes = bytes; ended = false } ∷ [])
 line_texts-rest [] lacks = refl
@@ -256,7 +259,7 @@ pub length-placed : (number start : ℕ) (ls : List LineText) → length (placed
 length-placed number start [] = refl
 length-placed number start (l ∷ ls) = omega (arith, length-placed (number + 1) (start + length (whole_line l)) ls)
 
--- lines that are printed one after another, each with a line feed behind it, are the lines of the text
+-- lines that are printed one after another, each with a line feed after it, are the lines of the text
 pub line_texts-printed : (ls : List (List ℕ)) → All LacksLineFeed ls
     → line_texts (flat_map (λ l. l ++ 10 ∷ []) ls) ≡ map (λ l. record { bytes = l; ended = true }) ls
 line_texts-printed [] lacks = refl

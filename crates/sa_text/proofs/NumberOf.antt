@@ -41,6 +41,7 @@ number_of-some bytes n is =
     let small : v < 2 ^ 64 = ltb-true v (2 ^ 64) tests.0 in
     ((bytes_eq-Decides bytes (decimal v)).0 tests.1 ∙ ap decimal made.1, subst (λ m. m < 2 ^ 64) made.1 small)
 
-pub reads_any : (r : Option ℕ) (bytes : List ℕ) → IfSome r (λ n. n < 2 ^ 64) → IfSome r (λ n. bytes ≡ decimal n) → IfNone r ((n : ℕ) → n < 2 ^ 64 → bytes ≢ decimal n) → r ≡ number_of bytes
+pub reads_any : (r : Option ℕ) (bytes : List ℕ) → IfSome r (λ n. n < 2 ^ 64) → IfSome r (λ n. bytes ≡ decimal n)
+    → IfNone r ((n : ℕ) → n < 2 ^ 64 → bytes ≢ decimal n) → r ≡ number_of bytes
 reads_any None bytes h some none = sym (reads_none bytes none)
 reads_any (Some n) bytes h some none = sym (ap number_of some ∙ reads_number n h)

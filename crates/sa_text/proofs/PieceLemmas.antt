@@ -1,4 +1,4 @@
--- The pieces of a line: the first one, and those behind it.
+-- The pieces of a line: the first one, and those after it.
 use Rattle.std.proofs.Common.{◌≡◌, ◌≢◌, ℕ, ◌+◌, ◌-◌, ◌<◌, ◌≤◌, inl, inr, true, false, ltb, eqb, List, [], ◌∷◌, ◌++◌, length, get_or, take, drop, All, arith, rules, tests, sym, ◌∙◌, ap, subst, refl}
 use Rattle.std.specs.List.{slice_range, join_with_byte, onto_first, flat_map}
 use Rattle.std.proofs.lemmas.Bool.{cases_lt, cases_eq}

@@ -40,7 +40,8 @@ pub read_is : (bytes : List ℕ) (r : Option ℕ) → BeginsNumber bytes → Rea
     → bytes ≢ decimal n) (λ n. (n < 2 ^ 64) × (bytes ≡ decimal n))
 read_is bytes (Some x) b d =
     (omega (arith, d.1, d.0.1), spelled bytes b d.0.0 d.0.1 ∙ ap decimal (sym d.1))
-read_is bytes None b d = λ n h e. d (subst (λ bs. IsNumeral 10 bs × (digits_value 10 bs < 2 ^ 64)) (sym e) (let w = decimal_is_IsNumeral n h in (w.0, omega (arith, w.1))))
+read_is bytes None b d =
+    λ n h e. d (subst (λ bs. IsNumeral 10 bs × (digits_value 10 bs < 2 ^ 64)) (sym e) (let w = decimal_is_IsNumeral n h in (w.0, omega (arith, w.1))))
 
 -- bytes that begin no number are no decimal text
 pub begins_no_number : (bytes : List ℕ) → (BeginsNumber bytes → ⊥) → (n : ℕ) → n < 2 ^ 64 → bytes ≢ decimal n

@@ -11,7 +11,7 @@ use Rattle.sa_text.specs.declared.line_reader.Line.{Line}
 abbrev pub LinesAreTheText : Type 0
 LinesAreTheText = (text : List ℕ) (ls : List LineText) → IsLinesOf text ls ↔ (ls ≡ line_texts text)
 
--- a text goes on behind a line feed with the lines of the rest
+-- a text goes on after a line feed with the lines of the rest
 abbrev pub LinesFollowLineFeeds : Type 0
 LinesFollowLineFeeds = (front rest : List ℕ) → line_texts (front ++ 10 ∷ rest) ≡ line_texts (front ++ 10 ∷ []) ++ line_texts rest
 
@@ -19,11 +19,11 @@ LinesFollowLineFeeds = (front rest : List ℕ) → line_texts (front ++ 10 ∷ r
 abbrev pub LinesEndAtLineFeeds : Type 0
 LinesEndAtLineFeeds = (bytes : List ℕ) → LacksLineFeed bytes → line_texts (bytes ++ 10 ∷ []) ≡ record { bytes = bytes; ended = true } ∷ []
 
--- what stands behind the last line feed is a line exactly where it is not empty
+-- what follows the last line feed is a line exactly where it is not empty
 abbrev pub RestIsLine : Type 0
 RestIsLine = (bytes : List ℕ) → LacksLineFeed bytes → line_texts bytes ≡ (if length bytes == 0 then [] else record { bytes = bytes; ended = false } ∷ [])
 
--- lines that are printed one after another, each with a line feed behind it, are the lines of the text
+-- lines that are printed one after another, each with a line feed after it, are the lines of the text
 abbrev pub PrintedLinesAreTheLines : Type 0
 PrintedLinesAreTheLines = (ls : List (List ℕ)) → All LacksLineFeed ls
     → line_texts (flat_map (λ l. l ++ 10 ∷ []) ls) ≡ map (λ l. record { bytes = l; ended = true }) ls

@@ -1,4 +1,4 @@
--- Where the lines of a text stand in it.
+-- Where the lines of a text are in it.
 use Rattle.std.specs.Prelude.{ℕ, ◌+◌, ◌≤◌, List, [], ◌∷◌, length, drop, slice_range}
 use Rattle.sa_text.specs.LineText.{LineText, line_texts, whole_line}
 use Rattle.sa_text.specs.declared.line_reader.Line.{Line}
@@ -22,7 +22,7 @@ lines_of text = placed 1 0 (line_texts text)
 abbrev pub text_of_line : List ℕ → Line → LineText
 text_of_line text line = record { bytes = slice_range text line.start line.end; ended = line.ended }
 
--- where a reader of lines stands: its text, the number of the next line, and the lines that are still to come
+-- where a reader of lines is: its text, the number of the next line, and the lines that are still to come
 pub record LinesLeft : Type 0 where
   pub text : List ℕ
   pub number : ℕ

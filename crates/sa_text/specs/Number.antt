@@ -9,7 +9,7 @@ abbrev pub number_of : List ℕ → Option ℕ
 number_of bytes =
     let n = digits_value 10 bytes in if nat_lt n (2 ^ 64) && bytes_eq bytes (decimal n) then Some n else None
 
--- the first byte is a digit, and `0` only where it stands alone
+-- the first byte is a digit, and `0` only where it is alone
 pub record BeginsNumber (bytes : List ℕ) : Type 0 where
   pub low : 48 ≤ slice_index bytes 0
   pub high : slice_index bytes 0 ≤ 57

@@ -7,7 +7,7 @@ pub fn lines_are_the_text()
     ensures { LinesAreTheText }
 {}
 
-/// A line feed ends a line, and the rest behind the last one is a line exactly where it is not empty.
+/// A line feed ends a line, and the rest after the last one is a line exactly where it is not empty.
 pub fn lines_end_at_line_feeds()
     ensures follow { LinesFollowLineFeeds }
     ensures end { LinesEndAtLineFeeds }
@@ -27,7 +27,7 @@ pub fn pieces_are_the_line()
     ensures { PiecesAreTheLine }
 {}
 
-/// A space ends a piece, and the rest behind the last one is a piece, also where it is empty.
+/// A space ends a piece, and the rest after the last one is a piece, also where it is empty.
 pub fn pieces_end_at_spaces()
     ensures end { PiecesEndAtSpaces }
     ensures rest { RestIsPiece }

@@ -1,4 +1,4 @@
-// Lines, pieces and numbers: what the readers and the printers of the program's texts stand on.
+// Lines, pieces and numbers: what the readers and the printers of the program's texts are built on.
 #![tactic(auto)]
 
 pub mod laws;

@@ -4,14 +4,14 @@ ghost use Rattle.std.specs.Prelude.{◌≡◌, ◌+◌, ◌≤◌, [], ◌∷◌
 use crate::scan::length_before;
 use std::marker::Model;
 
-/// Where a line stands in a text: its bytes are `text[start..end]`.
+/// Where a line is in a text: its bytes are `text[start..end]`.
 #[derive(Clone, Copy, Debug, PartialEq, Eq)]
 pub struct Line {
     /// The line's number, from 1.
     pub number: u64,
     /// The place of its first byte, or of its line feed where the line is empty.
     pub start: usize,
-    /// The place behind its last byte: at most the text's length.
+    /// The place after its last byte: at most the text's length.
     pub end: usize,
     /// Whether a line feed follows, at `end`.
     pub ended: bool,
@@ -19,7 +19,7 @@ pub struct Line {
 
 /// A reader of the lines of a text. It cannot fail for want of memory.
 ///
-/// A line feed ends a line, and what stands behind the last one is a line where it is not empty.
+/// A line feed ends a line, and what follows the last one is a line where it is not empty.
 #[derive(Debug, Drop)]
 pub struct Lines<'a> {
     text: &'a [u8],

@@ -51,7 +51,7 @@ pub fn read_number(piece: &[u8]) -> Option<u64>
     parse_digits(piece)
 }
 
-// Whether the first byte is a digit, and `0` only where it stands alone.
+// Whether the first byte is a digit, and `0` only where it is alone.
 fn begins_number(piece: &[u8]) -> bool
     ensures { IsTrue result ↔ BeginsNumber piece.now }
 {

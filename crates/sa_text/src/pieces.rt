@@ -7,10 +7,10 @@ use crate::line_reader::Line;
 use crate::scan::length_before;
 use std::marker::Model;
 
-/// The piece of `line` that begins at `from`, as the places of its first byte and behind its last: it
+/// The piece of `line` that begins at `from`, as the place of its first byte and the place after its last: it
 /// goes up to the next space or the line's end, and may be empty.
 ///
-/// `None` exactly where `from` is past the line's end. The next piece begins one place behind this one.
+/// `None` exactly where `from` is past the line's end. The next piece begins one place after this one.
 pub fn token(text: &[u8], line: &Line, from: usize) -> Option<(usize, usize)>
     requires in_text { line.now.end ≤ length text.now }
     requires in_line { line.now.start ≤ from }
@@ -21,7 +21,7 @@ pub fn token(text: &[u8], line: &Line, from: usize) -> Option<(usize, usize)>
     ensures at_space { IfSome result
         (λ piece. piece.1 < line.now.end → slice_index text.now piece.1 ≡ 32) }
 
-    // Of the pieces from `from` on, this is the first, and the others are those from behind its end on.
+    // Of the pieces from `from` on, this is the first, and the others are those that begin after its end.
     ensures pieces { MatchOption result (pieces_from text.now from line.now.end ≡ [])
         (λ piece. pieces_from text.now from line.now.end
         ≡ slice_range text.now piece.0 piece.1 ∷ pieces_from text.now (piece.1 + 1) line.now.end) }

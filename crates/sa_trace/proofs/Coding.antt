@@ -66,7 +66,8 @@ module _ {A : Type 0} (field : Field) (made : ℕ → A) (number : A → ℕ) (n
 
   pub numbered_back : (IsTrue (range_of field).optional → ⊥) → (value : Option ℕ)
       → IsReading field (λ a. Some (number a)) value (option_map made (number_in field value))
-  numbered_back never value = mapped made (number_in field value) (Fits field value → ⊥) (λ a. Fits field value × (Some (number a) ≡ value)) (made_back never value)
+  numbered_back never value =
+      mapped made (number_in field value) (Fits field value → ⊥) (λ a. Fits field value × (Some (number a) ≡ value)) (made_back never value)
 
   pub numbered_forth : (a : A) → number a ≤ (range_of field).greatest → option_map made (number_in field (Some (number a))) ≡ Some a
   numbered_forth a fits = ap (λ o. option_map made o) (number_forth field (number a) fits) ∙ ap Some (things a)
@@ -82,9 +83,11 @@ module _ {A : Type 0} (field : Field) (made : ℕ → A) (number : A → ℕ) (n
   optional_back may value = mapped (λ o. option_map made o) (optional_in field value) (Fits field value → ⊥)
       (λ a. Fits field value × (option_map number a ≡ value)) (optional_made_back may value)
 
-  pub optional_forth : (a : Option A) → Fits field (option_map number a) → option_map (λ o. option_map made o) (optional_in field (option_map number a)) ≡ Some a
+  pub optional_forth : (a : Option A) → Fits field (option_map number a)
+      → option_map (λ o. option_map made o) (optional_in field (option_map number a)) ≡ Some a
   optional_forth None fits = refl
-  optional_forth (Some a) fits = ap (λ b. option_map (λ o. option_map made o) (if b then Some (Some (number a)) else None)) (le-leb (number a) (range_of field).greatest fits)
+  optional_forth (Some a) fits =
+      ap (λ b. option_map (λ o. option_map made o) (if b then Some (Some (number a)) else None)) (le-leb (number a) (range_of field).greatest fits)
       ∙ ap (λ x. Some (Some x)) (things a)
 
   -- a thing by its number

@@ -6,7 +6,7 @@ use Rattle.std.specs.Prelude.{◌==◌}
 use Rattle.sa_base.specs.declared.record.Item.{Item}
 use Rattle.sa_trace.specs.TraceText.{kind_number, count_of_kind}
 
--- one more item, whose kind's count is raised, keeps each count; the count of the kind k + 1 stands at the place k
+-- one more item, whose kind's count is raised, keeps each count; the count of the kind k + 1 is at the place k
 pub count-more : (items : List Item) (i place k : ℕ) (counts : List ℕ) (d : Item) → i < length items
     → place + 1 ≡ kind_number (get_or items i d).what → place < length counts
     → get_or counts k 0 ≡ count_of_kind (take i items) (k + 1)

@@ -1,5 +1,5 @@
--- The line that is refused is the first that no text has behind the lines before it.
-use Rattle.std.proofs.Common.{◌≡◌, ◌≢◌, ℕ, suc, ◌+◌, ◌-◌, ◌^◌, ◌<◌, ◌≤◌, List, [], ◌∷◌, ◌++◌, length, take, Option, Some, None, Result, Ok, Err, ◌⊎◌, refl, sym, ap, ◌∙◌, subst, inl, inr, arith, append_assoc, append-nil, length-append}
+-- The line that is refused is the first that no text has after the lines before it.
+use Rattle.std.proofs.Common.{◌≡◌, ◌≢◌, ℕ, suc, ◌+◌, ◌-◌, ◌^◌, ◌<◌, ◌≤◌, List, [], ◌∷◌, ◌++◌, length, take, Option, Some, None, Result, Ok, Err, ◌⊎◌, refl, sym, ap, ◌∙◌, subst, inl, inr, arith, append_assoc, append-nil, length-append, zero}
 use Rattle.std.specs.Prelude.{All, ◌==◌}
 use Rattle.std.specs.List.{range_with_len}
 use Rattle.std.proofs.lemmas.Bool.Decides.{eqb_tells, leb_tells}
@@ -33,7 +33,8 @@ same_bad a b h = cc
 pub same_cons : {A : Type 0} (x y : A) (xs ys : List A) → x ∷ xs ≡ y ∷ ys → (x ≡ y) × (xs ≡ ys)
 same_cons x y xs ys h = (cc, cc)
 
-goes_on-err : (number : ℕ) (r : Result Said Cause) (more : Item → Result Told Bad) (last : End → ℕ → Result Told Bad) (bad : Bad) → goes_on number r more last ≡ Err bad
+goes_on-err : (number : ℕ) (r : Result Said Cause) (more : Item → Result Told Bad) (last : End → ℕ → Result Told Bad) (bad : Bad)
+    → goes_on number r more last ≡ Err bad
     → ((cause : Cause) × (r ≡ Err cause) × (bad_at number cause ≡ bad))
     ⊎ (((item : Item) × (r ≡ Ok (Next item)) × (more item ≡ Err bad)) ⊎ ((end : End) × (events : ℕ) × (r ≡ Ok (Last end events)) × (last end events ≡ Err bad)))
 goes_on-err number (Err cause) more last bad h = inl (cause, refl, same_bad (bad_at number cause) bad h)
@@ -65,7 +66,8 @@ counts-small : (items : List Item) → length items < 2 ^ 64 → All (λ n. n < 
 unfolding counts_of
 counts-small items few =
     All-map (λ n. n < 2 ^ 64) (λ k. count_of_kind items (k + 1)) (range_with_len 0 RECORD_KINDS)
-    (all-of (λ k. count_of_kind items (k + 1) < 2 ^ 64) (range_with_len 0 RECORD_KINDS) (λ k. omega (arith, count_by-le-length (λ (i : Item). kind_number i.what == k + 1) items)))
+    (all-of (λ k. count_of_kind items (k + 1) < 2 ^ 64) (range_with_len 0 RECORD_KINDS)
+    (λ k. omega (arith, count_by-le-length (λ (i : Item). kind_number i.what == k + 1) items)))
 
 -- the last item fits its type
 abbrev pub FitsLast : Option Item → Type 0
@@ -103,18 +105,21 @@ pub record Stops (number : ℕ) (before : List Item) (lines : List LineText) (ba
   pub front : take k (text_lines more whole end events) ≡ take k lines
   pub alike : (others : List LineText) → take (suc k) others ≡ take (suc k) lines → read_from number before others ≡ Err bad
 
-no_line-alike : (number : ℕ) (before : List Item) (bad : Bad) → read_from number before [] ≡ Err bad → (others : List LineText) → take 1 others ≡ [] → read_from number before others ≡ Err bad
+no_line-alike : (number : ℕ) (before : List Item) (bad : Bad) → read_from number before [] ≡ Err bad → (others : List LineText) → take 1 others ≡ []
+    → read_from number before others ≡ Err bad
 no_line-alike number before bad h [] e = h
 no_line-alike number before bad h (other ∷ others) e = absurd cc
 
-cause-alike : (number : ℕ) (before : List Item) (line : LineText) (lines : List LineText) (cause : Cause) (bad : Bad) → line_in (so_far before) line ≡ Err cause → bad_at number cause ≡ bad
+cause-alike : (number : ℕ) (before : List Item) (line : LineText) (lines : List LineText) (cause : Cause) (bad : Bad) → line_in (so_far before) line ≡ Err cause
+    → bad_at number cause ≡ bad
     → (others : List LineText) → take 1 others ≡ take 1 (line ∷ lines) → read_from number before others ≡ Err bad
 cause-alike number before line lines cause bad wrong is [] e = absurd cc
 cause-alike number before line lines cause bad wrong is (other ∷ others) e =
     let same = same_cons other line [] [] e in
     ap (step number before others) (ap (line_in (so_far before)) same.0 ∙ wrong) ∙ ap (λ b. Err b) is
 
-next-alike : (number : ℕ) (before : List Item) (line : LineText) (lines : List LineText) (item : Item) (bad : Bad) (k : ℕ) → line_in (so_far before) line ≡ Ok (Next item)
+next-alike : (number : ℕ) (before : List Item) (line : LineText) (lines : List LineText) (item : Item) (bad : Bad) (k : ℕ)
+    → line_in (so_far before) line ≡ Ok (Next item)
     → ((others : List LineText) → take (suc k) others ≡ take (suc k) lines → read_from (number + 1) (before ++ item ∷ []) others ≡ Err bad)
     → (others : List LineText) → take (suc (suc k)) others ≡ take (suc (suc k)) (line ∷ lines) → read_from number before others ≡ Err bad
 next-alike number before line lines item bad k next later [] e = absurd cc
@@ -122,13 +127,15 @@ next-alike number before line lines item bad k next later (other ∷ others) e =
     let same = same_cons other line (take (suc k) others) (take (suc k) lines) e in
     ap (step number before others) (ap (line_in (so_far before)) same.0 ∙ next) ∙ later others same.1
 
-last-alike : (number : ℕ) (before : List Item) (line : LineText) (lines : List LineText) (end : End) (events : ℕ) (bad : Bad) → line_in (so_far before) line ≡ Ok (Last end events)
+last-alike : (number : ℕ) (before : List Item) (line : LineText) (lines : List LineText) (end : End) (events : ℕ) (bad : Bad)
+    → line_in (so_far before) line ≡ Ok (Last end events)
     → bad_after cause_after (number + 1) lines ≡ Some bad
     → (others : List LineText) → take 2 others ≡ take 2 (line ∷ lines) → read_from number before others ≡ Err bad
 last-alike number before line lines end events bad last behind [] e = absurd cc
 last-alike number before line lines end events bad last behind (other ∷ others) e =
     let same = same_cons other line (take 1 others) (take 1 lines) e in
-    ap (step number before others) (ap (line_in (so_far before)) same.0 ∙ last) ∙ ap (λ o. unless o (told before end events)) (same_after cause_after (number + 1) others lines same.1 ∙ behind)
+    ap (step number before others) (ap (line_in (so_far before)) same.0 ∙ last)
+    ∙ ap (λ o. unless o (told before end events)) (same_after cause_after (number + 1) others lines same.1 ∙ behind)
 
 pub stops : (number : ℕ) (before : List Item) (lines : List LineText) (bad : Bad) → FitsLast (last_of before) → length before + length lines < 2 ^ 64
     → read_from number before lines ≡ Err bad → (k : ℕ) × Stops number before lines bad k
@@ -147,7 +154,8 @@ stops number before [] bad fits few h = (
   },
 )
 stops number before (line ∷ lines) bad fits few h =
-    elim (goes_on-err number (line_in (so_far before) line) (λ item. read_from (number + 1) (before ++ item ∷ []) lines) (λ end events. unless (bad_after cause_after (number + 1) lines) (told before end events)) bad h) [
+    elim (goes_on-err number (line_in (so_far before) line) (λ item. read_from (number + 1) (before ++ item ∷ []) lines)
+    (λ end events. unless (bad_after cause_after (number + 1) lines) (told before end events)) bad h) [
       | inl wrong ↦ (
         0,
         record {
@@ -165,7 +173,8 @@ stops number before (line ∷ lines) bad fits few h =
       | inr right ↦ elim right [
         | inl next ↦
             let is = line_in-next before line next.0 (fits_proc (last_of before) fits) next.1 in
-            let rest = stops (number + 1) (before ++ next.0 ∷ []) lines bad (subst FitsLast (sym (last_of-append before next.0)) is.1) (omega (arith, length-append before (next.0 ∷ []))) next.2 in
+            let rest = stops (number + 1) (before ++ next.0 ∷ []) lines bad (subst FitsLast (sym (last_of-append before next.0)) is.1)
+            (omega (arith, length-append before (next.0 ∷ []))) next.2 in
             let later = rest.1 in (
               suc rest.0,
               record {
@@ -232,11 +241,18 @@ refused-first text bad few h =
         told is.whole is.end is.events,
         record {
           printed = refl;
-          accepted = record { fit = fit; in_order = subst (InOrder None) all is.accepted.in_order; enough = is.accepted.enough; events = is.accepted.small; few = is.accepted.few };
+          accepted = record {
+            fit = fit;
+            in_order = subst (InOrder None) all is.accepted.in_order;
+            enough = is.accepted.enough;
+            events = is.accepted.small;
+            few = is.accepted.few;
+          };
         },
         subst (λ n. take n (line_texts (trace_text is.whole is.end is.events)) ≡ take n (line_texts text)) place front,
       );
-      none = λ other t text_of same. no_both (read_of other) bad t (is.alike (line_texts other) (subst (λ n. take n (line_texts other) ≡ take n (line_texts text)) next same)) (read_of-text other t text_of);
+      none = λ other t text_of same. no_both (read_of other) bad t
+          (is.alike (line_texts other) (subst (λ n. take n (line_texts other) ≡ take n (line_texts text)) next same)) (read_of-text other t text_of);
     }
 
 pub compared : (j k : ℕ) → (j < k) ⊎ ((k < j) ⊎ (j ≡ k))

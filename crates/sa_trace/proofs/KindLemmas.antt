@@ -1,4 +1,4 @@
--- Each kind stands in the list of the kinds, and no two have one word.
+-- Each kind is in the list of the kinds, and no two have one word.
 use Rattle.std.proofs.Common.{◌≡◌, ℕ, ◌<◌, Option, Some, List, get_or, refl, sym, ap, ◌∙◌, arith, find}
 use Rattle.std.proofs.lemmas.Option.{same_Some}
 use Rattle.std.specs.Str.{bytes_eq}

@@ -100,7 +100,7 @@ words-printed Idle = refl
 words-printed Spin = refl
 words-printed Tick = refl
 
--- behind a space each, the pieces of a kind's word are the word
+-- with a space before each, the pieces of a kind's word are the word
 words-spaced : (kind : Kind) → flat_map (λ w. 32 ∷ w) (word_pieces kind) ≡ 32 ∷ (form_of kind).word
 words-spaced Ins = refl
 words-spaced Out = refl
@@ -140,7 +140,8 @@ fine-item item fits =
 
 fine-decimals : (counts : List ℕ) → All (λ n. n < 2 ^ 64) counts → AreFine (map decimal counts)
 fine-decimals [] small = fine-nil
-fine-decimals (n ∷ ns) small = fine-decimal n (map decimal ns) (All-head (λ n. n < 2 ^ 64) n ns small) (fine-decimals ns (All-tail (λ n. n < 2 ^ 64) n ns small))
+fine-decimals (n ∷ ns) small =
+    fine-decimal n (map decimal ns) (All-head (λ n. n < 2 ^ 64) n ns small) (fine-decimals ns (All-tail (λ n. n < 2 ^ 64) n ns small))
 
 fine-end : (end : End) (ps : List (List ℕ)) → AreFine ps → AreFine (end_word end ∷ ps)
 fine-end AllDone ps h = fine-cons (end_word AllDone) ps refl (lacks_by_test 32 (end_word AllDone) refl) h
@@ -149,7 +150,8 @@ fine-end Budget ps h = fine-cons (end_word Budget) ps refl (lacks_by_test 32 (en
 
 pub fine-last : (counts : List ℕ) (end : End) (events : ℕ) → All (λ n. n < 2 ^ 64) counts → events < 2 ^ 64 → AreFine (last_pieces counts end events)
 fine-last counts end events few small =
-    fine-cons (codes "end") _ refl (lacks_by_test 32 (codes "end") refl) (fine-end end _ (fine-decimal events (map decimal counts) small (fine-decimals counts few)))
+    fine-cons (codes "end") _ refl (lacks_by_test 32 (codes "end") refl)
+    (fine-end end _ (fine-decimal events (map decimal counts) small (fine-decimals counts few)))
 
 -- printed pieces make a printed line
 joined-printed : (ps : List (List ℕ)) → list_all is_printed ps ≡ true → is_printed (join_with_byte 32 ps) ≡ true
@@ -184,7 +186,8 @@ pieces_in-ok line ps h =
         | inl ended ↦
             let e = same_Ok (pieces_of line.bytes) ps ended.1 in (
               ap (λ (b : Bool). (λ (l : LineText). l) (record { bytes = line.bytes; ended = b })) ended.0
-                  ∙ ap (λ (bs : List ℕ). (λ (l : LineText). l) (record { bytes = bs; ended = true })) (sym (pieces_of-are_pieces line.bytes).joined ∙ ap (join_with_byte 32) e),
+                  ∙ ap (λ (bs : List ℕ). (λ (l : LineText). l) (record { bytes = bs; ended = true }))
+                  (sym (pieces_of-are_pieces line.bytes).joined ∙ ap (join_with_byte 32) e),
               subst (All LacksSpace) e (pieces_of-are_pieces line.bytes).apart,
             )
         | inr cut ↦ absurd (refused Missing ps cut.1)
@@ -211,13 +214,15 @@ line_of-pieces item =
     let fields = (parts_of item.what).fields in
     regroup_item (decimal item.event) (decimal item.proc.0) (form_of kind).word (flat_map field fields)
     ∙ ap (λ bs. (decimal item.event ++ ((32 ∷ decimal item.proc.0) ++ bs)) ++ 10 ∷ [])
-    (sym (flat_map-append (λ w. 32 ∷ w) (word_pieces kind) (map piece fields) ∙ ap (λ bs. bs ++ flat_map (λ w. 32 ∷ w) (map piece fields)) (words-spaced kind) ∙ ap (λ bs. (32 ∷ (form_of kind).word) ++ bs) (fields-spaced fields)))
+    (sym (flat_map-append (λ w. 32 ∷ w) (word_pieces kind) (map piece fields) ∙ ap (λ bs. bs ++ flat_map (λ w. 32 ∷ w) (map piece fields)) (words-spaced kind)
+    ∙ ap (λ bs. (32 ∷ (form_of kind).word) ++ bs) (fields-spaced fields)))
     ∙ ap (λ bs. bs ++ 10 ∷ []) (sym (join-spaced (decimal item.event) (decimal item.proc.0 ∷ record_pieces item.what)))
 
 regroup_last : (w e c : List ℕ) → ((((codes "end " ++ w) ++ (32 ∷ e)) ++ c) ++ 10 ∷ []) ≡ ((codes "end" ++ ((32 ∷ w) ++ ((32 ∷ e) ++ c))) ++ 10 ∷ [])
 regroup_last w e c = simp append_assoc
 
-pub last_line_of-pieces : (items : List Item) (end : End) (events : ℕ) → last_line_of items end events ≡ join_with_byte 32 (last_pieces (counts_of items) end events) ++ 10 ∷ []
+pub last_line_of-pieces : (items : List Item) (end : End) (events : ℕ)
+    → last_line_of items end events ≡ join_with_byte 32 (last_pieces (counts_of items) end events) ++ 10 ∷ []
 last_line_of-pieces items end events =
     regroup_last (end_word end) (decimal events) (counts_text (counts_of items))
     ∙ ap (λ bs. (codes "end" ++ ((32 ∷ end_word end) ++ ((32 ∷ decimal events) ++ bs))) ++ 10 ∷ []) (sym (counts-spaced (counts_of items)))

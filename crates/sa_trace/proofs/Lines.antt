@@ -49,7 +49,8 @@ processor_in-ok None event p proc fits h = let read = number_in-ok 0 MAX16 p pro
 processor_in-ok (Some last) event p proc fits h =
     elim (eqb_tells event last.event) [
       | inl same ↦
-          let read = number_in-ok last.proc.0 last.proc.0 p proc (sym (ap (λ b. cond b (number_in last.proc.0 last.proc.0 p) (number_in 0 MAX16 p)) same.0) ∙ h) in
+          let read = number_in-ok last.proc.0 last.proc.0 p proc
+          (sym (ap (λ b. cond b (number_in last.proc.0 last.proc.0 p) (number_in 0 MAX16 p)) same.0) ∙ h) in
           (read.0, omega (arith, read.3), λ e. omega (arith, read.2, read.3))
       | inr other ↦
           let read = number_in-ok 0 MAX16 p proc (sym (ap (λ b. cond b (number_in last.proc.0 last.proc.0 p) (number_in 0 MAX16 p)) other.0) ∙ h) in
@@ -69,7 +70,7 @@ processor_in-decimal (Some last) event proc small same =
           ∙ number_in-decimal 0 MAX16 proc (omega arith) (omega arith) (omega arith)
     ]
 
--- what stands behind an event is the processor and the record
+-- what follows an event is the processor and the record
 pub record IsItemAt (last : Option Item) (event : ℕ) (ps : List (List ℕ)) (said : Said) : Type 0 where
   pub proc : ℕ
   pub what : Record
@@ -101,7 +102,8 @@ item_at-ok last event (p ∷ rest) said fits lacks h =
 no_end : (n : ℕ) → n < 2 ^ 64 → bytes_eq (decimal n) (codes "end") ≡ false
 no_end n small = false_from_ne_true (bytes_eq (decimal n) (codes "end")) (λ same.
     let word : decimal n ≡ 101 ∷ 110 ∷ 100 ∷ [] = (bytes_eq-Decides (decimal n) (codes "end")).0 same in
-    let digits : All (λ b. (48 ≤ b) × (b ≤ 57)) (101 ∷ 110 ∷ 100 ∷ []) = subst (λ bs. All (λ b. (48 ≤ b) × (b ≤ 57)) bs) word (decimal-is_spelling n small).digits in
+    let digits : All (λ b. (48 ≤ b) × (b ≤ 57)) (101 ∷ 110 ∷ 100 ∷ []) =
+    subst (λ bs. All (λ b. (48 ≤ b) × (b ≤ 57)) bs) word (decimal-is_spelling n small).digits in
     let first : 101 ≤ 57 = (All-head (λ b. (48 ≤ b) × (b ≤ 57)) 101 (110 ∷ 100 ∷ []) digits).1 in omega arith)
 
 follows_least : (last : Option Item) (item : Item) → MayFollow last item → (least_event last ≤ item.event) × SameProc last item.event item.proc.0
@@ -114,16 +116,20 @@ least_follows None event proc what low same = tt
 least_follows (Some last) event proc what low same = (low, λ e. ap (λ (n : ℕ). (λ (p : ProcNo). p) (record { 0 = n })) (same e))
 
 -- the pieces of an item are read as the item
-pub said_by-item : (items : List Item) (item : Item) → FitsItem item → MayFollow (last_of items) item → said_by (so_far items) (item_pieces item) ≡ Ok (Next item)
+pub said_by-item : (items : List Item) (item : Item) → FitsItem item → MayFollow (last_of items) item
+    → said_by (so_far items) (item_pieces item) ≡ Ok (Next item)
 said_by-item items item fits follows =
     let low = follows_least (last_of items) item follows in
     ap (λ b. cond b (end_at (so_far items) (decimal item.proc.0 ∷ record_pieces item.what))
-    (and_then (number_in (least_event (last_of items)) MAX64 (decimal item.event)) (λ event. item_at (last_of items) event (decimal item.proc.0 ∷ record_pieces item.what))))
+    (and_then (number_in (least_event (last_of items)) MAX64 (decimal item.event))
+    (λ event. item_at (last_of items) event (decimal item.proc.0 ∷ record_pieces item.what))))
     (no_end item.event fits.event)
     ∙ ap (λ r. and_then r (λ event. item_at (last_of items) event (decimal item.proc.0 ∷ record_pieces item.what)))
     (number_in-decimal (least_event (last_of items)) MAX64 item.event fits.event low.0 (omega (arith, fits.event)))
-    ∙ ap (λ r. and_then r (λ proc. item_by item.event proc (record_pieces item.what))) (processor_in-decimal (last_of items) item.event item.proc.0 fits.proc low.1)
-    ∙ ap (λ r. and_then r (λ what. Ok (Next (record { event = item.event; proc = record { 0 = item.proc.0 }; what = what })))) (record_in-pieces item.what fits.what)
+    ∙ ap (λ r. and_then r (λ proc. item_by item.event proc (record_pieces item.what)))
+    (processor_in-decimal (last_of items) item.event item.proc.0 fits.proc low.1)
+    ∙ ap (λ r. and_then r (λ what. Ok (Next (record { event = item.event; proc = record { 0 = item.proc.0 }; what = what }))))
+    (record_in-pieces item.what fits.what)
 
 no_end_word : (end : End) → (λ (r : Result End Cause). r) (Err BadWord) ≡ Ok end → ⊥
 no_end_word end h = absurd cc
@@ -150,7 +156,7 @@ unless-ok : (o : Option Cause) (a said : Said) → unless o a ≡ Ok said → (o
 unless-ok None a said h = (refl, same_Ok a said h)
 unless-ok (Some cause) a said h = absurd cc
 
--- what stands behind the word `end`
+-- what follows the word `end`
 pub record IsLastAt (least : ℕ) (counts : List ℕ) (ps : List (List ℕ)) (said : Said) : Type 0 where
   pub end : End
   pub events : ℕ
@@ -160,7 +166,8 @@ pub record IsLastAt (least : ℕ) (counts : List ℕ) (ps : List (List ℕ)) (sa
   pub small : events < 2 ^ 64
   pub few : All (λ n. n < 2 ^ 64) counts
 
-counts_at-ok : (least : ℕ) (counts : List ℕ) (end : End) (w : List ℕ) (ps : List (List ℕ)) (said : Said) → w ≡ end_word end → counts_at least counts end ps ≡ Ok said
+counts_at-ok : (least : ℕ) (counts : List ℕ) (end : End) (w : List ℕ) (ps : List (List ℕ)) (said : Said) → w ≡ end_word end
+    → counts_at least counts end ps ≡ Ok said
     → IsLastAt least counts (w ∷ ps) said
 counts_at-ok least counts end w [] said word h = absurd cc
 counts_at-ok least counts end w (p ∷ rest) said word h =
@@ -171,24 +178,28 @@ counts_at-ok least counts end w (p ∷ rest) said word h =
       end = end;
       events = events.0;
       is = sym none.1;
-      pieces = ap (λ x. x ∷ p ∷ rest) word ∙ ap (λ x. end_word end ∷ x ∷ rest) read.0 ∙ ap (λ r. end_word end ∷ decimal events.0 ∷ r) (wrong_count-none counts rest none.0).0;
+      pieces = ap (λ x. x ∷ p ∷ rest) word ∙ ap (λ x. end_word end ∷ x ∷ rest) read.0
+          ∙ ap (λ r. end_word end ∷ decimal events.0 ∷ r) (wrong_count-none counts rest none.0).0;
       enough = read.2;
       small = read.1;
       few = (wrong_count-none counts rest none.0).1;
     }
 
-pub end_at-ok : (items : List Item) (ps : List (List ℕ)) (said : Said) → end_at (so_far items) ps ≡ Ok said → IsLastAt (least_event (last_of items)) (counts_of items) ps said
+pub end_at-ok : (items : List Item) (ps : List (List ℕ)) (said : Said) → end_at (so_far items) ps ≡ Ok said
+    → IsLastAt (least_event (last_of items)) (counts_of items) ps said
 end_at-ok items [] said h = absurd cc
 end_at-ok items (w ∷ rest) said h =
     let end = and_then-ok (end_of w) (λ end. counts_at (least_event (last_of items)) (counts_of items) end rest) said h in
     counts_at-ok (least_event (last_of items)) (counts_of items) end.0 w rest said (end_of-ok w end.0 end.1) end.2
 
 -- the pieces of the last line are read as the end
-pub said_by-last : (items : List Item) (end : End) (events : ℕ) → least_event (last_of items) ≤ events → events < 2 ^ 64 → All (λ n. n < 2 ^ 64) (counts_of items)
+pub said_by-last : (items : List Item) (end : End) (events : ℕ) → least_event (last_of items) ≤ events → events < 2 ^ 64
+    → All (λ n. n < 2 ^ 64) (counts_of items)
     → said_by (so_far items) (last_pieces (counts_of items) end events) ≡ Ok (Last end events)
 said_by-last items end events enough small few =
     ap (λ r. and_then r (λ e. counts_at (least_event (last_of items)) (counts_of items) e (decimal events ∷ map decimal (counts_of items)))) (end_of-word end)
-    ∙ ap (λ r. and_then r (λ n. unless (wrong_count (counts_of items) (map decimal (counts_of items))) (Last end n))) (number_in-decimal (least_event (last_of items)) MAX64 events small enough (omega arith))
+    ∙ ap (λ r. and_then r (λ n. unless (wrong_count (counts_of items) (map decimal (counts_of items))) (Last end n)))
+    (number_in-decimal (least_event (last_of items)) MAX64 events small enough (omega arith))
     ∙ ap (λ o. unless o (Last end events)) (wrong_count-decimals (counts_of items) few)
 
 next_no_last : {least : ℕ} {counts : List ℕ} {ps : List (List ℕ)} {item : Item} → IsLastAt least counts ps (Next item) → ⊥
@@ -204,11 +215,13 @@ same_Last : (a b : End) (m n : ℕ) → Last a m ≡ Last b n → (a ≡ b) × (
 same_Last a b m n h = (cc, cc)
 
 -- pieces that are read as an item are the item's
-pub said_by-next : (items : List Item) (ps : List (List ℕ)) (item : Item) → FitsProc (last_of items) → All LacksSpace ps → said_by (so_far items) ps ≡ Ok (Next item)
+pub said_by-next : (items : List Item) (ps : List (List ℕ)) (item : Item) → FitsProc (last_of items) → All LacksSpace ps
+    → said_by (so_far items) ps ≡ Ok (Next item)
     → (ps ≡ item_pieces item) × FitsItem item × MayFollow (last_of items) item
 said_by-next items [] item fits lacks h = absurd cc
 said_by-next items (p ∷ rest) item fits lacks h =
-    elim (if_either (bytes_eq p (codes "end")) (end_at (so_far items) rest) (and_then (number_in (least_event (last_of items)) MAX64 p) (λ event. item_at (last_of items) event rest)) (Ok (Next item)) h) [
+    elim (if_either (bytes_eq p (codes "end")) (end_at (so_far items) rest)
+    (and_then (number_in (least_event (last_of items)) MAX64 p) (λ event. item_at (last_of items) event rest)) (Ok (Next item)) h) [
       | inl ended ↦ absurd (next_no_last (end_at-ok items rest (Next item) ended.1))
       | inr other ↦
           let event = and_then-ok (number_in (least_event (last_of items)) MAX64 p) (λ event. item_at (last_of items) event rest) (Next item) other.1 in
@@ -223,16 +236,19 @@ said_by-next items (p ∷ rest) item fits lacks h =
     ]
 
 -- and pieces that are read as the end are those of the last line
-pub said_by-end : (items : List Item) (ps : List (List ℕ)) (end : End) (events : ℕ) → FitsProc (last_of items) → All LacksSpace ps → said_by (so_far items) ps ≡ Ok (Last end events)
+pub said_by-end : (items : List Item) (ps : List (List ℕ)) (end : End) (events : ℕ) → FitsProc (last_of items) → All LacksSpace ps
+    → said_by (so_far items) ps ≡ Ok (Last end events)
     → (ps ≡ last_pieces (counts_of items) end events) × (least_event (last_of items) ≤ events) × (events < 2 ^ 64) × All (λ n. n < 2 ^ 64) (counts_of items)
 said_by-end items [] end events fits lacks h = absurd cc
 said_by-end items (p ∷ rest) end events fits lacks h =
-    elim (if_either (bytes_eq p (codes "end")) (end_at (so_far items) rest) (and_then (number_in (least_event (last_of items)) MAX64 p) (λ event. item_at (last_of items) event rest)) (Ok (Last end events)) h) [
+    elim (if_either (bytes_eq p (codes "end")) (end_at (so_far items) rest)
+    (and_then (number_in (least_event (last_of items)) MAX64 p) (λ event. item_at (last_of items) event rest)) (Ok (Last end events)) h) [
       | inl ended ↦
           let is = end_at-ok items rest (Last end events) ended.1 in
           let same = same_Last is.end end is.events events (sym is.is) in (
             ap (λ x. x ∷ rest) ((bytes_eq-Decides p (codes "end")).0 ended.0)
-                ∙ ap (λ r. codes "end" ∷ r) (is.pieces ∙ ap (λ e. end_word e ∷ decimal is.events ∷ map decimal (counts_of items)) same.0 ∙ ap (λ n. end_word end ∷ decimal n ∷ map decimal (counts_of items)) same.1),
+                ∙ ap (λ r. codes "end" ∷ r) (is.pieces ∙ ap (λ e. end_word e ∷ decimal is.events ∷ map decimal (counts_of items)) same.0
+                ∙ ap (λ n. end_word end ∷ decimal n ∷ map decimal (counts_of items)) same.1),
             subst (λ n. least_event (last_of items) ≤ n) same.1 is.enough,
             subst (λ n. n < 2 ^ 64) same.1 is.small,
             is.few,

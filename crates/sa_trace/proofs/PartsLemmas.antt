@@ -48,7 +48,8 @@ module _ {A B : Type 0} (p : Coded A) (q : Coded B) (kind : Kind) (make : A → 
   two-making [] = λ h. h
   two-making (x ∷ []) = λ h. h.1
   two-making (x ∷ y ∷ []) = by_two x y (p.read x) (q.read y) (p.back x) (q.back y)
-  two-making (x ∷ y ∷ z ∷ f) = none-making (p.field ∷ q.field ∷ []) kind (x ∷ y ∷ z ∷ f) _ (wrong_number (length (x ∷ y ∷ z ∷ f)) 2 _ (λ e. absurd (omega arith))) (λ h. h.1.1)
+  two-making (x ∷ y ∷ z ∷ f) =
+      none-making (p.field ∷ q.field ∷ []) kind (x ∷ y ∷ z ∷ f) _ (wrong_number (length (x ∷ y ∷ z ∷ f)) 2 _ (λ e. absurd (omega arith))) (λ h. h.1.1)
 
 module _ {A B C : Type 0} (p : Coded A) (q : Coded B) (s : Coded C) (kind : Kind) (make : A → B → C → Record)
     (shown : (a : A) (b : B) (c : C) → parts_of (make a b c) ≡ parts kind (p.held a ∷ q.held b ∷ s.held c ∷ [])) where

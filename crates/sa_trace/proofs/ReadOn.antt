@@ -1,4 +1,4 @@
--- What lines are read as behind some items is those items in front of what they are read as behind what is so far.
+-- What lines are read as after some items is those items in front of what they are read as after what is so far.
 use Rattle.std.proofs.Common.{◌≡◌, ℕ, zero, suc, ◌+◌, ◌-◌, ◌<◌, ◌≤◌, List, [], ◌∷◌, ◌++◌, length, get_or, take, Option, Some, None, Result, Ok, Err, refl, sym, ap, ◌∙◌, arith, append_assoc, append-nil, length-append, length-set, take_all}
 use Rattle.std.specs.Prelude.{All}
 use Rattle.std.specs.List.{range_with_len}
@@ -58,7 +58,7 @@ numbered Idle = (omega arith, omega arith)
 numbered Spin = (omega arith, omega arith)
 numbered Tick = (omega arith, omega arith)
 
--- the count of a kind stands at the place below its number
+-- the count of a kind is at the place below its number
 count-at : (items : List Item) (k : ℕ) → k < RECORD_KINDS → get_or (counts_of items) k 0 ≡ count_of_kind items (k + 1)
 unfolding counts_of
 count-at items k h = get_or-map-range_with_len (λ k. count_of_kind items (k + 1)) 0 RECORD_KINDS k k 0 h (omega arith)

@@ -59,7 +59,8 @@ wrong_or-none (Ok n) later h = (n, refl, h)
 wrong_or-none (Err cause) later h = absurd cc
 
 -- pieces that are these numbers
-pub wrong_count-none : (counts : List ℕ) (pieces : List (List ℕ)) → wrong_count counts pieces ≡ None → (pieces ≡ map decimal counts) × All (λ n. n < 2 ^ 64) counts
+pub wrong_count-none : (counts : List ℕ) (pieces : List (List ℕ)) → wrong_count counts pieces ≡ None
+    → (pieces ≡ map decimal counts) × All (λ n. n < 2 ^ 64) counts
 wrong_count-none [] [] h = (refl, All-nil (λ n. n < 2 ^ 64))
 wrong_count-none [] (piece ∷ rest) h = absurd cc
 wrong_count-none (count ∷ counts) [] h = absurd cc
@@ -109,7 +110,8 @@ no_dash n small = false_from_ne_true (bytes_eq (decimal n) (codes "-")) (λ same
 
 pub field_in-ok : (field : Field) (p : List ℕ) (v : Option ℕ) → field_in field p ≡ Ok v → (p ≡ piece v) × Fits field v
 field_in-ok field p v h =
-    elim (if_either ((range_of field).optional && bytes_eq p (codes "-")) (Ok None) (and_then (number_in 0 (range_of field).greatest p) (λ n. Ok (Some n))) (Ok v) h) [
+    elim (if_either ((range_of field).optional && bytes_eq p (codes "-")) (Ok None) (and_then (number_in 0 (range_of field).greatest p) (λ n. Ok (Some n)))
+    (Ok v) h) [
       | inl taken ↦
           let tests = and_parts (range_of field).optional (bytes_eq p (codes "-")) taken.0 in
           let e : None ≡ v = same_Ok None v taken.1 in
@@ -126,7 +128,8 @@ field_in-piece field None h =
     ap (λ b. cond (b && bytes_eq (codes "-") (codes "-")) (Ok None) (and_then (number_in 0 (range_of field).greatest (codes "-")) (λ n. Ok (Some n)))) h
 field_in-piece field (Some n) h =
     let small : n < 2 ^ 64 = omega (arith, greatest-small field) in
-    ap (λ b. cond ((range_of field).optional && b) (Ok None) (and_then (number_in 0 (range_of field).greatest (decimal n)) (λ m. Ok (Some m)))) (no_dash n small)
+    ap (λ b. cond ((range_of field).optional && b) (Ok None) (and_then (number_in 0 (range_of field).greatest (decimal n)) (λ m. Ok (Some m))))
+    (no_dash n small)
     ∙ cond-and_false (range_of field).optional (Ok None) (and_then (number_in 0 (range_of field).greatest (decimal n)) (λ m. Ok (Some m)))
     ∙ ap (λ r. and_then r (λ m. Ok (Some m))) (number_in-decimal 0 (range_of field).greatest n small (omega arith) h)
 

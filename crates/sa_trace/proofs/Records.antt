@@ -72,7 +72,7 @@ by_word w rest found lacks h =
     let word : (form_of found.0).word ≡ w = (bytes_eq-Decides (form_of found.0).word w).0 (find-passes (has_word w) KINDS found.0 is.0) in
     ap (λ r. w ∷ r) is.1 ∙ ap (λ ps. ps ++ found.1) (sym (ap pieces_of word ∙ pieces_of-one w lacks))
 
--- the pieces of a kind that is read, and those behind them
+-- the pieces of a kind that is read, and those after them
 pub kind_at-ok : (ps : List (List ℕ)) (found : Kind × List (List ℕ)) → All LacksSpace ps → kind_at ps ≡ Ok found → ps ≡ word_pieces found.0 ++ found.1
 kind_at-ok [] found lacks h = absurd cc
 kind_at-ok (w ∷ []) found lacks h =
@@ -136,5 +136,6 @@ record_in-ok ps what lacks h =
 pub record_in-pieces : (what : Record) → FitTheKind (parts_of what) → record_in (record_pieces what) ≡ Ok what
 record_in-pieces what h =
     ap (λ r. and_then r (λ found. record_by found.0 found.1)) (kind_at-pieces (parts_of what).kind (map piece (parts_of what).fields))
-    ∙ ap (λ r. and_then r (λ fields. or_cause (record_of (parts_of what).kind fields) OutOfRange)) (fields_in-pieces (form_of (parts_of what).kind).fields (parts_of what).fields h)
+    ∙ ap (λ r. and_then r (λ fields. or_cause (record_of (parts_of what).kind fields) OutOfRange))
+    (fields_in-pieces (form_of (parts_of what).kind).fields (parts_of what).fields h)
     ∙ ap (λ o. or_cause o OutOfRange) (remade what h)

@@ -12,7 +12,7 @@ pub count-missing : (counts : List ℕ) (words : List (List ℕ)) (i : ℕ) → 
 count-missing counts words i h none =
     ap (λ c. wrong_count c words) (drop_more counts i 0 h) ∙ ap (wrong_count (get_or counts i 0 ∷ drop (i + 1) counts)) none
 
--- the count that is next decides, or else those behind it
+-- the count that is next decides, or else those after it
 pub count-next : (counts : List ℕ) (words rest : List (List ℕ)) (piece : List ℕ) (i : ℕ) (r : Result ℕ Cause) → i < length counts
     → words ≡ piece ∷ rest → r ≡ number_in (get_or counts i 0) (get_or counts i 0) piece
     → wrong_count (drop i counts) words ≡ wrong_or r (wrong_count (drop (i + 1) counts) rest)
@@ -32,25 +32,29 @@ field-next fields words rest piece i r h next read =
     ap (λ f. fields_in f words) (drop_more fields i Space h) ∙ ap (fields_in (get_or fields i Space ∷ drop (i + 1) fields)) next
     ∙ ap (λ q. and_then q (λ value. and_then (fields_in (drop (i + 1) fields) rest) (λ values. Ok (value ∷ values)))) (sym read)
 
--- a value more stands in front of the later ones
+-- a value more is in front of the later ones
 pub value-more : (values : List (Option ℕ)) (value : Option ℕ) (later : Result (List (Option ℕ)) Cause)
     → and_then (and_then later (λ vs. Ok (value ∷ vs))) (λ vs. Ok (values ++ vs)) ≡ and_then later (λ vs. Ok ((values ++ value ∷ []) ++ vs))
 value-more values value (Ok vs) = ap Ok (sym (append_assoc values (value ∷ []) vs))
 value-more values value (Err cause) = refl
 
--- a field that is refused, and one that is read, behind the values before it
-pub field-wrong : (fields : List Field) (words rest : List (List ℕ)) (piece : List ℕ) (i : ℕ) (r : Result (Option ℕ) Cause) (cause : Cause) (before : List (Option ℕ)) → i < length fields
+-- a field that is refused, and one that is read, after the values before it
+pub field-wrong : (fields : List Field) (words rest : List (List ℕ)) (piece : List ℕ) (i : ℕ) (r : Result (Option ℕ) Cause) (cause : Cause)
+    (before : List (Option ℕ)) → i < length fields
     → words ≡ piece ∷ rest → r ≡ field_in (get_or fields i Space) piece → r ≡ Err cause
     → and_then (fields_in (drop i fields) words) (λ later. Ok (before ++ later)) ≡ Err cause
 field-wrong fields words rest piece i r cause before h next read wrong =
     ap (λ q. and_then q (λ later. Ok (before ++ later)))
-    (field-next fields words rest piece i r h next read ∙ ap (λ q. and_then q (λ value. and_then (fields_in (drop (i + 1) fields) rest) (λ values. Ok (value ∷ values)))) wrong)
+    (field-next fields words rest piece i r h next read
+    ∙ ap (λ q. and_then q (λ value. and_then (fields_in (drop (i + 1) fields) rest) (λ values. Ok (value ∷ values)))) wrong)
 
-pub field-read : (fields : List Field) (words rest : List (List ℕ)) (piece : List ℕ) (i : ℕ) (r : Result (Option ℕ) Cause) (value : Option ℕ) (before : List (Option ℕ)) → i < length fields
+pub field-read : (fields : List Field) (words rest : List (List ℕ)) (piece : List ℕ) (i : ℕ) (r : Result (Option ℕ) Cause) (value : Option ℕ)
+    (before : List (Option ℕ)) → i < length fields
     → words ≡ piece ∷ rest → r ≡ field_in (get_or fields i Space) piece → r ≡ Ok value
     → and_then (fields_in (drop i fields) words) (λ later. Ok (before ++ later))
     ≡ and_then (fields_in (drop (i + 1) fields) rest) (λ later. Ok ((before ++ value ∷ []) ++ later))
 field-read fields words rest piece i r value before h next read right =
     ap (λ q. and_then q (λ later. Ok (before ++ later)))
-    (field-next fields words rest piece i r h next read ∙ ap (λ q. and_then q (λ v. and_then (fields_in (drop (i + 1) fields) rest) (λ values. Ok (v ∷ values)))) right)
+    (field-next fields words rest piece i r h next read
+    ∙ ap (λ q. and_then q (λ v. and_then (fields_in (drop (i + 1) fields) rest) (λ values. Ok (v ∷ values)))) right)
     ∙ value-more before value (fields_in (drop (i + 1) fields) rest)

@@ -24,7 +24,7 @@ use Rattle.sa_trace.proofs.Readings.{and_then-ok}
 use Rattle.sa_trace.proofs.Lines.{item_pieces, last_pieces, FitsProc, said_by-item, said_by-last, said_by-next, said_by-end}
 use Rattle.sa_trace.proofs.LineTexts.{fine-item, fine-last, fine-lacks, pieces_in-line, pieces_in-ok, line_of-pieces, last_line_of-pieces}
 
--- the line of an item, and the last line behind some items
+-- the line of an item, and the last line after some items
 abbrev pub item_line : Item → LineText
 item_line item = ended_line (item_pieces item)
 
@@ -40,10 +40,12 @@ pub line_in-item : (items : List Item) (item : Item) → FitsItem item → MayFo
 line_in-item items item fits follows =
     ap (λ r. and_then r (said_by (so_far items))) (pieces_in-line _ _ (fine-item item fits)) ∙ said_by-item items item fits follows
 
-pub line_in-last : (items : List Item) (end : End) (events : ℕ) → least_event (last_of items) ≤ events → events < 2 ^ 64 → All (λ n. n < 2 ^ 64) (counts_of items)
+pub line_in-last : (items : List Item) (end : End) (events : ℕ) → least_event (last_of items) ≤ events → events < 2 ^ 64
+    → All (λ n. n < 2 ^ 64) (counts_of items)
     → line_in (so_far items) (last_line items end events) ≡ Ok (Last end events)
 line_in-last items end events enough small few =
-    ap (λ r. and_then r (said_by (so_far items))) (pieces_in-line _ _ (fine-last (counts_of items) end events few small)) ∙ said_by-last items end events enough small few
+    ap (λ r. and_then r (said_by (so_far items))) (pieces_in-line _ _ (fine-last (counts_of items) end events few small))
+    ∙ said_by-last items end events enough small few
 
 -- and is the line of what it is read as
 pub line_in-next : (items : List Item) (line : LineText) (item : Item) → FitsProc (last_of items) → line_in (so_far items) line ≡ Ok (Next item)
@@ -69,12 +71,13 @@ last_of-append items item =
     ∙ ap (λ n. Some (get_or (items ++ item ∷ []) n item)) (omega (arith, length-append items (item ∷ [])))
     ∙ ap (λ i. Some i) (get_or-append_seam items item [] item)
 
--- what comes of a line, behind some items and before some lines
+-- what comes of a line, after some items and before some lines
 abbrev pub step : ℕ → List Item → List LineText → Result Said Cause → Result Told Bad
 step number items rest said =
-    goes_on number said (λ item. read_from (number + 1) (items ++ item ∷ []) rest) (λ end events. unless (bad_after cause_after (number + 1) rest) (told items end events))
+    goes_on number said (λ item. read_from (number + 1) (items ++ item ∷ []) rest)
+    (λ end events. unless (bad_after cause_after (number + 1) rest) (told items end events))
 
--- what makes the items and the end behind some items a text's
+-- what makes the items and the end after some items a text's
 pub record AreAccepted (before more whole : List Item) (events : ℕ) : Type 0 where
   pub all : whole ≡ before ++ more
   pub fit : All FitsItem more
@@ -107,7 +110,8 @@ pub record AreLinesOf (before : List Item) (lines : List LineText) (t : Told) : 
   pub are : lines ≡ text_lines more t.items t.end t.events
   pub accepted : AreAccepted before more t.items t.events
 
-goes_on-ok : {A : Type 0} (number : ℕ) (r : Result Said Cause) (more : Item → Result A Bad) (last : End → ℕ → Result A Bad) (a : A) → goes_on number r more last ≡ Ok a
+goes_on-ok : {A : Type 0} (number : ℕ) (r : Result Said Cause) (more : Item → Result A Bad) (last : End → ℕ → Result A Bad) (a : A)
+    → goes_on number r more last ≡ Ok a
     → ((item : Item) × (r ≡ Ok (Next item)) × (more item ≡ Ok a)) ⊎ ((end : End) × (events : ℕ) × (r ≡ Ok (Last end events)) × (last end events ≡ Ok a))
 goes_on-ok number (Err cause) more last a h = absurd cc
 goes_on-ok number (Ok (Next item)) more last a h = inl (item, refl, h)
@@ -121,10 +125,12 @@ pub none_after : (cause : ℕ → LineText → Cause) (number : ℕ) (lines : Li
 none_after cause number [] h = refl
 none_after cause number (line ∷ lines) h = absurd cc
 
-pub lines-only : (number : ℕ) (before : List Item) (lines : List LineText) (t : Told) → FitsProc (last_of before) → read_from number before lines ≡ Ok t → AreLinesOf before lines t
+pub lines-only : (number : ℕ) (before : List Item) (lines : List LineText) (t : Told) → FitsProc (last_of before) → read_from number before lines ≡ Ok t
+    → AreLinesOf before lines t
 lines-only number before [] t fits h = absurd cc
 lines-only number before (line ∷ lines) t fits h =
-    elim (goes_on-ok number (line_in (so_far before) line) (λ item. read_from (number + 1) (before ++ item ∷ []) lines) (λ end events. unless (bad_after cause_after (number + 1) lines) (told before end events)) t h) [
+    elim (goes_on-ok number (line_in (so_far before) line) (λ item. read_from (number + 1) (before ++ item ∷ []) lines)
+    (λ end events. unless (bad_after cause_after (number + 1) lines) (told before end events)) t h) [
       | inl next ↦
           let is = line_in-next before line next.0 fits next.1 in
           let rest = lines-only (number + 1) (before ++ next.0 ∷ []) lines t (subst FitsProc (sym (last_of-append before next.0)) is.1.proc) next.2 in
@@ -153,7 +159,8 @@ lines-only number before (line ∷ lines) t fits h =
 -- the bytes of the lines of a text are the text
 lines-items : (items : List Item) → flat_map whole_line (map item_line items) ≡ flat_map line_of items
 lines-items [] = refl
-lines-items (item ∷ items) = ap (λ bs. bs ++ flat_map whole_line (map item_line items)) (sym (line_of-pieces item)) ∙ ap (λ bs. line_of item ++ bs) (lines-items items)
+lines-items (item ∷ items) = ap (λ bs. bs ++ flat_map whole_line (map item_line items)) (sym (line_of-pieces item))
+    ∙ ap (λ bs. line_of item ++ bs) (lines-items items)
 
 pub lines-text : (items : List Item) (end : End) (events : ℕ) → flat_map whole_line (text_lines items items end events) ≡ trace_text items end events
 unfolding trace_text
@@ -169,7 +176,8 @@ items-lines [] rest fits = refl
 items-lines (item ∷ items) rest fits =
     ap (λ bs. line_texts ((bs ++ flat_map line_of items) ++ rest)) (line_of-pieces item)
     ∙ ap line_texts (regroup (join_with_byte 32 (item_pieces item)) (flat_map line_of items) rest)
-    ∙ line_texts-ended (join_with_byte 32 (item_pieces item)) (flat_map line_of items ++ rest) (fine-lacks (item_pieces item) (fine-item item (All-head FitsItem item items fits)))
+    ∙ line_texts-ended (join_with_byte 32 (item_pieces item)) (flat_map line_of items ++ rest)
+    (fine-lacks (item_pieces item) (fine-item item (All-head FitsItem item items fits)))
     ∙ ap (λ ls. item_line item ∷ ls) (items-lines items rest (All-tail FitsItem item items fits))
 
 pub text-lines : (items : List Item) (end : End) (events : ℕ) → All FitsItem items → events < 2 ^ 64 → All (λ n. n < 2 ^ 64) (counts_of items)
@@ -178,7 +186,9 @@ unfolding trace_text
 text-lines items end events fits small few =
     items-lines items (last_line_of items end events) fits
     ∙ ap (λ bs. map item_line items ++ line_texts bs) (last_line_of-pieces items end events)
-    ∙ ap (λ ls. map item_line items ++ ls) (line_texts-ended (join_with_byte 32 (last_pieces (counts_of items) end events)) [] (fine-lacks (last_pieces (counts_of items) end events) (fine-last (counts_of items) end events few small)))
+    ∙ ap (λ ls. map item_line items ++ ls)
+    (line_texts-ended (join_with_byte 32 (last_pieces (counts_of items) end events)) []
+    (fine-lacks (last_pieces (counts_of items) end events) (fine-last (counts_of items) end events few small)))
 
 -- a text is read as what it tells, and nothing else is
 pub read_of-text : (text : List ℕ) (t : Told) → IsTextOf text t → read_of text ≡ Ok t
@@ -201,7 +211,8 @@ read_of-ok text t h =
     let is = lines-only 1 [] (line_texts text) t tt h in
     let all : is.more ≡ t.items = sym is.accepted.all in
     record {
-      printed = sym (line_texts-joined text) ∙ ap (flat_map whole_line) (is.are ∙ ap (λ more. text_lines more t.items t.end t.events) all) ∙ lines-text t.items t.end t.events;
+      printed = sym (line_texts-joined text) ∙ ap (flat_map whole_line) (is.are ∙ ap (λ more. text_lines more t.items t.end t.events) all)
+          ∙ lines-text t.items t.end t.events;
       accepted = record {
         fit = subst (All FitsItem) all is.accepted.fit;
         in_order = subst (InOrder None) all is.accepted.in_order;

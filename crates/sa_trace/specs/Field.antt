@@ -4,11 +4,11 @@ use Rattle.sa_trace.specs.declared.field.Field.{Field}
 use Rattle.sa_trace.specs.declared.field.Field.TheVariants.{Space, OptionalSpace, Thread, OptionalThread, Processor, Activation, Io, Place, Value, Demand}
 use Rattle.sa_trace.specs.declared.field.FieldRange.{FieldRange}
 
--- a number of so many bits
+-- a number of that many bits
 abbrev pub bits : ℕ → FieldRange
 bits n = record { greatest = 2 ^ n - 1; optional = false }
 
--- a number of so many bits, or none
+-- a number of that many bits, or none
 abbrev pub optional_bits : ℕ → FieldRange
 optional_bits n = record { greatest = 2 ^ n - 1; optional = true }
 

@@ -1,4 +1,4 @@
--- What a line of a trace text says behind the items before it, or the first thing that is wrong with it.
+-- What a line of a trace text says after the items before it, or the first thing that is wrong with it.
 use Rattle.std.specs.Prelude.{ℕ, ◌-◌, ◌^◌, ◌==◌, List, [], ◌∷◌, length, slice_get, codes, Option, Some, None, Result, Ok, Err, if◌then◌else◌}
 use Rattle.std.specs.Str.{bytes_eq}
 use Rattle.sa_trace.specs.declared.kind.Kind.{Kind}
@@ -56,23 +56,23 @@ abbrev pub item_by : ℕ → ℕ → List (List ℕ) → Result Said Cause
 item_by event proc pieces =
     and_then (record_in pieces) (λ what. Ok (Next (record { event = event; proc = record { 0 = proc }; what = what })))
 
--- behind the event: its processor, and the record
+-- after the event: its processor, and the record
 abbrev pub item_at : Option Item → ℕ → List (List ℕ) → Result Said Cause
 item_at last event [] = Err Missing
 item_at last event (piece ∷ rest) = and_then (processor_in last event piece) (λ proc. item_by event proc rest)
 
--- behind the end: the number of events, and the counts
+-- after the end: the number of events, and the counts
 abbrev pub counts_at : ℕ → List ℕ → End → List (List ℕ) → Result Said Cause
 counts_at least counts end [] = Err Missing
 counts_at least counts end (piece ∷ rest) =
     and_then (number_in least MAX64 piece) (λ events. unless (wrong_count counts rest) (Last end events))
 
--- behind the word `end`: how the run ended, the number of events, and the counts
+-- after the word `end`: how the run ended, the number of events, and the counts
 abbrev pub end_at : SoFar → List (List ℕ) → Result Said Cause
 end_at so [] = Err Missing
 end_at so (word ∷ rest) = and_then (end_of word) (λ end. counts_at (least_event so.last) so.counts end rest)
 
--- a line: `end` and what is behind it, or an event, its processor, and the record
+-- a line: `end` and what follows it, or an event, its processor, and the record
 abbrev pub said_by : SoFar → List (List ℕ) → Result Said Cause
 said_by so [] = Err Missing
 said_by so (piece ∷ rest) =
@@ -83,6 +83,6 @@ said_by so (piece ∷ rest) =
 abbrev pub pieces_in : LineText → Result (List (List ℕ)) Cause
 pieces_in line = if is_printed line.bytes then (if line.ended then Ok (pieces_of line.bytes) else Err Missing) else Err NotAscii
 
--- what a line says behind what is so far
+-- what a line says after what is so far
 abbrev pub line_in : SoFar → LineText → Result Said Cause
 line_in so line = and_then (pieces_in line) (said_by so)

@@ -6,6 +6,6 @@ use Rattle.std.specs.List.{flat_map, range_with_len}
 abbrev pub loss_line : ℕ → ℕ → List ℕ
 loss_line space lost = codes "lost " ++ decimal space ++ codes " " ++ decimal lost ++ codes "\n"
 
--- .. of each space, in order
+-- the lines of what each space has lost, in order
 abbrev pub losses_text : List ℕ → List ℕ
 losses_text lost = flat_map (λ s. loss_line s (slice_index lost s)) (range_with_len 0 (length lost))

@@ -51,7 +51,7 @@ abbrev pub at_end : List (List ℕ) → Option Cause
 at_end [] = None
 at_end (piece ∷ rest) = Some BadWord
 
--- so many fields, each a piece, and none behind them
+-- that many fields, each a piece, and none after them
 abbrev pub fields_in : List Field → List (List ℕ) → Result (List (Option ℕ)) Cause
 fields_in [] pieces = unless (at_end pieces) []
 fields_in (field ∷ fields) [] = Err Missing
@@ -76,7 +76,7 @@ has_word word kind = bytes_eq (form_of kind).word word
 abbrev pub has_note : List ℕ → Kind → Bool
 has_note word kind = bytes_eq (take 5 (form_of kind).word) (codes "told ") && bytes_eq (drop 5 (form_of kind).word) word
 
--- a kind with the pieces behind its word; no kind has another word
+-- a kind with the pieces after its word; no kind has another word
 abbrev pub known : Option Kind → List (List ℕ) → Result (Kind × List (List ℕ)) Cause
 known None rest = Err BadWord
 known (Some kind) rest = Ok (kind, rest)
@@ -85,7 +85,7 @@ abbrev pub note_at : List (List ℕ) → Result (Kind × List (List ℕ)) Cause
 note_at [] = Err Missing
 note_at (word ∷ rest) = known (find (has_note word) KINDS) rest
 
--- the kind that a record's word names, of which a notice has two, and the pieces behind it
+-- the kind that a record's word names, of which a notice has two, and the pieces after it
 abbrev pub kind_at : List (List ℕ) → Result (Kind × List (List ℕ)) Cause
 kind_at [] = Err Missing
 kind_at (word ∷ rest) = if bytes_eq word (codes "told") then note_at rest else known (find (has_word word) KINDS) rest

@@ -31,14 +31,14 @@ counted place counts = slice_set counts place (slice_index counts place + 1)
 abbrev pub and_item : Item → SoFar → SoFar
 and_item item so = record { last = Some item; counts = counted (kind_number item.what - 1) so.counts }
 
--- what lines are read as, of which the first has this number, behind what is so far
+-- what lines are read as, of which the first has this number, after what is so far
 unfoldable pub read_on : ℕ → SoFar → List LineText → Result Told Bad
 read_on number so [] = Err (bad_at number Missing)
 read_on number so (line ∷ rest) =
     goes_on number (line_in so line) (λ item. in_front (item ∷ []) (read_on (number + 1) (and_item item so) rest))
     (λ end events. unless (bad_after cause_after (number + 1) rest) (told [] end events))
 
--- where a reader stands: the number of the next line, what a line may depend on of those before it, and the lines that are still to come
+-- where a reader is: the number of the next line, what a line may depend on of those before it, and the lines that are still to come
 pub record LeftToRead : Type 0 where
   pub number : ℕ
   pub so : SoFar

@@ -1,4 +1,4 @@
--- What a text is read as: its lines in order, each behind the items of those before it.
+-- What a text is read as: its lines in order, each after the items of those before it.
 use Rattle.std.specs.Prelude.{◌≡◌, ℕ, ◌+◌, List, [], ◌∷◌, ◌++◌, Option, Some, None, Result, Ok, Err}
 use Rattle.sa_base.specs.declared.record.End.{End}
 use Rattle.sa_base.specs.declared.record.Item.{Item}
@@ -42,7 +42,7 @@ goes_on number (Err cause) more last = Err (bad_at number cause)
 goes_on number (Ok (Next item)) more last = more item
 goes_on number (Ok (Last end events)) more last = last end events
 
--- what these lines are read as, behind these items, where the first has this number
+-- what these lines are read as, after these items, where the first has this number
 abbrev pub read_from : ℕ → List Item → List LineText → Result Told Bad
 read_from number items [] = Err (bad_at number Missing)
 read_from number items (line ∷ rest) =

@@ -12,12 +12,12 @@ pub record FitsItem (item : Item) : Type 0 where
   pub proc : item.proc.0 < 2 ^ 16
   pub what : FitTheKind (parts_of item.what)
 
--- an item may stand behind another: its event is a later one, or the same, on the same processor
+-- an item may follow another: its event is a later one, or the same, on the same processor
 abbrev pub MayFollow : Option Item → Item → Type 0
 MayFollow None item = Unit {0}
 MayFollow (Some last) item = (last.event ≤ item.event) × (item.event ≡ last.event → item.proc ≡ last.proc)
 
--- each item may stand behind the one before it, the first behind this one
+-- each item may follow the one before it, and the first this one
 abbrev pub InOrder : Option Item → List Item → Type 0
 InOrder last [] = Unit {0}
 InOrder last (item ∷ items) = MayFollow last item × InOrder (Some item) items

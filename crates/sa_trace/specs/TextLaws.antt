@@ -14,14 +14,14 @@ abbrev pub TextsDiffer : Type 0
 TextsDiffer = (text : List ℕ) (t u : Told) → IsTextOf text t → IsTextOf text u → t ≡ u
 
 -- some accepted text has the lines before a line, and none has them and the line; the line may be one that is missing
--- behind the last
+-- after the last
 pub record IsFirstBad (text : List ℕ) (k : ℕ) : Type 0 where
   pub counted : 1 ≤ k
   pub within : k ≤ length (line_texts text) + 1
   pub before : (other : List ℕ) × (t : Told) × IsTextOf other t × (take (k - 1) (line_texts other) ≡ take (k - 1) (line_texts text))
   pub none : (other : List ℕ) (t : Told) → IsTextOf other t → take k (line_texts other) ≢ take k (line_texts text)
 
--- the line that is refused is the first that no accepted text has behind the lines before it
+-- the line that is refused is the first that no accepted text has after the lines before it
 abbrev pub RefusedLinesAreFirst : Type 0
 RefusedLinesAreFirst = (text : List ℕ) (bad : Bad) → length text < 2 ^ 64 → read_of text ≡ Err bad → IsFirstBad text bad.line
 

@@ -9,7 +9,7 @@ use Rattle.sa_base.specs.declared.record.End.TheVariants.{AllDone, Stuck, Budget
 use Rattle.sa_trace.specs.Kind.{form_of}
 use Rattle.sa_trace.specs.Parts.{parts_of}
 
--- a field behind a space: its number in decimal, or a dash where it is absent
+-- a field after a space: its number in decimal, or a dash where it is absent
 abbrev pub field : Option ℕ → List ℕ
 field None = codes " -"
 field (Some n) = codes " " ++ decimal n

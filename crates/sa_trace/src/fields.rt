@@ -22,7 +22,7 @@ pub const LINES: usize = 4_096;
 /// Some lines of a text, or the beginning of one. They take no memory.
 pub type Lines = ArrayVec<u8, LINES>;
 
-/// The bytes of a record behind a space at most.
+/// The most bytes that a record has with a space before it.
 pub(crate) const RECORD: usize = 1 + MAX_WORD + MAX_FIELDS * FIELD;
 
 /// Appends these bytes.
@@ -53,7 +53,7 @@ pub(crate) fn push_decimal(out: &mut Lines, n: u64)
     put(out, buffer.format(n).as_bytes());
 }
 
-/// Appends a number behind a space.
+/// Appends a space and a number.
 #[tactic(auto, using(std::proofs::lemmas::Fmt::decimal_digit))]
 pub(crate) fn push_number(out: &mut Lines, n: u64)
     requires { array_vec_len out.old + FIELD ≤ LINES }
@@ -67,7 +67,7 @@ pub(crate) fn push_number(out: &mut Lines, n: u64)
     push_decimal(out, n);
 }
 
-// Appends a field behind a space: its number, or a dash where it is absent.
+// Appends a space and a field: its number, or a dash where it is absent.
 fn push_field(out: &mut Lines, value: Option<u64>)
     requires { array_vec_len out.old + FIELD ≤ LINES }
     ensures text { out.new.items ≡ out.old.items ++ field value }

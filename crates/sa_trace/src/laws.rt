@@ -21,7 +21,7 @@ pub fn texts_are_read()
     ensures differ { TextsDiffer }
 {}
 
-/// The line that is refused is the first that no accepted text has behind the lines before it, and there
+/// The line that is refused is the first that no accepted text has after the lines before it, and there
 /// is no other such line.
 pub fn refused_lines_are_first()
     ensures first { RefusedLinesAreFirst }

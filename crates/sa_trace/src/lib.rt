@@ -1,4 +1,4 @@
-//! The trace text, both ways: what the program writes of a run, and that text read as items again. Between them stands a
+//! The trace text, both ways: what the program writes of a run, and that text read as items again. Between them is a
 //! record as its kind and its fields, each a number or absent.
 #![tactic(auto)]
 

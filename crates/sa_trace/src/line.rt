@@ -1,4 +1,4 @@
-// What a line of a trace text says behind the items before it.
+// What a line of a trace text says after the items before it.
 ghost use Rattle.std.specs.Prelude.{◌≡◌, MatchResult};
 ghost use Rattle.sa_text.specs.Line.{IsWithin, text_of_line};
 ghost use Rattle.sa_trace.specs.Pieces.{number_in};
@@ -16,11 +16,11 @@ use sa_text::{Line, Pieces};
 pub enum Said {
     /// The next item.
     Next(Item),
-    /// The run ended so, after so many events: this is the last line.
+    /// The run ended so, after that many events: this is the last line.
     Last(End, u64),
 }
 
-/// What the line says behind what is so far, or the first thing that is wrong with it.
+/// What the line says after what is so far, or the first thing that is wrong with it.
 pub(crate) fn read_line(so_far: &SoFar, text: &[u8], line: Line) -> Result<Said, Cause>
     requires { IsWithin text.now line }
     ensures { result ≡ line_in so_far.now (text_of_line text.now line) }
@@ -51,7 +51,7 @@ fn least_event(last: Option<Item>) -> u64
     }
 }
 
-// What stands behind the event of a line: its processor, and the record.
+// What follows the event of a line: its processor, and the record.
 fn read_item(last: Option<Item>, event: u64, words: &mut Pieces) -> Result<Said, Cause>
     ensures { result ≡ item_at last event words.old }
 {
@@ -65,7 +65,7 @@ fn read_item(last: Option<Item>, event: u64, words: &mut Pieces) -> Result<Said,
     }))
 }
 
-// The processor of an event behind this item.
+// The processor of an event after this item.
 fn read_processor(last: Option<Item>, event: u64, piece: &[u8]) -> Result<u16, Cause>
     ensures { result ≡ processor_in last event piece.now }
 {
@@ -98,7 +98,7 @@ fn read_record(words: &mut Pieces) -> Result<Record, Cause>
     record_with(kind, fields.as_slice()).ok_or(Cause::OutOfRange)
 }
 
-// What stands behind the word `end`: how the run ended, the number of events, and the counts.
+// What follows the word `end`: how the run ended, the number of events, and the counts.
 fn read_last(so_far: &SoFar, words: &mut Pieces) -> Result<Said, Cause>
     ensures { result ≡ end_at so_far.now words.old }
 {

@@ -13,7 +13,7 @@ use std::marker::Model;
 #[derive(Debug, Drop)]
 pub struct Parts {
     kind: Kind,
-    // The fields that the kind has, and behind them none.
+    // The fields that the kind has, and after them none.
     values: [Option<u64>; MAX_FIELDS],
 }
 

@@ -55,8 +55,8 @@ impl<'a> Reader<'a> {
 
     /// What the next line says.
     ///
-    /// `Err` exactly where it is bad, or missing, or where a line stands after the last one. Behind the
-    /// last line, and behind an `Err`, nothing is promised of what the reader says next.
+    /// `Err` exactly where it is bad, or missing, or where a line follows the last one. After the
+    /// last line, and after an `Err`, nothing is promised of what the reader says next.
     pub fn next(&mut self) -> Result<Said, Bad>
         ensures says { MatchResult result (λ said. left self.old ≡ with_said said (left self.new))
             (λ bad. left self.old ≡ Err bad) }

@@ -17,7 +17,7 @@ pub struct TraceText {
 
 /// The trace, end and number of events of which these bytes are the text.
 ///
-/// `Bad` exactly where they are the text of none, with the first line that no text has behind the lines
+/// `Bad` exactly where they are the text of none, with the first line that no text has after the lines
 /// before it, and the first cause that applies to that line.
 pub fn read(alloc: Global, bytes: &[u8]) -> Result<TraceText, Unread>
     ensures { IsReading (read_of bytes.now) result }

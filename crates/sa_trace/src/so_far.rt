@@ -25,7 +25,7 @@ impl SoFar {
         }
     }
 
-    /// Goes on behind this item.
+    /// Goes on after this item.
     pub(crate) fn add(&mut self, item: Item)
         requires { All (λ n. n < MAX64) self.old.counts }
         ensures { self.new ≡ and_item item self.old }

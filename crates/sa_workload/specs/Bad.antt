@@ -21,7 +21,7 @@ use Rattle.sa_workload.specs.Text.{workload_lines, version_of}
 use Rattle.sa_workload.specs.Fields.{index_of, line_numbers}
 pub use Rattle.sa_workload.specs.Fields.{Field, Register, Number, registers, list_lt}
 
--- a workload whose text is of one of so many versions
+-- a workload whose text is of one of that many versions
 pub record IsUpTo (versions : ℕ) (w : WorkloadView) : Type 0 where
   pub workload : IsWorkload w
   pub version : version_of w ≤ versions
@@ -33,7 +33,7 @@ pub record Begins (versions : ℕ) (lines : List (List (List ℕ))) : Type 0 whe
   pub more : List (List (List ℕ))
   pub text : workload_lines workload ≡ lines ++ more
 
--- some text goes on behind these lines with a line that begins with this word
+-- some text goes on after these lines with a line that begins with this word
 pub record MayFollow (versions : ℕ) (lines : List (List (List ℕ))) (word : List ℕ) : Type 0 where
   pub others : List (List ℕ)
   pub begins : Begins versions (lines ++ (word ∷ others) ∷ [])
@@ -55,7 +55,7 @@ abbrev pub repeated_words : List (List ℕ)
 repeated_words = codes "absent" ∷ codes "evict" ∷ codes "turn" ∷ []
 
 -- The word may begin a line here: some text goes on with it; or it is an instruction's and some text goes on with an
--- instruction; or it is one of the repeated words and stands behind a line of the same word.
+-- instruction; or it is one of the repeated words and follows a line of the same word.
 abbrev pub IsRightWord : ℕ → List (List (List ℕ)) → List ℕ → Type 0
 IsRightWord versions lines word =
     MayFollow versions lines word
@@ -133,7 +133,7 @@ operand_field n Operands.Semaphore = declared n.semaphores
 operand_field n Operands.Length = within 1 MAX_IO_LENGTH
 operand_field n Operands.Page = within FIRST_THREAD_PAGE LAST_PAGE
 
--- the first word of each line with what stands behind it
+-- the first word of each line with what follows it
 abbrev pub line_forms : ℕ → DeclaredNumbers → List (List ℕ × List Field)
 line_forms versions n =
     (codes "workload", within 1 versions ∷ [])
@@ -149,14 +149,14 @@ line_forms versions n =
     ∷ (codes "turn", within 0 (n.processors - 1) ∷ [])
     ∷ map (λ operation. ((form_of operation).word, map (operand_field n) (form_of operation).operands)) OPERATIONS
 
--- what stands behind a first word; `close` has nothing
+-- what follows a first word; `close` has nothing
 abbrev pub fields_by : ℕ → DeclaredNumbers → List ℕ → List Field
 fields_by versions n word = unwrap_or (lookup (bytes_eq word) (line_forms versions n)) []
 
 abbrev pub fields_behind : ℕ → List (List (List ℕ)) → List ℕ → List Field
 fields_behind versions lines word = fields_by versions (numbers_in lines) word
 
--- the numbers behind the first word of a line
+-- the numbers after the first word of a line
 abbrev pub numbers_of : ℕ → List (List ℕ) → List ℕ
 numbers_of count line = map (digits_value 10) (take count (drop 1 line))
 
@@ -164,11 +164,11 @@ numbers_of count line = map (digits_value 10) (take count (drop 1 line))
 abbrev pub ordered_words : List (List ℕ)
 ordered_words = codes "absent" ∷ codes "evict" ∷ []
 
--- a line of the word has to be behind the last line
+-- a line of the word has to come after the last line
 abbrev pub is_ordered : List (List ℕ) → List ℕ → Bool
 is_ordered last word = is_some (index_of word ordered_words) && bytes_eq (first_word last) word
 
--- the numbers of the last line, where a line of the word has to be behind it
+-- the numbers of the last line, where a line of the word has to come after it
 abbrev pub numbers_before : List (List ℕ) → List ℕ → ℕ → Option (List ℕ)
 numbers_before last word count = if is_ordered last word then Some (numbers_of count last) else None
 
@@ -177,7 +177,7 @@ abbrev pub cause_in : Result (List ℕ) ℕ → ℕ
 cause_in (Ok ns) = cause_number Missing
 cause_in (Err why) = why
 
--- the first cause that applies behind a right first word
+-- the first cause that applies after a right first word
 abbrev pub field_cause : List (List (List ℕ)) → List Field → List ℕ → List (List ℕ) → ℕ
 field_cause lines fields word words = cause_in (line_numbers fields (numbers_before (last_line lines) word (length fields)) words)
 

@@ -1,4 +1,4 @@
--- What the words behind the first one of a line are read as, by its fields: the number of each, or the first cause that applies.
+-- What the words after the first one of a line are read as, by its fields: the number of each, or the first cause that applies.
 use Rattle.std.specs.Prelude.{ℕ, ◌+◌, ◌==◌, ◌&&◌, ◌||◌, nat_lt, Bool, false, codes, List, [], ◌∷◌, Option, Some, None, Result, Ok, Err, if◌then◌else◌}
 use Rattle.sa_base.specs.declared.refusal.Cause.TheVariants.{BadWord, BadNumber, OutOfRange, Twice, Missing}
 use Rattle.std.specs.Option.{option_map}
@@ -7,7 +7,7 @@ use Rattle.sa_base.specs.declared.refusal.Cause.{Cause}
 use Rattle.sa_base.specs.Cause.{cause_number}
 use Rattle.sa_text.specs.Number.{number_of}
 
--- What stands behind the first word: a register, or a number below 2 ^ 64 that passes a test, else it is refused with a cause.
+-- What follows the first word: a register, or a number below 2 ^ 64 that passes a test, else it is refused with a cause.
 pub data Field : Type 0 where
   Register : Field
   Number : (ℕ → Bool) → ℕ → Field
@@ -57,12 +57,12 @@ abbrev pub read_field : Field → List ℕ → Result ℕ ℕ
 read_field Register word = or_cause (index_of word registers) (cause_number BadWord)
 read_field (Number test cause) word = and_then (or_cause (number_of word) (cause_number BadNumber)) (λ n. if test n then Ok n else Err cause)
 
--- the next word, and the words behind it
+-- the next word, and the words after it
 abbrev pub field_at : Field → List (List ℕ) → Result (ℕ × List (List ℕ)) ℕ
 field_at field [] = Err (cause_number Missing)
 field_at field (word ∷ rest) = and_then (read_field field word) (λ n. Ok (n, rest))
 
--- a word for each field, and the words behind them; else the cause of the first that is wrong or missing
+-- a word for each field, and the words after them; else the cause of the first that is wrong or missing
 abbrev pub fields_at : List Field → List (List ℕ) → Result (List ℕ × List (List ℕ)) ℕ
 fields_at [] words = Ok ([], words)
 fields_at (field ∷ fields) words =
@@ -73,12 +73,12 @@ abbrev pub at_end : List (List ℕ) → Option ℕ
 at_end [] = None
 at_end (word ∷ words) = Some (cause_number BadWord)
 
--- numbers have to be behind those of the last such line: neither equal to them nor smaller
+-- numbers have to come after those of the last such line: neither equal to them nor smaller
 abbrev pub order_cause : Option (List ℕ) → List ℕ → Option ℕ
 order_cause None ns = None
 order_cause (Some last) ns = if bytes_eq ns last then Some (cause_number Twice) else (if list_lt ns last then Some (cause_number OutOfRange) else None)
 
--- the numbers of all words behind the first one, or the first cause that applies to them
+-- the numbers of all words after the first one, or the first cause that applies to them
 abbrev pub line_numbers : List Field → Option (List ℕ) → List (List ℕ) → Result (List ℕ) ℕ
 line_numbers fields last words =
     and_then (fields_at fields words) (λ read. unless (order_cause last read.0) (unless (at_end read.1) (Ok read.0)))

@@ -22,7 +22,7 @@ BadOnce = (bytes : List ℕ) (k j why cause : ℕ) → BadAt bytes k why → Bad
 abbrev pub TextOrBad : Type 0
 TextOrBad = (bytes : List ℕ) → ((w : WorkloadView) × IsText bytes w) ⊎ ((k why : ℕ) × BadAt bytes k why)
 
--- of the words behind the first one, the first wrong or missing one has this cause
+-- of the words after the first one, the first wrong or missing one has this cause
 abbrev pub IsFirstWrong : List Field → List (List ℕ) → ℕ → Type 0
 IsFirstWrong fields words why = fields_at fields words ≡ Err why
 
@@ -30,16 +30,16 @@ IsFirstWrong fields words why = fields_at fields words ≡ Err why
 abbrev pub AreRight : List Field → List (List ℕ) → Type 0
 AreRight fields words = is_ok (fields_at fields words) ≡ true
 
--- where the line has to be behind the last line, its numbers are greater
+-- where the line has to come after the last line, its numbers are greater
 abbrev pub IsInOrder : List (List (List ℕ)) → ℕ → List (List ℕ) → Type 0
 IsInOrder lines count line = IfSome (numbers_before (last_line lines) (first_word line) count) (λ old. IsTrue (list_lt old (numbers_of count line)))
 
--- some text goes on behind these lines with a line that begins with these words
+-- some text goes on after these lines with a line that begins with these words
 pub record GoesOnWith (versions : ℕ) (lines : List (List (List ℕ))) (words : List (List ℕ)) : Type 0 where
   pub others : List (List ℕ)
   pub begins : Begins versions (lines ++ (words ++ others) ∷ [])
 
--- of the words behind a first word, so many are right: some text goes on with these, and none with the next one too; where none
+-- of the words after a first word, as many are right as the place says: some text goes on with these, and none with the next one too; where none
 -- is next, it is missing
 pub record IsFirstWrongPlace (versions : ℕ) (lines : List (List (List ℕ))) (word : List ℕ) (words : List (List ℕ)) (place : ℕ) : Type 0 where
   pub within : place ≤ length words
@@ -47,7 +47,7 @@ pub record IsFirstWrongPlace (versions : ℕ) (lines : List (List (List ℕ))) (
   pub next : place < length words → ¬ GoesOnWith versions lines (word ∷ take (place + 1) words)
   pub missing : place ≡ length words → ¬ Begins versions (lines ++ (word ∷ words) ∷ [])
 
--- the word begins a line that does not have to be behind another of its kind
+-- the word begins a line that does not have to come after another of its kind
 abbrev pub IsFree : List (List (List ℕ)) → List ℕ → Type 0
 IsFree lines word = ¬ (Contains ordered_words word × (first_word (last_line lines) ≡ word))
 

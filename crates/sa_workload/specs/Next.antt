@@ -75,7 +75,7 @@ last_of xs = slice_get xs (length xs - 1)
 abbrev pub evict_numbers : Evict → List ℕ
 evict_numbers e = e.event ∷ e.space.0 ∷ e.page ∷ []
 
--- the numbers of the last line, where a line of the word has to be behind them
+-- the numbers of the last line, where a line of the word has to come after them
 abbrev pub last_numbers : Position → List ℕ → Option (List ℕ)
 last_numbers (AtAbsent m spaces d) word = if bytes_eq word (codes "absent") then option_map (λ page. page ∷ []) (last_of d.absent) else None
 last_numbers (AtEvict m spaces evictions) word = if bytes_eq word (codes "evict") then option_map evict_numbers (last_of evictions) else None
@@ -130,7 +130,7 @@ abbrev pub is_end : Instr → Bool
 is_end End = true
 is_end _ = false
 
--- behind an instruction; the last one has to be `end`
+-- after an instruction; the last one has to be `end`
 abbrev pub step_instr : Machine → List SpaceView → Draft → ℕ → List Instr → Option Instr → Result Position ℕ
 step_instr m spaces d len instrs None = Err (cause_number BadWord)
 step_instr m spaces d len instrs (Some i) =
@@ -160,14 +160,14 @@ step (AtTurn m spaces evictions turns) word ns =
     else Ok (Closed (workload m spaces evictions turns))
 step (Closed w) word ns = Err (cause_number BadWord)
 
--- the fields behind a first word
+-- the fields after a first word
 abbrev pub fields_of : ℕ → Position → List ℕ → List Field
 fields_of versions p word = fields_by versions (numbers_at p) word
 
 abbrev pub space_fields : Machine → List SpaceView → List Field
 space_fields m spaces = fields_by 0 (numbers_at (AtSpace m spaces)) (codes "space")
 
--- the position behind a line, or the first cause that applies to it
+-- the position after a line, or the first cause that applies to it
 abbrev pub next_by : ℕ → Position → List ℕ → List (List ℕ) → Result Position ℕ
 next_by versions p word words =
     if is_some (index_of word (expected p)) then (if is_full p word then Err (cause_number TooMany)

@@ -1,4 +1,4 @@
--- Where a reader stands behind some lines: what they say so far. Private functions of the reader cite this; no public clause does.
+-- Where a reader is after some lines: what they say so far. Private functions of the reader cite this; no public clause does.
 use Rattle.std.specs.Prelude.{◌≡◌, ◌≢◌, ◌⊎◌, ℕ, ◌+◌, ◌<◌, ◌≤◌, ◌==◌, ⊤, if◌then◌else◌, List, [], ◌∷◌, ◌++◌, length, map, All, Option, Some, None, codes, decimal}
 use Rattle.std.specs.List.{flat_map, AllAdjacentBelow}
 use Rattle.std.specs.List.Sorted.{IsStrictlyIncreasing}
@@ -119,7 +119,7 @@ pub record AreSpaces (m : Machine) (spaces : List SpaceView) : Type 0 where
   pub patient : m.version ≢ 3 → All (λ (s : SpaceView). s.patience ≡ 1) spaces
   pub own : m.version ≡ 3 → length spaces ≡ m.count → ¬ All (λ (s : SpaceView). s.patience ≡ 1) spaces
 
--- the first line of the space, and the lines that came behind it
+-- the first line of the space, and the lines that came after it
 pub record IsDraft (m : Machine) (spaces : List SpaceView) (d : Draft) : Type 0 where
   pub room : length spaces < m.count
   pub priority : d.priority ≤ MAX_PRIORITY
@@ -155,7 +155,7 @@ pub record AreTurns (m : Machine) (turns : List ProcNo) : Type 0 where
   pub few : length turns ≤ MAX_TURNS
   pub each : All (λ (p : ProcNo). p.0 < m.processors) turns
 
--- what a reader that has refused no line keeps, where texts of so many versions are read
+-- what a reader that has refused no line keeps, where texts of that many versions are read
 abbrev pub IsReached : ℕ → Position → Type 0
 IsReached versions AtVersion = ⊤
 IsReached versions (AtProcessors version) = (1 ≤ version) × (version ≤ versions)

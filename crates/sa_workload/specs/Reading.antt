@@ -1,4 +1,4 @@
--- What a text is read as: its lines in order, each from the position behind those before it.
+-- What a text is read as: its lines in order, each from the position after those before it.
 use Rattle.std.specs.Prelude.{◌≡◌, ℕ, ◌+◌, if◌then◌else◌, List, [], ◌∷◌, Option, Some, None, Result, Ok, Err, ⊤}
 use Rattle.sa_base.specs.Cause.{cause_number, bad_at}
 use Rattle.sa_base.specs.declared.refusal.Cause.TheVariants.{NotAscii, Missing}
@@ -11,9 +11,10 @@ use Rattle.sa_text.specs.Pieces.{pieces_of, is_printed}
 use Rattle.sa_workload.specs.Position.{Position, AtVersion, closed}
 use Rattle.sa_workload.specs.Next.{next}
 
--- the position behind a line that is printed and ended
+-- the position after a line that is printed and ended
 abbrev pub line_in : ℕ → Position → LineText → Result Position ℕ
-line_in versions p line = if is_printed line.bytes then (if line.ended then next versions p (pieces_of line.bytes) else Err (cause_number Missing)) else Err (cause_number NotAscii)
+line_in versions p line = if is_printed line.bytes then (if line.ended then next versions p (pieces_of line.bytes) else Err (cause_number Missing))
+    else Err (cause_number NotAscii)
 
 -- the workload, if no line is to come; else the line of this number is missing
 abbrev pub or_missing : ℕ → Option WorkloadView → Result WorkloadView Bad
@@ -23,7 +24,7 @@ or_missing number None = Err (bad_at number Missing)
 abbrev pub finished : ℕ → Position → Result WorkloadView Bad
 finished number p = or_missing number (closed p)
 
--- what comes of a line: it is bad, or the others are read behind it
+-- what comes of a line: it is bad, or the others are read after it
 abbrev pub goes_on : ℕ → Result Position ℕ → (Position → Result WorkloadView Bad) → Result WorkloadView Bad
 goes_on number (Ok p) more = more p
 goes_on number (Err why) more = Err (record { line = number; why = why })
@@ -33,7 +34,7 @@ abbrev pub read_from : ℕ → ℕ → Position → List LineText → Result Wor
 read_from versions number p [] = finished number p
 read_from versions number p (line ∷ rest) = goes_on number (line_in versions p line) (λ q. read_from versions (number + 1) q rest)
 
--- what a text of one of so many versions is read as
+-- what a text of one of that many versions is read as
 unfoldable pub read_of : ℕ → List ℕ → Result WorkloadView Bad
 read_of versions bytes = read_from versions 1 AtVersion (line_texts bytes)
 

@@ -35,7 +35,7 @@ space_rooms version =
 abbrev pub turn_rooms : List ℕ → List ℕ
 turn_rooms word = if bytes_eq word (codes "turn") then 2 ^ 16 ∷ [] else []
 
--- an eviction, or a line behind all of them
+-- an eviction, or a line after all of them
 abbrev pub evict_rooms : List ℕ → List ℕ
 evict_rooms word = if bytes_eq word (codes "evict") then 2 ^ 64 ∷ 2 ^ 16 ∷ 2 ^ 16 ∷ [] else turn_rooms word
 
@@ -51,7 +51,7 @@ abbrev pub AllHaveRoom : Option Operation → List ℕ → Type 0
 AllHaveRoom None ns = ⊤
 AllHaveRoom (Some operation) ns = AreBelow (map room_for (form_of operation).operands) ns
 
--- the numbers behind the word in the next line
+-- the numbers after the word in the next line
 abbrev pub RoomsAt : Reader → Stage → List ℕ → List ℕ → Type 0
 RoomsAt r (Machine line) word ns = AreBelow (room_of line ∷ []) ns
 RoomsAt r Space word ns = AreBelow (space_rooms r.header.version) ns

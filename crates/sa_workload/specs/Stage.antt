@@ -70,7 +70,7 @@ at_stage r Evict = AtEvict (machine_of r.header) r.spaces.items r.evictions.item
 at_stage r Turn = AtTurn (machine_of r.header) r.spaces.items r.evictions.items r.turns.items
 at_stage r Done = Closed (workload_of r)
 
--- the position at which a reader stands
+-- the position at which a reader is
 abbrev pub position_of : Reader → Position
 position_of r = at_stage r r.stage
 
@@ -85,7 +85,7 @@ pub record AreNumbersOf (fields : List Field) (ns : List ℕ) : Type 0 where
   pub words : List (List ℕ)
   pub read : line_numbers fields last words ≡ Ok ns
 
--- the reader stands at this outcome, or the line is refused with it, or memory ran out
+-- the reader is at this outcome, or the line is refused with it, or memory ran out
 abbrev pub Gives : {A : Type 0} → Result Position ℕ → Position → Result A Refusal → Type 0
 Gives outcome at (Ok _) = outcome ≡ Ok at
 Gives outcome at (Err (Because cause)) = outcome ≡ Err (cause_number cause)

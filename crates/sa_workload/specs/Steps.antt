@@ -41,7 +41,7 @@ space_of_draft d = record {
   patience = d.patience;
 }
 
--- nothing stands behind the first line of the space yet
+-- nothing follows the first line of the space yet
 abbrev pub IsFresh : Draft → Type 0
 IsFresh d = (d.sems ≡ []) × (d.absent ≡ []) × (d.programs ≡ [])
 
@@ -54,24 +54,24 @@ with_absent d k = record d { absent = d.absent ++ k ∷ [] }
 abbrev pub with_program : Draft → List Instr → Draft
 with_program d p = record d { programs = d.programs ++ p ∷ [] }
 
--- behind a fetch line: version 1 has no slice
+-- after a fetch line: version 1 has no slice
 abbrev pub after_fetch : ℕ → ℕ → ℕ → Position
 after_fetch version processors fetch = if version == 1 then AtSpaces version processors fetch 0 else AtSlice version processors fetch
 
--- behind the first line of a space or a semaphore
+-- after the first line of a space or a semaphore
 abbrev pub after_sem : Machine → List SpaceView → Draft → Position
 after_sem m spaces d = if length d.sems == d.sem_count then AtAbsent m spaces d else AtSem m spaces d
 
--- behind a space
+-- after a space
 abbrev pub after_spaces : Machine → List SpaceView → Position
 after_spaces m spaces = if length spaces == m.count then AtEvict m spaces [] else AtSpace m spaces
 
--- behind a program
+-- after a program
 abbrev pub after_program : Machine → List SpaceView → Draft → Position
 after_program m spaces d =
     if length d.programs == d.program_count then after_spaces m (spaces ++ space_of_draft d ∷ []) else AtProgram m spaces d
 
--- behind an instruction
+-- after an instruction
 abbrev pub after_instr : Machine → List SpaceView → Draft → ℕ → List Instr → Position
 after_instr m spaces d len instrs =
     if length instrs == len then after_program m spaces (with_program d instrs) else AtInstr m spaces d len instrs
@@ -82,11 +82,13 @@ pub data Steps : Position → List (List ℕ) → Position → Type 0 where
   step_processors : (v n : ℕ) → Steps (AtProcessors v) (processors_line n) (AtFetch v n)
   step_fetch : (v n f : ℕ) → Steps (AtFetch v n) (fetch_line f) (after_fetch v n f)
   step_slice : (v n f s : ℕ) → Steps (AtSlice v n f) (slice_line s) (AtSpaces v n f s)
-  step_spaces : (v n f s c : ℕ) → Steps (AtSpaces v n f s) (spaces_line c) (AtSpace (record { version = v; processors = n; fetch = f; slice = s; count = c }) [])
+  step_spaces : (v n f s c : ℕ)
+      → Steps (AtSpaces v n f s) (spaces_line c) (AtSpace (record { version = v; processors = n; fetch = f; slice = s; count = c }) [])
   step_space : (m : Machine) (spaces : List SpaceView) (d : Draft) → IsFresh d → Steps (AtSpace m spaces) (draft_line m.version d) (after_sem m spaces d)
   step_sem : (m : Machine) (spaces : List SpaceView) (d : Draft) (n : ℕ) → Steps (AtSem m spaces d) (sem_line n) (after_sem m spaces (with_sem d n))
   step_absent : (m : Machine) (spaces : List SpaceView) (d : Draft) (k : ℕ) → Steps (AtAbsent m spaces d) (absent_line k) (AtAbsent m spaces (with_absent d k))
-  step_first_program : (m : Machine) (spaces : List SpaceView) (d : Draft) (len : ℕ) → Steps (AtAbsent m spaces d) (program_line len) (AtInstr m spaces d len [])
+  step_first_program : (m : Machine) (spaces : List SpaceView) (d : Draft) (len : ℕ)
+      → Steps (AtAbsent m spaces d) (program_line len) (AtInstr m spaces d len [])
   step_program : (m : Machine) (spaces : List SpaceView) (d : Draft) (len : ℕ) → Steps (AtProgram m spaces d) (program_line len) (AtInstr m spaces d len [])
   step_instr : (m : Machine) (spaces : List SpaceView) (d : Draft) (len : ℕ) (instrs : List Instr) (i : Instr)
       → Steps (AtInstr m spaces d len instrs) (instr_line i) (after_instr m spaces d len (instrs ++ i ∷ []))

@@ -74,7 +74,7 @@ machine_lines w =
     (codes "workload" ∷ decimal (version_of w) ∷ []) ∷ (codes "processors" ∷ decimal w.processors ∷ []) ∷ (codes "fetch" ∷ decimal w.fetch ∷ [])
     ∷ (slice_lines (version_of w) w.slice ++ (codes "spaces" ∷ decimal (length w.spaces) ∷ []) ∷ [])
 
--- the lines behind those of the spaces
+-- the lines after those of the spaces
 abbrev pub closing_lines : WorkloadView → List (List (List ℕ))
 closing_lines w = map evict_line w.evictions ++ (map turn_line w.turns ++ (codes "close" ∷ []) ∷ [])
 

@@ -6,7 +6,7 @@ use Rattle.sa_text.specs.LineText.{LineText, line_texts}
 use Rattle.sa_workload.specs.Text.{workload_lines, text_of, version_of, IsText1}
 use Rattle.sa_workload.specs.Bad.{IsUpTo, words_of, BadAt1}
 
--- the lines of a text are those of its workload, each with its words behind single spaces and with its line feed
+-- the lines of a text are those of its workload, each with single spaces between its words and with its line feed
 abbrev pub LinesAreTheWorkload : Type 0
 LinesAreTheWorkload =
     (w : WorkloadView) → IsWorkload w

@@ -6,7 +6,7 @@ ghost use Rattle.sa_workload.specs.Stage.{unread_at};
 use sa_base::{Bad, Cause, Unread};
 use std::alloc::{AllocError, AllocFailed};
 
-/// Why the reader does not go on behind a line.
+/// Why the reader does not go on after a line.
 #[derive(Clone, Copy)]
 pub(crate) enum Refusal {
     /// The line is wrong.

@@ -1,4 +1,4 @@
-// What stands behind the first word of a line.
+// What follows the first word of a line.
 ghost use Rattle.std.specs.Prelude.{◌≡◌, ◌≤◌, [], ◌∷◌, length};
 ghost use Rattle.sa_workload.specs.Bad.{registers};
 ghost use Rattle.sa_workload.specs.Fields.{index_of, numbered, read_field};
@@ -11,7 +11,7 @@ use sa_text::read_number;
 /// As many fields as a line has at most: a space's in version 3.
 pub(crate) const MAX_FIELDS: usize = 6;
 
-/// What stands in one place behind the first word of a line.
+/// What is in one place after the first word of a line.
 #[derive(Clone, Copy, Default)]
 pub(crate) enum Field {
     /// A register: `r0` to `r7`.

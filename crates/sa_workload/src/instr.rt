@@ -7,7 +7,7 @@ ghost use Rattle.sa_workload.specs.Rooms.{room_for, AllHaveRoom};
 
 use sa_instr::{Instr, Operand, OperandKind, Operation, Reg};
 
-/// The instruction of this word and the numbers behind it.
+/// The instruction of this word and the numbers after it.
 pub(crate) fn instr_in(word: &[u8], numbers: &[u64]) -> Option<Instr>
     requires { AllHaveRoom (operation_of word.now) numbers.now }
     ensures { result ≡ made_by numbers.now (operation_of word.now) }

@@ -149,7 +149,7 @@ fn push_program(out: &mut Vec<u8>, program: &Program) -> Result<(), AllocError>
     Ok(())
 }
 
-// Appends the lines behind those of the spaces.
+// Appends the lines after those of the spaces.
 fn push_closing(out: &mut Vec<u8>, w: &Workload) -> Result<(), AllocError>
     ensures { OnOk result (out.new.items ≡ out.old.items
         ++ flat_map line_text (closing_lines w.now)) }

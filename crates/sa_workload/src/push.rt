@@ -1,4 +1,4 @@
-// One line of the text: its first word, and the numbers or the operands behind it.
+// One line of the text: its first word, and the numbers or the operands after it.
 ghost use Rattle.std.specs.Prelude.{◌≡◌, ◌∷◌, ◌++◌, map, decimal, OnOk};
 ghost use Rattle.std.specs.List.{flat_map};
 ghost use Rattle.sa_workload.specs.Text.{operand_word, instr_line, line_text};
@@ -17,7 +17,7 @@ pub fn push_line(out: &mut Vec<u8>, word: &[u8], numbers: &[u64]) -> Result<(), 
     out.extend_from_slice(b"\n")
 }
 
-// Appends each number behind a space.
+// Appends each number after a space.
 fn push_numbers(out: &mut Vec<u8>, numbers: &[u64]) -> Result<(), AllocError>
     ensures { OnOk result (out.new.items ≡ out.old.items
         ++ flat_map (λ n. 32 ∷ decimal n) numbers.now) }
@@ -39,7 +39,7 @@ pub fn push_instr(out: &mut Vec<u8>, instr: Instr) -> Result<(), AllocError>
     out.extend_from_slice(b"\n")
 }
 
-// Appends each operand behind a space.
+// Appends each operand after a space.
 fn push_operands(out: &mut Vec<u8>, operands: &[Operand]) -> Result<(), AllocError>
     ensures { OnOk result (out.new.items ≡ out.old.items
         ++ flat_map (λ o. 32 ∷ operand_word o) operands.now) }

@@ -62,7 +62,7 @@ pub fn read_one(alloc: Global, bytes: &[u8]) -> Result<Workload, Unread>
     read_versions(alloc, 1, bytes)
 }
 
-/// The workload of a text of one of so many versions.
+/// The workload of a text of one of that many versions.
 fn read_versions(alloc: Global, versions: u16, bytes: &[u8]) -> Result<Workload, Unread>
     requires { versions ≤ 3 }
     ensures { IsReading (read_of versions bytes.now) result }
@@ -82,7 +82,7 @@ fn read_versions(alloc: Global, versions: u16, bytes: &[u8]) -> Result<Workload,
 }
 
 impl Reader {
-    /// Goes on behind this line.
+    /// Goes on after this line.
     fn read_line(
         &mut self,
         alloc: Global,
@@ -108,7 +108,7 @@ impl Reader {
         self.read_words(alloc, versions, word, &mut words)
     }
 
-    /// Goes on behind a line of this first word and these behind it.
+    /// Goes on after a line of this first word and these words after it.
     fn read_words(
         &mut self,
         alloc: Global,
@@ -130,7 +130,7 @@ impl Reader {
         self.step(alloc, versions, word, numbers.as_slice())
     }
 
-    /// The numbers behind this first word, which end the line.
+    /// The numbers after this first word, which end the line.
     fn numbers_behind(
         &self,
         versions: u16,

@@ -68,7 +68,7 @@ pub(crate) enum Stage {
     Closed,
 }
 
-/// A reader behind some lines. What is not said yet counts for nothing.
+/// A reader after some lines. What is not said yet counts for nothing.
 #[derive(Drop)]
 pub(crate) struct Reader {
     pub stage: Stage,

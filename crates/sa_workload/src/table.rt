@@ -1,4 +1,4 @@
-// The table of lines: which words may begin the next line, and what stands behind them.
+// The table of lines: which words may begin the next line, and what follows them.
 ghost use Rattle.std.specs.Prelude.{◌≡◌, ◌==◌, ◌-◌, true, [], ◌∷◌, ℕ, if◌then◌else◌, map, MatchResult, None, Some, codes};
 ghost use Rattle.std.specs.List.{list_all};
 ghost use Rattle.std.specs.Option.{is_some, option_map};
@@ -66,7 +66,7 @@ impl Reader {
         }
     }
 
-    /// What stands behind this word in the next line.
+    /// What follows this word in the next line.
     pub(crate) fn fields(&self, versions: u16, word: &[u8]) -> Fields
         requires { is_some (index_of word.now (expected (position_of self.now))) ≡ true }
         ensures { map field_of result.items
@@ -102,7 +102,7 @@ impl Reader {
         }
     }
 
-    /// What stands behind `space`: in version 3 the patience too.
+    /// What follows `space`: in version 3 the patience too.
     fn space_fields(&self) -> Fields
         ensures { map field_of result.items
             ≡ space_fields (machine_of self.now.header) self.now.spaces.items }
@@ -128,7 +128,7 @@ impl Reader {
         self.spaces.len() + 1 >= usize::from(self.header.count) && are_impatient(&self.spaces)
     }
 
-    /// What stands behind `evict`.
+    /// What follows `evict`.
     fn evict_fields(&self) -> Fields
         ensures { map field_of result.items
             ≡ within 1 MAX_EVENTS ∷ declared self.now.header.count ∷ within 0 LAST_PAGE ∷ [] }
@@ -140,7 +140,7 @@ impl Reader {
         ])
     }
 
-    /// What stands behind `turn`; `close` has nothing.
+    /// What follows `turn`; `close` has nothing.
     fn turn_fields(&self, word: &[u8]) -> Fields
         ensures { map field_of result.items
             ≡ (if bytes_eq word.now (codes "turn") then within 0 (self.now.header.processors - 1) ∷ [] else []) }
@@ -152,7 +152,7 @@ impl Reader {
         }
     }
 
-    /// Whether the numbers may stand behind those of the last line of the word.
+    /// Whether the numbers may follow those of the last line of the word.
     pub(crate) fn in_order(&self, word: &[u8], numbers: &[u64]) -> Result<(), Cause>
         requires { IsAsLong numbers.now (last_numbers (position_of self.now) word.now) }
         ensures { let order = order_cause (last_numbers (position_of self.now) word.now) numbers.now in
@@ -168,7 +168,7 @@ impl Reader {
         }
     }
 
-    /// The numbers of the last line, where a line of the word has to be behind them.
+    /// The numbers of the last line, where a line of the word has to come after them.
     fn last_numbers(&self, word: &[u8]) -> Option<Numbers>
         ensures { option_map (λ numbers. numbers.items) result ≡ last_numbers (position_of self.now) word.now }
     {
@@ -227,7 +227,7 @@ pub(crate) fn are_impatient(spaces: &[SpaceDef]) -> bool
     true
 }
 
-/// What stands behind the word of an instruction, in a program of this length of the space.
+/// What follows the word of an instruction, in a program of this length of the space.
 fn operand_fields(draft: &SpaceDraft, len: u16, word: &[u8]) -> Fields
     requires { is_some (index_of word.now instr_words) ≡ true }
     ensures { (versions : ℕ) → map field_of result.items

@@ -57,7 +57,7 @@ fn std_objects_pass_their_bytes_on(rt: HostRuntime) -> Result<(), Fail> {
     Ok(())
 }
 
-/// A reader and a writer that moves at most so many bytes a call, or fails in this way.
+/// A reader and a writer that moves at most that many bytes a call, or fails in this way.
 #[derive(Drop)]
 struct Halting {
     turns: VecDeque<Result<usize, ErrorKind>>,

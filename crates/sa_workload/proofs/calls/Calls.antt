@@ -70,7 +70,8 @@ operands-one (k ∷ []) d [] one h = absurd h
 operands-one [] d ns one h = absurd (omega arith)
 operands-one (k ∷ j ∷ kinds) d ns one h = absurd (omega arith)
 
-pub operands-two : (kinds : List OperandKind) (d e : OperandKind) (ns : List ℕ) → length kinds ≢ 0 → length kinds ≢ 1 → length kinds ≤ 2 → AreBelow (map room_for kinds) ns
+pub operands-two : (kinds : List OperandKind) (d e : OperandKind) (ns : List ℕ) → length kinds ≢ 0 → length kinds ≢ 1 → length kinds ≤ 2
+    → AreBelow (map room_for kinds) ns
     → operands_from kinds ns ≡ operand_from (get_or kinds 0 d) (slice_index ns 0) ∷ operand_from (get_or kinds 1 e) (slice_index ns 1) ∷ []
 operands-two [] d e ns some more few h = absurd (some refl)
 operands-two (k ∷ []) d e ns some more few h = absurd (more refl)
@@ -90,12 +91,14 @@ compared [] [] long = refl
 compared [] (y ∷ ys) long = absurd (omega arith)
 compared (x ∷ xs) [] long = absurd (omega arith)
 compared (x ∷ xs) (y ∷ ys) long = elim (cases_lt x y) [
-  | inl less ↦ subst (λ (b : Bool). Compared (x ∷ xs) (y ∷ ys) (ordering_then (cond b Less (cond (eqb x y) Equal Greater)) (slice_cmp nat_cmp xs ys))) (sym (lt-ltb x y less)) (less_head x y xs ys less)
+  | inl less ↦ subst (λ (b : Bool). Compared (x ∷ xs) (y ∷ ys) (ordering_then (cond b Less (cond (eqb x y) Equal Greater)) (slice_cmp nat_cmp xs ys)))
+      (sym (lt-ltb x y less)) (less_head x y xs ys less)
   | inr more ↦
       subst (λ (b : Bool). Compared (x ∷ xs) (y ∷ ys) (ordering_then (cond b Less (cond (eqb x y) Equal Greater)) (slice_cmp nat_cmp xs ys)))
       (sym (le-ltb x y more))
       (elim (cases_eq x y) [
-        | inr other ↦ subst (λ (b : Bool). Compared (x ∷ xs) (y ∷ ys) (ordering_then (cond b Equal Greater) (slice_cmp nat_cmp xs ys))) (sym (ne_eqb x y other)) (less_head y x ys xs (omega arith))
+        | inr other ↦ subst (λ (b : Bool). Compared (x ∷ xs) (y ∷ ys) (ordering_then (cond b Equal Greater) (slice_cmp nat_cmp xs ys))) (sym (ne_eqb x y other))
+            (less_head y x ys xs (omega arith))
         | inl same ↦ subst (λ (b : Bool). Compared (x ∷ xs) (y ∷ ys) (ordering_then (cond b Equal Greater) (slice_cmp nat_cmp xs ys))) (sym (eq-eqb x y same))
             (behind same (slice_cmp nat_cmp xs ys) (compared xs ys (omega arith)))
       ])
@@ -110,7 +113,8 @@ compared (x ∷ xs) (y ∷ ys) long = elim (cases_lt x y) [
 pub order-equal : (last ns : List ℕ) (l : Option (List ℕ)) → Some last ≡ l → IsAsLong ns l → slice_cmp nat_cmp ns last ≡ Equal → order_cause l ns ≡ Some 5
 order-equal last ns l is long e =
     let same : ns ≡ last = subst (Compared ns last) e (compared ns last (subst (IsAsLong ns) (sym is) long)) in
-    ap (λ (o : Option (List ℕ)). order_cause o ns) (sym is) ∙ ap (λ (b : Bool). cond b (Some 5) (cond (list_lt ns last) (Some 4) None)) ((bytes_eq-Decides ns last).1 same)
+    ap (λ (o : Option (List ℕ)). order_cause o ns) (sym is)
+    ∙ ap (λ (b : Bool). cond b (Some 5) (cond (list_lt ns last) (Some 4) None)) ((bytes_eq-Decides ns last).1 same)
 
 pub order-less : (last ns : List ℕ) (l : Option (List ℕ)) → Some last ≡ l → IsAsLong ns l → slice_cmp nat_cmp ns last ≡ Less → order_cause l ns ≡ Some 4
 order-less last ns l is long e =
@@ -123,7 +127,7 @@ order-greater last ns l is long e =
     ap (λ (o : Option (List ℕ)). order_cause o ns) (sym is)
     ∙ none-order last ns (subst (Compared ns last) e (compared ns last (subst (IsAsLong ns) (sym is) long)))
 
--- where a line of the word has to be behind the last one, it has as many numbers
+-- where a line of the word has to come after the last one, it has as many numbers
 pub as_long : (versions : ℕ) (p : Position) (word ns : List ℕ) → AllPass (fields_of versions p word) ns → IsAsLong ns (last_numbers p word)
 as_long versions (AtAbsent m spaces d) word ns pass = by_word (bytes_eq word (codes "absent")) refl (last_of d.absent)
   where
@@ -144,31 +148,35 @@ as_long versions (AtEvict m spaces es) word ns pass = by_word (bytes_eq word (co
 as_long versions AtVersion word ns pass = tt
 as_long versions _ word ns pass = tt
 
--- the fields that are left, behind the numbers so far
+-- the fields that are left, after the numbers so far
 abbrev pub Left : List ℕ → Result (List ℕ × List (List ℕ)) ℕ → Result (List ℕ × List (List ℕ)) ℕ
 Left ns r = and_then r (λ later. Ok (ns ++ later.0, later.1))
 
-number_more : (ns : List ℕ) (n : ℕ) (r : Result (List ℕ × List (List ℕ)) ℕ) → Left ns (and_then r (λ others. Ok (n ∷ others.0, others.1))) ≡ Left (ns ++ n ∷ []) r
+number_more : (ns : List ℕ) (n : ℕ) (r : Result (List ℕ × List (List ℕ)) ℕ)
+    → Left ns (and_then r (λ others. Ok (n ∷ others.0, others.1))) ≡ Left (ns ++ n ∷ []) r
 number_more ns n (Ok later) = ap (λ (xs : List ℕ). Ok (xs, later.1)) (sym (append_assoc ns (n ∷ []) later.0))
 number_more ns n (Err cause) = refl
 
 pub field-next : (fields : List TableField) (words : List (List ℕ)) (i : ℕ) (ns : List ℕ) (r : Result (ℕ × List (List ℕ)) ℕ) → i < length fields
     → r ≡ field_at (field_of (get_or fields i Table.Register)) words
-    → Left ns (fields_at (drop i (map field_of fields)) words) ≡ and_then r (λ first. Left (ns ++ first.0 ∷ []) (fields_at (drop (i + 1) (map field_of fields)) first.1))
+    → Left ns (fields_at (drop i (map field_of fields)) words) ≡ and_then r
+    (λ first. Left (ns ++ first.0 ∷ []) (fields_at (drop (i + 1) (map field_of fields)) first.1))
 field-next fields words i ns r h read =
     ap (λ (fs : List Field). Left ns (fields_at fs words)) (drop_more all i Register (omega (arith, length-map fields field_of)))
-    ∙ ap (λ (x : Result (ℕ × List (List ℕ)) ℕ). Left ns (and_then x (λ first. and_then (fields_at (drop (i + 1) all) first.1) (λ others. Ok (first.0 ∷ others.0, others.1)))))
+    ∙ ap (λ (x : Result (ℕ × List (List ℕ)) ℕ). Left ns
+    (and_then x (λ first. and_then (fields_at (drop (i + 1) all) first.1) (λ others. Ok (first.0 ∷ others.0, others.1)))))
     (ap (λ (f : Field). field_at f words) (get_or-map field_of fields i Table.Register Register h) ∙ sym read) ∙ by_read r
   where
     all : List Field
     all = map field_of fields
 
-    by_read : (x : Result (ℕ × List (List ℕ)) ℕ) → Left ns (and_then x (λ first. and_then (fields_at (drop (i + 1) all) first.1) (λ others. Ok (first.0 ∷ others.0, others.1))))
+    by_read : (x : Result (ℕ × List (List ℕ)) ℕ)
+        → Left ns (and_then x (λ first. and_then (fields_at (drop (i + 1) all) first.1) (λ others. Ok (first.0 ∷ others.0, others.1))))
         ≡ and_then x (λ first. Left (ns ++ first.0 ∷ []) (fields_at (drop (i + 1) all) first.1))
     by_read (Ok first) = number_more ns first.0 (fields_at (drop (i + 1) all) first.1)
     by_read (Err cause) = refl
 
--- what the words behind a first word come to, by what the fields do
+-- what the words after a first word come to, by what the fields do
 pub line_by : (fields : List Field) (last : Option (List ℕ)) (words : List (List ℕ)) (r : Result (List ℕ × List (List ℕ)) ℕ) → r ≡ fields_at fields words
     → line_numbers fields last words ≡ and_then r (λ read. unless (order_cause last read.0) (unless (at_end read.1) (Ok read.0)))
 line_by fields last words r e =
@@ -188,18 +196,22 @@ module _ (versions : ℕ) (p : Position) (word : List ℕ) (words : List (List �
   pub too_many : true ≡ is_some (index_of word (expected p)) → true ≡ is_full p word → next_by versions p word words ≡ Err 8
   too_many e f = ap₂ (λ (b c : Bool). by_word b c read) (sym e) (sym f)
 
-  pub numbered_next : (r : Result (List ℕ) ℕ) → true ≡ is_some (index_of word (expected p)) → false ≡ is_full p word → r ≡ read → next_by versions p word words ≡ and_then r (step p word)
+  pub numbered_next : (r : Result (List ℕ) ℕ) → true ≡ is_some (index_of word (expected p)) → false ≡ is_full p word → r ≡ read
+      → next_by versions p word words ≡ and_then r (step p word)
   numbered_next r e f h = ap₂ (λ (b c : Bool). by_word b c read) (sym e) (sym f) ∙ ap (λ (x : Result (List ℕ) ℕ). and_then x (step p word)) (sym h)
 
--- the lines behind a line that leads on
-pub read_on : (versions number more : ℕ) (p q : Position) (lines rest : List LineText) (l : LineText) → lines ≡ l ∷ rest → more ≡ number + 1 → line_in versions p l ≡ Ok q
+-- the lines after a line that leads on
+pub read_on : (versions number more : ℕ) (p q : Position) (lines rest : List LineText) (l : LineText) → lines ≡ l ∷ rest → more ≡ number + 1
+    → line_in versions p l ≡ Ok q
     → read_from versions number p lines ≡ read_from versions more q rest
 read_on versions number more p q lines rest l e n h =
     ap (read_from versions number p) e ∙ ap (λ (r : Result Position ℕ). goes_on number r (λ q. read_from versions (number + 1) q rest)) h
     ∙ ap (λ (k : ℕ). read_from versions k q rest) (sym n)
 
--- the instruction of a line that may stand there
-module _ (versions : ℕ) (m : Machine) (spaces : List SpaceView) (d : Draft) (len : ℕ) (instrs : List Instr) (word ns : List ℕ) (i : Instr) (r : IsReached versions (AtInstr m spaces d len instrs)) (known : is_some (index_of word instr_words) ≡ true) (read : AreNumbersOf (fields_of versions (AtInstr m spaces d len instrs) word) ns) (made : Some i ≡ made_by ns (operation_of word)) where
+-- the instruction of a line that may be there
+module _ (versions : ℕ) (m : Machine) (spaces : List SpaceView) (d : Draft) (len : ℕ) (instrs : List Instr) (word ns : List ℕ) (i : Instr)
+    (r : IsReached versions (AtInstr m spaces d len instrs)) (known : is_some (index_of word instr_words) ≡ true)
+    (read : AreNumbersOf (fields_of versions (AtInstr m spaces d len instrs) word) ns) (made : Some i ≡ made_by ns (operation_of word)) where
   allowed : IsAllowed (draft_numbers d len) i
   allowed =
       let from = instr-read versions (draft_numbers d len) word ns known (all_pass (fields_of versions (AtInstr m spaces d len instrs) word) ns read) in
@@ -208,8 +220,10 @@ module _ (versions : ℕ) (m : Machine) (spaces : List SpaceView) (d : Draft) (l
   pub program_whole : length instrs + 1 ≡ len → is_end i ≡ true → IsProgram (instrs ++ i ∷ [])
   program_whole last end = whole_program d len instrs i r.5 allowed.range allowed.jump allowed.name (end_of i end) (length_push instrs i ∙ last)
 
-  pub space_whole : length instrs + 1 ≡ len → is_end i ≡ true → length d.programs + 1 ≡ d.program_count → IsSpace (space_of_draft (with_program d (instrs ++ i ∷ [])))
+  pub space_whole : length instrs + 1 ≡ len → is_end i ≡ true → length d.programs + 1 ≡ d.program_count
+      → IsSpace (space_of_draft (with_program d (instrs ++ i ∷ [])))
   space_whole last end all =
       whole_space m spaces (with_program d (instrs ++ i ∷ []))
-      (with_program-drafted m spaces d (instrs ++ i ∷ []) r.2 r.4 (program_whole last end) (begun_more d len instrs i r.5 allowed.range allowed.jump allowed.name).2)
+      (with_program-drafted m spaces d (instrs ++ i ∷ []) r.2 r.4 (program_whole last end)
+      (begun_more d len instrs i r.5 allowed.range allowed.jump allowed.name).2)
       r.3 (length_push d.programs (instrs ++ i ∷ []) ∙ all)

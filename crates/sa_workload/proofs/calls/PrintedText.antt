@@ -18,7 +18,7 @@ pub flat_map-flat_map : {A B C : Type 0} (f : B → List C) (g : A → List B) (
 flat_map-flat_map f g [] = refl
 flat_map-flat_map f g (x ∷ xs) = flat_map-append f (g x) (flat_map g xs) ∙ ap (λ ys. flat_map f (g x) ++ ys) (flat_map-flat_map f g xs)
 
--- a line of a word and of what is printed of some things, each behind a space
+-- a line of a word and of what is printed of some things, each after a space
 pub pushed_line : {X : Type 0} (f : X → List ℕ) (out word : List ℕ) (xs : List X) (a b d : List ℕ)
     → a ≡ out ++ word → b ≡ a ++ flat_map (λ x. 32 ∷ f x) xs → d ≡ b ++ 10 ∷ [] → d ≡ out ++ line_text (word ∷ map f xs)
 pushed_line f out word xs a b d p q r =
@@ -87,7 +87,7 @@ pub pushed_space : (version : ℕ) (s : SpaceView) (out a b d e : List ℕ)
 pushed_space version s out a b d e p q r t =
     pushed_two out _ _ a e p (pushed_two a _ _ b e q (pushed_two b _ _ d e r t)) ∙ ap (λ xs. out ++ xs) (sym (space_text version s))
 
--- the lines behind those of the spaces
+-- the lines after those of the spaces
 pub pushed_closing : (w : WorkloadView) (out a b d : List ℕ)
     → a ≡ out ++ flat_map (λ e. line_text (evict_line e)) w.evictions → b ≡ a ++ flat_map (λ p. line_text (turn_line p)) w.turns
     → d ≡ b ++ line_text (codes "close" ∷ []) → d ≡ out ++ flat_map line_text (closing_lines w)
@@ -109,8 +109,10 @@ pub pushed_machine : (w : WorkloadView) (version processors fetch slice count : 
     → f ≡ e ++ line_text (codes "spaces" ∷ decimal count ∷ []) → f ≡ out ++ flat_map line_text (machine_lines w)
 pushed_machine w version processors fetch slice count out a b d e f v n m l k p q r s t =
     let spaces : List (List ℕ) = codes "spaces" ∷ decimal (length w.spaces) ∷ [] in
-    let tail : flat_map line_text (slice_lines (version_of w) w.slice ++ spaces ∷ []) ≡ flat_map line_text (slice_lines (version_of w) w.slice) ++ line_text spaces =
-    flat_map-append line_text (slice_lines (version_of w) w.slice) (spaces ∷ []) ∙ ap (λ xs. flat_map line_text (slice_lines (version_of w) w.slice) ++ xs) (append-nil (line_text spaces)) in
+    let tail : flat_map line_text (slice_lines (version_of w) w.slice ++ spaces ∷ []) ≡ flat_map line_text
+    (slice_lines (version_of w) w.slice) ++ line_text spaces =
+    flat_map-append line_text (slice_lines (version_of w) w.slice) (spaces ∷ [])
+    ∙ ap (λ xs. flat_map line_text (slice_lines (version_of w) w.slice) ++ xs) (append-nil (line_text spaces)) in
     pushed_two out _ _ a f (p ∙ ap (λ x. out ++ line_text (codes "workload" ∷ decimal x ∷ [])) v)
     (pushed_two a _ _ b f (q ∙ ap (λ x. a ++ line_text (codes "processors" ∷ decimal x ∷ [])) n)
     (pushed_two b _ _ d f (r ∙ ap (λ x. b ++ line_text (codes "fetch" ∷ decimal x ∷ [])) m)
@@ -127,7 +129,8 @@ unfolding text_of workload_lines
 pushed_all w a b d p q r =
     let spaces : List (List (List ℕ)) = flat_map (space_lines (version_of w)) w.spaces in
     let text : flat_map line_text (machine_lines w ++ (spaces ++ closing_lines w))
-    ≡ flat_map line_text (machine_lines w) ++ (flat_map (λ s. flat_map line_text (space_lines (version_of w) s)) w.spaces ++ flat_map line_text (closing_lines w)) =
+    ≡ flat_map line_text (machine_lines w)
+    ++ (flat_map (λ s. flat_map line_text (space_lines (version_of w) s)) w.spaces ++ flat_map line_text (closing_lines w)) =
     flat_map-append line_text (machine_lines w) (spaces ++ closing_lines w)
     ∙ ap (λ xs. flat_map line_text (machine_lines w) ++ xs)
     (flat_map-append line_text spaces (closing_lines w)

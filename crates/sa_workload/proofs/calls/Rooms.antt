@@ -89,11 +89,17 @@ module _ (versions : ℕ) (three : versions ≤ 3) (r : Reader) (word ns : List 
   patience false low = tt
 
   machine : (line : MachineLine) → is_some (index_of word (expected (machine_position line r.header))) ≡ true → Fit (Machine line) word
-  machine Version known = by_word (expected (machine_position Version r.header)) word (Fit (Machine Version)) (one_range 1 versions (2 ^ 16) ns (omega arith), tt) known
-  machine Processors known = by_word (expected (machine_position Processors r.header)) word (Fit (Machine Processors)) (one_range 1 MAX_PROCESSORS (2 ^ 16) ns (omega arith), tt) known
-  machine Fetch known = by_word (expected (machine_position Fetch r.header)) word (Fit (Machine Fetch)) (one_range 1 MAX_FETCH (2 ^ 32) ns (omega arith), tt) known
-  machine Slice known = by_word (expected (machine_position Slice r.header)) word (Fit (Machine Slice)) (one_range (if r.header.version == 3 then 0 else 1) MAX_SLICE (2 ^ 32) ns (omega arith), tt) known
-  machine Spaces known = by_word (expected (machine_position Spaces r.header)) word (Fit (Machine Spaces)) (one_range 1 MAX_SPACES (2 ^ 16) ns (omega arith), tt) known
+  machine Version known =
+      by_word (expected (machine_position Version r.header)) word (Fit (Machine Version)) (one_range 1 versions (2 ^ 16) ns (omega arith), tt) known
+  machine Processors known =
+      by_word (expected (machine_position Processors r.header)) word (Fit (Machine Processors)) (one_range 1 MAX_PROCESSORS (2 ^ 16) ns (omega arith), tt) known
+  machine Fetch known =
+      by_word (expected (machine_position Fetch r.header)) word (Fit (Machine Fetch)) (one_range 1 MAX_FETCH (2 ^ 32) ns (omega arith), tt) known
+  machine Slice known =
+      by_word (expected (machine_position Slice r.header)) word (Fit (Machine Slice))
+      (one_range (if r.header.version == 3 then 0 else 1) MAX_SLICE (2 ^ 32) ns (omega arith), tt) known
+  machine Spaces known =
+      by_word (expected (machine_position Spaces r.header)) word (Fit (Machine Spaces)) (one_range 1 MAX_SPACES (2 ^ 16) ns (omega arith), tt) known
 
   turn : r.header.processors ≤ MAX_PROCESSORS → AllPass (within 0 (r.header.processors - 1) ∷ []) ns → AreBelow (2 ^ 16 ∷ []) ns
   turn few = one_range 0 (r.header.processors - 1) (2 ^ 16) ns (omega arith)
@@ -113,7 +119,10 @@ module _ (versions : ℕ) (three : versions ≤ 3) (r : Reader) (word ns : List 
               range 0 MAX_SEMAPHORES (2 ^ 16) (omega arith),
               (
                 range 0 MAX_CELLS (2 ^ 16) (omega arith),
-                (range 1 MAX_PROGRAMS (2 ^ 16) (omega arith), patience (r.header.version == 3) (if is_last_impatient (machine_of r.header) r.spaces.items then 2 else 1)),
+                (
+                  range 1 MAX_PROGRAMS (2 ^ 16) (omega arith),
+                  patience (r.header.version == 3) (if is_last_impatient (machine_of r.header) r.spaces.items then 2 else 1),
+                ),
               ),
             ),
           ),
@@ -122,14 +131,19 @@ module _ (versions : ℕ) (three : versions ≤ 3) (r : Reader) (word ns : List 
       ) known
   fit Sem at known = by_word (expected (at_stage r Sem)) word (Fit Sem) (one_range 0 MAX_START (2 ^ 32) ns (omega arith), tt) known
   fit Absent at known =
-      by_word (expected (at_stage r Absent)) word (Fit Absent) (one_range 0 LAST_PAGE (2 ^ 16) ns (omega arith), (one_range 1 MAX_INSTRUCTIONS (2 ^ 16) ns (omega arith), tt)) known
+      by_word (expected (at_stage r Absent)) word (Fit Absent)
+      (one_range 0 LAST_PAGE (2 ^ 16) ns (omega arith), (one_range 1 MAX_INSTRUCTIONS (2 ^ 16) ns (omega arith), tt)) known
   fit Program at known = by_word (expected (at_stage r Program)) word (Fit Program) (one_range 1 MAX_INSTRUCTIONS (2 ^ 16) ns (omega arith), tt) known
   fit Instr at known =
       instr_room versions (draft_numbers (draft_of r.draft) r.len) word ns
-      (operand_room (draft_numbers (draft_of r.draft) r.len) (omega (arith, at.2.mutexes)) (omega (arith, at.2.sem_count)) (omega (arith, at.2.cells)) (omega (arith, at.2.program_count.1)) (omega (arith, at.5.short.1))) known
+      (operand_room (draft_numbers (draft_of r.draft) r.len) (omega (arith, at.2.mutexes)) (omega (arith, at.2.sem_count)) (omega (arith, at.2.cells))
+      (omega (arith, at.2.program_count.1)) (omega (arith, at.5.short.1))) known
   fit Evict at known =
       by_word (expected (at_stage r Evict)) word (Fit Evict) (
-        below (fields_of versions (at_stage r Evict) (codes "evict")) (2 ^ 64 ∷ 2 ^ 16 ∷ 2 ^ 16 ∷ []) ns (range 1 MAX_EVENTS (2 ^ 64) (omega arith), (name r.header.count (2 ^ 16) (omega (arith, at.0.count.1)), (range 0 LAST_PAGE (2 ^ 16) (omega arith), tt))),
+        below (fields_of versions (at_stage r Evict) (codes "evict")) (2 ^ 64 ∷ 2 ^ 16 ∷ 2 ^ 16 ∷ []) ns (
+          range 1 MAX_EVENTS (2 ^ 64) (omega arith),
+          (name r.header.count (2 ^ 16) (omega (arith, at.0.count.1)), (range 0 LAST_PAGE (2 ^ 16) (omega arith), tt)),
+        ),
         (turn at.0.processors.1, (none, tt)),
       ) known
   fit Turn at known = by_word (expected (at_stage r Turn)) word (Fit Turn) (turn at.0.processors.1, (none, tt)) known

@@ -1,4 +1,4 @@
--- A line that is refused at a position is bad behind the lines that it shows, for the same cause.
+-- A line that is refused at a position is bad after the lines that it shows, for the same cause.
 use Rattle.std.proofs.Common.{◌≡◌, refl, ℕ, ◌+◌, ◌==◌, ◌&&◌, not, Bool, true, false, List, [], ◌∷◌, ◌++◌, length, Option, Some, Result, Ok, Err, subst, codes, if◌then◌else◌, sym, ap, ◌∙◌, inl, inr}
 use Rattle.std.specs.Option.{is_some}
 use Rattle.std.specs.Str.{bytes_eq}
@@ -45,7 +45,8 @@ step-leads versions (AtInstr m spaces d len instrs) word ns known pass =
     let i = instr-read versions (numbers_at (AtInstr m spaces d len instrs)) word ns known pass in
     let end : is_end i.instr ≡ bytes_eq word (codes "end") = end_by_word i.instr ∙ ap (λ (l : List (List ℕ)). bytes_eq (first_word l) (codes "end")) i.line in
     subst (λ (o : Option Instr). Leads (is_stuck (AtInstr m spaces d len instrs) word) (step_instr m spaces d len instrs o)) (sym i.is)
-    (subst (λ (e : Bool). Leads ((length instrs + 1 == len) && not e) (step_instr m spaces d len instrs (Some i.instr))) end (by _ ((length instrs + 1 == len) && not (is_end i.instr))))
+    (subst (λ (e : Bool). Leads ((length instrs + 1 == len) && not e) (step_instr m spaces d len instrs (Some i.instr))) end
+    (by _ ((length instrs + 1 == len) && not (is_end i.instr))))
   where
     by : (q : Position) (b : Bool) → Leads b (if b then Err 9 else Ok q)
     by q true = refl
@@ -56,7 +57,7 @@ step-leads versions (AtTurn m spaces es ts) word ns known pass = leads_either (b
 step-leads versions (Closed w) word ns known pass = absurd (cc known)
 step-leads versions _ word ns known pass = (_, refl)
 
--- the cause behind a first word that is expected
+-- the cause after a first word that is expected
 cause_by : (versions : ℕ) (p : Position) (word : List ℕ) (words : List (List ℕ)) (why : ℕ) → is_some (index_of word (expected p)) ≡ true
     → LineAt versions p word → and_then (line_numbers (fields_of versions p word) (last_numbers p word) words) (step p word) ≡ Err why
     → field_cause (shown p) (fields_of versions p word) word words ≡ why

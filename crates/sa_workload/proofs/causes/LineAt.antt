@@ -1,4 +1,4 @@
--- What a line of a word is where a reader stands, and behind the lines before it: the same fields, limit and order.
+-- What a line of a word is where a reader is, and after the lines before it: the same fields, limit and order.
 use Rattle.std.proofs.Common.{◌≡◌, ◌≢◌, ℕ, ◌-◌, ◌+◌, ◌^◌, ◌<◌, ◌≤◌, ◌==◌, ◌⊎◌, ◌&&◌, ◌||◌, Bool, true, false, if◌then◌else◌, List, [], ◌∷◌, length, map, All, None, codes, decimal, refl, sym, ap, ap₂, ◌∙◌, subst, inl, inr, arith, leb-true, le-leb, nat_le, slice_index_or}
 use Rattle.std.specs.Bool.{Decides}
 use Rattle.std.specs.Option.{is_some}
@@ -31,7 +31,8 @@ use Rattle.sa_workload.proofs.forward.Standing.{IsAt}
 -- there are as many lines of the word as there may be
 abbrev pub is_many : List (List (List ℕ)) → List ℕ → Bool
 is_many lines word =
-    (bytes_eq word (codes "evict") && nat_le MAX_EVICTIONS (count_of_word lines word)) || (bytes_eq word (codes "turn") && nat_le MAX_TURNS (count_of_word lines word))
+    (bytes_eq word (codes "evict") && nat_le MAX_EVICTIONS (count_of_word lines word)) ||
+    (bytes_eq word (codes "turn") && nat_le MAX_TURNS (count_of_word lines word))
 
 pub many-Decides : (lines : List (List (List ℕ))) (word : List ℕ) → Decides (is_many lines word) (IsTooMany lines word)
 many-Decides lines word = Decides-or _ _ (up_to (codes "evict") MAX_EVICTIONS) (up_to (codes "turn") MAX_TURNS)
@@ -54,7 +55,8 @@ abbrev operand_numbers : ℕ → ℕ → ℕ → ℕ → ℕ → DeclaredNumbers
 operand_numbers mutexes semaphores cells programs instructions =
     record nothing_declared { mutexes = mutexes; semaphores = semaphores; cells = cells; programs = programs; instructions = instructions }
 
-operand_same : (n : DeclaredNumbers) (k : OperandKind) → operand_field n k ≡ operand_field (operand_numbers n.mutexes n.semaphores n.cells n.programs n.instructions) k
+operand_same : (n : DeclaredNumbers) (k : OperandKind)
+    → operand_field n k ≡ operand_field (operand_numbers n.mutexes n.semaphores n.cells n.programs n.instructions) k
 operand_same n Kinds.Register = refl
 operand_same n _ = refl
 
@@ -70,8 +72,9 @@ patience_same (s ∷ ss) h =
     let k : IsSpace s = All-head IsSpace s ss h in
     ap₂ (λ (a b : Bool). a && b) (ap (λ (n : ℕ). n == 1) (reads s.patience (omega (arith, k.patience)))) (patience_same ss (All-tail IsSpace s ss h))
 
--- each line that is expected where a reader stands
-pub line_at : (versions : ℕ) → versions ≤ 3 → (p : Position) (word : List ℕ) → IsAt versions p → is_some (index_of word (expected p)) ≡ true → LineAt versions p word
+-- each line that is expected where a reader is
+pub line_at : (versions : ℕ) → versions ≤ 3 → (p : Position) (word : List ℕ) → IsAt versions p → is_some (index_of word (expected p)) ≡ true
+    → LineAt versions p word
 line_at versions three (AtSlice v n f) word a known = by_word (expected (AtSlice v n f)) word (LineAt versions (AtSlice v n f)) (
   record {
     fields = ap (λ (u : ℕ). within (if u == 3 then 0 else 1) MAX_SLICE ∷ []) (number_is 1 v a.says.1 refl (omega (arith, a.reached.1)));
@@ -122,13 +125,15 @@ line_at versions three (AtInstr m spaces d len instrs) word a known =
 
     of : (o : Operation) → LineAt versions p (form_of o).word
     of o = let plain = instr_plain (shown p) (length (fields_of versions p (form_of o).word)) o in record {
-      fields = operation-fields versions (numbers_in (shown p)) o ∙ (λ i. map (λ k. same k i) (form_of o).operands) ∙ sym (operation-fields versions (numbers_at p) o);
+      fields = operation-fields versions (numbers_in (shown p)) o ∙ (λ i. map (λ k. same k i) (form_of o).operands)
+          ∙ sym (operation-fields versions (numbers_at p) o);
       full = plain.0;
       order = plain.1;
     }
 line_at versions three (AtEvict m spaces es) word a known = by_word (expected (AtEvict m spaces es)) word (LineAt versions (AtEvict m spaces es)) (
   record {
-    fields = ap (λ (n : ℕ). within 1 MAX_EVENTS ∷ declared n ∷ within 0 LAST_PAGE ∷ []) (number_is 1 m.count a.says.0.2 refl (omega (arith, a.reached.0.count.1)));
+    fields = ap (λ (n : ℕ). within 1 MAX_EVENTS ∷ declared n ∷ within 0 LAST_PAGE ∷ [])
+        (number_is 1 m.count a.says.0.2 refl (omega (arith, a.reached.0.count.1)));
     full = or-false _ ∙ ap (nat_le MAX_EVICTIONS) a.says.1;
     order = a.says.3;
   },

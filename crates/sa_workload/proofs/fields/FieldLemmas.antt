@@ -1,5 +1,5 @@
 -- What the words of a line are read as, and back: a field has one spelling.
-use Rattle.std.proofs.Common.{◌≡◌, ℕ, zero, suc, ◌+◌, ◌^◌, ◌<◌, ◌≤◌, ◌&&◌, ◌⊎◌, Bool, true, false, cond, List, [], ◌∷◌, ◌++◌, length, get_or, Contains, Option, Some, None, Result, Ok, Err, codes, decimal, refl, sym, ap, ap₂, ◌∙◌, subst, inl, inr, arith, nat_le, nat_lt}
+use Rattle.std.proofs.Common.{◌≡◌, ℕ, zero, suc, ◌+◌, ◌^◌, ◌<◌, ◌≤◌, ◌&&◌, ◌⊎◌, Bool, true, false, cond, List, [], ◌∷◌, ◌++◌, length, get_or, Contains, Option, Some, None, Result, Ok, Err, codes, decimal, refl, sym, ap, ap₂, ◌∙◌, subst, inl, inr, arith, nat_le}
 use Rattle.std.specs.Option.{is_some, option_map}
 use Rattle.std.specs.Str.{bytes_eq}
 use Rattle.std.proofs.lemmas.Bool.{false≢true, ltb-true, leb-true, le-leb, lt-ltb, and_parts}
@@ -140,9 +140,10 @@ read-ok (Number test cause) word n h =
       | inr wrong ↦ absurd (cc (wrong.1))
     ]
 
--- all fields of a line; how they go on behind what the first word is read as
+-- all fields of a line; how they go on after what the first word is read as
 abbrev pub behind : List Field → List (List ℕ) → Result ℕ ℕ → Result (List ℕ × List (List ℕ)) ℕ
-behind fs words r = and_then {A = ℕ × List (List ℕ)} (and_then r (λ n. Ok (n, words))) (λ first. and_then (fields_at fs first.1) (λ others. Ok (first.0 ∷ others.0, others.1)))
+behind fs words r =
+    and_then {A = ℕ × List (List ℕ)} (and_then r (λ n. Ok (n, words))) (λ first. and_then (fields_at fs first.1) (λ others. Ok (first.0 ∷ others.0, others.1)))
 
 pub fields-spelled : (fs : List Field) (ns : List ℕ) (rest : List (List ℕ)) → AllPass fs ns → fields_at fs (spelled_all fs ns ++ rest) ≡ Ok (ns, rest)
 fields-spelled [] [] rest h = refl
@@ -178,10 +179,12 @@ all_long (f ∷ fs) [] h = absurd h
 all_long (f ∷ fs) (n ∷ ns) h = let r = all_long fs ns h.1 in (ap suc r.0, ap suc r.1)
 
 -- the numbers of a whole line
-pub line-spelled : (fs : List Field) (last : Option (List ℕ)) (ns : List ℕ) → AllPass fs ns → order_cause last ns ≡ None → line_numbers fs last (spelled_all fs ns) ≡ Ok ns
+pub line-spelled : (fs : List Field) (last : Option (List ℕ)) (ns : List ℕ) → AllPass fs ns → order_cause last ns ≡ None
+    → line_numbers fs last (spelled_all fs ns) ≡ Ok ns
 line-spelled fs last ns h o =
     ap (λ ws. line_numbers fs last ws) (sym (append-nil (spelled_all fs ns)))
-    ∙ ap (λ (r : Result (List ℕ × List (List ℕ)) ℕ). and_then r (λ read. unless (order_cause last read.0) (unless (at_end read.1) (Ok read.0)))) (fields-spelled fs ns [] h)
+    ∙ ap (λ (r : Result (List ℕ × List (List ℕ)) ℕ). and_then r (λ read. unless (order_cause last read.0) (unless (at_end read.1) (Ok read.0))))
+    (fields-spelled fs ns [] h)
     ∙ ap (λ c. unless c (Ok ns)) o
 
 at_end-none : (words : List (List ℕ)) → at_end words ≡ None → words ≡ []

@@ -111,7 +111,7 @@ all_made n (k ∷ kinds) (x ∷ xs) h =
       name = (a.name, b.name);
     }
 
--- an instruction that may stand where so much is declared
+-- an instruction that may be where that much is declared
 pub record IsAllowed (n : DeclaredNumbers) (i : Instr) : Type 0 where
   pub range : IsInRange i
   pub jump : JumpsBelow n.instructions i
@@ -135,7 +135,8 @@ instr-read versions n word xs known h =
     subst (λ (w : List ℕ). IsReadFrom n w xs (fields_by versions n w)) (sym e.1)
     (by_operation e.0 (subst (λ (fs : List Field). AllPass fs xs) (ap (fields_by versions n) e.1 ∙ operation-fields versions n e.0) h))
   where
-    by_operation : (o : Operation) → AllPass (map (operand_field n) (form_of o).operands) xs → IsReadFrom n (form_of o).word xs (fields_by versions n (form_of o).word)
+    by_operation : (o : Operation) → AllPass (map (operand_field n) (form_of o).operands) xs
+        → IsReadFrom n (form_of o).word xs (fields_by versions n (form_of o).word)
     by_operation o h =
         let kinds : List OperandKind = (form_of o).operands in
         let all = all_made n kinds xs h in
@@ -145,7 +146,8 @@ instr-read versions n word xs known h =
           instr = i.0;
           is = ap (made_by xs) (operation-found o) ∙ i.1;
           line = ap (λ p. (form_of p.operation).word ∷ map operand_word p.operands) back
-              ∙ ap (λ (ws : List (List ℕ)). (form_of o).word ∷ ws) (all.words ∙ ap (λ (fs : List Field). spelled_all fs xs) (sym (operation-fields versions n o)));
+              ∙ ap (λ (ws : List (List ℕ)). (form_of o).word ∷ ws)
+              (all.words ∙ ap (λ (fs : List Field). spelled_all fs xs) (sym (operation-fields versions n o)));
           allowed = record {
             range = subst (λ p. Each InRange p.operands) (sym back) all.range;
             jump = subst (λ p. Each (IsPlaceBelow n.instructions) p.operands) (sym back) all.place;
@@ -166,7 +168,8 @@ record IsBack (n : DeclaredNumbers) (o : Operand) : Type 0 where
   same : operand_from (kind_of o) (number_of o) ≡ o
   word : spelled (operand_field n (kind_of o)) (number_of o) ≡ operand_word o
 
-back : (n : DeclaredNumbers) → AreSmall n → (o : Operand) → InRange o → IsPlaceBelow n.instructions o → IsDeclared n.mutexes n.semaphores n.cells n.programs o → IsBack n o
+back : (n : DeclaredNumbers) → AreSmall n → (o : Operand) → InRange o → IsPlaceBelow n.instructions o → IsDeclared n.mutexes n.semaphores n.cells n.programs o
+    → IsBack n o
 back n s (Register r) a b c = record { passes = reg_number-below r; same = ap (λ (q : Reg). Register q) (reg_from-number r); word = refl }
 back n s (Value x) a b c = record { passes = passes-within 0 (2 ^ 64 - 1) x (omega arith) (omega arith) (omega arith); same = refl; word = refl }
 back n s (Place x) a b c = record { passes = (omega (arith, s.instructions), lt-ltb x n.instructions b); same = refl; word = refl }
@@ -210,7 +213,8 @@ instr-back versions n s i h =
     let os : List Operand = (parts_of i).operands in
     let all = all_back n s os h.range h.jump h.name in
     let fit : map kind_of os ≡ (form_of o).operands = (fit-some o os).0 (subst IsSome (sym (remade i)) refl) in
-    let fields : map (operand_field n) (map kind_of os) ≡ fields_by versions n (form_of o).word = ap (map (operand_field n)) fit ∙ sym (operation-fields versions n o) in
+    let fields : map (operand_field n) (map kind_of os) ≡ fields_by versions n (form_of o).word = ap (map (operand_field n)) fit
+    ∙ sym (operation-fields versions n o) in
     record {
       passes = subst (λ (fs : List Field). AllPass fs (numbers_of_instr i)) fields all.passes;
       is = ap (made_by (numbers_of_instr i)) (operation-found o)

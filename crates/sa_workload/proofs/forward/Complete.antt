@@ -40,15 +40,25 @@ pub record IsVersion (v : ℕ) (all none : Bool) : Type 0 where
   pub second : v ≢ 1 → v ≢ 3 → none ≡ false
 
 by_tests : (all none : Bool) → IsVersion (if all then (if none then 1 else 2) else 3) all none
-by_tests true true = record { range = (omega arith, omega arith); usual = λ _. refl; own = λ e. absurd (omega arith); first = λ _. refl; second = λ n. absurd (n refl) }
-by_tests true false = record { range = (omega arith, omega arith); usual = λ _. refl; own = λ e. absurd (omega arith); first = λ e. absurd (omega arith); second = λ _ _. refl }
-by_tests false none = record { range = (omega arith, omega arith); usual = λ n. absurd (n refl); own = λ _. refl; first = λ e. absurd (omega arith); second = λ _ n. absurd (n refl) }
+by_tests true true =
+    record { range = (omega arith, omega arith); usual = λ _. refl; own = λ e. absurd (omega arith); first = λ _. refl; second = λ n. absurd (n refl) }
+by_tests true false =
+    record { range = (omega arith, omega arith); usual = λ _. refl; own = λ e. absurd (omega arith); first = λ e. absurd (omega arith); second = λ _ _. refl }
+by_tests false none =
+    record {
+      range = (omega arith, omega arith);
+      usual = λ n. absurd (n refl);
+      own = λ _. refl;
+      first = λ e. absurd (omega arith);
+      second = λ _ n. absurd (n refl);
+    }
 
 pub version_is : (w : WorkloadView) → IsVersion (version_of w) (list_all (λ (s : SpaceView). eqb s.patience 1) w.spaces) (eqb w.slice 0)
 version_is w = by_tests (list_all (λ (s : SpaceView). eqb s.patience 1) w.spaces) (eqb w.slice 0)
 
 -- what a line of right numbers leads to
-pub take-line : (versions : ℕ) (p : Position) (word : List ℕ) (ns : List ℕ) (q : Position) → is_some (index_of word (expected p)) ≡ true → is_full p word ≡ false
+pub take-line : (versions : ℕ) (p : Position) (word : List ℕ) (ns : List ℕ) (q : Position) → is_some (index_of word (expected p)) ≡ true
+    → is_full p word ≡ false
     → AllPass (fields_of versions p word) ns → order_cause (last_numbers p word) ns ≡ None → step p word ns ≡ Ok q
     → next versions p (word ∷ spelled_all (fields_of versions p word) ns) ≡ Ok q
 take-line versions p word ns q known room passes order to =
@@ -66,12 +76,14 @@ assoc : (r : Result Position ℕ) (f g h : Position → Result Position ℕ) →
 assoc (Ok q) f g h e = e q
 assoc (Err why) f g h e = refl
 
-pub run-append : (versions : ℕ) (p : Position) (xs ys : List (List (List ℕ))) → run versions p (xs ++ ys) ≡ and_then (run versions p xs) (λ q. run versions q ys)
+pub run-append : (versions : ℕ) (p : Position) (xs ys : List (List (List ℕ)))
+    → run versions p (xs ++ ys) ≡ and_then (run versions p xs) (λ q. run versions q ys)
 run-append versions p [] ys = refl
 run-append versions p (x ∷ xs) ys =
     assoc (next versions p x) (λ q. run versions q xs) (λ q. run versions q ys) (λ q. run versions q (xs ++ ys)) (λ q. run-append versions q xs ys)
 
-pub run-then : (versions : ℕ) (p q r : Position) (xs ys : List (List (List ℕ))) → run versions p xs ≡ Ok q → run versions q ys ≡ Ok r → run versions p (xs ++ ys) ≡ Ok r
+pub run-then : (versions : ℕ) (p q r : Position) (xs ys : List (List (List ℕ))) → run versions p xs ≡ Ok q → run versions q ys ≡ Ok r
+    → run versions p (xs ++ ys) ≡ Ok r
 run-then versions p q r xs ys a b = run-append versions p xs ys ∙ ap (λ (x : Result Position ℕ). and_then x (λ q. run versions q ys)) a ∙ b
 
 -- lines lead from a position to another
@@ -85,7 +97,8 @@ stop = record { is = refl }
 chain : {versions : ℕ} {p q r : Position} {xs ys : List (List (List ℕ))} → Runs versions p xs q → Runs versions q ys r → Runs versions p (xs ++ ys) r
 chain {versions} {p} {q} {r} {xs} {ys} a b = record { is = run-then versions p q r xs ys a.is b.is }
 
-one : {versions : ℕ} {p q r : Position} {x : List (List ℕ)} {ys : List (List (List ℕ))} → Runs versions p (x ∷ []) q → Runs versions q ys r → Runs versions p (x ∷ ys) r
+one : {versions : ℕ} {p q r : Position} {x : List (List ℕ)} {ys : List (List (List ℕ))} → Runs versions p (x ∷ []) q → Runs versions q ys r
+    → Runs versions p (x ∷ ys) r
 one a b = chain a b
 
 -- a line of right numbers
@@ -99,10 +112,12 @@ taken {versions} {p} {q} word ns known room passes order to =
 full : {versions : ℕ} {p x : Position} (n : ℕ) (y : Position) {ls : List (List (List ℕ))} → Runs versions p ls (if n == n then x else y) → Runs versions p ls x
 full {versions} {p} {x} n y {ls} r = subst (Runs versions p ls) (cond-true _ x y (eq-eqb n n refl)) r
 
-more : {versions : ℕ} {q y : Position} (x : Position) {ls : List (List (List ℕ))} {a b : ℕ} → a < b → Runs versions (if a == b then x else y) ls q → Runs versions y ls q
+more : {versions : ℕ} {q y : Position} (x : Position) {ls : List (List (List ℕ))} {a b : ℕ} → a < b → Runs versions (if a == b then x else y) ls q
+    → Runs versions y ls q
 more {versions} {q} {y} x {ls} {a} {b} n r = subst (λ (p : Position). Runs versions p ls q) (cond-false _ x y (ne_eqb a b (omega arith))) r
 
-at_more : {versions : ℕ} {q y : Position} (x : Position) {ls : List (List (List ℕ))} {a b : ℕ} → a < b → Runs versions y ls q → Runs versions (if a == b then x else y) ls q
+at_more : {versions : ℕ} {q y : Position} (x : Position) {ls : List (List (List ℕ))} {a b : ℕ} → a < b → Runs versions y ls q
+    → Runs versions (if a == b then x else y) ls q
 at_more {versions} {q} {y} x {ls} {a} {b} n r = subst (λ (p : Position). Runs versions p ls q) (sym (cond-false _ x y (ne_eqb a b (omega arith)))) r
 
 -- an element of a list, and those before it
@@ -110,7 +125,7 @@ record Among {X : Type 0} (all done : List X) (x : X) : Type 0 where
   rest : List X
   is : all ≡ done ++ x ∷ rest
 
--- what holds of all elements holds of it, and it stands before the end
+-- what holds of all elements holds of it, and it is before the end
 here : {X : Type 0} {all done : List X} {x : X} → Among all done x → (P : X → Type 0) → All P all → P x
 here {X} {all} {done} {x} m P h =
     subst P (get_or-append_seam done x m.rest x) (subst (All P) m.is h (length done) x (omega (arith, length-append done (x ∷ m.rest))))
@@ -132,7 +147,7 @@ over {X} {versions} P f g nil cons all each = go [] all refl
         subst (λ (ls : List (List (List ℕ))). Runs versions (P done) ls (P all)) (sym (cons x xs))
         (chain (each done x (record { rest = xs; is = e })) (go (done ++ x ∷ []) xs (e ∙ sym (append_assoc done (x ∷ []) xs))))
 
--- an element stands behind the last of those before it, where they are in order
+-- an element comes after the last of those before it, where they are in order
 behind_last : {X : Type 0} (R : X → X → Type 0) (f : X → List ℕ) (all done : List X) (x d : X) → Among all done x
     → ((a b : X) → R a b → list_lt (f a) (f b) ≡ true)
     → ((k : ℕ) → k + 1 < length all → R (get_or all k d) (get_or all (k + 1) d))
@@ -142,7 +157,8 @@ behind_last {X} R f all (y ∷ ys) x d m less rise =
     ap (λ (l : Option X). order_cause (option_map f l) (f x)) (last_is (y ∷ ys) d (omega arith))
     ∙ none-order (f last) (f x) (less last x
     (subst (λ (z : X). R z x) (ap (λ (l : List X). get_or l k d) m.is ∙ get_or_append_left (y ∷ ys) (x ∷ m.rest) d k (omega arith))
-    (subst (λ (z : X). R (get_or all k d) z) (ap (λ (l : List X). get_or l (k + 1) d) m.is ∙ ap (λ (n : ℕ). get_or (y ∷ ys ++ x ∷ m.rest) n d) next_one ∙ get_or-append_seam (y ∷ ys) x m.rest d)
+    (subst (λ (z : X). R (get_or all k d) z)
+    (ap (λ (l : List X). get_or l (k + 1) d) m.is ∙ ap (λ (n : ℕ). get_or (y ∷ ys ++ x ∷ m.rest) n d) next_one ∙ get_or-append_seam (y ∷ ys) x m.rest d)
     (rise k (omega (arith, before m))))))
   where
     k : ℕ
@@ -210,7 +226,7 @@ sems_draft s = record (first_draft s) { sems = s.sems }
 abbrev pages_draft : SpaceView → Draft
 pages_draft s = record (sems_draft s) { absent = s.absent }
 
--- the position behind some programs of a space
+-- the position after some programs of a space
 abbrev programs_at : Machine → List SpaceView → SpaceView → List (List Instr) → Position
 programs_at m spaces s [] = AtAbsent m spaces (pages_draft s)
 programs_at m spaces s (p ∷ ps) = after_program m spaces (record (pages_draft s) { programs = p ∷ ps })
@@ -225,7 +241,8 @@ programs_run : (versions : ℕ) (m : Machine) (spaces : List SpaceView) (s : Spa
 programs_run versions m spaces s h =
     whole s.programs refl (over (programs_at m spaces s) program_lines (flat_map program_lines) refl (λ p ps. refl) s.programs each)
   where
-    whole : (ps : List (List Instr)) → s.programs ≡ ps → Runs versions (AtAbsent m spaces (pages_draft s)) (flat_map program_lines s.programs) (programs_at m spaces s ps)
+    whole : (ps : List (List Instr)) → s.programs ≡ ps
+        → Runs versions (AtAbsent m spaces (pages_draft s)) (flat_map program_lines s.programs) (programs_at m spaces s ps)
         → Runs versions (AtAbsent m spaces (pages_draft s)) (flat_map program_lines s.programs) (after_spaces m (spaces ++ s ∷ []))
     whole [] e r = absurd (omega (arith, ap length e, h.some_program))
     whole (p ∷ ps) e r =
@@ -233,16 +250,20 @@ programs_run versions m spaces s h =
         (after_program m spaces (record (pages_draft s) { programs = qs }))) (sym e) r)
 
     first : (done : List (List Instr)) (p : List Instr) → Among s.programs done p → (1 ≤ length p) × (length p ≤ MAX_INSTRUCTIONS)
-        → Runs versions (programs_at m spaces s done) ((codes "program" ∷ decimal (length p) ∷ []) ∷ []) (AtInstr m spaces (record (pages_draft s) { programs = done }) (length p) [])
+        → Runs versions (programs_at m spaces s done) ((codes "program" ∷ decimal (length p) ∷ []) ∷ [])
+        (AtInstr m spaces (record (pages_draft s) { programs = done }) (length p) [])
     first [] p at is = taken (codes "program") (length p ∷ []) refl refl (passes-within 1 MAX_INSTRUCTIONS (length p) is.0 is.1 (omega arith), tt) refl refl
     first (q ∷ qs) p at is =
-        at_more _ (before at) (taken (codes "program") (length p ∷ []) refl refl (passes-within 1 MAX_INSTRUCTIONS (length p) is.0 is.1 (omega arith), tt) refl refl)
+        at_more _ (before at) (taken (codes "program") (length p ∷ []) refl refl
+        (passes-within 1 MAX_INSTRUCTIONS (length p) is.0 is.1 (omega arith), tt) refl refl)
 
-    each : (done : List (List Instr)) (p : List Instr) → Among s.programs done p → Runs versions (programs_at m spaces s done) (program_lines p) (programs_at m spaces s (done ++ p ∷ []))
+    each : (done : List (List Instr)) (p : List Instr) → Among s.programs done p
+        → Runs versions (programs_at m spaces s done) (program_lines p) (programs_at m spaces s (done ++ p ∷ []))
     each done p at =
         let is : IsProgram p = here at IsProgram h.programs in
         one (first done p at (is.not_empty, is.not_too_long))
-        (subst (Runs versions _ (map instr_line p)) (programs_more m spaces s done p) (program_run versions m spaces (record (pages_draft s) { programs = done }) p
+        (subst (Runs versions _ (map instr_line p)) (programs_more m spaces s done p)
+        (program_run versions m spaces (record (pages_draft s) { programs = done }) p
         (record {
           mutexes = omega (arith, h.mutexes);
           semaphores = omega (arith, h.sems);
@@ -252,12 +273,12 @@ programs_run versions m spaces s h =
         }) is
         (here at (All (NamesDeclared s.mutexes (length s.sems) s.cells (length s.programs))) h.names)))
 
--- the patience of a space fits behind those before it
+-- the patience of a space fits after those before it
 abbrev FitsPatience : Machine → List SpaceView → SpaceView → Type 0
 FitsPatience m spaces s =
     (m.version ≢ 3 → s.patience ≡ 1) × (m.version ≡ 3 → is_last_impatient m spaces ≡ true → s.patience ≢ 1)
 
--- it stands in the first line of the space where the version is 3
+-- it is in the first line of the space where the version is 3
 patience : (own need : Bool) (k : ℕ) → (1 ≤ k) × (k ≤ MAX_PATIENCE) → (own ≡ false → k ≡ 1) → (own ≡ true → need ≡ true → k ≢ 1)
     → AllPass (if own then within (if need then 2 else 1) MAX_PATIENCE ∷ [] else []) (if own then k ∷ [] else [])
     × (spelled_all (if own then within (if need then 2 else 1) MAX_PATIENCE ∷ [] else []) (if own then k ∷ [] else []) ≡ (if own then decimal k ∷ [] else []))
@@ -268,8 +289,10 @@ patience true false k range one other = ((passes-within 1 MAX_PATIENCE k range.0
 patience false need k range one other = (tt, refl, sym (one refl))
 
 -- the numbers of that line
-pub space_pass : (fs : List Field) (a b c d e : ℕ) (ns : List ℕ) → a ≤ MAX_PRIORITY → b ≤ MAX_MUTEXES → c ≤ MAX_SEMAPHORES → d ≤ MAX_CELLS → 1 ≤ e → e ≤ MAX_PROGRAMS → AllPass fs ns
-    → AllPass (within 0 MAX_PRIORITY ∷ within 0 MAX_MUTEXES ∷ within 0 MAX_SEMAPHORES ∷ within 0 MAX_CELLS ∷ within 1 MAX_PROGRAMS ∷ fs) (a ∷ b ∷ c ∷ d ∷ e ∷ ns)
+pub space_pass : (fs : List Field) (a b c d e : ℕ) (ns : List ℕ) → a ≤ MAX_PRIORITY → b ≤ MAX_MUTEXES → c ≤ MAX_SEMAPHORES → d ≤ MAX_CELLS → 1 ≤ e
+    → e ≤ MAX_PROGRAMS → AllPass fs ns
+    → AllPass (within 0 MAX_PRIORITY ∷ within 0 MAX_MUTEXES ∷ within 0 MAX_SEMAPHORES ∷ within 0 MAX_CELLS ∷ within 1 MAX_PROGRAMS ∷ fs)
+    (a ∷ b ∷ c ∷ d ∷ e ∷ ns)
 space_pass fs a b c d e ns ha hb hc hd low high rest =
     let pass_a = passes-within 0 MAX_PRIORITY a (omega arith) ha (omega arith) in
     let pass_b = passes-within 0 MAX_MUTEXES b (omega arith) hb (omega arith) in
@@ -281,9 +304,11 @@ space_first : (versions : ℕ) (m : Machine) (spaces : List SpaceView) (s : Spac
     → Runs versions (AtSpace m spaces) (space_line m.version s ∷ []) (after_sem m spaces (first_draft s))
 space_first versions m spaces s h fits =
     let own : Bool = m.version == 3 in
-    let last = patience own (is_last_impatient m spaces) s.patience (h.patient, h.patience) (λ e. fits.0 (eqb-false m.version 3 e)) (λ e. fits.1 (eqb-true m.version 3 e)) in
+    let last = patience own (is_last_impatient m spaces) s.patience (h.patient, h.patience) (λ e. fits.0 (eqb-false m.version 3 e))
+    (λ e. fits.1 (eqb-true m.version 3 e)) in
     subst (λ (ws : List (List ℕ)). Runs versions (AtSpace m spaces)
-    ((codes "space" ∷ decimal s.priority ∷ decimal s.mutexes ∷ decimal (length s.sems) ∷ decimal s.cells ∷ decimal (length s.programs) ∷ ws) ∷ []) (after_sem m spaces (first_draft s))) last.1
+    ((codes "space" ∷ decimal s.priority ∷ decimal s.mutexes ∷ decimal (length s.sems) ∷ decimal s.cells ∷ decimal (length s.programs) ∷ ws) ∷ [])
+    (after_sem m spaces (first_draft s))) last.1
     (taken (codes "space") (s.priority ∷ s.mutexes ∷ length s.sems ∷ s.cells ∷ length s.programs ∷ (if own then s.patience ∷ [] else [])) refl refl
     (space_pass _ s.priority s.mutexes (length s.sems) s.cells (length s.programs) _ h.priority h.mutexes h.sems h.cells h.some_program h.few_programs last.0)
     refl (ap (λ (k : ℕ). Ok (after_sem m spaces (record (first_draft s) { patience = k }))) last.2))
@@ -292,17 +317,23 @@ space_run : (versions : ℕ) (m : Machine) (spaces : List SpaceView) (s : SpaceV
     → Runs versions (AtSpace m spaces) (space_lines m.version s) (after_spaces m (spaces ++ s ∷ []))
 space_run versions m spaces s h fits =
     one (space_first versions m spaces s h fits)
-    (chain (full (length s.sems) _ (over (λ (ns : List ℕ). after_sem m spaces (record (first_draft s) { sems = ns })) (λ (n : ℕ). sem_line n ∷ []) (map sem_line) refl (λ n ns. refl) s.sems sem))
-    (chain (over (λ (ks : List ℕ). AtAbsent m spaces (record (sems_draft s) { absent = ks })) (λ (k : ℕ). absent_line k ∷ []) (map absent_line) refl (λ k ks. refl) s.absent page)
+    (chain (full (length s.sems) _
+    (over (λ (ns : List ℕ). after_sem m spaces (record (first_draft s) { sems = ns })) (λ (n : ℕ). sem_line n ∷ []) (map sem_line) refl
+    (λ n ns. refl) s.sems sem))
+    (chain (over (λ (ks : List ℕ). AtAbsent m spaces (record (sems_draft s) { absent = ks })) (λ (k : ℕ). absent_line k ∷ []) (map absent_line) refl
+    (λ k ks. refl) s.absent page)
     (programs_run versions m spaces s h)))
   where
     sem : (done : List ℕ) (n : ℕ) → Among s.sems done n
-        → Runs versions (after_sem m spaces (record (first_draft s) { sems = done })) (sem_line n ∷ []) (after_sem m spaces (record (first_draft s) { sems = done ++ n ∷ [] }))
+        → Runs versions (after_sem m spaces (record (first_draft s) { sems = done })) (sem_line n ∷ [])
+        (after_sem m spaces (record (first_draft s) { sems = done ++ n ∷ [] }))
     sem done n at =
-        at_more _ (before at) (taken (codes "sem") (n ∷ []) refl refl (passes-within 0 MAX_START n (omega arith) (here at (λ (x : ℕ). x ≤ MAX_START) h.starts) (omega arith), tt) refl refl)
+        at_more _ (before at) (taken (codes "sem") (n ∷ []) refl refl
+        (passes-within 0 MAX_START n (omega arith) (here at (λ (x : ℕ). x ≤ MAX_START) h.starts) (omega arith), tt) refl refl)
 
     page : (done : List ℕ) (k : ℕ) → Among s.absent done k
-        → Runs versions (AtAbsent m spaces (record (sems_draft s) { absent = done })) (absent_line k ∷ []) (AtAbsent m spaces (record (sems_draft s) { absent = done ++ k ∷ [] }))
+        → Runs versions (AtAbsent m spaces (record (sems_draft s) { absent = done })) (absent_line k ∷ [])
+        (AtAbsent m spaces (record (sems_draft s) { absent = done ++ k ∷ [] }))
     page done k at =
         taken (codes "absent") (k ∷ []) refl refl (passes-within 0 LAST_PAGE k (omega arith) (here at (λ (x : ℕ). x ≤ LAST_PAGE) h.pages) (omega arith), tt)
         (behind_last (λ (a b : ℕ). a < b) (λ (x : ℕ). x ∷ []) s.absent done k 0 at (λ a b l. less_head a b [] [] l) h.absent_rise) refl
@@ -310,24 +341,31 @@ space_run versions m spaces s h fits =
 abbrev machine_in : WorkloadView → Machine
 machine_in w = record { version = version_of w; processors = w.processors; fetch = w.fetch; slice = w.slice; count = length w.spaces }
 
--- the position behind some turns
+-- the position after some turns
 abbrev turns_at : WorkloadView → List ProcNo → Position
 turns_at w [] = AtEvict (machine_in w) w.spaces w.evictions
 turns_at w (t ∷ ts) = AtTurn (machine_in w) w.spaces w.evictions (t ∷ ts)
 
 module _ (versions : ℕ) (w : WorkloadView) (h : IsWorkload w) where
-  -- the line of the number of spaces, and those behind the fetch line
-  spaces_line : Runs versions (AtSpaces (version_of w) w.processors w.fetch w.slice) ((codes "spaces" ∷ decimal (length w.spaces) ∷ []) ∷ []) (AtSpace (machine_in w) [])
-  spaces_line = taken (codes "spaces") (length w.spaces ∷ []) refl refl (passes-within 1 MAX_SPACES (length w.spaces) h.some_space h.few_spaces (omega arith), tt) refl refl
+  -- the line of the number of spaces, and those after the fetch line
+  spaces_line : Runs versions (AtSpaces (version_of w) w.processors w.fetch w.slice) ((codes "spaces" ∷ decimal (length w.spaces) ∷ []) ∷ [])
+      (AtSpace (machine_in w) [])
+  spaces_line =
+      taken (codes "spaces") (length w.spaces ∷ []) refl refl
+      (passes-within 1 MAX_SPACES (length w.spaces) h.some_space h.few_spaces (omega arith), tt) refl refl
 
   behind_fetch : (first : Bool) → (version_of w == 1) ≡ first
       → Runs versions (if first then AtSpaces (version_of w) w.processors w.fetch 0 else AtSlice (version_of w) w.processors w.fetch)
-      ((if first then [] else (codes "slice" ∷ decimal w.slice ∷ []) ∷ []) ++ (codes "spaces" ∷ decimal (length w.spaces) ∷ []) ∷ []) (AtSpace (machine_in w) [])
+      ((if first then [] else (codes "slice" ∷ decimal w.slice ∷ []) ∷ []) ++ (codes "spaces" ∷ decimal (length w.spaces) ∷ []) ∷ [])
+      (AtSpace (machine_in w) [])
   behind_fetch true t =
-      subst (λ (s : ℕ). Runs versions (AtSpaces (version_of w) w.processors w.fetch s) ((codes "spaces" ∷ decimal (length w.spaces) ∷ []) ∷ []) (AtSpace (machine_in w) []))
+      subst (λ (s : ℕ). Runs versions (AtSpaces (version_of w) w.processors w.fetch s) ((codes "spaces" ∷ decimal (length w.spaces) ∷ []) ∷ [])
+      (AtSpace (machine_in w) []))
       (eqb-true w.slice 0 ((version_is w).first (eqb-true (version_of w) 1 t))) spaces_line
   behind_fetch false t =
-      one (taken (codes "slice") (w.slice ∷ []) refl refl (passes-within (if version_of w == 3 then 0 else 1) MAX_SLICE w.slice (least (version_of w == 3) refl) h.slice (omega arith), tt) refl refl) spaces_line
+      one (taken (codes "slice") (w.slice ∷ []) refl refl
+      (passes-within (if version_of w == 3 then 0 else 1) MAX_SLICE w.slice (least (version_of w == 3) refl) h.slice (omega arith), tt) refl refl)
+      spaces_line
     where
       least : (b : Bool) → (version_of w == 3) ≡ b → (if b then 0 else 1) ≤ w.slice
       least true e = omega arith
@@ -336,8 +374,10 @@ module _ (versions : ℕ) (w : WorkloadView) (h : IsWorkload w) where
 
   machine_run : version_of w ≤ versions → versions ≤ 3 → Runs versions AtVersion (machine_lines w) (AtSpace (machine_in w) [])
   machine_run few three =
-      one (taken (codes "workload") (version_of w ∷ []) refl refl (passes-within 1 versions (version_of w) (version_is w).range.0 few (omega arith), tt) refl refl)
-      (one (taken (codes "processors") (w.processors ∷ []) refl refl (passes-within 1 MAX_PROCESSORS w.processors h.some_processor h.few_processors (omega arith), tt) refl refl)
+      one (taken (codes "workload") (version_of w ∷ []) refl refl
+      (passes-within 1 versions (version_of w) (version_is w).range.0 few (omega arith), tt) refl refl)
+      (one (taken (codes "processors") (w.processors ∷ []) refl refl
+      (passes-within 1 MAX_PROCESSORS w.processors h.some_processor h.few_processors (omega arith), tt) refl refl)
       (one (taken (codes "fetch") (w.fetch ∷ []) refl refl (passes-within 1 MAX_FETCH w.fetch h.some_fetch h.short_fetch (omega arith), tt) refl refl)
       (behind_fetch (version_of w == 1) refl)))
 
@@ -345,16 +385,19 @@ module _ (versions : ℕ) (w : WorkloadView) (h : IsWorkload w) where
   spaces_run =
       let some : 0 < length w.spaces = omega (arith, h.some_space) in
       more _ some (full (length w.spaces) _
-      (over (λ (ss : List SpaceView). after_spaces (machine_in w) ss) (space_lines (version_of w)) (flat_map (space_lines (version_of w))) refl (λ s ss. refl) w.spaces each))
+      (over (λ (ss : List SpaceView). after_spaces (machine_in w) ss) (space_lines (version_of w)) (flat_map (space_lines (version_of w))) refl
+      (λ s ss. refl) w.spaces each))
     where
       own : (done : List SpaceView) (s : SpaceView) → Among w.spaces done s → version_of w ≡ 3 → is_last_impatient (machine_in w) done ≡ true → s.patience ≢ 1
       own done s at v need one =
           let b = and_parts (leb (length w.spaces) (length done + 1)) (list_all (λ (t : SpaceView). eqb t.patience 1) done) need in
           let few : length w.spaces ≤ length done + 1 = leb-true (length w.spaces) (length done + 1) b.0 in
           let last : at.rest ≡ [] = nil_from_length at.rest (omega (arith, ap length at.is, length-append done (s ∷ at.rest))) in
-          let all : All (λ (t : SpaceView). t.patience ≡ 1) (done ++ s ∷ []) = All-push (λ (t : SpaceView). t.patience ≡ 1) done s (true_all (λ (t : SpaceView). t.patience) 1 done b.1) one in
+          let all : All (λ (t : SpaceView). t.patience ≡ 1) (done ++ s ∷ []) =
+          All-push (λ (t : SpaceView). t.patience ≡ 1) done s (true_all (λ (t : SpaceView). t.patience) 1 done b.1) one in
           let whole : list_all (λ (t : SpaceView). eqb t.patience 1) w.spaces ≡ true =
-          ap (λ (xs : List SpaceView). list_all (λ (t : SpaceView). eqb t.patience 1) xs) (at.is ∙ ap (λ (xs : List SpaceView). done ++ s ∷ xs) last) ∙ all_true (λ (t : SpaceView). t.patience) 1 (done ++ s ∷ []) all in
+          ap (λ (xs : List SpaceView). list_all (λ (t : SpaceView). eqb t.patience 1) xs) (at.is ∙ ap (λ (xs : List SpaceView). done ++ s ∷ xs) last)
+          ∙ all_true (λ (t : SpaceView). t.patience) 1 (done ++ s ∷ []) all in
           false≢true (sym ((version_is w).own v) ∙ whole)
 
       each : (done : List SpaceView) (s : SpaceView) → Among w.spaces done s
@@ -364,7 +407,8 @@ module _ (versions : ℕ) (w : WorkloadView) (h : IsWorkload w) where
           ((λ n. here at (λ (t : SpaceView). t.patience ≡ 1) (true_all (λ (t : SpaceView). t.patience) 1 w.spaces ((version_is w).usual n))), own done s at))
 
   evictions_run : Runs versions (AtEvict (machine_in w) w.spaces []) (map evict_line w.evictions) (AtEvict (machine_in w) w.spaces w.evictions)
-  evictions_run = over (λ (es : List Evict). AtEvict (machine_in w) w.spaces es) (λ (e : Evict). evict_line e ∷ []) (map evict_line) refl (λ e es. refl) w.evictions each
+  evictions_run =
+      over (λ (es : List Evict). AtEvict (machine_in w) w.spaces es) (λ (e : Evict). evict_line e ∷ []) (map evict_line) refl (λ e es. refl) w.evictions each
     where
       each : (done : List Evict) (e : Evict) → Among w.evictions done e
           → Runs versions (AtEvict (machine_in w) w.spaces done) (evict_line e ∷ []) (AtEvict (machine_in w) w.spaces (done ++ e ∷ []))
@@ -372,7 +416,10 @@ module _ (versions : ℕ) (w : WorkloadView) (h : IsWorkload w) where
           let is : IsEviction (length w.spaces) e = here at (IsEviction (length w.spaces)) h.evictions in
           taken (codes "evict") (evict_numbers e) refl (lt-leb MAX_EVICTIONS (length done) (omega (arith, before at, h.few_evictions))) (
             passes-within 1 MAX_EVENTS e.event is.first is.last (omega arith),
-            (passes-declared (length w.spaces) e.space.0 is.space (omega (arith, h.few_spaces)), (passes-within 0 LAST_PAGE e.page (omega arith) is.page (omega arith), tt)),
+            (
+              passes-declared (length w.spaces) e.space.0 is.space (omega (arith, h.few_spaces)),
+              (passes-within 0 LAST_PAGE e.page (omega arith) is.page (omega arith), tt),
+            ),
           )
           (behind_last IsBefore evict_numbers w.evictions done e e at before_evict (λ k l. h.evictions_rise k e l)) refl
 

@@ -56,7 +56,8 @@ left-after_instr : (m : Machine) (spaces : List SpaceView) (d : Draft) (len : �
 left-after_instr m spaces d len instrs =
     cond_both (length instrs == len) (after_program m spaces done) (AtInstr m spaces d len instrs) Few
     (λ _. cond_both (length done.programs == done.program_count) (after_spaces m more) (AtProgram m spaces done) Few
-    (λ _. cond_both (length more == m.count) (AtEvict m more []) (AtSpace m more) Few (λ _. omega arith) (λ _. omega (arith, length_push spaces (space_of_draft done))))
+    (λ _. cond_both (length more == m.count) (AtEvict m more []) (AtSpace m more) Few (λ _. omega arith)
+    (λ _. omega (arith, length_push spaces (space_of_draft done))))
     (λ _. omega (arith, length_push d.programs instrs))) (λ _. omega arith)
   where
     done : Draft
@@ -107,34 +108,44 @@ module _ (versions : ℕ) (one : 1 ≤ versions) (three : versions ≤ 3) where
   -- each reached position but the last has such a line
   pub nearer : (p : Position) → 0 < left p → IsReached versions p → Nearer versions p
   nearer AtVersion l r =
-      by_line versions AtVersion (codes "workload") (1 ∷ []) (AtProcessors 1) refl refl (passes-within 1 versions 1 (omega arith) one (omega arith), tt) refl refl (omega arith)
+      by_line versions AtVersion (codes "workload") (1 ∷ []) (AtProcessors 1) refl refl
+      (passes-within 1 versions 1 (omega arith) one (omega arith), tt) refl refl (omega arith)
   nearer (AtProcessors v) l r =
-      by_line versions (AtProcessors v) (codes "processors") (1 ∷ []) (AtFetch v 1) refl refl (passes-within 1 MAX_PROCESSORS 1 (omega arith) (omega arith) (omega arith), tt) refl refl (omega arith)
+      by_line versions (AtProcessors v) (codes "processors") (1 ∷ []) (AtFetch v 1) refl refl
+      (passes-within 1 MAX_PROCESSORS 1 (omega arith) (omega arith) (omega arith), tt) refl refl (omega arith)
   nearer (AtFetch v n) l r =
-      by_line versions (AtFetch v n) (codes "fetch") (1 ∷ []) (after_fetch v n 1) refl refl (passes-within 1 MAX_FETCH 1 (omega arith) (omega arith) (omega arith), tt) refl refl
+      by_line versions (AtFetch v n) (codes "fetch") (1 ∷ []) (after_fetch v n 1) refl refl
+      (passes-within 1 MAX_FETCH 1 (omega arith) (omega arith) (omega arith), tt) refl refl
       (cond_both (v == 1) (AtSpaces v n 1 0) (AtSlice v n 1) (λ (q : Position). left q < 7) (λ _. omega arith) (λ _. omega arith))
   nearer (AtSlice v n f) l r =
       by_line versions (AtSlice v n f) (codes "slice") (1 ∷ []) (AtSpaces v n f 1) refl refl
       (passes-within (if v == 3 then 0 else 1) MAX_SLICE 1 (slice (v == 3)) (omega arith) (omega arith), tt) refl refl (omega arith)
   nearer (AtSpaces v n f s) l r =
-      by_line versions (AtSpaces v n f s) (codes "spaces") (1 ∷ []) (AtSpace _ []) refl refl (passes-within 1 MAX_SPACES 1 (omega arith) (omega arith) (omega arith), tt) refl refl (omega arith)
+      by_line versions (AtSpaces v n f s) (codes "spaces") (1 ∷ []) (AtSpace _ []) refl refl
+      (passes-within 1 MAX_SPACES 1 (omega arith) (omega arith) (omega arith), tt) refl refl (omega arith)
   nearer (AtSpace m spaces) l r =
       let ns : List ℕ = 0 ∷ 0 ∷ 0 ∷ 0 ∷ 1 ∷ (if m.version == 3 then 2 ∷ [] else []) in
       by_line versions (AtSpace m spaces) (codes "space") ns (after_sem m spaces (draft_from m ns)) refl refl
-      (space_pass _ 0 0 0 0 1 _ (omega arith) (omega arith) (omega arith) (omega arith) (omega arith) (omega arith) (patience (m.version == 3) (is_last_impatient m spaces)))
+      (space_pass _ 0 0 0 0 1 _ (omega arith) (omega arith) (omega arith) (omega arith) (omega arith) (omega arith)
+      (patience (m.version == 3) (is_last_impatient m spaces)))
       refl refl (omega (arith, left-after_sem m spaces (draft_from m ns), r.2))
   nearer (AtSem m spaces d) l r =
-      by_line versions (AtSem m spaces d) (codes "sem") (0 ∷ []) (after_sem m spaces (with_sem d 0)) refl refl (passes-within 0 MAX_START 0 (omega arith) (omega arith) (omega arith), tt) refl refl
+      by_line versions (AtSem m spaces d) (codes "sem") (0 ∷ []) (after_sem m spaces (with_sem d 0)) refl refl
+      (passes-within 0 MAX_START 0 (omega arith) (omega arith) (omega arith), tt) refl refl
       (omega (arith, left-after_sem m spaces (with_sem d 0), length_push d.sems 0, r.3))
   nearer (AtAbsent m spaces d) l r =
-      by_line versions (AtAbsent m spaces d) (codes "program") (1 ∷ []) (AtInstr m spaces d 1 []) refl refl (passes-within 1 MAX_INSTRUCTIONS 1 (omega arith) (omega arith) (omega arith), tt) refl refl
+      by_line versions (AtAbsent m spaces d) (codes "program") (1 ∷ []) (AtInstr m spaces d 1 []) refl refl
+      (passes-within 1 MAX_INSTRUCTIONS 1 (omega arith) (omega arith) (omega arith), tt) refl refl
       (omega (arith, ap length r.4, r.2.program_count.0))
   nearer (AtProgram m spaces d) l r =
-      by_line versions (AtProgram m spaces d) (codes "program") (1 ∷ []) (AtInstr m spaces d 1 []) refl refl (passes-within 1 MAX_INSTRUCTIONS 1 (omega arith) (omega arith) (omega arith), tt) refl refl
+      by_line versions (AtProgram m spaces d) (codes "program") (1 ∷ []) (AtInstr m spaces d 1 []) refl refl
+      (passes-within 1 MAX_INSTRUCTIONS 1 (omega arith) (omega arith) (omega arith), tt) refl refl
       (omega (arith, r.5))
   nearer (AtInstr m spaces d len instrs) l r = more_instr versions m spaces d len instrs r.5.room (length instrs + 1 == len) refl
-  nearer (AtEvict m spaces es) l r = by_line versions (AtEvict m spaces es) (codes "close") [] (Closed (workload m spaces es [])) refl refl tt refl refl (omega arith)
-  nearer (AtTurn m spaces es ts) l r = by_line versions (AtTurn m spaces es ts) (codes "close") [] (Closed (workload m spaces es ts)) refl refl tt refl refl (omega arith)
+  nearer (AtEvict m spaces es) l r =
+      by_line versions (AtEvict m spaces es) (codes "close") [] (Closed (workload m spaces es [])) refl refl tt refl refl (omega arith)
+  nearer (AtTurn m spaces es ts) l r =
+      by_line versions (AtTurn m spaces es ts) (codes "close") [] (Closed (workload m spaces es ts)) refl refl tt refl refl (omega arith)
   nearer (Closed w) l r = absurd (omega arith)
 
   -- by how many lines are missing

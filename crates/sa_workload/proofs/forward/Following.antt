@@ -20,7 +20,7 @@ use Rattle.sa_workload.proofs.forward.Complete.{take-line}
 use Rattle.sa_workload.proofs.forward.Completion.{left, Nearer, nearer}
 use Rattle.sa_workload.proofs.forward.Standing.{IsAt, Setting, at_next, begins}
 
--- where a line of the word has to be behind one of these, the last line begins with the word
+-- where a line of the word has to come after one of these, the last line begins with the word
 again : {X : Type 0} (lines : List (List (List ℕ))) (word : List ℕ) (count : ℕ) (f : X → List ℕ) (x : X) (xs : List X)
     → numbers_before (last_line lines) word count ≡ option_map f (last_of (x ∷ xs)) → first_word (last_line lines) ≡ word
 again lines word count f x xs h =
@@ -35,7 +35,8 @@ some_left _ word h = omega arith
 
 module _ (versions : ℕ) (s : Setting versions) where
   -- the word of a line that leads on may begin the next line
-  leads_on : (p q : Position) (word : List ℕ) (others : List (List ℕ)) → IsAt versions p → next versions p (word ∷ others) ≡ Ok q → MayFollow versions (shown p) word
+  leads_on : (p q : Position) (word : List ℕ) (others : List (List ℕ)) → IsAt versions p → next versions p (word ∷ others) ≡ Ok q
+      → MayFollow versions (shown p) word
   leads_on p q word others a h =
       let n = at_next versions s.few p q (word ∷ others) a h in
       record { others = others; begins = subst (Begins versions) n.1 (begins versions s q n.0) }
@@ -52,13 +53,18 @@ module _ (versions : ℕ) (s : Setting versions) where
       let n : Nearer versions p = nearer versions s.one s.few p (some_left p word known) a.reached in
       (n.word, (took versions p n.word n.others n.to n.leads).known, leads_on p n.to n.word n.others a n.leads)
 
-  -- a line of the word stands before, or the first one follows
+  -- a line of the word comes before, or the first one follows
   absent_right : (m : Machine) (spaces : List SpaceView) (d : Draft) (pages : List ℕ) → d.absent ≡ pages → IsAt versions (AtAbsent m spaces d)
       → IsRightWord versions (shown (AtAbsent m spaces d)) (codes "absent")
   absent_right m spaces d (k ∷ ks) e a =
-      inr (inr ((0, omega arith, refl), again (shown (AtAbsent m spaces d)) (codes "absent") 1 (λ page. page ∷ []) k ks (a.says.1 ∙ ap (λ ns. option_map (λ page. page ∷ []) (last_of ns)) e)))
+      inr (inr (
+        (0, omega arith, refl),
+        again (shown (AtAbsent m spaces d)) (codes "absent") 1 (λ page. page ∷ []) k ks
+            (a.says.1 ∙ ap (λ ns. option_map (λ page. page ∷ []) (last_of ns)) e),
+      ))
   absent_right m spaces d [] e a =
-      inl (numbers_lead (AtAbsent m spaces d) _ (codes "absent") (0 ∷ []) a refl refl (passes-within 0 LAST_PAGE 0 (omega arith) (omega arith) (omega arith), tt)
+      inl (numbers_lead (AtAbsent m spaces d) _ (codes "absent") (0 ∷ []) a refl refl
+      (passes-within 0 LAST_PAGE 0 (omega arith) (omega arith) (omega arith), tt)
       (ap (λ ns. order_cause (option_map (λ page. page ∷ []) (last_of ns)) (0 ∷ [])) e) refl)
 
   evict_right : (m : Machine) (spaces : List SpaceView) (es : List Evict) → IsAt versions (AtEvict m spaces es)
@@ -67,10 +73,14 @@ module _ (versions : ℕ) (s : Setting versions) where
   evict_right m spaces [] a =
       inl (numbers_lead (AtEvict m spaces []) _ (codes "evict") (1 ∷ 0 ∷ 0 ∷ []) a refl refl (
         passes-within 1 MAX_EVENTS 1 (omega arith) (omega arith) (omega arith),
-        (passes-declared m.count 0 (omega (arith, a.reached.0.count.0)) (omega (arith, a.reached.0.count.1)), (passes-within 0 LAST_PAGE 0 (omega arith) (omega arith) (omega arith), tt)),
+        (
+          passes-declared m.count 0 (omega (arith, a.reached.0.count.0)) (omega (arith, a.reached.0.count.1)),
+          (passes-within 0 LAST_PAGE 0 (omega arith) (omega arith) (omega arith), tt),
+        ),
       ) refl refl)
 
-  among : (p : Position) (word : List ℕ) → AllByRecursion (IsRightWord versions (shown p)) (expected p) → is_some (index_of word (expected p)) ≡ true → IsRightWord versions (shown p) word
+  among : (p : Position) (word : List ℕ) → AllByRecursion (IsRightWord versions (shown p)) (expected p) → is_some (index_of word (expected p)) ≡ true
+      → IsRightWord versions (shown p) word
   among p word = by_word (expected p) word (IsRightWord versions (shown p))
 
   -- each word that is expected is right
@@ -78,7 +88,8 @@ module _ (versions : ℕ) (s : Setting versions) where
   expects (AtAbsent m spaces d) word a h = among (AtAbsent m spaces d) word (
     absent_right m spaces d d.absent refl a,
     (
-      inl (numbers_lead (AtAbsent m spaces d) _ (codes "program") (1 ∷ []) a refl refl (passes-within 1 MAX_INSTRUCTIONS 1 (omega arith) (omega arith) (omega arith), tt) refl refl),
+      inl (numbers_lead (AtAbsent m spaces d) _ (codes "program") (1 ∷ []) a refl refl
+          (passes-within 1 MAX_INSTRUCTIONS 1 (omega arith) (omega arith) (omega arith), tt) refl refl),
       tt,
     ),
   ) h

@@ -19,7 +19,7 @@ use Rattle.sa_workload.specs.Steps.{workload, space_of_draft, with_program, afte
 use Rattle.sa_workload.proofs.forward.Fronts.{All-front, All-last}
 use Rattle.sa_workload.proofs.forward.ShownStep.{version_of-workload}
 
--- a draft with other lists behind its first line
+-- a draft with other lists after its first line
 pub redrafted : (m : Machine) (spaces : List SpaceView) (d : Draft) (sems absent : List ℕ) (programs : List (List Instr)) → IsDraft m spaces d
     → length sems ≤ d.sem_count → All (λ start. start ≤ MAX_START) sems → All (λ page. page ≤ LAST_PAGE) absent → IsStrictlyIncreasing absent
     → length programs ≤ d.program_count → All IsProgram programs → All (All (NamesDeclared d.mutexes d.sem_count d.cells d.program_count)) programs
@@ -202,7 +202,8 @@ reached-instr versions m spaces d len instrs i r range jump name last =
         let all = begun_more d len instrs i r.5 range jump name in
         (r.0, r.1, r.2, r.3, r.4, record { short = r.5.short; room = omega (arith, l); ranges = all.0; jumps = all.1; names = all.2 })
 
-pub more_turns : (m : Machine) (turns : List ProcNo) (p : ProcNo) → AreTurns m turns → p.0 < m.processors → length turns < MAX_TURNS → AreTurns m (turns ++ p ∷ [])
+pub more_turns : (m : Machine) (turns : List ProcNo) (p : ProcNo) → AreTurns m turns → p.0 < m.processors → length turns < MAX_TURNS
+    → AreTurns m (turns ++ p ∷ [])
 more_turns m turns p t h few =
     record { few = omega (arith, length_push turns p); each = All-push (λ (q : ProcNo). q.0 < m.processors) turns p t.each h }
 
@@ -213,7 +214,8 @@ can_slice-below v s (inr (inr h)) = omega arith
 
 -- what was read is a workload
 pub reached-closed : (versions : ℕ) (m : Machine) (spaces : List SpaceView) (evictions : List Evict) (turns : List ProcNo) → IsMachine versions m
-    → AreSpaces m spaces → length spaces ≡ m.count → AreEvictions m evictions → AreTurns m turns → IsReached versions (Closed (workload m spaces evictions turns))
+    → AreSpaces m spaces → length spaces ≡ m.count → AreEvictions m evictions → AreTurns m turns
+    → IsReached versions (Closed (workload m spaces evictions turns))
 reached-closed versions m spaces evictions turns k a c e t = (
   record {
     some_processor = k.processors.0;

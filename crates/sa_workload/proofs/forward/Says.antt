@@ -88,8 +88,10 @@ heard-push lines line = λ i. record {
         by_test true = last_line-push (filter test lines) line
         by_test false = ap last_line (append-nil (filter test lines))
 
-    count_pushed : (word : List ℕ) → count_of_word (lines ++ line ∷ []) word ≡ (if bytes_eq (first_word line) word then count_of_word lines word + 1 else count_of_word lines word)
-    count_pushed word = sum_by_push (λ (l : List (List ℕ)). if bytes_eq (first_word l) word then 1 else 0) lines line ∙ by_test (bytes_eq (first_word line) word)
+    count_pushed : (word : List ℕ)
+        → count_of_word (lines ++ line ∷ []) word ≡ (if bytes_eq (first_word line) word then count_of_word lines word + 1 else count_of_word lines word)
+    count_pushed word = sum_by_push (λ (l : List (List ℕ)). if bytes_eq (first_word l) word then 1 else 0) lines line
+        ∙ by_test (bytes_eq (first_word line) word)
       where
         by_test : (b : Bool) → count_of_word lines word + (if b then 1 else 0) ≡ (if b then count_of_word lines word + 1 else count_of_word lines word)
         by_test true = refl
@@ -101,12 +103,12 @@ OfMachine h m =
     (h.lasts (codes "workload") ≡ version_line m.version) × (h.lasts (codes "processors") ≡ processors_line m.processors)
     × (h.lasts (codes "spaces") ≡ spaces_line m.count)
 
--- so many spaces began, with or without a patience of their own, and no eviction or turn
+-- this number of spaces began, with or without a patience of their own, and no eviction or turn
 abbrev Began : Heard → ℕ → Bool → Type 0
 Began h spaces patient =
     (h.counts (codes "space") ≡ spaces) × (h.patient ≡ patient) × (h.counts (codes "evict") ≡ 0) × (h.counts (codes "turn") ≡ 0)
 
--- behind the processors
+-- after the processors
 abbrev BeforeSpaces : Heard → ℕ → ℕ → Type 0
 BeforeSpaces h version processors =
     Began h 0 true × (h.lasts (codes "workload") ≡ version_line version) × (h.lasts (codes "processors") ≡ processors_line processors)
@@ -115,13 +117,13 @@ BeforeSpaces h version processors =
 abbrev pub is_patient : ℕ → SpaceView → Bool
 is_patient version s = number_in (space_line version s) 6 == 1
 
--- behind the first line of a space
+-- after the first line of a space
 abbrev InSpace : Heard → Machine → List SpaceView → Draft → Type 0
 InSpace h m spaces d =
     OfMachine h m × Began h (length spaces + 1) (is_patient m.version (space_of_draft d) && list_all (is_patient m.version) spaces)
     × (h.lasts (codes "space") ≡ draft_line m.version d)
 
--- what the lines behind which a position stands say, as far as the lines to come are read by it
+-- what the lines before a position say, as far as the lines to come are read by it
 abbrev pub Says : Heard → Position → Type 0
 Says h AtVersion = Began h 0 true
 Says h (AtProcessors v) = Began h 0 true × (h.lasts (codes "workload") ≡ version_line v)
@@ -152,7 +154,13 @@ says-after_instr h m spaces d len instrs s none =
     (λ _. cond_both (length done.programs == done.program_count) (after_spaces m more) (AtProgram m spaces done) (Says h)
     (λ _. cond_both (length more == m.count) (AtEvict m more []) (AtSpace m more) (Says h) (λ _. (s.0.0, s.0.1.2, s.0.1.3, none)) (λ _. (
       s.0.0,
-      (s.0.1.0 ∙ sym (length_push spaces (space_of_draft done)), s.0.1.1 ∙ sym (list_all-push (is_patient m.version) spaces (space_of_draft done)), s.0.1.2, s.0.1.3),
+      (
+        s.0.1.0 ∙ sym (length_push spaces (space_of_draft done)),
+        s.0.1.1
+            ∙ sym (list_all-push (is_patient m.version) spaces (space_of_draft done)),
+        s.0.1.2,
+        s.0.1.3,
+      ),
     ))) (λ _. s.0)) (λ _. s)
   where
     done : Draft
@@ -168,7 +176,7 @@ instr-says : (h : Heard) (m : Machine) (spaces : List SpaceView) (d : Draft) (le
 instr-says h m spaces d len instrs Operations.End others s = (s, refl)
 instr-says h m spaces d len instrs _ others s = (s, refl)
 
--- behind a step the lines say what the next position says
+-- after a step the lines say what the next position says
 pub says-next : (versions : ℕ) (h : Heard) (p : Position) (line : List (List ℕ)) (q : Position) → Steps p line q
     → IsReached versions p → IsReached versions q → Says h p → Says (hear h line) q
 says-next versions h p line q (step_version v) r k s = (s, refl)

@@ -68,7 +68,8 @@ draft_whole version d e f = λ i.
 spaces_push : (m : Machine) (spaces : List SpaceView) (s : SpaceView) → shown_spaces m (spaces ++ s ∷ []) ≡ shown_spaces m spaces ++ space_lines m.version s
 spaces_push m spaces s =
     ap (λ (ls : Lines). shown_machine m ++ ls)
-    (flat_map-append (space_lines m.version) spaces (s ∷ []) ∙ ap (λ (ls : Lines). flat_map (space_lines m.version) spaces ++ ls) (append-nil (space_lines m.version s)))
+    (flat_map-append (space_lines m.version) spaces (s ∷ [])
+    ∙ ap (λ (ls : Lines). flat_map (space_lines m.version) spaces ++ ls) (append-nil (space_lines m.version s)))
     ∙ sym (append_assoc (shown_machine m) (flat_map (space_lines m.version) spaces) (space_lines m.version s))
 
 pub after_program-shown : (m : Machine) (spaces : List SpaceView) (d : Draft) → length d.sems ≡ d.sem_count
@@ -83,8 +84,10 @@ programs_push : (version : ℕ) (d : Draft) (p : List Instr) → shown_draft ver
 programs_push version d p =
     ap (λ (ls : Lines). draft_line version d ∷ (map sem_line d.sems ++ (map absent_line d.absent ++ ls)))
     (flat_map-append program_lines d.programs (p ∷ []) ∙ ap (λ (ls : Lines). flat_map program_lines d.programs ++ ls) (append-nil (program_lines p)))
-    ∙ ap (λ (ls : Lines). draft_line version d ∷ (map sem_line d.sems ++ ls)) (sym (append_assoc (map absent_line d.absent) (flat_map program_lines d.programs) (program_lines p)))
-    ∙ ap (λ (ls : Lines). draft_line version d ∷ ls) (sym (append_assoc (map sem_line d.sems) (map absent_line d.absent ++ flat_map program_lines d.programs) (program_lines p)))
+    ∙ ap (λ (ls : Lines). draft_line version d ∷ (map sem_line d.sems ++ ls))
+    (sym (append_assoc (map absent_line d.absent) (flat_map program_lines d.programs) (program_lines p)))
+    ∙ ap (λ (ls : Lines). draft_line version d ∷ ls)
+    (sym (append_assoc (map sem_line d.sems) (map absent_line d.absent ++ flat_map program_lines d.programs) (program_lines p)))
 
 pub after_instr-shown : (m : Machine) (spaces : List SpaceView) (d : Draft) (len : ℕ) (instrs : List Instr) → length d.sems ≡ d.sem_count
     → shown (after_instr m spaces d len instrs) ≡ shown_spaces m spaces ++ (shown_draft m.version d ++ (program_line len ∷ map instr_line instrs))
@@ -121,7 +124,7 @@ closing m spaces evictions turns e f =
     ∙ ap (λ (ls : Lines). shown_spaces m spaces ++ ls) (sym (append_assoc (map evict_line evictions) (map turn_line turns) (close_line ∷ [])))
     ∙ sym (append_assoc (shown_spaces m spaces) (map evict_line evictions ++ map turn_line turns) (close_line ∷ []))
 
--- a step shows its line behind those before it
+-- a step shows its line after those before it
 pub shown-step : (versions : ℕ) (p : Position) (line : List (List ℕ)) (q : Position) → Steps p line q → IsReached versions p → shown q ≡ shown p ++ line ∷ []
 shown-step versions p line q (step_version v) h = refl
 shown-step versions p line q (step_processors v n) h = refl
@@ -152,7 +155,8 @@ shown-step versions p line q (step_program m spaces d len) h =
 shown-step versions p line q (step_instr m spaces d len instrs i) h =
     after_instr-shown m spaces d len (instrs ++ i ∷ []) h.3
     ∙ ap (λ (ls : Lines). shown_spaces m spaces ++ (shown_draft m.version d ++ (program_line len ∷ ls))) (map_push instr_line instrs i)
-    ∙ ap (λ (ls : Lines). shown_spaces m spaces ++ ls) (sym (append_assoc (shown_draft m.version d) (program_line len ∷ map instr_line instrs) (instr_line i ∷ [])))
+    ∙ ap (λ (ls : Lines). shown_spaces m spaces ++ ls)
+    (sym (append_assoc (shown_draft m.version d) (program_line len ∷ map instr_line instrs) (instr_line i ∷ [])))
     ∙ sym (append_assoc (shown_spaces m spaces) (shown_draft m.version d ++ (program_line len ∷ map instr_line instrs)) (instr_line i ∷ []))
 shown-step versions p line q (step_evict m spaces evictions e) h =
     ap (λ (ls : Lines). shown_spaces m spaces ++ ls) (map_push evict_line evictions e)

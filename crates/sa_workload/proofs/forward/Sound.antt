@@ -39,7 +39,8 @@ pub record Took (versions : ℕ) (p : Position) (word : List ℕ) (words : List 
   pub order : order_cause (last_numbers p word) numbers ≡ None
   pub to : step p word numbers ≡ Ok q
 
-pub took : (versions : ℕ) (p : Position) (word : List ℕ) (words : List (List ℕ)) (q : Position) → next_by versions p word words ≡ Ok q → Took versions p word words q
+pub took : (versions : ℕ) (p : Position) (word : List ℕ) (words : List (List ℕ)) (q : Position) → next_by versions p word words ≡ Ok q
+    → Took versions p word words q
 took versions p word words q h =
     elim (if_either (is_some (index_of word (expected p))) _ (Err 2) (Ok q) h) [
       | inr none ↦ absurd (cc (none.1))
@@ -61,14 +62,15 @@ abbrev Lands : ℕ → Position → List (List ℕ) → Result Position ℕ → 
 Lands versions p line (Ok q) = GoesTo versions p line q
 Lands versions p line (Err why) = Unit {0}
 
--- right numbers behind a word are a step to a reached position
+-- right numbers after a word are a step to a reached position
 abbrev Sound : ℕ → Position → List ℕ → Type 0
 Sound versions p word =
     (ns : List ℕ) → AllPass (fields_of versions p word) ns → is_full p word ≡ false → order_cause (last_numbers p word) ns ≡ None
     → Lands versions p (word ∷ spelled_all (fields_of versions p word) ns) (step p word ns)
 
 -- what holds of all numbers that pass, a number at a time
-number : (G : List ℕ → Type 0) (f : Field) (fs : List Field) → ((n : ℕ) → Passes f n → (ns : List ℕ) → AllPass fs ns → G (n ∷ ns)) → (ns : List ℕ) → AllPass (f ∷ fs) ns → G ns
+number : (G : List ℕ → Type 0) (f : Field) (fs : List Field) → ((n : ℕ) → Passes f n → (ns : List ℕ) → AllPass fs ns → G (n ∷ ns)) → (ns : List ℕ)
+    → AllPass (f ∷ fs) ns → G ns
 number G f fs go [] h = absurd h
 number G f fs go (n ∷ ns) h = go n h.0 ns h.1
 
@@ -82,7 +84,8 @@ between G low high go = number G (within low high) [] (λ n h. none _ (go n (wit
 -- the patience of a space line, by whether it has one
 patience_of : (b : Bool) (low : ℕ) (rest : List ℕ) → 1 ≤ low → AllPass (if b then within low MAX_PATIENCE ∷ [] else []) rest
     → (spelled_all (if b then within low MAX_PATIENCE ∷ [] else []) rest ≡ (if b then decimal (if b then slice_index rest 0 else 1) ∷ [] else []))
-    × ((1 ≤ (if b then slice_index rest 0 else 1)) × ((if b then slice_index rest 0 else 1) ≤ MAX_PATIENCE)) × (b ≡ true → low ≤ (if b then slice_index rest 0 else 1))
+    × ((1 ≤ (if b then slice_index rest 0 else 1)) × ((if b then slice_index rest 0 else 1) ≤ MAX_PATIENCE))
+    × (b ≡ true → low ≤ (if b then slice_index rest 0 else 1))
 patience_of true low [] some h = absurd h
 patience_of true low (n ∷ []) some h = let a = within-passes low MAX_PATIENCE n h.0 in (refl, (omega (arith, a.0), a.1), λ _. a.0)
 patience_of true low (n ∷ m ∷ rest) some h = absurd h.1
@@ -153,7 +156,8 @@ instr_goes versions m spaces d len instrs word r known ns pass room order =
           (λ last. end_of i.instr (not_both (length instrs + 1 == len) (is_end i.instr) fine (eq-eqb (length instrs + 1) len last)));
     })))
 
-above_last : (pages : List ℕ) (k : ℕ) → order_cause (option_map (λ page. page ∷ []) (last_of pages)) (k ∷ []) ≡ None → 0 < length pages → slice_index pages (length pages - 1) < k
+above_last : (pages : List ℕ) (k : ℕ) → order_cause (option_map (λ page. page ∷ []) (last_of pages)) (k ∷ []) ≡ None → 0 < length pages
+    → slice_index pages (length pages - 1) < k
 above_last pages k o some =
     let less : list_lt (get_or pages (length pages - 1) 0 ∷ []) (k ∷ []) ≡ true =
     order-none (get_or pages (length pages - 1) 0 ∷ []) (k ∷ []) refl
@@ -161,7 +165,8 @@ above_last pages k o some =
     elim (before_heads (get_or pages (length pages - 1) 0) k [] [] less) [ inl l ↦ l | inr x ↦ absurd (cc (x.1)) ]
 
 -- an eviction
-evict_goes : (versions : ℕ) (m : Machine) (spaces : List SpaceView) (es : List Evict) → IsReached versions (AtEvict m spaces es) → Sound versions (AtEvict m spaces es) (codes "evict")
+evict_goes : (versions : ℕ) (m : Machine) (spaces : List SpaceView) (es : List Evict) → IsReached versions (AtEvict m spaces es)
+    → Sound versions (AtEvict m spaces es) (codes "evict")
 evict_goes versions m spaces es r =
     number _ (within 1 MAX_EVENTS) (declared m.count ∷ within 0 LAST_PAGE ∷ []) (λ a ha. number _ (declared m.count) (within 0 LAST_PAGE ∷ []) (λ b hb.
     between _ 0 LAST_PAGE (λ c page room order.
@@ -175,7 +180,8 @@ evict_goes versions m spaces es r =
         r.2,
         record {
           few = omega (arith, length_push es this, leb-false MAX_EVICTIONS (length es) room);
-          each = All-push (IsEviction m.count) es this r.3.each (record { first = event.0; last = event.1; space = declared-passes m.count b hb; page = page.1 });
+          each = All-push (IsEviction m.count) es this r.3.each
+              (record { first = event.0; last = event.1; space = declared-passes m.count b hb; page = page.1 });
           rise = λ k d. rise-push IsBefore es this d (λ j. r.3.rise j d) (λ some. evict_before (get_or es (length es - 1) d) this
               (order-none (evict_numbers (get_or es (length es - 1) d)) (a ∷ b ∷ c ∷ []) refl
               (ap (λ (l : Option Evict). order_cause (option_map evict_numbers l) (a ∷ b ∷ c ∷ [])) (sym (last_is es d some)) ∙ order))) k;
@@ -183,14 +189,18 @@ evict_goes versions m spaces es r =
       );
     })))
 
-among : (versions : ℕ) (p : Position) (word : List ℕ) → AllByRecursion (Sound versions p) (expected p) → is_some (index_of word (expected p)) ≡ true → Sound versions p word
+among : (versions : ℕ) (p : Position) (word : List ℕ) → AllByRecursion (Sound versions p) (expected p) → is_some (index_of word (expected p)) ≡ true
+    → Sound versions p word
 among versions p word = by_word (expected p) word (Sound versions p)
 
 -- each line of a word that is expected
-lands : (versions : ℕ) → versions ≤ 3 → (p : Position) (word : List ℕ) → IsReached versions p → is_some (index_of word (expected p)) ≡ true → Sound versions p word
-lands versions three AtVersion word r = among versions AtVersion word (between _ 1 versions (λ n a room order. record { step = step_version n; reached = a }), tt)
+lands : (versions : ℕ) → versions ≤ 3 → (p : Position) (word : List ℕ) → IsReached versions p → is_some (index_of word (expected p)) ≡ true
+    → Sound versions p word
+lands versions three AtVersion word r =
+    among versions AtVersion word (between _ 1 versions (λ n a room order. record { step = step_version n; reached = a }), tt)
 lands versions three (AtProcessors v) word r =
-    among versions (AtProcessors v) word (between _ 1 MAX_PROCESSORS (λ n a room order. record { step = step_processors v n; reached = (r.0, r.1, a.0, a.1) }), tt)
+    among versions (AtProcessors v) word
+    (between _ 1 MAX_PROCESSORS (λ n a room order. record { step = step_processors v n; reached = (r.0, r.1, a.0, a.1) }), tt)
 lands versions three (AtFetch v k) word r = among versions (AtFetch v k) word (
   between _ 1 MAX_FETCH (λ n a room order. record {
     step = step_fetch v k n;
@@ -203,7 +213,14 @@ lands versions three (AtFetch v k) word r = among versions (AtFetch v k) word (
 lands versions three (AtSlice v k f) word r = among versions (AtSlice v k f) word (
   between _ (if v == 3 then 0 else 1) MAX_SLICE (λ n a room order. record {
     step = step_slice v k f n;
-    reached = (r.1, r.2, r.3, r.4, r.5, can_slice v n r.0 (omega (arith, r.1)) (λ other. subst (λ (b : Bool). (if b then 0 else 1) ≤ n) (ne_eqb v 3 other) a.0) a.1);
+    reached = (
+      r.1,
+      r.2,
+      r.3,
+      r.4,
+      r.5,
+      can_slice v n r.0 (omega (arith, r.1)) (λ other. subst (λ (b : Bool). (if b then 0 else 1) ≤ n) (ne_eqb v 3 other) a.0) a.1,
+    );
   }),
   tt,
 )
@@ -254,9 +271,22 @@ lands versions three (AtEvict m spaces es) word r = among versions (AtEvict m sp
   (
     between _ 0 (m.processors - 1) (λ n a room order. record {
       step = step_first_turn m spaces es (turn_from (n ∷ []));
-      reached = (r.0, r.1, r.2, r.3, more_turns m [] (turn_from (n ∷ [])) (record { few = omega arith; each = All-nil _ }) (omega (arith, a.1, r.0.processors.0)) (omega arith), omega arith);
+      reached = (
+        r.0,
+        r.1,
+        r.2,
+        r.3,
+        more_turns m [] (turn_from (n ∷ [])) (record { few = omega arith; each = All-nil _ }) (omega (arith, a.1, r.0.processors.0)) (omega arith),
+        omega arith,
+      );
     }),
-    (none _ (λ room order. record { step = step_first_close m spaces es; reached = reached-closed versions m spaces es [] r.0 r.1 r.2 r.3 (record { few = omega arith; each = All-nil _ }) }), tt),
+    (
+      none _ (λ room order. record {
+        step = step_first_close m spaces es;
+        reached = reached-closed versions m spaces es [] r.0 r.1 r.2 r.3 (record { few = omega arith; each = All-nil _ });
+      }),
+      tt,
+    ),
   ),
 )
 lands versions three (AtTurn m spaces es ts) word r = among versions (AtTurn m spaces es ts) word (
@@ -280,4 +310,5 @@ pub sound : (versions : ℕ) → versions ≤ 3 → (p : Position) (word : List 
     → Took versions p word words q → GoesTo versions p (word ∷ words) q
 sound versions three p word words q r t =
     subst (λ (ws : List (List ℕ)). GoesTo versions p (word ∷ ws) q) (sym t.line)
-    (subst (Lands versions p (word ∷ spelled_all (fields_of versions p word) t.numbers)) t.to (lands versions three p word r t.known t.numbers t.passes t.room t.order))
+    (subst (Lands versions p (word ∷ spelled_all (fields_of versions p word) t.numbers)) t.to
+    (lands versions three p word r t.known t.numbers t.passes t.room t.order))

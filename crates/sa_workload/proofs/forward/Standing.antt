@@ -1,4 +1,4 @@
--- Where a reader stands behind lines: what it keeps, and which words it expects.
+-- Where a reader is after lines: what it keeps, and which words it expects.
 use Rattle.std.proofs.Common.{◌≡◌, ◌⊎◌, ℕ, ◌≤◌, not, Bool, true, false, List, [], ◌∷◌, ◌++◌, Contains, Result, Ok, codes, refl, sym, ap, ◌∙◌, subst, inl, inr, arith, append_assoc}
 use Rattle.std.specs.Option.{is_some}
 use Rattle.std.specs.List.{list_all}
@@ -23,7 +23,7 @@ use Rattle.sa_workload.proofs.forward.Says.{Heard, heard, heard-push, Says, says
 use Rattle.sa_workload.proofs.forward.Sound.{took, GoesTo, sound}
 use Rattle.sa_workload.proofs.forward.Complete.{version_is, run, run-append, run-then, complete}
 
--- behind a line with one of the repeated words the word is expected again
+-- after a line with one of the repeated words the word is expected again
 abbrev Repeats : Position → List ℕ → Type 0
 Repeats q word = Contains repeated_words word → is_some (index_of word (expected q)) ≡ true
 
@@ -42,7 +42,7 @@ repeats p line q (step_first_turn m spaces es t) = λ c. refl
 repeats p line q (step_turn m spaces es ts t) = λ c. refl
 repeats p line q _ = not_repeated q (first_word line) refl
 
--- a reader of so many versions stands here behind the lines that the position shows
+-- a reader of that many versions is here after the lines that the position shows
 pub record IsAt (versions : ℕ) (p : Position) : Type 0 where
   pub run_is : run versions AtVersion (shown p) ≡ Ok p
   pub reached : IsReached versions p
@@ -64,12 +64,13 @@ at_next versions three p q (word ∷ words) a h =
         reached = goes.reached;
         says = subst (λ (h : Heard). Says h q) (sym (ap heard s ∙ heard-push (shown p) (word ∷ words)))
             (says-next versions (heard (shown p)) p (word ∷ words) q goes.step a.reached goes.reached a.says);
-        again = subst (λ (l : List (List ℕ)). Repeats q (first_word l)) (sym (ap last_line s ∙ last_line-push (shown p) (word ∷ words))) (repeats p (word ∷ words) q goes.step);
+        again = subst (λ (l : List (List ℕ)). Repeats q (first_word l)) (sym (ap last_line s ∙ last_line-push (shown p) (word ∷ words)))
+            (repeats p (word ∷ words) q goes.step);
       },
       s,
     )
 
--- there are so many versions
+-- the number of versions is in range
 pub record Setting (versions : ℕ) : Type 0 where
   pub one : 1 ≤ versions
   pub few : versions ≤ 3
@@ -101,7 +102,8 @@ begins-next versions s p line a b =
     let whole : run versions AtVersion (shown p ++ (line ∷ b.more)) ≡ Ok (Closed b.workload) =
     ap (run versions AtVersion) (sym (b.text ∙ append_assoc (shown p) (line ∷ []) b.more)) ∙ complete versions b.workload k.workload s.few k.version in
     let behind : run versions p (line ∷ b.more) ≡ Ok (Closed b.workload) =
-    ap (λ (r : Result Position ℕ). and_then r (λ q. run versions q (line ∷ b.more))) (sym a.run_is) ∙ sym (run-append versions AtVersion (shown p) (line ∷ b.more)) ∙ whole in
+    ap (λ (r : Result Position ℕ). and_then r (λ q. run versions q (line ∷ b.more))) (sym a.run_is)
+    ∙ sym (run-append versions AtVersion (shown p) (line ∷ b.more)) ∙ whole in
     let q = and_then-ok (next versions p line) (λ q. run versions q b.more) (Closed b.workload) behind in
     (q.0, q.1)
 
@@ -109,7 +111,8 @@ pub begins : (versions : ℕ) → Setting versions → (p : Position) → IsAt v
 begins versions s p a = completes versions s.one s.few p a.reached
 
 -- the lines of a workload are read to their end alone
-pub whole_lines : (versions : ℕ) → Setting versions → (p : Position) (w : WorkloadView) → IsAt versions p → IsUpTo versions w → workload_lines w ≡ shown p → p ≡ Closed w
+pub whole_lines : (versions : ℕ) → Setting versions → (p : Position) (w : WorkloadView) → IsAt versions p → IsUpTo versions w → workload_lines w ≡ shown p
+    → p ≡ Closed w
 whole_lines versions s p w a h e =
     same_ok p (Closed w) (sym a.run_is ∙ ap (run versions AtVersion) (sym e) ∙ complete versions w h.workload s.few h.version)
 
@@ -132,15 +135,18 @@ instrs_together p word first known h t =
       | inl all ↦ subst (λ (ks : List (List ℕ)). is_some (index_of word ks) ≡ true) (sym all) h
       | inr none ↦
           let test : List ℕ → Bool = λ word. not (is_some (index_of word instr_words)) in
-          absurd (cc (sym (ap not t) ∙ All-contains (λ (k : List ℕ). test k ≡ true) (expected p) first (AllPass-from_list_all test (expected p) none) (contained (expected p) first known)))
+          absurd (cc (sym (ap not t) ∙ All-contains (λ (k : List ℕ). test k ≡ true) (expected p) first (AllPass-from_list_all test (expected p) none)
+          (contained (expected p) first known)))
     ]
 
 -- the words that may begin a line are expected
-follows : (versions : ℕ) → Setting versions → (p : Position) (word : List ℕ) → IsAt versions p → MayFollow versions (shown p) word → is_some (index_of word (expected p)) ≡ true
+follows : (versions : ℕ) → Setting versions → (p : Position) (word : List ℕ) → IsAt versions p → MayFollow versions (shown p) word
+    → is_some (index_of word (expected p)) ≡ true
 follows versions s p word a f =
     let n = begins-next versions s p (word ∷ f.others) a f.begins in (took versions p word f.others n.0 n.1).known
 
-pub expected_words : (versions : ℕ) → Setting versions → (p : Position) (word : List ℕ) → IsAt versions p → IsRightWord versions (shown p) word → is_some (index_of word (expected p)) ≡ true
+pub expected_words : (versions : ℕ) → Setting versions → (p : Position) (word : List ℕ) → IsAt versions p → IsRightWord versions (shown p) word
+    → is_some (index_of word (expected p)) ≡ true
 expected_words versions s p word a (inl f) = follows versions s p word a f
 expected_words versions s p word a (inr (inl i)) =
     instrs_together p word i.1.0 (follows versions s p i.1.0 a i.1.2) (known_word instr_words word i.0) (known_word instr_words i.1.0 i.1.1)

@@ -30,7 +30,7 @@ words_split : (xs : List LineText) (line : LineText) (ys : List LineText)
 words_split xs line ys =
     map-append (λ (l : LineText). pieces_of l.bytes) xs (line ∷ ys) ∙ sym (append_assoc (words_of xs) (pieces_of line.bytes ∷ []) (words_of ys))
 
--- what a bad line says of its place, where it is missing and where it stands
+-- what a bad line says of its place, where it is missing and where it is there
 abbrev AtEnd : ℕ → List LineText → ℕ → ℕ → Type 0
 AtEnd versions ls k why = (k ≡ length ls + 1) × ((w : WorkloadView) → IsUpTo versions w → workload_lines w ≢ words_of ls) × (why ≡ 9)
 
@@ -39,14 +39,15 @@ AtLine versions ls k why line =
     (line.ended ≡ true → ¬ Begins versions (words_of (take (k - 1) ls) ++ pieces_of line.bytes ∷ []))
     × LineCause versions (words_of (take (k - 1) ls)) line why
 
--- no line is bad behind a bad one
+-- no line is bad after a bad one
 bad_before : (versions : ℕ) (ls : List LineText) (k j why cause : ℕ) → IsBad versions ls k why → IsBad versions ls j cause → k < j → ⊥
 bad_before versions ls k j why cause a b below = pick (slice_get ls (k - 1)) refl a.wrong
   where
     pick : (o : Option LineText) → slice_get ls (k - 1) ≡ o → MatchOption o (AtEnd versions ls k why) (AtLine versions ls k why) → ⊥
     pick None e x =
         let past : slice_get ls (j - 1) ≡ None = slice_get_past ls (j - 1) (omega (arith, x.0)) in
-        let at_end : AtEnd versions ls j cause = subst (λ (o : Option LineText). MatchOption o (AtEnd versions ls j cause) (AtLine versions ls j cause)) past b.wrong in
+        let at_end : AtEnd versions ls j cause =
+        subst (λ (o : Option LineText). MatchOption o (AtEnd versions ls j cause) (AtLine versions ls j cause)) past b.wrong in
         absurd (omega (arith, x.0, at_end.0))
     pick (Some line) e x =
         let first : 1 ≤ k = a.number in
@@ -96,7 +97,8 @@ line_cause_one versions lines line why cause (inr (p, inr a)) (inr (q, inr b)) =
 bad_same : (versions : ℕ) (ls : List LineText) (k why cause : ℕ) → IsBad versions ls k why → IsBad versions ls k cause → why ≡ cause
 bad_same versions ls k why cause a b = pick (slice_get ls (k - 1)) a.wrong b.wrong
   where
-    pick : (o : Option LineText) → MatchOption o (AtEnd versions ls k why) (AtLine versions ls k why) → MatchOption o (AtEnd versions ls k cause) (AtLine versions ls k cause) → why ≡ cause
+    pick : (o : Option LineText) → MatchOption o (AtEnd versions ls k why) (AtLine versions ls k why)
+        → MatchOption o (AtEnd versions ls k cause) (AtLine versions ls k cause) → why ≡ cause
     pick None x y = x.2 ∙ sym y.2
     pick (Some line) x y = line_cause_one versions (words_of (take (k - 1) ls)) line why cause x.1 y.1
 

@@ -29,8 +29,9 @@ use Rattle.sa_workload.proofs.causes.LineAt.{many-Decides, LineAt, line_at}
 use Rattle.sa_workload.proofs.forward.Says.{reads, ordered-Decides}
 use Rattle.sa_workload.proofs.forward.Standing.{IsAt, Setting, at_first, at_next, begins, begins-next, expected_words}
 
--- a reader that went through lines stands behind them
-run-at : (versions : ℕ) → versions ≤ 3 → (ls : List (List (List ℕ))) (p q : Position) → IsAt versions p → run versions p ls ≡ Ok q → IsAt versions q × (shown q ≡ shown p ++ ls)
+-- a reader that went through lines is after them
+run-at : (versions : ℕ) → versions ≤ 3 → (ls : List (List (List ℕ))) (p q : Position) → IsAt versions p → run versions p ls ≡ Ok q
+    → IsAt versions q × (shown q ≡ shown p ++ ls)
 run-at versions three [] p q a h =
     let same : p ≡ q = same_ok p q h in
     (subst (IsAt versions) same a, ap shown (sym same) ∙ sym (append-nil (shown p)))
@@ -40,7 +41,7 @@ run-at versions three (l ∷ ls) p q a h =
     let c = run-at versions three ls n.0 q b.0 n.2 in
     (c.0, c.1 ∙ ap (λ (x : List (List (List ℕ))). x ++ ls) b.1 ∙ append_assoc (shown p) (l ∷ []) ls)
 
--- behind lines that begin a text a reader stands
+-- after lines that begin a text there is a reader
 pub stands : (versions : ℕ) → Setting versions → (lines : List (List (List ℕ))) → Begins versions lines → (p : Position) × IsAt versions p × (shown p ≡ lines)
 stands versions s lines b =
     let k = b.accepted in
@@ -69,7 +70,8 @@ ordered-numbers : (versions : ℕ) (n : DeclaredNumbers) (word : List ℕ) → i
 ordered-numbers versions n word h = by_word ordered_words word (λ (w : List ℕ). AreNumbers (fields_by versions n w)) (record {}, (record {}, tt)) h
 
 -- the numbers of right words
-right_numbers : (fs : List Field) (words : List (List ℕ)) → AreRight fs words → length words ≡ length fs → (ns : List ℕ) × AllPass fs ns × (words ≡ spelled_all fs ns)
+right_numbers : (fs : List Field) (words : List (List ℕ)) → AreRight fs words → length words ≡ length fs
+    → (ns : List ℕ) × AllPass fs ns × (words ≡ spelled_all fs ns)
 right_numbers fs words r long = by (fields_at fs words) refl r
   where
     whole : (ws rest : List (List ℕ)) → length (ws ++ rest) ≡ length ws → ws ++ rest ≡ ws
@@ -82,7 +84,7 @@ right_numbers fs words r long = by (fields_at fs words) refl r
         let f = fields-ok fs words read e in
         (read.0, f.1, f.0 ∙ whole (spelled_all fs read.0) read.1 (ap length (sym f.0) ∙ long ∙ sym (all_long fs read.0 f.1).1))
 
--- the words before the first wrong one, with numbers of another line behind them
+-- the words before the first wrong one, with numbers of another line after them
 record Mixed (fs : List Field) (words : List (List ℕ)) (why : ℕ) : Type 0 where
   place : ℕ
   within : place ≤ length words
@@ -94,13 +96,22 @@ record Mixed (fs : List Field) (words : List (List ℕ)) (why : ℕ) : Type 0 wh
 
 -- where the first word is right, another one is wrong
 later : (fs : List Field) (words : List (List ℕ)) (n why : ℕ) → behind fs words (Ok n) ≡ Err why → fields_at fs words ≡ Err why
-later fs words n why h = elim (and_then-err (fields_at fs words) (λ others. Ok (n ∷ others.0, others.1)) why h) [ inl wrong ↦ wrong | inr none ↦ absurd (cc none.2) ]
+later fs words n why h =
+    elim (and_then-err (fields_at fs words) (λ others. Ok (n ∷ others.0, others.1)) why h) [ inl wrong ↦ wrong | inr none ↦ absurd (cc none.2) ]
 
 mixed : (fs : List Field) (words : List (List ℕ)) (why : ℕ) (ms : List ℕ) → AllPass fs ms → fields_at fs words ≡ Err why → Mixed fs words why
 mixed [] words why ms pass w = absurd (cc w)
 mixed (f ∷ fs) words why [] pass w = absurd pass
 mixed (f ∷ fs) [] why (m ∷ ms) pass w =
-    record { place = 0; within = omega arith; numbers = m ∷ ms; passes = pass; others = spelled_all (f ∷ fs) (m ∷ ms); spelled_are = refl; wrong = λ l. absurd (omega arith) }
+    record {
+      place = 0;
+      within = omega arith;
+      numbers = m ∷ ms;
+      passes = pass;
+      others = spelled_all (f ∷ fs) (m ∷ ms);
+      spelled_are = refl;
+      wrong = λ l. absurd (omega arith);
+    }
 mixed (f ∷ fs) (word ∷ words) why (m ∷ ms) pass w = by (read_field f word) refl (λ v. mixed fs words why ms pass.1 v)
   where
     by : (r : Result ℕ ℕ) → read_field f word ≡ r → (fields_at fs words ≡ Err why → Mixed fs words why) → Mixed (f ∷ fs) (word ∷ words) why
@@ -151,7 +162,8 @@ wrong_at versions s p a word words why follow free_of wrong =
     let at : LineAt versions p word = line_at versions s.few p word a t.known in
     let here : fields_at (fields_of versions p word) words ≡ Err why = ap (λ (fs : List Field). fields_at fs words) (sym at.fields) ∙ wrong in
     let mix : Mixed (fields_of versions p word) words why = mixed (fields_of versions p word) words why t.numbers t.passes here in
-    let to = lead_alike (is_stuck p word) _ _ n.0 (step-leads versions p word t.numbers t.known t.passes) t.to (step-leads versions p word mix.numbers t.known mix.passes) in
+    let to = lead_alike (is_stuck p word) _ _ n.0 (step-leads versions p word t.numbers t.known t.passes) t.to
+    (step-leads versions p word mix.numbers t.known mix.passes) in
     let leads : next versions p (word ∷ spelled_all (fields_of versions p word) mix.numbers) ≡ Ok to.0 =
     take-line versions p word mix.numbers to.0 t.known t.room mix.passes (no_order at mix.numbers) to.1 in (
       mix.place,
@@ -220,7 +232,8 @@ stuck_at versions s p a word words right few are order long none =
     ap (λ (ws : List (List ℕ)). numbers_of (length fields) (word ∷ ws)) (ns.2 ∙ sym (append-nil (spelled_all fields ns.0))) in
     let in_order : order_cause (last_numbers p word) ns.0 ≡ None =
     ap (λ (x : Option (List ℕ)). order_cause x ns.0) (sym at.order)
-    ∙ ordered (is_ordered (last_line (shown p)) word) refl ns.0 ns.1 new (subst (λ (fs : List Field). IsInOrder (shown p) (length fs) (word ∷ words)) at.fields order) in
+    ∙ ordered (is_ordered (last_line (shown p)) word) refl ns.0 ns.1 new
+    (subst (λ (fs : List Field). IsInOrder (shown p) (length fs) (word ∷ words)) at.fields order) in
     by (is_stuck p word) (step-leads versions p word ns.0 known ns.1) (stuck_line p word known)
     (λ q e. none (subst (λ (ws : List (List ℕ)). Begins versions (shown p ++ (word ∷ ws) ∷ [])) (sym ns.2)
     (goes_on_with versions s p q (word ∷ spelled_all fields ns.0) a
@@ -234,7 +247,8 @@ stuck_at versions s p a word words right few are order long none =
 
     ordered : (b : Bool) → is_ordered (last_line (shown p)) word ≡ b → (ns : List ℕ) → AllPass fields ns
         → numbers_of (length fields) (word ∷ words) ≡ numbers_of (length fields) (word ∷ (spelled_all fields ns ++ []))
-        → IfSome (if b then Some old else None) (λ last. IsTrue (list_lt last (numbers_of (length fields) (word ∷ words)))) → order_cause (if b then Some old else None) ns ≡ None
+        → IfSome (if b then Some old else None) (λ last. IsTrue (list_lt last (numbers_of (length fields) (word ∷ words))))
+        → order_cause (if b then Some old else None) ns ≡ None
     ordered false t ns pass new o = refl
     ordered true t ns pass new o =
         let are : AreNumbers fields = ordered-numbers versions (numbers_at p) word (and_parts (is_some (index_of word ordered_words)) _ t).0 in
@@ -248,5 +262,6 @@ pub last_cause_is_no_end : (versions : ℕ) → Setting versions → LastCauseIs
 last_cause_is_no_end versions s lines word words b right few are order long none =
     let st = stands versions s lines b in
     subst (λ (ls : List (List (List ℕ))). IsRightWord versions ls word → ¬ IsTooMany ls word → AreRight (fields_behind versions ls word) words
-    → IsInOrder ls (length (fields_behind versions ls word)) (word ∷ words) → length words ≡ length (fields_behind versions ls word) → ¬ Begins versions (ls ++ (word ∷ words) ∷ []) → IsStuckLine ls word)
+    → IsInOrder ls (length (fields_behind versions ls word)) (word ∷ words) → length words ≡ length (fields_behind versions ls word)
+    → ¬ Begins versions (ls ++ (word ∷ words) ∷ []) → IsStuckLine ls word)
     st.2 (stuck_at versions s st.0 st.1 word words) right few are order long none

@@ -45,7 +45,8 @@ decimal-visible n h =
 
 -- the words of what is read are visible: each word that is expected, and what fields spell
 spelled-visible : (f : Field) (n : ℕ) → Passes f n → IsVisible (spelled f n)
-spelled-visible Register n h = All-append (λ b. (33 ≤ b) × (b ≤ 126)) (codes "r") (decimal n) (visible_by_test (codes "r") refl) (decimal-visible n (omega arith))
+spelled-visible Register n h =
+    All-append (λ b. (33 ≤ b) × (b ≤ 126)) (codes "r") (decimal n) (visible_by_test (codes "r") refl) (decimal-visible n (omega arith))
 spelled-visible (Number test cause) n h = decimal-visible n h.0
 
 all-visible : (fs : List Field) (ns : List ℕ) → AllPass fs ns → All IsVisible (spelled_all fs ns)
@@ -75,7 +76,8 @@ run-words versions ((word ∷ words) ∷ lines) p q h =
     let t = took versions p word words n.0 n.1 in
     All-cons IsWords (word ∷ words) lines (
       omega arith,
-      All-cons IsVisible word words (word-visible p word t.known) (subst (All IsVisible) (sym t.line) (all-visible (fields_of versions p word) t.numbers t.passes)),
+      All-cons IsVisible word words (word-visible p word t.known)
+          (subst (All IsVisible) (sym t.line) (all-visible (fields_of versions p word) t.numbers t.passes)),
     )
     (run-words versions lines n.0 q n.2)
 

@@ -51,7 +51,7 @@ printed_where_begins versions s lines bytes b =
     subst (λ (bs : List ℕ). IsPrinted bs) (join_with_byte-slice_split 32 bytes)
     (join-printed (pieces_of bytes) (All-head IsWords (pieces_of bytes) b.more here).1)
 
--- what is wrong with the line behind some lines
+-- what is wrong with the line after some lines
 abbrev IsBadLine : ℕ → List (List (List ℕ)) → LineText → ℕ → Type 0
 IsBadLine versions lines l why = (l.ended ≡ true → ¬ Begins versions (lines ++ pieces_of l.bytes ∷ [])) × LineCause versions lines l why
 
@@ -68,10 +68,16 @@ bad_line versions s p l why a h =
           let not : ¬ IsPrinted l.bytes = not_from_Decides _ (printed-Decides l.bytes) odd.0 in
           ((λ e b. not (printed_where_begins versions s (shown p) l.bytes b)), inl (not, sym (same_err {A = Position} 1 why odd.1)))
       | inl fine ↦ elim (if_either l.ended (next versions p (pieces_of l.bytes)) (Err 9) (Err why) fine.1) [
-        | inr unended ↦ ((λ e. absurd (false≢true (sym unended.0 ∙ e))), inr ((printed-Decides l.bytes).0 fine.0, inl (unended.0, sym (same_err {A = Position} 9 why unended.1))))
+        | inr unended ↦ (
+          (λ e. absurd (false≢true (sym unended.0 ∙ e))),
+          inr ((printed-Decides l.bytes).0 fine.0, inl (unended.0, sym (same_err {A = Position} 9 why unended.1))),
+        )
         | inl ended ↦ (
           (λ _. refused versions s p (pieces_of l.bytes) why a ended.1),
-          inr ((printed-Decides l.bytes).0 fine.0, inr (ended.0, words_cause versions s p (pieces_of l.bytes) why a (pieces_of-are_pieces l.bytes).some ended.1)),
+          inr (
+            (printed-Decides l.bytes).0 fine.0,
+            inr (ended.0, words_cause versions s p (pieces_of l.bytes) why a (pieces_of-are_pieces l.bytes).some ended.1),
+          ),
         )
       ]
     ]
@@ -86,7 +92,7 @@ right_line versions p q l h =
       ]
     ]
 
--- a reader stands behind these lines, each ended
+-- a reader is after these lines, each ended
 abbrev Ended : LineText → Type 0
 Ended l = l.ended ≡ true
 
@@ -95,13 +101,15 @@ record IsBehind (versions : ℕ) (p : Position) (front : List LineText) : Type 0
   ended : All Ended front
   lines : shown p ≡ words_of front
 
--- the place of a bad line, where it stands or is missing
+-- the place of a bad line, whether it is there or missing
 abbrev IsWrong : ℕ → List LineText → List LineText → ℕ → ℕ → Option LineText → Type 0
 IsWrong versions ls front k why o =
-    MatchOption o ((k ≡ length ls + 1) × ((w : WorkloadView) → IsUpTo versions w → workload_lines w ≢ words_of ls) × (why ≡ 9)) (λ line. IsBadLine versions (words_of front) line why)
+    MatchOption o ((k ≡ length ls + 1) × ((w : WorkloadView) → IsUpTo versions w → workload_lines w ≢ words_of ls) × (why ≡ 9))
+    (λ line. IsBadLine versions (words_of front) line why)
 
 bad_behind : (versions : ℕ) → Setting versions → (p : Position) (front rest : List LineText) (why : ℕ) → IsBehind versions p front
-    → IsWrong versions (front ++ rest) front (length front + 1) why (slice_get (front ++ rest) (length front)) → IsBad versions (front ++ rest) (length front + 1) why
+    → IsWrong versions (front ++ rest) front (length front + 1) why (slice_get (front ++ rest) (length front))
+    → IsBad versions (front ++ rest) (length front + 1) why
 bad_behind versions s p front rest why h wrong =
     let place : length front + 1 - 1 ≡ length front = omega arith in
     let taken : take (length front + 1 - 1) (front ++ rest) ≡ front = ap (λ (n : ℕ). take n (front ++ rest)) place ∙ take-append_seam front rest in
@@ -109,7 +117,9 @@ bad_behind versions s p front rest why h wrong =
       number = omega arith;
       ended = subst (All Ended) (sym taken) h.ended;
       begins = subst (λ (ls : List LineText). Begins versions (words_of ls)) (sym taken) (subst (Begins versions) h.lines (begins versions s p h.at));
-      wrong = subst (λ (ls : List LineText). IsWrong versions (front ++ rest) ls (length front + 1) why (slice_get (front ++ rest) (length front + 1 - 1))) (sym taken)
+      wrong =
+          subst (λ (ls : List LineText). IsWrong versions (front ++ rest) ls (length front + 1) why (slice_get (front ++ rest) (length front + 1 - 1)))
+          (sym taken)
           (subst (λ (n : ℕ). IsWrong versions (front ++ rest) front (length front + 1) why (slice_get (front ++ rest) n)) (sym place) wrong);
     }
 
@@ -122,7 +132,8 @@ missing : (versions : ℕ) → Setting versions → (p : Position) (front : List
     → IsBad versions (front ++ []) (length front + 1) 9
 missing versions s p front h still =
     bad_behind versions s p front [] 9 h
-    (subst (IsWrong versions (front ++ []) front (length front + 1) 9) (sym (slice_get_past (front ++ []) (length front) (omega (arith, ap length (append-nil front))))) (
+    (subst (IsWrong versions (front ++ []) front (length front + 1) 9)
+    (sym (slice_get_past (front ++ []) (length front) (omega (arith, ap length (append-nil front))))) (
       omega (arith, ap length (append-nil front)),
       (λ w a e. still w (whole_lines versions s p w h.at a (e ∙ ap words_of (append-nil front) ∙ sym h.lines))),
       refl,
@@ -134,14 +145,16 @@ ends versions s (Closed w) front h =
     (h.lines ∙ ap words_of (sym (append-nil front)), subst (All Ended) (sym (append-nil front)) h.ended, h.at.reached)
 ends versions s p front h = missing versions s p front h (λ w e. absurd (cc e))
 
-one_more : (versions : ℕ) → versions ≤ 3 → (p q : Position) (front : List LineText) (l : LineText) → IsBehind versions p front → line_in versions p l ≡ Ok q → IsBehind versions q (front ++ l ∷ [])
+one_more : (versions : ℕ) → versions ≤ 3 → (p q : Position) (front : List LineText) (l : LineText) → IsBehind versions p front → line_in versions p l ≡ Ok q
+    → IsBehind versions q (front ++ l ∷ [])
 one_more versions three p q front l h e =
     let r = right_line versions p q l e in
     let a = at_next versions three p q (pieces_of l.bytes) h.at r.1 in
     record {
       at = a.0;
       ended = All-push Ended front l h.ended r.0;
-      lines = a.1 ∙ ap (λ (ls : List (List (List ℕ))). ls ++ pieces_of l.bytes ∷ []) h.lines ∙ sym (map-append (λ (x : LineText). pieces_of x.bytes) front (l ∷ []));
+      lines = a.1 ∙ ap (λ (ls : List (List (List ℕ))). ls ++ pieces_of l.bytes ∷ []) h.lines
+          ∙ sym (map-append (λ (x : LineText). pieces_of x.bytes) front (l ∷ []));
     }
 
 outcome : (versions : ℕ) → Setting versions → (rest front : List LineText) (p : Position) → IsBehind versions p front
@@ -150,7 +163,8 @@ outcome versions s [] front p h = ends versions s p front h
 outcome versions s (l ∷ rest) front p h = by_line (line_in versions p l) refl (λ q k. outcome versions s rest (front ++ l ∷ []) q k)
   where
     by_line : (r : Result Position ℕ) → line_in versions p l ≡ r
-        → ((q : Position) → IsBehind versions q (front ++ l ∷ []) → IsOutcome versions ((front ++ l ∷ []) ++ rest) (read_from versions (length (front ++ l ∷ []) + 1) q rest))
+        → ((q : Position) → IsBehind versions q (front ++ l ∷ [])
+        → IsOutcome versions ((front ++ l ∷ []) ++ rest) (read_from versions (length (front ++ l ∷ []) + 1) q rest))
         → IsOutcome versions (front ++ l ∷ rest) (goes_on (length front + 1) r (λ q. read_from versions (length front + 1 + 1) q rest))
     by_line (Ok q) e later =
         let n : length (front ++ l ∷ []) + 1 ≡ length front + 1 + 1 = omega (arith, length-append front (l ∷ [])) in
@@ -174,7 +188,8 @@ pub record Answers (versions : ℕ) (bytes : List ℕ) (T : WorkloadView → Typ
   pub not_bad : (w : WorkloadView) (k why : ℕ) → T w → ¬ B k why
   pub once : (k j why cause : ℕ) → B k why → B j cause → (k ≡ j) × (why ≡ cause)
 
-answer : (versions : ℕ) (bytes : List ℕ) (T : WorkloadView → Type 0) (B : ℕ → ℕ → Type 0) (r : Result WorkloadView Bad) → IsOutcome versions (line_texts bytes) r
+answer : (versions : ℕ) (bytes : List ℕ) (T : WorkloadView → Type 0) (B : ℕ → ℕ → Type 0) (r : Result WorkloadView Bad)
+    → IsOutcome versions (line_texts bytes) r
     → ((w : WorkloadView) → workload_lines w ≡ words_of (line_texts bytes) → All Ended (line_texts bytes) → IsReached versions (Closed w) → T w)
     → ((k why : ℕ) → IsBad versions (line_texts bytes) k why → B k why) → MatchResult r T (λ bad. B bad.line bad.why)
 answer versions bytes T B (Ok w) h text bad = text w h.0 h.1 h.2
@@ -199,7 +214,8 @@ answers1 bytes = record {
   once = λ k j why cause a b. one-bad 1 (line_texts bytes) k j why cause a b;
 }
 
-pub either : {versions : ℕ} {bytes : List ℕ} {T : WorkloadView → Type 0} {B : ℕ → ℕ → Type 0} → Answers versions bytes T B → ((w : WorkloadView) × T w) ⊎ ((k why : ℕ) × B k why)
+pub either : {versions : ℕ} {bytes : List ℕ} {T : WorkloadView → Type 0} {B : ℕ → ℕ → Type 0} → Answers versions bytes T B
+    → ((w : WorkloadView) × T w) ⊎ ((k why : ℕ) × B k why)
 either {versions} {bytes} {T} {B} a = pick (read_of versions bytes) a.found
   where
     pick : (r : Result WorkloadView Bad) → MatchResult r T (λ bad. B bad.line bad.why) → ((w : WorkloadView) × T w) ⊎ ((k why : ℕ) × B k why)
@@ -213,7 +229,8 @@ pub record CallAnswers (T : WorkloadView → Type 0) (B : ℕ → ℕ → Type 0
   pub text : (w : WorkloadView) → T w → MatchResult r (λ read. read ≡ w) (λ unread. unread ≡ OutOfMemory)
   pub refused : (k why : ℕ) → B k why → MatchResult r (λ _. ⊥) (λ unread. IfBad unread (λ bad. (bad.line ≡ k) × (bad.why ≡ why)))
 
-pub call_answers : {versions : ℕ} {bytes : List ℕ} {T : WorkloadView → Type 0} {B : ℕ → ℕ → Type 0} → Answers versions bytes T B → (r : Result WorkloadView Unread)
+pub call_answers : {versions : ℕ} {bytes : List ℕ} {T : WorkloadView → Type 0} {B : ℕ → ℕ → Type 0} → Answers versions bytes T B
+    → (r : Result WorkloadView Unread)
     → IsReading (read_of versions bytes) r → CallAnswers T B r
 call_answers {versions} {bytes} {T} {B} a (Ok w) h =
     let t : T w = subst (λ (x : Result WorkloadView Bad). MatchResult x T (λ bad. B bad.line bad.why)) h a.found in

@@ -10,7 +10,8 @@ returns-in-len1 t c = no_pair string_bytes c.args.taken c.args.settings c.args.w
 pub returns-in_ok-settings-in-len2-up : goal.returns-in_ok-settings-in-len2-up
 returns-in_ok-settings-in-len2-up t c =
     c.read_settings.ensures
-    ∙ pair_first string_bytes c.args.taken c.args.settings c.in_ok-settings-in-len2-up.settings c.args.words.now c.name-item.result c.value-item.result c.in-len2-up.len_at_least c.name-item.is c.value-item.is
+    ∙ pair_first string_bytes c.args.taken c.args.settings c.in_ok-settings-in-len2-up.settings c.args.words.now c.name-item.result c.value-item.result
+    c.in-len2-up.len_at_least c.name-item.is c.value-item.is
     (ap (λ n. with_option c.args.taken c.args.settings n (string_bytes c.value-item.result)) (sym c.deref.ensures)
     ∙ ap (λ v. with_option c.args.taken c.args.settings c.deref.result.now v) (sym c.as_bytes.ensures.value)
     ∙ sym c.with_option.ensures ∙ c.in_ok-settings-in-len2-up.was)

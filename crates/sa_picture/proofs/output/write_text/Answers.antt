@@ -11,7 +11,8 @@ returns-in_err-write-clause-err g c =
 
 pub loop-rest-preserved : goal.loop-rest-preserved
 loop-rest-preserved g c =
-    let on = piece-taken _ (g.K.Sink.taken c.loop-rest.sink) (g.K.Sink.taken c.write.new.self) c.args.text.now c.loop-rest.invariant.written c.loop-rest.rest.now _ c.split_at.result.1.now _
+    let on = piece-taken _ (g.K.Sink.taken c.loop-rest.sink)
+    (g.K.Sink.taken c.write.new.self) c.args.text.now c.loop-rest.invariant.written c.loop-rest.rest.now _ c.split_at.result.1.now _
     c.loop-rest.invariant.text c.split_at.ensures.front c.split_at.ensures.back c.loop-rest.invariant.taken c.in_ok-write.ensures.taken in
     record {
       written = c.loop-rest.invariant.written ++ c.split_at.result.0.now;

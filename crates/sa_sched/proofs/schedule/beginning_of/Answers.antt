@@ -10,5 +10,8 @@ returns-in-Seed-clause-rest c =
     ap (λ g. Words g.increment g.state) c.seed_from_u64.ensures ∙ seeded c.in-Seed.seed ∙ sym (ap (λ k. whole (order_of k)) c.in-Seed.is)
 
 pub returns-in-Given-clause-order : goal.returns-in-Given-clause-order
-returns-in-Given-clause-order c =
-    (omega arith, All-from_map (λ p. p < c.args.processors) (λ p. p.0) c.in-Given.procs.items (subst (λ k. AreAmong c.args.processors (order_of k)) c.in-Given.is c.requires))
+returns-in-Given-clause-order c = (
+  omega arith,
+  All-from_map (λ p. p < c.args.processors) (λ p. p.0) c.in-Given.procs.items
+      (subst (λ k. AreAmong c.args.processors (order_of k)) c.in-Given.is c.requires),
+)

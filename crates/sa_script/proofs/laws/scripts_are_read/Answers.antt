@@ -6,4 +6,5 @@ pub returns-clause-read : goal.returns-clause-read
 returns-clause-read c = λ w text commands is. (script_of-ok w is text commands, script_of-text w is text commands)
 
 pub returns-clause-differ : goal.returns-clause-differ
-returns-clause-differ c = λ w text one other is a b. same_script (script_of w text) one other (script_of-text w is text one a) (script_of-text w is text other b)
+returns-clause-differ c =
+    λ w text one other is a b. same_script (script_of w text) one other (script_of-text w is text one a) (script_of-text w is text other b)

@@ -3,7 +3,7 @@ use Rattle.sa_text.specs.Line.{text_of_line}
 use Rattle.sa_script.specs.Reading.{script_of, read_from}
 use Rattle.sa_script.proofs.reading.read_script.Given as goal
 
--- behind the commands so far, the lines that are left are read as the whole text is
+-- after the commands so far, the lines that are left are read as the whole text is
 abbrev pub invariant-loop-line : goal.invariant-loop-line
 invariant-loop-line l =
     (l.lines.text ≡ l.bytes)

@@ -1,6 +1,6 @@
 use Rattle.std.proofs.Common.{◌≡◌, take}
 use Rattle.sa_spaces.proofs.workload.copy_spaces.Given as goal
 
--- so many spaces are copied
+-- the spaces before this one are copied
 abbrev pub invariant-loop-space : goal.invariant-loop-space
 invariant-loop-space l = l.copies.items ≡ take l.space-index l.spaces

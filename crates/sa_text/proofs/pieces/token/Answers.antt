@@ -4,4 +4,5 @@ use Rattle.sa_text.proofs.pieces.token.Goals as goal
 
 pub returns-clause-pieces : goal.returns-clause-pieces
 returns-clause-pieces c =
-    pieces_from-first c.args.text.now c.args.from c.args.line.now.end _ (omega arith) (omega arith) c.length_before.ensures.within c.length_before.ensures.before c.length_before.ensures.stopped
+    pieces_from-first c.args.text.now c.args.from c.args.line.now.end _ (omega arith)
+    (omega arith) c.length_before.ensures.within c.length_before.ensures.before c.length_before.ensures.stopped

@@ -2,7 +2,7 @@ use Rattle.std.proofs.Common.{◌≡◌, ◌++◌, length, drop, Ok}
 use Rattle.sa_trace.specs.Pieces.{and_then, fields_in}
 use Rattle.sa_trace.proofs.pieces.read_fields.Given as goal
 
--- behind the values so far, the fields that are left say what all fields say
+-- after the values so far, the fields that are left say what all fields say
 abbrev pub invariant-loop-field : goal.invariant-loop-field
 invariant-loop-field l =
     (length l.values.items ≡ l.field-index)

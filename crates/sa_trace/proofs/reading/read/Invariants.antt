@@ -3,7 +3,7 @@ use Rattle.sa_trace.specs.Reading.{read_of}
 use Rattle.sa_trace.specs.Reader.{in_front, left}
 use Rattle.sa_trace.proofs.reading.read.Given as goal
 
--- the items so far, and behind them what is left to tell, are what the whole text tells
+-- the items so far, and after them what is left to tell, are what the whole text tells
 abbrev pub invariant-loop-trace : goal.invariant-loop-trace
 invariant-loop-trace l = read_of l.bytes ≡ in_front l.trace.items (left l.reader)
 

@@ -4,7 +4,7 @@ use Rattle.sa_workload.specs.Stage.{field_of}
 use Rattle.sa_workload.proofs.calls.Calls.{Left}
 use Rattle.sa_workload.proofs.numbers.read_numbers.Given as goal
 
--- behind the numbers so far, the fields that are left are read as all fields are
+-- after the numbers so far, the fields that are left are read as all fields are
 abbrev pub invariant-loop-field : goal.invariant-loop-field
 invariant-loop-field l =
     (length l.numbers.items ≡ l.field-index)

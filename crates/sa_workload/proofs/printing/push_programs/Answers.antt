@@ -9,4 +9,6 @@ loop-program-preserved c =
     c.loop-program-test.true c.program-item.is c.loop-program.invariant c.in_ok-push_program.ensures
 
 pub returns : goal.returns
-returns c = pushed_each (λ p. flat_map line_text (program_lines p)) c.args.programs.now c.loop-program.program-index _ _ c.loop-program-test.false c.loop-program.invariant
+returns c =
+    pushed_each (λ p. flat_map line_text (program_lines p)) c.args.programs.now c.loop-program.program-index _ _ c.loop-program-test.false
+    c.loop-program.invariant

@@ -5,8 +5,11 @@ use Rattle.sa_workload.proofs.printing.push_spaces.Goals as goal
 
 pub loop-space-preserved : goal.loop-space-preserved
 loop-space-preserved c =
-    pushed_more (λ s. flat_map line_text (space_lines c.args.version s)) c.args.spaces.now c.loop-space.space-index c.space-item.result c.space-item.result _ _ _
+    pushed_more (λ s. flat_map line_text (space_lines c.args.version s)) c.args.spaces.now c.loop-space.space-index c.space-item.result
+    c.space-item.result _ _ _
     c.loop-space-test.true c.space-item.is c.loop-space.invariant c.in_ok-push_space.ensures
 
 pub returns : goal.returns
-returns c = pushed_each (λ s. flat_map line_text (space_lines c.args.version s)) c.args.spaces.now c.loop-space.space-index _ _ c.loop-space-test.false c.loop-space.invariant
+returns c =
+    pushed_each (λ s. flat_map line_text (space_lines c.args.version s)) c.args.spaces.now c.loop-space.space-index _ _ c.loop-space-test.false
+    c.loop-space.invariant

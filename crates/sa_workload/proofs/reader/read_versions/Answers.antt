@@ -19,9 +19,11 @@ loop-line-init c = rw c.new-reader.ensures (
 pub loop-line-preserved : goal.loop-line-preserved
 loop-line-preserved c = (
   c.in-Some.ensures.text ∙ c.loop-line.invariant.0,
-  reached_behind c.args.versions c.requires (position_of c.loop-line.reader) (position_of c.read_line.new.self) (text_of_line c.args.bytes.now c.in-Some.line) c.loop-line.invariant.1 c.in_default-read_line.ensures,
+  reached_behind c.args.versions c.requires (position_of c.loop-line.reader) (position_of c.read_line.new.self)
+      (text_of_line c.args.bytes.now c.in-Some.line) c.loop-line.invariant.1 c.in_default-read_line.ensures,
   c.loop-line.invariant.2
       ∙ read_on c.args.versions c.loop-line.lines.number c.next.new.self.number (position_of c.loop-line.reader) (position_of c.read_line.new.self)
-      (map (text_of_line c.args.bytes.now) c.loop-line.lines.left) (map (text_of_line c.args.bytes.now) c.next.new.self.left) (text_of_line c.args.bytes.now c.in-Some.line)
+      (map (text_of_line c.args.bytes.now) c.loop-line.lines.left) (map (text_of_line c.args.bytes.now) c.next.new.self.left)
+      (text_of_line c.args.bytes.now c.in-Some.line)
       (ap (map (text_of_line c.args.bytes.now)) c.in-Some.ensures.first) c.in-Some.ensures.number.1 c.in_default-read_line.ensures,
 )

@@ -5,7 +5,7 @@ use Rattle.sa_workload.specs.Reading.{read_of, read_from}
 use Rattle.sa_workload.specs.Stage.{position_of}
 use Rattle.sa_workload.proofs.reader.read_versions.Given as goal
 
--- from the position behind the lines so far, the lines that are left are read as the whole text is
+-- from the position after the lines so far, the lines that are left are read as the whole text is
 abbrev pub invariant-loop-line : goal.invariant-loop-line
 invariant-loop-line l =
     (l.lines.text ≡ l.bytes) × IsReached l.versions (position_of l.reader)

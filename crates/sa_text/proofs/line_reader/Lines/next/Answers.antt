@@ -9,6 +9,8 @@ pub returns-clause-first : goal.returns-clause-first
 returns-clause-first c =
     let left = ap (λ (v : LinesLeft). v.left) (sym c.self.view_is) in
     elim c.if-ended.branch [
-      | then-ended w ↦ left ∙ next_line-ended c.self.inside.text.now _ _ _ _ (omega arith) c.length_before.ensures.before c.length_before.ensures.stopped w.self-is
-      | else-ended w ↦ left ∙ next_line-open c.self.inside.text.now _ _ _ _ (omega arith) (omega arith) c.length_before.ensures.within c.length_before.ensures.before w.self-is
+      | then-ended w ↦ left ∙ next_line-ended c.self.inside.text.now _ _ _ _
+          (omega arith) c.length_before.ensures.before c.length_before.ensures.stopped w.self-is
+      | else-ended w ↦ left ∙ next_line-open c.self.inside.text.now _ _ _ _ (omega arith)
+          (omega arith) c.length_before.ensures.within c.length_before.ensures.before w.self-is
     ]

@@ -22,11 +22,14 @@ returns-in_err-numbers c =
 pub step-requires-clause-room : goal.step-requires-clause-room
 step-requires-clause-room c =
     rw c.as_slice.ensures.value
-    (have_room c.args.versions c.requires.few c.args.self.now c.args.word.now c.in_ok-numbers.numbers.items c.args.self.now.stage c.requires.reached (sym c.if-not-expects.ensures)
+    (have_room c.args.versions c.requires.few c.args.self.now c.args.word.now c.in_ok-numbers.numbers.items c.args.self.now.stage c.requires.reached
+    (sym c.if-not-expects.ensures)
     (record { last = last_numbers (position_of c.args.self.now) c.args.word.now; words = c.args.words.now; read = sym c.in_ok-numbers.ensures }))
 
 pub returns : goal.returns
 returns c =
     subst (λ r. Gives r (position_of c.step.new.self) c.step.result)
-    (sym (numbered_next c.args.versions (position_of c.args.self.now) c.args.word.now c.args.words.now (Ok c.in_ok-numbers.numbers.items) c.if-not-expects.ensures c.if-is_full.ensures c.in_ok-numbers.ensures))
-    (subst (λ (ns : List ℕ). Gives (step (position_of c.args.self.now) c.args.word.now ns) (position_of c.step.new.self) c.step.result) c.as_slice.ensures.value c.step.ensures)
+    (sym (numbered_next c.args.versions (position_of c.args.self.now) c.args.word.now c.args.words.now
+    (Ok c.in_ok-numbers.numbers.items) c.if-not-expects.ensures c.if-is_full.ensures c.in_ok-numbers.ensures))
+    (subst (λ (ns : List ℕ). Gives (step (position_of c.args.self.now) c.args.word.now ns) (position_of c.step.new.self) c.step.result) c.as_slice.ensures.value
+    c.step.ensures)
