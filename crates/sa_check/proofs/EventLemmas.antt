@@ -1,5 +1,5 @@
 -- The first event of some items, and the items after it.
-use Rattle.std.proofs.Common.{◌≡◌, ◌≢◌, ℕ, suc, ◌+◌, None, refl, sym, ◌∙◌, ap, List, [], ◌∷◌, ◌++◌, map, take, drop, Bool, true, false, arith}
+use Rattle.std.proofs.Common.{◌≡◌, ◌≢◌, suc, ◌+◌, None, refl, sym, ◌∙◌, ap, List, [], ◌∷◌, ◌++◌, map, take, drop, Bool, true, false, arith}
 use Rattle.std.specs.Prelude.{◌==◌, ◌&&◌, if◌then◌else◌}
 use Rattle.std.specs.List.{prefix_len}
 use Rattle.std.proofs.lemmas.Bool.{and_parts, eqb-true, eq-eqb}

@@ -4,7 +4,7 @@ use Rattle.std.specs.Prelude.{not, find, IsTrue, MatchOption, if◌then◌else�
 use Rattle.std.specs.List.{list_all}
 use Rattle.sa_spaces.specs.Workload.{WorkloadView}
 use Rattle.sa_laws.specs.declared.rule.Rule.{Rule}
-use Rattle.sa_laws.specs.declared.rule.Rule.TheVariants.{Numbering, StepTaken, AtMostOnce, InTime, WhereOwned, AllTold, BlockUpcall, InterruptNext, LineCause, WantCause, SharesCovered, DemandSaid, TurnsAndSteps, ListLocks, ListOrder, EndTold}
+use Rattle.sa_laws.specs.declared.rule.Rule.TheVariants.{Numbered, Stepwise, ToldOnce, ToldInTime, WhereOwned, AllTold, UpcallGiven, InterruptNext, LineCause, WantCause, SharesCovered, DemandAnnounced, TurnsTaken, LocksKept, OrderKept, EndTold}
 use Rattle.sa_laws.specs.Event.{Event}
 use Rattle.sa_laws.specs.Readings.{Readings}
 use Rattle.sa_laws.specs.Ends.{LastLine}
@@ -30,11 +30,11 @@ module _ (w : WorkloadView) (r : Readings) (e : Event) (last : Option LastLine) 
 
   pub first-is : Outcome (find (λ x. not (found x)) rules)
   first-is =
-      step Numbering (drop 1 rules) (step StepTaken (drop 2 rules) (step AtMostOnce (drop 3 rules) (step InTime (drop 4 rules) (step WhereOwned (drop 5 rules)
-      (step AllTold (drop 6 rules) (step BlockUpcall (drop 7 rules) (step InterruptNext (drop 8 rules)
+      step Numbered (drop 1 rules) (step Stepwise (drop 2 rules) (step ToldOnce (drop 3 rules) (step ToldInTime (drop 4 rules) (step WhereOwned (drop 5 rules)
+      (step AllTold (drop 6 rules) (step UpcallGiven (drop 7 rules) (step InterruptNext (drop 8 rules)
       (step LineCause (drop 9 rules) (step WantCause (drop 10 rules)
-      (step SharesCovered (drop 11 rules) (step DemandSaid (drop 12 rules) (step TurnsAndSteps (drop 13 rules)
-      (step ListLocks (drop 14 rules) (step ListOrder (drop 15 rules) (step EndTold [] (λ all. all)))))))))))))))) tt
+      (step SharesCovered (drop 11 rules) (step DemandAnnounced (drop 12 rules) (step TurnsTaken (drop 13 rules)
+      (step LocksKept (drop 14 rules) (step OrderKept (drop 15 rules) (step EndTold [] (λ all. all)))))))))))))))) tt
 
 -- where each rule holds, none that does not is found
 pub none-fails : (holds : Rule → Bool) (list : List Rule) → list_all holds list ≡ true → find (λ rule. not (holds rule)) list ≡ None

@@ -3,7 +3,7 @@ use Rattle.std.proofs.Common.{◌≡◌, ◌≢◌, ◌↔◌, ℕ, zero, suc, �
 use Rattle.std.specs.Prelude.{IsTrue, not, ◌==◌, ◌&&◌, ◌||◌}
 use Rattle.std.proofs.lemmas.Bool.Decides.{nat_tests}
 use Rattle.sa_laws.specs.declared.rule.Rule.{Rule}
-use Rattle.sa_laws.specs.declared.rule.Rule.TheVariants.{Numbering, StepTaken, AtMostOnce, InTime, WhereOwned, AllTold, BlockUpcall, InterruptNext, LineCause, WantCause, SharesCovered, DemandSaid, TurnsAndSteps, ListLocks, ListOrder, EndTold}
+use Rattle.sa_laws.specs.declared.rule.Rule.TheVariants.{Numbered, Stepwise, ToldOnce, ToldInTime, WhereOwned, AllTold, UpcallGiven, InterruptNext, LineCause, WantCause, SharesCovered, DemandAnnounced, TurnsTaken, LocksKept, OrderKept, EndTold}
 use Rattle.sa_laws.specs.Event.{Event}
 use Rattle.sa_laws.specs.History.{begun}
 use Rattle.sa_laws.specs.Opening.{IsNumbered}
@@ -53,17 +53,17 @@ module _ (m : Seen) (e : Event) (last : Option LastLine) (b : Beginning) (laws :
     (begins : IsBeginning m e b) (read : IsFoundOf (beginning_of m e) e laws) (places : IsDueFound (beginning_of m e) e due)
     (ends : IsEnding (after m e) e.number last ending) where
   pub each : (rule : Rule) → IsTrue (found_of (findings_of e.number b laws due ending) rule) ↔ Holds fast_threads m.workload rule m.readings e last
-  each Numbering = (λ _. numbered, λ _. refl)
-  each StepTaken = (λ _. record { steps = steps }, λ _. refl)
-  each AtMostOnce = (λ yes. record { told = read.told_once.0 yes }, λ holds. read.told_once.1 holds.told)
-  each InTime = (λ yes. record { prompt = ends.prompt.0 yes }, λ holds. ends.prompt.1 holds.prompt)
+  each Numbered = (λ _. numbered, λ _. refl)
+  each Stepwise = (λ _. record { steps = steps }, λ _. refl)
+  each ToldOnce = (λ yes. record { told = read.told_once.0 yes }, λ holds. read.told_once.1 holds.told)
+  each ToldInTime = (λ yes. record { prompt = ends.told_in_time.0 yes }, λ holds. ends.told_in_time.1 holds.prompt)
   each WhereOwned = (
     λ yes. record { named = read.named.0 (and-left laws.named ending.owned yes); owned = ends.owned.0 (and-right laws.named ending.owned yes) },
     λ holds. and-both laws.named ending.owned (read.named.1 holds.named) (ends.owned.1 holds.owned),
   )
-  each AllTold = (λ yes. record { told = read.told_all.0 yes }, λ holds. read.told_all.1 holds.told)
-  each BlockUpcall = (λ yes. record { blocks = read.gave_upcall.0 yes }, λ holds. read.gave_upcall.1 holds.blocks)
-  each InterruptNext = begins.interrupt
+  each AllTold = (λ yes. record { told = read.all_told.0 yes }, λ holds. read.all_told.1 holds.told)
+  each UpcallGiven = (λ yes. record { blocks = read.upcall_given.0 yes }, λ holds. read.upcall_given.1 holds.blocks)
+  each InterruptNext = begins.interrupt_next
   each LineCause = (
     λ yes.
         let front = and-left (laws.heard && b.lines) due.lines yes in
@@ -90,11 +90,11 @@ module _ (m : Seen) (e : Event) (last : Option LastLine) (b : Beginning) (laws :
     λ yes. record { covered = ends.shares.0 (and-left ending.shares due.aims yes); due = (places.aims.0 (and-right ending.shares due.aims yes)).due },
     λ holds. and-both ending.shares due.aims (ends.shares.1 holds.covered) (places.aims.1 (record { due = holds.due })),
   )
-  each DemandSaid = begins.demand
-  each TurnsAndSteps = begins.turns
-  each ListLocks = begins.locks
-  each ListOrder = (λ yes. record { run = begins.order.0 yes }, λ holds. begins.order.1 holds.run)
-  each EndTold = ends.end
+  each DemandAnnounced = begins.demand_announced
+  each TurnsTaken = begins.turns_taken
+  each LocksKept = begins.locks_kept
+  each OrderKept = (λ yes. record { run = begins.order_kept.0 yes }, λ holds. begins.order_kept.1 holds.run)
+  each EndTold = ends.end_told
 
 -- a list in which nothing was found is empty
 pub nothing-found : {A : Type 0} (xs : List A) (found : Bool) → (IsTrue found ↔ (xs ≢ [])) → IsTrue (not found) → xs ≡ []

@@ -3,7 +3,7 @@ use Rattle.std.proofs.Common.{◌≡◌, ◌↔◌, sym, ◌∙◌, ap, subst, B
 use Rattle.std.specs.Prelude.{not, find, IsTrue, MatchOption}
 use Rattle.sa_spaces.specs.Workload.{WorkloadView}
 use Rattle.sa_laws.specs.declared.rule.Rule.{Rule}
-use Rattle.sa_laws.specs.declared.rule.Rule.TheVariants.{Numbering, StepTaken}
+use Rattle.sa_laws.specs.declared.rule.Rule.TheVariants.{Numbered, Stepwise}
 use Rattle.sa_laws.specs.Event.{Event}
 use Rattle.sa_laws.specs.Readings.{Readings}
 use Rattle.sa_laws.specs.Opening.{IsNumbered}
@@ -25,11 +25,11 @@ use Rattle.sa_check.proofs.QuietLemmas.{quiet-records, quiet-settled, quiet-want
 use Rattle.sa_check.proofs.FoundLemmas.{beginning_of, each}
 
 pub numbering-breaks : (w : WorkloadView) (r : Readings) (e : Event) (last : Option LastLine) (found : Bool) → (IsTrue found ↔ IsNumbered w r e) → found ≡ false
-    → Breaks fast_threads w r e last Numbering
+    → Breaks fast_threads w r e last Numbered
 numbering-breaks w r e last found is fails = record { earlier = tt; broken = λ holds. let yes = is.1 holds in cc }
 
 pub step-breaks : (m start : Seen) (e : Event) (last : Option LastLine) → IsNumbered m.workload m.readings e → start ≡ at_event e.number e.proc m
-    → (AreSteps start.workload e.number e.proc start.readings e.records → ⊥) → Breaks fast_threads m.workload m.readings e last StepTaken
+    → (AreSteps start.workload e.number e.proc start.readings e.records → ⊥) → Breaks fast_threads m.workload m.readings e last Stepwise
 step-breaks m start e last numbered begins none =
     let none' = subst (λ (s : Seen). AreSteps s.workload e.number e.proc s.readings e.records → ⊥) begins none in
     record { earlier = (numbered, tt); broken = λ holds. none' holds.steps }

@@ -1,6 +1,6 @@
 -- A quiet event leaves owners, shares, wants and what is told in time as they were.
-use Rattle.std.proofs.Common.{◌≡◌, ℕ, zero, suc, ◌+◌, ◌-◌, ◌≤◌, refl, sym, ◌∙◌, ap, subst, inl, inr, arith, Bool, true, false, List, [], ◌∷◌, ◌++◌, map, length, take, Option, Some, None}
-use Rattle.std.specs.Prelude.{◌==◌, nat_lt, not, ◌&&◌, ◌||◌, slice_index, slice_index_or, if◌then◌else◌, is_none, slice_set, filter}
+use Rattle.std.proofs.Common.{◌≡◌, ℕ, zero, suc, ◌-◌, ◌≤◌, refl, sym, ◌∙◌, ap, subst, inl, inr, arith, Bool, true, false, List, [], ◌∷◌, map, length, take, Option, Some, None}
+use Rattle.std.specs.Prelude.{◌==◌, nat_lt, not, ◌&&◌, ◌||◌, slice_index, slice_index_or, if◌then◌else◌, is_none, slice_set}
 use Rattle.std.specs.List.{list_all, list_any, prefix_len}
 use Rattle.std.specs.Option.{option_map}
 use Rattle.std.proofs.lemmas.Bool.{cases_eq, and_parts}
@@ -24,7 +24,7 @@ use Rattle.sa_lemmas.proofs.Options.{none-is}
 use Rattle.sa_lemmas.proofs.Searches.{none-left}
 use Rattle.sa_laws.specs.Event.{Event}
 use Rattle.sa_laws.specs.Life.{Life}
-use Rattle.sa_laws.specs.declared.rule.Rule.TheVariants.{Numbering, InTime, WhereOwned, WantCause, SharesCovered}
+use Rattle.sa_laws.specs.declared.rule.Rule.TheVariants.{Numbered, ToldInTime, WhereOwned, WantCause, SharesCovered}
 use Rattle.sa_laws.specs.Readings.{Readings, running_of, life_of, line_of, demand_of, untold_of, space_of_life, must_hear, was_idle}
 use Rattle.sa_laws.specs.Ends.{LastLine}
 use Rattle.sa_laws.specs.Rules.{fast_threads, HoldEach, rules}
@@ -401,14 +401,14 @@ module _ (w : WorkloadView) (r : Readings) (e : Event) (numbered : e.number ≡ 
 pub settled-next : (w : WorkloadView) (r : Readings) (e : Event) (last : Option LastLine) → HoldEach fast_threads w rules r e last
     → WasSettled w (after_event is_inside w r e)
 settled-next w r e last held n is =
-    let numbered = (holds-each fast_threads w r e last Numbering held).number in
+    let numbered = (holds-each fast_threads w r e last Numbered held).number in
     let counted = number-kept w e.number e.proc (begun w e r) e.records in
     let same : e.number ≡ n = omega (arith, numbered, counted, is) in
     let settled : IsSettled w e.number (after_event is_inside w r e) = record {
       owned = (holds-each fast_threads w r e last WhereOwned held).owned;
       covered = (holds-each fast_threads w r e last SharesCovered held).covered;
       wants = (holds-each fast_threads w r e last WantCause held).none;
-      prompt = (holds-each fast_threads w r e last InTime held).prompt;
+      prompt = (holds-each fast_threads w r e last ToldInTime held).prompt;
     } in
     subst (λ k. IsSettled w k (after_event is_inside w r e)) same settled
 

@@ -1,5 +1,5 @@
 -- A trace is judged while it is read.
-use Rattle.std.proofs.Common.{◌≡◌, ◌≢◌, refl, sym, ◌∙◌, ap, subst, List, [], ◌∷◌, ◌++◌, Option, Result, Ok, Err, true}
+use Rattle.std.proofs.Common.{◌≡◌, ◌≢◌, refl, sym, ◌∙◌, ap, subst, List, [], ◌∷◌, ◌++◌, Option, Result, Ok, Err}
 use Rattle.std.specs.Prelude.{IsOk}
 use Rattle.sa_base.specs.declared.record.Item.{Item}
 use Rattle.sa_base.specs.declared.record.Record.{Record}
@@ -19,7 +19,6 @@ use Rattle.sa_trace.specs.Reader.{in_front, with_said}
 use Rattle.sa_check_moment.specs.Seen.{Seen, event}
 use Rattle.sa_check.specs.declared.verdict.Verdict.{Verdict}
 use Rattle.sa_check.specs.declared.verdict.Verdict.TheVariants.{Broken}
-use Rattle.sa_check.specs.Items.{is_with}
 use Rattle.sa_check.specs.Gathered.{IsOther, line_said, HasGathered, Gathers}
 use Rattle.sa_check.specs.Judged.{IsRightAt}
 use Rattle.sa_check.specs.Verdict.{last_line, IsVerdict, IsExact, IsChecked, unless_bad}

@@ -16,20 +16,20 @@ use Rattle.sa_check.specs.declared.records.RecordsFound.{RecordsFound}
 -- the rules that hold, by what was found
 abbrev pub findings_of : ℕ → Beginning → RecordsFound → DueFound → Ending → Findings
 findings_of number beginning laws due ending = record {
-  at_most_once = laws.told_once;
-  in_time = ending.prompt;
+  told_once = laws.told_once;
+  told_in_time = ending.told_in_time;
   where_owned = laws.named && ending.owned;
-  all_told = laws.told_all;
-  block_upcall = laws.gave_upcall;
-  interrupt_next = beginning.interrupt;
+  all_told = laws.all_told;
+  upcall_given = laws.upcall_given;
+  interrupt_next = beginning.interrupt_next;
   line_cause = (laws.heard && beginning.lines) && due.lines;
   want_cause = (number == 0 || due.wants) && ending.wants;
   shares_covered = ending.shares && due.aims;
-  demand_said = beginning.demand;
-  turns_and_steps = beginning.turns;
-  list_locks = beginning.locks;
-  list_order = beginning.order;
-  end_told = ending.end;
+  demand_announced = beginning.demand_announced;
+  turns_taken = beginning.turns_taken;
+  locks_kept = beginning.locks_kept;
+  order_kept = beginning.order_kept;
+  end_told = ending.end_told;
 }
 
 -- the moment after an event

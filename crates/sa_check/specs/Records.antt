@@ -18,8 +18,8 @@ use Rattle.sa_check.specs.Places.{WantsAreDue, AimsAreDue, LinesAreDue}
 pub record FoundMore (r : Readings) (p : ProcNo) (what : Record) (rest : List Record) (before now : RecordsFound) : Type 0 where
   pub told_once : IsTrue now.told_once ↔ (IsTrue before.told_once × TellsOnce r what rest)
   pub named : IsTrue now.named ↔ (IsTrue before.named × NamesTheLife p r what rest)
-  pub told_all : IsTrue now.told_all ↔ (IsTrue before.told_all × TellsAllThen p r what rest)
-  pub gave_upcall : IsTrue now.gave_upcall ↔ (IsTrue before.gave_upcall × GivesUpcallThen p r what rest)
+  pub all_told : IsTrue now.all_told ↔ (IsTrue before.all_told × TellsAllThen p r what rest)
+  pub upcall_given : IsTrue now.upcall_given ↔ (IsTrue before.upcall_given × GivesUpcallThen p r what rest)
   pub heard : IsTrue now.heard ↔ (IsTrue before.heard × RaisesLine r what rest)
 
 -- a law of records holds of each, from the moment as the event begins
@@ -29,8 +29,8 @@ Each L m e = EachRecord L m.workload e.number e.proc m.readings e.records
 pub record IsFoundOf (m : Seen) (e : Event) (found : RecordsFound) : Type 0 where
   pub told_once : IsTrue found.told_once ↔ Each TellsOnce m e
   pub named : IsTrue found.named ↔ Each (NamesTheLife e.proc) m e
-  pub told_all : IsTrue found.told_all ↔ Each (TellsAllThen e.proc) m e
-  pub gave_upcall : IsTrue found.gave_upcall ↔ Each (GivesUpcallThen e.proc) m e
+  pub all_told : IsTrue found.all_told ↔ Each (TellsAllThen e.proc) m e
+  pub upcall_given : IsTrue found.upcall_given ↔ Each (GivesUpcallThen e.proc) m e
   pub heard : IsTrue found.heard ↔ Each RaisesLine m e
 
 -- the moment after some records of the event

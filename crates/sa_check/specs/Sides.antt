@@ -6,7 +6,7 @@ use Rattle.sa_assign.specs.Aims.{aimed}
 use Rattle.sa_laws.specs.Event.{Event}
 use Rattle.sa_laws.specs.Readings.{Readings, space_of_life}
 use Rattle.sa_laws.specs.Closing.{shares_at, must_want}
-use Rattle.sa_laws.specs.Upcalls.{IsPrompt, InterruptsNext, FirstLineIsAsked}
+use Rattle.sa_laws.specs.Upcalls.{IsPrompt, InterruptIsNext, FirstLineIsAsked}
 use Rattle.sa_laws.specs.Shape.{aims_in, last_lines}
 use Rattle.sa_laws.specs.Rules.{NoLines}
 use Rattle.sa_spaces.specs.Workload.{WorkloadView}
@@ -28,11 +28,11 @@ pub record LinesAreInPlace (w : WorkloadView) (r : Readings) (p : ProcNo) (recor
 
 -- on the moment before the event
 pub record IsBeginning (m : Seen) (e : Event) (found : Beginning) : Type 0 where
-  pub demand : IsTrue found.demand ↔ DemandIsAnnounced m.workload m.readings e
-  pub order : IsTrue found.order ↔ RunsNext m.readings e.proc e.records
-  pub interrupt : IsTrue found.interrupt ↔ InterruptsNext m.workload m.readings e
-  pub turns : IsTrue found.turns ↔ TurnsAreTaken IsStep m.workload m.readings e
-  pub locks : IsTrue found.locks ↔ LocksAreKept m.workload m.readings e
+  pub demand_announced : IsTrue found.demand_announced ↔ DemandIsAnnounced m.workload m.readings e
+  pub order_kept : IsTrue found.order_kept ↔ RunsNext m.readings e.proc e.records
+  pub interrupt_next : IsTrue found.interrupt_next ↔ InterruptIsNext m.workload m.readings e
+  pub turns_taken : IsTrue found.turns_taken ↔ TurnsAreTaken IsStep m.workload m.readings e
+  pub locks_kept : IsTrue found.locks_kept ↔ LocksAreKept m.workload m.readings e
   pub lines : IsTrue found.lines ↔ LinesAreInPlace m.workload m.readings e.proc e.records
 
 -- what the last line tells, and if one is given
@@ -50,8 +50,8 @@ line_before (e ∷ es) line = None
 
 -- on the moment after an event of this number
 pub record IsEnding (m : Seen) (number : ℕ) (last : Option LastLine) (found : Ending) : Type 0 where
-  pub prompt : IsTrue found.prompt ↔ IsPrompt m.readings
+  pub told_in_time : IsTrue found.told_in_time ↔ IsPrompt m.readings
   pub owned : IsTrue found.owned ↔ (m.readings.state.owners ≡ map (space_of_life m.readings) m.readings.running)
   pub wants : IsTrue found.wants ↔ ((s : SpaceNo) → must_want m.readings s ≡ false)
   pub shares : IsTrue found.shares ↔ ((s : ℕ) → share_at (shares_at m.workload number m.readings) s ≤ aimed s m.readings.aims)
-  pub end : IsTrue found.end ↔ EndIsTold m.readings number last
+  pub end_told : IsTrue found.end_told ↔ EndIsTold m.readings number last

@@ -13,7 +13,7 @@ use crate::event::TraceEvent;
 use sa_base::Record;
 use sa_check_moment::{Moment, Start};
 use sa_check_rules::{
-    demand_is_said, interrupts_next, locks_are_kept, order_is_kept, turns_are_taken,
+    demand_is_announced, interrupt_is_next, locks_are_kept, order_is_kept, turns_are_taken,
 };
 use sa_check_shapes::{has_aims, last_lines};
 
@@ -21,11 +21,11 @@ use sa_check_shapes::{has_aims, last_lines};
 #[derive(Clone, Copy, Debug)]
 pub(crate) struct Beginning {
     pub(crate) start: Start,
-    pub(crate) demand: bool,
-    pub(crate) order: bool,
-    pub(crate) interrupt: bool,
-    pub(crate) turns: bool,
-    pub(crate) locks: bool,
+    pub(crate) demand_announced: bool,
+    pub(crate) order_kept: bool,
+    pub(crate) interrupt_next: bool,
+    pub(crate) turns_taken: bool,
+    pub(crate) locks_kept: bool,
     pub(crate) lines: bool,
 }
 
@@ -40,17 +40,17 @@ pub(crate) fn begin(moment: &mut Moment, event: &TraceEvent) -> Beginning
     let p = event.proc;
     let records = event.records;
     let start = moment.before(p, records);
-    let demand = demand_is_said(moment, number, p, records);
-    let order = order_is_kept(moment, p, records);
+    let demand_announced = demand_is_announced(moment, number, p, records);
+    let order_kept = order_is_kept(moment, p, records);
     let raised = moment.line(p).is_some();
     moment.begin(number, p);
     Beginning {
         start,
-        demand,
-        order,
-        interrupt: interrupts_next(moment, raised, number, p, records),
-        turns: turns_are_taken(moment, raised, number, p, records),
-        locks: locks_are_kept(moment, number, p, records),
+        demand_announced,
+        order_kept,
+        interrupt_next: interrupt_is_next(moment, raised, number, p, records),
+        turns_taken: turns_are_taken(moment, raised, number, p, records),
+        locks_kept: locks_are_kept(moment, number, p, records),
         lines: lines_are_in_place(records),
     }
 }

@@ -6,7 +6,7 @@ ghost use Rattle.sa_check.specs.Quiet.{IsSettled};
 ghost use Rattle.sa_check.specs.Sides.{IsEnding, line_told};
 
 use sa_base::End;
-use sa_check_closing::{covers_shares, is_prompt, wants_nothing};
+use sa_check_closing::{covers_shares, is_told_in_time, wants_nothing};
 use sa_check_moment::Moment;
 use sa_check_rules::{goes_on, is_told_end, runs_where_owned};
 
@@ -20,11 +20,11 @@ pub(crate) struct LastTold {
 /// What was found after an event.
 #[derive(Clone, Copy, Debug)]
 pub(crate) struct Ending {
-    pub(crate) prompt: bool,
+    pub(crate) told_in_time: bool,
     pub(crate) owned: bool,
     pub(crate) wants: bool,
     pub(crate) shares: bool,
-    pub(crate) end: bool,
+    pub(crate) end_told: bool,
 }
 
 /// What is found on the moment after an event of this number; the last line, if it is the trace's last event. After a
@@ -39,11 +39,11 @@ pub(crate) fn look_after(
     ensures { IsEnding (seen moment.now) number (line_told last) result }
 {
     Ending {
-        prompt: quiet || is_prompt(moment),
+        told_in_time: quiet || is_told_in_time(moment),
         owned: quiet || runs_where_owned(moment),
         wants: quiet || wants_nothing(moment),
         shares: quiet || covers_shares(moment, number),
-        end: end_is_told(moment, number, last),
+        end_told: end_is_told(moment, number, last),
     }
 }
 

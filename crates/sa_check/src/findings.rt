@@ -9,39 +9,39 @@ use sa_laws::Rule;
 /// Whether each rule holds at an event, but for the first two, which hold.
 #[derive(Clone, Copy, Debug)]
 pub(crate) struct Findings {
-    pub(crate) at_most_once: bool,
-    pub(crate) in_time: bool,
+    pub(crate) told_once: bool,
+    pub(crate) told_in_time: bool,
     pub(crate) where_owned: bool,
     pub(crate) all_told: bool,
-    pub(crate) block_upcall: bool,
+    pub(crate) upcall_given: bool,
     pub(crate) interrupt_next: bool,
     pub(crate) line_cause: bool,
     pub(crate) want_cause: bool,
     pub(crate) shares_covered: bool,
-    pub(crate) demand_said: bool,
-    pub(crate) turns_and_steps: bool,
-    pub(crate) list_locks: bool,
-    pub(crate) list_order: bool,
+    pub(crate) demand_announced: bool,
+    pub(crate) turns_taken: bool,
+    pub(crate) locks_kept: bool,
+    pub(crate) order_kept: bool,
     pub(crate) end_told: bool,
 }
 
 // The rules in their order.
 const RULES: [Rule; 16] = [
-    Rule::Numbering,
-    Rule::StepTaken,
-    Rule::AtMostOnce,
-    Rule::InTime,
+    Rule::Numbered,
+    Rule::Stepwise,
+    Rule::ToldOnce,
+    Rule::ToldInTime,
     Rule::WhereOwned,
     Rule::AllTold,
-    Rule::BlockUpcall,
+    Rule::UpcallGiven,
     Rule::InterruptNext,
     Rule::LineCause,
     Rule::WantCause,
     Rule::SharesCovered,
-    Rule::DemandSaid,
-    Rule::TurnsAndSteps,
-    Rule::ListLocks,
-    Rule::ListOrder,
+    Rule::DemandAnnounced,
+    Rule::TurnsTaken,
+    Rule::LocksKept,
+    Rule::OrderKept,
     Rule::EndTold,
 ];
 
@@ -51,20 +51,20 @@ impl Findings {
         ensures { result ≡ found_of self.now rule }
     {
         match rule {
-            Rule::Numbering | Rule::StepTaken => true,
-            Rule::AtMostOnce => self.at_most_once,
-            Rule::InTime => self.in_time,
+            Rule::Numbered | Rule::Stepwise => true,
+            Rule::ToldOnce => self.told_once,
+            Rule::ToldInTime => self.told_in_time,
             Rule::WhereOwned => self.where_owned,
             Rule::AllTold => self.all_told,
-            Rule::BlockUpcall => self.block_upcall,
+            Rule::UpcallGiven => self.upcall_given,
             Rule::InterruptNext => self.interrupt_next,
             Rule::LineCause => self.line_cause,
             Rule::WantCause => self.want_cause,
             Rule::SharesCovered => self.shares_covered,
-            Rule::DemandSaid => self.demand_said,
-            Rule::TurnsAndSteps => self.turns_and_steps,
-            Rule::ListLocks => self.list_locks,
-            Rule::ListOrder => self.list_order,
+            Rule::DemandAnnounced => self.demand_announced,
+            Rule::TurnsTaken => self.turns_taken,
+            Rule::LocksKept => self.locks_kept,
+            Rule::OrderKept => self.order_kept,
             Rule::EndTold => self.end_told,
         }
     }
@@ -83,19 +83,19 @@ impl Findings {
     fn all_hold(&self) -> bool
         ensures { result ≡ list_all (found_of self.now) rules }
     {
-        self.at_most_once
-            && self.in_time
+        self.told_once
+            && self.told_in_time
             && self.where_owned
             && self.all_told
-            && self.block_upcall
+            && self.upcall_given
             && self.interrupt_next
             && self.line_cause
             && self.want_cause
             && self.shares_covered
-            && self.demand_said
-            && self.turns_and_steps
-            && self.list_locks
-            && self.list_order
+            && self.demand_announced
+            && self.turns_taken
+            && self.locks_kept
+            && self.order_kept
             && self.end_told
     }
 }

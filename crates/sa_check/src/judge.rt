@@ -41,7 +41,7 @@ pub(crate) fn judge(
     ensures { IfOk result (Judges (seen moment) (told_event event.now) (line_told last)) }
 {
     if !is_numbered(alloc, &moment, event.number, event.proc, event.records)? {
-        return Ok(Judged::Broken(Rule::Numbering));
+        return Ok(Judged::Broken(Rule::Numbered));
     }
     judge_numbered(alloc, moment, event, last)
 }
@@ -61,7 +61,7 @@ fn judge_numbered(
     let mut now = moment;
     let beginning = begin(&mut now, event);
     let Some(through) = read_event(alloc, now, event, quiet)? else {
-        return Ok(Judged::Broken(Rule::StepTaken));
+        return Ok(Judged::Broken(Rule::Stepwise));
     };
     let after = through
         .moment
@@ -103,19 +103,19 @@ fn findings_of(
     ensures { result ≡ findings_of number beginning laws due ending }
 {
     Findings {
-        at_most_once: laws.told_once,
-        in_time: ending.prompt,
+        told_once: laws.told_once,
+        told_in_time: ending.told_in_time,
         where_owned: laws.named && ending.owned,
-        all_told: laws.told_all,
-        block_upcall: laws.gave_upcall,
-        interrupt_next: beginning.interrupt,
+        all_told: laws.all_told,
+        upcall_given: laws.upcall_given,
+        interrupt_next: beginning.interrupt_next,
         line_cause: laws.heard && beginning.lines && due.lines,
         want_cause: (number == 0 || due.wants) && ending.wants,
         shares_covered: ending.shares && due.aims,
-        demand_said: beginning.demand,
-        turns_and_steps: beginning.turns,
-        list_locks: beginning.locks,
-        list_order: beginning.order,
-        end_told: ending.end,
+        demand_announced: beginning.demand_announced,
+        turns_taken: beginning.turns_taken,
+        locks_kept: beginning.locks_kept,
+        order_kept: beginning.order_kept,
+        end_told: ending.end_told,
     }
 }

@@ -13,21 +13,21 @@ pub fn word(rule: Rule) -> &'static [u8]
     ensures { result.now ≡ word_of rule }
 {
     match rule {
-        Rule::Numbering => b"D11",
-        Rule::StepTaken => b"D6",
-        Rule::AtMostOnce => b"U1",
-        Rule::InTime => b"U2",
+        Rule::Numbered => b"D11",
+        Rule::Stepwise => b"D6",
+        Rule::ToldOnce => b"U1",
+        Rule::ToldInTime => b"U2",
         Rule::WhereOwned => b"U3",
         Rule::AllTold => b"U4",
-        Rule::BlockUpcall => b"U5",
+        Rule::UpcallGiven => b"U5",
         Rule::InterruptNext => b"U6",
         Rule::LineCause => b"U7",
         Rule::WantCause => b"U8",
         Rule::SharesCovered => b"L1",
-        Rule::DemandSaid => b"L2",
-        Rule::TurnsAndSteps => b"L3",
-        Rule::ListLocks => b"L4",
-        Rule::ListOrder => b"L5",
+        Rule::DemandAnnounced => b"L2",
+        Rule::TurnsTaken => b"L3",
+        Rule::LocksKept => b"L4",
+        Rule::OrderKept => b"L5",
         Rule::EndTold => b"D12",
     }
 }

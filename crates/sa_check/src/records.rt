@@ -16,8 +16,8 @@ use std::alloc::{AllocError, Global};
 pub(crate) struct RecordsFound {
     pub(crate) told_once: bool,
     pub(crate) named: bool,
-    pub(crate) told_all: bool,
-    pub(crate) gave_upcall: bool,
+    pub(crate) all_told: bool,
+    pub(crate) upcall_given: bool,
     pub(crate) heard: bool,
 }
 
@@ -26,15 +26,15 @@ impl RecordsFound {
     pub(crate) fn new() -> Self
         ensures told_once { result.told_once ≡ true }
         ensures named { result.named ≡ true }
-        ensures told_all { result.told_all ≡ true }
-        ensures gave_upcall { result.gave_upcall ≡ true }
+        ensures all_told { result.all_told ≡ true }
+        ensures upcall_given { result.upcall_given ≡ true }
         ensures heard { result.heard ≡ true }
     {
         RecordsFound {
             told_once: true,
             named: true,
-            told_all: true,
-            gave_upcall: true,
+            all_told: true,
+            upcall_given: true,
             heard: true,
         }
     }
@@ -46,8 +46,8 @@ impl RecordsFound {
         RecordsFound {
             told_once: self.told_once && tells_once(moment, what),
             named: self.named && names_the_life(moment, p, what),
-            told_all: self.told_all && tells_all(moment, p, what, rest),
-            gave_upcall: self.gave_upcall && gives_upcall(moment, p, what, rest),
+            all_told: self.all_told && tells_all(moment, p, what, rest),
+            upcall_given: self.upcall_given && gives_upcall(moment, p, what, rest),
             heard: self.heard && raises_line(moment, what, rest),
         }
     }

@@ -32,7 +32,7 @@ pub fn check(alloc: Global, workload: &Workload, text: &[u8]) -> Result<Verdict,
         Said::Next(first) => judge_events(alloc, workload, &mut reader, first),
         Said::Last(..) => Ok(Verdict::Broken {
             event: 0,
-            rule: Rule::Numbering,
+            rule: Rule::Numbered,
         }),
     }
 }

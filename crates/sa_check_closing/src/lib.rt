@@ -14,6 +14,6 @@ mod wants;
 pub use aims::{aims_due, are_aims_due};
 pub use lines::{are_lines_due, lines_due};
 pub use opening::is_numbered;
-pub use prompt::{is_prompt, wants_nothing};
+pub use prompt::{is_told_in_time, wants_nothing};
 pub use shares::{covers_shares, first_space, shares_at};
 pub use wants::{are_wants_due, wants_due};

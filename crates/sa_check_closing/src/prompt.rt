@@ -25,7 +25,7 @@ pub fn wants_nothing(moment: &Moment) -> bool
 
 /// Each space with something untold owns no processor, or its upcall page is being fetched, or it owns a processor whose
 /// line is raised.
-pub fn is_prompt(moment: &Moment) -> bool
+pub fn is_told_in_time(moment: &Moment) -> bool
     ensures { IsTrue result ↔ IsPrompt (seen moment.now).readings }
 {
     moment.ranges();

@@ -1,10 +1,8 @@
 -- The threads that join one.
-use Rattle.std.proofs.Common.{◌≡◌, ℕ, ◌<◌, ◌≤◌, List, [], ◌∷◌, length, drop, Some, slice_get, ap, arith, ◌+◌, ◌++◌, map, ◌∙◌}
-use Rattle.std.proofs.lemmas.Option.{same_Some}
-use Rattle.std.proofs.lemmas.List.{get_or-set_same, set-set}
+use Rattle.std.proofs.Common.{◌≡◌, ℕ, ◌<◌, ◌≤◌, [], ◌∷◌, length, drop, Some, arith}
+use Rattle.std.proofs.lemmas.List.{get_or-set_same}
 use Rattle.sa_base.specs.declared.limits.TheConstants.{MAX_THREADS}
-use Rattle.sa_links.specs.Lists.{count_in, count_in_all}
-use Rattle.std.proofs.lemmas.List.Sums.{sum_by-append}
+use Rattle.sa_links.specs.Lists.{count_in}
 use Rattle.sa_lemmas.proofs.ListReads.{first-rest}
 use Rattle.sa_links.proofs.Counting.{count_at, few_below}
 use Rattle.sa_sync.specs.Sync.{Sync, joiners_at, waits_of, WaitsOnce}

@@ -10,7 +10,7 @@ use sa_check_moment::Moment;
 use sa_check_shapes::{is_step, parted};
 
 /// Demand is announced, at an event of this number and processor with these records, on the moment before it.
-pub fn demand_is_said(moment: &Moment, number: u64, p: ProcNo, records: &[Record]) -> bool
+pub fn demand_is_announced(moment: &Moment, number: u64, p: ProcNo, records: &[Record]) -> bool
     ensures { let m = seen moment.now in
         IsTrue result ↔ DemandIsAnnounced m.workload m.readings (event number p records.now) }
 {

@@ -2,7 +2,7 @@
 ghost use Rattle.std.specs.Prelude.{◌≡◌, ◌↔◌, IsTrue, is_some};
 ghost use Rattle.sa_laws.specs.Readings.{Readings, owner_of, aim_of, line_of};
 ghost use Rattle.sa_laws.specs.History.{begun};
-ghost use Rattle.sa_laws.specs.Upcalls.{StopsAndGoes, InterruptsNext};
+ghost use Rattle.sa_laws.specs.Upcalls.{StopsAndGoes, InterruptIsNext};
 ghost use Rattle.sa_check_moment.specs.Seen.{seen, event};
 
 use crate::page::upcall_page;
@@ -12,7 +12,7 @@ use sa_check_shapes::{begins_as_interrupt, stops_and_goes};
 
 /// An interrupt is the next event, at an event of this number and processor with these records, on the moment as it
 /// begins. `raised`: the processor's line was raised before it.
-pub fn interrupts_next(
+pub fn interrupt_is_next(
     moment: &Moment,
     raised: bool,
     number: u64,
@@ -21,7 +21,7 @@ pub fn interrupts_next(
 ) -> bool
     ensures { let m = seen moment.now in let e = event number p records.now in
         (r : Readings) → m.readings ≡ begun m.workload e r → raised ≡ is_some (line_of r p)
-        → (IsTrue result ↔ InterruptsNext m.workload r e) }
+        → (IsTrue result ↔ InterruptIsNext m.workload r e) }
 {
     if raised {
         goes_to_aim(moment, p, records)

@@ -18,9 +18,9 @@ mod turns;
 mod upcalls;
 
 pub use blocks::gives_upcall;
-pub use demand::demand_is_said;
+pub use demand::demand_is_announced;
 pub use ends::{goes_on, is_told_end};
-pub use interrupt::interrupts_next;
+pub use interrupt::interrupt_is_next;
 pub use lines::raises_line;
 pub use locks::locks_are_kept;
 pub use once::tells_once;

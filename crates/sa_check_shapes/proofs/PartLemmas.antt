@@ -1,5 +1,5 @@
 -- A part of a list of records, by its length.
-use Rattle.std.proofs.Common.{◌≡◌, refl, ap, Bool, true, false, List, [], ◌∷◌, length, take, Option, Some, if◌then◌else◌}
+use Rattle.std.proofs.Common.{◌≡◌, refl, ap, true, false, List, [], ◌∷◌, length, take, Option, Some, if◌then◌else◌}
 use Rattle.sa_base.specs.declared.record.Record.{Record}
 use Rattle.sa_laws.specs.Shape.{is_other_line, before_lines, front_part}
 

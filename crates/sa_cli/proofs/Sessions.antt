@@ -1,16 +1,12 @@
 -- What the parts of `debug` say together.
-use Rattle.std.proofs.Common.{◌≡◌, ◌⊎◌, ℕ, ◌≤◌, List, [], ◌++◌, length, Option, Some, None, Ok, Err, refl, sym, ap, ◌∙◌, subst, inl, inr, append-nil}
-use Rattle.std.specs.Prelude.{OnOk, OnErr, Result}
-use Rattle.std.specs.Io.KnownBytes.{Appends}
+use Rattle.std.proofs.Common.{◌≡◌, ◌⊎◌, ℕ, List, [], ◌++◌, Option, refl, sym, ap, subst, inl, inr, append-nil}
 use Rattle.sa_base.specs.Recorded.{Recorded}
 use Rattle.sa_base.specs.declared.record.End.{End}
-use Rattle.sa_base.specs.declared.record.Item.{Item}
 use Rattle.sa_base.specs.declared.refusal.Bad.{Bad}
 use Rattle.sa_io.specs.Faults.{HasRisen, AppendsPrefix}
 use Rattle.sa_io.specs.Pieces.{GoesOut}
-use Rattle.sa_io.proofs.PieceLemmas.{out-none, out-both, out-cut}
+use Rattle.sa_io.proofs.PieceLemmas.{out-none, out-cut}
 use Rattle.sa_trace.specs.TraceText.{trace_text}
-use Rattle.sa_cli.specs.declared.debug.Stopped.{Stopped}
 use Rattle.sa_cli.specs.declared.debug.Stopped.TheVariants as stopped
 use Rattle.sa_cli.specs.declared.debug.TheConstants.{SCRIPTS_LIMIT}
 use Rattle.sa_cli.specs.declared.input.ReadError.{ReadError}
@@ -24,7 +20,7 @@ use Rattle.sa_cli.specs.Debugging.{Debugged, DebuggedSoFar, AnswersDebug}
 use Rattle.sa_cli.specs.Debugging.Scripted.{Accepted, BadWorkload, BadScript}
 use Rattle.sa_cli.specs.Input.{ReadsInput}
 use Rattle.sa_cli.specs.Outcome.{history, status_of}
-use Rattle.sa_cli.specs.Scripted.{IsDone, IsHalfDone, IsStopped}
+use Rattle.sa_cli.specs.Scripted.{IsDone, IsStopped}
 use Rattle.sa_cli.proofs.Scripts.{gave-scripted}
 
 -- the first text is cut, or the second one after it

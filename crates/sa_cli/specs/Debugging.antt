@@ -18,7 +18,7 @@ use Rattle.sa_cli.specs.declared.outcome.Ran.TheVariants.{Nothing}
 use Rattle.sa_cli.specs.declared.outcome.Status.{Status}
 use Rattle.sa_cli.specs.declared.outcome.Status.TheVariants as status
 use Rattle.sa_cli.specs.Input.{ReadsInput}
-use Rattle.sa_cli.specs.Outcome.{history, RanHere}
+use Rattle.sa_cli.specs.Outcome.{history}
 use Rattle.sa_cli.specs.Refusals.{IsInputRefused, too_long}
 use Rattle.sa_cli.specs.Texts.{workload_part, trace_part}
 use Rattle.sa_cli.specs.Answers.{World, TookAll, TookSome}

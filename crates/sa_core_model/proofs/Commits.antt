@@ -215,7 +215,8 @@ module _ {U C : Type 0} (f : Calls U C) (stands : Standing U C) (keep : Keeps f 
       let old : C = at.here.ctx in
       let joined : next_event (gone_to f p s (both r t) x) ≡ gone_to f p s t y =
       ap (λ (users : List U). next_event (record (gone_to f p s (both r t) x) { users = users })) (sym (set-set x.users s.0 r.user t.user))
-      ∙ ap (λ (contexts : List (Option C)). next_event (record (gone_to f p s (both r t) x) { users = slice_set (slice_set x.users s.0 r.user) s.0 t.user; contexts = contexts }))
+      ∙ ap (λ (contexts : List (Option C)). next_event
+      (record (gone_to f p s (both r t) x) { users = slice_set (slice_set x.users s.0 r.user) s.0 t.user; contexts = contexts }))
       (sym (set-set x.contexts p.0 (Some r.ctx) (Some t.ctx)))
       ∙ ap (λ (items : List Item). record (gone_to f p s t y) { items = items }) (items-behind x.event p x.items r.says t.says says.0 says.1) in
       ap (λ (o : Option SpaceNo). next_event (gone_in f p (suc (suc n)) o x)) at.here.owner

@@ -48,6 +48,6 @@ pub events-play : (u : UserRules) (w : WorkloadView) (r : Readings) (es : List E
 events-play u w r [] law = tt
 events-play u w r (e ∷ es) law =
     play-append w r.state (items_at e.number e.proc e.records) (items_of es)
-    (records-play w e.number e.proc (begun w e r) e.records law.0.step_taken.steps)
+    (records-play w e.number e.proc (begun w e r) e.records law.0.stepwise.steps)
     (subst (λ a. CanPlay w a (items_of es)) (records-state w e.number e.proc (begun w e r) e.records)
     (events-play u w (after_event u.inside w r e) es law.1))

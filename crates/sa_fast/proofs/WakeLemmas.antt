@@ -1,13 +1,11 @@
 -- Who is woken waited before, and is in no work list.
-use Rattle.std.proofs.Common.{◌≡◌, ℕ, ◌+◌, ◌<◌, cond, List, [], ◌∷◌, length, drop, Some, slice_get, refl, sym, ap, ◌∙◌, inl, inr, arith, ◌++◌, map}
+use Rattle.std.proofs.Common.{◌≡◌, ℕ, ◌+◌, ◌<◌, cond, List, [], ◌∷◌, length, drop, Some, refl, sym, ap, ◌∙◌, inl, inr, arith}
 use Rattle.std.proofs.lemmas.Bool.{cases_eq, eq-eqb}
-use Rattle.std.proofs.lemmas.Option.{same_Some}
-use Rattle.std.proofs.lemmas.List.{get_or-set_same, set-set}
+use Rattle.std.proofs.lemmas.List.{get_or-set_same}
 use Rattle.sa_base.specs.declared.number.ThreadNo.{ThreadNo}
 use Rattle.sa_base.specs.declared.limits.TheConstants.{MAX_THREADS}
-use Rattle.sa_links.specs.Lists.{count_in, count_in_all}
-use Rattle.sa_links.proofs.Counting.{count_same, count_other, count_set}
-use Rattle.std.proofs.lemmas.List.Sums.{sum_by-append}
+use Rattle.sa_links.specs.Lists.{count_in}
+use Rattle.sa_links.proofs.Counting.{count_same, count_other}
 use Rattle.sa_lemmas.proofs.ListReads.{first-rest}
 use Rattle.sa_sync.specs.declared.answer.SyncAnswer.{SyncAnswer}
 use Rattle.sa_sync.specs.declared.answer.SyncAnswer.TheVariants.{Wakes}
@@ -31,7 +29,6 @@ pub woken_free : (s : Sync) (works : List (List ℕ)) (t : ℕ) (change : Change
     → (u : ThreadNo) → answer ≡ Wakes u → (u.0 < MAX_THREADS) × IsUnlisted works u.0
 woken_free s works t change answer once tells waiting is u wakes =
     let waits = woken_waits s t change u tells (sym is ∙ wakes) in (once.threads u.0 waits, waiting u.0 waits)
-
 
 module _ (s : Sync) (t u : ℕ) (inside : t < length s.joiners) (first : first_joiner s t ≡ Some u) where
   pub queue : joiners_at s t ≡ u ∷ drop 1 (joiners_at s t)

@@ -1,5 +1,5 @@
 -- What the calls of a core keep.
-use Rattle.std.proofs.Common.{◌≡◌, ℕ, List, [], ◌∷◌, ◌++◌, refl, sym, subst}
+use Rattle.std.proofs.Common.{ℕ, List, [], ◌∷◌, ◌++◌, refl, subst}
 use Rattle.sa_base.specs.declared.number.ProcNo.{ProcNo}
 use Rattle.sa_spaces.specs.Workload.{WorkloadView, IsWorkload}
 use Rattle.sa_laws.specs.Legal.{IsStrictRun, EndOf}
@@ -9,7 +9,6 @@ use Rattle.sa_core_model.specs.Run.{opening, Move, CanTurn, CanCommit, IsTurn, I
 use Rattle.sa_core_model.specs.Run.Move.{turn, commit}
 use Rattle.sa_core_model.specs.Turn.{committed}
 use Rattle.sa_core_model.proofs.Runs.{runs-stand}
-use Rattle.sa_legal_runs.specs.Moves.{AreTurns}
 use Rattle.sa_legal_runs.specs.Commits.{AddsInstructions}
 use Rattle.sa_legal_runs.proofs.Runs.{runs-are-legal, runs-end, turns-are-strict, runs-number}
 use Rattle.sa_legal_runs.proofs.Instructions.{commit-adds}

@@ -5,7 +5,6 @@ use Rattle.sa_spaces.specs.Workload.{WorkloadView, IsWorkload}
 use Rattle.sa_assign.specs.Reaim.{proc_no}
 use Rattle.sa_laws.specs.Event.{events_of}
 use Rattle.sa_laws.specs.Legal.{EndOf, IsRight}
-use Rattle.sa_laws.specs.Rules.{fast_threads}
 use Rattle.sa_core_model.specs.End.{end_of}
 use Rattle.sa_core_model.specs.Machine.{Machine}
 use Rattle.sa_core_model.specs.Run.{opening, Move}

@@ -1,6 +1,6 @@
 -- What the calls of a core keep where each space has FastThreads: whoever starts one, and makes turns and commits, has a legal
 -- history at each moment. Each is said of the function that the call's own contract is an equation to.
-use Rattle.std.specs.Prelude.{◌≡◌, ℕ, List}
+use Rattle.std.specs.Prelude.{ℕ, List}
 use Rattle.sa_base.specs.declared.number.ProcNo.{ProcNo}
 use Rattle.sa_spaces.specs.Workload.{WorkloadView, IsWorkload}
 use Rattle.sa_laws.specs.Legal.{IsStrictRun, EndOf}

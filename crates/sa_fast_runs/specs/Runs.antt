@@ -1,10 +1,8 @@
 -- What is said of each run of the machine with FastThreads.
 use Rattle.std.specs.Prelude.{◌≡◌, ℕ, ◌+◌, Some, List, ◌∷◌, length, slice_get}
-use Rattle.sa_base.specs.declared.number.ProcNo.{ProcNo}
 use Rattle.sa_base.specs.declared.record.End.{End}
 use Rattle.sa_spaces.specs.Workload.{WorkloadView, IsWorkload}
 use Rattle.sa_assign.specs.Reaim.{proc_no}
-use Rattle.sa_laws.specs.Ends.{LastLine}
 use Rattle.sa_laws.specs.Event.{Event, events_of}
 use Rattle.sa_laws.specs.Legal.{IsLegal, IsStrictRun, EndOf, IsRight}
 use Rattle.sa_laws.specs.Rules.{fast_threads}

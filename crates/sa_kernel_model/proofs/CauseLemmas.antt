@@ -21,7 +21,7 @@ use Rattle.sa_laws.specs.Readings.{Readings, must_hear}
 use Rattle.sa_laws.specs.History.{behind, behind_all, after_records, after_event}
 use Rattle.sa_laws.specs.Shape.{is_want, is_line, is_no_aim, is_no_want, wants_in, lines_in, aims_in, before_wants, front_part, last_lines, others_of}
 use Rattle.sa_laws.specs.Closing.{must_want, want_one, spaces_of, wants_due, aims_due, lines_due}
-use Rattle.sa_laws.specs.Upcalls.{RaisesLine, FirstLineIsAsked, WantsHaveCause}
+use Rattle.sa_laws.specs.Upcalls.{RaisesLine, FirstLineIsAsked, WantHasCause}
 use Rattle.sa_kernel_model.specs.Overview.{Overview}
 use Rattle.sa_kernel_model.specs.Turn.{Turn, event_of}
 use Rattle.sa_laws.specs.History.{is_inside}
@@ -173,7 +173,7 @@ module _ {C : Type 0} where
             ∙ drop-front (own ++ (wl ++ al)) ll,
       )
 
-pub want-cause : (C : Type 0) → HoldsAtTurns C WantsHaveCause
+pub want-cause : (C : Type 0) → HoldsAtTurns C WantHasCause
 want-cause C test w k r t ok kept can =
     let whole = whole-turn w k r t kept can in
     let end = behind_all w (event_of t k) r in

@@ -29,7 +29,7 @@ use Rattle.sa_laws.specs.Record.{after_record}
 use Rattle.sa_laws.specs.History.{Test, behind, behind_all, after_records, after_event}
 use Rattle.sa_laws.specs.Shape.{is_no_aim, aims_in, before_aims}
 use Rattle.sa_laws.specs.Closing.{want_one, must_want, spaces_of, claim_of, claims_of, first_space, shares_at, wants_due, aims_due, lines_due}
-use Rattle.sa_laws.specs.Upcalls.{AimsCoverShares}
+use Rattle.sa_laws.specs.Upcalls.{SharesAreCovered}
 use Rattle.sa_laws.proofs.Records.{records-append}
 use Rattle.sa_laws.proofs.Lengths.{claims-length}
 use Rattle.sa_kernel_model.specs.Overview.{Overview}
@@ -277,7 +277,7 @@ module _ {C : Type 0} where
       } in
       covered w e cl.wanted after ok len is s
 
-pub cover-shares : (C : Type 0) → HoldsAtTurns C AimsCoverShares
+pub cover-shares : (C : Type 0) → HoldsAtTurns C SharesAreCovered
 cover-shares C test w k r t ok kept can =
     let whole = whole-turn w k r t kept can in
     record { covered = aims-covered test w k r t ok whole; due = aims-parts w k r t whole }

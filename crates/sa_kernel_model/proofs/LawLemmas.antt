@@ -18,7 +18,7 @@ use Rattle.sa_laws.specs.Upcalls.{RecordLaw, EachRecord, TellsOnce, NamesTheLife
 use Rattle.sa_kernel_model.specs.Overview.{Overview, overview, read_off, act_space}
 use Rattle.sa_kernel_model.specs.Turn.{Turn, CanTurn, event_of}
 use Rattle.sa_kernel_model.specs.Kept.{IsKept}
-use Rattle.sa_kernel_model.specs.Laws.{HoldsAtTurns, TurnsKeep, ToldOnce, AllTold, BlockUpcall, InterruptNext}
+use Rattle.sa_kernel_model.specs.Laws.{HoldsAtTurns, TurnsKeep, ToldOnce, AllTold, UpcallGiven, InterruptNext}
 use Rattle.sa_kernel_model.proofs.UpLemmas.{Lawful, each-weaker}
 use Rattle.sa_kernel_model.proofs.WholeLemmas.{closing_of, reading_at, whole-turn}
 use Rattle.sa_kernel_model.proofs.KeepLemmas.{reads-after, turn-keeps, prompt-in}
@@ -66,7 +66,7 @@ told-once C test w k r t ok kept can = record { told = each-of w k r t TellsOnce
 pub all-told : (C : Type 0) → HoldsAtTurns C AllTold
 all-told C test w k r t ok kept can = record { told = each-of w k r t (TellsAllThen t.proc) kept can (λ c x rest law. law.all) }
 
-pub block-upcalls : (C : Type 0) → HoldsAtTurns C BlockUpcall
+pub block-upcalls : (C : Type 0) → HoldsAtTurns C UpcallGiven
 block-upcalls C test w k r t ok kept can = record { blocks = each-of w k r t (GivesUpcallThen t.proc) kept can (λ c x rest law. law.gives) }
 
 pub in-time : (C : Type 0) → HoldsAtTurns C IsToldInTime

@@ -27,10 +27,10 @@ use Rattle.sa_kernel_model.proofs.StartLemmas as start
 pub all-at-turn : (C : Type 0) → HoldsAtTurns C AllHold
 all-at-turn C test w k r t ok kept can = record {
   told_once = told-once C test w k r t ok kept can;
-  in_time = in-time C test w k r t ok kept can;
+  told_in_time = in-time C test w k r t ok kept can;
   where_owned = where-owned C test w k r t ok kept can;
   all_told = all-told C test w k r t ok kept can;
-  block_upcall = block-upcalls C test w k r t ok kept can;
+  upcall_given = block-upcalls C test w k r t ok kept can;
   interrupt_next = interrupt-next C test w k r t ok kept can;
   line_cause = line-cause C test w k r t ok kept can;
   want_cause = want-cause C test w k r t ok kept can;
@@ -40,10 +40,10 @@ all-at-turn C test w k r t ok kept can = record {
 pub all-at-opening : HoldsAtOpening AllHold
 all-at-opening test w ok = record {
   told_once = start.told-once test w ok;
-  in_time = start.in-time test w ok;
+  told_in_time = start.in-time test w ok;
   where_owned = start.where-owned test w ok;
   all_told = start.all-told test w ok;
-  block_upcall = start.block-upcalls test w ok;
+  upcall_given = start.block-upcalls test w ok;
   interrupt_next = start.interrupt-next test w ok;
   line_cause = start.line-cause test w ok;
   want_cause = start.want-cause test w ok;

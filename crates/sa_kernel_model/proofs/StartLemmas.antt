@@ -19,10 +19,10 @@ use Rattle.sa_laws.specs.History.{begun, behind_all, after_records, after_event}
 use Rattle.sa_laws.specs.Shape.{is_no_aim, lines_in, aims_in, before_aims, front_part}
 use Rattle.sa_laws.specs.Opening.{first_wants, opening_records, opening_event}
 use Rattle.sa_laws.specs.Closing.{want_one, spaces_of, aims_due, lines_due}
-use Rattle.sa_laws.specs.Upcalls.{RecordLaw, EachRecord, TellsOnce, NamesTheLife, TellsAllThen, GivesUpcallThen, RaisesLine, BeginsAsInterrupt, FirstLineIsAsked, IsToldInTime, RunsWhereOwned, WantsHaveCause, AimsCoverShares}
+use Rattle.sa_laws.specs.Upcalls.{RecordLaw, EachRecord, TellsOnce, NamesTheLife, TellsAllThen, GivesUpcallThen, RaisesLine, BeginsAsInterrupt, FirstLineIsAsked, IsToldInTime, RunsWhereOwned, WantHasCause, SharesAreCovered}
 use Rattle.sa_laws.proofs.Records.{records-append}
 use Rattle.sa_kernel_model.specs.Overview.{Overview}
-use Rattle.sa_kernel_model.specs.Laws.{HoldsAtOpening, AnyLines, ToldOnce, AllTold, BlockUpcall, InterruptNext, LineCause}
+use Rattle.sa_kernel_model.specs.Laws.{HoldsAtOpening, AnyLines, ToldOnce, AllTold, UpcallGiven, InterruptNext, LineCause}
 use Rattle.sa_kernel_model.proofs.UpLemmas.{Lawful, AreLawful, each-weaker}
 use Rattle.sa_kernel_model.proofs.WantLemmas.{spaces_from, wants-lawful, nothing-heard}
 use Rattle.sa_kernel_model.proofs.AimLemmas.{aims-lawful, aims-reads}
@@ -79,7 +79,7 @@ told-once test w ok = record { told = each-opening w TellsOnce ok (λ c x rest l
 pub all-told : HoldsAtOpening AllTold
 all-told test w ok = record { told = each-opening w (TellsAllThen zeroth) ok (λ c x rest law. law.all) }
 
-pub block-upcalls : HoldsAtOpening BlockUpcall
+pub block-upcalls : HoldsAtOpening UpcallGiven
 block-upcalls test w ok = record { blocks = each-opening w (GivesUpcallThen zeroth) ok (λ c x rest law. law.gives) }
 
 pub interrupt-next : HoldsAtOpening InterruptNext
@@ -129,7 +129,7 @@ where-owned test w ok =
           ∙ ap (λ (v : Overview). map (space_of_life after) v.running) (sym reads);
     }
 
-pub want-cause : HoldsAtOpening WantsHaveCause
+pub want-cause : HoldsAtOpening WantHasCause
 want-cause test w ok = record {
   due = λ later. absurd (omega arith);
   none = λ s.
@@ -155,7 +155,7 @@ line-cause test w ok =
           ∙ no-lines_due w (after_records w 0 zeroth r all) (length w.spaces) (untold-after w ok));
     }
 
-pub cover-shares : HoldsAtOpening AimsCoverShares
+pub cover-shares : HoldsAtOpening SharesAreCovered
 cover-shares test w ok =
     let m = wanting w in
     let r = begun w (opening_event w) (opening_readings w) in

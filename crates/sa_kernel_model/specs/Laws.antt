@@ -16,7 +16,7 @@ use Rattle.sa_laws.specs.Opening.{opening_event}
 use Rattle.sa_laws.specs.Shape.{own_part, closing_part}
 use Rattle.sa_laws.specs.Turns.{IsClosing}
 use Rattle.sa_laws.specs.Rules.{NoLines}
-use Rattle.sa_laws.specs.Upcalls.{OwnLines, IsToldOnce, IsToldInTime, RunsWhereOwned, UpcallsTellAll, BlocksGiveUpcalls, InterruptsNext, LinesHaveCause, WantsHaveCause, AimsCoverShares}
+use Rattle.sa_laws.specs.Upcalls.{OwnLines, IsToldOnce, IsToldInTime, RunsWhereOwned, AllIsTold, UpcallIsGiven, InterruptIsNext, LineHasCause, WantHasCause, SharesAreCovered}
 use Rattle.sa_kernel_model.specs.Turn.{AreUsers, Turn, CanTurn, ShapeOf, asks_line, turned, turn_on, before_entry, event_of}
 use Rattle.sa_kernel_model.specs.Kept.{IsKept}
 
@@ -33,28 +33,28 @@ abbrev pub ToldOnce : KernelLaw
 ToldOnce test w r e = IsToldOnce w r e
 
 abbrev pub AllTold : KernelLaw
-AllTold test w r e = UpcallsTellAll w r e
+AllTold test w r e = AllIsTold w r e
 
-abbrev pub BlockUpcall : KernelLaw
-BlockUpcall test w r e = BlocksGiveUpcalls w r e
+abbrev pub UpcallGiven : KernelLaw
+UpcallGiven test w r e = UpcallIsGiven w r e
 
 abbrev pub InterruptNext : KernelLaw
-InterruptNext test w r e = InterruptsNext w r e
+InterruptNext test w r e = InterruptIsNext w r e
 
 abbrev pub LineCause : KernelLaw
-LineCause test w r e = LinesHaveCause AnyLines w r e
+LineCause test w r e = LineHasCause AnyLines w r e
 
 -- all of them at an event
 pub record AllHold (test : Test) (w : WorkloadView) (r : Readings) (e : Event) : Type 0 where
   pub told_once : IsToldOnce w r e
-  pub in_time : IsToldInTime test w r e
+  pub told_in_time : IsToldInTime test w r e
   pub where_owned : RunsWhereOwned test w r e
-  pub all_told : UpcallsTellAll w r e
-  pub block_upcall : BlocksGiveUpcalls w r e
-  pub interrupt_next : InterruptsNext w r e
-  pub line_cause : LinesHaveCause AnyLines w r e
-  pub want_cause : WantsHaveCause test w r e
-  pub shares_covered : AimsCoverShares test w r e
+  pub all_told : AllIsTold w r e
+  pub upcall_given : UpcallIsGiven w r e
+  pub interrupt_next : InterruptIsNext w r e
+  pub line_cause : LineHasCause AnyLines w r e
+  pub want_cause : WantHasCause test w r e
+  pub shares_covered : SharesAreCovered test w r e
 
 -- it holds at the opening
 abbrev pub HoldsAtOpening : KernelLaw → Type 0
@@ -76,7 +76,7 @@ module _ (C : Type 0) where
   abbrev pub LinesAreTheKernels : Type 0
   LinesAreTheKernels =
       (w : WorkloadView) (k : KernelState C) (r : Readings) (t : Turn C) → IsWorkload w → IsKept w k r → CanTurn w k r t → asks_line t.entry ≡ false
-      → LinesHaveCause NoLines w r (event_of t k)
+      → LineHasCause NoLines w r (event_of t k)
 
   -- a turn keeps what is kept; so does the fetch of a notice
   abbrev pub TurnsKeep : Type 0

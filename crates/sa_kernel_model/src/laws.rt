@@ -1,6 +1,6 @@
 //! What the kernel keeps from turn to turn, and the laws that hold at the event of each. No function here does anything.
-ghost use Rattle.sa_laws.specs.Upcalls.{AimsCoverShares, IsToldInTime, RunsWhereOwned, WantsHaveCause};
-ghost use Rattle.sa_kernel_model.specs.Laws.{AddsItsEvent, AllHold, FetchesKeep, HoldsAtOpening, HoldsAtTurns, LinesAreTheKernels, OpeningIs, OpeningKeeps, QuietEventsKeep, TurnsHaveParts, TurnsKeep, ToldOnce, AllTold, BlockUpcall, InterruptNext, LineCause};
+ghost use Rattle.sa_laws.specs.Upcalls.{SharesAreCovered, IsToldInTime, RunsWhereOwned, WantHasCause};
+ghost use Rattle.sa_kernel_model.specs.Laws.{AddsItsEvent, AllHold, FetchesKeep, HoldsAtOpening, HoldsAtTurns, LinesAreTheKernels, OpeningIs, OpeningKeeps, QuietEventsKeep, TurnsHaveParts, TurnsKeep, ToldOnce, AllTold, UpcallGiven, InterruptNext, LineCause};
 
 /// After each turn the state of the kernel is what it knows of the history.
 pub fn turns_keep<C: Drop>()
@@ -58,7 +58,7 @@ pub fn upcalls_tell_all<C: Drop>()
 
 /// A block names the number of its I/O, and after it comes an upcall of its space, or the leave.
 pub fn blocks_give_upcalls<C: Drop>()
-    ensures { HoldsAtTurns C BlockUpcall }
+    ensures { HoldsAtTurns C UpcallGiven }
 {}
 
 /// A turn is an interrupt exactly where its processor's line was raised; the processor goes to its aim.
@@ -76,13 +76,13 @@ pub fn lines_have_causes<C: Drop>()
 /// But for a hint the wants are those that are due, and after each turn no space that wants no processor must be told
 /// anything.
 pub fn wants_have_causes<C: Drop>()
-    ensures { HoldsAtTurns C WantsHaveCause }
+    ensures { HoldsAtTurns C WantHasCause }
 {}
 
 /// After each turn each space has at least its share of aims. Aims come only where a space misses some, as often as it
 /// does, in the order of the spaces' numbers, each of the processor that is first to be chosen.
 pub fn aims_cover_shares<C: Drop>()
-    ensures { HoldsAtTurns C AimsCoverShares }
+    ensures { HoldsAtTurns C SharesAreCovered }
 {}
 
 /// The event of a turn holds what the user level says, the records of its entry, and the closing, and no others.

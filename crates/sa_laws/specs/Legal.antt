@@ -4,7 +4,7 @@ use Rattle.sa_base.specs.declared.record.End.{End}
 use Rattle.sa_base.specs.declared.record.Item.{Item}
 use Rattle.sa_spaces.specs.Workload.{WorkloadView}
 use Rattle.sa_laws.specs.declared.rule.Rule.{Rule}
-use Rattle.sa_laws.specs.declared.rule.Rule.TheVariants.{Numbering}
+use Rattle.sa_laws.specs.declared.rule.Rule.TheVariants.{Numbered}
 use Rattle.sa_laws.specs.Event.{Event, events_of}
 use Rattle.sa_laws.specs.Readings.{Readings}
 use Rattle.sa_laws.specs.History.{readings, read_before}
@@ -61,7 +61,7 @@ pub record BreaksAt (u : UserRules) (w : WorkloadView) (events : List Event) (li
 
 -- The first break of a trace; a trace without an item breaks the law of the opening at event 0.
 abbrev pub FirstBreakIn : UserRules → WorkloadView → List Event → LastLine → ℕ → Rule → Type 0
-FirstBreakIn u w [] line number rule = (number ≡ 0) × (rule ≡ Numbering)
+FirstBreakIn u w [] line number rule = (number ≡ 0) × (rule ≡ Numbered)
 FirstBreakIn u w (e ∷ es) line number rule = BreaksAt u w (e ∷ es) line number rule
 
 abbrev pub FirstBreak : UserRules → WorkloadView → List Item → LastLine → ℕ → Rule → Type 0

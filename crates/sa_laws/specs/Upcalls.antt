@@ -100,7 +100,7 @@ TellsAllThen p r (Up s a) rest = TellsAll p r s a rest
 TellsAllThen p r (GiveBack a) rest = IsTaken r a
 TellsAllThen p r _ rest = Unit {0}
 
-pub record UpcallsTellAll (w : WorkloadView) (r : Readings) (e : Event) : Type 0 where
+pub record AllIsTold (w : WorkloadView) (r : Readings) (e : Event) : Type 0 where
   pub told : EachOf (TellsAllThen e.proc) w r e
 
 -- what comes after where a processor goes on in a space: an up of that space where its upcall page is resident; else
@@ -130,7 +130,7 @@ abbrev pub GivesUpcallThen : ProcNo → RecordLaw
 GivesUpcallThen p r (Block s t a io) rest = GivesUpcall p r s io rest
 GivesUpcallThen p r _ rest = Unit {0}
 
-pub record BlocksGiveUpcalls (w : WorkloadView) (r : Readings) (e : Event) : Type 0 where
+pub record UpcallIsGiven (w : WorkloadView) (r : Readings) (e : Event) : Type 0 where
   pub blocks : EachOf (GivesUpcallThen e.proc) w r e
 
 -- An interrupt is the next event: an event is an interrupt exactly where its processor's line was raised. It begins
@@ -157,7 +157,7 @@ StopsAndGoes p r None aim records = GoesToAim p r None aim records
 StopsAndGoes p r (Some o) aim (Stop s t a ∷ rest) = (s ≡ o) × GoesToAim p r (Some o) aim rest
 StopsAndGoes p r (Some o) aim _ = ⊥
 
-pub record InterruptsNext (w : WorkloadView) (r : Readings) (e : Event) : Type 0 where
+pub record InterruptIsNext (w : WorkloadView) (r : Readings) (e : Event) : Type 0 where
   pub interrupt : is_some (line_of r e.proc) ≡ true
       → StopsAndGoes e.proc (begun w e r) (owner_of r e.proc) (aim_of r e.proc) e.records
   pub calm : BeginsAsInterrupt e.records → is_some (line_of r e.proc) ≡ true
@@ -193,7 +193,7 @@ abbrev pub FirstLineIsAsked : OwnLines → WorkloadView → Readings → ProcNo 
 FirstLineIsAsked Asked w r p (Line q ∷ records) = IsOwnLine Asked w r p q
 FirstLineIsAsked Asked w r p _ = Unit {0}
 
-pub record LinesHaveCause (Asked : OwnLines) (w : WorkloadView) (r : Readings) (e : Event) : Type 0 where
+pub record LineHasCause (Asked : OwnLines) (w : WorkloadView) (r : Readings) (e : Event) : Type 0 where
   pub heard : EachOf RaisesLine w r e
   pub first : FirstLineIsAsked Asked w r e.proc e.records
   pub order : aims_in (last_lines e.records) ≡ []
@@ -201,13 +201,13 @@ pub record LinesHaveCause (Asked : OwnLines) (w : WorkloadView) (r : Readings) (
 
 -- A want has its cause: but for the opening, and for the first record of an event, the wants are those that are due;
 -- and after the event no space that wants no processor must be told anything.
-pub record WantsHaveCause (test : Test) (w : WorkloadView) (r : Readings) (e : Event) : Type 0 where
+pub record WantHasCause (test : Test) (w : WorkloadView) (r : Readings) (e : Event) : Type 0 where
   pub due : 1 ≤ e.number → wants_in (others_of e.records) ≡ wants_due w (behind w e r (before_wants e.records))
   pub none : (s : SpaceNo) → must_want (after_event test w r e) s ≡ false
 
 -- Aims cover shares: after the event each space has at least its share of aims. Aims at spaces come only where a space
 -- misses some, as often as it does, in the order of the spaces' numbers, each of the processor that is first to be
 -- chosen.
-pub record AimsCoverShares (test : Test) (w : WorkloadView) (r : Readings) (e : Event) : Type 0 where
+pub record SharesAreCovered (test : Test) (w : WorkloadView) (r : Readings) (e : Event) : Type 0 where
   pub covered : (s : ℕ) → share_at (shares_at w e.number (after_event test w r e)) s ≤ aimed s (after_event test w r e).aims
   pub due : aims_in e.records ≡ aims_due w e.number (behind w e r (before_aims e.records))

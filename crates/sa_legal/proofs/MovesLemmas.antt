@@ -83,13 +83,13 @@ event-shaped : (w : WorkloadView) (r : Readings) (e : Event) → IsLawful fast_t
 event-shaped w r e law = one e.number refl where
   one : (n : ℕ) → e.number ≡ n → IsShaped w e.proc (begun w e r) e.records
   one zero is =
-      let same = ap (λ (f : Event). f.records) (law.numbering.opening is) in
+      let same = ap (λ (f : Event). f.records) (law.numbered.opening is) in
       let calm : AreCalm e.records = subst AreCalm (sym same) (calm-opening w) in
       (calm-fit None e.records calm, calm-first w e.proc (begun w e r) e.records calm)
   one (suc n) is =
       let later : 1 ≤ e.number = omega arith in
-      let turns = law.turns_and_steps in
-      let locks = law.list_locks in
+      let turns = law.turns_taken in
+      let locks = law.locks_kept in
       whole-shaped w e.proc (begun w e r) e.records (turn-shaped w (begun w e r) e.proc e.number _ _ (turns.turn later) (locks.step later))
       (turns.closing later)
 
@@ -133,7 +133,7 @@ moves-each w e p r (x ∷ xs) last is fit named tells once steps = (
 pub lawful-moves : (u : UserRules) (w : WorkloadView) (r : Readings) (e : Event) → IsLawful u w r e → AfterUps None e.records
     → EachRecord (Moves w e.proc) w e.number e.proc (begun w e r) e.records
 lawful-moves u w r e law fit =
-    moves-each w e.number e.proc (begun w e r) e.records None refl fit law.where_owned.named law.all_told.told law.at_most_once.told law.step_taken.steps
+    moves-each w e.number e.proc (begun w e r) e.records None refl fit law.where_owned.named law.all_told.told law.told_once.told law.stepwise.steps
 
 pub fast-moves : (w : WorkloadView) (r : Readings) (e : Event) → IsLawful fast_threads w r e
     → EachRecord (Moves w e.proc) w e.number e.proc (begun w e r) e.records

@@ -162,7 +162,7 @@ sound-along : (w : WorkloadView) (items : List Item) → IsLegal fast_threads w 
 sound-along w items legal =
     let gives : (r : Readings) (e : Event) → IsLawful fast_threads w r e → EachRecord (Moves w e.proc) w e.number e.proc (begun w e r) e.records =
     λ r e law. both w e.number e.proc (begun w e r) e.records (moves-lives w r e law)
-    (on-machine w e.proc e.number (begun w e r) e.records law.numbering.proc) in
+    (on-machine w e.proc e.number (begun w e r) e.records law.numbered.proc) in
     along fast_threads w (Moves w) gives (opening_readings w) (events_of items) (legal-lawful fast_threads w items legal)
 
 sound-walk : (w : WorkloadView) (events : List Event) → Along fast_threads.inside w (Moves w) (opening_readings w) events

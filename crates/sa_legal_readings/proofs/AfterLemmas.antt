@@ -117,7 +117,7 @@ pub event-at : (w : WorkloadView) (past : List Item) (r : Readings) (e : Event) 
     → IsEventAt w past r e
 event-at w past r e at owned law =
     let mid = read-event w past r e at law in
-    let begins = read-begins w past r e law.numbering.number at in
+    let begins = read-begins w past r e law.numbered.number at in
     record {
       after = mid.read;
       own = own-event w past r e at.read at.until owned law;

@@ -135,10 +135,10 @@ low-wants w r e x others (y ∷ cs) law from is rest closes = absurd closes
 in-form : (w : WorkloadView) (r : Readings) (e : Event) → IsLawful fast_threads w r e → 1 ≤ e.number → InForm w r e
 in-form w r e law from = one e.records refl where
   one : (xs : List Record) → e.records ≡ xs → InForm w r e
-  one [] is = absurd (law.numbering.some is)
+  one [] is = absurd (law.numbered.some is)
   one (x ∷ xs) is =
-      let turns = law.turns_and_steps in
-      let locks = law.list_locks in
+      let turns = law.turns_taken in
+      let locks = law.locks_kept in
       let closes : IsClosing (closing_part (x ∷ xs)) = subst (λ ys. IsClosing (closing_part ys)) is (turns.closing from) in
       record {
         first = x;
@@ -444,20 +444,20 @@ event-fine w r e known law from s within fine = whole (in-form w r e law from) w
   goes-at xs is = record {
     moves = subst (EachRecord (Moves w e.proc) w e.number e.proc (begun w e r)) is (fast-moves w r e law);
     tells = subst (EachRecord (TellsAllThen e.proc) w e.number e.proc (begun w e r)) is law.all_told.told;
-    steps = subst (AreSteps w e.number e.proc (begun w e r)) is law.step_taken.steps;
+    steps = subst (AreSteps w e.number e.proc (begun w e r)) is law.stepwise.steps;
   }
 
   formed : (x : Record) (ys cs : List Record) → e.records ≡ x ∷ (ys ++ cs) → IsClosing cs → EachRecord (Passes s) w e.number e.proc (After w r e (x ∷ ys)) cs
       → Form StepBy w (begun w e r) e.proc x ys
       → FineAfter w r e (x ∷ (ys ++ cs)) s
   formed x ys cs is closes closing (inl turns) =
-      up-turn-fine w r e s x ys cs known law.numbering.proc within fine is (goes-at (x ∷ (ys ++ cs)) is) closes closing turns.0 turns.1
+      up-turn-fine w r e s x ys cs known law.numbered.proc within fine is (goes-at (x ∷ (ys ++ cs)) is) closes closing turns.0 turns.1
   formed x ys cs is closes closing (inr (inl calm)) = calm-fine w r e s x ys cs known fine (goes-at (x ∷ (ys ++ cs)) is) closing calm
   formed x ys cs is closes closing (inr (inr step)) =
       let life : r.lives step.act.0 ≡ Some step.life = ap (life_if r) (sym step.runs) ∙ step.on in
       elim (cases_eq step.life.space.0 s.0) [
         | inl same ↦
-            same-fine w r e s x ys cs known within fine (subst (BeginsFreely w r e.proc) is (law.demand_said.step from))
+            same-fine w r e s x ys cs known within fine (subst (BeginsFreely w r e.proc) is (law.demand_announced.step from))
             (goes-at (x ∷ (ys ++ cs)) is) closes closing step life
             (ap (λ n. record { 0 = n }) same)
         | inr apart ↦ other-fine w r e s x ys cs known fine (goes-at (x ∷ (ys ++ cs)) is) closing step (ap space_of life) apart

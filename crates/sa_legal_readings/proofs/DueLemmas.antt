@@ -178,8 +178,8 @@ pub record BeforeLast (w : WorkloadView) (r : Readings) (e : Event) : Type 0 whe
 
 pub before-last : (w : WorkloadView) (r : Readings) (e : Event) → LowAt w r → IsLawful fast_threads w r e → BeforeLast w r e
 before-last w r e at law =
-    let from : 1 ≤ e.number = (let same = law.numbering.number in let some = at.number in omega arith) in
-    let parts = in-parts w r e law from (at.aimed e.proc law.numbering.proc) in
+    let from : 1 ≤ e.number = (let same = law.numbered.number in let some = at.number in omega arith) in
+    let parts = in-parts w r e law from (at.aimed e.proc law.numbered.proc) in
     let none = turned-noline e.proc (owner_of r e.proc) (aim_of r e.proc) parts.own parts.turned in
     let last = last_of None parts.own in
     let front : front_part e.records ≡ parts.own ++ before_lines last parts.closing =
@@ -196,7 +196,7 @@ before-last w r e at law =
     let own_after = after_records w e.number e.proc (begun w e r) parts.own in
     let own_procs = procs-records w e.number e.proc (begun w e r) parts.own begins in
     let own_lines = own_procs.lines in
-    let proc = law.numbering.proc in
+    let proc = law.numbered.proc in
     let heard = subst (EachRecord RaisesLine w e.number e.proc (begun w e r)) (sym parts.is) law.line_cause.heard in
     let mid = after_records w e.number e.proc (begun w e r) (parts.own ++ before_lines last parts.closing) in
     record {
@@ -375,5 +375,5 @@ later-lines w items legal n e at from =
         → IsLawful fast_threads v (after_events is_inside v (opening_readings v) (take k events)) f
         → LowAt v (after_events is_inside v (opening_readings v) (take k events))
     low-before v [] k f there all first law = absurd (none-some f there)
-    low-before v (x ∷ xs) zero f there all first law = absurd (let number = law.numbering.number in omega arith)
+    low-before v (x ∷ xs) zero f there all first law = absurd (let number = law.numbered.number in omega arith)
     low-before v (x ∷ xs) (suc k) f there all first law = low-along v (after_event is_inside v (opening_readings v) x) xs (low-first v x all.0) all.1 k

@@ -181,9 +181,9 @@ in-parts w r e law from aimed = one e.records refl where
   low-is (Some v) is = absurd (cc)
 
   one : (xs : List Record) → e.records ≡ xs → InParts w r e
-  one [] is = absurd (law.numbering.some is)
+  one [] is = absurd (law.numbered.some is)
   one (x ∷ xs) is =
-      let turns = law.turns_and_steps in
+      let turns = law.turns_taken in
       let whole : own_part (x ∷ xs) ++ closing_part (x ∷ xs) ≡ x ∷ xs = ap (λ ys. x ∷ ys) (parts-take (prefix_len is_own xs) xs) in
       record {
         own = own_part (x ∷ xs);
@@ -194,7 +194,7 @@ in-parts w r e law from aimed = one e.records refl where
             (λ low_line. aimed (low-is (line_of r e.proc) low_line))
             (subst (λ ys. Rattle.sa_laws.specs.Turns.IsTurn Rattle.sa_laws.specs.Turns.IsStep (is_some (line_of r e.proc)) e.number w (begun w e r) e.proc
             (own_part ys)) is (turns.turn from))
-            (subst (EachRecord (GivesUpcallThen e.proc) w e.number e.proc (begun w e r)) is law.block_upcall.blocks);
+            (subst (EachRecord (GivesUpcallThen e.proc) w e.number e.proc (begun w e r)) is law.upcall_given.blocks);
         closes = subst (λ ys. IsClosing (closing_part ys)) is (turns.closing from);
       }
 
@@ -213,18 +213,18 @@ aimed-event w r e q at law within = elim (cases_eq q.0 e.proc.0) [
       (inl (begun-aimed w r e q apart (at.aimed q within)))
 ] where
   number : 1 ≤ e.number
-  number = let same = law.numbering.number in let some = at.number in omega arith
+  number = let same = law.numbered.number in let some = at.number in omega arith
 
   parts : InParts w r e
-  parts = in-parts w r e law (let same = law.numbering.number in let some = at.number in omega arith) (at.aimed e.proc law.numbering.proc)
+  parts = in-parts w r e law (let same = law.numbered.number in let some = at.number in omega arith) (at.aimed e.proc law.numbered.proc)
 
   own : q ≡ e.proc → LowAimed (behind_all w e r) q
   own same =
-      let ps = in-parts w r e law (let number_is = law.numbering.number in let some = at.number in omega arith) (at.aimed e.proc law.numbering.proc) in
+      let ps = in-parts w r e law (let number_is = law.numbered.number in let some = at.number in omega arith) (at.aimed e.proc law.numbered.proc) in
       let begins = procs-begun w e r at.procs in
       let owners = begins.owners in
       let aims = begins.aims in
-      let proc = law.numbering.proc in
+      let proc = law.numbered.proc in
       let mid = after_records w e.number e.proc (begun w e r) ps.own in
       let mid_procs = procs-records w e.number e.proc (begun w e r) ps.own begins in
       let lines = mid_procs.lines in
@@ -254,7 +254,7 @@ low-first w e law =
     let procs : HasProcs w start =
     record { owners = length-replicate w.processors None; aims = length-replicate w.processors None; lines = length-replicate w.processors None } in
     let wanting = after_records w 0 (proc_no 0) start (first_wants w) in
-    let records : e.records ≡ opening_records w = ap (λ (f : Event). f.records) (law.numbering.opening law.numbering.number) in
+    let records : e.records ≡ opening_records w = ap (λ (f : Event). f.records) (law.numbered.opening law.numbered.number) in
     record {
       procs =
           (let has = procs-records w e.number e.proc (begun w e start) e.records (procs-begun w e start procs) in

@@ -99,12 +99,12 @@ pub first-want : (w : WorkloadView) (r : Readings) (e : Event) (s : SpaceNo) (n 
 first-want w r e s n others sized law is = one e.number refl where
   one : (k : ℕ) → e.number ≡ k → s.0 < length w.spaces
   one zero at =
-      let same = ap (λ (f : Event). f.records) (law.numbering.opening at) in
+      let same = ap (λ (f : Event). f.records) (law.numbered.opening at) in
       let wanting = after_records w 0 (proc_no 0) (opening_readings w) (first_wants w) in
       let below = wants-first 0 (length w.spaces) 0 wanting.lines (aims_due w 0 wanting) s n others (sym is ∙ same) in omega arith
   one (suc k) at =
       let later : 1 ≤ e.number = omega arith in
-      let turns = law.turns_and_steps in
+      let turns = law.turns_taken in
       want-turn w (begun w e r) e.proc e.number (is_some (line_of r e.proc)) s n (take_while is_own others) sized
       (subst (λ xs. IsTurn IsStep (is_some (line_of r e.proc)) e.number w (begun w e r) e.proc (own_part xs)) is (turns.turn later))
 
@@ -130,5 +130,5 @@ known-each w e p r (x ∷ xs) within first moves raises = (
 pub known-event : (w : WorkloadView) (r : Readings) (e : Event) → IsSized w (begun w e r) → IsLawful fast_threads w r e
     → EachRecord (Known w e.proc) w e.number e.proc (begun w e r) e.records
 known-event w r e sized law =
-    known-each w e.number e.proc (begun w e r) e.records law.numbering.proc (λ none s n others is. first-want w r e s n others sized law is)
+    known-each w e.number e.proc (begun w e r) e.records law.numbered.proc (λ none s n others is. first-want w r e s n others sized law is)
     (moves-lives w r e law) law.line_cause.heard

@@ -51,7 +51,7 @@ apart-all w e p st r (x ∷ xs) apart goes =
 apart-next : (w : WorkloadView) (r : Readings) (e : Event) → StaysApart r → IsLawful fast_threads w r e → StaysApart (after_event is_inside w r e)
 apart-next w r e known law =
     let all = apart-all w e.number e.proc known.st (begun w e r) e.records (apart-begun w known.st r e e.records known.apart)
-    (record { moves = fast-moves w r e law; tells = law.all_told.told; steps = law.step_taken.steps }) in
+    (record { moves = fast-moves w r e law; tells = law.all_told.told; steps = law.stepwise.steps }) in
     record { st = all.st; apart = apart-ended is_inside w all.st r e (behind_all w e r) all.apart }
 
 stays-start : (w : WorkloadView) → StaysApart (opening_readings w)
@@ -134,7 +134,7 @@ first-fine : (w : WorkloadView) (e : Event) → IsLawful fast_threads w (opening
     → Fine w (after_event is_inside w (opening_readings w) e) (after_event is_inside w (opening_readings w) e).lives s
 first-fine w e law s within =
     let wanting = after_records w 0 (proc_no 0) (opening_readings w) (first_wants w) in
-    let records : e.records ≡ opening_records w = ap (λ (f : Event). f.records) (law.numbering.opening law.numbering.number) in
+    let records : e.records ≡ opening_records w = ap (λ (f : Event). f.records) (law.numbered.opening law.numbered.number) in
     let long : length (begun w e (opening_readings w)).demands ≡ length w.spaces = Rattle.std.proofs.lemmas.List.length-replicate (length w.spaces) 0 in
     let wants = wants-demand w e.number e.proc 0 (length w.spaces) (begun w e (opening_readings w)) s (omega arith) (inl (omega arith, omega arith)) in
     let same = aims-same w e.number e.proc (after_records w e.number e.proc (begun w e (opening_readings w)) (first_wants w))
@@ -165,7 +165,7 @@ fine-along w es r [] read apart later fine law (suc n) = fine
 fine-along w es r (e ∷ events) read apart later fine law zero = fine
 fine-along w es r (e ∷ events) read apart later fine law (suc n) =
     let known : IsCovered w r = record { st = apart.st; apart = apart.apart; owned = read.said.owned; sized = read.said.at.read.sized } in
-    let from : 1 ≤ e.number = (let same = law.0.numbering.number in omega arith) in
+    let from : 1 ≤ e.number = (let same = law.0.numbered.number in omega arith) in
     fine-along w (es ++ e ∷ []) (after_event is_inside w r e) events (after-next w es r e read law.0) (apart-next w r e apart law.0)
     (let next = Rattle.sa_legal.proofs.MomentLemmas.number-next fast_threads w r e in omega arith)
     (λ s within. event-fine w r e known law.0 from s within (fine s within)) law.1 n

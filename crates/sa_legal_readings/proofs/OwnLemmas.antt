@@ -115,7 +115,7 @@ no-odd w r e a life x others law owned later runs is records odd = one (is_some 
       (subst (λ k. StopsAndGoes e.proc (begun w e r) k (aim_of r e.proc) e.records) owner goes))
 
   turns : IsTurn IsStep (is_some (line_of r e.proc)) e.number w (begun w e r) e.proc (own_part (x ∷ others))
-  turns = subst (λ xs. IsTurn IsStep (is_some (line_of r e.proc)) e.number w (begun w e r) e.proc (own_part xs)) records (law.turns_and_steps.turn later)
+  turns = subst (λ xs. IsTurn IsStep (is_some (line_of r e.proc)) e.number w (begun w e r) e.proc (own_part xs)) records (law.turns_taken.turn later)
 
   one : (b : Bool) → is_some (line_of r e.proc) ≡ b → ⊥
   one true raised = stops (law.interrupt_next.interrupt raised)
@@ -175,7 +175,7 @@ own-event w past r e read until owned law = by_records e.records refl where
       (step-or x others (λ odd. no-odd w r e a life.0 x others law owned later is life.1 records odd))
     where
       number : (n : ℕ) → e.number ≡ n → (b : ActNo) → running_of r e.proc ≡ Some b → 1 ≤ e.number
-      number zero at b some = absurd (none-some b (sym (first-none past r e.proc until (sym law.numbering.number ∙ at)) ∙ sym (read.running e.proc) ∙ some))
+      number zero at b some = absurd (none-some b (sym (first-none past r e.proc until (sym law.numbered.number ∙ at)) ∙ sym (read.running e.proc) ∙ some))
       number (suc n) at b some = omega arith
 
   by_records : (xs : List Record) → e.records ≡ xs → stepper r e xs ≡ (if begins_otherwise xs then None else runs_on past e.proc)

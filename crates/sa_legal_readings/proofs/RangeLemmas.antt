@@ -266,9 +266,9 @@ event-moves w r e law below = one e.number refl where
   later : 1 ≤ e.number → (xs : List Record) → e.records ≡ xs → EachMove (length w.spaces) xs
   later from [] is = tt
   later from (x ∷ xs) is =
-      let turns = law.turns_and_steps in
+      let turns = law.turns_taken in
       let whole : own_part (x ∷ xs) ++ closing_part (x ∷ xs) ≡ x ∷ xs = ap (λ ys. x ∷ ys) (parts-take (prefix_len is_own xs) xs) in
-      let gives = subst (EachRecord (GivesUpcallThen e.proc) w e.number e.proc (begun w e r)) is law.block_upcall.blocks in
+      let gives = subst (EachRecord (GivesUpcallThen e.proc) w e.number e.proc (begun w e r)) is law.upcall_given.blocks in
       let turn = subst (λ ys. IsTurn IsStep (is_some (line_of r e.proc)) e.number w (begun w e r) e.proc (own_part ys)) is (turns.turn from) in
       let closing = subst (λ ys. IsClosing (closing_part ys)) is (turns.closing from) in
       subst (EachMove (length w.spaces)) whole
@@ -285,7 +285,7 @@ event-moves w r e law below = one e.number refl where
   one : (k : ℕ) → e.number ≡ k → EachMove (length w.spaces) e.records
   one zero at =
       let wanting = after_records w 0 (proc_no 0) (opening_readings w) (first_wants w) in
-      subst (EachMove (length w.spaces)) (sym (ap (λ (f : Event). f.records) (law.numbering.opening at)))
+      subst (EachMove (length w.spaces)) (sym (ap (λ (f : Event). f.records) (law.numbered.opening at)))
       (move-append (length w.spaces) (first_wants w) (records_of 0 wanting.lines (aims_due w 0 wanting)) (move-wants (length w.spaces) (spaces_of w))
       (move-aims (length w.spaces) 0 wanting.lines (aims_due w 0 wanting)))
   one (suc k) at = later (omega arith) e.records refl

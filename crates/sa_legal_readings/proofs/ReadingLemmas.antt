@@ -30,7 +30,7 @@ pub record IsReadAfter (w : WorkloadView) (es : List Event) (r : Readings) : Typ
 pub after-next : (w : WorkloadView) (es : List Event) (r : Readings) (e : Event) → IsReadAfter w es r → IsLawful fast_threads w r e
     → IsReadAfter w (es ++ e ∷ []) (after_event is_inside w r e)
 after-next w es r e inv law =
-    let begins = read-begins w (items_of es) r e law.numbering.number inv.said.at in
+    let begins = read-begins w (items_of es) r e law.numbered.number inv.said.at in
     let range = range-event w (items_of es) r e inv.range begins.read.sized law in
     record {
       said = said-next w es r e inv.said law range.homes;

@@ -203,15 +203,15 @@ ends-event e past some = one e.records some where
 pub read-event : (w : WorkloadView) (past : List Item) (r : Readings) (e : Event) → IsReadAt w past r → IsLawful fast_threads w r e
     → IsReadIn w e.number e.proc (past ++ items_at e.number e.proc e.records) (behind_all w e r)
 read-event w past r e at law =
-    let begins = read-begins w past r e law.numbering.number at in
+    let begins = read-begins w past r e law.numbered.number at in
     read-records w e.number e.proc past (begun w e r) e.records begins (known-event w r e begins.read.sized law)
 
 pub read-next : (w : WorkloadView) (past : List Item) (r : Readings) (e : Event) → IsReadAt w past r → IsLawful fast_threads w r e
     → IsReadAt w (past ++ items_at e.number e.proc e.records) (after_event is_inside w r e)
 read-next w past r e at law =
     read-ends w (past ++ items_at e.number e.proc e.records) r e (behind_all w e r)
-    (number-kept w e.number e.proc (begun w e r) e.records ∙ sym law.numbering.number)
-    (ends-event e past law.numbering.some) (read-event w past r e at law)
+    (number-kept w e.number e.proc (begun w e r) e.records ∙ sym law.numbered.number)
+    (ends-event e past law.numbered.some) (read-event w past r e at law)
 
 -- before any event
 

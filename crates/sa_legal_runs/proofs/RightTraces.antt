@@ -52,7 +52,7 @@ rights : (u : UserRules) (w : WorkloadView) (r : Readings) (es : List Event) (li
     → HoldEach u w all_rules (after_events u.inside w r (take n es)) e (last_at n (length es) line)
 rights u w r [] line law on end count n e is = absurd (none-some e is)
 rights u w r (x ∷ []) line law on end count zero e is =
-    let numbered = law.0.numbering.number in
+    let numbered = law.0.numbered.number in
     subst (λ (y : Event). HoldEach u w all_rules r y (last_at 0 1 line)) (same_Some x e is)
     (with-end u w r x (Some line) law.0 (omega (arith, count, numbered), end))
 rights u w r (x ∷ []) line law on end count (suc n) e is = absurd (none-some e is)

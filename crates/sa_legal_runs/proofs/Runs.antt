@@ -70,7 +70,7 @@ numbered-at : (u : UserRules) (w : WorkloadView) (r : Readings) (es : List Event
 numbered-at u w r [] law k e is = absurd (none-some e is)
 numbered-at u w r (x ∷ es) law zero e is =
     let same : e.number ≡ x.number = ap (λ (y : Event). y.number) (sym (same_Some x e is)) in
-    let here : x.number ≡ r.number = law.0.numbering.number in
+    let here : x.number ≡ r.number = law.0.numbered.number in
     omega (arith, same, here)
 numbered-at u w r (x ∷ es) law (suc k) e is = let rest = numbered-at u w (after_event u.inside w r x) es law.1 k e is in let one =
     number-next u w r x in omega (arith, rest, one)

@@ -30,21 +30,21 @@ pub event-lawful : (rules : UserRules) (w : WorkloadView) (r : Readings) (ev : E
     → IsNumbered w r ev → IsStepwise w r ev → FirstLineIsAsked rules.Lines w r ev.proc ev.records
     → TurnsAreTaken rules.Steps w r ev → RulesPass rules w r ev → IsLawful rules w r ev
 event-lawful rules w r ev h numbered steps first turns pass = record {
-  numbering = numbered;
-  step_taken = steps;
-  at_most_once = h.told_once;
-  in_time = h.in_time;
+  numbered = numbered;
+  stepwise = steps;
+  told_once = h.told_once;
+  told_in_time = h.told_in_time;
   where_owned = h.where_owned;
   all_told = h.all_told;
-  block_upcall = h.block_upcall;
+  upcall_given = h.upcall_given;
   interrupt_next = h.interrupt_next;
   line_cause = record { heard = h.line_cause.heard; first = first; order = h.line_cause.order; due = h.line_cause.due };
   want_cause = h.want_cause;
   shares_covered = h.shares_covered;
-  demand_said = pass.demand;
-  turns_and_steps = turns;
-  list_locks = pass.locks;
-  list_order = pass.order;
+  demand_announced = pass.demand;
+  turns_taken = turns;
+  locks_kept = pass.locks;
+  order_kept = pass.order;
 }
 
 -- A closing's records need nothing of the abstract machine.

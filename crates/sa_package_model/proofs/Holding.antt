@@ -10,7 +10,7 @@ use Rattle.sa_abstract.specs.Setting.{Setting}
 use Rattle.sa_abstract.specs.Calls.{Contexts}
 use Rattle.sa_links.specs.Lists.{list_at, count_in, count_in_all}
 use Rattle.sa_links.proofs.Counting.{few_below}
-use Rattle.sa_lists.specs.ReadyView.{ReadyView, is_locked, IsLocked}
+use Rattle.sa_lists.specs.ReadyView.{is_locked, IsLocked}
 use Rattle.sa_lists.specs.ReadyView as ready
 use Rattle.sa_sync.specs.Sync.{WaitsNowhere}
 use Rattle.sa_code.specs.declared.state.Frame.{Frame}

@@ -19,7 +19,6 @@ use Rattle.sa_lemmas.specs.Function.{put}
 use Rattle.sa_instr.specs.declared.instr.Instr.TheVariants.{Io, Touch}
 use Rattle.sa_spaces.specs.Workload.{WorkloadView}
 use Rattle.sa_lemmas.proofs.ListReads.{some-below}
-use Rattle.sa_sync.specs.Sync.{opening as sync_opening}
 use Rattle.sa_code.specs.Micro.{micro, stays, is_resident as is_page_resident}
 use Rattle.sa_code.specs.declared.state.Frame.{Frame}
 use Rattle.sa_code.specs.declared.state.MicroDone.TheVariants as micros

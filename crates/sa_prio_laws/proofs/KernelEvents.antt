@@ -52,7 +52,7 @@ prio-kernels w r e p own closing ok moment are closed =
     let b = begun w (event_with e p own closing) r in
     record {
       demand = record {
-        announced =
+        demand_announced =
             record {
               step = λ later. subst (λ xs. BeginsFreely w r p (xs ++ closing)) (sym k.is)
                   (subst (λ b. StepIsFreeIf b w r (life_on r p) k.first) (sym k.step) tt);
@@ -69,7 +69,7 @@ prio-kernels w r e p own closing ok moment are closed =
 pub prio-opening : (w : WorkloadView) → IsWorkload w → RulesPass prio_threads w (opening_readings w) (opening_event w)
 prio-opening w ok = record {
   demand = record {
-    announced = record { step = λ later. absurd (let no_such : 1 ≤ 0 = later in omega arith) };
+    demand_announced = record { step = λ later. absurd (let no_such : 1 ≤ 0 = later in omega arith) };
     step = λ later. absurd (let no_such : 1 ≤ 0 = later in omega arith);
   };
   locks = record { step = λ later. absurd (let no_such : 1 ≤ 0 = later in omega arith) };

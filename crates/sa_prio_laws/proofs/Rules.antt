@@ -39,7 +39,7 @@ rules-of w r ev a life x xs behind runs there records own i =
       steps = subst (λ o. RankedStepIn w b ev.proc o (life_on r ev.proc) (x ∷ xs)) (sym runs)
           (subst (λ o. RankedStepIn w b ev.proc (Some a) o (x ∷ xs)) (sym on) i.table);
       demand = record {
-        announced = record {
+        demand_announced = record {
           step = λ later. subst (BeginsFreely w r ev.proc) (sym records)
               (subst (λ z. StepIsFreeIf z w r (life_on r ev.proc) x) (sym i.step) (subst (λ o. StepIsFree w r o x) (sym on) i.free));
         };

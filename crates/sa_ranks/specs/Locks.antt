@@ -93,5 +93,5 @@ BeginsUnurged w r p (first ∷ others) = IsUnurgedIf (is_step first) w r (life_o
 
 -- demand is announced, and pairs are served
 pub record PairsAreServed (w : WorkloadView) (r : Readings) (e : Event) : Type 0 where
-  pub announced : DemandIsAnnounced w r e
+  pub demand_announced : DemandIsAnnounced w r e
   pub step : 1 ≤ e.number → BeginsUnurged w r e.proc e.records

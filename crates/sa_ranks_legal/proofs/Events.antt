@@ -55,7 +55,7 @@ pub event-goes : (w : WorkloadView) (r : Readings) (e : Event) → IsLawful prio
 event-goes w r e law fit = record {
   moves = lawful-moves prio_threads w r e law fit;
   tells = law.all_told.told;
-  steps = law.step_taken.steps;
+  steps = law.stepwise.steps;
 }
 
 -- an event in its parts
@@ -80,10 +80,10 @@ interrupts w r p e true x ys is raised = absurd (is)
 pub in-form : (w : WorkloadView) (r : Readings) (e : Event) → IsLawful prio_threads w r e → 1 ≤ e.number → InForm w r e
 in-form w r e law from = one e.records refl where
   one : (xs : List Record) → e.records ≡ xs → InForm w r e
-  one [] is = absurd (law.numbering.some is)
+  one [] is = absurd (law.numbered.some is)
   one (x ∷ xs) is =
-      let turns = law.turns_and_steps in
-      let locks = law.list_locks in
+      let turns = law.turns_taken in
+      let locks = law.locks_kept in
       let turn = subst (λ ys. IsTurn IsRankedStep (is_some (line_of r e.proc)) e.number w (begun w e r) e.proc (own_part ys)) is (turns.turn from) in
       record {
         first = x;
@@ -108,6 +108,6 @@ form-told w r p x ys cs (inr (inr step)) closes = quiet-told None (x ∷ (ys ++ 
 pub event-told : (w : WorkloadView) (r : Readings) (e : Event) → IsLawful prio_threads w r e → AfterUps None e.records
 event-told w r e law = one e.number refl where
   one : (n : ℕ) → e.number ≡ n → AfterUps None e.records
-  one zero is = subst (AfterUps None) (sym (ap (λ (f : Event). f.records) (law.numbering.opening is))) (calm-told None (opening_records w) (calm-opening w))
+  one zero is = subst (AfterUps None) (sym (ap (λ (f : Event). f.records) (law.numbered.opening is))) (calm-told None (opening_records w) (calm-opening w))
   one (suc n) is = let parts = in-form w r e law (omega arith) in
       subst (AfterUps None) (sym parts.is) (form-told w (begun w e r) e.proc parts.first parts.own parts.closing parts.form parts.closes)

@@ -51,7 +51,7 @@ parts-at : (w : WorkloadView) (st : ℕ → Standing) (r : Readings) (e : Event)
 parts-at w st r e moment law parts = record {
   known = moment.known;
   owned = moment.owned;
-  proc = law.numbering.proc;
+  proc = law.numbered.proc;
   is = parts.is;
   part = parts.part;
   goes = subst (Goes w e.number e.proc (begun w e r)) parts.is (event-goes w r e law (event-told w r e law));
@@ -78,7 +78,7 @@ event-fine w st r e moment law from s within fine = whole (in-form w r e law fro
         elim (cases_eq step.life.space.0 s.0) [
           | inl same ↦
               same-fine w st r e parts.first parts.own parts.closing at s fine low
-              (subst (BeginsUnurged w r e.proc) parts.is (law.demand_said.step from)) step life
+              (subst (BeginsUnurged w r e.proc) parts.is (law.demand_announced.step from)) step life
               (ap (λ n. record { 0 = n }) same)
           | inr apart ↦ other-fine w st r e parts.first parts.own parts.closing at s fine low step (ap space_of life) apart
         ]
@@ -129,9 +129,9 @@ first-fine w e law s =
     let r = opening_readings w in
     let known = begun-known w nowhere_first r e e.records (start w).known in
     let goes = event-goes w r e law (event-told w r e law) in
-    let records : e.records ≡ opening_records w = ap (λ (f : Event). f.records) (law.numbering.opening law.numbering.number) in
+    let records : e.records ≡ opening_records w = ap (λ (f : Event). f.records) (law.numbered.opening law.numbered.number) in
     let passes = calm-passes w e.number e.proc s (begun w e r) e.records (subst AreCalm (sym records) (calm-opening w)) in
-    let held = held-all w e.number e.proc nowhere_first (begun w e r) s e.records law.numbering.proc known goes passes (λ telling. absurd (cc)) in
+    let held = held-all w e.number e.proc nowhere_first (begun w e r) s e.records law.numbered.proc known goes passes (λ telling. absurd (cc)) in
     inr
     (inr (held-none w r e (After w r e e.records) s nowhere_first (standings e.proc nowhere_first e.records) (start w).known.placed held
     (inl (low-in w.processors e.proc.0))
@@ -140,7 +140,7 @@ first-fine w e law s =
 next : (w : WorkloadView) (st : ℕ → Standing) (r : Readings) (e : Event) → Moment w st r → IsLawful prio_threads w r e
     → Moment w (standings e.proc st e.records) (after_event is_inside_or_urged w r e)
 next w st r e moment law =
-    let all = known-all w e.number e.proc st (begun w e r) e.records law.numbering.proc (begun-known w st r e e.records moment.known)
+    let all = known-all w e.number e.proc st (begun w e r) e.records law.numbered.proc (begun-known w st r e e.records moment.known)
     (event-goes w r e law (event-told w r e law)) in
     record {
       known = record {
@@ -190,7 +190,7 @@ along : (w : WorkloadView) (st : ℕ → Standing) (r : Readings) (events : List
 along w st r events moment later fine law zero s within calm = quiet w st r s within moment.known (fine s within) calm
 along w st r [] moment later fine law (suc n) s within calm = quiet w st r s within moment.known (fine s within) calm
 along w st r (e ∷ events) moment later fine law (suc n) s within calm =
-    let from : 1 ≤ e.number = (let same = law.0.numbering.number in omega arith) in
+    let from : 1 ≤ e.number = (let same = law.0.numbered.number in omega arith) in
     along w (standings e.proc st e.records) (after_event is_inside_or_urged w r e) events (next w st r e moment law.0)
     (let number = Rattle.sa_legal.proofs.MomentLemmas.number-next prio_threads w r e in omega arith)
     (λ k below. event-fine w st r e moment law.0 from k below (fine k below)) law.1 n s within calm

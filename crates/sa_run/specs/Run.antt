@@ -1,5 +1,5 @@
 -- A whole run: turn by turn in an order of processors, up to its first end.
-use Rattle.std.specs.Prelude.{◌≡◌, ℕ, zero, suc, ◌+◌, List, Option, Some, None}
+use Rattle.std.specs.Prelude.{◌≡◌, ℕ, zero, suc, ◌+◌, List, Some, None}
 use Rattle.sa_base.specs.declared.record.Item.{Item}
 use Rattle.sa_base.specs.declared.record.End.{End}
 use Rattle.sa_spaces.specs.Workload.{WorkloadView}

@@ -1,11 +1,9 @@
 -- A number, a field and a record have each one spelling in pieces, which is read back.
-use Rattle.std.proofs.Common.{◌≡◌, ◌≢◌, ℕ, ◌^◌, ◌<◌, ◌≤◌, ◌&&◌, Bool, true, false, cond, List, [], ◌∷◌, map, Option, Some, None, Result, Ok, Err, refl, ap, ◌∙◌, subst, arith, nat_le, ◌⊎◌, inl, inr, nat_lt}
+use Rattle.std.proofs.Common.{◌≡◌, ◌≢◌, ℕ, ◌^◌, ◌<◌, ◌≤◌, ◌&&◌, Bool, true, false, cond, List, [], ◌∷◌, map, Option, Some, None, Result, Ok, Err, refl, ap, ◌∙◌, subst, arith, nat_le, inl, inr}
 use Rattle.std.specs.Prelude.{All, codes, decimal}
 use Rattle.std.specs.Str.{bytes_eq}
-use Rattle.std.proofs.lemmas.Bool.{false≢true, leb-true, le-leb, ltb-true, and_parts, false_from_ne_true}
+use Rattle.std.proofs.lemmas.Bool.{leb-true, le-leb, and_parts, false_from_ne_true}
 use Rattle.std.proofs.lemmas.Slice.Eq.{bytes_eq-Decides}
-use Rattle.std.specs.Str.Parse.{digits_value}
-use Rattle.std.proofs.lemmas.Option.{cond_some}
 use Rattle.std.proofs.lemmas.List.Elements.{All-nil, All-cons, All-head, All-tail}
 use Rattle.sa_trace.specs.declared.field.Field.{Field}
 use Rattle.sa_trace.specs.declared.field.Field.TheVariants.{Space, OptionalSpace, Thread, OptionalThread, Processor, Activation, Io, Place, Value, Demand}
@@ -25,7 +23,6 @@ and_then-ok (Err e) f b h = absurd cc
 
 pub same_Ok : {A : Type 0} (a b : A) → (λ (r : Result A Cause). r) (Ok a) ≡ Ok b → a ≡ b
 same_Ok a b h = cc
-
 
 pub or_cause-ok : {A E : Type 0} (o : Option A) (cause : E) (a : A) → or_cause o cause ≡ Ok a → o ≡ Some a
 or_cause-ok None cause a h = absurd cc

@@ -157,7 +157,8 @@ run_follows w v [] c valid inside good below small n is = tt
 run_follows w v (p ∷ ps) c valid inside good below small n is =
     let turn = turn_is_legal w p v c valid (All-head (λ (q : ProcNo). q.0 < w.processors) p ps inside) good below (omega (arith, small)) in
     let next : (after w v p).base.number ≡ n + 1 = ap (λ k. k + 1) (number-kept w v.base.number p (evicted w v p).base (turned w v p).says ∙ is) in
-    (is, turn.3, run_follows w (after w v p) ps (c + 1) valid (All-tail (λ (q : ProcNo). q.0 < w.processors) p ps inside) turn.1 turn.2 (omega (arith, small)) (n + 1) next)
+    let others = All-tail (λ (q : ProcNo). q.0 < w.processors) p ps inside in
+    (is, turn.3, run_follows w (after w v p) ps (c + 1) valid others turn.1 turn.2 (omega (arith, small)) (n + 1) next)
 
 -- so the flat trace has these events
 one_event : (n : ℕ) (p : ProcNo) (x : Record) (xs : List Record) (rest : List Item) (es : List Event) → events_of rest ≡ es → Follow (n + 1) es

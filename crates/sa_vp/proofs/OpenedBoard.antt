@@ -1,5 +1,5 @@
 -- The board of the parts of an opening.
-use Rattle.std.proofs.Common.{◌≡◌, ℕ, List, [], ◌∷◌, length, replicate, Option, None, ap, ◌∙◌}
+use Rattle.std.proofs.Common.{◌≡◌, ℕ, List, [], length, replicate, Option, None, ap, ◌∙◌}
 use Rattle.sa_base.specs.declared.number.ActNo.{ActNo}
 use Rattle.sa_base.specs.declared.number.ThreadNo.{ThreadNo}
 use Rattle.sa_base.specs.declared.record.Item.{Item}
@@ -7,9 +7,8 @@ use Rattle.sa_spaces.specs.Workload.{WorkloadView}
 use Rattle.sa_links.specs.Lists.{Lists}
 use Rattle.sa_devices.specs.DevicesView.{DevicesView, opening as no_ios}
 use Rattle.sa_check_machine.specs.Replayed.{Replayed, opened as replay_opened}
-use Rattle.sa_virtual.specs.Virtual.{opening_queue}
 use Rattle.sa_vp_model.specs.declared.limits.TheConstants.{VIRTUALS}
-use Rattle.sa_vp_model.specs.Board.{Board, opened, empty, first_ready, act_numbers}
+use Rattle.sa_vp_model.specs.Board.{Board, opened, empty, first_ready}
 use Rattle.sa_vp.specs.declared.board.Parts.{Parts}
 use Rattle.sa_vp.specs.View.{board_of}
 use Rattle.sa_vp.specs.Opening.{queue_at_opening}

@@ -1,17 +1,16 @@
 -- A list is locked, changed and unlocked: no lock is held after it.
-use Rattle.std.proofs.Common.{◌≡◌, ℕ, zero, suc, ◌+◌, ◌-◌, ◌<◌, Bool, true, false, List, [], ◌∷◌, length, get_or, set, replicate, Option, Some, None, refl, sym, ap, subst, ◌∙◌, arith}
+use Rattle.std.proofs.Common.{◌≡◌, ℕ, ◌-◌, ◌<◌, true, false, List, ◌∷◌, length, set, replicate, Option, Some, None, refl, sym, ap, subst, ◌∙◌}
 use Rattle.std.specs.Prelude.{IfSome}
 use Rattle.std.specs.Option.{option_map}
 use Rattle.std.proofs.lemmas.List.{length-set, set-get_or, set-set}
 use Rattle.sa_base.specs.declared.number.ProcNo.{ProcNo}
-use Rattle.sa_base.specs.declared.number.ThreadNo.{ThreadNo}
 use Rattle.sa_links.specs.Lists.{Lists, list_at, with_list}
-use Rattle.sa_lists.specs.ReadyView.{ReadyView, list_of, with_lock, pushed, inserted, processor, sought, is_open, is_locked}
+use Rattle.sa_lists.specs.ReadyView.{ReadyView, list_of, with_lock, pushed, inserted, processor, sought}
 use Rattle.sa_lists.specs.ReadyView as ready
 use Rattle.sa_lists.proofs.Changes.{inserted_front}
-use Rattle.sa_lists.proofs.Rounds.{sought-first, IsSought}
+use Rattle.sa_lists.proofs.Rounds.{sought-first}
 use Rattle.sa_vp_model.specs.Turn.{is_some_list}
-use Rattle.sa_vp.specs.Ready.{IsUnlocked, round}
+use Rattle.sa_vp.specs.Ready.{IsUnlocked}
 use Rattle.sa_vp.proofs.Rounds.{open_is, unlocked}
 
 -- what a caller sees of ready lists

@@ -1,5 +1,5 @@
 -- The ready lists of a space between two events.
-use Rattle.std.specs.Prelude.{◌≡◌, ℕ, ◌+◌, ◌≤◌, ◌%◌, false, List, [], length, map, replicate}
+use Rattle.std.specs.Prelude.{◌≡◌, ℕ, ◌+◌, ◌%◌, false, List, [], length, map, replicate}
 use Rattle.std.specs.List.{range_with_len}
 use Rattle.sa_base.specs.declared.number.ProcNo.{ProcNo}
 use Rattle.sa_assign.specs.Reaim.{proc_no}

@@ -1,5 +1,5 @@
 -- Room for events, and what always holds of a run.
-use Rattle.std.specs.Prelude.{◌≡◌, ℕ, ◌+◌, ◌*◌, ◌≤◌}
+use Rattle.std.specs.Prelude.{ℕ, ◌+◌, ◌*◌, ◌≤◌}
 use Rattle.sa_base.specs.declared.limits.TheConstants.{MAX_EVENTS}
 use Rattle.sa_vp_model.specs.Run.{IsRead}
 use Rattle.sa_vp.specs.declared.board.Parts.{Parts}

@@ -1,8 +1,5 @@
 -- The board that the code keeps, and a run as its callers see it.
-use Rattle.std.specs.Prelude.{◌≡◌, ℕ, ◌-◌, ◌∷◌, [], ◌++◌}
-use Rattle.sa_base.specs.declared.number.ProcNo.{ProcNo}
-use Rattle.sa_base.specs.declared.record.Record.{Record}
-use Rattle.sa_check_machine.specs.Replayed.{after}
+use Rattle.std.specs.Prelude.{ℕ}
 use Rattle.sa_vp_model.specs.Board.{Board}
 use Rattle.sa_vp.specs.declared.board.Parts.{Parts}
 

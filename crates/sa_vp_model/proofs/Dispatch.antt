@@ -1,23 +1,21 @@
 -- A processor can act on each board that is read.
-use Rattle.std.proofs.Common.{◌≡◌, ℕ, ◌+◌, ◌*◌, ◌<◌, ◌≤◌, ◌^◌, Bool, true, false, nat_le, ◌&&◌, List, [], ◌∷◌, length, get_or, set, slice_get, Option, Some, None, refl, sym, ap, subst, ◌∙◌, arith}
+use Rattle.std.proofs.Common.{◌≡◌, ℕ, ◌<◌, ◌≤◌, Bool, true, false, nat_le, ◌&&◌, List, [], ◌∷◌, slice_get, Option, Some, None, refl, sym, ap, subst, ◌∙◌, arith}
 use Rattle.std.specs.Option.{option_map}
 use Rattle.std.proofs.lemmas.Option.{same_Some}
-use Rattle.std.proofs.lemmas.List.{length-set}
 use Rattle.sa_base.specs.declared.number.ProcNo.{ProcNo}
-use Rattle.sa_base.specs.declared.number.SpaceNo.{SpaceNo}
 use Rattle.sa_base.specs.declared.number.ThreadNo.{ThreadNo}
 use Rattle.sa_base.specs.declared.number.ActNo.{ActNo}
 use Rattle.sa_base.specs.declared.number.IoNo.{IoNo}
-use Rattle.sa_base.specs.declared.limits.TheConstants.{MAX_EVENTS, MAX_THREADS}
+use Rattle.sa_base.specs.declared.limits.TheConstants.{MAX_EVENTS}
 use Rattle.sa_spaces.specs.Workload.{WorkloadView, IsWorkload}
 use Rattle.sa_devices.specs.declared.kind.IoKind.{IoKind}
 use Rattle.sa_devices.specs.Ios.{Io, due_of, io_at, io_no}
-use Rattle.sa_virtual.specs.Virtual.{Virtuals, space_of, list_of, placed_on}
+use Rattle.sa_virtual.specs.Virtual.{Virtuals, placed_on}
 use Rattle.sa_virtual.specs.Turn as rules
 use Rattle.sa_virtual.specs.Holding.{numbers}
 use Rattle.sa_virtual.specs.Turning.{Good, HasRoom}
-use Rattle.sa_vp_model.specs.Board.{Board, act_numbers, list_in}
-use Rattle.sa_vp_model.specs.Turn.{act, begun, thread, with_step, has_had_its_turn}
+use Rattle.sa_vp_model.specs.Board.{Board, act_numbers}
+use Rattle.sa_vp_model.specs.Turn.{act, begun, thread}
 use Rattle.sa_vp_model.specs.Mirror.{Own, board_of, Fits, IsBounded}
 use Rattle.sa_vp_model.specs.Needs.{CanAct, CanStep, CanRunOn, CanReady, CanComeBack, CanPlaceOn}
 use Rattle.sa_vp_model.specs.Run.{IsRead}

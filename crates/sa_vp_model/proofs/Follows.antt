@@ -1,5 +1,5 @@
 -- What is shown of each kind of turn: the board follows what is read.
-use Rattle.std.proofs.Common.{◌≡◌, ℕ, ◌+◌, ◌≤◌, ◌<◌, ◌++◌, get_or}
+use Rattle.std.proofs.Common.{◌≡◌, ℕ, ◌+◌, ◌≤◌, ◌++◌, get_or}
 use Rattle.sa_base.specs.declared.number.ProcNo.{ProcNo}
 use Rattle.sa_base.specs.declared.limits.TheConstants.{MAX_THREADS}
 use Rattle.sa_base.specs.Items.{items_at}

@@ -1,5 +1,5 @@
 -- I/Os under way: the one that is due is found by its number, and is the only one of its virtual processor.
-use Rattle.std.proofs.Common.{◌≡◌, ◌≢◌, ℕ, ◌+◌, ◌≤◌, Bool, true, false, cond, eqb, not, List, [], ◌∷◌, ◌++◌, filter, Some, inl, inr, ◌⊎◌, refl, sym, ap, ◌∙◌, arith}
+use Rattle.std.proofs.Common.{◌≡◌, ℕ, ◌+◌, ◌≤◌, Bool, true, false, cond, eqb, not, List, [], ◌∷◌, ◌++◌, filter, Some, inl, inr, ◌⊎◌, refl, sym, ap, ◌∙◌, arith}
 use Rattle.std.specs.Prelude.{find, count_by, nat_le}
 use Rattle.std.proofs.lemmas.Bool.{cases_eq, ne_eqb, eq-eqb}
 use Rattle.std.proofs.lemmas.Option.{same_Some}
@@ -7,7 +7,7 @@ use Rattle.std.proofs.lemmas.List.Sums.{sum_by-cons, sum_by_push}
 use Rattle.sa_base.specs.declared.number.ActNo.{ActNo}
 use Rattle.sa_devices.specs.Ios.{Io, due_of, sooner_of, is_number, io_at, without}
 use Rattle.sa_laws.specs.Record.{is_io_of, is_io_of_other}
-use Rattle.sa_virtual.specs.Holding.{one_where, one_if, in_ios}
+use Rattle.sa_virtual.specs.Holding.{in_ios}
 use Rattle.sa_virtual.proofs.Turns.{sooner_one}
 use Rattle.sa_vp_model.specs.Mirror.{AreNumbered}
 

@@ -1,45 +1,34 @@
 -- A turn on the board is a turn of what is read.
-use Rattle.std.proofs.Common.{◌≡◌, ℕ, ◌+◌, ◌-◌, ◌*◌, ◌<◌, ◌≤◌, ◌^◌, min, Bool, true, false, cond, nat_le, nat_lt, ◌&&◌, ◌/◌, ◌%◌, List, [], ◌∷◌, ◌++◌, length, map, get_or, set, find, Option, Some, None, inl, inr, refl, sym, ap, subst, ◌∙◌, arith}
-use Rattle.std.specs.Prelude.{All, count_by, slice_get}
+use Rattle.std.proofs.Common.{◌≡◌, ℕ, ◌+◌, ◌-◌, ◌<◌, ◌≤◌, Bool, true, false, nat_le, nat_lt, ◌&&◌, ◌/◌, ◌%◌, List, [], ◌∷◌, length, get_or, set, Option, Some, None, inl, inr, refl, sym, ap, subst, ◌∙◌, arith}
+use Rattle.std.specs.Prelude.{All, slice_get}
 use Rattle.std.specs.Option.{option_map}
-use Rattle.std.specs.List.{range_with_len}
-use Rattle.std.proofs.Math.Path.{fun_ext}
 use Rattle.std.proofs.lemmas.Bool.{cases_lt, eq-eqb, le-ltb}
 use Rattle.std.proofs.lemmas.List.Elements.{All-nil, All-cons}
-use Rattle.std.proofs.lemmas.List.{length-set, get_or-set_same, get_or_past, length-map}
-use Rattle.std.proofs.lemmas.List.Sums.{count_by-le-length}
-use Rattle.std.proofs.lemmas.List.FromFn.{get_or-map-range_with_len, length-map-range_with_len}
+use Rattle.std.proofs.lemmas.List.{length-set}
 use Rattle.sa_base.specs.declared.number.ProcNo.{ProcNo}
-use Rattle.sa_base.specs.declared.number.SpaceNo.{SpaceNo}
 use Rattle.sa_base.specs.declared.number.ThreadNo.{ThreadNo}
 use Rattle.sa_base.specs.declared.number.ActNo.{ActNo}
-use Rattle.sa_base.specs.declared.limits.TheConstants.{MAX_PROCESSORS, MAX_SPACES, MAX_THREADS, MAX_EVENTS}
-use Rattle.sa_base.specs.Items.{items_at}
-use Rattle.sa_instr.specs.declared.limits.TheConstants.{MAX_START}
+use Rattle.sa_base.specs.declared.limits.TheConstants.{MAX_PROCESSORS, MAX_SPACES}
 use Rattle.sa_spaces.specs.Workload.{WorkloadView, IsWorkload}
 use Rattle.sa_devices.specs.Ios.{Io, due_of, io_no}
-use Rattle.sa_devices.proofs.SoundLemmas.{length-evicted}
 use Rattle.sa_lemmas.specs.Function.{put}
-use Rattle.sa_laws.specs.declared.place.Place.{Place}
 use Rattle.sa_laws.specs.declared.place.Place.TheVariants as places
-use Rattle.sa_laws.specs.State.{Thread, SpaceState, runner_of}
-use Rattle.sa_check_machine.specs.Counts.{is_ready, count_in}
-use Rattle.sa_virtual.specs.Virtual.{Virtuals, space_of, list_of, placed_on}
+use Rattle.sa_laws.specs.State.{runner_of}
+use Rattle.sa_virtual.specs.Virtual.{Virtuals, space_of, placed_on}
 use Rattle.sa_virtual.specs.Turn as rules
 use Rattle.sa_virtual.specs.Legal as legal
-use Rattle.sa_virtual.specs.Holding.{numbers, in_queue, one_if, one_where, is_virtual, at_no, parts_of}
-use Rattle.sa_virtual.specs.Turning.{Good, HasRoom, IsBelow}
-use Rattle.sa_virtual.proofs.Main.{turn_is_legal, numbered}
+use Rattle.sa_virtual.specs.Holding.{numbers, in_queue, one_if, one_where, is_virtual, parts_of}
+use Rattle.sa_virtual.specs.Turning.{Good, HasRoom}
+use Rattle.sa_virtual.proofs.Main.{numbered}
 use Rattle.sa_virtual.proofs.Sums.{unqueued}
 use Rattle.sa_virtual.proofs.Pushed.{placed_once}
 use Rattle.sa_virtual.proofs.Turns.{carrier}
 use Rattle.sa_vp_model.specs.declared.limits.TheConstants.{VIRTUALS}
-use Rattle.sa_vp_model.specs.Board.{Board, act_numbers, list_in}
-use Rattle.sa_vp_model.specs.Turn.{acts, begun, carried_on, completes, counted, goes_on, has_had_its_turn, is_some_list, lost_now, loses, moves_on, steps, steps_on, turned}
-use Rattle.sa_vp_model.specs.Mirror.{Own, board_of, Fits, IsBounded}
-use Rattle.sa_vp_model.specs.Run.{IsRead, TurnIsRead, TurnsAreRead, lost_in}
+use Rattle.sa_vp_model.specs.Board.{Board, act_numbers}
+use Rattle.sa_vp_model.specs.Turn.{acts, begun, carried_on, goes_on, has_had_its_turn, is_some_list, moves_on, steps, steps_on}
+use Rattle.sa_vp_model.specs.Mirror.{Own, board_of, Fits}
 use Rattle.sa_vp_model.proofs.Tables.{table_put}
-use Rattle.sa_vp_model.proofs.Follows.{Follows, Goes, behind}
+use Rattle.sa_vp_model.proofs.Follows.{Follows, Goes}
 use Rattle.sa_vp_model.proofs.Unblocked.{unblocks}
 use Rattle.sa_vp_model.proofs.Placed.{places_it}
 use Rattle.sa_vp_model.proofs.Relieved.{relieved}

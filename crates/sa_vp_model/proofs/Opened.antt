@@ -1,24 +1,20 @@
 -- The board at the opening is read off the empty history.
-use Rattle.std.proofs.Common.{◌≡◌, ◌≢◌, ℕ, zero, suc, ◌+◌, ◌*◌, ◌<◌, ◌≤◌, Bool, true, false, cond, eqb, List, [], ◌∷◌, length, map, replicate, get_or, set, Option, Some, None, inl, inr, refl, sym, ap, subst, ◌∙◌, arith}
-use Rattle.std.specs.Prelude.{count_by, sum_by}
+use Rattle.std.proofs.Common.{◌≡◌, ℕ, zero, suc, ◌*◌, ◌<◌, cond, List, [], ◌∷◌, length, replicate, get_or, Option, None, inl, inr, refl, sym, ap, subst, ◌∙◌, arith}
+use Rattle.std.specs.Prelude.{sum_by}
 use Rattle.std.proofs.Math.Path.{fun_ext}
-use Rattle.std.proofs.lemmas.Bool.{cases_lt, cases_eq, ne_eqb}
+use Rattle.std.proofs.lemmas.Bool.{cases_lt, ne_eqb}
 use Rattle.std.proofs.lemmas.List.{length-replicate, length-set, length-map, get_or-replicate, get_or-set_same, get_or-set_other, get_or_past}
 use Rattle.std.proofs.lemmas.List.Folds.{sum_by-replicate}
-use Rattle.sa_base.specs.declared.number.ProcNo.{ProcNo}
 use Rattle.sa_base.specs.declared.number.ThreadNo.{ThreadNo}
-use Rattle.sa_base.specs.declared.limits.TheConstants.{MAX_PROCESSORS, MAX_THREADS}
-use Rattle.sa_instr.specs.declared.limits.TheConstants.{MAX_START}
 use Rattle.sa_spaces.specs.Workload.{WorkloadView, IsWorkload}
-use Rattle.sa_links.specs.Lists.{Lists, list_at, with_list}
+use Rattle.sa_links.specs.Lists.{Lists, list_at}
 use Rattle.sa_devices.specs.Pages.{opening_pages}
-use Rattle.sa_laws.specs.Readings.{Listed, first_listed, is_in}
-use Rattle.sa_virtual.specs.Virtual.{opening, opening_life}
-use Rattle.sa_virtual.specs.Holding.{threads_of, numbers}
+use Rattle.sa_laws.specs.Readings.{Listed, first_listed}
+use Rattle.sa_virtual.specs.Virtual.{opening}
 use Rattle.sa_virtual.proofs.Opening.{opening_good, opening_below}
 use Rattle.sa_vp_model.specs.declared.limits.TheConstants.{VIRTUALS}
 use Rattle.sa_vp_model.specs.Board.{opened, empty, first_ready, no_lists}
-use Rattle.sa_vp_model.specs.Mirror.{Own, board_of, Fits, IsBounded, AreLists, newest_first, rows, total}
+use Rattle.sa_vp_model.specs.Mirror.{Own, Fits, IsBounded, AreLists, newest_first, rows, total}
 use Rattle.sa_vp_model.specs.Run.{IsRead}
 
 -- a table of one value that is also what is read past its end

@@ -22,10 +22,10 @@ use Rattle.sa_virtual.specs.Holding.{threads_of}
 use Rattle.sa_virtual.specs.Turning.{Good}
 use Rattle.sa_vp_model.specs.declared.limits.TheConstants.{VIRTUALS}
 use Rattle.sa_vp_model.specs.Board.{Board, act_numbers, said}
-use Rattle.sa_vp_model.specs.Turn.{continued, places, places_first, goes_on}
+use Rattle.sa_vp_model.specs.Turn.{continued, places, places_first}
 use Rattle.sa_vp_model.specs.Mirror.{Own, board_of, Fits}
 use Rattle.sa_vp_model.proofs.Tables.{table_put}
-use Rattle.sa_vp_model.proofs.Follows.{Follows, behind}
+use Rattle.sa_vp_model.proofs.Follows.{Follows}
 
 -- a place that is set to 0 is no more than it was
 pub zero_most : (xs : List ℕ) (i k : ℕ) → get_or (set xs i 0) k 0 ≤ get_or xs k 0

@@ -1,6 +1,6 @@
 -- A thread runs an instruction, or blocks.
-use Rattle.std.proofs.Common.{◌≡◌, ◌≢◌, ℕ, ◌+◌, ◌-◌, ◌*◌, ◌<◌, ◌≤◌, Bool, true, false, not, cond, eqb, List, [], ◌∷◌, ◌++◌, append_assoc, append-nil, length, map, get_or, set, Option, Some, None, inl, inr, refl, sym, ap, subst, ◌∙◌, arith}
-use Rattle.std.specs.Prelude.{slice_index, sum_by}
+use Rattle.std.proofs.Common.{◌≡◌, ℕ, ◌+◌, ◌-◌, ◌*◌, ◌<◌, ◌≤◌, Bool, true, false, not, cond, eqb, List, [], ◌∷◌, ◌++◌, append_assoc, length, get_or, set, Some, None, inl, inr, refl, sym, ap, subst, ◌∙◌, arith}
+use Rattle.std.specs.Prelude.{sum_by}
 use Rattle.std.proofs.lemmas.Bool.{cases_eq, cases_lt, ne_eqb, eq-eqb}
 use Rattle.std.proofs.lemmas.List.{length-set, length-map, length-append, get_or-set_same, get_or-set_other, get_or_past, map-append}
 use Rattle.std.proofs.lemmas.List.Sums.{sum_by_push}
@@ -9,9 +9,7 @@ use Rattle.sa_base.specs.declared.number.SpaceNo.{SpaceNo}
 use Rattle.sa_base.specs.declared.number.ThreadNo.{ThreadNo}
 use Rattle.sa_base.specs.declared.number.ActNo.{ActNo}
 use Rattle.sa_base.specs.declared.limits.TheConstants.{MAX_PROCESSORS, MAX_THREADS, PACKAGE_PAGE}
-use Rattle.sa_base.specs.declared.record.Record.{Record}
 use Rattle.sa_base.specs.declared.record.Record.TheVariants as rec
-use Rattle.sa_base.specs.declared.record.Item.{Item}
 use Rattle.sa_instr.specs.declared.instr.Instr.{Instr}
 use Rattle.sa_instr.specs.declared.instr.Instr.TheVariants.{Out, Io as IoOf, Touch}
 use Rattle.sa_instr.specs.declared.instr.Reg.{Reg}
@@ -20,25 +18,24 @@ use Rattle.sa_spaces.specs.Workload.{WorkloadView, IsWorkload}
 use Rattle.sa_devices.specs.declared.kind.IoKind.{IoKind}
 use Rattle.sa_devices.specs.declared.kind.IoKind.TheVariants.{Plain, Page}
 use Rattle.sa_devices.specs.Ios.{Io}
-use Rattle.sa_base.specs.Pages.{has_page}
 use Rattle.sa_links.specs.Lists.{Lists}
 use Rattle.sa_lemmas.specs.Function.{put}
 use Rattle.sa_laws.specs.State.{Thread, thread_at, next_instr}
 use Rattle.sa_laws.specs.Machine.{next_effect}
-use Rattle.sa_laws.specs.Life.{Life, has_lock, with_hand, held_with}
+use Rattle.sa_laws.specs.Life.{with_hand, held_with}
 use Rattle.sa_laws.specs.Readings.{Readings, life_of, is_resident}
-use Rattle.sa_laws.specs.Record.{Blocking, after_record, with_life, is_kind_of, blocking, blocking_for, length_behind, locks_one, page_touched, page_in}
+use Rattle.sa_laws.specs.Record.{Blocking, after_record, with_life, blocking, blocking_for, length_behind, locks_one, page_in}
 use Rattle.sa_check_machine.specs.Index.{runner_at}
 use Rattle.sa_check_machine.proofs.IndexLemmas.{runner}
 use Rattle.sa_virtual.specs.Virtual.{Virtuals, space_of, list_of, placed_on}
-use Rattle.sa_virtual.specs.Turn.{Turned, ran, run_of, misses, is_io, left}
-use Rattle.sa_virtual.specs.Legal.{is_of, blocked_in}
-use Rattle.sa_virtual.specs.Holding.{threads_of, numbers, parts_of, one_where}
+use Rattle.sa_virtual.specs.Turn.{Turned, ran, run_of, misses}
+use Rattle.sa_virtual.specs.Legal.{is_of}
+use Rattle.sa_virtual.specs.Holding.{threads_of, numbers, one_where}
 use Rattle.sa_virtual.specs.Turning.{Good, HasRoom}
 use Rattle.sa_virtual.proofs.Kept.{threads_new}
 use Rattle.sa_virtual.proofs.RanTurns as turns
 use Rattle.sa_vp_model.specs.declared.limits.TheConstants.{VIRTUALS}
-use Rattle.sa_vp_model.specs.Board.{Board, list_in, with_list_in, said}
+use Rattle.sa_vp_model.specs.Board.{list_in, with_list_in}
 use Rattle.sa_vp_model.specs.Turn.{blocks, goes, ends_with, missed_page, runs_on, runs, one_more}
 use Rattle.sa_vp_model.specs.Mirror.{Own, board_of, Fits, AreLists, rows, total}
 use Rattle.sa_vp_model.proofs.Ios.{numbered_more}

@@ -1,18 +1,16 @@
 -- The first thread of a work list becomes ready.
-use Rattle.std.proofs.Common.{◌≡◌, ◌≢◌, ℕ, ◌+◌, ◌-◌, ◌*◌, ◌/◌, ◌%◌, ◌<◌, ◌≤◌, List, [], ◌∷◌, ◌++◌, append_assoc, length, drop, get_or, set, Option, Some, None, inl, inr, refl, sym, ap, subst, ◌∙◌, arith}
-use Rattle.std.proofs.lemmas.Bool.{cases_eq}
-use Rattle.std.proofs.lemmas.List.{length-set, get_or-set_same, get_or-set_other}
+use Rattle.std.proofs.Common.{◌≡◌, ◌≢◌, ℕ, ◌+◌, ◌-◌, ◌*◌, ◌<◌, ◌≤◌, List, [], ◌∷◌, ◌++◌, append_assoc, length, drop, get_or, set, Option, Some, refl, sym, ap, ◌∙◌, arith}
+use Rattle.std.proofs.lemmas.List.{get_or-set_same, get_or-set_other}
 use Rattle.sa_base.specs.declared.number.ProcNo.{ProcNo}
 use Rattle.sa_base.specs.declared.number.SpaceNo.{SpaceNo}
 use Rattle.sa_base.specs.declared.number.ThreadNo.{ThreadNo}
 use Rattle.sa_base.specs.declared.number.ActNo.{ActNo}
 use Rattle.sa_base.specs.declared.limits.TheConstants.{MAX_PROCESSORS}
 use Rattle.sa_base.specs.declared.record.Record.TheVariants as rec
-use Rattle.sa_base.specs.declared.record.Item.{Item}
 use Rattle.sa_spaces.specs.Workload.{WorkloadView}
 use Rattle.sa_lemmas.specs.Function.{put}
 use Rattle.sa_lemmas.proofs.FunctionUpdates.{put-at, put-other}
-use Rattle.sa_laws.specs.Life.{Life, without_lock}
+use Rattle.sa_laws.specs.Life.{without_lock}
 use Rattle.sa_laws.specs.Readings.{Listed}
 use Rattle.sa_laws.specs.Record.{with_life, made_ready, locks}
 use Rattle.sa_virtual.specs.Virtual.{Virtuals, space_of, list_of, placed_on, ready_of}
@@ -20,11 +18,11 @@ use Rattle.sa_virtual.specs.Turn.{pushed}
 use Rattle.sa_virtual.specs.Holding.{threads_of, numbers, parts_of}
 use Rattle.sa_virtual.specs.Turning.{Good}
 use Rattle.sa_virtual.proofs.Pushed.{known, number_is, number_other}
-use Rattle.sa_vp_model.specs.Board.{Board, list_in, with_list_in}
+use Rattle.sa_vp_model.specs.Board.{list_in, with_list_in}
 use Rattle.sa_vp_model.specs.Turn.{readies}
 use Rattle.sa_vp_model.specs.Mirror.{Own, board_of, Fits, AreLists, newest_first, rows}
 use Rattle.sa_vp_model.proofs.Tables.{lists_with, many_with, total_with, newest_own, newest_other}
-use Rattle.sa_vp_model.proofs.Follows.{Follows, behind}
+use Rattle.sa_vp_model.proofs.Follows.{Follows}
 use Rattle.sa_vp_model.proofs.Placed.{item}
 
 -- no other place of this space, and none of another, has this number

@@ -1,7 +1,6 @@
 -- One that has made its steps gives way to the first of the queue.
-use Rattle.std.proofs.Common.{◌≡◌, ◌≢◌, ℕ, ◌+◌, ◌<◌, ◌≤◌, Bool, true, false, cond, List, [], ◌∷◌, ◌++◌, append_assoc, length, map, get_or, set, Option, Some, None, refl, sym, ap, subst, ◌∙◌, arith}
+use Rattle.std.proofs.Common.{◌≡◌, ◌≢◌, ℕ, ◌+◌, ◌<◌, true, cond, List, [], ◌∷◌, ◌++◌, append_assoc, get_or, set, Option, Some, None, refl, sym, ap, ◌∙◌, arith}
 use Rattle.std.specs.Prelude.{All, slice_get}
-use Rattle.std.specs.Option.{option_map}
 use Rattle.std.proofs.lemmas.Bool.{eq-eqb}
 use Rattle.std.proofs.lemmas.List.{length-set, get_or-set_other, map-append}
 use Rattle.std.proofs.lemmas.List.Elements.{All-head}
@@ -16,7 +15,7 @@ use Rattle.sa_spaces.specs.Workload.{WorkloadView}
 use Rattle.sa_lemmas.specs.Function.{put}
 use Rattle.sa_laws.specs.declared.place.Place.TheVariants as places
 use Rattle.sa_laws.specs.State.{State, owner_at, placed_if}
-use Rattle.sa_laws.specs.Life.{Life, with_cont}
+use Rattle.sa_laws.specs.Life.{with_cont}
 use Rattle.sa_laws.specs.Record.{with_life, stopped_with}
 use Rattle.sa_virtual.specs.Virtual.{Virtuals, space_of, thread_of, placed_on}
 use Rattle.sa_virtual.specs.Turn.{Turned, placing, stopped, some_wait}
@@ -28,10 +27,10 @@ use Rattle.sa_virtual.proofs.Left as left
 use Rattle.sa_virtual.proofs.MoreTurns.{same_owners, quiet_set}
 use Rattle.sa_vp_model.specs.declared.limits.TheConstants.{VIRTUALS}
 use Rattle.sa_vp_model.specs.Board.{Board, act_numbers, said}
-use Rattle.sa_vp_model.specs.Turn.{act, continued, places, stops, gives_way}
-use Rattle.sa_vp_model.specs.Mirror.{Own, board_of, Fits}
+use Rattle.sa_vp_model.specs.Turn.{continued, places, stops, gives_way}
+use Rattle.sa_vp_model.specs.Mirror.{Own, Fits}
 use Rattle.sa_vp_model.proofs.Tables.{table_put}
-use Rattle.sa_vp_model.proofs.Follows.{Follows, behind}
+use Rattle.sa_vp_model.proofs.Follows.{Follows}
 use Rattle.sa_vp_model.proofs.Placed.{zero_most, item, queue_of}
 
 module _ (w : WorkloadView) (p : ProcNo) (v : Virtuals) (good : Good w v) (x : Own) (fits : Fits w v x) (a : ActNo) (at : placed_on v p ≡ Some a)

@@ -1,21 +1,21 @@
 -- A run on the board is the legal run of its order of processors.
-use Rattle.std.proofs.Common.{◌≡◌, ℕ, ◌+◌, ◌<◌, ◌≤◌, min, List, [], ◌∷◌, ◌++◌, append_assoc, length, get_or, refl, sym, ap, subst, ◌∙◌, arith}
+use Rattle.std.proofs.Common.{◌≡◌, ℕ, ◌+◌, ◌<◌, ◌≤◌, List, [], ◌∷◌, ◌++◌, append_assoc, length, get_or, sym, ap, subst, ◌∙◌, arith}
 use Rattle.std.specs.Prelude.{All}
 use Rattle.std.proofs.lemmas.List.{append-nil}
 use Rattle.std.proofs.lemmas.List.Elements.{All-head, All-tail}
 use Rattle.sa_base.specs.declared.number.ProcNo.{ProcNo}
 use Rattle.sa_base.specs.declared.limits.TheConstants.{MAX_EVENTS}
 use Rattle.sa_base.specs.Items.{items_at}
-use Rattle.sa_spaces.specs.Workload.{WorkloadView, IsWorkload}
+use Rattle.sa_spaces.specs.Workload.{WorkloadView}
 use Rattle.sa_laws.specs.Event.{items_of}
 use Rattle.sa_virtual.specs.Virtual.{Virtuals, opening}
 use Rattle.sa_virtual.specs.Turn as rules
-use Rattle.sa_virtual.specs.Legal.{IsLegalVp, EndsWith, after_all, lost_from, lost_of, run_from}
+use Rattle.sa_virtual.specs.Legal.{IsLegalVp, EndsWith, after_all, lost_from, run_from}
 use Rattle.sa_virtual.proofs.Main.{runs_are_legal}
 use Rattle.sa_vp_model.specs.Board.{Board, opened}
 use Rattle.sa_vp_model.specs.Turn.{turned}
 use Rattle.sa_vp_model.specs.Run.{IsRead, TurnIsRead, lost_in}
-use Rattle.sa_vp_model.specs.Runs.{board_after, RunIsRead, RunsAreRead}
+use Rattle.sa_vp_model.specs.Runs.{board_after, RunsAreRead}
 use Rattle.sa_vp_model.specs.End.{end_of}
 use Rattle.sa_vp_model.proofs.Turns.{turns_are_read}
 use Rattle.sa_vp_model.proofs.Ends.{ends_are_read}

@@ -1,7 +1,6 @@
 -- What each part of a turn needs is there.
-use Rattle.std.proofs.Common.{◌≡◌, ◌≢◌, ℕ, zero, suc, ◌+◌, ◌*◌, ◌<◌, ◌≤◌, ◌^◌, Bool, true, false, cond, eqb, not, nat_lt, List, [], ◌∷◌, ◌++◌, length, drop, get_or, set, slice_get, Option, Some, None, inl, inr, refl, sym, ap, subst, ◌∙◌, arith}
-use Rattle.std.specs.Prelude.{All, sum_by, slice_index}
-use Rattle.std.specs.Option.{option_map}
+use Rattle.std.proofs.Common.{◌≡◌, ◌≢◌, ℕ, suc, ◌+◌, ◌*◌, ◌<◌, ◌≤◌, ◌^◌, Bool, true, false, cond, eqb, nat_lt, List, [], ◌∷◌, ◌++◌, length, get_or, slice_get, Option, Some, None, refl, sym, ap, subst, ◌∙◌, arith}
+use Rattle.std.specs.Prelude.{sum_by, slice_index}
 use Rattle.std.proofs.lemmas.Bool.{eq-eqb, ltb-true}
 use Rattle.std.proofs.lemmas.Option.{same_Some}
 use Rattle.std.proofs.lemmas.List.{length-set, get_or-set_other, map-append}
@@ -12,35 +11,29 @@ use Rattle.sa_base.specs.declared.number.SpaceNo.{SpaceNo}
 use Rattle.sa_base.specs.declared.number.ThreadNo.{ThreadNo}
 use Rattle.sa_base.specs.declared.number.ActNo.{ActNo}
 use Rattle.sa_base.specs.declared.limits.TheConstants.{MAX_EVENTS, MAX_PROCESSORS, MAX_THREADS}
-use Rattle.sa_base.specs.declared.record.Record.{Record}
 use Rattle.sa_base.specs.declared.record.Record.TheVariants as rec
-use Rattle.sa_instr.specs.declared.limits.TheConstants.{MAX_START, LAST_PAGE}
+use Rattle.sa_instr.specs.declared.limits.TheConstants.{LAST_PAGE}
 use Rattle.sa_instr.specs.declared.instr.Instr.{Instr}
 use Rattle.sa_instr.specs.declared.instr.Instr.TheVariants.{Io as IoOf, Signal, Touch, End}
 use Rattle.sa_instr.specs.Instr.{IsInRange}
-use Rattle.sa_instr.specs.Local.{instr_at}
 use Rattle.sa_instr.specs.Program.{IsProgram}
 use Rattle.sa_spaces.specs.Workload.{WorkloadView, IsWorkload}
-use Rattle.sa_spaces.specs.Space.{SpaceView, IsSpace}
+use Rattle.sa_spaces.specs.Space.{IsSpace}
 use Rattle.sa_links.specs.Lists.{Lists, list_at, count_in, count_in_all}
 use Rattle.sa_sync.specs.Sync.{Sync, semaphore_at}
-use Rattle.sa_devices.specs.declared.kind.IoKind.{IoKind}
 use Rattle.sa_devices.specs.declared.kind.IoKind.TheVariants.{Plain, Page}
 use Rattle.sa_devices.specs.Ios.{Io, due_of}
-use Rattle.sa_devices.specs.Pages.{IsKind}
 use Rattle.sa_base.specs.Pages.{has_page}
 use Rattle.sa_laws.specs.declared.place.Place.TheVariants as places
-use Rattle.sa_laws.specs.State.{State, Thread, no_space, next_instr, thread_at, space_def, with_owner, placed_if, runner_of}
+use Rattle.sa_laws.specs.State.{no_space, next_instr, thread_at, space_def, runner_of}
 use Rattle.sa_laws.specs.Machine.{next_effect}
-use Rattle.sa_laws.specs.Readings.{Listed}
-use Rattle.sa_laws.specs.Record.{page_in}
-use Rattle.sa_check_machine.specs.Needs.{CanChange, CanGo, IsOverfull}
+use Rattle.sa_check_machine.specs.Needs.{CanChange}
 use Rattle.sa_check_machine.specs.Running.{IsAt, IsFull}
 use Rattle.sa_check_machine.specs.Spaces.{space_in}
 use Rattle.sa_check_machine.specs.Index.{runner_at}
 use Rattle.sa_check_machine.proofs.IndexLemmas.{runner}
 use Rattle.sa_virtual.specs.Virtual.{Virtuals, space_of, list_of, placed_on, thread_of, ready_of}
-use Rattle.sa_virtual.specs.Turn.{of_io, placing, misses}
+use Rattle.sa_virtual.specs.Turn.{of_io, placing}
 use Rattle.sa_virtual.specs.Turn as rules
 use Rattle.sa_virtual.specs.Holding.{in_queue, in_ios, is_virtual, one_if, one_where, numbers, parts_of, kind, listed}
 use Rattle.sa_virtual.specs.Turning.{Good, HasRoom, Met}
@@ -51,16 +44,15 @@ use Rattle.sa_virtual.proofs.Turns as turns
 use Rattle.sa_virtual.proofs.MoreTurns as more
 use Rattle.sa_virtual.proofs.RanTurns as ran
 use Rattle.sa_virtual.proofs.Ran as run
-use Rattle.sa_vp_model.specs.declared.limits.TheConstants.{VIRTUALS}
-use Rattle.sa_vp_model.specs.Board.{Board, act_numbers, of_space, list_in, queued}
-use Rattle.sa_vp_model.specs.Turn.{act, thread, held_by, with_queue, carried_on, stops, picked, missed_page, goes}
-use Rattle.sa_vp_model.specs.Mirror.{Own, board_of, Fits, AreLists, newest_first, rows}
-use Rattle.sa_vp_model.specs.Needs.{IsTabled, IsVirtual, CanComeBack, CanPlace, CanPlaceOn, CanGiveWay, CanReady, CanBlockOn, CanGoOn, CanLook, AreRows}
+use Rattle.sa_vp_model.specs.Board.{Board, act_numbers, of_space, list_in}
+use Rattle.sa_vp_model.specs.Turn.{act, thread, held_by, carried_on, stops, missed_page, goes}
+use Rattle.sa_vp_model.specs.Mirror.{Own, board_of, Fits, rows}
+use Rattle.sa_vp_model.specs.Needs.{IsTabled, IsVirtual, CanComeBack, CanPlaceOn, CanGiveWay, CanReady, CanBlockOn, CanGoOn, CanLook}
 use Rattle.sa_vp_model.proofs.Tables.{newest_few, many_with}
 use Rattle.sa_vp_model.proofs.Readied.{work_with}
 use Rattle.sa_vp_model.proofs.Taken.{picked_in}
 use Rattle.sa_vp_model.proofs.Unblocked as over
-use Rattle.sa_vp_model.proofs.Main.{number_small, all_small, placed_small}
+use Rattle.sa_vp_model.proofs.Main.{number_small, placed_small}
 use Rattle.sa_vp_model.proofs.Roused as roused
 
 -- a sum of nothing

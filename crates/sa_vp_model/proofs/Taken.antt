@@ -1,11 +1,11 @@
 -- A thread is taken from the first list, round from its own, that has one.
-use Rattle.std.proofs.Common.{◌≡◌, ◌≢◌, ℕ, zero, suc, ◌+◌, ◌-◌, ◌%◌, ◌<◌, ◌≤◌, Bool, true, false, cond, eqb, List, [], ◌∷◌, ◌++◌, append_assoc, length, map, filter, find, get_or, set, slice_get, Option, Some, None, inl, inr, refl, sym, ap, subst, ◌∙◌, arith, mod-lt}
+use Rattle.std.proofs.Common.{◌≡◌, ◌≢◌, ℕ, zero, suc, ◌+◌, ◌-◌, ◌%◌, ◌<◌, ◌≤◌, Bool, true, false, cond, eqb, List, [], ◌∷◌, ◌++◌, append_assoc, length, map, filter, find, get_or, set, slice_get, Option, Some, None, refl, sym, ap, subst, ◌∙◌, arith, mod-lt}
 use Rattle.std.specs.Prelude.{count_by, ◌==◌}
 use Rattle.std.specs.List.{range_with_len}
 use Rattle.std.specs.Option.{option_map}
 use Rattle.std.proofs.lemmas.Bool.{eqb-true}
 use Rattle.std.proofs.lemmas.Option.{same_Some}
-use Rattle.std.proofs.lemmas.List.{length-set, get_or-set_same, get_or-set_other}
+use Rattle.std.proofs.lemmas.List.{get_or-set_same, get_or-set_other}
 use Rattle.std.proofs.lemmas.List.Sums.{sum_by-cons}
 use Rattle.sa_base.specs.declared.number.ProcNo.{ProcNo}
 use Rattle.sa_base.specs.declared.number.SpaceNo.{SpaceNo}
@@ -19,18 +19,18 @@ use Rattle.sa_links.specs.Lists.{count_in, without}
 use Rattle.sa_links.proofs.Counting.{count-append, get_in}
 use Rattle.sa_assign.specs.Reaim.{proc_no}
 use Rattle.sa_laws.specs.declared.place.Place.{Place}
-use Rattle.sa_laws.specs.Life.{Life, without_lock, with_first, ran}
+use Rattle.sa_laws.specs.Life.{without_lock, with_first, ran}
 use Rattle.sa_laws.specs.Readings.{Listed, is_in}
 use Rattle.sa_laws.specs.Record.{with_life, locks, is_other_thread}
 use Rattle.sa_virtual.specs.Virtual.{Virtuals, space_of, list_of, placed_on, ready_of}
 use Rattle.sa_virtual.specs.Turn.{chosen, has_some, popped, round_from, taken_from, threads_in}
 use Rattle.sa_virtual.specs.Holding.{threads_of, one_if, one_where, kind, place_no, at_no}
 use Rattle.sa_virtual.specs.Turning.{Good}
-use Rattle.sa_vp_model.specs.Board.{Board, list_in, with_list_in}
+use Rattle.sa_vp_model.specs.Board.{list_in, with_list_in}
 use Rattle.sa_vp_model.specs.Turn.{looks, takes, takes_from, picked, left_of, is_some_list}
 use Rattle.sa_vp_model.specs.Mirror.{Own, board_of, Fits, AreLists, newest_first, rows}
 use Rattle.sa_vp_model.proofs.Tables.{lists_with, many_with, picked_one, some_one, left_one, newest_few, newest_less, newest_stays}
-use Rattle.sa_vp_model.proofs.Follows.{Follows, behind}
+use Rattle.sa_vp_model.proofs.Follows.{Follows}
 use Rattle.sa_vp_model.proofs.Placed.{item}
 use Rattle.sa_vp_model.proofs.Readied as readied
 

@@ -1,5 +1,5 @@
 -- Each turn on the board is a turn of what is read.
-use Rattle.std.proofs.Common.{◌≡◌, ℕ, ◌+◌, ◌*◌, ◌<◌, ◌≤◌, ◌^◌, Bool, min, List, ◌++◌, length, map, get_or, Option, Some, None, inl, inr, refl, sym, ap, subst, ◌∙◌, arith}
+use Rattle.std.proofs.Common.{◌≡◌, ℕ, ◌+◌, ◌<◌, ◌≤◌, Bool, min, List, ◌++◌, length, get_or, inl, inr, refl, sym, ap, subst, ◌∙◌, arith}
 use Rattle.std.specs.Prelude.{count_by}
 use Rattle.std.specs.Option.{option_map}
 use Rattle.std.proofs.Math.Path.{fun_ext}
@@ -11,8 +11,8 @@ use Rattle.sa_base.specs.declared.number.ProcNo.{ProcNo}
 use Rattle.sa_base.specs.declared.limits.TheConstants.{MAX_THREADS, MAX_EVENTS}
 use Rattle.sa_base.specs.Items.{items_at}
 use Rattle.sa_instr.specs.declared.limits.TheConstants.{MAX_START}
-use Rattle.sa_spaces.specs.Workload.{WorkloadView, IsWorkload}
-use Rattle.sa_devices.specs.Ios.{Io, due_of, io_no}
+use Rattle.sa_spaces.specs.Workload.{WorkloadView}
+use Rattle.sa_devices.specs.Ios.{due_of, io_no}
 use Rattle.sa_devices.proofs.SoundLemmas.{length-evicted}
 use Rattle.sa_laws.specs.declared.place.Place.{Place}
 use Rattle.sa_laws.specs.declared.place.Place.TheVariants as places

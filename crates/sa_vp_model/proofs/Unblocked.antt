@@ -1,5 +1,5 @@
 -- An I/O is over.
-use Rattle.std.proofs.Common.{◌≡◌, ℕ, ◌+◌, ◌-◌, ◌<◌, ◌≤◌, Bool, true, cond, eqb, List, [], ◌∷◌, ◌++◌, length, get_or, set, filter, map, Option, Some, None, inl, inr, refl, sym, ap, ◌∙◌, arith}
+use Rattle.std.proofs.Common.{◌≡◌, ℕ, ◌+◌, ◌-◌, ◌<◌, ◌≤◌, true, cond, eqb, List, [], ◌∷◌, ◌++◌, length, get_or, set, filter, Option, Some, None, inl, inr, refl, sym, ap, ◌∙◌, arith}
 use Rattle.std.specs.Prelude.{find}
 use Rattle.std.specs.Option.{option_map}
 use Rattle.std.proofs.lemmas.Bool.{cases_eq, cases_lt, ne_eqb, eq-eqb, eqb-true}
@@ -17,7 +17,7 @@ use Rattle.sa_devices.specs.Pages.{completed}
 use Rattle.sa_devices.proofs.SoundLemmas.{length-completed}
 use Rattle.sa_laws.specs.declared.place.Place.TheVariants as places
 use Rattle.sa_laws.specs.State.{placed_if}
-use Rattle.sa_laws.specs.Life.{Life, with_hand}
+use Rattle.sa_laws.specs.Life.{with_hand}
 use Rattle.sa_laws.specs.Record.{is_io_of, is_io_of_other, is_kind_of, with_page, one_thread}
 use Rattle.sa_virtual.specs.Virtual.{Virtuals, space_of, thread_of}
 use Rattle.sa_virtual.specs.Turn.{of_io, unblocked}

@@ -1,6 +1,6 @@
 -- Virtual processors on their processors, as a value that does not grow but for its items: what is read off the history
 -- of a run, kept. Virtual processor k of space s has the number 16 s + k; the lists of its space have its place k.
-use Rattle.std.specs.Prelude.{ℕ, List, [], ◌∷◌, ◌++◌, length, map, replicate, Option, Some, None, slice_index_or, slice_set}
+use Rattle.std.specs.Prelude.{ℕ, List, [], ◌∷◌, ◌++◌, length, map, replicate, Option, None, slice_index_or, slice_set}
 use Rattle.sa_base.specs.declared.number.ProcNo.{ProcNo}
 use Rattle.sa_base.specs.declared.number.SpaceNo.{SpaceNo}
 use Rattle.sa_base.specs.declared.number.ThreadNo.{ThreadNo}

@@ -1,6 +1,5 @@
 -- The board is what is read off a history of virtual processors.
-use Rattle.std.specs.Prelude.{◌≡◌, ℕ, ◌+◌, ◌*◌, ◌≤◌, ◌<◌, ◌^◌, if◌then◌else◌, List, [], ◌∷◌, ◌++◌, length, sum_by, count_by, Option, None, slice_index_or}
-use Rattle.sa_base.specs.declared.number.ProcNo.{ProcNo}
+use Rattle.std.specs.Prelude.{◌≡◌, ℕ, ◌+◌, ◌*◌, ◌≤◌, ◌<◌, if◌then◌else◌, List, [], ◌∷◌, ◌++◌, length, sum_by, count_by, Option, None, slice_index_or}
 use Rattle.sa_base.specs.declared.number.ThreadNo.{ThreadNo}
 use Rattle.sa_base.specs.declared.limits.TheConstants.{MAX_PROCESSORS, MAX_THREADS}
 use Rattle.sa_base.specs.declared.record.Item.{Item}

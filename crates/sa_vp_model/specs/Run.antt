@@ -1,16 +1,15 @@
 -- A turn on the board is a turn of what is read off the history.
-use Rattle.std.specs.Prelude.{◌≡◌, ℕ, ◌+◌, ◌≤◌, ◌<◌, ◌++◌, min, List, length, slice_index_or}
+use Rattle.std.specs.Prelude.{◌≡◌, ℕ, ◌+◌, ◌≤◌, ◌<◌, ◌++◌, min, length, slice_index_or}
 use Rattle.sa_base.specs.declared.number.ProcNo.{ProcNo}
-use Rattle.sa_base.specs.declared.number.SpaceNo.{SpaceNo}
 use Rattle.sa_base.specs.declared.limits.TheConstants.{MAX_EVENTS}
 use Rattle.sa_base.specs.Items.{items_at}
 use Rattle.sa_instr.specs.declared.limits.TheConstants.{MAX_START}
 use Rattle.sa_spaces.specs.Workload.{WorkloadView, IsWorkload}
-use Rattle.sa_virtual.specs.Virtual.{Virtuals, opening}
+use Rattle.sa_virtual.specs.Virtual.{Virtuals}
 use Rattle.sa_virtual.specs.Turn.{after, turned as turned_of}
 use Rattle.sa_virtual.specs.Legal.{blocked_in, ready_in}
 use Rattle.sa_virtual.specs.Turning.{Good, IsBelow}
-use Rattle.sa_vp_model.specs.Board.{Board, opened}
+use Rattle.sa_vp_model.specs.Board.{Board}
 use Rattle.sa_vp_model.specs.Turn.{turned}
 use Rattle.sa_vp_model.specs.Mirror.{Own, board_of, Fits, IsBounded}
 

@@ -1,5 +1,5 @@
 -- A turn of a processor on the board: the first that applies of four.
-use Rattle.std.specs.Prelude.{ℕ, ◌+◌, ◌-◌, ◌==◌, min, nat_le, Bool, true, false, ◌&&◌, if◌then◌else◌, List, [], ◌∷◌, ◌++◌, length, map, find, take, drop, count_by, Option, Some, None, slice_get, slice_index, slice_index_or, slice_set}
+use Rattle.std.specs.Prelude.{ℕ, ◌+◌, ◌-◌, ◌==◌, min, nat_le, Bool, true, false, ◌&&◌, if◌then◌else◌, List, [], ◌∷◌, ◌++◌, length, map, find, take, drop, Option, Some, None, slice_get, slice_index, slice_index_or, slice_set}
 use Rattle.std.specs.List.{range_with_len}
 use Rattle.std.specs.Option.{option_map}
 use Rattle.sa_base.specs.declared.number.ProcNo.{ProcNo}
@@ -17,14 +17,14 @@ use Rattle.sa_devices.specs.Ios.{Io, due_of, io_at, io_no}
 use Rattle.sa_devices.specs.Pages.{completed, evicted}
 use Rattle.sa_devices.specs.DevicesView.{begun_with, ended_with}
 use Rattle.sa_base.specs.Pages.{has_page}
-use Rattle.sa_links.specs.Lists.{list_at, with_list}
+use Rattle.sa_links.specs.Lists.{with_list}
 use Rattle.sa_laws.specs.State.{State, Runner, thread_at, next_instr, runner_on, owner_at, space_at}
 use Rattle.sa_laws.specs.Machine.{next_effect}
 use Rattle.sa_check_machine.specs.Counts.{is_ready, count_in}
 use Rattle.sa_virtual.specs.Virtual.{space_of, list_of}
 use Rattle.sa_virtual.specs.Turn.{of_io, quantum, round_from}
 use Rattle.sa_virtual.specs.Holding.{numbers}
-use Rattle.sa_vp_model.specs.Board.{Board, of_space, list_in, with_list_in, queued, said}
+use Rattle.sa_vp_model.specs.Board.{Board, list_in, with_list_in, queued, said}
 
 abbrev pub act : ℕ → ActNo
 act n = record { 0 = n }

@@ -1,7 +1,6 @@
 -- A run goes on by one turn, and what is read of it.
-use Rattle.std.proofs.Common.{◌≡◌, ℕ, zero, suc, ◌+◌, ◌-◌, ◌<◌, ◌≤◌, List, [], ◌∷◌, ◌++◌, length, map, take, get_or, Option, Some, None, inl, inr, refl, sym, ap, subst, ◌∙◌, arith, add-one}
+use Rattle.std.proofs.Common.{◌≡◌, ℕ, ◌+◌, ◌-◌, ◌<◌, ◌≤◌, List, [], ◌∷◌, ◌++◌, length, get_or, Option, Some, None, refl, sym, ap, subst, ◌∙◌, arith, add-one}
 use Rattle.std.specs.Prelude.{All}
-use Rattle.std.specs.List.{range_with_len}
 use Rattle.std.proofs.lemmas.List.Elements.{All-from_get_or}
 use Rattle.std.proofs.lemmas.List.FromFn.{map-range_with_len_more, length-map-range_with_len, get_or-map-range_with_len}
 use Rattle.sa_base.specs.declared.number.ProcNo.{ProcNo}
@@ -18,7 +17,6 @@ use Rattle.sa_vp_model.specs.Turn.{turned}
 use Rattle.sa_vp_model.specs.End.{end_of}
 use Rattle.sa_vp_model.specs.Runs.{board_after, RunIsRead}
 use Rattle.sa_vp_model.proofs.Runs.{runs_are_read}
-use Rattle.sa_laws.specs.Event.{items_of}
 use Rattle.sa_virtual.specs.Virtual.{opening}
 use Rattle.sa_virtual.specs.Legal.{IsLegalVp, EndsWith, after_all}
 use Rattle.sa_vp_run.specs.Run.{first_turns, first_events, EndsAt, IsVpRun, RunsSoFar, RunsTo}

@@ -7,7 +7,7 @@ use Rattle.sa_base.specs.declared.record.End.{End}
 use Rattle.sa_spaces.specs.Workload.{WorkloadView}
 use Rattle.sa_assign.specs.Reaim.{proc_no}
 use Rattle.sa_sched.specs.Order.{Order, processor_at}
-use Rattle.sa_laws.specs.Event.{Event, items_of, events_of}
+use Rattle.sa_laws.specs.Event.{Event, items_of}
 use Rattle.sa_virtual.specs.Virtual.{opening}
 use Rattle.sa_virtual.specs.Legal.{IsLegalVp, EndsWith, after_all, lost_of, run_from}
 

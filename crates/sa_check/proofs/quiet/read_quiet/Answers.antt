@@ -66,9 +66,9 @@ returns c =
       laws = record {
         told_once = (λ _. each-quiet TellsOnce once-holds m.workload e.number e.proc m.readings e.records quiet, λ _. found.told_once);
         named = (λ _. each-quiet (NamesTheLife e.proc) (named-holds e.proc) m.workload e.number e.proc m.readings e.records quiet, λ _. found.named);
-        told_all = (λ _. each-quiet (TellsAllThen e.proc) (all-holds e.proc) m.workload e.number e.proc m.readings e.records quiet, λ _. found.told_all);
-        gave_upcall =
-            (λ _. each-quiet (GivesUpcallThen e.proc) (upcall-holds e.proc) m.workload e.number e.proc m.readings e.records quiet, λ _. found.gave_upcall);
+        all_told = (λ _. each-quiet (TellsAllThen e.proc) (all-holds e.proc) m.workload e.number e.proc m.readings e.records quiet, λ _. found.all_told);
+        upcall_given =
+            (λ _. each-quiet (GivesUpcallThen e.proc) (upcall-holds e.proc) m.workload e.number e.proc m.readings e.records quiet, λ _. found.upcall_given);
         heard = (λ _. each-quiet RaisesLine heard-holds m.workload e.number e.proc m.readings e.records quiet, λ _. found.heard);
       };
       due = record {

@@ -23,8 +23,8 @@ loop-i-init c =
       steps = record { same = (λ all. all, λ all. all) };
       told_once = rest-first TellsOnce m e _ c.new-laws.ensures.told_once;
       named = rest-first (NamesTheLife e.proc) m e _ c.new-laws.ensures.named;
-      told_all = rest-first (TellsAllThen e.proc) m e _ c.new-laws.ensures.told_all;
-      gave_upcall = rest-first (GivesUpcallThen e.proc) m e _ c.new-laws.ensures.gave_upcall;
+      all_told = rest-first (TellsAllThen e.proc) m e _ c.new-laws.ensures.all_told;
+      upcall_given = rest-first (GivesUpcallThen e.proc) m e _ c.new-laws.ensures.upcall_given;
       heard = rest-first RaisesLine m e _ c.new-laws.ensures.heard;
       wants = λ below. absurd (omega arith);
       aims = λ below. absurd (omega arith);
@@ -66,8 +66,8 @@ loop-i-preserved c =
       steps = steps-more now next m e rest x others is goes (c.allows.ensures.0 c.if-not-allows.false) old.steps;
       told_once = rest-more TellsOnce now next m e rest x others _ _ is goes laws.told_once old.told_once;
       named = rest-more (NamesTheLife e.proc) now next m e rest x others _ _ is goes laws.named old.named;
-      told_all = rest-more (TellsAllThen e.proc) now next m e rest x others _ _ is goes laws.told_all old.told_all;
-      gave_upcall = rest-more (GivesUpcallThen e.proc) now next m e rest x others _ _ is goes laws.gave_upcall old.gave_upcall;
+      all_told = rest-more (TellsAllThen e.proc) now next m e rest x others _ _ is goes laws.all_told old.all_told;
+      upcall_given = rest-more (GivesUpcallThen e.proc) now next m e rest x others _ _ is goes laws.upcall_given old.upcall_given;
       heard = rest-more RaisesLine now next m e rest x others _ _ is goes laws.heard old.heard;
       wants = found-behind places.result.wants i _ _ _ _ due.wants
           (at-place (λ s. WantsAreDue s e) now m e i _ (before_wants e.records) old.moment places.ensures.wants (take-before-wants e.records)) old.wants;
@@ -99,8 +99,8 @@ returns c =
       laws = record {
         told_once = rest-all TellsOnce now m e _ _ none old.told_once;
         named = rest-all (NamesTheLife e.proc) now m e _ _ none old.named;
-        told_all = rest-all (TellsAllThen e.proc) now m e _ _ none old.told_all;
-        gave_upcall = rest-all (GivesUpcallThen e.proc) now m e _ _ none old.gave_upcall;
+        all_told = rest-all (TellsAllThen e.proc) now m e _ _ none old.all_told;
+        upcall_given = rest-all (GivesUpcallThen e.proc) now m e _ _ none old.upcall_given;
         heard = rest-all RaisesLine now m e _ _ none old.heard;
       };
       due = record {

@@ -20,8 +20,8 @@ invariant-loop-i l =
       steps : StepsRest (seen l.now) m e rest;
       told_once : Rest TellsOnce (seen l.now) m e rest l.laws.told_once;
       named : Rest (NamesTheLife e.proc) (seen l.now) m e rest l.laws.named;
-      told_all : Rest (TellsAllThen e.proc) (seen l.now) m e rest l.laws.told_all;
-      gave_upcall : Rest (GivesUpcallThen e.proc) (seen l.now) m e rest l.laws.gave_upcall;
+      all_told : Rest (TellsAllThen e.proc) (seen l.now) m e rest l.laws.all_told;
+      upcall_given : Rest (GivesUpcallThen e.proc) (seen l.now) m e rest l.laws.upcall_given;
       heard : Rest RaisesLine (seen l.now) m e rest l.laws.heard;
       wants : l.places.wants < l.i → (IsTrue l.due.wants ↔ WantsAreDue (behind_some m e (before_wants e.records)) e);
       aims : l.places.aims < l.i → (IsTrue l.due.aims ↔ AimsAreDue (behind_some m e (before_aims e.records)) e);

@@ -1,4 +1,4 @@
-use Rattle.std.proofs.Common.{◌≡◌, ◌∙◌, ap, take}
+use Rattle.std.proofs.Common.{◌∙◌, ap, take}
 use Rattle.sa_check_shapes.proofs.PartLemmas.{take-front}
 use Rattle.sa_check_shapes.proofs.parts.front_part.Goals as goal
 

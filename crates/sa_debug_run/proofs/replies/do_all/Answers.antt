@@ -1,4 +1,4 @@
-use Rattle.std.proofs.Common.{◌≡◌, ◌∙◌, get_or, refl, sym, subst}
+use Rattle.std.proofs.Common.{◌∙◌, get_or, refl, sym, subst}
 use Rattle.sa_spaces.specs.Workload.{WorkloadView}
 use Rattle.sa_lemmas.proofs.Results.{on_err}
 use Rattle.sa_script.specs.declared.command.DebugCommand.{DebugCommand}

@@ -1,4 +1,4 @@
-use Rattle.std.proofs.Common.{rules, arith, ◌≡◌, ℕ, ◌+◌, ◌<◌, ◌≤◌, None, sym, ap, subst}
+use Rattle.std.proofs.Common.{rules, arith, ◌≡◌, ℕ, ◌<◌, ◌≤◌, None, sym, ap, subst}
 use Rattle.sa_sched.specs.Kind.{order_of}
 use Rattle.sa_sched.specs.Turns.{start, turned_often}
 use Rattle.sa_spaces.specs.Workload.{WorkloadView}

@@ -1,6 +1,6 @@
-use Rattle.std.proofs.Common.{◌≡◌, ◌<◌, ◌≤◌, [], ◌∷◌, ◌++◌, length, get_or, refl, sym, ap, subst, ◌∙◌, arith}
+use Rattle.std.proofs.Common.{◌<◌, [], ◌∷◌, ◌++◌, length, get_or, refl, sym, ap, subst, ◌∙◌, arith}
 use Rattle.sa_links.specs.Lists.{Lists, list_at, with_list, IsFree}
-use Rattle.sa_vp.proofs.Filling.{filled, free, more, among}
+use Rattle.sa_vp.proofs.Filling.{free, more, among}
 use Rattle.sa_vp.proofs.queue.fill.Goals as goal
 
 pub push_back-requires-clause-node : goal.push_back-requires-clause-node

@@ -1,4 +1,4 @@
-use Rattle.std.proofs.Common.{◌≡◌, ◌≤◌, length}
+use Rattle.std.proofs.Common.{◌≡◌}
 use Rattle.sa_vp.proofs.Filling.{filled}
 use Rattle.sa_vp.proofs.queue.fill.Given as goal
 

@@ -1,7 +1,7 @@
-use Rattle.std.proofs.Common.{◌≡◌, ℕ, ◌<◌, ◌≤◌, List, [], ◌∷◌, ◌++◌, length, get_or, map, refl, sym, ap, subst, ◌∙◌, arith}
+use Rattle.std.proofs.Common.{◌≡◌, ℕ, ◌<◌, [], ◌∷◌, ◌++◌, length, get_or, sym, ap, subst, ◌∙◌, arith}
 use Rattle.sa_links.specs.Lists.{Lists, list_at, with_list, IsFree}
 use Rattle.sa_virtual.specs.Holding.{numbers}
-use Rattle.sa_vp.proofs.Filling.{filled, free, more, among, numbers_at, numbers_many}
+use Rattle.sa_vp.proofs.Filling.{free, more, among, numbers_at, numbers_many}
 use Rattle.sa_vp.proofs.queue.put_behind.Goals as goal
 
 pub push_back-requires-clause-node : goal.push_back-requires-clause-node

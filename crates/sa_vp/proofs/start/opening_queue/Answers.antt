@@ -1,4 +1,4 @@
-use Rattle.std.proofs.Common.{◌≡◌, ◌≤◌, List, ℕ, ap, subst, ◌∙◌, arith, rules}
+use Rattle.std.proofs.Common.{◌≡◌, ◌≤◌, List, ℕ, ap, subst, arith, rules}
 use Rattle.sa_links.specs.Lists.{Lists, count_in, count_in_all}
 use Rattle.sa_virtual.specs.Virtual.{opening_queue}
 use Rattle.sa_vp_model.specs.Board.{act_numbers}

@@ -1,4 +1,4 @@
-use Rattle.std.proofs.Common.{◌<◌, ◌+◌, length, get_or, arith}
+use Rattle.std.proofs.Common.{◌+◌, length, get_or, arith}
 use Rattle.std.proofs.lemmas.List.FromFn.{fill_by_all}
 use Rattle.sa_vp_model.specs.Turn.{loss}
 use Rattle.sa_vp.proofs.turn.add_losses.Goals as goal

@@ -1,10 +1,8 @@
-use Rattle.std.proofs.Common.{rules, arith, ◌≡◌, ℕ, ◌+◌, ◌-◌, ◌<◌, ◌≤◌, None, refl, sym, ap, subst, ◌∙◌, inl, inr}
+use Rattle.std.proofs.Common.{rules, arith, ◌≡◌, ◌+◌, ◌-◌, ◌≤◌, None, sym, ap, ◌∙◌, inl, inr}
 use Rattle.std.proofs.lemmas.Bool.{cases_lt}
-use Rattle.sa_base.specs.Recorded.{Recorded}
 use Rattle.sa_sched.specs.Kind.{order_of}
 use Rattle.sa_sched.specs.Order.{processor_at}
 use Rattle.sa_sched.specs.Turns.{Turns, start, turned_often}
-use Rattle.sa_vp_model.specs.Board.{Board}
 use Rattle.sa_vp_model.specs.End.{end_of}
 use Rattle.sa_vp.specs.View.{VpView}
 use Rattle.sa_vp.proofs.Kept.{goes-on}

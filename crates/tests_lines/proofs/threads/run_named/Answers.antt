@@ -1,4 +1,4 @@
-use Rattle.std.proofs.Common.{◌≡◌, sym, subst, List}
+use Rattle.std.proofs.Common.{sym, subst, List}
 use Rattle.sa_lines.specs.Seen.{PollerSeen}
 use Rattle.tests_lines.specs.Fine.{AreOf}
 use Rattle.tests_lines.proofs.Pollers.{pollers_of}

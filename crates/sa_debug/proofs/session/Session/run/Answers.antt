@@ -37,8 +37,8 @@ returns-in-Err-clause-workload g c =
 pub returns-in_err-turn-in-Ok-clause-err : goal.returns-in_err-turn-in-Ok-clause-err
 returns-in_err-turn-in-Ok-clause-err g c =
     on_err c.from_residual.result (c.loop-turn.invariant.so_far (session c.turn.new.self)
-    (comes-no_more (over_machines g.U.UserLevel.calls c.args.self.now.core.budget) c.args.turns c.loop-turn._turn (session c.loop-turn.self) (session c.turn.new.self)
-    c.loop-turn-test.true (c.in_err-turn-in-Ok.ensures.err ∙ c.in-Ok.ensures.next.1)))
+    (comes-no_more (over_machines g.U.UserLevel.calls c.args.self.now.core.budget) c.args.turns c.loop-turn._turn (session c.loop-turn.self)
+    (session c.turn.new.self) c.loop-turn-test.true (c.in_err-turn-in-Ok.ensures.err ∙ c.in-Ok.ensures.next.1)))
 
 pub returns-in_err-turn-in-Ok-clause-budget : goal.returns-in_err-turn-in-Ok-clause-budget
 returns-in_err-turn-in-Ok-clause-budget g c =

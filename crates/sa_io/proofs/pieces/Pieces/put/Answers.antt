@@ -1,4 +1,4 @@
-use Rattle.std.proofs.Common.{rules, ◌≡◌, ◌++◌, [], ap, sym, ◌∙◌, append_assoc}
+use Rattle.std.proofs.Common.{rules, ◌++◌, ap, sym, ◌∙◌, append_assoc}
 use Rattle.std.proofs.KnownBytes.{Appends-trans}
 use Rattle.sa_io.proofs.PieceLemmas.{prefix-behind, filled-up}
 use Rattle.sa_io.proofs.pieces.Pieces.put.Goals as goal

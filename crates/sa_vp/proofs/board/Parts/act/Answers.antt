@@ -1,4 +1,4 @@
-use Rattle.std.proofs.Common.{sym, ap, subst, ◌∙◌, arith}
+use Rattle.std.proofs.Common.{sym, ◌∙◌, arith}
 use Rattle.sa_vp.proofs.board.Parts.act.Goals as goal
 
 pub has_had_its_turn-requires-clause-inside : goal.has_had_its_turn-requires-clause-inside

@@ -1,4 +1,4 @@
-use Rattle.std.proofs.Common.{List, slice_get, sym, ap}
+use Rattle.std.proofs.Common.{slice_get, sym, ap}
 use Rattle.std.specs.Option.{option_map}
 use Rattle.sa_virtual.specs.Virtual.{space_of, list_of}
 use Rattle.sa_vp_model.specs.Turn.{thread}

@@ -1,4 +1,4 @@
-use Rattle.std.proofs.Common.{◌≤◌, ap, ◌∙◌, arith}
+use Rattle.std.proofs.Common.{ap, arith}
 use Rattle.sa_vp.specs.View.{VpView}
 use Rattle.sa_vp.proofs.Kept.{inside-view, can, lose, waits, work, kept-turn, number-turn}
 use Rattle.sa_vp.proofs.vp.Vp.turn.Goals as goal

@@ -4,7 +4,7 @@ use Rattle.std.proofs.lemmas.List.{get_or_past}
 use Rattle.sa_spaces.specs.Workload.{WorkloadView}
 use Rattle.sa_assign.specs.Aims.{space_no}
 use Rattle.sa_check_moment.specs.Seen.{seen}
-use Rattle.sa_check_closing.proofs.prompt.is_prompt.Goals as goal
+use Rattle.sa_check_closing.proofs.prompt.is_told_in_time.Goals as goal
 
 pub returns-then-not-is_prompt_to : goal.returns-then-not-is_prompt_to
 returns-then-not-is_prompt_to c = (
