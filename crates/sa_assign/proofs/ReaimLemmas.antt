@@ -1,11 +1,11 @@
 -- Changes of aims that are made one after another.
 use Rattle.std.proofs.Common.{◌≡◌, ℕ, zero, suc, ◌+◌, List, [], ◌∷◌, ◌++◌, Bool, Option, Some, None, refl, sym, ap, ◌∙◌, append_assoc}
-use Rattle.std.proofs.lemmas.List.{map-append}
 use Rattle.sa_base.specs.declared.number.ProcNo.{ProcNo}
 use Rattle.sa_base.specs.declared.number.SpaceNo.{SpaceNo}
 use Rattle.sa_base.specs.declared.record.Record.{Record}
 use Rattle.sa_base.specs.declared.record.Record.TheVariants.{Aim}
 use Rattle.sa_base.specs.declared.record.Item.{Item}
+use Rattle.sa_base.proofs.Items.{items_at-append}
 use Rattle.sa_assign.specs.AssignView.{AssignView}
 use Rattle.sa_assign.specs.Aims.{Change, space_no, aims_with, aims_after, changes_for, change_to, choice, changes_from, missing}
 use Rattle.sa_assign.specs.Reaim.{lines_with, lines_after, line_at, line_records, proc_no, records_of, carried_out}
@@ -42,7 +42,7 @@ carried_out-append event proc xs ys x =
     let mine = records_of event lines xs in
     let others = records_of event (lines_after event lines xs) ys in
     let items_path = ap (λ (v : List Record). x.1 ++ items_at event proc v) (records_of-append event lines xs ys)
-    ∙ ap (λ (v : List Item). x.1 ++ v) (map-append (λ (r : Record). let i : Item = record { event = event; proc = proc; what = r } in i) mine others)
+    ∙ ap (λ (v : List Item). x.1 ++ v) (items_at-append event proc mine others)
     ∙ sym (append_assoc x.1 (items_at event proc mine) (items_at event proc others)) in
     λ i. (record x.0 { aims = aims_path i; lines = lines_path i }, items_path i)
 

@@ -1,5 +1,5 @@
 -- An interrupt that upcalls the aim.
-use Rattle.std.proofs.lemmas.List.{map-append, append-nil}
+use Rattle.std.proofs.lemmas.List.{append-nil}
 use Rattle.std.proofs.Common.{◌≡◌, ◌≢◌, ℕ, ◌+◌, ◌<◌, sym, ◌∙◌, ap, subst, refl, Bool, true, false, not, Option, Some, None, is_some, List, [], ◌∷◌, ◌++◌, map, length, append_assoc, inl, Contains}
 use Rattle.std.specs.List.{list_any}
 use Rattle.std.proofs.lemmas.List.Elements.{Contains-append_right}
@@ -12,6 +12,7 @@ use Rattle.sa_base.specs.declared.record.Note.{Note}
 use Rattle.sa_base.specs.declared.record.Record.{Record}
 use Rattle.sa_base.specs.declared.record.Record.TheVariants.{Stop, Up, Told, Move}
 use Rattle.sa_base.specs.Items.{items_at}
+use Rattle.sa_base.proofs.Items.{items_at-append}
 use Rattle.sa_spaces.specs.Workload.{WorkloadView}
 use Rattle.sa_batch.specs.Notices.{notes_told}
 use Rattle.sa_laws.specs.Event.{Event}
@@ -148,7 +149,7 @@ module _ {U C : Type 0} (level : UserLevel U C) where
       let y0 : Scene C = record { state = y; items = none ++ items_at g p first } in
       let items : (entered_as g p n entry (record { state = x.kernel; items = none })).items ≡ items_at g p all =
       ap (λ (z : Scene C). z.items) (entering none) ∙ upped-items g p s n owned y0
-      ∙ sym (map-append (λ (z : Record). let i : Item = record { event = g; proc = p; what = z } in i) first rest) in
+      ∙ sym (items_at-append g p first rest) in
       let some : all ≢ [] = append-some first rest (rest-some s n owned (owner_of y p) notes) in
       let part : Parted t m.kernel all =
       parted w m.kernel r t all c.history.ok c.history.kept can some

@@ -1,7 +1,8 @@
 -- An interrupt that leaves the processor for want of an upcall page.
+use Rattle.sa_base.proofs.Items.{items_at-append}
 use Rattle.sa_event_frames.proofs.Idle.{is_stop}
 use Rattle.sa_kernel_events.proofs.Interrupts.{stops-shape, Stops, stops-own}
-use Rattle.std.proofs.lemmas.List.{map-append, append-nil}
+use Rattle.std.proofs.lemmas.List.{append-nil}
 use Rattle.std.proofs.Common.{is_some, ◌≡◌, ◌≢◌, ℕ, ◌+◌, sym, ◌∙◌, ap, subst, refl, Bool, true, false, Option, Some, None, List, [], ◌∷◌, ◌++◌, slice_set, inl, append_assoc}
 use Rattle.std.specs.List.{list_all, list_any}
 use Rattle.sa_base.specs.declared.record.Item.{Item}
@@ -144,7 +145,7 @@ module _ {U C : Type 0} (level : UserLevel U C) where
       let none : List Item = [] in
       let items : (entered_as g p n entry (record { state = x.kernel; items = none })).items ≡ items_at g p all =
       ap (λ (z : Scene C). z.items) (entering none) ∙ leave-items g p s (record { state = y; items = none ++ items_at g p own })
-      ∙ sym (map-append (λ (z : Record). let i : Item = record { event = g; proc = p; what = z } in i) own rest) in
+      ∙ sym (items_at-append g p own rest) in
       let some : all ≢ [] = append-some own rest (not-empty (Move o None) (Aim p None ∷ fetch_records s still)) in
       let are : AreOwn all = stops-own own rest stops (leave-own p o s still) in
       let part : Parted t m.kernel all = parted w m.kernel r t all c.history.ok c.history.kept can some (own-others all are) items in

@@ -2,12 +2,12 @@
 use Rattle.std.proofs.Common.{false, ◌≡◌, ◌≢◌, ℕ, refl, sym, ◌∙◌, ap, subst, Some, None, List, [], ◌∷◌, ◌++◌, append_assoc, true}
 use Rattle.std.specs.Prelude.{not, ◌&&◌, is_some}
 use Rattle.std.specs.List.{list_all}
-use Rattle.std.proofs.lemmas.List.{map-append, append-nil}
+use Rattle.std.proofs.lemmas.List.{append-nil}
 use Rattle.sa_base.specs.declared.number.ProcNo.{ProcNo}
 use Rattle.sa_base.specs.declared.record.Record.{Record}
 use Rattle.sa_base.specs.declared.record.Record.TheVariants.{Ins, Out, Run, Cont, Back, Ready, Take, Free, Idle, Spin, Tick, Aim, Line, Up, Stop, Move}
-use Rattle.sa_base.specs.declared.record.Item.{Item}
 use Rattle.sa_base.specs.Items.{items_at}
+use Rattle.sa_base.proofs.Items.{items_at-append}
 use Rattle.sa_spaces.specs.Workload.{WorkloadView}
 use Rattle.sa_kernel_model.specs.State.{KernelState, Scene, line_of}
 use Rattle.sa_laws.specs.Readings.{Readings, owner_of as owner_in, aim_of as aim_in}
@@ -145,7 +145,7 @@ module _ {C : Type 0} where
         records = says ++ walk.records;
         adds =
             walk.adds ∙ ap (λ v. v ++ items_at e p walk.records) items
-            ∙ sym (map-append (λ (z : Record). let i : Item = record { event = e; proc = p; what = z } in i) says walk.records);
+            ∙ sym (items_at-append e p says walk.records);
         reads = ap overview (records-append w e p r says walk.records) ∙ walk.reads;
         lawful = λ rest closes law.
             subst (λ xs. AreLawful w e p r xs) (sym (append_assoc says walk.records rest))

@@ -10,6 +10,7 @@ use Rattle.sa_base.specs.declared.context.Stopped.{Stopped}
 use Rattle.sa_base.specs.declared.record.Note.{Note}
 use Rattle.sa_base.specs.declared.record.Note.TheVariants.{Add, Preempted, Blocked, Unblocked}
 use Rattle.sa_base.specs.declared.number.IoNo.{IoNo}
+use Rattle.sa_lemmas.proofs.Membership.{contains-nil}
 use Rattle.sa_lemmas.specs.Function.{put}
 use Rattle.sa_lemmas.proofs.FunctionUpdates.{put-at, put-other}
 use Rattle.sa_acts.specs.declared.acts.Act.{Act}
@@ -39,7 +40,7 @@ use Rattle.sa_kernel_model.specs.declared.entry.Entry.TheVariants.{Interrupt, Bl
 use Rattle.sa_kernel_model.proofs.SizeLemmas.{sizes_of, sizes-kept}
 use Rattle.sa_kernel_model.proofs.ClosingLemmas.{length-aims_after, length-lines_after}
 use Rattle.sa_kernel_model.specs.Sound.{AreSpaces, AreIos, AreAlive, IsFormed}
-use Rattle.sa_kernel_model.proofs.LifeLemmas.{no_life, spaces-set, alive-aside, alive-run, alive-owner, taken-other, running-free, unused-free, alive-without, taken-without, taken-rests, alive-other, held-rests, taken-handed, contains-nil}
+use Rattle.sa_kernel_model.proofs.LifeLemmas.{no_life, spaces-set, alive-aside, alive-run, alive-owner, taken-other, running-free, unused-free, alive-without, taken-without, taken-rests, alive-other, held-rests, taken-handed}
 
 abbrev pub no_event : Option ℕ
 no_event = None

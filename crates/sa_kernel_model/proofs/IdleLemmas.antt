@@ -11,6 +11,7 @@ use Rattle.sa_base.specs.declared.record.Note.{Note}
 use Rattle.sa_base.specs.declared.record.Note.TheVariants as note
 use Rattle.sa_base.specs.declared.record.Record.{Record}
 use Rattle.sa_base.specs.declared.record.Record.TheVariants.{Ins, Out, Run, Cont, Back, Ready, Take, Free, Idle, Spin, Tick, Told, GiveBack}
+use Rattle.sa_lemmas.proofs.Membership.{contains-nil}
 use Rattle.sa_spaces.specs.Workload.{WorkloadView}
 use Rattle.sa_lemmas.proofs.FunctionUpdates.{put-at, put-other}
 use Rattle.sa_laws.specs.Event.{Event}
@@ -99,13 +100,9 @@ pub idles-ended : (test : Test) (w : WorkloadView) (before : Readings) (e : Even
 idles-ended test w before e after =
     idles-risen test w before e after _ (with_step test w before e after e.records after.lives) ∙ idles-stepped test w before e after e.records after.lives
 
--- what waits was there before, or is new
-no-element : {A : Type 0} (x : A) → Contains [] x → ⊥
-no-element x has = let below = has.1 in omega arith
-
 pub contains-emptied : (us : List (List Note)) (s t : ℕ) (n : Note) → Contains (get_or (slice_set us s []) t []) n → Contains (get_or us t []) n
 contains-emptied [] s t n has = has
-contains-emptied (u ∷ us) zero zero n has = absurd (no-element n has)
+contains-emptied (u ∷ us) zero zero n has = absurd (contains-nil n has)
 contains-emptied (u ∷ us) zero (suc t) n has = has
 contains-emptied (u ∷ us) (suc s) zero n has = has
 contains-emptied (u ∷ us) (suc s) (suc t) n has = contains-emptied us s t n has
@@ -119,12 +116,12 @@ contains-noted (u ∷ us) (suc s) zero m n has = inl has
 contains-noted (u ∷ us) (suc s) (suc t) m n has = contains-noted us s t m n has
 
 some-in : (ns : List Note) (m n : Note) → same_note m n ≡ true → Contains ns m → 1 ≤ copies_in n ns
-some-in [] m n same has = absurd (no-element m has)
+some-in [] m n same has = absurd (contains-nil m has)
 some-in (x ∷ ns) m n same (zero, below, is) = let one : once_if (same_note x n) ≡ 1 = ap (λ y. once_if (same_note y n)) is ∙ ap once_if same in omega arith
 some-in (x ∷ ns) m n same (suc i, below, is) = let rest = some-in ns m n same (i, omega arith, is) in omega arith
 
 some-copies : (us : List (List Note)) (t : ℕ) (m n : Note) → same_note m n ≡ true → Contains (get_or us t []) m → 1 ≤ copies n us
-some-copies [] t m n same has = absurd (no-element m has)
+some-copies [] t m n same has = absurd (contains-nil m has)
 some-copies (u ∷ us) zero m n same has = let one = some-in u m n same has in omega arith
 some-copies (u ∷ us) (suc t) m n same has = let one = some-copies us t m n same has in omega arith
 

@@ -1,5 +1,5 @@
 -- What runs and what was taken, as cells and numbers change.
-use Rattle.std.proofs.Common.{◌≡◌, ◌≢◌, ℕ, zero, suc, ◌<◌, true, false, Option, Some, None, List, [], ◌∷◌, ◌++◌, get_or, slice_set, Contains, refl, sym, ap, subst, ◌∙◌, ◌⊎◌, inl, inr, arith}
+use Rattle.std.proofs.Common.{◌≡◌, ◌≢◌, ℕ, zero, suc, ◌<◌, true, false, Option, Some, None, List, [], ◌∷◌, ◌++◌, get_or, slice_set, Contains, refl, sym, ap, subst, ◌∙◌, ◌⊎◌, inl, inr}
 use Rattle.std.proofs.lemmas.Bool.{cases_eq}
 use Rattle.std.proofs.lemmas.List.{get_or-set_other}
 use Rattle.std.proofs.lemmas.List.Elements.{Contains-push_cases}
@@ -8,7 +8,7 @@ use Rattle.sa_base.specs.declared.number.ActNo.{ActNo}
 use Rattle.sa_base.specs.declared.context.Stopped.{Stopped}
 use Rattle.sa_lemmas.specs.Function.{put}
 use Rattle.sa_lemmas.proofs.FunctionUpdates.{put-at, put-other}
-use Rattle.sa_lemmas.proofs.Membership.{contains-head, contains-tail}
+use Rattle.sa_lemmas.proofs.Membership.{contains-head, contains-tail, contains-nil}
 use Rattle.sa_acts.specs.declared.acts.Act.{Act}
 use Rattle.sa_acts.specs.Table.{runs_in, held_of, taken_from, space_of}
 use Rattle.sa_kernel_model.specs.Entries.{without_acts}
@@ -26,9 +26,6 @@ cell-cases (z ∷ xs) (suc p) (suc q) x y is = elim (cell-cases xs p q x y is) [
   | inl at ↦ inl (ap suc at.0, at.1)
   | inr other ↦ inr ((λ e. other.0 cc), other.1)
 ]
-
-pub contains-nil : {A : Type 0} (b : A) → Contains [] b → ⊥
-contains-nil b has = let h = has.1 in omega arith
 
 pub spaces-set : (n : ℕ) (cells : List (Option SpaceNo)) (p : ℕ) (o : Option SpaceNo) → ((s : SpaceNo) → o ≡ Some s → s.0 < n)
     → AreSpaces n cells → AreSpaces n (slice_set cells p o)

@@ -2,7 +2,7 @@
 use Rattle.std.proofs.Common.{◌≡◌, ◌≢◌, ℕ, zero, suc, ◌≤◌, ◌+◌, refl, sym, ◌∙◌, ap, subst, arith, Some, None, List, [], ◌∷◌, ◌++◌, append_assoc, length, map, take, replicate, sum_by, false}
 use Rattle.std.specs.Prelude.{Option, Bool, ◌&&◌, not, cond, is_none, IsSome, nat_lt, get_or, slice_set, filter_map, Contains, All}
 use Rattle.std.proofs.lemmas.Bool.{ne_eqb}
-use Rattle.std.proofs.lemmas.List.{set-get_or, append-nil, length-map, length-replicate, map-append, length_push, take-replicate}
+use Rattle.std.proofs.lemmas.List.{set-get_or, append-nil, length-map, length-replicate, length_push, take-replicate}
 use Rattle.std.proofs.lemmas.List.Elements.{All-head, All-tail}
 use Rattle.sa_base.specs.declared.number.SpaceNo.{SpaceNo}
 use Rattle.sa_base.specs.declared.number.ProcNo.{ProcNo}
@@ -11,8 +11,8 @@ use Rattle.sa_base.specs.declared.limits.TheConstants.{MAX_SPACES}
 use Rattle.sa_base.specs.declared.record.Note.{Note}
 use Rattle.sa_base.specs.declared.record.Note.TheVariants.{Preempted}
 use Rattle.sa_base.specs.declared.record.Record.{Record}
-use Rattle.sa_base.specs.declared.record.Item.{Item}
 use Rattle.sa_base.specs.Items.{items_at}
+use Rattle.sa_base.proofs.Items.{items_at-append}
 use Rattle.sa_spaces.specs.Space.{SpaceView}
 use Rattle.sa_spaces.specs.declared.workload.Evict.{Evict}
 use Rattle.sa_spaces.specs.Workload.{WorkloadView, IsWorkload, IsEviction}
@@ -207,7 +207,7 @@ module _ (C : Type 0) where
         untold = late;
         items =
             cl.adds ∙ ap (λ xs. y.items ++ items_at 0 zeroth xs) closings ∙ ap (λ is. is ++ items_at 0 zeroth am) first
-            ∙ sym (map-append (λ (r : Record). let i : Item = record { event = 0; proc = zeroth; what = r } in i) (first_wants w) am);
+            ∙ sym (items_at-append 0 zeroth (first_wants w) am);
       }
 
   -- what is read after the opening

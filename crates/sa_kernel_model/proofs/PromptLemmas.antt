@@ -1,6 +1,6 @@
 -- After the closing of an event no notice waits without cause.
 use Rattle.std.proofs.Common.{◌≡◌, ℕ, zero, suc, ◌+◌, ◌<◌, ◌≤◌, Bool, true, false, ◌&&◌, not, Option, Some, None, IsSome, is_some, is_none, List, [], ◌∷◌, length, get_or, slice_set, refl, sym, ap, subst, ◌∙◌, inl, inr, arith}
-use Rattle.std.proofs.lemmas.Bool.{cases_eq, cases_lt, and_parts}
+use Rattle.std.proofs.lemmas.Bool.{cases_eq, cases_lt, and_parts, true≢false}
 use Rattle.std.proofs.lemmas.List.{get_or_past, get_or-set_other, get_or-set_same, length-set}
 use Rattle.sa_base.specs.declared.number.ProcNo.{ProcNo}
 use Rattle.sa_base.specs.declared.number.SpaceNo.{SpaceNo}
@@ -93,11 +93,8 @@ module _ {C : Type 0} where
       record {
         proc = r;
         owner = owner;
-        raised = raised-line (line_of k r) (λ low. true-false (sym (is-low k (space_no s) r (record { owner = owner; line = low })) ∙ high));
+        raised = raised-line (line_of k r) (λ low. true≢false (sym (is-low k (space_no s) r (record { owner = owner; line = low })) ∙ high));
       }
-    where
-      true-false : true ≡ false → ⊥
-      true-false e = cc
   served-interrupt e p s (Some q) x is even waits idle r owner =
       let k = x.state in
       let found = least_below-passes (length k.lives) (has_low_line k s) q (sym is) in

@@ -1,7 +1,7 @@
 -- Behind a closing no line is due, and where nothing is due a closing adds nothing.
 use Rattle.std.proofs.Common.{◌≡◌, ℕ, zero, suc, ◌+◌, ◌<◌, ◌≤◌, Bool, true, false, not, ◌&&◌, is_some, is_none, Option, Some, None, List, [], ◌∷◌, ◌++◌, length, get_or, refl, sym, ap, subst, ◌∙◌, inl, inr, arith}
 use Rattle.std.specs.Prelude.{slice_set}
-use Rattle.std.proofs.lemmas.Bool.{cases_eq, and_parts, and_from}
+use Rattle.std.proofs.lemmas.Bool.{cases_eq, and_parts, and_from, true≢false}
 use Rattle.std.proofs.lemmas.List.{get_or-set_same, append-nil}
 use Rattle.sa_base.specs.declared.number.ProcNo.{ProcNo}
 use Rattle.sa_base.specs.declared.number.SpaceNo.{SpaceNo}
@@ -39,9 +39,6 @@ low-before (x ∷ xs) zero (suc r) e h = h
 low-before (x ∷ xs) (suc q) zero e h = h
 low-before (x ∷ xs) (suc q) (suc r) e h = low-before xs q r e h
 
-true-false : true ≡ false → ⊥
-true-false e = cc
-
 -- the parts of what is true of all
 both-last : (b c d : Bool) → (c ≡ true → d ≡ true) → (b && c) ≡ true → (b && d) ≡ true
 both-last true c d last h = last h
@@ -55,7 +52,7 @@ none-below n f g only none = go (least_below n g) refl
     go None is = is
     go (Some r) is =
         let found = least_below-passes n g r is in
-        absurd (true-false (sym (only r found.within found.passes) ∙ least_below-none n f none r found.within))
+        absurd (true≢false (sym (only r found.within found.passes) ∙ least_below-none n f none r found.within))
 
 is-owner : (s : ℕ) (o : Option SpaceNo) (a : Option SpaceNo) → a ≡ o → is_aim s o ≡ true → is_aim s a ≡ true
 is-owner s o a same is = ap (is_aim s) same ∙ is
@@ -113,11 +110,11 @@ module _ {C : Type 0} where
       let none =
       none-is (least_below n (is_told_by next s))
       (and_parts (has_untold (untold_of k s) && not (is_fetching k s)) (is_none (least_below n (is_told_by next s))) must).1 in
-      absurd (true-false (sym told ∙ least_below-none n (is_told_by next s) none q found.within))
+      absurd (true≢false (sym told ∙ least_below-none n (is_told_by next s) none q found.within))
 
   served-one : (e : ℕ) (p : ProcNo) (b : Bool) (s : ℕ) (x : Scene C) → b ≡ must_interrupt x.state s → Base x → Rests s (interrupt_one e p b s x).state
   served-one e p true s x is base must = served e p s (least_below (length x.state.lives) (has_low_line x.state s)) x refl base must
-  served-one e p false s x is base must = absurd (true-false (sym must ∙ sym is))
+  served-one e p false s x is base must = absurd (true≢false (sym must ∙ sym is))
 
   served-from : (e : ℕ) (p : ProcNo) (s n : ℕ) (x : Scene C) (t : ℕ) → Base x → s ≤ t → t < s + n → Rests t (for_spaces (interrupt_for e p) s n x).state
   served-from e p s zero x t base from below = absurd (omega arith)
@@ -134,7 +131,7 @@ module _ {C : Type 0} where
 
   nothing-waits : (s : ℕ) (k : KernelState C) → has_untold (untold_of k s) ≡ false → Rests s k
   nothing-waits s k none must =
-      absurd (true-false (sym (and_parts (has_untold (untold_of k s)) (not (is_fetching k s))
+      absurd (true≢false (sym (and_parts (has_untold (untold_of k s)) (not (is_fetching k s))
       (and_parts (has_untold (untold_of k s) && not (is_fetching k s)) (is_none (least_below (length k.lives) (is_told_by k s))) must).0).0 ∙ none))
 
   pub rests-closed : (e : ℕ) (p : ProcNo) (x : Scene C) → IsSound x.state → NoLineIsDue (closed e p x).state

@@ -2,7 +2,7 @@
 use Rattle.std.proofs.Common.{◌≡◌, ◌≢◌, ℕ, ◌<◌, ◌+◌, refl, sym, ◌∙◌, ap, subst, Some, None, List, [], ◌∷◌, ◌++◌, append_assoc, length, map, take, true, false}
 use Rattle.std.specs.Prelude.{Option, Bool, ◌&&◌, cond, if◌then◌else◌, get_or, slice_set}
 use Rattle.std.specs.List.{list_all, list_any}
-use Rattle.std.proofs.lemmas.List.{set-get_or, map-append, append-nil}
+use Rattle.std.proofs.lemmas.List.{set-get_or, append-nil}
 use Rattle.std.proofs.lemmas.Bool.{eq-eqb, and_parts}
 use Rattle.std.proofs.lemmas.Option.{none-some, same_Some}
 use Rattle.std.proofs.lemmas.List.Folds.{list_all-append}
@@ -16,6 +16,7 @@ use Rattle.sa_base.specs.declared.record.Record.{Record}
 use Rattle.sa_base.specs.declared.record.Record.TheVariants.{Up, Told, Move, Want, Aim, Line}
 use Rattle.sa_base.specs.declared.record.Item.{Item}
 use Rattle.sa_base.specs.Items.{items_at}
+use Rattle.sa_base.proofs.Items.{items_at-append}
 use Rattle.sa_spaces.specs.Workload.{WorkloadView}
 use Rattle.sa_lemmas.specs.Function.{put}
 use Rattle.sa_lemmas.proofs.FunctionUpdates.{put-same, put-other, put-self}
@@ -62,7 +63,7 @@ pub items-both : (e : ℕ) (p : ProcNo) (x y z : List Item) (xs ys : List Record
     → z ≡ x ++ items_at e p (xs ++ ys)
 items-both e p x y z xs ys one two =
     two ∙ ap (λ v. v ++ items_at e p ys) one ∙ append_assoc x (items_at e p xs) (items_at e p ys)
-    ∙ ap (λ v. x ++ v) (sym (map-append (λ (r : Record). let i : Item = record { event = e; proc = p; what = r } in i) xs ys))
+    ∙ ap (λ v. x ++ v) (sym (items_at-append e p xs ys))
 
 -- the closing's records after a run of others
 pub closing-told : (xs : List Record) → AreClosing xs → told_run xs ≡ []

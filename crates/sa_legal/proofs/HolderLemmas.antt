@@ -19,7 +19,7 @@ use Rattle.sa_base.specs.declared.record.Record.{Record}
 use Rattle.sa_base.specs.declared.record.Record.TheVariants.{Ins, Run, Stop, Block, Unblock, Cont, Back, Ready, Take, Free, Up, Told, GiveBack}
 use Rattle.sa_base.specs.declared.record.Item.{Item}
 use Rattle.sa_spaces.specs.Workload.{WorkloadView}
-use Rattle.sa_lemmas.proofs.Membership.{contains-single}
+use Rattle.sa_lemmas.proofs.Membership.{contains-single, contains-nil}
 use Rattle.sa_laws.specs.Event.{Event}
 use Rattle.sa_laws.specs.Machine.{next_effect}
 use Rattle.sa_laws.specs.Life.{Life, Lock, with_hand, without_lock, with_first, with_cont, change_first, first_lock, ran, readied, held_with, inherits, inherited, bereft, new_life}
@@ -63,11 +63,8 @@ pub record Kept (taken : Bool) (locks : List Lock) : Type 0 where
 abbrev pub AreKept : (ℕ → Standing) → (ℕ → Option Life) → Type 0
 AreKept st lives = (n : ℕ) (life : Life) → lives n ≡ Some life → Kept (is_taken (st n)) life.locks
 
-pub no-lock : (lock : Lock) → Contains [] lock → ⊥
-no-lock lock has = let h = has in omega (arith, h.1)
-
 kept-none : (taken : Bool) → Kept taken []
-kept-none taken = record { bare = λ is. refl; popped = λ lock has push used. absurd (no-lock lock has) }
+kept-none taken = record { bare = λ is. refl; popped = λ lock has push used. absurd (contains-nil lock has) }
 
 kept-with : (f : Life → Life) (b : Option ActNo) (st new : ℕ → Standing) (lives : ℕ → Option Life)
     → ((n : ℕ) (life : Life) → ((a : ActNo) → b ≡ Some a → n ≢ a.0) → Kept (is_taken (st n)) life.locks → Kept (is_taken (new n)) life.locks)
@@ -133,7 +130,7 @@ kept-drop taken ls kept = record {
 }
 
 pub map-cases : (ls : List Lock) (lock : Lock) → Contains (map inherited ls) lock → (l : Lock) × Contains ls l × (inherited l ≡ lock)
-map-cases [] lock has = absurd (no-lock lock has)
+map-cases [] lock has = absurd (contains-nil lock has)
 map-cases (l ∷ ls) lock has = elim (Contains-append_cases (inherited l ∷ []) (map inherited ls) lock has) [
   | inl first ↦ (l, (0, omega arith, refl), only (inherited l) lock first)
   | inr later ↦ let old = map-cases ls lock later in (old.0, Contains-append_right (l ∷ []) ls old.0 old.1, old.2)
@@ -143,7 +140,7 @@ map-cases (l ∷ ls) lock has = elim (Contains-append_cases (inherited l ∷ [])
   only m k (suc i, below, is) = absurd (omega arith)
 
 pub map-has : (ls : List Lock) (lock : Lock) → Contains ls lock → Contains (map inherited ls) (inherited lock)
-map-has [] lock has = absurd (no-lock lock has)
+map-has [] lock has = absurd (contains-nil lock has)
 map-has (l ∷ ls) lock has = elim (Contains-append_cases (l ∷ []) ls lock has) [
   | inl first ↦ subst (λ k. Contains (map inherited (l ∷ ls)) (inherited k)) (only l lock first) (0, omega arith, refl)
   | inr later ↦ Contains-append_right (inherited l ∷ []) (map inherited ls) (inherited lock) (map-has ls lock later)
@@ -311,14 +308,14 @@ holds-same f b lives s t X space same holds =
 thread-first : (f : Lock → Lock) (ls : List Lock) (t : ThreadNo) → ((l : Lock) → slice_get ls 0 ≡ Some l → l.thread ≡ Some t → (f l).thread ≡ Some t)
     → HasThread ls t
     → HasThread (change_first f ls) t
-thread-first f [] t keeps has = absurd (no-lock has.0 has.1)
+thread-first f [] t keeps has = absurd (contains-nil has.0 has.1)
 thread-first f (l ∷ ls) t keeps has = elim (Contains-append_cases (l ∷ []) ls has.0 has.1) [
   | inl first ↦ (f l, (0, omega arith, refl), keeps l refl (ap (λ (k : Lock). k.thread) (contains-single l has.0 first) ∙ has.2))
   | inr later ↦ (has.0, Contains-append_right (f l ∷ []) ls has.0 later, has.2)
 ]
 
 thread-drop : (ls : List Lock) (t : ThreadNo) → HasThread ls t → HasThread (drop 1 ls) t ⊎ ((l : Lock) × (slice_get ls 0 ≡ Some l) × (l.thread ≡ Some t))
-thread-drop [] t has = absurd (no-lock has.0 has.1)
+thread-drop [] t has = absurd (contains-nil has.0 has.1)
 thread-drop (l ∷ ls) t has = elim (Contains-append_cases (l ∷ []) ls has.0 has.1) [
   | inl first ↦ inr (l, refl, ap (λ (k : Lock). k.thread) (contains-single l has.0 first) ∙ has.2)
   | inr later ↦ inl (has.0, later, has.2)
@@ -452,7 +449,7 @@ holds-step w p st r (Told (note.Blocked a)) rest s t agrees was law runs kept ho
 holds-step w p st r (GiveBack a) rest s t agrees was law runs kept holds = elim (cases_eq holds.act a.0) [
   | inl same ↦
       let bare = (kept holds.act holds.life holds.is).bare (ap (λ n. is_taken (st n)) same ∙ ap is_taken was.1) in
-      absurd (no-lock holds.has.0 (subst (λ ls. Contains ls holds.has.0) bare holds.has.1))
+      absurd (contains-nil holds.has.0 (subst (λ ls. Contains ls holds.has.0) bare holds.has.1))
   | inr apart ↦ inl (record {
     act = holds.act;
     life = holds.life;

@@ -4,6 +4,7 @@ use Rattle.std.specs.Prelude.{Contains, Option, ◌==◌, if◌then◌else◌, i
 use Rattle.std.proofs.lemmas.Bool.{cases_eq}
 use Rattle.std.proofs.lemmas.Bool.Decides.{nat_tests}
 use Rattle.std.proofs.lemmas.Option.{none-some, same_Some}
+use Rattle.sa_lemmas.proofs.Membership.{contains-nil}
 use Rattle.sa_lemmas.specs.Function.{put}
 use Rattle.sa_lemmas.proofs.FunctionUpdates.{put-at, put-other}
 use Rattle.sa_base.specs.declared.number.SpaceNo.{SpaceNo}
@@ -38,7 +39,7 @@ use Rattle.sa_legal.proofs.TimelyLemmas.{first-below}
 use Rattle.sa_legal.proofs.StandingLemmas.{Standing, Nowhere, Runs, Blocked, Stopped, Returned, Taken, Agrees, space_of, space_in, took, Stood, standing_after, agrees-step, same-proc}
 use Rattle.sa_legal.proofs.ShapeLemmas.{MovesLives, lives-move}
 use Rattle.sa_legal.proofs.MovesLemmas.{moves-lives, stood, agrees-start, agrees-begun, agrees-ended, nowhere_first}
-use Rattle.sa_legal.proofs.HolderLemmas.{UppedRuns, AreKept, is_taken, upped-step, kept-step, kept-ended, no-lock}
+use Rattle.sa_legal.proofs.HolderLemmas.{UppedRuns, AreKept, is_taken, upped-step, kept-step, kept-ended}
 use Rattle.sa_legal.proofs.ShownLemmas.{Shows, shows-step, shows-start, shows-begun, shows-ended}
 use Rattle.sa_legal.proofs.WhoseLemmas.{SomeNamed, named-step, named-ended}
 
@@ -208,7 +209,7 @@ lockers-stand w past r sound s l within locked = stands (sound.st locked.act.0) 
   stands (Returned t) is = inr (inr (inr (sound.shows.returned s locked.act within (is ∙ ap Returned (same_Some t s (sym (ap space_in is) ∙ space))))))
   stands (Taken t) is =
       let bare = (sound.kept locked.act.0 locked.life locked.is).bare (ap is_taken is) in
-      absurd (no-lock locked.has.lock (subst (λ ls. Contains ls locked.has.lock) bare locked.has.among))
+      absurd (contains-nil locked.has.lock (subst (λ ls. Contains ls locked.has.lock) bare locked.has.among))
 
 pub lives-run-apart : (w : WorkloadView) (items : List Item) → IsLegal fast_threads w items → AtEachMoment RunApart w items
 lives-run-apart w items legal n = run-apart w (items_of (take n (events_of items))) (before fast_threads w (events_of items) n) (sound-before w items legal n)

@@ -16,7 +16,7 @@ use Rattle.sa_base.specs.declared.record.Note.TheVariants as note
 use Rattle.sa_base.specs.declared.record.Record.{Record}
 use Rattle.sa_base.specs.declared.record.Record.TheVariants.{Ins, Run, Stop, Block, Unblock, Cont, Back, Ready, Take, Free, Up, Told, GiveBack}
 use Rattle.sa_spaces.specs.Workload.{WorkloadView}
-use Rattle.sa_lemmas.proofs.Membership.{contains-single}
+use Rattle.sa_lemmas.proofs.Membership.{contains-single, contains-nil}
 use Rattle.sa_laws.specs.Event.{Event}
 use Rattle.sa_laws.specs.Machine.{next_effect}
 use Rattle.sa_laws.specs.Life.{Life, Lock, with_hand, without_lock, with_first, with_cont, change_first, ran, readied, held_with, inherits, inherited, bereft, new_life}
@@ -26,7 +26,7 @@ use Rattle.sa_laws.specs.History.{Test, is_step, is_up, with_step, ended, steppe
 use Rattle.sa_laws.specs.Locks.{CanTake}
 use Rattle.sa_legal.proofs.StandingLemmas.{Standing, Stopped, Returned, space_in, Stood, Agrees, space_of}
 use Rattle.sa_legal.proofs.ShapeLemmas.{MovesLives}
-use Rattle.sa_legal.proofs.HolderLemmas.{UppedRuns, LocksOnly, on-life, drop-has, map-cases, no-lock, apart-told, told-space, has-life, some-life}
+use Rattle.sa_legal.proofs.HolderLemmas.{UppedRuns, LocksOnly, on-life, drop-has, map-cases, apart-told, told-space, has-life, some-life}
 
 -- the life that has a list of a space among its locks is the one that is named for it
 abbrev pub IsNamed : (ℕ → ℕ → ℕ) → ℕ → Life → Type 0
@@ -67,7 +67,7 @@ same-locks ls lock has = (lock, has, refl)
 
 first-fewer : (f : Lock → Lock) (ls : List Lock) (lock : Lock) → ((l : Lock) → (f l).list ≡ l.list) → Contains (change_first f ls) lock
     → (k : Lock) × Contains ls k × (k.list ≡ lock.list)
-first-fewer f [] lock same has = absurd (no-lock lock has)
+first-fewer f [] lock same has = absurd (contains-nil lock has)
 first-fewer f (l ∷ ls) lock same has = elim (Contains-append_cases (f l ∷ []) ls lock has) [
   | inl first ↦ (l, (0, omega arith, refl), sym (same l) ∙ ap (λ (k : Lock). k.list) (contains-single (f l) lock first))
   | inr later ↦ (lock, Contains-append_right (l ∷ []) ls lock later, refl)
@@ -141,7 +141,7 @@ named-handed r a u of who (Some from) upped apart is space other named =
     let new = hand_who a.0 u.0 who in
     let bereaved : AreNamed new (with_life bereft (Some a) r.lives) = named-with bereft (Some a) who new r.lives
     (λ n life old away k lock has. hand-other a.0 u.0 n who life.space.0 lock.list.0 (k lock has) (away a refl))
-    (λ b life at old k lock has. absurd (no-lock lock has)) named in
+    (λ b life at old k lock has. absurd (contains-nil lock has)) named in
     let owner : from.space ≡ of = same_Some from.space of (ap space_of (sym is) ∙ space) in
     named-with (inherits from) r.upped new new (with_life bereft (Some a) r.lives) (λ n life old away k. k)
     (λ b life at old k lock has.
@@ -195,7 +195,7 @@ named-step w p st r (Up s a) rest agrees was law runs named = (
   λ n life at. elim (cases_eq n a.0) [
     | inl same ↦
         let new : new_life s p ≡ life = same_Some (new_life s p) life (sym (put-at r.lives a.0 n (Some (new_life s p)) same) ∙ at) in
-        λ lock has. absurd (no-lock lock (subst (λ (m : Life). Contains m.locks lock) (sym new) has))
+        λ lock has. absurd (contains-nil lock (subst (λ (m : Life). Contains m.locks lock) (sym new) has))
     | inr apart ↦ named.1 n life (sym (put-other r.lives a.0 n (Some (new_life s p)) apart) ∙ at)
   ],
 )

@@ -4,6 +4,7 @@ use Rattle.std.specs.Prelude.{Option, Bool, if◌then◌else◌, Contains}
 use Rattle.std.proofs.lemmas.Bool.{cases_eq}
 use Rattle.std.proofs.lemmas.List.Elements.{Contains-append_right}
 use Rattle.std.proofs.lemmas.Option.{none-some, same_Some}
+use Rattle.sa_lemmas.proofs.Membership.{contains-nil}
 use Rattle.sa_lemmas.specs.Function.{put}
 use Rattle.sa_lemmas.proofs.FunctionUpdates.{put-at, put-other}
 use Rattle.sa_base.specs.declared.number.SpaceNo.{SpaceNo}
@@ -44,9 +45,6 @@ pub record IsApart (st : ℕ → Standing) (r : Readings) (xs : List Record) : T
   pub blocks : BlocksStand st r
   pub taken : TakenAreTold st r xs
   pub told : AllAreTold r xs
-
-pub none-in : {A : Type 0} (z : A) → Contains [] z → ⊥
-none-in z has = let h = has in omega (arith, h.1)
 
 later-in : (n m : Note) (ns : List Note) → n ≢ m → Contains (n ∷ ns) m → Contains ns m
 later-in n m ns apart (zero, below, is) = absurd (apart is)
@@ -95,7 +93,7 @@ blocks-step w e p st r x xs apart was s b has = elim (untold-cases r x s (note.B
   stays (Told (note.Add q)) was' taken is = is
   stays (Told (note.Blocked a)) was' taken is = is
   stays (GiveBack a) was' taken is =
-      put-stands st s a.0 b.0 Nowhere (λ at. absurd (none-in (note.Blocked b) (taken (ap (λ n. kind (st n)) at ∙ ap kind was'.1)))) is
+      put-stands st s a.0 b.0 Nowhere (λ at. absurd (contains-nil (note.Blocked b) (taken (ap (λ n. kind (st n)) at ∙ ap kind was'.1)))) is
   stays y was' taken is = is
 
   comes : (y : Record) → Notes y s (note.Blocked b) → (space_in (standing_after p st y b.0) ≡ Some s) × (kind (standing_after p st y b.0) ≢ 1)
@@ -162,12 +160,12 @@ taken-step w e p st r x xs apart was law s b has five = elim (untold-cases r x s
   stays (Told (note.Add q)) other was' moves taken told space is = later-in (note.Add q) (note.Blocked b) (told_run xs) (λ e'. cc) (taken is)
   stays (Told (note.Blocked a)) other was' moves taken told space is =
       later-in (note.Blocked a) (note.Blocked b) (told_run xs) (told-of (note.Blocked a) (note.Blocked b) other) (taken is)
-  stays (Stop u t a) other was' moves taken told space is = absurd (none-in (note.Blocked b) (taken (five-cases st a.0 b.0 (Stopped u) (λ e'. cc) is)))
-  stays (Block u t a io) other was' moves taken told space is = absurd (none-in (note.Blocked b) (taken (five-cases st a.0 b.0 (Blocked u) (λ e'. cc) is)))
-  stays (Unblock u t a) other was' moves taken told space is = absurd (none-in (note.Blocked b) (taken (five-cases st a.0 b.0 (Returned u) (λ e'. cc) is)))
-  stays (Up u a) other was' moves taken told space is = absurd (none-in (note.Blocked b) (taken (five-cases st a.0 b.0 (Runs u p) (λ e'. cc) is)))
-  stays (GiveBack a) other was' moves taken told space is = absurd (none-in (note.Blocked b) (taken (five-cases st a.0 b.0 Nowhere (λ e'. cc) is)))
-  stays y other was' moves taken told space is = absurd (none-in (note.Blocked b) (taken is))
+  stays (Stop u t a) other was' moves taken told space is = absurd (contains-nil (note.Blocked b) (taken (five-cases st a.0 b.0 (Stopped u) (λ e'. cc) is)))
+  stays (Block u t a io) other was' moves taken told space is = absurd (contains-nil (note.Blocked b) (taken (five-cases st a.0 b.0 (Blocked u) (λ e'. cc) is)))
+  stays (Unblock u t a) other was' moves taken told space is = absurd (contains-nil (note.Blocked b) (taken (five-cases st a.0 b.0 (Returned u) (λ e'. cc) is)))
+  stays (Up u a) other was' moves taken told space is = absurd (contains-nil (note.Blocked b) (taken (five-cases st a.0 b.0 (Runs u p) (λ e'. cc) is)))
+  stays (GiveBack a) other was' moves taken told space is = absurd (contains-nil (note.Blocked b) (taken (five-cases st a.0 b.0 Nowhere (λ e'. cc) is)))
+  stays y other was' moves taken told space is = absurd (contains-nil (note.Blocked b) (taken is))
 
   comes : (y : Record) → Notes y s (note.Blocked b) → kind (standing_after p st y b.0) ≡ 5 → Contains (told_run xs) (note.Blocked b)
   comes (Block u t a io) notes is = absurd (let k = sym (ap kind (put-at st a.0 b.0 (Blocked u) (blocked-act a b notes.1))) ∙ is in cc)
@@ -228,7 +226,7 @@ pub apart-begun : (w : WorkloadView) (st : ℕ → Standing) (r : Readings) (e :
 apart-begun w st r e xs apart = record {
   agrees = agrees-begun w st e r apart.agrees;
   blocks = apart.blocks;
-  taken = λ s b has five. absurd (none-in _ (apart.taken s b has five));
+  taken = λ s b has five. absurd (contains-nil _ (apart.taken s b has five));
   told = λ telling. absurd (cc);
 }
 

@@ -10,6 +10,7 @@ use Rattle.sa_base.specs.declared.number.ProcNo.{ProcNo}
 use Rattle.sa_base.specs.declared.record.Record.{Record}
 use Rattle.sa_base.specs.declared.record.Record.TheVariants.{Want, Aim, Line}
 use Rattle.sa_base.specs.declared.record.Item.{Item}
+use Rattle.sa_lemmas.proofs.Membership.{contains-nil}
 use Rattle.sa_spaces.specs.Space.{SpaceView}
 use Rattle.sa_spaces.specs.Workload.{WorkloadView}
 use Rattle.sa_assign.specs.Aims.{Change, space_no}
@@ -30,7 +31,7 @@ use Rattle.sa_legal.proofs.StandingLemmas.{Standing, standing_after}
 use Rattle.sa_legal.proofs.MovesLemmas.{fast-moves, stood, nowhere_first}
 use Rattle.sa_legal_readings.specs.Demands.{DemandCoversLoad, DemandsCoverLoads}
 use Rattle.sa_legal_readings.proofs.ReadingLemmas.{IsReadAfter, after-next, after-start}
-use Rattle.sa_legal_readings.proofs.ApartLemmas.{IsApart, apart-step, apart-start, apart-begun, apart-ended, none-in}
+use Rattle.sa_legal_readings.proofs.ApartLemmas.{IsApart, apart-step, apart-start, apart-begun, apart-ended}
 use Rattle.sa_legal_readings.proofs.PassLemmas.{Goes}
 use Rattle.sa_legal_readings.proofs.FineLemmas.{Fine}
 use Rattle.sa_legal_readings.proofs.CoverLemmas.{IsCovered, event-fine}
@@ -188,7 +189,7 @@ covers-load w r fine s within none untold = one (fine s within) where
 
   one : Fine w r r.lives s → usable w r s ≤ demand_of r s
   one (inl (a, life, is, of, inside, each)) = absurd (let clash = sym inside ∙ none (record { 0 = a }) life is of in cc)
-  one (inr (inl noted)) = absurd (none-in noted.0 (subst (λ ns. Rattle.std.specs.Prelude.Contains ns noted.0) untold noted.2))
+  one (inr (inl noted)) = absurd (contains-nil noted.0 (subst (λ ns. Rattle.std.specs.Prelude.Contains ns noted.0) untold noted.2))
   one (inr (inr covers)) = subst (λ n. min w.processors n ≤ demand_of r s) (sym load) covers
 
 pub demands-cover-loads : (w : WorkloadView) (items : List Item) → IsLegal fast_threads w items → DemandsCoverLoads w items

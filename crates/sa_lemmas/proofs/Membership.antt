@@ -1,6 +1,9 @@
--- What a list contains: its first item, the items after it, and in a list of one item that one alone.
+-- What a list contains: an empty one nothing, another its first item and the items after it, and a list of one item that one alone.
 use Rattle.std.proofs.Common.{◌≡◌, zero, suc, List, [], ◌∷◌, refl, arith}
 use Rattle.std.specs.Prelude.{Contains}
+
+pub contains-nil : {A : Type 0} (a : A) → Contains [] a → ⊥
+contains-nil a has = let below = has.1 in omega arith
 
 pub contains-head : {A : Type 0} (a : A) (list : List A) → Contains (a ∷ list) a
 contains-head a list = (0, omega arith, refl)

@@ -1,6 +1,6 @@
 -- How the ranked lists are stored, and what stays so.
 use Rattle.std.proofs.Common.{◌≡◌, ◌≢◌, ◌↔◌, ℕ, ◌+◌, ◌*◌, ◌<◌, ◌≤◌, Bool, true, false, cond, not, eqb, Option, is_some, List, [], ◌∷◌, length, replicate, drop, take, ◌-◌, Some, None, slice_get, slice_set, IsTrue, refl, sym, ap, ◌∙◌, subst, inl, inr, arith}
-use Rattle.std.proofs.lemmas.Bool.{cases_eq, cases_lt}
+use Rattle.std.proofs.lemmas.Bool.{cases_eq, cases_lt, true≢false}
 use Rattle.std.proofs.lemmas.List.{get_or-set_other, get_or-set_same, get_or_past, get_or-replicate, length-replicate, length-set, length-take, set-get_or}
 use Rattle.std.proofs.lemmas.List.Sums.{sum_by-take-drop}
 use Rattle.sa_links.specs.Lists.{Lists, list_at, count_in, count_in_all, IsIn, IsApart, with_list}
@@ -22,13 +22,10 @@ ranked_of kind links filled of = record {
   ranks = of;
 }
 
-differ : true ≡ false → ⊥
-differ e = cc
-
 -- a chain is filled or not as the test of its emptiness says
 pub filled_is : (xs : List ℕ) (b : Bool) → (IsTrue b ↔ (xs ≡ [])) → not b ≡ is_filled xs
 filled_is [] true is = refl
-filled_is [] false is = absurd (differ (sym (is.1 refl)))
+filled_is [] false is = absurd (true≢false (sym (is.1 refl)))
 filled_is (x ∷ xs) true is = absurd (let h : (x ∷ xs) ≡ [] = is.0 refl in cc)
 filled_is (x ∷ xs) false is = refl
 
@@ -70,7 +67,7 @@ module _ (kind : Ranks) (links : Lists) (filled : List RankSet) (of : List ℕ) 
       | inr more ↦
           let size = chains-length (width_of kind) links.lists (length filled) l h.size here in
           let none = get_or_past (chains_of links.lists (width_of kind) l) k [] (omega arith) in
-          absurd (differ (sym some ∙ h.sets l k here ∙ ap is_filled none))
+          absurd (true≢false (sym some ∙ h.sets l k here ∙ ap is_filled none))
     ]
 
     chain-ranks : (k t : ℕ) → k < width_of kind → IsIn t (list_at links.lists (l * width_of kind + k)) → rank_of of t ≡ k
@@ -83,7 +80,7 @@ module _ (kind : Ranks) (links : Lists) (filled : List RankSet) (of : List ℕ) 
     pub not-empty : (k : ℕ) → has (words_of filled l) k ≡ true → list_at now.lists.lists l ≢ []
     not-empty k some none =
         let filled_one = filled-joined (chains_of links.lists (width_of kind) l) k (sym (h.sets l k here) ∙ some) in
-        differ (sym filled_one ∙ ap is_filled (sym list-joined ∙ none))
+        true≢false (sym filled_one ∙ ap is_filled (sym list-joined ∙ none))
 
     -- the first and the last thread
     pub first-is : (k : ℕ) → IsGreatest (words_of filled l) (Some k)
@@ -253,7 +250,7 @@ module _ (kind : Ranks) (links : Lists) (filled : List RankSet) (of : List ℕ) 
     empty-is None true none e = (λ h. empty none, λ h. refl)
     empty-is None false none e = absurd cc
     empty-is (Some k) true some e = absurd cc
-    empty-is (Some k) false some e = (λ h. absurd (differ (sym h)), λ h. absurd (not-empty k some.1 h))
+    empty-is (Some k) false some e = (λ h. absurd (true≢false (sym h)), λ h. absurd (not-empty k some.1 h))
 
 -- the parts of a list have no more
 pub fewer-drop : (t n : ℕ) (xs : List ℕ) → count_in t (drop n xs) ≤ count_in t xs

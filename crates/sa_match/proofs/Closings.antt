@@ -1,13 +1,14 @@
 -- A closing adds wants, aims and lines to the items of an event, and nothing else.
 use Rattle.std.proofs.Common.{◌≡◌, ℕ, Bool, true, false, ◌&&◌, Option, Some, None, List, [], ◌∷◌, ◌++◌, map, refl, sym, ap, ◌∙◌}
 use Rattle.std.specs.List.{list_all}
-use Rattle.std.proofs.lemmas.List.{append-nil, map-append}
+use Rattle.std.proofs.lemmas.List.{append-nil}
 use Rattle.std.proofs.lemmas.List.Folds.{list_all-append}
 use Rattle.sa_base.specs.declared.number.ProcNo.{ProcNo}
 use Rattle.sa_base.specs.declared.record.Record.{Record}
 use Rattle.sa_base.specs.declared.record.Record.TheVariants.{Want, Line}
 use Rattle.sa_base.specs.declared.record.Item.{Item}
 use Rattle.sa_base.specs.Items.{items_at}
+use Rattle.sa_base.proofs.Items.{items_at-append}
 use Rattle.sa_assign.specs.Reaim.{reaim_records, proc_no, changes_in}
 use Rattle.sa_laws.specs.Shape.{is_of_closing}
 use Rattle.sa_laws.proofs.Closings.{closing-aims, AreClosing}
@@ -66,5 +67,5 @@ module _ {C : Type 0} where
       → map what_of y.items ≡ own ++ c.closing
   records-are e p own y c =
       ap (map what_of) c.adds ∙ ap (map what_of)
-      (sym (map-append (λ (r : Record). let i : Item = record { event = e; proc = p; what = r } in i) own c.closing))
+      (sym (items_at-append e p own c.closing))
       ∙ records-said e p (own ++ c.closing)

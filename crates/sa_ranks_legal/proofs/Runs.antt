@@ -9,6 +9,7 @@ use Rattle.sa_base.specs.declared.number.ThreadNo.{ThreadNo}
 use Rattle.sa_base.specs.declared.number.ActNo.{ActNo}
 use Rattle.sa_base.specs.declared.record.Note.{Note}
 use Rattle.sa_base.specs.declared.record.Note.TheVariants as note
+use Rattle.sa_lemmas.proofs.Membership.{contains-nil}
 use Rattle.sa_spaces.specs.Workload.{WorkloadView}
 use Rattle.sa_laws.specs.Event.{Event}
 use Rattle.sa_laws.specs.State.{thread_at, no_threads}
@@ -29,7 +30,7 @@ use Rattle.sa_legal.specs.Fold.{AreLawful}
 use Rattle.sa_legal.proofs.EventLemmas.{legal-lawful}
 use Rattle.sa_legal.proofs.MovesLemmas.{AreCalm, nowhere_first, calm-opening}
 use Rattle.sa_legal.proofs.ShownLemmas.{shows-start, shows-ended}
-use Rattle.sa_legal_readings.proofs.ApartLemmas.{none-in, apart-start, apart-ended}
+use Rattle.sa_legal_readings.proofs.ApartLemmas.{apart-start, apart-ended}
 use Rattle.sa_legal_readings.proofs.PassLemmas.{Goes}
 use Rattle.sa_legal_readings.proofs.FormLemmas.{Form}
 use Rattle.sa_legal_readings.proofs.CoverLemmas.{After}
@@ -165,7 +166,7 @@ quiet w st r s within known (inl (a, life, is, of, inside, free)) calm = absurd 
   space = sym (known.apart.agrees.lives (record { 0 = a })) ∙ ap space_of is ∙ ap Some of
 
   told : (n : Note) → Contains (untold_of r s) n → ⊥
-  told n has = none-in n (subst (λ ns. Contains ns n) calm.told has)
+  told n has = contains-nil n (subst (λ ns. Contains ns n) calm.told has)
 
   stands : (k : Standing) → st a ≡ k → ⊥
   stands Nowhere at = none-some s (ap space_in (sym at) ∙ space)
@@ -178,7 +179,7 @@ quiet w st r s within known (inl (a, life, is, of, inside, free)) calm = absurd 
       let one = same_Some u s (ap space_in (sym at) ∙ space) in
       told (note.Unblocked (record { 0 = a })) (known.shows.returned s (record { 0 = a }) within (at ∙ ap Returned one))
   stands (Taken u) at = free (ap kind at)
-quiet w st r s within known (inr (inl untold)) calm = absurd (none-in untold.0 (subst (λ ns. Contains ns untold.0) calm.told untold.2))
+quiet w st r s within known (inr (inl untold)) calm = absurd (contains-nil untold.0 (subst (λ ns. Contains ns untold.0) calm.told untold.2))
 quiet w st r s within known (inr (inr none)) calm = λ t u p ready runs. none t u p ready runs (calm.lines p (known.placed.owned s u p runs).0)
 
 abbrev FineAll : WorkloadView → (ℕ → Standing) → Readings → Type 0

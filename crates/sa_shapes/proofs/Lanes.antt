@@ -2,12 +2,13 @@
 use Rattle.std.proofs.Common.{◌<◌, ◌≤◌, List, [], ◌∷◌, inl, inr, subst, arith}
 use Rattle.std.specs.Prelude.{Contains}
 use Rattle.sa_base.specs.declared.record.Item.{Item}
+use Rattle.sa_lemmas.proofs.Membership.{contains-nil}
 use Rattle.sa_shapes.specs.declared.extent.Extent.{Extent}
 use Rattle.sa_shapes.specs.declared.window.Window.{Window}
 use Rattle.sa_shapes.specs.Marks.{lane_of}
 use Rattle.sa_shapes.specs.Extent.{with_item, extent_from}
 use Rattle.sa_shapes.specs.Laws.{HasLane}
-use Rattle.sa_shapes.proofs.Elements.{first_or_rest, none_there}
+use Rattle.sa_shapes.proofs.Elements.{first_or_rest}
 
 grow : (w : Window) (e : Extent) (items : List Item) → e.lanes ≤ (extent_from w e items).lanes
 grow w e [] = omega arith
@@ -18,7 +19,7 @@ record Holds (w : Window) (e : Extent) (items : List Item) (i : Item) : Type 0 w
   marked : (lane_of i.proc i.what).0 < (extent_from w e items).lanes
 
 hold : (w : Window) (e : Extent) (items : List Item) (i : Item) → Contains items i → Holds w e items i
-hold w e [] i there = absurd (none_there i there)
+hold w e [] i there = absurd (contains-nil i there)
 hold w e (j ∷ items) i there =
     elim (first_or_rest j items i there) [
       | inl same ↦

@@ -6,7 +6,7 @@ use Rattle.std.proofs.lemmas.List.Sums.{sum_by-cons}
 use Rattle.std.proofs.lemmas.List.Elements.{Contains-append_right}
 use Rattle.sa_base.specs.declared.number.ProcNo.{ProcNo}
 use Rattle.sa_base.specs.declared.record.Item.{Item}
-use Rattle.sa_lemmas.proofs.Membership.{contains-head}
+use Rattle.sa_lemmas.proofs.Membership.{contains-head, contains-nil}
 use Rattle.sa_shapes.specs.declared.marks.Stack.{Stack}
 use Rattle.sa_shapes.specs.declared.shape.Mark.{Mark}
 use Rattle.sa_shapes.specs.declared.shape.Shape.{Shape}
@@ -15,7 +15,7 @@ use Rattle.sa_shapes.specs.declared.window.Window.{Window}
 use Rattle.sa_shapes.specs.Window.{place, is_inside}
 use Rattle.sa_shapes.specs.Marks.{has_mark, lane_of, is_marked, row_at, height_over, mark_at, marks_from, marks}
 use Rattle.sa_shapes.specs.Laws.{HasMark}
-use Rattle.sa_shapes.proofs.Elements.{first_or_rest, none_there}
+use Rattle.sa_shapes.proofs.Elements.{first_or_rest}
 
 module _ (w : Window) (lane : ProcNo) where
   record Marked (shapes : List Shape) (i : Item) : Type 0 where
@@ -45,7 +45,7 @@ module _ (w : Window) (lane : ProcNo) where
 
   marked : (s : Stack) (items : List Item) (i : Item) → Contains items i → is_inside w i.event ≡ true → is_marked lane i ≡ true
       → Marked (marks_from w lane s items) i
-  marked s [] i there inside has = absurd (none_there i there)
+  marked s [] i there inside has = absurd (contains-nil i there)
   marked s (j ∷ items) i there inside has =
       elim (first_or_rest j items i there) [
         | inl same ↦

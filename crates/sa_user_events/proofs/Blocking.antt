@@ -1,5 +1,5 @@
 -- The event of a step that blocks.
-use Rattle.std.proofs.lemmas.List.{map-append, length-set, get_or-set_same}
+use Rattle.std.proofs.lemmas.List.{length-set, get_or-set_same}
 use Rattle.std.proofs.Common.{get_or, ◌≡◌, ◌≢◌, ℕ, zero, suc, ◌+◌, ◌<◌, ◌≤◌, arith, sym, ◌∙◌, ap, subst, refl, Bool, true, false, Option, Some, None, List, [], ◌∷◌, ◌++◌, length, inl, inr, not, ◌||◌, map, append_assoc, slice_set, Contains}
 use Rattle.std.proofs.lemmas.Bool.{cases_eq}
 use Rattle.std.proofs.lemmas.Option.{same_Some, none-some}
@@ -22,6 +22,7 @@ use Rattle.sa_base.specs.declared.record.Record.TheVariants.{Block, Up, Told, Ai
 use Rattle.sa_base.specs.declared.limits.TheConstants.{MAX_EVENTS}
 use Rattle.sa_base.specs.declared.number.IoNo.{IoNo}
 use Rattle.sa_base.specs.Items.{items_at}
+use Rattle.sa_base.proofs.Items.{items_at-append}
 use Rattle.sa_lemmas.specs.Function.{put}
 use Rattle.sa_lemmas.proofs.FunctionUpdates.{put-other, put-at}
 use Rattle.sa_spaces.specs.Workload.{WorkloadView}
@@ -303,7 +304,7 @@ module _ {U C : Type 0} (level : UserLevel U C) (w : WorkloadView) (events : Lis
       ∙ is (behind_block (items_at g p says)))
       ∙ adds (behind_block (items_at g p says)) refl
       ∙ append_assoc (items_at g p says) (items_at g p (block ∷ [])) (items_at g p passage)
-      ∙ sym (map-append (λ (q : Record). let i : Item = record { event = g; proc = p; what = q } in i) says (block ∷ passage))) in
+      ∙ sym (items_at-append g p says (block ∷ passage))) in
       let past = history-turn level.rules.inside w events m.kernel m.items turn c.history can in
       let k_after = closed g p (what (behind_block (m.items ++ items_at g p says))) in
       record {
