@@ -13,6 +13,7 @@ use Rattle.sa_base.specs.declared.record.Record.{Record}
 use Rattle.sa_base.specs.declared.record.Record.TheVariants.{Stop, Up, Told, Move}
 use Rattle.sa_base.specs.Items.{items_at}
 use Rattle.sa_base.proofs.Items.{items_at-append}
+use Rattle.sa_lemmas.proofs.Membership.{contains-head}
 use Rattle.sa_spaces.specs.Workload.{WorkloadView}
 use Rattle.sa_batch.specs.Notices.{notes_told}
 use Rattle.sa_laws.specs.Event.{Event}
@@ -45,7 +46,6 @@ use Rattle.sa_user_laws.specs.Steps.{begins_step, event_with}
 use Rattle.sa_user_laws.specs.Moments.{AlikeButEnds}
 use Rattle.sa_user_laws.specs.Scene.{begun_at}
 use Rattle.sa_user_laws.specs.Level.{UserLevel}
-use Rattle.sa_core_model.proofs.Running.{contains-head}
 use Rattle.sa_match.proofs.Shown.{lawful-by}
 use Rattle.sa_event_frames.proofs.Idle.{is_stop, StopsFirst, no-stops, stops-first_both}
 use Rattle.sa_match.proofs.Composed.{strict-raised, IsComposed, Goes, read, moment, traced-of}

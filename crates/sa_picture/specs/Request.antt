@@ -1,8 +1,9 @@
 -- What the program is asked to draw: options of two words each, in any order and each at most once.
-use Rattle.std.specs.Prelude.{ℕ, Bool, true, ◌&&◌, List, [], ◌∷◌, codes, Option, Some, None, option_and_then, unwrap_or, is_some, nat_le, if◌then◌else◌}
+use Rattle.std.specs.Option.{option_map}
+use Rattle.std.specs.Prelude.{ℕ, ◌^◌, ◌-◌, Bool, true, ◌&&◌, List, [], ◌∷◌, codes, Option, Some, None, option_and_then, unwrap_or, is_some, nat_le, if◌then◌else◌}
 use Rattle.std.specs.Str.{bytes_eq}
 use Rattle.sa_text.specs.Number.{number_of}
-use Rattle.sa_svg.specs.declared.layout.TheConstants.{DEFAULT_WIDTH}
+use Rattle.sa_svg.specs.declared.layout.TheConstants.{DEFAULT_WIDTH, MAX_WIDTH, MIN_WIDTH}
 use Rattle.sa_picture.specs.declared.request.Request.{Request}
 use Rattle.sa_picture.specs.declared.request.Settings.{Settings}
 

@@ -12,11 +12,11 @@ use Rattle.sa_base.specs.declared.refusal.Cause.TheVariants.{BadWord, BadNumber,
 use Rattle.sa_instr.specs.declared.limits.TheConstants.{MAX_INSTRUCTIONS}
 use Rattle.sa_spaces.specs.Workload.{WorkloadView}
 use Rattle.sa_text.specs.Number.{number_of}
-use Rattle.sa_text.proofs.NumberOf.{reads_number}
+use Rattle.sa_text.proofs.NumberOf.{reads_number, number_of-some}
 use Rattle.sa_lemmas.proofs.Booleans.{if_either}
 use Rattle.sa_lemmas.proofs.Searches.{find-passes}
 use Rattle.sa_trace.specs.Pieces.{and_then, or_cause, with_rest, number_in}
-use Rattle.sa_trace.proofs.Readings.{and_then-ok, or_cause-ok, same_Ok, number_of-some, number_in-ok, number_in-decimal}
+use Rattle.sa_trace.proofs.Readings.{and_then-ok, or_cause-ok, same_Ok, number_in-ok, number_in-decimal}
 use Rattle.sa_script.specs.declared.command.Point.{Point}
 use Rattle.sa_script.specs.declared.fields.Named.{Named}
 use Rattle.sa_script.specs.declared.word.Word.{Word}

@@ -18,7 +18,7 @@ use Rattle.sa_lemmas.proofs.Texts.{regroup}
 use Rattle.sa_trace.specs.Line.{pieces_in}
 use Rattle.sa_trace.specs.Pieces.{and_then, unless}
 use Rattle.sa_trace.specs.Reading.{bad_after}
-use Rattle.sa_trace.proofs.Readings.{and_then-ok, if_either}
+use Rattle.sa_trace.proofs.Readings.{and_then-ok}
 use Rattle.sa_trace.proofs.LineTexts.{AreFine, fine-lacks, pieces_in-line, pieces_in-ok}
 use Rattle.sa_trace.proofs.Whole.{none_after}
 use Rattle.sa_script.specs.declared.command.DebugCommand.{DebugCommand}

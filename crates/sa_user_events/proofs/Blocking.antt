@@ -23,6 +23,7 @@ use Rattle.sa_base.specs.declared.limits.TheConstants.{MAX_EVENTS}
 use Rattle.sa_base.specs.declared.number.IoNo.{IoNo}
 use Rattle.sa_base.specs.Items.{items_at}
 use Rattle.sa_base.proofs.Items.{items_at-append}
+use Rattle.sa_lemmas.proofs.Membership.{contains-head}
 use Rattle.sa_lemmas.specs.Function.{put}
 use Rattle.sa_lemmas.proofs.FunctionUpdates.{put-other, put-at}
 use Rattle.sa_spaces.specs.Workload.{WorkloadView}
@@ -90,7 +91,6 @@ use Rattle.sa_kernel_events.proofs.Leaving.{leave-items, leave-own, leave-plain,
 use Rattle.sa_event_frames.proofs.Idle.{is_stop, StopsFirst, no-stops, stops-first_both}
 use Rattle.sa_match.proofs.OwnRecords.{says-users, users-no_stop, users-no_up}
 use Rattle.sa_match.proofs.Shown.{lawful-by, rules-pass, step-turns, strict-due}
-use Rattle.sa_core_model.proofs.Running.{contains-head}
 
 -- An upcall and a closing leave the threads.
 leave-spaces : (w : WorkloadView) (e : ℕ) (p : ProcNo) (a : ActNo) (r : Readings) (xs : List Record) → AllLeave w e p a r xs

@@ -1,10 +1,11 @@
 -- A turn, whatever comes of it.
+use Rattle.sa_lemmas.proofs.Membership.{contains-head, contains-tail}
 use Rattle.sa_kernel_events.proofs.Completes.{complete-goes}
 use Rattle.sa_user_events.proofs.Steps.{did-goes}
 use Rattle.sa_match.proofs.OwnRecords.{mine-of}
 use Rattle.sa_event_frames.proofs.Idle.{is_stop}
 use Rattle.sa_core_model.proofs.Turns.{none-taken, Rests, step-law, rests-turned, between-rests, stepped-is}
-use Rattle.sa_core_model.proofs.Running.{contains-head, contains-tail, contexts-back}
+use Rattle.sa_core_model.proofs.Running.{contexts-back}
 use Rattle.std.proofs.Common.{◌-◌, slice_index, get_or, ◌≡◌, ◌≢◌, ℕ, ◌+◌, ◌<◌, ◌≤◌, arith, sym, ◌∙◌, ap, subst, refl, Bool, true, false, Option, Some, None, List, [], ◌∷◌, ◌++◌, length, inl, inr, ◌||◌, map, Contains}
 use Rattle.std.proofs.lemmas.Bool.{cases_eq}
 use Rattle.std.proofs.lemmas.Option.{none-some}

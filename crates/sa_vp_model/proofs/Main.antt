@@ -19,7 +19,6 @@ use Rattle.sa_virtual.specs.Turn as rules
 use Rattle.sa_virtual.specs.Legal as legal
 use Rattle.sa_virtual.specs.Holding.{numbers, in_queue, one_if, one_where, is_virtual, parts_of}
 use Rattle.sa_virtual.specs.Turning.{Good, HasRoom}
-use Rattle.sa_virtual.proofs.Main.{numbered}
 use Rattle.sa_virtual.proofs.Sums.{unqueued}
 use Rattle.sa_virtual.proofs.Pushed.{placed_once}
 use Rattle.sa_virtual.proofs.Turns.{carrier}

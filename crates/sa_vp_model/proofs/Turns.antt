@@ -10,6 +10,7 @@ use Rattle.std.proofs.lemmas.List.FromFn.{get_or-map-range_with_len, length-map-
 use Rattle.sa_base.specs.declared.number.ProcNo.{ProcNo}
 use Rattle.sa_base.specs.declared.limits.TheConstants.{MAX_THREADS, MAX_EVENTS}
 use Rattle.sa_base.specs.Items.{items_at}
+use Rattle.sa_laws.proofs.Records.{number-kept}
 use Rattle.sa_instr.specs.declared.limits.TheConstants.{MAX_START}
 use Rattle.sa_spaces.specs.Workload.{WorkloadView}
 use Rattle.sa_devices.specs.Ios.{due_of, io_no}
@@ -23,7 +24,7 @@ use Rattle.sa_virtual.specs.Turn as rules
 use Rattle.sa_virtual.specs.Legal as legal
 use Rattle.sa_virtual.specs.Holding.{at_no}
 use Rattle.sa_virtual.specs.Turning.{Good, HasRoom, IsBelow}
-use Rattle.sa_virtual.proofs.Main.{turn_is_legal, numbered}
+use Rattle.sa_virtual.proofs.Main.{turn_is_legal}
 use Rattle.sa_vp_model.specs.Board.{Board}
 use Rattle.sa_vp_model.specs.Turn.{acts, begun, counted, lost_now, loses, turned}
 use Rattle.sa_vp_model.specs.Mirror.{Own, board_of, Fits, IsBounded}
@@ -112,7 +113,7 @@ module _ (w : WorkloadView) (p : ProcNo) (b : Board) (read : IsRead w b) (inside
   legal_turn = turn_is_legal w p v (MAX_START + v.base.number) read.valid inside read.good read.below (omega (arith, few, number_is))
 
   number_after : after'.base.number ≡ v.base.number + 1
-  number_after = ap (λ n. n + 1) (numbered w v.base.number p now.base turn.says)
+  number_after = ap (λ n. n + 1) (number-kept w v.base.number p now.base turn.says)
 
   many : length gone.own.lost ≡ length w.spaces
   many = gone.fits.many_lost

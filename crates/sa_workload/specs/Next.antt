@@ -16,16 +16,16 @@ use Rattle.sa_instr.specs.declared.operand.Operand.TheVariants.{Register, Value,
 use Rattle.sa_instr.specs.declared.operand.OperandKind.{OperandKind}
 use Rattle.sa_instr.specs.declared.operand.OperandKind.TheVariants as Kinds
 use Rattle.sa_instr.specs.declared.operation.Operation.{Operation}
-use Rattle.sa_instr.specs.Operation.{form_of}
+use Rattle.sa_instr.specs.Operation.{form_of, operation_of}
 use Rattle.sa_instr.specs.Parts.{instr_of}
 use Rattle.sa_spaces.specs.declared.workload.Evict.{Evict}
 use Rattle.sa_spaces.specs.Space.{SpaceView}
 use Rattle.sa_workload.specs.Bad.{DeclaredNumbers, Field, fields_by}
 use Rattle.sa_workload.specs.Fields.{and_then, index_of, line_numbers}
-use Rattle.sa_workload.specs.Position.{Machine, Draft, Position, AtVersion, AtProcessors, AtFetch, AtSlice, AtSpaces, AtSpace, AtSem, AtAbsent, AtProgram, AtInstr, AtEvict, AtTurn, Closed}
+use Rattle.sa_workload.specs.Position.{HeaderView, Draft, Position, AtVersion, AtProcessors, AtFetch, AtSlice, AtSpaces, AtSpace, AtSem, AtAbsent, AtProgram, AtInstr, AtEvict, AtTurn, Closed}
 use Rattle.sa_workload.specs.Steps.{expected, workload, with_sem, with_absent, after_fetch, after_sem, after_instr}
 
-abbrev pub is_last_impatient : Machine → List SpaceView → Bool
+abbrev pub is_last_impatient : HeaderView → List SpaceView → Bool
 is_last_impatient m spaces =
     nat_le m.count (length spaces + 1) && list_all (λ (s : SpaceView). s.patience == 1) spaces
 
@@ -42,7 +42,7 @@ nothing_declared = record {
   needs_patience = false;
 }
 
-abbrev pub machine_numbers : Machine → DeclaredNumbers
+abbrev pub machine_numbers : HeaderView → DeclaredNumbers
 machine_numbers m = record nothing_declared { version = m.version; processors = m.processors; spaces = m.count }
 
 abbrev pub draft_numbers : Draft → ℕ → DeclaredNumbers
@@ -82,7 +82,7 @@ last_numbers (AtEvict m spaces evictions) word = if bytes_eq word (codes "evict"
 last_numbers _ word = None
 
 -- the numbers of a space line
-abbrev pub draft_from : Machine → List ℕ → Draft
+abbrev pub draft_from : HeaderView → List ℕ → Draft
 draft_from m ns = record {
   priority = slice_index ns 0;
   mutexes = slice_index ns 1;
@@ -131,7 +131,7 @@ is_end End = true
 is_end _ = false
 
 -- after an instruction; the last one has to be `end`
-abbrev pub step_instr : Machine → List SpaceView → Draft → ℕ → List Instr → Option Instr → Result Position ℕ
+abbrev pub step_instr : HeaderView → List SpaceView → Draft → ℕ → List Instr → Option Instr → Result Position ℕ
 step_instr m spaces d len instrs None = Err (cause_number BadWord)
 step_instr m spaces d len instrs (Some i) =
     if (length instrs + 1 == len) && not (is_end i) then Err (cause_number Missing) else Ok (after_instr m spaces d len (instrs ++ i ∷ []))
@@ -164,7 +164,7 @@ step (Closed w) word ns = Err (cause_number BadWord)
 abbrev pub fields_of : ℕ → Position → List ℕ → List Field
 fields_of versions p word = fields_by versions (numbers_at p) word
 
-abbrev pub space_fields : Machine → List SpaceView → List Field
+abbrev pub space_fields : HeaderView → List SpaceView → List Field
 space_fields m spaces = fields_by 0 (numbers_at (AtSpace m spaces)) (codes "space")
 
 -- the position after a line, or the first cause that applies to it

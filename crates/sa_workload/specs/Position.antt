@@ -14,7 +14,7 @@ use Rattle.sa_spaces.specs.Workload.{WorkloadView, IsWorkload, IsEviction, IsBef
 use Rattle.sa_workload.specs.Text.{instr_line, program_lines, sem_line, absent_line, space_lines, evict_line, turn_line, slice_lines, version_of, workload_lines}
 
 -- what the lines before the spaces say; `count` is how many spaces there are
-pub record Machine : Type 0 where
+pub record HeaderView : Type 0 where
   pub version : ℕ
   pub processors : ℕ
   pub fetch : ℕ
@@ -40,13 +40,13 @@ pub data Position : Type 0 where
   AtFetch : (version processors : ℕ) → Position
   AtSlice : (version processors fetch : ℕ) → Position
   AtSpaces : (version processors fetch slice : ℕ) → Position
-  AtSpace : Machine → List SpaceView → Position
-  AtSem : Machine → List SpaceView → Draft → Position
-  AtAbsent : Machine → List SpaceView → Draft → Position
-  AtProgram : Machine → List SpaceView → Draft → Position
-  AtInstr : Machine → List SpaceView → Draft → (len : ℕ) → List Instr → Position
-  AtEvict : Machine → List SpaceView → List Evict → Position
-  AtTurn : Machine → List SpaceView → List Evict → List ProcNo → Position
+  AtSpace : HeaderView → List SpaceView → Position
+  AtSem : HeaderView → List SpaceView → Draft → Position
+  AtAbsent : HeaderView → List SpaceView → Draft → Position
+  AtProgram : HeaderView → List SpaceView → Draft → Position
+  AtInstr : HeaderView → List SpaceView → Draft → (len : ℕ) → List Instr → Position
+  AtEvict : HeaderView → List SpaceView → List Evict → Position
+  AtTurn : HeaderView → List SpaceView → List Evict → List ProcNo → Position
   Closed : WorkloadView → Position
 
 -- the workload, if no line is to come
@@ -67,7 +67,7 @@ fetch_line fetch = codes "fetch" ∷ decimal fetch ∷ []
 abbrev pub spaces_line : ℕ → List (List ℕ)
 spaces_line count = codes "spaces" ∷ decimal count ∷ []
 
-abbrev pub shown_machine : Machine → List (List (List ℕ))
+abbrev pub shown_machine : HeaderView → List (List (List ℕ))
 shown_machine m =
     version_line m.version ∷ processors_line m.processors ∷ fetch_line m.fetch ∷ (slice_lines m.version m.slice ++ spaces_line m.count ∷ [])
 
@@ -80,7 +80,7 @@ abbrev pub shown_draft : ℕ → Draft → List (List (List ℕ))
 shown_draft version d =
     draft_line version d ∷ (map sem_line d.sems ++ (map absent_line d.absent ++ flat_map program_lines d.programs))
 
-abbrev pub shown_spaces : Machine → List SpaceView → List (List (List ℕ))
+abbrev pub shown_spaces : HeaderView → List SpaceView → List (List (List ℕ))
 shown_spaces m spaces = shown_machine m ++ flat_map (space_lines m.version) spaces
 
 abbrev pub shown : Position → List (List (List ℕ))
@@ -105,7 +105,7 @@ abbrev pub CanSlice : ℕ → ℕ → Type 0
 CanSlice version slice =
     ((version ≡ 1) × (slice ≡ 0)) ⊎ (((version ≡ 2) × (1 ≤ slice) × (slice ≤ MAX_SLICE)) ⊎ ((version ≡ 3) × (slice ≤ MAX_SLICE)))
 
-pub record IsMachine (versions : ℕ) (m : Machine) : Type 0 where
+pub record IsHeader (versions : ℕ) (m : HeaderView) : Type 0 where
   pub version : m.version ≤ versions
   pub processors : (1 ≤ m.processors) × (m.processors ≤ MAX_PROCESSORS)
   pub fetch : (1 ≤ m.fetch) × (m.fetch ≤ MAX_FETCH)
@@ -113,14 +113,14 @@ pub record IsMachine (versions : ℕ) (m : Machine) : Type 0 where
   pub count : (1 ≤ m.count) × (m.count ≤ MAX_SPACES)
 
 -- all spaces so far are spaces; before version 3 their patience is 1, and in it not all of them have patience 1 where they are all
-pub record AreSpaces (m : Machine) (spaces : List SpaceView) : Type 0 where
+pub record AreSpaces (m : HeaderView) (spaces : List SpaceView) : Type 0 where
   pub few : length spaces ≤ m.count
   pub each : All IsSpace spaces
   pub patient : m.version ≢ 3 → All (λ (s : SpaceView). s.patience ≡ 1) spaces
   pub own : m.version ≡ 3 → length spaces ≡ m.count → ¬ All (λ (s : SpaceView). s.patience ≡ 1) spaces
 
 -- the first line of the space, and the lines that came after it
-pub record IsDraft (m : Machine) (spaces : List SpaceView) (d : Draft) : Type 0 where
+pub record IsDraft (m : HeaderView) (spaces : List SpaceView) (d : Draft) : Type 0 where
   pub room : length spaces < m.count
   pub priority : d.priority ≤ MAX_PRIORITY
   pub mutexes : d.mutexes ≤ MAX_MUTEXES
@@ -146,12 +146,12 @@ pub record IsBegun (d : Draft) (len : ℕ) (instrs : List Instr) : Type 0 where
   pub jumps : All (JumpsBelow len) instrs
   pub names : All (NamesDeclared d.mutexes d.sem_count d.cells d.program_count) instrs
 
-pub record AreEvictions (m : Machine) (evictions : List Evict) : Type 0 where
+pub record AreEvictions (m : HeaderView) (evictions : List Evict) : Type 0 where
   pub few : length evictions ≤ MAX_EVICTIONS
   pub each : All (IsEviction m.count) evictions
   pub rise : AllAdjacentBelow IsBefore evictions (length evictions)
 
-pub record AreTurns (m : Machine) (turns : List ProcNo) : Type 0 where
+pub record AreTurns (m : HeaderView) (turns : List ProcNo) : Type 0 where
   pub few : length turns ≤ MAX_TURNS
   pub each : All (λ (p : ProcNo). p.0 < m.processors) turns
 
@@ -164,19 +164,19 @@ IsReached versions (AtSlice version processors fetch) =
     (2 ≤ version) × (version ≤ versions) × (1 ≤ processors) × (processors ≤ MAX_PROCESSORS) × (1 ≤ fetch) × (fetch ≤ MAX_FETCH)
 IsReached versions (AtSpaces version processors fetch slice) =
     (version ≤ versions) × (1 ≤ processors) × (processors ≤ MAX_PROCESSORS) × (1 ≤ fetch) × (fetch ≤ MAX_FETCH) × CanSlice version slice
-IsReached versions (AtSpace m spaces) = IsMachine versions m × AreSpaces m spaces × (length spaces < m.count)
+IsReached versions (AtSpace m spaces) = IsHeader versions m × AreSpaces m spaces × (length spaces < m.count)
 IsReached versions (AtSem m spaces d) =
-    IsMachine versions m × AreSpaces m spaces × IsDraft m spaces d × (length d.sems < d.sem_count) × (d.absent ≡ []) × (d.programs ≡ [])
+    IsHeader versions m × AreSpaces m spaces × IsDraft m spaces d × (length d.sems < d.sem_count) × (d.absent ≡ []) × (d.programs ≡ [])
 IsReached versions (AtAbsent m spaces d) =
-    IsMachine versions m × AreSpaces m spaces × IsDraft m spaces d × (length d.sems ≡ d.sem_count) × (d.programs ≡ [])
+    IsHeader versions m × AreSpaces m spaces × IsDraft m spaces d × (length d.sems ≡ d.sem_count) × (d.programs ≡ [])
 IsReached versions (AtProgram m spaces d) =
-    IsMachine versions m × AreSpaces m spaces × IsDraft m spaces d × (length d.sems ≡ d.sem_count) × (1 ≤ length d.programs)
+    IsHeader versions m × AreSpaces m spaces × IsDraft m spaces d × (length d.sems ≡ d.sem_count) × (1 ≤ length d.programs)
     × (length d.programs < d.program_count)
 IsReached versions (AtInstr m spaces d len instrs) =
-    IsMachine versions m × AreSpaces m spaces × IsDraft m spaces d × (length d.sems ≡ d.sem_count)
+    IsHeader versions m × AreSpaces m spaces × IsDraft m spaces d × (length d.sems ≡ d.sem_count)
     × (length d.programs < d.program_count) × IsBegun d len instrs
 IsReached versions (AtEvict m spaces evictions) =
-    IsMachine versions m × AreSpaces m spaces × (length spaces ≡ m.count) × AreEvictions m evictions
+    IsHeader versions m × AreSpaces m spaces × (length spaces ≡ m.count) × AreEvictions m evictions
 IsReached versions (AtTurn m spaces evictions turns) =
-    IsMachine versions m × AreSpaces m spaces × (length spaces ≡ m.count) × AreEvictions m evictions × AreTurns m turns × (1 ≤ length turns)
+    IsHeader versions m × AreSpaces m spaces × (length spaces ≡ m.count) × AreEvictions m evictions × AreTurns m turns × (1 ≤ length turns)
 IsReached versions (Closed w) = IsWorkload w × (version_of w ≤ versions)

@@ -17,7 +17,7 @@ use Rattle.sa_workload.specs.declared.stage.Stage.TheVariants.{Machine as Before
 use Rattle.sa_workload.specs.declared.stage.Reader.{Reader}
 use Rattle.sa_workload.specs.Bad.{Field, Register, Number, within}
 use Rattle.sa_workload.specs.Fields.{line_numbers}
-use Rattle.sa_workload.specs.Position.{Machine, Draft, Position, AtVersion, AtProcessors, AtFetch, AtSlice, AtSpaces, AtSpace, AtSem, AtAbsent, AtProgram, AtInstr, AtEvict, AtTurn, Closed}
+use Rattle.sa_workload.specs.Position.{HeaderView, Draft, Position, AtVersion, AtProcessors, AtFetch, AtSlice, AtSpaces, AtSpace, AtSem, AtAbsent, AtProgram, AtInstr, AtEvict, AtTurn, Closed}
 use Rattle.sa_workload.specs.Steps.{workload}
 
 abbrev pub field_of : TableField → Field
@@ -25,7 +25,7 @@ field_of Table.Register = Register
 field_of (Table.Within low high) = within low high
 field_of (Table.Below count cause) = Number (λ n. nat_lt n count) (cause_number cause)
 
-abbrev pub machine_of : Header → Machine
+abbrev pub machine_of : Header → HeaderView
 machine_of h = record { version = h.version; processors = h.processors; fetch = h.fetch; slice = h.slice; count = h.count }
 
 abbrev pub draft_of : SpaceDraft → Draft

@@ -19,7 +19,7 @@ use Rattle.sa_spaces.specs.Space.{SpaceView, IsSpace}
 use Rattle.sa_text.specs.LineText.{LineText}
 use Rattle.sa_workload.specs.Bad.{Field, Register, list_lt, instr_words}
 use Rattle.sa_workload.specs.Fields.{and_then, unless, field_at, fields_at, at_end, index_of, line_numbers, order_cause}
-use Rattle.sa_workload.specs.Position.{Machine, Draft, Position, AtVersion, AtAbsent, AtInstr, AtEvict, IsReached}
+use Rattle.sa_workload.specs.Position.{HeaderView, Draft, Position, AtVersion, AtAbsent, AtInstr, AtEvict, IsReached}
 use Rattle.sa_workload.specs.Next.{draft_numbers, evict_numbers, fields_of, is_end, is_full, last_numbers, last_of, made_by, next_by, operand_from, operands_from, step}
 use Rattle.sa_workload.specs.Steps.{expected, space_of_draft, with_program}
 use Rattle.sa_workload.specs.Rooms.{AreBelow, room_for}
@@ -209,7 +209,7 @@ read_on versions number more p q lines rest l e n h =
     ∙ ap (λ (k : ℕ). read_from versions k q rest) (sym n)
 
 -- the instruction of a line that may be there
-module _ (versions : ℕ) (m : Machine) (spaces : List SpaceView) (d : Draft) (len : ℕ) (instrs : List Instr) (word ns : List ℕ) (i : Instr)
+module _ (versions : ℕ) (m : HeaderView) (spaces : List SpaceView) (d : Draft) (len : ℕ) (instrs : List Instr) (word ns : List ℕ) (i : Instr)
     (r : IsReached versions (AtInstr m spaces d len instrs)) (known : is_some (index_of word instr_words) ≡ true)
     (read : AreNumbersOf (fields_of versions (AtInstr m spaces d len instrs) word) ns) (made : Some i ≡ made_by ns (operation_of word)) where
   allowed : IsAllowed (draft_numbers d len) i

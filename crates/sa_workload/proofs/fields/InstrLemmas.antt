@@ -18,6 +18,7 @@ use Rattle.sa_instr.specs.declared.operation.TheConstants.{OPERATIONS}
 use Rattle.sa_instr.specs.Instr.{reg_number, IsInRange, JumpsBelow, NamesDeclared}
 use Rattle.sa_instr.specs.Operand.{kind_of, InRange, IsPlaceBelow, IsDeclared, Each}
 use Rattle.sa_instr.specs.Operation.{form_of, IsNoWord, operation_of}
+use Rattle.sa_instr.proofs.OperationLemmas.{operation-found}
 use Rattle.sa_instr.specs.Parts.{parts, parts_of, instr_of}
 use Rattle.sa_instr.proofs.PartsLemmas.{remade, parts-back, fit-some}
 use Rattle.sa_workload.specs.Text.{operand_word, instr_line}

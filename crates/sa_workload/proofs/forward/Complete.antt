@@ -23,7 +23,7 @@ use Rattle.sa_spaces.specs.Workload.{WorkloadView, IsWorkload, IsEviction, IsBef
 use Rattle.sa_workload.specs.Text.{instr_line, program_lines, sem_line, absent_line, space_line, space_lines, evict_line, turn_line, version_of, machine_lines, closing_lines, workload_lines}
 use Rattle.sa_workload.specs.Bad.{Field, within, list_lt}
 use Rattle.sa_workload.specs.Fields.{and_then, order_cause, line_numbers, index_of}
-use Rattle.sa_workload.specs.Position.{Machine, Draft, Position, AtVersion, AtSlice, AtSpaces, AtSpace, AtAbsent, AtInstr, AtEvict, AtTurn, Closed}
+use Rattle.sa_workload.specs.Position.{HeaderView, Draft, Position, AtVersion, AtSlice, AtSpaces, AtSpace, AtAbsent, AtInstr, AtEvict, AtTurn, Closed}
 use Rattle.sa_workload.specs.Steps.{expected, after_sem, after_spaces, after_program, after_instr, with_program}
 use Rattle.sa_workload.specs.Next.{draft_numbers, fields_of, is_full, last_numbers, last_of, evict_numbers, is_end, is_last_impatient, step, step_instr, next}
 use Rattle.sa_workload.proofs.fields.FieldLemmas.{line-spelled, spelled_all, AllPass, passes-within, passes-declared}
@@ -175,7 +175,7 @@ allowed_last : (b : Bool) (i : Instr) → (b ≡ true → i ≡ End) → (b && n
 allowed_last true i h = ap (λ (j : Instr). not (is_end j)) (h refl)
 allowed_last false i h = refl
 
-instr_run : (versions : ℕ) (m : Machine) (spaces : List SpaceView) (d : Draft) (len : ℕ) (instrs : List Instr) (i : Instr)
+instr_run : (versions : ℕ) (m : HeaderView) (spaces : List SpaceView) (d : Draft) (len : ℕ) (instrs : List Instr) (i : Instr)
     → AreSmall (draft_numbers d len) → IsAllowed (draft_numbers d len) i → ((length instrs + 1 == len) ≡ true → i ≡ End)
     → Runs versions (AtInstr m spaces d len instrs) (instr_line i ∷ []) (after_instr m spaces d len (instrs ++ i ∷ []))
 instr_run versions m spaces d len instrs i few allowed last =
@@ -185,7 +185,7 @@ instr_run versions m spaces d len instrs i few allowed last =
     (ap (step_instr m spaces d len instrs) read.is
     ∙ ap (λ (b : Bool). if b then Err 9 else Ok (after_instr m spaces d len (instrs ++ i ∷ []))) (allowed_last (length instrs + 1 == len) i last)))
 
-program_run : (versions : ℕ) (m : Machine) (spaces : List SpaceView) (d : Draft) (p : List Instr) → AreSmall (draft_numbers d (length p)) → IsProgram p
+program_run : (versions : ℕ) (m : HeaderView) (spaces : List SpaceView) (d : Draft) (p : List Instr) → AreSmall (draft_numbers d (length p)) → IsProgram p
     → All (NamesDeclared d.mutexes d.sem_count d.cells d.program_count) p
     → Runs versions (AtInstr m spaces d (length p) []) (map instr_line p) (after_program m spaces (with_program d p))
 program_run versions m spaces d p few h names =
@@ -227,16 +227,16 @@ abbrev pages_draft : SpaceView → Draft
 pages_draft s = record (sems_draft s) { absent = s.absent }
 
 -- the position after some programs of a space
-abbrev programs_at : Machine → List SpaceView → SpaceView → List (List Instr) → Position
+abbrev programs_at : HeaderView → List SpaceView → SpaceView → List (List Instr) → Position
 programs_at m spaces s [] = AtAbsent m spaces (pages_draft s)
 programs_at m spaces s (p ∷ ps) = after_program m spaces (record (pages_draft s) { programs = p ∷ ps })
 
-programs_more : (m : Machine) (spaces : List SpaceView) (s : SpaceView) (done : List (List Instr)) (p : List Instr)
+programs_more : (m : HeaderView) (spaces : List SpaceView) (s : SpaceView) (done : List (List Instr)) (p : List Instr)
     → after_program m spaces (with_program (record (pages_draft s) { programs = done }) p) ≡ programs_at m spaces s (done ++ p ∷ [])
 programs_more m spaces s [] p = refl
 programs_more m spaces s (q ∷ qs) p = refl
 
-programs_run : (versions : ℕ) (m : Machine) (spaces : List SpaceView) (s : SpaceView) → IsSpace s
+programs_run : (versions : ℕ) (m : HeaderView) (spaces : List SpaceView) (s : SpaceView) → IsSpace s
     → Runs versions (AtAbsent m spaces (pages_draft s)) (flat_map program_lines s.programs) (after_spaces m (spaces ++ s ∷ []))
 programs_run versions m spaces s h =
     whole s.programs refl (over (programs_at m spaces s) program_lines (flat_map program_lines) refl (λ p ps. refl) s.programs each)
@@ -274,7 +274,7 @@ programs_run versions m spaces s h =
         (here at (All (NamesDeclared s.mutexes (length s.sems) s.cells (length s.programs))) h.names)))
 
 -- the patience of a space fits after those before it
-abbrev FitsPatience : Machine → List SpaceView → SpaceView → Type 0
+abbrev FitsPatience : HeaderView → List SpaceView → SpaceView → Type 0
 FitsPatience m spaces s =
     (m.version ≢ 3 → s.patience ≡ 1) × (m.version ≡ 3 → is_last_impatient m spaces ≡ true → s.patience ≢ 1)
 
@@ -300,7 +300,7 @@ space_pass fs a b c d e ns ha hb hc hd low high rest =
     let pass_d = passes-within 0 MAX_CELLS d (omega arith) hd (omega arith) in
     (pass_a, (pass_b, (pass_c, (pass_d, (passes-within 1 MAX_PROGRAMS e low high (omega arith), rest)))))
 
-space_first : (versions : ℕ) (m : Machine) (spaces : List SpaceView) (s : SpaceView) → IsSpace s → FitsPatience m spaces s
+space_first : (versions : ℕ) (m : HeaderView) (spaces : List SpaceView) (s : SpaceView) → IsSpace s → FitsPatience m spaces s
     → Runs versions (AtSpace m spaces) (space_line m.version s ∷ []) (after_sem m spaces (first_draft s))
 space_first versions m spaces s h fits =
     let own : Bool = m.version == 3 in
@@ -313,7 +313,7 @@ space_first versions m spaces s h fits =
     (space_pass _ s.priority s.mutexes (length s.sems) s.cells (length s.programs) _ h.priority h.mutexes h.sems h.cells h.some_program h.few_programs last.0)
     refl (ap (λ (k : ℕ). Ok (after_sem m spaces (record (first_draft s) { patience = k }))) last.2))
 
-space_run : (versions : ℕ) (m : Machine) (spaces : List SpaceView) (s : SpaceView) → IsSpace s → FitsPatience m spaces s
+space_run : (versions : ℕ) (m : HeaderView) (spaces : List SpaceView) (s : SpaceView) → IsSpace s → FitsPatience m spaces s
     → Runs versions (AtSpace m spaces) (space_lines m.version s) (after_spaces m (spaces ++ s ∷ []))
 space_run versions m spaces s h fits =
     one (space_first versions m spaces s h fits)
@@ -338,7 +338,7 @@ space_run versions m spaces s h fits =
         taken (codes "absent") (k ∷ []) refl refl (passes-within 0 LAST_PAGE k (omega arith) (here at (λ (x : ℕ). x ≤ LAST_PAGE) h.pages) (omega arith), tt)
         (behind_last (λ (a b : ℕ). a < b) (λ (x : ℕ). x ∷ []) s.absent done k 0 at (λ a b l. less_head a b [] [] l) h.absent_rise) refl
 
-abbrev machine_in : WorkloadView → Machine
+abbrev machine_in : WorkloadView → HeaderView
 machine_in w = record { version = version_of w; processors = w.processors; fetch = w.fetch; slice = w.slice; count = length w.spaces }
 
 -- the position after some turns

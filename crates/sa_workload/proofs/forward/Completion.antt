@@ -12,7 +12,7 @@ use Rattle.sa_spaces.specs.Space.{SpaceView}
 use Rattle.sa_workload.specs.Text.{workload_lines}
 use Rattle.sa_workload.specs.Bad.{Begins, within}
 use Rattle.sa_workload.specs.Fields.{index_of, order_cause}
-use Rattle.sa_workload.specs.Position.{Machine, Draft, Position, AtVersion, AtProcessors, AtFetch, AtSlice, AtSpaces, AtSpace, AtSem, AtAbsent, AtProgram, AtInstr, AtEvict, AtTurn, Closed, shown, IsReached}
+use Rattle.sa_workload.specs.Position.{HeaderView, Draft, Position, AtVersion, AtProcessors, AtFetch, AtSlice, AtSpaces, AtSpace, AtSem, AtAbsent, AtProgram, AtInstr, AtEvict, AtTurn, Closed, shown, IsReached}
 use Rattle.sa_workload.specs.Steps.{expected, workload, space_of_draft, with_sem, with_program, after_fetch, after_sem, after_spaces, after_program, after_instr}
 use Rattle.sa_workload.specs.Next.{fields_of, is_full, last_numbers, draft_from, is_last_impatient, step, next}
 use Rattle.sa_workload.proofs.fields.FieldLemmas.{AllPass, passes-within}
@@ -25,10 +25,10 @@ pub begins_front : (versions : ℕ) (xs ys : List (List (List ℕ))) → Begins 
 begins_front versions xs ys b = record { workload = b.workload; accepted = b.accepted; more = ys ++ b.more; text = b.text ∙ append_assoc xs ys b.more }
 
 -- how many lines are missing at most, where each is as good as any
-abbrev left_spaces : Machine → ℕ → ℕ
+abbrev left_spaces : HeaderView → ℕ → ℕ
 left_spaces m spaces = 3 * (m.count - spaces) + 1
 
-abbrev left_programs : Machine → List SpaceView → Draft → ℕ → ℕ
+abbrev left_programs : HeaderView → List SpaceView → Draft → ℕ → ℕ
 left_programs m spaces d programs = 2 * (d.program_count - programs) + left_spaces m (length spaces + 1)
 
 abbrev pub left : Position → ℕ
@@ -45,13 +45,13 @@ left (AtInstr m spaces d len instrs) = len - length instrs + left_programs m spa
 left (Closed w) = 0
 left _ = 1
 
-left-after_sem : (m : Machine) (spaces : List SpaceView) (d : Draft)
+left-after_sem : (m : HeaderView) (spaces : List SpaceView) (d : Draft)
     → left (after_sem m spaces d) ≤ d.sem_count - length d.sems + left_programs m spaces d (length d.programs)
 left-after_sem m spaces d =
     cond_both (length d.sems == d.sem_count) (AtAbsent m spaces d) (AtSem m spaces d)
     (λ (q : Position). left q ≤ d.sem_count - length d.sems + left_programs m spaces d (length d.programs)) (λ _. omega arith) (λ _. omega arith)
 
-left-after_instr : (m : Machine) (spaces : List SpaceView) (d : Draft) (len : ℕ) (instrs : List Instr)
+left-after_instr : (m : HeaderView) (spaces : List SpaceView) (d : Draft) (len : ℕ) (instrs : List Instr)
     → left (after_instr m spaces d len instrs) ≤ len - length instrs + left_programs m spaces d (length d.programs + 1)
 left-after_instr m spaces d len instrs =
     cond_both (length instrs == len) (after_program m spaces done) (AtInstr m spaces d len instrs) Few
@@ -84,7 +84,7 @@ by_line versions p word ns q known room passes order to less =
     record { word = word; others = _; to = q; leads = take-line versions p word ns q known room passes order to; less = less }
 
 -- one more instruction: `end` is the last one
-more_instr : (versions : ℕ) (m : Machine) (spaces : List SpaceView) (d : Draft) (len : ℕ) (instrs : List Instr) → length instrs < len → (b : Bool)
+more_instr : (versions : ℕ) (m : HeaderView) (spaces : List SpaceView) (d : Draft) (len : ℕ) (instrs : List Instr) → length instrs < len → (b : Bool)
     → (length instrs + 1 == len) ≡ b → Nearer versions (AtInstr m spaces d len instrs)
 unfolding operation_of
 more_instr versions m spaces d len instrs room true last =

@@ -9,7 +9,7 @@ use Rattle.sa_spaces.specs.Space.{SpaceView}
 use Rattle.sa_lemmas.proofs.Booleans.{if_either}
 use Rattle.sa_workload.specs.Bad.{is_ordered, numbers_before, Begins, MayFollow, IsRightWord, instr_words, first_word, last_line}
 use Rattle.sa_workload.specs.Fields.{index_of, order_cause}
-use Rattle.sa_workload.specs.Position.{Machine, Draft, Position, AtAbsent, AtInstr, AtEvict, AtTurn, Closed, shown}
+use Rattle.sa_workload.specs.Position.{HeaderView, Draft, Position, AtAbsent, AtInstr, AtEvict, AtTurn, Closed, shown}
 use Rattle.sa_workload.specs.Steps.{expected, workload}
 use Rattle.sa_workload.specs.Next.{fields_of, is_full, last_numbers, last_of, evict_numbers, step, next}
 use Rattle.sa_workload.proofs.fields.FieldLemmas.{contained, spelled_all, AllPass, passes-within, passes-declared}
@@ -54,7 +54,7 @@ module _ (versions : ℕ) (s : Setting versions) where
       (n.word, (took versions p n.word n.others n.to n.leads).known, leads_on p n.to n.word n.others a n.leads)
 
   -- a line of the word comes before, or the first one follows
-  absent_right : (m : Machine) (spaces : List SpaceView) (d : Draft) (pages : List ℕ) → d.absent ≡ pages → IsAt versions (AtAbsent m spaces d)
+  absent_right : (m : HeaderView) (spaces : List SpaceView) (d : Draft) (pages : List ℕ) → d.absent ≡ pages → IsAt versions (AtAbsent m spaces d)
       → IsRightWord versions (shown (AtAbsent m spaces d)) (codes "absent")
   absent_right m spaces d (k ∷ ks) e a =
       inr (inr (
@@ -67,7 +67,7 @@ module _ (versions : ℕ) (s : Setting versions) where
       (passes-within 0 LAST_PAGE 0 (omega arith) (omega arith) (omega arith), tt)
       (ap (λ ns. order_cause (option_map (λ page. page ∷ []) (last_of ns)) (0 ∷ [])) e) refl)
 
-  evict_right : (m : Machine) (spaces : List SpaceView) (es : List Evict) → IsAt versions (AtEvict m spaces es)
+  evict_right : (m : HeaderView) (spaces : List SpaceView) (es : List Evict) → IsAt versions (AtEvict m spaces es)
       → IsRightWord versions (shown (AtEvict m spaces es)) (codes "evict")
   evict_right m spaces (e ∷ es) a = inr (inr ((1, omega arith, refl), again (shown (AtEvict m spaces (e ∷ es))) (codes "evict") 3 evict_numbers e es a.says.3))
   evict_right m spaces [] a =

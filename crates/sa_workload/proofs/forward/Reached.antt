@@ -14,13 +14,13 @@ use Rattle.sa_instr.specs.Instr.{IsInRange, JumpsBelow, NamesDeclared}
 use Rattle.sa_instr.specs.Program.{IsProgram}
 use Rattle.sa_spaces.specs.Space.{SpaceView, IsSpace}
 use Rattle.sa_spaces.specs.Workload.{IsEviction}
-use Rattle.sa_workload.specs.Position.{Machine, Draft, Position, AtSpace, AtSem, AtAbsent, AtProgram, AtInstr, AtEvict, Closed, CanSlice, IsMachine, AreSpaces, IsDraft, IsBegun, AreEvictions, AreTurns, IsReached}
+use Rattle.sa_workload.specs.Position.{HeaderView, Draft, Position, AtSpace, AtSem, AtAbsent, AtProgram, AtInstr, AtEvict, Closed, CanSlice, IsHeader, AreSpaces, IsDraft, IsBegun, AreEvictions, AreTurns, IsReached}
 use Rattle.sa_workload.specs.Steps.{workload, space_of_draft, with_program, after_sem, after_spaces, after_program, after_instr}
 use Rattle.sa_workload.proofs.forward.Fronts.{All-front, All-last}
 use Rattle.sa_workload.proofs.forward.ShownStep.{version_of-workload}
 
 -- a draft with other lists after its first line
-pub redrafted : (m : Machine) (spaces : List SpaceView) (d : Draft) (sems absent : List ℕ) (programs : List (List Instr)) → IsDraft m spaces d
+pub redrafted : (m : HeaderView) (spaces : List SpaceView) (d : Draft) (sems absent : List ℕ) (programs : List (List Instr)) → IsDraft m spaces d
     → length sems ≤ d.sem_count → All (λ start. start ≤ MAX_START) sems → All (λ page. page ≤ LAST_PAGE) absent → IsStrictlyIncreasing absent
     → length programs ≤ d.program_count → All IsProgram programs → All (All (NamesDeclared d.mutexes d.sem_count d.cells d.program_count)) programs
     → IsDraft m spaces (record d { sems = sems; absent = absent; programs = programs })
@@ -51,7 +51,7 @@ can_slice v s two three low high =
       | inr h ↦ inr (inr (omega arith, high))
     ]
 
-pub no_spaces : (m : Machine) → 1 ≤ m.count → AreSpaces m []
+pub no_spaces : (m : HeaderView) → 1 ≤ m.count → AreSpaces m []
 no_spaces m h = record {
   few = omega arith;
   each = All-nil IsSpace;
@@ -59,7 +59,7 @@ no_spaces m h = record {
   own = λ _ full. absurd (omega arith);
 }
 
-pub reached-after_sem : (versions : ℕ) (m : Machine) (spaces : List SpaceView) (d : Draft) → IsMachine versions m → AreSpaces m spaces
+pub reached-after_sem : (versions : ℕ) (m : HeaderView) (spaces : List SpaceView) (d : Draft) → IsHeader versions m → AreSpaces m spaces
     → IsDraft m spaces d → d.absent ≡ [] → d.programs ≡ [] → IsReached versions (after_sem m spaces d)
 reached-after_sem versions m spaces d k a h absent programs =
     cond_both (length d.sems == d.sem_count) (AtAbsent m spaces d) (AtSem m spaces d) (λ (q : Position). IsReached versions q)
@@ -91,7 +91,7 @@ nothing_begun d len short = record {
   names = All-nil (NamesDeclared d.mutexes d.sem_count d.cells d.program_count);
 }
 
-reached-after_spaces : (versions : ℕ) (m : Machine) (spaces : List SpaceView) → IsMachine versions m → AreSpaces m spaces
+reached-after_spaces : (versions : ℕ) (m : HeaderView) (spaces : List SpaceView) → IsHeader versions m → AreSpaces m spaces
     → IsReached versions (after_spaces m spaces)
 reached-after_spaces versions m spaces k a =
     cond_both (length spaces == m.count) (AtEvict m spaces []) (AtSpace m spaces) (λ (q : Position). IsReached versions q)
@@ -99,7 +99,7 @@ reached-after_spaces versions m spaces k a =
     (λ e. let ne : length spaces ≢ m.count = eqb-false _ _ e in let few : length spaces ≤ m.count = a.few in (k, a, omega arith))
 
 -- a draft with all its semaphores and programs is a space
-pub whole_space : (m : Machine) (spaces : List SpaceView) (d : Draft) → IsDraft m spaces d → length d.sems ≡ d.sem_count
+pub whole_space : (m : HeaderView) (spaces : List SpaceView) (d : Draft) → IsDraft m spaces d → length d.sems ≡ d.sem_count
     → length d.programs ≡ d.program_count → IsSpace (space_of_draft d)
 whole_space m spaces d h s p = record {
   priority = h.priority;
@@ -117,7 +117,7 @@ whole_space m spaces d h s p = record {
   patience = h.patience.1;
 }
 
-more_spaces : (m : Machine) (spaces : List SpaceView) (d : Draft) → AreSpaces m spaces → IsDraft m spaces d → length d.sems ≡ d.sem_count
+more_spaces : (m : HeaderView) (spaces : List SpaceView) (d : Draft) → AreSpaces m spaces → IsDraft m spaces d → length d.sems ≡ d.sem_count
     → length d.programs ≡ d.program_count → AreSpaces m (spaces ++ space_of_draft d ∷ [])
 more_spaces m spaces d a h s p =
     let l : length (spaces ++ space_of_draft d ∷ []) ≡ length spaces + 1 = length_push spaces (space_of_draft d) in
@@ -130,7 +130,7 @@ more_spaces m spaces d a h s p =
           (All-last (λ (t : SpaceView). t.patience ≡ 1) spaces (space_of_draft d) all);
     }
 
-reached-after_program : (versions : ℕ) (m : Machine) (spaces : List SpaceView) (d : Draft) → IsMachine versions m → AreSpaces m spaces
+reached-after_program : (versions : ℕ) (m : HeaderView) (spaces : List SpaceView) (d : Draft) → IsHeader versions m → AreSpaces m spaces
     → IsDraft m spaces d → length d.sems ≡ d.sem_count → 1 ≤ length d.programs → IsReached versions (after_program m spaces d)
 reached-after_program versions m spaces d k a h s one =
     cond_both (length d.programs == d.program_count) (after_spaces m (spaces ++ space_of_draft d ∷ [])) (AtProgram m spaces d)
@@ -168,7 +168,7 @@ whole_program d len instrs i h range jump name last e =
       ranges = more.0;
     }
 
-pub with_program-drafted : (m : Machine) (spaces : List SpaceView) (d : Draft) (p : List Instr) → IsDraft m spaces d
+pub with_program-drafted : (m : HeaderView) (spaces : List SpaceView) (d : Draft) (p : List Instr) → IsDraft m spaces d
     → length d.programs < d.program_count → IsProgram p → All (NamesDeclared d.mutexes d.sem_count d.cells d.program_count) p
     → IsDraft m spaces (with_program d p)
 with_program-drafted m spaces d p h room program names =
@@ -176,7 +176,7 @@ with_program-drafted m spaces d p h room program names =
     (All-push IsProgram d.programs p h.each program)
     (All-push (All (NamesDeclared d.mutexes d.sem_count d.cells d.program_count)) d.programs p h.names names)
 
-pub reached-instr : (versions : ℕ) (m : Machine) (spaces : List SpaceView) (d : Draft) (len : ℕ) (instrs : List Instr) (i : Instr)
+pub reached-instr : (versions : ℕ) (m : HeaderView) (spaces : List SpaceView) (d : Draft) (len : ℕ) (instrs : List Instr) (i : Instr)
     → IsReached versions (AtInstr m spaces d len instrs) → IsInRange i → JumpsBelow len i
     → NamesDeclared d.mutexes d.sem_count d.cells d.program_count i → (length instrs + 1 ≡ len → i ≡ End)
     → IsReached versions (after_instr m spaces d len (instrs ++ i ∷ []))
@@ -202,7 +202,7 @@ reached-instr versions m spaces d len instrs i r range jump name last =
         let all = begun_more d len instrs i r.5 range jump name in
         (r.0, r.1, r.2, r.3, r.4, record { short = r.5.short; room = omega (arith, l); ranges = all.0; jumps = all.1; names = all.2 })
 
-pub more_turns : (m : Machine) (turns : List ProcNo) (p : ProcNo) → AreTurns m turns → p.0 < m.processors → length turns < MAX_TURNS
+pub more_turns : (m : HeaderView) (turns : List ProcNo) (p : ProcNo) → AreTurns m turns → p.0 < m.processors → length turns < MAX_TURNS
     → AreTurns m (turns ++ p ∷ [])
 more_turns m turns p t h few =
     record { few = omega (arith, length_push turns p); each = All-push (λ (q : ProcNo). q.0 < m.processors) turns p t.each h }
@@ -213,7 +213,7 @@ can_slice-below v s (inr (inl h)) = omega arith
 can_slice-below v s (inr (inr h)) = omega arith
 
 -- what was read is a workload
-pub reached-closed : (versions : ℕ) (m : Machine) (spaces : List SpaceView) (evictions : List Evict) (turns : List ProcNo) → IsMachine versions m
+pub reached-closed : (versions : ℕ) (m : HeaderView) (spaces : List SpaceView) (evictions : List Evict) (turns : List ProcNo) → IsHeader versions m
     → AreSpaces m spaces → length spaces ≡ m.count → AreEvictions m evictions → AreTurns m turns
     → IsReached versions (Closed (workload m spaces evictions turns))
 reached-closed versions m spaces evictions turns k a c e t = (

@@ -23,7 +23,7 @@ use Rattle.sa_spaces.specs.Space.{SpaceView}
 use Rattle.sa_spaces.specs.Workload.{IsEviction}
 use Rattle.sa_workload.specs.Text.{operand_word, instr_line, space_line, evict_line}
 use Rattle.sa_workload.specs.Bad.{ordered_words, is_ordered, numbers_before, first_word, last_line, last_with, count_of_word, number_in, numbers_of}
-use Rattle.sa_workload.specs.Position.{Machine, Draft, Position, AtVersion, AtProcessors, AtFetch, AtSlice, AtSpaces, AtSpace, AtSem, AtAbsent, AtProgram, AtInstr, AtEvict, AtTurn, Closed, IsReached, version_line, processors_line, fetch_line, spaces_line, draft_line}
+use Rattle.sa_workload.specs.Position.{HeaderView, Draft, Position, AtVersion, AtProcessors, AtFetch, AtSlice, AtSpaces, AtSpace, AtSem, AtAbsent, AtProgram, AtInstr, AtEvict, AtTurn, Closed, IsReached, version_line, processors_line, fetch_line, spaces_line, draft_line}
 use Rattle.sa_workload.specs.Steps.{Steps, step_version, step_processors, step_fetch, step_slice, step_spaces, step_space, step_sem, step_absent, step_first_program, step_program, step_instr, step_evict, step_first_turn, step_turn, step_first_close, step_close, program_line, space_of_draft, with_sem, with_program, after_sem, after_instr, after_spaces, after_program}
 use Rattle.sa_workload.specs.Next.{last_of, evict_numbers}
 use Rattle.sa_workload.proofs.fields.FieldLemmas.{contained, known_word}
@@ -98,7 +98,7 @@ heard-push lines line = λ i. record {
         by_test false = omega arith
 
 -- the lines of the machine
-abbrev OfMachine : Heard → Machine → Type 0
+abbrev OfMachine : Heard → HeaderView → Type 0
 OfMachine h m =
     (h.lasts (codes "workload") ≡ version_line m.version) × (h.lasts (codes "processors") ≡ processors_line m.processors)
     × (h.lasts (codes "spaces") ≡ spaces_line m.count)
@@ -118,7 +118,7 @@ abbrev pub is_patient : ℕ → SpaceView → Bool
 is_patient version s = number_in (space_line version s) 6 == 1
 
 -- after the first line of a space
-abbrev InSpace : Heard → Machine → List SpaceView → Draft → Type 0
+abbrev InSpace : Heard → HeaderView → List SpaceView → Draft → Type 0
 InSpace h m spaces d =
     OfMachine h m × Began h (length spaces + 1) (is_patient m.version (space_of_draft d) && list_all (is_patient m.version) spaces)
     × (h.lasts (codes "space") ≡ draft_line m.version d)
@@ -141,13 +141,13 @@ Says h (AtEvict m spaces evictions) =
 Says h (AtTurn m spaces evictions turns) = OfMachine h m × (h.counts (codes "turn") ≡ length turns) × (first_word h.last ≡ codes "turn")
 Says h (Closed w) = ⊤
 
-says-after_sem : (h : Heard) (m : Machine) (spaces : List SpaceView) (d : Draft) → InSpace h m spaces d → numbers_before h.last (codes "absent") 1 ≡ None
+says-after_sem : (h : Heard) (m : HeaderView) (spaces : List SpaceView) (d : Draft) → InSpace h m spaces d → numbers_before h.last (codes "absent") 1 ≡ None
     → d.absent ≡ [] → Says h (after_sem m spaces d)
 says-after_sem h m spaces d s none e =
     cond_both (length d.sems == d.sem_count) (AtAbsent m spaces d) (AtSem m spaces d) (Says h)
     (λ _. (s, none ∙ ap (λ (ks : List ℕ). option_map (λ page. page ∷ []) (last_of ks)) (sym e))) (λ _. s)
 
-says-after_instr : (h : Heard) (m : Machine) (spaces : List SpaceView) (d : Draft) (len : ℕ) (instrs : List Instr) → Says h (AtInstr m spaces d len instrs)
+says-after_instr : (h : Heard) (m : HeaderView) (spaces : List SpaceView) (d : Draft) (len : ℕ) (instrs : List Instr) → Says h (AtInstr m spaces d len instrs)
     → numbers_before h.last (codes "evict") 3 ≡ None → Says h (after_instr m spaces d len instrs)
 says-after_instr h m spaces d len instrs s none =
     cond_both (length instrs == len) (after_program m spaces done) (AtInstr m spaces d len instrs) (Says h)
@@ -170,7 +170,7 @@ says-after_instr h m spaces d len instrs s none =
     more = spaces ++ space_of_draft done ∷ []
 
 -- the line of an instruction changes nothing but the last line
-instr-says : (h : Heard) (m : Machine) (spaces : List SpaceView) (d : Draft) (len : ℕ) (instrs : List Instr) (o : Operation) (others : List (List ℕ))
+instr-says : (h : Heard) (m : HeaderView) (spaces : List SpaceView) (d : Draft) (len : ℕ) (instrs : List Instr) (o : Operation) (others : List (List ℕ))
     → Says h (AtInstr m spaces d len instrs)
     → Says (hear h ((form_of o).word ∷ others)) (AtInstr m spaces d len instrs) × (numbers_before ((form_of o).word ∷ others) (codes "evict") 3 ≡ None)
 instr-says h m spaces d len instrs Operations.End others s = (s, refl)

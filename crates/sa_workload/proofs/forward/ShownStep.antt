@@ -9,7 +9,7 @@ use Rattle.sa_instr.specs.declared.instr.Instr.{Instr}
 use Rattle.sa_spaces.specs.declared.workload.Evict.{Evict}
 use Rattle.sa_spaces.specs.Space.{SpaceView}
 use Rattle.sa_workload.specs.Text.{instr_line, program_lines, sem_line, absent_line, space_lines, evict_line, turn_line, slice_lines, version_of, workload_lines}
-use Rattle.sa_workload.specs.Position.{Machine, Draft, Position, AtSlice, AtSpaces, AtSpace, AtSem, AtAbsent, AtProgram, AtInstr, AtEvict, IsReached, AreSpaces, CanSlice, version_line, processors_line, fetch_line, spaces_line, shown_machine, shown_spaces, draft_line, shown_draft, shown}
+use Rattle.sa_workload.specs.Position.{HeaderView, Draft, Position, AtSlice, AtSpaces, AtSpace, AtSem, AtAbsent, AtProgram, AtInstr, AtEvict, IsReached, AreSpaces, CanSlice, version_line, processors_line, fetch_line, spaces_line, shown_machine, shown_spaces, draft_line, shown_draft, shown}
 use Rattle.sa_workload.specs.Steps.{Steps, step_version, step_processors, step_fetch, step_slice, step_spaces, step_space, step_sem, step_absent, step_first_program, step_program, step_instr, step_evict, step_first_turn, step_turn, step_first_close, step_close, slice_line, program_line, close_line, workload, space_of_draft, IsFresh, with_sem, with_absent, with_program, after_fetch, after_sem, after_spaces, after_program, after_instr}
 use Rattle.sa_workload.proofs.forward.Fronts.{all_true, true_all}
 
@@ -17,7 +17,7 @@ abbrev pub Lines : Type 0
 Lines = List (List (List ℕ))
 
 -- the version of a workload is that of its machine
-pub version_of-workload : (m : Machine) (spaces : List SpaceView) (evictions : List Evict) (turns : List ProcNo)
+pub version_of-workload : (m : HeaderView) (spaces : List SpaceView) (evictions : List Evict) (turns : List ProcNo)
     → CanSlice m.version m.slice → AreSpaces m spaces → length spaces ≡ m.count → version_of (workload m spaces evictions turns) ≡ m.version
 version_of-workload m spaces evictions turns can are e = by_slice can
   where
@@ -48,12 +48,12 @@ fetch_shown v n f =
     cond_both (eqb v 1) (AtSpaces v n f 0) (AtSlice v n f) (λ (q : Position). shown q ≡ version_line v ∷ processors_line n ∷ fetch_line f ∷ [])
     (λ e. ap (λ (b : Bool). version_line v ∷ processors_line n ∷ fetch_line f ∷ (if b then [] else slice_line 0 ∷ [])) e) (λ e. refl)
 
-pub after_sem-shown : (m : Machine) (spaces : List SpaceView) (d : Draft) → shown (after_sem m spaces d) ≡ shown_spaces m spaces ++ shown_draft m.version d
+pub after_sem-shown : (m : HeaderView) (spaces : List SpaceView) (d : Draft) → shown (after_sem m spaces d) ≡ shown_spaces m spaces ++ shown_draft m.version d
 after_sem-shown m spaces d =
     cond_both (eqb (length d.sems) d.sem_count) (AtAbsent m spaces d) (AtSem m spaces d)
     (λ (q : Position). shown q ≡ shown_spaces m spaces ++ shown_draft m.version d) (λ e. refl) (λ e. refl)
 
-pub after_spaces-shown : (m : Machine) (spaces : List SpaceView) → shown (after_spaces m spaces) ≡ shown_spaces m spaces
+pub after_spaces-shown : (m : HeaderView) (spaces : List SpaceView) → shown (after_spaces m spaces) ≡ shown_spaces m spaces
 after_spaces-shown m spaces =
     cond_both (eqb (length spaces) m.count) (AtEvict m spaces []) (AtSpace m spaces) (λ (q : Position). shown q ≡ shown_spaces m spaces)
     (λ e. append-nil (shown_spaces m spaces)) (λ e. refl)
@@ -65,14 +65,14 @@ draft_whole version d e f = λ i.
     (codes "space" ∷ decimal d.priority ∷ decimal d.mutexes ∷ decimal (e i) ∷ decimal d.cells ∷ decimal (f i)
     ∷ (if eqb version 3 then decimal d.patience ∷ [] else [])) ∷ (map sem_line d.sems ++ (map absent_line d.absent ++ flat_map program_lines d.programs))
 
-spaces_push : (m : Machine) (spaces : List SpaceView) (s : SpaceView) → shown_spaces m (spaces ++ s ∷ []) ≡ shown_spaces m spaces ++ space_lines m.version s
+spaces_push : (m : HeaderView) (spaces : List SpaceView) (s : SpaceView) → shown_spaces m (spaces ++ s ∷ []) ≡ shown_spaces m spaces ++ space_lines m.version s
 spaces_push m spaces s =
     ap (λ (ls : Lines). shown_machine m ++ ls)
     (flat_map-append (space_lines m.version) spaces (s ∷ [])
     ∙ ap (λ (ls : Lines). flat_map (space_lines m.version) spaces ++ ls) (append-nil (space_lines m.version s)))
     ∙ sym (append_assoc (shown_machine m) (flat_map (space_lines m.version) spaces) (space_lines m.version s))
 
-pub after_program-shown : (m : Machine) (spaces : List SpaceView) (d : Draft) → length d.sems ≡ d.sem_count
+pub after_program-shown : (m : HeaderView) (spaces : List SpaceView) (d : Draft) → length d.sems ≡ d.sem_count
     → shown (after_program m spaces d) ≡ shown_spaces m spaces ++ shown_draft m.version d
 after_program-shown m spaces d e =
     cond_both (eqb (length d.programs) d.program_count) (after_spaces m (spaces ++ space_of_draft d ∷ [])) (AtProgram m spaces d)
@@ -89,7 +89,7 @@ programs_push version d p =
     ∙ ap (λ (ls : Lines). draft_line version d ∷ ls)
     (sym (append_assoc (map sem_line d.sems) (map absent_line d.absent ++ flat_map program_lines d.programs) (program_lines p)))
 
-pub after_instr-shown : (m : Machine) (spaces : List SpaceView) (d : Draft) (len : ℕ) (instrs : List Instr) → length d.sems ≡ d.sem_count
+pub after_instr-shown : (m : HeaderView) (spaces : List SpaceView) (d : Draft) (len : ℕ) (instrs : List Instr) → length d.sems ≡ d.sem_count
     → shown (after_instr m spaces d len instrs) ≡ shown_spaces m spaces ++ (shown_draft m.version d ++ (program_line len ∷ map instr_line instrs))
 after_instr-shown m spaces d len instrs e =
     cond_both (eqb (length instrs) len) (after_program m spaces (with_program d instrs)) (AtInstr m spaces d len instrs)
@@ -113,7 +113,7 @@ draft_sems version d e f =
 draft_fresh : (version : ℕ) (d : Draft) → IsFresh d → shown_draft version d ≡ draft_line version d ∷ []
 draft_fresh version d fresh = draft_sems version d fresh.1 fresh.2 ∙ ap (λ (ns : List ℕ). draft_line version d ∷ map sem_line ns) fresh.0
 
-closing : (m : Machine) (spaces : List SpaceView) (evictions : List Evict) (turns : List ProcNo)
+closing : (m : HeaderView) (spaces : List SpaceView) (evictions : List Evict) (turns : List ProcNo)
     → version_of (workload m spaces evictions turns) ≡ m.version → length spaces ≡ m.count
     → workload_lines (workload m spaces evictions turns) ≡ (shown_spaces m spaces ++ (map evict_line evictions ++ map turn_line turns)) ++ close_line ∷ []
 unfolding workload_lines

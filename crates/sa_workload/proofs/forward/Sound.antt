@@ -16,7 +16,7 @@ use Rattle.sa_lemmas.proofs.Booleans.{if_either}
 use Rattle.sa_workload.specs.Text.{instr_line}
 use Rattle.sa_workload.specs.Bad.{Field, within, declared, list_lt, instr_words}
 use Rattle.sa_workload.specs.Fields.{order_cause, line_numbers, index_of}
-use Rattle.sa_workload.specs.Position.{Machine, Draft, Position, AtVersion, AtProcessors, AtFetch, AtSlice, AtSpaces, AtSpace, AtSem, AtAbsent, AtProgram, AtInstr, AtEvict, AtTurn, Closed, IsReached}
+use Rattle.sa_workload.specs.Position.{HeaderView, Draft, Position, AtVersion, AtProcessors, AtFetch, AtSlice, AtSpaces, AtSpace, AtSem, AtAbsent, AtProgram, AtInstr, AtEvict, AtTurn, Closed, IsReached}
 use Rattle.sa_workload.specs.Steps.{Steps, with_sem, expected, step_version, step_processors, step_fetch, step_slice, step_spaces, step_space, step_sem, step_absent, step_first_program, step_program, step_instr as step_by_instr, step_evict, step_first_turn, step_turn, step_first_close, step_close, after_sem, after_instr}
 use Rattle.sa_workload.specs.Next.{numbers_at, fields_of, is_full, last_numbers, last_of, evict_numbers, draft_from, evict_from, turn_from, is_end, step, step_instr, next_by, is_last_impatient}
 use Rattle.sa_workload.proofs.fields.FieldLemmas.{and_then-ok, contained, line-ok, Passes, spelled_all, AllPass, within-passes, declared-passes}
@@ -92,7 +92,7 @@ patience_of true low (n ∷ m ∷ rest) some h = absurd h.1
 patience_of false low [] some h = (refl, (omega arith, omega arith), λ e. absurd (false≢true e))
 patience_of false low (n ∷ rest) some h = absurd h
 
-space_goes : (versions : ℕ) (m : Machine) (spaces : List SpaceView) → IsReached versions (AtSpace m spaces) → Sound versions (AtSpace m spaces) (codes "space")
+space_goes : (versions : ℕ) (m : HeaderView) (spaces : List SpaceView) → IsReached versions (AtSpace m spaces) → Sound versions (AtSpace m spaces) (codes "space")
 space_goes versions m spaces r [] h = absurd h
 space_goes versions m spaces r (a ∷ []) h = absurd h.1
 space_goes versions m spaces r (a ∷ b ∷ []) h = absurd h.1.1
@@ -142,7 +142,7 @@ not_both true true h e = refl
 not_both true false h e = absurd (cc h)
 not_both false b h e = absurd (cc e)
 
-instr_goes : (versions : ℕ) (m : Machine) (spaces : List SpaceView) (d : Draft) (len : ℕ) (instrs : List Instr) (word : List ℕ)
+instr_goes : (versions : ℕ) (m : HeaderView) (spaces : List SpaceView) (d : Draft) (len : ℕ) (instrs : List Instr) (word : List ℕ)
     → IsReached versions (AtInstr m spaces d len instrs) → is_some (index_of word instr_words) ≡ true → Sound versions (AtInstr m spaces d len instrs) word
 instr_goes versions m spaces d len instrs word r known ns pass room order =
     let i = instr-read versions (numbers_at (AtInstr m spaces d len instrs)) word ns known pass in
@@ -165,7 +165,7 @@ above_last pages k o some =
     elim (before_heads (get_or pages (length pages - 1) 0) k [] [] less) [ inl l ↦ l | inr x ↦ absurd (cc (x.1)) ]
 
 -- an eviction
-evict_goes : (versions : ℕ) (m : Machine) (spaces : List SpaceView) (es : List Evict) → IsReached versions (AtEvict m spaces es)
+evict_goes : (versions : ℕ) (m : HeaderView) (spaces : List SpaceView) (es : List Evict) → IsReached versions (AtEvict m spaces es)
     → Sound versions (AtEvict m spaces es) (codes "evict")
 evict_goes versions m spaces es r =
     number _ (within 1 MAX_EVENTS) (declared m.count ∷ within 0 LAST_PAGE ∷ []) (λ a ha. number _ (declared m.count) (within 0 LAST_PAGE ∷ []) (λ b hb.
