@@ -4,3 +4,4 @@ pub mod Chains
 pub mod Whole
 pub mod Shared
 pub mod Calls
+pub mod Commits

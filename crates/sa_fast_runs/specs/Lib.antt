@@ -2,3 +2,4 @@ pub mod Runs
 pub mod Calls
 pub mod Whole
 pub mod Threads
+pub mod Commits

@@ -4,6 +4,7 @@ ghost use Rattle.sa_laws.specs.Rules.{fast_threads};
 ghost use Rattle.sa_package_model.specs.Step.{fast_calls};
 ghost use Rattle.sa_fast_runs.specs.Whole.{RunsSoFarAreLegal, WholeRunsAreLegal};
 ghost use Rattle.sa_fast_runs.specs.Threads.{LocksAreLegal, ClosedAreLegal, SharedRunsAreLegal};
+ghost use Rattle.sa_fast_runs.specs.Commits.{LocalInstructionsAreSteps, CommitsAreTurns, TurnsAreCommits};
 ghost use Rattle.sa_fast_runs.specs.Calls.{StartReaches, TurnsReach, TurnsAloneReach, CommitsReach, ReachedAreLegal, ReachedAreStrict, ReachedEndAsDefined, CommitsAddInstructions};
 ghost use Rattle.sa_fast_runs.specs.Runs.{RunsAreLegal, RunsEndAsDefined, TurnsAreStrict, RunsAreRight, EventsFollowMoves, EventsAreNumbered, EventsAreCounted};
 
@@ -51,6 +52,15 @@ pub fn core_calls_keep_legal()
     ensures strict { ReachedAreStrict }
     ensures end { ReachedEndAsDefined }
     ensures adds { CommitsAddInstructions }
+{}
+
+/// While the next instructions of a context are local, each of its steps does one of them, whatever it sees. So local
+/// instructions that are committed at once are as many turns of the processor, whatever number each turn takes, and no other
+/// machine comes of these turns, where no I/O is due in their events.
+pub fn a_commit_is_as_many_turns()
+    ensures steps { LocalInstructionsAreSteps }
+    ensures turns { CommitsAreTurns }
+    ensures only { TurnsAreCommits }
 {}
 
 /// Each run by a schedule, as far as it came, is a legal run and a strict one, and its events follow the schedule; where it
