@@ -1,5 +1,5 @@
 -- A trace text that goes out in pieces.
-use Rattle.std.proofs.Common.{◌≡◌, ℕ, ◌+◌, true, false, arith, List, [], ◌∷◌, ◌++◌, take, drop, length, sym, ap, ◌∙◌, subst, take-append-drop, append-nil, append_assoc, Option, Result, Ok, Err}
+use Rattle.std.proofs.Common.{◌≡◌, ℕ, true, false, arith, List, [], ◌∷◌, ◌++◌, take, drop, length, sym, ap, ◌∙◌, subst, take-append-drop, append-nil, append_assoc, Option, Result, Ok, Err}
 use Rattle.std.specs.Prelude.{OnOk, OnErr, ◌==◌}
 use Rattle.std.specs.List.{flat_map}
 use Rattle.std.specs.Io.KnownBytes.{Appends}

@@ -1,9 +1,8 @@
 -- When local instructions that are committed at once are as many turns.
 --
 -- What a user level's calls keep does not tie a step to a run of local instructions: a context that stands at an
--- instruction may do something else in its step, as FastThreads makes threads ready first where a context was told of
--- some while it carried a thread. So it is a condition here that each step does one of the instructions. And I/Os that
--- are due wait for a later turn in a commit, while a turn completes one; so none may be due.
+-- instruction may do something else in its step. So it is a condition here that each step does one of the instructions.
+-- And I/Os that are due wait for a later turn in a commit, while a turn completes one; so none may be due.
 use Rattle.std.specs.Prelude.{◌≡◌, ℕ, zero, suc, ◌+◌, Some, None, ◌++◌}
 use Rattle.sa_base.specs.declared.number.ProcNo.{ProcNo}
 use Rattle.sa_base.specs.declared.number.SpaceNo.{SpaceNo}

@@ -1,6 +1,6 @@
 -- The laws at the kernel's events and at the opening, and those of steps, stops and unblocks.
 use Rattle.std.proofs.Common.{◌≡◌, ℕ, None, false, ◌&&◌, List, ◌∷◌, map, is_none, refl, sym, ◌∙◌, subst, inl, arith, zero, suc, ◌<◌, ◌++◌}
-use Rattle.std.specs.Prelude.{length, ◌<◌, not, ◌≤◌}
+use Rattle.std.specs.Prelude.{length, not, ◌≤◌}
 use Rattle.std.specs.List.{list_any, range_with_len}
 use Rattle.sa_base.specs.declared.context.Seen.{Seen}
 use Rattle.sa_base.specs.declared.limits.TheConstants.{MAX_EVENTS}

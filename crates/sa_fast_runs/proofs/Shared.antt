@@ -1,5 +1,5 @@
 -- The history that host threads make.
-use Rattle.std.proofs.Common.{◌≡◌, ℕ, ◌+◌, ◌-◌, ◌<◌, ◌≤◌, List, length, Option, sum, sym, ap, ◌∙◌, subst}
+use Rattle.std.proofs.Common.{◌≡◌, ℕ, ◌+◌, ◌<◌, ◌≤◌, List, length, Option, sum, sym, ap, ◌∙◌, subst}
 use Rattle.sa_base.specs.declared.record.Item.{Item}
 use Rattle.atomic_table.specs.Seated.{TableId}
 use Rattle.sa_spaces.specs.Workload.{WorkloadView, IsWorkload}

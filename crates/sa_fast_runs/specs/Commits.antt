@@ -33,7 +33,7 @@ CommitsAreTurns =
     → due_of (m.event + n) m.kernel.under_way ≡ None → m.kernel.acts fresh.0 ≡ None
     → IsRun fast_calls m (replicate n (turn p)) (committed fast_calls p n m)
 
--- and to no other machine
+-- turns of the processor lead to no other machine than a commit does, where no I/O is due before the last of n events is over
 abbrev pub TurnsAreCommits : Type 0
 TurnsAreCommits =
     (w : WorkloadView) (m : FastMachine) (p : ProcNo) (n : ℕ) (after : FastMachine) → IsWorkload w → IsReached w m → CanCommit fast_calls m p n

@@ -1,6 +1,6 @@
 -- The ready lists in both orders.
 use Rattle.std.proofs.Common.{◌≡◌, ◌≢◌, ℕ, zero, suc, ◌-◌, ◌≤◌, Bool, true, false, not, List, [], ◌∷◌, ◌++◌, map, filter, reverse, length, take, drop, Some, slice_get, refl, sym, ap, ◌∙◌, inl, inr, arith, append-nil, if◌then◌else◌, length-append}
-use Rattle.std.specs.Prelude.{◌<◌, nat_lt, length, ◌||◌}
+use Rattle.std.specs.Prelude.{◌<◌, nat_lt, ◌||◌}
 use Rattle.std.proofs.lemmas.Bool.{lt-ltb, cases_eq, eq-eqb, ne_eqb}
 use Rattle.std.proofs.lemmas.List.{length-map, length-reverse, map-append, reverse-append}
 use Rattle.std.proofs.lemmas.Option.{same_Some}

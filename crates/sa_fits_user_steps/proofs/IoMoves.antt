@@ -1,6 +1,6 @@
 -- The move of an instruction for an I/O: the instruction and its block in one event.
 use Rattle.std.proofs.Common.{◌≡◌, ℕ, ◌+◌, false, ◌&&◌, [], ◌∷◌, Option, Some, None, is_some, slice_index_or, refl, sym, ap, ◌∙◌, subst, inl, inr, arith}
-use Rattle.std.specs.Prelude.{length, ◌<◌, not, if◌then◌else◌, ◌≢◌, ◌==◌, ◌&&◌, ◌+◌}
+use Rattle.std.specs.Prelude.{length, ◌<◌, not, if◌then◌else◌, ◌≢◌, ◌==◌}
 use Rattle.std.proofs.lemmas.Bool.{cases_eq, eq-eqb, and_right}
 use Rattle.std.proofs.lemmas.List.{get_or-set_same, length-set, append-nil, get_or-set_other}
 use Rattle.std.proofs.lemmas.Option.{same_Some}

@@ -40,7 +40,6 @@ use Rattle.sa_event_frames.proofs.Foreign.{foreign}
 use Rattle.sa_event_frames.proofs.Matching.{AreMatched, matched-aside}
 use Rattle.sa_laws.specs.Event.{Event}
 use Rattle.sa_core_model.specs.Turn.{next_event}
-use Rattle.sa_acts.specs.Table.{runs_in}
 use Rattle.sa_legal_readings.proofs.TrackLemmas.{IsSized, sized-step}
 use Rattle.sa_user_laws.specs.Scene.{begun_at}
 use Rattle.sa_match.proofs.Composed.{IsComposed, read}

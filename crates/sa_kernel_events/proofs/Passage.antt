@@ -19,7 +19,6 @@ use Rattle.sa_laws.specs.Life.{Life}
 use Rattle.sa_laws.specs.Readings.{Readings, running_of, line_of}
 use Rattle.std.proofs.lemmas.List.Folds.{list_any_at}
 use Rattle.sa_base.specs.declared.record.Record.{Record}
-use Rattle.std.specs.List.{list_any}
 use Rattle.sa_laws.specs.Record.{after_record, with_life}
 use Rattle.sa_laws.specs.History.{Test, after_records, behind_all, after_event, with_step, arisen, is_up}
 use Rattle.sa_kernel_model.specs.State.{KernelState, Scene}

@@ -1,5 +1,5 @@
 -- A history goes on by the kernel's calls.
-use Rattle.std.proofs.Common.{◌≡◌, ℕ, map, ◌+◌, ◌<◌, ◌≤◌, false, sym, ◌∙◌, ap, subst, refl, Some, None, List, [], ◌∷◌, ◌++◌, length}
+use Rattle.std.proofs.Common.{◌≡◌, ℕ, map, ◌<◌, ◌≤◌, false, sym, ◌∙◌, ap, subst, refl, Some, None, List, [], ◌∷◌, ◌++◌, length}
 use Rattle.std.specs.Prelude.{Option, Bool}
 use Rattle.std.proofs.lemmas.List.{append-nil, append_cancel_left}
 use Rattle.sa_base.specs.declared.number.ProcNo.{ProcNo}

@@ -12,7 +12,7 @@ use Rattle.sa_laws.specs.Event.{Event}
 use Rattle.sa_laws.specs.Readings.{Readings, opening_readings}
 use Rattle.sa_laws.specs.History.{Test, after_event, after_events}
 use Rattle.sa_laws.specs.Opening.{opening_event}
-use Rattle.sa_laws.specs.Shape.{own_part, closing_part, others_of, is_own}
+use Rattle.sa_laws.specs.Shape.{own_part, closing_part, others_of}
 use Rattle.sa_laws.specs.Turns.{IsClosing}
 use Rattle.sa_laws.proofs.Records.{items-push}
 use Rattle.sa_laws.proofs.Closings.{AreClosing}

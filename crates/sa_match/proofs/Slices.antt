@@ -1,7 +1,7 @@
 -- An event of the user level's records, or a tick, at which a slice may end.
 use Rattle.sa_kernel_model.proofs.PartLemmas.{own-is}
 use Rattle.std.proofs.Common.{◌*◌, ◌-◌, div-add-mod', ◌≡◌, ◌≢◌, ℕ, zero, suc, ◌+◌, ◌/◌, ◌%◌, ◌<◌, arith, sym, ◌∙◌, ap, subst, refl, Bool, true, false, not, ◌&&◌, Option, Some, None, List, [], ◌∷◌, ◌++◌, length}
-use Rattle.std.proofs.lemmas.Nat.{mod_below, div-mul-add, div-add-mod'}
+use Rattle.std.proofs.lemmas.Nat.{mod_below, div-mul-add}
 use Rattle.std.proofs.lemmas.Bool.Decides.{nat_tests}
 use Rattle.std.specs.Prelude.{if◌then◌else◌, ◌==◌}
 use Rattle.std.proofs.lemmas.List.{append-nil}

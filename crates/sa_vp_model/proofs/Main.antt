@@ -1,5 +1,5 @@
 -- A turn on the board is a turn of what is read.
-use Rattle.std.proofs.Common.{◌≡◌, ℕ, ◌+◌, ◌-◌, ◌<◌, ◌≤◌, Bool, true, false, nat_le, nat_lt, ◌&&◌, ◌/◌, ◌%◌, List, [], ◌∷◌, length, get_or, set, Option, Some, None, inl, inr, refl, sym, ap, subst, ◌∙◌, arith}
+use Rattle.std.proofs.Common.{◌≡◌, ℕ, ◌+◌, ◌<◌, ◌≤◌, Bool, true, false, nat_le, nat_lt, ◌&&◌, ◌/◌, ◌%◌, List, [], ◌∷◌, length, get_or, set, Option, Some, None, inl, inr, refl, sym, ap, subst, ◌∙◌, arith}
 use Rattle.std.specs.Prelude.{All, slice_get}
 use Rattle.std.specs.Option.{option_map}
 use Rattle.std.proofs.lemmas.Bool.{cases_lt, eq-eqb, le-ltb}
@@ -24,7 +24,7 @@ use Rattle.sa_virtual.proofs.Pushed.{placed_once}
 use Rattle.sa_virtual.proofs.Turns.{carrier}
 use Rattle.sa_vp_model.specs.declared.limits.TheConstants.{VIRTUALS}
 use Rattle.sa_vp_model.specs.Board.{Board, act_numbers}
-use Rattle.sa_vp_model.specs.Turn.{acts, begun, carried_on, goes_on, has_had_its_turn, is_some_list, moves_on, steps, steps_on}
+use Rattle.sa_vp_model.specs.Turn.{acts, goes_on, has_had_its_turn, is_some_list, moves_on, steps, steps_on}
 use Rattle.sa_vp_model.specs.Mirror.{Own, board_of, Fits}
 use Rattle.sa_vp_model.proofs.Tables.{table_put}
 use Rattle.sa_vp_model.proofs.Follows.{Follows, Goes}

@@ -45,7 +45,7 @@ use Rattle.sa_virtual.proofs.MoreTurns as more
 use Rattle.sa_virtual.proofs.RanTurns as ran
 use Rattle.sa_virtual.proofs.Ran as run
 use Rattle.sa_vp_model.specs.Board.{Board, act_numbers, of_space, list_in}
-use Rattle.sa_vp_model.specs.Turn.{act, thread, held_by, carried_on, stops, missed_page, goes}
+use Rattle.sa_vp_model.specs.Turn.{act, thread, held_by, stops, missed_page, goes}
 use Rattle.sa_vp_model.specs.Mirror.{Own, board_of, Fits, rows}
 use Rattle.sa_vp_model.specs.Needs.{IsTabled, IsVirtual, CanComeBack, CanPlaceOn, CanGiveWay, CanReady, CanBlockOn, CanGoOn, CanLook}
 use Rattle.sa_vp_model.proofs.Tables.{newest_few, many_with}
