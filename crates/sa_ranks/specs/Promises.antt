@@ -1,5 +1,5 @@
 -- What priorities are for, as a definition: after an event, where nothing is under way in a space that will serve a pair,
--- no ready thread of it outranks a running one. That it holds in each legal run is proved in sa_ranks_legal
+-- no ready thread of it outranks a running one. That it holds in each legal run is proved in sa_promises
 -- (`legal_runs_outrank_nobody`).
 use Rattle.std.specs.Prelude.{◌≡◌, ℕ, ◌≤◌, ◌<◌, ◌⊎◌, false, true, [], Some, None, List, length}
 use Rattle.std.specs.List.{list_any}

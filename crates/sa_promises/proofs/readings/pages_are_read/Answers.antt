@@ -1,0 +1,7 @@
+use Rattle.sa_promises.proofs.read.Moments.{legal-pages}
+use Rattle.sa_promises.specs.Packages.{rules_of}
+use Rattle.sa_promises.proofs.packages.Both.{forms_of}
+use Rattle.sa_promises.proofs.readings.pages_are_read.Goals as goal
+
+pub returns : goal.returns
+returns c = λ which. legal-pages (rules_of which) (forms_of which)
