@@ -1,5 +1,12 @@
-mod RunLemmas
+-- The lemmas of the kernel's code, file by file.
+--
+-- FreshActivations: Calls that may take a fresh activation.
+-- GivenBack: Taken activations that are given back, one by one.
+-- Kept: What the kernel keeps.
+-- Lawful: By what the calls do, a history goes on.
+-- Lows: What the spaces see of low lines, processor by processor.
+mod FreshActivations
 mod GivenBack
-mod KeptLemmas
-mod LawfulLemmas
-mod LowLemmas
+mod Kept
+mod Lawful
+mod Lows

@@ -1,5 +1,5 @@
 // The closing of an event.
-ghost use Rattle.std.specs.Prelude.{◌≡◌, ℕ, ◌+◌, ◌*◌, ◌≤◌, ◌<◌, ◌&&◌, [], ◌∷◌, ◌++◌, length, not, max, is_some, Some, None, IfSome, if◌then◌else◌, slice_index, slice_index_or};
+ghost use Rattle.std.specs.Prelude.{◌≡◌, ◌+◌, ◌*◌, ◌≤◌, ◌<◌, ◌&&◌, length, not, is_some, Some, None, IfSome, slice_index_or};
 ghost use Rattle.std.specs.List.{list_any};
 ghost use Rattle.sa_acts.specs.Table.{held_of};
 ghost use Rattle.sa_assign.specs.Aims.{aimed, least_below};
@@ -18,9 +18,8 @@ pub(crate) const CLOSING_ITEMS: usize = 2 * MAX_SPACES + AIM_ITEMS;
 impl<C: Drop> Parts<C> {
     ghost use Rattle.sa_kernel.specs.View.{state_of, scene_of, Spends};
     ghost use Rattle.sa_kernel.specs.Needs.{HasProc, HasSpace};
-    ghost use Rattle.sa_kernel_model.specs.State.{owner_of, aim_of, life_of, demand_of, can_upcall, untold_of, taken_of};
     ghost use Rattle.sa_kernel_model.specs.Sound.{HasSizes};
-    ghost use Rattle.sa_kernel_model.specs.Closing.{calls_for, must_want, want_for, wants, claim_of, claims, first_space, aims, is_told_by, has_low_line, must_interrupt, interrupt, interrupt_one, interrupt_for, lines, closed};
+    ghost use Rattle.sa_kernel_model.specs.Closing.{calls_for, must_want, want_for, wants, claim_of, claims, first_space, aims, is_told_by, has_low_line, must_interrupt, interrupt, interrupt_for, lines, closed};
 
     // Whether the context that is held of an activation was idle.
     fn was_idle(&self, a: ActNo) -> bool

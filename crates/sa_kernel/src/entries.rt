@@ -1,5 +1,4 @@
-ghost use Rattle.std.specs.Prelude.{◌≡◌, ℕ, ◌+◌, ◌-◌, ◌≤◌, ◌<◌, ◌^◌, [], ◌∷◌, ◌++◌, length, Some, None, IsSome, IfSome, OnSome, slice_index, slice_index_or, slice_set, map};
-ghost use Rattle.std.specs.Option.{option_map};
+ghost use Rattle.std.specs.Prelude.{◌≡◌, ◌+◌, ◌-◌, ◌≤◌, ◌<◌, [], ◌++◌, length, Some, None, IsSome, IfSome, slice_index_or, slice_set, map};
 ghost use Rattle.sa_base.specs.Items.{items_at};
 ghost use Rattle.sa_acts.specs.Table.{acts_of, held_of, taken_in, IsRunning};
 ghost use Rattle.sa_devices.specs.Ios.{io_at};
@@ -18,7 +17,7 @@ use sa_kernel_model::Given;
 impl<C: Drop> Parts<C> {
     ghost use Rattle.sa_kernel.specs.View.{state_of, scene_of, used, Spends};
     ghost use Rattle.sa_kernel.specs.Needs.{HasProc, HasSpace, MayUpcall, MayBegin};
-    ghost use Rattle.sa_kernel_model.specs.State.{owner_of, aim_of, life_of, demand_of, can_upcall, untold_of, taken_of};
+    ghost use Rattle.sa_kernel_model.specs.State.{owner_of, aim_of, life_of, demand_of, can_upcall};
     ghost use Rattle.sa_kernel_model.specs.Sound.{IsFormed, HasSizes, AreSpaces, AreIos, AreAlive};
     ghost use Rattle.sa_kernel_model.specs.Enters.{Enters, upcalls_for, upcalls_in, untold_count, taken_count};
     ghost use Rattle.sa_kernel_model.specs.Parts.{go_to};

@@ -1,4 +1,4 @@
-ghost use Rattle.std.specs.Prelude.{◌≡◌, ℕ, ◌+◌, ◌*◌, ◌≤◌, ◌<◌, [], length, Some, IsSome, IfSome, IfOk, OnOk, OnErr, slice_index_or};
+ghost use Rattle.std.specs.Prelude.{◌≡◌, ℕ, ◌+◌, ◌≤◌, ◌<◌, [], Some, IsSome, IfSome, IfOk, OnOk, OnErr};
 ghost use Rattle.std.specs.Option.{option_map};
 ghost use Rattle.sa_base.specs.declared.number.ActNo.{ActNo};
 ghost use Rattle.sa_devices.specs.Ios.{due_of, io_at, io_no};
@@ -38,13 +38,13 @@ impl<C: Drop> Model for Kernel<C> {
 
 impl<C: Drop> Kernel<C> {
     ghost use Rattle.sa_kernel.specs.Kept.{KernelView, kernel_of, scene, processors};
-    ghost use Rattle.sa_kernel_model.specs.Fits.{need_of, IsFit, upcalls};
+    ghost use Rattle.sa_kernel_model.specs.Entering.{need_of, MayEnter, upcalls};
     ghost use Rattle.sa_kernel_model.specs.State.{owner_of, line_of};
     ghost use Rattle.sa_kernel_model.specs.Closing.{closed};
     ghost use Rattle.sa_kernel_model.specs.Entries.{entered, next_note, after_fetch, evicted_at};
     ghost use Rattle.sa_kernel_model.specs.Opening.{opened};
     ghost use Rattle.sa_kernel_model.specs.Enters.{Enters};
-    ghost use Rattle.sa_kernel_model.specs.Histories.{IsHistory, GoesOnLawfully, KeepsHistories};
+    ghost use Rattle.sa_kernel_laws.specs.Histories.{IsHistory, GoesOnLawfully, KeepsHistories};
     ghost use Rattle.sa_kernel_model.specs.Sound.{IsSound, IsPrompt, AreClaimed, IsUpcalled};
     ghost use Rattle.sa_kernel_model.specs.Owed.{owed_items, pending_count};
     ghost use Rattle.sa_kernel_model.specs.Seen.{seen_of, is_quiet};
@@ -99,7 +99,7 @@ impl<C: Drop> Kernel<C> {
         requires within { p.0 < processors self.old }
         requires later { self.old.last < event }
         requires event { event ≤ MAX_EVENTS }
-        requires fit { IsFit (kernel_of self.old) p event entry }
+        requires fit { MayEnter (kernel_of self.old) p event entry }
         requires room { 1 ≤ self.old.spare }
         requires trace { need_of (kernel_of self.old) ≤ trace.old.spare }
         requires fetched { (kernel_of self.old).telling ≡ [] }

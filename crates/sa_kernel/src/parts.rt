@@ -1,4 +1,4 @@
-ghost use Rattle.std.specs.Prelude.{◌≡◌, ℕ, ◌+◌, ◌≤◌, ◌<◌, ◌^◌, [], ◌∷◌, ◌++◌, length, not, Some, None, slice_index, slice_index_or};
+ghost use Rattle.std.specs.Prelude.{◌≡◌, ◌+◌, ◌≤◌, ◌<◌, length, not, Some, None};
 ghost use Rattle.sa_acts.specs.Table.{IsRunning};
 ghost use Rattle.sa_assign.specs.Aims.{is_aim};
 ghost use Rattle.sa_base.specs.Recorded.{Adds};
@@ -25,10 +25,9 @@ pub(crate) struct Parts<C: Drop> {
 }
 
 impl<C: Drop> Parts<C> {
-    ghost use Rattle.sa_kernel.specs.View.{state_of, scene_of, used, Spends};
+    ghost use Rattle.sa_kernel.specs.View.{state_of, scene_of, Spends};
     ghost use Rattle.sa_kernel.specs.Needs.{HasProc, HasSpace, MayUpcall, MayBegin};
     ghost use Rattle.sa_kernel_model.specs.State.{life_of, can_upcall, is_fetching, untold_of};
-    ghost use Rattle.sa_kernel_model.specs.Sound.{HasSizes};
     ghost use Rattle.sa_batch.specs.Notices.{notes_told};
     ghost use Rattle.sa_kernel_model.specs.Parts.{put_aside, run_in, upcall, leave, fetch_page, moved, go_to};
     ghost use Rattle.sa_kernel_model.specs.Enters.{Enters};

@@ -1,6 +1,5 @@
 // What a user level sees of the kernel, and whether nothing can happen any more.
-ghost use Rattle.std.specs.Prelude.{◌≡◌, ℕ, ◌^◌, ◌<◌, bit_or, length, is_some, Some, IsSome};
-ghost use Rattle.sa_assign.specs.Aims.{least_below};
+ghost use Rattle.std.specs.Prelude.{◌≡◌, ◌^◌, ◌<◌, bit_or, length, is_some, Some, IsSome};
 
 use crate::parts::Parts;
 use sa_base::{MAX_SPACES, ProcNo, Seen, SpaceNo};

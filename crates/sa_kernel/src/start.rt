@@ -1,5 +1,5 @@
 // The opening, and what is done at each entry.
-ghost use Rattle.std.specs.Prelude.{IfSome, ◌≡◌, ℕ, ◌+◌, ◌*◌, ◌≤◌, ◌<◌, ◌^◌, [], ◌++◌, length, map, replicate, Some, None, IfOk, OnOk, slice_index_or};
+ghost use Rattle.std.specs.Prelude.{◌≡◌, ◌+◌, ◌*◌, ◌≤◌, ◌<◌, ◌^◌, ◌++◌, length, map, replicate, Some, None, IfOk, OnOk};
 ghost use Rattle.sa_acts.specs.Table.{held_of};
 ghost use Rattle.sa_base.specs.Items.{items_at};
 ghost use Rattle.sa_spaces.specs.Space.{SpaceView};
@@ -30,7 +30,7 @@ impl<C: Drop> Parts<C> {
     ghost use Rattle.sa_kernel_model.specs.Closing.{closed};
     ghost use Rattle.sa_kernel_model.specs.Entries.{entered_as, held_for, handed_by, fetched, next_note, after_fetch};
     ghost use Rattle.sa_kernel_model.specs.Owed.{pending_count};
-    ghost use Rattle.sa_kernel_model.specs.Fits.{need_of, IsFit, upcalls};
+    ghost use Rattle.sa_kernel_model.specs.Entering.{need_of, MayEnter, upcalls};
 
     // The parts at the opening of a workload.
     pub(crate) fn new(alloc: Global, w: &Workload) -> Result<Self, AllocError>
@@ -42,12 +42,12 @@ impl<C: Drop> Parts<C> {
             fetch: w.fetch(),
             slice: w.slice(),
             priorities: priorities(alloc, spaces)?,
-            assign: Assign::new(w.processors()),
-            acts: Acts::new(alloc),
-            devices: Devices::new(alloc, w)?,
             lives: cells(alloc, usize::from(w.processors()), None)?,
             demands: cells(alloc, spaces.len(), 1)?,
+            devices: Devices::new(alloc, w)?,
             notices: Notices::new(alloc, spaces.len())?,
+            acts: Acts::new(alloc),
+            assign: Assign::new(w.processors()),
         })
     }
 
@@ -149,7 +149,7 @@ impl<C: Drop> Parts<C> {
     ) -> Given
         requires sound { IsFormed (state_of self.old) }
         requires within { p.0 < length self.old.lives.items }
-        requires fit { IsFit (state_of self.old) p event entry }
+        requires fit { MayEnter (state_of self.old) p event entry }
         requires notes { 1 ≤ self.old.notices.spare }
         requires upcall { MayUpcall self.old }
         requires ios { MayBegin self.old event 2 }

@@ -1,43 +1,18 @@
-pub mod SizeLemmas
-pub mod ClosingLemmas
-pub mod LifeLemmas
-pub mod FormedLemmas
-pub mod SeenLemmas
-pub mod PlacedLemmas
-pub mod ClaimLemmas
-pub mod HeldLemmas
-pub mod OwedLemmas
-pub mod PromptLemmas
-pub mod RestLemmas
-pub mod FactLemmas
-pub mod SoundLemmas
-pub mod OverviewLemmas
-pub mod NoteLemmas
-pub mod OnceLemmas
-pub mod IdleLemmas
-pub mod TidyLemmas
-pub mod UpLemmas
-pub mod WalkLemmas
-pub mod StopLemmas
-pub mod DoneLemmas
-pub mod EntryLemmas
-pub mod TurnedLemmas
-pub mod WantLemmas
-pub mod AimLemmas
-pub mod LineLemmas
-pub mod ShapeLemmas
-pub mod WholeLemmas
-pub mod KeepLemmas
-pub mod LawLemmas
-pub mod CauseLemmas
-pub mod CoverLemmas
-pub mod FetchLemmas
-pub mod FrameLemmas
-pub mod OpeningLemmas
-pub mod StartLemmas
-pub mod RunLemmas
-pub mod ExampleLemmas
-pub mod CallLemmas
-pub mod PartLemmas
-pub mod HistoryLemmas
-pub mod QuietLemmas
+-- The proofs of the kernel's machine, file by file.
+--
+-- parts: what each part of a call does to the lists and cells of a state.
+--   Sizes: What keeps the lengths of a kernel's lists keeps what is said of them.
+--   Placed: Who owns a processor, where it is aimed, and what runs there, as cells change.
+--   Running: What runs and what was taken, as cells and numbers change.
+--   Closings: The closing, space by space.
+--   Seen: The bits of a test, and what a quiet kernel has not.
+--   Owed: What is owed to the trace, part by part.
+--
+-- sound: what always holds, part by part, and of whole calls.
+--   Formed: What an entry leaves is formed.
+--   Claims: The contexts that are held, and the claims on them.
+--   Held: No context is lost, and an upcall tells its own space, entry by entry.
+--   Prompt: After the closing of an event no notice waits without cause.
+--   Sound: What always holds, kept by each call.
+pub mod parts
+pub mod sound

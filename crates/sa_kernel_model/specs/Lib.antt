@@ -7,13 +7,4 @@ pub mod Sound
 pub mod Opening
 pub mod Owed
 pub mod Seen
-pub mod Fits
-pub mod Facts
-pub mod Overview
-pub mod Turn
-pub mod Kept
-pub mod Laws
-pub mod Runs
-pub mod Examples
-pub mod Calls
-pub mod Histories
+pub mod Entering

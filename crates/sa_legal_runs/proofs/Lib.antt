@@ -1,6 +1,58 @@
-pub mod Opening
-pub mod Homes
-pub mod Ending
-pub mod Runs
-pub mod RightTraces
-pub mod Instructions
+-- The proof that each run of the machine is a legal run, file by file.
+--
+-- frames: what records and the ends of events leave as it was.
+--   Moments: When two moments are the same for a space: records that leave every space, a closing's records, an event's beginning.
+--   Foreign: What the records of one space leave to the others.
+--   Lives: The kernel's activations are the lives of the history: of the same spaces, and stopped or blocked with the same threads.
+--   Sizes: Each list of the readings keeps its length.
+--   Idle: A life that was idle at its stop is out from then on, and runs nowhere.
+--   IoNumbers: The I/Os under way are numbered in the order in which they were begun, so each by a number of its own.
+--
+-- matching: a machine beside its history, from move to move, and what is shown of the next event.
+--   Lists: Reading a list at a place within it, and what a list contains.
+--   Spaces: The spaces of a machine beside what is read, at a moment.
+--   Overviews: What a history reads beside what the kernel has: who runs where, and what a space sees.
+--   Closings: A closing adds wants, aims and lines to the items of an event, and nothing else.
+--   Longer: A history is longer by the event of a turn, or by a quiet one.
+--   EventLaws: What is lawful at an event, and what its end leaves.
+--   Composed: What is kept from move to move, and that a run is a legal history.
+--   EventBegins: An event begins: what holds then, of the machine and of what is read; and the life that acts in it.
+--   Slices: An event of the user level's records, or a tick, at which a slice may end.
+--   OwnRecords: Records of a space: what a user level of it says, and what they leave to the other spaces.
+--   Shown: What is shown of an event, from which all laws hold at it.
+--
+-- kernel: the events of the kernel: ticks, completions, interrupts, and upcalls with all that they tell.
+--   Telling: An upcall is told: each told record beside its call.
+--   Calling: An upcall: its context begins, is told, and goes on.
+--   Passage: A processor passes to a space by an upcall: from the moment after the stop or the block to the end of the event.
+--   Upcalled: The whole of an upcall, from the moment before its up to the end of its event.
+--   Halted: A processor is halted: its context is set aside, or none ran there.
+--   Passes: From a halted processor to the end of the event: by an upcall of a space, or by the leave.
+--   Interrupts: An interrupt that upcalls the aim.
+--   Ticks: Events that are no steps and have no up, among them a tick.
+--   Completes: A completion: a blocked life comes back, or an upcall page was fetched.
+--   Leaving: An interrupt that leaves the processor for want of an upcall page.
+--   Raising: An interrupt: the turn of a processor whose line is raised, in all its cases.
+--
+-- user: the events of the user level: steps, what they ask for, blocks, and local instructions that are committed at once.
+--   Steps: A step that asks for nothing.
+--   EarlyEnds: The end of a life's own event may as well come directly after its block: the records of an upcall and a closing leave it.
+--   Blocks: A step that blocks halts its processor.
+--   Blocking: The event of a step that blocks.
+--   Asks: A step that asks for an entry of the kernel, after which its context goes on.
+--   Turns: A turn, whatever comes of it.
+--   GoingOn: Where a thread runs, a run goes on.
+--   Commits: Local instructions that are committed at once.
+--
+-- runs: whole runs, from the opening to the end.
+--   Opening: The opening is lawful, and each space fits after it.
+--   Homes: Each activation is one of a space of the workload.
+--   Ending: How a run ends: what the machine says is so in the history.
+--   LegalRuns: Each run from the opening, by any list of turns and commits, is a legal run by its user level's rules.
+--   RightTraces: A run that was driven until its end: its trace is right, with the last line that tells this end.
+--   Instructions: What local instructions that are committed at once add to the history.
+pub mod frames
+pub mod matching
+pub mod kernel
+pub mod user
+pub mod runs

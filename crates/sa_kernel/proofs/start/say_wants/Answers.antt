@@ -1,5 +1,5 @@
 use Rattle.std.proofs.Common.{◌∙◌, arith}
-use Rattle.sa_kernel_model.proofs.ClosingLemmas.{one-said}
+use Rattle.sa_kernel_model.proofs.parts.Closings.{one-said}
 use Rattle.sa_kernel.proofs.start.say_wants.Goals as goal
 
 pub loop-s-preserved : goal.loop-s-preserved

@@ -2,8 +2,8 @@ use Rattle.std.proofs.Common.{◌+◌, ◌<◌, ◌≤◌, ap, subst, arith}
 use Rattle.sa_kernel.specs.Kept.{KernelView, kernel_of}
 use Rattle.sa_kernel_model.specs.Owed.{owed_items}
 use Rattle.sa_kernel.specs.View.{state_of}
-use Rattle.sa_kernel.proofs.KeptLemmas.{entered-mid, kept-entered, owed-entered, upcalled-new}
-use Rattle.sa_kernel.proofs.LawfulLemmas.{lawful-entered}
+use Rattle.sa_kernel.proofs.Kept.{entered-mid, kept-entered, owed-entered, upcalled-new}
+use Rattle.sa_kernel.proofs.Lawful.{lawful-entered}
 use Rattle.sa_kernel.proofs.kernel.Kernel.enter.Goals as goal
 
 pub close-requires-clause-sizes : goal.close-requires-clause-sizes

@@ -1,4 +1,4 @@
-use Rattle.sa_kernel.proofs.KeptLemmas.{kept-evict}
+use Rattle.sa_kernel.proofs.Kept.{kept-evict}
 use Rattle.sa_kernel.proofs.kernel.Kernel.evict.Goals as goal
 
 pub invariant_of-self : goal.invariant_of-self

@@ -3,9 +3,9 @@ use Rattle.sa_kernel.specs.Kept.{KernelView, kernel_of}
 use Rattle.sa_kernel_model.specs.Owed.{owed_items}
 use Rattle.sa_kernel_model.specs.Sound.{AreClaimed}
 use Rattle.sa_kernel.specs.View.{state_of}
-use Rattle.sa_kernel.proofs.KeptLemmas.{kept-fetch, told-fetch, owed-fetch}
-use Rattle.sa_kernel.proofs.LowLemmas.{low-fetch}
-use Rattle.sa_kernel.proofs.LawfulLemmas.{lawful-fetch}
+use Rattle.sa_kernel.proofs.Kept.{kept-fetch, told-fetch, owed-fetch}
+use Rattle.sa_kernel.proofs.Lows.{low-fetch}
+use Rattle.sa_kernel.proofs.Lawful.{lawful-fetch}
 use Rattle.sa_kernel.proofs.kernel.Kernel.next_note.Goals as goal
 
 pub invariant_of-self : goal.invariant_of-self

@@ -2,8 +2,8 @@ use Rattle.std.proofs.Common.{◌+◌, ◌<◌, ◌≤◌, ap, subst, arith}
 use Rattle.sa_kernel.specs.Kept.{KernelView, kernel_of}
 use Rattle.sa_kernel_model.specs.Owed.{owed_items}
 use Rattle.sa_kernel.specs.View.{state_of}
-use Rattle.sa_kernel.proofs.KeptLemmas.{kept-closed, owed-slice}
-use Rattle.sa_kernel.proofs.LawfulLemmas.{lawful-slice}
+use Rattle.sa_kernel.proofs.Kept.{kept-closed, owed-slice}
+use Rattle.sa_kernel.proofs.Lawful.{lawful-slice}
 use Rattle.sa_kernel.proofs.kernel.Kernel.slice_end.Goals as goal
 
 pub lows-self-inside-requires : goal.lows-self-inside-requires

@@ -1,10 +1,10 @@
 use Rattle.std.proofs.Common.{◌∙◌, [], sym, subst}
-use Rattle.sa_kernel.proofs.KeptLemmas.{kept-start, opened-is, owed-new, telling-new}
+use Rattle.sa_kernel.proofs.Kept.{kept-start, opened-is, owed-new, telling-new}
 use Rattle.sa_kernel.specs.View.{scene_of}
 use Rattle.sa_laws.specs.History.{Test}
 use Rattle.sa_kernel_model.specs.State.{Scene}
-use Rattle.sa_kernel_model.specs.Histories.{IsHistory}
-use Rattle.sa_kernel_model.proofs.HistoryLemmas.{history-opens}
+use Rattle.sa_kernel_laws.specs.Histories.{IsHistory}
+use Rattle.sa_kernel_laws.proofs.histories.Histories.{history-opens}
 use Rattle.sa_kernel.proofs.kernel.Kernel.start.Goals as goal
 
 pub lows-lows-requires : goal.lows-lows-requires

@@ -2,7 +2,7 @@ use Rattle.std.proofs.Common.{length, ◌≡◌}
 use Rattle.sa_share.specs.Rounds.{shares_of}
 use Rattle.sa_kernel.specs.View.{state_of, scene_of}
 use Rattle.sa_kernel_model.specs.Closing.{claims}
-use Rattle.sa_kernel_model.proofs.ClosingLemmas.{first-fits, aims-is, sizes-aims}
+use Rattle.sa_kernel_model.proofs.parts.Closings.{first-fits, aims-is, sizes-aims}
 use Rattle.sa_kernel.proofs.parts.Parts.aim.Goals as goal
 
 pub reaim-requires-clause-first : goal.reaim-requires-clause-first

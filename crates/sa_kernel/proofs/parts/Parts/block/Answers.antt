@@ -1,7 +1,7 @@
 use Rattle.std.proofs.Common.{refl, sym, ◌∙◌, inl, inr}
 use Rattle.sa_kernel.specs.View.{state_of, scene_of}
 use Rattle.sa_kernel_model.specs.State.{owner_of, life_of}
-use Rattle.sa_kernel.proofs.RunLemmas.{running, vacant, vacant-unused, enters-no_block, enters-block}
+use Rattle.sa_kernel.proofs.FreshActivations.{running, vacant, vacant-unused, enters-no_block, enters-block}
 use Rattle.sa_kernel.proofs.parts.Parts.block.Goals as goal
 
 pub returns-in_default-clause-exact : goal.returns-in_default-clause-exact

@@ -2,7 +2,7 @@ use Rattle.std.proofs.Common.{◌≡◌, ◌-◌, ◌+◌, [], ◌∷◌, ◌++�
 use Rattle.std.proofs.lemmas.List.{length_push}
 use Rattle.sa_kernel.specs.View.{state_of}
 use Rattle.sa_kernel_model.specs.Closing.{claims_from}
-use Rattle.sa_kernel_model.proofs.ClosingLemmas.{one-claimed}
+use Rattle.sa_kernel_model.proofs.parts.Closings.{one-claimed}
 use Rattle.sa_kernel.proofs.parts.Parts.claims.Goals as goal
 
 pub loop-s-preserved : goal.loop-s-preserved

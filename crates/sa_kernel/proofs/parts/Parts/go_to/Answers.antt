@@ -1,7 +1,7 @@
 use Rattle.std.proofs.Common.{sym, ◌∙◌, ap}
 use Rattle.sa_assign.specs.Aims.{is_aim}
 use Rattle.sa_kernel.specs.View.{scene_of}
-use Rattle.sa_kernel.proofs.RunLemmas.{vacant, vacant-unused, enters-leave, enters-upcall}
+use Rattle.sa_kernel.proofs.FreshActivations.{vacant, vacant-unused, enters-leave, enters-upcall}
 use Rattle.sa_kernel.proofs.parts.Parts.go_to.Goals as goal
 
 pub returns-then-not-can_upcall-clause-exact : goal.returns-then-not-can_upcall-clause-exact

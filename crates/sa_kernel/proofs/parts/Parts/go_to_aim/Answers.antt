@@ -1,5 +1,5 @@
 use Rattle.sa_kernel.specs.View.{scene_of}
-use Rattle.sa_kernel.proofs.RunLemmas.{vacant, vacant-unused, enters-no_aim}
+use Rattle.sa_kernel.proofs.FreshActivations.{vacant, vacant-unused, enters-no_aim}
 use Rattle.sa_kernel.proofs.parts.Parts.go_to_aim.Goals as goal
 
 pub returns-in-None-clause-exact : goal.returns-in-None-clause-exact

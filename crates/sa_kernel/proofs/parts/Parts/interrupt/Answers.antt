@@ -1,6 +1,6 @@
 use Rattle.std.proofs.Common.{arith}
 use Rattle.sa_kernel.specs.View.{scene_of}
-use Rattle.sa_kernel.proofs.RunLemmas.{enters-interrupt, count-interrupt, stopped-low}
+use Rattle.sa_kernel.proofs.FreshActivations.{enters-interrupt, count-interrupt, stopped-low}
 use Rattle.sa_kernel.proofs.parts.Parts.interrupt.Goals as goal
 
 pub go_to_aim-requires-clause-trace : goal.go_to_aim-requires-clause-trace

@@ -1,7 +1,7 @@
 use Rattle.std.proofs.Common.{◌∙◌, arith}
 use Rattle.sa_kernel.specs.View.{scene_of}
 use Rattle.sa_kernel_model.specs.Closing.{interrupt_for}
-use Rattle.sa_kernel_model.proofs.ClosingLemmas.{one-served}
+use Rattle.sa_kernel_model.proofs.parts.Closings.{one-served}
 use Rattle.sa_kernel.proofs.parts.Parts.interrupt_all.Goals as goal
 
 pub loop-s-preserved : goal.loop-s-preserved

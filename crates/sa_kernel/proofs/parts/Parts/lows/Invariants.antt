@@ -1,7 +1,7 @@
 use Rattle.std.proofs.Common.{◌≡◌, length}
 use Rattle.sa_base.specs.declared.limits.TheConstants.{MAX_SPACES}
 use Rattle.sa_kernel.specs.View.{state_of}
-use Rattle.sa_kernel.proofs.LowLemmas.{AreLowBelow}
+use Rattle.sa_kernel.proofs.Lows.{AreLowBelow}
 use Rattle.sa_kernel.proofs.parts.Parts.lows.Given as goal
 
 -- what was read of the processors that were looked at

@@ -12,17 +12,17 @@ returns-clause-state g c =
     let no_notes : List Note = [] in
     let spaces = c.spaces-spaces.ensures.value in
     let priorities = c.in_ok-priorities.ensures ∙ ap (map (λ (s : SpaceView). s.priority)) spaces in
-    let lives = c.in_ok-cells.ensures ∙ ap (λ (n : ℕ). replicate n no_life) (c.from.ensures ∙ c.processors-2.ensures.value) in
+    let lives = c.in_ok-cells.ensures ∙ ap (λ (n : ℕ). replicate n no_life) (c.from.ensures ∙ c.processors.ensures.value) in
     let demands = c.in_ok-cells-2.ensures ∙ ap (λ (xs : List SpaceView). replicate (length xs) 1) spaces in
     let notices = c.in_ok-new-2.ensures in
     let untold = ap (λ (v : NoticesView). v.untold) notices ∙ ap (λ (xs : List SpaceView). replicate (length xs) no_notes) spaces in
     let telling = ap (λ (v : NoticesView). v.telling) notices in
     let devices = c.in_ok-new.ensures in
     let none : ℕ → AssignView = λ n. record { owners = replicate n None; aims = replicate n None; lines = replicate n None; marks = replicate n false } in
-    let assign = c.new.ensures ∙ ap none c.processors.ensures.value in
+    let assign = c.new-4.ensures ∙ ap none c.processors-2.ensures.value in
     let fetch = c.fetch.ensures.value in
     let slice = c.slice.ensures.value in
-    let acts = c.new-2.ensures in
+    let acts = c.new-3.ensures in
     λ i. record {
       fixed = record { priorities = priorities i; fetch = fetch i; slice = slice i; evictions = (devices i).evictions };
       assign = assign i;

@@ -1,6 +1,6 @@
 use Rattle.std.proofs.Common.{sym, ◌∙◌}
 use Rattle.sa_kernel.specs.View.{state_of}
-use Rattle.sa_kernel.proofs.RunLemmas.{running}
+use Rattle.sa_kernel.proofs.FreshActivations.{running}
 use Rattle.sa_kernel.proofs.parts.Parts.stop.Goals as goal
 
 pub put_aside-requires-clause-running : goal.put_aside-requires-clause-running

@@ -1,6 +1,6 @@
 use Rattle.std.proofs.Common.{sym, ◌∙◌}
 use Rattle.sa_kernel.specs.View.{scene_of}
-use Rattle.sa_kernel.proofs.RunLemmas.{vacant, vacant-unused, enters-left, enters-told}
+use Rattle.sa_kernel.proofs.FreshActivations.{vacant, vacant-unused, enters-left, enters-told}
 use Rattle.sa_kernel.proofs.parts.Parts.tell_or_leave.Goals as goal
 
 pub returns-then-not-can_upcall-clause-exact : goal.returns-then-not-can_upcall-clause-exact

@@ -1,0 +1,4 @@
+pub mod Wants
+pub mod Aims
+pub mod Lines
+pub mod Rest

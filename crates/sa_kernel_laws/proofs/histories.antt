@@ -1,0 +1,4 @@
+pub mod Runs
+pub mod Example
+pub mod Calls
+pub mod Histories

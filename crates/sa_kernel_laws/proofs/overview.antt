@@ -1,0 +1,5 @@
+pub mod Records
+pub mod Untold
+pub mod Once
+pub mod Idle
+pub mod Tidy

@@ -1,0 +1,3 @@
+pub mod Upcalls
+pub mod Causes
+pub mod Shares

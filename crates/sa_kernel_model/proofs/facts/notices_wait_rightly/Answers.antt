@@ -1,5 +1,0 @@
-use Rattle.sa_kernel_model.proofs.PromptLemmas.{prompt-closed}
-use Rattle.sa_kernel_model.proofs.facts.notices_wait_rightly.Goals as goal
-
-pub returns : goal.returns
-returns g c = prompt-closed

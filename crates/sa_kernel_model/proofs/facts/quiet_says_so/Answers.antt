@@ -1,5 +1,0 @@
-use Rattle.sa_kernel_model.proofs.FactLemmas.{quiet-says}
-use Rattle.sa_kernel_model.proofs.facts.quiet_says_so.Goals as goal
-
-pub returns : goal.returns
-returns g c = quiet-says g.row.C.Denot

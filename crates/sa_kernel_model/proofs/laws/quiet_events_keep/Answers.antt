@@ -1,5 +1,0 @@
-use Rattle.sa_kernel_model.proofs.QuietLemmas.{quiet-keeps}
-use Rattle.sa_kernel_model.proofs.laws.quiet_events_keep.Goals as goal
-
-pub returns : goal.returns
-returns g c = quiet-keeps g.row.C.Denot

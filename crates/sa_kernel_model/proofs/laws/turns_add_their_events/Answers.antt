@@ -1,5 +1,0 @@
-use Rattle.sa_kernel_model.proofs.FrameLemmas.{adds-its-event}
-use Rattle.sa_kernel_model.proofs.laws.turns_add_their_events.Goals as goal
-
-pub returns : goal.returns
-returns g c = adds-its-event g.row.C.Denot

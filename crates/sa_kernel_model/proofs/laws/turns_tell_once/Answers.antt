@@ -1,5 +1,0 @@
-use Rattle.sa_kernel_model.proofs.LawLemmas.{told-once}
-use Rattle.sa_kernel_model.proofs.laws.turns_tell_once.Goals as goal
-
-pub returns : goal.returns
-returns g c = told-once g.row.C.Denot

@@ -1,5 +1,0 @@
-use Rattle.sa_kernel_model.proofs.ExampleLemmas.{short-run}
-use Rattle.sa_kernel_model.proofs.runs.a_short_run_can_be_made.Goals as goal
-
-pub returns : goal.returns
-returns c = short-run

@@ -1,0 +1,5 @@
+pub mod Formed
+pub mod Claims
+pub mod Held
+pub mod Prompt
+pub mod Sound

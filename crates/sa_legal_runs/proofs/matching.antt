@@ -1,0 +1,11 @@
+pub mod Lists
+pub mod Spaces
+pub mod Overviews
+pub mod Closings
+pub mod Longer
+pub mod EventLaws
+pub mod Composed
+pub mod EventBegins
+pub mod Slices
+pub mod OwnRecords
+pub mod Shown

@@ -1,0 +1,6 @@
+pub mod Opening
+pub mod Homes
+pub mod Ending
+pub mod LegalRuns
+pub mod RightTraces
+pub mod Instructions
