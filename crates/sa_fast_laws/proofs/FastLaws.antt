@@ -17,11 +17,11 @@ use Rattle.sa_laws.specs.Rules.{fast_threads}
 use Rattle.sa_user_laws.specs.Laws.{UserLaws}
 use Rattle.sa_user_laws.specs.Level.{UserLevel}
 use Rattle.sa_user_laws.specs.Scene.{Holds as HoldsNow, IsOn, RunsAlone}
-use Rattle.sa_fits.proofs.Runners.{alone-runs}
-use Rattle.sa_fits.specs.Fits.{fast_fits, fast_hears}
-use Rattle.sa_fits.specs.View.{view}
-use Rattle.sa_fits_laws.proofs.Ends.{all-done, none-active, must-hear}
-use Rattle.sa_fits_laws.proofs.Running.{run-threads}
+use Rattle.sa_fast_laws.proofs.relation.Runners.{alone-runs}
+use Rattle.sa_fast_laws.specs.FastFits.{fast_fits, fast_hears}
+use Rattle.sa_fast_laws.specs.View.{view}
+use Rattle.sa_fast_laws.proofs.lives.Ends.{all-done, none-active, must-hear}
+use Rattle.sa_fast_laws.proofs.lives.Running.{run-threads}
 use Rattle.sa_fast_laws.proofs.FrameLaws.{fast-same, hears-same, fast-based}
 use Rattle.sa_fast_laws.proofs.HandedNotices.{fast-tells_add, fast-tells_blocked, fast-tells, fast-answers}
 use Rattle.sa_fast_laws.proofs.LocalRuns.{fast-goes}

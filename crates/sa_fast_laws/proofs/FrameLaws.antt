@@ -11,27 +11,27 @@ use Rattle.sa_package_model.specs.declared.package.Package.{Package}
 use Rattle.sa_laws.specs.Readings.{Readings, ready_of}
 use Rattle.sa_user_laws.specs.Moments.{SameFor, AlikeButDemands}
 use Rattle.sa_user_laws.specs.Scene.{IsOfSpace}
-use Rattle.sa_fits.specs.Fits.{FitsLists, Fits, Hears, fast_hears, fast_fits}
-use Rattle.sa_fits.specs.View.{view}
-use Rattle.sa_fits_laws.proofs.SameSpace.{same-fits}
-use Rattle.sa_fits_laws.proofs.Upcalls.{alike-hears}
-use Rattle.sa_fits_laws.specs.Rests.{IsBasedOn, LivesFit, LivesHear}
+use Rattle.sa_fast_laws.specs.FastFits.{FitsLists, FastFits, FastHears, fast_hears, fast_fits}
+use Rattle.sa_fast_laws.specs.View.{view}
+use Rattle.sa_fast_laws.proofs.lives.SameSpace.{same-fits}
+use Rattle.sa_fast_laws.proofs.lives.Upcalls.{alike-hears}
+use Rattle.sa_fast_laws.specs.Rests.{IsBasedOn, LivesFit, LivesHear}
 
 -- each context is its own base
 pub fast-based : (cs : Contexts Context) → IsBasedOn view (λ c. c) cs cs
 fast-based cs = record { up = λ i b at. (b, at, refl); down = λ i c at. at; carries = λ c. refl }
 
 module _ (s : SpaceNo) (r : Readings) (u : Package) (cs : Contexts Context) where
-  abbrev pub lives-of : Fits s r u cs → LivesFit view s r u cs cs
+  abbrev pub lives-of : FastFits s r u cs → LivesFit view s r u cs cs
   lives-of k = record { holds = k.holds; rest = k.rest }
 
-  pub fits-of : FitsLists u (ready_of r s) → LivesFit view s r u cs cs → Fits s r u cs
+  pub fits-of : FitsLists u (ready_of r s) → LivesFit view s r u cs cs → FastFits s r u cs
   fits-of lists k = record { holds = k.holds; lists = lists; rest = k.rest }
 
-  abbrev pub told-of : (n : ActNo) → Hears s r n u cs → LivesHear view s r n u cs cs
+  abbrev pub told-of : (n : ActNo) → FastHears s r n u cs → LivesHear view s r n u cs cs
   told-of n k = record { holds = k.holds; others = k.others; begins = k.begins; runs = k.runs }
 
-  pub hears-of : (n : ActNo) → FitsLists u (ready_of r s) → LivesHear view s r n u cs cs → Hears s r n u cs
+  pub hears-of : (n : ActNo) → FitsLists u (ready_of r s) → LivesHear view s r n u cs cs → FastHears s r n u cs
   hears-of n lists k = record { holds = k.holds; lists = lists; others = k.others; begins = k.begins; runs = k.runs }
 
 pub fast-same : (w : WorkloadView) (s : Setting) (m n : Readings) (u : Package) (cs : Contexts Context) → IsOfSpace w s → SameFor s.space m n

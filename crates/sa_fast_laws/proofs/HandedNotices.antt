@@ -1,4 +1,4 @@
--- The laws of notices and of an upcall's end.
+-- The laws of the notices that are told in an upcall, and of its end.
 use Rattle.std.proofs.Common.{[], slice_index_or, ◌≡◌, ℕ, Bool, true, false, ◌||◌, List, Option, Some, None, is_some, sym, ap, ◌∙◌, subst, inl, inr, ◌≢◌, Contains, ◌⊎◌}
 use Rattle.std.proofs.lemmas.Option.{same_Some}
 use Rattle.std.specs.Option.{option_map}
@@ -32,18 +32,18 @@ use Rattle.sa_laws.specs.Readings.{Readings, running_of, life_of, untold_of}
 use Rattle.sa_laws.specs.Record.{after_record, with_life}
 use Rattle.sa_user_laws.specs.Moments.{AlikeButEnds, Sees}
 use Rattle.sa_user_laws.specs.Scene.{Holds as HoldsNow, HoldsIn}
-use Rattle.sa_fits.proofs.Notices.{note_of}
-use Rattle.sa_fits.specs.Fits.{FitsLists, Fits, fast_fits, Hears, fast_hears}
-use Rattle.sa_fits.specs.View.{view}
-use Rattle.sa_fits_notices.proofs.Handovers.{told-ready}
-use Rattle.sa_fits_laws.proofs.Answers.{settled_new, answer-inside, answer-fits}
-use Rattle.sa_fits_laws.proofs.Upcalls.{hand-hears, add-hears, blocked-hears}
+use Rattle.sa_fast_laws.proofs.relation.Notices.{note_of}
+use Rattle.sa_fast_laws.specs.FastFits.{FitsLists, FastFits, fast_fits, FastHears, fast_hears}
+use Rattle.sa_fast_laws.specs.View.{view}
+use Rattle.sa_fast_laws.proofs.notices.Handovers.{told-ready}
+use Rattle.sa_fast_laws.proofs.lives.Answers.{settled_new, answer-inside, answer-fits}
+use Rattle.sa_fast_laws.proofs.lives.Upcalls.{hand-hears, add-hears, blocked-hears}
 use Rattle.sa_fast_laws.proofs.FrameLaws.{hears-of, told-of, fits-of}
 
 -- A NOTICE OF A STOP OR AN UNBLOCK
 module _ (w : WorkloadView) (s : Setting) (e : ℕ) (r : Readings) (u : Package) (cs : Contexts Context) (p : ProcNo) (n : ActNo) (ss : List Frame)
     (wk : Option ThreadNo) (number : ℕ) (b : ActNo) (life : Life) (d : Context)
-    (h : IsStanding s e u cs) (k : Hears s.space r n u cs) (is : cs n.0 ≡ Some (record { state = Work None; sections = ss; work = wk }))
+    (h : IsStanding s e u cs) (k : FastHears s.space r n u cs) (is : cs n.0 ≡ Some (record { state = Work None; sections = ss; work = wk }))
     (upped : r.upped ≡ Some n) (there : life_of r b ≡ Some life)
     (theirs : cs b.0 ≡ Some d) (differ : b.0 ≢ n.0) where
   abbrev c : Context
@@ -53,7 +53,7 @@ module _ (w : WorkloadView) (s : Setting) (e : ℕ) (r : Readings) (u : Package)
   new = (took_over u c d).ctx
 
   pub tells-by : (kind : Bool) → Contains (untold_of r s.space) (note_of kind b)
-      → Hears s.space (after_record w number p r (records.Told (note_of kind b))) n
+      → FastHears s.space (after_record w number p r (records.Told (note_of kind b))) n
       (took_over u (record { state = Work None; sections = ss; work = wk }) d).user
       (put (put cs n.0 (Some (took_over u (record { state = Work None; sections = ss; work = wk }) d).ctx)) b.0 None)
   tells-by kind told =
@@ -92,7 +92,7 @@ fast-tells w s e r u cs p n c number note b life held h k is upped told kind the
           (over false (subst (λ m. IsHanded cs n.0 m (Some held)) back handed) (subst (λ m. Contains (untold_of r s.space) m) back told))
     ]) where
       over : (kd : Bool) → IsHandedOver cs n.0 b.0 (Some held) → Contains (untold_of r s.space) (note_of kd b)
-          → Hears s.space (after_record w number p r (records.Told (note_of kd b))) n
+          → FastHears s.space (after_record w number p r (records.Told (note_of kd b))) n
           (took_over u (record { state = Work None; sections = c.sections; work = c.work }) held.ctx).user
           (put (put cs n.0 (Some (took_over u (record { state = Work None; sections = c.sections; work = c.work }) held.ctx).ctx)) b.0 None)
       over kd o has =
@@ -108,7 +108,7 @@ pub fast-tells_add : (w : WorkloadView) (s : Setting) (e : ℕ) (r : Readings) (
     → fast_hears w s (after_record w number p r (records.Told (Add z))) n u (put cs n.0 (Some c))
 fast-tells_add w s e r u cs p n c number z h k is upped =
     let q = after_record w number p r (records.Told (Add z)) in
-    subst (Hears s.space q n u) (sym (ap (put cs n.0) (sym is) ∙ put-self cs n.0))
+    subst (FastHears s.space q n u) (sym (ap (put cs n.0) (sym is) ∙ put-self cs n.0))
     (hears-of s.space q u cs n k.lists (add-hears view s.space r u cs cs w p n number z (told-of s.space r u cs n k)))
 
 pub fast-tells_blocked : (w : WorkloadView) (s : Setting) (e : ℕ) (r : Readings) (u : Package) (cs : Contexts Context) (p : ProcNo) (n : ActNo)
@@ -117,7 +117,7 @@ pub fast-tells_blocked : (w : WorkloadView) (s : Setting) (e : ℕ) (r : Reading
     → fast_hears w s (after_record w number p r (records.Told (Blocked z))) n u (put cs n.0 (Some c))
 fast-tells_blocked w s e r u cs p n c number z h k is upped has =
     let q = after_record w number p r (records.Told (Blocked z)) in
-    subst (Hears s.space q n u) (sym (ap (put cs n.0) (sym is) ∙ put-self cs n.0))
+    subst (FastHears s.space q n u) (sym (ap (put cs n.0) (sym is) ∙ put-self cs n.0))
     (hears-of s.space q u cs n k.lists (blocked-hears view s.space r u cs cs w p n number z (told-of s.space r u cs n k)))
 
 -- THE END OF AN UPCALL
@@ -143,7 +143,7 @@ fast-answers w s e before r last ev u cs n c seen h k is runs upped alike sees =
           let inside = is_inside w before ev last true its.0 in
           let lives = told-of s.space r u cs n k in
           let is_in = answer-inside w s e before r last ev u cs n fs wk seen h.of h.value h.moment at runs alike sees view cs lives in
-          subst (λ ls. Fits s.space (record r { lives = ls }) u (put cs n.0 (Some new)))
+          subst (λ ls. FastFits s.space (record r { lives = ls }) u (put cs n.0 (Some new)))
           (sym (ap (λ o. put r.lives n.0 (option_map (arisen is_inside w before ev last) o)) its.1))
           (fits-of s.space _ u (put cs n.0 (Some new)) k.lists
           (answer-fits w s e before r last ev u cs n fs wk seen h.of h.value h.moment at runs alike sees view cs lives new inside

@@ -35,13 +35,13 @@ use Rattle.sa_laws.specs.Rules.{fast_threads}
 use Rattle.sa_user_laws.specs.Moments.{Sees}
 use Rattle.sa_user_laws.specs.Scene.{IsActing, begun_at}
 use Rattle.sa_user_laws.specs.Steps.{IsLegalIns, AreLegalIns, event_with}
-use Rattle.sa_fits.specs.Fits.{Fits, fast_fits}
-use Rattle.sa_fits_steps.proofs.Events.{IsLegal}
-use Rattle.sa_fits_steps.proofs.Scenes.{IsScene, IsFastScene}
-use Rattle.sa_fits_user_steps.proofs.UserMoves.{IsCalm, instr_is, t_below}
-use Rattle.sa_fits_user_steps.proofs.UserSteps.{goes-legal}
+use Rattle.sa_fast_laws.specs.FastFits.{FastFits, fast_fits}
+use Rattle.sa_fast_laws.proofs.steps.Events.{IsLegal}
+use Rattle.sa_fast_laws.proofs.steps.Scenes.{IsScene, IsFastScene}
+use Rattle.sa_fast_laws.proofs.user_steps.UserMoves.{IsCalm, instr_is, t_below}
+use Rattle.sa_fast_laws.proofs.user_steps.UserSteps.{goes-legal}
 use Rattle.sa_fast_laws.proofs.StepLaws.{the-scene}
-use Rattle.sa_fits_user_steps.proofs.LocalMoves.{behind, local-goes, local-is, local-scene, its1, its1-is, seen1}
+use Rattle.sa_fast_laws.proofs.user_steps.LocalMoves.{behind, local-goes, local-is, local-scene, its1, its1-is, seen1}
 
 -- ONE INSTRUCTION
 module _ (set : Setting) (e : ℕ) (u : Package) (cs : Contexts Context) (w : WorkloadView) (r : Readings) (p : ProcNo) (a : ActNo) (life : Life)
@@ -80,8 +80,8 @@ module _ (set : Setting) (e : ℕ) (u : Package) (cs : Contexts Context) (w : Wo
   put-c : put cs a.0 (Some c0) ≡ cs
   put-c = ap (put cs a.0) (sym i.on.mine) ∙ put-self cs a.0
 
-  fits1 : Fits set.space r1 v cs
-  fits1 = subst (Fits set.space r1 v) put-c (legal.answer.after [] (record { closes = tt; is_own = refl })
+  fits1 : FastFits set.space r1 v cs
+  fits1 = subst (FastFits set.space r1 v) put-c (legal.answer.after [] (record { closes = tt; is_own = refl })
       (record {
         kernel = record { state = refl; lives = refl; running = refl; taken = refl; untold = refl; ready = refl; lines = λ y some. some };
         demands = refl;
@@ -108,7 +108,7 @@ module _ (set : Setting) (cs : Contexts Context) (w : WorkloadView) (p : ProcNo)
   -- n instructions from block b on, in events from number e on
   abbrev IsRun : ℕ → Package → Readings → ℕ → Block → Type 0
   IsRun n u r e b = AreLegalIns fast_threads w e p r (ins_records set.space t (program_at u.def.programs b.program) n (spot_of b))
-      (λ last. Fits set.space last (with_shared u (with_thread u.shared t (block_after (program_at u.def.programs b.program) n b))) (put cs a.0 (Some c1)))
+      (λ last. FastFits set.space last (with_shared u (with_thread u.shared t (block_after (program_at u.def.programs b.program) n b))) (put cs a.0 (Some c1)))
 
   runs : (m e : ℕ) (u : Package) (r : Readings) (life : Life) (seen : Seen)
       → IsFastScene set e u cs w r p a life c1 seen → seen.event + m ≤ MAX_EVENTS
@@ -131,7 +131,7 @@ module _ (set : Setting) (cs : Contexts Context) (w : WorkloadView) (p : ProcNo)
       (subst (λ y. AreLocal (program_at u.def.programs y.program) (suc m) (spot_of y)) (sym there) local.1) in (
         legal-ins set e u cs w r p a life seen t i local.0,
         subst (λ ys. AreLegalIns fast_threads w (seen.event + 1) p r1 (ins_records set.space t program (suc m) (after_one program (spot_of b)))
-            (λ last. Fits set.space last (with_shared u (record u.shared { threads = ys })) (put cs a.0 (Some c1))))
+            (λ last. FastFits set.space last (with_shared u (record u.shared { threads = ys })) (put cs a.0 (Some c1))))
             (set-set u.shared.threads t.0 b1 (block_after program (suc (suc m)) b)) (subst (IsRun (suc m) v r1 (seen.event + 1)) there rest),
       )
 
@@ -148,7 +148,7 @@ fast-goes w s e r u cs p a life c seen n acting sees low some later within local
       → IsActing fast_calls fast_stands fast_fits w s e r u cs p a life (record { state = state; sections = fs; work = wk })
       → GoesOn s n (local_at u state)
       → AreLegalIns fast_threads w seen.event p r (gone_at u (record { state = state; sections = fs; work = wk }) n state).says
-      (λ last. Fits s.space last (gone_at u (record { state = state; sections = fs; work = wk }) n state).user
+      (λ last. FastFits s.space last (gone_at u (record { state = state; sections = fs; work = wk }) n state).user
       (put cs a.0 (Some (gone_at u (record { state = state; sections = fs; work = wk }) n state).ctx)))
   by (Code f) fs wk i local = absurd local
   by (Work t) fs wk i local = absurd local
@@ -165,14 +165,14 @@ fast-goes w s e r u cs p a life c seen n acting sees low some later within local
             → AreLocal (program_at u.def.programs (block_at u.shared.threads t.0).program) k (spot_of (block_at u.shared.threads t.0))
             → AreLegalIns fast_threads w seen.event p r
             (gone_by u (record { state = User t; sections = []; work = None }) k t (block_at u.shared.threads t.0)).says
-            (λ last. Fits s.space last (gone_by u (record { state = User t; sections = []; work = None }) k t (block_at u.shared.threads t.0)).user
+            (λ last. FastFits s.space last (gone_by u (record { state = User t; sections = []; work = None }) k t (block_at u.shared.threads t.0)).user
             (put cs a.0 (Some (record { state = User t; sections = []; work = None }))))
         many zero none within local = absurd (omega arith)
         many (suc m) some within local =
             subst
             (λ o. AreLegalIns fast_threads w seen.event p r
             (ins_records o t (program_at u.def.programs (block_at u.shared.threads t.0).program) (suc m) (spot_of (block_at u.shared.threads t.0)))
-            (λ last. Fits s.space last (gone_by u (record { state = User t; sections = []; work = None }) (suc m) t (block_at u.shared.threads t.0)).user
+            (λ last. FastFits s.space last (gone_by u (record { state = User t; sections = []; work = None }) (suc m) t (block_at u.shared.threads t.0)).user
             (put cs a.0 (Some (record { state = User t; sections = []; work = None })))))
             (sym i.holds.value.made.space)
             (runs s cs w p a t m e u r life seen

@@ -1,4 +1,4 @@
--- The laws at the beginning, and who is in.
+-- The law of the opening, and that who is in is inside the package.
 use Rattle.std.proofs.Common.{length-set, ◌≡◌, ◌≢◌, ℕ, true, List, [], ◌∷◌, Option, Some, None, IsSome, slice_index_or, replicate, reverse, length, refl, sym, ap, ◌∙◌, subst, inl, inr, arith}
 use Rattle.std.proofs.lemmas.Bool.{cases_eq}
 use Rattle.std.proofs.lemmas.List.{get_or-set_same, get_or-set_other, length-replicate}
@@ -19,9 +19,9 @@ use Rattle.sa_package_model.specs.declared.package.Package.{Package}
 use Rattle.sa_laws.specs.Life.{Life}
 use Rattle.sa_laws.specs.Readings.{Readings, life_of, opening_readings, first_listed}
 use Rattle.sa_user_laws.specs.Scene.{Holds as HoldsNow, IsOfSpace}
-use Rattle.sa_fits.proofs.ReadyOrders.{numbers-here, numbers-there}
-use Rattle.sa_fits.specs.Fits.{numbers_in, FitsLists, fast_fits}
-use Rattle.sa_fits_laws.proofs.Openings.{opening-holds, opening-ready}
+use Rattle.sa_fast_laws.proofs.relation.ReadyOrders.{numbers-here, numbers-there}
+use Rattle.sa_fast_laws.specs.FastFits.{numbers_in, FitsLists, fast_fits}
+use Rattle.sa_fast_laws.proofs.lives.Openings.{opening-holds, opening-ready}
 
 pub fast-inside : (w : WorkloadView) (s : Setting) (e : ℕ) (r : Readings) (u : Package) (cs : Contexts Context) (a : ActNo) (life : Life)
     → HoldsNow fast_stands w s e r u cs → fast_fits w s r u cs

@@ -1,4 +1,4 @@
--- The laws at the kernel's events and at the opening, and those of steps, stops and unblocks.
+-- The laws of the kernel's events, of the opening and of steps.
 use Rattle.std.proofs.Common.{◌≡◌, ℕ, None, false, ◌&&◌, List, ◌∷◌, map, is_none, refl, sym, ◌∙◌, subst, inl, arith, zero, suc, ◌<◌, ◌++◌}
 use Rattle.std.specs.Prelude.{length, not, ◌≤◌}
 use Rattle.std.specs.List.{list_any, range_with_len}
@@ -33,11 +33,11 @@ use Rattle.sa_laws.proofs.Records.{alone-plain}
 use Rattle.sa_user_laws.specs.Moments.{IsMoment, Sees}
 use Rattle.sa_user_laws.specs.Scene.{IsActing, begun_at}
 use Rattle.sa_user_laws.specs.Steps.{event_with, IsClosed, RulesPass, AreKernels}
-use Rattle.sa_fits.specs.Fits.{fast_fits}
-use Rattle.sa_fits_laws.proofs.KernelEvents.{kernels-are}
-use Rattle.sa_fits_steps.proofs.Events.{IsLegal}
-use Rattle.sa_fits_steps.proofs.Scenes.{IsFastScene}
-use Rattle.sa_fast_laws.proofs.Dispatch.{step-legal}
+use Rattle.sa_fast_laws.specs.FastFits.{fast_fits}
+use Rattle.sa_fast_laws.proofs.lives.KernelEvents.{kernels-are}
+use Rattle.sa_fast_laws.proofs.steps.Events.{IsLegal}
+use Rattle.sa_fast_laws.proofs.steps.Scenes.{IsFastScene}
+use Rattle.sa_fast_laws.proofs.AllSteps.{step-legal}
 
 no_run : (r : Readings) (p : ProcNo) (x : Record) (xs : List Record) → is_step x ≡ false → RunsNext r p (x ∷ xs)
 no_run r p (records.Run s t) xs e = absurd cc

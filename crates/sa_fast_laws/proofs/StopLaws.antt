@@ -1,4 +1,4 @@
--- The laws of stops and unblocks, of an upcall's beginning, and of who is in.
+-- The laws of stops and unblocks, of an upcall's beginning, and of what a life owes.
 use Rattle.std.proofs.Common.{◌≡◌, ◌≢◌, ℕ, ◌<◌, ◌&&◌, not, Some, None, is_none, Contains, length, sym, ap, ◌∙◌, arith}
 use Rattle.sa_base.specs.declared.context.Seen.{Seen}
 use Rattle.sa_base.specs.declared.number.ActNo.{ActNo}
@@ -20,10 +20,10 @@ use Rattle.sa_laws.specs.Record.{after_record}
 use Rattle.sa_laws.specs.Step.{StandsIn}
 use Rattle.sa_laws.specs.declared.place.Place.TheVariants as place
 use Rattle.sa_user_laws.specs.Scene.{begun_at, IsActing, Holds as HoldsNow, HoldsIn, IsOn}
-use Rattle.sa_fits.specs.Fits.{fast_fits, fast_hears}
-use Rattle.sa_fits.specs.View.{view}
-use Rattle.sa_fits_laws.proofs.Ceases.{stop-fits, return-fits, return-stands}
-use Rattle.sa_fits_laws.proofs.Upcalls.{up-hears}
+use Rattle.sa_fast_laws.specs.FastFits.{fast_fits, fast_hears}
+use Rattle.sa_fast_laws.specs.View.{view}
+use Rattle.sa_fast_laws.proofs.lives.Ceases.{stop-fits, return-fits, return-stands}
+use Rattle.sa_fast_laws.proofs.lives.Upcalls.{up-hears}
 use Rattle.sa_fast_laws.proofs.FrameLaws.{fast-based, lives-of, fits-of, hears-of}
 use Rattle.sa_fast_laws.proofs.StepLaws.{idle_is}
 

@@ -7,16 +7,16 @@ use Rattle.sa_prio_model.specs.Prio.{Prio}
 use Rattle.sa_prio_model.specs.Stands.{prio_stands}
 use Rattle.sa_prio_model.specs.Step.{prio_calls}
 use Rattle.sa_prio_model.specs.declared.context.PrioContext.{PrioContext}
-use Rattle.sa_prio_fits.specs.Fits.{prio_fits, prio_hears}
-use Rattle.sa_prio_laws.proofs.Answers.{prio-answers}
-use Rattle.sa_prio_laws.proofs.Ceases.{prio-stops, prio-unblocks, prio-begins, prio-inside, prio-owes}
-use Rattle.sa_prio_laws.proofs.Ends.{prio-threads, prio-hears_threads, prio-done, prio-rest, prio-must}
-use Rattle.sa_prio_laws.proofs.Frames.{prio-same, prio-hears_same, prio-carries}
-use Rattle.sa_prio_laws.proofs.KernelEvents.{prio-kernels, prio-opening}
-use Rattle.sa_prio_laws.proofs.LocalRuns.{prio-goes}
-use Rattle.sa_prio_laws.proofs.Openings.{prio-starts}
-use Rattle.sa_prio_laws.proofs.Steps.{prio-steps}
-use Rattle.sa_prio_laws.proofs.Told.{prio-tells_add, prio-tells_blocked, prio-tells}
+use Rattle.sa_prio_laws.specs.PrioFits.{prio_fits, prio_hears}
+use Rattle.sa_prio_laws.proofs.notices.Answers.{prio-answers}
+use Rattle.sa_prio_laws.proofs.notices.Ceases.{prio-stops, prio-unblocks, prio-begins, prio-inside, prio-owes}
+use Rattle.sa_prio_laws.proofs.frames.Ends.{prio-threads, prio-hears_threads, prio-done, prio-rest, prio-must}
+use Rattle.sa_prio_laws.proofs.frames.Frames.{prio-same, prio-hears_same, prio-carries}
+use Rattle.sa_prio_laws.proofs.frames.KernelEvents.{prio-kernels, prio-opening}
+use Rattle.sa_prio_laws.proofs.user_steps.LocalRuns.{prio-goes}
+use Rattle.sa_prio_laws.proofs.frames.Openings.{prio-starts}
+use Rattle.sa_prio_laws.proofs.AllSteps.{prio-steps}
+use Rattle.sa_prio_laws.proofs.notices.Told.{prio-tells_add, prio-tells_blocked, prio-tells}
 
 pub prio-laws : UserLaws prio_calls prio_stands prio_threads prio_fits prio_hears
 prio-laws = record {

@@ -3,7 +3,7 @@ use Rattle.sa_prio_model.specs.Stands.{prio_stands}
 use Rattle.sa_prio_model.specs.Step.{prio_calls}
 use Rattle.sa_ranks.specs.Rules.{prio_threads}
 use Rattle.sa_user_laws.specs.Laws.{UserLaws}
-use Rattle.sa_prio_fits.specs.Fits.{prio_fits, prio_hears}
+use Rattle.sa_prio_laws.specs.PrioFits.{prio_fits, prio_hears}
 
 -- Its calls keep its value and its contexts beside what is read of the history, and every record that it adds is legal by
 -- its own rules: the steps of the abstract machine, the table of steps, demand announced and pairs served, the one list's

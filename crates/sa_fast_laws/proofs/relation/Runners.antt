@@ -1,0 +1,192 @@
+-- A thread runs on a processor exactly where the context of its space's life there carries it.
+use Rattle.std.proofs.Common.{le-ltb, ◌≡◌, ℕ, ◌≤◌, ◌<◌, Bool, true, false, length, Option, Some, None, refl, sym, ap, ◌∙◌, subst, inl, inr, arith}
+use Rattle.std.specs.Prelude.{◌↔◌, if◌then◌else◌}
+use Rattle.std.proofs.lemmas.Bool.{cases_eq, cases_lt, eqb-true, lt-ltb}
+use Rattle.std.proofs.lemmas.List.{get_or_past}
+use Rattle.std.proofs.lemmas.Option.{same_Some}
+use Rattle.std.specs.List.{list_any}
+use Rattle.sa_base.specs.declared.number.ActNo.{ActNo}
+use Rattle.sa_base.specs.declared.number.ProcNo.{ProcNo}
+use Rattle.sa_base.specs.declared.number.SpaceNo.{SpaceNo}
+use Rattle.sa_base.specs.declared.number.ThreadNo.{ThreadNo}
+use Rattle.sa_base.specs.declared.record.Note.TheVariants.{Preempted, Unblocked}
+use Rattle.sa_fast.proofs.WorkSteps.{one_other}
+use Rattle.sa_fast.specs.Rest.{one_of, one_where, is_unmade, unmade_at, is_carried, place_at}
+use Rattle.sa_fast.specs.declared.threads.Place.{Place as KeptPlace}
+use Rattle.sa_fast.specs.declared.threads.Place.TheVariants as fast
+use Rattle.sa_abstract.specs.Calls.{Contexts}
+use Rattle.sa_abstract.specs.Setting.{Setting}
+use Rattle.sa_package_model.specs.Context.{carried_by}
+use Rattle.sa_package_model.specs.Hands.{carried_of}
+use Rattle.sa_package_model.specs.Stands.{IsStanding}
+use Rattle.sa_package_model.specs.declared.context.Context.{Context}
+use Rattle.sa_package_model.specs.declared.package.Package.{Package}
+use Rattle.sa_laws.specs.Life.{Life}
+use Rattle.sa_laws.specs.Readings.{Readings, running_of, life_of, untold_of}
+use Rattle.sa_laws.specs.Record.{same_note}
+use Rattle.sa_laws.specs.State.{Thread, at_start, space_at, thread_at}
+use Rattle.sa_laws.specs.declared.place.Place.{Place}
+use Rattle.sa_laws.specs.declared.place.Place.TheVariants as place
+use Rattle.sa_fast_laws.proofs.relation.ThreadsBeside.{life-here}
+use Rattle.sa_fast_laws.specs.FastFits.{Holds, SitsIn}
+use Rattle.sa_fast_laws.specs.Stage.{kept_of, Stage, stage_by, stage_of, is_act, place_of, Runs, InBlock, Stopped, Returned}
+
+abbrev place_running : Place → Option ProcNo
+place_running (place.Running p) = Some p
+place_running _ = None
+
+runs_in : (g : Stage) (q p : ProcNo) → place_of g q ≡ place.Running p → (g ≡ Runs) × (q ≡ p)
+runs_in Runs q p e = (refl, same_Some q p (ap place_running e))
+runs_in InBlock q p e = absurd (let no_such = ap place_running e in cc)
+runs_in Stopped q p e = absurd (let no_such = ap place_running e in cc)
+runs_in Returned q p e = absurd (let no_such = ap place_running e in cc)
+
+acts_there : (x y z : Bool) → stage_by x y z ≡ Runs → z ≡ true
+acts_there true y z e = absurd cc
+acts_there false true z e = absurd cc
+acts_there false false true e = refl
+acts_there false false false e = absurd cc
+
+is_that : (a : ActNo) (o : Option ActNo) → is_act a o ≡ true → o ≡ Some a
+is_that a None e = absurd cc
+is_that a (Some b) e = ap (λ n. Some (record { 0 = n })) (eqb-true b.0 a.0 e)
+
+-- a thread that runs in the history is one that some context carries
+sits_carried : (p : KeptPlace) (q : ProcNo) → is_unmade p ≡ false → SitsIn p (place.Running q) → is_carried p ≡ true
+sits_carried fast.Unmade q made e = absurd cc
+sits_carried fast.Ready q made e = absurd (let no_such = ap place_running e in cc)
+sits_carried fast.Running q made e = refl
+sits_carried fast.Waiting q made e = absurd (let no_such = ap place_running e in cc)
+sits_carried fast.Blocked q made e = refl
+sits_carried fast.Carried q made e = absurd (let no_such = ap place_running e in cc)
+sits_carried fast.Done q made e = absurd (let no_such = ap place_running e in cc)
+
+-- the context that carries a thread, with its life
+pub record IsCarrier (s : SpaceNo) (r : Readings) (u : Package) (cs : Contexts Context) (t : ThreadNo) : Type 0 where
+  pub act : ActNo
+  pub ctx : Context
+  pub mine : cs act.0 ≡ Some ctx
+  pub carries : carried_by ctx.state ≡ Some t
+  pub life : Life
+  pub is : life_of r act ≡ Some life
+  pub space : life.space ≡ s
+  pub stage : Stage
+  pub stage_is : stage ≡ stage_of r s act life
+  pub place : (thread_at r.state s t).place ≡ place_of stage life.proc
+  pub kept : place_at u.shared t.0 ≡ kept_of stage
+
+pub record IsRun (s : SpaceNo) (r : Readings) (cs : Contexts Context) (t : ThreadNo) (p : ProcNo) : Type 0 where
+  pub act : ActNo
+  pub ctx : Context
+  pub mine : cs act.0 ≡ Some ctx
+  pub carries : carried_by ctx.state ≡ Some t
+  pub runs : running_of r p ≡ Some act
+  pub life : Life
+  pub is : life_of r act ≡ Some life
+  pub space : life.space ≡ s
+
+-- THREADS that were made, and those that were not
+module _ (set : Setting) (e : ℕ) (u : Package) (cs : Contexts Context) (h : IsStanding set e u cs) where
+  pub made-kept : (n : ℕ) → n < u.shared.state.lists.made → is_unmade (place_at u.shared n) ≡ false
+  made-kept n less = by (is_unmade (place_at u.shared n)) (let agrees = h.places n in let new = agrees.new in
+      let zero_is : unmade_at u.shared.state.lists n ≡ 0 = ap (λ b. if b then 0 else 1) (lt-ltb n u.shared.state.lists.made less) in omega arith) where
+        by : (b : Bool) → one_where b ≡ 0 → b ≡ false
+        by true same = absurd (omega arith)
+        by false same = refl
+
+  pub kept-made : (n : ℕ) → u.shared.state.lists.made ≤ n → is_unmade (place_at u.shared n) ≡ true
+  kept-made n more = by (is_unmade (place_at u.shared n)) (let agrees = h.places n in let new = agrees.new in
+      let one_is : unmade_at u.shared.state.lists n ≡ 1 = ap (λ b. if b then 0 else 1) (le-ltb n u.shared.state.lists.made more) in omega arith) where
+        by : (b : Bool) → one_where b ≡ 1 → b ≡ true
+        by true same = refl
+        by false same = absurd (omega arith)
+
+module _ (set : Setting) (e : ℕ) (u : Package) (cs : Contexts Context) (h : IsStanding set e u cs) (s : SpaceNo) (r : Readings)
+    (k : Holds s r u cs) where
+  -- A THREAD at one of the places Running and Blocked is carried by a context
+  pub carrier-of : (t : ThreadNo) → is_carried (place_at u.shared t.0) ≡ true → IsCarrier s r u cs t
+  carrier-of t is = by found.0 (cs found.0) refl found.1 where
+    found : (a : ℕ) × (1 ≤ carried_of (cs a) t.0)
+    found = h.carries.somewhere t.0 (ap (λ b. if b then 0 else 1) is)
+
+    by : (b : ℕ) (o : Option Context) → cs b ≡ o → 1 ≤ carried_of (cs b) t.0 → IsCarrier s r u cs t
+    by b None none some = absurd (let zero_is : carried_of (cs b) t.0 ≡ 0 = ap (λ x. carried_of x t.0) none in omega arith)
+    by b (Some c) there some = by_thread (carried_by c.state) refl where
+      by_thread : (o : Option ThreadNo) → carried_by c.state ≡ o → IsCarrier s r u cs t
+      by_thread None none =
+          absurd (let zero_is : carried_of (cs b) t.0 ≡ 0 = ap (λ x. carried_of x t.0) there ∙ ap (λ o. one_of o t.0) none in omega arith)
+      by_thread (Some n) carries = elim (cases_eq n.0 t.0) [
+        | inr ne ↦
+            absurd
+            (let zero_is : carried_of (cs b) t.0 ≡ 0 = ap (λ x. carried_of x t.0) there ∙ ap (λ o. one_of o t.0) carries ∙ one_other n.0 t.0 ne in omega arith)
+        | inl same ↦
+            let is_t : carried_by c.state ≡ Some t = carries ∙ ap (λ j. Some (record { 0 = j })) same in
+            let its = k.lives (record { 0 = b }) c there in
+            record {
+              act = record { 0 = b };
+              ctx = c;
+              mine = there;
+              carries = is_t;
+              life = its.0;
+              is = its.1;
+              space = its.2.space;
+              stage = stage_of r s (record { 0 = b }) its.0;
+              stage_is = refl;
+              place = its.2.place t is_t;
+              kept = its.2.kept t is_t;
+            }
+      ]
+
+  pub runs-carried : (t : ThreadNo) (p : ProcNo) → (thread_at r.state s t).place ≡ place.Running p → IsRun s r cs t p
+  runs-carried t p at = elim (cases_lt t.0 (length (space_at r.state s).threads)) [
+    | inr past ↦ absurd (
+        let done : thread_at r.state s t ≡ at_start 0 place.Done = get_or_past (space_at r.state s).threads t.0 (at_start 0 place.Done) past in
+        let no_such = ap place_running (sym (ap (λ (x : Thread). x.place) done) ∙ at) in cc)
+    | inl below ↦
+        let made : t.0 < u.shared.state.lists.made = (let all = k.space.made in omega arith) in
+        let sits = subst (λ x. SitsIn (place_at u.shared t.0) x) at (k.space.threads t made).place in
+        let c = carrier-of t (sits_carried (place_at u.shared t.0) p (made-kept set e u cs h t.0 made) sits) in
+        let both = runs_in c.stage c.life.proc p (sym c.place ∙ at) in
+        let acts =
+        acts_there (list_any (same_note (Preempted c.act)) (untold_of r s)) (list_any (same_note (Unblocked c.act)) (untold_of r s))
+        (is_act c.act (running_of r c.life.proc)) (sym c.stage_is ∙ both.0) in
+        record {
+          act = c.act;
+          ctx = c.ctx;
+          mine = c.mine;
+          carries = c.carries;
+          runs = ap (running_of r) (sym both.1) ∙ is_that c.act (running_of r c.life.proc) acts;
+          life = c.life;
+          is = c.is;
+          space = c.space;
+        }
+  ]
+
+  -- two threads that run there are one
+  pub runs-alone : (t n : ThreadNo) (p : ProcNo) → (thread_at r.state s t).place ≡ place.Running p → (thread_at r.state s n).place ≡ place.Running p
+      → t ≡ n
+  runs-alone t n p one two =
+      let first = runs-carried t p one in let second = runs-carried n p two in
+      let same : first.act ≡ second.act = same_Some first.act second.act (sym first.runs ∙ second.runs) in
+      let ctx : first.ctx ≡ second.ctx = same_Some first.ctx second.ctx (sym first.mine ∙ ap (λ (x : ActNo). cs x.0) same ∙ second.mine) in
+      same_Some t n (sym first.carries ∙ ap (λ (x : Context). carried_by x.state) ctx ∙ second.carries)
+
+  -- and the thread of a running life's context runs there
+  pub carried-runs : (a : ActNo) (c : Context) (life : Life) (p : ProcNo) (t : ThreadNo) → cs a.0 ≡ Some c → life_of r a ≡ Some life → life.space ≡ s
+      → running_of r p ≡ Some a → carried_by c.state ≡ Some t
+      → (thread_at r.state s t).place ≡ place.Running p
+  carried-runs a c life p t mine is of runs carries =
+      let its = k.runs p a life runs is of in
+      (life-here s r u cs k a c life mine is).place t carries ∙ ap (λ g. place_of g life.proc) its.2 ∙ ap place.Running its.1
+
+  -- so of the space's threads exactly the one that it carries runs there
+  pub alone-runs : (p : ProcNo) (a : ActNo) (c : Context) (life : Life) → cs a.0 ≡ Some c → life_of r a ≡ Some life → life.space ≡ s
+      → running_of r p ≡ Some a
+      → (t : ThreadNo) → ((thread_at r.state s t).place ≡ place.Running p) ↔ (carried_by c.state ≡ Some t)
+  alone-runs p a c life mine is of runs t = (
+    λ at. let run = runs-carried t p at in
+        let same : run.act ≡ a = same_Some run.act a (sym run.runs ∙ runs) in
+        let ctx : run.ctx ≡ c = same_Some run.ctx c (sym run.mine ∙ ap (λ (x : ActNo). cs x.0) same ∙ mine) in
+        ap (λ (x : Context). carried_by x.state) (sym ctx) ∙ run.carries,
+    λ carries. carried-runs a c life p t mine is of runs carries,
+  )

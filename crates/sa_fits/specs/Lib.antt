@@ -1,4 +1,0 @@
-pub mod Stage
-pub mod View
-pub mod Life
-pub mod Fits

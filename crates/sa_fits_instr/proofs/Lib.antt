@@ -1,4 +1,0 @@
-pub mod Effects
-pub mod Instructions
-pub mod Gains
-pub mod Ranks

@@ -1,0 +1,4 @@
+//! Each run of the machine with either package is a legal run.
+#![tactic(auto)]
+
+pub mod laws;

@@ -1,3 +1,0 @@
-pub mod ByRank
-pub mod Ready
-pub mod Fits

@@ -1,0 +1,73 @@
+-- A context with the mark has just come to its instruction or look.
+use Rattle.std.proofs.Common.{◌≡◌, ◌⊎◌, ℕ, zero, suc, Bool, true, false, not, ◌&&◌, ◌||◌, refl, ap, ◌∙◌, inl, inr}
+use Rattle.std.specs.Prelude.{if◌then◌else◌}
+use Rattle.sa_base.specs.declared.record.Record.{Record}
+use Rattle.sa_base.specs.declared.record.Record.TheVariants as records
+use Rattle.sa_package_model.specs.Context.{stands_inside}
+use Rattle.sa_package_model.specs.declared.context.ContextState.{ContextState}
+use Rattle.sa_package_model.specs.declared.context.ContextState.TheVariants.{Code, Work, Hint, Return, User, Look}
+use Rattle.sa_laws.specs.History.{settles, scans_after}
+use Rattle.sa_laws.specs.Readings.{Readings}
+use Rattle.sa_fast_laws.specs.View.{looks_of}
+use Rattle.sa_prio_model.specs.Urge.{came_out, goes_on}
+use Rattle.sa_prio_laws.specs.PrioFits.{is_fresh}
+
+pub fresh-when : (urge : Bool) (looks : ℕ) → (urge ≡ true → looks ≡ 0) → is_fresh urge looks ≡ true
+fresh-when false looks none = refl
+fresh-when true looks none = ap (is_fresh true) (none refl)
+
+pub fresh-is : (urge : Bool) (looks : ℕ) (more : Bool) → (is_fresh urge looks && more) ≡ true → urge ≡ true → looks ≡ 0
+fresh-is true zero more both is = refl
+fresh-is true (suc n) more both is = absurd cc
+fresh-is false looks more both is = absurd cc
+
+-- a record that settles its life ends its scans
+pub settles-scans : (r last : Readings) (x : Record) (n : ℕ) → settles r last x ≡ true → scans_after r x n ≡ 0
+settles-scans r last records.Idle n e = absurd cc
+settles-scans r last (records.Want s m) n e = by _ e where
+  by : (b : Bool) → not b ≡ true → (if b then n else 0) ≡ 0
+  by true ends = absurd cc
+  by false ends = refl
+settles-scans r last (records.Ins s t i) n e = refl
+settles-scans r last (records.Out s t v) n e = refl
+settles-scans r last (records.Stop s t a) n e = refl
+settles-scans r last (records.Block s t a io) n e = refl
+settles-scans r last (records.Unblock s t a) n e = refl
+settles-scans r last (records.Run s t) n e = refl
+settles-scans r last (records.Cont s t) n e = refl
+settles-scans r last (records.Back s t) n e = refl
+settles-scans r last (records.Ready s t) n e = refl
+settles-scans r last (records.Take s l t) n e = refl
+settles-scans r last (records.Free s l t) n e = refl
+settles-scans r last (records.Up s a) n e = refl
+settles-scans r last (records.Told m) n e = refl
+settles-scans r last (records.Move old new) n e = refl
+settles-scans r last (records.Aim q s) n e = refl
+settles-scans r last (records.Line q) n e = refl
+settles-scans r last (records.Fetch s) n e = refl
+settles-scans r last (records.Fetched s) n e = refl
+settles-scans r last (records.GiveBack a) n e = refl
+settles-scans r last (records.Spin l) n e = refl
+settles-scans r last records.Tick n e = refl
+
+-- what came out is out
+pub came-outside : (before after : ContextState) → came_out before after ≡ true → stands_inside after ≡ false
+came-outside before after e = by (stands_inside after) (goes_on before after) e where
+  by : (a b : Bool) → (not a && not b) ≡ true → a ≡ false
+  by false b e = refl
+  by true b e = absurd cc
+
+-- inside the package a context does not look
+pub inside-looks : (state : ContextState) → stands_inside state ≡ true → looks_of state ≡ 0
+inside-looks (Code f) e = refl
+inside-looks (Work t) e = refl
+inside-looks (Hint t) e = refl
+inside-looks Return e = refl
+inside-looks (User t) e = refl
+inside-looks (Look looks) e = absurd cc
+
+-- an answer gives the mark only where its record settles the life
+pub mark-settles : (inside flag pair urge : Bool) → (inside || (flag && pair)) ≡ (inside || urge) → urge ≡ true → (inside ≡ true) ⊎ (flag ≡ true)
+mark-settles true flag pair urge e is = inl refl
+mark-settles false true pair urge e is = inr refl
+mark-settles false false pair urge e is = absurd (let no = e ∙ is in cc)
